@@ -6,3 +6,8 @@ pub mod Words
 pub mod NetlistForm
 pub mod StimulusForm
 pub mod Recording
+pub mod Status
+pub mod Phases
+pub mod Answer
+pub mod VcdWords
+pub mod Runs

@@ -5,7 +5,10 @@ mod circuits;
 mod engine;
 mod forms;
 mod netlist;
+mod run;
 mod stimulus;
+mod status;
+mod vcd;
 mod words;
 
 use std::process::ExitCode;

@@ -1,0 +1,2 @@
+// The value change dump.
+mod texts;
