@@ -11,3 +11,6 @@ pub mod Phases
 pub mod Answer
 pub mod VcdWords
 pub mod Runs
+pub mod Stops
+pub mod Tasks
+pub mod Work

@@ -5,11 +5,15 @@ mod circuits;
 mod engine;
 mod forms;
 mod netlist;
+mod phases;
+mod report;
 mod run;
 mod stimulus;
 mod status;
+mod stop;
 mod vcd;
 mod words;
+mod work;
 
 use std::process::ExitCode;
 
