@@ -1,3 +1,5 @@
 -- The modules of this folder.
 pub mod VcdTexts
 pub mod Composed
+pub mod Told
+pub mod Worked

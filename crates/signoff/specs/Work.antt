@@ -31,17 +31,23 @@ WorkLeaves ws old new told (Err stop.Failed) = (new ≡ old) ⊎ ((vcd : List �
 WorkLeaves ws old new told (Err stop.NoMemory) = (new ≡ old) ⊎ ((vcd : List ℕ) × BrokeOffIn ws old new vcd)
 
 -- what is to be told, and the status that goes with it
+abbrev pub text_of_stop : Option (List ℕ) → code_stop.Stop → List ℕ
+text_of_stop told (stop.Refused r) = refusal_line (refusal_seen r)
+text_of_stop told stop.Failed = fault_line (unwrap_or told [])
+text_of_stop told stop.NoMemory = no_memory_line
+
+abbrev pub status_of_stop : code_stop.Stop → Status
+status_of_stop (stop.Refused r) = status_of_refusal (refusal_seen r)
+status_of_stop stop.Failed = status.Fault
+status_of_stop stop.NoMemory = status.NoMemory
+
 abbrev pub text_of_end : Option (List ℕ) → Result code_done.Done code_stop.Stop → List ℕ
 text_of_end told (Ok done) = report_lines (circuit_seen done.task.circuit) [] [] [] done.task.input.end (spent_seen done.spent)
-text_of_end told (Err (stop.Refused r)) = refusal_line (refusal_seen r)
-text_of_end told (Err stop.Failed) = fault_line (unwrap_or told [])
-text_of_end told (Err stop.NoMemory) = no_memory_line
+text_of_end told (Err s) = text_of_stop told s
 
 abbrev pub status_of_end : Result code_done.Done code_stop.Stop → Status
 status_of_end (Ok done) = status_of_run (spent_seen done.spent) []
-status_of_end (Err (stop.Refused r)) = status_of_refusal (refusal_seen r)
-status_of_end (Err stop.Failed) = status.Fault
-status_of_end (Err stop.NoMemory) = status.NoMemory
+status_of_end (Err s) = status_of_stop s
 
 -- a failing sink turns the end of a run into a fault, and leaves every other status
 abbrev pub after_sink_fault : Status → Status

@@ -7,7 +7,7 @@ ghost use Rattle.signoff.specs.Answer.{no_memory_line, status_of_run as end_stat
 ghost use Rattle.signoff.specs.Phases.{refusal_line, status_of_refusal};
 ghost use Rattle.signoff.specs.Seen.{circuit_seen, spent_seen};
 ghost use Rattle.signoff.specs.Stops.{refusal_seen};
-ghost use Rattle.signoff.specs.Work.{AddsFirst, Tells, after_sink_fault, second_line, status_of_end, text_of_end};
+ghost use Rattle.signoff.specs.Work.{AddsFirst, Tells, after_sink_fault, second_line, status_of_end, status_of_stop, text_of_end, text_of_stop};
 
 use crate::circuits::{Circuit, Spent};
 use crate::status::Status;
@@ -168,6 +168,27 @@ fn status_of_run(spent: Option<Spent>) -> Status
     }
 }
 
+fn tell_stop<K: Sink>(
+    alloc: Global,
+    stop: Stop<'_>,
+    failed: Option<&str>,
+    report: &mut K,
+) -> Status
+    ensures { Tells (text_of_stop (option_copied failed.entry) stop.entry) (status_of_stop stop.entry) (K.fault_count report.old) (K.fault_count report.new) (K.contents report.old) (K.contents report.new) result }
+{
+    match stop {
+        Stop::Refused(refusal) => {
+            put_made(report, status_of(refusal), refusal_text(alloc, refusal))
+        }
+        Stop::Failed => put_made(
+            report,
+            Status::Fault,
+            named_line(alloc, "fault: ", failed.unwrap_or(""), ""),
+        ),
+        Stop::NoMemory => out_of_memory(report),
+    }
+}
+
 /// Tells how the work ended, where `failed` is the name of the file in the last call of the shelf that failed, and
 /// gives the program's status.
 pub fn tell<K: Sink>(
@@ -180,14 +201,6 @@ pub fn tell<K: Sink>(
 {
     match end {
         Ok(done) => put_made(report, status_of_run(done.spent), run_text(alloc, done)),
-        Err(Stop::Refused(refusal)) => {
-            put_made(report, status_of(*refusal), refusal_text(alloc, *refusal))
-        }
-        Err(Stop::Failed) => put_made(
-            report,
-            Status::Fault,
-            named_line(alloc, "fault: ", failed.unwrap_or(""), ""),
-        ),
-        Err(Stop::NoMemory) => out_of_memory(report),
+        Err(stop) => tell_stop(alloc, *stop, failed, report),
     }
 }
