@@ -3,3 +3,4 @@ pub mod VcdTexts
 pub mod Composed
 pub mod Told
 pub mod Worked
+pub mod NoViolations

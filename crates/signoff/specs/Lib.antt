@@ -14,3 +14,4 @@ pub mod Runs
 pub mod Stops
 pub mod Tasks
 pub mod Work
+pub mod Promises

@@ -1,6 +1,7 @@
 //! Simulates a netlist of gates under a stimulus, and writes its value change dump and a report.
 #![tactic(auto)]
 
+mod answer;
 mod circuits;
 mod engine;
 mod forms;
