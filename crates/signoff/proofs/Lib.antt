@@ -4,3 +4,7 @@ pub mod Composed
 pub mod Told
 pub mod Worked
 pub mod NoViolations
+pub mod OneAnswer
+pub mod Promised
+pub mod NetlistLaws
+pub mod StimulusLaws

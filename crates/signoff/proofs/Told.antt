@@ -9,7 +9,7 @@ use Rattle.sg_io.specs.declared.outside.ShelfError.TheVariants as shelf
 use Rattle.sg_io.proofs.Tell.{both_told}
 use Rattle.signoff.specs.Work.{AddsAll, AddsFirst}
 
-take_nothing : (n : ℕ) → take {A = ℕ} n [] ≡ []
+pub take_nothing : (n : ℕ) → take {A = ℕ} n [] ≡ []
 take_nothing zero = refl
 take_nothing (suc n) = refl
 
