@@ -10,4 +10,5 @@ pub mod Status
 pub mod Phases
 pub mod Answer
 pub mod VcdWords
+pub mod Writing
 pub mod Runs
