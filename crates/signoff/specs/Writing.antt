@@ -1,10 +1,13 @@
 -- What a writer of a value change dump keeps, and what its file holds.
-use Rattle.std.specs.Prelude.{ℕ, ◌≡◌, ◌++◌, List, Option, Some, None, option_map, take, if◌then◌else◌}
+use Rattle.std.specs.Prelude.{ℕ, ◌≡◌, ◌++◌, List, Option, Some, None, option_map, ◌∷◌, take, if◌then◌else◌}
+use Rattle.std.proofs.Common.{◌∙◌, sym, ap}
 use Rattle.sg_io.specs.Files.{File, bytes_of}
+use Rattle.sg_logic.specs.declared.values.Value.{Value}
 use Rattle.sg_model.specs.Machine.{Snapshot}
 use Rattle.sg_text.specs.Words.{reserved_words}
 use Rattle.circuit_model.specs.Circuit.{Circuit, Variable}
 use Rattle.circuit_model.specs.Vcd.{Dump, agree, dump, dump_text, end_line, first_block, header, later_block, variables_of}
+use Rattle.circuit_model.proofs.VcdLaws.{dump-again}
 use Rattle.signoff.specs.Seen.{circuit_seen}
 use Rattle.signoff.specs.declared.vcd.Written as code_written
 use Rattle.signoff.specs.declared.vcd.VcdWriter as code_writer
@@ -49,3 +52,12 @@ FileBegins name text told = (files : List File) → told ≡ Some files → (n :
 pub record Holds (w : Writer) (told : Option (List File)) (seen : List Snapshot) : Type 0 where
   pub file : FileHolds w.name (text_of w.circuit seen) told
   pub last : w.last ≡ last_block (dump (variables_of w.circuit) seen)
+
+-- a time with the values of the time before leaves the file
+pub holds_again : (w : Writer) (told : Option (List File)) (t last : ℕ) (vs : List Value) (older : List Snapshot)
+    → Holds w told (record { time = last; values = vs } ∷ older) → Holds w told (record { time = t; values = vs } ∷ record { time = last; values = vs } ∷ older)
+holds_again w told t last vs older h =
+    let same = sym (dump-again (variables_of w.circuit) t last vs older) in record {
+      file = λ files e. h.file files e ∙ ap (λ d. Some (header reserved_words w.circuit ++ dump_text d)) same;
+      last = h.last ∙ ap last_block same;
+    }

@@ -1,5 +1,5 @@
 // The value change dump of a run, written to a file from time to time.
-ghost use Rattle.std.specs.Prelude.{◌≡◌, ◌++◌, [], List, None, IfOk, OnOk, OnErr, option_map};
+ghost use Rattle.std.specs.Prelude.{◌≡◌, List, None, IfOk, OnOk, OnErr, option_map};
 ghost use Rattle.sg_io.specs.Faults.{Cause, NamesFault};
 ghost use Rattle.sg_io.specs.Files.{BothTell};
 ghost use Rattle.sg_model.specs.Machine.{Snapshot};
@@ -8,7 +8,7 @@ ghost use Rattle.circuit_model.specs.Vcd.{header, variables_of};
 ghost use Rattle.signoff.specs.Recording.{CauseOf, KeepsOthers, NamesFaultOf};
 ghost use Rattle.signoff.specs.Runs.{Leaves};
 ghost use Rattle.signoff.specs.Seen.{circuit_seen};
-ghost use Rattle.signoff.specs.Writing.{FileBegins, FileHolds, Holds, block_after, ended_text, writer_seen, written_seen};
+ghost use Rattle.signoff.specs.Writing.{FileBegins, FileHolds, Holds, block_after, ended_text, holds_again, text_of, writer_seen, written_seen};
 
 mod texts;
 
@@ -41,10 +41,12 @@ pub struct VcdWriter<'a> {
 fn block_of(
     alloc: Global,
     circuit: &Circuit,
-    written: Option<&Written>,
+    written: &Option<Written>,
     time: u64,
     values: &[Value],
-) -> Result<Option<Vec<u8>>, AllocError> {
+) -> Result<Option<Vec<u8>>, AllocError>
+    ensures { IfOk result (λ block. option_map (λ v. v.items) block ≡ block_after (variables_of (circuit_seen circuit.now)) (option_map (λ b. written_seen b) written.now) (record { time = time; values = values.now })) }
+{
     match written {
         None => Ok(Some(first_block_of(alloc, circuit, values)?)),
         Some(last) => {
@@ -64,7 +66,12 @@ impl<'a> VcdWriter<'a> {
         circuit: &'a Circuit,
         name: &'a str,
         shelf: &mut S,
-    ) -> Result<VcdWriter<'a>, ShelfError> {
+    ) -> Result<VcdWriter<'a>, ShelfError>
+        ensures writer { IfOk result (λ w. writer_seen w ≡ record { name = name.now; circuit = circuit_seen circuit.now; last = None }) }
+        ensures file { BothTell (S.files shelf.old) (S.files shelf.new) (Leaves name.now (header reserved_words (circuit_seen circuit.now)) result) }
+        ensures cause { CauseOf (S.fault_count shelf.old) (S.fault_count shelf.new) result }
+        ensures named { NamesFaultOf name.now (S.last_fault shelf.old) (S.last_fault shelf.new) result }
+    {
         let header = header_of(alloc, circuit)?;
         shelf.create(name)?;
         shelf.append(name, &header)?;
@@ -81,7 +88,17 @@ impl<'a> VcdWriter<'a> {
         alloc: Global,
         shelf: &mut S,
         end: u64,
-    ) -> Result<(), ShelfError> {
+    ) -> Result<(), ShelfError>
+        // The file holds the text of the times that were recorded, with its end, or after a failure the first bytes.
+        ensures ok { OnOk result ((seen : List Snapshot) → Holds (writer_seen self.now) (S.files shelf.old) seen
+            → FileHolds (writer_seen self.now).name (ended_text (writer_seen self.now).circuit end seen) (S.files shelf.new)) }
+        ensures err { OnErr result ((seen : List Snapshot) → Holds (writer_seen self.now) (S.files shelf.old) seen
+            → FileBegins (writer_seen self.now).name (ended_text (writer_seen self.now).circuit end seen) (S.files shelf.new)) }
+
+        ensures others { KeepsOthers (writer_seen self.now).name (S.files shelf.old) (S.files shelf.new) }
+        ensures cause { Cause (S.fault_count shelf.old) (S.fault_count shelf.new) result }
+        ensures named { NamesFault (writer_seen self.now).name (S.last_fault shelf.old) (S.last_fault shelf.new) result }
+    {
         if let Some(last) = &self.written {
             if last.time == end {
                 return Ok(());
@@ -102,7 +119,7 @@ impl<S: Shelf> Recorder<S> for VcdWriter<'_> {
 
     ghost broken = { λ w s seen. FileBegins w.name.now (text_of (circuit_seen w.circuit.now) seen) (S.files s) };
 
-    ghost skips = { ? };
+    ghost skips = { λ w s t last vs older h. holds_again (writer_seen w) (S.files s) t last vs older h };
 
     fn record(
         &mut self,
@@ -111,7 +128,7 @@ impl<S: Shelf> Recorder<S> for VcdWriter<'_> {
         time: u64,
         values: &[Value],
     ) -> Result<(), ShelfError> {
-        let block = block_of(alloc, self.circuit, self.written.as_ref(), time, values)?;
+        let block = block_of(alloc, self.circuit, &self.written, time, values)?;
         let Some(block) = block else {
             return Ok(());
         };
