@@ -1,5 +1,5 @@
 -- What a writer of a value change dump keeps, and what its file holds.
-use Rattle.std.specs.Prelude.{ℕ, ◌≡◌, ◌++◌, List, Option, Some, None, option_map, ◌∷◌, take, if◌then◌else◌}
+use Rattle.std.specs.Prelude.{ℕ, ◌≡◌, ◌==◌, ◌++◌, Bool, false, List, Option, Some, None, option_map, ◌∷◌, take, if◌then◌else◌}
 use Rattle.std.proofs.Common.{◌∙◌, sym, ap}
 use Rattle.sg_io.specs.Files.{File, bytes_of}
 use Rattle.sg_logic.specs.declared.values.Value.{Value}
@@ -33,6 +33,11 @@ block_after variables (Some last) s = if agree variables last.values s.values th
 abbrev pub last_block : Option Dump → Option Snapshot
 last_block None = None
 last_block (Some d) = Some (record { time = d.time; values = d.values })
+
+-- whether the last block is of this time
+abbrev pub is_block_of : ℕ → Option Snapshot → Bool
+is_block_of time None = false
+is_block_of time (Some s) = s.time == time
 
 -- the text of some times, given by their last snapshots, the latest first; and with the line of the end
 abbrev pub text_of : Circuit → List Snapshot → List ℕ

@@ -8,7 +8,7 @@ ghost use Rattle.circuit_model.specs.Vcd.{header, variables_of};
 ghost use Rattle.signoff.specs.Recording.{CauseOf, KeepsOthers, NamesFaultOf};
 ghost use Rattle.signoff.specs.Runs.{Leaves};
 ghost use Rattle.signoff.specs.Seen.{circuit_seen};
-ghost use Rattle.signoff.specs.Writing.{FileBegins, FileHolds, Holds, block_after, ended_text, holds_again, text_of, writer_seen, written_seen};
+ghost use Rattle.signoff.specs.Writing.{FileBegins, FileHolds, Holds, block_after, ended_text, holds_again, is_block_of, text_of, writer_seen, written_seen};
 
 mod texts;
 
@@ -59,6 +59,16 @@ fn block_of(
     }
 }
 
+// Whether the block written last is of this time.
+fn is_at(written: &Option<Written>, time: u64) -> bool
+    ensures { result ≡ is_block_of time (option_map (λ b. written_seen b) written.now) }
+{
+    match written {
+        Some(last) => last.time == time,
+        None => false,
+    }
+}
+
 impl<'a> VcdWriter<'a> {
     /// A writer that wrote the header to a new file of this name.
     pub fn new<S: Shelf>(
@@ -99,10 +109,8 @@ impl<'a> VcdWriter<'a> {
         ensures cause { Cause (S.fault_count shelf.old) (S.fault_count shelf.new) result }
         ensures named { NamesFault (writer_seen self.now).name (S.last_fault shelf.old) (S.last_fault shelf.new) result }
     {
-        if let Some(last) = &self.written {
-            if last.time == end {
-                return Ok(());
-            }
+        if is_at(&self.written, end) {
+            return Ok(());
         }
         let mut text = Vec::new(alloc);
         push_time(&mut text, end)?;
