@@ -16,7 +16,7 @@ use Rattle.signoff.specs.Recording.{KeepsOthers, OthersStay}
 use Rattle.signoff.specs.Writing.{Writer, FileBegins, FileHolds, Holds, block_after, ended_text, is_block_of, last_block, text_of}
 
 -- who tells afterwards told before
-told_before : {A : Type 0} (P : A → A → Type 0) (old new : Option A) (y : A) → BothTell old new P → new ≡ Some y → (x : A) × (old ≡ Some x) × P x y
+pub told_before : {A : Type 0} (P : A → A → Type 0) (old new : Option A) (y : A) → BothTell old new P → new ≡ Some y → (x : A) × (old ≡ Some x) × P x y
 told_before P (Some x) (Some w) y h e = let q : w ≡ y = cc in (x, refl, subst (λ v. P x v) q h)
 told_before P None None y h e = absurd (cc)
 told_before P None (Some w) y h e = absurd h
@@ -27,7 +27,7 @@ pub begins : (name text rest : List ℕ) (told : Option (List File)) → FileHol
 begins name text rest told h = λ files e. (length text, h files e ∙ ap Some (sym (take-append_seam text rest)))
 
 -- its first bytes are so too
-first-bytes : (n : ℕ) (text rest : List ℕ) → take n text ≡ take (length (take n text)) (text ++ rest)
+pub first-bytes : (n : ℕ) (text rest : List ℕ) → take n text ≡ take (length (take n text)) (text ++ rest)
 first-bytes n text rest =
     sym (take-append_seam (take n text) (drop n text ++ rest))
     ∙ ap (take (length (take n text))) (sym (append_assoc (take n text) (drop n text) rest) ∙ ap (λ t. t ++ rest) (take-append-drop n text))
@@ -51,11 +51,6 @@ appended_err name before text shelf.Failed old new h a = λ files e.
 appended_err name before text shelf.NoMemory old new h a = λ files e.
     let told = told_before (Appended name text (Err shelf.NoMemory)) old new files a e in
     (length before, ap (bytes_of name) told.2 ∙ (h told.0 told.1 ∙ ap Some (sym (take-append_seam before text))))
-
--- a fact that holds holds of an error
-pub on_err : {T E P : Type 0} (r : Result T E) → P → OnErr r P
-on_err (Ok x) p = tt
-on_err (Err e) p = p
 
 -- the line of the end
 end_line-is : (end : ℕ) (o : Option Dump) → end_line end o ≡ (if is_block_of end (last_block o) then [] else time_line end)
