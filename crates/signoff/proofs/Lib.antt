@@ -8,3 +8,5 @@ pub mod OneAnswer
 pub mod Promised
 pub mod NetlistLaws
 pub mod StimulusLaws
+pub mod VcdWriting
+pub mod VcdRuns

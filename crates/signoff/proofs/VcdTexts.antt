@@ -1,6 +1,6 @@
 -- The text of a flat circuit's dump, line by line.
 use Rattle.std.proofs.Common.{◌≡◌, ◌∙◌, sym, ap, refl, ℕ, zero, suc, ◌+◌, ◌<◌, ◌≤◌, List, [], ◌∷◌, ◌++◌, Bool, true, false, length, take, drop, get_or, map, arith, add-zero, add-one, append_assoc}
-use Rattle.std.proofs.lemmas.List.{append-nil, drop_more, drop_all}
+use Rattle.std.proofs.lemmas.List.{append-nil, drop_more, drop_all, length-map}
 use Rattle.std.specs.Prelude.{None, ◌&&◌, nat_lt, if◌then◌else◌, codes, decimal}
 use Rattle.std.specs.Fmt.{digits}
 use Rattle.std.specs.List.{list_all}
@@ -32,6 +32,27 @@ pub numbered_end : {A B : Type 0} (f : ℕ → A → List B) (text whole : List 
     → text ++ numbered f i (drop i xs) ≡ whole → text ≡ whole
 numbered_end f text whole xs i l e = sym (append-nil text) ∙ (ap (λ ys. text ++ numbered f i ys) (sym (drop_all i xs l)) ∙ e)
 
+-- the same with the text after the line, and with items that are seen otherwise in the code
+pub numbered_next : {A B C : Type 0} (f : ℕ → A → List B) (g : C → A) (text more whole : List B) (xs : List C) (i : ℕ) (d : A) → i < length xs
+    → more ≡ text ++ f i (get_or (map g xs) i d) → text ++ numbered f i (drop i (map g xs)) ≡ whole → more ++ numbered f (i + 1) (drop (i + 1) (map g xs)) ≡ whole
+numbered_next f g text more whole xs i d l line e =
+    ap (λ t. t ++ numbered f (i + 1) (drop (i + 1) (map g xs))) line
+    ∙ numbered_step f text whole (map g xs) i d (simp length-map l) e
+
+-- texts are added, one after the other
+pub add_two : {t u : List ℕ} (start a b : List ℕ) → t ≡ start ++ a → u ≡ t ++ b → u ≡ start ++ (a ++ b)
+add_two start a b p q = q ∙ (ap (λ t. t ++ b) p ∙ append_assoc start a b)
+
+pub add_four : {t u v w : List ℕ} (start a b c d : List ℕ) → t ≡ start ++ a → u ≡ t ++ b → v ≡ u ++ c → w ≡ v ++ d → w ≡ start ++ (a ++ b ++ c ++ d)
+add_four start a b c d p q r s = add_two start (a ++ b ++ c) d (add_two start (a ++ b) c (add_two start a b p q) r) s
+
+pub add_five : {t u v w x : List ℕ} (start a b c d e : List ℕ) → t ≡ start ++ a → u ≡ t ++ b → v ≡ u ++ c → w ≡ v ++ d → x ≡ w ++ e
+    → x ≡ start ++ (a ++ b ++ c ++ d ++ e)
+add_five start a b c d e p q r s last = add_two start (a ++ b ++ c ++ d) e (add_four start a b c d p q r s) last
+
+abbrev pub no_net : Net
+no_net = record { scope = 0; name = []; bit = None; driver = Nobody }
+
 -- a one-bit variable
 same-one : (v w : Value) → are_same (v ∷ []) (w ∷ []) ≡ is_same v w
 same-one v w = elim (is_same v w) as (λ b. (b && true) ≡ b) [ true ↦ refl | false ↦ refl ]
@@ -56,7 +77,7 @@ declares-lines reserved k (n ∷ ns) rest =
 -- a declaration, written out
 pub declaration_is : (reserved : List (List ℕ)) (k : ℕ) (net : Net) → net_declaration reserved k net ≡ codes "$var wire 1 " ++ code k ++ codes " " ++ written_name reserved net.name ++ codes " $end\n"
 unfolding digits
-declaration_is reserved k net = simp (append_assoc, append-nil)
+declaration_is reserved k net = simp append_assoc
 
 -- the header, written out
 pub header_is : (reserved : List (List ℕ)) (name : List ℕ) (nets : List Net) (elements : List Element) → header reserved (flat name nets elements)
@@ -77,6 +98,12 @@ all_same_step old new nets i whole l same e =
     ap (λ n. all_same n old new (drop (i + 1) nets)) (add-one i)
     ∙ (sym (ap (λ b. if b then all_same (suc i) old new (drop (i + 1) nets) else false) same)
     ∙ (ap (all_same i old new) (sym (drop_more nets i (get_or nets i (record { scope = 0; name = []; bit = None; driver = Nobody })) l)) ∙ e))
+
+pub all_same_stop : (old new : List Value) (nets : List Net) (i : ℕ) (whole : Bool) → i < length nets → is_same (value_at old i) (value_at new i) ≡ false
+    → all_same i old new (drop i nets) ≡ whole → false ≡ whole
+all_same_stop old new nets i whole l differ e =
+    sym (ap (λ b. if b then all_same (suc i) old new (drop (i + 1) nets) else false) differ)
+    ∙ (ap (all_same i old new) (sym (drop_more nets i no_net l)) ∙ e)
 
 -- the variables of a flat circuit
 declared-all : (xs : List Variable) (rest : List Item) → declared (map Declares xs ++ rest) ≡ xs ++ declared rest

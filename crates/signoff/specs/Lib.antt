@@ -10,6 +10,7 @@ pub mod Status
 pub mod Phases
 pub mod Answer
 pub mod VcdWords
+pub mod Writing
 pub mod Runs
 pub mod Stops
 pub mod Tasks

@@ -32,6 +32,7 @@ pub fn simulate<S: Shelf, R: Recorder<S>>(
         → BrokeOff (R.holds recorder.new shelf.new) (R.broken recorder.new shelf.new) (run_of_circuit (circuit_seen circuit.now) bound (stimulus_seen stimulus.now))) }
 
     ensures name { R.name recorder.new ≡ R.name recorder.old }
+    ensures circuit { R.circuit recorder.new ≡ R.circuit recorder.old }
     ensures others { KeepsOthers (R.name recorder.old) (S.files shelf.old) (S.files shelf.new) }
     ensures cause { CauseOf (S.fault_count shelf.old) (S.fault_count shelf.new) result }
     ensures named { NamesFaultOf (R.name recorder.old) (S.last_fault shelf.old) (S.last_fault shelf.new) result }

@@ -7,6 +7,8 @@ ghost use Rattle.signoff.specs.Runs.{Leaves, text_of_run};
 ghost use Rattle.signoff.specs.Seen.{circuit_seen, spent_seen, stimulus_seen};
 
 use crate::circuits::{Circuit, Spent, Stimulus};
+use crate::engine::simulate;
+use crate::vcd::VcdWriter;
 use sg_io::{Shelf, ShelfError};
 use std::alloc::Global;
 
@@ -29,11 +31,10 @@ pub fn run_and_dump<S: Shelf>(
     ensures cause { CauseOf (S.fault_count shelf.old) (S.fault_count shelf.new) result }
     ensures named { NamesFaultOf name.now (S.last_fault shelf.old) (S.last_fault shelf.new) result }
 {
-    let _ = alloc;
-    let _ = circuit;
-    let _ = stimulus;
-    let _ = bound;
-    let _ = name;
-    let _ = shelf;
-    Err(ShelfError::NoMemory)
+    let mut writer = VcdWriter::new(alloc, circuit, name, shelf)?;
+    let spent = simulate(alloc, circuit, stimulus, bound, shelf, &mut writer)?;
+    if spent.is_none() {
+        writer.finish(alloc, shelf, stimulus.end)?;
+    }
+    Ok(spent)
 }

@@ -118,7 +118,6 @@ pub fn push_time(text: &mut Vec<u8>, time: u64) -> Result<(), AllocError>
     Ok(())
 }
 
-#[tactic(auto, using(crate::proofs::VcdTexts::declaration_is))]
 fn push_declaration(text: &mut Vec<u8>, k: usize, net: &Net) -> Result<(), AllocError>
     ensures { OnOk result (text.new.items ≡ text.old.items ++ net_declaration reserved_words k (net_seen net.now)) }
 {
