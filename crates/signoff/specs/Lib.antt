@@ -6,3 +6,6 @@ pub mod Words
 pub mod NetlistForm
 pub mod StimulusForm
 pub mod Recording
+pub mod EngineSeen
+pub mod EngineTimes
+pub mod EngineStands

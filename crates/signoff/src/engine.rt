@@ -5,10 +5,19 @@ ghost use Rattle.signoff.specs.Recording.{BrokeOff, CauseOf, KeepsOthers, NamesF
 ghost use Rattle.signoff.specs.Seen.{circuit_seen, spent_seen, stimulus_seen};
 
 mod recorder;
+mod rounds;
+mod runs;
+mod simulation;
+#[cfg(test)]
+mod tests;
+mod times;
+mod transitions;
 
 pub use recorder::Recorder;
 
 use crate::circuits::{Circuit, Spent, Stimulus};
+use crate::engine::runs::make_times;
+use crate::engine::simulation::Simulation;
 use sg_io::{Shelf, ShelfError};
 use std::alloc::Global;
 
@@ -36,11 +45,13 @@ pub fn simulate<S: Shelf, R: Recorder<S>>(
     ensures cause { CauseOf (S.fault_count shelf.old) (S.fault_count shelf.new) result }
     ensures named { NamesFaultOf (R.name recorder.old) (S.last_fault shelf.old) (S.last_fault shelf.new) result }
 {
-    let _ = alloc;
-    let _ = circuit;
-    let _ = stimulus;
-    let _ = bound;
-    let _ = shelf;
-    let _ = recorder;
-    Err(ShelfError::NoMemory)
+    let mut simulation = Simulation::new(alloc, circuit, stimulus)?;
+    make_times(
+        alloc,
+        &mut simulation,
+        stimulus.end,
+        bound,
+        shelf,
+        recorder,
+    )
 }
