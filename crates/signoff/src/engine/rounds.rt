@@ -31,6 +31,7 @@ fn value_of(values: &[Value], net: u32) -> Value
 }
 
 /// The changes take effect.
+#[tactic(auto, using(crate::proofs::EngineRounds::agree_same, crate::proofs::EngineRounds::agree_then))]
 pub fn apply(values: &mut [Value], changes: &[Change])
     ensures changed { values.new ≡ changed_by (map (λ c. change_seen c) changes.now) values.old }
     ensures above { AgreeAbove values.old values.new }
@@ -55,6 +56,7 @@ fn take(values: &mut [Value], net: u32, now: u64, pending: Option<Transition>)
 }
 
 /// The transitions that are due take effect.
+#[tactic(auto, using(crate::proofs::EngineRounds::agree_same, crate::proofs::EngineRounds::agree_then))]
 pub fn take_due(
     values: &mut [Value],
     elements: &[Element],

@@ -1,5 +1,5 @@
 // The rounds of one time.
-ghost use Rattle.std.specs.Prelude.{◌≡◌, ℕ, List, not, IfOk, OnOk};
+ghost use Rattle.std.specs.Prelude.{◌≡◌, ℕ, List, [], not, IfOk, OnOk};
 ghost use Rattle.sg_logic.specs.declared.values.Value.{Value as NetValue};
 ghost use Rattle.sg_model.specs.Machine.{Machine};
 ghost use Rattle.sg_model.specs.Time.{Run, is_empty};

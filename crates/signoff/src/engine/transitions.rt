@@ -76,7 +76,12 @@ pub fn after_round(
 }
 
 // The earlier of a time and a pending transition's that comes after now.
-fn earlier(now: u64, time: u64, pending: Option<Transition>) -> u64 {
+fn earlier(now: u64, time: u64, pending: Option<Transition>) -> u64
+    requires { now < time }
+    ensures later { now < result }
+    ensures within { result ≤ time }
+    ensures quiet { (t : ℕ) → now < t → t < result → is_due t (list_seen pending) ≡ false }
+{
     match pending {
         Some(t) if now < t.time && t.time < time => t.time,
         _ => time,
