@@ -1,3 +1,4 @@
 -- The modules of this folder.
 pub mod EngineRounds
 pub mod EngineTimes
+pub mod EngineRuns

@@ -8,4 +8,5 @@ pub mod StimulusForm
 pub mod Recording
 pub mod EngineSeen
 pub mod EngineTimes
+pub mod EngineRuns
 pub mod EngineStands

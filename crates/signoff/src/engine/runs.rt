@@ -1,9 +1,11 @@
 // The times of a run.
-ghost use Rattle.std.specs.Prelude.{◌≡◌, ℕ, ◌+◌, ◌^◌, ◌<◌, ◌≤◌, List, IfOk};
+ghost use Rattle.std.specs.Prelude.{◌≡◌, ℕ, ◌+◌, ◌^◌, ◌<◌, ◌≤◌, List, IfOk, OnErr};
 ghost use Rattle.sg_logic.specs.declared.values.Value.{Value as NetValue};
 ghost use Rattle.sg_model.specs.Machine.{Machine};
 ghost use Rattle.sg_model.specs.Time.{Run};
-ghost use Rattle.sg_model.specs.Quiet.{IsQuiet, with_copies};
+ghost use Rattle.sg_model.specs.Quiet.{IsLawful, IsQuiet, with_copies};
+ghost use Rattle.signoff.specs.EngineRuns.{Recorded, RecordedPart, SpentAs, TimeMade};
+ghost use Rattle.signoff.specs.Recording.{CauseOf, KeepsOthers, NamesFaultOf};
 
 use crate::circuits::Spent;
 use crate::engine::recorder::Recorder;
@@ -26,7 +28,8 @@ pub trait Times {
     /// Makes a time, with at most so many rounds.
     fn make(&mut self, now: u64, bound: u32) -> Result<TimeEnd, AllocError>
         ensures machine { machine self.new ≡ machine self.old }
-        ensures sets { sets self.new ≡ sets self.old };
+        ensures sets { sets self.new ≡ sets self.old }
+        ensures made { IfOk result (λ end. TimeMade (machine self.old) (sets self.old) bound now (stands self.old) (stands self.new) end) };
 
     /// The next time up to the end at which something may happen, or the one after the end.
     fn next(&self, now: u64, end: u64) -> u64
@@ -53,7 +56,15 @@ pub fn make_times<S: Shelf, R: Recorder<S>, T: Times>(
     shelf: &mut S,
     recorder: &mut R,
 ) -> Result<Option<Spent>, ShelfError>
-    requires { end < 2 ^ 60 }
+    requires end { end < 2 ^ 60 }
+    requires law { IsLawful (T.machine times.old) }
+    ensures spent { IfOk result (λ spent. SpentAs (T.machine times.old) (T.sets times.old) bound end (T.stands times.old) spent) }
+    ensures recorded { IfOk result (λ spent. Recorded (T.machine times.old) (T.sets times.old) bound end (T.stands times.old) (R.holds recorder.old shelf.old) (R.holds recorder.new shelf.new)) }
+    ensures broke { OnErr result (RecordedPart (T.machine times.old) (T.sets times.old) bound end (T.stands times.old) (R.holds recorder.old shelf.old) (R.holds recorder.new shelf.new) (R.broken recorder.new shelf.new)) }
+    ensures name { R.name recorder.new ≡ R.name recorder.old }
+    ensures others { KeepsOthers (R.name recorder.old) (S.files shelf.old) (S.files shelf.new) }
+    ensures cause { CauseOf (S.fault_count shelf.old) (S.fault_count shelf.new) result }
+    ensures named { NamesFaultOf (R.name recorder.old) (S.last_fault shelf.old) (S.last_fault shelf.new) result }
 {
     let mut now = 0;
     while now <= end {
