@@ -1,11 +1,12 @@
 -- What the steps of a round come to.
-use Rattle.std.specs.Prelude.{◌≡◌, ℕ, ◌==◌, ◌≤◌, nat_le, true, List, [], ◌∷◌, refl}
+use Rattle.std.specs.Prelude.{◌≡◌, ℕ, ◌==◌, ◌≤◌, nat_le, true, List, [], ◌∷◌, ◌++◌, refl}
 use Rattle.std.proofs.Common.{sym, ◌∙◌, ap, arith}
 use Rattle.std.proofs.lemmas.Bool.Decides.{nat_tests}
 use Rattle.sg_logic.specs.declared.values.Value.{Value}
 use Rattle.sg_logic.specs.declared.gates.GateKind.{GateKind}
 use Rattle.sg_logic.specs.declared.gates.GateKind.TheVariants.{And, Nand, Or, Nor, Xor, Xnor, Buf, Not}
 use Rattle.sg_logic.specs.Gate.{TakesInputs}
+use Rattle.sg_model.specs.Round.{changed_by}
 use Rattle.signoff.specs.WellFormed.{takes_inputs}
 use Rattle.signoff.specs.EngineSeen.{AgreeAbove}
 
@@ -25,3 +26,7 @@ takes_tested Or n e = grind (arith, nat_tests)
 takes_tested Nor n e = grind (arith, nat_tests)
 takes_tested Xor n e = grind (arith, nat_tests)
 takes_tested Xnor n e = grind (arith, nat_tests)
+
+pub changed_append : (xs ys : List (ℕ × Value)) (values : List Value) → changed_by (xs ++ ys) values ≡ changed_by ys (changed_by xs values)
+changed_append [] ys values = refl
+changed_append (x ∷ xs) ys values = changed_append xs ys _

@@ -2,3 +2,5 @@
 pub mod EngineRounds
 pub mod EngineTimes
 pub mod EngineRuns
+pub mod EngineStimulus
+pub mod EngineStands

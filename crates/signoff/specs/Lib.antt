@@ -9,4 +9,5 @@ pub mod Recording
 pub mod EngineSeen
 pub mod EngineTimes
 pub mod EngineRuns
+pub mod EngineStimulus
 pub mod EngineStands

@@ -8,6 +8,7 @@ mod recorder;
 mod rounds;
 mod runs;
 mod simulation;
+mod stimulated;
 #[cfg(test)]
 mod tests;
 mod times;
@@ -17,7 +18,7 @@ pub use recorder::Recorder;
 
 use crate::circuits::{Circuit, Spent, Stimulus};
 use crate::engine::runs::make_times;
-use crate::engine::simulation::Simulation;
+use crate::engine::stimulated::Stimulated;
 use sg_io::{Shelf, ShelfError};
 use std::alloc::Global;
 
@@ -45,10 +46,10 @@ pub fn simulate<S: Shelf, R: Recorder<S>>(
     ensures cause { CauseOf (S.fault_count shelf.old) (S.fault_count shelf.new) result }
     ensures named { NamesFaultOf (R.name recorder.old) (S.last_fault shelf.old) (S.last_fault shelf.new) result }
 {
-    let mut simulation = Simulation::new(alloc, circuit, stimulus)?;
+    let mut stimulated = Stimulated::new(alloc, circuit, stimulus)?;
     make_times(
         alloc,
-        &mut simulation,
+        &mut stimulated,
         stimulus.end,
         bound,
         shelf,

@@ -1,6 +1,6 @@
 // One round over the nets and elements of a circuit: what is due and handed in takes effect at once, and then every
 // element is evaluated from the new values.
-ghost use Rattle.std.specs.Prelude.{◌≡◌, ℕ, List, IfOk, OnOk, map, slice_set};
+ghost use Rattle.std.specs.Prelude.{◌≡◌, ◌++◌, ℕ, List, IfOk, OnOk, map, slice_set};
 ghost use Rattle.sg_logic.specs.declared.values.Value.{Value as NetValue};
 ghost use Rattle.sg_model.specs.Agenda.{due};
 ghost use Rattle.sg_model.specs.Round.{changed_by, due_change, due_changes};
@@ -30,9 +30,9 @@ fn value_of(values: &[Value], net: u32) -> Value
     values.get(net as usize).copied().unwrap_or(Value::X)
 }
 
-/// The changes take effect.
+// The changes take effect.
 #[tactic(auto, using(crate::proofs::EngineRounds::agree_same, crate::proofs::EngineRounds::agree_then))]
-pub fn apply(values: &mut [Value], changes: &[Change])
+fn apply(values: &mut [Value], changes: &[Change])
     ensures changed { values.new ≡ changed_by (map (λ c. change_seen c) changes.now) values.old }
     ensures above { AgreeAbove values.old values.new }
 {
@@ -55,9 +55,9 @@ fn take(values: &mut [Value], net: u32, now: u64, pending: Option<Transition>)
     }
 }
 
-/// The transitions that are due take effect.
+// The transitions that are due take effect.
 #[tactic(auto, using(crate::proofs::EngineRounds::agree_same, crate::proofs::EngineRounds::agree_then))]
-pub fn take_due(
+fn take_due(
     values: &mut [Value],
     elements: &[Element],
     now: u64,
@@ -78,6 +78,22 @@ pub fn take_due(
             [] => return,
         }
     }
+}
+
+/// What is due and what is handed in takes effect.
+#[tactic(auto, using(crate::proofs::EngineRounds::agree_then, crate::proofs::EngineRounds::changed_append))]
+pub fn change_values(
+    values: &mut [Value],
+    elements: &[Element],
+    now: u64,
+    pending: &[Option<Transition>],
+    handed: &[Change],
+)
+    ensures changed { values.new ≡ changed_by (due_changes now (map (λ e. e.output) elements.now) (map (λ p. list_seen p) pending.now) ++ map (λ c. change_seen c) handed.now) values.old }
+    ensures above { AgreeAbove values.old values.new }
+{
+    take_due(values, elements, now, pending);
+    apply(values, handed);
 }
 
 // The value that an element computes. Its inputs' values are put together in the buffer.

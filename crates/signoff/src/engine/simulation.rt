@@ -1,79 +1,145 @@
-// The simulation of a circuit of gates.
-ghost use Rattle.std.specs.Prelude.{◌≡◌};
+// The simulation of a circuit of gates, round by round.
+ghost use Rattle.std.specs.Prelude.{◌≡◌, ◌++◌, IfOk, OnOk, map, length, None};
+ghost use Rattle.sg_model.specs.Round.{changed_by, due_changes};
+ghost use Rattle.sg_model.specs.Values.{least_differing};
+ghost use Rattle.signoff.specs.EngineSeen.{all_evaluated, list_seen, AgreeAbove};
+ghost use Rattle.signoff.specs.EngineStands.{first_value_seen, run_before, Stands};
+ghost use Rattle.signoff.specs.Seen.{change_seen, circuit_seen};
 
-use crate::circuits::{Change, Circuit, Driver, Element, Net, Step, Stimulus};
-use crate::engine::rounds::{apply, evaluate, take_due};
-use crate::engine::runs::Times;
-use crate::engine::times::{Rounds, TimeEnd, make_time};
-use crate::engine::transitions::{Transition, is_any_due, next_due};
+use crate::circuits::{Change, Circuit, Driver, Element, Net};
+use crate::engine::rounds::{change_values, evaluate};
+use crate::engine::times::Rounds;
+use crate::engine::transitions::{Transition, is_any_due};
 use sg_logic::Value;
 use std::alloc::{AllocError, Global};
 use std::mem;
 
 /// The values of all nets, and those before the last round.
 #[derive(Drop)]
-struct Nets {
-    values: Vec<Value>,
-    before: Vec<Value>,
+pub struct Nets {
+    pub values: Vec<Value>,
+    pub before: Vec<Value>,
 }
 
 /// What each element has pending, and room to work in.
 #[derive(Drop)]
-struct Agenda {
-    pending: Vec<Option<Transition>>,
-    after: Vec<Option<Transition>>,
-    inputs: Vec<Value>,
+pub struct Agenda {
+    pub pending: Vec<Option<Transition>>,
+    pub after: Vec<Option<Transition>>,
+    pub inputs: Vec<Value>,
 }
 
-/// A circuit, a stimulus, and how far the simulation has come.
+/// A circuit and the state of its simulation, with the changes that are handed in to the next round.
 #[derive(Drop)]
 pub struct Simulation<'a> {
-    circuit: &'a Circuit,
-    stimulus: &'a Stimulus,
-    handed: &'a [Change],
-    nets: Nets,
-    agenda: Agenda,
+    pub circuit: &'a Circuit,
+    pub handed: &'a [Change],
+    pub nets: Nets,
+    pub agenda: Agenda,
 }
 
 // Before time 0 a net that is driven is x, and every other z.
-fn first_value(net: &Net) -> Value {
+fn first_value(net: &Net) -> Value
+    ensures { result ≡ first_value_seen net.now }
+{
     match net.driver {
         Driver::Nobody => Value::Z,
         Driver::Stimulus | Driver::Element(_) => Value::X,
     }
 }
 
-fn first_values(alloc: Global, nets: &[Net]) -> Result<Vec<Value>, AllocError> {
+fn first_values(alloc: Global, nets: &[Net]) -> Result<Vec<Value>, AllocError>
+    ensures { IfOk result (λ v. v.items ≡ map first_value_seen nets.now) }
+{
     nets.iter().map(|net| first_value(net)).collect(alloc)
 }
 
+fn nothing_pending(
+    alloc: Global,
+    elements: &[Element],
+) -> Result<Vec<Option<Transition>>, AllocError>
+    ensures { IfOk result (λ v. v.items ≡ map (λ e. None) elements.now) }
+{
+    elements.iter().map(|_| None).collect(alloc)
+}
+
 // The least net whose values differ.
-fn least_difference(before: &[Value], after: &[Value]) -> Option<u32> {
-    for (net, (b, a)) in before.iter().zip(after).enumerate() {
-        if *b != *a {
-            return u32::try_from(net).ok();
+fn least_difference(before: &[Value], after: &[Value]) -> Option<u32>
+    ensures { AgreeAbove before.now after.now → result ≡ least_differing 0 before.now after.now }
+{
+    let mut net: usize = 0;
+    let mut before = before;
+    let mut after = after;
+    while let [b, more_before @ ..] = before {
+        match after {
+            [a, more_after @ ..] => {
+                if *b != *a {
+                    return u32::try_from(net).ok();
+                }
+                net += 1;
+                before = more_before;
+                after = more_after;
+            }
+            [] => return None,
         }
     }
     None
 }
 
+// What is due and handed in takes effect.
+fn change_nets(
+    nets: &mut Nets,
+    elements: &[Element],
+    now: u64,
+    pending: &[Option<Transition>],
+    handed: &[Change],
+) -> Result<(), AllocError>
+    ensures before { OnOk result (nets.new.before.items ≡ nets.old.values.items) }
+    ensures values { OnOk result (nets.new.values.items ≡ changed_by (due_changes now (map (λ e. e.output) elements.now) (map (λ p. list_seen p) pending.now) ++ map (λ c. change_seen c) handed.now) nets.old.values.items) }
+    ensures above { OnOk result (AgreeAbove nets.old.values.items nets.new.values.items) }
+{
+    nets.before.clear();
+    nets.before.extend_from_slice(&nets.values)?;
+    change_values(&mut nets.values, elements, now, pending, handed);
+    Ok(())
+}
+
+// Every element is evaluated.
+fn evaluate_all(
+    agenda: &mut Agenda,
+    elements: &[Element],
+    now: u64,
+    values: &[Value],
+) -> Result<(), AllocError>
+    ensures { OnOk result (map (λ p. list_seen p) agenda.new.pending.items ≡ all_evaluated now values.now elements.now (map (λ p. list_seen p) agenda.old.pending.items)) }
+{
+    evaluate(
+        elements,
+        now,
+        values,
+        &agenda.pending,
+        &mut agenda.after,
+        &mut agenda.inputs,
+    )?;
+    mem::swap(&mut agenda.pending, &mut agenda.after);
+    Ok(())
+}
+
 impl<'a> Simulation<'a> {
     /// Before time 0.
-    pub fn new(
-        alloc: Global,
-        circuit: &'a Circuit,
-        stimulus: &'a Stimulus,
-    ) -> Result<Self, AllocError> {
+    pub fn new(alloc: Global, circuit: &'a Circuit) -> Result<Self, AllocError>
+        ensures circuit { IfOk result (λ s. s.circuit.now ≡ circuit.now) }
+        ensures stands { IfOk result (λ s. Stands s (run_before (circuit_seen circuit.now))) }
+    {
         Ok(Simulation {
             circuit,
-            stimulus,
             handed: &[],
             nets: Nets {
                 values: first_values(alloc, &circuit.nets)?,
                 before: first_values(alloc, &circuit.nets)?,
             },
             agenda: Agenda {
-                pending: Vec::from_elem(alloc, None, circuit.elements.len())?,
+                pending: nothing_pending(alloc, &circuit.elements)?,
                 after: Vec::new(alloc),
                 inputs: Vec::new(alloc),
             },
@@ -98,19 +164,15 @@ impl Rounds for Simulation<'_> {
     }
 
     fn round(&mut self, now: u64) -> Result<(), AllocError> {
+        let elements = &self.circuit.elements;
         change_nets(
             &mut self.nets,
-            &self.circuit.elements,
+            elements,
             now,
             &self.agenda.pending,
             self.handed,
         )?;
-        evaluate_all(
-            &mut self.agenda,
-            &self.circuit.elements,
-            now,
-            &self.nets.values,
-        )?;
+        evaluate_all(&mut self.agenda, elements, now, &self.nets.values)?;
         self.handed = &[];
         Ok(())
     }
@@ -127,83 +189,5 @@ impl Rounds for Simulation<'_> {
         }
         self.round(now)?;
         Ok(least_difference(&self.nets.before, &self.nets.values))
-    }
-}
-
-impl Times for Simulation<'_> {
-    ghost use Rattle.circuit_model.specs.Simulated.{machine_of, sets_at};
-    ghost use Rattle.signoff.specs.Seen.{circuit_seen, stimulus_seen};
-    ghost use Rattle.signoff.specs.EngineStands.{Stands};
-
-    ghost machine = { λ s. machine_of (circuit_seen s.circuit.now) };
-
-    ghost sets = { λ s. sets_at (stimulus_seen s.stimulus.now).steps };
-
-    ghost stands = { λ s r. Stands s r };
-
-    ghost skips = { skips };
-
-    fn make(&mut self, now: u64, bound: u32) -> Result<TimeEnd, AllocError> {
-        self.handed = sets_of(&self.stimulus.steps, now);
-        make_time(self, now, now == 0, bound)
-    }
-
-    fn next(&self, now: u64, end: u64) -> u64 {
-        let next = next_step(&self.stimulus.steps, now, end + 1);
-        next_due(now, next, &self.agenda.pending)
-    }
-
-    fn values(&self) -> &[Value] {
-        &self.nets.values
-    }
-}
-
-// What is due and handed in takes effect.
-fn change_nets(
-    nets: &mut Nets,
-    elements: &[Element],
-    now: u64,
-    pending: &[Option<Transition>],
-    handed: &[Change],
-) -> Result<(), AllocError> {
-    nets.before.clear();
-    nets.before.extend_from_slice(&nets.values)?;
-    take_due(&mut nets.values, elements, now, pending);
-    apply(&mut nets.values, handed);
-    Ok(())
-}
-
-// Every element is evaluated.
-fn evaluate_all(
-    agenda: &mut Agenda,
-    elements: &[Element],
-    now: u64,
-    values: &[Value],
-) -> Result<(), AllocError> {
-    evaluate(
-        elements,
-        now,
-        values,
-        &agenda.pending,
-        &mut agenda.after,
-        &mut agenda.inputs,
-    )?;
-    mem::swap(&mut agenda.pending, &mut agenda.after);
-    Ok(())
-}
-
-// What the stimulus sets at a time.
-fn sets_of(steps: &[Step], now: u64) -> &[Change] {
-    match steps.get(steps.partition_point(|s| s.time < now)) {
-        Some(step) if step.time == now => &step.sets,
-        _ => &[],
-    }
-}
-
-// The time of the first step after now, or else the latest that is asked for.
-fn next_step(steps: &[Step], now: u64, latest: u64) -> u64 {
-    match steps.get(steps.partition_point(|s| s.time <= now)) {
-        Some(step) => step.time.min(latest),
-        None => latest,
     }
 }
