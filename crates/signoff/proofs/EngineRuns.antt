@@ -1,5 +1,5 @@
 -- The times of a run, one after another, with the quiet ones skipped, and what is kept of them.
-use Rattle.std.specs.Prelude.{◌≡◌, ℕ, zero, suc, ◌+◌, ◌-◌, ◌<◌, ◌≤◌, List, [], ◌∷◌, ◌++◌, Option, Some, None, Result, Ok, Err, OnErr, refl}
+use Rattle.std.specs.Prelude.{◌≡◌, ℕ, zero, suc, ◌+◌, ◌-◌, ◌<◌, ◌≤◌, List, [], ◌∷◌, ◌++◌, Option, Some, None, Result, Ok, Err, IfOk, OnErr, refl}
 use Rattle.std.proofs.Common.{sym, ◌∙◌, ap, subst, arith, inl, inr}
 use Rattle.sg_logic.specs.declared.values.Value.{Value}
 use Rattle.sg_model.specs.Machine.{Machine, Snapshot}
@@ -192,3 +192,11 @@ on_err (Err e) P h = h
 pub is_whole : (end : TimeEnd) → ((net : Option ℕ) → end ≡ Spent net → ⊥) → end ≡ Whole
 is_whole Whole h = refl
 is_whole (Spent net) h = absurd (h net refl)
+
+pub if_ok_then : {A E : Type 0} (r : Result A E) (P Q : A → Type 0) → ((a : A) → P a → Q a) → IfOk r P → IfOk r Q
+if_ok_then (Ok a) P Q f h = f a h
+if_ok_then (Err e) P Q f h = tt
+
+pub on_err_then : {A E : Type 0} (r : Result A E) (P Q : Type 0) → (P → Q) → OnErr r P → OnErr r Q
+on_err_then (Ok a) P Q f h = tt
+on_err_then (Err e) P Q f h = f h

@@ -1,6 +1,7 @@
 -- What a stimulus sets, found from where its steps are cut at a time.
 use Rattle.std.specs.Prelude.{◌≡◌, ◌≢◌, ◌⊎◌, ℕ, zero, suc, ◌+◌, ◌<◌, ◌≤◌, ◌==◌, nat_lt, ◌&&◌, Bool, true, false, if◌then◌else◌, List, [], ◌∷◌, map, length, slice_index_or, refl}
 use Rattle.std.specs.List.{AllWithin}
+use Rattle.std.specs.List.Sorted.{IsPartitionedBy}
 use Rattle.std.proofs.Common.{sym, ◌∙◌, ap, subst, arith, inl, inr}
 use Rattle.std.proofs.lemmas.Bool.Decides.{nat_tests}
 use Rattle.std.proofs.lemmas.Bool.{cases_eq}
@@ -36,7 +37,7 @@ pub rising : (end : ℕ) (steps : List Step) → rise_to end (map (λ s. s.time)
 rising end steps e = record { each = rises end steps e }
 
 -- the steps before a time are the first ones
-pub partitioned : (steps : List Step) → Rising steps → (time i j : ℕ) (blank : Step) → i ≤ j → j < length steps → nat_lt (slice_index_or steps j blank).time time ≡ true → nat_lt (slice_index_or steps i blank).time time ≡ true
+partitioned : (steps : List Step) → Rising steps → (time i j : ℕ) (blank : Step) → i ≤ j → j < length steps → nat_lt (slice_index_or steps j blank).time time ≡ true → nat_lt (slice_index_or steps i blank).time time ≡ true
 partitioned steps r time i j blank l m e = at (cases_eq i j)
   where
     at : (i ≡ j) ⊎ (i ≢ j) → nat_lt (slice_index_or steps i blank).time time ≡ true
@@ -110,9 +111,12 @@ pub sets_none : (steps : List Step) (time n t : ℕ) → Splits steps time n →
 sets_none steps time n t cut l lo = none steps t (λ i blank m. (let k : (slice_index_or steps i blank).time < time = cut.before i blank (omega arith) in omega arith))
 
 -- from what the search for the cut says
-pub splits : (steps : List Step) (time n : ℕ) → n ≤ length steps → AllWithin (λ (s : Step). nat_lt s.time time ≡ true) steps 0 n → AllWithin (λ (s : Step). nat_lt s.time time ≡ false) steps n (length steps) → Splits steps time n
-splits steps time n l before others = record {
+pub splits : (steps xs : List Step) (time n : ℕ) → xs ≡ steps → n ≤ length xs → AllWithin (λ (s : Step). nat_lt s.time time ≡ true) xs 0 n → AllWithin (λ (s : Step). nat_lt s.time time ≡ false) xs n (length xs) → Splits steps time n
+splits steps xs time n e l before others = subst (λ ys. Splits ys time n) e (record {
   within = l;
-  before = λ i blank m. ?;
-  others = λ i blank lo hi. ?;
-}
+  before = λ i blank m. (let k : nat_lt (slice_index_or xs i blank).time time ≡ true = before i blank (omega arith) m in grind (arith, nat_tests));
+  others = λ i blank lo hi. (let k : nat_lt (slice_index_or xs i blank).time time ≡ false = others i blank lo hi in grind (arith, nat_tests));
+})
+
+pub are_partitioned : (steps xs : List Step) → xs ≡ steps → Rising steps → (time : ℕ) → IsPartitionedBy (λ (s : Step). nat_lt s.time time) xs
+are_partitioned steps xs e r time = subst (λ ys. IsPartitionedBy (λ (s : Step). nat_lt s.time time) ys) (sym e) (partitioned steps r time)

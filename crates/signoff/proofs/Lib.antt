@@ -4,3 +4,4 @@ pub mod EngineTimes
 pub mod EngineRuns
 pub mod EngineStimulus
 pub mod EngineStands
+pub mod EngineSimulates

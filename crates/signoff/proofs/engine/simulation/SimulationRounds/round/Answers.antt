@@ -3,7 +3,7 @@ use Rattle.std.proofs.Common.{sym, ◌∙◌, ap, subst, rules}
 use Rattle.sg_logic.specs.declared.values.Value.{Value}
 use Rattle.sg_model.specs.Round.{changed_by, due_changes}
 use Rattle.signoff.specs.Seen.{change_seen}
-use Rattle.signoff.specs.EngineSeen.{all_evaluated, list_seen}
+use Rattle.signoff.specs.EngineSeen.{all_evaluated, list_seen, AgreeAbove}
 use Rattle.signoff.proofs.EngineStands.{values_after_round, lists_after_round, count_after}
 use Rattle.signoff.proofs.engine.simulation.SimulationRounds.round.Goals as goal
 
@@ -25,6 +25,6 @@ returns-clause-stands c =
             before = h.values ∙ sym c.in_ok-change_nets.ensures.before;
             lists = lists_after_round circuit now all handed r values pending after h.lists h.as_many new evaluated;
             as_many = count_after now values circuit.elements.items pending after h.as_many evaluated;
-            above = ?;
+            above = subst (λ vs. AgreeAbove vs values) (sym c.in_ok-change_nets.ensures.before) c.in_ok-change_nets.ensures.above;
           });
     }
