@@ -10,3 +10,9 @@ pub mod NetlistLaws
 pub mod StimulusLaws
 pub mod VcdWriting
 pub mod VcdRuns
+pub mod EngineRounds
+pub mod EngineTimes
+pub mod EngineRuns
+pub mod EngineStimulus
+pub mod EngineStands
+pub mod EngineSimulates

@@ -16,3 +16,8 @@ pub mod Stops
 pub mod Tasks
 pub mod Work
 pub mod Promises
+pub mod EngineSeen
+pub mod EngineTimes
+pub mod EngineRuns
+pub mod EngineStimulus
+pub mod EngineStands
