@@ -62,6 +62,7 @@ pub fn make_times<S: Shelf, R: Recorder<S>, T: Times>(
     ensures recorded { IfOk result (λ spent. Recorded (T.machine times.old) (T.sets times.old) bound end (T.stands times.old) (R.holds recorder.old shelf.old) (R.holds recorder.new shelf.new)) }
     ensures broke { OnErr result (RecordedPart (T.machine times.old) (T.sets times.old) bound end (T.stands times.old) (R.holds recorder.old shelf.old) (R.holds recorder.new shelf.new) (R.broken recorder.new shelf.new)) }
     ensures name { R.name recorder.new ≡ R.name recorder.old }
+    ensures circuit { R.circuit recorder.new ≡ R.circuit recorder.old }
     ensures others { KeepsOthers (R.name recorder.old) (S.files shelf.old) (S.files shelf.new) }
     ensures cause { CauseOf (S.fault_count shelf.old) (S.fault_count shelf.new) result }
     ensures named { NamesFaultOf (R.name recorder.old) (S.last_fault shelf.old) (S.last_fault shelf.new) result }

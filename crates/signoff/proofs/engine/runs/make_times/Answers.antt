@@ -71,6 +71,7 @@ loop-now-preserved g c =
           (λ k n x h. subst (λ y. t.stands c.make.new.self (with_copies k y n x)) same (g.met.T.Times.skips c.make.new.self k n x h));
       within = c.next-now.ensures.within;
       name = search rules;
+      circuit = search rules;
       others = search rules;
       count = search rules;
       fault = search rules;

@@ -14,6 +14,7 @@ invariant-loop-now g l =
       came : CameTo (t.machine l.fn.times) (t.sets l.fn.times) l.bound l.end l.now (t.stands l.fn.times) (t.stands l.times) (r.holds l.fn.recorder l.fn.shelf) (r.holds l.recorder l.shelf);
       within : l.now ≤ l.end + 1;
       name : r.name l.recorder ≡ r.name l.fn.recorder;
+      circuit : r.circuit l.recorder ≡ r.circuit l.fn.recorder;
       others : KeepsOthers (r.name l.fn.recorder) (s.files l.fn.shelf) (s.files l.shelf);
       count : s.fault_count l.shelf ≡ s.fault_count l.fn.shelf;
       fault : s.last_fault l.shelf ≡ s.last_fault l.fn.shelf;
