@@ -1,5 +1,5 @@
 -- The definitions at small values.
-use Rattle.std.specs.Prelude.{ℕ, ◌≡◌, ◌-◌, ◌^◌, List, [], ◌∷◌, Option, Some, None, codes, refl}
+use Rattle.std.specs.Prelude.{ℕ, ◌≡◌, ◌-◌, ◌^◌, List, [], ◌∷◌, Some, None, codes, refl}
 use Rattle.sg_io.specs.Faults.{raised}
 use Rattle.sg_io.specs.Files.{File, bytes_of, content_of}
 use Rattle.sg_io.specs.Listed.{Calls, fails_after, after_call}
@@ -24,9 +24,11 @@ abbrev calls_at : ℕ → Calls
 calls_at n = record { made = n; failing = record { call = 1; taken = 5 } ∷ record { call = 4; taken = 0 } ∷ record { call = 1; taken = 2 } ∷ [] }
 
 an_unlisted_call_does_not_fail : fails_after (calls_at 0) ≡ None
+unfolding fails_after
 an_unlisted_call_does_not_fail = refl
 
 the_last_listing_holds : fails_after (calls_at 1) ≡ Some 2
+unfolding fails_after
 the_last_listing_holds = refl
 
 the_next_call_has_the_next_number : after_call (calls_at 3) ≡ calls_at 4
