@@ -1,0 +1,5 @@
+-- The modules of this folder.
+pub mod Reading
+pub mod Seen
+pub mod Spelling
+pub mod Ticks
