@@ -1,13 +1,12 @@
--- Powers of ten, and what they do to a size.
-use Rattle.std.proofs.Common.{◌≡◌, ◌∙◌, sym, refl, ap, ℕ, ◌+◌, ◌*◌, ◌^◌, ◌<◌, ◌≤◌, arith, Bool, inl, inr}
-use Rattle.std.specs.Prelude.{ℤ, pos, negsuc, ◌≤ℤ◌, Result, Ok, Err}
-use Rattle.std.proofs.Math.Nat.{pow-le-pow_right, pow-zero, div-eq_of_lt, mul-le-mul_left}
+-- Powers of ten, what they do to a size, and rounding.
+use Rattle.std.proofs.Common.{true, false, zero, suc, ◌≡◌, ◌∙◌, sym, refl, ap, ℕ, ◌+◌, ◌*◌, ◌^◌, ◌<◌, ◌≤◌, arith, Bool, inl, inr}
+use Rattle.std.specs.Prelude.{ℤ, Result, Ok, Err}
+use Rattle.std.proofs.Math.Nat.{pow-le-pow_right, pow-zero, div-eq_of_lt, mul-le-mul_left, mul-div-le, lt-mul-div-succ}
 use Rattle.std.proofs.lemmas.Bool.{cases_lt, le-ltb, lt-ltb}
-use Rattle.std.proofs.lemmas.Int.{ints}
 use Rattle.std.specs.Int.RustNames.{unsigned_abs}
 use Rattle.sg_time.specs.declared.decimal.TimeError.{TimeError}
 use Rattle.sg_time.specs.declared.decimal.TimeError.TheVariants as error
-use Rattle.sg_time.specs.Ticks.{rounded, scaled, above, limited, with_sign, with_sign_if_ok}
+use Rattle.sg_time.specs.Ticks.{rounded, scaled, limited, with_sign, with_sign_if_ok}
 
 pub pow_at_least : (i j : ℕ) → i ≤ j → 10 ^ i ≤ 10 ^ j
 pow_at_least i j h = pow-le-pow_right (omega arith) h
@@ -54,12 +53,18 @@ pub counted : (result : Result ℕ TimeError) (size digits : ℕ) (power p : ℤ
 counted result size digits power p places k h s w l =
     h ∙ ap (λ n. limited (scaled n power * 10 ^ places)) s ∙ ap (λ z. limited (scaled digits z * 10 ^ places)) w ∙ ap (λ n. limited (scaled digits p * 10 ^ n)) l
 
-pub above_of : (z : ℤ) → pos 0 ≤ℤ z → unsigned_abs z ≡ above z
-above_of (pos n) h = refl
-above_of (negsuc n) h = absurd (omega (arith, ints))
-
 pub refused_is : (negative : Bool) (size : ℕ) (e : TimeError) → limited size ≡ Err e → Err e ≡ with_sign_if_ok negative (limited size)
 refused_is negative size e h = sym (ap (with_sign_if_ok negative) h)
 
 pub signed_is : (negative : Bool) (size n : ℕ) → limited size ≡ Ok n → Ok (with_sign negative n) ≡ with_sign_if_ok negative (limited size)
 signed_is negative size n h = sym (ap (with_sign_if_ok negative) h)
+
+-- a sign leaves the size
+pub unsigned_abs-with_sign : (negative : Bool) (size : ℕ) → unsigned_abs (with_sign negative size) ≡ size
+unsigned_abs-with_sign false size = refl
+unsigned_abs-with_sign true zero = refl
+unsigned_abs-with_sign true (suc n) = refl
+
+-- a fraction is at most a half below the number to which it is rounded, and less than a half above it
+pub rounded-near : (a b : ℕ) → 0 < b → (2 * b * rounded a b ≤ 2 * a + b) × (2 * a + b < 2 * b * (rounded a b + 1))
+rounded-near a b h = (mul-div-le (2 * a + b) (2 * b), lt-mul-div-succ (2 * a + b) {b = 2 * b} (omega arith))

@@ -1,4 +1,5 @@
 -- The modules of this folder.
+pub mod Bytes
 pub mod Reading
 pub mod Seen
 pub mod Spelling

@@ -2,6 +2,7 @@
 use Rattle.std.specs.Prelude.{ℕ, suc, ◌+◌, ◌==◌, ◌&&◌, ◌||◌, List, [], ◌∷◌, length, take, drop, Bool, false, Option, Some, None, unwrap_or, Result, Err, if◌then◌else◌}
 use Rattle.std.specs.List.{prefix_len}
 use Rattle.std.specs.Char.{is_ascii_digit}
+use Rattle.sg_time.specs.Bytes.{plus_byte, minus_byte, point_byte, upper_e_byte, lower_e_byte}
 use Rattle.sg_time.specs.Spelling.{Sign, none, plus, minus, is_run_byte, Power, Spelling, Number, value_of}
 use Rattle.sg_time.specs.declared.decimal.TimeError.{TimeError}
 use Rattle.sg_time.specs.declared.decimal.TimeError.TheVariants as error
@@ -9,7 +10,7 @@ use Rattle.sg_time.specs.declared.decimal.TimeError.TheVariants as error
 -- the sign at the front, and what is behind it
 abbrev pub sign_at : List ℕ → Sign × List ℕ
 sign_at [] = (none, [])
-sign_at (b ∷ bs) = if b == 43 then (plus, bs) else if b == 45 then (minus, bs) else (none, b ∷ bs)
+sign_at (b ∷ bs) = if b == plus_byte then (plus, bs) else if b == minus_byte then (minus, bs) else (none, b ∷ bs)
 
 -- how many bytes at the front are a run
 abbrev pub run_len : List ℕ → ℕ
@@ -30,12 +31,12 @@ signed_power mark s = if are_power_digits s.1 then Some (Some (record { mark = m
 -- the power that all bytes spell, if they are nothing else
 abbrev pub power_at : List ℕ → Option (Option Power)
 power_at [] = Some None
-power_at (b ∷ bs) = if (b == 101) || (b == 69) then signed_power b (sign_at bs) else None
+power_at (b ∷ bs) = if (b == lower_e_byte) || (b == upper_e_byte) then signed_power b (sign_at bs) else None
 
 -- the run behind a point, if one is at the front, and what is behind it
 abbrev pub fraction_at : List ℕ → Option (List ℕ) × List ℕ
 fraction_at [] = (None, [])
-fraction_at (b ∷ bs) = if b == 46 then (Some (take (run_len bs) bs), drop (run_len bs) bs) else (None, b ∷ bs)
+fraction_at (b ∷ bs) = if b == point_byte then (Some (take (run_len bs) bs), drop (run_len bs) bs) else (None, b ∷ bs)
 
 abbrev pub with_power : Sign → List ℕ → Option (List ℕ) → Option (Option Power) → Option Spelling
 with_power sign whole fraction None = None

@@ -1,9 +1,11 @@
--- How a decimal number is spelled, and what number it is.
+-- How a decimal number is spelled, and what number it is: the unsigned numbers of IEEE 1364-2005 (lexical conventions, real and
+-- decimal numbers), and the same with a sign for IEEE 1497-2001.
 use Rattle.std.specs.Prelude.{ℕ, ℤ, pos, neg_ℤ, ◌-ℤ◌, Result, Ok, Err, ◌≡◌, ◌+◌, ◌-◌, ◌*◌, ◌<◌, ◌≤◌, ◌==◌, ◌||◌, ◌⊎◌, nat_lt, List, [], ◌∷◌, ◌++◌, length, filter, count_by, Bool, true, false, Option, Some, None, unwrap_or, IfSome, if◌then◌else◌}
 use Rattle.std.specs.List.{list_all}
 use Rattle.sg_time.specs.declared.decimal.TimeError.{TimeError}
 use Rattle.sg_time.specs.declared.decimal.TimeError.TheVariants as error
 use Rattle.std.specs.Char.{is_ascii_digit}
+use Rattle.sg_time.specs.Bytes.{plus_byte, minus_byte, point_byte, zero_byte, upper_e_byte, underscore_byte, lower_e_byte}
 
 -- a sign, if there is one
 pub data Sign : Type 0 where
@@ -11,8 +13,8 @@ pub data Sign : Type 0 where
 
 abbrev pub sign_bytes : Sign → List ℕ
 sign_bytes none = []
-sign_bytes plus = 43 ∷ []
-sign_bytes minus = 45 ∷ []
+sign_bytes plus = plus_byte ∷ []
+sign_bytes minus = minus_byte ∷ []
 
 abbrev pub is_minus : Sign → Bool
 is_minus none = false
@@ -21,21 +23,21 @@ is_minus minus = true
 
 -- a digit or `_`
 abbrev pub is_run_byte : ℕ → Bool
-is_run_byte b = is_ascii_digit b || (b == 95)
+is_run_byte b = is_ascii_digit b || (b == underscore_byte)
 
 -- nothing, or a digit and then digits and `_`
 abbrev pub IsRun : List ℕ → Type 0
 IsRun [] = Unit {0}
 IsRun (b ∷ bs) = (is_ascii_digit b ≡ true) × (list_all is_run_byte bs ≡ true)
 
--- `e` or `E`, and a power of ten
+-- an `e`, and one digit or two with a sign or none
 pub record Power : Type 0 where
   pub mark : ℕ
   pub sign : Sign
   pub digits : List ℕ
 
 pub record IsPower (p : Power) : Type 0 where
-  pub mark : (p.mark ≡ 101) ⊎ (p.mark ≡ 69)
+  pub mark : (p.mark ≡ lower_e_byte) ⊎ (p.mark ≡ upper_e_byte)
   pub digits : list_all is_ascii_digit p.digits ≡ true
   pub some : 0 < length p.digits
   pub few : length p.digits ≤ 2
@@ -46,7 +48,7 @@ power_bytes (Some p) = p.mark ∷ (sign_bytes p.sign ++ p.digits)
 
 abbrev pub fraction_bytes : Option (List ℕ) → List ℕ
 fraction_bytes None = []
-fraction_bytes (Some run) = 46 ∷ run
+fraction_bytes (Some run) = point_byte ∷ run
 
 -- the parts of a decimal: a sign, digits, perhaps a point with digits, perhaps a power of ten
 pub record Spelling : Type 0 where
@@ -68,12 +70,12 @@ spelled s = sign_bytes s.sign ++ (s.whole ++ (fraction_bytes s.fraction ++ power
 -- the number that goes on from n by these digits
 abbrev pub number_from : ℕ → List ℕ → ℕ
 number_from n [] = n
-number_from n (d ∷ ds) = number_from (n * 10 + (d - 48)) ds
+number_from n (d ∷ ds) = number_from (n * 10 + (d - zero_byte)) ds
 
 -- the digits behind the leading zeros
 abbrev pub significant : List ℕ → List ℕ
 significant [] = []
-significant (d ∷ ds) = if d == 48 then significant ds else d ∷ ds
+significant (d ∷ ds) = if d == zero_byte then significant ds else d ∷ ds
 
 -- all digits of a decimal, `_` and the point left out
 abbrev pub digits_of : Spelling → List ℕ
@@ -90,10 +92,12 @@ signed none n = n
 signed plus n = n
 signed minus n = neg_ℤ n
 
+-- the power of ten that the end of a decimal says
 abbrev pub exponent_of : Option Power → ℤ
 exponent_of None = pos 0
 exponent_of (Some p) = signed p.sign (pos (number_from 0 p.digits))
 
+-- the number that is spelled: all digits as one whole number, and its last digit's power of ten
 abbrev pub number_of : Spelling → Number
 number_of s = record {
   negative = is_minus s.sign;

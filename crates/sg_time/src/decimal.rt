@@ -27,7 +27,8 @@ pub enum TimeError {
 }
 
 impl Decimal {
-    ghost use Rattle.std.specs.Prelude.{ℤ, pos, ◌≤ℤ◌, ◌≡◌, length, Result};
+    ghost use Rattle.std.specs.Prelude.{◌≤ℤ◌, ◌≡◌, length, Result, IfOk};
+    ghost use Rattle.std.specs.Int.RustNames.{unsigned_abs};
     ghost use Rattle.sg_time.specs.Spelling.{Number, Says};
     ghost use Rattle.sg_time.specs.Seen.{number, outcome};
     ghost use Rattle.sg_time.specs.Ticks.{ticks as ticks_of, tick_count, limited, percentage};
@@ -46,7 +47,8 @@ impl Decimal {
     /// How many ticks this many units `from` are: rounded to the precision, halves away from zero.
     pub fn to_ticks(&self, from: Unit, precision: Unit, tick: Unit) -> Result<i64, TimeError>
         requires { tick.power ≤ℤ precision.power }
-        ensures { result ≡ ticks_of (number self.now) from.power precision.power tick.power }
+        ensures ticks { result ≡ ticks_of (number self.now) from.power precision.power tick.power }
+        ensures fits { IfOk result (λ ticks. unsigned_abs ticks < 2 ^ 60) }
     {
         let size = self.tick_count(from, precision, tick)?;
         Ok(with_sign(self.negative, size))
@@ -64,7 +66,8 @@ impl Decimal {
 
     /// This many percent of a number of ticks, rounded with halves up; 0 for a negative number.
     pub fn percent_of(&self, ticks: u64) -> Result<u64, TimeError>
-        ensures { result ≡ percentage (number self.now) ticks }
+        ensures percentage { result ≡ percentage (number self.now) ticks }
+        ensures fits { IfOk result (λ n. n < 2 ^ 60) }
     {
         if self.negative {
             return Ok(0);

@@ -127,8 +127,8 @@ fn digit_count(run: &[u8]) -> usize
     run.iter().filter(|b| b.is_ascii_digit()).count()
 }
 
-// The power of ten of a number's last digit, where so many digits follow the point.
-fn less(power: i32, count: usize) -> i32
+// The last digit counts this power of ten, where so many digits follow the point.
+fn power_of_last_digit(power: i32, count: usize) -> i32
     requires low { pos 0 ≤ℤ (power +ℤ pos 99) }
     requires high { power ≤ℤ pos 99 }
     requires few { count < 2 ^ 30 }
@@ -153,7 +153,7 @@ pub fn read_parts(bytes: &[u8]) -> Result<Decimal, TimeError>
     let Some(digits) = digits_value(whole, fraction) else {
         return Err(TimeError::TooManyDigits);
     };
-    let exponent = less(power, digit_count(fraction));
+    let exponent = power_of_last_digit(power, digit_count(fraction));
     Ok(Decimal {
         negative,
         digits,
