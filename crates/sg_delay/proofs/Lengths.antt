@@ -3,25 +3,25 @@ use Rattle.std.proofs.Common.{zero, suc, ◌≡◌, sym, refl, ℕ, List, [], �
 use Rattle.std.specs.List.{Contains}
 use Rattle.sg_delay.specs.Expansion.{list_lengths, of_six, six}
 
-pub six_of_1 : (list : List ℕ) → length list ≡ 1 → IsOk (of_six (six list))
+six_of_1 : (list : List ℕ) → length list ≡ 1 → IsOk (of_six (six list))
 six_of_1 [] h = absurd (omega arith)
 six_of_1 (a ∷ []) h = refl
 six_of_1 (a ∷ b ∷ list) h = absurd (omega arith)
 
-pub six_of_2 : (list : List ℕ) → length list ≡ 2 → IsOk (of_six (six list))
+six_of_2 : (list : List ℕ) → length list ≡ 2 → IsOk (of_six (six list))
 six_of_2 [] h = absurd (omega arith)
 six_of_2 (a ∷ []) h = absurd (omega arith)
 six_of_2 (a ∷ b ∷ []) h = refl
 six_of_2 (a ∷ b ∷ c ∷ list) h = absurd (omega arith)
 
-pub six_of_3 : (list : List ℕ) → length list ≡ 3 → IsOk (of_six (six list))
+six_of_3 : (list : List ℕ) → length list ≡ 3 → IsOk (of_six (six list))
 six_of_3 [] h = absurd (omega arith)
 six_of_3 (a ∷ []) h = absurd (omega arith)
 six_of_3 (a ∷ b ∷ []) h = absurd (omega arith)
 six_of_3 (a ∷ b ∷ c ∷ []) h = refl
 six_of_3 (a ∷ b ∷ c ∷ d ∷ list) h = absurd (omega arith)
 
-pub six_of_6 : (list : List ℕ) → length list ≡ 6 → IsOk (of_six (six list))
+six_of_6 : (list : List ℕ) → length list ≡ 6 → IsOk (of_six (six list))
 six_of_6 [] h = absurd (omega arith)
 six_of_6 (a ∷ []) h = absurd (omega arith)
 six_of_6 (a ∷ b ∷ []) h = absurd (omega arith)
