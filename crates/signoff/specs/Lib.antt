@@ -12,3 +12,12 @@ pub mod Answer
 pub mod VcdWords
 pub mod Writing
 pub mod Runs
+pub mod Stops
+pub mod Tasks
+pub mod Work
+pub mod Promises
+pub mod EngineSeen
+pub mod EngineTimes
+pub mod EngineRuns
+pub mod EngineStimulus
+pub mod EngineStands
