@@ -63,7 +63,7 @@ broke-begins w told stimulus finished b =
     let rest = ending stimulus.end (dump (variables_of w.circuit) (seen_in finished)) finished.spent in
     let whole = sym (text_of_run-is w.circuit stimulus finished ∙ ap (λ t. t ++ rest) (ap (text_of w.circuit) b.times ∙ more.1)) in
     let first : FileBegins w.name (text_of w.circuit b.seen ++ more.0) told =
-        elim b.left [ inl h ↦ begins w.name (text_of w.circuit b.seen) more.0 told h.file | inr h ↦ begins_more w.name (text_of w.circuit b.seen) more.0 told h ] in
+    elim b.left [ inl h ↦ begins w.name (text_of w.circuit b.seen) more.0 told h.file | inr h ↦ begins_more w.name (text_of w.circuit b.seen) more.0 told h ] in
     subst (λ t. FileBegins w.name t told) whole (begins_more w.name (text_of w.circuit b.seen ++ more.0) rest told first)
 
 -- the other files, one call after another

@@ -87,7 +87,7 @@ no_block : (xs : List Variable) (s : Snapshot) (o : Option Dump) → block_after
 no_block xs s None none = absurd (cc)
 no_block xs s (Some d) none =
     (elim (agree xs d.values s.values) as (λ b. (if b then None else Some (later_block xs d.values s)) ≡ None
-        → (if b then Some d else Some (record { text = d.text ++ later_block xs d.values s; time = s.time; values = s.values })) ≡ Some d) [
+    → (if b then Some d else Some (record { text = d.text ++ later_block xs d.values s; time = s.time; values = s.values })) ≡ Some d) [
       | true ↦ λ e. refl
       | false ↦ λ e. absurd (cc)
     ]) none
@@ -99,8 +99,8 @@ a_block xs s None text some =
     ap (λ t. Some (record { text = t; time = s.time; values = s.values })) e
 a_block xs s (Some d) text some =
     (elim (agree xs d.values s.values) as (λ b. (if b then None else Some (later_block xs d.values s)) ≡ Some text
-        → (if b then Some d else Some (record { text = d.text ++ later_block xs d.values s; time = s.time; values = s.values }))
-        ≡ Some (record { text = d.text ++ text; time = s.time; values = s.values })) [
+    → (if b then Some d else Some (record { text = d.text ++ later_block xs d.values s; time = s.time; values = s.values }))
+    ≡ Some (record { text = d.text ++ text; time = s.time; values = s.values })) [
       | true ↦ λ e. absurd (cc)
       | false ↦ λ e. let t : later_block xs d.values s ≡ text = cc in ap (λ u. Some (record { text = d.text ++ u; time = s.time; values = s.values })) t
     ]) some

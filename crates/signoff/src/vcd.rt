@@ -10,10 +10,9 @@ ghost use Rattle.signoff.specs.Runs.{Leaves};
 ghost use Rattle.signoff.specs.Seen.{circuit_seen};
 ghost use Rattle.signoff.specs.Writing.{FileBegins, FileHolds, Holds, block_after, ended_text, holds_again, is_block_of, text_of, writer_seen, written_seen};
 
-mod texts;
-
 #[cfg(test)]
 mod tests;
+mod texts;
 
 use crate::circuits::Circuit;
 use crate::engine::Recorder;
@@ -22,9 +21,9 @@ use sg_logic::Value;
 use std::alloc::{AllocError, Global};
 use texts::{agrees, first_block_of, header_of, later_block_of, push_time};
 
-/// The last block of a dump: its time in ticks, and the values of all nets then.
+// The block written last: its time in ticks, and the values of all nets then.
 #[derive(Debug, Drop)]
-pub struct Written {
+struct Written {
     time: u64,
     values: Vec<Value>,
 }
@@ -93,12 +92,7 @@ impl<'a> VcdWriter<'a> {
     }
 
     /// Writes the line of the end, unless the last block is of that time.
-    pub fn finish<S: Shelf>(
-        &self,
-        alloc: Global,
-        shelf: &mut S,
-        end: u64,
-    ) -> Result<(), ShelfError>
+    pub fn finish<S: Shelf>(&self, alloc: Global, shelf: &mut S, end: u64) -> Result<(), ShelfError>
         // The file holds the text of the times that were recorded, with its end, or after a failure the first bytes.
         ensures ok { OnOk result ((seen : List Snapshot) → Holds (writer_seen self.now) (S.files shelf.old) seen
             → FileHolds (writer_seen self.now).name (ended_text (writer_seen self.now).circuit end seen) (S.files shelf.new)) }

@@ -57,11 +57,11 @@ returns-clause-file g c =
     } in
     elim c.if-is_none.branch [
       | then-is_none+in_ok-finish w ↦
-        let none = sym c.in_ok-spent.ensures.spent ∙ spent_none c.in_ok-spent.spent (c.is_none.ensures ∙ ap not w.if-is_none.true) in
-        rw w.shelf-is
-        (ends _ _ stimulus (run_of_circuit circuit c.args.bound stimulus) _ _ _ _ _ _ recorded none c.in_ok-spent.ensures.«record» w.finish.ensures.others w.in_ok-finish.ensures.ok)
+          let none = sym c.in_ok-spent.ensures.spent ∙ spent_none c.in_ok-spent.spent (c.is_none.ensures ∙ ap not w.if-is_none.true) in
+          rw w.shelf-is
+          (ends _ _ stimulus (run_of_circuit circuit c.args.bound stimulus) _ _ _ _ _ _ recorded none c.in_ok-spent.ensures.«record» w.finish.ensures.others w.in_ok-finish.ensures.ok)
       | else-is_none w ↦
-        let some = spent_some c.in_ok-spent.spent (c.is_none.ensures ∙ ap not w.if-is_none.false) in
-        rw w.shelf-is
-        (spends _ _ stimulus (run_of_circuit circuit c.args.bound stimulus) _ _ _ _ _ some.0 recorded (sym c.in_ok-spent.ensures.spent ∙ some.1) c.in_ok-spent.ensures.«record»)
+          let some = spent_some c.in_ok-spent.spent (c.is_none.ensures ∙ ap not w.if-is_none.false) in
+          rw w.shelf-is
+          (spends _ _ stimulus (run_of_circuit circuit c.args.bound stimulus) _ _ _ _ _ some.0 recorded (sym c.in_ok-spent.ensures.spent ∙ some.1) c.in_ok-spent.ensures.«record»)
     ]

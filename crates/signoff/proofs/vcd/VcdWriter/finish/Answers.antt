@@ -5,7 +5,7 @@ use Rattle.signoff.proofs.VcdWriting.{begins, ends_err}
 use Rattle.signoff.proofs.vcd.VcdWriter.finish.Goals as goal
 
 pub returns-in_err-push_time-clause-err : goal.returns-in_err-push_time-clause-err
-returns-in_err-push_time-clause-err g c = 
+returns-in_err-push_time-clause-err g c =
     rw (err_from_is_err_and c.from_residual.result c.from_residual.ensures.1).1
     (λ seen h. begins _ _ _ _ h.file)
 

@@ -6,7 +6,7 @@ use Rattle.signoff.proofs.VcdWriting.{begins_before, breaks_off, goes_on, keeps}
 use Rattle.signoff.proofs.vcd.VcdWriterRecorder.record.Goals as goal
 
 pub returns-in_err-block-clause-err : goal.returns-in_err-block-clause-err
-returns-in_err-block-clause-err g c = 
+returns-in_err-block-clause-err g c =
     rw (err_from_is_err_and c.from_residual.result c.from_residual.ensures.1).1
     (λ seen h. begins_before (writer_seen c.args.self.now) _ (record { time = c.args.time; values = c.args.values.now }) seen h)
 
@@ -14,7 +14,7 @@ pub returns-in_default-clause-ok : goal.returns-in_default-clause-ok
 returns-in_default-clause-ok g c = λ seen h. keeps (writer_seen c.args.self.now) _ _ seen (sym (rw c.in_default.is at c.in_ok-block.ensures)) h
 
 pub returns-in_err-values-clause-err : goal.returns-in_err-values-clause-err
-returns-in_err-values-clause-err g c = 
+returns-in_err-values-clause-err g c =
     rw (err_from_is_err_and c.from_residual-in_err-values.result c.from_residual-in_err-values.ensures.1).1
     (λ seen h. begins_before (writer_seen c.args.self.now) _ (record { time = c.args.time; values = c.args.values.now }) seen h)
 

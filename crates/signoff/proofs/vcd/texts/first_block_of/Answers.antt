@@ -10,6 +10,6 @@ pub returns : goal.returns
 returns c =
     let nets = map (λ n. net_seen n) c.args.circuit.now.nets.items in
     add_four [] (time_line 0) (codes "$dumpvars\n") (numbered (net_value c.args.values.now) 0 nets) (codes "$end\n")
-        (rw c.new-text.ensures.items at c.in_ok-push_time.ensures) c.in_ok-extend_from_slice.ensures.items
-        (rw c.deref.ensures.value at c.in_ok-push_values.ensures) c.in_ok-extend_from_slice-2.ensures.items
+    (rw c.new-text.ensures.items at c.in_ok-push_time.ensures) c.in_ok-extend_from_slice.ensures.items
+    (rw c.deref.ensures.value at c.in_ok-push_values.ensures) c.in_ok-extend_from_slice-2.ensures.items
     ∙ sym (first_block_is c.args.circuit.now.name nets (map (λ e. element_seen e) c.args.circuit.now.elements.items) c.args.values.now)

@@ -11,7 +11,7 @@ pub returns : goal.returns
 returns c =
     let nets = map (λ n. net_seen n) c.args.circuit.now.nets.items in
     add_five [] (codes "$version signoff 1 $end\n$timescale 1 ps $end\n$scope module ") (written_name reserved_words c.args.circuit.now.name) (codes " $end\n")
-        (numbered (net_declaration reserved_words) 0 nets) (codes "$upscope $end\n$enddefinitions $end\n")
-        (rw c.new-text.ensures.items at c.in_ok-extend_from_slice.ensures.items) (rw c.bytes.ensures at c.in_ok-push_name.ensures) c.in_ok-extend_from_slice-2.ensures.items
-        (rw c.deref.ensures.value at c.in_ok-push_declarations.ensures) c.in_ok-extend_from_slice-3.ensures.items
+    (numbered (net_declaration reserved_words) 0 nets) (codes "$upscope $end\n$enddefinitions $end\n")
+    (rw c.new-text.ensures.items at c.in_ok-extend_from_slice.ensures.items) (rw c.bytes.ensures at c.in_ok-push_name.ensures) c.in_ok-extend_from_slice-2.ensures.items
+    (rw c.deref.ensures.value at c.in_ok-push_declarations.ensures) c.in_ok-extend_from_slice-3.ensures.items
     ∙ sym (header_is reserved_words c.args.circuit.now.name nets (map (λ e. element_seen e) c.args.circuit.now.elements.items))
