@@ -6,9 +6,8 @@ ghost use Rattle.signoff.specs.Seen.{circuit_seen, spent_seen, stimulus_seen};
 
 mod recorder;
 
-pub use recorder::Recorder;
-
 use crate::circuits::{Circuit, Spent, Stimulus};
+pub use recorder::Recorder;
 use sg_io::{Shelf, ShelfError};
 use std::alloc::Global;
 
