@@ -6,8 +6,9 @@ ghost use Rattle.signoff.specs.Seen.{circuit_seen, spent_seen, stimulus_seen};
 
 mod recorder;
 
-use crate::circuits::{Circuit, Spent, Stimulus};
 pub use recorder::Recorder;
+
+use crate::circuits::{Circuit, Spent, Stimulus};
 use sg_io::{Shelf, ShelfError};
 use std::alloc::Global;
 
