@@ -1,8 +1,4 @@
 // The reader of stimuli of the first form.
-ghost use Rattle.std.specs.Prelude.{◌≡◌, IfOk, Err};
-ghost use Rattle.circuit_model.specs.Simulated.{Stimulus as StimulusModel};
-ghost use Rattle.signoff.specs.StimulusForm.{IsStimulus};
-ghost use Rattle.signoff.specs.Seen.{circuit_seen, stimulus_seen};
 
 mod lines;
 mod numbers;
@@ -21,6 +17,7 @@ use steps::{rises_to, steps_of};
 // A text of the form has at most so many bytes.
 const MOST_BYTES: usize = 1 << 20;
 
+// Not yet: the clauses `ok` and `not_yet`.
 /// The stimulus that a text of the form describes for a circuit, in ticks of 1 ps. `NotYet` comes exactly where the
 /// text has another form.
 pub fn read_stimulus(alloc: Global, text: &[u8], circuit: &Circuit) -> Result<Stimulus, FormError> {
@@ -33,7 +30,7 @@ pub fn read_stimulus(alloc: Global, text: &[u8], circuit: &Circuit) -> Result<St
     };
     let steps = steps_of(alloc, &circuit.nets, &lines.steps)?;
     let end = ticks_of(lines.end);
-    if rises_to(end, &steps) {
+    if end < 1 << 60 && rises_to(end, &steps) {
         Ok(Stimulus { steps, end })
     } else {
         Err(FormError::NotYet)

@@ -1,4 +1,7 @@
 // What the lines of a stimulus do to the inputs of a circuit.
+ghost use Rattle.std.specs.Prelude.{◌≡◌, map};
+ghost use Rattle.signoff.specs.WellFormed.{rise_to};
+
 use super::lines::{AtLine, SetText};
 use super::numbers::ticks_of;
 use crate::circuits::{Change, Driver, Net, Step};
@@ -40,7 +43,9 @@ pub fn steps_of(alloc: Global, nets: &[Net], lines: &[AtLine<'_>]) -> Result<Vec
 }
 
 /// Whether the times of the steps rise, none above the end.
-pub fn rises_to(end: u64, steps: &[Step]) -> bool {
+pub fn rises_to(end: u64, steps: &[Step]) -> bool
+    ensures { result ≡ rise_to end (map (λ s. s.time) steps.now) }
+{
     let mut rest = steps;
     while let [step, more @ ..] = rest {
         let below = match more {
