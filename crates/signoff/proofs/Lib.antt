@@ -1,1 +1,6 @@
 -- The modules of this folder.
+pub mod StimulusNumbers
+pub mod StimulusReading
+pub mod StimulusWords
+pub mod StimulusRows
+pub mod StimulusSets

@@ -5,4 +5,5 @@ pub mod Seen
 pub mod Words
 pub mod NetlistForm
 pub mod StimulusForm
+pub mod StimulusLines
 pub mod Recording
