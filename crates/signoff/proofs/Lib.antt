@@ -4,3 +4,4 @@ pub mod StimulusReading
 pub mod StimulusWords
 pub mod StimulusRows
 pub mod StimulusSets
+pub mod StimulusSpelling
