@@ -5,3 +5,4 @@ pub mod StimulusWords
 pub mod StimulusRows
 pub mod StimulusSets
 pub mod StimulusSpelling
+pub mod StimulusLaws

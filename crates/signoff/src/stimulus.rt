@@ -4,10 +4,6 @@ ghost use Rattle.circuit_model.specs.Simulated.{Stimulus as StimulusModel};
 ghost use Rattle.signoff.specs.StimulusForm.{IsStimulus};
 ghost use Rattle.signoff.specs.StimulusLines.{Reads};
 ghost use Rattle.signoff.specs.Seen.{circuit_seen, stimulus_seen};
-ghost use Rattle.std.specs.Prelude.{◌≡◌, IfOk, Err};
-ghost use Rattle.circuit_model.specs.Simulated.{Stimulus as StimulusModel};
-ghost use Rattle.signoff.specs.StimulusForm.{IsStimulus};
-ghost use Rattle.signoff.specs.Seen.{circuit_seen, stimulus_seen};
 
 mod lines;
 mod numbers;
