@@ -4,7 +4,8 @@ use Rattle.signoff.specs.StimulusForm.{step_of as step_in}
 use Rattle.signoff.specs.StimulusLines.{at_seen, lines_seen}
 use Rattle.signoff.specs.Seen.{circuit_seen}
 use Rattle.signoff.specs.WellFormed.{rise_to}
-use Rattle.signoff.proofs.StimulusLaws.{body_of_call, no_lines, no_times, described, lines_have_numbers}
+use Rattle.signoff.proofs.StimulusBodies.{body_of_call}
+use Rattle.signoff.proofs.StimulusLaws.{no_lines, no_times, described, lines_have_numbers}
 use Rattle.signoff.proofs.stimulus.read_stimulus.Goals as goal
 
 pub returns-in_default-clause-not_yet : goal.returns-in_default-clause-not_yet
