@@ -48,8 +48,11 @@ struct Kept {
 
 impl Recorder<FullShelf> for Kept {
     ghost use Rattle.std.specs.Prelude.{[]};
+    ghost use Rattle.signoff.specs.Flat.{flat};
 
     ghost name = { λ w. [] };
+
+    ghost circuit = { λ w. flat [] [] [] };
 
     ghost holds = { λ w s seen. Unit {0} };
 
