@@ -1,5 +1,5 @@
 -- What the words of a line give away.
-use Rattle.std.proofs.Common.{ℕ, suc, ◌≡◌, ◌≤◌, ◌-◌, ◌==◌, List, [], ◌∷◌, ◌++◌, length, map, get_or, drop, take, Bool, true, false, ◌&&◌, nat_le, Bor, refl, ap, sym, ◌∙◌, subst, arith, length-append}
+use Rattle.std.proofs.Common.{ℕ, suc, ◌≡◌, ◌≤◌, ◌-◌, ◌==◌, List, [], ◌∷◌, ◌++◌, length, map, get_or, drop, take, true, false, ◌&&◌, nat_le, Bor, refl, ap, sym, ◌∙◌, subst, arith, length-append}
 use Rattle.std.specs.List.{list_any, list_all}
 use Rattle.std.proofs.lemmas.Bool.{and_parts, and_from, both_ways, le-leb}
 use Rattle.std.proofs.lemmas.List.{take_all}
@@ -8,7 +8,7 @@ use Rattle.sg_logic.specs.declared.values.Value.{Value}
 use Rattle.circuit_model.specs.Circuit.{Circuit}
 use Rattle.circuit_model.specs.Texts.{is_simple}
 use Rattle.circuit_model.specs.Vcd.{value_letter}
-use Rattle.signoff.specs.StimulusForm.{SetText, AtLine, sets_input, is_input, is_number, is_at}
+use Rattle.signoff.specs.StimulusForm.{SetText, sets_input, is_input, is_number, is_at}
 use Rattle.signoff.specs.StimulusLines.{set_word, at_words, end_words}
 use Rattle.signoff.specs.Seen.{circuit_seen, net_seen}
 use Rattle.signoff.specs.declared.circuits.Circuit as code_circuit
@@ -41,9 +41,10 @@ pub record IsSplit (circuit : code_circuit.Circuit) (nets : List code_net.Net) (
 pub set_is_read : (circuit : code_circuit.Circuit) (nets : List code_net.Net) (word name : List ℕ) (letter : ℕ) (value : Value) → IsSplit circuit nets word name letter → true ≡ is_simple name → true ≡ list_any (λ net. is_input name (net_seen net)) nets → letter ≡ value_letter value → (sets_input (circuit_seen circuit) (record { name = name; value = value }) ≡ true) × (word ≡ set_word (record { name = name; value = value }))
 set_is_read circuit nets word name letter value h simple input e =
     let found : list_any (λ net. is_input name (net_seen net)) circuit.nets.items ≡ true =
-        ap (list_any (λ net. is_input name (net_seen net))) (sym h.of_circuit) ∙ sym input in
-    ( and_from (is_simple name) _ (sym simple) (list_any-map (λ n. net_seen n) (is_input name) circuit.nets.items ∙ found)
-    , h.split ∙ ap (λ l. name ++ 61 ∷ l ∷ []) e )
+    ap (list_any (λ net. is_input name (net_seen net))) (sym h.of_circuit) ∙ sym input in (
+      and_from (is_simple name) _ (sym simple) (list_any-map (λ n. net_seen n) (is_input name) circuit.nets.items ∙ found),
+      h.split ∙ ap (λ l. name ++ 61 ∷ l ∷ []) e,
+    )
 
 pub not_simple : (circuit : code_circuit.Circuit) (nets : List code_net.Net) (word name : List ℕ) (letter : ℕ) → IsSplit circuit nets word name letter → false ≡ is_simple name → (s : SetText) → sets_input (circuit_seen circuit) s ≡ true → word ≡ set_word s → ⊥
 not_simple circuit nets word name letter h isnt s sound e =
@@ -79,6 +80,7 @@ at_is_read circuit (x ∷ []) at d sets low first is_at number some sound e = ab
 at_is_read circuit (x ∷ y ∷ words) at d sets low first is_at number some sound e =
     let whole : take (suc (suc (length words)) - 2) words ≡ words = take_all _ words (omega arith) in
     let same : map (λ w. w.now) words ≡ map set_word sets = sym (ap (map (λ w. w.now)) whole) ∙ e in
-    let long : 1 ≤ length sets = some_sets words sets (rw whole at some) same in
-    ( and_from (is_number y.now) _ (sym number) (and_from (nat_le 1 (length sets)) _ (le-leb 1 (length sets) long) sound)
-    , ap (λ w. w ∷ y.now ∷ map (λ w. w.now) words) (first ∙ is_at) ∙ ap (λ ws. codes "at" ∷ y.now ∷ ws) same )
+    let long : 1 ≤ length sets = some_sets words sets (rw whole at some) same in (
+      and_from (is_number y.now) _ (sym number) (and_from (nat_le 1 (length sets)) _ (le-leb 1 (length sets) long) sound),
+      ap (λ w. w ∷ y.now ∷ map (λ w. w.now) words) (first ∙ is_at) ∙ ap (λ ws. codes "at" ∷ y.now ∷ ws) same,
+    )

@@ -19,7 +19,7 @@ words_of line = slice_split (λ b. b == 32) line
 abbrev pub rows_of : List ℕ → List (List (List ℕ))
 rows_of text = map words_of (lines_of text)
 
--- What is read is sound and written so; nothing is read only where nothing sound is written so.
+-- A source is read as a thing that is sound and written so, or as none where no sound thing is.
 abbrev pub Reads : {A W : Type 0} → (A → W) → (A → Bool) → W → Option A → Type 0
 Reads {A} written is_sound source None = (a : A) → is_sound a ≡ true → source ≡ written a → ⊥
 Reads written is_sound source (Some a) = (is_sound a ≡ true) × (source ≡ written a)
@@ -49,5 +49,5 @@ set_seen s = record { name = s.name.now; value = s.value }
 abbrev pub at_seen : code_at.AtLine → AtLine
 at_seen l = record { digits = l.digits.now; sets = map (λ s. set_seen s) l.sets.items }
 
-abbrev pub lines_seen : Bool → code_lines.Lines → Lines
-lines_seen is_closed l = record { steps = map (λ s. at_seen s) l.steps.items; end = l.end.now; is_closed = is_closed }
+abbrev pub lines_seen : code_lines.Lines → Lines
+lines_seen l = record { steps = map (λ s. at_seen s) l.steps.items; end = l.end.now; is_closed = false }

@@ -6,6 +6,7 @@ ghost use Rattle.signoff.specs.StimulusLines.{Reads};
 ghost use Rattle.signoff.specs.Seen.{circuit_seen, stimulus_seen};
 
 mod lines;
+mod names;
 mod numbers;
 mod steps;
 #[cfg(test)]

@@ -1,12 +1,12 @@
 // What the lines of a stimulus say.
 ghost use Rattle.std.specs.Prelude.{◌≡◌, ◌++◌, ◌∷◌, [], List, ℕ, IfOk, map, option_map, true, false};
 ghost use Rattle.std.specs.List.{list_any, list_all};
-ghost use Rattle.circuit_model.specs.Texts.{is_letter, is_name_byte, is_simple};
 ghost use Rattle.circuit_model.specs.Vcd.{value_letter};
 ghost use Rattle.signoff.specs.StimulusForm.{is_number as is_number_text, is_input, sets_input, is_at};
 ghost use Rattle.signoff.specs.StimulusLines.{Reads, set_word, at_words, end_words, rows, rows_of, words_of as words_in, are_lines, set_seen, at_seen, lines_seen};
 ghost use Rattle.signoff.specs.Seen.{circuit_seen, net_seen};
 
+use super::names::is_simple_name;
 use super::numbers::is_number;
 use super::words::{lines_of, words_of};
 use crate::circuits::{Circuit, Driver, Net};
@@ -32,33 +32,6 @@ pub struct AtLine<'a> {
 pub struct Lines<'a> {
     pub steps: Vec<AtLine<'a>>,
     pub end: &'a [u8],
-}
-
-fn is_letter_byte(byte: u8) -> bool
-    ensures { result ≡ is_letter byte }
-{
-    (97 <= byte && byte <= 122) || (65 <= byte && byte <= 90) || byte == 95
-}
-
-fn continues_name(byte: u8) -> bool
-    ensures { result ≡ is_name_byte byte }
-{
-    is_letter_byte(byte) || (48 <= byte && byte <= 57) || byte == 36
-}
-
-fn are_name_bytes(bytes: &[u8]) -> bool
-    ensures { result ≡ list_all (λ b. is_name_byte b) bytes.now }
-{
-    bytes.iter().all(|b| continues_name(*b))
-}
-
-fn is_simple_name(name: &[u8]) -> bool
-    ensures { result ≡ is_simple name.now }
-{
-    match name {
-        [] => false,
-        [first, rest @ ..] => is_letter_byte(*first) && are_name_bytes(rest),
-    }
 }
 
 fn is_input_of(net: &Net, name: &[u8]) -> bool
@@ -108,7 +81,11 @@ fn read_set<'a>(word: &'a [u8], circuit: &Circuit) -> Option<SetText<'a>>
     }
 }
 
-fn read_sets<'a>(alloc: Global, words: &[&'a [u8]], circuit: &Circuit) -> Result<Option<Vec<SetText<'a>>>, AllocError>
+fn read_sets<'a>(
+    alloc: Global,
+    words: &[&'a [u8]],
+    circuit: &Circuit,
+) -> Result<Option<Vec<SetText<'a>>>, AllocError>
     ensures { IfOk result (λ read. Reads (map set_word) (list_all (sets_input (circuit_seen circuit.now))) (map (λ w. w.now) words.now) (option_map (λ sets. map (λ s. set_seen s) sets.items) read)) }
 {
     let mut sets = Vec::new(alloc);
@@ -122,11 +99,16 @@ fn read_sets<'a>(alloc: Global, words: &[&'a [u8]], circuit: &Circuit) -> Result
 }
 
 // The words `at`, a number and one set or more.
-fn read_at<'a>(alloc: Global, words: &[&'a [u8]], circuit: &Circuit) -> Result<Option<AtLine<'a>>, AllocError>
+fn read_at<'a>(
+    alloc: Global,
+    words: &[&'a [u8]],
+    circuit: &Circuit,
+) -> Result<Option<AtLine<'a>>, AllocError>
     ensures { IfOk result (λ read. Reads at_words (is_at (circuit_seen circuit.now)) (map (λ w. w.now) words.now) (option_map (λ l. at_seen l) read)) }
 {
     match words {
-        [at, digits, sets @ ..] if *at == b"at".as_slice() && is_number(digits) && !sets.is_empty() => {
+        [at, digits, sets @ ..]
+            if *at == b"at".as_slice() && is_number(digits) && !sets.is_empty() => {
             let Some(sets) = read_sets(alloc, sets, circuit)? else {
                 return Ok(None);
             };
@@ -136,7 +118,11 @@ fn read_at<'a>(alloc: Global, words: &[&'a [u8]], circuit: &Circuit) -> Result<O
     }
 }
 
-fn read_steps<'a>(alloc: Global, lines: &[&'a [u8]], circuit: &Circuit) -> Result<Option<Vec<AtLine<'a>>>, AllocError>
+fn read_steps<'a>(
+    alloc: Global,
+    lines: &[&'a [u8]],
+    circuit: &Circuit,
+) -> Result<Option<Vec<AtLine<'a>>>, AllocError>
     ensures { IfOk result (λ read. Reads (map at_words) (list_all (is_at (circuit_seen circuit.now))) (map (λ l. words_in l.now) lines.now) (option_map (λ steps. map (λ l. at_seen l) steps.items) read)) }
 {
     let mut steps = Vec::new(alloc);
@@ -162,8 +148,12 @@ fn read_end<'a>(words: &[&'a [u8]]) -> Option<&'a [u8]>
 
 /// The lines of a text without its last LF, if each step has a number and sets of inputs of the circuit, and the last
 /// line is an end.
-pub fn read_lines<'a>(alloc: Global, text: &'a [u8], circuit: &Circuit) -> Result<Option<Lines<'a>>, AllocError>
-    ensures { IfOk result (λ read. Reads rows (are_lines (circuit_seen circuit.now)) (rows_of text.now) (option_map (λ l. lines_seen false l) read)) }
+pub fn read_lines<'a>(
+    alloc: Global,
+    text: &'a [u8],
+    circuit: &Circuit,
+) -> Result<Option<Lines<'a>>, AllocError>
+    ensures { IfOk result (λ read. Reads rows (are_lines (circuit_seen circuit.now)) (rows_of text.now) (option_map (λ l. lines_seen l) read)) }
 {
     let lines = lines_of(alloc, text)?;
     match lines.as_slice() {

@@ -3,10 +3,13 @@ ghost use Rattle.std.specs.Prelude.{◌≡◌, ◌<◌, ◌^◌, true};
 ghost use Rattle.std.specs.List.{list_all};
 ghost use Rattle.signoff.specs.StimulusForm.{is_digit, is_number as is_number_text, number_of as number_of_text, ticks_of as ticks_of_text};
 
+// So a time in ticks fits.
+const MOST_DIGITS: usize = 15;
+
 fn is_decimal(byte: u8) -> bool
     ensures { result ≡ is_digit byte }
 {
-    48 <= byte && byte <= 57
+    matches!(byte, b'0'..=b'9')
 }
 
 fn are_decimal(bytes: &[u8]) -> bool
@@ -19,7 +22,7 @@ fn are_decimal(bytes: &[u8]) -> bool
 pub fn is_number(digits: &[u8]) -> bool
     ensures { result ≡ is_number_text digits.now }
 {
-    are_decimal(digits) && 1 <= digits.len() && digits.len() <= 15
+    are_decimal(digits) && 1 <= digits.len() && digits.len() <= MOST_DIGITS
 }
 
 /// The time in ticks of 1 ps.
@@ -31,7 +34,7 @@ pub fn ticks_of(digits: &[u8]) -> u64
 {
     let mut number = 0;
     for d in digits {
-        number = number * 10 + u64::from(*d - 48);
+        number = number * 10 + u64::from(*d - b'0');
     }
     number * 1000
 }

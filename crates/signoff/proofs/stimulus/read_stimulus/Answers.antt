@@ -1,5 +1,5 @@
 -- proofs/stimulus/read_stimulus/Answers.antt
-use Rattle.std.proofs.Common.{false, map, ap, sym, ◌∙◌}
+use Rattle.std.proofs.Common.{map, ap, ◌∙◌}
 use Rattle.signoff.specs.StimulusForm.{step_of as step_in}
 use Rattle.signoff.specs.StimulusLines.{at_seen, lines_seen}
 use Rattle.signoff.specs.Seen.{circuit_seen}
@@ -22,7 +22,7 @@ steps_of-requires c =
 pub returns-then-rises_to-clause-ok : goal.returns-then-rises_to-clause-ok
 returns-then-rises_to-clause-ok c =
     let read = rw c.in-Some.is at c.in_ok-lines.ensures in
-    described c.args.text.now _ (circuit_seen c.args.circuit.now) (lines_seen false c.in-Some.lines) c.in_ok-steps.steps.items c.ticks_of-end.result
+    described c.args.text.now _ (circuit_seen c.args.circuit.now) (lines_seen c.in-Some.lines) c.in_ok-steps.steps.items c.ticks_of-end.result
     c.if-text-gt-MOST_BYTES.false
     (body_of_call c.before_last_feed.result c.args.text c.unwrap_or-body.result c.before_last_feed.ensures c.unwrap_or-body.ensures) read
     (c.in_ok-steps.ensures ∙ ap (λ ls. map (step_in (circuit_seen c.args.circuit.now)) (map (λ l. at_seen l) ls)) c.deref.ensures.value)
@@ -32,7 +32,7 @@ returns-then-rises_to-clause-ok c =
 pub returns-clause-not_yet : goal.returns-clause-not_yet
 returns-clause-not_yet c = λ same.
     let read = rw c.in-Some.is at c.in_ok-lines.ensures in
-    no_times c.args.text.now _ (circuit_seen c.args.circuit.now) (lines_seen false c.in-Some.lines) c.in_ok-steps.steps.items c.ticks_of-end.result
+    no_times c.args.text.now _ (circuit_seen c.args.circuit.now) (lines_seen c.in-Some.lines) c.in_ok-steps.steps.items c.ticks_of-end.result
     (body_of_call c.before_last_feed.result c.args.text c.unwrap_or-body.result c.before_last_feed.ensures c.unwrap_or-body.ensures) read.1
     (c.in_ok-steps.ensures ∙ ap (λ ls. map (step_in (circuit_seen c.args.circuit.now)) (map (λ l. at_seen l) ls)) c.deref.ensures.value)
     c.ticks_of-end.ensures.value
