@@ -4,5 +4,6 @@ pub mod WellFormed
 pub mod Seen
 pub mod Words
 pub mod NetlistForm
+pub mod NetlistSeen
 pub mod StimulusForm
 pub mod Recording
