@@ -107,7 +107,7 @@ fn is_wired(declared: &Declarations, gate: &GateItem) -> bool {
 }
 
 fn is_once(declared: &Declarations, port: &[u8]) -> bool {
-    count_of(&declared.inputs, port) + count_of(&declared.outputs, port) == 1
+    matches!((count_of(&declared.inputs, port), count_of(&declared.outputs, port)), (1, 0) | (0, 1))
 }
 
 fn drive_apart(gates: &[GateItem]) -> bool {
