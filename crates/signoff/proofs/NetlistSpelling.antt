@@ -100,11 +100,11 @@ pub gates-spelled : (kind : GateKind) (ns : List (List ℕ)) (rest : List Token)
 gates-spelled kind ns rest = ap (λ x. Name (word_of kind) ∷ left_parenthesis ∷ x) (append_assoc (names_spelled ns) (right_parenthesis ∷ semicolon ∷ []) rest)
 
 -- the parts of equal lists of tokens
-first-word : (w v : List ℕ) (x y : List Token) → Name w ∷ x ≡ Name v ∷ y → w ≡ v
+pub first-word : (w v : List ℕ) (x y : List Token) → Name w ∷ x ≡ Name v ∷ y → w ≡ v
 first-word w v x y e = cc
 
-pub tail-same : (t : Token) (x y : List Token) → t ∷ x ≡ t ∷ y → x ≡ y
-tail-same t x y e = cc
+pub same-tails : (t u : Token) (x y : List Token) → t ∷ x ≡ u ∷ y → x ≡ y
+same-tails t u x y e = cc
 
 declared-parts : (w v : List ℕ) (ns ms : List (List ℕ)) (x y : List Token) → Name w ∷ (names_spelled ns ++ semicolon ∷ x) ≡ Name v ∷ (names_spelled ms ++ semicolon ∷ y) → (w ≡ v) × (ns ≡ ms) × (x ≡ y)
 declared-parts w v ns ms x y e =
@@ -116,7 +116,7 @@ list-parts : (w v : List ℕ) (ns ms : List (List ℕ)) (x y : List Token) → N
 list-parts w v ns ms x y e =
     let behind : names_spelled ns ++ right_parenthesis ∷ semicolon ∷ x ≡ names_spelled ms ++ right_parenthesis ∷ semicolon ∷ y = cc in
     let p = names_spelled-injective 41 ns ms (semicolon ∷ x) (semicolon ∷ y) (λ h. cc) behind in
-    (first-word w v (left_parenthesis ∷ (names_spelled ns ++ right_parenthesis ∷ semicolon ∷ x)) (left_parenthesis ∷ (names_spelled ms ++ right_parenthesis ∷ semicolon ∷ y)) e, p.0, tail-same semicolon x y p.1)
+    (first-word w v (left_parenthesis ∷ (names_spelled ns ++ right_parenthesis ∷ semicolon ∷ x)) (left_parenthesis ∷ (names_spelled ms ++ right_parenthesis ∷ semicolon ∷ y)) e, p.0, same-tails semicolon semicolon x y p.1)
 
 same-inputs : (ns ms : List (List ℕ)) (x y : List Token) → item_spelled (Inputs ns) ++ x ≡ item_spelled (Inputs ms) ++ y → (Inputs ns ≡ Inputs ms) × (x ≡ y)
 same-inputs ns ms x y e =
@@ -190,7 +190,7 @@ item-length (Gates k ns) = omega arith
 abbrev pub body_spelled : List Item → List Token
 body_spelled items = flat_map item_spelled items ++ Name (codes "endmodule") ∷ []
 
-both-parts : (x y : Bool) → (x && y) ≡ true → (x ≡ true) × (y ≡ true)
+pub both-parts : (x y : Bool) → (x && y) ≡ true → (x ≡ true) × (y ≡ true)
 both-parts true y h = (refl, h)
 both-parts false y h = absurd (cc)
 
@@ -234,5 +234,5 @@ module_spelled-injective m n e =
     let f = sym (module-spelled m) ∙ e ∙ module-spelled n in
     let q = module-parts (codes "module") m.name n.name (names_spelled m.ports ++ right_parenthesis ∷ semicolon ∷ body_spelled m.items) (names_spelled n.ports ++ right_parenthesis ∷ semicolon ∷ body_spelled n.items) f in
     let p = names_spelled-injective 41 m.ports n.ports (semicolon ∷ body_spelled m.items) (semicolon ∷ body_spelled n.items) (λ h. cc) q.1 in
-    let items = body_spelled-injective m.items n.items (tail-same semicolon (body_spelled m.items) (body_spelled n.items) p.1) in
+    let items = body_spelled-injective m.items n.items (same-tails semicolon semicolon (body_spelled m.items) (body_spelled n.items) p.1) in
     same-module m n q.0 p.0 items

@@ -1,5 +1,5 @@
 // The parts of a module, as they are written.
-ghost use Rattle.std.specs.Prelude.{ℕ, ◌≡◌, ◌≢◌, ◌↔◌, ◌++◌, ◌∷◌, [], IfSome, IfNone, IfOk, IsTrue, Err, List, flat_map, codes, true};
+ghost use Rattle.std.specs.Prelude.{ℕ, ◌≡◌, ◌≤◌, length, drop, ◌≢◌, ◌↔◌, ◌++◌, ◌∷◌, [], IfSome, IfNone, IfOk, IsTrue, Err, List, flat_map, codes, true};
 ghost use Rattle.std.specs.List.{list_all};
 ghost use Rattle.sg_logic.specs.declared.gates.GateKind.{GateKind as Kind};
 ghost use Rattle.signoff.specs.NetlistForm.{word_of, names_spelled, Token as TokenModel, Name, Symbol, left_parenthesis, right_parenthesis, semicolon, names_in, are_plain, IsSound, Item as ItemModel, Module as ModuleModel, module_spelled, item_spelled};
@@ -44,6 +44,18 @@ fn kind_of(word: &[u8]) -> Option<GateKind>
     }
 }
 
+// The name and the symbol that the tokens begin with.
+fn name_and_symbol<'a>(tokens: &'a [Token<'a>]) -> Result<(&'a [u8], u8), FormError>
+    ensures within { IfOk result (λ r. 2 ≤ length tokens.now) }
+    ensures ok { IfOk result (λ r. tokens_seen tokens.now ≡ Name r.0.now ∷ Symbol r.1 ∷ tokens_seen (drop 2 tokens.now)) }
+    ensures not_yet { result ≡ Err FormError.NotYet → (name : List ℕ) → (symbol : ℕ) → (rest : List TokenModel) → tokens_seen tokens.now ≢ Name name ∷ Symbol symbol ∷ rest }
+{
+    match tokens {
+        [Token::Name(name), Token::Symbol(symbol), ..] => Ok((*name, *symbol)),
+        _ => Err(FormError::NotYet),
+    }
+}
+
 // Names with commas between them, one at least, up to the symbol that closes them, and the tokens behind it.
 fn read_names<'a>(alloc: Global, tokens: &'a [Token<'a>], close: u8) -> Result<(Vec<&'a [u8]>, &'a [Token<'a>]), FormError>
     requires { close ≢ 44 }
@@ -52,17 +64,17 @@ fn read_names<'a>(alloc: Global, tokens: &'a [Token<'a>], close: u8) -> Result<(
 {
     let mut names = Vec::new(alloc);
     let mut rest = tokens;
-    while let [Token::Name(name), Token::Symbol(symbol), after @ ..] = rest {
-        names.push(*name)?;
-        if *symbol == close {
-            return Ok((names, after));
+    loop {
+        let (name, symbol) = name_and_symbol(rest)?;
+        names.push(name)?;
+        rest = &rest[2..];
+        if symbol == close {
+            return Ok((names, rest));
         }
-        if *symbol != b',' {
+        if symbol != b',' {
             return Err(FormError::NotYet);
         }
-        rest = after;
     }
-    Err(FormError::NotYet)
 }
 
 // The tokens behind a symbol.
@@ -85,28 +97,37 @@ fn read_list<'a>(alloc: Global, tokens: &'a [Token<'a>]) -> Result<(Vec<&'a [u8]
     Ok((names, after_symbol(rest, b';')?))
 }
 
+// The name that the tokens begin with, and the tokens behind it.
+fn first_name<'a>(tokens: &'a [Token<'a>]) -> Result<(&'a [u8], &'a [Token<'a>]), FormError>
+    ensures ok { IfOk result (λ r. tokens_seen tokens.now ≡ Name r.0.now ∷ tokens_seen r.1.now) }
+    ensures not_yet { result ≡ Err FormError.NotYet → (name : List ℕ) → (rest : List TokenModel) → tokens_seen tokens.now ≢ Name name ∷ rest }
+{
+    match tokens {
+        [Token::Name(name), rest @ ..] => Ok((*name, rest)),
+        _ => Err(FormError::NotYet),
+    }
+}
+
 // An item, and the tokens behind it.
 fn read_item<'a>(alloc: Global, tokens: &'a [Token<'a>]) -> Result<(Item<'a>, &'a [Token<'a>]), FormError>
     ensures ok { IfOk result (λ r. tokens_seen tokens.now ≡ item_spelled (item_seen r.0) ++ tokens_seen r.1.now) }
     ensures not_yet { result ≡ Err FormError.NotYet → (item : ItemModel) → (rest : List TokenModel) → are_plain (names_in item) ≡ true → tokens_seen tokens.now ≢ item_spelled item ++ rest }
 {
-    match tokens {
-        [Token::Name(b"input"), list @ ..] => {
-            let (names, rest) = read_names(alloc, list, b';')?;
-            Ok((Item::Inputs(names), rest))
+    let (word, list) = first_name(tokens)?;
+    if word == b"input".as_slice() {
+        let (names, rest) = read_names(alloc, list, b';')?;
+        return Ok((Item::Inputs(names), rest));
+    }
+    if word == b"output".as_slice() {
+        let (names, rest) = read_names(alloc, list, b';')?;
+        return Ok((Item::Outputs(names), rest));
+    }
+    match kind_of(word) {
+        Some(kind) => {
+            let (terminals, rest) = read_list(alloc, list)?;
+            Ok((Item::Gates(kind, terminals), rest))
         }
-        [Token::Name(b"output"), list @ ..] => {
-            let (names, rest) = read_names(alloc, list, b';')?;
-            Ok((Item::Outputs(names), rest))
-        }
-        [Token::Name(word), list @ ..] => match kind_of(*word) {
-            Some(kind) => {
-                let (terminals, rest) = read_list(alloc, list)?;
-                Ok((Item::Gates(kind, terminals), rest))
-            }
-            None => Err(FormError::NotYet),
-        },
-        _ => Err(FormError::NotYet),
+        None => Err(FormError::NotYet),
     }
 }
 
@@ -130,7 +151,10 @@ fn read_items<'a>(alloc: Global, tokens: &'a [Token<'a>]) -> Result<Vec<Item<'a>
 fn is_end(tokens: &[Token]) -> bool
     ensures { IsTrue result ↔ (tokens_seen tokens.now ≡ Name (codes "endmodule") ∷ []) }
 {
-    matches!(tokens, [Token::Name(b"endmodule")])
+    match tokens {
+        [Token::Name(word)] => *word == b"endmodule".as_slice(),
+        _ => false,
+    }
 }
 
 /// The module that the tokens spell.
@@ -138,15 +162,15 @@ pub fn read_module<'a>(alloc: Global, tokens: &'a [Token<'a>]) -> Result<Module<
     ensures ok { IfOk result (λ m. tokens_seen tokens.now ≡ module_spelled (module_seen m)) }
     ensures not_yet { result ≡ Err FormError.NotYet → (m : ModuleModel) → IsSound m → tokens_seen tokens.now ≢ module_spelled m }
 {
-    match tokens {
-        [Token::Name(b"module"), Token::Name(name), rest @ ..] => {
-            let (ports, body) = read_list(alloc, rest)?;
-            Ok(Module {
-                name: *name,
-                ports,
-                items: read_items(alloc, body)?,
-            })
-        }
-        _ => Err(FormError::NotYet),
+    let (word, heading) = first_name(tokens)?;
+    if word != b"module".as_slice() {
+        return Err(FormError::NotYet);
     }
+    let (name, list) = first_name(heading)?;
+    let (ports, body) = read_list(alloc, list)?;
+    Ok(Module {
+        name,
+        ports,
+        items: read_items(alloc, body)?,
+    })
 }
