@@ -1,76 +1,48 @@
 // Whether the parts of a module fit together.
+ghost use Rattle.std.specs.Prelude.{◌≡◌, ◌↔◌, ◌++◌, IsTrue, map};
+ghost use Rattle.std.specs.List.{list_all};
+ghost use Rattle.signoff.specs.NetlistForm.{IsSound, are_distinct, are_plain, count_of, is_among, names_in, takes_others};
+ghost use Rattle.signoff.specs.NetlistSeen.{IsDeclaredBy, gate_seen, gates_seen, is_once_among, is_wired_among, item_seen, items_seen, module_seen, names_seen};
+
+use crate::netlist::declarations::{Declarations, GateItem};
 use crate::netlist::modules::{Item, Module};
 use sg_logic::GateKind;
 use sg_text::is_reserved;
-use std::alloc::{AllocError, Global};
-
-/// A gate of a module: its kind, its first terminal and the others.
-#[derive(Clone, Copy)]
-pub struct GateItem<'m, 'a> {
-    pub kind: GateKind,
-    pub first: &'a [u8],
-    pub others: &'m [&'a [u8]],
-}
-
-/// The names that a module declares as inputs, and as outputs, and its gates, in text order.
-#[derive(Drop)]
-pub struct Declarations<'m, 'a> {
-    pub inputs: Vec<&'a [u8]>,
-    pub outputs: Vec<&'a [u8]>,
-    pub gates: Vec<GateItem<'m, 'a>>,
-}
-
-fn inputs_of<'a>(alloc: Global, items: &[Item<'a>]) -> Result<Vec<&'a [u8]>, AllocError> {
-    let mut inputs = Vec::new(alloc);
-    for item in items {
-        if let Item::Inputs(names) = item {
-            inputs.extend_from_slice(names)?;
-        }
-    }
-    Ok(inputs)
-}
-
-fn outputs_of<'a>(alloc: Global, items: &[Item<'a>]) -> Result<Vec<&'a [u8]>, AllocError> {
-    let mut outputs = Vec::new(alloc);
-    for item in items {
-        if let Item::Outputs(names) = item {
-            outputs.extend_from_slice(names)?;
-        }
-    }
-    Ok(outputs)
-}
-
-fn gates_of<'m, 'a>(alloc: Global, items: &'m [Item<'a>]) -> Result<Vec<GateItem<'m, 'a>>, AllocError> {
-    let mut gates = Vec::new(alloc);
-    for item in items {
-        if let Item::Gates(kind, terminals) = item {
-            if let [first, others @ ..] = terminals.as_slice() {
-                gates.push(GateItem { kind: *kind, first: *first, others })?;
-            }
-        }
-    }
-    Ok(gates)
-}
-
-/// What a module declares.
-pub fn declarations_of<'m, 'a>(alloc: Global, module: &'m Module<'a>) -> Result<Declarations<'m, 'a>, AllocError> {
-    Ok(Declarations {
-        inputs: inputs_of(alloc, &module.items)?,
-        outputs: outputs_of(alloc, &module.items)?,
-        gates: gates_of(alloc, &module.items)?,
-    })
-}
 
 /// Whether a name is among others.
-pub fn is_among(names: &[&[u8]], name: &[u8]) -> bool {
+pub fn is_among(names: &[&[u8]], name: &[u8]) -> bool
+    ensures { result ≡ is_among (names_seen names.now) name.now }
+{
     names.iter().any(|other| name == *other)
 }
 
-fn count_of(names: &[&[u8]], name: &[u8]) -> usize {
+fn are_among(names: &[&[u8]], others: &[&[u8]]) -> bool
+    ensures { result ≡ list_all (is_among (names_seen names.now)) (names_seen others.now) }
+{
+    others.iter().all(|other| is_among(names, *other))
+}
+
+fn count_of(names: &[&[u8]], name: &[u8]) -> usize
+    ensures { result ≡ count_of (names_seen names.now) name.now }
+{
     names.iter().filter(|other| name == **other).count()
 }
 
-fn are_distinct(names: &[&[u8]]) -> bool {
+fn is_once(inputs: &[&[u8]], outputs: &[&[u8]], port: &[u8]) -> bool
+    ensures { result ≡ is_once_among (names_seen inputs.now) (names_seen outputs.now) port.now }
+{
+    matches!((count_of(inputs, port), count_of(outputs, port)), (1, 0) | (0, 1))
+}
+
+fn are_once(inputs: &[&[u8]], outputs: &[&[u8]], ports: &[&[u8]]) -> bool
+    ensures { result ≡ list_all (is_once_among (names_seen inputs.now) (names_seen outputs.now)) (names_seen ports.now) }
+{
+    ports.iter().all(|port| is_once(inputs, outputs, *port))
+}
+
+fn are_distinct(names: &[&[u8]]) -> bool
+    ensures { result ≡ are_distinct (names_seen names.now) }
+{
     let mut rest = names;
     while let [name, others @ ..] = rest {
         if is_among(others, *name) {
@@ -81,11 +53,15 @@ fn are_distinct(names: &[&[u8]]) -> bool {
     true
 }
 
-fn are_plain(names: &[&[u8]]) -> bool {
+fn are_plain(names: &[&[u8]]) -> bool
+    ensures { result ≡ are_plain (names_seen names.now) }
+{
     !names.is_empty() && names.iter().all(|name| !is_reserved(*name))
 }
 
-fn is_plain(item: &Item) -> bool {
+fn is_plain(item: &Item) -> bool
+    ensures { result ≡ are_plain (names_in (item_seen item.now)) }
+{
     match item {
         Item::Inputs(names) => are_plain(names),
         Item::Outputs(names) => are_plain(names),
@@ -93,44 +69,48 @@ fn is_plain(item: &Item) -> bool {
     }
 }
 
-fn takes_others(kind: GateKind, count: usize) -> bool {
+fn are_plain_items(items: &[Item]) -> bool
+    ensures { result ≡ list_all (λ item. are_plain (names_in item)) (items_seen items.now) }
+{
+    items.iter().all(|item| is_plain(item))
+}
+
+fn takes_others(kind: GateKind, count: usize) -> bool
+    ensures { result ≡ takes_others kind count }
+{
     match kind {
         GateKind::Buf | GateKind::Not => count == 1,
         _ => count >= 2,
     }
 }
 
-fn is_wired(declared: &Declarations, gate: &GateItem) -> bool {
-    takes_others(gate.kind, gate.others.len())
-        && is_among(&declared.outputs, gate.first)
-        && gate.others.iter().all(|name| is_among(&declared.inputs, *name))
+fn is_wired(inputs: &[&[u8]], outputs: &[&[u8]], gate: &GateItem) -> bool
+    ensures { result ≡ is_wired_among (names_seen inputs.now) (names_seen outputs.now) (gate_seen gate.now) }
+{
+    takes_others(gate.kind, gate.others.len()) && is_among(outputs, gate.first) && are_among(inputs, gate.others)
 }
 
-fn is_once(declared: &Declarations, port: &[u8]) -> bool {
-    matches!((count_of(&declared.inputs, port), count_of(&declared.outputs, port)), (1, 0) | (0, 1))
+fn are_wired(inputs: &[&[u8]], outputs: &[&[u8]], gates: &[GateItem]) -> bool
+    ensures { result ≡ list_all (is_wired_among (names_seen inputs.now) (names_seen outputs.now)) (gates_seen gates.now) }
+{
+    gates.iter().all(|gate| is_wired(inputs, outputs, gate))
 }
 
-fn drive_apart(gates: &[GateItem]) -> bool {
-    let mut rest = gates;
-    while let [gate, others @ ..] = rest {
-        if others.iter().any(|other| gate.first == other.first) {
-            return false;
-        }
-        rest = others;
-    }
-    true
-}
-
-/// Whether what is said of a module's parts holds.
-pub fn is_sound(module: &Module, declared: &Declarations) -> bool {
-    let ports = module.ports.as_slice();
-    !is_reserved(module.name)
+/// Whether a module is one that has a circuit.
+pub fn is_sound(tree: &Module, declared: &Declarations) -> bool
+    requires { IsDeclaredBy (module_seen tree.now) declared.now }
+    ensures { IsTrue result ↔ IsSound (module_seen tree.now) }
+{
+    let ports = tree.ports.as_slice();
+    let inputs = declared.inputs.as_slice();
+    let outputs = declared.outputs.as_slice();
+    !is_reserved(tree.name)
         && are_plain(ports)
-        && module.items.iter().all(|item| is_plain(item))
+        && are_plain_items(&tree.items)
         && are_distinct(ports)
-        && ports.iter().all(|port| is_once(declared, *port))
-        && declared.inputs.iter().all(|name| is_among(ports, *name))
-        && declared.outputs.iter().all(|name| is_among(ports, *name))
-        && declared.gates.iter().all(|gate| is_wired(declared, gate))
-        && drive_apart(&declared.gates)
+        && are_once(inputs, outputs, ports)
+        && are_among(ports, inputs)
+        && are_among(ports, outputs)
+        && are_wired(inputs, outputs, &declared.gates)
+        && are_distinct(&declared.driven)
 }
