@@ -2,3 +2,6 @@
 pub mod NetlistSplitting
 pub mod NetlistSpelling
 pub mod NetlistReading
+pub mod NetlistLists
+pub mod NetlistBuilding
+pub mod NetlistSoundness

@@ -1,9 +1,10 @@
 -- What the reader's tokens and trees stand for in the definitions.
-use Rattle.std.specs.Prelude.{ℕ, ◌≡◌, ◌==◌, ◌++◌, List, map, length, Bool, ◌&&◌, None, position, if◌then◌else◌}
+use Rattle.std.specs.Prelude.{ℕ, ◌≡◌, ◌==◌, ◌++◌, List, map, length, Bool, true, false, ◌&&◌, None, position, if◌then◌else◌}
 use Rattle.std.specs.List.{list_all}
 use Rattle.std.specs.Borrow.{Bor}
 use Rattle.sg_logic.specs.declared.gates.GateKind.{GateKind}
-use Rattle.signoff.specs.NetlistForm.{Token, Name, Symbol, Item, Inputs, Outputs, Gates, Module, GateItem, inputs_of, outputs_of, gates_of, same_name, is_among, count_of, takes_others, driver_by, place_of}
+use Rattle.signoff.specs.NetlistForm.{Token, Name, Symbol, Item, Inputs, Outputs, Gates, Module, GateItem, names_in, are_plain, are_distinct, inputs_of, outputs_of, gates_of, same_name, is_among, count_of, takes_others, driver_by, place_of}
+use Rattle.sg_text.specs.Words.{is_reserved_word}
 use Rattle.circuit_model.specs.Circuit.{Driver, Stimulated, Net, Element, Gate}
 use Rattle.signoff.specs.Flat.{no_delay}
 use Rattle.signoff.specs.declared.netlist.tokens.Token as code_token
@@ -64,3 +65,17 @@ net_among inputs driven port = record { scope = 0; name = port; bit = None; driv
 
 abbrev pub element_among : List (List ℕ) → GateItem → Element
 element_among ports g = record { inputs = map (place_of ports) g.others; output = place_of ports g.first; kind = Gate g.kind no_delay }
+
+-- the two halves of what has to hold of a module
+pub record HasSoundPorts (m : Module) : Type 0 where
+  pub name : is_reserved_word m.name ≡ false
+  pub plain : are_plain m.ports ≡ true
+  pub distinct : are_distinct m.ports ≡ true
+  pub once : list_all (is_once_among (inputs_of m) (outputs_of m)) m.ports ≡ true
+  pub declared_inputs : list_all (is_among m.ports) (inputs_of m) ≡ true
+  pub declared_outputs : list_all (is_among m.ports) (outputs_of m) ≡ true
+
+pub record HasSoundGates (m : Module) : Type 0 where
+  pub plain_items : list_all (λ item. are_plain (names_in item)) m.items ≡ true
+  pub wired : list_all (is_wired_among (inputs_of m) (outputs_of m)) (gates_of m) ≡ true
+  pub one_driver : are_distinct (map (λ g. g.first) (gates_of m)) ≡ true

@@ -2,7 +2,7 @@
 ghost use Rattle.std.specs.Prelude.{◌≡◌, ◌↔◌, ◌++◌, IsTrue, map};
 ghost use Rattle.std.specs.List.{list_all};
 ghost use Rattle.signoff.specs.NetlistForm.{IsSound, are_distinct, are_plain, count_of, is_among, names_in, takes_others};
-ghost use Rattle.signoff.specs.NetlistSeen.{IsDeclaredBy, gate_seen, gates_seen, is_once_among, is_wired_among, item_seen, items_seen, module_seen, names_seen};
+ghost use Rattle.signoff.specs.NetlistSeen.{HasSoundGates, HasSoundPorts, IsDeclaredBy, gate_seen, gates_seen, is_once_among, is_wired_among, item_seen, items_seen, module_seen, names_seen};
 
 use crate::netlist::declarations::{Declarations, GateItem};
 use crate::netlist::modules::{Item, Module};
@@ -96,21 +96,40 @@ fn are_wired(inputs: &[&[u8]], outputs: &[&[u8]], gates: &[GateItem]) -> bool
     gates.iter().all(|gate| is_wired(inputs, outputs, gate))
 }
 
+fn has_sound_ports(tree: &Module, declared: &Declarations) -> bool
+    requires { IsDeclaredBy (module_seen tree.now) declared.now }
+    ensures { IsTrue result ↔ HasSoundPorts (module_seen tree.now) }
+{
+    let ports = tree.ports.as_slice();
+    if is_reserved(tree.name) || !are_plain(ports) || !are_distinct(ports) {
+        return false;
+    }
+    if !are_once(&declared.inputs, &declared.outputs, ports) {
+        return false;
+    }
+    if !are_among(ports, &declared.inputs) {
+        return false;
+    }
+    are_among(ports, &declared.outputs)
+}
+
+fn has_sound_gates(tree: &Module, declared: &Declarations) -> bool
+    requires { IsDeclaredBy (module_seen tree.now) declared.now }
+    ensures { IsTrue result ↔ HasSoundGates (module_seen tree.now) }
+{
+    if !are_plain_items(&tree.items) {
+        return false;
+    }
+    if !are_wired(&declared.inputs, &declared.outputs, &declared.gates) {
+        return false;
+    }
+    are_distinct(&declared.driven)
+}
+
 /// Whether a module is one that has a circuit.
 pub fn is_sound(tree: &Module, declared: &Declarations) -> bool
     requires { IsDeclaredBy (module_seen tree.now) declared.now }
     ensures { IsTrue result ↔ IsSound (module_seen tree.now) }
 {
-    let ports = tree.ports.as_slice();
-    let inputs = declared.inputs.as_slice();
-    let outputs = declared.outputs.as_slice();
-    !is_reserved(tree.name)
-        && are_plain(ports)
-        && are_plain_items(&tree.items)
-        && are_distinct(ports)
-        && are_once(inputs, outputs, ports)
-        && are_among(ports, inputs)
-        && are_among(ports, outputs)
-        && are_wired(inputs, outputs, &declared.gates)
-        && are_distinct(&declared.driven)
+    has_sound_ports(tree, declared) && has_sound_gates(tree, declared)
 }
