@@ -5,3 +5,4 @@ pub mod NetlistReading
 pub mod NetlistLists
 pub mod NetlistBuilding
 pub mod NetlistSoundness
+pub mod NetlistLaws

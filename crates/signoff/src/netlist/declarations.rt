@@ -9,18 +9,18 @@ use std::alloc::{AllocError, Global};
 
 /// A gate: its kind, its first terminal and the others.
 #[derive(Clone, Copy)]
-pub struct GateItem<'a> {
+pub struct GateItem<'m, 'a> {
     pub kind: GateKind,
     pub first: &'a [u8],
-    pub others: &'a [&'a [u8]],
+    pub others: &'m [&'a [u8]],
 }
 
 /// The names that a module declares as inputs, and as outputs, its gates, and the first terminal of each, in text order.
 #[derive(Drop)]
-pub struct Declarations<'a> {
+pub struct Declarations<'m, 'a> {
     pub inputs: Vec<&'a [u8]>,
     pub outputs: Vec<&'a [u8]>,
-    pub gates: Vec<GateItem<'a>>,
+    pub gates: Vec<GateItem<'m, 'a>>,
     pub driven: Vec<&'a [u8]>,
 }
 
@@ -48,7 +48,7 @@ fn outputs_of<'a>(alloc: Global, items: &[Item<'a>]) -> Result<Vec<&'a [u8]>, Al
     Ok(outputs)
 }
 
-fn gates_of<'a>(alloc: Global, items: &'a [Item<'a>]) -> Result<Vec<GateItem<'a>>, AllocError>
+fn gates_of<'m, 'a>(alloc: Global, items: &'m [Item<'a>]) -> Result<Vec<GateItem<'m, 'a>>, AllocError>
     ensures { IfOk result (λ gates. gates_seen gates.items ≡ flat_map gates_in (items_seen items.now)) }
 {
     let mut gates = Vec::new(alloc);
@@ -62,7 +62,7 @@ fn gates_of<'a>(alloc: Global, items: &'a [Item<'a>]) -> Result<Vec<GateItem<'a>
     Ok(gates)
 }
 
-fn driven_by<'a>(alloc: Global, gates: &[GateItem<'a>]) -> Result<Vec<&'a [u8]>, AllocError>
+fn driven_by<'a>(alloc: Global, gates: &[GateItem<'_, 'a>]) -> Result<Vec<&'a [u8]>, AllocError>
     ensures { IfOk result (λ names. names_seen names.items ≡ map (λ g. g.first) (gates_seen gates.now)) }
 {
     let mut driven = Vec::new(alloc);
@@ -73,7 +73,7 @@ fn driven_by<'a>(alloc: Global, gates: &[GateItem<'a>]) -> Result<Vec<&'a [u8]>,
 }
 
 /// What a module declares.
-pub fn declarations_of<'a>(alloc: Global, tree: &'a Module<'a>) -> Result<Declarations<'a>, AllocError>
+pub fn declarations_of<'m, 'a>(alloc: Global, tree: &'m Module<'a>) -> Result<Declarations<'m, 'a>, AllocError>
     ensures { IfOk result (λ d. IsDeclaredBy (module_seen tree.now) d) }
 {
     let gates = gates_of(alloc, &tree.items)?;
