@@ -24,3 +24,4 @@ pub mod EngineRuns
 pub mod EngineStimulus
 pub mod EngineStands
 pub mod EngineSimulates
+pub mod FormExamples
