@@ -31,15 +31,13 @@ fn value_of(values: &[Value], net: u32) -> Value
 }
 
 // The changes take effect.
-#[tactic(auto, using(crate::proofs::EngineRounds::agree_same, crate::proofs::EngineRounds::agree_then))]
+#[tactic(auto, using(crate::proofs::EngineRounds::agree_same, crate::proofs::EngineRounds::agree_then, crate::proofs::EngineRounds::one_more_change))]
 fn apply(values: &mut [Value], changes: &[Change])
     ensures changed { values.new ≡ changed_by (map (λ c. change_seen c) changes.now) values.old }
     ensures above { AgreeAbove values.old values.new }
 {
-    let mut rest = changes;
-    while let [first, others @ ..] = rest {
-        set_value(values, first.net, first.value);
-        rest = others;
+    for change in changes {
+        set_value(values, change.net, change.value);
     }
 }
 
