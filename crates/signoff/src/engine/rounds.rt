@@ -55,12 +55,7 @@ fn take(values: &mut [Value], net: u32, now: u64, pending: Option<Transition>)
 
 // The transitions that are due take effect.
 #[tactic(auto, using(crate::proofs::EngineRounds::agree_same, crate::proofs::EngineRounds::agree_then))]
-fn take_due(
-    values: &mut [Value],
-    elements: &[Element],
-    now: u64,
-    pending: &[Option<Transition>],
-)
+fn take_due(values: &mut [Value], elements: &[Element], now: u64, pending: &[Option<Transition>])
     ensures changed { values.new ≡ changed_by (due_changes now (map (λ e. e.output) elements.now) (map (λ p. list_seen p) pending.now)) values.old }
     ensures above { AgreeAbove values.old values.new }
 {
