@@ -1,5 +1,5 @@
 -- Files in a list: what is found by name after one is replaced, or one more comes.
-use Rattle.std.specs.Prelude.{ℕ, suc, zero, ◌≡◌, ◌≢◌, ◌+◌, ◌<◌, ◌≤◌, List, [], ◌∷◌, ◌++◌, length, map, position, AllPairs, Bool, true, false, not, Option, Some, None, if◌then◌else◌, refl, slice_index_or, slice_set, unwrap_or, Result, Ok, Err, OnOk}
+use Rattle.std.specs.Prelude.{ℕ, suc, zero, ◌≡◌, ◌≢◌, ◌+◌, ◌<◌, ◌≤◌, List, [], ◌∷◌, ◌++◌, length, map, position, Bool, true, false, not, Some, None, if◌then◌else◌, refl, slice_index_or, slice_set, unwrap_or, Result, Ok, Err, OnOk}
 use Rattle.std.specs.List.{position_or_len}
 use Rattle.std.proofs.Common.{sym, ◌∙◌, ap, subst, arith}
 use Rattle.std.proofs.Math.Seq.{map-set_same}

@@ -10,7 +10,7 @@ pub record Calls : Type 0 where
   pub failing : List FailingCall
 
 -- after how many bytes the next call fails, if it is listed; of several listings the last holds
-abbrev pub fails_after : Calls → Option ℕ
+unfoldable pub fails_after : Calls → Option ℕ
 fails_after calls = option_map (λ f. f.taken) (find (λ f. f.call == calls.made) (reverse calls.failing))
 
 -- one call more was made

@@ -13,9 +13,9 @@ pub struct Faults {
 impl Model for Faults {
     ghost use Rattle.std.specs.Prelude.{string_bytes};
     ghost use Rattle.std.specs.Option.{option_map};
-    ghost use Rattle.sg_io.specs.Faults.{FaultTale};
+    ghost use Rattle.sg_io.specs.Faults.{FaultsTold};
 
-    ghost Value = { FaultTale };
+    ghost Value = { FaultsTold };
 
     ghost view = { λ f. record { count = f.count; last = option_map (λ name. string_bytes name) f.last } };
 }

@@ -50,6 +50,7 @@ impl ListedCalls {
     }
 
     // Numbers a call: after how many bytes it fails, if it is listed.
+    #[tactic(auto, unfolding(crate::specs::Listed::fails_after))]
     pub fn next(&mut self) -> Option<u64>
         ensures fails { result ≡ fails_after self.old }
         ensures made { self.new ≡ after_call self.old }

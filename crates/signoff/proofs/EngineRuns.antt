@@ -1,18 +1,18 @@
 -- The times of a run, one after another, with the quiet ones skipped, and what is kept of them.
-use Rattle.std.specs.Prelude.{◌≡◌, ℕ, zero, suc, ◌+◌, ◌-◌, ◌<◌, ◌≤◌, List, [], ◌∷◌, ◌++◌, Option, Some, None, Result, Ok, Err, IfOk, OnErr, refl}
+use Rattle.std.specs.Prelude.{◌≡◌, ℕ, suc, ◌+◌, ◌-◌, ◌<◌, ◌≤◌, List, [], ◌∷◌, ◌++◌, Option, Some, None, Result, Ok, Err, IfOk, OnErr, refl}
 use Rattle.std.proofs.Common.{sym, ◌∙◌, ap, subst, arith, inl, inr}
 use Rattle.sg_logic.specs.declared.values.Value.{Value}
 use Rattle.sg_model.specs.Machine.{Machine, Snapshot}
 use Rattle.sg_model.specs.Time as model
 use Rattle.sg_model.specs.Time.{Run, time_of}
-use Rattle.sg_model.specs.Run.{Finished, times_from, lasts}
+use Rattle.sg_model.specs.Run.{times_from, lasts}
 use Rattle.sg_model.specs.Quiet.{IsLawful, IsSeen, IsQuiet, with_copies}
 use Rattle.sg_model.proofs.RunSteps.{times-none, times-whole, times-spent}
 use Rattle.sg_model.proofs.SkipLaws.{quiet_times}
 use Rattle.sg_model.proofs.SnapshotLaws.{AddsSnapshots, AreBefore, Extends, rounds-snapshots, time-lasts, time-before, times-extend, copies-kept, copies-are_before}
 use Rattle.signoff.specs.declared.engine.times.TimeEnd.{TimeEnd}
 use Rattle.signoff.specs.declared.engine.times.TimeEnd.TheVariants.{Whole, Spent}
-use Rattle.signoff.specs.Recording.{BrokeOff, seen_in}
+use Rattle.signoff.specs.Recording.{seen_in}
 use Rattle.signoff.specs.EngineRuns.{TimeMade, SpentAs, Recorded, RecordedPart, whole}
 
 -- a run so far, which comes to the whole, and is recorded

@@ -1,6 +1,6 @@
 -- From what the times of a run came to to the run of a circuit.
 use Rattle.std.specs.Prelude.{◌≡◌, ℕ, List, [], Option, refl}
-use Rattle.std.proofs.Common.{sym, ap, subst, inl}
+use Rattle.std.proofs.Common.{sym, subst, inl}
 use Rattle.std.proofs.lemmas.List.{append-nil}
 use Rattle.sg_model.specs.Machine.{Snapshot}
 use Rattle.sg_model.specs.Run.{Finished}

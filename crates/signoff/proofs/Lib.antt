@@ -7,6 +7,14 @@ pub mod NoViolations
 pub mod OneAnswer
 pub mod Promised
 pub mod NetlistLaws
+pub mod StimulusNumbers
+pub mod StimulusReading
+pub mod StimulusWords
+pub mod StimulusRows
+pub mod StimulusSets
+pub mod StimulusSpelling
+pub mod StimulusOneWay
+pub mod StimulusBodies
 pub mod StimulusLaws
 pub mod VcdWriting
 pub mod VcdRuns

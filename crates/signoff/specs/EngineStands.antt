@@ -1,5 +1,5 @@
 -- The runs that a simulation stands for.
-use Rattle.std.specs.Prelude.{◌≡◌, ℕ, map, length, List, [], if◌then◌else◌}
+use Rattle.std.specs.Prelude.{◌≡◌, ℕ, map, length, [], if◌then◌else◌}
 use Rattle.sg_logic.specs.declared.values.Value.{Value}
 use Rattle.sg_logic.specs.declared.values.Value.TheVariants.{X, Z}
 use Rattle.sg_model.specs.Machine.{Machine}

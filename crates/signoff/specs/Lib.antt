@@ -5,6 +5,7 @@ pub mod Seen
 pub mod Words
 pub mod NetlistForm
 pub mod StimulusForm
+pub mod StimulusLines
 pub mod Recording
 pub mod Status
 pub mod Phases

@@ -12,6 +12,8 @@ mod run;
 mod status;
 mod stimulus;
 mod stop;
+#[cfg(test)]
+mod tests;
 mod vcd;
 mod words;
 mod work;

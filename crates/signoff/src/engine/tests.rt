@@ -1,6 +1,4 @@
 // Worked examples of a simulation.
-ghost use Rattle.std.specs.Prelude.{◌≡◌};
-
 use crate::circuits::{Change, Circuit, Driver, Element, Net, Spent, Step, Stimulus};
 use crate::engine::{Recorder, simulate};
 use sg_io::{ReadError, Shelf, ShelfError};
@@ -10,9 +8,9 @@ use std::alloc::Global;
 
 // A shelf without room.
 #[derive(Drop)]
-struct Nothing;
+struct FullShelf;
 
-impl Shelf for Nothing {
+impl Shelf for FullShelf {
     ghost use Rattle.std.specs.Prelude.{None};
 
     ghost files = { λ s. None };
@@ -48,10 +46,13 @@ struct Kept {
     times: Vec<(u64, Vec<Value>)>,
 }
 
-impl Recorder<Nothing> for Kept {
+impl Recorder<FullShelf> for Kept {
     ghost use Rattle.std.specs.Prelude.{[]};
+    ghost use Rattle.signoff.specs.Flat.{flat};
 
     ghost name = { λ w. [] };
+
+    ghost circuit = { λ w. flat [] [] [] };
 
     ghost holds = { λ w s seen. Unit {0} };
 
@@ -62,7 +63,7 @@ impl Recorder<Nothing> for Kept {
     fn record(
         &mut self,
         alloc: Global,
-        shelf: &mut Nothing,
+        shelf: &mut FullShelf,
         time: u64,
         values: &[Value],
     ) -> Result<(), ShelfError> {
@@ -75,6 +76,16 @@ impl Recorder<Nothing> for Kept {
     }
 }
 
+impl Kept {
+    // Whether the k-th time told is this one, with these values.
+    fn has(&self, k: usize, time: u64, values: &[Value]) -> bool {
+        match self.times.get(k) {
+            Some((t, vs)) => *t == time && vs.as_slice() == values,
+            None => false,
+        }
+    }
+}
+
 fn net(alloc: Global, name: &[u8], driver: Driver) -> Result<Net, NoMemory> {
     Ok(Net {
         name: Text::copy(alloc, name)?,
@@ -82,7 +93,7 @@ fn net(alloc: Global, name: &[u8], driver: Driver) -> Result<Net, NoMemory> {
     })
 }
 
-fn not(alloc: Global, output: u32, input: u32) -> Result<Element, NoMemory> {
+fn inverter_of(alloc: Global, output: u32, input: u32) -> Result<Element, NoMemory> {
     Ok(Element {
         inputs: vec![in alloc; input]?,
         output,
@@ -90,39 +101,63 @@ fn not(alloc: Global, output: u32, input: u32) -> Result<Element, NoMemory> {
     })
 }
 
-fn nand(alloc: Global, output: u32, a: u32, b: u32) -> Result<Element, NoMemory> {
-    Ok(Element {
-        inputs: vec![in alloc; a, b]?,
-        output,
-        kind: GateKind::Nand,
-    })
-}
-
 // y = not a.
 fn inverter(alloc: Global) -> Result<Circuit, NoMemory> {
     Ok(Circuit {
         name: Text::copy(alloc, b"inverter")?,
-        nets: vec![in alloc; net(alloc, b"a", Driver::Stimulus)?, net(alloc, b"y", Driver::Element(0))?]?,
-        elements: vec![in alloc; not(alloc, 1, 0)?]?,
+        nets: vec![
+            in alloc;
+            net(alloc, b"a", Driver::Stimulus)?,
+            net(alloc, b"y", Driver::Element(0))?
+        ]?,
+        elements: vec![in alloc; inverter_of(alloc, 1, 0)?]?,
     })
 }
 
-// Net 0 is set at two times.
+// b = not a, y = not b, with the later one first.
+fn chain(alloc: Global) -> Result<Circuit, NoMemory> {
+    Ok(Circuit {
+        name: Text::copy(alloc, b"chain")?,
+        nets: vec![
+            in alloc;
+            net(alloc, b"a", Driver::Stimulus)?,
+            net(alloc, b"b", Driver::Element(1))?,
+            net(alloc, b"y", Driver::Element(0))?
+        ]?,
+        elements: vec![in alloc; inverter_of(alloc, 2, 1)?, inverter_of(alloc, 1, 0)?]?,
+    })
+}
+
+// q = nand (en, q).
+fn ring(alloc: Global) -> Result<Circuit, NoMemory> {
+    let nand = Element {
+        inputs: vec![in alloc; 0, 1]?,
+        output: 1,
+        kind: GateKind::Nand,
+    };
+    Ok(Circuit {
+        name: Text::copy(alloc, b"ring")?,
+        nets: vec![
+            in alloc;
+            net(alloc, b"en", Driver::Stimulus)?,
+            net(alloc, b"q", Driver::Element(0))?
+        ]?,
+        elements: vec![in alloc; nand]?,
+    })
+}
+
+fn set(alloc: Global, value: Value) -> Result<Vec<Change>, NoMemory> {
+    Ok(vec![in alloc; Change { net: 0, value }]?)
+}
+
+// Net 0 is set at 0 and at 10 000, and the last time is 20 000.
 fn two_sets(alloc: Global, first: Value, second: Value) -> Result<Stimulus, NoMemory> {
     let steps = vec![
         in alloc;
-        Step { time: 0, sets: vec![in alloc; Change { net: 0, value: first }]? },
-        Step { time: 10_000, sets: vec![in alloc; Change { net: 0, value: second }]? }
+        Step { time: 0, sets: set(alloc, first)? },
+        Step { time: 10_000, sets: set(alloc, second)? }
     ]?;
     Ok(Stimulus { steps, end: 20_000 })
-}
-
-// Whether the k-th time told is this one, with these values.
-fn has_told(kept: &Kept, k: usize, time: u64, values: &[Value]) -> bool {
-    match kept.times.get(k) {
-        Some((t, vs)) => *t == time && vs.as_slice() == values,
-        None => false,
-    }
 }
 
 #[test]
@@ -130,11 +165,62 @@ fn an_inverter_follows_its_input(rt: HostRuntime) -> Result<(), NoMemory> {
     let alloc = rt.alloc();
     let circuit = inverter(alloc)?;
     let stimulus = two_sets(alloc, Value::Zero, Value::One)?;
-    let mut kept = Kept { times: Vec::new(alloc) };
-    let spent = simulate(alloc, &circuit, &stimulus, 10, &mut Nothing, &mut kept);
+    let mut kept = Kept {
+        times: Vec::new(alloc),
+    };
+    let spent = simulate(alloc, &circuit, &stimulus, 10, &mut FullShelf, &mut kept);
     assert_eq!(rt; spent, Ok(None));
     assert_eq!(rt; kept.times.len(), 2);
-    assert!(rt; has_told(&kept, 0, 0, &[Value::Zero, Value::One]));
-    assert!(rt; has_told(&kept, 1, 10_000, &[Value::One, Value::Zero]));
+    assert!(rt; kept.has(0, 0, &[Value::Zero, Value::One]));
+    assert!(rt; kept.has(1, 10_000, &[Value::One, Value::Zero]));
+    Ok(())
+}
+
+#[test]
+fn without_sets_driven_nets_are_unknown(rt: HostRuntime) -> Result<(), NoMemory> {
+    let alloc = rt.alloc();
+    let circuit = inverter(alloc)?;
+    let stimulus = Stimulus {
+        steps: Vec::new(alloc),
+        end: 0,
+    };
+    let mut kept = Kept {
+        times: Vec::new(alloc),
+    };
+    let spent = simulate(alloc, &circuit, &stimulus, 10, &mut FullShelf, &mut kept);
+    assert_eq!(rt; spent, Ok(None));
+    assert_eq!(rt; kept.times.len(), 1);
+    assert!(rt; kept.has(0, 0, &[Value::X, Value::X]));
+    Ok(())
+}
+
+#[test]
+fn a_chain_settles_whatever_its_order(rt: HostRuntime) -> Result<(), NoMemory> {
+    let alloc = rt.alloc();
+    let circuit = chain(alloc)?;
+    let stimulus = two_sets(alloc, Value::Zero, Value::Zero)?;
+    let mut kept = Kept {
+        times: Vec::new(alloc),
+    };
+    let spent = simulate(alloc, &circuit, &stimulus, 10, &mut FullShelf, &mut kept);
+    assert_eq!(rt; spent, Ok(None));
+    assert_eq!(rt; kept.times.len(), 2);
+    assert!(rt; kept.has(0, 0, &[Value::Zero, Value::One, Value::Zero]));
+    assert!(rt; kept.has(1, 10_000, &[Value::Zero, Value::One, Value::Zero]));
+    Ok(())
+}
+
+#[test]
+fn a_ring_spends_its_rounds(rt: HostRuntime) -> Result<(), NoMemory> {
+    let alloc = rt.alloc();
+    let circuit = ring(alloc)?;
+    let stimulus = two_sets(alloc, Value::Zero, Value::One)?;
+    let mut kept = Kept {
+        times: Vec::new(alloc),
+    };
+    let spent = simulate(alloc, &circuit, &stimulus, 10, &mut FullShelf, &mut kept);
+    assert_eq!(rt; spent, Ok(Some(Spent { time: 10_000, net: Some(1) })));
+    assert_eq!(rt; kept.times.len(), 1);
+    assert!(rt; kept.has(0, 0, &[Value::Zero, Value::One]));
     Ok(())
 }

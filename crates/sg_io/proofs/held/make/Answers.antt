@@ -1,4 +1,3 @@
-use Rattle.std.proofs.Common.{sym, ◌∙◌}
 use Rattle.sg_io.proofs.HeldLemmas.{HasAfter-push, distinct-push}
 use Rattle.sg_io.proofs.held.make.Goals as goal
 

@@ -1,8 +1,7 @@
-use Rattle.std.specs.Prelude.{◌≡◌, true, false, not, refl}
+use Rattle.std.specs.Prelude.{not, refl}
 use Rattle.std.proofs.Common.{sym, ◌∙◌, ap, subst}
-use Rattle.sg_model.specs.Time.{is_empty}
-use Rattle.signoff.specs.EngineTimes.{AfterRound, Names}
-use Rattle.signoff.proofs.EngineTimes.{DueAt, due_now, due_toggles, went_on, ended_whole, time_spent, time_whole}
+use Rattle.signoff.specs.EngineTimes.{Names}
+use Rattle.signoff.proofs.EngineTimes.{DueAt, due_now, due_toggles, ended_whole, time_spent, time_whole}
 use Rattle.signoff.proofs.engine.times.last.Goals as goal
 use Rattle.signoff.proofs.engine.times.last.Goals.{then-needs-via-then-needs, then-needs-via-else-needs+then-snapshot}
 

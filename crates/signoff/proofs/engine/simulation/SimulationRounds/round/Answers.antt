@@ -1,5 +1,5 @@
 use Rattle.std.specs.Prelude.{◌≡◌, ◌++◌, ℕ, List, map}
-use Rattle.std.proofs.Common.{sym, ◌∙◌, ap, subst, rules}
+use Rattle.std.proofs.Common.{sym, ◌∙◌, subst, rules}
 use Rattle.sg_logic.specs.declared.values.Value.{Value}
 use Rattle.sg_model.specs.Round.{changed_by, due_changes}
 use Rattle.signoff.specs.Seen.{change_seen}

@@ -1,4 +1,4 @@
-use Rattle.std.proofs.Common.{ap, subst}
+use Rattle.std.proofs.Common.{subst}
 use Rattle.std.specs.Prelude.{◌==◌}
 use Rattle.sg_model.specs.Time.{rounds}
 use Rattle.circuit_model.specs.Simulated.{machine_of}
