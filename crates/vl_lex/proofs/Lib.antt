@@ -4,3 +4,7 @@ pub mod NumberLaws
 pub mod SizedLaws
 pub mod PieceLaws
 pub mod ModeLaws
+pub mod BitLaws
+pub mod BranchLaws
+pub mod Splits
+pub mod StepLaws

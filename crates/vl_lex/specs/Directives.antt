@@ -1,8 +1,9 @@
 -- What each directive does to the state (IEEE 1364-2005, the clause on compiler directives).
-use Rattle.std.specs.Prelude.{ℕ, ℤ, pos, ◌-ℤ◌, int_lt, ◌&&◌, ◌||◌, not, List, [], ◌∷◌, Bool, true, false, Option, Some, None, is_some, Result, Ok, Err, if◌then◌else◌, codes, filter}
+use Rattle.std.specs.Prelude.{ℕ, ℤ, pos, ◌-ℤ◌, int_lt, ◌&&◌, ◌||◌, not, List, [], ◌∷◌, ◌++◌, Bool, true, false, Option, Some, None, is_some, Result, Ok, Err, if◌then◌else◌, codes, filter}
 use Rattle.std.specs.List.{list_any}
+use Rattle.std.specs.Option.{option_map}
 use Rattle.sg_text.specs.declared.places.Place.{Place}
-use Rattle.vl_lex.specs.Tokens.{Settings}
+use Rattle.vl_lex.specs.Tokens.{Timescale as Scale, Settings}
 use Rattle.vl_lex.specs.State.{Macro, Word, State, Outcome, fault, first_settings, same_bytes, text_of, is_taken}
 use Rattle.vl_lex.specs.declared.faults.LexKind.TheVariants.{BadDirective, UnbalancedIf}
 use Rattle.vl_lex.specs.declared.branches.Branch.{Branch}
@@ -69,27 +70,31 @@ words_wanted IfNDef branches = if is_taken branches then 1 else 0
 words_wanted ElsIf branches = if is_taken (outer branches) then 1 else 0
 words_wanted _ branches = 0
 
-abbrev pub with_branches : State → List Branch → State
-with_branches s branches = record s { branches = branches }
-
 -- a branch is opened, taken where the test holds and the text round it is taken
-abbrev pub opened : Place → Bool → State → State
-opened place test s = with_branches s (record { place = place; taken = test && is_taken s.branches; settled = test || not (is_taken s.branches); last = false } ∷ s.branches)
+abbrev pub opened : Place → Bool → List Branch → List Branch
+opened place test branches = record { place = place; taken = test && is_taken branches; settled = test || not (is_taken branches); last = false } ∷ branches
 
 -- The innermost branch goes on with another text. None follows its last one; where the text round it isn't taken, that
 -- isn't looked at.
-abbrev pub goes_on : Place → Bool → Bool → List Branch → State → Outcome
-goes_on place test last [] s = fault UnbalancedIf place
-goes_on place test last (b ∷ bs) s =
-    if b.last && is_taken bs then fault UnbalancedIf place
-    else Ok (with_branches s (record { place = b.place; taken = test && not b.settled; settled = test || b.settled; last = last } ∷ bs))
+abbrev pub gone_on : Bool → Bool → List Branch → Option (List Branch)
+gone_on test last [] = None
+gone_on test last (b ∷ bs) =
+    if b.last && is_taken bs then None
+    else Some (record { place = b.place; taken = test && not b.settled; settled = test || b.settled; last = last } ∷ bs)
 
-abbrev pub closed : Place → List Branch → State → Outcome
-closed place [] s = fault UnbalancedIf place
-closed place (b ∷ bs) s = Ok (with_branches s bs)
+abbrev pub closed : List Branch → Option (List Branch)
+closed [] = None
+closed (b ∷ bs) = Some bs
 
-abbrev pub is_defined : State → List ℕ → Bool
-is_defined s name = is_some (text_of name s.macros)
+abbrev pub with_branches : State → List Branch → State
+with_branches s branches = record s { branches = branches }
+
+abbrev pub branched : Place → State → Option (List Branch) → Outcome
+branched place s None = fault UnbalancedIf place
+branched place s (Some branches) = Ok (with_branches s branches)
+
+abbrev pub is_defined : List ℕ → List Macro → Bool
+is_defined name macros = is_some (text_of name macros)
 
 -- 1, 10 or 100, as a power of ten
 abbrev pub tens_of : List ℕ → Option ℤ
@@ -116,49 +121,66 @@ power_of (Some tens) (Some unit) = Some (tens -ℤ unit)
 power_of (Some tens) None = None
 power_of None unit = None
 
--- a precision above its unit is refused
-abbrev pub scaled : Place → Option ℤ → Option ℤ → State → Outcome
-scaled place (Some unit) (Some precision) s =
-    if int_lt unit precision then fault BadDirective place
-    else Ok (record s { settings = record s.settings { scale = record { unit = unit; precision = precision } } })
-scaled place (Some unit) None s = fault BadDirective place
-scaled place None precision s = fault BadDirective place
+-- a unit and a precision that isn't above it
+abbrev pub scale_from : Option ℤ → Option ℤ → Option Scale
+scale_from (Some unit) (Some precision) = if int_lt unit precision then None else Some (record { unit = unit; precision = precision })
+scale_from (Some unit) None = None
+scale_from None precision = None
 
-abbrev pub timescaled : Place → List Word → State → Outcome
-timescaled place (n ∷ u ∷ slash ∷ m ∷ v ∷ []) s =
-    if same_bytes slash.bytes (codes "/") then scaled place (power_of (tens_of n.bytes) (unit_of u.bytes)) (power_of (tens_of m.bytes) (unit_of v.bytes)) s
-    else fault BadDirective place
-timescaled place _ s = fault BadDirective place
+-- what the words of a timescale say, as 10 ns / 100 ps
+abbrev pub scale_of : List Word → Option Scale
+scale_of (n ∷ u ∷ slash ∷ m ∷ v ∷ []) =
+    if same_bytes slash.bytes (codes "/") then scale_from (power_of (tens_of n.bytes) (unit_of u.bytes)) (power_of (tens_of m.bytes) (unit_of v.bytes))
+    else None
+scale_of _ = None
 
--- a directive whose one word is a name
-abbrev pub named : Place → List Word → (List ℕ → Outcome) → Outcome
-named place (w ∷ []) f = if w.is_name then f w.bytes else fault BadDirective place
-named place _ f = fault BadDirective place
+-- the one word, if it is a name
+abbrev pub name_of : List Word → Option (List ℕ)
+name_of (w ∷ []) = if w.is_name then Some w.bytes else None
+name_of _ = None
 
-abbrev pub net_type : Place → State → List ℕ → Outcome
-net_type place s word =
-    if same_bytes word (codes "wire") then Ok (record s { settings = record s.settings { implicit = true } })
-    else if same_bytes word (codes "none") then Ok (record s { settings = record s.settings { implicit = false } })
-    else fault BadDirective place
+-- whether nets may be implicit
+abbrev pub implicit_from : Option (List ℕ) → Option Bool
+implicit_from None = None
+implicit_from (Some name) = if same_bytes name (codes "wire") then Some true else if same_bytes name (codes "none") then Some false else None
+
+abbrev pub as_wanted : Bool → Bool → Bool
+as_wanted true b = b
+as_wanted false b = not b
+
+-- Whether the text behind a test of a macro's name is taken: where the name is defined, or where it isn't. In text that
+-- isn't taken there is no name.
+abbrev pub test_of : Bool → List Macro → List Word → Option Bool
+test_of wanted macros [] = Some false
+test_of wanted macros (w ∷ ws) = option_map (λ name. as_wanted wanted (is_defined name macros)) (name_of (w ∷ ws))
+
+-- what is there is used, and else the directive is refused
+abbrev pub given : {A : Type 0} → Place → (A → Outcome) → Option A → Outcome
+given place f None = fault BadDirective place
+given place f (Some a) = f a
+
+abbrev pub with_settings : State → Settings → State
+with_settings s settings = record s { settings = settings }
 
 abbrev pub without : List ℕ → List Macro → List Macro
 without name macros = filter (λ m. not (same_bytes m.name name)) macros
 
+-- a new text of a macro stands in place of its old one
+abbrev pub with_macro : List ℕ → List ℕ → State → State
+with_macro name text s = record s { macros = without name s.macros ++ record { name = name; text = text } ∷ [] }
+
 -- A directive that has its words is applied. A definition isn't applied so, since its text is one line.
 abbrev pub applied : Directive → Place → List Word → State → Outcome
-applied Timescale place words s = timescaled place words s
-applied ResetAll place words s = Ok (record s { settings = first_settings })
-applied CellDefine place words s = Ok (record s { settings = record s.settings { cell = true } })
-applied EndCellDefine place words s = Ok (record s { settings = record s.settings { cell = false } })
-applied DefaultNetType place words s = named place words (net_type place s)
+applied Timescale place words s = given place (λ scale. Ok (with_settings s (record s.settings { scale = scale }))) (scale_of words)
+applied ResetAll place words s = Ok (with_settings s first_settings)
+applied CellDefine place words s = Ok (with_settings s (record s.settings { cell = true }))
+applied EndCellDefine place words s = Ok (with_settings s (record s.settings { cell = false }))
+applied DefaultNetType place words s = given place (λ implicit. Ok (with_settings s (record s.settings { implicit = implicit }))) (implicit_from (name_of words))
 applied Define place words s = fault BadDirective place
-applied Undef place words s = named place words (λ name. Ok (record s { macros = without name s.macros }))
-applied IfDef place [] s = Ok (opened place false s)
-applied IfDef place (w ∷ ws) s = named place (w ∷ ws) (λ name. Ok (opened place (is_defined s name) s))
-applied IfNDef place [] s = Ok (opened place false s)
-applied IfNDef place (w ∷ ws) s = named place (w ∷ ws) (λ name. Ok (opened place (not (is_defined s name)) s))
-applied ElsIf place [] s = goes_on place false false s.branches s
-applied ElsIf place (w ∷ ws) s = named place (w ∷ ws) (λ name. goes_on place (is_defined s name) false s.branches s)
-applied Else place words s = goes_on place true true s.branches s
-applied EndIf place words s = closed place s.branches s
+applied Undef place words s = given place (λ name. Ok (record s { macros = without name s.macros })) (name_of words)
+applied IfDef place words s = given place (λ test. Ok (with_branches s (opened place test s.branches))) (test_of true s.macros words)
+applied IfNDef place words s = given place (λ test. Ok (with_branches s (opened place test s.branches))) (test_of false s.macros words)
+applied ElsIf place words s = given place (λ test. branched place s (gone_on test false s.branches)) (test_of true s.macros words)
+applied Else place words s = branched place s (gone_on true true s.branches)
+applied EndIf place words s = branched place s (closed s.branches)
 applied NoEffect place words s = Ok s

@@ -6,17 +6,18 @@ use Rattle.sg_text.specs.declared.places.Place.{Place}
 use Rattle.sg_text.specs.Words.{is_reserved_word}
 use Rattle.sg_logic.specs.declared.values.Value.{Value}
 use Rattle.sg_logic.specs.declared.values.Value.TheVariants.{Zero, One, X, Z}
-use Rattle.sg_time.specs.Spelling.{Spelling, Number, value_of, number_from}
+use Rattle.sg_time.specs.Spelling.{Number}
 use Rattle.sg_time.specs.declared.decimal.TimeError.{TimeError}
-use Rattle.sg_time.specs.Reading.{parts_of}
+use Rattle.sg_time.specs.Reading.{parts_of, said_of}
 use Rattle.vl_lex.specs.Bytes.{is_blank, is_name_start, is_name_byte}
-use Rattle.vl_lex.specs.Sized.{Sized, sized_of, has_width, has_value, own_bits, to_width}
+use Rattle.vl_lex.specs.Sized.{Sized, sized_of, own_bits, to_width, width_of}
 use Rattle.vl_lex.specs.Tokens.{Settings, Meaning, module_word, word_token, name_token, system_token, symbol_token, other_token, number_token, sized_token, pair_token, byte_token, Lexeme}
 use Rattle.vl_lex.specs.State.{Macro, Word, Waiting, State, Fault, Outcome, fault, first_state, same_bytes, text_of, is_taken}
-use Rattle.vl_lex.specs.Directives.{directive_of, is_conditional, words_wanted, applied}
+use Rattle.vl_lex.specs.Directives.{directive_of, is_conditional, words_wanted, with_macro, applied}
 use Rattle.vl_lex.specs.Modes.{IsPiece, Piece, ArePieces}
 use Rattle.vl_lex.specs.declared.faults.LexKind.{LexKind}
 use Rattle.vl_lex.specs.declared.faults.LexKind.TheVariants.{BadByte, UnendedComment, UnendedText, UnknownDirective, UnbalancedIf, MacroTooDeep, FileTooLarge, BadDirective}
+use Rattle.vl_lex.specs.declared.faults.Found.{Found}
 use Rattle.vl_lex.specs.declared.branches.Branch.{Branch}
 use Rattle.vl_lex.specs.declared.directives.Directive.{Directive}
 use Rattle.vl_lex.specs.declared.directives.Directive.TheVariants.{Define}
@@ -45,33 +46,39 @@ abbrev pub is_whole : List ℕ → Bool
 is_whole bytes = list_all is_ascii_digit bytes && nat_le (length bytes) 18
 
 -- a decimal with too many digits is a token that no rule takes
-abbrev pub number_value : List ℕ → Result Number TimeError → Meaning
-number_value bytes (Ok n) = number_token n (is_whole bytes)
-number_value bytes (Err e) = other_token bytes
-
-abbrev pub number_meaning : List ℕ → Option Spelling → Meaning
-number_meaning bytes None = other_token bytes
-number_meaning bytes (Some s) = number_value bytes (value_of s)
-
-abbrev pub sized_bits : List ℕ → List Value → Meaning
-sized_bits [] bits = sized_token None bits
-sized_bits (d ∷ ds) bits = sized_token (Some (number_from 0 (d ∷ ds))) (to_width (number_from 0 (d ∷ ds)) bits)
+abbrev pub number_meaning : List ℕ → Result Number TimeError → Meaning
+number_meaning bytes (Ok n) = number_token n (is_whole bytes)
+number_meaning bytes (Err e) = other_token bytes
 
 -- a constant whose width or value is too large is a token that no rule takes
+abbrev pub with_bits : List ℕ → Option (Option ℕ) → Option (List Value) → Meaning
+with_bits bytes None bits = other_token bytes
+with_bits bytes (Some width) None = other_token bytes
+with_bits bytes (Some None) (Some bits) = sized_token None bits
+with_bits bytes (Some (Some width)) (Some bits) = sized_token (Some width) (to_width width bits)
+
 abbrev pub sized_meaning : List ℕ → Option Sized → Meaning
 sized_meaning bytes None = other_token bytes
-sized_meaning bytes (Some s) = if has_width s.width && has_value s.base s.digits then sized_bits s.width (own_bits s.base s.digits) else other_token bytes
+sized_meaning bytes (Some s) = with_bits bytes (width_of s.width) (own_bits s.base s.digits)
 
 -- the value that a byte of an edge list stands for: z is read as x
 abbrev pub edge_value : ℕ → Value
 edge_value b = if b == 48 then Zero else if b == 49 then One else X
 
 -- two different values are a change
-abbrev pub pair_meaning : ℕ → ℕ → Value → Value → Meaning
-pair_meaning a b Zero Zero = other_token (a ∷ b ∷ [])
-pair_meaning a b One One = other_token (a ∷ b ∷ [])
-pair_meaning a b X X = other_token (a ∷ b ∷ [])
-pair_meaning a b v w = pair_token v w
+abbrev pub pair_from : List ℕ → Value → Value → Meaning
+pair_from bytes Zero Zero = other_token bytes
+pair_from bytes One One = other_token bytes
+pair_from bytes X X = other_token bytes
+pair_from bytes from to = pair_token from to
+
+abbrev pub pair_meaning : List ℕ → Meaning
+pair_meaning (a ∷ b ∷ []) = pair_from (a ∷ b ∷ []) (edge_value a) (edge_value b)
+pair_meaning bytes = other_token bytes
+
+abbrev pub cell_meaning : List ℕ → Meaning
+cell_meaning (b ∷ []) = byte_token b
+cell_meaning bytes = other_token bytes
 
 -- the token that a piece gives
 abbrev pub meaning_of : Class → List ℕ → Settings → Option Meaning
@@ -80,11 +87,11 @@ meaning_of class.Attribute bytes settings = None
 meaning_of class.Name bytes settings = Some (name_meaning settings bytes)
 meaning_of class.Escaped bytes settings = Some (name_token (drop 1 bytes))
 meaning_of class.System bytes settings = Some (system_token bytes)
-meaning_of class.Number bytes settings = Some (number_meaning bytes (parts_of bytes))
+meaning_of class.Number bytes settings = Some (number_meaning bytes (said_of (parts_of bytes)))
 meaning_of class.Sized bytes settings = Some (sized_meaning bytes (sized_of bytes))
 meaning_of class.Symbol bytes settings = Some (symbol_token bytes)
-meaning_of class.Cell (b ∷ []) settings = Some (byte_token b)
-meaning_of class.Pair (a ∷ b ∷ []) settings = Some (pair_meaning a b (edge_value a) (edge_value b))
+meaning_of class.Cell bytes settings = Some (cell_meaning bytes)
+meaning_of class.Pair bytes settings = Some (pair_meaning bytes)
 meaning_of _ bytes settings = Some (other_token bytes)
 
 -- the mode behind a name
@@ -92,27 +99,36 @@ abbrev pub mode_by_name : List ℕ → Mode
 mode_by_name bytes = if same_bytes bytes (codes "edge") then AfterEdge else if same_bytes bytes (codes "table") then Table else Plain
 
 -- the mode behind a piece
+abbrev pub behind_plain : Class → List ℕ → Mode
+behind_plain class.Name bytes = mode_by_name bytes
+behind_plain _ bytes = Plain
+
+abbrev pub behind_edge : Class → List ℕ → Mode
+behind_edge class.Gap bytes = AfterEdge
+behind_edge class.Attribute bytes = AfterEdge
+behind_edge class.Symbol bytes = if same_bytes bytes (codes "[") then Edges else Plain
+behind_edge c bytes = behind_plain c bytes
+
+abbrev pub behind_edges : Class → List ℕ → Mode
+behind_edges class.Symbol bytes = if same_bytes bytes (codes "]") then Plain else Edges
+behind_edges _ bytes = Edges
+
+abbrev pub behind_cell : Class → Mode
+behind_cell class.Name = Plain
+behind_cell _ = Table
+
 abbrev pub mode_behind : Mode → Class → List ℕ → Mode
-mode_behind Table class.Name bytes = Plain
-mode_behind Table _ bytes = Table
-mode_behind Edges class.Symbol bytes = if same_bytes bytes (codes "]") then Plain else Edges
-mode_behind Edges _ bytes = Edges
-mode_behind AfterEdge class.Gap bytes = AfterEdge
-mode_behind AfterEdge class.Attribute bytes = AfterEdge
-mode_behind AfterEdge class.Symbol bytes = if same_bytes bytes (codes "[") then Edges else Plain
-mode_behind _ class.Name bytes = mode_by_name bytes
-mode_behind _ _ bytes = Plain
+mode_behind Plain c bytes = behind_plain c bytes
+mode_behind AfterEdge c bytes = behind_edge c bytes
+mode_behind Edges c bytes = behind_edges c bytes
+mode_behind Table c bytes = behind_cell c
+mode_behind Line c bytes = behind_plain c bytes
 
 abbrev pub placed : Place → Option Meaning → List Lexeme
 placed place None = []
 placed place (Some meaning) = record { meaning = meaning; place = place } ∷ []
 
 -- ---- faults of pieces
-
--- a fault, and how many bytes behind the piece's first byte it stands
-pub record Found : Type 0 where
-  pub kind : LexKind
-  pub behind : ℕ
 
 abbrev pub is_bad : ℕ → Bool
 is_bad b = not (is_blank b || is_ascii_graphic b)
@@ -184,7 +200,7 @@ begins_name (b ∷ bs) = is_name_start b
 abbrev pub defined : Origin → ℕ → Place → List ℕ → List ℕ → State → Effect
 defined origin start place name text s =
     if begins_arguments text then stops BadDirective place
-    else defines origin start text (record s { macros = record { name = name; text = text } ∷ s.macros })
+    else defines origin start text (with_macro name text s)
 
 abbrev pub defined_by : Origin → ℕ → Place → ℕ → List ℕ → State → Effect
 defined_by origin at place blanks bytes s =
@@ -228,16 +244,21 @@ abbrev pub passed : Place → Option Directive → State → Outcome
 passed place None s = Ok s
 passed place (Some d) s = if is_conditional d then ready (first_words d place) s else Ok s
 
-abbrev pub effect_taken : Bool → Origin → Place → Class → List ℕ → State → Effect
-effect_taken true origin place class.Use bytes s = directed origin place (drop 1 bytes) (directive_of (drop 1 bytes)) s
-effect_taken true origin place c bytes s = comes_to (Ok (taken_piece place c bytes s))
-effect_taken false origin place class.Use bytes s = comes_to (passed place (directive_of (drop 1 bytes)) s)
-effect_taken false origin place c bytes s = comes_to (Ok s)
+abbrev pub is_use : Class → Bool
+is_use class.Use = true
+is_use _ = false
+
+-- a piece of text that is taken, or that isn't
+abbrev pub effect_at : Bool → Origin → Place → Class → List ℕ → State → Effect
+effect_at true origin place c bytes s =
+    if is_use c then directed origin place (drop 1 bytes) (directive_of (drop 1 bytes)) s
+    else comes_to (Ok (taken_piece place c bytes s))
+effect_at false origin place c bytes s = comes_to (if is_use c then passed place (directive_of (drop 1 bytes)) s else Ok s)
 
 abbrev pub effect_of : Option Found → Option Waiting → Origin → ℕ → Class → List ℕ → State → Effect
 effect_of (Some f) waiting origin at c bytes s = stops f.kind (place_at origin (at + f.behind))
 effect_of None (Some w) origin at c bytes s = awaited origin at w c bytes s
-effect_of None None origin at c bytes s = effect_taken (is_taken s.branches) origin (place_at origin at) c bytes s
+effect_of None None origin at c bytes s = effect_at (is_taken s.branches) origin (place_at origin at) c bytes s
 
 -- What comes of a piece of this class and these bytes, which stands at this byte.
 abbrev pub effect : Origin → ℕ → Class → List ℕ → State → Effect
@@ -254,6 +275,10 @@ abbrev pub first_fault : Origin → ℕ → List ℕ → List Piece → Option F
 first_fault origin at text [] = None
 first_fault origin at text (p ∷ ps) = fault_or origin at (fault_of p.class (take p.size text)) (first_fault origin (at + p.size) (drop p.size text) ps)
 
+-- the first fault of a text where no table and no edge list stands
+abbrev pub Checks : Origin → ℕ → List ℕ → Option Fault → Type 0
+Checks origin at text found = (ps : List Piece) × ArePieces text ps × (found ≡ first_fault origin at text ps)
+
 abbrev pub or_state : Option Fault → State → Outcome
 or_state None s = Ok s
 or_state (Some f) s = Err f
@@ -262,7 +287,7 @@ or_state (Some f) s = Err f
 abbrev pub Leads : (Place → List ℕ → State → Outcome → Type 0) → Effect → Outcome → Type 0
 Leads Expands (comes_to outcome) o = o ≡ outcome
 Leads Expands (expands place text s) o = Expands place text s o
-Leads Expands (defines origin start text s) o = (ps : List Piece) × ArePieces text ps × (o ≡ or_state (first_fault origin start text ps) s)
+Leads Expands (defines origin start text s) o = (found : Option Fault) × Checks origin start text found × (o ≡ or_state found s)
 
 -- after a fault nothing is read
 abbrev pub Then : Outcome → (State → Type 0) → (Fault → Type 0) → Type 0

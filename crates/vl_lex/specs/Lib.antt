@@ -8,5 +8,6 @@ pub mod Tokens
 pub mod State
 pub mod Directives
 pub mod Lexes
+pub mod Seen
 pub mod Numbers
 pub mod Found

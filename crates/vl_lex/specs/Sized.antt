@@ -82,12 +82,16 @@ fewest (b ∷ c ∷ bs) = if is_zero b then fewest (c ∷ bs) else b ∷ c ∷ b
 abbrev pub digit_bits : ℕ → ℕ → List Value
 digit_bits width d = if is_x d then replicate width X else if is_z d then replicate width Z else low_bits width (hex_value d)
 
--- the bits that the digits spell; of a decimal number the fewest that hold it
-abbrev pub own_bits : Base → List ℕ → List Value
-own_bits Binary digits = flat_map (digit_bits 1) digits
-own_bits Octal digits = flat_map (digit_bits 3) digits
-own_bits Decimal digits = fewest (low_bits 64 (number_from 0 digits))
-own_bits Hexadecimal digits = flat_map (digit_bits 4) digits
+-- the fewest bits that hold a decimal number, if it is below 2 ^ 64
+abbrev pub decimal_bits : ℕ → Option (List Value)
+decimal_bits n = if nat_lt n (2 ^ 64) then Some (fewest (low_bits 64 n)) else None
+
+-- the bits that the digits spell
+abbrev pub own_bits : Base → List ℕ → Option (List Value)
+own_bits Binary digits = Some (flat_map (digit_bits 1) digits)
+own_bits Octal digits = Some (flat_map (digit_bits 3) digits)
+own_bits Decimal digits = decimal_bits (number_from 0 digits)
+own_bits Hexadecimal digits = Some (flat_map (digit_bits 4) digits)
 
 -- what bits are extended with on the left: x or z where the leftmost one is that, and else 0
 abbrev pub extension : List Value → Value
@@ -101,12 +105,10 @@ extension (Z ∷ bits) = Z
 abbrev pub to_width : ℕ → List Value → List Value
 to_width width bits = replicate (width - length bits) (extension bits) ++ drop (length bits - width) bits
 
--- whether its width is one from 1 to 65536, or absent
-abbrev pub has_width : List ℕ → Bool
-has_width [] = true
-has_width (d ∷ ds) = nat_le 1 (number_from 0 (d ∷ ds)) && nat_le (number_from 0 (d ∷ ds)) 65536
+abbrev pub width_in : ℕ → ℕ → Option (Option ℕ)
+width_in widest n = if nat_le 1 n && nat_le n widest then Some (Some n) else None
 
--- whether its digits, where they are decimal, are below 2 ^ 64
-abbrev pub has_value : Base → List ℕ → Bool
-has_value Decimal digits = nat_lt (number_from 0 digits) (2 ^ 64)
-has_value _ digits = true
+-- no width, or one from 1 to 65536
+abbrev pub width_of : List ℕ → Option (Option ℕ)
+width_of [] = Some None
+width_of (d ∷ ds) = width_in 65536 (number_from 0 (d ∷ ds))

@@ -25,7 +25,7 @@ pub record Waiting : Type 0 where
   pub place : Place
   pub words : List Word
 
--- the newest macro and the innermost branch come first, the oldest token does
+-- the innermost branch comes first, and so does the oldest token
 pub record State : Type 0 where
   pub mode : Mode
   pub waiting : Option Waiting
@@ -55,7 +55,7 @@ first_state = record { mode = Plain; waiting = None; macros = []; branches = [];
 abbrev pub same_bytes : List ℕ → List ℕ → Bool
 same_bytes = pointwise nat_eq
 
--- the text of a macro
+-- the text of the macro of a name
 abbrev pub text_of : List ℕ → List Macro → Option (List ℕ)
 text_of name [] = None
 text_of name (m ∷ ms) = if same_bytes m.name name then Some m.text else text_of name ms

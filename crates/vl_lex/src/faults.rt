@@ -27,3 +27,10 @@ pub enum LexKind {
     #[error("a directive whose words aren't of its form")]
     BadDirective,
 }
+
+/// A fault, and how many bytes behind a piece's first byte it stands.
+#[derive(Clone, Copy, Debug, PartialEq, Eq)]
+pub struct Found {
+    pub kind: LexKind,
+    pub behind: usize,
+}

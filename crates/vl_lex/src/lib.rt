@@ -1,15 +1,26 @@
 //! Tokens and directives of a netlist's text.
 #![tactic(auto)]
 
+mod applying;
+mod branch_lists;
 mod branches;
 mod bytes;
+mod constants;
 mod directives;
 mod faults;
+mod lexer;
+mod looks;
+mod macro_lists;
+mod macros;
+mod meanings;
+mod mode_steps;
 mod modes;
 mod numbers;
 mod origins;
 mod pieces;
+mod scales;
 mod sized;
+mod stepping;
 mod tokens;
 
 pub use faults::LexKind;

@@ -104,7 +104,7 @@ pub fn number_len(text: &[u8]) -> usize
 }
 
 // How many bytes at the front are decimal digits.
-fn decimal_len(bytes: &[u8]) -> usize
+pub fn decimal_len(bytes: &[u8]) -> usize
     ensures size { result ≡ prefix_len is_ascii_digit bytes.now }
     ensures within { result ≤ length bytes.now }
 {

@@ -25,7 +25,7 @@ pub fn base_of(letter: u8) -> Option<Base>
 }
 
 // The value of a hexadecimal digit, 16 where it is none.
-fn hex_value(digit: u8) -> u8
+pub fn hex_value(digit: u8) -> u8
     ensures { result ≡ hex_value digit }
 {
     if digit >= b'0' && digit <= b'9' {
@@ -39,13 +39,13 @@ fn hex_value(digit: u8) -> u8
     }
 }
 
-fn is_x(digit: u8) -> bool
+pub fn is_x(digit: u8) -> bool
     ensures { result ≡ is_x digit }
 {
     digit == b'x' || digit == b'X'
 }
 
-fn is_z(digit: u8) -> bool
+pub fn is_z(digit: u8) -> bool
     ensures { result ≡ is_z digit }
 {
     digit == b'z' || digit == b'Z'
