@@ -1,8 +1,10 @@
-//! Decimal numbers as they are spelled, and scales of time.
+//! Decimal numbers as texts spell them, and the ticks that they count.
 #![tactic(auto)]
 
-pub mod decimal;
-mod scales;
+mod decimal;
+mod reading;
+mod units;
 
 pub use decimal::{Decimal, TimeError};
-pub use scales::{Scale, Unit};
+pub use reading::{run_len, sign_of};
+pub use units::{Scale, Unit};

@@ -8,3 +8,5 @@ pub mod BitLaws
 pub mod BranchLaws
 pub mod Splits
 pub mod StepLaws
+pub mod OneReading
+pub mod SomeReading

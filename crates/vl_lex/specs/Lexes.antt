@@ -325,12 +325,16 @@ abbrev pub at_end : List Branch → State → Result (List Lexeme) Fault
 at_end [] s = Ok s.tokens
 at_end (b ∷ bs) s = Err (record { kind = UnbalancedIf; place = b.place })
 
--- The files, from the n-th on, are read one after another, where so many uses of macros may lie within one another.
+-- The n-th file is read, where so many uses of macros may lie within one another.
+abbrev pub IsFileRead : ℕ → ℕ → List ℕ → State → Outcome → Type 0
+IsFileRead deepest n text s o = (read : Outcome) × IsRead (Expands deepest) (File n) 0 text s read × (o ≡ at_file_end read)
+
+-- The files, from the n-th on, are read one after another.
 abbrev pub LexesFrom : ℕ → ℕ → List (List ℕ) → State → Result (List Lexeme) Fault → Type 0
 LexesFrom deepest n [] s o = o ≡ at_end s.branches s
 LexesFrom deepest n (text ∷ texts) s o =
-    (read : Outcome) × IsRead (Expands deepest) (File n) 0 text s read
-    × Then (at_file_end read) (λ next. LexesFrom deepest (n + 1) texts next o) (λ f. o ≡ Err f)
+    (between : Outcome) × IsFileRead deepest n text s between
+    × Then between (λ next. LexesFrom deepest (n + 1) texts next o) (λ f. o ≡ Err f)
 
 -- the byte behind the last that the first file that is too large may have
 abbrev pub too_large : ℕ → ℕ → List (List ℕ) → Option Fault

@@ -10,7 +10,7 @@ use Rattle.sg_time.specs.Seen.{number}
 use Rattle.vl_lex.specs.Tokens.{Timescale, Settings, Meaning, module_word, word_token, name_token, system_token, symbol_token, other_token, number_token, sized_token, pair_token, byte_token, Lexeme}
 use Rattle.vl_lex.specs.State as def
 use Rattle.vl_lex.specs.State.{State, Fault, Outcome}
-use Rattle.vl_lex.specs.Lexes.{Effect, expands, Leads, Checks}
+use Rattle.vl_lex.specs.Lexes.{Effect, expands, Leads, Checks, LexesFrom, at_end}
 use Rattle.vl_lex.specs.declared.faults.LexKind.{LexKind}
 use Rattle.vl_lex.specs.declared.tokens.Mark.{Mark}
 use Rattle.vl_lex.specs.declared.tokens.TokenKind.{TokenKind}
@@ -91,3 +91,25 @@ Steps effect place new (Ok None) = Leads NoText effect (Ok new)
 Steps effect place new (Ok (Some text)) = effect ≡ expands place text new
 Steps effect place new (Err (refused.Fault k p)) = Leads NoText effect (Err (record { kind = k; place = p }))
 Steps effect place new (Err refused.NoMemory) = Unit {0}
+
+-- The tokens that a call answers, or its fault, stand; want of memory is free.
+abbrev pub Stands : (Result (List Lexeme) Fault → Type 0) → Result (Vec Token) (Refused LexKind) → Type 0
+Stands Holds (Ok tokens) = Holds (Ok (map lexeme tokens.items))
+Stands Holds (Err (refused.Fault k p)) = Holds (Err (record { kind = k; place = p }))
+Stands Holds (Err refused.NoMemory) = Unit {0}
+
+-- a call answers this
+abbrev pub Tells : Result (List Lexeme) Fault → Result (Vec Token) (Refused LexKind) → Type 0
+Tells o (Ok tokens) = o ≡ Ok (map lexeme tokens.items)
+Tells o (Err (refused.Fault k p)) = o ≡ Err (record { kind = k; place = p })
+Tells o (Err refused.NoMemory) = Unit {0}
+
+-- the bytes of files
+abbrev pub texts : List (Vec ℕ) → List (List ℕ)
+texts files = map (λ f. f.items) files
+
+-- the files, from the n-th on, were read
+abbrev pub AreRead : ℕ → ℕ → List (List ℕ) → State → State → Result Unit (Refused LexKind) → Type 0
+AreRead deepest n files old new (Ok _) = LexesFrom deepest n files old (at_end new.branches new)
+AreRead deepest n files old new (Err (refused.Fault k p)) = LexesFrom deepest n files old (Err (record { kind = k; place = p }))
+AreRead deepest n files old new (Err refused.NoMemory) = Unit {0}

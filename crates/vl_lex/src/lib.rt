@@ -18,10 +18,12 @@ mod modes;
 mod numbers;
 mod origins;
 mod pieces;
+mod reading;
 mod scales;
 mod sized;
 mod stepping;
 mod tokens;
 
 pub use faults::LexKind;
+pub use reading::lex;
 pub use tokens::{Mark, Token, TokenKind};
