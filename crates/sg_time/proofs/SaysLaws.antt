@@ -1,10 +1,10 @@
 -- What the parts of bytes say is what the bytes say, and nothing else is.
-use Rattle.std.proofs.Common.{inl, inr, ◌≡◌, ℕ, List, Bool, true, false, refl, sym, ap, ◌∙◌, subst}
-use Rattle.std.specs.Prelude.{Option, Some, None, Result, Ok, Err, if◌then◌else◌, nat_lt, length}
+use Rattle.std.proofs.Common.{inl, inr, ◌≡◌, ℕ, List, refl, sym, ap, ◌∙◌}
+use Rattle.std.specs.Prelude.{Option, Some, None, Result, Ok, Err, nat_lt, length}
 use Rattle.std.proofs.lemmas.Bool.{cases_Bool}
 use Rattle.sg_time.specs.declared.decimal.TimeError.{TimeError}
 use Rattle.sg_time.specs.declared.decimal.TimeError.TheVariants as error
-use Rattle.sg_time.specs.Spelling.{Spelling, IsSpelling, spelled, Number, number_of, value_of, digits_of, significant, Spells, Says}
+use Rattle.sg_time.specs.Spelling.{Spelling, Number, value_of, digits_of, significant, Spells, Says}
 use Rattle.sg_time.specs.Reading.{parts_of, said_of}
 use Rattle.sg_time.proofs.Laws.{Found, parts_again, parts_found}
 

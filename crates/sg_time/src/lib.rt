@@ -3,6 +3,9 @@
 
 mod decimal;
 mod reading;
+mod scaling;
+#[cfg(test)]
+mod tests;
 mod units;
 
 pub use decimal::{Decimal, TimeError};
