@@ -146,7 +146,7 @@ line_front (b ∷ bs) lt = elim (cases_Bool (b == 10)) [
       rw y (piece_under Line F b bs m.tail 1 class.Gap (λ xs after. rw y refl) m.size m.stands)
   | inr n ↦
       rw n (piece_under Line (λ xs after. where_so (list_all is_inline xs) class.Line) b bs (prefix_len is_inline bs) (1 + prefix_len is_inline bs) class.Line
-        (λ xs after. rw n refl) (omega arith) (run_stands is_inline class.Line bs))
+      (λ xs after. rw n refl) (omega arith) (run_stands is_inline class.Line bs))
 ]
 
 pub piece_in_front : (mode : Mode) (text : List ℕ) → 0 < length text → IsPiece mode text (piece_in mode text).1 (piece_in mode text).0

@@ -99,7 +99,12 @@ impl Lexer {
         }
     }
 
-    fn open_branch(&mut self, wanted: bool, place: Place, words: &[Word]) -> Result<(), Refused<LexKind>>
+    fn open_branch(
+        &mut self,
+        wanted: bool,
+        place: Place,
+        words: &[Word],
+    ) -> Result<(), Refused<LexKind>>
         ensures { Gives (given place (λ test. Ok (with_branches (state self.old) (opened place test (state self.old).branches))) (test_of wanted (state self.old).macros (map word words.now))) (state self.new) result }
     {
         match test_of(wanted, &self.macros, words) {
@@ -141,7 +146,12 @@ impl Lexer {
     }
 
     // A directive that has its words is applied.
-    pub fn apply(&mut self, directive: Directive, place: Place, words: &[Word]) -> Result<(), Refused<LexKind>>
+    pub fn apply(
+        &mut self,
+        directive: Directive,
+        place: Place,
+        words: &[Word],
+    ) -> Result<(), Refused<LexKind>>
         ensures { Gives (applied directive place (map word words.now) (state self.old)) (state self.new) result }
     {
         match directive {

@@ -6,8 +6,8 @@ ghost use Rattle.vl_lex.specs.State.{same_bytes, is_taken};
 ghost use Rattle.vl_lex.specs.Directives.{are_no_effect, branch_directive, other_directive, directive_of, is_conditional, words_wanted, name_of, implicit_from};
 ghost use Rattle.vl_lex.specs.Seen.{word};
 
-use crate::bytes::{is_among, is_word};
 use crate::branches::Branch;
+use crate::bytes::{is_among, is_word};
 use sg_text::{Place, Text};
 
 /// A compiler directive.

@@ -27,3 +27,6 @@ mod tokens;
 pub use faults::LexKind;
 pub use reading::lex;
 pub use tokens::{Mark, Token, TokenKind};
+
+#[cfg(test)]
+mod tests;

@@ -200,4 +200,3 @@ pub fn plain_piece(text: &[u8]) -> (Class, usize)
     }
     other_piece(*b, rest, text)
 }
-

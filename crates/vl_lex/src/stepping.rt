@@ -81,8 +81,16 @@ impl Lexer {
         ensures { result ≡ mode_at (state self.now) }
     {
         match &self.waiting {
-            Some(waiting) => if is_define(waiting.directive) { Mode::Line } else { Mode::Plain },
-            None => if is_taken(&self.branches) { self.mode } else { Mode::Plain },
+            Some(waiting) => if is_define(waiting.directive) {
+                Mode::Line
+            } else {
+                Mode::Plain
+            },
+            None => if is_taken(&self.branches) {
+                self.mode
+            } else {
+                Mode::Plain
+            },
         }
     }
 
@@ -188,7 +196,12 @@ impl Lexer {
     }
 
     // A word of a directive that waits for one.
-    fn take_word(&mut self, waiting: Waiting, is_name: bool, bytes: &[u8]) -> Result<(), Refused<LexKind>>
+    fn take_word(
+        &mut self,
+        waiting: Waiting,
+        is_name: bool,
+        bytes: &[u8],
+    ) -> Result<(), Refused<LexKind>>
         ensures { Gives (ready (with_word is_name bytes.now (waiting_seen waiting)) (state self.old)) (state self.new) result }
     {
         let mut waiting = waiting;
@@ -257,7 +270,12 @@ impl Lexer {
     }
 
     // A backquote with a name, in text that is taken.
-    fn direct(&mut self, origin: Origin, place: Place, name: &[u8]) -> Result<Option<Text>, Refused<LexKind>>
+    fn direct(
+        &mut self,
+        origin: Origin,
+        place: Place,
+        name: &[u8],
+    ) -> Result<Option<Text>, Refused<LexKind>>
         ensures steps { Steps (directed origin place name.now (directive_named name.now) (state self.old)) place (state self.new) result }
         ensures few { IfOk result (λ text. IfSome text (λ t. length t ≤ 2 ^ 28)) }
     {

@@ -26,14 +26,20 @@ pub enum TokenKind {
     /// A name that begins with `$`.
     System(Text),
     /// A number, and whether its spelling is 1 to 18 digits and nothing else.
-    Number { value: Decimal, whole: bool },
+    Number {
+        value: Decimal,
+        whole: bool,
+    },
     /// A sized constant, its bits from the left. Without a width it has the bits that its digits spell.
     Sized {
         width: Option<u32>,
         bits: Vec<Value>,
     },
     /// A change of an `edge` list: two of 0, 1 and x, where z is read as x.
-    Pair { from: Value, to: Value },
+    Pair {
+        from: Value,
+        to: Value,
+    },
     Symbol(Text),
     /// A byte of a table.
     Byte(u8),

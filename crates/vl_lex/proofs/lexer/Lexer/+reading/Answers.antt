@@ -27,7 +27,7 @@ read-returns-in_err-advance t c =
     let p = err_from_is_err_and c.from_residual.result c.from_residual.ensures.1 in
     let q = c.first_piece-class in
     rw (p.1, p.2) (read_stops c.args.left c.args.origin c.loop-rest.at c.args.text.now c.loop-rest.rest.now c.split_at.result.0.now (state c.args.self.now) (state c.loop-rest.self) (state c.advance.new.self) (state c.advance.new.self)
-      c.mode_at.result q.result.1 q.result.0 c.in_err-advance.field-0.0 c.mode_at.ensures q.ensures.piece c.split_at.ensures.front c.in_err-advance.ensures c.loop-rest.invariant.so_far)
+    c.mode_at.result q.result.1 q.result.0 c.in_err-advance.field-0.0 c.mode_at.ensures q.ensures.piece c.split_at.ensures.front c.in_err-advance.ensures c.loop-rest.invariant.so_far)
 
 pub read-loop-rest-preserved : goal.read-loop-rest-preserved
 read-loop-rest-preserved t c =
@@ -35,5 +35,5 @@ read-loop-rest-preserved t c =
     record {
       place = omega (arith, c.split_at.ensures.back_len);
       so_far = λ o h. c.loop-rest.invariant.so_far o (read_on c.args.left c.args.origin c.loop-rest.at c.loop-rest.rest.now c.split_at.result.0.now c.split_at.result.1.now (state c.loop-rest.self) (state c.advance.new.self)
-        c.mode_at.result q.result.1 q.result.0 o c.mode_at.ensures q.ensures.piece c.split_at.ensures.front c.split_at.ensures.back c.in_ok-advance.ensures h);
+          c.mode_at.result q.result.1 q.result.0 o c.mode_at.ensures q.ensures.piece c.split_at.ensures.front c.split_at.ensures.back c.in_ok-advance.ensures h);
     }
