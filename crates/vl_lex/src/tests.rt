@@ -3,6 +3,7 @@ use crate::*;
 use sg_logic::Value;
 use sg_text::{Place, Refused, Text};
 use std::alloc::{AllocError, Global};
+use std::process::Abort;
 use std::test::Fail;
 
 fn put_text(out: &mut String, name: &str, text: &[u8]) -> Result<(), AllocError> {
@@ -118,6 +119,31 @@ fn refusal(alloc: Global, texts: &[&str]) -> Result<Option<(LexKind, Place)>, Al
 
 fn at(file: u32, byte: u64) -> Place {
     Place { file, byte }
+}
+
+// Each text has these tokens.
+fn assert_shown(
+    rt: &impl Abort,
+    alloc: Global,
+    table: &[(&str, &str)],
+) -> Result<(), Refused<LexKind>> {
+    for (text, tokens) in table {
+        assert_eq!(rt; shown(alloc, &[text])?.as_str(), *tokens, "{text}");
+    }
+    Ok(())
+}
+
+// Each text is refused for a fault of this kind at this byte.
+fn assert_refused(
+    rt: &impl Abort,
+    alloc: Global,
+    table: &[(&str, LexKind, u64)],
+) -> Result<(), AllocError> {
+    for (text, kind, byte) in table {
+        let fault = Some((*kind, at(0, *byte)));
+        assert_eq!(rt; refusal(alloc, &[text])?, fault, "{text}");
+    }
+    Ok(())
 }
 
 // Lines of a file, and their tokens.
@@ -246,60 +272,60 @@ fn the_usual_files(rt: HostRuntime) -> Result<(), Fail> {
     Ok(())
 }
 
+const TOKENS_OF_TEXTS: [(&str, &str); 10] = [
+    ("a+:b===c", "name:a + : name:b === name:c"),
+    ("PATHPULSE$a$b \\esc", "name:PATHPULSE$a$b name:esc"),
+    ("(*) (* a *) b", "( other:* ) name:b"),
+    (
+        "\"x y\" $ \\ `1",
+        "other:\"x y\" other:$ other:\\ other:` number:1",
+    ),
+    ("// c\n/* d */ e", "name:e"),
+    (
+        "edge [011, 1z, zX]",
+        "word:edge [ pair:01 number:1 , pair:1x , other:zX ]",
+    ),
+    ("01 edge (01", "number:1 word:edge ( number:1"),
+    (
+        "table xendtable 01",
+        "word:table byte:x word:endtable number:1",
+    ),
+    (
+        "table `A(* \" endtable",
+        "word:table byte:` byte:A byte:( byte:* byte:\" word:endtable",
+    ),
+    (
+        "table / /* c */ endtable",
+        "word:table byte:/ word:endtable",
+    ),
+];
+
 #[test]
 fn tokens_of_texts(rt: HostRuntime) -> Result<(), Fail> {
-    for (text, tokens) in [
-        ("a+:b===c", "name:a + : name:b === name:c"),
-        ("PATHPULSE$a$b \\esc", "name:PATHPULSE$a$b name:esc"),
-        ("(*) (* a *) b", "( other:* ) name:b"),
-        (
-            "\"x y\" $ \\ `1",
-            "other:\"x y\" other:$ other:\\ other:` number:1",
-        ),
-        ("// c\n/* d */ e", "name:e"),
-        (
-            "edge [011, 1z, zX]",
-            "word:edge [ pair:01 number:1 , pair:1x , other:zX ]",
-        ),
-        ("01 edge (01", "number:1 word:edge ( number:1"),
-        (
-            "table xendtable 01",
-            "word:table byte:x word:endtable number:1",
-        ),
-        (
-            "table `A(* \" endtable",
-            "word:table byte:` byte:A byte:( byte:* byte:\" word:endtable",
-        ),
-        (
-            "table / /* c */ endtable",
-            "word:table byte:/ word:endtable",
-        ),
-    ] {
-        assert_eq!(rt; shown(rt.alloc(), &[text])?.as_str(), tokens, "{text}");
-    }
+    assert_shown(&rt, rt.alloc(), &TOKENS_OF_TEXTS)?;
     Ok(())
 }
 
+const NUMBERS_AND_CONSTANTS: [(&str, &str); 11] = [
+    (
+        "1e5 1e 1._5 .5",
+        "decimal:1e5 number:1 name:e decimal:1e0 name:_5 decimal:5e-1",
+    ),
+    ("123456789012345678", "number:123456789012345678"),
+    ("1234567890123456789", "other:1234567890123456789"),
+    ("0123456789012345678", "decimal:123456789012345678e0"),
+    ("12'hx 'd10 'd0", "bits12:xxxxxxxxxxxx bits:1010 bits:0"),
+    ("4'b1 4'Bz1 2'b101", "bits4:0001 bits4:zzz1 bits2:01"),
+    ("8'o17 6'hZf", "bits8:00001111 bits6:zz1111"),
+    ("65537'b1 0'b1", "other:65537'b1 other:0'b1"),
+    ("3'd18446744073709551615", "bits3:111"),
+    ("3'd18446744073709551616", "other:3'd18446744073709551616"),
+    ("1 'b0 1'c", "number:1 bits:0 number:1 other:' name:c"),
+];
+
 #[test]
 fn numbers_and_constants(rt: HostRuntime) -> Result<(), Fail> {
-    for (text, tokens) in [
-        (
-            "1e5 1e 1._5 .5",
-            "decimal:1e5 number:1 name:e decimal:1e0 name:_5 decimal:5e-1",
-        ),
-        ("123456789012345678", "number:123456789012345678"),
-        ("1234567890123456789", "other:1234567890123456789"),
-        ("0123456789012345678", "decimal:123456789012345678e0"),
-        ("12'hx 'd10 'd0", "bits12:xxxxxxxxxxxx bits:1010 bits:0"),
-        ("4'b1 4'Bz1 2'b101", "bits4:0001 bits4:zzz1 bits2:01"),
-        ("8'o17 6'hZf", "bits8:00001111 bits6:zz1111"),
-        ("65537'b1 0'b1", "other:65537'b1 other:0'b1"),
-        ("3'd18446744073709551615", "bits3:111"),
-        ("3'd18446744073709551616", "other:3'd18446744073709551616"),
-        ("1 'b0 1'c", "number:1 bits:0 number:1 other:' name:c"),
-    ] {
-        assert_eq!(rt; shown(rt.alloc(), &[text])?.as_str(), tokens, "{text}");
-    }
+    assert_shown(&rt, rt.alloc(), &NUMBERS_AND_CONSTANTS)?;
     Ok(())
 }
 
@@ -318,69 +344,69 @@ fn the_widest_constant(rt: HostRuntime) -> Result<(), Fail> {
     Ok(())
 }
 
+const DIRECTIVES: [(&str, &str); 11] = [
+    ("`timescale 10 ps /\n100fs module", "module(-11/-13)"),
+    ("`timescale 100s/1s module", "module(2/0)"),
+    (
+        "`celldefine macromodule `endcelldefine module",
+        "module(-9/-12 cell) module(-9/-12)",
+    ),
+    (
+        "`default_nettype none module `default_nettype wire module",
+        "module(-9/-12 explicit) module(-9/-12)",
+    ),
+    (
+        "`timescale 1ps/1fs `celldefine `default_nettype none `resetall module",
+        "module(-9/-12)",
+    ),
+    (
+        "`nounconnected_drive `delay_mode_path `suppress_faults a",
+        "name:a",
+    ),
+    (
+        "`nosuppress_faults `enable_portfaults `disable_portfaults a",
+        "name:a",
+    ),
+    ("`define A b `C // d\n`define C 1\n`A;", "name:b number:1 ;"),
+    (
+        "`define A 1\n`define A 2\n`A `undef A\n`ifdef A a `else b `endif",
+        "number:2 name:b",
+    ),
+    (
+        "`define T table\n`T 01 endtable",
+        "word:table byte:0 byte:1 word:endtable",
+    ),
+    (
+        "`define E [01\nedge `E 1x]",
+        "word:edge [ pair:01 pair:1x ]",
+    ),
+];
+
 #[test]
 fn directives(rt: HostRuntime) -> Result<(), Fail> {
-    for (text, tokens) in [
-        ("`timescale 10 ps /\n100fs module", "module(-11/-13)"),
-        ("`timescale 100s/1s module", "module(2/0)"),
-        (
-            "`celldefine macromodule `endcelldefine module",
-            "module(-9/-12 cell) module(-9/-12)",
-        ),
-        (
-            "`default_nettype none module `default_nettype wire module",
-            "module(-9/-12 explicit) module(-9/-12)",
-        ),
-        (
-            "`timescale 1ps/1fs `celldefine `default_nettype none `resetall module",
-            "module(-9/-12)",
-        ),
-        (
-            "`nounconnected_drive `delay_mode_path `suppress_faults a",
-            "name:a",
-        ),
-        (
-            "`nosuppress_faults `enable_portfaults `disable_portfaults a",
-            "name:a",
-        ),
-        ("`define A b `C // d\n`define C 1\n`A;", "name:b number:1 ;"),
-        (
-            "`define A 1\n`define A 2\n`A `undef A\n`ifdef A a `else b `endif",
-            "number:2 name:b",
-        ),
-        (
-            "`define T table\n`T 01 endtable",
-            "word:table byte:0 byte:1 word:endtable",
-        ),
-        (
-            "`define E [01\nedge `E 1x]",
-            "word:edge [ pair:01 pair:1x ]",
-        ),
-    ] {
-        assert_eq!(rt; shown(rt.alloc(), &[text])?.as_str(), tokens, "{text}");
-    }
+    assert_shown(&rt, rt.alloc(), &DIRECTIVES)?;
     Ok(())
 }
 
+const BRANCHES: [(&str, &str); 4] = [
+    (
+        "`define B\n`ifdef A a `ifdef B b `endif `elsif B c `ifndef B d `else e `endif `else f `endif g",
+        "name:c name:e name:g",
+    ),
+    ("`define B\n`ifdef B a `elsif B b `else c `endif", "name:a"),
+    (
+        "`ifdef A \u{1} `nothing `timescale 5 `A `else a `endif",
+        "name:a",
+    ),
+    (
+        "`ifdef A `ifdef `elsif 5 `else `else `endif `endif a",
+        "name:a",
+    ),
+];
+
 #[test]
 fn branches(rt: HostRuntime) -> Result<(), Fail> {
-    for (text, tokens) in [
-        (
-            "`define B\n`ifdef A a `ifdef B b `endif `elsif B c `ifndef B d `else e `endif `else f `endif g",
-            "name:c name:e name:g",
-        ),
-        ("`define B\n`ifdef B a `elsif B b `else c `endif", "name:a"),
-        (
-            "`ifdef A \u{1} `nothing `timescale 5 `A `else a `endif",
-            "name:a",
-        ),
-        (
-            "`ifdef A `ifdef `elsif 5 `else `else `endif `endif a",
-            "name:a",
-        ),
-    ] {
-        assert_eq!(rt; shown(rt.alloc(), &[text])?.as_str(), tokens, "{text}");
-    }
+    assert_shown(&rt, rt.alloc(), &BRANCHES)?;
     Ok(())
 }
 
@@ -400,42 +426,38 @@ fn tokens_stand_at_their_first_byte(rt: HostRuntime) -> Result<(), Fail> {
     Ok(())
 }
 
+const EACH_REFUSAL: [(&str, LexKind, u64); 22] = [
+    ("a\u{1}", LexKind::BadByte, 1),
+    ("\u{7f}", LexKind::BadByte, 0),
+    ("a é", LexKind::BadByte, 2),
+    ("(* \u{1} *)", LexKind::BadByte, 3),
+    ("`define A b \u{1}\n", LexKind::BadByte, 12),
+    ("/* x", LexKind::UnendedComment, 0),
+    ("a (* b", LexKind::UnendedComment, 2),
+    ("`ifdef A /* `endif", LexKind::UnendedComment, 9),
+    ("a \"b", LexKind::UnendedText, 2),
+    ("a `b", LexKind::UnknownDirective, 2),
+    ("`define A `undef A\n`A", LexKind::UnknownDirective, 19),
+    ("a `endif", LexKind::UnbalancedIf, 2),
+    ("`ifdef A `ifndef B", LexKind::UnbalancedIf, 9),
+    ("`ifdef A `else `elsif B `endif", LexKind::UnbalancedIf, 15),
+    (
+        "`define A `A\nmodule t;\n`A\nendmodule",
+        LexKind::MacroTooDeep,
+        23,
+    ),
+    ("`timescale 1ps/1ns", LexKind::BadDirective, 0),
+    ("`timescale 2ns/1ns", LexKind::BadDirective, 0),
+    ("a `define A(b) b\n", LexKind::BadDirective, 2),
+    ("`define\nA", LexKind::BadDirective, 0),
+    ("`default_nettype tri", LexKind::BadDirective, 0),
+    ("`ifdef \\A \n", LexKind::BadDirective, 0),
+    ("a `undef", LexKind::BadDirective, 2),
+];
+
 #[test]
 fn each_refusal(rt: HostRuntime) -> Result<(), Fail> {
-    for (text, kind, byte) in [
-        ("a\u{1}", LexKind::BadByte, 1),
-        ("\u{7f}", LexKind::BadByte, 0),
-        ("a é", LexKind::BadByte, 2),
-        ("(* \u{1} *)", LexKind::BadByte, 3),
-        ("`define A b \u{1}\n", LexKind::BadByte, 12),
-        ("/* x", LexKind::UnendedComment, 0),
-        ("a (* b", LexKind::UnendedComment, 2),
-        ("`ifdef A /* `endif", LexKind::UnendedComment, 9),
-        ("a \"b", LexKind::UnendedText, 2),
-        ("a `b", LexKind::UnknownDirective, 2),
-        ("`define A `undef A\n`A", LexKind::UnknownDirective, 19),
-        ("a `endif", LexKind::UnbalancedIf, 2),
-        ("`ifdef A `ifndef B", LexKind::UnbalancedIf, 9),
-        ("`ifdef A `else `elsif B `endif", LexKind::UnbalancedIf, 15),
-        (
-            "`define A `A\nmodule t;\n`A\nendmodule",
-            LexKind::MacroTooDeep,
-            23,
-        ),
-        ("`timescale 1ps/1ns", LexKind::BadDirective, 0),
-        ("`timescale 2ns/1ns", LexKind::BadDirective, 0),
-        ("a `define A(b) b\n", LexKind::BadDirective, 2),
-        ("`define\nA", LexKind::BadDirective, 0),
-        ("`default_nettype tri", LexKind::BadDirective, 0),
-        ("`ifdef \\A \n", LexKind::BadDirective, 0),
-        ("a `undef", LexKind::BadDirective, 2),
-    ] {
-        assert_eq!(rt;
-            refusal(rt.alloc(), &[text])?,
-            Some((kind, at(0, byte))),
-            "{text}"
-        );
-    }
+    assert_refused(&rt, rt.alloc(), &EACH_REFUSAL)?;
     Ok(())
 }
 
@@ -473,25 +495,6 @@ fn macros_nest_sixteen_deep(rt: HostRuntime) -> Result<(), Fail> {
     );
     let refused = refusal(alloc, &[chain(alloc, 17)?.as_str()])?;
     assert_eq!(rt; refused.map(|fault| fault.0), Some(LexKind::MacroTooDeep));
-    Ok(())
-}
-
-fn blanks(alloc: Global, count: usize) -> Result<Vec<u8>, AllocError> {
-    vec![in alloc; b' '; count]
-}
-
-#[test]
-fn a_file_of_2_to_the_28_bytes_is_the_largest(rt: HostRuntime) -> Result<(), Fail> {
-    let alloc = rt.alloc();
-    let mut files = Vec::new(alloc);
-    files.push(blanks(alloc, 1)?)?;
-    files.push(blanks(alloc, 268_435_457)?)?;
-    let place = at(1, 268_435_456);
-    let refused = match lex(alloc, &files) {
-        Err(Refused::Fault { kind, place }) => Some((kind, place)),
-        _ => None,
-    };
-    assert_eq!(rt; refused, Some((LexKind::FileTooLarge, place)));
     Ok(())
 }
 
