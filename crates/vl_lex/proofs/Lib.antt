@@ -10,3 +10,4 @@ pub mod Splits
 pub mod StepLaws
 pub mod OneReading
 pub mod SomeReading
+pub mod Examples

@@ -1,13 +1,13 @@
 -- What is found in a mode is a piece of that mode.
-use Rattle.std.proofs.Common.{◌≡◌, ℕ, zero, suc, ◌+◌, ◌-◌, ◌<◌, ◌≤◌, List, [], ◌∷◌, length, take, drop, Bool, true, false, refl, sym, ap, ◌∙◌, arith, subst, inl, inr}
-use Rattle.std.specs.Prelude.{Option, Some, None, ◌==◌, ◌&&◌, not, if◌then◌else◌, nat_eq, codes}
+use Rattle.std.proofs.Common.{◌≡◌, ℕ, zero, suc, ◌+◌, ◌<◌, ◌≤◌, List, [], ◌∷◌, length, take, drop, true, false, refl, sym, ap, ◌∙◌, arith, inl, inr}
+use Rattle.std.specs.Prelude.{Option, Some, None, ◌==◌, ◌&&◌, not, nat_eq, codes}
 use Rattle.std.specs.List.{list_all, prefix_len}
 use lib.Pointwise.{pointwise}
-use Rattle.std.proofs.lemmas.Bool.{cases_Bool, eqb-true, and_parts, and_left, false_from_ne_true}
+use Rattle.std.proofs.lemmas.Bool.{cases_Bool, eqb-true, and_parts, false_from_ne_true}
 use Rattle.std.proofs.lemmas.List.{length-take, length-take-le}
 use Rattle.vl_lex.specs.Bytes.{is_inline, first_of}
-use Rattle.vl_lex.specs.Pieces.{class_of, where_so, is_alone, slash_class}
-use Rattle.vl_lex.specs.Modes.{is_value_byte, edge_class, begins_name_byte, is_endtable, cell_of, cell_or, cell_from, table_class, line_class, class_in, IsPiece}
+use Rattle.vl_lex.specs.Pieces.{class_of, where_so, is_alone}
+use Rattle.vl_lex.specs.Modes.{is_value_byte, edge_class, begins_name_byte, is_endtable, cell_of, cell_or, cell_from, table_class, class_in, IsPiece}
 use Rattle.vl_lex.specs.Found.{slash_piece, piece_of, edge_piece, cell_piece, table_piece, line_piece, piece_in}
 use Rattle.vl_lex.specs.declared.bytes.First.{First}
 use Rattle.vl_lex.specs.declared.bytes.First.TheVariants.{Blank, Letter, Backslash, Dollar, Quote, Tick, Apostrophe, Slash, Paren, Mark, Bad}

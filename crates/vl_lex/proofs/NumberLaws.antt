@@ -1,16 +1,16 @@
 -- The number that is found at the front is one, and no longer front is.
-use Rattle.std.proofs.Common.{◌≡◌, ℕ, zero, suc, ◌+◌, ◌-◌, ◌<◌, ◌≤◌, List, [], ◌∷◌, ◌++◌, length, length-append, length-drop, ◌⊎◌, take, drop, Bool, true, false, refl, sym, ap, ◌∙◌, arith, subst, inl, inr, append_assoc}
-use Rattle.std.specs.Prelude.{Option, Some, None, ◌==◌, ◌&&◌, ◌||◌, IfSome, unwrap_or, if◌then◌else◌}
+use Rattle.std.proofs.Common.{◌≡◌, ℕ, suc, ◌+◌, ◌-◌, ◌<◌, ◌≤◌, List, [], ◌∷◌, ◌++◌, length, length-append, length-drop, ◌⊎◌, take, drop, Bool, true, false, refl, sym, ap, ◌∙◌, arith, subst, inl, inr, append_assoc}
+use Rattle.std.specs.Prelude.{Option, Some, None, ◌==◌, ◌&&◌, ◌||◌, IfSome, unwrap_or}
 use Rattle.std.specs.List.{list_all, prefix_len}
 use Rattle.std.specs.Char.{is_ascii_digit}
-use Rattle.std.proofs.lemmas.Bool.{cases_Bool, cases_lt, eqb-true, eqb-false, ne_eqb, eq-eqb, and_parts, or_left, or_cases, false_from_ne_true}
+use Rattle.std.proofs.lemmas.Bool.{cases_Bool, eqb-true, eqb-false, ne_eqb, and_parts, or_cases, false_from_ne_true}
 use Rattle.std.proofs.lemmas.List.{take-append-drop, length-take, length-take-le, append-nil}
 use Rattle.std.proofs.Math.Seq.{take-append_seam, drop-append_seam, take-append-add}
 use Rattle.sg_time.specs.Spelling.{Sign, none, plus, minus, sign_bytes, IsRun, is_run_byte, Power, IsPower, power_bytes, fraction_bytes, Spelling, IsSpelling, spelled}
-use Rattle.sg_time.specs.Reading.{sign_at, run_len, fraction_at, power_at, parts_of}
-use Rattle.sg_time.proofs.Laws.{parts_found, parts_again, run_found, run_again, take_run, stops_power, fraction_run, fraction_found, sign_found, sign_again, power_mark, StopsSign, digit_stops_sign, StopsRun}
+use Rattle.sg_time.specs.Reading.{sign_at, run_len, parts_of}
+use Rattle.sg_time.proofs.Laws.{parts_found, parts_again, run_found, run_again, stops_power, sign_found, sign_again, power_mark, StopsSign, digit_stops_sign}
 use Rattle.vl_lex.specs.Pieces.{has_number, is_unsigned}
-use Rattle.vl_lex.specs.Numbers.{digits_len, signed_len, power_len, behind_run, number_len}
+use Rattle.vl_lex.specs.Numbers.{digits_len, power_len, behind_run, number_len}
 
 behind_some : (n : ℕ) (bs : List ℕ) → 0 < n → 0 < behind_run n bs
 behind_some n [] lt = lt

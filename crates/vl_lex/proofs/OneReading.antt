@@ -1,5 +1,5 @@
 -- A list of files is read in one way.
-use Rattle.std.proofs.Common.{◌≡◌, ℕ, zero, suc, ◌+◌, ◌-◌, ◌<◌, ◌≤◌, ◌^◌, List, [], ◌∷◌, length, take, drop, refl, sym, ap, ◌∙◌, arith, subst, inl, inr, map}
+use Rattle.std.proofs.Common.{◌≡◌, ℕ, zero, suc, ◌+◌, ◌^◌, List, [], ◌∷◌, length, take, drop, refl, sym, ap, ◌∙◌, arith, subst, inl, inr}
 use Rattle.std.specs.Prelude.{Option, Some, None, Result, Ok, Err}
 use Rattle.std.specs.Global.{Vec}
 use Rattle.std.proofs.lemmas.Bool.{cases_order}
@@ -9,7 +9,7 @@ use Rattle.sg_text.specs.declared.refusals.Refused.TheVariants as refused
 use Rattle.vl_lex.specs.Tokens.{Lexeme}
 use Rattle.vl_lex.specs.State.{Fault, State, Outcome, first_state}
 use Rattle.vl_lex.specs.Modes.{class_in, IsPiece, Piece, ArePieces}
-use Rattle.vl_lex.specs.Lexes.{Effect, comes_to, expands, defines, mode_at, effect, first_fault, or_state, Checks, Leads, Then, Reads, IsRead, Expands, at_file_end, at_end, IsFileRead, LexesFrom, too_large, LexesUnless, Lexes}
+use Rattle.vl_lex.specs.Lexes.{Effect, comes_to, expands, defines, mode_at, effect, first_fault, or_state, Checks, Leads, Then, Reads, IsRead, Expands, at_file_end, LexesFrom, too_large, LexesUnless, Lexes}
 use Rattle.vl_lex.specs.Seen.{Stands, Tells}
 use Rattle.vl_lex.specs.declared.faults.LexKind.{LexKind}
 use Rattle.vl_lex.specs.declared.modes.Mode.{Mode}

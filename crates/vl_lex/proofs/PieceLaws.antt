@@ -1,9 +1,9 @@
 -- What is found is a piece.
-use Rattle.std.proofs.Common.{◌≡◌, ℕ, zero, suc, ◌+◌, ◌-◌, ◌<◌, ◌≤◌, List, [], ◌∷◌, length, take, drop, Bool, true, false, refl, sym, ap, ◌∙◌, arith, subst, inl, inr}
-use Rattle.std.specs.Prelude.{Option, Some, None, ◌==◌, ◌&&◌, ◌||◌, IfSome, is_some, nat_lt, if◌then◌else◌, nat_le, nat_eq}
+use Rattle.std.proofs.Common.{◌≡◌, ℕ, zero, suc, ◌+◌, ◌-◌, ◌<◌, ◌≤◌, List, [], ◌∷◌, length, take, drop, Bool, true, false, refl, ap, ◌∙◌, arith, inl, inr}
+use Rattle.std.specs.Prelude.{Option, Some, None, ◌==◌, ◌&&◌, is_some, nat_lt, nat_le, nat_eq}
 use Rattle.std.specs.List.{list_all, list_any, prefix_len}
 use lib.Pointwise.{pointwise}
-use Rattle.std.proofs.lemmas.Bool.{cases_Bool, cases_lt, eqb-true, eqb-false, ne_eqb, eq-eqb, and_parts, and_left, and_right, le-leb, lt-leb, leb-true, ltb-true, ltb-false, cases_eq, or_cases, false_from_ne_true}
+use Rattle.std.proofs.lemmas.Bool.{cases_Bool, eqb-true, ne_eqb, eq-eqb, and_parts, le-leb, leb-true, ltb-true, ltb-false, or_cases, false_from_ne_true}
 use Rattle.std.proofs.lemmas.List.{take_all, drop_all, length-take}
 use Rattle.vl_lex.specs.declared.bytes.First.{First}
 use Rattle.vl_lex.specs.declared.bytes.First.TheVariants.{Blank, Letter, Backslash, Dollar, Quote, Tick, Apostrophe, Slash, Paren, Mark, Bad}
@@ -14,8 +14,8 @@ use Rattle.vl_lex.specs.Ends.{end_of, quote_end}
 use Rattle.vl_lex.specs.Sized.{sized_of}
 use Rattle.vl_lex.specs.Modes.{IsPiece, class_in}
 use Rattle.vl_lex.specs.declared.modes.Mode.{Mode}
-use Rattle.vl_lex.specs.declared.modes.Mode.TheVariants.{Plain, AfterEdge, Edges, Table, Line}
-use Rattle.vl_lex.specs.Pieces.{symbols, is_symbol, has_number, apostrophe_class, where_so, is_alone, ends_here, is_unended, ended_or, slash_class, paren_class, begins_paren, tick_class, long_class, mark_class, digit_class, point_class, class_from, class_of}
+use Rattle.vl_lex.specs.declared.modes.Mode.TheVariants.{Plain}
+use Rattle.vl_lex.specs.Pieces.{symbols, is_symbol, has_number, apostrophe_class, where_so, is_alone, ended_or, slash_class, paren_class, begins_paren, tick_class, long_class, mark_class, digit_class, point_class, class_from, class_of}
 use Rattle.vl_lex.specs.Found.{ended_piece, slash_piece, attribute_piece, paren_piece, quote_piece, tick_piece, symbol_len, long_piece, mark_piece, point_piece, apostrophe_piece, digit_piece, piece_from, piece_of}
 use Rattle.std.specs.Char.{is_ascii_digit}
 use Rattle.sg_time.specs.Reading.{parts_of}

@@ -1,12 +1,12 @@
 -- The sized constant that is found at the front is one, and no longer front is.
-use Rattle.std.proofs.Common.{◌≡◌, ℕ, zero, suc, ◌+◌, ◌-◌, ◌<◌, ◌≤◌, List, [], ◌∷◌, ◌++◌, length, length-append, length-drop, take, drop, Bool, true, false, refl, sym, ap, ◌∙◌, arith, subst, inl, inr}
-use Rattle.std.specs.Prelude.{Option, Some, None, is_some, ◌==◌, ◌&&◌, if◌then◌else◌}
+use Rattle.std.proofs.Common.{◌≡◌, ℕ, zero, suc, ◌+◌, ◌-◌, ◌<◌, ◌≤◌, List, [], ◌∷◌, ◌++◌, length, length-append, take, drop, Bool, true, false, refl, sym, ap, ◌∙◌, arith, subst, inl, inr}
+use Rattle.std.specs.Prelude.{Option, Some, None, is_some, ◌==◌}
 use Rattle.std.specs.List.{list_all, prefix_len}
 use Rattle.std.specs.Char.{is_ascii_digit}
-use Rattle.std.proofs.lemmas.Bool.{cases_Bool, cases_lt, eqb-true, eqb-false, ne_eqb, and_parts}
-use Rattle.std.proofs.lemmas.List.{take-append-drop, length-take-le, take-append-le, take_all, append-nil}
+use Rattle.std.proofs.lemmas.Bool.{cases_Bool, cases_lt, eqb-true, ne_eqb, and_parts}
+use Rattle.std.proofs.lemmas.List.{take-append-drop, length-take-le, take-append-le, append-nil}
 use Rattle.std.proofs.Math.Seq.{take-append_seam, drop-append_seam, take-append-add}
-use Rattle.vl_lex.specs.Sized.{base_of, is_digit_of, Sized, with_digits, behind_width, sized_of}
+use Rattle.vl_lex.specs.Sized.{base_of, is_digit_of, with_digits, behind_width, sized_of}
 use Rattle.vl_lex.specs.Numbers.{digits_size, behind_base, base_size, sized_len}
 use Rattle.vl_lex.specs.declared.sized.Base.{Base}
 use Rattle.vl_lex.proofs.Runs.{run_form, run_longest}

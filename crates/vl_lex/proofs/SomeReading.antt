@@ -1,12 +1,12 @@
 -- Each list of files is read with some outcome: a token list, or a fault.
-use Rattle.std.proofs.Common.{◌≡◌, ℕ, zero, suc, ◌+◌, ◌-◌, ◌<◌, ◌≤◌, ◌^◌, List, [], ◌∷◌, length, length-drop, take, drop, refl, sym, ap, ◌∙◌, arith, subst}
+use Rattle.std.proofs.Common.{◌≡◌, ℕ, zero, suc, ◌+◌, ◌<◌, ◌≤◌, ◌^◌, List, [], ◌∷◌, length, length-drop, take, drop, refl, arith}
 use Rattle.std.specs.Prelude.{Option, Some, None, Result, Ok, Err}
 use Rattle.sg_text.specs.declared.places.Place.{Place}
 use Rattle.vl_lex.specs.Tokens.{Lexeme}
 use Rattle.vl_lex.specs.State.{Fault, State, Outcome, first_state}
-use Rattle.vl_lex.specs.Modes.{IsPiece, Piece, ArePieces}
+use Rattle.vl_lex.specs.Modes.{IsPiece}
 use Rattle.vl_lex.specs.Found.{piece_in}
-use Rattle.vl_lex.specs.Lexes.{Effect, comes_to, expands, defines, mode_at, effect, first_fault, or_state, Leads, Then, Reads, IsRead, Expands, at_file_end, at_end, LexesFrom, too_large, LexesUnless, Lexes}
+use Rattle.vl_lex.specs.Lexes.{Effect, comes_to, expands, defines, mode_at, effect, first_fault, or_state, Leads, Then, IsRead, Expands, at_file_end, at_end, LexesFrom, too_large, LexesUnless, Lexes}
 use Rattle.vl_lex.specs.declared.origins.Origin.{Origin}
 use Rattle.vl_lex.specs.declared.origins.Origin.TheVariants.{File, Macro as InMacro}
 use Rattle.vl_lex.specs.declared.pieces.Class.{Class}

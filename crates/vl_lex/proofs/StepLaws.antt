@@ -1,14 +1,14 @@
 -- What the steps of the code come to.
-use Rattle.std.proofs.Common.{◌≡◌, ℕ, zero, suc, ◌+◌, ◌<◌, length, get_or, arith, List, [], ◌∷◌, take, drop, refl, sym, ap, ◌∙◌, subst}
-use Rattle.std.specs.Prelude.{Option, Some, None, Result, Ok, Err}
+use Rattle.std.proofs.Common.{◌≡◌, ℕ, suc, ◌+◌, ◌<◌, length, get_or, arith, List, [], ◌∷◌, take, drop, refl, sym, ap, ◌∙◌, subst}
+use Rattle.std.specs.Prelude.{Some, None, Result, Ok, Err}
 use Rattle.std.specs.Global.{Vec}
 use Rattle.sg_text.specs.declared.places.Place.{Place}
 use Rattle.sg_text.specs.declared.refusals.Refused.{Refused}
 use Rattle.sg_text.specs.declared.refusals.Refused.TheVariants as refused
 use Rattle.vl_lex.specs.State.{State, Fault, Outcome}
-use Rattle.vl_lex.specs.Lexes.{Effect, comes_to, expands, defines, effect, mode_at, Leads, Checks, Reads, IsRead, Expands, IsFileRead, LexesFrom}
+use Rattle.vl_lex.specs.Lexes.{Effect, comes_to, expands, defines, effect, mode_at, Leads, IsRead, Expands, IsFileRead, LexesFrom}
 use Rattle.vl_lex.specs.Tokens.{Lexeme}
-use Rattle.vl_lex.specs.Modes.{IsPiece, Piece}
+use Rattle.vl_lex.specs.Modes.{IsPiece}
 use Rattle.vl_lex.specs.declared.pieces.Class.{Class}
 use Rattle.vl_lex.specs.declared.modes.Mode.{Mode}
 use Rattle.vl_lex.specs.Seen.{IsChecked, Answers, NoText, Steps, texts, AreRead}

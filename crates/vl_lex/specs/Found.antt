@@ -1,8 +1,6 @@
 -- The first piece of a text, as the code finds it: its class and its size.
-use Rattle.std.specs.Prelude.{ℕ, zero, suc, ◌≡◌, ◌+◌, ◌-◌, ◌<◌, ◌≤◌, nat_le, nat_lt, ◌==◌, ◌&&◌, ◌||◌, not, nat_eq, List, [], ◌∷◌, length, take, drop, Bool, true, false, Option, Some, None, is_some, if◌then◌else◌}
-use Rattle.std.specs.List.{prefix_len, list_any, list_all}
-use lib.Pointwise.{pointwise}
-use Rattle.sg_time.specs.Reading.{parts_of}
+use Rattle.std.specs.Prelude.{ℕ, zero, suc, ◌+◌, nat_le, nat_lt, ◌==◌, ◌&&◌, List, [], ◌∷◌, length, take, drop, Option, Some, None, if◌then◌else◌}
+use Rattle.std.specs.List.{prefix_len}
 use Rattle.vl_lex.specs.Bytes.{is_name_start, is_name_byte, is_graphic, is_inline, first_of}
 use Rattle.vl_lex.specs.Ends.{end_of, quote_end}
 use Rattle.vl_lex.specs.declared.bytes.First.{First}
@@ -15,7 +13,6 @@ use Rattle.vl_lex.specs.declared.modes.Mode.{Mode}
 use Rattle.vl_lex.specs.declared.modes.Mode.TheVariants.{Plain, AfterEdge, Edges, Table, Line}
 use Rattle.vl_lex.specs.Numbers.{number_len, sized_len}
 use Rattle.std.specs.Char.{is_ascii_digit}
-use Rattle.sg_time.specs.Reading.{run_len, sign_at}
 
 abbrev pub ended_piece : Class → Class → ℕ → Option ℕ → List ℕ → Class × ℕ
 ended_piece c unended n None rest = (unended, n + length rest)

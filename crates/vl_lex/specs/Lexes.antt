@@ -5,14 +5,14 @@ use Rattle.std.specs.Char.{is_ascii_digit, is_ascii_graphic}
 use Rattle.sg_text.specs.declared.places.Place.{Place}
 use Rattle.sg_text.specs.Words.{is_reserved_word}
 use Rattle.sg_logic.specs.declared.values.Value.{Value}
-use Rattle.sg_logic.specs.declared.values.Value.TheVariants.{Zero, One, X, Z}
+use Rattle.sg_logic.specs.declared.values.Value.TheVariants.{Zero, One, X}
 use Rattle.sg_time.specs.Spelling.{Number}
 use Rattle.sg_time.specs.declared.decimal.TimeError.{TimeError}
 use Rattle.sg_time.specs.Reading.{parts_of, said_of}
 use Rattle.vl_lex.specs.Bytes.{is_blank, is_name_start, is_name_byte}
 use Rattle.vl_lex.specs.Sized.{Sized, sized_of, own_bits, to_width, width_of}
 use Rattle.vl_lex.specs.Tokens.{Settings, Meaning, module_word, word_token, name_token, system_token, symbol_token, other_token, number_token, sized_token, pair_token, byte_token, Lexeme}
-use Rattle.vl_lex.specs.State.{Macro, Word, Waiting, State, Fault, Outcome, fault, first_state, same_bytes, text_of, is_taken}
+use Rattle.vl_lex.specs.State.{Waiting, State, Fault, Outcome, fault, first_state, same_bytes, text_of, is_taken}
 use Rattle.vl_lex.specs.Directives.{directive_of, is_conditional, words_wanted, with_macro, applied}
 use Rattle.vl_lex.specs.Modes.{IsPiece, Piece, ArePieces}
 use Rattle.vl_lex.specs.declared.faults.LexKind.{LexKind}

@@ -1,5 +1,5 @@
 -- The state of the directives (IEEE 1364-2005, the clause on compiler directives), and the tokens so far.
-use Rattle.std.specs.Prelude.{ℕ, ℤ, pos, neg_ℤ, nat_eq, List, [], ◌∷◌, Bool, true, false, Option, Some, None, Result, Ok, Err, if◌then◌else◌}
+use Rattle.std.specs.Prelude.{ℕ, pos, neg_ℤ, nat_eq, List, [], ◌∷◌, Bool, true, false, Option, Some, None, Result, Err, if◌then◌else◌}
 use Rattle.std.specs.List.{list_all}
 use lib.Pointwise.{pointwise}
 use Rattle.sg_text.specs.declared.places.Place.{Place}

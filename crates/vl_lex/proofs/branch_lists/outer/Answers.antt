@@ -1,4 +1,3 @@
-use Rattle.std.proofs.Common.{◌≡◌, ◌-◌, arith}
 use Rattle.vl_lex.proofs.BranchLaws.{outer_reverse}
 use Rattle.vl_lex.proofs.branch_lists.outer.Goals as goal
 

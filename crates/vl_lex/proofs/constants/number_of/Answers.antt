@@ -1,4 +1,4 @@
-use Rattle.std.proofs.Common.{◌≡◌, ◌+◌, ◌-◌, ◌<◌, ◌≤◌, ◌^◌, arith}
+use Rattle.std.proofs.Common.{arith}
 use Rattle.vl_lex.proofs.BitLaws.{number_first}
 use Rattle.vl_lex.proofs.constants.number_of.Goals as goal
 

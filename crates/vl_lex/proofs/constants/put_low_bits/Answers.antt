@@ -1,6 +1,5 @@
-use Rattle.std.proofs.Common.{◌≡◌, ◌+◌, ◌-◌, ◌<◌, ◌≤◌, ◌^◌, ◌/◌, ◌%◌, ◌++◌, ◌∷◌, [], refl, sym, ap, ◌∙◌, arith}
+use Rattle.std.proofs.Common.{◌≡◌, sym, ◌∙◌, arith}
 use Rattle.std.proofs.lemmas.List.{append-nil}
-use Rattle.vl_lex.specs.Sized.{bit, low_bits}
 use Rattle.vl_lex.proofs.BitLaws.{low_bits_none, low_bits_more}
 use Rattle.vl_lex.proofs.constants.put_low_bits.Goals as goal
 

@@ -1,4 +1,4 @@
-use Rattle.std.proofs.Common.{◌≡◌, ◌+◌, ◌-◌, length, sym, ap, ◌∙◌, arith}
+use Rattle.std.proofs.Common.{sym, ap, ◌∙◌, arith}
 use Rattle.vl_lex.specs.Lexes.{fault_of}
 use Rattle.vl_lex.proofs.Splits.{check_on, check_stops}
 use Rattle.vl_lex.proofs.looks.check_text.Goals as goal

@@ -1,4 +1,4 @@
-use Rattle.std.proofs.Common.{rules, ◌≡◌, List, [], ◌∷◌, map, ℕ, Bool, true, false, ap, ◌∙◌, refl, inl, inr}
+use Rattle.std.proofs.Common.{rules, ◌≡◌, List, [], ◌∷◌, map, ℕ, ap, ◌∙◌, refl, inl, inr}
 use Rattle.std.specs.Prelude.{filter, not}
 use Rattle.std.proofs.lemmas.Bool.{cases_Bool}
 use Rattle.std.proofs.lemmas.Fn.{filter_same}

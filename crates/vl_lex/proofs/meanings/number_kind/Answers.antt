@@ -1,4 +1,4 @@
-use Rattle.std.proofs.Common.{◌≡◌, sym, refl}
+use Rattle.std.proofs.Common.{refl}
 use Rattle.sg_time.proofs.SaysLaws.{says_parts}
 use Rattle.vl_lex.proofs.meanings.number_kind.Goals as goal
 

@@ -1,8 +1,8 @@
-use Rattle.std.proofs.Common.{◌≡◌, ◌+◌, ◌-◌, ◌≤◌, length, refl, sym, ap, ◌∙◌, arith}
+use Rattle.std.proofs.Common.{◌-◌, arith}
 use Rattle.std.proofs.lemmas.Result.{err_from_is_err_and}
-use Rattle.vl_lex.specs.Lexes.{IsRead, Expands, Leads, effect, place_at}
-use Rattle.vl_lex.specs.Seen.{state, Answers, Steps}
-use Rattle.vl_lex.proofs.StepLaws.{step_done, step_fault, step_expands, too_deep, one_less, read_end, read_on, read_stops}
+use Rattle.vl_lex.specs.Lexes.{effect, place_at}
+use Rattle.vl_lex.specs.Seen.{state}
+use Rattle.vl_lex.proofs.StepLaws.{step_done, step_fault, too_deep, one_less, read_on, read_stops}
 use Rattle.vl_lex.proofs.lexer.Lexer.+reading.Goals as goal
 
 pub advance-returns-in_err-text : goal.advance-returns-in_err-text

@@ -1,4 +1,3 @@
-use Rattle.std.proofs.Common.{◌≡◌}
 use Rattle.vl_lex.proofs.lexer.Lexer.define.Goals as goal
 
 pub returns : goal.returns

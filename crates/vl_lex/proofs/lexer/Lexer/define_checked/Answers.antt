@@ -1,4 +1,3 @@
-use Rattle.std.proofs.Common.{◌≡◌}
 use Rattle.vl_lex.specs.Seen.{state}
 use Rattle.vl_lex.specs.Directives.{with_macro}
 use Rattle.vl_lex.proofs.StepLaws.{define_fault}
