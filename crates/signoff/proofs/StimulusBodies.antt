@@ -18,10 +18,10 @@ digit_last front end text number e =
     let some : 1 ≤ length end = leb-true 1 (length end) (and_parts _ _ parts.1).0 in
     let k = length end - 1 in
     let sizes : length front + k ≡ length text =
-      omega (arith, ap length e, length-append front end, length-append text (10 ∷ [])) in
+    omega (arith, ap length e, length-append front end, length-append text (10 ∷ [])) in
     let last : get_or end k 0 ≡ 10 =
-      sym (get_or-append-add front end k 0) ∙ (ap (λ n. get_or (front ++ end) n 0) sizes
-      ∙ (ap (λ t. get_or t (length text) 0) e ∙ get_or-append_seam text 10 [] 0)) in
+    sym (get_or-append-add front end k 0) ∙ (ap (λ n. get_or (front ++ end) n 0) sizes
+    ∙ (ap (λ t. get_or t (length text) 0) e ∙ get_or-append_seam text 10 [] 0)) in
     both_ways (is_digit 10) refl (subst (λ (d : ℕ). is_digit d ≡ true) last (AllPass-from_list_all is_digit end parts.0 k 0 (omega arith)))
 
 -- a text without the LF that ends it, if one does

@@ -69,8 +69,8 @@ described text body circuit l steps end short h read same is_end rise =
         steps = parts.0;
         end = parts.1;
         times =
-          ap (λ t. rise_to t (map (λ x. ticks_of x.digits) l.steps)) (sym is_end)
-          ∙ (ap (rise_to end) (sym (times_of circuit steps l.steps same)) ∙ sym rise);
+            ap (λ t. rise_to t (map (λ x. ticks_of x.digits) l.steps)) (sym is_end)
+            ∙ (ap (rise_to end) (sym (times_of circuit steps l.steps same)) ∙ sym rise);
       };
       is = same_stimulus _ _ _ _ same is_end;
     }

@@ -42,6 +42,7 @@ no_steps circuit text front last cut none l sound e =
     none l.steps (and_parts (list_all (is_at circuit) l.steps) (is_number l.end) sound).0 (snoc_parts front (map at_words l.steps) last (end_words l.end) (sym cut ∙ e)).0
 
 pub lines_are_read : (circuit : Circuit) (text : List ℕ) (front : List (List (List ℕ))) (last : List (List ℕ)) (l : Lines) → rows_of text ≡ front ++ last ∷ [] → (list_all (is_at circuit) l.steps ≡ true) × (front ≡ map at_words l.steps) → (is_number l.end ≡ true) × (last ≡ end_words l.end) → (are_lines circuit l ≡ true) × (rows_of text ≡ rows l)
-lines_are_read circuit text front last l cut steps end =
-    ( and_from (list_all (is_at circuit) l.steps) (is_number l.end) steps.0 end.0
-    , cut ∙ (ap (λ f. f ++ last ∷ []) steps.1 ∙ ap (λ w. map at_words l.steps ++ w ∷ []) end.1) )
+lines_are_read circuit text front last l cut steps end = (
+  and_from (list_all (is_at circuit) l.steps) (is_number l.end) steps.0 end.0,
+  cut ∙ (ap (λ f. f ++ last ∷ []) steps.1 ∙ ap (λ w. map at_words l.steps ++ w ∷ []) end.1),
+)

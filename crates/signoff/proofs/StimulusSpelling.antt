@@ -28,7 +28,7 @@ at_text l = codes "at " ++ l.digits ++ flat_map set_spelled l.sets
 apart : (p : ℕ → Bool) (c : ℕ) (xs : List ℕ) → p c ≡ false → list_all p xs ≡ true → All (λ b. (b == c) ≡ false) xs
 apart p c xs fails pass = λ k d within.
     false_from_ne_true _ (λ same. both_ways (p c) fails
-      (subst (λ (x : ℕ). p x ≡ true) (eqb-true _ c same) (AllPass-from_list_all p xs pass k d within)))
+    (subst (λ (x : ℕ). p x ≡ true) (eqb-true _ c same) (AllPass-from_list_all p xs pass k d within)))
 
 list_all_weaker : (p q : ℕ → Bool) → ((b : ℕ) → p b ≡ true → q b ≡ true) → (xs : List ℕ) → list_all p xs ≡ true → list_all q xs ≡ true
 list_all_weaker p q weaker [] h = refl
@@ -105,18 +105,18 @@ sets_in_line circuit (s ∷ sets) sound =
     ap (λ w. list_all is_line_byte (w ++ flat_map set_spelled sets)) (set_spelled_is s)
     ∙ (list_all-append is_line_byte (set_word s) (flat_map set_spelled sets)
     ∙ and_from (list_all is_line_byte (set_word s)) _
-      (list_all_weaker is_set_byte is_line_byte (λ b h. or_left (is_set_byte b) (b == 32) h) (set_word s) (set_bytes circuit s parts.0))
-      (sets_in_line circuit sets parts.1))
+    (list_all_weaker is_set_byte is_line_byte (λ b h. or_left (is_set_byte b) (b == 32) h) (set_word s) (set_bytes circuit s parts.0))
+    (sets_in_line circuit sets parts.1))
 
 no_feed : (circuit : Circuit) (l : AtLine) → is_at circuit l ≡ true → All (λ b. (b == 10) ≡ false) (at_text l)
 no_feed circuit l sound =
     let parts = and_parts (is_number l.digits) _ sound in
     let sets = (and_parts _ (list_all (sets_input circuit) l.sets) parts.1).1 in
     let bytes : list_all is_line_byte (at_text l) ≡ true =
-      list_all-append is_line_byte l.digits (flat_map set_spelled l.sets)
-      ∙ and_from (list_all is_line_byte l.digits) _
-        (list_all_weaker is_digit is_line_byte digit_in_line l.digits (digits_of l.digits parts.0))
-        (sets_in_line circuit l.sets sets) in
+    list_all-append is_line_byte l.digits (flat_map set_spelled l.sets)
+    ∙ and_from (list_all is_line_byte l.digits) _
+    (list_all_weaker is_digit is_line_byte digit_in_line l.digits (digits_of l.digits parts.0))
+    (sets_in_line circuit l.sets sets) in
     apart is_line_byte 10 (at_text l) refl bytes
 
 no_feed_in_end : (end : List ℕ) → is_number end ≡ true → All (λ b. (b == 10) ≡ false) (codes "end " ++ end)

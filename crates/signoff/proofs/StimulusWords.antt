@@ -41,9 +41,10 @@ pub record IsSplit (circuit : code_circuit.Circuit) (nets : List code_net.Net) (
 pub set_is_read : (circuit : code_circuit.Circuit) (nets : List code_net.Net) (word name : List ℕ) (letter : ℕ) (value : Value) → IsSplit circuit nets word name letter → true ≡ is_simple name → true ≡ list_any (λ net. is_input name (net_seen net)) nets → letter ≡ value_letter value → (sets_input (circuit_seen circuit) (record { name = name; value = value }) ≡ true) × (word ≡ set_word (record { name = name; value = value }))
 set_is_read circuit nets word name letter value h simple input e =
     let found : list_any (λ net. is_input name (net_seen net)) circuit.nets.items ≡ true =
-        ap (list_any (λ net. is_input name (net_seen net))) (sym h.of_circuit) ∙ sym input in
-    ( and_from (is_simple name) _ (sym simple) (list_any-map (λ n. net_seen n) (is_input name) circuit.nets.items ∙ found)
-    , h.split ∙ ap (λ l. name ++ 61 ∷ l ∷ []) e )
+    ap (list_any (λ net. is_input name (net_seen net))) (sym h.of_circuit) ∙ sym input in (
+      and_from (is_simple name) _ (sym simple) (list_any-map (λ n. net_seen n) (is_input name) circuit.nets.items ∙ found),
+      h.split ∙ ap (λ l. name ++ 61 ∷ l ∷ []) e,
+    )
 
 pub not_simple : (circuit : code_circuit.Circuit) (nets : List code_net.Net) (word name : List ℕ) (letter : ℕ) → IsSplit circuit nets word name letter → false ≡ is_simple name → (s : SetText) → sets_input (circuit_seen circuit) s ≡ true → word ≡ set_word s → ⊥
 not_simple circuit nets word name letter h isnt s sound e =
@@ -79,6 +80,7 @@ at_is_read circuit (x ∷ []) at d sets low first is_at number some sound e = ab
 at_is_read circuit (x ∷ y ∷ words) at d sets low first is_at number some sound e =
     let whole : take (suc (suc (length words)) - 2) words ≡ words = take_all _ words (omega arith) in
     let same : map (λ w. w.now) words ≡ map set_word sets = sym (ap (map (λ w. w.now)) whole) ∙ e in
-    let long : 1 ≤ length sets = some_sets words sets (rw whole at some) same in
-    ( and_from (is_number y.now) _ (sym number) (and_from (nat_le 1 (length sets)) _ (le-leb 1 (length sets) long) sound)
-    , ap (λ w. w ∷ y.now ∷ map (λ w. w.now) words) (first ∙ is_at) ∙ ap (λ ws. codes "at" ∷ y.now ∷ ws) same )
+    let long : 1 ≤ length sets = some_sets words sets (rw whole at some) same in (
+      and_from (is_number y.now) _ (sym number) (and_from (nat_le 1 (length sets)) _ (le-leb 1 (length sets) long) sound),
+      ap (λ w. w ∷ y.now ∷ map (λ w. w.now) words) (first ∙ is_at) ∙ ap (λ ws. codes "at" ∷ y.now ∷ ws) same,
+    )

@@ -108,7 +108,11 @@ fn read_set<'a>(word: &'a [u8], circuit: &Circuit) -> Option<SetText<'a>>
     }
 }
 
-fn read_sets<'a>(alloc: Global, words: &[&'a [u8]], circuit: &Circuit) -> Result<Option<Vec<SetText<'a>>>, AllocError>
+fn read_sets<'a>(
+    alloc: Global,
+    words: &[&'a [u8]],
+    circuit: &Circuit,
+) -> Result<Option<Vec<SetText<'a>>>, AllocError>
     ensures { IfOk result (λ read. Reads (map set_word) (list_all (sets_input (circuit_seen circuit.now))) (map (λ w. w.now) words.now) (option_map (λ sets. map (λ s. set_seen s) sets.items) read)) }
 {
     let mut sets = Vec::new(alloc);
@@ -122,11 +126,16 @@ fn read_sets<'a>(alloc: Global, words: &[&'a [u8]], circuit: &Circuit) -> Result
 }
 
 // The words `at`, a number and one set or more.
-fn read_at<'a>(alloc: Global, words: &[&'a [u8]], circuit: &Circuit) -> Result<Option<AtLine<'a>>, AllocError>
+fn read_at<'a>(
+    alloc: Global,
+    words: &[&'a [u8]],
+    circuit: &Circuit,
+) -> Result<Option<AtLine<'a>>, AllocError>
     ensures { IfOk result (λ read. Reads at_words (is_at (circuit_seen circuit.now)) (map (λ w. w.now) words.now) (option_map (λ l. at_seen l) read)) }
 {
     match words {
-        [at, digits, sets @ ..] if *at == b"at".as_slice() && is_number(digits) && !sets.is_empty() => {
+        [at, digits, sets @ ..]
+            if *at == b"at".as_slice() && is_number(digits) && !sets.is_empty() => {
             let Some(sets) = read_sets(alloc, sets, circuit)? else {
                 return Ok(None);
             };
@@ -136,7 +145,11 @@ fn read_at<'a>(alloc: Global, words: &[&'a [u8]], circuit: &Circuit) -> Result<O
     }
 }
 
-fn read_steps<'a>(alloc: Global, lines: &[&'a [u8]], circuit: &Circuit) -> Result<Option<Vec<AtLine<'a>>>, AllocError>
+fn read_steps<'a>(
+    alloc: Global,
+    lines: &[&'a [u8]],
+    circuit: &Circuit,
+) -> Result<Option<Vec<AtLine<'a>>>, AllocError>
     ensures { IfOk result (λ read. Reads (map at_words) (list_all (is_at (circuit_seen circuit.now))) (map (λ l. words_in l.now) lines.now) (option_map (λ steps. map (λ l. at_seen l) steps.items) read)) }
 {
     let mut steps = Vec::new(alloc);
@@ -162,7 +175,11 @@ fn read_end<'a>(words: &[&'a [u8]]) -> Option<&'a [u8]>
 
 /// The lines of a text without its last LF, if each step has a number and sets of inputs of the circuit, and the last
 /// line is an end.
-pub fn read_lines<'a>(alloc: Global, text: &'a [u8], circuit: &Circuit) -> Result<Option<Lines<'a>>, AllocError>
+pub fn read_lines<'a>(
+    alloc: Global,
+    text: &'a [u8],
+    circuit: &Circuit,
+) -> Result<Option<Lines<'a>>, AllocError>
     ensures { IfOk result (λ read. Reads rows (are_lines (circuit_seen circuit.now)) (rows_of text.now) (option_map (λ l. lines_seen false l) read)) }
 {
     let lines = lines_of(alloc, text)?;

@@ -28,7 +28,11 @@ fn value_of(sets: &[SetText<'_>], name: &[u8]) -> Option<Value>
     Some(set.value)
 }
 
-fn changes_of(alloc: Global, sets: &[SetText<'_>], circuit: &Circuit) -> Result<Vec<Change>, NoMemory>
+fn changes_of(
+    alloc: Global,
+    sets: &[SetText<'_>],
+    circuit: &Circuit,
+) -> Result<Vec<Change>, NoMemory>
     ensures { IfOk result (λ changes. map (λ c. change_seen c) changes.items ≡ sets_from 0 (circuit_seen circuit.now).nets (map (λ s. set_seen s) sets.now)) }
 {
     let mut changes = Vec::new(alloc);
@@ -57,7 +61,11 @@ fn step_of(alloc: Global, line: &AtLine<'_>, circuit: &Circuit) -> Result<Step, 
 }
 
 /// The steps of lines with numbers.
-pub fn steps_of(alloc: Global, lines: &[AtLine<'_>], circuit: &Circuit) -> Result<Vec<Step>, NoMemory>
+pub fn steps_of(
+    alloc: Global,
+    lines: &[AtLine<'_>],
+    circuit: &Circuit,
+) -> Result<Vec<Step>, NoMemory>
     requires { list_all (λ l. is_number_text l.digits.now) lines.now ≡ true }
     ensures { IfOk result (λ steps. map (λ s. step_seen s) steps.items ≡ map (step_in (circuit_seen circuit.now)) (map (λ l. at_seen l) lines.now)) }
 {

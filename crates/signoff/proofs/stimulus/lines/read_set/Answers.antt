@@ -19,8 +19,8 @@ returns-then-has_input c =
 pub returns-else-is_simple_name : goal.returns-else-is_simple_name
 returns-else-is_simple_name c =
     elim c.else-is_simple_name.branch [
-      else-is_simple_name-via-then-is_simple_name+else-has_input w ↦
-        no_input c.args.circuit.now w.deref.result.now _ _ _ (record { of_circuit = w.deref.ensures.value; split = c.in_ok-name.ensures.1 }) w.if-has_input.ensures
-    | else-is_simple_name-via-else-is_simple_name w ↦
-        not_simple c.args.circuit.now c.args.circuit.now.nets.items _ _ _ (record { of_circuit = refl; split = c.in_ok-name.ensures.1 }) w.if-is_simple_name.ensures
+      | else-is_simple_name-via-then-is_simple_name+else-has_input w ↦
+          no_input c.args.circuit.now w.deref.result.now _ _ _ (record { of_circuit = w.deref.ensures.value; split = c.in_ok-name.ensures.1 }) w.if-has_input.ensures
+      | else-is_simple_name-via-else-is_simple_name w ↦
+          not_simple c.args.circuit.now c.args.circuit.now.nets.items _ _ _ (record { of_circuit = refl; split = c.in_ok-name.ensures.1 }) w.if-is_simple_name.ensures
     ]
