@@ -191,6 +191,33 @@ const CONTROLLED: Row = Row {
     end: "3000",
 };
 
+// A gate may have more than two inputs.
+const THREE_INPUTS: Row = Row {
+    netlist: "module t (a, b, c, y); output y; input a, b, c; xnor (y, a, b, c); endmodule",
+    stimulus: "at 0 a=1 b=1 c=1\nat 1 c=0\nat 2 a=0 b=0\nend 3\n",
+    declarations: "$var wire 1 ! a $end\n$var wire 1 \" b $end\n$var wire 1 # c $end\n$var wire 1 $ y $end\n",
+    blocks: "#0\n$dumpvars\n1!\n1\"\n1#\n0$\n$end\n#1000\n0#\n1$\n#2000\n0!\n0\"\n#3000\n",
+    end: "3000",
+};
+
+// A run without sets keeps what is unknown.
+const WITHOUT_SETS: Row = Row {
+    netlist: INVERTER,
+    stimulus: "end 5\n",
+    declarations: TWO_PORTS,
+    blocks: "#0\n$dumpvars\nx!\nx\"\n$end\n#5000\n",
+    end: "5000",
+};
+
+// Ports are written in the order of the port list, whatever the order of their declarations.
+const OUTPUT_FIRST: Row = Row {
+    netlist: "module t (y, a); input a; output y; buf (y, a); endmodule",
+    stimulus: "at 0 a=1\nat 999999999999999 a=0\nend 999999999999999\n",
+    declarations: "$var wire 1 ! y $end\n$var wire 1 \" a $end\n",
+    blocks: "#0\n$dumpvars\n1!\n1\"\n$end\n#999999999999999000\n0!\n0\"\n",
+    end: "999999999999999000",
+};
+
 // Whether the run of a row is as it says.
 fn holds(alloc: Global, row: &Row) -> Result<bool, Fail> {
     let dump = joined(
@@ -221,6 +248,9 @@ fn small_circuits_have_the_dumps_worked_out_by_hand(rt: HostRuntime) -> Result<(
     assert!(rt; holds(alloc, &AT_THE_END)?, "the end at the last time");
     assert!(rt; holds(alloc, &TOGETHER)?, "inputs that change together");
     assert!(rt; holds(alloc, &CONTROLLED)?, "x beside 0");
+    assert!(rt; holds(alloc, &THREE_INPUTS)?, "three inputs");
+    assert!(rt; holds(alloc, &WITHOUT_SETS)?, "no sets");
+    assert!(rt; holds(alloc, &OUTPUT_FIRST)?, "the output first");
     Ok(())
 }
 
