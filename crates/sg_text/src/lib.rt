@@ -10,3 +10,6 @@ pub use places::Place;
 pub use refusals::{NoMemory, Refused};
 pub use texts::Text;
 pub use words::is_reserved;
+
+#[cfg(test)]
+mod tests;

@@ -1,8 +1,33 @@
--- The lemmas of this crate.
+-- The modules of this folder.
+pub mod VcdTexts
+pub mod Composed
+pub mod Told
+pub mod Worked
+pub mod NoViolations
+pub mod OneAnswer
+pub mod Promised
 pub mod NetlistSplitting
 pub mod NetlistSpelling
 pub mod NetlistReading
 pub mod NetlistLists
-pub mod NetlistBuilding
 pub mod NetlistSoundness
+pub mod NetlistBuilding
 pub mod NetlistLaws
+pub mod StimulusNumbers
+pub mod StimulusReading
+pub mod StimulusWords
+pub mod StimulusRows
+pub mod StimulusSets
+pub mod StimulusSpelling
+pub mod StimulusOneWay
+pub mod StimulusBodies
+pub mod StimulusLaws
+pub mod VcdWriting
+pub mod VcdRuns
+pub mod EngineRounds
+pub mod EngineTimes
+pub mod EngineRuns
+pub mod EngineStimulus
+pub mod EngineStands
+pub mod EngineSimulates
+pub mod FormExamples

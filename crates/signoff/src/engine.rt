@@ -5,10 +5,19 @@ ghost use Rattle.signoff.specs.Recording.{BrokeOff, CauseOf, KeepsOthers, NamesF
 ghost use Rattle.signoff.specs.Seen.{circuit_seen, spent_seen, stimulus_seen};
 
 mod recorder;
-
-pub use recorder::Recorder;
+mod rounds;
+mod runs;
+mod simulation;
+mod stimulated;
+#[cfg(test)]
+mod tests;
+mod times;
+mod transitions;
 
 use crate::circuits::{Circuit, Spent, Stimulus};
+use crate::engine::runs::make_times;
+use crate::engine::stimulated::Stimulated;
+pub use recorder::Recorder;
 use sg_io::{Shelf, ShelfError};
 use std::alloc::Global;
 
@@ -32,15 +41,11 @@ pub fn simulate<S: Shelf, R: Recorder<S>>(
         → BrokeOff (R.holds recorder.new shelf.new) (R.broken recorder.new shelf.new) (run_of_circuit (circuit_seen circuit.now) bound (stimulus_seen stimulus.now))) }
 
     ensures name { R.name recorder.new ≡ R.name recorder.old }
+    ensures circuit { R.circuit recorder.new ≡ R.circuit recorder.old }
     ensures others { KeepsOthers (R.name recorder.old) (S.files shelf.old) (S.files shelf.new) }
     ensures cause { CauseOf (S.fault_count shelf.old) (S.fault_count shelf.new) result }
     ensures named { NamesFaultOf (R.name recorder.old) (S.last_fault shelf.old) (S.last_fault shelf.new) result }
 {
-    let _ = alloc;
-    let _ = circuit;
-    let _ = stimulus;
-    let _ = bound;
-    let _ = shelf;
-    let _ = recorder;
-    Err(ShelfError::NoMemory)
+    let mut stimulated = Stimulated::new(alloc, circuit, stimulus)?;
+    make_times(alloc, &mut stimulated, stimulus.end, bound, shelf, recorder)
 }

@@ -1,0 +1,5 @@
+-- The modules of this folder.
+pub mod Corners
+pub mod Expansion
+pub mod GateDelay
+pub mod Limits

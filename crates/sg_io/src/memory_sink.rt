@@ -1,0 +1,90 @@
+// A sink in memory. It tells the bytes put to it, and its calls fail where they are listed.
+ghost use Rattle.std.specs.Prelude.{◌≡◌, [], OnOk, OnErr};
+
+use crate::listed::ListedCalls;
+use crate::prefix::first_bytes;
+use crate::{ShelfError, Sink};
+use sg_text::NoMemory;
+use std::alloc::Global;
+use std::marker::Model;
+
+/// Bytes in memory. Its calls to put are numbered from 0.
+#[derive(Debug, Drop)]
+pub struct MemorySink {
+    bytes: Vec<u8>,
+    calls: ListedCalls,
+    faults: u64,
+}
+
+impl Model for MemorySink {
+    ghost use Rattle.sg_io.specs.Memory.{SinkInMemory};
+
+    ghost Value = { SinkInMemory };
+
+    ghost view = { λ s. record { bytes = s.bytes.items; calls = s.calls; fault_count = s.faults } };
+}
+
+impl MemorySink {
+    ghost use Rattle.sg_io.specs.Listed.{with_listing};
+
+    /// A sink that holds no bytes. Takes no memory.
+    pub fn new(alloc: Global) -> MemorySink
+        ensures bytes { result.bytes ≡ [] }
+        ensures calls { result.calls ≡ record { made = 0; failing = [] } }
+        ensures faults { result.fault_count ≡ 0 }
+    {
+        MemorySink {
+            bytes: Vec::new(alloc),
+            calls: ListedCalls::new(alloc),
+            faults: 0,
+        }
+    }
+
+    /// Lets that call fail after `taken` bytes, at most all, were put. The last listing of a call holds.
+    pub fn fail_at(&mut self, call: u64, taken: u64) -> Result<(), NoMemory>
+        ensures ok { OnOk result (self.new.calls ≡ with_listing self.old.calls call taken) }
+        ensures err { OnErr result (self.new ≡ self.old) }
+        ensures bytes { self.new.bytes ≡ self.old.bytes }
+        ensures faults { self.new.fault_count ≡ self.old.fault_count }
+    {
+        self.calls.fail_at(call, taken)
+    }
+
+    /// The bytes put so far.
+    pub fn bytes(&self) -> &[u8]
+        ensures { result.now ≡ self.now.bytes }
+    {
+        &self.bytes
+    }
+}
+
+impl Sink for MemorySink {
+    ghost use Rattle.std.specs.Prelude.{Some};
+    ghost use Rattle.sg_io.specs.Faults.{Cause};
+    ghost use Rattle.sg_io.specs.Listed.{fails_after, after_call};
+    ghost use Rattle.sg_io.specs.Memory.{PutsListed, count_after};
+
+    ghost contents = { λ s. Some s.bytes };
+
+    ghost fault_count = { λ s. s.fault_count };
+
+    fn put(&mut self, bytes: &[u8]) -> Result<(), ShelfError>
+        ensures contents { PutsListed (fails_after self.old.calls) bytes.now result self.old.bytes self.new.bytes }
+        ensures calls { self.new.calls ≡ after_call self.old.calls }
+        ensures faults { self.new.fault_count ≡ count_after self.old.fault_count result }
+        ensures cause { Cause self.old.fault_count self.new.fault_count result }
+    {
+        match self.calls.next() {
+            Some(taken) => {
+                self.bytes.extend_from_slice(first_bytes(bytes, taken))?;
+                self.faults = self.faults.saturating_add(1);
+                Err(ShelfError::Failed)
+            }
+            None => Ok(self.bytes.extend_from_slice(bytes)?),
+        }
+    }
+
+    fn faults(&self) -> u64 {
+        self.faults
+    }
+}

@@ -1,0 +1,48 @@
+// What no clause says: that the calls succeed, and that the clauses mean what a reader takes them for.
+use crate::*;
+use std::test::Fail;
+
+#[test]
+fn a_line_feed_ends_its_own_line(rt: HostRuntime) {
+    for (byte, line) in [
+        (0, 1),
+        (2, 1),
+        (3, 2),
+        (5, 2),
+        (6, 3),
+        (7, 3),
+        (u64::MAX, 3),
+    ] {
+        let place = Place { file: 0, byte };
+        assert_eq!(rt; place.line_of(b"ab\ncd\n"), line, "at byte {byte}");
+    }
+    let start = Place { file: 0, byte: 0 };
+    assert_eq!(rt; start.line_of(b""), 1);
+    assert_eq!(rt; start.line_of(b"\n"), 1);
+}
+
+#[test]
+fn a_text_is_its_bytes(rt: HostRuntime) -> Result<(), Fail> {
+    let text = Text::copy(rt.alloc(), b"U1.Y")?;
+    assert_eq!(rt; text.bytes(), b"U1.Y".as_slice());
+    assert!(rt; text == Text::copy(rt.alloc(), b"U1.Y")?);
+    assert!(rt; text != Text::copy(rt.alloc(), b"U1.y")?);
+    Ok(())
+}
+
+#[test]
+fn reserved_words_are_whole_and_lower_case(rt: HostRuntime) {
+    let words: [&[u8]; 8] = [
+        b"module",
+        b"xnor",
+        b"bufif0",
+        b"library",
+        b"PATHPULSE$",
+        b"Module",
+        b"",
+        b"modul",
+    ];
+    for (i, word) in words.iter().enumerate() {
+        assert_eq!(rt; is_reserved(word), i < 4, "word {i}");
+    }
+}

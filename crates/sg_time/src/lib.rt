@@ -1,0 +1,13 @@
+//! Decimal numbers as texts spell them, and the ticks that they count.
+#![tactic(auto)]
+
+mod decimal;
+mod reading;
+mod scaling;
+#[cfg(test)]
+mod tests;
+mod units;
+
+pub use decimal::{Decimal, TimeError};
+pub use reading::{run_len, sign_of};
+pub use units::{Scale, Unit};

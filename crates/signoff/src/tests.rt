@@ -1,0 +1,419 @@
+// Whole runs over a shelf and a sink in memory. What they give was worked out by hand.
+use crate::answer::top;
+use crate::status::Status;
+use sg_io::{MemoryShelf, MemorySink, Shelf, Sink};
+use std::alloc::{AllocError, Global};
+use std::test::Fail;
+
+const WORDS: [&str; 6] = ["run", "t.v", "--stim", "t.st", "--vcd", "out.vcd"];
+
+const INVERTER: &str = "module t (a, y); input a; output y; not (y, a); endmodule\n";
+
+const RISE_AT_10: &str = "at 0 a=0\nat 10 a=1\nend 20\n";
+
+const SUMMARY: &str = "violations 0\nunannotated 0\nend 20000\n";
+
+const USAGE: &str =
+    "usage: signoff run NETLIST.. --stim F --vcd F [--sdf F] [--top NAME] [--corner min|typ|max] [--rounds N] [--wheel N] | signoff gen N\n";
+
+// The dump of the inverter, one piece for each append.
+const PIECES: [&str; 4] = [
+    "$version signoff 1 $end\n$timescale 1 ps $end\n$scope module t $end\n$var wire 1 ! a $end\n$var wire 1 \" y $end\n$upscope $end\n$enddefinitions $end\n",
+    "#0\n$dumpvars\n0!\n1\"\n$end\n",
+    "#10000\n1!\n0\"\n",
+    "#20000\n",
+];
+
+fn words_of(alloc: Global, words: &[&str]) -> Result<Vec<String>, AllocError> {
+    let mut all = Vec::new(alloc);
+    for word in words {
+        all.push(String::from_str(alloc, word)?)?;
+    }
+    Ok(all)
+}
+
+fn joined(alloc: Global, pieces: &[&str]) -> Result<Vec<u8>, AllocError> {
+    let mut text = Vec::new(alloc);
+    for piece in pieces {
+        text.extend_from_slice(piece.as_bytes())?;
+    }
+    Ok(text)
+}
+
+fn shelf_of(alloc: Global, netlist: &str, stimulus: &str) -> Result<MemoryShelf, Fail> {
+    let mut shelf = MemoryShelf::new(alloc);
+    shelf.hold("t.v", netlist.as_bytes())?;
+    shelf.hold("t.st", stimulus.as_bytes())?;
+    Ok(shelf)
+}
+
+// The status of a run of the two texts, where it makes the dump, and puts the report.
+fn status_of(
+    alloc: Global,
+    netlist: &str,
+    stimulus: &str,
+    dump: &[u8],
+    report: &str,
+) -> Result<Option<Status>, Fail> {
+    let mut shelf = shelf_of(alloc, netlist, stimulus)?;
+    let mut sink = MemorySink::new(alloc);
+    let words = words_of(alloc, &WORDS)?;
+    let status = top(alloc, &words, &mut shelf, &mut sink);
+    if shelf.bytes("out.vcd") == Some(dump) && sink.bytes() == report.as_bytes() {
+        Ok(Some(status))
+    } else {
+        Ok(None)
+    }
+}
+
+#[test]
+fn the_inverter_runs_to_its_end(rt: HostRuntime) -> Result<(), Fail> {
+    let alloc = rt.alloc();
+    let dump = joined(alloc, &PIECES)?;
+    let status = status_of(alloc, INVERTER, RISE_AT_10, &dump, SUMMARY)?;
+    assert_eq!(rt; status, Some(Status::Clean));
+    Ok(())
+}
+
+#[test]
+fn a_run_may_end_at_time_0(rt: HostRuntime) -> Result<(), Fail> {
+    let alloc = rt.alloc();
+    let [header, ..] = PIECES;
+    let dump = joined(alloc, &[header, "#0\n$dumpvars\nx!\nx\"\n$end\n"])?;
+    let report = "violations 0\nunannotated 0\nend 0\n";
+    let status = status_of(alloc, INVERTER, "end 0", &dump, report)?;
+    assert_eq!(rt; status, Some(Status::Clean));
+    Ok(())
+}
+
+// A module, its stimulus, the declarations of its ports, and the blocks of its dump.
+struct Row {
+    netlist: &'static str,
+    stimulus: &'static str,
+    declarations: &'static str,
+    blocks: &'static str,
+    end: &'static str,
+}
+
+const TWO_PORTS: &str = "$var wire 1 ! a $end\n$var wire 1 \" y $end\n";
+
+const THREE_PORTS: &str = "$var wire 1 ! a $end\n$var wire 1 \" b $end\n$var wire 1 # y $end\n";
+
+const GATES: &str =
+    "module t (a, b, c, d, e, f, g, h); input a, b; output c, d, e, f, g, h;\nand (c, a, b); nand (d, a, b); or (e, a, b);\nnor (f, a, b); xor (g, a, b); xnor (h, a, b); endmodule";
+
+const GATE_PORTS: &str =
+    "$var wire 1 ! a $end\n$var wire 1 \" b $end\n$var wire 1 # c $end\n$var wire 1 $ d $end\n$var wire 1 % e $end\n$var wire 1 & f $end\n$var wire 1 ' g $end\n$var wire 1 ( h $end\n";
+
+const GATE_BLOCKS: &str =
+    "#0\n$dumpvars\n0!\n1\"\n0#\n1$\n1%\n0&\n1'\n0(\n$end\n#5000\n1!\n1#\n0$\n0'\n1(\n#7000\nx\"\nx#\nx$\nx'\nx(\n#9000\n";
+
+const AND: &str = "module t (a, b, y); input a, b; output y; and (y, a, b); endmodule";
+
+// Each kind of gate, over 0, 1 and x.
+const EACH_GATE: Row = Row {
+    netlist: GATES,
+    stimulus: "at 0 a=0 b=1\nat 5 a=1\nat 7 b=x\nend 9\n",
+    declarations: GATE_PORTS,
+    blocks: GATE_BLOCKS,
+    end: "9000",
+};
+
+// buf and not read z as x.
+const BUFFERS: Row = Row {
+    netlist: "module t (a, b, y); input a; output b, y; buf (b, a); not (y, a); endmodule",
+    stimulus: "at 0 a=z\nat 1 a=1\nend 1\n",
+    declarations: THREE_PORTS,
+    blocks: "#0\n$dumpvars\nz!\nx\"\nx#\n$end\n#1000\n1!\n1\"\n0#\n",
+    end: "1000",
+};
+
+// A port that nothing drives is z.
+const UNDRIVEN: Row = Row {
+    netlist: "module t (a, y); input a; output y; endmodule",
+    stimulus: "at 0 a=1\nend 2",
+    declarations: TWO_PORTS,
+    blocks: "#0\n$dumpvars\n1!\nz\"\n$end\n#2000\n",
+    end: "2000",
+};
+
+// An input that isn't set is x.
+const UNSET: Row = Row {
+    netlist: AND,
+    stimulus: "at 0 a=0\nat 3 a=1\nend 4\n",
+    declarations: THREE_PORTS,
+    blocks: "#0\n$dumpvars\n0!\nx\"\n0#\n$end\n#3000\n1!\nx#\n#4000\n",
+    end: "4000",
+};
+
+// A set to the same value writes nothing.
+const UNCHANGED: Row = Row {
+    netlist: INVERTER,
+    stimulus: "at 0 a=0\nat 2 a=0\nend 3\n",
+    declarations: TWO_PORTS,
+    blocks: "#0\n$dumpvars\n0!\n1\"\n$end\n#3000\n",
+    end: "3000",
+};
+
+// The last set of a line holds.
+const TWICE: Row = Row {
+    netlist: INVERTER,
+    stimulus: "at 0 a=0 a=1\nend 1\n",
+    declarations: TWO_PORTS,
+    blocks: "#0\n$dumpvars\n1!\n0\"\n$end\n#1000\n",
+    end: "1000",
+};
+
+// The end may be the last time of the stimulus, and has its block then.
+const AT_THE_END: Row = Row {
+    netlist: INVERTER,
+    stimulus: "at 4 a=1\nend 4\n",
+    declarations: TWO_PORTS,
+    blocks: "#0\n$dumpvars\nx!\nx\"\n$end\n#4000\n1!\n0\"\n",
+    end: "4000",
+};
+
+// Inputs that change together show no value between.
+const TOGETHER: Row = Row {
+    netlist: AND,
+    stimulus: "at 0 a=0 b=1\nat 1 b=0 a=1\nend 2\n",
+    declarations: THREE_PORTS,
+    blocks: "#0\n$dumpvars\n0!\n1\"\n0#\n$end\n#1000\n1!\n0\"\n#2000\n",
+    end: "2000",
+};
+
+// x on an input of an and gate that has a 0 beside it.
+const CONTROLLED: Row = Row {
+    netlist: AND,
+    stimulus: "at 0 a=1 b=1\nat 1 b=x\nat 2 a=0\nat 3 b=z a=1\nend 3\n",
+    declarations: THREE_PORTS,
+    blocks: "#0\n$dumpvars\n1!\n1\"\n1#\n$end\n#1000\nx\"\nx#\n#2000\n0!\n0#\n#3000\n1!\nz\"\nx#\n",
+    end: "3000",
+};
+
+// A gate may have more than two inputs.
+const THREE_INPUTS: Row = Row {
+    netlist: "module t (a, b, c, y); output y; input a, b, c; xnor (y, a, b, c); endmodule",
+    stimulus: "at 0 a=1 b=1 c=1\nat 1 c=0\nat 2 a=0 b=0\nend 3\n",
+    declarations: "$var wire 1 ! a $end\n$var wire 1 \" b $end\n$var wire 1 # c $end\n$var wire 1 $ y $end\n",
+    blocks: "#0\n$dumpvars\n1!\n1\"\n1#\n0$\n$end\n#1000\n0#\n1$\n#2000\n0!\n0\"\n#3000\n",
+    end: "3000",
+};
+
+// A run without sets keeps what is unknown.
+const WITHOUT_SETS: Row = Row {
+    netlist: INVERTER,
+    stimulus: "end 5\n",
+    declarations: TWO_PORTS,
+    blocks: "#0\n$dumpvars\nx!\nx\"\n$end\n#5000\n",
+    end: "5000",
+};
+
+// Ports are written in the order of the port list, whatever the order of their declarations.
+const OUTPUT_FIRST: Row = Row {
+    netlist: "module t (y, a); input a; output y; buf (y, a); endmodule",
+    stimulus: "at 0 a=1\nat 999999999999999 a=0\nend 999999999999999\n",
+    declarations: "$var wire 1 ! y $end\n$var wire 1 \" a $end\n",
+    blocks: "#0\n$dumpvars\n1!\n1\"\n$end\n#999999999999999000\n0!\n0\"\n",
+    end: "999999999999999000",
+};
+
+// Whether the run of a row is as it says.
+fn holds(alloc: Global, row: &Row) -> Result<bool, Fail> {
+    let dump = joined(
+        alloc,
+        &[
+            "$version signoff 1 $end\n$timescale 1 ps $end\n$scope module t $end\n",
+            row.declarations,
+            "$upscope $end\n$enddefinitions $end\n",
+            row.blocks,
+        ],
+    )?;
+    let mut report = String::from_str(alloc, "violations 0\nunannotated 0\nend ")?;
+    report.push_str(row.end)?;
+    report.push('\n')?;
+    let status = status_of(alloc, row.netlist, row.stimulus, &dump, report.as_str())?;
+    Ok(status == Some(Status::Clean))
+}
+
+#[test]
+fn small_circuits_have_the_dumps_worked_out_by_hand(rt: HostRuntime) -> Result<(), Fail> {
+    let alloc = rt.alloc();
+    assert!(rt; holds(alloc, &EACH_GATE)?, "each gate");
+    assert!(rt; holds(alloc, &BUFFERS)?, "buf and not");
+    assert!(rt; holds(alloc, &UNDRIVEN)?, "a port that nothing drives");
+    assert!(rt; holds(alloc, &UNSET)?, "an input that isn't set");
+    assert!(rt; holds(alloc, &UNCHANGED)?, "a set to the same value");
+    assert!(rt; holds(alloc, &TWICE)?, "two sets of one input");
+    assert!(rt; holds(alloc, &AT_THE_END)?, "the end at the last time");
+    assert!(rt; holds(alloc, &TOGETHER)?, "inputs that change together");
+    assert!(rt; holds(alloc, &CONTROLLED)?, "x beside 0");
+    assert!(rt; holds(alloc, &THREE_INPUTS)?, "three inputs");
+    assert!(rt; holds(alloc, &WITHOUT_SETS)?, "no sets");
+    assert!(rt; holds(alloc, &OUTPUT_FIRST)?, "the output first");
+    Ok(())
+}
+
+#[test]
+fn other_words_print_the_usage(rt: HostRuntime) -> Result<(), Fail> {
+    let alloc = rt.alloc();
+    let tables: [&[&str]; 5] = [
+        &[],
+        &["run", "t.v", "--stim", "t.st", "--vcd"],
+        &["run", "t.v", "--stim", "-s", "--vcd", "out.vcd"],
+        &["sim", "t.v", "--stim", "t.st", "--vcd", "out.vcd"],
+        &["run", "", "--stim", "t.st", "--vcd", "out.vcd"],
+    ];
+    for table in tables {
+        let mut shelf = shelf_of(alloc, INVERTER, RISE_AT_10)?;
+        let mut sink = MemorySink::new(alloc);
+        let words = words_of(alloc, table)?;
+        let status = top(alloc, &words, &mut shelf, &mut sink);
+        assert_eq!(rt; status, Status::Usage);
+        assert!(rt; sink.bytes() == USAGE.as_bytes());
+        assert!(rt; shelf.bytes("out.vcd").is_none());
+    }
+    Ok(())
+}
+
+// The status and the report of a run that makes no file.
+fn refused(alloc: Global, shelf: &mut MemoryShelf, report: &str) -> Result<Option<Status>, Fail> {
+    let mut sink = MemorySink::new(alloc);
+    let words = words_of(alloc, &WORDS)?;
+    let status = top(alloc, &words, shelf, &mut sink);
+    if shelf.bytes("out.vcd").is_none() && sink.bytes() == report.as_bytes() {
+        Ok(Some(status))
+    } else {
+        Ok(None)
+    }
+}
+
+#[test]
+fn texts_of_another_form_are_refused(rt: HostRuntime) -> Result<(), Fail> {
+    let alloc = rt.alloc();
+    let ring = "module t (en, q); input en; output q; nand (q, en, q); endmodule";
+    let mut shelf = shelf_of(alloc, ring, RISE_AT_10)?;
+    let netlist = refused(alloc, &mut shelf, "netlist refused: t.v: NotYet\n")?;
+    assert_eq!(rt; netlist, Some(Status::Netlist));
+    let mut shelf = shelf_of(alloc, INVERTER, "at 0 b=0\nend 20\n")?;
+    let stimulus = refused(alloc, &mut shelf, "stimulus refused: t.st: NotYet\n")?;
+    assert_eq!(rt; stimulus, Some(Status::Stimulus));
+    Ok(())
+}
+
+#[test]
+fn a_file_that_is_not_held_is_missing(rt: HostRuntime) -> Result<(), Fail> {
+    let alloc = rt.alloc();
+    let mut shelf = MemoryShelf::new(alloc);
+    shelf.hold("t.v", INVERTER.as_bytes())?;
+    let status = refused(alloc, &mut shelf, "missing: t.st\n")?;
+    assert_eq!(rt; status, Some(Status::Missing));
+    assert_eq!(rt; shelf.faults(), 0);
+    assert!(rt; shelf.bytes("t.v") == Some(INVERTER.as_bytes()));
+    assert!(rt; shelf.bytes("t.st").is_none());
+    Ok(())
+}
+
+// Whether a run whose call fails after so many bytes names the file, and leaves so many bytes of the dump.
+fn breaks(
+    alloc: Global,
+    call: u64,
+    taken: u64,
+    report: &str,
+    left: Option<usize>,
+) -> Result<bool, Fail> {
+    let dump = joined(alloc, &PIECES)?;
+    let mut shelf = shelf_of(alloc, INVERTER, RISE_AT_10)?;
+    let mut sink = MemorySink::new(alloc);
+    shelf.fail_at(call, taken)?;
+    let words = words_of(alloc, &WORDS)?;
+    let status = top(alloc, &words, &mut shelf, &mut sink);
+    let is_left = match (shelf.bytes("out.vcd"), left) {
+        (Some(bytes), Some(count)) => dump.starts_with(bytes) && bytes.len() == count,
+        (None, None) => true,
+        _ => false,
+    };
+    let others_stay = shelf.bytes("t.v") == Some(INVERTER.as_bytes())
+        && shelf.bytes("t.st") == Some(RISE_AT_10.as_bytes());
+    let is_told = sink.bytes() == report.as_bytes() && shelf.faults() == 1;
+    Ok(status == Status::Fault && is_left && others_stay && is_told)
+}
+
+#[test]
+fn each_failing_call_leaves_the_first_bytes_and_is_named(rt: HostRuntime) -> Result<(), Fail> {
+    let alloc = rt.alloc();
+    assert!(rt; breaks(alloc, 0, 0, "fault: t.v\n", None)?, "the netlist");
+    assert!(rt; breaks(alloc, 1, 0, "fault: t.st\n", None)?, "the stimulus");
+    assert!(rt;
+        breaks(alloc, 2, 0, "fault: out.vcd\n", None)?,
+        "the creation"
+    );
+    let rows: [(u64, usize, usize); 4] = [(3, 0, 143), (4, 143, 24), (5, 167, 13), (6, 180, 7)];
+    for (call, before, length) in rows {
+        for taken in [0, 1, length - 1] {
+            let broken = breaks(
+                alloc,
+                call,
+                taken as u64,
+                "fault: out.vcd\n",
+                Some(before + taken),
+            )?;
+            assert!(rt; broken, "call {call} after {taken} bytes");
+        }
+    }
+    Ok(())
+}
+
+#[test]
+fn a_failing_report_turns_the_end_of_a_run_into_a_fault(rt: HostRuntime) -> Result<(), Fail> {
+    let alloc = rt.alloc();
+    let rows = [
+        (0, "fault: report\n"),
+        (1, "vfault: report\n"),
+        (13, "violations 0\nfault: report\n"),
+    ];
+    for (taken, report) in rows {
+        let mut shelf = shelf_of(alloc, INVERTER, RISE_AT_10)?;
+        let mut sink = MemorySink::new(alloc);
+        sink.fail_at(0, taken)?;
+        let words = words_of(alloc, &WORDS)?;
+        let status = top(alloc, &words, &mut shelf, &mut sink);
+        assert_eq!(rt; status, Status::Fault);
+        assert!(rt; sink.bytes() == report.as_bytes());
+        assert!(rt; shelf.bytes("out.vcd") == Some(joined(alloc, &PIECES)?.as_slice()));
+    }
+    Ok(())
+}
+
+#[test]
+fn a_failing_report_leaves_a_refusal(rt: HostRuntime) -> Result<(), Fail> {
+    let alloc = rt.alloc();
+    let mut shelf = MemoryShelf::new(alloc);
+    let mut sink = MemorySink::new(alloc);
+    sink.fail_at(0, 5)?;
+    let words = words_of(alloc, &WORDS)?;
+    let status = top(alloc, &words, &mut shelf, &mut sink);
+    assert_eq!(rt; status, Status::Missing);
+    assert!(rt; sink.bytes() == b"missi".as_slice());
+    assert_eq!(rt; sink.faults(), 1);
+    Ok(())
+}
+
+#[test]
+fn statuses_have_their_numbers(rt: HostRuntime) {
+    let rows = [
+        (Status::Clean, 0),
+        (Status::Violations, 1),
+        (Status::Usage, 2),
+        (Status::Netlist, 3),
+        (Status::Sdf, 4),
+        (Status::Stimulus, 5),
+        (Status::Fault, 6),
+        (Status::Rounds, 7),
+        (Status::NoMemory, 9),
+        (Status::Missing, 11),
+    ];
+    for (status, code) in rows {
+        assert_eq!(rt; status.code(), code);
+    }
+}

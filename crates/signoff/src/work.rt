@@ -1,0 +1,42 @@
+// All that the program does with the shelf.
+ghost use Rattle.std.specs.Prelude.{◌≡◌, List, Some, map, string_bytes};
+ghost use Rattle.sg_io.specs.Files.{File};
+ghost use Rattle.signoff.specs.Stops.{StopCause, StopNames};
+ghost use Rattle.signoff.specs.Words.{command_of, names_in};
+ghost use Rattle.signoff.specs.Work.{WorkLeaves};
+
+use crate::circuits::Spent;
+use crate::phases::{Task, task_of};
+use crate::run::run_and_dump;
+use crate::stop::Stop;
+use sg_io::{Shelf, ShelfError};
+use std::alloc::Global;
+
+/// A task that was run, and the time that needed more rounds than the bound, if there was one.
+#[derive(Debug, Drop)]
+pub struct Done<'a> {
+    pub task: Task<'a>,
+    pub spent: Option<Spent>,
+}
+
+// The bound on the rounds of one time.
+const ROUNDS: u32 = 10000;
+
+/// Reads what the words name, runs it, and writes the value change dump.
+pub fn work<'a, S: Shelf>(
+    alloc: Global,
+    words: &'a [String],
+    shelf: &mut S,
+) -> Result<Done<'a>, Stop<'a>>
+    ensures left { (files : List File) → S.files shelf.old ≡ Some files
+        → (after : List File) × (S.files shelf.new ≡ Some after) × WorkLeaves (map (λ w. string_bytes w) words.now) files after (S.last_fault shelf.new) result }
+    ensures cause { StopCause (S.fault_count shelf.old) (S.fault_count shelf.new) result }
+    ensures named { StopNames (names_in (command_of (map (λ w. string_bytes w) words.now))) (S.last_fault shelf.new) result }
+{
+    let task = task_of(alloc, words, shelf)?;
+    match run_and_dump(alloc, &task.circuit, &task.input, ROUNDS, task.vcd, shelf) {
+        Ok(spent) => Ok(Done { task, spent }),
+        Err(ShelfError::Failed) => Err(Stop::Failed),
+        Err(ShelfError::NoMemory) => Err(Stop::NoMemory),
+    }
+}
