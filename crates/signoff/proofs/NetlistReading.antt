@@ -58,7 +58,7 @@ no-items : (rest : List Token) → rest ≢ Name (codes "endmodule") ∷ [] → 
 no-items rest stop w [] h k = stop k
 no-items rest stop w (m ∷ ms) h k =
     w m (body_spelled ms) (both-parts (are_plain (names_in m)) (list_all (λ item. are_plain (names_in item)) ms) h).0
-      (k ∙ append_assoc (item_spelled m) (flat_map item_spelled ms) (Name (codes "endmodule") ∷ []))
+    (k ∙ append_assoc (item_spelled m) (flat_map item_spelled ms) (Name (codes "endmodule") ∷ []))
 
 -- no item follows here, nor the end
 pub items-end : (seen : List Item) (all rest : List Token) → all ≡ flat_map item_spelled seen ++ rest → rest ≢ Name (codes "endmodule") ∷ []

@@ -27,6 +27,7 @@ gates-not-wired m inputs outputs gates d e f h s =
 
 pub gates-sound : (m : Module) (inputs outputs driven : List (List ℕ)) (gates : List GateItem) → inputs ≡ inputs_of m → outputs ≡ outputs_of m → gates ≡ gates_of m → driven ≡ map (λ g. g.first) (gates_of m)
     → true ≡ list_all (λ item. are_plain (names_in item)) m.items → true ≡ list_all (is_wired_among inputs outputs) gates → IsTrue (are_distinct driven) ↔ HasSoundGates m
-gates-sound m inputs outputs driven gates d e f g p w =
-    ( λ h. record { plain_items = sym p; wired = sym (w ∙ wired-same m inputs outputs gates d e f); one_driver = ap are_distinct (sym g) ∙ h }
-    , λ s. ap are_distinct g ∙ s.one_driver )
+gates-sound m inputs outputs driven gates d e f g p w = (
+  λ h. record { plain_items = sym p; wired = sym (w ∙ wired-same m inputs outputs gates d e f); one_driver = ap are_distinct (sym g) ∙ h },
+  λ s. ap are_distinct g ∙ s.one_driver,
+)

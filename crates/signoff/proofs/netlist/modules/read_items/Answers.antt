@@ -28,5 +28,5 @@ loop-rest-preserved c =
     record {
       within = rw (take_rest, length-drop) (omega arith);
       read = rw (c.in_ok-push.ensures.items, map_push, take_rest, behind-item _ _ _ c.in_ok-item.ensures.ok)
-        (items-more _ _ _ _ _ c.loop-rest.invariant.read c.in_ok-item.ensures.ok);
+          (items-more _ _ _ _ _ c.loop-rest.invariant.read c.in_ok-item.ensures.ok);
     }

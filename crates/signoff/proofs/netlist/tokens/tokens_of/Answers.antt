@@ -27,7 +27,7 @@ loop-rest-preserved c =
 pub returns-else-is_letter-clause-not_yet : goal.returns-else-is_letter-clause-not_yet
 returns-else-is_letter-clause-not_yet c =
     λ e ts s. reads-none _ _ _ c.loop-rest.invariant c.in-len1-up.len_at_least
-      (sym c.is_blank.ensures ∙ c.if-is_blank.false) (sym c.is_symbol.ensures ∙ c.if-is_symbol.false) (sym c.is_letter.ensures ∙ c.if-is_letter.false) ts s
+    (sym c.is_blank.ensures ∙ c.if-is_blank.false) (sym c.is_symbol.ensures ∙ c.if-is_symbol.false) (sym c.is_letter.ensures ∙ c.if-is_letter.false) ts s
 
 pub returns-clause-ok : goal.returns-clause-ok
 returns-clause-ok c = reads-all _ _ _ c.loop-rest.invariant (omega arith)
