@@ -1,4 +1,5 @@
 // Pulses that are too short.
+
 /// When the x of an error pulse begins: where the pulse would have begun, or at once.
 #[derive(Clone, Copy, Debug, PartialEq, Eq)]
 pub enum PulseStyle {

@@ -1,5 +1,5 @@
 -- Calls that are numbered from 0, and the list of those that are to fail.
-use Rattle.std.specs.Prelude.{ℕ, ◌==◌, List, Option, find, reverse}
+use Rattle.std.specs.Prelude.{ℕ, ◌==◌, List, [], ◌∷◌, ◌++◌, Option, find, reverse}
 use Rattle.std.specs.Option.{option_map}
 use Rattle.sg_io.specs.Faults.{raised}
 use Rattle.sg_io.specs.declared.listed.FailingCall.{FailingCall}
@@ -16,3 +16,7 @@ fails_after calls = option_map (λ f. f.taken) (find (λ f. f.call == calls.made
 -- one call more was made
 abbrev pub after_call : Calls → Calls
 after_call calls = record calls { made = raised calls.made }
+
+-- one listing more
+abbrev pub with_listing : Calls → ℕ → ℕ → Calls
+with_listing calls call taken = record calls { failing = calls.failing ++ record { call = call; taken = taken } ∷ [] }

@@ -1,5 +1,5 @@
 // Calls that are numbered from 0, and the list of those that are to fail.
-ghost use Rattle.std.specs.Prelude.{◌≡◌, [], ◌∷◌, ◌++◌, OnOk, OnErr};
+ghost use Rattle.std.specs.Prelude.{◌≡◌, [], OnOk, OnErr};
 
 use sg_text::NoMemory;
 use std::alloc::Global;
@@ -28,7 +28,7 @@ impl Model for ListedCalls {
 }
 
 impl ListedCalls {
-    ghost use Rattle.sg_io.specs.Listed.{fails_after, after_call};
+    ghost use Rattle.sg_io.specs.Listed.{fails_after, after_call, with_listing};
 
     // No call was made, and none is to fail.
     pub fn new(alloc: Global) -> Self
@@ -42,7 +42,7 @@ impl ListedCalls {
 
     // Lets that call fail after so many bytes.
     pub fn fail_at(&mut self, call: u64, taken: u64) -> Result<(), NoMemory>
-        ensures ok { OnOk result (self.new ≡ record self.old { failing = self.old.failing ++ record { call = call; taken = taken } ∷ [] }) }
+        ensures ok { OnOk result (self.new ≡ with_listing self.old call taken) }
         ensures err { OnErr result (self.new ≡ self.old) }
     {
         self.failing.push(FailingCall { call, taken })?;

@@ -1,5 +1,5 @@
 // A shelf in memory. It tells the files that it holds, and its calls fail where they are listed.
-ghost use Rattle.std.specs.Prelude.{◌≡◌, ◌++◌, ◌∷◌, [], OnOk, OnErr, None, option_copied, take};
+ghost use Rattle.std.specs.Prelude.{◌≡◌, [], OnOk, OnErr, None, option_copied};
 
 use crate::faults::Faults;
 use crate::held::HeldFiles;
@@ -32,6 +32,7 @@ impl Model for MemoryShelf {
 
 impl MemoryShelf {
     ghost use Rattle.sg_io.specs.Files.{bytes_of, HasAfter, HasDistinctNames};
+    ghost use Rattle.sg_io.specs.Listed.{with_listing};
 
     /// A shelf that holds no file. Takes no memory.
     pub fn new(alloc: Global) -> MemoryShelf
@@ -62,7 +63,7 @@ impl MemoryShelf {
 
     /// Lets that call fail after `taken` bytes, at most all, were appended. The last listing of a call holds.
     pub fn fail_at(&mut self, call: u64, taken: u64) -> Result<(), NoMemory>
-        ensures ok { OnOk result (self.new.calls ≡ record self.old.calls { failing = self.old.calls.failing ++ record { call = call; taken = taken } ∷ [] }) }
+        ensures ok { OnOk result (self.new.calls ≡ with_listing self.old.calls call taken) }
         ensures err { OnErr result (self.new ≡ self.old) }
         ensures files { self.new.files ≡ self.old.files }
         ensures faults { self.new.faults ≡ self.old.faults }

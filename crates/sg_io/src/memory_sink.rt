@@ -1,5 +1,5 @@
 // A sink in memory. It tells the bytes put to it, and its calls fail where they are listed.
-ghost use Rattle.std.specs.Prelude.{◌≡◌, ◌++◌, ◌∷◌, [], OnOk, OnErr};
+ghost use Rattle.std.specs.Prelude.{◌≡◌, [], OnOk, OnErr};
 
 use crate::listed::ListedCalls;
 use crate::prefix::first_bytes;
@@ -25,6 +25,8 @@ impl Model for MemorySink {
 }
 
 impl MemorySink {
+    ghost use Rattle.sg_io.specs.Listed.{with_listing};
+
     /// A sink that holds no bytes. Takes no memory.
     pub fn new(alloc: Global) -> MemorySink
         ensures bytes { result.bytes ≡ [] }
@@ -40,7 +42,7 @@ impl MemorySink {
 
     /// Lets that call fail after `taken` bytes, at most all, were put. The last listing of a call holds.
     pub fn fail_at(&mut self, call: u64, taken: u64) -> Result<(), NoMemory>
-        ensures ok { OnOk result (self.new.calls ≡ record self.old.calls { failing = self.old.calls.failing ++ record { call = call; taken = taken } ∷ [] }) }
+        ensures ok { OnOk result (self.new.calls ≡ with_listing self.old.calls call taken) }
         ensures err { OnErr result (self.new ≡ self.old) }
         ensures bytes { self.new.bytes ≡ self.old.bytes }
         ensures faults { self.new.fault_count ≡ self.old.fault_count }

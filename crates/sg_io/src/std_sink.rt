@@ -1,7 +1,6 @@
 // The trusted edge: standard output. Nothing is told of what reaches it.
 ghost use Rattle.std.specs.Prelude.{◌≡◌};
 
-use crate::writing::write_whole;
 use crate::{ShelfError, Sink};
 use std::io::{self, Write};
 use std::marker::Model;
@@ -39,7 +38,7 @@ impl<R: Print> Sink for StdSink<'_, R> {
 
     fn put(&mut self, bytes: &[u8]) -> Result<(), ShelfError> {
         let mut out = io::writer(self.rt);
-        if write_whole(&mut out, bytes) && out.flush().is_ok() {
+        if out.write_all(bytes).is_ok() && out.flush().is_ok() {
             Ok(())
         } else {
             self.faults = self.faults.saturating_add(1);

@@ -43,7 +43,7 @@ fn limited(size: u128) -> Result<u64, TimeError>
 }
 
 // size * 10^places
-pub fn raised(size: u128, places: u64) -> Result<u64, TimeError>
+fn raised(size: u128, places: u64) -> Result<u64, TimeError>
     ensures { result ≡ limited (size * 10 ^ places) }
 {
     if size == 0 {

@@ -6,6 +6,12 @@ pub mod Worked
 pub mod NoViolations
 pub mod OneAnswer
 pub mod Promised
+pub mod NetlistSplitting
+pub mod NetlistSpelling
+pub mod NetlistReading
+pub mod NetlistLists
+pub mod NetlistSoundness
+pub mod NetlistBuilding
 pub mod NetlistLaws
 pub mod StimulusNumbers
 pub mod StimulusReading
@@ -24,3 +30,4 @@ pub mod EngineRuns
 pub mod EngineStimulus
 pub mod EngineStands
 pub mod EngineSimulates
+pub mod FormExamples

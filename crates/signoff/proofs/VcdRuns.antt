@@ -1,16 +1,15 @@
 -- What a run leaves: the header, then what was recorded, then the end.
-use Rattle.std.proofs.Common.{◌≡◌, ◌≢◌, ◌∙◌, sym, ap, refl, subst, ℕ, List, [], ◌∷◌, ◌++◌, length, take, append_assoc, inl, inr}
+use Rattle.std.proofs.Common.{◌≡◌, ◌∙◌, sym, ap, refl, subst, ℕ, List, [], ◌++◌, length, take, append_assoc, inl, inr}
 use Rattle.std.proofs.lemmas.List.{append-nil}
-use Rattle.std.specs.Prelude.{◌⊎◌, Option, Some, None, is_some, true, false}
-use Rattle.sg_io.specs.Files.{File, BothTell, HasAfter, bytes_of}
-use Rattle.sg_io.specs.declared.outside.ShelfError.{ShelfError}
+use Rattle.std.specs.Prelude.{Option, Some, None, is_some, true, false}
+use Rattle.sg_io.specs.Files.{File, BothTell, HasAfter}
 use Rattle.sg_model.specs.Machine.{Snapshot}
 use Rattle.sg_model.specs.Run.{Finished}
 use Rattle.sg_text.specs.Words.{reserved_words}
 use Rattle.circuit_model.specs.Circuit.{Circuit}
 use Rattle.circuit_model.specs.Simulated.{Stimulus}
-use Rattle.circuit_model.specs.Vcd.{dump, dump_text, end_line, ending, header, variables_of, vcd_body, vcd_text}
-use Rattle.signoff.specs.Recording.{BrokeOff, KeepsOthers, OthersStay, seen_in}
+use Rattle.circuit_model.specs.Vcd.{dump, dump_text, ending, header, variables_of, vcd_body, vcd_text}
+use Rattle.signoff.specs.Recording.{BrokeOff, KeepsOthers, seen_in}
 use Rattle.signoff.specs.Runs.{LeavesPrefix, text_of_run}
 use Rattle.signoff.specs.Seen.{spent_seen}
 use Rattle.signoff.specs.declared.circuits.Spent as code_spent

@@ -1,17 +1,15 @@
 -- The text of a flat circuit's dump, line by line.
-use Rattle.std.proofs.Common.{◌≡◌, ◌∙◌, sym, ap, refl, ℕ, zero, suc, ◌+◌, ◌<◌, ◌≤◌, List, [], ◌∷◌, ◌++◌, Bool, true, false, length, take, drop, get_or, map, arith, add-zero, add-one, append_assoc}
+use Rattle.std.proofs.Common.{◌≡◌, ◌∙◌, sym, ap, refl, ℕ, suc, ◌+◌, ◌<◌, ◌≤◌, List, [], ◌∷◌, ◌++◌, Bool, true, false, length, drop, get_or, map, arith, add-zero, add-one, append_assoc}
 use Rattle.std.proofs.lemmas.List.{append-nil, drop_more, drop_all, length-map}
-use Rattle.std.specs.Prelude.{None, ◌&&◌, nat_lt, if◌then◌else◌, codes, decimal}
+use Rattle.std.specs.Prelude.{None, ◌&&◌, if◌then◌else◌, codes}
 use Rattle.std.specs.Fmt.{digits}
 use Rattle.std.specs.List.{list_all}
 use Rattle.sg_logic.specs.declared.values.Value.{Value}
-use Rattle.sg_logic.specs.declared.values.Value.TheVariants.{Zero, One, X, Z}
 use Rattle.sg_model.specs.Round.{each_from}
 use Rattle.sg_model.specs.Values.{value_at, is_same, are_same}
-use Rattle.circuit_model.specs.Circuit.{Circuit, Net, Variable, Element, Nobody}
-use Rattle.circuit_model.specs.Simulated.{values_at}
+use Rattle.circuit_model.specs.Circuit.{Net, Variable, Element, Nobody}
 use Rattle.circuit_model.specs.Texts.{is_letter, is_name_byte, is_simple, line, written_name}
-use Rattle.circuit_model.specs.Vcd.{code, declaration, value_line, value_lines, changed_lines, agree, Item, Declares, Closes, item_lines, header, declared, variables_of, first_block, later_block, time_line}
+use Rattle.circuit_model.specs.Vcd.{code, value_line, value_lines, changed_lines, agree, Item, Declares, Closes, item_lines, header, declared, variables_of, first_block, later_block, time_line}
 use Rattle.signoff.specs.Flat.{variable_of, flat}
 use Rattle.signoff.specs.VcdWords.{numbered, net_declaration, net_value, net_change, all_same}
 

@@ -1,18 +1,16 @@
 -- What the calls of a writer leave in its file.
 use Rattle.std.proofs.Common.{◌≡◌, ◌∙◌, sym, ap, refl, subst, ℕ, ◌+◌, List, [], ◌∷◌, ◌++◌, length, take, drop, append_assoc}
-use Rattle.std.proofs.lemmas.List.{append-nil, take-append-drop}
+use Rattle.std.proofs.lemmas.List.{take-append-drop}
 use Rattle.std.proofs.Math.Seq.{take-append_seam, take-append-add}
-use Rattle.std.specs.Prelude.{Option, Some, None, Result, Ok, Err, OnOk, OnErr, Bool, true, false, if◌then◌else◌, unwrap_or}
-use Rattle.sg_io.specs.Files.{File, BothTell, Appended, Appends, HasAfter, bytes_of, content_of}
+use Rattle.std.specs.Prelude.{Option, Some, None, Result, Ok, Err, OnErr, Bool, true, false, if◌then◌else◌, unwrap_or}
+use Rattle.sg_io.specs.Files.{File, BothTell, Appended, Appends, bytes_of}
 use Rattle.sg_io.specs.declared.outside.ShelfError.{ShelfError}
 use Rattle.sg_io.specs.declared.outside.ShelfError.TheVariants as shelf
-use Rattle.sg_logic.specs.declared.values.Value.{Value}
 use Rattle.sg_model.specs.Machine.{Snapshot}
 use Rattle.sg_text.specs.Words.{reserved_words}
 use Rattle.circuit_model.specs.Circuit.{Circuit, Variable}
 use Rattle.circuit_model.specs.Vcd.{Dump, agree, dump, dump_text, dumped, end_line, first_block, time_line, header, later_block, variables_of}
 use Rattle.circuit_model.proofs.VcdLaws.{dump-adds, dump-more}
-use Rattle.signoff.specs.Recording.{KeepsOthers, OthersStay}
 use Rattle.signoff.specs.Writing.{Writer, FileBegins, FileHolds, Holds, block_after, ended_text, is_block_of, last_block, text_of}
 
 -- who tells afterwards told before
@@ -63,19 +61,7 @@ end_line-last w told end seen b e h =
     end_line-is end (dump (variables_of w.circuit) seen)
     ∙ ap (λ c. if c then [] else time_line end) (ap (is_block_of end) (sym h.last) ∙ e)
 
--- a dump that has the time of the end
-pub has_ended : (w : Writer) (told : Option (List File)) (end : ℕ) (seen : List Snapshot) → is_block_of end w.last ≡ true → Holds w told seen
-    → FileHolds w.name (ended_text w.circuit end seen) told
-has_ended w told end seen at h = λ files e.
-    h.file files e ∙ ap Some (sym (ap (λ t. text_of w.circuit seen ++ t) (end_line-last w told end seen true at h) ∙ append-nil (text_of w.circuit seen)))
-
--- the line of the end is written
-pub ends_ok : (w : Writer) (old new : Option (List File)) (end : ℕ) (text : List ℕ) (r : Result Unit ShelfError) → is_block_of end w.last ≡ false → text ≡ time_line end
-    → Appends w.name text old new r → OnOk r ((seen : List Snapshot) → Holds w old seen → FileHolds w.name (ended_text w.circuit end seen) new)
-ends_ok w old new end text (Ok u) at is a = λ seen h.
-    subst (λ t. FileHolds w.name (text_of w.circuit seen ++ t) new) (is ∙ sym (end_line-last w old end seen false at h)) (appended_ok w.name (text_of w.circuit seen) text old new h.file a)
-ends_ok w old new end text (Err e) at is a = tt
-
+-- the line of the end isn't written whole
 pub ends_err : (w : Writer) (old new : Option (List File)) (end : ℕ) (text : List ℕ) (r : Result Unit ShelfError) → is_block_of end w.last ≡ false → text ≡ time_line end
     → Appends w.name text old new r → OnErr r ((seen : List Snapshot) → Holds w old seen → FileBegins w.name (ended_text w.circuit end seen) new)
 ends_err w old new end text (Ok u) at is a = tt

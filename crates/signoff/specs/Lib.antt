@@ -4,6 +4,7 @@ pub mod WellFormed
 pub mod Seen
 pub mod Words
 pub mod NetlistForm
+pub mod NetlistSeen
 pub mod StimulusForm
 pub mod StimulusLines
 pub mod Recording

@@ -38,7 +38,7 @@ pub fn top<S: Shelf, K: Sink>(
     // A fault has its cause outside.
     ensures fault { result ≡ Status.Fault
         → FaultCause (map (λ w. string_bytes w) words.now) (S.files shelf.old) (S.files shelf.new) (S.last_fault shelf.new)
-            (S.fault_count shelf.old) (S.fault_count shelf.new) (K.fault_count report.old) (K.fault_count report.new) }
+        (S.fault_count shelf.old) (S.fault_count shelf.new) (K.fault_count report.old) (K.fault_count report.new) }
 
     // Whatever comes, the files are as before, but for the one that is made, which has the first bytes of its text.
     ensures kept { (files after : List File) → S.files shelf.old ≡ Some files → S.files shelf.new ≡ Some after

@@ -14,11 +14,10 @@ mod tests;
 mod times;
 mod transitions;
 
-pub use recorder::Recorder;
-
 use crate::circuits::{Circuit, Spent, Stimulus};
 use crate::engine::runs::make_times;
 use crate::engine::stimulated::Stimulated;
+pub use recorder::Recorder;
 use sg_io::{Shelf, ShelfError};
 use std::alloc::Global;
 
@@ -48,12 +47,5 @@ pub fn simulate<S: Shelf, R: Recorder<S>>(
     ensures named { NamesFaultOf (R.name recorder.old) (S.last_fault shelf.old) (S.last_fault shelf.new) result }
 {
     let mut stimulated = Stimulated::new(alloc, circuit, stimulus)?;
-    make_times(
-        alloc,
-        &mut stimulated,
-        stimulus.end,
-        bound,
-        shelf,
-        recorder,
-    )
+    make_times(alloc, &mut stimulated, stimulus.end, bound, shelf, recorder)
 }

@@ -1,6 +1,6 @@
 // Why a text of the first form isn't read.
-use std::alloc::{AllocError, AllocFailed};
 use sg_text::NoMemory;
+use std::alloc::{AllocError, AllocFailed};
 use thiserror::Error;
 
 /// A netlist or a stimulus isn't read.

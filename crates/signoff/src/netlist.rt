@@ -4,9 +4,24 @@ ghost use Rattle.circuit_model.specs.Circuit.{Circuit as CircuitModel};
 ghost use Rattle.signoff.specs.NetlistForm.{IsNetlist};
 ghost use Rattle.signoff.specs.Seen.{circuit_seen};
 
+mod building;
+mod checks;
+mod declarations;
+mod modules;
+#[cfg(test)]
+mod tests;
+mod tokens;
+
 use crate::circuits::Circuit;
 use crate::forms::FormError;
+use building::circuit_of;
+use checks::is_sound;
+use declarations::declarations_of;
+use modules::read_module;
 use std::alloc::Global;
+use tokens::tokens_of;
+
+const MOST_BYTES: usize = 1 << 20;
 
 /// The circuit that a netlist of the form describes, in ticks of 1 ps. `NotYet` comes exactly where the text has
 /// another form.
@@ -14,7 +29,14 @@ pub fn read_netlist(alloc: Global, text: &[u8]) -> Result<Circuit, FormError>
     ensures ok { IfOk result (λ c. IsNetlist text.now (circuit_seen c)) }
     ensures not_yet { result ≡ Err FormError.NotYet → (circuit : CircuitModel) → IsNetlist text.now circuit → ⊥ }
 {
-    let _ = alloc;
-    let _ = text;
-    Err(FormError::NoMemory)
+    if text.len() > MOST_BYTES {
+        return Err(FormError::NotYet);
+    }
+    let tokens = tokens_of(alloc, text)?;
+    let tree = read_module(alloc, &tokens)?;
+    let declared = declarations_of(alloc, &tree)?;
+    if !is_sound(&tree, &declared) {
+        return Err(FormError::NotYet);
+    }
+    Ok(circuit_of(alloc, &tree, &declared)?)
 }

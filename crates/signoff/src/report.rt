@@ -145,11 +145,7 @@ fn put_text<K: Sink>(report: &mut K, planned: Status, text: &[u8]) -> Status
 }
 
 // Puts a text, if there was memory for it.
-fn put_made<K: Sink>(
-    report: &mut K,
-    planned: Status,
-    made: Result<Vec<u8>, AllocError>,
-) -> Status
+fn put_made<K: Sink>(report: &mut K, planned: Status, made: Result<Vec<u8>, AllocError>) -> Status
     ensures ok { IfOk made (λ v. Tells v.items planned (K.fault_count report.old) (K.fault_count report.new) (K.contents report.old) (K.contents report.new) result) }
     ensures err { IfErr made (λ _. (text : List ℕ) → Tells text planned (K.fault_count report.old) (K.fault_count report.new) (K.contents report.old) (K.contents report.new) result) }
 {
@@ -168,12 +164,7 @@ fn status_of_run(spent: Option<Spent>) -> Status
     }
 }
 
-fn tell_stop<K: Sink>(
-    alloc: Global,
-    stop: Stop<'_>,
-    failed: Option<&str>,
-    report: &mut K,
-) -> Status
+fn tell_stop<K: Sink>(alloc: Global, stop: Stop<'_>, failed: Option<&str>, report: &mut K) -> Status
     ensures { Tells (text_of_stop (option_copied failed.entry) stop.entry) (status_of_stop stop.entry) (K.fault_count report.old) (K.fault_count report.new) (K.contents report.old) (K.contents report.new) result }
 {
     match stop {

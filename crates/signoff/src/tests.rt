@@ -13,7 +13,8 @@ const RISE_AT_10: &str = "at 0 a=0\nat 10 a=1\nend 20\n";
 
 const SUMMARY: &str = "violations 0\nunannotated 0\nend 20000\n";
 
-const USAGE: &str = "usage: signoff run NETLIST.. --stim F --vcd F [--sdf F] [--top NAME] [--corner min|typ|max] [--rounds N] [--wheel N] | signoff gen N\n";
+const USAGE: &str =
+    "usage: signoff run NETLIST.. --stim F --vcd F [--sdf F] [--top NAME] [--corner min|typ|max] [--rounds N] [--wheel N] | signoff gen N\n";
 
 // The dump of the inverter, one piece for each append.
 const PIECES: [&str; 4] = [
@@ -98,11 +99,14 @@ const TWO_PORTS: &str = "$var wire 1 ! a $end\n$var wire 1 \" y $end\n";
 
 const THREE_PORTS: &str = "$var wire 1 ! a $end\n$var wire 1 \" b $end\n$var wire 1 # y $end\n";
 
-const GATES: &str = "module t (a, b, c, d, e, f, g, h); input a, b; output c, d, e, f, g, h;\nand (c, a, b); nand (d, a, b); or (e, a, b);\nnor (f, a, b); xor (g, a, b); xnor (h, a, b); endmodule";
+const GATES: &str =
+    "module t (a, b, c, d, e, f, g, h); input a, b; output c, d, e, f, g, h;\nand (c, a, b); nand (d, a, b); or (e, a, b);\nnor (f, a, b); xor (g, a, b); xnor (h, a, b); endmodule";
 
-const GATE_PORTS: &str = "$var wire 1 ! a $end\n$var wire 1 \" b $end\n$var wire 1 # c $end\n$var wire 1 $ d $end\n$var wire 1 % e $end\n$var wire 1 & f $end\n$var wire 1 ' g $end\n$var wire 1 ( h $end\n";
+const GATE_PORTS: &str =
+    "$var wire 1 ! a $end\n$var wire 1 \" b $end\n$var wire 1 # c $end\n$var wire 1 $ d $end\n$var wire 1 % e $end\n$var wire 1 & f $end\n$var wire 1 ' g $end\n$var wire 1 ( h $end\n";
 
-const GATE_BLOCKS: &str = "#0\n$dumpvars\n0!\n1\"\n0#\n1$\n1%\n0&\n1'\n0(\n$end\n#5000\n1!\n1#\n0$\n0'\n1(\n#7000\nx\"\nx#\nx$\nx'\nx(\n#9000\n";
+const GATE_BLOCKS: &str =
+    "#0\n$dumpvars\n0!\n1\"\n0#\n1$\n1%\n0&\n1'\n0(\n$end\n#5000\n1!\n1#\n0$\n0'\n1(\n#7000\nx\"\nx#\nx$\nx'\nx(\n#9000\n";
 
 const AND: &str = "module t (a, b, y); input a, b; output y; and (y, a, b); endmodule";
 
@@ -187,6 +191,33 @@ const CONTROLLED: Row = Row {
     end: "3000",
 };
 
+// A gate may have more than two inputs.
+const THREE_INPUTS: Row = Row {
+    netlist: "module t (a, b, c, y); output y; input a, b, c; xnor (y, a, b, c); endmodule",
+    stimulus: "at 0 a=1 b=1 c=1\nat 1 c=0\nat 2 a=0 b=0\nend 3\n",
+    declarations: "$var wire 1 ! a $end\n$var wire 1 \" b $end\n$var wire 1 # c $end\n$var wire 1 $ y $end\n",
+    blocks: "#0\n$dumpvars\n1!\n1\"\n1#\n0$\n$end\n#1000\n0#\n1$\n#2000\n0!\n0\"\n#3000\n",
+    end: "3000",
+};
+
+// A run without sets keeps what is unknown.
+const WITHOUT_SETS: Row = Row {
+    netlist: INVERTER,
+    stimulus: "end 5\n",
+    declarations: TWO_PORTS,
+    blocks: "#0\n$dumpvars\nx!\nx\"\n$end\n#5000\n",
+    end: "5000",
+};
+
+// Ports are written in the order of the port list, whatever the order of their declarations.
+const OUTPUT_FIRST: Row = Row {
+    netlist: "module t (y, a); input a; output y; buf (y, a); endmodule",
+    stimulus: "at 0 a=1\nat 999999999999999 a=0\nend 999999999999999\n",
+    declarations: "$var wire 1 ! y $end\n$var wire 1 \" a $end\n",
+    blocks: "#0\n$dumpvars\n1!\n1\"\n$end\n#999999999999999000\n0!\n0\"\n",
+    end: "999999999999999000",
+};
+
 // Whether the run of a row is as it says.
 fn holds(alloc: Global, row: &Row) -> Result<bool, Fail> {
     let dump = joined(
@@ -217,6 +248,9 @@ fn small_circuits_have_the_dumps_worked_out_by_hand(rt: HostRuntime) -> Result<(
     assert!(rt; holds(alloc, &AT_THE_END)?, "the end at the last time");
     assert!(rt; holds(alloc, &TOGETHER)?, "inputs that change together");
     assert!(rt; holds(alloc, &CONTROLLED)?, "x beside 0");
+    assert!(rt; holds(alloc, &THREE_INPUTS)?, "three inputs");
+    assert!(rt; holds(alloc, &WITHOUT_SETS)?, "no sets");
+    assert!(rt; holds(alloc, &OUTPUT_FIRST)?, "the output first");
     Ok(())
 }
 
@@ -243,11 +277,7 @@ fn other_words_print_the_usage(rt: HostRuntime) -> Result<(), Fail> {
 }
 
 // The status and the report of a run that makes no file.
-fn refused(
-    alloc: Global,
-    shelf: &mut MemoryShelf,
-    report: &str,
-) -> Result<Option<Status>, Fail> {
+fn refused(alloc: Global, shelf: &mut MemoryShelf, report: &str) -> Result<Option<Status>, Fail> {
     let mut sink = MemorySink::new(alloc);
     let words = words_of(alloc, &WORDS)?;
     let status = top(alloc, &words, shelf, &mut sink);
@@ -314,11 +344,20 @@ fn each_failing_call_leaves_the_first_bytes_and_is_named(rt: HostRuntime) -> Res
     let alloc = rt.alloc();
     assert!(rt; breaks(alloc, 0, 0, "fault: t.v\n", None)?, "the netlist");
     assert!(rt; breaks(alloc, 1, 0, "fault: t.st\n", None)?, "the stimulus");
-    assert!(rt; breaks(alloc, 2, 0, "fault: out.vcd\n", None)?, "the creation");
+    assert!(rt;
+        breaks(alloc, 2, 0, "fault: out.vcd\n", None)?,
+        "the creation"
+    );
     let rows: [(u64, usize, usize); 4] = [(3, 0, 143), (4, 143, 24), (5, 167, 13), (6, 180, 7)];
     for (call, before, length) in rows {
         for taken in [0, 1, length - 1] {
-            let broken = breaks(alloc, call, taken as u64, "fault: out.vcd\n", Some(before + taken))?;
+            let broken = breaks(
+                alloc,
+                call,
+                taken as u64,
+                "fault: out.vcd\n",
+                Some(before + taken),
+            )?;
             assert!(rt; broken, "call {call} after {taken} bytes");
         }
     }

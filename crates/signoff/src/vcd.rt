@@ -44,7 +44,8 @@ fn block_of(
     time: u64,
     values: &[Value],
 ) -> Result<Option<Vec<u8>>, AllocError>
-    ensures { IfOk result (λ block. option_map (λ v. v.items) block ≡ block_after (variables_of (circuit_seen circuit.now)) (option_map (λ b. written_seen b) written.now) (record { time = time; values = values.now })) }
+    ensures { IfOk result (λ block. option_map (λ v. v.items) block
+        ≡ block_after (variables_of (circuit_seen circuit.now)) (option_map (λ b. written_seen b) written.now) (record { time = time; values = values.now })) }
 {
     match written {
         None => Ok(Some(first_block_of(alloc, circuit, values)?)),
@@ -69,7 +70,7 @@ fn is_at(written: &Option<Written>, time: u64) -> bool
 }
 
 impl<'a> VcdWriter<'a> {
-    /// A writer that wrote the header to a new file of this name.
+    /// A writer that has written the header to a new file of this name. Without it the file is as before, or begun.
     pub fn new<S: Shelf>(
         alloc: Global,
         circuit: &'a Circuit,
@@ -91,7 +92,7 @@ impl<'a> VcdWriter<'a> {
         })
     }
 
-    /// Writes the line of the end, unless the last block is of that time.
+    /// Writes the line of the end, in ticks, unless the last block is of that time.
     pub fn finish<S: Shelf>(&self, alloc: Global, shelf: &mut S, end: u64) -> Result<(), ShelfError>
         // The file holds the text of the times that were recorded, with its end, or after a failure the first bytes.
         ensures ok { OnOk result ((seen : List Snapshot) → Holds (writer_seen self.now) (S.files shelf.old) seen

@@ -31,15 +31,13 @@ fn value_of(values: &[Value], net: u32) -> Value
 }
 
 // The changes take effect.
-#[tactic(auto, using(crate::proofs::EngineRounds::agree_same, crate::proofs::EngineRounds::agree_then))]
+#[tactic(auto, using(crate::proofs::EngineRounds::agree_same, crate::proofs::EngineRounds::agree_then, crate::proofs::EngineRounds::one_more_change))]
 fn apply(values: &mut [Value], changes: &[Change])
     ensures changed { values.new ≡ changed_by (map (λ c. change_seen c) changes.now) values.old }
     ensures above { AgreeAbove values.old values.new }
 {
-    let mut rest = changes;
-    while let [first, others @ ..] = rest {
-        set_value(values, first.net, first.value);
-        rest = others;
+    for change in changes {
+        set_value(values, change.net, change.value);
     }
 }
 
@@ -57,12 +55,7 @@ fn take(values: &mut [Value], net: u32, now: u64, pending: Option<Transition>)
 
 // The transitions that are due take effect.
 #[tactic(auto, using(crate::proofs::EngineRounds::agree_same, crate::proofs::EngineRounds::agree_then))]
-fn take_due(
-    values: &mut [Value],
-    elements: &[Element],
-    now: u64,
-    pending: &[Option<Transition>],
-)
+fn take_due(values: &mut [Value], elements: &[Element], now: u64, pending: &[Option<Transition>])
     ensures changed { values.new ≡ changed_by (due_changes now (map (λ e. e.output) elements.now) (map (λ p. list_seen p) pending.now)) values.old }
     ensures above { AgreeAbove values.old values.new }
 {

@@ -17,25 +17,25 @@ use std::mem;
 /// The values of all nets, and those before the last round.
 #[derive(Drop)]
 pub struct Nets {
-    pub values: Vec<Value>,
-    pub before: Vec<Value>,
+    pub(super) values: Vec<Value>,
+    before: Vec<Value>,
 }
 
 /// What each element has pending, and room to work in.
 #[derive(Drop)]
 pub struct Agenda {
-    pub pending: Vec<Option<Transition>>,
-    pub after: Vec<Option<Transition>>,
-    pub inputs: Vec<Value>,
+    pub(super) pending: Vec<Option<Transition>>,
+    after: Vec<Option<Transition>>,
+    inputs: Vec<Value>,
 }
 
 /// A circuit and the state of its simulation, with the changes that are handed in to the next round.
 #[derive(Drop)]
 pub struct Simulation<'a> {
-    pub circuit: &'a Circuit,
-    pub handed: &'a [Change],
-    pub nets: Nets,
-    pub agenda: Agenda,
+    circuit: &'a Circuit,
+    pub(super) handed: &'a [Change],
+    pub(super) nets: Nets,
+    pub(super) agenda: Agenda,
 }
 
 // Before time 0 a net that is driven is x, and every other z.
@@ -177,8 +177,7 @@ impl Rounds for Simulation<'_> {
         Ok(())
     }
 
-    fn snapshot(&mut self, now: u64) -> bool {
-        let _ = now;
+    fn snapshot(&mut self, _: u64) -> bool {
         self.handed = &[];
         false
     }

@@ -16,8 +16,8 @@ use std::alloc::{AllocError, Global};
 /// A simulation, and what is applied to its inputs.
 #[derive(Drop)]
 pub struct Stimulated<'a> {
-    pub simulation: Simulation<'a>,
-    pub stimulus: &'a Stimulus,
+    simulation: Simulation<'a>,
+    stimulus: &'a Stimulus,
 }
 
 // How many steps come before a time.

@@ -105,10 +105,9 @@ fn inverter_of(alloc: Global, output: u32, input: u32) -> Result<Element, NoMemo
 fn inverter(alloc: Global) -> Result<Circuit, NoMemory> {
     Ok(Circuit {
         name: Text::copy(alloc, b"inverter")?,
-        nets: vec![
-            in alloc;
+        nets: vec![in alloc;
             net(alloc, b"a", Driver::Stimulus)?,
-            net(alloc, b"y", Driver::Element(0))?
+            net(alloc, b"y", Driver::Element(0))?,
         ]?,
         elements: vec![in alloc; inverter_of(alloc, 1, 0)?]?,
     })
@@ -118,11 +117,10 @@ fn inverter(alloc: Global) -> Result<Circuit, NoMemory> {
 fn chain(alloc: Global) -> Result<Circuit, NoMemory> {
     Ok(Circuit {
         name: Text::copy(alloc, b"chain")?,
-        nets: vec![
-            in alloc;
+        nets: vec![in alloc;
             net(alloc, b"a", Driver::Stimulus)?,
             net(alloc, b"b", Driver::Element(1))?,
-            net(alloc, b"y", Driver::Element(0))?
+            net(alloc, b"y", Driver::Element(0))?,
         ]?,
         elements: vec![in alloc; inverter_of(alloc, 2, 1)?, inverter_of(alloc, 1, 0)?]?,
     })
@@ -137,10 +135,9 @@ fn ring(alloc: Global) -> Result<Circuit, NoMemory> {
     };
     Ok(Circuit {
         name: Text::copy(alloc, b"ring")?,
-        nets: vec![
-            in alloc;
+        nets: vec![in alloc;
             net(alloc, b"en", Driver::Stimulus)?,
-            net(alloc, b"q", Driver::Element(0))?
+            net(alloc, b"q", Driver::Element(0))?,
         ]?,
         elements: vec![in alloc; nand]?,
     })
@@ -152,10 +149,15 @@ fn set(alloc: Global, value: Value) -> Result<Vec<Change>, NoMemory> {
 
 // Net 0 is set at 0 and at 10 000, and the last time is 20 000.
 fn two_sets(alloc: Global, first: Value, second: Value) -> Result<Stimulus, NoMemory> {
-    let steps = vec![
-        in alloc;
-        Step { time: 0, sets: set(alloc, first)? },
-        Step { time: 10_000, sets: set(alloc, second)? }
+    let steps = vec![in alloc;
+        Step {
+            time: 0,
+            sets: set(alloc, first)?
+        },
+        Step {
+            time: 10_000,
+            sets: set(alloc, second)?
+        },
     ]?;
     Ok(Stimulus { steps, end: 20_000 })
 }
@@ -219,7 +221,13 @@ fn a_ring_spends_its_rounds(rt: HostRuntime) -> Result<(), NoMemory> {
         times: Vec::new(alloc),
     };
     let spent = simulate(alloc, &circuit, &stimulus, 10, &mut FullShelf, &mut kept);
-    assert_eq!(rt; spent, Ok(Some(Spent { time: 10_000, net: Some(1) })));
+    assert_eq!(rt;
+        spent,
+        Ok(Some(Spent {
+            time: 10_000,
+            net: Some(1)
+        }))
+    );
     assert_eq!(rt; kept.times.len(), 1);
     assert!(rt; kept.has(0, 0, &[Value::Zero, Value::One]));
     Ok(())

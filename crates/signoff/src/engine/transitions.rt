@@ -1,5 +1,6 @@
 // The transition that a gate's driver has pending: under inertial delay there is at most one.
 ghost use Rattle.std.specs.Prelude.{◌≡◌, ℕ, ◌+◌, ◌<◌, ◌≤◌, map, false};
+ghost use Rattle.std.specs.List.{list_any};
 ghost use Rattle.sg_model.specs.Pending.{inertial};
 ghost use Rattle.sg_model.specs.Round.{any_due, is_due, without_due};
 ghost use Rattle.signoff.specs.EngineSeen.{list_seen};
@@ -25,16 +26,9 @@ pub fn is_due_at(now: u64, pending: Option<Transition>) -> bool
 
 /// Whether any transition is due.
 pub fn is_any_due(now: u64, pending: &[Option<Transition>]) -> bool
-    ensures { result ≡ any_due now (map (λ p. list_seen p) pending.now) }
+    ensures { result ≡ list_any (λ p. is_due now (list_seen p)) pending.now }
 {
-    let mut rest = pending;
-    while let [first, others @ ..] = rest {
-        if is_due_at(now, *first) {
-            return true;
-        }
-        rest = others;
-    }
-    false
+    pending.iter().any(|p| is_due_at(now, *p))
 }
 
 // What stays pending once a due transition is taken.
@@ -96,10 +90,8 @@ pub fn next_due(now: u64, latest: u64, pending: &[Option<Transition>]) -> u64
     ensures quiet { (t : ℕ) → now < t → t < result → any_due t (map (λ p. list_seen p) pending.now) ≡ false }
 {
     let mut next = latest;
-    let mut rest = pending;
-    while let [first, others @ ..] = rest {
-        next = earlier(now, next, *first);
-        rest = others;
+    for one in pending {
+        next = earlier(now, next, *one);
     }
     next
 }

@@ -138,7 +138,7 @@ fn push_declarations(text: &mut Vec<u8>, nets: &[Net]) -> Result<(), AllocError>
     Ok(())
 }
 
-/// The header.
+/// The header. Takes memory.
 pub fn header_of(alloc: Global, circuit: &Circuit) -> Result<Vec<u8>, AllocError>
     ensures { IfOk result (λ v. v.items ≡ header reserved_words (circuit_seen circuit.now)) }
 {

@@ -25,7 +25,7 @@ returns-clause-record g c =
     let known = c.in_ok-stimulated.ensures in
     if_ok_then c.make_times.result _ _
     (λ spent. run_is_recorded c.args.circuit.now s.simulation.circuit.now c.args.stimulus.now s.stimulus.now c.args.bound (Stands s.simulation) (r.holds c.args.recorder.now c.args.shelf.now) (r.holds c.make_times.new.recorder c.make_times.new.shelf)
-        known.circuit known.stimulus known.stands)
+    known.circuit known.stimulus known.stands)
     c.make_times.ensures.recorded
 
 pub returns-clause-broke : goal.returns-clause-broke
@@ -35,5 +35,5 @@ returns-clause-broke g c =
     let known = c.in_ok-stimulated.ensures in
     on_err_then c.make_times.result _ _
     (run_broke c.args.circuit.now s.simulation.circuit.now c.args.stimulus.now s.stimulus.now c.args.bound (Stands s.simulation) (r.holds c.args.recorder.now c.args.shelf.now) (r.holds c.make_times.new.recorder c.make_times.new.shelf)
-        (r.broken c.make_times.new.recorder c.make_times.new.shelf) known.circuit known.stimulus known.stands)
+    (r.broken c.make_times.new.recorder c.make_times.new.shelf) known.circuit known.stimulus known.stands)
     c.make_times.ensures.broke

@@ -3,7 +3,7 @@ use Rattle.std.proofs.lemmas.Result.{err_from_is_err_and}
 use Rattle.std.specs.Prelude.{not}
 use Rattle.circuit_model.specs.Simulated.{run_of_circuit}
 use Rattle.signoff.specs.Seen.{circuit_seen, stimulus_seen}
-use Rattle.signoff.specs.Writing.{Writer, writer_seen}
+use Rattle.signoff.specs.Writing.{writer_seen}
 use Rattle.signoff.proofs.VcdRuns.{HasRecorded, breaks, ends, ends_not, leaves_less, spends, spent_none, spent_some}
 use Rattle.signoff.proofs.run.run_and_dump.Goals as goal
 use Rattle.signoff.proofs.run.run_and_dump.Goals.{then-is_none+in_ok-finish, else-is_none}

@@ -14,7 +14,7 @@ returns-in_err-net-clause-broke g c =
     let r = g.R.Recorder in
     on_err c.from_residual.result _
     (broke_making (t.machine c.args.times.now) (t.sets c.args.times.now) c.args.bound c.args.end c.loop-now.now (t.stands c.args.times.now) (t.stands c.loop-now.times) (r.holds c.args.recorder.now c.args.shelf.now)
-        (r.holds c.loop-now.recorder c.loop-now.shelf) (r.broken c.loop-now.recorder c.loop-now.shelf) c.loop-now.invariant.came)
+    (r.holds c.loop-now.recorder c.loop-now.shelf) (r.broken c.loop-now.recorder c.loop-now.shelf) c.loop-now.invariant.came)
 
 pub returns-in-Spent-clause-spent : goal.returns-in-Spent-clause-spent
 returns-in-Spent-clause-spent g c =
@@ -47,7 +47,7 @@ returns-in_err-record-clause-broke g c =
     time_ended m sets c.args.bound c.args.end now (t.stands c.args.times.now) (t.stands c.loop-now.times) (t.stands c.make.new.self) (r.holds c.args.recorder.now c.args.shelf.now) (r.holds c.loop-now.recorder c.loop-now.shelf) c.loop-now-test.true c.loop-now.invariant.came made in
     on_err c.from_residual-in_err-record.result _
     (broke_recording m sets c.args.bound c.args.end now (t.stands c.args.times.now) (t.stands c.make.new.self) (r.holds c.args.recorder.now c.args.shelf.now) (r.holds c.loop-now.recorder c.loop-now.shelf) (r.holds c.record.new.self c.record.new.shelf)
-        (r.broken c.record.new.self c.record.new.shelf) c.values.result.now ended c.values.ensures c.in_err-record.ensures.err)
+    (r.broken c.record.new.self c.record.new.shelf) c.values.result.now ended c.values.ensures c.in_err-record.ensures.err)
 
 pub loop-now-preserved : goal.loop-now-preserved
 loop-now-preserved g c =

@@ -17,7 +17,7 @@ returns-then-needs-clause-ended g c =
           (record {
             same = w.snapshot.ensures.machine;
             due = due_toggles (e.machine old) c.args.now c.args.must (e.handed old) (e.handed w.snapshot.new.self) (e.stands old) (e.stands w.snapshot.new.self) c.needs.result w.if-needs.false c.needs.ensures w.snapshot.ensures.stands
-            (w.snapshot.ensures.toggles ∙ ap not w.if-snapshot.true);
+                (w.snapshot.ensures.toggles ∙ ap not w.if-snapshot.true);
           })
     ] in
     let names : Names (e.machine old) c.args.now (e.handed mid) (e.stands mid) c.in_ok-name.field-0 =

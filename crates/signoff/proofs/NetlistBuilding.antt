@@ -1,0 +1,68 @@
+-- From a module to its circuit.
+use Rattle.std.proofs.Common.{ℕ, zero, suc, ◌≡◌, ◌+◌, ◌<◌, ◌≤◌, ◌^◌, List, [], ◌∷◌, ◌++◌, length, map, take, get_or, Bool, true, false, ◌&&◌, ◌==◌, nat_le, Option, Some, None, position, if◌then◌else◌, refl, sym, ap, subst, ◌∙◌, arith}
+use Rattle.std.specs.Borrow.{Bor}
+use Rattle.std.specs.List.{list_all}
+use Rattle.std.proofs.lemmas.List.{length-map, map_more, map_push, append_assoc}
+use Rattle.std.proofs.lemmas.Bool.Decides.{nat_tests}
+use Rattle.sg_logic.specs.declared.gates.GateKind.{GateKind}
+use Rattle.sg_logic.specs.declared.gates.GateKind.TheVariants.{And, Nand, Or, Nor, Xor, Xnor, Buf, Not}
+use Rattle.circuit_model.specs.Circuit.{Circuit, Net, Element, Driver, Driven, Nobody, Stimulated}
+use Rattle.signoff.specs.Flat.{flat}
+use Rattle.signoff.specs.WellFormed.{takes_inputs}
+use Rattle.signoff.specs.declared.netlist.declarations.GateItem as code_gate_item
+use Rattle.signoff.specs.NetlistForm.{Module, GateItem, same_name, is_among, is_wired, takes_others, place_of, driver_by, circuit_of, gates_of, inputs_of, outputs_of}
+use Rattle.signoff.specs.NetlistSeen.{names_seen, gates_seen, gate_seen, driver_among, net_among, element_among}
+use Rattle.signoff.proofs.NetlistSpelling.{both-parts}
+
+pub driver-some : (inputs driven : List (List ℕ)) (port : List ℕ) (place : ℕ) → false ≡ is_among inputs port → position (same_name port) driven ≡ Some place → Driven place ≡ driver_among inputs driven port
+driver-some inputs driven port place h e =
+    ap (λ o. driver_by o) (sym e) ∙ ap (λ b. if b then Stimulated else driver_by (position (same_name port) driven)) h
+
+pub driver-none : (inputs driven : List (List ℕ)) (port : List ℕ) → false ≡ is_among inputs port → position (same_name port) driven ≡ None → Nobody ≡ driver_among inputs driven port
+driver-none inputs driven port h e =
+    ap (λ o. driver_by o) (sym e) ∙ ap (λ b. if b then Stimulated else driver_by (position (same_name port) driven)) h
+
+-- a map over the names of references, one further
+pub seen-more : {X : Type 0} (f : List ℕ → X) (names : List (Bor (List ℕ))) (i : ℕ) (d : Bor (List ℕ)) → i < length names → map f (names_seen (take (i + 1) names)) ≡ map f (names_seen (take i names)) ++ f (get_or names i d).now ∷ []
+seen-more f names i d h = ap (λ x. map f x) (map_more (λ n. n.now) names i d h) ∙ map_push f (names_seen (take i names)) (get_or names i d).now
+
+-- a gate with an output and inputs enough has inputs enough
+takes-inputs : (kind : GateKind) (n : ℕ) → takes_others kind n ≡ true → takes_inputs kind n ≡ true
+takes-inputs And n h = grind (arith, nat_tests)
+takes-inputs Nand n h = grind (arith, nat_tests)
+takes-inputs Or n h = grind (arith, nat_tests)
+takes-inputs Nor n h = grind (arith, nat_tests)
+takes-inputs Xor n h = grind (arith, nat_tests)
+takes-inputs Xnor n h = grind (arith, nat_tests)
+takes-inputs Buf n h = h
+takes-inputs Not n h = h
+
+all-take : (gates : List code_gate_item.GateItem) (i : ℕ) (d : code_gate_item.GateItem) → i < length gates → list_all (λ g. takes_others g.kind (length g.others)) (gates_seen gates) ≡ true
+    → takes_others (get_or gates i d).kind (length (names_seen (get_or gates i d).others.now)) ≡ true
+all-take [] i d h k = absurd (omega arith)
+all-take (g ∷ gs) zero d h k = (both-parts (takes_others g.kind (length (names_seen g.others.now))) (list_all (λ x. takes_others x.kind (length x.others)) (gates_seen gs)) k).0
+all-take (g ∷ gs) (suc i) d h k =
+    all-take gs i d (omega arith) (both-parts (takes_others g.kind (length (names_seen g.others.now))) (list_all (λ x. takes_others x.kind (length x.others)) (gates_seen gs)) k).1
+
+pub gate-takes : (gates : List code_gate_item.GateItem) (i : ℕ) (d : code_gate_item.GateItem) (places : List ℕ) (f : List ℕ → ℕ) → i < length gates → list_all (λ g. takes_others g.kind (length g.others)) (gates_seen gates) ≡ true
+    → places ≡ map f (names_seen (get_or gates i d).others.now) → takes_inputs (get_or gates i d).kind (length places) ≡ true
+gate-takes gates i d places f h k e =
+    let n = ap length e ∙ length-map (names_seen (get_or gates i d).others.now) f in
+    rw n (takes-inputs (get_or gates i d).kind (length (names_seen (get_or gates i d).others.now)) (all-take gates i d h k))
+
+pub wired-take : (m : Module) (gs : List GateItem) → list_all (is_wired m) gs ≡ true → list_all (λ g. takes_others g.kind (length g.others)) gs ≡ true
+wired-take m [] h = refl
+wired-take m (g ∷ gs) h =
+    let p = both-parts (is_wired m g) (list_all (is_wired m) gs) h in
+    let q = both-parts (takes_others g.kind (length g.others)) (is_among (outputs_of m) g.first && list_all (is_among (inputs_of m)) g.others) p.0 in
+    rw (q.0) (wired-take m gs p.1)
+
+-- the circuit from what was gathered
+pub circuit-same : (m : Module) (name : List ℕ) (nets : List Net) (elements : List Element) (inputs driven : List (List ℕ)) (gates : List GateItem)
+    → name ≡ m.name → nets ≡ map (net_among inputs driven) m.ports → elements ≡ map (element_among m.ports) gates
+    → inputs ≡ inputs_of m → driven ≡ map (λ g. g.first) (gates_of m) → gates ≡ gates_of m → flat name nets elements ≡ circuit_of m
+circuit-same m name nets elements inputs driven gates a b c d e f =
+    ap (λ x. flat x nets elements) a ∙ ap (λ x. flat m.name x elements) b ∙ ap (λ x. flat m.name (map (net_among inputs driven) m.ports) x) c
+    ∙ ap (λ x. flat m.name (map (net_among x driven) m.ports) (map (element_among m.ports) gates)) d
+    ∙ ap (λ x. flat m.name (map (net_among (inputs_of m) x) m.ports) (map (element_among m.ports) gates)) e
+    ∙ ap (λ x. flat m.name (map (net_among (inputs_of m) (map (λ g. g.first) (gates_of m))) m.ports) (map (element_among m.ports) x)) f

@@ -1,0 +1,15 @@
+use Rattle.std.proofs.Common.{rules, arith, ℕ, ◌≡◌, ◌++◌, ◌∷◌, [], List, map, length, take, get_or, Bool, true, false, sym, ◌∙◌, ap, subst, Bor}
+use Rattle.signoff.specs.NetlistForm.{place_of, takes_others, gates_of}
+use Rattle.signoff.specs.NetlistSeen.{names_seen, gates_seen, gate_seen, element_among, module_seen}
+use Rattle.signoff.proofs.NetlistBuilding.{seen-more, gate-takes, wired-take, circuit-same}
+use Rattle.signoff.proofs.netlist.building.circuit_of.Goals as goal
+
+pub elements_of-requires-clause-takes : goal.elements_of-requires-clause-takes
+elements_of-requires-clause-takes c =
+    rw (c.deref-5.ensures.value, c.requires.declared.gates) (wired-take (module_seen c.args.tree.now) (gates_of (module_seen c.args.tree.now)) c.requires.sound.wired)
+
+pub returns : goal.returns
+returns c =
+    let nets = rw (c.deref.ensures.value, c.deref-2.ensures.value, c.deref-3.ensures.value) at c.in_ok-nets_of.ensures in
+    let elements = rw (c.deref-4.ensures.value, c.deref-5.ensures.value) at c.in_ok-elements_of.ensures in
+    circuit-same (module_seen c.args.tree.now) _ _ _ _ _ _ c.in_ok-copy.ensures nets elements c.requires.declared.inputs c.requires.declared.driven c.requires.declared.gates

@@ -1,0 +1,32 @@
+use Rattle.std.proofs.Common.{rules, arith, ◌≡◌, ◌≢◌, ◌≤◌, ◌<◌, ◌-◌, ◌++◌, ◌∷◌, [], List, ℕ, take, drop, length, get_or, Vec, Bor, IfOk, Ok, Err, IsTrue, true, false, Continue, Break, Global, sym, ◌∙◌, subst, ap, codes}
+use lib.Pointwise.{pointwise, bytes_decides}
+use Rattle.std.proofs.lemmas.List.{map_push, take_rest, length-drop}
+use Rattle.signoff.specs.declared.netlist.tokens.Token.TheVariants as token
+use Rattle.signoff.specs.NetlistForm.{Name, Symbol, names_spelled, item_spelled, are_plain, names_in, left_parenthesis, right_parenthesis, semicolon, module_spelled}
+use Rattle.signoff.specs.NetlistSeen.{tokens_seen, names_seen, item_seen, items_seen, module_seen}
+use Rattle.signoff.proofs.NetlistReading.{names-closed, names-end, names-end-symbol, list-end, inputs-read, outputs-read, items-end, items-more, item-shorter, behind-item, module-read, module-end, ends-module, one-name}
+use Rattle.signoff.proofs.netlist.modules.read_items.Goals as goal
+
+pub returns-in_err-item-clause-not_yet : goal.returns-in_err-item-clause-not_yet
+returns-in_err-item-clause-not_yet c = λ e items h k.
+    let same = rw e at c.from_residual.ensures.1 in
+    items-end _ _ _ c.loop-rest.invariant.read (λ f. let ended = c.loop-rest-test.ensures.1 f in cc) (c.in_err-item.ensures.not_yet (ap Err (sym same))) items h k
+
+pub overflow_sub-taken : goal.overflow_sub-taken
+overflow_sub-taken c =
+    let shorter = item-shorter _ _ _ c.in_ok-item.ensures.ok in
+    omega arith
+
+pub loop-rest-smaller : goal.loop-rest-smaller
+loop-rest-smaller c =
+    let shorter = item-shorter _ _ _ c.in_ok-item.ensures.ok in
+    rw (take_rest, length-drop) (omega arith)
+
+pub loop-rest-preserved : goal.loop-rest-preserved
+loop-rest-preserved c =
+    let shorter = item-shorter _ _ _ c.in_ok-item.ensures.ok in
+    record {
+      within = rw (take_rest, length-drop) (omega arith);
+      read = rw (c.in_ok-push.ensures.items, map_push, take_rest, behind-item _ _ _ c.in_ok-item.ensures.ok)
+          (items-more _ _ _ _ _ c.loop-rest.invariant.read c.in_ok-item.ensures.ok);
+    }

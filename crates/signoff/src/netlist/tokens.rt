@@ -1,0 +1,71 @@
+// The tokens of a netlist.
+ghost use Rattle.std.specs.Prelude.{◌≡◌, IfOk, Err, List};
+ghost use Rattle.std.specs.List.{prefix_len};
+ghost use Rattle.signoff.specs.NetlistForm.{Splits, Token as TokenModel, is_blank, is_symbol};
+ghost use Rattle.signoff.specs.NetlistSeen.{tokens_seen};
+ghost use Rattle.circuit_model.specs.Texts.{is_letter, is_name_byte};
+
+use crate::forms::FormError;
+use std::alloc::Global;
+
+/// A name with its bytes, or one of `(`, `)`, `,` and `;`.
+#[derive(Clone, Copy, Debug)]
+pub enum Token<'a> {
+    Name(&'a [u8]),
+    Symbol(u8),
+}
+
+fn is_blank(byte: u8) -> bool
+    ensures { result ≡ is_blank byte }
+{
+    matches!(byte, b' ' | b'\t' | b'\n' | b'\r')
+}
+
+fn is_symbol(byte: u8) -> bool
+    ensures { result ≡ is_symbol byte }
+{
+    matches!(byte, b'(' | b')' | b',' | b';')
+}
+
+fn is_letter(byte: u8) -> bool
+    ensures { result ≡ is_letter byte }
+{
+    matches!(byte, b'A'..=b'Z' | b'a'..=b'z' | b'_')
+}
+
+fn is_name_byte(byte: u8) -> bool
+    ensures { result ≡ is_name_byte byte }
+{
+    is_letter(byte) || matches!(byte, b'0'..=b'9' | b'$')
+}
+
+// How many bytes that may stand in a name a text begins with.
+fn name_length(text: &[u8]) -> usize
+    ensures { result ≡ prefix_len (λ b. is_name_byte b) text.now }
+{
+    text.iter().take_while(|b| is_name_byte(**b)).count()
+}
+
+/// The tokens that a text is split into. `NotYet` comes exactly where a byte begins no token.
+pub fn tokens_of(alloc: Global, text: &[u8]) -> Result<Vec<Token<'_>>, FormError>
+    ensures ok { IfOk result (λ tokens. Splits text.now (tokens_seen tokens.items)) }
+    ensures not_yet { result ≡ Err FormError.NotYet → (tokens : List TokenModel) → Splits text.now tokens → ⊥ }
+{
+    let mut tokens = Vec::new(alloc);
+    let mut rest = text;
+    while let [first, after @ ..] = rest {
+        if is_blank(*first) {
+            rest = after;
+        } else if is_symbol(*first) {
+            tokens.push(Token::Symbol(*first))?;
+            rest = after;
+        } else if is_letter(*first) {
+            let (name, behind) = rest.split_at(name_length(rest));
+            tokens.push(Token::Name(name))?;
+            rest = behind;
+        } else {
+            return Err(FormError::NotYet);
+        }
+    }
+    Ok(tokens)
+}

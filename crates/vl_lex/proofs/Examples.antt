@@ -1,0 +1,77 @@
+-- Small texts, as the definitions read them.
+use Rattle.std.proofs.Common.{◌≡◌, ℕ, List, [], ◌∷◌, length, take, drop, refl, arith}
+use Rattle.std.specs.Prelude.{Some, None, true, false, Ok, Err, codes, pos, neg_ℤ}
+use Rattle.sg_logic.specs.declared.values.Value.TheVariants.{Zero, One, X}
+use Rattle.vl_lex.specs.Sized.{low_bits, sized_of}
+use Rattle.vl_lex.specs.Pieces.{class_of}
+use Rattle.vl_lex.specs.Modes.{IsPiece, class_in, edge_class, is_endtable}
+use Rattle.vl_lex.specs.Tokens.{name_token, sized_token, pair_token, other_token}
+use Rattle.sg_text.specs.Words.{reserved_words}
+use Rattle.vl_lex.specs.Directives.{scale_of, directive_of, are_no_effect}
+use Rattle.vl_lex.specs.Lexes.{Lexes, sized_meaning, pair_meaning}
+use Rattle.vl_lex.specs.declared.faults.LexKind.TheVariants.{UnknownDirective, UnbalancedIf}
+use Rattle.vl_lex.specs.declared.modes.Mode.TheVariants.{Plain}
+use Rattle.vl_lex.specs.declared.pieces.Class.{Class}
+use Rattle.vl_lex.specs.declared.pieces.Class.TheVariants as class
+
+-- a piece that is all of a text
+whole : (text : List ℕ) (n : ℕ) (c : Class) → length text ≡ n → class_in Plain (take n text) (drop n text) ≡ Some c → IsPiece Plain text n c
+whole text n c e f = record { within = omega arith; form = f; longest = λ m lt le. absurd (omega arith) }
+
+-- ab
+a_name : Lexes (codes "ab" ∷ []) (Ok (record { meaning = name_token (codes "ab"); place = record { file = 0; byte = 0 } } ∷ []))
+unfolding reserved_words
+a_name = (_, (_, (record { class = class.Name; size = 2 } ∷ [], (whole (codes "ab") 2 class.Name refl refl, (_, refl, (refl, refl)))), refl), refl)
+
+-- `ab, where no macro is defined
+an_unknown_directive : Lexes (codes "`ab" ∷ []) (Err (record { kind = UnknownDirective; place = record { file = 0; byte = 0 } }))
+unfolding directive_of are_no_effect
+an_unknown_directive = (_, (_, (record { class = class.Use; size = 3 } ∷ [], (whole (codes "`ab") 3 class.Use refl refl, (_, refl, refl))), refl), refl)
+
+-- `endif alone
+an_endif_alone : Lexes (codes "`endif" ∷ []) (Err (record { kind = UnbalancedIf; place = record { file = 0; byte = 0 } }))
+unfolding directive_of are_no_effect
+an_endif_alone = (_, (_, (record { class = class.Use; size = 6 } ∷ [], (whole (codes "`endif") 6 class.Use refl refl, (_, refl, refl))), refl), refl)
+
+-- (*) begins with a parenthesis, and is no attribute
+a_star_in_parentheses : class_of (codes "(*)") [] ≡ None
+a_star_in_parentheses = refl
+
+its_parenthesis : class_of (codes "(") (codes "*)") ≡ Some class.Symbol
+its_parenthesis = refl
+
+-- 011 in an edge list begins with a pair, and zX is no change
+a_pair : edge_class (codes "01") (codes "1") ≡ Some class.Pair
+a_pair = refl
+
+its_change : pair_meaning (codes "1z") ≡ pair_token One X
+its_change = refl
+
+no_change : pair_meaning (codes "zX") ≡ other_token (codes "zX")
+no_change = refl
+
+-- a name byte behind the word hides it
+a_longer_word : is_endtable (codes "endtable") (codes "1") ≡ false
+a_longer_word = refl
+
+-- 4'bx, 2'b101, 'd10 and 0'b1
+extended_with_x : sized_meaning (codes "4'bx") (sized_of (codes "4'bx")) ≡ sized_token (Some 4) (X ∷ X ∷ X ∷ X ∷ [])
+extended_with_x = refl
+
+surplus_dropped : sized_meaning (codes "2'b101") (sized_of (codes "2'b101")) ≡ sized_token (Some 2) (Zero ∷ One ∷ [])
+unfolding low_bits
+surplus_dropped = refl
+
+fewest_bits : sized_meaning (codes "'d10") (sized_of (codes "'d10")) ≡ sized_token None (One ∷ Zero ∷ One ∷ Zero ∷ [])
+unfolding low_bits
+fewest_bits = refl
+
+no_width_of_0 : sized_meaning (codes "0'b1") (sized_of (codes "0'b1")) ≡ other_token (codes "0'b1")
+no_width_of_0 = refl
+
+-- 10 ns / 100 ps
+a_scale :
+    scale_of (record { is_name = false; bytes = codes "10" } ∷ record { is_name = true; bytes = codes "ns" } ∷ record { is_name = false; bytes = codes "/" }
+    ∷ record { is_name = false; bytes = codes "100" } ∷ record { is_name = true; bytes = codes "ps" } ∷ [])
+    ≡ Some (record { unit = neg_ℤ (pos 8); precision = neg_ℤ (pos 10) })
+a_scale = refl

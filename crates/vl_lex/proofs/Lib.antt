@@ -1,0 +1,13 @@
+-- The modules of this folder.
+pub mod Runs
+pub mod NumberLaws
+pub mod SizedLaws
+pub mod PieceLaws
+pub mod ModeLaws
+pub mod BitLaws
+pub mod BranchLaws
+pub mod Splits
+pub mod StepLaws
+pub mod OneReading
+pub mod SomeReading
+pub mod Examples

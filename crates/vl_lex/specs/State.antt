@@ -1,0 +1,65 @@
+-- The state of the directives (IEEE 1364-2005, the clause on compiler directives), and the tokens so far.
+use Rattle.std.specs.Prelude.{ℕ, pos, neg_ℤ, nat_eq, List, [], ◌∷◌, Bool, true, false, Option, Some, None, Result, Err, if◌then◌else◌}
+use Rattle.std.specs.List.{list_all}
+use lib.Pointwise.{pointwise}
+use Rattle.sg_text.specs.declared.places.Place.{Place}
+use Rattle.vl_lex.specs.Tokens.{Settings, Lexeme}
+use Rattle.vl_lex.specs.declared.faults.LexKind.{LexKind}
+use Rattle.vl_lex.specs.declared.modes.Mode.{Mode}
+use Rattle.vl_lex.specs.declared.modes.Mode.TheVariants.{Plain}
+use Rattle.vl_lex.specs.declared.directives.Directive.{Directive}
+use Rattle.vl_lex.specs.declared.branches.Branch.{Branch}
+
+pub record Macro : Type 0 where
+  pub name : List ℕ
+  pub text : List ℕ
+
+-- a word of a directive
+pub record Word : Type 0 where
+  pub is_name : Bool
+  pub bytes : List ℕ
+
+-- a directive that waits for its words, with those that it has
+pub record Waiting : Type 0 where
+  pub directive : Directive
+  pub place : Place
+  pub words : List Word
+
+-- the innermost branch comes first, and so does the oldest token
+pub record State : Type 0 where
+  pub mode : Mode
+  pub waiting : Option Waiting
+  pub macros : List Macro
+  pub branches : List Branch
+  pub settings : Settings
+  pub tokens : List Lexeme
+
+pub record Fault : Type 0 where
+  pub kind : LexKind
+  pub place : Place
+
+-- what reading comes to: a state, or a fault
+abbrev pub Outcome : Type 0
+Outcome = Result State Fault
+
+abbrev pub fault : LexKind → Place → Outcome
+fault kind place = Err (record { kind = kind; place = place })
+
+-- 1 ns / 1 ps, no cells, and nets that may be implicit
+abbrev pub first_settings : Settings
+first_settings = record { scale = record { unit = neg_ℤ (pos 9); precision = neg_ℤ (pos 12) }; cell = false; implicit = true }
+
+abbrev pub first_state : State
+first_state = record { mode = Plain; waiting = None; macros = []; branches = []; settings = first_settings; tokens = [] }
+
+abbrev pub same_bytes : List ℕ → List ℕ → Bool
+same_bytes = pointwise nat_eq
+
+-- the text of the macro of a name
+abbrev pub text_of : List ℕ → List Macro → Option (List ℕ)
+text_of name [] = None
+text_of name (m ∷ ms) = if same_bytes m.name name then Some m.text else text_of name ms
+
+-- whether the text at hand is taken: each open branch is
+abbrev pub is_taken : List Branch → Bool
+is_taken branches = list_all (λ b. b.taken) branches

@@ -1,0 +1,83 @@
+// The open branches, the innermost last.
+ghost use Rattle.std.specs.Prelude.{◌≡◌, OnOk, IfOk, Some, None, reverse, if◌then◌else◌};
+ghost use Rattle.std.specs.List.{list_all};
+ghost use Rattle.vl_lex.specs.State.{is_taken};
+ghost use Rattle.vl_lex.specs.Directives.{outer, words_wanted, opened, gone_on, closed};
+
+use crate::branches::Branch;
+use crate::directives::Directive;
+use sg_text::Place;
+use std::alloc::AllocError;
+
+// Whether the text at hand is taken.
+pub fn is_taken(branches: &[Branch]) -> bool
+    ensures { result ≡ is_taken (reverse branches.now) }
+{
+    branches.iter().rev().all(|branch| branch.taken)
+}
+
+// The branches outside the innermost one.
+fn outer(branches: &[Branch]) -> &[Branch]
+    ensures { reverse result.now ≡ outer (reverse branches.now) }
+{
+    &branches[..branches.len().saturating_sub(1)]
+}
+
+fn where_taken(branches: &[Branch]) -> usize
+    ensures { result ≡ (if is_taken (reverse branches.now) then 1 else 0) }
+{
+    if is_taken(branches) { 1 } else { 0 }
+}
+
+// How many words a directive has.
+pub fn words_wanted(directive: Directive, branches: &[Branch]) -> usize
+    ensures { result ≡ words_wanted directive (reverse branches.now) }
+{
+    match directive {
+        Directive::Timescale => 5,
+        Directive::DefaultNetType | Directive::Define | Directive::Undef => 1,
+        Directive::IfDef | Directive::IfNDef => where_taken(branches),
+        Directive::ElsIf => where_taken(outer(branches)),
+        _ => 0,
+    }
+}
+
+// A branch is opened.
+pub fn open(branches: &mut Vec<Branch>, place: Place, test: bool) -> Result<(), AllocError>
+    ensures { OnOk result (reverse branches.new.items ≡ opened place test (reverse branches.old.items)) }
+{
+    let taken = is_taken(branches);
+    branches.push(Branch {
+        place,
+        taken: test && taken,
+        settled: test || !taken,
+        last: false,
+    })?;
+    Ok(())
+}
+
+// The innermost branch goes on with another text, if it may.
+pub fn go_on(branches: &mut Vec<Branch>, test: bool, last: bool) -> Result<bool, AllocError>
+    ensures { IfOk result (λ done. gone_on test last (reverse branches.old.items) ≡ (if done then Some (reverse branches.new.items) else None)) }
+{
+    let Some(branch) = branches.pop() else {
+        return Ok(false);
+    };
+    if branch.last && is_taken(branches) {
+        return Ok(false);
+    }
+    branches.push(Branch {
+        place: branch.place,
+        taken: test && !branch.settled,
+        settled: test || branch.settled,
+        last,
+    })?;
+    Ok(true)
+}
+
+// The innermost branch is closed, if there is one.
+pub fn close(branches: &mut Vec<Branch>) -> bool
+    ensures { closed (reverse branches.old.items) ≡ (if result then Some (reverse branches.new.items) else None) }
+{
+    branches.pop().is_some()
+}

@@ -1,0 +1,80 @@
+// How the mode changes.
+ghost use Rattle.std.specs.Prelude.{◌≡◌};
+ghost use Rattle.vl_lex.specs.Lexes.{mode_by_name, behind_plain, behind_edge, behind_edges, behind_cell, mode_behind};
+
+use crate::bytes::is_word;
+use crate::modes::Mode;
+use crate::pieces::Class;
+
+fn mode_by_name(bytes: &[u8]) -> Mode
+    ensures { result ≡ mode_by_name bytes.now }
+{
+    if is_word(bytes, "edge") {
+        Mode::AfterEdge
+    } else if is_word(bytes, "table") {
+        Mode::Table
+    } else {
+        Mode::Plain
+    }
+}
+
+fn behind_plain(class: Class, bytes: &[u8]) -> Mode
+    ensures { result ≡ behind_plain class bytes.now }
+{
+    match class {
+        Class::Name => mode_by_name(bytes),
+        _ => Mode::Plain,
+    }
+}
+
+fn behind_edge(class: Class, bytes: &[u8]) -> Mode
+    ensures { result ≡ behind_edge class bytes.now }
+{
+    match class {
+        Class::Gap | Class::Attribute => Mode::AfterEdge,
+        Class::Symbol => {
+            if is_word(bytes, "[") {
+                Mode::Edges
+            } else {
+                Mode::Plain
+            }
+        }
+        _ => behind_plain(class, bytes),
+    }
+}
+
+fn behind_edges(class: Class, bytes: &[u8]) -> Mode
+    ensures { result ≡ behind_edges class bytes.now }
+{
+    match class {
+        Class::Symbol => {
+            if is_word(bytes, "]") {
+                Mode::Plain
+            } else {
+                Mode::Edges
+            }
+        }
+        _ => Mode::Edges,
+    }
+}
+
+fn behind_cell(class: Class) -> Mode
+    ensures { result ≡ behind_cell class }
+{
+    match class {
+        Class::Name => Mode::Plain,
+        _ => Mode::Table,
+    }
+}
+
+// The mode behind a piece.
+pub fn mode_behind(mode: Mode, class: Class, bytes: &[u8]) -> Mode
+    ensures { result ≡ mode_behind mode class bytes.now }
+{
+    match mode {
+        Mode::Plain | Mode::Line => behind_plain(class, bytes),
+        Mode::AfterEdge => behind_edge(class, bytes),
+        Mode::Edges => behind_edges(class, bytes),
+        Mode::Table => behind_cell(class),
+    }
+}

@@ -1,0 +1,69 @@
+// Sized constants.
+ghost use Rattle.std.specs.Prelude.{◌≡◌, Option};
+ghost use Rattle.vl_lex.specs.Sized.{base_of, hex_value, is_x, is_z, is_bits_digit, is_digit_of};
+
+/// The base that a constant's digits are of.
+#[derive(Clone, Copy, Debug, PartialEq, Eq)]
+pub enum Base {
+    Binary,
+    Octal,
+    Decimal,
+    Hexadecimal,
+}
+
+// The base that a letter names.
+pub fn base_of(letter: u8) -> Option<Base>
+    ensures { result ≡ base_of letter }
+{
+    match letter {
+        b'b' | b'B' => Some(Base::Binary),
+        b'o' | b'O' => Some(Base::Octal),
+        b'd' | b'D' => Some(Base::Decimal),
+        b'h' | b'H' => Some(Base::Hexadecimal),
+        _ => None,
+    }
+}
+
+// The value of a hexadecimal digit, 16 where it is none.
+pub fn hex_value(digit: u8) -> u8
+    ensures { result ≡ hex_value digit }
+{
+    if digit >= b'0' && digit <= b'9' {
+        digit - b'0'
+    } else if digit >= b'a' && digit <= b'f' {
+        digit - b'a' + 10
+    } else if digit >= b'A' && digit <= b'F' {
+        digit - b'A' + 10
+    } else {
+        16
+    }
+}
+
+pub fn is_x(digit: u8) -> bool
+    ensures { result ≡ is_x digit }
+{
+    digit == b'x' || digit == b'X'
+}
+
+pub fn is_z(digit: u8) -> bool
+    ensures { result ≡ is_z digit }
+{
+    digit == b'z' || digit == b'Z'
+}
+
+fn is_bits_digit(base: u8, digit: u8) -> bool
+    ensures { result ≡ is_bits_digit base digit }
+{
+    is_x(digit) || is_z(digit) || hex_value(digit) < base
+}
+
+pub fn is_digit_of(base: Base, digit: u8) -> bool
+    ensures { result ≡ is_digit_of base digit }
+{
+    match base {
+        Base::Binary => is_bits_digit(2, digit),
+        Base::Octal => is_bits_digit(8, digit),
+        Base::Decimal => digit.is_ascii_digit(),
+        Base::Hexadecimal => is_bits_digit(16, digit),
+    }
+}
