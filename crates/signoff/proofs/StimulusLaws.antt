@@ -1,23 +1,15 @@
 -- What a text describes, by its rows: the stimulus that is read, and that it is the only one.
-use Rattle.std.proofs.Common.{ℕ, ◌≡◌, ◌≤◌, ◌+◌, ◌-◌, ◌==◌, List, [], ◌∷◌, ◌++◌, length, map, get_or, Bool, true, false, ◌&&◌, cond, Option, Some, None, unwrap_or, option_map, Bor, refl, ap, sym, ◌∙◌, subst, arith, append_assoc, length-append}
+use Rattle.std.proofs.Common.{ℕ, ◌≡◌, ◌≤◌, List, [], ◌∷◌, length, map, true, false, refl, ap, sym, ◌∙◌}
 use Rattle.std.specs.List.{list_all, flat_map}
-use Rattle.std.proofs.lemmas.Bool.{and_parts, and_from, both_ways, leb-true}
-use Rattle.std.proofs.lemmas.List.{get_or-append-add}
-use Rattle.std.proofs.lemmas.List.Sums.{AllPass-from_list_all}
+use Rattle.std.proofs.lemmas.Bool.{and_parts, and_from, both_ways}
 use Rattle.std.proofs.lemmas.Simd.{map-map}
-use Rattle.std.proofs.Math.Seq.{get_or-append_seam}
-use lib.Chars.{codes}
-use Rattle.sg_logic.specs.declared.values.Value.{Value}
-use Rattle.sg_logic.specs.declared.values.Value.TheVariants.{Zero, One, X, Z}
 use Rattle.circuit_model.specs.Circuit.{Circuit}
 use Rattle.circuit_model.specs.Simulated.{Step, Stimulus}
-use Rattle.circuit_model.specs.Vcd.{value_letter}
 use Rattle.signoff.specs.NetlistForm.{most_bytes}
-use Rattle.signoff.specs.StimulusForm.{SetText, AtLine, Lines, at_spelled, end_spelled, lines_spelled, is_digit, is_number, ticks_of, is_at, AreSound, step_of, stimulus_of, IsStimulus}
-use Rattle.signoff.specs.StimulusLines.{Reads, rows_of, set_word, at_words, end_words, rows, are_lines, at_seen, lines_seen}
-use Rattle.signoff.specs.Seen.{circuit_seen, step_seen}
+use Rattle.signoff.specs.StimulusForm.{AtLine, Lines, at_spelled, is_number, ticks_of, is_at, AreSound, step_of, IsStimulus}
+use Rattle.signoff.specs.StimulusLines.{rows_of, rows, are_lines, at_seen, lines_seen}
+use Rattle.signoff.specs.Seen.{step_seen}
 use Rattle.signoff.specs.WellFormed.{rise_to}
-use Rattle.signoff.specs.declared.circuits.Circuit as code_circuit
 use Rattle.signoff.specs.declared.circuits.Step as code_step
 use Rattle.signoff.specs.declared.stimulus.lines.AtLine as code_at
 use Rattle.signoff.specs.declared.stimulus.lines.Lines as code_lines

@@ -1,9 +1,8 @@
 -- The text of sound lines cut into rows of words, and put together from them.
-use Rattle.std.proofs.Common.{ℕ, ◌≡◌, ◌==◌, List, [], ◌∷◌, ◌++◌, length, map, get_or, Bool, true, false, ◌&&◌, ◌||◌, refl, ap, sym, ◌∙◌, subst, append_assoc}
+use Rattle.std.proofs.Common.{ℕ, ◌≡◌, ◌==◌, List, [], ◌∷◌, ◌++◌, map, Bool, true, false, ◌||◌, refl, ap, sym, ◌∙◌, subst, append_assoc}
 use Rattle.std.specs.List.{list_all, flat_map, slice_split, join_with_byte, All}
 use Rattle.std.proofs.lemmas.Bool.{and_parts, and_from, or_left, or_right, both_ways, eqb-true, false_from_ne_true}
 use Rattle.std.proofs.lemmas.List.{append-nil}
-use Rattle.std.proofs.lemmas.List.Elements.{All-append}
 use Rattle.std.proofs.lemmas.List.Folds.{list_all-append}
 use Rattle.std.proofs.lemmas.List.Sums.{AllPass-from_list_all}
 use Rattle.std.proofs.lemmas.List.Splits.{slice_split_at, slice_split_none, join_with_byte-slice_split}
@@ -13,7 +12,7 @@ use Rattle.sg_logic.specs.declared.values.Value.TheVariants.{Zero, One, X, Z}
 use Rattle.circuit_model.specs.Circuit.{Circuit}
 use Rattle.circuit_model.specs.Texts.{is_letter, is_name_byte, is_simple}
 use Rattle.circuit_model.specs.Vcd.{value_letter}
-use Rattle.signoff.specs.StimulusForm.{SetText, AtLine, Lines, set_spelled, at_spelled, is_digit, is_number, sets_input, is_at, is_input}
+use Rattle.signoff.specs.StimulusForm.{SetText, AtLine, Lines, set_spelled, at_spelled, is_digit, is_number, sets_input, is_at}
 use Rattle.signoff.specs.StimulusLines.{lines_of, words_of, rows_of, set_word, at_words, end_words, rows, are_lines}
 
 -- the text of the lines, up to the LF behind the end

@@ -1,5 +1,5 @@
 -- What the words of a line give away.
-use Rattle.std.proofs.Common.{ℕ, suc, ◌≡◌, ◌≤◌, ◌-◌, ◌==◌, List, [], ◌∷◌, ◌++◌, length, map, get_or, drop, take, Bool, true, false, ◌&&◌, nat_le, Bor, refl, ap, sym, ◌∙◌, subst, arith, length-append}
+use Rattle.std.proofs.Common.{ℕ, suc, ◌≡◌, ◌≤◌, ◌-◌, ◌==◌, List, [], ◌∷◌, ◌++◌, length, map, get_or, drop, take, true, false, ◌&&◌, nat_le, Bor, refl, ap, sym, ◌∙◌, subst, arith, length-append}
 use Rattle.std.specs.List.{list_any, list_all}
 use Rattle.std.proofs.lemmas.Bool.{and_parts, and_from, both_ways, le-leb}
 use Rattle.std.proofs.lemmas.List.{take_all}
@@ -8,7 +8,7 @@ use Rattle.sg_logic.specs.declared.values.Value.{Value}
 use Rattle.circuit_model.specs.Circuit.{Circuit}
 use Rattle.circuit_model.specs.Texts.{is_simple}
 use Rattle.circuit_model.specs.Vcd.{value_letter}
-use Rattle.signoff.specs.StimulusForm.{SetText, AtLine, sets_input, is_input, is_number, is_at}
+use Rattle.signoff.specs.StimulusForm.{SetText, sets_input, is_input, is_number, is_at}
 use Rattle.signoff.specs.StimulusLines.{set_word, at_words, end_words}
 use Rattle.signoff.specs.Seen.{circuit_seen, net_seen}
 use Rattle.signoff.specs.declared.circuits.Circuit as code_circuit

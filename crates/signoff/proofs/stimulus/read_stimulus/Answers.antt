@@ -1,5 +1,5 @@
 -- proofs/stimulus/read_stimulus/Answers.antt
-use Rattle.std.proofs.Common.{false, map, ap, sym, ◌∙◌}
+use Rattle.std.proofs.Common.{false, map, ap, ◌∙◌}
 use Rattle.signoff.specs.StimulusForm.{step_of as step_in}
 use Rattle.signoff.specs.StimulusLines.{at_seen, lines_seen}
 use Rattle.signoff.specs.Seen.{circuit_seen}

@@ -1,8 +1,8 @@
 -- proofs/stimulus/lines/read_sets/Invariants.antt
-use Rattle.std.proofs.Common.{◌≡◌, Some, map, take}
+use Rattle.std.proofs.Common.{Some, map, take}
 use Rattle.std.specs.List.{list_all}
 use Rattle.signoff.specs.StimulusForm.{sets_input}
-use Rattle.signoff.specs.StimulusLines.{Reads, words_of, set_word, set_seen}
+use Rattle.signoff.specs.StimulusLines.{Reads, set_word, set_seen}
 use Rattle.signoff.specs.Seen.{circuit_seen}
 use Rattle.signoff.proofs.stimulus.lines.read_sets.Given as goal
 

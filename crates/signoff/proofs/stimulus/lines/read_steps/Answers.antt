@@ -1,5 +1,5 @@
 -- proofs/stimulus/lines/read_steps/Answers.antt
-use Rattle.std.proofs.Common.{arith, [], ap, sym, map, ◌∙◌}
+use Rattle.std.proofs.Common.{arith, [], ap, map, ◌∙◌}
 use Rattle.signoff.proofs.StimulusReading.{not_all_written}
 use Rattle.signoff.proofs.stimulus.lines.read_steps.Goals as goal
 

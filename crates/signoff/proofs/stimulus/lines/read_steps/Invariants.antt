@@ -1,5 +1,5 @@
 -- proofs/stimulus/lines/read_steps/Invariants.antt
-use Rattle.std.proofs.Common.{◌≡◌, Some, map, take}
+use Rattle.std.proofs.Common.{Some, map, take}
 use Rattle.std.specs.List.{list_all}
 use Rattle.signoff.specs.StimulusForm.{is_at}
 use Rattle.signoff.specs.StimulusLines.{Reads, words_of, at_words, at_seen}
