@@ -1,8 +1,8 @@
 -- How the outcomes of phases compose.
-use Rattle.std.proofs.Common.{refl, ◌≡◌, ◌∙◌, sym, ap, subst, Result, ℕ, zero, suc, List, [], ◌∷◌, ◌<◌, arith, length, get_or}
-use Rattle.std.specs.Prelude.{Ok, Err, Some, Option, Contains}
+use Rattle.std.proofs.Common.{refl, ◌≡◌, sym, subst, Result, ℕ, zero, suc, List, [], ◌∷◌, arith}
+use Rattle.std.specs.Prelude.{Ok, Err, Option, Contains}
 use Rattle.signoff.specs.Phases.{Refusal, Then, stops, goes_on}
-use Rattle.signoff.specs.Stops.{Gives, IfOutcome, refusal_seen, StopCause, NeverFails, StopNames, NamesOneOf}
+use Rattle.signoff.specs.Stops.{Gives, IfOutcome, refusal_seen, StopCause, NeverFails, StopNames}
 use Rattle.signoff.specs.declared.stop.Stop as code_stop
 use Rattle.signoff.specs.declared.stop.Stop.TheVariants as stop
 

@@ -1,13 +1,13 @@
 -- Worked examples of the words and of the two forms.
-use Rattle.std.specs.Prelude.{◌≡◌, ℕ, List, [], ◌∷◌, ◌++◌, true, false, Some, None, codes, refl}
+use Rattle.std.specs.Prelude.{◌≡◌, [], ◌∷◌, ◌++◌, true, false, Some, None, codes, refl}
 use Rattle.sg_logic.specs.declared.values.Value.TheVariants.{Zero, One}
 use Rattle.sg_logic.specs.declared.gates.GateKind.TheVariants.{Not}
 use Rattle.circuit_model.specs.Inverter.{inverter, rise_at_10}
 use Rattle.circuit_model.specs.Texts.{line}
-use Rattle.signoff.specs.NetlistForm.{Token, Name, Symbol, Item, Inputs, Outputs, Gates, Module, module_spelled, circuit_of, are_distinct, are_plain, takes_others}
+use Rattle.signoff.specs.NetlistForm.{Name, Symbol, Inputs, Outputs, Gates, Module, module_spelled, circuit_of, are_distinct, are_plain}
 use Rattle.signoff.specs.StimulusForm.{Lines, lines_spelled, stimulus_of, ticks_of, is_number, sets_input}
 use Rattle.sg_text.specs.Words.{reserved_words}
-use Rattle.signoff.specs.Words.{Command, command_of, default_rounds}
+use Rattle.signoff.specs.Words.{command_of, default_rounds}
 
 -- module t (a, y); input a; output y; not (y, a); endmodule
 abbrev inverter_module : Module

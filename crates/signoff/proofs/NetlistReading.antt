@@ -1,12 +1,12 @@
 -- What the readers of names, items and modules know of the tokens.
-use Rattle.std.proofs.Common.{ℕ, ◌≡◌, ◌≢◌, ◌+◌, ◌-◌, ◌≤◌, ◌<◌, ◌⊎◌, ◌↔◌, inl, inr, List, [], ◌∷◌, ◌++◌, length, map, drop, get_or, Bool, true, false, not, codes, nat_eq, refl, sym, ap, subst, ◌∙◌, arith}
+use Rattle.std.proofs.Common.{ℕ, ◌≡◌, ◌≢◌, ◌-◌, ◌≤◌, ◌<◌, ◌⊎◌, ◌↔◌, inl, inr, List, [], ◌∷◌, ◌++◌, length, drop, get_or, Bool, true, false, not, codes, nat_eq, refl, sym, ap, ◌∙◌, arith}
 use Rattle.std.specs.List.{list_all, flat_map}
 use Rattle.std.proofs.lemmas.List.{append_assoc, length-append, length-map, drop-map, drop_at, flat_map_more}
 use lib.Pointwise.{pointwise, bytes_decides}
 use Rattle.std.specs.Borrow.{Bor}
 use Rattle.signoff.specs.declared.netlist.tokens.Token as code_token
 use Rattle.signoff.specs.declared.netlist.tokens.Token.TheVariants as token
-use Rattle.signoff.specs.NetlistForm.{Token, Name, Symbol, Item, Inputs, Outputs, Gates, Module, IsSound, comma, semicolon, left_parenthesis, right_parenthesis, names_spelled, item_spelled, module_spelled, are_plain, names_in}
+use Rattle.signoff.specs.NetlistForm.{Token, Name, Symbol, Item, Inputs, Outputs, Module, IsSound, semicolon, left_parenthesis, right_parenthesis, names_spelled, item_spelled, module_spelled, are_plain, names_in}
 use Rattle.signoff.specs.NetlistSeen.{tokens_seen, token_seen}
 use Rattle.signoff.proofs.NetlistSpelling.{with_commas, first-word, names_spelled-last, behind-commas, names_spelled-injective, same-tails, both-parts, behind-items, item-length, body_spelled, module-spelled, inputs-spelled, outputs-spelled}
 

@@ -1,5 +1,5 @@
 -- What the checks of a module come to.
-use Rattle.std.proofs.Common.{ℕ, ◌≡◌, List, map, Bool, true, false, sym, ap, ◌∙◌, ◌↔◌, IsTrue}
+use Rattle.std.proofs.Common.{ℕ, ◌≡◌, List, map, true, false, sym, ap, ◌∙◌, ◌↔◌, IsTrue}
 use Rattle.std.specs.List.{list_all}
 use Rattle.signoff.specs.NetlistForm.{Module, GateItem, inputs_of, outputs_of, gates_of, are_plain, are_distinct, names_in}
 use Rattle.signoff.specs.NetlistSeen.{HasSoundPorts, HasSoundGates, is_once_among, is_wired_among}

@@ -1,13 +1,13 @@
 -- A machine whose timing checks never speak has a run without violations.
-use Rattle.std.proofs.Common.{◌≡◌, ◌∙◌, sym, ap, refl, ℕ, zero, suc, Bool, true, false, List, [], ◌++◌}
-use Rattle.std.specs.Prelude.{◌⊎◌, Option}
+use Rattle.std.proofs.Common.{◌≡◌, ◌∙◌, ap, refl, ℕ, zero, suc, Bool, true, false, List, [], ◌++◌}
+use Rattle.std.specs.Prelude.{◌⊎◌}
 use Rattle.std.proofs.Common.{inl, inr}
 use Rattle.sg_logic.specs.declared.values.Value.{Value}
-use Rattle.sg_model.specs.Machine.{Machine, Snapshot, State}
+use Rattle.sg_model.specs.Machine.{Machine, Snapshot}
 use Rattle.sg_model.specs.Time.{Run, Ended, Whole, Spent, rounds, needs_round, with_round, with_snapshot, flips_of, is_empty, time_of}
-use Rattle.sg_model.specs.Run.{Finished, times_from, run_of}
+use Rattle.sg_model.specs.Run.{times_from}
 use Rattle.sg_model.proofs.RunSteps.{rounds-round, rounds-spent, rounds-whole, rounds-toggle, rounds-toggle_spent, times-none, times-whole, times-spent}
-use Rattle.circuit_model.specs.Simulated.{machine_of, first_state, sets_at}
+use Rattle.circuit_model.specs.Simulated.{machine_of, sets_at}
 use Rattle.signoff.specs.Answer.{run_of as run_of_task}
 use Rattle.signoff.specs.Phases.{Task}
 

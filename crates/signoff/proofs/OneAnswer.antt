@@ -1,11 +1,10 @@
 -- The words and the files have one answer at most.
-use Rattle.std.proofs.Common.{◌≡◌, ◌∙◌, sym, ap, refl, subst, ℕ, List}
+use Rattle.std.proofs.Common.{◌≡◌, ◌∙◌, sym, ap, subst, ℕ, List}
 use Rattle.std.specs.Prelude.{Option, Some, None, Result, Ok, Err}
 use Rattle.sg_io.specs.Files.{File, bytes_of}
 use Rattle.circuit_model.specs.Circuit.{Circuit}
-use Rattle.circuit_model.specs.Simulated.{Stimulus}
 use Rattle.signoff.specs.Answer.{Answer, IsAnswer, answer_of}
-use Rattle.signoff.specs.Phases.{Refusal, missing, netlist, stimulus, Then, stops, goes_on, Task, TaskOutcome, WordsOutcome, FileOutcome, NetlistOutcome, StimulusOutcome, read_limit}
+use Rattle.signoff.specs.Phases.{Refusal, Then, stops, goes_on, Task, TaskOutcome, WordsOutcome, FileOutcome, NetlistOutcome, StimulusOutcome}
 use Rattle.signoff.specs.Words.{Command, command_of}
 use Rattle.signoff.proofs.NetlistLaws.{netlist-unique}
 use Rattle.signoff.proofs.StimulusLaws.{stimulus-unique}

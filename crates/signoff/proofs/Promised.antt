@@ -2,15 +2,14 @@
 use Rattle.std.proofs.Common.{◌≡◌, ◌≢◌, ◌∙◌, sym, ap, refl, subst, inl, inr, ℕ, List, [], ◌++◌, length, take, arith}
 use Rattle.std.proofs.lemmas.List.{append-nil, take_all}
 use Rattle.std.specs.Prelude.{Option, Some, None, Result, Ok, Err, ◌⊎◌, unwrap_or}
-use Rattle.sg_io.specs.Files.{File, HasAfter, bytes_of}
+use Rattle.sg_io.specs.Files.{File, HasAfter}
 use Rattle.sg_io.specs.Faults.{Rises, Rose}
 use Rattle.circuit_model.specs.Report.{report_lines}
 use Rattle.signoff.specs.Answer.{Answer, IsAnswer, FilesAfter, answer_of, dump_of, run_of, status_of_run, fault_line, report_fault_line, no_memory_line}
-use Rattle.signoff.specs.Phases.{Refusal, Task, TaskOutcome, words, missing, netlist, stimulus, refusal_line, status_of_refusal}
+use Rattle.signoff.specs.Phases.{Refusal, Task, words, missing, netlist, stimulus, status_of_refusal}
 use Rattle.signoff.specs.Promises.{IsDecided, IsRunEnd, Answers, Reports, whole, cut, sink_fault, shelf_fault, shelf_fault_cut, no_memory, IsMade, FaultCause, by_shelf, by_sink, KeepsBut, Keeps, IsStatusOf}
-use Rattle.signoff.specs.Runs.{LeavesPrefix}
-use Rattle.signoff.specs.Seen.{circuit_seen, spent_seen}
-use Rattle.signoff.specs.Stops.{refusal_seen, StopCause, StopNames, NamesOneOf}
+use Rattle.signoff.specs.Seen.{spent_seen}
+use Rattle.signoff.specs.Stops.{refusal_seen, StopCause, StopNames}
 use Rattle.signoff.specs.Tasks.{task_seen}
 use Rattle.signoff.specs.Work.{BrokeOffIn, WorkLeaves, text_of_end, status_of_end, after_sink_fault, second_line, AddsAll, AddsFirst, Tells}
 use Rattle.signoff.specs.Work as telling
@@ -21,7 +20,7 @@ use Rattle.signoff.specs.declared.stop.Stop as code_stop
 use Rattle.signoff.specs.declared.stop.Stop.TheVariants as stop
 use Rattle.signoff.specs.declared.work.Done as code_done
 use Rattle.signoff.proofs.NoViolations.{no_violations}
-use Rattle.signoff.proofs.OneAnswer.{task_single, answer_single}
+use Rattle.signoff.proofs.OneAnswer.{answer_single}
 use Rattle.signoff.proofs.Told.{take_nothing}
 
 -- where the status after a failure of the sink is decided, it is the one that was planned

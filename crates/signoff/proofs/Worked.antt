@@ -1,13 +1,11 @@
 -- What the run leaves is what the work leaves.
-use Rattle.std.proofs.Common.{◌≡◌, ◌∙◌, sym, ap, refl, subst, inl, inr, List, ℕ}
-use Rattle.std.specs.Prelude.{Option, Some, Result, Ok, Err, ◌⊎◌}
+use Rattle.std.proofs.Common.{◌≡◌, refl, List, ℕ}
+use Rattle.std.specs.Prelude.{Option, Some, Ok}
 use Rattle.sg_io.specs.Files.{File, BothTell}
-use Rattle.sg_io.specs.declared.outside.ShelfError.{ShelfError}
-use Rattle.sg_io.specs.declared.outside.ShelfError.TheVariants as shelf
 use Rattle.sg_io.proofs.Tell.{both_told}
 use Rattle.signoff.specs.Answer.{dump_of}
 use Rattle.signoff.specs.Phases.{Task, TaskOutcome}
-use Rattle.signoff.specs.Runs.{Leaves, LeavesPrefix}
+use Rattle.signoff.specs.Runs.{LeavesPrefix}
 use Rattle.signoff.specs.Work.{BrokeOffIn}
 
 -- where a run broke off, by the name of its file

@@ -1,7 +1,7 @@
 -- What the top call promises, over what the shelf and the sink tell before and after it.
-use Rattle.std.specs.Prelude.{ℕ, ◌≡◌, ◌≢◌, ◌⊎◌, ◌++◌, List, [], Option, Some, None, Contains, take}
-use Rattle.sg_io.specs.Faults.{Rises, Rose}
-use Rattle.sg_io.specs.Files.{File, bytes_of}
+use Rattle.std.specs.Prelude.{ℕ, ◌≡◌, ◌⊎◌, ◌++◌, List, Option, Some, None, Contains, take}
+use Rattle.sg_io.specs.Faults.{Rises}
+use Rattle.sg_io.specs.Files.{File}
 use Rattle.signoff.specs.Answer.{Answer, IsAnswer, FilesAfter, fault_line, report_fault_line, no_memory_line}
 use Rattle.signoff.specs.Runs.{LeavesPrefix}
 use Rattle.signoff.specs.Words.{command_of, names_in}

@@ -1,5 +1,5 @@
 -- What a record of a run's times promises, and how a run leaves it.
-use Rattle.std.specs.Prelude.{ℕ, ◌≡◌, ◌≢◌, ◌⊎◌, ◌++◌, List, [], ◌∷◌, Option, Some, None, Result, Ok, Err}
+use Rattle.std.specs.Prelude.{ℕ, ◌≡◌, ◌≢◌, ◌⊎◌, ◌++◌, List, Option, Some, Result, Ok, Err}
 use Rattle.sg_io.specs.Files.{File, bytes_of, BothTell}
 use Rattle.sg_io.specs.Faults.{Rises}
 use Rattle.sg_io.specs.declared.outside.ShelfError.{ShelfError}

@@ -1,11 +1,11 @@
 -- What running a circuit leaves on the shelf.
-use Rattle.std.specs.Prelude.{ℕ, ◌≡◌, ◌≢◌, ◌⊎◌, List, Option, Some, Result, Ok, Err, take}
+use Rattle.std.specs.Prelude.{ℕ, ◌≡◌, ◌≢◌, ◌⊎◌, List, Some, Result, Ok, Err, take}
 use Rattle.sg_io.specs.Files.{File, HasAfter, bytes_of}
 use Rattle.sg_io.specs.declared.outside.ShelfError.{ShelfError}
 use Rattle.sg_model.specs.Run.{Finished}
 use Rattle.sg_text.specs.Words.{reserved_words}
 use Rattle.circuit_model.specs.Circuit.{Circuit}
-use Rattle.circuit_model.specs.Simulated.{Stimulus, run_of_circuit}
+use Rattle.circuit_model.specs.Simulated.{Stimulus}
 use Rattle.circuit_model.specs.Vcd.{vcd_text}
 
 -- the file of this name is as before, or it holds the first bytes of a text; every other file stays

@@ -1,5 +1,5 @@
 -- What the program's circuits and stimuli stand for in the definitions.
-use Rattle.std.specs.Prelude.{ℕ, List, Option, Some, None, map}
+use Rattle.std.specs.Prelude.{ℕ, Option, Some, None, map}
 use Rattle.sg_logic.specs.declared.values.Value.{Value}
 use Rattle.circuit_model.specs.Circuit.{Circuit, Driver, Nobody, Stimulated, Driven, Net, Element, Gate}
 use Rattle.circuit_model.specs.Simulated.{Step, Stimulus}

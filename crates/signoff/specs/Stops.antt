@@ -1,5 +1,5 @@
 -- What the program's phases return, beside the outcomes that the definition has.
-use Rattle.std.specs.Prelude.{ℕ, ◌≡◌, ◌⊎◌, List, Option, Some, None, Result, Ok, Err, Contains}
+use Rattle.std.specs.Prelude.{ℕ, ◌≡◌, List, Option, Some, Result, Ok, Err, Contains}
 use Rattle.sg_io.specs.Faults.{Rises}
 use Rattle.signoff.specs.Phases.{Refusal, words, missing, netlist, stimulus}
 use Rattle.signoff.specs.declared.stop.Stop as code_stop

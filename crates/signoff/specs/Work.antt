@@ -1,5 +1,5 @@
 -- What the work on the shelf leaves, and what the work on the sink does.
-use Rattle.std.specs.Prelude.{ℕ, ◌≡◌, ◌⊎◌, ◌++◌, List, [], Option, Some, None, Result, Ok, Err, take, unwrap_or}
+use Rattle.std.specs.Prelude.{ℕ, ◌≡◌, ◌⊎◌, ◌++◌, List, [], Option, Some, Result, Ok, Err, take, unwrap_or}
 use Rattle.sg_io.specs.Files.{File, HasAfter}
 use Rattle.sg_io.specs.Faults.{Rises}
 use Rattle.circuit_model.specs.Report.{report_lines}

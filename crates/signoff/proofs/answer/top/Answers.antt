@@ -1,4 +1,4 @@
-use Rattle.std.proofs.Common.{◌∙◌, subst, List, map, string_bytes}
+use Rattle.std.proofs.Common.{subst}
 use Rattle.signoff.specs.Work.{Tells, text_of_end, status_of_end}
 use Rattle.signoff.proofs.Promised.{answers, exact, counted, fault_cause, reports, keeps, headline}
 use Rattle.signoff.proofs.answer.top.Given as given

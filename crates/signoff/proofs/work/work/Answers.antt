@@ -1,4 +1,4 @@
-use Rattle.std.proofs.Common.{◌∙◌, sym, inl, inr}
+use Rattle.std.proofs.Common.{◌∙◌, inr}
 use Rattle.signoff.proofs.Worked.{broke_off}
 use Rattle.signoff.specs.Tasks.{task_seen}
 use Rattle.signoff.proofs.work.work.Goals as goal

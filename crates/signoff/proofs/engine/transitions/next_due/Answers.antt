@@ -1,5 +1,5 @@
-use Rattle.std.specs.Prelude.{◌≡◌, None}
-use Rattle.std.proofs.Common.{arith, rules}
+use Rattle.std.specs.Prelude.{None}
+use Rattle.std.proofs.Common.{arith}
 use Rattle.signoff.proofs.EngineRounds.{quiet_so_far}
 use Rattle.signoff.proofs.engine.transitions.next_due.Goals as goal
 

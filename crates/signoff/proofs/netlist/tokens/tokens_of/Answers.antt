@@ -1,10 +1,7 @@
-use Rattle.std.proofs.Common.{◌≡◌, ◌++◌, [], ◌∷◌, sym, ◌∙◌, subst, ap, take, drop, arith}
+use Rattle.std.proofs.Common.{sym, ◌∙◌, arith}
 use Rattle.std.proofs.lemmas.List.{map_push}
 use Rattle.std.proofs.lemmas.List.Sums.{prefix_len-le-length}
-use Rattle.circuit_model.specs.Texts.{is_name_byte}
-use Rattle.signoff.specs.NetlistForm.{Token, Name, Symbol}
-use Rattle.signoff.specs.NetlistSeen.{tokens_seen, token_seen}
-use Rattle.signoff.proofs.NetlistSplitting.{IsReadTo, reads-blank, reads-symbol, reads-name, reads-none, reads-all}
+use Rattle.signoff.proofs.NetlistSplitting.{reads-blank, reads-symbol, reads-name, reads-none, reads-all}
 use Rattle.signoff.proofs.netlist.tokens.tokens_of.Goals as goal
 
 pub loop-rest-preserved-then-is_blank : goal.loop-rest-preserved-then-is_blank

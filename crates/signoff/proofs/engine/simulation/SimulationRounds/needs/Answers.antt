@@ -1,6 +1,6 @@
 use Rattle.std.specs.Prelude.{◌≡◌, true, false}
 use Rattle.std.specs.List.{list_any}
-use Rattle.std.proofs.Common.{sym, ◌∙◌, ap, rules}
+use Rattle.std.proofs.Common.{sym, ◌∙◌, ap}
 use Rattle.sg_model.specs.Round.{any_due, is_due}
 use Rattle.signoff.specs.EngineSeen.{list_seen}
 use Rattle.signoff.proofs.EngineRounds.{any_seen, needs_due}
