@@ -1,17 +1,17 @@
 -- From a module to its circuit.
-use Rattle.std.proofs.Common.{ℕ, zero, suc, ◌≡◌, ◌+◌, ◌<◌, ◌≤◌, ◌^◌, List, [], ◌∷◌, ◌++◌, length, map, take, get_or, Bool, true, false, ◌&&◌, ◌==◌, nat_le, Option, Some, None, position, if◌then◌else◌, refl, sym, ap, subst, ◌∙◌, arith}
+use Rattle.std.proofs.Common.{ℕ, zero, suc, ◌≡◌, ◌+◌, ◌<◌, List, [], ◌∷◌, ◌++◌, length, map, take, get_or, true, false, ◌&&◌, Some, None, position, if◌then◌else◌, refl, sym, ap, ◌∙◌, arith}
 use Rattle.std.specs.Borrow.{Bor}
 use Rattle.std.specs.List.{list_all}
-use Rattle.std.proofs.lemmas.List.{length-map, map_more, map_push, append_assoc}
+use Rattle.std.proofs.lemmas.List.{length-map, map_more, map_push}
 use Rattle.std.proofs.lemmas.Bool.Decides.{nat_tests}
 use Rattle.sg_logic.specs.declared.gates.GateKind.{GateKind}
 use Rattle.sg_logic.specs.declared.gates.GateKind.TheVariants.{And, Nand, Or, Nor, Xor, Xnor, Buf, Not}
-use Rattle.circuit_model.specs.Circuit.{Circuit, Net, Element, Driver, Driven, Nobody, Stimulated}
+use Rattle.circuit_model.specs.Circuit.{Net, Element, Driven, Nobody, Stimulated}
 use Rattle.signoff.specs.Flat.{flat}
 use Rattle.signoff.specs.WellFormed.{takes_inputs}
 use Rattle.signoff.specs.declared.netlist.declarations.GateItem as code_gate_item
-use Rattle.signoff.specs.NetlistForm.{Module, GateItem, same_name, is_among, is_wired, takes_others, place_of, driver_by, circuit_of, gates_of, inputs_of, outputs_of}
-use Rattle.signoff.specs.NetlistSeen.{names_seen, gates_seen, gate_seen, driver_among, net_among, element_among}
+use Rattle.signoff.specs.NetlistForm.{Module, GateItem, same_name, is_among, is_wired, takes_others, driver_by, circuit_of, gates_of, inputs_of, outputs_of}
+use Rattle.signoff.specs.NetlistSeen.{names_seen, gates_seen, driver_among, net_among, element_among}
 use Rattle.signoff.proofs.NetlistSpelling.{both-parts}
 
 pub driver-some : (inputs driven : List (List ℕ)) (port : List ℕ) (place : ℕ) → false ≡ is_among inputs port → position (same_name port) driven ≡ Some place → Driven place ≡ driver_among inputs driven port

@@ -1,11 +1,11 @@
 -- Laws of the first form of netlists: a text describes one circuit at most.
-use Rattle.std.proofs.Common.{ℕ, ◌≡◌, ◌≢◌, ◌+◌, ◌≤◌, List, [], ◌∷◌, ◌++◌, length, map, codes, refl, sym, ap, subst, ◌∙◌, arith}
+use Rattle.std.proofs.Common.{ℕ, ◌≡◌, ◌≢◌, ◌≤◌, List, [], ◌∷◌, length, map, codes, sym, ap, subst, ◌∙◌, arith}
 use Rattle.std.specs.List.{flat_map}
-use Rattle.std.proofs.lemmas.List.{append_assoc, length-append, length-map}
+use Rattle.std.proofs.lemmas.List.{length-append, length-map}
 use Rattle.circuit_model.specs.Circuit.{Circuit}
-use Rattle.signoff.specs.NetlistForm.{Token, Name, Symbol, Splits, Item, Inputs, Outputs, Gates, GateItem, Module, IsSound, IsNetlist, names_spelled, item_spelled, module_spelled, circuit_of, gates_of, gates_in, right_parenthesis, semicolon}
+use Rattle.signoff.specs.NetlistForm.{Token, Name, Splits, Item, Inputs, Outputs, Gates, Module, IsSound, IsNetlist, names_spelled, item_spelled, module_spelled, circuit_of, gates_of, gates_in, right_parenthesis, semicolon}
 use Rattle.signoff.proofs.NetlistSplitting.{splits-unique, splits-length}
-use Rattle.signoff.proofs.NetlistSpelling.{module_spelled-injective, module-spelled, body_spelled, item-length}
+use Rattle.signoff.proofs.NetlistSpelling.{module_spelled-injective, module-spelled, body_spelled}
 
 -- the tree of a netlist is the one that its tokens spell
 tree-is : (text : List ℕ) (circuit : Circuit) (ts : List Token) → Splits text ts → (n : IsNetlist text circuit) → ts ≡ module_spelled n.tree

@@ -1,6 +1,6 @@
 -- Tests and searches over the names that references are seen as.
-use Rattle.std.proofs.Common.{ℕ, ◌≡◌, ◌+◌, ◌<◌, ◌≤◌, List, [], ◌∷◌, ◌++◌, length, map, Bool, true, false, ◌&&◌, ◌||◌, not, Option, Some, None, cond, nat_lt, nat_le, ◌==◌, nat_eq, refl, sym, ap, subst, ◌∙◌, arith}
-use Rattle.std.specs.List.{list_any, list_all, position, prefix_len, position_or_len}
+use Rattle.std.proofs.Common.{ℕ, ◌≡◌, ◌+◌, List, [], ◌∷◌, length, map, Bool, false, ◌&&◌, ◌||◌, not, Some, None, cond, nat_lt, ◌==◌, refl, ap, ◌∙◌}
+use Rattle.std.specs.List.{list_any, list_all, position, prefix_len}
 use Rattle.std.proofs.lemmas.List.{length-map}
 use Rattle.std.specs.Borrow.{Bor}
 use Rattle.sg_text.specs.Words.{is_reserved_word}

@@ -1,12 +1,12 @@
 -- What the readers of names, items and modules know of the tokens.
-use Rattle.std.proofs.Common.{ℕ, ◌≡◌, ◌≢◌, ◌+◌, ◌-◌, ◌≤◌, ◌<◌, ◌⊎◌, ◌↔◌, inl, inr, List, [], ◌∷◌, ◌++◌, length, map, drop, get_or, Bool, true, false, not, codes, nat_eq, refl, sym, ap, subst, ◌∙◌, arith}
+use Rattle.std.proofs.Common.{ℕ, ◌≡◌, ◌≢◌, ◌-◌, ◌≤◌, ◌<◌, ◌⊎◌, ◌↔◌, inl, inr, List, [], ◌∷◌, ◌++◌, length, drop, get_or, Bool, true, false, not, codes, nat_eq, refl, sym, ap, ◌∙◌, arith}
 use Rattle.std.specs.List.{list_all, flat_map}
 use Rattle.std.proofs.lemmas.List.{append_assoc, length-append, length-map, drop-map, drop_at, flat_map_more}
 use lib.Pointwise.{pointwise, bytes_decides}
 use Rattle.std.specs.Borrow.{Bor}
 use Rattle.signoff.specs.declared.netlist.tokens.Token as code_token
 use Rattle.signoff.specs.declared.netlist.tokens.Token.TheVariants as token
-use Rattle.signoff.specs.NetlistForm.{Token, Name, Symbol, Item, Inputs, Outputs, Gates, Module, IsSound, comma, semicolon, left_parenthesis, right_parenthesis, names_spelled, item_spelled, module_spelled, are_plain, names_in}
+use Rattle.signoff.specs.NetlistForm.{Token, Name, Symbol, Item, Inputs, Outputs, Module, IsSound, semicolon, left_parenthesis, right_parenthesis, names_spelled, item_spelled, module_spelled, are_plain, names_in}
 use Rattle.signoff.specs.NetlistSeen.{tokens_seen, token_seen}
 use Rattle.signoff.proofs.NetlistSpelling.{with_commas, first-word, names_spelled-last, behind-commas, names_spelled-injective, same-tails, both-parts, behind-items, item-length, body_spelled, module-spelled, inputs-spelled, outputs-spelled}
 
@@ -58,7 +58,7 @@ no-items : (rest : List Token) → rest ≢ Name (codes "endmodule") ∷ [] → 
 no-items rest stop w [] h k = stop k
 no-items rest stop w (m ∷ ms) h k =
     w m (body_spelled ms) (both-parts (are_plain (names_in m)) (list_all (λ item. are_plain (names_in item)) ms) h).0
-      (k ∙ append_assoc (item_spelled m) (flat_map item_spelled ms) (Name (codes "endmodule") ∷ []))
+    (k ∙ append_assoc (item_spelled m) (flat_map item_spelled ms) (Name (codes "endmodule") ∷ []))
 
 -- no item follows here, nor the end
 pub items-end : (seen : List Item) (all rest : List Token) → all ≡ flat_map item_spelled seen ++ rest → rest ≢ Name (codes "endmodule") ∷ []

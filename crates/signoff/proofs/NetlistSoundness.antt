@@ -1,5 +1,5 @@
 -- What the checks of a module come to.
-use Rattle.std.proofs.Common.{ℕ, ◌≡◌, List, map, Bool, true, false, sym, ap, ◌∙◌, ◌↔◌, IsTrue}
+use Rattle.std.proofs.Common.{ℕ, ◌≡◌, List, map, true, false, sym, ap, ◌∙◌, ◌↔◌, IsTrue}
 use Rattle.std.specs.List.{list_all}
 use Rattle.signoff.specs.NetlistForm.{Module, GateItem, inputs_of, outputs_of, gates_of, are_plain, are_distinct, names_in}
 use Rattle.signoff.specs.NetlistSeen.{HasSoundPorts, HasSoundGates, is_once_among, is_wired_among}
@@ -27,6 +27,7 @@ gates-not-wired m inputs outputs gates d e f h s =
 
 pub gates-sound : (m : Module) (inputs outputs driven : List (List ℕ)) (gates : List GateItem) → inputs ≡ inputs_of m → outputs ≡ outputs_of m → gates ≡ gates_of m → driven ≡ map (λ g. g.first) (gates_of m)
     → true ≡ list_all (λ item. are_plain (names_in item)) m.items → true ≡ list_all (is_wired_among inputs outputs) gates → IsTrue (are_distinct driven) ↔ HasSoundGates m
-gates-sound m inputs outputs driven gates d e f g p w =
-    ( λ h. record { plain_items = sym p; wired = sym (w ∙ wired-same m inputs outputs gates d e f); one_driver = ap are_distinct (sym g) ∙ h }
-    , λ s. ap are_distinct g ∙ s.one_driver )
+gates-sound m inputs outputs driven gates d e f g p w = (
+  λ h. record { plain_items = sym p; wired = sym (w ∙ wired-same m inputs outputs gates d e f); one_driver = ap are_distinct (sym g) ∙ h },
+  λ s. ap are_distinct g ∙ s.one_driver,
+)

@@ -1,5 +1,5 @@
 -- How a text is split into tokens, from its front.
-use Rattle.std.proofs.Common.{ℕ, ◌≡◌, ◌≢◌, ◌+◌, ◌≤◌, ◌<◌, ◌==◌, nat_le, List, [], ◌∷◌, ◌++◌, length, Bool, true, false, ◌&&◌, ◌||◌, not, refl, sym, ap, subst, ◌∙◌, arith, take, drop, get_or, ◌-◌, cond, one-add}
+use Rattle.std.proofs.Common.{ℕ, ◌≡◌, ◌+◌, ◌≤◌, List, [], ◌∷◌, ◌++◌, length, Bool, true, false, ◌&&◌, not, refl, sym, ap, subst, ◌∙◌, arith, take, drop, get_or, ◌-◌, cond, one-add}
 use Rattle.std.specs.List.{list_all, prefix_len}
 use Rattle.std.proofs.lemmas.Bool.Decides.{nat_tests}
 use Rattle.std.proofs.lemmas.List.{append_assoc, length-append, append-nil, take_rest, take-append-drop}
@@ -145,9 +145,9 @@ reads-symbol text seen (b ∷ rest) r h k =
     rw take_rest (record {
       joins = λ ts s. subst (λ x. Splits text x) (joined seen (Symbol b) ts) (r.joins (Symbol b ∷ ts) (takes_symbol b rest ts k s));
       parts = λ ts s.
-        let p = r.parts ts s in
-        let q = behind-symbol b rest p.0 k p.2 in
-        (q.0, p.1 ∙ ap (λ x. seen ++ x) q.1 ∙ joined seen (Symbol b) q.0, q.2);
+          let p = r.parts ts s in
+          let q = behind-symbol b rest p.0 k p.2 in
+          (q.0, p.1 ∙ ap (λ x. seen ++ x) q.1 ∙ joined seen (Symbol b) q.0, q.2);
     })
 
 simple-name : (name behind : List ℕ) → is_letter (get_or (name ++ behind) 0 0) ≡ true → list_all is_name_byte name ≡ true → ends_name behind ≡ true → is_simple name ≡ true
@@ -160,16 +160,16 @@ name-bytes : (xs : List ℕ) → list_all is_name_byte (take (prefix_len (λ b. 
 name-bytes [] = refl
 name-bytes (x ∷ xs) =
     elim (is_name_byte x) as (λ y. is_name_byte x ≡ y → list_all is_name_byte (take (cond y (1 + prefix_len (λ b. is_name_byte b) xs) 0) (x ∷ xs)) ≡ true) [
-      true ↦ λ e. rw (one-add, e) (name-bytes xs)
-    | false ↦ λ e. refl
+      | true ↦ λ e. rw (one-add, e) (name-bytes xs)
+      | false ↦ λ e. refl
     ] refl
 
 name-ends : (xs : List ℕ) → ends_name (drop (prefix_len (λ b. is_name_byte b) xs) xs) ≡ true
 name-ends [] = refl
 name-ends (x ∷ xs) =
     elim (is_name_byte x) as (λ y. is_name_byte x ≡ y → ends_name (drop (cond y (1 + prefix_len (λ b. is_name_byte b) xs) 0) (x ∷ xs)) ≡ true) [
-      true ↦ λ e. rw one-add (name-ends xs)
-    | false ↦ λ e. rw e refl
+      | true ↦ λ e. rw one-add (name-ends xs)
+      | false ↦ λ e. rw e refl
     ] refl
 
 pub reads-name : (text : List ℕ) (seen : List Token) (rest : List ℕ) (n : ℕ) → IsReadTo text seen rest → is_letter (get_or rest 0 0) ≡ true → n ≡ prefix_len (λ b. is_name_byte b) rest → IsReadTo text (seen ++ Name (take n rest) ∷ []) (drop n rest)
@@ -181,9 +181,9 @@ reads-name text seen rest n r h m =
     record {
       joins = λ ts s. subst (λ x. Splits text x) (joined seen (Name (take n rest)) ts) (r.joins (Name (take n rest) ∷ ts) (takes_name rest (take n rest) (drop n rest) ts (sym whole) simple ended s));
       parts = λ ts s.
-        let p = r.parts ts s in
-        let q = behind-name rest (take n rest) (drop n rest) p.0 (sym whole) simple ended p.2 in
-        (q.0, p.1 ∙ ap (λ x. seen ++ x) q.1 ∙ joined seen (Name (take n rest)) q.0, q.2);
+          let p = r.parts ts s in
+          let q = behind-name rest (take n rest) (drop n rest) p.0 (sym whole) simple ended p.2 in
+          (q.0, p.1 ∙ ap (λ x. seen ++ x) q.1 ∙ joined seen (Name (take n rest)) q.0, q.2);
     }
 
 pub reads-none : (text : List ℕ) (seen : List Token) (rest : List ℕ) → IsReadTo text seen rest → 1 ≤ length rest → is_blank (get_or rest 0 0) ≡ false → is_symbol (get_or rest 0 0) ≡ false → is_letter (get_or rest 0 0) ≡ false → (ts : List Token) → Splits text ts → ⊥

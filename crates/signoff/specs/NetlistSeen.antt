@@ -2,7 +2,6 @@
 use Rattle.std.specs.Prelude.{ℕ, ◌≡◌, ◌==◌, ◌++◌, List, map, length, Bool, true, false, ◌&&◌, None, position, if◌then◌else◌}
 use Rattle.std.specs.List.{list_all}
 use Rattle.std.specs.Borrow.{Bor}
-use Rattle.sg_logic.specs.declared.gates.GateKind.{GateKind}
 use Rattle.signoff.specs.NetlistForm.{Token, Name, Symbol, Item, Inputs, Outputs, Gates, Module, GateItem, names_in, are_plain, are_distinct, inputs_of, outputs_of, gates_of, same_name, is_among, count_of, takes_others, driver_by, place_of}
 use Rattle.sg_text.specs.Words.{is_reserved_word}
 use Rattle.circuit_model.specs.Circuit.{Driver, Stimulated, Net, Element, Gate}

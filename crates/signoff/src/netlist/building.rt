@@ -44,7 +44,12 @@ fn driver_of(inputs: &[&[u8]], driven: &[&[u8]], port: &[u8]) -> Driver
     }
 }
 
-fn nets_of(alloc: Global, ports: &[&[u8]], inputs: &[&[u8]], driven: &[&[u8]]) -> Result<Vec<Net>, NoMemory>
+fn nets_of(
+    alloc: Global,
+    ports: &[&[u8]],
+    inputs: &[&[u8]],
+    driven: &[&[u8]],
+) -> Result<Vec<Net>, NoMemory>
     requires { length driven.now < 2 ^ 32 }
     ensures { IfOk result (λ nets. map (λ n. net_seen n) nets.items ≡ map (net_among (names_seen inputs.now) (names_seen driven.now)) (names_seen ports.now)) }
 {
@@ -58,7 +63,11 @@ fn nets_of(alloc: Global, ports: &[&[u8]], inputs: &[&[u8]], driven: &[&[u8]]) -
     Ok(nets)
 }
 
-fn elements_of(alloc: Global, ports: &[&[u8]], gates: &[GateItem]) -> Result<Vec<Element>, AllocError>
+fn elements_of(
+    alloc: Global,
+    ports: &[&[u8]],
+    gates: &[GateItem],
+) -> Result<Vec<Element>, AllocError>
     requires places { length ports.now < 2 ^ 32 }
     requires takes { list_all (λ g. takes_others g.kind (length g.others)) (gates_seen gates.now) ≡ true }
     ensures { IfOk result (λ elements. map (λ e. element_seen e) elements.items ≡ map (element_among (names_seen ports.now)) (gates_seen gates.now)) }
@@ -75,7 +84,11 @@ fn elements_of(alloc: Global, ports: &[&[u8]], gates: &[GateItem]) -> Result<Vec
 }
 
 /// The circuit of a module.
-pub fn circuit_of(alloc: Global, tree: &Module, declared: &Declarations) -> Result<Circuit, NoMemory>
+pub fn circuit_of(
+    alloc: Global,
+    tree: &Module,
+    declared: &Declarations,
+) -> Result<Circuit, NoMemory>
     requires declared { IsDeclaredBy (module_seen tree.now) declared.now }
     requires sound { IsSound (module_seen tree.now) }
     requires ports { length tree.now.ports.items < 2 ^ 32 }

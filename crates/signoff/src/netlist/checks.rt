@@ -31,7 +31,10 @@ fn count_of(names: &[&[u8]], name: &[u8]) -> usize
 fn is_once(inputs: &[&[u8]], outputs: &[&[u8]], port: &[u8]) -> bool
     ensures { result ≡ is_once_among (names_seen inputs.now) (names_seen outputs.now) port.now }
 {
-    matches!((count_of(inputs, port), count_of(outputs, port)), (1, 0) | (0, 1))
+    matches!(
+        (count_of(inputs, port), count_of(outputs, port)),
+        (1, 0) | (0, 1)
+    )
 }
 
 fn are_once(inputs: &[&[u8]], outputs: &[&[u8]], ports: &[&[u8]]) -> bool
@@ -87,7 +90,9 @@ fn takes_others(kind: GateKind, count: usize) -> bool
 fn is_wired(inputs: &[&[u8]], outputs: &[&[u8]], gate: &GateItem) -> bool
     ensures { result ≡ is_wired_among (names_seen inputs.now) (names_seen outputs.now) (gate_seen gate.now) }
 {
-    takes_others(gate.kind, gate.others.len()) && is_among(outputs, gate.first) && are_among(inputs, gate.others)
+    takes_others(gate.kind, gate.others.len())
+        && is_among(outputs, gate.first)
+        && are_among(inputs, gate.others)
 }
 
 fn are_wired(inputs: &[&[u8]], outputs: &[&[u8]], gates: &[GateItem]) -> bool

@@ -48,14 +48,21 @@ fn outputs_of<'a>(alloc: Global, items: &[Item<'a>]) -> Result<Vec<&'a [u8]>, Al
     Ok(outputs)
 }
 
-fn gates_of<'m, 'a>(alloc: Global, items: &'m [Item<'a>]) -> Result<Vec<GateItem<'m, 'a>>, AllocError>
+fn gates_of<'m, 'a>(
+    alloc: Global,
+    items: &'m [Item<'a>],
+) -> Result<Vec<GateItem<'m, 'a>>, AllocError>
     ensures { IfOk result (λ gates. gates_seen gates.items ≡ flat_map gates_in (items_seen items.now)) }
 {
     let mut gates = Vec::new(alloc);
     for item in items {
         if let Item::Gates(kind, terminals) = item {
             if let [first, others @ ..] = terminals.as_slice() {
-                gates.push(GateItem { kind: *kind, first: *first, others })?;
+                gates.push(GateItem {
+                    kind: *kind,
+                    first: *first,
+                    others,
+                })?;
             }
         }
     }
@@ -73,7 +80,10 @@ fn driven_by<'a>(alloc: Global, gates: &[GateItem<'_, 'a>]) -> Result<Vec<&'a [u
 }
 
 /// What a module declares.
-pub fn declarations_of<'m, 'a>(alloc: Global, tree: &'m Module<'a>) -> Result<Declarations<'m, 'a>, AllocError>
+pub fn declarations_of<'m, 'a>(
+    alloc: Global,
+    tree: &'m Module<'a>,
+) -> Result<Declarations<'m, 'a>, AllocError>
     ensures { IfOk result (λ d. IsDeclaredBy (module_seen tree.now) d) }
 {
     let gates = gates_of(alloc, &tree.items)?;

@@ -57,7 +57,11 @@ fn name_and_symbol<'a>(tokens: &'a [Token<'a>]) -> Result<(&'a [u8], u8), FormEr
 }
 
 // Names with commas between them, one at least, up to the symbol that closes them, and the tokens behind it.
-fn read_names<'a>(alloc: Global, tokens: &'a [Token<'a>], close: u8) -> Result<(Vec<&'a [u8]>, &'a [Token<'a>]), FormError>
+fn read_names<'a>(
+    alloc: Global,
+    tokens: &'a [Token<'a>],
+    close: u8,
+) -> Result<(Vec<&'a [u8]>, &'a [Token<'a>]), FormError>
     requires { close ≢ 44 }
     ensures ok { IfOk result (λ r. tokens_seen tokens.now ≡ names_spelled (names_seen r.0.items) ++ Symbol close ∷ tokens_seen r.1.now) }
     ensures not_yet { result ≡ Err FormError.NotYet → (names : List (List ℕ)) → (rest : List TokenModel) → are_plain names ≡ true → tokens_seen tokens.now ≢ names_spelled names ++ Symbol close ∷ rest }
@@ -89,7 +93,10 @@ fn after_symbol<'a>(tokens: &'a [Token<'a>], symbol: u8) -> Result<&'a [Token<'a
 }
 
 // Names in parentheses with a semicolon behind them.
-fn read_list<'a>(alloc: Global, tokens: &'a [Token<'a>]) -> Result<(Vec<&'a [u8]>, &'a [Token<'a>]), FormError>
+fn read_list<'a>(
+    alloc: Global,
+    tokens: &'a [Token<'a>],
+) -> Result<(Vec<&'a [u8]>, &'a [Token<'a>]), FormError>
     ensures ok { IfOk result (λ r. tokens_seen tokens.now ≡ left_parenthesis ∷ (names_spelled (names_seen r.0.items) ++ right_parenthesis ∷ semicolon ∷ tokens_seen r.1.now)) }
     ensures not_yet { result ≡ Err FormError.NotYet → (names : List (List ℕ)) → (rest : List TokenModel) → are_plain names ≡ true → tokens_seen tokens.now ≢ left_parenthesis ∷ (names_spelled names ++ right_parenthesis ∷ semicolon ∷ rest) }
 {
@@ -109,7 +116,10 @@ fn first_name<'a>(tokens: &'a [Token<'a>]) -> Result<(&'a [u8], &'a [Token<'a>])
 }
 
 // An item, and the tokens behind it.
-fn read_item<'a>(alloc: Global, tokens: &'a [Token<'a>]) -> Result<(Item<'a>, &'a [Token<'a>]), FormError>
+fn read_item<'a>(
+    alloc: Global,
+    tokens: &'a [Token<'a>],
+) -> Result<(Item<'a>, &'a [Token<'a>]), FormError>
     ensures ok { IfOk result (λ r. tokens_seen tokens.now ≡ item_spelled (item_seen r.0) ++ tokens_seen r.1.now) }
     ensures not_yet { result ≡ Err FormError.NotYet → (item : ItemModel) → (rest : List TokenModel) → are_plain (names_in item) ≡ true → tokens_seen tokens.now ≢ item_spelled item ++ rest }
 {

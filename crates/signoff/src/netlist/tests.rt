@@ -5,25 +5,30 @@ use sg_logic::GateKind;
 use std::alloc::{AllocError, Global};
 
 // Whether the nets and the elements are these, in this order.
-fn consists_of(circuit: &Circuit, nets: &[(&str, Driver)], elements: &[(GateKind, u32, &[u32])]) -> bool {
+fn consists_of(
+    circuit: &Circuit,
+    nets: &[(&str, Driver)],
+    elements: &[(GateKind, u32, &[u32])],
+) -> bool {
     circuit.nets.len() == nets.len()
         && circuit.elements.len() == elements.len()
-        && circuit
-            .nets
-            .iter()
-            .zip(nets)
-            .all(|(net, (name, driver))| net.name.bytes() == name.as_bytes() && net.driver == *driver)
-        && circuit
-            .elements
-            .iter()
-            .zip(elements)
-            .all(|(element, (kind, output, inputs))| {
-                element.kind == *kind && element.output == *output && element.inputs.as_slice() == *inputs
-            })
+        && circuit.nets.iter().zip(nets).all(|(net, (name, driver))| net.name.bytes()
+            == name.as_bytes()
+            && net.driver == *driver)
+        && circuit.elements.iter().zip(elements).all(|(element, (kind, output, inputs))| {
+            element.kind == *kind
+                && element.output == *output
+                && element.inputs.as_slice() == *inputs
+        })
 }
 
 // Whether a text is read as a circuit of these nets and elements.
-fn reads(alloc: Global, text: &str, nets: &[(&str, Driver)], elements: &[(GateKind, u32, &[u32])]) -> bool {
+fn reads(
+    alloc: Global,
+    text: &str,
+    nets: &[(&str, Driver)],
+    elements: &[(GateKind, u32, &[u32])],
+) -> bool {
     match read_netlist(alloc, text.as_bytes()) {
         Ok(circuit) => consists_of(&circuit, nets, elements),
         Err(_) => false,
@@ -92,36 +97,111 @@ fn leaves_an_output_undriven_and_takes_items_in_any_order(rt: HostRuntime) {
 #[test]
 fn refuses_ports_that_are_not_declared_once(rt: HostRuntime) {
     let alloc = rt.alloc();
-    assert!(rt; is_refused(alloc, b"module t (a, and); input a; output and; endmodule"), "a reserved word");
-    assert!(rt; is_refused(alloc, b"module t (a, a); input a; endmodule"), "a port twice");
-    assert!(rt; is_refused(alloc, b"module t (a, y); input a; endmodule"), "not declared");
-    assert!(rt; is_refused(alloc, b"module t (a, y); input a, a; output y; endmodule"), "twice in a list");
-    assert!(rt; is_refused(alloc, b"module t (a, y); input a; output y, a; endmodule"), "as both");
-    assert!(rt; is_refused(alloc, b"module t (a, y); input a; output y, z; endmodule"), "no port");
+    assert!(rt;
+        is_refused(alloc, b"module t (a, and); input a; output and; endmodule"),
+        "a reserved word"
+    );
+    assert!(rt;
+        is_refused(alloc, b"module t (a, a); input a; endmodule"),
+        "a port twice"
+    );
+    assert!(rt;
+        is_refused(alloc, b"module t (a, y); input a; endmodule"),
+        "not declared"
+    );
+    assert!(rt;
+        is_refused(alloc, b"module t (a, y); input a, a; output y; endmodule"),
+        "twice in a list"
+    );
+    assert!(rt;
+        is_refused(alloc, b"module t (a, y); input a; output y, a; endmodule"),
+        "as both"
+    );
+    assert!(rt;
+        is_refused(alloc, b"module t (a, y); input a; output y, z; endmodule"),
+        "no port"
+    );
     assert!(rt; is_refused(alloc, b"module t (); endmodule"), "no ports");
 }
 
 #[test]
 fn refuses_gates_that_are_wired_otherwise(rt: HostRuntime) {
     let alloc = rt.alloc();
-    assert!(rt; is_refused(alloc, b"module t (a, y, z); input a; output y, z; not (y, z); endmodule"), "reads an output");
-    assert!(rt; is_refused(alloc, b"module t (a, b, y); input a, b; output y; not (a, b); endmodule"), "drives an input");
-    assert!(rt; is_refused(alloc, b"module t (a, y); input a; output y; not (y, a); buf (y, a); endmodule"), "two drivers");
-    assert!(rt; is_refused(alloc, b"module t (a, y); input a; output y; nand (y, a); endmodule"), "a nand with two terminals");
-    assert!(rt; is_refused(alloc, b"module t (a, y); input a; output y; buf (y, a, a); endmodule"), "a buf with three");
+    assert!(rt;
+        is_refused(
+            alloc,
+            b"module t (a, y, z); input a; output y, z; not (y, z); endmodule"
+        ),
+        "reads an output"
+    );
+    assert!(rt;
+        is_refused(
+            alloc,
+            b"module t (a, b, y); input a, b; output y; not (a, b); endmodule"
+        ),
+        "drives an input"
+    );
+    assert!(rt;
+        is_refused(
+            alloc,
+            b"module t (a, y); input a; output y; not (y, a); buf (y, a); endmodule"
+        ),
+        "two drivers"
+    );
+    assert!(rt;
+        is_refused(
+            alloc,
+            b"module t (a, y); input a; output y; nand (y, a); endmodule"
+        ),
+        "a nand with two terminals"
+    );
+    assert!(rt;
+        is_refused(
+            alloc,
+            b"module t (a, y); input a; output y; buf (y, a, a); endmodule"
+        ),
+        "a buf with three"
+    );
 }
 
 #[test]
 fn refuses_other_texts(rt: HostRuntime) {
     let alloc = rt.alloc();
     assert!(rt; is_refused(alloc, b""), "no module");
-    assert!(rt; is_refused(alloc, b"module t (a, y) input a; output y; endmodule"), "no semicolon");
-    assert!(rt; is_refused(alloc, b"module t (a y); input a; output y; endmodule"), "no comma");
-    assert!(rt; is_refused(alloc, b"module t (a, y); input a; output y; endmodule t"), "text behind the end");
-    assert!(rt; is_refused(alloc, b"module t (a, y); input a; output y;"), "no end");
-    assert!(rt; is_refused(alloc, b"module t (a, y); // a comment\ninput a; output y; endmodule"), "a comment");
-    assert!(rt; is_refused(alloc, b"module t (a, y); input a; output y; endmodule \xc3\xa9"), "bytes above 127");
-    assert!(rt; is_refused(alloc, b"module 7t (a, y); input a; output y; endmodule"), "a name that begins with a digit");
+    assert!(rt;
+        is_refused(alloc, b"module t (a, y) input a; output y; endmodule"),
+        "no semicolon"
+    );
+    assert!(rt;
+        is_refused(alloc, b"module t (a y); input a; output y; endmodule"),
+        "no comma"
+    );
+    assert!(rt;
+        is_refused(alloc, b"module t (a, y); input a; output y; endmodule t"),
+        "text behind the end"
+    );
+    assert!(rt;
+        is_refused(alloc, b"module t (a, y); input a; output y;"),
+        "no end"
+    );
+    assert!(rt;
+        is_refused(
+            alloc,
+            b"module t (a, y); // a comment\ninput a; output y; endmodule"
+        ),
+        "a comment"
+    );
+    assert!(rt;
+        is_refused(
+            alloc,
+            b"module t (a, y); input a; output y; endmodule \xc3\xa9"
+        ),
+        "bytes above 127"
+    );
+    assert!(rt;
+        is_refused(alloc, b"module 7t (a, y); input a; output y; endmodule"),
+        "a name that begins with a digit"
+    );
 }
 
 // The netlist of the inverter with blanks behind it.

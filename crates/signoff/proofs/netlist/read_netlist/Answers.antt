@@ -1,6 +1,5 @@
-use Rattle.std.proofs.Common.{arith, ◌≡◌, Err, ap, sym, length, map}
+use Rattle.std.proofs.Common.{arith, Err, ap, sym, length}
 use Rattle.std.proofs.lemmas.List.{length-map}
-use Rattle.signoff.specs.NetlistForm.{gates_of}
 use Rattle.signoff.specs.NetlistSeen.{module_seen}
 use Rattle.signoff.proofs.NetlistLaws.{no-module, not-sound, ports-length, driven-length}
 use Rattle.signoff.proofs.netlist.read_netlist.Goals as goal

@@ -1,7 +1,7 @@
-use Rattle.std.proofs.Common.{rules, arith, ℕ, ◌≡◌, ◌++◌, ◌∷◌, [], List, map, length, take, get_or, Bool, true, false, sym, ◌∙◌, ap, subst, Bor}
-use Rattle.signoff.specs.NetlistForm.{place_of, takes_others, gates_of}
-use Rattle.signoff.specs.NetlistSeen.{names_seen, gates_seen, gate_seen, element_among, module_seen}
-use Rattle.signoff.proofs.NetlistBuilding.{seen-more, gate-takes, wired-take, circuit-same}
+use Rattle.std.proofs.Common.{◌++◌, ◌∷◌, [], map, take, sym, ◌∙◌, ap}
+use Rattle.signoff.specs.NetlistForm.{place_of}
+use Rattle.signoff.specs.NetlistSeen.{names_seen}
+use Rattle.signoff.proofs.NetlistBuilding.{seen-more}
 use Rattle.signoff.proofs.netlist.building.places_of.Goals as goal
 
 pub loop-name-preserved : goal.loop-name-preserved

@@ -4,9 +4,10 @@ use Rattle.signoff.proofs.netlist.checks.has_sound_gates.Goals as goal
 
 pub returns-then-not-are_wired : goal.returns-then-not-are_wired
 returns-then-not-are_wired c =
-    let test = rw (c.deref-2.ensures.value, c.deref-3.ensures.value, c.deref-4.ensures.value) at c.if-not-are_wired.ensures in
-    ( λ h. absurd (cc)
-    , λ s. absurd (gates-not-wired (module_seen c.args.tree.now) _ _ _ c.requires.inputs c.requires.outputs c.requires.gates test s) )
+    let test = rw (c.deref-2.ensures.value, c.deref-3.ensures.value, c.deref-4.ensures.value) at c.if-not-are_wired.ensures in (
+      λ h. absurd (cc),
+      λ s. absurd (gates-not-wired (module_seen c.args.tree.now) _ _ _ c.requires.inputs c.requires.outputs c.requires.gates test s),
+    )
 
 pub returns : goal.returns
 returns c =

@@ -2,7 +2,6 @@ use Rattle.std.proofs.Common.{◌≡◌, ◌≤◌, ◌++◌, length}
 use Rattle.std.specs.List.{flat_map}
 use Rattle.signoff.specs.NetlistForm.{item_spelled}
 use Rattle.signoff.specs.NetlistSeen.{tokens_seen, items_seen}
-use Rattle.signoff.proofs.NetlistSpelling.{item_spelled-injective}
 use Rattle.signoff.proofs.netlist.modules.read_items.Given as goal
 
 abbrev pub invariant-loop-rest : goal.invariant-loop-rest

@@ -1,10 +1,8 @@
-use Rattle.std.proofs.Common.{rules, arith, ◌≡◌, ◌≢◌, ◌≤◌, ◌<◌, ◌-◌, ◌++◌, ◌∷◌, [], List, ℕ, take, drop, length, get_or, Vec, Bor, IfOk, Ok, Err, IsTrue, true, false, Continue, Break, Global, sym, ◌∙◌, subst, ap, codes}
-use lib.Pointwise.{pointwise, bytes_decides}
-use Rattle.std.proofs.lemmas.List.{map_push, take_rest, length-drop}
-use Rattle.signoff.specs.declared.netlist.tokens.Token.TheVariants as token
-use Rattle.signoff.specs.NetlistForm.{Name, Symbol, names_spelled, item_spelled, are_plain, names_in, left_parenthesis, right_parenthesis, semicolon, module_spelled}
-use Rattle.signoff.specs.NetlistSeen.{tokens_seen, names_seen, item_seen, items_seen, module_seen}
-use Rattle.signoff.proofs.NetlistReading.{names-closed, names-end, names-end-symbol, list-end, inputs-read, outputs-read, items-end, items-more, item-shorter, behind-item, module-read, module-end, ends-module, one-name}
+use Rattle.std.proofs.Common.{◌∷◌, drop, Err, sym, ◌∙◌, ap}
+use Rattle.std.proofs.lemmas.List.{map_push, take_rest}
+use Rattle.signoff.specs.NetlistForm.{Name, Symbol}
+use Rattle.signoff.specs.NetlistSeen.{tokens_seen}
+use Rattle.signoff.proofs.NetlistReading.{names-closed, names-end, names-end-symbol}
 use Rattle.signoff.proofs.netlist.modules.read_names.Goals as goal
 
 pub returns-in_err-name-clause-not_yet : goal.returns-in_err-name-clause-not_yet

@@ -1,10 +1,7 @@
-use Rattle.std.proofs.Common.{◌≡◌, ◌++◌, [], ◌∷◌, sym, ◌∙◌, subst, ap, take, drop, arith}
+use Rattle.std.proofs.Common.{sym, ◌∙◌, arith}
 use Rattle.std.proofs.lemmas.List.{map_push}
 use Rattle.std.proofs.lemmas.List.Sums.{prefix_len-le-length}
-use Rattle.circuit_model.specs.Texts.{is_name_byte}
-use Rattle.signoff.specs.NetlistForm.{Token, Name, Symbol}
-use Rattle.signoff.specs.NetlistSeen.{tokens_seen, token_seen}
-use Rattle.signoff.proofs.NetlistSplitting.{IsReadTo, reads-blank, reads-symbol, reads-name, reads-none, reads-all}
+use Rattle.signoff.proofs.NetlistSplitting.{reads-blank, reads-symbol, reads-name, reads-none, reads-all}
 use Rattle.signoff.proofs.netlist.tokens.tokens_of.Goals as goal
 
 pub loop-rest-preserved-then-is_blank : goal.loop-rest-preserved-then-is_blank
@@ -27,7 +24,7 @@ loop-rest-preserved c =
 pub returns-else-is_letter-clause-not_yet : goal.returns-else-is_letter-clause-not_yet
 returns-else-is_letter-clause-not_yet c =
     λ e ts s. reads-none _ _ _ c.loop-rest.invariant c.in-len1-up.len_at_least
-      (sym c.is_blank.ensures ∙ c.if-is_blank.false) (sym c.is_symbol.ensures ∙ c.if-is_symbol.false) (sym c.is_letter.ensures ∙ c.if-is_letter.false) ts s
+    (sym c.is_blank.ensures ∙ c.if-is_blank.false) (sym c.is_symbol.ensures ∙ c.if-is_symbol.false) (sym c.is_letter.ensures ∙ c.if-is_letter.false) ts s
 
 pub returns-clause-ok : goal.returns-clause-ok
 returns-clause-ok c = reads-all _ _ _ c.loop-rest.invariant (omega arith)
