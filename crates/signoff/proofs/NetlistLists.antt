@@ -1,5 +1,5 @@
 -- Tests and searches over the names that references are seen as.
-use Rattle.std.proofs.Common.{ℕ, ◌≡◌, ◌+◌, List, [], ◌∷◌, length, map, Bool, false, ◌&&◌, ◌||◌, not, Some, None, cond, nat_lt, ◌==◌, refl, ap, ◌∙◌, true, sym}
+use Rattle.std.proofs.Common.{ℕ, ◌≡◌, ◌+◌, List, [], ◌∷◌, length, map, Bool, false, ◌&&◌, ◌||◌, not, Some, None, cond, nat_lt, ◌==◌, refl, ap, ◌∙◌, true}
 use Rattle.std.specs.List.{list_any, list_all, position, prefix_len}
 use Rattle.std.proofs.lemmas.List.{length-map}
 use Rattle.std.specs.Borrow.{Bor}
