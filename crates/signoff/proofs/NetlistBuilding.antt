@@ -12,7 +12,7 @@ use Rattle.signoff.specs.WellFormed.{takes_inputs}
 use Rattle.signoff.specs.declared.netlist.declarations.GateItem as code_gate_item
 use Rattle.signoff.specs.NetlistForm.{Module, GateItem, same_name, is_among, is_wired, takes_others, driver_by, circuit_of, gates_of, inputs_of, outputs_of}
 use Rattle.signoff.specs.NetlistSeen.{names_seen, gates_seen, driver_among, net_among, element_among}
-use Rattle.signoff.proofs.NetlistSpelling.{both-parts}
+use Rattle.signoff.proofs.NetlistLists.{both-parts}
 
 pub driver-some : (inputs driven : List (List ℕ)) (port : List ℕ) (place : ℕ) → false ≡ is_among inputs port → position (same_name port) driven ≡ Some place → Driven place ≡ driver_among inputs driven port
 driver-some inputs driven port place h e =
@@ -23,8 +23,13 @@ driver-none inputs driven port h e =
     ap (λ o. driver_by o) (sym e) ∙ ap (λ b. if b then Stimulated else driver_by (position (same_name port) driven)) h
 
 -- a map over the names of references, one further
-pub seen-more : {X : Type 0} (f : List ℕ → X) (names : List (Bor (List ℕ))) (i : ℕ) (d : Bor (List ℕ)) → i < length names → map f (names_seen (take (i + 1) names)) ≡ map f (names_seen (take i names)) ++ f (get_or names i d).now ∷ []
+seen-more : {X : Type 0} (f : List ℕ → X) (names : List (Bor (List ℕ))) (i : ℕ) (d : Bor (List ℕ)) → i < length names → map f (names_seen (take (i + 1) names)) ≡ map f (names_seen (take i names)) ++ f (get_or names i d).now ∷ []
 seen-more f names i d h = ap (λ x. map f x) (map_more (λ n. n.now) names i d h) ∙ map_push f (names_seen (take i names)) (get_or names i d).now
+
+pub places-more : (f : List ℕ → ℕ) (names : List (Bor (List ℕ))) (i : ℕ) (d : Bor (List ℕ)) (places next : List ℕ) (place : ℕ) → i < length names
+    → places ≡ map f (names_seen (take i names)) → next ≡ places ++ place ∷ [] → place ≡ f (get_or names i d).now → next ≡ map f (names_seen (take (i + 1) names))
+places-more f names i d places next place h before pushed e =
+    pushed ∙ ap (λ x. x ++ place ∷ []) before ∙ ap (λ x. map f (names_seen (take i names)) ++ x ∷ []) e ∙ sym (seen-more f names i d h)
 
 -- a gate with an output and inputs enough has inputs enough
 takes-inputs : (kind : GateKind) (n : ℕ) → takes_others kind n ≡ true → takes_inputs kind n ≡ true

@@ -8,7 +8,8 @@ use Rattle.signoff.specs.declared.netlist.tokens.Token as code_token
 use Rattle.signoff.specs.declared.netlist.tokens.Token.TheVariants as token
 use Rattle.signoff.specs.NetlistForm.{Token, Name, Symbol, Item, Inputs, Outputs, Module, IsSound, semicolon, left_parenthesis, right_parenthesis, names_spelled, item_spelled, module_spelled, are_plain, names_in}
 use Rattle.signoff.specs.NetlistSeen.{tokens_seen, token_seen}
-use Rattle.signoff.proofs.NetlistSpelling.{with_commas, first-word, names_spelled-last, behind-commas, names_spelled-injective, same-tails, both-parts, behind-items, item-length, body_spelled, module-spelled, inputs-spelled, outputs-spelled}
+use Rattle.signoff.proofs.NetlistSpelling.{with_commas, first-word, names_spelled-last, behind-commas, names_spelled-injective, same-tails, behind-items, item-length, body_spelled, module-spelled, inputs-spelled, outputs-spelled}
+use Rattle.signoff.proofs.NetlistLists.{both-parts}
 
 -- a list of names ends here
 pub names-closed : (close : ℕ) (seen : List (List ℕ)) (n : List ℕ) (all rest after : List Token) → all ≡ with_commas seen ++ rest → rest ≡ Name n ∷ Symbol close ∷ after → all ≡ names_spelled (seen ++ n ∷ []) ++ Symbol close ∷ after

@@ -1,11 +1,12 @@
 -- What tokens spell: names with commas, items and modules, each in one way.
-use Rattle.std.proofs.Common.{ℕ, ◌≡◌, ◌≢◌, ◌≤◌, List, [], ◌∷◌, ◌++◌, length, Bool, true, false, ◌&&◌, Option, Some, None, codes, nat_eq, if◌then◌else◌, refl, sym, ap, ◌∙◌, arith}
+use Rattle.std.proofs.Common.{ℕ, ◌≡◌, ◌≢◌, ◌≤◌, List, [], ◌∷◌, ◌++◌, length, true, Option, Some, None, codes, nat_eq, if◌then◌else◌, refl, sym, ap, ◌∙◌, arith}
 use Rattle.std.specs.List.{list_all, flat_map}
 use Rattle.std.proofs.lemmas.List.{append_assoc}
 use lib.Pointwise.{pointwise}
 use Rattle.sg_logic.specs.declared.gates.GateKind.{GateKind}
 use Rattle.sg_logic.specs.declared.gates.GateKind.TheVariants.{And, Nand, Or, Nor, Xor, Xnor, Buf, Not}
 use Rattle.signoff.specs.NetlistForm.{Token, Name, Symbol, Item, Inputs, Outputs, Gates, Module, word_of, comma, semicolon, left_parenthesis, right_parenthesis, names_spelled, item_spelled, module_spelled, are_plain, names_in}
+use Rattle.signoff.proofs.NetlistLists.{both-parts}
 
 -- names, each with a comma behind it
 abbrev pub with_commas : List (List ℕ) → List Token
@@ -189,10 +190,6 @@ item-length (Gates k ns) = omega arith
 -- the items of a module, and the word that ends it
 abbrev pub body_spelled : List Item → List Token
 body_spelled items = flat_map item_spelled items ++ Name (codes "endmodule") ∷ []
-
-pub both-parts : (x y : Bool) → (x && y) ≡ true → (x ≡ true) × (y ≡ true)
-both-parts true y h = (refl, h)
-both-parts false y h = absurd (cc)
 
 -- behind items stand other items
 pub behind-items : (seen ms : List Item) (rest : List Token) → list_all (λ item. are_plain (names_in item)) ms ≡ true → flat_map item_spelled seen ++ rest ≡ body_spelled ms → (ks : List Item) × (list_all (λ item. are_plain (names_in item)) ks ≡ true) × (rest ≡ body_spelled ks)

@@ -1,10 +1,11 @@
 -- How a text is split into tokens, from its front.
-use Rattle.std.proofs.Common.{ℕ, ◌≡◌, ◌+◌, ◌≤◌, List, [], ◌∷◌, ◌++◌, length, Bool, true, false, ◌&&◌, not, refl, sym, ap, subst, ◌∙◌, arith, take, drop, get_or, ◌-◌, cond, one-add}
+use Rattle.std.proofs.Common.{ℕ, ◌≡◌, ◌+◌, ◌≤◌, List, [], ◌∷◌, ◌++◌, length, Bool, true, false, not, refl, sym, ap, subst, ◌∙◌, arith, take, drop, get_or, ◌-◌, cond, one-add}
 use Rattle.std.specs.List.{list_all, prefix_len}
 use Rattle.std.proofs.lemmas.Bool.Decides.{nat_tests}
 use Rattle.std.proofs.lemmas.List.{append_assoc, length-append, append-nil, take_rest, take-append-drop}
 use Rattle.circuit_model.specs.Texts.{is_letter, is_name_byte, is_simple}
 use Rattle.signoff.specs.NetlistForm.{Token, Name, Symbol, Splits, ends, skips_blank, takes_symbol, takes_name, is_blank, is_symbol, ends_name}
+use Rattle.signoff.proofs.NetlistLists.{both-parts}
 
 -- a byte begins one kind of token at most
 blank-symbol : (b : ℕ) → is_blank b ≡ true → is_symbol b ≡ true → ⊥
@@ -15,10 +16,6 @@ blank-letter b h k = grind (arith, nat_tests)
 
 symbol-letter : (b : ℕ) → is_symbol b ≡ true → is_letter b ≡ true → ⊥
 symbol-letter b h k = grind (arith, nat_tests)
-
-both-parts : (x y : Bool) → (x && y) ≡ true → (x ≡ true) × (y ≡ true)
-both-parts true y h = (refl, h)
-both-parts false y h = absurd (cc)
 
 -- a simple name is no empty text, begins with a letter and goes on with bytes of names
 simple-parts : (c : ℕ) (cs : List ℕ) → is_simple (c ∷ cs) ≡ true → (is_letter c ≡ true) × (list_all is_name_byte cs ≡ true)

@@ -10,6 +10,8 @@ use crate::netlist::tokens::Token;
 use sg_logic::GateKind;
 use std::alloc::Global;
 
+const COMMA: u8 = b',';
+
 /// What stands in a module.
 #[derive(Debug, Drop)]
 pub enum Item<'a> {
@@ -62,7 +64,7 @@ fn read_names<'a>(
     tokens: &'a [Token<'a>],
     close: u8,
 ) -> Result<(Vec<&'a [u8]>, &'a [Token<'a>]), FormError>
-    requires { close ≢ 44 }
+    requires { close ≢ COMMA }
     ensures ok { IfOk result (λ r. tokens_seen tokens.now ≡ names_spelled (names_seen r.0.items) ++ Symbol close ∷ tokens_seen r.1.now) }
     ensures not_yet { result ≡ Err FormError.NotYet → (names : List (List ℕ)) → (rest : List TokenModel) → are_plain names ≡ true → tokens_seen tokens.now ≢ names_spelled names ++ Symbol close ∷ rest }
 {
@@ -75,7 +77,7 @@ fn read_names<'a>(
         if symbol == close {
             return Ok((names, rest));
         }
-        if symbol != b',' {
+        if symbol != COMMA {
             return Err(FormError::NotYet);
         }
     }
@@ -152,6 +154,7 @@ fn read_items<'a>(alloc: Global, tokens: &'a [Token<'a>]) -> Result<Vec<Item<'a>
     while !is_end(rest) {
         let (item, behind) = read_item(alloc, rest)?;
         items.push(item)?;
+        // `behind` itself can't be kept over the loop: it has the lifetime of a call.
         let taken = rest.len() - behind.len();
         rest = &rest[taken..];
     }

@@ -83,8 +83,6 @@ fn reads_each_kind_of_gate(rt: HostRuntime) {
 
 #[test]
 fn leaves_an_output_undriven_and_takes_items_in_any_order(rt: HostRuntime) {
-    let text = "module\tm(y,\r\nz_1,$a);";
-    assert!(rt; is_refused(rt.alloc(), text.as_bytes()));
     let text = "module m(y,\r\nz_1,_a$9)\t;buf(y,_a$9);output z_1;output y;input _a$9;endmodule";
     let nets = [
         ("y", Driver::Element(0)),

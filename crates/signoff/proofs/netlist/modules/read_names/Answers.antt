@@ -15,6 +15,6 @@ returns-then-symbol-close-clause-ok c =
     let front = c.in_ok-name.ensures.ok ∙ ap (λ x. Name c.in_ok-name.name.now ∷ Symbol x ∷ tokens_seen (drop 2 c.loop-names.rest.now)) c.if-symbol-close.true in
     rw (c.in_ok-push.ensures.items, map_push, take_rest) (names-closed _ _ _ _ _ _ c.loop-names.invariant front)
 
-pub returns-then-symbol-ne44-clause-not_yet : goal.returns-then-symbol-ne44-clause-not_yet
-returns-then-symbol-ne44-clause-not_yet c = λ e.
-    names-end-symbol _ _ _ _ _ _ _ c.requires c.loop-names.invariant c.in_ok-name.ensures.ok c.if-symbol-close.false c.if-symbol-ne44.true
+pub returns-then-symbol-ne-COMMA-clause-not_yet : goal.returns-then-symbol-ne-COMMA-clause-not_yet
+returns-then-symbol-ne-COMMA-clause-not_yet c = λ e.
+    names-end-symbol _ _ _ _ _ _ _ c.requires c.loop-names.invariant c.in_ok-name.ensures.ok c.if-symbol-close.false c.if-symbol-ne-COMMA.true
