@@ -5,7 +5,7 @@ ghost use Rattle.std.specs.Option.{option_map};
 ghost use Rattle.sg_time.specs.Spelling.{number_from};
 ghost use Rattle.vl_lex.specs.Sized.{is_digit_of, bit, low_bits, fewest, digit_bits, decimal_bits, own_bits, extension, to_width, width_in, width_of, behind_width, sized_of};
 ghost use Rattle.vl_lex.specs.Tokens.{other_token};
-ghost use Rattle.vl_lex.specs.Lexes.{with_bits, sized_meaning};
+ghost use Rattle.vl_lex.specs.Meanings.{with_bits, sized_meaning};
 ghost use Rattle.vl_lex.specs.Seen.{meaning};
 
 use crate::numbers::decimal_len;

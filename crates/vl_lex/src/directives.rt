@@ -4,7 +4,7 @@ ghost use Rattle.std.specs.Option.{option_map};
 ghost use Rattle.std.specs.List.{list_any};
 ghost use Rattle.vl_lex.specs.State.{same_bytes, is_taken};
 ghost use Rattle.vl_lex.specs.Directives.{are_no_effect, branch_directive, other_directive, directive_of, is_conditional, words_wanted, name_of, implicit_from};
-ghost use Rattle.vl_lex.specs.Seen.{word};
+ghost use Rattle.vl_lex.specs.Inside.{word};
 
 use crate::branches::Branch;
 use crate::bytes::{is_among, is_word};

@@ -2,7 +2,8 @@
 ghost use Rattle.std.specs.Prelude.{◌≡◌, ◌≤ℤ◌, ◌-ℤ◌, pos, ℤ, Option, Some, None, map, IfSome};
 ghost use Rattle.std.specs.Option.{option_map};
 ghost use Rattle.vl_lex.specs.Directives.{tens_of, unit_of, power_of, scale_from, scale_of};
-ghost use Rattle.vl_lex.specs.Seen.{word, timescale};
+ghost use Rattle.vl_lex.specs.Inside.{word};
+ghost use Rattle.vl_lex.specs.Seen.{timescale};
 
 use crate::bytes::is_word;
 use crate::directives::Word;
