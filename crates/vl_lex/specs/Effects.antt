@@ -1,24 +1,15 @@
 -- What comes of the pieces of a text: tokens, faults, and changes of the state.
-use Rattle.std.specs.Prelude.{ℕ, zero, suc, ◌≡◌, ◌+◌, ◌^◌, ◌==◌, ◌&&◌, ◌||◌, not, nat_lt, nat_le, List, [], ◌∷◌, ◌++◌, length, take, drop, Bool, true, false, Option, Some, None, Result, Ok, Err, if◌then◌else◌, codes}
-use Rattle.std.specs.List.{prefix_len, list_all}
-use Rattle.std.specs.Char.{is_ascii_digit, is_ascii_graphic}
+use Rattle.std.specs.Prelude.{ℕ, ◌+◌, ◌==◌, ◌||◌, not, List, [], ◌∷◌, ◌++◌, length, take, drop, Bool, true, false, Option, Some, None, Ok, if◌then◌else◌, codes}
+use Rattle.std.specs.List.{prefix_len}
+use Rattle.std.specs.Char.{is_ascii_graphic}
 use Rattle.sg_text.specs.declared.places.Place.{Place}
-use Rattle.sg_text.specs.Words.{is_reserved_word}
-use Rattle.sg_logic.specs.declared.values.Value.{Value}
-use Rattle.sg_logic.specs.declared.values.Value.TheVariants.{Zero, One, X}
-use Rattle.sg_time.specs.Spelling.{Number}
-use Rattle.sg_time.specs.declared.decimal.TimeError.{TimeError}
-use Rattle.sg_time.specs.Reading.{parts_of, said_of}
 use Rattle.vl_lex.specs.Bytes.{is_blank, is_name_start, is_name_byte}
-use Rattle.vl_lex.specs.Sized.{Sized, sized_of, own_bits, to_width, width_of}
-use Rattle.vl_lex.specs.Tokens.{Settings, Meaning, module_word, word_token, name_token, system_token, symbol_token, other_token, number_token, sized_token, pair_token, byte_token, Lexeme}
-use Rattle.vl_lex.specs.State.{waits, Waiting, State, Fault, Outcome, fault, first_state, same_bytes, text_of, is_taken}
+use Rattle.vl_lex.specs.Tokens.{Meaning, Lexeme}
+use Rattle.vl_lex.specs.State.{waits, Waiting, State, Outcome, fault, same_bytes, text_of, is_taken}
 use Rattle.vl_lex.specs.Directives.{directive_of, is_conditional, words_wanted, with_macro, applied}
-use Rattle.vl_lex.specs.Modes.{IsPiece, Piece, ArePieces}
 use Rattle.vl_lex.specs.declared.faults.LexKind.{LexKind}
-use Rattle.vl_lex.specs.declared.faults.LexKind.TheVariants.{BadByte, UnendedComment, UnendedText, UnknownDirective, UnbalancedIf, MacroTooDeep, FileTooLarge, BadDirective}
+use Rattle.vl_lex.specs.declared.faults.LexKind.TheVariants.{BadByte, UnendedComment, UnendedText, UnknownDirective, BadDirective}
 use Rattle.vl_lex.specs.declared.faults.Found.{Found}
-use Rattle.vl_lex.specs.declared.branches.Branch.{Branch}
 use Rattle.vl_lex.specs.declared.directives.Directive.{Directive}
 use Rattle.vl_lex.specs.declared.directives.Directive.TheVariants.{Define}
 use Rattle.vl_lex.specs.declared.modes.Mode.{Mode}
@@ -27,7 +18,7 @@ use Rattle.vl_lex.specs.declared.origins.Origin.{Origin}
 use Rattle.vl_lex.specs.declared.origins.Origin.TheVariants.{File, Macro as InMacro}
 use Rattle.vl_lex.specs.declared.pieces.Class.{Class}
 use Rattle.vl_lex.specs.declared.pieces.Class.TheVariants as class
-use Rattle.vl_lex.specs.Meanings.{is_module, name_meaning, is_whole, number_meaning, with_bits, sized_meaning, edge_value, pair_from, pair_meaning, cell_meaning, meaning_of}
+use Rattle.vl_lex.specs.Meanings.{meaning_of}
 
 -- the place of a byte; all that a macro gives has the place of its outermost use
 abbrev pub place_at : Origin → ℕ → Place

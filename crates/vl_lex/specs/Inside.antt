@@ -1,28 +1,20 @@
 -- What the code keeps while it reads, as the definitions see it, and what its steps answer.
 use Rattle.std.specs.Prelude.{ℕ, ◌≡◌, List, map, reverse, Option, Some, None, Result, Ok, Err}
 use Rattle.std.specs.Option.{option_map}
-use Rattle.std.specs.Global.{Vec}
 use Rattle.sg_text.specs.declared.places.Place.{Place}
 use Rattle.sg_text.specs.declared.refusals.Refused.{Refused}
 use Rattle.sg_text.specs.declared.refusals.Refused.TheVariants as refused
-use Rattle.sg_time.specs.declared.units.Scale.{Scale}
-use Rattle.sg_time.specs.Seen.{number}
-use Rattle.vl_lex.specs.Tokens.{Timescale, Settings, Meaning, module_word, word_token, name_token, system_token, symbol_token, other_token, number_token, sized_token, pair_token, byte_token, Lexeme}
 use Rattle.vl_lex.specs.State as def
 use Rattle.vl_lex.specs.State.{State, Fault, Outcome}
 use Rattle.vl_lex.specs.Effects.{Effect, expands}
 use Rattle.vl_lex.specs.Lexes.{Leads, Checks, LexesFrom, at_end}
 use Rattle.vl_lex.specs.declared.faults.LexKind.{LexKind}
-use Rattle.vl_lex.specs.declared.tokens.Mark.{Mark}
-use Rattle.vl_lex.specs.declared.tokens.TokenKind.{TokenKind}
-use Rattle.vl_lex.specs.declared.tokens.TokenKind.TheVariants as token
-use Rattle.vl_lex.specs.declared.tokens.Token.{Token}
 use Rattle.vl_lex.specs.declared.directives.Word.{Word}
 use Rattle.vl_lex.specs.declared.directives.Waiting.{Waiting}
 use Rattle.vl_lex.specs.declared.macros.Macro.{Macro}
 use Rattle.vl_lex.specs.declared.lexer.Lexer.{Lexer}
 use Rattle.vl_lex.specs.declared.origins.Origin.{Origin}
-use Rattle.vl_lex.specs.Seen.{timescale, settings, meaning, lexeme, texts, Stands, Tells}
+use Rattle.vl_lex.specs.Seen.{settings, lexeme}
 
 abbrev pub word : Word → def.Word
 word w = record { is_name = w.is_name; bytes = w.bytes }

@@ -1,33 +1,15 @@
 -- The tokens of a list of files, or the first fault from the left.
-use Rattle.std.specs.Prelude.{ℕ, zero, suc, ◌≡◌, ◌+◌, ◌^◌, ◌==◌, ◌&&◌, ◌||◌, not, nat_lt, nat_le, List, [], ◌∷◌, ◌++◌, length, take, drop, Bool, true, false, Option, Some, None, Result, Ok, Err, if◌then◌else◌, codes}
-use Rattle.std.specs.List.{prefix_len, list_all}
-use Rattle.std.specs.Char.{is_ascii_digit, is_ascii_graphic}
+use Rattle.std.specs.Prelude.{ℕ, zero, suc, ◌≡◌, ◌+◌, ◌^◌, nat_lt, List, [], ◌∷◌, length, take, drop, Option, Some, None, Result, Ok, Err, if◌then◌else◌}
 use Rattle.sg_text.specs.declared.places.Place.{Place}
-use Rattle.sg_text.specs.Words.{is_reserved_word}
-use Rattle.sg_logic.specs.declared.values.Value.{Value}
-use Rattle.sg_logic.specs.declared.values.Value.TheVariants.{Zero, One, X}
-use Rattle.sg_time.specs.Spelling.{Number}
-use Rattle.sg_time.specs.declared.decimal.TimeError.{TimeError}
-use Rattle.sg_time.specs.Reading.{parts_of, said_of}
-use Rattle.vl_lex.specs.Bytes.{is_blank, is_name_start, is_name_byte}
-use Rattle.vl_lex.specs.Sized.{Sized, sized_of, own_bits, to_width, width_of}
-use Rattle.vl_lex.specs.Tokens.{Settings, Meaning, module_word, word_token, name_token, system_token, symbol_token, other_token, number_token, sized_token, pair_token, byte_token, Lexeme}
-use Rattle.vl_lex.specs.State.{Waiting, State, Fault, Outcome, fault, first_state, same_bytes, text_of, is_taken}
-use Rattle.vl_lex.specs.Directives.{directive_of, is_conditional, words_wanted, with_macro, applied}
+use Rattle.vl_lex.specs.Tokens.{Lexeme}
+use Rattle.vl_lex.specs.State.{Waiting, State, Fault, Outcome, fault, first_state}
 use Rattle.vl_lex.specs.Modes.{IsPiece, Piece, ArePieces}
-use Rattle.vl_lex.specs.declared.faults.LexKind.{LexKind}
-use Rattle.vl_lex.specs.declared.faults.LexKind.TheVariants.{BadByte, UnendedComment, UnendedText, UnknownDirective, UnbalancedIf, MacroTooDeep, FileTooLarge, BadDirective}
+use Rattle.vl_lex.specs.declared.faults.LexKind.TheVariants.{UnbalancedIf, MacroTooDeep, FileTooLarge, BadDirective}
 use Rattle.vl_lex.specs.declared.faults.Found.{Found}
 use Rattle.vl_lex.specs.declared.branches.Branch.{Branch}
-use Rattle.vl_lex.specs.declared.directives.Directive.{Directive}
-use Rattle.vl_lex.specs.declared.directives.Directive.TheVariants.{Define}
-use Rattle.vl_lex.specs.declared.modes.Mode.{Mode}
-use Rattle.vl_lex.specs.declared.modes.Mode.TheVariants.{Plain, AfterEdge, Edges, Table, Line}
 use Rattle.vl_lex.specs.declared.origins.Origin.{Origin}
 use Rattle.vl_lex.specs.declared.origins.Origin.TheVariants.{File, Macro as InMacro}
-use Rattle.vl_lex.specs.declared.pieces.Class.{Class}
-use Rattle.vl_lex.specs.declared.pieces.Class.TheVariants as class
-use Rattle.vl_lex.specs.Effects.{place_at, mode_by_name, behind_plain, behind_edge, behind_edges, behind_cell, mode_behind, placed, is_bad, bad_from, fault_of, fault_in, Effect, stops, is_define, next_mode, mode_at, taken_piece, ready, begins_arguments, begins_name, defined, defined_by, defined_in, skipped, with_word, awaited, first_words, used, directed, passed, is_use, effect_at, effect_of, effect, comes_to, expands, defines}
+use Rattle.vl_lex.specs.Effects.{place_at, fault_of, Effect, mode_at, effect, comes_to, expands, defines}
 
 abbrev pub fault_or : Origin → ℕ → Option Found → Option Fault → Option Fault
 fault_or origin at (Some f) later = Some (record { kind = f.kind; place = place_at origin (at + f.behind) })
