@@ -50,10 +50,8 @@ fn test_of(wanted: bool, macros: &[Macro], words: &[Word]) -> Option<bool>
     if words.is_empty() {
         return Some(false);
     }
-    match name_of(words) {
-        Some(name) => Some(as_wanted(wanted, is_defined(macros, name))),
-        None => None,
-    }
+    let name = name_of(words)?;
+    Some(as_wanted(wanted, is_defined(macros, name)))
 }
 
 impl Lexer {

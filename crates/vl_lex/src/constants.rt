@@ -91,10 +91,7 @@ fn number_of(digits: &[u8]) -> Option<u64>
     let mut number: u64 = 0;
     let mut rest = digits;
     while let [digit, tail @ ..] = rest {
-        let Some(next) = with_digit(number, *digit) else {
-            return None;
-        };
-        number = next;
+        number = with_digit(number, *digit)?;
         rest = tail;
     }
     Some(number)
@@ -162,11 +159,10 @@ fn width_in(widest: u64, number: u64) -> Option<Option<u32>>
     requires { widest ≤ 2 ^ 31 }
     ensures { result ≡ width_in widest number }
 {
-    if number >= 1 && number <= widest {
-        Some(Some(number as u32))
-    } else {
-        None
+    if number == 0 || number > widest {
+        return None;
     }
+    Some(Some(number as u32))
 }
 
 // The width that the digits spell, if they spell a good one or none.
@@ -176,10 +172,7 @@ fn width_of(digits: &[u8]) -> Option<Option<u32>>
     if digits.is_empty() {
         return Some(None);
     }
-    match number_of(digits) {
-        Some(number) => width_in(WIDEST, number),
-        None => None,
-    }
+    width_in(WIDEST, number_of(digits)?)
 }
 
 pub fn other(alloc: Global, bytes: &[u8]) -> Result<TokenKind, NoMemory>

@@ -106,10 +106,7 @@ fn other_directive(name: &[u8]) -> Option<Directive>
 pub fn directive_of(name: &[u8]) -> Option<Directive>
     ensures { result ≡ directive_of name.now }
 {
-    match branch_directive(name) {
-        Some(directive) => Some(directive),
-        None => other_directive(name),
-    }
+    branch_directive(name).or_else(|| other_directive(name))
 }
 
 impl Directive {
@@ -117,14 +114,14 @@ impl Directive {
     pub fn is_conditional(self) -> bool
         ensures { result ≡ is_conditional self }
     {
-        match self {
+        matches!(
+            self,
             Directive::IfDef
-            | Directive::IfNDef
-            | Directive::ElsIf
-            | Directive::Else
-            | Directive::EndIf => true,
-            _ => false,
-        }
+                | Directive::IfNDef
+                | Directive::ElsIf
+                | Directive::Else
+                | Directive::EndIf
+        )
     }
 }
 

@@ -61,24 +61,14 @@ fn power_from(tens: i8, unit: i8) -> Unit
 fn power_of(number: &[u8], unit: &[u8]) -> Option<Unit>
     ensures { option_map (λ u. u.power) result ≡ power_of (tens_of number.now) (unit_of unit.now) }
 {
-    match tens_of(number) {
-        Some(tens) => match unit_of(unit) {
-            Some(unit) => Some(power_from(tens, unit)),
-            None => None,
-        },
-        None => None,
-    }
+    Some(power_from(tens_of(number)?, unit_of(unit)?))
 }
 
 fn scale_from(unit: Option<Unit>, precision: Option<Unit>) -> Option<Scale>
     ensures { option_map timescale result ≡ scale_from (option_map (λ u. u.power) unit) (option_map (λ u. u.power) precision) }
 {
-    let Some(unit) = unit else {
-        return None;
-    };
-    let Some(precision) = precision else {
-        return None;
-    };
+    let unit = unit?;
+    let precision = precision?;
     if unit.power < precision.power {
         None
     } else {

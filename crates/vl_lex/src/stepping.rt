@@ -28,19 +28,13 @@ use sg_text::{NoMemory, Place, Refused, Text};
 fn is_define(directive: Directive) -> bool
     ensures { result ≡ is_define directive }
 {
-    match directive {
-        Directive::Define => true,
-        _ => false,
-    }
+    matches!(directive, Directive::Define)
 }
 
 fn is_use(class: Class) -> bool
     ensures { result ≡ is_use class }
 {
-    match class {
-        Class::Use => true,
-        _ => false,
-    }
+    matches!(class, Class::Use)
 }
 
 fn blank_len(bytes: &[u8]) -> usize
@@ -62,10 +56,7 @@ fn begins_name(bytes: &[u8]) -> bool
 fn begins_arguments(bytes: &[u8]) -> bool
     ensures { result ≡ begins_arguments bytes.now }
 {
-    match bytes {
-        [b'(', ..] => true,
-        _ => false,
-    }
+    matches!(bytes, [b'(', ..])
 }
 
 impl Lexer {
