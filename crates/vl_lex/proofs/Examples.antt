@@ -8,7 +8,8 @@ use Rattle.vl_lex.specs.Modes.{IsPiece, class_in, edge_class, is_endtable}
 use Rattle.vl_lex.specs.Tokens.{name_token, sized_token, pair_token, other_token}
 use Rattle.sg_text.specs.Words.{reserved_words}
 use Rattle.vl_lex.specs.Directives.{scale_of, directive_of, are_no_effect}
-use Rattle.vl_lex.specs.Lexes.{Lexes, sized_meaning, pair_meaning}
+use Rattle.vl_lex.specs.Lexes.{Lexes}
+use Rattle.vl_lex.specs.Meanings.{sized_meaning, pair_meaning}
 use Rattle.vl_lex.specs.declared.faults.LexKind.TheVariants.{UnknownDirective, UnbalancedIf}
 use Rattle.vl_lex.specs.declared.modes.Mode.TheVariants.{Plain}
 use Rattle.vl_lex.specs.declared.pieces.Class.{Class}

@@ -9,7 +9,8 @@ use Rattle.sg_text.specs.declared.refusals.Refused.TheVariants as refused
 use Rattle.vl_lex.specs.Tokens.{Lexeme}
 use Rattle.vl_lex.specs.State.{Fault, State, Outcome, first_state}
 use Rattle.vl_lex.specs.Modes.{class_in, IsPiece, Piece, ArePieces}
-use Rattle.vl_lex.specs.Lexes.{Effect, comes_to, expands, defines, mode_at, effect, first_fault, or_state, Checks, Leads, Then, Reads, IsRead, Expands, at_file_end, LexesFrom, too_large, LexesUnless, Lexes}
+use Rattle.vl_lex.specs.Effects.{Effect, comes_to, expands, defines, mode_at, effect}
+use Rattle.vl_lex.specs.Lexes.{first_fault, or_state, Checks, Leads, Then, Reads, IsRead, Expands, at_file_end, LexesFrom, too_large, LexesUnless, Lexes}
 use Rattle.vl_lex.specs.Seen.{Stands, Tells}
 use Rattle.vl_lex.specs.declared.faults.LexKind.{LexKind}
 use Rattle.vl_lex.specs.declared.modes.Mode.{Mode}
@@ -117,13 +118,13 @@ lexes_from_one deepest n (text ∷ texts) s o p h k =
     let goes : Then k.0 F H = subst (λ b. Then b F H) same h.2 in
     then_one k.0 o p F G H K (λ next f g. lexes_from_one deepest (n + 1) texts next o p f g) (λ f a b. a ∙ sym b) goes k.2
 
-unless_one : (large : Option Fault) (deepest : ℕ) (files : List (List ℕ)) (o p : Result (List Lexeme) Fault) → LexesUnless large deepest files o → LexesUnless large deepest files p → o ≡ p
-unless_one (Some f) deepest files o p h k = h ∙ sym k
-unless_one None deepest files o p h k = lexes_from_one deepest 0 files first_state o p h k
+unless_one : (large : Option ℕ) (largest deepest : ℕ) (files : List (List ℕ)) (o p : Result (List Lexeme) Fault) → LexesUnless large largest deepest files o → LexesUnless large largest deepest files p → o ≡ p
+unless_one (Some n) largest deepest files o p h k = h ∙ sym k
+unless_one None largest deepest files o p h k = lexes_from_one deepest 0 files first_state o p h k
 
 -- files have one token list or one fault, and not both
 pub lexes_one : (files : List (List ℕ)) (o p : Result (List Lexeme) Fault) → Lexes files o → Lexes files p → o ≡ p
-lexes_one files o p h k = unless_one (too_large (2 ^ 28) 0 files) 16 files o p h k
+lexes_one files o p h k = unless_one (too_large (2 ^ 28) 0 files) (2 ^ 28) 16 files o p h k
 
 -- what stands is all that does
 pub only_of : (files : List (List ℕ)) (result : Result (Vec Token) (Refused LexKind)) → Stands (Lexes files) result → (o : Result (List Lexeme) Fault) → Lexes files o → Tells o result

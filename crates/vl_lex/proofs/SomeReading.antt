@@ -6,7 +6,8 @@ use Rattle.vl_lex.specs.Tokens.{Lexeme}
 use Rattle.vl_lex.specs.State.{Fault, State, Outcome, first_state}
 use Rattle.vl_lex.specs.Modes.{IsPiece}
 use Rattle.vl_lex.specs.Found.{piece_in}
-use Rattle.vl_lex.specs.Lexes.{Effect, comes_to, expands, defines, mode_at, effect, first_fault, or_state, Leads, Then, IsRead, Expands, at_file_end, at_end, LexesFrom, too_large, LexesUnless, Lexes}
+use Rattle.vl_lex.specs.Effects.{Effect, comes_to, expands, defines, mode_at, effect}
+use Rattle.vl_lex.specs.Lexes.{first_fault, or_state, Leads, Then, IsRead, Expands, at_file_end, at_end, LexesFrom, too_large, LexesUnless, Lexes}
 use Rattle.vl_lex.specs.declared.origins.Origin.{Origin}
 use Rattle.vl_lex.specs.declared.origins.Origin.TheVariants.{File, Macro as InMacro}
 use Rattle.vl_lex.specs.declared.pieces.Class.{Class}
@@ -62,10 +63,10 @@ lexes_from_some deepest n (text ∷ texts) s =
     let g = file_some (at_file_end r.0) (λ next o. LexesFrom deepest (n + 1) texts next o) (λ next. lexes_from_some deepest (n + 1) texts next) in
     (g.0, (at_file_end r.0, (r.0, r.1, refl), g.1))
 
-unless_some : (large : Option Fault) (deepest : ℕ) (files : List (List ℕ)) → (o : Result (List Lexeme) Fault) × LexesUnless large deepest files o
-unless_some (Some f) deepest files = (Err f, refl)
-unless_some None deepest files = lexes_from_some deepest 0 files first_state
+unless_some : (large : Option ℕ) (largest deepest : ℕ) (files : List (List ℕ)) → (o : Result (List Lexeme) Fault) × LexesUnless large largest deepest files o
+unless_some (Some n) largest deepest files = (_, refl)
+unless_some None largest deepest files = lexes_from_some deepest 0 files first_state
 
 -- a list of files has a token list or a fault
 pub lexes_some : (files : List (List ℕ)) → (o : Result (List Lexeme) Fault) × Lexes files o
-lexes_some files = unless_some (too_large (2 ^ 28) 0 files) 16 files
+lexes_some files = unless_some (too_large (2 ^ 28) 0 files) (2 ^ 28) 16 files

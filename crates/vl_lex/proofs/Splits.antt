@@ -5,7 +5,8 @@ use Rattle.std.proofs.lemmas.List.{take_all}
 use Rattle.vl_lex.specs.Found.{piece_of}
 use Rattle.vl_lex.specs.Modes.{IsPiece, Piece, ArePieces}
 use Rattle.vl_lex.specs.State.{Fault}
-use Rattle.vl_lex.specs.Lexes.{place_at, fault_of, fault_or, first_fault, Checks}
+use Rattle.vl_lex.specs.Effects.{place_at, fault_of}
+use Rattle.vl_lex.specs.Lexes.{fault_or, first_fault, Checks}
 use Rattle.vl_lex.specs.declared.faults.Found.{Found}
 use Rattle.vl_lex.specs.declared.origins.Origin.{Origin}
 use Rattle.vl_lex.specs.declared.pieces.Class.{Class}

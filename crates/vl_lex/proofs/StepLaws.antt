@@ -6,12 +6,14 @@ use Rattle.sg_text.specs.declared.places.Place.{Place}
 use Rattle.sg_text.specs.declared.refusals.Refused.{Refused}
 use Rattle.sg_text.specs.declared.refusals.Refused.TheVariants as refused
 use Rattle.vl_lex.specs.State.{State, Fault, Outcome}
-use Rattle.vl_lex.specs.Lexes.{Effect, comes_to, expands, defines, effect, mode_at, Leads, IsRead, Expands, IsFileRead, LexesFrom}
+use Rattle.vl_lex.specs.Effects.{Effect, comes_to, expands, defines, effect, mode_at}
+use Rattle.vl_lex.specs.Lexes.{Leads, IsRead, Expands, IsFileRead, LexesFrom}
 use Rattle.vl_lex.specs.Tokens.{Lexeme}
 use Rattle.vl_lex.specs.Modes.{IsPiece}
 use Rattle.vl_lex.specs.declared.pieces.Class.{Class}
 use Rattle.vl_lex.specs.declared.modes.Mode.{Mode}
-use Rattle.vl_lex.specs.Seen.{IsChecked, Answers, NoText, Steps, texts, AreRead}
+use Rattle.vl_lex.specs.Inside.{IsChecked, Answers, NoText, Steps, AreRead}
+use Rattle.vl_lex.specs.Seen.{texts}
 use Rattle.vl_lex.specs.declared.faults.LexKind.{LexKind}
 use Rattle.vl_lex.specs.declared.faults.LexKind.TheVariants.{MacroTooDeep}
 use Rattle.vl_lex.specs.declared.origins.Origin.{Origin}

@@ -169,6 +169,9 @@ without name macros = filter (λ m. not (same_bytes m.name name)) macros
 abbrev pub with_macro : List ℕ → List ℕ → State → State
 with_macro name text s = record s { macros = without name s.macros ++ record { name = name; text = text } ∷ [] }
 
+abbrev pub opens : Bool → Place → List Word → State → Outcome
+opens wanted place words s = given place (λ test. Ok (with_branches s (opened place test s.branches))) (test_of wanted s.macros words)
+
 -- A directive that has its words is applied. A definition isn't applied so, since its text is one line.
 abbrev pub applied : Directive → Place → List Word → State → Outcome
 applied Timescale place words s = given place (λ scale. Ok (with_settings s (record s.settings { scale = scale }))) (scale_of words)
@@ -178,8 +181,8 @@ applied EndCellDefine place words s = Ok (with_settings s (record s.settings { c
 applied DefaultNetType place words s = given place (λ implicit. Ok (with_settings s (record s.settings { implicit = implicit }))) (implicit_from (name_of words))
 applied Define place words s = fault BadDirective place
 applied Undef place words s = given place (λ name. Ok (record s { macros = without name s.macros })) (name_of words)
-applied IfDef place words s = given place (λ test. Ok (with_branches s (opened place test s.branches))) (test_of true s.macros words)
-applied IfNDef place words s = given place (λ test. Ok (with_branches s (opened place test s.branches))) (test_of false s.macros words)
+applied IfDef place words s = opens true place words s
+applied IfNDef place words s = opens false place words s
 applied ElsIf place words s = given place (λ test. branched place s (gone_on test false s.branches)) (test_of true s.macros words)
 applied Else place words s = branched place s (gone_on true true s.branches)
 applied EndIf place words s = branched place s (closed s.branches)

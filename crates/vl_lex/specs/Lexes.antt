@@ -1,270 +1,15 @@
 -- The tokens of a list of files, or the first fault from the left.
-use Rattle.std.specs.Prelude.{ℕ, zero, suc, ◌≡◌, ◌+◌, ◌^◌, ◌==◌, ◌&&◌, ◌||◌, not, nat_lt, nat_le, List, [], ◌∷◌, ◌++◌, length, take, drop, Bool, true, false, Option, Some, None, Result, Ok, Err, if◌then◌else◌, codes}
-use Rattle.std.specs.List.{prefix_len, list_all}
-use Rattle.std.specs.Char.{is_ascii_digit, is_ascii_graphic}
+use Rattle.std.specs.Prelude.{ℕ, zero, suc, ◌≡◌, ◌+◌, ◌^◌, nat_lt, List, [], ◌∷◌, length, take, drop, Option, Some, None, Result, Ok, Err, if◌then◌else◌}
 use Rattle.sg_text.specs.declared.places.Place.{Place}
-use Rattle.sg_text.specs.Words.{is_reserved_word}
-use Rattle.sg_logic.specs.declared.values.Value.{Value}
-use Rattle.sg_logic.specs.declared.values.Value.TheVariants.{Zero, One, X}
-use Rattle.sg_time.specs.Spelling.{Number}
-use Rattle.sg_time.specs.declared.decimal.TimeError.{TimeError}
-use Rattle.sg_time.specs.Reading.{parts_of, said_of}
-use Rattle.vl_lex.specs.Bytes.{is_blank, is_name_start, is_name_byte}
-use Rattle.vl_lex.specs.Sized.{Sized, sized_of, own_bits, to_width, width_of}
-use Rattle.vl_lex.specs.Tokens.{Settings, Meaning, module_word, word_token, name_token, system_token, symbol_token, other_token, number_token, sized_token, pair_token, byte_token, Lexeme}
-use Rattle.vl_lex.specs.State.{Waiting, State, Fault, Outcome, fault, first_state, same_bytes, text_of, is_taken}
-use Rattle.vl_lex.specs.Directives.{directive_of, is_conditional, words_wanted, with_macro, applied}
+use Rattle.vl_lex.specs.Tokens.{Lexeme}
+use Rattle.vl_lex.specs.State.{Waiting, State, Fault, Outcome, fault, first_state}
 use Rattle.vl_lex.specs.Modes.{IsPiece, Piece, ArePieces}
-use Rattle.vl_lex.specs.declared.faults.LexKind.{LexKind}
-use Rattle.vl_lex.specs.declared.faults.LexKind.TheVariants.{BadByte, UnendedComment, UnendedText, UnknownDirective, UnbalancedIf, MacroTooDeep, FileTooLarge, BadDirective}
+use Rattle.vl_lex.specs.declared.faults.LexKind.TheVariants.{UnbalancedIf, MacroTooDeep, FileTooLarge, BadDirective}
 use Rattle.vl_lex.specs.declared.faults.Found.{Found}
 use Rattle.vl_lex.specs.declared.branches.Branch.{Branch}
-use Rattle.vl_lex.specs.declared.directives.Directive.{Directive}
-use Rattle.vl_lex.specs.declared.directives.Directive.TheVariants.{Define}
-use Rattle.vl_lex.specs.declared.modes.Mode.{Mode}
-use Rattle.vl_lex.specs.declared.modes.Mode.TheVariants.{Plain, AfterEdge, Edges, Table, Line}
 use Rattle.vl_lex.specs.declared.origins.Origin.{Origin}
 use Rattle.vl_lex.specs.declared.origins.Origin.TheVariants.{File, Macro as InMacro}
-use Rattle.vl_lex.specs.declared.pieces.Class.{Class}
-use Rattle.vl_lex.specs.declared.pieces.Class.TheVariants as class
-
--- the place of a byte; all that a macro gives has the place of its outermost use
-abbrev pub place_at : Origin → ℕ → Place
-place_at (File n) at = record { file = n; byte = at }
-place_at (InMacro place) at = place
-
--- ---- tokens
-
-abbrev pub is_module : List ℕ → Bool
-is_module bytes = same_bytes bytes (codes "module") || same_bytes bytes (codes "macromodule")
-
-abbrev pub name_meaning : Settings → List ℕ → Meaning
-name_meaning settings bytes = if is_module bytes then module_word settings else if is_reserved_word bytes then word_token bytes else name_token bytes
-
--- 1 to 18 digits and nothing else
-abbrev pub is_whole : List ℕ → Bool
-is_whole bytes = list_all is_ascii_digit bytes && nat_le (length bytes) 18
-
--- a decimal with too many digits is a token that no rule takes
-abbrev pub number_meaning : List ℕ → Result Number TimeError → Meaning
-number_meaning bytes (Ok n) = number_token n (is_whole bytes)
-number_meaning bytes (Err e) = other_token bytes
-
--- a constant whose width or value is too large is a token that no rule takes
-abbrev pub with_bits : List ℕ → Option (Option ℕ) → Option (List Value) → Meaning
-with_bits bytes None bits = other_token bytes
-with_bits bytes (Some width) None = other_token bytes
-with_bits bytes (Some None) (Some bits) = sized_token None bits
-with_bits bytes (Some (Some width)) (Some bits) = sized_token (Some width) (to_width width bits)
-
-abbrev pub sized_meaning : List ℕ → Option Sized → Meaning
-sized_meaning bytes None = other_token bytes
-sized_meaning bytes (Some s) = with_bits bytes (width_of s.width) (own_bits s.base s.digits)
-
--- the value that a byte of an edge list stands for: z is read as x
-abbrev pub edge_value : ℕ → Value
-edge_value b = if b == 48 then Zero else if b == 49 then One else X
-
--- two different values are a change
-abbrev pub pair_from : List ℕ → Value → Value → Meaning
-pair_from bytes Zero Zero = other_token bytes
-pair_from bytes One One = other_token bytes
-pair_from bytes X X = other_token bytes
-pair_from bytes from to = pair_token from to
-
-abbrev pub pair_meaning : List ℕ → Meaning
-pair_meaning (a ∷ b ∷ []) = pair_from (a ∷ b ∷ []) (edge_value a) (edge_value b)
-pair_meaning bytes = other_token bytes
-
-abbrev pub cell_meaning : List ℕ → Meaning
-cell_meaning (b ∷ []) = byte_token b
-cell_meaning bytes = other_token bytes
-
--- the token that a piece gives
-abbrev pub meaning_of : Class → List ℕ → Settings → Option Meaning
-meaning_of class.Gap bytes settings = None
-meaning_of class.Attribute bytes settings = None
-meaning_of class.Name bytes settings = Some (name_meaning settings bytes)
-meaning_of class.Escaped bytes settings = Some (name_token (drop 1 bytes))
-meaning_of class.System bytes settings = Some (system_token bytes)
-meaning_of class.Number bytes settings = Some (number_meaning bytes (said_of (parts_of bytes)))
-meaning_of class.Sized bytes settings = Some (sized_meaning bytes (sized_of bytes))
-meaning_of class.Symbol bytes settings = Some (symbol_token bytes)
-meaning_of class.Cell bytes settings = Some (cell_meaning bytes)
-meaning_of class.Pair bytes settings = Some (pair_meaning bytes)
-meaning_of _ bytes settings = Some (other_token bytes)
-
--- the mode behind a name
-abbrev pub mode_by_name : List ℕ → Mode
-mode_by_name bytes = if same_bytes bytes (codes "edge") then AfterEdge else if same_bytes bytes (codes "table") then Table else Plain
-
--- the mode behind a piece
-abbrev pub behind_plain : Class → List ℕ → Mode
-behind_plain class.Name bytes = mode_by_name bytes
-behind_plain _ bytes = Plain
-
-abbrev pub behind_edge : Class → List ℕ → Mode
-behind_edge class.Gap bytes = AfterEdge
-behind_edge class.Attribute bytes = AfterEdge
-behind_edge class.Symbol bytes = if same_bytes bytes (codes "[") then Edges else Plain
-behind_edge c bytes = behind_plain c bytes
-
-abbrev pub behind_edges : Class → List ℕ → Mode
-behind_edges class.Symbol bytes = if same_bytes bytes (codes "]") then Plain else Edges
-behind_edges _ bytes = Edges
-
-abbrev pub behind_cell : Class → Mode
-behind_cell class.Name = Plain
-behind_cell _ = Table
-
-abbrev pub mode_behind : Mode → Class → List ℕ → Mode
-mode_behind Plain c bytes = behind_plain c bytes
-mode_behind AfterEdge c bytes = behind_edge c bytes
-mode_behind Edges c bytes = behind_edges c bytes
-mode_behind Table c bytes = behind_cell c
-mode_behind Line c bytes = behind_plain c bytes
-
-abbrev pub placed : Place → Option Meaning → List Lexeme
-placed place None = []
-placed place (Some meaning) = record { meaning = meaning; place = place } ∷ []
-
--- ---- faults of pieces
-
-abbrev pub is_bad : ℕ → Bool
-is_bad b = not (is_blank b || is_ascii_graphic b)
-
--- the first bad byte, n bytes behind the first
-abbrev pub bad_from : ℕ → List ℕ → Option Found
-bad_from n [] = None
-bad_from n (b ∷ bs) = if is_bad b then Some (record { kind = BadByte; behind = n }) else bad_from (n + 1) bs
-
--- the fault that a piece is, if it is one: a bad byte is one in an attribute too
-abbrev pub fault_of : Class → List ℕ → Option Found
-fault_of class.BadByte bytes = Some (record { kind = BadByte; behind = 0 })
-fault_of class.Attribute bytes = bad_from 0 bytes
-fault_of class.UnendedComment bytes = Some (record { kind = UnendedComment; behind = 0 })
-fault_of class.UnendedText bytes = Some (record { kind = UnendedText; behind = 0 })
-fault_of _ bytes = None
-
--- of these, text that isn't taken has but the last two
-abbrev pub fault_in : Bool → Class → List ℕ → Option Found
-fault_in true c bytes = fault_of c bytes
-fault_in false class.BadByte bytes = None
-fault_in false class.Attribute bytes = None
-fault_in false c bytes = fault_of c bytes
-
--- ---- what a piece does
-
--- what comes of a piece
-pub data Effect : Type 0 where
-  comes_to : Outcome → Effect
-  -- a macro is used at a place, and its text stands for it
-  expands : (place : Place) → (text : List ℕ) → State → Effect
-  -- a macro is defined, where its text, which begins at a byte, is without fault
-  defines : (origin : Origin) → (start : ℕ) → (text : List ℕ) → State → Effect
-
-abbrev pub stops : LexKind → Place → Effect
-stops kind place = comes_to (fault kind place)
-
-abbrev pub is_define : Directive → Bool
-is_define Define = true
-is_define _ = false
-
--- the mode of the piece that comes next: a definition is a line, and in text that isn't taken no table or edge list stands
-abbrev pub next_mode : Option Waiting → Bool → Mode → Mode
-next_mode (Some w) taken mode = if is_define w.directive then Line else Plain
-next_mode None true mode = mode
-next_mode None false mode = Plain
-
-abbrev pub mode_at : State → Mode
-mode_at s = next_mode s.waiting (is_taken s.branches) s.mode
-
-abbrev pub taken_piece : Place → Class → List ℕ → State → State
-taken_piece place c bytes s = record s { mode = mode_behind s.mode c bytes; tokens = s.tokens ++ placed place (meaning_of c bytes s.settings) }
-
--- a directive that has all its words is applied
-abbrev pub ready : Waiting → State → Outcome
-ready w s =
-    if length w.words == words_wanted w.directive s.branches then applied w.directive w.place w.words (record s { waiting = None })
-    else Ok (record s { waiting = Some w })
-
--- A definition is blanks, a name, and the text behind it. A `(` that touches the name is refused.
-abbrev pub begins_arguments : List ℕ → Bool
-begins_arguments [] = false
-begins_arguments (b ∷ bs) = b == 40
-
-abbrev pub begins_name : List ℕ → Bool
-begins_name [] = false
-begins_name (b ∷ bs) = is_name_start b
-
-abbrev pub defined : Origin → ℕ → Place → List ℕ → List ℕ → State → Effect
-defined origin start place name text s =
-    if begins_arguments text then stops BadDirective place
-    else defines origin start text (with_macro name text s)
-
-abbrev pub defined_by : Origin → ℕ → Place → ℕ → List ℕ → State → Effect
-defined_by origin at place blanks bytes s =
-    if (blanks == 0) || not (begins_name bytes) then stops BadDirective place
-    else defined origin (at + blanks + prefix_len is_name_byte bytes) place (take (prefix_len is_name_byte bytes) bytes) (drop (prefix_len is_name_byte bytes) bytes) s
-
-abbrev pub defined_in : Origin → ℕ → Place → List ℕ → State → Effect
-defined_in origin at place line s = defined_by origin at place (prefix_len is_blank line) (drop (prefix_len is_blank line) line) s
-
--- blanks, comments and attributes stand between words, but not in a definition
-abbrev pub skipped : Waiting → State → Outcome
-skipped w s = if is_define w.directive then fault BadDirective w.place else Ok s
-
-abbrev pub with_word : Bool → List ℕ → Waiting → Waiting
-with_word is_name bytes w = record w { words = w.words ++ record { is_name = is_name; bytes = bytes } ∷ [] }
-
--- a piece where a directive waits for words
-abbrev pub awaited : Origin → ℕ → Waiting → Class → List ℕ → State → Effect
-awaited origin at w class.Gap bytes s = comes_to (skipped w s)
-awaited origin at w class.Attribute bytes s = comes_to (skipped w s)
-awaited origin at w class.Line bytes s = defined_in origin at w.place bytes (record s { waiting = None })
-awaited origin at w class.Use bytes s = stops BadDirective w.place
-awaited origin at w class.Name bytes s = comes_to (ready (with_word true bytes w) s)
-awaited origin at w c bytes s = comes_to (ready (with_word false bytes w) s)
-
-abbrev pub first_words : Directive → Place → Waiting
-first_words d place = record { directive = d; place = place; words = [] }
-
-abbrev pub used : Place → Option (List ℕ) → State → Effect
-used place (Some text) s = expands place text s
-used place None s = stops UnknownDirective place
-
--- A backquote with a name is a directive, or else a macro's use; in a macro's text it is always a use.
-abbrev pub directed : Origin → Place → List ℕ → Option Directive → State → Effect
-directed (InMacro outermost) place name d s = used place (text_of name s.macros) s
-directed (File n) place name None s = used place (text_of name s.macros) s
-directed (File n) place name (Some d) s = comes_to (ready (first_words d place) s)
-
--- the same in text that isn't taken: only what opens, goes on with or closes a branch counts
-abbrev pub passed : Place → Option Directive → State → Outcome
-passed place None s = Ok s
-passed place (Some d) s = if is_conditional d then ready (first_words d place) s else Ok s
-
-abbrev pub is_use : Class → Bool
-is_use class.Use = true
-is_use _ = false
-
--- a piece of text that is taken, or that isn't
-abbrev pub effect_at : Bool → Origin → Place → Class → List ℕ → State → Effect
-effect_at true origin place c bytes s =
-    if is_use c then directed origin place (drop 1 bytes) (directive_of (drop 1 bytes)) s
-    else comes_to (Ok (taken_piece place c bytes s))
-effect_at false origin place c bytes s = comes_to (if is_use c then passed place (directive_of (drop 1 bytes)) s else Ok s)
-
-abbrev pub effect_of : Option Found → Option Waiting → Origin → ℕ → Class → List ℕ → State → Effect
-effect_of (Some f) waiting origin at c bytes s = stops f.kind (place_at origin (at + f.behind))
-effect_of None (Some w) origin at c bytes s = awaited origin at w c bytes s
-effect_of None None origin at c bytes s = effect_at (is_taken s.branches) origin (place_at origin at) c bytes s
-
--- What comes of a piece of this class and these bytes, which stands at this byte.
-abbrev pub effect : Origin → ℕ → Class → List ℕ → State → Effect
-effect origin at c bytes s = effect_of (fault_in (is_taken s.branches) c bytes) s.waiting origin at c bytes s
-
--- ---- whole texts
+use Rattle.vl_lex.specs.Effects.{place_at, fault_of, Effect, mode_at, effect, comes_to, expands, defines}
 
 abbrev pub fault_or : Origin → ℕ → Option Found → Option Fault → Option Fault
 fault_or origin at (Some f) later = Some (record { kind = f.kind; place = place_at origin (at + f.behind) })
@@ -336,16 +81,16 @@ LexesFrom deepest n (text ∷ texts) s o =
     (between : Outcome) × IsFileRead deepest n text s between
     × Then between (λ next. LexesFrom deepest (n + 1) texts next o) (λ f. o ≡ Err f)
 
--- the byte behind the last that the first file that is too large may have
-abbrev pub too_large : ℕ → ℕ → List (List ℕ) → Option Fault
+-- the first file, from the n-th on, that has more bytes than one may have
+abbrev pub too_large : ℕ → ℕ → List (List ℕ) → Option ℕ
 too_large largest n [] = None
-too_large largest n (text ∷ texts) = if nat_lt largest (length text) then Some (record { kind = FileTooLarge; place = record { file = n; byte = largest } }) else too_large largest (n + 1) texts
+too_large largest n (text ∷ texts) = if nat_lt largest (length text) then Some n else too_large largest (n + 1) texts
 
-abbrev pub LexesUnless : Option Fault → ℕ → List (List ℕ) → Result (List Lexeme) Fault → Type 0
-LexesUnless (Some f) deepest files o = o ≡ Err f
-LexesUnless None deepest files o = LexesFrom deepest 0 files first_state o
+abbrev pub LexesUnless : Option ℕ → ℕ → ℕ → List (List ℕ) → Result (List Lexeme) Fault → Type 0
+LexesUnless (Some n) largest deepest files o = o ≡ Err (record { kind = FileTooLarge; place = record { file = n; byte = largest } })
+LexesUnless None largest deepest files o = LexesFrom deepest 0 files first_state o
 
--- The token list of the files, or their first fault: macros lie at most 16 deep within one another, and a file has at
--- most 2 ^ 28 bytes.
+-- The token list of the files, or their first fault: a file has at most 2 ^ 28 bytes, and macros lie at most 16 deep
+-- within one another.
 abbrev pub Lexes : List (List ℕ) → Result (List Lexeme) Fault → Type 0
-Lexes files o = LexesUnless (too_large (2 ^ 28) 0 files) 16 files o
+Lexes files o = LexesUnless (too_large (2 ^ 28) 0 files) (2 ^ 28) 16 files o

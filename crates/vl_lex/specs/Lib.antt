@@ -1,4 +1,4 @@
--- The modules of this folder: the definition of tokens, and behind it how the code finds them.
+-- The modules of this folder: the definition of tokens, from bytes up to whole files, and what the code has in its place.
 pub mod Bytes
 pub mod Ends
 pub mod Sized
@@ -7,7 +7,10 @@ pub mod Modes
 pub mod Tokens
 pub mod State
 pub mod Directives
+pub mod Meanings
+pub mod Effects
 pub mod Lexes
 pub mod Seen
+pub mod Inside
 pub mod Numbers
 pub mod Found

@@ -55,6 +55,10 @@ first_state = record { mode = Plain; waiting = None; macros = []; branches = [];
 abbrev pub same_bytes : List ℕ → List ℕ → Bool
 same_bytes = pointwise nat_eq
 
+-- a directive waits for its words
+abbrev pub waits : Waiting → State → State
+waits w s = record s { waiting = Some w }
+
 -- the text of the macro of a name
 abbrev pub text_of : List ℕ → List Macro → Option (List ℕ)
 text_of name [] = None

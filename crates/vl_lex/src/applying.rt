@@ -2,14 +2,14 @@
 ghost use Rattle.std.specs.Prelude.{◌≡◌, ◌≤◌, ◌^◌, length, map, Option, Some, None, Ok, MatchOption, is_some};
 ghost use Rattle.std.specs.Option.{option_map};
 ghost use Rattle.vl_lex.specs.State.{first_settings};
-ghost use Rattle.vl_lex.specs.Directives.{is_defined, as_wanted, test_of, branched, gone_on, closed, opened, with_branches, with_settings, without, name_of, scale_of, implicit_from, given, applied};
-ghost use Rattle.vl_lex.specs.Seen.{settings, timescale, word, macro_of, state, Gives};
+ghost use Rattle.vl_lex.specs.Directives.{is_defined, as_wanted, test_of, branched, gone_on, closed, opens, applied};
+ghost use Rattle.vl_lex.specs.Seen.{settings, timescale};
+ghost use Rattle.vl_lex.specs.Inside.{word, macro_of, state, Gives};
 
 use crate::branch_lists::{close, go_on, open};
 use crate::directives::{Directive, Word, implicit_of, name_of};
-use crate::faults::LexKind;
+use crate::faults::{LexKind, bad_directive, fault};
 use crate::lexer::Lexer;
-use crate::looks::fault;
 use crate::macro_lists::{remove, text_of};
 use crate::macros::Macro;
 use crate::scales::scale_of;
@@ -50,16 +50,8 @@ fn test_of(wanted: bool, macros: &[Macro], words: &[Word]) -> Option<bool>
     if words.is_empty() {
         return Some(false);
     }
-    match name_of(words) {
-        Some(name) => Some(as_wanted(wanted, is_defined(macros, name))),
-        None => None,
-    }
-}
-
-fn bad(place: Place) -> Refused<LexKind>
-    ensures { result ≡ Refused.Fault LexKind.BadDirective place }
-{
-    fault(LexKind::BadDirective, place)
+    let name = name_of(words)?;
+    Some(as_wanted(wanted, is_defined(macros, name)))
 }
 
 impl Lexer {
@@ -71,7 +63,7 @@ impl Lexer {
                 self.mark.scale = scale;
                 Ok(())
             }
-            None => Err(bad(place)),
+            None => Err(bad_directive(place)),
         }
     }
 
@@ -83,7 +75,7 @@ impl Lexer {
                 self.mark.implicit = implicit;
                 Ok(())
             }
-            None => Err(bad(place)),
+            None => Err(bad_directive(place)),
         }
     }
 
@@ -95,7 +87,7 @@ impl Lexer {
                 remove(&mut self.macros, name);
                 Ok(())
             }
-            None => Err(bad(place)),
+            None => Err(bad_directive(place)),
         }
     }
 
@@ -105,14 +97,14 @@ impl Lexer {
         place: Place,
         words: &[Word],
     ) -> Result<(), Refused<LexKind>>
-        ensures { Gives (given place (λ test. Ok (with_branches (state self.old) (opened place test (state self.old).branches))) (test_of wanted (state self.old).macros (map word words.now))) (state self.new) result }
+        ensures { Gives (opens wanted place (map word words.now) (state self.old)) (state self.new) result }
     {
         match test_of(wanted, &self.macros, words) {
             Some(test) => {
                 open(&mut self.branches, place, test)?;
                 Ok(())
             }
-            None => Err(bad(place)),
+            None => Err(bad_directive(place)),
         }
     }
 
@@ -131,7 +123,7 @@ impl Lexer {
     {
         match test_of(true, &self.macros, words) {
             Some(test) => self.next_branch(place, test, false),
-            None => Err(bad(place)),
+            None => Err(bad_directive(place)),
         }
     }
 
@@ -160,7 +152,7 @@ impl Lexer {
             Directive::CellDefine => self.mark.cell = true,
             Directive::EndCellDefine => self.mark.cell = false,
             Directive::DefaultNetType => return self.set_net_type(place, words),
-            Directive::Define => return Err(bad(place)),
+            Directive::Define => return Err(bad_directive(place)),
             Directive::Undef => return self.undefine(place, words),
             Directive::IfDef => return self.open_branch(true, place, words),
             Directive::IfNDef => return self.open_branch(false, place, words),

@@ -5,7 +5,7 @@ ghost use Rattle.std.specs.Option.{option_map};
 ghost use Rattle.sg_time.specs.Spelling.{number_from};
 ghost use Rattle.vl_lex.specs.Sized.{is_digit_of, bit, low_bits, fewest, digit_bits, decimal_bits, own_bits, extension, to_width, width_in, width_of, behind_width, sized_of};
 ghost use Rattle.vl_lex.specs.Tokens.{other_token};
-ghost use Rattle.vl_lex.specs.Lexes.{with_bits, sized_meaning};
+ghost use Rattle.vl_lex.specs.Meanings.{with_bits, sized_meaning};
 ghost use Rattle.vl_lex.specs.Seen.{meaning};
 
 use crate::numbers::decimal_len;
@@ -91,10 +91,7 @@ fn number_of(digits: &[u8]) -> Option<u64>
     let mut number: u64 = 0;
     let mut rest = digits;
     while let [digit, tail @ ..] = rest {
-        let Some(next) = with_digit(number, *digit) else {
-            return None;
-        };
-        number = next;
+        number = with_digit(number, *digit)?;
         rest = tail;
     }
     Some(number)
@@ -162,11 +159,10 @@ fn width_in(widest: u64, number: u64) -> Option<Option<u32>>
     requires { widest ≤ 2 ^ 31 }
     ensures { result ≡ width_in widest number }
 {
-    if number >= 1 && number <= widest {
-        Some(Some(number as u32))
-    } else {
-        None
+    if number == 0 || number > widest {
+        return None;
     }
+    Some(Some(number as u32))
 }
 
 // The width that the digits spell, if they spell a good one or none.
@@ -176,10 +172,7 @@ fn width_of(digits: &[u8]) -> Option<Option<u32>>
     if digits.is_empty() {
         return Some(None);
     }
-    match number_of(digits) {
-        Some(number) => width_in(WIDEST, number),
-        None => None,
-    }
+    width_in(WIDEST, number_of(digits)?)
 }
 
 pub fn other(alloc: Global, bytes: &[u8]) -> Result<TokenKind, NoMemory>

@@ -4,7 +4,7 @@ ghost use Rattle.std.specs.Option.{option_map};
 ghost use Rattle.std.specs.List.{list_any};
 ghost use Rattle.vl_lex.specs.State.{same_bytes, is_taken};
 ghost use Rattle.vl_lex.specs.Directives.{are_no_effect, branch_directive, other_directive, directive_of, is_conditional, words_wanted, name_of, implicit_from};
-ghost use Rattle.vl_lex.specs.Seen.{word};
+ghost use Rattle.vl_lex.specs.Inside.{word};
 
 use crate::branches::Branch;
 use crate::bytes::{is_among, is_word};
@@ -106,10 +106,7 @@ fn other_directive(name: &[u8]) -> Option<Directive>
 pub fn directive_of(name: &[u8]) -> Option<Directive>
     ensures { result ≡ directive_of name.now }
 {
-    match branch_directive(name) {
-        Some(directive) => Some(directive),
-        None => other_directive(name),
-    }
+    branch_directive(name).or_else(|| other_directive(name))
 }
 
 impl Directive {
@@ -117,14 +114,14 @@ impl Directive {
     pub fn is_conditional(self) -> bool
         ensures { result ≡ is_conditional self }
     {
-        match self {
+        matches!(
+            self,
             Directive::IfDef
-            | Directive::IfNDef
-            | Directive::ElsIf
-            | Directive::Else
-            | Directive::EndIf => true,
-            _ => false,
-        }
+                | Directive::IfNDef
+                | Directive::ElsIf
+                | Directive::Else
+                | Directive::EndIf
+        )
     }
 }
 

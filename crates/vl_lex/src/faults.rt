@@ -1,4 +1,7 @@
 // What a netlist's text may be refused for.
+ghost use Rattle.std.specs.Prelude.{◌≡◌};
+
+use sg_text::{Place, Refused};
 use thiserror::Error;
 
 /// A fault of a netlist's text or of its directives.
@@ -33,4 +36,16 @@ pub enum LexKind {
 pub struct Found {
     pub kind: LexKind,
     pub behind: usize,
+}
+
+pub fn fault(kind: LexKind, place: Place) -> Refused<LexKind>
+    ensures { result ≡ Refused.Fault kind place }
+{
+    Refused::Fault { kind, place }
+}
+
+pub fn bad_directive(place: Place) -> Refused<LexKind>
+    ensures { result ≡ Refused.Fault LexKind.BadDirective place }
+{
+    fault(LexKind::BadDirective, place)
 }

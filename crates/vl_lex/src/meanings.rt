@@ -4,7 +4,7 @@ ghost use Rattle.std.specs.Option.{option_map};
 ghost use Rattle.std.specs.List.{list_all};
 ghost use Rattle.std.specs.Char.{is_ascii_digit};
 ghost use Rattle.sg_time.specs.Reading.{parts_of, said_of};
-ghost use Rattle.vl_lex.specs.Lexes.{is_module, name_meaning, is_whole, number_meaning, edge_value, pair_from, pair_meaning, cell_meaning, meaning_of};
+ghost use Rattle.vl_lex.specs.Meanings.{is_module, name_meaning, is_whole, number_meaning, edge_value, pair_from, pair_meaning, cell_meaning, meaning_of};
 ghost use Rattle.vl_lex.specs.Seen.{settings, meaning};
 
 use crate::bytes::is_word;

@@ -1,6 +1,6 @@
 // Where a text comes from.
 ghost use Rattle.std.specs.Prelude.{◌≡◌};
-ghost use Rattle.vl_lex.specs.Lexes.{place_at};
+ghost use Rattle.vl_lex.specs.Effects.{place_at};
 
 use sg_text::Place;
 

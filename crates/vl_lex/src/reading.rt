@@ -1,14 +1,15 @@
 // Whole texts.
-ghost use Rattle.std.specs.Prelude.{◌≡◌, ◌≤◌, ◌<◌, ◌+◌, ◌^◌, List, ℕ, Result, length, MatchOption, Some, None};
+ghost use Rattle.std.specs.Prelude.{◌≡◌, ◌≤◌, ◌<◌, ◌+◌, ◌^◌, List, ℕ, Result, length, None};
 ghost use Rattle.vl_lex.specs.State.{Fault, first_state};
 ghost use Rattle.vl_lex.specs.Tokens.{Lexeme};
-ghost use Rattle.vl_lex.specs.Lexes.{Leads, IsRead, Expands, IsFileRead, effect, Lexes, too_large, at_end, file_end};
-ghost use Rattle.vl_lex.specs.Seen.{state, Gives, Answers, Stands, Tells, texts, AreRead};
+ghost use Rattle.vl_lex.specs.Lexes.{Leads, IsRead, Expands, IsFileRead, Lexes, too_large, at_end, file_end};
+ghost use Rattle.vl_lex.specs.Effects.{effect};
+ghost use Rattle.vl_lex.specs.Inside.{state, Gives, Answers, AreRead};
+ghost use Rattle.vl_lex.specs.Seen.{Stands, Tells, texts};
 
 use crate::applying::first_mark;
-use crate::faults::LexKind;
+use crate::faults::{LexKind, bad_directive, fault};
 use crate::lexer::Lexer;
-use crate::looks::fault;
 use crate::modes::{Mode, first_piece};
 use crate::origins::Origin;
 use crate::pieces::Class;
@@ -91,7 +92,7 @@ impl Lexer {
         ensures { Gives (file_end (state self.old).waiting (state self.old)) (state self.new) result }
     {
         match &self.waiting {
-            Some(waiting) => Err(fault(LexKind::BadDirective, waiting.place)),
+            Some(waiting) => Err(bad_directive(waiting.place)),
             None => Ok(()),
         }
     }
@@ -133,7 +134,7 @@ impl Lexer {
 // The first file that is too large.
 fn too_large(files: &[Vec<u8>]) -> Option<u32>
     requires { length files.now < 2 ^ 32 }
-    ensures { MatchOption result (too_large (2 ^ 28) 0 (texts files.now) ≡ None) (λ file. too_large (2 ^ 28) 0 (texts files.now) ≡ Some (record { kind = LexKind.FileTooLarge; place = record { file = file; byte = 2 ^ 28 } })) }
+    ensures { result ≡ too_large (2 ^ 28) 0 (texts files.now) }
 {
     let mut file = 0;
     let mut rest = files;

@@ -2,7 +2,8 @@
 ghost use Rattle.std.specs.Prelude.{◌≡◌, ◌≤ℤ◌, ◌-ℤ◌, pos, ℤ, Option, Some, None, map, IfSome};
 ghost use Rattle.std.specs.Option.{option_map};
 ghost use Rattle.vl_lex.specs.Directives.{tens_of, unit_of, power_of, scale_from, scale_of};
-ghost use Rattle.vl_lex.specs.Seen.{word, timescale};
+ghost use Rattle.vl_lex.specs.Inside.{word};
+ghost use Rattle.vl_lex.specs.Seen.{timescale};
 
 use crate::bytes::is_word;
 use crate::directives::Word;
@@ -60,24 +61,14 @@ fn power_from(tens: i8, unit: i8) -> Unit
 fn power_of(number: &[u8], unit: &[u8]) -> Option<Unit>
     ensures { option_map (λ u. u.power) result ≡ power_of (tens_of number.now) (unit_of unit.now) }
 {
-    match tens_of(number) {
-        Some(tens) => match unit_of(unit) {
-            Some(unit) => Some(power_from(tens, unit)),
-            None => None,
-        },
-        None => None,
-    }
+    Some(power_from(tens_of(number)?, unit_of(unit)?))
 }
 
 fn scale_from(unit: Option<Unit>, precision: Option<Unit>) -> Option<Scale>
     ensures { option_map timescale result ≡ scale_from (option_map (λ u. u.power) unit) (option_map (λ u. u.power) precision) }
 {
-    let Some(unit) = unit else {
-        return None;
-    };
-    let Some(precision) = precision else {
-        return None;
-    };
+    let unit = unit?;
+    let precision = precision?;
     if unit.power < precision.power {
         None
     } else {

@@ -28,14 +28,11 @@ pub fn base_of(letter: u8) -> Option<Base>
 pub fn hex_value(digit: u8) -> u8
     ensures { result ≡ hex_value digit }
 {
-    if digit >= b'0' && digit <= b'9' {
-        digit - b'0'
-    } else if digit >= b'a' && digit <= b'f' {
-        digit - b'a' + 10
-    } else if digit >= b'A' && digit <= b'F' {
-        digit - b'A' + 10
-    } else {
-        16
+    match digit {
+        b'0'..=b'9' => digit - b'0',
+        b'a'..=b'f' => digit - b'a' + 10,
+        b'A'..=b'F' => digit - b'A' + 10,
+        _ => 16,
     }
 }
 

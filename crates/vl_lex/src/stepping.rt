@@ -2,26 +2,25 @@
 ghost use Rattle.std.specs.Prelude.{◌≡◌, ◌≤◌, ◌<◌, ◌+◌, ◌^◌, length, drop, OnOk, IfOk, IfSome, Option, Some, None};
 ghost use Rattle.std.specs.List.{prefix_len};
 ghost use Rattle.vl_lex.specs.Bytes.{is_blank};
-ghost use Rattle.vl_lex.specs.State.{is_taken};
-ghost use Rattle.vl_lex.specs.State as spec;
+ghost use Rattle.vl_lex.specs.State.{is_taken, waits};
 ghost use Rattle.vl_lex.specs.Directives.{with_macro, directive_of as directive_named};
-ghost use Rattle.vl_lex.specs.Lexes.{defines, mode_at, taken_piece, ready, with_word, skipped, begins_arguments, begins_name, defined_in, defined_by, awaited, first_words, used, directed, passed, is_use, effect_at, effect, is_define, Leads, place_at};
-ghost use Rattle.vl_lex.specs.Lexes as def;
+ghost use Rattle.vl_lex.specs.Effects.{defines, mode_at, taken_piece, ready, with_word, skipped, begins_arguments, begins_name, defined_in, defined_by, awaited, first_words, used, directed, passed, is_use, effect_at, effect, is_define, place_at};
+ghost use Rattle.vl_lex.specs.Lexes.{Leads};
 ghost use Rattle.vl_lex.specs.State.{text_of as macro_text};
-ghost use Rattle.vl_lex.specs.Seen.{waiting as waiting_seen, state, Gives, Answers, NoText, Steps};
+ghost use Rattle.vl_lex.specs.Inside.{waiting as waiting_seen, state, Gives, Answers, NoText, Steps};
 
 use crate::branch_lists::{is_taken, words_wanted};
 use crate::bytes::{is_blank, is_name_start, name_len};
 use crate::directives::{Directive, Waiting, Word, directive_of};
-use crate::faults::LexKind;
+use crate::faults::{LexKind, bad_directive, fault};
 use crate::lexer::Lexer;
-use crate::looks::{check_text, fault, fault_in};
 use crate::macro_lists::{remove, text_of};
 use crate::macros::Macro;
 use crate::meanings::{behind_first, kind_of};
-use crate::mode_steps::mode_behind;
+use crate::mode_changes::mode_behind;
 use crate::modes::Mode;
 use crate::origins::Origin;
+use crate::piece_faults::{check_text, fault_in};
 use crate::pieces::Class;
 use crate::tokens::Token;
 use sg_text::{NoMemory, Place, Refused, Text};
@@ -29,19 +28,13 @@ use sg_text::{NoMemory, Place, Refused, Text};
 fn is_define(directive: Directive) -> bool
     ensures { result ≡ is_define directive }
 {
-    match directive {
-        Directive::Define => true,
-        _ => false,
-    }
+    matches!(directive, Directive::Define)
 }
 
 fn is_use(class: Class) -> bool
     ensures { result ≡ is_use class }
 {
-    match class {
-        Class::Use => true,
-        _ => false,
-    }
+    matches!(class, Class::Use)
 }
 
 fn blank_len(bytes: &[u8]) -> usize
@@ -63,16 +56,7 @@ fn begins_name(bytes: &[u8]) -> bool
 fn begins_arguments(bytes: &[u8]) -> bool
     ensures { result ≡ begins_arguments bytes.now }
 {
-    match bytes {
-        [b'(', ..] => true,
-        _ => false,
-    }
-}
-
-fn bad(place: Place) -> Refused<LexKind>
-    ensures { result ≡ Refused.Fault LexKind.BadDirective place }
-{
-    fault(LexKind::BadDirective, place)
+    matches!(bytes, [b'(', ..])
 }
 
 impl Lexer {
@@ -168,12 +152,12 @@ impl Lexer {
         ensures { Answers (Leads NoText (defined_by origin at place blanks bytes.now (state self.old))) (state self.new) result }
     {
         if blanks == 0 || !begins_name(bytes) {
-            return Err(bad(place));
+            return Err(bad_directive(place));
         }
         let size = name_len(bytes);
         let (name, text) = bytes.split_at(size);
         if begins_arguments(text) {
-            return Err(bad(place));
+            return Err(bad_directive(place));
         }
         self.define_checked(origin, at + blanks + size, name, text)
     }
@@ -212,10 +196,10 @@ impl Lexer {
 
     // What stands between the words of a directive.
     fn skip(&mut self, waiting: Waiting) -> Result<(), Refused<LexKind>>
-        ensures { Gives (skipped (waiting_seen waiting) (record (state self.old) { waiting = Some (waiting_seen waiting) })) (state self.new) result }
+        ensures { Gives (skipped (waiting_seen waiting) (waits (waiting_seen waiting) (state self.old))) (state self.new) result }
     {
         if is_define(waiting.directive) {
-            return Err(bad(waiting.place));
+            return Err(bad_directive(waiting.place));
         }
         self.waiting = Some(waiting);
         Ok(())
@@ -232,7 +216,7 @@ impl Lexer {
     ) -> Result<(), Refused<LexKind>>
         requires few { length bytes.now ≤ 2 ^ 28 }
         requires place { at + length bytes.now < 2 ^ 62 }
-        ensures { Answers (Leads NoText (awaited origin at (waiting_seen waiting) class bytes.now (record (state self.old) { waiting = Some (waiting_seen waiting) }))) (state self.new) result }
+        ensures { Answers (Leads NoText (awaited origin at (waiting_seen waiting) class bytes.now (waits (waiting_seen waiting) (state self.old)))) (state self.new) result }
     {
         match class {
             Class::Gap | Class::Attribute => self.skip(waiting),
@@ -240,7 +224,7 @@ impl Lexer {
                 self.waiting = None;
                 self.define(origin, at, waiting.place, bytes)
             }
-            Class::Use => Err(bad(waiting.place)),
+            Class::Use => Err(bad_directive(waiting.place)),
             Class::Name => self.take_word(waiting, true, bytes),
             _ => self.take_word(waiting, false, bytes),
         }

@@ -2,5 +2,6 @@ use Rattle.std.proofs.Common.{arith}
 use Rattle.vl_lex.proofs.BitLaws.{number_first}
 use Rattle.vl_lex.proofs.constants.number_of.Goals as goal
 
-pub returns-in_default-with_digit-clause-none : goal.returns-in_default-with_digit-clause-none
-returns-in_default-with_digit-clause-none c = omega (arith, number_first c.loop-rest.number c.loop-rest.rest.now (omega arith), c.loop-rest.invariant, c.in_default-with_digit.ensures.none)
+pub returns-in_err-number-clause-none : goal.returns-in_err-number-clause-none
+returns-in_err-number-clause-none c =
+    rw c.from_residual.ensures (omega (arith, number_first c.loop-rest.number c.loop-rest.rest.now (omega arith), c.loop-rest.invariant, c.in_err-number.ensures.none))

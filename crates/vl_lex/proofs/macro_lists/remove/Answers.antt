@@ -4,7 +4,7 @@ use Rattle.std.proofs.lemmas.Bool.{cases_Bool}
 use Rattle.std.proofs.lemmas.Fn.{filter_same}
 use Rattle.vl_lex.specs.State.{same_bytes}
 use Rattle.vl_lex.specs.Directives.{without}
-use Rattle.vl_lex.specs.Seen.{macro_of}
+use Rattle.vl_lex.specs.Inside.{macro_of}
 use Rattle.vl_lex.specs.declared.macros.Macro.{Macro}
 use Rattle.vl_lex.proofs.macro_lists.remove.Goals as goal
 

@@ -1,6 +1,6 @@
 use Rattle.std.proofs.Common.{◌≡◌, length, map}
 use Rattle.vl_lex.specs.State.{text_of}
-use Rattle.vl_lex.specs.Seen.{macro_of}
+use Rattle.vl_lex.specs.Inside.{macro_of}
 use Rattle.vl_lex.proofs.macro_lists.text_of.Given as goal
 
 abbrev pub invariant-loop-rest : goal.invariant-loop-rest

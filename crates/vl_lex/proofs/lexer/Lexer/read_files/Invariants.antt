@@ -3,7 +3,8 @@ use Rattle.std.specs.Prelude.{Result, None}
 use Rattle.vl_lex.specs.State.{Fault}
 use Rattle.vl_lex.specs.Tokens.{Lexeme}
 use Rattle.vl_lex.specs.Lexes.{too_large, LexesFrom}
-use Rattle.vl_lex.specs.Seen.{state, texts}
+use Rattle.vl_lex.specs.Inside.{state}
+use Rattle.vl_lex.specs.Seen.{texts}
 use Rattle.vl_lex.proofs.lexer.Lexer.read_files.Given as goal
 
 -- what comes of the rest comes of the whole

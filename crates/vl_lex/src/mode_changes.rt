@@ -1,6 +1,6 @@
 // How the mode changes.
 ghost use Rattle.std.specs.Prelude.{◌≡◌};
-ghost use Rattle.vl_lex.specs.Lexes.{mode_by_name, behind_plain, behind_edge, behind_edges, behind_cell, mode_behind};
+ghost use Rattle.vl_lex.specs.Effects.{mode_by_name, behind_plain, behind_edge, behind_edges, behind_cell, mode_behind};
 
 use crate::bytes::is_word;
 use crate::modes::Mode;

@@ -1,6 +1,6 @@
 use Rattle.std.proofs.Common.{◌≡◌, ◌+◌, length}
-use Rattle.vl_lex.specs.Lexes.{bad_from}
-use Rattle.vl_lex.proofs.looks.bad_byte.Given as goal
+use Rattle.vl_lex.specs.Effects.{bad_from}
+use Rattle.vl_lex.proofs.piece_faults.bad_byte.Given as goal
 
 abbrev pub invariant-loop-rest : goal.invariant-loop-rest
 invariant-loop-rest l = record {

@@ -1,14 +1,14 @@
 // The faults that pieces are.
 ghost use Rattle.std.specs.Prelude.{◌≡◌, ◌≤◌, ◌<◌, ◌+◌, ◌^◌, length, IfSome, IfNone, Some, None, ℕ};
-ghost use Rattle.vl_lex.specs.Lexes.{is_bad, bad_from, fault_of, fault_in};
-ghost use Rattle.vl_lex.specs.Seen.{IsChecked};
+ghost use Rattle.vl_lex.specs.Effects.{is_bad, bad_from, fault_of, fault_in};
+ghost use Rattle.vl_lex.specs.Inside.{IsChecked};
 
 use crate::bytes::is_blank;
-use crate::faults::{Found, LexKind};
+use crate::faults::{Found, LexKind, fault};
 use crate::modes::{Mode, first_piece};
 use crate::origins::Origin;
 use crate::pieces::Class;
-use sg_text::{Place, Refused};
+use sg_text::Refused;
 
 fn is_bad(b: u8) -> bool
     ensures { result ≡ is_bad b }
@@ -63,12 +63,6 @@ pub fn fault_in(taken: bool, class: Class, bytes: &[u8]) -> Option<Found>
         Class::BadByte | Class::Attribute => None,
         _ => fault_of(class, bytes),
     }
-}
-
-pub fn fault(kind: LexKind, place: Place) -> Refused<LexKind>
-    ensures { result ≡ Refused.Fault kind place }
-{
-    Refused::Fault { kind, place }
 }
 
 // Whether a macro's text is without fault, where it begins at this byte.

@@ -2,7 +2,7 @@ use Rattle.std.proofs.Common.{◌≡◌, ◌+◌, length}
 use Rattle.std.specs.Prelude.{Option}
 use Rattle.vl_lex.specs.State.{Fault}
 use Rattle.vl_lex.specs.Lexes.{Checks}
-use Rattle.vl_lex.proofs.looks.check_text.Given as goal
+use Rattle.vl_lex.proofs.piece_faults.check_text.Given as goal
 
 -- what stands of the rest stands of the whole
 abbrev pub invariant-loop-rest : goal.invariant-loop-rest

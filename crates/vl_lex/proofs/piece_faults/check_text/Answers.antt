@@ -1,7 +1,7 @@
 use Rattle.std.proofs.Common.{sym, ap, ◌∙◌, arith}
-use Rattle.vl_lex.specs.Lexes.{fault_of}
+use Rattle.vl_lex.specs.Effects.{fault_of}
 use Rattle.vl_lex.proofs.Splits.{check_on, check_stops}
-use Rattle.vl_lex.proofs.looks.check_text.Goals as goal
+use Rattle.vl_lex.proofs.piece_faults.check_text.Goals as goal
 
 pub returns-in-Some : goal.returns-in-Some
 returns-in-Some c =
