@@ -19,19 +19,24 @@ mod words;
 mod work;
 
 use crate::answer::top;
+use crate::status::Status;
 use sg_io::{FileShelf, StdSink};
 use std::alloc::Global;
 use std::env;
+use std::io::ErrorKind;
 use std::process::ExitCode;
 
-// The words after the program's name; none where one of them isn't text. None is for want of memory.
+// The words after the program's name; no words where one of them isn't text. None is for want of memory.
 fn words_of(alloc: Global, rt: &HostRuntime) -> Option<Vec<String>> {
     let mut words = Vec::new(alloc);
-    let Ok(args) = env::args(rt) else {
-        return Some(words);
-    };
-    for word in args.skip(1) {
-        words.push(word).ok()?;
+    match env::args(rt) {
+        Ok(args) => {
+            for word in args.skip(1) {
+                words.push(word).ok()?;
+            }
+        }
+        Err(e) if e.kind() == ErrorKind::OutOfMemory => return None,
+        Err(_) => {}
     }
     Some(words)
 }
@@ -39,7 +44,7 @@ fn words_of(alloc: Global, rt: &HostRuntime) -> Option<Vec<String>> {
 fn main(rt: HostRuntime) -> ExitCode {
     let alloc = rt.alloc();
     let Some(words) = words_of(alloc, &rt) else {
-        return ExitCode::from(status::Status::NoMemory.code());
+        return ExitCode::from(Status::NoMemory.code());
     };
     let mut shelf = FileShelf::new(alloc, &rt);
     let mut report = StdSink::new(&rt);
