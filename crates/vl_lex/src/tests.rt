@@ -111,9 +111,13 @@ fn places(alloc: Global, texts: &[&str]) -> Result<Vec<Place>, Refused<LexKind>>
 // What the texts are refused for.
 fn refusal(alloc: Global, texts: &[&str]) -> Result<Option<(LexKind, Place)>, AllocError> {
     let files = files_of(alloc, texts)?;
-    match lex(alloc, &files) {
-        Err(Refused::Fault { kind, place }) => Ok(Some((kind, place))),
-        _ => Ok(None),
+    Ok(fault_of(alloc, &files))
+}
+
+fn fault_of(alloc: Global, files: &[Vec<u8>]) -> Option<(LexKind, Place)> {
+    match lex(alloc, files) {
+        Err(Refused::Fault { kind, place }) => Some((kind, place)),
+        _ => None,
     }
 }
 
@@ -458,6 +462,25 @@ const EACH_REFUSAL: [(&str, LexKind, u64); 22] = [
 #[test]
 fn each_refusal(rt: HostRuntime) -> Result<(), Fail> {
     assert_refused(&rt, rt.alloc(), &EACH_REFUSAL)?;
+    Ok(())
+}
+
+// So many blanks.
+fn blanks(alloc: Global, length: usize) -> Result<Vec<u8>, AllocError> {
+    let mut text = Vec::new(alloc);
+    text.resize(length, b' ')?;
+    Ok(text)
+}
+
+#[test]
+fn a_file_may_be_too_large(rt: HostRuntime) -> Result<(), Fail> {
+    let alloc = rt.alloc();
+    let files = [
+        Vec::from_slice(alloc, b"a\x01")?,
+        blanks(alloc, (1 << 28) + 1)?,
+    ];
+    let refused = Some((LexKind::FileTooLarge, at(1, 1 << 28)));
+    assert_eq!(rt; fault_of(alloc, &files), refused);
     Ok(())
 }
 
