@@ -1,0 +1,7 @@
+-- The modules of this folder.
+pub mod Language
+pub mod Reading
+pub mod Reads
+pub mod Rule
+pub mod Exact
+pub mod Laws
