@@ -1,0 +1,20 @@
+-- The modules of this folder.
+pub mod AllKinds
+pub mod AnyDepth
+pub mod Below
+pub mod BindingExamples
+pub mod BindingLaws
+pub mod BoundChain
+pub mod Chains
+pub mod Cores
+pub mod EqualTokens
+pub mod Exactness
+mod Examples
+pub mod JoinedValue
+pub mod Levels
+pub mod Outermost
+pub mod Scanned
+pub mod Scanning
+pub mod ValueExamples
+pub mod Views
+pub mod WholeConditions

@@ -1,0 +1,11 @@
+-- The modules of this folder.
+pub mod Binding
+pub mod Codes
+pub mod Condition
+pub mod Grammar
+pub mod Kinds
+pub mod Laws
+pub mod Same
+pub mod Scan
+pub mod Tree
+pub mod Values

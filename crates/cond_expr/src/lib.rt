@@ -1,0 +1,29 @@
+//! Conditions of specify paths and timing checks: their tokens, their trees and their values.
+#![tactic(auto)]
+
+mod binding;
+mod bound;
+mod copies;
+mod expr;
+mod faults;
+mod laws;
+mod operators;
+mod reading;
+mod same;
+mod scan;
+mod tokens;
+mod tree;
+mod values;
+
+pub use binding::{BindFault, Find};
+pub use bound::{Bound, Nets};
+pub use expr::Expr;
+pub use faults::CondFault;
+pub use laws::{one_condition, one_core, one_failing_token};
+pub use scan::first_fault;
+pub use tokens::{Op, Tok};
+
+#[cfg(test)]
+mod tests;
+#[cfg(test)]
+mod value_tests;
