@@ -79,15 +79,15 @@ time_ended m sets bound end now stood stands after held holds l came made =
     }
 
 -- it was recorded, and the quiet times up to the next are skipped
-pub came_to_next : (m : Machine) → IsLawful m → (sets : ℕ → List (ℕ × Value)) (bound end now next : ℕ) (stood stands : Run → Type 0) (held holds keeps : List Snapshot → Type 0) (values : List Value) → now < next → next ≤ end + 1
+pub came_to_next : (m : Machine) → IsLawful m → (sets : ℕ → List (ℕ × Value)) (bound end now next : ℕ) (stood stands after : Run → Type 0) (held holds keeps : List Snapshot → Type 0) (values : List Value) → now < next → next ≤ end + 1
     → TimeEnded m sets bound end now stood stands held holds
     → ((r : Run) → stands r → values ≡ r.state.values)
     → ((seen : List Snapshot) → holds seen → keeps (record { time = now; values = values } ∷ seen))
     → ((t last : ℕ) (vs : List Value) (older : List Snapshot) → keeps (record { time = last; values = vs } ∷ older) → keeps (record { time = t; values = vs } ∷ record { time = last; values = vs } ∷ older))
     → ((r : Run) (t : ℕ) → stands r → now < t → t < next → IsQuiet sets r t)
-    → ((k n : ℕ) (r : Run) → stands r → stands (with_copies k m n r))
-    → CameTo m sets bound end next stood stands held keeps
-came_to_next m law sets bound end now next stood stands held holds keeps values later within ended shows records skips quiet stays =
+    → ((k n : ℕ) (r : Run) → stands r → after (with_copies k m n r))
+    → CameTo m sets bound end next stood after held keeps
+came_to_next m law sets bound end now next stood stands after held holds keeps values later within ended shows records skips quiet stays =
     let k : ℕ = next - suc now in
     let rest : ℕ = suc end - next in
     let e1 : end - now ≡ k + rest = omega arith in

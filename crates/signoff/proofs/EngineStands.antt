@@ -1,13 +1,16 @@
 -- How a simulation of gates stands for runs: before time 0, and after a round.
-use Rattle.std.specs.Prelude.{◌≡◌, ℕ, zero, suc, ◌+◌, ◌<◌, ◌≤◌, ◌^◌, ◌⊎◌, Bool, true, false, if◌then◌else◌, List, [], ◌∷◌, ◌++◌, map, length, Option, Some, None, slice_index_or, refl}
+use Rattle.std.specs.Prelude.{◌≡◌, ℕ, zero, suc, ◌+◌, ◌<◌, ◌≤◌, ◌^◌, ◌⊎◌, Bool, true, false, if◌then◌else◌, List, [], ◌∷◌, ◌++◌, map, length, Option, Some, None, slice_index_or, replicate, reverse, refl}
 use Rattle.std.proofs.Common.{sym, ◌∙◌, ap, subst, arith, inl, inr}
 use Rattle.sg_logic.specs.declared.values.Value.{Value}
 use Rattle.sg_logic.specs.declared.values.Value.TheVariants.{Zero, One, X, Z}
 use Rattle.sg_logic.specs.declared.gates.GateKind.TheVariants.{Buf}
 use Rattle.sg_model.specs.Values.{is_same, value_at, least_differing}
 use Rattle.sg_model.specs.Pending.{inertial}
+use Rattle.sg_model.specs.Agenda.{NoneBelow, Rises}
+use Rattle.std.proofs.lemmas.List.{length-map}
+use Rattle.std.specs.Bool.{OnFalse}
 use Rattle.sg_model.specs.Machine.{Machine, Stamp}
-use Rattle.sg_model.specs.Round.{changed_by, due_changes, each_from, element_list, placed_by, round, stamps_after, values_after, without_due}
+use Rattle.sg_model.specs.Round.{any_due, changed_by, due_changes, each_from, element_list, placed_by, round, stamps_after, values_after, without_due}
 use Rattle.sg_model.specs.Time.{Run, first_some, named, with_round}
 use Rattle.sg_model.proofs.PlacingSteps.{same-self}
 use Rattle.sg_model.proofs.RunSteps.{round-is}
@@ -16,11 +19,11 @@ use Rattle.circuit_model.specs.Simulated.{delay_to, is_driven, machine_of, rule_
 use Rattle.signoff.specs.declared.circuits.Circuit as code_circuit
 use Rattle.signoff.specs.declared.circuits.Element as code_element
 use Rattle.signoff.specs.declared.circuits.Net as code_net
-use Rattle.signoff.specs.declared.engine.transitions.Transition.{Transition}
 use Rattle.signoff.specs.Flat.{no_delay}
 use Rattle.signoff.specs.Seen.{circuit_seen, element_seen, net_seen}
-use Rattle.signoff.specs.EngineSeen.{all_evaluated, computed, list_seen, AgreeAbove}
-use Rattle.signoff.specs.EngineStands.{first_value_seen}
+use Rattle.signoff.specs.EngineSeen.{all_evaluated, computed, evaluated, AgreeAbove}
+use Rattle.signoff.specs.EngineStands.{first_value_seen, IsReady}
+use Rattle.signoff.proofs.EngineAgenda.{below_next}
 
 -- where the nets differ first
 record DiffersAt (k n : ℕ) (vs ws : List Value) : Type 0 where
@@ -73,7 +76,7 @@ placed_of now before after state list output x =
     placed_by (rule_of_kind x.kind now v) list (value_at after output) now v
 
 element_placed : (c : Circuit) (now : ℕ) (before after : List Value) (stamps : List (Option Stamp)) (states : List Value) (k : ℕ) (list : List (ℕ × Value)) (e : code_element.Element)
-    → element_at c k ≡ element_seen e → element_list (machine_of c) now before after stamps states k list ≡ inertial list (value_at after e.output) (computed e after) now
+    → element_at c k ≡ element_seen e → element_list (machine_of c) now before after stamps states k list ≡ evaluated now after e list
 unfolding placed_of
 element_placed c now before after stamps states k list e is =
     let state : Value = value_at states k in
@@ -90,57 +93,41 @@ blank_element = record { inputs = []; output = 0; kind = Gate Buf (record { rise
 -- the elements from a place on
 all_placed : (c : Circuit) (now : ℕ) (before after : List Value) (stamps : List (Option Stamp)) (states : List Value) (k : ℕ) (elements : List code_element.Element) (lists : List (List (ℕ × Value)))
     → ((j : ℕ) (blank : Element) → slice_index_or c.elements (k + j) blank ≡ slice_index_or (map (λ e. element_seen e) elements) j blank) → length lists ≡ length elements
-    → each_from (element_list (machine_of c) now before after stamps states) k (map (without_due now) lists) ≡ all_evaluated now after elements lists
+    → each_from (element_list (machine_of c) now before after stamps states) k lists ≡ all_evaluated now after elements lists
 all_placed c now before after stamps states k [] [] at l = refl
 all_placed c now before after stamps states k [] (list ∷ lists) at l = absurd (omega arith)
 all_placed c now before after stamps states k (e ∷ es) [] at l = absurd (omega arith)
 all_placed c now before after stamps states k (e ∷ es) (list ∷ lists) at l =
     let here : element_at c k ≡ element_seen e = (let z : k + 0 ≡ k = omega arith in subst (λ n. slice_index_or c.elements n blank_element ≡ element_seen e) z (at 0 blank_element)) in
-    let rest : each_from (element_list (machine_of c) now before after stamps states) (suc k) (map (without_due now) lists) ≡ all_evaluated now after es lists =
+    let rest : each_from (element_list (machine_of c) now before after stamps states) (suc k) lists ≡ all_evaluated now after es lists =
     all_placed c now before after stamps states (suc k) es lists (λ j blank. (let z : k + suc j ≡ suc k + j = omega arith in subst (λ n. slice_index_or c.elements n blank ≡ slice_index_or (map (λ e. element_seen e) es) j blank) z (at (suc j) blank))) (omega arith) in
-    ap (λ x. x ∷ each_from (element_list (machine_of c) now before after stamps states) (suc k) (map (without_due now) lists)) (element_placed c now before after stamps states k (without_due now list) e here)
-    ∙ ap (λ xs. inertial (without_due now list) (value_at after e.output) (computed e after) now ∷ xs) rest
-
-length_evaluated : (now : ℕ) (values : List Value) (elements : List code_element.Element) (lists : List (List (ℕ × Value))) → length lists ≡ length elements → length (all_evaluated now values elements lists) ≡ length elements
-length_evaluated now values [] lists l = refl
-length_evaluated now values (e ∷ es) [] l = absurd (omega arith)
-length_evaluated now values (e ∷ es) (list ∷ lists) l = let k : length (all_evaluated now values es lists) ≡ length es = length_evaluated now values es lists (omega arith) in omega arith
-
-length_seen : (pending : List (Option Transition)) → length (map (λ p. list_seen p) pending) ≡ length pending
-length_seen [] = refl
-length_seen (p ∷ ps) = ap suc (length_seen ps)
-
--- as many elements have something pending or nothing as before
-pub count_after : (now : ℕ) (values : List Value) (elements : List code_element.Element) (pending after : List (Option Transition)) → length pending ≡ length elements
-    → map (λ p. list_seen p) after ≡ all_evaluated now values elements (map (λ p. list_seen p) pending) → length after ≡ length elements
-count_after now values elements pending after l e =
-    let k : length (map (λ p. list_seen p) pending) ≡ length elements = length_seen pending ∙ l in
-    sym (length_seen after) ∙ (ap length e ∙ length_evaluated now values elements (map (λ p. list_seen p) pending) k)
+    ap (λ x. x ∷ each_from (element_list (machine_of c) now before after stamps states) (suc k) lists) (element_placed c now before after stamps states k list e here)
+    ∙ ap (λ xs. evaluated now after e list ∷ xs) rest
 
 -- the nets after a round
-pub values_after_round : (c : code_circuit.Circuit) (now : ℕ) (all : Bool) (handed : List (ℕ × Value)) (r : Run) (values after : List Value) (pending : List (Option Transition)) → r.state.values ≡ values → r.state.lists ≡ map (λ p. list_seen p) pending
-    → after ≡ changed_by (due_changes now (map (λ e. e.output) c.elements.items) (map (λ p. list_seen p) pending) ++ handed) values
+pub values_after_round : (c : code_circuit.Circuit) (now : ℕ) (all : Bool) (handed : List (ℕ × Value)) (r : Run) (values after : List Value) (pending : List (List (ℕ × Value))) → r.state.values ≡ values → r.state.lists ≡ pending
+    → after ≡ changed_by (due_changes now (map (λ e. e.output) c.elements.items) pending ++ handed) values
     → (with_round (machine_of (circuit_seen c)) now all handed r).state.values ≡ after
 values_after_round c now all handed r values after pending v p e =
     ap (λ x. x.values) (round-is (machine_of (circuit_seen c)) now handed r.state)
     ∙ (ap (λ outs. changed_by (due_changes now outs r.state.lists ++ handed) r.state.values) (outputs_seen c.elements.items)
     ∙ (ap (λ ls. changed_by (due_changes now (map (λ e. e.output) c.elements.items) ls ++ handed) r.state.values) p
-    ∙ (ap (λ vs. changed_by (due_changes now (map (λ e. e.output) c.elements.items) (map (λ p. list_seen p) pending) ++ handed) vs) v ∙ sym e)))
+    ∙ (ap (λ vs. changed_by (due_changes now (map (λ e. e.output) c.elements.items) pending ++ handed) vs) v ∙ sym e)))
 
 -- what is pending after a round
-pub lists_after_round : (c : code_circuit.Circuit) (now : ℕ) (all : Bool) (handed : List (ℕ × Value)) (r : Run) (values : List Value) (pending after : List (Option Transition)) → r.state.lists ≡ map (λ p. list_seen p) pending → length pending ≡ length c.elements.items
+pub lists_after_round : (c : code_circuit.Circuit) (now : ℕ) (all : Bool) (handed : List (ℕ × Value)) (r : Run) (values : List Value) (pending after : List (List (ℕ × Value))) → r.state.lists ≡ pending → length pending ≡ length c.elements.items
     → (with_round (machine_of (circuit_seen c)) now all handed r).state.values ≡ values
-    → map (λ p. list_seen p) after ≡ all_evaluated now values c.elements.items (map (λ p. list_seen p) pending)
-    → (with_round (machine_of (circuit_seen c)) now all handed r).state.lists ≡ map (λ p. list_seen p) after
+    → after ≡ all_evaluated now values c.elements.items (map (without_due now) pending)
+    → (with_round (machine_of (circuit_seen c)) now all handed r).state.lists ≡ after
 lists_after_round c now all handed r values pending after p l v e =
     let m : Machine = machine_of (circuit_seen c) in
     let new : values_after m now handed r.state ≡ values = sym (ap (λ x. x.values) (round-is m now handed r.state)) ∙ v in
-    let count : length r.state.lists ≡ length c.elements.items = ap length p ∙ (length_seen pending ∙ l) in
+    let count : length (map (without_due now) r.state.lists) ≡ length c.elements.items = length-map r.state.lists (without_due now) ∙ (ap length p ∙ l) in
     let here : (j : ℕ) (blank : Element) → slice_index_or (circuit_seen c).elements (0 + j) blank ≡ slice_index_or (map (λ e. element_seen e) c.elements.items) j blank =
     λ j blank. (let z : 0 + j ≡ j = omega arith in ap (λ n. slice_index_or (map (λ e. element_seen e) c.elements.items) n blank) z) in
     ap (λ x. x.lists) (round-is m now handed r.state)
-    ∙ (all_placed (circuit_seen c) now r.state.values (values_after m now handed r.state) (stamps_after m now handed r.state) r.state.states 0 c.elements.items r.state.lists here count
-    ∙ (ap (λ vs. all_evaluated now vs c.elements.items r.state.lists) new ∙ (ap (λ ls. all_evaluated now values c.elements.items ls) p ∙ sym e)))
+    ∙ (all_placed (circuit_seen c) now r.state.values (values_after m now handed r.state) (stamps_after m now handed r.state) r.state.states 0 c.elements.items (map (without_due now) r.state.lists) here count
+    ∙ (ap (λ vs. all_evaluated now vs c.elements.items (map (without_due now) r.state.lists)) new ∙ (ap (λ ls. all_evaluated now values c.elements.items (map (without_due now) ls)) p ∙ sym e)))
 
 -- the net that is named: one that the last round changed, or else the next
 pub named_first : (m : Machine) (now : ℕ) (handed : List (ℕ × Value)) (r : Run) (net : ℕ) → Some net ≡ least_differing 0 r.before r.state.values → named m now handed r ≡ Some net
@@ -154,13 +141,35 @@ pub first_values : (nets : List code_net.Net) → map (λ (net : Net). if is_dri
 first_values [] = refl
 first_values (n ∷ ns) = ap (λ vs. first_value_seen n ∷ vs) (first_values ns)
 
-pub nothing_pending : (elements : List code_element.Element) → map (λ (e : Element). []) (map (λ e. element_seen e) elements) ≡ map (λ p. list_seen p) (map (λ e. None) elements)
+pub nothing_pending : (elements : List code_element.Element) → map {B = List (ℕ × Value)} (λ (e : Element). []) (map (λ e. element_seen e) elements) ≡ replicate (length elements) []
 nothing_pending [] = refl
 nothing_pending (e ∷ es) = ap (λ xs. [] ∷ xs) (nothing_pending es)
 
-pub count_none : (elements : List code_element.Element) (pending : List (Option Transition)) → pending ≡ map (λ e. None) elements → length pending ≡ length elements
-count_none elements pending e = ap length e ∙ at elements
-  where
-    at : (es : List code_element.Element) → length (map (λ (e : code_element.Element). let n : Option Transition = None in n) es) ≡ length es
-    at [] = refl
-    at (x ∷ xs) = ap suc (at xs)
+-- a list at each place is none
+at_empty : (n d : ℕ) (blank : List (ℕ × Value)) → d < n → slice_index_or (replicate n []) d blank ≡ []
+at_empty zero d blank l = absurd (omega arith)
+at_empty (suc n) zero blank l = refl
+at_empty (suc n) (suc d) blank l = at_empty n d blank (omega arith)
+
+length_empty : (n : ℕ) → length {A = List (ℕ × Value)} (replicate n []) ≡ n
+length_empty zero = refl
+length_empty (suc n) = ap suc (length_empty n)
+
+-- an agenda on which nothing is pending is ready for time 0
+pub ready_first : (n : ℕ) (lists : List (List (ℕ × Value))) → lists ≡ replicate n [] → n < 2 ^ 31 → IsReady n lists 0
+ready_first n lists e l = subst (λ ls. IsReady n ls 0) (sym e) (record {
+  as_many = length_empty n;
+  few = l;
+  rise = λ d blank m. (let k : d < n = subst (λ x. d < x) (length_empty n) m in subst (λ xs. Rises (reverse xs)) (sym (at_empty n d blank k)) tt);
+  below = λ d m. (let k : d < n = subst (λ x. d < x) (length_empty n) m in subst (NoneBelow 0) (sym (at_empty n d [] k)) tt);
+})
+
+-- where nothing is due it is ready for the next time
+pub ready_next : (n now : ℕ) (lists new : List (List (ℕ × Value))) (due : Bool) → IsReady n lists now → new ≡ lists → due ≡ any_due now lists → OnFalse due (IsReady n new (now + 1))
+ready_next n now lists new true h e d = tt
+ready_next n now lists new false h e d = subst (λ ls. IsReady n ls (now + 1)) (sym e) (record {
+  as_many = h.as_many;
+  few = h.few;
+  rise = h.rise;
+  below = below_next now lists h.rise h.below (sym d);
+})

@@ -26,10 +26,25 @@ pub record DueAt {E : Type 0} (machine : E → Machine) (handed : E → List (�
   pub same : machine mid ≡ machine old
   pub due : RoundIsDue (machine old) now must (handed old) (handed mid) (stands old) (stands mid)
 
-pub due_now : (m : Machine) (now : ℕ) (must : Bool) (handed : List (ℕ × Value)) (stands : Run → Type 0) (answer : Bool) → answer ≡ true → Needs now must handed stands answer → RoundIsDue m now must handed handed stands stands
-due_now m now must handed stands answer e needs = record {
-  each = λ r h. (let yes = sym (needs.each r h) ∙ e in record { run = r; stands = h; all = must; goes = λ left. rounds-round left m now must handed r yes; spent = rounds-spent m now must handed r yes });
+pub due_now : (m : Machine) (now : ℕ) (must : Bool) (handed same : List (ℕ × Value)) (stands mid : Run → Type 0) (answer : Bool) → answer ≡ true → Needs now must handed stands answer → same ≡ handed
+    → ((r : Run) → stands r → mid r) → RoundIsDue m now must handed same stands mid
+due_now m now must handed same stands mid answer e needs h keeps = record {
+  each = λ r k.
+      (let yes = sym (needs.each r k) ∙ e in
+      record {
+        run = r;
+        stands = keeps r k;
+        all = must;
+        goes = λ left. rounds-round left m now must handed r yes ∙ ap (λ x. rounds left m now false [] (with_round m now must x r)) (sym h);
+        spent = rounds-spent m now must handed r yes ∙ ap (λ x. model.Spent (named m now x r) r.evaluations) (sym h);
+      });
 }
+
+-- a snapshot after a question that left what it stands for
+pub snapshot_after : (m m' : Machine) (now : ℕ) (stands mid after : Run → Type 0) (flips : List (ℕ × Value)) → m' ≡ m → ((r : Run) → stands r → mid r) → AfterSnapshot m' now mid after flips → AfterSnapshot m now stands after flips
+snapshot_after m m' now stands mid after flips e keeps h =
+    let k : AfterSnapshot m now mid after flips = subst (λ x. AfterSnapshot x now mid after flips) e h in
+    record { each = λ r s. k.each r (keeps r s); toggles = λ r s. k.toggles r (keeps r s) }
 
 pub due_toggles : (m : Machine) (now : ℕ) (must : Bool) (handed flips : List (ℕ × Value)) (stands mid : Run → Type 0) (answer : Bool) → answer ≡ false → Needs now must handed stands answer
     → AfterSnapshot m now stands mid flips → is_empty flips ≡ false → RoundIsDue m now must handed flips stands mid

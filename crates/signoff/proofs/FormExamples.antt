@@ -6,6 +6,7 @@ use Rattle.circuit_model.specs.Inverter.{inverter, rise_at_10}
 use Rattle.circuit_model.specs.Texts.{line}
 use Rattle.signoff.specs.NetlistForm.{Name, Symbol, Inputs, Outputs, Gates, Module, module_spelled, circuit_of, are_distinct, are_plain}
 use Rattle.signoff.specs.StimulusForm.{Lines, lines_spelled, stimulus_of, ticks_of, is_number, sets_input}
+use Rattle.signoff.specs.WellFormed.{are_apart}
 use Rattle.sg_text.specs.Words.{reserved_words}
 use Rattle.signoff.specs.Words.{command_of, default_rounds}
 
@@ -29,6 +30,12 @@ same_circuit = refl
 
 twice : are_distinct (codes "a" ∷ codes "b" ∷ codes "a" ∷ []) ≡ false
 twice = refl
+
+apart : are_apart (1 ∷ 0 ∷ 2 ∷ []) ≡ true
+apart = refl
+
+not_apart : are_apart (1 ∷ 0 ∷ 1 ∷ []) ≡ false
+not_apart = refl
 
 reserved : are_plain (codes "a" ∷ codes "wire" ∷ []) ≡ false
 unfolding reserved_words

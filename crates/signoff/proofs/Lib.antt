@@ -11,6 +11,7 @@ pub mod NetlistSpelling
 pub mod NetlistReading
 pub mod NetlistLists
 pub mod NetlistSoundness
+pub mod NetlistPlaces
 pub mod NetlistBuilding
 pub mod NetlistLaws
 pub mod StimulusNumbers
@@ -24,6 +25,8 @@ pub mod StimulusBodies
 pub mod StimulusLaws
 pub mod VcdWriting
 pub mod VcdRuns
+pub mod EngineAgenda
+pub mod OneDriver
 pub mod EngineRounds
 pub mod EngineTimes
 pub mod EngineRuns

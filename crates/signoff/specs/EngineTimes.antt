@@ -41,5 +41,10 @@ abbrev pub EndsAs : Ended → (Run → Type 0) → TimeEnd → Type 0
 EndsAs ended after Whole = (next : Run) × (ended ≡ model.Whole next) × after next
 EndsAs ended after (Spent net) = (evaluations : ℕ) × (ended ≡ model.Spent net evaluations)
 
+-- it holds after a time that ended whole
+abbrev pub OnWhole : TimeEnd → Type 0 → Type 0
+OnWhole Whole P = P
+OnWhole (Spent net) P = Unit {0}
+
 pub record RoundsEnd (left : ℕ) (m : Machine) (now : ℕ) (must : Bool) (handed : List (ℕ × Value)) (stands after : Run → Type 0) (end : TimeEnd) : Type 0 where
   pub each : (r : Run) → stands r → EndsAs (rounds left m now must handed r) after end

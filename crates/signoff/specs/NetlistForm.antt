@@ -1,6 +1,6 @@
 -- The form of the netlists that are read: one flat module of gates, in plain names, with no comment, directive or delay.
 -- (IEEE 1364-2005: 3.2 to 3.7 for tokens, 7.1 for gates, 12.1 and 12.3 for modules and their ports.)
-use Rattle.std.specs.Prelude.{ℕ, ◌≡◌, ◌+◌, ◌-◌, ◌^◌, ◌≤◌, ◌==◌, List, [], ◌∷◌, ◌++◌, length, map, flat_map, Bool, true, false, ◌&&◌, ◌||◌, not, Option, Some, None, unwrap_or, option_map, position, if◌then◌else◌, codes, nat_eq, nat_le, count_by}
+use Rattle.std.specs.Prelude.{ℕ, ◌≡◌, ◌^◌, ◌≤◌, ◌==◌, List, [], ◌∷◌, ◌++◌, length, map, flat_map, Bool, true, false, ◌&&◌, ◌||◌, not, Option, Some, None, unwrap_or, position, if◌then◌else◌, codes, nat_eq, nat_le, count_by}
 use Rattle.std.specs.List.{list_any, list_all}
 use lib.Pointwise.{pointwise}
 use Rattle.sg_logic.specs.declared.gates.GateKind.{GateKind}

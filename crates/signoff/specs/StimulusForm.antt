@@ -1,5 +1,5 @@
 -- The form of the stimuli that are read: lines `at T n=v ..` with times rising, and a last line `end T`, in ns.
-use Rattle.std.specs.Prelude.{ℕ, ◌≡◌, ◌+◌, ◌*◌, ◌-◌, ◌^◌, ◌≤◌, ◌<◌, ◌==◌, List, [], ◌∷◌, ◌++◌, length, map, flat_map, reverse, fold, find, Bool, true, false, ◌&&◌, not, Option, Some, None, option_map, if◌then◌else◌, codes, nat_lt, nat_le}
+use Rattle.std.specs.Prelude.{ℕ, ◌≡◌, ◌+◌, ◌*◌, ◌-◌, ◌≤◌, List, [], ◌∷◌, ◌++◌, length, map, flat_map, reverse, fold, find, Bool, true, false, ◌&&◌, Option, Some, None, option_map, if◌then◌else◌, codes, nat_le}
 use Rattle.std.specs.List.{list_any, list_all}
 use Rattle.sg_logic.specs.declared.values.Value.{Value}
 use Rattle.circuit_model.specs.Circuit.{Circuit, Driver, Nobody, Stimulated, Driven, Notifier, Net}

@@ -1,5 +1,6 @@
 -- What holds of each circuit and stimulus that is simulated.
-use Rattle.std.specs.Prelude.{ℕ, ◌==◌, ◌&&◌, nat_le, nat_lt, List, [], ◌∷◌, Bool, true}
+use Rattle.std.specs.Prelude.{ℕ, ◌==◌, ◌&&◌, not, nat_eq, nat_le, nat_lt, List, [], ◌∷◌, Bool, true}
+use Rattle.std.specs.List.{list_any}
 use Rattle.sg_logic.specs.declared.gates.GateKind.{GateKind}
 use Rattle.sg_logic.specs.declared.gates.GateKind.TheVariants.{Buf, Not}
 
@@ -8,6 +9,11 @@ abbrev pub takes_inputs : GateKind → ℕ → Bool
 takes_inputs Buf n = n == 1
 takes_inputs Not n = n == 1
 takes_inputs _ n = nat_le 1 n
+
+-- whether no number stands twice
+abbrev pub are_apart : List ℕ → Bool
+are_apart [] = true
+are_apart (n ∷ ns) = not (list_any (nat_eq n) ns) && are_apart ns
 
 -- whether times rise, none above the end
 abbrev pub rise_to : ℕ → List ℕ → Bool

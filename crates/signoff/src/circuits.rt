@@ -1,6 +1,6 @@
 // A flat circuit of gates, and what is applied to its inputs.
 ghost use Rattle.std.specs.Prelude.{◌≡◌, ◌^◌, ◌<◌, length, map, true};
-ghost use Rattle.signoff.specs.WellFormed.{takes_inputs, rise_to};
+ghost use Rattle.signoff.specs.WellFormed.{are_apart, takes_inputs, rise_to};
 
 use sg_logic::{GateKind, Value};
 use sg_text::Text;
@@ -29,12 +29,15 @@ pub struct Element {
     ghost takes: { takes_inputs kind (length inputs.items) ≡ true },
 }
 
-/// A module of gates. Nets and elements are known by their places.
+/// A module of gates. Nets and elements are known by their places, in 32 bits. No two elements drive one net.
 #[derive(Debug, Drop)]
 pub struct Circuit {
     pub name: Text,
     pub nets: Vec<Net>,
     pub elements: Vec<Element>,
+    ghost few_nets: { length nets.items < 2 ^ 32 },
+    ghost few_elements: { length elements.items < 2 ^ 31 },
+    ghost one_driver: { are_apart (map (λ e. e.output) elements.items) ≡ true },
 }
 
 /// A net takes a value.

@@ -1,17 +1,18 @@
 // One round over the nets and elements of a circuit: what is due and handed in takes effect at once, and then every
 // element is evaluated from the new values.
-ghost use Rattle.std.specs.Prelude.{◌≡◌, ◌++◌, ℕ, List, IfOk, OnOk, map, slice_set};
-ghost use Rattle.sg_logic.specs.declared.values.Value.{Value as NetValue};
-ghost use Rattle.sg_model.specs.Agenda.{due};
-ghost use Rattle.sg_model.specs.Round.{changed_by, due_change, due_changes};
+ghost use Rattle.std.specs.Prelude.{◌≡◌, ◌++◌, ◌+◌, ◌<◌, ◌≤◌, ◌^◌, IfOk, OnOk, length, map, slice_set};
+ghost use Rattle.sg_model.specs.Agenda.{list_at, with_list, NothingBelow};
+ghost use Rattle.sg_model.specs.Round.{changed_by, due_changes, without_due};
 ghost use Rattle.sg_model.specs.Values.{value_at};
+ghost use Rattle.sg_model.proofs.RiseLaws.{AllRise};
+ghost use Rattle.sg_model.proofs.TakeLaws.{AreOutputs};
 ghost use Rattle.signoff.specs.Seen.{change_seen};
-ghost use Rattle.signoff.specs.EngineSeen.{list_seen, all_evaluated, computed, AgreeAbove};
+ghost use Rattle.signoff.specs.EngineSeen.{all_evaluated, computed, evaluated, AgreeAbove};
 
 use crate::circuits::{Change, Element};
-use crate::engine::transitions::{Transition, after_round};
+use pulse_list::{Agenda, place_inertial};
 use sg_logic::{Value, gate};
-use std::alloc::AllocError;
+use sg_text::NoMemory;
 
 // A net takes a value.
 fn set_value(values: &mut [Value], net: u32, value: Value)
@@ -41,60 +42,48 @@ fn apply(values: &mut [Value], changes: &[Change])
     }
 }
 
-// A transition takes effect where it is due.
-fn take(values: &mut [Value], net: u32, now: u64, pending: Option<Transition>)
-    ensures taken { (rest : List (ℕ × NetValue)) → changed_by (due_change (due now (list_seen pending)) net rest) values.old ≡ changed_by rest values.new }
+// The transitions that are due are taken, and take effect.
+fn take_due<A: Agenda>(agenda: &mut A, elements: &[Element], now: u64, values: &mut [Value])
+    requires as_many { length (A.lists agenda.old) ≡ length elements.now }
+    requires outputs { AreOutputs (map (λ e. e.output) elements.now) }
+    requires rise { AllRise (A.lists agenda.old) }
+    requires below { NothingBelow now (A.lists agenda.old) }
+    ensures changed { values.new ≡ changed_by (due_changes now (map (λ e. e.output) elements.now) (A.lists agenda.old)) values.old }
+    ensures lists { A.lists agenda.new ≡ map (without_due now) (A.lists agenda.old) }
+    ensures rise { AllRise (A.lists agenda.new) }
+    ensures below { NothingBelow now (A.lists agenda.new) }
     ensures above { AgreeAbove values.old values.new }
 {
-    if let Some(t) = pending {
-        if t.time == now {
-            set_value(values, net, t.value);
-        }
+    while let Some((driver, value)) = agenda.take_due(now) {
+        set_value(values, elements[driver as usize].output, value);
     }
 }
 
-// The transitions that are due take effect.
-#[tactic(auto, using(crate::proofs::EngineRounds::agree_same, crate::proofs::EngineRounds::agree_then))]
-fn take_due(values: &mut [Value], elements: &[Element], now: u64, pending: &[Option<Transition>])
-    ensures changed { values.new ≡ changed_by (due_changes now (map (λ e. e.output) elements.now) (map (λ p. list_seen p) pending.now)) values.old }
-    ensures above { AgreeAbove values.old values.new }
-{
-    let mut elements = elements;
-    let mut pending = pending;
-    while let [element, other_elements @ ..] = elements {
-        match pending {
-            [first, others @ ..] => {
-                take(values, element.output, now, *first);
-                elements = other_elements;
-                pending = others;
-            }
-            [] => return,
-        }
-    }
-}
-
-/// What is due and what is handed in takes effect.
+/// What is due is taken, and takes effect with what is handed in.
 #[tactic(auto, using(crate::proofs::EngineRounds::agree_then, crate::proofs::EngineRounds::changed_append))]
-pub fn change_values(
-    values: &mut [Value],
+pub fn change_values<A: Agenda>(
+    agenda: &mut A,
     elements: &[Element],
     now: u64,
-    pending: &[Option<Transition>],
     handed: &[Change],
+    values: &mut [Value],
 )
-    ensures changed { values.new ≡ changed_by (due_changes now (map (λ e. e.output) elements.now) (map (λ p. list_seen p) pending.now) ++ map (λ c. change_seen c) handed.now) values.old }
+    requires as_many { length (A.lists agenda.old) ≡ length elements.now }
+    requires outputs { AreOutputs (map (λ e. e.output) elements.now) }
+    requires rise { AllRise (A.lists agenda.old) }
+    requires below { NothingBelow now (A.lists agenda.old) }
+    ensures changed { values.new ≡ changed_by (due_changes now (map (λ e. e.output) elements.now) (A.lists agenda.old) ++ map (λ c. change_seen c) handed.now) values.old }
+    ensures lists { A.lists agenda.new ≡ map (without_due now) (A.lists agenda.old) }
+    ensures rise { AllRise (A.lists agenda.new) }
+    ensures below { NothingBelow now (A.lists agenda.new) }
     ensures above { AgreeAbove values.old values.new }
 {
-    take_due(values, elements, now, pending);
+    take_due(agenda, elements, now, values);
     apply(values, handed);
 }
 
 // The value that an element computes. Its inputs' values are put together in the buffer.
-fn compute(
-    element: &Element,
-    values: &[Value],
-    buffer: &mut Vec<Value>,
-) -> Result<Value, AllocError>
+fn compute(element: &Element, values: &[Value], buffer: &mut Vec<Value>) -> Result<Value, NoMemory>
     ensures { IfOk result (λ v. v ≡ computed element.now values.now) }
 {
     buffer.clear();
@@ -104,31 +93,41 @@ fn compute(
     Ok(gate(element.kind, buffer))
 }
 
-/// Every element is evaluated. What is pending afterwards is put together in another vector.
-pub fn evaluate(
+// An element is evaluated, and its value placed.
+fn evaluate_one<A: Agenda>(
+    agenda: &mut A,
+    driver: u32,
+    element: &Element,
+    now: u64,
+    values: &[Value],
+    buffer: &mut Vec<Value>,
+) -> Result<(), NoMemory>
+    requires driver { driver < length (A.lists agenda.old) }
+    requires room { 2 ≤ A.spare agenda.old }
+    ensures lists { OnOk result (A.lists agenda.new ≡ with_list (A.lists agenda.old) driver (evaluated now values.now element.now (list_at (A.lists agenda.old) driver))) }
+    ensures spare { OnOk result (A.spare agenda.old ≤ A.spare agenda.new + 2) }
+{
+    let value = compute(element, values, buffer)?;
+    let present = value_of(values, element.output);
+    place_inertial(agenda, driver, present, now, value, now);
+    Ok(())
+}
+
+/// Every element is evaluated, and its value placed. Room for what is placed is made first.
+pub fn evaluate<A: Agenda>(
+    agenda: &mut A,
     elements: &[Element],
     now: u64,
     values: &[Value],
-    pending: &[Option<Transition>],
-    after: &mut Vec<Option<Transition>>,
     buffer: &mut Vec<Value>,
-) -> Result<(), AllocError>
-    ensures { OnOk result (map (λ p. list_seen p) after.new.items ≡ all_evaluated now values.now elements.now (map (λ p. list_seen p) pending.now)) }
+) -> Result<(), NoMemory>
+    requires as_many { length (A.lists agenda.old) ≡ length elements.now }
+    requires few { length elements.now < 2 ^ 31 }
+    ensures { OnOk result (A.lists agenda.new ≡ all_evaluated now values.now elements.now (A.lists agenda.old)) }
 {
-    after.clear();
-    let mut elements = elements;
-    let mut pending = pending;
-    while let [element, other_elements @ ..] = elements {
-        match pending {
-            [first, others @ ..] => {
-                let value = compute(element, values, buffer)?;
-                let present = value_of(values, element.output);
-                after.push(after_round(now, *first, present, value))?;
-                elements = other_elements;
-                pending = others;
-            }
-            [] => return Ok(()),
-        }
+    agenda.reserve(2 * elements.len() as u32)?;
+    for (driver, element) in elements.iter().enumerate() {
+        evaluate_one(agenda, driver as u32, element, now, values, buffer)?;
     }
     Ok(())
 }

@@ -5,6 +5,7 @@ ghost use Rattle.sg_model.specs.Machine.{Machine};
 ghost use Rattle.sg_model.specs.Time.{Run};
 ghost use Rattle.sg_model.specs.Quiet.{IsLawful, IsQuiet, with_copies};
 ghost use Rattle.signoff.specs.EngineRuns.{Recorded, RecordedPart, SpentAs, TimeMade};
+ghost use Rattle.signoff.specs.EngineTimes.{OnWhole};
 ghost use Rattle.signoff.specs.Recording.{CauseOf, KeepsOthers, NamesFaultOf};
 
 use crate::circuits::Spent;
@@ -12,7 +13,8 @@ use crate::engine::recorder::Recorder;
 use crate::engine::times::TimeEnd;
 use sg_io::{Shelf, ShelfError};
 use sg_logic::Value;
-use std::alloc::{AllocError, Global};
+use sg_text::NoMemory;
+use std::alloc::Global;
 
 /// What makes times. It stands for runs.
 pub trait Times {
@@ -25,19 +27,29 @@ pub trait Times {
     /// It stands for a run.
     ghost stands: { Self → Run → Type 0 };
 
+    /// Nothing is pending before a time.
+    ghost ready: { Self → ℕ → Type 0 };
+
     /// Makes a time, with at most so many rounds.
-    fn make(&mut self, now: u64, bound: u32) -> Result<TimeEnd, AllocError>
+    fn make(&mut self, now: u64, bound: u32) -> Result<TimeEnd, NoMemory>
+        requires { ready self.old now }
         ensures machine { machine self.new ≡ machine self.old }
         ensures sets { sets self.new ≡ sets self.old }
-        ensures made { IfOk result (λ end. TimeMade (machine self.old) (sets self.old) bound now (stands self.old) (stands self.new) end) };
+        ensures made { IfOk result (λ end. TimeMade (machine self.old) (sets self.old) bound now (stands self.old) (stands self.new) end) }
+        ensures over { IfOk result (λ end. OnWhole end (ready self.new (now + 1))) };
 
     /// The next time up to the end at which something may happen, or the one after the end.
-    fn next(&self, now: u64, end: u64) -> u64
+    fn next(&mut self, now: u64, end: u64) -> u64
+        requires ready { ready self.old (now + 1) }
         requires now { now ≤ end }
         requires end { end < 2 ^ 60 }
         ensures later { now < result }
         ensures within { result ≤ end + 1 }
-        ensures quiet { (r : Run) (t : ℕ) → stands self.now r → now < t → t < result → IsQuiet (sets self.now) r t };
+        ensures quiet { (r : Run) (t : ℕ) → stands self.old r → now < t → t < result → IsQuiet (sets self.old) r t }
+        ensures machine { machine self.new ≡ machine self.old }
+        ensures sets { sets self.new ≡ sets self.old }
+        ensures stands { (r : Run) → stands self.old r → stands self.new r }
+        ensures ready { ready self.new result };
 
     /// The values of all nets.
     fn values(&self) -> &[Value]
@@ -56,6 +68,7 @@ pub fn make_times<S: Shelf, R: Recorder<S>, T: Times>(
     shelf: &mut S,
     recorder: &mut R,
 ) -> Result<Option<Spent>, ShelfError>
+    requires ready { T.ready times.old 0 }
     requires end { end < 2 ^ 60 }
     requires law { IsLawful (T.machine times.old) }
     ensures spent { IfOk result (λ spent. SpentAs (T.machine times.old) (T.sets times.old) bound end (T.stands times.old) spent) }

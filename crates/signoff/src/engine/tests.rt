@@ -1,4 +1,6 @@
 // Worked examples of a simulation.
+ghost use Rattle.std.specs.Prelude.{◌≡◌, IfOk};
+
 use crate::circuits::{Change, Circuit, Driver, Element, Net, Spent, Step, Stimulus};
 use crate::engine::{Recorder, simulate};
 use sg_io::{ReadError, Shelf, ShelfError};
@@ -93,7 +95,9 @@ fn net(alloc: Global, name: &[u8], driver: Driver) -> Result<Net, NoMemory> {
     })
 }
 
-fn inverter_of(alloc: Global, output: u32, input: u32) -> Result<Element, NoMemory> {
+fn inverter_of(alloc: Global, output: u32, input: u32) -> Result<Element, NoMemory>
+    ensures { IfOk result (λ e. e.output ≡ output) }
+{
     Ok(Element {
         inputs: vec![in alloc; input]?,
         output,

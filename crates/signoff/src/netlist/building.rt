@@ -92,7 +92,7 @@ pub fn circuit_of(
     requires declared { IsDeclaredBy (module_seen tree.now) declared.now }
     requires sound { IsSound (module_seen tree.now) }
     requires ports { length tree.now.ports.items < 2 ^ 32 }
-    requires driven { length declared.now.driven.items < 2 ^ 32 }
+    requires driven { length declared.now.driven.items < 2 ^ 31 }
     ensures { IfOk result (λ c. circuit_seen c ≡ circuit_of (module_seen tree.now)) }
 {
     Ok(Circuit {

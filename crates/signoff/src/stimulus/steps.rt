@@ -39,12 +39,10 @@ fn changes_of(
     for (k, net) in circuit.nets.iter().enumerate() {
         if net.driver == Driver::Stimulus {
             if let Some(value) = value_of(sets, net.name.bytes()) {
-                // No memory holds the nets of a circuit that has more.
-                let net = match u32::try_from(k) {
-                    Ok(net) => net,
-                    Err(_) => return Err(NoMemory),
-                };
-                changes.push(Change { net, value })?;
+                changes.push(Change {
+                    net: k as u32,
+                    value,
+                })?;
             }
         }
     }

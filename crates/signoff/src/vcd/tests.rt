@@ -1,4 +1,6 @@
 // Worked examples of value change dumps, written by hand.
+ghost use Rattle.std.specs.Prelude.{◌<◌, ◌^◌, length};
+
 use crate::circuits::{Circuit, Driver, Net};
 use crate::engine::Recorder;
 use crate::vcd::VcdWriter;
@@ -10,7 +12,9 @@ use std::alloc::{AllocError, Global};
 use std::test::Fail;
 
 // The module t with a net of each name.
-fn circuit_of(alloc: Global, names: &[&str]) -> Result<Circuit, NoMemory> {
+fn circuit_of(alloc: Global, names: &[&str]) -> Result<Circuit, NoMemory>
+    requires { length names.now < 2 ^ 32 }
+{
     let mut nets = Vec::new(alloc);
     for name in names {
         nets.push(Net {

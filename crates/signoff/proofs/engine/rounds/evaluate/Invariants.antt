@@ -1,12 +1,10 @@
-use Rattle.std.proofs.Common.{◌≡◌, ◌++◌, map, length}
-use Rattle.signoff.specs.EngineSeen.{list_seen, all_evaluated}
+use Rattle.std.proofs.Common.{◌≡◌, ◌≤◌, ◌+◌, ◌*◌, length}
+use Rattle.signoff.proofs.EngineAgenda.{evaluated_upto}
 use Rattle.signoff.proofs.engine.rounds.evaluate.Given as goal
 
--- what is made so far, and what is made of the rest, is all that is made
-abbrev pub invariant-loop-elements : goal.invariant-loop-elements
-invariant-loop-elements l =
-    map (λ p. list_seen p) l.after.items ++ all_evaluated l.now l.values l.elements (map (λ p. list_seen p) l.pending)
-    ≡ all_evaluated l.now l.values l.fn.elements (map (λ p. list_seen p) l.fn.pending)
-
-abbrev pub decreases-loop-elements : goal.decreases-loop-elements
-decreases-loop-elements l = length l.elements
+-- the elements so far are evaluated, and room is left for the others
+abbrev pub invariant-loop-driver : goal.invariant-loop-driver
+invariant-loop-driver g l = record {
+  lists : g.A.Agenda.lists l.agenda ≡ evaluated_upto l.driver l.now l.values l.elements (g.A.Agenda.lists l.fn.agenda);
+  spare : 2 * length l.elements ≤ g.A.Agenda.spare l.agenda + 2 * l.driver;
+}

@@ -1,15 +1,15 @@
-use Rattle.std.proofs.Common.{◌≡◌, map, length}
-use Rattle.sg_model.specs.Round.{changed_by, due_changes}
-use Rattle.signoff.specs.EngineSeen.{list_seen, AgreeAbove}
+use Rattle.std.proofs.Common.{map, length}
+use Rattle.sg_model.specs.Round.{due_changes}
+use Rattle.sg_model.proofs.TakeLaws.{TakesOn}
+use Rattle.signoff.specs.EngineSeen.{AgreeAbove}
 use Rattle.signoff.proofs.engine.rounds.take_due.Given as goal
 
--- the rest leads from the values so far to those in the end
-abbrev pub invariant-loop-elements : goal.invariant-loop-elements
-invariant-loop-elements l = record {
-  changed : changed_by (due_changes l.now (map (λ e. e.output) l.elements) (map (λ p. list_seen p) l.pending)) l.values
-      ≡ changed_by (due_changes l.now (map (λ e. e.output) l.fn.elements) (map (λ p. list_seen p) l.fn.pending)) l.fn.values;
+-- the due transitions that are left, applied to the nets as they are, come to the same
+abbrev pub invariant-loop-driver : goal.invariant-loop-driver
+invariant-loop-driver g l = record {
+  takes_on : TakesOn l.now (map (λ e. e.output) l.elements) (g.A.Agenda.lists l.fn.agenda) (g.A.Agenda.lists l.agenda) l.fn.values l.values;
   above : AgreeAbove l.fn.values l.values;
 }
 
-abbrev pub decreases-loop-elements : goal.decreases-loop-elements
-decreases-loop-elements l = length l.elements
+abbrev pub decreases-loop-driver : goal.decreases-loop-driver
+decreases-loop-driver g l = length (due_changes l.now (map (λ e. e.output) l.elements) (g.A.Agenda.lists l.agenda))

@@ -63,12 +63,13 @@ loop-now-preserved g c =
     let same : t.machine c.make.new.self ≡ m = c.in_ok-net.ensures.machine ∙ c.loop-now.invariant.machine in
     let same_sets : t.sets c.make.new.self ≡ sets = c.in_ok-net.ensures.sets ∙ c.loop-now.invariant.sets in
     record {
-      machine = same;
-      sets = same_sets;
-      came = came_to_next m c.requires.law sets c.args.bound c.args.end now c.next-now.result (t.stands c.args.times.now) (t.stands c.make.new.self) (r.holds c.args.recorder.now c.args.shelf.now) (r.holds c.loop-now.recorder c.loop-now.shelf) (r.holds c.record.new.self c.record.new.shelf) c.values.result.now
+      machine = c.next-now.ensures.machine ∙ same;
+      sets = c.next-now.ensures.sets ∙ same_sets;
+      ready = c.next-now.ensures.ready;
+      came = came_to_next m c.requires.law sets c.args.bound c.args.end now c.next-now.result (t.stands c.args.times.now) (t.stands c.make.new.self) (t.stands c.next-now.new.self) (r.holds c.args.recorder.now c.args.shelf.now) (r.holds c.loop-now.recorder c.loop-now.shelf) (r.holds c.record.new.self c.record.new.shelf) c.values.result.now
           c.next-now.ensures.later c.next-now.ensures.within ended c.values.ensures c.in_ok-record.ensures.ok (g.met.R.Recorder.skips c.record.new.self c.record.new.shelf)
           (λ x u h lo hi. subst (λ y. IsQuiet y x u) same_sets (c.next-now.ensures.quiet x u h lo hi))
-          (λ k n x h. subst (λ y. t.stands c.make.new.self (with_copies k y n x)) same (g.met.T.Times.skips c.make.new.self k n x h));
+          (λ k n x h. c.next-now.ensures.stands (with_copies k m n x) (subst (λ y. t.stands c.make.new.self (with_copies k y n x)) same (g.met.T.Times.skips c.make.new.self k n x h)));
       within = c.next-now.ensures.within;
       name = search rules;
       circuit = search rules;

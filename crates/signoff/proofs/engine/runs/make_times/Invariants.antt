@@ -12,6 +12,7 @@ invariant-loop-now g l =
       machine : t.machine l.times ≡ t.machine l.fn.times;
       sets : t.sets l.times ≡ t.sets l.fn.times;
       came : CameTo (t.machine l.fn.times) (t.sets l.fn.times) l.bound l.end l.now (t.stands l.fn.times) (t.stands l.times) (r.holds l.fn.recorder l.fn.shelf) (r.holds l.recorder l.shelf);
+      ready : t.ready l.times l.now;
       within : l.now ≤ l.end + 1;
       name : r.name l.recorder ≡ r.name l.fn.recorder;
       circuit : r.circuit l.recorder ≡ r.circuit l.fn.recorder;

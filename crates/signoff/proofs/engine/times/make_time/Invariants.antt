@@ -8,4 +8,5 @@ invariant-loop g l =
     record {
       machine : e.machine l.rounds ≡ e.machine l.fn.rounds;
       goes : StillGoes (l.bound - l.counter) l.bound (e.machine l.fn.rounds) l.now l.must l.first (e.handed l.rounds) (e.handed l.fn.rounds) (e.stands l.fn.rounds) (e.stands l.rounds);
+      ready : e.ready l.rounds l.now;
     }

@@ -11,7 +11,7 @@ use Rattle.signoff.proofs.EngineStands.{named_next}
 use Rattle.signoff.proofs.engine.simulation.SimulationRounds.name.Goals as goal
 
 pub returns-clause-named : goal.returns-clause-named
-returns-clause-named c =
+returns-clause-named g c =
     let m : Machine = machine_of (circuit_seen c.args.self.now.circuit.now) in
     let handed : List (ℕ × Value) = map (λ x. change_seen x) c.args.self.now.handed.now in
     record {
