@@ -3,11 +3,10 @@ use Rattle.std.specs.Prelude.{◌≡◌, ℕ, zero, suc, ◌+◌, ◌<◌, ◌�
 use Rattle.std.proofs.Common.{sym, ◌∙◌, ap, subst, arith}
 use Rattle.std.proofs.lemmas.List.{append_assoc}
 use Rattle.std.proofs.lemmas.Bool.Decides.{nat_tests}
-use Rattle.std.specs.declared.option.Option.{Option}
 use Rattle.sg_logic.specs.declared.values.Value.{Value}
 use Rattle.sg_model.specs.Machine.{Machine, Snapshot}
 use Rattle.sg_model.specs.Time.{Run, Ended, Whole, Spent, rounds, with_round, with_snapshot, time_of, needs_round, flips_of, is_empty, named}
-use Rattle.sg_model.specs.Run.{Finished, times_from, go_on, lasts, lasts_before}
+use Rattle.sg_model.specs.Run.{times_from, go_on, lasts, lasts_before}
 use Rattle.sg_model.specs.Quiet.{IsSeen, with_copies}
 
 -- all of them are of the time

@@ -4,11 +4,12 @@ use Rattle.std.proofs.Common.{sym, ◌∙◌, ap, subst, arith, inl, inr}
 use Rattle.std.proofs.lemmas.Bool.Decides.{nat_tests}
 use Rattle.std.proofs.lemmas.List.{reverse-reverse}
 use Rattle.sg_logic.specs.declared.values.Value.{Value}
-use Rattle.sg_model.specs.Values.{is_same, value_at}
+use Rattle.sg_model.specs.Values.{value_at}
+use Rattle.sg_logic.specs.Values.{is_same}
 use Rattle.sg_model.specs.Pending.{inertial, inertial_latest_first, put}
-use Rattle.sg_model.specs.Agenda.{list_at, with_list, AllEmpty, BeginsAt, IsLeastTime, NoneBelow, NothingBelow, Rises}
+use Rattle.sg_model.specs.Agenda.{list_at, with_list, AllEmpty, BeginsAt, IsLeastTime, NoneBelow, NothingBelow, Rises, AllRise}
 use Rattle.sg_model.specs.Round.{any_due, is_due}
-use Rattle.sg_model.proofs.RiseLaws.{AllRise, rises-rest, rises_at}
+use Rattle.sg_model.proofs.RiseLaws.{rises-rest, rises_at}
 use Rattle.sg_model.proofs.TakeLaws.{rises-second}
 use Rattle.signoff.specs.declared.circuits.Element.{Element}
 use Rattle.signoff.specs.EngineSeen.{all_evaluated, computed, evaluated}

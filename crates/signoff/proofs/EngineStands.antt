@@ -4,7 +4,8 @@ use Rattle.std.proofs.Common.{sym, ◌∙◌, ap, subst, arith, inl, inr}
 use Rattle.sg_logic.specs.declared.values.Value.{Value}
 use Rattle.sg_logic.specs.declared.values.Value.TheVariants.{Zero, One, X, Z}
 use Rattle.sg_logic.specs.declared.gates.GateKind.TheVariants.{Buf}
-use Rattle.sg_model.specs.Values.{is_same, value_at, least_differing}
+use Rattle.sg_model.specs.Values.{value_at, least_differing}
+use Rattle.sg_logic.specs.Values.{is_same}
 use Rattle.sg_model.specs.Pending.{inertial}
 use Rattle.sg_model.specs.Agenda.{NoneBelow, Rises}
 use Rattle.std.proofs.lemmas.List.{length-map}

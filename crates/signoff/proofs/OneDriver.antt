@@ -2,7 +2,7 @@
 use Rattle.std.proofs.Common.{ℕ, ◌≡◌, List, [], ◌∷◌, true, false, not, nat_eq, sym}
 use Rattle.std.specs.List.{list_any}
 use Rattle.std.proofs.lemmas.Bool.{and_parts, or_parts, not-true, eqb-false}
-use Rattle.sg_model.proofs.TakeLaws.{IsNoOutput, AreOutputs}
+use Rattle.sg_model.specs.Machine.{IsNoOutput, AreOutputs}
 use Rattle.signoff.specs.WellFormed.{are_apart}
 
 IsNoOutput-from_list_any : (n : ℕ) (xs : List ℕ) → list_any (nat_eq n) xs ≡ false → IsNoOutput n xs

@@ -6,7 +6,8 @@ use Rattle.std.specs.Fmt.{digits}
 use Rattle.std.specs.List.{list_all}
 use Rattle.sg_logic.specs.declared.values.Value.{Value}
 use Rattle.sg_model.specs.Round.{each_from}
-use Rattle.sg_model.specs.Values.{value_at, is_same, are_same}
+use Rattle.sg_model.specs.Values.{value_at, are_same}
+use Rattle.sg_logic.specs.Values.{is_same}
 use Rattle.circuit_model.specs.Circuit.{Net, Variable, Element, Nobody}
 use Rattle.circuit_model.specs.Texts.{is_letter, is_name_byte, is_simple, line, written_name}
 use Rattle.circuit_model.specs.Vcd.{code, value_line, value_lines, changed_lines, agree, Item, Declares, Closes, item_lines, header, declared, variables_of, first_block, later_block, time_line}

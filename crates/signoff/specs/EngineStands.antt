@@ -2,11 +2,10 @@
 use Rattle.std.specs.Prelude.{◌≡◌, ◌<◌, ◌^◌, ℕ, List, length, [], if◌then◌else◌}
 use Rattle.sg_logic.specs.declared.values.Value.{Value}
 use Rattle.sg_logic.specs.declared.values.Value.TheVariants.{X, Z}
-use Rattle.sg_model.specs.Agenda.{NothingBelow}
+use Rattle.sg_model.specs.Agenda.{NothingBelow, AllRise}
 use Rattle.sg_model.specs.Machine.{Machine}
 use Rattle.sg_model.specs.Time.{Run}
 use Rattle.sg_model.specs.Quiet.{with_copies}
-use Rattle.sg_model.proofs.RiseLaws.{AllRise}
 use Rattle.sg_model.proofs.SkipLaws.{copies-state, copies-before}
 use Rattle.std.proofs.Common.{◌∙◌, ap}
 use Rattle.circuit_model.specs.Circuit.{Circuit}

@@ -1,7 +1,8 @@
 -- Words on the text of a flat circuit's value change dump, and on who writes it.
 use Rattle.std.specs.Prelude.{ℕ, ◌++◌, suc, List, [], ◌∷◌, if◌then◌else◌, Bool, true, false}
 use Rattle.sg_logic.specs.declared.values.Value.{Value}
-use Rattle.sg_model.specs.Values.{value_at, is_same}
+use Rattle.sg_model.specs.Values.{value_at}
+use Rattle.sg_logic.specs.Values.{is_same}
 use Rattle.circuit_model.specs.Circuit.{Net}
 use Rattle.circuit_model.specs.Vcd.{declaration, value_line}
 use Rattle.signoff.specs.Flat.{variable_of}

@@ -1,8 +1,7 @@
 // What is asked of the pending transitions between rounds.
 ghost use Rattle.std.specs.Prelude.{◌≡◌, ◌+◌, ◌<◌, ◌≤◌, false};
-ghost use Rattle.sg_model.specs.Agenda.{NothingBelow};
+ghost use Rattle.sg_model.specs.Agenda.{NothingBelow, AllRise};
 ghost use Rattle.sg_model.specs.Round.{any_due};
-ghost use Rattle.sg_model.proofs.RiseLaws.{AllRise};
 
 use pulse_list::Agenda;
 

@@ -1,11 +1,10 @@
 // One round over the nets and elements of a circuit: what is due and handed in takes effect at once, and then every
 // element is evaluated from the new values.
 ghost use Rattle.std.specs.Prelude.{◌≡◌, ◌++◌, ◌+◌, ◌<◌, ◌≤◌, ◌^◌, IfOk, OnOk, length, map, slice_set};
-ghost use Rattle.sg_model.specs.Agenda.{list_at, with_list, NothingBelow};
+ghost use Rattle.sg_model.specs.Agenda.{list_at, with_list, NothingBelow, AllRise};
 ghost use Rattle.sg_model.specs.Round.{changed_by, due_changes, without_due};
 ghost use Rattle.sg_model.specs.Values.{value_at};
-ghost use Rattle.sg_model.proofs.RiseLaws.{AllRise};
-ghost use Rattle.sg_model.proofs.TakeLaws.{AreOutputs};
+ghost use Rattle.sg_model.specs.Machine.{AreOutputs};
 ghost use Rattle.signoff.specs.Seen.{change_seen};
 ghost use Rattle.signoff.specs.EngineSeen.{all_evaluated, computed, evaluated, AgreeAbove};
 

@@ -1,10 +1,9 @@
 // The simulation of a circuit of gates, round by round.
 ghost use Rattle.std.specs.Prelude.{◌≡◌, ◌++◌, ◌<◌, ◌^◌, [], IfOk, OnOk, map, length, replicate};
-ghost use Rattle.sg_model.specs.Agenda.{NothingBelow};
+ghost use Rattle.sg_model.specs.Agenda.{NothingBelow, AllRise};
 ghost use Rattle.sg_model.specs.Round.{changed_by, due_changes, without_due};
 ghost use Rattle.sg_model.specs.Values.{least_differing};
-ghost use Rattle.sg_model.proofs.RiseLaws.{AllRise};
-ghost use Rattle.sg_model.proofs.TakeLaws.{AreOutputs};
+ghost use Rattle.sg_model.specs.Machine.{AreOutputs};
 ghost use Rattle.signoff.specs.EngineSeen.{AgreeAbove};
 ghost use Rattle.signoff.specs.EngineStands.{first_value_seen, run_before, IsReady, Stands};
 ghost use Rattle.signoff.specs.Seen.{change_seen, circuit_seen};

@@ -2,7 +2,8 @@
 ghost use Rattle.std.specs.Prelude.{◌≡◌, ◌++◌, ◌∷◌, ◌&&◌, [], not, List, IfOk, OnOk, map, if◌then◌else◌};
 ghost use Rattle.std.specs.List.{list_all};
 ghost use Rattle.sg_text.specs.Words.{reserved_words, is_reserved_word};
-ghost use Rattle.sg_model.specs.Values.{value_at, is_same};
+ghost use Rattle.sg_model.specs.Values.{value_at};
+ghost use Rattle.sg_logic.specs.Values.{is_same};
 ghost use Rattle.circuit_model.specs.Texts.{is_letter, is_name_byte, is_simple, written_name};
 ghost use Rattle.circuit_model.specs.Vcd.{code, value_letter, value_line, agree, time_line, header, first_block, later_block, variables_of};
 ghost use Rattle.signoff.specs.Seen.{circuit_seen, net_seen};

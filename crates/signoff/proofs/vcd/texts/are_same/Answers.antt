@@ -1,6 +1,7 @@
 use Rattle.std.proofs.Common.{◌≡◌, ◌<◌, length, true, false, map}
 use Rattle.std.proofs.lemmas.List.{length-map}
-use Rattle.sg_model.specs.Values.{value_at, is_same}
+use Rattle.sg_model.specs.Values.{value_at}
+use Rattle.sg_logic.specs.Values.{is_same}
 use Rattle.signoff.specs.Seen.{net_seen}
 use Rattle.signoff.proofs.VcdTexts.{all_same_step, all_same_stop}
 use Rattle.signoff.proofs.vcd.texts.are_same.Goals as goal

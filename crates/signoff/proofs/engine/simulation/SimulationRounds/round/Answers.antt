@@ -2,10 +2,9 @@ use Rattle.std.specs.Prelude.{◌≡◌, ◌++◌, ℕ, List, length, map}
 use Rattle.std.proofs.Common.{sym, ◌∙◌, ap, subst, rules}
 use Rattle.std.proofs.lemmas.List.{length-map}
 use Rattle.sg_logic.specs.declared.values.Value.{Value}
-use Rattle.sg_model.specs.Agenda.{NothingBelow}
+use Rattle.sg_model.specs.Agenda.{NothingBelow, AllRise}
 use Rattle.sg_model.specs.Round.{changed_by, due_changes, without_due}
-use Rattle.sg_model.proofs.RiseLaws.{AllRise}
-use Rattle.sg_model.proofs.TakeLaws.{AreOutputs}
+use Rattle.sg_model.specs.Machine.{AreOutputs}
 use Rattle.signoff.specs.Seen.{change_seen}
 use Rattle.signoff.specs.EngineSeen.{all_evaluated, AgreeAbove}
 use Rattle.signoff.proofs.EngineAgenda.{below_evaluated, length-all_evaluated, rise_evaluated}
