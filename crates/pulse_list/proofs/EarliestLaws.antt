@@ -3,11 +3,11 @@ use Rattle.std.proofs.Common.{◌≡◌, ℕ, suc, ◌+◌, ◌-◌, ◌<◌, �
 use Rattle.std.proofs.Common.{set, inl, inr, if◌then◌else◌}
 use Rattle.std.proofs.lemmas.Bool.{cases_eq, cases_lt}
 use Rattle.std.proofs.lemmas.Bool.Decides.{nat_tests}
-use Rattle.std.proofs.lemmas.List.{append-nil, reverse-append, reverse-reverse, get_or_append_left, get_or_at, take_at, length_push}
+use Rattle.std.proofs.lemmas.List.{append-nil, reverse-append, get_or_append_left, get_or_at, take_at, length_push}
 use Rattle.sg_logic.specs.declared.values.Value.{Value}
 use Rattle.sg_model.specs.Pending.{rest_of}
 use Rattle.sg_model.specs.Agenda.{list_at, with_list, Rises, due, NoneBelow, NothingBelow, NothingDue, IsTaken, IsLeastTime, AllEmpty, BeginsAt}
-use Rattle.sg_model.proofs.RiseLaws.{rises-rest}
+use Rattle.sg_model.proofs.RiseLaws.{rises-init}
 use Rattle.pulse_list.specs.declared.plain.Pending.{Pending}
 use Rattle.pulse_list.specs.Plain.{pair_of, pairs_of, table_of, Falls, IsPlain, IsRewritten}
 use Rattle.pulse_list.proofs.PairsLaws.{pairs_of-append, pairs_of-own, pairs_of-other, pairs_of-between}
@@ -38,13 +38,8 @@ popped xs later new p n e l t =
     let m : n - 1 ≡ length later = omega arith in
     t ∙ (ap (λ i. take i xs) m ∙ (ap (take (length later)) e ∙ take_at later (p ∷ []) (length later) refl))
 
-rises_before : (ys : List (ℕ × Value)) (q : ℕ × Value) → Rises (ys ++ q ∷ []) → Rises ys
-rises_before ys q r =
-    let back : reverse (ys ++ q ∷ []) ≡ q ∷ reverse ys = reverse-append ys (q ∷ []) in
-    subst Rises (ap (λ zs. reverse (rest_of zs)) back ∙ reverse-reverse ys) (rises-rest (reverse (ys ++ q ∷ [])) (subst Rises (sym (reverse-reverse (ys ++ q ∷ []))) r))
-
 pub rises_without : (xs : List Pending) (p : Pending) (counts : List ℕ) → IsPlain (xs ++ p ∷ []) counts → Rises (pairs_of p.driver xs)
-rises_without xs p counts h = rises_before (pairs_of p.driver xs) (pair_of p) (subst Rises (pairs_of-last xs p) (h.rises p.driver))
+rises_without xs p counts h = rises-init (pairs_of p.driver xs) (pair_of p) (subst Rises (pairs_of-last xs p) (h.rises p.driver))
 
 pub falls_without : (xs : List Pending) (p : Pending) → Falls (xs ++ p ∷ []) → Falls xs
 falls_without xs p f i j d l m =

@@ -9,37 +9,10 @@ use Rattle.sg_logic.specs.Values.{is_same}
 use Rattle.sg_model.specs.Pending.{inertial, inertial_latest_first, put}
 use Rattle.sg_model.specs.Agenda.{list_at, with_list, AllEmpty, BeginsAt, IsLeastTime, NoneBelow, NothingBelow, Rises, AllRise}
 use Rattle.sg_model.specs.Round.{any_due, is_due}
-use Rattle.sg_model.proofs.RiseLaws.{rises-rest, rises_at}
-use Rattle.sg_model.proofs.TakeLaws.{rises-second}
+use Rattle.sg_model.proofs.RiseLaws.{rises_at}
+use Rattle.sg_model.proofs.LeastLaws.{below_empty, below_least, none_below-first}
 use Rattle.signoff.specs.declared.circuits.Element.{Element}
 use Rattle.signoff.specs.EngineSeen.{all_evaluated, computed, evaluated}
-
--- where times rise, the first pair decides
-from_first : (n : ℕ) (p : ℕ × Value) (ps : List (ℕ × Value)) → Rises (reverse (p ∷ ps)) → n ≤ p.0 → NoneBelow n (p ∷ ps)
-from_first n p [] r l = (l, tt)
-from_first n p (q ∷ qs) r l =
-    let later : p.0 < q.0 = rises-second p q qs r in
-    (l, from_first n q qs (rises-rest (p ∷ q ∷ qs) r) (omega arith))
-
--- an earlier time has no more below it
-pub none_below-earlier : (m n : ℕ) (xs : List (ℕ × Value)) → m ≤ n → NoneBelow n xs → NoneBelow m xs
-none_below-earlier m n [] l h = tt
-none_below-earlier m n (p ∷ ps) l h = let k : n ≤ p.0 = h.0 in (omega arith, none_below-earlier m n ps l h.1)
-
-pub nothing_below-earlier : (m n : ℕ) (lists : List (List (ℕ × Value))) → m ≤ n → NothingBelow n lists → NothingBelow m lists
-nothing_below-earlier m n lists l h = λ d k. none_below-earlier m n (list_at lists d) l (h d k)
-
-from_least : (time : ℕ) (xs : List (ℕ × Value)) → Rises (reverse xs) → ((first : ℕ) → BeginsAt xs first → time ≤ first) → NoneBelow time xs
-from_least time [] r h = tt
-from_least time (p ∷ ps) r h = from_first time p ps r (h p.0 refl)
-
--- nothing is below the least time
-pub below_least : (lists : List (List (ℕ × Value))) (time : ℕ) → AllRise lists → IsLeastTime lists time → NothingBelow time lists
-below_least lists time rise least = λ d l. from_least time (list_at lists d) (rises_at lists d l rise) (λ first b. least.least d first l b)
-
--- nothing is below any time where nothing is pending
-pub below_empty : (lists : List (List (ℕ × Value))) (time : ℕ) → AllEmpty lists → NothingBelow time lists
-below_empty lists time none = λ d l. subst (NoneBelow time) (sym (none.each d l)) tt
 
 -- one is due, or none
 due_first : (t : ℕ) (xs : List (ℕ × Value)) → BeginsAt xs t → is_due t xs ≡ true
@@ -98,7 +71,7 @@ from_next now (p ∷ ps) r h e =
     let k : now ≤ p.0 = h.0 in
     let f : (p.0 == now) ≡ false = e in
     let l : now + 1 ≤ p.0 = grind (arith, nat_tests) in
-    from_first (now + 1) p ps r l
+    none_below-first (now + 1) p ps r l
 
 -- where nothing is due, nothing is pending up to now
 pub below_next : (now : ℕ) (lists : List (List (ℕ × Value))) → AllRise lists → NothingBelow now lists → any_due now lists ≡ false → NothingBelow (now + 1) lists

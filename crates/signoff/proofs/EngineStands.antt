@@ -7,7 +7,7 @@ use Rattle.sg_logic.specs.declared.gates.GateKind.TheVariants.{Buf}
 use Rattle.sg_model.specs.Values.{value_at, least_differing}
 use Rattle.sg_logic.specs.Values.{is_same}
 use Rattle.sg_model.specs.Pending.{inertial}
-use Rattle.sg_model.specs.Agenda.{NoneBelow, Rises}
+use Rattle.sg_model.specs.Agenda.{Rises}
 use Rattle.std.proofs.lemmas.List.{length-map}
 use Rattle.std.specs.Bool.{OnFalse}
 use Rattle.sg_model.specs.Machine.{Machine, Stamp}
@@ -25,6 +25,7 @@ use Rattle.signoff.specs.Seen.{circuit_seen, element_seen, net_seen}
 use Rattle.signoff.specs.EngineSeen.{all_evaluated, computed, evaluated, AgreeAbove}
 use Rattle.signoff.specs.EngineStands.{first_value_seen, IsReady}
 use Rattle.signoff.proofs.EngineAgenda.{below_next}
+use Rattle.sg_model.proofs.LeastLaws.{nothing_below-zero}
 
 -- where the nets differ first
 record DiffersAt (k n : ℕ) (vs ws : List Value) : Type 0 where
@@ -162,7 +163,7 @@ ready_first n lists e l = subst (λ ls. IsReady n ls 0) (sym e) (record {
   as_many = length_empty n;
   few = l;
   rise = λ d blank m. (let k : d < n = subst (λ x. d < x) (length_empty n) m in subst (λ xs. Rises (reverse xs)) (sym (at_empty n d blank k)) tt);
-  below = λ d m. (let k : d < n = subst (λ x. d < x) (length_empty n) m in subst (NoneBelow 0) (sym (at_empty n d [] k)) tt);
+  below = nothing_below-zero (replicate n []);
 })
 
 -- where nothing is due it is ready for the next time

@@ -18,7 +18,7 @@ use Rattle.signoff.specs.declared.netlist.declarations.GateItem as code_gate_ite
 use Rattle.signoff.specs.NetlistForm.{Module, GateItem, IsSound, same_name, is_among, is_wired, place_of, takes_others, driver_by, circuit_of, gates_of, inputs_of, outputs_of}
 use Rattle.signoff.specs.NetlistSeen.{names_seen, gates_seen, driver_among, net_among, element_among}
 use Rattle.signoff.specs.Seen.{element_seen, net_seen}
-use Rattle.signoff.proofs.NetlistLists.{both-parts}
+use Rattle.std.proofs.lemmas.Bool.{and_parts}
 use Rattle.signoff.proofs.NetlistPlaces.{among-all, places-apart}
 
 pub driver-some : (inputs driven : List (List ℕ)) (port : List ℕ) (place : ℕ) → false ≡ is_among inputs port → position (same_name port) driven ≡ Some place → Driven place ≡ driver_among inputs driven port
@@ -52,9 +52,9 @@ takes-inputs Not n h = h
 all-take : (gates : List code_gate_item.GateItem) (i : ℕ) (d : code_gate_item.GateItem) → i < length gates → list_all (λ g. takes_others g.kind (length g.others)) (gates_seen gates) ≡ true
     → takes_others (get_or gates i d).kind (length (names_seen (get_or gates i d).others.now)) ≡ true
 all-take [] i d h k = absurd (omega arith)
-all-take (g ∷ gs) zero d h k = (both-parts (takes_others g.kind (length (names_seen g.others.now))) (list_all (λ x. takes_others x.kind (length x.others)) (gates_seen gs)) k).0
+all-take (g ∷ gs) zero d h k = (and_parts (takes_others g.kind (length (names_seen g.others.now))) (list_all (λ x. takes_others x.kind (length x.others)) (gates_seen gs)) k).0
 all-take (g ∷ gs) (suc i) d h k =
-    all-take gs i d (omega arith) (both-parts (takes_others g.kind (length (names_seen g.others.now))) (list_all (λ x. takes_others x.kind (length x.others)) (gates_seen gs)) k).1
+    all-take gs i d (omega arith) (and_parts (takes_others g.kind (length (names_seen g.others.now))) (list_all (λ x. takes_others x.kind (length x.others)) (gates_seen gs)) k).1
 
 pub gate-takes : (gates : List code_gate_item.GateItem) (i : ℕ) (d : code_gate_item.GateItem) (places : List ℕ) (f : List ℕ → ℕ) → i < length gates → list_all (λ g. takes_others g.kind (length g.others)) (gates_seen gates) ≡ true
     → places ≡ map f (names_seen (get_or gates i d).others.now) → takes_inputs (get_or gates i d).kind (length places) ≡ true
@@ -65,24 +65,24 @@ gate-takes gates i d places f h k e =
 pub wired-take : (m : Module) (gs : List GateItem) → list_all (is_wired m) gs ≡ true → list_all (λ g. takes_others g.kind (length g.others)) gs ≡ true
 wired-take m [] h = refl
 wired-take m (g ∷ gs) h =
-    let p = both-parts (is_wired m g) (list_all (is_wired m) gs) h in
-    let q = both-parts (takes_others g.kind (length g.others)) (is_among (outputs_of m) g.first && list_all (is_among (inputs_of m)) g.others) p.0 in
+    let p = and_parts (is_wired m g) (list_all (is_wired m) gs) h in
+    let q = and_parts (takes_others g.kind (length g.others)) (is_among (outputs_of m) g.first && list_all (is_among (inputs_of m)) g.others) p.0 in
     rw (q.0) (wired-take m gs p.1)
 
 -- the first terminal of a gate is a port
 wired-among : (m : Module) (gs : List GateItem) → list_all (is_wired m) gs ≡ true → list_all (is_among m.ports) (outputs_of m) ≡ true → list_all (is_among m.ports) (map (λ g. g.first) gs) ≡ true
 wired-among m [] h k = refl
 wired-among m (g ∷ gs) h k =
-    let p = both-parts (is_wired m g) (list_all (is_wired m) gs) h in
-    let q = both-parts (takes_others g.kind (length g.others)) (is_among (outputs_of m) g.first && list_all (is_among (inputs_of m)) g.others) p.0 in
-    let first = both-parts (is_among (outputs_of m) g.first) (list_all (is_among (inputs_of m)) g.others) q.1 in
+    let p = and_parts (is_wired m g) (list_all (is_wired m) gs) h in
+    let q = and_parts (takes_others g.kind (length g.others)) (is_among (outputs_of m) g.first && list_all (is_among (inputs_of m)) g.others) p.0 in
+    let first = and_parts (is_among (outputs_of m) g.first) (list_all (is_among (inputs_of m)) g.others) q.1 in
     and_from _ _ (among-all m.ports (outputs_of m) g.first k first.0) (wired-among m gs p.1 k)
 
 -- no two elements of a sound module's circuit drive one net
 pub sound-apart : (m : Module) (elements : List code_element.Element) (gates : List GateItem) → IsSound m → gates ≡ gates_of m
     → map (λ e. element_seen e) elements ≡ map (element_among m.ports) gates → are_apart (map (λ e. e.output) elements) ≡ true
 sound-apart m elements gates sound f e =
-    let declared = both-parts _ _ (sym (list_all-append (is_among m.ports) (inputs_of m) (outputs_of m)) ∙ sound.declared) in
+    let declared = and_parts _ _ (sym (list_all-append (is_among m.ports) (inputs_of m) (outputs_of m)) ∙ sound.declared) in
     let outputs =
     sym (map-map (λ (x : Element). x.output) (λ x. element_seen x) elements) ∙ ap (map (λ x. x.output)) e ∙ map-map (λ (x : Element). x.output) (element_among m.ports) gates
     ∙ sym (map-map (place_of m.ports) (λ (g : GateItem). g.first) gates) ∙ ap (λ x. map (place_of m.ports) (map (λ g. g.first) x)) f

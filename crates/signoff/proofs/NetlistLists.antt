@@ -1,5 +1,5 @@
 -- Tests and searches over the names that references are seen as.
-use Rattle.std.proofs.Common.{ℕ, ◌≡◌, ◌+◌, List, [], ◌∷◌, length, map, Bool, false, ◌&&◌, ◌||◌, not, Some, None, cond, nat_lt, ◌==◌, refl, ap, ◌∙◌, true}
+use Rattle.std.proofs.Common.{ℕ, ◌≡◌, ◌+◌, List, [], ◌∷◌, length, map, Bool, false, ◌&&◌, ◌||◌, not, Some, None, cond, nat_lt, ◌==◌, refl, ap, ◌∙◌}
 use Rattle.std.specs.List.{list_any, list_all, position, prefix_len}
 use Rattle.std.proofs.lemmas.List.{length-map}
 use Rattle.std.specs.Borrow.{Bor}
@@ -28,8 +28,3 @@ list_all_map p f (y ∷ ys) = ap (λ b. p (f y) && b) (list_all_map p f ys)
 pub are_plain-some : (names : List (Bor (List ℕ))) → false ≡ length names == 0 → list_all (λ x. not (is_reserved_word x)) (names_seen names) ≡ are_plain (names_seen names)
 are_plain-some [] h = absurd (cc)
 are_plain-some (n ∷ ns) h = refl
-
--- both sides of a test that holds
-pub both-parts : (x y : Bool) → (x && y) ≡ true → (x ≡ true) × (y ≡ true)
-both-parts true y h = (refl, h)
-both-parts false y h = absurd (cc)

@@ -9,7 +9,7 @@ use Rattle.signoff.specs.declared.netlist.tokens.Token.TheVariants as token
 use Rattle.signoff.specs.NetlistForm.{Token, Name, Symbol, Item, Inputs, Outputs, Module, IsSound, semicolon, left_parenthesis, right_parenthesis, names_spelled, item_spelled, module_spelled, are_plain, names_in}
 use Rattle.signoff.specs.NetlistSeen.{tokens_seen, token_seen}
 use Rattle.signoff.proofs.NetlistSpelling.{with_commas, first-word, names_spelled-last, behind-commas, names_spelled-injective, same-tails, behind-items, item-length, body_spelled, module-spelled, inputs-spelled, outputs-spelled}
-use Rattle.signoff.proofs.NetlistLists.{both-parts}
+use Rattle.std.proofs.lemmas.Bool.{and_parts}
 
 -- a list of names ends here
 pub names-closed : (close : ℕ) (seen : List (List ℕ)) (n : List ℕ) (all rest after : List Token) → all ≡ with_commas seen ++ rest → rest ≡ Name n ∷ Symbol close ∷ after → all ≡ names_spelled (seen ++ n ∷ []) ++ Symbol close ∷ after
@@ -58,7 +58,7 @@ no-items : (rest : List Token) → rest ≢ Name (codes "endmodule") ∷ [] → 
     → (ms : List Item) → list_all (λ item. are_plain (names_in item)) ms ≡ true → rest ≢ body_spelled ms
 no-items rest stop w [] h k = stop k
 no-items rest stop w (m ∷ ms) h k =
-    w m (body_spelled ms) (both-parts (are_plain (names_in m)) (list_all (λ item. are_plain (names_in item)) ms) h).0
+    w m (body_spelled ms) (and_parts (are_plain (names_in m)) (list_all (λ item. are_plain (names_in item)) ms) h).0
     (k ∙ append_assoc (item_spelled m) (flat_map item_spelled ms) (Name (codes "endmodule") ∷ []))
 
 -- no item follows here, nor the end

@@ -6,7 +6,7 @@ use lib.Pointwise.{pointwise}
 use Rattle.sg_logic.specs.declared.gates.GateKind.{GateKind}
 use Rattle.sg_logic.specs.declared.gates.GateKind.TheVariants.{And, Nand, Or, Nor, Xor, Xnor, Buf, Not}
 use Rattle.signoff.specs.NetlistForm.{Token, Name, Symbol, Item, Inputs, Outputs, Gates, Module, word_of, comma, semicolon, left_parenthesis, right_parenthesis, names_spelled, item_spelled, module_spelled, are_plain, names_in}
-use Rattle.signoff.proofs.NetlistLists.{both-parts}
+use Rattle.std.proofs.lemmas.Bool.{and_parts}
 
 -- names, each with a comma behind it
 abbrev pub with_commas : List (List ℕ) → List Token
@@ -199,7 +199,7 @@ behind-items (s ∷ seen) [] rest h e =
 behind-items (s ∷ seen) (m ∷ ms) rest h e =
     let f = sym (append_assoc (item_spelled s) (flat_map item_spelled seen) rest) ∙ e ∙ append_assoc (item_spelled m) (flat_map item_spelled ms) (Name (codes "endmodule") ∷ []) in
     let p = item_spelled-injective s m (flat_map item_spelled seen ++ rest) (body_spelled ms) f in
-    behind-items seen ms rest (both-parts (are_plain (names_in m)) (list_all (λ item. are_plain (names_in item)) ms) h).1 p.1
+    behind-items seen ms rest (and_parts (are_plain (names_in m)) (list_all (λ item. are_plain (names_in item)) ms) h).1 p.1
 
 body_spelled-injective : (is js : List Item) → body_spelled is ≡ body_spelled js → is ≡ js
 body_spelled-injective [] [] e = refl

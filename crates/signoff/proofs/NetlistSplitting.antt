@@ -5,7 +5,7 @@ use Rattle.std.proofs.lemmas.Bool.Decides.{nat_tests}
 use Rattle.std.proofs.lemmas.List.{append_assoc, length-append, append-nil, take_rest, take-append-drop}
 use Rattle.circuit_model.specs.Texts.{is_letter, is_name_byte, is_simple}
 use Rattle.signoff.specs.NetlistForm.{Token, Name, Symbol, Splits, ends, skips_blank, takes_symbol, takes_name, is_blank, is_symbol, ends_name}
-use Rattle.signoff.proofs.NetlistLists.{both-parts}
+use Rattle.std.proofs.lemmas.Bool.{and_parts}
 
 -- a byte begins one kind of token at most
 blank-symbol : (b : ℕ) → is_blank b ≡ true → is_symbol b ≡ true → ⊥
@@ -19,7 +19,7 @@ symbol-letter b h k = grind (arith, nat_tests)
 
 -- a simple name is no empty text, begins with a letter and goes on with bytes of names
 simple-parts : (c : ℕ) (cs : List ℕ) → is_simple (c ∷ cs) ≡ true → (is_letter c ≡ true) × (list_all is_name_byte cs ≡ true)
-simple-parts c cs h = both-parts (is_letter c) (list_all is_name_byte cs) h
+simple-parts c cs h = and_parts (is_letter c) (list_all is_name_byte cs) h
 
 simple-letter : (name rest behind : List ℕ) (b : ℕ) → b ∷ rest ≡ name ++ behind → is_simple name ≡ true → is_letter b ≡ true
 simple-letter [] rest behind b e h = absurd (cc)
@@ -57,17 +57,17 @@ all-name-bytes (c ∷ cs) h =
 one-name : (xs ys us vs : List ℕ) → xs ++ us ≡ ys ++ vs → list_all is_name_byte xs ≡ true → list_all is_name_byte ys ≡ true → ends_name us ≡ true → ends_name vs ≡ true → (xs ≡ ys) × (us ≡ vs)
 one-name [] [] us vs e a b c d = (refl, e)
 one-name [] (y ∷ ys) us vs e a b c d =
-    let here = (both-parts (is_name_byte y) (list_all is_name_byte ys) b).0 in
+    let here = (and_parts (is_name_byte y) (list_all is_name_byte ys) b).0 in
     let ended : ends_name (y ∷ (ys ++ vs)) ≡ true = subst (λ x. ends_name x ≡ true) e c in
     absurd (not-true (is_name_byte y) here ended)
 one-name (x ∷ xs) [] us vs e a b c d =
-    let here = (both-parts (is_name_byte x) (list_all is_name_byte xs) a).0 in
+    let here = (and_parts (is_name_byte x) (list_all is_name_byte xs) a).0 in
     let ended : ends_name (x ∷ (xs ++ us)) ≡ true = subst (λ z. ends_name z ≡ true) (sym e) d in
     absurd (not-true (is_name_byte x) here ended)
 one-name (x ∷ xs) (y ∷ ys) us vs e a b c d =
     let same : x ≡ y = cc in
     let behind : xs ++ us ≡ ys ++ vs = cc in
-    let p = one-name xs ys us vs behind (both-parts (is_name_byte x) (list_all is_name_byte xs) a).1 (both-parts (is_name_byte y) (list_all is_name_byte ys) b).1 c d in
+    let p = one-name xs ys us vs behind (and_parts (is_name_byte x) (list_all is_name_byte xs) a).1 (and_parts (is_name_byte y) (list_all is_name_byte ys) b).1 c d in
     (cc (p.0), p.1)
 
 not-empty : (name behind : List ℕ) → is_simple name ≡ true → [] ≡ name ++ behind → ⊥
@@ -150,7 +150,7 @@ reads-symbol text seen (b ∷ rest) r h k =
 simple-name : (name behind : List ℕ) → is_letter (get_or (name ++ behind) 0 0) ≡ true → list_all is_name_byte name ≡ true → ends_name behind ≡ true → is_simple name ≡ true
 simple-name [] [] h k n = absurd (cc)
 simple-name [] (b ∷ bs) h k n = absurd (not-true (is_name_byte b) (name-letter b h) n)
-simple-name (c ∷ cs) behind h k n = rw h ((both-parts (is_name_byte c) (list_all is_name_byte cs) k).1)
+simple-name (c ∷ cs) behind h k n = rw h ((and_parts (is_name_byte c) (list_all is_name_byte cs) k).1)
 
 -- the name that a text begins with
 name-bytes : (xs : List ℕ) → list_all is_name_byte (take (prefix_len (λ b. is_name_byte b) xs) xs) ≡ true

@@ -1,13 +1,13 @@
 use Rattle.std.proofs.Common.{nat_le, reverse}
 use Rattle.std.proofs.lemmas.Bool.{OnTrue_from, leb-true}
 use Rattle.sg_model.specs.Agenda.{list_at, NoneBelow, NothingBelow}
-use Rattle.pulse_list.proofs.LeastLaws.{below_least, latest_first}
+use Rattle.pulse_list.proofs.LeastLaws.{below_now, latest_first}
 use Rattle.pulse_list.proofs.tests.is_from.Goals as goal
 
 pub returns-in-Some-clause-below : goal.returns-in-Some-clause-below
 returns-in-Some-clause-below c =
     OnTrue_from (nat_le c.args.now c.in-Some.first) (NothingBelow c.args.now c.args.agenda.now.0)
-    (λ from. below_least _ c.args.now c.in-Some.first c.requires c.in-Some.ensures.some c.last-last.ensures.rising (leb-true c.args.now c.in-Some.first from))
+    (λ from. below_now _ c.args.now c.in-Some.first c.requires c.in-Some.ensures.some c.last-last.ensures.rising (leb-true c.args.now c.in-Some.first from))
 
 pub returns-in-Some-clause-latest_first : goal.returns-in-Some-clause-latest_first
 returns-in-Some-clause-latest_first c =

@@ -1,6 +1,6 @@
 use Rattle.std.specs.Prelude.{◌≤◌}
 use Rattle.std.proofs.Common.{arith}
-use Rattle.signoff.proofs.EngineAgenda.{below_least, nothing_below-earlier}
+use Rattle.sg_model.proofs.LeastLaws.{below_least, nothing_below-earlier}
 use Rattle.signoff.proofs.engine.pending.next_due.Goals as goal
 
 pub returns-in-Some-clause-below : goal.returns-in-Some-clause-below
