@@ -150,4 +150,3 @@ number_of word.ShowCancelled = 30
 number_of word.Posedge = 31
 number_of word.Negedge = 32
 number_of word.Edge = 33
-

@@ -1,6 +1,6 @@
 // The words of netlists.
 ghost use Rattle.std.specs.Prelude.{◌≡◌, map};
-ghost use Rattle.sg_text.specs.Words.{is_reserved_word, use_in, use_of, number_of};
+ghost use Rattle.sg_text.specs.Words.{is_reserved_word, use_in, use_of, keyword_number};
 ghost use Rattle.sg_text.specs.WordsSeen.{row};
 
 /// A word of the grammar of netlists, but for `module` and `macromodule`.
@@ -84,9 +84,18 @@ const RESERVED: [(&str, Reserved); 84] = [
     ("specparam", Reserved::Keyword(Keyword::SpecParam)),
     ("if", Reserved::Keyword(Keyword::If)),
     ("ifnone", Reserved::Keyword(Keyword::IfNone)),
-    ("pulsestyle_onevent", Reserved::Keyword(Keyword::PulseStyleOnEvent)),
-    ("pulsestyle_ondetect", Reserved::Keyword(Keyword::PulseStyleOnDetect)),
-    ("noshowcancelled", Reserved::Keyword(Keyword::NoShowCancelled)),
+    (
+        "pulsestyle_onevent",
+        Reserved::Keyword(Keyword::PulseStyleOnEvent),
+    ),
+    (
+        "pulsestyle_ondetect",
+        Reserved::Keyword(Keyword::PulseStyleOnDetect),
+    ),
+    (
+        "noshowcancelled",
+        Reserved::Keyword(Keyword::NoShowCancelled),
+    ),
     ("showcancelled", Reserved::Keyword(Keyword::ShowCancelled)),
     ("posedge", Reserved::Keyword(Keyword::Posedge)),
     ("negedge", Reserved::Keyword(Keyword::Negedge)),
@@ -142,9 +151,9 @@ const RESERVED: [(&str, Reserved); 84] = [
 ];
 
 impl Keyword {
-    // Its number among the words of the grammar.
-    fn number(self) -> u8
-        ensures { result ≡ number_of self }
+    /// Its number among the words of the grammar.
+    pub fn number(self) -> u8
+        ensures { result ≡ keyword_number self }
     {
         match self {
             Keyword::EndModule => 0,
@@ -191,7 +200,7 @@ impl PartialEq for Keyword {
     ghost use Rattle.std.specs.Cmp.Rules.{comparing};
     ghost use Rattle.std.proofs.Common.{rules};
 
-    ghost eq = { on number_of nat_eq };
+    ghost eq = { on keyword_number nat_eq };
 
     ghost laws = { Prim.search (comparing, rules) };
 
