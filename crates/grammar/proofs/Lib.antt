@@ -4,6 +4,7 @@ pub mod TokenKinds
 pub mod Extents
 pub mod One
 pub mod Mapped
+pub mod Placed
 pub mod After
 pub mod Sequence
 pub mod Choice

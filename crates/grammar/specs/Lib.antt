@@ -5,3 +5,4 @@ pub mod Reads
 pub mod Rule
 pub mod Exact
 pub mod Laws
+pub mod Placed
