@@ -13,6 +13,7 @@ pub mod Many
 pub mod Separated
 pub mod Named
 pub mod Counted
+pub mod Stated
 pub mod Whole
 pub mod Laws
 pub mod Finite
