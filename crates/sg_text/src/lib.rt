@@ -9,7 +9,7 @@ mod words;
 pub use places::Place;
 pub use refusals::{NoMemory, Refused};
 pub use texts::Text;
-pub use words::is_reserved;
+pub use words::{Keyword, Reserved, is_reserved, use_of};
 
 #[cfg(test)]
 mod tests;
