@@ -13,7 +13,7 @@ use Rattle.cond_expr.specs.Tree.{Cond, unary, joined}
 use Rattle.cond_expr.specs.Grammar.{operator, quoted, atom, level_parts, level, primary_parts, primary, expression, FailsConditionAt, FirstFault}
 use Rattle.cond_expr.specs.Scan.{step}
 use Rattle.cond_expr.proofs.Scanning.{scan}
-use Rattle.cond_expr.proofs.Exactness.{expression-exact}
+use Rattle.cond_expr.specs.Exactness.{expression-exact}
 use Rattle.cond_expr.proofs.Scanned.{fault, fault-none, stops_at, level-scans, primary-scans, level_stops, step_no_more}
 
 -- what one rule says, another says

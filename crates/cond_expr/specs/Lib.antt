@@ -1,7 +1,9 @@
 -- The modules of this folder.
+pub mod AllKinds
 pub mod Binding
 pub mod Codes
 pub mod Condition
+pub mod Exactness
 pub mod Grammar
 pub mod Kinds
 pub mod Laws

@@ -1,4 +1,4 @@
--- Each rule of the grammar is read exactly.
+-- Each rule of the grammar is read exactly. It stands here since the witness of the crate's grammar cites it (src/conditions.rt).
 use Rattle.std.proofs.Common.{◌≡◌, ℕ, zero, suc, ◌<◌, ◌≤◌, Bool, true, false, refl, arith}
 use Rattle.std.specs.Prelude.{◌&&◌, ◌||◌, not, nat_le, ◌==◌}
 use Rattle.std.proofs.Common.{inl, inr}
@@ -17,7 +17,7 @@ use Rattle.cond_expr.specs.declared.tokens.Op.{Op}
 use Rattle.cond_expr.specs.Grammar.{operator, quoted, operand_parts, operand, atom_parts, atom, primary_starts, level_continues, level_parts, level, primary_parts, primary, expression}
 use Rattle.cond_expr.specs.Tree.{Cond}
 use Rattle.cond_expr.specs.declared.tokens.Tok.{Tok}
-use Rattle.cond_expr.proofs.AllKinds.{apart, is_within}
+use Rattle.cond_expr.specs.AllKinds.{apart, is_within}
 
 pub operand-exact : Exact kind_of operand
 unfolding operand_parts
