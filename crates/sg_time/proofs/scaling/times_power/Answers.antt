@@ -1,6 +1,6 @@
 use Rattle.std.proofs.Common.{arith, sym, inl, inr}
 use Rattle.sg_time.proofs.ScalingLaws.{large_stays, far_is_large}
-use Rattle.sg_time.proofs.scaling.raised.Goals as goal
+use Rattle.sg_time.proofs.scaling.times_power.Goals as goal
 
 pub returns-then-size-ge-LIMIT : goal.returns-then-size-ge-LIMIT
 returns-then-size-ge-LIMIT c = elim c.then-size-ge-LIMIT.either [

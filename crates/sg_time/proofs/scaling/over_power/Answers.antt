@@ -1,6 +1,6 @@
 use Rattle.std.proofs.Common.{arith}
 use Rattle.sg_time.proofs.ScalingLaws.{pow_at_least, one_at_least, far_is_none}
-use Rattle.sg_time.proofs.scaling.lowered.Goals as goal
+use Rattle.sg_time.proofs.scaling.over_power.Goals as goal
 
 pub returns-then-places-gt38 : goal.returns-then-places-gt38
 returns-then-places-gt38 c = far_is_none c.args.size c.args.places c.requires c.if-places-gt38.true
