@@ -33,9 +33,7 @@ impl<'a, R: Print> StdSink<'a, R> {
 impl<R: Print> Sink for StdSink<'_, R> {
     ghost use Rattle.std.specs.Prelude.{None};
 
-    ghost contents = { λ _. None };
-
-    ghost fault_count = { λ s. s };
+    ghost told = { λ faults. record { contents = None; faults = faults; wants = 0 } };
 
     fn put(&mut self, bytes: &[u8]) -> Result<(), ShelfError> {
         let mut out = io::writer(self.rt);
