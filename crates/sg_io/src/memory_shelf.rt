@@ -83,9 +83,9 @@ impl MemoryShelf {
 impl Shelf for MemoryShelf {
     ghost use Rattle.std.specs.Prelude.{Some};
     ghost use Rattle.sg_io.specs.Files.{bytes_of, HasDistinctNames};
-    ghost use Rattle.sg_io.specs.Faults.{Cause, NamesFault, ReadCause, NamesReadFault};
+    ghost use Rattle.sg_io.specs.Faults.{Cause, NamesFault, end_of_read};
     ghost use Rattle.sg_io.specs.Listed.{fails_after, after_call};
-    ghost use Rattle.sg_io.specs.Memory.{ReadsListed, CreatesListed, AppendsListed, told_after, told_after_read};
+    ghost use Rattle.sg_io.specs.Memory.{ReadsListed, CreatesListed, AppendsListed, told_after};
 
     ghost files = { λ s. Some s.files };
 
@@ -99,9 +99,9 @@ impl Shelf for MemoryShelf {
         ensures held { self.new.files ≡ self.old.files }
         ensures distinct { HasDistinctNames self.old.files }
         ensures calls { self.new.calls ≡ after_call self.old.calls }
-        ensures faults { self.new.faults ≡ told_after_read name.now self.old.faults result }
-        ensures cause { ReadCause self.old.faults.count self.new.faults.count result }
-        ensures named { NamesReadFault name.now self.old.faults.last self.new.faults.last result }
+        ensures faults { self.new.faults ≡ told_after name.now self.old.faults (end_of_read result) }
+        ensures cause { Cause self.old.faults.count self.new.faults.count (end_of_read result) }
+        ensures named { NamesFault name.now self.old.faults.last self.new.faults.last (end_of_read result) }
     {
         if self.calls.next().is_some() {
             let copy = String::from_str(self.alloc, name)?;
