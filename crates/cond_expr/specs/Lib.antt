@@ -8,6 +8,6 @@ pub mod Grammar
 pub mod Kinds
 pub mod Laws
 pub mod Same
-pub mod Scan
+pub mod ScanSteps
 pub mod Tree
 pub mod Values
