@@ -1,10 +1,16 @@
 -- How the outcomes of phases compose.
-use Rattle.std.proofs.Common.{refl, ◌≡◌, sym, subst, Result, ℕ, zero, suc, List, [], ◌∷◌, arith}
-use Rattle.std.specs.Prelude.{Ok, Err, Option, Contains}
-use Rattle.signoff.specs.Phases.{Refusal, Then, stops, goes_on}
-use Rattle.signoff.specs.Stops.{Gives, IfOutcome, refusal_seen, StopCause, NeverFails, StopNames}
+use Rattle.std.proofs.Common.{refl, ◌≡◌, sym, ap, subst, lit<, Result, ℕ, List}
+use Rattle.std.specs.Prelude.{Ok, Err, Option, Some, None, Contains}
+use Rattle.sg_io.specs.Files.{File}
+use Rattle.signoff.specs.Phases.{Refusal, Then, stops, goes_on, CircuitOutcome}
+use Rattle.signoff.specs.Promises.{FaultAt, at_netlist, at_stimulus, NamesFaultAt}
+use Rattle.signoff.specs.Seen.{circuit_seen}
+use Rattle.signoff.specs.Stops.{Gives, IfFailed, IfOutcome, refusal_seen, SparesWords, StopCause, StopWords, NeverFails}
+use Rattle.signoff.specs.Words.{Command, command_of, names_in}
+use Rattle.signoff.specs.declared.circuits.Circuit as code_circuit
 use Rattle.signoff.specs.declared.stop.Stop as code_stop
 use Rattle.signoff.specs.declared.stop.Stop.TheVariants as stop
+use Rattle.signoff.proofs.Putting.{both_same}
 
 stop_outcome : {X Y A B : Type 0} (view : X → A) (whole : Y → B) (first : Result A Refusal → Type 0) (next : A → Result B Refusal → Type 0) (s : code_stop.Stop)
     → IfOutcome view first (Err s) → IfOutcome whole (Then first next) (Err s)
@@ -35,14 +41,46 @@ cause_of_pure X Y n (stop.Refused r) h = refl
 cause_of_pure X Y n stop.Failed h = absurd h
 cause_of_pure X Y n stop.NoMemory h = refl
 
--- the only one of a list
-only_one : (name x : List ℕ) → Contains (name ∷ []) x → x ≡ name
-only_one name x (zero, l, e) = sym e
-only_one name x (suc k, l, e) = absurd (omega arith)
+-- what the words gave is what they ask for
+pub words_command : {X : Type 0} (view : X → Command) (o : Option Command) (x : X) → StopWords o (λ c y. c ≡ view y) (Ok x) → o ≡ Some (view x)
+words_command view None x h = absurd h
+words_command view (Some c) x h = ap Some h
 
--- a failure on one file is one on a file of a list that has it
-pub names_more : (X Y : Type 0) (name : List ℕ) (names : List (List ℕ)) (told : Option (List ℕ)) (s : code_stop.Stop)
-    → Contains names name → StopNames {X = X} (name ∷ []) told (Err s) → StopNames {X = Y} names told (Err s)
-names_more X Y name names told (stop.Refused r) h n = tt
-names_more X Y name names told stop.Failed h n = record { name = n.name; told_is = n.told_is; among = subst (Contains names) (sym (only_one name n.name n.among)) h }
-names_more X Y name names told stop.NoMemory h n = tt
+-- after words that are a command, and a stop that spares them
+pub words_spare : (Y : Type 0) (P : Command → Y → Type 0) (o : Option Command) (c : Command) (s : code_stop.Stop) → o ≡ Some c → SparesWords s → StopWords {X = Y} o P (Err s)
+words_spare Y P None c s e h = cc
+words_spare Y P (Some d) c s e h = h
+
+-- a stop says the same of the words, whatever would have come
+pub words_again : (X Y : Type 0) (P : Command → X → Type 0) (Q : Command → Y → Type 0) (o : Option Command) (s : code_stop.Stop) → StopWords {X = X} o P (Err s) → StopWords {X = Y} o Q (Err s)
+words_again X Y P Q None s h = h
+words_again X Y P Q (Some c) s h = h
+
+failed_again : (X Y : Type 0) (P Q : Type 0) (s : code_stop.Stop) → (P → Q) → IfFailed {X = X} P (Err s) → IfFailed {X = Y} Q (Err s)
+failed_again X Y P Q (stop.Refused r) f h = tt
+failed_again X Y P Q stop.Failed f h = f h
+failed_again X Y P Q stop.NoMemory f h = tt
+
+pub same_failed : (X Y P : Type 0) (s : code_stop.Stop) → IfFailed {X = X} P (Err s) → IfFailed {X = Y} P (Err s)
+same_failed X Y P s h = failed_again X Y P P s (λ p. p) h
+
+-- a failure on the netlist's file
+pub failed_at_netlist : (X Y : Type 0) (ws : List (List ℕ)) (old new : Option (List File)) (last : Option (List ℕ)) (c : Command) (s : code_stop.Stop)
+    → command_of ws ≡ Some c → new ≡ old → IfFailed {X = X} (last ≡ Some c.netlist) (Err s) → IfFailed {X = Y} (NamesFaultAt ws old new last) (Err s)
+failed_at_netlist X Y ws old new last c s e k h = failed_again X Y (last ≡ Some c.netlist) (NamesFaultAt ws old new last) s (λ n. record {
+  name = c.netlist;
+  told = n;
+  among = subst (λ o. Contains (names_in o) c.netlist) (sym e) (0, lit< tt, refl);
+  place = both_same (λ before after. FaultAt ws before after c.netlist) old new k (λ files _. at_netlist c e refl);
+}) h
+
+-- a failure on the stimulus's file
+pub failed_at_stimulus : (X Y : Type 0) (ws : List (List ℕ)) (old new : Option (List File)) (last : Option (List ℕ)) (c : Command) (circuit : code_circuit.Circuit) (s : code_stop.Stop)
+    → command_of ws ≡ Some c → ((files : List File) → old ≡ Some files → Gives (λ x. circuit_seen x) (CircuitOutcome c.netlist files) (Ok circuit)) → new ≡ old
+    → IfFailed {X = X} (last ≡ Some c.stimulus) (Err s) → IfFailed {X = Y} (NamesFaultAt ws old new last) (Err s)
+failed_at_stimulus X Y ws old new last c circuit s e g k h = failed_again X Y (last ≡ Some c.stimulus) (NamesFaultAt ws old new last) s (λ n. record {
+  name = c.stimulus;
+  told = n;
+  among = subst (λ o. Contains (names_in o) c.stimulus) (sym e) (1, lit< tt, refl);
+  place = both_same (λ before after. FaultAt ws before after c.stimulus) old new k (λ files is. at_stimulus c (circuit_seen circuit) e (g files is).outcome refl);
+}) h

@@ -1,7 +1,8 @@
 -- The modules of this folder.
 pub mod VcdTexts
+pub mod Putting
+pub mod Telling
 pub mod Composed
-pub mod Told
 pub mod Worked
 pub mod NoViolations
 pub mod OneAnswer

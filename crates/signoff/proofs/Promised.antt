@@ -1,80 +1,83 @@
--- From what the work left and what was told comes what the top call promises.
-use Rattle.std.proofs.Common.{◌≡◌, ◌≢◌, ◌∙◌, sym, ap, refl, subst, inl, inr, ℕ, List, [], ◌++◌, length, take, arith}
-use Rattle.std.proofs.lemmas.List.{append-nil, take_all}
+-- From what the work left and what was told comes the case of the top call; from the case comes all else that it promises.
+use Rattle.std.proofs.Common.{◌≡◌, ◌≢◌, ◌∙◌, true, false, sym, ap, refl, subst, inl, inr, ℕ, List, [], ◌++◌, length, take, Contains, ◌≤◌, arith}
+use Rattle.std.proofs.lemmas.List.{take_all}
 use Rattle.std.specs.Prelude.{Option, Some, None, Result, Ok, Err, ◌⊎◌, unwrap_or}
-use Rattle.sg_io.specs.Files.{File, HasAfter}
+use Rattle.sg_io.specs.Files.{File, BothTell, HasAfter, bytes_of}
 use Rattle.sg_io.specs.Faults.{Rises, Rose}
+use Rattle.sg_io.specs.Put.{SinkTold}
+use Rattle.sg_io.proofs.Tell.{both_told}
 use Rattle.circuit_model.specs.Report.{report_lines}
-use Rattle.signoff.specs.Answer.{Answer, IsAnswer, FilesAfter, answer_of, dump_of, run_of, status_of_run, fault_line, report_fault_line, no_memory_line}
-use Rattle.signoff.specs.Phases.{Refusal, Task, words, missing, netlist, stimulus, status_of_refusal}
-use Rattle.signoff.specs.Promises.{IsDecided, IsRunEnd, Answers, Reports, whole, cut, sink_fault, shelf_fault, shelf_fault_cut, no_memory, IsMade, FaultCause, by_shelf, by_sink, KeepsBut, Keeps, IsStatusOf}
-use Rattle.signoff.specs.Seen.{spent_seen}
-use Rattle.signoff.specs.Stops.{refusal_seen, StopCause, StopNames}
+use Rattle.signoff.specs.Answer.{Answer, IsAnswer, FilesAfter, answer_of, dump_of, run_of, status_of_run, fault_line}
+use Rattle.signoff.specs.Phases.{Refusal, Task, TaskOutcome, WordsOutcome, CircuitOutcome, InputOutcome, Then, stops, goes_on, words, missing, netlist, stimulus, status_of_refusal, refusal_line}
+use Rattle.signoff.specs.Promises.{ShelfTold, IsRight, FitsWords, HasAnswer, FaultAt, at_netlist, at_stimulus, at_dump, NamesFaultAt, LeavesUnfinished, PutsReport, whole, till_fault, Outcome, answered, shelf_fault, sink_fault, no_memory, sink_want, IsExact, IsStatusOf, KeepsBut, KeepsByAnswer, KeepsByWords, IsUsage}
+use Rattle.signoff.specs.Putting.{PutsAll, PutsLast}
+use Rattle.signoff.specs.Putting as putting
+use Rattle.signoff.specs.Runs.{LeavesPrefix}
+use Rattle.signoff.specs.Seen.{circuit_seen, spent_seen}
+use Rattle.signoff.specs.Status.{IsDecided, IsRunEnd, is_run_end}
+use Rattle.signoff.specs.Stops.{refusal_seen, IfFailed, SparesWords, StopCause, StopWords}
 use Rattle.signoff.specs.Tasks.{task_seen}
-use Rattle.signoff.specs.Work.{BrokeOffIn, WorkLeaves, text_of_end, status_of_end, after_sink_fault, second_line, AddsAll, AddsFirst, Tells}
+use Rattle.signoff.specs.Work.{WorkLeaves, Tells, TellsStop, TellsEnd}
 use Rattle.signoff.specs.Work as telling
-use Rattle.signoff.specs.Words.{command_of, names_in}
+use Rattle.signoff.specs.Words.{Command, command_of, names_in}
 use Rattle.signoff.specs.declared.status.Status.{Status}
 use Rattle.signoff.specs.declared.status.Status.TheVariants as status
 use Rattle.signoff.specs.declared.stop.Stop as code_stop
 use Rattle.signoff.specs.declared.stop.Stop.TheVariants as stop
+use Rattle.signoff.specs.declared.stop.Refusal as code_refusal
+use Rattle.signoff.specs.declared.stop.Refusal.TheVariants as refusal
 use Rattle.signoff.specs.declared.work.Done as code_done
 use Rattle.signoff.proofs.NoViolations.{no_violations}
-use Rattle.signoff.proofs.OneAnswer.{answer_single}
-use Rattle.signoff.proofs.Told.{take_nothing}
+use Rattle.signoff.proofs.OneAnswer.{one_status, one_made}
+use Rattle.signoff.proofs.Putting.{both_map}
 
--- where the status after a failure of the sink is decided, it is the one that was planned
-pub unchanged_by_sink : (s : Status) → IsDecided (after_sink_fault s) → after_sink_fault s ≡ s
-unchanged_by_sink status.Clean h = absurd h
-unchanged_by_sink status.Violations h = absurd h
-unchanged_by_sink status.Usage h = refl
-unchanged_by_sink status.Netlist h = refl
-unchanged_by_sink status.Sdf h = refl
-unchanged_by_sink status.Stimulus h = refl
-unchanged_by_sink status.Fault h = refl
-unchanged_by_sink status.Rounds h = refl
-unchanged_by_sink status.NoMemory h = refl
-unchanged_by_sink status.Missing h = refl
+-- what is made, is begun
+whole_begun : (name bytes : List ℕ) (old new : List File) → HasAfter name bytes old new → LeavesPrefix name bytes old new
+whole_begun name bytes old new h = record { this = inr (length bytes, h.this ∙ ap Some (sym (take_all (length bytes) bytes (omega arith)))); others = h.others }
 
-decided_tells : {text : List ℕ} {planned : Status} {before now : ℕ} {old new : Option (List ℕ)} {how : Status} → Tells text planned before now old new how → IsDecided how → how ≡ planned
-decided_tells (telling.told p q) d = refl
-decided_tells {planned = planned} (telling.cut p q) d = unchanged_by_sink planned d
-decided_tells (telling.no_memory p) d = absurd d
+right_unfinished : (ws : List (List ℕ)) (how : Status) (text : List ℕ) (old new : List File) → IsRight ws how text old new → LeavesUnfinished ws old new
+right_unfinished ws how text old new r = (elim r.right.0 as (λ o. TaskOutcome ws old o → r.answer ≡ answer_of o → LeavesUnfinished ws old new) [
+  | Ok task ↦ λ outcome is. inr (task, outcome, whole_begun task.vcd (dump_of task) old new (subst (λ a. FilesAfter a.made old new) is r.files))
+  | Err s ↦ λ outcome is. inl (subst (λ a. FilesAfter a.made old new) is r.files)
+]) r.right.1 r.right.2
 
-fault_undecided : {text : List ℕ} {before now : ℕ} {old new : Option (List ℕ)} {how : Status} → Tells text status.Fault before now old new how → IsDecided how → ⊥
-fault_undecided (telling.told p q) d = d
-fault_undecided (telling.cut p q) d = d
-fault_undecided (telling.no_memory p) d = d
+-- the status of a run, and of a refusal, is decided
+run_decided : (spent : Option (ℕ × Option ℕ)) → IsDecided (status_of_run spent [])
+run_decided None = tt
+run_decided (Some s) = tt
 
-memory_undecided : {text : List ℕ} {before now : ℕ} {old new : Option (List ℕ)} {how : Status} → Tells text status.NoMemory before now old new how → how ≡ status.NoMemory
-memory_undecided (telling.told p q) = refl
-memory_undecided (telling.cut p q) = refl
-memory_undecided (telling.no_memory p) = refl
+run_no_usage : (spent : Option (ℕ × Option ℕ)) → status_of_run spent [] ≢ status.Usage
+run_no_usage None = λ e. let k : status.Clean ≡ status.Usage = e in cc
+run_no_usage (Some s) = λ e. let k : status.Rounds ≡ status.Usage = e in cc
 
--- a status is decided, or it is one of two
-either : (how : Status) → IsDecided how ⊎ ((how ≡ status.Fault) ⊎ (how ≡ status.NoMemory))
-either status.Clean = inl tt
-either status.Violations = inl tt
-either status.Usage = inl tt
-either status.Netlist = inl tt
-either status.Sdf = inl tt
-either status.Stimulus = inl tt
-either status.Fault = inr (inl refl)
-either status.Rounds = inl tt
-either status.NoMemory = inr (inr refl)
-either status.Missing = inl tt
+refusal_decided : (r : Refusal) → IsDecided (status_of_refusal r)
+refusal_decided words = tt
+refusal_decided (missing name) = tt
+refusal_decided (netlist name) = tt
+refusal_decided (stimulus name) = tt
 
--- what is planned is a right answer
-record Planned (ws : List (List ℕ)) (files after : List File) (text : List ℕ) (planned : Status) : Type 0 where
-  answer : Answer
-  right : IsAnswer ws files answer
-  status : planned ≡ answer.status
-  report : text ≡ answer.report
-  left : FilesAfter answer.made files after
+run_fits : (o : Option Command) (P : Command → code_done.Done → Type 0) (done : code_done.Done) (spent : Option (ℕ × Option ℕ)) (text : List ℕ) → StopWords o P (Ok done) → FitsWords o (status_of_run spent []) text
+run_fits None P done spent text h = absurd h
+run_fits (Some c) P done spent text h = run_no_usage spent
 
-done_planned : (ws : List (List ℕ)) (files after : List File) (named : Option (List ℕ)) (done : code_done.Done) → WorkLeaves ws files after named (Ok done)
-    → Planned ws files after (text_of_end named (Ok done)) (status_of_end (Ok done))
-done_planned ws files after named done h =
+spares_fits : (r : code_refusal.Refusal) → SparesWords (stop.Refused r) → status_of_refusal (refusal_seen r) ≢ status.Usage
+spares_fits refusal.Words h = absurd h
+spares_fits (refusal.Missing name) h = λ e. let k : status.Missing ≡ status.Usage = e in cc
+spares_fits (refusal.Netlist name) h = λ e. let k : status.Netlist ≡ status.Usage = e in cc
+spares_fits (refusal.Stimulus name) h = λ e. let k : status.Stimulus ≡ status.Usage = e in cc
+
+refused_is : (r s : code_refusal.Refusal) → stop.Refused r ≡ stop.Refused s → r ≡ s
+refused_is r s e = cc
+
+refusal_fits : (o : Option Command) (P : Command → code_done.Done → Type 0) (r : code_refusal.Refusal) → StopWords o P (Err (stop.Refused r))
+    → FitsWords o (status_of_refusal (refusal_seen r)) (refusal_line (refusal_seen r))
+refusal_fits None P r h = let e : r ≡ refusal.Words = refused_is r refusal.Words h in (ap (λ x. status_of_refusal (refusal_seen x)) e, ap (λ x. refusal_line (refusal_seen x)) e)
+refusal_fits (Some c) P r h = spares_fits r h
+
+-- the end of a run is a right answer
+done_right : (ws : List (List ℕ)) (done : code_done.Done) (old new : List File) → WorkLeaves ws (Ok done) old new
+    → IsRight ws (status_of_run (spent_seen done.spent) []) (report_lines (circuit_seen done.task.circuit) [] [] [] done.task.input.end (spent_seen done.spent)) old new
+done_right ws done old new h =
     let task : Task = task_seen done.task in
     let none : (run_of task).run.violations ≡ [] = no_violations task in
     record {
@@ -82,224 +85,212 @@ done_planned ws files after named done h =
       right = (Ok task, h.0, refl);
       status = ap (λ s. status_of_run s []) h.2 ∙ sym (ap (status_of_run (run_of task).spent) none);
       report = ap (report_lines task.circuit [] [] [] task.input.end) h.2 ∙ sym (ap (λ vs. report_lines task.circuit [] [] vs task.input.end (run_of task).spent) none);
-      left = h.1;
+      files = h.1;
     }
 
-refused_planned : (ws : List (List ℕ)) (files after : List File) (named : Option (List ℕ)) (r : _) → WorkLeaves ws files after named (Err (stop.Refused r))
-    → Planned ws files after (text_of_end named (Err (stop.Refused r))) (status_of_end (Err (stop.Refused r)))
-refused_planned ws files after named r h = record {
+refused_right : (ws : List (List ℕ)) (r : code_refusal.Refusal) (old new : List File) → WorkLeaves ws (Err (stop.Refused r)) old new
+    → IsRight ws (status_of_refusal (refusal_seen r)) (refusal_line (refusal_seen r)) old new
+refused_right ws r old new h = record {
   answer = answer_of (Err (refusal_seen r));
   right = (Err (refusal_seen r), h.0, refl);
   status = refl;
   report = refl;
-  left = h.1;
+  files = h.1;
 }
 
--- the work left this, where the shelf tells
-abbrev Left : List (List ℕ) → Option (List File) → Option (List File) → Option (List ℕ) → Result code_done.Done code_stop.Stop → Type 0
-Left ws old new named end = (files : List File) → old ≡ Some files → (after : List File) × (new ≡ Some after) × WorkLeaves ws files after named end
+-- an answer, and how it was told
+told_case : (ws : List (List ℕ)) (planned how : Status) (text : List ℕ) (shelf shelf' : ShelfTold) (sink sink' : SinkTold)
+    → HasAnswer ws planned text shelf shelf' → Tells text planned sink sink' how → Outcome ws shelf shelf' sink sink' how
+told_case ws planned _ text shelf shelf' sink sink' h (telling.told r) = answered planned text h r
+told_case ws planned _ text shelf shelf' sink sink' h (telling.fault cut e f l) = sink_fault planned text cut h e f l
+told_case ws planned _ text shelf shelf' sink sink' h (telling.want cut w l) = sink_want planned text cut h w l
+told_case ws planned _ text shelf shelf' sink sink' h (telling.no_memory l) =
+    no_memory h.faults (both_map (IsRight ws planned text) (LeavesUnfinished ws) shelf.files shelf'.files h.files (λ x y r. right_unfinished ws planned text x y r)) l
 
-planned_answers : {ws : List (List ℕ)} {files : List File} (after : List File) {text : List ℕ} {planned : Status} {before now : ℕ} {old new : Option (List ℕ)} (how : Status) (shelf : Option (List File))
-    → shelf ≡ Some after → Planned ws files after text planned → Tells text planned before now old new how → IsDecided how → Answers ws files shelf how
-planned_answers after how shelf e p t d =
-    record { answer = p.answer; right = p.right; status = decided_tells t d ∙ p.status; after = after; told = e; files = p.left }
+failed_case : (ws : List (List ℕ)) (how : Status) (shelf shelf' : ShelfTold) (sink sink' : SinkTold)
+    → Rises shelf.faults shelf'.faults → NamesFaultAt ws shelf.files shelf'.files shelf'.last → TellsStop shelf'.last stop.Failed sink sink' how → Outcome ws shelf shelf' sink sink' how
+failed_case ws how shelf shelf' sink sink' c n t =
+    subst (Outcome ws shelf shelf' sink sink') (sym t.0) (shelf_fault c n (subst (λ o. PutsLast (fault_line (unwrap_or o [])) sink sink') n.told t.1))
 
-pub answers : (ws : List (List ℕ)) (end : Result code_done.Done code_stop.Stop) (before now : ℕ) (old new : Option (List File)) (contents after : Option (List ℕ)) (named : Option (List ℕ)) (how : Status)
-    → Left ws old new named end → Tells (text_of_end named end) (status_of_end end) before now contents after how
-    → (files : List File) → old ≡ Some files → IsDecided how → Answers ws files new how
-answers ws (Ok done) before now old new contents after named how l t files e d =
-    let w = l files e in planned_answers w.0 how new w.1 (done_planned ws files w.0 named done w.2) t d
-answers ws (Err (stop.Refused r)) before now old new contents after named how l t files e d =
-    let w = l files e in planned_answers w.0 how new w.1 (refused_planned ws files w.0 named r w.2) t d
-answers ws (Err stop.Failed) before now old new contents after named how l t files e d = absurd (fault_undecided t d)
-answers ws (Err stop.NoMemory) before now old new contents after named how l t files e d = absurd (subst IsDecided (memory_undecided t) d)
+pub outcome : (ws : List (List ℕ)) (end : Result code_done.Done code_stop.Stop) (how : Status) (shelf shelf' : ShelfTold) (sink sink' : SinkTold)
+    → BothTell shelf.files shelf'.files (WorkLeaves ws end) → StopCause shelf.faults shelf'.faults end → IfFailed (NamesFaultAt ws shelf.files shelf'.files shelf'.last) end
+    → StopWords (command_of ws) (λ c done. done.task.vcd.now ≡ c.vcd) end → TellsEnd shelf'.last end sink sink' how → Outcome ws shelf shelf' sink sink' how
+outcome ws (Ok done) how shelf shelf' sink sink' l c n w t =
+    let planned = status_of_run (spent_seen done.spent) [] in
+    let text = report_lines (circuit_seen done.task.circuit) [] [] [] done.task.input.end (spent_seen done.spent) in
+    told_case ws planned how text shelf shelf' sink sink' (record {
+      decided = run_decided (spent_seen done.spent);
+      words = run_fits (command_of ws) (λ c done. done.task.vcd.now ≡ c.vcd) done (spent_seen done.spent) text w;
+      faults = c;
+      files = both_map (WorkLeaves ws (Ok done)) (IsRight ws planned text) shelf.files shelf'.files l (λ x y h. done_right ws done x y h);
+    }) t
+outcome ws (Err (stop.Refused r)) how shelf shelf' sink sink' l c n w t =
+    let planned = status_of_refusal (refusal_seen r) in
+    let text = refusal_line (refusal_seen r) in
+    told_case ws planned how text shelf shelf' sink sink' (record {
+      decided = refusal_decided (refusal_seen r);
+      words = refusal_fits (command_of ws) (λ c done. done.task.vcd.now ≡ c.vcd) r w;
+      faults = c;
+      files = both_map (WorkLeaves ws (Err (stop.Refused r))) (IsRight ws planned text) shelf.files shelf'.files l (λ x y h. refused_right ws r x y h);
+    }) t
+outcome ws (Err stop.Failed) how shelf shelf' sink sink' l c n w t = failed_case ws how shelf shelf' sink sink' c n t
+outcome ws (Err stop.NoMemory) how shelf shelf' sink sink' l c n w t = subst (Outcome ws shelf shelf' sink sink') (sym t.0) (no_memory c l t.1)
 
-pub exact : (ws : List (List ℕ)) (files : List File) (new : Option (List File)) (how : Status) → (IsDecided how → Answers ws files new how) → (answer : Answer) → IsAnswer ws files answer → IsStatusOf answer how
-exact ws files new how h answer right = elim (either how) [
-  | inl d ↦ inl (let a = h d in a.status ∙ ap (λ x. x.status) (answer_single ws files a.answer answer a.right right))
-  | inr f ↦ inr f
-]
+-- the name of the dump that a task makes is that of the words
+abbrev Names : Command → Result Task Refusal → Type 0
+Names c (Ok task) = task.vcd ≡ c.vcd
+Names c (Err r) = Unit {0}
 
-pub counted : (end : Result code_done.Done code_stop.Stop) (shelf_before shelf_now before now : ℕ) (contents after : Option (List ℕ)) (named : Option (List ℕ)) (how : Status)
-    → StopCause shelf_before shelf_now end → Tells (text_of_end named end) (status_of_end end) before now contents after how → IsDecided how → shelf_now ≡ shelf_before
-counted (Ok done) shelf_before shelf_now before now contents after named how c t d = c
-counted (Err (stop.Refused r)) shelf_before shelf_now before now contents after named how c t d = c
-counted (Err stop.Failed) shelf_before shelf_now before now contents after named how c t d = absurd (fault_undecided t d)
-counted (Err stop.NoMemory) shelf_before shelf_now before now contents after named how c t d = c
+abbrev NamesIn : Option Command → Result Task Refusal → Type 0
+NamesIn None (Ok task) = ⊥
+NamesIn None (Err r) = Unit {0}
+NamesIn (Some c) o = Names c o
 
--- a fault that is told at the end of a run is the sink's
-end_fault : (spent : Option (ℕ × Option ℕ)) {text : List ℕ} {before now : ℕ} {old new : Option (List ℕ)} {how : Status} → Tells text (status_of_run spent []) before now old new how → how ≡ status.Fault
-    → Rises before now × IsRunEnd (status_of_run spent [])
-end_fault None (telling.told p q) e = absurd (let k : status.Clean ≡ status.Fault = e in cc)
-end_fault None (telling.cut r a) e = (r, tt)
-end_fault None (telling.no_memory a) e = absurd (let k : status.NoMemory ≡ status.Fault = e in cc)
-end_fault (Some s) (telling.told p q) e = absurd (let k : status.Rounds ≡ status.Fault = e in cc)
-end_fault (Some s) (telling.cut r a) e = absurd (let k : status.Rounds ≡ status.Fault = e in cc)
-end_fault (Some s) (telling.no_memory a) e = absurd (let k : status.NoMemory ≡ status.Fault = e in cc)
+then_names : {A : Type 0} (first : Result A Refusal → Type 0) (next : A → Result Task Refusal → Type 0) (c : Command) → ((a : A) (p : Result Task Refusal) → next a p → Names c p)
+    → (p : Result Task Refusal) → Then first next p → Names c p
+then_names first next c f _ (stops r h) = tt
+then_names first next c f _ (goes_on a p h k) = f a p k
 
--- none is told of a refusal
-refusal_is_no_fault : (r : Refusal) → status_of_refusal r ≡ status.Fault → ⊥
-refusal_is_no_fault words e = cc
-refusal_is_no_fault (missing name) e = cc
-refusal_is_no_fault (netlist name) e = cc
-refusal_is_no_fault (stimulus name) e = cc
+words_names : (o : Option Command) (next : Command → Result Task Refusal → Type 0) → ((c : Command) (p : Result Task Refusal) → next c p → Names c p)
+    → (p : Result Task Refusal) → Then (WordsOutcome o) next p → NamesIn o p
+words_names None next f _ (stops r h) = tt
+words_names None next f _ (goes_on c p h k) = absurd (let e : ◌≡◌ {A = Result Command Refusal} (Ok c) (Err words) = h in cc)
+words_names (Some d) next f _ (stops r h) = tt
+words_names (Some d) next f _ (goes_on c p h k) = let e : c ≡ d = (let q : ◌≡◌ {A = Result Command Refusal} (Ok c) (Ok d) = h in cc) in subst (λ x. Names x p) e (f c p k)
 
-refusal_stays : (r : Refusal) → after_sink_fault (status_of_refusal r) ≡ status_of_refusal r
-refusal_stays words = refl
-refusal_stays (missing name) = refl
-refusal_stays (netlist name) = refl
-refusal_stays (stimulus name) = refl
-
-refusal_fault : (r : Refusal) {text : List ℕ} {before now : ℕ} {old new : Option (List ℕ)} {how : Status} → Tells text (status_of_refusal r) before now old new how → how ≡ status.Fault → ⊥
-refusal_fault r (telling.told p q) e = refusal_is_no_fault r e
-refusal_fault r (telling.cut p q) e = refusal_is_no_fault r (sym (refusal_stays r) ∙ e)
-refusal_fault r (telling.no_memory p) e = let k : status.NoMemory ≡ status.Fault = e in cc
-
--- where the run broke off in a call on another file than the one that it makes, the files are as before
-spared : (ws : List (List ℕ)) (files : List File) (new : Option (List File)) (after : List File) (named : Option (List ℕ)) (name : List ℕ) (answer : Answer)
-    → IsAnswer ws files answer → new ≡ Some after → named ≡ Some name → (IsMade answer.made name → ⊥)
-    → ((after ≡ files) ⊎ ((vcd : List ℕ) × (named ≡ Some vcd) × BrokeOffIn ws files after vcd)) → new ≡ Some files
-spared ws files new after named name answer right e n not_made (inl same) = e ∙ ap Some same
-spared ws files new after named name answer right e n not_made (inr (vcd, told, b)) =
-    let is : answer ≡ answer_of (Ok b.task) = answer_single ws files answer (answer_of (Ok b.task)) right (Ok b.task, b.outcome, refl) in
-    let same : vcd ≡ name = cc in
-    absurd (not_made (subst (λ a. IsMade a.made name) (sym is) (b.name ∙ same)))
-
-pub fault_cause : (ws : List (List ℕ)) (end : Result code_done.Done code_stop.Stop) (shelf_before shelf_now before now : ℕ) (old new : Option (List File)) (contents after : Option (List ℕ)) (named : Option (List ℕ)) (how : Status)
-    → Left ws old new named end → StopCause shelf_before shelf_now end → StopNames (names_in (command_of ws)) named end → Tells (text_of_end named end) (status_of_end end) before now contents after how
-    → how ≡ status.Fault → FaultCause ws old new named shelf_before shelf_now before now
-fault_cause ws (Ok done) shelf_before shelf_now before now old new contents after named how l c n t e =
-    let x = end_fault (spent_seen done.spent) t e in
-    by_sink c x.0 (λ files k.
-    (let w = l files k in
-    let p = done_planned ws files w.0 named done w.2 in
-    (p.answer, p.right, subst IsRunEnd p.status x.1, (w.0, w.1, p.left))))
-fault_cause ws (Err (stop.Refused r)) shelf_before shelf_now before now old new contents after named how l c n t e = absurd (refusal_fault (refusal_seen r) t e)
-fault_cause ws (Err stop.Failed) shelf_before shelf_now before now old new contents after named how l c n t e =
-    by_shelf n.name c n.told_is n.among (λ files answer k right not_made.
-    (let w = l files k in spared ws files new w.0 named n.name answer right w.1 n.told_is not_made w.2))
-fault_cause ws (Err stop.NoMemory) shelf_before shelf_now before now old new contents after named how l c n t e = absurd (let k : status.NoMemory ≡ status.Fault = sym (memory_undecided t) ∙ e in cc)
-
--- what a failing sink does to a status
-after_fault : (s : Status) → (IsRunEnd s × (after_sink_fault s ≡ status.Fault) × (second_line s ≡ report_fault_line)) ⊎ ((second_line s ≡ []) × (after_sink_fault s ≡ s))
-after_fault status.Clean = inl (tt, refl, refl)
-after_fault status.Violations = inl (tt, refl, refl)
-after_fault status.Usage = inr (refl, refl)
-after_fault status.Netlist = inr (refl, refl)
-after_fault status.Sdf = inr (refl, refl)
-after_fault status.Stimulus = inr (refl, refl)
-after_fault status.Fault = inr (refl, refl)
-after_fault status.Rounds = inr (refl, refl)
-after_fault status.NoMemory = inr (refl, refl)
-after_fault status.Missing = inr (refl, refl)
-
-no_line : (held text : List ℕ) (m : ℕ) → held ++ (text ++ take m []) ≡ held ++ text
-no_line held text m = ap (λ t. held ++ (text ++ t)) (take_nothing m) ∙ ap (λ t. held ++ t) (append-nil text)
-
-only_line : (held line : List ℕ) (n m : ℕ) → held ++ (take n [] ++ take m line) ≡ held ++ take m line
-only_line held line n m = ap (λ t. held ++ (t ++ take m line)) (take_nothing n)
-
-planned_reports : {ws : List (List ℕ)} {files after : List File} {text : List ℕ} {planned : Status} (named : Option (List ℕ)) (before now : ℕ) (old new : Option (List ℕ)) (held : List ℕ) (how : Status)
-    → Planned ws files after text planned → old ≡ Some held → Tells text planned before now old new how → Reports ws files named before now held new how
-planned_reports {ws} {files} named before now old new held _ p k (telling.told e a) =
-    subst (Reports ws files named before now held new) (sym p.status) (whole p.answer p.right e (a.each held k ∙ ap (λ t. Some (held ++ t)) p.report))
-planned_reports {ws} {files} {after} {text} {planned} named before now old new held _ p k (telling.cut r a) =
-    let f = a.each held k in
-    elim (after_fault planned) [
-      | inl (run, fault, line) ↦ subst (Reports ws files named before now held new) (sym fault)
-          (sink_fault p.answer f.0 f.1 p.right (subst IsRunEnd p.status run) r
-          (f.2 ∙ (ap (λ t. Some (held ++ (take f.0 t ++ take f.1 (second_line planned)))) p.report ∙ ap (λ l. Some (held ++ (take f.0 p.answer.report ++ take f.1 l))) line)))
-      | inr (line, stays) ↦ subst (Reports ws files named before now held new) (sym (stays ∙ p.status))
-          (cut p.answer f.0 p.right r
-          (f.2 ∙ (ap (λ t. Some (held ++ (take f.0 t ++ take f.1 (second_line planned)))) p.report
-          ∙ (ap (λ l. Some (held ++ (take f.0 p.answer.report ++ take f.1 l))) line ∙ ap Some (no_line held (take f.0 p.answer.report) f.1)))))
-    ]
-planned_reports named before now old new held _ p k (telling.no_memory a) =
-    let f = a.each held k in no_memory f.1 (f.2 ∙ ap Some (only_line held no_memory_line f.0 f.1))
-
-fault_reports : (ws : List (List ℕ)) (files : List File) (named : Option (List ℕ)) (before now : ℕ) (old new : Option (List ℕ)) (held name : List ℕ) (how : Status)
-    → named ≡ Some name → old ≡ Some held → Tells (fault_line (unwrap_or named [])) status.Fault before now old new how → Reports ws files named before now held new how
-fault_reports ws files named before now old new held name _ n k (telling.told e a) =
-    shelf_fault name n e (a.each held k ∙ ap (λ o. Some (held ++ fault_line (unwrap_or o []))) n)
-fault_reports ws files named before now old new held name _ n k (telling.cut r a) =
-    let f = a.each held k in
-    shelf_fault_cut name f.0 n r (f.2 ∙ (ap (λ o. Some (held ++ (take f.0 (fault_line (unwrap_or o [])) ++ take f.1 []))) n ∙ ap Some (no_line held (take f.0 (fault_line name)) f.1)))
-fault_reports ws files named before now old new held name _ n k (telling.no_memory a) =
-    let f = a.each held k in no_memory f.1 (f.2 ∙ ap Some (only_line held no_memory_line f.0 f.1))
-
-memory_reports : (ws : List (List ℕ)) (files : List File) (named : Option (List ℕ)) (before now : ℕ) (old new : Option (List ℕ)) (held : List ℕ) (how : Status)
-    → old ≡ Some held → Tells no_memory_line status.NoMemory before now old new how → Reports ws files named before now held new how
-memory_reports ws files named before now old new held _ k (telling.told e a) =
-    no_memory (length no_memory_line) (a.each held k ∙ ap (λ t. Some (held ++ t)) (sym (take_all (length no_memory_line) no_memory_line (omega arith))))
-memory_reports ws files named before now old new held _ k (telling.cut r a) =
-    let f = a.each held k in no_memory f.0 (f.2 ∙ ap Some (no_line held (take f.0 no_memory_line) f.1))
-memory_reports ws files named before now old new held _ k (telling.no_memory a) =
-    let f = a.each held k in no_memory f.1 (f.2 ∙ ap Some (only_line held no_memory_line f.0 f.1))
-
-pub reports : (ws : List (List ℕ)) (end : Result code_done.Done code_stop.Stop) (before now : ℕ) (old new : Option (List File)) (contents after : Option (List ℕ)) (named : Option (List ℕ)) (how : Status)
-    → Left ws old new named end → StopNames (names_in (command_of ws)) named end → Tells (text_of_end named end) (status_of_end end) before now contents after how
-    → (files : List File) (held : List ℕ) → old ≡ Some files → contents ≡ Some held → Reports ws files named before now held after how
-reports ws (Ok done) before now old new contents after named how l n t files held e k =
-    let w = l files e in planned_reports named before now contents after held how (done_planned ws files w.0 named done w.2) k t
-reports ws (Err (stop.Refused r)) before now old new contents after named how l n t files held e k =
-    let w = l files e in planned_reports named before now contents after held how (refused_planned ws files w.0 named r w.2) k t
-reports ws (Err stop.Failed) before now old new contents after named how l n t files held e k = fault_reports ws files named before now contents after held n.name how n.told_is k t
-reports ws (Err stop.NoMemory) before now old new contents after named how l n t files held e k = memory_reports ws files named before now contents after held how k t
+task_names : (ws : List (List ℕ)) (files : List File) (p : Result Task Refusal) → TaskOutcome ws files p → NamesIn (command_of ws) p
+task_names ws files =
+    words_names (command_of ws) _ (λ c.
+    then_names (CircuitOutcome c.netlist files) _ c (λ circuit.
+    then_names (InputOutcome c.stimulus files circuit) _ c (λ input p e. subst (Names c) (sym e) refl)))
 
 -- where nothing changed, every file but one stays
 keeps_same : (made : Option File) (files : List File) → KeepsBut made files files
 keeps_same None files = refl
 keeps_same (Some f) files = record { this = inl refl; others = λ q _. refl }
 
-keeps_whole : (f : File) (old new : List File) → HasAfter f.name f.bytes old new → KeepsBut (Some f) old new
-keeps_whole f old new h = record { this = inr (length f.bytes, h.this ∙ ap Some (sym (take_all (length f.bytes) f.bytes (omega arith)))); others = h.others }
+unfinished_by_answer : (ws : List (List ℕ)) (old new : List File) → LeavesUnfinished ws old new → KeepsByAnswer ws old new
+unfinished_by_answer ws old new (inl same) = λ answer right. subst (KeepsBut answer.made old) (sym same) (keeps_same answer.made old)
+unfinished_by_answer ws old new (inr (task, outcome, left)) = λ answer right.
+    subst (λ m. KeepsBut m old new) (one_made ws old (answer_of (Ok task)) answer (Ok task, outcome, refl) right) left
 
-kept_by : (ws : List (List ℕ)) (files after : List File) (named : Option (List ℕ)) (end : Result code_done.Done code_stop.Stop) → WorkLeaves ws files after named end
-    → (answer : Answer) → IsAnswer ws files answer → KeepsBut answer.made files after
-kept_by ws files after named (Ok done) h answer right =
-    let task : Task = task_seen done.task in
-    let is : answer ≡ answer_of (Ok task) = answer_single ws files answer (answer_of (Ok task)) right (Ok task, h.0, refl) in
-    subst (λ a. KeepsBut a.made files after) (sym is) (keeps_whole (record { name = task.vcd; bytes = dump_of task }) files after h.1)
-kept_by ws files after named (Err (stop.Refused r)) h answer right = subst (λ x. KeepsBut answer.made files x) (sym h.1) (keeps_same answer.made files)
-kept_by ws files after named (Err stop.Failed) (inl same) answer right = subst (λ x. KeepsBut answer.made files x) (sym same) (keeps_same answer.made files)
-kept_by ws files after named (Err stop.Failed) (inr (vcd, told, b)) answer right =
-    subst (λ a. KeepsBut a.made files after) (sym (answer_single ws files answer (answer_of (Ok b.task)) right (Ok b.task, b.outcome, refl))) b.left
-kept_by ws files after named (Err stop.NoMemory) (inl same) answer right = subst (λ x. KeepsBut answer.made files x) (sym same) (keeps_same answer.made files)
-kept_by ws files after named (Err stop.NoMemory) (inr (vcd, b)) answer right =
-    subst (λ a. KeepsBut a.made files after) (sym (answer_single ws files answer (answer_of (Ok b.task)) right (Ok b.task, b.outcome, refl))) b.left
+same_by_words : (o : Option Command) (old new : List File) → new ≡ old → KeepsByWords o old new
+same_by_words None old new e = e
+same_by_words (Some c) old new e = λ q n. ap (bytes_of q) e
 
-pub keeps : (ws : List (List ℕ)) (end : Result code_done.Done code_stop.Stop) (old new : Option (List File)) (named : Option (List ℕ)) → Left ws old new named end
-    → (files after : List File) → old ≡ Some files → new ≡ Some after → Keeps ws files after
-keeps ws end old new named l files after e k =
-    let w = l files e in
-    let same : w.0 ≡ after = let x = w.1 in cc in
-    record { files = subst (λ x. (answer : Answer) → IsAnswer ws files answer → KeepsBut answer.made files x) same (kept_by ws files w.0 named end w.2) }
+begun_by_words : (o : Option Command) (task : Task) (text : List ℕ) (old new : List File) → NamesIn o (Ok task) → LeavesPrefix task.vcd text old new → KeepsByWords o old new
+begun_by_words None task text old new n left = absurd n
+begun_by_words (Some c) task text old new n left = λ q other. left.others q (λ e. other (e ∙ n))
 
-no_cause : {ws : List (List ℕ)} {old new : Option (List File)} {named : Option (List ℕ)} {a b c d : ℕ} → (Rose a b → ⊥) → (Rose c d → ⊥) → FaultCause ws old new named a b c d → ⊥
-no_cause p q (by_shelf name r n k s) = p r.rose
-no_cause p q (by_sink e r s) = q r.rose
+unfinished_by_words : (ws : List (List ℕ)) (old new : List File) → LeavesUnfinished ws old new → KeepsByWords (command_of ws) old new
+unfinished_by_words ws old new (inl same) = same_by_words (command_of ws) old new same
+unfinished_by_words ws old new (inr (task, outcome, left)) = begun_by_words (command_of ws) task (dump_of task) old new (task_names ws old (Ok task) outcome) left
 
-decided_without_faults : (how : Status) → how ≢ status.NoMemory → (how ≡ status.Fault → ⊥) → IsDecided how
-decided_without_faults how m f = elim (either how) [
-  | inl d ↦ d
-  | inr (inl e) ↦ absurd (f e)
-  | inr (inr e) ↦ absurd (m e)
-]
+fault_unfinished : (ws : List (List ℕ)) (old new : List File) (name : List ℕ) → FaultAt ws old new name → LeavesUnfinished ws old new
+fault_unfinished ws old new _ (at_netlist c e same) = inl same
+fault_unfinished ws old new _ (at_stimulus c circuit e o same) = inl same
+fault_unfinished ws old new _ (at_dump task o left) = inr (task, o, left)
 
--- the report is that of any answer that is right, where the sink didn't fail
-calm_report : {ws : List (List ℕ)} {files : List File} {named : Option (List ℕ)} {before now : ℕ} {held : List ℕ} {after : Option (List ℕ)} {how : Status}
-    → (Rose before now → ⊥) → IsDecided how → Reports ws files named before now held after how → (answer : Answer) → IsAnswer ws files answer → after ≡ Some (held ++ answer.report)
-calm_report {ws} {files} {held = held} calm d (whole a right e k) answer r = k ∙ ap (λ x. Some (held ++ x.report)) (answer_single ws files a answer right r)
-calm_report calm d (cut a n right rises k) answer r = absurd (calm rises.rose)
-calm_report calm d (sink_fault a n m right run rises k) answer r = absurd d
-calm_report calm d (shelf_fault name n e k) answer r = absurd d
-calm_report calm d (shelf_fault_cut name m n rises k) answer r = absurd d
-calm_report calm d (no_memory m k) answer r = absurd d
+fits_usage : (o : Option Command) (how : Status) (text : List ℕ) → FitsWords o how text → IsUsage o how
+fits_usage None how text h = inl h.0
+fits_usage (Some c) how text h = h
 
-pub headline : {ws : List (List ℕ)} {files : List File} {held : List ℕ} {old new : Option (List File)} {named : Option (List ℕ)} {shelf_before shelf_now before now : ℕ} {after : Option (List ℕ)} (how : Status)
-    → (how ≡ status.Fault → FaultCause ws old new named shelf_before shelf_now before now) → (IsDecided how → Answers ws files new how) → Reports ws files named before now held after how
-    → how ≢ status.NoMemory → (Rose shelf_before shelf_now → ⊥) → (Rose before now → ⊥)
-    → (a : Answers ws files new how) × (after ≡ Some (held ++ a.answer.report))
-headline how f a r memory calm_shelf calm_sink =
-    let d = decided_without_faults how memory (λ e. no_cause calm_shelf calm_sink (f e)) in
-    (a d, calm_report calm_sink d r (a d).answer (a d).right)
+name_usage : (o : Option Command) (name : List ℕ) → Contains (names_in o) name → IsUsage o status.Fault
+name_usage None name (k, l, e) = absurd (omega arith)
+name_usage (Some c) name h = λ e. let k : status.Fault ≡ status.Usage = e in cc
+
+end_usage : (o : Option Command) (how : Status) (text : List ℕ) → FitsWords o how text → IsRunEnd how → IsUsage o status.Fault
+end_usage None how text h e = let k : false ≡ true = sym (ap is_run_end h.0) ∙ e in absurd (cc)
+end_usage (Some c) how text h e = λ k. let q : status.Fault ≡ status.Usage = k in cc
+
+want_usage : (o : Option Command) → IsUsage o status.NoMemory
+want_usage None = inr refl
+want_usage (Some c) = λ e. let k : status.NoMemory ≡ status.Usage = e in cc
+
+last_later : (text : List ℕ) (old new : SinkTold) → PutsLast text old new → old.faults ≤ new.faults
+last_later text old new (putting.whole p) = let e : new.faults ≡ old.faults = p.faults in omega arith
+last_later text old new (putting.till_fault p) = p.faults.later
+last_later text old new (putting.till_want p) = let e : new.faults ≡ old.faults = p.faults in omega arith
+
+no_run_end : (how : Status) → is_run_end how ≡ false → IsRunEnd how → ⊥
+no_run_end how f e = let k : false ≡ true = sym f ∙ e in cc
+
+rose_on : (a b c : ℕ) → Rises a b → b ≤ c → Rose a c
+rose_on a b c h l = let r : Rose a b = h.rose in omega arith
+
+-- What follows from the case.
+module _ (ws : List (List ℕ)) (shelf shelf' : ShelfTold) (sink sink' : SinkTold) where
+  unfinished : (how : Status) → Outcome ws shelf shelf' sink sink' how → BothTell shelf.files shelf'.files (LeavesUnfinished ws)
+  unfinished _ (answered how text h r) = both_map (IsRight ws how text) (LeavesUnfinished ws) shelf.files shelf'.files h.files (λ x y q. right_unfinished ws how text x y q)
+  unfinished _ (shelf_fault c f l) = both_map (λ x y. FaultAt ws x y f.name) (LeavesUnfinished ws) shelf.files shelf'.files f.place (λ x y q. fault_unfinished ws x y f.name q)
+  unfinished _ (sink_fault how text cut h e f l) = both_map (IsRight ws how text) (LeavesUnfinished ws) shelf.files shelf'.files h.files (λ x y q. right_unfinished ws how text x y q)
+  unfinished _ (no_memory c f l) = f
+  unfinished _ (sink_want how text cut h w l) = both_map (IsRight ws how text) (LeavesUnfinished ws) shelf.files shelf'.files h.files (λ x y q. right_unfinished ws how text x y q)
+
+  pub kept : (how : Status) → Outcome ws shelf shelf' sink sink' how → BothTell shelf.files shelf'.files (KeepsByAnswer ws)
+  kept how h = both_map (LeavesUnfinished ws) (KeepsByAnswer ws) shelf.files shelf'.files (unfinished how h) (λ x y u. unfinished_by_answer ws x y u)
+
+  pub others : (how : Status) → Outcome ws shelf shelf' sink sink' how → BothTell shelf.files shelf'.files (KeepsByWords (command_of ws))
+  others how h = both_map (LeavesUnfinished ws) (KeepsByWords (command_of ws)) shelf.files shelf'.files (unfinished how h) (λ x y u. unfinished_by_words ws x y u)
+
+  pub answer : (how : Status) → Outcome ws shelf shelf' sink sink' how → IsDecided how → (text : List ℕ) × BothTell shelf.files shelf'.files (IsRight ws how text)
+  answer _ (answered how text h r) d = (text, h.files)
+  answer _ (shelf_fault c f l) d = absurd d
+  answer _ (sink_fault how text cut h e f l) d = absurd d
+  answer _ (no_memory c f l) d = absurd d
+  answer _ (sink_want how text cut h w l) d = absurd d
+
+  pub exact : (how : Status) → Outcome ws shelf shelf' sink sink' how → (files : List File) (answer : Answer) → shelf.files ≡ Some files → IsAnswer ws files answer → IsStatusOf answer how
+  exact _ (answered how text h r) files answer k right =
+      let b = both_told (IsRight ws how text) shelf.files shelf'.files files h.files k in inl (b.2.status ∙ one_status ws files b.2.answer answer b.2.right right)
+  exact _ (shelf_fault c f l) files answer k right = inr (inl refl)
+  exact _ (sink_fault how text cut h e f l) files answer k right = inr (inl refl)
+  exact _ (no_memory c f l) files answer k right = inr (inr refl)
+  exact _ (sink_want how text cut h w l) files answer k right = inr (inr refl)
+
+  pub usage : (how : Status) → Outcome ws shelf shelf' sink sink' how → IsUsage (command_of ws) how
+  usage _ (answered how text h r) = fits_usage (command_of ws) how text h.words
+  usage _ (shelf_fault c f l) = name_usage (command_of ws) f.name f.among
+  usage _ (sink_fault how text cut h e f l) = end_usage (command_of ws) how text h.words e
+  usage _ (no_memory c f l) = want_usage (command_of ws)
+  usage _ (sink_want how text cut h w l) = want_usage (command_of ws)
+
+  pub counted : (how : Status) → Outcome ws shelf shelf' sink sink' how → how ≢ status.Fault → shelf'.faults ≡ shelf.faults
+  counted _ (answered how text h r) n = h.faults
+  counted _ (shelf_fault c f l) n = absurd (n refl)
+  counted _ (sink_fault how text cut h e f l) n = h.faults
+  counted _ (no_memory c f l) n = c
+  counted _ (sink_want how text cut h w l) n = h.faults
+
+  pub run_end : (how : Status) → Outcome ws shelf shelf' sink sink' how → IsRunEnd how → sink'.faults ≡ sink.faults
+  run_end _ (answered how text h (whole p)) e = p.faults
+  run_end _ (answered how text h (till_fault n p)) e = absurd (n e)
+  run_end _ (shelf_fault c f l) e = absurd (no_run_end status.Fault refl e)
+  run_end _ (sink_fault how text cut h k f l) e = absurd (no_run_end status.Fault refl e)
+  run_end _ (no_memory c f l) e = absurd (no_run_end status.NoMemory refl e)
+  run_end _ (sink_want how text cut h w l) e = absurd (no_run_end status.NoMemory refl e)
+
+  right_exact : (how : Status) (text : List ℕ) (files : List File) (held : List ℕ) → BothTell shelf.files shelf'.files (IsRight ws how text) → PutsAll text sink sink'
+      → shelf.files ≡ Some files → sink.contents ≡ Some held → IsExact ws how files held shelf'.files sink'.contents
+  right_exact how text files held h p e k =
+      let b = both_told (IsRight ws how text) shelf.files shelf'.files files h e in
+      let s = both_told (λ (x y : List ℕ). y ≡ x ++ text) sink.contents sink'.contents held p.contents k in
+      let put : s.0 ≡ held ++ text = s.2 in
+      record {
+        answer = b.2.answer;
+        right = b.2.right;
+        status = b.2.status;
+        after = b.0;
+        told = b.1;
+        made = b.2.files;
+        report = s.1 ∙ ap Some (put ∙ ap (λ t. held ++ t) b.2.report);
+      }
+
+  pub headline : (how : Status) → Outcome ws shelf shelf' sink sink' how → (files : List File) (held : List ℕ) → shelf.files ≡ Some files → sink.contents ≡ Some held
+      → how ≢ status.NoMemory → (Rose shelf.faults shelf'.faults → ⊥) → (Rose sink.faults sink'.faults → ⊥) → IsExact ws how files held shelf'.files sink'.contents
+  headline _ (answered how text h (whole p)) files held e k m a b = right_exact how text files held h.files p e k
+  headline _ (answered how text h (till_fault n p)) files held e k m a b = absurd (b p.faults.rose)
+  headline _ (shelf_fault c f l) files held e k m a b = absurd (a c.rose)
+  headline _ (sink_fault how text cut h r f l) files held e k m a b = absurd (b (rose_on sink.faults cut.faults sink'.faults f.faults (last_later _ cut sink' l)))
+  headline _ (no_memory c f l) files held e k m a b = absurd (m refl)
+  headline _ (sink_want how text cut h w l) files held e k m a b = absurd (m refl)

@@ -14,10 +14,11 @@ pub mod Answer
 pub mod VcdWords
 pub mod Writing
 pub mod Runs
+pub mod Putting
+pub mod Promises
 pub mod Stops
 pub mod Tasks
 pub mod Work
-pub mod Promises
 pub mod EngineSeen
 pub mod EngineTimes
 pub mod EngineRuns

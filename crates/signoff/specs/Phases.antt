@@ -68,12 +68,18 @@ pub record Task : Type 0 where
   pub input : Stimulus
   pub vcd : List ℕ
 
+-- the netlist of this name: its file is read, and then its text
+abbrev pub CircuitOutcome : List ℕ → List File → Result Circuit Refusal → Type 0
+CircuitOutcome name files = Then (FileOutcome name (bytes_of name files)) (NetlistOutcome name)
+
+-- the stimulus of this name
+abbrev pub InputOutcome : List ℕ → List File → Circuit → Result Stimulus Refusal → Type 0
+InputOutcome name files circuit = Then (FileOutcome name (bytes_of name files)) (λ text. StimulusOutcome name text circuit)
+
 -- all phases up to the run, over the words and the files that are held
 abbrev pub TaskOutcome : List (List ℕ) → List File → Result Task Refusal → Type 0
 TaskOutcome ws files =
     Then (WordsOutcome (command_of ws)) (λ command.
-    Then (FileOutcome command.netlist (bytes_of command.netlist files)) (λ netlist_text.
-    Then (NetlistOutcome command.netlist netlist_text) (λ circuit.
-    Then (FileOutcome command.stimulus (bytes_of command.stimulus files)) (λ stimulus_text.
-    Then (StimulusOutcome command.stimulus stimulus_text circuit) (λ input outcome.
-    outcome ≡ Ok (record { circuit = circuit; rounds = command.rounds; input = input; vcd = command.vcd }))))))
+    Then (CircuitOutcome command.netlist files) (λ circuit.
+    Then (InputOutcome command.stimulus files circuit) (λ input outcome.
+    outcome ≡ Ok (record { circuit = circuit; rounds = command.rounds; input = input; vcd = command.vcd }))))

@@ -1,7 +1,8 @@
 -- What the program's phases return, beside the outcomes that the definition has.
-use Rattle.std.specs.Prelude.{ℕ, ◌≡◌, List, Option, Some, Result, Ok, Err, Contains}
+use Rattle.std.specs.Prelude.{ℕ, ◌≡◌, Option, Some, None, Result, Ok, Err}
 use Rattle.sg_io.specs.Faults.{Rises}
 use Rattle.signoff.specs.Phases.{Refusal, words, missing, netlist, stimulus}
+use Rattle.signoff.specs.Words.{Command}
 use Rattle.signoff.specs.declared.stop.Stop as code_stop
 use Rattle.signoff.specs.declared.stop.Stop.TheVariants as stop
 use Rattle.signoff.specs.declared.stop.Refusal as code_refusal
@@ -38,14 +39,25 @@ NeverFails (Err (stop.Refused r)) = Unit {0}
 NeverFails (Err stop.Failed) = ⊥
 NeverFails (Err stop.NoMemory) = Unit {0}
 
--- after a failure the name told is one of some names
-pub record NamesOneOf (names : List (List ℕ)) (told : Option (List ℕ)) : Type 0 where
-  pub name : List ℕ
-  pub told_is : told ≡ Some name
-  pub among : Contains names name
+-- after a failure outside
+abbrev pub IfFailed : {X : Type 0} → Type 0 → Result X code_stop.Stop → Type 0
+IfFailed P (Ok x) = Unit {0}
+IfFailed P (Err (stop.Refused r)) = Unit {0}
+IfFailed P (Err stop.Failed) = P
+IfFailed P (Err stop.NoMemory) = Unit {0}
 
-abbrev pub StopNames : {X : Type 0} → List (List ℕ) → Option (List ℕ) → Result X code_stop.Stop → Type 0
-StopNames names told (Ok x) = Unit {0}
-StopNames names told (Err (stop.Refused r)) = Unit {0}
-StopNames names told (Err stop.Failed) = NamesOneOf names told
-StopNames names told (Err stop.NoMemory) = Unit {0}
+-- the words aren't refused
+abbrev pub SparesWords : code_stop.Stop → Type 0
+SparesWords (stop.Refused refusal.Words) = ⊥
+SparesWords (stop.Refused (refusal.Missing name)) = Unit {0}
+SparesWords (stop.Refused (refusal.Netlist name)) = Unit {0}
+SparesWords (stop.Refused (refusal.Stimulus name)) = Unit {0}
+SparesWords stop.Failed = Unit {0}
+SparesWords stop.NoMemory = Unit {0}
+
+-- the words alone say whether they are refused; of a value that comes they say P
+abbrev pub StopWords : {X : Type 0} → Option Command → (Command → X → Type 0) → Result X code_stop.Stop → Type 0
+StopWords None P (Ok x) = ⊥
+StopWords None P (Err s) = s ≡ stop.Refused refusal.Words
+StopWords (Some c) P (Ok x) = P c x
+StopWords (Some c) P (Err s) = SparesWords s

@@ -1,11 +1,12 @@
 // The phases up to the run, one call for each.
-ghost use Rattle.std.specs.Prelude.{◌≡◌, ◌∷◌, [], List, Some, Contains, IfOk, map, string_bytes};
+ghost use Rattle.std.specs.Prelude.{◌≡◌, List, Some, IfErr, map, string_bytes};
 ghost use Rattle.sg_io.specs.Files.{File, bytes_of};
-ghost use Rattle.signoff.specs.Stops.{Gives, NeverFails, StopCause, StopNames};
-ghost use Rattle.signoff.specs.Phases.{FileOutcome, NetlistOutcome, StimulusOutcome, TaskOutcome, WordsOutcome};
-ghost use Rattle.signoff.specs.Tasks.{task_seen};
+ghost use Rattle.signoff.specs.Phases.{CircuitOutcome, FileOutcome, InputOutcome, NetlistOutcome, StimulusOutcome, TaskOutcome, WordsOutcome};
+ghost use Rattle.signoff.specs.Promises.{NamesFaultAt};
 ghost use Rattle.signoff.specs.Seen.{circuit_seen, stimulus_seen};
-ghost use Rattle.signoff.specs.Words.{command_of, command_seen, names_in};
+ghost use Rattle.signoff.specs.Stops.{Gives, IfFailed, NeverFails, SparesWords, StopCause, StopWords};
+ghost use Rattle.signoff.specs.Tasks.{task_seen};
+ghost use Rattle.signoff.specs.Words.{command_of, command_seen};
 
 use crate::circuits::{Circuit, Stimulus};
 use crate::forms::FormError;
@@ -30,7 +31,7 @@ const READ_LIMIT: u64 = (1 << 28) + 1;
 fn words_phase(words: &[String]) -> Result<Command<'_>, Stop<'_>>
     ensures gives { Gives (λ c. command_seen c) (WordsOutcome (command_of (map (λ w. string_bytes w) words.now))) result }
     ensures works { NeverFails result }
-    ensures command { IfOk result (λ c. command_of (map (λ w. string_bytes w) words.now) ≡ Some (command_seen c)) }
+    ensures words { StopWords (command_of (map (λ w. string_bytes w) words.now)) (λ c x. c ≡ command_seen x) result }
 {
     match read_words(words) {
         Some(command) => Ok(command),
@@ -47,7 +48,8 @@ fn file_phase<'a, S: Shelf>(
         → Gives (λ v. v.items) (FileOutcome name.now (bytes_of name.now files)) result }
     ensures held { S.files shelf.new ≡ S.files shelf.old }
     ensures cause { StopCause (S.fault_count shelf.old) (S.fault_count shelf.new) result }
-    ensures named { StopNames (name.now ∷ []) (S.last_fault shelf.new) result }
+    ensures named { IfFailed (S.last_fault shelf.new ≡ Some name.now) result }
+    ensures words { IfErr result (λ s. SparesWords s) }
 {
     match shelf.read(alloc, name, READ_LIMIT) {
         Ok(bytes) => Ok(bytes),
@@ -60,6 +62,7 @@ fn file_phase<'a, S: Shelf>(
 fn netlist_phase<'a>(alloc: Global, name: &'a str, text: &[u8]) -> Result<Circuit, Stop<'a>>
     ensures gives { Gives (λ c. circuit_seen c) (NetlistOutcome name.now text.now) result }
     ensures works { NeverFails result }
+    ensures words { IfErr result (λ s. SparesWords s) }
 {
     match read_netlist(alloc, text) {
         Ok(circuit) => Ok(circuit),
@@ -76,6 +79,7 @@ fn stimulus_phase<'a>(
 ) -> Result<Stimulus, Stop<'a>>
     ensures gives { Gives (λ s. stimulus_seen s) (StimulusOutcome name.now text.now (circuit_seen circuit.now)) result }
     ensures works { NeverFails result }
+    ensures words { IfErr result (λ s. SparesWords s) }
 {
     match read_stimulus(alloc, text, circuit) {
         Ok(stimulus) => Ok(stimulus),
@@ -84,7 +88,41 @@ fn stimulus_phase<'a>(
     }
 }
 
-/// All phases up to the run: the words, the netlist's file and its text, the stimulus's file and its text.
+// The netlist's file and its text.
+fn circuit_of<'a, S: Shelf>(
+    alloc: Global,
+    shelf: &mut S,
+    name: &'a str,
+) -> Result<Circuit, Stop<'a>>
+    ensures gives { (files : List File) → S.files shelf.old ≡ Some files → Gives (λ c. circuit_seen c) (CircuitOutcome name.now files) result }
+    ensures held { S.files shelf.new ≡ S.files shelf.old }
+    ensures cause { StopCause (S.fault_count shelf.old) (S.fault_count shelf.new) result }
+    ensures named { IfFailed (S.last_fault shelf.new ≡ Some name.now) result }
+    ensures words { IfErr result (λ s. SparesWords s) }
+{
+    let text = file_phase(alloc, shelf, name)?;
+    netlist_phase(alloc, name, &text)
+}
+
+// The stimulus's file and its text.
+fn input_of<'a, S: Shelf>(
+    alloc: Global,
+    shelf: &mut S,
+    name: &'a str,
+    circuit: &Circuit,
+) -> Result<Stimulus, Stop<'a>>
+    ensures gives { (files : List File) → S.files shelf.old ≡ Some files
+        → Gives (λ s. stimulus_seen s) (InputOutcome name.now files (circuit_seen circuit.now)) result }
+    ensures held { S.files shelf.new ≡ S.files shelf.old }
+    ensures cause { StopCause (S.fault_count shelf.old) (S.fault_count shelf.new) result }
+    ensures named { IfFailed (S.last_fault shelf.new ≡ Some name.now) result }
+    ensures words { IfErr result (λ s. SparesWords s) }
+{
+    let text = file_phase(alloc, shelf, name)?;
+    stimulus_phase(alloc, name, &text, circuit)
+}
+
+/// All phases up to the run: the words, the netlist, the stimulus.
 pub fn task_of<'a, S: Shelf>(
     alloc: Global,
     words: &'a [String],
@@ -94,14 +132,12 @@ pub fn task_of<'a, S: Shelf>(
         → Gives (λ t. task_seen t) (TaskOutcome (map (λ w. string_bytes w) words.now) files) result }
     ensures held { S.files shelf.new ≡ S.files shelf.old }
     ensures cause { StopCause (S.fault_count shelf.old) (S.fault_count shelf.new) result }
-    ensures named { StopNames (names_in (command_of (map (λ w. string_bytes w) words.now))) (S.last_fault shelf.new) result }
-    ensures vcd { IfOk result (λ t. Contains (names_in (command_of (map (λ w. string_bytes w) words.now))) t.vcd.now) }
+    ensures named { IfFailed (NamesFaultAt (map (λ w. string_bytes w) words.now) (S.files shelf.old) (S.files shelf.new) (S.last_fault shelf.new)) result }
+    ensures words { StopWords (command_of (map (λ w. string_bytes w) words.now)) (λ c t. t.vcd.now ≡ c.vcd) result }
 {
     let command = words_phase(words)?;
-    let netlist_text = file_phase(alloc, shelf, command.netlist)?;
-    let circuit = netlist_phase(alloc, command.netlist, &netlist_text)?;
-    let stimulus_text = file_phase(alloc, shelf, command.stimulus)?;
-    let input = stimulus_phase(alloc, command.stimulus, &stimulus_text, &circuit)?;
+    let circuit = circuit_of(alloc, shelf, command.netlist)?;
+    let input = input_of(alloc, shelf, command.stimulus, &circuit)?;
     Ok(Task {
         circuit,
         input,

@@ -1,13 +1,14 @@
 // The report.
-ghost use Rattle.std.specs.Prelude.{◌≡◌, ◌≤◌, ◌++◌, [], ℕ, List, Some, IfOk, IfErr, OnOk, codes, decimal};
+ghost use Rattle.std.specs.Prelude.{◌≡◌, ◌++◌, [], ℕ, List, Some, IfOk, IfErr, OnOk, codes, decimal};
 ghost use Rattle.std.specs.Option.{option_copied};
 ghost use Rattle.circuit_model.specs.Texts.{line};
 ghost use Rattle.circuit_model.specs.Report.{named_net, report_lines, summary};
-ghost use Rattle.signoff.specs.Answer.{no_memory_line, status_of_run as end_status};
+ghost use Rattle.signoff.specs.Answer.{fault_line, no_memory_line, status_of_run as end_status};
 ghost use Rattle.signoff.specs.Phases.{refusal_line, status_of_refusal};
+ghost use Rattle.signoff.specs.Putting.{PutsBy, PutsLast};
 ghost use Rattle.signoff.specs.Seen.{circuit_seen, spent_seen};
 ghost use Rattle.signoff.specs.Stops.{refusal_seen};
-ghost use Rattle.signoff.specs.Work.{AddsFirst, Tells, after_sink_fault, second_line, status_of_end, status_of_stop, text_of_end, text_of_stop};
+ghost use Rattle.signoff.specs.Work.{Tells, TellsEnd, TellsStop};
 
 use crate::circuits::{Circuit, Spent};
 use crate::status::Status;
@@ -111,47 +112,51 @@ fn run_text(alloc: Global, done: &Done<'_>) -> Result<Vec<u8>, AllocError>
     }
 }
 
-fn out_of_memory<K: Sink>(report: &mut K) -> Status
+// In pieces, so that no memory is taken.
+fn put_line<K: Sink>(report: &mut K, before: &[u8], name: &[u8]) -> Result<(), ShelfError>
+    ensures { PutsBy (line (before.now ++ name.now)) (K.told report.old) (K.told report.new) result }
+{
+    report.put(before)?;
+    report.put(name)?;
+    report.put(b"\n")
+}
+
+fn tell_fault<K: Sink>(report: &mut K, name: &str) -> Status
+    ensures status { result ≡ Status.Fault }
+    ensures put { PutsLast (fault_line name.now) (K.told report.old) (K.told report.new) }
+{
+    let _ = put_line(report, b"fault: ", name.as_bytes());
+    Status::Fault
+}
+
+fn tell_no_memory<K: Sink>(report: &mut K) -> Status
     ensures status { result ≡ Status.NoMemory }
-    ensures put { AddsFirst [] no_memory_line (K.contents report.old) (K.contents report.new) }
+    ensures put { PutsLast no_memory_line (K.told report.old) (K.told report.new) }
 {
     let _ = report.put(b"no memory\n");
     Status::NoMemory
 }
 
 // A failing sink turns the end of a run into a fault, which it is told too, and leaves every other status.
-fn after_fault<K: Sink>(report: &mut K, planned: Status) -> Status
-    ensures status { result ≡ after_sink_fault planned }
-    ensures put { AddsFirst [] (second_line planned) (K.contents report.old) (K.contents report.new) }
-    ensures later { K.fault_count report.old ≤ K.fault_count report.new }
-{
-    match planned {
-        Status::Clean | Status::Violations => {
-            let _ = report.put(b"fault: report\n");
-            Status::Fault
-        }
-        _ => planned,
-    }
-}
-
 fn put_text<K: Sink>(report: &mut K, planned: Status, text: &[u8]) -> Status
-    ensures { Tells text.now planned (K.fault_count report.old) (K.fault_count report.new) (K.contents report.old) (K.contents report.new) result }
+    ensures { Tells text.now planned (K.told report.old) (K.told report.new) result }
 {
     match report.put(text) {
         Ok(()) => planned,
-        Err(ShelfError::Failed) => after_fault(report, planned),
-        Err(ShelfError::NoMemory) => out_of_memory(report),
+        Err(ShelfError::Failed) if planned.is_run_end() => tell_fault(report, "report"),
+        Err(ShelfError::Failed) => planned,
+        Err(ShelfError::NoMemory) => tell_no_memory(report),
     }
 }
 
 // Puts a text, if there was memory for it.
 fn put_made<K: Sink>(report: &mut K, planned: Status, made: Result<Vec<u8>, AllocError>) -> Status
-    ensures ok { IfOk made (λ v. Tells v.items planned (K.fault_count report.old) (K.fault_count report.new) (K.contents report.old) (K.contents report.new) result) }
-    ensures err { IfErr made (λ _. (text : List ℕ) → Tells text planned (K.fault_count report.old) (K.fault_count report.new) (K.contents report.old) (K.contents report.new) result) }
+    ensures ok { IfOk made (λ v. Tells v.items planned (K.told report.old) (K.told report.new) result) }
+    ensures err { IfErr made (λ _. (text : List ℕ) → Tells text planned (K.told report.old) (K.told report.new) result) }
 {
     match made {
         Ok(text) => put_text(report, planned, &text),
-        Err(_) => out_of_memory(report),
+        Err(_) => tell_no_memory(report),
     }
 }
 
@@ -165,18 +170,14 @@ fn status_of_run(spent: Option<Spent>) -> Status
 }
 
 fn tell_stop<K: Sink>(alloc: Global, stop: Stop<'_>, failed: Option<&str>, report: &mut K) -> Status
-    ensures { Tells (text_of_stop (option_copied failed.entry) stop.entry) (status_of_stop stop.entry) (K.fault_count report.old) (K.fault_count report.new) (K.contents report.old) (K.contents report.new) result }
+    ensures { TellsStop (option_copied failed.entry) stop.entry (K.told report.old) (K.told report.new) result }
 {
     match stop {
         Stop::Refused(refusal) => {
             put_made(report, status_of(refusal), refusal_text(alloc, refusal))
         }
-        Stop::Failed => put_made(
-            report,
-            Status::Fault,
-            named_line(alloc, "fault: ", failed.unwrap_or(""), ""),
-        ),
-        Stop::NoMemory => out_of_memory(report),
+        Stop::Failed => tell_fault(report, failed.unwrap_or("")),
+        Stop::NoMemory => tell_no_memory(report),
     }
 }
 
@@ -188,7 +189,7 @@ pub fn tell<K: Sink>(
     failed: Option<&str>,
     report: &mut K,
 ) -> Status
-    ensures { Tells (text_of_end (option_copied failed.entry) end.now) (status_of_end end.now) (K.fault_count report.old) (K.fault_count report.new) (K.contents report.old) (K.contents report.new) result }
+    ensures { TellsEnd (option_copied failed.entry) end.now (K.told report.old) (K.told report.new) result }
 {
     match end {
         Ok(done) => put_made(report, status_of_run(done.spent), run_text(alloc, done)),

@@ -1,8 +1,9 @@
 // All that the program does with the shelf.
-ghost use Rattle.std.specs.Prelude.{◌≡◌, List, Some, map, string_bytes};
-ghost use Rattle.sg_io.specs.Files.{File};
-ghost use Rattle.signoff.specs.Stops.{StopCause, StopNames};
-ghost use Rattle.signoff.specs.Words.{command_of, names_in};
+ghost use Rattle.std.specs.Prelude.{◌≡◌, map, string_bytes};
+ghost use Rattle.sg_io.specs.Files.{BothTell};
+ghost use Rattle.signoff.specs.Promises.{NamesFaultAt};
+ghost use Rattle.signoff.specs.Stops.{IfFailed, StopCause, StopWords};
+ghost use Rattle.signoff.specs.Words.{command_of};
 ghost use Rattle.signoff.specs.Work.{WorkLeaves};
 
 use crate::circuits::Spent;
@@ -28,10 +29,10 @@ pub fn work<'a, S: Shelf>(
     words: &'a [String],
     shelf: &mut S,
 ) -> Result<Done<'a>, Stop<'a>>
-    ensures left { (files : List File) → S.files shelf.old ≡ Some files
-        → (after : List File) × (S.files shelf.new ≡ Some after) × WorkLeaves (map (λ w. string_bytes w) words.now) files after (S.last_fault shelf.new) result }
+    ensures left { BothTell (S.files shelf.old) (S.files shelf.new) (WorkLeaves (map (λ w. string_bytes w) words.now) result) }
     ensures cause { StopCause (S.fault_count shelf.old) (S.fault_count shelf.new) result }
-    ensures named { StopNames (names_in (command_of (map (λ w. string_bytes w) words.now))) (S.last_fault shelf.new) result }
+    ensures named { IfFailed (NamesFaultAt (map (λ w. string_bytes w) words.now) (S.files shelf.old) (S.files shelf.new) (S.last_fault shelf.new)) result }
+    ensures words { StopWords (command_of (map (λ w. string_bytes w) words.now)) (λ c done. done.task.vcd.now ≡ c.vcd) result }
 {
     let task = task_of(alloc, words, shelf)?;
     match run_and_dump(alloc, &task.circuit, &task.input, ROUNDS, task.vcd, shelf) {

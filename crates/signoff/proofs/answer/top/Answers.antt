@@ -1,31 +1,35 @@
 use Rattle.std.proofs.Common.{subst}
-use Rattle.signoff.specs.Work.{Tells, text_of_end, status_of_end}
-use Rattle.signoff.proofs.Promised.{answers, exact, counted, fault_cause, reports, keeps, headline}
+use Rattle.signoff.specs.Promises.{Outcome}
+use Rattle.signoff.specs.Work.{TellsEnd}
+use Rattle.signoff.proofs.Promised.{outcome, headline, answer, exact, usage, kept, others, counted, run_end}
 use Rattle.signoff.proofs.answer.top.Given as given
 use Rattle.signoff.proofs.answer.top.Goals as goal
 
--- what was told, where the name of the last fault is that of the shelf
-told : (g : given.Over) (c : goal.Joined-end g) → Tells (text_of_end (g.S.Shelf.last_fault c.work-end.new.shelf) c.work-end.result) (status_of_end c.work-end.result) (g.K.Sink.fault_count c.args.report.now) (g.K.Sink.fault_count c.tell.new.report) (g.K.Sink.contents c.args.report.now) (g.K.Sink.contents c.tell.new.report) c.tell.result
-told g c = subst (λ n. Tells (text_of_end n c.work-end.result) (status_of_end c.work-end.result) (g.K.Sink.fault_count c.args.report.now) (g.K.Sink.fault_count c.tell.new.report) (g.K.Sink.contents c.args.report.now) (g.K.Sink.contents c.tell.new.report) c.tell.result) c.failed.ensures.last c.tell.ensures
-
-pub returns-clause-answer : goal.returns-clause-answer
-returns-clause-answer g c = answers _ c.work-end.result _ _ _ _ _ _ _ _ c.work-end.ensures.left (told g c)
-
-pub returns-clause-exact : goal.returns-clause-exact
-returns-clause-exact g c = λ files answer e right. exact _ files _ _ (λ d. returns-clause-answer g c files e d) answer right
-
-pub returns-clause-counted : goal.returns-clause-counted
-returns-clause-counted g c = counted c.work-end.result _ _ _ _ _ _ (g.S.Shelf.last_fault c.work-end.new.shelf) _ c.work-end.ensures.cause (told g c)
-
-pub returns-clause-fault : goal.returns-clause-fault
-returns-clause-fault g c = fault_cause _ c.work-end.result _ _ _ _ _ _ _ _ _ _ c.work-end.ensures.left c.work-end.ensures.cause c.work-end.ensures.named (told g c)
-
-pub returns-clause-kept : goal.returns-clause-kept
-returns-clause-kept g c = keeps _ c.work-end.result _ _ _ c.work-end.ensures.left
-
-pub returns-clause-put : goal.returns-clause-put
-returns-clause-put g c = reports _ c.work-end.result _ _ _ _ _ _ _ _ c.work-end.ensures.left c.work-end.ensures.named (told g c)
+pub returns-clause-outcome : goal.returns-clause-outcome
+returns-clause-outcome g c =
+    outcome _ c.work-end.result c.tell.result _ _ _ _ c.work-end.ensures.left c.work-end.ensures.cause c.work-end.ensures.named c.work-end.ensures.words
+    (subst (λ n. TellsEnd n c.work-end.result (g.K.Sink.told c.args.report.now) (g.K.Sink.told c.tell.new.report) c.tell.result) c.failed.ensures.last c.tell.ensures)
 
 pub returns-clause-headline : goal.returns-clause-headline
-returns-clause-headline g c = λ files held e k memory shelf sink.
-    headline c.tell.result (returns-clause-fault g c) (returns-clause-answer g c files e) (returns-clause-put g c files held e k) memory shelf sink
+returns-clause-headline g c = headline _ _ _ _ _ _ (returns-clause-outcome g c)
+
+pub returns-clause-answer : goal.returns-clause-answer
+returns-clause-answer g c = answer _ _ _ _ _ _ (returns-clause-outcome g c)
+
+pub returns-clause-exact : goal.returns-clause-exact
+returns-clause-exact g c = exact _ _ _ _ _ _ (returns-clause-outcome g c)
+
+pub returns-clause-usage : goal.returns-clause-usage
+returns-clause-usage g c = usage _ _ _ _ _ _ (returns-clause-outcome g c)
+
+pub returns-clause-kept : goal.returns-clause-kept
+returns-clause-kept g c = kept _ _ _ _ _ _ (returns-clause-outcome g c)
+
+pub returns-clause-others : goal.returns-clause-others
+returns-clause-others g c = others _ _ _ _ _ _ (returns-clause-outcome g c)
+
+pub returns-clause-counted : goal.returns-clause-counted
+returns-clause-counted g c = counted _ _ _ _ _ _ (returns-clause-outcome g c)
+
+pub returns-clause-run_end : goal.returns-clause-run_end
+returns-clause-run_end g c = run_end _ _ _ _ _ _ (returns-clause-outcome g c)

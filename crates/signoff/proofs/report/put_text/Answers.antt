@@ -1,17 +1,22 @@
-use Rattle.signoff.specs.Work.{told, cut, no_memory}
-use Rattle.signoff.proofs.Told.{put_whole, put_cut, put_nothing, rises_on}
+use Rattle.std.proofs.Common.{sym, ◌∙◌}
+use Rattle.signoff.proofs.Telling.{tells_all, tells_fault, tells_cut, tells_want}
 use Rattle.signoff.proofs.report.put_text.Goals as goal
 
 pub returns-in-Ok : goal.returns-in-Ok
-returns-in-Ok g c = told c.in-Ok.ensures.cause (put_whole _ _ _ _ c.in-Ok.ensures.contents)
+returns-in-Ok g c = tells_all c.args.text.now c.args.planned (g.K.Sink.told c.args.report.now) (g.K.Sink.told c.put.new.self) c.in-Ok.field-0 c.in-Ok.ensures
 
 pub returns-in-Err-Failed : goal.returns-in-Err-Failed
 returns-in-Err-Failed g c =
-    rw c.after_fault.ensures.status (cut
-    (rises_on _ _ _ (rw c.in-Err-Failed.field-0-is at c.in-Err-Failed.ensures.cause) c.after_fault.ensures.later)
-    (put_cut _ _ _ _ _ (rw c.in-Err-Failed.field-0-is at c.in-Err-Failed.ensures.contents) c.after_fault.ensures.put))
+    rw c.tell_fault.ensures.status
+    (tells_fault c.args.text.now c.args.planned (g.K.Sink.told c.args.report.now) (g.K.Sink.told c.put.new.self) (g.K.Sink.told c.tell_fault.new.report)
+    (sym c.is_run_end.ensures ∙ c.if-is_run_end.true) (rw c.in-Err-Failed.field-0-is at c.in-Err-Failed.ensures) c.tell_fault.ensures.put)
+
+pub returns-in-Err-Failed-2 : goal.returns-in-Err-Failed-2
+returns-in-Err-Failed-2 g c =
+    tells_cut c.args.text.now c.args.planned (g.K.Sink.told c.args.report.now) (g.K.Sink.told c.put.new.self) (sym c.is_run_end.ensures ∙ c.if-is_run_end.false) (rw c.in-Err-Failed.field-0-is at c.in-Err-Failed.ensures)
 
 pub returns-in-Err-NoMemory : goal.returns-in-Err-NoMemory
 returns-in-Err-NoMemory g c =
-    rw c.out_of_memory.ensures.status (no_memory
-    (put_nothing c.args.text.now _ _ _ _ (rw c.in-Err-NoMemory.field-0-is at c.in-Err-NoMemory.ensures.contents) c.out_of_memory.ensures.put))
+    rw c.tell_no_memory.ensures.status
+    (tells_want c.args.text.now c.args.planned (g.K.Sink.told c.args.report.now) (g.K.Sink.told c.put.new.self) (g.K.Sink.told c.tell_no_memory.new.report)
+    (rw c.in-Err-NoMemory.field-0-is at c.in-Err-NoMemory.ensures) c.tell_no_memory.ensures.put)

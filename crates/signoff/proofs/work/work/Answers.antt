@@ -1,15 +1,11 @@
-use Rattle.std.proofs.Common.{◌∙◌, inr}
-use Rattle.signoff.proofs.Worked.{broke_off}
-use Rattle.signoff.specs.Tasks.{task_seen}
+use Rattle.std.specs.Prelude.{map, string_bytes}
+use Rattle.signoff.proofs.Worked.{want_leaves, failed_at_dump}
 use Rattle.signoff.proofs.work.work.Goals as goal
 
-pub returns-in-Err-Failed-clause-left : goal.returns-in-Err-Failed-clause-left
-returns-in-Err-Failed-clause-left g c = λ files e.
+pub returns-in-Err-Failed-clause-named : goal.returns-in-Err-Failed-clause-named
+returns-in-Err-Failed-clause-named g c =
     let named = rw c.in-Err-Failed.field-0-is at c.in-Err-Failed.ensures.named in
-    let b = broke_off _ (task_seen c.in_ok-task.task) files _ _ (c.in_ok-task.ensures.gives files e).outcome (c.in_ok-task.ensures.held ∙ e) c.in-Err-Failed.ensures.file in
-    (b.0, b.1, inr (_, named, b.2))
+    failed_at_dump _ c.in_ok-task.task _ _ _ _ c.in_ok-task.ensures.gives c.in_ok-task.ensures.held c.in-Err-Failed.ensures.file c.in_ok-task.ensures.words named
 
 pub returns-clause-left : goal.returns-clause-left
-returns-clause-left g c = λ files e.
-    let b = broke_off _ (task_seen c.in_ok-task.task) files _ _ (c.in_ok-task.ensures.gives files e).outcome (c.in_ok-task.ensures.held ∙ e) c.in-Err-NoMemory.ensures.file in
-    (b.0, b.1, inr (_, b.2))
+returns-clause-left g c = want_leaves (map (λ w. string_bytes w) c.args.words.now) c.in_ok-task.task _ _ _ c.in_ok-task.ensures.gives c.in_ok-task.ensures.held c.in-Err-NoMemory.ensures.file
