@@ -1,0 +1,14 @@
+//! The circuit that is simulated: nets, and the elements that drive them, in scopes.
+#![tactic(auto)]
+
+mod checks;
+mod circuits;
+mod elements;
+mod nets;
+mod scopes;
+
+pub use checks::{Check, CheckKind, Terminal};
+pub use circuits::{Circuit, Parts};
+pub use elements::{Element, ElementKind, LegTiming};
+pub use nets::{Driver, Net, NetId};
+pub use scopes::{Port, Range, Scope, Variable};
