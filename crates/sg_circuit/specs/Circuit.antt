@@ -1,5 +1,5 @@
 -- A circuit: nets, and the elements that drive them, in scopes. Each is known by its number, its place in its list.
-use Rattle.std.specs.Prelude.{ℕ, ℤ, pos, List, [], Bool, false, Option, Some, None, slice_index_or}
+use Rattle.std.specs.Prelude.{ℕ, ℤ, pos, List, [], Bool, false, Option, None, slice_index_or}
 use Rattle.sg_logic.specs.declared.values.Value.{Value}
 use Rattle.sg_logic.specs.declared.gates.GateKind.{GateKind}
 use Rattle.sg_circuit.specs.declared.nets.Net.{Net}

@@ -1,13 +1,12 @@
 -- What is so of every circuit: its parts fit together.
-use Rattle.std.specs.Prelude.{◌≡◌, ◌↔◌, ℕ, ◌+◌, ◌<◌, ◌≤◌, ◌^◌, ◌-ℤ◌, nat_abs, All, List, length, Option, Some, None, IfSome, IsSome}
+use Rattle.std.specs.Prelude.{◌≡◌, ◌↔◌, ℕ, ◌+◌, ◌<◌, ◌≤◌, ◌^◌, ◌-ℤ◌, nat_abs, All, length, Option, Some, None, IfSome, IsSome}
 use Rattle.sg_logic.specs.Gate.{TakesInputs as GateTakes}
 use Rattle.sg_circuit.specs.declared.nets.Driver.{Driver}
 use Rattle.sg_circuit.specs.declared.nets.Driver.TheVariants as driver
 use Rattle.sg_circuit.specs.declared.scopes.Range.{Range}
 use Rattle.sg_circuit.specs.declared.checks.CheckKind.{CheckKind}
-use Rattle.sg_circuit.specs.declared.checks.CheckKind.TheVariants.{Setup, Hold, Recovery, Removal, Skew, Setuphold, Recrem, Width, Period}
-use Rattle.sg_circuit.specs.declared.checks.Check.{Check}
-use Rattle.sg_circuit.specs.Circuit.{Circuit, Timing, Kind, Gate, Pass, Leg, Variable, net_at, element_at, scope_at}
+use Rattle.sg_circuit.specs.declared.checks.CheckKind.TheVariants.{Width, Period}
+use Rattle.sg_circuit.specs.Circuit.{Circuit, Timing, Kind, Gate, Pass, Leg, net_at, element_at, scope_at}
 
 -- so many inputs an element of a kind has (IEEE 1364-2005, 6.1, 7.2, 7.3)
 abbrev pub TakesInputs : Kind → ℕ → Type 0
