@@ -1,0 +1,18 @@
+//! The simulation of a circuit, round by round, time by time, in work that is in proportion to what changes.
+#![tactic(auto)]
+
+mod building;
+mod evaluation;
+mod fan_out;
+mod lists;
+mod nets;
+mod rounds;
+mod types;
+mod work;
+
+pub use evaluation::{Elements, evaluate_all};
+pub use fan_out::FanOut;
+pub use nets::{Nets, Stamp};
+pub use rounds::{first_round, round};
+pub use types::Set;
+pub use work::{WorkList, clear_work, list_work};
