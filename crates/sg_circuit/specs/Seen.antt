@@ -1,5 +1,5 @@
 -- What the code's circuit stands for: its parts as lists, and each element with the delays that it names.
-use Rattle.std.specs.Prelude.{ℕ, ◌<◌, All, List, [], ◌∷◌, length, map, take, Option, Some, None, slice_index_or}
+use Rattle.std.specs.Prelude.{ℕ, ◌<◌, ◌≤◌, All, List, [], ◌∷◌, length, map, take, Option, Some, None, slice_index_or}
 use Rattle.sg_delay.specs.declared.gates.GateDelays.{GateDelays}
 use Rattle.sg_delay.specs.declared.limits.Limit.{Limit}
 use Rattle.sg_delay.specs.declared.limits.Limit.TheVariants.{Follow, Own}
@@ -72,5 +72,7 @@ IsIndexed parts (kind.Gate gate delays) = delays < length parts.gate_delays.item
 IsIndexed parts (kind.Pass constant) = Unit {0}
 IsIndexed parts (kind.Leg timing) = timing < length parts.leg_timings.items
 
+-- the tables have what is named, and no more delays of a gate than two
 pub record AreIndexed (parts : Parts) : Type 0 where
-  pub each : All (λ e. IsIndexed parts e.kind) parts.elements.items
+  pub named : All (λ e. IsIndexed parts e.kind) parts.elements.items
+  pub counts : All (λ d. d.count ≤ 2) parts.gate_delays.items

@@ -11,3 +11,6 @@ pub mod PinLaws
 pub mod PendingLaws
 pub mod EveryLaws
 pub mod MachineLaws
+pub mod TimingLaws
+pub mod DelayLaws
+pub mod ElementLaws

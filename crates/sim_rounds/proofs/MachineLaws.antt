@@ -15,7 +15,7 @@ use Rattle.sg_circuit.specs.declared.nets.Driver.TheVariants as driver
 use Rattle.sg_circuit.specs.Circuit.{Circuit, Element, Kind, Gate, Pass, Leg, element_at, net_at}
 use Rattle.sg_circuit.specs.Closed.{IsClosed}
 use Rattle.sim_rounds.specs.Rounds.{IsLater, time_of_rule}
-use Rattle.sim_rounds.specs.Simulated.{machine_of, values_at, value_of_kind, rule_of_kind, leg_rule, timing_between}
+use Rattle.sim_rounds.specs.Simulated.{machine_of, values_at, value_of_kind, rule_of_kind}
 
 pub lawful : (circuit : Circuit) → IsLawful (machine_of circuit)
 lawful circuit = record { quiet = λ now last values older. refl; unnamed = refl }
@@ -45,14 +45,10 @@ steady circuit = record {
 }
 
 -- no value is placed before now
-leg_later : (now delay : ℕ) (limits : Option (ℕ × ℕ)) → now ≤ time_of_rule (leg_rule now delay limits)
-leg_later now delay None = omega arith
-leg_later now delay (Some limits) = omega arith
-
 kind_later : (kind : Kind) (now : ℕ) (from to : Value) → now ≤ time_of_rule (rule_of_kind kind now from to)
 kind_later (Gate kind delays) now from to = omega arith
 kind_later (Pass constant) now from to = omega arith
-kind_later (Leg timings) now from to = leg_later now (timing_between timings from to).delay (timing_between timings from to).limits
+kind_later (Leg timings) now from to = omega arith
 
 pub later : (circuit : Circuit) → IsLater (machine_of circuit)
 later circuit = record { later = λ now e values stamps from to. kind_later (element_at circuit e).kind now from to }

@@ -8,3 +8,6 @@ pub mod States
 pub mod Pins
 pub mod Simulated
 pub mod CircuitLaws
+pub mod Pulses
+pub mod Inputs
+pub mod Elements

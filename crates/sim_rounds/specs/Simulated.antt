@@ -34,16 +34,23 @@ timing_at timings (Some place) = slice_index_or timings place (record { delay = 
 abbrev pub timing_between : List Timing → Value → Value → Timing
 timing_between timings from to = timing_at timings (position (goes from to) transitions)
 
--- a leg's value comes after its delay, by the pulse rule; limits that no text gives are the delay (14.6, 14.6.4.1)
-abbrev pub leg_rule : ℕ → ℕ → Option (ℕ × ℕ) → Rule
-leg_rule now delay None = Pulse (now + delay) delay delay OnEvent
-leg_rule now delay (Some limits) = Pulse (now + delay) limits.0 limits.1 OnEvent
+-- the limits of a transition's pulses; those that no text gives are its delay (14.6)
+abbrev pub limits_or : ℕ → Option (ℕ × ℕ) → ℕ × ℕ
+limits_or delay None = (delay, delay)
+limits_or delay (Some limits) = limits
+
+abbrev pub limits_of : Timing → ℕ × ℕ
+limits_of timing = limits_or timing.delay timing.limits
+
+-- the pulse rule; an error pulse shows from its leading edge on (14.6.4.1)
+abbrev pub leg_rule : ℕ → Timing → Rule
+leg_rule now timing = Pulse (now + timing.delay) (limits_of timing).0 (limits_of timing).1 OnEvent
 
 -- by which rule an element of a kind places a value: now, from the value that its list ends with to the new one (6.1, 7.14)
 abbrev pub rule_of_kind : Kind → ℕ → Value → Value → Rule
 rule_of_kind (Gate kind delays) now from to = Inertial (now + delay_to delays to)
 rule_of_kind (Pass constant) now from to = Inertial now
-rule_of_kind (Leg timings) now from to = leg_rule now (timing_between timings from to).delay (timing_between timings from to).limits
+rule_of_kind (Leg timings) now from to = leg_rule now (timing_between timings from to)
 
 -- the value that an element of a kind has before time 0
 abbrev pub first_of_kind : Kind → Value

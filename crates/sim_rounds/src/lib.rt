@@ -2,6 +2,7 @@
 #![tactic(auto)]
 
 mod building;
+mod elements;
 mod evaluation;
 mod fan_out;
 mod laws;
