@@ -6,3 +6,4 @@ pub mod Fan
 pub mod Rounds
 pub mod States
 pub mod Pins
+pub mod Times

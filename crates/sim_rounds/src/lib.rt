@@ -7,6 +7,7 @@ mod fan_out;
 mod lists;
 mod nets;
 mod rounds;
+mod times;
 mod types;
 mod work;
 
