@@ -7,3 +7,4 @@ pub mod Rounds
 pub mod States
 pub mod Pins
 pub mod Times
+pub mod Watching

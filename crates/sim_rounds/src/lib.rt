@@ -9,11 +9,13 @@ mod nets;
 mod rounds;
 mod times;
 mod types;
+mod watch;
 mod work;
 
 pub use evaluation::{Elements, evaluate_all};
 pub use fan_out::FanOut;
 pub use nets::{Nets, Stamp};
 pub use rounds::{first_round, round};
-pub use types::Set;
+pub use types::{Change, Part, Set, StimStep, Stimulus, Violation};
+pub use watch::{Quiet, Watch};
 pub use work::{WorkList, clear_work, list_work};
