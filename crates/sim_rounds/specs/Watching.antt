@@ -5,7 +5,7 @@ use Rattle.sg_model.specs.Values.{are_same, value_at}
 use Rattle.sg_model.specs.Machine.{Snapshot}
 use Rattle.sim_rounds.specs.Lists.{IsListOf}
 use Rattle.sim_rounds.specs.Nets.{differs}
-use Rattle.sim_rounds.specs.declared.types.Change.{Change}
+use Rattle.time_checks.specs.declared.changes.Change.{Change}
 
 -- a net that changed
 pub record NetChange : Type 0 where

@@ -3,7 +3,7 @@ ghost use Rattle.std.specs.Prelude.{◌≡◌, ℕ, ◌<◌, ◌≤◌, All, Lis
 ghost use Rattle.sg_io.specs.Faults.{Cause, NamesFault};
 ghost use Rattle.sim_rounds.specs.Watching.{Call, call_of};
 
-use crate::types::Change;
+use time_checks::Change;
 use cond_expr::Nets;
 use sg_io::{Shelf, ShelfError};
 
