@@ -10,3 +10,4 @@ pub mod RoundLaws
 pub mod PinLaws
 pub mod PendingLaws
 pub mod EveryLaws
+pub mod MachineLaws

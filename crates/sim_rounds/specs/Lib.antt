@@ -6,3 +6,5 @@ pub mod Fan
 pub mod Rounds
 pub mod States
 pub mod Pins
+pub mod Simulated
+pub mod CircuitLaws

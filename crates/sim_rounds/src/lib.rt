@@ -4,6 +4,7 @@
 mod building;
 mod evaluation;
 mod fan_out;
+mod laws;
 mod lists;
 mod nets;
 mod rounds;
@@ -12,6 +13,7 @@ mod work;
 
 pub use evaluation::{Elements, evaluate_all};
 pub use fan_out::FanOut;
+pub use laws::circuit_is_lawful;
 pub use nets::{Nets, Stamp};
 pub use rounds::{first_round, round};
 pub use types::Set;
