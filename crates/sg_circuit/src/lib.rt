@@ -9,6 +9,7 @@ mod fan_out;
 mod nets;
 mod scopes;
 
+pub use building::Pin;
 pub use checks::{Check, CheckKind, Terminal};
 pub use circuits::{Circuit, Parts};
 pub use elements::{Element, ElementKind, LegTiming};
