@@ -1,5 +1,8 @@
 // The evaluation of a circuit's elements.
 ghost use Rattle.std.specs.Prelude.{◌≡◌, ℕ, ◌+◌, ◌<◌, ◌≤◌, ◌^◌, All, List, [], length, map, reverse, IfOk, take, position};
+ghost use Rattle.sg_logic.specs.Gate.{gate_value, TakesInputs as GateTakes};
+ghost use Rattle.sg_model.specs.Values.{value_at};
+ghost use Rattle.udp_rows.specs.Meaning.{udp_next};
 ghost use Rattle.sg_logic.specs.Transitions.{goes, transitions};
 ghost use Rattle.std.specs.Vec.{vec_capacity};
 ghost use Rattle.sg_logic.specs.declared.values.Value.{Value as NetValue};
@@ -10,7 +13,6 @@ ghost use Rattle.sg_model.specs.Round.{placed_by};
 ghost use Rattle.sg_circuit.specs.Circuit.{Leg};
 ghost use Rattle.sg_circuit.specs.Closed.{TakesInputs, HasDelays};
 ghost use Rattle.sg_circuit.specs.Seen.{delays_at, kind_seen, leg_timing_seen, IsIndexed};
-ghost use Rattle.sg_circuit.specs.declared.circuits.Parts.{Parts as PartsSeen};
 ghost use Rattle.sim_rounds.specs.Inputs.{HasRoom, IsRoomier};
 ghost use Rattle.sim_rounds.specs.Pulses.{IsPulse};
 ghost use Rattle.sim_rounds.specs.Simulated.{values_at, value_of_kind, rule_of_kind, leg_rule, timing_at, timing_between};
@@ -18,9 +20,9 @@ ghost use Rattle.sim_rounds.specs.Simulated.{values_at, value_of_kind, rule_of_k
 use crate::evaluation::Elements;
 use crate::nets::Stamp;
 use pulse_list::{Agenda, end_value, place, place_inertial};
-use sg_circuit::{Circuit, Element, ElementKind, LegTiming, NetId, Parts};
+use sg_circuit::{Circuit, Element, ElementKind, LegTiming, NetId, Parts, UdpUse};
 use sg_delay::{GateDelays, Limit, PulseStyle, gate_delay};
-use sg_logic::{Trans, Value, gate};
+use sg_logic::{GateKind, Trans, Value, gate};
 use sg_steps::Steps;
 use std::sync::ledger::Ledger;
 
@@ -35,20 +37,6 @@ fn read_nets(nets: &[NetId], values: &[Value], out: &mut Vec<Value>)
     for net in nets {
         let pushed = out.push(values[*net as usize]);
         prove!(pushed.is_ok());
-    }
-}
-
-// The value of an element of a kind, from its inputs' values.
-fn value_of(kind: ElementKind, inputs: &[Value]) -> Value
-    requires { (parts : PartsSeen) × TakesInputs (kind_seen parts kind) (length inputs.now) }
-    ensures { (parts : PartsSeen) (before : List NetValue) (state : NetValue) → result ≡ value_of_kind (kind_seen parts kind) before inputs.now state }
-{
-    match kind {
-        ElementKind::Gate { kind, .. } => gate(kind, inputs),
-        ElementKind::Pass {
-            constant: Some(value),
-        } => value,
-        ElementKind::Pass { constant: None } | ElementKind::Leg { .. } => inputs[0],
     }
 }
 
@@ -170,7 +158,7 @@ fn place_value<A: Agenda>(
     ensures spare { A.spare agenda.old ≤ A.spare agenda.new + 2 }
 {
     match kind {
-        ElementKind::Gate { delays, .. } => {
+        ElementKind::Gate { delays, .. } | ElementKind::Udp { delays, .. } => {
             let delay = delay_of(&parts.gate_delays, delays, value);
             place_inertial(agenda, element, present, now, value, now + delay);
         }
@@ -189,8 +177,64 @@ struct Inputs {
     after: Vec<Value>,
 }
 
+// The value of a primitive's element after a round, in one step.
+fn compute_udp<L: Ledger>(
+    udp: &UdpUse,
+    nets: &[NetId],
+    state: Value,
+    before: &[Value],
+    values: &[Value],
+    inputs: &mut Inputs,
+    steps: &mut Steps<L>,
+) -> Value
+    requires before { All (λ n. n < length before.now) nets.now }
+    requires after { All (λ n. n < length values.now) nets.now }
+    requires room { HasRoom inputs.old (length nets.now) }
+    requires takes { length nets.now ≡ udp.now.rows.inputs }
+    ensures value { result ≡ udp_next udp.now.rows (values_at nets.now before.now) (values_at nets.now values.now) state }
+    ensures room { IsRoomier inputs.old inputs.new }
+    ensures steps { steps.new ≡ steps.old + 1 }
+{
+    read_nets(nets, before, &mut inputs.before);
+    read_nets(nets, values, &mut inputs.after);
+    steps.tick();
+    udp.rows.next(&inputs.before, &inputs.after, state)
+}
+
+// The value of a gate's element after a round, in one step.
+fn compute_gate<L: Ledger>(
+    kind: GateKind,
+    nets: &[NetId],
+    values: &[Value],
+    inputs: &mut Inputs,
+    steps: &mut Steps<L>,
+) -> Value
+    requires after { All (λ n. n < length values.now) nets.now }
+    requires room { HasRoom inputs.old (length nets.now) }
+    requires takes { GateTakes kind (length nets.now) }
+    ensures value { result ≡ gate_value kind (values_at nets.now values.now) }
+    ensures room { IsRoomier inputs.old inputs.new }
+    ensures steps { steps.new ≡ steps.old + 1 }
+{
+    read_nets(nets, values, &mut inputs.after);
+    steps.tick();
+    gate(kind, &inputs.after)
+}
+
+// The value of the one net that an element reads, in one step.
+fn compute_pass<L: Ledger>(nets: &[NetId], values: &[Value], steps: &mut Steps<L>) -> Value
+    requires after { All (λ n. n < length values.now) nets.now }
+    requires takes { length nets.now ≡ 1 }
+    ensures value { result ≡ value_at (values_at nets.now values.now) 0 }
+    ensures steps { steps.new ≡ steps.old + 1 }
+{
+    steps.tick();
+    values[nets[0] as usize]
+}
+
 // An element's value after a round, in one step.
 fn compute<L: Ledger>(
+    parts: &Parts,
     item: &Element,
     state: Value,
     before: &[Value],
@@ -201,14 +245,28 @@ fn compute<L: Ledger>(
     requires before { All (λ n. n < length before.now) item.now.inputs.items }
     requires after { All (λ n. n < length values.now) item.now.inputs.items }
     requires room { HasRoom inputs.old (length item.now.inputs.items) }
-    requires takes { (parts : PartsSeen) × TakesInputs (kind_seen parts item.now.kind) (length item.now.inputs.items) }
-    ensures value { (parts : PartsSeen) → result ≡ value_of_kind (kind_seen parts item.now.kind) (values_at item.now.inputs.items before.now) (values_at item.now.inputs.items values.now) state }
+    requires indexed { IsIndexed parts.now item.now.kind }
+    requires takes { TakesInputs (kind_seen parts.now item.now.kind) (length item.now.inputs.items) }
+    ensures value { result ≡ value_of_kind (kind_seen parts.now item.now.kind) (values_at item.now.inputs.items before.now) (values_at item.now.inputs.items values.now) state }
     ensures room { IsRoomier inputs.old inputs.new }
     ensures steps { steps.new ≡ steps.old + 1 }
 {
-    read_nets(&item.inputs, values, &mut inputs.after);
-    steps.tick();
-    value_of(item.kind, &inputs.after)
+    match item.kind {
+        ElementKind::Gate { kind, .. } => compute_gate(kind, &item.inputs, values, inputs, steps),
+        ElementKind::Udp { udp, .. } => {
+            let udp = &parts.udps[udp as usize];
+            compute_udp(udp, &item.inputs, state, before, values, inputs, steps)
+        }
+        ElementKind::Pass {
+            constant: Some(value),
+        } => {
+            steps.tick();
+            value
+        }
+        ElementKind::Pass { constant: None } | ElementKind::Leg { .. } => {
+            compute_pass(&item.inputs, values, steps)
+        }
+    }
 }
 
 /// The elements of a circuit, with the value that each computed last.
@@ -245,6 +303,7 @@ impl<'a, A: Agenda, L: Ledger> Elements<A, L> for CircuitElements<'a> {
         let at = element as usize;
         let item = &parts.elements[at];
         let value = compute(
+            parts,
             item,
             self.states[at],
             before,

@@ -24,10 +24,8 @@ compute-value-requires-clause-room g c =
     c.args.self.now.room
 
 pub compute-value-requires-clause-takes : goal.compute-value-requires-clause-takes
-compute-value-requires-clause-takes g c = (
-  c.parts-parts.result.now,
-  (the_element c.args.self.now.circuit.now c.parts-parts.result.now c.args.element c.index-item.result.now c.parts-parts.ensures.seen c.parts-parts.ensures.closed c.parts-parts.ensures.indexed c.requires.known c.index-item.ensures).takes,
-)
+compute-value-requires-clause-takes g c =
+    (the_element c.args.self.now.circuit.now c.parts-parts.result.now c.args.element c.index-item.result.now c.parts-parts.ensures.seen c.parts-parts.ensures.closed c.parts-parts.ensures.indexed c.requires.known c.index-item.ensures).takes
 
 pub bounds-values-item : goal.bounds-values-item
 bounds-values-item g c =
@@ -48,11 +46,11 @@ returns-clause-lists g c =
     c.requires.values
     (computed c.args.self.now.circuit.now c.parts-parts.result.now c.args.element c.index-item.result.now c.args.before.now c.args.values.now c.args.self.now.states.items c.index.result.now c.compute-value.result
     (the_element c.args.self.now.circuit.now c.parts-parts.result.now c.args.element c.index-item.result.now c.parts-parts.ensures.seen c.parts-parts.ensures.closed c.parts-parts.ensures.indexed c.requires.known c.index-item.ensures)
-    c.args.self.now.state_of_each c.index.ensures (c.compute-value.ensures.value c.parts-parts.result.now)) refl)
+    c.args.self.now.state_of_each c.index.ensures c.compute-value.ensures.value) refl)
 
 pub returns-clause-states : goal.returns-clause-states
 returns-clause-states g c =
     ap (λ v. slice_set c.args.self.now.states.items c.args.element v)
     (computed c.args.self.now.circuit.now c.parts-parts.result.now c.args.element c.index-item.result.now c.args.before.now c.args.values.now c.args.self.now.states.items c.index.result.now c.compute-value.result
     (the_element c.args.self.now.circuit.now c.parts-parts.result.now c.args.element c.index-item.result.now c.parts-parts.ensures.seen c.parts-parts.ensures.closed c.parts-parts.ensures.indexed c.requires.known c.index-item.ensures)
-    c.args.self.now.state_of_each c.index.ensures (c.compute-value.ensures.value c.parts-parts.result.now))
+    c.args.self.now.state_of_each c.index.ensures c.compute-value.ensures.value)
