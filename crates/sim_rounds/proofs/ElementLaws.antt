@@ -1,7 +1,9 @@
 -- An element of a closed circuit is what its code says, and its evaluation is the machine's.
 use Rattle.std.specs.Prelude.{◌≡◌, ℕ, ◌<◌, ◌≤◌, All, List, [], ◌∷◌, Option, None, length, map, slice_index_or, slice_set, refl}
 use Rattle.std.proofs.Common.{sym, ◌∙◌, ap, subst, arith}
+use Rattle.std.specs.Vec.{vec_capacity}
 use Rattle.std.proofs.lemmas.List.{length-map, get_or-map, get_or_default}
+use Rattle.std.proofs.lemmas.List.Elements.{All-map}
 use Rattle.sg_logic.specs.declared.values.Value.{Value}
 use Rattle.sg_logic.specs.declared.values.Value.TheVariants.{X}
 use Rattle.sg_model.specs.Values.{value_at}
@@ -13,11 +15,11 @@ use Rattle.sg_circuit.specs.Closed.{IsClosed, TakesInputs, HasDelays}
 use Rattle.sg_circuit.specs.Seen.{circuit_seen, kind_seen, element_seen, IsIndexed, AreIndexed}
 use Rattle.sg_circuit.specs.declared.elements.Element as code_element
 use Rattle.sg_circuit.specs.declared.circuits.Parts.{Parts}
-use Rattle.sg_circuit.proofs.SeenLaws.{all-unmapped}
+use Rattle.sg_circuit.proofs.SeenLaws.{all-unmapped, map-mapped}
 use Rattle.sim_rounds.specs.declared.elements.Inputs.{Inputs}
 use Rattle.sim_rounds.specs.Inputs.{HasRoom}
 use Rattle.sim_rounds.specs.Elements.{IsElement}
-use Rattle.sim_rounds.specs.Simulated.{machine_of, values_at, value_of_kind, rule_of_kind}
+use Rattle.sim_rounds.specs.Simulated.{machine_of, first_state, first_of_kind, values_at, value_of_kind, rule_of_kind}
 
 seen_element : (parts : Parts) (e : ℕ) (item : code_element.Element) → IsClosed (circuit_seen parts) → AreIndexed parts → e < length parts.elements.items → item ≡ slice_index_or parts.elements.items e item
     → IsElement (circuit_seen parts) parts e item
@@ -88,3 +90,22 @@ pub placed_list : (circuit : Circuit) (parts : Parts) (e : ℕ) (item : code_ele
     → placed_by (rule_of_kind (kind_seen parts item.kind) now (last_value list present) v) list present now v ≡ element_list (machine_of circuit) now before after stamps states e list
 placed_list circuit parts e item now before after stamps states list v present d h many value read =
     machine_list circuit parts e item now before after stamps states list v present h value (read_value after item.output present d (subst (λ n. item.output < n) (sym many) h.output) read)
+
+-- the values before time 0
+pub first_states : (circuit : Circuit) (parts : Parts) (elements : List code_element.Element) (states : List Value) → circuit_seen parts ≡ circuit → elements ≡ parts.elements.items
+    → states ≡ map (λ e. first_of_kind (kind_seen parts e.kind)) elements → states ≡ (first_state circuit).states
+first_states circuit parts elements states seen same is =
+    is ∙ (ap (λ es. map (λ e. first_of_kind (kind_seen parts e.kind)) es) same
+    ∙ (sym (map-mapped (λ (e : Element). first_of_kind e.kind) (element_seen parts) parts.elements.items) ∙ ap (λ c. (first_state c).states) seen))
+
+pub length-first_states : (circuit : Circuit) (states : List Value) → states ≡ (first_state circuit).states → length states ≡ length circuit.elements
+length-first_states circuit states is = ap length is ∙ length-map circuit.elements (λ (e : Element). first_of_kind e.kind)
+
+-- and the room for the widest element
+pub all_have_room : (circuit : Circuit) (parts : Parts) (elements : List code_element.Element) (inputs : Inputs) (width : ℕ) → circuit_seen parts ≡ circuit → elements ≡ parts.elements.items
+    → All (λ e. length e.inputs.items ≤ width) elements → width ≤ vec_capacity inputs.before → width ≤ vec_capacity inputs.after
+    → All (λ (x : Element). HasRoom inputs (length x.inputs)) circuit.elements
+all_have_room circuit parts elements inputs width seen same most before after =
+    let rooms : All (λ e. HasRoom inputs (length e.inputs.items)) elements = (λ k d l. (let m = most k d l in record { before = omega (arith, m, before); after = omega (arith, m, after) })) in
+    subst (λ c. All (λ (x : Element). HasRoom inputs (length x.inputs)) c.elements) seen
+    (All-map (λ (x : Element). HasRoom inputs (length x.inputs)) (element_seen parts) parts.elements.items (subst (λ es. All (λ e. HasRoom inputs (length e.inputs.items)) es) same rooms))

@@ -15,7 +15,7 @@ ghost use Rattle.sg_circuit.specs.Closed.{TakesInputs, HasDelays};
 ghost use Rattle.sg_circuit.specs.Seen.{delays_at, kind_seen, leg_timing_seen, IsIndexed};
 ghost use Rattle.sim_rounds.specs.Inputs.{HasRoom, IsRoomier};
 ghost use Rattle.sim_rounds.specs.Pulses.{IsPulse};
-ghost use Rattle.sim_rounds.specs.Simulated.{values_at, value_of_kind, rule_of_kind, leg_rule, timing_at, timing_between};
+ghost use Rattle.sim_rounds.specs.Simulated.{first_of_kind, first_state, values_at, value_of_kind, rule_of_kind, leg_rule, timing_at, timing_between};
 
 use crate::evaluation::Elements;
 use crate::nets::Stamp;
@@ -24,6 +24,8 @@ use sg_circuit::{Circuit, Element, ElementKind, LegTiming, NetId, Parts, UdpUse}
 use sg_delay::{GateDelays, Limit, PulseStyle, gate_delay};
 use sg_logic::{GateKind, Trans, Value, gate};
 use sg_steps::Steps;
+use sg_text::NoMemory;
+use std::alloc::Global;
 use std::sync::ledger::Ledger;
 
 // The values of some nets, put into a list with room for them.
@@ -277,6 +279,59 @@ pub struct CircuitElements<'a> {
     inputs: Inputs,
     ghost state_of_each: { length states.items ≡ length circuit.now.elements },
     ghost room: { All (λ e. HasRoom inputs (length e.inputs)) circuit.now.elements },
+}
+
+// The value that an element computed last, before time 0.
+fn first_value(parts: &Parts, kind: ElementKind) -> Value
+    requires { IsIndexed parts.now kind }
+    ensures { result ≡ first_of_kind (kind_seen parts.now kind) }
+{
+    match kind {
+        ElementKind::Udp { udp, .. } => parts.udps[udp as usize].first,
+        ElementKind::Gate { .. } | ElementKind::Pass { .. } | ElementKind::Leg { .. } => Value::X,
+    }
+}
+
+// These of all elements.
+fn first_values(alloc: Global, parts: &Parts, elements: &[Element]) -> Result<Vec<Value>, NoMemory>
+    requires { All (λ e. IsIndexed parts.now e.kind) elements.now }
+    ensures { IfOk result (λ v. v.items ≡ map (λ e. first_of_kind (kind_seen parts.now e.kind)) elements.now) }
+{
+    let mut states = Vec::with_capacity(alloc, elements.len())?;
+    for element in elements {
+        states.push(first_value(parts, element.kind))?;
+    }
+    Ok(states)
+}
+
+// So many inputs the widest element has.
+fn widest(elements: &[Element]) -> usize
+    ensures { All (λ e. length e.inputs.items ≤ result) elements.now }
+{
+    let mut width: usize = 0;
+    for element in elements {
+        width = width.max(element.inputs.len());
+    }
+    width
+}
+
+impl<'a> CircuitElements<'a> {
+    /// The elements of a circuit as they are before time 0. Takes memory in proportion to their number.
+    pub fn new(alloc: Global, circuit: &'a Circuit) -> Result<CircuitElements<'a>, NoMemory>
+        ensures circuit { IfOk result (λ g. g.circuit.now ≡ circuit.now) }
+        ensures states { IfOk result (λ g. g.states.items ≡ (first_state circuit.now).states) }
+    {
+        let parts = circuit.parts();
+        let states = first_values(alloc, parts, &parts.elements)?;
+        let width = widest(&parts.elements);
+        let before = Vec::with_capacity(alloc, width)?;
+        let after = Vec::with_capacity(alloc, width)?;
+        Ok(CircuitElements {
+            circuit,
+            states,
+            inputs: Inputs { before, after },
+        })
+    }
 }
 
 impl<'a, A: Agenda, L: Ledger> Elements<A, L> for CircuitElements<'a> {
