@@ -1,0 +1,4 @@
+-- The lemma files of this folder.
+pub mod SeenLaws
+pub mod PinLaws
+pub mod FanLaws

@@ -1,0 +1,75 @@
+-- What is so of every circuit: its parts fit together.
+use Rattle.std.specs.Prelude.{◌≡◌, ◌↔◌, ℕ, ◌+◌, ◌<◌, ◌≤◌, ◌^◌, ◌-ℤ◌, nat_abs, All, List, length, Option, Some, None, IfSome, IsSome}
+use Rattle.sg_logic.specs.Gate.{TakesInputs as GateTakes}
+use Rattle.sg_circuit.specs.declared.nets.Driver.{Driver}
+use Rattle.sg_circuit.specs.declared.nets.Driver.TheVariants as driver
+use Rattle.sg_circuit.specs.declared.scopes.Range.{Range}
+use Rattle.sg_circuit.specs.declared.checks.CheckKind.{CheckKind}
+use Rattle.sg_circuit.specs.declared.checks.CheckKind.TheVariants.{Width, Period}
+use Rattle.sg_circuit.specs.Circuit.{Circuit, Timing, Kind, Gate, Udp, Pass, Leg, net_at, element_at, scope_at}
+
+-- so many inputs an element of a kind has (IEEE 1364-2005, 6.1, 7.2, 7.3, 8.1)
+abbrev pub TakesInputs : Kind → ℕ → Type 0
+TakesInputs (Gate kind delays) n = GateTakes kind n
+TakesInputs (Udp primitive first delays) n = n ≡ primitive.inputs
+TakesInputs (Pass None) n = n ≡ 1
+TakesInputs (Pass (Some value)) n = n ≡ 0
+TakesInputs (Leg timings) n = n ≡ 1
+
+-- no, one or two delays of a gate, in ticks (7.14, 8.6)
+abbrev pub AreGateDelays : List ℕ → Type 0
+AreGateDelays delays = (length delays ≤ 2) × All (λ d. d < 2 ^ 60) delays
+
+-- a delay and limits, in ticks: below 2^60, and what is lost is at most as long as what becomes x (14.6)
+pub record IsTiming (t : Timing) : Type 0 where
+  pub delay : t.delay < 2 ^ 60
+  pub ordered : IfSome t.limits (λ l. l.0 ≤ l.1)
+  pub error : IfSome t.limits (λ l. l.1 < 2 ^ 60)
+
+-- the delays that an element of a kind has (7.14, 14.2)
+abbrev pub HasDelays : Kind → Type 0
+HasDelays (Gate kind delays) = AreGateDelays delays
+HasDelays (Udp primitive first delays) = AreGateDelays delays
+HasDelays (Pass constant) = Unit {0}
+HasDelays (Leg timings) = (length timings ≡ 12) × All IsTiming timings
+
+-- how many bits a variable has (4.3.1)
+abbrev pub width_of : Option Range → ℕ
+width_of None = 1
+width_of (Some r) = nat_abs (r.left -ℤ r.right) + 1
+
+-- an element that drives a net, if one does
+abbrev pub IfElement : Driver → (ℕ → Type 0) → Type 0
+IfElement driver.Nobody P = Unit {0}
+IfElement driver.Stimulus P = Unit {0}
+IfElement (driver.Element e) P = P e
+IfElement driver.Notifier P = Unit {0}
+
+-- all checks but those of one event have a data event (15.2, 15.3)
+abbrev pub HasDatum : CheckKind → Type 0
+HasDatum Width = ⊥
+HasDatum Period = ⊥
+HasDatum _ = Unit {0}
+
+pub record IsClosed (c : Circuit) : Type 0 where
+  pub few_nets : length c.nets < 2 ^ 31
+  pub few_elements : length c.elements < 2 ^ 31
+  pub few_checks : length c.checks < 2 ^ 31
+  pub few_scopes : length c.scopes < 2 ^ 31
+  -- scopes stand after their parents
+  pub parents : (s : ℕ) → s < length c.scopes → IfSome (scope_at c s).parent (λ p. p < s)
+  -- each number is one of a part
+  pub net_scopes : All (λ n. n.scope < length c.scopes) c.nets
+  pub element_scopes : All (λ e. e.scope < length c.scopes) c.elements
+  pub check_scopes : All (λ k. k.scope < length c.scopes) c.checks
+  pub bits : All (λ s. All (λ v. All (λ n. n < length c.nets) v.bits) s.variables) c.scopes
+  pub inputs : All (λ e. All (λ n. n < length c.nets) e.inputs) c.elements
+  pub outputs : All (λ e. e.output < length c.nets) c.elements
+  -- an element's output names it as its driver, and a net's driver drives it
+  pub named : (e : ℕ) → e < length c.elements → (net_at c (element_at c e).output).driver ≡ driver.Element e
+  pub drivers : (n : ℕ) → n < length c.nets → IfElement (net_at c n).driver (λ e. (e < length c.elements) × ((element_at c e).output ≡ n))
+  -- what each kind asks for
+  pub takes_inputs : All (λ e. TakesInputs e.kind (length e.inputs)) c.elements
+  pub has_delays : All (λ e. HasDelays e.kind) c.elements
+  pub widths : All (λ s. All (λ v. length v.bits ≡ width_of v.range) s.variables) c.scopes
+  pub datums : All (λ k. IsSome k.datum ↔ HasDatum k.kind) c.checks

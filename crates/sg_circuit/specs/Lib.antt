@@ -1,0 +1,7 @@
+-- The modules of this folder.
+pub mod Circuit
+pub mod Closed
+pub mod FanOut
+pub mod Seen
+pub mod Cuts
+pub mod Pins

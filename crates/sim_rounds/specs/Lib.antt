@@ -1,0 +1,13 @@
+-- The modules of this folder.
+pub mod Lists
+pub mod Nets
+pub mod Work
+pub mod Rounds
+pub mod States
+pub mod Simulated
+pub mod CircuitLaws
+pub mod Pulses
+pub mod Inputs
+pub mod Elements
+pub mod Times
+pub mod Watching

@@ -1,0 +1,94 @@
+-- The machine and the run of a circuit. This is the only place that reads the kinds of elements.
+use Rattle.std.specs.Prelude.{ℕ, ◌+◌, List, [], ◌∷◌, Bool, true, false, Option, Some, None, map, position, slice_index_or, if◌then◌else◌}
+use Rattle.sg_logic.specs.declared.values.Value.{Value}
+use Rattle.sg_logic.specs.declared.values.Value.TheVariants.{X, Z}
+use Rattle.sg_logic.specs.Gate.{gate_value}
+use Rattle.sg_logic.specs.Transitions.{transitions, goes}
+use Rattle.udp_rows.specs.Meaning.{udp_next}
+use Rattle.sg_delay.specs.GateDelay.{delay_to}
+use Rattle.sg_model.specs.Values.{value_at}
+use Rattle.sg_model.specs.Pending.{OnEvent}
+use Rattle.sg_model.specs.Machine.{Machine, State, Rule, Inertial, Pulse}
+use Rattle.sg_model.specs.Run.{Finished, run_of}
+use Rattle.sg_circuit.specs.declared.nets.Driver.{Driver}
+use Rattle.sg_circuit.specs.declared.nets.Driver.TheVariants as driver
+use Rattle.sg_circuit.specs.Circuit.{Circuit, Timing, Kind, Gate, Udp, Pass, Leg, element_at}
+use Rattle.stim_read.specs.Stimulus.{Stimulus, sets_at}
+
+-- the values of some nets
+abbrev pub values_at : List ℕ → List Value → List Value
+values_at nets values = map (value_at values) nets
+
+-- the value of an element of a kind, from its inputs' values before and after a round and its last value (IEEE
+-- 1364-2005, 6.1, 7.2, 7.3, clause 8)
+abbrev pub value_of_kind : Kind → List Value → List Value → Value → Value
+value_of_kind (Gate kind delays) before after state = gate_value kind after
+value_of_kind (Udp primitive first delays) before after state = udp_next primitive before after state
+value_of_kind (Pass None) before after state = value_at after 0
+value_of_kind (Pass (Some value)) before after state = value
+value_of_kind (Leg timings) before after state = value_at after 0
+
+-- the timing of a transition, by its place among the twelve
+abbrev pub timing_at : List Timing → Option ℕ → Timing
+timing_at timings None = record { delay = 0; limits = None }
+timing_at timings (Some place) = slice_index_or timings place (record { delay = 0; limits = None })
+
+abbrev pub timing_between : List Timing → Value → Value → Timing
+timing_between timings from to = timing_at timings (position (goes from to) transitions)
+
+-- the limits of a transition's pulses; those that no text gives are its delay (14.6)
+abbrev pub limits_or : ℕ → Option (ℕ × ℕ) → ℕ × ℕ
+limits_or delay None = (delay, delay)
+limits_or delay (Some limits) = limits
+
+abbrev pub limits_of : Timing → ℕ × ℕ
+limits_of timing = limits_or timing.delay timing.limits
+
+-- the pulse rule; an error pulse shows from its leading edge on (14.6.4.1)
+abbrev pub leg_rule : ℕ → Timing → Rule
+leg_rule now timing = Pulse (now + timing.delay) (limits_of timing).0 (limits_of timing).1 OnEvent
+
+-- by which rule an element of a kind places a value: now, from the value that its list ends with to the new one (6.1, 7.14, 8.6)
+abbrev pub rule_of_kind : Kind → ℕ → Value → Value → Rule
+rule_of_kind (Gate kind delays) now from to = Inertial (now + delay_to delays to)
+rule_of_kind (Udp primitive first delays) now from to = Inertial (now + delay_to delays to)
+rule_of_kind (Pass constant) now from to = Inertial now
+rule_of_kind (Leg timings) now from to = leg_rule now (timing_between timings from to)
+
+-- the value that an element of a kind computed last, before time 0: a primitive's first state (8.5)
+abbrev pub first_of_kind : Kind → Value
+first_of_kind (Gate kind delays) = X
+first_of_kind (Udp primitive first delays) = first
+first_of_kind (Pass constant) = X
+first_of_kind (Leg timings) = X
+
+-- the machine of a circuit
+abbrev pub machine_of : Circuit → Machine
+machine_of circuit = record {
+  inputs = map (λ e. e.inputs) circuit.elements;
+  outputs = map (λ e. e.output) circuit.elements;
+  value = λ e before after state. value_of_kind (element_at circuit e).kind (values_at (element_at circuit e).inputs before) (values_at (element_at circuit e).inputs after) state;
+  rule = λ e now after stamps from to. rule_of_kind (element_at circuit e).kind now from to;
+  violated = λ snapshots. [];
+  notifiers = λ violations. [];
+}
+
+-- whether anything drives a net
+abbrev pub is_driven : Driver → Bool
+is_driven driver.Nobody = false
+is_driven driver.Stimulus = true
+is_driven (driver.Element element) = true
+is_driven driver.Notifier = true
+
+-- before time 0 every driven net is x and every other z, no net has a stamp, and nothing is pending (4.2.1, 4.2.2)
+abbrev pub first_state : Circuit → State
+first_state circuit = record {
+  values = map (λ net. if is_driven net.driver then X else Z) circuit.nets;
+  stamps = map (λ net. None) circuit.nets;
+  lists = map (λ e. []) circuit.elements;
+  states = map (λ e. first_of_kind e.kind) circuit.elements;
+}
+
+-- the run of a circuit, with a bound on the rounds of one time
+abbrev pub run_of_circuit : Circuit → ℕ → Stimulus → Finished
+run_of_circuit circuit bound stimulus = run_of bound (machine_of circuit) (sets_at stimulus.steps) stimulus.end (first_state circuit)

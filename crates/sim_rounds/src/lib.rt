@@ -1,0 +1,20 @@
+//! The simulation of a circuit, round by round, time by time, in work that is in proportion to what changes.
+#![tactic(auto)]
+
+mod elements;
+mod evaluation;
+mod laws;
+mod lists;
+mod nets;
+mod rounds;
+mod times;
+mod watch;
+mod work;
+
+pub use elements::CircuitElements;
+pub use evaluation::{Elements, evaluate_all};
+pub use laws::circuit_is_lawful;
+pub use nets::{Nets, Stamp};
+pub use rounds::{first_round, round};
+pub use watch::{Quiet, Watch};
+pub use work::{WorkList, clear_work, list_work};

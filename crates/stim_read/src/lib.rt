@@ -1,0 +1,6 @@
+//! What is applied to a circuit's inputs over time.
+#![tactic(auto)]
+
+mod steps;
+
+pub use steps::{Set, StimStep, Stimulus};
