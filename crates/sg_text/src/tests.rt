@@ -45,6 +45,16 @@ fn errors_as_they_are_written(rt: HostRuntime) -> Result<(), Fail> {
 }
 
 #[test]
+fn plain_names(rt: HostRuntime) {
+    let names: [&[u8]; 8] = [b"U1", b"_a$0", b"Z", b"wire", b"", b"1a", b"$a", b"a.b"];
+    for (i, name) in names.iter().enumerate() {
+        assert_eq!(rt; is_simple_name(name), i < 4, "name {i}");
+    }
+    assert!(rt; is_name_start(b'_') && !is_name_start(b'$'));
+    assert!(rt; is_name_byte(b'9') && !is_name_byte(b'-'));
+}
+
+#[test]
 fn reserved_words_are_whole_and_lower_case(rt: HostRuntime) {
     let words: [&[u8]; 8] = [
         b"module",
