@@ -12,7 +12,7 @@ pub use names::{is_name_byte, is_name_start, is_simple_name};
 pub use places::Place;
 pub use refusals::{NoMemory, Refused};
 pub use texts::Text;
-pub use words::is_reserved;
+pub use words::{Keyword, Reserved, is_reserved, use_of};
 
 #[cfg(test)]
 mod tests;

@@ -1,107 +1,245 @@
 // The words of netlists.
-ghost use Rattle.std.specs.Prelude.{◌≡◌, nat_eq};
-ghost use Rattle.std.specs.List.{list_any};
-ghost use Rattle.sg_text.specs.Words.{is_reserved_word};
-ghost use lib.Pointwise.{pointwise};
+ghost use Rattle.std.specs.Prelude.{◌≡◌, map};
+ghost use Rattle.sg_text.specs.Words.{is_reserved_word, use_in, use_of, keyword_number};
+ghost use Rattle.sg_text.specs.WordsSeen.{row};
 
-// In the order of the definition.
-const RESERVED: [&str; 84] = [
-    "module",
-    "macromodule",
-    "endmodule",
-    "input",
-    "output",
-    "wire",
-    "tri",
-    "supply0",
-    "supply1",
-    "reg",
-    "assign",
-    "and",
-    "nand",
-    "or",
-    "nor",
-    "xor",
-    "xnor",
-    "buf",
-    "not",
-    "primitive",
-    "endprimitive",
-    "table",
-    "endtable",
-    "initial",
-    "specify",
-    "endspecify",
-    "specparam",
-    "if",
-    "ifnone",
-    "pulsestyle_onevent",
-    "pulsestyle_ondetect",
-    "noshowcancelled",
-    "showcancelled",
-    "posedge",
-    "negedge",
-    "edge",
-    "always",
-    "function",
-    "task",
-    "parameter",
-    "localparam",
-    "defparam",
-    "generate",
-    "genvar",
-    "config",
-    "library",
-    "inout",
-    "integer",
-    "real",
-    "time",
-    "event",
-    "wand",
-    "wor",
-    "triand",
-    "trior",
-    "tri0",
-    "tri1",
-    "trireg",
-    "pullup",
-    "pulldown",
-    "nmos",
-    "pmos",
-    "cmos",
-    "rnmos",
-    "rpmos",
-    "rcmos",
-    "tran",
-    "rtran",
-    "tranif0",
-    "tranif1",
-    "rtranif0",
-    "rtranif1",
-    "bufif0",
-    "bufif1",
-    "notif0",
-    "notif1",
-    "strong0",
-    "strong1",
-    "pull0",
-    "pull1",
-    "weak0",
-    "weak1",
-    "highz0",
-    "highz1",
-];
-
-// Whether the bytes are one of the words.
-fn is_one_of(words: &[&str], bytes: &[u8]) -> bool
-    ensures { result ≡ list_any (λ word. pointwise nat_eq word.now bytes.now) words.now }
-{
-    words.iter().any(|word| word.as_bytes() == bytes)
+/// A word of the grammar of netlists, but for `module` and `macromodule`.
+#[derive(Clone, Copy, Debug)]
+pub enum Keyword {
+    EndModule,
+    Input,
+    Output,
+    Wire,
+    Tri,
+    Supply0,
+    Supply1,
+    Reg,
+    Assign,
+    And,
+    Nand,
+    Or,
+    Nor,
+    Xor,
+    Xnor,
+    Buf,
+    Not,
+    Primitive,
+    EndPrimitive,
+    Table,
+    EndTable,
+    Initial,
+    Specify,
+    EndSpecify,
+    SpecParam,
+    If,
+    IfNone,
+    PulseStyleOnEvent,
+    PulseStyleOnDetect,
+    NoShowCancelled,
+    ShowCancelled,
+    Posedge,
+    Negedge,
+    Edge,
 }
 
-/// Whether the bytes are a reserved word, which no plain name may be (IEEE 1364-2005, clause on keywords).
+/// What a reserved word is for.
+#[derive(Clone, Copy, Debug)]
+pub enum Reserved {
+    /// The word `module` or `macromodule`.
+    Module,
+    /// Another word of the grammar.
+    Keyword(Keyword),
+    /// A word of a construct that is left out.
+    LeftOut,
+}
+
+// In the order of the definition.
+const RESERVED: [(&str, Reserved); 84] = [
+    ("module", Reserved::Module),
+    ("macromodule", Reserved::Module),
+    ("endmodule", Reserved::Keyword(Keyword::EndModule)),
+    ("input", Reserved::Keyword(Keyword::Input)),
+    ("output", Reserved::Keyword(Keyword::Output)),
+    ("wire", Reserved::Keyword(Keyword::Wire)),
+    ("tri", Reserved::Keyword(Keyword::Tri)),
+    ("supply0", Reserved::Keyword(Keyword::Supply0)),
+    ("supply1", Reserved::Keyword(Keyword::Supply1)),
+    ("reg", Reserved::Keyword(Keyword::Reg)),
+    ("assign", Reserved::Keyword(Keyword::Assign)),
+    ("and", Reserved::Keyword(Keyword::And)),
+    ("nand", Reserved::Keyword(Keyword::Nand)),
+    ("or", Reserved::Keyword(Keyword::Or)),
+    ("nor", Reserved::Keyword(Keyword::Nor)),
+    ("xor", Reserved::Keyword(Keyword::Xor)),
+    ("xnor", Reserved::Keyword(Keyword::Xnor)),
+    ("buf", Reserved::Keyword(Keyword::Buf)),
+    ("not", Reserved::Keyword(Keyword::Not)),
+    ("primitive", Reserved::Keyword(Keyword::Primitive)),
+    ("endprimitive", Reserved::Keyword(Keyword::EndPrimitive)),
+    ("table", Reserved::Keyword(Keyword::Table)),
+    ("endtable", Reserved::Keyword(Keyword::EndTable)),
+    ("initial", Reserved::Keyword(Keyword::Initial)),
+    ("specify", Reserved::Keyword(Keyword::Specify)),
+    ("endspecify", Reserved::Keyword(Keyword::EndSpecify)),
+    ("specparam", Reserved::Keyword(Keyword::SpecParam)),
+    ("if", Reserved::Keyword(Keyword::If)),
+    ("ifnone", Reserved::Keyword(Keyword::IfNone)),
+    (
+        "pulsestyle_onevent",
+        Reserved::Keyword(Keyword::PulseStyleOnEvent),
+    ),
+    (
+        "pulsestyle_ondetect",
+        Reserved::Keyword(Keyword::PulseStyleOnDetect),
+    ),
+    (
+        "noshowcancelled",
+        Reserved::Keyword(Keyword::NoShowCancelled),
+    ),
+    ("showcancelled", Reserved::Keyword(Keyword::ShowCancelled)),
+    ("posedge", Reserved::Keyword(Keyword::Posedge)),
+    ("negedge", Reserved::Keyword(Keyword::Negedge)),
+    ("edge", Reserved::Keyword(Keyword::Edge)),
+    ("always", Reserved::LeftOut),
+    ("function", Reserved::LeftOut),
+    ("task", Reserved::LeftOut),
+    ("parameter", Reserved::LeftOut),
+    ("localparam", Reserved::LeftOut),
+    ("defparam", Reserved::LeftOut),
+    ("generate", Reserved::LeftOut),
+    ("genvar", Reserved::LeftOut),
+    ("config", Reserved::LeftOut),
+    ("library", Reserved::LeftOut),
+    ("inout", Reserved::LeftOut),
+    ("integer", Reserved::LeftOut),
+    ("real", Reserved::LeftOut),
+    ("time", Reserved::LeftOut),
+    ("event", Reserved::LeftOut),
+    ("wand", Reserved::LeftOut),
+    ("wor", Reserved::LeftOut),
+    ("triand", Reserved::LeftOut),
+    ("trior", Reserved::LeftOut),
+    ("tri0", Reserved::LeftOut),
+    ("tri1", Reserved::LeftOut),
+    ("trireg", Reserved::LeftOut),
+    ("pullup", Reserved::LeftOut),
+    ("pulldown", Reserved::LeftOut),
+    ("nmos", Reserved::LeftOut),
+    ("pmos", Reserved::LeftOut),
+    ("cmos", Reserved::LeftOut),
+    ("rnmos", Reserved::LeftOut),
+    ("rpmos", Reserved::LeftOut),
+    ("rcmos", Reserved::LeftOut),
+    ("tran", Reserved::LeftOut),
+    ("rtran", Reserved::LeftOut),
+    ("tranif0", Reserved::LeftOut),
+    ("tranif1", Reserved::LeftOut),
+    ("rtranif0", Reserved::LeftOut),
+    ("rtranif1", Reserved::LeftOut),
+    ("bufif0", Reserved::LeftOut),
+    ("bufif1", Reserved::LeftOut),
+    ("notif0", Reserved::LeftOut),
+    ("notif1", Reserved::LeftOut),
+    ("strong0", Reserved::LeftOut),
+    ("strong1", Reserved::LeftOut),
+    ("pull0", Reserved::LeftOut),
+    ("pull1", Reserved::LeftOut),
+    ("weak0", Reserved::LeftOut),
+    ("weak1", Reserved::LeftOut),
+    ("highz0", Reserved::LeftOut),
+    ("highz1", Reserved::LeftOut),
+];
+
+impl Keyword {
+    /// Its number among the words of the grammar.
+    pub fn number(self) -> u8
+        ensures { result ≡ keyword_number self }
+    {
+        match self {
+            Keyword::EndModule => 0,
+            Keyword::Input => 1,
+            Keyword::Output => 2,
+            Keyword::Wire => 3,
+            Keyword::Tri => 4,
+            Keyword::Supply0 => 5,
+            Keyword::Supply1 => 6,
+            Keyword::Reg => 7,
+            Keyword::Assign => 8,
+            Keyword::And => 9,
+            Keyword::Nand => 10,
+            Keyword::Or => 11,
+            Keyword::Nor => 12,
+            Keyword::Xor => 13,
+            Keyword::Xnor => 14,
+            Keyword::Buf => 15,
+            Keyword::Not => 16,
+            Keyword::Primitive => 17,
+            Keyword::EndPrimitive => 18,
+            Keyword::Table => 19,
+            Keyword::EndTable => 20,
+            Keyword::Initial => 21,
+            Keyword::Specify => 22,
+            Keyword::EndSpecify => 23,
+            Keyword::SpecParam => 24,
+            Keyword::If => 25,
+            Keyword::IfNone => 26,
+            Keyword::PulseStyleOnEvent => 27,
+            Keyword::PulseStyleOnDetect => 28,
+            Keyword::NoShowCancelled => 29,
+            Keyword::ShowCancelled => 30,
+            Keyword::Posedge => 31,
+            Keyword::Negedge => 32,
+            Keyword::Edge => 33,
+        }
+    }
+}
+
+impl PartialEq for Keyword {
+    ghost use Rattle.std.specs.Prelude.{nat_eq};
+    ghost use Rattle.std.specs.Ordering.{on};
+    ghost use Rattle.std.specs.Cmp.Rules.{comparing};
+    ghost use Rattle.std.proofs.Common.{rules};
+
+    ghost eq = { on keyword_number nat_eq };
+
+    ghost laws = { Prim.search (comparing, rules) };
+
+    fn eq(&self, other: &Keyword) -> bool {
+        self.number() == other.number()
+    }
+}
+
+impl Eq for Keyword {
+    ghost use Rattle.std.specs.Cmp.Rules.{comparing};
+    ghost use Rattle.std.proofs.Common.{rules};
+
+    ghost laws = { Prim.search (comparing, rules) };
+}
+
+// What the first of the rows with these bytes is for.
+fn use_in(rows: &[(&str, Reserved)], bytes: &[u8]) -> Option<Reserved>
+    ensures { result ≡ use_in bytes.now (map row rows.now) }
+{
+    let mut rest = rows;
+    while let [(word, purpose), tail @ ..] = rest {
+        if word.as_bytes() == bytes {
+            return Some(*purpose);
+        }
+        rest = tail;
+    }
+    None
+}
+
+/// What the reserved word of these bytes is for, if they are one (IEEE 1364-2005, the clause on keywords).
+pub fn use_of(bytes: &[u8]) -> Option<Reserved>
+    ensures { result ≡ use_of bytes.now }
+{
+    use_in(&RESERVED, bytes)
+}
+
+/// Whether the bytes are a reserved word, which no plain name may be (IEEE 1364-2005, the clause on keywords).
 pub fn is_reserved(bytes: &[u8]) -> bool
     ensures { result ≡ is_reserved_word bytes.now }
 {
-    is_one_of(&RESERVED, bytes)
+    use_of(bytes).is_some()
 }

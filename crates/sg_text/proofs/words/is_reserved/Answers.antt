@@ -1,7 +1,8 @@
-use Rattle.sg_text.specs.Words.{reserved_words}
+use Rattle.std.proofs.Common.{ap, ◌∙◌, is_some}
+use Rattle.sg_text.specs.Words.{reserved_rows, reserved_words}
+use Rattle.sg_text.proofs.WordLaws.{some_use}
 use Rattle.sg_text.proofs.words.is_reserved.Goals as goal
 
--- the code's words are the definition's, one by one
 pub returns : goal.returns
 unfolding reserved_words
-returns c = c.is_one_of.ensures
+returns c = c.is_some.ensures ∙ ap is_some c.use_of.ensures ∙ some_use c.args.bytes.now reserved_rows

@@ -1,5 +1,0 @@
-use Rattle.vl_lex.proofs.BranchLaws.{outer_reverse}
-use Rattle.vl_lex.proofs.branch_lists.outer.Goals as goal
-
-pub returns : goal.returns
-returns c = outer_reverse c.args.branches.now c.saturating_sub.result c.saturating_sub.ensures
