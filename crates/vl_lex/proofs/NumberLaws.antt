@@ -232,7 +232,7 @@ mark_no_point : (m : ℕ) → (m ≡ 101) ⊎ (m ≡ 69) → (m == 46) ≡ false
 mark_no_point m (inl e) = rw e refl
 mark_no_point m (inr e) = rw e refl
 
--- a spelling_bytes number is within the number that is found where it stands
+-- a spelled number is within the number that is found where it stands
 number_least : (w : List ℕ) (f : Option (List ℕ)) (p : Option Power) (z : List ℕ) → IsRun w → IfSome f IsRun → IfSome p IsPower → 0 < length w + length (unwrap_or f [])
     → length (w ++ (fraction_bytes f ++ power_bytes p)) ≤ number_len ((w ++ (fraction_bytes f ++ power_bytes p)) ++ z)
 number_least w None None z hw hf hp some = rw append-nil (whole_least w z hw (omega arith))
