@@ -8,5 +8,5 @@ returns c =
     let fits : FitsSigned w32 c.args.self.now.exponent = search rules in
     let exponent : to_z w32 (of_z w32 c.args.self.now.exponent) ≡ c.args.self.now.exponent = to_z-of_z w32 c.args.self.now.exponent fits in
     let power : to_z w64 (of_z w64 c.power_in-power.result) ≡ c.power_in-power.result = to_z-of_z w64 c.power_in-power.result (record { sfits = c.power_in-power.type_inv }) in
-    counted c.scaled_and_raised.result _ c.args.self.now.digits _ _ _ _ c.scaled_and_raised.ensures c.from.ensures
+    counted c.nearest_product_in_ticks.result _ c.args.self.now.digits _ _ _ _ c.nearest_product_in_ticks.ensures c.from.ensures
     (power ∙ c.power_in-power.ensures ∙ ap (λ e. e +ℤ (c.args.from.power -ℤ c.args.precision.power)) exponent) c.places_between-places.ensures

@@ -14,12 +14,12 @@ with_sign-requires c = (limited_is _ c.in_ok-size.size (sym c.tick_count.ensures
 
 pub returns-clause-ticks : goal.returns-clause-ticks
 returns-clause-ticks c =
-    let signed : to_z w64 (of_z w64 c.with_sign.result) ≡ c.with_sign.result = to_z-of_z w64 c.with_sign.result (record { sfits = c.with_sign.type_inv }) in
-    ap Ok (signed ∙ c.with_sign.ensures) ∙ signed_is c.args.self.now.negative _ c.in_ok-size.size (sym c.tick_count.ensures ∙ c.in_ok-size.was)
+    let signed_number : to_z w64 (of_z w64 c.with_sign.result) ≡ c.with_sign.result = to_z-of_z w64 c.with_sign.result (record { sfits = c.with_sign.type_inv }) in
+    ap Ok (signed_number ∙ c.with_sign.ensures) ∙ signed_is c.args.self.now.negative _ c.in_ok-size.size (sym c.tick_count.ensures ∙ c.in_ok-size.was)
 
 pub returns-clause-fits : goal.returns-clause-fits
 returns-clause-fits c =
     let small = (limited_is _ c.in_ok-size.size (sym c.tick_count.ensures ∙ c.in_ok-size.was)).1 in
-    let signed : to_z w64 (of_z w64 c.with_sign.result) ≡ c.with_sign.result = to_z-of_z w64 c.with_sign.result (record { sfits = c.with_sign.type_inv }) in
-    let size = ap unsigned_abs (signed ∙ c.with_sign.ensures) ∙ unsigned_abs-with_sign c.args.self.now.negative c.in_ok-size.size in
+    let signed_number : to_z w64 (of_z w64 c.with_sign.result) ≡ c.with_sign.result = to_z-of_z w64 c.with_sign.result (record { sfits = c.with_sign.type_inv }) in
+    let size = ap unsigned_abs (signed_number ∙ c.with_sign.ensures) ∙ unsigned_abs-with_sign c.args.self.now.negative c.in_ok-size.size in
     omega (arith, size, small)
