@@ -5,12 +5,13 @@ use Rattle.std.specs.List.{prefix_len}
 use Rattle.std.proofs.lemmas.List.{append-nil}
 use Rattle.sg_text.specs.declared.places.Place.{Place}
 use Rattle.vl_token.specs.Tokens.{Meaning, Lexeme}
-use Rattle.vl_lex.specs.Bytes.{is_blank, is_name_byte}
+use Rattle.sg_text.specs.Names.{is_name_byte}
+use Rattle.vl_lex.specs.Bytes.{is_blank}
 use Rattle.vl_lex.specs.State.{Word, Waiting, State, Fault, Outcome, fault, is_taken, is_looked_at, waits}
-use Rattle.vl_lex.specs.Directives.{directive_of, is_conditional, words_wanted, gone_on, closed, branched, given, scale_of, name_of, implicit_from, test_of, with_macro, applied}
+use Rattle.vl_lex.specs.Directives.{directive_of, is_conditional, words_wanted, with_next_text, without_branch, outcome_of_branches, or_bad_directive, scale_of, name_of, implicit_from, test_of, with_macro, outcome_of_directive}
 use Rattle.vl_lex.specs.Meanings.{meaning_of}
 use Rattle.vl_lex.specs.Modes.{Piece}
-use Rattle.vl_lex.specs.Effects.{Effect, comes_to, expands, defines, place_at, placed, taken_piece, fault_in, ready, with_word, skipped, is_define, stops, defined, defined_in, begins_arguments, begins_name, awaited, used, directed, passed, first_words, is_use, effect_at, effect_of, effect}
+use Rattle.vl_lex.specs.Effects.{Effect, comes_to, expands, defines, place_at, tokens_at, taken_piece, fault_in, apply_or_wait, with_word, gap_outcome, is_define, stops, define_effect, line_effect, begins_arguments, begins_name, word_effect, use_effect, tick_effect, untaken_outcome, first_words, is_use, effect_at, effect_of, effect}
 use Rattle.vl_lex.specs.Lexes.{or_state, Leads, Then, Reads, IsRead, Expands}
 use Rattle.vl_lex.specs.Laws.{AreAt, AddsAt}
 use Rattle.vl_lex.specs.declared.faults.LexKind.{LexKind}
@@ -30,15 +31,15 @@ abbrev SameOk : State → Outcome → Type 0
 SameOk s (Ok t) = t.tokens ≡ s.tokens
 SameOk s (Err f) = Unit {0}
 
-same_given : {A : Type 0} (s : State) (place : Place) (f : A → Outcome) (o : Option A) → ((a : A) → SameOk s (f a)) → SameOk s (given place f o)
+same_given : {A : Type 0} (s : State) (place : Place) (f : A → Outcome) (o : Option A) → ((a : A) → SameOk s (f a)) → SameOk s (or_bad_directive place f o)
 same_given s place f None h = tt
 same_given s place f (Some a) h = h a
 
-same_branched : (s : State) (place : Place) (o : Option (List Branch)) → SameOk s (branched place s o)
+same_branched : (s : State) (place : Place) (o : Option (List Branch)) → SameOk s (outcome_of_branches place s o)
 same_branched s place None = tt
 same_branched s place (Some branches) = refl
 
-same_applied : (d : Directive) (place : Place) (words : List Word) (s : State) → SameOk s (applied d place words s)
+same_applied : (d : Directive) (place : Place) (words : List Word) (s : State) → SameOk s (outcome_of_directive d place words s)
 same_applied Timescale place words s = same_given s place _ (scale_of words) (λ scale. refl)
 same_applied ResetAll place words s = refl
 same_applied CellDefine place words s = refl
@@ -48,9 +49,9 @@ same_applied Define place words s = tt
 same_applied Undef place words s = same_given s place _ (name_of words) (λ name. refl)
 same_applied IfDef place words s = same_given s place _ (test_of true s.macros words) (λ test. refl)
 same_applied IfNDef place words s = same_given s place _ (test_of false s.macros words) (λ test. refl)
-same_applied ElsIf place words s = same_given s place _ (test_of true s.macros words) (λ test. same_branched s place (gone_on test false s.branches))
-same_applied Else place words s = same_branched s place (gone_on true true s.branches)
-same_applied EndIf place words s = same_branched s place (closed s.branches)
+same_applied ElsIf place words s = same_given s place _ (test_of true s.macros words) (λ test. same_branched s place (with_next_text test false s.branches))
+same_applied Else place words s = same_branched s place (with_next_text true true s.branches)
+same_applied EndIf place words s = same_branched s place (without_branch s.branches)
 same_applied NoEffect place words s = refl
 
 -- a waiting directive counts for no token
@@ -62,15 +63,15 @@ same_if : (b : Bool) (s : State) (o p : Outcome) → SameOk s o → SameOk s p �
 same_if true s o p h k = h
 same_if false s o p h k = k
 
-same_ready : (w : Waiting) (s : State) → SameOk s (ready w s)
+same_ready : (w : Waiting) (s : State) → SameOk s (apply_or_wait w s)
 same_ready w s =
     let applies = same_applied w.directive w.place w.words (record s { waiting = None }) in
-    same_if (length w.words == words_wanted w.directive s.branches) s (applied w.directive w.place w.words (record s { waiting = None })) (Ok (waits w s))
-    (same_else s (record s { waiting = None }) (applied w.directive w.place w.words (record s { waiting = None })) refl applies) refl
+    same_if (length w.words == words_wanted w.directive s.branches) s (outcome_of_directive w.directive w.place w.words (record s { waiting = None })) (Ok (waits w s))
+    (same_else s (record s { waiting = None }) (outcome_of_directive w.directive w.place w.words (record s { waiting = None })) refl applies) refl
 
-same_passed : (place : Place) (d : Option Directive) (s : State) → SameOk s (passed place d s)
+same_passed : (place : Place) (d : Option Directive) (s : State) → SameOk s (untaken_outcome place d s)
 same_passed place None s = refl
-same_passed place (Some d) s = same_if (is_conditional d) s (ready (first_words d place) s) (Ok s) (same_ready (first_words d place) s) refl
+same_passed place (Some d) s = same_if (is_conditional d) s (apply_or_wait (first_words d place) s) (Ok s) (same_ready (first_words d place) s) refl
 
 abbrev HasTokens : List Lexeme → Outcome → Type 0
 HasTokens tokens (Ok t) = t.tokens ≡ tokens
@@ -81,7 +82,7 @@ HasTokens tokens (Err f) = Unit {0}
 adds_none : (place : Place) (s t : State) → t.tokens ≡ s.tokens → AddsAt place s t
 adds_none place s t e = ([], e ∙ sym (append-nil s.tokens), tt)
 
-adds_placed : (place : Place) (m : Option Meaning) → AreAt place (placed place m)
+adds_placed : (place : Place) (m : Option Meaning) → AreAt place (tokens_at place m)
 adds_placed place None = tt
 adds_placed place (Some m) = (refl, tt)
 
@@ -117,46 +118,46 @@ module _ (E : Place → List ℕ → State → Outcome → Type 0) (place : Plac
       found None k = adds_same place s t (Ok u) k e
       found (Some f) k = absurd (cc)
 
-  by_defined : (origin : Origin) (start : ℕ) (at : Place) (name text : List ℕ) (u : State) → u.tokens ≡ s.tokens → By (defined origin start at name text u)
+  by_defined : (origin : Origin) (start : ℕ) (at : Place) (name text : List ℕ) (u : State) → u.tokens ≡ s.tokens → By (define_effect origin start at name text u)
   by_defined origin start at name text u e =
       by_if (begins_arguments text) (stops BadDirective at) (defines origin start text (with_macro name text u)) (by_stops BadDirective at) (by_found origin start text (with_macro name text u) e)
 
-  by_line : (origin : Origin) (start : ℕ) (at : Place) (line : List ℕ) (u : State) → u.tokens ≡ s.tokens → By (defined_in origin start at line u)
+  by_line : (origin : Origin) (start : ℕ) (at : Place) (line : List ℕ) (u : State) → u.tokens ≡ s.tokens → By (line_effect origin start at line u)
   by_line origin start at line u e =
       let blanks : ℕ = prefix_len is_blank line in
       let bytes : List ℕ = drop blanks line in
       let size : ℕ = prefix_len is_name_byte bytes in
-      by_if ((blanks == 0) || not (begins_name bytes)) (stops BadDirective at) (defined origin (start + blanks + size) at (take size bytes) (drop size bytes) u) (by_stops BadDirective at)
+      by_if ((blanks == 0) || not (begins_name bytes)) (stops BadDirective at) (define_effect origin (start + blanks + size) at (take size bytes) (drop size bytes) u) (by_stops BadDirective at)
       (by_defined origin (start + blanks + size) at (take size bytes) (drop size bytes) u e)
 
-  same_skipped : (w : Waiting) → SameOk s (skipped w s)
+  same_skipped : (w : Waiting) → SameOk s (gap_outcome w s)
   same_skipped w = same_if (is_define w.directive) s (fault BadDirective w.place) (Ok s) tt refl
 
-  by_word : (is_name : Bool) (bytes : List ℕ) (w : Waiting) → By (comes_to (ready (with_word is_name bytes w) s))
-  by_word is_name bytes w = by_same (ready (with_word is_name bytes w) s) (same_ready (with_word is_name bytes w) s)
+  by_word : (is_name : Bool) (bytes : List ℕ) (w : Waiting) → By (comes_to (apply_or_wait (with_word is_name bytes w) s))
+  by_word is_name bytes w = by_same (apply_or_wait (with_word is_name bytes w) s) (same_ready (with_word is_name bytes w) s)
 
-  by_awaited : (origin : Origin) (at : ℕ) (w : Waiting) (c : Class) (bytes : List ℕ) → By (awaited origin at w c bytes s)
-  by_awaited origin at w class.Gap bytes = by_same (skipped w s) (same_skipped w)
-  by_awaited origin at w class.Attribute bytes = by_same (skipped w s) (same_skipped w)
+  by_awaited : (origin : Origin) (at : ℕ) (w : Waiting) (c : Class) (bytes : List ℕ) → By (word_effect origin at w c bytes s)
+  by_awaited origin at w class.Gap bytes = by_same (gap_outcome w s) (same_skipped w)
+  by_awaited origin at w class.Attribute bytes = by_same (gap_outcome w s) (same_skipped w)
   by_awaited origin at w class.Line bytes = by_line origin at w.place bytes (record s { waiting = None }) refl
   by_awaited origin at w class.Use bytes = by_stops BadDirective w.place
   by_awaited origin at w class.Name bytes = by_word true bytes w
   by_awaited origin at w c bytes = by_word false bytes w
 
-  by_used : (text : Option (List ℕ)) → By (used place text s)
+  by_used : (text : Option (List ℕ)) → By (use_effect place text s)
   by_used None = by_stops UnknownDirective place
   by_used (Some text) = adds text s
 
   by_taken : (c : Class) (bytes : List ℕ) → By (comes_to (Ok (taken_piece place c bytes s)))
   by_taken c bytes t h =
       let m : Option Meaning = meaning_of c bytes s.settings in
-      let P : Outcome → Type 0 = λ o. HasTokens (s.tokens ++ placed place m) o in
-      (placed place m, subst P (sym h) refl, adds_placed place m)
+      let P : Outcome → Type 0 = λ o. HasTokens (s.tokens ++ tokens_at place m) o in
+      (tokens_at place m, subst P (sym h) refl, adds_placed place m)
 
   by_piece : (taken : Bool) (c : Class) (bytes : List ℕ) → By (effect_at taken (InMacro place) place c bytes s)
-  by_piece true c bytes = by_if (is_use c) (used place (s.macros (drop 1 bytes)) s) (comes_to (Ok (taken_piece place c bytes s))) (by_used (s.macros (drop 1 bytes))) (by_taken c bytes)
+  by_piece true c bytes = by_if (is_use c) (use_effect place (s.macros (drop 1 bytes)) s) (comes_to (Ok (taken_piece place c bytes s))) (by_used (s.macros (drop 1 bytes))) (by_taken c bytes)
   by_piece false c bytes =
-      by_same (if is_use c then passed place (directive_of (drop 1 bytes)) s else Ok s) (same_if (is_use c) s (passed place (directive_of (drop 1 bytes)) s) (Ok s) (same_passed place (directive_of (drop 1 bytes)) s) refl)
+      by_same (if is_use c then untaken_outcome place (directive_of (drop 1 bytes)) s else Ok s) (same_if (is_use c) s (untaken_outcome place (directive_of (drop 1 bytes)) s) (Ok s) (same_passed place (directive_of (drop 1 bytes)) s) refl)
 
   by_effect : (f : Option Found) (w : Option Waiting) (at : ℕ) (c : Class) (bytes : List ℕ) → By (effect_of f w (InMacro place) at c bytes s)
   by_effect (Some f) w at c bytes = by_stops f.kind place
@@ -184,7 +185,7 @@ adds_expands zero place text s t h = absurd (cc)
 adds_expands (suc left) place text s t h = adds_reads (Expands left) place (adds_expands left place) 0 text s h.0 t h.1
 
 -- where a name is no directive, it is a macro's use
-use_of_macro : (origin : Origin) (place : Place) (name : List ℕ) (s : State) → directed origin place name None s ≡ used place (s.macros name) s
+use_of_macro : (origin : Origin) (place : Place) (name : List ℕ) (s : State) → tick_effect origin place name None s ≡ use_effect place (s.macros name) s
 use_of_macro (File n) place name s = refl
 use_of_macro (InMacro p) place name s = refl
 
@@ -202,10 +203,10 @@ macro_use left origin at name text s t w n d m h =
     let W : Option Waiting → Type 0 = λ v. Leads E (effect_of (fault_in (is_looked_at v s.branches) class.Use bytes) v origin at class.Use bytes s) (Ok t) in
     let F : Bool → Type 0 = λ u. Leads E (effect_of (fault_in u class.Use bytes) None origin at class.Use bytes s) (Ok t) in
     let T : Bool → Type 0 = λ u. Leads E (effect_at u origin place class.Use bytes s) (Ok t) in
-    let D : Option Directive → Type 0 = λ o. Leads E (directed origin place name o s) (Ok t) in
+    let D : Option Directive → Type 0 = λ o. Leads E (tick_effect origin place name o s) (Ok t) in
     let U : Effect → Type 0 = λ e. Leads E e (Ok t) in
-    let M : Option (List ℕ) → Type 0 = λ o. Leads E (used place o s) (Ok t) in
+    let M : Option (List ℕ) → Type 0 = λ o. Leads E (use_effect place o s) (Ok t) in
     let taken : T true = subst T n (subst F n (subst W w h)) in
-    let uses : U (used place (s.macros name) s) = subst U (use_of_macro origin place name s) (subst D d taken) in
+    let uses : U (use_effect place (s.macros name) s) = subst U (use_of_macro origin place name s) (subst D d taken) in
     let read : Expands (suc left) place text s (Ok t) = subst M m uses in
     (opens_up left place text s (Ok t) read, adds_expands (suc left) place text s t read)

@@ -10,7 +10,7 @@ use Rattle.sg_time.specs.Spelling.{Sign, none, plus, minus, sign_bytes, IsRun, i
 use Rattle.sg_time.specs.Reading.{sign_at, run_len, parts_of}
 use Rattle.sg_time.proofs.Laws.{parts_found, parts_again, run_found, run_again, stops_power, sign_found, sign_again, power_mark, StopsSign, digit_stops_sign}
 use Rattle.vl_lex.specs.Pieces.{has_number, is_unsigned}
-use Rattle.vl_lex.specs.Numbers.{digits_len, power_len, behind_run, number_len}
+use Rattle.vl_lex.specs.NumberBridge.{digits_len, power_len, behind_run, number_len}
 
 behind_some : (n : ℕ) (bs : List ℕ) → 0 < n → 0 < behind_run n bs
 behind_some n [] lt = lt

@@ -7,14 +7,15 @@ use Rattle.std.proofs.lemmas.List.{append-nil}
 use Rattle.std.specs.Char.{is_ascii_digit}
 use Rattle.sg_text.specs.declared.places.Place.{Place}
 use Rattle.vl_token.specs.Tokens.{Meaning, Lexeme}
-use Rattle.vl_lex.specs.Bytes.{is_blank, is_name_start, is_name_byte, is_graphic, is_inline, first_of}
+use Rattle.sg_text.specs.Names.{is_name_start, is_name_byte}
+use Rattle.vl_lex.specs.Bytes.{is_blank, is_graphic, is_inline, first_of}
 use Rattle.vl_lex.specs.Ends.{end_of, quote_end}
-use Rattle.vl_lex.specs.Numbers.{number_len, sized_len}
+use Rattle.vl_lex.specs.NumberBridge.{number_len, sized_len}
 use Rattle.vl_lex.specs.State.{State, Fault, Outcome, first_settings, first_state}
 use Rattle.vl_lex.specs.Modes.{IsPiece, Piece, is_value_byte, is_endtable, cell_of}
-use Rattle.vl_lex.specs.Found.{ended_piece, slash_piece, attribute_piece, paren_piece, quote_piece, tick_piece, symbol_len, long_piece, mark_piece, point_piece, apostrophe_piece, digit_piece, piece_from, piece_of, edge_piece, cell_piece, table_piece, line_piece, piece_in}
+use Rattle.vl_lex.specs.PieceBridge.{ended_piece, slash_piece, attribute_piece, paren_piece, quote_piece, tick_piece, symbol_len, long_piece, mark_piece, point_piece, apostrophe_piece, digit_piece, piece_from, piece_of, edge_piece, cell_piece, table_piece, line_piece, piece_in}
 use Rattle.vl_lex.specs.Meanings.{meaning_of}
-use Rattle.vl_lex.specs.Effects.{place_at, placed, mode_behind, fault_of, is_use, effect}
+use Rattle.vl_lex.specs.Effects.{place_at, tokens_at, mode_behind, fault_of, is_use, effect}
 use Rattle.vl_lex.specs.Lexes.{first_fault, Leads, IsRead, Expands, LexesUnless, too_large, Lexes}
 use Rattle.vl_lex.specs.Laws.{AreSplit, tokens_of, unless_fault}
 use Rattle.vl_lex.specs.declared.faults.Found.{Found}
@@ -165,17 +166,22 @@ module _ (E : Place → List ℕ → State → Outcome → Type 0) where
       × ((last : Mode) × IsRead E (File 0) at text (plain_state mode tokens) (plain_outcome (first_fault (File 0) at text ps) last (tokens ++ tokens_of (File 0) at text first_settings ps)))
 
   abbrev put : ℕ → Class → List ℕ → List Lexeme
-  put at c bytes = placed (place_at (File 0) at) (meaning_of c bytes first_settings)
+  put at c bytes = tokens_at (place_at (File 0) at) (meaning_of c bytes first_settings)
 
   plain_step : (at : ℕ) (text : List ℕ) (mode : Mode) (tokens : List Lexeme) (n : ℕ) (c : Class) → IsPiece mode text n c → is_use c ≡ false
       → IsPlain (at + n) (drop n text) (mode_behind mode c (take n text)) (tokens ++ put at c (take n text)) → (o : Option Found) → fault_of c (take n text) ≡ o → IsPlain at text mode tokens
   plain_step at text mode tokens n c p u rest (Some f) e =
       (record { class = c; size = n } ∷ rest.0, (p, rest.1), (mode, rw e (record { class = c; size = n } ∷ [], (p, (Err (record { kind = f.kind; place = place_at (File 0) (at + f.behind) }), rw e refl, refl)))))
   plain_step at text mode tokens n c p u rest None e =
-      let x : Piece = record { class = c; size = n } in
-      (x ∷ rest.0, (p, rest.1), (rest.2.0,
-      rw (e, ← append_assoc tokens (put at c (take n text)) (tokens_of (File 0) (at + n) (drop n text) first_settings rest.0))
-      (x ∷ rest.2.1.0, (p, (Ok (plain_state (mode_behind mode c (take n text)) (tokens ++ put at c (take n text))), rw (e, u) refl, rest.2.1.1)))))
+      let x : Piece = record { class = c; size = n } in (
+        x ∷ rest.0,
+        (p, rest.1),
+        (
+          rest.2.0,
+          rw (e, ← append_assoc tokens (put at c (take n text)) (tokens_of (File 0) (at + n) (drop n text) first_settings rest.0))
+              (x ∷ rest.2.1.0, (p, (Ok (plain_state (mode_behind mode c (take n text)) (tokens ++ put at c (take n text))), rw (e, u) refl, rest.2.1.1))),
+        ),
+      )
 
   plain_from : (most at : ℕ) (text : List ℕ) (mode : Mode) (tokens : List Lexeme) → NoTick text → length text ≤ most → IsPlain at text mode tokens
   plain_from most at [] mode tokens h le = ([], refl, (mode, ([], (refl, rw (append-nil tokens) refl))))

@@ -7,7 +7,7 @@ use Rattle.vl_lex.specs.State.{State, Fault, first_settings, is_taken}
 use Rattle.vl_lex.specs.Directives.{directive_of}
 use Rattle.vl_lex.specs.Modes.{IsPiece, Piece}
 use Rattle.vl_lex.specs.Meanings.{meaning_of}
-use Rattle.vl_lex.specs.Effects.{place_at, placed, mode_behind, effect}
+use Rattle.vl_lex.specs.Effects.{place_at, tokens_at, mode_behind, effect}
 use Rattle.vl_lex.specs.Lexes.{first_fault, Leads, IsRead, Expands, Lexes}
 use Rattle.vl_lex.specs.declared.branches.Branch.{Branch}
 use Rattle.vl_lex.specs.declared.modes.Mode.{Mode}
@@ -36,7 +36,7 @@ AreSplit mode text (p ∷ ps) = IsPiece mode text p.size p.class × AreSplit (mo
 abbrev pub tokens_of : Origin → ℕ → List ℕ → Settings → List Piece → List Lexeme
 tokens_of origin at text settings [] = []
 tokens_of origin at text settings (p ∷ ps) =
-    placed (place_at origin at) (meaning_of p.class (take p.size text) settings) ++ tokens_of origin (at + p.size) (drop p.size text) settings ps
+    tokens_at (place_at origin at) (meaning_of p.class (take p.size text) settings) ++ tokens_of origin (at + p.size) (drop p.size text) settings ps
 
 abbrev pub unless_fault : Option Fault → List Lexeme → Result (List Lexeme) Fault
 unless_fault None tokens = Ok tokens

@@ -1,10 +1,10 @@
-// Whole texts.
+// Macros' texts and whole files, read piece by piece.
 ghost use Rattle.std.specs.Prelude.{◌≡◌, ◌≤◌, ◌<◌, ◌+◌, ◌^◌, List, ℕ, Result, length, None};
 ghost use Rattle.vl_lex.specs.State.{Fault, first_state};
 ghost use Rattle.vl_token.specs.Tokens.{Lexeme};
 ghost use Rattle.vl_lex.specs.Lexes.{Leads, IsRead, Expands, IsFileRead, Lexes, too_large, at_end, file_end};
 ghost use Rattle.vl_lex.specs.Effects.{effect};
-ghost use Rattle.vl_lex.specs.Inside.{state, Gives, Answers, AreRead};
+ghost use Rattle.vl_lex.specs.StateBridge.{state, Gives, Answers, AreRead};
 ghost use Rattle.vl_lex.specs.Seen.{Stands, Tells, texts};
 
 use crate::applying::first_mark;
@@ -15,9 +15,9 @@ use crate::modes::{Mode, first_piece};
 use crate::origins::Origin;
 use crate::pieces::Class;
 use crate::room::token_room;
-use vl_token::Token;
 use sg_text::{Place, Refused};
 use std::alloc::Global;
+use vl_token::Token;
 
 // How many uses of macros may lie within one another.
 const DEEPEST: u8 = 16;

@@ -1,5 +1,5 @@
 // How many tokens to make room for: about as many as the files have.
-use crate::bytes::is_name_byte;
+use sg_text::is_name_byte;
 
 // Outside comments, tables and macros each token begins with such a byte.
 fn begins_token(before: u8, byte: u8) -> bool {
