@@ -70,3 +70,20 @@ fn reserved_words_are_whole_and_lower_case(rt: HostRuntime) {
         assert_eq!(rt; is_reserved(word), i < 4, "word {i}");
     }
 }
+
+fn keyword_of(bytes: &[u8]) -> Option<Keyword> {
+    match use_of(bytes) {
+        Some(Reserved::Keyword(word)) => Some(word),
+        _ => None,
+    }
+}
+
+#[test]
+fn each_reserved_word_has_its_use(rt: HostRuntime) {
+    assert!(rt; matches!(use_of(b"macromodule"), Some(Reserved::Module)));
+    assert!(rt; matches!(use_of(b"always"), Some(Reserved::LeftOut)));
+    assert!(rt; matches!(use_of(b"begin"), None));
+    assert_eq!(rt; keyword_of(b"initial"), Some(Keyword::Initial));
+    assert_eq!(rt; keyword_of(b"pulsestyle_ondetect"), Some(Keyword::PulseStyleOnDetect));
+    assert_eq!(rt; keyword_of(b"module"), None);
+}

@@ -50,15 +50,15 @@ PlainFile =
 
 -- ---- branches
 
--- a state within one more branch, outside all others
-abbrev pub within : Branch → State → State
-within b s = record s { branches = s.branches ++ b ∷ [] }
+-- a state within more branches, outside its own
+abbrev pub within : List Branch → State → State
+within round s = record s { branches = s.branches ++ round }
 
--- What a text comes to by itself it comes to within a branch whose text is taken: the same tokens, macros and all else.
+-- What a text comes to by itself it comes to within branches whose texts are taken: the same tokens, macros and all else.
 abbrev pub TakenBranch : Type 0
 TakenBranch =
-    (left : ℕ) (origin : Origin) (at : ℕ) (text : List ℕ) (s t : State) (b : Branch) → b.taken ≡ true
-    → IsRead (Expands left) origin at text s (Ok t) → IsRead (Expands left) origin at text (within b s) (Ok (within b t))
+    (left : ℕ) (origin : Origin) (at : ℕ) (text : List ℕ) (s t : State) (round : List Branch) → list_all (λ b. b.taken) round ≡ true
+    → IsRead (Expands left) origin at text s (Ok t) → IsRead (Expands left) origin at text (within round s) (Ok (within round t))
 
 -- all but the branches and what waits for its words
 pub record Keeps (s t : State) : Type 0 where

@@ -16,7 +16,7 @@ pub fn plain_file()
     ensures { PlainFile }
 {}
 
-/// Within a branch whose text is taken a text gives what it gives by itself.
+/// Within branches whose texts are taken a text gives what it gives by itself.
 pub fn taken_branch()
     ensures { TakenBranch }
 {}

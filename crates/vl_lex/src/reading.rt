@@ -174,9 +174,9 @@ fn lex_few(alloc: Global, files: &[Vec<u8>]) -> Result<Vec<Token<'_>>, Refused<L
 
 /// The tokens of netlist files, which are read one after another.
 ///
-/// Directives are applied, macros and branches too; a macro's tokens stand at its outermost use. Of several faults the
-/// first from the left is answered, but for `FileTooLarge`, which comes before all others.
-/// Takes memory for each token, each macro and each macro's use. For more than 2^32 - 1 files there is none.
+/// Directives are applied, macros and branches too; a macro's tokens stand at its outermost use. The texts of tokens are
+/// parts of the files. Of several faults the first that is met is answered, but for `FileTooLarge`, which comes before all
+/// others. Takes memory for the tokens, the macros and the open branches. For more than 2^32 - 1 files there is none.
 pub fn lex(alloc: Global, files: &[Vec<u8>]) -> Result<Vec<Token<'_>>, Refused<LexKind>>
     // The token list or the fault that it answers stands.
     ensures found { Stands (Lexes (texts files.now)) result }
