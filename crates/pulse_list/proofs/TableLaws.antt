@@ -143,10 +143,6 @@ pub length-rest_of : (ys : List (ℕ × Value)) → length (rest_of ys) ≡ leng
 length-rest_of [] = refl
 length-rest_of (y ∷ ys) = omega arith
 
-pub rises_rest_of : (ys : List (ℕ × Value)) → Rises ys → Rises (rest_of ys)
-rises_rest_of [] r = tt
-rises_rest_of (y ∷ ys) r = r.1
-
 -- an agenda of n drivers, with nothing pending
 pub view-empty : (n : ℕ) (xs : List Pending) (counts : List ℕ) → xs ≡ [] → counts ≡ replicate n 0 → table_of (length counts) xs ≡ replicate n []
 view-empty n xs counts e c =

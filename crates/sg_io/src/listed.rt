@@ -5,7 +5,7 @@ use sg_text::NoMemory;
 use std::alloc::Global;
 use std::marker::Model;
 
-/// A call that is to fail, by its number, after so many bytes.
+// A call that is to fail, by its number, after so many bytes.
 #[derive(Clone, Copy, Debug, PartialEq, Eq)]
 pub struct FailingCall {
     pub call: u64,

@@ -1,3 +1,4 @@
 -- The modules of this folder.
+pub mod Names
 pub mod Words
 pub mod WordsSeen

@@ -2,11 +2,13 @@
 //! refused, and the reserved words.
 #![tactic(auto)]
 
+mod names;
 mod places;
 mod refusals;
 mod texts;
 mod words;
 
+pub use names::{is_name_byte, is_name_start, is_simple_name};
 pub use places::Place;
 pub use refusals::{NoMemory, Refused};
 pub use texts::Text;

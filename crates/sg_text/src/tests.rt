@@ -45,6 +45,16 @@ fn errors_as_they_are_written(rt: HostRuntime) -> Result<(), Fail> {
 }
 
 #[test]
+fn plain_names(rt: HostRuntime) {
+    let names: [&[u8]; 8] = [b"U1", b"_a$0", b"Z", b"wire", b"", b"1a", b"$a", b"a.b"];
+    for (i, name) in names.iter().enumerate() {
+        assert_eq!(rt; is_simple_name(name), i < 4, "name {i}");
+    }
+    assert!(rt; is_name_start(b'_') && !is_name_start(b'$'));
+    assert!(rt; is_name_byte(b'9') && !is_name_byte(b'-'));
+}
+
+#[test]
 fn reserved_words_are_whole_and_lower_case(rt: HostRuntime) {
     let words: [&[u8]; 8] = [
         b"module",
@@ -59,4 +69,21 @@ fn reserved_words_are_whole_and_lower_case(rt: HostRuntime) {
     for (i, word) in words.iter().enumerate() {
         assert_eq!(rt; is_reserved(word), i < 4, "word {i}");
     }
+}
+
+fn keyword_of(bytes: &[u8]) -> Option<Keyword> {
+    match use_of(bytes) {
+        Some(Reserved::Keyword(word)) => Some(word),
+        _ => None,
+    }
+}
+
+#[test]
+fn each_reserved_word_has_its_use(rt: HostRuntime) {
+    assert!(rt; matches!(use_of(b"macromodule"), Some(Reserved::Module)));
+    assert!(rt; matches!(use_of(b"always"), Some(Reserved::LeftOut)));
+    assert!(rt; matches!(use_of(b"begin"), None));
+    assert_eq!(rt; keyword_of(b"initial"), Some(Keyword::Initial));
+    assert_eq!(rt; keyword_of(b"pulsestyle_ondetect"), Some(Keyword::PulseStyleOnDetect));
+    assert_eq!(rt; keyword_of(b"module"), None);
 }

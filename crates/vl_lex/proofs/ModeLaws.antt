@@ -8,7 +8,7 @@ use Rattle.std.proofs.lemmas.List.{length-take, length-take-le}
 use Rattle.vl_lex.specs.Bytes.{is_inline, first_of}
 use Rattle.vl_lex.specs.Pieces.{class_of, where_so, is_alone}
 use Rattle.vl_lex.specs.Modes.{is_value_byte, edge_class, begins_name_byte, is_endtable, cell_of, cell_or, cell_from, table_class, class_in, IsPiece}
-use Rattle.vl_lex.specs.Found.{slash_piece, piece_of, edge_piece, cell_piece, table_piece, line_piece, piece_in}
+use Rattle.vl_lex.specs.PieceBridge.{slash_piece, piece_of, edge_piece, cell_piece, table_piece, line_piece, piece_in}
 use Rattle.vl_lex.specs.declared.bytes.First.{First}
 use Rattle.vl_lex.specs.declared.bytes.First.TheVariants.{Blank, Letter, Backslash, Dollar, Quote, Tick, Apostrophe, Slash, Paren, Mark, Bad}
 use Rattle.vl_lex.specs.declared.pieces.Class.{Class}

@@ -10,7 +10,7 @@ use Rattle.sg_time.specs.Spelling.{Sign, none, plus, minus, sign_bytes, IsRun, i
 use Rattle.sg_time.specs.Reading.{sign_at, run_len, parts_of}
 use Rattle.sg_time.proofs.Laws.{parts_found, parts_again, run_found, run_again, stops_power, sign_found, sign_again, power_mark, StopsSign, digit_stops_sign}
 use Rattle.vl_lex.specs.Pieces.{has_number, is_unsigned}
-use Rattle.vl_lex.specs.Numbers.{digits_len, power_len, behind_run, number_len}
+use Rattle.vl_lex.specs.NumberBridge.{digits_len, power_len, behind_run, number_len}
 
 behind_some : (n : ℕ) (bs : List ℕ) → 0 < n → 0 < behind_run n bs
 behind_some n [] lt = lt
@@ -232,7 +232,7 @@ mark_no_point : (m : ℕ) → (m ≡ 101) ⊎ (m ≡ 69) → (m == 46) ≡ false
 mark_no_point m (inl e) = rw e refl
 mark_no_point m (inr e) = rw e refl
 
--- a spelling_bytes number is within the number that is found where it stands
+-- a spelled number is within the number that is found where it stands
 number_least : (w : List ℕ) (f : Option (List ℕ)) (p : Option Power) (z : List ℕ) → IsRun w → IfSome f IsRun → IfSome p IsPower → 0 < length w + length (unwrap_or f [])
     → length (w ++ (fraction_bytes f ++ power_bytes p)) ≤ number_len ((w ++ (fraction_bytes f ++ power_bytes p)) ++ z)
 number_least w None None z hw hf hp some = rw append-nil (whole_least w z hw (omega arith))

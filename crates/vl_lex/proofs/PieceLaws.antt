@@ -9,7 +9,8 @@ use Rattle.vl_lex.specs.declared.bytes.First.{First}
 use Rattle.vl_lex.specs.declared.bytes.First.TheVariants.{Blank, Letter, Backslash, Dollar, Quote, Tick, Apostrophe, Slash, Paren, Mark, Bad}
 use Rattle.vl_lex.specs.declared.pieces.Class.{Class}
 use Rattle.vl_lex.specs.declared.pieces.Class.TheVariants as class
-use Rattle.vl_lex.specs.Bytes.{first_of, is_name_byte, is_name_start, is_graphic, is_inline}
+use Rattle.sg_text.specs.Names.{is_name_byte, is_name_start}
+use Rattle.vl_lex.specs.Bytes.{first_of, is_graphic, is_inline}
 use Rattle.vl_lex.specs.Ends.{end_of, quote_end}
 use Rattle.vl_lex.specs.Sized.{sized_of}
 use Rattle.vl_lex.specs.Modes.{IsPiece, class_in}
@@ -17,10 +18,10 @@ use Rattle.vl_lex.specs.declared.modes.Mode.{Mode}
 use Rattle.vl_lex.specs.declared.modes.Mode.TheVariants.{Plain}
 use Rattle.vl_token.specs.Symbols.{Row, symbol_rows, symbol_in}
 use Rattle.vl_lex.specs.Pieces.{is_symbol, has_number, apostrophe_class, where_so, is_alone, ended_or, slash_class, paren_class, begins_paren, tick_class, long_class, mark_class, digit_class, point_class, class_from, class_of}
-use Rattle.vl_lex.specs.Found.{ended_piece, slash_piece, attribute_piece, paren_piece, quote_piece, tick_piece, symbol_len, long_piece, mark_piece, point_piece, apostrophe_piece, digit_piece, piece_from, piece_of}
+use Rattle.vl_lex.specs.PieceBridge.{ended_piece, slash_piece, attribute_piece, paren_piece, quote_piece, tick_piece, symbol_len, long_piece, mark_piece, point_piece, apostrophe_piece, digit_piece, piece_from, piece_of}
 use Rattle.std.specs.Char.{is_ascii_digit}
 use Rattle.sg_time.specs.Reading.{parts_of}
-use Rattle.vl_lex.specs.Numbers.{number_len, sized_len}
+use Rattle.vl_lex.specs.NumberBridge.{number_len, sized_len}
 use Rattle.vl_lex.proofs.NumberLaws.{digit_some, number_form, number_within, number_longest}
 use Rattle.vl_lex.proofs.SizedLaws.{sized_within, sized_form, sized_longest}
 use Rattle.vl_lex.proofs.Runs.{run_form, run_longest, IsEnd, IsEnd-end_of, IsEnd-quote_end}

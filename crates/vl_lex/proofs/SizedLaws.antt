@@ -8,7 +8,7 @@ use Rattle.std.proofs.lemmas.List.{take-append-drop, length-take-le, take-append
 use Rattle.std.proofs.Math.Seq.{take-append_seam, drop-append_seam, take-append-add}
 use Rattle.vl_token.specs.Constants.{base_of, is_digit_of}
 use Rattle.vl_lex.specs.Sized.{with_digits, behind_width, sized_of}
-use Rattle.vl_lex.specs.Numbers.{digits_size, behind_base, base_size, sized_len}
+use Rattle.vl_lex.specs.NumberBridge.{digits_size, behind_base, base_size, sized_len}
 use Rattle.vl_token.specs.declared.bases.Base.{Base}
 use Rattle.vl_lex.proofs.Runs.{run_form, run_longest}
 

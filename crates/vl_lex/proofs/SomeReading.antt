@@ -5,7 +5,7 @@ use Rattle.sg_text.specs.declared.places.Place.{Place}
 use Rattle.vl_token.specs.Tokens.{Lexeme}
 use Rattle.vl_lex.specs.State.{Fault, State, Outcome, first_state}
 use Rattle.vl_lex.specs.Modes.{IsPiece}
-use Rattle.vl_lex.specs.Found.{piece_in}
+use Rattle.vl_lex.specs.PieceBridge.{piece_in}
 use Rattle.vl_lex.specs.Effects.{Effect, comes_to, expands, defines, mode_at, effect}
 use Rattle.vl_lex.specs.Lexes.{first_fault, or_state, Leads, Then, IsRead, Expands, at_file_end, at_end, LexesFrom, too_large, LexesUnless, Lexes}
 use Rattle.vl_lex.specs.declared.origins.Origin.{Origin}

@@ -2,7 +2,7 @@
 use Rattle.std.proofs.Common.{◌≡◌, ℕ, zero, suc, ◌+◌, ◌≤◌, List, [], ◌∷◌, length, length-drop, take, drop, refl, sym, ap, ◌∙◌, arith, subst}
 use Rattle.std.specs.Prelude.{Option, Some, None}
 use Rattle.std.proofs.lemmas.List.{take_all}
-use Rattle.vl_lex.specs.Found.{piece_of}
+use Rattle.vl_lex.specs.PieceBridge.{piece_of}
 use Rattle.vl_lex.specs.Modes.{IsPiece, Piece, ArePieces}
 use Rattle.vl_lex.specs.State.{Fault}
 use Rattle.vl_lex.specs.Effects.{place_at, fault_of}

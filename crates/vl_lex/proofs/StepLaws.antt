@@ -12,7 +12,7 @@ use Rattle.vl_token.specs.Tokens.{Lexeme}
 use Rattle.vl_lex.specs.Modes.{IsPiece}
 use Rattle.vl_lex.specs.declared.pieces.Class.{Class}
 use Rattle.vl_lex.specs.declared.modes.Mode.{Mode}
-use Rattle.vl_lex.specs.Inside.{IsChecked, Answers, NoText, Steps, AreRead}
+use Rattle.vl_lex.specs.StateBridge.{IsChecked, Answers, NoText, Steps, AreRead}
 use Rattle.vl_lex.specs.Seen.{texts}
 use Rattle.vl_lex.specs.declared.faults.LexKind.{LexKind}
 use Rattle.vl_lex.specs.declared.faults.LexKind.TheVariants.{MacroTooDeep}

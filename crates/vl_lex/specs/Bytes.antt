@@ -1,18 +1,13 @@
--- The bytes of a netlist's text.
+-- The bytes of a netlist's text by what they begin (IEEE 1364-2005, the clause on lexical conventions).
 use Rattle.std.specs.Prelude.{ℕ, Bool, ◌==◌, ◌||◌, not, if◌then◌else◌}
-use Rattle.std.specs.Char.{is_ascii_alphabetic, is_ascii_alphanumeric, is_ascii_graphic}
+use Rattle.std.specs.Char.{is_ascii_graphic}
+use Rattle.sg_text.specs.Names.{is_name_start}
 use Rattle.vl_lex.specs.declared.bytes.First.{First}
 use Rattle.vl_lex.specs.declared.bytes.First.TheVariants.{Blank, Letter, Backslash, Dollar, Quote, Tick, Apostrophe, Slash, Paren, Mark, Bad}
 
 -- space, tab, LF, CR and FF
 abbrev pub is_blank : ℕ → Bool
 is_blank b = (b == 32) || (b == 9) || (b == 10) || (b == 13) || (b == 12)
-
-abbrev pub is_name_start : ℕ → Bool
-is_name_start b = is_ascii_alphabetic b || (b == 95)
-
-abbrev pub is_name_byte : ℕ → Bool
-is_name_byte b = is_ascii_alphanumeric b || (b == 95) || (b == 36)
 
 -- a printable byte that is no blank
 abbrev pub is_graphic : ℕ → Bool

@@ -71,27 +71,27 @@ words_wanted ElsIf branches = if is_taken (outer branches) then 1 else 0
 words_wanted _ branches = 0
 
 -- a branch is opened, taken where the test holds and the text round it is taken
-abbrev pub opened : Place → Bool → List Branch → List Branch
-opened place test branches = record { place = place; taken = test && is_taken branches; settled = test || not (is_taken branches); last = false } ∷ branches
+abbrev pub with_branch : Place → Bool → List Branch → List Branch
+with_branch place test branches = record { place = place; taken = test && is_taken branches; settled = test || not (is_taken branches); last = false } ∷ branches
 
 -- The innermost branch goes on with another text. None follows its last one; where the text round it isn't taken, that
 -- isn't looked at.
-abbrev pub gone_on : Bool → Bool → List Branch → Option (List Branch)
-gone_on test last [] = None
-gone_on test last (b ∷ bs) =
+abbrev pub with_next_text : Bool → Bool → List Branch → Option (List Branch)
+with_next_text test last [] = None
+with_next_text test last (b ∷ bs) =
     if b.last && is_taken bs then None
     else Some (record { place = b.place; taken = test && not b.settled; settled = test || b.settled; last = last } ∷ bs)
 
-abbrev pub closed : List Branch → Option (List Branch)
-closed [] = None
-closed (b ∷ bs) = Some bs
+abbrev pub without_branch : List Branch → Option (List Branch)
+without_branch [] = None
+without_branch (b ∷ bs) = Some bs
 
 abbrev pub with_branches : State → List Branch → State
 with_branches s branches = record s { branches = branches }
 
-abbrev pub branched : Place → State → Option (List Branch) → Outcome
-branched place s None = fault UnbalancedIf place
-branched place s (Some branches) = Ok (with_branches s branches)
+abbrev pub outcome_of_branches : Place → State → Option (List Branch) → Outcome
+outcome_of_branches place s None = fault UnbalancedIf place
+outcome_of_branches place s (Some branches) = Ok (with_branches s branches)
 
 abbrev pub is_defined : List ℕ → Macros → Bool
 is_defined name macros = is_some (macros name)
@@ -155,9 +155,9 @@ test_of wanted macros [] = Some false
 test_of wanted macros (w ∷ ws) = option_map (λ name. as_wanted wanted (is_defined name macros)) (name_of (w ∷ ws))
 
 -- what is there is used, and else the directive is refused
-abbrev pub given : {A : Type 0} → Place → (A → Outcome) → Option A → Outcome
-given place f None = fault BadDirective place
-given place f (Some a) = f a
+abbrev pub or_bad_directive : {A : Type 0} → Place → (A → Outcome) → Option A → Outcome
+or_bad_directive place f None = fault BadDirective place
+or_bad_directive place f (Some a) = f a
 
 abbrev pub with_settings : State → Settings → State
 with_settings s settings = record s { settings = settings }
@@ -172,21 +172,21 @@ with_text name text macros other = if same_bytes name other then Some text else 
 abbrev pub with_macro : List ℕ → List ℕ → State → State
 with_macro name text s = record s { macros = with_text name text s.macros }
 
-abbrev pub opens : Bool → Place → List Word → State → Outcome
-opens wanted place words s = given place (λ test. Ok (with_branches s (opened place test s.branches))) (test_of wanted s.macros words)
+abbrev pub opens_branch : Bool → Place → List Word → State → Outcome
+opens_branch wanted place words s = or_bad_directive place (λ test. Ok (with_branches s (with_branch place test s.branches))) (test_of wanted s.macros words)
 
 -- A directive that has its words is applied. A definition isn't applied so, since its text is one line.
-abbrev pub applied : Directive → Place → List Word → State → Outcome
-applied Timescale place words s = given place (λ scale. Ok (with_settings s (record s.settings { scale = scale }))) (scale_of words)
-applied ResetAll place words s = Ok (with_settings s first_settings)
-applied CellDefine place words s = Ok (with_settings s (record s.settings { cell = true }))
-applied EndCellDefine place words s = Ok (with_settings s (record s.settings { cell = false }))
-applied DefaultNetType place words s = given place (λ implicit. Ok (with_settings s (record s.settings { implicit = implicit }))) (implicit_from (name_of words))
-applied Define place words s = fault BadDirective place
-applied Undef place words s = given place (λ name. Ok (record s { macros = without name s.macros })) (name_of words)
-applied IfDef place words s = opens true place words s
-applied IfNDef place words s = opens false place words s
-applied ElsIf place words s = given place (λ test. branched place s (gone_on test false s.branches)) (test_of true s.macros words)
-applied Else place words s = branched place s (gone_on true true s.branches)
-applied EndIf place words s = branched place s (closed s.branches)
-applied NoEffect place words s = Ok s
+abbrev pub outcome_of_directive : Directive → Place → List Word → State → Outcome
+outcome_of_directive Timescale place words s = or_bad_directive place (λ scale. Ok (with_settings s (record s.settings { scale = scale }))) (scale_of words)
+outcome_of_directive ResetAll place words s = Ok (with_settings s first_settings)
+outcome_of_directive CellDefine place words s = Ok (with_settings s (record s.settings { cell = true }))
+outcome_of_directive EndCellDefine place words s = Ok (with_settings s (record s.settings { cell = false }))
+outcome_of_directive DefaultNetType place words s = or_bad_directive place (λ implicit. Ok (with_settings s (record s.settings { implicit = implicit }))) (implicit_from (name_of words))
+outcome_of_directive Define place words s = fault BadDirective place
+outcome_of_directive Undef place words s = or_bad_directive place (λ name. Ok (record s { macros = without name s.macros })) (name_of words)
+outcome_of_directive IfDef place words s = opens_branch true place words s
+outcome_of_directive IfNDef place words s = opens_branch false place words s
+outcome_of_directive ElsIf place words s = or_bad_directive place (λ test. outcome_of_branches place s (with_next_text test false s.branches)) (test_of true s.macros words)
+outcome_of_directive Else place words s = outcome_of_branches place s (with_next_text true true s.branches)
+outcome_of_directive EndIf place words s = outcome_of_branches place s (without_branch s.branches)
+outcome_of_directive NoEffect place words s = Ok s

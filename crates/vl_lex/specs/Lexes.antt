@@ -1,4 +1,4 @@
--- The tokens of a list of files, or the first fault from the left.
+-- The tokens of a list of files, or the first fault that is met.
 use Rattle.std.specs.Prelude.{ℕ, zero, suc, ◌≡◌, ◌+◌, ◌^◌, nat_lt, List, [], ◌∷◌, length, take, drop, Option, Some, None, Result, Ok, Err, if◌then◌else◌}
 use Rattle.sg_text.specs.declared.places.Place.{Place}
 use Rattle.vl_token.specs.Tokens.{Lexeme}

@@ -1,4 +1,4 @@
--- The modules of this folder: the definition of tokens, from bytes up to whole files, and what the code has in its place.
+-- The modules of this folder: the definition of lexing, from bytes up to whole files; its laws; and bridges between it and the code.
 pub mod Bytes
 pub mod Ends
 pub mod Sized
@@ -10,6 +10,7 @@ pub mod Meanings
 pub mod Effects
 pub mod Lexes
 pub mod Seen
-pub mod Inside
-pub mod Numbers
-pub mod Found
+pub mod StateBridge
+pub mod NumberBridge
+pub mod PieceBridge
+pub mod Laws

@@ -2,7 +2,8 @@
 use Rattle.std.specs.Prelude.{ℕ, ◌≡◌, ◌<◌, ◌≤◌, ◌==◌, ◌&&◌, ◌||◌, not, nat_eq, List, [], ◌∷◌, length, take, drop, Bool, false, Option, Some, None, if◌then◌else◌, codes}
 use Rattle.std.specs.List.{list_all}
 use lib.Pointwise.{pointwise}
-use Rattle.vl_lex.specs.Bytes.{is_name_byte, is_inline, first_of}
+use Rattle.sg_text.specs.Names.{is_name_byte}
+use Rattle.vl_lex.specs.Bytes.{is_inline, first_of}
 use Rattle.vl_lex.specs.Pieces.{class_of, where_so, is_alone, slash_class}
 use Rattle.vl_lex.specs.declared.bytes.First.{First}
 use Rattle.vl_lex.specs.declared.bytes.First.TheVariants.{Blank, Slash, Bad}

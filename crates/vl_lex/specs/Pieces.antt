@@ -5,7 +5,8 @@ use Rattle.std.specs.Char.{is_ascii_digit}
 use Rattle.sg_time.specs.Reading.{parts_of}
 use Rattle.sg_time.specs.Spelling.{Sign, none, plus, minus, Spelling}
 use Rattle.vl_token.specs.Symbols.{symbol_of}
-use Rattle.vl_lex.specs.Bytes.{is_name_start, is_name_byte, is_graphic, is_inline, first_of}
+use Rattle.sg_text.specs.Names.{is_name_start, is_name_byte}
+use Rattle.vl_lex.specs.Bytes.{is_graphic, is_inline, first_of}
 use Rattle.vl_lex.specs.Ends.{end_of, quote_end}
 use Rattle.vl_lex.specs.Sized.{sized_of}
 use Rattle.vl_lex.specs.declared.bytes.First.{First}

@@ -1,10 +1,10 @@
-// What directives do.
+// The state that each directive leaves, once it has its words.
 ghost use Rattle.std.specs.Prelude.{◌≡◌, ◌≤◌, ◌^◌, length, map, Option, Some, None, Ok, MatchOption, is_some};
 ghost use Rattle.std.specs.Option.{option_map};
 ghost use Rattle.vl_lex.specs.State.{first_settings};
-ghost use Rattle.vl_lex.specs.Directives.{is_defined, as_wanted, test_of, branched, gone_on, closed, opens, applied};
+ghost use Rattle.vl_lex.specs.Directives.{is_defined, as_wanted, test_of, outcome_of_branches, with_next_text, without_branch, opens_branch, outcome_of_directive};
 ghost use Rattle.vl_token.specs.Seen.{settings, timescale};
-ghost use Rattle.vl_lex.specs.Inside.{word, macros as macros_seen, state, Gives};
+ghost use Rattle.vl_lex.specs.StateBridge.{word, macros as macros_seen, state, Gives};
 
 use crate::branches::{close, go_on, open};
 use crate::directives::{Directive, Word, implicit_of, name_of};
@@ -12,9 +12,9 @@ use crate::faults::{LexKind, bad_directive, fault};
 use crate::lexer::Lexer;
 use crate::macros::Macros;
 use crate::scales::scale_of;
-use vl_token::Mark;
 use sg_text::{Place, Refused};
 use sg_time::{Scale, Unit};
+use vl_token::Mark;
 
 // 1 ns / 1 ps, no cells, and nets that may be implicit.
 pub fn first_mark() -> Mark
@@ -36,10 +36,10 @@ fn is_defined(macros: &Macros, name: &[u8]) -> bool
     macros.text_of(name).is_some()
 }
 
-fn as_wanted(wanted: bool, defined: bool) -> bool
-    ensures { result ≡ as_wanted wanted defined }
+fn as_wanted(wanted: bool, is_defined: bool) -> bool
+    ensures { result ≡ as_wanted wanted is_defined }
 {
-    if wanted { defined } else { !defined }
+    if wanted { is_defined } else { !is_defined }
 }
 
 // Whether the text behind a test of a macro's name is taken.
@@ -55,7 +55,7 @@ fn test_of(wanted: bool, macros: &Macros, words: &[Word]) -> Option<bool>
 
 impl Lexer<'_> {
     fn set_scale(&mut self, place: Place, words: &[Word]) -> Result<(), Refused<LexKind>>
-        ensures { Gives (applied Directive.Timescale place (map word words.now) (state self.old)) (state self.new) result }
+        ensures { Gives (outcome_of_directive Directive.Timescale place (map word words.now) (state self.old)) (state self.new) result }
     {
         match scale_of(words) {
             Some(scale) => {
@@ -67,7 +67,7 @@ impl Lexer<'_> {
     }
 
     fn set_net_type(&mut self, place: Place, words: &[Word]) -> Result<(), Refused<LexKind>>
-        ensures { Gives (applied Directive.DefaultNetType place (map word words.now) (state self.old)) (state self.new) result }
+        ensures { Gives (outcome_of_directive Directive.DefaultNetType place (map word words.now) (state self.old)) (state self.new) result }
     {
         match implicit_of(words) {
             Some(implicit) => {
@@ -79,7 +79,7 @@ impl Lexer<'_> {
     }
 
     fn undefine(&mut self, place: Place, words: &[Word]) -> Result<(), Refused<LexKind>>
-        ensures { Gives (applied Directive.Undef place (map word words.now) (state self.old)) (state self.new) result }
+        ensures { Gives (outcome_of_directive Directive.Undef place (map word words.now) (state self.old)) (state self.new) result }
     {
         match name_of(words) {
             Some(name) => {
@@ -96,7 +96,7 @@ impl Lexer<'_> {
         place: Place,
         words: &[Word],
     ) -> Result<(), Refused<LexKind>>
-        ensures { Gives (opens wanted place (map word words.now) (state self.old)) (state self.new) result }
+        ensures { Gives (opens_branch wanted place (map word words.now) (state self.old)) (state self.new) result }
     {
         match test_of(wanted, &self.macros, words) {
             Some(test) => {
@@ -108,7 +108,7 @@ impl Lexer<'_> {
     }
 
     fn next_branch(&mut self, place: Place, test: bool, last: bool) -> Result<(), Refused<LexKind>>
-        ensures { Gives (branched place (state self.old) (gone_on test last (state self.old).branches)) (state self.new) result }
+        ensures { Gives (outcome_of_branches place (state self.old) (with_next_text test last (state self.old).branches)) (state self.new) result }
     {
         if go_on(&mut self.branches, test, last)? {
             Ok(())
@@ -118,7 +118,7 @@ impl Lexer<'_> {
     }
 
     fn test_branch(&mut self, place: Place, words: &[Word]) -> Result<(), Refused<LexKind>>
-        ensures { Gives (applied Directive.ElsIf place (map word words.now) (state self.old)) (state self.new) result }
+        ensures { Gives (outcome_of_directive Directive.ElsIf place (map word words.now) (state self.old)) (state self.new) result }
     {
         match test_of(true, &self.macros, words) {
             Some(test) => self.next_branch(place, test, false),
@@ -127,7 +127,7 @@ impl Lexer<'_> {
     }
 
     fn close_branch(&mut self, place: Place) -> Result<(), Refused<LexKind>>
-        ensures { Gives (branched place (state self.old) (closed (state self.old).branches)) (state self.new) result }
+        ensures { Gives (outcome_of_branches place (state self.old) (without_branch (state self.old).branches)) (state self.new) result }
     {
         if close(&mut self.branches) {
             Ok(())
@@ -143,7 +143,7 @@ impl Lexer<'_> {
         place: Place,
         words: &[Word],
     ) -> Result<(), Refused<LexKind>>
-        ensures { Gives (applied directive place (map word words.now) (state self.old)) (state self.new) result }
+        ensures { Gives (outcome_of_directive directive place (map word words.now) (state self.old)) (state self.new) result }
     {
         match directive {
             Directive::Timescale => return self.set_scale(place, words),

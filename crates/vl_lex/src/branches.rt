@@ -1,7 +1,7 @@
 // The branches that are open, the innermost last, and what directives do to them.
 ghost use Rattle.std.specs.Prelude.{◌≡◌, OnOk, IfOk, Some, None, reverse, if◌then◌else◌};
 ghost use Rattle.vl_lex.specs.State.{is_taken};
-ghost use Rattle.vl_lex.specs.Directives.{outer, words_wanted, opened, gone_on, closed};
+ghost use Rattle.vl_lex.specs.Directives.{outer, words_wanted, with_branch, with_next_text, without_branch};
 
 use crate::directives::Directive;
 use sg_text::Place;
@@ -58,7 +58,7 @@ pub fn words_wanted(directive: Directive, branches: &[Branch]) -> usize
 
 // A branch is opened.
 pub fn open(branches: &mut Vec<Branch>, place: Place, test: bool) -> Result<(), AllocError>
-    ensures { OnOk result (reverse branches.new.items ≡ opened place test (reverse branches.old.items)) }
+    ensures { OnOk result (reverse branches.new.items ≡ with_branch place test (reverse branches.old.items)) }
 {
     let taken = is_taken(branches);
     branches.push(Branch {
@@ -72,7 +72,7 @@ pub fn open(branches: &mut Vec<Branch>, place: Place, test: bool) -> Result<(), 
 
 // The innermost branch goes on with another text, if it may.
 pub fn go_on(branches: &mut Vec<Branch>, test: bool, last: bool) -> Result<bool, AllocError>
-    ensures { IfOk result (λ done. gone_on test last (reverse branches.old.items) ≡ (if done then Some (reverse branches.new.items) else None)) }
+    ensures { IfOk result (λ done. with_next_text test last (reverse branches.old.items) ≡ (if done then Some (reverse branches.new.items) else None)) }
 {
     let Some(branch) = branches.pop() else {
         return Ok(false);
@@ -91,7 +91,7 @@ pub fn go_on(branches: &mut Vec<Branch>, test: bool, last: bool) -> Result<bool,
 
 // The innermost branch is closed, if there is one.
 pub fn close(branches: &mut Vec<Branch>) -> bool
-    ensures { closed (reverse branches.old.items) ≡ (if result then Some (reverse branches.new.items) else None) }
+    ensures { without_branch (reverse branches.old.items) ≡ (if result then Some (reverse branches.new.items) else None) }
 {
     branches.pop().is_some()
 }

@@ -1,12 +1,14 @@
-// The bytes that texts are made of.
+// What a text begins with: blanks, names, symbols, ends.
 ghost use Rattle.std.specs.Prelude.{◌≡◌, ◌≤◌, ◌<◌, length, nat_eq, IfSome};
 ghost use Rattle.std.specs.List.{prefix_len, list_any};
 ghost use lib.Pointwise.{pointwise};
-ghost use Rattle.vl_lex.specs.Bytes.{is_blank, is_name_start, is_name_byte, first_of, is_graphic, is_inline};
+ghost use Rattle.sg_text.specs.Names.{is_name_byte};
+ghost use Rattle.vl_lex.specs.Bytes.{is_blank, first_of, is_graphic, is_inline};
 ghost use Rattle.vl_lex.specs.Ends.{end_from, end_of, quote_from, quote_end};
 ghost use Rattle.vl_lex.specs.Pieces.{is_symbol};
 ghost use Rattle.vl_lex.specs.State.{same_bytes};
 
+use sg_text::{is_name_byte, is_name_start};
 use vl_token::symbol_of;
 
 /// What a text begins with.
@@ -29,18 +31,6 @@ pub fn is_blank(b: u8) -> bool
     ensures { result ≡ is_blank b }
 {
     b == b' ' || b == b'\t' || b == b'\n' || b == b'\r' || b == 12
-}
-
-pub fn is_name_start(b: u8) -> bool
-    ensures { result ≡ is_name_start b }
-{
-    b.is_ascii_alphabetic() || b == b'_'
-}
-
-pub fn is_name_byte(b: u8) -> bool
-    ensures { result ≡ is_name_byte b }
-{
-    b.is_ascii_alphanumeric() || b == b'_' || b == b'$'
 }
 
 pub fn first_of(b: u8) -> First

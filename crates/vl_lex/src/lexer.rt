@@ -1,4 +1,4 @@
-// The state of the directives, and the tokens so far.
+// What is known of the texts so far: the state of the directives, and the tokens.
 use crate::branches::Branch;
 use crate::directives::Waiting;
 use crate::macros::Macros;

@@ -22,7 +22,7 @@ impl<'a> Macros<'a> {
     ghost use Rattle.std.specs.Prelude.{◌≡◌, ◌≤◌, ◌^◌, length, OnOk, IfSome, None};
     ghost use Rattle.std.specs.Option.{option_map};
     ghost use Rattle.vl_lex.specs.Directives.{with_text, without};
-    ghost use Rattle.vl_lex.specs.Inside.{macros};
+    ghost use Rattle.vl_lex.specs.StateBridge.{macros};
 
     pub fn new(alloc: Global) -> Macros<'a>
         ensures { macros result ≡ (λ name. None) }

@@ -1,4 +1,4 @@
-// How the mode changes.
+// The mode behind a piece.
 ghost use Rattle.std.specs.Prelude.{◌≡◌};
 ghost use Rattle.vl_lex.specs.Effects.{mode_by_name, behind_plain, behind_edge, behind_edges, behind_cell, mode_behind};
 

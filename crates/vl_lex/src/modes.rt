@@ -2,10 +2,11 @@
 ghost use Rattle.std.specs.Prelude.{◌≡◌, ◌<◌, ◌≤◌, ◌^◌, length, take, drop};
 ghost use Rattle.vl_lex.specs.Modes.{IsPiece, is_value_byte, is_endtable};
 ghost use Rattle.vl_lex.specs.Bytes.{first_of};
-ghost use Rattle.vl_lex.specs.Found.{piece_of, edge_piece, cell_piece, table_piece, line_piece, piece_in};
+ghost use Rattle.vl_lex.specs.PieceBridge.{piece_of, edge_piece, cell_piece, table_piece, line_piece, piece_in};
 
-use crate::bytes::{First, first_of, is_name_byte, is_word, line_len};
+use crate::bytes::{First, first_of, is_word, line_len};
 use crate::pieces::{Class, plain_piece, slash_piece};
+use sg_text::is_name_byte;
 
 /// How the text at hand is split.
 #[derive(Clone, Copy, Debug, PartialEq, Eq)]

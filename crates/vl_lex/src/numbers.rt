@@ -5,12 +5,12 @@ ghost use Rattle.std.specs.Char.{is_ascii_digit};
 ghost use Rattle.sg_time.specs.Spelling.{is_run_byte};
 ghost use Rattle.sg_time.specs.Reading.{sign_at, run_len};
 ghost use Rattle.vl_token.specs.Constants.{base_of, is_digit_of};
-ghost use Rattle.vl_lex.specs.Numbers.{digits_len, power_len, behind_run, number_len, digits_size, base_size, sized_len};
+ghost use Rattle.vl_lex.specs.NumberBridge.{digits_len, power_len, behind_run, number_len, digits_size, base_size, sized_len};
 
 use vl_token::Base;
 
 // What is behind a sign at the front, if there is one.
-fn unsigned(bytes: &[u8]) -> &[u8]
+fn behind_sign(bytes: &[u8]) -> &[u8]
     ensures { result.now ≡ (sign_at bytes.now).1 }
 {
     match bytes {
@@ -61,7 +61,7 @@ fn power_len(bytes: &[u8]) -> usize
 {
     match bytes {
         [b'e' | b'E', after @ ..] => {
-            let digits = unsigned(after);
+            let digits = behind_sign(after);
             let n = digits_len(digits);
             if n == 0 {
                 0
@@ -93,7 +93,7 @@ fn behind_run(n: usize, bytes: &[u8]) -> usize
 }
 
 // The longest number at the front, 0 where there is none.
-#[tactic(auto, unfolding(crate::specs::Numbers::number_len))]
+#[tactic(auto, unfolding(crate::specs::NumberBridge::number_len))]
 pub fn number_len(text: &[u8]) -> usize
     requires { length text.now < 2 ^ 63 }
     ensures size { result ≡ number_len text.now }
@@ -144,7 +144,7 @@ fn base_size(width: usize, bytes: &[u8]) -> usize
 }
 
 // The longest sized constant at the front, 0 where there is none.
-#[tactic(auto, unfolding(crate::specs::Numbers::sized_len))]
+#[tactic(auto, unfolding(crate::specs::NumberBridge::sized_len))]
 pub fn sized_len(text: &[u8]) -> usize
     requires { length text.now < 2 ^ 63 }
     ensures size { result ≡ sized_len text.now }

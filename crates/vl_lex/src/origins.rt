@@ -1,4 +1,4 @@
-// Where a text comes from.
+// Where a text comes from, and so where its tokens stand.
 ghost use Rattle.std.specs.Prelude.{◌≡◌};
 ghost use Rattle.vl_lex.specs.Effects.{place_at};
 

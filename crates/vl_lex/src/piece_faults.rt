@@ -1,7 +1,7 @@
-// The faults that pieces are.
+// The faults that pieces of a text are, and the first one of a macro's text.
 ghost use Rattle.std.specs.Prelude.{◌≡◌, ◌≤◌, ◌<◌, ◌+◌, ◌^◌, length, IfSome, IfNone, Some, None, ℕ};
 ghost use Rattle.vl_lex.specs.Effects.{is_bad, bad_from, fault_of, fault_in};
-ghost use Rattle.vl_lex.specs.Inside.{IsChecked};
+ghost use Rattle.vl_lex.specs.StateBridge.{IsChecked};
 
 use crate::bytes::is_blank;
 use crate::faults::{Found, LexKind, fault};

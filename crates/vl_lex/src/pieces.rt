@@ -1,13 +1,14 @@
 // The pieces that a text is split into.
 ghost use Rattle.std.specs.Prelude.{◌≡◌, ◌<◌, ◌≤◌, ◌+◌, ◌^◌, ◌∷◌, length, Option, Some, None, IsTrue};
 ghost use Rattle.vl_lex.specs.Bytes.{first_of};
-ghost use Rattle.vl_lex.specs.Numbers.{sized_len};
-ghost use Rattle.vl_lex.specs.Found.{piece_of, piece_from, digit_piece, point_piece, apostrophe_piece, mark_piece, slash_piece, paren_piece, quote_piece, tick_piece, symbol_len};
+ghost use Rattle.vl_lex.specs.NumberBridge.{sized_len};
+ghost use Rattle.vl_lex.specs.PieceBridge.{piece_of, piece_from, digit_piece, point_piece, apostrophe_piece, mark_piece, slash_piece, paren_piece, quote_piece, tick_piece, symbol_len};
 
 use crate::bytes::{
-    First, end_of, first_of, graphic_len, is_name_start, is_symbol, line_len, name_len, quote_end,
+    First, end_of, first_of, graphic_len, is_symbol, line_len, name_len, quote_end,
 };
 use crate::numbers::{number_len, sized_len};
+use sg_text::is_name_start;
 
 /// What a piece of a text is.
 #[derive(Clone, Copy, Debug, PartialEq, Eq)]

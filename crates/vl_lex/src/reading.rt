@@ -1,10 +1,10 @@
-// Whole texts.
+// Macros' texts and whole files, read piece by piece.
 ghost use Rattle.std.specs.Prelude.{◌≡◌, ◌≤◌, ◌<◌, ◌+◌, ◌^◌, List, ℕ, Result, length, None};
 ghost use Rattle.vl_lex.specs.State.{Fault, first_state};
 ghost use Rattle.vl_token.specs.Tokens.{Lexeme};
 ghost use Rattle.vl_lex.specs.Lexes.{Leads, IsRead, Expands, IsFileRead, Lexes, too_large, at_end, file_end};
 ghost use Rattle.vl_lex.specs.Effects.{effect};
-ghost use Rattle.vl_lex.specs.Inside.{state, Gives, Answers, AreRead};
+ghost use Rattle.vl_lex.specs.StateBridge.{state, Gives, Answers, AreRead};
 ghost use Rattle.vl_lex.specs.Seen.{Stands, Tells, texts};
 
 use crate::applying::first_mark;
@@ -14,9 +14,10 @@ use crate::macros::Macros;
 use crate::modes::{Mode, first_piece};
 use crate::origins::Origin;
 use crate::pieces::Class;
-use vl_token::Token;
+use crate::room::token_room;
 use sg_text::{Place, Refused};
 use std::alloc::Global;
+use vl_token::Token;
 
 // How many uses of macros may lie within one another.
 const DEEPEST: u8 = 16;
@@ -36,6 +37,13 @@ impl<'a> Lexer<'a> {
             mark: first_mark(),
             tokens: Vec::new(alloc),
         }
+    }
+
+    // Room for the tokens of the files is made in one step. Where it can't be had, it is made as tokens come.
+    fn make_room(&mut self, files: &[Vec<u8>])
+        ensures { state self.new ≡ state self.old }
+    {
+        let _ = self.tokens.reserve_exact(token_room(files));
     }
 
     // A text from its first byte to its last, where so many uses of macros may still lie within one another.
@@ -159,15 +167,16 @@ fn lex_few(alloc: Global, files: &[Vec<u8>]) -> Result<Vec<Token<'_>>, Refused<L
         return Err(fault(LexKind::FileTooLarge, Place { file, byte }));
     }
     let mut lexer = Lexer::new(alloc);
+    lexer.make_room(files);
     lexer.read_files(files)?;
     lexer.finish()
 }
 
 /// The tokens of netlist files, which are read one after another.
 ///
-/// Directives are applied, macros and branches too; a macro's tokens stand at its outermost use. Of several faults the
-/// first from the left is answered, but for `FileTooLarge`, which comes before all others.
-/// Takes memory for each token, each macro and each macro's use. For more than 2^32 - 1 files there is none.
+/// Directives are applied, macros and branches too; a macro's tokens stand at its outermost use. The texts of tokens are
+/// parts of the files. Of several faults the first that is met is answered, but for `FileTooLarge`, which comes before all
+/// others. Takes memory for the tokens, the macros and the open branches. For more than 2^32 - 1 files there is none.
 pub fn lex(alloc: Global, files: &[Vec<u8>]) -> Result<Vec<Token<'_>>, Refused<LexKind>>
     // The token list or the fault that it answers stands.
     ensures found { Stands (Lexes (texts files.now)) result }

@@ -1,8 +1,8 @@
-// Scales of time.
+// The words of `timescale`, and the scale that they say.
 ghost use Rattle.std.specs.Prelude.{◌≡◌, ◌≤ℤ◌, ◌-ℤ◌, pos, ℤ, Option, Some, None, map, IfSome};
 ghost use Rattle.std.specs.Option.{option_map};
 ghost use Rattle.vl_lex.specs.Directives.{tens_of, unit_of, power_of, scale_from, scale_of};
-ghost use Rattle.vl_lex.specs.Inside.{word};
+ghost use Rattle.vl_lex.specs.StateBridge.{word};
 ghost use Rattle.vl_token.specs.Seen.{timescale};
 
 use crate::bytes::is_word;

@@ -1,15 +1,15 @@
-// What the pieces of a text do.
+// What comes of one piece of a text: a token, a fault, or a change of the state.
 ghost use Rattle.std.specs.Prelude.{◌≡◌, ◌≤◌, ◌<◌, ◌+◌, ◌^◌, length, drop, OnOk, IfOk, IfSome, Option, Some, None};
 ghost use Rattle.std.specs.List.{prefix_len};
 ghost use Rattle.vl_lex.specs.Bytes.{is_blank};
 ghost use Rattle.vl_lex.specs.State.{is_taken, is_looked_at, waits};
 ghost use Rattle.vl_lex.specs.Directives.{with_macro, directive_of as directive_named};
-ghost use Rattle.vl_lex.specs.Effects.{defines, mode_at, taken_piece, ready, with_word, skipped, begins_arguments, begins_name, defined_in, defined_by, awaited, first_words, used, directed, passed, is_use, effect_at, effect, is_define, place_at};
+ghost use Rattle.vl_lex.specs.Effects.{defines, mode_at, taken_piece, apply_or_wait, with_word, gap_outcome, begins_arguments, begins_name, line_effect, define_effect_behind, word_effect, first_words, use_effect, tick_effect, untaken_outcome, is_use, effect_at, effect, is_define, place_at};
 ghost use Rattle.vl_lex.specs.Lexes.{Leads};
-ghost use Rattle.vl_lex.specs.Inside.{waiting as waiting_seen, state, Gives, Answers, NoText, Steps};
+ghost use Rattle.vl_lex.specs.StateBridge.{waiting as waiting_seen, state, Gives, Answers, NoText, Steps};
 
 use crate::branches::{is_taken, words_wanted};
-use crate::bytes::{is_blank, is_name_start, name_len};
+use crate::bytes::{is_blank, name_len};
 use crate::directives::{Directive, Waiting, Word, directive_of};
 use crate::faults::{LexKind, bad_directive, fault};
 use crate::lexer::Lexer;
@@ -19,7 +19,7 @@ use crate::modes::Mode;
 use crate::origins::Origin;
 use crate::piece_faults::{check_text, fault_in};
 use crate::pieces::Class;
-use sg_text::{NoMemory, Place, Refused};
+use sg_text::{NoMemory, Place, Refused, is_name_start};
 use vl_token::Token;
 
 fn is_define(directive: Directive) -> bool
@@ -98,8 +98,8 @@ impl<'a> Lexer<'a> {
     }
 
     // A directive that has all its words is applied, and another one waits for them.
-    fn ready(&mut self, waiting: Waiting<'a>) -> Result<(), Refused<LexKind>>
-        ensures { Gives (ready (waiting_seen waiting.entry) (state self.old)) (state self.new) result }
+    fn apply_or_wait(&mut self, waiting: Waiting<'a>) -> Result<(), Refused<LexKind>>
+        ensures { Gives (apply_or_wait (waiting_seen waiting.entry) (state self.old)) (state self.new) result }
     {
         if waiting.words.len() == words_wanted(waiting.directive, &self.branches) {
             self.waiting = None;
@@ -150,7 +150,7 @@ impl<'a> Lexer<'a> {
     ) -> Result<(), Refused<LexKind>>
         requires few { length bytes.now ≤ 2 ^ 28 }
         requires place { at + blanks + length bytes.now < 2 ^ 62 }
-        ensures { Answers (Leads NoText (defined_by origin at place blanks bytes.now (state self.old))) (state self.new) result }
+        ensures { Answers (Leads NoText (define_effect_behind origin at place blanks bytes.now (state self.old))) (state self.new) result }
     {
         if blanks == 0 || !begins_name(bytes) {
             return Err(bad_directive(place));
@@ -173,7 +173,7 @@ impl<'a> Lexer<'a> {
     ) -> Result<(), Refused<LexKind>>
         requires few { length line.now ≤ 2 ^ 28 }
         requires place { at + length line.now < 2 ^ 62 }
-        ensures { Answers (Leads NoText (defined_in origin at place line.now (state self.old))) (state self.new) result }
+        ensures { Answers (Leads NoText (line_effect origin at place line.now (state self.old))) (state self.new) result }
     {
         let blanks = blank_len(line);
         let (_, rest) = line.split_at(blanks);
@@ -187,16 +187,16 @@ impl<'a> Lexer<'a> {
         is_name: bool,
         bytes: &'a [u8],
     ) -> Result<(), Refused<LexKind>>
-        ensures { Gives (ready (with_word is_name bytes.now (waiting_seen waiting.entry)) (state self.old)) (state self.new) result }
+        ensures { Gives (apply_or_wait (with_word is_name bytes.now (waiting_seen waiting.entry)) (state self.old)) (state self.new) result }
     {
         let mut waiting = waiting;
         waiting.words.push(Word { is_name, bytes })?;
-        self.ready(waiting)
+        self.apply_or_wait(waiting)
     }
 
     // What stands between the words of a directive.
     fn skip(&mut self, waiting: Waiting<'a>) -> Result<(), Refused<LexKind>>
-        ensures { Gives (skipped (waiting_seen waiting.entry) (waits (waiting_seen waiting.entry) (state self.old))) (state self.new) result }
+        ensures { Gives (gap_outcome (waiting_seen waiting.entry) (waits (waiting_seen waiting.entry) (state self.old))) (state self.new) result }
     {
         if is_define(waiting.directive) {
             return Err(bad_directive(waiting.place));
@@ -216,7 +216,7 @@ impl<'a> Lexer<'a> {
     ) -> Result<(), Refused<LexKind>>
         requires few { length bytes.now ≤ 2 ^ 28 }
         requires place { at + length bytes.now < 2 ^ 62 }
-        ensures { Answers (Leads NoText (awaited origin at (waiting_seen waiting.entry) class bytes.now (waits (waiting_seen waiting.entry) (state self.old)))) (state self.new) result }
+        ensures { Answers (Leads NoText (word_effect origin at (waiting_seen waiting.entry) class bytes.now (waits (waiting_seen waiting.entry) (state self.old)))) (state self.new) result }
     {
         match class {
             Class::Gap | Class::Attribute => self.skip(waiting),
@@ -232,10 +232,10 @@ impl<'a> Lexer<'a> {
 
     // A directive begins.
     fn begin(&mut self, directive: Directive, place: Place) -> Result<(), Refused<LexKind>>
-        ensures { Gives (ready (first_words directive place) (state self.old)) (state self.new) result }
+        ensures { Gives (apply_or_wait (first_words directive place) (state self.old)) (state self.new) result }
     {
         let words = Vec::new(self.alloc);
-        self.ready(Waiting {
+        self.apply_or_wait(Waiting {
             directive,
             place,
             words,
@@ -244,7 +244,7 @@ impl<'a> Lexer<'a> {
 
     // A macro's use.
     fn use_macro(&mut self, place: Place, name: &[u8]) -> Result<Option<&'a [u8]>, Refused<LexKind>>
-        ensures steps { Steps (used place ((state self.old).macros name.now) (state self.old)) place (state self.new) result }
+        ensures steps { Steps (use_effect place ((state self.old).macros name.now) (state self.old)) place (state self.new) result }
         ensures few { IfOk result (λ text. IfSome text (λ t. length t.now ≤ 2 ^ 28)) }
     {
         match self.macros.text_of(name) {
@@ -260,7 +260,7 @@ impl<'a> Lexer<'a> {
         place: Place,
         name: &[u8],
     ) -> Result<Option<&'a [u8]>, Refused<LexKind>>
-        ensures steps { Steps (directed origin place name.now (directive_named name.now) (state self.old)) place (state self.new) result }
+        ensures steps { Steps (tick_effect origin place name.now (directive_named name.now) (state self.old)) place (state self.new) result }
         ensures few { IfOk result (λ text. IfSome text (λ t. length t.now ≤ 2 ^ 28)) }
     {
         let directive = match origin {
@@ -278,7 +278,7 @@ impl<'a> Lexer<'a> {
 
     // The same in text that isn't taken.
     fn pass(&mut self, place: Place, name: &[u8]) -> Result<(), Refused<LexKind>>
-        ensures { Gives (passed place (directive_named name.now) (state self.old)) (state self.new) result }
+        ensures { Gives (untaken_outcome place (directive_named name.now) (state self.old)) (state self.new) result }
     {
         match directive_of(name) {
             Some(directive) => {

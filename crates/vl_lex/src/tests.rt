@@ -472,11 +472,7 @@ const EACH_REFUSAL: [(&str, LexKind, u64); 23] = [
     ("a é", LexKind::BadByte, 2),
     ("(* \u{1} *)", LexKind::BadByte, 3),
     ("`define A b \u{1}\n", LexKind::BadByte, 12),
-    (
-        "`ifdef A\n`elsif (*\u{1}*) B\n`endif",
-        LexKind::BadByte,
-        18,
-    ),
+    ("`ifdef A\n`elsif (*\u{1}*) B\n`endif", LexKind::BadByte, 18),
     ("/* x", LexKind::UnendedComment, 0),
     ("a (* b", LexKind::UnendedComment, 2),
     ("`ifdef A /* `endif", LexKind::UnendedComment, 9),
@@ -582,19 +578,13 @@ const TEXT_OF_EACH_KIND: [(LexKind, &str); 8] = [
     (LexKind::BadByte, "a byte that no text may have"),
     (LexKind::UnendedComment, "a comment without an end"),
     (LexKind::UnendedText, "a quoted text without an end"),
-    (
-        LexKind::UnknownDirective,
-        "neither a directive nor a macro",
-    ),
+    (LexKind::UnknownDirective, "neither a directive nor a macro"),
     (LexKind::UnbalancedIf, "a branch without its partner"),
     (
         LexKind::MacroTooDeep,
         "macros within one another more than 16 deep",
     ),
-    (
-        LexKind::FileTooLarge,
-        "a file of more than 2^28 bytes",
-    ),
+    (LexKind::FileTooLarge, "a file of more than 2^28 bytes"),
     (
         LexKind::BadDirective,
         "a directive whose words aren't of its form",

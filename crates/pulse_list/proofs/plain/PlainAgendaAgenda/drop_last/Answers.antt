@@ -1,7 +1,8 @@
 use Rattle.std.proofs.Common.{◌≡◌, ◌-◌, ◌<◌, ap, sym, ◌∙◌, arith, length, set}
 use Rattle.std.proofs.lemmas.List.{length-set}
 use Rattle.pulse_list.specs.Plain.{pairs_of}
-use Rattle.pulse_list.proofs.TableLaws.{in_view, in_counts, some_in_view, view-dropped, plain-rewritten, count_at, length-rest_of, rises_rest_of}
+use Rattle.sg_model.proofs.RiseLaws.{rises-rest_latest}
+use Rattle.pulse_list.proofs.TableLaws.{in_view, in_counts, some_in_view, view-dropped, plain-rewritten, count_at, length-rest_of}
 use Rattle.pulse_list.proofs.plain.PlainAgendaAgenda.drop_last.Goals as goal
 
 pub index_mut-requires : goal.index_mut-requires
@@ -21,7 +22,7 @@ invariant_of-self c =
     count_at _ _ c.args.driver _ c.self.invariant c.index_mut.ensures.value within in
     plain-rewritten _ _ _ _ c.args.driver _ c.self.invariant within c.remove_latest.ensures.pairs
     (ap (set c.self.inside.counts.items c.args.driver) (ap (λ n. n - 1) count ∙ sym (length-rest_of (pairs_of c.args.driver c.self.inside.pending.items))))
-    (rises_rest_of (pairs_of c.args.driver c.self.inside.pending.items) (c.self.invariant.rises c.args.driver))
+    (rises-rest_latest (pairs_of c.args.driver c.self.inside.pending.items) (c.self.invariant.rises c.args.driver))
     c.remove_latest.ensures.falls
 
 pub returns-clause-lists : goal.returns-clause-lists

@@ -1,7 +1,7 @@
 use Rattle.std.proofs.Common.{◌-◌, arith}
 use Rattle.std.proofs.lemmas.Result.{err_from_is_err_and}
 use Rattle.vl_lex.specs.Effects.{effect, place_at}
-use Rattle.vl_lex.specs.Inside.{state}
+use Rattle.vl_lex.specs.StateBridge.{state}
 use Rattle.vl_lex.proofs.StepLaws.{step_done, step_fault, too_deep, one_less, read_on, read_stops}
 use Rattle.vl_lex.proofs.lexer.Lexer.+reading.Goals as goal
 

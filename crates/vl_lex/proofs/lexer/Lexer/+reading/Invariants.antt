@@ -1,7 +1,7 @@
 use Rattle.std.proofs.Common.{◌≡◌, ◌+◌, ◌*◌, length}
 use Rattle.vl_lex.specs.State.{Outcome}
 use Rattle.vl_lex.specs.Lexes.{IsRead, Expands}
-use Rattle.vl_lex.specs.Inside.{state}
+use Rattle.vl_lex.specs.StateBridge.{state}
 use Rattle.vl_lex.proofs.lexer.Lexer.+reading.Given as goal
 
 abbrev pub decreases-advance : goal.decreases-advance

@@ -1,4 +1,4 @@
-use Rattle.vl_lex.specs.Inside.{state}
+use Rattle.vl_lex.specs.StateBridge.{state}
 use Rattle.vl_lex.specs.Directives.{with_macro}
 use Rattle.vl_lex.proofs.StepLaws.{define_fault}
 use Rattle.vl_lex.proofs.lexer.Lexer.define_checked.Goals as goal

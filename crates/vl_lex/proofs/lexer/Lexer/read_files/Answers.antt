@@ -1,6 +1,6 @@
 use Rattle.std.proofs.Common.{arith}
 use Rattle.std.proofs.lemmas.Result.{err_from_is_err_and}
-use Rattle.vl_lex.specs.Inside.{state}
+use Rattle.vl_lex.specs.StateBridge.{state}
 use Rattle.vl_lex.proofs.StepLaws.{files_stop}
 use Rattle.vl_lex.proofs.lexer.Lexer.read_files.Goals as goal
 

@@ -1,7 +1,9 @@
--- The first piece of a text, as the code finds it: its class and its size.
+-- A bridge, on which no public clause rests: the first piece of a text, its class and its size, as the code finds it. That it is the
+-- definition's is proved (`proofs/PieceLaws.antt`, `proofs/ModeLaws.antt`).
 use Rattle.std.specs.Prelude.{ℕ, zero, suc, ◌+◌, nat_le, nat_lt, ◌==◌, ◌&&◌, List, [], ◌∷◌, length, take, drop, Option, Some, None, if◌then◌else◌}
 use Rattle.std.specs.List.{prefix_len}
-use Rattle.vl_lex.specs.Bytes.{is_name_start, is_name_byte, is_graphic, is_inline, first_of}
+use Rattle.sg_text.specs.Names.{is_name_start, is_name_byte}
+use Rattle.vl_lex.specs.Bytes.{is_graphic, is_inline, first_of}
 use Rattle.vl_lex.specs.Ends.{end_of, quote_end}
 use Rattle.vl_lex.specs.declared.bytes.First.{First}
 use Rattle.vl_lex.specs.declared.bytes.First.TheVariants.{Blank, Letter, Backslash, Dollar, Quote, Tick, Apostrophe, Slash, Paren, Mark, Bad}
@@ -11,7 +13,7 @@ use Rattle.vl_lex.specs.Pieces.{is_symbol}
 use Rattle.vl_lex.specs.Modes.{is_value_byte, is_endtable, cell_of}
 use Rattle.vl_lex.specs.declared.modes.Mode.{Mode}
 use Rattle.vl_lex.specs.declared.modes.Mode.TheVariants.{Plain, AfterEdge, Edges, Table, EdgesTable, Line}
-use Rattle.vl_lex.specs.Numbers.{number_len, sized_len}
+use Rattle.vl_lex.specs.NumberBridge.{number_len, sized_len}
 use Rattle.std.specs.Char.{is_ascii_digit}
 
 abbrev pub ended_piece : Class → Class → ℕ → Option ℕ → List ℕ → Class × ℕ

@@ -1,4 +1,5 @@
--- The longest number and the longest sized constant at the front of a text, as the code finds them.
+-- A bridge, on which no public clause rests: the longest number and the longest sized constant at the front of a text, as the code
+-- finds them. That they are the definition's is proved (`proofs/NumberLaws.antt`, `proofs/SizedLaws.antt`).
 use Rattle.std.specs.Prelude.{ℕ, ◌+◌, ◌-◌, ◌==◌, ◌||◌, List, [], ◌∷◌, length, drop, Option, Some, None, if◌then◌else◌}
 use Rattle.std.specs.List.{prefix_len}
 use Rattle.std.specs.Char.{is_ascii_digit}

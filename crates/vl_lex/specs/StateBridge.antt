@@ -1,4 +1,5 @@
--- What the code keeps while it reads, as the definitions see it, and what its steps answer.
+-- A bridge, on which no public clause rests: what the code keeps while it reads as a state of the definition, and what its steps
+-- answer.
 use Rattle.std.specs.Prelude.{ℕ, ◌≡◌, List, map, reverse, Option, Some, None, Result, Ok, Err}
 use Rattle.std.specs.Option.{option_map}
 use Rattle.std.specs.Borrow.{Bor}
