@@ -2,11 +2,12 @@
 use Rattle.std.proofs.Common.{◌≡◌, ℕ, List, [], ◌∷◌, length, take, drop, refl, arith}
 use Rattle.std.specs.Prelude.{Some, None, true, false, Ok, Err, codes, pos, neg_ℤ}
 use Rattle.sg_logic.specs.declared.values.Value.TheVariants.{Zero, One, X}
-use Rattle.vl_lex.specs.Sized.{low_bits, sized_of}
+use Rattle.vl_token.specs.Constants.{low_bits}
+use Rattle.vl_lex.specs.Sized.{sized_of}
 use Rattle.vl_lex.specs.Pieces.{class_of}
 use Rattle.vl_lex.specs.Modes.{IsPiece, class_in, edge_class, is_endtable}
-use Rattle.vl_lex.specs.Tokens.{name_token, sized_token, pair_token, other_token}
-use Rattle.sg_text.specs.Words.{reserved_words}
+use Rattle.vl_token.specs.Tokens.{name_token, sized_token, unsized_token, pair_token, other_token}
+use Rattle.sg_text.specs.Words.{reserved_rows}
 use Rattle.vl_lex.specs.Directives.{scale_of, directive_of, are_no_effect}
 use Rattle.vl_lex.specs.Lexes.{Lexes}
 use Rattle.vl_lex.specs.Meanings.{sized_meaning, pair_meaning}
@@ -21,7 +22,7 @@ whole text n c e f = record { within = omega arith; form = f; longest = λ m lt 
 
 -- ab
 a_name : Lexes (codes "ab" ∷ []) (Ok (record { meaning = name_token (codes "ab"); place = record { file = 0; byte = 0 } } ∷ []))
-unfolding reserved_words
+unfolding reserved_rows
 a_name = (_, (_, (record { class = class.Name; size = 2 } ∷ [], (whole (codes "ab") 2 class.Name refl refl, (_, refl, (refl, refl)))), refl), refl)
 
 -- `ab, where no macro is defined
@@ -56,14 +57,14 @@ a_longer_word : is_endtable (codes "endtable") (codes "1") ≡ false
 a_longer_word = refl
 
 -- 4'bx, 2'b101, 'd10 and 0'b1
-extended_with_x : sized_meaning (codes "4'bx") (sized_of (codes "4'bx")) ≡ sized_token (Some 4) (X ∷ X ∷ X ∷ X ∷ [])
+extended_with_x : sized_meaning (codes "4'bx") (sized_of (codes "4'bx")) ≡ sized_token (X ∷ X ∷ X ∷ X ∷ [])
 extended_with_x = refl
 
-surplus_dropped : sized_meaning (codes "2'b101") (sized_of (codes "2'b101")) ≡ sized_token (Some 2) (Zero ∷ One ∷ [])
+surplus_dropped : sized_meaning (codes "2'b101") (sized_of (codes "2'b101")) ≡ sized_token (Zero ∷ One ∷ [])
 unfolding low_bits
 surplus_dropped = refl
 
-fewest_bits : sized_meaning (codes "'d10") (sized_of (codes "'d10")) ≡ sized_token None (One ∷ Zero ∷ One ∷ Zero ∷ [])
+fewest_bits : sized_meaning (codes "'d10") (sized_of (codes "'d10")) ≡ unsized_token (One ∷ Zero ∷ One ∷ Zero ∷ [])
 unfolding low_bits
 fewest_bits = refl
 

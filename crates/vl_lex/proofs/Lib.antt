@@ -4,8 +4,8 @@ pub mod NumberLaws
 pub mod SizedLaws
 pub mod PieceLaws
 pub mod ModeLaws
-pub mod BitLaws
 pub mod BranchLaws
+pub mod MacroLaws
 pub mod Splits
 pub mod StepLaws
 pub mod OneReading

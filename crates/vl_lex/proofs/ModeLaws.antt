@@ -14,7 +14,7 @@ use Rattle.vl_lex.specs.declared.bytes.First.TheVariants.{Blank, Letter, Backsla
 use Rattle.vl_lex.specs.declared.pieces.Class.{Class}
 use Rattle.vl_lex.specs.declared.pieces.Class.TheVariants as class
 use Rattle.vl_lex.specs.declared.modes.Mode.{Mode}
-use Rattle.vl_lex.specs.declared.modes.Mode.TheVariants.{Plain, AfterEdge, Edges, Table, Line}
+use Rattle.vl_lex.specs.declared.modes.Mode.TheVariants.{Plain, AfterEdge, Edges, Table, EdgesTable, Line}
 use Rattle.vl_lex.proofs.PieceLaws.{Stands, Makes, piece_under, single, run_stands, not_alone, slash_makes, pointwise_len, piece_at_front}
 
 -- ---- edge lists
@@ -154,6 +154,7 @@ piece_in_front Plain text lt = piece_at_front text lt
 piece_in_front AfterEdge text lt = let p = piece_at_front text lt in record { within = p.within; form = p.form; longest = p.longest }
 piece_in_front Edges text lt = edge_front text lt
 piece_in_front Table text lt = table_front text lt
+piece_in_front EdgesTable text lt = let p = table_front text lt in record { within = p.within; form = p.form; longest = p.longest }
 piece_in_front Line text lt = line_front text lt
 
 -- nothing has no form, so that a piece has a byte
@@ -162,6 +163,7 @@ nothing_in Plain after = refl
 nothing_in AfterEdge after = refl
 nothing_in Edges after = refl
 nothing_in Table after = refl
+nothing_in EdgesTable after = refl
 nothing_in Line after = refl
 
 pub piece_some : (mode : Mode) (text : List ℕ) (n : ℕ) (c : Class) → IsPiece mode text n c → 0 < n

@@ -6,7 +6,7 @@ use Rattle.std.proofs.lemmas.Bool.{cases_order}
 use Rattle.sg_text.specs.declared.places.Place.{Place}
 use Rattle.sg_text.specs.declared.refusals.Refused.{Refused}
 use Rattle.sg_text.specs.declared.refusals.Refused.TheVariants as refused
-use Rattle.vl_lex.specs.Tokens.{Lexeme}
+use Rattle.vl_token.specs.Tokens.{Lexeme}
 use Rattle.vl_lex.specs.State.{Fault, State, Outcome, first_state}
 use Rattle.vl_lex.specs.Modes.{class_in, IsPiece, Piece, ArePieces}
 use Rattle.vl_lex.specs.Effects.{Effect, comes_to, expands, defines, mode_at, effect}
@@ -18,7 +18,7 @@ use Rattle.vl_lex.specs.declared.modes.Mode.TheVariants.{Plain}
 use Rattle.vl_lex.specs.declared.origins.Origin.{Origin}
 use Rattle.vl_lex.specs.declared.origins.Origin.TheVariants.{File, Macro as InMacro}
 use Rattle.vl_lex.specs.declared.pieces.Class.{Class}
-use Rattle.vl_lex.specs.declared.tokens.Token.{Token}
+use Rattle.vl_token.specs.declared.tokens.Token.{Token}
 use Rattle.vl_lex.proofs.ModeLaws.{piece_some}
 
 not_both : {A : Type 0} {o : Option A} {x : A} → o ≡ None → o ≡ Some x → ⊥

@@ -15,7 +15,8 @@ use Rattle.vl_lex.specs.Sized.{sized_of}
 use Rattle.vl_lex.specs.Modes.{IsPiece, class_in}
 use Rattle.vl_lex.specs.declared.modes.Mode.{Mode}
 use Rattle.vl_lex.specs.declared.modes.Mode.TheVariants.{Plain}
-use Rattle.vl_lex.specs.Pieces.{symbols, is_symbol, has_number, apostrophe_class, where_so, is_alone, ended_or, slash_class, paren_class, begins_paren, tick_class, long_class, mark_class, digit_class, point_class, class_from, class_of}
+use Rattle.vl_token.specs.Symbols.{Row, symbol_rows, symbol_in}
+use Rattle.vl_lex.specs.Pieces.{is_symbol, has_number, apostrophe_class, where_so, is_alone, ended_or, slash_class, paren_class, begins_paren, tick_class, long_class, mark_class, digit_class, point_class, class_from, class_of}
 use Rattle.vl_lex.specs.Found.{ended_piece, slash_piece, attribute_piece, paren_piece, quote_piece, tick_piece, symbol_len, long_piece, mark_piece, point_piece, apostrophe_piece, digit_piece, piece_from, piece_of}
 use Rattle.std.specs.Char.{is_ascii_digit}
 use Rattle.sg_time.specs.Reading.{parts_of}
@@ -215,18 +216,18 @@ pointwise_len (x ∷ xs) [] h = absurd (cc)
 pointwise_len (x ∷ xs) (y ∷ ys) h = ap suc (pointwise_len xs ys (and_parts (nat_eq x y) (pointwise nat_eq xs ys) h).1)
 
 -- a symbol has at most three bytes
-any_within : {T : Type 0} (view : T → List ℕ) (ws : List T) (bytes : List ℕ) → list_all (λ w. nat_le (length (view w)) 3) ws ≡ true → list_any (λ w. pointwise nat_eq (view w) bytes) ws ≡ true → length bytes ≤ 3
-any_within view [] bytes a h = absurd (cc)
-any_within view (w ∷ ws) bytes a h =
-    let parts = and_parts (nat_le (length (view w)) 3) (list_all (λ v. nat_le (length (view v)) 3) ws) a in
-    elim (or_cases (pointwise nat_eq (view w) bytes) (list_any (λ v. pointwise nat_eq (view v) bytes) ws) h) [
-      | inl e ↦ let n : length (view w) ≤ 3 = leb-true (length (view w)) 3 parts.0 in omega (arith, pointwise_len (view w) bytes e)
-      | inr e ↦ any_within view ws bytes parts.1 e
+any_within : (rows : List Row) (bytes : List ℕ) → list_all (λ r. nat_le (length r.text) 3) rows ≡ true → is_some (symbol_in bytes rows) ≡ true → length bytes ≤ 3
+any_within [] bytes a h = absurd (cc)
+any_within (r ∷ rs) bytes a h =
+    let parts = and_parts (nat_le (length r.text) 3) (list_all (λ v. nat_le (length v.text) 3) rs) a in
+    elim (cases_Bool (pointwise nat_eq r.text bytes)) [
+      | inl e ↦ let n : length r.text ≤ 3 = leb-true (length r.text) 3 parts.0 in omega (arith, pointwise_len r.text bytes e)
+      | inr e ↦ any_within rs bytes parts.1 (rw e at h)
     ]
 
 symbol_within : (bytes : List ℕ) → is_symbol bytes ≡ true → length bytes ≤ 3
-unfolding symbols is_symbol
-symbol_within bytes h = any_within (λ w. w) symbols bytes refl h
+unfolding symbol_rows is_symbol
+symbol_within bytes h = any_within symbol_rows bytes refl h
 
 module _ (b : ℕ) (bs : List ℕ) where
   mark_none : (m : ℕ) → 0 < m → m ≤ length bs → is_symbol (b ∷ take m bs) ≡ false → mark_class b (take m bs) ≡ None

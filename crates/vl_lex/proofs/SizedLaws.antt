@@ -6,9 +6,10 @@ use Rattle.std.specs.Char.{is_ascii_digit}
 use Rattle.std.proofs.lemmas.Bool.{cases_Bool, cases_lt, eqb-true, ne_eqb, and_parts}
 use Rattle.std.proofs.lemmas.List.{take-append-drop, length-take-le, take-append-le, append-nil}
 use Rattle.std.proofs.Math.Seq.{take-append_seam, drop-append_seam, take-append-add}
-use Rattle.vl_lex.specs.Sized.{base_of, is_digit_of, with_digits, behind_width, sized_of}
+use Rattle.vl_token.specs.Constants.{base_of, is_digit_of}
+use Rattle.vl_lex.specs.Sized.{with_digits, behind_width, sized_of}
 use Rattle.vl_lex.specs.Numbers.{digits_size, behind_base, base_size, sized_len}
-use Rattle.vl_lex.specs.declared.sized.Base.{Base}
+use Rattle.vl_token.specs.declared.bases.Base.{Base}
 use Rattle.vl_lex.proofs.Runs.{run_form, run_longest}
 
 -- the first byte is no decimal digit

@@ -2,7 +2,7 @@
 use Rattle.std.proofs.Common.{◌≡◌, ℕ, zero, suc, ◌+◌, ◌<◌, ◌≤◌, ◌^◌, List, [], ◌∷◌, length, length-drop, take, drop, refl, arith}
 use Rattle.std.specs.Prelude.{Option, Some, None, Result, Ok, Err}
 use Rattle.sg_text.specs.declared.places.Place.{Place}
-use Rattle.vl_lex.specs.Tokens.{Lexeme}
+use Rattle.vl_token.specs.Tokens.{Lexeme}
 use Rattle.vl_lex.specs.State.{Fault, State, Outcome, first_state}
 use Rattle.vl_lex.specs.Modes.{IsPiece}
 use Rattle.vl_lex.specs.Found.{piece_in}

@@ -1,5 +1,5 @@
 -- What the steps of the code come to.
-use Rattle.std.proofs.Common.{◌≡◌, ℕ, suc, ◌+◌, ◌<◌, length, get_or, arith, List, [], ◌∷◌, take, drop, refl, sym, ap, ◌∙◌, subst}
+use Rattle.std.proofs.Common.{Bor, ◌≡◌, ℕ, suc, ◌+◌, ◌<◌, length, get_or, arith, List, [], ◌∷◌, take, drop, refl, sym, ap, ◌∙◌, subst}
 use Rattle.std.specs.Prelude.{Some, None, Result, Ok, Err}
 use Rattle.std.specs.Global.{Vec}
 use Rattle.sg_text.specs.declared.places.Place.{Place}
@@ -8,7 +8,7 @@ use Rattle.sg_text.specs.declared.refusals.Refused.TheVariants as refused
 use Rattle.vl_lex.specs.State.{State, Fault, Outcome}
 use Rattle.vl_lex.specs.Effects.{Effect, comes_to, expands, defines, effect, mode_at}
 use Rattle.vl_lex.specs.Lexes.{Leads, IsRead, Expands, IsFileRead, LexesFrom}
-use Rattle.vl_lex.specs.Tokens.{Lexeme}
+use Rattle.vl_token.specs.Tokens.{Lexeme}
 use Rattle.vl_lex.specs.Modes.{IsPiece}
 use Rattle.vl_lex.specs.declared.pieces.Class.{Class}
 use Rattle.vl_lex.specs.declared.modes.Mode.{Mode}
@@ -38,7 +38,7 @@ module _ (left : ℕ) (e : Effect) (place : Place) where
   step_fault between new (refused.Fault k p) h = leads_any (Expands left) e _ h
   step_fault between new refused.NoMemory h = tt
 
-  pub step_expands : (between new : State) (text : List ℕ) (r : Result Unit (Refused LexKind)) → Steps e place between (Ok (Some text)) → Answers (Expands left place text between) new r → Answers (Leads (Expands left) e) new r
+  pub step_expands : (between new : State) (text : Bor (List ℕ)) (r : Result Unit (Refused LexKind)) → Steps e place between (Ok (Some text)) → Answers (Expands left place text.now between) new r → Answers (Leads (Expands left) e) new r
   step_expands between new text r h k = subst (λ f. Answers (Leads (Expands left) f) new r) (sym h) k
 
 -- where no use is left

@@ -1,10 +1,10 @@
 -- What each directive does to the state (IEEE 1364-2005, the clause on compiler directives).
-use Rattle.std.specs.Prelude.{ℕ, ℤ, pos, ◌-ℤ◌, int_lt, ◌&&◌, ◌||◌, not, List, [], ◌∷◌, ◌++◌, Bool, true, false, Option, Some, None, is_some, Ok, if◌then◌else◌, codes, filter}
+use Rattle.std.specs.Prelude.{ℕ, ℤ, pos, ◌-ℤ◌, int_lt, ◌&&◌, ◌||◌, not, List, [], ◌∷◌, Bool, true, false, Option, Some, None, is_some, Ok, if◌then◌else◌, codes}
 use Rattle.std.specs.List.{list_any}
 use Rattle.std.specs.Option.{option_map}
 use Rattle.sg_text.specs.declared.places.Place.{Place}
-use Rattle.vl_lex.specs.Tokens.{Timescale as Scale, Settings}
-use Rattle.vl_lex.specs.State.{Macro, Word, State, Outcome, fault, first_settings, same_bytes, text_of, is_taken}
+use Rattle.vl_token.specs.Tokens.{Timescale as Scale, Settings}
+use Rattle.vl_lex.specs.State.{Macros, Word, State, Outcome, fault, first_settings, same_bytes, is_taken}
 use Rattle.vl_lex.specs.declared.faults.LexKind.TheVariants.{BadDirective, UnbalancedIf}
 use Rattle.vl_lex.specs.declared.branches.Branch.{Branch}
 use Rattle.vl_lex.specs.declared.directives.Directive.{Directive}
@@ -93,8 +93,8 @@ abbrev pub branched : Place → State → Option (List Branch) → Outcome
 branched place s None = fault UnbalancedIf place
 branched place s (Some branches) = Ok (with_branches s branches)
 
-abbrev pub is_defined : List ℕ → List Macro → Bool
-is_defined name macros = is_some (text_of name macros)
+abbrev pub is_defined : List ℕ → Macros → Bool
+is_defined name macros = is_some (macros name)
 
 -- 1, 10 or 100, as a power of ten
 abbrev pub tens_of : List ℕ → Option ℤ
@@ -150,7 +150,7 @@ as_wanted false b = not b
 
 -- Whether the text behind a test of a macro's name is taken: where the name is defined, or where it isn't. In text that
 -- isn't taken there is no name.
-abbrev pub test_of : Bool → List Macro → List Word → Option Bool
+abbrev pub test_of : Bool → Macros → List Word → Option Bool
 test_of wanted macros [] = Some false
 test_of wanted macros (w ∷ ws) = option_map (λ name. as_wanted wanted (is_defined name macros)) (name_of (w ∷ ws))
 
@@ -162,12 +162,15 @@ given place f (Some a) = f a
 abbrev pub with_settings : State → Settings → State
 with_settings s settings = record s { settings = settings }
 
-abbrev pub without : List ℕ → List Macro → List Macro
-without name macros = filter (λ m. not (same_bytes m.name name)) macros
+abbrev pub without : List ℕ → Macros → Macros
+without name macros other = if same_bytes name other then None else macros other
 
 -- a new text of a macro stands in place of its old one
+abbrev pub with_text : List ℕ → List ℕ → Macros → Macros
+with_text name text macros other = if same_bytes name other then Some text else macros other
+
 abbrev pub with_macro : List ℕ → List ℕ → State → State
-with_macro name text s = record s { macros = without name s.macros ++ record { name = name; text = text } ∷ [] }
+with_macro name text s = record s { macros = with_text name text s.macros }
 
 abbrev pub opens : Bool → Place → List Word → State → Outcome
 opens wanted place words s = given place (λ test. Ok (with_branches s (opened place test s.branches))) (test_of wanted s.macros words)

@@ -4,8 +4,8 @@ use Rattle.std.specs.List.{prefix_len}
 use Rattle.std.specs.Char.{is_ascii_graphic}
 use Rattle.sg_text.specs.declared.places.Place.{Place}
 use Rattle.vl_lex.specs.Bytes.{is_blank, is_name_start, is_name_byte}
-use Rattle.vl_lex.specs.Tokens.{Meaning, Lexeme}
-use Rattle.vl_lex.specs.State.{waits, Waiting, State, Outcome, fault, same_bytes, text_of, is_taken}
+use Rattle.vl_token.specs.Tokens.{Meaning, Lexeme}
+use Rattle.vl_lex.specs.State.{waits, Waiting, State, Outcome, fault, same_bytes, is_taken, is_looked_at}
 use Rattle.vl_lex.specs.Directives.{directive_of, is_conditional, words_wanted, with_macro, applied}
 use Rattle.vl_lex.specs.declared.faults.LexKind.{LexKind}
 use Rattle.vl_lex.specs.declared.faults.LexKind.TheVariants.{BadByte, UnendedComment, UnendedText, UnknownDirective, BadDirective}
@@ -13,7 +13,7 @@ use Rattle.vl_lex.specs.declared.faults.Found.{Found}
 use Rattle.vl_lex.specs.declared.directives.Directive.{Directive}
 use Rattle.vl_lex.specs.declared.directives.Directive.TheVariants.{Define}
 use Rattle.vl_lex.specs.declared.modes.Mode.{Mode}
-use Rattle.vl_lex.specs.declared.modes.Mode.TheVariants.{Plain, AfterEdge, Edges, Table, Line}
+use Rattle.vl_lex.specs.declared.modes.Mode.TheVariants.{Plain, AfterEdge, Edges, Table, EdgesTable, Line}
 use Rattle.vl_lex.specs.declared.origins.Origin.{Origin}
 use Rattle.vl_lex.specs.declared.origins.Origin.TheVariants.{File, Macro as InMacro}
 use Rattle.vl_lex.specs.declared.pieces.Class.{Class}
@@ -40,19 +40,23 @@ behind_edge class.Attribute bytes = AfterEdge
 behind_edge class.Symbol bytes = if same_bytes bytes (codes "[") then Edges else Plain
 behind_edge c bytes = behind_plain c bytes
 
+-- a table in an edge list doesn't end the list
 abbrev pub behind_edges : Class → List ℕ → Mode
 behind_edges class.Symbol bytes = if same_bytes bytes (codes "]") then Plain else Edges
+behind_edges class.Name bytes = if same_bytes bytes (codes "table") then EdgesTable else Edges
 behind_edges _ bytes = Edges
 
-abbrev pub behind_cell : Class → Mode
-behind_cell class.Name = Plain
-behind_cell _ = Table
+-- a name in a table is the word that ends it
+abbrev pub behind_cell : (table behind : Mode) → Class → Mode
+behind_cell table behind class.Name = behind
+behind_cell table behind _ = table
 
 abbrev pub mode_behind : Mode → Class → List ℕ → Mode
 mode_behind Plain c bytes = behind_plain c bytes
 mode_behind AfterEdge c bytes = behind_edge c bytes
 mode_behind Edges c bytes = behind_edges c bytes
-mode_behind Table c bytes = behind_cell c
+mode_behind Table c bytes = behind_cell Table Plain c
+mode_behind EdgesTable c bytes = behind_cell EdgesTable Edges c
 mode_behind Line c bytes = behind_plain c bytes
 
 abbrev pub placed : Place → Option Meaning → List Lexeme
@@ -75,7 +79,7 @@ fault_of class.UnendedComment bytes = Some (record { kind = UnendedComment; behi
 fault_of class.UnendedText bytes = Some (record { kind = UnendedText; behind = 0 })
 fault_of _ bytes = None
 
--- of these, text that isn't taken has but the last two
+-- of these, text that isn't looked at has but the last two
 abbrev pub fault_in : Bool → Class → List ℕ → Option Found
 fault_in true c bytes = fault_of c bytes
 fault_in false class.BadByte bytes = None
@@ -162,8 +166,8 @@ used place None s = stops UnknownDirective place
 
 -- A backquote with a name is a directive, or else a macro's use; in a macro's text it is always a use.
 abbrev pub directed : Origin → Place → List ℕ → Option Directive → State → Effect
-directed (InMacro outermost) place name d s = used place (text_of name s.macros) s
-directed (File n) place name None s = used place (text_of name s.macros) s
+directed (InMacro outermost) place name d s = used place (s.macros name) s
+directed (File n) place name None s = used place (s.macros name) s
 directed (File n) place name (Some d) s = comes_to (ready (first_words d place) s)
 
 -- the same in text that isn't taken: only what opens, goes on with or closes a branch counts
@@ -189,4 +193,4 @@ effect_of None None origin at c bytes s = effect_at (is_taken s.branches) origin
 
 -- What comes of a piece of this class and these bytes, which stands at this byte.
 abbrev pub effect : Origin → ℕ → Class → List ℕ → State → Effect
-effect origin at c bytes s = effect_of (fault_in (is_taken s.branches) c bytes) s.waiting origin at c bytes s
+effect origin at c bytes s = effect_of (fault_in (is_looked_at s.waiting s.branches) c bytes) s.waiting origin at c bytes s

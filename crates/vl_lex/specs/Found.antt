@@ -10,7 +10,7 @@ use Rattle.vl_lex.specs.declared.pieces.Class.TheVariants as class
 use Rattle.vl_lex.specs.Pieces.{is_symbol}
 use Rattle.vl_lex.specs.Modes.{is_value_byte, is_endtable, cell_of}
 use Rattle.vl_lex.specs.declared.modes.Mode.{Mode}
-use Rattle.vl_lex.specs.declared.modes.Mode.TheVariants.{Plain, AfterEdge, Edges, Table, Line}
+use Rattle.vl_lex.specs.declared.modes.Mode.TheVariants.{Plain, AfterEdge, Edges, Table, EdgesTable, Line}
 use Rattle.vl_lex.specs.Numbers.{number_len, sized_len}
 use Rattle.std.specs.Char.{is_ascii_digit}
 
@@ -110,4 +110,5 @@ piece_in Plain text = piece_of text
 piece_in AfterEdge text = piece_of text
 piece_in Edges text = edge_piece text
 piece_in Table text = table_piece text
+piece_in EdgesTable text = table_piece text
 piece_in Line text = line_piece text

@@ -1,6 +1,8 @@
 -- What the code keeps while it reads, as the definitions see it, and what its steps answer.
 use Rattle.std.specs.Prelude.{ℕ, ◌≡◌, List, map, reverse, Option, Some, None, Result, Ok, Err}
 use Rattle.std.specs.Option.{option_map}
+use Rattle.std.specs.Borrow.{Bor}
+use Rattle.indexmap.specs.IndexMap.{get_by}
 use Rattle.sg_text.specs.declared.places.Place.{Place}
 use Rattle.sg_text.specs.declared.refusals.Refused.{Refused}
 use Rattle.sg_text.specs.declared.refusals.Refused.TheVariants as refused
@@ -11,26 +13,27 @@ use Rattle.vl_lex.specs.Lexes.{Leads, Checks, LexesFrom, at_end}
 use Rattle.vl_lex.specs.declared.faults.LexKind.{LexKind}
 use Rattle.vl_lex.specs.declared.directives.Word.{Word}
 use Rattle.vl_lex.specs.declared.directives.Waiting.{Waiting}
-use Rattle.vl_lex.specs.declared.macros.Macro.{Macro}
+use Rattle.vl_lex.specs.declared.macros.Macros.{Macros}
 use Rattle.vl_lex.specs.declared.lexer.Lexer.{Lexer}
 use Rattle.vl_lex.specs.declared.origins.Origin.{Origin}
-use Rattle.vl_lex.specs.Seen.{settings, lexeme}
+use Rattle.vl_token.specs.Seen.{settings, lexeme}
 
 abbrev pub word : Word → def.Word
-word w = record { is_name = w.is_name; bytes = w.bytes }
+word w = record { is_name = w.is_name; bytes = w.bytes.now }
 
 abbrev pub waiting : Waiting → def.Waiting
 waiting w = record { directive = w.directive; place = w.place; words = map word w.words.items }
 
-abbrev pub macro_of : Macro → def.Macro
-macro_of m = record { name = m.name; text = m.text }
+-- the text of each name that is a key
+abbrev pub macros : Macros → def.Macros
+macros m name = option_map (λ t. t.bytes.now) (get_by (λ key. def.same_bytes name key.now) m.texts)
 
 -- the innermost branch comes last in the code
 abbrev pub state : Lexer → State
 state l = record {
   mode = l.mode;
   waiting = option_map waiting l.waiting;
-  macros = map macro_of l.macros.items;
+  macros = macros l.macros;
   branches = reverse l.branches.items;
   settings = settings l.mark;
   tokens = map lexeme l.tokens.items;
@@ -57,9 +60,9 @@ abbrev pub NoText : Place → List ℕ → State → Outcome → Type 0
 NoText place text s o = ⊥
 
 -- A step does all that comes of a piece but the reading of a macro's text, which it gives.
-abbrev pub Steps : Effect → Place → State → Result (Option (List ℕ)) (Refused LexKind) → Type 0
+abbrev pub Steps : Effect → Place → State → Result (Option (Bor (List ℕ))) (Refused LexKind) → Type 0
 Steps effect place new (Ok None) = Leads NoText effect (Ok new)
-Steps effect place new (Ok (Some text)) = effect ≡ expands place text new
+Steps effect place new (Ok (Some text)) = effect ≡ expands place text.now new
 Steps effect place new (Err (refused.Fault k p)) = Leads NoText effect (Err (record { kind = k; place = p }))
 Steps effect place new (Err refused.NoMemory) = Unit {0}
 

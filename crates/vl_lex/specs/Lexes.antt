@@ -1,7 +1,7 @@
 -- The tokens of a list of files, or the first fault from the left.
 use Rattle.std.specs.Prelude.{ℕ, zero, suc, ◌≡◌, ◌+◌, ◌^◌, nat_lt, List, [], ◌∷◌, length, take, drop, Option, Some, None, Result, Ok, Err, if◌then◌else◌}
 use Rattle.sg_text.specs.declared.places.Place.{Place}
-use Rattle.vl_lex.specs.Tokens.{Lexeme}
+use Rattle.vl_token.specs.Tokens.{Lexeme}
 use Rattle.vl_lex.specs.State.{Waiting, State, Fault, Outcome, fault, first_state}
 use Rattle.vl_lex.specs.Modes.{IsPiece, Piece, ArePieces}
 use Rattle.vl_lex.specs.declared.faults.LexKind.TheVariants.{UnbalancedIf, MacroTooDeep, FileTooLarge, BadDirective}

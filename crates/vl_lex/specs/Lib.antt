@@ -4,7 +4,6 @@ pub mod Ends
 pub mod Sized
 pub mod Pieces
 pub mod Modes
-pub mod Tokens
 pub mod State
 pub mod Directives
 pub mod Meanings

@@ -1,24 +1,36 @@
 -- What the pieces of a text are as tokens (IEEE 1364-2005, the clause on lexical conventions).
-use Rattle.std.specs.Prelude.{ℕ, ◌==◌, ◌&&◌, ◌||◌, nat_le, List, [], ◌∷◌, length, drop, Bool, Option, Some, None, Result, Ok, Err, if◌then◌else◌, codes}
+use Rattle.std.specs.Prelude.{ℕ, ◌==◌, ◌&&◌, nat_le, List, [], ◌∷◌, length, drop, Bool, Option, Some, None, Result, Ok, Err, if◌then◌else◌}
 use Rattle.std.specs.List.{list_all}
 use Rattle.std.specs.Char.{is_ascii_digit}
-use Rattle.sg_text.specs.Words.{is_reserved_word}
+use Rattle.sg_text.specs.Words.{use_of}
+use Rattle.sg_text.specs.declared.words.Reserved.{Reserved}
+use Rattle.sg_text.specs.declared.words.Reserved.TheVariants as reserved
 use Rattle.sg_logic.specs.declared.values.Value.{Value}
 use Rattle.sg_logic.specs.declared.values.Value.TheVariants.{Zero, One, X}
 use Rattle.sg_time.specs.Spelling.{Number}
 use Rattle.sg_time.specs.declared.decimal.TimeError.{TimeError}
 use Rattle.sg_time.specs.Reading.{parts_of, said_of}
-use Rattle.vl_lex.specs.Sized.{Sized, sized_of, own_bits, to_width, width_of}
-use Rattle.vl_lex.specs.Tokens.{Settings, Meaning, module_word, word_token, name_token, system_token, symbol_token, other_token, number_token, sized_token, pair_token, byte_token}
-use Rattle.vl_lex.specs.State.{same_bytes}
+use Rattle.vl_token.specs.Constants.{own_bits, to_width}
+use Rattle.vl_token.specs.Symbols.{symbol_of}
+use Rattle.vl_token.specs.declared.symbols.Symbol.{Symbol}
+use Rattle.vl_lex.specs.Sized.{Sized, sized_of, width_of}
+use Rattle.vl_token.specs.Tokens.{Settings, Meaning, module_word, word_token, left_out_token, name_token, system_token, symbol_token, other_token, number_token, sized_token, unsized_token, pair_token, byte_token}
 use Rattle.vl_lex.specs.declared.pieces.Class.{Class}
 use Rattle.vl_lex.specs.declared.pieces.Class.TheVariants as class
 
-abbrev pub is_module : List ℕ → Bool
-is_module bytes = same_bytes bytes (codes "module") || same_bytes bytes (codes "macromodule")
+-- a reserved word, or else a name
+abbrev pub word_meaning : Settings → List ℕ → Option Reserved → Meaning
+word_meaning settings bytes None = name_token bytes
+word_meaning settings bytes (Some reserved.Module) = module_word settings
+word_meaning settings bytes (Some (reserved.Keyword word)) = word_token word
+word_meaning settings bytes (Some reserved.LeftOut) = left_out_token bytes
 
 abbrev pub name_meaning : Settings → List ℕ → Meaning
-name_meaning settings bytes = if is_module bytes then module_word settings else if is_reserved_word bytes then word_token bytes else name_token bytes
+name_meaning settings bytes = word_meaning settings bytes (use_of bytes)
+
+abbrev pub symbol_meaning : List ℕ → Option Symbol → Meaning
+symbol_meaning bytes None = other_token bytes
+symbol_meaning bytes (Some symbol) = symbol_token symbol
 
 -- 1 to 18 digits and nothing else
 abbrev pub is_whole : List ℕ → Bool
@@ -33,8 +45,8 @@ number_meaning bytes (Err e) = other_token bytes
 abbrev pub with_bits : List ℕ → Option (Option ℕ) → Option (List Value) → Meaning
 with_bits bytes None bits = other_token bytes
 with_bits bytes (Some width) None = other_token bytes
-with_bits bytes (Some None) (Some bits) = sized_token None bits
-with_bits bytes (Some (Some width)) (Some bits) = sized_token (Some width) (to_width width bits)
+with_bits bytes (Some None) (Some bits) = unsized_token bits
+with_bits bytes (Some (Some width)) (Some bits) = sized_token (to_width width bits)
 
 abbrev pub sized_meaning : List ℕ → Option Sized → Meaning
 sized_meaning bytes None = other_token bytes
@@ -68,7 +80,7 @@ meaning_of class.Escaped bytes settings = Some (name_token (drop 1 bytes))
 meaning_of class.System bytes settings = Some (system_token bytes)
 meaning_of class.Number bytes settings = Some (number_meaning bytes (said_of (parts_of bytes)))
 meaning_of class.Sized bytes settings = Some (sized_meaning bytes (sized_of bytes))
-meaning_of class.Symbol bytes settings = Some (symbol_token bytes)
+meaning_of class.Symbol bytes settings = Some (symbol_meaning bytes (symbol_of bytes))
 meaning_of class.Cell bytes settings = Some (cell_meaning bytes)
 meaning_of class.Pair bytes settings = Some (pair_meaning bytes)
 meaning_of _ bytes settings = Some (other_token bytes)

@@ -9,7 +9,7 @@ use Rattle.vl_lex.specs.declared.bytes.First.TheVariants.{Blank, Slash, Bad}
 use Rattle.vl_lex.specs.declared.pieces.Class.{Class}
 use Rattle.vl_lex.specs.declared.pieces.Class.TheVariants as class
 use Rattle.vl_lex.specs.declared.modes.Mode.{Mode}
-use Rattle.vl_lex.specs.declared.modes.Mode.TheVariants.{Plain, AfterEdge, Edges, Table, Line}
+use Rattle.vl_lex.specs.declared.modes.Mode.TheVariants.{Plain, AfterEdge, Edges, Table, EdgesTable, Line}
 
 -- 0 1 x X z Z
 abbrev pub is_value_byte : ℕ → Bool
@@ -59,6 +59,7 @@ class_in Plain bs after = class_of bs after
 class_in AfterEdge bs after = class_of bs after
 class_in Edges bs after = edge_class bs after
 class_in Table bs after = table_class bs after
+class_in EdgesTable bs after = table_class bs after
 class_in Line bs after = line_class bs
 
 -- The first n bytes of the text are a piece: they have a form, and no longer front of the text has one.

@@ -2,8 +2,8 @@
 use Rattle.std.specs.Prelude.{ℕ, ◌+◌, ◌-◌, ◌==◌, ◌||◌, List, [], ◌∷◌, length, drop, Option, Some, None, if◌then◌else◌}
 use Rattle.std.specs.List.{prefix_len}
 use Rattle.std.specs.Char.{is_ascii_digit}
-use Rattle.vl_lex.specs.Sized.{base_of, is_digit_of}
-use Rattle.vl_lex.specs.declared.sized.Base.{Base}
+use Rattle.vl_token.specs.Constants.{base_of, is_digit_of}
+use Rattle.vl_token.specs.declared.bases.Base.{Base}
 use Rattle.sg_time.specs.Reading.{sign_at, run_len}
 
 -- at most two digits

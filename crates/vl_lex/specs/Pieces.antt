@@ -1,10 +1,10 @@
 -- The forms of the pieces of a text (IEEE 1364-2005, the clause on lexical conventions), outside tables and edge lists.
-use Rattle.std.specs.Prelude.{ℕ, ◌==◌, ◌&&◌, nat_eq, List, [], ◌∷◌, length, Bool, true, false, Option, Some, None, is_some, if◌then◌else◌, codes}
-use Rattle.std.specs.List.{list_any, list_all}
+use Rattle.std.specs.Prelude.{ℕ, ◌==◌, ◌&&◌, List, [], ◌∷◌, length, Bool, true, false, Option, Some, None, is_some, if◌then◌else◌}
+use Rattle.std.specs.List.{list_all}
 use Rattle.std.specs.Char.{is_ascii_digit}
-use lib.Pointwise.{pointwise}
 use Rattle.sg_time.specs.Reading.{parts_of}
 use Rattle.sg_time.specs.Spelling.{Sign, none, plus, minus, Spelling}
+use Rattle.vl_token.specs.Symbols.{symbol_of}
 use Rattle.vl_lex.specs.Bytes.{is_name_start, is_name_byte, is_graphic, is_inline, first_of}
 use Rattle.vl_lex.specs.Ends.{end_of, quote_end}
 use Rattle.vl_lex.specs.Sized.{sized_of}
@@ -13,16 +13,8 @@ use Rattle.vl_lex.specs.declared.bytes.First.TheVariants.{Blank, Letter, Backsla
 use Rattle.vl_lex.specs.declared.pieces.Class.{Class}
 use Rattle.vl_lex.specs.declared.pieces.Class.TheVariants as class
 
--- the symbols of netlists
-unfoldable pub symbols : List (List ℕ)
-symbols =
-    codes "=>" ∷ codes "*>" ∷ codes "&&&" ∷ codes "&&" ∷ codes "&" ∷ codes "||" ∷ codes "|" ∷ codes "===" ∷
-    codes "==" ∷ codes "=" ∷ codes "!==" ∷ codes "!=" ∷ codes "!" ∷ codes "~^" ∷ codes "^~" ∷ codes "^" ∷
-    codes "~" ∷ codes "(" ∷ codes ")" ∷ codes "[" ∷ codes "]" ∷ codes "{" ∷ codes "}" ∷ codes "," ∷ codes ";" ∷
-    codes ":" ∷ codes "." ∷ codes "#" ∷ codes "+" ∷ codes "-" ∷ []
-
 unfoldable pub is_symbol : List ℕ → Bool
-is_symbol bytes = list_any (λ word. pointwise nat_eq word bytes) symbols
+is_symbol bytes = is_some (symbol_of bytes)
 
 -- a class where a test holds
 abbrev pub where_so : Bool → Class → Option Class

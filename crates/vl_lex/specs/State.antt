@@ -1,18 +1,17 @@
 -- The state of the directives (IEEE 1364-2005, the clause on compiler directives), and the tokens so far.
-use Rattle.std.specs.Prelude.{ℕ, pos, neg_ℤ, nat_eq, List, [], ◌∷◌, Bool, true, false, Option, Some, None, Result, Err, if◌then◌else◌}
-use Rattle.std.specs.List.{list_all}
+use Rattle.std.specs.Prelude.{ℕ, pos, neg_ℤ, nat_eq, List, [], ◌∷◌, Bool, true, false, Option, Some, None, Result, Err}
 use lib.Pointwise.{pointwise}
 use Rattle.sg_text.specs.declared.places.Place.{Place}
-use Rattle.vl_lex.specs.Tokens.{Settings, Lexeme}
+use Rattle.vl_token.specs.Tokens.{Settings, Lexeme}
 use Rattle.vl_lex.specs.declared.faults.LexKind.{LexKind}
 use Rattle.vl_lex.specs.declared.modes.Mode.{Mode}
 use Rattle.vl_lex.specs.declared.modes.Mode.TheVariants.{Plain}
 use Rattle.vl_lex.specs.declared.directives.Directive.{Directive}
 use Rattle.vl_lex.specs.declared.branches.Branch.{Branch}
 
-pub record Macro : Type 0 where
-  pub name : List ℕ
-  pub text : List ℕ
+-- the text of each macro that is defined, by its name
+abbrev pub Macros : Type 0
+Macros = List ℕ → Option (List ℕ)
 
 -- a word of a directive
 pub record Word : Type 0 where
@@ -29,7 +28,7 @@ pub record Waiting : Type 0 where
 pub record State : Type 0 where
   pub mode : Mode
   pub waiting : Option Waiting
-  pub macros : List Macro
+  pub macros : Macros
   pub branches : List Branch
   pub settings : Settings
   pub tokens : List Lexeme
@@ -50,7 +49,7 @@ abbrev pub first_settings : Settings
 first_settings = record { scale = record { unit = neg_ℤ (pos 9); precision = neg_ℤ (pos 12) }; cell = false; implicit = true }
 
 abbrev pub first_state : State
-first_state = record { mode = Plain; waiting = None; macros = []; branches = []; settings = first_settings; tokens = [] }
+first_state = record { mode = Plain; waiting = None; macros = λ name. None; branches = []; settings = first_settings; tokens = [] }
 
 abbrev pub same_bytes : List ℕ → List ℕ → Bool
 same_bytes = pointwise nat_eq
@@ -59,11 +58,12 @@ same_bytes = pointwise nat_eq
 abbrev pub waits : Waiting → State → State
 waits w s = record s { waiting = Some w }
 
--- the text of the macro of a name
-abbrev pub text_of : List ℕ → List Macro → Option (List ℕ)
-text_of name [] = None
-text_of name (m ∷ ms) = if same_bytes m.name name then Some m.text else text_of name ms
-
--- whether the text at hand is taken: each open branch is
+-- Whether the text at hand is taken: that of the innermost branch is. None is taken in text that isn't.
 abbrev pub is_taken : List Branch → Bool
-is_taken branches = list_all (λ b. b.taken) branches
+is_taken [] = true
+is_taken (b ∷ bs) = b.taken
+
+-- whether the text at hand is looked at: it is taken, or a directive waits for its words
+abbrev pub is_looked_at : Option Waiting → List Branch → Bool
+is_looked_at None branches = is_taken branches
+is_looked_at (Some w) branches = true

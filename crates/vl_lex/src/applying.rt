@@ -3,17 +3,16 @@ ghost use Rattle.std.specs.Prelude.{◌≡◌, ◌≤◌, ◌^◌, length, map, 
 ghost use Rattle.std.specs.Option.{option_map};
 ghost use Rattle.vl_lex.specs.State.{first_settings};
 ghost use Rattle.vl_lex.specs.Directives.{is_defined, as_wanted, test_of, branched, gone_on, closed, opens, applied};
-ghost use Rattle.vl_lex.specs.Seen.{settings, timescale};
-ghost use Rattle.vl_lex.specs.Inside.{word, macro_of, state, Gives};
+ghost use Rattle.vl_token.specs.Seen.{settings, timescale};
+ghost use Rattle.vl_lex.specs.Inside.{word, macros as macros_seen, state, Gives};
 
-use crate::branch_lists::{close, go_on, open};
+use crate::branches::{close, go_on, open};
 use crate::directives::{Directive, Word, implicit_of, name_of};
 use crate::faults::{LexKind, bad_directive, fault};
 use crate::lexer::Lexer;
-use crate::macro_lists::{remove, text_of};
-use crate::macros::Macro;
+use crate::macros::Macros;
 use crate::scales::scale_of;
-use crate::tokens::Mark;
+use vl_token::Mark;
 use sg_text::{Place, Refused};
 use sg_time::{Scale, Unit};
 
@@ -31,10 +30,10 @@ pub fn first_mark() -> Mark
     }
 }
 
-fn is_defined(macros: &[Macro], name: &[u8]) -> bool
-    ensures { result ≡ is_defined name.now (map macro_of macros.now) }
+fn is_defined(macros: &Macros, name: &[u8]) -> bool
+    ensures { result ≡ is_defined name.now (macros_seen macros.now) }
 {
-    text_of(macros, name).is_some()
+    macros.text_of(name).is_some()
 }
 
 fn as_wanted(wanted: bool, defined: bool) -> bool
@@ -44,8 +43,8 @@ fn as_wanted(wanted: bool, defined: bool) -> bool
 }
 
 // Whether the text behind a test of a macro's name is taken.
-fn test_of(wanted: bool, macros: &[Macro], words: &[Word]) -> Option<bool>
-    ensures { result ≡ test_of wanted (map macro_of macros.now) (map word words.now) }
+fn test_of(wanted: bool, macros: &Macros, words: &[Word]) -> Option<bool>
+    ensures { result ≡ test_of wanted (macros_seen macros.now) (map word words.now) }
 {
     if words.is_empty() {
         return Some(false);
@@ -54,7 +53,7 @@ fn test_of(wanted: bool, macros: &[Macro], words: &[Word]) -> Option<bool>
     Some(as_wanted(wanted, is_defined(macros, name)))
 }
 
-impl Lexer {
+impl Lexer<'_> {
     fn set_scale(&mut self, place: Place, words: &[Word]) -> Result<(), Refused<LexKind>>
         ensures { Gives (applied Directive.Timescale place (map word words.now) (state self.old)) (state self.new) result }
     {
@@ -84,7 +83,7 @@ impl Lexer {
     {
         match name_of(words) {
             Some(name) => {
-                remove(&mut self.macros, name);
+                self.macros.undefine(name);
                 Ok(())
             }
             None => Err(bad_directive(place)),

@@ -7,6 +7,8 @@ ghost use Rattle.vl_lex.specs.Ends.{end_from, end_of, quote_from, quote_end};
 ghost use Rattle.vl_lex.specs.Pieces.{is_symbol};
 ghost use Rattle.vl_lex.specs.State.{same_bytes};
 
+use vl_token::symbol_of;
+
 /// What a text begins with.
 #[derive(Clone, Copy, Debug, PartialEq, Eq)]
 pub enum First {
@@ -22,12 +24,6 @@ pub enum First {
     Mark,
     Bad,
 }
-
-// In the order of the definition.
-const SYMBOLS: [&str; 30] = [
-    "=>", "*>", "&&&", "&&", "&", "||", "|", "===", "==", "=", "!==", "!=", "!", "~^", "^~", "^",
-    "~", "(", ")", "[", "]", "{", "}", ",", ";", ":", ".", "#", "+", "-",
-];
 
 pub fn is_blank(b: u8) -> bool
     ensures { result ≡ is_blank b }
@@ -140,10 +136,11 @@ pub fn is_among(words: &[&str], bytes: &[u8]) -> bool
     words.iter().any(|word| word.as_bytes() == bytes)
 }
 
+#[tactic(auto, unfolding(crate::specs::Pieces::is_symbol))]
 pub fn is_symbol(bytes: &[u8]) -> bool
     ensures { result ≡ is_symbol bytes.now }
 {
-    is_among(&SYMBOLS, bytes)
+    symbol_of(bytes).is_some()
 }
 
 // Whether the bytes are this word.

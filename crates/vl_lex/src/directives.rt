@@ -8,7 +8,7 @@ ghost use Rattle.vl_lex.specs.Inside.{word};
 
 use crate::branches::Branch;
 use crate::bytes::{is_among, is_word};
-use sg_text::{Place, Text};
+use sg_text::Place;
 
 /// A compiler directive.
 #[derive(Clone, Copy, Debug, PartialEq, Eq)]
@@ -29,18 +29,18 @@ pub enum Directive {
 }
 
 /// A word of a directive.
-#[derive(Debug, Drop)]
-pub struct Word {
+#[derive(Clone, Copy, Debug)]
+pub struct Word<'a> {
     pub is_name: bool,
-    pub bytes: Text,
+    pub bytes: &'a [u8],
 }
 
 /// A directive that waits for its words, with those that it has.
 #[derive(Debug, Drop)]
-pub struct Waiting {
+pub struct Waiting<'a> {
     pub directive: Directive,
     pub place: Place,
-    pub words: Vec<Word>,
+    pub words: Vec<Word<'a>>,
 }
 
 // In the order of the definition.
@@ -126,11 +126,11 @@ impl Directive {
 }
 
 // The one word, if it is a name.
-pub fn name_of(words: &[Word]) -> Option<&[u8]>
+pub fn name_of<'a>(words: &[Word<'a>]) -> Option<&'a [u8]>
     ensures { MatchOption result (name_of (map word words.now) ≡ None) (λ name. name_of (map word words.now) ≡ Some name.now) }
 {
     match words {
-        [one] if one.is_name => Some(one.bytes.bytes()),
+        [one] if one.is_name => Some(one.bytes),
         _ => None,
     }
 }

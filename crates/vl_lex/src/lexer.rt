@@ -1,19 +1,19 @@
 // The state of the directives, and the tokens so far.
 use crate::branches::Branch;
 use crate::directives::Waiting;
-use crate::macros::Macro;
+use crate::macros::Macros;
 use crate::modes::Mode;
-use crate::tokens::{Mark, Token};
 use std::alloc::Global;
+use vl_token::{Mark, Token};
 
-/// What is known of the texts so far: the newest macro and the innermost branch come last.
+/// What is known of the texts so far: the innermost branch comes last.
 #[derive(Drop)]
-pub struct Lexer {
+pub struct Lexer<'a> {
     pub alloc: Global,
     pub mode: Mode,
-    pub waiting: Option<Waiting>,
-    pub macros: Vec<Macro>,
+    pub waiting: Option<Waiting<'a>>,
+    pub macros: Macros<'a>,
     pub branches: Vec<Branch>,
     pub mark: Mark,
-    pub tokens: Vec<Token>,
+    pub tokens: Vec<Token<'a>>,
 }

@@ -1,38 +1,37 @@
 // What the pieces of a text are as tokens.
-ghost use Rattle.std.specs.Prelude.{◌≡◌, ◌<◌, ◌≤◌, ◌^◌, ◌∷◌, [], length, drop, IfOk, Option, Some, None};
+ghost use Rattle.std.specs.Prelude.{◌≡◌, ◌≤◌, ◌^◌, length, drop, Option};
 ghost use Rattle.std.specs.Option.{option_map};
 ghost use Rattle.std.specs.List.{list_all};
 ghost use Rattle.std.specs.Char.{is_ascii_digit};
 ghost use Rattle.sg_time.specs.Reading.{parts_of, said_of};
-ghost use Rattle.vl_lex.specs.Meanings.{is_module, name_meaning, is_whole, number_meaning, edge_value, pair_from, pair_meaning, cell_meaning, meaning_of};
-ghost use Rattle.vl_lex.specs.Seen.{settings, meaning};
+ghost use Rattle.vl_token.specs.Seen.{settings, meaning};
+ghost use Rattle.vl_token.specs.Symbols.{symbol_of};
+ghost use Rattle.vl_lex.specs.Meanings.{name_meaning, symbol_meaning, is_whole, number_meaning, edge_value, pair_from, pair_meaning, cell_meaning, meaning_of};
 
-use crate::bytes::is_word;
-use crate::constants::{other, sized_kind};
+use crate::constants::sized_kind;
 use crate::pieces::Class;
-use crate::tokens::{Mark, TokenKind};
 use sg_logic::Value;
-use sg_text::{NoMemory, Text, is_reserved};
+use sg_text::{Reserved, use_of};
 use sg_time::Decimal;
-use std::alloc::Global;
+use vl_token::{Mark, TokenKind, symbol_of};
 
-fn is_module(bytes: &[u8]) -> bool
-    ensures { result ≡ is_module bytes.now }
+fn name_kind(mark: Mark, bytes: &[u8]) -> TokenKind<'_>
+    ensures { meaning result ≡ name_meaning (settings mark) bytes.now }
 {
-    is_word(bytes, "module") || is_word(bytes, "macromodule")
+    match use_of(bytes) {
+        None => TokenKind::Name(bytes),
+        Some(Reserved::Module) => TokenKind::Module(mark),
+        Some(Reserved::Keyword(word)) => TokenKind::Word(word),
+        Some(Reserved::LeftOut) => TokenKind::LeftOut(bytes),
+    }
 }
 
-fn name_kind(alloc: Global, mark: Mark, bytes: &[u8]) -> Result<TokenKind, NoMemory>
-    ensures { IfOk result (λ kind. meaning kind ≡ name_meaning (settings mark) bytes.now) }
+fn symbol_kind(bytes: &[u8]) -> TokenKind<'_>
+    ensures { meaning result ≡ symbol_meaning bytes.now (symbol_of bytes.now) }
 {
-    if is_module(bytes) {
-        return Ok(TokenKind::Module(mark));
-    }
-    let text = Text::copy(alloc, bytes)?;
-    if is_reserved(bytes) {
-        Ok(TokenKind::Word(text))
-    } else {
-        Ok(TokenKind::Name(text))
+    match symbol_of(bytes) {
+        Some(symbol) => TokenKind::Symbol(symbol),
+        None => TokenKind::Other(bytes),
     }
 }
 
@@ -49,16 +48,16 @@ fn is_whole(bytes: &[u8]) -> bool
     are_digits(bytes) && bytes.len() <= 18
 }
 
-fn number_kind(alloc: Global, bytes: &[u8]) -> Result<TokenKind, NoMemory>
+fn number_kind(bytes: &[u8]) -> TokenKind<'_>
     requires { length bytes.now ≤ 2 ^ 28 }
-    ensures { IfOk result (λ kind. meaning kind ≡ number_meaning bytes.now (said_of (parts_of bytes.now))) }
+    ensures { meaning result ≡ number_meaning bytes.now (said_of (parts_of bytes.now)) }
 {
     match Decimal::read(bytes) {
-        Ok(value) => Ok(TokenKind::Number {
+        Ok(value) => TokenKind::Number {
             value,
             whole: is_whole(bytes),
-        }),
-        Err(_) => other(alloc, bytes),
+        },
+        Err(_) => TokenKind::Other(bytes),
     }
 }
 
@@ -73,32 +72,32 @@ fn edge_value(b: u8) -> Value
     }
 }
 
-fn pair_from(alloc: Global, bytes: &[u8], from: Value, to: Value) -> Result<TokenKind, NoMemory>
-    ensures { IfOk result (λ kind. meaning kind ≡ pair_from bytes.now from to) }
+fn pair_from(bytes: &[u8], from: Value, to: Value) -> TokenKind<'_>
+    ensures { meaning result ≡ pair_from bytes.now from to }
 {
     match (from, to) {
         (Value::Zero, Value::Zero) | (Value::One, Value::One) | (Value::X, Value::X) => {
-            other(alloc, bytes)
+            TokenKind::Other(bytes)
         }
-        _ => Ok(TokenKind::Pair { from, to }),
+        _ => TokenKind::Pair { from, to },
     }
 }
 
-fn pair_kind(alloc: Global, bytes: &[u8]) -> Result<TokenKind, NoMemory>
-    ensures { IfOk result (λ kind. meaning kind ≡ pair_meaning bytes.now) }
+fn pair_kind(bytes: &[u8]) -> TokenKind<'_>
+    ensures { meaning result ≡ pair_meaning bytes.now }
 {
     match bytes {
-        [a, b] => pair_from(alloc, bytes, edge_value(*a), edge_value(*b)),
-        _ => other(alloc, bytes),
+        [a, b] => pair_from(bytes, edge_value(*a), edge_value(*b)),
+        _ => TokenKind::Other(bytes),
     }
 }
 
-fn cell_kind(alloc: Global, bytes: &[u8]) -> Result<TokenKind, NoMemory>
-    ensures { IfOk result (λ kind. meaning kind ≡ cell_meaning bytes.now) }
+fn cell_kind(bytes: &[u8]) -> TokenKind<'_>
+    ensures { meaning result ≡ cell_meaning bytes.now }
 {
     match bytes {
-        [b] => Ok(TokenKind::Byte(*b)),
-        _ => other(alloc, bytes),
+        [b] => TokenKind::Byte(*b),
+        _ => TokenKind::Other(bytes),
     }
 }
 
@@ -113,26 +112,20 @@ pub fn behind_first(bytes: &[u8]) -> &[u8]
 }
 
 // What a piece is as a token, if it is one.
-pub fn kind_of(
-    alloc: Global,
-    class: Class,
-    bytes: &[u8],
-    mark: Mark,
-) -> Result<Option<TokenKind>, NoMemory>
+pub fn kind_of(class: Class, bytes: &[u8], mark: Mark) -> Option<TokenKind<'_>>
     requires { length bytes.now ≤ 2 ^ 28 }
-    ensures { IfOk result (λ kind. option_map meaning kind ≡ meaning_of class bytes.now (settings mark)) }
+    ensures { option_map meaning result ≡ meaning_of class bytes.now (settings mark) }
 {
-    let kind = match class {
-        Class::Gap | Class::Attribute => return Ok(None),
-        Class::Name => name_kind(alloc, mark, bytes)?,
-        Class::Escaped => TokenKind::Name(Text::copy(alloc, behind_first(bytes))?),
-        Class::System => TokenKind::System(Text::copy(alloc, bytes)?),
-        Class::Number => number_kind(alloc, bytes)?,
-        Class::Sized => sized_kind(alloc, bytes)?,
-        Class::Symbol => TokenKind::Symbol(Text::copy(alloc, bytes)?),
-        Class::Cell => cell_kind(alloc, bytes)?,
-        Class::Pair => pair_kind(alloc, bytes)?,
-        _ => other(alloc, bytes)?,
-    };
-    Ok(Some(kind))
+    match class {
+        Class::Gap | Class::Attribute => None,
+        Class::Name => Some(name_kind(mark, bytes)),
+        Class::Escaped => Some(TokenKind::Name(behind_first(bytes))),
+        Class::System => Some(TokenKind::System(bytes)),
+        Class::Number => Some(number_kind(bytes)),
+        Class::Sized => Some(sized_kind(bytes)),
+        Class::Symbol => Some(symbol_kind(bytes)),
+        Class::Cell => Some(cell_kind(bytes)),
+        Class::Pair => Some(pair_kind(bytes)),
+        _ => Some(TokenKind::Other(bytes)),
+    }
 }

@@ -54,16 +54,24 @@ fn behind_edges(class: Class, bytes: &[u8]) -> Mode
                 Mode::Edges
             }
         }
+        Class::Name => {
+            if is_word(bytes, "table") {
+                Mode::EdgesTable
+            } else {
+                Mode::Edges
+            }
+        }
         _ => Mode::Edges,
     }
 }
 
-fn behind_cell(class: Class) -> Mode
-    ensures { result ≡ behind_cell class }
+// Behind a byte of a table, or the word that ends it.
+fn behind_cell(table: Mode, behind: Mode, class: Class) -> Mode
+    ensures { result ≡ behind_cell table behind class }
 {
     match class {
-        Class::Name => Mode::Plain,
-        _ => Mode::Table,
+        Class::Name => behind,
+        _ => table,
     }
 }
 
@@ -75,6 +83,7 @@ pub fn mode_behind(mode: Mode, class: Class, bytes: &[u8]) -> Mode
         Mode::Plain | Mode::Line => behind_plain(class, bytes),
         Mode::AfterEdge => behind_edge(class, bytes),
         Mode::Edges => behind_edges(class, bytes),
-        Mode::Table => behind_cell(class),
+        Mode::Table => behind_cell(Mode::Table, Mode::Plain, class),
+        Mode::EdgesTable => behind_cell(Mode::EdgesTable, Mode::Edges, class),
     }
 }

@@ -17,6 +17,8 @@ pub enum Mode {
     Edges,
     /// Byte by byte.
     Table,
+    /// The same in an edge list, which goes on behind it.
+    EdgesTable,
     /// As one line.
     Line,
 }
@@ -100,7 +102,7 @@ fn found_piece(mode: Mode, text: &[u8]) -> (Class, usize)
     match mode {
         Mode::Plain | Mode::AfterEdge => plain_piece(text),
         Mode::Edges => edge_piece(text),
-        Mode::Table => table_piece(text),
+        Mode::Table | Mode::EdgesTable => table_piece(text),
         Mode::Line => line_piece(text),
     }
 }

@@ -4,10 +4,10 @@ ghost use Rattle.std.specs.List.{prefix_len};
 ghost use Rattle.std.specs.Char.{is_ascii_digit};
 ghost use Rattle.sg_time.specs.Spelling.{is_run_byte};
 ghost use Rattle.sg_time.specs.Reading.{sign_at, run_len};
-ghost use Rattle.vl_lex.specs.Sized.{base_of, is_digit_of};
+ghost use Rattle.vl_token.specs.Constants.{base_of, is_digit_of};
 ghost use Rattle.vl_lex.specs.Numbers.{digits_len, power_len, behind_run, number_len, digits_size, base_size, sized_len};
 
-use crate::sized::{Base, base_of, is_digit_of};
+use vl_token::Base;
 
 // What is behind a sign at the front, if there is one.
 fn unsigned(bytes: &[u8]) -> &[u8]
@@ -115,7 +115,7 @@ fn digits_of(base: Base, bytes: &[u8]) -> usize
     ensures size { result ≡ prefix_len (is_digit_of base) bytes.now }
     ensures within { result ≤ length bytes.now }
 {
-    bytes.iter().take_while(|b| is_digit_of(base, **b)).count()
+    bytes.iter().take_while(|b| base.has_digit(**b)).count()
 }
 
 // How many digits of the base that a letter names are at the front.
@@ -123,7 +123,7 @@ fn digits_size(letter: u8, digits: &[u8]) -> usize
     ensures size { result ≡ digits_size (base_of letter) digits.now }
     ensures within { result ≤ length digits.now }
 {
-    match base_of(letter) {
+    match Base::of_letter(letter) {
         Some(base) => digits_of(base, digits),
         None => 0,
     }

@@ -51,12 +51,12 @@ pub fn fault_of(class: Class, bytes: &[u8]) -> Option<Found>
     Some(Found { kind, behind: 0 })
 }
 
-// The same by whether the text is taken.
-pub fn fault_in(taken: bool, class: Class, bytes: &[u8]) -> Option<Found>
-    ensures value { result ≡ fault_in taken class bytes.now }
+// The same by whether the text is looked at.
+pub fn fault_in(looked_at: bool, class: Class, bytes: &[u8]) -> Option<Found>
+    ensures value { result ≡ fault_in looked_at class bytes.now }
     ensures within { IfSome result (λ found. found.behind ≤ length bytes.now) }
 {
-    if taken {
+    if looked_at {
         return fault_of(class, bytes);
     }
     match class {

@@ -1,7 +1,7 @@
 // Whole texts.
 ghost use Rattle.std.specs.Prelude.{◌≡◌, ◌≤◌, ◌<◌, ◌+◌, ◌^◌, List, ℕ, Result, length, None};
 ghost use Rattle.vl_lex.specs.State.{Fault, first_state};
-ghost use Rattle.vl_lex.specs.Tokens.{Lexeme};
+ghost use Rattle.vl_token.specs.Tokens.{Lexeme};
 ghost use Rattle.vl_lex.specs.Lexes.{Leads, IsRead, Expands, IsFileRead, Lexes, too_large, at_end, file_end};
 ghost use Rattle.vl_lex.specs.Effects.{effect};
 ghost use Rattle.vl_lex.specs.Inside.{state, Gives, Answers, AreRead};
@@ -10,10 +10,11 @@ ghost use Rattle.vl_lex.specs.Seen.{Stands, Tells, texts};
 use crate::applying::first_mark;
 use crate::faults::{LexKind, bad_directive, fault};
 use crate::lexer::Lexer;
+use crate::macros::Macros;
 use crate::modes::{Mode, first_piece};
 use crate::origins::Origin;
 use crate::pieces::Class;
-use crate::tokens::Token;
+use vl_token::Token;
 use sg_text::{Place, Refused};
 use std::alloc::Global;
 
@@ -22,15 +23,15 @@ const DEEPEST: u8 = 16;
 // How many bytes a file may have.
 const LARGEST: usize = 1 << 28;
 
-impl Lexer {
-    pub fn new(alloc: Global) -> Lexer
+impl<'a> Lexer<'a> {
+    pub fn new(alloc: Global) -> Lexer<'a>
         ensures { state result ≡ first_state }
     {
         Lexer {
             alloc,
             mode: Mode::Plain,
             waiting: None,
-            macros: Vec::new(alloc),
+            macros: Macros::new(alloc),
             branches: Vec::new(alloc),
             mark: first_mark(),
             tokens: Vec::new(alloc),
@@ -39,7 +40,7 @@ impl Lexer {
 
     // A text from its first byte to its last, where so many uses of macros may still lie within one another.
     #[cycle(reading)]
-    fn read(&mut self, origin: Origin, text: &[u8], left: u8) -> Result<(), Refused<LexKind>>
+    fn read(&mut self, origin: Origin, text: &'a [u8], left: u8) -> Result<(), Refused<LexKind>>
         requires { length text.now ≤ 2 ^ 28 }
         ensures { Answers (IsRead (Expands left) origin 0 text.now (state self.old)) (state self.new) result }
     {
@@ -62,7 +63,7 @@ impl Lexer {
         origin: Origin,
         at: usize,
         class: Class,
-        bytes: &[u8],
+        bytes: &'a [u8],
         left: u8,
     ) -> Result<(), Refused<LexKind>>
         requires few { length bytes.now ≤ 2 ^ 28 }
@@ -70,14 +71,14 @@ impl Lexer {
         ensures { Answers (Leads (Expands left) (effect origin at class bytes.now (state self.old))) (state self.new) result }
     {
         match self.step(origin, at, class, bytes)? {
-            Some(text) => self.expand(origin.place_at(at), text.bytes(), left),
+            Some(text) => self.expand(origin.place_at(at), text, left),
             None => Ok(()),
         }
     }
 
     // A macro's text, where it is used.
     #[cycle(reading)]
-    fn expand(&mut self, place: Place, text: &[u8], left: u8) -> Result<(), Refused<LexKind>>
+    fn expand(&mut self, place: Place, text: &'a [u8], left: u8) -> Result<(), Refused<LexKind>>
         requires { length text.now ≤ 2 ^ 28 }
         ensures { Answers (Expands left place text.now (state self.old)) (state self.new) result }
     {
@@ -97,7 +98,7 @@ impl Lexer {
         }
     }
 
-    fn read_file(&mut self, file: u32, text: &[u8]) -> Result<(), Refused<LexKind>>
+    fn read_file(&mut self, file: u32, text: &'a [u8]) -> Result<(), Refused<LexKind>>
         requires { length text.now ≤ 2 ^ 28 }
         ensures { Answers (IsFileRead 16 file text.now (state self.old)) (state self.new) result }
     {
@@ -105,7 +106,7 @@ impl Lexer {
         self.end_file()
     }
 
-    fn read_files(&mut self, files: &[Vec<u8>]) -> Result<(), Refused<LexKind>>
+    fn read_files(&mut self, files: &'a [Vec<u8>]) -> Result<(), Refused<LexKind>>
         requires few { length files.now < 2 ^ 32 }
         requires small { too_large (2 ^ 28) 0 (texts files.now) ≡ None }
         ensures { AreRead 16 0 (texts files.now) (state self.old) (state self.new) result }
@@ -121,8 +122,8 @@ impl Lexer {
     }
 
     // The tokens, unless a branch is open.
-    fn finish(self) -> Result<Vec<Token>, Refused<LexKind>>
-        ensures { Tells (at_end (state self).branches (state self)) result }
+    fn finish(self) -> Result<Vec<Token<'a>>, Refused<LexKind>>
+        ensures { Tells (at_end (state self.entry).branches (state self.entry)) result }
     {
         match self.branches.last() {
             Some(branch) => Err(fault(LexKind::UnbalancedIf, branch.place)),
@@ -149,7 +150,7 @@ fn too_large(files: &[Vec<u8>]) -> Option<u32>
 }
 
 // The tokens of so many files.
-fn lex_few(alloc: Global, files: &[Vec<u8>]) -> Result<Vec<Token>, Refused<LexKind>>
+fn lex_few(alloc: Global, files: &[Vec<u8>]) -> Result<Vec<Token<'_>>, Refused<LexKind>>
     requires { length files.now < 2 ^ 32 }
     ensures { Stands (Lexes (texts files.now)) result }
 {
@@ -167,7 +168,7 @@ fn lex_few(alloc: Global, files: &[Vec<u8>]) -> Result<Vec<Token>, Refused<LexKi
 /// Directives are applied, macros and branches too; a macro's tokens stand at its outermost use. Of several faults the
 /// first from the left is answered, but for `FileTooLarge`, which comes before all others.
 /// Takes memory for each token, each macro and each macro's use. For more than 2^32 - 1 files there is none.
-pub fn lex(alloc: Global, files: &[Vec<u8>]) -> Result<Vec<Token>, Refused<LexKind>>
+pub fn lex(alloc: Global, files: &[Vec<u8>]) -> Result<Vec<Token<'_>>, Refused<LexKind>>
     // The token list or the fault that it answers stands.
     ensures found { Stands (Lexes (texts files.now)) result }
     // No other list and no other fault stands.

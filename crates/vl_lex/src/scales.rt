@@ -3,7 +3,7 @@ ghost use Rattle.std.specs.Prelude.{◌≡◌, ◌≤ℤ◌, ◌-ℤ◌, pos, �
 ghost use Rattle.std.specs.Option.{option_map};
 ghost use Rattle.vl_lex.specs.Directives.{tens_of, unit_of, power_of, scale_from, scale_of};
 ghost use Rattle.vl_lex.specs.Inside.{word};
-ghost use Rattle.vl_lex.specs.Seen.{timescale};
+ghost use Rattle.vl_token.specs.Seen.{timescale};
 
 use crate::bytes::is_word;
 use crate::directives::Word;
@@ -83,10 +83,10 @@ pub fn scale_of(words: &[Word]) -> Option<Scale>
     let [number, unit, slash, other_number, other_unit] = words else {
         return None;
     };
-    if is_word(slash.bytes.bytes(), "/") {
+    if is_word(slash.bytes, "/") {
         scale_from(
-            power_of(number.bytes.bytes(), unit.bytes.bytes()),
-            power_of(other_number.bytes.bytes(), other_unit.bytes.bytes()),
+            power_of(number.bytes, unit.bytes),
+            power_of(other_number.bytes, other_unit.bytes),
         )
     } else {
         None

@@ -2,28 +2,25 @@
 ghost use Rattle.std.specs.Prelude.{◌≡◌, ◌≤◌, ◌<◌, ◌+◌, ◌^◌, length, drop, OnOk, IfOk, IfSome, Option, Some, None};
 ghost use Rattle.std.specs.List.{prefix_len};
 ghost use Rattle.vl_lex.specs.Bytes.{is_blank};
-ghost use Rattle.vl_lex.specs.State.{is_taken, waits};
+ghost use Rattle.vl_lex.specs.State.{is_taken, is_looked_at, waits};
 ghost use Rattle.vl_lex.specs.Directives.{with_macro, directive_of as directive_named};
 ghost use Rattle.vl_lex.specs.Effects.{defines, mode_at, taken_piece, ready, with_word, skipped, begins_arguments, begins_name, defined_in, defined_by, awaited, first_words, used, directed, passed, is_use, effect_at, effect, is_define, place_at};
 ghost use Rattle.vl_lex.specs.Lexes.{Leads};
-ghost use Rattle.vl_lex.specs.State.{text_of as macro_text};
 ghost use Rattle.vl_lex.specs.Inside.{waiting as waiting_seen, state, Gives, Answers, NoText, Steps};
 
-use crate::branch_lists::{is_taken, words_wanted};
+use crate::branches::{is_taken, words_wanted};
 use crate::bytes::{is_blank, is_name_start, name_len};
 use crate::directives::{Directive, Waiting, Word, directive_of};
 use crate::faults::{LexKind, bad_directive, fault};
 use crate::lexer::Lexer;
-use crate::macro_lists::{remove, text_of};
-use crate::macros::Macro;
 use crate::meanings::{behind_first, kind_of};
 use crate::mode_changes::mode_behind;
 use crate::modes::Mode;
 use crate::origins::Origin;
 use crate::piece_faults::{check_text, fault_in};
 use crate::pieces::Class;
-use crate::tokens::Token;
-use sg_text::{NoMemory, Place, Refused, Text};
+use sg_text::{NoMemory, Place, Refused};
+use vl_token::Token;
 
 fn is_define(directive: Directive) -> bool
     ensures { result ≡ is_define directive }
@@ -59,7 +56,7 @@ fn begins_arguments(bytes: &[u8]) -> bool
     matches!(bytes, [b'(', ..])
 }
 
-impl Lexer {
+impl<'a> Lexer<'a> {
     // How the next piece is split off.
     pub fn mode_at(&self) -> Mode
         ensures { result ≡ mode_at (state self.now) }
@@ -78,12 +75,22 @@ impl Lexer {
         }
     }
 
+    // Whether the text at hand is looked at.
+    fn is_looked_at(&self) -> bool
+        ensures { result ≡ is_looked_at (state self.now).waiting (state self.now).branches }
+    {
+        match &self.waiting {
+            Some(_) => true,
+            None => is_taken(&self.branches),
+        }
+    }
+
     // A piece of text that is taken.
-    fn take(&mut self, place: Place, class: Class, bytes: &[u8]) -> Result<(), NoMemory>
+    fn take(&mut self, place: Place, class: Class, bytes: &'a [u8]) -> Result<(), NoMemory>
         requires { length bytes.now ≤ 2 ^ 28 }
         ensures { OnOk result (state self.new ≡ taken_piece place class bytes.now (state self.old)) }
     {
-        if let Some(kind) = kind_of(self.alloc, class, bytes, self.mark)? {
+        if let Some(kind) = kind_of(class, bytes, self.mark) {
             self.tokens.push(Token { kind, place })?;
         }
         self.mode = mode_behind(self.mode, class, bytes);
@@ -91,8 +98,8 @@ impl Lexer {
     }
 
     // A directive that has all its words is applied, and another one waits for them.
-    fn ready(&mut self, waiting: Waiting) -> Result<(), Refused<LexKind>>
-        ensures { Gives (ready (waiting_seen waiting) (state self.old)) (state self.new) result }
+    fn ready(&mut self, waiting: Waiting<'a>) -> Result<(), Refused<LexKind>>
+        ensures { Gives (ready (waiting_seen waiting.entry) (state self.old)) (state self.new) result }
     {
         if waiting.words.len() == words_wanted(waiting.directive, &self.branches) {
             self.waiting = None;
@@ -104,17 +111,11 @@ impl Lexer {
     }
 
     // A macro is defined anew.
-    fn put_macro(&mut self, name: &[u8], text: &[u8]) -> Result<(), NoMemory>
+    fn put_macro(&mut self, name: &'a [u8], text: &'a [u8]) -> Result<(), NoMemory>
         requires { length text.now ≤ 2 ^ 28 }
         ensures { OnOk result (state self.new ≡ with_macro name.now text.now (state self.old)) }
     {
-        let one = Macro {
-            name: Text::copy(self.alloc, name)?,
-            text: Text::copy(self.alloc, text)?,
-        };
-        remove(&mut self.macros, name);
-        self.macros.push(one)?;
-        Ok(())
+        self.macros.define(name, text)
     }
 
     // A macro is defined, if its text, which begins at this byte, is without fault.
@@ -122,8 +123,8 @@ impl Lexer {
         &mut self,
         origin: Origin,
         start: usize,
-        name: &[u8],
-        text: &[u8],
+        name: &'a [u8],
+        text: &'a [u8],
     ) -> Result<(), Refused<LexKind>>
         requires few { length text.now ≤ 2 ^ 28 }
         requires place { start + length text.now < 2 ^ 62 }
@@ -145,7 +146,7 @@ impl Lexer {
         at: usize,
         place: Place,
         blanks: usize,
-        bytes: &[u8],
+        bytes: &'a [u8],
     ) -> Result<(), Refused<LexKind>>
         requires few { length bytes.now ≤ 2 ^ 28 }
         requires place { at + blanks + length bytes.now < 2 ^ 62 }
@@ -168,7 +169,7 @@ impl Lexer {
         origin: Origin,
         at: usize,
         place: Place,
-        line: &[u8],
+        line: &'a [u8],
     ) -> Result<(), Refused<LexKind>>
         requires few { length line.now ≤ 2 ^ 28 }
         requires place { at + length line.now < 2 ^ 62 }
@@ -182,21 +183,20 @@ impl Lexer {
     // A word of a directive that waits for one.
     fn take_word(
         &mut self,
-        waiting: Waiting,
+        waiting: Waiting<'a>,
         is_name: bool,
-        bytes: &[u8],
+        bytes: &'a [u8],
     ) -> Result<(), Refused<LexKind>>
-        ensures { Gives (ready (with_word is_name bytes.now (waiting_seen waiting)) (state self.old)) (state self.new) result }
+        ensures { Gives (ready (with_word is_name bytes.now (waiting_seen waiting.entry)) (state self.old)) (state self.new) result }
     {
         let mut waiting = waiting;
-        let bytes = Text::copy(self.alloc, bytes)?;
         waiting.words.push(Word { is_name, bytes })?;
         self.ready(waiting)
     }
 
     // What stands between the words of a directive.
-    fn skip(&mut self, waiting: Waiting) -> Result<(), Refused<LexKind>>
-        ensures { Gives (skipped (waiting_seen waiting) (waits (waiting_seen waiting) (state self.old))) (state self.new) result }
+    fn skip(&mut self, waiting: Waiting<'a>) -> Result<(), Refused<LexKind>>
+        ensures { Gives (skipped (waiting_seen waiting.entry) (waits (waiting_seen waiting.entry) (state self.old))) (state self.new) result }
     {
         if is_define(waiting.directive) {
             return Err(bad_directive(waiting.place));
@@ -208,15 +208,15 @@ impl Lexer {
     // A piece where a directive waits for words.
     fn await_words(
         &mut self,
-        waiting: Waiting,
+        waiting: Waiting<'a>,
         origin: Origin,
         at: usize,
         class: Class,
-        bytes: &[u8],
+        bytes: &'a [u8],
     ) -> Result<(), Refused<LexKind>>
         requires few { length bytes.now ≤ 2 ^ 28 }
         requires place { at + length bytes.now < 2 ^ 62 }
-        ensures { Answers (Leads NoText (awaited origin at (waiting_seen waiting) class bytes.now (waits (waiting_seen waiting) (state self.old)))) (state self.new) result }
+        ensures { Answers (Leads NoText (awaited origin at (waiting_seen waiting.entry) class bytes.now (waits (waiting_seen waiting.entry) (state self.old)))) (state self.new) result }
     {
         match class {
             Class::Gap | Class::Attribute => self.skip(waiting),
@@ -243,12 +243,12 @@ impl Lexer {
     }
 
     // A macro's use.
-    fn use_macro(&mut self, place: Place, name: &[u8]) -> Result<Option<Text>, Refused<LexKind>>
-        ensures steps { Steps (used place (macro_text name.now (state self.old).macros) (state self.old)) place (state self.new) result }
-        ensures few { IfOk result (λ text. IfSome text (λ t. length t ≤ 2 ^ 28)) }
+    fn use_macro(&mut self, place: Place, name: &[u8]) -> Result<Option<&'a [u8]>, Refused<LexKind>>
+        ensures steps { Steps (used place ((state self.old).macros name.now) (state self.old)) place (state self.new) result }
+        ensures few { IfOk result (λ text. IfSome text (λ t. length t.now ≤ 2 ^ 28)) }
     {
-        match text_of(&self.macros, name) {
-            Some(text) => Ok(Some(Text::copy(self.alloc, text.bytes())?)),
+        match self.macros.text_of(name) {
+            Some(text) => Ok(Some(text)),
             None => Err(fault(LexKind::UnknownDirective, place)),
         }
     }
@@ -259,9 +259,9 @@ impl Lexer {
         origin: Origin,
         place: Place,
         name: &[u8],
-    ) -> Result<Option<Text>, Refused<LexKind>>
+    ) -> Result<Option<&'a [u8]>, Refused<LexKind>>
         ensures steps { Steps (directed origin place name.now (directive_named name.now) (state self.old)) place (state self.new) result }
-        ensures few { IfOk result (λ text. IfSome text (λ t. length t ≤ 2 ^ 28)) }
+        ensures few { IfOk result (λ text. IfSome text (λ t. length t.now ≤ 2 ^ 28)) }
     {
         let directive = match origin {
             Origin::File(_) => directive_of(name),
@@ -298,11 +298,11 @@ impl Lexer {
         origin: Origin,
         place: Place,
         class: Class,
-        bytes: &[u8],
-    ) -> Result<Option<Text>, Refused<LexKind>>
+        bytes: &'a [u8],
+    ) -> Result<Option<&'a [u8]>, Refused<LexKind>>
         requires { length bytes.now ≤ 2 ^ 28 }
         ensures steps { Steps (effect_at (is_taken (state self.old).branches) origin place class bytes.now (state self.old)) place (state self.new) result }
-        ensures few { IfOk result (λ text. IfSome text (λ t. length t ≤ 2 ^ 28)) }
+        ensures few { IfOk result (λ text. IfSome text (λ t. length t.now ≤ 2 ^ 28)) }
     {
         if is_taken(&self.branches) {
             if is_use(class) {
@@ -321,14 +321,14 @@ impl Lexer {
         origin: Origin,
         at: usize,
         class: Class,
-        bytes: &[u8],
-    ) -> Result<Option<Text>, Refused<LexKind>>
+        bytes: &'a [u8],
+    ) -> Result<Option<&'a [u8]>, Refused<LexKind>>
         requires few { length bytes.now ≤ 2 ^ 28 }
         requires place { at + length bytes.now < 2 ^ 62 }
         ensures steps { Steps (effect origin at class bytes.now (state self.old)) (place_at origin at) (state self.new) result }
-        ensures few { IfOk result (λ text. IfSome text (λ t. length t ≤ 2 ^ 28)) }
+        ensures few { IfOk result (λ text. IfSome text (λ t. length t.now ≤ 2 ^ 28)) }
     {
-        if let Some(found) = fault_in(is_taken(&self.branches), class, bytes) {
+        if let Some(found) = fault_in(self.is_looked_at(), class, bytes) {
             return Err(fault(found.kind, origin.place_at(at + found.behind)));
         }
         match self.waiting.take() {

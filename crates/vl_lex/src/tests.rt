@@ -1,10 +1,11 @@
 // What no clause says: that the calls succeed, and that the definition means what a reader takes it for.
 use crate::*;
 use sg_logic::Value;
-use sg_text::{Place, Refused, Text};
+use sg_text::{NoMemory, Place, Refused};
 use std::alloc::{AllocError, Global};
 use std::process::Abort;
 use std::test::Fail;
+use vl_token::{Mark, Symbol, Token, TokenKind, symbol_of, unsized_bits};
 
 fn put_text(out: &mut String, name: &str, text: &[u8]) -> Result<(), AllocError> {
     out.push_str(name)?;
@@ -36,43 +37,70 @@ fn put_mark(out: &mut String, mark: Mark) -> Result<(), AllocError> {
     out.push(')')
 }
 
-fn put_bits(out: &mut String, width: Option<u32>, bits: &[Value]) -> Result<(), AllocError> {
-    match width {
-        Some(width) => write!(out, "bits{width}:")?,
-        None => out.push_str("bits:")?,
-    }
+fn put_bits(out: &mut String, bits: &[Value]) -> Result<(), AllocError> {
     for bit in bits {
         put_value(out, *bit)?;
     }
     Ok(())
 }
 
-// A symbol as it is, and any other token behind its kind.
-fn put_kind(out: &mut String, kind: &TokenKind) -> Result<(), AllocError> {
+const SPELLINGS: [&str; 30] = [
+    "=>", "*>", "&&&", "&&", "&", "||", "|", "===", "==", "=", "!==", "!=", "!", "~^", "^~", "^",
+    "~", "(", ")", "[", "]", "{", "}", ",", ";", ":", ".", "#", "+", "-",
+];
+
+fn put_symbol(out: &mut String, symbol: Symbol) -> Result<(), AllocError> {
+    for spelling in SPELLINGS {
+        if symbol_of(spelling.as_bytes()) == Some(symbol) {
+            out.push_str(spelling)?;
+        }
+    }
+    Ok(())
+}
+
+fn put_constant(alloc: Global, out: &mut String, kind: TokenKind<'_>) -> Result<(), NoMemory> {
     match kind {
-        TokenKind::Module(mark) => put_mark(out, *mark),
-        TokenKind::Word(text) => put_text(out, "word:", text.bytes()),
-        TokenKind::Name(text) => put_text(out, "name:", text.bytes()),
-        TokenKind::System(text) => put_text(out, "system:", text.bytes()),
+        TokenKind::Sized(constant) => {
+            let width = constant.width;
+            write!(out, "bits{width}:")?;
+            put_bits(out, &constant.bits(alloc)?)?;
+        }
+        TokenKind::Unsized { base, digits } => {
+            out.push_str("bits:")?;
+            put_bits(out, &unsized_bits(alloc, base, digits)?)?;
+        }
+        _ => {}
+    }
+    Ok(())
+}
+
+// A symbol as it is, and any other token behind its kind.
+fn put_kind(alloc: Global, out: &mut String, kind: TokenKind<'_>) -> Result<(), NoMemory> {
+    match kind {
+        TokenKind::Module(mark) => put_mark(out, mark)?,
+        TokenKind::Word(word) => write!(out, "word:{word:?}")?,
+        TokenKind::LeftOut(text) => put_text(out, "left-out:", text)?,
+        TokenKind::Name(text) => put_text(out, "name:", text)?,
+        TokenKind::System(text) => put_text(out, "system:", text)?,
         TokenKind::Number { value, whole } => {
             let digits = value.digits;
             let exponent = value.exponent;
-            if *whole {
-                write!(out, "number:{digits}")
+            if whole {
+                write!(out, "number:{digits}")?;
             } else {
-                write!(out, "decimal:{digits}e{exponent}")
+                write!(out, "decimal:{digits}e{exponent}")?;
             }
         }
-        TokenKind::Sized { width, bits } => put_bits(out, *width, bits),
+        TokenKind::Sized(_) | TokenKind::Unsized { .. } => put_constant(alloc, out, kind)?,
         TokenKind::Pair { from, to } => {
             out.push_str("pair:")?;
-            put_value(out, *from)?;
-            put_value(out, *to)
+            put_bits(out, &[from, to])?;
         }
-        TokenKind::Symbol(text) => put_text(out, "", text.bytes()),
-        TokenKind::Byte(byte) => put_text(out, "byte:", &[*byte]),
-        TokenKind::Other(text) => put_text(out, "other:", text.bytes()),
+        TokenKind::Symbol(symbol) => put_symbol(out, symbol)?,
+        TokenKind::Byte(byte) => put_text(out, "byte:", &[byte])?,
+        TokenKind::Other(text) => put_text(out, "other:", text)?,
     }
+    Ok(())
 }
 
 fn files_of(alloc: Global, texts: &[&str]) -> Result<Vec<Vec<u8>>, AllocError> {
@@ -92,7 +120,7 @@ fn shown(alloc: Global, texts: &[&str]) -> Result<String, Refused<LexKind>> {
         if !out.is_empty() {
             out.push(' ')?;
         }
-        put_kind(&mut out, &token.kind)?;
+        put_kind(alloc, &mut out, token.kind)?;
     }
     Ok(out)
 }
@@ -160,45 +188,45 @@ const CELL: [(&str, &str); 14] = [
     ),
     (
         "  output Q; input D, CK;",
-        "word:output name:Q ; word:input name:D , name:CK ;",
+        "word:Output name:Q ; word:Input name:D , name:CK ;",
     ),
-    ("  reg notifier;", "word:reg name:notifier ;"),
+    ("  reg notifier;", "word:Reg name:notifier ;"),
     (
         "  dff_p u0 (Q, D, CK, notifier);",
         "name:dff_p name:u0 ( name:Q , name:D , name:CK , name:notifier ) ;",
     ),
-    ("  specify", "word:specify"),
+    ("  specify", "word:Specify"),
     (
         "    specparam tw = 0.1;",
-        "word:specparam name:tw = decimal:1e-1 ;",
+        "word:SpecParam name:tw = decimal:1e-1 ;",
     ),
     (
         "    (posedge CK => (Q +: D)) = (0.2, 0.3);",
-        "( word:posedge name:CK => ( name:Q + : name:D ) ) = ( decimal:2e-1 , decimal:3e-1 ) ;",
+        "( word:Posedge name:CK => ( name:Q + : name:D ) ) = ( decimal:2e-1 , decimal:3e-1 ) ;",
     ),
     (
         "    $setuphold (posedge CK, D, 0.1, 0.05, notifier);",
-        "system:$setuphold ( word:posedge name:CK , name:D , decimal:1e-1 , decimal:5e-2 , name:notifier ) ;",
+        "system:$setuphold ( word:Posedge name:CK , name:D , decimal:1e-1 , decimal:5e-2 , name:notifier ) ;",
     ),
     (
         "    $width (posedge CK, tw, 0, notifier);",
-        "system:$width ( word:posedge name:CK , name:tw , number:0 , name:notifier ) ;",
+        "system:$width ( word:Posedge name:CK , name:tw , number:0 , name:notifier ) ;",
     ),
-    ("  endspecify", "word:endspecify"),
-    ("endmodule", "word:endmodule"),
+    ("  endspecify", "word:EndSpecify"),
+    ("endmodule", "word:EndModule"),
     ("`endcelldefine", ""),
 ];
 
 const PRIMITIVE: [(&str, &str); 10] = [
     (
         "primitive dff_p (q, d, c, n);",
-        "word:primitive name:dff_p ( name:q , name:d , name:c , name:n ) ;",
+        "word:Primitive name:dff_p ( name:q , name:d , name:c , name:n ) ;",
     ),
     (
         "  output q; reg q; input d, c, n;",
-        "word:output name:q ; word:reg name:q ; word:input name:d , name:c , name:n ;",
+        "word:Output name:q ; word:Reg name:q ; word:Input name:d , name:c , name:n ;",
     ),
-    ("  table", "word:table"),
+    ("  table", "word:Table"),
     (
         "    0 r ? : ? : 0;",
         "byte:0 byte:r byte:? byte:: byte:? byte:: byte:0 byte:;",
@@ -219,8 +247,8 @@ const PRIMITIVE: [(&str, &str); 10] = [
         "    ? ? * : ? : x;",
         "byte:? byte:? byte:* byte:: byte:? byte:: byte:x byte:;",
     ),
-    ("  endtable", "word:endtable"),
-    ("endprimitive", "word:endprimitive"),
+    ("  endtable", "word:EndTable"),
+    ("endprimitive", "word:EndPrimitive"),
 ];
 
 const TOP: [(&str, &str); 8] = [
@@ -228,13 +256,13 @@ const TOP: [(&str, &str); 8] = [
         "module top (ck, \\d[0] , q);",
         "module(-9/-12) name:top ( name:ck , name:d[0] , name:q ) ;",
     ),
-    ("  input ck, \\d[0] ;", "word:input name:ck , name:d[0] ;"),
+    ("  input ck, \\d[0] ;", "word:Input name:ck , name:d[0] ;"),
     (
         "  (* keep *) output [1:0] q;",
-        "word:output [ number:1 : number:0 ] name:q ;",
+        "word:Output [ number:1 : number:0 ] name:q ;",
     ),
-    ("  wire n;", "word:wire name:n ;"),
-    ("  assign n = 1'b0;", "word:assign name:n = bits1:0 ;"),
+    ("  wire n;", "word:Wire name:n ;"),
+    ("  assign n = 1'b0;", "word:Assign name:n = bits1:0 ;"),
     (
         "  DFF u0 (.Q(q[0]), .D(\\d[0] ), .CK(ck));",
         "name:DFF name:u0 ( . name:Q ( name:q [ number:0 ] ) , . name:D ( name:d[0] ) , . name:CK ( name:ck ) ) ;",
@@ -243,7 +271,7 @@ const TOP: [(&str, &str); 8] = [
         "  DFF u1 (.Q(q[1]), .D(q[0]), .CK(ck));",
         "name:DFF name:u1 ( . name:Q ( name:q [ number:1 ] ) , . name:D ( name:q [ number:0 ] ) , . name:CK ( name:ck ) ) ;",
     ),
-    ("endmodule", "word:endmodule"),
+    ("endmodule", "word:EndModule"),
 ];
 
 fn put_lines(
@@ -276,7 +304,7 @@ fn the_usual_files(rt: HostRuntime) -> Result<(), Fail> {
     Ok(())
 }
 
-const TOKENS_OF_TEXTS: [(&str, &str); 10] = [
+const TOKENS_OF_TEXTS: [(&str, &str); 12] = [
     ("a+:b===c", "name:a + : name:b === name:c"),
     ("PATHPULSE$a$b \\esc", "name:PATHPULSE$a$b name:esc"),
     ("(*) (* a *) b", "( other:* ) name:b"),
@@ -287,20 +315,28 @@ const TOKENS_OF_TEXTS: [(&str, &str); 10] = [
     ("// c\n/* d */ e", "name:e"),
     (
         "edge [011, 1z, zX]",
-        "word:edge [ pair:01 number:1 , pair:1x , other:zX ]",
+        "word:Edge [ pair:01 number:1 , pair:1x , other:zX ]",
     ),
-    ("01 edge (01", "number:1 word:edge ( number:1"),
+    (
+        "edge [ table 01 endtable 10 ]",
+        "word:Edge [ word:Table byte:0 byte:1 word:EndTable pair:10 ]",
+    ),
+    (
+        "always initial begin nand",
+        "left-out:always word:Initial name:begin word:Nand",
+    ),
+    ("01 edge (01", "number:1 word:Edge ( number:1"),
     (
         "table xendtable 01",
-        "word:table byte:x word:endtable number:1",
+        "word:Table byte:x word:EndTable number:1",
     ),
     (
         "table `A(* \" endtable",
-        "word:table byte:` byte:A byte:( byte:* byte:\" word:endtable",
+        "word:Table byte:` byte:A byte:( byte:* byte:\" word:EndTable",
     ),
     (
         "table / /* c */ endtable",
-        "word:table byte:/ word:endtable",
+        "word:Table byte:/ word:EndTable",
     ),
 ];
 
@@ -338,10 +374,10 @@ fn the_widest_constant(rt: HostRuntime) -> Result<(), Fail> {
     let files = files_of(rt.alloc(), &["65536'b1"])?;
     let tokens = lex(rt.alloc(), &files)?;
     assert_eq!(rt; tokens.len(), 1);
-    let TokenKind::Sized { width, bits } = &tokens[0].kind else {
+    let TokenKind::Sized(constant) = tokens[0].kind else {
         return Err("no constant".into());
     };
-    assert_eq!(rt; *width, Some(65536));
+    let bits = constant.bits(rt.alloc())?;
     assert_eq!(rt; bits.len(), 65536);
     assert_eq!(rt; bits.iter().filter(|bit| **bit == Value::One).count(), 1);
     assert_eq!(rt; bits[65535], Value::One);
@@ -378,11 +414,11 @@ const DIRECTIVES: [(&str, &str); 11] = [
     ),
     (
         "`define T table\n`T 01 endtable",
-        "word:table byte:0 byte:1 word:endtable",
+        "word:Table byte:0 byte:1 word:EndTable",
     ),
     (
         "`define E [01\nedge `E 1x]",
-        "word:edge [ pair:01 pair:1x ]",
+        "word:Edge [ pair:01 pair:1x ]",
     ),
 ];
 
@@ -430,12 +466,17 @@ fn tokens_stand_at_their_first_byte(rt: HostRuntime) -> Result<(), Fail> {
     Ok(())
 }
 
-const EACH_REFUSAL: [(&str, LexKind, u64); 22] = [
+const EACH_REFUSAL: [(&str, LexKind, u64); 23] = [
     ("a\u{1}", LexKind::BadByte, 1),
     ("\u{7f}", LexKind::BadByte, 0),
     ("a é", LexKind::BadByte, 2),
     ("(* \u{1} *)", LexKind::BadByte, 3),
     ("`define A b \u{1}\n", LexKind::BadByte, 12),
+    (
+        "`ifdef A\n`elsif (*\u{1}*) B\n`endif",
+        LexKind::BadByte,
+        18,
+    ),
     ("/* x", LexKind::UnendedComment, 0),
     ("a (* b", LexKind::UnendedComment, 2),
     ("`ifdef A /* `endif", LexKind::UnendedComment, 9),
@@ -526,14 +567,44 @@ fn tokens_are_compared(rt: HostRuntime) -> Result<(), Fail> {
     let alloc = rt.alloc();
     let files = files_of(alloc, &["a"])?;
     let tokens = lex(alloc, &files)?;
-    let name = TokenKind::Name(Text::copy(alloc, b"a")?);
     assert_eq!(rt; tokens.len(), 1);
     assert!(rt;
         tokens[0]
             == Token {
-                kind: name,
+                kind: TokenKind::Name(b"a"),
                 place: at(0, 0)
             }
     );
+    Ok(())
+}
+
+const TEXT_OF_EACH_KIND: [(LexKind, &str); 8] = [
+    (LexKind::BadByte, "a byte that no text may have"),
+    (LexKind::UnendedComment, "a comment without an end"),
+    (LexKind::UnendedText, "a quoted text without an end"),
+    (
+        LexKind::UnknownDirective,
+        "neither a directive nor a macro",
+    ),
+    (LexKind::UnbalancedIf, "a branch without its partner"),
+    (
+        LexKind::MacroTooDeep,
+        "macros within one another more than 16 deep",
+    ),
+    (
+        LexKind::FileTooLarge,
+        "a file of more than 2^28 bytes",
+    ),
+    (
+        LexKind::BadDirective,
+        "a directive whose words aren't of its form",
+    ),
+];
+
+#[test]
+fn each_kind_has_its_text(rt: HostRuntime) -> Result<(), Fail> {
+    for (kind, text) in TEXT_OF_EACH_KIND {
+        assert_eq!(rt; format!(in rt.alloc(); "{kind}")?.as_str(), text);
+    }
     Ok(())
 }

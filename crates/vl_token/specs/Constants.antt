@@ -1,11 +1,21 @@
--- The bits of constants with a base (IEEE 1364-2005, the clause on integer constants), left first.
+-- The digits of constants with a base, and their bits, left first (IEEE 1364-2005, the clause on integer constants).
 use Rattle.std.specs.Prelude.{ℕ, zero, suc, ◌-◌, ◌/◌, ◌%◌, ◌^◌, ◌==◌, ◌&&◌, ◌||◌, nat_lt, nat_le, List, [], ◌∷◌, ◌++◌, length, drop, replicate, Bool, true, false, Option, Some, None, unwrap_or, if◌then◌else◌}
 use Rattle.std.specs.List.{flat_map}
+use Rattle.std.specs.Char.{is_ascii_digit}
 use Rattle.sg_time.specs.Spelling.{number_from}
 use Rattle.sg_logic.specs.declared.values.Value.{Value}
 use Rattle.sg_logic.specs.declared.values.Value.TheVariants.{Zero, One, X, Z}
-use Rattle.vl_token.specs.declared.constants.Base.{Base}
-use Rattle.vl_token.specs.declared.constants.Base.TheVariants.{Binary, Octal, Decimal, Hexadecimal}
+use Rattle.vl_token.specs.declared.bases.Base.{Base}
+use Rattle.vl_token.specs.declared.bases.Base.TheVariants.{Binary, Octal, Decimal, Hexadecimal}
+
+-- the base that a letter names
+abbrev pub base_of : ℕ → Option Base
+base_of b =
+    if (b == 98) || (b == 66) then Some Binary
+    else if (b == 111) || (b == 79) then Some Octal
+    else if (b == 100) || (b == 68) then Some Decimal
+    else if (b == 104) || (b == 72) then Some Hexadecimal
+    else None
 
 -- the value of a hexadecimal digit; 16 where it is none
 abbrev pub hex_value : ℕ → ℕ
@@ -20,6 +30,16 @@ is_x b = (b == 120) || (b == 88)
 
 abbrev pub is_z : ℕ → Bool
 is_z b = (b == 122) || (b == 90)
+
+-- x, z, or a digit below the base
+abbrev pub is_bits_digit : ℕ → ℕ → Bool
+is_bits_digit base b = is_x b || is_z b || nat_lt (hex_value b) base
+
+abbrev pub is_digit_of : Base → ℕ → Bool
+is_digit_of Binary b = is_bits_digit 2 b
+is_digit_of Octal b = is_bits_digit 8 b
+is_digit_of Decimal b = is_ascii_digit b
+is_digit_of Hexadecimal b = is_bits_digit 16 b
 
 abbrev pub bit : ℕ → Value
 bit n = if n == 0 then Zero else One

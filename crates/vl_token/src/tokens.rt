@@ -1,5 +1,6 @@
 // The tokens of netlists.
-use crate::constants::{Base, Constant};
+use crate::bases::Base;
+use crate::constants::Constant;
 use crate::symbols::Symbol;
 use sg_logic::Value;
 use sg_text::{Keyword, Place};

@@ -10,4 +10,4 @@ returns-in-Ok c =
 pub returns-in-Err : goal.returns-in-Err
 returns-in-Err c =
     let h = c.in-Err.ensures.only _ (says_parts c.args.bytes.now) in
-    rw (← h) c.other.ensures
+    rw (← h) refl

@@ -1,7 +1,7 @@
 use Rattle.std.proofs.Common.{◌≡◌, ◌+◌, ◌^◌, length, List}
 use Rattle.std.specs.Prelude.{Result, None}
 use Rattle.vl_lex.specs.State.{Fault}
-use Rattle.vl_lex.specs.Tokens.{Lexeme}
+use Rattle.vl_token.specs.Tokens.{Lexeme}
 use Rattle.vl_lex.specs.Lexes.{too_large, LexesFrom}
 use Rattle.vl_lex.specs.Inside.{state}
 use Rattle.vl_lex.specs.Seen.{texts}

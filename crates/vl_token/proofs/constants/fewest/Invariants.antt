@@ -1,6 +1,6 @@
 use Rattle.std.proofs.Common.{◌≡◌, length}
-use Rattle.vl_lex.specs.Sized.{fewest}
-use Rattle.vl_lex.proofs.constants.fewest.Given as goal
+use Rattle.vl_token.specs.Constants.{fewest}
+use Rattle.vl_token.proofs.constants.fewest.Given as goal
 
 abbrev pub invariant-loop-rest : goal.invariant-loop-rest
 invariant-loop-rest l = fewest l.rest ≡ fewest l.bits

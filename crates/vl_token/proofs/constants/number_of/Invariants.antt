@@ -1,6 +1,6 @@
 use Rattle.std.proofs.Common.{◌≡◌, length}
 use Rattle.sg_time.specs.Spelling.{number_from}
-use Rattle.vl_lex.proofs.constants.number_of.Given as goal
+use Rattle.vl_token.proofs.constants.number_of.Given as goal
 
 abbrev pub invariant-loop-rest : goal.invariant-loop-rest
 invariant-loop-rest l = number_from l.number l.rest ≡ number_from 0 l.digits

@@ -2,7 +2,7 @@
 use Rattle.std.proofs.Common.{◌≡◌, ℕ, zero, suc, ◌+◌, ◌-◌, ◌*◌, ◌/◌, ◌%◌, ◌^◌, ◌<◌, ◌≤◌, List, [], ◌∷◌, ◌++◌, length, get_or, refl, arith, append_assoc}
 use Rattle.sg_logic.specs.declared.values.Value.{Value}
 use Rattle.sg_time.specs.Spelling.{number_from}
-use Rattle.vl_lex.specs.Sized.{bit, low_bits}
+use Rattle.vl_token.specs.Constants.{bit, low_bits}
 
 pub low_bits_none : (n : ℕ) → low_bits 0 n ≡ []
 unfolding low_bits

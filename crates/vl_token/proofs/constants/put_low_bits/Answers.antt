@@ -1,7 +1,7 @@
 use Rattle.std.proofs.Common.{◌≡◌, sym, ◌∙◌, arith}
 use Rattle.std.proofs.lemmas.List.{append-nil}
-use Rattle.vl_lex.proofs.BitLaws.{low_bits_none, low_bits_more}
-use Rattle.vl_lex.proofs.constants.put_low_bits.Goals as goal
+use Rattle.vl_token.proofs.BitLaws.{low_bits_none, low_bits_more}
+use Rattle.vl_token.proofs.constants.put_low_bits.Goals as goal
 
 pub loop-left-preserved : goal.loop-left-preserved
 loop-left-preserved c =

@@ -1,6 +1,6 @@
 use Rattle.std.proofs.Common.{arith}
-use Rattle.vl_lex.proofs.BitLaws.{number_first}
-use Rattle.vl_lex.proofs.constants.number_of.Goals as goal
+use Rattle.vl_token.proofs.BitLaws.{number_first}
+use Rattle.vl_token.proofs.constants.number_of.Goals as goal
 
 pub returns-in_err-number-clause-none : goal.returns-in_err-number-clause-none
 returns-in_err-number-clause-none c =

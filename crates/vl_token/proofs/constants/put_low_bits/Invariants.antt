@@ -1,6 +1,6 @@
 use Rattle.std.proofs.Common.{◌≡◌, ◌≤◌, ◌++◌}
-use Rattle.vl_lex.specs.Sized.{low_bits}
-use Rattle.vl_lex.proofs.constants.put_low_bits.Given as goal
+use Rattle.vl_token.specs.Constants.{low_bits}
+use Rattle.vl_token.proofs.constants.put_low_bits.Given as goal
 
 abbrev pub invariant-loop-left : goal.invariant-loop-left
 invariant-loop-left l = record {
