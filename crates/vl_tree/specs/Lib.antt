@@ -1,0 +1,9 @@
+-- The modules of this folder: the grammar of netlists, its trees, and how the code's trees are seen.
+pub mod Tree
+pub mod Seen
+pub mod Kinds
+pub mod Rules
+pub mod Expressions
+pub mod Items
+pub mod Primitives
+pub mod Modules

@@ -1,0 +1,125 @@
+-- Trees, as the definitions see them: without where they lie in memory.
+use Rattle.std.specs.Prelude.{ℕ, ℤ, Bool, List, [], ◌∷◌, Option}
+use Rattle.sg_logic.specs.declared.gates.GateKind.{GateKind}
+use Rattle.sg_logic.specs.declared.values.Value.{Value}
+use Rattle.sg_text.specs.declared.places.Place.{Place}
+use Rattle.sg_time.specs.Spelling.{Number}
+use Rattle.udp_rows.specs.declared.cells.RawRow.{RawRow}
+use Rattle.vl_token.specs.Tokens.{Settings}
+use Rattle.vl_tree.specs.declared.expressions.Select.{Select}
+use Rattle.vl_tree.specs.declared.names.Direction.{Direction}
+use Rattle.vl_tree.specs.declared.names.NetType.{NetType}
+use Rattle.vl_tree.specs.declared.names.Range.{Range}
+use Rattle.vl_tree.specs.declared.names.Supply.{Supply}
+
+pub record Named : Type 0 where
+  pub text : List ℕ
+  pub place : Place
+
+-- an expression, and several
+mutual
+  pub data Expression : Type 0 where
+    signal : Named → Option Select → Expression
+    sized : Place → List Value → Expression
+    concatenation : Place → Expressions → Expression
+
+  pub data Expressions : Type 0 where
+    no_more : Expressions
+    one_more : Expression → Expressions → Expressions
+
+abbrev pub expressions : List Expression → Expressions
+expressions [] = no_more
+expressions (e ∷ es) = one_more e (expressions es)
+
+pub data MinTypMax : Type 0 where
+  one_number : Number → MinTypMax
+  three_numbers : (min typ max : Number) → MinTypMax
+
+pub record Delay : Type 0 where
+  pub place : Place
+  pub values : List MinTypMax
+
+-- a declared net, perhaps with what it is joined to
+pub record NetName : Type 0 where
+  pub name : Named
+  pub value : Option Expression
+
+pub record Join : Type 0 where
+  pub place : Place
+  pub left : Expression
+  pub right : Expression
+
+pub record GateInstance : Type 0 where
+  pub place : Place
+  pub name : Option Named
+  pub terminals : List Expression
+
+pub record NamedConnection : Type 0 where
+  pub place : Place
+  pub port : Named
+  pub value : Option Expression
+
+pub data Connections : Type 0 where
+  by_order : List (Option Expression) → Connections
+  by_name : List NamedConnection → Connections
+
+pub record Instance : Type 0 where
+  pub place : Place
+  pub name : Option Named
+  pub connections : Connections
+
+pub data Item : Type 0 where
+  ports : Place → Direction → Option NetType → Option Range → List Named → Item
+  nets : Place → NetType → Option Range → List NetName → Item
+  supplies : Place → Supply → Option Range → List Named → Item
+  registers : Place → List Named → Item
+  assigns : Place → List Join → Item
+  gates : Place → GateKind → Option Delay → List GateInstance → Item
+  instances : Named → Option Delay → List Instance → Item
+
+pub record PortDeclaration : Type 0 where
+  pub place : Place
+  pub direction : Direction
+  pub net : Option NetType
+  pub range : Option Range
+  pub name : Named
+
+pub data HeadPort : Type 0 where
+  declared_port : PortDeclaration → HeadPort
+  named_port : Named → HeadPort
+
+pub data Head : Type 0 where
+  head_names : List Named → Head
+  head_declarations : PortDeclaration → List HeadPort → Head
+
+pub record Module : Type 0 where
+  pub place : Place
+  pub settings : Settings
+  pub name : Named
+  pub head : Option (Option Head)
+  pub items : List Item
+
+pub data PrimitiveDeclaration : Type 0 where
+  output_port : Place → (register : Bool) → Named → PrimitiveDeclaration
+  output_register : Place → Named → PrimitiveDeclaration
+  input_ports : Place → List Named → PrimitiveDeclaration
+
+pub record Initial : Type 0 where
+  pub place : Place
+  pub name : Named
+  pub value : Value
+
+pub record Primitive : Type 0 where
+  pub place : Place
+  pub name : Named
+  pub ports : List Named
+  pub declarations : List PrimitiveDeclaration
+  pub initial : Option Initial
+  pub rows : List RawRow
+
+pub data Part : Type 0 where
+  a_module : Module → Part
+  a_primitive : Primitive → Part
+
+abbrev pub Source : Type 0
+Source = List Part
