@@ -10,4 +10,8 @@ pub mod Splits
 pub mod StepLaws
 pub mod OneReading
 pub mod SomeReading
+pub mod PlainFiles
+pub mod UntakenText
+pub mod MacroUses
+pub mod TakenBranches
 pub mod Examples

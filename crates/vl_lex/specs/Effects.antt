@@ -47,9 +47,9 @@ behind_edges class.Name bytes = if same_bytes bytes (codes "table") then EdgesTa
 behind_edges _ bytes = Edges
 
 -- a name in a table is the word that ends it
-abbrev pub behind_cell : (table behind : Mode) → Class → Mode
-behind_cell table behind class.Name = behind
-behind_cell table behind _ = table
+abbrev pub behind_cell : (here behind : Mode) → Class → Mode
+behind_cell here behind class.Name = behind
+behind_cell here behind _ = here
 
 abbrev pub mode_behind : Mode → Class → List ℕ → Mode
 mode_behind Plain c bytes = behind_plain c bytes

@@ -13,3 +13,4 @@ pub mod Seen
 pub mod Inside
 pub mod Numbers
 pub mod Found
+pub mod Laws

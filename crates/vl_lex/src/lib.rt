@@ -7,6 +7,7 @@ mod bytes;
 mod constants;
 mod directives;
 mod faults;
+mod laws;
 mod lexer;
 mod macros;
 mod meanings;
@@ -17,10 +18,12 @@ mod origins;
 mod piece_faults;
 mod pieces;
 mod reading;
+mod room;
 mod scales;
 mod stepping;
 
 pub use faults::LexKind;
+pub use laws::{macro_use, one_outcome, plain_file, some_outcome, taken_branch, untaken_piece};
 pub use reading::lex;
 
 #[cfg(test)]

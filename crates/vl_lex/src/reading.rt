@@ -14,6 +14,7 @@ use crate::macros::Macros;
 use crate::modes::{Mode, first_piece};
 use crate::origins::Origin;
 use crate::pieces::Class;
+use crate::room::token_room;
 use vl_token::Token;
 use sg_text::{Place, Refused};
 use std::alloc::Global;
@@ -36,6 +37,13 @@ impl<'a> Lexer<'a> {
             mark: first_mark(),
             tokens: Vec::new(alloc),
         }
+    }
+
+    // Room for the tokens of the files is made in one step. Where it can't be had, it is made as tokens come.
+    fn make_room(&mut self, files: &[Vec<u8>])
+        ensures { state self.new ≡ state self.old }
+    {
+        let _ = self.tokens.reserve_exact(token_room(files));
     }
 
     // A text from its first byte to its last, where so many uses of macros may still lie within one another.
@@ -159,6 +167,7 @@ fn lex_few(alloc: Global, files: &[Vec<u8>]) -> Result<Vec<Token<'_>>, Refused<L
         return Err(fault(LexKind::FileTooLarge, Place { file, byte }));
     }
     let mut lexer = Lexer::new(alloc);
+    lexer.make_room(files);
     lexer.read_files(files)?;
     lexer.finish()
 }
