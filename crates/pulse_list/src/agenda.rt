@@ -31,14 +31,16 @@ pub trait Agenda {
         requires driver { driver < length (lists self.old) }
         requires room { 0 < spare self.old }
         requires later { IsAbove time (reverse (list_at (lists self.old) driver)) }
-        ensures lists { lists self.new ≡ with_list (lists self.old) driver (list_at (lists self.old) driver ++ (time, value) ∷ []) }
+        ensures lists { lists self.new ≡ with_list (lists self.old) driver
+            (list_at (lists self.old) driver ++ (time, value) ∷ []) }
         ensures spare { spare self.new + 1 ≡ spare self.old };
 
     /// Drops the latest transition of `driver`, which has one.
     fn drop_last(&mut self, driver: u32)
         requires driver { driver < length (lists self.old) }
         requires some { 0 < length (list_at (lists self.old) driver) }
-        ensures lists { lists self.new ≡ with_list (lists self.old) driver (without_last (list_at (lists self.old) driver)) }
+        ensures lists { lists self.new ≡ with_list (lists self.old) driver
+            (without_last (list_at (lists self.old) driver)) }
         ensures spare { spare self.old ≤ spare self.new };
 
     /// Drops all transitions of `driver`.

@@ -37,7 +37,8 @@ fn put_last<A: Agenda>(agenda: &mut A, driver: u32, present: Value, time: u64, v
     requires driver { driver < length (A.lists agenda.old) }
     requires room { 0 < A.spare agenda.old }
     requires later { IsAbove time (reverse (list_at (A.lists agenda.old) driver)) }
-    ensures lists { A.lists agenda.new ≡ with_list (A.lists agenda.old) driver (reverse (put (reverse (list_at (A.lists agenda.old) driver)) present time value)) }
+    ensures lists { A.lists agenda.new ≡ with_list (A.lists agenda.old) driver
+        (reverse (put (reverse (list_at (A.lists agenda.old) driver)) present time value)) }
     ensures spare { A.spare agenda.old ≤ A.spare agenda.new + 1 }
 {
     if end_value(agenda, driver, present) != value {
@@ -62,7 +63,8 @@ pub fn place_inertial<A: Agenda>(
     requires driver { driver < length (A.lists agenda.old) }
     requires room { 2 ≤ A.spare agenda.old }
     requires later { now ≤ time }
-    ensures lists { A.lists agenda.new ≡ with_list (A.lists agenda.old) driver (inertial (list_at (A.lists agenda.old) driver) present value time) }
+    ensures lists { A.lists agenda.new ≡ with_list (A.lists agenda.old) driver
+        (inertial (list_at (A.lists agenda.old) driver) present value time) }
     ensures spare { A.spare agenda.old ≤ A.spare agenda.new + 2 }
 {
     if ends_with(agenda, driver, value) {
@@ -90,7 +92,8 @@ fn place_error<A: Agenda>(
     requires from_now { now ≤ last_time }
     requires later { last_time < time }
     ensures lists { A.lists agenda.new ≡ with_list (A.lists agenda.old) driver
-        (reverse (error_pulse (style_seen style) (rest_of (reverse (list_at (A.lists agenda.old) driver))) last_time present now value time)) }
+        (reverse (error_pulse (style_seen style) (rest_of (reverse (list_at (A.lists agenda.old) driver)))
+        last_time present now value time)) }
     ensures spare { A.spare agenda.old ≤ A.spare agenda.new + 2 }
 {
     match style {
@@ -133,7 +136,8 @@ pub fn place<A: Agenda>(
     requires later { now ≤ time }
     requires from_now { NoneBelow now (reverse (list_at (A.lists agenda.old) driver)) }
     requires limits { reject ≤ error }
-    ensures lists { A.lists agenda.new ≡ with_list (A.lists agenda.old) driver (placed (list_at (A.lists agenda.old) driver) present now value time reject error (style_seen style)) }
+    ensures lists { A.lists agenda.new ≡ with_list (A.lists agenda.old) driver
+        (placed (list_at (A.lists agenda.old) driver) present now value time reject error (style_seen style)) }
     ensures spare { A.spare agenda.old ≤ A.spare agenda.new + 2 }
 {
     while let Some((last_time, last)) = agenda.last(driver) {

@@ -33,7 +33,8 @@ fn insert(pending: &mut Vec<Pending>, new: Pending)
     requires room { vec_len pending.old < vec_capacity pending.old }
     requires falls { Falls pending.old.items }
     requires later { IsAbove new.time (pairs_of new.driver pending.old.items) }
-    ensures pairs { IsRewritten pending.old.items pending.new.items new.driver (pair_of new ∷ pairs_of new.driver pending.old.items) }
+    ensures pairs { IsRewritten pending.old.items pending.new.items new.driver
+        (pair_of new ∷ pairs_of new.driver pending.old.items) }
     ensures falls { Falls pending.new.items }
     ensures len { vec_len pending.new ≡ vec_len pending.old + 1 }
     ensures capacity { vec_capacity pending.new ≡ vec_capacity pending.old }
@@ -52,7 +53,8 @@ fn place_of_latest(pending: &[Pending], driver: u32) -> Option<usize>
 // Removes a driver's latest transition.
 fn remove_latest(pending: &mut Vec<Pending>, driver: u32)
     requires falls { Falls pending.old.items }
-    ensures pairs { IsRewritten pending.old.items pending.new.items driver (rest_of (pairs_of driver pending.old.items)) }
+    ensures pairs { IsRewritten pending.old.items pending.new.items driver
+        (rest_of (pairs_of driver pending.old.items)) }
     ensures falls { Falls pending.new.items }
     ensures len { vec_len pending.new ≤ vec_len pending.old }
     ensures capacity { vec_capacity pending.new ≡ vec_capacity pending.old }

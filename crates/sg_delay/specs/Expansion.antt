@@ -1,4 +1,4 @@
--- The delays of the twelve transitions, from a list of 1, 2, 3, 6 or 12 (IEEE 1364-2005, delays of module paths).
+-- The delays of the twelve transitions, from a list of 1, 2, 3, 6 or 12 (IEEE 1364-2005, 14.3.1, delays of module paths).
 use Rattle.std.specs.Prelude.{ℕ, ◌==◌, List, [], ◌∷◌, length, map, min, max, Option, Some, None, Result, Ok, Err, if◌then◌else◌}
 use Rattle.sg_logic.specs.declared.transitions.Trans.{Trans}
 use Rattle.sg_logic.specs.declared.transitions.Trans.TheVariants.{T01, T10, T0z, Tz1, T1z, Tz0, T0x, Tx1, T1x, Tx0, Txz, Tzx}

@@ -1,4 +1,4 @@
--- The delay of a gate by the value to which its output goes (IEEE 1364-2005, gate and net delays).
+-- The delay of a gate by the value to which its output goes (IEEE 1364-2005, 7.14, gate and net delays).
 use Rattle.std.specs.Prelude.{ℕ, List, [], ◌∷◌, min}
 use Rattle.sg_logic.specs.declared.values.Value.{Value}
 use Rattle.sg_logic.specs.declared.values.Value.TheVariants.{Zero, One, X, Z}

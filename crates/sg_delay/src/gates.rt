@@ -1,4 +1,4 @@
-// Delays of gates.
+// Delays of gates, by the value to which the output goes.
 ghost use Rattle.std.specs.Prelude.{ℕ, ◌≡◌, ◌≤◌, slice_index_or, take};
 ghost use Rattle.sg_delay.specs.GateDelay.{delay_to};
 

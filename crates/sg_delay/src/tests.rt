@@ -1,3 +1,4 @@
+// Lists and gates' delays worked by hand, and each public function once.
 use crate::{Corner, DelayError, Delays12, GateDelays, Triple, expand, gate_delay};
 use sg_logic::Value;
 use sg_time::Decimal;

@@ -1,4 +1,4 @@
-// What is told of the calls that failed.
+// The calls of a shelf that failed: how many they were, and the name in the last.
 ghost use Rattle.std.specs.Prelude.{◌≡◌, Some, None, string_bytes, option_copied};
 
 use std::marker::Model;

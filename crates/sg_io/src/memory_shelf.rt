@@ -132,7 +132,8 @@ impl Shelf for MemoryShelf {
     }
 
     fn append(&mut self, name: &str, bytes: &[u8]) -> Result<(), ShelfError>
-        ensures held { AppendsListed (fails_after self.old.calls) name.now bytes.now result self.old.files self.new.files }
+        ensures held { AppendsListed (fails_after self.old.calls) name.now bytes.now result
+            self.old.files self.new.files }
         ensures distinct { HasDistinctNames self.old.files × HasDistinctNames self.new.files }
         ensures calls { self.new.calls ≡ after_call self.old.calls }
         ensures faults { self.new.faults ≡ told_after name.now self.old.faults result }

@@ -1,4 +1,4 @@
-// The first bytes of some.
+// The first bytes of a text, as many as are wanted.
 ghost use Rattle.std.specs.Prelude.{◌≡◌, take};
 
 // As many as are wanted, at most all.

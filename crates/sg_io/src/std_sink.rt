@@ -1,4 +1,4 @@
-// The trusted edge: standard output. Nothing is told of what reaches it.
+// Standard output as a sink. Trusted is that what is written reaches it; nothing is told of that.
 ghost use Rattle.std.specs.Prelude.{◌≡◌};
 
 use crate::streams::write_whole;

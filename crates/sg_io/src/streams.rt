@@ -25,7 +25,8 @@ pub fn read_opened<F: Read + Drop>(
     opened: io::Result<F>,
     limit: u64,
 ) -> Result<Vec<u8>, ReadError>
-    ensures bytes { IfOk opened (λ file. IfSome (F.remaining file) (λ all. IfOk result (λ v. v.items ≡ take limit all))) }
+    ensures bytes { IfOk opened (λ file. IfSome (F.remaining file)
+        (λ all. IfOk result (λ v. v.items ≡ take limit all))) }
     ensures limit { IfOk result (λ v. vec_len v ≤ limit) }
     ensures refused { IfErr opened (λ e. result ≡ Err (opening_error (error_kind e))) }
     ensures there { IsOk opened → IfErr result (λ e. e ≢ ReadError.Missing) }
@@ -74,7 +75,8 @@ fn add_read<F: Read>(
     ensures most { IfOk result (λ n. n ≤ length buffer.old) }
     ensures grows { IfOk result (λ n. vec_len bytes.new ≡ vec_len bytes.old + n) }
     ensures starts { OnOk result (StartsWith bytes.new.items bytes.old.items) }
-    ensures read { OnOk result (Consumes (F.remaining reader.old) (F.remaining reader.new) (appended_bytes bytes.old.items bytes.new.items)) }
+    ensures read { OnOk result (Consumes (F.remaining reader.old) (F.remaining reader.new)
+        (appended_bytes bytes.old.items bytes.new.items)) }
     ensures end { IfOk result (λ n. n ≡ 0 → 0 < length buffer.old → IsAtEnd (F.remaining reader.new)) }
     ensures there { IfErr result (λ e. e ≢ ReadError.Missing) }
 {

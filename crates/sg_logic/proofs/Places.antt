@@ -1,4 +1,4 @@
--- Where a change is looked up in an edge.
+-- At which place of an edge a change is looked up.
 use Rattle.std.proofs.Common.{◌≡◌, refl, List, [], ◌∷◌, length, Bool, true, false, slice_index_or, arith}
 use Rattle.std.specs.Prelude.{◌||◌}
 use Rattle.sg_logic.specs.declared.values.Value.{Value}

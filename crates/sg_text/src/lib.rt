@@ -1,5 +1,5 @@
-//! The source files of a design, as their readers share them: where a byte stands, the texts that are kept, why a file is
-//! refused, and the reserved words.
+//! The source files of a design, as their readers share them: where a byte stands, the texts that are kept, why a file
+//! is refused, plain names, and the reserved words.
 #![tactic(auto)]
 
 mod names;

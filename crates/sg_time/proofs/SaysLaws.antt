@@ -4,12 +4,12 @@ use Rattle.std.specs.Prelude.{Option, Some, None, Result, Ok, Err, nat_lt, lengt
 use Rattle.std.proofs.lemmas.Bool.{cases_Bool}
 use Rattle.sg_time.specs.declared.decimal.TimeError.{TimeError}
 use Rattle.sg_time.specs.declared.decimal.TimeError.TheVariants as error
-use Rattle.sg_time.specs.Spelling.{Spelling, Number, value_of, digits_of, significant, Spells, Says}
+use Rattle.sg_time.specs.Spelling.{Spelling, Number, value_of, digits_of, significant_digits, Spells, Says}
 use Rattle.sg_time.specs.Reading.{parts_of, said_of}
 use Rattle.sg_time.proofs.Laws.{Found, parts_again, parts_found}
 
 spells_says : (bytes : List ℕ) (s : Spelling) → Spells bytes (value_of s) → Says bytes (value_of s)
-spells_says bytes s h = elim (cases_Bool (nat_lt 18 (length (significant (digits_of s))))) [
+spells_says bytes s h = elim (cases_Bool (nat_lt 18 (length (significant_digits (digits_of s))))) [
   | inl y ↦ rw y (rw y at h)
   | inr n ↦ rw n (rw n at h)
 ]

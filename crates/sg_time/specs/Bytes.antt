@@ -1,4 +1,4 @@
--- Bytes by their characters.
+-- The bytes of decimals, by name.
 use Rattle.std.specs.Prelude.{ℕ}
 
 -- +

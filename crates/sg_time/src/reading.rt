@@ -62,7 +62,8 @@ fn fraction_of(bytes: &[u8]) -> (&[u8], &[u8])
 
 // The value of one digit or two.
 fn small_number(bytes: &[u8]) -> Option<u8>
-    ensures some { IfSome result (λ n. (are_power_digits bytes.now ≡ true) × (n ≡ number_from 0 bytes.now) × (n < 100)) }
+    ensures some { IfSome result
+        (λ n. (are_power_digits bytes.now ≡ true) × (n ≡ number_from 0 bytes.now) × (n < 100)) }
     ensures none { IfNone result (are_power_digits bytes.now ≡ false) }
 {
     match bytes {
@@ -111,7 +112,8 @@ fn number_of(start: u64, run: &[u8]) -> Option<u64>
 
 // The number that the digits of two runs spell, if it has at most 18 digits.
 fn digits_value(whole: &[u8], fraction: &[u8]) -> Option<u64>
-    ensures some { IfSome result (λ n. (n ≡ number_from 0 (filter is_ascii_digit (whole.now ++ fraction.now))) × (n < 10 ^ 18)) }
+    ensures some { IfSome result
+        (λ n. (n ≡ number_from 0 (filter is_ascii_digit (whole.now ++ fraction.now))) × (n < 10 ^ 18)) }
     ensures none { IfNone result (10 ^ 18 ≤ number_from 0 (filter is_ascii_digit (whole.now ++ fraction.now))) }
 {
     match number_of(0, whole) {

@@ -1,3 +1,4 @@
+-- One transition dropped, and where the loop ends.
 use Rattle.std.proofs.Common.{◌≡◌, ◌≢◌, ◌∷◌, ◌++◌, ℕ, sym, reverse, [], rules, arith}
 use Rattle.sg_model.proofs.AgendaLaws.{goes_on-drop, goes_on-end, goes_on-stay}
 use Rattle.sg_model.specs.Pending.{put, error_pulse, rest_of}

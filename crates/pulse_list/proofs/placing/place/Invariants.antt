@@ -1,3 +1,4 @@
+-- The rule applied to what is left comes to the same.
 use Rattle.std.proofs.Common.{◌≤◌, length}
 use Rattle.sg_model.proofs.AgendaLaws.{GoesOn}
 use Rattle.sg_model.specs.Agenda.{list_at}

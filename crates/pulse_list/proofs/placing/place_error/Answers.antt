@@ -1,3 +1,4 @@
+-- The two styles of an error pulse.
 use Rattle.std.proofs.Common.{ap, ◌∙◌, reverse}
 use Rattle.sg_logic.specs.declared.values.Value.TheVariants.{X}
 use Rattle.sg_model.proofs.AgendaLaws.{error-event, error-detect}

@@ -1,3 +1,4 @@
+-- One transition comes, all others stay.
 use Rattle.std.proofs.Common.{sym, ap, ◌∙◌, if◌then◌else◌}
 use Rattle.std.specs.List.{insert}
 use Rattle.pulse_list.proofs.OrderLaws.{IsInserted, inserted_pairs, inserted_falls}

@@ -1,3 +1,4 @@
+-- The first pair of a driver is at the place that was found.
 use Rattle.std.proofs.Common.{ap, sym, ◌∙◌}
 use Rattle.sg_model.specs.Pending.{first_of}
 use Rattle.pulse_list.proofs.LatestLaws.{found_first, nothing_found}

@@ -1,3 +1,4 @@
+-- Times fall, so one place parts the later from the earlier.
 use Rattle.std.proofs.Common.{rules}
 use Rattle.std.proofs.lemmas.List.Sorted.{IsPartitionPoint-from_clause}
 use Rattle.pulse_list.proofs.OrderLaws.{Falls-partitioned, is_from, point_of}

@@ -1,3 +1,4 @@
+-- All of one driver's transitions are gone, all others stay.
 use Rattle.std.proofs.Common.{rules, ◌≡◌, ◌≤◌, filter}
 use Rattle.std.proofs.lemmas.Fn.{filter_same}
 use Rattle.std.proofs.lemmas.List.Kept.{AllPairs-filter}

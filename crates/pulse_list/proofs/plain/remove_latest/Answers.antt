@@ -1,3 +1,4 @@
+-- One transition is gone, all others stay.
 use Rattle.std.proofs.Common.{ap, sym, ◌∙◌, position}
 use Rattle.pulse_list.specs.Plain.{is_of}
 use Rattle.pulse_list.proofs.LatestLaws.{removed_first, nothing_found}

@@ -1,3 +1,4 @@
+-- There is one driver.
 use Rattle.std.proofs.Common.{◌≡◌, length}
 use Rattle.pulse_list.proofs.tests.agenda_of.Given as goal
 

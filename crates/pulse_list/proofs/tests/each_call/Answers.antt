@@ -1,3 +1,4 @@
+-- Each call of the test meets its conditions.
 use Rattle.sg_model.proofs.LeastLaws.{nothing_below-zero}
 use Rattle.pulse_list.proofs.tests.each_call.Goals as goal
 

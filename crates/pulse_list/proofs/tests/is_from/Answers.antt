@@ -1,3 +1,4 @@
+-- Nothing is below the least time.
 use Rattle.std.proofs.Common.{nat_le, reverse}
 use Rattle.std.proofs.lemmas.Bool.{OnTrue_from, leb-true}
 use Rattle.sg_model.specs.Agenda.{list_at, NoneBelow, NothingBelow}

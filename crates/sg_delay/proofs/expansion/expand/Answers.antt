@@ -1,3 +1,4 @@
+-- A list spells delays exactly at the five lengths.
 use Rattle.std.proofs.Common.{rules, ◌≡◌, sym, refl, subst, arith, IsOk, length}
 use Rattle.sg_delay.proofs.Lengths.{six_from_length, length_from_six}
 use Rattle.sg_delay.proofs.expansion.expand.Goals as goal

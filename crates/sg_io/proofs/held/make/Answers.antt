@@ -1,3 +1,4 @@
+-- A file of a new name comes at the end.
 use Rattle.sg_io.proofs.HeldLemmas.{HasAfter-push, distinct-push}
 use Rattle.sg_io.proofs.held.make.Goals as goal
 

@@ -1,3 +1,4 @@
+-- One read more.
 use Rattle.std.proofs.Common.{[], rules, refl}
 use Rattle.std.proofs.KnownBytes.{Consumes-more}
 use Rattle.sg_io.proofs.streams.read_up_to.Goals as goal

@@ -1,3 +1,4 @@
+-- One write more, and where the loop ends.
 use Rattle.std.proofs.Common.{◌++◌, take}
 use Rattle.std.proofs.KnownBytes.{Appends-trans}
 use Rattle.sg_io.proofs.StreamLaws.{part_of, part_kept, split_further}

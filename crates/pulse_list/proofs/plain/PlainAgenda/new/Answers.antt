@@ -1,3 +1,4 @@
+-- Nothing is pending.
 use Rattle.pulse_list.proofs.TableLaws.{view-empty, plain-new}
 use Rattle.pulse_list.proofs.plain.PlainAgenda.new.Goals as goal
 

@@ -1,3 +1,4 @@
+-- The driver has one pair more.
 use Rattle.std.proofs.Common.{◌≡◌, ◌+◌, ◌<◌, ap, subst, arith, length, set}
 use Rattle.std.proofs.lemmas.List.{length-set}
 use Rattle.sg_model.specs.Pending.{IsAbove}

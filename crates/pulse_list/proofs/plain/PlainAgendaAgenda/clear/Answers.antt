@@ -1,3 +1,4 @@
+-- The driver has no pair.
 use Rattle.std.proofs.Common.{[], ◌≡◌, ap, sym, ◌∙◌, arith, length, set}
 use Rattle.std.proofs.lemmas.List.{length-set}
 use Rattle.pulse_list.specs.Plain.{pairs_of}

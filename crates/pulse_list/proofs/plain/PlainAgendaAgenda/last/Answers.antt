@@ -1,3 +1,4 @@
+-- The first transition of a driver is its latest.
 use Rattle.std.proofs.Common.{◌≡◌, ap, sym, ◌∙◌, subst, length}
 use Rattle.std.proofs.lemmas.List.{nil_from_length}
 use Rattle.sg_model.specs.Pending.{first_of}

@@ -1,3 +1,4 @@
+-- The transition at the end has the least time.
 use Rattle.std.proofs.Common.{ap, sym, ◌∙◌}
 use Rattle.pulse_list.proofs.EarliestLaws.{end-least, empty-least}
 use Rattle.pulse_list.proofs.plain.PlainAgendaAgenda.least.Goals as goal

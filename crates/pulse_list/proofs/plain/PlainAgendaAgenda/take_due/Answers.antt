@@ -1,3 +1,4 @@
+-- The transition at the end is due, or none is.
 use Rattle.std.proofs.Common.{◌≡◌, ◌-◌, ◌+◌, ◌∷◌, ◌++◌, [], ap, sym, ◌∙◌, refl, arith, length, set}
 use Rattle.std.proofs.lemmas.List.{length-set}
 use Rattle.pulse_list.specs.Plain.{pairs_of}

@@ -1,3 +1,4 @@
+-- The named file has more bytes, or is made of them.
 use Rattle.std.proofs.Common.{sym}
 use Rattle.sg_io.proofs.HeldLemmas.{extended, still_distinct, bytes_of-none, first_bytes, on_ok}
 use Rattle.sg_io.proofs.held.HeldFiles.add.Goals as goal

@@ -1,3 +1,4 @@
+-- The bytes at the place of a name are those of the name.
 use Rattle.std.proofs.Common.{◌≡◌, sym, Some, None}
 use Rattle.sg_io.specs.Files.{bytes_of}
 use Rattle.sg_io.proofs.HeldLemmas.{bytes_of-none, found}

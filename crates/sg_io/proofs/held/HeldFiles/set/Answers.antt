@@ -1,3 +1,4 @@
+-- The named file is replaced, or made.
 use Rattle.std.proofs.Common.{sym, ap}
 use Rattle.sg_io.proofs.HeldLemmas.{replaced, still_distinct, bytes_of-none}
 use Rattle.sg_io.proofs.held.HeldFiles.set.Goals as goal

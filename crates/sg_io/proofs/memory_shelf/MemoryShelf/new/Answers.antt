@@ -1,3 +1,4 @@
+-- No files have distinct names.
 use Rattle.sg_io.proofs.HeldLemmas.{distinct-none}
 use Rattle.sg_io.proofs.memory_shelf.MemoryShelf.new.Goals as goal
 
