@@ -7,6 +7,7 @@ pub mod Worked
 pub mod NoViolations
 pub mod OneAnswer
 pub mod Promised
+pub mod ProgramWords
 pub mod NetlistSplitting
 pub mod NetlistSpelling
 pub mod NetlistReading

@@ -24,3 +24,4 @@ pub mod EngineTimes
 pub mod EngineRuns
 pub mod EngineStimulus
 pub mod EngineStands
+pub mod Program

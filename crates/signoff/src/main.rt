@@ -7,6 +7,7 @@ mod engine;
 mod forms;
 mod netlist;
 mod phases;
+mod program;
 mod report;
 mod run;
 mod status;
@@ -18,35 +19,14 @@ mod vcd;
 mod words;
 mod work;
 
-use crate::answer::top;
-use crate::status::Status;
+use crate::program::program;
 use sg_io::{FileShelf, StdSink};
-use std::alloc::Global;
 use std::env;
-use std::io::ErrorKind;
 use std::process::ExitCode;
-
-// The words after the program's name; no words where one of them isn't text. None is for want of memory.
-fn words_of(alloc: Global, rt: &HostRuntime) -> Option<Vec<String>> {
-    let mut words = Vec::new(alloc);
-    match env::args(rt) {
-        Ok(args) => {
-            for word in args.skip(1) {
-                words.push(word).ok()?;
-            }
-        }
-        Err(e) if e.kind() == ErrorKind::OutOfMemory => return None,
-        Err(_) => {}
-    }
-    Some(words)
-}
 
 fn main(rt: HostRuntime) -> ExitCode {
     let alloc = rt.alloc();
-    let Some(words) = words_of(alloc, &rt) else {
-        return ExitCode::from(Status::NoMemory.code());
-    };
     let mut shelf = FileShelf::new(alloc, &rt);
     let mut report = StdSink::new(&rt);
-    ExitCode::from(top(alloc, &words, &mut shelf, &mut report).code())
+    program(alloc, env::args(&rt), &mut shelf, &mut report)
 }

@@ -129,7 +129,8 @@ fn tell_fault<K: Sink>(report: &mut K, name: &str) -> Status
     Status::Fault
 }
 
-fn tell_no_memory<K: Sink>(report: &mut K) -> Status
+/// Tells that there was no memory. Takes none.
+pub fn tell_no_memory<K: Sink>(report: &mut K) -> Status
     ensures status { result ≡ Status.NoMemory }
     ensures put { PutsLast no_memory_line (K.told report.old) (K.told report.new) }
 {
