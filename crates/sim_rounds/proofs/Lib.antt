@@ -10,3 +10,6 @@ pub mod PendingLaws
 pub mod EveryLaws
 pub mod TimeLaws
 pub mod MachineLaws
+pub mod CallLaws
+pub mod RunLaws
+pub mod EndLaws

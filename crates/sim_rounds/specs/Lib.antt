@@ -8,3 +8,4 @@ pub mod Simulated
 pub mod CircuitLaws
 pub mod Times
 pub mod Watching
+pub mod Runs
