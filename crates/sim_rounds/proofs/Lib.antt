@@ -13,3 +13,6 @@ pub mod MachineLaws
 pub mod CallLaws
 pub mod RunLaws
 pub mod EndLaws
+pub mod DueLaws
+pub mod ToldLaws
+pub mod NamingLaws

@@ -9,3 +9,6 @@ pub mod CircuitLaws
 pub mod Times
 pub mod Watching
 pub mod Runs
+pub mod Told
+pub mod Naming
+pub mod Checks

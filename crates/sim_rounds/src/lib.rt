@@ -1,13 +1,17 @@
 //! The simulation of a circuit, round by round, time by time, in work that is in proportion to what changes.
 #![tactic(auto)]
 
+mod checks;
 mod evaluation;
 mod laws;
 mod lists;
+mod naming;
 mod nets;
+mod pending;
 mod rounds;
 mod runs;
 mod times;
+mod told;
 mod watch;
 mod work;
 
