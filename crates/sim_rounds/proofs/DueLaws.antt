@@ -4,11 +4,10 @@ use Rattle.std.proofs.Common.{sym, ◌∙◌, ap, subst, arith, inl, inr}
 use Rattle.std.proofs.lemmas.Bool.Decides.{nat_tests}
 use Rattle.sg_logic.specs.declared.values.Value.{Value}
 use Rattle.sg_model.specs.Values.{value_at}
-use Rattle.sg_model.specs.Pending.{Follows, IsPending}
 use Rattle.sg_model.specs.Agenda.{list_at, AllEmpty, BeginsAt, IsLeastTime, NoneBelow, NothingBelow, Rises, AllRise}
 use Rattle.sg_model.specs.Round.{any_due, is_due}
-use Rattle.sg_model.proofs.LeastLaws.{below_empty, below_least}
-use Rattle.sim_rounds.specs.Rounds.{ArePending}
+use Rattle.sg_model.proofs.RiseLaws.{rises_at}
+use Rattle.sg_model.proofs.LeastLaws.{below_empty, below_least, none_below-first}
 
 -- one is due, or none
 due_first : (t : ℕ) (xs : List (ℕ × Value)) → BeginsAt xs t → is_due t xs ≡ true
@@ -61,15 +60,23 @@ least_due now time lists answer rise below least e = e ∙ at (cases time now)
 pub empty_due : (now : ℕ) (lists : List (List (ℕ × Value))) → AllEmpty lists → any_due now lists ≡ false
 empty_due now lists none = let l : now < now + 1 = omega arith in none_due now (now + 1) lists l (below_empty lists (now + 1) none)
 
-each_not_due : (now d : ℕ) (ls : List (List (ℕ × Value))) → d < length ls → any_due now ls ≡ false → is_due now (list_at ls d) ≡ false
-each_not_due now d [] l e = absurd (omega arith)
-each_not_due now zero (x ∷ xs) l e = (both (is_due now x) (any_due now xs) e).0
+from_next : (now : ℕ) (xs : List (ℕ × Value)) → Rises (reverse xs) → NoneBelow now xs → is_due now xs ≡ false → NoneBelow (now + 1) xs
+from_next now [] r h e = tt
+from_next now (p ∷ ps) r h e =
+    let k : now ≤ p.0 = h.0 in
+    let f : (p.0 == now) ≡ false = e in
+    let l : now + 1 ≤ p.0 = grind (arith, nat_tests) in
+    none_below-first (now + 1) p ps r l
+
+-- where nothing is due, nothing is pending up to now
+pub below_next : (now : ℕ) (lists : List (List (ℕ × Value))) → AllRise lists → NothingBelow now lists → any_due now lists ≡ false → NothingBelow (now + 1) lists
+below_next now lists rise below none = λ d l. from_next now (list_at lists d) (rises_at lists d l rise) (below d l) (each d lists l none)
   where
     both : (a b : Bool) → (a || b) ≡ false → (a ≡ false) × (b ≡ false)
     both true b e = absurd (let k : true ≡ false = e in cc)
     both false b e = (refl, e)
-each_not_due now (suc d) (x ∷ xs) l e = each_not_due now d xs (omega arith) (both (is_due now x) (any_due now xs) e).1
-  where
-    both : (a b : Bool) → (a || b) ≡ false → (a ≡ false) × (b ≡ false)
-    both true b e = absurd (let k : true ≡ false = e in cc)
-    both false b e = (refl, e)
+
+    each : (d : ℕ) (ls : List (List (ℕ × Value))) → d < length ls → any_due now ls ≡ false → is_due now (list_at ls d) ≡ false
+    each d [] l e = absurd (omega arith)
+    each zero (x ∷ xs) l e = (both (is_due now x) (any_due now xs) e).0
+    each (suc d) (x ∷ xs) l e = each d xs (omega arith) (both (is_due now x) (any_due now xs) e).1

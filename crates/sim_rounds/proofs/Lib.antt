@@ -16,3 +16,4 @@ pub mod EndLaws
 pub mod DueLaws
 pub mod ToldLaws
 pub mod NamingLaws
+pub mod SimulationLaws

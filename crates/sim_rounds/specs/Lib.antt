@@ -12,3 +12,4 @@ pub mod Runs
 pub mod Told
 pub mod Naming
 pub mod Checks
+pub mod Simulations

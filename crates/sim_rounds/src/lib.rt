@@ -10,6 +10,7 @@ mod nets;
 mod pending;
 mod rounds;
 mod runs;
+mod simulation;
 mod times;
 mod told;
 mod watch;
