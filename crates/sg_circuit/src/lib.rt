@@ -9,9 +9,10 @@ mod fan_out;
 mod nets;
 mod scopes;
 
+pub use building::Pin;
 pub use checks::{Check, CheckKind, Terminal};
 pub use circuits::{Circuit, Parts};
-pub use elements::{Element, ElementKind, LegTiming};
+pub use elements::{Element, ElementKind, LegTiming, UdpUse};
 pub use fan_out::FanOut;
 pub use nets::{Driver, Net, NetId};
 pub use scopes::{Port, Range, Scope, Variable};

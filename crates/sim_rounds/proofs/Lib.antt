@@ -17,3 +17,6 @@ pub mod DueLaws
 pub mod ToldLaws
 pub mod NamingLaws
 pub mod SimulationLaws
+pub mod TimingLaws
+pub mod DelayLaws
+pub mod ElementLaws

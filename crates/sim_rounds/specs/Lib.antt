@@ -6,6 +6,9 @@ pub mod Rounds
 pub mod States
 pub mod Simulated
 pub mod CircuitLaws
+pub mod Pulses
+pub mod Inputs
+pub mod Elements
 pub mod Times
 pub mod Watching
 pub mod Runs

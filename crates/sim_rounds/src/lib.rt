@@ -2,6 +2,7 @@
 #![tactic(auto)]
 
 mod checks;
+mod elements;
 mod evaluation;
 mod laws;
 mod lists;
@@ -16,6 +17,7 @@ mod told;
 mod watch;
 mod work;
 
+pub use elements::CircuitElements;
 pub use evaluation::{Elements, evaluate_all};
 pub use laws::circuit_is_lawful;
 pub use nets::{Nets, Stamp};

@@ -10,14 +10,14 @@ ghost use Rattle.sim_rounds.specs.States.{state_seen, IsIdle, IsOfCircuit, IsRea
 ghost use Rattle.sg_circuit.specs.FanOut.{IsFanOut};
 
 use crate::evaluation::{Elements, evaluate_all};
-use sg_circuit::FanOut;
 use crate::nets::{Nets, change_nets};
-use stim_read::Set;
 use crate::work::{WorkList, clear_work, list_every, list_work};
 use pulse_list::Agenda;
+use sg_circuit::FanOut;
 use sg_steps::Steps;
 use sg_text::NoMemory;
 use std::sync::ledger::Ledger;
+use stim_read::Set;
 
 // The elements with a changed input are evaluated. It answers how many these are.
 fn evaluate_work<A: Agenda, L: Ledger, E: Elements<A, L>>(

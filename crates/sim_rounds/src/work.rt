@@ -5,8 +5,8 @@ ghost use Rattle.sim_rounds.specs.Lists.{IsListOf};
 ghost use Rattle.sim_rounds.specs.States.{IsIdle};
 ghost use Rattle.sim_rounds.specs.Work.{with_marks, with_readers, AreMarked, AreReaders, IsWorkOf};
 
-use sg_circuit::FanOut;
 use crate::lists::add;
+use sg_circuit::FanOut;
 use sg_text::NoMemory;
 use std::alloc::Global;
 

@@ -1,0 +1,44 @@
+-- Texts that grow piece by piece.
+use Rattle.std.proofs.Common.{◌≡◌, ◌∙◌, sym, ap, refl, ℕ, suc, ◌+◌, ◌<◌, ◌≤◌, List, [], ◌∷◌, ◌++◌, length, drop, get_or, map, arith, add-one, append_assoc}
+use Rattle.std.proofs.lemmas.List.{append-nil, drop_more, drop_all, length-map}
+use Rattle.std.specs.Prelude.{◌&&◌}
+use Rattle.std.specs.List.{list_all}
+use Rattle.wave_out.specs.Texts.{is_name_start, is_name_byte, is_simple, numbered}
+
+-- a name with a first byte
+pub is_simple_first : (name : List ℕ) → 1 ≤ length name → is_simple name ≡ is_name_start (get_or name 0 0) && list_all is_name_byte (drop 1 name)
+is_simple_first [] h = absurd (omega arith)
+is_simple_first (c ∷ cs) h = refl
+
+-- texts are added, one after the other
+pub add_two : {t u : List ℕ} (start a b : List ℕ) → t ≡ start ++ a → u ≡ t ++ b → u ≡ start ++ (a ++ b)
+add_two start a b p q = q ∙ (ap (λ t. t ++ b) p ∙ append_assoc start a b)
+
+pub add_three : {t u v : List ℕ} (start a b c : List ℕ) → t ≡ start ++ a → u ≡ t ++ b → v ≡ u ++ c → v ≡ start ++ (a ++ b ++ c)
+add_three start a b c p q r = add_two start (a ++ b) c (add_two start a b p q) r
+
+pub add_four : {t u v w : List ℕ} (start a b c d : List ℕ) → t ≡ start ++ a → u ≡ t ++ b → v ≡ u ++ c → w ≡ v ++ d → w ≡ start ++ (a ++ b ++ c ++ d)
+add_four start a b c d p q r s = add_two start (a ++ b ++ c) d (add_three start a b c p q r) s
+
+pub add_five : {t u v w x : List ℕ} (start a b c d e : List ℕ) → t ≡ start ++ a → u ≡ t ++ b → v ≡ u ++ c → w ≡ v ++ d → x ≡ w ++ e
+    → x ≡ start ++ (a ++ b ++ c ++ d ++ e)
+add_five start a b c d e p q r s last = add_two start (a ++ b ++ c ++ d) e (add_four start a b c d p q r s) last
+
+-- a text that the texts of the things from the i-th on complete is so after one more
+pub numbered_step : {A : Type 0} (f : ℕ → A → List ℕ) (text whole : List ℕ) (xs : List A) (k i : ℕ) (d : A) → i < length xs
+    → text ++ numbered f (k + i) (drop i xs) ≡ whole → (text ++ f (k + i) (get_or xs i d)) ++ numbered f (k + (i + 1)) (drop (i + 1) xs) ≡ whole
+numbered_step f text whole xs k i d l e =
+    append_assoc text (f (k + i) (get_or xs i d)) (numbered f (k + (i + 1)) (drop (i + 1) xs))
+    ∙ (ap (λ n. text ++ (f (k + i) (get_or xs i d) ++ numbered f n (drop (i + 1) xs))) (let s : k + (i + 1) ≡ suc (k + i) = omega arith in s)
+    ∙ (ap (λ ys. text ++ numbered f (k + i) ys) (sym (drop_more xs i d l)) ∙ e))
+
+pub numbered_end : {A : Type 0} (f : ℕ → A → List ℕ) (text whole : List ℕ) (xs : List A) (k i : ℕ) → length xs ≤ i
+    → text ++ numbered f (k + i) (drop i xs) ≡ whole → text ≡ whole
+numbered_end f text whole xs k i l e = sym (append-nil text) ∙ (ap (λ ys. text ++ numbered f (k + i) ys) (sym (drop_all i xs l)) ∙ e)
+
+-- the same with the text after the line, and with things that are seen otherwise in the code
+pub numbered_next : {A C : Type 0} (f : ℕ → A → List ℕ) (g : C → A) (text more whole : List ℕ) (xs : List C) (k i : ℕ) (d : A) → i < length xs
+    → more ≡ text ++ f (k + i) (get_or (map g xs) i d) → text ++ numbered f (k + i) (drop i (map g xs)) ≡ whole → more ++ numbered f (k + (i + 1)) (drop (i + 1) (map g xs)) ≡ whole
+numbered_next f g text more whole xs k i d l line e =
+    ap (λ t. t ++ numbered f (k + (i + 1)) (drop (i + 1) (map g xs))) line
+    ∙ numbered_step f text whole (map g xs) k i d (simp length-map l) e

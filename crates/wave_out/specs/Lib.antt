@@ -1,0 +1,5 @@
+-- The modules of this folder.
+pub mod Texts
+pub mod Scopes
+pub mod Vcd
+pub mod Report

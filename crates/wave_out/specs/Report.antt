@@ -1,0 +1,110 @@
+-- The text of a report (profile; the timing checks' violations as in IEEE 1364-2005, 15).
+use Rattle.std.specs.Prelude.{ℕ, ℤ, zero, suc, max, List, [], ◌++◌, length, Option, Some, None, codes, decimal, flat_map, ◌==◌, if◌then◌else◌, slice_index_or}
+use Rattle.std.specs.Fmt.{signed_decimal}
+use Rattle.sg_model.specs.Machine.{Violation}
+use Rattle.sg_model.specs.Run.{Finished}
+use Rattle.sg_circuit.specs.declared.checks.Check.{Check}
+use Rattle.sg_circuit.specs.declared.checks.CheckKind.TheVariants as check
+use Rattle.sg_circuit.specs.declared.checks.Terminal.{Terminal}
+use Rattle.sg_circuit.specs.Circuit.{Circuit, scope_at, net_at}
+use Rattle.time_checks.specs.declared.violations.Part.TheVariants.{Setup, Hold, Recovery, Removal, Width, Period}
+use Rattle.time_checks.specs.Parts.{part_number}
+use Rattle.wave_out.specs.Texts.{line, bit_text}
+
+-- an entry of the SDF that matched nothing: its line and its word
+pub record Unmatched : Type 0 where
+  pub line : ℕ
+  pub word : List ℕ
+
+-- a limit that was set to 0
+pub record Zeroed : Type 0 where
+  pub check : ℕ
+  pub part : ℕ
+  pub limit : ℤ
+
+-- the check of a number; past the end a blank
+abbrev pub check_at : Circuit → ℕ → Check
+check_at circuit c = slice_index_or circuit.checks c (record { scope = 0; kind = check.Setup; refer = record { name = []; bit = None }; datum = None })
+
+-- the terminal of a check's data event: for width and period that of its one event (15.2, 15.3)
+abbrev pub terminal_or : Terminal → Option Terminal → Terminal
+terminal_or refer None = refer
+terminal_or refer (Some datum) = datum
+
+abbrev pub datum_of : Check → Terminal
+datum_of check = terminal_or check.refer check.datum
+
+-- the word of a part by its number
+abbrev pub part_word : ℕ → List ℕ
+part_word n =
+    if n == part_number Setup then codes "setup"
+    else if n == part_number Hold then codes "hold"
+    else if n == part_number Recovery then codes "recovery"
+    else if n == part_number Removal then codes "removal"
+    else if n == part_number Width then codes "width"
+    else if n == part_number Period then codes "period"
+    else codes "skew"
+
+-- a path that goes on below another one, if there is one
+abbrev pub below : (ℕ → List ℕ) → Option ℕ → List ℕ
+below path None = []
+below path (Some scope) = path scope ++ codes "."
+
+-- the instance names from the top's on, joined by dots, no more of them than the turns (12.5)
+abbrev pub path_in : ℕ → Circuit → ℕ → List ℕ
+path_in zero circuit scope = []
+path_in (suc turns) circuit scope = below (path_in turns circuit) (scope_at circuit scope).parent ++ (scope_at circuit scope).name
+
+abbrev pub path_of : Circuit → ℕ → List ℕ
+path_of circuit scope = path_in (length circuit.scopes) circuit scope
+
+abbrev pub terminal_text : Terminal → List ℕ
+terminal_text t = t.name ++ bit_text t.bit
+
+-- a net by its path
+abbrev pub net_text : Circuit → ℕ → List ℕ
+net_text circuit net = path_of circuit (net_at circuit net).scope ++ codes "." ++ (net_at circuit net).name ++ bit_text (net_at circuit net).bit
+
+abbrev pub unmatched_line : Unmatched → List ℕ
+unmatched_line u = line (codes "unannotated " ++ decimal u.line ++ codes " " ++ u.word)
+
+abbrev pub zeroed_line : Circuit → Zeroed → List ℕ
+zeroed_line circuit z =
+    line (codes "zeroed " ++ path_of circuit (check_at circuit z.check).scope ++ codes " " ++ part_word z.part ++ codes " "
+    ++ terminal_text (check_at circuit z.check).refer ++ codes " " ++ terminal_text (datum_of (check_at circuit z.check)) ++ codes " " ++ signed_decimal z.limit)
+
+-- a violation: at the later of its two times, with the part's word and both terminals with their times (15)
+abbrev pub violation_line : Circuit → Violation → List ℕ
+violation_line circuit v =
+    line (codes "violation " ++ decimal (max v.refer_time v.datum_time) ++ codes " " ++ path_of circuit (check_at circuit v.check).scope
+    ++ codes " " ++ part_word v.part
+    ++ codes " " ++ terminal_text (check_at circuit v.check).refer ++ codes " " ++ decimal v.refer_time
+    ++ codes " " ++ terminal_text (datum_of (check_at circuit v.check)) ++ codes " " ++ decimal v.datum_time
+    ++ codes " limit " ++ signed_decimal v.limit)
+
+-- the last lines of a whole run
+abbrev pub summary : ℕ → ℕ → ℕ → List ℕ
+summary violations unmatched end =
+    line (codes "violations " ++ decimal violations) ++ line (codes "unannotated " ++ decimal unmatched) ++ line (codes "end " ++ decimal end)
+
+-- the line of a time that was spent at a net
+abbrev pub named_net : Circuit → Option ℕ → List ℕ
+named_net circuit None = []
+named_net circuit (Some net) = net_text circuit net
+
+abbrev pub spent_line : Circuit → ℕ → Option ℕ → List ℕ
+spent_line circuit time net = line (codes "rounds spent at " ++ decimal time ++ codes " on " ++ named_net circuit net)
+
+-- the last lines: the counts and the end, or the time that was spent and its net
+abbrev pub last_lines : Circuit → ℕ → ℕ → ℕ → Option (ℕ × Option ℕ) → List ℕ
+last_lines circuit violations unmatched end None = summary violations unmatched end
+last_lines circuit violations unmatched end (Some spent) = spent_line circuit spent.0 spent.1
+
+-- the whole text, from what a run comes to
+unfoldable pub report_lines : Circuit → List Unmatched → List Zeroed → List Violation → ℕ → Option (ℕ × Option ℕ) → List ℕ
+report_lines circuit unmatched zeroed violations end spent =
+    flat_map unmatched_line unmatched ++ flat_map (zeroed_line circuit) zeroed ++ flat_map (violation_line circuit) violations
+    ++ last_lines circuit (length violations) (length unmatched) end spent
+
+abbrev pub report_text : Circuit → List Unmatched → List Zeroed → ℕ → Finished → List ℕ
+report_text circuit unmatched zeroed end finished = report_lines circuit unmatched zeroed finished.run.violations end finished.spent
