@@ -20,3 +20,4 @@ pub mod SimulationLaws
 pub mod TimingLaws
 pub mod DelayLaws
 pub mod ElementLaws
+pub mod StepLaws

@@ -16,3 +16,5 @@ pub mod Told
 pub mod Naming
 pub mod Checks
 pub mod Simulations
+pub mod Steps
+pub mod Skipping

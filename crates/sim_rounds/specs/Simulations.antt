@@ -43,3 +43,8 @@ pub record IsReadyAt (all : Bool) (now : ℕ) (m : Machine) (net_count : ℕ) (f
   pub free : AreHanded driven (map (λ c. set_seen c) sets)
   pub told : IsTold last_told nets.values.items
   pub begun : ended ≤ length found
+
+-- and so it is between two times, when all violations are of times that ended
+pub record StandsBetween (nets : Nets) (lists : List (List (ℕ × Value))) (states : List Value) (seen : List Snapshot → Type 0) (found : List code_violation.Violation) (counted ended : ℕ) (r : Run) : Type 0 where
+  pub run : StandsFor nets lists states seen found counted r
+  pub whole : length found ≤ ended

@@ -12,6 +12,8 @@ mod pending;
 mod rounds;
 mod runs;
 mod simulation;
+mod simulated;
+mod steps;
 mod times;
 mod told;
 mod watch;

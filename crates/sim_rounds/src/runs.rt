@@ -15,6 +15,7 @@ use sg_circuit::NetId;
 use sg_io::{Shelf, ShelfError};
 use sg_logic::Value;
 use sg_steps::Steps;
+use sg_text::NoMemory;
 use std::sync::ledger::Ledger;
 use time_checks::Change;
 
@@ -27,6 +28,17 @@ pub enum SimEnd {
     WatchFailed,
     /// There was no memory.
     NoMemory,
+}
+
+impl From<NoMemory> for SimEnd {
+    ghost use Rattle.std.specs.Prelude.{◌≡◌};
+    ghost use Rattle.sim_rounds.specs.declared.runs.SimEnd.TheVariants as end;
+
+    ghost from_gives = { λ _ e. e ≡ end.NoMemory };
+
+    fn from(_: NoMemory) -> Self {
+        SimEnd::NoMemory
+    }
 }
 
 /// What makes times. It stands for runs.

@@ -1,6 +1,7 @@
 // What was told last of the nets, and which of them may differ from it.
 ghost use Rattle.std.specs.Prelude.{◌≡◌, ℕ, ◌++◌, ◌^◌, ◌<◌, All, [], ◌∷◌, IfOk, OnErr, OnOk, length, map, true};
 ghost use Rattle.sim_rounds.specs.Nets.{differs, AreChanged};
+ghost use Rattle.sim_rounds.specs.Runs.{last_after};
 ghost use Rattle.sim_rounds.specs.Told.{IsTold, changes_in};
 ghost use Rattle.sim_rounds.specs.Watching.{AreDifferences, net_change};
 ghost use Rattle.sim_rounds.specs.Work.{AreMarked, mark_at};
@@ -119,5 +120,31 @@ pub fn tell_changes(
         &told.touched.marks,
     );
     clear_work(&mut told.touched.marks, &mut told.touched.list);
+    Ok(())
+}
+
+/// At the end of a time its changes are told, and if there is any it is the last that changed.
+///
+/// After `NoMemory` what was told and the last time are as before.
+pub fn tell_time_changes(
+    told: &mut Told,
+    values: &[Value],
+    changes: &mut Vec<Change>,
+    last: &mut u64,
+    now: u64,
+) -> Result<(), NoMemory>
+    requires { IsTold told.old values.now }
+    ensures changes { OnOk result (AreDifferences told.old.values.items values.now (map net_change changes.new.items)) }
+    ensures within { OnOk result (All (λ c. c.net < length values.now) changes.new.items) }
+    ensures told { OnOk result (IsTold told.new values.now) }
+    ensures values { OnOk result (told.new.values.items ≡ values.now) }
+    ensures last { OnOk result (last.new ≡ last_after now changes.new.items last.old) }
+    ensures same { OnErr result (told.new.values.items ≡ told.old.values.items) }
+    ensures same_last { OnErr result (last.new ≡ last.old) }
+{
+    tell_changes(told, values, changes)?;
+    if !changes.is_empty() {
+        *last = now;
+    }
     Ok(())
 }
