@@ -26,7 +26,7 @@ udp_at udps i = slice_index_or udps i (record { rows = record { inputs = 0; sequ
 
 abbrev pub limit_seen : Limit → Option (ℕ × ℕ)
 limit_seen Follow = None
-limit_seen (Own reject error) = Some (reject, error)
+limit_seen (Own widths) = Some (widths.reject, widths.error)
 
 -- the delays and the limits of the transitions, side by side
 abbrev pub timings_of : List ℕ → List Limit → List Timing

@@ -11,3 +11,10 @@ pub mod Inputs
 pub mod Elements
 pub mod Times
 pub mod Watching
+pub mod Runs
+pub mod Told
+pub mod Naming
+pub mod Checks
+pub mod Simulations
+pub mod Steps
+pub mod Skipping

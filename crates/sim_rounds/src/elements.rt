@@ -46,8 +46,7 @@ fn read_nets(nets: &[NetId], values: &[Value], out: &mut Vec<Value>)
 fn place_of(from: Value, to: Value) -> Option<usize>
     ensures { result ≡ position (goes from to) transitions }
 {
-    let change = Trans::of(from, to)?;
-    Some(change as usize)
+    Some(Trans::of(from, to)?.place())
 }
 
 // A delay and the limits of pulses, in ticks.
@@ -71,10 +70,10 @@ fn pulse_at(timing: &LegTiming, place: usize) -> Pulse
             reject: delay,
             error: delay,
         },
-        Limit::Own { reject, error } => Pulse {
+        Limit::Own(widths) => Pulse {
             delay,
-            reject,
-            error,
+            reject: widths.reject,
+            error: widths.error,
         },
     }
 }
