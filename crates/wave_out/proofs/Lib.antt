@@ -1,3 +1,6 @@
 -- The modules of this folder.
 pub mod CodeLaws
 pub mod TextLaws
+pub mod ListLaws
+pub mod WalkLaws
+pub mod ScopeLaws

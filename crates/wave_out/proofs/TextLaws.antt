@@ -1,9 +1,9 @@
 -- Texts that grow piece by piece.
 use Rattle.std.proofs.Common.{◌≡◌, ◌∙◌, sym, ap, refl, ℕ, suc, ◌+◌, ◌<◌, ◌≤◌, List, [], ◌∷◌, ◌++◌, length, drop, get_or, map, arith, add-one, append_assoc}
 use Rattle.std.proofs.lemmas.List.{append-nil, drop_more, drop_all, length-map}
-use Rattle.std.specs.Prelude.{◌&&◌}
+use Rattle.std.specs.Prelude.{◌&&◌, codes}
 use Rattle.std.specs.List.{list_all}
-use Rattle.wave_out.specs.Texts.{is_name_start, is_name_byte, is_simple, numbered}
+use Rattle.wave_out.specs.Texts.{is_name_start, is_name_byte, is_simple, line, numbered}
 
 -- a name with a first byte
 pub is_simple_first : (name : List ℕ) → 1 ≤ length name → is_simple name ≡ is_name_start (get_or name 0 0) && list_all is_name_byte (drop 1 name)
@@ -23,6 +23,10 @@ add_four start a b c d p q r s = add_two start (a ++ b ++ c) d (add_three start 
 pub add_five : {t u v w x : List ℕ} (start a b c d e : List ℕ) → t ≡ start ++ a → u ≡ t ++ b → v ≡ u ++ c → w ≡ v ++ d → x ≡ w ++ e
     → x ≡ start ++ (a ++ b ++ c ++ d ++ e)
 add_five start a b c d e p q r s last = add_two start (a ++ b ++ c ++ d) e (add_four start a b c d p q r s) last
+
+-- a line that ends with the word of an end
+pub line_end : (text : List ℕ) → line (text ++ codes " $end") ≡ text ++ codes " $end\n"
+line_end text = append_assoc text (codes " $end") (10 ∷ [])
 
 -- a text that the texts of the things from the i-th on complete is so after one more
 pub numbered_step : {A : Type 0} (f : ℕ → A → List ℕ) (text whole : List ℕ) (xs : List A) (k i : ℕ) (d : A) → i < length xs

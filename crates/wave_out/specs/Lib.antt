@@ -3,3 +3,4 @@ pub mod Texts
 pub mod Scopes
 pub mod Vcd
 pub mod Report
+pub mod Walk

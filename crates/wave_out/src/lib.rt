@@ -1,5 +1,6 @@
 //! The texts that a run writes: its value change dump and its report.
 #![tactic(auto)]
 
+mod header;
 mod scopes;
 mod words;
