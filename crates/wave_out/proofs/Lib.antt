@@ -4,3 +4,4 @@ pub mod TextLaws
 pub mod ListLaws
 pub mod WalkLaws
 pub mod ScopeLaws
+pub mod HeaderLaws
