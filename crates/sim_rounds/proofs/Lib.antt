@@ -3,11 +3,10 @@ pub mod ListLaws
 pub mod NetLaws
 pub mod WorkLaws
 pub mod WorkIsExact
-pub mod FanLaws
 pub mod StampLaws
 pub mod EvaluationLaws
 pub mod RoundLaws
-pub mod PinLaws
 pub mod PendingLaws
 pub mod EveryLaws
+pub mod TimeLaws
 pub mod MachineLaws

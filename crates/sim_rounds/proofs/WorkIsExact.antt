@@ -7,7 +7,8 @@ use Rattle.sg_logic.specs.declared.values.Value.{Value}
 use Rattle.sg_model.specs.Time.{any_differs, count_differing}
 use Rattle.sim_rounds.specs.Lists.{occurrences, IsListOf}
 use Rattle.sim_rounds.specs.Nets.{differs, AreChanged}
-use Rattle.sim_rounds.specs.Work.{has, readers_from, readers_at, IsFanOut, IsWorkOf, AreReaders, mark_at, count_marks, AreMarked, with_marks, with_readers, has_changed}
+use Rattle.sg_circuit.specs.FanOut.{has, readers_from, readers_at, IsFanOut}
+use Rattle.sim_rounds.specs.Work.{IsWorkOf, AreReaders, mark_at, count_marks, AreMarked, with_marks, with_readers, has_changed}
 use Rattle.sim_rounds.proofs.ListLaws.{test_same, test_other, occurs_here, occurs_later, listed_at}
 use Rattle.sim_rounds.specs.Rounds.{IsOnce}
 use Rattle.sim_rounds.proofs.NetLaws.{changed-within}

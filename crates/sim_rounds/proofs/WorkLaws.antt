@@ -5,7 +5,8 @@ use Rattle.std.proofs.lemmas.Bool.{cases_eq}
 use Rattle.std.proofs.lemmas.List.{length-set, length-append, get_or-set_same, get_or-set_other, get_or_past, set-get_or, get_or_default, take_more, take_all}
 use Rattle.sg_model.specs.Round.{each_from}
 use Rattle.sim_rounds.specs.Lists.{occurrences, at_places}
-use Rattle.sim_rounds.specs.Work.{mark_at, count_marks, AreMarked, with_marks, with_readers, readers_at}
+use Rattle.sg_circuit.specs.FanOut.{readers_at}
+use Rattle.sim_rounds.specs.Work.{mark_at, count_marks, AreMarked, with_marks, with_readers}
 use Rattle.sim_rounds.proofs.ListLaws.{occurs_here, occurs_later, occurrences-append, listed_at, at_places-more, at_places-each}
 
 count_marks-set : (marks : List Bool) (e : ℕ) → e < length marks → mark_at marks e ≡ false → count_marks (slice_set marks e true) ≡ count_marks marks + 1

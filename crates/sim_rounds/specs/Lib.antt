@@ -2,9 +2,9 @@
 pub mod Lists
 pub mod Nets
 pub mod Work
-pub mod Fan
 pub mod Rounds
 pub mod States
-pub mod Pins
 pub mod Simulated
 pub mod CircuitLaws
+pub mod Times
+pub mod Watching

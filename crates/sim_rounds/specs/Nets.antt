@@ -7,7 +7,6 @@ use Rattle.sg_logic.specs.declared.values.Value.{Value}
 use Rattle.sg_logic.specs.Values.{is_same}
 use Rattle.sg_model.specs.Values.{value_at}
 use Rattle.sg_model.specs.Machine as model
-use Rattle.sim_rounds.specs.declared.types.Set.{Set}
 use Rattle.sim_rounds.specs.declared.nets.Nets.{Nets}
 use Rattle.sim_rounds.specs.declared.nets.Stamp as code_stamp
 use Rattle.sim_rounds.specs.Lists.{IsListOf}
@@ -27,10 +26,6 @@ pub record AreChanged (before values : List Value) (nets : List ℕ) : Type 0 wh
   pub as_many : length values ≡ length before
   pub each : IsListOf (differs before values) nets
   pub count : length nets + count_same before values ≡ length before
-
--- a change, as the model has it
-abbrev pub set_seen : Set → ℕ × Value
-set_seen c = (c.net, c.value)
 
 -- a stamp, as the model has it
 abbrev pub stamp_seen : Option code_stamp.Stamp → Option model.Stamp

@@ -7,7 +7,7 @@ use Rattle.sg_model.specs.FanOut.{IsSteady}
 use Rattle.sim_rounds.specs.declared.nets.Nets.{Nets}
 use Rattle.sim_rounds.specs.declared.work.WorkList.{WorkList}
 use Rattle.sim_rounds.specs.Nets.{stamp_seen, AreNets}
-use Rattle.sim_rounds.specs.Work.{IsFanOut}
+use Rattle.sg_circuit.specs.FanOut.{IsFanOut}
 use Rattle.sim_rounds.specs.Rounds.{AreSettled, ArePending, IsLater}
 
 -- no element is marked or listed, and there is room for all

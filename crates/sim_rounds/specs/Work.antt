@@ -2,26 +2,9 @@
 use Rattle.std.specs.Prelude.{◌≡◌, ℕ, suc, ◌+◌, ◌<◌, ◌==◌, ◌||◌, Bool, true, false, if◌then◌else◌, All, List, [], ◌∷◌, length, slice_index_or, slice_set}
 use Rattle.sg_logic.specs.declared.values.Value.{Value}
 use Rattle.sg_model.specs.Time.{any_differs, count_differing}
+use Rattle.sg_circuit.specs.FanOut.{readers_at, IsFanOut}
 use Rattle.sim_rounds.specs.Nets.{differs}
 use Rattle.sim_rounds.specs.Lists.{IsListOf}
-
--- whether a number stands in a list
-abbrev pub has : ℕ → List ℕ → Bool
-has k [] = false
-has k (x ∷ xs) = x == k || has k xs
-
--- the elements that read a net, numbered from k, in rising order and each once
-abbrev pub readers_from : ℕ → ℕ → List (List ℕ) → List ℕ
-readers_from net k [] = []
-readers_from net k (nets ∷ rest) = if has net nets then (k ∷ readers_from net (suc k) rest) else readers_from net (suc k) rest
-
--- the readers of a net
-abbrev pub readers_at : List (List ℕ) → ℕ → List ℕ
-readers_at fan net = slice_index_or fan net []
-
--- the fan-out has the readers of each net
-pub record IsFanOut (inputs fan : List (List ℕ)) : Type 0 where
-  pub each : (net : ℕ) → net < length fan → readers_at fan net ≡ readers_from net 0 inputs
 
 -- an element's mark
 abbrev pub mark_at : List Bool → ℕ → Bool

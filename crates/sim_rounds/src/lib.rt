@@ -1,20 +1,18 @@
 //! The simulation of a circuit, round by round, time by time, in work that is in proportion to what changes.
 #![tactic(auto)]
 
-mod building;
 mod evaluation;
-mod fan_out;
 mod laws;
 mod lists;
 mod nets;
 mod rounds;
-mod types;
+mod times;
+mod watch;
 mod work;
 
 pub use evaluation::{Elements, evaluate_all};
-pub use fan_out::FanOut;
 pub use laws::circuit_is_lawful;
 pub use nets::{Nets, Stamp};
 pub use rounds::{first_round, round};
-pub use types::Set;
+pub use watch::{Quiet, Watch};
 pub use work::{WorkList, clear_work, list_work};

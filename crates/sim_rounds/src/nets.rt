@@ -5,10 +5,11 @@ ghost use Rattle.sg_logic.specs.Values.{is_same};
 ghost use Rattle.sg_model.specs.Agenda.{NothingBelow, AllRise};
 ghost use Rattle.sg_model.specs.Machine.{AreOutputs};
 ghost use Rattle.sg_model.specs.Round.{changed_by, due_changes, each_from, stamped, without_due};
-ghost use Rattle.sim_rounds.specs.Nets.{set_seen, stamp_seen, AreChanged, AreNets};
+ghost use Rattle.stim_read.specs.Seen.{set_seen};
+ghost use Rattle.sim_rounds.specs.Nets.{stamp_seen, AreChanged, AreNets};
 
 use crate::lists::{add, remove};
-use crate::types::Set;
+use stim_read::Set;
 use pulse_list::Agenda;
 use sg_logic::Value;
 use sg_text::NoMemory;

@@ -3,15 +3,16 @@ ghost use Rattle.std.specs.Prelude.{◌≡◌, ◌+◌, ◌<◌, ◌≤◌, ◌^
 ghost use Rattle.sg_model.specs.Agenda.{NothingBelow};
 ghost use Rattle.sg_model.specs.Round.{each_from, element_list, element_value, round as round_of};
 ghost use Rattle.sg_model.specs.Time.{count_differing};
-ghost use Rattle.sim_rounds.specs.Nets.{set_seen, stamp_seen, AreNets};
+ghost use Rattle.stim_read.specs.Seen.{set_seen};
+ghost use Rattle.sim_rounds.specs.Nets.{stamp_seen, AreNets};
 ghost use Rattle.sim_rounds.specs.Rounds.{AreHanded, ArePending, StaysElsewhere};
 ghost use Rattle.sim_rounds.specs.States.{state_seen, IsIdle, IsOfCircuit, IsReady};
-ghost use Rattle.sim_rounds.specs.Work.{IsFanOut};
+ghost use Rattle.sg_circuit.specs.FanOut.{IsFanOut};
 
 use crate::evaluation::{Elements, evaluate_all};
-use crate::fan_out::FanOut;
+use sg_circuit::FanOut;
 use crate::nets::{Nets, change_nets};
-use crate::types::Set;
+use stim_read::Set;
 use crate::work::{WorkList, clear_work, list_every, list_work};
 use pulse_list::Agenda;
 use sg_steps::Steps;

@@ -5,7 +5,7 @@ ghost use Rattle.sim_rounds.specs.Lists.{IsListOf};
 ghost use Rattle.sim_rounds.specs.States.{IsIdle};
 ghost use Rattle.sim_rounds.specs.Work.{with_marks, with_readers, AreMarked, AreReaders, IsWorkOf};
 
-use crate::fan_out::FanOut;
+use sg_circuit::FanOut;
 use crate::lists::add;
 use sg_text::NoMemory;
 use std::alloc::Global;
@@ -70,7 +70,7 @@ fn mark_readers(changed: &[u32], fan: &FanOut, marks: &mut [bool], work: &mut Ve
     ensures capacity { vec_capacity work.old ≤ vec_capacity work.new }
 {
     for net in changed {
-        mark_all(fan.readers(*net), marks, work);
+        mark_all(fan.of(*net), marks, work);
     }
 }
 

@@ -1,7 +1,8 @@
 use Rattle.std.proofs.Common.{◌≡◌, ◌≤◌, map, take}
 use Rattle.std.specs.Vec.{vec_capacity}
 use Rattle.sg_model.specs.Round.{changed_by}
-use Rattle.sim_rounds.specs.Nets.{AreChanged, set_seen}
+use Rattle.stim_read.specs.Seen.{set_seen}
+use Rattle.sim_rounds.specs.Nets.{AreChanged}
 use Rattle.sim_rounds.proofs.nets.apply.Given as goal
 
 abbrev pub invariant-loop-change : goal.invariant-loop-change

@@ -1,6 +1,6 @@
 use Rattle.std.proofs.Common.{◌∙◌, ap, sym, map}
 use Rattle.sg_model.specs.Round.{changed_by, due_changes}
-use Rattle.sim_rounds.specs.Nets.{set_seen}
+use Rattle.stim_read.specs.Seen.{set_seen}
 use Rattle.sim_rounds.proofs.NetLaws.{changed_append}
 use Rattle.sim_rounds.proofs.nets.change_values.Goals as goal
 

@@ -1,7 +1,7 @@
 use Rattle.std.proofs.Common.{◌≡◌, ◌∙◌, ap, length, map, subst}
 use Rattle.sg_model.specs.Machine.{State}
 use Rattle.sg_model.specs.Round.{round}
-use Rattle.sim_rounds.specs.Nets.{set_seen}
+use Rattle.stim_read.specs.Seen.{set_seen}
 use Rattle.sim_rounds.specs.States.{state_seen, IsIdle}
 use Rattle.sim_rounds.proofs.RoundLaws.{round_is_made}
 use Rattle.sim_rounds.proofs.PendingLaws.{pending_rises, pending_below, ready_again}
