@@ -5,3 +5,4 @@ pub mod ListLaws
 pub mod WalkLaws
 pub mod ScopeLaws
 pub mod HeaderLaws
+pub mod BlockLaws

@@ -4,3 +4,4 @@ pub mod Scopes
 pub mod Vcd
 pub mod Report
 pub mod Walk
+pub mod Lines

@@ -1,6 +1,7 @@
 //! The texts that a run writes: its value change dump and its report.
 #![tactic(auto)]
 
+mod blocks;
 mod header;
 mod scopes;
 mod words;
