@@ -9,7 +9,9 @@ use Rattle.sg_circuit.specs.Closed.{IsClosed}
 use Rattle.sg_circuit.specs.Seen.{circuit_seen, scope_seen, variable_seen}
 use Rattle.wave_out.specs.declared.scopes.Visit.{Visit}
 use Rattle.wave_out.specs.declared.scopes.Visit.TheVariants.{Enters, Leaves}
-use Rattle.wave_out.specs.Scopes.{visits}
+use Rattle.sg_circuit.proofs.SeenLaws.{map-mapped}
+use Rattle.sg_circuit.specs.declared.scopes.Variable as code_variable
+use Rattle.wave_out.specs.Scopes.{entered, visits}
 use Rattle.wave_out.specs.Texts.{line, numbered}
 use Rattle.wave_out.specs.Vcd.{declaration, header, scope_line, tick_text, visit_lines}
 use Rattle.wave_out.specs.Walk.{IsVisit}
@@ -49,3 +51,13 @@ pub visits_known : (parts : Parts) (circuit : Circuit) (order : List Visit) → 
 visits_known parts circuit order seen closed same =
     subst (λ n. All (λ v. IsVisit n v) order) (ap (λ c. length c.scopes) (sym seen) ∙ length-map parts.scopes.items (λ s. scope_seen s))
     (subst (λ o. All (λ v. IsVisit (length circuit.scopes) v) o) (sym same) (are_visits circuit closed))
+
+-- the bits of a scope's variables
+pub entered_bits : {E : Type 0} (parts : Parts) (s : ℕ) (scope : code_scope.Scope) (vs : List code_variable.Variable) (r : Result Unit E) (new old : List (List ℕ)) → s < length parts.scopes.items → scope ≡ get_or parts.scopes.items s scope
+    → vs ≡ scope.variables.items → OnOk r (new ≡ old ++ map (λ v. v.bits.items) vs) → OnOk r (new ≡ old ++ map (λ x. x.bits) (entered (circuit_seen parts) (Enters s)))
+entered_bits parts s scope vs (Ok u) new old l e same h =
+    h ∙ ap (λ bs. old ++ bs)
+    (ap (λ ws. map (λ v. v.bits.items) ws) same
+    ∙ (sym (map-mapped (λ x. x.bits) (λ v. variable_seen v) scope.variables.items)
+    ∙ ap (λ (x : Scope). map (λ y. y.bits) x.variables) (sym (scope_is parts s scope l e))))
+entered_bits parts s scope vs (Err why) new old l e same h = h

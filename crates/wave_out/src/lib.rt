@@ -4,4 +4,5 @@
 mod blocks;
 mod header;
 mod scopes;
+mod variables;
 mod words;
