@@ -6,3 +6,5 @@ pub mod WalkLaws
 pub mod ScopeLaws
 pub mod HeaderLaws
 pub mod BlockLaws
+pub mod SortedLaws
+pub mod ChangeLaws

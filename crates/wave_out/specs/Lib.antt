@@ -5,3 +5,4 @@ pub mod Vcd
 pub mod Report
 pub mod Walk
 pub mod Lines
+pub mod Changes
