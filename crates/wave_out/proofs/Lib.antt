@@ -8,3 +8,4 @@ pub mod HeaderLaws
 pub mod BlockLaws
 pub mod SortedLaws
 pub mod ChangeLaws
+pub mod ShownLaws

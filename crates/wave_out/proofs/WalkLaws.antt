@@ -13,7 +13,7 @@ use Rattle.sg_circuit.proofs.PinLaws.{picked-append}
 use Rattle.wave_out.specs.declared.scopes.Visit.{Visit}
 use Rattle.wave_out.specs.declared.scopes.Visit.TheVariants.{Enters, Leaves}
 use Rattle.wave_out.specs.Scopes.{is_parent, children_from, children_of, visits_in, visits}
-use Rattle.wave_out.proofs.ListLaws.{All-first, All-last, All-reverse}
+use Rattle.wave_out.proofs.ListLaws.{All-first, All-flat_map, All-last, All-reverse}
 use Rattle.wave_out.specs.Walk.{pin_of, parent_pins, AreChildren, IsVisit, inner_of, whole_visit, left_visits, GoesOn}
 
 -- the pins of scopes are their parents' children
@@ -142,10 +142,6 @@ visits_known c h (suc turns) s l =
     (All-append (λ v. IsVisit (length c.scopes) v) (flat_map (visits_in turns c) (children_of c s)) (Leaves ∷ [])
     (All-flat_map (λ v. IsVisit (length c.scopes) v) (visits_in turns c) (children_of c s) (λ i d m. visits_known c h turns (get_or (children_of c s) i d) (are_behind c h s i d m).1))
     (All-cons (λ v. IsVisit (length c.scopes) v) Leaves [] tt (All-nil (λ v. IsVisit (length c.scopes) v))))
-  where
-    All-flat_map : {A B : Type 0} (P : B → Type 0) (f : A → List B) (xs : List A) → All (λ x. All P (f x)) xs → All P (flat_map f xs)
-    All-flat_map P f [] h = All-nil P
-    All-flat_map P f (x ∷ xs) h = All-append P (f x) (flat_map f xs) (All-head (λ x. All P (f x)) x xs h) (All-flat_map P f xs (All-tail (λ x. All P (f x)) x xs h))
 
 pub are_visits : (c : Circuit) → IsClosed c → All (λ v. IsVisit (length c.scopes) v) (visits c)
 are_visits c h = at (length c.scopes) refl

@@ -1,10 +1,10 @@
 -- Words of the functions that write a later block from the nets that changed.
-use Rattle.std.specs.Prelude.{◌≡◌, ℕ, List, [], ◌∷◌, ◌++◌, Option, Some, None, if◌then◌else◌}
+use Rattle.std.specs.Prelude.{◌≡◌, ◌==◌, ℕ, List, [], ◌∷◌, ◌++◌, Option, Some, None, if◌then◌else◌}
 use Rattle.std.specs.List.{list_any}
 use Rattle.sg_logic.specs.declared.values.Value.{Value}
 use Rattle.sg_model.specs.Time.{any_differs}
 use Rattle.sim_rounds.specs.Watching.{AreDifferences, NetChange}
-use Rattle.wave_out.specs.Lines.{bits_line, later_text}
+use Rattle.wave_out.specs.Lines.{bits_line, first_text, later_text}
 use Rattle.wave_out.specs.Texts.{numbered}
 use Rattle.wave_out.specs.Vcd.{time_line}
 
@@ -24,3 +24,9 @@ work_text time bits values (k ∷ ks) = Some (later_text time bits (k ∷ ks) va
 -- the block is that of the variables that differ, whatever the values before were of which the changes tell
 pub record IsBlock (time : ℕ) (bits : List (List ℕ)) (changed : List NetChange) (values : List Value) (block : Option (List ℕ)) : Type 0 where
   pub each : (before : List Value) → AreDifferences before values changed → block ≡ changes_text time bits before values
+
+-- what a call adds after a time that was written last, if any
+abbrev pub IsText : Option ℕ → ℕ → List (List ℕ) → List NetChange → List Value → Option (List ℕ) → Type 0
+IsText None time bits changed values text = text ≡ Some (first_text time bits values)
+IsText (Some last) time bits [] values text = text ≡ (if last == time then None else Some (time_line time))
+IsText (Some last) time bits (c ∷ cs) values text = IsBlock time bits (c ∷ cs) values text

@@ -6,3 +6,6 @@ pub mod Report
 pub mod Walk
 pub mod Lines
 pub mod Changes
+pub mod Files
+pub mod Shown
+pub mod Writing

@@ -5,5 +5,6 @@ mod blocks;
 mod changes;
 mod header;
 mod scopes;
+mod shown;
 mod variables;
 mod words;
