@@ -9,3 +9,6 @@ pub mod BlockLaws
 pub mod SortedLaws
 pub mod ChangeLaws
 pub mod ShownLaws
+pub mod FileLaws
+pub mod CallLaws
+pub mod WriterLaws

@@ -8,3 +8,6 @@ mod scopes;
 mod shown;
 mod variables;
 mod words;
+mod writer;
+
+pub use writer::VcdWriter;
