@@ -9,11 +9,11 @@ use Rattle.grammar.specs.Rule.{Rule, ◌∙∙◌, mapped, either, many, named}
 use Rattle.cond_expr.specs.declared.tokens.Tok.{Tok}
 use Rattle.cond_expr.specs.declared.scan.Phase.TheVariants.{Operand, Whole}
 use Rattle.cond_expr.specs.Kinds.{Kind, name_kind, index_kind, constant_kind, left_kind, right_kind, operator_kind, kind_of, is_left, is_right, is_unary, is_binary, is_binary_up_to}
-use Rattle.cond_expr.specs.Tree.{Cond, unary, joined}
+use Rattle.cond_expr.specs.Tree.{Cond, unary, chain_of}
 use Rattle.cond_expr.specs.Grammar.{operator, quoted, atom, level_parts, level, primary_parts, primary, expression, FailsConditionAt, FirstFault}
-use Rattle.cond_expr.specs.Scan.{step}
+use Rattle.cond_expr.specs.ScanSteps.{step}
 use Rattle.cond_expr.proofs.Scanning.{scan}
-use Rattle.cond_expr.proofs.Exactness.{expression-exact}
+use Rattle.cond_expr.specs.Exactness.{expression-exact}
 use Rattle.cond_expr.proofs.Scanned.{fault, fault-none, stops_at, level-scans, primary-scans, level_stops, step_no_more}
 
 -- what one rule says, another says
@@ -57,7 +57,7 @@ unfolding level_parts
 level_within zero a b w = named_within _ _ _ _ a b w
 level_within (suc n) a b w =
     let t = level_within n a b w in
-    named_within _ _ _ _ _ _ (mapped_within (λ x. joined x.0 x.1) _ _ (seq_within (level n a) (level n b) _ _ t (many_within _ _ (seq_within (operator (is_binary (suc n))) (operator (is_binary (suc n))) (level n a) (level n b) (same (operator (is_binary (suc n)))) t))))
+    named_within _ _ _ _ _ _ (mapped_within (λ x. chain_of x.0 x.1) _ _ (seq_within (level n a) (level n b) _ _ t (many_within _ _ (seq_within (operator (is_binary (suc n))) (operator (is_binary (suc n))) (level n a) (level n b) (same (operator (is_binary (suc n)))) t))))
 
 -- what begins with little depth begins with more
 deeper : (d : ℕ) → Within (primary d) (primary (suc d))

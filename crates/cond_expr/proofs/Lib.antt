@@ -1,5 +1,4 @@
 -- The modules of this folder.
-pub mod AllKinds
 pub mod AnyDepth
 pub mod Below
 pub mod BindingExamples
@@ -8,7 +7,6 @@ pub mod BoundChain
 pub mod Chains
 pub mod Cores
 pub mod EqualTokens
-pub mod Exactness
 mod Examples
 pub mod JoinedValue
 pub mod Levels

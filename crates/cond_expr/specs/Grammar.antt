@@ -6,7 +6,7 @@ use Rattle.grammar.specs.Rule.{Rule, one, ◌∙∙◌, mapped, located, ◌▸�
 use Rattle.cond_expr.specs.declared.tokens.Op.{Op}
 use Rattle.cond_expr.specs.declared.tokens.Tok.{Tok}
 use Rattle.cond_expr.specs.Kinds.{Kind, kind_of, is_name, is_index, is_constant, is_left, is_right, is_unary, is_binary, is_binary_up_to, constant_of, operator_of}
-use Rattle.cond_expr.specs.Tree.{Cond, leaf, constant, unary, joined}
+use Rattle.cond_expr.specs.Tree.{Cond, leaf, constant, unary, chain_of}
 
 abbrev pub Grammar : Type 0 → Type 1
 Grammar A = Rule Tok Kind A
@@ -46,7 +46,7 @@ unfoldable pub level_parts : ℕ → Grammar (Cond ℕ) → Grammar (Cond ℕ)
 level_parts zero part = part
 level_parts (suc n) part =
     let tighter = named primary_starts (level_continues n) (level_parts n part) in
-    mapped (λ x. joined x.0 x.1) (tighter ∙∙ many kind_of (operator (is_binary (suc n)) ∙∙ tighter))
+    mapped (λ x. chain_of x.0 x.1) (tighter ∙∙ many kind_of (operator (is_binary (suc n)) ∙∙ tighter))
 
 abbrev pub level : ℕ → Grammar (Cond ℕ) → Grammar (Cond ℕ)
 level n part = named primary_starts (level_continues n) (level_parts n part)

@@ -1,11 +1,13 @@
 -- The modules of this folder.
+pub mod AllKinds
 pub mod Binding
 pub mod Codes
 pub mod Condition
+pub mod Exactness
 pub mod Grammar
 pub mod Kinds
 pub mod Laws
 pub mod Same
-pub mod Scan
+pub mod ScanSteps
 pub mod Tree
 pub mod Values

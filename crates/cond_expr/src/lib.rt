@@ -3,6 +3,7 @@
 
 mod binding;
 mod bound;
+mod conditions;
 mod copies;
 mod expr;
 mod faults;
@@ -17,6 +18,7 @@ mod values;
 
 pub use binding::{BindFault, Find};
 pub use bound::{Bound, Nets};
+pub use conditions::Conditions;
 pub use expr::Expr;
 pub use faults::CondFault;
 pub use laws::{one_condition, one_core, one_failing_token};

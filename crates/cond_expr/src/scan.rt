@@ -1,7 +1,7 @@
 // The first token with which no condition begins.
 ghost use Rattle.std.specs.Prelude.{◌≡◌, ◌<◌, ◌^◌};
 ghost use Rattle.cond_expr.specs.Kinds.{kind_of};
-ghost use Rattle.cond_expr.specs.Scan.{step};
+ghost use Rattle.cond_expr.specs.ScanSteps.{step};
 ghost use Rattle.cond_expr.specs.Grammar.{FirstFault};
 
 use crate::operators::{may_prefix, precedence_of};

@@ -4,6 +4,7 @@ pub mod TokenKinds
 pub mod Extents
 pub mod One
 pub mod Mapped
+pub mod Placed
 pub mod After
 pub mod Sequence
 pub mod Choice
@@ -12,6 +13,7 @@ pub mod Many
 pub mod Separated
 pub mod Named
 pub mod Counted
+pub mod Stated
 pub mod Whole
 pub mod Laws
 pub mod Finite

@@ -3,5 +3,7 @@ pub mod Language
 pub mod Reading
 pub mod Reads
 pub mod Rule
+pub mod Stated
 pub mod Exact
 pub mod Laws
+pub mod Placed

@@ -2,6 +2,7 @@
 #![tactic(auto)]
 
 ghost use Rattle.std.specs.Prelude.{◌≡◌};
+ghost use Rattle.grammar.specs.Exact.{Exact};
 ghost use Rattle.grammar.specs.Laws.{BeginsAlone, OneFailingToken, OneTree, PrefixClosed, ReadsItsLanguage, SpelledOrFailing};
 ghost use Rattle.grammar.specs.Rule.{Rule};
 ghost use Rattle.grammar.specs.declared.ReadFault.TheVariants.{Memory};
@@ -39,8 +40,7 @@ impl<T: Drop> From<AllocFailed<T>> for ReadFault {
     }
 }
 
-/// A rule of a grammar, by its tokens, their kinds and its trees. The laws below hold for each one that is read exactly
-/// (`Exact`).
+/// A rule of a grammar over tokens, their kinds and its trees, with the witness that it is read exactly.
 pub trait Grammar {
     ghost Token: { Type 0 };
 
@@ -51,34 +51,36 @@ pub trait Grammar {
     ghost kind: { Token → Kind };
 
     ghost rule: { Rule Token Kind Tree };
+
+    ghost exact: { Exact kind rule };
 }
 
 /// All tokens are read as a tree exactly where they spell it, and refused at a token exactly where it fails.
 pub fn reads_its_language<G: Grammar>()
-    ensures { ReadsItsLanguage G.kind G.rule }
+    ensures { ReadsItsLanguage G.rule }
 {}
 
 /// All tokens spell one tree at most.
 pub fn one_tree<G: Grammar>()
-    ensures { OneTree G.kind G.rule }
+    ensures { OneTree G.rule.language }
 {}
 
 /// All tokens spell a tree, or there is a failing token.
 pub fn spelled_or_failing<G: Grammar>()
-    ensures { SpelledOrFailing G.kind G.rule }
+    ensures { SpelledOrFailing G.rule.language }
 {}
 
 /// There is one failing token at most, and it is the first one: fewer tokens begin the rule, and more don't.
 pub fn one_failing_token<G: Grammar>()
-    ensures { OneFailingToken G.kind G.rule }
+    ensures { OneFailingToken G.rule.language }
 {}
 
 /// A front of what begins a rule begins it.
 pub fn prefix_closed<G: Grammar>()
-    ensures { PrefixClosed G.kind G.rule }
+    ensures { PrefixClosed G.rule.language }
 {}
 
 /// Whether tokens begin a rule depends on those tokens alone, and not on what follows.
 pub fn begins_alone<G: Grammar>()
-    ensures { BeginsAlone G.kind G.rule }
+    ensures { BeginsAlone G.rule.language }
 {}

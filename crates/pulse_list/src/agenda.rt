@@ -20,10 +20,11 @@ pub trait Agenda {
 
     /// Makes room for `n` transitions, appended to any drivers.
     ///
-    /// `NoMemory` where there is no memory for them. The lists stay.
+    /// `NoMemory` where there is no memory for them. The lists stay, and room that was there already.
     fn reserve(&mut self, n: u32) -> Result<(), NoMemory>
         ensures room { OnOk result (n ≤ spare self.new) }
-        ensures lists { lists self.new ≡ lists self.old };
+        ensures lists { lists self.new ≡ lists self.old }
+        ensures spare { spare self.old ≤ spare self.new };
 
     /// Appends a transition to `driver`'s list, in room that was reserved. Its time is above all of the list.
     fn append(&mut self, driver: u32, time: u64, value: Value)

@@ -6,7 +6,7 @@ mod placing;
 mod plain;
 
 pub use agenda::Agenda;
-pub use placing::{place, place_inertial};
+pub use placing::{end_value, place, place_inertial};
 pub use plain::PlainAgenda;
 
 #[cfg(test)]

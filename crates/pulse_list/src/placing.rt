@@ -9,8 +9,8 @@ use crate::agenda::Agenda;
 use sg_delay::PulseStyle;
 use sg_logic::Value;
 
-// The value that the driver's net has in the end.
-fn end_value<A: Agenda>(agenda: &A, driver: u32, present: Value) -> Value
+/// The value that the driver's net has in the end: that of its latest transition, or else `present`, its value now.
+pub fn end_value<A: Agenda>(agenda: &A, driver: u32, present: Value) -> Value
     requires { driver < length (A.lists agenda.now) }
     ensures { result ≡ last_value (list_at (A.lists agenda.now) driver) present }
 {

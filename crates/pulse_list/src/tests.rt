@@ -228,6 +228,14 @@ fn inertial_delays(rt: HostRuntime) -> Result<(), Fail> {
 }
 
 #[test]
+fn room_for_a_million(rt: HostRuntime) -> Result<(), Fail> {
+    let mut agenda = PlainAgenda::new(rt.alloc(), 1)?;
+    assert_eq!(rt; agenda.reserve(1_000_000), Ok(()));
+    assert_eq!(rt; agenda.least(), None);
+    Ok(())
+}
+
+#[test]
 fn each_call(rt: HostRuntime) -> Result<(), Fail> {
     let mut agenda = PlainAgenda::new(rt.alloc(), 3)?;
     assert_eq!(rt; agenda.least(), None);

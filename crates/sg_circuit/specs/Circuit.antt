@@ -2,6 +2,7 @@
 use Rattle.std.specs.Prelude.{ℕ, ℤ, pos, List, [], Bool, false, Option, None, slice_index_or}
 use Rattle.sg_logic.specs.declared.values.Value.{Value}
 use Rattle.sg_logic.specs.declared.gates.GateKind.{GateKind}
+use Rattle.udp_rows.specs.Meaning.{Primitive}
 use Rattle.sg_circuit.specs.declared.nets.Net.{Net}
 use Rattle.sg_circuit.specs.declared.nets.Driver.TheVariants.{Nobody}
 use Rattle.sg_circuit.specs.declared.scopes.Range.{Range}
@@ -18,6 +19,8 @@ pub record Timing : Type 0 where
 pub data Kind : Type 0 where
   -- a gate, with no, one or two delays (7.1, 7.14)
   Gate : (kind : GateKind) (delays : List ℕ) → Kind
+  -- a user-defined primitive, with its state before time 0 and no, one or two delays (8.1, 8.5)
+  Udp : (primitive : Primitive) (first : Value) (delays : List ℕ) → Kind
   -- a continuous assignment: of a constant, or of the element's input (6.1)
   Pass : (constant : Option Value) → Kind
   -- the way to an input port's bit of an instance, with a timing for each of the twelve transitions (IEEE 1497-2001,

@@ -1,19 +1,24 @@
 -- What is so of every circuit: its parts fit together.
-use Rattle.std.specs.Prelude.{◌≡◌, ◌↔◌, ℕ, ◌+◌, ◌<◌, ◌≤◌, ◌^◌, ◌-ℤ◌, nat_abs, All, length, Option, Some, None, IfSome, IsSome}
+use Rattle.std.specs.Prelude.{◌≡◌, ◌↔◌, ℕ, ◌+◌, ◌<◌, ◌≤◌, ◌^◌, ◌-ℤ◌, nat_abs, All, List, length, Option, Some, None, IfSome, IsSome}
 use Rattle.sg_logic.specs.Gate.{TakesInputs as GateTakes}
 use Rattle.sg_circuit.specs.declared.nets.Driver.{Driver}
 use Rattle.sg_circuit.specs.declared.nets.Driver.TheVariants as driver
 use Rattle.sg_circuit.specs.declared.scopes.Range.{Range}
 use Rattle.sg_circuit.specs.declared.checks.CheckKind.{CheckKind}
 use Rattle.sg_circuit.specs.declared.checks.CheckKind.TheVariants.{Width, Period}
-use Rattle.sg_circuit.specs.Circuit.{Circuit, Timing, Kind, Gate, Pass, Leg, net_at, element_at, scope_at}
+use Rattle.sg_circuit.specs.Circuit.{Circuit, Timing, Kind, Gate, Udp, Pass, Leg, net_at, element_at, scope_at}
 
--- so many inputs an element of a kind has (IEEE 1364-2005, 6.1, 7.2, 7.3)
+-- so many inputs an element of a kind has (IEEE 1364-2005, 6.1, 7.2, 7.3, 8.1)
 abbrev pub TakesInputs : Kind → ℕ → Type 0
 TakesInputs (Gate kind delays) n = GateTakes kind n
+TakesInputs (Udp primitive first delays) n = n ≡ primitive.inputs
 TakesInputs (Pass None) n = n ≡ 1
 TakesInputs (Pass (Some value)) n = n ≡ 0
 TakesInputs (Leg timings) n = n ≡ 1
+
+-- no, one or two delays of a gate, in ticks (7.14, 8.6)
+abbrev pub AreGateDelays : List ℕ → Type 0
+AreGateDelays delays = (length delays ≤ 2) × All (λ d. d < 2 ^ 60) delays
 
 -- a delay and limits, in ticks: below 2^60, and what is lost is at most as long as what becomes x (14.6)
 pub record IsTiming (t : Timing) : Type 0 where
@@ -23,7 +28,8 @@ pub record IsTiming (t : Timing) : Type 0 where
 
 -- the delays that an element of a kind has (7.14, 14.2)
 abbrev pub HasDelays : Kind → Type 0
-HasDelays (Gate kind delays) = (length delays ≤ 2) × All (λ d. d < 2 ^ 60) delays
+HasDelays (Gate kind delays) = AreGateDelays delays
+HasDelays (Udp primitive first delays) = AreGateDelays delays
 HasDelays (Pass constant) = Unit {0}
 HasDelays (Leg timings) = (length timings ≡ 12) × All IsTiming timings
 

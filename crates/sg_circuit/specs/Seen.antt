@@ -1,10 +1,12 @@
 -- What the code's circuit stands for: its parts as lists, and each element with the delays that it names.
-use Rattle.std.specs.Prelude.{ℕ, ◌<◌, All, List, [], ◌∷◌, length, map, take, Option, Some, None, slice_index_or}
+use Rattle.std.specs.Prelude.{ℕ, ◌<◌, ◌≤◌, ◌^◌, false, All, List, [], ◌∷◌, length, map, take, Option, Some, None, slice_index_or}
+use Rattle.sg_logic.specs.declared.values.Value.TheVariants.{X}
 use Rattle.sg_delay.specs.declared.gates.GateDelays.{GateDelays}
 use Rattle.sg_delay.specs.declared.limits.Limit.{Limit}
 use Rattle.sg_delay.specs.declared.limits.Limit.TheVariants.{Follow, Own}
-use Rattle.sg_circuit.specs.Circuit.{Circuit, Timing, Kind, Gate, Pass, Leg, Element, Variable, Scope}
+use Rattle.sg_circuit.specs.Circuit.{Circuit, Timing, Kind, Gate, Udp, Pass, Leg, Element, Variable, Scope}
 use Rattle.sg_circuit.specs.declared.elements.LegTiming.{LegTiming}
+use Rattle.sg_circuit.specs.declared.elements.UdpUse.{UdpUse}
 use Rattle.sg_circuit.specs.declared.elements.ElementKind.{ElementKind}
 use Rattle.sg_circuit.specs.declared.elements.ElementKind.TheVariants as kind
 use Rattle.sg_circuit.specs.declared.elements.Element as code_element
@@ -19,9 +21,12 @@ gate_delays_seen d = take d.count d.at
 abbrev pub delays_at : List GateDelays → ℕ → List ℕ
 delays_at table i = slice_index_or (map (λ d. gate_delays_seen d) table) i []
 
+abbrev pub udp_at : List UdpUse → ℕ → UdpUse
+udp_at udps i = slice_index_or udps i (record { rows = record { inputs = 0; sequential = false; rows = [] }; first = X })
+
 abbrev pub limit_seen : Limit → Option (ℕ × ℕ)
 limit_seen Follow = None
-limit_seen (Own reject error) = Some (reject, error)
+limit_seen (Own widths) = Some (widths.reject, widths.error)
 
 -- the delays and the limits of the transitions, side by side
 abbrev pub timings_of : List ℕ → List Limit → List Timing
@@ -37,6 +42,7 @@ timings_at table i = slice_index_or (map (λ t. leg_timing_seen t) table) i []
 
 abbrev pub kind_seen : Parts → ElementKind → Kind
 kind_seen parts (kind.Gate gate delays) = Gate gate (delays_at parts.gate_delays.items delays)
+kind_seen parts (kind.Udp udp delays) = Udp (udp_at parts.udps.items udp).rows (udp_at parts.udps.items udp).first (delays_at parts.gate_delays.items delays)
 kind_seen parts (kind.Pass constant) = Pass constant
 kind_seen parts (kind.Leg timing) = Leg (timings_at parts.leg_timings.items timing)
 
@@ -69,8 +75,12 @@ circuit_seen parts = record {
 -- what an element's kind names stands in its table
 abbrev pub IsIndexed : Parts → ElementKind → Type 0
 IsIndexed parts (kind.Gate gate delays) = delays < length parts.gate_delays.items
+IsIndexed parts (kind.Udp udp delays) = (udp < length parts.udps.items) × (delays < length parts.gate_delays.items)
 IsIndexed parts (kind.Pass constant) = Unit {0}
 IsIndexed parts (kind.Leg timing) = timing < length parts.leg_timings.items
 
+-- the tables have what is named, and no more delays of a gate than two
 pub record AreIndexed (parts : Parts) : Type 0 where
-  pub each : All (λ e. IsIndexed parts e.kind) parts.elements.items
+  pub named : All (λ e. IsIndexed parts e.kind) parts.elements.items
+  pub few_udps : length parts.udps.items < 2 ^ 31
+  pub counts : All (λ d. d.count ≤ 2) parts.gate_delays.items

@@ -3,7 +3,7 @@ ghost use Rattle.std.specs.Prelude.{◌≡◌};
 ghost use Rattle.sg_circuit.specs.Closed.{IsClosed};
 ghost use Rattle.sg_circuit.specs.Seen.{circuit_seen, AreIndexed};
 
-use crate::{Check, Element, LegTiming, Net, Scope};
+use crate::{Check, Element, LegTiming, Net, Scope, UdpUse};
 use sg_delay::GateDelays;
 use sg_time::Unit;
 use std::marker::Model;
@@ -15,10 +15,12 @@ pub struct Parts {
     pub tick: Unit,
     pub nets: Vec<Net>,
     pub elements: Vec<Element>,
-    /// The delays that gates have, each once.
+    /// The delays that gates and primitives have, each once.
     pub gate_delays: Vec<GateDelays>,
     /// The delays and limits that legs have, each once.
     pub leg_timings: Vec<LegTiming>,
+    /// The user-defined primitives that elements are instances of, each once.
+    pub udps: Vec<UdpUse>,
     pub checks: Vec<Check>,
     pub scopes: Vec<Scope>,
 }

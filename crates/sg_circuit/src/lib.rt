@@ -12,7 +12,7 @@ mod scopes;
 pub use building::{Pin, add_pins};
 pub use checks::{Check, CheckKind, Terminal};
 pub use circuits::{Circuit, Parts};
-pub use elements::{Element, ElementKind, LegTiming};
+pub use elements::{Element, ElementKind, LegTiming, UdpUse};
 pub use fan_out::FanOut;
 pub use nets::{Driver, Net, NetId};
 pub use scopes::{Port, Range, Scope, Variable};

@@ -2,17 +2,17 @@
 use Rattle.std.proofs.Common.{◌≡◌, refl, [], ◌∷◌, Ok, Err}
 use Rattle.sg_logic.specs.declared.values.Value.TheVariants.{Zero, One, X, Z}
 use Rattle.sg_delay.specs.declared.expansion.DelayError.TheVariants.{BadCount}
-use Rattle.sg_delay.specs.Expansion.{expanded}
+use Rattle.sg_delay.specs.Expansion.{delays_of}
 use Rattle.sg_delay.specs.GateDelay.{delay_to}
 
 -- in the order 01 10 0z z1 1z z0 0x x1 1x x0 xz zx
-of_six_delays : expanded (1 ∷ 2 ∷ 3 ∷ 4 ∷ 5 ∷ 6 ∷ []) ≡ Ok (record { at = 1 ∷ 2 ∷ 3 ∷ 4 ∷ 5 ∷ 6 ∷ 1 ∷ 4 ∷ 2 ∷ 6 ∷ 5 ∷ 4 ∷ [] })
+of_six_delays : delays_of (1 ∷ 2 ∷ 3 ∷ 4 ∷ 5 ∷ 6 ∷ []) ≡ Ok (record { at = 1 ∷ 2 ∷ 3 ∷ 4 ∷ 5 ∷ 6 ∷ 1 ∷ 4 ∷ 2 ∷ 6 ∷ 5 ∷ 4 ∷ [] })
 of_six_delays = refl
 
-of_three_delays : expanded (2 ∷ 3 ∷ 4 ∷ []) ≡ Ok (record { at = 2 ∷ 3 ∷ 4 ∷ 2 ∷ 4 ∷ 3 ∷ 2 ∷ 2 ∷ 3 ∷ 3 ∷ 4 ∷ 2 ∷ [] })
+of_three_delays : delays_of (2 ∷ 3 ∷ 4 ∷ []) ≡ Ok (record { at = 2 ∷ 3 ∷ 4 ∷ 2 ∷ 4 ∷ 3 ∷ 2 ∷ 2 ∷ 3 ∷ 3 ∷ 4 ∷ 2 ∷ [] })
 of_three_delays = refl
 
-of_four_delays : expanded (1 ∷ 1 ∷ 1 ∷ 1 ∷ []) ≡ Err BadCount
+of_four_delays : delays_of (1 ∷ 1 ∷ 1 ∷ 1 ∷ []) ≡ Err BadCount
 of_four_delays = refl
 
 rise : delay_to (7 ∷ 4 ∷ []) One ≡ 7

@@ -48,5 +48,5 @@ of_six (Some d) = Ok (record { at = map (delay_of d) transitions })
 of_six None = Err BadCount
 
 -- twelve delays are those of the transitions themselves
-abbrev pub expanded : List ℕ → Result Delays12 DelayError
-expanded list = if length list == 12 then Ok (record { at = list }) else of_six (six list)
+abbrev pub delays_of : List ℕ → Result Delays12 DelayError
+delays_of list = if length list == 12 then Ok (record { at = list }) else of_six (six list)

@@ -2,4 +2,3 @@
 pub mod Corners
 pub mod Expansion
 pub mod GateDelay
-pub mod Limits

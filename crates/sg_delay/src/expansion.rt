@@ -1,7 +1,7 @@
 // The delays of the twelve transitions, from the lists that spell them.
 ghost use Rattle.std.specs.Prelude.{◌≡◌, ◌↔◌, IsOk, length};
 ghost use Rattle.std.specs.List.{Contains};
-ghost use Rattle.sg_delay.specs.Expansion.{expanded, list_lengths, of_six, six};
+ghost use Rattle.sg_delay.specs.Expansion.{delays_of, list_lengths, of_six, six};
 
 use thiserror::Error;
 
@@ -58,7 +58,7 @@ fn from_six(list: &[u64]) -> Result<Delays12, DelayError>
 /// The delays of all transitions, from a list of 1, 2, 3, 6 or 12: of all; of rises and falls; of rises, falls and turns
 /// to z; of the changes between 0, 1 and z; of all transitions in the order of `Trans`. Else BadCount.
 pub fn expand(list: &[u64]) -> Result<Delays12, DelayError>
-    ensures delays { result ≡ expanded list.now }
+    ensures delays { result ≡ delays_of list.now }
     ensures count { IsOk result ↔ Contains list_lengths (length list.now) }
 {
     match <[u64; 12]>::try_from(list) {

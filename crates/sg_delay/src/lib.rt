@@ -11,4 +11,4 @@ mod tests;
 pub use corners::{Corner, Triple};
 pub use expansion::{DelayError, Delays12, expand};
 pub use gates::{GateDelays, gate_delay};
-pub use limits::{Limit, Limits12, PulseStyle};
+pub use limits::{Limit, Limits12, PulseStyle, Widths};

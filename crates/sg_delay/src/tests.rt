@@ -1,9 +1,7 @@
-use crate::{
-    Corner, DelayError, Delays12, GateDelays, Limit, Limits12, PulseStyle, Triple, expand,
-    gate_delay,
-};
+use crate::{Corner, DelayError, Delays12, GateDelays, Triple, expand, gate_delay};
 use sg_logic::Value;
 use sg_time::Decimal;
+use std::test::Fail;
 
 // In the order 01 10 0z z1 1z z0 0x x1 1x x0 xz zx.
 #[test]
@@ -41,6 +39,13 @@ fn lists_of_other_lengths(rt: HostRuntime) {
             "{count}"
         );
     }
+}
+
+#[test]
+fn the_error_as_it_is_written(rt: HostRuntime) -> Result<(), Fail> {
+    let text = format!(in rt.alloc(); "{}", DelayError::BadCount)?;
+    assert_eq!(rt; text.as_str(), "not 1, 2, 3, 6 or 12 delays");
+    Ok(())
 }
 
 #[test]

@@ -1,6 +1,6 @@
 -- The definitions at small values.
 use Rattle.std.specs.Prelude.{ℕ, ◌≡◌, ◌-◌, ◌^◌, List, [], ◌∷◌, Some, None, codes, refl}
-use Rattle.sg_io.specs.Faults.{raised}
+use Rattle.sg_io.specs.Faults.{next_count}
 use Rattle.sg_io.specs.Files.{File, bytes_of, content_of}
 use Rattle.sg_io.specs.Listed.{Calls, fails_after, after_call}
 
@@ -34,5 +34,5 @@ the_last_listing_holds = refl
 the_next_call_has_the_next_number : after_call (calls_at 3) ≡ calls_at 4
 the_next_call_has_the_next_number = refl
 
-a_counter_stays_at_its_last_value : raised (2 ^ 64 - 1) ≡ 2 ^ 64 - 1
+a_counter_stays_at_its_last_value : next_count (2 ^ 64 - 1) ≡ 2 ^ 64 - 1
 a_counter_stays_at_its_last_value = refl

@@ -1,7 +1,7 @@
 -- Calls that are numbered from 0, and the list of those that are to fail.
 use Rattle.std.specs.Prelude.{ℕ, ◌==◌, List, [], ◌∷◌, ◌++◌, Option, find, reverse}
 use Rattle.std.specs.Option.{option_map}
-use Rattle.sg_io.specs.Faults.{raised}
+use Rattle.sg_io.specs.Faults.{next_count}
 use Rattle.sg_io.specs.declared.listed.FailingCall.{FailingCall}
 
 -- how many calls were made, as far as the counter goes, and those that are to fail, in the order in which they were listed
@@ -15,7 +15,7 @@ fails_after calls = option_map (λ f. f.taken) (find (λ f. f.call == calls.made
 
 -- one call more was made
 abbrev pub after_call : Calls → Calls
-after_call calls = record calls { made = raised calls.made }
+after_call calls = record calls { made = next_count calls.made }
 
 -- one listing more
 abbrev pub with_listing : Calls → ℕ → ℕ → Calls

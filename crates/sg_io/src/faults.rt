@@ -21,7 +21,7 @@ impl Model for Faults {
 }
 
 impl Faults {
-    ghost use Rattle.sg_io.specs.Faults.{raised, Rises};
+    ghost use Rattle.sg_io.specs.Faults.{next_count, Rises};
 
     // No call failed.
     pub fn new() -> Self
@@ -35,7 +35,7 @@ impl Faults {
 
     // A call on this name failed.
     pub fn note(&mut self, name: String)
-        ensures told { self.new ≡ record { count = raised self.old.count; last = Some (string_bytes name) } }
+        ensures told { self.new ≡ record { count = next_count self.old.count; last = Some (string_bytes name) } }
         ensures rises { Rises self.old.count self.new.count }
     {
         self.count = self.count.saturating_add(1);

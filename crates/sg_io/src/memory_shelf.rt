@@ -1,5 +1,5 @@
 // A shelf in memory. It tells the files that it holds, and its calls fail where they are listed.
-ghost use Rattle.std.specs.Prelude.{◌≡◌, [], OnOk, OnErr, None, option_copied};
+ghost use Rattle.std.specs.Prelude.{◌≡◌, ◌≤◌, [], IfOk, OnOk, OnErr, None, option_copied, vec_len};
 
 use crate::faults::Faults;
 use crate::held::HeldFiles;
@@ -83,9 +83,9 @@ impl MemoryShelf {
 impl Shelf for MemoryShelf {
     ghost use Rattle.std.specs.Prelude.{Some};
     ghost use Rattle.sg_io.specs.Files.{bytes_of, HasDistinctNames};
-    ghost use Rattle.sg_io.specs.Faults.{Cause, NamesFault, ReadCause, NamesReadFault};
+    ghost use Rattle.sg_io.specs.Faults.{Cause, NamesFault, end_of_read};
     ghost use Rattle.sg_io.specs.Listed.{fails_after, after_call};
-    ghost use Rattle.sg_io.specs.Memory.{ReadsListed, CreatesListed, AppendsListed, told_after, told_after_read};
+    ghost use Rattle.sg_io.specs.Memory.{ReadsListed, CreatesListed, AppendsListed, told_after};
 
     ghost files = { λ s. Some s.files };
 
@@ -95,11 +95,13 @@ impl Shelf for MemoryShelf {
 
     fn read(&mut self, alloc: Global, name: &str, limit: u64) -> Result<Vec<u8>, ReadError>
         ensures bytes { ReadsListed (fails_after self.old.calls) (bytes_of name.now self.old.files) limit result }
+        ensures limit { IfOk result (λ bytes. vec_len bytes ≤ limit) }
         ensures held { self.new.files ≡ self.old.files }
+        ensures distinct { HasDistinctNames self.old.files }
         ensures calls { self.new.calls ≡ after_call self.old.calls }
-        ensures faults { self.new.faults ≡ told_after_read name.now self.old.faults result }
-        ensures cause { ReadCause self.old.faults.count self.new.faults.count result }
-        ensures named { NamesReadFault name.now self.old.faults.last self.new.faults.last result }
+        ensures faults { self.new.faults ≡ told_after name.now self.old.faults (end_of_read result) }
+        ensures cause { Cause self.old.faults.count self.new.faults.count (end_of_read result) }
+        ensures named { NamesFault name.now self.old.faults.last self.new.faults.last (end_of_read result) }
     {
         if self.calls.next().is_some() {
             let copy = String::from_str(self.alloc, name)?;
@@ -114,7 +116,7 @@ impl Shelf for MemoryShelf {
 
     fn create(&mut self, name: &str) -> Result<(), ShelfError>
         ensures held { CreatesListed (fails_after self.old.calls) name.now result self.old.files self.new.files }
-        ensures distinct { HasDistinctNames self.new.files }
+        ensures distinct { HasDistinctNames self.old.files × HasDistinctNames self.new.files }
         ensures calls { self.new.calls ≡ after_call self.old.calls }
         ensures faults { self.new.faults ≡ told_after name.now self.old.faults result }
         ensures cause { Cause self.old.faults.count self.new.faults.count result }
@@ -131,7 +133,7 @@ impl Shelf for MemoryShelf {
 
     fn append(&mut self, name: &str, bytes: &[u8]) -> Result<(), ShelfError>
         ensures held { AppendsListed (fails_after self.old.calls) name.now bytes.now result self.old.files self.new.files }
-        ensures distinct { HasDistinctNames self.new.files }
+        ensures distinct { HasDistinctNames self.old.files × HasDistinctNames self.new.files }
         ensures calls { self.new.calls ≡ after_call self.old.calls }
         ensures faults { self.new.faults ≡ told_after name.now self.old.faults result }
         ensures cause { Cause self.old.faults.count self.new.faults.count result }

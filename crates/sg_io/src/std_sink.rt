@@ -1,8 +1,9 @@
 // The trusted edge: standard output. Nothing is told of what reaches it.
 ghost use Rattle.std.specs.Prelude.{◌≡◌};
 
+use crate::streams::write_whole;
 use crate::{ShelfError, Sink};
-use std::io::{self, Write};
+use std::io;
 use std::marker::Model;
 
 /// Standard output. A contract sees it as the count of its failed calls.
@@ -32,13 +33,11 @@ impl<'a, R: Print> StdSink<'a, R> {
 impl<R: Print> Sink for StdSink<'_, R> {
     ghost use Rattle.std.specs.Prelude.{None};
 
-    ghost contents = { λ _. None };
-
-    ghost fault_count = { λ s. s };
+    ghost told = { λ faults. record { contents = None; faults = faults; wants = 0 } };
 
     fn put(&mut self, bytes: &[u8]) -> Result<(), ShelfError> {
         let mut out = io::writer(self.rt);
-        if out.write_all(bytes).is_ok() && out.flush().is_ok() {
+        if write_whole(&mut out, bytes) {
             Ok(())
         } else {
             self.faults = self.faults.saturating_add(1);

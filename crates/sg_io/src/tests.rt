@@ -1,8 +1,10 @@
 // Each public function once, and what a failing call leaves.
+use crate::streams::{read_opened, write_whole};
 use crate::*;
 use sg_text::NoMemory;
 use std::alloc::Global;
 use std::fs;
+use std::io::{self, ErrorKind, Read, Write};
 use std::test::Fail;
 
 // A shelf that holds one file, and whose listed calls fail.
@@ -46,6 +48,7 @@ fn a_shelf_in_memory_reads_up_to_the_limit(rt: HostRuntime) -> Result<(), Fail> 
     let mut shelf = shelf_of(alloc, "a.v", b"module", &[])?;
     assert!(rt; reads(alloc, &mut shelf, "a.v", 3, b"mod")?);
     assert!(rt; reads(alloc, &mut shelf, "a.v", 100, b"module")?);
+    assert!(rt; reads(alloc, &mut shelf, "a.v", 0, b"")?);
     assert_eq!(rt;
         shelf.read(alloc, "b.v", 100).err(),
         Some(ReadError::Missing)
@@ -117,6 +120,101 @@ fn files_of_the_system_come_back_as_written(rt: HostRuntime) -> Result<(), Fail>
     fs::remove_file(&rt, name)?;
     assert_eq!(rt; shelf.failed(), None);
     assert_eq!(rt; shelf.faults(), 0);
+    Ok(())
+}
+
+// Appends so many bytes to a new file; how many are read back, up to the limit.
+fn long_file<S: Shelf>(
+    alloc: Global,
+    shelf: &mut S,
+    name: &str,
+    len: usize,
+    limit: u64,
+) -> Result<usize, ReadError> {
+    let bytes = vec![in alloc; b'7'; len]?;
+    if shelf.create(name).is_err() || shelf.append(name, &bytes).is_err() {
+        return Err(ReadError::Failed);
+    }
+    Ok(shelf.read(alloc, name, limit)?.len())
+}
+
+#[test]
+fn files_of_many_blocks_and_of_none(rt: HostRuntime) -> Result<(), Fail> {
+    let alloc = rt.alloc();
+    let name = "sg_io_long.tmp";
+    let mut shelf = FileShelf::new(alloc, &rt);
+    assert_eq!(rt;
+        long_file(alloc, &mut shelf, name, 150_000, 200_000),
+        Ok(150_000)
+    );
+    assert_eq!(rt;
+        long_file(alloc, &mut shelf, name, 150_000, 140_000),
+        Ok(140_000)
+    );
+    assert_eq!(rt; long_file(alloc, &mut shelf, name, 0, 9), Ok(0));
+    fs::remove_file(&rt, name)?;
+    Ok(())
+}
+
+// A reader that gives two bytes a read, and fails where they end.
+#[derive(Drop)]
+struct Stuttering(u8);
+
+impl Read for Stuttering {
+    fn read(&mut self, buf: &mut [u8]) -> io::Result<usize> {
+        match buf {
+            [first, second, ..] if self.0 > 0 => {
+                self.0 -= 1;
+                *first = b'a';
+                *second = b'b';
+                Ok(2)
+            }
+            _ => Err(io::Error::from(ErrorKind::Other)),
+        }
+    }
+}
+
+// A writer that takes two bytes a write, and none where it is full.
+#[derive(Drop)]
+struct Narrow(u8);
+
+impl Write for Narrow {
+    fn write(&mut self, buf: &[u8]) -> io::Result<usize> {
+        let taken = buf.len().min(usize::from(self.0)).min(2);
+        self.0 -= taken as u8;
+        Ok(taken)
+    }
+
+    fn flush(&mut self) -> io::Result<()> {
+        Ok(())
+    }
+}
+
+#[test]
+fn short_reads_and_writes_go_on(rt: HostRuntime) -> Result<(), Fail> {
+    let alloc = rt.alloc();
+    let read = read_opened(alloc, Ok(Stuttering(3)), 6)?;
+    assert_eq!(rt; read.as_slice(), b"ababab".as_slice());
+    assert_eq!(rt;
+        read_opened(alloc, Ok(Stuttering(3)), 8).err(),
+        Some(ReadError::Failed)
+    );
+    assert!(rt; write_whole(&mut Narrow(5), b"seven".as_slice()));
+    assert!(rt; !write_whole(&mut Narrow(4), b"seven".as_slice()));
+    Ok(())
+}
+
+#[test]
+fn errors_as_they_are_written(rt: HostRuntime) -> Result<(), Fail> {
+    for (error, want) in [
+        (ReadError::Missing, "there is no such file"),
+        (ReadError::Failed, "the call failed"),
+        (ReadError::NoMemory, "no memory"),
+    ] {
+        assert_eq!(rt; format!(in rt.alloc(); "{error}")?.as_str(), want);
+    }
+    let text = format!(in rt.alloc(); "{}, {}", ShelfError::Failed, ShelfError::NoMemory)?;
+    assert_eq!(rt; text.as_str(), "the call failed, no memory");
     Ok(())
 }
 

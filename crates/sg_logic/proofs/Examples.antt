@@ -1,4 +1,4 @@
--- What the two edges are, and some gates and transitions.
+-- The changes of the two edges, and some gates and transitions.
 use Rattle.std.proofs.Common.{◌≡◌, refl, List, [], ◌∷◌, Some, None}
 use Rattle.std.specs.Prelude.{filter}
 use Rattle.sg_logic.specs.declared.values.Value.{Value}

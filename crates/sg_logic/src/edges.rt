@@ -1,4 +1,4 @@
-// Sets of changes of a value.
+// Edges: sets of changes of a value.
 ghost use Rattle.std.specs.Prelude.{◌≡◌};
 ghost use Rattle.sg_logic.specs.Edges.{has_change};
 
@@ -10,12 +10,12 @@ pub struct Edge {
     pub has: [bool; 6],
 }
 
-/// The changes 01, 0x and x1.
+/// The changes 01, 0x and x1: `directions_of_edges` says what they have in common.
 pub const POSEDGE: Edge = Edge {
     has: [true, false, true, true, false, false],
 };
 
-/// The changes 10, 1x and x0.
+/// The changes 10, 1x and x0: likewise.
 pub const NEGEDGE: Edge = Edge {
     has: [false, true, false, false, true, true],
 };

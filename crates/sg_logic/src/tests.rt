@@ -1,3 +1,4 @@
+// Tables of the standard, whole, and each public function once.
 use crate::{Edge, GateKind, NEGEDGE, POSEDGE, Trans, Value, edge_matches, gate};
 
 const VALUES: [Value; 4] = [Value::Zero, Value::One, Value::X, Value::Z];
@@ -31,11 +32,11 @@ fn gates_of_three_inputs(rt: HostRuntime) {
 
 #[test]
 fn gates_of_one_input(rt: HostRuntime) {
-    let inverted = [Value::One, Value::Zero, Value::X, Value::X];
-    let passed = [Value::Zero, Value::One, Value::X, Value::X];
+    let inverses = [Value::One, Value::Zero, Value::X, Value::X];
+    let same = [Value::Zero, Value::One, Value::X, Value::X];
     for k in 0..4 {
-        assert_eq!(rt; gate(GateKind::Buf, &[VALUES[k]]), passed[k]);
-        assert_eq!(rt; gate(GateKind::Not, &[VALUES[k]]), inverted[k]);
+        assert_eq!(rt; gate(GateKind::Buf, &[VALUES[k]]), same[k]);
+        assert_eq!(rt; gate(GateKind::Not, &[VALUES[k]]), inverses[k]);
     }
 }
 
@@ -106,5 +107,26 @@ fn transitions_of_all_values(rt: HostRuntime) {
                 "{from} to {to}"
             );
         }
+    }
+}
+
+#[test]
+fn places_of_transitions(rt: HostRuntime) {
+    let order = [
+        Trans::T01,
+        Trans::T10,
+        Trans::T0z,
+        Trans::Tz1,
+        Trans::T1z,
+        Trans::Tz0,
+        Trans::T0x,
+        Trans::Tx1,
+        Trans::T1x,
+        Trans::Tx0,
+        Trans::Txz,
+        Trans::Tzx,
+    ];
+    for (place, transition) in order.iter().enumerate() {
+        assert_eq!(rt; transition.place(), place, "{transition:?}");
     }
 }

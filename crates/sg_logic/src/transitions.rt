@@ -1,7 +1,7 @@
-// The changes of a net's value, each with a name of its own.
+// The twelve transitions of a net's value, each with a name of its own.
 use crate::Value;
 
-/// A change from the first value to the second.
+/// A change from the first value to the second, in the order of a list of twelve delays (IEEE 1364-2005, 14.3.1).
 #[derive(Clone, Copy, Debug, PartialEq, Eq)]
 pub enum Trans {
     T01,
@@ -39,8 +39,8 @@ macro_rules! table {
 }
 
 impl Trans {
-    ghost use Rattle.std.specs.Prelude.{◌≡◌, ◌↔◌, IsNone};
-    ghost use Rattle.sg_logic.specs.Transitions.{transition};
+    ghost use Rattle.std.specs.Prelude.{◌≡◌, ◌<◌, ◌↔◌, IsNone, Some, slice_get};
+    ghost use Rattle.sg_logic.specs.Transitions.{transition, transitions};
 
     /// The change from one value to another; None where they are equal.
     pub fn of(from: Value, to: Value) -> Option<Trans>
@@ -53,5 +53,13 @@ impl Trans {
             X: Tx0 Tx1 - Txz;
             Z: Tz0 Tz1 Tzx -;
         }
+    }
+
+    /// Its place in a list of twelve delays, from 0.
+    pub fn place(self) -> usize
+        ensures place { slice_get transitions result ≡ Some self }
+        ensures within { result < 12 }
+    {
+        self as usize
     }
 }

@@ -1,4 +1,5 @@
-//! Places in files, texts, refusals, and the words that no plain name may be.
+//! The source files of a design, as their readers share them: where a byte stands, the texts that are kept, why a file is
+//! refused, and the reserved words.
 #![tactic(auto)]
 
 mod places;

@@ -27,6 +27,20 @@ fn a_text_is_its_bytes(rt: HostRuntime) -> Result<(), Fail> {
     assert_eq!(rt; text.bytes(), b"U1.Y".as_slice());
     assert!(rt; text == Text::copy(rt.alloc(), b"U1.Y")?);
     assert!(rt; text != Text::copy(rt.alloc(), b"U1.y")?);
+    let empty = Text::copy(rt.alloc(), b"")?;
+    assert_eq!(rt; empty.bytes(), b"".as_slice());
+    Ok(())
+}
+
+#[test]
+fn errors_as_they_are_written(rt: HostRuntime) -> Result<(), Fail> {
+    let place = Place { file: 2, byte: 30 };
+    let fault = Refused::Fault { kind: 'k', place };
+    let fault = format!(in rt.alloc(); "{fault}")?;
+    assert_eq!(rt; fault.as_str(), "'k' at byte 30 of file 2");
+    let no_memory: Refused<char> = Refused::NoMemory;
+    let no_memory = format!(in rt.alloc(); "{no_memory}, {NoMemory}")?;
+    assert_eq!(rt; no_memory.as_str(), "no memory, no memory");
     Ok(())
 }
 

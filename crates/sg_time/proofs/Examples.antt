@@ -3,7 +3,7 @@ use Rattle.std.proofs.Common.{rules, inl, ◌≡◌, refl, Ok, Err, Some, None, 
 use Rattle.std.specs.Prelude.{codes, pos, negsuc}
 use Rattle.sg_time.specs.declared.decimal.TimeError.TheVariants as error
 use Rattle.sg_time.specs.Spelling.{none, minus, Spelling, Says}
-use Rattle.sg_time.specs.Ticks.{rounded, ticks, percentage}
+use Rattle.sg_time.specs.Ticks.{nearest, ticks, percentage}
 
 -- -1_0.50e1 is -1050 * 10^-1
 ten_and_a_half : Says (codes "-1_0.50e1") (Ok (record { negative = true; digits = 1050; exponent = negsuc 0 }))
@@ -17,10 +17,10 @@ nineteen_digits =
     let s : Spelling = record { sign = none; whole = codes "001000000000000000000"; fraction = None; power = None } in
     (s, record { whole = (refl, refl); fraction = tt; some = search rules; power = tt }, refl, refl)
 
-halves_go_up : rounded 25 10 ≡ 3
+halves_go_up : nearest 25 10 ≡ 3
 halves_go_up = refl
 
-less_goes_down : rounded 249 100 ≡ 2
+less_goes_down : nearest 249 100 ≡ 2
 less_goes_down = refl
 
 -- 0.0125 ns in ps

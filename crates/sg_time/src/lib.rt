@@ -9,5 +9,4 @@ mod tests;
 mod units;
 
 pub use decimal::{Decimal, TimeError};
-pub use reading::{run_len, sign_of};
 pub use units::{Scale, Unit};

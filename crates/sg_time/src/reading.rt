@@ -1,4 +1,4 @@
-// The parts of a decimal, from the left.
+// Reads a decimal: its parts, from the left.
 ghost use Rattle.std.specs.Prelude.{◌≡◌, ◌+◌, ◌-◌, ◌*◌, ◌^◌, ◌<◌, ◌≤◌, length, filter, count_by, IfSome, IfNone, pos, ◌≤ℤ◌, ◌+ℤ◌, ◌-ℤ◌, unwrap_or, [], ◌++◌, true, false};
 ghost use Rattle.std.specs.Option.{option_map};
 ghost use Rattle.std.specs.List.{prefix_len};
@@ -17,8 +17,8 @@ fn is_run_byte(b: u8) -> bool
     b.is_ascii_digit() || b == b'_'
 }
 
-/// Whether a minus stands at the front, and what is behind the sign.
-pub fn sign_of(bytes: &[u8]) -> (bool, &[u8])
+// Whether a minus stands at the front, and what is behind the sign.
+fn sign_of(bytes: &[u8]) -> (bool, &[u8])
     ensures negative { result.0 ≡ is_minus (sign_at bytes.now).0 }
     ensures rest { result.1.now ≡ (sign_at bytes.now).1 }
 {
@@ -37,8 +37,8 @@ fn tail_len(bytes: &[u8]) -> usize
     bytes.iter().take_while(|b| is_run_byte(**b)).count()
 }
 
-/// How many bytes at the front are a digit and then digits and `_`.
-pub fn run_len(bytes: &[u8]) -> usize
+// How many bytes at the front are a digit and then digits and `_`.
+fn run_len(bytes: &[u8]) -> usize
     ensures size { result ≡ run_len bytes.now }
     ensures within { result ≤ length bytes.now }
 {

@@ -1,5 +1,7 @@
-use crate::{Decimal, Scale, TimeError, Unit, run_len, sign_of};
+// Decimals and ticks worked by hand, and each public function once.
+use crate::{Decimal, Scale, TimeError, Unit};
 use std::process::Abort;
+use std::test::Fail;
 
 const FS: Unit = Unit { power: -15 };
 
@@ -155,10 +157,13 @@ fn percent_of_ticks(rt: HostRuntime) {
 }
 
 #[test]
-fn fronts_of_a_text(rt: HostRuntime) {
-    assert_eq!(rt; run_len(b"1_0.5"), 3);
-    assert_eq!(rt; run_len(b"_1"), 0);
-    let (negative, rest) = sign_of(b"-5");
-    assert!(rt; negative);
-    assert_eq!(rt; rest, b"5".as_slice());
+fn errors_as_they_are_written(rt: HostRuntime) -> Result<(), Fail> {
+    for (error, want) in [
+        (TimeError::NotANumber, "not a number"),
+        (TimeError::TooManyDigits, "more than 18 digits"),
+        (TimeError::TooLarge, "2^60 ticks or more"),
+    ] {
+        assert_eq!(rt; format!(in rt.alloc(); "{error}")?.as_str(), want);
+    }
+    Ok(())
 }

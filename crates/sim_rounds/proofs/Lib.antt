@@ -10,3 +10,15 @@ pub mod PendingLaws
 pub mod EveryLaws
 pub mod TimeLaws
 pub mod MachineLaws
+pub mod CallLaws
+pub mod RunLaws
+pub mod EndLaws
+pub mod DueLaws
+pub mod ToldLaws
+pub mod NamingLaws
+pub mod SimulationLaws
+pub mod TimingLaws
+pub mod DelayLaws
+pub mod ElementLaws
+pub mod StepLaws
+pub mod SimulatedLaws

@@ -1,21 +1,23 @@
 -- The machine of a circuit keeps what the model and the engine ask of a machine.
-use Rattle.std.specs.Prelude.{◌≡◌, ◌≢◌, ℕ, zero, suc, ◌+◌, ◌<◌, ◌≤◌, All, List, [], ◌∷◌, length, map, Option, Some, None, slice_index_or, refl}
+use Rattle.std.specs.Prelude.{◌≡◌, ◌≢◌, Bool, true, false, if◌then◌else◌, ℕ, zero, suc, ◌+◌, ◌<◌, ◌≤◌, All, List, [], ◌∷◌, length, map, Option, Some, None, slice_index_or, refl}
 use Rattle.std.proofs.Common.{sym, ◌∙◌, ap, subst, arith}
 use Rattle.std.proofs.lemmas.List.{length-map, get_or-map, get_or_default}
 use Rattle.std.proofs.lemmas.List.Elements.{All-map}
 use Rattle.sg_logic.specs.declared.values.Value.{Value}
 use Rattle.sg_logic.specs.Gate.{gate_value}
-use Rattle.sg_delay.specs.GateDelay.{delay_to}
+use Rattle.udp_rows.specs.declared.cells.RawRow.{RawRow}
+use Rattle.udp_rows.specs.Meaning.{udp_next, state_after, after_step, step_of, input_value, combinational_value}
+use Rattle.sg_model.proofs.PlacingSteps.{same-self}
 use Rattle.sg_model.specs.Values.{value_at}
 use Rattle.sg_model.specs.Machine.{Machine, Stamp, IsNoOutput, AreOutputs}
 use Rattle.sg_model.specs.Quiet.{IsLawful}
 use Rattle.sg_model.specs.FanOut.{IsSteady, AgreeAt}
 use Rattle.sg_circuit.specs.declared.nets.Driver.{Driver}
 use Rattle.sg_circuit.specs.declared.nets.Driver.TheVariants as driver
-use Rattle.sg_circuit.specs.Circuit.{Circuit, Element, Kind, Gate, Pass, Leg, element_at, net_at}
+use Rattle.sg_circuit.specs.Circuit.{Circuit, Element, Kind, Gate, Udp, Pass, Leg, element_at, net_at}
 use Rattle.sg_circuit.specs.Closed.{IsClosed}
 use Rattle.sim_rounds.specs.Rounds.{IsLater, time_of_rule}
-use Rattle.sim_rounds.specs.Simulated.{machine_of, values_at, value_of_kind, rule_of_kind, leg_rule, timing_between}
+use Rattle.sim_rounds.specs.Simulated.{machine_of, values_at, value_of_kind, rule_of_kind}
 
 pub lawful : (circuit : Circuit) → IsLawful (machine_of circuit)
 lawful circuit = record { quiet = λ now last values older. refl; unnamed = refl }
@@ -25,9 +27,23 @@ pub read_same : (nets : List ℕ) (vs ws : List Value) → AgreeAt nets vs ws �
 read_same [] vs ws a = refl
 read_same (net ∷ nets) vs ws a = ap (λ v. v ∷ values_at nets vs) a.0 ∙ ap (λ xs. value_at ws net ∷ xs) (read_same nets vs ws a.1)
 
+-- a primitive whose inputs stay has its state
+unchanged_state : (rows : List RawRow) (values : List Value) (state : Value) (n : ℕ) → state_after rows values values state n ≡ state
+unchanged_state rows values state zero = refl
+unchanged_state rows values state (suc n) =
+    ap (λ b. if b then state_after rows values values state n else after_step rows (step_of values values (state_after rows values values state n) n)) (same-self (input_value values n) (input_value values n) refl)
+    ∙ unchanged_state rows values state n
+
+udp_stays : (sequential : Bool) (rows : List RawRow) (n : ℕ) (a b : List Value) (s : Value)
+    → (if sequential then state_after rows b b (if sequential then state_after rows a b s n else combinational_value rows (input_value b)) n else combinational_value rows (input_value b))
+    ≡ (if sequential then state_after rows a b s n else combinational_value rows (input_value b))
+udp_stays true rows n a b s = unchanged_state rows b (state_after rows a b s n) n
+udp_stays false rows n a b s = refl
+
 -- computed again from inputs that stayed, a value stays
 kind_same : (kind : Kind) (a b d : List Value) (s : Value) → b ≡ d → value_of_kind kind b d (value_of_kind kind a b s) ≡ value_of_kind kind a b s
 kind_same (Gate kind delays) a b d s e = ap (gate_value kind) (sym e)
+kind_same (Udp primitive first delays) a b d s e = ap (λ vs. udp_next primitive b vs (udp_next primitive a b s)) (sym e) ∙ udp_stays primitive.sequential primitive.rows primitive.inputs a b s
 kind_same (Pass None) a b d s e = ap (λ vs. value_at vs 0) (sym e)
 kind_same (Pass (Some value)) a b d s e = refl
 kind_same (Leg timings) a b d s e = ap (λ vs. value_at vs 0) (sym e)
@@ -45,14 +61,11 @@ steady circuit = record {
 }
 
 -- no value is placed before now
-leg_later : (now delay : ℕ) (limits : Option (ℕ × ℕ)) → now ≤ time_of_rule (leg_rule now delay limits)
-leg_later now delay None = omega arith
-leg_later now delay (Some limits) = omega arith
-
 kind_later : (kind : Kind) (now : ℕ) (from to : Value) → now ≤ time_of_rule (rule_of_kind kind now from to)
 kind_later (Gate kind delays) now from to = omega arith
+kind_later (Udp primitive first delays) now from to = omega arith
 kind_later (Pass constant) now from to = omega arith
-kind_later (Leg timings) now from to = leg_later now (timing_between timings from to).delay (timing_between timings from to).limits
+kind_later (Leg timings) now from to = omega arith
 
 pub later : (circuit : Circuit) → IsLater (machine_of circuit)
 later circuit = record { later = λ now e values stamps from to. kind_later (element_at circuit e).kind now from to }

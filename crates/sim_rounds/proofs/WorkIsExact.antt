@@ -15,10 +15,10 @@ use Rattle.sim_rounds.proofs.NetLaws.{changed-within}
 use Rattle.sim_rounds.proofs.WorkLaws.{length-with_marks, length-with_readers, count_marks-length}
 
 -- either holds, or one after the other
-or_left : (a b : Bool) → a ≡ true → (a || b) ≡ true
+pub or_left : (a b : Bool) → a ≡ true → (a || b) ≡ true
 or_left a b e = ap (λ c. c || b) e
 
-or_right : (a b : Bool) → b ≡ true → (a || b) ≡ true
+pub or_right : (a b : Bool) → b ≡ true → (a || b) ≡ true
 or_right true b e = refl
 or_right false b e = e
 
@@ -62,7 +62,7 @@ mark_set marks x e l = elim (cases_eq x e) [
     or_no true = refl
     or_no false = refl
 
-mark_with : (es : List ℕ) (marks : List Bool) (e : ℕ) → e < length marks → mark_at (with_marks es marks) e ≡ (mark_at marks e || has e es)
+pub mark_with : (es : List ℕ) (marks : List Bool) (e : ℕ) → e < length marks → mark_at (with_marks es marks) e ≡ (mark_at marks e || has e es)
 mark_with [] marks e l = or_no (mark_at marks e)
   where
     or_no : (b : Bool) → b ≡ (b || false)

@@ -6,5 +6,15 @@ pub mod Rounds
 pub mod States
 pub mod Simulated
 pub mod CircuitLaws
+pub mod Pulses
+pub mod Inputs
+pub mod Elements
 pub mod Times
 pub mod Watching
+pub mod Runs
+pub mod Told
+pub mod Naming
+pub mod Checks
+pub mod Simulations
+pub mod Steps
+pub mod Skipping

@@ -4,6 +4,7 @@ use Rattle.sg_logic.specs.declared.values.Value.{Value}
 use Rattle.sg_logic.specs.declared.values.Value.TheVariants.{X, Z}
 use Rattle.sg_logic.specs.Gate.{gate_value}
 use Rattle.sg_logic.specs.Transitions.{transitions, goes}
+use Rattle.udp_rows.specs.Meaning.{udp_next}
 use Rattle.sg_delay.specs.GateDelay.{delay_to}
 use Rattle.sg_model.specs.Values.{value_at}
 use Rattle.sg_model.specs.Pending.{OnEvent}
@@ -11,7 +12,7 @@ use Rattle.sg_model.specs.Machine.{Machine, State, Rule, Inertial, Pulse}
 use Rattle.sg_model.specs.Run.{Finished, run_of}
 use Rattle.sg_circuit.specs.declared.nets.Driver.{Driver}
 use Rattle.sg_circuit.specs.declared.nets.Driver.TheVariants as driver
-use Rattle.sg_circuit.specs.Circuit.{Circuit, Timing, Kind, Gate, Pass, Leg, element_at}
+use Rattle.sg_circuit.specs.Circuit.{Circuit, Timing, Kind, Gate, Udp, Pass, Leg, element_at}
 use Rattle.stim_read.specs.Stimulus.{Stimulus, sets_at}
 
 -- the values of some nets
@@ -19,9 +20,10 @@ abbrev pub values_at : List ℕ → List Value → List Value
 values_at nets values = map (value_at values) nets
 
 -- the value of an element of a kind, from its inputs' values before and after a round and its last value (IEEE
--- 1364-2005, 6.1, 7.2, 7.3)
+-- 1364-2005, 6.1, 7.2, 7.3, clause 8)
 abbrev pub value_of_kind : Kind → List Value → List Value → Value → Value
 value_of_kind (Gate kind delays) before after state = gate_value kind after
+value_of_kind (Udp primitive first delays) before after state = udp_next primitive before after state
 value_of_kind (Pass None) before after state = value_at after 0
 value_of_kind (Pass (Some value)) before after state = value
 value_of_kind (Leg timings) before after state = value_at after 0
@@ -34,20 +36,29 @@ timing_at timings (Some place) = slice_index_or timings place (record { delay = 
 abbrev pub timing_between : List Timing → Value → Value → Timing
 timing_between timings from to = timing_at timings (position (goes from to) transitions)
 
--- a leg's value comes after its delay, by the pulse rule; limits that no text gives are the delay (14.6, 14.6.4.1)
-abbrev pub leg_rule : ℕ → ℕ → Option (ℕ × ℕ) → Rule
-leg_rule now delay None = Pulse (now + delay) delay delay OnEvent
-leg_rule now delay (Some limits) = Pulse (now + delay) limits.0 limits.1 OnEvent
+-- the limits of a transition's pulses; those that no text gives are its delay (14.6)
+abbrev pub limits_or : ℕ → Option (ℕ × ℕ) → ℕ × ℕ
+limits_or delay None = (delay, delay)
+limits_or delay (Some limits) = limits
 
--- by which rule an element of a kind places a value: now, from the value that its list ends with to the new one (6.1, 7.14)
+abbrev pub limits_of : Timing → ℕ × ℕ
+limits_of timing = limits_or timing.delay timing.limits
+
+-- the pulse rule; an error pulse shows from its leading edge on (14.6.4.1)
+abbrev pub leg_rule : ℕ → Timing → Rule
+leg_rule now timing = Pulse (now + timing.delay) (limits_of timing).0 (limits_of timing).1 OnEvent
+
+-- by which rule an element of a kind places a value: now, from the value that its list ends with to the new one (6.1, 7.14, 8.6)
 abbrev pub rule_of_kind : Kind → ℕ → Value → Value → Rule
 rule_of_kind (Gate kind delays) now from to = Inertial (now + delay_to delays to)
+rule_of_kind (Udp primitive first delays) now from to = Inertial (now + delay_to delays to)
 rule_of_kind (Pass constant) now from to = Inertial now
-rule_of_kind (Leg timings) now from to = leg_rule now (timing_between timings from to).delay (timing_between timings from to).limits
+rule_of_kind (Leg timings) now from to = leg_rule now (timing_between timings from to)
 
--- the value that an element of a kind has before time 0
+-- the value that an element of a kind computed last, before time 0: a primitive's first state (8.5)
 abbrev pub first_of_kind : Kind → Value
 first_of_kind (Gate kind delays) = X
+first_of_kind (Udp primitive first delays) = first
 first_of_kind (Pass constant) = X
 first_of_kind (Leg timings) = X
 

@@ -1,5 +1,5 @@
 -- The nets and the work list of an engine between rounds, and the circuit that it runs.
-use Rattle.std.specs.Prelude.{◌≡◌, ℕ, ◌<◌, ◌≤◌, ◌^◌, false, All, List, [], length, map, replicate}
+use Rattle.std.specs.Prelude.{◌≡◌, ℕ, Bool, ◌<◌, ◌≤◌, ◌^◌, false, All, List, [], length, map, replicate}
 use Rattle.std.specs.Vec.{vec_capacity}
 use Rattle.sg_logic.specs.declared.values.Value.{Value}
 use Rattle.sg_model.specs.Machine.{Machine, State, AreOutputs}
@@ -43,6 +43,15 @@ pub record IsReady (m : Machine) (fan : List (List ℕ)) (driven : List ℕ) (ne
   pub circuit : IsOfCircuit m fan driven (length nets.values.items) (length lists)
   pub state_of_each : length states ≡ length lists
   pub settled : AreSettled m nets.values.items lists states
+  pub nets_are : AreNets nets
+  pub idle : IsIdle work (length lists)
+  pub in_order : ArePending driven nets.values.items lists now
+
+-- the engine is ready for the first round of all, which evaluates every element, or for a later one
+pub record IsReadyFor (all : Bool) (m : Machine) (fan : List (List ℕ)) (driven : List ℕ) (nets : Nets) (work : WorkList) (lists : List (List (ℕ × Value))) (states : List Value) (now : ℕ) : Type 0 where
+  pub circuit : IsOfCircuit m fan driven (length nets.values.items) (length lists)
+  pub state_of_each : length states ≡ length lists
+  pub settled : all ≡ false → AreSettled m nets.values.items lists states
   pub nets_are : AreNets nets
   pub idle : IsIdle work (length lists)
   pub in_order : ArePending driven nets.values.items lists now

@@ -9,11 +9,11 @@ ghost use Rattle.stim_read.specs.Seen.{set_seen};
 ghost use Rattle.sim_rounds.specs.Nets.{stamp_seen, AreChanged, AreNets};
 
 use crate::lists::{add, remove};
-use stim_read::Set;
 use pulse_list::Agenda;
 use sg_logic::Value;
 use sg_text::NoMemory;
 use std::alloc::Global;
+use stim_read::Set;
 
 /// A net's last change.
 #[derive(Clone, Copy)]

@@ -1,23 +1,23 @@
 // One round: what is due takes effect, and the elements with a changed input are evaluated.
-ghost use Rattle.std.specs.Prelude.{◌≡◌, ◌+◌, ◌<◌, ◌≤◌, ◌^◌, All, IfOk, OnErr, OnOk, length, map};
+ghost use Rattle.std.specs.Prelude.{◌≡◌, ◌+◌, ◌<◌, ◌≤◌, ◌^◌, All, IfOk, OnErr, OnOk, if◌then◌else◌, length, map};
 ghost use Rattle.sg_model.specs.Agenda.{NothingBelow};
 ghost use Rattle.sg_model.specs.Round.{each_from, element_list, element_value, round as round_of};
 ghost use Rattle.sg_model.specs.Time.{count_differing};
 ghost use Rattle.stim_read.specs.Seen.{set_seen};
 ghost use Rattle.sim_rounds.specs.Nets.{stamp_seen, AreNets};
 ghost use Rattle.sim_rounds.specs.Rounds.{AreHanded, ArePending, StaysElsewhere};
-ghost use Rattle.sim_rounds.specs.States.{state_seen, IsIdle, IsOfCircuit, IsReady};
+ghost use Rattle.sim_rounds.specs.States.{state_seen, IsIdle, IsOfCircuit, IsReady, IsReadyFor};
 ghost use Rattle.sg_circuit.specs.FanOut.{IsFanOut};
 
 use crate::evaluation::{Elements, evaluate_all};
-use sg_circuit::FanOut;
 use crate::nets::{Nets, change_nets};
-use stim_read::Set;
 use crate::work::{WorkList, clear_work, list_every, list_work};
 use pulse_list::Agenda;
+use sg_circuit::FanOut;
 use sg_steps::Steps;
 use sg_text::NoMemory;
 use std::sync::ledger::Ledger;
+use stim_read::Set;
 
 // The elements with a changed input are evaluated. It answers how many these are.
 fn evaluate_work<A: Agenda, L: Ledger, E: Elements<A, L>>(
@@ -180,4 +180,45 @@ pub fn first_round<A: Agenda, L: Ledger, E: Elements<A, L>>(
     let count = outputs.len() as u32;
     evaluate_every(nets, work, elements, agenda, now, count, steps)?;
     Ok(count)
+}
+
+/// A round: the first of all, or a later one. It answers how many elements it evaluates, each in one step, and leaves
+/// what evaluating all would.
+///
+/// `NoMemory` as of [`round`].
+pub fn make_round<A: Agenda, L: Ledger, E: Elements<A, L>>(
+    nets: &mut Nets,
+    work: &mut WorkList,
+    elements: &mut E,
+    agenda: &mut A,
+    outputs: &[u32],
+    fan: &FanOut,
+    now: u64,
+    all: bool,
+    handed: &[Set],
+    steps: &mut Steps<L>,
+) -> Result<u32, NoMemory>
+    requires ready { IsReadyFor all (E.machine elements.old) fan.now outputs.now nets.old work.old (A.lists agenda.old) (E.states elements.old) now }
+    requires net_count { E.net_count elements.old ≡ length nets.old.values.items }
+    requires now { now < 2 ^ 60 }
+    requires within { All (λ c. c.net < length nets.old.values.items) handed.now }
+    requires handed { AreHanded outputs.now (map (λ c. set_seen c) handed.now) }
+    ensures machine { E.machine elements.new ≡ E.machine elements.old }
+    ensures net_count { E.net_count elements.new ≡ E.net_count elements.old }
+    ensures state { OnOk result (state_seen nets.new (A.lists agenda.new) (E.states elements.new)
+        ≡ round_of (E.machine elements.old) now (map (λ c. set_seen c) handed.now) (state_seen nets.old (A.lists agenda.old) (E.states elements.old))) }
+    ensures before { OnOk result (nets.new.before.items ≡ nets.old.values.items) }
+    ensures ready { OnOk result (IsReady (E.machine elements.old) fan.now outputs.now nets.new work.new (A.lists agenda.new) (E.states elements.new) now) }
+    ensures count { IfOk result (λ n. n ≡ (if all then length (E.machine elements.old).inputs else count_differing nets.old.values.items nets.new.values.items (E.machine elements.old).inputs)) }
+    ensures steps { IfOk result (λ n. steps.new ≡ steps.old + n) }
+    ensures no_step { OnErr result (steps.new ≡ steps.old) }
+{
+    if all {
+        return first_round(
+            nets, work, elements, agenda, outputs, fan, now, handed, steps,
+        );
+    }
+    round(
+        nets, work, elements, agenda, outputs, fan, now, handed, steps,
+    )
 }

@@ -1,5 +1,5 @@
 // The rounds of one time.
-ghost use Rattle.std.specs.Prelude.{◌≡◌, ℕ, ◌+◌, ◌^◌, ◌<◌, Bool, List, [], false, not, true, IfOk, OnErr, OnOk};
+ghost use Rattle.std.specs.Prelude.{◌≡◌, ℕ, ◌+◌, ◌^◌, ◌<◌, ◌≤◌, Bool, List, [], false, not, true, IfOk, OnErr, OnOk};
 ghost use Rattle.std.specs.Bool.{OnFalse, OnTrue};
 ghost use Rattle.sg_logic.specs.declared.values.Value.{Value as NetValue};
 ghost use Rattle.sg_model.specs.Machine.{Machine};
@@ -73,7 +73,8 @@ pub trait Rounds<L: Ledger> {
         ensures handed { OnOk result (handed self.new ≡ []) }
         ensures ready { OnOk result (ready self.new false now) }
         ensures counted { OnErr result (counted self.new ≡ counted self.old) }
-        ensures no_step { OnErr result (steps.new ≡ steps.old) };
+        ensures no_step { OnErr result (steps.new ≡ steps.old) }
+        ensures steps { steps.old ≤ steps.new };
 
     /// Takes a snapshot, hands in the toggles of the notifiers, and answers whether there is any.
     fn snapshot(&mut self, now: u64) -> Result<bool, NoMemory>
@@ -110,6 +111,7 @@ fn make_turn<L: Ledger, R: Rounds<L>>(
     requires now { now < 2 ^ 60 }
     ensures machine { R.machine rounds.new ≡ R.machine rounds.old }
     ensures kept { R.kept rounds.new ≡ R.kept rounds.old }
+    ensures steps { steps.old ≤ steps.new }
     ensures turned { TurnEnds (R.machine rounds.old) now must (R.handed rounds.old) (R.stands rounds.old) (R.stands rounds.new) (R.counted rounds.new) steps.old steps.new result }
     ensures handed { OnRound result (R.handed rounds.new ≡ []) }
     ensures ready { OnRound result (R.ready rounds.new false now) }
@@ -131,6 +133,7 @@ fn toggle<L: Ledger, R: Rounds<L>>(rounds: &mut R, now: u64, steps: &mut Steps<L
     requires now { now < 2 ^ 60 }
     ensures machine { R.machine rounds.new ≡ R.machine rounds.old }
     ensures kept { R.kept rounds.new ≡ R.kept rounds.old }
+    ensures steps { steps.old ≤ steps.new }
     ensures toggled { ToggleEnds (R.machine rounds.old) now (R.stands rounds.old) (R.stands rounds.new) (R.counted rounds.new) steps.old steps.new result }
     ensures handed { OnRound result (R.handed rounds.new ≡ []) }
     ensures ready { OnRound result (R.ready rounds.new false now) }
@@ -187,6 +190,7 @@ pub fn make_time<L: Ledger, R: Rounds<L>>(
     requires bound { 0 < bound }
     ensures machine { R.machine rounds.new ≡ R.machine rounds.old }
     ensures kept { R.kept rounds.new ≡ R.kept rounds.old }
+    ensures steps { steps.old ≤ steps.new }
     ensures ended { RoundsEnd bound (R.machine rounds.old) now first (R.handed rounds.old) (R.stands rounds.old) (R.stands rounds.new) (R.counted rounds.new) steps.old steps.new result }
     ensures over { OnWhole result (R.ready rounds.new false (now + 1)) }
 {

@@ -3,9 +3,9 @@ ghost use Rattle.std.specs.Prelude.{◌≡◌, ℕ, ◌<◌, ◌≤◌, All, Lis
 ghost use Rattle.sg_io.specs.Faults.{Cause, NamesFault};
 ghost use Rattle.sim_rounds.specs.Watching.{Call, call_of};
 
-use time_checks::Change;
 use cond_expr::Nets;
 use sg_io::{Shelf, ShelfError};
+use time_checks::Change;
 
 /// Is told of times, and may write to a shelf.
 ///

@@ -5,8 +5,8 @@ ghost use Rattle.sim_rounds.specs.Lists.{IsListOf};
 ghost use Rattle.sim_rounds.specs.States.{IsIdle};
 ghost use Rattle.sim_rounds.specs.Work.{with_marks, with_readers, AreMarked, AreReaders, IsWorkOf};
 
-use sg_circuit::FanOut;
 use crate::lists::add;
+use sg_circuit::FanOut;
 use sg_text::NoMemory;
 use std::alloc::Global;
 
@@ -45,8 +45,8 @@ fn mark(element: u32, marks: &mut [bool], work: &mut Vec<u32>)
     add(work, element);
 }
 
-// The readers of a net are marked and listed.
-fn mark_all(readers: &[u32], marks: &mut [bool], work: &mut Vec<u32>)
+/// These are marked, and listed where they were not yet.
+pub fn mark_all(readers: &[u32], marks: &mut [bool], work: &mut Vec<u32>)
     requires readers { All (λ e. e < length marks.old) readers.now }
     requires room { length marks.old ≤ vec_capacity work.old }
     requires marked { AreMarked marks.old work.old.items }

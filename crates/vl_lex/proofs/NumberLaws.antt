@@ -6,7 +6,7 @@ use Rattle.std.specs.Char.{is_ascii_digit}
 use Rattle.std.proofs.lemmas.Bool.{cases_Bool, eqb-true, eqb-false, ne_eqb, and_parts, or_cases, false_from_ne_true}
 use Rattle.std.proofs.lemmas.List.{take-append-drop, length-take, length-take-le, append-nil}
 use Rattle.std.proofs.Math.Seq.{take-append_seam, drop-append_seam, take-append-add}
-use Rattle.sg_time.specs.Spelling.{Sign, none, plus, minus, sign_bytes, IsRun, is_run_byte, Power, IsPower, power_bytes, fraction_bytes, Spelling, IsSpelling, spelled}
+use Rattle.sg_time.specs.Spelling.{Sign, none, plus, minus, sign_bytes, IsRun, is_run_byte, Power, IsPower, power_bytes, fraction_bytes, Spelling, IsSpelling, spelling_bytes}
 use Rattle.sg_time.specs.Reading.{sign_at, run_len, parts_of}
 use Rattle.sg_time.proofs.Laws.{parts_found, parts_again, run_found, run_again, stops_power, sign_found, sign_again, power_mark, StopsSign, digit_stops_sign}
 use Rattle.vl_lex.specs.Pieces.{has_number, is_unsigned}
@@ -123,7 +123,7 @@ power_front (b ∷ bs) = elim (cases_Bool ((b == 101) || (b == 69))) [
   ]
 ]
 
-spelled_has : (bytes : List ℕ) (s : Spelling) → IsSpelling s → is_unsigned s.sign ≡ true → bytes ≡ spelled s → has_number (parts_of bytes) ≡ true
+spelled_has : (bytes : List ℕ) (s : Spelling) → IsSpelling s → is_unsigned s.sign ≡ true → bytes ≡ spelling_bytes s → has_number (parts_of bytes) ≡ true
 spelled_has bytes s h u e = rw (e, parts_again s h) u
 
 form_behind : (w bs : List ℕ) → IsRun w → 0 < behind_run (length w) bs → has_number (parts_of (take (behind_run (length w) bs) (w ++ bs))) ≡ true
@@ -232,7 +232,7 @@ mark_no_point : (m : ℕ) → (m ≡ 101) ⊎ (m ≡ 69) → (m == 46) ≡ false
 mark_no_point m (inl e) = rw e refl
 mark_no_point m (inr e) = rw e refl
 
--- a spelled number is within the number that is found where it stands
+-- a spelling_bytes number is within the number that is found where it stands
 number_least : (w : List ℕ) (f : Option (List ℕ)) (p : Option Power) (z : List ℕ) → IsRun w → IfSome f IsRun → IfSome p IsPower → 0 < length w + length (unwrap_or f [])
     → length (w ++ (fraction_bytes f ++ power_bytes p)) ≤ number_len ((w ++ (fraction_bytes f ++ power_bytes p)) ++ z)
 number_least w None None z hw hf hp some = rw append-nil (whole_least w z hw (omega arith))

@@ -6,7 +6,7 @@ use Rattle.signoff.proofs.answer.top.Goals as goal
 
 -- what was told, where the name of the last fault is that of the shelf
 told : (g : given.Over) (c : goal.Joined-end g) → Tells (text_of_end (g.S.Shelf.last_fault c.work-end.new.shelf) c.work-end.result) (status_of_end c.work-end.result) (g.K.Sink.fault_count c.args.report.now) (g.K.Sink.fault_count c.tell.new.report) (g.K.Sink.contents c.args.report.now) (g.K.Sink.contents c.tell.new.report) c.tell.result
-told g c = subst (λ n. Tells (text_of_end n c.work-end.result) (status_of_end c.work-end.result) (g.K.Sink.fault_count c.args.report.now) (g.K.Sink.fault_count c.tell.new.report) (g.K.Sink.contents c.args.report.now) (g.K.Sink.contents c.tell.new.report) c.tell.result) c.failed.ensures c.tell.ensures
+told g c = subst (λ n. Tells (text_of_end n c.work-end.result) (status_of_end c.work-end.result) (g.K.Sink.fault_count c.args.report.now) (g.K.Sink.fault_count c.tell.new.report) (g.K.Sink.contents c.args.report.now) (g.K.Sink.contents c.tell.new.report) c.tell.result) c.failed.ensures.last c.tell.ensures
 
 pub returns-clause-answer : goal.returns-clause-answer
 returns-clause-answer g c = answers _ c.work-end.result _ _ _ _ _ _ _ _ c.work-end.ensures.left (told g c)

@@ -1,0 +1,6 @@
+-- A failed write adds nothing.
+use Rattle.std.specs.Io.KnownBytes.{Keeps}
+use Rattle.sg_io.proofs.streams.write_some.Given as goal
+
+abbrev pub invariant-loop : goal.invariant-loop
+invariant-loop g l = Keeps (g.W.Write.contents l.initial.writer) (g.W.Write.contents l.writer)

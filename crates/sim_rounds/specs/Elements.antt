@@ -1,0 +1,17 @@
+-- What the code of an element stands for.
+use Rattle.std.specs.Prelude.{◌≡◌, ℕ, ◌<◌, ◌≤◌, All, List, length}
+use Rattle.sg_circuit.specs.Circuit.{Circuit, element_at}
+use Rattle.sg_circuit.specs.Closed.{TakesInputs, HasDelays}
+use Rattle.sg_circuit.specs.Seen.{kind_seen, element_seen, IsIndexed}
+use Rattle.sg_circuit.specs.declared.elements.Element as code_element
+use Rattle.sg_circuit.specs.declared.circuits.Parts.{Parts}
+
+-- the element of a number, among the parts of a circuit
+pub record IsElement (circuit : Circuit) (parts : Parts) (number : ℕ) (item : code_element.Element) : Type 0 where
+  pub known : number < length circuit.elements
+  pub at : element_at circuit number ≡ element_seen parts item
+  pub inputs : All (λ n. n < length circuit.nets) item.inputs.items
+  pub output : item.output < length circuit.nets
+  pub takes : TakesInputs (kind_seen parts item.kind) (length item.inputs.items)
+  pub delays : HasDelays (kind_seen parts item.kind)
+  pub indexed : IsIndexed parts item.kind

@@ -1,0 +1,128 @@
+// The simulation of a circuit, round by round.
+ghost use Rattle.std.specs.Prelude.{◌≡◌};
+
+use crate::checks::Checks;
+use crate::evaluation::Elements;
+use crate::naming::least_net;
+use crate::nets::{Nets, change_nets};
+use crate::pending::is_any_due;
+use crate::rounds::make_round;
+use crate::times::Rounds;
+use crate::told::{Told, touch};
+use crate::work::WorkList;
+use pulse_list::Agenda;
+use sg_circuit::{FanOut, NetId};
+use sg_steps::Steps;
+use sg_text::NoMemory;
+use std::sync::ledger::Ledger;
+use stim_read::{Set, Stimulus};
+use time_checks::{Change, Violation};
+
+/// A simulation between two rounds.
+#[derive(Drop)]
+pub struct Simulation<'a, A, E, C> {
+    pub(super) nets: Nets,
+    pub(super) told: Told,
+    pub(super) work: WorkList,
+    pub(super) elements: E,
+    pub(super) agenda: A,
+    pub(super) checks: C,
+    pub(super) fan: FanOut,
+    // the net that each element drives
+    pub(super) outputs: Vec<NetId>,
+    pub(super) stimulus: &'a Stimulus,
+    // what is handed in to the next round
+    pub(super) handed: Vec<Set>,
+    pub(super) violations: Vec<Violation>,
+    // how many of them are of times that ended
+    pub(super) ended: usize,
+    pub(super) evaluations: u64,
+    // what the last time changed, and the last time that changed anything
+    pub(super) changes: Vec<Change>,
+    pub(super) last: u64,
+}
+
+impl<L: Ledger, A: Agenda + Drop, E: Elements<A, L>, C: Checks> Rounds<L>
+    for Simulation<'_, A, E, C>
+{
+    ghost use Rattle.std.specs.Prelude.{map};
+    ghost use Rattle.stim_read.specs.Seen.{set_seen, stimulus_seen};
+    ghost use Rattle.sim_rounds.specs.Naming.{Moves};
+    ghost use Rattle.sim_rounds.specs.Simulations.{kept_of, IsReadyAt, StandsFor};
+    ghost use Rattle.sim_rounds.specs.States.{state_seen};
+
+    ghost machine = { λ s. E.machine s.elements };
+
+    ghost stands = { λ s r. StandsFor s.nets (A.lists s.agenda) (E.states s.elements) (C.stands s.checks) s.violations.items s.evaluations r };
+
+    ghost ready = { λ s all now. IsReadyAt all now (E.machine s.elements) (E.net_count s.elements) s.fan s.outputs.items s.nets s.told s.work (A.lists s.agenda) (E.states s.elements) (C.violated s.checks) (C.notifiers s.checks) s.handed.items s.ended s.violations.items };
+
+    ghost handed = { λ s. map (λ c. set_seen c) s.handed.items };
+
+    ghost counted = { λ s. s.evaluations };
+
+    ghost moves = { λ s now. Moves (E.machine s.elements) now (map (λ c. set_seen c) s.handed.items) (state_seen s.nets (A.lists s.agenda) (E.states s.elements)) };
+
+    ghost kept = { λ s. kept_of s.told s.ended s.violations.items s.last (stimulus_seen s.stimulus.now) };
+
+    ghost counts = { λ s r h. h.evaluations };
+
+    fn needs(&mut self, now: u64, must: bool) -> bool {
+        if must {
+            return true;
+        }
+        if !self.handed.is_empty() {
+            return true;
+        }
+        is_any_due(&mut self.agenda, now)
+    }
+
+    fn round(&mut self, now: u64, all: bool, steps: &mut Steps<L>) -> Result<(), NoMemory> {
+        let count = make_round(
+            &mut self.nets,
+            &mut self.work,
+            &mut self.elements,
+            &mut self.agenda,
+            &self.outputs,
+            &self.fan,
+            now,
+            all,
+            &self.handed,
+            steps,
+        )?;
+        touch(
+            &mut self.told,
+            &self.nets.changed,
+            &self.nets.before,
+            &self.nets.values,
+        );
+        self.evaluations = self.evaluations.saturating_add(count as u64);
+        self.handed.clear();
+        Ok(())
+    }
+
+    fn snapshot(&mut self, now: u64) -> Result<bool, NoMemory> {
+        self.handed.clear();
+        self.checks.see(
+            now,
+            &self.nets.values,
+            &mut self.violations,
+            &mut self.handed,
+        )?;
+        Ok(!self.handed.is_empty())
+    }
+
+    fn name(&mut self, now: u64) -> u32 {
+        if !self.nets.changed.is_empty() {
+            return least_net(&self.nets.changed);
+        }
+        change_nets(
+            &mut self.nets,
+            &mut self.agenda,
+            &self.outputs,
+            now,
+            &self.handed,
+        );
+        least_net(&self.nets.changed)
+    }
+}

@@ -1,0 +1,51 @@
+// What the stimulus does at a time.
+ghost use Rattle.std.specs.Prelude.{◌≡◌, ℕ, ◌<◌, ◌≤◌, [], OnOk, map};
+ghost use Rattle.stim_read.specs.Applied.{StepsRise};
+ghost use Rattle.stim_read.specs.Seen.{set_seen, stimulus_seen};
+ghost use Rattle.stim_read.specs.Stimulus.{sets_at};
+ghost use Rattle.sim_rounds.specs.Steps.{Splits};
+
+use sg_text::NoMemory;
+use stim_read::{Set, Stimulus};
+
+// How many steps come before a time.
+fn steps_before(stimulus: &Stimulus, time: u64) -> usize
+    requires { StepsRise (stimulus_seen stimulus.now).steps }
+    ensures { Splits stimulus.now.steps.items time result }
+{
+    stimulus.steps.partition_point(|s| s.time < time)
+}
+
+/// What the stimulus sets at a time.
+pub fn sets_of<'a>(stimulus: &'a Stimulus, now: u64) -> &'a [Set]
+    requires { StepsRise (stimulus_seen stimulus.now).steps }
+    ensures { map (λ c. set_seen c) result.now ≡ sets_at (stimulus_seen stimulus.now).steps now }
+{
+    match stimulus.steps.get(steps_before(stimulus, now)) {
+        Some(step) if step.time == now => &step.sets,
+        _ => &[],
+    }
+}
+
+/// The time of the first step after now, or else the latest that is asked for.
+pub fn next_step(stimulus: &Stimulus, now: u64, latest: u64) -> u64
+    requires rising { StepsRise (stimulus_seen stimulus.now).steps }
+    requires now { now < latest }
+    ensures later { now < result }
+    ensures within { result ≤ latest }
+    ensures quiet { (t : ℕ) → now < t → t < result → sets_at (stimulus_seen stimulus.now).steps t ≡ [] }
+{
+    match stimulus.steps.get(steps_before(stimulus, now + 1)) {
+        Some(step) => step.time.min(latest),
+        None => latest,
+    }
+}
+
+/// These and no others are handed in.
+pub fn hand_in(handed: &mut Vec<Set>, sets: &[Set]) -> Result<(), NoMemory>
+    ensures { OnOk result (handed.new.items ≡ sets.now) }
+{
+    handed.clear();
+    handed.extend_from_slice(sets)?;
+    Ok(())
+}
