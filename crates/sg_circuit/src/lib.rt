@@ -10,7 +10,7 @@ mod fitting;
 mod nets;
 mod scopes;
 
-pub use building::Pin;
+pub use building::{Pin, add_pins};
 pub use checks::{Check, CheckKind, Terminal};
 pub use circuits::{Circuit, Parts};
 pub use elements::{Element, ElementKind, LegTiming, UdpUse};

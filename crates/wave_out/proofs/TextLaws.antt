@@ -1,9 +1,9 @@
 -- Texts that grow piece by piece.
 use Rattle.std.proofs.Common.{◌≡◌, ◌∙◌, sym, ap, refl, ℕ, suc, ◌+◌, ◌<◌, ◌≤◌, List, [], ◌∷◌, ◌++◌, length, drop, get_or, map, arith, add-one, append_assoc}
-use Rattle.std.proofs.lemmas.List.{append-nil, drop_more, drop_all, length-map}
-use Rattle.std.specs.Prelude.{◌&&◌}
+use Rattle.std.proofs.lemmas.List.{append-nil, drop_more, get_or-map, length-map}
+use Rattle.std.specs.Prelude.{◌&&◌, codes}
 use Rattle.std.specs.List.{list_all}
-use Rattle.wave_out.specs.Texts.{is_name_start, is_name_byte, is_simple, numbered}
+use Rattle.wave_out.specs.Texts.{is_name_start, is_name_byte, is_simple, line, numbered}
 
 -- a name with a first byte
 pub is_simple_first : (name : List ℕ) → 1 ≤ length name → is_simple name ≡ is_name_start (get_or name 0 0) && list_all is_name_byte (drop 1 name)
@@ -24,21 +24,21 @@ pub add_five : {t u v w x : List ℕ} (start a b c d e : List ℕ) → t ≡ sta
     → x ≡ start ++ (a ++ b ++ c ++ d ++ e)
 add_five start a b c d e p q r s last = add_two start (a ++ b ++ c ++ d) e (add_four start a b c d p q r s) last
 
--- a text that the texts of the things from the i-th on complete is so after one more
-pub numbered_step : {A : Type 0} (f : ℕ → A → List ℕ) (text whole : List ℕ) (xs : List A) (k i : ℕ) (d : A) → i < length xs
-    → text ++ numbered f (k + i) (drop i xs) ≡ whole → (text ++ f (k + i) (get_or xs i d)) ++ numbered f (k + (i + 1)) (drop (i + 1) xs) ≡ whole
-numbered_step f text whole xs k i d l e =
-    append_assoc text (f (k + i) (get_or xs i d)) (numbered f (k + (i + 1)) (drop (i + 1) xs))
-    ∙ (ap (λ n. text ++ (f (k + i) (get_or xs i d) ++ numbered f n (drop (i + 1) xs))) (let s : k + (i + 1) ≡ suc (k + i) = omega arith in s)
-    ∙ (ap (λ ys. text ++ numbered f (k + i) ys) (sym (drop_more xs i d l)) ∙ e))
+-- a line that ends with the word of an end
+pub line_end : (text : List ℕ) → line (text ++ codes " $end") ≡ text ++ codes " $end\n"
+line_end text = append_assoc text (codes " $end") (10 ∷ [])
 
-pub numbered_end : {A : Type 0} (f : ℕ → A → List ℕ) (text whole : List ℕ) (xs : List A) (k i : ℕ) → length xs ≤ i
-    → text ++ numbered f (k + i) (drop i xs) ≡ whole → text ≡ whole
-numbered_end f text whole xs k i l e = sym (append-nil text) ∙ (ap (λ ys. text ++ numbered f (k + i) ys) (sym (drop_all i xs l)) ∙ e)
+-- a text that the texts of the things from the i-th on complete, which are numbered from j, is so after one more
+pub numbered_step : {A : Type 0} (f : ℕ → A → List ℕ) (text whole : List ℕ) (xs : List A) (i j j' : ℕ) (d : A) → i < length xs → j' ≡ suc j
+    → text ++ numbered f j (drop i xs) ≡ whole → (text ++ f j (get_or xs i d)) ++ numbered f j' (drop (i + 1) xs) ≡ whole
+numbered_step f text whole xs i j j' d l n e =
+    append_assoc text (f j (get_or xs i d)) (numbered f j' (drop (i + 1) xs))
+    ∙ (ap (λ m. text ++ (f j (get_or xs i d) ++ numbered f m (drop (i + 1) xs))) n
+    ∙ (ap (λ ys. text ++ numbered f j ys) (sym (drop_more xs i d l)) ∙ e))
 
 -- the same with the text after the line, and with things that are seen otherwise in the code
-pub numbered_next : {A C : Type 0} (f : ℕ → A → List ℕ) (g : C → A) (text more whole : List ℕ) (xs : List C) (k i : ℕ) (d : A) → i < length xs
-    → more ≡ text ++ f (k + i) (get_or (map g xs) i d) → text ++ numbered f (k + i) (drop i (map g xs)) ≡ whole → more ++ numbered f (k + (i + 1)) (drop (i + 1) (map g xs)) ≡ whole
-numbered_next f g text more whole xs k i d l line e =
-    ap (λ t. t ++ numbered f (k + (i + 1)) (drop (i + 1) (map g xs))) line
-    ∙ numbered_step f text whole (map g xs) k i d (simp length-map l) e
+pub numbered_next : {A C : Type 0} (f : ℕ → A → List ℕ) (g : C → A) (text more whole : List ℕ) (xs : List C) (i j j' : ℕ) (x : C) → i < length xs → j' ≡ suc j → x ≡ get_or xs i x
+    → more ≡ text ++ f j (g x) → text ++ numbered f j (drop i (map g xs)) ≡ whole → more ++ numbered f j' (drop (i + 1) (map g xs)) ≡ whole
+numbered_next f g text more whole xs i j j' x l n is line e =
+    ap (λ t. t ++ numbered f j' (drop (i + 1) (map g xs))) (line ∙ ap (λ y. text ++ f j y) (ap g is ∙ sym (get_or-map g xs i x (g x) l)))
+    ∙ numbered_step f text whole (map g xs) i j j' (g x) (simp length-map l) n e

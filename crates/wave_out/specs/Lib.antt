@@ -3,3 +3,9 @@ pub mod Texts
 pub mod Scopes
 pub mod Vcd
 pub mod Report
+pub mod Walk
+pub mod Lines
+pub mod Changes
+pub mod Files
+pub mod Shown
+pub mod Writing

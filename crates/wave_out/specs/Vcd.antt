@@ -45,12 +45,12 @@ range_text (Some r) = codes " [" ++ signed_decimal r.left ++ codes ":" ++ signed
 
 -- a variable is shown as a reg or as a wire (18.2.3.8)
 abbrev pub type_text : Bool → List ℕ
-type_text is_reg = if is_reg then codes "reg " else codes "wire "
+type_text is_reg = if is_reg then codes "$var reg " else codes "$var wire "
 
 -- the declaration of the k-th variable (18.2.3.8)
 abbrev pub declaration : ℕ → Variable → List ℕ
 declaration k variable =
-    line (codes "$var " ++ type_text variable.is_reg ++ decimal (length variable.bits) ++ codes " " ++ code k ++ codes " "
+    line (type_text variable.is_reg ++ decimal (length variable.bits) ++ codes " " ++ code k ++ codes " "
     ++ written_name variable.name ++ range_text variable.range ++ codes " $end")
 
 -- the line of a scope that is entered (18.2.3.4)

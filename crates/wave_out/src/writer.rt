@@ -1,0 +1,114 @@
+// The value change dump of a run, written to a file from time to time.
+ghost use Rattle.std.specs.Prelude.{◌≡◌, None, IfOk};
+ghost use Rattle.sg_io.specs.Files.{BothTell};
+ghost use Rattle.wave_out.specs.Files.{CauseOf, Leaves, NamesFaultOf};
+ghost use Rattle.wave_out.specs.Vcd.{header};
+
+use crate::header::header_of;
+use crate::scopes::visits_of;
+use crate::shown::{Shown, shown_of, text_of};
+use cond_expr::Nets;
+use sg_circuit::Circuit;
+use sg_io::{Shelf, ShelfError};
+use sim_rounds::Watch;
+use std::alloc::Global;
+use std::marker::Model;
+use time_checks::Change;
+
+/// Writes the value change dump of a circuit's run to a file of a shelf (IEEE 1364-2005, 18). It is a watcher of the run.
+///
+/// A time that is written takes one call to append, and its cost is in proportion to the nets that changed, and to putting
+/// the variables that have them in order.
+#[derive(Drop)]
+pub struct VcdWriter<'a> {
+    alloc: Global,
+    circuit: &'a Circuit,
+    name: &'a str,
+    shown: Shown<'a>,
+    // the time that was written last
+    last: Option<u64>,
+}
+
+impl<'a> Model for VcdWriter<'a> {
+    ghost use Rattle.wave_out.specs.Shown.{IsShown};
+    ghost use Rattle.wave_out.specs.Writing.{Writer};
+
+    ghost Value = { Writer };
+
+    ghost view = { λ w. record { name = w.name.now; circuit = w.circuit.now; last = w.last } };
+
+    ghost invariant = { λ w. IsShown w.circuit.now w.shown };
+}
+
+impl<'a> VcdWriter<'a> {
+    /// A writer that has written the header to a new file of this name, by one call to append. Without it the file is as
+    /// before, or holds the first bytes of the header.
+    pub fn new<S: Shelf>(
+        alloc: Global,
+        circuit: &'a Circuit,
+        name: &'a str,
+        shelf: &mut S,
+    ) -> Result<VcdWriter<'a>, ShelfError>
+        ensures writer { IfOk result (λ w. w ≡ record { name = name.now; circuit = circuit.now; last = None }) }
+        ensures file { BothTell (S.files shelf.old) (S.files shelf.new) (Leaves name.now (header circuit.now) result) }
+        ensures cause { CauseOf (S.fault_count shelf.old) (S.fault_count shelf.new) result }
+        ensures named { NamesFaultOf name.now (S.last_fault shelf.old) (S.last_fault shelf.new) result }
+    {
+        let order = visits_of(alloc, circuit)?;
+        let header = header_of(alloc, circuit, &order)?;
+        let shown = shown_of(alloc, circuit, &order)?;
+        shelf.create(name)?;
+        shelf.append(name, &header)?;
+        Ok(VcdWriter {
+            alloc,
+            circuit,
+            name,
+            shown,
+            last: None,
+        })
+    }
+}
+
+impl<S: Shelf> Watch<S> for VcdWriter<'_> {
+    ghost use Rattle.std.specs.Prelude.{length};
+    ghost use Rattle.wave_out.specs.Files.{FileBegins, KeepsOthers, others_same, others_then};
+    ghost use Rattle.wave_out.specs.Writing.{AreTruthful, Holds, text_after};
+
+    ghost name = { λ w. w.name };
+
+    ghost net_count = { λ w. length w.circuit.nets };
+
+    ghost stands = { λ w s calls. AreTruthful calls → Holds w (S.files s) calls };
+
+    ghost broken = { λ w s calls. AreTruthful calls → FileBegins w.name (text_after w.circuit calls) (S.files s) };
+
+    ghost keeps = { λ w a b. KeepsOthers w.name (S.files a) (S.files b) };
+
+    ghost keeps_same = { λ w s. others_same w.name (S.files s) };
+
+    ghost keeps_on = { λ w a b c p q. others_then w.name (S.files a) (S.files b) (S.files c) p q };
+
+    fn time<N: Nets>(
+        &mut self,
+        shelf: &mut S,
+        time: u64,
+        changed: &[Change],
+        nets: &N,
+    ) -> Result<(), ShelfError> {
+        let text = text_of(
+            self.alloc,
+            self.circuit,
+            &mut self.shown,
+            self.last,
+            time,
+            changed,
+            nets,
+        )?;
+        let Some(text) = text else {
+            return Ok(());
+        };
+        shelf.append(self.name, &text)?;
+        self.last = Some(time);
+        Ok(())
+    }
+}
