@@ -1,5 +1,5 @@
 -- Below the least time of a table nothing is pending.
-use Rattle.std.proofs.Common.{◌≡◌, ℕ, ◌<◌, ◌≤◌, List, [], ◌∷◌, reverse, length, refl, sym, subst, arith}
+use Rattle.std.proofs.Common.{ℕ, ◌<◌, ◌≤◌, List, [], ◌∷◌, reverse, refl, sym, subst, arith}
 use Rattle.sg_logic.specs.declared.values.Value.{Value}
 use Rattle.sg_model.specs.Agenda.{list_at, AllEmpty, AllRise, BeginsAt, IsLeastTime, NoneBelow, NothingBelow, Rises}
 use Rattle.sg_model.proofs.RiseLaws.{rises-rest, rises_at}

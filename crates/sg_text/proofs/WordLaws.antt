@@ -1,6 +1,5 @@
 -- A text is one of the words of some rows where one of the rows says what it is for.
-use Rattle.std.proofs.Common.{◌≡◌, ℕ, List, [], ◌∷◌, map, Bool, true, false, ◌||◌, is_some, nat_eq, Option, Some, None, if◌then◌else◌, refl}
-use Rattle.std.specs.List.{list_any}
+use Rattle.std.proofs.Common.{◌≡◌, ℕ, List, [], ◌∷◌, map, Bool, true, false, ◌||◌, is_some, nat_eq, Option, Some, if◌then◌else◌, refl}
 use lib.Pointwise.{pointwise}
 use Rattle.sg_text.specs.declared.words.Reserved.{Reserved}
 use Rattle.sg_text.specs.Words.{Row, use_in, is_among}
