@@ -2,7 +2,8 @@
 pub mod ClashFound
 pub mod ClashLaws
 pub mod Covered
+pub mod Examples
 pub mod FaultLaws
 pub mod Lists
 pub mod NoFault
-pub mod Unchanged
+pub mod NoChange

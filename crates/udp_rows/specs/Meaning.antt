@@ -93,12 +93,12 @@ state_after rows old new state (suc i) =
     else after_step rows (step_of old new (state_after rows old new state i) i)
 
 -- all inputs as they are: a step that changes nothing
-abbrev pub unchanged : (ℕ → Value) → Step
-unchanged inputs = record { input = 0; old = inputs 0; inputs = inputs; state = X }
+abbrev pub step_without_change : (ℕ → Value) → Step
+step_without_change inputs = record { input = 0; old = inputs 0; inputs = inputs; state = X }
 
 -- the output of a combinational primitive: that of a row that covers the inputs, else x (8.2)
 abbrev pub combinational_value : List RawRow → (ℕ → Value) → Value
-combinational_value rows inputs = output_or (find (row_covers (unchanged inputs)) rows) X X
+combinational_value rows inputs = output_or (find (row_covers (step_without_change inputs)) rows) X X
 
 -- the value of a primitive's output for its old and new inputs; for a sequential one its new state, from the old one
 abbrev pub udp_next : Primitive → List Value → List Value → Value → Value

@@ -5,7 +5,7 @@ ghost use Rattle.sg_logic.specs.declared.values.Value.TheVariants.{X};
 ghost use Rattle.sg_logic.specs.Values.{is_same};
 ghost use Rattle.std.specs.List.{find, list_all, enumerate_from};
 ghost use Rattle.udp_rows.specs.Symbols.{edge_covers, has_edge, level_covers};
-ghost use Rattle.udp_rows.specs.Meaning.{cell_covers, cells_cover, row_covers, level_row_covers, edge_row_covers, state_covers, output_or, is_edge_row, output, step_of, state_after, after_step, input_value, inputs_taken, combinational_value, unchanged};
+ghost use Rattle.udp_rows.specs.Meaning.{cell_covers, cells_cover, row_covers, level_row_covers, edge_row_covers, state_covers, output_or, is_edge_row, output, step_of, state_after, after_step, input_value, inputs_taken, combinational_value, step_without_change};
 
 use crate::symbols::{covers_edge, covers_level, is_edge};
 use crate::{Cell, RawRow};
@@ -154,7 +154,7 @@ fn covering_row<'a>(rows: &'a [RawRow], new: &[Value]) -> Option<&'a RawRow>
 }
 
 /// The output of a combinational primitive.
-pub(crate) fn combinational(rows: &[RawRow], new: &[Value]) -> Value
+pub(crate) fn combinational_output(rows: &[RawRow], new: &[Value]) -> Value
     ensures { result ≡ combinational_value rows.now (input_value new.now) }
 {
     output_by(covering_row(rows, new), Value::X, Value::X)

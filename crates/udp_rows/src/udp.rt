@@ -1,6 +1,6 @@
 // Tables of rows that were looked at, and what they compute.
 use crate::checking::{copies, fault_of};
-use crate::meaning::{combinational, next_state};
+use crate::meaning::{combinational_output, next_state};
 use crate::{RawRow, UdpKind};
 use sg_logic::Value;
 use sg_text::Refused;
@@ -64,7 +64,7 @@ impl UdpRows {
         if self.sequential {
             next_state(self.inputs as usize, &self.rows, old, new, state)
         } else {
-            combinational(&self.rows, new)
+            combinational_output(&self.rows, new)
         }
     }
 

@@ -12,7 +12,7 @@ use Rattle.udp_rows.specs.Meaning.{Step, cell_covers, cells_cover, row_covers, s
 use Rattle.udp_rows.proofs.Lists.{true-or-false}
 use Rattle.udp_rows.proofs.Covered.{edge-change}
 use Rattle.udp_table.specs.Places.{digit}
-use Rattle.udp_table.specs.Compiled.{cell_pairs, pair_covered, pair_of, ArePairs, all_covered, digit_value, inputs_of}
+use Rattle.udp_table.specs.Compiled.{cell_pairs, covers_pair, pair_of, ArePairs, all_cover, digit_value, inputs_of}
 
 digit_next : (code j : ℕ) → code / 3 ^ j / 3 ≡ code / 3 ^ (j + 1)
 digit_next code j = div-div-eq-div-mul code (3 ^ j) 3 ∙ ap (λ n. code / n) (sym (pow-suc 3 j) ∙ ap (λ n. 3 ^ n) (sym (add-one j)))
@@ -44,7 +44,7 @@ edge-stays cell v = true-or-false (edge_covers cell v v) (λ h. let change = edg
     no-change Z = refl
 
 -- the mark of a pair tells whether it is covered
-mark-of : (cell : Cell) (v w : Value) → v ≢ Z → w ≢ Z → slice_index_or (cell_pairs cell) (3 * digit v + digit w) false ≡ pair_covered cell v w
+mark-of : (cell : Cell) (v w : Value) → v ≢ Z → w ≢ Z → slice_index_or (cell_pairs cell) (3 * digit v + digit w) false ≡ covers_pair cell v w
 unfolding cell_pairs
 mark-of cell Zero Zero v w = refl
 mark-of cell Zero One v w = refl
@@ -61,7 +61,7 @@ mark-of cell One Z h w = absurd (w refl)
 mark-of cell X Z h w = absurd (w refl)
 
 -- which is whether the cell covers the step
-pair-covers : (cell : Cell) (step : Step) (j : ℕ) → pair_covered cell (if j == step.input then step.old else step.inputs j) (step.inputs j) ≡ cell_covers step j cell
+pair-covers : (cell : Cell) (step : Step) (j : ℕ) → covers_pair cell (if j == step.input then step.old else step.inputs j) (step.inputs j) ≡ cell_covers step j cell
 pair-covers cell step j = at (has_edge cell) (j == step.input)
   where
     at : (e b : Bool) → (if e then edge_covers cell (if b then step.old else step.inputs j) (step.inputs j) else level_covers cell.first (step.inputs j)) ≡ (if e then b && edge_covers cell step.old (step.inputs j) else level_covers cell.first (step.inputs j))
@@ -86,7 +86,7 @@ list_all-map f h g n (x ∷ xs) l same =
 
 -- the marks of all cells tell whether they cover the step
 pub marks-cover : (cells : List Cell) (list : List ℕ) (input code : ℕ) (old state : Value) → length cells ≤ 10 → old ≢ Z → ArePairs list input old (inputs_of code)
-    → all_covered (map cell_pairs cells) list ≡ cells_cover (record { input = input; old = old; inputs = inputs_of code; state = state }) cells
+    → all_cover (map cell_pairs cells) list ≡ cells_cover (record { input = input; old = old; inputs = inputs_of code; state = state }) cells
 marks-cover cells list input code old state l read pairs =
     list_all-map (λ k marks. slice_index_or marks (slice_index list k) false) (cell_covers step) cell_pairs 0 cells (omega arith) each
   where
@@ -109,13 +109,13 @@ step_of code input old state = record { input = input; old = old; inputs = input
 
 row-is : (row self : RawRow) (marks : List (List Bool)) (list : List ℕ) (input code : ℕ) (old state : Value) → row ≡ self → length row.inputs ≤ 10 → old ≢ Z
     → ArePairs list input old (inputs_of code) → marks ≡ map cell_pairs row.inputs
-    → row_covers (step_of code input old state) self ≡ (all_covered marks list && state_covers row.state state)
+    → row_covers (step_of code input old state) self ≡ (all_cover marks list && state_covers row.state state)
 row-is row self marks list input code old state e l read pairs is =
     ap (row_covers (step_of code input old state)) (sym e)
-    ∙ ap (λ b. b && state_covers row.state state) (sym (marks-cover row.inputs list input code old state l read pairs) ∙ ap (λ m. all_covered m list) (sym is))
+    ∙ ap (λ b. b && state_covers row.state state) (sym (marks-cover row.inputs list input code old state l read pairs) ∙ ap (λ m. all_cover m list) (sym is))
 
 pub row-covered : (row self : RawRow) (marks : List (List Bool)) (list : List ℕ) (input code : ℕ) (old state : Value) (all answer : Bool) → row ≡ self → length row.inputs ≤ 10 → old ≢ Z
-    → ArePairs list input old (inputs_of code) → marks ≡ map cell_pairs row.inputs → all ≡ all_covered marks list
+    → ArePairs list input old (inputs_of code) → marks ≡ map cell_pairs row.inputs → all ≡ all_cover marks list
     → answer ≡ (all && state_covers row.state state) → answer ≡ row_covers (step_of code input old state) self
 row-covered row self marks list input code old state all answer e l read pairs is is_all is_answer =
     is_answer ∙ (ap (λ b. b && state_covers row.state state) is_all ∙ sym (row-is row self marks list input code old state e l read pairs is))

@@ -9,10 +9,10 @@ use Rattle.sg_logic.specs.Values.{is_same}
 use Rattle.udp_rows.specs.declared.cells.Cell.{Cell}
 use Rattle.udp_rows.specs.declared.cells.RawRow.{RawRow}
 use Rattle.udp_rows.specs.Symbols.{has_edge, level_covers, edge_covers}
-use Rattle.udp_rows.specs.Meaning.{Primitive, Step, cell_covers, cells_cover, state_covers, row_covers, is_edge_row, level_row_covers, edge_row_covers, output_or, after_step, input_value, inputs_taken, step_of, state_after, unchanged, combinational_value, udp_next}
+use Rattle.udp_rows.specs.Meaning.{Primitive, Step, cell_covers, cells_cover, state_covers, row_covers, is_edge_row, level_row_covers, edge_row_covers, output_or, after_step, input_value, inputs_taken, step_of, state_after, step_without_change, combinational_value, udp_next}
 use Rattle.udp_rows.specs.Faults.{most_inputs, HasNoFault}
 use Rattle.udp_rows.proofs.NoFault.{few-inputs, length-of-row}
-use Rattle.udp_rows.proofs.Unchanged.{inputs-same}
+use Rattle.udp_rows.proofs.NoChange.{inputs-same}
 use Rattle.udp_table.specs.declared.table.Table.{Table}
 use Rattle.udp_table.specs.Places.{code, cell_count, place, HasNoZ}
 use Rattle.udp_table.specs.Looking.{cell_value, state_by}
@@ -78,8 +78,8 @@ state-agrees n s t rows a cells =
 
 output-agrees : (n : ℕ) (v w : ℕ → Value) (rows : List RawRow) → ((j : ℕ) → j < n → v j ≡ w j) → HaveCells n rows → combinational_value rows v ≡ combinational_value rows w
 output-agrees n v w rows same cells =
-    let a : Agree n (unchanged v) (unchanged w) = record { input = refl; old = λ l. same 0 l; state = refl; inputs = same } in
-    ap (λ o. output_or o X X) (find-agrees (row_covers (unchanged v)) (row_covers (unchanged w)) rows (λ k row g. row-agrees n (unchanged v) (unchanged w) row a (cells k row g)))
+    let a : Agree n (step_without_change v) (step_without_change w) = record { input = refl; old = λ l. same 0 l; state = refl; inputs = same } in
+    ap (λ o. output_or o X X) (find-agrees (row_covers (step_without_change v)) (row_covers (step_without_change w)) rows (λ k row g. row-agrees n (step_without_change v) (step_without_change w) row a (cells k row g)))
 
 -- the cells of a combinational table
 pub outputs-are : (rows : List RawRow) (n : ℕ) (cells : List Value) → HaveCells n rows → HasOutputs rows n cells

@@ -16,12 +16,12 @@ pairs =
     (X, Zero) ∷ (X, One) ∷ (X, X) ∷ []
 
 -- whether a cell covers its input's values before and after
-abbrev pub pair_covered : Cell → Value → Value → Bool
-pair_covered cell before after = if has_edge cell then edge_covers cell before after else level_covers cell.first after
+abbrev pub covers_pair : Cell → Value → Value → Bool
+covers_pair cell before after = if has_edge cell then edge_covers cell before after else level_covers cell.first after
 
 -- which pairs a cell covers
 unfoldable pub cell_pairs : Cell → List Bool
-cell_pairs cell = map (λ pair. pair_covered cell pair.0 pair.1) pairs
+cell_pairs cell = map (λ pair. covers_pair cell pair.0 pair.1) pairs
 
 -- the value of a digit
 abbrev pub digit_value : ℕ → Value
@@ -40,8 +40,8 @@ abbrev pub ArePairs : List ℕ → ℕ → Value → (ℕ → Value) → Type 0
 ArePairs list input old inputs = (j : ℕ) → j < 10 → slice_index list j ≡ pair_of input old inputs j
 
 -- whether the pairs of all inputs are covered
-abbrev pub all_covered : List (List Bool) → List ℕ → Bool
-all_covered cells list = list_all (λ numbered. slice_index_or numbered.1 (slice_index list numbered.0) false) (enumerate_from 0 cells)
+abbrev pub all_cover : List (List Bool) → List ℕ → Bool
+all_cover cells list = list_all (λ numbered. slice_index_or numbered.1 (slice_index list numbered.0) false) (enumerate_from 0 cells)
 
 -- the step of a place, where there are so many codes
 abbrev pub step_at : ℕ → ℕ → Step

@@ -1,5 +1,5 @@
 -- The modules of this folder.
-pub mod Asked
+pub mod PairedStep
 pub mod Cells
 pub mod Compiled
 pub mod Filled

@@ -3,15 +3,15 @@ ghost use Rattle.std.specs.Prelude.{◌≡◌, ℕ, ◌+◌, ◌*◌, ◌^◌, �
 ghost use Rattle.std.specs.List.{find};
 ghost use Rattle.sg_logic.specs.declared.values.Value.TheVariants.{X};
 ghost use Rattle.udp_rows.specs.declared.cells.RawRow.{RawRow as Row};
-ghost use Rattle.udp_rows.specs.Meaning.{unchanged};
+ghost use Rattle.udp_rows.specs.Meaning.{step_without_change};
 ghost use Rattle.udp_table.specs.Compiled.{inputs_of};
 ghost use Rattle.udp_table.specs.Filled.{HasOutputs, HasStates, IsFilledFrom};
-ghost use Rattle.udp_table.specs.Asked.{step_asked};
+ghost use Rattle.udp_table.specs.PairedStep.{step_of_pairs};
 
-use crate::asked::Asked;
 use crate::compiled::CompiledRow;
 use crate::digits::digit_value;
-use crate::places::{asked_at, code_count};
+use crate::paired::PairedStep;
+use crate::places::{code_count, paired_step_at};
 use crate::searching::{output_for, state_after};
 use sg_logic::Value;
 use sg_text::NoMemory;
@@ -35,10 +35,10 @@ pub(crate) fn compiled_rows(
 
 // The step in which no input changes from those of a code.
 #[tactic(auto, using(crate::proofs::PairLaws::digit_read, crate::proofs::PairLaws::first_digit))]
-fn asked_unchanged(code: usize) -> Asked
-    ensures { step_asked result ≡ unchanged (inputs_of code) }
+fn paired_step_without_change(code: usize) -> PairedStep
+    ensures { step_of_pairs result ≡ step_without_change (inputs_of code) }
 {
-    Asked::new(code, 0, digit_value(code % 3), Value::X)
+    PairedStep::new(code, 0, digit_value(code % 3), Value::X)
 }
 
 /// The cells of a combinational table.
@@ -53,7 +53,7 @@ pub(crate) fn outputs(
     let count = code_count(inputs);
     let mut cells = Vec::with_capacity(alloc, count)?;
     for k in 0..count {
-        cells.push(output_for(rows, &asked_unchanged(k)))?;
+        cells.push(output_for(rows, &paired_step_without_change(k)))?;
     }
     Ok(cells)
 }
@@ -71,13 +71,13 @@ pub(crate) fn states(
     let count = 12 * inputs * size;
     let mut cells = Vec::with_capacity(alloc, count)?;
     for k in 0..count {
-        cells.push(state_after(rows, &asked_at(size, k)))?;
+        cells.push(state_after(rows, &paired_step_at(size, k)))?;
     }
     Ok(cells)
 }
 
 /// The cells of a table.
-pub(crate) fn filled(
+pub(crate) fn cells_from(
     alloc: Global,
     inputs: usize,
     sequential: bool,

@@ -1,9 +1,9 @@
 // Rows as they are looked up while a table is built.
 ghost use Rattle.std.specs.Prelude.{◌≡◌, ◌≤◌, IfOk, length, map, slice_index, slice_index_or, false};
-ghost use Rattle.udp_table.specs.Compiled.{all_covered, cell_pairs};
+ghost use Rattle.udp_table.specs.Compiled.{all_cover, cell_pairs};
 
-use crate::asked::Asked;
-use crate::covered::covered;
+use crate::marks::marks_of;
+use crate::paired::PairedStep;
 use sg_logic::Value;
 use sg_text::NoMemory;
 use std::alloc::{AllocError, Global};
@@ -15,7 +15,7 @@ use udp_rows::{Cell, RawRow};
 pub(crate) struct CompiledRow<'a> {
     row: &'a RawRow,
     edge: bool,
-    covered: Vec<[bool; 9]>,
+    marks: Vec<[bool; 9]>,
 }
 
 impl<'a> Model for CompiledRow<'a> {
@@ -28,42 +28,42 @@ impl<'a> Model for CompiledRow<'a> {
 
     ghost view = { λ c. c.row.now };
 
-    ghost invariant = { λ c. (length c.row.now.inputs ≤ 10) × (c.edge ≡ is_edge_row c.row.now) × (c.covered.items ≡ map cell_pairs c.row.now.inputs) };
+    ghost invariant = { λ c. (length c.row.now.inputs ≤ 10) × (c.edge ≡ is_edge_row c.row.now) × (c.marks.items ≡ map cell_pairs c.row.now.inputs) };
 }
 
 // What each cell covers.
-fn covered_by_each(alloc: Global, cells: &[Cell]) -> Result<Vec<[bool; 9]>, AllocError>
+fn marks_of_each(alloc: Global, cells: &[Cell]) -> Result<Vec<[bool; 9]>, AllocError>
     ensures { IfOk result (λ list. list.items ≡ map cell_pairs cells.now) }
 {
     let mut list = Vec::with_capacity(alloc, cells.len())?;
     for cell in cells {
-        list.push(covered(*cell))?;
+        list.push(marks_of(*cell))?;
     }
     Ok(list)
 }
 
 // Whether a cell covers the pair of its input.
-fn has(covered: &[bool; 9], pairs: &[usize], j: usize) -> bool
-    ensures { result ≡ slice_index_or covered.now (slice_index pairs.now j) false }
+fn has(marks: &[bool; 9], pairs: &[usize], j: usize) -> bool
+    ensures { result ≡ slice_index_or marks.now (slice_index pairs.now j) false }
 {
     let pair = pairs.get(j).copied().unwrap_or(0);
-    covered.get(pair).copied().unwrap_or(false)
+    marks.get(pair).copied().unwrap_or(false)
 }
 
 // Whether each cell covers the pair of its input.
 fn all_have(cells: &[[bool; 9]], pairs: &[usize]) -> bool
-    ensures { result ≡ all_covered cells.now pairs.now }
+    ensures { result ≡ all_cover cells.now pairs.now }
 {
     cells
         .iter()
         .enumerate()
-        .all(|(j, covered)| has(covered, pairs, j))
+        .all(|(j, marks)| has(marks, pairs, j))
 }
 
 impl<'a> CompiledRow<'a> {
     ghost use Rattle.std.specs.Prelude.{◌≡◌, ◌≤◌, IfOk, length};
     ghost use Rattle.udp_rows.specs.Meaning.{is_edge_row as has_edge_symbol, output as output_in, row_covers};
-    ghost use Rattle.udp_table.specs.Asked.{step_asked};
+    ghost use Rattle.udp_table.specs.PairedStep.{step_of_pairs};
 
     /// A row, compiled. Takes memory in proportion to its cells.
     pub(crate) fn new(alloc: Global, row: &'a RawRow) -> Result<CompiledRow<'a>, NoMemory>
@@ -73,7 +73,7 @@ impl<'a> CompiledRow<'a> {
         Ok(CompiledRow {
             row,
             edge: row.is_edge_row(),
-            covered: covered_by_each(alloc, row.inputs.as_slice())?,
+            marks: marks_of_each(alloc, row.inputs.as_slice())?,
         })
     }
 
@@ -84,10 +84,10 @@ impl<'a> CompiledRow<'a> {
     }
 
     /// Whether the row covers a step.
-    pub(crate) fn covers(&self, step: &Asked) -> bool
-        ensures { result ≡ row_covers (step_asked step.now) self.now }
+    pub(crate) fn covers(&self, step: &PairedStep) -> bool
+        ensures { result ≡ row_covers (step_of_pairs step.now) self.now }
     {
-        all_have(&self.covered, &step.pairs) && self.row.covers_state(step.state)
+        all_have(&self.marks, &step.pairs) && self.row.covers_state(step.state)
     }
 
     /// Its output in a state.

@@ -3,10 +3,10 @@ ghost use Rattle.std.specs.Prelude.{◌≡◌, ◌+◌, ◌*◌, ◌^◌, ◌<�
 ghost use Rattle.udp_rows.specs.Meaning.{input_value, inputs_taken, step_of};
 ghost use Rattle.udp_table.specs.Places.{code, place};
 ghost use Rattle.udp_table.specs.Compiled.{step_at};
-ghost use Rattle.udp_table.specs.Asked.{step_asked};
+ghost use Rattle.udp_table.specs.PairedStep.{step_of_pairs};
 
-use crate::asked::Asked;
 use crate::digits::{digit, digit_value};
+use crate::paired::PairedStep;
 use sg_logic::Value;
 use udp_rows::{value_of_input, value_when_taken};
 
@@ -47,12 +47,12 @@ pub(crate) fn place_of(inputs: usize, i: usize, old: &[Value], new: &[Value], st
 
 /// The step of a place, where there are so many codes.
 #[tactic(auto, using(crate::proofs::PairLaws::digit_read))]
-pub(crate) fn asked_at(size: usize, k: usize) -> Asked
+pub(crate) fn paired_step_at(size: usize, k: usize) -> PairedStep
     requires { 0 < size }
-    ensures { step_asked result ≡ step_at size k }
+    ensures { step_of_pairs result ≡ step_at size k }
 {
     let row = k / size;
-    Asked::new(
+    PairedStep::new(
         k % size,
         row / 4 / 3,
         digit_value(row / 4 % 3),

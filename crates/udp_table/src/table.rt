@@ -4,7 +4,7 @@ ghost use Rattle.udp_rows.specs.Meaning.{input_value};
 ghost use Rattle.udp_table.specs.Places.{code};
 ghost use Rattle.udp_table.specs.Looking.{cell_value, state_by};
 
-use crate::building::filled;
+use crate::building::cells_from;
 use crate::places::{code_of, place_of};
 use sg_logic::Value;
 use sg_steps::Steps;
@@ -60,7 +60,7 @@ impl Table {
     {
         let inputs = rows.inputs();
         let sequential = rows.sequential();
-        let cells = filled(alloc, inputs as usize, sequential, rows.rows())?;
+        let cells = cells_from(alloc, inputs as usize, sequential, rows.rows())?;
         Ok(Table {
             inputs,
             sequential,

@@ -10,4 +10,4 @@ pub loop-k-preserved : goal.loop-k-preserved
 loop-k-preserved c =
     filled-pushed c.loop-k.cells.items c.push.new.self.items c.loop-k.k c.output_for.result (λ k. combinational_value c.args.rows.now (inputs_of k))
     c.loop-k.invariant c.in_ok-push.ensures.items
-    (c.output_for.ensures ∙ ap (λ step. output_or (find (row_covers step) c.args.rows.now) X X) c.asked_unchanged.ensures)
+    (c.output_for.ensures ∙ ap (λ step. output_or (find (row_covers step) c.args.rows.now) X X) c.paired_step_without_change.ensures)

@@ -15,4 +15,4 @@ pub loop-k-preserved : goal.loop-k-preserved
 loop-k-preserved c =
     filled-pushed c.loop-k.cells.items c.push.new.self.items c.loop-k.k c.state_after.result (λ k. after_step c.args.rows.now (step_at (3 ^ c.args.inputs) k))
     c.loop-k.invariant c.in_ok-push.ensures.items
-    (c.state_after.ensures ∙ (ap (after_step c.args.rows.now) c.asked_at.ensures ∙ ap (λ n. after_step c.args.rows.now (step_at n c.loop-k.k)) c.code_count-size.ensures))
+    (c.state_after.ensures ∙ (ap (after_step c.args.rows.now) c.paired_step_at.ensures ∙ ap (λ n. after_step c.args.rows.now (step_at n c.loop-k.k)) c.code_count-size.ensures))

@@ -3,11 +3,11 @@ use Rattle.udp_rows.specs.declared.cells.RawRow.{RawRow}
 use Rattle.udp_table.proofs.TableLaws.{ten-inputs, ten-cells, table-built}
 use Rattle.udp_table.proofs.table.Table.build.Goals as goal
 
-pub filled-requires-clause-inputs : goal.filled-requires-clause-inputs
-filled-requires-clause-inputs c = subst (λ n. n ≤ 10) (sym c.inputs-inputs.ensures) (ten-inputs c.args.rows.now c.rows.ensures.faultless)
+pub cells_from-requires-clause-inputs : goal.cells_from-requires-clause-inputs
+cells_from-requires-clause-inputs c = subst (λ n. n ≤ 10) (sym c.inputs-inputs.ensures) (ten-inputs c.args.rows.now c.rows.ensures.faultless)
 
-pub filled-requires-clause-cells : goal.filled-requires-clause-cells
-filled-requires-clause-cells c =
+pub cells_from-requires-clause-cells : goal.cells_from-requires-clause-cells
+cells_from-requires-clause-cells c =
     subst (λ rows. (k : ℕ) (row : RawRow) → slice_get rows k ≡ Some row → length row.inputs ≤ 10) (sym c.rows.ensures.rows) (ten-cells c.args.rows.now c.rows.ensures.faultless)
 
 pub returns-clause-whole : goal.returns-clause-whole

@@ -1,4 +1,4 @@
-// Which values before and after a cell of a row covers.
+// What a cell of a row covers, as marks of nine pairs of values before and after.
 ghost use Rattle.std.specs.Prelude.{◌≡◌, false, map, true, MatchOption};
 ghost use Rattle.udp_rows.specs.Symbols.{is_letter, letter_covers, level_covers, pair_covers};
 ghost use Rattle.udp_rows.specs.Columns.{values};
@@ -78,7 +78,7 @@ fn by_level(symbol: u8) -> [bool; 9]
 
 /// Which values before and after a cell covers, in the order of 3 times the first and the second, as 0, 1, x count.
 #[tactic(auto, unfolding(crate::specs::Compiled::cell_pairs))]
-pub(crate) fn covered(cell: Cell) -> [bool; 9]
+pub(crate) fn marks_of(cell: Cell) -> [bool; 9]
     ensures { result ≡ cell_pairs cell }
 {
     if cell.second != 0 {

@@ -1,4 +1,4 @@
-// Steps as rows are asked for them.
+// Steps with the pairs of values that rows are asked about.
 ghost use Rattle.std.specs.Prelude.{◌≢◌};
 ghost use Rattle.sg_logic.specs.declared.values.Value.TheVariants.{Z};
 ghost use Rattle.udp_table.specs.Compiled.{ArePairs, inputs_of};
@@ -8,7 +8,7 @@ use sg_logic::Value;
 
 /// One of ten inputs changes; of each input the pair of its values before and after.
 #[derive(Drop)]
-pub(crate) struct Asked {
+pub(crate) struct PairedStep {
     pub(crate) code: usize,
     pub(crate) input: usize,
     pub(crate) old: Value,
@@ -18,18 +18,18 @@ pub(crate) struct Asked {
     ghost paired: { ArePairs pairs input old (inputs_of code) },
 }
 
-impl Asked {
+impl PairedStep {
     ghost use Rattle.std.specs.Prelude.{◌≡◌, ◌≢◌};
     ghost use Rattle.sg_logic.specs.declared.values.Value.TheVariants.{Z};
     ghost use Rattle.udp_table.specs.Compiled.{inputs_of};
-    ghost use Rattle.udp_table.specs.Asked.{step_asked};
+    ghost use Rattle.udp_table.specs.PairedStep.{step_of_pairs};
 
     /// An input changes from an old value to that of its digit in the code.
-    pub(crate) fn new(code: usize, input: usize, old: Value, state: Value) -> Asked
+    pub(crate) fn new(code: usize, input: usize, old: Value, state: Value) -> PairedStep
         requires { old ≢ Z }
-        ensures { step_asked result ≡ record { input = input; old = old; inputs = inputs_of code; state = state } }
+        ensures { step_of_pairs result ≡ record { input = input; old = old; inputs = inputs_of code; state = state } }
     {
-        Asked {
+        PairedStep {
             code,
             input,
             old,
