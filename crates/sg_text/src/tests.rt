@@ -84,6 +84,9 @@ fn each_reserved_word_has_its_use(rt: HostRuntime) {
     assert!(rt; matches!(use_of(b"always"), Some(Reserved::LeftOut)));
     assert!(rt; matches!(use_of(b"begin"), None));
     assert_eq!(rt; keyword_of(b"initial"), Some(Keyword::Initial));
-    assert_eq!(rt; keyword_of(b"pulsestyle_ondetect"), Some(Keyword::PulseStyleOnDetect));
+    assert_eq!(rt;
+        keyword_of(b"pulsestyle_ondetect"),
+        Some(Keyword::PulseStyleOnDetect)
+    );
     assert_eq!(rt; keyword_of(b"module"), None);
 }

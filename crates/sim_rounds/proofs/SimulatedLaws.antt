@@ -62,10 +62,11 @@ pub ended_ready : (now next : ℕ) (m m' : Machine) (net_count : ℕ) (fan : Lis
     → IsReadyAt false next m' net_count fan driven' nets' told work lists states found_by toggled_by sets ended found → next ≡ now + 1 → IsTold told' nets'.values.items → ended' ≤ length found
     → CanApply driven (length nets.values.items) stimulus → driven ≡ driven' → length nets'.values.items ≡ length nets.values.items → stimulus' ≡ stimulus
     → IsReadyAt (next == 0) next m' net_count fan driven' nets' told' work lists states found_by toggled_by sets ended' found × CanApply driven' (length nets'.values.items) stimulus'
-ended_ready now next m m' net_count fan driven driven' nets nets' told told' work lists states found_by toggled_by sets ended ended' found stimulus stimulus' h n t b can d l s =
-    (subst (λ all. IsReadyAt all next m' net_count fan driven' nets' told' work lists states found_by toggled_by sets ended' found) (sym (later_test next (omega arith)))
-    (record { round = h.round; count = h.count; checks = h.checks; within = h.within; free = h.free; told = t; begun = b }),
-    subst (λ x. CanApply driven' (length nets'.values.items) x) (sym s) (subst (λ x. CanApply driven' x stimulus) (sym l) (subst (λ x. CanApply x (length nets.values.items) stimulus) d can)))
+ended_ready now next m m' net_count fan driven driven' nets nets' told told' work lists states found_by toggled_by sets ended ended' found stimulus stimulus' h n t b can d l s = (
+  subst (λ all. IsReadyAt all next m' net_count fan driven' nets' told' work lists states found_by toggled_by sets ended' found) (sym (later_test next (omega arith)))
+      (record { round = h.round; count = h.count; checks = h.checks; within = h.within; free = h.free; told = t; begun = b }),
+  subst (λ x. CanApply driven' (length nets'.values.items) x) (sym s) (subst (λ x. CanApply driven' x stimulus) (sym l) (subst (λ x. CanApply x (length nets.values.items) stimulus) d can)),
+)
 
 -- where nothing is pending before a time
 later_follows : (xs : List (ℕ × Value)) (present : Value) (now t : ℕ) → Follows xs present now → NoneBelow t xs → Follows xs present t
