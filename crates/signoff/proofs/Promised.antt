@@ -1,7 +1,7 @@
 -- From what the work left and what was told comes the case of the top call; from the case comes all else that it promises.
-use Rattle.std.proofs.Common.{◌≡◌, ◌≢◌, ◌∙◌, true, false, sym, ap, refl, subst, inl, inr, ℕ, List, [], ◌++◌, length, take, Contains, ◌≤◌, arith}
+use Rattle.std.proofs.Common.{◌≡◌, ◌≢◌, ◌∙◌, true, false, sym, ap, refl, subst, inl, inr, ℕ, List, [], ◌++◌, length, Contains, ◌≤◌, arith}
 use Rattle.std.proofs.lemmas.List.{take_all}
-use Rattle.std.specs.Prelude.{Option, Some, None, Result, Ok, Err, ◌⊎◌, unwrap_or}
+use Rattle.std.specs.Prelude.{Option, Some, None, Result, Ok, Err, unwrap_or}
 use Rattle.sg_io.specs.Files.{File, BothTell, HasAfter, bytes_of}
 use Rattle.sg_io.specs.Faults.{Rises, Rose}
 use Rattle.sg_io.specs.Put.{SinkTold}
@@ -9,7 +9,7 @@ use Rattle.sg_io.proofs.Tell.{both_told}
 use Rattle.circuit_model.specs.Report.{report_lines}
 use Rattle.signoff.specs.Answer.{Answer, IsAnswer, FilesAfter, answer_of, dump_of, run_of, status_of_run, fault_line}
 use Rattle.signoff.specs.Phases.{Refusal, Task, TaskOutcome, WordsOutcome, CircuitOutcome, InputOutcome, Then, stops, goes_on, words, missing, netlist, stimulus, status_of_refusal, refusal_line}
-use Rattle.signoff.specs.Promises.{ShelfTold, IsRight, FitsWords, HasAnswer, FaultAt, at_netlist, at_stimulus, at_dump, NamesFaultAt, LeavesUnfinished, PutsReport, whole, till_fault, Outcome, answered, shelf_fault, sink_fault, no_memory, sink_want, IsExact, IsStatusOf, KeepsBut, KeepsByAnswer, KeepsByWords, IsUsage}
+use Rattle.signoff.specs.Promises.{ShelfTold, IsRight, FitsWords, HasAnswer, FaultAt, at_netlist, at_stimulus, at_dump, NamesFaultAt, LeavesUnfinished, whole, till_fault, Outcome, answered, shelf_fault, sink_fault, no_memory, sink_want, IsExact, IsStatusOf, KeepsBut, KeepsByAnswer, KeepsByWords, IsUsage}
 use Rattle.signoff.specs.Putting.{PutsAll, PutsLast}
 use Rattle.signoff.specs.Putting as putting
 use Rattle.signoff.specs.Runs.{LeavesPrefix}

@@ -6,7 +6,7 @@ use Rattle.sg_io.specs.Files.{BothTell}
 use Rattle.sg_io.specs.Put.{SinkTold, Puts}
 use Rattle.sg_io.specs.declared.outside.ShelfError.{ShelfError}
 use Rattle.sg_io.specs.declared.outside.ShelfError.TheVariants as shelf
-use Rattle.signoff.specs.Putting.{PutsAll, PutsFirst, PutsTillFault, PutsTillWant, PutsBy, PutsLast, whole, till_fault, till_want}
+use Rattle.signoff.specs.Putting.{PutsAll, PutsFirst, PutsBy, PutsLast, whole, till_fault, till_want}
 
 -- what nothing changed, both tell
 pub both_same : {A : Type 0} (P : A → A → Type 0) (old new : Option A) → new ≡ old → ((x : A) → old ≡ Some x → P x x) → BothTell old new P

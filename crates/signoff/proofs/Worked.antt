@@ -1,12 +1,11 @@
 -- What the phases and the run leave is what the work leaves.
-use Rattle.std.proofs.Common.{◌≡◌, refl, sym, ap, subst, inl, inr, lit<, List, ℕ}
+use Rattle.std.proofs.Common.{◌≡◌, refl, sym, subst, inr, lit<, List, ℕ}
 use Rattle.std.specs.Prelude.{Option, Some, None, Result, Ok, Err, Contains}
-use Rattle.sg_io.specs.Files.{File, BothTell, HasAfter}
-use Rattle.signoff.specs.Answer.{dump_of, run_of}
-use Rattle.signoff.specs.Phases.{Task, TaskOutcome}
-use Rattle.signoff.specs.Promises.{FaultAt, at_dump, NamesFaultAt, LeavesUnfinished}
+use Rattle.sg_io.specs.Files.{File, BothTell}
+use Rattle.signoff.specs.Answer.{dump_of}
+use Rattle.signoff.specs.Phases.{TaskOutcome}
+use Rattle.signoff.specs.Promises.{FaultAt, at_dump, NamesFaultAt}
 use Rattle.signoff.specs.Runs.{LeavesPrefix}
-use Rattle.signoff.specs.Seen.{spent_seen}
 use Rattle.signoff.specs.Stops.{Gives, StopWords}
 use Rattle.signoff.specs.Tasks.{task_seen}
 use Rattle.signoff.specs.Words.{Command, command_of, names_in}
@@ -14,8 +13,6 @@ use Rattle.signoff.specs.Work.{WorkLeaves}
 use Rattle.signoff.specs.declared.phases.Task as code_task
 use Rattle.signoff.specs.declared.stop.Stop as code_stop
 use Rattle.signoff.specs.declared.stop.Stop.TheVariants as stop
-use Rattle.signoff.specs.declared.work.Done as code_done
-use Rattle.signoff.proofs.Putting.{both_same}
 
 -- what a phase gave, where the shelf tells
 abbrev GivesTask : List (List ℕ) → Option (List File) → Result code_task.Task code_stop.Stop → Type 0

@@ -1,8 +1,12 @@
 // Whole runs over a shelf and a sink in memory. What they give was worked out by hand.
 use crate::answer::top;
+use crate::program::program;
 use crate::status::Status;
 use sg_io::{MemoryShelf, MemorySink, Shelf, Sink};
 use std::alloc::{AllocError, Global};
+use std::env::Args;
+use std::io::{self, ErrorKind};
+use std::process::ExitCode;
 use std::test::Fail;
 
 const WORDS: [&str; 6] = ["run", "t.v", "--stim", "t.st", "--vcd", "out.vcd"];
@@ -386,6 +390,21 @@ fn a_failing_report_turns_the_end_of_a_run_into_a_fault(rt: HostRuntime) -> Resu
 }
 
 #[test]
+fn the_line_of_a_fault_ends_where_the_sink_fails(rt: HostRuntime) -> Result<(), Fail> {
+    let alloc = rt.alloc();
+    let mut shelf = shelf_of(alloc, INVERTER, RISE_AT_10)?;
+    let mut sink = MemorySink::new(alloc);
+    shelf.fail_at(1, 0)?;
+    sink.fail_at(1, 2)?;
+    let words = words_of(alloc, &WORDS)?;
+    let status = top(alloc, &words, &mut shelf, &mut sink);
+    assert_eq!(rt; status, Status::Fault);
+    assert!(rt; sink.bytes() == b"fault: t.".as_slice());
+    assert_eq!(rt; sink.faults(), 1);
+    Ok(())
+}
+
+#[test]
 fn a_failing_report_leaves_a_refusal(rt: HostRuntime) -> Result<(), Fail> {
     let alloc = rt.alloc();
     let mut shelf = MemoryShelf::new(alloc);
@@ -416,4 +435,32 @@ fn statuses_have_their_numbers(rt: HostRuntime) {
     for (status, code) in rows {
         assert_eq!(rt; status.code(), code);
     }
+}
+
+// Whether the program ends with this number on these words, and puts this.
+fn ends_with(
+    alloc: Global,
+    args: io::Result<Args>,
+    number: u8,
+    report: &str,
+) -> Result<bool, Fail> {
+    let mut shelf = shelf_of(alloc, INVERTER, RISE_AT_10)?;
+    let mut sink = MemorySink::new(alloc);
+    let code = program(alloc, args, &mut shelf, &mut sink);
+    Ok(code == ExitCode::from(number) && sink.bytes() == report.as_bytes())
+}
+
+#[test]
+fn the_program_leaves_out_its_name_and_ends_with_a_status(rt: HostRuntime) -> Result<(), Fail> {
+    let alloc = rt.alloc();
+    let words = [
+        "signoff", "run", "t.v", "--stim", "t.st", "--vcd", "out.vcd",
+    ];
+    let args = words_of(alloc, &words)?;
+    assert!(rt; ends_with(alloc, Ok(args.into_iter()), 0, SUMMARY)?);
+    let unread = io::Error::from(ErrorKind::InvalidData);
+    assert!(rt; ends_with(alloc, Err(unread), 2, USAGE)?);
+    let refused = io::Error::from(ErrorKind::OutOfMemory);
+    assert!(rt; ends_with(alloc, Err(refused), 9, "no memory\n")?);
+    Ok(())
 }

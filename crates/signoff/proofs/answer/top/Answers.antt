@@ -1,8 +1,6 @@
 use Rattle.std.proofs.Common.{subst}
-use Rattle.signoff.specs.Promises.{Outcome}
 use Rattle.signoff.specs.Work.{TellsEnd}
 use Rattle.signoff.proofs.Promised.{outcome, headline, answer, exact, usage, kept, others, counted, run_end}
-use Rattle.signoff.proofs.answer.top.Given as given
 use Rattle.signoff.proofs.answer.top.Goals as goal
 
 pub returns-clause-outcome : goal.returns-clause-outcome

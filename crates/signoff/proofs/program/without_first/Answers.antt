@@ -1,5 +1,3 @@
-use Rattle.std.proofs.Common.{◌≡◌, ◌++◌, [], drop}
-use Rattle.std.specs.Vec.Iter.{into_iter_items}
 use Rattle.signoff.proofs.ProgramWords.{after_first, one_more, all_taken}
 use Rattle.signoff.proofs.program.without_first.Goals as goal
 
