@@ -44,7 +44,10 @@ fn constant(width: u32, base: Base, digits: &[u8]) -> Constant<'_> {
 fn bits_of_sized_constants(rt: HostRuntime) -> Result<(), Fail> {
     let alloc = rt.alloc();
     let extended = constant(6, Base::Hexadecimal, b"x1").bits(alloc)?;
-    assert_eq!(rt; extended.as_slice(), [X, X, Zero, Zero, Zero, One].as_slice());
+    assert_eq!(rt;
+        extended.as_slice(),
+        [X, X, Zero, Zero, Zero, One].as_slice()
+    );
     let dropped = constant(2, Base::Binary, b"101").bits(alloc)?;
     assert_eq!(rt; dropped.as_slice(), [Zero, One].as_slice());
     let wide = constant(5, Base::Octal, b"z").bits(alloc)?;
@@ -78,5 +81,7 @@ fn tokens_are_equal_by_kind_and_place(rt: HostRuntime) {
     assert!(rt; name != token(TokenKind::Name(b"b"), 3));
     assert!(rt; name != token(TokenKind::Other(b"a"), 3));
     assert!(rt; name != token(TokenKind::Name(b"a"), 4));
-    assert!(rt; token(TokenKind::Word(Keyword::And), 0) != token(TokenKind::Symbol(Symbol::And), 0));
+    assert!(rt;
+        token(TokenKind::Word(Keyword::And), 0) != token(TokenKind::Symbol(Symbol::And), 0)
+    );
 }
