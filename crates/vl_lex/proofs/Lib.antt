@@ -1,9 +1,4 @@
 -- The modules of this folder.
-pub mod Runs
-pub mod NumberLaws
-pub mod SizedLaws
-pub mod PieceLaws
-pub mod ModeLaws
 pub mod BranchLaws
 pub mod MacroLaws
 pub mod Splits

@@ -8,18 +8,18 @@ use Rattle.sg_text.specs.declared.refusals.Refused.{Refused}
 use Rattle.sg_text.specs.declared.refusals.Refused.TheVariants as refused
 use Rattle.vl_token.specs.Tokens.{Lexeme}
 use Rattle.vl_lex.specs.State.{Fault, State, Outcome, first_state}
-use Rattle.vl_lex.specs.Modes.{class_in, IsPiece, Piece, ArePieces}
+use Rattle.vl_pieces.specs.Modes.{class_in, IsPiece, Piece, ArePieces}
 use Rattle.vl_lex.specs.Effects.{Effect, comes_to, expands, defines, mode_at, effect}
 use Rattle.vl_lex.specs.Lexes.{first_fault, or_state, Checks, Leads, Then, Reads, IsRead, Expands, at_file_end, LexesFrom, too_large, LexesUnless, Lexes}
 use Rattle.vl_lex.specs.Seen.{Stands, Tells}
 use Rattle.vl_lex.specs.declared.faults.LexKind.{LexKind}
-use Rattle.vl_lex.specs.declared.modes.Mode.{Mode}
-use Rattle.vl_lex.specs.declared.modes.Mode.TheVariants.{Plain}
+use Rattle.vl_pieces.specs.declared.modes.Mode.{Mode}
+use Rattle.vl_pieces.specs.declared.modes.Mode.TheVariants.{Plain}
 use Rattle.vl_lex.specs.declared.origins.Origin.{Origin}
 use Rattle.vl_lex.specs.declared.origins.Origin.TheVariants.{File, Macro as InMacro}
-use Rattle.vl_lex.specs.declared.pieces.Class.{Class}
+use Rattle.vl_pieces.specs.declared.pieces.Class.{Class}
 use Rattle.vl_token.specs.declared.tokens.Token.{Token}
-use Rattle.vl_lex.proofs.ModeLaws.{piece_some}
+use Rattle.vl_pieces.proofs.ModeLaws.{piece_some}
 
 not_both : {A : Type 0} {o : Option A} {x : A} → o ≡ None → o ≡ Some x → ⊥
 not_both a b = cc

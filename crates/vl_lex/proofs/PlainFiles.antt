@@ -8,25 +8,25 @@ use Rattle.std.specs.Char.{is_ascii_digit}
 use Rattle.sg_text.specs.declared.places.Place.{Place}
 use Rattle.vl_token.specs.Tokens.{Meaning, Lexeme}
 use Rattle.sg_text.specs.Names.{is_name_start, is_name_byte}
-use Rattle.vl_lex.specs.Bytes.{is_blank, is_graphic, is_inline, first_of}
-use Rattle.vl_lex.specs.Ends.{end_of, quote_end}
-use Rattle.vl_lex.specs.NumberBridge.{number_len, sized_len}
+use Rattle.vl_pieces.specs.Bytes.{is_blank, is_graphic, is_inline, first_of}
+use Rattle.vl_pieces.specs.Ends.{end_of, quote_end}
+use Rattle.vl_pieces.specs.NumberBridge.{number_len, sized_len}
 use Rattle.vl_lex.specs.State.{State, Fault, Outcome, first_settings, first_state}
-use Rattle.vl_lex.specs.Modes.{IsPiece, Piece, is_value_byte, is_endtable, cell_of}
-use Rattle.vl_lex.specs.PieceBridge.{ended_piece, slash_piece, attribute_piece, paren_piece, quote_piece, tick_piece, symbol_len, long_piece, mark_piece, point_piece, apostrophe_piece, digit_piece, piece_from, piece_of, edge_piece, cell_piece, table_piece, line_piece, piece_in}
-use Rattle.vl_lex.specs.Meanings.{meaning_of}
+use Rattle.vl_pieces.specs.Modes.{IsPiece, Piece, is_value_byte, is_endtable, cell_of}
+use Rattle.vl_pieces.specs.PieceBridge.{ended_piece, slash_piece, attribute_piece, paren_piece, quote_piece, tick_piece, symbol_len, long_piece, mark_piece, point_piece, apostrophe_piece, digit_piece, piece_from, piece_of, edge_piece, cell_piece, table_piece, line_piece, piece_in}
+use Rattle.vl_pieces.specs.Meanings.{meaning_of}
 use Rattle.vl_lex.specs.Effects.{place_at, tokens_at, mode_behind, fault_of, is_use, effect}
 use Rattle.vl_lex.specs.Lexes.{first_fault, Leads, IsRead, Expands, LexesUnless, too_large, Lexes}
 use Rattle.vl_lex.specs.Laws.{AreSplit, tokens_of, unless_fault}
 use Rattle.vl_lex.specs.declared.faults.Found.{Found}
-use Rattle.vl_lex.specs.declared.bytes.First.{First}
-use Rattle.vl_lex.specs.declared.bytes.First.TheVariants.{Blank, Letter, Backslash, Dollar, Quote, Tick, Apostrophe, Slash, Paren, Mark, Bad}
-use Rattle.vl_lex.specs.declared.modes.Mode.{Mode}
-use Rattle.vl_lex.specs.declared.modes.Mode.TheVariants.{Plain, AfterEdge, Edges, Table, EdgesTable, Line}
+use Rattle.vl_pieces.specs.declared.bytes.First.{First}
+use Rattle.vl_pieces.specs.declared.bytes.First.TheVariants.{Blank, Letter, Backslash, Dollar, Quote, Tick, Apostrophe, Slash, Paren, Mark, Bad}
+use Rattle.vl_pieces.specs.declared.modes.Mode.{Mode}
+use Rattle.vl_pieces.specs.declared.modes.Mode.TheVariants.{Plain, AfterEdge, Edges, Table, EdgesTable, Line}
 use Rattle.vl_lex.specs.declared.origins.Origin.TheVariants.{File}
-use Rattle.vl_lex.specs.declared.pieces.Class.{Class}
-use Rattle.vl_lex.specs.declared.pieces.Class.TheVariants as class
-use Rattle.vl_lex.proofs.ModeLaws.{piece_in_front, piece_some}
+use Rattle.vl_pieces.specs.declared.pieces.Class.{Class}
+use Rattle.vl_pieces.specs.declared.pieces.Class.TheVariants as class
+use Rattle.vl_pieces.proofs.ModeLaws.{piece_in_front, piece_some}
 
 abbrev NoTick : List ℕ → Type 0
 NoTick text = list_all (λ b. not (b == 96)) text ≡ true

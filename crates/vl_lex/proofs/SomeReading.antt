@@ -4,14 +4,14 @@ use Rattle.std.specs.Prelude.{Option, Some, None, Result, Ok, Err}
 use Rattle.sg_text.specs.declared.places.Place.{Place}
 use Rattle.vl_token.specs.Tokens.{Lexeme}
 use Rattle.vl_lex.specs.State.{Fault, State, Outcome, first_state}
-use Rattle.vl_lex.specs.Modes.{IsPiece}
-use Rattle.vl_lex.specs.PieceBridge.{piece_in}
+use Rattle.vl_pieces.specs.Modes.{IsPiece}
+use Rattle.vl_pieces.specs.PieceBridge.{piece_in}
 use Rattle.vl_lex.specs.Effects.{Effect, comes_to, expands, defines, mode_at, effect}
 use Rattle.vl_lex.specs.Lexes.{first_fault, or_state, Leads, Then, IsRead, Expands, at_file_end, at_end, LexesFrom, too_large, LexesUnless, Lexes}
 use Rattle.vl_lex.specs.declared.origins.Origin.{Origin}
 use Rattle.vl_lex.specs.declared.origins.Origin.TheVariants.{File, Macro as InMacro}
-use Rattle.vl_lex.specs.declared.pieces.Class.{Class}
-use Rattle.vl_lex.proofs.ModeLaws.{piece_in_front, piece_some}
+use Rattle.vl_pieces.specs.declared.pieces.Class.{Class}
+use Rattle.vl_pieces.proofs.ModeLaws.{piece_in_front, piece_some}
 use Rattle.vl_lex.proofs.Splits.{split_some}
 
 abbrev pub IsSome : (Place → List ℕ → State → Outcome → Type 0) → Type 0

@@ -2,17 +2,17 @@
 use Rattle.std.proofs.Common.{◌≡◌, ℕ, zero, suc, ◌+◌, ◌≤◌, List, [], ◌∷◌, length, length-drop, take, drop, refl, sym, ap, ◌∙◌, arith, subst}
 use Rattle.std.specs.Prelude.{Option, Some, None}
 use Rattle.std.proofs.lemmas.List.{take_all}
-use Rattle.vl_lex.specs.PieceBridge.{piece_of}
-use Rattle.vl_lex.specs.Modes.{IsPiece, Piece, ArePieces}
+use Rattle.vl_pieces.specs.PieceBridge.{piece_of}
+use Rattle.vl_pieces.specs.Modes.{IsPiece, Piece, ArePieces}
 use Rattle.vl_lex.specs.State.{Fault}
 use Rattle.vl_lex.specs.Effects.{place_at, fault_of}
 use Rattle.vl_lex.specs.Lexes.{fault_or, first_fault, Checks}
 use Rattle.vl_lex.specs.declared.faults.Found.{Found}
 use Rattle.vl_lex.specs.declared.origins.Origin.{Origin}
-use Rattle.vl_lex.specs.declared.pieces.Class.{Class}
-use Rattle.vl_lex.specs.declared.modes.Mode.TheVariants.{Plain}
-use Rattle.vl_lex.proofs.PieceLaws.{piece_at_front}
-use Rattle.vl_lex.proofs.ModeLaws.{piece_some}
+use Rattle.vl_pieces.specs.declared.pieces.Class.{Class}
+use Rattle.vl_pieces.specs.declared.modes.Mode.TheVariants.{Plain}
+use Rattle.vl_pieces.proofs.PieceLaws.{piece_at_front}
+use Rattle.vl_pieces.proofs.ModeLaws.{piece_some}
 
 pub record IsSplit (text : List ℕ) : Type 0 where
   pub pieces : List Piece

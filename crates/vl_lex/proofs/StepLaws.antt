@@ -9,9 +9,9 @@ use Rattle.vl_lex.specs.State.{State, Fault, Outcome}
 use Rattle.vl_lex.specs.Effects.{Effect, comes_to, expands, defines, effect, mode_at}
 use Rattle.vl_lex.specs.Lexes.{Leads, IsRead, Expands, IsFileRead, LexesFrom}
 use Rattle.vl_token.specs.Tokens.{Lexeme}
-use Rattle.vl_lex.specs.Modes.{IsPiece}
-use Rattle.vl_lex.specs.declared.pieces.Class.{Class}
-use Rattle.vl_lex.specs.declared.modes.Mode.{Mode}
+use Rattle.vl_pieces.specs.Modes.{IsPiece}
+use Rattle.vl_pieces.specs.declared.pieces.Class.{Class}
+use Rattle.vl_pieces.specs.declared.modes.Mode.{Mode}
 use Rattle.vl_lex.specs.StateBridge.{IsChecked, Answers, NoText, Steps, AreRead}
 use Rattle.vl_lex.specs.Seen.{texts}
 use Rattle.vl_lex.specs.declared.faults.LexKind.{LexKind}

@@ -13,7 +13,7 @@ use Rattle.vl_lex.specs.declared.branches.Branch.{Branch}
 use Rattle.vl_lex.specs.declared.directives.Directive.{Directive}
 use Rattle.vl_lex.specs.declared.directives.Directive.TheVariants.{Timescale, ResetAll, CellDefine, EndCellDefine, DefaultNetType, Define, Undef, IfDef, IfNDef, ElsIf, Else, EndIf, NoEffect}
 use Rattle.vl_lex.specs.declared.origins.Origin.{Origin}
-use Rattle.vl_lex.specs.declared.pieces.Class.{Class}
+use Rattle.vl_pieces.specs.declared.pieces.Class.{Class}
 
 -- a state that an outcome is keeps all but branches
 abbrev KeepsOk : State → Outcome → Type 0

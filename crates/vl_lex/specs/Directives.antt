@@ -4,7 +4,8 @@ use Rattle.std.specs.List.{list_any}
 use Rattle.std.specs.Option.{option_map}
 use Rattle.sg_text.specs.declared.places.Place.{Place}
 use Rattle.vl_token.specs.Tokens.{Timescale as Scale, Settings}
-use Rattle.vl_lex.specs.State.{Macros, Word, State, Outcome, fault, first_settings, same_bytes, is_taken}
+use Rattle.vl_pieces.specs.Bytes.{same_bytes}
+use Rattle.vl_lex.specs.State.{Macros, Word, State, Outcome, fault, first_settings, is_taken}
 use Rattle.vl_lex.specs.declared.faults.LexKind.TheVariants.{BadDirective, UnbalancedIf}
 use Rattle.vl_lex.specs.declared.branches.Branch.{Branch}
 use Rattle.vl_lex.specs.declared.directives.Directive.{Directive}

@@ -4,22 +4,23 @@ use Rattle.std.specs.List.{prefix_len}
 use Rattle.std.specs.Char.{is_ascii_graphic}
 use Rattle.sg_text.specs.declared.places.Place.{Place}
 use Rattle.sg_text.specs.Names.{is_name_start, is_name_byte}
-use Rattle.vl_lex.specs.Bytes.{is_blank}
+use Rattle.vl_pieces.specs.Bytes.{is_blank}
 use Rattle.vl_token.specs.Tokens.{Meaning, Lexeme}
-use Rattle.vl_lex.specs.State.{waits, Waiting, State, Outcome, fault, same_bytes, is_taken, is_looked_at}
+use Rattle.vl_pieces.specs.Bytes.{same_bytes}
+use Rattle.vl_lex.specs.State.{waits, Waiting, State, Outcome, fault, is_taken, is_looked_at}
 use Rattle.vl_lex.specs.Directives.{directive_of, is_conditional, words_wanted, with_macro, outcome_of_directive}
 use Rattle.vl_lex.specs.declared.faults.LexKind.{LexKind}
 use Rattle.vl_lex.specs.declared.faults.LexKind.TheVariants.{BadByte, UnendedComment, UnendedText, UnknownDirective, BadDirective}
 use Rattle.vl_lex.specs.declared.faults.Found.{Found}
 use Rattle.vl_lex.specs.declared.directives.Directive.{Directive}
 use Rattle.vl_lex.specs.declared.directives.Directive.TheVariants.{Define}
-use Rattle.vl_lex.specs.declared.modes.Mode.{Mode}
-use Rattle.vl_lex.specs.declared.modes.Mode.TheVariants.{Plain, AfterEdge, Edges, Table, EdgesTable, Line}
+use Rattle.vl_pieces.specs.declared.modes.Mode.{Mode}
+use Rattle.vl_pieces.specs.declared.modes.Mode.TheVariants.{Plain, AfterEdge, Edges, Table, EdgesTable, Line}
 use Rattle.vl_lex.specs.declared.origins.Origin.{Origin}
 use Rattle.vl_lex.specs.declared.origins.Origin.TheVariants.{File, Macro as InMacro}
-use Rattle.vl_lex.specs.declared.pieces.Class.{Class}
-use Rattle.vl_lex.specs.declared.pieces.Class.TheVariants as class
-use Rattle.vl_lex.specs.Meanings.{meaning_of}
+use Rattle.vl_pieces.specs.declared.pieces.Class.{Class}
+use Rattle.vl_pieces.specs.declared.pieces.Class.TheVariants as class
+use Rattle.vl_pieces.specs.Meanings.{meaning_of}
 
 -- the place of a byte; all that a macro gives has the place of its outermost use
 abbrev pub place_at : Origin → ℕ → Place

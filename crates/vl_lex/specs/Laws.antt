@@ -5,17 +5,17 @@ use Rattle.sg_text.specs.declared.places.Place.{Place}
 use Rattle.vl_token.specs.Tokens.{Settings, Lexeme}
 use Rattle.vl_lex.specs.State.{State, Fault, first_settings, is_taken}
 use Rattle.vl_lex.specs.Directives.{directive_of}
-use Rattle.vl_lex.specs.Modes.{IsPiece, Piece}
-use Rattle.vl_lex.specs.Meanings.{meaning_of}
+use Rattle.vl_pieces.specs.Modes.{IsPiece, Piece}
+use Rattle.vl_pieces.specs.Meanings.{meaning_of}
 use Rattle.vl_lex.specs.Effects.{place_at, tokens_at, mode_behind, effect}
 use Rattle.vl_lex.specs.Lexes.{first_fault, Leads, IsRead, Expands, Lexes}
 use Rattle.vl_lex.specs.declared.branches.Branch.{Branch}
-use Rattle.vl_lex.specs.declared.modes.Mode.{Mode}
-use Rattle.vl_lex.specs.declared.modes.Mode.TheVariants.{Plain}
+use Rattle.vl_pieces.specs.declared.modes.Mode.{Mode}
+use Rattle.vl_pieces.specs.declared.modes.Mode.TheVariants.{Plain}
 use Rattle.vl_lex.specs.declared.origins.Origin.{Origin}
 use Rattle.vl_lex.specs.declared.origins.Origin.TheVariants.{File, Macro as InMacro}
-use Rattle.vl_lex.specs.declared.pieces.Class.{Class}
-use Rattle.vl_lex.specs.declared.pieces.Class.TheVariants as class
+use Rattle.vl_pieces.specs.declared.pieces.Class.{Class}
+use Rattle.vl_pieces.specs.declared.pieces.Class.TheVariants as class
 
 -- each list of files has an outcome, a token list or a fault
 abbrev pub SomeOutcome : Type 0

@@ -3,7 +3,7 @@ use Rattle.std.specs.Prelude.{ℕ, zero, suc, ◌≡◌, ◌+◌, ◌^◌, nat_l
 use Rattle.sg_text.specs.declared.places.Place.{Place}
 use Rattle.vl_token.specs.Tokens.{Lexeme}
 use Rattle.vl_lex.specs.State.{Waiting, State, Fault, Outcome, fault, first_state}
-use Rattle.vl_lex.specs.Modes.{IsPiece, Piece, ArePieces}
+use Rattle.vl_pieces.specs.Modes.{IsPiece, Piece, ArePieces}
 use Rattle.vl_lex.specs.declared.faults.LexKind.TheVariants.{UnbalancedIf, MacroTooDeep, FileTooLarge, BadDirective}
 use Rattle.vl_lex.specs.declared.faults.Found.{Found}
 use Rattle.vl_lex.specs.declared.branches.Branch.{Branch}

@@ -1,11 +1,10 @@
 -- The state of the directives (IEEE 1364-2005, the clause on compiler directives), and the tokens so far.
-use Rattle.std.specs.Prelude.{ℕ, pos, neg_ℤ, nat_eq, List, [], ◌∷◌, Bool, true, false, Option, Some, None, Result, Err}
-use lib.Pointwise.{pointwise}
+use Rattle.std.specs.Prelude.{ℕ, pos, neg_ℤ, List, [], ◌∷◌, Bool, true, false, Option, Some, None, Result, Err}
 use Rattle.sg_text.specs.declared.places.Place.{Place}
 use Rattle.vl_token.specs.Tokens.{Settings, Lexeme}
 use Rattle.vl_lex.specs.declared.faults.LexKind.{LexKind}
-use Rattle.vl_lex.specs.declared.modes.Mode.{Mode}
-use Rattle.vl_lex.specs.declared.modes.Mode.TheVariants.{Plain}
+use Rattle.vl_pieces.specs.declared.modes.Mode.{Mode}
+use Rattle.vl_pieces.specs.declared.modes.Mode.TheVariants.{Plain}
 use Rattle.vl_lex.specs.declared.directives.Directive.{Directive}
 use Rattle.vl_lex.specs.declared.branches.Branch.{Branch}
 
@@ -50,9 +49,6 @@ first_settings = record { scale = record { unit = neg_ℤ (pos 9); precision = n
 
 abbrev pub first_state : State
 first_state = record { mode = Plain; waiting = None; macros = λ name. None; branches = []; settings = first_settings; tokens = [] }
-
-abbrev pub same_bytes : List ℕ → List ℕ → Bool
-same_bytes = pointwise nat_eq
 
 -- a directive waits for its words
 abbrev pub waits : Waiting → State → State

@@ -7,6 +7,7 @@ use Rattle.indexmap.specs.IndexMap.{get_by}
 use Rattle.sg_text.specs.declared.places.Place.{Place}
 use Rattle.sg_text.specs.declared.refusals.Refused.{Refused}
 use Rattle.sg_text.specs.declared.refusals.Refused.TheVariants as refused
+use Rattle.vl_pieces.specs.Bytes.{same_bytes}
 use Rattle.vl_lex.specs.State as def
 use Rattle.vl_lex.specs.State.{State, Fault, Outcome}
 use Rattle.vl_lex.specs.Effects.{Effect, expands}
@@ -27,7 +28,7 @@ waiting w = record { directive = w.directive; place = w.place; words = map word 
 
 -- the text of each name that is a key
 abbrev pub macros : Macros → def.Macros
-macros m name = option_map (λ t. t.bytes.now) (get_by (λ key. def.same_bytes name key.now) m.texts)
+macros m name = option_map (λ t. t.bytes.now) (get_by (λ key. same_bytes name key.now) m.texts)
 
 -- the innermost branch comes last in the code
 abbrev pub state : Lexer → State

@@ -2,13 +2,14 @@
 ghost use Rattle.std.specs.Prelude.{◌≡◌, ◌<◌, length, map, Option, Some, None, MatchOption};
 ghost use Rattle.std.specs.Option.{option_map};
 ghost use Rattle.std.specs.List.{list_any};
-ghost use Rattle.vl_lex.specs.State.{same_bytes, is_taken};
+ghost use Rattle.vl_pieces.specs.Bytes.{same_bytes};
+ghost use Rattle.vl_lex.specs.State.{is_taken};
 ghost use Rattle.vl_lex.specs.Directives.{are_no_effect, branch_directive, other_directive, directive_of, is_conditional, words_wanted, name_of, implicit_from};
 ghost use Rattle.vl_lex.specs.StateBridge.{word};
 
 use crate::branches::Branch;
-use crate::bytes::{is_among, is_word};
 use sg_text::Place;
+use vl_pieces::{is_among, is_word};
 
 /// A compiler directive.
 #[derive(Clone, Copy, Debug, PartialEq, Eq)]

@@ -2,8 +2,8 @@
 use crate::branches::Branch;
 use crate::directives::Waiting;
 use crate::macros::Macros;
-use crate::modes::Mode;
 use std::alloc::Global;
+use vl_pieces::Mode;
 use vl_token::{Mark, Token};
 
 /// What is known of the texts so far: the innermost branch comes last.

@@ -3,20 +3,14 @@
 
 mod applying;
 mod branches;
-mod bytes;
-mod constants;
 mod directives;
 mod faults;
 mod laws;
 mod lexer;
 mod macros;
-mod meanings;
 mod mode_changes;
-mod modes;
-mod numbers;
 mod origins;
 mod piece_faults;
-mod pieces;
 mod reading;
 mod room;
 mod scales;

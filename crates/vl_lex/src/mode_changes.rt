@@ -2,9 +2,7 @@
 ghost use Rattle.std.specs.Prelude.{◌≡◌};
 ghost use Rattle.vl_lex.specs.Effects.{mode_by_name, behind_plain, behind_edge, behind_edges, behind_cell, mode_behind};
 
-use crate::bytes::is_word;
-use crate::modes::Mode;
-use crate::pieces::Class;
+use vl_pieces::{Class, Mode, is_word};
 
 fn mode_by_name(bytes: &[u8]) -> Mode
     ensures { result ≡ mode_by_name bytes.now }

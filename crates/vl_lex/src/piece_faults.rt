@@ -3,12 +3,10 @@ ghost use Rattle.std.specs.Prelude.{◌≡◌, ◌≤◌, ◌<◌, ◌+◌, ◌^
 ghost use Rattle.vl_lex.specs.Effects.{is_bad, bad_from, fault_of, fault_in};
 ghost use Rattle.vl_lex.specs.StateBridge.{IsChecked};
 
-use crate::bytes::is_blank;
 use crate::faults::{Found, LexKind, fault};
-use crate::modes::{Mode, first_piece};
 use crate::origins::Origin;
-use crate::pieces::Class;
 use sg_text::Refused;
+use vl_pieces::{Class, Mode, first_piece, is_blank};
 
 fn is_bad(b: u8) -> bool
     ensures { result ≡ is_bad b }

@@ -11,12 +11,11 @@ use crate::applying::first_mark;
 use crate::faults::{LexKind, bad_directive, fault};
 use crate::lexer::Lexer;
 use crate::macros::Macros;
-use crate::modes::{Mode, first_piece};
 use crate::origins::Origin;
-use crate::pieces::Class;
 use crate::room::token_room;
 use sg_text::{Place, Refused};
 use std::alloc::Global;
+use vl_pieces::{Class, Mode, first_piece};
 use vl_token::Token;
 
 // How many uses of macros may lie within one another.

@@ -5,9 +5,9 @@ ghost use Rattle.vl_lex.specs.Directives.{tens_of, unit_of, power_of, scale_from
 ghost use Rattle.vl_lex.specs.StateBridge.{word};
 ghost use Rattle.vl_token.specs.Seen.{timescale};
 
-use crate::bytes::is_word;
 use crate::directives::Word;
 use sg_time::{Scale, Unit};
+use vl_pieces::is_word;
 
 fn tens_of(bytes: &[u8]) -> Option<i8>
     ensures value { result ≡ tens_of bytes.now }

@@ -1,7 +1,7 @@
 // What comes of one piece of a text: a token, a fault, or a change of the state.
 ghost use Rattle.std.specs.Prelude.{◌≡◌, ◌≤◌, ◌<◌, ◌+◌, ◌^◌, length, drop, OnOk, IfOk, IfSome, Option, Some, None};
 ghost use Rattle.std.specs.List.{prefix_len};
-ghost use Rattle.vl_lex.specs.Bytes.{is_blank};
+ghost use Rattle.vl_pieces.specs.Bytes.{is_blank};
 ghost use Rattle.vl_lex.specs.State.{is_taken, is_looked_at, waits};
 ghost use Rattle.vl_lex.specs.Directives.{with_macro, directive_of as directive_named};
 ghost use Rattle.vl_lex.specs.Effects.{defines, mode_at, taken_piece, apply_or_wait, with_word, gap_outcome, begins_arguments, begins_name, line_effect, define_effect_behind, word_effect, first_words, use_effect, tick_effect, untaken_outcome, is_use, effect_at, effect, is_define, place_at};
@@ -9,17 +9,14 @@ ghost use Rattle.vl_lex.specs.Lexes.{Leads};
 ghost use Rattle.vl_lex.specs.StateBridge.{waiting as waiting_seen, state, Gives, Answers, NoText, Steps};
 
 use crate::branches::{is_taken, words_wanted};
-use crate::bytes::{is_blank, name_len};
 use crate::directives::{Directive, Waiting, Word, directive_of};
 use crate::faults::{LexKind, bad_directive, fault};
 use crate::lexer::Lexer;
-use crate::meanings::{behind_first, kind_of};
 use crate::mode_changes::mode_behind;
-use crate::modes::Mode;
 use crate::origins::Origin;
 use crate::piece_faults::{check_text, fault_in};
-use crate::pieces::Class;
 use sg_text::{NoMemory, Place, Refused, is_name_start};
+use vl_pieces::{Class, Mode, behind_first, is_blank, kind_of, name_len};
 use vl_token::Token;
 
 fn is_define(directive: Directive) -> bool
