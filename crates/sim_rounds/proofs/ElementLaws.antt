@@ -22,7 +22,7 @@ use Rattle.sg_circuit.specs.declared.circuits.Parts.{Parts}
 use Rattle.udp_table.specs.declared.table.Table.{Table}
 use Rattle.udp_table.specs.Cells.{IsTableOf, IsWhole}
 use Rattle.sg_circuit.proofs.SeenLaws.{all-unmapped, map-mapped}
-use Rattle.sim_rounds.specs.declared.elements.Inputs.{Inputs}
+use Rattle.sim_rounds.specs.declared.computing.Inputs.{Inputs}
 use Rattle.sim_rounds.specs.Inputs.{HasRoom}
 use Rattle.sim_rounds.specs.Elements.{IsElement, AreTables, ElementsSeen}
 use Rattle.sim_rounds.specs.Evaluable.{AreEvaluable}

@@ -5,7 +5,7 @@ use Rattle.sg_circuit.specs.Closed.{IsClosed}
 use Rattle.sg_circuit.specs.Seen.{circuit_seen, AreIndexed}
 use Rattle.sg_circuit.specs.declared.circuits.Parts.{Parts}
 use Rattle.udp_table.specs.declared.table.Table.{Table}
-use Rattle.sim_rounds.specs.declared.elements.Inputs.{Inputs}
+use Rattle.sim_rounds.specs.declared.computing.Inputs.{Inputs}
 use Rattle.sim_rounds.specs.Inputs.{HasRoom}
 use Rattle.sim_rounds.specs.Elements.{AreTables}
 
