@@ -1,5 +1,5 @@
 // A circuit, made of its parts.
-ghost use Rattle.std.specs.Prelude.{◌≡◌};
+ghost use Rattle.std.specs.Prelude.{◌≡◌, ◌↔◌, IfSome, IsSome};
 ghost use Rattle.sg_circuit.specs.Closed.{IsClosed};
 ghost use Rattle.sg_circuit.specs.Seen.{circuit_seen, AreIndexed};
 
@@ -52,6 +52,17 @@ impl Circuit {
         ensures { result ≡ circuit_seen parts }
     {
         Circuit { parts }
+    }
+
+    /// The circuit of these parts, or None where they don't fit together. It takes time in proportion to them.
+    pub fn try_close(parts: Parts) -> Option<Circuit>
+        ensures fit { IsSome result ↔ (IsClosed (circuit_seen parts) × AreIndexed parts) }
+        ensures circuit { IfSome result (λ circuit. circuit ≡ circuit_seen parts) }
+    {
+        if !parts.fit() {
+            return None;
+        }
+        Some(Circuit::close(parts))
     }
 
     /// Its parts.

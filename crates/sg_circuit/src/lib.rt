@@ -9,6 +9,8 @@ mod fan_out;
 mod fitting;
 mod nets;
 mod scopes;
+#[cfg(test)]
+mod tests;
 
 pub use building::{Pin, add_pins};
 pub use checks::{Check, CheckKind, Terminal};

@@ -6,7 +6,7 @@ use Rattle.sg_circuit.specs.Circuit.{Timing, Leg}
 use Rattle.sg_circuit.specs.Closed.{IsTiming, HasDelays}
 use Rattle.sg_circuit.specs.Seen.{limit_seen, timings_of, leg_timing_seen}
 use Rattle.sg_circuit.specs.declared.elements.LegTiming.{LegTiming}
-use Rattle.sim_rounds.specs.declared.elements.Pulse.{Pulse}
+use Rattle.sim_rounds.specs.declared.placing.Pulse.{Pulse}
 use Rattle.sim_rounds.specs.Simulated.{limits_or, limits_of}
 use Rattle.sim_rounds.specs.Pulses.{IsPulse}
 

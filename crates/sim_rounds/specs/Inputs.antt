@@ -1,7 +1,7 @@
 -- The room for the values of an element's inputs.
 use Rattle.std.specs.Prelude.{ℕ, ◌≤◌}
 use Rattle.std.specs.Vec.{vec_capacity}
-use Rattle.sim_rounds.specs.declared.elements.Inputs.{Inputs}
+use Rattle.sim_rounds.specs.declared.computing.Inputs.{Inputs}
 
 -- room for so many values, twice
 pub record HasRoom (inputs : Inputs) (count : ℕ) : Type 0 where

@@ -18,3 +18,4 @@ pub mod Checks
 pub mod Simulations
 pub mod Steps
 pub mod Skipping
+pub mod Evaluable

@@ -2,7 +2,7 @@
 use Rattle.std.specs.Prelude.{◌≡◌, ◌<◌, ◌≤◌, ◌^◌}
 use Rattle.sg_circuit.specs.Circuit.{Timing}
 use Rattle.sim_rounds.specs.Simulated.{limits_of}
-use Rattle.sim_rounds.specs.declared.elements.Pulse.{Pulse}
+use Rattle.sim_rounds.specs.declared.placing.Pulse.{Pulse}
 
 -- those of a timing, with limits in order
 pub record IsPulse (pulse : Pulse) (timing : Timing) : Type 0 where

@@ -2,6 +2,7 @@
 #![tactic(auto)]
 
 mod checks;
+mod computing;
 mod elements;
 mod evaluation;
 mod laws;
@@ -9,6 +10,7 @@ mod lists;
 mod naming;
 mod nets;
 mod pending;
+mod placing;
 mod rounds;
 mod runs;
 mod simulated;

@@ -1,7 +1,7 @@
 use Rattle.std.proofs.Common.{◌≡◌, ◌≤◌, take}
 use Rattle.std.specs.Vec.{vec_capacity}
 use Rattle.sim_rounds.specs.Simulated.{values_at}
-use Rattle.sim_rounds.proofs.elements.read_nets.Given as goal
+use Rattle.sim_rounds.proofs.computing.read_nets.Given as goal
 
 abbrev pub invariant-loop-net : goal.invariant-loop-net
 invariant-loop-net l = record {

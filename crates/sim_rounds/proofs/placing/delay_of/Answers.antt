@@ -2,7 +2,7 @@ use Rattle.std.proofs.Common.{◌<◌, ◌^◌, ◌∙◌, ap, sym, subst, arith
 use Rattle.sg_delay.specs.GateDelay.{delay_to}
 use Rattle.sg_circuit.specs.Seen.{delays_at}
 use Rattle.sim_rounds.proofs.DelayLaws.{delay_fits, delays-at, count_at}
-use Rattle.sim_rounds.proofs.elements.delay_of.Goals as goal
+use Rattle.sim_rounds.proofs.placing.delay_of.Goals as goal
 
 pub gate_delay-requires : goal.gate_delay-requires
 gate_delay-requires c = count_at c.args.table.now c.args.place c.index-table-place.result c.requires.place c.index-table-place.is c.requires.counts
