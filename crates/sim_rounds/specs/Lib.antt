@@ -18,3 +18,5 @@ pub mod Checks
 pub mod Simulations
 pub mod Steps
 pub mod Skipping
+pub mod Fresh
+pub mod Setting
