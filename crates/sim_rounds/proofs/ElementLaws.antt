@@ -1,8 +1,11 @@
 -- An element of a closed circuit is what its code says, and its evaluation is the machine's.
-use Rattle.std.specs.Prelude.{◌≡◌, ℕ, ◌<◌, ◌≤◌, All, List, [], ◌∷◌, Option, None, length, map, slice_index_or, slice_set, refl}
-use Rattle.std.proofs.Common.{sym, ◌∙◌, ap, subst, arith}
+use Rattle.std.specs.Prelude.{◌≡◌, ◌≢◌, ◌⊎◌, ℕ, ◌+◌, ◌<◌, ◌≤◌, All, List, [], ◌∷◌, ◌++◌, Option, None, length, map, take, slice_index_or, slice_set, refl}
+use Rattle.std.proofs.Common.{sym, ◌∙◌, ap, subst, arith, inl, inr}
 use Rattle.std.specs.Vec.{vec_capacity}
-use Rattle.std.proofs.lemmas.List.{length-map, get_or-map, get_or_default}
+use Rattle.std.proofs.lemmas.Bool.{cases_eq}
+use Rattle.std.proofs.lemmas.List.{length-map, length-append, length-take-le, take_more, get_or-map, get_or_default}
+use Rattle.std.proofs.Math.Seq.{get_or-append_seam}
+use Rattle.std.proofs.Math.ListN.{get_or-append}
 use Rattle.std.proofs.lemmas.List.Elements.{All-map}
 use Rattle.sg_logic.specs.declared.values.Value.{Value}
 use Rattle.sg_logic.specs.declared.values.Value.TheVariants.{X}
@@ -14,11 +17,15 @@ use Rattle.sg_circuit.specs.Circuit.{Circuit, Element, Pass, element_at}
 use Rattle.sg_circuit.specs.Closed.{IsClosed, TakesInputs, HasDelays}
 use Rattle.sg_circuit.specs.Seen.{circuit_seen, kind_seen, element_seen, IsIndexed, AreIndexed}
 use Rattle.sg_circuit.specs.declared.elements.Element as code_element
+use Rattle.sg_circuit.specs.declared.elements.UdpUse.{UdpUse}
 use Rattle.sg_circuit.specs.declared.circuits.Parts.{Parts}
+use Rattle.udp_table.specs.declared.table.Table.{Table}
+use Rattle.udp_table.specs.Cells.{IsTableOf, IsWhole}
 use Rattle.sg_circuit.proofs.SeenLaws.{all-unmapped, map-mapped}
 use Rattle.sim_rounds.specs.declared.elements.Inputs.{Inputs}
 use Rattle.sim_rounds.specs.Inputs.{HasRoom}
-use Rattle.sim_rounds.specs.Elements.{IsElement}
+use Rattle.sim_rounds.specs.Elements.{IsElement, AreTables, ElementsSeen}
+use Rattle.sim_rounds.specs.Evaluable.{AreEvaluable}
 use Rattle.sim_rounds.specs.Simulated.{machine_of, first_state, first_of_kind, values_at, value_of_kind, rule_of_kind}
 
 seen_element : (parts : Parts) (e : ℕ) (item : code_element.Element) → IsClosed (circuit_seen parts) → AreIndexed parts → e < length parts.elements.items → item ≡ slice_index_or parts.elements.items e item
@@ -109,3 +116,92 @@ all_have_room circuit parts elements inputs width seen same most before after =
     let rooms : All (λ e. HasRoom inputs (length e.inputs.items)) elements = (λ k d l. (let m = most k d l in record { before = omega (arith, m, before); after = omega (arith, m, after) })) in
     subst (λ c. All (λ (x : Element). HasRoom inputs (length x.inputs)) c.elements) seen
     (All-map (λ (x : Element). HasRoom inputs (length x.inputs)) (element_seen parts) parts.elements.items (subst (λ es. All (λ e. HasRoom inputs (length e.inputs.items)) es) same rooms))
+
+-- what the code of a circuit's elements holds stands for
+element_in : (seen : ElementsSeen) (parts : Parts) (tables : List Table) (states : List Value) (inputs : Inputs) (e : ℕ) (item : code_element.Element) → record { circuit = circuit_seen parts; states = states } ≡ seen → AreEvaluable parts tables states inputs
+    → e < length (machine_of seen.circuit).inputs → item ≡ slice_index_or parts.elements.items e item → IsElement seen.circuit parts e item
+element_in seen parts tables states inputs e item view h l is =
+    the_element seen.circuit parts e item (ap (λ (s : ElementsSeen). s.circuit) view) (subst (λ (s : ElementsSeen). IsClosed s.circuit) view h.closed) h.indexed l is
+
+pub inputs_in : (seen : ElementsSeen) (parts : Parts) (tables : List Table) (states : List Value) (inputs : Inputs) (e : ℕ) (item : code_element.Element) (values : List Value) → record { circuit = circuit_seen parts; states = states } ≡ seen → AreEvaluable parts tables states inputs
+    → e < length (machine_of seen.circuit).inputs → item ≡ slice_index_or parts.elements.items e item → length values ≡ length seen.circuit.nets → All (λ n. n < length values) item.inputs.items
+inputs_in seen parts tables states inputs e item values view h l is many = inputs_among seen.circuit parts e item values (element_in seen parts tables states inputs e item view h l is) many
+
+pub output_in : (seen : ElementsSeen) (parts : Parts) (tables : List Table) (states : List Value) (inputs : Inputs) (e : ℕ) (item : code_element.Element) (values : List Value) → record { circuit = circuit_seen parts; states = states } ≡ seen → AreEvaluable parts tables states inputs
+    → e < length (machine_of seen.circuit).inputs → item ≡ slice_index_or parts.elements.items e item → length values ≡ length seen.circuit.nets → item.output < length values
+output_in seen parts tables states inputs e item values view h l is many = subst (λ n. item.output < n) (sym many) (element_in seen parts tables states inputs e item view h l is).output
+
+pub room_in : (seen : ElementsSeen) (parts : Parts) (tables : List Table) (states : List Value) (inputs : Inputs) (e : ℕ) (item : code_element.Element) → record { circuit = circuit_seen parts; states = states } ≡ seen → AreEvaluable parts tables states inputs
+    → e < length (machine_of seen.circuit).inputs → item ≡ slice_index_or parts.elements.items e item → HasRoom inputs (length item.inputs.items)
+room_in seen parts tables states inputs e item view h l is =
+    has_room seen.circuit parts e item inputs (element_in seen parts tables states inputs e item view h l is)
+    (subst (λ (s : ElementsSeen). All (λ (x : Element). HasRoom inputs (length x.inputs)) s.circuit.elements) view h.room)
+
+pub takes_in : (seen : ElementsSeen) (parts : Parts) (tables : List Table) (states : List Value) (inputs : Inputs) (e : ℕ) (item : code_element.Element) → record { circuit = circuit_seen parts; states = states } ≡ seen → AreEvaluable parts tables states inputs
+    → e < length (machine_of seen.circuit).inputs → item ≡ slice_index_or parts.elements.items e item → TakesInputs (kind_seen parts item.kind) (length item.inputs.items)
+takes_in seen parts tables states inputs e item view h l is = (element_in seen parts tables states inputs e item view h l is).takes
+
+pub delays_in : (seen : ElementsSeen) (parts : Parts) (tables : List Table) (states : List Value) (inputs : Inputs) (e : ℕ) (item : code_element.Element) → record { circuit = circuit_seen parts; states = states } ≡ seen → AreEvaluable parts tables states inputs
+    → e < length (machine_of seen.circuit).inputs → item ≡ slice_index_or parts.elements.items e item → HasDelays (kind_seen parts item.kind)
+delays_in seen parts tables states inputs e item view h l is = (element_in seen parts tables states inputs e item view h l is).delays
+
+pub value_in : (seen : ElementsSeen) (parts : Parts) (tables : List Table) (states : List Value) (inputs : Inputs) (e : ℕ) (item : code_element.Element) (before after : List Value) (state v : Value) → record { circuit = circuit_seen parts; states = states } ≡ seen → AreEvaluable parts tables states inputs
+    → e < length (machine_of seen.circuit).inputs → item ≡ slice_index_or parts.elements.items e item → state ≡ slice_index_or states e state
+    → v ≡ value_of_kind (kind_seen parts item.kind) (values_at item.inputs.items before) (values_at item.inputs.items after) state
+    → v ≡ element_value (machine_of seen.circuit) before after e (value_at seen.states e)
+value_in seen parts tables states inputs e item before after state v view h l is read value =
+    computed seen.circuit parts e item before after states state v (element_in seen parts tables states inputs e item view h l is)
+    (subst (λ (s : ElementsSeen). length states ≡ length s.circuit.elements) view h.state_of_each) read value
+    ∙ ap (λ (s : ElementsSeen). element_value (machine_of seen.circuit) before after e (value_at s.states e)) view
+
+pub list_in : (seen : ElementsSeen) (parts : Parts) (tables : List Table) (states : List Value) (inputs : Inputs) (e : ℕ) (item : code_element.Element) (now : ℕ) (before after : List Value) (stamps : List (Option Stamp)) (list : List (ℕ × Value)) (state v present d : Value)
+    → record { circuit = circuit_seen parts; states = states } ≡ seen → AreEvaluable parts tables states inputs
+    → e < length (machine_of seen.circuit).inputs → item ≡ slice_index_or parts.elements.items e item → length after ≡ length seen.circuit.nets → state ≡ slice_index_or states e state
+    → v ≡ value_of_kind (kind_seen parts item.kind) (values_at item.inputs.items before) (values_at item.inputs.items after) state → present ≡ slice_index_or after item.output d
+    → placed_by (rule_of_kind (kind_seen parts item.kind) now (last_value list present) v) list present now v ≡ element_list (machine_of seen.circuit) now before after stamps seen.states e list
+list_in seen parts tables states inputs e item now before after stamps list state v present d view h l is many read value net =
+    placed_list seen.circuit parts e item now before after stamps seen.states list v present d (element_in seen parts tables states inputs e item view h l is) many
+    (value_in seen parts tables states inputs e item before after state v view h l is read value) net
+
+-- before time 0
+pub evaluable_first : (circuit : Circuit) (parts : Parts) (tables : List Table) (elements others : List code_element.Element) (udps : List UdpUse) (states : List Value) (inputs : Inputs) (width : ℕ)
+    → circuit_seen parts ≡ circuit → IsClosed circuit → AreIndexed parts → udps ≡ parts.udps.items → AreTables udps tables
+    → elements ≡ parts.elements.items → states ≡ map (λ e. first_of_kind (kind_seen parts e.kind)) elements
+    → others ≡ parts.elements.items → All (λ e. length e.inputs.items ≤ width) others → width ≤ vec_capacity inputs.before → width ≤ vec_capacity inputs.after
+    → AreEvaluable parts tables states inputs
+evaluable_first circuit parts tables elements others udps states inputs width seen closed indexed same_udps compiled same first same_too most before after = record {
+  closed = subst (λ c. IsClosed c) (sym seen) closed;
+  indexed = indexed;
+  tables_are = subst (λ us. AreTables us tables) same_udps compiled;
+  state_of_each = length-first_states (circuit_seen parts) states (first_states (circuit_seen parts) parts elements states refl same first);
+  room = all_have_room (circuit_seen parts) parts others inputs width refl same_too most before after;
+}
+
+pub seen_first : (circuit : Circuit) (parts : Parts) (elements : List code_element.Element) (states : List Value) → circuit_seen parts ≡ circuit → elements ≡ parts.elements.items
+    → states ≡ map (λ e. first_of_kind (kind_seen parts e.kind)) elements → ◌≡◌ {A = ElementsSeen} (record { circuit = circuit_seen parts; states = states }) (record { circuit = circuit; states = (first_state circuit).states })
+seen_first circuit parts elements states seen same is =
+    let with : Circuit → List Value → ElementsSeen = λ c vs. record { circuit = c; states = vs } in
+    ap (λ c. with c states) seen ∙ ap (λ vs. with circuit vs) (first_states circuit parts elements states seen same is)
+
+-- one table more
+pub tables_more : (udps : List UdpUse) (i : ℕ) (u : UdpUse) (tables : List Table) (t : Table) → i < length udps → u ≡ slice_index_or udps i u → AreTables (take i udps) tables → IsWhole t → IsTableOf u.rows t → AreTables (take (i + 1) udps) (tables ++ t ∷ [])
+tables_more udps i u tables t l is h whole table =
+    let many : length (take i udps) ≡ i = length-take-le i udps (let k : i ≤ length udps = omega arith in k) in
+    subst (λ us. AreTables us (tables ++ t ∷ [])) (sym (take_more udps i u l ∙ ap (λ x. take i udps ++ x ∷ []) (sym is))) (record {
+      count = length-append tables (t ∷ []) ∙ (ap (λ n. n + 1) h.count ∙ sym (length-append (take i udps) (u ∷ [])));
+      each = λ k d e m. at k d e m (cases_eq k (length (take i udps)));
+    })
+  where
+    at : (k : ℕ) (d : Table) (e : UdpUse) → k < length (take i udps ++ u ∷ []) → (k ≡ length (take i udps)) ⊎ (k ≢ length (take i udps))
+        → IsWhole (slice_index_or (tables ++ t ∷ []) k d) × IsTableOf (slice_index_or (take i udps ++ u ∷ []) k e).rows (slice_index_or (tables ++ t ∷ []) k d)
+    at k d e m (inl last) =
+        let t_is : t ≡ slice_index_or (tables ++ t ∷ []) k d = sym (ap (λ n. slice_index_or (tables ++ t ∷ []) n d) (last ∙ sym h.count) ∙ get_or-append_seam tables t [] d) in
+        let u_is : u ≡ slice_index_or (take i udps ++ u ∷ []) k e = sym (ap (λ n. slice_index_or (take i udps ++ u ∷ []) n e) last ∙ get_or-append_seam (take i udps) u [] e) in
+        (subst (λ x. IsWhole x) t_is whole, subst (λ (x : UdpUse). IsTableOf x.rows (slice_index_or (tables ++ t ∷ []) k d)) u_is (subst (λ x. IsTableOf u.rows x) t_is table))
+    at k d e m (inr early) =
+        let less : k < length (take i udps) = (let n : length (take i udps ++ u ∷ []) ≡ length (take i udps) + 1 = length-append (take i udps) (u ∷ []) in omega arith) in
+        let less' : k < length tables = omega (arith, h.count, less) in
+        let t_is : slice_index_or tables k d ≡ slice_index_or (tables ++ t ∷ []) k d = sym (get_or-append tables (t ∷ []) d k less') in
+        let u_is : slice_index_or (take i udps) k e ≡ slice_index_or (take i udps ++ u ∷ []) k e = sym (get_or-append (take i udps) (u ∷ []) e k less) in
+        let both = h.each k d e less in
+        (subst (λ x. IsWhole x) t_is both.0, subst (λ (x : UdpUse). IsTableOf x.rows (slice_index_or (tables ++ t ∷ []) k d)) u_is (subst (λ x. IsTableOf (slice_index_or (take i udps) k e).rows x) t_is both.1))

@@ -110,14 +110,21 @@ stopped_in_call m sets bound end now stood told stands kept standing broken w w1
     ends : (first : State) → Came (setting_of m sets bound end first) now stands kept (λ made. Got standing w w1 s s1 made) untold steps steps1 → (e : SimEnd) → IsEndOfCall (Err e) → HasEnded standing broken w w2 s s2 (setting_of m sets bound end first) kept.violations kept.last (steps1 - steps) (Err e)
     ends first c (RoundsSpent time net) x = absurd x
     ends first c WatchFailed x =
-        let st : Setting = setting_of m sets bound end first in
-        (suc now, ended_at st (suc now) c.run kept.violations kept.last (omega arith) c.upto (holds c.run c.stood) c.last, taken c.run.evaluations steps1 steps c.took ∙ sym (ap (λ f. f.evaluations) c.upto),
-        (c.made ++ untold, inl (calls_for st (suc now) c.run (c.made ++ untold) c.upto c.are), broke_more standing broken w w1 w2 s s1 s2 c.made untold c.calls broke))
+        let st : Setting = setting_of m sets bound end first in (
+          suc now,
+          ended_at st (suc now) c.run kept.violations kept.last (omega arith) c.upto (holds c.run c.stood) c.last,
+          taken c.run.evaluations steps1 steps c.took ∙ sym (ap (λ f. f.evaluations) c.upto),
+          (c.made ++ untold, inl (calls_for st (suc now) c.run (c.made ++ untold) c.upto c.are), broke_more standing broken w w1 w2 s s1 s2 c.made untold c.calls broke),
+        )
     ends first c NoMemory x =
-        let st : Setting = setting_of m sets bound end first in
-        (subst (λ n. n ≤ (run_for st (suc end)).evaluations) (sym (taken c.run.evaluations steps1 steps c.took)) (no_more st (suc now) (end - now) c.run c.upto left),
-        (suc now, ended_at st (suc now) c.run kept.violations kept.last (omega arith) c.upto (holds c.run c.stood) c.last,
-        inr (c.made ++ untold, inl (calls_for st (suc now) c.run (c.made ++ untold) c.upto c.are), broke_more standing broken w w1 w2 s s1 s2 c.made untold c.calls broke)))
+        let st : Setting = setting_of m sets bound end first in (
+          subst (λ n. n ≤ (run_for st (suc end)).evaluations) (sym (taken c.run.evaluations steps1 steps c.took)) (no_more st (suc now) (end - now) c.run c.upto left),
+          (
+            suc now,
+            ended_at st (suc now) c.run kept.violations kept.last (omega arith) c.upto (holds c.run c.stood) c.last,
+            inr (c.made ++ untold, inl (calls_for st (suc now) c.run (c.made ++ untold) c.upto c.are), broke_more standing broken w w1 w2 s s1 s2 c.made untold c.calls broke),
+          ),
+        )
 
 -- all times were made, and so was the last call
 pub all_told : {W S : Type 0} (m : Machine) (sets : ℕ → List (ℕ × Value)) (bound end now : ℕ) (stood : Run → Type 0) (told : List Value) (stands : Run → Type 0) (kept : Kept) (standing broken : W → S → List Call → Type 0) (w w1 w2 : W) (s s1 s2 : S) (values : List Value) (counted steps steps1 : ℕ) (result : Result (Unit {0}) SimEnd)

@@ -21,7 +21,7 @@ use Rattle.stim_read.specs.Seen.{set_seen}
 use Rattle.stim_read.specs.Stimulus.{Step, Stimulus, sets_at}
 use Rattle.stim_read.specs.Applied.{IsApplied, IsInput}
 use Rattle.time_checks.specs.declared.violations.Violation as code_violation
-use Rattle.sim_rounds.specs.declared.elements.CircuitElements.{CircuitElements}
+use Rattle.sim_rounds.specs.Elements.{ElementsSeen}
 use Rattle.sim_rounds.specs.declared.nets.Nets.{Nets}
 use Rattle.sim_rounds.specs.declared.told.Told.{Told}
 use Rattle.sim_rounds.specs.declared.work.WorkList.{WorkList}
@@ -87,16 +87,16 @@ of_circuit circuit closed m e fan driven nets elements n l f k d =
       few = subst (λ x. x < 2 ^ 31) (sym l) closed.few_elements;
     })
 
-pub fresh_ready : (circuit : Circuit) (nets : Nets) (told : Told) (work : WorkList) (elements : CircuitElements) (lists : List (List (ℕ × Value))) (fan : List (List ℕ)) (driven : List ℕ) (sets : List Set) (found : List code_violation.Violation) (stimulus : Stimulus)
+pub fresh_ready : (circuit : Circuit) (nets : Nets) (told : Told) (work : WorkList) (elements : ElementsSeen) (lists : List (List (ℕ × Value))) (fan : List (List ℕ)) (driven : List ℕ) (sets : List Set) (found : List code_violation.Violation) (stimulus : Stimulus)
     → IsClosed circuit → IsFresh circuit nets told work elements lists fan driven → sets ≡ [] → found ≡ [] → IsApplied circuit stimulus
-    → IsReadyAt true 0 (machine_of elements.circuit.now) (length elements.circuit.now.nets) fan driven nets told work lists elements.states.items (λ ss. []) (λ vs. []) sets 0 found × CanApply driven (length nets.values.items) stimulus
+    → IsReadyAt true 0 (machine_of elements.circuit) (length elements.circuit.nets) fan driven nets told work lists elements.states (λ ss. []) (λ vs. []) sets 0 found × CanApply driven (length nets.values.items) stimulus
 fresh_ready circuit nets told work elements lists fan driven sets found stimulus closed h s f applied =
     let many : length nets.values.items ≡ length circuit.nets = ap length h.values ∙ length-map circuit.nets (λ net. first_value_of net.driver) in
     let each : length lists ≡ length circuit.elements = ap length h.lists ∙ length-replicate (length circuit.elements) [] in
-    let states : length elements.states.items ≡ length circuit.elements = ap length h.states ∙ length-map circuit.elements _ in
-    (subst (λ cs. IsReadyAt true 0 (machine_of elements.circuit.now) (length elements.circuit.now.nets) fan driven nets told work lists elements.states.items (λ ss. []) (λ vs. []) cs 0 found) (sym s) (record {
+    let states : length elements.states ≡ length circuit.elements = ap length h.states ∙ length-map circuit.elements _ in
+    (subst (λ cs. IsReadyAt true 0 (machine_of elements.circuit) (length elements.circuit.nets) fan driven nets told work lists elements.states (λ ss. []) (λ vs. []) cs 0 found) (sym s) (record {
       round = record {
-        circuit = of_circuit circuit closed (machine_of elements.circuit.now) (ap machine_of h.circuit_of) fan driven (length nets.values.items) (length lists) many each (subst (λ c. IsFanOut (machine_of c).inputs fan) (sym h.circuit_of) h.fan_out) h.each_net h.outputs;
+        circuit = of_circuit circuit closed (machine_of elements.circuit) (ap machine_of h.circuit_of) fan driven (length nets.values.items) (length lists) many each (subst (λ c. IsFanOut (machine_of c).inputs fan) (sym h.circuit_of) h.fan_out) h.each_net h.outputs;
         state_of_each = states ∙ sym each;
         settled = λ k. absurd (let q : true ≡ false = k in cc);
         nets_are = h.nets_are;
@@ -127,12 +127,12 @@ each_none : {A B : Type 0} (xs : List A) (d : B) → map (λ x. d) xs ≡ replic
 each_none [] d = refl
 each_none (x ∷ xs) d = ap (λ ys. d ∷ ys) (each_none xs d)
 
-pub fresh_stands : (circuit : Circuit) (nets : Nets) (told : Told) (work : WorkList) (elements : CircuitElements) (lists : List (List (ℕ × Value))) (fan : List (List ℕ)) (driven : List ℕ) (found : List code_violation.Violation) → IsFresh circuit nets told work elements lists fan driven → found ≡ []
-    → StandsBetween nets lists elements.states.items (λ ss. Unit {0}) found 0 0 (start_of (first_state circuit))
+pub fresh_stands : (circuit : Circuit) (nets : Nets) (told : Told) (work : WorkList) (elements : ElementsSeen) (lists : List (List (ℕ × Value))) (fan : List (List ℕ)) (driven : List ℕ) (found : List code_violation.Violation) → IsFresh circuit nets told work elements lists fan driven → found ≡ []
+    → StandsBetween nets lists elements.states (λ ss. Unit {0}) found 0 0 (start_of (first_state circuit))
 fresh_stands circuit nets told work elements lists fan driven found h f =
-    subst (λ vs. StandsBetween nets lists elements.states.items (λ ss. Unit {0}) vs 0 0 (start_of (first_state circuit))) (sym f) (record {
+    subst (λ vs. StandsBetween nets lists elements.states (λ ss. Unit {0}) vs 0 0 (start_of (first_state circuit))) (sym f) (record {
       run = record {
-        state = same_state (first_state circuit) (state_seen nets lists elements.states.items) (sym h.values) (sym h.stamps) (each_none circuit.elements [] ∙ sym h.lists) (sym h.states);
+        state = same_state (first_state circuit) (state_seen nets lists elements.states) (sym h.values) (sym h.stamps) (each_none circuit.elements [] ∙ sym h.lists) (sym h.states);
         before = sym h.before;
         checks = tt;
         violations = refl;

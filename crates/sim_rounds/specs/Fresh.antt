@@ -5,7 +5,7 @@ use Rattle.sg_logic.specs.declared.values.Value.TheVariants.{X, Z}
 use Rattle.sg_circuit.specs.declared.nets.Driver.{Driver}
 use Rattle.sg_circuit.specs.Circuit.{Circuit}
 use Rattle.sg_circuit.specs.FanOut.{IsFanOut}
-use Rattle.sim_rounds.specs.declared.elements.CircuitElements.{CircuitElements}
+use Rattle.sim_rounds.specs.Elements.{ElementsSeen}
 use Rattle.sim_rounds.specs.declared.nets.Nets.{Nets}
 use Rattle.sim_rounds.specs.declared.told.Told.{Told}
 use Rattle.sim_rounds.specs.declared.work.WorkList.{WorkList}
@@ -19,9 +19,9 @@ abbrev pub first_value_of : Driver → Value
 first_value_of driver = if is_driven driver then X else Z
 
 -- they are as the circuit is before time 0
-pub record IsFresh (circuit : Circuit) (nets : Nets) (last_told : Told) (work : WorkList) (parts : CircuitElements) (pending : List (List (ℕ × Value))) (fan : List (List ℕ)) (driven : List ℕ) : Type 0 where
-  pub circuit_of : parts.circuit.now ≡ circuit
-  pub states : parts.states.items ≡ (first_state circuit).states
+pub record IsFresh (circuit : Circuit) (nets : Nets) (last_told : Told) (work : WorkList) (parts : ElementsSeen) (pending : List (List (ℕ × Value))) (fan : List (List ℕ)) (driven : List ℕ) : Type 0 where
+  pub circuit_of : parts.circuit ≡ circuit
+  pub states : parts.states ≡ (first_state circuit).states
   pub values : nets.values.items ≡ (first_state circuit).values
   pub before : nets.before.items ≡ (first_state circuit).values
   pub stamps : map stamp_seen nets.stamps.items ≡ (first_state circuit).stamps

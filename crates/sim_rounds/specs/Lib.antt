@@ -20,3 +20,4 @@ pub mod Steps
 pub mod Skipping
 pub mod Fresh
 pub mod Setting
+pub mod Evaluable

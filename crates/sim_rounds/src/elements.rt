@@ -2,7 +2,9 @@
 ghost use Rattle.std.specs.Prelude.{◌≡◌, ℕ, ◌+◌, ◌<◌, ◌≤◌, ◌^◌, All, List, [], length, map, reverse, IfOk, take, position};
 ghost use Rattle.sg_logic.specs.Gate.{gate_value, TakesInputs as GateTakes};
 ghost use Rattle.sg_model.specs.Values.{value_at};
-ghost use Rattle.udp_rows.specs.Meaning.{udp_next};
+ghost use Rattle.udp_rows.specs.Meaning.{Primitive, udp_next};
+ghost use Rattle.udp_table.specs.Cells.{IsTableOf, IsWhole};
+ghost use Rattle.sim_rounds.specs.Elements.{AreTables};
 ghost use Rattle.sg_logic.specs.Transitions.{goes, transitions};
 ghost use Rattle.std.specs.Vec.{vec_capacity};
 ghost use Rattle.sg_logic.specs.declared.values.Value.{Value as NetValue};
@@ -26,7 +28,9 @@ use sg_logic::{GateKind, Trans, Value, gate};
 use sg_steps::Steps;
 use sg_text::NoMemory;
 use std::alloc::Global;
+use std::marker::Model;
 use std::sync::ledger::Ledger;
+use udp_table::Table;
 
 // The values of some nets, put into a list with room for them.
 fn read_nets(nets: &[NetId], values: &[Value], out: &mut Vec<Value>)
@@ -180,7 +184,7 @@ struct Inputs {
 
 // The value of a primitive's element after a round, in one step.
 fn compute_udp<L: Ledger>(
-    udp: &UdpUse,
+    table: &Table,
     nets: &[NetId],
     state: Value,
     before: &[Value],
@@ -191,15 +195,15 @@ fn compute_udp<L: Ledger>(
     requires before { All (λ n. n < length before.now) nets.now }
     requires after { All (λ n. n < length values.now) nets.now }
     requires room { HasRoom inputs.old (length nets.now) }
-    requires takes { length nets.now ≡ udp.now.rows.inputs }
-    ensures value { result ≡ udp_next udp.now.rows (values_at nets.now before.now) (values_at nets.now values.now) state }
+    requires whole { IsWhole table.now }
+    requires takes { length nets.now ≡ table.now.inputs }
+    ensures value { (udp : Primitive) → IsTableOf udp table.now → result ≡ udp_next udp (values_at nets.now before.now) (values_at nets.now values.now) state }
     ensures room { IsRoomier inputs.old inputs.new }
     ensures steps { steps.new ≡ steps.old + 1 }
 {
     read_nets(nets, before, &mut inputs.before);
     read_nets(nets, values, &mut inputs.after);
-    steps.tick();
-    udp.rows.next(&inputs.before, &inputs.after, state)
+    table.next(&inputs.before, &inputs.after, state, steps)
 }
 
 // The value of a gate's element after a round, in one step.
@@ -236,6 +240,7 @@ fn compute_pass<L: Ledger>(nets: &[NetId], values: &[Value], steps: &mut Steps<L
 // An element's value after a round, in one step.
 fn compute<L: Ledger>(
     parts: &Parts,
+    tables: &[Table],
     item: &Element,
     state: Value,
     before: &[Value],
@@ -247,6 +252,7 @@ fn compute<L: Ledger>(
     requires after { All (λ n. n < length values.now) item.now.inputs.items }
     requires room { HasRoom inputs.old (length item.now.inputs.items) }
     requires indexed { IsIndexed parts.now item.now.kind }
+    requires tables { AreTables parts.now.udps.items tables.now }
     requires takes { TakesInputs (kind_seen parts.now item.now.kind) (length item.now.inputs.items) }
     ensures value { result ≡ value_of_kind (kind_seen parts.now item.now.kind) (values_at item.now.inputs.items before.now) (values_at item.now.inputs.items values.now) state }
     ensures room { IsRoomier inputs.old inputs.new }
@@ -255,8 +261,8 @@ fn compute<L: Ledger>(
     match item.kind {
         ElementKind::Gate { kind, .. } => compute_gate(kind, &item.inputs, values, inputs, steps),
         ElementKind::Udp { udp, .. } => {
-            let udp = &parts.udps[udp as usize];
-            compute_udp(udp, &item.inputs, state, before, values, inputs, steps)
+            let table = &tables[udp as usize];
+            compute_udp(table, &item.inputs, state, before, values, inputs, steps)
         }
         ElementKind::Pass {
             constant: Some(value),
@@ -273,11 +279,24 @@ fn compute<L: Ledger>(
 /// The elements of a circuit, with the value that each computed last.
 #[derive(Drop)]
 pub struct CircuitElements<'a> {
-    circuit: &'a Circuit,
+    parts: &'a Parts,
+    // the compiled table of each primitive
+    tables: Vec<Table>,
     states: Vec<Value>,
     inputs: Inputs,
-    ghost state_of_each: { length states.items ≡ length circuit.now.elements },
-    ghost room: { All (λ e. HasRoom inputs (length e.inputs)) circuit.now.elements },
+}
+
+impl<'a> Model for CircuitElements<'a> {
+    ghost use Rattle.sim_rounds.specs.Elements.{ElementsSeen};
+
+    ghost Value = { ElementsSeen };
+
+    ghost use Rattle.sg_circuit.specs.Seen.{circuit_seen};
+    ghost use Rattle.sim_rounds.specs.Evaluable.{AreEvaluable};
+
+    ghost view = { λ g. record { circuit = circuit_seen g.parts.now; states = g.states.items } };
+
+    ghost invariant = { λ g. AreEvaluable g.parts.now g.tables.items g.states.items g.inputs };
 }
 
 // The value that an element computed last, before time 0.
@@ -314,19 +333,32 @@ fn widest(elements: &[Element]) -> usize
     width
 }
 
+// The compiled tables of primitives.
+fn compile(alloc: Global, udps: &[UdpUse]) -> Result<Vec<Table>, NoMemory>
+    ensures { IfOk result (λ v. AreTables udps.now v.items) }
+{
+    let mut tables = Vec::with_capacity(alloc, udps.len())?;
+    for udp in udps {
+        tables.push(Table::build(alloc, &udp.rows)?)?;
+    }
+    Ok(tables)
+}
+
 impl<'a> CircuitElements<'a> {
-    /// The elements of a circuit as they are before time 0. Takes memory in proportion to their number.
+    /// The elements of a circuit as they are before time 0. It compiles the circuit's primitives, and takes memory in
+    /// proportion to their tables and to the number of elements.
     pub fn new(alloc: Global, circuit: &'a Circuit) -> Result<CircuitElements<'a>, NoMemory>
-        ensures circuit { IfOk result (λ g. g.circuit.now ≡ circuit.now) }
-        ensures states { IfOk result (λ g. g.states.items ≡ (first_state circuit.now).states) }
+        ensures { IfOk result (λ g. g ≡ record { circuit = circuit.now; states = (first_state circuit.now).states }) }
     {
         let parts = circuit.parts();
+        let tables = compile(alloc, &parts.udps)?;
         let states = first_values(alloc, parts, &parts.elements)?;
         let width = widest(&parts.elements);
         let before = Vec::with_capacity(alloc, width)?;
         let after = Vec::with_capacity(alloc, width)?;
         Ok(CircuitElements {
-            circuit,
+            parts,
+            tables,
             states,
             inputs: Inputs { before, after },
         })
@@ -337,11 +369,11 @@ impl<'a, A: Agenda, L: Ledger> Elements<A, L> for CircuitElements<'a> {
     ghost use Rattle.std.specs.Prelude.{length};
     ghost use Rattle.sim_rounds.specs.Simulated.{machine_of};
 
-    ghost machine = { λ g. machine_of g.circuit.now };
+    ghost machine = { λ g. machine_of g.circuit };
 
-    ghost states = { λ g. g.states.items };
+    ghost states = { λ g. g.states };
 
-    ghost net_count = { λ g. length g.circuit.now.nets };
+    ghost net_count = { λ g. length g.circuit.nets };
 
     fn evaluate(
         &mut self,
@@ -353,16 +385,19 @@ impl<'a, A: Agenda, L: Ledger> Elements<A, L> for CircuitElements<'a> {
         _: &[Option<Stamp>],
         steps: &mut Steps<L>,
     ) {
-        let parts = self.circuit.parts();
         let at = element as usize;
+        let parts = self.parts;
         let item = &parts.elements[at];
+        let state = self.states[at];
+        let inputs = &mut self.inputs;
         let value = compute(
             parts,
+            &self.tables,
             item,
-            self.states[at],
+            state,
             before,
             values,
-            &mut self.inputs,
+            inputs,
             steps,
         );
         self.states[at] = value;

@@ -16,8 +16,7 @@ use std::sync::ledger::Ledger;
 use time_checks::Change;
 
 impl<L: Ledger, A: Agenda + Drop, E: Elements<A, L>, C: Checks> Times<L>
-    for Simulation<'_, A, E, C>
-{
+    for Simulation<'_, A, E, C> {
     ghost use Rattle.std.specs.Prelude.{◌==◌, length};
     ghost use Rattle.stim_read.specs.Seen.{stimulus_seen};
     ghost use Rattle.stim_read.specs.Stimulus.{sets_at};

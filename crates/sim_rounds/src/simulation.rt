@@ -43,8 +43,7 @@ pub struct Simulation<'a, A, E, C> {
 }
 
 impl<L: Ledger, A: Agenda + Drop, E: Elements<A, L>, C: Checks> Rounds<L>
-    for Simulation<'_, A, E, C>
-{
+    for Simulation<'_, A, E, C> {
     ghost use Rattle.std.specs.Prelude.{map};
     ghost use Rattle.stim_read.specs.Seen.{set_seen, stimulus_seen};
     ghost use Rattle.sim_rounds.specs.Naming.{Moves};

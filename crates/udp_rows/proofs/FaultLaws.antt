@@ -35,7 +35,7 @@ pub record AreSound (inputs : ℕ) (sequential : Bool) (rows : List RawRow) : Ty
   pub symbols : (k : ℕ) (row : RawRow) → slice_get rows k ≡ Some row → fits_symbols sequential row ≡ true
   pub edges : (k : ℕ) (row : RawRow) → slice_get rows k ≡ Some row → fits_edges row ≡ true
 
-length-is : (inputs : ℕ) (sequential : Bool) (row : RawRow) → fits_length inputs sequential row ≡ true → length row.inputs ≡ inputs
+pub length-is : (inputs : ℕ) (sequential : Bool) (row : RawRow) → fits_length inputs sequential row ≡ true → length row.inputs ≡ inputs
 length-is inputs sequential row h = eqb-true (length row.inputs) inputs (and-left (length row.inputs == inputs) _ h)
 
 has-one : (row : RawRow) → fits_edges row ≡ true → HasOneEdge row.inputs

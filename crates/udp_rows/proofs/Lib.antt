@@ -4,4 +4,5 @@ pub mod ClashLaws
 pub mod Covered
 pub mod FaultLaws
 pub mod Lists
+pub mod NoFault
 pub mod Unchanged

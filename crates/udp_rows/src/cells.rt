@@ -1,4 +1,6 @@
 // Rows as they are written.
+use crate::symbols::{covers_level, is_edge};
+use sg_logic::Value;
 use sg_text::{NoMemory, Place};
 use std::alloc::Global;
 use std::marker::Model;
@@ -70,6 +72,7 @@ pub struct RawRow {
 
 impl RawRow {
     ghost use Rattle.std.specs.Prelude.{◌≡◌, IfOk};
+    ghost use Rattle.udp_rows.specs.Meaning.{is_edge_row as has_edge_symbol, output as output_in, state_covers};
 
     /// A copy of the row. Takes memory.
     pub fn copy(&self, alloc: Global) -> Result<RawRow, NoMemory>
@@ -81,5 +84,34 @@ impl RawRow {
             out: self.out,
             place: self.place,
         })
+    }
+
+    /// Whether the row has an edge symbol.
+    pub fn is_edge_row(&self) -> bool
+        ensures { result ≡ has_edge_symbol self.now }
+    {
+        self.inputs.as_slice().iter().any(|cell| is_edge(*cell))
+    }
+
+    /// Whether the row covers a state. A row without a state covers each.
+    pub fn covers_state(&self, state: Value) -> bool
+        ensures { result ≡ state_covers self.now.state state }
+    {
+        match self.state {
+            Some(cell) => covers_level(cell.first, state),
+            None => true,
+        }
+    }
+
+    /// The row's output in a state.
+    pub fn output(&self, state: Value) -> Value
+        ensures { result ≡ output_in self.now state }
+    {
+        match self.out.first {
+            b'0' => Value::Zero,
+            b'1' => Value::One,
+            b'-' => state,
+            _ => Value::X,
+        }
     }
 }

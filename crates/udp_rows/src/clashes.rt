@@ -3,7 +3,6 @@ ghost use Rattle.std.specs.Prelude.{◌≡◌, ◌&&◌, MatchOption, take};
 ghost use Rattle.std.specs.List.{list_any};
 ghost use Rattle.udp_rows.specs.Columns.{changes_meet, values_meet, column_meets, columns_meet, rows_clash, states_differ, state_differs, NoneClash, SomeClash};
 
-use crate::meaning::{covers_state, output_of};
 use crate::symbols::{covers_edge, covers_level, is_edge};
 use crate::{Cell, RawRow};
 use sg_logic::Value;
@@ -59,9 +58,7 @@ fn all_meet(a: &[Cell], b: &[Cell]) -> bool
 fn differ_at(a: &RawRow, b: &RawRow, state: Value) -> bool
     ensures { result ≡ state_differs a.now b.now state }
 {
-    covers_state(a.state, state)
-        && covers_state(b.state, state)
-        && output_of(a, state) != output_of(b, state)
+    a.covers_state(state) && b.covers_state(state) && a.output(state) != b.output(state)
 }
 
 fn differ(a: &RawRow, b: &RawRow) -> bool

@@ -11,4 +11,5 @@ mod udp;
 
 pub use cells::{Cell, Cells, RawRow};
 pub use faults::UdpKind;
+pub use meaning::{input_stays, value_of_input, value_when_taken};
 pub use udp::UdpRows;

@@ -11,8 +11,8 @@ use crate::symbols::{covers_edge, covers_level, is_edge};
 use crate::{Cell, RawRow};
 use sg_logic::Value;
 
-// The value of an input, z read as x.
-fn value_of(values: &[Value], input: usize) -> Value
+/// The value of an input, z read as x. One that isn't there is x.
+pub fn value_of_input(values: &[Value], input: usize) -> Value
     ensures { result ≡ input_value values.now input }
 {
     match values.get(input) {
@@ -22,22 +22,22 @@ fn value_of(values: &[Value], input: usize) -> Value
     }
 }
 
-// The value of an input after those below a number were taken.
-fn value_taken(old: &[Value], new: &[Value], taken: usize, input: usize) -> Value
+/// The value of an input when those below a number were taken: they have their new values, the others their old ones.
+pub fn value_when_taken(old: &[Value], new: &[Value], taken: usize, input: usize) -> Value
     ensures { result ≡ inputs_taken old.now new.now taken input }
 {
     if input < taken {
-        value_of(new, input)
+        value_of_input(new, input)
     } else {
-        value_of(old, input)
+        value_of_input(old, input)
     }
 }
 
-// Whether an input stays as it is, z read as x.
-fn stays(old: &[Value], new: &[Value], i: usize) -> bool
+/// Whether an input stays as it is, z read as x.
+pub fn input_stays(old: &[Value], new: &[Value], i: usize) -> bool
     ensures { result ≡ is_same (input_value old.now i) (input_value new.now i) }
 {
-    value_of(old, i) == value_of(new, i)
+    value_of_input(old, i) == value_of_input(new, i)
 }
 
 // Whether a cell covers its input's step.
@@ -56,8 +56,8 @@ fn covers_input(cell: Cell, j: usize, i: usize, old: &[Value], new: &[Value]) ->
     requires { i + 1 < 2 ^ 64 }
     ensures { result ≡ cell_covers (step_of old.now new.now X i) j cell }
 {
-    let after = value_taken(old, new, i + 1, j);
-    covers_step(cell, j == i, value_of(old, i), after)
+    let after = value_when_taken(old, new, i + 1, j);
+    covers_step(cell, j == i, value_of_input(old, i), after)
 }
 
 // Whether each cell of a row covers the step that takes input `i`.
@@ -71,40 +71,12 @@ fn covers_inputs(cells: &[Cell], i: usize, old: &[Value], new: &[Value]) -> bool
         .all(|(j, cell)| covers_input(*cell, j, i, old, new))
 }
 
-pub(crate) fn covers_state(cell: Option<Cell>, state: Value) -> bool
-    ensures { result ≡ state_covers cell state }
-{
-    match cell {
-        Some(cell) => covers_level(cell.first, state),
-        None => true,
-    }
-}
-
 // Whether a row covers the step that takes input `i`.
 fn covers(row: &RawRow, i: usize, old: &[Value], new: &[Value], state: Value) -> bool
     requires { i + 1 < 2 ^ 64 }
     ensures { result ≡ row_covers (step_of old.now new.now state i) row.now }
 {
-    covers_inputs(row.inputs.as_slice(), i, old, new) && covers_state(row.state, state)
-}
-
-/// Whether a row has an edge symbol.
-pub(crate) fn has_row_edge(row: &RawRow) -> bool
-    ensures { result ≡ is_edge_row row.now }
-{
-    row.inputs.as_slice().iter().any(|cell| is_edge(*cell))
-}
-
-// A row's output.
-pub(crate) fn output_of(row: &RawRow, state: Value) -> Value
-    ensures { result ≡ output row.now state }
-{
-    match row.out.first {
-        b'0' => Value::Zero,
-        b'1' => Value::One,
-        b'-' => state,
-        _ => Value::X,
-    }
+    covers_inputs(row.inputs.as_slice(), i, old, new) && row.covers_state(state)
 }
 
 // The first level row that covers the step that takes input `i`.
@@ -118,7 +90,7 @@ fn level_row<'a>(
     requires { i + 1 < 2 ^ 64 }
     ensures { option_copied result ≡ find (level_row_covers (step_of old.now new.now state i)) rows.now }
 {
-    rows.iter().find(|row| !has_row_edge(row) && covers(row, i, old, new, state))
+    rows.iter().find(|row| !row.is_edge_row() && covers(row, i, old, new, state))
 }
 
 // The first edge row that covers it.
@@ -133,7 +105,7 @@ fn edge_row<'a>(
     ensures { option_copied result ≡ find (edge_row_covers (step_of old.now new.now state i)) rows.now }
 {
     rows.iter()
-        .find(|row| has_row_edge(row) && covers(row, i, old, new, state))
+        .find(|row| row.is_edge_row() && covers(row, i, old, new, state))
 }
 
 // The output of a row, if there is one, and else another value.
@@ -141,7 +113,7 @@ fn output_by(row: Option<&RawRow>, state: Value, otherwise: Value) -> Value
     ensures { result ≡ output_or (option_copied row.entry) state otherwise }
 {
     match row {
-        Some(row) => output_of(row, state),
+        Some(row) => row.output(state),
         None => otherwise,
     }
 }
@@ -167,7 +139,7 @@ pub(crate) fn next_state(
 {
     let mut now = state;
     for i in 0..inputs {
-        if !stays(old, new, i) {
+        if !input_stays(old, new, i) {
             now = step(rows, i, old, new, now);
         }
     }

@@ -82,9 +82,10 @@ impl UdpRows {
         self.sequential
     }
 
-    /// Its rows.
+    /// Its rows. No fault stands in them.
     pub fn rows(&self) -> &[RawRow]
-        ensures { result.now ≡ self.now.rows }
+        ensures rows { result.now ≡ self.now.rows }
+        ensures faultless { HasNoFault self.now.inputs self.now.sequential self.now.rows }
     {
         &self.rows
     }

@@ -1,13 +1,11 @@
-use Rattle.sim_rounds.proofs.ElementLaws.{first_states, length-first_states, all_have_room}
+use Rattle.sim_rounds.proofs.ElementLaws.{evaluable_first, seen_first}
 use Rattle.sim_rounds.proofs.elements.CircuitElements.new.Goals as goal
 
-pub returns-clause-states : goal.returns-clause-states
-returns-clause-states c = first_states c.args.circuit.now c.parts-parts.result.now c.deref.result.now c.in_ok-states.states.items c.parts-parts.ensures.seen c.deref.ensures.value c.in_ok-states.ensures
-
 pub invariant_of-result : goal.invariant_of-result
-invariant_of-result c = record {
-  state_of_each = length-first_states c.args.circuit.now c.in_ok-states.states.items
-      (first_states c.args.circuit.now c.parts-parts.result.now c.deref.result.now c.in_ok-states.states.items c.parts-parts.ensures.seen c.deref.ensures.value c.in_ok-states.ensures);
-  room = all_have_room c.args.circuit.now c.parts-parts.result.now c.deref-2.result.now (record { before = c.in_ok-before.before; after = c.in_ok-after.after }) c.widest-width.result c.parts-parts.ensures.seen c.deref-2.ensures.value
-      c.widest-width.ensures c.in_ok-before.ensures.capacity c.in_ok-after.ensures.capacity;
-}
+invariant_of-result c =
+    evaluable_first c.args.circuit.now c.parts-parts.result.now c.in_ok-tables.tables.items c.deref-2.result.now c.deref-3.result.now c.deref.result.now c.in_ok-states.states.items
+    (record { before = c.in_ok-before.before; after = c.in_ok-after.after }) c.widest-width.result c.parts-parts.ensures.seen c.parts-parts.ensures.closed c.parts-parts.ensures.indexed c.deref.ensures.value c.in_ok-tables.ensures
+    c.deref-2.ensures.value c.in_ok-states.ensures c.deref-3.ensures.value c.widest-width.ensures c.in_ok-before.ensures.capacity c.in_ok-after.ensures.capacity
+
+pub returns : goal.returns
+returns c = seen_first c.args.circuit.now c.parts-parts.result.now c.deref-2.result.now c.in_ok-states.states.items c.parts-parts.ensures.seen c.deref-2.ensures.value c.in_ok-states.ensures

@@ -24,8 +24,8 @@ invariant_of-result g c =
     let many : c.len.result ≡ length circuit.elements = c.len.ensures ∙ (parts.elements.ok.0 ∙ (sym (count_seen parts.elements.items (element_seen parts)) ∙ ap (λ x. length x.elements) seen)) in
     record {
       fresh = record {
-        circuit_of = c.in_ok-elements.ensures.circuit;
-        states = c.in_ok-elements.ensures.states;
+        circuit_of = ap (λ x. x.circuit) c.in_ok-elements.ensures;
+        states = ap (λ x. x.states) c.in_ok-elements.ensures;
         values = nets;
         before = c.in_ok-nets.ensures.before ∙ (c.deref-2.ensures.value ∙ values);
         stamps = ap (map stamp_seen) c.in_ok-nets.ensures.stamps ∙ no_stamps (length c.deref-2.result.now) circuit.nets stamps;

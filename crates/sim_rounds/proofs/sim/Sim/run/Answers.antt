@@ -24,13 +24,13 @@ returns-clause-ended g c =
     let circuit : Circuit = s.circuit.now in
     let stimulus : Stimulus = stimulus_seen c.args.stimulus.now in
     let made = c.make_times-end.new in
-    let stood : StandsBetween s.nets (g.A.Agenda.lists s.agenda) s.elements.states.items (λ ss. Unit {0}) c.new-2.result.items 0 0 (start_of (first_state circuit)) =
+    let stood : StandsBetween s.nets (g.A.Agenda.lists s.agenda) s.elements.states (λ ss. Unit {0}) c.new-2.result.items 0 0 (start_of (first_state circuit)) =
     fresh_stands circuit s.nets s.told s.work s.elements (g.A.Agenda.lists s.agenda) s.fan s.outputs.items c.new-2.result.items s.fresh c.new-2.ensures.items in
     let P : Machine → List Violation → ℕ → Type 0 =
     λ m vs l. HasEnded w.stands w.broken c.args.watcher.now made.watcher c.args.shelf.now made.shelf (record { machine = m; first = first_state circuit; sets = sets_at stimulus.steps; bound = c.args.rounds; end = stimulus.end }) vs l (made.steps - c.args.steps.now) c.make_times-end.result in
     subst (λ m. P m (map (λ v. violation_seen v) c.tally_of.result.violations.items) c.tally_of.result.last) (ap machine_of s.fresh.circuit_of)
-    (subst (λ vs. P (machine_of s.elements.circuit.now) vs c.tally_of.result.last) (sym c.tally_of.ensures.violations)
-    (subst (λ l. P (machine_of s.elements.circuit.now) (take made.times.ended (map (λ v. violation_seen v) made.times.violations.items)) l) (sym c.tally_of.ensures.last)
+    (subst (λ vs. P (machine_of s.elements.circuit) vs c.tally_of.result.last) (sym c.tally_of.ensures.violations)
+    (subst (λ l. P (machine_of s.elements.circuit) (take made.times.ended (map (λ v. violation_seen v) made.times.violations.items)) l) (sym c.tally_of.ensures.last)
     (c.make_times-end.ensures.ended.ended (first_state circuit) stood s.fresh.values)))
 
 pub returns-clause-evaluations : goal.returns-clause-evaluations
