@@ -22,3 +22,4 @@ pub mod DelayLaws
 pub mod ElementLaws
 pub mod StepLaws
 pub mod SimulatedLaws
+pub mod SimLaws
