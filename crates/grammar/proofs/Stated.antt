@@ -48,19 +48,19 @@ module _ {T K A B C D : Type 0} (kind : T → K) (f : A × B → D) (g : A × C 
   forked-exact = alike-exact kind factored (forked kind f g a b c) factored-exact (λ ts i. refl) to_factored from_factored begins_factored begun_factored not_empty (λ k p. p) (λ k p. p)
 
 module _ {T K A : Type 0} (kind : T → K) (a : Rule T K A) (comma : K → Bool) (ea : Exact kind a) (full : a.empty ≡ false) (apart : Apart a.starts comma) (behind : Apart a.continues comma) where
-  abbrev part : Rule T K (Option A)
+  abbrev pub part : Rule T K (Option A)
   part = quoted kind comma ▸ optional kind a
 
-  abbrev some_first : Rule T K (List (Option A))
+  abbrev pub some_first : Rule T K (List (Option A))
   some_first = mapped (λ x. Some x.0 ∷ x.1) (a ∙∙ many kind part)
 
-  abbrev none_first : Rule T K (List (Option A))
+  abbrev pub none_first : Rule T K (List (Option A))
   none_first = mapped (λ x. None ∷ x.0 ∷ x.1) (part ∙∙ many kind part)
 
-  abbrev by_first : Rule T K (List (Option A))
+  abbrev pub by_first : Rule T K (List (Option A))
   by_first = either kind some_first none_first
 
-  part-exact : Exact kind part
+  pub part-exact : Exact kind part
   part-exact = mapped-exact kind _ _ (seq-exact kind _ _ (quoted-exact kind comma) (optional-exact kind a ea full) (λ k p q. absurd cc))
 
   parts-apart : Apart (λ k. a.continues k || a.starts k) comma
@@ -69,7 +69,7 @@ module _ {T K A : Type 0} (kind : T → K) (a : Rule T K A) (comma : K → Bool)
   part-apart : Apart part.continues comma
   part-apart k p q = elim (or_cases (a.continues k || a.starts k) false p) [ inl u ↦ parts-apart k u q | inr u ↦ absurd cc ]
 
-  rest-exact : Exact kind (many kind part)
+  pub rest-exact : Exact kind (many kind part)
   rest-exact = many-exact kind part part-exact refl part-apart
 
   starts-apart : Apart some_first.starts comma
@@ -82,15 +82,15 @@ module _ {T K A : Type 0} (kind : T → K) (a : Rule T K A) (comma : K → Bool)
   by_first-exact =
       either-exact kind some_first none_first (mapped-exact kind _ _ (seq-exact kind _ _ ea rest-exact behind)) (mapped-exact kind _ _ (seq-exact kind _ _ part-exact rest-exact part-apart)) some_first-full refl starts-apart
 
-  abbrev listed : Rule T K (List (Option A))
+  abbrev pub listed : Rule T K (List (Option A))
   listed = separated_options kind a comma
 
-  to_first : (ts : List T) (i : ℕ) (x : List (Option A)) (j : ℕ) → listed.language.Spells ts i x j → by_first.language.Spells ts i x j
+  pub to_first : (ts : List T) (i : ℕ) (x : List (Option A)) (j : ℕ) → listed.language.Spells ts i x j → by_first.language.Spells ts i x j
   to_first ts i x j (lt, ((Some y, ys), e, (m, s, t))) = inl ((y, ys), e, (m, s, t))
   to_first ts i x j (lt, ((None, []), e, (m, s, t))) = absurd (omega (arith, lt, s, t))
   to_first ts i x j (lt, ((None, y ∷ ys), e, (m, s, (n, t, u)))) = inr ((y, ys), e, (n, subst (λ (k : ℕ). part.language.Spells ts k y n) s t, u))
 
-  from_first : (ts : List T) (i : ℕ) (x : List (Option A)) (j : ℕ) → by_first.language.Spells ts i x j → listed.language.Spells ts i x j
+  pub from_first : (ts : List T) (i : ℕ) (x : List (Option A)) (j : ℕ) → by_first.language.Spells ts i x j → listed.language.Spells ts i x j
   from_first ts i x j (inl ((y, ys), e, (m, s, t))) =
       let lt = (starts_so kind a ea full ts i y m s).0 in
       let le = Spells-le kind (many kind part) rest-exact ts m ys j t in

@@ -6,3 +6,8 @@ pub mod ItemsExact
 pub mod PrimitivesExact
 pub mod ModulesExact
 pub mod Lists
+pub mod Printed
+pub mod ExpressionsPrinted
+pub mod ItemsPrinted
+pub mod PrimitivesPrinted
+pub mod ModulesPrinted

@@ -7,3 +7,4 @@ pub mod Expressions
 pub mod Items
 pub mod Primitives
 pub mod Modules
+pub mod Printing

@@ -1,0 +1,60 @@
+// Readers of the words of gates.
+ghost use Rattle.std.specs.Prelude.{◌≡◌, map};
+ghost use Rattle.grammar.specs.Reading.{Gives};
+ghost use Rattle.grammar.specs.Rule.{stands};
+ghost use Rattle.vl_token.specs.Seen.{lexeme};
+ghost use Rattle.vl_tree.specs.Items as items;
+ghost use Rattle.vl_tree.specs.Items.{gate_starts};
+ghost use Rattle.vl_tree.specs.Kinds.{kind_of};
+
+use crate::tokens::is_word;
+use grammar::ReadFault;
+use sg_logic::GateKind;
+use sg_text::Keyword;
+use vl_token::Token;
+
+/// Whether a gate stands there.
+pub fn gate_stands(tokens: &[Token<'_>], at: usize) -> bool
+    ensures { result ≡ stands kind_of gate_starts (map lexeme tokens.now) at }
+{
+    is_word(tokens, at, Keyword::And)
+        || is_word(tokens, at, Keyword::Nand)
+        || is_word(tokens, at, Keyword::Or)
+        || is_word(tokens, at, Keyword::Nor)
+        || is_word(tokens, at, Keyword::Xor)
+        || is_word(tokens, at, Keyword::Xnor)
+        || is_word(tokens, at, Keyword::Buf)
+        || is_word(tokens, at, Keyword::Not)
+}
+
+/// `"and" | "nand" | "or" | "nor" | "xor" | "xnor" | "buf" | "not"`
+#[tactic(auto, unfolding(vl_tree::specs::Items::gate_parts))]
+pub fn gate(tokens: &[Token<'_>], at: usize) -> Result<(GateKind, usize), ReadFault>
+    ensures { Gives (λ x. x) result (items.gate.read (map lexeme tokens.now) at) }
+{
+    if is_word(tokens, at, Keyword::And) {
+        return Ok((GateKind::And, at + 1));
+    }
+    if is_word(tokens, at, Keyword::Nand) {
+        return Ok((GateKind::Nand, at + 1));
+    }
+    if is_word(tokens, at, Keyword::Or) {
+        return Ok((GateKind::Or, at + 1));
+    }
+    if is_word(tokens, at, Keyword::Nor) {
+        return Ok((GateKind::Nor, at + 1));
+    }
+    if is_word(tokens, at, Keyword::Xor) {
+        return Ok((GateKind::Xor, at + 1));
+    }
+    if is_word(tokens, at, Keyword::Xnor) {
+        return Ok((GateKind::Xnor, at + 1));
+    }
+    if is_word(tokens, at, Keyword::Buf) {
+        return Ok((GateKind::Buf, at + 1));
+    }
+    if is_word(tokens, at, Keyword::Not) {
+        return Ok((GateKind::Not, at + 1));
+    }
+    Err(ReadFault::At(at))
+}
