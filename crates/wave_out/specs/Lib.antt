@@ -9,3 +9,4 @@ pub mod Changes
 pub mod Files
 pub mod Shown
 pub mod Writing
+pub mod Laws
