@@ -14,3 +14,4 @@ pub mod CallLaws
 pub mod WriterLaws
 pub mod RunLaws
 pub mod DumpLaws
+pub mod Examples

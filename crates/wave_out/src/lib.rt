@@ -11,5 +11,5 @@ mod variables;
 mod words;
 mod writer;
 
-pub use laws::calls_of_a_run_are_its_dump;
+pub use laws::{calls_of_a_run_are_its_dump, nested_texts};
 pub use writer::VcdWriter;
