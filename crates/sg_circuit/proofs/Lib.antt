@@ -2,3 +2,4 @@
 pub mod SeenLaws
 pub mod PinLaws
 pub mod FanLaws
+pub mod FittingLaws

@@ -5,3 +5,4 @@ pub mod FanOut
 pub mod Seen
 pub mod Cuts
 pub mod Pins
+pub mod Fitting

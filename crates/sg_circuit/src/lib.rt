@@ -6,6 +6,7 @@ mod checks;
 mod circuits;
 mod elements;
 mod fan_out;
+mod fitting;
 mod nets;
 mod scopes;
 

@@ -1,0 +1,51 @@
+-- Words of the functions that look whether parts fit together: what is so of a closed circuit, said of the code's parts.
+use Rattle.std.specs.Prelude.{◌≡◌, ◌↔◌, ℕ, ◌<◌, ◌≤◌, ◌^◌, All, length, IfSome, IsSome, slice_index_or}
+use Rattle.sg_circuit.specs.declared.nets.Net.{Net}
+use Rattle.sg_circuit.specs.declared.nets.Driver.TheVariants as driver
+use Rattle.sg_circuit.specs.declared.scopes.Scope.{Scope}
+use Rattle.sg_circuit.specs.declared.elements.Element.{Element}
+use Rattle.sg_circuit.specs.declared.circuits.Parts.{Parts}
+use Rattle.sg_circuit.specs.Closed.{IfElement, TakesInputs, HasDelays, HasDatum, width_of}
+use Rattle.sg_circuit.specs.Seen.{kind_seen, IsIndexed}
+
+-- no list has too many parts
+pub record AreFew (parts : Parts) : Type 0 where
+  pub nets : length parts.nets.items < 2 ^ 31
+  pub elements : length parts.elements.items < 2 ^ 31
+  pub checks : length parts.checks.items < 2 ^ 31
+  pub scopes : length parts.scopes.items < 2 ^ 31
+  pub udps : length parts.udps.items < 2 ^ 31
+
+pub record ScopesFit (parts : Parts) : Type 0 where
+  pub parents : (s : ℕ) (d : Scope) → s < length parts.scopes.items → IfSome (slice_index_or parts.scopes.items s d).parent (λ p. p < s)
+  pub net_scopes : All (λ n. n.scope < length parts.scopes.items) parts.nets.items
+  pub element_scopes : All (λ e. e.scope < length parts.scopes.items) parts.elements.items
+  pub check_scopes : All (λ k. k.scope < length parts.scopes.items) parts.checks.items
+
+pub record NetsFit (parts : Parts) : Type 0 where
+  pub bits : All (λ s. All (λ v. All (λ n. n < length parts.nets.items) v.bits.items) s.variables.items) parts.scopes.items
+  pub inputs : All (λ e. All (λ n. n < length parts.nets.items) e.inputs.items) parts.elements.items
+  pub outputs : All (λ e. e.output < length parts.nets.items) parts.elements.items
+
+pub record DriversFit (parts : Parts) : Type 0 where
+  pub named : (e : ℕ) (d : Element) (n : Net) → e < length parts.elements.items → (slice_index_or parts.nets.items (slice_index_or parts.elements.items e d).output n).driver ≡ driver.Element e
+  pub drivers : (n : ℕ) (k : Net) → n < length parts.nets.items → IfElement (slice_index_or parts.nets.items n k).driver (λ e. (e < length parts.elements.items) × ((d : Element) → (slice_index_or parts.elements.items e d).output ≡ n))
+
+pub record KindsFit (parts : Parts) : Type 0 where
+  pub counts : All (λ d. d.count ≤ 2) parts.gate_delays.items
+  pub indexed : All (λ e. IsIndexed parts e.kind) parts.elements.items
+  pub takes_inputs : All (λ e. TakesInputs (kind_seen parts e.kind) (length e.inputs.items)) parts.elements.items
+  pub has_delays : All (λ e. HasDelays (kind_seen parts e.kind)) parts.elements.items
+
+pub record VariablesFit (parts : Parts) : Type 0 where
+  pub widths : All (λ s. All (λ v. length v.bits.items ≡ width_of v.range) s.variables.items) parts.scopes.items
+  pub datums : All (λ k. IsSome k.datum ↔ HasDatum k.kind) parts.checks.items
+
+-- all of these
+pub record PartsFit (parts : Parts) : Type 0 where
+  pub few : AreFew parts
+  pub scopes : ScopesFit parts
+  pub nets : NetsFit parts
+  pub drivers : DriversFit parts
+  pub kinds : KindsFit parts
+  pub variables : VariablesFit parts
