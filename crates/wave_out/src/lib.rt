@@ -13,3 +13,6 @@ mod writer;
 
 pub use laws::{calls_of_a_run_are_its_dump, nested_texts};
 pub use writer::VcdWriter;
+
+#[cfg(test)]
+mod tests;
