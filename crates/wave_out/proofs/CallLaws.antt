@@ -10,6 +10,7 @@ use Rattle.sg_model.specs.Values.{value_at}
 use Rattle.sg_model.specs.Machine.{Snapshot}
 use Rattle.sg_model.specs.Time.{any_differs}
 use Rattle.sg_model.proofs.PlacedLaws.{same-true}
+use Rattle.sg_model.proofs.PlacingSteps.{same-self}
 use Rattle.sg_circuit.specs.Circuit.{Variable}
 use Rattle.sim_rounds.specs.Lists.{IsListOf}
 use Rattle.sim_rounds.specs.Nets.{differs}
@@ -53,11 +54,22 @@ any_same a b new (n ∷ ns) h =
 abbrev pub Agree : List Variable → List Value → List Value → Type 0
 Agree xs a b = All (λ x. values_at x.bits a ≡ values_at x.bits b) xs
 
-agree_none : (xs : List Variable) (old new : List Value) → any_variable_differs xs old new ≡ false → Agree xs old new
+pub agree_none : (xs : List Variable) (old new : List Value) → any_variable_differs xs old new ≡ false → Agree xs old new
 agree_none [] old new h = All-nil (λ x. values_at x.bits old ≡ values_at x.bits new)
 agree_none (x ∷ xs) old new h =
     All-cons (λ x. values_at x.bits old ≡ values_at x.bits new) x xs (differ_none old new x.bits (no_first (any_differs old new x.bits) (any_variable_differs xs old new) h))
     (agree_none xs old new (no_second (any_differs old new x.bits) (any_variable_differs xs old new) h))
+
+-- variables that agree don't differ
+no_differs : (vs : List Value) (bs : List ℕ) → any_differs vs vs bs ≡ false
+no_differs vs [] = refl
+no_differs vs (b ∷ bs) = ap (λ c. not c || any_differs vs vs bs) (same-self (value_at vs b) (value_at vs b) refl) ∙ no_differs vs bs
+
+pub any_agree_none : (xs : List Variable) (a b : List Value) → Agree xs a b → any_variable_differs xs a b ≡ false
+any_agree_none [] a b h = refl
+any_agree_none (x ∷ xs) a b h =
+    ap (λ c. c || any_variable_differs xs a b) (any_same a b b x.bits (All-head (λ x. values_at x.bits a ≡ values_at x.bits b) x xs h) ∙ no_differs b x.bits)
+    ∙ any_agree_none xs a b (All-tail (λ x. values_at x.bits a ≡ values_at x.bits b) x xs h)
 
 -- what is written of variables that agreed before
 texts_agree : (xs : List Variable) (k : ℕ) (a b new : List Value) → Agree xs a b → numbered (bits_change b new) k (map (λ x. x.bits) xs) ≡ numbered (change_line a new) k xs
@@ -157,7 +169,7 @@ precedes xs d before (e ∷ es) c agree truth =
     let step = follows_later xs d before e e.changed agree truth.0 in
     subst (λ o. Precedes xs (dump_after xs o es) c) (sym step.is) (precedes xs step.dump e.values es c step.agree truth.1)
 
-after-append : (xs : List Variable) (d : Option Dump) (cs : List Call) (c : Call) → dump_after xs d (cs ++ c ∷ []) ≡ with_call xs c (dump_after xs d cs)
+pub after-append : (xs : List Variable) (d : Option Dump) (cs : List Call) (c : Call) → dump_after xs d (cs ++ c ∷ []) ≡ with_call xs c (dump_after xs d cs)
 after-append xs d [] c = refl
 after-append xs d (e ∷ es) c = after-append xs (with_call xs e d) es c
 

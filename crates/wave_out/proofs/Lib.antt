@@ -12,3 +12,6 @@ pub mod ShownLaws
 pub mod FileLaws
 pub mod CallLaws
 pub mod WriterLaws
+pub mod RunLaws
+pub mod DumpLaws
+pub mod Examples

@@ -9,3 +9,5 @@ pub mod Changes
 pub mod Files
 pub mod Shown
 pub mod Writing
+pub mod Nested
+pub mod Laws

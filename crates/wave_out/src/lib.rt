@@ -4,10 +4,15 @@
 mod blocks;
 mod changes;
 mod header;
+mod laws;
 mod scopes;
 mod shown;
 mod variables;
 mod words;
 mod writer;
 
+pub use laws::{calls_of_a_run_are_its_dump, nested_texts};
 pub use writer::VcdWriter;
+
+#[cfg(test)]
+mod tests;

@@ -1,0 +1,22 @@
+-- The law that joins the texts of calls to the text of a run.
+use Rattle.std.specs.Prelude.{ℕ, suc, ◌≡◌, List, Option, Some, None}
+use Rattle.sg_circuit.specs.Circuit.{Circuit}
+use Rattle.sim_rounds.specs.Watching.{Call}
+use Rattle.sim_rounds.specs.Runs.{Setting, AllCalls, CallsFor, run_for}
+use Rattle.wave_out.specs.Nested.{nested, nested_header, nested_calls, nested_dump}
+use Rattle.wave_out.specs.Vcd.{header, vcd_text}
+use Rattle.wave_out.specs.Writing.{AreTruthful, text_after}
+
+-- the calls of a whole run are truthful, and their text is that of the run
+abbrev pub WholeRunIsWritten : Type 0
+WholeRunIsWritten = (circuit : Circuit) (s : Setting) (made : List Call) → (run_for s (suc s.end)).spent ≡ None → AllCalls s made
+    → AreTruthful made × (text_after circuit made ≡ vcd_text circuit s.end (run_for s (suc s.end)))
+
+-- so are the calls of a run that is spent at a time, and their text is that of the run
+abbrev pub SpentRunIsWritten : Type 0
+SpentRunIsWritten = (circuit : Circuit) (s : Setting) (spent : ℕ × Option ℕ) (made : List Call) → (run_for s (suc s.end)).spent ≡ Some spent → CallsFor s spent.0 made
+    → AreTruthful made × (text_after circuit made ≡ vcd_text circuit s.end (run_for s (suc s.end)))
+
+-- the texts of the worked example
+abbrev pub NestedTexts : Type 0
+NestedTexts = (header nested ≡ nested_header) × (text_after nested nested_calls ≡ nested_dump)
