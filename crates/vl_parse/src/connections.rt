@@ -178,5 +178,12 @@ pub fn instance<'a>(
         Some(connections) => connections,
         None => Connections::Ordered(Vec::new(alloc)),
     };
-    Ok((Instance { place, name, connections }, next))
+    Ok((
+        Instance {
+            place,
+            name,
+            connections,
+        },
+        next,
+    ))
 }

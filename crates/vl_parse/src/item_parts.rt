@@ -52,11 +52,7 @@ fn net_name<'a>(
 
 /// `expression "=" expression`
 #[tactic(auto, unfolding(vl_tree::specs::Items::join_parts))]
-fn join<'a>(
-    alloc: Global,
-    tokens: &[Token<'a>],
-    at: usize,
-) -> Result<(Join<'a>, usize), ReadFault>
+fn join<'a>(alloc: Global, tokens: &[Token<'a>], at: usize) -> Result<(Join<'a>, usize), ReadFault>
     ensures { Gives (λ x. (view_join x.0, x.1)) result (items.join.read (map lexeme tokens.now) at) }
 {
     let (left, next) = expression(alloc, tokens, at)?;

@@ -91,11 +91,7 @@ impl<'a> ListPart<'a> for HeadPortPart {
 
 /// `names | port-declaration { "," head-port }`
 #[tactic(auto, using(vl_tree::proofs::Lists::comma_head_port), unfolding(vl_tree::specs::Modules::head_parts))]
-fn head<'a>(
-    alloc: Global,
-    tokens: &[Token<'a>],
-    at: usize,
-) -> Result<(Head<'a>, usize), ReadFault>
+fn head<'a>(alloc: Global, tokens: &[Token<'a>], at: usize) -> Result<(Head<'a>, usize), ReadFault>
     ensures { Gives (λ x. (view_head x.0, x.1)) result (modules.head.read (map lexeme tokens.now) at) }
 {
     if is_name(tokens, at) {

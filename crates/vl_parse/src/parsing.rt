@@ -29,11 +29,7 @@ pub enum ParseKind<'a> {
 
 /// `module | primitive`
 #[tactic(auto, unfolding(vl_tree::specs::Modules::part_parts))]
-fn part<'a>(
-    alloc: Global,
-    tokens: &[Token<'a>],
-    at: usize,
-) -> Result<(Part<'a>, usize), ReadFault>
+fn part<'a>(alloc: Global, tokens: &[Token<'a>], at: usize) -> Result<(Part<'a>, usize), ReadFault>
     ensures { Gives (λ x. (view_part x.0, x.1)) result (modules.part.read (map lexeme tokens.now) at) }
 {
     if is_module(tokens, at) {

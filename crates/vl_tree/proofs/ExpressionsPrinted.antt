@@ -216,7 +216,7 @@ in_parentheses values s out =
     let listed_there = put_listed put_mtm values opened in
     let closed = put_mark RightParen listed_there in
     let inner = printing.appends_mapped (λ (x : List MinTypMax × Unit {0}). x.0) (sequence mtms.language (mark RightParen).language) opened closed (values, tt)
-        (printing.appends_seq kind_of mtms (mark RightParen).language mtms-exact opened listed_there closed values tt (mtms_prints values s opened) (quoted_printed (is_symbol RightParen) (symbol_token RightParen) nowhere listed_there refl)) in
+    (printing.appends_seq kind_of mtms (mark RightParen).language mtms-exact opened listed_there closed values tt (mtms_prints values s opened) (quoted_printed (is_symbol RightParen) (symbol_token RightParen) nowhere listed_there refl)) in
     printing.appends_mapped (λ (x : Unit {0} × List MinTypMax). x.1) (sequence (mark LeftParen).language (mtms ◂ mark RightParen).language) out closed (tt, values)
     (printing.appends_seq kind_of (mark LeftParen) (mtms ◂ mark RightParen).language (the_mark LeftParen) out opened closed tt values (quoted_printed (is_symbol LeftParen) (symbol_token LeftParen) nowhere out refl) inner)
 
@@ -227,7 +227,7 @@ several_printed p values s out =
     let new = put_mark RightParen (put_listed put_mtm values (put_mark LeftParen hash)) in
     let rest = in_parentheses values s hash in
     let whole = printing.appends_mapped (λ (x : Unit {0} × List MinTypMax). x.1) (sequence (mark Hash).language (mark LeftParen ▸ (mtms ◂ mark RightParen)).language) out new (tt, values)
-        (printing.appends_seq kind_of (mark Hash) (mark LeftParen ▸ (mtms ◂ mark RightParen)).language (the_mark Hash) out hash new tt values (quoted_printed (is_symbol Hash) (symbol_token Hash) p out refl) rest) in
+    (printing.appends_seq kind_of (mark Hash) (mark LeftParen ▸ (mtms ◂ mark RightParen)).language (the_mark Hash) out hash new tt values (quoted_printed (is_symbol Hash) (symbol_token Hash) p out refl) rest) in
     let first = begins_behind (mark LeftParen ▸ (mtms ◂ mark RightParen)).language p out hash new values (longer out (record { meaning = symbol_token Hash; place = p })) (begins_with (symbol_token Hash) p out) rest in
     placed_printed (λ x. record { place = x.0; values = x.1 }) _ p values out new (printing.appends_right (image (λ (x : Unit {0} × Number). one_number x.1 ∷ []) (sequence (mark Hash).language number.language)) (image (λ (x : Unit {0} × List MinTypMax). x.1) (sequence (mark Hash).language (mark LeftParen ▸ (mtms ◂ mark RightParen)).language)) out new values whole) first
 
@@ -235,5 +235,5 @@ pub delay_prints : Prints delay.language put_delay
 unfolding delay_parts
 delay_prints d (ts, i, j, ((p, values), e, (t, at, place, inl ((u, n), is, (m, h, s))))) out =
     subst (λ z. Appends delay.language out (put_delay z out) z) e (several_printed p values (spelled_as mtms.language (one_number n ∷ []) values is (one_mtm n (ts, m, j, s))) out)
-delay_prints d (ts, i, j, ((p, values), e, (t, at, place, inr ((u, vs), is, (m, h, ((w, us), same, (k, l, ((ws, v), alike, (n, s, r)))))))) ) out =
+delay_prints d (ts, i, j, ((p, values), e, (t, at, place, inr ((u, vs), is, (m, h, ((w, us), same, (k, l, ((ws, v), alike, (n, s, r))))))))) out =
     subst (λ z. Appends delay.language out (put_delay z out) z) e (several_printed p values (spelled_as mtms.language ws values (alike ∙ (same ∙ is)) (ts, k, n, s)) out)

@@ -101,8 +101,7 @@ opening_first b put prints p (None, y) (ts, i, j, (t, at, place, (m, s, u))) out
 opening_first b put prints p (Some n, y) (ts, i, j, (t, at, place, (m, s, u))) out =
     let mid = put_name n out in
     let q = behind_mark LeftParen b put prints y (ts, m, j, u) mid in
-    let f = name_prints n (ts, i, m, s) out in
-    (
+    let f = name_prints n (ts, i, m, s) out in (
       printing.appends_seq kind_of (optional name) _ (perhaps name-exact refl) out mid (put y (put_mark LeftParen mid)) (Some n) y (printing.appends_some name.language out mid n f) q,
       begins_behind _ p out mid (put y (put_mark LeftParen mid)) y (starts_so kind_of name name-exact refl mid (length out) n (length mid) f.spells).0 (name_own.begins p n (ts, i, m, (t, at, place, s)) out) q,
     )
