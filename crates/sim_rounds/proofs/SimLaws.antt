@@ -1,23 +1,20 @@
 -- A simulator before time 0.
-use Rattle.std.specs.Prelude.{◌≡◌, ◌⊎◌, ℕ, zero, suc, ◌<◌, ◌≤◌, ◌==◌, ◌^◌, Bool, true, false, if◌then◌else◌, All, List, [], ◌∷◌, length, map, replicate, slice_index_or, take, Option, None, refl}
+use Rattle.std.specs.Prelude.{◌≡◌, ℕ, zero, suc, ◌<◌, ◌==◌, ◌^◌, Bool, true, false, if◌then◌else◌, All, List, [], ◌∷◌, length, map, replicate, slice_index_or, take, None, refl}
 use Rattle.std.proofs.Common.{sym, ◌∙◌, ap, subst, arith}
 use Rattle.std.proofs.lemmas.List.{length-map, length-replicate}
 use Rattle.std.proofs.lemmas.List.Elements.{All-nil, All-head, All-tail}
 use Rattle.sg_logic.specs.declared.values.Value.{Value}
-use Rattle.sg_logic.specs.declared.values.Value.TheVariants.{X, Z}
 use Rattle.sg_model.specs.Values.{value_at}
 use Rattle.sg_model.specs.Agenda.{list_at}
 use Rattle.sg_model.specs.Pending.{IsPending}
-use Rattle.sg_model.specs.Machine.{Machine, State, Snapshot, Violation, Stamp, IsNoOutput}
-use Rattle.sg_model.specs.Time.{Run}
+use Rattle.sg_model.specs.Machine.{Machine, State, IsNoOutput}
 use Rattle.sg_circuit.specs.declared.elements.Element as code_element
 use Rattle.sg_circuit.specs.declared.circuits.Parts.{Parts}
 use Rattle.sg_circuit.specs.Seen.{element_seen}
-use Rattle.sg_circuit.specs.Circuit.{Circuit, Element, net_at}
+use Rattle.sg_circuit.specs.Circuit.{Circuit, Element}
 use Rattle.sg_circuit.specs.Closed.{IsClosed}
 use Rattle.sg_circuit.specs.FanOut.{IsFanOut}
 use Rattle.stim_read.specs.declared.steps.Set.{Set}
-use Rattle.stim_read.specs.Seen.{set_seen}
 use Rattle.stim_read.specs.Stimulus.{Step, Stimulus, sets_at}
 use Rattle.stim_read.specs.Applied.{IsApplied, IsInput}
 use Rattle.time_checks.specs.declared.violations.Violation as code_violation
@@ -93,27 +90,29 @@ pub fresh_ready : (circuit : Circuit) (nets : Nets) (told : Told) (work : WorkLi
 fresh_ready circuit nets told work elements lists fan driven sets found stimulus closed h s f applied =
     let many : length nets.values.items ≡ length circuit.nets = ap length h.values ∙ length-map circuit.nets (λ net. first_value_of net.driver) in
     let each : length lists ≡ length circuit.elements = ap length h.lists ∙ length-replicate (length circuit.elements) [] in
-    let states : length elements.states ≡ length circuit.elements = ap length h.states ∙ length-map circuit.elements _ in
-    (subst (λ cs. IsReadyAt true 0 (machine_of elements.circuit) (length elements.circuit.nets) fan driven nets told work lists elements.states (λ ss. []) (λ vs. []) cs 0 found) (sym s) (record {
-      round = record {
-        circuit = of_circuit circuit closed (machine_of elements.circuit) (ap machine_of h.circuit_of) fan driven (length nets.values.items) (length lists) many each (subst (λ c. IsFanOut (machine_of c).inputs fan) (sym h.circuit_of) h.fan_out) h.each_net h.outputs;
-        state_of_each = states ∙ sym each;
-        settled = λ k. absurd (let q : true ≡ false = k in cc);
-        nets_are = h.nets_are;
-        idle = subst (IsIdle work) (sym each) h.idle;
-        in_order = none_pending driven nets.values.items lists (length circuit.elements) 0 h.lists;
-      };
-      count = ap (λ c. length c.nets) h.circuit_of ∙ sym many;
-      checks = record {
-        violated = refl;
-        notifiers = refl;
-        free = λ vs. record { within = All-nil (λ n. n < length nets.values.items); undriven = All-nil (λ n. IsNoOutput n driven); once = tt };
-      };
-      within = All-nil (λ c. c.net < length nets.values.items);
-      free = tt;
-      told = h.told;
-      begun = omega arith;
-    }), subst (λ os. CanApply os (length nets.values.items) stimulus) (sym h.outputs) (subst (λ n. CanApply (machine_of circuit).outputs n stimulus) (sym many) (applied_can circuit closed stimulus applied)))
+    let states : length elements.states ≡ length circuit.elements = ap length h.states ∙ length-map circuit.elements _ in (
+      subst (λ cs. IsReadyAt true 0 (machine_of elements.circuit) (length elements.circuit.nets) fan driven nets told work lists elements.states (λ ss. []) (λ vs. []) cs 0 found) (sym s) (record {
+        round = record {
+          circuit = of_circuit circuit closed (machine_of elements.circuit) (ap machine_of h.circuit_of) fan driven (length nets.values.items) (length lists) many each (subst (λ c. IsFanOut (machine_of c).inputs fan) (sym h.circuit_of) h.fan_out) h.each_net h.outputs;
+          state_of_each = states ∙ sym each;
+          settled = λ k. absurd (let q : true ≡ false = k in cc);
+          nets_are = h.nets_are;
+          idle = subst (IsIdle work) (sym each) h.idle;
+          in_order = none_pending driven nets.values.items lists (length circuit.elements) 0 h.lists;
+        };
+        count = ap (λ c. length c.nets) h.circuit_of ∙ sym many;
+        checks = record {
+          violated = refl;
+          notifiers = refl;
+          free = λ vs. record { within = All-nil (λ n. n < length nets.values.items); undriven = All-nil (λ n. IsNoOutput n driven); once = tt };
+        };
+        within = All-nil (λ c. c.net < length nets.values.items);
+        free = tt;
+        told = h.told;
+        begun = omega arith;
+      }),
+      subst (λ os. CanApply os (length nets.values.items) stimulus) (sym h.outputs) (subst (λ n. CanApply (machine_of circuit).outputs n stimulus) (sym many) (applied_can circuit closed stimulus applied)),
+    )
 
 -- the state before time 0
 same_state : (a b : State) → a.values ≡ b.values → a.stamps ≡ b.stamps → a.lists ≡ b.lists → a.states ≡ b.states → a ≡ b

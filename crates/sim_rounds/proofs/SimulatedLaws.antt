@@ -1,5 +1,5 @@
 -- A simulation from one time to the next.
-use Rattle.std.specs.Prelude.{◌≡◌, ℕ, zero, suc, ◌+◌, ◌<◌, ◌≤◌, ◌==◌, Bool, true, false, All, List, [], ◌∷◌, length, map, reverse, slice_index_or, Result, Err, refl}
+use Rattle.std.specs.Prelude.{◌≡◌, ℕ, ◌+◌, ◌<◌, ◌≤◌, ◌==◌, Bool, false, All, List, [], ◌∷◌, length, map, reverse, slice_index_or, Result, Err, refl}
 use Rattle.std.proofs.Common.{sym, ◌∙◌, ap, subst, arith}
 use Rattle.std.proofs.lemmas.List.{get_or-map, length-map}
 use Rattle.std.proofs.lemmas.Bool.Decides.{nat_tests}
@@ -19,7 +19,7 @@ use Rattle.sim_rounds.specs.declared.told.Told.{Told}
 use Rattle.sim_rounds.specs.declared.work.WorkList.{WorkList}
 use Rattle.sim_rounds.specs.declared.runs.SimEnd.{SimEnd}
 use Rattle.sim_rounds.specs.declared.runs.SimEnd.TheVariants.{NoMemory}
-use Rattle.sim_rounds.specs.Rounds.{AreHanded, ArePending}
+use Rattle.sim_rounds.specs.Rounds.{AreHanded}
 use Rattle.sim_rounds.specs.Told.{IsTold}
 use Rattle.sim_rounds.specs.Times.{count_shown}
 use Rattle.sim_rounds.specs.Runs.{TimeMade}
@@ -62,10 +62,11 @@ pub ended_ready : (now next : ℕ) (m m' : Machine) (net_count : ℕ) (fan : Lis
     → IsReadyAt false next m' net_count fan driven' nets' told work lists states found_by toggled_by sets ended found → next ≡ now + 1 → IsTold told' nets'.values.items → ended' ≤ length found
     → CanApply driven (length nets.values.items) stimulus → driven ≡ driven' → length nets'.values.items ≡ length nets.values.items → stimulus' ≡ stimulus
     → IsReadyAt (next == 0) next m' net_count fan driven' nets' told' work lists states found_by toggled_by sets ended' found × CanApply driven' (length nets'.values.items) stimulus'
-ended_ready now next m m' net_count fan driven driven' nets nets' told told' work lists states found_by toggled_by sets ended ended' found stimulus stimulus' h n t b can d l s =
-    (subst (λ all. IsReadyAt all next m' net_count fan driven' nets' told' work lists states found_by toggled_by sets ended' found) (sym (later_test next (omega arith)))
-    (record { round = h.round; count = h.count; checks = h.checks; within = h.within; free = h.free; told = t; begun = b }),
-    subst (λ x. CanApply driven' (length nets'.values.items) x) (sym s) (subst (λ x. CanApply driven' x stimulus) (sym l) (subst (λ x. CanApply x (length nets.values.items) stimulus) d can)))
+ended_ready now next m m' net_count fan driven driven' nets nets' told told' work lists states found_by toggled_by sets ended ended' found stimulus stimulus' h n t b can d l s = (
+  subst (λ all. IsReadyAt all next m' net_count fan driven' nets' told' work lists states found_by toggled_by sets ended' found) (sym (later_test next (omega arith)))
+      (record { round = h.round; count = h.count; checks = h.checks; within = h.within; free = h.free; told = t; begun = b }),
+  subst (λ x. CanApply driven' (length nets'.values.items) x) (sym s) (subst (λ x. CanApply driven' x stimulus) (sym l) (subst (λ x. CanApply x (length nets.values.items) stimulus) d can)),
+)
 
 -- where nothing is pending before a time
 later_follows : (xs : List (ℕ × Value)) (present : Value) (now t : ℕ) → Follows xs present now → NoneBelow t xs → Follows xs present t

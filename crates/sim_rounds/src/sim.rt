@@ -52,17 +52,23 @@ fn first_value(driver: Driver) -> Value
 fn first_values(alloc: Global, nets: &[Net]) -> Result<Vec<Value>, NoMemory>
     ensures { IfOk result (λ v. v.items ≡ map (λ net. first_value_of net.driver) nets.now) }
 {
-    Ok(nets.iter().map(|net| first_value(net.driver)).collect(alloc)?)
+    Ok(
+        nets.iter()
+            .map(|net| first_value(net.driver))
+            .collect(alloc)?,
+    )
 }
 
 // The net that each element drives.
 fn outputs_of(alloc: Global, elements: &[Element]) -> Result<Vec<NetId>, NoMemory>
     ensures { IfOk result (λ v. v.items ≡ map (λ e. e.output) elements.now) }
 {
-    Ok(elements
-        .iter()
-        .map(|element| element.output)
-        .collect(alloc)?)
+    Ok(
+        elements
+            .iter()
+            .map(|element| element.output)
+            .collect(alloc)?,
+    )
 }
 
 // The parts of a circuit fit together.
@@ -208,14 +214,7 @@ impl<'a, A: Agenda + Drop> Sim<'a, A> {
             changes: Vec::new(alloc),
             last: 0,
         };
-        let end = make_times(
-            &mut simulation,
-            stimulus.end,
-            rounds,
-            shelf,
-            watcher,
-            steps,
-        );
+        let end = make_times(&mut simulation, stimulus.end, rounds, shelf, watcher, steps);
         Finished {
             end,
             tally: tally_of(simulation),

@@ -24,6 +24,8 @@ returns-clause-quiet g c = λ r t h lo hi.
 
 pub returns-clause-ready : goal.returns-clause-ready
 returns-clause-ready g c =
-    let s = c.args.self.now in
-    (skip_ready c.args.now c.next_due.result (g.E.Elements.machine s.elements) (g.E.Elements.net_count s.elements) s.fan s.outputs.items s.nets s.told s.work (g.A.Agenda.lists s.agenda) (g.A.Agenda.lists c.next_due.new.agenda) (g.E.Elements.states s.elements) (g.C.Checks.violated s.checks) (g.C.Checks.notifiers s.checks)
-    s.handed.items s.ended s.violations.items c.requires.ready.0 c.next_due.ensures.later c.next_due.ensures.below c.next_due.ensures.lists, c.requires.ready.1)
+    let s = c.args.self.now in (
+      skip_ready c.args.now c.next_due.result (g.E.Elements.machine s.elements) (g.E.Elements.net_count s.elements) s.fan s.outputs.items s.nets s.told s.work (g.A.Agenda.lists s.agenda) (g.A.Agenda.lists c.next_due.new.agenda) (g.E.Elements.states s.elements) (g.C.Checks.violated s.checks) (g.C.Checks.notifiers s.checks)
+          s.handed.items s.ended s.violations.items c.requires.ready.0 c.next_due.ensures.later c.next_due.ensures.below c.next_due.ensures.lists,
+      c.requires.ready.1,
+    )

@@ -22,6 +22,7 @@ returns c =
     let rise : StepsRise (map (λ x. step_seen x) s.steps.items) = subst (λ ss. StepsRise (map (λ x. step_seen x) ss)) c.deref.ensures.value (c.steps_rise.ensures.0 c.if-not-steps_rise.false) in
     let within : All (λ x. x.time ≤ s.end) s.steps.items = subst (λ ss. All (λ x. x.time ≤ s.end) ss) c.deref-2.ensures.value (c.steps_within.ensures.0 c.if-not-steps_within.false) in
     let once : All (λ x. SetsOnce (map (λ y. set_seen y) x.sets.items)) s.steps.items =
-    subst (λ ss. All (λ x. SetsOnce (map (λ y. set_seen y) x.sets.items)) ss) c.deref-3.ensures.value (c.steps_once.ensures.0 c.if-not-steps_once.false) in
-    (λ t. can_apply circuit s rise within c.if-self.false once (subst Fits c.deref-4.ensures.value (c.steps_fit.ensures.0 t)),
-    λ h. c.steps_fit.ensures.1 (subst Fits (sym c.deref-4.ensures.value) (inputs_unseen circuit s.steps.items h.inputs)))
+    subst (λ ss. All (λ x. SetsOnce (map (λ y. set_seen y) x.sets.items)) ss) c.deref-3.ensures.value (c.steps_once.ensures.0 c.if-not-steps_once.false) in (
+      λ t. can_apply circuit s rise within c.if-self.false once (subst Fits c.deref-4.ensures.value (c.steps_fit.ensures.0 t)),
+      λ h. c.steps_fit.ensures.1 (subst Fits (sym c.deref-4.ensures.value) (inputs_unseen circuit s.steps.items h.inputs)),
+    )
