@@ -1,23 +1,20 @@
 -- A simulator before time 0.
-use Rattle.std.specs.Prelude.{◌≡◌, ◌⊎◌, ℕ, zero, suc, ◌<◌, ◌≤◌, ◌==◌, ◌^◌, Bool, true, false, if◌then◌else◌, All, List, [], ◌∷◌, length, map, replicate, slice_index_or, take, Option, None, refl}
+use Rattle.std.specs.Prelude.{◌≡◌, ℕ, zero, suc, ◌<◌, ◌==◌, ◌^◌, Bool, true, false, if◌then◌else◌, All, List, [], ◌∷◌, length, map, replicate, slice_index_or, take, None, refl}
 use Rattle.std.proofs.Common.{sym, ◌∙◌, ap, subst, arith}
 use Rattle.std.proofs.lemmas.List.{length-map, length-replicate}
 use Rattle.std.proofs.lemmas.List.Elements.{All-nil, All-head, All-tail}
 use Rattle.sg_logic.specs.declared.values.Value.{Value}
-use Rattle.sg_logic.specs.declared.values.Value.TheVariants.{X, Z}
 use Rattle.sg_model.specs.Values.{value_at}
 use Rattle.sg_model.specs.Agenda.{list_at}
 use Rattle.sg_model.specs.Pending.{IsPending}
-use Rattle.sg_model.specs.Machine.{Machine, State, Snapshot, Violation, Stamp, IsNoOutput}
-use Rattle.sg_model.specs.Time.{Run}
+use Rattle.sg_model.specs.Machine.{Machine, State, IsNoOutput}
 use Rattle.sg_circuit.specs.declared.elements.Element as code_element
 use Rattle.sg_circuit.specs.declared.circuits.Parts.{Parts}
 use Rattle.sg_circuit.specs.Seen.{element_seen}
-use Rattle.sg_circuit.specs.Circuit.{Circuit, Element, net_at}
+use Rattle.sg_circuit.specs.Circuit.{Circuit, Element}
 use Rattle.sg_circuit.specs.Closed.{IsClosed}
 use Rattle.sg_circuit.specs.FanOut.{IsFanOut}
 use Rattle.stim_read.specs.declared.steps.Set.{Set}
-use Rattle.stim_read.specs.Seen.{set_seen}
 use Rattle.stim_read.specs.Stimulus.{Step, Stimulus, sets_at}
 use Rattle.stim_read.specs.Applied.{IsApplied, IsInput}
 use Rattle.time_checks.specs.declared.violations.Violation as code_violation

@@ -1,5 +1,5 @@
 -- A simulation from one time to the next.
-use Rattle.std.specs.Prelude.{◌≡◌, ℕ, zero, suc, ◌+◌, ◌<◌, ◌≤◌, ◌==◌, Bool, true, false, All, List, [], ◌∷◌, length, map, reverse, slice_index_or, Result, Err, refl}
+use Rattle.std.specs.Prelude.{◌≡◌, ℕ, ◌+◌, ◌<◌, ◌≤◌, ◌==◌, Bool, false, All, List, [], ◌∷◌, length, map, reverse, slice_index_or, Result, Err, refl}
 use Rattle.std.proofs.Common.{sym, ◌∙◌, ap, subst, arith}
 use Rattle.std.proofs.lemmas.List.{get_or-map, length-map}
 use Rattle.std.proofs.lemmas.Bool.Decides.{nat_tests}
@@ -19,7 +19,7 @@ use Rattle.sim_rounds.specs.declared.told.Told.{Told}
 use Rattle.sim_rounds.specs.declared.work.WorkList.{WorkList}
 use Rattle.sim_rounds.specs.declared.runs.SimEnd.{SimEnd}
 use Rattle.sim_rounds.specs.declared.runs.SimEnd.TheVariants.{NoMemory}
-use Rattle.sim_rounds.specs.Rounds.{AreHanded, ArePending}
+use Rattle.sim_rounds.specs.Rounds.{AreHanded}
 use Rattle.sim_rounds.specs.Told.{IsTold}
 use Rattle.sim_rounds.specs.Times.{count_shown}
 use Rattle.sim_rounds.specs.Runs.{TimeMade}

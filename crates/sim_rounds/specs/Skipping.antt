@@ -1,5 +1,5 @@
 -- Times that are skipped leave what a simulation stands for: the laws that its trait asks for.
-use Rattle.std.specs.Prelude.{◌≡◌, ℕ, zero, suc, ◌≤◌, List, ◌∷◌, length, map, take, refl}
+use Rattle.std.specs.Prelude.{◌≡◌, ℕ, zero, suc, ◌≤◌, List, ◌∷◌, map, refl}
 use Rattle.std.proofs.Common.{sym, ◌∙◌, ap, subst}
 use Rattle.std.proofs.lemmas.List.{take_all, length-map}
 use Rattle.sg_logic.specs.declared.values.Value.{Value}
@@ -12,7 +12,6 @@ use Rattle.time_checks.specs.Seen.{violation_seen}
 use Rattle.stim_read.specs.Stimulus.{Stimulus}
 use Rattle.sim_rounds.specs.declared.nets.Nets.{Nets}
 use Rattle.sim_rounds.specs.declared.told.Told.{Told}
-use Rattle.sim_rounds.specs.States.{state_seen}
 use Rattle.sim_rounds.specs.Times.{count_shown}
 use Rattle.sim_rounds.specs.Simulations.{kept_of, StandsBetween}
 

@@ -1,5 +1,5 @@
 -- How an engine that stands for runs makes the rounds of a time, and counts what it evaluates.
-use Rattle.std.specs.Prelude.{ℕ, suc, ◌≡◌, ◌+◌, ◌-◌, ◌^◌, ◌≤◌, min, Bool, true, false, List, [], Option, Some}
+use Rattle.std.specs.Prelude.{ℕ, suc, ◌≡◌, ◌+◌, ◌-◌, ◌^◌, ◌≤◌, min, Bool, true, false, List, [], Some}
 use Rattle.sg_logic.specs.declared.values.Value.{Value}
 use Rattle.stim_read.specs.Stimulus.{Stimulus}
 use Rattle.sg_model.specs.Machine.{Machine, Violation}

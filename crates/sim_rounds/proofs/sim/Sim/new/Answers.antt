@@ -1,13 +1,12 @@
-use Rattle.std.specs.Prelude.{◌≡◌, List, length, map}
-use Rattle.std.proofs.Common.{ℕ, ◌∙◌, sym, ap, subst, rules}
-use Rattle.sg_logic.specs.declared.values.Value.{Value}
+use Rattle.std.specs.Prelude.{◌≡◌, length, map}
+use Rattle.std.proofs.Common.{◌∙◌, sym, ap, subst}
 use Rattle.sg_circuit.specs.Circuit.{Circuit}
 use Rattle.sg_circuit.specs.Seen.{circuit_seen, element_seen}
 use Rattle.sim_rounds.specs.Fresh.{first_value_of}
 use Rattle.sim_rounds.specs.Nets.{stamp_seen}
 use Rattle.sim_rounds.specs.States.{IsIdle}
 use Rattle.sim_rounds.specs.Told.{IsTold}
-use Rattle.sim_rounds.specs.Simulated.{first_state, machine_of}
+use Rattle.sim_rounds.specs.Simulated.{first_state}
 use Rattle.sim_rounds.proofs.SimLaws.{outputs_seen, no_stamps, count_seen}
 use Rattle.sim_rounds.proofs.sim.Sim.new.Goals as goal
 

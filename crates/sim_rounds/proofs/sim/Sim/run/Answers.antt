@@ -1,4 +1,4 @@
-use Rattle.std.specs.Prelude.{◌≡◌, List, map, [], take, ◌-◌}
+use Rattle.std.specs.Prelude.{List, map, take, ◌-◌}
 use Rattle.std.proofs.Common.{ℕ, ◌∙◌, sym, ap, subst}
 use Rattle.sg_model.specs.Machine.{Machine, Violation}
 use Rattle.stim_read.specs.Seen.{stimulus_seen}
@@ -8,7 +8,6 @@ use Rattle.sg_circuit.specs.Circuit.{Circuit}
 use Rattle.sim_rounds.specs.Runs.{HasEnded, start_of}
 use Rattle.sim_rounds.specs.Simulated.{first_state, machine_of}
 use Rattle.sim_rounds.specs.Simulations.{StandsBetween}
-use Rattle.sim_rounds.specs.Times.{count_shown}
 use Rattle.sim_rounds.proofs.SimLaws.{fresh_ready, fresh_stands}
 use Rattle.sim_rounds.proofs.sim.Sim.run.Goals as goal
 

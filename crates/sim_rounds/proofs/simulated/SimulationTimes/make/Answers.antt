@@ -1,11 +1,9 @@
-use Rattle.std.specs.Prelude.{map, List, length}
-use Rattle.std.proofs.Common.{◌≡◌, ◌≤◌, ◌+◌, ◌∙◌, ℕ, sym, ap, subst, refl, arith}
 use Rattle.std.proofs.lemmas.Result.{err_from_is_err_and}
 use Rattle.stim_read.specs.Seen.{stimulus_seen}
-use Rattle.stim_read.specs.Stimulus.{Stimulus, sets_at}
+use Rattle.stim_read.specs.Stimulus.{sets_at}
 use Rattle.sg_model.specs.Time.{Run}
 use Rattle.sim_rounds.specs.Simulations.{StandsBetween}
-use Rattle.sim_rounds.proofs.SimulatedLaws.{none_made, hand_ready, ended_ready}
+use Rattle.sim_rounds.proofs.SimulatedLaws.{none_made, hand_ready}
 use Rattle.sim_rounds.proofs.simulated.SimulationTimes.make.Goals as goal
 
 pub returns-in_err-hand_in-clause-made : goal.returns-in_err-hand_in-clause-made

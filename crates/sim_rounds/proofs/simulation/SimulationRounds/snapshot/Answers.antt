@@ -1,5 +1,5 @@
-use Rattle.std.specs.Prelude.{not, map, OnOk}
-use Rattle.std.proofs.Common.{◌≡◌, ◌∙◌, sym, ap, subst, rules}
+use Rattle.std.specs.Prelude.{map}
+use Rattle.std.proofs.Common.{◌≡◌}
 use Rattle.sg_model.specs.Time.{is_empty}
 use Rattle.stim_read.specs.Seen.{set_seen, stimulus_seen}
 use Rattle.sim_rounds.specs.States.{state_seen}
