@@ -1,10 +1,9 @@
 -- Some symbols, and some tables with what they compute.
-use Rattle.std.proofs.Common.{◌≡◌, ℕ, Bool, true, false, List, [], ◌∷◌, refl, Some, None}
-use Rattle.sg_logic.specs.declared.values.Value.{Value}
+use Rattle.std.proofs.Common.{◌≡◌, ℕ, true, false, List, [], ◌∷◌, refl, Some, None}
 use Rattle.sg_logic.specs.declared.values.Value.TheVariants.{Zero, One, X, Z}
 use Rattle.udp_rows.specs.declared.cells.Cell.{Cell}
 use Rattle.udp_rows.specs.declared.cells.RawRow.{RawRow}
-use Rattle.udp_rows.specs.Symbols.{level_covers, edge_covers, has_edge}
+use Rattle.udp_rows.specs.Symbols.{level_covers, edge_covers}
 use Rattle.udp_rows.specs.Meaning.{udp_next}
 use Rattle.udp_rows.specs.Faults.{fits_length, fits_symbols, fits_edges}
 use Rattle.udp_rows.specs.Columns.{rows_clash}
