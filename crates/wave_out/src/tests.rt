@@ -93,7 +93,10 @@ fn nested(alloc: Global) -> Result<Parts, NoMemory> {
         leg_timings: Vec::new(alloc),
         udps: Vec::new(alloc),
         checks: Vec::new(alloc),
-        scopes: vec![in alloc; scope(alloc, None, "t", top)?, scope(alloc, Some(0), "u.v", inner)?]?,
+        scopes: vec![in alloc;
+            scope(alloc, None, "t", top)?,
+            scope(alloc, Some(0), "u.v", inner)?,
+        ]?,
     })
 }
 
@@ -105,7 +108,8 @@ fn circuit_of(alloc: Global) -> Result<Circuit, NoMemory> {
     Ok(Circuit::close(parts))
 }
 
-const HEADER: &str = "$version signoff 1 $end\n$timescale 1 ps $end\n$scope module t $end\n$var wire 1 ! a $end\n$var wire 3 \" q [2:0] $end\n$var reg 1 # \\module $end\n$scope module \\u.v $end\n$var reg 1 $ n $end\n$var wire 1 % p $end\n$upscope $end\n$upscope $end\n$enddefinitions $end\n";
+const HEADER: &str =
+    "$version signoff 1 $end\n$timescale 1 ps $end\n$scope module t $end\n$var wire 1 ! a $end\n$var wire 3 \" q [2:0] $end\n$var reg 1 # \\module $end\n$scope module \\u.v $end\n$var reg 1 $ n $end\n$var wire 1 % p $end\n$upscope $end\n$upscope $end\n$enddefinitions $end\n";
 
 const FIRST: &str = "#0\n$dumpvars\n0!\nb1xz \"\n0#\nx$\nx%\n$end\n";
 

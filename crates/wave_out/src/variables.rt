@@ -55,11 +55,7 @@ pub fn bits_of<'a>(
 }
 
 // The pins of the variables, by their numbers.
-fn push_pins(
-    pins: &mut Vec<Pin>,
-    seen: &mut [u32],
-    variables: &[&[NetId]],
-) -> Result<(), NoMemory>
+fn push_pins(pins: &mut Vec<Pin>, seen: &mut [u32], variables: &[&[NetId]]) -> Result<(), NoMemory>
     requires nets { All (λ bits. All (λ n. n < length seen.old) bits.now) variables.now }
     requires few { length variables.now < 2 ^ 31 }
     requires none { pins.old.items ≡ [] }

@@ -17,11 +17,11 @@ list_work-requires-clause-readers g c =
 
 pub sorted_block-made-requires-clause-work : goal.sorted_block-made-requires-clause-work
 sorted_block-made-requires-clause-work g c =
-    listed_within (length c.args.variables.now) c.list_work.new.marks c.list_work.new.work.items c.list_work.ensures.marked 
+    listed_within (length c.args.variables.now) c.list_work.new.marks c.list_work.new.work.items c.list_work.ensures.marked
     (c.list_work.auto.marks ∙ sym (as_many_marks c.deref_mut.result.now c.args.work.now.marks.items (length c.args.variables.now) (length c.args.variables.now) c.deref_mut.ensures.value c.requires.idle.marks refl))
 
 pub clear_work-requires : goal.clear_work-requires
-clear_work-requires g c = marks-moved c.list_work.new.marks c.deref_mut-2.result.now c.list_work.new.work.items c.sorted_block-made.new.work.items 
+clear_work-requires g c = marks-moved c.list_work.new.marks c.deref_mut-2.result.now c.list_work.new.work.items c.sorted_block-made.new.work.items
     (c.deref_mut-2.ensures.value ∙ written_back c.args.work.now.marks.len c.list_work.new.marks c.args.work.now.marks.items (c.list_work.auto.marks ∙ c.deref_mut.ensures.len))
     c.sorted_block-made.ensures.moved c.list_work.ensures.marked
 
