@@ -1,5 +1,5 @@
 -- The text of a run's calls is that of its last snapshots.
-use Rattle.std.proofs.Common.{◌≡◌, ◌∙◌, sym, ap, refl, subst, ℕ, zero, suc, ◌+◌, ◌<◌, List, [], ◌∷◌, ◌++◌, length, arith, append_assoc}
+use Rattle.std.proofs.Common.{◌≡◌, ◌∙◌, sym, ap, refl, subst, ℕ, zero, suc, ◌+◌, ◌-◌, ◌<◌, ◌≤◌, List, [], ◌∷◌, ◌++◌, length, arith, append_assoc}
 use Rattle.std.proofs.lemmas.List.{append-nil}
 use Rattle.std.proofs.lemmas.List.Elements.{All-head, All-tail}
 use Rattle.std.specs.Prelude.{◌==◌, ◌&&◌, Bool, true, false, not, if◌then◌else◌, All, Option, Some, None, map}
@@ -14,7 +14,8 @@ use Rattle.sg_model.specs.Quiet.{IsSeen}
 use Rattle.sg_model.specs.Run.{Finished, lasts, lasts_before}
 use Rattle.sg_model.proofs.PlacingSteps.{same-self}
 use Rattle.sim_rounds.specs.Runs.{Setting, AllCalls, CallsFor, run_for, start_of}
-use Rattle.wave_out.proofs.RunLaws.{IsLong, long_lasts, long_times, seen_run, spent_run}
+use Rattle.sg_model.proofs.SnapshotLaws.{Extends}
+use Rattle.wave_out.proofs.RunLaws.{IsLong, extends, long_lasts, long_times, seen_run, spent_run}
 use Rattle.sg_model.proofs.PlacedLaws.{same-true}
 use Rattle.sg_circuit.specs.Circuit.{Circuit, Variable}
 use Rattle.sim_rounds.specs.Watching.{AreCalls, none_yet, at_zero, same_again, Call, IsCall, AreDifferences, NetChange, end_call}
@@ -210,3 +211,57 @@ spent_whole circuit s spent made some are =
     let same : spent.0 ≡ cut.times = omega (arith, cut.at) in
     let run : (run_for s spent.0).run ≡ (run_for s (suc s.end)).run = ap (λ n. (run_for s n).run) same ∙ sym cut.is in
     spent_calls circuit (length s.first.values) s.end s.first.values (run_for s (suc s.end)) spent made (run_long s (suc s.end)) some (subst (λ (r : Run). AreCalls s.first.values (lasts r.snapshots) made) run are)
+
+-- later times add to the text
+adds_more : (xs : List Variable) (s : Snapshot) (d : Dump) (t : List ℕ) (b : Bool) → (rest : List ℕ) × (dump_text (if b then Some (record { text = d.text ++ t; time = s.time; values = s.values }) else Some d) ≡ d.text ++ rest)
+adds_more xs s d t true = (t, refl)
+adds_more xs s d t false = ([], sym (append-nil d.text))
+
+dumped-adds : (xs : List Variable) (s : Snapshot) (o : Option Dump) → (rest : List ℕ) × (dump_text (dumped xs s o) ≡ dump_text o ++ rest)
+dumped-adds xs s None = (first_block xs s, refl)
+dumped-adds xs s (Some d) = adds_more xs s d (later_block xs d.values s) (any_variable_differs xs d.values s.values)
+
+dump-adds : (xs : List Variable) (newer seen : List Snapshot) → (rest : List ℕ) × (dump_text (dump xs (newer ++ seen)) ≡ dump_text (dump xs seen) ++ rest)
+dump-adds xs [] seen = ([], sym (append-nil (dump_text (dump xs seen))))
+dump-adds xs (s ∷ newer) seen =
+    let before = dump-adds xs newer seen in
+    let more = dumped-adds xs s (dump xs (newer ++ seen)) in (
+      before.0 ++ more.0,
+      ap dump_text (dump-more xs s (newer ++ seen))
+          ∙ (more.1
+          ∙ (ap (λ t. t ++ more.0) before.1
+          ∙ append_assoc (dump_text (dump xs seen)) before.0 more.0)),
+    )
+
+-- the text of calls is that of the snapshots
+text_told : (xs : List Variable) (seen : List Snapshot) (calls : List Call) → ToldOf xs seen calls → AreTruthful calls × (dump_after xs None calls ≡ dump xs seen)
+unfolding dump
+text_told xs [] calls h = (subst AreTruthful (sym h) tt, ap (dump_after xs None) h)
+text_told xs (s ∷ older) calls h = (h.truth, h.text)
+
+begun_calls : (circuit : Circuit) (n end : ℕ) (first : List Value) (f : Finished) (seen : List Snapshot) (calls : List Call) → All (λ s. length s.values ≡ n) seen → Extends (lasts f.run.snapshots) seen → AreCalls first seen calls
+    → AreTruthful calls × ((rest : List ℕ) × (vcd_text circuit end f ≡ text_after circuit calls ++ rest))
+unfolding vcd_text
+begun_calls circuit n end first f seen calls long more are =
+    let xs = variables_of circuit in
+    let h = text_told xs seen calls (told xs n first seen calls long are) in
+    let adds = dump-adds xs more.later seen in
+    let tail = ending end (dump xs (lasts f.run.snapshots)) f.spent in
+    let whole : dump_text (dump xs (lasts f.run.snapshots)) ≡ dump_text (dump_after xs None calls) ++ adds.0 = ap (λ ss. dump_text (dump xs ss)) more.is ∙ (adds.1 ∙ ap (λ o. dump_text o ++ adds.0) (sym h.1)) in (
+      h.0,
+      (
+        adds.0 ++ tail,
+        ap (λ t. header circuit ++ (t ++ tail)) whole
+            ∙ (ap (λ t. header circuit ++ t) (append_assoc (dump_text (dump_after xs None calls)) adds.0 tail)
+            ∙ sym (append_assoc (header circuit) (dump_text (dump_after xs None calls)) (adds.0 ++ tail))),
+      ),
+    )
+
+pub begun_run : (circuit : Circuit) (s : Setting) (n : ℕ) (made : List Call) → n ≤ suc s.end → (run_for s n).spent ≡ None → CallsFor s n made
+    → AreTruthful made × ((rest : List ℕ) × (vcd_text circuit s.end (run_for s (suc s.end)) ≡ text_after circuit made ++ rest))
+begun_run circuit s n made l none are =
+    let k : ℕ = suc s.end - n in
+    let e : n + k ≡ suc s.end = omega arith in
+    let more : Extends (lasts (run_for s (suc s.end)).run.snapshots) (lasts (run_for s n).run.snapshots) =
+    subst (λ j. Extends (lasts (run_for s j).run.snapshots) (lasts (run_for s n).run.snapshots)) e (extends n k s.bound s.machine s.sets 0 (start_of s.first) tt none) in
+    begun_calls circuit (length s.first.values) s.end s.first.values (run_for s (suc s.end)) (lasts (run_for s n).run.snapshots) made (run_long s n) more are

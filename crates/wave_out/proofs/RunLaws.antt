@@ -8,6 +8,7 @@ use Rattle.sg_model.specs.Machine.{Machine, Snapshot, State}
 use Rattle.sg_model.specs.Round.{changed_by, due_changes, round}
 use Rattle.sg_model.specs.Time.{Run, Ended, Whole, Spent, flips_of, is_empty, named, needs_round, rounds, time_of, with_round, with_snapshot}
 use Rattle.sg_model.specs.Quiet.{IsSeen}
+use Rattle.sg_model.proofs.SnapshotLaws.{AreBefore, Extends, rounds-snapshots, time-before, times-extend}
 use Rattle.sg_model.specs.Run.{Finished, go_on, lasts, lasts_before, times_from}
 
 -- so many nets, now and in each snapshot
@@ -139,3 +140,21 @@ pub spent_run : (left bound : ℕ) (m : Machine) (sets : ℕ → List (ℕ × Va
 unfolding times_from
 spent_run zero bound m sets now r spent e = absurd (cc)
 spent_run (suc left) bound m sets now r spent e = cut_on left bound m sets now r spent (time_of bound m sets now r) refl (λ x g. spent_run left bound m sets (suc now) x spent g) e
+
+-- the last snapshots of the first times are at the end of those of more
+extends_on : (n k bound : ℕ) (m : Machine) (sets : ℕ → List (ℕ × Value)) (now : ℕ) (r : Run) (e : Ended) → time_of bound m sets now r ≡ e
+    → ((x : Run) → AreBefore x.snapshots (suc now) → (times_from n bound m sets (suc now) x).spent ≡ None → Extends (lasts (times_from (n + k) bound m sets (suc now) x).run.snapshots) (lasts (times_from n bound m sets (suc now) x).run.snapshots))
+    → (go_on e r now (λ x. times_from n bound m sets (suc now) x)).spent ≡ None
+    → Extends (lasts (go_on e r now (λ x. times_from (n + k) bound m sets (suc now) x)).run.snapshots) (lasts (go_on e r now (λ x. times_from n bound m sets (suc now) x)).run.snapshots)
+extends_on n k bound m sets now r (Whole x) whole f none =
+    f x (time-before now (suc now) r x (rounds-snapshots bound m now (now == 0) (sets now) r x whole) (omega arith)) none
+extends_on n k bound m sets now r (Spent net evaluations) whole f none = absurd (cc)
+
+pub extends : (n k bound : ℕ) (m : Machine) (sets : ℕ → List (ℕ × Value)) (now : ℕ) (r : Run) → AreBefore r.snapshots now → (times_from n bound m sets now r).spent ≡ None
+    → Extends (lasts (times_from (n + k) bound m sets now r).run.snapshots) (lasts (times_from n bound m sets now r).run.snapshots)
+unfolding times_from
+extends zero k bound m sets now r b none =
+    subst (λ j. Extends (lasts (times_from j bound m sets now r).run.snapshots) (lasts r.snapshots)) (let e : k ≡ 0 + k = omega arith in e) (times-extend k bound m sets now r b)
+extends (suc n) k bound m sets now r b none =
+    subst (λ j. Extends (lasts (times_from j bound m sets now r).run.snapshots) (lasts (times_from (suc n) bound m sets now r).run.snapshots)) (let e : suc (n + k) ≡ suc n + k = omega arith in e)
+    (extends_on n k bound m sets now r (time_of bound m sets now r) refl (λ x g h. extends n k bound m sets (suc now) x g h) none)

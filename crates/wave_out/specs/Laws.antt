@@ -1,5 +1,5 @@
 -- The law that joins the texts of calls to the text of a run.
-use Rattle.std.specs.Prelude.{ℕ, suc, ◌≡◌, List, Option, Some, None}
+use Rattle.std.specs.Prelude.{ℕ, suc, ◌≡◌, ◌≤◌, ◌++◌, List, Option, Some, None}
 use Rattle.sg_circuit.specs.Circuit.{Circuit}
 use Rattle.sim_rounds.specs.Watching.{Call}
 use Rattle.sim_rounds.specs.Runs.{Setting, AllCalls, CallsFor, run_for}
@@ -16,6 +16,11 @@ WholeRunIsWritten = (circuit : Circuit) (s : Setting) (made : List Call) → (ru
 abbrev pub SpentRunIsWritten : Type 0
 SpentRunIsWritten = (circuit : Circuit) (s : Setting) (spent : ℕ × Option ℕ) (made : List Call) → (run_for s (suc s.end)).spent ≡ Some spent → CallsFor s spent.0 made
     → AreTruthful made × (text_after circuit made ≡ vcd_text circuit s.end (run_for s (suc s.end)))
+
+-- what is written after the calls of a run's first times is the beginning of its text
+abbrev pub FirstTimesAreWritten : Type 0
+FirstTimesAreWritten = (circuit : Circuit) (s : Setting) (n : ℕ) (made : List Call) → n ≤ suc s.end → (run_for s n).spent ≡ None → CallsFor s n made
+    → AreTruthful made × ((rest : List ℕ) × (vcd_text circuit s.end (run_for s (suc s.end)) ≡ text_after circuit made ++ rest))
 
 -- the texts of the worked example
 abbrev pub NestedTexts : Type 0

@@ -5,6 +5,7 @@ mod blocks;
 mod changes;
 mod header;
 mod laws;
+mod report;
 mod scopes;
 mod shown;
 mod variables;
@@ -12,6 +13,7 @@ mod words;
 mod writer;
 
 pub use laws::{calls_of_a_run_are_its_dump, nested_texts};
+pub use report::summary_of;
 pub use writer::VcdWriter;
 
 #[cfg(test)]

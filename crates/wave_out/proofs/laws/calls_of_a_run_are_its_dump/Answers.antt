@@ -1,4 +1,4 @@
-use Rattle.wave_out.proofs.DumpLaws.{whole_run, spent_whole}
+use Rattle.wave_out.proofs.DumpLaws.{whole_run, spent_whole, begun_run}
 use Rattle.wave_out.proofs.laws.calls_of_a_run_are_its_dump.Goals as goal
 
 pub returns-clause-whole : goal.returns-clause-whole
@@ -6,3 +6,6 @@ returns-clause-whole c = whole_run
 
 pub returns-clause-spent : goal.returns-clause-spent
 returns-clause-spent c = spent_whole
+
+pub returns-clause-begun : goal.returns-clause-begun
+returns-clause-begun c = begun_run
