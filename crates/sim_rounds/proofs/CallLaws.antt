@@ -1,10 +1,10 @@
 -- The calls of the times of a run, one time after another.
-use Rattle.std.specs.Prelude.{◌≡◌, ◌≢◌, ◌⊎◌, ℕ, zero, suc, ◌+◌, ◌<◌, ◌≤◌, ◌==◌, ◌&&◌, Bool, true, false, not, if◌then◌else◌, All, List, [], ◌∷◌, ◌++◌, length, map, refl}
+use Rattle.std.specs.Prelude.{◌≡◌, ℕ, zero, suc, ◌+◌, ◌<◌, ◌&&◌, Bool, true, false, not, if◌then◌else◌, List, [], ◌∷◌, ◌++◌, length, map, refl}
 use Rattle.std.proofs.Common.{sym, ◌∙◌, ap, subst, arith}
 use Rattle.std.proofs.lemmas.List.{append-nil, append_assoc}
 use Rattle.sg_logic.specs.declared.values.Value.{Value}
 use Rattle.sg_logic.specs.Values.{is_same}
-use Rattle.sg_model.specs.Values.{are_same, value_at}
+use Rattle.sg_model.specs.Values.{are_same}
 use Rattle.sg_model.specs.Machine.{Machine, Snapshot}
 use Rattle.sg_model.specs.Time.{Run}
 use Rattle.sg_model.specs.Run.{lasts, lasts_before, last_change}
@@ -13,7 +13,7 @@ use Rattle.sg_model.proofs.PlacedLaws.{same-true}
 use Rattle.sg_model.proofs.PlacingSteps.{same-self}
 use Rattle.sg_model.proofs.SnapshotLaws.{AddsSnapshots, AreBefore, time-lasts, copies-kept}
 use Rattle.time_checks.specs.declared.changes.Change.{Change}
-use Rattle.sim_rounds.specs.Lists.{IsListOf, occurrences}
+use Rattle.sim_rounds.specs.Lists.{occurrences}
 use Rattle.sim_rounds.specs.Nets.{differs}
 use Rattle.sim_rounds.specs.Watching.{Call, AreCalls, none_yet, at_zero, same_again, one_more, AreDifferences, IsCall, Got, Broke, net_change, call_of}
 use Rattle.sim_rounds.specs.Runs.{calls_at, last_after}

@@ -1,9 +1,8 @@
 -- When something is due.
-use Rattle.std.specs.Prelude.{◌≡◌, ◌≢◌, ◌⊎◌, ℕ, zero, suc, ◌+◌, ◌<◌, ◌≤◌, ◌==◌, ◌||◌, Bool, true, false, if◌then◌else◌, List, [], ◌∷◌, map, length, reverse, slice_index_or, refl}
+use Rattle.std.specs.Prelude.{◌≡◌, ◌⊎◌, ℕ, zero, suc, ◌+◌, ◌<◌, ◌≤◌, ◌==◌, ◌||◌, Bool, true, false, List, [], ◌∷◌, length, reverse, refl}
 use Rattle.std.proofs.Common.{sym, ◌∙◌, ap, subst, arith, inl, inr}
 use Rattle.std.proofs.lemmas.Bool.Decides.{nat_tests}
 use Rattle.sg_logic.specs.declared.values.Value.{Value}
-use Rattle.sg_model.specs.Values.{value_at}
 use Rattle.sg_model.specs.Agenda.{list_at, AllEmpty, BeginsAt, IsLeastTime, NoneBelow, NothingBelow, Rises, AllRise}
 use Rattle.sg_model.specs.Round.{any_due, is_due}
 use Rattle.sg_model.proofs.RiseLaws.{rises_at}

@@ -1,15 +1,14 @@
 -- How a run ends.
-use Rattle.std.specs.Prelude.{◌≡◌, ◌⊎◌, ℕ, zero, suc, ◌+◌, ◌-◌, ◌<◌, ◌≤◌, ◌==◌, Bool, List, [], ◌∷◌, ◌++◌, map, length, Option, Some, None, Result, Ok, Err, OnOk, OnErr, refl}
+use Rattle.std.specs.Prelude.{◌≡◌, ℕ, suc, ◌+◌, ◌-◌, ◌<◌, ◌≤◌, List, [], ◌∷◌, ◌++◌, Some, Result, Ok, Err, OnOk, OnErr, refl}
 use Rattle.std.proofs.Common.{sym, ◌∙◌, ap, subst, arith, inl, inr}
 use Rattle.sg_logic.specs.declared.values.Value.{Value}
 use Rattle.sg_model.specs.Machine.{Machine, State, Violation}
-use Rattle.sg_model.specs.Time as model
-use Rattle.sg_model.specs.Time.{Run, Ended, time_of}
-use Rattle.sg_model.specs.Run.{Finished, times_from, lasts, last_change}
+use Rattle.sg_model.specs.Time.{Run, time_of}
+use Rattle.sg_model.specs.Run.{times_from, lasts, last_change}
 use Rattle.sg_model.proofs.RunSteps.{times-spent}
-use Rattle.sim_rounds.specs.Times.{Kept, Took, IsCounted, count_shown, evaluations_of}
+use Rattle.sim_rounds.specs.Times.{Kept, count_shown, evaluations_of}
 use Rattle.sim_rounds.specs.Watching.{Call, AreCalls, Got, Broke, end_call}
-use Rattle.sim_rounds.specs.Runs.{Setting, start_of, run_for, HasEndedTimes, CallsFor, AllCalls, CallsMade, HasEnded, IsEndOfCall, TimeEndsAs, TimeMade, RunMade}
+use Rattle.sim_rounds.specs.Runs.{Setting, start_of, run_for, HasEndedTimes, CallsFor, AllCalls, HasEnded, IsEndOfCall, TimeEndsAs, TimeMade, RunMade}
 use Rattle.sim_rounds.specs.declared.runs.SimEnd.{SimEnd}
 use Rattle.sim_rounds.specs.declared.runs.SimEnd.TheVariants.{RoundsSpent, WatchFailed, NoMemory}
 use Rattle.sim_rounds.proofs.CallLaws.{got_more, broke_more}

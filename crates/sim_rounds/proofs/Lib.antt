@@ -21,3 +21,5 @@ pub mod TimingLaws
 pub mod DelayLaws
 pub mod ElementLaws
 pub mod StepLaws
+pub mod SimulatedLaws
+pub mod SimLaws

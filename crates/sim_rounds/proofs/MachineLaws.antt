@@ -1,7 +1,7 @@
 -- The machine of a circuit keeps what the model and the engine ask of a machine.
-use Rattle.std.specs.Prelude.{◌≡◌, ◌≢◌, Bool, true, false, if◌then◌else◌, ℕ, zero, suc, ◌+◌, ◌<◌, ◌≤◌, All, List, [], ◌∷◌, length, map, Option, Some, None, slice_index_or, refl}
+use Rattle.std.specs.Prelude.{◌≡◌, ◌≢◌, Bool, true, false, if◌then◌else◌, ℕ, zero, suc, ◌+◌, ◌<◌, ◌≤◌, All, List, [], ◌∷◌, length, map, Some, None, slice_index_or, refl}
 use Rattle.std.proofs.Common.{sym, ◌∙◌, ap, subst, arith}
-use Rattle.std.proofs.lemmas.List.{length-map, get_or-map, get_or_default}
+use Rattle.std.proofs.lemmas.List.{length-map, get_or-map}
 use Rattle.std.proofs.lemmas.List.Elements.{All-map}
 use Rattle.sg_logic.specs.declared.values.Value.{Value}
 use Rattle.sg_logic.specs.Gate.{gate_value}
@@ -9,7 +9,7 @@ use Rattle.udp_rows.specs.declared.cells.RawRow.{RawRow}
 use Rattle.udp_rows.specs.Meaning.{udp_next, state_after, after_step, step_of, input_value, combinational_value}
 use Rattle.sg_model.proofs.PlacingSteps.{same-self}
 use Rattle.sg_model.specs.Values.{value_at}
-use Rattle.sg_model.specs.Machine.{Machine, Stamp, IsNoOutput, AreOutputs}
+use Rattle.sg_model.specs.Machine.{IsNoOutput, AreOutputs}
 use Rattle.sg_model.specs.Quiet.{IsLawful}
 use Rattle.sg_model.specs.FanOut.{IsSteady, AgreeAt}
 use Rattle.sg_circuit.specs.declared.nets.Driver.{Driver}

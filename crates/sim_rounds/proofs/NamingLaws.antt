@@ -1,5 +1,5 @@
 -- The net that a spent time names: the least that changed.
-use Rattle.std.specs.Prelude.{◌≡◌, ◌≢◌, ◌⊎◌, ℕ, zero, suc, ◌+◌, ◌<◌, ◌≤◌, ◌==◌, ◌||◌, ◌++◌, Bool, true, false, not, if◌then◌else◌, All, List, [], ◌∷◌, length, map, min, take, slice_index_or, slice_set, Option, Some, None, refl}
+use Rattle.std.specs.Prelude.{◌≡◌, ◌≢◌, ◌⊎◌, ℕ, zero, suc, ◌+◌, ◌<◌, ◌≤◌, ◌==◌, ◌||◌, Bool, true, false, not, if◌then◌else◌, All, List, [], ◌∷◌, length, min, take, slice_index_or, slice_set, Some, None, refl}
 use Rattle.std.proofs.Common.{sym, ◌∙◌, ap, subst, arith, inl, inr}
 use Rattle.std.proofs.lemmas.List.{take_more, length-set, get_or-set_same, get_or-set_other}
 use Rattle.std.proofs.lemmas.List.Elements.{All-head, All-tail, All-nil, All-cons}
@@ -13,15 +13,15 @@ use Rattle.sg_model.specs.Machine.{Machine, State, IsNoOutput, AreOutputs}
 use Rattle.sg_model.specs.Round.{any_due, is_due, changed_by, due_changes, values_after, round}
 use Rattle.sg_model.specs.Time.{Run, toggle, toggles, is_empty, named, first_some}
 use Rattle.sg_model.specs.FanOut.{present_after}
-use Rattle.sg_model.proofs.PlacedLaws.{same-true, IsPending-taken}
+use Rattle.sg_model.proofs.PlacedLaws.{IsPending-taken}
 use Rattle.sg_model.proofs.PlacingSteps.{same-self, same-differs}
 use Rattle.sg_model.proofs.RunSteps.{round-is}
-use Rattle.sim_rounds.specs.Lists.{occurrences, IsListOf}
+use Rattle.sim_rounds.specs.Lists.{occurrences}
 use Rattle.sim_rounds.specs.Nets.{differs, AreChanged}
 use Rattle.sim_rounds.specs.Rounds.{AreHanded, ArePending}
 use Rattle.sim_rounds.specs.Naming.{IsLeastOf, Moves}
 use Rattle.sim_rounds.specs.Checks.{AreFree}
-use Rattle.sim_rounds.proofs.ListLaws.{occurs_here, occurs_later, occurrences-append, occurs_at}
+use Rattle.sim_rounds.proofs.ListLaws.{occurs_later, occurrences-append, occurs_at}
 use Rattle.sim_rounds.proofs.NetLaws.{changed_append}
 use Rattle.sim_rounds.proofs.RoundLaws.{round_present}
 

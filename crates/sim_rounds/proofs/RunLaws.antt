@@ -1,23 +1,22 @@
 -- The times of a run, one after another, with the quiet ones skipped.
-use Rattle.std.specs.Prelude.{◌≡◌, ◌⊎◌, ℕ, zero, suc, ◌+◌, ◌-◌, ◌<◌, ◌≤◌, ◌==◌, Bool, List, [], ◌∷◌, ◌++◌, map, length, Option, Some, None, Result, Ok, Err, refl}
-use Rattle.std.proofs.Common.{sym, ◌∙◌, ap, subst, arith, inl, inr}
+use Rattle.std.specs.Prelude.{◌≡◌, ℕ, zero, suc, ◌+◌, ◌-◌, ◌<◌, ◌≤◌, ◌==◌, List, [], ◌∷◌, ◌++◌, map, length, Some, None, Result, Ok, refl}
+use Rattle.std.proofs.Common.{sym, ◌∙◌, ap, subst, arith}
 use Rattle.sg_logic.specs.declared.values.Value.{Value}
 use Rattle.sg_model.specs.Machine.{Machine, State, Snapshot}
 use Rattle.sg_model.specs.Time as model
 use Rattle.sg_model.specs.Time.{Run, Ended, time_of, with_snapshot}
 use Rattle.sg_model.specs.Run.{Finished, times_from, go_on, lasts, last_change}
 use Rattle.sg_model.specs.Quiet.{IsLawful, IsSeen, IsQuiet, with_copies}
-use Rattle.sg_model.proofs.RunSteps.{times-none, times-whole, times-spent}
+use Rattle.sg_model.proofs.RunSteps.{times-none, times-whole}
 use Rattle.sg_model.proofs.SkipLaws.{quiet_times, copies-state, copies-evaluations}
 use Rattle.sg_model.proofs.SnapshotLaws.{AddsSnapshots, AreBefore, rounds-snapshots, time-before, copies-are_before}
 use Rattle.time_checks.specs.declared.changes.Change.{Change}
-use Rattle.sim_rounds.specs.Times.{Kept, Took, IsCounted, count_shown, evaluations_of}
-use Rattle.sim_rounds.specs.Watching.{Call, AreCalls, none_yet, AreDifferences, Got, Broke, net_change, call_of, end_call}
-use Rattle.sim_rounds.specs.Runs.{Setting, start_of, run_for, HasEndedTimes, CallsFor, AllCalls, CallsMade, HasEnded, IsEndOfCall, TimeEndsAs, TimeMade, IsKeptAfter, RunMade, calls_at, last_after}
+use Rattle.sim_rounds.specs.Times.{Kept, evaluations_of}
+use Rattle.sim_rounds.specs.Watching.{Call, AreCalls, none_yet, AreDifferences, net_change}
+use Rattle.sim_rounds.specs.Runs.{Setting, start_of, run_for, TimeMade, IsKeptAfter, calls_at}
 use Rattle.sim_rounds.specs.declared.runs.SimEnd.{SimEnd}
-use Rattle.sim_rounds.specs.declared.runs.SimEnd.TheVariants.{RoundsSpent, WatchFailed, NoMemory}
 use Rattle.sim_rounds.proofs.TimeLaws.{rounds-evaluations}
-use Rattle.sim_rounds.proofs.CallLaws.{SeenAt, calls_more, last_more, calls_kept, last_kept, got_start, got_more, broke_more}
+use Rattle.sim_rounds.proofs.CallLaws.{SeenAt, calls_more, last_more, calls_kept, last_kept}
 
 -- a run whose times all ended
 abbrev pub whole : Run → Finished

@@ -1,27 +1,27 @@
 -- A simulation from one round to the next, and what it stands for.
-use Rattle.std.specs.Prelude.{◌≡◌, ◌≢◌, ℕ, zero, suc, ◌+◌, ◌<◌, ◌≤◌, ◌==◌, ◌++◌, Bool, true, false, not, if◌then◌else◌, All, List, [], ◌∷◌, length, map, take, reverse, slice_index_or, Some, refl}
+use Rattle.std.specs.Prelude.{◌≡◌, ℕ, zero, suc, ◌+◌, ◌<◌, ◌≤◌, ◌==◌, Bool, true, false, not, All, List, [], ◌∷◌, length, map, take, reverse, slice_index_or, refl}
 use Rattle.std.specs.Bool.{OnTrue, OnFalse}
 use Rattle.std.proofs.Common.{sym, ◌∙◌, ap, subst, arith}
-use Rattle.std.proofs.lemmas.List.{get_or-map, length-map, length-take}
+use Rattle.std.proofs.lemmas.List.{get_or-map, length-map}
 use Rattle.std.proofs.lemmas.Bool.Decides.{nat_tests}
 use Rattle.sg_logic.specs.declared.values.Value.{Value}
 use Rattle.sg_model.specs.Values.{value_at}
-use Rattle.sg_model.specs.Pending.{Follows, IsPending}
-use Rattle.sg_model.specs.Agenda.{list_at, NoneBelow, NothingBelow, AllRise}
+use Rattle.sg_model.specs.Pending.{Follows}
+use Rattle.sg_model.specs.Agenda.{list_at, NoneBelow, NothingBelow}
 use Rattle.sg_model.specs.Machine.{Machine, State, Snapshot, Violation}
-use Rattle.sg_model.specs.Round.{any_due, is_due, changed_by, due_changes, values_after}
-use Rattle.sg_model.specs.Time.{Run, toggles as toggles_of, is_empty}
+use Rattle.sg_model.specs.Round.{any_due}
+use Rattle.sg_model.specs.Time.{toggles as toggles_of, is_empty}
 use Rattle.stim_read.specs.declared.steps.Set.{Set}
 use Rattle.stim_read.specs.Seen.{set_seen}
+use Rattle.stim_read.specs.Stimulus.{Stimulus}
 use Rattle.time_checks.specs.declared.violations.Violation as code_violation
 use Rattle.time_checks.specs.Seen.{violation_seen}
 use Rattle.pulse_list.proofs.EarliestLaws.{none_below-reverse}
 use Rattle.sim_rounds.specs.declared.nets.Nets.{Nets}
 use Rattle.sim_rounds.specs.declared.told.Told.{Told}
 use Rattle.sim_rounds.specs.declared.work.WorkList.{WorkList}
-use Rattle.sim_rounds.specs.Nets.{AreChanged}
 use Rattle.sim_rounds.specs.Rounds.{AreHanded, ArePending}
-use Rattle.sim_rounds.specs.States.{state_seen, IsOfCircuit, IsReadyFor}
+use Rattle.sim_rounds.specs.States.{IsOfCircuit}
 use Rattle.sim_rounds.specs.Naming.{Moves}
 use Rattle.sim_rounds.specs.Checks.{HasSeen, AreFree}
 use Rattle.sim_rounds.specs.Simulations.{kept_of, AreChecksOf, IsReadyAt}
@@ -88,8 +88,8 @@ take_still f ended n old new e l k = at ended n new l k ∙ ap (λ xs. take ende
     at (suc a) (suc b) [] p q = absurd (omega arith)
     at (suc a) (suc b) (x ∷ xs) p q = ap (λ ys. f x ∷ ys) (at a b xs (omega arith) (omega arith))
 
-pub kept_still : (told : Told) (ended : ℕ) (old new : List code_violation.Violation) (changed : ℕ) → take (length old) new ≡ old → ended ≤ length old → kept_of told ended new changed ≡ kept_of told ended old changed
-kept_still told ended old new changed e l = ap (λ vs. record { told = told.values.items; violations = vs; last = changed }) (take_still (λ v. violation_seen v) ended (length old) old new e l (begun_still old new e))
+pub kept_still : (told : Told) (ended : ℕ) (old new : List code_violation.Violation) (changed : ℕ) (applied : Stimulus) → take (length old) new ≡ old → ended ≤ length old → kept_of told ended new changed applied ≡ kept_of told ended old changed applied
+kept_still told ended old new changed applied e l = ap (λ vs. record { told = told.values.items; violations = vs; last = changed; stimulus = applied }) (take_still (λ v. violation_seen v) ended (length old) old new e l (begun_still old new e))
 
 -- toggles change a net
 pub toggles_state_move : (m : Machine) (fan : List (List ℕ)) (driven : List ℕ) (s : State) (found_by : List Snapshot → List Violation) (toggled_by : List Violation → List ℕ) (stands after : List Snapshot → Type 0) (now : ℕ) (seen : List Value) (old new : List code_violation.Violation) (sets : List Set) (none : Bool)

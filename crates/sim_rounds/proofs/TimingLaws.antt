@@ -1,5 +1,5 @@
 -- The timings of a leg, read from its delays and its limits.
-use Rattle.std.specs.Prelude.{◌≡◌, ℕ, zero, suc, ◌<◌, ◌≤◌, ◌^◌, All, List, [], ◌∷◌, length, Option, Some, None, IfSome, slice_index_or, refl}
+use Rattle.std.specs.Prelude.{◌≡◌, ℕ, zero, suc, ◌<◌, ◌≤◌, ◌^◌, List, [], ◌∷◌, length, Option, Some, None, IfSome, slice_index_or, refl}
 use Rattle.std.proofs.Common.{sym, ◌∙◌, ap, subst, arith}
 use Rattle.sg_delay.specs.declared.limits.Limit.{Limit}
 use Rattle.sg_circuit.specs.Circuit.{Timing, Leg}

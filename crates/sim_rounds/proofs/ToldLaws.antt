@@ -1,8 +1,8 @@
 -- What was told of the nets, kept by the nets that were touched.
-use Rattle.std.specs.Prelude.{◌≡◌, ◌≢◌, ◌⊎◌, ℕ, zero, suc, ◌+◌, ◌<◌, ◌≤◌, ◌==◌, ◌||◌, Bool, true, false, not, if◌then◌else◌, All, List, [], ◌∷◌, ◌++◌, length, map, take, slice_index_or, slice_set, replicate, refl}
+use Rattle.std.specs.Prelude.{◌≡◌, ◌≢◌, ◌⊎◌, ℕ, zero, suc, ◌+◌, ◌<◌, ◌≤◌, ◌||◌, Bool, true, false, not, if◌then◌else◌, All, List, [], ◌∷◌, ◌++◌, length, map, take, slice_index_or, slice_set, replicate, refl}
 use Rattle.std.specs.Vec.{vec_capacity}
 use Rattle.std.proofs.Common.{sym, ◌∙◌, ap, subst, arith, inl, inr, zero-add}
-use Rattle.std.proofs.lemmas.List.{take_more, take_all, append_assoc, append-nil, get_or_default, get_or_past, length-map, ext_get_or}
+use Rattle.std.proofs.lemmas.List.{take_more, take_all, append-nil, get_or_default, get_or_past, length-map, ext_get_or}
 use Rattle.std.proofs.lemmas.List.Elements.{All-nil, All-cons}
 use Rattle.sg_logic.specs.declared.values.Value.{Value}
 use Rattle.sg_logic.specs.declared.values.Value.TheVariants.{X}
@@ -13,18 +13,16 @@ use Rattle.sg_model.proofs.PlacedLaws.{same-true}
 use Rattle.sg_model.proofs.PlacingSteps.{same-self}
 use Rattle.sg_circuit.specs.FanOut.{has}
 use Rattle.time_checks.specs.declared.changes.Change.{Change}
-use Rattle.sim_rounds.specs.Lists.{occurrences, IsListOf, at_places}
+use Rattle.sim_rounds.specs.Lists.{occurrences, at_places}
 use Rattle.sim_rounds.specs.Nets.{differs, AreChanged}
 use Rattle.sim_rounds.specs.Work.{AreMarked, mark_at, with_marks}
 use Rattle.sim_rounds.specs.Watching.{NetChange, AreDifferences, net_change}
 use Rattle.sim_rounds.specs.States.{IsIdle}
 use Rattle.sim_rounds.specs.Told.{IsTold, changes_in}
 use Rattle.sim_rounds.specs.declared.told.Told.{Told}
-use Rattle.sim_rounds.specs.declared.work.WorkList.{WorkList}
 use Rattle.sim_rounds.proofs.ListLaws.{occurs_here, occurs_later, listed_at, at_places-more, at_places-each, each_from-at, length-each_from}
-use Rattle.sim_rounds.proofs.NetLaws.{changed-within}
 use Rattle.sim_rounds.proofs.WorkLaws.{marked-start, marked-within, length-with_marks}
-use Rattle.sim_rounds.proofs.WorkIsExact.{has_occurs, occurs_has, mark_with, or_left, or_right}
+use Rattle.sim_rounds.proofs.WorkIsExact.{occurs_has, mark_with, or_left, or_right}
 
 -- a net that differs is one of the nets
 pub differs_within : (told values : List Value) (net : ℕ) → length told ≡ length values → differs told values net ≡ true → net < length values

@@ -1,5 +1,5 @@
 -- What timing checks make of a snapshot, and which nets they may toggle.
-use Rattle.std.specs.Prelude.{◌≡◌, ℕ, ◌<◌, All, List, [], ◌∷◌, ◌++◌, map}
+use Rattle.std.specs.Prelude.{◌≡◌, ℕ, ◌<◌, All, List, ◌∷◌, ◌++◌, map}
 use Rattle.sg_logic.specs.declared.values.Value.{Value}
 use Rattle.sg_model.specs.Machine.{Snapshot, Violation, IsNoOutput, AreOutputs}
 use Rattle.sg_model.specs.Time.{toggles as toggles_of}

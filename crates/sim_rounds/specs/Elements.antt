@@ -1,5 +1,5 @@
 -- What the code of an element stands for.
-use Rattle.std.specs.Prelude.{◌≡◌, ℕ, ◌<◌, ◌≤◌, All, List, length, slice_index_or}
+use Rattle.std.specs.Prelude.{◌≡◌, ℕ, ◌<◌, All, List, length, slice_index_or}
 use Rattle.sg_logic.specs.declared.values.Value.{Value}
 use Rattle.sg_circuit.specs.Circuit.{Circuit, element_at}
 use Rattle.sg_circuit.specs.Closed.{TakesInputs, HasDelays}

@@ -1,5 +1,5 @@
 -- When a circuit's elements can be evaluated.
-use Rattle.std.specs.Prelude.{◌≡◌, ℕ, All, List, length}
+use Rattle.std.specs.Prelude.{◌≡◌, All, List, length}
 use Rattle.sg_logic.specs.declared.values.Value.{Value}
 use Rattle.sg_circuit.specs.Closed.{IsClosed}
 use Rattle.sg_circuit.specs.Seen.{circuit_seen, AreIndexed}

@@ -18,4 +18,6 @@ pub mod Checks
 pub mod Simulations
 pub mod Steps
 pub mod Skipping
+pub mod Fresh
+pub mod Setting
 pub mod Evaluable

@@ -5,6 +5,7 @@ use Rattle.sg_model.specs.Machine.{Machine, Snapshot, Violation}
 use Rattle.sg_model.specs.Time.{Run}
 use Rattle.stim_read.specs.declared.steps.Set.{Set}
 use Rattle.stim_read.specs.Seen.{set_seen}
+use Rattle.stim_read.specs.Stimulus.{Stimulus}
 use Rattle.time_checks.specs.declared.violations.Violation as code_violation
 use Rattle.time_checks.specs.Seen.{violation_seen}
 use Rattle.sim_rounds.specs.declared.nets.Nets.{Nets}
@@ -17,8 +18,8 @@ use Rattle.sim_rounds.specs.Checks.{AreFree}
 use Rattle.sim_rounds.specs.Times.{Kept, count_shown}
 
 -- what a simulation keeps of the times that ended
-abbrev pub kept_of : Told → ℕ → List code_violation.Violation → ℕ → Kept
-kept_of told ended found changed = record { told = told.values.items; violations = take ended (map (λ v. violation_seen v) found); last = changed }
+abbrev pub kept_of : Told → ℕ → List code_violation.Violation → ℕ → Stimulus → Kept
+kept_of told ended found changed applied = record { told = told.values.items; violations = take ended (map (λ v. violation_seen v) found); last = changed; stimulus = applied }
 
 -- the nets, what is pending, what was computed, what the checks have seen, the violations and the count are those of the run
 pub record StandsFor (nets : Nets) (lists : List (List (ℕ × Value))) (states : List Value) (seen : List Snapshot → Type 0) (found : List code_violation.Violation) (counted : ℕ) (r : Run) : Type 0 where

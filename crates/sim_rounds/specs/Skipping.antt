@@ -1,5 +1,5 @@
 -- Times that are skipped leave what a simulation stands for: the laws that its trait asks for.
-use Rattle.std.specs.Prelude.{◌≡◌, ℕ, zero, suc, ◌≤◌, List, ◌∷◌, length, map, take, refl}
+use Rattle.std.specs.Prelude.{◌≡◌, ℕ, zero, suc, ◌≤◌, List, ◌∷◌, map, refl}
 use Rattle.std.proofs.Common.{sym, ◌∙◌, ap, subst}
 use Rattle.std.proofs.lemmas.List.{take_all, length-map}
 use Rattle.sg_logic.specs.declared.values.Value.{Value}
@@ -9,9 +9,9 @@ use Rattle.sg_model.specs.Quiet.{IsLawful, IsSeen, with_copies}
 use Rattle.sg_model.proofs.SkipLaws.{copies-state, copies-before, copies-evaluations, copies-violations}
 use Rattle.time_checks.specs.declared.violations.Violation as code_violation
 use Rattle.time_checks.specs.Seen.{violation_seen}
+use Rattle.stim_read.specs.Stimulus.{Stimulus}
 use Rattle.sim_rounds.specs.declared.nets.Nets.{Nets}
 use Rattle.sim_rounds.specs.declared.told.Told.{Told}
-use Rattle.sim_rounds.specs.States.{state_seen}
 use Rattle.sim_rounds.specs.Times.{count_shown}
 use Rattle.sim_rounds.specs.Simulations.{kept_of, StandsBetween}
 
@@ -42,7 +42,7 @@ stands_skipped m law nets lists states seen found counted ended k n r s skip h =
 pub shows_values : (nets : Nets) (lists : List (List (ℕ × Value))) (states : List Value) (seen : List Snapshot → Type 0) (found : List code_violation.Violation) (counted ended : ℕ) (r : Run) → StandsBetween nets lists states seen found counted ended r → nets.values.items ≡ r.state.values
 shows_values nets lists states seen found counted ended r h = sym (ap (λ x. x.values) h.run.state)
 
-pub holds_violations : (nets : Nets) (lists : List (List (ℕ × Value))) (states : List Value) (seen : List Snapshot → Type 0) (found : List code_violation.Violation) (counted ended : ℕ) (told : Told) (changed : ℕ) (r : Run) → StandsBetween nets lists states seen found counted ended r
-    → (kept_of told ended found changed).violations ≡ r.violations
-holds_violations nets lists states seen found counted ended told changed r h =
+pub holds_violations : (nets : Nets) (lists : List (List (ℕ × Value))) (states : List Value) (seen : List Snapshot → Type 0) (found : List code_violation.Violation) (counted ended : ℕ) (told : Told) (changed : ℕ) (applied : Stimulus) (r : Run) → StandsBetween nets lists states seen found counted ended r
+    → (kept_of told ended found changed applied).violations ≡ r.violations
+holds_violations nets lists states seen found counted ended told changed applied r h =
     take_all ended (map (λ v. violation_seen v) found) (subst (λ n. n ≤ ended) (sym (length-map found (λ v. violation_seen v))) h.whole) ∙ sym h.run.violations

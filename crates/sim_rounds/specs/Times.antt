@@ -1,6 +1,7 @@
 -- How an engine that stands for runs makes the rounds of a time, and counts what it evaluates.
-use Rattle.std.specs.Prelude.{ℕ, suc, ◌≡◌, ◌+◌, ◌-◌, ◌^◌, ◌≤◌, min, Bool, true, false, List, [], Option, Some}
+use Rattle.std.specs.Prelude.{ℕ, suc, ◌≡◌, ◌+◌, ◌-◌, ◌^◌, ◌≤◌, min, Bool, true, false, List, [], Some}
 use Rattle.sg_logic.specs.declared.values.Value.{Value}
+use Rattle.stim_read.specs.Stimulus.{Stimulus}
 use Rattle.sg_model.specs.Machine.{Machine, Violation}
 use Rattle.sg_model.specs.Time as model
 use Rattle.sg_model.specs.Time.{Run, Ended, rounds, needs_round, with_round, with_snapshot, flips_of, is_empty, named}
@@ -13,12 +14,13 @@ use Rattle.sim_rounds.specs.declared.times.TimeEnd.TheVariants.{Whole, Spent, No
 abbrev pub count_shown : ℕ → ℕ
 count_shown n = min n (2 ^ 64 - 1)
 
--- what the rounds of a time leave: the values that were told last, the violations of the times that ended, and the
--- last time at which a net changed
+-- what the rounds of a time leave: the values that were told last, the violations of the times that ended, the last
+-- time at which a net changed, and the stimulus
 pub record Kept : Type 0 where
   pub told : List Value
   pub violations : List Violation
   pub last : ℕ
+  pub stimulus : Stimulus
 
 -- from a run to a later one, as many steps were taken as elements had to be evaluated
 abbrev pub Took : ℕ → ℕ → Run → Run → Type 0

@@ -1,5 +1,5 @@
 -- The calls that a watcher of a run gets, and what it and a shelf stand for.
-use Rattle.std.specs.Prelude.{◌≡◌, ℕ, Bool, true, false, List, [], ◌∷◌, ◌++◌, All, map}
+use Rattle.std.specs.Prelude.{◌≡◌, ℕ, true, false, List, [], ◌∷◌, ◌++◌, All, map}
 use Rattle.sg_logic.specs.declared.values.Value.{Value}
 use Rattle.sg_model.specs.Values.{are_same, value_at}
 use Rattle.sg_model.specs.Machine.{Snapshot}

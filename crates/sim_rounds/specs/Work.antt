@@ -1,5 +1,5 @@
 -- The elements that a round has to evaluate: those with a changed input.
-use Rattle.std.specs.Prelude.{◌≡◌, ℕ, suc, ◌+◌, ◌<◌, ◌==◌, ◌||◌, Bool, true, false, if◌then◌else◌, All, List, [], ◌∷◌, length, slice_index_or, slice_set}
+use Rattle.std.specs.Prelude.{◌≡◌, ℕ, ◌+◌, ◌<◌, Bool, true, false, if◌then◌else◌, All, List, [], ◌∷◌, length, slice_index_or, slice_set}
 use Rattle.sg_logic.specs.declared.values.Value.{Value}
 use Rattle.sg_model.specs.Time.{any_differs, count_differing}
 use Rattle.sg_circuit.specs.FanOut.{readers_at, IsFanOut}

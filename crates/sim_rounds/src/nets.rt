@@ -1,5 +1,5 @@
 // The nets of a simulation, and how what is due in a round changes them: the nets that change are kept in a list.
-ghost use Rattle.std.specs.Prelude.{◌≡◌, ◌++◌, ◌<◌, ◌≤◌, All, IfOk, length, map, slice_set};
+ghost use Rattle.std.specs.Prelude.{◌≡◌, ◌++◌, ◌<◌, ◌≤◌, All, IfOk, length, map, slice_set, None, replicate};
 ghost use Rattle.std.specs.Vec.{vec_capacity};
 ghost use Rattle.sg_logic.specs.Values.{is_same};
 ghost use Rattle.sg_model.specs.Agenda.{NothingBelow, AllRise};
@@ -38,6 +38,8 @@ impl Nets {
     pub fn new(alloc: Global, values: &[Value]) -> Result<Nets, NoMemory>
         ensures nets { IfOk result (λ nets. AreNets nets) }
         ensures values { IfOk result (λ nets. nets.values.items ≡ values.now) }
+        ensures before { IfOk result (λ nets. nets.before.items ≡ values.now) }
+        ensures stamps { IfOk result (λ nets. nets.stamps.items ≡ replicate (length values.now) None) }
     {
         Ok(Nets {
             values: Vec::from_slice(alloc, values)?,

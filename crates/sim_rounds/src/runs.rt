@@ -75,7 +75,7 @@ pub trait Times<L: Ledger> {
         requires told { length (kept self.old).told ≡ length (values self.old) }
         ensures machine { machine self.new ≡ machine self.old }
         ensures sets { sets self.new ≡ sets self.old }
-        ensures nets { length (values self.new) ≡ length (values self.old) }
+        ensures nets { OnOk result (length (values self.new) ≡ length (values self.old)) }
         ensures made { TimeMade (machine self.old) (sets self.old) bound now (stands self.old) (stands self.new) (counted self.new) steps.old steps.new result }
         ensures steps { steps.old ≤ steps.new }
         ensures end { IsEndOfTime result }

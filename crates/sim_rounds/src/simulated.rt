@@ -34,7 +34,7 @@ impl<L: Ledger, A: Agenda + Drop, E: Elements<A, L>, C: Checks> Times<L>
 
     ghost counted = { λ s. s.evaluations };
 
-    ghost kept = { λ s. kept_of s.told s.ended s.violations.items s.last };
+    ghost kept = { λ s. kept_of s.told s.ended s.violations.items s.last (stimulus_seen s.stimulus.now) };
 
     ghost values = { λ s. s.nets.values.items };
 
@@ -44,7 +44,7 @@ impl<L: Ledger, A: Agenda + Drop, E: Elements<A, L>, C: Checks> Times<L>
 
     ghost shows = { λ s r h. shows_values s.nets (A.lists s.agenda) (E.states s.elements) (C.stands s.checks) s.violations.items s.evaluations s.ended r h };
 
-    ghost holds = { λ s r h. holds_violations s.nets (A.lists s.agenda) (E.states s.elements) (C.stands s.checks) s.violations.items s.evaluations s.ended s.told s.last r h };
+    ghost holds = { λ s r h. holds_violations s.nets (A.lists s.agenda) (E.states s.elements) (C.stands s.checks) s.violations.items s.evaluations s.ended s.told s.last (stimulus_seen s.stimulus.now) r h };
 
     ghost counts = { λ s r h. h.run.evaluations };
 

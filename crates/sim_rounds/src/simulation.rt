@@ -45,7 +45,7 @@ pub struct Simulation<'a, A, E, C> {
 impl<L: Ledger, A: Agenda + Drop, E: Elements<A, L>, C: Checks> Rounds<L>
     for Simulation<'_, A, E, C> {
     ghost use Rattle.std.specs.Prelude.{map};
-    ghost use Rattle.stim_read.specs.Seen.{set_seen};
+    ghost use Rattle.stim_read.specs.Seen.{set_seen, stimulus_seen};
     ghost use Rattle.sim_rounds.specs.Naming.{Moves};
     ghost use Rattle.sim_rounds.specs.Simulations.{kept_of, IsReadyAt, StandsFor};
     ghost use Rattle.sim_rounds.specs.States.{state_seen};
@@ -62,7 +62,7 @@ impl<L: Ledger, A: Agenda + Drop, E: Elements<A, L>, C: Checks> Rounds<L>
 
     ghost moves = { λ s now. Moves (E.machine s.elements) now (map (λ c. set_seen c) s.handed.items) (state_seen s.nets (A.lists s.agenda) (E.states s.elements)) };
 
-    ghost kept = { λ s. kept_of s.told s.ended s.violations.items s.last };
+    ghost kept = { λ s. kept_of s.told s.ended s.violations.items s.last (stimulus_seen s.stimulus.now) };
 
     ghost counts = { λ s r h. h.evaluations };
 

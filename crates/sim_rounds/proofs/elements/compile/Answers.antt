@@ -1,4 +1,4 @@
-use Rattle.std.proofs.Common.{◌∙◌, subst, sym, take, ◌+◌}
+use Rattle.std.proofs.Common.{subst, sym, take, ◌+◌}
 use Rattle.sim_rounds.specs.Elements.{AreTables}
 use Rattle.sim_rounds.proofs.ElementLaws.{tables_more}
 use Rattle.sim_rounds.proofs.elements.compile.Goals as goal

@@ -1,4 +1,3 @@
-use Rattle.std.proofs.Common.{ℕ, ◌<◌, ◌≤◌}
 use Rattle.sim_rounds.proofs.NamingLaws.{least_more}
 use Rattle.sim_rounds.proofs.naming.least_net.Goals as goal
 

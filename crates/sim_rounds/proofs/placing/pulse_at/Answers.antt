@@ -1,4 +1,4 @@
-use Rattle.std.proofs.Common.{None, refl}
+use Rattle.std.proofs.Common.{refl}
 use Rattle.sg_delay.specs.declared.limits.Limit.TheVariants.{Follow, Own}
 use Rattle.sim_rounds.proofs.TimingLaws.{is_pulse}
 use Rattle.sim_rounds.proofs.placing.pulse_at.Goals as goal

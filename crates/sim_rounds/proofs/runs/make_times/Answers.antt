@@ -1,11 +1,10 @@
-use Rattle.std.specs.Prelude.{Result, Ok, Err, OnOk, OnErr, List, [], ◌∷◌}
-use Rattle.std.proofs.Common.{◌≡◌, ℕ, ◌≤◌, ◌<◌, ◌+◌, ◌-◌, refl, sym, ◌∙◌, ap, subst, arith, rules, length}
+use Rattle.std.specs.Prelude.{Ok, Err, OnOk, OnErr, [], ◌∷◌}
+use Rattle.std.proofs.Common.{◌≡◌, ℕ, ◌-◌, refl, sym, ◌∙◌, ap, subst, arith, rules, length}
 use Rattle.std.proofs.lemmas.Result.{err_from_is_err_and}
-use Rattle.sg_logic.specs.declared.values.Value.{Value}
 use Rattle.sg_model.specs.Machine.{Machine}
 use Rattle.sg_model.specs.Quiet.{IsLawful, IsQuiet, with_copies}
 use Rattle.sim_rounds.specs.Watching.{Got, Broke, end_call}
-use Rattle.sim_rounds.specs.Runs.{IsEndOfCall, RunMade, TimeMade, calls_at}
+use Rattle.sim_rounds.specs.Runs.{RunMade, TimeMade, calls_at}
 use Rattle.sim_rounds.specs.declared.runs.SimEnd.{SimEnd}
 use Rattle.sim_rounds.proofs.CallLaws.{got_start, got_more}
 use Rattle.sim_rounds.proofs.RunLaws.{AllCame, AllCameTo, came_start, came_time, came_next, made_same}

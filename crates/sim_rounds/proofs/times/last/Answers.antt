@@ -1,5 +1,5 @@
 use Rattle.std.specs.Prelude.{not}
-use Rattle.std.proofs.Common.{sym, ◌∙◌, ap, subst, false}
+use Rattle.std.proofs.Common.{◌∙◌, ap, false}
 use Rattle.sim_rounds.proofs.TimeLaws.{spent_due, spent_toggle, whole_last, no_memory_last, needs_none}
 use Rattle.sim_rounds.proofs.times.last.Goals as goal
 

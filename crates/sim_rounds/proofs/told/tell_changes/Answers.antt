@@ -1,7 +1,7 @@
 use Rattle.std.specs.Prelude.{length, map}
 use Rattle.std.specs.Vec.{vec_capacity, with_items}
 use Rattle.std.proofs.lemmas.List.{with_items_is, length-replicate}
-use Rattle.std.proofs.Common.{false, ◌≡◌, ◌≤◌, ◌∙◌, ap, refl, sym, subst, slice_index_or, ◌<◌, arith}
+use Rattle.std.proofs.Common.{false, ◌≡◌, ◌≤◌, ◌∙◌, ap, sym, subst, arith}
 use Rattle.sim_rounds.specs.Told.{changes_in}
 use Rattle.sim_rounds.specs.Watching.{AreDifferences, net_change}
 use Rattle.sim_rounds.proofs.ToldLaws.{touched_within, are_differences, differences_within, told_again}

@@ -1,5 +1,5 @@
 use Rattle.std.specs.Prelude.{◌++◌, map}
-use Rattle.std.proofs.Common.{◌≡◌, ℕ, List, [], ◌∙◌, sym, ap, subst, arith, rules}
+use Rattle.std.proofs.Common.{◌≡◌, ℕ, List, [], ◌∙◌, sym, ap, subst}
 use Rattle.sg_logic.specs.declared.values.Value.{Value}
 use Rattle.sg_model.specs.Machine.{Machine}
 use Rattle.sg_model.specs.Round.{changed_by, due_changes, values_after}

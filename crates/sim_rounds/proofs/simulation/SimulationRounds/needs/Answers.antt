@@ -1,5 +1,4 @@
-use Rattle.std.proofs.Common.{refl, sym, ◌∙◌, ap, subst}
-use Rattle.sg_model.specs.Round.{any_due}
+use Rattle.std.proofs.Common.{sym, ◌∙◌, subst}
 use Rattle.std.specs.Prelude.{map}
 use Rattle.stim_read.specs.Seen.{set_seen}
 use Rattle.sim_rounds.specs.Naming.{Moves}

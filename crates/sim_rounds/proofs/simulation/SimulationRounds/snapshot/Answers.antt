@@ -1,13 +1,13 @@
-use Rattle.std.specs.Prelude.{not, map, OnOk}
-use Rattle.std.proofs.Common.{◌≡◌, ◌∙◌, sym, ap, subst, rules}
+use Rattle.std.specs.Prelude.{map}
+use Rattle.std.proofs.Common.{◌≡◌}
 use Rattle.sg_model.specs.Time.{is_empty}
-use Rattle.stim_read.specs.Seen.{set_seen}
+use Rattle.stim_read.specs.Seen.{set_seen, stimulus_seen}
 use Rattle.sim_rounds.specs.States.{state_seen}
 use Rattle.sim_rounds.proofs.SimulationLaws.{none_handed, kept_still, toggles_state_move, toggles_ready}
 use Rattle.sim_rounds.proofs.simulation.SimulationRounds.snapshot.Goals as goal
 
 pub returns-in_err-see-clause-kept : goal.returns-in_err-see-clause-kept
-returns-in_err-see-clause-kept g c = kept_still c.args.self.now.told c.args.self.now.ended c.args.self.now.violations.items c.see.new.violations.items c.args.self.now.last c.see.ensures.kept c.requires.begun
+returns-in_err-see-clause-kept g c = kept_still c.args.self.now.told c.args.self.now.ended c.args.self.now.violations.items c.see.new.violations.items c.args.self.now.last (stimulus_seen c.args.self.now.stimulus.now) c.see.ensures.kept c.requires.begun
 
 pub returns-clause-moves : goal.returns-clause-moves
 returns-clause-moves g c =

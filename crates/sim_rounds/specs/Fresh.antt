@@ -1,0 +1,35 @@
+-- The parts of a simulator before time 0.
+use Rattle.std.specs.Prelude.{◌≡◌, ℕ, if◌then◌else◌, List, [], length, map, replicate}
+use Rattle.sg_logic.specs.declared.values.Value.{Value}
+use Rattle.sg_logic.specs.declared.values.Value.TheVariants.{X, Z}
+use Rattle.sg_circuit.specs.declared.nets.Driver.{Driver}
+use Rattle.sg_circuit.specs.Circuit.{Circuit}
+use Rattle.sg_circuit.specs.FanOut.{IsFanOut}
+use Rattle.sim_rounds.specs.Elements.{ElementsSeen}
+use Rattle.sim_rounds.specs.declared.nets.Nets.{Nets}
+use Rattle.sim_rounds.specs.declared.told.Told.{Told}
+use Rattle.sim_rounds.specs.declared.work.WorkList.{WorkList}
+use Rattle.sim_rounds.specs.Nets.{stamp_seen, AreNets}
+use Rattle.sim_rounds.specs.States.{IsIdle}
+use Rattle.sim_rounds.specs.Told.{IsTold}
+use Rattle.sim_rounds.specs.Simulated.{first_state, is_driven, machine_of}
+
+-- the value of a net before time 0
+abbrev pub first_value_of : Driver → Value
+first_value_of driver = if is_driven driver then X else Z
+
+-- they are as the circuit is before time 0
+pub record IsFresh (circuit : Circuit) (nets : Nets) (last_told : Told) (work : WorkList) (parts : ElementsSeen) (pending : List (List (ℕ × Value))) (fan : List (List ℕ)) (driven : List ℕ) : Type 0 where
+  pub circuit_of : parts.circuit ≡ circuit
+  pub states : parts.states ≡ (first_state circuit).states
+  pub values : nets.values.items ≡ (first_state circuit).values
+  pub before : nets.before.items ≡ (first_state circuit).values
+  pub stamps : map stamp_seen nets.stamps.items ≡ (first_state circuit).stamps
+  pub nets_are : AreNets nets
+  pub told : IsTold last_told nets.values.items
+  pub values_told : last_told.values.items ≡ nets.values.items
+  pub idle : IsIdle work (length circuit.elements)
+  pub lists : pending ≡ replicate (length circuit.elements) []
+  pub fan_out : IsFanOut (machine_of circuit).inputs fan
+  pub each_net : length fan ≡ length circuit.nets
+  pub outputs : driven ≡ (machine_of circuit).outputs

@@ -1,0 +1,223 @@
+// The simulator of a circuit.
+ghost use Rattle.std.specs.Prelude.{◌≡◌, IfOk, map, take};
+ghost use Rattle.time_checks.specs.Seen.{violation_seen};
+ghost use Rattle.sim_rounds.specs.Fresh.{IsFresh, first_value_of};
+ghost use Rattle.sg_circuit.specs.Closed.{IsClosed};
+
+use crate::checks::NoChecks;
+use crate::elements::CircuitElements;
+use crate::nets::Nets;
+use crate::runs::{SimEnd, make_times};
+use crate::simulation::Simulation;
+use crate::told::Told;
+use crate::watch::Watch;
+use crate::work::WorkList;
+use pulse_list::Agenda;
+use sg_circuit::{Circuit, Driver, Element, FanOut, Net, NetId};
+use sg_io::Shelf;
+use sg_logic::Value;
+use sg_steps::Steps;
+use sg_text::NoMemory;
+use std::alloc::Global;
+use std::sync::ledger::Ledger;
+use stim_read::Stimulus;
+use time_checks::Violation;
+
+/// What a run found: the violations of the times that ended, how many elements were evaluated, up to 2^64 - 1, and
+/// the last time, in ticks, that changed a net.
+#[derive(Debug, Drop)]
+pub struct Tally {
+    pub violations: Vec<Violation>,
+    pub evaluations: u64,
+    pub last: u64,
+}
+
+/// How a run ended, and what it found.
+#[derive(Debug, Drop)]
+pub struct Finished {
+    pub end: Result<(), SimEnd>,
+    pub tally: Tally,
+}
+
+// The value of a net before time 0: of a driven one x, and of every other z.
+fn first_value(driver: Driver) -> Value
+    ensures { result ≡ first_value_of driver }
+{
+    match driver {
+        Driver::Nobody => Value::Z,
+        Driver::Stimulus | Driver::Element(_) | Driver::Notifier => Value::X,
+    }
+}
+
+fn first_values(alloc: Global, nets: &[Net]) -> Result<Vec<Value>, NoMemory>
+    ensures { IfOk result (λ v. v.items ≡ map (λ net. first_value_of net.driver) nets.now) }
+{
+    Ok(
+        nets.iter()
+            .map(|net| first_value(net.driver))
+            .collect(alloc)?,
+    )
+}
+
+// The net that each element drives.
+fn outputs_of(alloc: Global, elements: &[Element]) -> Result<Vec<NetId>, NoMemory>
+    ensures { IfOk result (λ v. v.items ≡ map (λ e. e.output) elements.now) }
+{
+    Ok(
+        elements
+            .iter()
+            .map(|element| element.output)
+            .collect(alloc)?,
+    )
+}
+
+// The parts of a circuit fit together.
+fn recall_closed(circuit: &Circuit)
+    ensures { IsClosed circuit.now }
+{
+    let _ = circuit.parts();
+}
+
+// What a simulation found in the times that ended.
+fn tally_of<A: Drop, E: Drop, C: Drop>(simulation: Simulation<'_, A, E, C>) -> Tally
+    ensures violations { map (λ v. violation_seen v) result.violations.items ≡ take simulation.entry.ended (map (λ v. violation_seen v) simulation.entry.violations.items) }
+    ensures evaluations { result.evaluations ≡ simulation.entry.evaluations }
+    ensures last { result.last ≡ simulation.entry.last }
+{
+    let Simulation {
+        nets: _,
+        told: _,
+        work: _,
+        elements: _,
+        agenda: _,
+        checks: _,
+        fan: _,
+        outputs: _,
+        stimulus: _,
+        handed: _,
+        mut violations,
+        ended,
+        evaluations,
+        changes: _,
+        last,
+    } = simulation;
+    violations.truncate(ended);
+    Tally {
+        violations,
+        evaluations,
+        last,
+    }
+}
+
+/// A circuit before time 0.
+#[derive(Drop)]
+pub struct Sim<'a, A: Agenda> {
+    circuit: &'a Circuit,
+    alloc: Global,
+    nets: Nets,
+    told: Told,
+    work: WorkList,
+    elements: CircuitElements<'a>,
+    agenda: A,
+    fan: FanOut,
+    outputs: Vec<NetId>,
+    ghost fresh: { IsFresh circuit.now nets told work elements (A.lists agenda) fan outputs.items },
+}
+
+impl<'a, A: Agenda + Drop> Sim<'a, A> {
+    ghost use Rattle.std.specs.Prelude.{◌≡◌, ◌-◌, ◌<◌, ◌≤◌, [], IfOk, length, map, replicate};
+    ghost use Rattle.stim_read.specs.Applied.{IsApplied};
+    ghost use Rattle.stim_read.specs.Seen.{stimulus_seen};
+    ghost use Rattle.sim_rounds.specs.Runs.{CauseOfEnd, HasEnded, NamesFaultOfEnd};
+    ghost use Rattle.sim_rounds.specs.Setting.{setting_of};
+    ghost use Rattle.sim_rounds.specs.Times.{count_shown};
+
+    /// A circuit before time 0, with an agenda on which nothing is pending. Takes memory in proportion to the circuit.
+    pub fn new(alloc: Global, circuit: &'a Circuit, agenda: A) -> Result<Sim<'a, A>, NoMemory>
+        requires { A.lists agenda ≡ replicate (length circuit.now.elements) [] }
+        ensures { IfOk result (λ sim. sim.circuit.now ≡ circuit.now) }
+    {
+        let parts = circuit.parts();
+        let values = first_values(alloc, &parts.nets)?;
+        let nets = Nets::new(alloc, &values)?;
+        let told = Told::new(alloc, &values)?;
+        let work = WorkList::new(alloc, parts.elements.len() as u32)?;
+        let elements = CircuitElements::new(alloc, circuit)?;
+        let fan = FanOut::build(alloc, circuit)?;
+        let outputs = outputs_of(alloc, &parts.elements)?;
+        Ok(Sim {
+            circuit,
+            alloc,
+            nets,
+            told,
+            work,
+            elements,
+            agenda,
+            fan,
+            outputs,
+        })
+    }
+
+    /// Makes the run of the circuit under a stimulus, from time 0 to the stimulus's end or to a time that needs more
+    /// rounds than so many, and tells the watcher: at time 0, at each later time whose nets differ from those of the
+    /// time before, with exactly these nets, and at the end.
+    ///
+    /// The counter rises by one for each element that is evaluated: in the first round of time 0 by all, in a later
+    /// round by those with an input that changed in it.
+    pub fn run<S: Shelf, W: Watch<S>, L: Ledger>(
+        self,
+        stimulus: &Stimulus,
+        rounds: u32,
+        shelf: &mut S,
+        watcher: &mut W,
+        steps: &mut Steps<L>,
+    ) -> Finished
+        requires rounds { 0 < rounds }
+        requires nets { W.net_count watcher.old ≤ length self.circuit.now.nets }
+        requires stimulus { IsApplied self.circuit.now (stimulus_seen stimulus.now) }
+        ensures ended { HasEnded W.stands W.broken watcher.old watcher.new shelf.old shelf.new (setting_of self.entry.circuit.now (stimulus_seen stimulus.now) rounds)
+            (map (λ v. violation_seen v) result.tally.violations.items) result.tally.last (steps.new - steps.old) result.end }
+        ensures evaluations { result.tally.evaluations ≡ count_shown (steps.new - steps.old) }
+        ensures steps { steps.old ≤ steps.new }
+        ensures cause { CauseOfEnd (S.fault_count shelf.old) (S.fault_count shelf.new) result.end }
+        ensures named { NamesFaultOfEnd (W.name watcher.old) (S.last_fault shelf.old) (S.last_fault shelf.new) result.end }
+        ensures name { W.name watcher.new ≡ W.name watcher.old }
+        ensures net_count { W.net_count watcher.new ≡ W.net_count watcher.old }
+        ensures keeps { W.keeps watcher.old shelf.old shelf.new }
+    {
+        recall_closed(self.circuit);
+        let Sim {
+            circuit: _,
+            alloc,
+            nets,
+            told,
+            work,
+            elements,
+            agenda,
+            fan,
+            outputs,
+        } = self;
+        let mut simulation = Simulation {
+            nets,
+            told,
+            work,
+            elements,
+            agenda,
+            checks: NoChecks,
+            fan,
+            outputs,
+            stimulus,
+            handed: Vec::new(alloc),
+            violations: Vec::new(alloc),
+            ended: 0,
+            evaluations: 0,
+            changes: Vec::new(alloc),
+            last: 0,
+        };
+        let end = make_times(&mut simulation, stimulus.end, rounds, shelf, watcher, steps);
+        Finished {
+            end,
+            tally: tally_of(simulation),
+        }
+    }
+}
