@@ -137,7 +137,7 @@ others_listed : (es : List Expression) (out : Tokens) → put_others (expression
 others_listed [] out = refl
 others_listed (e ∷ es) out = others_listed es (put_expression e (put_mark Comma out))
 
-all_listed : (es : List Expression) (out : Tokens) → put_expressions (expressions es) out ≡ put_listed put_expression es out
+pub all_listed : (es : List Expression) (out : Tokens) → put_expressions (expressions es) out ≡ put_listed put_expression es out
 all_listed [] out = refl
 all_listed (e ∷ es) out = others_listed es (put_expression e out)
 

@@ -11,3 +11,5 @@ pub mod ExpressionsPrinted
 pub mod ItemsPrinted
 pub mod PrimitivesPrinted
 pub mod ModulesPrinted
+pub mod PutLeft
+pub mod WholePrinted

@@ -8,3 +8,4 @@ pub mod Items
 pub mod Primitives
 pub mod Modules
 pub mod Printing
+pub mod Printed

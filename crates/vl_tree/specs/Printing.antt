@@ -252,3 +252,14 @@ put_part (a_primitive p) out = put_primitive p out
 
 abbrev pub put_source : Source → Tokens → Tokens
 put_source parts out = put_many put_part parts out
+
+-- ---- steps of the loop over a concatenation
+
+abbrev pub comma_if : Bool → Tokens → Tokens
+comma_if true out = put_mark symbol.Comma out
+comma_if false out = out
+
+-- the parts that are left, with a comma before the first one or not
+abbrev pub put_left : Bool → List Expression → Tokens → Tokens
+put_left true es out = put_many (behind_comma put_expression) es out
+put_left false es out = put_listed put_expression es out
