@@ -1,12 +1,12 @@
 -- Tokens that are put behind others for a value spell it, for each way of building a language.
-use Rattle.std.proofs.Common.{◌≡◌, ℕ, ◌+◌, ◌<◌, ◌≤◌, Bool, true, false, List, [], ◌∷◌, ◌++◌, length, map, Option, Some, None, refl, sym, subst, ap, ◌∙◌, arith, inl, inr, length-append}
-use Rattle.std.specs.Prelude.{slice_get, ◌⊎◌}
+use Rattle.std.proofs.Common.{◌≡◌, ℕ, ◌<◌, Bool, true, false, List, [], ◌∷◌, ◌++◌, length, map, Some, None, refl, sym, subst, ◌∙◌, arith, inl, inr, length-append}
+use Rattle.std.specs.Prelude.{slice_get}
 use Rattle.sg_text.specs.declared.places.Place.{Place}
 use Rattle.grammar.specs.Exact.{Exact}
-use Rattle.grammar.specs.Language.{Language, one_token, sequence, image, choice, at_most_once, SpellsMany, repetition, no_language}
+use Rattle.grammar.specs.Language.{Language, sequence, image, choice, at_most_once, repetition, no_language}
 use Rattle.grammar.specs.Placed.{with_place}
 use Rattle.grammar.specs.Reads.{Appends}
-use Rattle.grammar.specs.Rule.{Rule, one, quoted, many, ◌▸◌}
+use Rattle.grammar.specs.Rule.{Rule, one, quoted, ◌▸◌}
 use Rattle.grammar.proofs.Extents.{starts_so}
 use Rattle.grammar.proofs.Mapped.{quoted-exact}
 use Rattle.grammar.proofs.Results.{eqb_same}
@@ -125,8 +125,7 @@ pub quoted_first : {A : Type 0} (is : Kind → Bool) (meaning : Meaning) (b : Ov
     → PrintsAt (image (λ x. x.1) (sequence (quoted kind_of is).language b)) (λ p x out. put x (put_token meaning p out))
 quoted_first is meaning b put exact h prints p x (ts, i, j, (t, at, place, (y, e, (m, s, u)))) out =
     let mid = put_token meaning p out in
-    let q = prints x (spelled_as b y.1 x e (ts, m, j, u)) mid in
-    (
+    let q = prints x (spelled_as b y.1 x e (ts, m, j, u)) mid in (
       printing.appends_mapped (λ (x : Unit {0} × _). x.1) (sequence (quoted kind_of is).language b) out (put x mid) (tt, x) (printing.appends_seq kind_of (quoted kind_of is) b exact out mid (put x mid) tt x (quoted_printed is meaning p out h) q),
       begins_behind b p out mid (put x mid) x (longer out (record { meaning = meaning; place = p })) (begins_with meaning p out) q,
     )
@@ -137,8 +136,7 @@ pub quoted_behind : {A : Type 0} (is : Kind → Bool) (meaning : Meaning) (b : O
     → Appends (image (λ x. x.1) (sequence (quoted kind_of is).language b)) out (put x (put_token meaning p out)) x × BeginsAt p (length out) (put x (put_token meaning p out))
 quoted_behind is meaning b put exact h prints p x (ts, i, j, (y, e, (m, s, u))) out =
     let mid = put_token meaning p out in
-    let q = prints x (spelled_as b y.1 x e (ts, m, j, u)) mid in
-    (
+    let q = prints x (spelled_as b y.1 x e (ts, m, j, u)) mid in (
       printing.appends_mapped (λ (x : Unit {0} × _). x.1) (sequence (quoted kind_of is).language b) out (put x mid) (tt, x) (printing.appends_seq kind_of (quoted kind_of is) b exact out mid (put x mid) tt x (quoted_printed is meaning p out h) q),
       begins_behind b p out mid (put x mid) x (longer out (record { meaning = meaning; place = p })) (begins_with meaning p out) q,
     )
@@ -155,8 +153,7 @@ pub first_prints : {A B : Type 0} (a : Rule Lexeme Kind A) (b : Over B) (put_a :
 first_prints a b put_a put_b exact full first second p x (ts, i, j, (t, at, place, (m, s, u))) out =
     let f = first p x.0 (ts, i, m, (t, at, place, s)) out in
     let mid = put_a p x.0 out in
-    let q = second x.1 (ts, m, j, u) mid in
-    (
+    let q = second x.1 (ts, m, j, u) mid in (
       printing.appends_seq kind_of a b exact out mid (put_b x.1 mid) x.0 x.1 f.0 q,
       begins_behind b p out mid (put_b x.1 mid) x.1 (starts_so kind_of a exact full mid (length out) x.0 (length mid) f.0.spells).0 f.1 q,
     )

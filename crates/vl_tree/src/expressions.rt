@@ -8,10 +8,7 @@ use vl_token::Constant;
 #[derive(Clone, Copy, Debug, PartialEq)]
 pub enum Select {
     Bit(i64),
-    Part {
-        left: i64,
-        right: i64,
-    },
+    Part { left: i64, right: i64 },
 }
 
 /// `name [ "[" int "]" | "[" int ":" int "]" ] | sized | "{" expression { "," expression } "}"`
