@@ -1,3 +1,2 @@
 -- The modules of this folder.
-pub mod Behind
-pub mod Width
+pub mod Failed

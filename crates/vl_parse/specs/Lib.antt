@@ -1,5 +1,2 @@
 -- The modules of this folder.
-pub mod Bits
-pub mod Bytes
-pub mod Lists
 pub mod Parsed

@@ -8,7 +8,7 @@ ghost use Rattle.vl_tree.specs.Items.{direction_starts, net_type_starts, supply_
 ghost use Rattle.vl_tree.specs.Kinds.{kind_of};
 ghost use Rattle.vl_tree.specs.Rules as rules;
 
-use crate::tokens::{is_word, word};
+use vl_terms::tokens::{is_word, word};
 use grammar::ReadFault;
 use sg_text::Keyword;
 use vl_token::Token;

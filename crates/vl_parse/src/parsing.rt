@@ -8,10 +8,10 @@ ghost use Rattle.vl_tree.specs.Seen.{view_part, view_source};
 ghost use Rattle.vl_tree.specs.Tree.{Source as SourceSeen};
 ghost use Rattle.vl_parse.specs.Parsed.{IsTree, RefusalStands, fault_kind, fault_place, kind_seen, keyword_left_out};
 
-use crate::lists::{ListPart, many};
+use vl_terms::lists::{ListPart, many};
 use crate::modules::{is_module, module};
-use crate::primitives::primitive;
-use crate::tokens::{is_word, token_at};
+use vl_terms::primitives::primitive;
+use vl_terms::tokens::{is_word, token_at};
 use grammar::ReadFault;
 use sg_text::{Keyword, Place, Refused};
 use std::alloc::Global;

@@ -1,7 +1,6 @@
 -- How each way of building a rule over tokens is shown to be read exactly.
-use Rattle.std.proofs.Common.{◌≡◌, ℕ, Bool, false, refl, List}
-use Rattle.std.specs.Prelude.{◌||◌, ◌⊎◌}
-use Rattle.sg_text.specs.declared.places.Place.{Place}
+use Rattle.std.proofs.Common.{◌≡◌, Bool, false}
+use Rattle.std.specs.Prelude.{◌||◌}
 use Rattle.sg_text.specs.declared.words.Keyword.{Keyword}
 use Rattle.grammar.specs.Exact.{Exact, Apart, IsWithin}
 use Rattle.grammar.specs.Rule as rule

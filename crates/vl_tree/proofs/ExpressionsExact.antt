@@ -1,5 +1,5 @@
 -- Each rule of names, ranges, expressions and delays is read exactly.
-use Rattle.std.proofs.Common.{◌≡◌, ℕ, zero, suc, refl}
+use Rattle.std.proofs.Common.{ℕ, zero, suc, refl}
 use Rattle.vl_token.specs.declared.symbols.Symbol.TheVariants.{Comma, Colon, Hash, Minus, LeftBracket, RightBracket, LeftBrace, RightBrace, LeftParen, RightParen}
 use Rattle.vl_tree.specs.Expressions.{name_parts, name, names_parts, names, int_parts, int, range_parts, range, select_parts, select, signal_parts, signal_rule, sized_parts, sized_rule, expression_parts, expression_to, expression, max_braces, number_parts, number, mtm_parts, mtm, mtms_parts, mtms, delay_parts, delay}
 use Rattle.vl_tree.specs.Kinds.{is_name, is_number, is_whole, is_sized}

@@ -1,31 +1,31 @@
 -- What is put for names, ranges, expressions and delays spells them.
-use Rattle.std.proofs.Common.{◌≡◌, ℕ, zero, suc, ◌<◌, ◌^◌, Bool, true, false, List, [], ◌∷◌, length, map, Option, Some, None, refl, sym, subst, ap, ◌∙◌, arith, inl, inr}
-use Rattle.std.specs.Prelude.{ℤ, pos, negsuc, neg_ℤ, slice_get, option_map, nat_lt, if◌then◌else◌}
+use Rattle.std.proofs.Common.{◌≡◌, ℕ, zero, suc, ◌<◌, ◌^◌, true, false, List, [], ◌∷◌, map, Option, Some, None, refl, sym, subst, ap, ◌∙◌, arith, inl, inr}
+use Rattle.std.specs.Prelude.{pos, neg_ℤ, slice_get, option_map}
 use Rattle.std.proofs.lemmas.Bool.{lt-ltb}
 use Rattle.std.proofs.lemmas.Option.{slice_get-map}
 use Rattle.sg_text.specs.declared.places.Place.{Place}
 use Rattle.sg_time.specs.Spelling.{Number}
 use Rattle.grammar.specs.Language.{image, sequence}
 use Rattle.grammar.specs.Reads.{Appends}
-use Rattle.grammar.specs.Rule.{◌∙∙◌, ◌▸◌, ◌◂◌, one, mapped, named, nothing}
+use Rattle.grammar.specs.Rule.{◌∙∙◌, ◌▸◌, ◌◂◌}
 use Rattle.grammar.proofs.Printing as printing
 use Rattle.vl_token.specs.declared.symbols.Symbol.TheVariants.{Comma, Colon, Hash, Minus, LeftBracket, RightBracket, LeftBrace, RightBrace, LeftParen, RightParen}
 use Rattle.vl_token.specs.declared.tokens.Token.{Token}
 use Rattle.vl_token.specs.declared.tokens.TokenKind.{TokenKind}
 use Rattle.vl_token.specs.declared.tokens.TokenKind.TheVariants as token
 use Rattle.vl_token.specs.Seen.{lexeme, meaning}
-use Rattle.vl_token.specs.Tokens.{Lexeme, Meaning, symbol_token, name_token, number_token, sized_token}
+use Rattle.vl_token.specs.Tokens.{Lexeme, symbol_token, name_token, number_token, sized_token}
 use Rattle.vl_tree.specs.declared.expressions.Select.TheVariants.{Bit, Part}
 use Rattle.vl_tree.specs.Expressions.{name_parts, name, names_parts, names, signed, whole, int_parts, int, range_parts, range, select_parts, select, signal_parts, signal_rule, sized_parts, sized_rule, expression_parts, expression_to, expression, max_braces, number_parts, number, mtm_of, mtm_parts, mtm, mtms_of, mtms_parts, mtms, delay_parts, delay}
 use Rattle.vl_tree.specs.Kinds.{kind_of, is_symbol, is_name, is_number, is_whole, is_sized, number_of, bits_of, text_of}
-use Rattle.vl_tree.specs.Printing.{Tokens, nowhere, put_token, put_mark, mark_at, put_optional, put_many, behind_comma, put_listed, put_name, put_names, eighteen_digits, whole_number, put_whole, put_int, put_range, put_select, put_expression, put_expressions, put_others, put_number, put_mtm, put_delay}
-use Rattle.vl_tree.specs.Rules.{mark, placed, either, optional, listed}
-use Rattle.vl_tree.specs.Tree.{Expression, signal, sized, concatenation, expressions, no_more, one_more, MinTypMax, one_number, three_numbers}
+use Rattle.vl_tree.specs.Printing.{Tokens, nowhere, put_mark, mark_at, put_optional, put_many, behind_comma, put_listed, put_name, put_names, eighteen_digits, whole_number, put_whole, put_int, put_range, put_select, put_expression, put_expressions, put_others, put_number, put_mtm, put_delay}
+use Rattle.vl_tree.specs.Rules.{mark, placed, optional, listed}
+use Rattle.vl_tree.specs.Tree.{Expression, signal, sized, concatenation, expressions, MinTypMax, one_number}
 use Rattle.vl_tree.proofs.AllKinds.{apart}
-use Rattle.vl_tree.proofs.Building.{the_mark, then, behind, before, with_commas, perhaps}
-use Rattle.vl_tree.proofs.ExpressionsExact.{name-exact, int-exact, select-exact, expression_to-exact, number-exact, mtm-exact, mtms-exact}
+use Rattle.vl_tree.proofs.Building.{the_mark, behind, with_commas, perhaps}
+use Rattle.vl_tree.proofs.ExpressionsExact.{name-exact, int-exact, expression_to-exact, number-exact, mtm-exact, mtms-exact}
 use Rattle.vl_tree.proofs.Lists.{comma_name, comma_expression}
-use Rattle.vl_tree.proofs.Printed.{quoted_printed, Prints, PrintsAt, Own, IsSpelled, token_printed, mapped_prints, seq_prints, either_prints, optional_prints, many_prints, placed_prints, listed_prints, mark_prints, nothing_prints, behind_mark, before_mark, mark_first, own_first, own_mapped, own_seq, own_either, own_nothing, own_placed, own_token, begins_with, begins_behind, longer, placed_printed, spelled_as}
+use Rattle.vl_tree.proofs.Printed.{quoted_printed, Prints, Own, IsSpelled, token_printed, mapped_prints, seq_prints, either_prints, optional_prints, placed_prints, listed_prints, mark_prints, nothing_prints, behind_mark, before_mark, mark_first, own_mapped, own_seq, own_either, own_nothing, own_placed, own_token, begins_with, begins_behind, longer, placed_printed, spelled_as}
 
 pub name_prints : Prints name.language put_name
 unfolding name_parts

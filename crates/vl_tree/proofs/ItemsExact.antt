@@ -1,5 +1,5 @@
 -- Each rule of the items of modules is read exactly.
-use Rattle.std.proofs.Common.{◌≡◌, refl}
+use Rattle.std.proofs.Common.{refl}
 use Rattle.grammar.specs.Stated.{separated_options}
 use Rattle.grammar.proofs.Laws.{separated_options-exact}
 use Rattle.sg_text.specs.declared.words.Keyword.TheVariants.{Input, Output, Wire, Tri, Supply0, Supply1, Reg}

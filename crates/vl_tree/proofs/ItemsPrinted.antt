@@ -1,16 +1,13 @@
 -- What is put for the items of modules spells them.
-use Rattle.std.proofs.Common.{◌≡◌, ℕ, List, [], ◌∷◌, ◌++◌, length, map, Option, Some, None, refl, sym, subst, ap, ◌∙◌, inl, inr}
+use Rattle.std.proofs.Common.{◌≡◌, ℕ, [], ◌∷◌, length, map, Option, Some, None, refl, sym, subst, ap}
 use Rattle.std.specs.Prelude.{slice_get, unwrap_or}
 use Rattle.sg_logic.specs.declared.gates.GateKind.TheVariants as gate_kind
 use Rattle.sg_text.specs.declared.places.Place.{Place}
-use Rattle.sg_text.specs.declared.words.Keyword.{Keyword}
 use Rattle.sg_text.specs.declared.words.Keyword.TheVariants.{Input, Output, Wire, Tri, Supply0, Supply1, Reg}
 use Rattle.sg_text.specs.declared.words.Keyword.TheVariants as keyword
 use Rattle.grammar.specs.Exact.{Exact}
-use Rattle.grammar.specs.Language.{image, sequence, choice, at_most_once, repetition}
-use Rattle.grammar.specs.Placed.{with_place}
-use Rattle.grammar.specs.Reads.{Appends}
-use Rattle.grammar.specs.Rule.{Rule, ◌∙∙◌, ◌▸◌, ◌◂◌, mapped}
+use Rattle.grammar.specs.Language.{image, sequence}
+use Rattle.grammar.specs.Rule.{◌∙∙◌, ◌▸◌, ◌◂◌}
 use Rattle.grammar.specs.Stated.{separated_options}
 use Rattle.grammar.proofs.Extents.{starts_so}
 use Rattle.grammar.proofs.Printing as printing
@@ -18,23 +15,23 @@ use Rattle.grammar.proofs.Stated.{by_first, to_first, from_first}
 use Rattle.vl_token.specs.declared.symbols.Symbol.TheVariants.{Comma, Semicolon, Point, LeftParen, RightParen}
 use Rattle.vl_token.specs.declared.symbols.Symbol.TheVariants as symbol
 use Rattle.vl_token.specs.Seen.{lexeme}
-use Rattle.vl_token.specs.Tokens.{Lexeme, word_token, symbol_token}
+use Rattle.vl_token.specs.Tokens.{word_token}
 use Rattle.vl_tree.specs.declared.names.Direction.TheVariants as direction_of
 use Rattle.vl_tree.specs.declared.names.NetType.TheVariants as net_type_of
 use Rattle.vl_tree.specs.declared.names.Supply.TheVariants as supply_of
 use Rattle.vl_tree.specs.Expressions.{name, names, range, expression, delay}
 use Rattle.vl_tree.specs.Items.{direction_parts, direction, net_type_parts, net_type, supply_parts, supply, gate_parts, gate, net_name_parts, net_name, join_parts, join, gate_instance_parts, gate_instance, named_connection_parts, named_connection, connections_parts, connections, instance_parts, instance, port_item_parts, port_item, net_item_parts, net_item, supply_item_parts, supply_item, register_item_parts, register_item, assign_item_parts, assign_item, gate_item_parts, gate_item, instance_item_parts, instance_item, item_parts, item}
-use Rattle.vl_tree.specs.Kinds.{Kind, kind_of, is_word, is_symbol}
-use Rattle.vl_tree.specs.Printing.{Tokens, nowhere, put_token, put_mark, mark_at, word_at, put_optional, put_many, behind_comma, put_listed, put_name, put_names, put_range, put_expression, put_value, put_delay, put_direction, put_net_type, put_supply, put_gate, put_net_name, put_join, put_opening, put_gate_instance, put_named_connection, put_connections, put_instance, put_item}
-use Rattle.vl_tree.specs.Rules.{Grammar, word, mark, placed, either, optional, listed}
-use Rattle.vl_tree.specs.Tree.{Named, Expression, Connections, Item, ports, nets, supplies, registers, assigns, gates, instances, by_order, by_name}
+use Rattle.vl_tree.specs.Kinds.{kind_of, is_word, is_symbol}
+use Rattle.vl_tree.specs.Printing.{Tokens, nowhere, put_mark, mark_at, put_optional, behind_comma, put_listed, put_name, put_names, put_range, put_expression, put_direction, put_net_type, put_supply, put_gate, put_net_name, put_join, put_opening, put_gate_instance, put_named_connection, put_connections, put_instance, put_item}
+use Rattle.vl_tree.specs.Rules.{mark, optional, listed}
+use Rattle.vl_tree.specs.Tree.{Expression, Connections, by_order, by_name}
 use Rattle.vl_tree.proofs.AllKinds.{apart}
-use Rattle.vl_tree.proofs.Building.{the_mark, the_word, then, behind, before, with_commas, perhaps}
+use Rattle.vl_tree.proofs.Building.{with_commas, perhaps}
 use Rattle.vl_tree.proofs.ExpressionsExact.{name-exact, names-exact, range-exact, expression-exact, delay-exact}
 use Rattle.vl_tree.proofs.ItemsExact.{direction-exact, net_type-exact, supply-exact, gate-exact, net_name-exact, join-exact, gate_instance-exact, named_connection-exact, connections-exact, instance-exact}
 use Rattle.vl_tree.proofs.ExpressionsPrinted.{name_prints, name_own, names_prints, range_prints, expression_prints, expression_own, delay_prints}
 use Rattle.vl_tree.proofs.Lists.{comma_expression, comma_net_name, comma_join, comma_gate_instance, comma_named_connection, comma_instance, comma_option}
-use Rattle.vl_tree.proofs.Printed.{Over, Prints, PrintsAt, Own, IsSpelled, quoted_printed, mapped_prints, seq_prints, either_prints, optional_prints, many_prints, placed_prints, listed_prints, behind_mark, before_mark, mark_first, word_comes_first, word_first, first_prints, either_first, own_first, word_says, begins_behind, spelled_as}
+use Rattle.vl_tree.proofs.Printed.{Over, Prints, PrintsAt, mapped_prints, seq_prints, either_prints, optional_prints, many_prints, placed_prints, listed_prints, behind_mark, before_mark, mark_first, word_comes_first, word_first, first_prints, either_first, own_first, word_says, begins_behind}
 
 pub direction_first : PrintsAt direction.language put_direction
 unfolding direction_parts

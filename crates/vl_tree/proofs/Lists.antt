@@ -1,5 +1,5 @@
 -- What is repeated is read exactly: what stands behind a comma in a list, and what needs no comma.
-use Rattle.std.proofs.Common.{◌≡◌, ℕ, refl}
+use Rattle.std.proofs.Common.{ℕ, refl}
 use Rattle.grammar.specs.Exact.{Exact}
 use Rattle.grammar.specs.Rule.{◌▸◌}
 use Rattle.vl_token.specs.declared.symbols.Symbol.TheVariants.{Comma}

@@ -1,5 +1,5 @@
 -- Each rule of modules, and a whole netlist, is read exactly.
-use Rattle.std.proofs.Common.{◌≡◌, refl}
+use Rattle.std.proofs.Common.{refl}
 use Rattle.sg_text.specs.declared.words.Keyword.TheVariants as keyword
 use Rattle.vl_token.specs.declared.symbols.Symbol.TheVariants.{Comma, Semicolon, LeftParen, RightParen}
 use Rattle.vl_tree.specs.Kinds.{is_module}

@@ -1,8 +1,7 @@
 -- What is put for modules and for a whole netlist spells them.
-use Rattle.std.proofs.Common.{◌≡◌, refl}
+use Rattle.std.proofs.Common.{refl}
 use Rattle.sg_text.specs.declared.words.Keyword.TheVariants as keyword
-use Rattle.grammar.specs.Language.{image, sequence}
-use Rattle.grammar.specs.Rule.{◌∙∙◌, ◌▸◌, ◌◂◌, one}
+use Rattle.grammar.specs.Rule.{◌∙∙◌, ◌▸◌, ◌◂◌}
 use Rattle.vl_token.specs.declared.symbols.Symbol.TheVariants.{Comma, Semicolon, LeftParen, RightParen}
 use Rattle.vl_token.specs.Tokens.{module_word}
 use Rattle.vl_tree.specs.Expressions.{name, range}
@@ -10,11 +9,11 @@ use Rattle.vl_tree.specs.Items.{direction, net_type, item}
 use Rattle.vl_tree.specs.Kinds.{is_module, settings_of}
 use Rattle.vl_tree.specs.Modules as modules
 use Rattle.vl_tree.specs.Modules.{port_declaration_parts, port_declaration, head_port_parts, head_port, head_parts, head, port_list_parts, port_list, module_parts, module_rule, part_parts, part, source}
-use Rattle.vl_tree.specs.Printing.{nowhere, put_token, put_name, put_names, put_optional, put_range, put_net_type, put_item, put_port_declaration, put_head_port, put_head, put_port_list, put_module, put_part, put_source}
+use Rattle.vl_tree.specs.Printing.{nowhere, put_token, put_port_declaration, put_head_port, put_head, put_port_list, put_module, put_part, put_source}
 use Rattle.vl_tree.specs.Rules.{word, mark, optional, many}
 use Rattle.vl_tree.proofs.AllKinds.{apart}
 use Rattle.vl_tree.proofs.Building.{token, perhaps, repeated}
-use Rattle.vl_tree.proofs.ExpressionsExact.{name-exact, names-exact, range-exact}
+use Rattle.vl_tree.proofs.ExpressionsExact.{name-exact, range-exact}
 use Rattle.vl_tree.proofs.ExpressionsPrinted.{name_prints, names_prints, range_prints}
 use Rattle.vl_tree.proofs.ItemsExact.{direction-exact, net_type-exact, item-exact}
 use Rattle.vl_tree.proofs.ItemsPrinted.{direction_first, net_type_prints, item_prints}

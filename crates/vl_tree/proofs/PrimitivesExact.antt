@@ -1,5 +1,5 @@
 -- Each rule of user-defined primitives is read exactly.
-use Rattle.std.proofs.Common.{◌≡◌, refl}
+use Rattle.std.proofs.Common.{refl}
 use Rattle.sg_text.specs.declared.words.Keyword.TheVariants as keyword
 use Rattle.vl_token.specs.declared.symbols.Symbol.TheVariants.{Semicolon, LeftParen, RightParen, Assign}
 use Rattle.vl_tree.specs.Kinds.{is_byte, is_initial_value, cell_byte, colon_byte, semicolon_byte, left_byte, right_byte}

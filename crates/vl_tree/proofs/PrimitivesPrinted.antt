@@ -1,31 +1,30 @@
 -- What is put for user-defined primitives spells them.
-use Rattle.std.proofs.Common.{◌≡◌, ℕ, Bool, true, false, List, [], ◌∷◌, length, map, Option, Some, None, refl, sym, subst, ap, ◌∙◌, inl, inr}
-use Rattle.std.specs.Prelude.{slice_get, ◌==◌, cond}
+use Rattle.std.proofs.Common.{◌≡◌, ℕ, Bool, true, false, List, [], ◌∷◌, length, Option, Some, None, refl, sym, subst, ap, inl, inr}
+use Rattle.std.specs.Prelude.{◌==◌, cond}
 use Rattle.std.proofs.lemmas.Bool.{cases_Bool, eqb-true}
 use Rattle.sg_logic.specs.declared.values.Value.{Value}
 use Rattle.sg_logic.specs.declared.values.Value.TheVariants.{Zero, One, X, Z}
 use Rattle.sg_text.specs.declared.places.Place.{Place}
 use Rattle.sg_text.specs.declared.words.Keyword.TheVariants as keyword
 use Rattle.grammar.specs.Exact.{Exact}
-use Rattle.grammar.specs.Language.{image, sequence, choice}
+use Rattle.grammar.specs.Language.{image}
 use Rattle.grammar.specs.Reads.{Appends}
-use Rattle.grammar.specs.Rule.{◌∙∙◌, ◌▸◌, ◌◂◌, one}
+use Rattle.grammar.specs.Rule.{◌∙∙◌, ◌▸◌, ◌◂◌}
 use Rattle.grammar.proofs.Printing as printing
 use Rattle.udp_rows.specs.declared.cells.Cell.{Cell}
 use Rattle.vl_token.specs.declared.symbols.Symbol.TheVariants.{Semicolon, LeftParen, RightParen, Assign}
-use Rattle.vl_token.specs.Seen.{lexeme}
 use Rattle.vl_token.specs.Tokens.{Meaning, module_word, word_token, left_out_token, name_token, system_token, other_token, number_token, sized_token, unsized_token, pair_token, symbol_token, byte_token}
 use Rattle.vl_tree.specs.Expressions.{name, names}
-use Rattle.vl_tree.specs.Kinds.{kind_of, is_byte, is_initial_value, cell_byte, colon_byte, semicolon_byte, left_byte, right_byte, kind_of_byte, kind_of_meaning, is_bit, first_bit, byte_of, value_of}
+use Rattle.vl_tree.specs.Kinds.{kind_of, is_byte, is_initial_value, cell_byte, colon_byte, semicolon_byte, left_byte, right_byte, kind_of_meaning, is_bit, first_bit, byte_of, value_of}
 use Rattle.vl_tree.specs.Primitives.{is_there, maybe_register, output_parts, output_rule, register_parts, register_rule, inputs_parts, inputs_rule, declaration_parts, declaration, initial_value_parts, initial_value, initial_parts, initial, symbol_parts, symbol_rule, columns_of, cell_of, cell_parts, cell, cells_parts, cells, row_parts, row, body_parts, body, primitive_parts, primitive}
-use Rattle.vl_tree.specs.Printing.{Tokens, nowhere, put_token, put_mark, put_word, put_byte, byte_at, put_optional, put_many, put_name, put_names, put_whole, whole_number, put_register_word, put_primitive_declaration, put_initial_value, put_initial, put_cell, put_cells, put_column, put_row, put_primitive}
+use Rattle.vl_tree.specs.Printing.{Tokens, nowhere, put_mark, put_word, put_byte, byte_at, put_optional, put_name, whole_number, put_register_word, put_primitive_declaration, put_initial_value, put_initial, put_cell, put_cells, put_column, put_row, put_primitive}
 use Rattle.vl_tree.specs.Rules.{word, mark, byte, optional, many}
 use Rattle.vl_tree.proofs.AllKinds.{apart}
-use Rattle.vl_tree.proofs.Building.{the_word, the_byte, then, behind, before, perhaps, repeated, made}
+use Rattle.vl_tree.proofs.Building.{the_word, the_byte, then, behind, perhaps, repeated, made}
 use Rattle.vl_tree.proofs.ExpressionsExact.{name-exact, names-exact}
 use Rattle.vl_tree.proofs.ExpressionsPrinted.{name_prints, names_prints}
-use Rattle.vl_tree.proofs.PrimitivesExact.{declaration-exact, initial_value-exact, initial-exact, symbol-exact, cell-exact, cells-exact, row-exact, body-exact}
-use Rattle.vl_tree.proofs.Printed.{quoted_prints, behind_prints, before_prints, quoted_behind, mapped_first, first_prints, either_first, begins_with, spelled_as, BeginsAt, Prints, PrintsAt, IsSpelled, token_printed, mapped_prints, seq_prints, either_prints, optional_prints, many_prints, placed_prints, word_prints, behind_mark, before_mark, behind_word, before_word, word_comes_first}
+use Rattle.vl_tree.proofs.PrimitivesExact.{declaration-exact, initial_value-exact, initial-exact, symbol-exact, cell-exact, cells-exact, row-exact}
+use Rattle.vl_tree.proofs.Printed.{quoted_prints, behind_prints, before_prints, quoted_behind, mapped_first, first_prints, either_first, begins_with, spelled_as, BeginsAt, Prints, PrintsAt, IsSpelled, token_printed, mapped_prints, seq_prints, either_prints, optional_prints, many_prints, placed_prints, word_prints, behind_mark, before_mark, behind_word, word_comes_first}
 
 -- ---- declarations
 

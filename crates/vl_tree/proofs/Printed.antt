@@ -1,12 +1,12 @@
 -- Tokens that are put behind others for a value spell it, for each way of building a language.
-use Rattle.std.proofs.Common.{◌≡◌, ℕ, ◌+◌, ◌<◌, ◌≤◌, Bool, true, false, List, [], ◌∷◌, ◌++◌, length, map, Option, Some, None, refl, sym, subst, ap, ◌∙◌, arith, inl, inr, length-append}
-use Rattle.std.specs.Prelude.{slice_get, ◌⊎◌}
+use Rattle.std.proofs.Common.{◌≡◌, ℕ, ◌<◌, Bool, true, false, List, [], ◌∷◌, ◌++◌, length, map, Some, None, refl, sym, subst, ◌∙◌, arith, inl, inr, length-append}
+use Rattle.std.specs.Prelude.{slice_get}
 use Rattle.sg_text.specs.declared.places.Place.{Place}
 use Rattle.grammar.specs.Exact.{Exact}
-use Rattle.grammar.specs.Language.{Language, one_token, sequence, image, choice, at_most_once, SpellsMany, repetition, no_language}
+use Rattle.grammar.specs.Language.{Language, sequence, image, choice, at_most_once, repetition, no_language}
 use Rattle.grammar.specs.Placed.{with_place}
 use Rattle.grammar.specs.Reads.{Appends}
-use Rattle.grammar.specs.Rule.{Rule, one, quoted, many, ◌▸◌}
+use Rattle.grammar.specs.Rule.{Rule, one, quoted, ◌▸◌}
 use Rattle.grammar.proofs.Extents.{starts_so}
 use Rattle.grammar.proofs.Mapped.{quoted-exact}
 use Rattle.grammar.proofs.Results.{eqb_same}

@@ -7,7 +7,7 @@ use Rattle.vl_tree.specs.declared.expressions.Expression.TheVariants as variant
 use Rattle.vl_tree.specs.declared.expressions.Expression.TheVariants.{rolls-Concatenation}
 use Rattle.vl_tree.specs.declared.expressions.Expression.TheOpen as layer
 use Rattle.vl_tree.specs.declared.expressions.Expression.TheFolds.{fold-roll-Expression}
-use Rattle.vl_tree.specs.Printing.{Tokens, mark_at, put_mark, put_left, put_listed, put_many, behind_comma, put_expression, comma_if}
+use Rattle.vl_tree.specs.Printing.{Tokens, mark_at, put_mark, put_left, put_listed, put_expression, comma_if}
 use Rattle.vl_tree.specs.Seen.{view_expression, view_layer}
 use Rattle.vl_tree.specs.Tree.{Expression, concatenation, expressions}
 use Rattle.vl_tree.proofs.ExpressionsPrinted.{all_listed}

@@ -1,5 +1,5 @@
 -- What is put behind no tokens for a netlist is all tokens, which spell it.
-use Rattle.std.proofs.Common.{◌≡◌, List, [], length, map, refl, subst, ap, ◌∙◌}
+use Rattle.std.proofs.Common.{◌≡◌, List, [], length, map, subst}
 use Rattle.grammar.specs.Reads.{Appends}
 use Rattle.vl_token.specs.declared.tokens.Token.{Token}
 use Rattle.vl_token.specs.Seen.{lexeme}

@@ -1,5 +1,5 @@
 -- The grammar of the items of modules (IEEE 1364-2005, annex A: A.1.4, A.2.1, A.3.1, A.4.1 and A.6.1).
-use Rattle.std.specs.Prelude.{Bool, ◌||◌, [], List, Option, unwrap_or}
+use Rattle.std.specs.Prelude.{Bool, ◌||◌, [], unwrap_or}
 use Rattle.sg_logic.specs.declared.gates.GateKind.{GateKind}
 use Rattle.sg_logic.specs.declared.gates.GateKind.TheVariants as gate_kind
 use Rattle.sg_text.specs.declared.words.Keyword.TheVariants.{Input, Output, Wire, Tri, Supply0, Supply1, Reg, Assign}

@@ -1,5 +1,5 @@
 -- The grammar of modules and of a whole netlist (IEEE 1364-2005, annex A: A.1.2 and A.1.3).
-use Rattle.std.specs.Prelude.{Bool, ◌||◌, List, Option}
+use Rattle.std.specs.Prelude.{Bool, ◌||◌, Option}
 use Rattle.sg_text.specs.declared.words.Keyword.TheVariants as keyword
 use Rattle.sg_text.specs.declared.places.Place.{Place}
 use Rattle.grammar.specs.Rule.{◌∙∙◌, ◌▸◌, ◌◂◌, one, mapped, named, no_kind}

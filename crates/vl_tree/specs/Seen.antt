@@ -1,5 +1,5 @@
 -- The code's trees, as the definitions see them.
-use Rattle.std.specs.Prelude.{List, map, option_map}
+use Rattle.std.specs.Prelude.{map, option_map}
 use Rattle.sg_time.specs.Seen.{number}
 use Rattle.vl_token.specs.Constants.{sized_bits}
 use Rattle.vl_token.specs.Seen.{settings}

@@ -7,5 +7,3 @@ mod primitives;
 mod tokens;
 
 pub use modules::print;
-
-

@@ -145,7 +145,14 @@ pub fn print_value<'a>(out: &mut Vec<Token<'a>>, value: &Expression<'a>) -> Resu
 fn print_number(out: &mut Vec<Token<'_>>, value: Decimal) -> Result<(), NoMemory>
     ensures { OnOk result (map lexeme out.new.items ≡ put_number (number value) (map lexeme out.old.items)) }
 {
-    token(out, TokenKind::Number { value, whole: false }, NOWHERE)
+    token(
+        out,
+        TokenKind::Number {
+            value,
+            whole: false,
+        },
+        NOWHERE,
+    )
 }
 
 impl<'a> Print<'a> for MinTypMax {

@@ -28,11 +28,7 @@ pub fn print_direction(
     }
 }
 
-fn print_net_type(
-    out: &mut Vec<Token<'_>>,
-    net: NetType,
-    place: Place,
-) -> Result<(), NoMemory>
+fn print_net_type(out: &mut Vec<Token<'_>>, net: NetType, place: Place) -> Result<(), NoMemory>
     ensures { OnOk result (map lexeme out.new.items ≡ put_net_type place net (map lexeme out.old.items)) }
 {
     match net {

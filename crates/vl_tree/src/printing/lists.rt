@@ -19,10 +19,7 @@ pub trait Print<'a> {
         ensures { OnOk result (map lexeme out.new.items ≡ tokens (view self.now) (map lexeme out.old.items)) };
 }
 
-pub fn print_many<'a, P: Print<'a>>(
-    out: &mut Vec<Token<'a>>,
-    parts: &[P],
-) -> Result<(), NoMemory>
+pub fn print_many<'a, P: Print<'a>>(out: &mut Vec<Token<'a>>, parts: &[P]) -> Result<(), NoMemory>
     ensures { OnOk result (map lexeme out.new.items ≡ put_many P.tokens (map P.view parts.now) (map lexeme out.old.items)) }
 {
     let mut rest = parts;
@@ -50,10 +47,7 @@ pub fn print_behind_commas<'a, P: Print<'a>>(
 }
 
 /// With commas between.
-pub fn print_listed<'a, P: Print<'a>>(
-    out: &mut Vec<Token<'a>>,
-    parts: &[P],
-) -> Result<(), NoMemory>
+pub fn print_listed<'a, P: Print<'a>>(out: &mut Vec<Token<'a>>, parts: &[P]) -> Result<(), NoMemory>
     ensures { OnOk result (map lexeme out.new.items ≡ put_listed P.tokens (map P.view parts.now) (map lexeme out.old.items)) }
 {
     match parts {

@@ -7,7 +7,9 @@ ghost use Rattle.vl_tree.specs.Printed.{IsSpelledSource, SpellsAll};
 ghost use Rattle.vl_tree.specs.Seen.{view_head, view_source};
 
 use crate::printing::items::{print_direction, print_optional_net_type};
-use crate::printing::lists::{Print, print_behind_commas, print_listed, print_many, print_optional};
+use crate::printing::lists::{
+    Print, print_behind_commas, print_listed, print_many, print_optional,
+};
 use crate::printing::tokens::{keyword, symbol, token};
 use crate::{Head, HeadPort, Module, Part, PortDeclaration, Source};
 use sg_text::{Keyword, NoMemory};
@@ -75,10 +77,7 @@ impl<'a> Print<'a> for Head<'a> {
 }
 
 /// `"(" [ head ] ")"`
-fn print_port_list<'a>(
-    out: &mut Vec<Token<'a>>,
-    head: &Option<Head<'a>>,
-) -> Result<(), NoMemory>
+fn print_port_list<'a>(out: &mut Vec<Token<'a>>, head: &Option<Head<'a>>) -> Result<(), NoMemory>
     ensures { OnOk result (map lexeme out.new.items ≡ put_port_list (option_map view_head head.now) (map lexeme out.old.items)) }
 {
     symbol(out, Symbol::LeftParen)?;

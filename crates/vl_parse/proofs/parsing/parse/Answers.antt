@@ -6,7 +6,7 @@ use Rattle.vl_tree.specs.Kinds.{kind_of}
 use Rattle.vl_tree.specs.Modules.{source}
 use Rattle.vl_tree.specs.Seen.{view_source}
 use Rattle.vl_tree.proofs.ModulesExact.{source-exact}
-use Rattle.vl_parse.proofs.Behind.{failed_at}
+use Rattle.vl_parse.proofs.Failed.{failed_at}
 use Rattle.vl_parse.proofs.parsing.parse.Goals as goal
 
 pub returns-in-Ok-clause-found : goal.returns-in-Ok-clause-found

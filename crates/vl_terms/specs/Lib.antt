@@ -1,0 +1,4 @@
+-- The modules of this folder.
+pub mod Bits
+pub mod Bytes
+pub mod Lists
