@@ -11,12 +11,12 @@ ghost use Rattle.vl_tree.specs.Seen.{view_head, view_head_port, view_module, vie
 
 use crate::declarations::{direction, direction_stands, optional_net_type};
 use crate::items::{item, item_stands};
-use vl_terms::lists::{ListPart, many};
-use vl_terms::names::{names, optional_range};
-use vl_terms::tokens::{is_mark, is_name, mark, name, place_at, token_at, word};
 use grammar::ReadFault;
 use sg_text::{Keyword, Place};
 use std::alloc::Global;
+use vl_terms::lists::{ListPart, many};
+use vl_terms::names::{names, optional_range};
+use vl_terms::tokens::{is_mark, is_name, mark, name, place_at, token_at, word};
 use vl_token::{Mark, Symbol, Token, TokenKind};
 use vl_tree::{Head, HeadPort, Item, Module, PortDeclaration};
 
