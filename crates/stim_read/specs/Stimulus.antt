@@ -1,4 +1,4 @@
--- A stimulus: what is applied to the inputs of a circuit (profile).
+-- A stimulus: what is applied to the inputs of a circuit.
 use Rattle.std.specs.Prelude.{ℕ, ◌==◌, if◌then◌else◌, List, [], ◌∷◌}
 use Rattle.sg_logic.specs.declared.values.Value.{Value}
 

@@ -1,4 +1,4 @@
--- The text of a report (profile; the timing checks' violations as in IEEE 1364-2005, 15).
+-- The text of a report (its form is this project's; the timing checks' violations as in IEEE 1364-2005, 15).
 use Rattle.std.specs.Prelude.{ℕ, ℤ, zero, suc, max, List, [], ◌++◌, length, Option, Some, None, codes, decimal, flat_map, ◌==◌, if◌then◌else◌, slice_index_or}
 use Rattle.std.specs.Fmt.{signed_decimal}
 use Rattle.sg_model.specs.Machine.{Violation}

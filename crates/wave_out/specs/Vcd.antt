@@ -1,4 +1,4 @@
--- The text of a value change dump (IEEE 1364-2005, 18.2), with vector values written in all their bits (profile).
+-- The text of a value change dump (IEEE 1364-2005, 18.2), with vector values written in all their bits, where the standard writes the shortest form.
 use Rattle.std.specs.Prelude.{ℕ, ℤ, pos, ◌-ℤ◌, nat_abs, zero, suc, ◌+◌, ◌-◌, ◌/◌, ◌%◌, ◌==◌, nat_lt, List, [], ◌∷◌, ◌++◌, Bool, Option, Some, None, length, map, codes, decimal, if◌then◌else◌}
 use Rattle.std.specs.Fmt.{signed_decimal}
 use Rattle.std.specs.List.{list_any}
