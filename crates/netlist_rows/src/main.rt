@@ -10,10 +10,7 @@ use vl_parse::{ParseKind, parse};
 use vl_token::Token;
 use vl_tree::{Source, print};
 
-fn refusal(
-    alloc: Global,
-    refused: Refused<ParseKind<'_>>,
-) -> Result<String, AllocError> {
+fn refusal(alloc: Global, refused: Refused<ParseKind<'_>>) -> Result<String, AllocError> {
     match refused {
         Refused::NoMemory => Err(AllocError),
         Refused::Fault {

@@ -12,11 +12,11 @@ ghost use Rattle.vl_tree.specs.Kinds.{kind_of, is_symbol};
 ghost use Rattle.vl_tree.specs.Rules as rules;
 ghost use Rattle.vl_tree.specs.Seen.{view_connections, view_expression, view_instance, view_named_connection};
 
+use grammar::ReadFault;
+use std::alloc::Global;
 use vl_terms::expressions::{expression, expression_stands, optional_expression};
 use vl_terms::lists::{ListPart, listed, many_behind};
 use vl_terms::tokens::{is_mark, is_name, mark, name, optional_name, place_at};
-use grammar::ReadFault;
-use std::alloc::Global;
 use vl_token::{Symbol, Token};
 use vl_tree::{Connections, Expression, Instance, NamedConnection};
 
@@ -178,5 +178,12 @@ pub fn instance<'a>(
         Some(connections) => connections,
         None => Connections::Ordered(Vec::new(alloc)),
     };
-    Ok((Instance { place, name, connections }, next))
+    Ok((
+        Instance {
+            place,
+            name,
+            connections,
+        },
+        next,
+    ))
 }

@@ -8,9 +8,9 @@ ghost use Rattle.vl_tree.specs.Items.{direction_starts, net_type_starts, supply_
 ghost use Rattle.vl_tree.specs.Kinds.{kind_of};
 ghost use Rattle.vl_tree.specs.Rules as rules;
 
-use vl_terms::tokens::{is_word, word};
 use grammar::ReadFault;
 use sg_text::Keyword;
+use vl_terms::tokens::{is_word, word};
 use vl_token::Token;
 use vl_tree::{Direction, NetType, Supply};
 

@@ -7,10 +7,10 @@ ghost use Rattle.vl_tree.specs.Items as items;
 ghost use Rattle.vl_tree.specs.Items.{gate_starts};
 ghost use Rattle.vl_tree.specs.Kinds.{kind_of};
 
-use vl_terms::tokens::is_word;
 use grammar::ReadFault;
 use sg_logic::GateKind;
 use sg_text::Keyword;
+use vl_terms::tokens::is_word;
 use vl_token::Token;
 
 /// Whether a gate stands there.

@@ -12,11 +12,11 @@ ghost use Rattle.vl_tree.specs.Rules as rules;
 ghost use Rattle.vl_tree.specs.Seen.{view_expression, view_gate_instance, view_join, view_net_name};
 
 use crate::connections::instance;
+use grammar::ReadFault;
+use std::alloc::Global;
 use vl_terms::expressions::{expression, expression_stands, expressions};
 use vl_terms::lists::ListPart;
 use vl_terms::tokens::{is_mark, is_name, mark, name, optional_name, place_at};
-use grammar::ReadFault;
-use std::alloc::Global;
 use vl_token::{Symbol, Token};
 use vl_tree::{Expression, GateInstance, Instance, Join, NetName};
 
@@ -52,11 +52,7 @@ fn net_name<'a>(
 
 /// `expression "=" expression`
 #[tactic(auto, unfolding(vl_tree::specs::Items::join_parts))]
-fn join<'a>(
-    alloc: Global,
-    tokens: &[Token<'a>],
-    at: usize,
-) -> Result<(Join<'a>, usize), ReadFault>
+fn join<'a>(alloc: Global, tokens: &[Token<'a>], at: usize) -> Result<(Join<'a>, usize), ReadFault>
     ensures { Gives (λ x. (view_join x.0, x.1)) result (items.join.read (map lexeme tokens.now) at) }
 {
     let (left, next) = expression(alloc, tokens, at)?;

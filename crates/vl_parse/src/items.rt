@@ -13,15 +13,15 @@ use crate::declarations::{
     direction, direction_stands, net_type, net_type_stands, optional_net_type, supply,
     supply_stands,
 };
-use vl_terms::delays::optional_delay;
 use crate::gates::{gate, gate_stands};
 use crate::item_parts::{GateInstancePart, InstancePart, JoinPart, NetNamePart};
-use vl_terms::lists::listed;
-use vl_terms::names::{names, optional_range};
-use vl_terms::tokens::{is_name, is_word, mark, name, place_at, word};
 use grammar::ReadFault;
 use sg_text::Keyword;
 use std::alloc::Global;
+use vl_terms::delays::optional_delay;
+use vl_terms::lists::listed;
+use vl_terms::names::{names, optional_range};
+use vl_terms::tokens::{is_name, is_word, mark, name, place_at, word};
 use vl_token::{Symbol, Token};
 use vl_tree::Item;
 

@@ -11,12 +11,12 @@ ghost use Rattle.vl_tree.specs.Seen.{view_head, view_head_port, view_module, vie
 
 use crate::declarations::{direction, direction_stands, optional_net_type};
 use crate::items::{item, item_stands};
-use vl_terms::lists::{ListPart, many};
-use vl_terms::names::{names, optional_range};
-use vl_terms::tokens::{is_mark, is_name, mark, name, place_at, token_at, word};
 use grammar::ReadFault;
 use sg_text::{Keyword, Place};
 use std::alloc::Global;
+use vl_terms::lists::{ListPart, many};
+use vl_terms::names::{names, optional_range};
+use vl_terms::tokens::{is_mark, is_name, mark, name, place_at, token_at, word};
 use vl_token::{Mark, Symbol, Token, TokenKind};
 use vl_tree::{Head, HeadPort, Item, Module, PortDeclaration};
 
@@ -91,11 +91,7 @@ impl<'a> ListPart<'a> for HeadPortPart {
 
 /// `names | port-declaration { "," head-port }`
 #[tactic(auto, using(vl_tree::proofs::Lists::comma_head_port), unfolding(vl_tree::specs::Modules::head_parts))]
-fn head<'a>(
-    alloc: Global,
-    tokens: &[Token<'a>],
-    at: usize,
-) -> Result<(Head<'a>, usize), ReadFault>
+fn head<'a>(alloc: Global, tokens: &[Token<'a>], at: usize) -> Result<(Head<'a>, usize), ReadFault>
     ensures { Gives (λ x. (view_head x.0, x.1)) result (modules.head.read (map lexeme tokens.now) at) }
 {
     if is_name(tokens, at) {

@@ -8,13 +8,13 @@ ghost use Rattle.vl_tree.specs.Seen.{view_part, view_source};
 ghost use Rattle.vl_tree.specs.Tree.{Source as SourceSeen};
 ghost use Rattle.vl_parse.specs.Parsed.{IsTree, RefusalStands, fault_kind, fault_place, kind_seen, keyword_left_out};
 
-use vl_terms::lists::{ListPart, many};
 use crate::modules::{is_module, module};
-use vl_terms::primitives::primitive;
-use vl_terms::tokens::{is_word, token_at};
 use grammar::ReadFault;
 use sg_text::{Keyword, Place, Refused};
 use std::alloc::Global;
+use vl_terms::lists::{ListPart, many};
+use vl_terms::primitives::primitive;
+use vl_terms::tokens::{is_word, token_at};
 use vl_token::{Token, TokenKind};
 use vl_tree::{Part, Source};
 
@@ -29,11 +29,7 @@ pub enum ParseKind<'a> {
 
 /// `module | primitive`
 #[tactic(auto, unfolding(vl_tree::specs::Modules::part_parts))]
-fn part<'a>(
-    alloc: Global,
-    tokens: &[Token<'a>],
-    at: usize,
-) -> Result<(Part<'a>, usize), ReadFault>
+fn part<'a>(alloc: Global, tokens: &[Token<'a>], at: usize) -> Result<(Part<'a>, usize), ReadFault>
     ensures { Gives (λ x. (view_part x.0, x.1)) result (modules.part.read (map lexeme tokens.now) at) }
 {
     if is_module(tokens, at) {

@@ -33,11 +33,7 @@ impl<'a> ListPart<'a> for NamePart {
         is_name(tokens, at)
     }
 
-    fn read(
-        _: Global,
-        tokens: &[Token<'a>],
-        at: usize,
-    ) -> Result<(Name<'a>, usize), ReadFault> {
+    fn read(_: Global, tokens: &[Token<'a>], at: usize) -> Result<(Name<'a>, usize), ReadFault> {
         name(tokens, at)
     }
 }
@@ -98,10 +94,7 @@ pub fn range(tokens: &[Token<'_>], at: usize) -> Result<(Range, usize), ReadFaul
 }
 
 /// `[ range ]`
-pub fn optional_range(
-    tokens: &[Token<'_>],
-    at: usize,
-) -> Result<(Option<Range>, usize), ReadFault>
+pub fn optional_range(tokens: &[Token<'_>], at: usize) -> Result<(Option<Range>, usize), ReadFault>
     ensures { Gives (λ x. x) result ((rules.optional expressions.range).read (map lexeme tokens.now) at) }
 {
     if !is_mark(tokens, at, Symbol::LeftBracket) {

@@ -147,11 +147,7 @@ impl<'a> ListPart<'a> for CellPart {
 
 /// `cell { cell }`
 #[tactic(auto, using(vl_tree::proofs::Lists::one_cell), unfolding(vl_tree::specs::Primitives::cells_parts))]
-fn cells(
-    alloc: Global,
-    tokens: &[Token<'_>],
-    at: usize,
-) -> Result<(Vec<Cell>, usize), ReadFault>
+fn cells(alloc: Global, tokens: &[Token<'_>], at: usize) -> Result<(Vec<Cell>, usize), ReadFault>
     ensures { Gives (λ x. (x.0.items, x.1)) result (primitives.cells.read (map lexeme tokens.now) at) }
 {
     let (first, next) = cell(tokens, at)?;
@@ -210,11 +206,7 @@ impl<'a> ListPart<'a> for RowPart {
         cell_stands(tokens, at)
     }
 
-    fn read(
-        alloc: Global,
-        tokens: &[Token<'a>],
-        at: usize,
-    ) -> Result<(RawRow, usize), ReadFault> {
+    fn read(alloc: Global, tokens: &[Token<'a>], at: usize) -> Result<(RawRow, usize), ReadFault> {
         row(alloc, tokens, at)
     }
 }
