@@ -13,3 +13,4 @@ pub mod PrimitivesPrinted
 pub mod ModulesPrinted
 pub mod PutLeft
 pub mod WholePrinted
+mod Examples
