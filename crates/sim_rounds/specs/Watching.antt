@@ -1,6 +1,7 @@
 -- The calls that a watcher of a run gets, and what it and a shelf stand for.
-use Rattle.std.specs.Prelude.{◌≡◌, ℕ, true, false, List, [], ◌∷◌, ◌++◌, All, map}
+use Rattle.std.specs.Prelude.{◌≡◌, ℕ, pos, true, false, List, [], ◌∷◌, ◌++◌, All, map}
 use Rattle.sg_logic.specs.declared.values.Value.{Value}
+use Rattle.sg_circuit.specs.Circuit.{Circuit}
 use Rattle.sg_model.specs.Values.{are_same, value_at}
 use Rattle.sg_model.specs.Machine.{Snapshot}
 use Rattle.sim_rounds.specs.Lists.{IsListOf}
@@ -37,6 +38,10 @@ pub data AreCalls (first : List Value) : List Snapshot → List Call → Type 0 
   at_zero : (s : Snapshot) (call : Call) → IsCall first s call → AreCalls first (s ∷ []) (call ∷ [])
   same_again : (s t : Snapshot) (older : List Snapshot) (calls : List Call) → are_same s.values t.values ≡ true → AreCalls first (t ∷ older) calls → AreCalls first (s ∷ t ∷ older) calls
   one_more : (s t : Snapshot) (older : List Snapshot) (calls : List Call) (call : Call) → are_same s.values t.values ≡ false → AreCalls first (t ∷ older) calls → IsCall t.values s call → AreCalls first (s ∷ t ∷ older) (calls ++ call ∷ [])
+
+-- a circuit of nothing
+abbrev pub no_circuit : Circuit
+no_circuit = record { tick = pos 0; nets = []; elements = []; checks = []; scopes = [] }
 
 -- the last call, at the end, says that nothing changed
 abbrev pub end_call : ℕ → List Value → Call

@@ -153,7 +153,7 @@ fn tell<S: Shelf, W: Watch<S>>(
     changed: &[Change],
     values: &[Value],
 ) -> Result<(), SimEnd>
-    requires nets { W.net_count watcher.old ≤ length values.now }
+    requires nets { length (W.circuit watcher.old).nets ≤ length values.now }
     requires changed { All (λ c. c.net < length values.now) changed.now }
     ensures ok { OnOk result (Got W.stands watcher.old watcher.new shelf.old shelf.new (call_of time changed.now values.now ∷ [])) }
     ensures err { OnErr result (Broke W.stands W.broken watcher.old watcher.new shelf.old shelf.new (call_of time changed.now values.now ∷ [])) }
@@ -161,7 +161,7 @@ fn tell<S: Shelf, W: Watch<S>>(
     ensures cause { CauseOfEnd (S.fault_count shelf.old) (S.fault_count shelf.new) result }
     ensures named { NamesFaultOfEnd (W.name watcher.old) (S.last_fault shelf.old) (S.last_fault shelf.new) result }
     ensures name { W.name watcher.new ≡ W.name watcher.old }
-    ensures net_count { W.net_count watcher.new ≡ W.net_count watcher.old }
+    ensures circuit { W.circuit watcher.new ≡ W.circuit watcher.old }
     ensures kept { (a b : S) → W.keeps watcher.old a b → W.keeps watcher.new a b }
     ensures kept_back { (a b : S) → W.keeps watcher.new a b → W.keeps watcher.old a b }
     ensures keeps { W.keeps watcher.old shelf.old shelf.new }
@@ -181,7 +181,7 @@ fn tell_time<S: Shelf, W: Watch<S>>(
     changed: &[Change],
     values: &[Value],
 ) -> Result<(), SimEnd>
-    requires nets { W.net_count watcher.old ≤ length values.now }
+    requires nets { length (W.circuit watcher.old).nets ≤ length values.now }
     requires changed { All (λ c. c.net < length values.now) changed.now }
     ensures ok { OnOk result (Got W.stands watcher.old watcher.new shelf.old shelf.new (calls_at now changed.now values.now)) }
     ensures err { OnErr result (Broke W.stands W.broken watcher.old watcher.new shelf.old shelf.new (calls_at now changed.now values.now)) }
@@ -189,7 +189,7 @@ fn tell_time<S: Shelf, W: Watch<S>>(
     ensures cause { CauseOfEnd (S.fault_count shelf.old) (S.fault_count shelf.new) result }
     ensures named { NamesFaultOfEnd (W.name watcher.old) (S.last_fault shelf.old) (S.last_fault shelf.new) result }
     ensures name { W.name watcher.new ≡ W.name watcher.old }
-    ensures net_count { W.net_count watcher.new ≡ W.net_count watcher.old }
+    ensures circuit { W.circuit watcher.new ≡ W.circuit watcher.old }
     ensures kept { (a b : S) → W.keeps watcher.old a b → W.keeps watcher.new a b }
     ensures kept_back { (a b : S) → W.keeps watcher.new a b → W.keeps watcher.old a b }
     ensures keeps { W.keeps watcher.old shelf.old shelf.new }
@@ -215,13 +215,13 @@ pub fn make_times<S: Shelf, W: Watch<S>, L: Ledger, T: Times<L>>(
     requires law { IsLawful (T.machine times.old) }
     requires told { (T.kept times.old).told ≡ T.values times.old }
     requires last { (T.kept times.old).last ≡ 0 }
-    requires nets { W.net_count watcher.old ≤ length (T.values times.old) }
+    requires nets { length (W.circuit watcher.old).nets ≤ length (T.values times.old) }
     ensures ended { RunMade (T.machine times.old) (T.sets times.old) bound end (T.stands times.old) (T.values times.old) W.stands W.broken watcher.old watcher.new shelf.old shelf.new (T.kept times.new) (T.counted times.new) (steps.new - steps.old) result }
     ensures steps { steps.old ≤ steps.new }
     ensures cause { CauseOfEnd (S.fault_count shelf.old) (S.fault_count shelf.new) result }
     ensures named { NamesFaultOfEnd (W.name watcher.old) (S.last_fault shelf.old) (S.last_fault shelf.new) result }
     ensures name { W.name watcher.new ≡ W.name watcher.old }
-    ensures net_count { W.net_count watcher.new ≡ W.net_count watcher.old }
+    ensures circuit { W.circuit watcher.new ≡ W.circuit watcher.old }
     ensures keeps { W.keeps watcher.old shelf.old shelf.new }
 {
     let mut now = 0;

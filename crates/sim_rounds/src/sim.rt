@@ -173,7 +173,7 @@ impl<'a, A: Agenda + Drop> Sim<'a, A> {
         steps: &mut Steps<L>,
     ) -> Finished
         requires rounds { 0 < rounds }
-        requires nets { W.net_count watcher.old ≤ length self.circuit.now.nets }
+        requires nets { length (W.circuit watcher.old).nets ≤ length self.circuit.now.nets }
         requires stimulus { IsApplied self.circuit.now (stimulus_seen stimulus.now) }
         ensures ended { HasEnded W.stands W.broken watcher.old watcher.new shelf.old shelf.new (setting_of self.entry.circuit.now (stimulus_seen stimulus.now) rounds)
             (map (λ v. violation_seen v) result.tally.violations.items) result.tally.last (steps.new - steps.old) result.end }
@@ -182,7 +182,7 @@ impl<'a, A: Agenda + Drop> Sim<'a, A> {
         ensures cause { CauseOfEnd (S.fault_count shelf.old) (S.fault_count shelf.new) result.end }
         ensures named { NamesFaultOfEnd (W.name watcher.old) (S.last_fault shelf.old) (S.last_fault shelf.new) result.end }
         ensures name { W.name watcher.new ≡ W.name watcher.old }
-        ensures net_count { W.net_count watcher.new ≡ W.net_count watcher.old }
+        ensures circuit { W.circuit watcher.new ≡ W.circuit watcher.old }
         ensures keeps { W.keeps watcher.old shelf.old shelf.new }
     {
         recall_closed(self.circuit);

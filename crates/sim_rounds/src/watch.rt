@@ -1,5 +1,6 @@
 // Who is told of the times of a run.
 ghost use Rattle.std.specs.Prelude.{◌≡◌, ℕ, ◌<◌, ◌≤◌, All, List, [], ◌∷◌, ◌++◌, OnErr, OnOk, length};
+ghost use Rattle.sg_circuit.specs.Circuit.{Circuit};
 ghost use Rattle.sg_io.specs.Faults.{Cause, NamesFault};
 ghost use Rattle.sim_rounds.specs.Watching.{Call, call_of};
 
@@ -15,8 +16,8 @@ pub trait Watch<S: Shelf> {
     /// Its name, which is that of the file that it writes.
     ghost name: { Self → List ℕ };
 
-    /// The number of nets that it knows.
-    ghost net_count: { Self → ℕ };
+    /// The circuit of whose run it is told.
+    ghost circuit: { Self → Circuit };
 
     /// It and the shelf stand for this list of calls.
     ghost stands: { Self → S → List Call → Type 0 };
@@ -37,14 +38,14 @@ pub trait Watch<S: Shelf> {
         changed: &[Change],
         nets: &N,
     ) -> Result<(), ShelfError>
-        requires nets { net_count self.old ≤ length (N.values nets.now) }
+        requires nets { length (circuit self.old).nets ≤ length (N.values nets.now) }
         requires changed { All (λ c. c.net < length (N.values nets.now)) changed.now }
         ensures ok { OnOk result ((calls : List Call) → stands self.old shelf.old calls → stands self.new shelf.new (calls ++ call_of time changed.now (N.values nets.now) ∷ [])) }
         ensures err { OnErr result ((calls : List Call) → stands self.old shelf.old calls → broken self.new shelf.new (calls ++ call_of time changed.now (N.values nets.now) ∷ [])) }
         ensures cause { Cause (S.fault_count shelf.old) (S.fault_count shelf.new) result }
         ensures named { NamesFault (name self.old) (S.last_fault shelf.old) (S.last_fault shelf.new) result }
         ensures name { name self.new ≡ name self.old }
-        ensures net_count { net_count self.new ≡ net_count self.old }
+        ensures circuit { circuit self.new ≡ circuit self.old }
         ensures kept { (a b : S) → keeps self.old a b → keeps self.new a b }
         ensures kept_back { (a b : S) → keeps self.new a b → keeps self.old a b }
         ensures keeps { keeps self.old shelf.old shelf.new };
@@ -63,10 +64,11 @@ pub struct Quiet;
 impl<S: Shelf> Watch<S> for Quiet {
     ghost use Rattle.std.specs.Prelude.{◌≡◌, [], refl};
     ghost use Rattle.std.proofs.Common.{◌∙◌};
+    ghost use Rattle.sim_rounds.specs.Watching.{no_circuit};
 
     ghost name = { λ w. [] };
 
-    ghost net_count = { λ w. 0 };
+    ghost circuit = { λ w. no_circuit };
 
     ghost stands = { λ w s calls. Unit {0} };
 

@@ -1,7 +1,7 @@
 -- Small worked examples of the texts.
 use Rattle.std.specs.Prelude.{◌≡◌, pos, negsuc, [], ◌∷◌, ◌++◌, true, false, Some, None, codes, refl}
 use Rattle.std.specs.Fmt.{digits}
-use Rattle.sg_text.specs.Words.{reserved_words}
+use Rattle.sg_text.specs.Words.{reserved_rows, reserved_words}
 use Rattle.sg_logic.specs.declared.values.Value.TheVariants.{Zero, One, X, Z}
 use Rattle.wave_out.specs.Texts.{line, written_name}
 use Rattle.wave_out.specs.Vcd.{code, tick_text, value_text, header}
@@ -51,11 +51,11 @@ tick_1fs = refl
 
 -- names: simple, reserved, and none of both
 pub simple_name : written_name (codes "a_1$") ≡ codes "a_1$"
-unfolding reserved_words
+unfolding reserved_words reserved_rows
 simple_name = refl
 
 pub reserved_name : written_name (codes "wire") ≡ codes "\\wire"
-unfolding reserved_words
+unfolding reserved_words reserved_rows
 reserved_name = refl
 
 pub other_name : written_name (codes "a+b") ≡ codes "\\a+b"
@@ -70,12 +70,12 @@ four_bits = refl
 
 -- scopes in scopes: variables first, then the child scopes in order
 pub header_of_nested : header nested ≡ nested_header
-unfolding header code digits reserved_words
+unfolding header code digits reserved_words reserved_rows
 header_of_nested = refl
 
 -- the calls of a run, with an end
 pub dump_of_nested : text_after nested nested_calls ≡ nested_dump
-unfolding header code digits reserved_words
+unfolding header code digits reserved_words reserved_rows
 dump_of_nested = refl
 
 -- a report with an unmatched entry and two violations

@@ -70,13 +70,12 @@ impl<'a> VcdWriter<'a> {
 }
 
 impl<S: Shelf> Watch<S> for VcdWriter<'_> {
-    ghost use Rattle.std.specs.Prelude.{length};
     ghost use Rattle.wave_out.specs.Files.{FileBegins, KeepsOthers, others_same, others_then};
     ghost use Rattle.wave_out.specs.Writing.{AreTruthful, Holds, text_after};
 
     ghost name = { λ w. w.name };
 
-    ghost net_count = { λ w. length w.circuit.nets };
+    ghost circuit = { λ w. w.circuit };
 
     ghost stands = { λ w s calls. AreTruthful calls → Holds w (S.files s) calls };
 

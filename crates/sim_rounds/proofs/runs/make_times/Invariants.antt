@@ -18,7 +18,7 @@ invariant-loop-now g l =
       told : length (t.kept l.times).told ≡ length (t.values l.times);
       nets : length (t.values l.times) ≡ length (t.values l.fn.times);
       name : w.name l.watcher ≡ w.name l.fn.watcher;
-      net_count : w.net_count l.watcher ≡ w.net_count l.fn.watcher;
+      circuit : w.circuit l.watcher ≡ w.circuit l.fn.watcher;
       count : s.fault_count l.shelf ≡ s.fault_count l.fn.shelf;
       fault : s.last_fault l.shelf ≡ s.last_fault l.fn.shelf;
       keeps : w.keeps l.fn.watcher l.fn.shelf l.shelf;
