@@ -11,9 +11,10 @@ use sg_logic::Value;
 use sg_steps::Steps;
 use sg_text::{NoMemory, Text};
 use sg_time::{Scale, Unit};
-use sim_rounds::{Sim, SimEnd};
+use sim_rounds::{Finished, Sim, SimEnd};
 use smallvec::SmallVec;
 use std::alloc::{AllocError, Global};
+use std::marker::Brand;
 use std::sync::ledger::{Blank, Ledger};
 use stim_read::{Set, StimStep, Stimulus};
 
@@ -126,13 +127,8 @@ impl Case<'_> {
         })
     }
 
-    /// Adds the lines of its run to a text.
-    pub fn show<L: Ledger>(
-        &self,
-        alloc: Global,
-        out: &mut String,
-        blank: Blank,
-    ) -> anyhow::Result<()>
+    // Its run, and the lines of the calls.
+    fn run<L: Ledger>(&self, alloc: Global, blank: Blank) -> anyhow::Result<(Finished, String)>
         requires name { blank.name ≡ L.name }
         requires parts { blank.parts ≡ L.parts }
         requires some { 0 < blank.parts }
@@ -151,8 +147,13 @@ impl Case<'_> {
             text: String::new(alloc),
         };
         let finished = sim.run(&stimulus, ROUNDS, &mut shelf, &mut lines, &mut steps);
+        Ok((finished, lines.text))
+    }
+
+    /// Adds the lines of its run to a text.
+    pub fn show(&self, alloc: Global, out: &mut String) -> anyhow::Result<()> {
+        let (finished, text) = self.run::<Brand>(alloc, Blank::new(1))?;
         let title = self.title;
-        let text = lines.text;
         let evaluations = finished.tally.evaluations;
         let last = finished.tally.last;
         write!(out, "{title}\n{text}")?;

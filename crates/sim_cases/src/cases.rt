@@ -5,8 +5,6 @@ use sg_delay::{Limit, Limits12, Widths, expand};
 use sg_logic::GateKind;
 use sg_logic::Value::{self, One, X, Zero};
 use std::alloc::Global;
-use std::marker::Brand;
-use std::sync::ledger::Blank;
 
 const LEG: ElementKind = ElementKind::Leg { timing: 0 };
 
@@ -39,7 +37,7 @@ fn leg(
         sets,
         end,
     };
-    case.show::<Brand>(alloc, out, Blank::new(1))
+    case.show(alloc, out)
 }
 
 // From x to 0 a leg takes the greater of its delays to 0, from 1 and from z: 9 with (7, 9), and 3 with (9, 3).
@@ -106,7 +104,7 @@ fn oscillator(alloc: Global, out: &mut String) -> anyhow::Result<()> {
         sets: &[(0, Zero), (10, One)],
         end: 20,
     };
-    case.show::<Brand>(alloc, out, Blank::new(1))
+    case.show(alloc, out)
 }
 
 // Leg b of a (2, 3), not #(1, 2) c of b, leg y of c 4. From 0: b at 3, c at 3 + 1, y at 4 + 4. From 20: b at 20 + 2, c
@@ -128,7 +126,7 @@ fn chain(alloc: Global, out: &mut String) -> anyhow::Result<()> {
         sets: &[(0, Zero), (20, One)],
         end: 60,
     };
-    case.show::<Brand>(alloc, out, Blank::new(1))
+    case.show(alloc, out)
 }
 
 // not (y, a) and and (w, a, y) without delay. At 0 the first round evaluates both, which go to 1 and 0; y wakes w, which
@@ -146,7 +144,7 @@ fn glitch(alloc: Global, out: &mut String) -> anyhow::Result<()> {
         sets: &[(0, Zero), (10, One)],
         end: 20,
     };
-    case.show::<Brand>(alloc, out, Blank::new(1))
+    case.show(alloc, out)
 }
 
 // not #(1, 2) (y, a). What is set at 10 is there already, so nothing is evaluated and nobody told. The output goes to 1
@@ -160,5 +158,5 @@ fn same_again(alloc: Global, out: &mut String) -> anyhow::Result<()> {
         sets: &[(0, Zero), (10, Zero), (15, One), (20, X)],
         end: 30,
     };
-    case.show::<Brand>(alloc, out, Blank::new(1))
+    case.show(alloc, out)
 }
