@@ -66,20 +66,20 @@ impl Case<'_> {
     fn nets(&self, alloc: Global) -> Result<Vec<Net>, NoMemory> {
         let mut nets = Vec::new(alloc);
         let mut driver = Driver::Stimulus;
-        for (number, name) in self.names.iter().enumerate() {
+        for (name, number) in self.names.iter().zip(0..u32::MAX) {
             nets.push(net(alloc, name, driver)?)?;
-            driver = Driver::Element(number as u32);
+            driver = Driver::Element(number);
         }
         Ok(nets)
     }
 
     fn elements(&self, alloc: Global) -> Result<Vec<Element>, NoMemory> {
         let mut elements = Vec::new(alloc);
-        for (number, (kind, inputs)) in self.elements.iter().enumerate() {
+        for ((kind, inputs), output) in self.elements.iter().zip(1..u32::MAX) {
             elements.push(Element {
                 scope: 0,
                 inputs: SmallVec::from_slice(alloc, inputs)?,
-                output: number as u32 + 1,
+                output,
                 kind: *kind,
             })?;
         }
