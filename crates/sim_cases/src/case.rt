@@ -1,0 +1,177 @@
+// A small circuit with one input, what is applied to it, and its run.
+ghost use Rattle.std.specs.Prelude.{◌≡◌, ◌<◌};
+
+use crate::lines::Lines;
+use anyhow::Context;
+use pulse_list::PlainAgenda;
+use sg_circuit::{Circuit, Driver, Element, ElementKind, LegTiming, Net, Parts, Scope};
+use sg_delay::GateDelays;
+use sg_io::MemoryShelf;
+use sg_logic::Value;
+use sg_steps::Steps;
+use sg_text::{NoMemory, Text};
+use sg_time::{Scale, Unit};
+use sim_rounds::{Finished, Sim, SimEnd};
+use smallvec::SmallVec;
+use std::alloc::{AllocError, Global};
+use std::marker::Brand;
+use std::sync::ledger::{Blank, Ledger};
+use stim_read::{Set, StimStep, Stimulus};
+
+const NS: Unit = Unit { power: -9 };
+
+const SCALE: Scale = Scale {
+    unit: NS,
+    precision: NS,
+};
+
+/// No time needs more rounds than these, where it ends.
+const ROUNDS: u32 = 10;
+
+/// A circuit, and what is applied to it.
+#[derive(Drop)]
+pub struct Case<'a> {
+    pub title: &'a str,
+    /// The names of the nets: of the input, and of what each element drives.
+    pub names: &'a [&'a str],
+    /// Each with the nets that it reads.
+    pub elements: &'a [(ElementKind, &'a [u32])],
+    pub timings: &'a [LegTiming],
+    /// The input's values, by time.
+    pub sets: &'a [(u64, Value)],
+    pub end: u64,
+}
+
+fn net(alloc: Global, name: &str, driver: Driver) -> Result<Net, NoMemory> {
+    Ok(Net {
+        scope: 0,
+        name: Text::copy(alloc, name.as_bytes())?,
+        bit: None,
+        driver,
+    })
+}
+
+fn top(alloc: Global) -> Result<Scope, NoMemory> {
+    Ok(Scope {
+        parent: None,
+        name: Text::copy(alloc, b"t")?,
+        module: Text::copy(alloc, b"t")?,
+        scale: SCALE,
+        leaf: false,
+        variables: Vec::new(alloc),
+    })
+}
+
+impl Case<'_> {
+    fn nets(&self, alloc: Global) -> Result<Vec<Net>, NoMemory> {
+        let mut nets = Vec::new(alloc);
+        let mut driver = Driver::Stimulus;
+        for (name, number) in self.names.iter().zip(0..u32::MAX) {
+            nets.push(net(alloc, name, driver)?)?;
+            driver = Driver::Element(number);
+        }
+        Ok(nets)
+    }
+
+    fn elements(&self, alloc: Global) -> Result<Vec<Element>, NoMemory> {
+        let mut elements = Vec::new(alloc);
+        for ((kind, inputs), output) in self.elements.iter().zip(1..u32::MAX) {
+            elements.push(Element {
+                scope: 0,
+                inputs: SmallVec::from_slice(alloc, inputs)?,
+                output,
+                kind: *kind,
+            })?;
+        }
+        Ok(elements)
+    }
+
+    // Gates have no delay, or rise in 1 tick and fall in 2.
+    fn parts(&self, alloc: Global) -> Result<Parts, NoMemory> {
+        Ok(Parts {
+            tick: NS,
+            nets: self.nets(alloc)?,
+            elements: self.elements(alloc)?,
+            gate_delays: vec![in alloc;
+                GateDelays {
+                    count: 0,
+                    at: [0, 0, 0]
+                },
+                GateDelays {
+                    count: 2,
+                    at: [1, 2, 0]
+                },
+            ]?,
+            leg_timings: Vec::from_slice(alloc, self.timings)?,
+            udps: Vec::new(alloc),
+            checks: Vec::new(alloc),
+            scopes: vec![in alloc; top(alloc)?]?,
+        })
+    }
+
+    fn stimulus(&self, alloc: Global) -> Result<Stimulus, AllocError> {
+        let mut steps = Vec::new(alloc);
+        for (time, value) in self.sets {
+            let set = Set {
+                net: 0,
+                value: *value,
+            };
+            steps.push(StimStep {
+                time: *time,
+                sets: vec![in alloc; set]?,
+            })?;
+        }
+        Ok(Stimulus {
+            steps,
+            end: self.end,
+        })
+    }
+
+    // Its run, and the lines of the calls.
+    fn run<L: Ledger>(&self, alloc: Global, blank: Blank) -> anyhow::Result<(Finished, String)>
+        requires name { blank.name ≡ L.name }
+        requires parts { blank.parts ≡ L.parts }
+        requires some { 0 < blank.parts }
+    {
+        let circuit = Circuit::try_close(self.parts(alloc)?).context("no circuit")?;
+        let stimulus = self.stimulus(alloc)?;
+        if !stimulus.fits(&circuit) {
+            anyhow::bail!("no stimulus of the circuit");
+        }
+        let agenda = PlainAgenda::new(alloc, circuit.parts().elements.len() as u32)?;
+        let sim = Sim::new(alloc, &circuit, agenda)?;
+        let mut steps = Steps::<L>::new(blank);
+        let mut shelf = MemoryShelf::new(alloc);
+        let mut lines = Lines {
+            names: self.names,
+            text: String::new(alloc),
+        };
+        let finished = sim.run(&stimulus, ROUNDS, &mut shelf, &mut lines, &mut steps);
+        Ok((finished, lines.text))
+    }
+
+    /// Adds the lines of its run to a text.
+    pub fn show(&self, alloc: Global, out: &mut String) -> anyhow::Result<()> {
+        let (finished, text) = self.run::<Brand>(alloc, Blank::new(1))?;
+        let title = self.title;
+        let evaluations = finished.tally.evaluations;
+        let last = finished.tally.last;
+        write!(out, "{title}\n{text}")?;
+        self.show_end(out, finished.end)?;
+        write!(out, "evaluations {evaluations}, last {last}\n\n")?;
+        Ok(())
+    }
+
+    // A line where the run ended before its end.
+    fn show_end(&self, out: &mut String, end: Result<(), SimEnd>) -> anyhow::Result<()> {
+        match end {
+            Ok(()) => Ok(()),
+            Err(SimEnd::RoundsSpent { time, net }) => {
+                let name = *self.names.get(net as usize).context("no net")?;
+                writeln!(out, "rounds spent at {time} on {name}")?;
+                Ok(())
+            }
+            Err(SimEnd::WatchFailed | SimEnd::NoMemory) => anyhow::bail!("no end"),
+        }
+    }
+}

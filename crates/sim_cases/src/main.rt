@@ -1,0 +1,19 @@
+//! Simulates small circuits that are made by hand, and prints what a watcher is told of each: a line for each call, with
+//! the nets that changed, the value before and the value after. Then come the number of evaluations and the last time
+//! that changed a net. The reckoning of each stands with it.
+#![tactic(auto)]
+
+mod case;
+mod cases;
+mod lines;
+
+use crate::cases::{all_gates, all_legs};
+
+fn main(rt: HostRuntime) -> anyhow::Result<()> {
+    let alloc = rt.alloc();
+    let mut out = String::new(alloc);
+    all_legs(alloc, &mut out)?;
+    all_gates(alloc, &mut out)?;
+    print!(rt; "{out}")?;
+    Ok(())
+}
