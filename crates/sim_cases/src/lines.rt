@@ -40,10 +40,11 @@ impl Lines<'_> {
 impl<S: Shelf> Watch<S> for Lines<'_> {
     ghost use Rattle.std.specs.Prelude.{◌≡◌, [], refl};
     ghost use Rattle.std.proofs.Common.{◌∙◌};
+    ghost use Rattle.sim_rounds.specs.Watching.{no_circuit};
 
     ghost name = { λ w. [] };
 
-    ghost net_count = { λ w. 0 };
+    ghost circuit = { λ w. no_circuit };
 
     ghost stands = { λ w s calls. Unit {0} };
 
