@@ -7,7 +7,7 @@ use Rattle.circuit_model.specs.Texts.{line}
 use Rattle.signoff.specs.NetlistForm.{Name, Symbol, Inputs, Outputs, Gates, Module, module_spelled, circuit_of, are_distinct, are_plain}
 use Rattle.signoff.specs.StimulusForm.{Lines, lines_spelled, stimulus_of, ticks_of, is_number, sets_input}
 use Rattle.signoff.specs.WellFormed.{are_apart}
-use Rattle.sg_text.specs.Words.{reserved_words}
+use Rattle.sg_text.specs.Words.{reserved_rows, reserved_words}
 use Rattle.signoff.specs.Words.{command_of, default_rounds}
 
 -- module t (a, y); input a; output y; not (y, a); endmodule
@@ -38,7 +38,7 @@ not_apart : are_apart (1 ∷ 0 ∷ 1 ∷ []) ≡ false
 not_apart = refl
 
 reserved : are_plain (codes "a" ∷ codes "wire" ∷ []) ≡ false
-unfolding reserved_words
+unfolding reserved_words reserved_rows
 reserved = refl
 
 -- at 0 a=0, at 10 a=1, end 20
