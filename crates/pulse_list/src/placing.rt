@@ -1,7 +1,7 @@
 // The two rules by which a value is placed among the transitions that its driver has pending.
 ghost use Rattle.std.specs.Prelude.{◌≡◌, ◌+◌, ◌<◌, ◌≤◌, length, reverse, IsSomeAnd};
 ghost use Rattle.std.specs.Bool.{OnTrue, OnFalse};
-ghost use Rattle.sg_model.specs.Pending.{placed, inertial, put, error_pulse, rest_of, last_of, last_value, IsAbove};
+ghost use Rattle.sg_model.specs.Pending.{pending_after, inertial, put, error_pulse, rest_of, last_of, last_value, IsAbove};
 ghost use Rattle.sg_model.specs.Agenda.{list_at, with_list, NoneBelow};
 ghost use Rattle.pulse_list.specs.Seen.{style_seen};
 
@@ -137,7 +137,7 @@ pub fn place<A: Agenda>(
     requires from_now { NoneBelow now (reverse (list_at (A.lists agenda.old) driver)) }
     requires limits { reject ≤ error }
     ensures lists { A.lists agenda.new ≡ with_list (A.lists agenda.old) driver
-        (placed (list_at (A.lists agenda.old) driver) present now value time reject error (style_seen style)) }
+        (pending_after (list_at (A.lists agenda.old) driver) present now value time reject error (style_seen style)) }
     ensures spare { A.spare agenda.old ≤ A.spare agenda.new + 2 }
 {
     while let Some((last_time, last)) = agenda.last(driver) {

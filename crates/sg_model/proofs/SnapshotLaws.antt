@@ -5,7 +5,7 @@ use Rattle.std.proofs.lemmas.List.{append_assoc}
 use Rattle.std.proofs.lemmas.Bool.Decides.{nat_tests}
 use Rattle.sg_logic.specs.declared.values.Value.{Value}
 use Rattle.sg_model.specs.Machine.{Machine, Snapshot}
-use Rattle.sg_model.specs.Time.{Run, Ended, Whole, Spent, rounds, with_round, with_snapshot, time_of, needs_round, flips_of, is_empty, named}
+use Rattle.sg_model.specs.Time.{Run, Ended, Whole, Spent, rounds, with_round, with_snapshot, time_of, needs_round, flips_of, is_empty, spent_net}
 use Rattle.sg_model.specs.Run.{times_from, go_on, lasts, lasts_before}
 use Rattle.sg_model.specs.Quiet.{IsSeen, with_copies}
 
@@ -46,10 +46,10 @@ pub rounds-snapshots : (left : ℕ) (m : Machine) (now : ℕ) (must : Bool) (han
 unfolding rounds
 rounds-snapshots zero m now must handed r next e = at (needs_round now must handed r.state) (is_empty (flips_of m (with_snapshot m now r))) e
   where
-    at : (b c : Bool) → (if b then Spent (named m now handed r) r.evaluations else (if c then Whole (with_snapshot m now r) else Spent (named m now (flips_of m (with_snapshot m now r)) (with_snapshot m now r)) r.evaluations)) ≡ Whole next → AddsSnapshots now r next
-    at true c f = absurd (let k : Spent (named m now handed r) r.evaluations ≡ Whole next = f in cc)
+    at : (b c : Bool) → (if b then Spent (spent_net m now handed r) r.evaluations else (if c then Whole (with_snapshot m now r) else Spent (spent_net m now (flips_of m (with_snapshot m now r)) (with_snapshot m now r)) r.evaluations)) ≡ Whole next → AddsSnapshots now r next
+    at true c f = absurd (let k : Spent (spent_net m now handed r) r.evaluations ≡ Whole next = f in cc)
     at false true f = adds_one m now r next (let k : Whole (with_snapshot m now r) ≡ Whole next = f in cc)
-    at false false f = absurd (let k : Spent (named m now (flips_of m (with_snapshot m now r)) (with_snapshot m now r)) r.evaluations ≡ Whole next = f in cc)
+    at false false f = absurd (let k : Spent (spent_net m now (flips_of m (with_snapshot m now r)) (with_snapshot m now r)) r.evaluations ≡ Whole next = f in cc)
 rounds-snapshots (suc left) m now must handed r next e = at (needs_round now must handed r.state) (is_empty (flips_of m (with_snapshot m now r))) (λ handed r. rounds-snapshots left m now false handed r next) e
   where
     at : (b c : Bool) → ((handed : List (ℕ × Value)) (r : Run) → rounds left m now false handed r ≡ Whole next → AddsSnapshots now r next)

@@ -11,7 +11,7 @@ use Rattle.sg_model.specs.Pending.{IsPending}
 use Rattle.sg_model.specs.Agenda.{list_at}
 use Rattle.sg_model.specs.Machine.{Machine, State, IsNoOutput, AreOutputs}
 use Rattle.sg_model.specs.Round.{any_due, is_due, changed_by, due_changes, values_after, round}
-use Rattle.sg_model.specs.Time.{Run, toggle, toggles, is_empty, named, first_some}
+use Rattle.sg_model.specs.Time.{Run, toggle, toggles, is_empty, spent_net, first_some}
 use Rattle.sg_model.specs.FanOut.{present_after}
 use Rattle.sg_model.proofs.PlacedLaws.{IsPending-taken}
 use Rattle.sg_model.proofs.PlacingSteps.{same-self, same-differs}
@@ -99,12 +99,12 @@ least_changed before values nets net are h =
     none j l false e = refl
 
 -- a net is named
-pub named_changed : (m : Machine) (now : ℕ) (handed : List (ℕ × Value)) (r : Run) (before values : List Value) (nets : List ℕ) (net : ℕ) → r.before ≡ before → r.state.values ≡ values → AreChanged before values nets → IsLeastOf nets net → named m now handed r ≡ Some net
+pub named_changed : (m : Machine) (now : ℕ) (handed : List (ℕ × Value)) (r : Run) (before values : List Value) (nets : List ℕ) (net : ℕ) → r.before ≡ before → r.state.values ≡ values → AreChanged before values nets → IsLeastOf nets net → spent_net m now handed r ≡ Some net
 named_changed m now handed r before values nets net b v are least =
     ap (λ x. first_some x (least_differing 0 r.state.values (round m now handed r.state).values)) (ap (λ x. least_differing 0 x r.state.values) b ∙ (ap (λ x. least_differing 0 before x) v ∙ least_changed before values nets net are least))
 
 pub named_next : (m : Machine) (now : ℕ) (handed : List (ℕ × Value)) (r : Run) (before values after : List Value) (nets more : List ℕ) (net : ℕ) → r.before ≡ before → r.state.values ≡ values → AreChanged before values nets → nets ≡ []
-    → after ≡ values_after m now handed r.state → AreChanged values after more → IsLeastOf more net → named m now handed r ≡ Some net
+    → after ≡ values_after m now handed r.state → AreChanged values after more → IsLeastOf more net → spent_net m now handed r ≡ Some net
 named_next m now handed r before values after nets more net b v are e a are' least =
     let first : least_differing 0 r.before r.state.values ≡ None = ap (λ x. least_differing 0 x r.state.values) b ∙ (ap (λ x. least_differing 0 before x) v ∙ none_changed before values nets are e) in
     let new : (round m now handed r.state).values ≡ after = ap (λ s. s.values) (round-is m now handed r.state) ∙ sym a in

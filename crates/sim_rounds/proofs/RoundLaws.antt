@@ -10,7 +10,7 @@ use Rattle.sg_logic.specs.Values.{is_same}
 use Rattle.sg_model.specs.Values.{value_at}
 use Rattle.sg_model.specs.Agenda.{due, list_at}
 use Rattle.sg_model.specs.Machine.{Machine, State, Stamp, IsNoOutput, AreOutputs}
-use Rattle.sg_model.specs.Round.{each_from, changed_by, due_change, due_changes, without_due, stamped, element_list, element_value, values_after, stamps_after, round}
+use Rattle.sg_model.specs.Round.{each_from, changed_by, due_change, due_changes, without_due, stamp_after, element_list, element_value, values_after, stamps_after, round}
 use Rattle.sg_model.specs.Time.{any_differs}
 use Rattle.sg_model.specs.FanOut.{present_after, AgreeAt, IsSteady, IsSettled}
 use Rattle.sg_model.proofs.PlacedLaws.{same-true}
@@ -175,12 +175,12 @@ whole_states m now before values b v stamps lists states new work w eb ev ew sta
     ∙ (ap (λ x. at_places (element_value m before values) X x states) ew ∙ worked_states m now before values (map stamp_seen stamps) lists states work stays is)))
 
 -- the round as a whole
-pub round_made : (m : Machine) (now : ℕ) (handed : List (ℕ × Value)) (s new : State) → new.values ≡ values_after m now handed s → new.stamps ≡ each_from (stamped now s.values new.values) 0 s.stamps
+pub round_made : (m : Machine) (now : ℕ) (handed : List (ℕ × Value)) (s new : State) → new.values ≡ values_after m now handed s → new.stamps ≡ each_from (stamp_after now s.values new.values) 0 s.stamps
     → new.lists ≡ each_from (element_list m now s.values new.values new.stamps s.states) 0 (map (without_due now) s.lists) → new.states ≡ each_from (element_value m s.values new.values) 0 s.states
     → new ≡ round m now handed s
 round_made m now handed s new ev es el et =
     let after : List Value = values_after m now handed s in
-    let stamps : new.stamps ≡ stamps_after m now handed s = es ∙ ap (λ vs. each_from (stamped now s.values vs) 0 s.stamps) ev in
+    let stamps : new.stamps ≡ stamps_after m now handed s = es ∙ ap (λ vs. each_from (stamp_after now s.values vs) 0 s.stamps) ev in
     let left : List (List (ℕ × Value)) = map (without_due now) s.lists in
     let lists : new.lists ≡ each_from (element_list m now s.values after (stamps_after m now handed s) s.states) 0 left =
     el ∙ (ap (λ vs. each_from (element_list m now s.values vs new.stamps s.states) 0 left) ev ∙ ap (λ ss. each_from (element_list m now s.values after ss s.states) 0 left) stamps) in
@@ -202,11 +202,11 @@ values_made m now handed s outputs values e made = made ∙ ap (λ os. changed_b
 
 pub stays_now : (m : Machine) (now : ℕ) (handed : List (ℕ × Value)) (s : State) (fan : List (List ℕ)) (outputs : List ℕ) (before values : List Value) (stamps : List (Option Stamp)) (lists : List (List (ℕ × Value)))
     → IsOfCircuit m fan outputs (length s.values) (length s.lists) → AreHanded outputs handed → length s.states ≡ length s.lists → AreSettled m s.values s.lists s.states
-    → before ≡ s.values → values ≡ changed_by (due_changes now outputs s.lists ++ handed) s.values → stamps ≡ each_from (stamped now s.values values) 0 s.stamps → lists ≡ map (without_due now) s.lists
+    → before ≡ s.values → values ≡ changed_by (due_changes now outputs s.lists ++ handed) s.values → stamps ≡ each_from (stamp_after now s.values values) 0 s.stamps → lists ≡ map (without_due now) s.lists
     → StaysElsewhere m now before values stamps lists s.states
 stays_now m now handed s fan outputs before values stamps lists circuit h many settled eb made es el =
     let ev : values ≡ values_after m now handed s = values_made m now handed s outputs values circuit.outputs made in
-    let es' : stamps ≡ stamps_after m now handed s = es ∙ ap (λ vs. each_from (stamped now s.values vs) 0 s.stamps) ev in
+    let es' : stamps ≡ stamps_after m now handed s = es ∙ ap (λ vs. each_from (stamp_after now s.values vs) 0 s.stamps) ev in
     subst (λ x. StaysElsewhere m now x values stamps lists s.states) (sym eb)
     (subst (λ x. StaysElsewhere m now s.values x stamps lists s.states) (sym ev)
     (subst (λ x. StaysElsewhere m now s.values (values_after m now handed s) x lists s.states) (sym es')
@@ -215,7 +215,7 @@ stays_now m now handed s fan outputs before values stamps lists circuit h many s
     (subst (λ os. All (λ n. n < length s.values) os) circuit.outputs circuit.within)))))
 
 pub round_is_made : (m : Machine) (now : ℕ) (handed : List (ℕ × Value)) (s new : State) (outputs : List ℕ) (before : List Value) (lists : List (List (ℕ × Value)))
-    → outputs ≡ m.outputs → before ≡ s.values → new.values ≡ changed_by (due_changes now outputs s.lists ++ handed) s.values → new.stamps ≡ each_from (stamped now s.values new.values) 0 s.stamps → lists ≡ map (without_due now) s.lists
+    → outputs ≡ m.outputs → before ≡ s.values → new.values ≡ changed_by (due_changes now outputs s.lists ++ handed) s.values → new.stamps ≡ each_from (stamp_after now s.values new.values) 0 s.stamps → lists ≡ map (without_due now) s.lists
     → new.lists ≡ each_from (element_list m now before new.values new.stamps s.states) 0 lists → new.states ≡ each_from (element_value m before new.values) 0 s.states
     → new ≡ round m now handed s
 round_is_made m now handed s new outputs before lists eo eb made es el ll lt =

@@ -5,7 +5,7 @@ use Rattle.sg_logic.specs.declared.values.Value.{Value}
 use Rattle.sg_model.specs.Machine.{Machine}
 use Rattle.sg_model.specs.Round.{round}
 use Rattle.sg_model.specs.Time as model
-use Rattle.sg_model.specs.Time.{Run, Ended, rounds, needs_round, with_round, with_snapshot, flips_of, is_empty, named, count_differing}
+use Rattle.sg_model.specs.Time.{Run, Ended, rounds, needs_round, with_round, with_snapshot, flips_of, is_empty, spent_net, count_differing}
 use Rattle.sg_model.proofs.RunSteps.{rounds-round, rounds-spent, rounds-toggle, rounds-toggle_spent, rounds-whole}
 use Rattle.sim_rounds.specs.declared.times.Turn.TheVariants as turn
 use Rattle.sim_rounds.specs.declared.times.Turn.{Turn}
@@ -21,7 +21,7 @@ rounds-evaluations zero m now must handed r = at (needs_round now must handed r.
     same : r.evaluations ≤ r.evaluations
     same = omega arith
 
-    at : (b c : Bool) → r.evaluations ≤ evaluations_of (if b then model.Spent (named m now handed r) r.evaluations else (if c then model.Whole (with_snapshot m now r) else model.Spent (named m now (flips_of m (with_snapshot m now r)) (with_snapshot m now r)) r.evaluations))
+    at : (b c : Bool) → r.evaluations ≤ evaluations_of (if b then model.Spent (spent_net m now handed r) r.evaluations else (if c then model.Whole (with_snapshot m now r) else model.Spent (spent_net m now (flips_of m (with_snapshot m now r)) (with_snapshot m now r)) r.evaluations))
     at true c = same
     at false true = same
     at false false = same

@@ -4,7 +4,7 @@ use Rattle.sg_logic.specs.declared.values.Value.{Value}
 use Rattle.stim_read.specs.Stimulus.{Stimulus}
 use Rattle.sg_model.specs.Machine.{Machine, Violation}
 use Rattle.sg_model.specs.Time as model
-use Rattle.sg_model.specs.Time.{Run, Ended, rounds, needs_round, with_round, with_snapshot, flips_of, is_empty, named}
+use Rattle.sg_model.specs.Time.{Run, Ended, rounds, needs_round, with_round, with_snapshot, flips_of, is_empty, spent_net}
 use Rattle.sim_rounds.specs.declared.times.Turn.TheVariants as turn
 use Rattle.sim_rounds.specs.declared.times.Turn.{Turn}
 use Rattle.sim_rounds.specs.declared.times.TimeEnd.{TimeEnd}
@@ -50,7 +50,7 @@ pub record AfterSnapshot (m : Machine) (now : ℕ) (stands after : Run → Type 
 
 -- the net that a spent time names
 pub record Names (m : Machine) (now : ℕ) (handed : List (ℕ × Value)) (stands : Run → Type 0) (net : ℕ) : Type 0 where
-  pub each : (r : Run) → stands r → named m now handed r ≡ Some net
+  pub each : (r : Run) → stands r → spent_net m now handed r ≡ Some net
 
 -- a round took place: one fewer is left
 pub record WentOn (m : Machine) (now : ℕ) (must : Bool) (handed : List (ℕ × Value)) (stands after : Run → Type 0) (steps steps' : ℕ) : Type 0 where

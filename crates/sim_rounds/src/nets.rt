@@ -4,7 +4,7 @@ ghost use Rattle.std.specs.Vec.{vec_capacity};
 ghost use Rattle.sg_logic.specs.Values.{is_same};
 ghost use Rattle.sg_model.specs.Agenda.{NothingBelow, AllRise};
 ghost use Rattle.sg_model.specs.Machine.{AreOutputs};
-ghost use Rattle.sg_model.specs.Round.{changed_by, due_changes, each_from, stamped, without_due};
+ghost use Rattle.sg_model.specs.Round.{changed_by, due_changes, each_from, stamp_after, without_due};
 ghost use Rattle.stim_read.specs.Seen.{set_seen};
 ghost use Rattle.sim_rounds.specs.Nets.{stamp_seen, AreChanged, AreNets};
 
@@ -173,7 +173,7 @@ fn stamp_nets(
 )
     requires as_many { length stamps.old ≡ length before.now }
     requires changed { AreChanged before.now values.now changed.now }
-    ensures { map stamp_seen stamps.new ≡ each_from (stamped now before.now values.now) 0 (map stamp_seen stamps.old) }
+    ensures { map stamp_seen stamps.new ≡ each_from (stamp_after now before.now values.now) 0 (map stamp_seen stamps.old) }
 {
     for net in changed {
         let at = *net as usize;
@@ -203,7 +203,7 @@ pub fn change_nets<A: Agenda>(
     ensures nets { AreNets nets.new }
     ensures before { nets.new.before.items ≡ nets.old.values.items }
     ensures values { nets.new.values.items ≡ changed_by (due_changes now outputs.now (A.lists agenda.old) ++ map (λ c. set_seen c) handed.now) nets.old.values.items }
-    ensures stamps { map stamp_seen nets.new.stamps.items ≡ each_from (stamped now nets.old.values.items nets.new.values.items) 0 (map stamp_seen nets.old.stamps.items) }
+    ensures stamps { map stamp_seen nets.new.stamps.items ≡ each_from (stamp_after now nets.old.values.items nets.new.values.items) 0 (map stamp_seen nets.old.stamps.items) }
     ensures lists { A.lists agenda.new ≡ map (without_due now) (A.lists agenda.old) }
     ensures rise { AllRise (A.lists agenda.new) }
     ensures below { NothingBelow now (A.lists agenda.new) }

@@ -65,7 +65,7 @@ pub trait Times<L: Ledger> {
     ghost values: { Self → List NetValue };
 
     /// The nets that the last time changed.
-    ghost changed: { Self → List NetChanged };
+    ghost changes: { Self → List NetChanged };
 
     /// Makes a time, with at most so many rounds.
     fn make(&mut self, now: u64, bound: u32, steps: &mut Steps<L>) -> Result<(), SimEnd>
@@ -80,9 +80,9 @@ pub trait Times<L: Ledger> {
         ensures steps { steps.old ≤ steps.new }
         ensures end { IsEndOfTime result }
         ensures ready { OnOk result (ready self.new (now + 1)) }
-        ensures changed { OnOk result (AreDifferences (kept self.old).told (values self.new) (map net_change (changed self.new))) }
-        ensures within { OnOk result (All (λ c. c.net < length (values self.new)) (changed self.new)) }
-        ensures kept { OnOk result (IsKeptAfter now (changed self.new) (values self.new) (kept self.old) (kept self.new)) }
+        ensures changed { OnOk result (AreDifferences (kept self.old).told (values self.new) (map net_change (changes self.new))) }
+        ensures within { OnOk result (All (λ c. c.net < length (values self.new)) (changes self.new)) }
+        ensures kept { OnOk result (IsKeptAfter now (changes self.new) (values self.new) (kept self.old) (kept self.new)) }
         ensures ended { OnErr result (kept self.new ≡ kept self.old) };
 
     /// The next time up to the end at which something may happen, or the one after the end.
@@ -105,8 +105,8 @@ pub trait Times<L: Ledger> {
         ensures { result.now ≡ values self.now };
 
     /// The nets that the last time changed.
-    fn changed(&self) -> &[Change]
-        ensures { result.now ≡ changed self.now };
+    fn changes(&self) -> &[Change]
+        ensures { result.now ≡ changes self.now };
 
     /// Times that are skipped leave what it stands for.
     ghost skips: { (e : Self) (k n : ℕ) (r : Run) → IsLawful (machine e) → IsSeen r → stands e r → stands e (with_copies k (machine e) n r) };
@@ -227,7 +227,7 @@ pub fn make_times<S: Shelf, W: Watch<S>, L: Ledger, T: Times<L>>(
     let mut now = 0;
     while now <= end {
         times.make(now, bound, steps)?;
-        tell_time(shelf, watcher, now, times.changed(), times.values())?;
+        tell_time(shelf, watcher, now, times.changes(), times.values())?;
         now = times.next(now, end);
     }
     tell(shelf, watcher, end, &[], times.values())

@@ -38,7 +38,7 @@ impl<L: Ledger, A: Agenda + Drop, E: Elements<A, L>, C: Checks> Times<L>
 
     ghost values = { λ s. s.nets.values.items };
 
-    ghost changed = { λ s. s.changes.items };
+    ghost changes = { λ s. s.changes.items };
 
     ghost skips = { λ s k n r law seen h. stands_skipped (E.machine s.elements) law s.nets (A.lists s.agenda) (E.states s.elements) (C.stands s.checks) s.violations.items s.evaluations s.ended k n r seen (C.skips s.checks) h };
 
@@ -75,7 +75,7 @@ impl<L: Ledger, A: Agenda + Drop, E: Elements<A, L>, C: Checks> Times<L>
         &self.nets.values
     }
 
-    fn changed(&self) -> &[Change] {
+    fn changes(&self) -> &[Change] {
         &self.changes
     }
 }

@@ -17,9 +17,9 @@ use Rattle.sim_rounds.specs.Nets.{differs}
 use Rattle.sim_rounds.specs.Watching.{Call, NetChange, AreDifferences}
 use Rattle.wave_out.specs.Changes.{bits_change, changes_text, IsBlock, IsText}
 use Rattle.wave_out.specs.Lines.{bits_line, first_text}
-use Rattle.wave_out.specs.Texts.{line, numbered}
-use Rattle.wave_out.specs.Vcd.{Dump, any_variable_differs, change_line, code, dump_text, dumped, first_block, later_block, time_line, value_line, value_text, values_at}
-use Rattle.wave_out.specs.Writing.{AreTruthful, AreTruthfulAfter, dump_after, ended, later, snapshot_of, time_of, with_call}
+use Rattle.wave_out.specs.Texts.{line, by_number}
+use Rattle.wave_out.specs.Vcd.{Dump, any_variable_differs, change_line, code, dump_text, dump_with, first_block, later_block, time_line, value_line, value_text, values_at}
+use Rattle.wave_out.specs.Writing.{AreTruthful, AreTruthfulAfter, dump_after, dump_at_end, later, snapshot_of, time_of, with_call}
 
 -- values that don't differ
 same_value : (old new : List Value) (k : ℕ) → differs old new k ≡ false → value_at old k ≡ value_at new k
@@ -72,10 +72,10 @@ any_agree_none (x ∷ xs) a b h =
     ∙ any_agree_none xs a b (All-tail (λ x. values_at x.bits a ≡ values_at x.bits b) x xs h)
 
 -- what is written of variables that agreed before
-texts_agree : (xs : List Variable) (k : ℕ) (a b new : List Value) → Agree xs a b → numbered (bits_change b new) k (map (λ x. x.bits) xs) ≡ numbered (change_line a new) k xs
+texts_agree : (xs : List Variable) (k : ℕ) (a b new : List Value) → Agree xs a b → by_number (bits_change b new) k (map (λ x. x.bits) xs) ≡ by_number (change_line a new) k xs
 texts_agree [] k a b new h = refl
 texts_agree (x ∷ xs) k a b new h =
-    ap (λ c. (if c then bits_line new k x.bits else []) ++ numbered (bits_change b new) (suc k) (map (λ y. y.bits) xs)) (sym (any_same a b new x.bits (All-head (λ x. values_at x.bits a ≡ values_at x.bits b) x xs h)))
+    ap (λ c. (if c then bits_line new k x.bits else []) ++ by_number (bits_change b new) (suc k) (map (λ y. y.bits) xs)) (sym (any_same a b new x.bits (All-head (λ x. values_at x.bits a ≡ values_at x.bits b) x xs h)))
     ∙ ap (λ t. change_line a new k x ++ t) (texts_agree xs (suc k) a b new (All-tail (λ x. values_at x.bits a ≡ values_at x.bits b) x xs h))
 
 any_agree : (xs : List Variable) (a b new : List Value) → Agree xs a b → list_any (any_differs b new) (map (λ x. x.bits) xs) ≡ any_variable_differs xs a new
@@ -84,7 +84,7 @@ any_agree (x ∷ xs) a b new h =
     ap (λ c. c || list_any (any_differs b new) (map (λ y. y.bits) xs)) (sym (any_same a b new x.bits (All-head (λ x. values_at x.bits a ≡ values_at x.bits b) x xs h)))
     ∙ ap (λ c. any_differs a new x.bits || c) (any_agree xs a b new (All-tail (λ x. values_at x.bits a ≡ values_at x.bits b) x xs h))
 
-lines_all : (xs : List Variable) (k : ℕ) (values : List Value) → numbered (bits_line values) k (map (λ x. x.bits) xs) ≡ numbered (value_line values) k xs
+lines_all : (xs : List Variable) (k : ℕ) (values : List Value) → by_number (bits_line values) k (map (λ x. x.bits) xs) ≡ by_number (value_line values) k xs
 lines_all [] k values = refl
 lines_all (x ∷ xs) k values = ap (λ t. value_line values k x ++ t) (lines_all xs (suc k) values)
 
@@ -118,7 +118,7 @@ adds_later xs d before c [] text agree truth is = adds_end d c.time (d.time == c
 adds_later xs d before c (n ∷ ns) text agree truth is =
     adds_block d c.time c.values (later_block xs d.values (snapshot_of c)) (any_variable_differs xs d.values c.values) text
     (is.each before truth
-    ∙ (ap (λ b. if b then Some (time_line c.time ++ numbered (bits_change before c.values) 0 (map (λ x. x.bits) xs)) else None) (any_agree xs d.values before c.values agree)
+    ∙ (ap (λ b. if b then Some (time_line c.time ++ by_number (bits_change before c.values) 0 (map (λ x. x.bits) xs)) else None) (any_agree xs d.values before c.values agree)
     ∙ ap (λ t. if any_variable_differs xs d.values c.values then Some (time_line c.time ++ t) else None) (texts_agree xs 0 d.values before c.values agree)))
 
 adds_first : (xs : List Variable) (c : Call) (text : Option (List ℕ)) → IsText None c.time (map (λ x. x.bits) xs) c.changed c.values text → Adds None (with_call xs c None) c.time text

@@ -23,7 +23,7 @@ use Rattle.sim_rounds.proofs.WorkIsExact.{work_within}
 use Rattle.time_checks.specs.declared.changes.Change.{Change}
 use Rattle.wave_out.specs.Changes.{bits_change, changes_text, work_text, IsBlock}
 use Rattle.wave_out.specs.Lines.{bits_line, later_text}
-use Rattle.wave_out.specs.Texts.{numbered}
+use Rattle.wave_out.specs.Texts.{by_number}
 use Rattle.wave_out.specs.Vcd.{time_line}
 use Rattle.wave_out.proofs.SortedLaws.{kept, kept_at, kept_nothing, kept_rises, kept_some, kept_texts, list-moved, sorted_same}
 
@@ -41,11 +41,11 @@ sorted_text time bits old new ws h up = ap (work_text time bits new) same ∙ at
     same = sorted_same ws ks up (kept_rises t 0 bits) (λ k. h.each k ∙ sym (kept_at t k 0 k bits refl (sym (zero-add k))))
 
     at : (xs : List ℕ) → ks ≡ xs → work_text time bits new xs ≡ changes_text time bits old new
-    at [] e = ap (λ b. if b then Some (time_line time ++ numbered (bits_change old new) 0 bits) else None) (sym (kept_nothing t 0 bits e))
+    at [] e = ap (λ b. if b then Some (time_line time ++ by_number (bits_change old new) 0 bits) else None) (sym (kept_nothing t 0 bits e))
     at (x ∷ xs) e =
         ap (λ zs. Some (later_text time bits zs new)) (sym e)
         ∙ (ap (λ ys. Some (time_line time ++ ys)) (kept_texts (bits_line new) t bits 0 bits (λ i l. ap (λ n. get_or bits n []) (zero-add i)))
-        ∙ ap (λ b. if b then Some (time_line time ++ numbered (bits_change old new) 0 bits) else None) (sym (kept_some t 0 bits x xs e)))
+        ∙ ap (λ b. if b then Some (time_line time ++ by_number (bits_change old new) 0 bits) else None) (sym (kept_some t 0 bits x xs e)))
 
 -- values beyond a number of nets don't matter to variables that have none of these
 short_at : (n k : ℕ) (vs : List Value) → n ≤ k → value_at (take n vs) k ≡ X

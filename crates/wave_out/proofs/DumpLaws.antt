@@ -22,8 +22,8 @@ use Rattle.sim_rounds.specs.Watching.{AreCalls, none_yet, at_zero, same_again, C
 use Rattle.sim_rounds.specs.Watching as watching
 use Rattle.sim_rounds.proofs.CallLaws.{changed_none}
 use Rattle.wave_out.specs.Scopes.{variables_of}
-use Rattle.wave_out.specs.Vcd.{Dump, any_variable_differs, dump, dump_text, dumped, ending, end_line, header, later_block, first_block, vcd_body, vcd_text, time_line}
-use Rattle.wave_out.specs.Writing.{AreTruthful, AreTruthfulAfter, dump_after, ended, later, snapshot_of, text_after, with_call}
+use Rattle.wave_out.specs.Vcd.{Dump, any_variable_differs, dump, dump_text, dump_with, ending, end_line, header, later_block, first_block, vcd_body, vcd_text, time_line}
+use Rattle.wave_out.specs.Writing.{AreTruthful, AreTruthfulAfter, dump_after, dump_at_end, later, snapshot_of, text_after, with_call}
 use Rattle.wave_out.proofs.CallLaws.{Agree, agree_none, after-append, any_agree_none}
 
 -- lists that are the same
@@ -40,7 +40,7 @@ same_values (v ∷ vs) (w ∷ ws) h =
     ap (λ x. x ∷ vs) (same-true v w p.0) ∙ ap (λ xs. w ∷ xs) (same_values vs ws p.1)
 
 -- one time more in the text
-pub dump-more : (xs : List Variable) (s : Snapshot) (older : List Snapshot) → dump xs (s ∷ older) ≡ dumped xs s (dump xs older)
+pub dump-more : (xs : List Variable) (s : Snapshot) (older : List Snapshot) → dump xs (s ∷ older) ≡ dump_with xs s (dump xs older)
 unfolding dump
 dump-more xs s older = refl
 
@@ -55,7 +55,7 @@ shows_later : (xs : List Variable) (d : Dump) (s : Snapshot) (t : List ℕ) (b :
 shows_later xs d s t true e = record { dump = record { text = t; time = s.time; values = s.values }; is = refl; agree = λ i x l. refl }
 shows_later xs d s t false e = record { dump = d; is = refl; agree = agree_none xs d.values s.values e }
 
-shows_more : (xs : List Variable) (s : Snapshot) (o : Option Dump) → Shows xs (dumped xs s o) s.values
+shows_more : (xs : List Variable) (s : Snapshot) (o : Option Dump) → Shows xs (dump_with xs s o) s.values
 shows_more xs s None = record { dump = record { text = first_block xs s; time = s.time; values = s.values }; is = refl; agree = λ i x l. refl }
 shows_more xs s (Some d) = shows_later xs d s (d.text ++ later_block xs d.values s) (any_variable_differs xs d.values s.values) refl
 
@@ -63,7 +63,7 @@ shows : (xs : List Variable) (s : Snapshot) (older : List Snapshot) → Shows xs
 shows xs s older = subst (λ o. Shows xs o s.values) (sym (dump-more xs s older)) (shows_more xs s (dump xs older))
 
 -- a time with the values of the time before adds nothing
-again : (xs : List Variable) (s : Snapshot) (d : Dump) (values : List Value) → Agree xs d.values values → s.values ≡ values → dumped xs s (Some d) ≡ Some d
+again : (xs : List Variable) (s : Snapshot) (d : Dump) (values : List Value) → Agree xs d.values values → s.values ≡ values → dump_with xs s (Some d) ≡ Some d
 again xs s d values agree e =
     ap (λ b. if b then Some (record { text = d.text ++ later_block xs d.values s; time = s.time; values = s.values }) else Some d)
     (any_agree_none xs d.values s.values (subst (λ vs. Agree xs d.values vs) (sym e) agree))
@@ -71,7 +71,7 @@ again xs s d values agree e =
 pub dump-again : (xs : List Variable) (s t : Snapshot) (older : List Snapshot) → s.values ≡ t.values → dump xs (s ∷ t ∷ older) ≡ dump xs (t ∷ older)
 dump-again xs s t older e =
     let h = shows xs t older in
-    dump-more xs s (t ∷ older) ∙ (ap (dumped xs s) h.is ∙ (again xs s h.dump t.values h.agree e ∙ sym h.is))
+    dump-more xs s (t ∷ older) ∙ (ap (dump_with xs s) h.is ∙ (again xs s h.dump t.values h.agree e ∙ sym h.is))
 
 -- a call tells its snapshot
 call_snapshot : (before : List Value) (s : Snapshot) (c : Call) → IsCall before s c → snapshot_of c ≡ s
@@ -79,9 +79,9 @@ call_snapshot before s c h = ap (λ t. record { time = t; values = c.values }) h
 
 -- a call with changes is a time
 later_is : (xs : List Variable) (c : Call) (changed : List NetChange) (d : Dump) (s t : Snapshot) → length s.values ≡ length t.values → are_same s.values t.values ≡ false → AreDifferences t.values s.values changed → snapshot_of c ≡ s
-    → later xs c changed d ≡ dumped xs s (Some d)
+    → later xs c changed d ≡ dump_with xs s (Some d)
 later_is xs c [] d s t long differ h e = let f : are_same s.values t.values ≡ true = changed_none t.values s.values long h in absurd (cc)
-later_is xs c (n ∷ ns) d s t long differ h e = ap (λ x. dumped xs x (Some d)) e
+later_is xs c (n ∷ ns) d s t long differ h e = ap (λ x. dump_with xs x (Some d)) e
 
 -- one truthful call more
 more_after : (before : List Value) (cs : List Call) (e c : Call) → AreTruthfulAfter before (cs ++ e ∷ []) → AreDifferences e.values c.values c.changed → AreTruthfulAfter before (cs ++ e ∷ [] ++ c ∷ [])
@@ -107,7 +107,7 @@ ToldOf xs (s ∷ older) calls = Told xs s older calls
 
 told_zero : (xs : List Variable) (first : List Value) (s : Snapshot) (c : Call) → IsCall first s c → Told xs s [] (c ∷ [])
 unfolding dump
-told_zero xs first s c h = record { text = ap (λ x. dumped xs x None) (call_snapshot first s c h); truth = tt; front = []; last = c; is = refl; values = h.values }
+told_zero xs first s c h = record { text = ap (λ x. dump_with xs x None) (call_snapshot first s c h); truth = tt; front = []; last = c; is = refl; values = h.values }
 
 told_again : (xs : List Variable) (s t : Snapshot) (older : List Snapshot) (calls : List Call) → are_same s.values t.values ≡ true → Told xs t older calls → Told xs s (t ∷ older) calls
 told_again xs s t older calls same h =
@@ -125,7 +125,7 @@ told_more xs s t older calls c long differ h call =
       text = after-append xs None calls c
           ∙ (ap (with_call xs c) (h.text ∙ v.is)
           ∙ (later_is xs c c.changed v.dump s t long differ call.changed (call_snapshot t.values s c call)
-          ∙ (ap (dumped xs s) (sym v.is) ∙ sym (dump-more xs s (t ∷ older)))));
+          ∙ (ap (dump_with xs s) (sym v.is) ∙ sym (dump-more xs s (t ∷ older)))));
       truth = subst (λ cs. AreTruthful (cs ++ c ∷ [])) (sym h.is)
           (truthful_more h.front h.last c (subst AreTruthful h.is h.truth) (subst (λ vs. AreDifferences vs c.values c.changed) (sym h.values) (truth_of t.values s c call)));
       front = calls;
@@ -217,7 +217,7 @@ adds_more : (xs : List Variable) (s : Snapshot) (d : Dump) (t : List ℕ) (b : B
 adds_more xs s d t true = (t, refl)
 adds_more xs s d t false = ([], sym (append-nil d.text))
 
-dumped-adds : (xs : List Variable) (s : Snapshot) (o : Option Dump) → (rest : List ℕ) × (dump_text (dumped xs s o) ≡ dump_text o ++ rest)
+dumped-adds : (xs : List Variable) (s : Snapshot) (o : Option Dump) → (rest : List ℕ) × (dump_text (dump_with xs s o) ≡ dump_text o ++ rest)
 dumped-adds xs s None = (first_block xs s, refl)
 dumped-adds xs s (Some d) = adds_more xs s d (later_block xs d.values s) (any_variable_differs xs d.values s.values)
 

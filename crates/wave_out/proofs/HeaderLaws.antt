@@ -11,8 +11,8 @@ use Rattle.wave_out.specs.declared.scopes.Visit.{Visit}
 use Rattle.wave_out.specs.declared.scopes.Visit.TheVariants.{Enters, Leaves}
 use Rattle.sg_circuit.proofs.SeenLaws.{map-mapped}
 use Rattle.sg_circuit.specs.declared.scopes.Variable as code_variable
-use Rattle.wave_out.specs.Scopes.{entered, visits}
-use Rattle.wave_out.specs.Texts.{line, numbered}
+use Rattle.wave_out.specs.Scopes.{variables_at, visits}
+use Rattle.wave_out.specs.Texts.{line, by_number}
 use Rattle.wave_out.specs.Vcd.{declaration, header, scope_line, tick_text, visit_lines}
 use Rattle.wave_out.specs.Walk.{IsVisit}
 use Rattle.wave_out.proofs.TextLaws.{add_five, line_end}
@@ -23,13 +23,13 @@ pub scope_is : (parts : Parts) (s : ℕ) (scope : code_scope.Scope) → s < leng
 scope_is parts s scope l e = get_or-map (λ x. scope_seen x) parts.scopes.items s scope _ l ∙ ap (λ x. scope_seen x) (sym e)
 
 pub entered_lines : {E : Type 0} (c : Circuit) (s k n : ℕ) (x : Scope) (old new : List ℕ) (r : Result ℕ E) → scope_at c s ≡ x → length x.variables ≡ n
-    → OnOk r (new ≡ old ++ (scope_line x.name ++ numbered declaration k x.variables)) → IfOk r (λ next. next ≡ k + n)
+    → OnOk r (new ≡ old ++ (scope_line x.name ++ by_number declaration k x.variables)) → IfOk r (λ next. next ≡ k + n)
     → IfOk r (λ next. (rest : List Visit) → new ++ visit_lines c next rest ≡ old ++ visit_lines c k (Enters s ∷ rest))
 entered_lines c s k n x old new (Ok next) e many t count = λ rest.
     ap (λ u. u ++ visit_lines c next rest) t
-    ∙ (append_assoc old (scope_line x.name ++ numbered declaration k x.variables) (visit_lines c next rest)
-    ∙ (ap (λ m. old ++ (scope_line x.name ++ numbered declaration k x.variables ++ visit_lines c m rest)) (count ∙ ap (λ m. k + m) (sym many))
-    ∙ ap (λ y. old ++ (scope_line y.name ++ numbered declaration k y.variables ++ visit_lines c (k + length y.variables) rest)) (sym e)))
+    ∙ (append_assoc old (scope_line x.name ++ by_number declaration k x.variables) (visit_lines c next rest)
+    ∙ (ap (λ m. old ++ (scope_line x.name ++ by_number declaration k x.variables ++ visit_lines c m rest)) (count ∙ ap (λ m. k + m) (sym many))
+    ∙ ap (λ y. old ++ (scope_line y.name ++ by_number declaration k y.variables ++ visit_lines c (k + length y.variables) rest)) (sym e)))
 entered_lines c s k n x old new (Err why) e many t count = count
 
 -- the header, written out
@@ -54,7 +54,7 @@ visits_known parts circuit order seen closed same =
 
 -- the bits of a scope's variables
 pub entered_bits : {E : Type 0} (parts : Parts) (s : ℕ) (scope : code_scope.Scope) (vs : List code_variable.Variable) (r : Result Unit E) (new old : List (List ℕ)) → s < length parts.scopes.items → scope ≡ get_or parts.scopes.items s scope
-    → vs ≡ scope.variables.items → OnOk r (new ≡ old ++ map (λ v. v.bits.items) vs) → OnOk r (new ≡ old ++ map (λ x. x.bits) (entered (circuit_seen parts) (Enters s)))
+    → vs ≡ scope.variables.items → OnOk r (new ≡ old ++ map (λ v. v.bits.items) vs) → OnOk r (new ≡ old ++ map (λ x. x.bits) (variables_at (circuit_seen parts) (Enters s)))
 entered_bits parts s scope vs (Ok u) new old l e same h =
     h ∙ ap (λ bs. old ++ bs)
     (ap (λ ws. map (λ v. v.bits.items) ws) same

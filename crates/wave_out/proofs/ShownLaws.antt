@@ -10,7 +10,7 @@ use Rattle.sg_circuit.specs.Seen.{circuit_seen}
 use Rattle.sg_circuit.proofs.SeenLaws.{all-unmapped}
 use Rattle.wave_out.specs.declared.scopes.Visit.{Visit}
 use Rattle.wave_out.specs.declared.scopes.Visit.TheVariants.{Enters, Leaves}
-use Rattle.wave_out.specs.Scopes.{entered, variables_of, visits}
+use Rattle.wave_out.specs.Scopes.{variables_at, variables_of, visits}
 use Rattle.wave_out.specs.Walk.{IsVisit}
 use Rattle.wave_out.proofs.ListLaws.{All-flat_map}
 use Rattle.wave_out.proofs.WalkLaws.{are_visits}
@@ -19,12 +19,12 @@ use Rattle.wave_out.proofs.WalkLaws.{are_visits}
 abbrev HasNets : Circuit → Variable → Type 0
 HasNets c x = All (λ n. n < length c.nets) x.bits
 
-entered_nets : (c : Circuit) → IsClosed c → (v : Visit) → IsVisit (length c.scopes) v → All (HasNets c) (entered c v)
+entered_nets : (c : Circuit) → IsClosed c → (v : Visit) → IsVisit (length c.scopes) v → All (HasNets c) (variables_at c v)
 entered_nets c h (Enters s) l = h.bits s _ l
 entered_nets c h Leaves l = All-nil (HasNets c)
 
 variables_nets : (c : Circuit) → IsClosed c → All (HasNets c) (variables_of c)
-variables_nets c h = All-flat_map (HasNets c) (entered c) (visits c) (λ i d l. entered_nets c h (get_or (visits c) i d) (are_visits c h i d l))
+variables_nets c h = All-flat_map (HasNets c) (variables_at c) (visits c) (λ i d l. entered_nets c h (get_or (visits c) i d) (are_visits c h i d l))
 
 pub bits_within : (c : Circuit) (bs : List (Bor (List ℕ))) → IsClosed c → map (λ b. b.now) bs ≡ map (λ x. x.bits) (variables_of c) → All (λ (b : Bor (List ℕ)). All (λ n. n < length c.nets) b.now) bs
 bits_within c bs h e =

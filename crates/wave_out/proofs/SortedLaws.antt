@@ -9,7 +9,7 @@ use Rattle.std.proofs.lemmas.List.Sorted.{sum_by-IsPermutation, length_permutati
 use Rattle.sim_rounds.specs.Lists.{occurrences, IsListOf}
 use Rattle.sim_rounds.specs.Work.{AreMarked, mark_at, count_marks}
 use Rattle.sim_rounds.proofs.ListLaws.{test_same, test_other, occurs_here, occurs_later}
-use Rattle.wave_out.specs.Texts.{numbered}
+use Rattle.wave_out.specs.Texts.{by_number}
 
 -- where a number stands
 pub occurs_somewhere : (k : ℕ) (xs : List ℕ) → 0 < occurrences k xs → (i : ℕ) × (i < length xs) × (get_or xs i 0 ≡ k)
@@ -118,13 +118,13 @@ kept_at t e k (suc i) (b ∷ bs) none is = kept_behind t e k b bs (omega arith) 
 
 -- their texts
 pub kept_texts : (f : ℕ → List ℕ → List ℕ) (t : List ℕ → Bool) (all : List (List ℕ)) (k : ℕ) (bs : List (List ℕ)) → ((i : ℕ) → i < length bs → get_or all (k + i) [] ≡ get_or bs i [])
-    → flat_map (λ j. f j (get_or all j [])) (kept t k bs) ≡ numbered (λ j b. if t b then f j b else []) k bs
+    → flat_map (λ j. f j (get_or all j [])) (kept t k bs) ≡ by_number (λ j b. if t b then f j b else []) k bs
 kept_texts f t all k [] h = refl
 kept_texts f t all k (b ∷ bs) h =
     let one : get_or all k [] ≡ b = ap (λ n. get_or all n []) (sym (add-zero k)) ∙ h 0 (omega arith) in
-    let rest : flat_map (λ j. f j (get_or all j [])) (kept t (suc k) bs) ≡ numbered (λ j c. if t c then f j c else []) (suc k) bs = kept_texts f t all (suc k) bs
+    let rest : flat_map (λ j. f j (get_or all j [])) (kept t (suc k) bs) ≡ by_number (λ j c. if t c then f j c else []) (suc k) bs = kept_texts f t all (suc k) bs
     (λ i l. ap (λ n. get_or all n []) (let e : suc k + i ≡ k + suc i = omega arith in e) ∙ h (suc i) (omega arith)) in
-    elim (t b) as (λ c. flat_map (λ j. f j (get_or all j [])) (if c then (k ∷ kept t (suc k) bs) else kept t (suc k) bs) ≡ (if c then f k b else []) ++ numbered (λ j d. if t d then f j d else []) (suc k) bs) [
+    elim (t b) as (λ c. flat_map (λ j. f j (get_or all j [])) (if c then (k ∷ kept t (suc k) bs) else kept t (suc k) bs) ≡ (if c then f k b else []) ++ by_number (λ j d. if t d then f j d else []) (suc k) bs) [
       | true ↦ ap (λ x. f k x ++ flat_map (λ j. f j (get_or all j [])) (kept t (suc k) bs)) one ∙ ap (λ ys. f k b ++ ys) rest
       | false ↦ rest
     ]

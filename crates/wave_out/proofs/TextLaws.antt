@@ -1,14 +1,8 @@
 -- Texts that grow piece by piece.
 use Rattle.std.proofs.Common.{◌≡◌, ◌∙◌, sym, ap, refl, ℕ, suc, ◌+◌, ◌<◌, ◌≤◌, List, [], ◌∷◌, ◌++◌, length, drop, get_or, map, arith, add-one, append_assoc}
 use Rattle.std.proofs.lemmas.List.{append-nil, drop_more, get_or-map, length-map}
-use Rattle.std.specs.Prelude.{◌&&◌, codes}
-use Rattle.std.specs.List.{list_all}
-use Rattle.wave_out.specs.Texts.{is_name_start, is_name_byte, is_simple, line, numbered}
-
--- a name with a first byte
-pub is_simple_first : (name : List ℕ) → 1 ≤ length name → is_simple name ≡ is_name_start (get_or name 0 0) && list_all is_name_byte (drop 1 name)
-is_simple_first [] h = absurd (omega arith)
-is_simple_first (c ∷ cs) h = refl
+use Rattle.std.specs.Prelude.{codes}
+use Rattle.wave_out.specs.Texts.{line, by_number}
 
 -- texts are added, one after the other
 pub add_two : {t u : List ℕ} (start a b : List ℕ) → t ≡ start ++ a → u ≡ t ++ b → u ≡ start ++ (a ++ b)
@@ -30,15 +24,15 @@ line_end text = append_assoc text (codes " $end") (10 ∷ [])
 
 -- a text that the texts of the things from the i-th on complete, which are numbered from j, is so after one more
 pub numbered_step : {A : Type 0} (f : ℕ → A → List ℕ) (text whole : List ℕ) (xs : List A) (i j j' : ℕ) (d : A) → i < length xs → j' ≡ suc j
-    → text ++ numbered f j (drop i xs) ≡ whole → (text ++ f j (get_or xs i d)) ++ numbered f j' (drop (i + 1) xs) ≡ whole
+    → text ++ by_number f j (drop i xs) ≡ whole → (text ++ f j (get_or xs i d)) ++ by_number f j' (drop (i + 1) xs) ≡ whole
 numbered_step f text whole xs i j j' d l n e =
-    append_assoc text (f j (get_or xs i d)) (numbered f j' (drop (i + 1) xs))
-    ∙ (ap (λ m. text ++ (f j (get_or xs i d) ++ numbered f m (drop (i + 1) xs))) n
-    ∙ (ap (λ ys. text ++ numbered f j ys) (sym (drop_more xs i d l)) ∙ e))
+    append_assoc text (f j (get_or xs i d)) (by_number f j' (drop (i + 1) xs))
+    ∙ (ap (λ m. text ++ (f j (get_or xs i d) ++ by_number f m (drop (i + 1) xs))) n
+    ∙ (ap (λ ys. text ++ by_number f j ys) (sym (drop_more xs i d l)) ∙ e))
 
 -- the same with the text after the line, and with things that are seen otherwise in the code
 pub numbered_next : {A C : Type 0} (f : ℕ → A → List ℕ) (g : C → A) (text more whole : List ℕ) (xs : List C) (i j j' : ℕ) (x : C) → i < length xs → j' ≡ suc j → x ≡ get_or xs i x
-    → more ≡ text ++ f j (g x) → text ++ numbered f j (drop i (map g xs)) ≡ whole → more ++ numbered f j' (drop (i + 1) (map g xs)) ≡ whole
+    → more ≡ text ++ f j (g x) → text ++ by_number f j (drop i (map g xs)) ≡ whole → more ++ by_number f j' (drop (i + 1) (map g xs)) ≡ whole
 numbered_next f g text more whole xs i j j' x l n is line e =
-    ap (λ t. t ++ numbered f j' (drop (i + 1) (map g xs))) (line ∙ ap (λ y. text ++ f j y) (ap g is ∙ sym (get_or-map g xs i x (g x) l)))
+    ap (λ t. t ++ by_number f j' (drop (i + 1) (map g xs))) (line ∙ ap (λ y. text ++ f j y) (ap g is ∙ sym (get_or-map g xs i x (g x) l)))
     ∙ numbered_step f text whole (map g xs) i j j' (g x) (simp length-map l) n e

@@ -8,7 +8,7 @@ use Rattle.sg_circuit.specs.declared.building.Pin.{Pin}
 use Rattle.sg_circuit.specs.Circuit.{Circuit, Scope, scope_at}
 use Rattle.sg_circuit.specs.Closed.{IsClosed}
 use Rattle.sg_circuit.specs.FanOut.{readers_at}
-use Rattle.sg_circuit.specs.Pins.{picked, HasPins}
+use Rattle.sg_circuit.specs.Pins.{elements_on, HasPins}
 use Rattle.sg_circuit.proofs.PinLaws.{picked-append}
 use Rattle.wave_out.specs.declared.scopes.Visit.{Visit}
 use Rattle.wave_out.specs.declared.scopes.Visit.TheVariants.{Enters, Leaves}
@@ -17,15 +17,15 @@ use Rattle.wave_out.proofs.ListLaws.{All-first, All-flat_map, All-last, All-reve
 use Rattle.wave_out.specs.Walk.{pin_of, parent_pins, AreChildren, IsVisit, inner_of, whole_visit, left_visits, GoesOn}
 
 -- the pins of scopes are their parents' children
-with_pin : (net k : ℕ) (o : Option ℕ) (es : List ℕ) → picked net (pin_of k o) ++ es ≡ (if is_parent net o then (k ∷ es) else es)
+with_pin : (net k : ℕ) (o : Option ℕ) (es : List ℕ) → elements_on net (pin_of k o) ++ es ≡ (if is_parent net o then (k ∷ es) else es)
 with_pin net k None es = refl
 with_pin net k (Some p) es = elim (p == net) as (λ b. (if b then (k ∷ []) else []) ++ es ≡ (if b then (k ∷ es) else es)) [ true ↦ refl | false ↦ refl ]
 
-pub picked-parents : (net k : ℕ) (ss : List Scope) → picked net (parent_pins k ss) ≡ children_from net k ss
+pub picked-parents : (net k : ℕ) (ss : List Scope) → elements_on net (parent_pins k ss) ≡ children_from net k ss
 picked-parents net k [] = refl
 picked-parents net k (s ∷ ss) =
     picked-append net (pin_of k s.parent) (parent_pins (suc k) ss)
-    ∙ (ap (λ es. picked net (pin_of k s.parent) ++ es) (picked-parents net (suc k) ss)
+    ∙ (ap (λ es. elements_on net (pin_of k s.parent) ++ es) (picked-parents net (suc k) ss)
     ∙ with_pin net k s.parent (children_from net (suc k) ss))
 
 -- each pin is at one of so many scopes
@@ -53,7 +53,7 @@ pins_within c h = parents_within (length c.scopes) 0 c.scopes (λ i d l. if_some
 pub are_children : (c : Circuit) (pins : List Pin) (table : List (List ℕ)) → pins ≡ parent_pins 0 c.scopes → HasPins pins table → length table ≡ length c.scopes → AreChildren c table
 are_children c pins table e h many = record {
   as_many = many;
-  each = λ s l. h.each s (omega arith) ∙ (ap (picked s) e ∙ picked-parents s 0 c.scopes);
+  each = λ s l. h.each s (omega arith) ∙ (ap (elements_on s) e ∙ picked-parents s 0 c.scopes);
 }
 
 -- children stand behind their parent

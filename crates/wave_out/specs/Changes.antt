@@ -5,7 +5,7 @@ use Rattle.sg_logic.specs.declared.values.Value.{Value}
 use Rattle.sg_model.specs.Time.{any_differs}
 use Rattle.sim_rounds.specs.Watching.{AreDifferences, NetChange}
 use Rattle.wave_out.specs.Lines.{bits_line, first_text, later_text}
-use Rattle.wave_out.specs.Texts.{numbered}
+use Rattle.wave_out.specs.Texts.{by_number}
 use Rattle.wave_out.specs.Vcd.{time_line}
 
 -- the value of the k-th variable where it differs
@@ -14,7 +14,7 @@ bits_change old new k bits = if any_differs old new bits then bits_line new k bi
 
 -- the block of a time with the variables that differ, if some do
 abbrev pub changes_text : ℕ → List (List ℕ) → List Value → List Value → Option (List ℕ)
-changes_text time bits old new = if list_any (any_differs old new) bits then Some (time_line time ++ numbered (bits_change old new) 0 bits) else None
+changes_text time bits old new = if list_any (any_differs old new) bits then Some (time_line time ++ by_number (bits_change old new) 0 bits) else None
 
 -- the same from the list of those variables
 abbrev pub work_text : ℕ → List (List ℕ) → List Value → List ℕ → Option (List ℕ)

@@ -2,7 +2,6 @@
 use Rattle.std.specs.Prelude.{ℕ, ◌≡◌, ◌≢◌, ◌⊎◌, List, Option, Some, None, Result, Ok, Err, take, refl}
 use Rattle.std.proofs.Common.{◌∙◌}
 use Rattle.sg_io.specs.Files.{File, HasAfter, bytes_of, BothTell}
-use Rattle.sg_io.specs.Faults.{Rises}
 use Rattle.sg_io.specs.declared.outside.ShelfError.{ShelfError}
 use Rattle.sg_io.specs.declared.outside.ShelfError.TheVariants as shelf
 
@@ -29,18 +28,6 @@ pub record LeavesPrefix (name text : List ℕ) (old new : List File) : Type 0 wh
 abbrev pub Leaves : {X : Type 0} → List ℕ → List ℕ → Result X ShelfError → List File → List File → Type 0
 Leaves name text (Ok _) old new = HasAfter name text old new
 Leaves name text (Err _) old new = LeavesPrefix name text old new
-
--- a failure comes only where the count rose; any other answer leaves it
-abbrev pub CauseOf : {X : Type 0} → ℕ → ℕ → Result X ShelfError → Type 0
-CauseOf before now (Ok _) = now ≡ before
-CauseOf before now (Err shelf.Failed) = Rises before now
-CauseOf before now (Err shelf.NoMemory) = now ≡ before
-
--- after a failure the name told is this one; any other answer leaves it
-abbrev pub NamesFaultOf : {X : Type 0} → List ℕ → Option (List ℕ) → Option (List ℕ) → Result X ShelfError → Type 0
-NamesFaultOf name before now (Ok _) = now ≡ before
-NamesFaultOf name before now (Err shelf.Failed) = now ≡ Some name
-NamesFaultOf name before now (Err shelf.NoMemory) = now ≡ before
 
 -- the other files stay where nothing happens, and through several calls
 pub others_same : (name : List ℕ) (told : Option (List File)) → KeepsOthers name told told

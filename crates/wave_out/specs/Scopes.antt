@@ -26,10 +26,10 @@ abbrev pub visits : Circuit → List Visit
 visits circuit = visits_in (length circuit.scopes) circuit 0
 
 -- the variables of a scope that is entered
-abbrev pub entered : Circuit → Visit → List Variable
-entered circuit (Enters scope) = (scope_at circuit scope).variables
-entered circuit Leaves = []
+abbrev pub variables_at : Circuit → Visit → List Variable
+variables_at circuit (Enters scope) = (scope_at circuit scope).variables
+variables_at circuit Leaves = []
 
 -- all variables, in the order of the header
 abbrev pub variables_of : Circuit → List Variable
-variables_of circuit = flat_map (entered circuit) (visits circuit)
+variables_of circuit = flat_map (variables_at circuit) (visits circuit)

@@ -13,7 +13,7 @@ use Rattle.sg_circuit.specs.Circuit.{Circuit, Variable, scope_at}
 use Rattle.wave_out.specs.declared.scopes.Visit.{Visit}
 use Rattle.wave_out.specs.declared.scopes.Visit.TheVariants.{Enters, Leaves}
 use Rattle.wave_out.specs.Scopes.{visits, variables_of}
-use Rattle.wave_out.specs.Texts.{line, numbered, written_name}
+use Rattle.wave_out.specs.Texts.{line, by_number, written_name}
 
 -- The identifier code of the k-th variable: one byte for the first 94, and then that of the rest behind. With as many
 -- turns as k has, none is left over (18.2.1, 18.2.3.8).
@@ -61,7 +61,7 @@ scope_line name = line (codes "$scope module " ++ written_name name ++ codes " $
 abbrev pub visit_lines : Circuit → ℕ → List Visit → List ℕ
 visit_lines circuit k [] = []
 visit_lines circuit k (Enters s ∷ rest) =
-    scope_line (scope_at circuit s).name ++ numbered declaration k (scope_at circuit s).variables
+    scope_line (scope_at circuit s).name ++ by_number declaration k (scope_at circuit s).variables
     ++ visit_lines circuit (k + length (scope_at circuit s).variables) rest
 visit_lines circuit k (Leaves ∷ rest) = line (codes "$upscope $end") ++ visit_lines circuit k rest
 
@@ -99,11 +99,11 @@ time_line t = line (codes "#" ++ decimal t)
 
 -- the block of the first time: the values of all variables (18.2.3.12)
 abbrev pub first_block : List Variable → Snapshot → List ℕ
-first_block variables s = time_line s.time ++ line (codes "$dumpvars") ++ numbered (value_line s.values) 0 variables ++ line (codes "$end")
+first_block variables s = time_line s.time ++ line (codes "$dumpvars") ++ by_number (value_line s.values) 0 variables ++ line (codes "$end")
 
 -- the block of a later time: the values of the variables that differ
 abbrev pub later_block : List Variable → List Value → Snapshot → List ℕ
-later_block variables written s = time_line s.time ++ numbered (change_line written s.values) 0 variables
+later_block variables written s = time_line s.time ++ by_number (change_line written s.values) 0 variables
 
 -- whether some variable differs
 abbrev pub any_variable_differs : List Variable → List Value → List Value → Bool
@@ -116,16 +116,16 @@ pub record Dump : Type 0 where
   pub values : List Value
 
 -- one time more: a block where some variable differs from the block written before
-abbrev pub dumped : List Variable → Snapshot → Option Dump → Option Dump
-dumped variables s None = Some (record { text = first_block variables s; time = s.time; values = s.values })
-dumped variables s (Some d) =
+abbrev pub dump_with : List Variable → Snapshot → Option Dump → Option Dump
+dump_with variables s None = Some (record { text = first_block variables s; time = s.time; values = s.values })
+dump_with variables s (Some d) =
     if any_variable_differs variables d.values s.values then Some (record { text = d.text ++ later_block variables d.values s; time = s.time; values = s.values })
     else Some d
 
 -- the blocks of some times, given by their last snapshots, the latest first
 unfoldable pub dump : List Variable → List Snapshot → Option Dump
 dump variables [] = None
-dump variables (s ∷ older) = dumped variables s (dump variables older)
+dump variables (s ∷ older) = dump_with variables s (dump variables older)
 
 abbrev pub dump_text : Option Dump → List ℕ
 dump_text None = []

@@ -7,7 +7,7 @@ use Rattle.sg_circuit.specs.Circuit.{Circuit, Variable}
 use Rattle.sim_rounds.specs.Watching.{Call, NetChange, AreDifferences}
 use Rattle.wave_out.specs.Files.{FileHolds}
 use Rattle.wave_out.specs.Scopes.{variables_of}
-use Rattle.wave_out.specs.Vcd.{Dump, dump_text, dumped, header, time_line}
+use Rattle.wave_out.specs.Vcd.{Dump, dump_text, dump_with, header, time_line}
 
 -- each call tells the differences against the values of the call before
 abbrev pub AreTruthfulAfter : List Value → List Call → Type 0
@@ -23,17 +23,17 @@ abbrev pub snapshot_of : Call → Snapshot
 snapshot_of c = record { time = c.time; values = c.values }
 
 -- the end of a dump at a time: its line, unless that time has a block
-abbrev pub ended : ℕ → Dump → Dump
-ended time d = if d.time == time then d else record d { text = d.text ++ time_line time; time = time }
+abbrev pub dump_at_end : ℕ → Dump → Dump
+dump_at_end time d = if d.time == time then d else record d { text = d.text ++ time_line time; time = time }
 
 -- a later call with changes adds its block, if it has one; one without changes is the end
 abbrev pub later : List Variable → Call → List NetChange → Dump → Option Dump
-later variables c [] d = Some (ended c.time d)
-later variables c (n ∷ ns) d = dumped variables (snapshot_of c) (Some d)
+later variables c [] d = Some (dump_at_end c.time d)
+later variables c (n ∷ ns) d = dump_with variables (snapshot_of c) (Some d)
 
 -- one call more
 abbrev pub with_call : List Variable → Call → Option Dump → Option Dump
-with_call variables c None = dumped variables (snapshot_of c) None
+with_call variables c None = dump_with variables (snapshot_of c) None
 with_call variables c (Some d) = later variables c c.changed d
 
 -- what was written after calls

@@ -1,7 +1,7 @@
 // The blocks of a dump: a time, and values of variables.
 ghost use Rattle.std.specs.Prelude.{◌≡◌, ◌++◌, ◌<◌, All, IfOk, OnOk, codes, length, map};
 ghost use Rattle.wave_out.specs.Lines.{bits_line, first_text, later_text, lines_of};
-ghost use Rattle.wave_out.specs.Texts.{line, numbered};
+ghost use Rattle.wave_out.specs.Texts.{line, by_number};
 ghost use Rattle.wave_out.specs.Vcd.{code, time_line, value_letter, value_text, values_at};
 
 use crate::words::{push_code, push_number};
@@ -85,7 +85,7 @@ fn push_values<N: Nets>(
     nets: &N,
 ) -> Result<(), AllocError>
     requires { All (λ bits. All (λ n. n < length (N.values nets.now)) bits.now) variables.now }
-    ensures { OnOk result (text.new.items ≡ text.old.items ++ numbered (bits_line (N.values nets.now)) 0 (map (λ b. b.now) variables.now)) }
+    ensures { OnOk result (text.new.items ≡ text.old.items ++ by_number (bits_line (N.values nets.now)) 0 (map (λ b. b.now) variables.now)) }
 {
     for (k, bits) in variables.iter().enumerate() {
         push_value(text, k, bits, nets)?;

@@ -2,7 +2,7 @@
 ghost use Rattle.std.specs.Prelude.{◌≡◌, ◌++◌, ◌+◌, ◌<◌, ◌^◌, ◌∷◌, ℕ, All, List, IfOk, OnOk, codes, decimal, length, map};
 ghost use Rattle.sg_circuit.specs.Seen.{circuit_seen, scope_seen, variable_seen};
 ghost use Rattle.wave_out.specs.Scopes.{visits};
-ghost use Rattle.wave_out.specs.Texts.{numbered, written_name};
+ghost use Rattle.wave_out.specs.Texts.{by_number, written_name};
 ghost use Rattle.wave_out.specs.Vcd.{code, declaration, header, range_text, scope_line, type_text, visit_lines};
 ghost use Rattle.wave_out.specs.Walk.{IsVisit};
 
@@ -50,7 +50,7 @@ fn push_declaration(text: &mut Vec<u8>, k: usize, variable: &Variable) -> Result
 // The declarations of variables, from the k-th on.
 fn push_declarations(text: &mut Vec<u8>, k: usize, variables: &[Variable]) -> Result<(), AllocError>
     requires { k + length variables.now < 2 ^ 64 }
-    ensures { OnOk result (text.new.items ≡ text.old.items ++ numbered declaration k (map (λ v. variable_seen v) variables.now)) }
+    ensures { OnOk result (text.new.items ≡ text.old.items ++ by_number declaration k (map (λ v. variable_seen v) variables.now)) }
 {
     for (i, variable) in variables.iter().enumerate() {
         push_declaration(text, k + i, variable)?;
@@ -69,7 +69,7 @@ fn push_scope(text: &mut Vec<u8>, name: &[u8]) -> Result<(), AllocError>
 
 // The lines of a scope that is entered, where k variables were declared before; and how many are then.
 fn push_entered(text: &mut Vec<u8>, k: usize, scope: &Scope) -> Result<usize, NoMemory>
-    ensures text { OnOk result (text.new.items ≡ text.old.items ++ (scope_line scope.now.name ++ numbered declaration k (map (λ v. variable_seen v) scope.now.variables.items))) }
+    ensures text { OnOk result (text.new.items ≡ text.old.items ++ (scope_line scope.now.name ++ by_number declaration k (map (λ v. variable_seen v) scope.now.variables.items))) }
     ensures count { IfOk result (λ next. next ≡ k + length scope.now.variables.items) }
 {
     let next = k.checked_add(scope.variables.len()).ok_or(NoMemory)?;

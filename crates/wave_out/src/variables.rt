@@ -3,7 +3,7 @@ ghost use Rattle.std.specs.Prelude.{◌≡◌, ◌++◌, ◌<◌, ◌≤◌, ◌
 ghost use Rattle.sg_circuit.specs.FanOut.{IsFanOut};
 ghost use Rattle.sg_circuit.specs.Pins.{pins_from};
 ghost use Rattle.sg_circuit.specs.Seen.{circuit_seen};
-ghost use Rattle.wave_out.specs.Scopes.{entered, variables_of, visits};
+ghost use Rattle.wave_out.specs.Scopes.{variables_at, variables_of, visits};
 ghost use Rattle.wave_out.specs.Walk.{IsVisit};
 
 use crate::scopes::Visit;
@@ -29,7 +29,7 @@ fn push_entered<'a>(
     visit: Visit,
 ) -> Result<(), NoMemory>
     requires { IsVisit (length parts.now.scopes.items) visit }
-    ensures { OnOk result (map (λ b. b.now) bits.new.items ≡ map (λ b. b.now) bits.old.items ++ map (λ x. x.bits) (entered (circuit_seen parts.now) visit)) }
+    ensures { OnOk result (map (λ b. b.now) bits.new.items ≡ map (λ b. b.now) bits.old.items ++ map (λ x. x.bits) (variables_at (circuit_seen parts.now) visit)) }
 {
     match visit {
         Visit::Enters(scope) => push_variables(bits, &parts.scopes[scope as usize].variables),

@@ -1,44 +1,16 @@
 // Words of the dump and of the report: names, numbers, codes and ticks.
 ghost use Rattle.std.specs.Prelude.{◌≡◌, ◌++◌, ◌∷◌, ◌&&◌, ◌<◌, not, decimal, OnOk};
 ghost use Rattle.std.specs.Fmt.{signed_decimal};
-ghost use Rattle.std.specs.List.{list_all};
+ghost use Rattle.sg_text.specs.Names.{is_simple};
 ghost use Rattle.sg_text.specs.Words.{is_reserved_word};
-ghost use Rattle.wave_out.specs.Texts.{is_name_start, is_name_byte, is_simple, written_name, bit_text};
+ghost use Rattle.wave_out.specs.Texts.{written_name, bit_text};
 ghost use Rattle.wave_out.specs.Vcd.{code, number_of, unit_of, text_below, tick_text, range_text};
 
 use itoa::Buffer;
 use sg_circuit::Range;
-use sg_text::is_reserved;
+use sg_text::{is_reserved, is_simple_name};
 use sg_time::Unit;
 use std::alloc::AllocError;
-
-fn is_start(b: u8) -> bool
-    ensures { result ≡ is_name_start b }
-{
-    b.is_ascii_alphabetic() || b == b'_'
-}
-
-fn is_name(b: u8) -> bool
-    ensures { result ≡ is_name_byte b }
-{
-    b.is_ascii_alphanumeric() || b == b'_' || b == b'$'
-}
-
-fn are_name_bytes(bytes: &[u8]) -> bool
-    ensures { result ≡ list_all is_name_byte bytes.now }
-{
-    bytes.iter().all(|b| is_name(*b))
-}
-
-#[tactic(auto, using(crate::proofs::TextLaws::is_simple_first))]
-fn is_simple_name(name: &[u8]) -> bool
-    ensures { result ≡ is_simple name.now }
-{
-    match name {
-        [] => false,
-        [first, rest @ ..] => is_start(*first) && are_name_bytes(rest),
-    }
-}
 
 // Whether a name is written as it is.
 fn is_plain(name: &[u8]) -> bool

@@ -1,7 +1,8 @@
 // The value change dump of a run, written to a file from time to time.
 ghost use Rattle.std.specs.Prelude.{◌≡◌, None, IfOk};
+ghost use Rattle.sg_io.specs.Faults.{Cause, NamesFault};
 ghost use Rattle.sg_io.specs.Files.{BothTell};
-ghost use Rattle.wave_out.specs.Files.{CauseOf, Leaves, NamesFaultOf};
+ghost use Rattle.wave_out.specs.Files.{Leaves};
 ghost use Rattle.wave_out.specs.Vcd.{header};
 
 use crate::header::header_of;
@@ -51,8 +52,8 @@ impl<'a> VcdWriter<'a> {
     ) -> Result<VcdWriter<'a>, ShelfError>
         ensures writer { IfOk result (λ w. w ≡ record { name = name.now; circuit = circuit.now; last = None }) }
         ensures file { BothTell (S.files shelf.old) (S.files shelf.new) (Leaves name.now (header circuit.now) result) }
-        ensures cause { CauseOf (S.fault_count shelf.old) (S.fault_count shelf.new) result }
-        ensures named { NamesFaultOf name.now (S.last_fault shelf.old) (S.last_fault shelf.new) result }
+        ensures cause { Cause (S.fault_count shelf.old) (S.fault_count shelf.new) result }
+        ensures named { NamesFault name.now (S.last_fault shelf.old) (S.last_fault shelf.new) result }
     {
         let order = visits_of(alloc, circuit)?;
         let header = header_of(alloc, circuit, &order)?;

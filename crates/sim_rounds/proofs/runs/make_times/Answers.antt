@@ -62,15 +62,15 @@ returns-in_err-tell_time-clause-ended g c =
     let new = c.make.new.self in
     let made : TimeMade m sets c.args.bound now (t.stands c.loop-now.times) (t.stands new) (t.counted new) c.loop-now.steps c.make.new.steps (Ok c.in_ok-make.field-0) =
     made_same _ _ _ _ c.args.bound now (t.stands c.loop-now.times) (t.stands new) (t.counted new) c.loop-now.steps c.make.new.steps (Ok c.in_ok-make.field-0) c.loop-now.invariant.machine c.loop-now.invariant.sets c.in_ok-make.ensures.made in
-    let came : AllCame m sets c.args.bound c.args.end now (t.stands c.args.times.now) (t.values c.args.times.now) (t.stands new) (t.kept new) (λ made. Got w.stands c.args.watcher.now c.loop-now.watcher c.args.shelf.now c.loop-now.shelf made) (calls_at now (t.changed new) (t.values new)) c.args.steps.now c.make.new.steps =
+    let came : AllCame m sets c.args.bound c.args.end now (t.stands c.args.times.now) (t.values c.args.times.now) (t.stands new) (t.kept new) (λ made. Got w.stands c.args.watcher.now c.loop-now.watcher c.args.shelf.now c.loop-now.shelf made) (calls_at now (t.changes new) (t.values new)) c.args.steps.now c.make.new.steps =
     came_time m sets c.args.bound c.args.end now (t.stands c.args.times.now) (t.values c.args.times.now) (t.stands c.loop-now.times) (t.stands new) (t.kept c.loop-now.times) (t.kept new) (λ made. Got w.stands c.args.watcher.now c.loop-now.watcher c.args.shelf.now c.loop-now.shelf made)
-    (t.counted new) c.args.steps.now c.loop-now.steps c.make.new.steps c.in_ok-make.field-0 (t.changed new) (t.values new) c.loop-now.invariant.came made (g.met.T.Times.shows new) (c.in_ok-make.ensures.nets ∙ sym c.loop-now.invariant.told) c.in_ok-make.ensures.changed c.in_ok-make.ensures.kept in
-    let broke : Broke w.stands w.broken c.loop-now.watcher c.tell_time.new.watcher c.loop-now.shelf c.tell_time.new.shelf (calls_at now (t.changed new) (t.values new)) =
-    subst (λ vs. Broke w.stands w.broken c.loop-now.watcher c.tell_time.new.watcher c.loop-now.shelf c.tell_time.new.shelf (calls_at now (t.changed new) vs)) c.values.ensures
-    (subst (λ cs. Broke w.stands w.broken c.loop-now.watcher c.tell_time.new.watcher c.loop-now.shelf c.tell_time.new.shelf (calls_at now cs c.values.result.now)) c.changed.ensures c.in_err-tell_time.ensures.err) in
+    (t.counted new) c.args.steps.now c.loop-now.steps c.make.new.steps c.in_ok-make.field-0 (t.changes new) (t.values new) c.loop-now.invariant.came made (g.met.T.Times.shows new) (c.in_ok-make.ensures.nets ∙ sym c.loop-now.invariant.told) c.in_ok-make.ensures.changed c.in_ok-make.ensures.kept in
+    let broke : Broke w.stands w.broken c.loop-now.watcher c.tell_time.new.watcher c.loop-now.shelf c.tell_time.new.shelf (calls_at now (t.changes new) (t.values new)) =
+    subst (λ vs. Broke w.stands w.broken c.loop-now.watcher c.tell_time.new.watcher c.loop-now.shelf c.tell_time.new.shelf (calls_at now (t.changes new) vs)) c.values.ensures
+    (subst (λ cs. Broke w.stands w.broken c.loop-now.watcher c.tell_time.new.watcher c.loop-now.shelf c.tell_time.new.shelf (calls_at now cs c.values.result.now)) c.changes.ensures c.in_err-tell_time.ensures.err) in
     subst (λ r. RunMade m sets c.args.bound c.args.end (t.stands c.args.times.now) (t.values c.args.times.now) w.stands w.broken c.args.watcher.now c.tell_time.new.watcher c.args.shelf.now c.tell_time.new.shelf (t.kept new) (t.counted new) (c.make.new.steps - c.args.steps.now) r) (sym is)
     (stopped_in_call m sets c.args.bound c.args.end now (t.stands c.args.times.now) (t.values c.args.times.now) (t.stands new) (t.kept new) w.stands w.broken c.args.watcher.now c.loop-now.watcher c.tell_time.new.watcher c.args.shelf.now c.loop-now.shelf c.tell_time.new.shelf
-    (calls_at now (t.changed new) (t.values new)) (t.counted new) c.args.steps.now c.make.new.steps e c.loop-now-test.true came c.in_err-tell_time.ensures.call broke (g.met.T.Times.holds new) (g.met.T.Times.counts new))
+    (calls_at now (t.changes new) (t.values new)) (t.counted new) c.args.steps.now c.make.new.steps e c.loop-now-test.true came c.in_err-tell_time.ensures.call broke (g.met.T.Times.holds new) (g.met.T.Times.counts new))
 
 pub loop-now-preserved : goal.loop-now-preserved
 loop-now-preserved g c =
@@ -82,12 +82,12 @@ loop-now-preserved g c =
     let new = c.make.new.self in
     let made : TimeMade m sets c.args.bound now (t.stands c.loop-now.times) (t.stands new) (t.counted new) c.loop-now.steps c.make.new.steps (Ok c.in_ok-make.field-0) =
     made_same _ _ _ _ c.args.bound now (t.stands c.loop-now.times) (t.stands new) (t.counted new) c.loop-now.steps c.make.new.steps (Ok c.in_ok-make.field-0) c.loop-now.invariant.machine c.loop-now.invariant.sets c.in_ok-make.ensures.made in
-    let came : AllCame m sets c.args.bound c.args.end now (t.stands c.args.times.now) (t.values c.args.times.now) (t.stands new) (t.kept new) (λ made. Got w.stands c.args.watcher.now c.loop-now.watcher c.args.shelf.now c.loop-now.shelf made) (calls_at now (t.changed new) (t.values new)) c.args.steps.now c.make.new.steps =
+    let came : AllCame m sets c.args.bound c.args.end now (t.stands c.args.times.now) (t.values c.args.times.now) (t.stands new) (t.kept new) (λ made. Got w.stands c.args.watcher.now c.loop-now.watcher c.args.shelf.now c.loop-now.shelf made) (calls_at now (t.changes new) (t.values new)) c.args.steps.now c.make.new.steps =
     came_time m sets c.args.bound c.args.end now (t.stands c.args.times.now) (t.values c.args.times.now) (t.stands c.loop-now.times) (t.stands new) (t.kept c.loop-now.times) (t.kept new) (λ made. Got w.stands c.args.watcher.now c.loop-now.watcher c.args.shelf.now c.loop-now.shelf made)
-    (t.counted new) c.args.steps.now c.loop-now.steps c.make.new.steps c.in_ok-make.field-0 (t.changed new) (t.values new) c.loop-now.invariant.came made (g.met.T.Times.shows new) (c.in_ok-make.ensures.nets ∙ sym c.loop-now.invariant.told) c.in_ok-make.ensures.changed c.in_ok-make.ensures.kept in
-    let got : Got w.stands c.loop-now.watcher c.tell_time.new.watcher c.loop-now.shelf c.tell_time.new.shelf (calls_at now (t.changed new) (t.values new)) =
-    subst (λ vs. Got w.stands c.loop-now.watcher c.tell_time.new.watcher c.loop-now.shelf c.tell_time.new.shelf (calls_at now (t.changed new) vs)) c.values.ensures
-    (subst (λ cs. Got w.stands c.loop-now.watcher c.tell_time.new.watcher c.loop-now.shelf c.tell_time.new.shelf (calls_at now cs c.values.result.now)) c.changed.ensures c.in_ok-tell_time.ensures.ok) in
+    (t.counted new) c.args.steps.now c.loop-now.steps c.make.new.steps c.in_ok-make.field-0 (t.changes new) (t.values new) c.loop-now.invariant.came made (g.met.T.Times.shows new) (c.in_ok-make.ensures.nets ∙ sym c.loop-now.invariant.told) c.in_ok-make.ensures.changed c.in_ok-make.ensures.kept in
+    let got : Got w.stands c.loop-now.watcher c.tell_time.new.watcher c.loop-now.shelf c.tell_time.new.shelf (calls_at now (t.changes new) (t.values new)) =
+    subst (λ vs. Got w.stands c.loop-now.watcher c.tell_time.new.watcher c.loop-now.shelf c.tell_time.new.shelf (calls_at now (t.changes new) vs)) c.values.ensures
+    (subst (λ cs. Got w.stands c.loop-now.watcher c.tell_time.new.watcher c.loop-now.shelf c.tell_time.new.shelf (calls_at now cs c.values.result.now)) c.changes.ensures c.in_ok-tell_time.ensures.ok) in
     let same : t.machine new ≡ m = c.in_ok-make.ensures.machine ∙ c.loop-now.invariant.machine in
     let same_sets : t.sets new ≡ sets = c.in_ok-make.ensures.sets ∙ c.loop-now.invariant.sets in
     let nets : length (t.values new) ≡ length (t.values c.args.times.now) = c.in_ok-make.ensures.nets ∙ c.loop-now.invariant.nets in
@@ -96,8 +96,8 @@ loop-now-preserved g c =
       sets = c.next-now.ensures.sets ∙ same_sets;
       came = subst (λ k. AllCameTo m sets c.args.bound c.args.end c.next-now.result (t.stands c.args.times.now) (t.values c.args.times.now) (t.stands c.next-now.new.self) k (λ made. Got w.stands c.args.watcher.now c.tell_time.new.watcher c.args.shelf.now c.tell_time.new.shelf made) c.args.steps.now c.make.new.steps) (sym c.next-now.ensures.kept)
           (came_next m c.requires.law sets c.args.bound c.args.end now c.next-now.result (t.stands c.args.times.now) (t.values c.args.times.now) (t.stands new) (t.stands c.next-now.new.self) (t.kept new)
-          (λ made. Got w.stands c.args.watcher.now c.loop-now.watcher c.args.shelf.now c.loop-now.shelf made) (λ made. Got w.stands c.args.watcher.now c.tell_time.new.watcher c.args.shelf.now c.tell_time.new.shelf made) (calls_at now (t.changed new) (t.values new)) c.args.steps.now c.make.new.steps
-          c.next-now.ensures.later came (λ made h. got_more w.stands c.args.watcher.now c.loop-now.watcher c.tell_time.new.watcher c.args.shelf.now c.loop-now.shelf c.tell_time.new.shelf made (calls_at now (t.changed new) (t.values new)) h got)
+          (λ made. Got w.stands c.args.watcher.now c.loop-now.watcher c.args.shelf.now c.loop-now.shelf made) (λ made. Got w.stands c.args.watcher.now c.tell_time.new.watcher c.args.shelf.now c.tell_time.new.shelf made) (calls_at now (t.changes new) (t.values new)) c.args.steps.now c.make.new.steps
+          c.next-now.ensures.later came (λ made h. got_more w.stands c.args.watcher.now c.loop-now.watcher c.tell_time.new.watcher c.args.shelf.now c.loop-now.shelf c.tell_time.new.shelf made (calls_at now (t.changes new) (t.values new)) h got)
           (λ x u h lo hi. subst (λ y. IsQuiet y x u) same_sets (c.next-now.ensures.quiet x u h lo hi))
           (λ k n x seen h. c.next-now.ensures.stands (with_copies k m n x) (subst (λ y. t.stands new (with_copies k y n x)) same (g.met.T.Times.skips new k n x (subst IsLawful (sym same) c.requires.law) seen h))));
       ready = c.next-now.ensures.ready;
