@@ -12,7 +12,7 @@ use Rattle.std.proofs.lemmas.List.{length-map}
 use Rattle.std.specs.Bool.{OnFalse}
 use Rattle.sg_model.specs.Machine.{Machine, Stamp}
 use Rattle.sg_model.specs.Round.{any_due, changed_by, due_changes, each_from, element_list, placed_by, round, stamps_after, values_after, without_due}
-use Rattle.sg_model.specs.Time.{Run, first_some, named, with_round}
+use Rattle.sg_model.specs.Time.{Run, first_some, spent_net, with_round}
 use Rattle.sg_model.proofs.PlacingSteps.{same-self}
 use Rattle.sg_model.proofs.RunSteps.{round-is}
 use Rattle.circuit_model.specs.Circuit.{Circuit, Element, Gate, Net, element_at}
@@ -132,10 +132,10 @@ lists_after_round c now all handed r values pending after p l v e =
     ∙ (ap (λ vs. all_evaluated now vs c.elements.items (map (without_due now) r.state.lists)) new ∙ (ap (λ ls. all_evaluated now values c.elements.items (map (without_due now) ls)) p ∙ sym e)))
 
 -- the net that is named: one that the last round changed, or else the next
-pub named_first : (m : Machine) (now : ℕ) (handed : List (ℕ × Value)) (r : Run) (net : ℕ) → Some net ≡ least_differing 0 r.before r.state.values → named m now handed r ≡ Some net
+pub named_first : (m : Machine) (now : ℕ) (handed : List (ℕ × Value)) (r : Run) (net : ℕ) → Some net ≡ least_differing 0 r.before r.state.values → spent_net m now handed r ≡ Some net
 named_first m now handed r net e = ap (λ x. first_some x (least_differing 0 r.state.values (round m now handed r.state).values)) (sym e)
 
-pub named_next : (m : Machine) (now : ℕ) (handed : List (ℕ × Value)) (r : Run) (net : Option ℕ) → None ≡ least_differing 0 r.before r.state.values → net ≡ least_differing 0 r.state.values (round m now handed r.state).values → named m now handed r ≡ net
+pub named_next : (m : Machine) (now : ℕ) (handed : List (ℕ × Value)) (r : Run) (net : Option ℕ) → None ≡ least_differing 0 r.before r.state.values → net ≡ least_differing 0 r.state.values (round m now handed r.state).values → spent_net m now handed r ≡ net
 named_next m now handed r net e f = ap (λ x. first_some x (least_differing 0 r.state.values (round m now handed r.state).values)) (sym e) ∙ sym f
 
 -- before time 0

@@ -4,7 +4,7 @@ use Rattle.std.proofs.Common.{sym, ◌∙◌, ap, subst}
 use Rattle.sg_logic.specs.declared.values.Value.{Value}
 use Rattle.sg_model.specs.Machine.{Machine}
 use Rattle.sg_model.specs.Time as model
-use Rattle.sg_model.specs.Time.{Run, rounds, with_round, with_snapshot, flips_of, is_empty, named}
+use Rattle.sg_model.specs.Time.{Run, rounds, with_round, with_snapshot, flips_of, is_empty, spent_net}
 use Rattle.sg_model.proofs.RunSteps.{rounds-round, rounds-spent, rounds-toggle, rounds-toggle_spent, rounds-whole}
 use Rattle.signoff.specs.declared.engine.times.TimeEnd.{TimeEnd}
 use Rattle.signoff.specs.declared.engine.times.TimeEnd.TheVariants.{Whole, Spent}
@@ -16,7 +16,7 @@ pub record RunIsDue (m : Machine) (now : ℕ) (must : Bool) (handed flips : List
   pub stands : mid run
   pub all : Bool
   pub goes : (left : ℕ) → rounds (suc left) m now must handed r ≡ rounds left m now false [] (with_round m now all flips run)
-  pub spent : rounds 0 m now must handed r ≡ model.Spent (named m now flips run) run.evaluations
+  pub spent : rounds 0 m now must handed r ≡ model.Spent (spent_net m now flips run) run.evaluations
 
 pub record RoundIsDue (m : Machine) (now : ℕ) (must : Bool) (handed flips : List (ℕ × Value)) (stands mid : Run → Type 0) : Type 0 where
   pub each : (r : Run) → stands r → RunIsDue m now must handed flips mid r
@@ -36,7 +36,7 @@ due_now m now must handed same stands mid answer e needs h keeps = record {
         stands = keeps r k;
         all = must;
         goes = λ left. rounds-round left m now must handed r yes ∙ ap (λ x. rounds left m now false [] (with_round m now must x r)) (sym h);
-        spent = rounds-spent m now must handed r yes ∙ ap (λ x. model.Spent (named m now x r) r.evaluations) (sym h);
+        spent = rounds-spent m now must handed r yes ∙ ap (λ x. model.Spent (spent_net m now x r) r.evaluations) (sym h);
       });
 }
 
@@ -59,7 +59,7 @@ due_toggles m now must handed flips stands mid answer e needs after some = recor
         stands = after.each r h;
         all = false;
         goes = λ left. rounds-toggle left m now must handed r no flip ∙ ap (λ x. rounds left m now false [] (with_round m now false x s)) (sym flips_is);
-        spent = rounds-toggle_spent m now must handed r no flip ∙ ap (λ x. model.Spent (named m now x s) s.evaluations) (sym flips_is);
+        spent = rounds-toggle_spent m now must handed r no flip ∙ ap (λ x. model.Spent (spent_net m now x s) s.evaluations) (sym flips_is);
       });
 }
 

@@ -3,7 +3,7 @@ use Rattle.std.specs.Prelude.{ℕ, suc, ◌≡◌, Bool, true, false, List, Opti
 use Rattle.sg_logic.specs.declared.values.Value.{Value}
 use Rattle.sg_model.specs.Machine.{Machine}
 use Rattle.sg_model.specs.Time as model
-use Rattle.sg_model.specs.Time.{Run, Ended, rounds, needs_round, with_round, with_snapshot, flips_of, named}
+use Rattle.sg_model.specs.Time.{Run, Ended, rounds, needs_round, with_round, with_snapshot, flips_of, spent_net}
 use Rattle.signoff.specs.declared.engine.times.TimeEnd.{TimeEnd}
 use Rattle.signoff.specs.declared.engine.times.TimeEnd.TheVariants.{Whole, Spent}
 
@@ -22,7 +22,7 @@ pub record AfterSnapshot (m : Machine) (now : ℕ) (stands after : Run → Type 
 
 -- the net that a spent time names
 pub record Names (m : Machine) (now : ℕ) (handed : List (ℕ × Value)) (stands : Run → Type 0) (net : Option ℕ) : Type 0 where
-  pub each : (r : Run) → stands r → named m now handed r ≡ net
+  pub each : (r : Run) → stands r → spent_net m now handed r ≡ net
 
 -- a round took place: one fewer is left
 pub record WentOn (m : Machine) (now : ℕ) (must : Bool) (handed later : List (ℕ × Value)) (stands after : Run → Type 0) : Type 0 where
