@@ -13,11 +13,11 @@ use Rattle.sg_model.proofs.PlacedLaws.{same-true}
 use Rattle.sg_model.proofs.PlacingSteps.{same-self}
 use Rattle.sg_model.proofs.SnapshotLaws.{AddsSnapshots, AreBefore, time-lasts, copies-kept}
 use Rattle.time_checks.specs.declared.changes.Change.{Change}
-use Rattle.sim_rounds.specs.Lists.{occurrences}
-use Rattle.sim_rounds.specs.Nets.{differs}
+use Rattle.fan_round.specs.Lists.{occurrences}
+use Rattle.fan_round.specs.Nets.{differs}
 use Rattle.sim_rounds.specs.Watching.{Call, AreCalls, none_yet, at_zero, same_again, one_more, AreDifferences, IsCall, Got, Broke, net_change, call_of}
 use Rattle.sim_rounds.specs.Runs.{calls_at, last_after}
-use Rattle.sim_rounds.proofs.ListLaws.{occurs_here}
+use Rattle.fan_round.proofs.ListLaws.{occurs_here}
 
 both : (a b : Bool) → (a && b) ≡ true → (a ≡ true) × (b ≡ true)
 both true b e = (refl, e)

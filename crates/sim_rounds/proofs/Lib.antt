@@ -1,13 +1,5 @@
 -- The lemma files of this folder.
-pub mod ListLaws
-pub mod NetLaws
-pub mod WorkLaws
-pub mod WorkIsExact
-pub mod StampLaws
-pub mod EvaluationLaws
-pub mod RoundLaws
 pub mod PendingLaws
-pub mod EveryLaws
 pub mod TimeLaws
 pub mod MachineLaws
 pub mod CallLaws

@@ -16,7 +16,7 @@ use Rattle.sg_circuit.specs.declared.nets.Driver.{Driver}
 use Rattle.sg_circuit.specs.declared.nets.Driver.TheVariants as driver
 use Rattle.sg_circuit.specs.Circuit.{Circuit, Element, Kind, Gate, Udp, Pass, Leg, element_at, net_at}
 use Rattle.sg_circuit.specs.Closed.{IsClosed}
-use Rattle.sim_rounds.specs.Rounds.{IsLater, time_of_rule}
+use Rattle.fan_round.specs.Rounds.{IsLater, time_of_rule}
 use Rattle.sim_rounds.specs.Simulated.{machine_of, values_at, value_of_kind, rule_of_kind}
 
 pub lawful : (circuit : Circuit) → IsLawful (machine_of circuit)

@@ -16,14 +16,14 @@ use Rattle.sg_model.specs.FanOut.{present_after}
 use Rattle.sg_model.proofs.PlacedLaws.{IsPending-taken}
 use Rattle.sg_model.proofs.PlacingSteps.{same-self, same-differs}
 use Rattle.sg_model.proofs.RunSteps.{round-is}
-use Rattle.sim_rounds.specs.Lists.{occurrences}
-use Rattle.sim_rounds.specs.Nets.{differs, AreChanged}
-use Rattle.sim_rounds.specs.Rounds.{AreHanded, ArePending}
+use Rattle.fan_round.specs.Lists.{occurrences}
+use Rattle.fan_round.specs.Nets.{differs, AreChanged}
+use Rattle.fan_round.specs.Rounds.{AreHanded, ArePending}
 use Rattle.sim_rounds.specs.Naming.{IsLeastOf, Moves}
 use Rattle.sim_rounds.specs.Checks.{AreFree}
-use Rattle.sim_rounds.proofs.ListLaws.{occurs_later, occurrences-append, occurs_at}
-use Rattle.sim_rounds.proofs.NetLaws.{changed_append}
-use Rattle.sim_rounds.proofs.RoundLaws.{round_present}
+use Rattle.fan_round.proofs.ListLaws.{occurs_later, occurrences-append, occurs_at}
+use Rattle.fan_round.proofs.NetLaws.{changed_append}
+use Rattle.fan_round.proofs.RoundLaws.{round_present}
 
 -- one net more
 pub least_more : (nets : List ℕ) (i blank least new : ℕ) → i < length nets → 0 < occurrences least nets → ((k : ℕ) → 0 < occurrences k (take i nets) → least ≤ k) → new ≡ min least (slice_index_or nets i blank)

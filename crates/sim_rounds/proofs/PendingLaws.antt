@@ -13,13 +13,13 @@ use Rattle.sg_model.specs.FanOut.{present_after}
 use Rattle.sg_model.proofs.PlacedLaws.{IsPending-placed, IsPending-inertial, IsPending-taken}
 use Rattle.sg_model.proofs.LeastLaws.{none_below-first}
 use Rattle.sg_model.proofs.RunSteps.{round-is}
-use Rattle.sim_rounds.specs.Rounds.{time_of_rule, AreHanded, ArePending, IsLater}
-use Rattle.sim_rounds.specs.declared.nets.Nets.{Nets}
-use Rattle.sim_rounds.specs.declared.work.WorkList.{WorkList}
-use Rattle.sim_rounds.specs.Nets.{AreNets}
-use Rattle.sim_rounds.specs.States.{state_seen, IsIdle, IsOfCircuit, IsReady}
-use Rattle.sim_rounds.proofs.ListLaws.{each_from-at, length-each_from}
-use Rattle.sim_rounds.proofs.RoundLaws.{left_at, round_present, settled_again}
+use Rattle.fan_round.specs.Rounds.{time_of_rule, AreHanded, ArePending, IsLater}
+use Rattle.fan_round.specs.declared.nets.Nets.{Nets}
+use Rattle.fan_round.specs.declared.work.WorkList.{WorkList}
+use Rattle.fan_round.specs.Nets.{AreNets}
+use Rattle.fan_round.specs.States.{state_seen, IsIdle, IsOfCircuit, IsReady}
+use Rattle.fan_round.proofs.ListLaws.{each_from-at, length-each_from}
+use Rattle.fan_round.proofs.RoundLaws.{left_at, round_present, settled_again}
 
 pending-placed_by : (rule : Rule) (list : List (ℕ × Value)) (present : Value) (now : ℕ) (v : Value) → IsPending list present now → now ≤ time_of_rule rule → IsPending (placed_by rule list present now v) present now
 pending-placed_by (Inertial time) list present now v h l = IsPending-inertial list present now v time h l

@@ -19,12 +19,12 @@ use Rattle.stim_read.specs.Stimulus.{Step, Stimulus, sets_at}
 use Rattle.stim_read.specs.Applied.{IsApplied, IsInput}
 use Rattle.time_checks.specs.declared.violations.Violation as code_violation
 use Rattle.sim_rounds.specs.Elements.{ElementsSeen}
-use Rattle.sim_rounds.specs.declared.nets.Nets.{Nets}
+use Rattle.fan_round.specs.declared.nets.Nets.{Nets}
 use Rattle.sim_rounds.specs.declared.told.Told.{Told}
-use Rattle.sim_rounds.specs.declared.work.WorkList.{WorkList}
-use Rattle.sim_rounds.specs.Nets.{stamp_seen}
-use Rattle.sim_rounds.specs.Rounds.{AreHanded, ArePending}
-use Rattle.sim_rounds.specs.States.{state_seen, IsIdle, IsOfCircuit}
+use Rattle.fan_round.specs.declared.work.WorkList.{WorkList}
+use Rattle.fan_round.specs.Nets.{stamp_seen}
+use Rattle.fan_round.specs.Rounds.{AreHanded, ArePending}
+use Rattle.fan_round.specs.States.{state_seen, IsIdle, IsOfCircuit}
 use Rattle.sim_rounds.specs.Simulated.{first_state, machine_of}
 use Rattle.sim_rounds.specs.Simulations.{IsReadyAt, StandsBetween}
 use Rattle.sim_rounds.specs.Steps.{CanApply}

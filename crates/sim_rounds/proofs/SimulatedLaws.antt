@@ -14,12 +14,12 @@ use Rattle.stim_read.specs.declared.steps.Set.{Set}
 use Rattle.stim_read.specs.Seen.{set_seen}
 use Rattle.stim_read.specs.Stimulus.{Stimulus, sets_at}
 use Rattle.time_checks.specs.declared.violations.Violation as code_violation
-use Rattle.sim_rounds.specs.declared.nets.Nets.{Nets}
+use Rattle.fan_round.specs.declared.nets.Nets.{Nets}
 use Rattle.sim_rounds.specs.declared.told.Told.{Told}
-use Rattle.sim_rounds.specs.declared.work.WorkList.{WorkList}
+use Rattle.fan_round.specs.declared.work.WorkList.{WorkList}
 use Rattle.sim_rounds.specs.declared.runs.SimEnd.{SimEnd}
 use Rattle.sim_rounds.specs.declared.runs.SimEnd.TheVariants.{NoMemory}
-use Rattle.sim_rounds.specs.Rounds.{AreHanded}
+use Rattle.fan_round.specs.Rounds.{AreHanded}
 use Rattle.sim_rounds.specs.Told.{IsTold}
 use Rattle.sim_rounds.specs.Times.{count_shown}
 use Rattle.sim_rounds.specs.Runs.{TimeMade}

@@ -17,11 +17,11 @@ use Rattle.stim_read.specs.Stimulus.{Stimulus}
 use Rattle.time_checks.specs.declared.violations.Violation as code_violation
 use Rattle.time_checks.specs.Seen.{violation_seen}
 use Rattle.pulse_list.proofs.EarliestLaws.{none_below-reverse}
-use Rattle.sim_rounds.specs.declared.nets.Nets.{Nets}
+use Rattle.fan_round.specs.declared.nets.Nets.{Nets}
 use Rattle.sim_rounds.specs.declared.told.Told.{Told}
-use Rattle.sim_rounds.specs.declared.work.WorkList.{WorkList}
-use Rattle.sim_rounds.specs.Rounds.{AreHanded, ArePending}
-use Rattle.sim_rounds.specs.States.{IsOfCircuit}
+use Rattle.fan_round.specs.declared.work.WorkList.{WorkList}
+use Rattle.fan_round.specs.Rounds.{AreHanded, ArePending}
+use Rattle.fan_round.specs.States.{IsOfCircuit}
 use Rattle.sim_rounds.specs.Naming.{Moves}
 use Rattle.sim_rounds.specs.Checks.{HasSeen, AreFree}
 use Rattle.sim_rounds.specs.Simulations.{kept_of, AreChecksOf, IsReadyAt}

@@ -13,16 +13,16 @@ use Rattle.sg_model.proofs.PlacedLaws.{same-true}
 use Rattle.sg_model.proofs.PlacingSteps.{same-self}
 use Rattle.sg_circuit.specs.FanOut.{has}
 use Rattle.time_checks.specs.declared.changes.Change.{Change}
-use Rattle.sim_rounds.specs.Lists.{occurrences, at_places}
-use Rattle.sim_rounds.specs.Nets.{differs, AreChanged}
-use Rattle.sim_rounds.specs.Work.{AreMarked, mark_at, with_marks}
+use Rattle.fan_round.specs.Lists.{occurrences, at_places}
+use Rattle.fan_round.specs.Nets.{differs, AreChanged}
+use Rattle.fan_round.specs.Work.{AreMarked, mark_at, with_marks}
 use Rattle.sim_rounds.specs.Watching.{NetChange, AreDifferences, net_change}
-use Rattle.sim_rounds.specs.States.{IsIdle}
+use Rattle.fan_round.specs.States.{IsIdle}
 use Rattle.sim_rounds.specs.Told.{IsTold, changes_in}
 use Rattle.sim_rounds.specs.declared.told.Told.{Told}
-use Rattle.sim_rounds.proofs.ListLaws.{occurs_here, occurs_later, listed_at, at_places-more, at_places-each, each_from-at, length-each_from}
-use Rattle.sim_rounds.proofs.WorkLaws.{marked-start, marked-within, length-with_marks}
-use Rattle.sim_rounds.proofs.WorkIsExact.{occurs_has, mark_with, or_left, or_right}
+use Rattle.fan_round.proofs.ListLaws.{occurs_here, occurs_later, listed_at, at_places-more, at_places-each, each_from-at, length-each_from}
+use Rattle.fan_round.proofs.WorkLaws.{marked-start, marked-within, length-with_marks}
+use Rattle.fan_round.proofs.WorkIsExact.{occurs_has, mark_with, or_left, or_right}
 
 -- a net that differs is one of the nets
 pub differs_within : (told values : List Value) (net : ℕ) → length told ≡ length values → differs told values net ≡ true → net < length values

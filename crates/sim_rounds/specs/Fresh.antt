@@ -6,11 +6,11 @@ use Rattle.sg_circuit.specs.declared.nets.Driver.{Driver}
 use Rattle.sg_circuit.specs.Circuit.{Circuit}
 use Rattle.sg_circuit.specs.FanOut.{IsFanOut}
 use Rattle.sim_rounds.specs.Elements.{ElementsSeen}
-use Rattle.sim_rounds.specs.declared.nets.Nets.{Nets}
+use Rattle.fan_round.specs.declared.nets.Nets.{Nets}
 use Rattle.sim_rounds.specs.declared.told.Told.{Told}
-use Rattle.sim_rounds.specs.declared.work.WorkList.{WorkList}
-use Rattle.sim_rounds.specs.Nets.{stamp_seen, AreNets}
-use Rattle.sim_rounds.specs.States.{IsIdle}
+use Rattle.fan_round.specs.declared.work.WorkList.{WorkList}
+use Rattle.fan_round.specs.Nets.{stamp_seen, AreNets}
+use Rattle.fan_round.specs.States.{IsIdle}
 use Rattle.sim_rounds.specs.Told.{IsTold}
 use Rattle.sim_rounds.specs.Simulated.{first_state, is_driven, machine_of}
 

@@ -1,9 +1,4 @@
 -- The modules of this folder.
-pub mod Lists
-pub mod Nets
-pub mod Work
-pub mod Rounds
-pub mod States
 pub mod Simulated
 pub mod CircuitLaws
 pub mod Pulses

@@ -3,8 +3,8 @@ use Rattle.std.specs.Prelude.{◌≡◌, ℕ, ◌<◌, ◌≤◌, true, List}
 use Rattle.sg_logic.specs.declared.values.Value.{Value}
 use Rattle.sg_model.specs.Machine.{Machine, State}
 use Rattle.sg_model.specs.Round.{values_after}
-use Rattle.sim_rounds.specs.Lists.{occurrences}
-use Rattle.sim_rounds.specs.Nets.{differs}
+use Rattle.fan_round.specs.Lists.{occurrences}
+use Rattle.fan_round.specs.Nets.{differs}
 
 -- the least number of a list
 pub record IsLeastOf (ks : List ℕ) (net : ℕ) : Type 0 where

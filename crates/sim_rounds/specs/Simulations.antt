@@ -8,11 +8,11 @@ use Rattle.stim_read.specs.Seen.{set_seen}
 use Rattle.stim_read.specs.Stimulus.{Stimulus}
 use Rattle.time_checks.specs.declared.violations.Violation as code_violation
 use Rattle.time_checks.specs.Seen.{violation_seen}
-use Rattle.sim_rounds.specs.declared.nets.Nets.{Nets}
+use Rattle.fan_round.specs.declared.nets.Nets.{Nets}
 use Rattle.sim_rounds.specs.declared.told.Told.{Told}
-use Rattle.sim_rounds.specs.declared.work.WorkList.{WorkList}
-use Rattle.sim_rounds.specs.Rounds.{AreHanded}
-use Rattle.sim_rounds.specs.States.{state_seen, IsReadyFor}
+use Rattle.fan_round.specs.declared.work.WorkList.{WorkList}
+use Rattle.fan_round.specs.Rounds.{AreHanded}
+use Rattle.fan_round.specs.States.{state_seen, IsReadyFor}
 use Rattle.sim_rounds.specs.Told.{IsTold}
 use Rattle.sim_rounds.specs.Checks.{AreFree}
 use Rattle.sim_rounds.specs.Times.{Kept, count_shown}

@@ -3,7 +3,7 @@ use Rattle.std.specs.Prelude.{ℕ, ◌<◌, ◌≤◌, All, List, length, slice_
 use Rattle.stim_read.specs.declared.steps.StimStep.{StimStep}
 use Rattle.stim_read.specs.Stimulus.{Stimulus, sets_at}
 use Rattle.stim_read.specs.Applied.{StepsRise}
-use Rattle.sim_rounds.specs.Rounds.{AreHanded}
+use Rattle.fan_round.specs.Rounds.{AreHanded}
 
 -- the first n steps come before the time, and the others don't
 pub record Splits (steps : List StimStep) (time n : ℕ) : Type 0 where

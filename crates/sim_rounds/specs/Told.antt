@@ -3,8 +3,8 @@ use Rattle.std.specs.Prelude.{◌≡◌, ℕ, ◌≤◌, true, if◌then◌else�
 use Rattle.std.specs.Vec.{vec_capacity}
 use Rattle.sg_logic.specs.declared.values.Value.{Value}
 use Rattle.sg_model.specs.Values.{value_at}
-use Rattle.sim_rounds.specs.Nets.{differs}
-use Rattle.sim_rounds.specs.Work.{AreMarked, mark_at}
+use Rattle.fan_round.specs.Nets.{differs}
+use Rattle.fan_round.specs.Work.{AreMarked, mark_at}
 use Rattle.sim_rounds.specs.Watching.{NetChange}
 use Rattle.sim_rounds.specs.declared.told.Told.{Told}
 

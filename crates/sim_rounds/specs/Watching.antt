@@ -4,8 +4,8 @@ use Rattle.sg_logic.specs.declared.values.Value.{Value}
 use Rattle.sg_circuit.specs.Circuit.{Circuit}
 use Rattle.sg_model.specs.Values.{are_same, value_at}
 use Rattle.sg_model.specs.Machine.{Snapshot}
-use Rattle.sim_rounds.specs.Lists.{IsListOf}
-use Rattle.sim_rounds.specs.Nets.{differs}
+use Rattle.fan_round.specs.Lists.{IsListOf}
+use Rattle.fan_round.specs.Nets.{differs}
 use Rattle.time_checks.specs.declared.changes.Change.{Change}
 
 -- a net that changed

@@ -5,9 +5,8 @@ ghost use Rattle.sim_rounds.specs.Elements.{AreTables};
 ghost use Rattle.sim_rounds.specs.Simulated.{first_of_kind, first_state};
 
 use crate::computing::{Inputs, compute};
-use crate::evaluation::Elements;
-use crate::nets::Stamp;
 use crate::placing::place_value;
+use fan_round::{Elements, Stamp};
 use pulse_list::Agenda;
 use sg_circuit::{Circuit, Element, ElementKind, Parts, UdpUse};
 use sg_logic::Value;

@@ -6,12 +6,11 @@ ghost use Rattle.sg_circuit.specs.Closed.{IsClosed};
 
 use crate::checks::NoChecks;
 use crate::elements::CircuitElements;
-use crate::nets::Nets;
 use crate::runs::{SimEnd, make_times};
 use crate::simulation::Simulation;
 use crate::told::Told;
 use crate::watch::Watch;
-use crate::work::WorkList;
+use fan_round::{Nets, WorkList};
 use pulse_list::Agenda;
 use sg_circuit::{Circuit, Driver, Element, FanOut, Net, NetId};
 use sg_io::Shelf;

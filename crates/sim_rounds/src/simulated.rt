@@ -2,13 +2,13 @@
 ghost use Rattle.std.specs.Prelude.{◌≡◌};
 
 use crate::checks::Checks;
-use crate::evaluation::Elements;
 use crate::pending::next_due;
 use crate::runs::{SimEnd, Times};
 use crate::simulation::Simulation;
 use crate::steps::{hand_in, next_step, sets_of};
 use crate::times::{TimeEnd, make_time};
 use crate::told::tell_time_changes;
+use fan_round::Elements;
 use pulse_list::Agenda;
 use sg_logic::Value;
 use sg_steps::Steps;

@@ -2,14 +2,11 @@
 ghost use Rattle.std.specs.Prelude.{◌≡◌};
 
 use crate::checks::Checks;
-use crate::evaluation::Elements;
 use crate::naming::least_net;
-use crate::nets::{Nets, change_nets};
 use crate::pending::is_any_due;
-use crate::rounds::make_round;
 use crate::times::Rounds;
 use crate::told::{Told, touch};
-use crate::work::WorkList;
+use fan_round::{Elements, Nets, WorkList, change_nets, make_round};
 use pulse_list::Agenda;
 use sg_circuit::{FanOut, NetId};
 use sg_steps::Steps;
@@ -48,7 +45,7 @@ impl<L: Ledger, A: Agenda + Drop, E: Elements<A, L>, C: Checks> Rounds<L>
     ghost use Rattle.stim_read.specs.Seen.{set_seen, stimulus_seen};
     ghost use Rattle.sim_rounds.specs.Naming.{Moves};
     ghost use Rattle.sim_rounds.specs.Simulations.{kept_of, IsReadyAt, StandsFor};
-    ghost use Rattle.sim_rounds.specs.States.{state_seen};
+    ghost use Rattle.fan_round.specs.States.{state_seen};
 
     ghost machine = { λ s. E.machine s.elements };
 

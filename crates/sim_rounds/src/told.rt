@@ -1,12 +1,12 @@
 // What was told last of the nets, and which of them may differ from it.
 ghost use Rattle.std.specs.Prelude.{◌≡◌, ℕ, ◌++◌, ◌^◌, ◌<◌, All, [], ◌∷◌, IfOk, OnErr, OnOk, length, map, true};
-ghost use Rattle.sim_rounds.specs.Nets.{differs, AreChanged};
+ghost use Rattle.fan_round.specs.Nets.{differs, AreChanged};
 ghost use Rattle.sim_rounds.specs.Runs.{last_after};
 ghost use Rattle.sim_rounds.specs.Told.{IsTold, changes_in};
 ghost use Rattle.sim_rounds.specs.Watching.{AreDifferences, net_change};
-ghost use Rattle.sim_rounds.specs.Work.{AreMarked, mark_at};
+ghost use Rattle.fan_round.specs.Work.{AreMarked, mark_at};
 
-use crate::work::{WorkList, clear_work, mark_all};
+use fan_round::{WorkList, clear_work, mark_all};
 use sg_logic::Value;
 use sg_text::NoMemory;
 use std::alloc::Global;

@@ -12,8 +12,8 @@ use Rattle.sg_model.specs.Time.{any_differs}
 use Rattle.sg_model.proofs.PlacedLaws.{same-true}
 use Rattle.sg_model.proofs.PlacingSteps.{same-self}
 use Rattle.sg_circuit.specs.Circuit.{Variable}
-use Rattle.sim_rounds.specs.Lists.{IsListOf}
-use Rattle.sim_rounds.specs.Nets.{differs}
+use Rattle.fan_round.specs.Lists.{IsListOf}
+use Rattle.fan_round.specs.Nets.{differs}
 use Rattle.sim_rounds.specs.Watching.{Call, NetChange, AreDifferences}
 use Rattle.wave_out.specs.Changes.{bits_change, changes_text, IsBlock, IsText}
 use Rattle.wave_out.specs.Lines.{bits_line, first_text}

@@ -13,13 +13,13 @@ use Rattle.sg_model.specs.Values.{value_at}
 use Rattle.sg_model.specs.Time.{any_differs}
 use Rattle.sg_circuit.specs.FanOut.{IsFanOut}
 use Rattle.sg_circuit.proofs.SeenLaws.{map-mapped}
-use Rattle.sim_rounds.specs.Lists.{occurrences, IsListOf}
-use Rattle.sim_rounds.specs.Nets.{differs}
+use Rattle.fan_round.specs.Lists.{occurrences, IsListOf}
+use Rattle.fan_round.specs.Nets.{differs}
 use Rattle.sim_rounds.specs.Watching.{AreDifferences, net_change}
-use Rattle.sim_rounds.specs.Work.{has_changed, AreMarked, IsWorkOf}
-use Rattle.sim_rounds.proofs.WorkLaws.{marked-within}
-use Rattle.sim_rounds.proofs.ListLaws.{occurs_here, occurs_later, occurrences-append}
-use Rattle.sim_rounds.proofs.WorkIsExact.{work_within}
+use Rattle.fan_round.specs.Work.{has_changed, AreMarked, IsWorkOf}
+use Rattle.fan_round.proofs.WorkLaws.{marked-within}
+use Rattle.fan_round.proofs.ListLaws.{occurs_here, occurs_later, occurrences-append}
+use Rattle.fan_round.proofs.WorkIsExact.{work_within}
 use Rattle.time_checks.specs.declared.changes.Change.{Change}
 use Rattle.wave_out.specs.Changes.{bits_change, changes_text, work_text, IsBlock}
 use Rattle.wave_out.specs.Lines.{bits_line, later_text}

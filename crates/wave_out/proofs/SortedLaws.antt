@@ -6,9 +6,9 @@ use Rattle.std.specs.List.Sorted.{IsNonDecreasing, IsPermutation}
 use Rattle.std.proofs.lemmas.Bool.{cases_eq}
 use Rattle.std.proofs.lemmas.List.Sums.{sum_by-cons}
 use Rattle.std.proofs.lemmas.List.Sorted.{sum_by-IsPermutation, length_permutation}
-use Rattle.sim_rounds.specs.Lists.{occurrences, IsListOf}
-use Rattle.sim_rounds.specs.Work.{AreMarked, mark_at, count_marks}
-use Rattle.sim_rounds.proofs.ListLaws.{test_same, test_other, occurs_here, occurs_later}
+use Rattle.fan_round.specs.Lists.{occurrences, IsListOf}
+use Rattle.fan_round.specs.Work.{AreMarked, mark_at, count_marks}
+use Rattle.fan_round.proofs.ListLaws.{test_same, test_other, occurs_here, occurs_later}
 use Rattle.wave_out.specs.Texts.{by_number}
 
 -- where a number stands

@@ -2,7 +2,7 @@
 use Rattle.std.specs.Prelude.{◌≡◌, ◌<◌, ℕ, All, List, length, map}
 use Rattle.sg_circuit.specs.Circuit.{Circuit}
 use Rattle.sg_circuit.specs.FanOut.{IsFanOut}
-use Rattle.sim_rounds.specs.States.{IsIdle}
+use Rattle.fan_round.specs.States.{IsIdle}
 use Rattle.wave_out.specs.Scopes.{variables_of}
 use Rattle.wave_out.specs.declared.shown.Shown.{Shown}
 

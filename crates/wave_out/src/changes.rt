@@ -4,14 +4,14 @@ ghost use Rattle.std.specs.List.{filter};
 ghost use Rattle.std.specs.List.Sorted.{IsNonDecreasing, IsPermutation};
 ghost use Rattle.std.specs.Vec.{vec_capacity};
 ghost use Rattle.sg_circuit.specs.FanOut.{IsFanOut};
-ghost use Rattle.sim_rounds.specs.States.{IsIdle};
+ghost use Rattle.fan_round.specs.States.{IsIdle};
 ghost use Rattle.sim_rounds.specs.Watching.{net_change};
 ghost use Rattle.wave_out.specs.Changes.{work_text, IsBlock};
 
 use crate::blocks::later_block_of;
 use cond_expr::Nets;
+use fan_round::{WorkList, clear_work, list_work};
 use sg_circuit::{FanOut, NetId};
-use sim_rounds::{WorkList, clear_work, list_work};
 use std::alloc::{AllocError, Global};
 use time_checks::Change;
 

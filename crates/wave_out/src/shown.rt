@@ -11,9 +11,9 @@ use crate::changes::block_of;
 use crate::scopes::Visit;
 use crate::variables::{bits_of, index_of};
 use cond_expr::Nets;
+use fan_round::WorkList;
 use sg_circuit::{Circuit, FanOut, NetId};
 use sg_text::NoMemory;
-use sim_rounds::WorkList;
 use std::alloc::{AllocError, Global};
 use time_checks::Change;
 

@@ -1,5 +1,5 @@
 use Rattle.std.proofs.Common.{◌≤◌, ◌<◌, ℕ, take}
-use Rattle.sim_rounds.specs.Lists.{occurrences}
+use Rattle.fan_round.specs.Lists.{occurrences}
 use Rattle.sim_rounds.proofs.naming.least_net.Given as goal
 
 abbrev pub invariant-loop-net : goal.invariant-loop-net

@@ -1,7 +1,7 @@
 use Rattle.std.proofs.Common.{◌≡◌, take}
 use Rattle.sg_logic.specs.declared.values.Value.TheVariants.{X}
 use Rattle.sg_model.specs.Values.{value_at}
-use Rattle.sim_rounds.specs.Lists.{at_places}
+use Rattle.fan_round.specs.Lists.{at_places}
 use Rattle.sim_rounds.proofs.told.settle_told.Given as goal
 
 abbrev pub invariant-loop-net : goal.invariant-loop-net

@@ -2,9 +2,9 @@ use Rattle.std.specs.Prelude.{length}
 use Rattle.std.specs.Vec.{with_items}
 use Rattle.std.proofs.lemmas.List.{with_items_is}
 use Rattle.std.proofs.Common.{◌≡◌, ◌∙◌, ap, refl, sym, subst, slice_index_or, ◌<◌}
-use Rattle.sim_rounds.specs.Work.{with_marks, AreMarked}
-use Rattle.sim_rounds.proofs.NetLaws.{changed-within}
-use Rattle.sim_rounds.proofs.WorkLaws.{length-with_marks}
+use Rattle.fan_round.specs.Work.{with_marks, AreMarked}
+use Rattle.fan_round.proofs.NetLaws.{changed-within}
+use Rattle.fan_round.proofs.WorkLaws.{length-with_marks}
 use Rattle.sim_rounds.proofs.ToldLaws.{touched_more}
 use Rattle.sim_rounds.specs.declared.told.Told.{Told}
 use Rattle.sim_rounds.proofs.told.touch.Goals as goal

@@ -2,7 +2,7 @@ use Rattle.std.proofs.Common.{Bor, List, ℕ, ◌<◌, All, ◌∙◌, sym, ap, 
 use Rattle.std.proofs.lemmas.List.{length-map}
 use Rattle.std.proofs.lemmas.List.Elements.{All-map}
 use Rattle.sg_circuit.proofs.FanLaws.{written_back}
-use Rattle.sim_rounds.proofs.WorkIsExact.{are_readers, as_many_marks}
+use Rattle.fan_round.proofs.WorkIsExact.{are_readers, as_many_marks}
 use Rattle.wave_out.proofs.SortedLaws.{marks-moved}
 use Rattle.wave_out.proofs.ChangeLaws.{is_block, known_within, listed_within}
 use Rattle.wave_out.proofs.changes.block_of.Goals as goal

@@ -1,6 +1,6 @@
 use Rattle.std.proofs.Common.{Bor, List, ℕ, ◌∙◌, ap, arith, map, subst}
 use Rattle.sg_circuit.specs.FanOut.{IsFanOut}
-use Rattle.sim_rounds.specs.States.{IsIdle}
+use Rattle.fan_round.specs.States.{IsIdle}
 use Rattle.wave_out.proofs.ShownLaws.{bits_below, bits_within, nets_many}
 use Rattle.wave_out.proofs.shown.shown_of.Goals as goal
 

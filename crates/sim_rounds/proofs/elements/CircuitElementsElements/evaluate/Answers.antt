@@ -1,7 +1,7 @@
 use Rattle.std.proofs.Common.{◌∙◌, ap, refl, map}
 use Rattle.sg_logic.specs.declared.values.Value.TheVariants.{Zero}
 use Rattle.sg_model.specs.Agenda.{list_at, with_list}
-use Rattle.sim_rounds.specs.Nets.{stamp_seen}
+use Rattle.fan_round.specs.Nets.{stamp_seen}
 use Rattle.sim_rounds.proofs.ElementLaws.{inputs_in, output_in, room_in, takes_in, delays_in, list_in}
 use Rattle.sim_rounds.proofs.elements.CircuitElementsElements.evaluate.Goals as goal
 

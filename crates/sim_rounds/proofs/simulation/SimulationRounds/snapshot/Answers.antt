@@ -2,7 +2,7 @@ use Rattle.std.specs.Prelude.{map}
 use Rattle.std.proofs.Common.{◌≡◌}
 use Rattle.sg_model.specs.Time.{is_empty}
 use Rattle.stim_read.specs.Seen.{set_seen, stimulus_seen}
-use Rattle.sim_rounds.specs.States.{state_seen}
+use Rattle.fan_round.specs.States.{state_seen}
 use Rattle.sim_rounds.proofs.SimulationLaws.{none_handed, kept_still, toggles_state_move, toggles_ready}
 use Rattle.sim_rounds.proofs.simulation.SimulationRounds.snapshot.Goals as goal
 

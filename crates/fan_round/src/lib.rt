@@ -1,0 +1,13 @@
+//! One round of a circuit: the nets that change, and the elements that read them, each evaluated once.
+#![tactic(auto)]
+
+mod evaluation;
+mod lists;
+mod nets;
+mod rounds;
+mod work;
+
+pub use evaluation::{Elements, evaluate_all};
+pub use nets::{Nets, Stamp, change_nets};
+pub use rounds::{first_round, make_round, round};
+pub use work::{WorkList, clear_work, list_work, mark_all};
