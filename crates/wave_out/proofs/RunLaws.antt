@@ -6,7 +6,7 @@ use Rattle.std.specs.Prelude.{◌==◌, Bool, true, false, if◌then◌else◌, 
 use Rattle.sg_logic.specs.declared.values.Value.{Value}
 use Rattle.sg_model.specs.Machine.{Machine, Snapshot, State}
 use Rattle.sg_model.specs.Round.{changed_by, due_changes, round}
-use Rattle.sg_model.specs.Time.{Run, Ended, Whole, Spent, flips_of, is_empty, named, needs_round, rounds, time_of, with_round, with_snapshot}
+use Rattle.sg_model.specs.Time.{Run, Ended, Whole, Spent, flips_of, is_empty, spent_net, needs_round, rounds, time_of, with_round, with_snapshot}
 use Rattle.sg_model.specs.Quiet.{IsSeen}
 use Rattle.sg_model.proofs.SnapshotLaws.{AreBefore, Extends, rounds-snapshots, time-before, times-extend}
 use Rattle.sg_model.specs.Run.{Finished, go_on, lasts, lasts_before, times_from}
@@ -43,9 +43,9 @@ long_choice n false a b h g = g
 long_rounds : (n left : ℕ) (m : Machine) (now : ℕ) (must : Bool) (handed : List (ℕ × Value)) (r : Run) → IsLong n r → IfWhole (rounds left m now must handed r) (IsLong n)
 unfolding rounds
 long_rounds n zero m now must handed r h =
-    long_choice n (needs_round now must handed r.state) (Spent (named m now handed r) r.evaluations)
-    (if is_empty (flips_of m (with_snapshot m now r)) then Whole (with_snapshot m now r) else Spent (named m now (flips_of m (with_snapshot m now r)) (with_snapshot m now r)) (with_snapshot m now r).evaluations) tt
-    (long_end n (with_snapshot m now r) (is_empty (flips_of m (with_snapshot m now r))) (Spent (named m now (flips_of m (with_snapshot m now r)) (with_snapshot m now r)) (with_snapshot m now r).evaluations) (long_snapshot n m now r h) tt)
+    long_choice n (needs_round now must handed r.state) (Spent (spent_net m now handed r) r.evaluations)
+    (if is_empty (flips_of m (with_snapshot m now r)) then Whole (with_snapshot m now r) else Spent (spent_net m now (flips_of m (with_snapshot m now r)) (with_snapshot m now r)) (with_snapshot m now r).evaluations) tt
+    (long_end n (with_snapshot m now r) (is_empty (flips_of m (with_snapshot m now r))) (Spent (spent_net m now (flips_of m (with_snapshot m now r)) (with_snapshot m now r)) (with_snapshot m now r).evaluations) (long_snapshot n m now r h) tt)
 long_rounds n (suc left) m now must handed r h =
     let s : Run = with_snapshot m now r in
     let next : Run = with_round m now must handed r in
@@ -80,8 +80,8 @@ seen_rounds : (left : ℕ) (m : Machine) (now : ℕ) (must : Bool) (handed : Lis
 unfolding rounds
 seen_rounds zero m now must handed r =
     let s : Run = with_snapshot m now r in
-    seen_choice (needs_round now must handed r.state) (Spent (named m now handed r) r.evaluations) (if is_empty (flips_of m s) then Whole s else Spent (named m now (flips_of m s) s) s.evaluations) tt
-    (seen_end s (is_empty (flips_of m s)) (Spent (named m now (flips_of m s) s) s.evaluations) (record { last = now; older = r.snapshots; is = refl }) tt)
+    seen_choice (needs_round now must handed r.state) (Spent (spent_net m now handed r) r.evaluations) (if is_empty (flips_of m s) then Whole s else Spent (spent_net m now (flips_of m s) s) s.evaluations) tt
+    (seen_end s (is_empty (flips_of m s)) (Spent (spent_net m now (flips_of m s) s) s.evaluations) (record { last = now; older = r.snapshots; is = refl }) tt)
 seen_rounds (suc left) m now must handed r =
     let s : Run = with_snapshot m now r in
     seen_choice (needs_round now must handed r.state) (rounds left m now false [] (with_round m now must handed r)) (if is_empty (flips_of m s) then Whole s else rounds left m now false [] (with_round m now false (flips_of m s) s))
