@@ -1,10 +1,8 @@
 -- The modules of this folder.
-pub mod VcdTexts
 pub mod Putting
 pub mod Telling
 pub mod Composed
 pub mod Worked
-pub mod NoViolations
 pub mod OneAnswer
 pub mod Promised
 pub mod ProgramWords
@@ -25,14 +23,4 @@ pub mod StimulusSpelling
 pub mod StimulusOneWay
 pub mod StimulusBodies
 pub mod StimulusLaws
-pub mod VcdWriting
-pub mod VcdRuns
-pub mod EngineAgenda
-pub mod OneDriver
-pub mod EngineRounds
-pub mod EngineTimes
-pub mod EngineRuns
-pub mod EngineStimulus
-pub mod EngineStands
-pub mod EngineSimulates
 pub mod FormExamples

@@ -3,11 +3,10 @@ use Rattle.std.specs.Prelude.{ℕ, ◌≡◌, ◌++◌, List, [], ◌∷◌, Opt
 use Rattle.sg_io.specs.Files.{File, HasAfter}
 use Rattle.sg_model.specs.Machine.{Violation}
 use Rattle.sg_model.specs.Run.{Finished}
-use Rattle.sg_text.specs.Words.{reserved_words}
-use Rattle.circuit_model.specs.Simulated.{run_of_circuit}
-use Rattle.circuit_model.specs.Texts.{line}
-use Rattle.circuit_model.specs.Vcd.{vcd_text}
-use Rattle.circuit_model.specs.Report.{report_text}
+use Rattle.sim_rounds.specs.Simulated.{run_of_circuit}
+use Rattle.wave_out.specs.Texts.{line}
+use Rattle.wave_out.specs.Vcd.{vcd_text}
+use Rattle.wave_out.specs.Report.{report_text}
 use Rattle.signoff.specs.Phases.{Refusal, Task, TaskOutcome, status_of_refusal, refusal_line}
 use Rattle.signoff.specs.declared.status.Status.{Status}
 use Rattle.signoff.specs.declared.status.Status.TheVariants as status
@@ -23,7 +22,7 @@ run_of task = run_of_circuit task.circuit task.rounds task.input
 
 -- the value change dump of a task
 abbrev pub dump_of : Task → List ℕ
-dump_of task = vcd_text reserved_words task.circuit task.input.end (run_of task)
+dump_of task = vcd_text task.circuit task.input.end (run_of task)
 
 -- the status of a run: a time was spent, or there is a violation, or there is none
 abbrev pub status_of_run : Option (ℕ × Option ℕ) → List Violation → Status

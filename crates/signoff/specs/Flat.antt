@@ -1,24 +1,28 @@
--- Flat circuits of gates without delay: one module, each of whose nets is a variable of it.
+-- Flat circuits of gates without delay: one module, each of whose ports is a net and a variable of it.
 use Rattle.std.specs.Prelude.{ℕ, ℤ, negsuc, List, [], ◌∷◌, false, None}
-use Rattle.sg_model.specs.Round.{each_from}
-use Rattle.circuit_model.specs.Circuit.{Circuit, Net, Element, GateDelays, Variable}
+use Rattle.sg_circuit.specs.declared.nets.Net.{Net}
+use Rattle.sg_circuit.specs.Circuit.{Circuit, Element, Variable}
 
-abbrev pub no_delay : GateDelays
-no_delay = record { rise = 0; fall = 0 }
+-- 1 ns and 1 ps: 10 to the powers of -9 and -12 of a second. One tick is the second (IEEE 1364-2005, 19.8)
+abbrev pub unit_power : ℤ
+unit_power = negsuc 8
 
--- one tick is 1 ps: 10 to the power of -12 of a second
 abbrev pub tick_power : ℤ
 tick_power = negsuc 11
 
--- the k-th net as a variable
-abbrev pub variable_of : ℕ → Net → Variable
-variable_of k net = record { name = net.name; range = None; is_reg = false; bits = k ∷ [] }
-
-abbrev pub flat : List ℕ → List Net → List Element → Circuit
-flat name nets elements = record {
+abbrev pub flat : List ℕ → List Net → List Element → List Variable → Circuit
+flat name nets elements variables = record {
   tick = tick_power;
   nets = nets;
   elements = elements;
-  scopes = record { parent = None; name = name; variables = each_from variable_of 0 nets; children = [] } ∷ [];
   checks = [];
+  scopes = record {
+    parent = None;
+    name = name;
+    module_name = name;
+    unit = unit_power;
+    precision = tick_power;
+    is_leaf = false;
+    variables = variables;
+  } ∷ [];
 }

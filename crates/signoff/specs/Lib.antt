@@ -1,27 +1,16 @@
 -- The modules of this folder.
 pub mod Flat
-pub mod WellFormed
-pub mod Seen
 pub mod Words
 pub mod NetlistForm
 pub mod NetlistSeen
 pub mod StimulusForm
 pub mod StimulusLines
-pub mod Recording
 pub mod Status
 pub mod Phases
 pub mod Answer
-pub mod VcdWords
-pub mod Writing
-pub mod Runs
 pub mod Putting
 pub mod Promises
 pub mod Stops
 pub mod Tasks
 pub mod Work
-pub mod EngineSeen
-pub mod EngineTimes
-pub mod EngineRuns
-pub mod EngineStimulus
-pub mod EngineStands
 pub mod Program

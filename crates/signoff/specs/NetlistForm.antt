@@ -6,9 +6,14 @@ use lib.Pointwise.{pointwise}
 use Rattle.sg_logic.specs.declared.gates.GateKind.{GateKind}
 use Rattle.sg_logic.specs.declared.gates.GateKind.TheVariants.{And, Nand, Or, Nor, Xor, Xnor, Buf, Not}
 use Rattle.sg_text.specs.Words.{is_reserved_word}
-use Rattle.circuit_model.specs.Circuit.{Circuit, Driver, Nobody, Stimulated, Driven, Net, Element, Gate}
-use Rattle.circuit_model.specs.Texts.{is_simple, is_name_byte}
-use Rattle.signoff.specs.Flat.{flat, no_delay}
+use Rattle.sg_text.specs.Names.{is_simple, is_name_byte}
+use Rattle.sg_model.specs.Round.{each_from}
+use Rattle.sg_circuit.specs.declared.nets.Net.{Net}
+use Rattle.sg_circuit.specs.declared.nets.Driver.{Driver}
+use Rattle.sg_circuit.specs.declared.nets.Driver.TheVariants as driver
+use Rattle.sg_circuit.specs.declared.scopes.Port.TheVariants as port
+use Rattle.sg_circuit.specs.Circuit.{Circuit, Element, Variable, Gate}
+use Rattle.signoff.specs.Flat.{flat}
 
 -- a netlist has at most so many bytes
 abbrev pub most_bytes : ℕ
@@ -176,23 +181,33 @@ place_of names name = unwrap_or (position (same_name name) names) 0
 
 -- what drives a port: the stimulus, the gate whose first terminal it is, or nothing
 abbrev pub driver_by : Option ℕ → Driver
-driver_by None = Nobody
-driver_by (Some e) = Driven e
+driver_by None = driver.Nobody
+driver_by (Some e) = driver.Element e
 
 abbrev pub driver_of : Module → List ℕ → Driver
-driver_of m port =
-    if is_among (inputs_of m) port then Stimulated
-    else driver_by (position (same_name port) (map (λ g. g.first) (gates_of m)))
+driver_of m name =
+    if is_among (inputs_of m) name then driver.Stimulus
+    else driver_by (position (same_name name) (map (λ g. g.first) (gates_of m)))
 
 abbrev pub net_of : Module → List ℕ → Net
-net_of m port = record { scope = 0; name = port; bit = None; driver = driver_of m port }
+net_of m name = record { scope = 0; name = name; bit = None; driver = driver_of m name }
+
+-- the k-th port as a variable
+abbrev pub variable_of : Module → ℕ → List ℕ → Variable
+variable_of m k name = record {
+  name = name;
+  range = None;
+  is_reg = false;
+  port = if is_among (inputs_of m) name then port.Input else port.Output;
+  bits = k ∷ [];
+}
 
 abbrev pub element_of : Module → GateItem → Element
-element_of m g = record { inputs = map (place_of m.ports) g.others; output = place_of m.ports g.first; kind = Gate g.kind no_delay }
+element_of m g = record { scope = 0; inputs = map (place_of m.ports) g.others; output = place_of m.ports g.first; kind = Gate g.kind [] }
 
--- the circuit of a module: its ports are the nets, its gates the elements
+-- the circuit of a module: its ports are the nets and the variables, its gates the elements
 abbrev pub circuit_of : Module → Circuit
-circuit_of m = flat m.name (map (net_of m) m.ports) (map (element_of m) (gates_of m))
+circuit_of m = flat m.name (map (net_of m) m.ports) (map (element_of m) (gates_of m)) (each_from (variable_of m) 0 m.ports)
 
 -- a text is a netlist of this form, of this circuit
 pub record IsNetlist (text : List ℕ) (circuit : Circuit) : Type 0 where

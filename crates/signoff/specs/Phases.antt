@@ -2,9 +2,9 @@
 -- value for the phases after it, or a refusal, with which the work ends.
 use Rattle.std.specs.Prelude.{ℕ, ◌≡◌, ◌++◌, ◌+◌, ◌^◌, List, Option, Some, None, Result, Ok, Err, codes, take}
 use Rattle.sg_io.specs.Files.{File, bytes_of}
-use Rattle.circuit_model.specs.Circuit.{Circuit}
-use Rattle.circuit_model.specs.Simulated.{Stimulus}
-use Rattle.circuit_model.specs.Texts.{line}
+use Rattle.sg_circuit.specs.Circuit.{Circuit}
+use Rattle.stim_read.specs.Stimulus.{Stimulus}
+use Rattle.wave_out.specs.Texts.{line}
 use Rattle.signoff.specs.Words.{Command, command_of}
 use Rattle.signoff.specs.NetlistForm.{IsNetlist}
 use Rattle.signoff.specs.StimulusForm.{IsStimulus}

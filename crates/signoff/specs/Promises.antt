@@ -4,11 +4,11 @@ use Rattle.std.specs.Prelude.{ℕ, ◌≡◌, ◌≢◌, ◌⊎◌, ◌++◌, Li
 use Rattle.sg_io.specs.Faults.{Rises}
 use Rattle.sg_io.specs.Files.{File, BothTell, bytes_of}
 use Rattle.sg_io.specs.Put.{SinkTold}
-use Rattle.circuit_model.specs.Circuit.{Circuit}
+use Rattle.sg_circuit.specs.Circuit.{Circuit}
 use Rattle.signoff.specs.Answer.{Answer, IsAnswer, FilesAfter, dump_of, fault_line, report_fault_line, no_memory_line}
 use Rattle.signoff.specs.Phases.{Task, TaskOutcome, CircuitOutcome, usage_line}
 use Rattle.signoff.specs.Putting.{PutsAll, PutsTillFault, PutsTillWant, PutsLast}
-use Rattle.signoff.specs.Runs.{LeavesPrefix}
+use Rattle.wave_out.specs.Files.{LeavesPrefix}
 use Rattle.signoff.specs.Status.{IsDecided, IsRunEnd}
 use Rattle.signoff.specs.Words.{Command, command_of, names_in}
 use Rattle.signoff.specs.declared.status.Status.{Status}

@@ -1,13 +1,16 @@
 -- The form of the stimuli that are read: lines `at T n=v ..` with times rising, and a last line `end T`, in ns.
-use Rattle.std.specs.Prelude.{ℕ, ◌≡◌, ◌+◌, ◌*◌, ◌-◌, ◌≤◌, List, [], ◌∷◌, ◌++◌, length, map, flat_map, reverse, fold, find, Bool, true, false, ◌&&◌, Option, Some, None, option_map, if◌then◌else◌, codes, nat_le}
+use Rattle.std.specs.Prelude.{ℕ, ◌≡◌, ◌+◌, ◌*◌, ◌-◌, ◌≤◌, List, [], ◌∷◌, ◌++◌, length, map, flat_map, reverse, fold, find, Bool, true, false, ◌&&◌, Option, Some, None, option_map, if◌then◌else◌, codes, nat_le, nat_lt}
 use Rattle.std.specs.List.{list_any, list_all}
 use Rattle.sg_logic.specs.declared.values.Value.{Value}
-use Rattle.circuit_model.specs.Circuit.{Circuit, Driver, Nobody, Stimulated, Driven, Notifier, Net}
-use Rattle.circuit_model.specs.Simulated.{Step, Stimulus}
-use Rattle.circuit_model.specs.Texts.{line, is_simple}
-use Rattle.circuit_model.specs.Vcd.{value_letter}
+use Rattle.sg_text.specs.Names.{is_simple}
+use Rattle.sg_circuit.specs.declared.nets.Net.{Net}
+use Rattle.sg_circuit.specs.declared.nets.Driver.{Driver}
+use Rattle.sg_circuit.specs.declared.nets.Driver.TheVariants as driver
+use Rattle.sg_circuit.specs.Circuit.{Circuit}
+use Rattle.stim_read.specs.Stimulus.{Step, Stimulus}
+use Rattle.wave_out.specs.Texts.{line}
+use Rattle.wave_out.specs.Vcd.{value_letter}
 use Rattle.signoff.specs.NetlistForm.{most_bytes, same_name}
-use Rattle.signoff.specs.WellFormed.{rise_to}
 
 -- a set of an input, as it is written
 pub record SetText : Type 0 where
@@ -54,10 +57,10 @@ abbrev pub ticks_of : List ℕ → ℕ
 ticks_of digits = number_of digits * 1000
 
 abbrev pub is_stimulated : Driver → Bool
-is_stimulated Nobody = false
-is_stimulated Stimulated = true
-is_stimulated (Driven e) = false
-is_stimulated Notifier = false
+is_stimulated driver.Nobody = false
+is_stimulated driver.Stimulus = true
+is_stimulated (driver.Element e) = false
+is_stimulated driver.Notifier = false
 
 -- whether a net is the input of this name
 abbrev pub is_input : List ℕ → Net → Bool
@@ -70,6 +73,12 @@ sets_input circuit s = is_simple s.name && list_any (is_input s.name) circuit.ne
 -- a line has a number and one set of an input or more
 abbrev pub is_at : Circuit → AtLine → Bool
 is_at circuit l = is_number l.digits && (nat_le 1 (length l.sets) && list_all (sets_input circuit) l.sets)
+
+-- whether times rise, none above the end
+abbrev pub rise_to : ℕ → List ℕ → Bool
+rise_to end [] = true
+rise_to end (t ∷ []) = nat_le t end
+rise_to end (t ∷ u ∷ us) = nat_lt t u && rise_to end (u ∷ us)
 
 -- what has to hold of the lines
 pub record AreSound (circuit : Circuit) (l : Lines) : Type 0 where

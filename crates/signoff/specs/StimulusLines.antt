@@ -1,8 +1,8 @@
 -- What the reader of stimuli makes of a text on its way: rows of words, and what they are read as.
 use Rattle.std.specs.Prelude.{ℕ, ◌≡◌, ◌==◌, List, [], ◌∷◌, ◌++◌, map, Bool, true, false, ◌&&◌, Option, Some, None, codes}
 use Rattle.std.specs.List.{list_all, slice_split}
-use Rattle.circuit_model.specs.Circuit.{Circuit}
-use Rattle.circuit_model.specs.Vcd.{value_letter}
+use Rattle.sg_circuit.specs.Circuit.{Circuit}
+use Rattle.wave_out.specs.Vcd.{value_letter}
 use Rattle.signoff.specs.StimulusForm.{SetText, AtLine, Lines, is_number, is_at}
 use Rattle.signoff.specs.declared.stimulus.lines.SetText as code_set
 use Rattle.signoff.specs.declared.stimulus.lines.AtLine as code_at

@@ -2,8 +2,6 @@
 #![tactic(auto)]
 
 mod answer;
-mod circuits;
-mod engine;
 mod forms;
 mod netlist;
 mod phases;
@@ -15,7 +13,6 @@ mod stimulus;
 mod stop;
 #[cfg(test)]
 mod tests;
-mod vcd;
 mod words;
 mod work;
 

@@ -1,8 +1,7 @@
 // The reader of netlists of the first form.
 ghost use Rattle.std.specs.Prelude.{◌≡◌, IfOk, Err};
-ghost use Rattle.circuit_model.specs.Circuit.{Circuit as CircuitModel};
+ghost use Rattle.sg_circuit.specs.Circuit.{Circuit as CircuitModel};
 ghost use Rattle.signoff.specs.NetlistForm.{IsNetlist};
-ghost use Rattle.signoff.specs.Seen.{circuit_seen};
 
 mod building;
 mod checks;
@@ -12,12 +11,12 @@ mod modules;
 mod tests;
 mod tokens;
 
-use crate::circuits::Circuit;
 use crate::forms::FormError;
 use building::circuit_of;
 use checks::is_sound;
 use declarations::declarations_of;
 use modules::read_module;
+use sg_circuit::Circuit;
 use std::alloc::Global;
 use tokens::tokens_of;
 
@@ -26,7 +25,7 @@ const MOST_BYTES: usize = 1 << 20;
 /// The circuit that a netlist of the form describes, in ticks of 1 ps. `NotYet` comes exactly where the text has
 /// another form.
 pub fn read_netlist(alloc: Global, text: &[u8]) -> Result<Circuit, FormError>
-    ensures ok { IfOk result (λ c. IsNetlist text.now (circuit_seen c)) }
+    ensures ok { IfOk result (λ c. IsNetlist text.now c) }
     ensures not_yet { result ≡ Err FormError.NotYet → (circuit : CircuitModel) → IsNetlist text.now circuit → ⊥ }
 {
     if text.len() > MOST_BYTES {

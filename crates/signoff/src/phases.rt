@@ -1,21 +1,23 @@
 // The phases up to the run, one call for each.
-ghost use Rattle.std.specs.Prelude.{◌≡◌, List, Some, IfErr, map, string_bytes};
+ghost use Rattle.std.specs.Prelude.{◌≡◌, List, Some, IfErr, IfOk, map, string_bytes};
 ghost use Rattle.sg_io.specs.Files.{File, bytes_of};
+ghost use Rattle.stim_read.specs.Applied.{IsApplied};
+ghost use Rattle.stim_read.specs.Seen.{stimulus_seen};
 ghost use Rattle.signoff.specs.Phases.{CircuitOutcome, FileOutcome, InputOutcome, NetlistOutcome, StimulusOutcome, TaskOutcome, WordsOutcome};
 ghost use Rattle.signoff.specs.Promises.{NamesFaultAt};
-ghost use Rattle.signoff.specs.Seen.{circuit_seen, stimulus_seen};
 ghost use Rattle.signoff.specs.Stops.{Gives, IfFailed, NeverFails, SparesWords, StopCause, StopWords};
 ghost use Rattle.signoff.specs.Tasks.{task_seen};
 ghost use Rattle.signoff.specs.Words.{command_of, command_seen};
 
-use crate::circuits::{Circuit, Stimulus};
 use crate::forms::FormError;
 use crate::netlist::read_netlist;
 use crate::stimulus::read_stimulus;
 use crate::stop::{Refusal, Stop};
 use crate::words::{Command, read_words};
+use sg_circuit::Circuit;
 use sg_io::{ReadError, Shelf};
 use std::alloc::Global;
+use stim_read::Stimulus;
 
 /// What is run, and the name of the file that is made.
 #[derive(Debug, Drop)]
@@ -23,6 +25,7 @@ pub struct Task<'a> {
     pub circuit: Circuit,
     pub input: Stimulus,
     pub vcd: &'a str,
+    ghost applied: { IsApplied circuit (stimulus_seen input) },
 }
 
 // One byte more than an input file may have.
@@ -60,7 +63,7 @@ fn file_phase<'a, S: Shelf>(
 }
 
 fn netlist_phase<'a>(alloc: Global, name: &'a str, text: &[u8]) -> Result<Circuit, Stop<'a>>
-    ensures gives { Gives (λ c. circuit_seen c) (NetlistOutcome name.now text.now) result }
+    ensures gives { Gives (λ c. c) (NetlistOutcome name.now text.now) result }
     ensures works { NeverFails result }
     ensures words { IfErr result (λ s. SparesWords s) }
 {
@@ -77,7 +80,8 @@ fn stimulus_phase<'a>(
     text: &[u8],
     circuit: &Circuit,
 ) -> Result<Stimulus, Stop<'a>>
-    ensures gives { Gives (λ s. stimulus_seen s) (StimulusOutcome name.now text.now (circuit_seen circuit.now)) result }
+    ensures gives { Gives (λ s. stimulus_seen s) (StimulusOutcome name.now text.now circuit.now) result }
+    ensures applied { IfOk result (λ s. IsApplied circuit.now (stimulus_seen s)) }
     ensures works { NeverFails result }
     ensures words { IfErr result (λ s. SparesWords s) }
 {
@@ -94,7 +98,7 @@ fn circuit_of<'a, S: Shelf>(
     shelf: &mut S,
     name: &'a str,
 ) -> Result<Circuit, Stop<'a>>
-    ensures gives { (files : List File) → S.files shelf.old ≡ Some files → Gives (λ c. circuit_seen c) (CircuitOutcome name.now files) result }
+    ensures gives { (files : List File) → S.files shelf.old ≡ Some files → Gives (λ c. c) (CircuitOutcome name.now files) result }
     ensures held { S.files shelf.new ≡ S.files shelf.old }
     ensures cause { StopCause (S.fault_count shelf.old) (S.fault_count shelf.new) result }
     ensures named { IfFailed (S.last_fault shelf.new ≡ Some name.now) result }
@@ -112,7 +116,8 @@ fn input_of<'a, S: Shelf>(
     circuit: &Circuit,
 ) -> Result<Stimulus, Stop<'a>>
     ensures gives { (files : List File) → S.files shelf.old ≡ Some files
-        → Gives (λ s. stimulus_seen s) (InputOutcome name.now files (circuit_seen circuit.now)) result }
+        → Gives (λ s. stimulus_seen s) (InputOutcome name.now files circuit.now) result }
+    ensures applied { IfOk result (λ s. IsApplied circuit.now (stimulus_seen s)) }
     ensures held { S.files shelf.new ≡ S.files shelf.old }
     ensures cause { StopCause (S.fault_count shelf.old) (S.fault_count shelf.new) result }
     ensures named { IfFailed (S.last_fault shelf.new ≡ Some name.now) result }

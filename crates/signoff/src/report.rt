@@ -1,22 +1,23 @@
 // The report.
-ghost use Rattle.std.specs.Prelude.{◌≡◌, ◌++◌, [], ℕ, List, Some, IfOk, IfErr, OnOk, codes, decimal};
+ghost use Rattle.std.specs.Prelude.{◌≡◌, ◌++◌, [], ℕ, List, IfOk, IfErr, map};
 ghost use Rattle.std.specs.Option.{option_copied};
-ghost use Rattle.circuit_model.specs.Texts.{line};
-ghost use Rattle.circuit_model.specs.Report.{named_net, report_lines, summary};
+ghost use Rattle.time_checks.specs.Seen.{violation_seen};
+ghost use Rattle.wave_out.specs.Report.{report_lines};
+ghost use Rattle.wave_out.specs.Spent.{spent_seen};
+ghost use Rattle.wave_out.specs.Texts.{line};
 ghost use Rattle.signoff.specs.Answer.{fault_line, no_memory_line, status_of_run as end_status};
 ghost use Rattle.signoff.specs.Phases.{refusal_line, status_of_refusal};
 ghost use Rattle.signoff.specs.Putting.{PutsBy, PutsLast};
-ghost use Rattle.signoff.specs.Seen.{circuit_seen, spent_seen};
 ghost use Rattle.signoff.specs.Stops.{refusal_seen};
 ghost use Rattle.signoff.specs.Work.{Tells, TellsEnd, TellsStop};
 
-use crate::circuits::{Circuit, Spent};
+use crate::run::RunEnd;
 use crate::status::Status;
 use crate::stop::{Refusal, Stop};
 use crate::work::Done;
-use itoa::Buffer;
 use sg_io::{ShelfError, Sink};
 use std::alloc::{AllocError, Global};
+use wave_out::report_of;
 
 const USAGE: &str =
     "usage: signoff run NETLIST.. --stim F --vcd F [--sdf F] [--top NAME] [--corner min|typ|max] [--rounds N] [--wheel N] | signoff gen N";
@@ -55,61 +56,16 @@ fn status_of(refusal: Refusal<'_>) -> Status
     }
 }
 
-// A word and a number, on a line of their own.
-fn push_count(text: &mut Vec<u8>, word: &str, count: u64) -> Result<(), AllocError>
-    ensures { OnOk result (text.new.items ≡ text.old.items ++ line (word.now ++ decimal count)) }
-{
-    let mut buffer = Buffer::new();
-    text.extend_from_slice(word.as_bytes())?;
-    text.extend_from_slice(buffer.format(count).as_bytes())?;
-    text.push(b'\n')?;
-    Ok(())
-}
-
-// The last lines of a run that came to its end, without violations and with no entry unannotated.
-fn summary_of(alloc: Global, end: u64) -> Result<Vec<u8>, AllocError>
-    ensures { IfOk result (λ v. v.items ≡ summary 0 0 end) }
-{
-    let mut text = Vec::new(alloc);
-    push_count(&mut text, "violations ", 0)?;
-    push_count(&mut text, "unannotated ", 0)?;
-    push_count(&mut text, "end ", end)?;
-    Ok(text)
-}
-
-fn push_net(text: &mut Vec<u8>, circuit: &Circuit, net: u32) -> Result<(), AllocError>
-    ensures { OnOk result (text.new.items ≡ text.old.items ++ named_net (circuit_seen circuit.now) (Some net)) }
-{
-    text.extend_from_slice(circuit.name.bytes())?;
-    text.push(b'.')?;
-    if let Some(net) = circuit.nets.get(net as usize) {
-        text.extend_from_slice(net.name.bytes())?;
-    }
-    Ok(())
-}
-
-fn spent_text(alloc: Global, circuit: &Circuit, spent: Spent) -> Result<Vec<u8>, AllocError>
-    ensures { IfOk result (λ v. v.items ≡ line (codes "rounds spent at " ++ decimal spent.time ++ codes " on " ++ named_net (circuit_seen circuit.now) spent.net)) }
-{
-    let mut buffer = Buffer::new();
-    let mut text = Vec::new(alloc);
-    text.extend_from_slice(b"rounds spent at ")?;
-    text.extend_from_slice(buffer.format(spent.time).as_bytes())?;
-    text.extend_from_slice(b" on ")?;
-    if let Some(net) = spent.net {
-        push_net(&mut text, circuit, net)?;
-    }
-    text.push(b'\n')?;
-    Ok(text)
-}
-
 fn run_text(alloc: Global, done: &Done<'_>) -> Result<Vec<u8>, AllocError>
-    ensures { IfOk result (λ v. v.items ≡ report_lines (circuit_seen done.now.task.circuit) [] [] [] done.now.task.input.end (spent_seen done.now.spent)) }
+    ensures { IfOk result (λ v. v.items ≡ report_lines done.now.task.circuit [] [] (map (λ x. violation_seen x) done.now.end.violations.items) done.now.task.input.end (spent_seen done.now.end.spent)) }
 {
-    match done.spent {
-        Some(spent) => spent_text(alloc, &done.task.circuit, spent),
-        None => summary_of(alloc, done.task.input.end),
-    }
+    report_of(
+        alloc,
+        &done.task.circuit,
+        &done.end.violations,
+        done.task.input.end,
+        done.end.spent,
+    )
 }
 
 // In pieces, so that no memory is taken.
@@ -161,12 +117,13 @@ fn put_made<K: Sink>(report: &mut K, planned: Status, made: Result<Vec<u8>, Allo
     }
 }
 
-fn status_of_run(spent: Option<Spent>) -> Status
-    ensures { result ≡ end_status (spent_seen spent) [] }
+fn status_of_run(end: &RunEnd) -> Status
+    ensures { result ≡ end_status (spent_seen end.now.spent) (map (λ v. violation_seen v) end.now.violations.items) }
 {
-    match spent {
+    match end.spent {
         Some(_) => Status::Rounds,
-        None => Status::Clean,
+        None if end.violations.is_empty() => Status::Clean,
+        None => Status::Violations,
     }
 }
 
@@ -193,7 +150,7 @@ pub fn tell<K: Sink>(
     ensures { TellsEnd (option_copied failed.entry) end.now (K.told report.old) (K.told report.new) result }
 {
     match end {
-        Ok(done) => put_made(report, status_of_run(done.spent), run_text(alloc, done)),
+        Ok(done) => put_made(report, status_of_run(&done.end), run_text(alloc, done)),
         Err(stop) => tell_stop(alloc, *stop, failed, report),
     }
 }

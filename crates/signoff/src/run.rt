@@ -1,16 +1,57 @@
 // A run, from the first time to its value change dump's last line.
-ghost use Rattle.std.specs.Prelude.{◌≡◌, IfOk};
-ghost use Rattle.circuit_model.specs.Simulated.{run_of_circuit};
+ghost use Rattle.std.specs.Prelude.{◌≡◌, ◌<◌, IfOk, map};
+ghost use Rattle.sg_io.specs.Faults.{Cause, NamesFault};
 ghost use Rattle.sg_io.specs.Files.{BothTell};
-ghost use Rattle.signoff.specs.Recording.{CauseOf, NamesFaultOf};
-ghost use Rattle.signoff.specs.Runs.{Leaves, text_of_run};
-ghost use Rattle.signoff.specs.Seen.{circuit_seen, spent_seen, stimulus_seen};
+ghost use Rattle.stim_read.specs.Applied.{IsApplied};
+ghost use Rattle.stim_read.specs.Seen.{stimulus_seen};
+ghost use Rattle.time_checks.specs.Seen.{violation_seen};
+ghost use Rattle.sim_rounds.specs.Simulated.{run_of_circuit};
+ghost use Rattle.wave_out.specs.Files.{Leaves};
+ghost use Rattle.wave_out.specs.Spent.{spent_seen};
+ghost use Rattle.wave_out.specs.Vcd.{vcd_text};
 
-use crate::circuits::{Circuit, Spent, Stimulus};
-use crate::engine::simulate;
-use crate::vcd::VcdWriter;
+use pulse_list::PlainAgenda;
+use sg_circuit::Circuit;
 use sg_io::{Shelf, ShelfError};
+use sg_steps::Steps;
+use sg_text::NoMemory;
+use sim_rounds::{Finished, Sim, SimEnd};
 use std::alloc::Global;
+use std::marker::Brand;
+use std::sync::ledger::{Blank, Ledger};
+use stim_read::Stimulus;
+use time_checks::Violation;
+use wave_out::{Spent, VcdWriter};
+
+/// What a run came to: the violations of the times that ended, and the time that needed more rounds than the bound, if
+/// there was one.
+#[derive(Debug, Drop)]
+pub struct RunEnd {
+    pub violations: Vec<Violation>,
+    pub spent: Option<Spent>,
+}
+
+// The run of a circuit, told to the writer of its dump.
+fn simulate<S: Shelf, L: Ledger>(
+    alloc: Global,
+    circuit: &Circuit,
+    stimulus: &Stimulus,
+    bound: u32,
+    shelf: &mut S,
+    writer: &mut VcdWriter<'_>,
+    blank: Blank,
+) -> Result<Finished, NoMemory>
+    requires name { blank.name ≡ L.name }
+    requires parts { blank.parts ≡ L.parts }
+    requires some { 0 < blank.parts }
+    requires bound { 0 < bound }
+    requires applied { IsApplied circuit.now (stimulus_seen stimulus.now) }
+{
+    let agenda = PlainAgenda::new(alloc, circuit.parts().elements.len() as u32)?;
+    let sim = Sim::new(alloc, circuit, agenda)?;
+    let mut steps = Steps::<L>::new(blank);
+    Ok(sim.run(stimulus, bound, shelf, writer, &mut steps))
+}
 
 /// Simulates a circuit under a stimulus, with at most `bound` rounds a time, and writes the file `name`. The answer
 /// tells a time that needed more rounds; the file then ends before it.
@@ -21,20 +62,37 @@ pub fn run_and_dump<S: Shelf>(
     bound: u32,
     name: &str,
     shelf: &mut S,
-) -> Result<Option<Spent>, ShelfError>
-    ensures spent { IfOk result (λ spent. spent_seen spent ≡ (run_of_circuit (circuit_seen circuit.now) bound (stimulus_seen stimulus.now)).spent) }
+) -> Result<RunEnd, ShelfError>
+    requires bound { 0 < bound }
+    requires applied { IsApplied circuit.now (stimulus_seen stimulus.now) }
+    ensures spent { IfOk result (λ end. spent_seen end.spent ≡ (run_of_circuit circuit.now bound (stimulus_seen stimulus.now)).spent) }
+    ensures violations { IfOk result (λ end. map (λ v. violation_seen v) end.violations.items ≡ (run_of_circuit circuit.now bound (stimulus_seen stimulus.now)).run.violations) }
 
     // The file holds the dump of the definition's run, or after a failure or for want of memory its first bytes.
     ensures file { BothTell (S.files shelf.old) (S.files shelf.new)
-        (Leaves name.now (text_of_run (circuit_seen circuit.now) (stimulus_seen stimulus.now) (run_of_circuit (circuit_seen circuit.now) bound (stimulus_seen stimulus.now))) result) }
+        (Leaves name.now (vcd_text circuit.now stimulus.now.end (run_of_circuit circuit.now bound (stimulus_seen stimulus.now))) result) }
 
-    ensures cause { CauseOf (S.fault_count shelf.old) (S.fault_count shelf.new) result }
-    ensures named { NamesFaultOf name.now (S.last_fault shelf.old) (S.last_fault shelf.new) result }
+    ensures cause { Cause (S.fault_count shelf.old) (S.fault_count shelf.new) result }
+    ensures named { NamesFault name.now (S.last_fault shelf.old) (S.last_fault shelf.new) result }
 {
     let mut writer = VcdWriter::new(alloc, circuit, name, shelf)?;
-    let spent = simulate(alloc, circuit, stimulus, bound, shelf, &mut writer)?;
-    if spent.is_none() {
-        writer.finish(alloc, shelf, stimulus.end)?;
-    }
-    Ok(spent)
+    let finished = simulate::<S, Brand>(
+        alloc,
+        circuit,
+        stimulus,
+        bound,
+        shelf,
+        &mut writer,
+        Blank::new(1),
+    )?;
+    let spent = match finished.end {
+        Ok(()) => None,
+        Err(SimEnd::RoundsSpent { time, net }) => Some(Spent { time, net }),
+        Err(SimEnd::WatchFailed) => return Err(ShelfError::Failed),
+        Err(SimEnd::NoMemory) => return Err(ShelfError::NoMemory),
+    };
+    Ok(RunEnd {
+        violations: finished.tally.violations,
+        spent,
+    })
 }

@@ -1,24 +1,25 @@
 // The reader of stimuli of the first form.
 ghost use Rattle.std.specs.Prelude.{◌≡◌, ◌++◌, ◌∷◌, [], true, IfOk, Err, option_map};
-ghost use Rattle.circuit_model.specs.Simulated.{Stimulus as StimulusModel};
+ghost use Rattle.stim_read.specs.Applied.{IsApplied};
+ghost use Rattle.stim_read.specs.Seen.{stimulus_seen};
+ghost use Rattle.stim_read.specs.Stimulus.{Stimulus as StimulusModel};
 ghost use Rattle.signoff.specs.StimulusForm.{IsStimulus};
 ghost use Rattle.signoff.specs.StimulusLines.{Reads};
-ghost use Rattle.signoff.specs.Seen.{circuit_seen, stimulus_seen};
 
 mod lines;
-mod names;
 mod numbers;
 mod steps;
 #[cfg(test)]
 mod tests;
 mod words;
 
-use crate::circuits::{Circuit, Stimulus};
 use crate::forms::FormError;
 use lines::read_lines;
 use numbers::ticks_of;
+use sg_circuit::Circuit;
 use std::alloc::Global;
 use steps::{rises_to, steps_of};
+use stim_read::Stimulus;
 
 // A text of the form has at most so many bytes.
 const MOST_BYTES: usize = 1 << 20;
@@ -36,8 +37,9 @@ fn before_last_feed(text: &[u8]) -> Option<&[u8]>
 /// The stimulus that a text of the form describes for a circuit, in ticks of 1 ps. `NotYet` comes exactly where the
 /// text has another form.
 pub fn read_stimulus(alloc: Global, text: &[u8], circuit: &Circuit) -> Result<Stimulus, FormError>
-    ensures ok { IfOk result (λ s. IsStimulus text.now (circuit_seen circuit.now) (stimulus_seen s)) }
-    ensures not_yet { result ≡ Err FormError.NotYet → (s : StimulusModel) → IsStimulus text.now (circuit_seen circuit.now) s → ⊥ }
+    ensures ok { IfOk result (λ s. IsStimulus text.now circuit.now (stimulus_seen s)) }
+    ensures applied { IfOk result (λ s. IsApplied circuit.now (stimulus_seen s)) }
+    ensures not_yet { result ≡ Err FormError.NotYet → (s : StimulusModel) → IsStimulus text.now circuit.now s → ⊥ }
 {
     if text.len() > MOST_BYTES {
         return Err(FormError::NotYet);

@@ -6,18 +6,17 @@ ghost use Rattle.signoff.specs.Stops.{IfFailed, StopCause, StopWords};
 ghost use Rattle.signoff.specs.Words.{command_of};
 ghost use Rattle.signoff.specs.Work.{WorkLeaves};
 
-use crate::circuits::Spent;
 use crate::phases::{Task, task_of};
-use crate::run::run_and_dump;
+use crate::run::{RunEnd, run_and_dump};
 use crate::stop::Stop;
 use sg_io::{Shelf, ShelfError};
 use std::alloc::Global;
 
-/// A task that was run, and the time that needed more rounds than the bound, if there was one.
+/// A task that was run, and what the run came to.
 #[derive(Debug, Drop)]
 pub struct Done<'a> {
     pub task: Task<'a>,
-    pub spent: Option<Spent>,
+    pub end: RunEnd,
 }
 
 // The bound on the rounds of one time.
@@ -36,7 +35,7 @@ pub fn work<'a, S: Shelf>(
 {
     let task = task_of(alloc, words, shelf)?;
     match run_and_dump(alloc, &task.circuit, &task.input, ROUNDS, task.vcd, shelf) {
-        Ok(spent) => Ok(Done { task, spent }),
+        Ok(end) => Ok(Done { task, end }),
         Err(ShelfError::Failed) => Err(Stop::Failed),
         Err(ShelfError::NoMemory) => Err(Stop::NoMemory),
     }

@@ -3,6 +3,7 @@ pub mod Texts
 pub mod Scopes
 pub mod Vcd
 pub mod Report
+pub mod Spent
 pub mod Walk
 pub mod Lines
 pub mod Changes

@@ -13,7 +13,7 @@ mod words;
 mod writer;
 
 pub use laws::{calls_of_a_run_are_its_dump, nested_texts};
-pub use report::summary_of;
+pub use report::{Spent, report_of};
 pub use writer::VcdWriter;
 
 #[cfg(test)]

@@ -61,7 +61,8 @@ pub fn push_number(text: &mut Vec<u8>, number: u64) -> Result<(), AllocError>
     text.extend_from_slice(buffer.format(number).as_bytes())
 }
 
-fn push_signed(text: &mut Vec<u8>, number: i64) -> Result<(), AllocError>
+/// Adds a number with its sign.
+pub fn push_signed(text: &mut Vec<u8>, number: i64) -> Result<(), AllocError>
     ensures { OnOk result (text.new.items ≡ text.old.items ++ signed_decimal number) }
 {
     let mut buffer = Buffer::new();

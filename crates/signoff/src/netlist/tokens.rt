@@ -3,9 +3,9 @@ ghost use Rattle.std.specs.Prelude.{◌≡◌, IfOk, Err, List};
 ghost use Rattle.std.specs.List.{prefix_len};
 ghost use Rattle.signoff.specs.NetlistForm.{Splits, Token as TokenModel, is_blank, is_symbol};
 ghost use Rattle.signoff.specs.NetlistSeen.{tokens_seen};
-ghost use Rattle.circuit_model.specs.Texts.{is_letter, is_name_byte};
 
 use crate::forms::FormError;
+use sg_text::{is_name_byte, is_name_start};
 use std::alloc::Global;
 
 /// A name with its bytes, or one of `(`, `)`, `,` and `;`.
@@ -25,18 +25,6 @@ fn is_symbol(byte: u8) -> bool
     ensures { result ≡ is_symbol byte }
 {
     matches!(byte, b'(' | b')' | b',' | b';')
-}
-
-fn is_letter(byte: u8) -> bool
-    ensures { result ≡ is_letter byte }
-{
-    matches!(byte, b'A'..=b'Z' | b'a'..=b'z' | b'_')
-}
-
-fn is_name_byte(byte: u8) -> bool
-    ensures { result ≡ is_name_byte byte }
-{
-    is_letter(byte) || matches!(byte, b'0'..=b'9' | b'$')
 }
 
 // How many bytes that may stand in a name a text begins with.
@@ -59,7 +47,7 @@ pub fn tokens_of(alloc: Global, text: &[u8]) -> Result<Vec<Token<'_>>, FormError
         } else if is_symbol(*first) {
             tokens.push(Token::Symbol(*first))?;
             rest = after;
-        } else if is_letter(*first) {
+        } else if is_name_start(*first) {
             let (name, behind) = rest.split_at(name_length(rest));
             tokens.push(Token::Name(name))?;
             rest = behind;

@@ -1,16 +1,15 @@
 // What the lines of a stimulus say.
 ghost use Rattle.std.specs.Prelude.{◌≡◌, ◌++◌, ◌∷◌, [], List, ℕ, IfOk, map, option_map, true, false};
 ghost use Rattle.std.specs.List.{list_any, list_all};
-ghost use Rattle.circuit_model.specs.Vcd.{value_letter};
+ghost use Rattle.wave_out.specs.Vcd.{value_letter};
 ghost use Rattle.signoff.specs.StimulusForm.{is_number as is_number_text, is_input, sets_input, is_at};
 ghost use Rattle.signoff.specs.StimulusLines.{Reads, set_word, at_words, end_words, rows, rows_of, words_of as words_in, are_lines, set_seen, at_seen, lines_seen};
-ghost use Rattle.signoff.specs.Seen.{circuit_seen, net_seen};
 
-use super::names::is_simple_name;
 use super::numbers::is_number;
 use super::words::{lines_of, words_of};
-use crate::circuits::{Circuit, Driver, Net};
+use sg_circuit::{Circuit, Driver, Net};
 use sg_logic::Value;
+use sg_text::is_simple_name;
 use std::alloc::{AllocError, Global};
 
 /// An input takes a value.
@@ -35,13 +34,13 @@ pub struct Lines<'a> {
 }
 
 fn is_input_of(net: &Net, name: &[u8]) -> bool
-    ensures { result ≡ is_input name.now (net_seen net.now) }
+    ensures { result ≡ is_input name.now net.now }
 {
     net.driver == Driver::Stimulus && net.name.bytes() == name
 }
 
 fn has_input(nets: &[Net], name: &[u8]) -> bool
-    ensures { result ≡ list_any (λ net. is_input name.now (net_seen net)) nets.now }
+    ensures { result ≡ list_any (is_input name.now) nets.now }
 {
     nets.iter().any(|net| is_input_of(net, name))
 }
@@ -70,11 +69,11 @@ fn parts_of(word: &[u8]) -> Option<(&[u8], u8)>
 
 // A word `n=v` for an input n.
 fn read_set<'a>(word: &'a [u8], circuit: &Circuit) -> Option<SetText<'a>>
-    ensures { Reads set_word (sets_input (circuit_seen circuit.now)) word.now (option_map (λ s. set_seen s) result) }
+    ensures { Reads set_word (sets_input circuit.now) word.now (option_map (λ s. set_seen s) result) }
 {
     let (name, letter) = parts_of(word)?;
     let value = value_of_letter(letter)?;
-    if is_simple_name(name) && has_input(&circuit.nets, name) {
+    if is_simple_name(name) && has_input(&circuit.parts().nets, name) {
         Some(SetText { name, value })
     } else {
         None
@@ -86,7 +85,7 @@ fn read_sets<'a>(
     words: &[&'a [u8]],
     circuit: &Circuit,
 ) -> Result<Option<Vec<SetText<'a>>>, AllocError>
-    ensures { IfOk result (λ read. Reads (map set_word) (list_all (sets_input (circuit_seen circuit.now))) (map (λ w. w.now) words.now) (option_map (λ sets. map (λ s. set_seen s) sets.items) read)) }
+    ensures { IfOk result (λ read. Reads (map set_word) (list_all (sets_input circuit.now)) (map (λ w. w.now) words.now) (option_map (λ sets. map (λ s. set_seen s) sets.items) read)) }
 {
     let mut sets = Vec::new(alloc);
     for word in words {
@@ -104,7 +103,7 @@ fn read_at<'a>(
     words: &[&'a [u8]],
     circuit: &Circuit,
 ) -> Result<Option<AtLine<'a>>, AllocError>
-    ensures { IfOk result (λ read. Reads at_words (is_at (circuit_seen circuit.now)) (map (λ w. w.now) words.now) (option_map (λ l. at_seen l) read)) }
+    ensures { IfOk result (λ read. Reads at_words (is_at circuit.now) (map (λ w. w.now) words.now) (option_map (λ l. at_seen l) read)) }
 {
     match words {
         [at, digits, sets @ ..]
@@ -123,7 +122,7 @@ fn read_steps<'a>(
     lines: &[&'a [u8]],
     circuit: &Circuit,
 ) -> Result<Option<Vec<AtLine<'a>>>, AllocError>
-    ensures { IfOk result (λ read. Reads (map at_words) (list_all (is_at (circuit_seen circuit.now))) (map (λ l. words_in l.now) lines.now) (option_map (λ steps. map (λ l. at_seen l) steps.items) read)) }
+    ensures { IfOk result (λ read. Reads (map at_words) (list_all (is_at circuit.now)) (map (λ l. words_in l.now) lines.now) (option_map (λ steps. map (λ l. at_seen l) steps.items) read)) }
 {
     let mut steps = Vec::new(alloc);
     for line in lines {
@@ -153,7 +152,7 @@ pub fn read_lines<'a>(
     text: &'a [u8],
     circuit: &Circuit,
 ) -> Result<Option<Lines<'a>>, AllocError>
-    ensures { IfOk result (λ read. Reads rows (are_lines (circuit_seen circuit.now)) (rows_of text.now) (option_map (λ l. lines_seen l) read)) }
+    ensures { IfOk result (λ read. Reads rows (are_lines circuit.now) (rows_of text.now) (option_map (λ l. lines_seen l) read)) }
 {
     let lines = lines_of(alloc, text)?;
     match lines.as_slice() {
