@@ -2,7 +2,7 @@
 use Rattle.std.proofs.Common.{ℕ, ◌≡◌, ◌≢◌, ◌≤◌, List, [], ◌∷◌, length, map, codes, sym, ap, subst, ◌∙◌, arith}
 use Rattle.std.specs.List.{flat_map}
 use Rattle.std.proofs.lemmas.List.{length-append, length-map}
-use Rattle.circuit_model.specs.Circuit.{Circuit}
+use Rattle.sg_circuit.specs.Circuit.{Circuit}
 use Rattle.signoff.specs.NetlistForm.{Token, Name, Splits, Item, Inputs, Outputs, Gates, Module, IsSound, IsNetlist, names_spelled, item_spelled, module_spelled, circuit_of, gates_of, gates_in, right_parenthesis, semicolon}
 use Rattle.signoff.proofs.NetlistSplitting.{splits-unique, splits-length}
 use Rattle.signoff.proofs.NetlistSpelling.{module_spelled-injective, module-spelled, body_spelled}
