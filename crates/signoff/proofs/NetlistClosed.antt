@@ -15,8 +15,9 @@ use Rattle.sg_logic.specs.Gate.{TakesInputs as GateTakes}
 use Rattle.sg_model.specs.Round.{each_from}
 use Rattle.sg_circuit.specs.declared.nets.Net.{Net}
 use Rattle.sg_circuit.specs.declared.nets.Driver.TheVariants as driver
-use Rattle.sg_circuit.specs.Circuit.{Element, Variable, Pass, net_at, element_at, scope_at}
+use Rattle.sg_circuit.specs.Circuit.{Element, Variable, Scope, Pass, net_at, element_at, scope_at}
 use Rattle.sg_circuit.specs.Closed.{IsClosed, IfElement, HasDelays, TakesInputs, width_of}
+use Rattle.signoff.specs.Flat.{flat_scope}
 use Rattle.signoff.specs.NetlistForm.{Module, GateItem, IsSound, same_name, is_among, is_wired, count_of, place_of, takes_others, driver_by, driver_of, net_of, element_of, variable_of, circuit_of, gates_of, inputs_of, outputs_of}
 use Rattle.signoff.proofs.NetlistPlaces.{place-within, at-place, position-at, place-at, among-all}
 
@@ -191,7 +192,7 @@ closed-is m sound few gates =
       net_scopes = All-map (λ (n : Net). n.scope < 1) (net_of m) m.ports (λ k d l. omega arith);
       element_scopes = elements-are m (λ e. e.scope < 1) sound (λ g h. omega arith);
       check_scopes = All-nil _;
-      bits = all-one _ _ (variables-within m m.ports 0 (length (circuit_of m).nets) (omega arith));
+      bits = all-one (λ (s : Scope). All (λ v. All (λ n. n < length (circuit_of m).nets) v.bits) s.variables) (flat_scope m.name (each_from (variable_of m) 0 m.ports)) (variables-within m m.ports 0 (length (circuit_of m).nets) (omega arith));
       inputs = elements-are m (λ e. All (λ n. n < length (circuit_of m).nets) e.inputs) sound
           (λ g h. places-within m.ports g.others (length (circuit_of m).nets) nets (among-inputs m.ports (inputs_of m) g.others declared.0 h.reads));
       outputs = elements-are m (λ e. e.output < length (circuit_of m).nets) sound
@@ -200,6 +201,6 @@ closed-is m sound few gates =
       drivers = λ n l. drivers-are m sound n (subst (λ k. n < k) nets l);
       takes_inputs = elements-are m (λ e. TakesInputs e.kind (length e.inputs)) sound (λ g h. subst (λ n. GateTakes g.kind n) (sym (length-map g.others (place_of m.ports))) (gate-takes g.kind (length g.others) h.takes));
       has_delays = elements-are m (λ e. HasDelays e.kind) sound (λ g h. (omega arith, All-nil (λ d. d < 2 ^ 60)));
-      widths = all-one _ _ (variables-wide m m.ports 0);
+      widths = all-one (λ (s : Scope). All (λ v. length v.bits ≡ width_of v.range) s.variables) (flat_scope m.name (each_from (variable_of m) 0 m.ports)) (variables-wide m m.ports 0);
       datums = All-nil _;
     }

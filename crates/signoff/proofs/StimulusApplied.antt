@@ -77,7 +77,7 @@ sets-inputs P k (net ∷ nets) sets d f =
     (λ e. subst (λ n. P n) here (f 0 (omega arith) (stimulated net.driver e)))
     (sets-inputs P (k + 1) nets sets d (λ j l e. (let next : k + suc j ≡ k + 1 + j = omega arith in subst (λ n. P n) next (f (suc j) (omega arith) e))))
 
-blank : Net
+abbrev blank : Net
 blank = record { scope = 0; name = []; bit = None; driver = driver.Nobody }
 
 pub applied : (circuit : Circuit) (lines : List AtLine) (steps : List code_step.StimStep) (end : ℕ) → map (λ s. step_seen s) steps ≡ map (step_of circuit) lines → true ≡ rise_to end (map (λ s. s.time) steps) → end < 2 ^ 60 → IsApplied circuit (record { steps = map (λ s. step_seen s) steps; end = end })
