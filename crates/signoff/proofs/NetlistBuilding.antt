@@ -1,8 +1,8 @@
 -- From a module to the parts of its circuit.
-use Rattle.std.proofs.Common.{ℕ, ℤ, suc, ◌≡◌, ◌+◌, ◌<◌, ◌≤◌, ◌^◌, List, [], ◌∷◌, ◌++◌, length, map, take, get_or, true, false, Some, None, position, if◌then◌else◌, refl, sym, ap, subst, ◌∙◌, arith, drop, add-one}
+use Rattle.std.proofs.Common.{ℕ, ℤ, ◌≡◌, ◌+◌, ◌<◌, ◌≤◌, ◌^◌, List, [], ◌∷◌, ◌++◌, length, map, take, get_or, false, Some, None, position, if◌then◌else◌, refl, sym, ap, subst, ◌∙◌, arith}
 use Rattle.std.specs.Borrow.{Bor}
 use Rattle.std.specs.List.{All}
-use Rattle.std.proofs.lemmas.List.{length-map, map_more, map_push, at_drop_more}
+use Rattle.std.proofs.lemmas.List.{length-map, map_more, map_push}
 use Rattle.std.proofs.lemmas.List.Elements.{All-nil, All-cons, All-push}
 use Rattle.sg_delay.specs.declared.gates.GateDelays.{GateDelays}
 use Rattle.sg_model.specs.Round.{each_from}
@@ -16,7 +16,7 @@ use Rattle.sg_circuit.specs.declared.elements.ElementKind.TheVariants as kind
 use Rattle.sg_circuit.specs.declared.scopes.Scope as code_scope
 use Rattle.sg_circuit.specs.declared.circuits.Parts.{Parts}
 use Rattle.sg_circuit.specs.Circuit.{Circuit, Element, Kind, Gate, Scope, Variable}
-use Rattle.sg_circuit.specs.Seen.{AreIndexed, IsIndexed, circuit_seen, delays_at, element_seen, gate_delays_seen, kind_seen, scope_seen}
+use Rattle.sg_circuit.specs.Seen.{AreIndexed, IsIndexed, circuit_seen, delays_at, element_seen, kind_seen, scope_seen}
 use Rattle.signoff.specs.Flat.{flat_scope, tick_power}
 use Rattle.signoff.specs.declared.netlist.declarations.GateItem as code_gate_item
 use Rattle.signoff.specs.NetlistForm.{Module, GateItem, same_name, is_among, place_of, driver_by, circuit_of, gates_of, inputs_of}
@@ -125,8 +125,3 @@ pub few-gates : (m : Module) (driven : List (Bor (List ℕ))) → names_seen dri
 few-gates m driven e l =
     let same : length (names_seen driven) ≡ length (map (λ g. g.first) (gates_of m)) = ap length e in
     omega (arith, length-map (gates_of m) (λ (g : GateItem). g.first), length-map driven (λ n. n.now))
-
--- the variables of the ports from the k-th on
-pub variables-more : (inputs : List (List ℕ)) (ports : List (Bor (List ℕ))) (k : ℕ) (d : Bor (List ℕ)) → k < length ports
-    → each_from (variable_among inputs) k (names_seen (drop k ports)) ≡ variable_among inputs k (get_or ports k d).now ∷ each_from (variable_among inputs) (k + 1) (names_seen (drop (k + 1) ports))
-variables-more inputs ports k d within = at_drop_more (λ x. each_from (variable_among inputs) k (names_seen x)) ports k d within ∙ ap (λ n. variable_among inputs k (get_or ports k d).now ∷ each_from (variable_among inputs) n (names_seen (drop (k + 1) ports))) (sym (add-one k))

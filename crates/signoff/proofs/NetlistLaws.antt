@@ -17,9 +17,6 @@ netlist-unique text c d m n =
     m.is ∙ ap circuit_of same ∙ sym n.is
 
 -- texts that are no netlists
-pub no-tokens : (text : List ℕ) → ((ts : List Token) → Splits text ts → ⊥) → (circuit : Circuit) → IsNetlist text circuit → ⊥
-no-tokens text h circuit n = h n.tokens n.splits
-
 pub no-module : (text : List ℕ) (ts : List Token) → Splits text ts → ((m : Module) → IsSound m → ts ≢ module_spelled m) → (circuit : Circuit) → IsNetlist text circuit → ⊥
 no-module text ts s h circuit n = h n.tree n.sound (tree-is text circuit ts s n)
 

@@ -23,9 +23,13 @@ fn consists_of(
     let parts = circuit.parts();
     parts.nets.len() == nets.len()
         && parts.elements.len() == elements.len()
-        && parts.nets.iter().zip(nets).all(|(net, (name, driver))| is_net(net, name, *driver))
+        && parts
+            .nets
+            .iter()
+            .zip(nets)
+            .all(|(net, (name, driver))| is_net(net, name, *driver))
         && parts.elements.iter().zip(elements).all(|(element, (kind, output, inputs))| is_gate(
-            element, *kind, *output, inputs
+            element, *kind, *output, inputs,
         ))
 }
 

@@ -61,7 +61,14 @@ fn reads_steps_and_an_end(rt: HostRuntime) {
 #[test]
 fn sets_each_input_once_in_the_order_of_the_nets(rt: HostRuntime) {
     let steps: [(u64, &[Set]); 2] = [(1000, &[A_Z, B_X]), (2000, &[A_HIGH])];
-    assert!(rt; gives(rt.alloc(), "at 1 b=x a=z\nat 2 a=0 a=1\nend 2\n", &steps, 2000));
+    assert!(rt;
+        gives(
+            rt.alloc(),
+            "at 1 b=x a=z\nat 2 a=0 a=1\nend 2\n",
+            &steps,
+            2000
+        )
+    );
 }
 
 #[test]
