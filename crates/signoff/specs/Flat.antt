@@ -10,6 +10,7 @@ unit_power = negsuc 8
 abbrev pub tick_power : ℤ
 tick_power = negsuc 11
 
+-- the one scope is the top, an instance of the module by the module's name
 abbrev pub flat_scope : List ℕ → List Variable → Scope
 flat_scope name variables = record {
   parent = None;
