@@ -2,11 +2,13 @@
 use Rattle.std.specs.Prelude.{◌≡◌, [], ◌∷◌, ◌++◌, true, false, Some, None, codes, refl}
 use Rattle.sg_logic.specs.declared.values.Value.TheVariants.{Zero, One}
 use Rattle.sg_logic.specs.declared.gates.GateKind.TheVariants.{Not}
-use Rattle.circuit_model.specs.Inverter.{inverter, rise_at_10}
-use Rattle.circuit_model.specs.Texts.{line}
+use Rattle.sg_circuit.specs.declared.nets.Driver.TheVariants.{Stimulus, Element}
+use Rattle.sg_circuit.specs.declared.scopes.Port.TheVariants as port
+use Rattle.sg_circuit.specs.Circuit.{Circuit, Gate}
+use Rattle.wave_out.specs.Texts.{line}
+use Rattle.signoff.specs.Flat.{flat}
 use Rattle.signoff.specs.NetlistForm.{Name, Symbol, Inputs, Outputs, Gates, Module, module_spelled, circuit_of, are_distinct, are_plain}
-use Rattle.signoff.specs.StimulusForm.{Lines, lines_spelled, stimulus_of, ticks_of, is_number, sets_input}
-use Rattle.signoff.specs.WellFormed.{are_apart}
+use Rattle.signoff.specs.StimulusForm.{Lines, lines_spelled, stimulus_of, is_number, sets_input}
 use Rattle.sg_text.specs.Words.{reserved_rows, reserved_words}
 use Rattle.signoff.specs.Words.{command_of, default_rounds}
 
@@ -24,18 +26,19 @@ spelled : module_spelled inverter_module
     ∷ Name (codes "not") ∷ Symbol 40 ∷ Name (codes "y") ∷ Symbol 44 ∷ Name (codes "a") ∷ Symbol 41 ∷ Symbol 59 ∷ Name (codes "endmodule") ∷ []
 spelled = refl
 
--- it is the circuit of the model's own example
+-- its circuit: the stimulus drives a, and the gate drives y
+abbrev inverter : Circuit
+inverter =
+    flat (codes "t")
+    (record { scope = 0; name = codes "a"; bit = None; driver = Stimulus } ∷ record { scope = 0; name = codes "y"; bit = None; driver = Element 0 } ∷ [])
+    (record { scope = 0; inputs = 0 ∷ []; output = 1; kind = Gate Not [] } ∷ [])
+    (record { name = codes "a"; range = None; is_reg = false; port = port.Input; bits = 0 ∷ [] } ∷ record { name = codes "y"; range = None; is_reg = false; port = port.Output; bits = 1 ∷ [] } ∷ [])
+
 same_circuit : circuit_of inverter_module ≡ inverter
 same_circuit = refl
 
 twice : are_distinct (codes "a" ∷ codes "b" ∷ codes "a" ∷ []) ≡ false
 twice = refl
-
-apart : are_apart (1 ∷ 0 ∷ 2 ∷ []) ≡ true
-apart = refl
-
-not_apart : are_apart (1 ∷ 0 ∷ 1 ∷ []) ≡ false
-not_apart = refl
 
 reserved : are_plain (codes "a" ∷ codes "wire" ∷ []) ≡ false
 unfolding reserved_words reserved_rows
@@ -53,7 +56,8 @@ rise = record {
 rise_spelled : lines_spelled rise ≡ line (codes "at 0 a=0") ++ line (codes "at 10 a=1") ++ line (codes "end 20")
 rise_spelled = refl
 
-same_stimulus : stimulus_of inverter rise ≡ rise_at_10
+-- in ticks of 1 ps
+same_stimulus : stimulus_of inverter rise ≡ record { steps = record { time = 0; sets = (0, Zero) ∷ [] } ∷ record { time = 10000; sets = (0, One) ∷ [] } ∷ []; end = 20000 }
 same_stimulus = refl
 
 -- fifteen digits are a time, sixteen aren't
@@ -62,9 +66,6 @@ fifteen = refl
 
 sixteen : is_number (codes "0000000000000010") ≡ false
 sixteen = refl
-
-ten_ns : ticks_of (codes "010") ≡ 10000
-ten_ns = refl
 
 -- an output can't be set
 output : sets_input inverter (record { name = codes "y"; value = One }) ≡ false

@@ -13,6 +13,7 @@ pub mod NetlistLists
 pub mod NetlistSoundness
 pub mod NetlistPlaces
 pub mod NetlistBuilding
+pub mod NetlistClosed
 pub mod NetlistLaws
 pub mod StimulusNumbers
 pub mod StimulusReading
@@ -22,5 +23,6 @@ pub mod StimulusSets
 pub mod StimulusSpelling
 pub mod StimulusOneWay
 pub mod StimulusBodies
+pub mod StimulusApplied
 pub mod StimulusLaws
 pub mod FormExamples

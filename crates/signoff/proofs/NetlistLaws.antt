@@ -2,7 +2,7 @@
 use Rattle.std.proofs.Common.{ℕ, ◌≡◌, ◌≢◌, ◌≤◌, List, [], ◌∷◌, length, map, codes, sym, ap, subst, ◌∙◌, arith}
 use Rattle.std.specs.List.{flat_map}
 use Rattle.std.proofs.lemmas.List.{length-append, length-map}
-use Rattle.circuit_model.specs.Circuit.{Circuit}
+use Rattle.sg_circuit.specs.Circuit.{Circuit}
 use Rattle.signoff.specs.NetlistForm.{Token, Name, Splits, Item, Inputs, Outputs, Gates, Module, IsSound, IsNetlist, names_spelled, item_spelled, module_spelled, circuit_of, gates_of, gates_in, right_parenthesis, semicolon}
 use Rattle.signoff.proofs.NetlistSplitting.{splits-unique, splits-length}
 use Rattle.signoff.proofs.NetlistSpelling.{module_spelled-injective, module-spelled, body_spelled}
@@ -17,9 +17,6 @@ netlist-unique text c d m n =
     m.is ∙ ap circuit_of same ∙ sym n.is
 
 -- texts that are no netlists
-pub no-tokens : (text : List ℕ) → ((ts : List Token) → Splits text ts → ⊥) → (circuit : Circuit) → IsNetlist text circuit → ⊥
-no-tokens text h circuit n = h n.tokens n.splits
-
 pub no-module : (text : List ℕ) (ts : List Token) → Splits text ts → ((m : Module) → IsSound m → ts ≢ module_spelled m) → (circuit : Circuit) → IsNetlist text circuit → ⊥
 no-module text ts s h circuit n = h n.tree n.sound (tree-is text circuit ts s n)
 

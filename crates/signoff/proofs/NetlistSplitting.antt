@@ -3,7 +3,7 @@ use Rattle.std.proofs.Common.{ℕ, ◌≡◌, ◌+◌, ◌≤◌, List, [], ◌�
 use Rattle.std.specs.List.{list_all, prefix_len}
 use Rattle.std.proofs.lemmas.Bool.Decides.{nat_tests}
 use Rattle.std.proofs.lemmas.List.{append_assoc, length-append, append-nil, take_rest, take-append-drop}
-use Rattle.circuit_model.specs.Texts.{is_letter, is_name_byte, is_simple}
+use Rattle.sg_text.specs.Names.{is_name_start, is_name_byte, is_simple}
 use Rattle.signoff.specs.NetlistForm.{Token, Name, Symbol, Splits, ends, skips_blank, takes_symbol, takes_name, is_blank, is_symbol, ends_name}
 use Rattle.std.proofs.lemmas.Bool.{and_parts}
 
@@ -11,22 +11,22 @@ use Rattle.std.proofs.lemmas.Bool.{and_parts}
 blank-symbol : (b : ℕ) → is_blank b ≡ true → is_symbol b ≡ true → ⊥
 blank-symbol b h k = grind (arith, nat_tests)
 
-blank-letter : (b : ℕ) → is_blank b ≡ true → is_letter b ≡ true → ⊥
+blank-letter : (b : ℕ) → is_blank b ≡ true → is_name_start b ≡ true → ⊥
 blank-letter b h k = grind (arith, nat_tests)
 
-symbol-letter : (b : ℕ) → is_symbol b ≡ true → is_letter b ≡ true → ⊥
+symbol-letter : (b : ℕ) → is_symbol b ≡ true → is_name_start b ≡ true → ⊥
 symbol-letter b h k = grind (arith, nat_tests)
 
 -- a simple name is no empty text, begins with a letter and goes on with bytes of names
-simple-parts : (c : ℕ) (cs : List ℕ) → is_simple (c ∷ cs) ≡ true → (is_letter c ≡ true) × (list_all is_name_byte cs ≡ true)
-simple-parts c cs h = and_parts (is_letter c) (list_all is_name_byte cs) h
+simple-parts : (c : ℕ) (cs : List ℕ) → is_simple (c ∷ cs) ≡ true → (is_name_start c ≡ true) × (list_all is_name_byte cs ≡ true)
+simple-parts c cs h = and_parts (is_name_start c) (list_all is_name_byte cs) h
 
-simple-letter : (name rest behind : List ℕ) (b : ℕ) → b ∷ rest ≡ name ++ behind → is_simple name ≡ true → is_letter b ≡ true
+simple-letter : (name rest behind : List ℕ) (b : ℕ) → b ∷ rest ≡ name ++ behind → is_simple name ≡ true → is_name_start b ≡ true
 simple-letter [] rest behind b e h = absurd (cc)
 simple-letter (c ∷ cs) rest behind b e h =
     let letter = (simple-parts c cs h).0 in
     let same : b ≡ c = cc in
-    subst (λ x. is_letter x ≡ true) (sym same) letter
+    subst (λ x. is_name_start x ≡ true) (sym same) letter
 
 -- what a text that begins with a byte of some kind is split into
 pub behind-blank : (b : ℕ) (rest : List ℕ) (ts : List Token) → is_blank b ≡ true → Splits (b ∷ rest) ts → Splits rest ts
@@ -40,7 +40,7 @@ behind-symbol b rest ts h (takes_symbol _ _ us k s) = (us, refl, s)
 behind-symbol b rest ts h (takes_name _ name tail _ e k n s) = absurd (symbol-letter b h (simple-letter name rest tail b e k))
 
 -- a byte of a name either ends no name, or follows in it
-name-letter : (c : ℕ) → is_letter c ≡ true → is_name_byte c ≡ true
+pub name-letter : (c : ℕ) → is_name_start c ≡ true → is_name_byte c ≡ true
 name-letter c h = grind (arith, nat_tests)
 
 not-true : (x : Bool) → x ≡ true → not x ≡ true → ⊥
@@ -83,7 +83,7 @@ behind-name text name behind ts e h k (takes_name _ other tail us f j n s) =
     (us, ap (λ x. Name x ∷ us) p.0, subst (λ x. Splits x us) p.1 s)
 
 -- a byte of another kind begins no token
-pub no-token : (b : ℕ) (rest : List ℕ) (ts : List Token) → is_blank b ≡ false → is_symbol b ≡ false → is_letter b ≡ false → Splits (b ∷ rest) ts → ⊥
+pub no-token : (b : ℕ) (rest : List ℕ) (ts : List Token) → is_blank b ≡ false → is_symbol b ≡ false → is_name_start b ≡ false → Splits (b ∷ rest) ts → ⊥
 no-token b rest ts h k j (skips_blank _ _ _ i s) = cc
 no-token b rest ts h k j (takes_symbol _ _ _ i s) = cc
 no-token b rest ts h k j (takes_name _ name tail _ e i n s) =
@@ -147,7 +147,7 @@ reads-symbol text seen (b ∷ rest) r h k =
           (q.0, p.1 ∙ ap (λ x. seen ++ x) q.1 ∙ joined seen (Symbol b) q.0, q.2);
     })
 
-simple-name : (name behind : List ℕ) → is_letter (get_or (name ++ behind) 0 0) ≡ true → list_all is_name_byte name ≡ true → ends_name behind ≡ true → is_simple name ≡ true
+simple-name : (name behind : List ℕ) → is_name_start (get_or (name ++ behind) 0 0) ≡ true → list_all is_name_byte name ≡ true → ends_name behind ≡ true → is_simple name ≡ true
 simple-name [] [] h k n = absurd (cc)
 simple-name [] (b ∷ bs) h k n = absurd (not-true (is_name_byte b) (name-letter b h) n)
 simple-name (c ∷ cs) behind h k n = rw h ((and_parts (is_name_byte c) (list_all is_name_byte cs) k).1)
@@ -169,7 +169,7 @@ name-ends (x ∷ xs) =
       | false ↦ λ e. rw e refl
     ] refl
 
-pub reads-name : (text : List ℕ) (seen : List Token) (rest : List ℕ) (n : ℕ) → IsReadTo text seen rest → is_letter (get_or rest 0 0) ≡ true → n ≡ prefix_len (λ b. is_name_byte b) rest → IsReadTo text (seen ++ Name (take n rest) ∷ []) (drop n rest)
+pub reads-name : (text : List ℕ) (seen : List Token) (rest : List ℕ) (n : ℕ) → IsReadTo text seen rest → is_name_start (get_or rest 0 0) ≡ true → n ≡ prefix_len (λ b. is_name_byte b) rest → IsReadTo text (seen ++ Name (take n rest) ∷ []) (drop n rest)
 reads-name text seen rest n r h m =
     let whole = take-append-drop n rest in
     let bytes : list_all is_name_byte (take n rest) ≡ true = rw m (name-bytes rest) in
@@ -183,7 +183,7 @@ reads-name text seen rest n r h m =
           (q.0, p.1 ∙ ap (λ x. seen ++ x) q.1 ∙ joined seen (Name (take n rest)) q.0, q.2);
     }
 
-pub reads-none : (text : List ℕ) (seen : List Token) (rest : List ℕ) → IsReadTo text seen rest → 1 ≤ length rest → is_blank (get_or rest 0 0) ≡ false → is_symbol (get_or rest 0 0) ≡ false → is_letter (get_or rest 0 0) ≡ false → (ts : List Token) → Splits text ts → ⊥
+pub reads-none : (text : List ℕ) (seen : List Token) (rest : List ℕ) → IsReadTo text seen rest → 1 ≤ length rest → is_blank (get_or rest 0 0) ≡ false → is_symbol (get_or rest 0 0) ≡ false → is_name_start (get_or rest 0 0) ≡ false → (ts : List Token) → Splits text ts → ⊥
 reads-none text seen [] r h i j k ts s = absurd (omega arith)
 reads-none text seen (b ∷ rest) r h i j k ts s =
     let p = r.parts ts s in

@@ -3,14 +3,13 @@ use Rattle.std.proofs.Common.{ℕ, ◌≡◌, ◌≤◌, List, [], ◌∷◌, le
 use Rattle.std.specs.List.{list_all, flat_map}
 use Rattle.std.proofs.lemmas.Bool.{and_parts, and_from, both_ways}
 use Rattle.std.proofs.lemmas.Simd.{map-map}
-use Rattle.circuit_model.specs.Circuit.{Circuit}
-use Rattle.circuit_model.specs.Simulated.{Step, Stimulus}
+use Rattle.sg_circuit.specs.Circuit.{Circuit}
+use Rattle.stim_read.specs.Stimulus.{Step, Stimulus}
+use Rattle.stim_read.specs.Seen.{step_seen}
+use Rattle.stim_read.specs.declared.steps.StimStep as code_step
 use Rattle.signoff.specs.NetlistForm.{most_bytes}
-use Rattle.signoff.specs.StimulusForm.{AtLine, Lines, at_spelled, is_number, ticks_of, is_at, AreSound, step_of, IsStimulus}
+use Rattle.signoff.specs.StimulusForm.{AtLine, Lines, at_spelled, is_number, ticks_of, is_at, rise_to, AreSound, step_of, IsStimulus}
 use Rattle.signoff.specs.StimulusLines.{rows_of, rows, are_lines, at_seen, lines_seen}
-use Rattle.signoff.specs.Seen.{step_seen}
-use Rattle.signoff.specs.WellFormed.{rise_to}
-use Rattle.signoff.specs.declared.circuits.Step as code_step
 use Rattle.signoff.specs.declared.stimulus.lines.AtLine as code_at
 use Rattle.signoff.specs.declared.stimulus.lines.Lines as code_lines
 use Rattle.signoff.proofs.StimulusBodies.{IsBody, body_is, spelled_at, body_for}
@@ -35,12 +34,12 @@ same_lines text body circuit h l e s is =
     lines_of_rows is.lines l
     (sym (ap rows_of (body_is text body h is.lines is.sound.end is.spelled) ∙ rows_of_spelled circuit is.lines (lines_sound circuit is.lines is.sound)) ∙ e)
 
-times_of : (circuit : Circuit) (steps : List code_step.Step) (lines : List AtLine) → map (λ s. step_seen s) steps ≡ map (step_of circuit) lines → map (λ s. s.time) steps ≡ map (λ l. ticks_of l.digits) lines
+times_of : (circuit : Circuit) (steps : List code_step.StimStep) (lines : List AtLine) → map (λ s. step_seen s) steps ≡ map (step_of circuit) lines → map (λ s. s.time) steps ≡ map (λ l. ticks_of l.digits) lines
 times_of circuit steps lines e =
     sym (map-map (λ s. s.time) (λ s. step_seen s) steps) ∙ (ap (map (λ s. s.time)) e ∙ map-map (λ s. s.time) (step_of circuit) lines)
 
 -- no stimulus is described where the times of the lines don't rise
-pub no_times : (text body : List ℕ) (circuit : Circuit) (l : Lines) (steps : List code_step.Step) (end : ℕ) → IsBody text body → rows_of body ≡ rows l → map (λ s. step_seen s) steps ≡ map (step_of circuit) l.steps → end ≡ ticks_of l.end → false ≡ rise_to end (map (λ s. s.time) steps) → (s : Stimulus) → IsStimulus text circuit s → ⊥
+pub no_times : (text body : List ℕ) (circuit : Circuit) (l : Lines) (steps : List code_step.StimStep) (end : ℕ) → IsBody text body → rows_of body ≡ rows l → map (λ s. step_seen s) steps ≡ map (step_of circuit) l.steps → end ≡ ticks_of l.end → false ≡ rise_to end (map (λ s. s.time) steps) → (s : Stimulus) → IsStimulus text circuit s → ⊥
 no_times text body circuit l steps end h e same is_end fall s is =
     let lines = same_lines text body circuit h l e s is in
     both_ways (rise_to end (map (λ s. s.time) steps)) (sym fall)
@@ -49,7 +48,7 @@ no_times text body circuit l steps end h e same is_end fall s is =
     ∙ (ap (λ ls. rise_to (ticks_of is.lines.end) (map (λ s. ticks_of s.digits) ls)) (sym lines.0) ∙ is.sound.times)))
 
 -- the stimulus of the lines that are read is described
-pub described : (text body : List ℕ) (circuit : Circuit) (l : Lines) (steps : List code_step.Step) (end : ℕ) → length text ≤ most_bytes → IsBody text body → (are_lines circuit l ≡ true) × (rows_of body ≡ rows l) → map (λ s. step_seen s) steps ≡ map (step_of circuit) l.steps → end ≡ ticks_of l.end → true ≡ rise_to end (map (λ s. s.time) steps) → IsStimulus text circuit (record { steps = map (λ s. step_seen s) steps; end = end })
+pub described : (text body : List ℕ) (circuit : Circuit) (l : Lines) (steps : List code_step.StimStep) (end : ℕ) → length text ≤ most_bytes → IsBody text body → (are_lines circuit l ≡ true) × (rows_of body ≡ rows l) → map (λ s. step_seen s) steps ≡ map (step_of circuit) l.steps → end ≡ ticks_of l.end → true ≡ rise_to end (map (λ s. s.time) steps) → IsStimulus text circuit (record { steps = map (λ s. step_seen s) steps; end = end })
 described text body circuit l steps end short h read same is_end rise =
     let spelled = spelled_at text body (flat_map at_spelled l.steps) l.end h.before_feed h.reads h.is (spelled_by_rows body l read.1) in
     let parts = and_parts (list_all (is_at circuit) l.steps) (is_number l.end) read.0 in

@@ -2,7 +2,7 @@
 use Rattle.std.proofs.Common.{ℕ, ◌≡◌, ◌==◌, List, [], ◌∷◌, map, cond, refl, ap, sym, ◌∙◌}
 use Rattle.sg_logic.specs.declared.values.Value.{Value}
 use Rattle.sg_logic.specs.declared.values.Value.TheVariants.{Zero, One, X, Z}
-use Rattle.circuit_model.specs.Vcd.{value_letter}
+use Rattle.wave_out.specs.Vcd.{value_letter}
 use Rattle.signoff.specs.StimulusForm.{SetText, AtLine, Lines}
 use Rattle.signoff.specs.StimulusLines.{set_word, at_words, end_words, rows}
 use Rattle.signoff.proofs.StimulusWords.{set_parts}

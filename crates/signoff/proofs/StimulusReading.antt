@@ -1,12 +1,8 @@
 -- Reading a list of things one by one, and looking one up in a list that is seen as another.
-use Rattle.std.proofs.Common.{ℕ, zero, suc, ◌≡◌, ◌<◌, List, [], ◌∷◌, ◌++◌, length, map, get_or, Bool, true, false, ◌||◌, cond, Some, option_map, reverse, refl, sym, ap, ◌∙◌, arith}
-use Rattle.std.specs.List.{list_any, list_all, find}
+use Rattle.std.proofs.Common.{ℕ, zero, suc, ◌≡◌, ◌<◌, List, [], ◌∷◌, ◌++◌, length, map, get_or, Bool, true, false, cond, Some, option_map, reverse, refl, sym, ap, ◌∙◌, arith}
+use Rattle.std.specs.List.{list_all, find}
 use Rattle.std.proofs.lemmas.List.{reverse-append, map-append}
 use Rattle.std.proofs.lemmas.Bool.{and_parts}
-
-pub list_any-map : {A B : Type 0} (h : A → B) (p : B → Bool) (xs : List A) → list_any p (map h xs) ≡ list_any (λ x. p (h x)) xs
-list_any-map h p [] = refl
-list_any-map h p (x ∷ xs) = ap (λ b. p (h x) || b) (list_any-map h p xs)
 
 pub find-map : {A B : Type 0} (h : A → B) (p : B → Bool) (xs : List A) → find p (map h xs) ≡ option_map h (find (λ x. p (h x)) xs)
 find-map h p [] = refl

@@ -3,7 +3,7 @@ use Rattle.std.proofs.Common.{ℕ, zero, suc, ◌≡◌, ◌≤◌, ◌-◌, Lis
 use Rattle.std.specs.List.{list_all}
 use Rattle.std.proofs.lemmas.Bool.{and_parts, and_from}
 use Rattle.std.proofs.lemmas.Simd.{map-map}
-use Rattle.circuit_model.specs.Circuit.{Circuit}
+use Rattle.sg_circuit.specs.Circuit.{Circuit}
 use Rattle.signoff.specs.StimulusForm.{AtLine, Lines, is_number, is_at}
 use Rattle.signoff.specs.StimulusLines.{at_words, end_words, rows, rows_of, lines_of, words_of, are_lines}
 

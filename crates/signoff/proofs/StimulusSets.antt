@@ -1,12 +1,9 @@
 -- The sets of a line as the code and the definitions see them.
-use Rattle.std.proofs.Common.{ℕ, ◌≡◌, ◌+◌, ◌<◌, List, [], ◌++◌, length, map, get_or, drop, Option, Some, None, option_map, reverse, cond, refl, ap, sym, ◌∙◌}
+use Rattle.std.proofs.Common.{ℕ, ◌≡◌, List, map, Option, Some, None, option_map, reverse, refl, ap, sym, ◌∙◌}
 use Rattle.std.specs.List.{find}
-use Rattle.std.proofs.lemmas.List.{at_drop_more}
 use Rattle.signoff.specs.NetlistForm.{same_name}
-use Rattle.signoff.specs.StimulusForm.{SetText, is_stimulated, value_of, set_of, sets_from}
+use Rattle.signoff.specs.StimulusForm.{value_of}
 use Rattle.signoff.specs.StimulusLines.{set_seen}
-use Rattle.signoff.specs.Seen.{net_seen}
-use Rattle.signoff.specs.declared.circuits.Net as code_net
 use Rattle.signoff.specs.declared.stimulus.lines.SetText as code_set
 use Rattle.signoff.proofs.StimulusReading.{find-map, reverse-map}
 
@@ -25,7 +22,3 @@ no_value sets name e = ap (option_map (λ s. s.value)) e ∙ sym (value_seen set
 
 pub some_value : (sets : List code_set.SetText) (name : List ℕ) (set : code_set.SetText) → Some set ≡ find (λ s. same_name s.name.now name) (reverse sets) → Some set.value ≡ value_of (map (λ s. set_seen s) sets) name
 some_value sets name set e = ap (option_map (λ s. s.value)) e ∙ sym (value_seen sets name)
-
--- what the k-th net adds to the sets
-pub sets_from_net : (nets : List code_net.Net) (sets : List SetText) (k : ℕ) (d : code_net.Net) → k < length nets → sets_from k (map (λ n. net_seen n) (drop k nets)) sets ≡ cond (is_stimulated (net_seen (get_or nets k d)).driver) (set_of k (value_of sets (get_or nets k d).name)) [] ++ sets_from (k + 1) (map (λ n. net_seen n) (drop (k + 1) nets)) sets
-sets_from_net nets sets k d within = at_drop_more (λ ns. sets_from k (map (λ n. net_seen n) ns) sets) nets k d within

@@ -1,7 +1,7 @@
 -- The text of sound lines cut into rows of words, and put together from them.
-use Rattle.std.proofs.Common.{ℕ, ◌≡◌, ◌==◌, List, [], ◌∷◌, ◌++◌, map, Bool, true, false, ◌||◌, refl, ap, sym, ◌∙◌, subst, append_assoc}
+use Rattle.std.proofs.Common.{ℕ, ◌≡◌, ◌==◌, List, [], ◌∷◌, ◌++◌, map, Bool, true, false, ◌||◌, refl, ap, sym, ◌∙◌, subst, append_assoc, arith}
 use Rattle.std.specs.List.{list_all, flat_map, slice_split, join_with_byte, All}
-use Rattle.std.proofs.lemmas.Bool.{and_parts, and_from, or_left, or_right, both_ways, eqb-true, false_from_ne_true}
+use Rattle.std.proofs.lemmas.Bool.{and_parts, and_from, or_left, both_ways, eqb-true, false_from_ne_true}
 use Rattle.std.proofs.lemmas.List.{append-nil}
 use Rattle.std.proofs.lemmas.List.Folds.{list_all-append}
 use Rattle.std.proofs.lemmas.List.Sums.{AllPass-from_list_all}
@@ -9,10 +9,12 @@ use Rattle.std.proofs.lemmas.List.Splits.{slice_split_at, slice_split_none, join
 use lib.Chars.{codes}
 use Rattle.sg_logic.specs.declared.values.Value.{Value}
 use Rattle.sg_logic.specs.declared.values.Value.TheVariants.{Zero, One, X, Z}
-use Rattle.circuit_model.specs.Circuit.{Circuit}
-use Rattle.circuit_model.specs.Texts.{is_letter, is_name_byte, is_simple}
-use Rattle.circuit_model.specs.Vcd.{value_letter}
+use Rattle.sg_circuit.specs.Circuit.{Circuit}
+use Rattle.sg_text.specs.Names.{is_name_start, is_name_byte, is_simple}
+use Rattle.wave_out.specs.Vcd.{value_letter}
 use Rattle.signoff.specs.StimulusForm.{SetText, AtLine, Lines, set_spelled, at_spelled, is_digit, is_number, sets_input, is_at}
+use Rattle.std.proofs.lemmas.Bool.Decides.{nat_tests}
+use Rattle.signoff.proofs.NetlistSplitting.{name-letter}
 use Rattle.signoff.specs.StimulusLines.{lines_of, words_of, rows_of, set_word, at_words, end_words, rows, are_lines}
 
 -- the text of the lines, up to the LF behind the end
@@ -42,8 +44,8 @@ is_set_byte b = is_name_byte b || b == 61
 simple_bytes : (name : List ℕ) → is_simple name ≡ true → list_all is_set_byte name ≡ true
 simple_bytes [] h = refl
 simple_bytes (c ∷ cs) h =
-    let parts = and_parts (is_letter c) (list_all is_name_byte cs) h in
-    and_from (is_set_byte c) (list_all is_set_byte cs) (or_left (is_name_byte c) (c == 61) (or_left (is_letter c) _ parts.0))
+    let parts = and_parts (is_name_start c) (list_all is_name_byte cs) h in
+    and_from (is_set_byte c) (list_all is_set_byte cs) (or_left (is_name_byte c) (c == 61) (name-letter c parts.0))
     (list_all_weaker is_name_byte is_set_byte (λ b n. or_left (is_name_byte b) (b == 61) n) cs parts.1)
 
 letter_byte : (v : Value) → list_all is_set_byte (61 ∷ value_letter v ∷ []) ≡ true
@@ -93,9 +95,12 @@ words_of_end end number =
 abbrev is_line_byte : ℕ → Bool
 is_line_byte b = is_set_byte b || b == 32
 
+digit_in_name : (b : ℕ) → is_digit b ≡ true → is_name_byte b ≡ true
+digit_in_name b h = grind (arith, nat_tests)
+
 digit_in_line : (b : ℕ) → is_digit b ≡ true → is_line_byte b ≡ true
 digit_in_line b h =
-    or_left (is_set_byte b) (b == 32) (or_left (is_name_byte b) (b == 61) (or_right (is_letter b) _ (or_left (is_digit b) (b == 36) h)))
+    or_left (is_set_byte b) (b == 32) (or_left (is_name_byte b) (b == 61) (digit_in_name b h))
 
 sets_in_line : (circuit : Circuit) (sets : List SetText) → list_all (sets_input circuit) sets ≡ true → list_all is_line_byte (flat_map set_spelled sets) ≡ true
 sets_in_line circuit [] sound = refl

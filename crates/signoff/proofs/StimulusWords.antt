@@ -5,15 +5,12 @@ use Rattle.std.proofs.lemmas.Bool.{and_parts, and_from, both_ways, le-leb}
 use Rattle.std.proofs.lemmas.List.{take_all}
 use lib.Chars.{codes}
 use Rattle.sg_logic.specs.declared.values.Value.{Value}
-use Rattle.circuit_model.specs.Circuit.{Circuit}
-use Rattle.circuit_model.specs.Texts.{is_simple}
-use Rattle.circuit_model.specs.Vcd.{value_letter}
+use Rattle.sg_text.specs.Names.{is_simple}
+use Rattle.sg_circuit.specs.declared.nets.Net.{Net}
+use Rattle.sg_circuit.specs.Circuit.{Circuit}
+use Rattle.wave_out.specs.Vcd.{value_letter}
 use Rattle.signoff.specs.StimulusForm.{SetText, sets_input, is_input, is_number, is_at}
 use Rattle.signoff.specs.StimulusLines.{set_word, at_words, end_words}
-use Rattle.signoff.specs.Seen.{circuit_seen, net_seen}
-use Rattle.signoff.specs.declared.circuits.Circuit as code_circuit
-use Rattle.signoff.specs.declared.circuits.Net as code_net
-use Rattle.signoff.proofs.StimulusReading.{list_any-map}
 
 -- a word with `=` before its last byte is split there in one way
 pub set_parts : (n m : List ℕ) (x y : ℕ) → n ++ 61 ∷ x ∷ [] ≡ m ++ 61 ∷ y ∷ [] → (n ≡ m) × (x ≡ y)
@@ -34,30 +31,30 @@ named circuit s name e sound =
     (subst (λ (n : List ℕ). (is_simple n && list_any (is_input n) circuit.nets) ≡ true) e sound)
 
 -- what is known of a word that was split at its `=`
-pub record IsSplit (circuit : code_circuit.Circuit) (nets : List code_net.Net) (word name : List ℕ) (letter : ℕ) : Type 0 where
-  pub of_circuit : nets ≡ circuit.nets.items
+pub record IsSplit (circuit : Circuit) (nets : List Net) (word name : List ℕ) (letter : ℕ) : Type 0 where
+  pub of_circuit : nets ≡ circuit.nets
   pub split : word ≡ name ++ 61 ∷ letter ∷ []
 
-pub set_is_read : (circuit : code_circuit.Circuit) (nets : List code_net.Net) (word name : List ℕ) (letter : ℕ) (value : Value) → IsSplit circuit nets word name letter → true ≡ is_simple name → true ≡ list_any (λ net. is_input name (net_seen net)) nets → letter ≡ value_letter value → (sets_input (circuit_seen circuit) (record { name = name; value = value }) ≡ true) × (word ≡ set_word (record { name = name; value = value }))
+pub set_is_read : (circuit : Circuit) (nets : List Net) (word name : List ℕ) (letter : ℕ) (value : Value) → IsSplit circuit nets word name letter → true ≡ is_simple name → true ≡ list_any (λ net. is_input name net) nets → letter ≡ value_letter value → (sets_input circuit (record { name = name; value = value }) ≡ true) × (word ≡ set_word (record { name = name; value = value }))
 set_is_read circuit nets word name letter value h simple input e =
-    let found : list_any (λ net. is_input name (net_seen net)) circuit.nets.items ≡ true =
-    ap (list_any (λ net. is_input name (net_seen net))) (sym h.of_circuit) ∙ sym input in (
-      and_from (is_simple name) _ (sym simple) (list_any-map (λ n. net_seen n) (is_input name) circuit.nets.items ∙ found),
+    let found : list_any (λ net. is_input name net) circuit.nets ≡ true =
+    ap (list_any (λ net. is_input name net)) (sym h.of_circuit) ∙ sym input in (
+      and_from (is_simple name) _ (sym simple) found,
       h.split ∙ ap (λ l. name ++ 61 ∷ l ∷ []) e,
     )
 
-pub not_simple : (circuit : code_circuit.Circuit) (nets : List code_net.Net) (word name : List ℕ) (letter : ℕ) → IsSplit circuit nets word name letter → false ≡ is_simple name → (s : SetText) → sets_input (circuit_seen circuit) s ≡ true → word ≡ set_word s → ⊥
+pub not_simple : (circuit : Circuit) (nets : List Net) (word name : List ℕ) (letter : ℕ) → IsSplit circuit nets word name letter → false ≡ is_simple name → (s : SetText) → sets_input circuit s ≡ true → word ≡ set_word s → ⊥
 not_simple circuit nets word name letter h isnt s sound e =
     both_ways (is_simple name) (sym isnt)
-    (named (circuit_seen circuit) s name (sym (set_parts name s.name letter (value_letter s.value) (sym h.split ∙ e)).0) sound).0
+    (named circuit s name (sym (set_parts name s.name letter (value_letter s.value) (sym h.split ∙ e)).0) sound).0
 
-pub no_input : (circuit : code_circuit.Circuit) (nets : List code_net.Net) (word name : List ℕ) (letter : ℕ) → IsSplit circuit nets word name letter → false ≡ list_any (λ net. is_input name (net_seen net)) nets → (s : SetText) → sets_input (circuit_seen circuit) s ≡ true → word ≡ set_word s → ⊥
+pub no_input : (circuit : Circuit) (nets : List Net) (word name : List ℕ) (letter : ℕ) → IsSplit circuit nets word name letter → false ≡ list_any (λ net. is_input name net) nets → (s : SetText) → sets_input circuit s ≡ true → word ≡ set_word s → ⊥
 no_input circuit nets word name letter h isnt s sound e =
-    let seen = (named (circuit_seen circuit) s name (sym (set_parts name s.name letter (value_letter s.value) (sym h.split ∙ e)).0) sound).1 in
-    both_ways (list_any (λ net. is_input name (net_seen net)) nets) (sym isnt)
-    (ap (list_any (λ net. is_input name (net_seen net))) h.of_circuit ∙ (sym (list_any-map (λ n. net_seen n) (is_input name) circuit.nets.items) ∙ seen))
+    let seen = (named circuit s name (sym (set_parts name s.name letter (value_letter s.value) (sym h.split ∙ e)).0) sound).1 in
+    both_ways (list_any (λ net. is_input name net) nets) (sym isnt)
+    (ap (list_any (λ net. is_input name net)) h.of_circuit ∙ seen)
 
-pub no_letter : (circuit : code_circuit.Circuit) (word name : List ℕ) (letter : ℕ) → word ≡ name ++ 61 ∷ letter ∷ [] → ((v : Value) → true ≡ true → letter ≡ value_letter v → ⊥) → (s : SetText) → sets_input (circuit_seen circuit) s ≡ true → word ≡ set_word s → ⊥
+pub no_letter : (circuit : Circuit) (word name : List ℕ) (letter : ℕ) → word ≡ name ++ 61 ∷ letter ∷ [] → ((v : Value) → true ≡ true → letter ≡ value_letter v → ⊥) → (s : SetText) → sets_input circuit s ≡ true → word ≡ set_word s → ⊥
 no_letter circuit word name letter split none s sound e =
     none s.value refl (set_parts name s.name letter (value_letter s.value) (sym split ∙ e)).1
 

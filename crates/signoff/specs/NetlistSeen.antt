@@ -1,5 +1,5 @@
 -- What the reader's tokens and trees stand for in the definitions.
-use Rattle.std.specs.Prelude.{ℕ, ◌≡◌, ◌==◌, ◌++◌, List, [], ◌∷◌, map, length, Bool, true, false, ◌&&◌, None, position, if◌then◌else◌}
+use Rattle.std.specs.Prelude.{ℕ, ◌≡◌, ◌==◌, ◌<◌, ◌++◌, All, List, [], ◌∷◌, map, length, Bool, true, false, ◌&&◌, None, position, if◌then◌else◌}
 use Rattle.std.specs.List.{list_all}
 use Rattle.std.specs.Borrow.{Bor}
 use Rattle.signoff.specs.NetlistForm.{Token, Name, Symbol, Item, Inputs, Outputs, Gates, Module, GateItem, names_in, are_plain, are_distinct, inputs_of, outputs_of, gates_of, same_name, is_among, count_of, takes_others, driver_by, place_of}
@@ -8,10 +8,10 @@ use Rattle.sg_circuit.specs.declared.nets.Net.{Net}
 use Rattle.sg_circuit.specs.declared.nets.Driver.{Driver}
 use Rattle.sg_circuit.specs.declared.nets.Driver.TheVariants as driver
 use Rattle.sg_circuit.specs.declared.scopes.Port.TheVariants as port
-use Rattle.sg_circuit.specs.Circuit.{Element, Variable, Kind, Gate, Pass}
+use Rattle.sg_circuit.specs.Circuit.{Element, Variable, Gate}
+use Rattle.sg_circuit.specs.Seen.{IsIndexed, delays_at, element_seen}
+use Rattle.sg_circuit.specs.declared.circuits.Parts.{Parts}
 use Rattle.sg_circuit.specs.declared.elements.Element as code_element
-use Rattle.sg_circuit.specs.declared.elements.ElementKind as code_kind
-use Rattle.sg_circuit.specs.declared.elements.ElementKind.TheVariants as kind
 use Rattle.signoff.specs.declared.netlist.tokens.Token as code_token
 use Rattle.signoff.specs.declared.netlist.tokens.Token.TheVariants as token
 use Rattle.signoff.specs.declared.netlist.modules.Item as code_item
@@ -74,6 +74,11 @@ element_among ports g = record { scope = 0; inputs = map (place_of ports) g.othe
 abbrev pub variable_among : List (List ℕ) → ℕ → List ℕ → Variable
 variable_among inputs k name = record { name = name; range = None; is_reg = false; port = if is_among inputs name then port.Input else port.Output; bits = k ∷ [] }
 
+-- elements are those of gates, in parts that have no delays at place 0
+pub record AreElementsOf (ports : List (List ℕ)) (gates : List GateItem) (elements : List code_element.Element) : Type 0 where
+  pub seen : (parts : Parts) → delays_at parts.gate_delays.items 0 ≡ [] → map (element_seen parts) elements ≡ map (element_among ports) gates
+  pub indexed : (parts : Parts) → 0 < length parts.gate_delays.items → All (λ e. IsIndexed parts e.kind) elements
+
 -- the two halves of what has to hold of a module
 pub record HasSoundPorts (m : Module) : Type 0 where
   pub name : is_reserved_word m.name ≡ false
@@ -87,13 +92,3 @@ pub record HasSoundGates (m : Module) : Type 0 where
   pub plain_items : list_all (λ item. are_plain (names_in item)) m.items ≡ true
   pub wired : list_all (is_wired_among (inputs_of m) (outputs_of m)) (gates_of m) ≡ true
   pub one_driver : are_distinct (map (λ g. g.first) (gates_of m)) ≡ true
-
--- a gate without delay, as the code's circuit has it
-abbrev pub plain_kind : code_kind.ElementKind → Kind
-plain_kind (kind.Gate gate delays) = Gate gate []
-plain_kind (kind.Udp udp delays) = Pass None
-plain_kind (kind.Pass constant) = Pass None
-plain_kind (kind.Leg timing) = Pass None
-
-abbrev pub plain_element : code_element.Element → Element
-plain_element e = record { scope = e.scope; inputs = e.inputs.items; output = e.output; kind = plain_kind e.kind }

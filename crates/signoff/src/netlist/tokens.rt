@@ -1,6 +1,7 @@
 // The tokens of a netlist.
 ghost use Rattle.std.specs.Prelude.{◌≡◌, IfOk, Err, List};
 ghost use Rattle.std.specs.List.{prefix_len};
+ghost use Rattle.sg_text.specs.Names.{is_name_byte};
 ghost use Rattle.signoff.specs.NetlistForm.{Splits, Token as TokenModel, is_blank, is_symbol};
 ghost use Rattle.signoff.specs.NetlistSeen.{tokens_seen};
 

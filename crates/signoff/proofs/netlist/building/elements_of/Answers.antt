@@ -1,5 +1,12 @@
-use Rattle.signoff.proofs.NetlistBuilding.{gate-takes}
+use Rattle.std.proofs.Common.{refl}
+use Rattle.signoff.specs.NetlistSeen.{names_seen}
+use Rattle.signoff.proofs.NetlistBuilding.{elements-more, no-elements}
 use Rattle.signoff.proofs.netlist.building.elements_of.Goals as goal
 
-pub invariant_of-push : goal.invariant_of-push
-invariant_of-push c = record { takes = gate-takes _ _ _ _ _ c.loop-gate-test.true c.requires.takes c.in_ok-places_of.ensures }
+pub loop-gate-init : goal.loop-gate-init
+loop-gate-init c = rw c.new-elements.ensures.items (no-elements _)
+
+pub loop-gate-preserved : goal.loop-gate-preserved
+loop-gate-preserved c =
+    elements-more (names_seen c.args.ports.now) c.args.gates.now _ _ _ _ _ c.loop-gate-test.true c.loop-gate.invariant c.in_ok-push.ensures.items
+    (record { scope = refl; inputs = c.in_ok-places_of.ensures; output = c.place_of.ensures; kind = refl })

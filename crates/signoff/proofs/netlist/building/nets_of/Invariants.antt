@@ -1,8 +1,7 @@
 use Rattle.std.proofs.Common.{◌≡◌, take, map}
 use Rattle.signoff.specs.NetlistSeen.{names_seen, net_among}
-use Rattle.signoff.specs.Seen.{net_seen}
 use Rattle.signoff.proofs.netlist.building.nets_of.Given as goal
 
 abbrev pub invariant-loop-port : goal.invariant-loop-port
 invariant-loop-port l =
-    map (λ n. net_seen n) l.nets.items ≡ map (net_among (names_seen l.inputs) (names_seen l.driven)) (names_seen (take l.port-index l.ports))
+    l.nets.items ≡ map (net_among (names_seen l.inputs) (names_seen l.driven)) (names_seen (take l.port-index l.ports))

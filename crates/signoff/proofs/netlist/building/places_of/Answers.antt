@@ -5,4 +5,4 @@ use Rattle.signoff.proofs.netlist.building.places_of.Goals as goal
 
 pub loop-name-preserved : goal.loop-name-preserved
 loop-name-preserved c =
-    places-more (place_of (names_seen c.args.names.now)) _ _ _ _ _ _ c.loop-name-test.true c.loop-name.invariant c.in_ok-push.ensures.items c.place_of.ensures
+    places-more (place_of (names_seen c.args.names.now)) _ _ _ _ _ _ c.loop-name-test.true c.loop-name.invariant c.in_ok-push.ensures.ok c.place_of.ensures

@@ -18,13 +18,13 @@ split_at-requires c = rw c.name_length.ensures (prefix_len-le-length _ _)
 
 pub loop-rest-preserved : goal.loop-rest-preserved
 loop-rest-preserved c =
-    let read = reads-name _ _ _ _ c.loop-rest.invariant (sym c.is_letter.ensures ∙ c.if-is_letter.true) c.name_length.ensures in
+    let read = reads-name _ _ _ _ c.loop-rest.invariant (sym c.is_name_start.ensures ∙ c.if-is_name_start.true) c.name_length.ensures in
     rw (c.in_ok-push-2.ensures.items, map_push, c.split_at.ensures.front, c.split_at.ensures.back) read
 
-pub returns-else-is_letter-clause-not_yet : goal.returns-else-is_letter-clause-not_yet
-returns-else-is_letter-clause-not_yet c =
+pub returns-else-is_name_start-clause-not_yet : goal.returns-else-is_name_start-clause-not_yet
+returns-else-is_name_start-clause-not_yet c =
     λ e ts s. reads-none _ _ _ c.loop-rest.invariant c.in-len1-up.len_at_least
-    (sym c.is_blank.ensures ∙ c.if-is_blank.false) (sym c.is_symbol.ensures ∙ c.if-is_symbol.false) (sym c.is_letter.ensures ∙ c.if-is_letter.false) ts s
+    (sym c.is_blank.ensures ∙ c.if-is_blank.false) (sym c.is_symbol.ensures ∙ c.if-is_symbol.false) (sym c.is_name_start.ensures ∙ c.if-is_name_start.false) ts s
 
 pub returns-clause-ok : goal.returns-clause-ok
 returns-clause-ok c = reads-all _ _ _ c.loop-rest.invariant (omega arith)

@@ -3,9 +3,8 @@ use Rattle.std.proofs.Common.{Some, map, take}
 use Rattle.std.specs.List.{list_all}
 use Rattle.signoff.specs.StimulusForm.{sets_input}
 use Rattle.signoff.specs.StimulusLines.{Reads, set_word, set_seen}
-use Rattle.signoff.specs.Seen.{circuit_seen}
 use Rattle.signoff.proofs.stimulus.lines.read_sets.Given as goal
 
 abbrev pub invariant-loop-word : goal.invariant-loop-word
 invariant-loop-word l =
-    Reads (map set_word) (list_all (sets_input (circuit_seen l.circuit))) (map (λ w. w.now) (take l.word-index l.words)) (Some (map (λ s. set_seen s) l.sets.items))
+    Reads (map set_word) (list_all (sets_input l.circuit)) (map (λ w. w.now) (take l.word-index l.words)) (Some (map (λ s. set_seen s) l.sets.items))

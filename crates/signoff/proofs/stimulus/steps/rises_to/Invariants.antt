@@ -1,6 +1,6 @@
 -- proofs/stimulus/steps/rises_to/Invariants.antt
 use Rattle.std.proofs.Common.{◌≡◌, map, length}
-use Rattle.signoff.specs.WellFormed.{rise_to}
+use Rattle.signoff.specs.StimulusForm.{rise_to}
 use Rattle.signoff.proofs.stimulus.steps.rises_to.Given as goal
 
 abbrev pub invariant-loop-rest : goal.invariant-loop-rest

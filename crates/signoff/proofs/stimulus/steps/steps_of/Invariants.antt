@@ -2,9 +2,9 @@
 use Rattle.std.proofs.Common.{◌≡◌, map, take}
 use Rattle.signoff.specs.StimulusForm.{step_of as step_in}
 use Rattle.signoff.specs.StimulusLines.{at_seen}
-use Rattle.signoff.specs.Seen.{circuit_seen, step_seen}
+use Rattle.stim_read.specs.Seen.{step_seen}
 use Rattle.signoff.proofs.stimulus.steps.steps_of.Given as goal
 
 abbrev pub invariant-loop-line : goal.invariant-loop-line
 invariant-loop-line l =
-    map (λ s. step_seen s) l.steps.items ≡ map (step_in (circuit_seen l.circuit)) (map (λ x. at_seen x) (take l.line-index l.lines))
+    map (λ s. step_seen s) l.steps.items ≡ map (step_in l.circuit) (map (λ x. at_seen x) (take l.line-index l.lines))
