@@ -4,6 +4,7 @@ pub mod TextLaws
 pub mod ListLaws
 pub mod WalkLaws
 pub mod ScopeLaws
+pub mod PathLaws
 pub mod HeaderLaws
 pub mod BlockLaws
 pub mod SortedLaws

@@ -1,14 +1,17 @@
 // Texts of the report: violations, nets by their paths, and the last lines.
 ghost use Rattle.std.specs.Prelude.{◌≡◌, ◌++◌, [], Some, IfOk, OnOk, codes, decimal, map};
 ghost use Rattle.std.specs.Option.{option_copied};
+ghost use Rattle.sg_circuit.specs.Circuit.{scope_at};
+ghost use Rattle.sg_circuit.specs.Closed.{IsClosed};
 ghost use Rattle.time_checks.specs.Parts.{part_number};
 ghost use Rattle.time_checks.specs.Seen.{violation_seen};
+ghost use Rattle.wave_out.specs.Above.{scopes_above};
 ghost use Rattle.wave_out.specs.Report.{datum_of, net_text, part_word, path_of, report_lines, spent_line, summary, terminal_text, violation_line};
 ghost use Rattle.wave_out.specs.Spent.{event_text, spent_seen};
 ghost use Rattle.wave_out.specs.Texts.{line};
 
 use crate::words::{push_bit, push_number, push_signed};
-use sg_circuit::{Check, Circuit, NetId, Scope, Terminal};
+use sg_circuit::{Check, Circuit, NetId, Terminal};
 use std::alloc::{AllocError, Global};
 use time_checks::{Part, Violation};
 
@@ -19,18 +22,35 @@ pub struct Spent {
     pub net: NetId,
 }
 
-// A scope, and those that have it, up to the top.
-fn scopes_up(alloc: Global, scopes: &[Scope], scope: u32) -> Result<Vec<u32>, AllocError> {
-    let mut climbed = Vec::new(alloc);
-    let mut next = Some(scope);
-    while let Some(scope) = next {
-        climbed.push(scope)?;
-        next = match scopes.get(scope as usize) {
-            Some(item) => item.parent,
-            None => None,
-        };
+// The scope that has the instance, if one has.
+fn parent_of(circuit: &Circuit, scope: u32) -> Option<u32>
+    ensures parent { result ≡ (scope_at circuit.now scope).parent }
+    ensures closed { IsClosed circuit.now }
+{
+    circuit.parts().scopes.get(scope as usize)?.parent
+}
+
+fn name_of(circuit: &Circuit, scope: u32) -> &[u8]
+    ensures { result.now ≡ (scope_at circuit.now scope).name }
+{
+    match circuit.parts().scopes.get(scope as usize) {
+        Some(scope) => scope.name.bytes(),
+        None => b"",
     }
-    Ok(climbed)
+}
+
+// The scopes that a scope stands in, the nearest first.
+fn scopes_above(alloc: Global, circuit: &Circuit, scope: u32) -> Result<Vec<u32>, AllocError>
+    ensures made { IfOk result (λ above. above.items ≡ scopes_above circuit.now scope) }
+    ensures closed { IsClosed circuit.now }
+{
+    let mut above = Vec::new(alloc);
+    let mut next = parent_of(circuit, scope);
+    while let Some(outer) = next {
+        above.push(outer)?;
+        next = parent_of(circuit, outer);
+    }
+    Ok(above)
 }
 
 // The instance names from the top's on, joined by dots.
@@ -42,17 +62,12 @@ fn push_path(
 ) -> Result<(), AllocError>
     ensures { OnOk result (text.new.items ≡ text.old.items ++ path_of circuit.now scope) }
 {
-    let scopes = circuit.parts().scopes.as_slice();
-    let climbed = scopes_up(alloc, scopes, scope)?;
-    for (i, number) in climbed.iter().rev().enumerate() {
-        if i > 0 {
-            text.push(b'.')?;
-        }
-        if let Some(scope) = scopes.get(*number as usize) {
-            text.extend_from_slice(scope.name.bytes())?;
-        }
+    let mut above = scopes_above(alloc, circuit, scope)?;
+    while let Some(outer) = above.pop() {
+        text.extend_from_slice(name_of(circuit, outer))?;
+        text.push(b'.')?;
     }
-    Ok(())
+    text.extend_from_slice(name_of(circuit, scope))
 }
 
 fn push_net(
