@@ -1,13 +1,12 @@
 // Texts of the report: violations, nets by their paths, and the last lines.
-ghost use Rattle.std.specs.Prelude.{◌≡◌, ◌++◌, [], Some, IfOk, OnOk, codes, decimal, map};
-ghost use Rattle.std.specs.Option.{option_copied};
+ghost use Rattle.std.specs.Prelude.{◌≡◌, ◌++◌, [], Some, IfOk, OnOk, codes, decimal, flat_map, map, max};
 ghost use Rattle.sg_circuit.specs.Circuit.{scope_at};
 ghost use Rattle.sg_circuit.specs.Closed.{IsClosed};
 ghost use Rattle.time_checks.specs.Parts.{part_number};
 ghost use Rattle.time_checks.specs.Seen.{violation_seen};
 ghost use Rattle.wave_out.specs.Above.{scopes_above};
-ghost use Rattle.wave_out.specs.Report.{datum_of, net_text, part_word, path_of, report_lines, spent_line, summary, terminal_text, violation_line};
-ghost use Rattle.wave_out.specs.Spent.{event_text, spent_seen};
+ghost use Rattle.wave_out.specs.Report.{check_at, datum_of, event_text, last_lines, net_text, part_word, path_of, report_lines, spent_line, summary, terminal_text, violation_line};
+ghost use Rattle.wave_out.specs.Spent.{spent_seen};
 ghost use Rattle.wave_out.specs.Texts.{line};
 
 use crate::words::{push_bit, push_number, push_signed};
@@ -110,21 +109,19 @@ fn push_terminal(text: &mut Vec<u8>, terminal: &Terminal) -> Result<(), AllocErr
     push_bit(text, terminal.bit)
 }
 
-// A word, a terminal, if there is one, and the time of its event.
-fn push_event(
-    text: &mut Vec<u8>,
-    word: &str,
-    terminal: Option<&Terminal>,
-    time: u64,
-) -> Result<(), AllocError>
-    ensures { OnOk result (text.new.items ≡ text.old.items ++ (word.now ++ event_text (option_copied terminal.entry) ++ codes " " ++ decimal time)) }
+// A blank and a time.
+fn push_time(text: &mut Vec<u8>, time: u64) -> Result<(), AllocError>
+    ensures { OnOk result (text.new.items ≡ text.old.items ++ (codes " " ++ decimal time)) }
 {
-    text.extend_from_slice(word.as_bytes())?;
-    if let Some(terminal) = terminal {
-        push_terminal(text, terminal)?;
-    }
     text.push(b' ')?;
     push_number(text, time)
+}
+
+fn push_event(text: &mut Vec<u8>, terminal: &Terminal, time: u64) -> Result<(), AllocError>
+    ensures { OnOk result (text.new.items ≡ text.old.items ++ event_text terminal.now time) }
+{
+    push_terminal(text, terminal)?;
+    push_time(text, time)
 }
 
 // The terminal of a check's data event: for width and period that of its one event.
@@ -137,6 +134,67 @@ fn datum_of(check: &Check) -> &Terminal
     }
 }
 
+// The path of a check's scope.
+fn push_scope(
+    alloc: Global,
+    text: &mut Vec<u8>,
+    circuit: &Circuit,
+    check: u32,
+) -> Result<(), AllocError>
+    ensures { OnOk result (text.new.items ≡ text.old.items ++ path_of circuit.now (check_at circuit.now check).scope) }
+{
+    match circuit.parts().checks.get(check as usize) {
+        Some(check) => push_path(alloc, text, circuit, check.scope),
+        None => push_path(alloc, text, circuit, 0),
+    }
+}
+
+fn push_refer(
+    text: &mut Vec<u8>,
+    circuit: &Circuit,
+    check: u32,
+    time: u64,
+) -> Result<(), AllocError>
+    ensures { OnOk result (text.new.items ≡ text.old.items ++ event_text (check_at circuit.now check).refer time) }
+{
+    match circuit.parts().checks.get(check as usize) {
+        Some(check) => push_event(text, &check.refer, time),
+        None => push_time(text, time),
+    }
+}
+
+fn push_datum(
+    text: &mut Vec<u8>,
+    circuit: &Circuit,
+    check: u32,
+    time: u64,
+) -> Result<(), AllocError>
+    ensures { OnOk result (text.new.items ≡ text.old.items ++ event_text (datum_of (check_at circuit.now check)) time) }
+{
+    match circuit.parts().checks.get(check as usize) {
+        Some(check) => push_event(text, datum_of(check), time),
+        None => push_time(text, time),
+    }
+}
+
+// The later of the two times, the scope and the word of the part.
+fn push_part(
+    alloc: Global,
+    text: &mut Vec<u8>,
+    circuit: &Circuit,
+    violation: &Violation,
+) -> Result<(), AllocError>
+    ensures { OnOk result (text.new.items ≡ text.old.items ++ (codes "violation " ++ decimal (max violation.now.refer_time violation.now.datum_time) ++ codes " " ++ path_of circuit.now (check_at circuit.now violation.now.check).scope ++ codes " " ++ part_word (part_number violation.now.part))) }
+{
+    text.extend_from_slice(b"violation ")?;
+    push_number(text, violation.refer_time.max(violation.datum_time))?;
+    text.push(b' ')?;
+    push_scope(alloc, text, circuit, violation.check)?;
+    text.push(b' ')?;
+    text.extend_from_slice(word_of(violation.part).as_bytes())?;
+    Ok(())
+}
+
 fn push_violation(
     alloc: Global,
     text: &mut Vec<u8>,
@@ -145,28 +203,28 @@ fn push_violation(
 ) -> Result<(), AllocError>
     ensures { OnOk result (text.new.items ≡ text.old.items ++ violation_line circuit.now (violation_seen violation.now)) }
 {
-    let check = circuit.parts().checks.get(violation.check as usize);
-    text.extend_from_slice(b"violation ")?;
-    push_number(text, violation.refer_time.max(violation.datum_time))?;
+    push_part(alloc, text, circuit, violation)?;
     text.push(b' ')?;
-    push_path(alloc, text, circuit, check.map_or(0, |check| check.scope))?;
+    push_refer(text, circuit, violation.check, violation.refer_time)?;
     text.push(b' ')?;
-    text.extend_from_slice(word_of(violation.part).as_bytes())?;
-    push_event(
-        text,
-        " ",
-        check.map(|check| &check.refer),
-        violation.refer_time,
-    )?;
-    push_event(
-        text,
-        " ",
-        check.map(|check| datum_of(check)),
-        violation.datum_time,
-    )?;
+    push_datum(text, circuit, violation.check, violation.datum_time)?;
     text.extend_from_slice(b" limit ")?;
     push_signed(text, violation.limit)?;
     text.push(b'\n')?;
+    Ok(())
+}
+
+fn push_violations(
+    alloc: Global,
+    text: &mut Vec<u8>,
+    circuit: &Circuit,
+    violations: &[Violation],
+) -> Result<(), AllocError>
+    ensures { OnOk result (text.new.items ≡ text.old.items ++ flat_map (violation_line circuit.now) (map (λ v. violation_seen v) violations.now)) }
+{
+    for violation in violations {
+        push_violation(alloc, text, circuit, violation)?;
+    }
     Ok(())
 }
 
@@ -210,6 +268,23 @@ fn push_spent(
     Ok(())
 }
 
+// The last lines: the counts and the end, or the time that was spent and its net.
+fn push_last(
+    alloc: Global,
+    text: &mut Vec<u8>,
+    circuit: &Circuit,
+    violations: u64,
+    end: u64,
+    spent: Option<Spent>,
+) -> Result<(), AllocError>
+    ensures { OnOk result (text.new.items ≡ text.old.items ++ last_lines circuit.now violations 0 end (spent_seen spent)) }
+{
+    match spent {
+        Some(spent) => push_spent(alloc, text, circuit, spent),
+        None => push_summary(text, violations, 0, end),
+    }
+}
+
 /// The text of a report: a line for each violation, and then the counts and the end in ticks, or the time that was
 /// spent and the path of its net.
 ///
@@ -224,12 +299,7 @@ pub fn report_of(
     ensures { IfOk result (λ text. text.items ≡ report_lines circuit.now [] [] (map (λ v. violation_seen v) violations.now) end (spent_seen spent)) }
 {
     let mut text = Vec::new(alloc);
-    for violation in violations {
-        push_violation(alloc, &mut text, circuit, violation)?;
-    }
-    match spent {
-        Some(spent) => push_spent(alloc, &mut text, circuit, spent)?,
-        None => push_summary(&mut text, violations.len() as u64, 0, end)?,
-    }
+    push_violations(alloc, &mut text, circuit, violations)?;
+    push_last(alloc, &mut text, circuit, violations.len() as u64, end, spent)?;
     Ok(text)
 }
