@@ -5,6 +5,7 @@ pub mod ListLaws
 pub mod WalkLaws
 pub mod ScopeLaws
 pub mod PathLaws
+pub mod ReportLaws
 pub mod HeaderLaws
 pub mod BlockLaws
 pub mod SortedLaws

@@ -1,4 +1,4 @@
-use Rattle.std.proofs.Common.{[], ◌∷◌, ◌++◌}
+use Rattle.std.proofs.Common.{rules, [], ◌∷◌, ◌++◌}
 use Rattle.std.specs.Prelude.{codes, decimal, max}
 use Rattle.std.specs.Fmt.{signed_decimal}
 use Rattle.time_checks.specs.Parts.{part_number}
@@ -13,4 +13,4 @@ returns c =
     add_eight c.args.text.now.items
     (codes "violation " ++ decimal (max v.refer_time v.datum_time) ++ codes " " ++ path_of c.args.circuit.now check.scope ++ codes " " ++ part_word (part_number v.part))
     (codes " ") (event_text check.refer v.refer_time) (codes " ") (event_text (datum_of check) v.datum_time) (codes " limit ") (signed_decimal v.limit) (10 ∷ [])
-    c.in_ok-push_part.ensures c.in_ok-push.ensures.items c.in_ok-push_refer.ensures c.in_ok-push-2.ensures.items c.in_ok-push_datum.ensures c.in_ok-extend_from_slice.ensures.items c.in_ok-push_signed.ensures c.in_ok-push-3.ensures.items
+    c.in_ok-push_part.ensures c.in_ok-push.ensures.items c.in_ok-push_refer.ensures c.in_ok-push-2.ensures.items c.in_ok-push_datum.ensures c.in_ok-extend_from_slice.ensures.items (search (rules, c.in_ok-push_signed.ensures)) c.in_ok-push-3.ensures.items
