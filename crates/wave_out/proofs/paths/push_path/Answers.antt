@@ -1,6 +1,6 @@
 use Rattle.std.proofs.Common.{arith}
 use Rattle.wave_out.proofs.PathLaws.{path_made}
-use Rattle.wave_out.proofs.report.push_path.Goals as goal
+use Rattle.wave_out.proofs.paths.push_path.Goals as goal
 
 pub returns : goal.returns
 returns c =

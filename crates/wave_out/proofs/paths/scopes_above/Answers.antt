@@ -1,6 +1,6 @@
 use Rattle.wave_out.specs.Above.{scopes_above}
 use Rattle.wave_out.proofs.PathLaws.{climb_less, climb_more}
-use Rattle.wave_out.proofs.report.scopes_above.Goals as goal
+use Rattle.wave_out.proofs.paths.scopes_above.Goals as goal
 
 pub loop-next-smaller : goal.loop-next-smaller
 loop-next-smaller c =

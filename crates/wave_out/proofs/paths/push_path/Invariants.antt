@@ -1,6 +1,6 @@
 use Rattle.std.proofs.Common.{◌≡◌, ◌++◌, flat_map, length, reverse}
 use Rattle.wave_out.specs.Above.{outer_text, scopes_above}
-use Rattle.wave_out.proofs.report.push_path.Given as goal
+use Rattle.wave_out.proofs.paths.push_path.Given as goal
 
 -- the names of the scopes that are left complete the text
 abbrev pub invariant-loop-outer : goal.invariant-loop-outer

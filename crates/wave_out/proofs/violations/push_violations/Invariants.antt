@@ -1,7 +1,7 @@
 use Rattle.std.proofs.Common.{◌≡◌, ◌++◌, flat_map, map, take}
 use Rattle.time_checks.specs.Seen.{violation_seen}
 use Rattle.wave_out.specs.Report.{violation_line}
-use Rattle.wave_out.proofs.report.push_violations.Given as goal
+use Rattle.wave_out.proofs.violations.push_violations.Given as goal
 
 -- the lines of the violations so far
 abbrev pub invariant-loop-violation : goal.invariant-loop-violation

@@ -1,6 +1,6 @@
 use Rattle.std.proofs.Common.{◌≡◌, ◌++◌}
 use Rattle.wave_out.specs.Above.{climb, scopes_above, turns_of}
-use Rattle.wave_out.proofs.report.scopes_above.Given as goal
+use Rattle.wave_out.proofs.paths.scopes_above.Given as goal
 
 -- the scopes that are left to climb complete the list
 abbrev pub invariant-loop-next : goal.invariant-loop-next

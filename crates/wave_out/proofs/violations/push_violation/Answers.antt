@@ -4,7 +4,7 @@ use Rattle.std.specs.Fmt.{signed_decimal}
 use Rattle.time_checks.specs.Parts.{part_number}
 use Rattle.wave_out.specs.Report.{check_at, datum_of, event_text, part_word, path_of}
 use Rattle.wave_out.proofs.TextLaws.{add_eight}
-use Rattle.wave_out.proofs.report.push_violation.Goals as goal
+use Rattle.wave_out.proofs.violations.push_violation.Goals as goal
 
 pub returns : goal.returns
 returns c =
