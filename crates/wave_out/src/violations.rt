@@ -57,7 +57,7 @@ fn datum_of(check: &Check) -> &Terminal
 }
 
 // The path of a check's scope.
-fn push_scope(
+fn push_check_scope(
     alloc: Global,
     text: &mut Vec<u8>,
     circuit: &Circuit,
@@ -111,7 +111,7 @@ fn push_part(
     text.extend_from_slice(b"violation ")?;
     push_number(text, violation.refer_time.max(violation.datum_time))?;
     text.push(b' ')?;
-    push_scope(alloc, text, circuit, violation.check)?;
+    push_check_scope(alloc, text, circuit, violation.check)?;
     text.push(b' ')?;
     text.extend_from_slice(word_of(violation.part).as_bytes())?;
     Ok(())
