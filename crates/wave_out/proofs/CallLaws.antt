@@ -1,5 +1,5 @@
 -- What a dump is after one call more.
-use Rattle.std.proofs.Common.{◌≡◌, ◌∙◌, sym, ap, refl, subst, ℕ, suc, ◌+◌, ◌<◌, List, [], ◌∷◌, ◌++◌, length, get_or, map, arith, append_assoc}
+use Rattle.std.proofs.Common.{◌≡◌, ◌∙◌, sym, ap, refl, subst, ℕ, suc, List, [], ◌∷◌, ◌++◌, get_or, map}
 use Rattle.std.proofs.lemmas.List.{append-nil}
 use Rattle.std.proofs.lemmas.List.Elements.{All-cons, All-head, All-nil, All-tail}
 use Rattle.std.specs.Prelude.{◌==◌, ◌||◌, Bool, true, false, not, if◌then◌else◌, All, Option, Some, None, codes}
@@ -7,19 +7,17 @@ use Rattle.std.specs.List.{list_any}
 use Rattle.sg_logic.specs.declared.values.Value.{Value}
 use Rattle.sg_logic.specs.Values.{is_same}
 use Rattle.sg_model.specs.Values.{value_at}
-use Rattle.sg_model.specs.Machine.{Snapshot}
 use Rattle.sg_model.specs.Time.{any_differs}
 use Rattle.sg_model.proofs.PlacedLaws.{same-true}
 use Rattle.sg_model.proofs.PlacingSteps.{same-self}
 use Rattle.sg_circuit.specs.Circuit.{Variable}
-use Rattle.fan_round.specs.Lists.{IsListOf}
 use Rattle.fan_round.specs.Nets.{differs}
 use Rattle.sim_rounds.specs.Watching.{Call, NetChange, AreDifferences}
-use Rattle.wave_out.specs.Changes.{bits_change, changes_text, IsBlock, IsText}
-use Rattle.wave_out.specs.Lines.{bits_line, first_text}
+use Rattle.wave_out.specs.Changes.{bits_change, IsText}
+use Rattle.wave_out.specs.Lines.{bits_line}
 use Rattle.wave_out.specs.Texts.{line, by_number}
-use Rattle.wave_out.specs.Vcd.{Dump, any_variable_differs, change_line, code, dump_text, dump_with, first_block, later_block, time_line, value_line, value_text, values_at}
-use Rattle.wave_out.specs.Writing.{AreTruthful, AreTruthfulAfter, dump_after, dump_at_end, later, snapshot_of, time_of, with_call}
+use Rattle.wave_out.specs.Vcd.{Dump, any_variable_differs, change_line, dump_text, first_block, later_block, time_line, value_line, values_at}
+use Rattle.wave_out.specs.Writing.{AreTruthful, AreTruthfulAfter, dump_after, later, snapshot_of, time_of, with_call}
 
 -- values that don't differ
 same_value : (old new : List Value) (k : ℕ) → differs old new k ≡ false → value_at old k ≡ value_at new k

@@ -1,10 +1,10 @@
 -- A block that is written from the nets that changed has the variables that differ.
-use Rattle.std.proofs.Common.{Bor, ◌≡◌, ◌∙◌, sym, ap, refl, subst, ℕ, ◌+◌, ◌<◌, ◌≤◌, List, [], ◌∷◌, ◌++◌, length, take, get_or, map, arith, zero-add, inl, inr}
+use Rattle.std.proofs.Common.{◌≡◌, ◌∙◌, sym, ap, refl, subst, ℕ, ◌+◌, ◌<◌, ◌≤◌, List, [], ◌∷◌, ◌++◌, length, take, get_or, map, arith, zero-add, inl, inr}
 use Rattle.std.specs.Prelude.{◌==◌, ◌⊎◌, ◌||◌, Bool, true, false, not, nat_lt, min, if◌then◌else◌, All, Option, Some, None, Result, Ok, Err, IfOk, option_map}
-use Rattle.std.specs.List.{list_any, filter}
+use Rattle.std.specs.List.{filter}
 use Rattle.std.specs.List.Sorted.{IsNonDecreasing, IsPermutation}
 use Rattle.std.proofs.lemmas.Bool.Decides.{nat_tests}
-use Rattle.std.proofs.lemmas.List.{get_or_past, get_or-take, length-take, length-map}
+use Rattle.std.proofs.lemmas.List.{get_or_past, get_or-take, length-take}
 use Rattle.std.proofs.lemmas.List.Elements.{All-head, All-tail, filter_passes}
 use Rattle.sg_logic.specs.declared.values.Value.{Value}
 use Rattle.sg_logic.specs.declared.values.Value.TheVariants.{X}
@@ -18,8 +18,7 @@ use Rattle.fan_round.specs.Nets.{differs}
 use Rattle.sim_rounds.specs.Watching.{AreDifferences, net_change}
 use Rattle.fan_round.specs.Work.{has_changed, AreMarked, IsWorkOf}
 use Rattle.fan_round.proofs.WorkLaws.{marked-within}
-use Rattle.fan_round.proofs.ListLaws.{occurs_here, occurs_later, occurrences-append}
-use Rattle.fan_round.proofs.WorkIsExact.{work_within}
+use Rattle.fan_round.proofs.ListLaws.{occurs_later}
 use Rattle.time_checks.specs.declared.changes.Change.{Change}
 use Rattle.wave_out.specs.Changes.{bits_change, changes_text, work_text, IsBlock}
 use Rattle.wave_out.specs.Lines.{bits_line, later_text}

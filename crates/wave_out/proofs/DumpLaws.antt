@@ -1,8 +1,8 @@
 -- The text of a run's calls is that of its last snapshots.
-use Rattle.std.proofs.Common.{◌≡◌, ◌∙◌, sym, ap, refl, subst, ℕ, zero, suc, ◌+◌, ◌-◌, ◌<◌, ◌≤◌, List, [], ◌∷◌, ◌++◌, length, arith, append_assoc}
+use Rattle.std.proofs.Common.{◌≡◌, ◌∙◌, sym, ap, refl, subst, ℕ, suc, ◌+◌, ◌-◌, ◌≤◌, List, [], ◌∷◌, ◌++◌, length, arith, append_assoc}
 use Rattle.std.proofs.lemmas.List.{append-nil}
 use Rattle.std.proofs.lemmas.List.Elements.{All-head, All-tail}
-use Rattle.std.specs.Prelude.{◌==◌, ◌&&◌, Bool, true, false, not, if◌then◌else◌, All, Option, Some, None, map}
+use Rattle.std.specs.Prelude.{◌==◌, ◌&&◌, Bool, true, false, not, if◌then◌else◌, All, Option, Some, None}
 use Rattle.sg_logic.specs.declared.values.Value.{Value}
 use Rattle.sg_logic.specs.Values.{is_same}
 use Rattle.sg_model.specs.Values.{are_same}
@@ -23,7 +23,7 @@ use Rattle.sim_rounds.specs.Watching as watching
 use Rattle.sim_rounds.proofs.CallLaws.{changed_none}
 use Rattle.wave_out.specs.Scopes.{variables_of}
 use Rattle.wave_out.specs.Vcd.{Dump, any_variable_differs, dump, dump_text, dump_with, ending, end_line, header, later_block, first_block, vcd_body, vcd_text, time_line}
-use Rattle.wave_out.specs.Writing.{AreTruthful, AreTruthfulAfter, dump_after, dump_at_end, later, snapshot_of, text_after, with_call}
+use Rattle.wave_out.specs.Writing.{AreTruthful, AreTruthfulAfter, dump_after, later, snapshot_of, text_after, with_call}
 use Rattle.wave_out.proofs.CallLaws.{Agree, agree_none, after-append, any_agree_none}
 
 -- lists that are the same

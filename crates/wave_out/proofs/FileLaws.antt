@@ -1,9 +1,9 @@
 -- What calls to append leave in a file.
-use Rattle.std.proofs.Common.{◌≡◌, ◌∙◌, sym, ap, subst, refl, ℕ, ◌+◌, List, [], ◌∷◌, ◌++◌, length, take, drop, append_assoc, inl, inr}
-use Rattle.std.proofs.lemmas.List.{append-nil, take-append-drop}
+use Rattle.std.proofs.Common.{◌≡◌, ◌∙◌, sym, ap, subst, refl, ℕ, ◌+◌, List, [], ◌++◌, length, take, drop, append_assoc, inr}
+use Rattle.std.proofs.lemmas.List.{take-append-drop}
 use Rattle.std.proofs.Math.Seq.{take-append_seam, take-append-add}
-use Rattle.std.specs.Prelude.{Option, Some, None, Result, Ok, Err, OnErr, unwrap_or}
-use Rattle.sg_io.specs.Files.{File, Appended, Appends, BothTell, Created, Creates, HasAfter, bytes_of, content_of}
+use Rattle.std.specs.Prelude.{Option, Some, None, Ok, Err, unwrap_or}
+use Rattle.sg_io.specs.Files.{File, Appended, Appends, BothTell, Creates, bytes_of}
 use Rattle.sg_io.specs.declared.outside.ShelfError.{ShelfError}
 use Rattle.sg_io.specs.declared.outside.ShelfError.TheVariants as shelf
 use Rattle.wave_out.specs.Files.{FileBegins, FileHolds, LeavesPrefix}

@@ -1,5 +1,5 @@
 -- The lines of a header.
-use Rattle.std.proofs.Common.{◌≡◌, ◌∙◌, sym, ap, refl, subst, ℕ, ◌+◌, ◌<◌, List, [], ◌∷◌, ◌++◌, length, get_or, map, append_assoc}
+use Rattle.std.proofs.Common.{◌≡◌, ◌∙◌, sym, ap, subst, ℕ, ◌+◌, ◌<◌, List, [], ◌∷◌, ◌++◌, length, get_or, map, append_assoc}
 use Rattle.std.proofs.lemmas.List.{get_or-map, length-map}
 use Rattle.std.specs.Prelude.{All, codes, Result, Ok, Err, IfOk, OnOk}
 use Rattle.sg_circuit.specs.declared.circuits.Parts.{Parts}
@@ -8,11 +8,11 @@ use Rattle.sg_circuit.specs.Circuit.{Circuit, Scope, scope_at}
 use Rattle.sg_circuit.specs.Closed.{IsClosed}
 use Rattle.sg_circuit.specs.Seen.{circuit_seen, scope_seen, variable_seen}
 use Rattle.wave_out.specs.declared.scopes.Visit.{Visit}
-use Rattle.wave_out.specs.declared.scopes.Visit.TheVariants.{Enters, Leaves}
+use Rattle.wave_out.specs.declared.scopes.Visit.TheVariants.{Enters}
 use Rattle.sg_circuit.proofs.SeenLaws.{map-mapped}
 use Rattle.sg_circuit.specs.declared.scopes.Variable as code_variable
 use Rattle.wave_out.specs.Scopes.{variables_at, visits}
-use Rattle.wave_out.specs.Texts.{line, by_number}
+use Rattle.wave_out.specs.Texts.{by_number}
 use Rattle.wave_out.specs.Vcd.{declaration, header, scope_line, tick_text, visit_lines}
 use Rattle.wave_out.specs.Walk.{IsVisit}
 use Rattle.wave_out.proofs.TextLaws.{add_five, line_end}

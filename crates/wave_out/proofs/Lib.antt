@@ -4,6 +4,8 @@ pub mod TextLaws
 pub mod ListLaws
 pub mod WalkLaws
 pub mod ScopeLaws
+pub mod PathLaws
+pub mod ReportLaws
 pub mod HeaderLaws
 pub mod BlockLaws
 pub mod SortedLaws

@@ -1,10 +1,10 @@
 -- What is so of the snapshots of every run.
-use Rattle.std.proofs.Common.{◌≡◌, ◌∙◌, sym, ap, refl, subst, ℕ, zero, suc, ◌+◌, ◌-◌, ◌<◌, ◌≤◌, List, [], ◌∷◌, ◌++◌, length, map, arith}
+use Rattle.std.proofs.Common.{◌≡◌, ◌∙◌, sym, ap, refl, subst, ℕ, zero, suc, ◌+◌, List, [], ◌∷◌, ◌++◌, length, arith}
 use Rattle.std.proofs.lemmas.List.{length-set}
 use Rattle.std.proofs.lemmas.List.Elements.{All-cons, All-head, All-nil, All-tail}
 use Rattle.std.specs.Prelude.{◌==◌, Bool, true, false, if◌then◌else◌, All, Option, Some, None, slice_set}
 use Rattle.sg_logic.specs.declared.values.Value.{Value}
-use Rattle.sg_model.specs.Machine.{Machine, Snapshot, State}
+use Rattle.sg_model.specs.Machine.{Machine, Snapshot}
 use Rattle.sg_model.specs.Round.{changed_by, due_changes, round}
 use Rattle.sg_model.specs.Time.{Run, Ended, Whole, Spent, flips_of, is_empty, spent_net, needs_round, rounds, time_of, with_round, with_snapshot}
 use Rattle.sg_model.specs.Quiet.{IsSeen}

@@ -1,11 +1,10 @@
 -- What a writer keeps of its circuit.
-use Rattle.std.proofs.Common.{Bor, ◌≡◌, ◌∙◌, sym, ap, refl, subst, ℕ, ◌<◌, List, [], ◌∷◌, length, get_or, map}
+use Rattle.std.proofs.Common.{Bor, ◌≡◌, ◌∙◌, sym, ap, subst, ℕ, ◌<◌, List, length, get_or, map}
 use Rattle.std.proofs.lemmas.List.Elements.{All-nil, All-map}
 use Rattle.std.specs.Prelude.{All}
 use Rattle.sg_circuit.specs.declared.circuits.Parts.{Parts}
 use Rattle.sg_circuit.specs.Circuit.{Circuit, Variable}
 use Rattle.sg_circuit.specs.Closed.{IsClosed}
-use Rattle.sg_circuit.specs.FanOut.{IsFanOut}
 use Rattle.sg_circuit.specs.Seen.{circuit_seen}
 use Rattle.sg_circuit.proofs.SeenLaws.{all-unmapped}
 use Rattle.wave_out.specs.declared.scopes.Visit.{Visit}

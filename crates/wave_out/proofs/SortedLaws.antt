@@ -1,14 +1,14 @@
 -- Lists in order without repeats, and the numbers of the things in a list that pass a test.
-use Rattle.std.proofs.Common.{◌≡◌, ◌≢◌, ◌∙◌, sym, ap, refl, subst, ℕ, zero, suc, ◌+◌, ◌<◌, ◌≤◌, List, [], ◌∷◌, ◌++◌, length, get_or, arith, add-zero, zero-add, inl, inr, append-nil}
-use Rattle.std.specs.Prelude.{◌==◌, ◌⊎◌, Bool, true, false, ◌||◌, if◌then◌else◌, All, flat_map}
+use Rattle.std.proofs.Common.{◌≡◌, ◌∙◌, sym, ap, refl, subst, ℕ, zero, suc, ◌+◌, ◌<◌, ◌≤◌, List, [], ◌∷◌, ◌++◌, length, get_or, arith, add-zero, inl, inr}
+use Rattle.std.specs.Prelude.{◌==◌, Bool, true, false, ◌||◌, if◌then◌else◌, All, flat_map}
 use Rattle.std.specs.List.{list_any, sum_by}
 use Rattle.std.specs.List.Sorted.{IsNonDecreasing, IsPermutation}
 use Rattle.std.proofs.lemmas.Bool.{cases_eq}
 use Rattle.std.proofs.lemmas.List.Sums.{sum_by-cons}
 use Rattle.std.proofs.lemmas.List.Sorted.{sum_by-IsPermutation, length_permutation}
 use Rattle.fan_round.specs.Lists.{occurrences, IsListOf}
-use Rattle.fan_round.specs.Work.{AreMarked, mark_at, count_marks}
-use Rattle.fan_round.proofs.ListLaws.{test_same, test_other, occurs_here, occurs_later}
+use Rattle.fan_round.specs.Work.{AreMarked, mark_at}
+use Rattle.fan_round.proofs.ListLaws.{occurs_here, occurs_later}
 use Rattle.wave_out.specs.Texts.{by_number}
 
 -- where a number stands

@@ -1,6 +1,6 @@
 -- Texts that grow piece by piece.
-use Rattle.std.proofs.Common.{◌≡◌, ◌∙◌, sym, ap, refl, ℕ, suc, ◌+◌, ◌<◌, ◌≤◌, List, [], ◌∷◌, ◌++◌, length, drop, get_or, map, arith, add-one, append_assoc}
-use Rattle.std.proofs.lemmas.List.{append-nil, drop_more, get_or-map, length-map}
+use Rattle.std.proofs.Common.{◌≡◌, ◌∙◌, sym, ap, ℕ, suc, ◌+◌, ◌<◌, List, [], ◌∷◌, ◌++◌, length, drop, get_or, map, append_assoc}
+use Rattle.std.proofs.lemmas.List.{drop_more, get_or-map, length-map}
 use Rattle.std.specs.Prelude.{codes}
 use Rattle.wave_out.specs.Texts.{line, by_number}
 
@@ -17,6 +17,10 @@ add_four start a b c d p q r s = add_two start (a ++ b ++ c) d (add_three start 
 pub add_five : {t u v w x : List ℕ} (start a b c d e : List ℕ) → t ≡ start ++ a → u ≡ t ++ b → v ≡ u ++ c → w ≡ v ++ d → x ≡ w ++ e
     → x ≡ start ++ (a ++ b ++ c ++ d ++ e)
 add_five start a b c d e p q r s last = add_two start (a ++ b ++ c ++ d) e (add_four start a b c d p q r s) last
+
+pub add_eight : {t u v w x y z last : List ℕ} (start a b c d e f g h : List ℕ) → t ≡ start ++ a → u ≡ t ++ b → v ≡ u ++ c → w ≡ v ++ d → x ≡ w ++ e → y ≡ x ++ f → z ≡ y ++ g → last ≡ z ++ h
+    → last ≡ start ++ (a ++ b ++ c ++ d ++ e ++ f ++ g ++ h)
+add_eight start a b c d e f g h p q r s k l m n = add_five start (a ++ b ++ c ++ d) e f g h (add_four start a b c d p q r s) k l m n
 
 -- a line that ends with the word of an end
 pub line_end : (text : List ℕ) → line (text ++ codes " $end") ≡ text ++ codes " $end\n"

@@ -1,11 +1,11 @@
 -- How the scopes of a circuit are gone through.
-use Rattle.std.proofs.Common.{◌≡◌, ◌∙◌, sym, ap, refl, subst, ℕ, zero, suc, ◌+◌, ◌-◌, ◌<◌, ◌≤◌, List, [], ◌∷◌, ◌++◌, length, drop, take, get_or, map, reverse, arith, add-zero, zero-add, append_assoc}
+use Rattle.std.proofs.Common.{◌≡◌, ◌∙◌, sym, ap, refl, subst, ℕ, zero, suc, ◌+◌, ◌-◌, ◌<◌, ◌≤◌, List, [], ◌∷◌, ◌++◌, length, drop, get_or, map, reverse, arith, append_assoc}
 use Rattle.std.proofs.lemmas.Bool.Decides.{nat_tests}
-use Rattle.std.proofs.lemmas.List.{append-nil, drop_more, drop_all, take_more, reverse-append, map-append, get_or_default}
+use Rattle.std.proofs.lemmas.List.{append-nil, drop_more, reverse-append, map-append, get_or_default}
 use Rattle.std.proofs.lemmas.List.Elements.{All-nil, All-cons, All-append, All-map, All-head, All-tail}
-use Rattle.std.specs.Prelude.{◌==◌, Bool, true, false, if◌then◌else◌, All, Option, Some, None, IfSome, flat_map, slice_index_or, Result, Ok, Err, IfOk}
+use Rattle.std.specs.Prelude.{◌==◌, true, false, if◌then◌else◌, All, Option, Some, None, IfSome, flat_map}
 use Rattle.sg_circuit.specs.declared.building.Pin.{Pin}
-use Rattle.sg_circuit.specs.Circuit.{Circuit, Scope, scope_at}
+use Rattle.sg_circuit.specs.Circuit.{Circuit, Scope}
 use Rattle.sg_circuit.specs.Closed.{IsClosed}
 use Rattle.sg_circuit.specs.FanOut.{readers_at}
 use Rattle.sg_circuit.specs.Pins.{elements_on, HasPins}

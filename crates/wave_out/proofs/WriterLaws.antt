@@ -1,10 +1,9 @@
 -- What a call of a writer leaves in its file.
-use Rattle.std.proofs.Common.{◌≡◌, ◌∙◌, sym, ap, refl, subst, ℕ, List, [], ◌∷◌, ◌++◌, map, append_assoc}
+use Rattle.std.proofs.Common.{◌≡◌, ◌∙◌, sym, ap, subst, ℕ, List, [], ◌∷◌, ◌++◌, map, append_assoc}
 use Rattle.std.proofs.lemmas.List.{append-nil}
-use Rattle.std.specs.Prelude.{Option, Some, None, Result, Ok, Err}
+use Rattle.std.specs.Prelude.{Option, Some, None, Ok, Err}
 use Rattle.sg_io.specs.Files.{File, Appends}
 use Rattle.sg_io.specs.declared.outside.ShelfError.{ShelfError}
-use Rattle.sg_circuit.specs.Circuit.{Circuit}
 use Rattle.sim_rounds.specs.Watching.{Call}
 use Rattle.wave_out.specs.Changes.{IsText}
 use Rattle.wave_out.specs.Files.{FileBegins, FileHolds}

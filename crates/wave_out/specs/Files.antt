@@ -3,7 +3,6 @@ use Rattle.std.specs.Prelude.{ℕ, ◌≡◌, ◌≢◌, ◌⊎◌, List, Option
 use Rattle.std.proofs.Common.{◌∙◌}
 use Rattle.sg_io.specs.Files.{File, HasAfter, bytes_of, BothTell}
 use Rattle.sg_io.specs.declared.outside.ShelfError.{ShelfError}
-use Rattle.sg_io.specs.declared.outside.ShelfError.TheVariants as shelf
 
 -- every file but that of this name reads as before
 abbrev pub OthersStay : List ℕ → List File → List File → Type 0

@@ -4,6 +4,7 @@ pub mod Scopes
 pub mod Vcd
 pub mod Report
 pub mod Spent
+pub mod Above
 pub mod Walk
 pub mod Lines
 pub mod Changes

@@ -1,5 +1,5 @@
 -- Words of the functions that write blocks, which know a variable by its bits' nets.
-use Rattle.std.specs.Prelude.{ℕ, List, [], ◌∷◌, ◌++◌, codes, flat_map, slice_index_or}
+use Rattle.std.specs.Prelude.{ℕ, List, [], ◌++◌, codes, flat_map, slice_index_or}
 use Rattle.sg_logic.specs.declared.values.Value.{Value}
 use Rattle.wave_out.specs.Texts.{line, by_number}
 use Rattle.wave_out.specs.Vcd.{code, time_line, value_text, values_at}

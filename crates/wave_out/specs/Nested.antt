@@ -1,8 +1,7 @@
 -- A worked example: two scopes, a vector and a reg, and the text of a dump of some calls.
 use Rattle.std.specs.Prelude.{ℕ, pos, negsuc, List, [], ◌∷◌, ◌++◌, true, false, Some, None, codes}
-use Rattle.sg_logic.specs.declared.values.Value.{Value}
 use Rattle.sg_logic.specs.declared.values.Value.TheVariants.{Zero, One, X, Z}
-use Rattle.sg_circuit.specs.Circuit.{Circuit, Scope}
+use Rattle.sg_circuit.specs.Circuit.{Circuit}
 use Rattle.sg_circuit.specs.declared.nets.Driver.TheVariants.{Nobody}
 use Rattle.sg_circuit.specs.declared.scopes.Port.TheVariants.{Inner, Input}
 use Rattle.sg_circuit.specs.declared.checks.CheckKind.TheVariants.{Hold, Width}

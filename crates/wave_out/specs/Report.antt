@@ -61,6 +61,10 @@ path_of circuit scope = path_in (length circuit.scopes) circuit scope
 abbrev pub terminal_text : Terminal → List ℕ
 terminal_text t = t.name ++ bit_text t.bit
 
+-- a terminal and the time of its event
+abbrev pub event_text : Terminal → ℕ → List ℕ
+event_text t time = terminal_text t ++ codes " " ++ decimal time
+
 -- a net by its path
 abbrev pub net_text : Circuit → ℕ → List ℕ
 net_text circuit net = path_of circuit (net_at circuit net).scope ++ codes "." ++ (net_at circuit net).name ++ bit_text (net_at circuit net).bit
@@ -78,8 +82,8 @@ abbrev pub violation_line : Circuit → Violation → List ℕ
 violation_line circuit v =
     line (codes "violation " ++ decimal (max v.refer_time v.datum_time) ++ codes " " ++ path_of circuit (check_at circuit v.check).scope
     ++ codes " " ++ part_word v.part
-    ++ codes " " ++ terminal_text (check_at circuit v.check).refer ++ codes " " ++ decimal v.refer_time
-    ++ codes " " ++ terminal_text (datum_of (check_at circuit v.check)) ++ codes " " ++ decimal v.datum_time
+    ++ codes " " ++ event_text (check_at circuit v.check).refer v.refer_time
+    ++ codes " " ++ event_text (datum_of (check_at circuit v.check)) v.datum_time
     ++ codes " limit " ++ signed_decimal v.limit)
 
 -- the last lines of a whole run

@@ -1,5 +1,5 @@
 -- What a writer keeps of the variables of its circuit.
-use Rattle.std.specs.Prelude.{◌≡◌, ◌<◌, ℕ, All, List, length, map}
+use Rattle.std.specs.Prelude.{◌≡◌, ◌<◌, All, length, map}
 use Rattle.sg_circuit.specs.Circuit.{Circuit}
 use Rattle.sg_circuit.specs.FanOut.{IsFanOut}
 use Rattle.fan_round.specs.States.{IsIdle}

@@ -5,10 +5,12 @@ mod blocks;
 mod changes;
 mod header;
 mod laws;
+mod paths;
 mod report;
 mod scopes;
 mod shown;
 mod variables;
+mod violations;
 mod words;
 mod writer;
 

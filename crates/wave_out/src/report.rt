@@ -1,158 +1,22 @@
-// Texts of the report: violations, nets by their paths, and the last lines.
-ghost use Rattle.std.specs.Prelude.{◌≡◌, ◌++◌, [], Some, IfOk, OnOk, codes, decimal, map};
-ghost use Rattle.std.specs.Option.{option_copied};
-ghost use Rattle.time_checks.specs.Parts.{part_number};
+// The text of a report: the violations and the last lines.
+ghost use Rattle.std.specs.Prelude.{◌≡◌, ◌++◌, [], Some, IfOk, OnOk, decimal, map};
 ghost use Rattle.time_checks.specs.Seen.{violation_seen};
-ghost use Rattle.wave_out.specs.Report.{datum_of, net_text, part_word, path_of, report_lines, spent_line, summary, terminal_text, violation_line};
-ghost use Rattle.wave_out.specs.Spent.{event_text, spent_seen};
+ghost use Rattle.wave_out.specs.Report.{last_lines, report_lines, spent_line, summary};
+ghost use Rattle.wave_out.specs.Spent.{spent_seen};
 ghost use Rattle.wave_out.specs.Texts.{line};
 
-use crate::words::{push_bit, push_number, push_signed};
-use sg_circuit::{Check, Circuit, NetId, Scope, Terminal};
+use crate::paths::push_net;
+use crate::violations::push_violations;
+use crate::words::push_number;
+use sg_circuit::{Circuit, NetId};
 use std::alloc::{AllocError, Global};
-use time_checks::{Part, Violation};
+use time_checks::Violation;
 
 /// A time, in ticks, that needed more rounds than the bound, and a net that went on changing in it.
 #[derive(Clone, Copy, Debug, PartialEq, Eq)]
 pub struct Spent {
     pub time: u64,
     pub net: NetId,
-}
-
-// A scope, and those that have it, up to the top.
-fn scopes_up(alloc: Global, scopes: &[Scope], scope: u32) -> Result<Vec<u32>, AllocError> {
-    let mut climbed = Vec::new(alloc);
-    let mut next = Some(scope);
-    while let Some(scope) = next {
-        climbed.push(scope)?;
-        next = match scopes.get(scope as usize) {
-            Some(item) => item.parent,
-            None => None,
-        };
-    }
-    Ok(climbed)
-}
-
-// The instance names from the top's on, joined by dots.
-fn push_path(
-    alloc: Global,
-    text: &mut Vec<u8>,
-    circuit: &Circuit,
-    scope: u32,
-) -> Result<(), AllocError>
-    ensures { OnOk result (text.new.items ≡ text.old.items ++ path_of circuit.now scope) }
-{
-    let scopes = circuit.parts().scopes.as_slice();
-    let climbed = scopes_up(alloc, scopes, scope)?;
-    for (i, number) in climbed.iter().rev().enumerate() {
-        if i > 0 {
-            text.push(b'.')?;
-        }
-        if let Some(scope) = scopes.get(*number as usize) {
-            text.extend_from_slice(scope.name.bytes())?;
-        }
-    }
-    Ok(())
-}
-
-fn push_net(
-    alloc: Global,
-    text: &mut Vec<u8>,
-    circuit: &Circuit,
-    net: NetId,
-) -> Result<(), AllocError>
-    ensures { OnOk result (text.new.items ≡ text.old.items ++ net_text circuit.now net) }
-{
-    let Some(item) = circuit.parts().nets.get(net as usize) else {
-        push_path(alloc, text, circuit, 0)?;
-        text.push(b'.')?;
-        return Ok(());
-    };
-    push_path(alloc, text, circuit, item.scope)?;
-    text.push(b'.')?;
-    text.extend_from_slice(item.name.bytes())?;
-    push_bit(text, item.bit)
-}
-
-fn word_of(part: Part) -> &'static str
-    ensures { result.now ≡ part_word (part_number part) }
-{
-    match part {
-        Part::Setup => "setup",
-        Part::Hold => "hold",
-        Part::Recovery => "recovery",
-        Part::Removal => "removal",
-        Part::Width => "width",
-        Part::Period => "period",
-        Part::Skew => "skew",
-    }
-}
-
-fn push_terminal(text: &mut Vec<u8>, terminal: &Terminal) -> Result<(), AllocError>
-    ensures { OnOk result (text.new.items ≡ text.old.items ++ terminal_text terminal.now) }
-{
-    text.extend_from_slice(terminal.name.bytes())?;
-    push_bit(text, terminal.bit)
-}
-
-// A word, a terminal, if there is one, and the time of its event.
-fn push_event(
-    text: &mut Vec<u8>,
-    word: &str,
-    terminal: Option<&Terminal>,
-    time: u64,
-) -> Result<(), AllocError>
-    ensures { OnOk result (text.new.items ≡ text.old.items ++ (word.now ++ event_text (option_copied terminal.entry) ++ codes " " ++ decimal time)) }
-{
-    text.extend_from_slice(word.as_bytes())?;
-    if let Some(terminal) = terminal {
-        push_terminal(text, terminal)?;
-    }
-    text.push(b' ')?;
-    push_number(text, time)
-}
-
-// The terminal of a check's data event: for width and period that of its one event.
-fn datum_of(check: &Check) -> &Terminal
-    ensures { result.now ≡ datum_of check.now }
-{
-    match &check.datum {
-        Some(datum) => datum,
-        None => &check.refer,
-    }
-}
-
-fn push_violation(
-    alloc: Global,
-    text: &mut Vec<u8>,
-    circuit: &Circuit,
-    violation: &Violation,
-) -> Result<(), AllocError>
-    ensures { OnOk result (text.new.items ≡ text.old.items ++ violation_line circuit.now (violation_seen violation.now)) }
-{
-    let check = circuit.parts().checks.get(violation.check as usize);
-    text.extend_from_slice(b"violation ")?;
-    push_number(text, violation.refer_time.max(violation.datum_time))?;
-    text.push(b' ')?;
-    push_path(alloc, text, circuit, check.map_or(0, |check| check.scope))?;
-    text.push(b' ')?;
-    text.extend_from_slice(word_of(violation.part).as_bytes())?;
-    push_event(
-        text,
-        " ",
-        check.map(|check| &check.refer),
-        violation.refer_time,
-    )?;
-    push_event(
-        text,
-        " ",
-        check.map(|check| datum_of(check)),
-        violation.datum_time,
-    )?;
-    text.extend_from_slice(b" limit ")?;
-    push_signed(text, violation.limit)?;
-    text.push(b'\n')?;
-    Ok(())
 }
 
 // A word and a number, on a line of their own.
@@ -195,6 +59,23 @@ fn push_spent(
     Ok(())
 }
 
+// The last lines: the counts and the end, or the time that was spent and its net.
+fn push_last(
+    alloc: Global,
+    text: &mut Vec<u8>,
+    circuit: &Circuit,
+    violations: u64,
+    end: u64,
+    spent: Option<Spent>,
+) -> Result<(), AllocError>
+    ensures { OnOk result (text.new.items ≡ text.old.items ++ last_lines circuit.now violations 0 end (spent_seen spent)) }
+{
+    match spent {
+        Some(spent) => push_spent(alloc, text, circuit, spent),
+        None => push_summary(text, violations, 0, end),
+    }
+}
+
 /// The text of a report: a line for each violation, and then the counts and the end in ticks, or the time that was
 /// spent and the path of its net.
 ///
@@ -209,12 +90,14 @@ pub fn report_of(
     ensures { IfOk result (λ text. text.items ≡ report_lines circuit.now [] [] (map (λ v. violation_seen v) violations.now) end (spent_seen spent)) }
 {
     let mut text = Vec::new(alloc);
-    for violation in violations {
-        push_violation(alloc, &mut text, circuit, violation)?;
-    }
-    match spent {
-        Some(spent) => push_spent(alloc, &mut text, circuit, spent)?,
-        None => push_summary(&mut text, violations.len() as u64, 0, end)?,
-    }
+    push_violations(alloc, &mut text, circuit, violations)?;
+    push_last(
+        alloc,
+        &mut text,
+        circuit,
+        violations.len() as u64,
+        end,
+        spent,
+    )?;
     Ok(text)
 }

@@ -1,11 +1,19 @@
-// The header of a worked example, written by hand: two scopes, a vector and a reg.
-use crate::VcdWriter;
-use sg_circuit::{Circuit, Driver, Net, Parts, Port, Range, Scope, Variable};
+// The texts of a worked example, written by hand: two scopes, a vector, a reg and two timing checks.
+ghost use Rattle.std.specs.Prelude.{◌≡◌, ◌≤◌, IfOk, length};
+
+use crate::{Spent, VcdWriter, report_of};
+use cond_expr::Nets;
+use sg_circuit::{
+    Check, CheckKind, Circuit, Driver, Net, Parts, Port, Range, Scope, Terminal, Variable,
+};
 use sg_io::{MemoryShelf, ShelfError};
+use sg_logic::Value;
 use sg_text::{NoMemory, Text};
 use sg_time::{Scale, Unit};
+use sim_rounds::Watch;
 use std::alloc::Global;
 use std::test::Fail;
+use time_checks::{Change, Part, Violation};
 
 const PS: Unit = Unit { power: -12 };
 
@@ -53,8 +61,35 @@ fn scope(
     })
 }
 
+fn terminal(alloc: Global, name: &str, bit: Option<i64>) -> Result<Terminal, NoMemory> {
+    Ok(Terminal {
+        name: Text::copy(alloc, name.as_bytes())?,
+        bit,
+    })
+}
+
+// A setup of the instance, and a width of the top.
+fn checks(alloc: Global) -> Result<Vec<Check>, NoMemory> {
+    let datum = terminal(alloc, "d", Some(1))?;
+    let setup = Check {
+        scope: 1,
+        kind: CheckKind::Setup,
+        refer: terminal(alloc, "c", None)?,
+        datum: Some(datum),
+    };
+    let width = Check {
+        scope: 0,
+        kind: CheckKind::Width,
+        refer: terminal(alloc, "a", None)?,
+        datum: None,
+    };
+    Ok(vec![in alloc; setup, width]?)
+}
+
 // The top has a wire, a vector of three bits and a reg; its instance has a reg, and the vector's middle bit as a port.
-fn nested(alloc: Global) -> Result<Parts, NoMemory> {
+fn nested(alloc: Global) -> Result<Parts, NoMemory>
+    ensures { IfOk result (λ parts. length parts.nets.items ≡ 5) }
+{
     let range = Some(Range { left: 2, right: 0 });
     let top = vec![in alloc;
         variable(alloc, "a", None, false, &[0])?,
@@ -78,7 +113,7 @@ fn nested(alloc: Global) -> Result<Parts, NoMemory> {
         gate_delays: Vec::new(alloc),
         leg_timings: Vec::new(alloc),
         udps: Vec::new(alloc),
-        checks: Vec::new(alloc),
+        checks: checks(alloc)?,
         scopes: vec![in alloc;
             scope(alloc, None, "t", top)?,
             scope(alloc, Some(0), "u.v", inner)?,
@@ -86,7 +121,9 @@ fn nested(alloc: Global) -> Result<Parts, NoMemory> {
     })
 }
 
-fn circuit_of(alloc: Global) -> Result<Circuit, NoMemory> {
+fn circuit_of(alloc: Global) -> Result<Circuit, NoMemory>
+    ensures { IfOk result (λ circuit. length circuit.nets ≡ 5) }
+{
     let parts = nested(alloc)?;
     if !parts.fit() {
         return Err(NoMemory);
@@ -116,5 +153,120 @@ fn a_header_that_is_cut_off_leaves_its_first_bytes(rt: HostRuntime) -> Result<()
     let told = VcdWriter::new(alloc, &circuit, "t.vcd", &mut shelf);
     assert!(rt; matches!(&told, Err(ShelfError::Failed)));
     assert!(rt; shelf.bytes("t.vcd") == Some(b"$ve".as_slice()));
+    Ok(())
+}
+
+#[derive(Drop)]
+struct Values<'a> {
+    values: &'a [Value],
+}
+
+impl Nets for Values<'_> {
+    ghost values = { λ v. v.values.now };
+
+    fn at(&self, net: u32) -> Value {
+        self.values[net as usize]
+    }
+}
+
+// Tells a writer of a time.
+fn tell(
+    writer: &mut VcdWriter,
+    shelf: &mut MemoryShelf,
+    time: u64,
+    changed: Option<u32>,
+    values: &[Value; 5],
+) -> Result<(), ShelfError>
+    requires { length writer.old.circuit.nets ≡ 5 }
+    ensures { writer.new.circuit ≡ writer.old.circuit }
+{
+    let nets = Values { values };
+    match changed {
+        Some(net) if net < 5 => {
+            let change = Change {
+                net,
+                from: Value::X,
+                to: Value::Zero,
+            };
+            writer.time(shelf, time, &[change], &nets)
+        }
+        _ => writer.time(shelf, time, &[], &nets),
+    }
+}
+
+// At 0 a is 0, q is 1xz and n is x; at 30 q[1] becomes 0; the end is at 50.
+fn dump(alloc: Global, circuit: &Circuit, shelf: &mut MemoryShelf) -> Result<(), ShelfError>
+    requires { length circuit.now.nets ≡ 5 }
+{
+    let first = [Value::Zero, Value::One, Value::X, Value::Z, Value::X];
+    let second = [Value::Zero, Value::One, Value::Zero, Value::Z, Value::X];
+    let mut writer = VcdWriter::new(alloc, circuit, "t.vcd", shelf)?;
+    tell(&mut writer, shelf, 0, None, &first)?;
+    tell(&mut writer, shelf, 30, Some(2), &second)?;
+    tell(&mut writer, shelf, 50, None, &second)
+}
+
+// What stands after the header.
+fn after_header<'a>(shelf: &'a MemoryShelf) -> Option<&'a [u8]> {
+    shelf.bytes("t.vcd")?.strip_prefix(HEADER.as_bytes())
+}
+
+const BLOCKS: &str = "#0\n$dumpvars\n0!\nb1xz \"\n0#\nx$\nx%\n$end\n#30\nb10z \"\n0%\n#50\n";
+
+#[test]
+fn a_dump_has_the_first_time_the_changes_and_the_end(rt: HostRuntime) -> Result<(), Fail> {
+    let alloc = rt.alloc();
+    let circuit = circuit_of(alloc)?;
+    let mut shelf = MemoryShelf::new(alloc);
+    dump(alloc, &circuit, &mut shelf)?;
+    assert!(rt; after_header(&shelf) == Some(BLOCKS.as_bytes()));
+    Ok(())
+}
+
+#[test]
+fn a_first_time_that_is_cut_off_ends_the_dump(rt: HostRuntime) -> Result<(), Fail> {
+    let alloc = rt.alloc();
+    let circuit = circuit_of(alloc)?;
+    let mut shelf = MemoryShelf::new(alloc);
+    shelf.fail_at(2, 4)?;
+    let told = dump(alloc, &circuit, &mut shelf);
+    assert!(rt; matches!(&told, Err(ShelfError::Failed)));
+    assert!(rt; after_header(&shelf) == Some(b"#0\n$".as_slice()));
+    Ok(())
+}
+
+const REPORT: &str =
+    "violation 30 t.u.v setup c 30 d[1] 25 limit 10\nviolation 43 t width a 40 a 43 limit 5\nviolations 2\nunannotated 0\nend 50\n";
+
+#[test]
+fn a_report_has_the_violations_and_the_counts(rt: HostRuntime) -> Result<(), Fail> {
+    let alloc = rt.alloc();
+    let circuit = circuit_of(alloc)?;
+    let setup = Violation {
+        check: 0,
+        part: Part::Setup,
+        refer_time: 30,
+        datum_time: 25,
+        limit: 10,
+    };
+    let width = Violation {
+        check: 1,
+        part: Part::Width,
+        refer_time: 40,
+        datum_time: 43,
+        limit: 5,
+    };
+    let text = report_of(alloc, &circuit, &[setup, width], 50, None)?;
+    assert!(rt; text.as_slice() == REPORT.as_bytes());
+    Ok(())
+}
+
+#[test]
+fn a_spent_time_names_the_bit_of_a_vector(rt: HostRuntime) -> Result<(), Fail> {
+    let alloc = rt.alloc();
+    let circuit = circuit_of(alloc)?;
+    let spent = Some(Spent { time: 7, net: 2 });
+    let text = report_of(alloc, &circuit, &[], 50, spent)?;
+    assert!(rt; text.as_slice() == b"rounds spent at 7 on t.q[1]\n".as_slice());
     Ok(())
 }

@@ -1,4 +1,4 @@
-use Rattle.std.proofs.Common.{Bor, List, ℕ, ◌<◌, All, ◌∙◌, sym, ap, length, map, refl, Vec, Global}
+use Rattle.std.proofs.Common.{Bor, List, ℕ, ◌<◌, All, ◌∙◌, sym, length, map, refl, Vec, Global}
 use Rattle.std.proofs.lemmas.List.{length-map}
 use Rattle.std.proofs.lemmas.List.Elements.{All-map}
 use Rattle.sg_circuit.proofs.FanLaws.{written_back}

@@ -1,7 +1,5 @@
 use Rattle.std.proofs.Common.{subst, sym, All, length, ◌<◌}
 use Rattle.std.proofs.lemmas.List.Sorted.{All-permutation, IsNonDecreasingBy-from_sort}
-use Rattle.wave_out.proofs.SortedLaws.{list-moved}
-use Rattle.wave_out.proofs.ChangeLaws.{sorted_text}
 use Rattle.wave_out.proofs.changes.sorted_block.Goals as goal
 
 pub later_block_of-requires-clause-work : goal.later_block_of-requires-clause-work

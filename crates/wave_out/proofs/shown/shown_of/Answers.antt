@@ -1,4 +1,4 @@
-use Rattle.std.proofs.Common.{Bor, List, ℕ, ◌∙◌, ap, arith, map, subst}
+use Rattle.std.proofs.Common.{Bor, List, ℕ, ◌∙◌, arith, map, subst}
 use Rattle.sg_circuit.specs.FanOut.{IsFanOut}
 use Rattle.fan_round.specs.States.{IsIdle}
 use Rattle.wave_out.proofs.ShownLaws.{bits_below, bits_within, nets_many}

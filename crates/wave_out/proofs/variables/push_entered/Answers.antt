@@ -1,4 +1,3 @@
-use Rattle.std.proofs.Common.{map}
 use Rattle.wave_out.proofs.HeaderLaws.{entered_bits}
 use Rattle.wave_out.proofs.variables.push_entered.Goals as goal
 

@@ -1,4 +1,4 @@
-use Rattle.std.proofs.Common.{Bor, List, ℕ, [], get_or, refl}
+use Rattle.std.proofs.Common.{Bor, List, ℕ, [], get_or}
 use Rattle.std.proofs.lemmas.List.{get_or_default}
 use Rattle.sg_circuit.proofs.PinLaws.{pins_more}
 use Rattle.wave_out.proofs.variables.push_pins.Goals as goal

@@ -1,7 +1,7 @@
 use Rattle.std.proofs.Common.{◌∙◌, sym, ap, subst, Some, option_map, Vec, Global, ℕ}
 use Rattle.std.proofs.lemmas.Result.{err_from_is_err_and}
 use Rattle.sim_rounds.specs.Watching.{call_of}
-use Rattle.wave_out.specs.Writing.{AreTruthful, Holds, Writer}
+use Rattle.wave_out.specs.Writing.{Holds, Writer}
 use Rattle.wave_out.proofs.WriterLaws.{adds_none, adds_some, breaks_before, breaks_off}
 use Rattle.wave_out.proofs.writer.VcdWriterWatch.time.Goals as goal
 
