@@ -7,3 +7,4 @@ pub mod StampLaws
 pub mod EvaluationLaws
 pub mod RoundLaws
 pub mod EveryLaws
+pub mod PendingLaws

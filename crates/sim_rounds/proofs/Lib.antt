@@ -1,5 +1,4 @@
 -- The lemma files of this folder.
-pub mod PendingLaws
 pub mod TimeLaws
 pub mod MachineLaws
 pub mod CallLaws

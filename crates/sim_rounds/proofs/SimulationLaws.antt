@@ -26,7 +26,7 @@ use Rattle.sim_rounds.specs.Naming.{Moves}
 use Rattle.sim_rounds.specs.Checks.{HasSeen, AreFree}
 use Rattle.sim_rounds.specs.Simulations.{kept_of, AreChecksOf, IsReadyAt}
 use Rattle.sim_rounds.proofs.DueLaws.{below_next}
-use Rattle.sim_rounds.proofs.PendingLaws.{pending_rises, pending_below}
+use Rattle.fan_round.proofs.PendingLaws.{pending_rises, pending_below}
 use Rattle.sim_rounds.proofs.NamingLaws.{due_moves, flips_move, toggles_handed, toggles_within}
 
 -- a due pair changes a net

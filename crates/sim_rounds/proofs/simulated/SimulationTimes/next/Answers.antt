@@ -2,7 +2,7 @@ use Rattle.std.specs.Prelude.{◌≡◌, ◌+◌, false}
 use Rattle.std.proofs.Common.{◌∙◌, ap, arith}
 use Rattle.sg_model.specs.Round.{any_due}
 use Rattle.sim_rounds.proofs.DueLaws.{none_due}
-use Rattle.sim_rounds.proofs.PendingLaws.{pending_rises, pending_below}
+use Rattle.fan_round.proofs.PendingLaws.{pending_rises, pending_below}
 use Rattle.sim_rounds.proofs.SimulatedLaws.{skip_ready}
 use Rattle.sim_rounds.proofs.simulated.SimulationTimes.next.Goals as goal
 

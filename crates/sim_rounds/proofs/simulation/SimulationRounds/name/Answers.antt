@@ -6,7 +6,7 @@ use Rattle.sg_model.specs.Round.{changed_by, due_changes, values_after}
 use Rattle.stim_read.specs.Seen.{set_seen}
 use Rattle.sim_rounds.specs.Naming.{IsLeastOf}
 use Rattle.fan_round.specs.Nets.{AreChanged}
-use Rattle.sim_rounds.proofs.PendingLaws.{pending_rises, pending_below}
+use Rattle.fan_round.proofs.PendingLaws.{pending_rises, pending_below}
 use Rattle.sim_rounds.proofs.NamingLaws.{named_changed, named_next}
 use Rattle.sim_rounds.proofs.SimulationLaws.{no_items}
 use Rattle.sim_rounds.proofs.simulation.SimulationRounds.name.Goals as goal

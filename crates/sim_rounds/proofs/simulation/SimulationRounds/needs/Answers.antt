@@ -3,7 +3,7 @@ use Rattle.std.specs.Prelude.{map}
 use Rattle.stim_read.specs.Seen.{set_seen}
 use Rattle.sim_rounds.specs.Naming.{Moves}
 use Rattle.fan_round.specs.States.{state_seen}
-use Rattle.sim_rounds.proofs.PendingLaws.{pending_rises, pending_below}
+use Rattle.fan_round.proofs.PendingLaws.{pending_rises, pending_below}
 use Rattle.sim_rounds.proofs.SimulationLaws.{due_state_moves, next_ready}
 use Rattle.sim_rounds.proofs.simulation.SimulationRounds.needs.Goals as goal
 
