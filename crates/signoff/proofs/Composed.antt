@@ -2,12 +2,11 @@
 use Rattle.std.proofs.Common.{refl, ◌≡◌, sym, ap, subst, lit<, Result, ℕ, List}
 use Rattle.std.specs.Prelude.{Ok, Err, Option, Some, None, Contains}
 use Rattle.sg_io.specs.Files.{File}
+use Rattle.sg_circuit.specs.Circuit.{Circuit}
 use Rattle.signoff.specs.Phases.{Refusal, Then, stops, goes_on, CircuitOutcome}
 use Rattle.signoff.specs.Promises.{FaultAt, at_netlist, at_stimulus, NamesFaultAt}
-use Rattle.signoff.specs.Seen.{circuit_seen}
 use Rattle.signoff.specs.Stops.{Gives, IfFailed, IfOutcome, refusal_seen, SparesWords, StopCause, StopWords, NeverFails}
 use Rattle.signoff.specs.Words.{Command, command_of, names_in}
-use Rattle.signoff.specs.declared.circuits.Circuit as code_circuit
 use Rattle.signoff.specs.declared.stop.Stop as code_stop
 use Rattle.signoff.specs.declared.stop.Stop.TheVariants as stop
 use Rattle.signoff.proofs.Putting.{both_same}
@@ -75,12 +74,12 @@ failed_at_netlist X Y ws old new last c s e k h = failed_again X Y (last ≡ Som
 }) h
 
 -- a failure on the stimulus's file
-pub failed_at_stimulus : (X Y : Type 0) (ws : List (List ℕ)) (old new : Option (List File)) (last : Option (List ℕ)) (c : Command) (circuit : code_circuit.Circuit) (s : code_stop.Stop)
-    → command_of ws ≡ Some c → ((files : List File) → old ≡ Some files → Gives (λ x. circuit_seen x) (CircuitOutcome c.netlist files) (Ok circuit)) → new ≡ old
+pub failed_at_stimulus : (X Y : Type 0) (ws : List (List ℕ)) (old new : Option (List File)) (last : Option (List ℕ)) (c : Command) (circuit : Circuit) (s : code_stop.Stop)
+    → command_of ws ≡ Some c → ((files : List File) → old ≡ Some files → Gives (λ (x : Circuit). x) (CircuitOutcome c.netlist files) (Ok circuit)) → new ≡ old
     → IfFailed {X = X} (last ≡ Some c.stimulus) (Err s) → IfFailed {X = Y} (NamesFaultAt ws old new last) (Err s)
 failed_at_stimulus X Y ws old new last c circuit s e g k h = failed_again X Y (last ≡ Some c.stimulus) (NamesFaultAt ws old new last) s (λ n. record {
   name = c.stimulus;
   told = n;
   among = subst (λ o. Contains (names_in o) c.stimulus) (sym e) (1, lit< tt, refl);
-  place = both_same (λ before after. FaultAt ws before after c.stimulus) old new k (λ files is. at_stimulus c (circuit_seen circuit) e (g files is).outcome refl);
+  place = both_same (λ before after. FaultAt ws before after c.stimulus) old new k (λ files is. at_stimulus c circuit e (g files is).outcome refl);
 }) h
