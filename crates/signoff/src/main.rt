@@ -11,6 +11,7 @@ mod run;
 mod status;
 mod stimulus;
 mod stop;
+mod task;
 #[cfg(test)]
 mod tests;
 mod words;

@@ -13,20 +13,12 @@ use crate::forms::FormError;
 use crate::netlist::read_netlist;
 use crate::stimulus::read_stimulus;
 use crate::stop::{Refusal, Stop};
+use crate::task::Task;
 use crate::words::{Command, read_words};
 use sg_circuit::Circuit;
 use sg_io::{ReadError, Shelf};
 use std::alloc::Global;
 use stim_read::Stimulus;
-
-/// What is run, and the name of the file that is made.
-#[derive(Debug, Drop)]
-pub struct Task<'a> {
-    pub circuit: Circuit,
-    pub input: Stimulus,
-    pub vcd: &'a str,
-    ghost applied: { IsApplied circuit (stimulus_seen input) },
-}
 
 // One byte more than an input file may have.
 const READ_LIMIT: u64 = (1 << 28) + 1;

@@ -6,9 +6,10 @@ ghost use Rattle.signoff.specs.Stops.{IfFailed, StopCause, StopWords};
 ghost use Rattle.signoff.specs.Words.{command_of};
 ghost use Rattle.signoff.specs.Work.{WorkLeaves};
 
-use crate::phases::{Task, task_of};
+use crate::phases::task_of;
 use crate::run::{RunEnd, run_and_dump};
 use crate::stop::Stop;
+use crate::task::Task;
 use sg_io::{Shelf, ShelfError};
 use std::alloc::Global;
 
