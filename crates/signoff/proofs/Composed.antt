@@ -1,11 +1,12 @@
 -- How the outcomes of phases compose.
 use Rattle.std.proofs.Common.{refl, ◌≡◌, sym, ap, subst, lit<, Result, ℕ, List}
 use Rattle.std.specs.Prelude.{Ok, Err, Option, Some, None, Contains}
+use Rattle.sg_io.specs.Faults.{Cause}
 use Rattle.sg_io.specs.Files.{File}
 use Rattle.sg_circuit.specs.Circuit.{Circuit}
 use Rattle.signoff.specs.Phases.{Refusal, Then, stops, goes_on, CircuitOutcome}
 use Rattle.signoff.specs.Promises.{FaultAt, at_netlist, at_stimulus, NamesFaultAt}
-use Rattle.signoff.specs.Stops.{Gives, IfFailed, IfOutcome, refusal_seen, SparesWords, StopCause, StopWords, NeverFails}
+use Rattle.signoff.specs.Stops.{Gives, IfFailed, IfOutcome, refusal_seen, SparesWords, StopWords, NeverFails, end_of_phase}
 use Rattle.signoff.specs.Words.{Command, command_of, names_in}
 use Rattle.signoff.specs.declared.stop.Stop as code_stop
 use Rattle.signoff.specs.declared.stop.Stop.TheVariants as stop
@@ -35,7 +36,7 @@ pub gives_then : {X Y A B : Type 0} {view : X → A} {whole : Y → B} {first : 
 gives_then {X} {Y} {A} {B} {view} {whole} {first} {next} {x} {o} h k = record { outcome = then_outcome whole first next (view x) o h.outcome k.outcome }
 
 -- a phase that calls nothing outside leaves the count
-pub cause_of_pure : (X Y : Type 0) (n : ℕ) (s : code_stop.Stop) → NeverFails {X = X} (Err s) → StopCause {X = Y} n n (Err s)
+pub cause_of_pure : (X Y : Type 0) (n : ℕ) (s : code_stop.Stop) → NeverFails {X = X} (Err s) → Cause n n (end_of_phase {X = Y} (Err s))
 cause_of_pure X Y n (stop.Refused r) h = refl
 cause_of_pure X Y n stop.Failed h = absurd h
 cause_of_pure X Y n stop.NoMemory h = refl

@@ -3,7 +3,7 @@ use Rattle.std.proofs.Common.{◌≡◌, ◌≢◌, ◌∙◌, true, false, sym,
 use Rattle.std.proofs.lemmas.List.{take_all}
 use Rattle.std.specs.Prelude.{Option, Some, None, Result, Ok, Err, unwrap_or}
 use Rattle.sg_io.specs.Files.{File, BothTell, HasAfter, bytes_of}
-use Rattle.sg_io.specs.Faults.{Rises, Rose}
+use Rattle.sg_io.specs.Faults.{Cause, Rises, Rose}
 use Rattle.sg_io.specs.Put.{SinkTold}
 use Rattle.sg_io.proofs.Tell.{both_told}
 use Rattle.sg_model.specs.Machine.{Violation}
@@ -17,7 +17,7 @@ use Rattle.signoff.specs.Putting.{PutsAll, PutsLast}
 use Rattle.signoff.specs.Putting as putting
 use Rattle.signoff.specs.RunEnds.{violations_of}
 use Rattle.signoff.specs.Status.{IsDecided, IsRunEnd, is_run_end}
-use Rattle.signoff.specs.Stops.{refusal_seen, IfFailed, SparesWords, StopCause, StopWords}
+use Rattle.signoff.specs.Stops.{refusal_seen, IfFailed, SparesWords, StopWords, end_of_phase}
 use Rattle.signoff.specs.Tasks.{task_seen}
 use Rattle.signoff.specs.Work.{WorkLeaves, Tells, TellsStop, TellsEnd}
 use Rattle.signoff.specs.Work as telling
@@ -116,7 +116,7 @@ failed_case ws how shelf shelf' sink sink' c n t =
     subst (Outcome ws shelf shelf' sink sink') (sym t.0) (shelf_fault c n (subst (λ o. PutsLast (fault_line (unwrap_or o [])) sink sink') n.told t.1))
 
 pub outcome : (ws : List (List ℕ)) (end : Result code_done.Done code_stop.Stop) (how : Status) (shelf shelf' : ShelfTold) (sink sink' : SinkTold)
-    → BothTell shelf.files shelf'.files (WorkLeaves ws end) → StopCause shelf.faults shelf'.faults end → IfFailed (NamesFaultAt ws shelf.files shelf'.files shelf'.last) end
+    → BothTell shelf.files shelf'.files (WorkLeaves ws end) → Cause shelf.faults shelf'.faults (end_of_phase end) → IfFailed (NamesFaultAt ws shelf.files shelf'.files shelf'.last) end
     → StopWords (command_of ws) (λ c done. done.task.vcd.now ≡ c.vcd) end → TellsEnd shelf'.last end sink sink' how → Outcome ws shelf shelf' sink sink' how
 outcome ws (Ok done) how shelf shelf' sink sink' l c n w t =
     let planned = status_of_run (spent_seen done.end.spent) (violations_of done.end) in

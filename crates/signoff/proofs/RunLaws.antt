@@ -83,22 +83,22 @@ FileAs name text told (Ok x) = FileHolds name text told
 FileAs name text told (Err e) = FileBegins name text told
 
 module _ {S : Type 0} (files : S → Option (List File)) where
-  got_file : (s : Setting) (w w' : Writer) (a b : S) (made : List Call) → Holds w (files a) [] → Got (Standing files) w w' a b made → AreTruthful made → Holds w' (files b) made
-  got_file s w w' a b made h got = got.each [] (λ _. h)
+  got_file : (w w' : Writer) (a b : S) (made : List Call) → Holds w (files a) [] → Got (Standing files) w w' a b made → AreTruthful made → Holds w' (files b) made
+  got_file w w' a b made h got = got.each [] (λ _. h)
 
-  broke_file : (s : Setting) (w w' : Writer) (a b : S) (made : List Call) → Holds w (files a) [] → Broke (Standing files) (Breaking files) w w' a b made
+  broke_file : (w w' : Writer) (a b : S) (made : List Call) → Holds w (files a) [] → Broke (Standing files) (Breaking files) w w' a b made
       → AreTruthful made → FileBegins w'.name (text_after w'.circuit made) (files b)
-  broke_file s w w' a b made h broke = broke.each [] (λ _. h)
+  broke_file w w' a b made h broke = broke.each [] (λ _. h)
 
   ended_file : (s : Setting) (w w' : Writer) (a b : S) (found : List Violation) (changed taken : ℕ) (end : Result (Unit {0}) SimEnd) → Holds w (files a) []
       → HasEnded (Standing files) (Breaking files) w w' a b s found changed taken end → FileAs w'.name (text_for w'.circuit s) (files b) (spent_in end)
-  ended_file s w w' a b found changed taken (Ok u) h (times, _, (made, all, got)) = whole_file s w' (files b) made times.unspent all (got_file s w w' a b made h got)
-  ended_file s w w' a b found changed taken (Err (RoundsSpent time net)) h (some, _, _, (made, are, got)) = spent_file s w' (files b) (time, Some net) made some are (got_file s w w' a b made h got)
-  ended_file s w w' a b found changed taken (Err WatchFailed) h (n, times, _, (made, are, broke)) = made_file s w' (files b) n found changed made times are (broke_file s w w' a b made h broke)
+  ended_file s w w' a b found changed taken (Ok u) h (times, _, (made, all, got)) = whole_file s w' (files b) made times.unspent all (got_file w w' a b made h got)
+  ended_file s w w' a b found changed taken (Err (RoundsSpent time net)) h (some, _, _, (made, are, got)) = spent_file s w' (files b) (time, Some net) made some are (got_file w w' a b made h got)
+  ended_file s w w' a b found changed taken (Err WatchFailed) h (n, times, _, (made, are, broke)) = made_file s w' (files b) n found changed made times are (broke_file w w' a b made h broke)
   ended_file s w w' a b found changed taken (Err NoMemory) h (_, (n, times, inl (made, are, got))) =
-      begun_file s w' (files b) n made times.within times.unspent are (λ truth. held_begins w'.name (text_after w'.circuit made) (files b) (got_file s w w' a b made h got truth).file)
+      begun_file s w' (files b) n made times.within times.unspent are (λ truth. held_begins w'.name (text_after w'.circuit made) (files b) (got_file w w' a b made h got truth).file)
   ended_file s w w' a b found changed taken (Err NoMemory) h (_, (n, times, inr (made, are, broke))) =
-      made_file s w' (files b) n found changed made times are (broke_file s w w' a b made h broke)
+      made_file s w' (files b) n found changed made times are (broke_file w w' a b made h broke)
 
 -- what all calls together leave
 others_new : (name text : List ℕ) (old new : Option (List File)) → BothTell old new (HasAfter name text) → KeepsOthers name old new

@@ -10,7 +10,7 @@ use Rattle.signoff.specs.Stops.{Gives, StopWords}
 use Rattle.signoff.specs.Tasks.{task_seen}
 use Rattle.signoff.specs.Words.{Command, command_of, names_in}
 use Rattle.signoff.specs.Work.{WorkLeaves}
-use Rattle.signoff.specs.declared.task.Task as code_task
+use Rattle.signoff.specs.declared.phases.Task as code_task
 use Rattle.signoff.specs.declared.stop.Stop as code_stop
 use Rattle.signoff.specs.declared.stop.Stop.TheVariants as stop
 

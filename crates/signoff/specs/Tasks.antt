@@ -1,5 +1,5 @@
 -- The program's tasks as the definition sees them.
-use Rattle.signoff.specs.declared.task.Task as code_task
+use Rattle.signoff.specs.declared.phases.Task as code_task
 use Rattle.signoff.specs.Phases.{Task}
 use Rattle.signoff.specs.Words.{default_rounds}
 use Rattle.stim_read.specs.Seen.{stimulus_seen}

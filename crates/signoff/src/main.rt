@@ -11,7 +11,6 @@ mod run;
 mod status;
 mod stimulus;
 mod stop;
-mod task;
 #[cfg(test)]
 mod tests;
 mod words;
