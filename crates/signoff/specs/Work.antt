@@ -1,5 +1,5 @@
 -- What joins the code of the work on the shelf, and of the telling to the sink, to the cases of the top call.
-use Rattle.std.specs.Prelude.{ℕ, ◌≡◌, List, [], map, Option, Result, Ok, Err, unwrap_or}
+use Rattle.std.specs.Prelude.{ℕ, ◌≡◌, List, [], Option, Result, Ok, Err, unwrap_or}
 use Rattle.sg_io.specs.Files.{File, HasAfter}
 use Rattle.sg_io.specs.Put.{SinkTold}
 use Rattle.wave_out.specs.Report.{report_lines}
