@@ -28,11 +28,11 @@ abbrev pub text_for : Circuit → Setting → List ℕ
 text_for circuit s = vcd_text circuit s.end (run_for s (suc s.end))
 
 -- what a writer and its shelf stand for, and how they break
-abbrev pub Standing : {S : Type 0} → (S → Option (List File)) → Writer → S → List Call → Type 0
-Standing files = λ w s calls. AreTruthful calls → Holds w (files s) calls
+abbrev pub StandsFor : {S : Type 0} → (S → Option (List File)) → Writer → S → List Call → Type 0
+StandsFor files = λ w s calls. AreTruthful calls → Holds w (files s) calls
 
-abbrev pub Breaking : {S : Type 0} → (S → Option (List File)) → Writer → S → List Call → Type 0
-Breaking files = λ w s calls. AreTruthful calls → FileBegins w.name (text_after w.circuit calls) (files s)
+abbrev pub BreaksIn : {S : Type 0} → (S → Option (List File)) → Writer → S → List Call → Type 0
+BreaksIn files = λ w s calls. AreTruthful calls → FileBegins w.name (text_after w.circuit calls) (files s)
 
 -- a new file with the header holds the text of no calls
 holds_none : (name : List ℕ) (circuit : Circuit) (old new : Option (List File)) → BothTell old new (HasAfter name (header circuit))
@@ -83,15 +83,15 @@ FileAs name text told (Ok x) = FileHolds name text told
 FileAs name text told (Err e) = FileBegins name text told
 
 module _ {S : Type 0} (files : S → Option (List File)) where
-  got_file : (w w' : Writer) (a b : S) (made : List Call) → Holds w (files a) [] → Got (Standing files) w w' a b made → AreTruthful made → Holds w' (files b) made
+  got_file : (w w' : Writer) (a b : S) (made : List Call) → Holds w (files a) [] → Got (StandsFor files) w w' a b made → AreTruthful made → Holds w' (files b) made
   got_file w w' a b made h got = got.each [] (λ _. h)
 
-  broke_file : (w w' : Writer) (a b : S) (made : List Call) → Holds w (files a) [] → Broke (Standing files) (Breaking files) w w' a b made
+  broke_file : (w w' : Writer) (a b : S) (made : List Call) → Holds w (files a) [] → Broke (StandsFor files) (BreaksIn files) w w' a b made
       → AreTruthful made → FileBegins w'.name (text_after w'.circuit made) (files b)
   broke_file w w' a b made h broke = broke.each [] (λ _. h)
 
   ended_file : (s : Setting) (w w' : Writer) (a b : S) (found : List Violation) (changed taken : ℕ) (end : Result (Unit {0}) SimEnd) → Holds w (files a) []
-      → HasEnded (Standing files) (Breaking files) w w' a b s found changed taken end → FileAs w'.name (text_for w'.circuit s) (files b) (spent_in end)
+      → HasEnded (StandsFor files) (BreaksIn files) w w' a b s found changed taken end → FileAs w'.name (text_for w'.circuit s) (files b) (spent_in end)
   ended_file s w w' a b found changed taken (Ok u) h (times, _, (made, all, got)) = whole_file s w' (files b) made times.unspent all (got_file w w' a b made h got)
   ended_file s w w' a b found changed taken (Err (RoundsSpent time net)) h (some, _, _, (made, are, got)) = spent_file s w' (files b) (time, Some net) made some are (got_file w w' a b made h got)
   ended_file s w w' a b found changed taken (Err WatchFailed) h (n, times, _, (made, are, broke)) = made_file s w' (files b) n found changed made times are (broke_file w w' a b made h broke)
@@ -140,7 +140,7 @@ leaves_header files circuit s name old a b h same =
 -- A new writer wrote the header of a circuit's dump, and was told of a run.
 module _ {S : Type 0} (files : S → Option (List File)) (name : List ℕ) (circuit : Circuit) (s : Setting) (w w' : Writer) (old : Option (List File)) (a b : S) where
   run_leaves : (found : List Violation) (changed taken : ℕ) (end : Result (Unit {0}) SimEnd) → w ≡ record { name = name; circuit = circuit; last = None } → BothTell old (files a) (HasAfter name (header circuit)) → w'.name ≡ w.name → w'.circuit ≡ w.circuit
-      → KeepsOthers w.name (files a) (files b) → HasEnded (Standing files) (Breaking files) w w' a b s found changed taken end → BothTell old (files b) (Leaves name (text_for circuit s) (spent_in end))
+      → KeepsOthers w.name (files a) (files b) → HasEnded (StandsFor files) (BreaksIn files) w w' a b s found changed taken end → BothTell old (files b) (Leaves name (text_for circuit s) (spent_in end))
   run_leaves found changed taken end made begun same_name same_circuit others h =
       let first : Holds w (files a) [] = subst (λ x. Holds x (files a) []) (sym made) (holds_none name circuit old (files a) begun) in
       let own = ended_file files s w w' a b found changed taken end first h in
@@ -151,13 +151,13 @@ module _ {S : Type 0} (files : S → Option (List File)) (name : List ℕ) (circ
 
   -- the run came to an end, or it didn't
   pub ends : (found : List Violation) (changed : ℕ) (end : Result (Unit {0}) SimEnd) (spent : Option code_spent.Spent) → w ≡ record { name = name; circuit = circuit; last = None } → BothTell old (files a) (HasAfter name (header circuit))
-      → w'.name ≡ w.name → w'.circuit ≡ w.circuit → KeepsOthers w.name (files a) (files b) → (taken : ℕ) × HasEnded (Standing files) (Breaking files) w w' a b s found changed taken end
+      → w'.name ≡ w.name → w'.circuit ≡ w.circuit → KeepsOthers w.name (files a) (files b) → (taken : ℕ) × HasEnded (StandsFor files) (BreaksIn files) w w' a b s found changed taken end
       → ◌≡◌ {A = Result (Option code_spent.Spent) ShelfError} (Ok spent) (spent_in end) → BothTell old (files b) (HasAfter name (text_for circuit s))
   ends found changed end spent made begun same_name same_circuit others (taken, h) e =
       subst (λ o. BothTell old (files b) (Leaves name (text_for circuit s) o)) (sym e) (run_leaves found changed taken end made begun same_name same_circuit others h)
 
   pub stops : (found : List Violation) (changed : ℕ) (end : Result (Unit {0}) SimEnd) (why : ShelfError) → w ≡ record { name = name; circuit = circuit; last = None } → BothTell old (files a) (HasAfter name (header circuit))
-      → w'.name ≡ w.name → w'.circuit ≡ w.circuit → KeepsOthers w.name (files a) (files b) → (taken : ℕ) × HasEnded (Standing files) (Breaking files) w w' a b s found changed taken end
+      → w'.name ≡ w.name → w'.circuit ≡ w.circuit → KeepsOthers w.name (files a) (files b) → (taken : ℕ) × HasEnded (StandsFor files) (BreaksIn files) w w' a b s found changed taken end
       → ◌≡◌ {A = Result (Option code_spent.Spent) ShelfError} (Err why) (spent_in end) → BothTell old (files b) (LeavesPrefix name (text_for circuit s))
   stops found changed end why made begun same_name same_circuit others (taken, h) e =
       subst (λ o. BothTell old (files b) (Leaves name (text_for circuit s) o)) (sym e) (run_leaves found changed taken end made begun same_name same_circuit others h)
