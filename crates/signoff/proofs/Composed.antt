@@ -2,12 +2,11 @@
 use Rattle.std.proofs.Common.{refl, ◌≡◌, sym, ap, subst, lit<, Result, ℕ, List}
 use Rattle.std.specs.Prelude.{Ok, Err, Option, Some, None, Contains}
 use Rattle.sg_io.specs.Files.{File}
+use Rattle.sg_circuit.specs.Circuit.{Circuit}
 use Rattle.signoff.specs.Phases.{Refusal, Then, stops, goes_on, CircuitOutcome}
 use Rattle.signoff.specs.Promises.{FaultAt, at_netlist, at_stimulus, NamesFaultAt}
-use Rattle.signoff.specs.Seen.{circuit_seen}
-use Rattle.signoff.specs.Stops.{Gives, IfFailed, IfOutcome, refusal_seen, SparesWords, StopCause, StopWords, NeverFails}
+use Rattle.signoff.specs.Stops.{Gives, IfFailed, IfOutcome, refusal_seen, StopWords}
 use Rattle.signoff.specs.Words.{Command, command_of, names_in}
-use Rattle.signoff.specs.declared.circuits.Circuit as code_circuit
 use Rattle.signoff.specs.declared.stop.Stop as code_stop
 use Rattle.signoff.specs.declared.stop.Stop.TheVariants as stop
 use Rattle.signoff.proofs.Putting.{both_same}
@@ -35,34 +34,15 @@ pub gives_then : {X Y A B : Type 0} {view : X → A} {whole : Y → B} {first : 
     → Gives view first (Ok x) → Gives whole (next (view x)) o → Gives whole (Then first next) o
 gives_then {X} {Y} {A} {B} {view} {whole} {first} {next} {x} {o} h k = record { outcome = then_outcome whole first next (view x) o h.outcome k.outcome }
 
--- a phase that calls nothing outside leaves the count
-pub cause_of_pure : (X Y : Type 0) (n : ℕ) (s : code_stop.Stop) → NeverFails {X = X} (Err s) → StopCause {X = Y} n n (Err s)
-cause_of_pure X Y n (stop.Refused r) h = refl
-cause_of_pure X Y n stop.Failed h = absurd h
-cause_of_pure X Y n stop.NoMemory h = refl
-
 -- what the words gave is what they ask for
 pub words_command : {X : Type 0} (view : X → Command) (o : Option Command) (x : X) → StopWords o (λ c y. c ≡ view y) (Ok x) → o ≡ Some (view x)
 words_command view None x h = absurd h
 words_command view (Some c) x h = ap Some h
 
--- after words that are a command, and a stop that spares them
-pub words_spare : (Y : Type 0) (P : Command → Y → Type 0) (o : Option Command) (c : Command) (s : code_stop.Stop) → o ≡ Some c → SparesWords s → StopWords {X = Y} o P (Err s)
-words_spare Y P None c s e h = cc
-words_spare Y P (Some d) c s e h = h
-
--- a stop says the same of the words, whatever would have come
-pub words_again : (X Y : Type 0) (P : Command → X → Type 0) (Q : Command → Y → Type 0) (o : Option Command) (s : code_stop.Stop) → StopWords {X = X} o P (Err s) → StopWords {X = Y} o Q (Err s)
-words_again X Y P Q None s h = h
-words_again X Y P Q (Some c) s h = h
-
 failed_again : (X Y : Type 0) (P Q : Type 0) (s : code_stop.Stop) → (P → Q) → IfFailed {X = X} P (Err s) → IfFailed {X = Y} Q (Err s)
 failed_again X Y P Q (stop.Refused r) f h = tt
 failed_again X Y P Q stop.Failed f h = f h
 failed_again X Y P Q stop.NoMemory f h = tt
-
-pub same_failed : (X Y P : Type 0) (s : code_stop.Stop) → IfFailed {X = X} P (Err s) → IfFailed {X = Y} P (Err s)
-same_failed X Y P s h = failed_again X Y P P s (λ p. p) h
 
 -- a failure on the netlist's file
 pub failed_at_netlist : (X Y : Type 0) (ws : List (List ℕ)) (old new : Option (List File)) (last : Option (List ℕ)) (c : Command) (s : code_stop.Stop)
@@ -75,12 +55,12 @@ failed_at_netlist X Y ws old new last c s e k h = failed_again X Y (last ≡ Som
 }) h
 
 -- a failure on the stimulus's file
-pub failed_at_stimulus : (X Y : Type 0) (ws : List (List ℕ)) (old new : Option (List File)) (last : Option (List ℕ)) (c : Command) (circuit : code_circuit.Circuit) (s : code_stop.Stop)
-    → command_of ws ≡ Some c → ((files : List File) → old ≡ Some files → Gives (λ x. circuit_seen x) (CircuitOutcome c.netlist files) (Ok circuit)) → new ≡ old
+pub failed_at_stimulus : (X Y : Type 0) (ws : List (List ℕ)) (old new : Option (List File)) (last : Option (List ℕ)) (c : Command) (circuit : Circuit) (s : code_stop.Stop)
+    → command_of ws ≡ Some c → ((files : List File) → old ≡ Some files → Gives (λ (x : Circuit). x) (CircuitOutcome c.netlist files) (Ok circuit)) → new ≡ old
     → IfFailed {X = X} (last ≡ Some c.stimulus) (Err s) → IfFailed {X = Y} (NamesFaultAt ws old new last) (Err s)
 failed_at_stimulus X Y ws old new last c circuit s e g k h = failed_again X Y (last ≡ Some c.stimulus) (NamesFaultAt ws old new last) s (λ n. record {
   name = c.stimulus;
   told = n;
   among = subst (λ o. Contains (names_in o) c.stimulus) (sym e) (1, lit< tt, refl);
-  place = both_same (λ before after. FaultAt ws before after c.stimulus) old new k (λ files is. at_stimulus c (circuit_seen circuit) e (g files is).outcome refl);
+  place = both_same (λ before after. FaultAt ws before after c.stimulus) old new k (λ files is. at_stimulus c circuit e (g files is).outcome refl);
 }) h

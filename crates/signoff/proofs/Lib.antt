@@ -2,6 +2,7 @@
 pub mod Putting
 pub mod Telling
 pub mod Composed
+pub mod RunLaws
 pub mod Worked
 pub mod OneAnswer
 pub mod Promised

@@ -3,7 +3,7 @@
 use Rattle.std.proofs.Common.{◌≡◌, ◌∙◌, sym, ap, subst, refl, ℕ, List}
 use Rattle.std.specs.Prelude.{Option, Some, None, Result, Ok, Err}
 use Rattle.sg_io.specs.Files.{File, bytes_of}
-use Rattle.circuit_model.specs.Circuit.{Circuit}
+use Rattle.sg_circuit.specs.Circuit.{Circuit}
 use Rattle.signoff.specs.Answer.{Answer, IsAnswer, answer_of}
 use Rattle.signoff.specs.Phases.{Refusal, Then, stops, goes_on, Task, TaskOutcome, CircuitOutcome, InputOutcome, WordsOutcome, FileOutcome, NetlistOutcome, StimulusOutcome, status_of_refusal}
 use Rattle.signoff.specs.Words.{Command, command_of}

@@ -1,21 +1,23 @@
 -- From what the work left and what was told comes the case of the top call; from the case comes all else that it promises.
-use Rattle.std.proofs.Common.{◌≡◌, ◌≢◌, ◌∙◌, true, false, sym, ap, refl, subst, inl, inr, ℕ, List, [], ◌++◌, length, Contains, ◌≤◌, arith}
+use Rattle.std.proofs.Common.{◌≡◌, ◌≢◌, ◌∙◌, true, false, sym, ap, refl, subst, inl, inr, ℕ, List, [], ◌∷◌, ◌++◌, length, Contains, ◌≤◌, arith}
 use Rattle.std.proofs.lemmas.List.{take_all}
 use Rattle.std.specs.Prelude.{Option, Some, None, Result, Ok, Err, unwrap_or}
 use Rattle.sg_io.specs.Files.{File, BothTell, HasAfter, bytes_of}
-use Rattle.sg_io.specs.Faults.{Rises, Rose}
+use Rattle.sg_io.specs.Faults.{Cause, Rises, Rose}
 use Rattle.sg_io.specs.Put.{SinkTold}
 use Rattle.sg_io.proofs.Tell.{both_told}
-use Rattle.circuit_model.specs.Report.{report_lines}
+use Rattle.sg_model.specs.Machine.{Violation}
+use Rattle.wave_out.specs.Files.{LeavesPrefix}
+use Rattle.wave_out.specs.Report.{report_lines}
+use Rattle.wave_out.specs.Spent.{spent_seen}
 use Rattle.signoff.specs.Answer.{Answer, IsAnswer, FilesAfter, answer_of, dump_of, run_of, status_of_run, fault_line}
 use Rattle.signoff.specs.Phases.{Refusal, Task, TaskOutcome, WordsOutcome, CircuitOutcome, InputOutcome, Then, stops, goes_on, words, missing, netlist, stimulus, status_of_refusal, refusal_line}
 use Rattle.signoff.specs.Promises.{ShelfTold, IsRight, FitsWords, HasAnswer, FaultAt, at_netlist, at_stimulus, at_dump, NamesFaultAt, LeavesUnfinished, whole, till_fault, Outcome, answered, shelf_fault, sink_fault, no_memory, sink_want, IsExact, IsStatusOf, KeepsBut, KeepsByAnswer, KeepsByWords, IsUsage}
 use Rattle.signoff.specs.Putting.{PutsAll, PutsLast}
 use Rattle.signoff.specs.Putting as putting
-use Rattle.signoff.specs.Runs.{LeavesPrefix}
-use Rattle.signoff.specs.Seen.{circuit_seen, spent_seen}
+use Rattle.signoff.specs.RunEnds.{violations_of}
 use Rattle.signoff.specs.Status.{IsDecided, IsRunEnd, is_run_end}
-use Rattle.signoff.specs.Stops.{refusal_seen, IfFailed, SparesWords, StopCause, StopWords}
+use Rattle.signoff.specs.Stops.{refusal_seen, IfFailed, SparesWords, StopWords, end_of_phase}
 use Rattle.signoff.specs.Tasks.{task_seen}
 use Rattle.signoff.specs.Work.{WorkLeaves, Tells, TellsStop, TellsEnd}
 use Rattle.signoff.specs.Work as telling
@@ -27,7 +29,6 @@ use Rattle.signoff.specs.declared.stop.Stop.TheVariants as stop
 use Rattle.signoff.specs.declared.stop.Refusal as code_refusal
 use Rattle.signoff.specs.declared.stop.Refusal.TheVariants as refusal
 use Rattle.signoff.specs.declared.work.Done as code_done
-use Rattle.signoff.proofs.NoViolations.{no_violations}
 use Rattle.signoff.proofs.OneAnswer.{one_status, one_made}
 use Rattle.signoff.proofs.Putting.{both_map}
 
@@ -42,13 +43,15 @@ right_unfinished ws how text old new r = (elim r.right.0 as (λ o. TaskOutcome w
 ]) r.right.1 r.right.2
 
 -- the status of a run, and of a refusal, is decided
-run_decided : (spent : Option (ℕ × Option ℕ)) → IsDecided (status_of_run spent [])
-run_decided None = tt
-run_decided (Some s) = tt
+run_decided : (spent : Option (ℕ × Option ℕ)) (violations : List Violation) → IsDecided (status_of_run spent violations)
+run_decided None [] = tt
+run_decided None (v ∷ vs) = tt
+run_decided (Some s) violations = tt
 
-run_no_usage : (spent : Option (ℕ × Option ℕ)) → status_of_run spent [] ≢ status.Usage
-run_no_usage None = λ e. let k : status.Clean ≡ status.Usage = e in cc
-run_no_usage (Some s) = λ e. let k : status.Rounds ≡ status.Usage = e in cc
+run_no_usage : (spent : Option (ℕ × Option ℕ)) (violations : List Violation) → status_of_run spent violations ≢ status.Usage
+run_no_usage None [] = λ e. let k : status.Clean ≡ status.Usage = e in cc
+run_no_usage None (v ∷ vs) = λ e. let k : status.Violations ≡ status.Usage = e in cc
+run_no_usage (Some s) violations = λ e. let k : status.Rounds ≡ status.Usage = e in cc
 
 refusal_decided : (r : Refusal) → IsDecided (status_of_refusal r)
 refusal_decided words = tt
@@ -56,9 +59,10 @@ refusal_decided (missing name) = tt
 refusal_decided (netlist name) = tt
 refusal_decided (stimulus name) = tt
 
-run_fits : (o : Option Command) (P : Command → code_done.Done → Type 0) (done : code_done.Done) (spent : Option (ℕ × Option ℕ)) (text : List ℕ) → StopWords o P (Ok done) → FitsWords o (status_of_run spent []) text
-run_fits None P done spent text h = absurd h
-run_fits (Some c) P done spent text h = run_no_usage spent
+run_fits : (o : Option Command) (P : Command → code_done.Done → Type 0) (done : code_done.Done) (spent : Option (ℕ × Option ℕ)) (violations : List Violation) (text : List ℕ) → StopWords o P (Ok done)
+    → FitsWords o (status_of_run spent violations) text
+run_fits None P done spent violations text h = absurd h
+run_fits (Some c) P done spent violations text h = run_no_usage spent violations
 
 spares_fits : (r : code_refusal.Refusal) → SparesWords (stop.Refused r) → status_of_refusal (refusal_seen r) ≢ status.Usage
 spares_fits refusal.Words h = absurd h
@@ -76,16 +80,15 @@ refusal_fits (Some c) P r h = spares_fits r h
 
 -- the end of a run is a right answer
 done_right : (ws : List (List ℕ)) (done : code_done.Done) (old new : List File) → WorkLeaves ws (Ok done) old new
-    → IsRight ws (status_of_run (spent_seen done.spent) []) (report_lines (circuit_seen done.task.circuit) [] [] [] done.task.input.end (spent_seen done.spent)) old new
-done_right ws done old new h =
+    → IsRight ws (status_of_run (spent_seen done.end.spent) (violations_of done.end)) (report_lines done.task.circuit [] [] (violations_of done.end) done.task.input.end (spent_seen done.end.spent)) old new
+done_right ws done old new (outcome, after, (spent, violations)) =
     let task : Task = task_seen done.task in
-    let none : (run_of task).run.violations ≡ [] = no_violations task in
     record {
       answer = answer_of (Ok task);
-      right = (Ok task, h.0, refl);
-      status = ap (λ s. status_of_run s []) h.2 ∙ sym (ap (status_of_run (run_of task).spent) none);
-      report = ap (report_lines task.circuit [] [] [] task.input.end) h.2 ∙ sym (ap (λ vs. report_lines task.circuit [] [] vs task.input.end (run_of task).spent) none);
-      files = h.1;
+      right = (Ok task, outcome, refl);
+      status = ap (λ s. status_of_run s (violations_of done.end)) spent ∙ ap (status_of_run (run_of task).spent) violations;
+      report = ap (report_lines task.circuit [] [] (violations_of done.end) task.input.end) spent ∙ ap (λ vs. report_lines task.circuit [] [] vs task.input.end (run_of task).spent) violations;
+      files = after;
     }
 
 refused_right : (ws : List (List ℕ)) (r : code_refusal.Refusal) (old new : List File) → WorkLeaves ws (Err (stop.Refused r)) old new
@@ -113,14 +116,14 @@ failed_case ws how shelf shelf' sink sink' c n t =
     subst (Outcome ws shelf shelf' sink sink') (sym t.0) (shelf_fault c n (subst (λ o. PutsLast (fault_line (unwrap_or o [])) sink sink') n.told t.1))
 
 pub outcome : (ws : List (List ℕ)) (end : Result code_done.Done code_stop.Stop) (how : Status) (shelf shelf' : ShelfTold) (sink sink' : SinkTold)
-    → BothTell shelf.files shelf'.files (WorkLeaves ws end) → StopCause shelf.faults shelf'.faults end → IfFailed (NamesFaultAt ws shelf.files shelf'.files shelf'.last) end
+    → BothTell shelf.files shelf'.files (WorkLeaves ws end) → Cause shelf.faults shelf'.faults (end_of_phase end) → IfFailed (NamesFaultAt ws shelf.files shelf'.files shelf'.last) end
     → StopWords (command_of ws) (λ c done. done.task.vcd.now ≡ c.vcd) end → TellsEnd shelf'.last end sink sink' how → Outcome ws shelf shelf' sink sink' how
 outcome ws (Ok done) how shelf shelf' sink sink' l c n w t =
-    let planned = status_of_run (spent_seen done.spent) [] in
-    let text = report_lines (circuit_seen done.task.circuit) [] [] [] done.task.input.end (spent_seen done.spent) in
+    let planned = status_of_run (spent_seen done.end.spent) (violations_of done.end) in
+    let text = report_lines done.task.circuit [] [] (violations_of done.end) done.task.input.end (spent_seen done.end.spent) in
     told_case ws planned how text shelf shelf' sink sink' (record {
-      decided = run_decided (spent_seen done.spent);
-      words = run_fits (command_of ws) (λ c done. done.task.vcd.now ≡ c.vcd) done (spent_seen done.spent) text w;
+      decided = run_decided (spent_seen done.end.spent) (violations_of done.end);
+      words = run_fits (command_of ws) (λ c done. done.task.vcd.now ≡ c.vcd) done (spent_seen done.end.spent) (violations_of done.end) text w;
       faults = c;
       files = both_map (WorkLeaves ws (Ok done)) (IsRight ws planned text) shelf.files shelf'.files l (λ x y h. done_right ws done x y h);
     }) t

@@ -6,7 +6,7 @@ use Rattle.sg_io.specs.Files.{BothTell}
 use Rattle.sg_io.specs.Put.{SinkTold, Puts}
 use Rattle.sg_io.specs.declared.outside.ShelfError.{ShelfError}
 use Rattle.sg_io.specs.declared.outside.ShelfError.TheVariants as shelf
-use Rattle.signoff.specs.Putting.{PutsAll, PutsFirst, PutsBy, PutsLast, whole, till_fault, till_want}
+use Rattle.signoff.specs.Putting.{PutsAll, PutsFirst, PutsBy}
 
 -- what nothing changed, both tell
 pub both_same : {A : Type 0} (P : A → A → Type 0) (old new : Option A) → new ≡ old → ((x : A) → old ≡ Some x → P x x) → BothTell old new P
@@ -44,11 +44,6 @@ put_by bytes old new (Err shelf.NoMemory) h = record {
   faults = h.1;
   wants = h.2;
 }
-
-pub last_of : (text : List ℕ) (old new : SinkTold) (r : Result (Unit {0}) ShelfError) → PutsBy text old new r → PutsLast text old new
-last_of text old new (Ok u) h = whole h
-last_of text old new (Err shelf.Failed) h = till_fault h
-last_of text old new (Err shelf.NoMemory) h = till_want h
 
 -- the first bytes of a text are those of a longer one
 front_of : (n : ℕ) (a b : List ℕ) → (m : ℕ) × (take n a ≡ take m (a ++ b))

@@ -2,10 +2,10 @@
 use Rattle.std.proofs.Common.{◌≡◌, refl, sym, subst, inr, lit<, List, ℕ}
 use Rattle.std.specs.Prelude.{Option, Some, None, Result, Ok, Err, Contains}
 use Rattle.sg_io.specs.Files.{File, BothTell}
+use Rattle.wave_out.specs.Files.{LeavesPrefix}
 use Rattle.signoff.specs.Answer.{dump_of}
 use Rattle.signoff.specs.Phases.{TaskOutcome}
 use Rattle.signoff.specs.Promises.{FaultAt, at_dump, NamesFaultAt}
-use Rattle.signoff.specs.Runs.{LeavesPrefix}
 use Rattle.signoff.specs.Stops.{Gives, StopWords}
 use Rattle.signoff.specs.Tasks.{task_seen}
 use Rattle.signoff.specs.Words.{Command, command_of, names_in}

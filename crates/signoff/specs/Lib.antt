@@ -12,5 +12,6 @@ pub mod Putting
 pub mod Promises
 pub mod Stops
 pub mod Tasks
+pub mod RunEnds
 pub mod Work
 pub mod Program

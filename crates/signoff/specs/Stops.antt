@@ -1,6 +1,7 @@
 -- What the program's phases return, beside the outcomes that the definition has.
-use Rattle.std.specs.Prelude.{ℕ, ◌≡◌, Option, Some, None, Result, Ok, Err}
-use Rattle.sg_io.specs.Faults.{Rises}
+use Rattle.std.specs.Prelude.{◌≡◌, Option, Some, None, Result, Ok, Err}
+use Rattle.sg_io.specs.declared.outside.ShelfError.{ShelfError}
+use Rattle.sg_io.specs.declared.outside.ShelfError.TheVariants as shelf
 use Rattle.signoff.specs.Phases.{Refusal, words, missing, netlist, stimulus}
 use Rattle.signoff.specs.Words.{Command}
 use Rattle.signoff.specs.declared.stop.Stop as code_stop
@@ -25,12 +26,12 @@ IfOutcome view phase (Err stop.NoMemory) = Unit {0}
 pub record Gives {X A : Type 0} (view : X → A) (phase : Result A Refusal → Type 0) (result : Result X code_stop.Stop) : Type 0 where
   pub outcome : IfOutcome view phase result
 
--- a call outside failed only where the count rose; else the count stays
-abbrev pub StopCause : {X : Type 0} → ℕ → ℕ → Result X code_stop.Stop → Type 0
-StopCause before now (Ok x) = now ≡ before
-StopCause before now (Err (stop.Refused r)) = now ≡ before
-StopCause before now (Err stop.Failed) = Rises before now
-StopCause before now (Err stop.NoMemory) = now ≡ before
+-- how a phase ended, as calls outside end: a refusal is no failure of them
+abbrev pub end_of_phase : {X : Type 0} → Result X code_stop.Stop → Result Unit ShelfError
+end_of_phase (Ok x) = Ok tt
+end_of_phase (Err (stop.Refused r)) = Ok tt
+end_of_phase (Err stop.Failed) = Err shelf.Failed
+end_of_phase (Err stop.NoMemory) = Err shelf.NoMemory
 
 -- a phase that calls nothing outside doesn't fail
 abbrev pub NeverFails : {X : Type 0} → Result X code_stop.Stop → Type 0

@@ -1,15 +1,14 @@
 -- What joins the code of the work on the shelf, and of the telling to the sink, to the cases of the top call.
-use Rattle.std.specs.Prelude.{ℕ, ◌≡◌, List, [], map, Option, Result, Ok, Err, unwrap_or}
+use Rattle.std.specs.Prelude.{ℕ, ◌≡◌, List, [], Option, Result, Ok, Err, unwrap_or}
 use Rattle.sg_io.specs.Files.{File, HasAfter}
 use Rattle.sg_io.specs.Put.{SinkTold}
-use Rattle.sg_model.specs.Machine.{Violation}
-use Rattle.time_checks.specs.Seen.{violation_seen}
 use Rattle.wave_out.specs.Report.{report_lines}
 use Rattle.wave_out.specs.Spent.{spent_seen}
 use Rattle.signoff.specs.Answer.{dump_of, run_of, status_of_run, fault_line, report_fault_line, no_memory_line}
 use Rattle.signoff.specs.Phases.{TaskOutcome, refusal_line, status_of_refusal}
 use Rattle.signoff.specs.Promises.{LeavesUnfinished, PutsReport}
 use Rattle.signoff.specs.Putting.{PutsTillFault, PutsTillWant, PutsLast}
+use Rattle.signoff.specs.RunEnds.{violations_of}
 use Rattle.signoff.specs.Status.{IsRunEnd}
 use Rattle.signoff.specs.Stops.{refusal_seen}
 use Rattle.signoff.specs.Tasks.{task_seen}
@@ -17,12 +16,7 @@ use Rattle.signoff.specs.declared.status.Status.{Status}
 use Rattle.signoff.specs.declared.status.Status.TheVariants as status
 use Rattle.signoff.specs.declared.stop.Stop as code_stop
 use Rattle.signoff.specs.declared.stop.Stop.TheVariants as stop
-use Rattle.signoff.specs.declared.run.RunEnd as code_end
 use Rattle.signoff.specs.declared.work.Done as code_done
-
--- the violations that a run found
-abbrev pub violations_of : code_end.RunEnd → List Violation
-violations_of end = map (λ v. violation_seen v) end.violations.items
 
 -- the files after the work; what a failure leaves is said with the name of its file
 abbrev pub WorkLeaves : List (List ℕ) → Result code_done.Done code_stop.Stop → List File → List File → Type 0

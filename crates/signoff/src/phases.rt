@@ -1,11 +1,12 @@
 // The phases up to the run, one call for each.
 ghost use Rattle.std.specs.Prelude.{◌≡◌, List, Some, IfErr, IfOk, map, string_bytes};
+ghost use Rattle.sg_io.specs.Faults.{Cause};
 ghost use Rattle.sg_io.specs.Files.{File, bytes_of};
 ghost use Rattle.stim_read.specs.Applied.{IsApplied};
 ghost use Rattle.stim_read.specs.Seen.{stimulus_seen};
 ghost use Rattle.signoff.specs.Phases.{CircuitOutcome, FileOutcome, InputOutcome, NetlistOutcome, StimulusOutcome, TaskOutcome, WordsOutcome};
 ghost use Rattle.signoff.specs.Promises.{NamesFaultAt};
-ghost use Rattle.signoff.specs.Stops.{Gives, IfFailed, NeverFails, SparesWords, StopCause, StopWords};
+ghost use Rattle.signoff.specs.Stops.{Gives, IfFailed, NeverFails, SparesWords, StopWords, end_of_phase};
 ghost use Rattle.signoff.specs.Tasks.{task_seen};
 ghost use Rattle.signoff.specs.Words.{command_of, command_seen};
 
@@ -25,7 +26,6 @@ pub struct Task<'a> {
     pub circuit: Circuit,
     pub input: Stimulus,
     pub vcd: &'a str,
-    ghost applied: { IsApplied circuit (stimulus_seen input) },
 }
 
 // One byte more than an input file may have.
@@ -50,7 +50,7 @@ fn file_phase<'a, S: Shelf>(
     ensures gives { (files : List File) → S.files shelf.old ≡ Some files
         → Gives (λ v. v.items) (FileOutcome name.now (bytes_of name.now files)) result }
     ensures held { S.files shelf.new ≡ S.files shelf.old }
-    ensures cause { StopCause (S.fault_count shelf.old) (S.fault_count shelf.new) result }
+    ensures cause { Cause (S.fault_count shelf.old) (S.fault_count shelf.new) (end_of_phase result) }
     ensures named { IfFailed (S.last_fault shelf.new ≡ Some name.now) result }
     ensures words { IfErr result (λ s. SparesWords s) }
 {
@@ -100,7 +100,7 @@ fn circuit_of<'a, S: Shelf>(
 ) -> Result<Circuit, Stop<'a>>
     ensures gives { (files : List File) → S.files shelf.old ≡ Some files → Gives (λ c. c) (CircuitOutcome name.now files) result }
     ensures held { S.files shelf.new ≡ S.files shelf.old }
-    ensures cause { StopCause (S.fault_count shelf.old) (S.fault_count shelf.new) result }
+    ensures cause { Cause (S.fault_count shelf.old) (S.fault_count shelf.new) (end_of_phase result) }
     ensures named { IfFailed (S.last_fault shelf.new ≡ Some name.now) result }
     ensures words { IfErr result (λ s. SparesWords s) }
 {
@@ -119,7 +119,7 @@ fn input_of<'a, S: Shelf>(
         → Gives (λ s. stimulus_seen s) (InputOutcome name.now files circuit.now) result }
     ensures applied { IfOk result (λ s. IsApplied circuit.now (stimulus_seen s)) }
     ensures held { S.files shelf.new ≡ S.files shelf.old }
-    ensures cause { StopCause (S.fault_count shelf.old) (S.fault_count shelf.new) result }
+    ensures cause { Cause (S.fault_count shelf.old) (S.fault_count shelf.new) (end_of_phase result) }
     ensures named { IfFailed (S.last_fault shelf.new ≡ Some name.now) result }
     ensures words { IfErr result (λ s. SparesWords s) }
 {
@@ -135,8 +135,9 @@ pub fn task_of<'a, S: Shelf>(
 ) -> Result<Task<'a>, Stop<'a>>
     ensures gives { (files : List File) → S.files shelf.old ≡ Some files
         → Gives (λ t. task_seen t) (TaskOutcome (map (λ w. string_bytes w) words.now) files) result }
+    ensures applied { IfOk result (λ t. IsApplied t.circuit (stimulus_seen t.input)) }
     ensures held { S.files shelf.new ≡ S.files shelf.old }
-    ensures cause { StopCause (S.fault_count shelf.old) (S.fault_count shelf.new) result }
+    ensures cause { Cause (S.fault_count shelf.old) (S.fault_count shelf.new) (end_of_phase result) }
     ensures named { IfFailed (NamesFaultAt (map (λ w. string_bytes w) words.now) (S.files shelf.old) (S.files shelf.new) (S.last_fault shelf.new)) result }
     ensures words { StopWords (command_of (map (λ w. string_bytes w) words.now)) (λ c t. t.vcd.now ≡ c.vcd) result }
 {

@@ -1,8 +1,9 @@
 // All that the program does with the shelf.
 ghost use Rattle.std.specs.Prelude.{◌≡◌, map, string_bytes};
+ghost use Rattle.sg_io.specs.Faults.{Cause};
 ghost use Rattle.sg_io.specs.Files.{BothTell};
 ghost use Rattle.signoff.specs.Promises.{NamesFaultAt};
-ghost use Rattle.signoff.specs.Stops.{IfFailed, StopCause, StopWords};
+ghost use Rattle.signoff.specs.Stops.{IfFailed, StopWords, end_of_phase};
 ghost use Rattle.signoff.specs.Words.{command_of};
 ghost use Rattle.signoff.specs.Work.{WorkLeaves};
 
@@ -29,7 +30,7 @@ pub fn work<'a, S: Shelf>(
     shelf: &mut S,
 ) -> Result<Done<'a>, Stop<'a>>
     ensures left { BothTell (S.files shelf.old) (S.files shelf.new) (WorkLeaves (map (λ w. string_bytes w) words.now) result) }
-    ensures cause { StopCause (S.fault_count shelf.old) (S.fault_count shelf.new) result }
+    ensures cause { Cause (S.fault_count shelf.old) (S.fault_count shelf.new) (end_of_phase result) }
     ensures named { IfFailed (NamesFaultAt (map (λ w. string_bytes w) words.now) (S.files shelf.old) (S.files shelf.new) (S.last_fault shelf.new)) result }
     ensures words { StopWords (command_of (map (λ w. string_bytes w) words.now)) (λ c done. done.task.vcd.now ≡ c.vcd) result }
 {
