@@ -7,8 +7,8 @@ use Rattle.sg_circuit.specs.Circuit.{Circuit}
 use Rattle.signoff.specs.Answer.{Answer, IsAnswer, answer_of}
 use Rattle.signoff.specs.Phases.{Refusal, Then, stops, goes_on, Task, TaskOutcome, CircuitOutcome, InputOutcome, WordsOutcome, FileOutcome, NetlistOutcome, StimulusOutcome, status_of_refusal}
 use Rattle.signoff.specs.Words.{Command, command_of}
-use Rattle.signoff.proofs.NetlistLaws.{netlist-unique}
-use Rattle.signoff.proofs.StimulusLaws.{stimulus-unique}
+use Rattle.first_form.proofs.NetlistLaws.{netlist-unique}
+use Rattle.first_form.proofs.StimulusLaws.{stimulus-unique}
 
 -- two outcomes are one value, or two refusals of one status
 abbrev Agree : {A : Type 0} → Result A Refusal → Result A Refusal → Type 0

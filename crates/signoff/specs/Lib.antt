@@ -1,10 +1,5 @@
 -- The modules of this folder.
-pub mod Flat
 pub mod Words
-pub mod NetlistForm
-pub mod NetlistSeen
-pub mod StimulusForm
-pub mod StimulusLines
 pub mod Status
 pub mod Phases
 pub mod Answer

@@ -6,8 +6,8 @@ use Rattle.sg_circuit.specs.Circuit.{Circuit}
 use Rattle.stim_read.specs.Stimulus.{Stimulus}
 use Rattle.wave_out.specs.Texts.{line}
 use Rattle.signoff.specs.Words.{Command, command_of}
-use Rattle.signoff.specs.NetlistForm.{IsNetlist}
-use Rattle.signoff.specs.StimulusForm.{IsStimulus}
+use Rattle.first_form.specs.NetlistForm.{IsNetlist}
+use Rattle.first_form.specs.StimulusForm.{IsStimulus}
 use Rattle.signoff.specs.declared.status.Status.{Status}
 use Rattle.signoff.specs.declared.status.Status.TheVariants as status
 

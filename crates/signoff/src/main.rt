@@ -2,14 +2,11 @@
 #![tactic(auto)]
 
 mod answer;
-mod forms;
-mod netlist;
 mod phases;
 mod program;
 mod report;
 mod run;
 mod status;
-mod stimulus;
 mod stop;
 #[cfg(test)]
 mod tests;

@@ -10,11 +10,9 @@ ghost use Rattle.signoff.specs.Stops.{Gives, IfFailed, NeverFails, SparesWords, 
 ghost use Rattle.signoff.specs.Tasks.{task_seen};
 ghost use Rattle.signoff.specs.Words.{command_of, command_seen};
 
-use crate::forms::FormError;
-use crate::netlist::read_netlist;
-use crate::stimulus::read_stimulus;
 use crate::stop::{Refusal, Stop};
 use crate::words::{Command, read_words};
+use first_form::{FormError, read_netlist, read_stimulus};
 use sg_circuit::Circuit;
 use sg_io::{ReadError, Shelf};
 use std::alloc::Global;

@@ -1,0 +1,21 @@
+-- The modules of this folder.
+pub mod NetlistSplitting
+pub mod NetlistSpelling
+pub mod NetlistReading
+pub mod NetlistLists
+pub mod NetlistSoundness
+pub mod NetlistPlaces
+pub mod NetlistBuilding
+pub mod NetlistClosed
+pub mod NetlistLaws
+pub mod StimulusNumbers
+pub mod StimulusReading
+pub mod StimulusWords
+pub mod StimulusRows
+pub mod StimulusSets
+pub mod StimulusSpelling
+pub mod StimulusOneWay
+pub mod StimulusBodies
+pub mod StimulusApplied
+pub mod StimulusLaws
+pub mod FormExamples

@@ -1,8 +1,0 @@
-use Rattle.std.proofs.Common.{◌≡◌, take}
-use Rattle.std.specs.List.{flat_map}
-use Rattle.signoff.specs.NetlistForm.{inputs_in}
-use Rattle.signoff.specs.NetlistSeen.{names_seen, items_seen}
-use Rattle.signoff.proofs.netlist.declarations.inputs_of.Given as goal
-
-abbrev pub invariant-loop-item : goal.invariant-loop-item
-invariant-loop-item l = names_seen l.inputs.items ≡ flat_map inputs_in (items_seen (take l.item-index l.items))
