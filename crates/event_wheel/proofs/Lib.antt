@@ -1,0 +1,7 @@
+-- The modules of this folder.
+pub mod LinkLaws
+pub mod KeyLaws
+pub mod ChainLaws
+pub mod FamilyLaws
+pub mod OrderLaws
+pub mod IndexLaws

@@ -1,0 +1,118 @@
+// Looking along the chains of buckets, in which times don't fall.
+ghost use Rattle.std.specs.Prelude.{◌≡◌, ℕ, ◌<◌, ◌≤◌, ◌%◌, List, length, IfSome, IfNone};
+ghost use Rattle.event_wheel.specs.Slots.{node_at};
+ghost use Rattle.event_wheel.specs.Kept.{AreBuckets, NoNodeBelow, NoNode, IsNodesTime};
+ghost use Rattle.event_wheel.specs.Places.{IsBucketChain, IsPlace};
+
+use crate::chains::Ends;
+use crate::nodes::Nodes;
+use sg_steps::Steps;
+use std::sync::ledger::Ledger;
+
+/// Between which nodes of a bucket's chain, which ends with `last`, a time is put: behind all that are as early.
+pub fn place_of<L: Ledger>(
+    nodes: &Nodes,
+    last: Option<usize>,
+    time: u64,
+    steps: &mut Steps<L>,
+) -> (Option<usize>, Option<usize>)
+    requires { (keys : List ℕ) × IsBucketChain (node_at nodes.now) keys last }
+    ensures { (keys : List ℕ) → IsBucketChain (node_at nodes.now) keys last → IsPlace (node_at nodes.now) keys time result.0 result.1 }
+{
+    let mut before = last;
+    let mut after = None;
+    while let Some(key) = before {
+        let node = nodes.read(key, steps);
+        if node.time <= time {
+            return (before, after);
+        }
+        after = before;
+        before = node.links[0];
+    }
+    (before, after)
+}
+
+/// The bucket of a time.
+pub fn bucket_of(buckets: &[Ends], time: u64) -> usize
+    requires { 0 < length buckets.now }
+    ensures { result ≡ time % length buckets.now }
+{
+    (time % buckets.len() as u64) as usize
+}
+
+// The first time from `from` on at which a transition is pending, if it is within one turn.
+fn within_turn<L: Ledger>(
+    nodes: &Nodes,
+    buckets: &[Ends],
+    from: u64,
+    steps: &mut Steps<L>,
+) -> Option<u64>
+    requires some { 0 < length buckets.now }
+    requires buckets { AreBuckets (node_at nodes.now) buckets.now }
+    requires from { NoNodeBelow (node_at nodes.now) from }
+    ensures time { IfSome result (IsNodesTime (node_at nodes.now)) }
+    ensures first { IfSome result (NoNodeBelow (node_at nodes.now)) }
+{
+    for time in from..from.saturating_add(buckets.len() as u64) {
+        if let Some(key) = buckets[bucket_of(buckets, time)].first {
+            if nodes.read(key, steps).time == time {
+                return Some(time);
+            }
+        }
+    }
+    None
+}
+
+// The lesser of a time and another, if there is one.
+fn lesser(time: u64, other: Option<u64>) -> u64
+    ensures time { result ≤ time }
+    ensures other { IfSome other (λ o. result ≤ o) }
+    ensures one { IfSome other (λ o. (result ≡ time) ⊎ (result ≡ o)) }
+    ensures same { IfNone other (result ≡ time) }
+{
+    match other {
+        Some(other) => time.min(other),
+        None => time,
+    }
+}
+
+// The least time of all that are pending.
+fn least_of<L: Ledger>(nodes: &Nodes, buckets: &[Ends], steps: &mut Steps<L>) -> Option<u64>
+    requires some { 0 < length buckets.now }
+    requires buckets { AreBuckets (node_at nodes.now) buckets.now }
+    ensures time { IfSome result (IsNodesTime (node_at nodes.now)) }
+    ensures first { IfSome result (NoNodeBelow (node_at nodes.now)) }
+    ensures none { IfNone result (NoNode (node_at nodes.now)) }
+{
+    let mut least = None;
+    for ends in buckets {
+        if let Some(key) = ends.first {
+            least = Some(lesser(nodes.read(key, steps).time, least));
+        }
+    }
+    least
+}
+
+/// The first time at which a transition is pending. All chains are looked at only where that isn't within one turn from
+/// `from` on.
+pub fn first_time<L: Ledger>(
+    nodes: &Nodes,
+    buckets: &[Ends],
+    from: u64,
+    steps: &mut Steps<L>,
+) -> Option<u64>
+    requires some { 0 < length buckets.now }
+    requires buckets { AreBuckets (node_at nodes.now) buckets.now }
+    requires from { NoNodeBelow (node_at nodes.now) from }
+    ensures time { IfSome result (IsNodesTime (node_at nodes.now)) }
+    ensures first { IfSome result (NoNodeBelow (node_at nodes.now)) }
+    ensures none { IfNone result (NoNode (node_at nodes.now)) }
+{
+    if nodes.is_empty() {
+        return None;
+    }
+    match within_turn(nodes, buckets, from, steps) {
+        Some(time) => Some(time),
+        None => least_of(nodes, buckets, steps),
+    }
+}
