@@ -5,3 +5,6 @@ pub mod ChainLaws
 pub mod FamilyLaws
 pub mod OrderLaws
 pub mod IndexLaws
+pub mod EffectLaws
+pub mod TableLaws
+pub mod WheelLaws
