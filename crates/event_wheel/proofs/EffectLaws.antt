@@ -1,5 +1,5 @@
 -- Both families after a node was taken out of the store or put into it.
-use Rattle.std.proofs.Common.{◌≡◌, ◌≢◌, ℕ, zero, suc, ◌+◌, ◌<◌, ◌≤◌, ◌%◌, List, [], ◌∷◌, ◌++◌, ◌⊎◌, length, refl, sym, ◌∙◌, ap, subst, arith, inl, inr, IsSome}
+use Rattle.std.proofs.Common.{◌≡◌, ◌≢◌, ℕ, zero, suc, ◌+◌, ◌==◌, true, false, if◌then◌else◌, ◌<◌, ◌≤◌, ◌%◌, List, [], ◌∷◌, ◌++◌, ◌⊎◌, length, refl, sym, ◌∙◌, ap, subst, arith, inl, inr, IsSome}
 use Rattle.std.specs.Prelude.{slice_index_or, slice_set}
 use Rattle.std.proofs.lemmas.Bool.{cases_lt}
 use Rattle.std.specs.declared.option.Option.{Option}
@@ -38,6 +38,20 @@ pub none-taken : (m : Store) (k : ℕ) (node : Node) → taken_store m k node k 
 none-taken m k node =
     none-relinked (relinked_store (removed_store m k) (link_of node 0) (link_of node 1) 0 (link_of node 1) (link_of node 0)) (link_of node 2) (link_of node 3) 2 (link_of node 3) (link_of node 2) k
     (none-relinked (removed_store m k) (link_of node 0) (link_of node 1) 0 (link_of node 1) (link_of node 0) k (removed-same m k k refl))
+
+-- where there is no node, none comes but the new one
+none_removed : (m : Store) (k j : ℕ) → m j ≡ None → removed_store m k j ≡ None
+none_removed m k j e = elim (j == k) as (λ c. (if c then None else m j) ≡ None) [ true ↦ refl | false ↦ e ]
+
+pub none_taken : (m : Store) (k : ℕ) (node : Node) (j : ℕ) → m j ≡ None → taken_store m k node j ≡ None
+none_taken m k node j e =
+    none-relinked (relinked_store (removed_store m k) (link_of node 0) (link_of node 1) 0 (link_of node 1) (link_of node 0)) (link_of node 2) (link_of node 3) 2 (link_of node 3) (link_of node 2) j
+    (none-relinked (removed_store m k) (link_of node 0) (link_of node 1) 0 (link_of node 1) (link_of node 0) j (none_removed m k j e))
+
+pub none_put : (m : Store) (k : ℕ) (node : Node) (j : ℕ) → j ≢ k → m j ≡ None → put_store m k node j ≡ None
+none_put m k node j o e =
+    none-relinked (relinked_store (added_store m k node) (link_of node 0) (link_of node 1) 0 (Some k) (Some k)) (link_of node 2) (link_of node 3) 2 (Some k) (Some k) j
+    (none-relinked (added_store m k node) (link_of node 0) (link_of node 1) 0 (Some k) (Some k) j (added-other m k node j o ∙ e))
 
 pub pair-put : (m : Store) (k : ℕ) (node : Node) (x : ℕ) → pair_of (put_store m k node x) ≡ pair_of (added_store m k node x)
 pair-put m k node x =

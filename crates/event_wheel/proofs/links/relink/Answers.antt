@@ -1,2 +1,2 @@
-use Rattle.event_wheel.proofs.EffectLaws.{buckets-put}
+use Rattle.event_wheel.proofs.WheelLaws.{has_put}
 use Rattle.event_wheel.proofs.links.relink.Goals as goal
