@@ -199,7 +199,7 @@ walk-chain (suc n) m b a prev (k ∷ ks) l h =
     let step : next_of (m k) a ≡ head_or None ks = ap (λ s. next_of s a) h.0.held ∙ h.0.after in
     ap (λ o. k ∷ walk n m a o) step ∙ ap (λ l. k ∷ l) (walk-chain n m b a (Some k) ks (omega arith) h.1)
 
-last_or-reverse : (next : Option ℕ) (ks : List ℕ) → last_or next (reverse ks) ≡ head_or next ks
+pub last_or-reverse : (next : Option ℕ) (ks : List ℕ) → last_or next (reverse ks) ≡ head_or next ks
 last_or-reverse next [] = refl
 last_or-reverse next (k ∷ ks) = ap (last_or next) (reverse-append (k ∷ []) ks) ∙ last_or-append next (reverse ks) k []
 

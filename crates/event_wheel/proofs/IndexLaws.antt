@@ -19,7 +19,7 @@ use Rattle.event_wheel.proofs.FamilyLaws.{with_chain, with-same, with-other, fam
 use Rattle.event_wheel.proofs.OrderLaws.{pairs-append, pairs-same, ordered-without, ordered-with}
 
 -- the ends
-same_ends : (f f' l l' : Option ℕ) → f ≡ f' → l ≡ l' → (let e : Ends = record { first = f; last = l } in e) ≡ (let e : Ends = record { first = f'; last = l' } in e)
+pub same_ends : (f f' l l' : Option ℕ) → f ≡ f' → l ≡ l' → (let e : Ends = record { first = f; last = l } in e) ≡ (let e : Ends = record { first = f'; last = l' } in e)
 same_ends f f' l l' p q = cc
 
 end_or-some : (o new old : Option ℕ) (k : ℕ) → o ≡ Some k → end_or o new old ≡ old

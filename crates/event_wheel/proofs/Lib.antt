@@ -8,3 +8,6 @@ pub mod IndexLaws
 pub mod EffectLaws
 pub mod TableLaws
 pub mod WheelLaws
+pub mod EmptyLaws
+pub mod WriteLaws
+pub mod PlaceLaws

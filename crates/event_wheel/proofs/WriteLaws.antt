@@ -1,0 +1,18 @@
+-- The ends of one chain are written.
+use Rattle.std.proofs.Common.{◌≡◌, ℕ, ◌<◌, List, sym, ◌∙◌, ap, length}
+use Rattle.std.specs.Prelude.{slice_index_or, slice_set}
+use Rattle.std.proofs.lemmas.List.{get_or_default}
+use Rattle.std.specs.declared.option.Option.{Option}
+use Rattle.event_wheel.specs.declared.chains.Ends.{Ends}
+use Rattle.event_wheel.specs.Links.{joined}
+use Rattle.event_wheel.specs.Families.{no_ends}
+
+-- what was read at a place is what a default gives there
+pub read_ends : (xs : List Ends) (i : ℕ) (e : Ends) → i < length xs → e ≡ slice_index_or xs i e → e ≡ slice_index_or xs i no_ends
+read_ends xs i e l h = h ∙ get_or_default xs i e no_ends l
+
+pub ends_joined : (xs : List Ends) (i j : ℕ) (e after : Ends) (p q f l : Option ℕ) → i ≡ j → j < length xs → e ≡ slice_index_or xs i e → after ≡ joined e p q f l
+    → slice_set xs i after ≡ slice_set xs j (joined (slice_index_or xs j no_ends) p q f l)
+ends_joined xs i j e after p q f l same within read is =
+    let at : e ≡ slice_index_or xs j no_ends = read_ends xs j e within (read ∙ ap (λ n. slice_index_or xs n e) same) in
+    ap (λ n. slice_set xs n after) same ∙ ap (slice_set xs j) (is ∙ ap (λ (x : Ends). joined x p q f l) at)
