@@ -1,5 +1,5 @@
 -- A node comes into a wheel's chains, or goes out of them.
-use Rattle.std.proofs.Common.{◌≡◌, ◌≢◌, ℕ, ◌<◌, ◌≤◌, ◌%◌, List, [], ◌∷◌, ◌++◌, ◌⊎◌, length, reverse, refl, sym, ◌∙◌, ap, subst, arith, inl, inr}
+use Rattle.std.proofs.Common.{◌≡◌, ◌≢◌, ℕ, zero, suc, IsSome, ◌<◌, ◌≤◌, ◌%◌, List, [], ◌∷◌, ◌++◌, ◌⊎◌, length, reverse, refl, sym, ◌∙◌, ap, subst, arith, inl, inr}
 use Rattle.std.specs.Prelude.{slice_index_or, slice_set}
 use Rattle.std.proofs.lemmas.Bool.{cases_eq}
 use Rattle.std.proofs.lemmas.List.{append-nil, length-set}
@@ -12,12 +12,12 @@ use Rattle.event_wheel.specs.declared.nodes.Node.{Node}
 use Rattle.event_wheel.specs.declared.chains.Ends.{Ends}
 use Rattle.event_wheel.specs.Slots.{Held, node_at, link_of}
 use Rattle.event_wheel.specs.Keys.{Has, AreDistinct, IsOutside}
-use Rattle.event_wheel.specs.Links.{Store, linked, joined, taken_store, put_store, added_store}
+use Rattle.event_wheel.specs.Links.{Store, AreNeighbours, linked, joined, taken_store, put_store, added_store}
 use Rattle.event_wheel.specs.Chains.{head_or, last_or}
 use Rattle.event_wheel.specs.Families.{IsIndexed, IsAfter, IsBefore, pair_of, pairs_at, no_ends, ends_of}
 use Rattle.event_wheel.specs.Kept.{AreBuckets, AreDrivers, AreChained, HasPut, HasTaken, NoNodeBelow, bucket_of, driver_of, table_of}
 use Rattle.event_wheel.specs.Places.{IsBucketChain, IsPlace}
-use Rattle.event_wheel.proofs.LinkLaws.{added-other, added-key}
+use Rattle.event_wheel.proofs.LinkLaws.{added-other, added-key, is_some-of}
 use Rattle.event_wheel.proofs.KeyLaws.{has-left, has-right, last-in, head-has, outside-not, nothing_after_last}
 use Rattle.event_wheel.proofs.FamilyLaws.{with_chain, with-same, with-other, one-chain}
 use Rattle.event_wheel.proofs.OrderLaws.{pairs-append, pairs-same, after-above}
@@ -172,3 +172,31 @@ has_put old new buckets drivers buckets' drivers' k node h within four above pla
         ];
       };
     }
+
+-- the neighbours of a node that is put in
+pub put_neighbours : (held : Held) (buckets drivers : List Ends) (driver time : ℕ) (before after last : Option ℕ) → AreChained held buckets drivers → driver < length drivers
+    → ((keys : List ℕ) → IsBucketChain (node_at held) keys (slice_index_or buckets (time % length buckets) no_ends).last → IsPlace (node_at held) keys time before after)
+    → last ≡ (slice_index_or drivers driver no_ends).last → AreNeighbours (node_at held) (before ∷ after ∷ last ∷ None ∷ [])
+put_neighbours held buckets drivers driver time before after last h within place is_last = record { each = each }
+  where
+    some : 0 < length buckets
+    some = h.some
+
+    inside : time % length buckets < length buckets
+    inside = let l = h.some in omega arith
+
+    at : IsPlace (node_at held) (h.by_time.chains (time % length buckets)) time before after
+    at = place (h.by_time.chains (time % length buckets)) (bucket_chain (node_at held) buckets (time % length buckets) h.by_time inside)
+
+    in_bucket : (k : ℕ) → Has k (at.front ++ at.back) → IsSome (node_at held k)
+    in_bucket k g = let s = h.by_time.indexed.family.sound (time % length buckets) k inside (subst (Has k) (sym at.whole) g) in is_some-of (node_at held k) s.0 s.1
+
+    in_driver : (k : ℕ) → last_or None (h.by_driver.chains driver) ≡ Some k → IsSome (node_at held k)
+    in_driver k e = let s = h.by_driver.indexed.family.sound driver k within (last-in (h.by_driver.chains driver) k e) in is_some-of (node_at held k) s.0 s.1
+
+    each : (side k : ℕ) → slice_index_or (before ∷ after ∷ last ∷ None ∷ []) side None ≡ Some k → IsSome (node_at held k)
+    each zero k e = in_bucket k (has-left k at.front at.back (last-in at.front k (sym at.before_is ∙ e)))
+    each (suc zero) k e = in_bucket k (has-right k at.front at.back (head-has at.back k (sym at.after_is ∙ e)))
+    each (suc (suc zero)) k e = in_driver k (sym (is_last ∙ ap (λ (x : Ends). x.last) (h.by_driver.indexed.ends_are driver within)) ∙ e)
+    each (suc (suc (suc zero))) k e = cc
+    each (suc (suc (suc (suc side)))) k e = cc
