@@ -11,3 +11,4 @@ pub mod WheelLaws
 pub mod EmptyLaws
 pub mod WriteLaws
 pub mod PlaceLaws
+pub mod SearchLaws

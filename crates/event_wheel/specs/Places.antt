@@ -1,7 +1,8 @@
--- A place in a chain of a bucket.
-use Rattle.std.specs.Prelude.{◌≡◌, ℕ, ◌≤◌, List, ◌++◌}
+-- Places in the chains of buckets.
+use Rattle.std.specs.Prelude.{◌≡◌, ℕ, ◌≤◌, ◌⊎◌, List, ◌++◌}
 use Rattle.std.specs.declared.option.Option.{Option}
 use Rattle.std.specs.declared.option.Option.TheVariants.{Some, None}
+use Rattle.event_wheel.specs.declared.nodes.Node.{Node}
 use Rattle.event_wheel.specs.Keys.{AreDistinct}
 use Rattle.event_wheel.specs.Links.{Store}
 use Rattle.event_wheel.specs.Chains.{head_or, last_or, Chain}
@@ -23,3 +24,20 @@ pub record IsPlace (m : Store) (keys : List ℕ) (time : ℕ) (before after : Op
   pub after_is : after ≡ head_or None back
   pub earlier : IsAfter (λ s t. s ≤ t) time (pairs_at m front)
   pub later : IsBefore (λ s t. s ≤ t) time (pairs_at m back)
+
+-- a node's time
+abbrev pub HasTime : Option Node → ℕ → Type 0
+HasTime None time = ⊥
+HasTime (Some node) time = node.time ≡ time
+
+-- the first node's time
+abbrev pub BeginsAt : Store → Option ℕ → ℕ → Type 0
+BeginsAt m None time = ⊥
+BeginsAt m (Some key) time = HasTime (m key) time
+
+-- the lesser of a time and that of a first node, where there are such
+abbrev pub IsLesser : Store → Option ℕ → Option ℕ → Option ℕ → Type 0
+IsLesser m None least result = result ≡ least
+IsLesser m (Some key) least result =
+    (node : Node) × (m key ≡ Some node) × ((time : ℕ) × (result ≡ Some time) × (time ≤ node.time) × ((time ≡ node.time) ⊎ (least ≡ Some time))
+    × ((other : ℕ) → least ≡ Some other → time ≤ other))

@@ -1,8 +1,10 @@
 // Looking along the chains of buckets, in which times don't fall.
-ghost use Rattle.std.specs.Prelude.{◌≡◌, ℕ, ◌<◌, ◌≤◌, ◌%◌, List, length, IfSome, IfNone};
+ghost use Rattle.std.specs.Prelude.{◌≡◌, ℕ, ◌<◌, ◌≤◌, ◌%◌, List, length, IfSome, IfNone, IsSome};
+ghost use Rattle.std.specs.Option.{ForSome};
+ghost use Rattle.std.specs.Bool.{OnTrue, OnFalse};
 ghost use Rattle.event_wheel.specs.Slots.{node_at};
 ghost use Rattle.event_wheel.specs.Kept.{AreBuckets, NoNodeBelow, NoNode, IsNodesTime};
-ghost use Rattle.event_wheel.specs.Places.{IsBucketChain, IsPlace};
+ghost use Rattle.event_wheel.specs.Places.{IsBucketChain, IsPlace, BeginsAt, IsLesser};
 
 use crate::chains::Ends;
 use crate::nodes::Nodes;
@@ -40,6 +42,23 @@ pub fn bucket_of(buckets: &[Ends], time: u64) -> usize
     (time % buckets.len() as u64) as usize
 }
 
+// Whether the chain that begins with a key has a first node, of this time.
+fn begins_at<L: Ledger>(
+    nodes: &Nodes,
+    first: Option<usize>,
+    time: u64,
+    steps: &mut Steps<L>,
+) -> bool
+    requires { ForSome first (λ key. IsSome (node_at nodes.now key)) }
+    ensures yes { OnTrue result (BeginsAt (node_at nodes.now) first time) }
+    ensures no { OnFalse result (¬ BeginsAt (node_at nodes.now) first time) }
+{
+    match first {
+        Some(key) => nodes.read(key, steps).time == time,
+        None => false,
+    }
+}
+
 // The first time from `from` on at which a transition is pending, if it is within one turn.
 fn within_turn<L: Ledger>(
     nodes: &Nodes,
@@ -54,25 +73,31 @@ fn within_turn<L: Ledger>(
     ensures first { IfSome result (NoNodeBelow (node_at nodes.now)) }
 {
     for time in from..from.saturating_add(buckets.len() as u64) {
-        if let Some(key) = buckets[bucket_of(buckets, time)].first {
-            if nodes.read(key, steps).time == time {
-                return Some(time);
-            }
+        let first = buckets[bucket_of(buckets, time)].first;
+        if begins_at(nodes, first, time, steps) {
+            return Some(time);
         }
     }
     None
 }
 
-// The lesser of a time and another, if there is one.
-fn lesser(time: u64, other: Option<u64>) -> u64
-    ensures time { result ≤ time }
-    ensures other { IfSome other (λ o. result ≤ o) }
-    ensures one { IfSome other (λ o. (result ≡ time) ⊎ (result ≡ o)) }
-    ensures same { IfNone other (result ≡ time) }
+// The lesser of a time and that of a chain's first node, where there are such.
+fn lesser<L: Ledger>(
+    nodes: &Nodes,
+    first: Option<usize>,
+    least: Option<u64>,
+    steps: &mut Steps<L>,
+) -> Option<u64>
+    requires { ForSome first (λ key. IsSome (node_at nodes.now key)) }
+    ensures { IsLesser (node_at nodes.now) first least result }
 {
-    match other {
-        Some(other) => time.min(other),
-        None => time,
+    let Some(key) = first else {
+        return least;
+    };
+    let time = nodes.read(key, steps).time;
+    match least {
+        Some(least) => Some(time.min(least)),
+        None => Some(time),
     }
 }
 
@@ -86,9 +111,7 @@ fn least_of<L: Ledger>(nodes: &Nodes, buckets: &[Ends], steps: &mut Steps<L>) ->
 {
     let mut least = None;
     for ends in buckets {
-        if let Some(key) = ends.first {
-            least = Some(lesser(nodes.read(key, steps).time, least));
-        }
+        least = lesser(nodes, ends.first, least, steps);
     }
     least
 }
