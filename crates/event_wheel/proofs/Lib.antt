@@ -11,4 +11,5 @@ pub mod WheelLaws
 pub mod EmptyLaws
 pub mod WriteLaws
 pub mod PlaceLaws
+pub mod AgendaLaws
 pub mod SearchLaws

@@ -58,6 +58,7 @@ IsNodesTime m time = (key : ℕ) × (node : Node) × (m key ≡ Some node) × (n
 
 -- what a wheel keeps
 pub record IsWheel (held : Held) (buckets drivers : List Ends) (earliest : ℕ) : Type 0 where
+  pub few : length buckets ≤ 1048576
   pub chained : AreChained held buckets drivers
   pub from : NoNodeBelow (node_at held) earliest
 
