@@ -1,7 +1,10 @@
 -- What an agenda promises, of the table that a wheel stands for.
-use Rattle.std.proofs.Common.{◌≡◌, ◌≢◌, ℕ, zero, suc, ◌<◌, ◌≤◌, ◌%◌, ◌==◌, true, false, if◌then◌else◌, List, [], ◌∷◌, ◌++◌, ◌⊎◌, length, reverse, refl, sym, ◌∙◌, ap, subst, arith, inl, inr}
+use Rattle.std.proofs.Common.{◌≡◌, ◌≢◌, ℕ, zero, suc, ◌<◌, ◌≤◌, ◌%◌, ◌==◌, Bool, true, false, if◌then◌else◌, List, [], ◌∷◌, ◌++◌, ◌⊎◌, length, reverse, refl, sym, ◌∙◌, ap, subst, arith, inl, inr}
 use Rattle.std.specs.Prelude.{slice_index_or}
 use Rattle.std.specs.List.{Contains}
+use Rattle.std.specs.Bool.{OnTrue, OnFalse}
+use Rattle.std.specs.Option.{is_some}
+use Rattle.std.proofs.lemmas.Bool.{OnTrue_from, OnFalse_from}
 use Rattle.std.proofs.lemmas.Bool.Decides.{nat_tests}
 use Rattle.std.proofs.lemmas.List.{reverse-append, reverse-reverse}
 use Rattle.std.specs.declared.option.Option.{Option}
@@ -18,10 +21,12 @@ use Rattle.event_wheel.specs.Chains.{head_or, last_or, Chain}
 use Rattle.event_wheel.specs.Families.{IsOrdered, IsBefore, pair_of, pairs_at, no_ends}
 use Rattle.event_wheel.specs.Kept.{AreChained, AreBuckets, AreDrivers, HasTaken, NoNodeBelow, NoNode, IsNodesTime, bucket_of, driver_of, table_of, view_of}
 use Rattle.event_wheel.specs.Wheel.{WheelView, HoldsPairs, IsBucket, IsNodeOf, Leads}
+use Rattle.event_wheel.specs.Places.{StartsAt}
 use Rattle.event_wheel.proofs.OrderLaws.{pairs-append, before-parts, before-has}
 use Rattle.event_wheel.proofs.TableLaws.{IsTabled, table_at, in_table, to_table, length-table, table-ordered}
 use Rattle.event_wheel.proofs.WheelLaws.{time_is}
 use Rattle.event_wheel.proofs.PlaceLaws.{last_split, last_none}
+use Rattle.event_wheel.proofs.SearchLaws.{begins_is, none_at}
 
 -- the list without its last pair
 without_last-push : (ps : List (ℕ × Value)) (p : ℕ × Value) → without_last (ps ++ p ∷ []) ≡ ps
@@ -258,3 +263,48 @@ from-slots old new time e h = subst (λ (s : List (Option Node)). NoNodeBelow (�
 -- a driver of a wheel that is seen
 pub driver_in : (held : Held) (buckets drivers : List Ends) (v : WheelView) (d : ℕ) → view_of held buckets drivers ≡ v → d < length v.lists → d < length drivers
 driver_in held buckets drivers v d e l = in_table held drivers d (subst (λ (w : WheelView). d < length w.lists) (sym e) l)
+
+-- whether a driver has a transition
+is_some_true : (o : Option ℕ) → is_some o ≡ true → (k : ℕ) × (o ≡ Some k)
+is_some_true None e = cc
+is_some_true (Some k) e = (k, refl)
+
+is_some_false : (o : Option ℕ) → is_some o ≡ false → o ≡ None
+is_some_false None e = refl
+is_some_false (Some k) e = cc
+
+pub has_yes : (held : Held) (buckets drivers : List Ends) (v : WheelView) (d : ℕ) (last : Option ℕ) (b : Bool) → AreChained held buckets drivers → view_of held buckets drivers ≡ v → d < length v.lists → last ≡ (slice_index_or drivers d no_ends).last → b ≡ is_some last
+    → OnTrue b (0 < length (list_at v.lists d))
+has_yes held buckets drivers v d last b h e l is eb =
+    OnTrue_from b (0 < length (list_at v.lists d))
+    (λ t. let k = is_some_true last (sym eb ∙ t) in
+        let within = driver_in held buckets drivers v d e l in
+        subst (λ (w : WheelView). 0 < length (list_at w.lists d)) e (list_some held drivers h.by_driver.chains d k.0 h.by_driver.indexed within (sym is ∙ k.1)))
+
+pub has_no : (held : Held) (buckets drivers : List Ends) (v : WheelView) (d : ℕ) (last : Option ℕ) (b : Bool) → AreChained held buckets drivers → view_of held buckets drivers ≡ v → d < length v.lists → last ≡ (slice_index_or drivers d no_ends).last → b ≡ is_some last
+    → OnFalse b (list_at v.lists d ≡ [])
+has_no held buckets drivers v d last b h e l is eb =
+    OnFalse_from b (list_at v.lists d ≡ [])
+    (λ t. let none = is_some_false last (sym eb ∙ t) in
+        let within = driver_in held buckets drivers v d e l in
+        subst (λ (w : WheelView). list_at w.lists d ≡ []) e (list_none held drivers h.by_driver.chains d h.by_driver.indexed within (sym is ∙ none)))
+
+-- nothing is due where its bucket doesn't begin with it
+pub unmet_none : (m : Store) (first : Option ℕ) (now : ℕ) → first ≡ None → StartsAt m first now → ⊥
+unmet_none m None now e h = h
+unmet_none m (Some k) now e h = cc
+
+pub unmet_other : (m : Store) (first : Option ℕ) (key now : ℕ) (node : Node) → first ≡ Some key → m key ≡ Some node → node.time ≢ now → StartsAt m first now → ⊥
+unmet_other m first key now node e h d b =
+    let r = begins_is m first now b in
+    let same : r.0 ≡ key = (let y : Some r.0 ≡ Some key = sym r.2 ∙ e in cc) in
+    let node_same : r.1 ≡ node = (let y : Some r.1 ≡ Some node = sym r.3 ∙ (ap m same ∙ h) in cc) in
+    d (ap (λ (x : Node). x.time) (sym node_same) ∙ r.4)
+
+pub nothing_due : (held : Held) (buckets drivers : List Ends) (v : WheelView) (now i : ℕ) (first : Option ℕ) → AreChained held buckets drivers → view_of held buckets drivers ≡ v → NothingBelow now v.lists → i ≡ now % length buckets → first ≡ (slice_index_or buckets i no_ends).first
+    → (StartsAt (node_at held) first now → ⊥) → NothingDue now v.lists
+nothing_due held buckets drivers v now i first h e below ei ef unmet =
+    let D = h.by_driver in
+    let from : NoNodeBelow (node_at held) now = nodes_from held drivers D.chains now D.indexed (subst (λ (w : WheelView). NothingBelow now w.lists) (sym e) below) in
+    subst (λ (w : WheelView). NothingDue now w.lists) e
+    (no_due held drivers D.chains now D.indexed (none_at (node_at held) buckets i now first h.by_time h.some ei ef from unmet))

@@ -13,7 +13,7 @@ use Rattle.event_wheel.specs.Links.{Store}
 use Rattle.event_wheel.specs.Chains.{head_or}
 use Rattle.event_wheel.specs.Families.{pair_of, pairs_at, IsOrdered, no_ends}
 use Rattle.event_wheel.specs.Kept.{AreBuckets, NoNodeBelow, NoNode, IsNodesTime, bucket_of}
-use Rattle.event_wheel.specs.Places.{BeginsAt, HasTime, IsLesser}
+use Rattle.event_wheel.specs.Places.{StartsAt, HasTime, IsLesser}
 use Rattle.event_wheel.proofs.LinkLaws.{is_some-of}
 use Rattle.event_wheel.proofs.KeyLaws.{head-has}
 use Rattle.event_wheel.proofs.OrderLaws.{before-has}
@@ -62,7 +62,7 @@ pub first_held : (m : Store) (buckets : List Ends) (i : ℕ) (first : Option ℕ
 first_held m buckets i first b l e = λ key g. let f = is_first m buckets i key b l (sym e ∙ g) in is_some-of (m key) f.node f.held
 
 -- the time of the first node
-pub begins_is : (m : Store) (first : Option ℕ) (time : ℕ) → BeginsAt m first time → (key : ℕ) × (node : Node) × (first ≡ Some key) × (m key ≡ Some node) × (node.time ≡ time)
+pub begins_is : (m : Store) (first : Option ℕ) (time : ℕ) → StartsAt m first time → (key : ℕ) × (node : Node) × (first ≡ Some key) × (m key ≡ Some node) × (node.time ≡ time)
 begins_is m None time h = absurd h
 begins_is m (Some key) time h = at (m key) refl h
   where
@@ -70,14 +70,14 @@ begins_is m (Some key) time h = at (m key) refl h
     at None e g = absurd g
     at (Some node) e g = (key, node, refl, e, g)
 
-pub begins_time : (m : Store) (first : Option ℕ) (time : ℕ) → BeginsAt m first time → IsNodesTime m time
+pub begins_time : (m : Store) (first : Option ℕ) (time : ℕ) → StartsAt m first time → IsNodesTime m time
 begins_time m first time h = let r = begins_is m first time h in (r.0, r.1, r.3, r.4)
 
-is_begin : (m : Store) (key time : ℕ) (node : Node) → m key ≡ Some node → node.time ≡ time → BeginsAt m (Some key) time
+is_begin : (m : Store) (key time : ℕ) (node : Node) → m key ≡ Some node → node.time ≡ time → StartsAt m (Some key) time
 is_begin m key time node e h = subst (λ s. HasTime s time) (sym e) h
 
 -- where the first node of its bucket isn't of a time from which on all are, none is of it
-pub none_at : (m : Store) (buckets : List Ends) (i time : ℕ) (first : Option ℕ) → AreBuckets m buckets → 0 < length buckets → i ≡ time % length buckets → first ≡ (slice_index_or buckets i no_ends).first → NoNodeBelow m time → (BeginsAt m first time → ⊥)
+pub none_at : (m : Store) (buckets : List Ends) (i time : ℕ) (first : Option ℕ) → AreBuckets m buckets → 0 < length buckets → i ≡ time % length buckets → first ≡ (slice_index_or buckets i no_ends).first → NoNodeBelow m time → (StartsAt m first time → ⊥)
     → (k : ℕ) (node : Node) → m k ≡ Some node → node.time ≡ time → ⊥
 none_at m buckets i time None b some ei e below unmet k node h g =
     none_first m buckets i b (let l : time % length buckets < length buckets = omega arith in omega arith) (sym e) k node h (ap (λ t. t % length buckets) g ∙ sym ei)
@@ -88,7 +88,7 @@ none_at m buckets i time (Some key) b some ei e below unmet k node h g =
     let high : time ≤ f.node.time = below.each key f.node f.held in
     unmet (is_begin m key time f.node f.held (omega arith))
 
-pub below_more : (m : Store) (buckets : List Ends) (i time : ℕ) (first : Option ℕ) → AreBuckets m buckets → 0 < length buckets → i ≡ time % length buckets → first ≡ (slice_index_or buckets i no_ends).first → NoNodeBelow m time → (BeginsAt m first time → ⊥)
+pub below_more : (m : Store) (buckets : List Ends) (i time : ℕ) (first : Option ℕ) → AreBuckets m buckets → 0 < length buckets → i ≡ time % length buckets → first ≡ (slice_index_or buckets i no_ends).first → NoNodeBelow m time → (StartsAt m first time → ⊥)
     → NoNodeBelow m (time + 1)
 below_more m buckets i time first b some ei e below unmet =
     record {

@@ -31,9 +31,9 @@ HasTime None time = ⊥
 HasTime (Some node) time = node.time ≡ time
 
 -- the first node's time
-abbrev pub BeginsAt : Store → Option ℕ → ℕ → Type 0
-BeginsAt m None time = ⊥
-BeginsAt m (Some key) time = HasTime (m key) time
+abbrev pub StartsAt : Store → Option ℕ → ℕ → Type 0
+StartsAt m None time = ⊥
+StartsAt m (Some key) time = HasTime (m key) time
 
 -- the lesser of a time and that of a first node, where there are such
 abbrev pub IsLesser : Store → Option ℕ → Option ℕ → Option ℕ → Type 0

@@ -4,7 +4,7 @@ ghost use Rattle.std.specs.Option.{ForSome};
 ghost use Rattle.std.specs.Bool.{OnTrue, OnFalse};
 ghost use Rattle.event_wheel.specs.Slots.{node_at};
 ghost use Rattle.event_wheel.specs.Kept.{AreBuckets, NoNodeBelow, NoNode, IsNodesTime};
-ghost use Rattle.event_wheel.specs.Places.{IsBucketChain, IsPlace, BeginsAt, IsLesser};
+ghost use Rattle.event_wheel.specs.Places.{IsBucketChain, IsPlace, StartsAt, IsLesser};
 
 use crate::chains::Ends;
 use crate::nodes::Nodes;
@@ -50,8 +50,8 @@ fn begins_at<L: Ledger>(
     steps: &mut Steps<L>,
 ) -> bool
     requires { ForSome first (λ key. IsSome (node_at nodes.now key)) }
-    ensures yes { OnTrue result (BeginsAt (node_at nodes.now) first time) }
-    ensures no { OnFalse result (¬ BeginsAt (node_at nodes.now) first time) }
+    ensures yes { OnTrue result (StartsAt (node_at nodes.now) first time) }
+    ensures no { OnFalse result (¬ StartsAt (node_at nodes.now) first time) }
 {
     match first {
         Some(key) => nodes.read(key, steps).time == time,
