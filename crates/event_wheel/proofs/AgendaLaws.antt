@@ -40,9 +40,9 @@ nil_after [] = refl
 nil_after (p ∷ ps) = ap (λ qs. p ∷ qs) (nil_after ps)
 
 -- a driver's last node was taken
-pub cancelled : (old new : Held) (buckets drivers buckets' drivers' : List Ends) (driver k : ℕ) (node : Node) → HasTaken old buckets drivers new buckets' drivers' k node → driver < length drivers → (slice_index_or drivers driver no_ends).last ≡ Some k
+pub cancel_drops_last : (old new : Held) (buckets drivers buckets' drivers' : List Ends) (driver k : ℕ) (node : Node) → HasTaken old buckets drivers new buckets' drivers' k node → driver < length drivers → (slice_index_or drivers driver no_ends).last ≡ Some k
     → table_of new drivers' ≡ with_list (table_of old drivers) driver (without_last (list_at (table_of old drivers) driver))
-cancelled old new buckets drivers buckets' drivers' driver k node h l e =
+cancel_drops_last old new buckets drivers buckets' drivers' driver k node h l e =
     let t : List (List (ℕ × Value)) = table_of old drivers in
     let r = h.last driver l e in
     let list : list_at t driver ≡ h.front ++ (node.time, node.value) ∷ [] = ap (list_at t) (sym r.0) ∙ (h.list ∙ ap (λ qs. h.front ++ (node.time, node.value) ∷ qs) r.1) in
@@ -122,9 +122,9 @@ front_none (q ∷ qs) p back now o b e =
     let k : now ≤ q.0 = b.0 in
     absurd (omega arith)
 
-pub taken_due : (old new : Held) (buckets drivers buckets' drivers' : List Ends) (chains : ℕ → List ℕ) (now k : ℕ) (node : Node) → IsTabled old drivers chains → HasTaken old buckets drivers new buckets' drivers' k node → NothingBelow now (table_of old drivers) → node.time ≡ now
+pub take_gives_due : (old new : Held) (buckets drivers buckets' drivers' : List Ends) (chains : ℕ → List ℕ) (now k : ℕ) (node : Node) → IsTabled old drivers chains → HasTaken old buckets drivers new buckets' drivers' k node → NothingBelow now (table_of old drivers) → node.time ≡ now
     → IsTaken now (table_of old drivers) (table_of new drivers') (node.driver, node.value)
-taken_due old new buckets drivers buckets' drivers' chains now k node f h b e =
+take_gives_due old new buckets drivers buckets' drivers' chains now k node f h b e =
     let t : List (List (ℕ × Value)) = table_of old drivers in
     let d : ℕ = node.driver in
     let p : ℕ × Value = (node.time, node.value) in
@@ -278,16 +278,16 @@ pub has_yes : (held : Held) (buckets drivers : List Ends) (v : WheelView) (d : �
 has_yes held buckets drivers v d last b h e l is eb =
     OnTrue_from b (0 < length (list_at v.lists d))
     (λ t. let k = is_some_true last (sym eb ∙ t) in
-        let within = driver_in held buckets drivers v d e l in
-        subst (λ (w : WheelView). 0 < length (list_at w.lists d)) e (list_some held drivers h.by_driver.chains d k.0 h.by_driver.indexed within (sym is ∙ k.1)))
+    let within = driver_in held buckets drivers v d e l in
+    subst (λ (w : WheelView). 0 < length (list_at w.lists d)) e (list_some held drivers h.by_driver.chains d k.0 h.by_driver.indexed within (sym is ∙ k.1)))
 
 pub has_no : (held : Held) (buckets drivers : List Ends) (v : WheelView) (d : ℕ) (last : Option ℕ) (b : Bool) → AreChained held buckets drivers → view_of held buckets drivers ≡ v → d < length v.lists → last ≡ (slice_index_or drivers d no_ends).last → b ≡ is_some last
     → OnFalse b (list_at v.lists d ≡ [])
 has_no held buckets drivers v d last b h e l is eb =
     OnFalse_from b (list_at v.lists d ≡ [])
     (λ t. let none = is_some_false last (sym eb ∙ t) in
-        let within = driver_in held buckets drivers v d e l in
-        subst (λ (w : WheelView). list_at w.lists d ≡ []) e (list_none held drivers h.by_driver.chains d h.by_driver.indexed within (sym is ∙ none)))
+    let within = driver_in held buckets drivers v d e l in
+    subst (λ (w : WheelView). list_at w.lists d ≡ []) e (list_none held drivers h.by_driver.chains d h.by_driver.indexed within (sym is ∙ none)))
 
 -- nothing is due where its bucket doesn't begin with it
 pub unmet_none : (m : Store) (first : Option ℕ) (now : ℕ) → first ≡ None → StartsAt m first now → ⊥
@@ -308,3 +308,16 @@ nothing_due held buckets drivers v now i first h e below ei ef unmet =
     let from : NoNodeBelow (node_at held) now = nodes_from held drivers D.chains now D.indexed (subst (λ (w : WheelView). NothingBelow now w.lists) (sym e) below) in
     subst (λ (w : WheelView). NothingDue now w.lists) e
     (no_due held drivers D.chains now D.indexed (none_at (node_at held) buckets i now first h.by_time h.some ei ef from unmet))
+
+-- where no node is below a time, nothing is in the table
+pub nothing_below : (held : Held) (drivers : List Ends) (chains : ℕ → List ℕ) (time : ℕ) → IsTabled held drivers chains → NoNodeBelow (node_at held) time → NothingBelow time (table_of held drivers)
+nothing_below held drivers chains time f b =
+    λ d l. let within = in_table held drivers d l in subst (NoneBelow time) (sym (table_at held drivers chains d f within)) (at (chains d) (λ k h. let s = f.family.sound d k within h in (s.0, s.1)))
+  where
+    at : (ks : List ℕ) → ((k : ℕ) → Has k ks → (node : Node) × (node_at held k ≡ Some node)) → NoneBelow time (pairs_at (node_at held) ks)
+    at [] s = tt
+    at (k ∷ ks) s =
+        let r = s k (inl refl) in
+        let l : time ≤ r.0.time = b.each k r.0 r.1 in
+        let t = time_is (node_at held) k r.0 r.1 in
+        (omega arith, at ks (λ j h. s j (inr h)))

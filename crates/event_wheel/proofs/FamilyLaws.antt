@@ -7,7 +7,7 @@ use Rattle.std.specs.declared.option.Option.TheVariants.{Some, None}
 use Rattle.event_wheel.specs.declared.nodes.Node.{Node}
 use Rattle.event_wheel.specs.Slots.{link_of}
 use Rattle.event_wheel.specs.Keys.{Has, IsOutside, AreDistinct}
-use Rattle.event_wheel.specs.Links.{Store, linked_store, removed_store, added_store}
+use Rattle.event_wheel.specs.Links.{Store, store_with_link, store_without, store_with}
 use Rattle.event_wheel.specs.Chains.{head_or, last_or, Chain}
 use Rattle.event_wheel.specs.Families.{IsHome, IsFamily}
 use Rattle.event_wheel.proofs.LinkLaws.{linked-forth, linked-back, linked-apart, removed-other, removed-key, added-other, added-key, is_some-of}
@@ -35,7 +35,7 @@ family-same m m' b a home n chains s f =
     }
 
 -- a family whose sides are others stays when a link is set
-pub family-side : (m : Store) (b a : ℕ) (home : Node → ℕ) (n : ℕ) (chains : ℕ → List ℕ) (at : Option ℕ) (side : ℕ) (to : Option ℕ) → IsHome home → b ≢ side → a ≢ side → IsFamily m b a home n chains → IsFamily (linked_store m at side to) b a home n chains
+pub family-side : (m : Store) (b a : ℕ) (home : Node → ℕ) (n : ℕ) (chains : ℕ → List ℕ) (at : Option ℕ) (side : ℕ) (to : Option ℕ) → IsHome home → b ≢ side → a ≢ side → IsFamily m b a home n chains → IsFamily (store_with_link m at side to) b a home n chains
 family-side m b a home n chains at side to hm d e f =
     record {
       chain = λ i l. chain-side m b a at side to None (chains i) None d e (f.chain i l);
@@ -58,12 +58,12 @@ one-chain m b a home n chains f i j k l l' h h' =
 
 -- a key was taken out of its chain, by the links past it, and out of the store
 pub family-taken : (m : Store) (b a : ℕ) (home : Node → ℕ) (n : ℕ) (chains : ℕ → List ℕ) (k i : ℕ) (xs ys : List ℕ) → IsHome home → b ≢ a → b < 4 → a < 4 → IsFamily m b a home n chains → i < n → chains i ≡ xs ++ k ∷ ys
-    → IsFamily (removed_store (linked_store (linked_store m (last_or None xs) a (head_or None ys)) (head_or None ys) b (last_or None xs)) k) b a home n (with_chain chains i (xs ++ ys))
+    → IsFamily (store_without (store_with_link (store_with_link m (last_or None xs) a (head_or None ys)) (head_or None ys) b (last_or None xs)) k) b a home n (with_chain chains i (xs ++ ys))
 family-taken m b a home n chains k i xs ys hm d lb la f l s =
     let p : Option ℕ = last_or None xs in
     let q : Option ℕ = head_or None ys in
-    let m0 : Store = linked_store m p a q in
-    let m1 : Store = linked_store m0 q b p in
+    let m0 : Store = store_with_link m p a q in
+    let m1 : Store = store_with_link m0 q b p in
     let here : Has k (chains i) = subst (Has k) (sym s) (has-middle k xs ys) in
     let u : AreDistinct (xs ++ k ∷ ys) = subst AreDistinct s (f.distinct i l) in
     let c : Chain m b a None (xs ++ k ∷ ys) None = subst (λ zs. Chain m b a None zs None) s (f.chain i l) in
@@ -72,11 +72,11 @@ family-taken m b a home n chains k i xs ys hm d lb la f l s =
     let q_in : (x : ℕ) → q ≡ Some x → Has x (chains i) = (λ x e. subst (Has x) (sym s) (has-right x xs (k ∷ ys) (inr (head-has ys x e)))) in
     record {
       chain = λ j lj. elim (cases_eq j i) [
-        | inl same ↦ subst (λ zs. Chain (removed_store m1 k) b a None zs None) (sym (with-same chains i (xs ++ ys) j same)) (chain-removed m1 b a k None (xs ++ ys) None mid (chain-unlinked m b a xs k ys d lb la u c))
+        | inl same ↦ subst (λ zs. Chain (store_without m1 k) b a None zs None) (sym (with-same chains i (xs ++ ys) j same)) (chain-removed m1 b a k None (xs ++ ys) None mid (chain-unlinked m b a xs k ys d lb la u c))
         | inr other ↦
             (let apart : (at : Option ℕ) → ((x : ℕ) → at ≡ Some x → Has x (chains i)) → IsApart at (chains j) = (λ at w. apart-by at (chains j) (λ x e h. other (one-chain m b a home n chains f j i x lj l h (w x e)))) in
             let out : IsOutside k (chains j) = outside-not k (chains j) (λ h. other (one-chain m b a home n chains f j i k lj l h here)) in
-            subst (λ zs. Chain (removed_store m1 k) b a None zs None) (sym (with-other chains i (xs ++ ys) j other))
+            subst (λ zs. Chain (store_without m1 k) b a None zs None) (sym (with-other chains i (xs ++ ys) j other))
             (chain-removed m1 b a k None (chains j) None out (chain-other m0 b a q b p None (chains j) None (apart q q_in) (chain-other m b a p a q None (chains j) None (apart p p_in) (f.chain j lj)))))
       ];
       distinct = λ j lj. elim (cases_eq j i) [
@@ -112,16 +112,16 @@ family-taken m b a home n chains k i xs ys hm d lb la f l s =
 -- a node was put into its chain, by the links to it, and into the store
 pub family-put : (m : Store) (b a : ℕ) (home : Node → ℕ) (n : ℕ) (chains : ℕ → List ℕ) (k : ℕ) (node : Node) (xs ys : List ℕ) → IsHome home → b ≢ a → b < 4 → a < 4 → 4 ≤ length node.links → IsFamily m b a home n chains
     → m k ≡ None → home node < n → chains (home node) ≡ xs ++ ys → link_of node b ≡ last_or None xs → link_of node a ≡ head_or None ys
-    → IsFamily (linked_store (linked_store (added_store m k node) (last_or None xs) a (Some k)) (head_or None ys) b (Some k)) b a home n (with_chain chains (home node) (xs ++ k ∷ ys))
+    → IsFamily (store_with_link (store_with_link (store_with m k node) (last_or None xs) a (Some k)) (head_or None ys) b (Some k)) b a home n (with_chain chains (home node) (xs ++ k ∷ ys))
 family-put m b a home n chains k node xs ys hm d lb la four f free l s before after =
     let i : ℕ = home node in
     let p : Option ℕ = last_or None xs in
     let q : Option ℕ = head_or None ys in
     let to : Option ℕ = Some k in
     let keys : List ℕ = xs ++ k ∷ ys in
-    let ma : Store = added_store m k node in
-    let m0 : Store = linked_store ma p a to in
-    let m1 : Store = linked_store m0 q b to in
+    let ma : Store = store_with m k node in
+    let m0 : Store = store_with_link ma p a to in
+    let m1 : Store = store_with_link m0 q b to in
     let new_key : (j : ℕ) → j < n → IsOutside k (chains j) = (λ j lj. outside-not k (chains j) (λ h. let t = f.sound j k lj h in let x : None ≡ Some t.0 = sym free ∙ t.1 in cc)) in
     let o : IsOutside k (xs ++ ys) = subst (IsOutside k) s (new_key i l) in
     let u : AreDistinct (xs ++ ys) = subst AreDistinct s (f.distinct i l) in
@@ -142,15 +142,19 @@ family-put m b a home n chains k node xs ys hm d lb la four f free l s before af
       ];
       sound = λ j x lj h.
           (let held : (y : Node) × (ma x ≡ Some y) × (home y ≡ j) = elim (cases_eq x k) [
-            | inl xk ↦ (node, ap ma xk ∙ added-key m k node, (elim (cases_eq j i) [
-              | inl same ↦ sym same
-              | inr other ↦ absurd (not-outside k (chains j) (new_key j lj) (subst (λ y. Has y (chains j)) xk (subst (Has x) (with-other chains i keys j other) h)))
-            ]))
+            | inl xk ↦ (
+              node,
+              ap ma xk ∙ added-key m k node,
+              (elim (cases_eq j i) [
+                | inl same ↦ sym same
+                | inr other ↦ absurd (not-outside k (chains j) (new_key j lj) (subst (λ y. Has y (chains j)) xk (subst (Has x) (with-other chains i keys j other) h)))
+              ]),
+            )
             | inr xo ↦ (let g : Has x (chains j) = elim (cases_eq j i) [
-                | inl same ↦ subst (λ y. Has x (chains y)) (sym same) (subst (Has x) (sym s) (has-other x k xs ys xo (subst (Has x) (with-same chains i keys j same) h)))
-                | inr other ↦ subst (Has x) (with-other chains i keys j other) h
-              ] in
-              let t = f.sound j x lj g in (t.0, added-other m k node x xo ∙ t.1, t.2))
+              | inl same ↦ subst (λ y. Has x (chains y)) (sym same) (subst (Has x) (sym s) (has-other x k xs ys xo (subst (Has x) (with-same chains i keys j same) h)))
+              | inr other ↦ subst (Has x) (with-other chains i keys j other) h
+            ] in
+                let t = f.sound j x lj g in (t.0, added-other m k node x xo ∙ t.1, t.2))
           ] in
           let r0 = linked-forth ma home hm p a to x held.0 held.1 in
           let r1 = linked-forth m0 home hm q b to x r0.0 r0.1 in

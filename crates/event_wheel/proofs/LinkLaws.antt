@@ -8,7 +8,7 @@ use Rattle.std.specs.declared.option.Option.TheVariants.{Some, None}
 use Rattle.sg_logic.specs.declared.values.Value.{Value}
 use Rattle.event_wheel.specs.declared.nodes.Node.{Node}
 use Rattle.event_wheel.specs.Slots.{Held, node_at, Puts, link_of, with_link}
-use Rattle.event_wheel.specs.Links.{Store, is_key, linked, relinked, Becomes, linked_store, removed_store, added_store}
+use Rattle.event_wheel.specs.Links.{Store, is_key, slot_with_link, slot_with_links, Becomes, store_with_link, store_without, store_with}
 use Rattle.event_wheel.specs.Families.{IsHome, pair_of}
 
 pub some_node : (slot : Option Node) → IsSome slot → (n : Node) × (slot ≡ Some n)
@@ -19,12 +19,12 @@ pub is_some-of : (slot : Option Node) (n : Node) → slot ≡ Some n → IsSome 
 is_some-of None n e = cc
 is_some-of (Some m) n e = refl
 
-linked_other : (key side k : ℕ) (to : Option ℕ) (slot : Option Node) → k ≢ key → linked (Some key) side to k slot ≡ slot
+linked_other : (key side k : ℕ) (to : Option ℕ) (slot : Option Node) → k ≢ key → slot_with_link (Some key) side to k slot ≡ slot
 linked_other key side k to None d = refl
 linked_other key side k to (Some n) d = let e : (key == k) ≡ false = grind (arith, nat_tests) in ap (λ b. Some (if b then with_link n side to else n)) e
 
 -- one link that was set
-pub becomes-linked : (old new : Held) (key side : ℕ) (to : Option ℕ) → IsSome (node_at old key) → ((n : Node) → node_at old key ≡ Some n → Puts old new key (Some (with_link n side to))) → Becomes (node_at old) (node_at new) (linked (Some key) side to)
+pub becomes-linked : (old new : Held) (key side : ℕ) (to : Option ℕ) → IsSome (node_at old key) → ((n : Node) → node_at old key ≡ Some n → Puts old new key (Some (with_link n side to))) → Becomes (node_at old) (node_at new) (slot_with_link (Some key) side to)
 becomes-linked old new key side to held h =
     let found = some_node (node_at old key) held in
     let puts = h found.0 found.1 in
@@ -32,7 +32,7 @@ becomes-linked old new key side to held h =
       each = λ k. elim (cases_eq k key) [
         | inl same ↦ (let e : (key == k) ≡ true = grind (arith, nat_tests) in
             let at : node_at old k ≡ Some found.0 = ap (node_at old) same ∙ found.1 in
-            ap (node_at new) same ∙ (puts.changed ∙ sym (ap (linked (Some key) side to k) at ∙ ap (λ b. Some (if b then with_link found.0 side to else found.0)) e)))
+            ap (node_at new) same ∙ (puts.changed ∙ sym (ap (slot_with_link (Some key) side to k) at ∙ ap (λ b. Some (if b then with_link found.0 side to else found.0)) e)))
         | inr other ↦ puts.others k other ∙ sym (linked_other key side k to (node_at old k) other)
       ];
     }
@@ -42,21 +42,21 @@ is_key-other None k d = refl
 is_key-other (Some x) k d = let n : x ≢ k = (λ e. d (ap Some e)) in grind (arith, nat_tests)
 
 -- a set link leaves what stands at another key
-pub linked-apart : (at : Option ℕ) (side : ℕ) (to : Option ℕ) (k : ℕ) (slot : Option Node) → at ≢ Some k → linked at side to k slot ≡ slot
+pub linked-apart : (at : Option ℕ) (side : ℕ) (to : Option ℕ) (k : ℕ) (slot : Option Node) → at ≢ Some k → slot_with_link at side to k slot ≡ slot
 linked-apart at side to k None d = refl
 linked-apart at side to k (Some n) d = ap (λ b. Some (if b then with_link n side to else n)) (is_key-other at k d)
 
 -- it leaves where nodes are, and their transitions
-pub linked-none : (at : Option ℕ) (side : ℕ) (to : Option ℕ) (k : ℕ) (slot : Option Node) → slot ≡ None → linked at side to k slot ≡ None
+pub linked-none : (at : Option ℕ) (side : ℕ) (to : Option ℕ) (k : ℕ) (slot : Option Node) → slot ≡ None → slot_with_link at side to k slot ≡ None
 linked-none at side to k None e = refl
 linked-none at side to k (Some n) e = cc
 
-pub pair-linked : (at : Option ℕ) (side : ℕ) (to : Option ℕ) (k : ℕ) (slot : Option Node) → pair_of (linked at side to k slot) ≡ pair_of slot
+pub pair-linked : (at : Option ℕ) (side : ℕ) (to : Option ℕ) (k : ℕ) (slot : Option Node) → pair_of (slot_with_link at side to k slot) ≡ pair_of slot
 pair-linked at side to k None = refl
 pair-linked at side to k (Some n) =
     elim (is_key at k) as (λ c. pair_of (Some (if c then with_link n side to else n)) ≡ pair_of (Some n)) [ true ↦ refl | false ↦ refl ]
 
-pub is_some-linked : (at : Option ℕ) (side : ℕ) (to : Option ℕ) (k : ℕ) (slot : Option Node) → IsSome slot → IsSome (linked at side to k slot)
+pub is_some-linked : (at : Option ℕ) (side : ℕ) (to : Option ℕ) (k : ℕ) (slot : Option Node) → IsSome slot → IsSome (slot_with_link at side to k slot)
 is_some-linked at side to k None h = h
 is_some-linked at side to k (Some n) h = refl
 
@@ -65,44 +65,44 @@ pub record IsLike (home : Node → ℕ) (side : ℕ) (node after : Node) : Type 
   pub number : home after ≡ home node
   pub links : (other : ℕ) → other ≢ side → link_of after other ≡ link_of node other
 
-pub linked-forth : (m : Store) (home : Node → ℕ) → IsHome home → (at : Option ℕ) (side : ℕ) (to : Option ℕ) (k : ℕ) (node : Node) → m k ≡ Some node → (after : Node) × (linked_store m at side to k ≡ Some after) × IsLike home side node after
+pub linked-forth : (m : Store) (home : Node → ℕ) → IsHome home → (at : Option ℕ) (side : ℕ) (to : Option ℕ) (k : ℕ) (node : Node) → m k ≡ Some node → (after : Node) × (store_with_link m at side to k ≡ Some after) × IsLike home side node after
 linked-forth m home hm at side to k node e =
-    (elim (is_key at k) as (λ c. linked at side to k (m k) ≡ Some (if c then with_link node side to else node) → (after : Node) × (linked at side to k (m k) ≡ Some after) × IsLike home side node after) [
+    (elim (is_key at k) as (λ c. slot_with_link at side to k (m k) ≡ Some (if c then with_link node side to else node) → (after : Node) × (slot_with_link at side to k (m k) ≡ Some after) × IsLike home side node after) [
       | true ↦ λ s. (with_link node side to, s, record { number = hm.links node side to; links = λ o d. get_or-set_other node.links side o to None d })
       | false ↦ λ s. (node, s, record { number = refl; links = λ o d. refl })
-    ]) (ap (linked at side to k) e)
+    ]) (ap (slot_with_link at side to k) e)
 
-pub linked-back : (at : Option ℕ) (side : ℕ) (to : Option ℕ) (k : ℕ) (slot : Option Node) (after : Node) → linked at side to k slot ≡ Some after → (node : Node) × (slot ≡ Some node)
+pub linked-back : (at : Option ℕ) (side : ℕ) (to : Option ℕ) (k : ℕ) (slot : Option Node) (after : Node) → slot_with_link at side to k slot ≡ Some after → (node : Node) × (slot ≡ Some node)
 linked-back at side to k None after e = cc
 linked-back at side to k (Some node) after e = (node, refl)
 
-pub removed-other : (m : Store) (k j : ℕ) → j ≢ k → removed_store m k j ≡ m j
+pub removed-other : (m : Store) (k j : ℕ) → j ≢ k → store_without m k j ≡ m j
 removed-other m k j d = let t : (j == k) ≡ false = grind (arith, nat_tests) in ap (λ c. if c then None else m j) t
 
-pub removed-same : (m : Store) (k j : ℕ) → j ≡ k → removed_store m k j ≡ None
+pub removed-same : (m : Store) (k j : ℕ) → j ≡ k → store_without m k j ≡ None
 removed-same m k j d = let t : (j == k) ≡ true = grind (arith, nat_tests) in ap (λ c. if c then None else m j) t
 
-pub removed-key : (m : Store) (k j : ℕ) (node : Node) → removed_store m k j ≡ Some node → j ≢ k
+pub removed-key : (m : Store) (k j : ℕ) (node : Node) → store_without m k j ≡ Some node → j ≢ k
 removed-key m k j node e same = let x : None ≡ Some node = sym (removed-same m k j same) ∙ e in cc
 
-pub added-other : (m : Store) (k : ℕ) (node : Node) (j : ℕ) → j ≢ k → added_store m k node j ≡ m j
+pub added-other : (m : Store) (k : ℕ) (node : Node) (j : ℕ) → j ≢ k → store_with m k node j ≡ m j
 added-other m k node j d = let t : (j == k) ≡ false = grind (arith, nat_tests) in ap (λ c. if c then Some node else m j) t
 
-pub added-key : (m : Store) (k : ℕ) (node : Node) → added_store m k node k ≡ Some node
+pub added-key : (m : Store) (k : ℕ) (node : Node) → store_with m k node k ≡ Some node
 added-key m k node = let t : (k == k) ≡ true = grind (arith, nat_tests) in ap (λ c. if c then Some node else m k) t
 
 -- a key that is taken out or put in before links are set, and after
-pub linked-removed : (m : Store) (at : Option ℕ) (side : ℕ) (to : Option ℕ) (k j : ℕ) → removed_store (linked_store m at side to) k j ≡ linked_store (removed_store m k) at side to j
+pub linked-removed : (m : Store) (at : Option ℕ) (side : ℕ) (to : Option ℕ) (k j : ℕ) → store_without (store_with_link m at side to) k j ≡ store_with_link (store_without m k) at side to j
 linked-removed m at side to k j =
-    elim (j == k) as (λ c. (if c then None else linked at side to j (m j)) ≡ linked at side to j (if c then None else m j)) [ true ↦ refl | false ↦ refl ]
+    elim (j == k) as (λ c. (if c then None else slot_with_link at side to j (m j)) ≡ slot_with_link at side to j (if c then None else m j)) [ true ↦ refl | false ↦ refl ]
 
-pub linked-added : (m : Store) (at : Option ℕ) (side : ℕ) (to : Option ℕ) (k : ℕ) (node : Node) (j : ℕ) → at ≢ Some k → added_store (linked_store m at side to) k node j ≡ linked_store (added_store m k node) at side to j
+pub linked-added : (m : Store) (at : Option ℕ) (side : ℕ) (to : Option ℕ) (k : ℕ) (node : Node) (j : ℕ) → at ≢ Some k → store_with (store_with_link m at side to) k node j ≡ store_with_link (store_with m k node) at side to j
 linked-added m at side to k node j d =
     elim (cases_eq j k) [
       | inl same ↦ (let t : (j == k) ≡ true = grind (arith, nat_tests) in
           let e : at ≢ Some j = (λ x. d (x ∙ ap Some same)) in
-          ap (λ c. if c then Some node else linked at side to j (m j)) t
-          ∙ sym (ap (λ c. linked at side to j (if c then Some node else m j)) t ∙ linked-apart at side to j (Some node) e))
+          ap (λ c. if c then Some node else slot_with_link at side to j (m j)) t
+          ∙ sym (ap (λ c. slot_with_link at side to j (if c then Some node else m j)) t ∙ linked-apart at side to j (Some node) e))
       | inr other ↦ (let t : (j == k) ≡ false = grind (arith, nat_tests) in
-          ap (λ c. if c then Some node else linked at side to j (m j)) t ∙ sym (ap (λ c. linked at side to j (if c then Some node else m j)) t))
+          ap (λ c. if c then Some node else slot_with_link at side to j (m j)) t ∙ sym (ap (λ c. slot_with_link at side to j (if c then Some node else m j)) t))
     ]

@@ -66,11 +66,11 @@ table-changed old new drivers after chains chains' i pairs f g e l own others =
     ext_get_or [] (table_of new after) (with_list t i pairs)
     (length-table new after ∙ (e ∙ sym (length-set t i pairs ∙ length-table old drivers)))
     (λ j lj.
-        let l1 : j < length after = in_table new after j lj in
-        let l0 : j < length drivers = omega arith in
-        let at : list_at (table_of new after) j ≡ pairs_at (node_at new) (chains' j) = table_at new after chains' j g l1 in
-        elim (cases_eq j i) [
-          | inl same ↦ at ∙ (subst (λ n. pairs_at (node_at new) (chains' n) ≡ pairs) (sym same) own
-              ∙ sym (subst (λ n. slice_index_or (with_list t i pairs) n [] ≡ pairs) (sym same) (get_or-set_same t i pairs [] (to_table old drivers i l))))
-          | inr other ↦ at ∙ (others j l0 other ∙ sym (get_or-set_other t i j pairs [] other ∙ table_at old drivers chains j f l0))
-        ])
+    let l1 : j < length after = in_table new after j lj in
+    let l0 : j < length drivers = omega arith in
+    let at : list_at (table_of new after) j ≡ pairs_at (node_at new) (chains' j) = table_at new after chains' j g l1 in
+    elim (cases_eq j i) [
+      | inl same ↦ at ∙ (subst (λ n. pairs_at (node_at new) (chains' n) ≡ pairs) (sym same) own
+          ∙ sym (subst (λ n. slice_index_or (with_list t i pairs) n [] ≡ pairs) (sym same) (get_or-set_same t i pairs [] (to_table old drivers i l))))
+      | inr other ↦ at ∙ (others j l0 other ∙ sym (get_or-set_other t i j pairs [] other ∙ table_at old drivers chains j f l0))
+    ])

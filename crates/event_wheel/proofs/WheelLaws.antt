@@ -12,7 +12,7 @@ use Rattle.event_wheel.specs.declared.nodes.Node.{Node}
 use Rattle.event_wheel.specs.declared.chains.Ends.{Ends}
 use Rattle.event_wheel.specs.Slots.{Held, node_at, link_of}
 use Rattle.event_wheel.specs.Keys.{Has, AreDistinct, IsOutside}
-use Rattle.event_wheel.specs.Links.{Store, AreNeighbours, linked, joined, taken_store, put_store, added_store}
+use Rattle.event_wheel.specs.Links.{Store, AreNeighbours, slot_with_link, ends_between, store_after_taking, store_after_putting, store_with}
 use Rattle.event_wheel.specs.Chains.{head_or, last_or}
 use Rattle.event_wheel.specs.Families.{IsIndexed, IsAfter, IsBefore, pair_of, pairs_at, no_ends, ends_of}
 use Rattle.event_wheel.specs.Kept.{AreBuckets, AreDrivers, AreChained, HasPut, HasTaken, NoNodeBelow, bucket_of, driver_of, table_of}
@@ -49,9 +49,9 @@ bucket_chain m buckets i b l =
 
 module _ (old new : Held) (buckets drivers buckets' drivers' : List Ends) (k : ℕ) where
   -- a node was taken out
-  pub has_taken : (node : Node) → AreChained old buckets drivers → node_at old k ≡ Some node → ((j : ℕ) → node_at new j ≡ taken_store (node_at old) k node j)
-      → buckets' ≡ slice_set buckets (node.time % length buckets) (joined (slice_index_or buckets (node.time % length buckets) no_ends) (link_of node 0) (link_of node 1) (link_of node 1) (link_of node 0))
-      → drivers' ≡ slice_set drivers node.driver (joined (slice_index_or drivers node.driver no_ends) (link_of node 2) (link_of node 3) (link_of node 3) (link_of node 2))
+  pub has_taken : (node : Node) → AreChained old buckets drivers → node_at old k ≡ Some node → ((j : ℕ) → node_at new j ≡ store_after_taking (node_at old) k node j)
+      → buckets' ≡ slice_set buckets (node.time % length buckets) (ends_between (slice_index_or buckets (node.time % length buckets) no_ends) (link_of node 0) (link_of node 1) (link_of node 1) (link_of node 0))
+      → drivers' ≡ slice_set drivers node.driver (ends_between (slice_index_or drivers node.driver no_ends) (link_of node 2) (link_of node 3) (link_of node 3) (link_of node 2))
       → HasTaken old buckets drivers new buckets' drivers' k node
   has_taken node h e same eb ed =
       let m : Store = node_at old in
@@ -60,16 +60,16 @@ module _ (old new : Held) (buckets drivers buckets' drivers' : List Ends) (k : �
       let d : ℕ = node.driver in
       let B = h.by_time in
       let D = h.by_driver in
-      let lb : length buckets' ≡ length buckets = ap length eb ∙ length-set buckets i (joined (slice_index_or buckets i no_ends) (link_of node 0) (link_of node 1) (link_of node 1) (link_of node 0)) in
-      let ld : length drivers' ≡ length drivers = ap length ed ∙ length-set drivers d (joined (slice_index_or drivers d no_ends) (link_of node 2) (link_of node 3) (link_of node 3) (link_of node 2)) in
+      let lb : length buckets' ≡ length buckets = ap length eb ∙ length-set buckets i (ends_between (slice_index_or buckets i no_ends) (link_of node 0) (link_of node 1) (link_of node 1) (link_of node 0)) in
+      let ld : length drivers' ≡ length drivers = ap length ed ∙ length-set drivers d (ends_between (slice_index_or drivers d no_ends) (link_of node 2) (link_of node 3) (link_of node 3) (link_of node 2)) in
       let rb = buckets-taken m (λ s t. s ≤ t) buckets buckets' B.chains k node (bucket_of (length buckets)) i (bucket_home (length buckets)) B.indexed e refl eb in
       let rd = drivers-taken m (λ s t. s < t) drivers drivers' D.chains k node driver_of d driver_home D.indexed e refl ed in
       let within : d < length drivers = (D.indexed.family.complete k node e).0 in
       let here : Has k (D.chains d) = (D.indexed.family.complete k node e).1 in
       let cb : ℕ → List ℕ = with_chain B.chains i (rb.front ++ rb.back) in
       let cd : ℕ → List ℕ = with_chain D.chains d (rd.front ++ rd.back) in
-      let nb : IsIndexed m' 0 1 (bucket_of (length buckets)) (λ s t. s ≤ t) buckets' cb = indexed-same (taken_store m k node) m' 0 1 (bucket_of (length buckets)) (λ s t. s ≤ t) buckets' cb same rb.indexed in
-      let nd : IsIndexed m' 2 3 driver_of (λ s t. s < t) drivers' cd = indexed-same (taken_store m k node) m' 2 3 driver_of (λ s t. s < t) drivers' cd same rd.indexed in
+      let nb : IsIndexed m' 0 1 (bucket_of (length buckets)) (λ s t. s ≤ t) buckets' cb = indexed-same (store_after_taking m k node) m' 0 1 (bucket_of (length buckets)) (λ s t. s ≤ t) buckets' cb same rb.indexed in
+      let nd : IsIndexed m' 2 3 driver_of (λ s t. s < t) drivers' cd = indexed-same (store_after_taking m k node) m' 2 3 driver_of (λ s t. s < t) drivers' cd same rd.indexed in
       let kept : (x : ℕ) → x ≢ k → pair_of (m' x) ≡ pair_of (m x) = (λ x o. ap pair_of (same x) ∙ pair-taken m k node x o) in
       let pairs : pairs_at m' (cd d) ≡ pairs_at m rd.front ++ pairs_at m rd.back =
       ap (pairs_at m') (with-same D.chains d (rd.front ++ rd.back) d refl) ∙ (pairs-apart m m' k (rd.front ++ rd.back) kept rd.outside ∙ pairs-append m rd.front rd.back) in
@@ -102,20 +102,20 @@ module _ (old new : Held) (buckets drivers buckets' drivers' : List Ends) (k : �
             (od, ap (pairs_at m) (nothing_after_last rd.front k rd.back (subst AreDistinct rd.whole (D.indexed.family.distinct d within)) at'));
       }
     where
-      gone : (m : Store) (node : Node) (j : ℕ) → node_at new j ≡ taken_store m k node j → m j ≡ None → (node' : Node) → node_at new j ≡ Some node' → ⊥
+      gone : (m : Store) (node : Node) (j : ℕ) → node_at new j ≡ store_after_taking m k node j → m j ≡ None → (node' : Node) → node_at new j ≡ Some node' → ⊥
       gone m node j s none node' g = (let x : None ≡ Some node' = sym (none_taken m k node j none) ∙ (sym s ∙ g) in cc)
 
-      taken_key : (m : Store) (node : Node) (j : ℕ) → node_at new j ≡ taken_store m k node j → j ≡ k → (node' : Node) → node_at new j ≡ Some node' → ⊥
-      taken_key m node j s jk node' g = (let x : None ≡ Some node' = sym (ap (taken_store m k node) jk ∙ none-taken m k node) ∙ (sym s ∙ g) in cc)
+      taken_key : (m : Store) (node : Node) (j : ℕ) → node_at new j ≡ store_after_taking m k node j → j ≡ k → (node' : Node) → node_at new j ≡ Some node' → ⊥
+      taken_key m node j s jk node' g = (let x : None ≡ Some node' = sym (ap (store_after_taking m k node) jk ∙ none-taken m k node) ∙ (sym s ∙ g) in cc)
 
 -- a node was put in
 pub has_put : (old new : Held) (buckets drivers buckets' drivers' : List Ends) (k : ℕ) (node : Node) → AreChained old buckets drivers → node.driver < length drivers → 4 ≤ length node.links
     → IsAbove node.time (reverse (list_at (table_of old drivers) node.driver))
     → ((keys : List ℕ) → IsBucketChain (node_at old) keys (slice_index_or buckets (node.time % length buckets) no_ends).last → IsPlace (node_at old) keys node.time (link_of node 0) (link_of node 1))
     → link_of node 2 ≡ (slice_index_or drivers node.driver no_ends).last → link_of node 3 ≡ None
-    → node_at old k ≡ None → ((j : ℕ) → node_at new j ≡ put_store (node_at old) k node j)
-    → buckets' ≡ slice_set buckets (node.time % length buckets) (joined (slice_index_or buckets (node.time % length buckets) no_ends) (link_of node 0) (link_of node 1) (Some k) (Some k))
-    → drivers' ≡ slice_set drivers node.driver (joined (slice_index_or drivers node.driver no_ends) (link_of node 2) (link_of node 3) (Some k) (Some k))
+    → node_at old k ≡ None → ((j : ℕ) → node_at new j ≡ store_after_putting (node_at old) k node j)
+    → buckets' ≡ slice_set buckets (node.time % length buckets) (ends_between (slice_index_or buckets (node.time % length buckets) no_ends) (link_of node 0) (link_of node 1) (Some k) (Some k))
+    → drivers' ≡ slice_set drivers node.driver (ends_between (slice_index_or drivers node.driver no_ends) (link_of node 2) (link_of node 3) (Some k) (Some k))
     → HasPut old buckets drivers new buckets' drivers' node.driver (node.time, node.value)
 has_put old new buckets drivers buckets' drivers' k node h within four above place last end free same eb ed =
     let m : Store = node_at old in
@@ -127,26 +127,26 @@ has_put old new buckets drivers buckets' drivers' k node h within four above pla
     let li : i < n = omega arith in
     let B = h.by_time in
     let D = h.by_driver in
-    let lb : length buckets' ≡ n = ap length eb ∙ length-set buckets i (joined (slice_index_or buckets i no_ends) (link_of node 0) (link_of node 1) (Some k) (Some k)) in
-    let ld : length drivers' ≡ length drivers = ap length ed ∙ length-set drivers d (joined (slice_index_or drivers d no_ends) (link_of node 2) (link_of node 3) (Some k) (Some k)) in
+    let lb : length buckets' ≡ n = ap length eb ∙ length-set buckets i (ends_between (slice_index_or buckets i no_ends) (link_of node 0) (link_of node 1) (Some k) (Some k)) in
+    let ld : length drivers' ≡ length drivers = ap length ed ∙ length-set drivers d (ends_between (slice_index_or drivers d no_ends) (link_of node 2) (link_of node 3) (Some k) (Some k)) in
     let at = place (B.chains i) (bucket_chain m buckets i B li) in
     let keys : List ℕ = D.chains d in
     let in_bucket : (x : ℕ) → Has x (at.front ++ at.back) → x ≢ k =
     (λ x g e. let s = B.indexed.family.sound i x li (subst (Has x) (sym at.whole) g) in let y : None ≡ Some s.0 = sym free ∙ (ap m (sym e) ∙ s.1) in cc) in
     let before_new : link_of node 0 ≢ Some k = (λ e. in_bucket k (has-left k at.front at.back (last-in at.front k (sym at.before_is ∙ e))) refl) in
     let after_new : link_of node 1 ≢ Some k = (λ e. in_bucket k (has-right k at.front at.back (head-has at.back k (sym at.after_is ∙ e))) refl) in
-    let nb : IsIndexed (put_store m k node) 0 1 (bucket_of n) (λ s t. s ≤ t) buckets' (with_chain B.chains i (at.front ++ k ∷ at.back)) =
+    let nb : IsIndexed (store_after_putting m k node) 0 1 (bucket_of n) (λ s t. s ≤ t) buckets' (with_chain B.chains i (at.front ++ k ∷ at.back)) =
     buckets-put m (λ s t. s ≤ t) buckets buckets' B.chains k node (bucket_of n) at.front at.back (bucket_home n) four B.indexed free li at.whole at.before_is at.after_is at.earlier at.later eb in
     let is_last : link_of node 2 ≡ last_or None keys = last ∙ ap (λ (x : Ends). x.last) (D.indexed.ends_are d within) in
     let over : IsAbove node.time (reverse (pairs_at m keys)) = subst (λ ps. IsAbove node.time (reverse ps)) (table_at old drivers D.chains d D.indexed within) above in
-    let nd : IsIndexed (put_store m k node) 2 3 driver_of (λ s t. s < t) drivers' (with_chain D.chains d (keys ++ k ∷ [])) =
+    let nd : IsIndexed (store_after_putting m k node) 2 3 driver_of (λ s t. s < t) drivers' (with_chain D.chains d (keys ++ k ∷ [])) =
     drivers-put m (λ s t. s < t) drivers drivers' D.chains k node driver_of keys [] driver_home four D.indexed free within (sym (append-nil keys)) is_last end
     (after-above (pairs_at m keys) node.time (D.indexed.ordered d within) over) tt before_new after_new ed in
     let cb : ℕ → List ℕ = with_chain B.chains i (at.front ++ k ∷ at.back) in
     let cd : ℕ → List ℕ = with_chain D.chains d (keys ++ k ∷ []) in
-    let nb' : IsIndexed m' 0 1 (bucket_of n) (λ s t. s ≤ t) buckets' cb = indexed-same (put_store m k node) m' 0 1 (bucket_of n) (λ s t. s ≤ t) buckets' cb same nb in
-    let nd' : IsIndexed m' 2 3 driver_of (λ s t. s < t) drivers' cd = indexed-same (put_store m k node) m' 2 3 driver_of (λ s t. s < t) drivers' cd same nd in
-    let stays : (x : ℕ) → pair_of (m' x) ≡ pair_of (added_store m k node x) = (λ x. ap pair_of (same x) ∙ pair-put m k node x) in
+    let nb' : IsIndexed m' 0 1 (bucket_of n) (λ s t. s ≤ t) buckets' cb = indexed-same (store_after_putting m k node) m' 0 1 (bucket_of n) (λ s t. s ≤ t) buckets' cb same nb in
+    let nd' : IsIndexed m' 2 3 driver_of (λ s t. s < t) drivers' cd = indexed-same (store_after_putting m k node) m' 2 3 driver_of (λ s t. s < t) drivers' cd same nd in
+    let stays : (x : ℕ) → pair_of (m' x) ≡ pair_of (store_with m k node x) = (λ x. ap pair_of (same x) ∙ pair-put m k node x) in
     let kept : (x : ℕ) → x ≢ k → pair_of (m' x) ≡ pair_of (m x) = (λ x o. stays x ∙ ap pair_of (added-other m k node x o)) in
     let own : pair_of (m' k) ≡ (node.time, node.value) = stays k ∙ ap pair_of (added-key m k node) in
     let new_key : (j : ℕ) → j < length drivers → IsOutside k (D.chains j) = (λ j lj. outside-not k (D.chains j) (λ g. let t = D.indexed.family.sound j k lj g in let x : None ≡ Some t.0 = sym free ∙ t.1 in cc)) in

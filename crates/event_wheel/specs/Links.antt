@@ -16,45 +16,45 @@ is_key None key = false
 is_key (Some k) key = k == key
 
 -- what stands at a key after one link was set of the node at another key, if there is one
-abbrev pub linked : Option ℕ → ℕ → Option ℕ → ℕ → Option Node → Option Node
-linked at side to key None = None
-linked at side to key (Some node) = Some (if is_key at key then with_link node side to else node)
+abbrev pub slot_with_link : Option ℕ → ℕ → Option ℕ → ℕ → Option Node → Option Node
+slot_with_link at side to key None = None
+slot_with_link at side to key (Some node) = Some (if is_key at key then with_link node side to else node)
 
 -- after what comes after one key was set, and what comes before another: links back have one side, links on the next
-abbrev pub relinked : Option ℕ → Option ℕ → ℕ → Option ℕ → Option ℕ → ℕ → Option Node → Option Node
-relinked before after back next previous key slot = linked after back previous key (linked before (back + 1) next key slot)
+abbrev pub slot_with_links : Option ℕ → Option ℕ → ℕ → Option ℕ → Option ℕ → ℕ → Option Node → Option Node
+slot_with_links before after back next previous key slot = slot_with_link after back previous key (slot_with_link before (back + 1) next key slot)
 
 -- each key has what f makes of what it had
 pub record Becomes (old new : Store) (f : ℕ → Option Node → Option Node) : Type 0 where
   pub each : (key : ℕ) → new key ≡ f key (old key)
 
 -- the store after one link was set
-abbrev pub linked_store : Store → Option ℕ → ℕ → Option ℕ → Store
-linked_store m at side to = λ k. linked at side to k (m k)
+abbrev pub store_with_link : Store → Option ℕ → ℕ → Option ℕ → Store
+store_with_link m at side to = λ k. slot_with_link at side to k (m k)
 
-abbrev pub relinked_store : Store → Option ℕ → Option ℕ → ℕ → Option ℕ → Option ℕ → Store
-relinked_store m before after back next previous = λ k. relinked before after back next previous k (m k)
+abbrev pub store_with_links : Store → Option ℕ → Option ℕ → ℕ → Option ℕ → Option ℕ → Store
+store_with_links m before after back next previous = λ k. slot_with_links before after back next previous k (m k)
 
 -- the store without a key
-abbrev pub removed_store : Store → ℕ → Store
-removed_store m k = λ j. if j == k then None else m j
+abbrev pub store_without : Store → ℕ → Store
+store_without m k = λ j. if j == k then None else m j
 
 -- the store with a node under a key
-abbrev pub added_store : Store → ℕ → Node → Store
-added_store m k node = λ j. if j == k then Some node else m j
+abbrev pub store_with : Store → ℕ → Node → Store
+store_with m k node = λ j. if j == k then Some node else m j
 
 -- the store after a node was taken out of it and of both of its chains
-abbrev pub taken_store : Store → ℕ → Node → Store
-taken_store m k node =
-    relinked_store
-    (relinked_store (removed_store m k) (link_of node 0) (link_of node 1) 0 (link_of node 1) (link_of node 0))
+abbrev pub store_after_taking : Store → ℕ → Node → Store
+store_after_taking m k node =
+    store_with_links
+    (store_with_links (store_without m k) (link_of node 0) (link_of node 1) 0 (link_of node 1) (link_of node 0))
     (link_of node 2) (link_of node 3) 2 (link_of node 3) (link_of node 2)
 
 -- the store after a node was put between its neighbours in both of its chains
-abbrev pub put_store : Store → ℕ → Node → Store
-put_store m k node =
-    relinked_store
-    (relinked_store (added_store m k node) (link_of node 0) (link_of node 1) 0 (Some k) (Some k))
+abbrev pub store_after_putting : Store → ℕ → Node → Store
+store_after_putting m k node =
+    store_with_links
+    (store_with_links (store_with m k node) (link_of node 0) (link_of node 1) 0 (Some k) (Some k))
     (link_of node 2) (link_of node 3) 2 (Some k) (Some k)
 
 -- each of these links leads to a node
@@ -71,5 +71,5 @@ end_or None new old = new
 end_or (Some key) new old = old
 
 -- the ends of a chain after a change between two keys
-abbrev pub joined : Ends → Option ℕ → Option ℕ → Option ℕ → Option ℕ → Ends
-joined ends before after first last = record { first = end_or before first ends.first; last = end_or after last ends.last }
+abbrev pub ends_between : Ends → Option ℕ → Option ℕ → Option ℕ → Option ℕ → Ends
+ends_between ends before after first last = record { first = end_or before first ends.first; last = end_or after last ends.last }

@@ -1,5 +1,5 @@
 // A wheel is an agenda. Nobody counts the steps of these calls.
-ghost use Rattle.std.specs.Prelude.{◌≡◌, ◌≢◌, ℕ, ◌+◌, ◌<◌, ◌≤◌, [], ◌∷◌, ◌++◌, length, reverse, IfSome, IfNone, Bool};
+ghost use Rattle.std.specs.Prelude.{◌≡◌, ◌≢◌, ℕ, ◌+◌, ◌<◌, ◌≤◌, [], ◌∷◌, ◌++◌, length, reverse, IfSome, IfNone, OnOk};
 ghost use Rattle.std.specs.Bool.{OnTrue, OnFalse};
 ghost use Rattle.sg_model.specs.Pending.{last_of, without_last, IsAbove};
 ghost use Rattle.sg_model.specs.Agenda.{list_at, with_list, IsTaken, NothingDue, NothingBelow, IsLeastTime, AllEmpty, Rises};
@@ -113,6 +113,7 @@ fn least_from<L: Ledger>(wheel: &mut Wheel, blank: Blank) -> Option<u64>
     requires some { 0 < blank.parts }
     ensures some { IfSome result (λ time. IsLeastTime wheel.old.lists time) }
     ensures none { IfNone result (AllEmpty wheel.old.lists) }
+    ensures below { IfSome result (λ time. NothingBelow time wheel.old.lists) }
     ensures lists { wheel.new.lists ≡ wheel.old.lists }
     ensures spare { wheel.old.spare ≤ wheel.new.spare }
     ensures buckets { wheel.new.buckets ≡ wheel.old.buckets }
@@ -124,24 +125,48 @@ fn least_from<L: Ledger>(wheel: &mut Wheel, blank: Blank) -> Option<u64>
     Some(time)
 }
 
+// Each call has the clauses of `Agenda`, and keeps the number of buckets.
 impl Agenda for Wheel {
     ghost lists = { λ w. w.lists };
 
     ghost spare = { λ w. w.spare };
 
-    fn reserve(&mut self, n: u32) -> Result<(), NoMemory> {
+    fn reserve(&mut self, n: u32) -> Result<(), NoMemory>
+        ensures room { OnOk result (n ≤ self.new.spare) }
+        ensures lists { self.new.lists ≡ self.old.lists }
+        ensures spare { self.old.spare ≤ self.new.spare }
+        ensures buckets { self.new.buckets ≡ self.old.buckets }
+    {
         self.chains.nodes.reserve(n)
     }
 
-    fn append(&mut self, driver: u32, time: u64, value: Value) {
+    fn append(&mut self, driver: u32, time: u64, value: Value)
+        requires driver { driver < length self.old.lists }
+        requires room { 0 < self.old.spare }
+        requires later { IsAbove time (reverse (list_at self.old.lists driver)) }
+        ensures lists { self.new.lists ≡ with_list self.old.lists driver (list_at self.old.lists driver ++ (time, value) ∷ []) }
+        ensures spare { self.new.spare + 1 ≡ self.old.spare }
+        ensures buckets { self.new.buckets ≡ self.old.buckets }
+    {
         append_from::<Brand>(self, driver, time, value, Blank::new(1));
     }
 
-    fn drop_last(&mut self, driver: u32) {
+    fn drop_last(&mut self, driver: u32)
+        requires driver { driver < length self.old.lists }
+        requires some { 0 < length (list_at self.old.lists driver) }
+        ensures lists { self.new.lists ≡ with_list self.old.lists driver (without_last (list_at self.old.lists driver)) }
+        ensures spare { self.old.spare ≤ self.new.spare }
+        ensures buckets { self.new.buckets ≡ self.old.buckets }
+    {
         cancel_from::<Brand>(self, driver, Blank::new(1));
     }
 
-    fn clear(&mut self, driver: u32) {
+    fn clear(&mut self, driver: u32)
+        requires driver { driver < length self.old.lists }
+        ensures lists { self.new.lists ≡ with_list self.old.lists driver [] }
+        ensures spare { self.old.spare ≤ self.new.spare }
+        ensures buckets { self.new.buckets ≡ self.old.buckets }
+    {
         clear_from::<Brand>(self, driver, Blank::new(1));
     }
 
@@ -149,11 +174,25 @@ impl Agenda for Wheel {
         last_from::<Brand>(self, driver, Blank::new(1))
     }
 
-    fn take_due(&mut self, now: u64) -> Option<(u32, Value)> {
+    fn take_due(&mut self, now: u64) -> Option<(u32, Value)>
+        requires { NothingBelow now self.old.lists }
+        ensures some { IfSome result (λ answer. IsTaken now self.old.lists self.new.lists answer) }
+        ensures none { IfNone result (NothingDue now self.old.lists × (self.new.lists ≡ self.old.lists)) }
+        ensures spare { self.old.spare ≤ self.new.spare }
+        ensures buckets { self.new.buckets ≡ self.old.buckets }
+    {
         take_due_from::<Brand>(self, now, Blank::new(1))
     }
 
-    fn least(&mut self) -> Option<u64> {
+    /// The time of the earliest transition of all. None is below it.
+    fn least(&mut self) -> Option<u64>
+        ensures some { IfSome result (λ time. IsLeastTime self.old.lists time) }
+        ensures none { IfNone result (AllEmpty self.old.lists) }
+        ensures below { IfSome result (λ time. NothingBelow time self.old.lists) }
+        ensures lists { self.new.lists ≡ self.old.lists }
+        ensures spare { self.old.spare ≤ self.new.spare }
+        ensures buckets { self.new.buckets ≡ self.old.buckets }
+    {
         least_from::<Brand>(self, Blank::new(1))
     }
 }

@@ -3,7 +3,7 @@ ghost use Rattle.std.specs.Prelude.{◌≡◌, ℕ, ◌+◌, ◌-◌, ◌<◌, �
 ghost use Rattle.sg_model.specs.Pending.{IsAbove};
 ghost use Rattle.sg_model.specs.Agenda.{list_at};
 ghost use Rattle.event_wheel.specs.Slots.{node_at};
-ghost use Rattle.event_wheel.specs.Links.{joined};
+ghost use Rattle.event_wheel.specs.Links.{ends_between};
 ghost use Rattle.event_wheel.specs.Kept.{AreChained, HasPut, HasTaken, table_of};
 
 use crate::links::{put_in, take_out};
@@ -42,7 +42,7 @@ impl Ends {
         first: Option<usize>,
         last: Option<usize>,
     )
-        ensures { self.new ≡ joined self.old before after first last }
+        ensures { self.new ≡ ends_between self.old before after first last }
     {
         if before.is_none() {
             self.first = first;
@@ -77,13 +77,7 @@ impl Chains {
     }
 
     /// Puts a driver's new latest transition into the chains.
-    pub fn put<L: Ledger>(
-        &mut self,
-        driver: u32,
-        time: u64,
-        value: Value,
-        steps: &mut Steps<L>,
-    )
+    pub fn put<L: Ledger>(&mut self, driver: u32, time: u64, value: Value, steps: &mut Steps<L>)
         requires chained { AreChained self.old.nodes self.old.buckets.items self.old.drivers.items }
         requires driver { driver < length self.old.drivers.items }
         requires room { 0 < self.old.nodes.room }

@@ -2,7 +2,7 @@
 ghost use Rattle.std.specs.Prelude.{◌≡◌, ℕ, ◌+◌, ◌<◌, ◌≤◌, None, Some, IsSome};
 ghost use Rattle.std.specs.Option.{ForSome};
 ghost use Rattle.event_wheel.specs.Slots.{node_at};
-ghost use Rattle.event_wheel.specs.Links.{linked, relinked, put_store, taken_store, Becomes, AreNeighbours, HasNeighbours};
+ghost use Rattle.event_wheel.specs.Links.{slot_with_link, slot_with_links, store_after_putting, store_after_taking, Becomes, AreNeighbours, HasNeighbours};
 
 use crate::nodes::{Node, Nodes};
 use sg_steps::Steps;
@@ -18,7 +18,7 @@ fn link_some<L: Ledger>(
 )
     requires at { ForSome at (λ key. IsSome (node_at nodes.old key)) }
     requires side { side < 4 }
-    ensures nodes { Becomes (node_at nodes.old) (node_at nodes.new) (linked at side to) }
+    ensures nodes { Becomes (node_at nodes.old) (node_at nodes.new) (slot_with_link at side to) }
     ensures room { nodes.new.room ≡ nodes.old.room }
     ensures steps { steps.new ≤ steps.old + 1 }
 {
@@ -41,7 +41,7 @@ fn relink<L: Ledger>(
     requires before { ForSome before (λ key. IsSome (node_at nodes.old key)) }
     requires after { ForSome after (λ key. IsSome (node_at nodes.old key)) }
     requires back { back < 3 }
-    ensures nodes { Becomes (node_at nodes.old) (node_at nodes.new) (relinked before after back next previous) }
+    ensures nodes { Becomes (node_at nodes.old) (node_at nodes.new) (slot_with_links before after back next previous) }
     ensures room { nodes.new.room ≡ nodes.old.room }
     ensures steps { steps.new ≤ steps.old + 2 }
 {
@@ -54,7 +54,7 @@ pub fn take_out<L: Ledger>(nodes: &mut Nodes, key: usize, steps: &mut Steps<L>) 
     requires key { IsSome (node_at nodes.old key) }
     requires neighbours { HasNeighbours (node_at nodes.old) key }
     ensures node { node_at nodes.old key ≡ Some result }
-    ensures nodes { (k : ℕ) → node_at nodes.new k ≡ taken_store (node_at nodes.old) key result k }
+    ensures nodes { (k : ℕ) → node_at nodes.new k ≡ store_after_taking (node_at nodes.old) key result k }
     ensures room { nodes.old.room ≤ nodes.new.room }
     ensures steps { steps.new ≤ steps.old + 5 }
 {
@@ -70,7 +70,7 @@ pub fn put_in<L: Ledger>(nodes: &mut Nodes, node: Node, steps: &mut Steps<L>) ->
     requires room { 0 < nodes.old.room }
     requires neighbours { AreNeighbours (node_at nodes.old) node.links }
     ensures vacant { node_at nodes.old result ≡ None }
-    ensures nodes { (k : ℕ) → node_at nodes.new k ≡ put_store (node_at nodes.old) result node k }
+    ensures nodes { (k : ℕ) → node_at nodes.new k ≡ store_after_putting (node_at nodes.old) result node k }
     ensures room { nodes.new.room + 1 ≡ nodes.old.room }
 {
     let key = nodes.add(node, steps);

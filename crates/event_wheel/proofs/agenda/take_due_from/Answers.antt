@@ -6,7 +6,7 @@ use Rattle.event_wheel.specs.declared.chains.Ends.{Ends}
 use Rattle.event_wheel.specs.Slots.{node_at}
 use Rattle.event_wheel.specs.Kept.{table_of}
 use Rattle.event_wheel.specs.Wheel.{WheelView}
-use Rattle.event_wheel.proofs.AgendaLaws.{nothing_due, unmet_none, unmet_other, taken_due}
+use Rattle.event_wheel.proofs.AgendaLaws.{nothing_due, unmet_none, unmet_other, take_gives_due}
 use Rattle.event_wheel.proofs.SearchLaws.{first_held}
 use Rattle.event_wheel.proofs.WriteLaws.{read_ends}
 use Rattle.event_wheel.proofs.agenda.take_due_from.Goals as goal
@@ -62,4 +62,4 @@ returns-clause-some g c =
     let now : c.read.result.time ≡ c.args.now = c.if-read-now.false in
     let due : c.take-node.result.time ≡ c.args.now = ap (λ (x : Node). x.time) (sym same) ∙ now in
     subst (λ (v : WheelView). IsTaken c.args.now v.lists (table_of c.take-node.new.self.nodes c.take-node.new.self.drivers.items) (c.take-node.result.driver, c.take-node.result.value)) c.wheel.view_is
-    (taken_due held c.take-node.new.self.nodes B D c.take-node.new.self.buckets.items c.take-node.new.self.drivers.items R.chains c.args.now c.in-Some.key c.take-node.result R.indexed c.take-node.ensures.taken below due)
+    (take_gives_due held c.take-node.new.self.nodes B D c.take-node.new.self.buckets.items c.take-node.new.self.drivers.items R.chains c.args.now c.in-Some.key c.take-node.result R.indexed c.take-node.ensures.taken below due)
