@@ -11,3 +11,6 @@ mod wheel;
 pub use nodes::{Node, Nodes};
 pub use wheel::Wheel;
 
+
+#[cfg(test)]
+mod tests;
