@@ -11,6 +11,5 @@ mod wheel;
 pub use nodes::{Node, Nodes};
 pub use wheel::Wheel;
 
-
 #[cfg(test)]
 mod tests;

@@ -58,6 +58,7 @@ fn at_five(rt: &impl Abort, alloc: Global, drivers: u32) -> Result<Wheel, NoMemo
 fn is_from(wheel: &mut Wheel, now: u64) -> bool
     ensures below { OnTrue result (NothingBelow now wheel.new.lists) }
     ensures lists { wheel.new.lists ≡ wheel.old.lists }
+    ensures buckets { wheel.new.buckets ≡ wheel.old.buckets }
 {
     match wheel.least() {
         Some(time) => now <= time,
@@ -66,7 +67,10 @@ fn is_from(wheel: &mut Wheel, now: u64) -> bool
 }
 
 // Takes what is due first at a time.
-fn take(rt: &impl Abort, wheel: &mut Wheel, now: u64) -> Option<(u32, Value)> {
+fn take(rt: &impl Abort, wheel: &mut Wheel, now: u64) -> Option<(u32, Value)>
+    ensures lists { length wheel.new.lists ≡ length wheel.old.lists }
+    ensures buckets { wheel.new.buckets ≡ wheel.old.buckets }
+{
     assert!(rt; is_from(wheel, now));
     wheel.take_due(now)
 }
@@ -103,5 +107,66 @@ fn a_thousand_drivers_in_one_bucket(rt: HostRuntime) -> Result<(), Fail> {
     }
     assert_eq!(rt; take(&rt, &mut wheel, 5), None);
     assert_eq!(rt; wheel.least(), None);
+    Ok(())
+}
+
+// The key of a bucket's first node.
+fn first(rt: &impl Abort, wheel: &Wheel, bucket: u32) -> Option<usize> {
+    assert!(rt; bucket < wheel.buckets());
+    wheel.first_in_bucket(bucket)
+}
+
+#[test]
+fn each_call(rt: HostRuntime) -> Result<(), Fail> {
+    let mut wheel = Wheel::new(rt.alloc(), 7, 3)?;
+    assert_eq!(rt; wheel.reserve(1_000_000), Ok(()));
+    assert_eq!(rt; wheel.least(), None);
+    append(&rt, &mut wheel, 0, 10, One)?;
+    append(&rt, &mut wheel, 2, 3, X)?;
+    append(&rt, &mut wheel, 0, 20, Zero)?;
+    append(&rt, &mut wheel, 1, 10, Z)?;
+    assert_eq!(rt; take(&rt, &mut wheel, 3), Some((2, X)));
+    assert_eq!(rt; take(&rt, &mut wheel, 3), None);
+    assert_eq!(rt; wheel.least(), Some(10));
+    assert!(rt; first(&rt, &wheel, 3).is_some());
+    assert!(rt; first(&rt, &wheel, 6).is_some());
+    cancel::<Brand>(&rt, &mut wheel, 0, Blank::new(1));
+    assert_eq!(rt; first(&rt, &wheel, 6), None);
+    wheel.clear(1);
+    assert_eq!(rt; wheel.last(1), None);
+    assert_eq!(rt; wheel.last(0), Some((10, One)));
+    assert!(rt; !wheel.nodes().is_empty());
+    Ok(())
+}
+
+// A node comes, gets a link and goes, in a step each.
+fn comes_and_goes<L: Ledger>(rt: &impl Abort, alloc: Global, blank: Blank) -> Result<(), NoMemory>
+    requires name { blank.name ≡ L.name }
+    requires parts { blank.parts ≡ L.parts }
+    requires some { 0 < blank.parts }
+{
+    let mut steps = Steps::<L>::new(blank);
+    let mut nodes = Nodes::new(alloc);
+    nodes.reserve(1)?;
+    let node = Node {
+        driver: 3,
+        time: 8,
+        value: Zero,
+        links: [None; 4],
+    };
+    let key = nodes.add(node, &mut steps);
+    nodes.link(key, 3, Some(9), &mut steps);
+    assert_eq!(rt;
+        nodes.read(key, &mut steps).links,
+        [None, None, None, Some(9)]
+    );
+    assert_eq!(rt; nodes.remove(key, &mut steps).time, 8);
+    assert!(rt; nodes.is_empty());
+    Ok(())
+}
+
+#[test]
+fn a_node(rt: HostRuntime) -> Result<(), Fail> {
+    comes_and_goes::<Brand>(&rt, rt.alloc(), Blank::new(1))?;
     Ok(())
 }
