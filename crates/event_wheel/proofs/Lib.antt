@@ -1,4 +1,5 @@
 -- The modules of this folder.
+pub mod CountLaws
 pub mod LinkLaws
 pub mod KeyLaws
 pub mod ChainLaws

@@ -1,6 +1,6 @@
 // The store of nodes.
 ghost use Rattle.std.specs.Prelude.{◌≡◌, ℕ, ◌+◌, ◌<◌, ◌≤◌, [], None, Some, IsSome, OnOk};
-ghost use Rattle.std.specs.Bool.{OnTrue};
+ghost use Rattle.std.specs.Bool.{OnTrue, OnFalse};
 ghost use Rattle.event_wheel.specs.Slots.{node_at, Puts, with_link};
 ghost use Rattle.event_wheel.specs.declared.nodes.Node.{Node as NodeShown};
 
@@ -61,7 +61,8 @@ impl Nodes {
 
     /// Whether no key has a node.
     pub fn is_empty(&self) -> bool
-        ensures { OnTrue result ((key : ℕ) → node_at self.now key ≡ None) }
+        ensures yes { OnTrue result ((key : ℕ) → node_at self.now key ≡ None) }
+        ensures no { OnFalse result ((key : ℕ) × IsSome (node_at self.now key)) }
     {
         self.slab.is_empty()
     }

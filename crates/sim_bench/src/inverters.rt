@@ -112,7 +112,7 @@ impl Shape {
         match self {
             Shape::Chain | Shape::Side => delays.push(GateDelays {
                 count: 2,
-                at: [2, 3, 0]
+                at: [2, 3, 0],
             })?,
             Shape::Spread => {
                 for number in 0..count {
