@@ -1,5 +1,5 @@
 -- What an agenda promises, of the table that a wheel stands for.
-use Rattle.std.proofs.Common.{◌≡◌, ◌≢◌, ℕ, zero, suc, ◌<◌, ◌≤◌, ◌%◌, ◌==◌, Bool, true, false, if◌then◌else◌, List, [], ◌∷◌, ◌++◌, ◌⊎◌, length, reverse, refl, sym, ◌∙◌, ap, subst, arith, inl, inr}
+use Rattle.std.proofs.Common.{◌≡◌, ◌≢◌, ℕ, zero, suc, ◌<◌, ◌≤◌, ◌%◌, ◌==◌, Bool, true, false, if◌then◌else◌, List, [], ◌∷◌, ◌++◌, length, reverse, refl, sym, ◌∙◌, ap, subst, arith, inl, inr}
 use Rattle.std.specs.Prelude.{slice_index_or}
 use Rattle.std.specs.List.{Contains}
 use Rattle.std.specs.Bool.{OnTrue, OnFalse}
@@ -18,12 +18,12 @@ use Rattle.event_wheel.specs.Slots.{Held, node_at, link_of}
 use Rattle.event_wheel.specs.Keys.{Has}
 use Rattle.event_wheel.specs.Links.{Store}
 use Rattle.event_wheel.specs.Chains.{head_or, last_or, Chain}
-use Rattle.event_wheel.specs.Families.{IsOrdered, IsBefore, pair_of, pairs_at, no_ends}
-use Rattle.event_wheel.specs.Kept.{AreChained, AreBuckets, AreDrivers, HasTaken, NoNodeBelow, NoNode, IsNodesTime, bucket_of, driver_of, table_of, view_of}
-use Rattle.event_wheel.specs.Wheel.{WheelView, HoldsPairs, IsBucket, IsNodeOf, Leads}
+use Rattle.event_wheel.specs.Families.{IsOrdered, pair_of, pairs_at, no_ends}
+use Rattle.event_wheel.specs.Kept.{AreChained, AreBuckets, AreDrivers, HasTaken, NoNodeBelow, NoNode, IsNodesTime, table_of, view_of}
+use Rattle.event_wheel.specs.Wheel.{WheelView, HoldsPairs, IsBucket, Leads}
 use Rattle.event_wheel.specs.Places.{StartsAt}
 use Rattle.event_wheel.proofs.OrderLaws.{pairs-append, before-parts, before-has}
-use Rattle.event_wheel.proofs.TableLaws.{IsTabled, table_at, in_table, to_table, length-table, table-ordered}
+use Rattle.event_wheel.proofs.TableLaws.{IsTabled, table_at, in_table, to_table, table-ordered}
 use Rattle.event_wheel.proofs.WheelLaws.{time_is}
 use Rattle.event_wheel.proofs.PlaceLaws.{last_split, last_none}
 use Rattle.event_wheel.proofs.SearchLaws.{begins_is, none_at}

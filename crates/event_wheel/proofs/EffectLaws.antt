@@ -1,7 +1,6 @@
 -- Both families after a node was taken out of the store or put into it.
-use Rattle.std.proofs.Common.{◌≡◌, ◌≢◌, ℕ, zero, suc, ◌+◌, ◌==◌, true, false, if◌then◌else◌, ◌<◌, ◌≤◌, ◌%◌, List, [], ◌∷◌, ◌++◌, ◌⊎◌, length, refl, sym, ◌∙◌, ap, subst, arith, inl, inr, IsSome}
+use Rattle.std.proofs.Common.{◌≡◌, ◌≢◌, ℕ, zero, suc, ◌+◌, ◌==◌, true, false, if◌then◌else◌, ◌<◌, ◌≤◌, List, ◌∷◌, ◌++◌, length, refl, sym, ◌∙◌, ap, subst, arith, inl, inr, IsSome}
 use Rattle.std.specs.Prelude.{slice_index_or, slice_set}
-use Rattle.std.proofs.lemmas.Bool.{cases_lt}
 use Rattle.std.specs.declared.option.Option.{Option}
 use Rattle.std.specs.declared.option.Option.TheVariants.{Some, None}
 use Rattle.event_wheel.specs.declared.nodes.Node.{Node}
@@ -11,7 +10,7 @@ use Rattle.event_wheel.specs.Links.{Store, slot_with_link, store_with_link, stor
 use Rattle.event_wheel.specs.Chains.{head_or, last_or}
 use Rattle.event_wheel.specs.Families.{IsHome, IsIndexed, IsBefore, IsAfter, pair_of, pairs_at, no_ends}
 use Rattle.event_wheel.specs.Kept.{bucket_of, driver_of}
-use Rattle.event_wheel.proofs.LinkLaws.{linked-forth, linked-none, linked-removed, linked-added, pair-linked, removed-other, removed-same, added-other, added-key}
+use Rattle.event_wheel.proofs.LinkLaws.{linked-forth, linked-none, linked-removed, linked-added, pair-linked, removed-other, removed-same, added-other}
 use Rattle.event_wheel.proofs.FamilyLaws.{with_chain, neighbour}
 use Rattle.event_wheel.proofs.OrderLaws.{pairs-same}
 use Rattle.event_wheel.proofs.IndexLaws.{indexed-same, indexed-side, indexed-taken, indexed-put, TakenFrom}

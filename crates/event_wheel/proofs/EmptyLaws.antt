@@ -10,7 +10,7 @@ use Rattle.event_wheel.specs.declared.chains.Ends.{Ends}
 use Rattle.event_wheel.specs.Slots.{Held, node_at}
 use Rattle.event_wheel.specs.Links.{Store}
 use Rattle.event_wheel.specs.Chains.{walk}
-use Rattle.event_wheel.specs.Families.{IsIndexed, no_ends, ends_of, pairs_at}
+use Rattle.event_wheel.specs.Families.{IsIndexed, no_ends, pairs_at}
 use Rattle.event_wheel.specs.Kept.{AreChained, NoNodeBelow, bucket_of, driver_of, list_of, table_of}
 use Rattle.event_wheel.proofs.IndexLaws.{same_ends}
 

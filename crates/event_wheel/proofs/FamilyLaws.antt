@@ -1,5 +1,5 @@
 -- A family of chains after a link was set, and after a node was taken out or put in.
-use Rattle.std.proofs.Common.{◌≡◌, ◌≢◌, ℕ, ◌<◌, ◌≤◌, ◌==◌, true, false, if◌then◌else◌, List, [], ◌∷◌, ◌++◌, ◌⊎◌, length, refl, IsSome, sym, ◌∙◌, ap, subst, arith, inl, inr}
+use Rattle.std.proofs.Common.{◌≡◌, ◌≢◌, ℕ, ◌<◌, ◌≤◌, ◌==◌, true, false, if◌then◌else◌, List, ◌∷◌, ◌++◌, ◌⊎◌, length, IsSome, sym, ◌∙◌, ap, subst, arith, inl, inr}
 use Rattle.std.proofs.lemmas.Bool.Decides.{nat_tests}
 use Rattle.std.proofs.lemmas.Bool.{cases_eq}
 use Rattle.std.specs.declared.option.Option.{Option}
@@ -10,8 +10,8 @@ use Rattle.event_wheel.specs.Keys.{Has, IsOutside, AreDistinct}
 use Rattle.event_wheel.specs.Links.{Store, store_with_link, store_without, store_with}
 use Rattle.event_wheel.specs.Chains.{head_or, last_or, Chain}
 use Rattle.event_wheel.specs.Families.{IsHome, IsFamily}
-use Rattle.event_wheel.proofs.LinkLaws.{linked-forth, linked-back, linked-apart, removed-other, removed-key, added-other, added-key, is_some-of}
-use Rattle.event_wheel.proofs.KeyLaws.{has-split, has-left, has-right, has-without, has-other, has-middle, outside-not, not-outside, middle-outside, distinct-without, distinct-with, last-has, last-in, head-has}
+use Rattle.event_wheel.proofs.LinkLaws.{linked-forth, linked-back, removed-other, removed-key, added-other, added-key, is_some-of}
+use Rattle.event_wheel.proofs.KeyLaws.{has-split, has-left, has-right, has-without, has-other, has-middle, outside-not, not-outside, middle-outside, distinct-without, distinct-with, last-in, head-has}
 use Rattle.event_wheel.proofs.ChainLaws.{IsApart, apart-by, chain-split, chain-side, chain-same, chain-other, chain-removed, chain-added, chain-unlinked, chain-inserted}
 
 -- the chains with another list of keys in one place

@@ -1,14 +1,13 @@
 -- What a write to links leaves.
-use Rattle.std.proofs.Common.{◌≡◌, ◌≢◌, ℕ, ◌+◌, ap, ◌∙◌, sym, refl, arith, true, false, inl, inr, IsSome, ◌==◌, if◌then◌else◌, Bool}
+use Rattle.std.proofs.Common.{◌≡◌, ◌≢◌, ℕ, ap, ◌∙◌, sym, refl, arith, true, false, inl, inr, IsSome, ◌==◌, if◌then◌else◌}
 use Rattle.std.proofs.lemmas.Bool.Decides.{nat_tests}
 use Rattle.std.proofs.lemmas.Bool.{cases_eq}
 use Rattle.std.proofs.lemmas.List.{get_or-set_other}
 use Rattle.std.specs.declared.option.Option.{Option}
 use Rattle.std.specs.declared.option.Option.TheVariants.{Some, None}
-use Rattle.sg_logic.specs.declared.values.Value.{Value}
 use Rattle.event_wheel.specs.declared.nodes.Node.{Node}
 use Rattle.event_wheel.specs.Slots.{Held, node_at, Puts, link_of, with_link}
-use Rattle.event_wheel.specs.Links.{Store, is_key, slot_with_link, slot_with_links, Becomes, store_with_link, store_without, store_with}
+use Rattle.event_wheel.specs.Links.{Store, is_key, slot_with_link, Becomes, store_with_link, store_without, store_with}
 use Rattle.event_wheel.specs.Families.{IsHome, pair_of}
 
 pub some_node : (slot : Option Node) → IsSome slot → (n : Node) × (slot ≡ Some n)

@@ -1,10 +1,9 @@
 -- Times in order.
-use Rattle.std.proofs.Common.{◌≡◌, ℕ, ◌<◌, ◌≤◌, List, [], ◌∷◌, ◌++◌, ◌⊎◌, reverse, map, refl, sym, ◌∙◌, ap, subst, arith, inl, inr}
+use Rattle.std.proofs.Common.{◌≡◌, ℕ, ◌<◌, ◌≤◌, List, [], ◌∷◌, ◌++◌, reverse, refl, sym, ◌∙◌, ap, subst, arith, inl, inr}
 use Rattle.std.proofs.lemmas.List.{reverse-append}
 use Rattle.sg_logic.specs.declared.values.Value.{Value}
 use Rattle.sg_model.specs.Pending.{IsAbove}
 use Rattle.sg_model.specs.Agenda.{Rises}
-use Rattle.sg_model.proofs.RiseLaws.{rises-append}
 use Rattle.event_wheel.specs.Keys.{Has}
 use Rattle.event_wheel.specs.Links.{Store}
 use Rattle.event_wheel.specs.Families.{pair_of, pairs_at, IsBefore, IsAfter, IsOrdered}

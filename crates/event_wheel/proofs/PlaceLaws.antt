@@ -1,6 +1,6 @@
 -- The walk back along a bucket's chain to the place of a time.
-use Rattle.std.proofs.Common.{◌≡◌, ◌≢◌, ℕ, ◌+◌, ◌<◌, ◌≤◌, List, [], ◌∷◌, ◌++◌, ◌⊎◌, length, reverse, refl, sym, ◌∙◌, ap, subst, arith, inl, inr, IsSome}
-use Rattle.std.proofs.lemmas.List.{reverse-reverse, reverse-append, length-reverse, length-append}
+use Rattle.std.proofs.Common.{◌≡◌, ℕ, ◌+◌, ◌<◌, ◌≤◌, List, [], ◌∷◌, ◌++◌, length, reverse, refl, sym, ◌∙◌, ap, subst, arith, inl, inr, IsSome}
+use Rattle.std.proofs.lemmas.List.{reverse-reverse, length-reverse, length-append}
 use Rattle.std.specs.declared.option.Option.{Option}
 use Rattle.std.specs.declared.option.Option.TheVariants.{Some, None}
 use Rattle.sg_logic.specs.declared.values.Value.{Value}
@@ -12,7 +12,7 @@ use Rattle.event_wheel.specs.Chains.{head_or, last_or, Chain, walk}
 use Rattle.event_wheel.specs.Families.{pair_of, pairs_at, IsBefore, IsAfter, IsOrdered}
 use Rattle.event_wheel.specs.Places.{IsBucketChain, IsPlace}
 use Rattle.event_wheel.proofs.LinkLaws.{is_some-of}
-use Rattle.event_wheel.proofs.KeyLaws.{has-left, distinct-parts, last_or-append, last_or-some, length_below}
+use Rattle.event_wheel.proofs.KeyLaws.{distinct-parts, last_or-append, last_or-some, length_below}
 use Rattle.event_wheel.proofs.ChainLaws.{chain-split, chain-reverse, walk-chain, last_or-reverse}
 use Rattle.event_wheel.proofs.OrderLaws.{pairs-append, ordered-parts, after-last}
 use Rattle.event_wheel.proofs.TableLaws.{slot_below}

@@ -1,6 +1,6 @@
 -- The table of lists that the drivers' chains stand for.
-use Rattle.std.proofs.Common.{◌≡◌, ◌≢◌, ℕ, ◌<◌, ◌≤◌, List, [], ◌∷◌, ◌++◌, ◌⊎◌, length, reverse, refl, sym, ◌∙◌, ap, subst, arith, inl, inr}
-use Rattle.std.specs.Prelude.{slice_index_or, slice_set}
+use Rattle.std.proofs.Common.{◌≡◌, ◌≢◌, ℕ, ◌<◌, ◌≤◌, List, [], length, reverse, sym, ◌∙◌, ap, subst, arith, inl, inr}
+use Rattle.std.specs.Prelude.{slice_index_or}
 use Rattle.std.proofs.lemmas.Bool.{cases_eq, cases_lt}
 use Rattle.std.proofs.lemmas.List.{ext_get_or, get_or-map, get_or_past, get_or-set_same, get_or-set_other, length-map, length-set}
 use Rattle.std.specs.declared.option.Option.{Option}
@@ -10,9 +10,6 @@ use Rattle.sg_model.specs.Agenda.{list_at, with_list, Rises}
 use Rattle.event_wheel.specs.declared.nodes.Node.{Node}
 use Rattle.event_wheel.specs.declared.chains.Ends.{Ends}
 use Rattle.event_wheel.specs.Slots.{Held, node_at}
-use Rattle.event_wheel.specs.Keys.{Has}
-use Rattle.event_wheel.specs.Links.{Store}
-use Rattle.event_wheel.specs.Chains.{walk}
 use Rattle.event_wheel.specs.Families.{IsIndexed, IsOrdered, pairs_at, no_ends}
 use Rattle.event_wheel.specs.Kept.{list_of, table_of, driver_of}
 use Rattle.event_wheel.proofs.KeyLaws.{length_below}

@@ -7,23 +7,23 @@ use Rattle.std.specs.declared.option.Option.{Option}
 use Rattle.std.specs.declared.option.Option.TheVariants.{Some, None}
 use Rattle.sg_logic.specs.declared.values.Value.{Value}
 use Rattle.sg_model.specs.Pending.{IsAbove}
-use Rattle.sg_model.specs.Agenda.{list_at, with_list}
+use Rattle.sg_model.specs.Agenda.{list_at}
 use Rattle.event_wheel.specs.declared.nodes.Node.{Node}
 use Rattle.event_wheel.specs.declared.chains.Ends.{Ends}
 use Rattle.event_wheel.specs.Slots.{Held, node_at, link_of}
 use Rattle.event_wheel.specs.Keys.{Has, AreDistinct, IsOutside}
-use Rattle.event_wheel.specs.Links.{Store, AreNeighbours, slot_with_link, ends_between, store_after_taking, store_after_putting, store_with}
-use Rattle.event_wheel.specs.Chains.{head_or, last_or}
-use Rattle.event_wheel.specs.Families.{IsIndexed, IsAfter, IsBefore, pair_of, pairs_at, no_ends, ends_of}
-use Rattle.event_wheel.specs.Kept.{AreBuckets, AreDrivers, AreChained, HasPut, HasTaken, NoNodeBelow, bucket_of, driver_of, table_of}
+use Rattle.event_wheel.specs.Links.{Store, AreNeighbours, ends_between, store_after_taking, store_after_putting, store_with}
+use Rattle.event_wheel.specs.Chains.{last_or}
+use Rattle.event_wheel.specs.Families.{IsIndexed, pair_of, pairs_at, no_ends}
+use Rattle.event_wheel.specs.Kept.{AreBuckets, AreChained, HasPut, HasTaken, bucket_of, driver_of, table_of}
 use Rattle.event_wheel.specs.Places.{IsBucketChain, IsPlace}
 use Rattle.event_wheel.proofs.LinkLaws.{added-other, added-key, is_some-of}
 use Rattle.event_wheel.proofs.KeyLaws.{has-left, has-right, last-in, head-has, outside-not, nothing_after_last}
 use Rattle.event_wheel.proofs.FamilyLaws.{with_chain, with-same, with-other, one-chain}
-use Rattle.event_wheel.proofs.OrderLaws.{pairs-append, pairs-same, after-above}
+use Rattle.event_wheel.proofs.OrderLaws.{pairs-append, after-above}
 use Rattle.event_wheel.proofs.IndexLaws.{indexed-same, pairs-apart}
 use Rattle.event_wheel.proofs.EffectLaws.{bucket_home, driver_home, buckets-taken, drivers-taken, buckets-put, drivers-put, pair-taken, pair-put, none-taken, none_taken, none_put}
-use Rattle.event_wheel.proofs.TableLaws.{IsTabled, table_at, table-changed}
+use Rattle.event_wheel.proofs.TableLaws.{table_at, table-changed}
 
 pub cases_slot : (o : Option Node) → (o ≡ None) ⊎ ((n : Node) × (o ≡ Some n))
 cases_slot None = inl refl

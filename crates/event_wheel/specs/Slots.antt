@@ -1,7 +1,7 @@
 -- What a store of nodes shows.
 use Rattle.std.specs.Prelude.{◌≡◌, ◌≢◌, ℕ, List, slice_index_or, slice_set}
 use Rattle.std.specs.declared.option.Option.{Option}
-use Rattle.std.specs.declared.option.Option.TheVariants.{Some, None}
+use Rattle.std.specs.declared.option.Option.TheVariants.{None}
 use Rattle.event_wheel.specs.declared.nodes.Node.{Node}
 
 -- what each key has, and for how many nodes more there is room

@@ -1,5 +1,5 @@
 -- One transition fewer.
-use Rattle.std.proofs.Common.{◌≡◌, ◌<◌, ◌≤◌, [], length, ap, subst, sym, ◌∙◌, arith}
+use Rattle.std.proofs.Common.{◌<◌, ◌≤◌, [], length, ap, subst, sym, ◌∙◌, arith}
 use Rattle.std.proofs.lemmas.List.{length-set, set-set}
 use Rattle.sg_model.specs.Pending.{without_last}
 use Rattle.sg_model.specs.Agenda.{list_at, with_list}

@@ -1,5 +1,5 @@
 -- What is due is first in its bucket.
-use Rattle.std.proofs.Common.{◌≡◌, ◌≢◌, ◌<◌, ◌%◌, Some, None, length, refl, ap, subst, sym, ◌∙◌, arith}
+use Rattle.std.proofs.Common.{◌≡◌, ◌≢◌, ◌<◌, ◌%◌, Some, length, refl, ap, subst, sym, ◌∙◌, arith}
 use Rattle.sg_model.specs.Agenda.{IsTaken, NothingBelow}
 use Rattle.event_wheel.specs.declared.nodes.Node.{Node}
 use Rattle.event_wheel.specs.declared.chains.Ends.{Ends}

@@ -1,8 +1,8 @@
 -- Each node that is passed is later than the time.
-use Rattle.std.proofs.Common.{◌≡◌, ◌<◌, ◌≤◌, length, Some, None, refl, sym, ◌∙◌, ap, subst, arith}
+use Rattle.std.proofs.Common.{◌<◌, ◌≤◌, length, sym, subst, arith}
 use Rattle.event_wheel.specs.Slots.{node_at, link_of}
 use Rattle.event_wheel.specs.Chains.{walk}
-use Rattle.event_wheel.proofs.PlaceLaws.{IsPlacing, key_held, place_found, place_first, placing-step, placing_falls, placing-start}
+use Rattle.event_wheel.proofs.PlaceLaws.{IsPlacing, key_held, place_found, place_first, placing-step, placing_falls}
 use Rattle.event_wheel.proofs.places.place_of.Goals as goal
 
 pub read-node-requires : goal.read-node-requires

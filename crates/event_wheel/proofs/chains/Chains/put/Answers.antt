@@ -1,9 +1,7 @@
 -- The node comes into both chains.
-use Rattle.std.proofs.Common.{◌≡◌, ◌<◌, ◌≤◌, ◌%◌, List, ℕ, [], ◌∷◌, length, None, Some, refl, sym, ◌∙◌, ap, subst, arith}
-use Rattle.std.specs.Prelude.{slice_index_or}
+use Rattle.std.proofs.Common.{◌≡◌, ◌<◌, ◌%◌, [], ◌∷◌, length, None, Some, refl, sym, ◌∙◌, ap, subst, arith}
 use Rattle.event_wheel.specs.declared.chains.Ends.{Ends}
 use Rattle.event_wheel.specs.Slots.{node_at}
-use Rattle.event_wheel.specs.Families.{no_ends}
 use Rattle.event_wheel.specs.Places.{IsBucketChain}
 use Rattle.event_wheel.proofs.WheelLaws.{has_put, put_neighbours}
 use Rattle.event_wheel.proofs.WriteLaws.{ends_joined, read_ends, read_at}

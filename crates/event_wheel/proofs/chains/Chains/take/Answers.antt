@@ -1,6 +1,5 @@
 -- The node goes out of both chains.
-use Rattle.std.proofs.Common.{◌≡◌, ◌<◌, ◌≤◌, ◌%◌, length, refl, sym, ◌∙◌, ap, subst, arith}
-use Rattle.event_wheel.specs.Kept.{AreChained, driver_of}
+use Rattle.std.proofs.Common.{◌≡◌, ◌<◌, ◌≤◌, ◌%◌, length, refl, ◌∙◌, ap, arith}
 use Rattle.event_wheel.specs.Slots.{node_at, link_of}
 use Rattle.event_wheel.proofs.EffectLaws.{has_neighbours}
 use Rattle.event_wheel.proofs.WheelLaws.{has_taken}

@@ -1,11 +1,9 @@
 -- The driver's last node goes.
-use Rattle.std.proofs.Common.{◌≡◌, ◌<◌, IsSome, Some, None, [], length, ap, subst, sym, ◌∙◌, arith}
-use Rattle.std.specs.Prelude.{slice_index_or}
+use Rattle.std.proofs.Common.{◌≡◌, ◌<◌, [], length, ap, subst, sym, ◌∙◌, arith}
 use Rattle.sg_model.specs.Pending.{without_last}
 use Rattle.sg_model.specs.Agenda.{list_at, with_list}
 use Rattle.event_wheel.specs.declared.chains.Ends.{Ends}
 use Rattle.event_wheel.specs.Slots.{node_at}
-use Rattle.event_wheel.specs.Families.{no_ends}
 use Rattle.event_wheel.specs.Kept.{table_of}
 use Rattle.event_wheel.specs.Wheel.{WheelView}
 use Rattle.event_wheel.proofs.LinkLaws.{is_some-of}
