@@ -40,9 +40,9 @@ nil_after [] = refl
 nil_after (p ∷ ps) = ap (λ qs. p ∷ qs) (nil_after ps)
 
 -- a driver's last node was taken
-pub cancel_drops_last : (old new : Held) (buckets drivers buckets' drivers' : List Ends) (driver k : ℕ) (node : Node) → HasTaken old buckets drivers new buckets' drivers' k node → driver < length drivers → (slice_index_or drivers driver no_ends).last ≡ Some k
+pub cancel_drops_last : (old new : Held) (buckets drivers buckets' drivers' : List Ends) (near' : List (Option ℕ)) (driver k : ℕ) (node : Node) → HasTaken old buckets drivers new buckets' drivers' near' k node → driver < length drivers → (slice_index_or drivers driver no_ends).last ≡ Some k
     → table_of new drivers' ≡ with_list (table_of old drivers) driver (without_last (list_at (table_of old drivers) driver))
-cancel_drops_last old new buckets drivers buckets' drivers' driver k node h l e =
+cancel_drops_last old new buckets drivers buckets' drivers' near' driver k node h l e =
     let t : List (List (ℕ × Value)) = table_of old drivers in
     let r = h.last driver l e in
     let list : list_at t driver ≡ h.front ++ (node.time, node.value) ∷ [] = ap (list_at t) (sym r.0) ∙ (h.list ∙ ap (λ qs. h.front ++ (node.time, node.value) ∷ qs) r.1) in
@@ -122,9 +122,9 @@ front_none (q ∷ qs) p back now o b e =
     let k : now ≤ q.0 = b.0 in
     absurd (omega arith)
 
-pub take_gives_due : (old new : Held) (buckets drivers buckets' drivers' : List Ends) (chains : ℕ → List ℕ) (now k : ℕ) (node : Node) → IsTabled old drivers chains → HasTaken old buckets drivers new buckets' drivers' k node → NothingBelow now (table_of old drivers) → node.time ≡ now
+pub take_gives_due : (old new : Held) (buckets drivers buckets' drivers' : List Ends) (near' : List (Option ℕ)) (chains : ℕ → List ℕ) (now k : ℕ) (node : Node) → IsTabled old drivers chains → HasTaken old buckets drivers new buckets' drivers' near' k node → NothingBelow now (table_of old drivers) → node.time ≡ now
     → IsTaken now (table_of old drivers) (table_of new drivers') (node.driver, node.value)
-take_gives_due old new buckets drivers buckets' drivers' chains now k node f h b e =
+take_gives_due old new buckets drivers buckets' drivers' near' chains now k node f h b e =
     let t : List (List (ℕ × Value)) = table_of old drivers in
     let d : ℕ = node.driver in
     let p : ℕ × Value = (node.time, node.value) in
@@ -249,13 +249,10 @@ is_bucket held buckets i first b l e =
 pub table-slots : (old new : Held) (drivers : List Ends) → new.slots ≡ old.slots → table_of new drivers ≡ table_of old drivers
 table-slots old new drivers e = subst (λ s. table_of (record { slots = s; room = 0 }) drivers ≡ table_of old drivers) (sym e) refl
 
-pub chained-slots : (old new : Held) (buckets drivers : List Ends) → new.slots ≡ old.slots → AreChained old buckets drivers → AreChained new buckets drivers
-chained-slots old new buckets drivers e h =
-    record {
-      some = h.some;
-      by_time = subst (λ (s : List (Option Node)). AreBuckets (λ k. slice_index_or s k None) buckets) (sym e) h.by_time;
-      by_driver = subst (λ (s : List (Option Node)). AreDrivers (λ k. slice_index_or s k None) drivers) (sym e) h.by_driver;
-    }
+pub chained-slots : (old new : Held) (buckets drivers : List Ends) (near : List (Option ℕ)) → new.slots ≡ old.slots → AreChained old buckets drivers near → AreChained new buckets drivers near
+chained-slots old new buckets drivers near e h =
+    (subst (λ (s : List (Option Node)). (b : AreBuckets (λ k. slice_index_or s k None) buckets) → ((i k : ℕ) → i < length buckets → slice_index_or near i None ≡ Some k → Has k (b.chains i)) → AreDrivers (λ k. slice_index_or s k None) drivers → AreChained new buckets drivers near) e
+    (λ b n d. record { some = h.some; by_time = b; by_driver = d; as_many = h.as_many; near_in = n })) h.by_time h.near_in h.by_driver
 
 pub from-slots : (old new : Held) (time : ℕ) → new.slots ≡ old.slots → NoNodeBelow (node_at old) time → NoNodeBelow (node_at new) time
 from-slots old new time e h = subst (λ (s : List (Option Node)). NoNodeBelow (λ k. slice_index_or s k None) time) (sym e) h
@@ -273,17 +270,17 @@ is_some_false : (o : Option ℕ) → is_some o ≡ false → o ≡ None
 is_some_false None e = refl
 is_some_false (Some k) e = cc
 
-pub has_yes : (held : Held) (buckets drivers : List Ends) (v : WheelView) (d : ℕ) (last : Option ℕ) (b : Bool) → AreChained held buckets drivers → view_of held buckets drivers ≡ v → d < length v.lists → last ≡ (slice_index_or drivers d no_ends).last → b ≡ is_some last
+pub has_yes : (held : Held) (buckets drivers : List Ends) (near : List (Option ℕ)) (v : WheelView) (d : ℕ) (last : Option ℕ) (b : Bool) → AreChained held buckets drivers near → view_of held buckets drivers ≡ v → d < length v.lists → last ≡ (slice_index_or drivers d no_ends).last → b ≡ is_some last
     → OnTrue b (0 < length (list_at v.lists d))
-has_yes held buckets drivers v d last b h e l is eb =
+has_yes held buckets drivers near v d last b h e l is eb =
     OnTrue_from b (0 < length (list_at v.lists d))
     (λ t. let k = is_some_true last (sym eb ∙ t) in
     let within = driver_in held buckets drivers v d e l in
     subst (λ (w : WheelView). 0 < length (list_at w.lists d)) e (list_some held drivers h.by_driver.chains d k.0 h.by_driver.indexed within (sym is ∙ k.1)))
 
-pub has_no : (held : Held) (buckets drivers : List Ends) (v : WheelView) (d : ℕ) (last : Option ℕ) (b : Bool) → AreChained held buckets drivers → view_of held buckets drivers ≡ v → d < length v.lists → last ≡ (slice_index_or drivers d no_ends).last → b ≡ is_some last
+pub has_no : (held : Held) (buckets drivers : List Ends) (near : List (Option ℕ)) (v : WheelView) (d : ℕ) (last : Option ℕ) (b : Bool) → AreChained held buckets drivers near → view_of held buckets drivers ≡ v → d < length v.lists → last ≡ (slice_index_or drivers d no_ends).last → b ≡ is_some last
     → OnFalse b (list_at v.lists d ≡ [])
-has_no held buckets drivers v d last b h e l is eb =
+has_no held buckets drivers near v d last b h e l is eb =
     OnFalse_from b (list_at v.lists d ≡ [])
     (λ t. let none = is_some_false last (sym eb ∙ t) in
     let within = driver_in held buckets drivers v d e l in
@@ -301,9 +298,9 @@ unmet_other m first key now node e h d b =
     let node_same : r.1 ≡ node = (let y : Some r.1 ≡ Some node = sym r.3 ∙ (ap m same ∙ h) in cc) in
     d (ap (λ (x : Node). x.time) (sym node_same) ∙ r.4)
 
-pub nothing_due : (held : Held) (buckets drivers : List Ends) (v : WheelView) (now i : ℕ) (first : Option ℕ) → AreChained held buckets drivers → view_of held buckets drivers ≡ v → NothingBelow now v.lists → i ≡ now % length buckets → first ≡ (slice_index_or buckets i no_ends).first
+pub nothing_due : (held : Held) (buckets drivers : List Ends) (near : List (Option ℕ)) (v : WheelView) (now i : ℕ) (first : Option ℕ) → AreChained held buckets drivers near → view_of held buckets drivers ≡ v → NothingBelow now v.lists → i ≡ now % length buckets → first ≡ (slice_index_or buckets i no_ends).first
     → (StartsAt (node_at held) first now → ⊥) → NothingDue now v.lists
-nothing_due held buckets drivers v now i first h e below ei ef unmet =
+nothing_due held buckets drivers near v now i first h e below ei ef unmet =
     let D = h.by_driver in
     let from : NoNodeBelow (node_at held) now = nodes_from held drivers D.chains now D.indexed (subst (λ (w : WheelView). NothingBelow now w.lists) (sym e) below) in
     subst (λ (w : WheelView). NothingDue now w.lists) e

@@ -91,6 +91,8 @@ module _ (m : Store) (R : ℕ → ℕ → Type 0) (ends ends' : List Ends) (chai
         front = r.front;
         back = r.back;
         whole = r.whole;
+        before_is = r.before_is;
+        after_is = r.after_is;
         outside = r.outside;
         indexed = indexed-side (store_with_link m1 s 3 t) 0 1 home R ends' c t 2 s hm (λ x. omega (arith, x)) (λ x. omega (arith, x)) f2;
       }
@@ -119,6 +121,8 @@ module _ (m : Store) (R : ℕ → ℕ → Type 0) (ends ends' : List Ends) (chai
         front = r.front;
         back = r.back;
         whole = r.whole;
+        before_is = r.before_is;
+        after_is = r.after_is;
         outside = r.outside;
         indexed = indexed-same (store_without (store_with_link (store_with_link m1 s 3 t) t 2 s) k) (store_after_taking m k node) 2 3 home R ends' c same r.indexed;
       }

@@ -33,8 +33,8 @@ indexed_none m b a home R n none =
 node_none : (held : Held) → held.slots ≡ [] → (k : ℕ) → node_at held k ≡ None
 node_none held e k = ap (λ (s : List (Option Node)). slice_index_or s k None) e ∙ get_or_past [] k None (omega arith)
 
-pub chained-none : (held : Held) (n d : ℕ) (buckets drivers : List Ends) (e g : Ends) → held.slots ≡ [] → 0 < n → e ≡ no_ends → g ≡ no_ends → buckets ≡ replicate n e → drivers ≡ replicate d g → AreChained held buckets drivers
-chained-none held n d buckets drivers e g s l ee eg eb ed =
+pub chained-none : (held : Held) (n d : ℕ) (buckets drivers : List Ends) (near : List (Option ℕ)) (e g : Ends) → held.slots ≡ [] → 0 < n → e ≡ no_ends → g ≡ no_ends → buckets ≡ replicate n e → drivers ≡ replicate d g → near ≡ replicate n None → AreChained held buckets drivers near
+chained-none held n d buckets drivers near e g s l ee eg eb ed en =
     let m : Store = node_at held in
     let none : (k : ℕ) → m k ≡ None = node_none held s in
     let b : buckets ≡ replicate n no_ends = eb ∙ ap (replicate n) ee in
@@ -43,6 +43,11 @@ chained-none held n d buckets drivers e g s l ee eg eb ed =
       some = (let k : length buckets ≡ n = ap (length {A = Ends}) b ∙ length-replicate n no_ends in omega arith);
       by_time = record { chains = λ i. []; indexed = subst (λ bs. IsIndexed m 0 1 (bucket_of (length bs)) (λ s t. s ≤ t) bs (λ i. [])) (sym b) (indexed_none m 0 1 (bucket_of (length (replicate n no_ends))) (λ s t. s ≤ t) n none) };
       by_driver = record { chains = λ i. []; indexed = subst (λ ds. IsIndexed m 2 3 driver_of (λ s t. s < t) ds (λ i. [])) (sym r) (indexed_none m 2 3 driver_of (λ s t. s < t) d none) };
+      as_many = ap (length {A = Option ℕ}) en ∙ (length-replicate n None ∙ sym (ap (length {A = Ends}) b ∙ length-replicate n no_ends));
+      near_in = λ i x li g.
+          (let k : length buckets ≡ n = ap (length {A = Ends}) b ∙ length-replicate n no_ends in
+          let none_at : slice_index_or near i None ≡ None = ap (λ (ns : List (Option ℕ)). slice_index_or ns i None) en ∙ get_or-replicate n i None None (omega arith) in
+          let y : None ≡ Some x = sym none_at ∙ g in cc);
     }
 
 map_replicate : (f : Ends → List (ℕ × Value)) (e : Ends) (d : ℕ) → f e ≡ [] → map f (replicate d e) ≡ replicate d []

@@ -94,6 +94,8 @@ pub record TakenFrom (m : Store) (b a : ℕ) (home : Node → ℕ) (R : ℕ → 
   pub front : List ℕ
   pub back : List ℕ
   pub whole : keys ≡ front ++ k ∷ back
+  pub before_is : last_or None front ≡ before
+  pub after_is : head_or None back ≡ after
   pub outside : IsOutside k (front ++ back)
   pub indexed : IsIndexed m b a home R ends (with_chain chains i (front ++ back))
 
@@ -137,6 +139,8 @@ indexed-taken m b a home R ends ends' chains k node i p q hm d lb la f e hi hp h
       front = xs;
       back = ys;
       whole = whole;
+      before_is = ep;
+      after_is = eq;
       outside = out;
       indexed = indexed_over m2 b a home R ends ends' (with_chain chains i (xs ++ ys)) (ap length he ∙ length-set ends i (ends_between old p q q p)) fam order
           (subst (λ es. (j : ℕ) → j < n → slice_index_or es j no_ends ≡ ends_of (with_chain chains i (xs ++ ys) j)) (sym he) (ends-written ends i (ends_between old p q q p) chains (xs ++ ys) l is f.ends_are));

@@ -3,6 +3,7 @@ use Rattle.std.proofs.Common.{◌≡◌, ℕ, ◌<◌, List, ◌∙◌, ap, leng
 use Rattle.std.specs.Prelude.{slice_index_or, slice_set}
 use Rattle.std.proofs.lemmas.List.{get_or_default}
 use Rattle.std.specs.declared.option.Option.{Option}
+use Rattle.std.specs.declared.option.Option.TheVariants.{None}
 use Rattle.event_wheel.specs.declared.chains.Ends.{Ends}
 use Rattle.event_wheel.specs.Links.{ends_between}
 use Rattle.event_wheel.specs.Families.{no_ends}
@@ -19,3 +20,7 @@ pub ends_joined : (xs : List Ends) (i j : ℕ) (e after : Ends) (p q f l : Optio
 ends_joined xs i j e after p q f l same within read is =
     let at : e ≡ slice_index_or xs j no_ends = read_at xs i j e same within read in
     ap (λ n. slice_set xs n after) same ∙ ap (slice_set xs j) (is ∙ ap (λ (x : Ends). ends_between x p q f l) at)
+
+-- the same of keys
+pub read_near : (xs : List (Option ℕ)) (i j : ℕ) (k : Option ℕ) → i ≡ j → j < length xs → k ≡ slice_index_or xs i k → k ≡ slice_index_or xs j None
+read_near xs i j k same l h = h ∙ (ap (λ n. slice_index_or xs n k) same ∙ get_or_default xs j k None l)

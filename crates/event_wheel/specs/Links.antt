@@ -73,3 +73,8 @@ end_or (Some key) new old = old
 -- the ends of a chain after a change between two keys
 abbrev pub ends_between : Ends → Option ℕ → Option ℕ → Option ℕ → Option ℕ → Ends
 ends_between ends before after first last = record { first = end_or before first ends.first; last = end_or after last ends.last }
+
+-- a key that is known, after this one was taken from between two others
+abbrev pub known_without : Option ℕ → ℕ → Option ℕ → Option ℕ → Option ℕ
+known_without None key before after = None
+known_without (Some near) key before after = if near == key then end_or before after before else Some near

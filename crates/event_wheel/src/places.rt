@@ -4,25 +4,52 @@ ghost use Rattle.std.specs.Option.{ForSome};
 ghost use Rattle.std.specs.Bool.{OnTrue, OnFalse};
 ghost use Rattle.event_wheel.specs.Slots.{node_at};
 ghost use Rattle.event_wheel.specs.Kept.{AreBuckets, NoNodeBelow, NoNode, IsNodesTime};
-ghost use Rattle.event_wheel.specs.Places.{IsBucketChain, IsPlace, StartsAt, IsLesser};
+ghost use Rattle.event_wheel.specs.Places.{IsBucketChain, IsBeforeLater, IsPlace, StartsAt, IsLesser};
 
 use crate::chains::Ends;
 use crate::nodes::Nodes;
 use sg_steps::Steps;
 use std::sync::ledger::Ledger;
 
-/// Between which nodes of a bucket's chain, which ends with `last`, a time is put: behind all that are as early.
-pub fn place_of<L: Ledger>(
+// Two neighbours in a bucket's chain, from which on no time is earlier than this: on from the node that is near, or else at
+// the end.
+fn place_before_later<L: Ledger>(
     nodes: &Nodes,
+    near: Option<usize>,
     last: Option<usize>,
     time: u64,
     steps: &mut Steps<L>,
 ) -> (Option<usize>, Option<usize>)
-    requires { (keys : List ℕ) × IsBucketChain (node_at nodes.now) keys last }
-    ensures { (keys : List ℕ) → IsBucketChain (node_at nodes.now) keys last → IsPlace (node_at nodes.now) keys time result.0 result.1 }
+    requires { (keys : List ℕ) × IsBucketChain (node_at nodes.now) keys near last }
+    ensures { (keys : List ℕ) → IsBucketChain (node_at nodes.now) keys near last → IsBeforeLater (node_at nodes.now) keys time result.0 result.1 }
 {
-    let mut before = last;
-    let mut after = None;
+    let Some(key) = near else {
+        return (last, None);
+    };
+    let mut before = near;
+    let mut after = nodes.read(key, steps).links[1];
+    while let Some(key) = after {
+        let node = nodes.read(key, steps);
+        if time < node.time {
+            return (before, after);
+        }
+        before = after;
+        after = node.links[1];
+    }
+    (before, after)
+}
+
+// The place of a time, back from two neighbours from which on no time is earlier.
+fn place_back<L: Ledger>(
+    nodes: &Nodes,
+    from: (Option<usize>, Option<usize>),
+    time: u64,
+    steps: &mut Steps<L>,
+) -> (Option<usize>, Option<usize>)
+    requires { (keys : List ℕ) × IsBeforeLater (node_at nodes.now) keys time from.0 from.1 }
+    ensures { (keys : List ℕ) → IsBeforeLater (node_at nodes.now) keys time from.0 from.1 → IsPlace (node_at nodes.now) keys time result.0 result.1 }
+{
+    let (mut before, mut after) = from;
     while let Some(key) = before {
         let node = nodes.read(key, steps);
         if node.time <= time {
@@ -32,6 +59,22 @@ pub fn place_of<L: Ledger>(
         before = node.links[0];
     }
     (before, after)
+}
+
+/// Between which nodes of a bucket's chain, which ends with `last`, a time is put: behind all that are as early. The search
+/// begins at the node that is near.
+pub fn place_of<L: Ledger>(
+    nodes: &Nodes,
+    near: Option<usize>,
+    last: Option<usize>,
+    time: u64,
+    steps: &mut Steps<L>,
+) -> (Option<usize>, Option<usize>)
+    requires { (keys : List ℕ) × IsBucketChain (node_at nodes.now) keys near last }
+    ensures { (keys : List ℕ) → IsBucketChain (node_at nodes.now) keys near last → IsPlace (node_at nodes.now) keys time result.0 result.1 }
+{
+    let from = place_before_later(nodes, near, last, time, steps);
+    place_back(nodes, from, time, steps)
 }
 
 /// The bucket of a time.

@@ -32,7 +32,7 @@ impl Model for Wheel {
 
     ghost view = { λ w. view_of w.chains.nodes w.chains.buckets.items w.chains.drivers.items };
 
-    ghost invariant = { λ w. IsWheel w.chains.nodes w.chains.buckets.items w.chains.drivers.items w.earliest };
+    ghost invariant = { λ w. IsWheel w.chains.nodes w.chains.buckets.items w.chains.drivers.items w.chains.near.items w.earliest };
 }
 
 impl Wheel {

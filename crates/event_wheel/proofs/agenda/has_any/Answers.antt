@@ -11,7 +11,7 @@ returns-clause-yes c =
     let B = c.wheel.inside.chains.buckets.items in
     let D = c.wheel.inside.chains.drivers.items in
     let within = driver_in held B D c.args.wheel.now c.args.driver c.wheel.view_is c.requires in
-    has_yes held B D c.args.wheel.now c.args.driver c.index.result.now.last c.is_some.result c.wheel.invariant.chained c.wheel.view_is c.requires
+    has_yes held B D c.wheel.inside.chains.near.items c.args.wheel.now c.args.driver c.index.result.now.last c.is_some.result c.wheel.invariant.chained c.wheel.view_is c.requires
     (ap (λ (x : Ends). x.last) (read_ends D c.args.driver c.index.result.now within c.index.ensures)) c.is_some.ensures
 
 pub returns-clause-no : goal.returns-clause-no
@@ -20,5 +20,5 @@ returns-clause-no c =
     let B = c.wheel.inside.chains.buckets.items in
     let D = c.wheel.inside.chains.drivers.items in
     let within = driver_in held B D c.args.wheel.now c.args.driver c.wheel.view_is c.requires in
-    has_no held B D c.args.wheel.now c.args.driver c.index.result.now.last c.is_some.result c.wheel.invariant.chained c.wheel.view_is c.requires
+    has_no held B D c.wheel.inside.chains.near.items c.args.wheel.now c.args.driver c.index.result.now.last c.is_some.result c.wheel.invariant.chained c.wheel.view_is c.requires
     (ap (λ (x : Ends). x.last) (read_ends D c.args.driver c.index.result.now within c.index.ensures)) c.is_some.ensures

@@ -19,7 +19,7 @@ returns-in_default-clause-none g c =
     let bucket : c.bucket_of-bucket.result ≡ c.args.now % length B = c.bucket_of-bucket.ensures ∙ ap (λ xs. c.args.now % length xs) c.deref.ensures.value in
     let inside : c.args.now % length B < length B = omega arith in
     let within : c.bucket_of-bucket.result < length B = omega arith in (
-      nothing_due held B c.wheel.inside.chains.drivers.items c.args.wheel.now c.args.now c.bucket_of-bucket.result c.index.result.now.first c.wheel.invariant.chained c.wheel.view_is c.requires.below bucket
+      nothing_due held B c.wheel.inside.chains.drivers.items c.wheel.inside.chains.near.items c.args.wheel.now c.args.now c.bucket_of-bucket.result c.index.result.now.first c.wheel.invariant.chained c.wheel.view_is c.requires.below bucket
           (ap (λ (x : Ends). x.first) (read_ends B c.bucket_of-bucket.result c.index.result.now within c.index.ensures))
           (unmet_none (node_at held) c.index.result.now.first c.args.now c.in_default.is),
       refl,
@@ -45,7 +45,7 @@ returns-then-read-now-clause-none g c =
     let inside : c.args.now % length B < length B = omega arith in
     let within : c.bucket_of-bucket.result < length B = omega arith in
     let other : c.read.result.time ≢ c.args.now = c.if-read-now.true in (
-      nothing_due held B c.wheel.inside.chains.drivers.items c.args.wheel.now c.args.now c.bucket_of-bucket.result c.index.result.now.first c.wheel.invariant.chained c.wheel.view_is c.requires.below bucket
+      nothing_due held B c.wheel.inside.chains.drivers.items c.wheel.inside.chains.near.items c.args.wheel.now c.args.now c.bucket_of-bucket.result c.index.result.now.first c.wheel.invariant.chained c.wheel.view_is c.requires.below bucket
           (ap (λ (x : Ends). x.first) (read_ends B c.bucket_of-bucket.result c.index.result.now within c.index.ensures))
           (unmet_other (node_at held) c.index.result.now.first c.in-Some.key c.args.now c.read.result c.in-Some.is c.read.ensures.node other),
       refl,
@@ -62,4 +62,4 @@ returns-clause-some g c =
     let now : c.read.result.time ≡ c.args.now = c.if-read-now.false in
     let due : c.take-node.result.time ≡ c.args.now = ap (λ (x : Node). x.time) (sym same) ∙ now in
     subst (λ (v : WheelView). IsTaken c.args.now v.lists (table_of c.take-node.new.self.nodes c.take-node.new.self.drivers.items) (c.take-node.result.driver, c.take-node.result.value)) c.wheel.view_is
-    (take_gives_due held c.take-node.new.self.nodes B D c.take-node.new.self.buckets.items c.take-node.new.self.drivers.items R.chains c.args.now c.in-Some.key c.take-node.result R.indexed c.take-node.ensures.taken below due)
+    (take_gives_due held c.take-node.new.self.nodes B D c.take-node.new.self.buckets.items c.take-node.new.self.drivers.items c.take-node.new.self.near.items R.chains c.args.now c.in-Some.key c.take-node.result R.indexed c.take-node.ensures.taken below due)

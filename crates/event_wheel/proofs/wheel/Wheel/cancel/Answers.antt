@@ -28,7 +28,7 @@ returns-in-Some-clause-lists g c =
     let within = driver_in held c.self.inside.chains.buckets.items D c.args.self.now c.args.driver c.self.view_is c.requires.driver in
     let last = sym (ap (λ (x : Ends). x.last) (read_ends D c.args.driver c.index.result.now within c.index.ensures)) ∙ c.in-Some.is in
     subst (λ (v : WheelView). table_of c.take.new.self.nodes c.take.new.self.drivers.items ≡ with_list v.lists c.args.driver (without_last (list_at v.lists c.args.driver))) c.self.view_is
-    (cancel_drops_last held c.take.new.self.nodes c.self.inside.chains.buckets.items D c.take.new.self.buckets.items c.take.new.self.drivers.items c.args.driver c.in-Some.key c.take.result c.take.ensures.taken within last)
+    (cancel_drops_last held c.take.new.self.nodes c.self.inside.chains.buckets.items D c.take.new.self.buckets.items c.take.new.self.drivers.items c.take.new.self.near.items c.args.driver c.in-Some.key c.take.result c.take.ensures.taken within last)
 
 pub returns-in_default-clause-lists : goal.returns-in_default-clause-lists
 returns-in_default-clause-lists g c =
