@@ -1,7 +1,6 @@
 -- Each node that is passed is later than the time.
-use Rattle.std.proofs.Common.{◌≡◌, ◌<◌, ◌≤◌, length, Some, None, refl, sym, subst, arith}
-use Rattle.event_wheel.specs.Slots.{node_at, link_of}
-use Rattle.event_wheel.specs.Chains.{walk}
+use Rattle.std.proofs.Common.{◌≤◌, Some, refl, subst, arith}
+use Rattle.event_wheel.specs.Slots.{node_at}
 use Rattle.event_wheel.proofs.PlaceLaws.{IsPlacing, before_held, place_found, place_first, placing-step, placing_falls}
 use Rattle.event_wheel.proofs.places.place_back.Goals as goal
 

@@ -1,7 +1,6 @@
 -- From the first node that is later on all are.
-use Rattle.std.proofs.Common.{◌≡◌, ◌<◌, ◌≤◌, length, Some, None, refl, sym, subst, arith}
+use Rattle.std.proofs.Common.{◌≤◌, Some, refl, subst, arith}
 use Rattle.event_wheel.specs.Slots.{node_at, link_of}
-use Rattle.event_wheel.specs.Chains.{walk}
 use Rattle.event_wheel.specs.Places.{IsBetween}
 use Rattle.event_wheel.proofs.PlaceLaws.{IsPassing, between_end, between_near, near_held, after_held, later_from, later_none, passing_step, passing_falls}
 use Rattle.event_wheel.proofs.places.place_before_later.Goals as goal
