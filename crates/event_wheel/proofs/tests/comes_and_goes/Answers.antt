@@ -1,5 +1,5 @@
 -- The node stays under its key.
-use Rattle.event_wheel.specs.Slots.{node_at, with_link}
+use Rattle.event_wheel.specs.Slots.{node_at}
 use Rattle.event_wheel.proofs.LinkLaws.{is_some-of}
 use Rattle.event_wheel.proofs.tests.comes_and_goes.Goals as goal
 
