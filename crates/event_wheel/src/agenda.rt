@@ -1,5 +1,5 @@
 // A wheel is an agenda. Nobody counts the steps of these calls.
-ghost use Rattle.std.specs.Prelude.{◌≡◌, ◌≢◌, ℕ, ◌+◌, ◌<◌, ◌≤◌, [], ◌∷◌, ◌++◌, length, reverse, IfSome, IfNone, OnOk};
+ghost use Rattle.std.specs.Prelude.{◌≡◌, ◌+◌, ◌<◌, ◌≤◌, [], ◌∷◌, ◌++◌, length, reverse, IfSome, IfNone, OnOk};
 ghost use Rattle.std.specs.Bool.{OnTrue, OnFalse};
 ghost use Rattle.sg_model.specs.Pending.{last_of, without_last, IsAbove};
 ghost use Rattle.sg_model.specs.Agenda.{list_at, with_list, IsTaken, NothingDue, NothingBelow, IsLeastTime, AllEmpty, Rises};

@@ -1,5 +1,5 @@
 // The chains of the buckets and of the drivers over one store of nodes.
-ghost use Rattle.std.specs.Prelude.{◌≡◌, ℕ, ◌+◌, ◌-◌, ◌<◌, ◌≤◌, [], Some, IsSome, IfOk, length, reverse, replicate};
+ghost use Rattle.std.specs.Prelude.{◌≡◌, ◌+◌, ◌<◌, ◌≤◌, [], IsSome, IfOk, length, reverse, replicate};
 ghost use Rattle.sg_model.specs.Pending.{IsAbove};
 ghost use Rattle.sg_model.specs.Agenda.{list_at};
 ghost use Rattle.event_wheel.specs.Slots.{node_at};

@@ -1,5 +1,5 @@
 // The store of nodes.
-ghost use Rattle.std.specs.Prelude.{◌≡◌, ℕ, ◌+◌, ◌<◌, ◌≤◌, [], None, Some, IsSome, OnOk};
+ghost use Rattle.std.specs.Prelude.{◌≡◌, ℕ, ◌+◌, ◌<◌, ◌≤◌, [], IsSome, OnOk};
 ghost use Rattle.std.specs.Bool.{OnTrue, OnFalse};
 ghost use Rattle.event_wheel.specs.Slots.{node_at, Puts, with_link};
 ghost use Rattle.event_wheel.specs.declared.nodes.Node.{Node as NodeShown};

@@ -1,5 +1,5 @@
 // The wheel.
-ghost use Rattle.std.specs.Prelude.{◌≡◌, ℕ, ◌+◌, ◌<◌, ◌≤◌, [], length, IfOk, replicate};
+ghost use Rattle.std.specs.Prelude.{◌≡◌, ◌+◌, ◌<◌, ◌≤◌, [], length, IfOk, replicate};
 ghost use Rattle.sg_model.specs.Pending.{without_last};
 ghost use Rattle.sg_model.specs.Agenda.{list_at, with_list};
 ghost use Rattle.event_wheel.specs.Wheel.{HoldsPairs, IsBucket};
