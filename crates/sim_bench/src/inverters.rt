@@ -22,6 +22,8 @@ pub enum Shape {
     Chain,
     /// All read the input.
     Side,
+    /// All read the input, and each has delays of its own.
+    Spread,
 }
 
 fn net(alloc: Global, number: u32, driver: Driver) -> Result<Net, NoMemory> {
@@ -35,15 +37,15 @@ fn net(alloc: Global, number: u32, driver: Driver) -> Result<Net, NoMemory> {
     })
 }
 
-// not #(2, 3) (output, input);
-fn inverter(alloc: Global, input: u32, output: u32) -> Result<Element, NoMemory> {
+// not (output, input); with the delays of this number.
+fn inverter(alloc: Global, input: u32, output: u32, delays: u32) -> Result<Element, NoMemory> {
     Ok(Element {
         scope: 0,
         inputs: SmallVec::from_slice(alloc, &[input])?,
         output,
         kind: ElementKind::Gate {
             kind: GateKind::Not,
-            delays: 0,
+            delays,
         },
     })
 }
@@ -83,6 +85,7 @@ impl Shape {
         match name {
             "chain" => Some(Shape::Chain),
             "side" => Some(Shape::Side),
+            "spread" => Some(Shape::Spread),
             _ => None,
         }
     }
@@ -91,8 +94,36 @@ impl Shape {
     fn input(self, number: u32) -> u32 {
         match self {
             Shape::Chain => number,
-            Shape::Side => 0,
+            Shape::Side | Shape::Spread => 0,
         }
+    }
+
+    // The number of an inverter's delays.
+    fn delays(self, number: u32) -> u32 {
+        match self {
+            Shape::Chain | Shape::Side => 0,
+            Shape::Spread => number,
+        }
+    }
+
+    // The delays of so many inverters: #(2, 3) for all, or #(2), #(3) and so on.
+    fn all_delays(self, alloc: Global, count: u32) -> Result<Vec<GateDelays>, AllocError> {
+        let mut delays = Vec::new(alloc);
+        match self {
+            Shape::Chain | Shape::Side => delays.push(GateDelays {
+                count: 2,
+                at: [2, 3, 0],
+            })?,
+            Shape::Spread => {
+                for number in 0..count {
+                    delays.push(GateDelays {
+                        count: 1,
+                        at: [2 + u64::from(number), 0, 0],
+                    })?;
+                }
+            }
+        }
+        Ok(delays)
     }
 
     /// The parts of a circuit of so many inverters, with one input.
@@ -102,18 +133,13 @@ impl Shape {
         for number in 0..count {
             let output = number + 1;
             nets.push(net(alloc, output, Driver::Element(number))?)?;
-            elements.push(inverter(alloc, self.input(number), output)?)?;
+            elements.push(inverter(alloc, self.input(number), output, self.delays(number))?)?;
         }
         Ok(Parts {
             tick: PS,
             nets,
             elements,
-            gate_delays: vec![in alloc;
-                GateDelays {
-                    count: 2,
-                    at: [2, 3, 0]
-                },
-            ]?,
+            gate_delays: self.all_delays(alloc, count)?,
             leg_timings: Vec::new(alloc),
             udps: Vec::new(alloc),
             checks: Vec::new(alloc),

@@ -1,0 +1,9 @@
+-- The modules of this folder.
+pub mod Slots
+pub mod Keys
+pub mod Wheel
+pub mod Links
+pub mod Chains
+pub mod Families
+pub mod Kept
+pub mod Places

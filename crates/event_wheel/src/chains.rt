@@ -1,0 +1,138 @@
+// The chains of the buckets and of the drivers over one store of nodes.
+ghost use Rattle.std.specs.Prelude.{◌≡◌, ◌+◌, ◌<◌, ◌≤◌, [], IsSome, IfOk, length, reverse, replicate};
+ghost use Rattle.sg_model.specs.Pending.{IsAbove};
+ghost use Rattle.sg_model.specs.Agenda.{list_at};
+ghost use Rattle.event_wheel.specs.Slots.{node_at};
+ghost use Rattle.event_wheel.specs.Links.{ends_between, known_without};
+ghost use Rattle.event_wheel.specs.Kept.{AreChained, HasPut, HasTaken, table_of};
+
+use crate::links::{put_in, take_out};
+use crate::nodes::{Node, Nodes};
+use crate::places::{bucket_of, place_of};
+use sg_logic::Value;
+use sg_steps::Steps;
+use sg_text::NoMemory;
+use std::alloc::Global;
+use std::sync::ledger::Ledger;
+
+/// The keys of a chain's ends.
+#[derive(Clone, Copy, Debug)]
+pub struct Ends {
+    pub first: Option<usize>,
+    pub last: Option<usize>,
+}
+
+impl Ends {
+    /// No chain.
+    pub fn none() -> Ends
+        ensures first { result.first ≡ None }
+        ensures last { result.last ≡ None }
+    {
+        Ends {
+            first: None,
+            last: None,
+        }
+    }
+
+    /// Between `before` and `after`, whatever stood there, the chain now begins with `first` and ends with `last`.
+    fn join(
+        &mut self,
+        before: Option<usize>,
+        after: Option<usize>,
+        first: Option<usize>,
+        last: Option<usize>,
+    )
+        ensures { self.new ≡ ends_between self.old before after first last }
+    {
+        if before.is_none() {
+            self.first = first;
+        }
+        if after.is_none() {
+            self.last = last;
+        }
+    }
+}
+
+// A key that is known, after this one was taken from between two others.
+fn known_without(
+    near: Option<usize>,
+    key: usize,
+    before: Option<usize>,
+    after: Option<usize>,
+) -> Option<usize>
+    ensures { result ≡ known_without near key before after }
+{
+    match near {
+        Some(near) if near == key => before.or(after),
+        other => other,
+    }
+}
+
+/// Nodes, each in the chain of its bucket, in order of time, and in that of its driver.
+#[derive(Drop)]
+pub struct Chains {
+    pub nodes: Nodes,
+    pub buckets: Vec<Ends>,
+    pub drivers: Vec<Ends>,
+    // the node of each bucket that was put in last, or one that stood beside it
+    pub near: Vec<Option<usize>>,
+}
+
+impl Chains {
+    /// No nodes, in so many buckets and for so many drivers.
+    pub fn new(alloc: Global, buckets: u32, drivers: u32) -> Result<Chains, NoMemory>
+        requires { 0 < buckets }
+        ensures chained { IfOk result (λ chains. AreChained chains.nodes chains.buckets.items chains.drivers.items chains.near.items) }
+        ensures table { IfOk result (λ chains. table_of chains.nodes chains.drivers.items ≡ replicate drivers []) }
+        ensures buckets { IfOk result (λ chains. length chains.buckets.items ≡ buckets) }
+    {
+        Ok(Chains {
+            nodes: Nodes::new(alloc),
+            buckets: vec![in alloc; Ends::none(); buckets as usize]?,
+            drivers: vec![in alloc; Ends::none(); drivers as usize]?,
+            near: vec![in alloc; None; buckets as usize]?,
+        })
+    }
+
+    /// Puts a driver's new latest transition into the chains.
+    pub fn put<L: Ledger>(&mut self, driver: u32, time: u64, value: Value, steps: &mut Steps<L>)
+        requires chained { AreChained self.old.nodes self.old.buckets.items self.old.drivers.items self.old.near.items }
+        requires driver { driver < length self.old.drivers.items }
+        requires room { 0 < self.old.nodes.room }
+        requires later { IsAbove time (reverse (list_at (table_of self.old.nodes self.old.drivers.items) driver)) }
+        ensures put { HasPut self.old.nodes self.old.buckets.items self.old.drivers.items self.new.nodes self.new.buckets.items self.new.drivers.items self.new.near.items driver (time, value) }
+        ensures room { self.new.nodes.room + 1 ≡ self.old.nodes.room }
+    {
+        let bucket = bucket_of(&self.buckets, time);
+        let (near, latest) = (self.near[bucket], self.buckets[bucket].last);
+        let (before, after) = place_of(&self.nodes, near, latest, time, steps);
+        let last = self.drivers[driver as usize].last;
+        let node = Node {
+            driver,
+            time,
+            value,
+            links: [before, after, last, None],
+        };
+        let key = Some(put_in(&mut self.nodes, node, steps));
+        self.buckets[bucket].join(before, after, key, key);
+        self.drivers[driver as usize].join(last, None, key, key);
+        self.near[bucket] = key;
+    }
+
+    /// Takes a node out of the store and out of its chains.
+    pub fn take<L: Ledger>(&mut self, key: usize, steps: &mut Steps<L>) -> Node
+        requires chained { AreChained self.old.nodes self.old.buckets.items self.old.drivers.items self.old.near.items }
+        requires key { IsSome (node_at self.old.nodes key) }
+        ensures taken { HasTaken self.old.nodes self.old.buckets.items self.old.drivers.items self.new.nodes self.new.buckets.items self.new.drivers.items self.new.near.items key result }
+        ensures room { self.old.nodes.room ≤ self.new.nodes.room }
+        ensures steps { steps.new ≤ steps.old + 5 }
+    {
+        let node = take_out(&mut self.nodes, key, steps);
+        let links = node.links;
+        let bucket = bucket_of(&self.buckets, node.time);
+        self.buckets[bucket].join(links[0], links[1], links[1], links[0]);
+        self.drivers[node.driver as usize].join(links[2], links[3], links[3], links[2]);
+        self.near[bucket] = known_without(self.near[bucket], key, links[0], links[1]);
+        node
+    }
+}

@@ -1,0 +1,15 @@
+//! The transitions that drivers have pending, in buckets by time.
+#![tactic(auto)]
+
+mod agenda;
+mod chains;
+mod links;
+mod nodes;
+mod places;
+mod wheel;
+
+pub use nodes::{Node, Nodes};
+pub use wheel::Wheel;
+
+#[cfg(test)]
+mod tests;
