@@ -9,4 +9,6 @@ pub mod PlainFiles
 pub mod UntakenText
 pub mod MacroUses
 pub mod TakenBranches
+pub mod SkippedTexts
+pub mod Conditionals
 pub mod Examples
