@@ -1,5 +1,5 @@
 -- From `ifdef or `ifndef to behind `endif the text that is taken gives what it gives by itself, and the others nothing.
-use Rattle.std.proofs.Common.{◌≡◌, ℕ, List, [], ◌∷◌, ◌++◌, length, take, drop, Bool, true, false, refl, sym, ap, ◌∙◌, subst}
+use Rattle.std.proofs.Common.{◌≡◌, ℕ, List, [], ◌∷◌, ◌++◌, take, drop, Bool, true, false, refl, sym, ap, ◌∙◌, subst}
 use Rattle.std.specs.Prelude.{Option, Some, None, Ok, ◌==◌, ◌&&◌, ◌||◌, not, if◌then◌else◌}
 use Rattle.std.specs.List.{list_all}
 use Rattle.sg_text.specs.declared.places.Place.{Place}
@@ -7,7 +7,7 @@ use Rattle.vl_pieces.specs.Modes.{IsPiece}
 use Rattle.vl_lex.specs.State.{Waiting, State, Outcome, fault, is_taken, is_looked_at, waits}
 use Rattle.vl_lex.specs.Directives.{directive_of, is_conditional, words_wanted, with_branch, with_branches, is_defined, as_wanted, outcome_of_directive}
 use Rattle.vl_lex.specs.Effects.{Effect, comes_to, place_at, mode_at, fault_in, apply_or_wait, with_word, is_define, tick_effect, untaken_outcome, first_words, effect_at, effect_of, effect}
-use Rattle.vl_lex.specs.Laws.{within, Spot, past, behind, ComesTo, branch, inside, BranchText, takes, skips, IsDirective, AreGaps, IsTest, Rest, ends, elses, tests, opening, IsConditional}
+use Rattle.vl_lex.specs.Laws.{within, Spot, past, behind, ComesTo, IsReadOn, branch, inside, BranchText, takes, skips, IsDirective, AreGaps, IsTest, Rest, ends, elses, tests, opening, IsConditional}
 use Rattle.vl_lex.specs.declared.faults.LexKind.TheVariants.{BadDirective}
 use Rattle.vl_lex.specs.declared.branches.Branch.{Branch}
 use Rattle.vl_lex.specs.declared.directives.Directive.{Directive}
@@ -16,7 +16,7 @@ use Rattle.vl_lex.specs.declared.origins.Origin.TheVariants.{File}
 use Rattle.vl_pieces.specs.declared.modes.Mode.TheVariants.{Plain, Line}
 use Rattle.vl_pieces.specs.declared.pieces.Class.TheVariants as class
 use Rattle.vl_lex.proofs.TakenBranches.{all_taken}
-use Rattle.vl_lex.proofs.SkippedTexts.{comes_on, comes_nowhere, comes_by_piece, comes_within, comes_by_skip}
+use Rattle.vl_lex.proofs.SkippedTexts.{comes_on, comes_nowhere, comes_by_piece, comes_within, comes_by_skip, is_read_on}
 
 fault_none : (b : Bool) (bytes : List ℕ) → fault_in b class.Use bytes ≡ None
 fault_none true bytes = refl
@@ -157,9 +157,9 @@ module _ (left file : ℕ) where
             comes_on left file p (inside round b s) start (inside round c s) end (inside round c u) (comes_by_elsif here found p start s name w h) (comes_by_text c start s end u w text) in
         comes_on left file p (inside round b s) end (inside round c u) q (with_branches t round) to_text (comes_by_rest q t now ever end u (text_complete c start s end u w text) rest)
 
-pub taken_text : (left file : ℕ) (p q : Spot) (s t : State) → s.waiting ≡ None → list_all (λ b. b.taken) s.branches ≡ true → IsConditional left file p s q t
+comes_by_conditional : (left file : ℕ) (p q : Spot) (s t : State) → s.waiting ≡ None → list_all (λ b. b.taken) s.branches ≡ true → IsConditional left file p s q t
     → ComesTo left file p s q (with_branches t s.branches)
-taken_text left file p q s t w all h =
+comes_by_conditional left file p q s t w all h =
     let taken : is_taken s.branches ≡ true = (all_taken s.branches all).0 in
     let place : Place = place_at (File file) p.at in
     let test : Bool = as_wanted h.wanted (is_defined h.name s.macros) in
@@ -169,3 +169,9 @@ taken_text left file p q s t w all h =
         comes_on left file p s h.start (inside s.branches b s) h.end (inside s.branches b h.between) to_start (comes_by_text left file s.branches taken place b h.start s h.end h.between w h.text) in
     let complete : h.between.waiting ≡ None = text_complete left file s.branches taken place b h.start s h.end h.between w h.text in
     comes_on left file p s h.end (inside s.branches b h.between) q (with_branches t s.branches) to_text (comes_by_rest left file s.branches taken place q t test test h.end h.between complete h.rest)
+
+pub taken_text : (left file : ℕ) (p q : Spot) (s t : State) → s.waiting ≡ None → list_all (λ b. b.taken) s.branches ≡ true → IsConditional left file p s q t
+    → ComesTo left file p s q (with_branches t s.branches) × IsReadOn left file p s q (with_branches t s.branches)
+taken_text left file p q s t w all h =
+    let comes : ComesTo left file p s q (with_branches t s.branches) = comes_by_conditional left file p q s t w all h in
+    (comes, is_read_on left file p s q (with_branches t s.branches) comes)

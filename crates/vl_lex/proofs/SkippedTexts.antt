@@ -1,13 +1,13 @@
 -- Reading goes on from where it came to, and text that isn't taken leaves the state as it was.
-use Rattle.std.proofs.Common.{◌≡◌, ℕ, ◌+◌, List, [], ◌∷◌, ◌++◌, take, drop, true, false, refl, sym, ap, ◌∙◌, subst}
+use Rattle.std.proofs.Common.{◌≡◌, ℕ, ◌+◌, List, [], ◌∷◌, ◌++◌, take, drop, true, refl, sym, ap, ◌∙◌, subst}
 use Rattle.std.specs.Prelude.{Option, None, Ok}
 use Rattle.vl_token.specs.Tokens.{Settings, Lexeme}
 use Rattle.vl_pieces.specs.Modes.{IsPiece, Piece}
-use Rattle.vl_lex.specs.State.{Macros, Waiting, State, is_taken}
+use Rattle.vl_lex.specs.State.{Macros, Waiting, State, Outcome, is_taken}
 use Rattle.vl_lex.specs.Directives.{outer}
-use Rattle.vl_lex.specs.Effects.{Effect, comes_to, mode_at, effect}
-use Rattle.vl_lex.specs.Lexes.{Leads, Expands}
-use Rattle.vl_lex.specs.Laws.{within, Keeps, Spot, past, ReadsTo, IsAny, IsUntaken, ComesTo, IsSkipped}
+use Rattle.vl_lex.specs.Effects.{comes_to, mode_at, effect}
+use Rattle.vl_lex.specs.Lexes.{Leads, IsRead, Expands}
+use Rattle.vl_lex.specs.Laws.{within, Keeps, Spot, past, ReadsTo, IsAny, IsUntaken, ComesTo, IsReadOn, IsSkipped}
 use Rattle.vl_lex.specs.declared.branches.Branch.{Branch}
 use Rattle.vl_lex.specs.declared.origins.Origin.TheVariants.{File}
 use Rattle.vl_pieces.specs.declared.modes.Mode.{Mode}
@@ -34,6 +34,18 @@ module _ (left file : ℕ) where
   comes_by_piece p s n c next piece e =
       let leads : Leads (Expands left) (effect (File file) p.at c (take n p.text) s) (Ok next) = subst (λ f. Leads (Expands left) f (Ok next)) (sym e) refl in
       (record { class = c; size = n } ∷ [], (tt, piece, (next, leads, (refl, refl))))
+
+  reads_on : (p : Spot) (s : State) (xs : List Piece) (q : Spot) (t : State) (o : Outcome) → ReadsTo IsAny left file p s xs q t → IsRead (Expands left) (File file) q.at q.text t o
+      → IsRead (Expands left) (File file) p.at p.text s o
+  reads_on p s [] q t o h r =
+      let at : IsRead (Expands left) (File file) p.at p.text t o = subst (λ z. IsRead (Expands left) (File file) z.at z.text t o) h.0 r in
+      subst (λ z. IsRead (Expands left) (File file) p.at p.text z o) h.1 at
+  reads_on p s (x ∷ xs) q t o h r =
+      let rest : IsRead (Expands left) (File file) (p.at + x.size) (drop x.size p.text) h.2.0 o = reads_on (past x.size p) h.2.0 xs q t o h.2.2 r in
+      (x ∷ rest.0, (h.1, (Ok h.2.0, h.2.1, rest.1)))
+
+  pub is_read_on : (p : Spot) (s : State) (q : Spot) (t : State) → ComesTo left file p s q t → IsReadOn left file p s q t
+  is_read_on p s q t h o r = reads_on p s h.0 q t o h.1 r
 
   -- within branches whose texts are taken
   reads_within : (round : List Branch) (taken : is_taken round ≡ true) (above : is_taken (outer round) ≡ true) (p : Spot) (s : State) (xs : List Piece) (q : Spot) (t : State)

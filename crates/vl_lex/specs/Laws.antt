@@ -3,7 +3,7 @@ use Rattle.std.specs.Prelude.{ℕ, suc, ◌≡◌, ◌+◌, ◌≤◌, ◌^◌, 
 use Rattle.std.specs.List.{list_all}
 use Rattle.sg_text.specs.declared.places.Place.{Place}
 use Rattle.vl_token.specs.Tokens.{Settings, Lexeme}
-use Rattle.vl_lex.specs.State.{State, Fault, first_settings, is_taken}
+use Rattle.vl_lex.specs.State.{State, Fault, Outcome, first_settings, is_taken}
 use Rattle.vl_lex.specs.Directives.{directive_of, with_branches, is_defined, as_wanted}
 use Rattle.vl_pieces.specs.Modes.{IsPiece, Piece}
 use Rattle.vl_pieces.specs.Meanings.{meaning_of}
@@ -108,6 +108,10 @@ IsUntaken s = (s.waiting ≡ None) × (is_taken s.branches ≡ false)
 abbrev pub ComesTo : (left file : ℕ) → Spot → State → Spot → State → Type 0
 ComesTo left file p s q t = (ps : List Piece) × ReadsTo IsAny left file p s ps q t
 
+-- whatever the text comes to that is read from there on, the whole text comes to
+abbrev pub IsReadOn : (left file : ℕ) → Spot → State → Spot → State → Type 0
+IsReadOn left file p s q t = (o : Outcome) → IsRead (Expands left) (File file) q.at q.text t o → IsRead (Expands left) (File file) p.at p.text s o
+
 -- A text by itself, outside all branches: at its end none is open, and no directive waits for words.
 pub record IsText (left file : ℕ) (p : Spot) (s : State) (q : Spot) (t : State) : Type 0 where
   pub reads : ComesTo left file p (with_branches s []) q t
@@ -192,7 +196,7 @@ pub record IsConditional (left file : ℕ) (p : Spot) (s : State) (q : Spot) (t 
 abbrev pub TakenText : Type 0
 TakenText =
     (left file : ℕ) (p q : Spot) (s t : State) → s.waiting ≡ None → list_all (λ b. b.taken) s.branches ≡ true → IsConditional left file p s q t
-    → ComesTo left file p s q (with_branches t s.branches)
+    → ComesTo left file p s q (with_branches t s.branches) × IsReadOn left file p s q (with_branches t s.branches)
 
 -- ---- macros
 
