@@ -7,7 +7,7 @@ use Rattle.vl_pieces.specs.Modes.{IsPiece}
 use Rattle.vl_lex.specs.State.{Waiting, State, Outcome, fault, is_taken, is_looked_at, waits}
 use Rattle.vl_lex.specs.Directives.{directive_of, is_conditional, words_wanted, with_branch, with_branches, is_defined, as_wanted, outcome_of_directive}
 use Rattle.vl_lex.specs.Effects.{Effect, comes_to, place_at, mode_at, fault_in, apply_or_wait, with_word, is_define, tick_effect, untaken_outcome, first_words, effect_at, effect_of, effect}
-use Rattle.vl_lex.specs.Laws.{within, Spot, past, behind, ComesTo, IsReadOn, branch, inside, BranchText, takes, skips, IsDirective, AreGaps, IsTest, Rest, ends, elses, tests, opening, IsConditional}
+use Rattle.vl_lex.specs.Laws.{within, Spot, past, behind, ComesTo, IsReadOn, branch, inside, BranchText, takes, skips, IsDirective, AreGaps, IsTest, Rest, ends, has_else, has_elsif, opening, IsConditional}
 use Rattle.vl_lex.specs.declared.faults.LexKind.TheVariants.{BadDirective}
 use Rattle.vl_lex.specs.declared.branches.Branch.{Branch}
 use Rattle.vl_lex.specs.declared.directives.Directive.{Directive}
@@ -59,7 +59,7 @@ module _ (left file : ℕ) where
       let piece : IsPiece (mode_at (waits w s)) p.text k class.Gap = subst (λ b. IsPiece (if b then Line else Plain) p.text k class.Gap) (sym n) h.0 in
       let skipped : effect (File file) p.at class.Gap (take k p.text) (waits w s) ≡ comes_to (Ok (waits w s)) = ap f n in
       comes_on left file p (waits w s) (past k p) (waits w s) (behind ks (past k p)) (waits w s)
-          (comes_by_piece left file p (waits w s) k class.Gap (waits w s) piece skipped) (comes_by_gaps w s (past k p) ks n h.1)
+      (comes_by_piece left file p (waits w s) k class.Gap (waits w s) piece skipped) (comes_by_gaps w s (past k p) ks n h.1)
 
   comes_by_test : (p q : Spot) (s next : State) (d : Directive) (name : List ℕ) → s.waiting ≡ None → is_conditional d ≡ true → words_wanted d s.branches ≡ 1 → IsTest (mode_at s) d name p q
       → outcome_of_directive d (place_at (File file) p.at) (record { is_name = true; bytes = name } ∷ []) (record s { waiting = None }) ≡ Ok next → ComesTo left file p s q next
@@ -140,21 +140,21 @@ module _ (left file : ℕ) where
         let b : Branch = branch place here found false in
         let ended : ComesTo left file p (inside round b s) (past n p) (with_branches t round) = subst (λ z. ComesTo left file p (inside round b s) (past n p) (with_branches z round)) (sym k) (comes_by_endif b p s n w h) in
         subst (λ z. ComesTo left file p (inside round b s) z (with_branches t round)) (sym e) ended
-    comes_by_rest q t here found p s w (elses _ _ _ _ n end m h text close e) =
+    comes_by_rest q t here found p s w (has_else _ _ _ _ n end m h text close e) =
         let b : Branch = branch place here found false in
         let c : Branch = branch place (not found) true true in
         let to_text : ComesTo left file p (inside round b s) end (inside round c t) =
-            comes_on left file p (inside round b s) (past n p) (inside round c s) end (inside round c t) (comes_by_else here found p s n w h) (comes_by_text c (past n p) s end t w text) in
+        comes_on left file p (inside round b s) (past n p) (inside round c s) end (inside round c t) (comes_by_else here found p s n w h) (comes_by_text c (past n p) s end t w text) in
         let to_end : ComesTo left file p (inside round b s) (past m end) (with_branches t round) =
-            comes_on left file p (inside round b s) end (inside round c t) (past m end) (with_branches t round) to_text (comes_by_endif c end t m (text_complete c (past n p) s end t w text) close) in
+        comes_on left file p (inside round b s) end (inside round c t) (past m end) (with_branches t round) to_text (comes_by_endif c end t m (text_complete c (past n p) s end t w text) close) in
         subst (λ z. ComesTo left file p (inside round b s) z (with_branches t round)) (sym e) to_end
-    comes_by_rest q t here found p s w (tests _ _ _ _ name start end u h text rest) =
+    comes_by_rest q t here found p s w (has_elsif _ _ _ _ name start end u h text rest) =
         let b : Branch = branch place here found false in
         let now : Bool = is_defined name s.macros && not found in
         let ever : Bool = is_defined name s.macros || found in
         let c : Branch = branch place now ever false in
         let to_text : ComesTo left file p (inside round b s) end (inside round c u) =
-            comes_on left file p (inside round b s) start (inside round c s) end (inside round c u) (comes_by_elsif here found p start s name w h) (comes_by_text c start s end u w text) in
+        comes_on left file p (inside round b s) start (inside round c s) end (inside round c u) (comes_by_elsif here found p start s name w h) (comes_by_text c start s end u w text) in
         comes_on left file p (inside round b s) end (inside round c u) q (with_branches t round) to_text (comes_by_rest q t now ever end u (text_complete c start s end u w text) rest)
 
 comes_by_conditional : (left file : ℕ) (p q : Spot) (s t : State) → s.waiting ≡ None → list_all (λ b. b.taken) s.branches ≡ true → IsConditional left file p s q t
@@ -166,7 +166,7 @@ comes_by_conditional left file p q s t w all h =
     let b : Branch = branch place test test false in
     let to_start : ComesTo left file p s h.start (inside s.branches b s) = comes_by_opening left file h.wanted p h.start s h.name w taken h.test in
     let to_text : ComesTo left file p s h.end (inside s.branches b h.between) =
-        comes_on left file p s h.start (inside s.branches b s) h.end (inside s.branches b h.between) to_start (comes_by_text left file s.branches taken place b h.start s h.end h.between w h.text) in
+    comes_on left file p s h.start (inside s.branches b s) h.end (inside s.branches b h.between) to_start (comes_by_text left file s.branches taken place b h.start s h.end h.between w h.text) in
     let complete : h.between.waiting ≡ None = text_complete left file s.branches taken place b h.start s h.end h.between w h.text in
     comes_on left file p s h.end (inside s.branches b h.between) q (with_branches t s.branches) to_text (comes_by_rest left file s.branches taken place q t test test h.end h.between complete h.rest)
 

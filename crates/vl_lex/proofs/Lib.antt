@@ -11,4 +11,5 @@ pub mod MacroUses
 pub mod TakenBranches
 pub mod SkippedTexts
 pub mod Conditionals
+pub mod ConditionalExample
 pub mod Examples

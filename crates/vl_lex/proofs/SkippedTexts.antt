@@ -77,7 +77,7 @@ module _ (left file : ℕ) where
   all_kept : (s t : State) → Keeps s t → t.branches ≡ s.branches → t.waiting ≡ s.waiting → t ≡ s
   all_kept s t k b w =
       let make : Mode → Option Waiting → Macros → List Branch → Settings → List Lexeme → State =
-          λ mode waiting macros branches settings tokens. record { mode = mode; waiting = waiting; macros = macros; branches = branches; settings = settings; tokens = tokens } in
+      λ mode waiting macros branches settings tokens. record { mode = mode; waiting = waiting; macros = macros; branches = branches; settings = settings; tokens = tokens } in
       ap (λ m. make m t.waiting t.macros t.branches t.settings t.tokens) k.mode
       ∙ ap (λ v. make s.mode v t.macros t.branches t.settings t.tokens) w
       ∙ ap (λ m. make s.mode s.waiting m t.branches t.settings t.tokens) k.macros

@@ -160,21 +160,25 @@ pub record IsTest (mode : Mode) (d : Directive) (name : List ℕ) (p q : Spot) :
   pub spells : take name_size (behind gaps (past size p)).text ≡ name
   pub end : q ≡ past name_size (behind gaps (past size p))
 
+-- a test holds: a name is defined, or it isn't
+abbrev pub holds : (wanted : Bool) → List ℕ → State → Bool
+holds wanted name s = as_wanted wanted (is_defined name s.macros)
+
 -- What comes behind a text of a branch, up to behind its `endif: as many `elsif as there are, and perhaps an `else. A
 -- text is taken where its test holds and none was found before it.
 pub data Rest (left file : ℕ) (round : List Branch) (place : Place) (q : Spot) (t : State) : (taken found : Bool) → Spot → State → Type 0 where
   ends : (taken found : Bool) (p : Spot) (s : State) (n : ℕ) → IsDirective (mode_at (inside round (branch place taken found false) s)) EndIf p n → q ≡ past n p → t ≡ s
       → Rest left file round place q t taken found p s
-  elses : (taken found : Bool) (p : Spot) (s : State) (n : ℕ) (end : Spot) (m : ℕ) → IsDirective (mode_at (inside round (branch place taken found false) s)) Else p n
+  has_else : (taken found : Bool) (p : Spot) (s : State) (n : ℕ) (end : Spot) (m : ℕ) → IsDirective (mode_at (inside round (branch place taken found false) s)) Else p n
       → BranchText left file round (branch place (not found) true true) (past n p) s end t
       → IsDirective (mode_at (inside round (branch place (not found) true true) t)) EndIf end m → q ≡ past m end
       → Rest left file round place q t taken found p s
-  tests : (taken found : Bool) (p : Spot) (s : State) (name : List ℕ) (start end : Spot) (u : State) → IsTest (mode_at (inside round (branch place taken found false) s)) ElsIf name p start
-      → BranchText left file round (branch place (is_defined name s.macros && not found) (is_defined name s.macros || found) false) start s end u
-      → Rest left file round place q t (is_defined name s.macros && not found) (is_defined name s.macros || found) end u
+  has_elsif : (taken found : Bool) (p : Spot) (s : State) (name : List ℕ) (start end : Spot) (u : State) → IsTest (mode_at (inside round (branch place taken found false) s)) ElsIf name p start
+      → BranchText left file round (branch place (holds true name s && not found) (holds true name s || found) false) start s end u
+      → Rest left file round place q t (holds true name s && not found) (holds true name s || found) end u
       → Rest left file round place q t taken found p s
 
--- `ifdef, or `ifndef where a name shall not be defined
+-- `ifdef, or `ifndef, whose test holds where the name isn't defined
 abbrev pub opening : Bool → Directive
 opening true = IfDef
 opening false = IfNDef
@@ -188,8 +192,8 @@ pub record IsConditional (left file : ℕ) (p : Spot) (s : State) (q : Spot) (t 
   pub end : Spot
   pub between : State
   pub test : IsTest (mode_at s) (opening wanted) name p start
-  pub text : BranchText left file s.branches (branch (place_at (File file) p.at) (as_wanted wanted (is_defined name s.macros)) (as_wanted wanted (is_defined name s.macros)) false) start s end between
-  pub rest : Rest left file s.branches (place_at (File file) p.at) q t (as_wanted wanted (is_defined name s.macros)) (as_wanted wanted (is_defined name s.macros)) end between
+  pub text : BranchText left file s.branches (branch (place_at (File file) p.at) (holds wanted name s) (holds wanted name s) false) start s end between
+  pub rest : Rest left file s.branches (place_at (File file) p.at) q t (holds wanted name s) (holds wanted name s) end between
 
 -- Where all round it is taken, it gives the tokens of that text, and changes macros, settings and mode as that text does
 -- by itself; the other texts give nothing.
