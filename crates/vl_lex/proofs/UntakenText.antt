@@ -1,11 +1,11 @@
 -- Text that isn't taken changes nothing but branches.
-use Rattle.std.proofs.Common.{◌≡◌, ℕ, List, length, Bool, true, false, refl, sym, subst, inl, inr}
+use Rattle.std.proofs.Common.{◌≡◌, ℕ, List, [], length, Bool, true, false, refl, sym, subst, inl, inr}
 use Rattle.std.specs.Prelude.{Option, Some, None, Ok, Err, ◌==◌, drop, if◌then◌else◌}
 use Rattle.std.proofs.lemmas.Bool.{cases_Bool}
 use Rattle.sg_text.specs.declared.places.Place.{Place}
 use Rattle.vl_lex.specs.State.{Word, Waiting, State, Outcome, is_taken, is_looked_at, waits}
-use Rattle.vl_lex.specs.Directives.{directive_of, is_conditional, words_wanted, with_next_text, without_branch, outcome_of_branches, or_bad_directive, with_branches, test_of, outcome_of_directive}
-use Rattle.vl_lex.specs.Effects.{place_at, fault_in, apply_or_wait, untaken_outcome, first_words, is_use, effect_at, effect_of, effect}
+use Rattle.vl_lex.specs.Directives.{directive_of, is_conditional, words_wanted, with_next_text, without_branch, outcome_of_branches, or_bad_directive, with_branches, with_branch, test_of, outcome_of_directive}
+use Rattle.vl_lex.specs.Effects.{Effect, place_at, fault_in, apply_or_wait, untaken_outcome, first_words, is_use, effect_at, effect_of, effect}
 use Rattle.vl_lex.specs.Lexes.{Leads, Expands}
 use Rattle.vl_lex.specs.Laws.{Keeps}
 use Rattle.vl_lex.specs.declared.faults.Found.{Found}

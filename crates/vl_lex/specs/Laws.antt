@@ -91,7 +91,8 @@ abbrev pub behind : List ℕ → Spot → Spot
 behind [] p = p
 behind (n ∷ ns) p = behind ns (past n p)
 
--- These pieces lead from a spot and a state to others. Before each of them the state is such a one.
+-- These pieces lead from a spot of a file and a state to others, where so many uses of macros may lie within one another.
+-- Before each piece the state is such a one.
 abbrev pub ReadsTo : (State → Type 0) → (left file : ℕ) → Spot → State → List Piece → Spot → State → Type 0
 ReadsTo Such left file p s [] q t = (q ≡ p) × (t ≡ s)
 ReadsTo Such left file p s (x ∷ xs) q t =
@@ -118,7 +119,7 @@ pub record IsText (left file : ℕ) (p : Spot) (s : State) (q : Spot) (t : State
   pub closed : t.branches ≡ []
   pub complete : t.waiting ≡ None
 
--- A text that isn't taken, up to the directive that ends it: the branches that are opened in it are closed in it.
+-- A text that isn't taken, up to the directive that ends it: what is opened in it is closed in it.
 pub record IsSkipped (left file : ℕ) (p : Spot) (s : State) (q : Spot) : Type 0 where
   pub pieces : List Piece
   pub last : State
@@ -195,8 +196,8 @@ pub record IsConditional (left file : ℕ) (p : Spot) (s : State) (q : Spot) (t 
   pub text : BranchText left file s.branches (branch (place_at (File file) p.at) (holds wanted name s) (holds wanted name s) false) start s end between
   pub rest : Rest left file s.branches (place_at (File file) p.at) q t (holds wanted name s) (holds wanted name s) end between
 
--- Where all round it is taken, it gives the tokens of that text, and changes macros, settings and mode as that text does
--- by itself; the other texts give nothing.
+-- Where the text round it is taken, a conditional gives the tokens of its taken text, and changes macros, settings and mode
+-- as that text does by itself. Its other texts give nothing.
 abbrev pub TakenText : Type 0
 TakenText =
     (left file : ℕ) (p q : Spot) (s t : State) → s.waiting ≡ None → list_all (λ b. b.taken) s.branches ≡ true → IsConditional left file p s q t
