@@ -9,4 +9,7 @@ pub mod PlainFiles
 pub mod UntakenText
 pub mod MacroUses
 pub mod TakenBranches
+pub mod SkippedTexts
+pub mod Conditionals
+pub mod ConditionalExample
 pub mod Examples

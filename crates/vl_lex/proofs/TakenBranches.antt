@@ -190,10 +190,10 @@ module _ (round : List Branch) (taken : is_taken round ≡ true) (above : is_tak
     looked_same None bs = taken_same bs
     looked_same (Some w) bs = refl
 
-    by_effect : (origin : Origin) (at : ℕ) (c : Class) (bytes : List ℕ) (s : State) → Also (effect origin at c bytes s) (effect origin at c bytes (within round s))
+    pub by_effect : (origin : Origin) (at : ℕ) (c : Class) (bytes : List ℕ) (s : State) → Also (effect origin at c bytes s) (effect origin at c bytes (within round s))
     by_effect origin at c bytes s = rw (looked_same s.waiting s.branches) (by_effect_of (fault_in (is_looked_at s.waiting s.branches) c bytes) s.waiting origin at c bytes s)
 
-    mode_same : (s : State) → mode_at (within round s) ≡ mode_at s
+    pub mode_same : (s : State) → mode_at (within round s) ≡ mode_at s
     mode_same s = ap (λ t. next_mode s.waiting t s.mode) (taken_same s.branches)
 
     -- after a piece
@@ -212,12 +212,12 @@ module _ (round : List Branch) (taken : is_taken round ≡ true) (above : is_tak
               (by_effect origin at p.class bytes s) (λ next rest. reads_lift origin (at + p.size) (drop p.size text) next ps t rest) h.1.1 h.1.2,
         )
 
-  expands_lift : (left : ℕ) (place : Place) (text : List ℕ) (s t : State) → Expands left place text s (Ok t) → Expands left place text (within round s) (Ok (within round t))
+  pub expands_lift : (left : ℕ) (place : Place) (text : List ℕ) (s t : State) → Expands left place text s (Ok t) → Expands left place text (within round s) (Ok (within round t))
   unfolding Expands
   expands_lift zero place text s t h = absurd (cc)
   expands_lift (suc left) place text s t h = (h.0, reads_lift (Expands left) (expands_lift left) (InMacro place) 0 text s h.0 t h.1)
 
-all_taken : (round : List Branch) → list_all (λ b. b.taken) round ≡ true → (is_taken round ≡ true) × (is_taken (outer round) ≡ true)
+pub all_taken : (round : List Branch) → list_all (λ b. b.taken) round ≡ true → (is_taken round ≡ true) × (is_taken (outer round) ≡ true)
 all_taken [] h = (refl, refl)
 all_taken (b ∷ []) h = ((and_parts b.taken true h).0, refl)
 all_taken (b ∷ c ∷ bs) h =

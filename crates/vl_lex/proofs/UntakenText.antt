@@ -20,7 +20,7 @@ abbrev KeepsOk : State → Outcome → Type 0
 KeepsOk s (Ok t) = Keeps s t
 KeepsOk s (Err f) = Unit {0}
 
-same : (s : State) → Keeps s s
+pub same : (s : State) → Keeps s s
 same s = record { tokens = refl; macros = refl; settings = refl; mode = refl }
 
 -- the same state, but for its branches

@@ -1,15 +1,17 @@
 -- What holds of all netlist files.
-use Rattle.std.specs.Prelude.{ℕ, suc, ◌≡◌, ◌+◌, ◌≤◌, ◌^◌, ◌==◌, not, List, [], ◌∷◌, ◌++◌, length, take, drop, true, false, Option, Some, None, Result, Ok, Err}
+use Rattle.std.specs.Prelude.{ℕ, suc, ◌≡◌, ◌+◌, ◌≤◌, ◌^◌, ◌==◌, ◌&&◌, ◌||◌, not, List, [], ◌∷◌, ◌++◌, length, take, drop, Bool, true, false, Option, Some, None, Result, Ok, Err}
 use Rattle.std.specs.List.{list_all}
 use Rattle.sg_text.specs.declared.places.Place.{Place}
 use Rattle.vl_token.specs.Tokens.{Settings, Lexeme}
-use Rattle.vl_lex.specs.State.{State, Fault, first_settings, is_taken}
-use Rattle.vl_lex.specs.Directives.{directive_of}
+use Rattle.vl_lex.specs.State.{State, Fault, Outcome, first_settings, is_taken}
+use Rattle.vl_lex.specs.Directives.{directive_of, with_branches, is_defined, as_wanted}
 use Rattle.vl_pieces.specs.Modes.{IsPiece, Piece}
 use Rattle.vl_pieces.specs.Meanings.{meaning_of}
-use Rattle.vl_lex.specs.Effects.{place_at, tokens_at, mode_behind, effect}
+use Rattle.vl_lex.specs.Effects.{place_at, tokens_at, mode_behind, mode_at, effect}
 use Rattle.vl_lex.specs.Lexes.{first_fault, Leads, IsRead, Expands, Lexes}
 use Rattle.vl_lex.specs.declared.branches.Branch.{Branch}
+use Rattle.vl_lex.specs.declared.directives.Directive.{Directive}
+use Rattle.vl_lex.specs.declared.directives.Directive.TheVariants.{IfDef, IfNDef, ElsIf, Else, EndIf}
 use Rattle.vl_pieces.specs.declared.modes.Mode.{Mode}
 use Rattle.vl_pieces.specs.declared.modes.Mode.TheVariants.{Plain}
 use Rattle.vl_lex.specs.declared.origins.Origin.{Origin}
@@ -72,6 +74,134 @@ abbrev pub UntakenPiece : Type 0
 UntakenPiece =
     (left : ℕ) (origin : Origin) (at : ℕ) (c : Class) (bytes : List ℕ) (s t : State) → s.waiting ≡ None → is_taken s.branches ≡ false
     → Leads (Expands left) (effect origin at c bytes s) (Ok t) → Keeps s t
+
+-- ---- from `ifdef or `ifndef to behind `endif (IEEE 1364-2005, 19.4)
+
+-- a byte of a file, and the text from there on
+pub record Spot : Type 0 where
+  pub at : ℕ
+  pub text : List ℕ
+
+-- the spot so many bytes on
+abbrev pub past : ℕ → Spot → Spot
+past n p = record { at = p.at + n; text = drop n p.text }
+
+-- the spot behind pieces of these sizes
+abbrev pub behind : List ℕ → Spot → Spot
+behind [] p = p
+behind (n ∷ ns) p = behind ns (past n p)
+
+-- These pieces lead from a spot of a file and a state to others, where so many uses of macros may lie within one another.
+-- Before each piece the state is such a one.
+abbrev pub ReadsTo : (State → Type 0) → (left file : ℕ) → Spot → State → List Piece → Spot → State → Type 0
+ReadsTo Such left file p s [] q t = (q ≡ p) × (t ≡ s)
+ReadsTo Such left file p s (x ∷ xs) q t =
+    Such s × IsPiece (mode_at s) p.text x.size x.class
+    × ((next : State) × Leads (Expands left) (effect (File file) p.at x.class (take x.size p.text) s) (Ok next) × ReadsTo Such left file (past x.size p) next xs q t)
+
+abbrev pub IsAny : State → Type 0
+IsAny s = Unit {0}
+
+abbrev pub IsUntaken : State → Type 0
+IsUntaken s = (s.waiting ≡ None) × (is_taken s.branches ≡ false)
+
+-- reading comes from a spot and a state to others
+abbrev pub ComesTo : (left file : ℕ) → Spot → State → Spot → State → Type 0
+ComesTo left file p s q t = (ps : List Piece) × ReadsTo IsAny left file p s ps q t
+
+-- whatever the text comes to that is read from there on, the whole text comes to
+abbrev pub IsReadOn : (left file : ℕ) → Spot → State → Spot → State → Type 0
+IsReadOn left file p s q t = (o : Outcome) → IsRead (Expands left) (File file) q.at q.text t o → IsRead (Expands left) (File file) p.at p.text s o
+
+-- A text by itself, outside all branches: at its end none is open, and no directive waits for words.
+pub record IsText (left file : ℕ) (p : Spot) (s : State) (q : Spot) (t : State) : Type 0 where
+  pub reads : ComesTo left file p (with_branches s []) q t
+  pub closed : t.branches ≡ []
+  pub complete : t.waiting ≡ None
+
+-- A text that isn't taken, up to the directive that ends it: what is opened in it is closed in it.
+pub record IsSkipped (left file : ℕ) (p : Spot) (s : State) (q : Spot) : Type 0 where
+  pub pieces : List Piece
+  pub last : State
+  pub reads : ReadsTo IsUntaken left file p s pieces q last
+  pub closed : last.branches ≡ s.branches
+  pub complete : last.waiting ≡ None
+
+-- a branch, whose text at hand is taken or not, and of which one was found by now that is
+abbrev pub branch : Place → (taken found last : Bool) → Branch
+branch place taken found last = record { place = place; taken = taken; settled = found; last = last }
+
+-- the state in a branch of such branches
+abbrev pub inside : List Branch → Branch → State → State
+inside round b s = with_branches s (b ∷ round)
+
+-- A text of a branch. If it is taken, it leads from s to t by itself; and else it is skipped, and t is s.
+pub data BranchText (left file : ℕ) (round : List Branch) (b : Branch) (p : Spot) (s : State) (q : Spot) (t : State) : Type 0 where
+  takes : b.taken ≡ true → IsText left file p s q t → BranchText left file round b p s q t
+  skips : b.taken ≡ false → IsSkipped left file p (inside round b s) q → t ≡ s → BranchText left file round b p s q t
+
+-- a directive stands at a spot, as a backquote and its name: so many bytes
+pub record IsDirective (mode : Mode) (d : Directive) (p : Spot) (n : ℕ) : Type 0 where
+  pub piece : IsPiece mode p.text n class.Use
+  pub directive : directive_of (drop 1 (take n p.text)) ≡ Some d
+
+-- blanks and comments of these sizes
+abbrev pub AreGaps : Spot → List ℕ → Type 0
+AreGaps p [] = Unit {0}
+AreGaps p (n ∷ ns) = IsPiece Plain p.text n class.Gap × AreGaps (past n p) ns
+
+-- a directive, blanks and comments, and a name
+pub record IsTest (mode : Mode) (d : Directive) (name : List ℕ) (p q : Spot) : Type 0 where
+  pub size : ℕ
+  pub gaps : List ℕ
+  pub name_size : ℕ
+  pub directive : IsDirective mode d p size
+  pub between : AreGaps (past size p) gaps
+  pub word : IsPiece Plain (behind gaps (past size p)).text name_size class.Name
+  pub spells : take name_size (behind gaps (past size p)).text ≡ name
+  pub end : q ≡ past name_size (behind gaps (past size p))
+
+-- a test holds: a name is defined, or it isn't
+abbrev pub holds : (wanted : Bool) → List ℕ → State → Bool
+holds wanted name s = as_wanted wanted (is_defined name s.macros)
+
+-- What comes behind a text of a branch, up to behind its `endif: as many `elsif as there are, and perhaps an `else. A
+-- text is taken where its test holds and none was found before it.
+pub data Rest (left file : ℕ) (round : List Branch) (place : Place) (q : Spot) (t : State) : (taken found : Bool) → Spot → State → Type 0 where
+  ends : (taken found : Bool) (p : Spot) (s : State) (n : ℕ) → IsDirective (mode_at (inside round (branch place taken found false) s)) EndIf p n → q ≡ past n p → t ≡ s
+      → Rest left file round place q t taken found p s
+  has_else : (taken found : Bool) (p : Spot) (s : State) (n : ℕ) (end : Spot) (m : ℕ) → IsDirective (mode_at (inside round (branch place taken found false) s)) Else p n
+      → BranchText left file round (branch place (not found) true true) (past n p) s end t
+      → IsDirective (mode_at (inside round (branch place (not found) true true) t)) EndIf end m → q ≡ past m end
+      → Rest left file round place q t taken found p s
+  has_elsif : (taken found : Bool) (p : Spot) (s : State) (name : List ℕ) (start end : Spot) (u : State) → IsTest (mode_at (inside round (branch place taken found false) s)) ElsIf name p start
+      → BranchText left file round (branch place (holds true name s && not found) (holds true name s || found) false) start s end u
+      → Rest left file round place q t (holds true name s && not found) (holds true name s || found) end u
+      → Rest left file round place q t taken found p s
+
+-- `ifdef, or `ifndef, whose test holds where the name isn't defined
+abbrev pub opening : Bool → Directive
+opening true = IfDef
+opening false = IfNDef
+
+-- From `ifdef or `ifndef to behind its `endif. The text that is taken, if one is, leads from s to t by itself; if none is,
+-- t is s.
+pub record IsConditional (left file : ℕ) (p : Spot) (s : State) (q : Spot) (t : State) : Type 0 where
+  pub wanted : Bool
+  pub name : List ℕ
+  pub start : Spot
+  pub end : Spot
+  pub between : State
+  pub test : IsTest (mode_at s) (opening wanted) name p start
+  pub text : BranchText left file s.branches (branch (place_at (File file) p.at) (holds wanted name s) (holds wanted name s) false) start s end between
+  pub rest : Rest left file s.branches (place_at (File file) p.at) q t (holds wanted name s) (holds wanted name s) end between
+
+-- Where the text round it is taken, a conditional gives the tokens of its taken text, and changes macros, settings and mode
+-- as that text does by itself. Its other texts give nothing.
+abbrev pub TakenText : Type 0
+TakenText =
+    (left file : ℕ) (p q : Spot) (s t : State) → s.waiting ≡ None → list_all (λ b. b.taken) s.branches ≡ true → IsConditional left file p s q t
+    → ComesTo left file p s q (with_branches t s.branches) × IsReadOn left file p s q (with_branches t s.branches)
 
 -- ---- macros
 

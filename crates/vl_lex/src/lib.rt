@@ -17,7 +17,9 @@ mod scales;
 mod stepping;
 
 pub use faults::LexKind;
-pub use laws::{macro_use, one_outcome, plain_file, some_outcome, taken_branch, untaken_piece};
+pub use laws::{
+    macro_use, one_outcome, plain_file, some_outcome, taken_branch, taken_text, untaken_piece,
+};
 pub use reading::lex;
 
 #[cfg(test)]
