@@ -4,9 +4,8 @@ use Rattle.std.specs.List.{AllByRecursion, range_with_len}
 use Rattle.std.specs.Option.{option_map, option_and_then}
 use Rattle.std.proofs.Common.{sym, ◌∙◌, ap, arith, add-zero}
 use Rattle.std.proofs.lemmas.List.{map-append}
-use Rattle.elab_laws.specs.Handing.{variable_bits, all_bits, given_by}
+use Rattle.elab_laws.specs.Handing.{variable_bits, all_bits, given_by, given_at}
 use Rattle.elab_laws.specs.Given.{number_of_bit, bound_bits, given_bits, IsAsWide}
-use Rattle.elab_laws.proofs.Handed.{given_at}
 use Rattle.elab_model.specs.Bits.{bits, positions}
 use Rattle.elab_model.specs.Connections.{connection_at}
 use Rattle.elab_model.specs.Hierarchy.{Step}

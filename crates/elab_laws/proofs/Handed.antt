@@ -5,7 +5,7 @@ use Rattle.std.proofs.Common.{sym, ◌∙◌, ap, arith, inl, inr, subst, append
 use Rattle.std.proofs.lemmas.Bool.Decides.{nat_tests}
 use Rattle.std.proofs.lemmas.Grind.{flat_map-append}
 use Rattle.std.proofs.lemmas.List.Folds.{flat_map-map}
-use Rattle.elab_laws.specs.Handing.{variable_bits, all_bits, numbered, new_count, given_by, given}
+use Rattle.elab_laws.specs.Handing.{variable_bits, all_bits, numbered, new_count, given_by, given, given_at, number_at, IsHandedDown}
 use Rattle.elab_laws.proofs.Lists.{In, all-in, all-weaker, all-flat_in}
 use Rattle.elab_laws.proofs.Homes.{spot-same}
 use Rattle.elab_laws.proofs.Apart.{AreApart, scope_of_spot, scopes-tell}
@@ -107,12 +107,6 @@ one-bit os source s (parent ∷ over) v p h = by (same_above source s parent v.n
 abbrev pub owned_at : Source → Instance → Variable × ℕ → List OwnNet
 owned_at source s b = bit_net source s b.0 b.1
 
-abbrev pub given_at : List OwnNet → Source → Instance → Variable × ℕ → Option ℕ
-given_at os source s b = given os source s.step s.above b.0.name b.1
-
-abbrev pub number_at : List OwnNet → Source → Instance → Variable × ℕ → ℕ
-number_at os source s b = number_of os (home_of source s b.0.name b.1)
-
 pub variable_nets-bits : (source : Source) (s : Instance) (vs : List Variable)
     → flat_map (λ v. flat_map (bit_net source s v) (positions v.range)) vs ≡ flat_map (owned_at source s) (all_bits vs)
 variable_nets-bits source s [] = refl
@@ -159,11 +153,6 @@ bits-counted os source s rises (b ∷ bs) =
       | inl r ↦ rw (r.none, r.owned) (ap suc (bits-counted os source s rises bs))
       | inr r ↦ rw (r.some, r.not_owned) (bits-counted os source s rises bs)
     ]
-
--- the numbers of an instance's bits, where these instances come before it
-pub record IsHandedDown (source : Source) (top : Module) (s : Instance) (next : ℕ) : Type 0 where
-  pub numbers : map (number_at (nets source top) source s) (all_bits (variables s.step.definition)) ≡ numbered next (map (given_at (nets source top) source s) (all_bits (variables s.step.definition)))
-  pub count : new_count (map (given_at (nets source top) source s) (all_bits (variables s.step.definition))) ≡ length (variable_nets source s)
 
 pub handed-down : (source : Source) (top : Module) (pre post : List Instance) (s : Instance) → AreApart (nets source top) → instances source top ≡ pre ++ s ∷ post
     → IsHandedDown source top s (length (flat_map (nets_of source) pre))

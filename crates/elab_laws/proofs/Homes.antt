@@ -5,6 +5,7 @@ use Rattle.std.specs.Option.{unwrap_or}
 use Rattle.std.proofs.Common.{sym, ◌∙◌, ap, arith, inl, inr, subst}
 use Rattle.std.proofs.lemmas.Bool.{eq-eqb}
 use Rattle.std.proofs.lemmas.Slice.Eq.{bytes_eq-Decides}
+pub use Rattle.elab_laws.specs.Words.{Owns}
 use Rattle.elab_laws.proofs.Lists.{In, in-left, in-flat, in-range, found-is}
 use Rattle.elab_laws.proofs.Places.{HasBit}
 use Rattle.elab_laws.proofs.Chains.{home-stops, at_step, chain-there}
@@ -21,12 +22,6 @@ pub spot-same : (a : Spot) → is_same_spot a a ≡ true
 spot-same (bit s n p) = rw (eq-eqb s s refl, (bytes_eq-Decides n n).1 refl, eq-eqb p p refl) refl
 spot-same (outside s k n p) = rw (eq-eqb s s refl, eq-eqb k k refl, (bytes_eq-Decides n n).1 refl, eq-eqb p p refl) refl
 spot-same (terminal s k i) = rw (eq-eqb s s refl, eq-eqb k k refl, eq-eqb i i refl) refl
-
--- one of the nets is this
-pub record Owns (spot : Spot) (os : List OwnNet) : Type 0 where
-  pub owned : OwnNet
-  pub there : In owned os
-  pub same : owned.spot ≡ spot
 
 owned-there : (source : Source) (s : Instance) (v : Variable) (p : ℕ) → home_of source s v.name p ≡ bit s.step.number v.name p → Owns (bit s.step.number v.name p) (bit_net source s v p)
 owned-there source s v p e =

@@ -13,3 +13,4 @@ pub mod Drivers
 pub mod Once
 pub mod NoFaults
 pub mod GivenBits
+pub mod Stated

@@ -3,3 +3,4 @@ pub mod Words
 pub mod Handing
 pub mod Given
 pub mod Driven
+pub mod Laws
