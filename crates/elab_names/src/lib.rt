@@ -1,0 +1,10 @@
+//! What the modules of a netlist declare, as lists in text order, and which names stand twice.
+#![tactic(auto)]
+
+mod nets;
+mod ports;
+mod repeated;
+
+pub use nets::{NetDeclaration, net_declarations};
+pub use ports::{port_declarations, port_list};
+pub use repeated::first_repeated;
