@@ -2,15 +2,16 @@
 use Rattle.std.specs.Prelude.{◌≡◌, ℕ, suc, ◌<◌, List, [], ◌∷◌, ◌++◌, Bool, true, false, not, ◌||◌, Some, map, length, slice_index_or, refl, bytes_eq, if◌then◌else◌}
 use Rattle.std.specs.Borrow.{Bor}
 use Rattle.std.specs.List.{list_any}
-use Rattle.std.proofs.Common.{sym, ◌∙◌, ap, drop, drop-cons}
-use Rattle.std.proofs.lemmas.List.{map-append}
+use Rattle.std.proofs.Common.{sym, ◌∙◌, ap, take, drop, ◌+◌, drop-cons}
+use Rattle.std.proofs.lemmas.List.{map-append, take_more}
+use Rattle.std.proofs.lemmas.Slice.Eq.{bytes_eq-Decides}
 use Rattle.vl_tree.specs.declared.names.Name as code
 use Rattle.vl_tree.specs.Seen.{view_name}
 use Rattle.std.proofs.lemmas.List.Folds.{list_any-append}
 use Rattle.vl_tree.specs.Tree.{Named}
 use Rattle.elab_model.specs.Names.{is_among}
 use Rattle.elab_model.specs.Faults.{places_again}
-use Rattle.elab_names.specs.Words.{first_of}
+use Rattle.elab_names.specs.Words.{first_of, is_seen, texts_of}
 
 pub same-seen : (s t : List (List ℕ)) (ns : List Named) → ((n : List ℕ) → is_among n s ≡ is_among n t) → places_again s ns ≡ places_again t ns
 same-seen s t [] h = refl
@@ -39,9 +40,6 @@ old-seen s n ns e = ap (λ b. first_of ((if b then n.place ∷ [] else []) ++ pl
 
 abbrev pub texts : List (Bor (List ℕ)) → List (List ℕ)
 texts keys = map (λ k. k.now) keys
-
-abbrev pub is_seen : List ℕ → List (Bor (List ℕ)) → Bool
-is_seen n keys = list_any (λ y. bytes_eq n y.now) keys
 
 among-texts : (n : List ℕ) (keys : List (Bor (List ℕ))) → is_among n (texts keys) ≡ is_seen n keys
 among-texts n [] = refl
@@ -78,3 +76,35 @@ one-seen d keys after names i b lt added e grown h =
     ∙ ap (λ ks. first_of (places_again ks (map view_name (drop (suc i) names)))) (map-append (λ k. k.now) keys (n.text ∷ []))
     ∙ ap first_of (sym (new-seen (texts keys) (view_name n) (map view_name (drop (suc i) names)) t))
     ∙ ap (λ ns. first_of (places_again (texts keys) (map view_name ns))) (sym (drop-cons names i d lt)) ∙ h
+
+-- ---- a set of names
+
+seen-append : (n : List ℕ) (keys : List (Bor (List ℕ))) (k : Bor (List ℕ)) → is_seen n (keys ++ k ∷ []) ≡ (is_seen n keys || (bytes_eq n k.now || false))
+seen-append n keys k = list_any-append (λ y. bytes_eq n y.now) keys (k ∷ [])
+
+or-again : (a b : Bool) → (b ≡ true → a ≡ true) → a ≡ (a || (b || false))
+or-again true b h = refl
+or-again false true h = let e = h refl in cc
+or-again false false h = refl
+
+-- whether a text is seen, when one more was put in
+pub put-in : (n : List ℕ) (keys after : List (Bor (List ℕ))) (k : Bor (List ℕ)) → after ≡ (if is_seen k.now keys then keys else keys ++ k ∷ []) → is_seen n after ≡ (is_seen n keys || (bytes_eq n k.now || false))
+put-in n keys after k e = by (is_seen k.now keys) refl
+  where
+    same : is_seen k.now keys ≡ true → bytes_eq n k.now ≡ true → is_seen n keys ≡ true
+    same t h = let is : n ≡ k.now = (bytes_eq-Decides n k.now).0 h in ap (λ m. is_seen m keys) is ∙ t
+
+    by : (b : Bool) → is_seen k.now keys ≡ b → is_seen n after ≡ (is_seen n keys || (bytes_eq n k.now || false))
+    by true t = ap (is_seen n) (e ∙ ap (λ b. if b then keys else keys ++ k ∷ []) t) ∙ or-again (is_seen n keys) (bytes_eq n k.now) (same t)
+    by false t = ap (is_seen n) (e ∙ ap (λ b. if b then keys else keys ++ k ∷ []) t) ∙ seen-append n keys k
+
+pub set-next : (d : code.Name) (keys after : List (Bor (List ℕ))) (names : List code.Name) (i : ℕ) → i < length names
+    → after ≡ (if is_seen (slice_index_or names i d).text.now keys then keys else keys ++ (slice_index_or names i d).text ∷ [])
+    → ((n : List ℕ) → is_seen n keys ≡ is_among n (texts_of (map view_name (take i names)))) → (n : List ℕ) → is_seen n after ≡ is_among n (texts_of (map view_name (take (i + 1) names)))
+set-next d keys after names i lt e h n =
+    let k = slice_index_or names i d in
+    put-in n keys after k.text e ∙ ap (λ b. b || (bytes_eq n k.text.now || false)) (h n)
+    ∙ sym (ap (λ ns. is_among n (texts_of (map view_name ns))) (take_more names i d lt)
+    ∙ ap (λ ns. is_among n (texts_of ns)) (map-append view_name (take i names) (k ∷ []))
+    ∙ ap (is_among n) (map-append (λ m. m.text) (map view_name (take i names)) (view_name k ∷ []))
+    ∙ list_any-append (bytes_eq n) (texts_of (map view_name (take i names))) (k.text.now ∷ []))

@@ -1,5 +1,7 @@
 -- The declarations of the code, as the definitions see them, and the first name that stands twice.
-use Rattle.std.specs.Prelude.{◌≡◌, List, [], ◌∷◌, Option, Some, None}
+use Rattle.std.specs.Prelude.{◌≡◌, ℕ, Bool, List, [], ◌∷◌, Option, Some, None, map, bytes_eq}
+use Rattle.std.specs.Borrow.{Bor}
+use Rattle.std.specs.List.{list_any}
 use Rattle.sg_text.specs.declared.places.Place.{Place}
 use Rattle.vl_tree.specs.Seen.{view_name}
 use Rattle.vl_tree.specs.Tree.{Named, PortDeclaration, HeadPort, declared_port, named_port}
@@ -22,3 +24,10 @@ first_of (p ∷ ps) = Some p
 -- it is the place of the first name that stands earlier too
 abbrev pub IsFirstAgain : List Named → Option Place → Type 0
 IsFirstAgain names place = place ≡ first_of (places_again [] names)
+
+abbrev pub texts_of : List Named → List (List ℕ)
+texts_of ns = map (λ n. n.text) ns
+
+-- whether a text is one of those that the code keeps
+abbrev pub is_seen : List ℕ → List (Bor (List ℕ)) → Bool
+is_seen n keys = list_any (λ y. bytes_eq n y.now) keys
