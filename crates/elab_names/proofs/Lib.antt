@@ -1,3 +1,4 @@
 -- The modules of this folder.
 pub mod Again
 pub mod After
+pub mod InstanceNames
