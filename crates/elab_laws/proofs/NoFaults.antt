@@ -14,7 +14,7 @@ use Rattle.elab_model.specs.Hierarchy.{Step, Instance, Child, children_in, child
 use Rattle.elab_model.specs.Delays.{tick_of}
 use Rattle.elab_model.specs.Nets.{nets}
 use Rattle.elab_model.specs.Faults.{fault, fault_if, places_again, duplicates}
-use Rattle.elab_model.specs.NameFaults.{declaration_faults, twice_in_list}
+use Rattle.elab_model.specs.NameFaults.{name_faults, declaration_faults, twice_in_list}
 use Rattle.elab_model.specs.TerminalFaults.{expression_faults, is_missing}
 use Rattle.elab_model.specs.ModuleFaults.{connection_faults, delay_on_module, instance_faults, member_faults, all_member_faults, module_faults}
 use Rattle.elab_model.specs.HierarchyFaults.{faults_below, instance_faults_below, self_instances, too_deep}
@@ -69,7 +69,7 @@ NamesOnce (by_order es) = Unit {0}
 NamesOnce (by_name cs) = places_again [] (map (λ c. c.port) cs) ≡ []
 
 declared-once : (m : Module) → declaration_faults m ≡ [] → PortsOnce m
-declared-once m h = map-empty (fault DuplicateName) (places_again [] (port_list m)) (front (twice_in_list m) _ h)
+declared-once m h = map-empty (fault DuplicateName) (places_again [] (port_list m)) (front (twice_in_list m) _ (front (name_faults m) _ h))
 
 connected-once : (vs : List Variable) (m : Module) (p : Place) (x : Connections) → connection_faults vs m p x ≡ [] → NamesOnce x
 connected-once vs m p (by_order es) h = tt

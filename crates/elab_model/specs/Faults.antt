@@ -1,5 +1,5 @@
 -- Faults: each is a kind at a place. Each cause of refusal is the list of the places that have it.
-use Rattle.std.specs.Prelude.{ℕ, List, [], ◌∷◌, ◌++◌, Bool, map, flat_map, if◌then◌else◌}
+use Rattle.std.specs.Prelude.{ℕ, List, [], ◌∷◌, ◌++◌, Bool, not, map, flat_map, if◌then◌else◌}
 use Rattle.sg_text.specs.declared.places.Place.{Place}
 use Rattle.vl_tree.specs.Tree.{Named}
 use Rattle.elab_model.specs.declared.kinds.ElabKind.{ElabKind}
@@ -25,6 +25,13 @@ places_again seen (n ∷ ns) = (if is_among n.text seen then n.place ∷ [] else
 -- two names are one: the second is the place
 abbrev pub duplicates : List Named → List Fault
 duplicates ns = map (fault DuplicateName) (places_again [] ns)
+
+-- names that are none of others
+abbrev pub texts_of : List Named → List (List ℕ)
+texts_of ns = map (λ n. n.text) ns
+
+abbrev pub missing : ElabKind → List Named → List Named → List Fault
+missing kind ns others = flat_map (λ n. fault_if (not (is_among n.text (texts_of others))) kind n.place) ns
 
 -- faults of several lists
 abbrev pub all_of : List (List Fault) → List Fault

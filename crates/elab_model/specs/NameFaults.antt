@@ -7,19 +7,25 @@ use Rattle.vl_tree.specs.Tree.{Named, PortDeclaration, Module}
 use Rattle.elab_model.specs.declared.kinds.ElabKind.TheVariants.{UnknownName, WidthMismatch, BadTerminal, TooMany}
 use Rattle.std.specs.Option.{option_map}
 use Rattle.elab_model.specs.Members.{Member, assignment, supply, gate, instance, members}
-use Rattle.elab_model.specs.Ports.{port_list, port_names, ports_of_head, ports_of_item, port_declarations, NetDeclaration, nets_of_item, net_declarations}
-use Rattle.elab_model.specs.Names.{is_among, bounds}
-use Rattle.elab_model.specs.Faults.{Fault, fault_if, duplicates, all_of}
+use Rattle.elab_model.specs.Ports.{port_list, ports_of_head, ports_of_item, port_declarations, NetDeclaration, nets_of_item, net_declarations}
+use Rattle.elab_model.specs.Names.{bounds}
+use Rattle.elab_model.specs.Faults.{Fault, fault_if, missing, duplicates, all_of}
 
 -- two ports, two directions of a port, two nets or two instances have one name
 abbrev pub twice_in_list : Module → List Fault
 twice_in_list m = duplicates (port_list m)
 
+abbrev pub declared_ports : Module → List Named
+declared_ports m = map (λ d. d.name) (port_declarations m)
+
 abbrev pub two_directions : Module → List Fault
-two_directions m = duplicates (map (λ d. d.name) (port_declarations m))
+two_directions m = duplicates (declared_ports m)
+
+abbrev pub declared_nets : Module → List Named
+declared_nets m = map (λ d. d.name) (net_declarations m)
 
 abbrev pub two_nets : Module → List Fault
-two_nets m = duplicates (map (λ d. d.name) (net_declarations m))
+two_nets m = duplicates (declared_nets m)
 
 abbrev pub instance_name : Member → Option Named
 instance_name (assignment j) = None
@@ -27,16 +33,22 @@ instance_name (supply n v) = None
 instance_name (gate g d i) = i.name
 instance_name (instance n d i) = i.name
 
+abbrev pub instance_names : Module → List Named
+instance_names m = filter_map instance_name (members m)
+
 abbrev pub two_instances : Module → List Fault
-two_instances m = duplicates (filter_map instance_name (members m))
+two_instances m = duplicates (instance_names m)
 
 -- a direction is declared of what isn't in the list of ports
 abbrev pub no_port : Module → List Fault
-no_port m = flat_map (λ d. fault_if (not (is_among d.name.text (port_names m))) UnknownName d.name.place) (port_declarations m)
+no_port m = missing UnknownName (declared_ports m) (port_list m)
 
 -- a port has no direction
 abbrev pub no_direction : Module → List Fault
-no_direction m = flat_map (λ n. fault_if (not (is_among n.text (map (λ d. d.name.text) (port_declarations m)))) BadTerminal n.place) (port_list m)
+no_direction m = missing BadTerminal (port_list m) (declared_ports m)
+
+abbrev pub name_faults : Module → List Fault
+name_faults m = all_of (twice_in_list m ∷ two_directions m ∷ two_nets m ∷ two_instances m ∷ no_port m ∷ no_direction m ∷ [])
 
 -- what is said of a name's range, by a declaration of a port or of a net
 pub record RangeText : Type 0 where
@@ -87,5 +99,4 @@ abbrev pub too_wide : Module → List Fault
 too_wide m = flat_map (λ s. fault_if (nat_lt width_limit (width_of s.range)) TooMany s.name.place) (range_texts m)
 
 abbrev pub declaration_faults : Module → List Fault
-declaration_faults m =
-    all_of (twice_in_list m ∷ two_directions m ∷ two_nets m ∷ two_instances m ∷ no_port m ∷ no_direction m ∷ two_ranges m ∷ too_wide m ∷ [])
+declaration_faults m = name_faults m ++ (two_ranges m ++ too_wide m)

@@ -1,12 +1,12 @@
 -- Faults of a user-defined primitive's declarations, and those of its table (IEEE 1364-2005, 8.1).
-use Rattle.std.specs.Prelude.{List, [], ◌∷◌, ◌++◌, Bool, not, Option, Some, None, map, flat_map}
+use Rattle.std.specs.Prelude.{List, [], ◌∷◌, ◌++◌, Bool, not, Option, Some, None, flat_map}
 use Rattle.sg_text.specs.declared.places.Place.{Place}
 use Rattle.udp_rows.specs.declared.faults.UdpKind.{UdpKind}
 use Rattle.udp_rows.specs.Faults as rows
 use Rattle.vl_tree.specs.Tree.{Named, Primitive, Initial}
 use Rattle.elab_model.specs.declared.kinds.ElabKind.TheVariants.{UnknownName, BadTerminal}
 use Rattle.elab_model.specs.Names.{is_among}
-use Rattle.elab_model.specs.Faults.{Fault, fault_if, duplicates, all_of}
+use Rattle.elab_model.specs.Faults.{Fault, fault_if, texts_of, missing, duplicates, all_of}
 use Rattle.elab_model.specs.Primitives.{outputs, inputs, regs, is_sequential, input_count}
 
 abbrev pub initial_names : Option Initial → List Named
@@ -14,7 +14,7 @@ initial_names None = []
 initial_names (Some i) = i.name ∷ []
 
 abbrev pub is_in : List Named → Named → Bool
-is_in ns n = is_among n.text (map (λ m. m.text) ns)
+is_in ns n = is_among n.text (texts_of ns)
 
 -- two ports, two directions or two regs have one name
 abbrev pub named_twice : Primitive → List Fault
@@ -26,13 +26,12 @@ declared_names p = outputs p ++ (inputs p ++ (regs p ++ initial_names p.initial)
 
 -- a name that isn't one of the ports
 abbrev pub not_a_port : Primitive → List Fault
-not_a_port p = flat_map (λ n. fault_if (not (is_in p.ports n)) UnknownName n.place) (declared_names p)
+not_a_port p = missing UnknownName (declared_names p) p.ports
 
 -- the first port isn't an output, or another isn't an input
 abbrev pub wrong_directions : Primitive → List Named → List Fault
 wrong_directions p [] = []
-wrong_directions p (n ∷ ns) =
-    fault_if (not (is_in (outputs p) n)) BadTerminal n.place ++ flat_map (λ m. fault_if (not (is_in (inputs p) m)) BadTerminal m.place) ns
+wrong_directions p (n ∷ ns) = missing BadTerminal (n ∷ []) (outputs p) ++ missing BadTerminal ns (inputs p)
 
 -- another port than the first is a reg, or has an initial value
 abbrev pub wrong_regs : Primitive → List Named → List Fault
