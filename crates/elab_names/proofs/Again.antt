@@ -1,7 +1,6 @@
 -- Which names were seen is what counts, and not their order.
 use Rattle.std.specs.Prelude.{◌≡◌, ℕ, suc, ◌<◌, List, [], ◌∷◌, ◌++◌, Bool, true, false, not, ◌||◌, Some, map, length, slice_index_or, refl, bytes_eq, if◌then◌else◌}
 use Rattle.std.specs.Borrow.{Bor}
-use Rattle.std.specs.List.{list_any}
 use Rattle.std.proofs.Common.{sym, ◌∙◌, ap, take, drop, ◌+◌, drop-cons}
 use Rattle.std.proofs.lemmas.List.{map-append, take_more}
 use Rattle.std.proofs.lemmas.Slice.Eq.{bytes_eq-Decides}
@@ -10,8 +9,8 @@ use Rattle.vl_tree.specs.Seen.{view_name}
 use Rattle.std.proofs.lemmas.List.Folds.{list_any-append}
 use Rattle.vl_tree.specs.Tree.{Named}
 use Rattle.elab_model.specs.Names.{is_among}
-use Rattle.elab_model.specs.Faults.{places_again}
-use Rattle.elab_names.specs.Words.{first_of, is_seen, texts_of}
+use Rattle.elab_model.specs.Faults.{places_again, texts_of}
+use Rattle.elab_names.specs.Words.{first_of, is_seen}
 
 pub same-seen : (s t : List (List ℕ)) (ns : List Named) → ((n : List ℕ) → is_among n s ≡ is_among n t) → places_again s ns ≡ places_again t ns
 same-seen s t [] h = refl

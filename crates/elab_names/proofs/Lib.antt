@@ -2,3 +2,4 @@
 pub mod Again
 pub mod After
 pub mod InstanceNames
+pub mod Refusals

@@ -11,10 +11,7 @@ use vl_tree::{GateInstance, Instance, Item, Module, Name};
 
 /// The names of the instances in a module, of gates, primitives and modules, in text order (IEEE 1364-2005, 7.1, 12.1.2).
 /// Takes memory.
-pub fn instance_names<'a>(
-    alloc: Global,
-    definition: &Module<'a>,
-) -> Result<Vec<Name<'a>>, NoMemory>
+pub fn instance_names<'a>(alloc: Global, definition: &Module<'a>) -> Result<Vec<Name<'a>>, NoMemory>
     ensures { IfOk result (λ names. map view_name names.items ≡ filter_map instance_name (members (view_module definition.now))) }
 {
     let mut names = Vec::new(alloc);
@@ -39,10 +36,7 @@ fn add_item<'a>(item: &Item<'a>, names: &mut Vec<Name<'a>>) -> Result<(), NoMemo
     Ok(())
 }
 
-fn add_gates<'a>(
-    instances: &[GateInstance<'a>],
-    names: &mut Vec<Name<'a>>,
-) -> Result<(), NoMemory>
+fn add_gates<'a>(instances: &[GateInstance<'a>], names: &mut Vec<Name<'a>>) -> Result<(), NoMemory>
     ensures { OnOk result (map view_name names.new.items ≡ map view_name names.old.items ++ filter_map (λ i. i.name) (map view_gate_instance instances.now)) }
 {
     for instance in instances {

@@ -1,7 +1,6 @@
 -- The names of each kind of item.
-use Rattle.std.proofs.Common.{rules, map, filter_map, ap, sym, ◌∙◌, ◌++◌}
-use Rattle.vl_tree.specs.Seen.{view_name, view_net_name, view_join, view_gate_instance, view_instance, view_delay}
-use Rattle.std.specs.Option.{option_map}
+use Rattle.std.proofs.Common.{rules, map, filter_map}
+use Rattle.vl_tree.specs.Seen.{view_name, view_net_name, view_join, view_gate_instance, view_instance}
 use Rattle.elab_model.specs.Members.{supply_value}
 use Rattle.elab_names.proofs.InstanceNames.{gates-named, instances-named, assigns-unnamed, supplies-unnamed, nets-unnamed, item-named, item-unnamed}
 use Rattle.elab_names.proofs.instances.add_item.Goals as goal
