@@ -1,0 +1,171 @@
+-- H3: the nets are distinct.
+use Rattle.std.specs.Prelude.{◌≡◌, ℕ, ◌==◌, List, [], ◌∷◌, Bool, true, false, ◌&&◌, ◌||◌, flat_map, refl, if◌then◌else◌, bytes_eq}
+use Rattle.std.specs.List.{AllByRecursion}
+use Rattle.std.specs.Bool.{one_answer}
+use Rattle.std.proofs.Common.{sym, ◌∙◌}
+use Rattle.std.proofs.lemmas.Bool.{eq-eqb, eqb-true}
+use Rattle.std.proofs.lemmas.Slice.Eq.{bytes_eq-Decides}
+use Rattle.elab_laws.proofs.Lists.{all-flat, all-weaker, all-anyway, Pairwise, pairwise-flat, pairwise-map, range-apart}
+use Rattle.elab_model.specs.Bits.{index_at, positions}
+use Rattle.elab_model.specs.Hierarchy.{Instance}
+use Rattle.elab_model.specs.Homes.{Spot, bit, outside, terminal, is_same_spot, home_of}
+use Rattle.elab_model.specs.Names.{Variable, variable, variables, variable_names, is_among, first_of_each}
+use Rattle.elab_model.specs.Nets.{OwnNet, bit_net, variable_nets}
+use Rattle.sg_circuit.specs.Closed.{width_of}
+use Rattle.vl_tree.specs.Tree.{Module, Source}
+
+-- nets that aren't the same
+abbrev pub Other : OwnNet → OwnNet → Type 0
+Other a b = is_same_spot a.spot b.spot ≡ false
+
+abbrev pub AreApart : List OwnNet → Type 0
+AreApart os = Pairwise Other os
+
+-- the instance whose nets it is among, and the part, where it is no bit of a variable
+abbrev pub scope_of_spot : Spot → ℕ
+scope_of_spot (bit s n p) = s
+scope_of_spot (outside s k n p) = s
+scope_of_spot (terminal s k i) = s
+
+abbrev pub IsOfPart : ℕ → Spot → Type 0
+IsOfPart k (bit s n p) = ⊥
+IsOfPart k (outside s l n p) = l ≡ k
+IsOfPart k (terminal s l i) = l ≡ k
+
+abbrev pub IsBit : Spot → Type 0
+IsBit (bit s n p) = Unit {0}
+IsBit (outside s l n p) = ⊥
+IsBit (terminal s l i) = ⊥
+
+and-false : (a b : Bool) → b ≡ false → (a && b) ≡ false
+and-false true b e = e
+and-false false b e = refl
+
+pub scopes-tell : (a b : Spot) → (scope_of_spot a == scope_of_spot b) ≡ false → is_same_spot a b ≡ false
+scopes-tell (bit s n p) (bit t m q) e = rw e refl
+scopes-tell (outside s k n p) (outside t l m q) e = rw e refl
+scopes-tell (terminal s k i) (terminal t l j) e = rw e refl
+scopes-tell (bit s n p) (outside t l m q) e = refl
+scopes-tell (bit s n p) (terminal t l j) e = refl
+scopes-tell (outside s k n p) (bit t m q) e = refl
+scopes-tell (outside s k n p) (terminal t l j) e = refl
+scopes-tell (terminal s k i) (bit t m q) e = refl
+scopes-tell (terminal s k i) (outside t l m q) e = refl
+
+pub parts-tell : (i j : ℕ) (a b : Spot) → (i == j) ≡ false → IsOfPart i a → IsOfPart j b → is_same_spot a b ≡ false
+parts-tell i j (bit s n p) b e h g = absurd h
+parts-tell i j (outside s k n p) (bit t m q) e h g = absurd g
+parts-tell i j (terminal s k n) (bit t m q) e h g = absurd g
+parts-tell i j (outside s k n p) (outside t l m q) e h g = rw (h, g, e) (and-false (s == t) false refl)
+parts-tell i j (terminal s k n) (terminal t l m) e h g = rw (h, g, e) (and-false (s == t) false refl)
+parts-tell i j (outside s k n p) (terminal t l m) e h g = refl
+parts-tell i j (terminal s k n) (outside t l m q) e h g = refl
+
+pub bits-tell : (k : ℕ) (a b : Spot) → IsBit a → IsOfPart k b → is_same_spot a b ≡ false
+bits-tell k (bit s n p) (bit t m q) h g = absurd g
+bits-tell k (bit s n p) (outside t l m q) h g = refl
+bits-tell k (bit s n p) (terminal t l j) h g = refl
+bits-tell k (outside s l n p) b h g = absurd h
+bits-tell k (terminal s l i) b h g = absurd h
+
+-- which way round makes no difference
+pub bytes-either : (a b : List ℕ) → bytes_eq a b ≡ bytes_eq b a
+bytes-either a b =
+    let d = bytes_eq-Decides a b in
+    let e = bytes_eq-Decides b a in
+    one_answer (bytes_eq a b) (bytes_eq b a) d (λ h. sym (e.0 h), λ h. e.1 (sym h))
+
+pub numbers-either : (a b : ℕ) → (a == b) ≡ (b == a)
+numbers-either a b = one_answer (a == b) (b == a) (eqb-true a b, eq-eqb a b) (λ h. sym (eqb-true b a h), λ h. eq-eqb b a (sym h))
+
+pub spots-either : (a b : Spot) → is_same_spot a b ≡ is_same_spot b a
+spots-either (bit s n p) (bit t m q) = rw (numbers-either s t, bytes-either n m, numbers-either p q) refl
+spots-either (outside s k n p) (outside t l m q) = rw (numbers-either s t, numbers-either k l, bytes-either n m, numbers-either p q) refl
+spots-either (terminal s k i) (terminal t l j) = rw (numbers-either s t, numbers-either k l, numbers-either i j) refl
+spots-either (bit s n p) (outside t l m q) = refl
+spots-either (bit s n p) (terminal t l j) = refl
+spots-either (outside s k n p) (bit t m q) = refl
+spots-either (outside s k n p) (terminal t l j) = refl
+spots-either (terminal s k i) (bit t m q) = refl
+spots-either (terminal s k i) (outside t l m q) = refl
+
+-- ---- the bits of variables
+
+abbrev pub IsBitAt : ℕ → List ℕ → ℕ → OwnNet → Type 0
+IsBitAt s n p o = o.spot ≡ bit s n p
+
+one-or-none : (P : OwnNet → Type 0) (b : Bool) (o : OwnNet) → P o → AllByRecursion P (if b then o ∷ [] else [])
+one-or-none P true o h = (h, tt)
+one-or-none P false o h = tt
+
+apart-one : (b : Bool) (o : OwnNet) → AreApart (if b then o ∷ [] else [])
+apart-one true o = (tt, tt)
+apart-one false o = tt
+
+pub owned-bit : (source : Source) (s : Instance) (v : Variable) (p : ℕ) → AllByRecursion (IsBitAt s.step.number v.name p) (bit_net source s v p)
+owned-bit source s v p =
+    one-or-none (IsBitAt s.step.number v.name p) (is_same_spot (home_of source s v.name p) (bit s.step.number v.name p))
+    (record { spot = bit s.step.number v.name p; scope = s.step.number; name = v.name; bit = index_at v.range p }) refl
+
+places-tell : (s : ℕ) (n : List ℕ) (p q : ℕ) → (p == q) ≡ false → (a b : OwnNet) → IsBitAt s n p a → IsBitAt s n q b → Other a b
+places-tell s n p q e a b h g = rw (h, g, e) (and-false (s == s) (bytes_eq n n && false) (and-false (bytes_eq n n) false refl))
+
+-- the bits of one variable
+pub variable-apart : (source : Source) (s : Instance) (v : Variable) → AreApart (flat_map (bit_net source s v) (positions v.range))
+variable-apart source s v =
+    pairwise-flat Other (λ p q. (p == q) ≡ false) (λ p. IsBitAt s.step.number v.name p) (bit_net source s v) (positions v.range)
+    (owned-bit source s v) (λ p q e. places-tell s.step.number v.name p q e)
+    (all-anyway (λ p. AreApart (bit_net source s v p)) (positions v.range) (λ p. apart-one (is_same_spot (home_of source s v.name p) (bit s.step.number v.name p)) (record { spot = bit s.step.number v.name p; scope = s.step.number; name = v.name; bit = index_at v.range p })))
+    (range-apart 0 (width_of v.range))
+
+abbrev pub IsNamed : ℕ → List ℕ → OwnNet → Type 0
+IsNamed s n o = (p : ℕ) × (o.spot ≡ bit s n p)
+
+names-tell : (s : ℕ) (n m : List ℕ) → bytes_eq n m ≡ false → (a b : OwnNet) → IsNamed s n a → IsNamed s m b → Other a b
+names-tell s n m e a b (p, h) (q, g) = rw (h, g, e) (and-false (s == s) false refl)
+
+-- each name once
+pub first-new : (seen ns : List (List ℕ)) → AllByRecursion (λ n. is_among n seen ≡ false) (first_of_each seen ns)
+first-new seen [] = tt
+first-new seen (n ∷ ns) = by (is_among n seen) refl (first-new seen ns) (first-new (n ∷ seen) ns)
+  where
+    weaker : (m n : List ℕ) (seen : List (List ℕ)) → is_among m (n ∷ seen) ≡ false → is_among m seen ≡ false
+    weaker m n seen h = by (bytes_eq m n) (is_among m seen) h
+      where
+        by : (a b : Bool) → (a || b) ≡ false → b ≡ false
+        by true b h = cc
+        by false b h = h
+
+    by : (b : Bool) → is_among n seen ≡ b → AllByRecursion (λ n. is_among n seen ≡ false) (first_of_each seen ns)
+        → AllByRecursion (λ m. is_among m (n ∷ seen) ≡ false) (first_of_each (n ∷ seen) ns)
+        → AllByRecursion (λ n. is_among n seen ≡ false) (if b then first_of_each seen ns else n ∷ first_of_each (n ∷ seen) ns)
+    by true e h g = h
+    by false e h g = (e, all-weaker (λ m. is_among m (n ∷ seen) ≡ false) (λ m. is_among m seen ≡ false) (first_of_each (n ∷ seen) ns) (λ m k. weaker m n seen k) g)
+
+pub first-apart : (seen ns : List (List ℕ)) → Pairwise (λ n m. bytes_eq n m ≡ false) (first_of_each seen ns)
+first-apart seen [] = tt
+first-apart seen (n ∷ ns) = by (is_among n seen) (first-apart seen ns) (first-apart (n ∷ seen) ns) (first-new (n ∷ seen) ns)
+  where
+    differs : (m n : List ℕ) (seen : List (List ℕ)) → is_among m (n ∷ seen) ≡ false → bytes_eq n m ≡ false
+    differs m n seen h = bytes-either n m ∙ by (bytes_eq m n) (is_among m seen) h
+      where
+        by : (a b : Bool) → (a || b) ≡ false → a ≡ false
+        by true b h = cc
+        by false b h = refl
+
+    by : (b : Bool) → Pairwise (λ n m. bytes_eq n m ≡ false) (first_of_each seen ns) → Pairwise (λ n m. bytes_eq n m ≡ false) (first_of_each (n ∷ seen) ns)
+        → AllByRecursion (λ m. is_among m (n ∷ seen) ≡ false) (first_of_each (n ∷ seen) ns)
+        → Pairwise (λ n m. bytes_eq n m ≡ false) (if b then first_of_each seen ns else n ∷ first_of_each (n ∷ seen) ns)
+    by true h g k = h
+    by false h g k = (all-weaker (λ m. is_among m (n ∷ seen) ≡ false) (λ m. bytes_eq n m ≡ false) (first_of_each (n ∷ seen) ns) (λ m e. differs m n seen e) k, g)
+
+pub variables-apart : (m : Module) → Pairwise (λ v w. bytes_eq v.name w.name ≡ false) (variables m)
+variables-apart m = pairwise-map (λ v w. bytes_eq v.name w.name ≡ false) (variable m) (variable_names m) (first-apart [] _)
+
+pub variable_nets-apart : (source : Source) (s : Instance) → AreApart (variable_nets source s)
+variable_nets-apart source s =
+    pairwise-flat Other (λ v w. bytes_eq v.name w.name ≡ false) (λ v. IsNamed s.step.number v.name) (λ v. flat_map (bit_net source s v) (positions v.range)) (variables s.step.definition)
+    (λ v. all-flat (IsNamed s.step.number v.name) (bit_net source s v) (positions v.range) (λ p. all-weaker (IsBitAt s.step.number v.name p) (IsNamed s.step.number v.name) (bit_net source s v p) (λ o e. (p, e)) (owned-bit source s v p)))
+    (λ v w e. names-tell s.step.number v.name w.name e)
+    (all-anyway (λ v. AreApart (flat_map (bit_net source s v) (positions v.range))) (variables s.step.definition) (variable-apart source s))
+    (variables-apart s.step.definition)

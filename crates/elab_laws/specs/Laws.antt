@@ -1,0 +1,41 @@
+-- The laws of elaboration, as statements.
+use Rattle.std.specs.Prelude.{◌≡◌, ℕ, ◌<◌, List, [], ◌∷◌, ◌++◌, map, flat_map, length}
+use Rattle.std.specs.List.{AllByRecursion, range_with_len}
+use Rattle.sg_circuit.specs.Closed.{width_of}
+use Rattle.sg_circuit.specs.declared.nets.Driver.TheVariants.{Element}
+use Rattle.sg_delay.specs.declared.corners.Corner.{Corner}
+use Rattle.vl_tree.specs.Tree.{Module, Source}
+use Rattle.elab_model.specs.Names.{Variable, variables}
+use Rattle.elab_model.specs.Hierarchy.{Instance, instances}
+use Rattle.elab_model.specs.Homes.{Spot, home_of}
+use Rattle.elab_model.specs.Elements.{Component}
+use Rattle.elab_model.specs.Nets.{OwnNet, nets, nets_of, number_of}
+use Rattle.elab_model.specs.Drivers.{drives_of, element_drives}
+use Rattle.elab_model.specs.HierarchyFaults.{faults_below}
+use Rattle.elab_laws.specs.Words.{In, Owns}
+use Rattle.elab_laws.specs.Handing.{IsHandedDown}
+use Rattle.elab_laws.specs.Driven.{driven}
+
+-- the number of an instance is its place among the instances
+abbrev pub InstancesHavePlaces : Type 0
+InstancesHavePlaces = (source : Source) (top : Module) → map (λ s. s.step.number) (instances source top) ≡ range_with_len 0 (length (instances source top))
+
+-- each bit of each variable of each instance has a net
+abbrev pub BitsHaveNets : Type 0
+BitsHaveNets = (source : Source) (top : Module) (s : Instance) (v : Variable) (p : ℕ) → In s (instances source top) → In v (variables s.step.definition) → p < width_of v.range
+    → Owns (home_of source s v.name p) (nets source top) × (number_of (nets source top) (home_of source s v.name p) < length (nets source top))
+
+-- where no fault stands, the nets are distinct: the number of a net is its place among the nets
+abbrev pub NetsHavePlaces : Type 0
+NetsHavePlaces = (source : Source) (top : Module) (corner : Corner) → faults_below source top corner ≡ []
+    → map (λ o. number_of (nets source top) o.spot) (nets source top) ≡ range_with_len 0 (length (nets source top))
+
+-- and the numbers of an instance's bits are those that are handed down from its parent, and for the others the next that are free
+abbrev pub NumbersAreHandedDown : Type 0
+NumbersAreHandedDown = (source : Source) (top : Module) (corner : Corner) (before after : List Instance) (s : Instance) → faults_below source top corner ≡ []
+    → instances source top ≡ before ++ s ∷ after → IsHandedDown source top s (length (flat_map (nets_of source) before))
+
+-- the elements that drive a net are those whose output has its number
+abbrev pub DriversHaveNumbers : Type 0
+DriversHaveNumbers = (all : List OwnNet) (spot : Spot) (es : List Component) → Owns spot all → AllByRecursion (λ e. Owns e.output all) es
+    → map (λ d. d.driver) (drives_of (element_drives es) spot) ≡ map Element (driven (number_of all spot) 0 (map (λ e. number_of all e.output) es))

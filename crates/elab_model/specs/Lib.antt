@@ -1,0 +1,25 @@
+-- The modules of this folder, in reading order.
+pub mod Members
+pub mod Definitions
+pub mod Ports
+pub mod Leaves
+pub mod Names
+pub mod Bits
+pub mod Hierarchy
+pub mod Connections
+pub mod Homes
+pub mod Delays
+pub mod Primitives
+pub mod Elements
+pub mod Nets
+pub mod Drivers
+pub mod Scopes
+pub mod Circuits
+pub mod Tops
+pub mod Faults
+pub mod NameFaults
+pub mod TerminalFaults
+pub mod PrimitiveFaults
+pub mod ModuleFaults
+pub mod HierarchyFaults
+pub mod Elaboration

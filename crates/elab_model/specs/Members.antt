@@ -1,0 +1,51 @@
+-- The members of a module: what makes elements or holds instances, in text order.
+use Rattle.std.specs.Prelude.{List, [], ◌∷◌, Option, Some, None, map, flat_map, filter_map}
+use Rattle.sg_logic.specs.declared.gates.GateKind.{GateKind}
+use Rattle.sg_logic.specs.declared.values.Value.{Value}
+use Rattle.sg_logic.specs.declared.values.Value.TheVariants.{Zero, One}
+use Rattle.vl_tree.specs.declared.names.Supply.{Supply}
+use Rattle.vl_tree.specs.declared.names.Supply.TheVariants as level
+use Rattle.vl_tree.specs.Tree.{Named, Expression, signal, Delay, Join, GateInstance, Connections, by_order, by_name, Instance, Item, ports, nets, supplies, registers, assigns, gates, instances, Module}
+
+pub data Member : Type 0 where
+  -- a continuous assignment (IEEE 1364-2005, 6.1)
+  assignment : Join → Member
+  -- a supply net, and the value that drives it (4.6)
+  supply : Named → Value → Member
+  -- an instance of a gate (7.1)
+  gate : GateKind → Option Delay → GateInstance → Member
+  -- an instance of the module or the primitive of this name (12.1.2, 8.6)
+  instance : Named → Option Delay → Instance → Member
+
+-- a net that is assigned where it is declared (6.1.1)
+abbrev pub assignment_to : Named → Option Expression → Option Member
+assignment_to n None = None
+assignment_to n (Some e) = Some (assignment (record { place = n.place; left = signal n None; right = e }))
+
+abbrev pub supply_value : Supply → Value
+supply_value level.Zero = Zero
+supply_value level.One = One
+
+abbrev pub members_of_item : Item → List Member
+members_of_item (ports p d t r ns) = []
+members_of_item (nets p t r ns) = filter_map (λ n. assignment_to n.name n.value) ns
+members_of_item (supplies p s r ns) = map (λ n. supply n (supply_value s)) ns
+members_of_item (registers p ns) = []
+members_of_item (assigns p js) = map assignment js
+members_of_item (gates p g d is) = map (gate g d) is
+members_of_item (instances n d is) = map (instance n d) is
+
+abbrev pub members : Module → List Member
+members m = flat_map members_of_item m.items
+
+-- the expressions that stand in connections, in text order; a connection may be empty (12.3.5, 12.3.6)
+abbrev pub connection_values : Connections → List Expression
+connection_values (by_order es) = filter_map (λ e. e) es
+connection_values (by_name cs) = filter_map (λ c. c.value) cs
+
+-- the expressions of a member, in text order
+abbrev pub member_values : Member → List Expression
+member_values (assignment j) = j.left ∷ j.right ∷ []
+member_values (supply n v) = []
+member_values (gate g d i) = i.terminals
+member_values (instance n d i) = connection_values i.connections

@@ -1,0 +1,5 @@
+-- The modules of this folder.
+pub mod Again
+pub mod After
+pub mod InstanceNames
+pub mod Refusals

@@ -1,0 +1,106 @@
+-- One of several faults is refused.
+use Rattle.std.specs.Prelude.{◌≡◌, ◌+◌, List, [], ◌∷◌, ◌++◌, Bool, true, false, not, Some, None, Result, Err, IfErr, map, flat_map, find, length, refl, if◌then◌else◌}
+use Rattle.std.specs.List.{IsAmong}
+use Rattle.std.proofs.Common.{sym, ◌∙◌, ap, arith, subst, length-append}
+use Rattle.std.proofs.lemmas.List.{get_or_append_left, get_or-append-add}
+use Rattle.sg_text.specs.declared.places.Place.{Place}
+use Rattle.sg_text.specs.declared.refusals.Refused.{Refused}
+use Rattle.sg_text.specs.declared.refusals.Refused.TheVariants as refused
+use Rattle.vl_tree.specs.Tree.{Named}
+use Rattle.elab_model.specs.declared.kinds.ElabKind.{ElabKind}
+use Rattle.elab_model.specs.declared.kinds.ElabKind.TheVariants.{DuplicateName}
+use Rattle.elab_model.specs.Faults.{Fault, fault, fault_if, places_again, duplicates, missing}
+use Rattle.elab_names.specs.Words.{first_of, RefusesOneOf}
+
+among-left : {A : Type 0} (xs ys : List A) (v : A) → IsAmong xs v → IsAmong (xs ++ ys) v
+among-left xs ys v (i, (lt, e)) =
+    let l : length (xs ++ ys) ≡ length xs + length ys = length-append xs ys in
+    (i, (omega arith, e ∙ sym (get_or_append_left xs ys v i lt)))
+
+among-right : {A : Type 0} (xs ys : List A) (v : A) → IsAmong ys v → IsAmong (xs ++ ys) v
+among-right xs ys v (i, (lt, e)) =
+    let l : length (xs ++ ys) ≡ length xs + length ys = length-append xs ys in
+    (length xs + i, (omega arith, e ∙ sym (get_or-append-add xs ys i v)))
+
+pub refused-left : (xs ys : List Fault) (r : Refused ElabKind) → RefusesOneOf xs r → RefusesOneOf (xs ++ ys) r
+refused-left xs ys (refused.Fault k p) h = among-left xs ys (fault k p) h
+refused-left xs ys refused.NoMemory h = tt
+
+pub refused-right : (xs ys : List Fault) (r : Refused ElabKind) → RefusesOneOf ys r → RefusesOneOf (xs ++ ys) r
+refused-right xs ys (refused.Fault k p) h = among-right xs ys (fault k p) h
+refused-right xs ys refused.NoMemory h = tt
+
+-- ---- names that stand twice
+
+pub none-again : (ns : List Named) → None ≡ first_of (places_again [] ns) → duplicates ns ≡ []
+none-again ns h = by (places_again [] ns) h
+  where
+    by : (ps : List Place) → None ≡ first_of ps → map (fault DuplicateName) ps ≡ []
+    by [] h = refl
+    by (p ∷ ps) h = cc
+
+pub some-again : (ns : List Named) (p : Place) → Some p ≡ first_of (places_again [] ns) → IsAmong (duplicates ns) (fault DuplicateName p)
+some-again ns p h = by (places_again [] ns) h
+  where
+    by : (ps : List Place) → Some p ≡ first_of ps → IsAmong (map (fault DuplicateName) ps) (fault DuplicateName p)
+    by [] h = cc
+    by (q ∷ ps) h = let e : p ≡ q = cc in (0, (omega arith, ap (fault DuplicateName) e))
+
+-- ---- names that fail a test
+
+pub none-fails : (k : ElabKind) (test : Named → Bool) (ns : List Named) → find (λ n. not (test n)) ns ≡ None → flat_map (λ n. fault_if (not (test n)) k n.place) ns ≡ []
+none-fails k test [] h = refl
+none-fails k test (n ∷ ns) h = by (test n) h (none-fails k test ns)
+  where
+    by : (b : Bool) → (if not b then Some n else find (λ n. not (test n)) ns) ≡ None → (find (λ n. not (test n)) ns ≡ None → flat_map (λ n. fault_if (not (test n)) k n.place) ns ≡ [])
+        → fault_if (not b) k n.place ++ flat_map (λ n. fault_if (not (test n)) k n.place) ns ≡ []
+    by true h rest = rest h
+    by false h rest = cc
+
+pub some-fails : (k : ElabKind) (test : Named → Bool) (ns : List Named) (m : Named) → find (λ n. not (test n)) ns ≡ Some m → IsAmong (flat_map (λ n. fault_if (not (test n)) k n.place) ns) (fault k m.place)
+some-fails k test [] m h = cc
+some-fails k test (n ∷ ns) m h = by (test n) h (some-fails k test ns m)
+  where
+    by : (b : Bool) → (if not b then Some n else find (λ n. not (test n)) ns) ≡ Some m → (find (λ n. not (test n)) ns ≡ Some m → IsAmong (flat_map (λ n. fault_if (not (test n)) k n.place) ns) (fault k m.place))
+        → IsAmong (fault_if (not b) k n.place ++ flat_map (λ n. fault_if (not (test n)) k n.place) ns) (fault k m.place)
+    by true h rest = rest h
+    by false h rest = let e : n ≡ m = cc in (0, (omega arith, ap (λ x. fault k x.place) (sym e)))
+
+-- ---- the exit of a check, of six
+
+pub exit : {A : Type 0} (result : Result A (Refused ElabKind)) (whole : List Fault) (e : Refused ElabKind) → ((x : Refused ElabKind) × (result ≡ Err x) × (x ≡ e)) → RefusesOneOf whole e → IfErr result (RefusesOneOf whole)
+exit result whole e (x, r, s) h = rw r (subst (RefusesOneOf whole) (sym s) h)
+
+abbrev pub six : (hs bs cs ds es fs : List Fault) → List Fault
+six hs bs cs ds es fs = hs ++ (bs ++ (cs ++ (ds ++ (es ++ (fs ++ [])))))
+
+pub first-of : (hs bs cs ds es fs : List Fault) (r : Refused ElabKind) → RefusesOneOf hs r → RefusesOneOf (six hs bs cs ds es fs) r
+first-of hs bs cs ds es fs r h = refused-left hs (bs ++ (cs ++ (ds ++ (es ++ (fs ++ []))))) r h
+
+pub second-of : (hs bs cs ds es fs : List Fault) (r : Refused ElabKind) → RefusesOneOf bs r → RefusesOneOf (six hs bs cs ds es fs) r
+second-of hs bs cs ds es fs r h = refused-right hs (bs ++ (cs ++ (ds ++ (es ++ (fs ++ []))))) r (refused-left bs (cs ++ (ds ++ (es ++ (fs ++ [])))) r h)
+
+pub third-of : (hs bs cs ds es fs : List Fault) (r : Refused ElabKind) → RefusesOneOf cs r → RefusesOneOf (six hs bs cs ds es fs) r
+third-of hs bs cs ds es fs r h =
+    refused-right hs (bs ++ (cs ++ (ds ++ (es ++ (fs ++ []))))) r (refused-right bs (cs ++ (ds ++ (es ++ (fs ++ [])))) r (refused-left cs (ds ++ (es ++ (fs ++ []))) r h))
+
+pub fourth-of : (hs bs cs ds es fs : List Fault) (r : Refused ElabKind) → RefusesOneOf ds r → RefusesOneOf (six hs bs cs ds es fs) r
+fourth-of hs bs cs ds es fs r h =
+    refused-right hs (bs ++ (cs ++ (ds ++ (es ++ (fs ++ []))))) r (refused-right bs (cs ++ (ds ++ (es ++ (fs ++ [])))) r (refused-right cs (ds ++ (es ++ (fs ++ []))) r (refused-left ds (es ++ (fs ++ [])) r h)))
+
+pub fifth-of : (hs bs cs ds es fs : List Fault) (r : Refused ElabKind) → RefusesOneOf es r → RefusesOneOf (six hs bs cs ds es fs) r
+fifth-of hs bs cs ds es fs r h =
+    refused-right hs (bs ++ (cs ++ (ds ++ (es ++ (fs ++ []))))) r (refused-right bs (cs ++ (ds ++ (es ++ (fs ++ [])))) r (refused-right cs (ds ++ (es ++ (fs ++ []))) r
+    (refused-right ds (es ++ (fs ++ [])) r (refused-left es (fs ++ []) r h))))
+
+pub sixth-of : (hs bs cs ds es fs : List Fault) (r : Refused ElabKind) → RefusesOneOf fs r → RefusesOneOf (six hs bs cs ds es fs) r
+sixth-of hs bs cs ds es fs r h =
+    refused-right hs (bs ++ (cs ++ (ds ++ (es ++ (fs ++ []))))) r (refused-right bs (cs ++ (ds ++ (es ++ (fs ++ [])))) r (refused-right cs (ds ++ (es ++ (fs ++ []))) r
+    (refused-right ds (es ++ (fs ++ [])) r (refused-right es (fs ++ []) r (refused-left fs [] r h)))))
+
+-- names that are those of the definition
+pub once-of : (ns ms : List Named) (r : Refused ElabKind) → ns ≡ ms → RefusesOneOf (duplicates ns) r → RefusesOneOf (duplicates ms) r
+once-of ns ms r e h = subst (λ xs. RefusesOneOf (duplicates xs) r) e h
+
+pub missing-of : (k : ElabKind) (ns ms os ps : List Named) (r : Refused ElabKind) → ns ≡ ms → os ≡ ps → RefusesOneOf (missing k ns os) r → RefusesOneOf (missing k ms ps) r
+missing-of k ns ms os ps r e f h = subst (λ xs. RefusesOneOf (missing k ms xs) r) f (subst (λ xs. RefusesOneOf (missing k xs os) r) e h)
