@@ -13,4 +13,5 @@ pub mod Drivers
 pub mod Once
 pub mod NoFaults
 pub mod GivenBits
+pub mod Terminals
 pub mod Stated
