@@ -14,4 +14,5 @@ pub mod Once
 pub mod NoFaults
 pub mod GivenBits
 pub mod Terminals
+pub mod Outside
 pub mod Stated

@@ -34,7 +34,7 @@ expression-there source top s e there =
 abbrev the_net : Instance → ℕ → ℕ → List ℕ → ℕ → OwnNet
 the_net s k i m q = record { spot = terminal s.step.number k i; scope = s.step.number; name = m; bit = index_at (variable s.step.definition m).range q }
 
-in-member : (source : Source) (top : Module) (s : Instance) (x : ℕ × Member) (o : OwnNet) → In s (instances source top) → In x (enumerate_from 0 (members s.step.definition)) → In o (member_nets source s x) → In o (nets source top)
+pub in-member : (source : Source) (top : Module) (s : Instance) (x : ℕ × Member) (o : OwnNet) → In s (instances source top) → In x (enumerate_from 0 (members s.step.definition)) → In o (member_nets source s x) → In o (nets source top)
 in-member source top s x o there at h =
     in-flat (nets_of source) s o (instances source top) there
     (in-right o (variable_nets source s) (flat_map (member_nets source s) (enumerate_from 0 (members s.step.definition))) (in-flat (member_nets source s) x o (enumerate_from 0 (members s.step.definition)) at h))
