@@ -15,4 +15,5 @@ pub mod NoFaults
 pub mod GivenBits
 pub mod Terminals
 pub mod Outside
+pub mod LegSources
 pub mod Stated

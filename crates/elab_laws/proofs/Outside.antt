@@ -1,5 +1,5 @@
 -- H2 of what lies outside a leaf: an input that nothing is connected to has a net.
-use Rattle.std.specs.Prelude.{◌≡◌, ℕ, zero, suc, ◌+◌, ◌<◌, ◌==◌, List, [], ◌∷◌, ◌++◌, Bool, true, false, Option, Some, None, flat_map, filter_map, refl, if◌then◌else◌}
+use Rattle.std.specs.Prelude.{◌≡◌, ℕ, zero, suc, ◌+◌, ◌<◌, ◌==◌, List, [], ◌∷◌, ◌++◌, true, Option, Some, None, flat_map, filter_map, refl, if◌then◌else◌}
 use Rattle.std.specs.List.{enumerate_from, cons_option}
 use Rattle.std.specs.Option.{option_and_then}
 use Rattle.std.proofs.Common.{sym, ◌∙◌, ap, arith, inl, inr, subst}
@@ -13,7 +13,7 @@ use Rattle.elab_model.specs.Bits.{positions}
 use Rattle.elab_model.specs.Hierarchy.{Step, Instance, Child, child_of, child_of_member, children_in, children_from, children_at, children, instances, size}
 use Rattle.elab_model.specs.Homes.{outside, has_leg}
 use Rattle.elab_model.specs.Elements.{child_at, bound_above}
-use Rattle.elab_model.specs.Nets.{OwnNet, outside_net, is_unbound, unbound_net, unbound_nets, constant_nets, instance_nets, member_nets, nets}
+use Rattle.elab_model.specs.Nets.{outside_net, is_unbound, unbound_net, unbound_nets, constant_nets, instance_nets, member_nets, nets}
 use Rattle.elab_laws.specs.Words.{Owns}
 use Rattle.elab_laws.proofs.Lists.{In, in-left, in-flat, in-range}
 use Rattle.elab_laws.proofs.Terminals.{in-member}
@@ -66,7 +66,7 @@ member-is source s k (instance n d t) i e = by (definition_of source n.text) e
     by (Some (a_primitive p)) e = cc
     by (Some (a_module m)) e = (sym (ap (member_or k) e), refl)
 
-child-of : (source : Source) (s c : Instance) (n : ℕ) → In c (children_at source n s) → ChildOf source s c
+pub child-of : (source : Source) (s c : Instance) (n : ℕ) → In c (children_at source n s) → ChildOf source s c
 child-of source s c zero h = absurd h
 child-of source s c (suc levels) h =
     let m = made-by source levels (s.step ∷ s.above) (suc s.step.number) (children_in source s.step.definition) c h in
@@ -74,7 +74,7 @@ child-of source s c (suc levels) h =
     let r = member-is source s k.element.0 k.element.1 m.0 k.gives in
     record { member = k.element; there = k.there; number = m.2 ∙ r.0; makes = r.1 }
 
-child-at : (source : Source) (s c : Instance) (k : ℕ) → In c (children source s) → c.step.member ≡ k → In c (child_at source s k)
+pub child-at : (source : Source) (s c : Instance) (k : ℕ) → In c (children source s) → c.step.member ≡ k → In c (child_at source s k)
 child-at source s c k h e =
     in-flat (λ c. if c.step.member == k then c ∷ [] else []) c c (children source s) h
     (subst (λ b. In c (if b then c ∷ [] else [])) (sym (eq-eqb c.step.member k e)) (inl refl))

@@ -1,7 +1,7 @@
 -- H2 of what elements read and drive: each bit of an expression has a net, and so has a constant at an input of a gate or a primitive.
-use Rattle.std.specs.Prelude.{◌≡◌, ℕ, List, [], ◌∷◌, flat_map, take, drop, refl}
+use Rattle.std.specs.Prelude.{◌≡◌, ℕ, List, ◌∷◌, flat_map, take, drop, refl}
 use Rattle.std.specs.List.{AllByRecursion, enumerate_from}
-use Rattle.std.proofs.Common.{sym, ap, inl, subst}
+use Rattle.std.proofs.Common.{sym, inl, subst}
 use Rattle.sg_logic.specs.declared.values.Value.{Value}
 use Rattle.sg_text.specs.declared.places.Place.{Place}
 use Rattle.vl_tree.specs.Tree.{Module, Expression, Source}
