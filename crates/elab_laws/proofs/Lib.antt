@@ -13,4 +13,7 @@ pub mod Drivers
 pub mod Once
 pub mod NoFaults
 pub mod GivenBits
+pub mod Terminals
+pub mod Outside
+pub mod LegSources
 pub mod Stated

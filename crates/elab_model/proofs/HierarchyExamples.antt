@@ -1,13 +1,14 @@
 -- A hierarchy: a cell, a module that wires its port on, and a top.
 use Rattle.std.specs.Prelude.{◌≡◌, ℕ, List, [], ◌∷◌, true, false, Some, None, refl, codes, pos, negsuc}
 use Rattle.sg_circuit.specs.Circuit.{Kind, Gate, Pass, Element, Circuit}
+use Rattle.sg_circuit.specs.declared.nets.Net.{Net}
 use Rattle.sg_circuit.specs.declared.nets.Driver.TheVariants as driver
 use Rattle.sg_circuit.specs.declared.scopes.Port.TheVariants as port
 use Rattle.sg_delay.specs.declared.corners.Corner.TheVariants.{Typ}
 use Rattle.sg_logic.specs.declared.gates.GateKind.TheVariants.{And}
 use Rattle.sg_logic.specs.declared.values.Value.TheVariants.{One}
 use Rattle.vl_tree.specs.declared.names.Direction.TheVariants.{Input, Output}
-use Rattle.vl_tree.specs.Tree.{one_number, by_name, Module, a_module, Source}
+use Rattle.vl_tree.specs.Tree.{Connections, by_order, one_number, by_name, Module, a_module, Source}
 use Rattle.elab_model.specs.Circuits.{circuit}
 use Rattle.elab_model.specs.Elements.{leg_kind}
 use Rattle.elab_model.specs.HierarchyFaults.{faults}
@@ -105,3 +106,42 @@ kinds (e ∷ es) = e.kind ∷ kinds es
 rounded_delay : kinds (circuit scales (with_scale above 8 11) Typ).elements ≡
     Pass (Some One) ∷ leg_kind ∷ leg_kind ∷ Gate And (1260 ∷ []) ∷ leg_kind ∷ leg_kind ∷ Gate And (1260 ∷ []) ∷ []
 rounded_delay = refl
+
+-- module e (a, q); input a; output q; c k (.Y(q), .A(), .B(a)); endmodule; and the same by order: c k (q, , a);
+abbrev pub with_gap : Connections → Module
+with_gap cs =
+    module_as plainly (codes "e") 7 (listing (name (codes "a") 10 ∷ name (codes "q") 11 ∷ []))
+    (port_item Input None (name (codes "a") 20 ∷ []) ∷ port_item Output None (name (codes "q") 21 ∷ []) ∷ instance_item (codes "c") 30 (codes "k") cs ∷ [])
+
+abbrev pub gap_by_name : Module
+gap_by_name = with_gap (by_name (to_port (codes "Y") 31 (Some (use_of (codes "q") 32)) ∷ to_port (codes "A") 33 None ∷ to_port (codes "B") 34 (Some (use_of (codes "a") 35)) ∷ []))
+
+abbrev pub gap_in_order : Module
+gap_in_order = with_gap (by_order (Some (use_of (codes "q") 31) ∷ None ∷ Some (use_of (codes "a") 32) ∷ []))
+
+-- a, q, what is outside k's A; then k's A and B
+abbrev pub gap_nets : List Net
+gap_nets =
+    net 0 (codes "a") None driver.Stimulus
+    ∷ net 0 (codes "q") None (driver.Element 2)
+    ∷ net 0 (codes "A") None driver.Nobody
+    ∷ net 1 (codes "A") None (driver.Element 0)
+    ∷ net 1 (codes "B") None (driver.Element 1) ∷ []
+
+abbrev pub gap_elements : List Element
+gap_elements = element 1 (2 ∷ []) 3 leg_kind ∷ element 1 (0 ∷ []) 4 leg_kind ∷ element 1 (3 ∷ 4 ∷ []) 1 (Gate And []) ∷ []
+
+by_name_nets : (circuit (a_module cell ∷ a_module gap_by_name ∷ []) gap_by_name Typ).nets ≡ gap_nets
+by_name_nets = refl
+
+by_name_elements : (circuit (a_module cell ∷ a_module gap_by_name ∷ []) gap_by_name Typ).elements ≡ gap_elements
+by_name_elements = refl
+
+in_order_nets : (circuit (a_module cell ∷ a_module gap_in_order ∷ []) gap_in_order Typ).nets ≡ gap_nets
+in_order_nets = refl
+
+in_order_elements : (circuit (a_module cell ∷ a_module gap_in_order ∷ []) gap_in_order Typ).elements ≡ gap_elements
+in_order_elements = refl
+
+gap_faults : faults (a_module cell ∷ a_module gap_by_name ∷ []) None Typ ≡ []
+gap_faults = refl

@@ -1,12 +1,13 @@
 -- Faults of instances, tops and levels, each refused and nearly so.
-use Rattle.std.specs.Prelude.{◌≡◌, ℕ, List, [], ◌∷◌, Some, None, refl, codes}
+use Rattle.std.specs.Prelude.{◌≡◌, ℕ, List, [], ◌∷◌, Some, None, refl, codes, pos}
+use Rattle.vl_tree.specs.declared.names.Direction.TheVariants.{Input, Output}
 use Rattle.sg_delay.specs.declared.corners.Corner.TheVariants.{Typ}
 use Rattle.sg_logic.specs.declared.values.Value.TheVariants.{Zero}
 use Rattle.vl_tree.specs.Tree.{one_number, by_order, by_name, Item, instances, Module, a_module, Source}
-use Rattle.elab_model.specs.declared.kinds.ElabKind.TheVariants.{UnknownModule, DuplicateName, UnknownName, SecondDriver, SelfInstance, NoTop, SeveralTops, BadTerminal, TooDeep, BadDelay}
+use Rattle.elab_model.specs.declared.kinds.ElabKind.TheVariants.{UnknownModule, DuplicateName, UnknownName, WidthMismatch, SecondDriver, SelfInstance, NoTop, SeveralTops, BadTerminal, TooDeep, BadDelay}
 use Rattle.elab_model.specs.Faults.{fault}
 use Rattle.elab_model.specs.HierarchyFaults.{faults, start}
-use Rattle.elab_model.proofs.Writing.{here, name, use_of, constant_of, instance_item, in_order_of, to_port, whole_number, plainly, module_as}
+use Rattle.elab_model.proofs.Writing.{port_item, listing, range, wire_item, net_name, reg_item, as_cell, here, name, use_of, constant_of, instance_item, in_order_of, to_port, whole_number, plainly, module_as}
 use Rattle.elab_model.specs.Hierarchy.{Instance, top_instance}
 use Rattle.elab_model.specs.HierarchyFaults.{self_instances, too_deep}
 use Rattle.elab_model.proofs.GateExamples.{inverter}
@@ -92,3 +93,22 @@ at_level_64 = refl
 
 at_level_63 : too_deep (with_cell []) (at_level 1) ≡ []
 at_level_63 = refl
+
+-- two leaves drive y: the second driver is the gate of v, where the cell's text has it
+two_outputs : faults (with_cell (instance_item (codes "c") 61 (codes "u") (in_order_of (use_of (codes "y") 62 ∷ use_of (codes "a") 63 ∷ use_of (codes "a") 64 ∷ []))
+    ∷ instance_item (codes "c") 71 (codes "v") (in_order_of (use_of (codes "y") 72 ∷ use_of (codes "a") 73 ∷ use_of (codes "a") 74 ∷ [])) ∷ [])) None Typ ≡ fault SecondDriver (here 107) ∷ []
+two_outputs = refl
+
+-- a vector at a scalar port
+wide_connection : faults (with_cell (wire_item (range (pos 1) (pos 0)) (net_name (name (codes "v") 50) None ∷ [])
+    ∷ instance_item (codes "c") 61 (codes "u") (by_name (to_port (codes "A") 62 (Some (use_of (codes "v") 63)) ∷ [])) ∷ [])) None Typ ≡ fault WidthMismatch (here 63) ∷ []
+wide_connection = refl
+
+-- module r (Y, A); output Y; input A; reg A; endmodule: its Leg drives the reg
+abbrev pub reg_cell : Module
+reg_cell =
+    module_as as_cell (codes "r") 100 (listing (name (codes "Y") 101 ∷ name (codes "A") 102 ∷ []))
+    (port_item Output None (name (codes "Y") 104 ∷ []) ∷ port_item Input None (name (codes "A") 105 ∷ []) ∷ reg_item (name (codes "A") 106 ∷ []) ∷ [])
+
+leaf_reg : faults (a_module reg_cell ∷ a_module (with_items (instance_item (codes "r") 61 (codes "u") (in_order_of (use_of (codes "y") 62 ∷ use_of (codes "a") 63 ∷ [])) ∷ [])) ∷ []) None Typ ≡ fault BadTerminal (here 61) ∷ []
+leaf_reg = refl
