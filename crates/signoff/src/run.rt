@@ -12,7 +12,7 @@ ghost use Rattle.wave_out.specs.Spent.{spent_seen};
 ghost use Rattle.wave_out.specs.Vcd.{vcd_text};
 ghost use Rattle.signoff.specs.RunEnds.{HasSimulated, spent_in, violations_of};
 
-use event_wheel::Wheel;
+use pulse_list::PlainAgenda;
 use sg_circuit::Circuit;
 use sg_io::{Shelf, ShelfError};
 use sg_steps::Steps;
@@ -32,9 +32,6 @@ pub struct RunEnd {
     pub violations: Vec<Violation>,
     pub spent: Option<Spent>,
 }
-
-// The buckets of the wheel that holds what is pending.
-const BUCKETS: u32 = 4096;
 
 // The run of a circuit, told to a watcher. Without memory for the simulator nothing is called.
 fn simulate<S: Shelf, W: Watch<S>, L: Ledger>(
@@ -59,7 +56,7 @@ fn simulate<S: Shelf, W: Watch<S>, L: Ledger>(
     ensures circuit { W.circuit watcher.new ≡ W.circuit watcher.old }
     ensures keeps { IfOk result (λ _. W.keeps watcher.old shelf.old shelf.new) }
 {
-    let agenda = Wheel::new(alloc, BUCKETS, circuit.parts().elements.len() as u32)?;
+    let agenda = PlainAgenda::new(alloc, circuit.parts().elements.len() as u32)?;
     let sim = Sim::new(alloc, circuit, agenda)?;
     let mut steps = Steps::<L>::new(blank);
     Ok(sim.run(stimulus, bound, shelf, watcher, &mut steps))
