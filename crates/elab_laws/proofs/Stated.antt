@@ -13,7 +13,7 @@ use Rattle.elab_laws.proofs.Homes.{home-there, number-below}
 use Rattle.elab_laws.proofs.Apart.{bytes-either, variables-apart}
 use Rattle.elab_laws.proofs.Handed.{handed-down}
 use Rattle.elab_laws.proofs.Drivers.{numbers-count, elements-by_number}
-use Rattle.elab_laws.proofs.NoFaults.{nets-apart_faultless}
+use Rattle.elab_laws.proofs.NoFaults.{nets-apart_each}
 
 length-range : (a n : ℕ) → length (range_with_len a n) ≡ n
 length-range a zero = refl
@@ -38,10 +38,10 @@ bits-have_nets source top s v p i k lt =
     (o, number-below _ _ o)
 
 pub nets-have_places : NetsHavePlaces
-nets-have_places source top corner h = numbers-count _ (nets-apart_faultless source top corner h)
+nets-have_places source top corner h = numbers-count _ (nets-apart_each source top corner h)
 
 pub numbers-are_handed_down : NumbersAreHandedDown
-numbers-are_handed_down source top corner before after s h e = handed-down source top before after s (nets-apart_faultless source top corner h) e
+numbers-are_handed_down source top corner before after s h e = handed-down source top before after s (nets-apart_each source top corner h) e
 
 pub drivers-have_numbers : DriversHaveNumbers
 drivers-have_numbers all spot es own h = elements-by_number all spot own es h

@@ -13,12 +13,12 @@ pub fn bits_have_nets()
     ensures { BitsHaveNets }
 {}
 
-/// Where no fault stands, the number of a net is its place among the nets.
+/// Where no module has a fault, the number of a net is its place among the nets.
 pub fn nets_have_places()
     ensures { NetsHavePlaces }
 {}
 
-/// Where no fault stands, the numbers of an instance's bits are those that are handed down, and the next that are free.
+/// Where no module has a fault, the numbers of an instance's bits are those that are handed down, and the next that are free.
 pub fn numbers_are_handed_down()
     ensures { NumbersAreHandedDown }
 {}

@@ -1,6 +1,9 @@
 -- Faults: each is a kind at a place. Each cause of refusal is the list of the places that have it.
 use Rattle.std.specs.Prelude.{ℕ, List, [], ◌∷◌, ◌++◌, Bool, not, map, flat_map, if◌then◌else◌}
+use Rattle.std.specs.List.{IsAmong}
 use Rattle.sg_text.specs.declared.places.Place.{Place}
+use Rattle.sg_text.specs.declared.refusals.Refused.{Refused}
+use Rattle.sg_text.specs.declared.refusals.Refused.TheVariants as refused
 use Rattle.vl_tree.specs.Tree.{Named}
 use Rattle.elab_model.specs.declared.kinds.ElabKind.{ElabKind}
 use Rattle.elab_model.specs.declared.kinds.ElabKind.TheVariants.{DuplicateName}
@@ -36,3 +39,8 @@ missing kind ns others = flat_map (λ n. fault_if (not (is_among n.text (texts_o
 -- faults of several lists
 abbrev pub all_of : List (List Fault) → List Fault
 all_of fs = flat_map (λ f. f) fs
+
+-- a refusal tells one of some faults, or that there was no memory
+abbrev pub RefusesOneOf : List Fault → Refused ElabKind → Type 0
+RefusesOneOf fs (refused.Fault kind place) = IsAmong fs (fault kind place)
+RefusesOneOf fs refused.NoMemory = Unit {0}

@@ -9,8 +9,8 @@ use Rattle.sg_text.specs.declared.refusals.Refused.TheVariants as refused
 use Rattle.vl_tree.specs.Tree.{Named}
 use Rattle.elab_model.specs.declared.kinds.ElabKind.{ElabKind}
 use Rattle.elab_model.specs.declared.kinds.ElabKind.TheVariants.{DuplicateName}
-use Rattle.elab_model.specs.Faults.{Fault, fault, fault_if, places_again, duplicates, missing}
-use Rattle.elab_names.specs.Words.{first_of, RefusesOneOf}
+use Rattle.elab_model.specs.Faults.{Fault, fault, fault_if, places_again, duplicates, missing, RefusesOneOf}
+use Rattle.elab_names.specs.Words.{first_of}
 
 among-left : {A : Type 0} (xs ys : List A) (v : A) → IsAmong xs v → IsAmong (xs ++ ys) v
 among-left xs ys v (i, (lt, e)) =

@@ -1,9 +1,9 @@
 // What is refused in the names that a module declares.
 ghost use Rattle.std.specs.Prelude.{◌≡◌, [], OnOk, IfOk, IfErr, map};
 ghost use Rattle.vl_tree.specs.Seen.{view_name, view_module, view_port_declaration};
-ghost use Rattle.elab_model.specs.Faults.{duplicates, missing};
+ghost use Rattle.elab_model.specs.Faults.{RefusesOneOf, duplicates, missing};
 ghost use Rattle.elab_model.specs.NameFaults as def;
-ghost use Rattle.elab_names.specs.Words.{RefusesOneOf, view_net};
+ghost use Rattle.elab_names.specs.Words.{view_net};
 
 use crate::{
     NetDeclaration, first_missing, first_repeated, instance_names, net_declarations,
