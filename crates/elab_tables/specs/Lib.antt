@@ -1,0 +1,3 @@
+-- The modules of this folder: what the code's lists stand for.
+pub mod Seen
+pub mod Tables

@@ -1,0 +1,102 @@
+// The variables of a module, found by their names.
+ghost use Rattle.std.specs.Prelude.{IfOk, OnOk, IfErr, ◌≡◌, []};
+
+use sg_circuit::{Port, Range};
+use elab_model::ElabKind;
+use indexmap::IndexSet;
+use sg_text::Refused;
+use std::alloc::Global;
+use std::marker::Model;
+use vl_tree::Module;
+
+/// What a module says of a variable.
+#[derive(Clone, Copy, Debug, PartialEq)]
+pub struct Row {
+    pub range: Option<Range>,
+    pub reg: bool,
+    pub port: Port,
+    /// How many bits the variables before it have.
+    pub start: usize,
+}
+
+/// The variables of a module: its ports, then declared nets, then implicit nets by first use (IEEE 1364-2005, 4.2, 4.5). It is seen
+/// as the list of them. The bits of all, in order, left first, are its row of bits.
+#[derive(Debug, Drop)]
+pub struct Table<'a> {
+    names: IndexSet<&'a [u8]>,
+    rows: Vec<Row>,
+    bits: usize,
+}
+
+impl<'a> Model for Table<'a> {
+    ghost use Rattle.std.specs.Prelude.{List};
+    ghost use Rattle.elab_model.specs.Names.{Variable};
+    ghost use Rattle.elab_tables.specs.Tables.{variables_seen, IsTable};
+
+    ghost Value = { List Variable };
+
+    ghost view = { λ t. variables_seen t.names.keys t.rows.items };
+
+    ghost invariant = { λ t. IsTable t.names.keys t.rows.items t.bits };
+}
+
+impl<'a> Table<'a> {
+    ghost use Rattle.std.specs.Prelude.{◌≡◌, ◌<◌, ◌≤◌, All, length, take, IfOk, IfErr, OnOk, []};
+    ghost use Rattle.sg_circuit.specs.Closed.{width_of};
+    ghost use Rattle.vl_tree.specs.Seen.{view_module};
+    ghost use Rattle.elab_model.specs.Faults.{RefusesOneOf};
+    ghost use Rattle.elab_model.specs.NameFaults.{declaration_faults};
+    ghost use Rattle.elab_model.specs.Names.{variables};
+    ghost use Rattle.elab_laws.specs.Handing.{all_bits};
+    ghost use Rattle.elab_tables.specs.Seen.{variable_at, place_named};
+
+    /// The table of a module whose declarations have no fault. Else one of the faults. Takes memory in proportion to the module.
+    pub fn of(alloc: Global, definition: &Module<'a>) -> Result<Table<'a>, Refused<ElabKind>>
+        ensures variables { IfOk result (λ t. t ≡ variables (view_module definition.now)) }
+        ensures faultless { OnOk result (declaration_faults (view_module definition.now) ≡ []) }
+        ensures refused { IfErr result (RefusesOneOf (declaration_faults (view_module definition.now))) }
+    {
+        Err(Refused::NoMemory)
+    }
+
+    /// How many variables there are.
+    pub fn len(&self) -> usize
+        ensures { result ≡ length self.now }
+    {
+        self.rows.len()
+    }
+
+    /// The place of the variable of a name.
+    pub fn find(&self, name: &[u8]) -> Option<usize>
+        ensures { result ≡ place_named self.now name.now }
+    {
+        self.names.get_index_of(name)
+    }
+
+    /// The name of the variable at a place.
+    pub fn name(&self, place: usize) -> &'a [u8]
+        requires { place < length self.now }
+        ensures { result.now ≡ (variable_at self.now place).name }
+    {
+        self.names[place]
+    }
+
+    /// The variable at a place.
+    pub fn row(&self, place: usize) -> Row
+        requires { place < length self.now }
+        ensures range { result.range ≡ (variable_at self.now place).range }
+        ensures reg { result.reg ≡ (variable_at self.now place).is_reg }
+        ensures port { result.port ≡ (variable_at self.now place).port }
+        ensures start { result.start ≡ length (all_bits (take place self.now)) }
+        ensures wide { width_of result.range ≤ 65536 }
+    {
+        self.rows[place]
+    }
+
+    /// How many bits all variables have.
+    pub fn bits(&self) -> usize
+        ensures { result ≡ length (all_bits self.now) }
+    {
+        self.bits
+    }
+}
