@@ -30,7 +30,7 @@ pub struct Placed<'a> {
 /// The instances below a top, the top itself first, in depth-first text order (IEEE 1364-2005, 12.1.2). Refuses a module that reaches itself (SelfInstance, at the
 /// instance that closes the round), one below the 64th level (TooDeep) and the first past 2^22 (TooMany). Takes memory in
 /// proportion to the instances.
-pub fn instances<'a>(
+pub fn place_instances<'a>(
     alloc: Global,
     definitions: &Definitions<'a>,
     top: usize,

@@ -7,6 +7,6 @@ mod ticks;
 mod tops;
 
 pub use definitions::Definitions;
-pub use instances::{Placed, instances};
+pub use instances::{Placed, place_instances};
 pub use ticks::tick;
 pub use tops::top;

@@ -4,5 +4,5 @@
 mod members;
 mod tables;
 
-pub use members::{Member, members};
+pub use members::{Member, members_of};
 pub use tables::{Row, Table};
