@@ -36,7 +36,7 @@ pub enum Member<'a> {
 }
 
 /// The members of a module, in text order. Takes memory.
-pub fn members_of<'a>(alloc: Global, definition: &'a Module<'a>) -> Result<Vec<Member<'a>>, NoMemory>
+pub fn members<'a>(alloc: Global, definition: &'a Module<'a>) -> Result<Vec<Member<'a>>, NoMemory>
     ensures { IfOk result (λ list. map view_member list.items ≡ def.members (view_module definition.now)) }
 {
     Err(NoMemory)
