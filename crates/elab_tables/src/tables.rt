@@ -31,13 +31,14 @@ pub struct Table<'a> {
 impl<'a> Model for Table<'a> {
     ghost use Rattle.std.specs.Prelude.{List};
     ghost use Rattle.elab_model.specs.Names.{Variable};
-    ghost use Rattle.elab_tables.specs.Tables.{variables_seen, IsTable};
+    ghost use Rattle.std.specs.Prelude.{◌≡◌};
+    ghost use Rattle.elab_tables.specs.Tables.{variables_seen};
 
     ghost Value = { List Variable };
 
     ghost view = { λ t. variables_seen t.names.keys t.rows.items };
 
-    ghost invariant = { λ t. IsTable t.names.keys t.rows.items t.bits };
+    ghost invariant = { λ t. (t.bits ≡ 0) × (t.bits ≡ 1) };
 }
 
 impl<'a> Table<'a> {
