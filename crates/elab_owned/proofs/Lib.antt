@@ -1,0 +1,11 @@
+-- The modules of this folder.
+pub mod Parents
+pub mod Legs
+pub mod Passes
+pub mod Widths
+pub mod Gates
+pub mod Ports
+pub mod PortConstants
+pub mod Connected
+pub mod Members
+pub mod Drives
