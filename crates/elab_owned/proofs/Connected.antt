@@ -1,12 +1,12 @@
 -- Where a module has no fault, each instance of a module in it is connected as its ports ask.
-use Rattle.std.specs.Prelude.{◌≡◌, ℕ, zero, suc, ◌+◌, List, [], ◌∷◌, ◌++◌, Option, Some, None, flat_map, refl, ℤ}
+use Rattle.std.specs.Prelude.{◌≡◌, ℕ, zero, suc, ◌+◌, List, [], ◌∷◌, ◌++◌, Option, Some, None, flat_map, ℤ}
 use Rattle.std.specs.List.{AllByRecursion, enumerate_from}
 use Rattle.std.specs.Option.{option_and_then}
-use Rattle.std.proofs.Common.{ap, subst}
+use Rattle.std.proofs.Common.{subst}
 use Rattle.sg_delay.specs.declared.corners.Corner.{Corner}
-use Rattle.vl_tree.specs.Tree.{Part, a_module, a_primitive, Connections, Instance as instance_text, Delay, Named, Module, Source}
+use Rattle.vl_tree.specs.Tree.{Part, a_module, a_primitive, Connections, Module, Source}
 use Rattle.elab_model.specs.declared.kinds.ElabKind.TheVariants.{BadTerminal}
-use Rattle.elab_model.specs.Members.{Member, assignment, supply, gate, instance, members, member_values, connection_values}
+use Rattle.elab_model.specs.Members.{Member, assignment, supply, gate, instance, members, connection_values}
 use Rattle.elab_model.specs.Definitions.{definition_of, as_module}
 use Rattle.elab_model.specs.Ports.{port_list}
 use Rattle.elab_model.specs.Names.{Variable, variables}
@@ -26,7 +26,7 @@ use Rattle.elab_laws.proofs.NoFaults.{back, front, flat-empty, all-second, conne
 use Rattle.elab_owned.proofs.Ports.{FitsPort, values-fit}
 use Rattle.elab_owned.proofs.PortConstants.{IsConnected}
 
--- what a module's members have no fault
+-- the members of a module have no fault
 abbrev pub MembersSound : Source → Corner → ℤ → Module → Type 0
 MembersSound source corner tick m = AllByRecursion (λ p. all_member_faults source corner tick m p ≡ []) (members m)
 

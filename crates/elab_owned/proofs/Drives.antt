@@ -1,5 +1,5 @@
 -- Whatever is driven, by the stimulus, by elements or by timing checks, is a net.
-use Rattle.std.specs.Prelude.{◌≡◌, ℕ, ◌+◌, ◌<◌, List, [], Bool, true, false, flat_map, map, find, if◌then◌else◌, bytes_eq, refl}
+use Rattle.std.specs.Prelude.{◌<◌, List, flat_map, find, bytes_eq}
 use Rattle.std.specs.List.{AllByRecursion, enumerate_from}
 use Rattle.std.proofs.Common.{arith}
 use Rattle.sg_circuit.specs.Closed.{width_of}
@@ -14,15 +14,14 @@ use Rattle.elab_model.specs.Hierarchy.{Instance, instances, top_instance, levels
 use Rattle.elab_model.specs.Homes.{home_of, is_input}
 use Rattle.elab_model.specs.Elements.{Component}
 use Rattle.elab_model.specs.Nets.{nets}
-use Rattle.elab_model.specs.Drivers.{elements, Drive, drive, variable_drives, port_place, input_drives, stimulus_drives, element_drives, net_place, reg_drives, check_drives, drives}
+use Rattle.elab_model.specs.Drivers.{elements, Drive, drive, variable_drives, port_place, input_drives, stimulus_drives, element_drives, net_place, reg_drives, check_drives}
 use Rattle.elab_laws.specs.Words.{Owns}
-use Rattle.elab_laws.specs.Laws.{AreSound}
 use Rattle.elab_laws.proofs.Lists.{In, all-append, all-map, all-range, all-weaker}
 use Rattle.elab_laws.proofs.PartsApart.{all-if}
 use Rattle.elab_laws.proofs.NoFaults.{all-second, in-own}
 use Rattle.elab_laws.proofs.Stated.{bits-have_nets}
 use Rattle.elab_owned.specs.Laws.{HasNets, DrivesHaveNets}
-use Rattle.elab_owned.proofs.Legs.{HaveNets, all-flat_from}
+use Rattle.elab_owned.proofs.HaveNets.{HaveNets, all-flat_from}
 use Rattle.elab_owned.proofs.Members.{elements-have_nets}
 
 -- these drive nets

@@ -1,17 +1,16 @@
 -- What gates and primitives read and drive has nets, and so have the constants at their inputs.
-use Rattle.std.specs.Prelude.{◌≡◌, ℕ, zero, suc, ◌-◌, ◌≤◌, List, [], ◌∷◌, ◌++◌, Bool, false, nat_lt, Some, length, flat_map, map, take, drop, refl, ℤ}
+use Rattle.std.specs.Prelude.{◌≡◌, ℕ, zero, suc, ◌-◌, ◌≤◌, List, [], ◌∷◌, false, nat_lt, length, flat_map, map, take, drop, refl}
 use Rattle.std.specs.List.{AllByRecursion, enumerate_from}
-use Rattle.std.proofs.Common.{sym, ◌∙◌, ap, arith, subst}
+use Rattle.std.proofs.Common.{arith}
 use Rattle.std.proofs.lemmas.Bool.Decides.{nat_tests}
 use Rattle.sg_circuit.specs.Circuit.{Kind}
-use Rattle.sg_delay.specs.declared.corners.Corner.{Corner}
 use Rattle.sg_logic.specs.declared.gates.GateKind.{GateKind}
 use Rattle.sg_logic.specs.declared.gates.GateKind.TheVariants as kinds
 use Rattle.sg_logic.specs.declared.values.Value.{Value}
 use Rattle.sg_text.specs.declared.places.Place.{Place}
 use Rattle.vl_tree.specs.Tree.{Expression, Module, Source}
 use Rattle.elab_model.specs.Members.{Member, members}
-use Rattle.elab_model.specs.Names.{Variable, variables}
+use Rattle.elab_model.specs.Names.{variables}
 use Rattle.elab_model.specs.Bits.{Bit, net, constant, bits}
 use Rattle.elab_model.specs.Hierarchy.{Instance, instances}
 use Rattle.elab_model.specs.Homes.{Spot, terminal}
@@ -23,7 +22,7 @@ use Rattle.elab_laws.proofs.Lists.{In, all-in, all-append, all-flat, all-flat_in
 use Rattle.elab_laws.proofs.NoFaults.{front, back, all-from, all-second}
 use Rattle.elab_laws.proofs.Terminals.{HasNet, expression-there, terminal-there}
 use Rattle.elab_owned.specs.Laws.{HasNets}
-use Rattle.elab_owned.proofs.Legs.{HaveNets, all-flat_from}
+use Rattle.elab_owned.proofs.HaveNets.{HaveNets, all-flat_from}
 use Rattle.elab_owned.proofs.Widths.{width-is, first-is_net}
 
 all-take : {A : Type 0} (P : A → Type 0) (n : ℕ) (xs : List A) → AllByRecursion P xs → AllByRecursion P (take n xs)

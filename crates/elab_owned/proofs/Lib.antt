@@ -1,4 +1,5 @@
 -- The modules of this folder.
+pub mod HaveNets
 pub mod Parents
 pub mod Legs
 pub mod Passes

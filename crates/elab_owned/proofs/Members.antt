@@ -1,13 +1,13 @@
 -- What the elements of each member read and drive has nets, and so all elements.
-use Rattle.std.specs.Prelude.{◌≡◌, ℕ, zero, suc, List, [], ◌∷◌, ◌++◌, Bool, false, nat_lt, Option, Some, None, length, flat_map, refl, not, ℤ}
-use Rattle.std.specs.List.{AllByRecursion, enumerate_from}
+use Rattle.std.specs.Prelude.{◌≡◌, ℕ, suc, [], ◌++◌, nat_lt, Option, Some, None, length, flat_map, refl, not, ℤ}
+use Rattle.std.specs.List.{enumerate_from}
 use Rattle.std.proofs.Common.{sym, ◌∙◌, ap, subst}
-use Rattle.sg_circuit.specs.Circuit.{Kind, Gate, Udp}
+use Rattle.sg_circuit.specs.Circuit.{Gate, Udp}
 use Rattle.sg_delay.specs.declared.corners.Corner.{Corner}
 use Rattle.sg_logic.specs.declared.gates.GateKind.{GateKind}
 use Rattle.vl_tree.specs.Tree.{Part, a_module, a_primitive, Primitive, GateInstance, Instance as instance_text, Delay, Named, Module, Source}
 use Rattle.elab_model.specs.declared.kinds.ElabKind.TheVariants.{BadTerminal}
-use Rattle.elab_model.specs.Members.{Member, assignment, supply, gate, instance, members, member_values, connection_values}
+use Rattle.elab_model.specs.Members.{Member, assignment, supply, gate, instance, members, connection_values}
 use Rattle.elab_model.specs.Definitions.{definition_of}
 use Rattle.elab_model.specs.Names.{variables}
 use Rattle.elab_model.specs.Hierarchy.{Instance, children, instances}
@@ -15,17 +15,17 @@ use Rattle.elab_model.specs.Delays.{tick_of, delays_of}
 use Rattle.elab_model.specs.Primitives.{table_of, initial_value}
 use Rattle.elab_model.specs.Elements.{output_count, terminal_bits, terminal_elements, child_elements, child_at, instance_elements, member_elements, elements_of, legs}
 use Rattle.elab_model.specs.Nets.{instance_nets, terminal_nets, nets}
-use Rattle.elab_model.specs.Drivers.{elements}
 use Rattle.elab_model.specs.Faults.{fault_if}
-use Rattle.elab_model.specs.TerminalFaults.{expression_faults, width_faults, constant_faults, terminal_faults, delay_faults}
+use Rattle.elab_model.specs.TerminalFaults.{expression_faults, width_faults, terminal_faults, delay_faults}
 use Rattle.elab_model.specs.PrimitiveFaults.{primitive_faults}
-use Rattle.elab_model.specs.ModuleFaults.{are_terminals, instance_faults, primitive_instance_faults, member_faults, all_member_faults, module_faults}
+use Rattle.elab_model.specs.ModuleFaults.{are_terminals, instance_faults, member_faults, all_member_faults, module_faults}
 use Rattle.elab_laws.specs.Laws.{AreSound}
 use Rattle.elab_laws.proofs.Lists.{In, all-in, all-append, all-flat_in}
 use Rattle.elab_laws.proofs.PartsApart.{child_at-all}
 use Rattle.elab_laws.proofs.NoFaults.{front, back, all-from, all-second}
 use Rattle.elab_owned.specs.Laws.{HasNets, ElementsHaveNets}
-use Rattle.elab_owned.proofs.Legs.{HaveNets, all-flat_from, legs-have}
+use Rattle.elab_owned.proofs.HaveNets.{HaveNets, all-flat_from}
+use Rattle.elab_owned.proofs.Legs.{legs-have}
 use Rattle.elab_owned.proofs.Passes.{assignment-has, supply-has}
 use Rattle.elab_owned.proofs.Widths.{no-fault, bits-count}
 use Rattle.elab_owned.proofs.Gates.{AreTerminals, terminals-have, has-output}

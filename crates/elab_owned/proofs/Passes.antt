@@ -1,5 +1,5 @@
 -- What Passes of assignments and of supplies read and drive has nets.
-use Rattle.std.specs.Prelude.{List, [], ◌∷◌, None, flat_map, zip}
+use Rattle.std.specs.Prelude.{List, [], ◌∷◌, None, flat_map}
 use Rattle.std.specs.List.{AllByRecursion}
 use Rattle.std.proofs.Common.{subst}
 use Rattle.std.proofs.lemmas.List.{append-nil}
@@ -15,7 +15,7 @@ use Rattle.elab_model.specs.Nets.{nets}
 use Rattle.elab_laws.proofs.Lists.{In, all-append, all-weaker, all-flat_in}
 use Rattle.elab_laws.proofs.Terminals.{HasNet, expression-there}
 use Rattle.elab_owned.specs.Laws.{HasNets}
-use Rattle.elab_owned.proofs.Legs.{HaveNets}
+use Rattle.elab_owned.proofs.HaveNets.{HaveNets}
 
 pass-has : (source : Source) (top : Module) (s : Instance) (at : Place) (b c : Bit) → HasNet source top s b → HasNet source top s c → HaveNets source top (pass_to source s at (b, c))
 pass-has source top s at (net n p) (net m q) h k = (record { output = h; inputs = (k, tt) }, tt)

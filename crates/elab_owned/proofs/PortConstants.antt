@@ -1,5 +1,5 @@
 -- What constants at the ports of an instance of a module drive has nets.
-use Rattle.std.specs.Prelude.{◌≡◌, ℕ, zero, suc, ◌+◌, ◌<◌, List, [], ◌∷◌, Bool, true, false, Option, Some, None, flat_map, slice_get, refl, if◌then◌else◌}
+use Rattle.std.specs.Prelude.{◌≡◌, ℕ, ◌<◌, List, ◌∷◌, Bool, true, false, Some, None, slice_get, refl, if◌then◌else◌}
 use Rattle.std.specs.List.{AllByRecursion, enumerate_from}
 use Rattle.std.specs.Option.{option_and_then}
 use Rattle.std.proofs.Common.{sym, ◌∙◌, ap, subst}
@@ -7,7 +7,7 @@ use Rattle.std.proofs.lemmas.Option.{slice_get_within}
 use Rattle.sg_circuit.specs.Closed.{width_of}
 use Rattle.sg_logic.specs.declared.values.Value.{Value}
 use Rattle.sg_text.specs.declared.places.Place.{Place}
-use Rattle.vl_tree.specs.Tree.{Expression, Connections, Module, Source}
+use Rattle.vl_tree.specs.Tree.{Expression, Module, Source}
 use Rattle.elab_model.specs.Ports.{port_list}
 use Rattle.elab_model.specs.Names.{variable, variables}
 use Rattle.elab_model.specs.Bits.{Bit, net, constant, bits}
@@ -23,7 +23,7 @@ use Rattle.elab_laws.proofs.PartsApart.{AreOnce, places-are}
 use Rattle.elab_laws.proofs.NoFaults.{child-there}
 use Rattle.elab_laws.proofs.LegSources.{constant-there}
 use Rattle.elab_owned.specs.Laws.{HasNets}
-use Rattle.elab_owned.proofs.Legs.{HaveNets, all-flat_from}
+use Rattle.elab_owned.proofs.HaveNets.{HaveNets, all-flat_from}
 use Rattle.elab_owned.proofs.Ports.{FitsPort, port-bit}
 
 -- a bit that is bound to a constant is a net of its own
@@ -63,11 +63,13 @@ port-has source top s c k e value p (constant there v) at =
     let first = all-in (λ e. connection_at c.step.connections (port_list c.step.definition) e.0 ≡ Some e.1) e values k.once.first value in
     let bound : bound_to c.step s.step e.0 p ≡ Some (constant there v) = ap (option_and_then (λ e. slice_get (bits (variables s.step.definition) e) p)) first ∙ at in
     let lt : p < width_of (variable c.step.definition e.0).range = subst (λ w. p < w) fit.wide (slice_get_within (expression_bits s e.1) p (constant there v) at) in
-    let among = child-there source levels_below_top (top_instance top) s c refl k.there k.child in
-    (record {
-      output = spot-has source top s c k e.0 p there v bound (home-there source top c e.0 p among (port-bit c.step.definition e.0 p fit.named lt));
-      inputs = tt;
-    }, tt)
+    let among = child-there source levels_below_top (top_instance top) s c refl k.there k.child in (
+      record {
+        output = spot-has source top s c k e.0 p there v bound (home-there source top c e.0 p among (port-bit c.step.definition e.0 p fit.named lt));
+        inputs = tt;
+      },
+      tt,
+    )
 
 pub child-has : (source : Source) (top : Module) (s c : Instance) → IsConnected source top s c → HaveNets source top (child_elements source s c)
 child-has source top s c k =

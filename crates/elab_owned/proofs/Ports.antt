@@ -1,7 +1,8 @@
 -- What no faults say of what is connected to a module's ports: the port is there, and as wide.
-use Rattle.std.specs.Prelude.{◌≡◌, ℕ, zero, suc, ◌+◌, ◌<◌, List, [], ◌∷◌, ◌++◌, Bool, true, false, ◌||◌, not, nat_lt, Option, Some, None, length, map, flat_map, filter_map, zip, refl, if◌then◌else◌, bytes_eq}
+use Rattle.std.specs.Prelude.{◌≡◌, ℕ, ◌<◌, List, [], ◌∷◌, Bool, true, false, ◌||◌, not, nat_lt, Option, Some, None, length, map, flat_map, filter_map, zip, refl, if◌then◌else◌, bytes_eq}
 use Rattle.std.specs.List.{AllByRecursion, cons_option}
 use Rattle.std.proofs.Common.{sym, ◌∙◌, ap, inl, inr, subst}
+use Rattle.std.proofs.lemmas.Bool.{not-false}
 use Rattle.std.proofs.lemmas.Slice.Eq.{bytes_eq-Decides}
 use Rattle.sg_circuit.specs.Closed.{width_of}
 use Rattle.sg_text.specs.declared.places.Place.{Place}
@@ -10,7 +11,7 @@ use Rattle.elab_model.specs.declared.kinds.ElabKind.TheVariants.{UnknownName, Ba
 use Rattle.elab_model.specs.Members.{connection_values}
 use Rattle.elab_model.specs.Ports.{port_list, port_names}
 use Rattle.elab_model.specs.Names.{Variable, variable, variables, variable_names, is_among, first_of_each}
-use Rattle.elab_model.specs.Bits.{bits, variable_named}
+use Rattle.elab_model.specs.Bits.{bits}
 use Rattle.elab_model.specs.Connections.{with_port, port_values}
 use Rattle.elab_model.specs.Homes.{is_output}
 use Rattle.elab_model.specs.Faults.{fault_if, duplicates}
@@ -22,7 +23,7 @@ use Rattle.elab_laws.proofs.Apart.{variables-apart}
 use Rattle.elab_laws.proofs.Once.{all-kept}
 use Rattle.elab_laws.proofs.NoFaults.{front, back, flat-empty, all-from}
 use Rattle.elab_laws.proofs.Stated.{found-own}
-use Rattle.elab_owned.proofs.Widths.{no-fault, not-false, width-is}
+use Rattle.elab_owned.proofs.Widths.{no-fault, width-is}
 
 -- what is connected to a port: the port is one of the module's, and the expression as wide
 pub record FitsPort (vs : List Variable) (m : Module) (y : List ℕ × Expression) : Type 0 where

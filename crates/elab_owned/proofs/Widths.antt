@@ -1,8 +1,7 @@
 -- What no faults say of expressions: their widths, and that what is driven is no constant.
 use Rattle.std.specs.Prelude.{◌≡◌, ℕ, suc, ◌+◌, List, [], ◌∷◌, ◌++◌, Bool, true, false, ◌&&◌, not, ◌==◌, length, flat_map, take, refl}
-use Rattle.std.specs.List.{AllByRecursion}
 use Rattle.std.proofs.Common.{sym, ◌∙◌, ap, arith}
-use Rattle.std.proofs.lemmas.Bool.{eqb-true}
+use Rattle.std.proofs.lemmas.Bool.{eqb-true, not-false}
 use Rattle.std.proofs.lemmas.List.{length-append}
 use Rattle.sg_text.specs.declared.places.Place.{Place}
 use Rattle.vl_tree.specs.Tree.{Expression}
@@ -19,10 +18,6 @@ use Rattle.elab_laws.proofs.NoFaults.{front, back}
 pub no-fault : (b : Bool) (k : ElabKind) (p : Place) → fault_if b k p ≡ [] → b ≡ false
 no-fault true k p h = cc
 no-fault false k p h = refl
-
-pub not-false : (b : Bool) → not b ≡ false → b ≡ true
-not-false true h = refl
-not-false false h = cc
 
 -- an expression without faults has the width that is asked for
 pub width-is : (vs : List Variable) (w : ℕ) (e : Expression) → expression_faults vs e ≡ [] → width_faults vs w e ≡ [] → length (bits vs e) ≡ w
