@@ -77,22 +77,22 @@ abbrev DriveOf : ℕ → Component → Drive
 DriveOf e x = drive (driver.Element e) x.place x.output
 
 pub elements-named : (all : List OwnNet) (es : List Component) (ds : List Drive) → AllByRecursion (HasOneDriver ds) all → AllByRecursion (λ x. Owns x.output all) es
-    → ((e : ℕ) (x : Component) → slice_get es e ≡ Some x → In (DriveOf e x) ds) → (blank : Element) (empty : Net) (e : ℕ) → e < length (map (element_of all) es)
-    → (slice_index_or (map (net_of ds) all) (slice_index_or (map (element_of all) es) e blank).output empty).driver ≡ driver.Element e
-elements-named all es ds faultless owned drives blank empty e lt =
+    → ((e : ℕ) (x : Component) → slice_get es e ≡ Some x → In (DriveOf e x) ds) → (no_element : Element) (no_net : Net) (e : ℕ) → e < length (map (element_of all) es)
+    → (slice_index_or (map (net_of ds) all) (slice_index_or (map (element_of all) es) e no_element).output no_net).driver ≡ driver.Element e
+elements-named all es ds faultless owned drives no_element no_net e lt =
     let l = length-map es (element_of all) in
     let p = place-of es e (omega arith) in
     let x = p.0 in
     let at : slice_get es e ≡ Some x = p.1 in
     let own = at-number x.output all (all-get (λ x. Owns x.output all) es e x owned at) in
     let o = own.owned in
-    let out : (slice_index_or (map (element_of all) es) e blank).output ≡ number_of all x.output = ap (λ z. z.output) (mapped-at (element_of all) es e blank x at) in
-    let net : slice_index_or (map (net_of ds) all) (number_of all x.output) empty ≡ net_of ds o = mapped-at (net_of ds) all (number_of all x.output) empty o own.at in
+    let out : (slice_index_or (map (element_of all) es) e no_element).output ≡ number_of all x.output = ap (λ z. z.output) (mapped-at (element_of all) es e no_element x at) in
+    let net : slice_index_or (map (net_of ds) all) (number_of all x.output) no_net ≡ net_of ds o = mapped-at (net_of ds) all (number_of all x.output) no_net o own.at in
     let same : is_same_spot o.spot x.output ≡ true = ap (is_same_spot o.spot) own.same ∙ spot-same o.spot in
     let there : In (DriveOf e x) (drives_of ds o.spot) = in-filter (λ d. is_same_spot o.spot d.spot) (DriveOf e x) ds (drives e x at) same in
     let first : first_driver (drives_of ds o.spot) ≡ driver.Element e =
     only-driver (DriveOf e x) (drives_of ds o.spot) (all-get (HasOneDriver ds) all (number_of all x.output) o faultless own.at) there refl in
-    subst (λ k. (slice_index_or (map (net_of ds) all) k empty).driver ≡ driver.Element e) (sym out) (ap (λ n. n.driver) net ∙ first)
+    subst (λ k. (slice_index_or (map (net_of ds) all) k no_net).driver ≡ driver.Element e) (sym out) (ap (λ n. n.driver) net ∙ first)
 
 pub element-drives : (source : Source) (top : Module) (corner : Corner) (e : ℕ) (x : Component) → slice_get (elements source top corner) e ≡ Some x → In (DriveOf e x) (drives source top corner)
 element-drives source top corner e x at =
@@ -109,6 +109,7 @@ element-drives source top corner e x at =
 abbrev pub IsDrivenBy : List Component → Spot → ℕ → Type 0
 IsDrivenBy es spot e = (x : Component) × (slice_get es e ≡ Some x) × (x.output ≡ spot)
 
+-- a drive by an element is by one that drives this net
 abbrev pub IsHonest : List Component → Drive → Type 0
 IsHonest es d = IfElement d.driver (IsDrivenBy es d.spot)
 
@@ -128,23 +129,23 @@ first-drives es spot (d ∷ ds) h = by (is_same_spot spot d.spot) refl (first-dr
     by false e rest = rest
 
 pub nets-driven : (all : List OwnNet) (es : List Component) (ds : List Drive) → map (λ o. number_of all o.spot) all ≡ range_with_len 0 (length all) → AllByRecursion (IsHonest es) ds
-    → (blank : Element) (empty : Net) (n : ℕ) → n < length (map (net_of ds) all)
-    → IfElement (slice_index_or (map (net_of ds) all) n empty).driver (λ e. (e < length (map (element_of all) es)) × ((slice_index_or (map (element_of all) es) e blank).output ≡ n))
-nets-driven all es ds places honest blank empty n lt =
+    → (no_element : Element) (no_net : Net) (n : ℕ) → n < length (map (net_of ds) all)
+    → IfElement (slice_index_or (map (net_of ds) all) n no_net).driver (λ e. (e < length (map (element_of all) es)) × ((slice_index_or (map (element_of all) es) e no_element).output ≡ n))
+nets-driven all es ds places honest no_element no_net n lt =
     let l = length-map all (net_of ds) in
     let p = place-of all n (omega arith) in
     let o = p.0 in
     let at : slice_get all n ≡ Some o = p.1 in
     let number : number_of all o.spot ≡ n = counted-at (λ o. number_of all o.spot) all n o places at in
-    subst (λ d. IfElement d.driver (λ e. (e < length (map (element_of all) es)) × ((slice_index_or (map (element_of all) es) e blank).output ≡ n))) (sym (mapped-at (net_of ds) all n empty o at))
-    (if-weaker (first_driver (drives_of ds o.spot)) (IsDrivenBy es o.spot) (λ e. (e < length (map (element_of all) es)) × ((slice_index_or (map (element_of all) es) e blank).output ≡ n))
+    subst (λ d. IfElement d.driver (λ e. (e < length (map (element_of all) es)) × ((slice_index_or (map (element_of all) es) e no_element).output ≡ n))) (sym (mapped-at (net_of ds) all n no_net o at))
+    (if-weaker (first_driver (drives_of ds o.spot)) (IsDrivenBy es o.spot) (λ e. (e < length (map (element_of all) es)) × ((slice_index_or (map (element_of all) es) e no_element).output ≡ n))
     (λ e by. (
       subst (λ k. e < k) (sym (length-map es (element_of all))) (slice_get_within es e by.0 by.1),
-      ap (λ z. z.output) (mapped-at (element_of all) es e blank by.0 by.1) ∙ ap (number_of all) by.2 ∙ number,
+      ap (λ z. z.output) (mapped-at (element_of all) es e no_element by.0 by.1) ∙ ap (number_of all) by.2 ∙ number,
     ))
     (first-drives es o.spot ds honest))
 
--- no element is said to drive what it doesn't
+-- the stimulus and timing checks are no elements, and an element drives its output
 
 not-elements : (es : List Component) (source : Source) (s : Instance) (d : Driver) (p : Place) (v : Variable) → ((Q : ℕ → Type 0) → IfElement d Q)
     → AllByRecursion (IsHonest es) (variable_drives source s d p v)

@@ -18,7 +18,8 @@ use Rattle.elab_model.specs.Bits.{Bit, net, constant, positions, leaf_bits}
 use Rattle.elab_model.specs.Connections.{port_values}
 use Rattle.elab_model.specs.Definitions.{definition_of}
 use Rattle.elab_model.specs.Delays.{delays_of}
-use Rattle.elab_model.specs.Elements.{Component, expression_bits, leg_at, variable_legs, legs, pass_to, constant_pass, output_count, input_spot, output_element, terminal_elements, terminal_bits, port_spot, port_elements, child_elements, child_at, instance_elements, member_elements, elements_of}
+use Rattle.elab_model.specs.Elements.{Component, expression_bits, leg_at, variable_legs, legs, pass_to, constant_pass, output_count, input_spot, output_element, terminal_elements}
+use Rattle.elab_model.specs.Elements.{terminal_bits, port_spot, port_elements, child_elements, child_at, instance_elements, member_elements, elements_of}
 use Rattle.elab_model.specs.Hierarchy.{Instance, is_leaf}
 use Rattle.elab_model.specs.Homes.{Spot, terminal, is_input}
 use Rattle.elab_model.specs.Leaves.{whole}
@@ -76,7 +77,9 @@ terminals-fit : (source : Source) (s : Instance) (at : Place) (k : ℕ) (kind : 
 terminals-fit source s at k kind outputs bs h g =
     let inputs = enumerate_from 0 (drop outputs bs) in
     let l : length (map (input_spot source s k) inputs) ≡ length bs - outputs = length-map inputs (input_spot source s k) ∙ length-enumerate_from 0 (drop outputs bs) ∙ length-drop outputs bs in
-    all-append (Fits s.step.number) (flat_map (output_element source s at kind (map (input_spot source s k) inputs)) (take outputs bs)) (flat_map (λ i. constant_pass s (terminal s.step.number k i.0) i.1) inputs)
+    all-append (Fits s.step.number)
+    (flat_map (output_element source s at kind (map (input_spot source s k) inputs)) (take outputs bs))
+    (flat_map (λ i. constant_pass s (terminal s.step.number k i.0) i.1) inputs)
     (all-flat (Fits s.step.number) (output_element source s at kind (map (input_spot source s k) inputs)) (take outputs bs)
     (output-fits source s at kind (map (input_spot source s k) inputs) (subst (TakesInputs kind) (sym l) h) g))
     (all-flat (Fits s.step.number) (λ i. constant_pass s (terminal s.step.number k i.0) i.1) inputs (λ i. constant-fits s (terminal s.step.number k i.0) i.1))
@@ -158,7 +161,8 @@ member-fits source corner tick s (k, gate g d i) h =
     gate-fits source corner tick s k g d i (front (flat_map (expression_faults vs) i.terminals) own h) (back (flat_map (expression_faults vs) i.terminals) own h)
 member-fits source corner tick s (k, instance n d i) h = by (definition_of source n.text) h
   where
-    by : (o : Option Part) → flat_map (expression_faults (variables s.step.definition)) (connection_values i.connections) ++ instance_faults corner tick s.step.definition (variables s.step.definition) d i o ≡ []
+    by : (o : Option Part)
+        → flat_map (expression_faults (variables s.step.definition)) (connection_values i.connections) ++ instance_faults corner tick s.step.definition (variables s.step.definition) d i o ≡ []
         → AllByRecursion (Fits s.step.number) (instance_elements source corner tick s k d i o)
     by None g = tt
     by (Some (a_module m)) g = all-flat (Fits s.step.number) (child_elements source s) (child_at source s k) (child-fits source s)

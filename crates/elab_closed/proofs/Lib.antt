@@ -5,5 +5,6 @@ pub mod Scopes
 pub mod Widths
 pub mod Delays
 pub mod Fits
+pub mod Elements
 pub mod Drivers
 pub mod Closed
