@@ -12,11 +12,11 @@ use Rattle.elab_laws.specs.Given.{number_of_bit}
 use Rattle.elab_laws.specs.Handing.{numbered}
 use Rattle.elab_numbers.specs.Laws.{numbers_in, TerminalsAreNumbered}
 
-first : ℕ → List ℕ → ℕ
+abbrev first : ℕ → List ℕ → ℕ
 first d [] = d
 first d (n ∷ ns) = n
 
-rest : List ℕ → List ℕ
+abbrev rest : List ℕ → List ℕ
 rest [] = []
 rest (n ∷ ns) = ns
 
