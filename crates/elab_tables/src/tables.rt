@@ -108,6 +108,6 @@ impl<'a> Table<'a> {
         ensures position { result.1 < width_of (variable_at self.now result.0).range }
         ensures bit { slice_get (all_bits self.now) place ≡ Some (variable_at self.now result.0, result.1) }
     {
-        (0, 0)
+        (self.bits, self.rows.len())
     }
 }
