@@ -1,12 +1,11 @@
 -- What the table tells, and what is refused, of each netlist.
-use Rattle.std.specs.Prelude.{◌≡◌, ℕ, ◌<◌, List, [], ◌∷◌, ◌++◌, map, take, length, refl, replicate, slice_get, slice_index_or}
-use Rattle.std.specs.List.{AllByRecursion, IsAmong}
-use Rattle.std.proofs.Common.{sym, ◌∙◌, ap, arith, inl, inr, subst}
+use Rattle.std.specs.Prelude.{◌≡◌, ℕ, ◌<◌, List, [], ◌++◌, map, take, length, replicate, slice_index_or}
+use Rattle.std.specs.List.{IsAmong}
+use Rattle.std.proofs.Common.{sym, ◌∙◌, ap, arith, subst}
 use Rattle.std.proofs.lemmas.Option.{slice_get-get_or}
-use Rattle.std.proofs.lemmas.Bool.{cases_lt}
-use Rattle.std.proofs.lemmas.List.{get_or-replicate, length-replicate, length-map}
+use Rattle.std.proofs.lemmas.List.{get_or-replicate, length-replicate}
 use Rattle.sg_circuit.specs.declared.nets.Driver.{Driver}
-use Rattle.sg_circuit.specs.declared.nets.Driver.TheVariants.{Nobody, Stimulus, Element, Notifier}
+use Rattle.sg_circuit.specs.declared.nets.Driver.TheVariants.{Nobody, Stimulus, Notifier}
 use Rattle.sg_delay.specs.declared.corners.Corner.{Corner}
 use Rattle.sg_text.specs.declared.places.Place.{Place}
 use Rattle.sg_text.specs.declared.refusals.Refused.{Refused}
@@ -16,14 +15,13 @@ use Rattle.elab_model.specs.declared.kinds.ElabKind.{ElabKind}
 use Rattle.elab_model.specs.declared.kinds.ElabKind.TheVariants.{SecondDriver, BadTerminal}
 use Rattle.elab_model.specs.Faults.{Fault, fault, RefusesOneOf}
 use Rattle.elab_model.specs.HierarchyFaults.{driver_faults}
-use Rattle.elab_model.specs.Nets.{nets, number_of}
+use Rattle.elab_model.specs.Nets.{nets}
 use Rattle.elab_model.specs.Drivers.{elements, drives, stimulus_drives, element_drives, check_drives}
-use Rattle.elab_laws.specs.Laws.{NetsHavePlaces}
 use Rattle.elab_laws.proofs.Lists.{In, all-append}
 use Rattle.elab_laws.proofs.Stated.{nets-have_places}
 use Rattle.elab_nets.specs.Driving.{by_stimulus, by_elements, StandsFor, DrivesRegs, IsTaken, IsSecond}
 use Rattle.elab_drivers.specs.Drivers.{IsPlaceOfDriver}
-use Rattle.elab_drivers.specs.Netlists.{IsDriven, HasDrivers, TellsDrivers, RefusesDriver}
+use Rattle.elab_drivers.specs.Netlists.{IsDriven, TellsDrivers, RefusesDriver}
 use Rattle.elab_drivers.proofs.ByNumber.{numbered-all, stimulus-of, checks-of}
 use Rattle.elab_drivers.proofs.Members.{in-among, among-in}
 use Rattle.elab_drivers.proofs.NetDrives.{AreNumbered}

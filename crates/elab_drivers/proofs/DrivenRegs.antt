@@ -1,15 +1,15 @@
 -- A reg that something else drives.
-use Rattle.std.specs.Prelude.{◌≡◌, ◌⊎◌, ℕ, ◌+◌, ◌==◌, not, List, [], ◌∷◌, ◌++◌, Bool, true, false, ◌||◌, Some, map, flat_map, refl, if◌then◌else◌, slice_get}
+use Rattle.std.specs.Prelude.{◌≡◌, ℕ, ◌+◌, not, List, [], ◌∷◌, ◌++◌, Bool, true, false, ◌||◌, map, flat_map, refl, if◌then◌else◌}
 use Rattle.std.specs.List.{AllByRecursion, enumerate_from, list_any}
 use Rattle.std.proofs.Common.{sym, ◌∙◌, ap, inl, inr, subst}
 use Rattle.std.proofs.lemmas.Bool.{eq-eqb}
 use Rattle.sg_circuit.specs.declared.nets.Driver.TheVariants.{Stimulus, Element, Notifier}
 use Rattle.sg_text.specs.declared.places.Place.{Place}
 use Rattle.elab_model.specs.declared.kinds.ElabKind.TheVariants.{BadTerminal}
-use Rattle.elab_model.specs.Faults.{Fault, fault}
+use Rattle.elab_model.specs.Faults.{fault}
 use Rattle.elab_model.specs.HierarchyFaults.{is_notifier, others, second_of, net_faults}
 use Rattle.elab_model.specs.Elements.{Component}
-use Rattle.elab_model.specs.Homes.{Spot, is_same_spot}
+use Rattle.elab_model.specs.Homes.{is_same_spot}
 use Rattle.elab_model.specs.Nets.{OwnNet, number_of}
 use Rattle.elab_model.specs.Drivers.{Drive, drives_of, element_drives}
 use Rattle.elab_laws.specs.Words.{Owns}

@@ -1,16 +1,15 @@
 -- Where no net has two drivers, and nothing else drives what timing checks do, there is no fault.
 use Rattle.std.specs.Prelude.{◌≡◌, ◌⊎◌, ℕ, ◌≤◌, ◌==◌, ◌||◌, not, List, [], ◌∷◌, ◌++◌, Bool, true, false, map, flat_map, length, refl, cond, if◌then◌else◌}
 use Rattle.std.specs.List.{AllByRecursion, list_any}
-use Rattle.std.proofs.Common.{sym, ◌∙◌, ap, arith, inl, inr, subst}
+use Rattle.std.proofs.Common.{sym, ◌∙◌, ap, arith, inl, inr}
 use Rattle.std.proofs.lemmas.Bool.{eqb-true}
 use Rattle.sg_circuit.specs.declared.nets.Driver.{Driver}
 use Rattle.sg_circuit.specs.declared.nets.Driver.TheVariants.{Nobody, Stimulus, Element, Notifier}
 use Rattle.elab_model.specs.declared.kinds.ElabKind.TheVariants.{BadTerminal}
 use Rattle.elab_model.specs.Faults.{Fault, fault}
-use Rattle.elab_model.specs.HierarchyFaults.{is_notifier, others, second_of, reg_faults, net_faults}
+use Rattle.elab_model.specs.HierarchyFaults.{is_notifier, others, second_of, net_faults}
 use Rattle.elab_model.specs.Nets.{OwnNet, number_of}
 use Rattle.elab_model.specs.Drivers.{Drive, drives_of}
-use Rattle.elab_laws.specs.Words.{Owns}
 use Rattle.elab_laws.proofs.Lists.{In, all-map, all-anyway}
 use Rattle.elab_nets.specs.Driving.{NumberedDrive, by_stimulus, by_checks, by_elements, drivers_at, IsOutside, StandsFor, DrivesRegs}
 use Rattle.elab_nets.proofs.DriveLemmas.{at-all}

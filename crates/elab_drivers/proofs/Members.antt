@@ -1,7 +1,7 @@
 -- Elements of lists, and drives of a net among others.
-use Rattle.std.specs.Prelude.{◌≡◌, ℕ, zero, suc, ◌+◌, ◌<◌, ◌==◌, List, [], ◌∷◌, ◌++◌, Bool, true, false, Some, map, filter, length, refl, cond, slice_get, slice_index_or}
+use Rattle.std.specs.Prelude.{◌≡◌, ℕ, zero, suc, ◌<◌, List, [], ◌∷◌, ◌++◌, Bool, true, false, Some, map, filter, length, refl, cond, slice_get, slice_index_or}
 use Rattle.std.specs.List.{AllByRecursion, IsAmong}
-use Rattle.std.proofs.Common.{sym, ◌∙◌, ap, arith, inl, inr, subst}
+use Rattle.std.proofs.Common.{sym, ◌∙◌, ap, arith, inl, inr}
 use Rattle.elab_laws.proofs.Lists.{In}
 
 pub in-among : {A : Type 0} (x : A) (xs : List A) → In x xs → IsAmong xs x

@@ -4,15 +4,14 @@ use Rattle.std.specs.List.{AllByRecursion}
 use Rattle.std.proofs.Common.{sym, ◌∙◌, ap, inl, inr, subst}
 use Rattle.std.proofs.lemmas.Bool.{eqb-true}
 use Rattle.sg_circuit.specs.declared.nets.Driver.{Driver}
-use Rattle.elab_model.specs.Homes.{Spot, is_same_spot}
+use Rattle.elab_model.specs.Homes.{Spot}
 use Rattle.elab_model.specs.HierarchyFaults.{net_faults}
 use Rattle.elab_model.specs.Faults.{Fault}
 use Rattle.elab_model.specs.Nets.{OwnNet, number_of}
 use Rattle.elab_model.specs.Drivers.{Drive, drives_of}
 use Rattle.elab_laws.specs.Words.{Owns}
-use Rattle.elab_laws.proofs.Lists.{In, in-flat, all-in}
-use Rattle.elab_laws.proofs.Homes.{spot-same}
-use Rattle.elab_nets.specs.Driving.{NumberedDrive, by_stimulus, by_checks, by_elements, drivers_at}
+use Rattle.elab_laws.proofs.Lists.{In, in-flat}
+use Rattle.elab_nets.specs.Driving.{by_stimulus, by_checks, by_elements, drivers_at}
 use Rattle.elab_nets.proofs.DriveLemmas.{at-append}
 use Rattle.elab_drivers.proofs.ByNumber.{numbered, drives-by_number}
 

@@ -1,22 +1,22 @@
 -- A net with a second driver.
-use Rattle.std.specs.Prelude.{◌≡◌, ℕ, zero, suc, ◌+◌, ◌<◌, ◌==◌, not, List, [], ◌∷◌, ◌++◌, Bool, true, false, Some, map, flat_map, take, filter, refl, cond, if◌then◌else◌, slice_get, slice_index_or}
+use Rattle.std.specs.Prelude.{◌≡◌, ℕ, zero, suc, ◌+◌, not, List, [], ◌∷◌, ◌++◌, Bool, true, false, Some, map, flat_map, take, filter, refl, cond, slice_get, slice_index_or}
 use Rattle.std.specs.List.{AllByRecursion, enumerate_from}
-use Rattle.std.proofs.Common.{sym, ◌∙◌, ap, arith, inl, inr, subst, append_assoc}
+use Rattle.std.proofs.Common.{sym, ◌∙◌, ap, arith, inl, subst, append_assoc}
 use Rattle.std.proofs.lemmas.List.Elements.{filter-append}
 use Rattle.sg_circuit.specs.declared.nets.Driver.{Driver}
-use Rattle.sg_circuit.specs.declared.nets.Driver.TheVariants.{Stimulus, Element, Notifier}
+use Rattle.sg_circuit.specs.declared.nets.Driver.TheVariants.{Stimulus, Element}
 use Rattle.sg_text.specs.declared.places.Place.{Place}
-use Rattle.elab_model.specs.declared.kinds.ElabKind.TheVariants.{SecondDriver, BadTerminal}
-use Rattle.elab_model.specs.Faults.{Fault, fault}
+use Rattle.elab_model.specs.declared.kinds.ElabKind.TheVariants.{SecondDriver}
+use Rattle.elab_model.specs.Faults.{fault}
 use Rattle.elab_model.specs.HierarchyFaults.{is_notifier, others, second_of, reg_faults, net_faults}
 use Rattle.elab_model.specs.Elements.{Component}
 use Rattle.elab_model.specs.Homes.{Spot, is_same_spot}
 use Rattle.elab_model.specs.Nets.{OwnNet, number_of}
 use Rattle.elab_model.specs.Drivers.{Drive, drives_of, element_drives}
 use Rattle.elab_laws.specs.Words.{Owns}
-use Rattle.elab_laws.proofs.Lists.{In, in-left, in-right, all-in, all-append, all-map, all-anyway, all-weaker}
+use Rattle.elab_laws.proofs.Lists.{In, in-left, all-in, all-append, all-map, all-anyway, all-weaker}
 use Rattle.elab_laws.proofs.Homes.{spot-same}
-use Rattle.elab_nets.specs.Driving.{NumberedDrive, by_stimulus, by_checks, by_elements, drivers_at, IsOutside, IsTaken, IsSecond}
+use Rattle.elab_nets.specs.Driving.{by_stimulus, by_checks, by_elements, drivers_at, IsOutside, IsTaken, IsSecond}
 use Rattle.elab_nets.proofs.DriveLemmas.{at-append, at-all}
 use Rattle.elab_drivers.proofs.ByNumber.{numbered, drives-by_number, AreOf, numbered-of}
 use Rattle.elab_drivers.proofs.Members.{all-left, all-right}

@@ -1,5 +1,5 @@
 -- The table of first drivers.
-use Rattle.std.specs.Prelude.{◌≡◌, ℕ, zero, suc, ◌+◌, ◌<◌, List, [], ◌∷◌, ◌++◌, map, length, refl, slice_index_or}
+use Rattle.std.specs.Prelude.{◌≡◌, ℕ, suc, ◌+◌, ◌<◌, List, [], ◌∷◌, ◌++◌, map, length, refl, slice_index_or}
 use Rattle.std.specs.List.{range_with_len}
 use Rattle.std.proofs.Common.{sym, ◌∙◌, ap, arith, inl, inr, subst}
 use Rattle.sg_circuit.specs.declared.nets.Driver.{Driver}
@@ -9,7 +9,7 @@ use Rattle.elab_model.specs.Drivers.{Drive, drives_of, first_driver}
 use Rattle.elab_laws.specs.Words.{Owns}
 use Rattle.elab_laws.proofs.Lists.{In}
 use Rattle.elab_laws.proofs.Homes.{number-below}
-use Rattle.elab_nets.specs.Driving.{NumberedDrive, by_stimulus, by_checks, by_elements, drivers_at, first_or_nobody, HasFirst}
+use Rattle.elab_nets.specs.Driving.{by_stimulus, by_checks, by_elements, first_or_nobody, HasFirst}
 use Rattle.elab_nets.proofs.DriveLemmas.{at-append}
 use Rattle.elab_drivers.proofs.NetDrives.{AreNumbered, drivers-split}
 

@@ -1,9 +1,8 @@
 -- The table stands for all drives, or one is refused.
-use Rattle.std.proofs.Common.{rules, sym, ap, ◌∙◌, ◌≡◌, ◌++◌, List, [], map, length}
-use Rattle.sg_circuit.specs.declared.nets.Driver.{Driver}
+use Rattle.std.proofs.Common.{rules, ◌++◌, [], map, length}
 use Rattle.elab_nets.specs.Driving.{StandsFor, by_stimulus, by_elements}
 use Rattle.elab_drivers.proofs.Answered.{nobody, tells-drivers, refuses-input, refuses-output, refuses-reg}
-use Rattle.elab_drivers.proofs.joined.drivers.Goals as goal
+use Rattle.elab_drivers.proofs.table.drivers.Goals as goal
 
 pub returns-in-Err-clause-refused : goal.returns-in-Err-clause-refused
 returns-in-Err-clause-refused c =

@@ -1,11 +1,10 @@
-// Who drives each net, or what drives one that has a driver.
-ghost use Rattle.std.specs.Prelude.{◌≡◌, ◌<◌, ◌^◌, ◌++◌, ◌==◌, map, length, position, All, IfOk, IfErr};
-ghost use Rattle.elab_nets.specs.Driving.{IsTaken, by_stimulus, by_elements};
+// The table of drivers.
+ghost use Rattle.std.specs.Prelude.{◌≡◌, ◌<◌, ◌^◌, map, length, All, IfOk, IfErr};
 ghost use Rattle.elab_drivers.specs.Netlists.{TellsDrivers, RefusesDriver};
 ghost use Rattle.sg_text.specs.declared.refusals.Refused.TheVariants.{Fault};
 ghost use Rattle.elab_model.specs.declared.kinds.ElabKind.TheVariants.{SecondDriver};
-ghost use Rattle.elab_drivers.specs.Drivers.{IsPlaceOfDriver};
 
+use crate::places::place_of_driver;
 use elab_model::ElabKind;
 use elab_nets::{drive_inputs, drive_outputs, drive_regs};
 use sg_circuit::{Driver, Element, NetId};
@@ -57,38 +56,4 @@ fn second_driver(place: Place) -> Refused<ElabKind>
         kind: ElabKind::SecondDriver,
         place,
     }
-}
-
-// Where it is said that a net is driven, of one that is.
-fn place_of_driver(
-    net: NetId,
-    inputs: &[NetId],
-    input_places: &[Place],
-    elements: &[Element],
-    places: &[Place],
-) -> Place
-    requires driven { IsTaken net (map by_stimulus inputs.now ++ by_elements 0 (map (λ e. e.output) elements.now)) }
-    requires input_places { length input_places.now ≡ length inputs.now }
-    requires places { length places.now ≡ length elements.now }
-    ensures { IsPlaceOfDriver net inputs.now input_places.now (map (λ e. e.output) elements.now) places.now result }
-{
-    if let Some(input) = input_of(net, inputs) {
-        return input_places[input];
-    }
-    match element_of(net, elements) {
-        Some(element) => places[element],
-        None => unreachable!(),
-    }
-}
-
-fn input_of(net: NetId, inputs: &[NetId]) -> Option<usize>
-    ensures { result ≡ position (λ n. n == net) inputs.now }
-{
-    inputs.iter().position(|input| *input == net)
-}
-
-fn element_of(net: NetId, elements: &[Element]) -> Option<usize>
-    ensures { result ≡ position (λ e. e.output == net) elements.now }
-{
-    elements.iter().position(|element| element.output == net)
 }

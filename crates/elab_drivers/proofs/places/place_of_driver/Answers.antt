@@ -1,10 +1,7 @@
 -- What drives the net is found among the inputs, or else among the elements.
-use Rattle.std.specs.Prelude.{ℕ, map}
-use Rattle.std.proofs.Common.{sym, ap, ◌∙◌, ◌≡◌, inl, inr, subst}
-use Rattle.std.specs.Prelude.{List, slice_index_or}
-use Rattle.elab_drivers.specs.Drivers.{IsPlaceOf}
+use Rattle.std.proofs.Common.{inl, inr}
 use Rattle.elab_drivers.proofs.Found.{found-place, found-input, not-taken}
-use Rattle.elab_drivers.proofs.joined.place_of_driver.Goals as goal
+use Rattle.elab_drivers.proofs.places.place_of_driver.Goals as goal
 
 pub unreachable-requires : goal.unreachable-requires
 unreachable-requires c =
