@@ -22,7 +22,7 @@ use Rattle.elab_laws.proofs.Stated.{nets-have_places}
 use Rattle.elab_nets.specs.Driving.{by_stimulus, by_elements, StandsFor, DrivesRegs, IsTaken, IsSecond}
 use Rattle.elab_drivers.specs.Drivers.{IsPlaceOfDriver}
 use Rattle.elab_drivers.specs.Netlists.{IsDriven, TellsDrivers, RefusesDriver}
-use Rattle.elab_drivers.proofs.ByNumber.{numbered-all, stimulus-of, checks-of}
+use Rattle.elab_drivers.proofs.ByNumber.{by_others, numbered-all, stimulus-of, checks-of}
 use Rattle.elab_drivers.proofs.Members.{in-among, among-in}
 use Rattle.elab_drivers.proofs.NetDrives.{AreNumbered}
 use Rattle.elab_drivers.proofs.Tables.{table-is}
@@ -46,7 +46,7 @@ are-numbered source top corner count inputs input_places outputs places regs d =
 }
 
 pub tells-drivers : (count : ℕ) (inputs : List ℕ) (input_places : List Place) (outputs : List ℕ) (places : List Place) (regs : List ℕ) (before table : List Driver)
-    → length table ≡ count → StandsFor before (map by_stimulus inputs ++ by_elements 0 outputs) → DrivesRegs table (map by_stimulus inputs ++ by_elements 0 outputs) regs
+    → length table ≡ count → StandsFor before (by_others inputs outputs) → DrivesRegs table (by_others inputs outputs) regs
     → TellsDrivers count inputs input_places outputs places regs table
 tells-drivers count inputs input_places outputs places regs before table l s r = λ source top corner d.
     let a = are-numbered source top corner count inputs input_places outputs places regs d in

@@ -21,11 +21,21 @@ use Rattle.elab_laws.proofs.Apart.{numbers-either}
 use Rattle.elab_laws.proofs.Drivers.{same-by_number}
 use Rattle.elab_nets.specs.Driving.{NumberedDrive, by_stimulus, by_checks, by_elements, drivers_at}
 
+-- the drives of the stimulus and of elements, by number
+abbrev pub by_others : List ℕ → List ℕ → List NumberedDrive
+by_others inputs outputs = map by_stimulus inputs ++ by_elements 0 outputs
+
+abbrev pub number_in : List OwnNet → Drive → ℕ
+number_in os d = number_of os d.spot
+
+abbrev pub AreOwned : List OwnNet → List Drive → Type 0
+AreOwned os ds = AllByRecursion (λ d. Owns d.spot os) ds
+
 abbrev pub numbered : List OwnNet → Drive → NumberedDrive
-numbered os d = record { driver = d.driver; net = number_of os d.spot }
+numbered os d = record { driver = d.driver; net = number_in os d }
 
 -- who drives a net drives its number
-pub drives-by_number : (os : List OwnNet) (spot : Spot) → Owns spot os → (ds : List Drive) → AllByRecursion (λ d. Owns d.spot os) ds
+pub drives-by_number : (os : List OwnNet) (spot : Spot) → Owns spot os → (ds : List Drive) → AreOwned os ds
     → map (λ d. d.driver) (drives_of ds spot) ≡ drivers_at (number_of os spot) (map (numbered os) ds)
 drives-by_number os spot own [] h = refl
 drives-by_number os spot own (d ∷ ds) h =
@@ -43,12 +53,12 @@ abbrev pub AreOf : Driver → List Drive → Type 0
 AreOf w ds = AllByRecursion (λ d. d.driver ≡ w) ds
 
 pub numbered-of : (os : List OwnNet) (w : Driver) (ds : List Drive) → AreOf w ds
-    → map (numbered os) ds ≡ map (λ n. record { driver = w; net = n }) (map (λ d. number_of os d.spot) ds)
+    → map (numbered os) ds ≡ map (λ n. record { driver = w; net = n }) (map (number_in os) ds)
 numbered-of os w [] h = refl
-numbered-of os w (d ∷ ds) h = one (map (numbered os) ds) (map (λ n. record { driver = w; net = n }) (map (λ d. number_of os d.spot) ds)) (numbered-of os w ds h.1)
+numbered-of os w (d ∷ ds) h = one (map (numbered os) ds) (map (λ n. record { driver = w; net = n }) (map (number_in os) ds)) (numbered-of os w ds h.1)
   where
-    one : (xs ys : List NumberedDrive) → xs ≡ ys → numbered os d ∷ xs ≡ record { driver = w; net = number_of os d.spot } ∷ ys
-    one xs ys e = ap (λ zs. numbered os d ∷ zs) e ∙ ap (λ v. record { driver = v; net = number_of os d.spot } ∷ ys) h.0
+    one : (xs ys : List NumberedDrive) → xs ≡ ys → numbered os d ∷ xs ≡ record { driver = w; net = number_in os d } ∷ ys
+    one xs ys e = ap (λ zs. numbered os d ∷ zs) e ∙ ap (λ v. record { driver = v; net = number_in os d } ∷ ys) h.0
 
 variable-of : (source : Source) (w : Driver) (s : Instance) (v : Variable) (b : Bool) (p : Place) → AreOf w (if b then variable_drives source s w p v else [])
 variable-of source w s v true p = all-map (λ d. d.driver ≡ w) (λ i. drive w p (home_of source s v.name i)) (positions v.range) (all-anyway (λ i. w ≡ w) (positions v.range) (λ i. refl))
@@ -76,10 +86,10 @@ numbered-elements os es = numbered-from os 0 es
 
 -- all drives by number
 pub numbered-all : (os : List OwnNet) (source : Source) (top : Module) (corner : Corner) (inputs outputs regs : List ℕ)
-    → inputs ≡ map (λ d. number_of os d.spot) (stimulus_drives source top)
+    → inputs ≡ map (number_in os) (stimulus_drives source top)
     → outputs ≡ map (λ e. number_of os e.output) (elements source top corner)
-    → regs ≡ map (λ d. number_of os d.spot) (check_drives source top)
-    → map (numbered os) (drives source top corner) ≡ (map by_stimulus inputs ++ by_elements 0 outputs) ++ map by_checks regs
+    → regs ≡ map (number_in os) (check_drives source top)
+    → map (numbered os) (drives source top corner) ≡ by_others inputs outputs ++ map by_checks regs
 numbered-all os source top corner inputs outputs regs e f g =
     let s : map (numbered os) (stimulus_drives source top) ≡ map by_stimulus inputs = numbered-of os Stimulus (stimulus_drives source top) (stimulus-of source top) ∙ ap (map by_stimulus) (sym e) in
     let t : map (numbered os) (element_drives (elements source top corner)) ≡ by_elements 0 outputs = numbered-elements os (elements source top corner) ∙ ap (by_elements 0) (sym f) in

@@ -17,9 +17,9 @@ use Rattle.elab_laws.proofs.Lists.{In, in-left, in-right, in-map, all-in, all-we
 use Rattle.elab_laws.proofs.Homes.{spot-same}
 use Rattle.elab_laws.proofs.Drivers.{same-by_number}
 use Rattle.elab_drivers.specs.Drivers.{IsPlaceOf, IsPlaceOfDriver}
-use Rattle.elab_drivers.proofs.ByNumber.{AreOf}
+use Rattle.elab_drivers.proofs.ByNumber.{number_in, AreOwned, AreOf}
 use Rattle.elab_drivers.proofs.Members.{in-filter, from-map, from-two}
-use Rattle.elab_drivers.proofs.NetDrives.{fault-there}
+use Rattle.elab_drivers.proofs.NetDrives.{faults_of, fault-there}
 
 any-there : {A : Type 0} (p : A → Bool) (x : A) (xs : List A) → In x xs → p x ≡ true → list_any p xs ≡ true
 any-there p x [] h e = absurd h
@@ -38,13 +38,13 @@ both-drive ds d c h k e f =
     (in-map (λ d. fault BadTerminal d.place) d (others ds) (in-filter (λ d. not (is_notifier d.driver)) d ds h (ap not e))))
 
 -- what else drives it is at this place
-pub driven-there : (os : List OwnNet) (ds drivers checks : List Drive) (n : ℕ) (p : Place) → AllByRecursion (λ d. Owns d.spot os) ds → ((d : Drive) → In d drivers → In d ds) → ((d : Drive) → In d checks → In d ds)
+pub driven-there : (os : List OwnNet) (ds drivers checks : List Drive) (n : ℕ) (p : Place) → AreOwned os ds → ((d : Drive) → In d drivers → In d ds) → ((d : Drive) → In d checks → In d ds)
     → AllByRecursion (λ d. is_notifier d.driver ≡ false) drivers → AreOf Notifier checks
-    → IsPlaceOf n (map (λ d. number_of os d.spot) drivers) (map (λ d. d.place) drivers) p → In n (map (λ d. number_of os d.spot) checks)
-    → In (fault BadTerminal p) (flat_map (λ o. net_faults (drives_of ds o.spot)) os)
+    → IsPlaceOf n (map (number_in os) drivers) (map (λ d. d.place) drivers) p → In n (map (number_in os) checks)
+    → In (fault BadTerminal p) (faults_of os ds)
 driven-there os ds drivers checks n p owned some more others_are checks_are at reg =
-    let d = from-two (λ d. number_of os d.spot) (λ d. d.place) n p drivers at.at at.net_is at.place_is in
-    let c = from-map (λ d. number_of os d.spot) n checks reg in
+    let d = from-two (number_in os) (λ d. d.place) n p drivers at.at at.net_is at.place_is in
+    let c = from-map (number_in os) n checks reg in
     let own : Owns d.from.spot os = all-in (λ d. Owns d.spot os) d.from ds owned (some d.from d.there) in
     let same : is_same_spot d.from.spot c.from.spot ≡ true =
     same-by_number d.from.spot c.from.spot os own (all-in (λ d. Owns d.spot os) c.from ds owned (more c.from c.there))
@@ -63,8 +63,8 @@ element-drives_are : {B : Type 0} (f : Drive → B) (g : Component → B) → ((
 element-drives_are f g h i [] = refl
 element-drives_are f g h i (e ∷ es) = ap (λ y. y ∷ map g es) (sym (h i e)) ∙ ap (λ ys. f (record { driver = Element i; place = e.place; spot = e.output }) ∷ ys) (element-drives_are f g h (i + 1) es)
 
-pub element-numbers : (os : List OwnNet) (es : List Component) → map (λ e. number_of os e.output) es ≡ map (λ d. number_of os d.spot) (element_drives es)
-element-numbers os es = element-drives_are (λ d. number_of os d.spot) (λ e. number_of os e.output) (λ i e. refl) 0 es
+pub element-numbers : (os : List OwnNet) (es : List Component) → map (λ e. number_of os e.output) es ≡ map (number_in os) (element_drives es)
+element-numbers os es = element-drives_are (number_in os) (λ e. number_of os e.output) (λ i e. refl) 0 es
 
 pub element-places : (es : List Component) → map (λ e. e.place) es ≡ map (λ d. d.place) (element_drives es)
 element-places es = element-drives_are (λ d. d.place) (λ e. e.place) (λ i e. refl) 0 es
@@ -78,18 +78,18 @@ stimulus-no_checks ds h = all-weaker (λ d. d.driver ≡ Stimulus) (λ d. is_not
 
 -- the stimulus or an element drives a reg
 pub reg-driven : (os : List OwnNet) (stimulus checks : List Drive) (es : List Component) (inputs outputs regs : List ℕ) (input_places places : List Place) (n : ℕ) (p : Place)
-    → AllByRecursion (λ d. Owns d.spot os) (stimulus ++ (element_drives es ++ checks)) → AreOf Stimulus stimulus → AreOf Notifier checks
-    → inputs ≡ map (λ d. number_of os d.spot) stimulus → input_places ≡ map (λ d. d.place) stimulus
-    → outputs ≡ map (λ e. number_of os e.output) es → places ≡ map (λ e. e.place) es → regs ≡ map (λ d. number_of os d.spot) checks
+    → AreOwned os (stimulus ++ (element_drives es ++ checks)) → AreOf Stimulus stimulus → AreOf Notifier checks
+    → inputs ≡ map (number_in os) stimulus → input_places ≡ map (λ d. d.place) stimulus
+    → outputs ≡ map (λ e. number_of os e.output) es → places ≡ map (λ e. e.place) es → regs ≡ map (number_in os) checks
     → IsPlaceOfDriver n inputs input_places outputs places p → In n regs
-    → In (fault BadTerminal p) (flat_map (λ o. net_faults (drives_of (stimulus ++ (element_drives es ++ checks)) o.spot)) os)
+    → In (fault BadTerminal p) (faults_of os (stimulus ++ (element_drives es ++ checks)))
 reg-driven os stimulus checks es inputs outputs regs input_places places n p owned of_stimulus of_checks inputs_are input_places_are outputs_are places_are regs_are at reg =
     let elements_in : (d : Drive) → In d (element_drives es) → In d (stimulus ++ (element_drives es ++ checks)) = λ d h. in-right d stimulus (element_drives es ++ checks) (in-left d (element_drives es) checks h) in
     let checks_in : (d : Drive) → In d checks → In d (stimulus ++ (element_drives es ++ checks)) = λ d h. in-right d stimulus (element_drives es ++ checks) (in-right d (element_drives es) checks h) in
-    let r : In n (map (λ d. number_of os d.spot) checks) = subst (In n) regs_are reg in
+    let r : In n (map (number_in os) checks) = subst (In n) regs_are reg in
     elim at [
       | inl a ↦ driven-there os (stimulus ++ (element_drives es ++ checks)) stimulus checks n p owned (λ d h. in-left d stimulus (element_drives es ++ checks) h) checks_in (stimulus-no_checks stimulus of_stimulus) of_checks
-          (subst (λ ps. IsPlaceOf n (map (λ d. number_of os d.spot) stimulus) ps p) input_places_are (subst (λ ns. IsPlaceOf n ns input_places p) inputs_are a)) r
+          (subst (λ ps. IsPlaceOf n (map (number_in os) stimulus) ps p) input_places_are (subst (λ ns. IsPlaceOf n ns input_places p) inputs_are a)) r
       | inr a ↦ driven-there os (stimulus ++ (element_drives es ++ checks)) (element_drives es) checks n p owned elements_in checks_in (elements-no_checks es) of_checks
-          (subst (λ ps. IsPlaceOf n (map (λ d. number_of os d.spot) (element_drives es)) ps p) (places_are ∙ element-places es) (subst (λ ns. IsPlaceOf n ns places p) (outputs_are ∙ element-numbers os es) a)) r
+          (subst (λ ps. IsPlaceOf n (map (number_in os) (element_drives es)) ps p) (places_are ∙ element-places es) (subst (λ ns. IsPlaceOf n ns places p) (outputs_are ∙ element-numbers os es) a)) r
     ]

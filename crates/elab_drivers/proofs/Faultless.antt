@@ -10,14 +10,13 @@ use Rattle.elab_model.specs.Faults.{Fault, fault}
 use Rattle.elab_model.specs.HierarchyFaults.{is_notifier, others, second_of, net_faults}
 use Rattle.elab_model.specs.Nets.{OwnNet, number_of}
 use Rattle.elab_model.specs.Drivers.{Drive, drives_of}
-use Rattle.elab_laws.proofs.Lists.{In, all-map, all-anyway}
+use Rattle.elab_laws.proofs.Lists.{In}
 use Rattle.elab_nets.specs.Driving.{NumberedDrive, by_stimulus, by_checks, by_elements, drivers_at, IsOutside, StandsFor, DrivesRegs}
 use Rattle.elab_nets.proofs.DriveLemmas.{at-all}
-use Rattle.elab_drivers.proofs.NetDrives.{AreNumbered, drivers-split}
+use Rattle.elab_nets.proofs.LoopLemmas.{IsNotifier, checks-at}
+use Rattle.elab_drivers.proofs.ByNumber.{by_others}
+use Rattle.elab_drivers.proofs.NetDrives.{faults_of, AreNumbered, drivers-split}
 use Rattle.elab_drivers.proofs.Tables.{owns-own}
-
-abbrev IsNotifier : Driver → Type 0
-IsNotifier d = d ≡ Notifier
 
 pub outside-none : (d : Driver) → IsOutside d → is_notifier d ≡ false
 outside-none Nobody h = refl
@@ -72,20 +71,17 @@ free-or_none k ds (n ∷ regs) h = by (n == k) refl (free-or_none k ds regs h.1)
     by true t f = inl (ap (λ j. drivers_at j ds) (sym (eqb-true n k t)) ∙ h.0)
     by false t f = f
 
-checks-at : (k : ℕ) (regs : List ℕ) → AllByRecursion IsNotifier (drivers_at k (map by_checks regs))
-checks-at k regs = at-all IsNotifier k (map by_checks regs) (all-map (λ d. IsNotifier d.driver) by_checks regs (all-anyway (λ n. Notifier ≡ Notifier) regs (λ n. refl)))
-
 flat-none : {A B : Type 0} (f : A → List B) (xs : List A) → ((x : A) → In x xs → f x ≡ []) → flat_map f xs ≡ []
 flat-none f [] h = refl
 flat-none f (x ∷ xs) h = ap (λ ys. ys ++ flat_map f xs) (h x (inl refl)) ∙ flat-none f xs (λ y k. h y (inr k))
 
 pub all-faultless : (os : List OwnNet) (ds : List Drive) (inputs outputs regs : List ℕ) (before table : List Driver) → AreNumbered os ds inputs outputs regs
-    → StandsFor before (map by_stimulus inputs ++ by_elements 0 outputs) → DrivesRegs table (map by_stimulus inputs ++ by_elements 0 outputs) regs
-    → flat_map (λ o. net_faults (drives_of ds o.spot)) os ≡ []
+    → StandsFor before (by_others inputs outputs) → DrivesRegs table (by_others inputs outputs) regs
+    → faults_of os ds ≡ []
 all-faultless os ds inputs outputs regs before table a s r =
     flat-none (λ o. net_faults (drives_of ds o.spot)) os (λ o h.
     let k = number_of os o.spot in
-    net-faultless (drives_of ds o.spot) (drivers_at k (map by_stimulus inputs ++ by_elements 0 outputs)) (drivers_at k (map by_checks regs))
+    net-faultless (drives_of ds o.spot) (drivers_at k (by_others inputs outputs)) (drivers_at k (map by_checks regs))
     (drivers-split os ds inputs outputs regs a o.spot (owns-own o os h) k refl)
-    (at-all IsOutside k (map by_stimulus inputs ++ by_elements 0 outputs) s.outside) (checks-at k regs) (s.alone k)
-    (free-or_none k (map by_stimulus inputs ++ by_elements 0 outputs) regs r.free))
+    (at-all IsOutside k (by_others inputs outputs) s.outside) (checks-at k regs) (s.alone k)
+    (free-or_none k (by_others inputs outputs) regs r.free))

@@ -1,4 +1,4 @@
--- Elements of lists, and drives of a net among others.
+-- Elements of lists.
 use Rattle.std.specs.Prelude.{◌≡◌, ℕ, zero, suc, ◌<◌, List, [], ◌∷◌, ◌++◌, Bool, true, false, Some, map, filter, length, refl, cond, slice_get, slice_index_or}
 use Rattle.std.specs.List.{AllByRecursion, IsAmong}
 use Rattle.std.proofs.Common.{sym, ◌∙◌, ap, arith, inl, inr}
@@ -25,13 +25,13 @@ in-filter {A} p x (y ∷ xs) h e = by (p y) refl (λ k. in-filter p x xs k e)
     by true t f = elim h [ inl g ↦ inl g | inr k ↦ inr (f k) ]
     by false t f = elim h [ inl g ↦ (let c : p x ≡ false = ap p g ∙ t in cc) | inr k ↦ f k ]
 
-pub from-filter : {A : Type 0} (p : A → Bool) (x : A) (xs : List A) → In x (filter p xs) → In x xs
-from-filter p x [] h = absurd h
-from-filter {A} p x (y ∷ xs) h = by (p y) h (from-filter p x xs)
+pub all-filter : {A : Type 0} (P : A → Type 0) (p : A → Bool) (xs : List A) → AllByRecursion P xs → AllByRecursion P (filter p xs)
+all-filter P p [] h = tt
+all-filter {A} P p (x ∷ xs) h = by (p x) (all-filter P p xs h.1)
   where
-    by : (b : Bool) → In x (cond b (y ∷ filter p xs) (filter p xs)) → (In x (filter p xs) → In x xs) → In x (y ∷ xs)
-    by true k f = elim k [ inl g ↦ inl g | inr m ↦ inr (f m) ]
-    by false k f = inr (f k)
+    by : (b : Bool) → AllByRecursion P (filter p xs) → AllByRecursion P (cond b (x ∷ filter p xs) (filter p xs))
+    by true k = (h.0, k)
+    by false k = k
 
 -- an element from which one of a mapped list comes
 pub record Mapped {A B : Type 0} (f : A → B) (b : B) (xs : List A) : Type 0 where

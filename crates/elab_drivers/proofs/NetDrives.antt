@@ -13,21 +13,21 @@ use Rattle.elab_laws.specs.Words.{Owns}
 use Rattle.elab_laws.proofs.Lists.{In, in-flat}
 use Rattle.elab_nets.specs.Driving.{by_stimulus, by_checks, by_elements, drivers_at}
 use Rattle.elab_nets.proofs.DriveLemmas.{at-append}
-use Rattle.elab_drivers.proofs.ByNumber.{numbered, drives-by_number}
+use Rattle.elab_drivers.proofs.ByNumber.{by_others, AreOwned, numbered, drives-by_number}
 
 -- drives of nets, and the numbers of the nets that they are of
 pub record AreNumbered (os : List OwnNet) (ds : List Drive) (inputs outputs regs : List ℕ) : Type 0 where
-  pub owned : AllByRecursion (λ d. Owns d.spot os) ds
-  pub numbers : map (numbered os) ds ≡ (map by_stimulus inputs ++ by_elements 0 outputs) ++ map by_checks regs
+  pub owned : AreOwned os ds
+  pub numbers : map (numbered os) ds ≡ by_others inputs outputs ++ map by_checks regs
 
 -- the drivers of a net are those by number, and then timing checks
 pub drivers-split : (os : List OwnNet) (ds : List Drive) (inputs outputs regs : List ℕ) → AreNumbered os ds inputs outputs regs → (spot : Spot) → Owns spot os → (k : ℕ) → number_of os spot ≡ k
-    → map (λ d. d.driver) (drives_of ds spot) ≡ drivers_at k (map by_stimulus inputs ++ by_elements 0 outputs) ++ drivers_at k (map by_checks regs)
+    → map (λ d. d.driver) (drives_of ds spot) ≡ drivers_at k (by_others inputs outputs) ++ drivers_at k (map by_checks regs)
 drivers-split os ds inputs outputs regs a spot own k e =
     drives-by_number os spot own ds a.owned
     ∙ ap (λ k. drivers_at k (map (numbered os) ds)) e
     ∙ ap (drivers_at k) a.numbers
-    ∙ at-append k (map by_stimulus inputs ++ by_elements 0 outputs) (map by_checks regs)
+    ∙ at-append k (by_others inputs outputs) (map by_checks regs)
 
 -- a drive of the net of a number
 pub record DrivesNumber (os : List OwnNet) (ds : List Drive) (k : ℕ) : Type 0 where
@@ -45,7 +45,11 @@ drive-there os k x xs (d ∷ ds) e = by (number_of os d.spot == k) refl e (drive
     by true t e f = record { drive = d; there = inl refl; number = eqb-true (number_of os d.spot) k t }
     by false t e f = let r = f e in record { drive = r.drive; there = inr r.there; number = r.number }
 
+-- the faults of all nets
+abbrev pub faults_of : List OwnNet → List Drive → List Fault
+faults_of os ds = flat_map (λ o. net_faults (drives_of ds o.spot)) os
+
 -- a fault of the net of a drive is one of all
-pub fault-there : (os : List OwnNet) (ds : List Drive) (spot : Spot) (f : Fault) → Owns spot os → In f (net_faults (drives_of ds spot)) → In f (flat_map (λ o. net_faults (drives_of ds o.spot)) os)
+pub fault-there : (os : List OwnNet) (ds : List Drive) (spot : Spot) (f : Fault) → Owns spot os → In f (net_faults (drives_of ds spot)) → In f (faults_of os ds)
 fault-there os ds spot f own h =
     in-flat (λ o. net_faults (drives_of ds o.spot)) own.owned f os own.there (subst (λ s. In f (net_faults (drives_of ds s))) (sym own.same) h)

@@ -18,9 +18,9 @@ use Rattle.elab_laws.proofs.Lists.{In, in-left, all-in, all-append, all-map, all
 use Rattle.elab_laws.proofs.Homes.{spot-same}
 use Rattle.elab_nets.specs.Driving.{by_stimulus, by_checks, by_elements, drivers_at, IsOutside, IsTaken, IsSecond}
 use Rattle.elab_nets.proofs.DriveLemmas.{at-append, at-all}
-use Rattle.elab_drivers.proofs.ByNumber.{numbered, drives-by_number, AreOf, numbered-of}
-use Rattle.elab_drivers.proofs.Members.{all-left, all-right}
-use Rattle.elab_drivers.proofs.NetDrives.{AreNumbered, drive-there, fault-there}
+use Rattle.elab_drivers.proofs.ByNumber.{by_others, number_in, AreOwned, numbered, drives-by_number, AreOf, numbered-of}
+use Rattle.elab_drivers.proofs.Members.{all-filter, all-left, all-right}
+use Rattle.elab_drivers.proofs.NetDrives.{faults_of, AreNumbered, drive-there, fault-there}
 use Rattle.elab_drivers.proofs.Faultless.{outside-none}
 
 other-more : (d : Drive) (ds : List Drive) → is_notifier d.driver ≡ false → others (d ∷ ds) ≡ d ∷ others ds
@@ -66,7 +66,7 @@ elements-outside : (i : ℕ) (ns : List ℕ) → AllByRecursion (λ d. IsOutside
 elements-outside i [] = tt
 elements-outside i (n ∷ ns) = (tt, elements-outside (i + 1) ns)
 
-pub all-outside : (inputs outputs : List ℕ) → AllByRecursion (λ d. IsOutside d.driver) (map by_stimulus inputs ++ by_elements 0 outputs)
+pub all-outside : (inputs outputs : List ℕ) → AllByRecursion (λ d. IsOutside d.driver) (by_others inputs outputs)
 all-outside inputs outputs =
     all-append (λ d. IsOutside d.driver) (map by_stimulus inputs) (by_elements 0 outputs)
     (all-map (λ d. IsOutside d.driver) by_stimulus inputs (all-anyway (λ n. Unit {0}) inputs (λ n. tt))) (elements-outside 0 outputs)
@@ -84,23 +84,15 @@ second-drive places (d ∷ c ∷ ds) a j rest e out h p at =
     subst (λ p. In (fault SecondDriver p) (net_faults (d ∷ c ∷ ds))) q
     (second-there d c ds (ap is_notifier f ∙ outside-none a out) (ap is_notifier g))
 
-all-filter : {A : Type 0} (P : A → Type 0) (p : A → Bool) (xs : List A) → AllByRecursion P xs → AllByRecursion P (filter p xs)
-all-filter P p [] h = tt
-all-filter {A} P p (x ∷ xs) h = by (p x) (all-filter P p xs h.1)
-  where
-    by : (b : Bool) → AllByRecursion P (filter p xs) → AllByRecursion P (cond b (x ∷ filter p xs) (filter p xs))
-    by true k = (h.0, k)
-    by false k = k
-
 pub element-second : (os : List OwnNet) (ds : List Drive) (inputs outputs regs : List ℕ) (places : List Place) (j : ℕ) (p : Place) → AreNumbered os ds inputs outputs regs → AllByRecursion (IsPlaced places) ds
-    → IsSecond (map by_stimulus inputs) outputs j → slice_get places j ≡ Some p → In (fault SecondDriver p) (flat_map (λ o. net_faults (drives_of ds o.spot)) os)
+    → IsSecond (map by_stimulus inputs) outputs j → slice_get places j ≡ Some p → In (fault SecondDriver p) (faults_of os ds)
 element-second os ds inputs outputs regs places j p a placed s at =
     let checks = drivers_at s.net (map by_checks regs) in
     let e : drivers_at s.net (map (numbered os) ds) ≡ s.first ∷ Element j ∷ (s.rest ++ checks) =
-    ap (drivers_at s.net) a.numbers ∙ at-append s.net (map by_stimulus inputs ++ by_elements 0 outputs) (map by_checks regs) ∙ ap (λ xs. xs ++ checks) s.drivers in
+    ap (drivers_at s.net) a.numbers ∙ at-append s.net (by_others inputs outputs) (map by_checks regs) ∙ ap (λ xs. xs ++ checks) s.drivers in
     let d = drive-there os s.net s.first (Element j ∷ (s.rest ++ checks)) ds e in
     let own : Owns d.drive.spot os = all-in (λ d. Owns d.spot os) d.drive ds a.owned d.there in
-    let all : AllByRecursion IsOutside (drivers_at s.net (map by_stimulus inputs ++ by_elements 0 outputs)) = at-all IsOutside s.net (map by_stimulus inputs ++ by_elements 0 outputs) (all-outside inputs outputs) in
+    let all : AllByRecursion IsOutside (drivers_at s.net (by_others inputs outputs)) = at-all IsOutside s.net (by_others inputs outputs) (all-outside inputs outputs) in
     let out : AllByRecursion IsOutside (s.first ∷ Element j ∷ s.rest) = subst (AllByRecursion IsOutside) s.drivers all in
     fault-there os ds d.drive.spot (fault SecondDriver p) own
     (second-drive places (drives_of ds d.drive.spot) s.first j (s.rest ++ checks)
@@ -147,14 +139,14 @@ taken-second spot before d after w e same f g =
     one (c ∷ []) e = let h : c.driver ≡ w = cc in second-there c d (drives_of after spot) (ap is_notifier h ∙ f) g
     one (c ∷ b ∷ xs) e = cc
 
-pub input-second : (os : List OwnNet) (stimulus rest : List Drive) (inputs : List ℕ) (places : List Place) (i : ℕ) (p : Place) → AllByRecursion (λ d. Owns d.spot os) (stimulus ++ rest) → AreOf Stimulus stimulus
-    → inputs ≡ map (λ d. number_of os d.spot) stimulus → places ≡ map (λ d. d.place) stimulus → IsTaken (slice_index_or inputs i 0) (map by_stimulus (take i inputs)) → slice_get places i ≡ Some p
-    → In (fault SecondDriver p) (flat_map (λ o. net_faults (drives_of (stimulus ++ rest) o.spot)) os)
+pub input-second : (os : List OwnNet) (stimulus rest : List Drive) (inputs : List ℕ) (places : List Place) (i : ℕ) (p : Place) → AreOwned os (stimulus ++ rest) → AreOf Stimulus stimulus
+    → inputs ≡ map (number_in os) stimulus → places ≡ map (λ d. d.place) stimulus → IsTaken (slice_index_or inputs i 0) (map by_stimulus (take i inputs)) → slice_get places i ≡ Some p
+    → In (fault SecondDriver p) (faults_of os (stimulus ++ rest))
 input-second os stimulus rest inputs places i p owned kinds inputs_are places_are taken at =
     let f : Drive → ℕ = λ d. number_of os d.spot in
     let r = split f (λ d. d.place) stimulus i p (ap (λ ps. slice_get ps i) (sym places_are) ∙ at) in
     let whole : stimulus ++ rest ≡ r.before ++ r.at ∷ (r.after ++ rest) = ap (λ xs. xs ++ rest) r.whole ∙ append_assoc r.before (r.at ∷ r.after) rest in
-    let split_owned : AllByRecursion (λ d. Owns d.spot os) (r.before ++ r.at ∷ (r.after ++ rest)) = subst (AllByRecursion (λ d. Owns d.spot os)) whole owned in
+    let split_owned : AreOwned os (r.before ++ r.at ∷ (r.after ++ rest)) = subst (AreOwned os) whole owned in
     let split_kinds : AllByRecursion (λ d. d.driver ≡ Stimulus) (r.before ++ r.at ∷ r.after) = subst (AllByRecursion (λ d. d.driver ≡ Stimulus)) r.whole kinds in
     let own = (all-right (λ d. Owns d.spot os) r.before (r.at ∷ (r.after ++ rest)) split_owned).0 in
     let kind = (all-right (λ d. d.driver ≡ Stimulus) r.before (r.at ∷ r.after) split_kinds).0 in

@@ -11,6 +11,7 @@ use Rattle.elab_laws.proofs.Lists.{In}
 use Rattle.elab_laws.proofs.Homes.{number-below}
 use Rattle.elab_nets.specs.Driving.{by_stimulus, by_checks, by_elements, first_or_nobody, HasFirst}
 use Rattle.elab_nets.proofs.DriveLemmas.{at-append}
+use Rattle.elab_drivers.proofs.ByNumber.{by_others}
 use Rattle.elab_drivers.proofs.NetDrives.{AreNumbered, drivers-split}
 
 first-same : (ds : List Drive) → first_or_nobody (map (λ d. d.driver) ds) ≡ first_driver ds
@@ -41,18 +42,18 @@ table-from number f full a (x ∷ xs) (o ∷ os) e l at h =
 
 -- each net has its first driver there
 pub driver-there : (os : List OwnNet) (ds : List Drive) (inputs outputs regs : List ℕ) (table : List Driver) → AreNumbered os ds inputs outputs regs → length table ≡ length os
-    → HasFirst table ((map by_stimulus inputs ++ by_elements 0 outputs) ++ map by_checks regs)
+    → HasFirst table (by_others inputs outputs ++ map by_checks regs)
     → (o : OwnNet) → In o os → slice_index_or table (number_of os o.spot) Nobody ≡ first_driver (drives_of ds o.spot)
 driver-there os ds inputs outputs regs table a l f o h =
     let own = owns-own o os h in
     let k = number_of os o.spot in
     f k (subst (λ n. k < n) (sym l) (number-below o.spot os own))
-    ∙ ap first_or_nobody (at-append k (map by_stimulus inputs ++ by_elements 0 outputs) (map by_checks regs) ∙ sym (drivers-split os ds inputs outputs regs a o.spot own k refl))
+    ∙ ap first_or_nobody (at-append k (by_others inputs outputs) (map by_checks regs) ∙ sym (drivers-split os ds inputs outputs regs a o.spot own k refl))
     ∙ first-same (drives_of ds o.spot)
 
 pub table-is : (os : List OwnNet) (ds : List Drive) (inputs outputs regs : List ℕ) (table : List Driver) → AreNumbered os ds inputs outputs regs
     → map (λ o. number_of os o.spot) os ≡ range_with_len 0 (length os) → length table ≡ length os
-    → HasFirst table ((map by_stimulus inputs ++ by_elements 0 outputs) ++ map by_checks regs)
+    → HasFirst table (by_others inputs outputs ++ map by_checks regs)
     → table ≡ map (λ o. first_driver (drives_of ds o.spot)) os
 table-is os ds inputs outputs regs table a places l f =
     table-from (λ o. number_of os o.spot) (λ o. first_driver (drives_of ds o.spot)) table 0 table os places l (λ i lt. ap (λ k. slice_index_or table k Nobody) (start i))
