@@ -19,7 +19,7 @@ use Rattle.elab_model.specs.Nets.{nets}
 use Rattle.elab_model.specs.Drivers.{elements, drives, stimulus_drives, element_drives, check_drives}
 use Rattle.elab_laws.proofs.Lists.{In, all-append}
 use Rattle.elab_laws.proofs.Stated.{nets-have_places}
-use Rattle.elab_nets.specs.Driving.{by_stimulus, by_elements, StandsFor, DrivesRegs, IsTaken, IsSecond}
+use Rattle.elab_nets.specs.Driving.{by_stimulus, StandsFor, DrivesRegs, IsTaken, IsSecond}
 use Rattle.elab_drivers.specs.Drivers.{IsPlaceOfDriver}
 use Rattle.elab_drivers.specs.Netlists.{IsDriven, TellsDrivers, RefusesDriver}
 use Rattle.elab_drivers.proofs.ByNumber.{by_others, numbered-all, stimulus-of, checks-of}
@@ -64,7 +64,8 @@ pub refuses-input : (count : ℕ) (inputs : List ℕ) (input_places : List Place
     → IsTaken (slice_index_or inputs i 0) (map by_stimulus (take i inputs)) → RefusesDriver count inputs input_places outputs places regs r
 refuses-input count inputs input_places outputs places regs i p r e l lt taken = λ source top corner d.
     refuses (driver_faults source top corner) SecondDriver (slice_index_or input_places i p) r e
-    (input-second (nets source top) (stimulus_drives source top) (element_drives (elements source top corner) ++ check_drives source top) inputs input_places i (slice_index_or input_places i p) d.owned (stimulus-of source top)
+    (input-second (nets source top) (stimulus_drives source top) (element_drives (elements source top corner) ++ check_drives source top)
+    inputs input_places i (slice_index_or input_places i p) d.owned (stimulus-of source top)
     d.inputs_are d.input_places_are taken (slice_get-get_or input_places i p (subst (λ n. i < n) (sym l) lt)))
 
 pub refuses-output : (count : ℕ) (inputs : List ℕ) (input_places : List Place) (outputs : List ℕ) (places : List Place) (regs : List ℕ) (n j : ℕ) (p : Place) (r : Refused ElabKind)
@@ -72,7 +73,8 @@ pub refuses-output : (count : ℕ) (inputs : List ℕ) (input_places : List Plac
     → IsSecond (map by_stimulus inputs) outputs j → RefusesDriver count inputs input_places outputs places regs r
 refuses-output count inputs input_places outputs places regs n j p r e l lt second = λ source top corner d.
     refuses (driver_faults source top corner) SecondDriver (slice_index_or places j p) r e
-    (element-second (nets source top) (drives source top corner) inputs outputs regs places j (slice_index_or places j p) (are-numbered source top corner count inputs input_places outputs places regs d)
+    (element-second (nets source top) (drives source top corner)
+    inputs outputs regs places j (slice_index_or places j p) (are-numbered source top corner count inputs input_places outputs places regs d)
     (all-append (IsPlaced places) (stimulus_drives source top) (element_drives (elements source top corner) ++ check_drives source top)
     (unplaced places Stimulus (λ j e. cc) (stimulus_drives source top) (stimulus-of source top))
     (all-append (IsPlaced places) (element_drives (elements source top corner)) (check_drives source top)
@@ -84,5 +86,6 @@ pub refuses-reg : (count : ℕ) (inputs : List ℕ) (input_places : List Place) 
     → IsPlaceOfDriver n inputs input_places outputs places p → IsAmong regs n → RefusesDriver count inputs input_places outputs places regs (refused.Fault BadTerminal p)
 refuses-reg count inputs input_places outputs places regs n p at reg = λ source top corner d.
     in-among (fault BadTerminal p) (driver_faults source top corner)
-    (reg-driven (nets source top) (stimulus_drives source top) (check_drives source top) (elements source top corner) inputs outputs regs input_places places n p d.owned (stimulus-of source top) (checks-of source top)
+    (reg-driven (nets source top) (stimulus_drives source top) (check_drives source top) (elements source top corner)
+    inputs outputs regs input_places places n p d.owned (stimulus-of source top) (checks-of source top)
     d.inputs_are d.input_places_are d.outputs_are d.places_are d.regs_are at (among-in n regs reg))

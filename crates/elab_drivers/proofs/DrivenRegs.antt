@@ -1,5 +1,5 @@
 -- A reg that something else drives.
-use Rattle.std.specs.Prelude.{◌≡◌, ℕ, ◌+◌, not, List, [], ◌∷◌, ◌++◌, Bool, true, false, ◌||◌, map, flat_map, refl, if◌then◌else◌}
+use Rattle.std.specs.Prelude.{◌≡◌, ℕ, ◌+◌, not, List, [], ◌∷◌, ◌++◌, Bool, true, false, ◌||◌, map, refl, if◌then◌else◌}
 use Rattle.std.specs.List.{AllByRecursion, enumerate_from, list_any}
 use Rattle.std.proofs.Common.{sym, ◌∙◌, ap, inl, inr, subst}
 use Rattle.std.proofs.lemmas.Bool.{eq-eqb}
@@ -38,7 +38,7 @@ both-drive ds d c h k e f =
     (in-map (λ d. fault BadTerminal d.place) d (others ds) (in-filter (λ d. not (is_notifier d.driver)) d ds h (ap not e))))
 
 -- what else drives it is at this place
-pub driven-there : (os : List OwnNet) (ds drivers checks : List Drive) (n : ℕ) (p : Place) → AreOwned os ds → ((d : Drive) → In d drivers → In d ds) → ((d : Drive) → In d checks → In d ds)
+driven-there : (os : List OwnNet) (ds drivers checks : List Drive) (n : ℕ) (p : Place) → AreOwned os ds → ((d : Drive) → In d drivers → In d ds) → ((d : Drive) → In d checks → In d ds)
     → AllByRecursion (λ d. is_notifier d.driver ≡ false) drivers → AreOf Notifier checks
     → IsPlaceOf n (map (number_in os) drivers) (map (λ d. d.place) drivers) p → In n (map (number_in os) checks)
     → In (fault BadTerminal p) (faults_of os ds)
@@ -58,22 +58,25 @@ driven-there os ds drivers checks n p owned some more others_are checks_are at r
     (ap is_notifier (all-in (λ d. d.driver ≡ Notifier) c.from checks checks_are c.there))))
 
 -- the drives of elements
-element-drives_are : {B : Type 0} (f : Drive → B) (g : Component → B) → ((i : ℕ) (e : Component) → f (record { driver = Element i; place = e.place; spot = e.output }) ≡ g e) → (i : ℕ) (es : List Component)
-    → map g es ≡ map f (map (λ x. record { driver = Element x.0; place = x.1.place; spot = x.1.output }) (enumerate_from i es))
-element-drives_are f g h i [] = refl
-element-drives_are f g h i (e ∷ es) = ap (λ y. y ∷ map g es) (sym (h i e)) ∙ ap (λ ys. f (record { driver = Element i; place = e.place; spot = e.output }) ∷ ys) (element-drives_are f g h (i + 1) es)
 
-pub element-numbers : (os : List OwnNet) (es : List Component) → map (λ e. number_of os e.output) es ≡ map (number_in os) (element_drives es)
+abbrev element_drive : ℕ × Component → Drive
+element_drive x = record { driver = Element x.0; place = x.1.place; spot = x.1.output }
+
+element-drives_are : {B : Type 0} (f : Drive → B) (g : Component → B) → ((i : ℕ) (e : Component) → f (element_drive (i, e)) ≡ g e) → (i : ℕ) (es : List Component)
+    → map g es ≡ map f (map element_drive (enumerate_from i es))
+element-drives_are f g h i [] = refl
+element-drives_are f g h i (e ∷ es) = ap (λ y. y ∷ map g es) (sym (h i e)) ∙ ap (λ ys. f (element_drive (i, e)) ∷ ys) (element-drives_are f g h (i + 1) es)
+
+element-numbers : (os : List OwnNet) (es : List Component) → map (λ e. number_of os e.output) es ≡ map (number_in os) (element_drives es)
 element-numbers os es = element-drives_are (number_in os) (λ e. number_of os e.output) (λ i e. refl) 0 es
 
-pub element-places : (es : List Component) → map (λ e. e.place) es ≡ map (λ d. d.place) (element_drives es)
+element-places : (es : List Component) → map (λ e. e.place) es ≡ map (λ d. d.place) (element_drives es)
 element-places es = element-drives_are (λ d. d.place) (λ e. e.place) (λ i e. refl) 0 es
 
-pub elements-no_checks : (es : List Component) → AllByRecursion (λ d. is_notifier d.driver ≡ false) (element_drives es)
-elements-no_checks es =
-    all-map (λ d. is_notifier d.driver ≡ false) (λ x. record { driver = Element x.0; place = x.1.place; spot = x.1.output }) (enumerate_from 0 es) (all-anyway (λ x. false ≡ false) (enumerate_from 0 es) (λ x. refl))
+elements-no_checks : (es : List Component) → AllByRecursion (λ d. is_notifier d.driver ≡ false) (element_drives es)
+elements-no_checks es = all-map (λ d. is_notifier d.driver ≡ false) element_drive (enumerate_from 0 es) (all-anyway (λ x. false ≡ false) (enumerate_from 0 es) (λ x. refl))
 
-pub stimulus-no_checks : (ds : List Drive) → AreOf Stimulus ds → AllByRecursion (λ d. is_notifier d.driver ≡ false) ds
+stimulus-no_checks : (ds : List Drive) → AreOf Stimulus ds → AllByRecursion (λ d. is_notifier d.driver ≡ false) ds
 stimulus-no_checks ds h = all-weaker (λ d. d.driver ≡ Stimulus) (λ d. is_notifier d.driver ≡ false) ds (λ d e. ap is_notifier e) h
 
 -- the stimulus or an element drives a reg
@@ -84,12 +87,19 @@ pub reg-driven : (os : List OwnNet) (stimulus checks : List Drive) (es : List Co
     → IsPlaceOfDriver n inputs input_places outputs places p → In n regs
     → In (fault BadTerminal p) (faults_of os (stimulus ++ (element_drives es ++ checks)))
 reg-driven os stimulus checks es inputs outputs regs input_places places n p owned of_stimulus of_checks inputs_are input_places_are outputs_are places_are regs_are at reg =
-    let elements_in : (d : Drive) → In d (element_drives es) → In d (stimulus ++ (element_drives es ++ checks)) = λ d h. in-right d stimulus (element_drives es ++ checks) (in-left d (element_drives es) checks h) in
-    let checks_in : (d : Drive) → In d checks → In d (stimulus ++ (element_drives es ++ checks)) = λ d h. in-right d stimulus (element_drives es ++ checks) (in-right d (element_drives es) checks h) in
-    let r : In n (map (number_in os) checks) = subst (In n) regs_are reg in
     elim at [
-      | inl a ↦ driven-there os (stimulus ++ (element_drives es ++ checks)) stimulus checks n p owned (λ d h. in-left d stimulus (element_drives es ++ checks) h) checks_in (stimulus-no_checks stimulus of_stimulus) of_checks
-          (subst (λ ps. IsPlaceOf n (map (number_in os) stimulus) ps p) input_places_are (subst (λ ns. IsPlaceOf n ns input_places p) inputs_are a)) r
-      | inr a ↦ driven-there os (stimulus ++ (element_drives es ++ checks)) (element_drives es) checks n p owned elements_in checks_in (elements-no_checks es) of_checks
-          (subst (λ ps. IsPlaceOf n (map (number_in os) (element_drives es)) ps p) (places_are ∙ element-places es) (subst (λ ns. IsPlaceOf n ns places p) (outputs_are ∙ element-numbers os es) a)) r
+      | inl a ↦ driven stimulus (λ d h. in-left d stimulus more h) (stimulus-no_checks stimulus of_stimulus)
+          (subst (λ ps. IsPlaceOf n (map (number_in os) stimulus) ps p) input_places_are (subst (λ ns. IsPlaceOf n ns input_places p) inputs_are a))
+      | inr a ↦ driven (element_drives es) (λ d h. in-right d stimulus more (in-left d (element_drives es) checks h)) (elements-no_checks es)
+          (subst (λ ps. IsPlaceOf n (map (number_in os) (element_drives es)) ps p) (places_are ∙ element-places es)
+          (subst (λ ns. IsPlaceOf n ns places p) (outputs_are ∙ element-numbers os es) a))
     ]
+  where
+    more : List Drive
+    more = element_drives es ++ checks
+
+    driven : (drivers : List Drive) → ((d : Drive) → In d drivers → In d (stimulus ++ more)) → AllByRecursion (λ d. is_notifier d.driver ≡ false) drivers
+        → IsPlaceOf n (map (number_in os) drivers) (map (λ d. d.place) drivers) p → In (fault BadTerminal p) (faults_of os (stimulus ++ more))
+    driven drivers some others_are place =
+        driven-there os (stimulus ++ more) drivers checks n p owned some (λ d h. in-right d stimulus more (in-right d (element_drives es) checks h)) others_are of_checks place
+        (subst (In n) regs_are reg)

@@ -11,7 +11,7 @@ use Rattle.elab_model.specs.HierarchyFaults.{is_notifier, others, second_of, net
 use Rattle.elab_model.specs.Nets.{OwnNet, number_of}
 use Rattle.elab_model.specs.Drivers.{Drive, drives_of}
 use Rattle.elab_laws.proofs.Lists.{In}
-use Rattle.elab_nets.specs.Driving.{NumberedDrive, by_stimulus, by_checks, by_elements, drivers_at, IsOutside, StandsFor, DrivesRegs}
+use Rattle.elab_nets.specs.Driving.{NumberedDrive, by_checks, drivers_at, IsOutside, StandsFor, DrivesRegs}
 use Rattle.elab_nets.proofs.DriveLemmas.{at-all}
 use Rattle.elab_nets.proofs.LoopLemmas.{IsNotifier, checks-at}
 use Rattle.elab_drivers.proofs.ByNumber.{by_others}

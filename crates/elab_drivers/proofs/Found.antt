@@ -13,7 +13,8 @@ use Rattle.elab_nets.specs.Driving.{by_stimulus, by_elements, drivers_at, IsTake
 use Rattle.elab_nets.proofs.DriveLemmas.{at-append}
 use Rattle.elab_drivers.specs.Drivers.{IsPlaceOf}
 
-pub found-place : {A : Type 0} (output : A → ℕ) (net : ℕ) (xs : List A) (places : List Place) (o : Option ℕ) (i : ℕ) (d : Place) → o ≡ position (λ x. output x == net) xs → o ≡ Some i → length places ≡ length xs
+pub found-place : {A : Type 0} (output : A → ℕ) (net : ℕ) (xs : List A) (places : List Place) (o : Option ℕ) (i : ℕ) (d : Place) → o ≡ position (λ x. output x == net) xs → o ≡ Some i
+    → length places ≡ length xs
     → IsPlaceOf net (map output xs) places (slice_index_or places i d)
 found-place output net [] places o i d e is l = let f : None ≡ Some i = sym e ∙ is in cc
 found-place output net (x ∷ xs) places o i d e is l =
@@ -51,7 +52,8 @@ elements-none output net i (x ∷ xs) h =
     ∙ elements-none output net (i + 1) xs h.1
 
 -- what is driven is found
-pub not-taken : {A : Type 0} (output : A → ℕ) (net : ℕ) (inputs : List ℕ) (xs : List A) (o p : Option ℕ) → o ≡ position (λ n. n == net) inputs → o ≡ None → p ≡ position (λ x. output x == net) xs → p ≡ None
+pub not-taken : {A : Type 0} (output : A → ℕ) (net : ℕ) (inputs : List ℕ) (xs : List A) (o p : Option ℕ) → o ≡ position (λ n. n == net) inputs → o ≡ None → p ≡ position (λ x. output x == net) xs
+    → p ≡ None
     → IsTaken net (map by_stimulus inputs ++ by_elements 0 (map output xs)) → ⊥
 not-taken output net inputs xs o p e g f h taken =
     let n : drivers_at net (map by_stimulus inputs ++ by_elements 0 (map output xs)) ≡ [] =
@@ -65,5 +67,6 @@ map-same : (xs : List ℕ) → map (λ n. n) xs ≡ xs
 map-same [] = refl
 map-same (x ∷ xs) = ap (λ ys. x ∷ ys) (map-same xs)
 
-pub found-input : (net : ℕ) (ns : List ℕ) (places : List Place) (o : Option ℕ) (i : ℕ) (d : Place) → o ≡ position (λ n. n == net) ns → o ≡ Some i → length places ≡ length ns → IsPlaceOf net ns places (slice_index_or places i d)
+pub found-input : (net : ℕ) (ns : List ℕ) (places : List Place) (o : Option ℕ) (i : ℕ) (d : Place) → o ≡ position (λ n. n == net) ns → o ≡ Some i → length places ≡ length ns
+    → IsPlaceOf net ns places (slice_index_or places i d)
 found-input net ns places o i d e is l = subst (λ xs. IsPlaceOf net xs places (slice_index_or places i d)) (map-same ns) (found-place (λ n. n) net ns places o i d e is l)

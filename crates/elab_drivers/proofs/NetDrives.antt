@@ -1,6 +1,5 @@
 -- Who drives a net of a netlist, by its number.
 use Rattle.std.specs.Prelude.{◌≡◌, ℕ, ◌==◌, List, [], ◌∷◌, ◌++◌, Bool, true, false, map, refl, flat_map, if◌then◌else◌}
-use Rattle.std.specs.List.{AllByRecursion}
 use Rattle.std.proofs.Common.{sym, ◌∙◌, ap, inl, inr, subst}
 use Rattle.std.proofs.lemmas.Bool.{eqb-true}
 use Rattle.sg_circuit.specs.declared.nets.Driver.{Driver}
@@ -11,7 +10,7 @@ use Rattle.elab_model.specs.Nets.{OwnNet, number_of}
 use Rattle.elab_model.specs.Drivers.{Drive, drives_of}
 use Rattle.elab_laws.specs.Words.{Owns}
 use Rattle.elab_laws.proofs.Lists.{In, in-flat}
-use Rattle.elab_nets.specs.Driving.{by_stimulus, by_checks, by_elements, drivers_at}
+use Rattle.elab_nets.specs.Driving.{by_checks, drivers_at}
 use Rattle.elab_nets.proofs.DriveLemmas.{at-append}
 use Rattle.elab_drivers.proofs.ByNumber.{by_others, AreOwned, numbered, drives-by_number}
 

@@ -1,5 +1,5 @@
 -- A net with a second driver.
-use Rattle.std.specs.Prelude.{◌≡◌, ℕ, zero, suc, ◌+◌, not, List, [], ◌∷◌, ◌++◌, Bool, true, false, Some, map, flat_map, take, filter, refl, cond, slice_get, slice_index_or}
+use Rattle.std.specs.Prelude.{◌≡◌, ℕ, zero, suc, ◌+◌, not, List, [], ◌∷◌, ◌++◌, true, false, Some, map, take, refl, cond, slice_get, slice_index_or}
 use Rattle.std.specs.List.{AllByRecursion, enumerate_from}
 use Rattle.std.proofs.Common.{sym, ◌∙◌, ap, arith, inl, subst, append_assoc}
 use Rattle.std.proofs.lemmas.List.Elements.{filter-append}
@@ -66,10 +66,13 @@ elements-outside : (i : ℕ) (ns : List ℕ) → AllByRecursion (λ d. IsOutside
 elements-outside i [] = tt
 elements-outside i (n ∷ ns) = (tt, elements-outside (i + 1) ns)
 
-pub all-outside : (inputs outputs : List ℕ) → AllByRecursion (λ d. IsOutside d.driver) (by_others inputs outputs)
+stimulus-outside : (ns : List ℕ) → AllByRecursion (λ d. IsOutside d.driver) (map by_stimulus ns)
+stimulus-outside ns = all-map (λ d. IsOutside d.driver) by_stimulus ns (all-anyway (λ n. Unit {0}) ns (λ n. tt))
+
+all-outside : (inputs outputs : List ℕ) → AllByRecursion (λ d. IsOutside d.driver) (by_others inputs outputs)
 all-outside inputs outputs =
     all-append (λ d. IsOutside d.driver) (map by_stimulus inputs) (by_elements 0 outputs)
-    (all-map (λ d. IsOutside d.driver) by_stimulus inputs (all-anyway (λ n. Unit {0}) inputs (λ n. tt))) (elements-outside 0 outputs)
+    (stimulus-outside inputs) (elements-outside 0 outputs)
 
 -- the second of the drives of a net
 second-drive : (places : List Place) (ds : List Drive) (a : Driver) (j : ℕ) (rest : List Driver) → map (λ d. d.driver) ds ≡ a ∷ Element j ∷ rest → IsOutside a → AllByRecursion (IsPlaced places) ds
@@ -84,7 +87,8 @@ second-drive places (d ∷ c ∷ ds) a j rest e out h p at =
     subst (λ p. In (fault SecondDriver p) (net_faults (d ∷ c ∷ ds))) q
     (second-there d c ds (ap is_notifier f ∙ outside-none a out) (ap is_notifier g))
 
-pub element-second : (os : List OwnNet) (ds : List Drive) (inputs outputs regs : List ℕ) (places : List Place) (j : ℕ) (p : Place) → AreNumbered os ds inputs outputs regs → AllByRecursion (IsPlaced places) ds
+pub element-second : (os : List OwnNet) (ds : List Drive) (inputs outputs regs : List ℕ) (places : List Place) (j : ℕ) (p : Place) → AreNumbered os ds inputs outputs regs
+    → AllByRecursion (IsPlaced places) ds
     → IsSecond (map by_stimulus inputs) outputs j → slice_get places j ≡ Some p → In (fault SecondDriver p) (faults_of os ds)
 element-second os ds inputs outputs regs places j p a placed s at =
     let checks = drivers_at s.net (map by_checks regs) in
@@ -153,9 +157,11 @@ input-second os stimulus rest inputs places i p owned kinds inputs_are places_ar
     let own_before = all-left (λ d. Owns d.spot os) r.before (r.at ∷ (r.after ++ rest)) split_owned in
     let kinds_before = all-left (λ d. d.driver ≡ Stimulus) r.before (r.at ∷ r.after) split_kinds in
     let t : IsTaken (slice_index_or (map f stimulus) i 0) (map by_stimulus (take i (map f stimulus))) = subst (λ ns. IsTaken (slice_index_or ns i 0) (map by_stimulus (take i ns))) inputs_are taken in
-    let u : IsTaken (f r.at) (map by_stimulus (map f r.before)) = subst (λ ns. IsTaken (f r.at) (map by_stimulus ns)) r.numbers (subst (λ n. IsTaken n (map by_stimulus (take i (map f stimulus)))) r.number t) in
-    let out : AllByRecursion IsOutside (u.0 ∷ []) = subst (AllByRecursion IsOutside) u.1 (at-all IsOutside (f r.at) (map by_stimulus (map f r.before)) (all-map (λ d. IsOutside d.driver) by_stimulus (map f r.before) (all-anyway (λ n. Unit {0}) (map f r.before) (λ n. tt)))) in
-    let one : map (λ d. d.driver) (drives_of r.before r.at.spot) ≡ u.0 ∷ [] = drives-by_number os r.at.spot own r.before own_before ∙ ap (drivers_at (f r.at)) (numbered-of os Stimulus r.before kinds_before) ∙ u.1 in
+    let u : IsTaken (f r.at) (map by_stimulus (map f r.before)) =
+    subst (λ ns. IsTaken (f r.at) (map by_stimulus ns)) r.numbers (subst (λ n. IsTaken n (map by_stimulus (take i (map f stimulus)))) r.number t) in
+    let out : AllByRecursion IsOutside (u.0 ∷ []) = subst (AllByRecursion IsOutside) u.1 (at-all IsOutside (f r.at) (map by_stimulus (map f r.before)) (stimulus-outside (map f r.before))) in
+    let one : map (λ d. d.driver) (drives_of r.before r.at.spot) ≡ u.0 ∷ [] =
+    drives-by_number os r.at.spot own r.before own_before ∙ ap (drivers_at (f r.at)) (numbered-of os Stimulus r.before kinds_before) ∙ u.1 in
     let second = taken-second r.at.spot r.before r.at (r.after ++ rest) u.0 one (spot-same r.at.spot) (outside-none u.0 out.0) (ap is_notifier kind) in
     fault-there os (stimulus ++ rest) r.at.spot (fault SecondDriver p) own
     (subst (λ q. In (fault SecondDriver q) (net_faults (drives_of (stimulus ++ rest) r.at.spot))) (sym r.place)

@@ -9,7 +9,7 @@ use Rattle.elab_model.specs.Drivers.{Drive, drives_of, first_driver}
 use Rattle.elab_laws.specs.Words.{Owns}
 use Rattle.elab_laws.proofs.Lists.{In}
 use Rattle.elab_laws.proofs.Homes.{number-below}
-use Rattle.elab_nets.specs.Driving.{by_stimulus, by_checks, by_elements, first_or_nobody, HasFirst}
+use Rattle.elab_nets.specs.Driving.{by_checks, first_or_nobody, HasFirst}
 use Rattle.elab_nets.proofs.DriveLemmas.{at-append}
 use Rattle.elab_drivers.proofs.ByNumber.{by_others}
 use Rattle.elab_drivers.proofs.NetDrives.{AreNumbered, drivers-split}

@@ -13,8 +13,8 @@ use std::alloc::Global;
 
 /// The driver of each of `nets` nets (IEEE 1364-2005, 6.1, 7.1, 15.5): the stimulus for `inputs`, the bits of the top's input ports; elements, by
 /// their numbers, for their outputs; and timing checks for `regs`. Each input has the place of its port in `input_places`, each element its own in `places`.
-/// Refuses a net's second driver (SecondDriver, at the second, where inputs stand before elements), and a reg that is an input or an output
-/// (BadTerminal, at what drives it). Takes memory in proportion to the nets.
+/// Refuses a net's second driver (SecondDriver, at the second, where inputs stand before elements), and a reg that the stimulus or an element
+/// drives (BadTerminal, at what drives it). Takes memory in proportion to the nets.
 pub fn drivers(
     alloc: Global,
     nets: u32,
