@@ -25,7 +25,7 @@ pub fn elaborate(
     name: Option<&[u8]>,
     corner: Corner,
 ) -> Result<Circuit, Refused<ElabKind>>
-    ensures { Elaborates (view_source source.now) (option_map (λ n. n.now) name) corner result }
+    ensures { Elaborates (view_source source.now) (option_map (λ n. n.now) name.entry) corner result }
 {
     let definitions = Definitions::of(alloc, source)?;
     let top = top(alloc, &definitions, name)?;
