@@ -2,4 +2,7 @@
 pub mod Again
 pub mod After
 pub mod InstanceNames
+pub mod ItemRanges
+pub mod KnownRanges
+pub mod OwnNets
 pub mod Refusals
