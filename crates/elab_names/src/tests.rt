@@ -142,27 +142,36 @@ fn declarations_with(alloc: Global, item: Item) -> Result<Option<(ElabKind, u64)
     Ok(refused(check_declarations(alloc, &with_item(alloc, item)?)))
 }
 
-// module t (input [3:0] a, b, output y); reg y; supply1 s; wire [1:0] w; c (..); c i (..); endmodule
-fn declared_in_head(alloc: Global) -> Result<Module<'static>, NoMemory> {
-    let first = PortDeclaration {
+fn input<'a>(name: Name<'a>) -> PortDeclaration<'a> {
+    PortDeclaration {
         place: at(10),
         direction: Direction::Input,
         net: None,
         range: range(11, 3, 0),
-        name: name(b"a", 12),
-    };
-    let last = PortDeclaration {
+        name,
+    }
+}
+
+fn output<'a>(name: Name<'a>) -> PortDeclaration<'a> {
+    PortDeclaration {
         place: at(15),
         direction: Direction::Output,
         net: None,
         range: None,
-        name: name(b"y", 16),
-    };
+        name,
+    }
+}
+
+// module t (input [3:0] a, b, output y); reg y; supply1 s; wire [1:0] w; c (..); c i (..); endmodule
+fn declared_in_head(alloc: Global) -> Result<Module<'static>, NoMemory> {
     let mut rest = Vec::new(alloc);
     rest.push(HeadPort::Name(name(b"b", 14)))?;
-    rest.push(HeadPort::Declaration(last))?;
+    rest.push(HeadPort::Declaration(output(name(b"y", 16))))?;
     Ok(module(
-        Head::Declarations { first, rest },
+        Head::Declarations {
+            first: input(name(b"a", 12)),
+            rest,
+        },
         items_of_each_kind(alloc)?,
     ))
 }
@@ -195,10 +204,13 @@ fn ports_in_text_order(rt: HostRuntime) -> Result<(), Fail> {
         [name(b"a", 12), name(b"b", 14), name(b"y", 16)].as_slice()
     );
     let declared = port_declarations(alloc, &tree)?;
-    assert_eq!(rt; declared.len(), 3);
     // A name alone is declared as the port before it.
-    assert_eq!(rt; declared[1].range, range(11, 3, 0));
-    assert_eq!(rt; declared[1].direction, Direction::Input);
+    let wanted = [
+        input(name(b"a", 12)),
+        input(name(b"b", 14)),
+        output(name(b"y", 16)),
+    ];
+    assert_eq!(rt; declared.as_slice(), wanted.as_slice());
     Ok(())
 }
 
