@@ -2,16 +2,17 @@
 use Rattle.std.specs.Prelude.{◌≡◌, List, [], ◌∷◌, ◌++◌, Bool, Option, None, map, flat_map, refl}
 use Rattle.std.proofs.Common.{sym, ◌∙◌, ap}
 use Rattle.std.proofs.lemmas.List.{map-append}
+use Rattle.std.proofs.lemmas.Simd.{map-map}
 use Rattle.sg_text.specs.declared.places.Place.{Place}
 use Rattle.vl_tree.specs.declared.items.Item as code
 use Rattle.vl_tree.specs.declared.names.Direction.{Direction}
 use Rattle.vl_tree.specs.declared.names.NetType.{NetType}
 use Rattle.vl_tree.specs.declared.names.Range as written
 use Rattle.vl_tree.specs.Seen.{view_item}
-use Rattle.vl_tree.specs.Tree.{Named, NetName, Item, ports, PortDeclaration, Module}
-use Rattle.elab_model.specs.NameFaults.{RangeText, port_range, net_range, range_texts}
-use Rattle.elab_model.specs.Ports.{NetDeclaration, net_as, port_as, ports_of_head, ports_of_item, nets_of_item}
-use Rattle.elab_names.specs.Words.{NamedRange, given, given_by_text, given_by_item, port_given, with_range}
+use Rattle.vl_tree.specs.Tree.{Named, NetName, Item, ports, Module}
+use Rattle.elab_model.specs.NameFaults.{port_range, net_range, range_texts}
+use Rattle.elab_model.specs.Ports.{net_as, ports_of_head, ports_of_item, nets_of_item}
+use Rattle.elab_names.specs.GivenRanges.{NamedRange, given, given_by_text, given_by_item, port_given, with_range}
 
 pub ports-given : (p : Place) (d : Direction) (t : Option NetType) (r : Option written.Range) (ns : List Named) → given_by_item (ports p d t r ns) ≡ map (with_range r) ns
 ports-given p d t r [] = refl
@@ -30,10 +31,6 @@ item-given old new i v ns e f h = h ∙ ap (λ xs. old ++ xs) (sym f ∙ ap (λ 
 
 -- ---- the whole list, by its parts
 
-heads-given : (ds : List PortDeclaration) → given (map port_range ds) ≡ map port_given ds
-heads-given [] = refl
-heads-given (d ∷ ds) = ap (λ xs. port_given d ∷ xs) (heads-given ds)
-
 items-given : (is : List Item) → given (flat_map (λ i. map port_range (ports_of_item i) ++ map net_range (nets_of_item i)) is) ≡ flat_map given_by_item is
 items-given [] = refl
 items-given (i ∷ is) =
@@ -43,4 +40,4 @@ items-given (i ∷ is) =
 pub module-given : (m : Module) → map port_given (ports_of_head m.head) ++ flat_map given_by_item m.items ≡ given (range_texts m)
 module-given m =
     sym (map-append given_by_text (map port_range (ports_of_head m.head)) (flat_map (λ i. map port_range (ports_of_item i) ++ map net_range (nets_of_item i)) m.items)
-    ∙ ap (λ xs. given (map port_range (ports_of_head m.head)) ++ xs) (items-given m.items) ∙ ap (λ xs. xs ++ flat_map given_by_item m.items) (heads-given (ports_of_head m.head)))
+    ∙ ap (λ xs. given (map port_range (ports_of_head m.head)) ++ xs) (items-given m.items) ∙ ap (λ xs. xs ++ flat_map given_by_item m.items) (map-map given_by_text port_range (ports_of_head m.head)))

@@ -4,6 +4,8 @@ use Rattle.std.specs.Borrow.{Bor}
 use Rattle.std.specs.List.{list_any}
 use Rattle.std.specs.Option.{option_map}
 use Rattle.std.proofs.Common.{sym, ◌∙◌, ap, drop, drop-cons, arith}
+use Rattle.std.proofs.Math.Bool.{or-false}
+use Rattle.std.proofs.lemmas.Cmp.{nat_list_eq_equiv}
 use Rattle.std.proofs.lemmas.Int.{ints}
 use Rattle.std.proofs.lemmas.Slice.Eq.{bytes_eq-Decides}
 use Rattle.sg_circuit.specs.declared.scopes.Range.{Range}
@@ -11,7 +13,8 @@ use Rattle.sg_text.specs.declared.places.Place.{Place}
 use Rattle.vl_tree.specs.declared.names.Range as written
 use Rattle.elab_model.specs.Names.{bounds}
 use Rattle.elab_model.specs.NameFaults.{is_same_int, is_same_range}
-use Rattle.elab_names.specs.Words.{first_of, NamedRange, view_range, is_other, differs_in_range, differing_places}
+use Rattle.elab_names.specs.Words.{first_of}
+use Rattle.elab_names.specs.GivenRanges.{NamedRange, view_range, is_other, differs_in_range, differing_places}
 use Rattle.elab_names.specs.declared.ranges.NamedRange as code
 
 both-true : (a b : Bool) → (a && b) ≡ true → (a ≡ true) × (b ≡ true)
@@ -29,14 +32,6 @@ same-range (Some q) (Some r) h =
     let p = both-true (is_same_int q.left r.left) (is_same_int q.right r.right) h in
     ap (λ l. Some (record { left = l; right = q.right })) (same-int q.left r.left p.0) ∙ ap (λ b. Some (record { left = r.left; right = b })) (same-int q.right r.right p.1)
 
-bytes-flipped : (m n : List ℕ) (b : Bool) → bytes_eq m n ≡ b → bytes_eq n m ≡ b
-bytes-flipped m n true h = (bytes_eq-Decides n m).1 (sym ((bytes_eq-Decides m n).0 h))
-bytes-flipped m n false h = by (bytes_eq n m) refl
-  where
-    by : (c : Bool) → bytes_eq n m ≡ c → c ≡ false
-    by false e = refl
-    by true e = let f : bytes_eq m n ≡ true = (bytes_eq-Decides m n).1 (sym ((bytes_eq-Decides n m).0 e)) in cc
-
 -- ---- the map, beside the declarations before
 
 abbrev gives_other : List ℕ → Option Range → NamedRange → Bool
@@ -50,10 +45,6 @@ pub record IsToCome (known : Bor (List ℕ) → Option (Option written.Range)) (
   pub before : List NamedRange
   pub knows : Knows known before
   pub rest : first_of (differing_places before left) ≡ whole
-
-or-false : (b : Bool) → (b || false) ≡ b
-or-false true = refl
-or-false false = refl
 
 or-self : (b : Bool) → (b || b) ≡ b
 or-self true = refl
@@ -78,12 +69,12 @@ knows-next x before old new k same n q r = by (bytes_eq x.name.text.now q.now) r
         → ((bytes_eq q.now x.name.text.now && not (is_same_range r (option_map bounds x.range))) || list_any (gives_other q.now r) before) ≡ is_other r (new q)
     by true e =
         let is : q.now ≡ x.name.text.now = sym ((bytes_eq-Decides x.name.text.now q.now).0 e) in
-        ap (λ b. (b && not (is_same_range r (option_map bounds x.range))) || list_any (gives_other q.now r) before) (bytes-flipped x.name.text.now q.now true e)
+        ap (λ b. (b && not (is_same_range r (option_map bounds x.range))) || list_any (gives_other q.now r) before) (nat_list_eq_equiv.symm q.now x.name.text.now ∙ e)
         ∙ ap (λ m. not (is_same_range r (option_map bounds x.range)) || list_any (gives_other m r) before) is
         ∙ ap (λ b. not (is_same_range r (option_map bounds x.range)) || b) (k x.name.text r) ∙ once-more r (option_map bounds x.range) (old x.name.text) same
         ∙ sym (ap (is_other r) (n q ∙ ap (λ b. cond b (Some x.range) (old q)) e))
     by false e =
-        ap (λ b. (b && not (is_same_range r (option_map bounds x.range))) || list_any (gives_other q.now r) before) (bytes-flipped x.name.text.now q.now false e) ∙ k q r
+        ap (λ b. (b && not (is_same_range r (option_map bounds x.range))) || list_any (gives_other q.now r) before) (nat_list_eq_equiv.symm q.now x.name.text.now ∙ e) ∙ k q r
         ∙ sym (ap (is_other r) (n q ∙ ap (λ b. cond b (Some x.range) (old q)) e))
 
 -- ---- the loop over the code's list

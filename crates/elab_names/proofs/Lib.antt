@@ -1,6 +1,7 @@
 -- The modules of this folder.
 pub mod Again
 pub mod After
+pub mod DeclarationFaults
 pub mod InstanceNames
 pub mod ItemRanges
 pub mod KnownRanges

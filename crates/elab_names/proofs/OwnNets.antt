@@ -1,21 +1,18 @@
 -- Where no name is declared twice as a port, nor twice as a net, two declarations of a name are a port and its own net.
 use Rattle.std.specs.Prelude.{◌≡◌, ℕ, List, [], ◌∷◌, ◌++◌, Bool, true, false, not, ◌&&◌, ◌||◌, map, flat_map, refl, bytes_eq, if◌then◌else◌}
 use Rattle.std.specs.List.{list_any}
-use Rattle.std.proofs.Common.{sym, ◌∙◌, ap, subst}
+use Rattle.std.proofs.Common.{sym, ◌∙◌, ap}
 use Rattle.std.proofs.lemmas.Grind.{flat_map-append}
-use Rattle.std.proofs.lemmas.List.{map-append}
-use Rattle.std.proofs.lemmas.List.Folds.{flat_map-map}
+use Rattle.std.proofs.lemmas.List.{append-nil, map-append}
 use Rattle.sg_text.specs.declared.places.Place.{Place}
-use Rattle.sg_text.specs.declared.refusals.Refused.{Refused}
 use Rattle.vl_tree.specs.Tree.{Named, Item, PortDeclaration, Module}
 use Rattle.elab_model.specs.declared.kinds.ElabKind.{ElabKind}
-use Rattle.elab_model.specs.declared.kinds.ElabKind.TheVariants.{WidthMismatch, DuplicateName, TooMany}
-use Rattle.elab_model.specs.Faults.{Fault, fault, fault_if, places_again, texts_of, RefusesOneOf}
-use Rattle.elab_model.specs.NameFaults.{declared_ports, declared_nets, twice_in_list, two_directions, two_nets, name_faults, RangeText, port_range, net_range, range_texts, is_same_range, is_xor, differs_from, differing_ranges, two_ranges, too_wide, declaration_faults}
+use Rattle.elab_model.specs.declared.kinds.ElabKind.TheVariants.{WidthMismatch, DuplicateName}
+use Rattle.elab_model.specs.Faults.{Fault, fault, fault_if, places_again, texts_of}
+use Rattle.elab_model.specs.NameFaults.{declared_ports, declared_nets, twice_in_list, two_directions, two_nets, name_faults, RangeText, port_range, net_range, range_texts, is_same_range, is_xor, differs_from, differing_ranges, two_ranges}
 use Rattle.elab_model.specs.Names.{is_among}
 use Rattle.elab_model.specs.Ports.{NetDeclaration, ports_of_head, ports_of_item, nets_of_item}
-use Rattle.elab_names.specs.Words.{NamedRange, given, given_by_text, given_by_item, port_given, differs_in_range, differing_places, range_faults, is_wide, width_faults}
-use Rattle.elab_names.proofs.Refusals.{refused-left, refused-right}
+use Rattle.elab_names.specs.GivenRanges.{given, given_by_text, differs_in_range, differing_places, range_faults}
 
 -- ---- the names of one kind: those of ports, or those of nets
 
@@ -50,10 +47,6 @@ by-items kind name f h [] = refl
 by-items kind name f h (i ∷ is) =
     flat_map-append (of_kind kind) (texts_of_item i) (flat_map texts_of_item is) ∙ ap (λ ns. ns ++ all_of_kind kind (flat_map texts_of_item is)) (h i)
     ∙ ap (λ ns. map name (f i) ++ ns) (by-items kind name f h is) ∙ sym (map-append name (f i) (flat_map f is))
-
-append-nil : {A : Type 0} (xs : List A) → xs ++ [] ≡ xs
-append-nil [] = refl
-append-nil (x ∷ xs) = ap (λ ys. x ∷ ys) (append-nil xs)
 
 ports-of-item : (i : Item) → all_of_kind true (texts_of_item i) ≡ map (λ d. d.name) (ports_of_item i)
 ports-of-item i =
@@ -154,20 +147,3 @@ two-ranges m h =
     let p : places_again [] (declared_ports m) ≡ [] = none-again (places_again [] (declared_ports m)) (front (two_directions m) _ second) in
     let n : places_again [] (declared_nets m) ≡ [] = none-again (places_again [] (declared_nets m)) (front (two_nets m) _ (back (two_directions m) _ second)) in
     sym (one-kind [] (range_texts m) (ap (places_again []) (ports-declared m) ∙ p) (ap (places_again []) (nets-declared m) ∙ n))
-
-pub widths-given : (m : Module) → width_faults (given (range_texts m)) ≡ too_wide m
-widths-given m = flat_map-map (λ s. fault_if (is_wide s) TooMany s.name.place) given_by_text (range_texts m)
-
-pub faultless : (m : Module) (rs : List NamedRange) → rs ≡ given (range_texts m) → name_faults m ≡ [] → range_faults rs ≡ [] → width_faults rs ≡ [] → declaration_faults m ≡ []
-faultless m rs e n r w =
-    ap (λ fs. fs ++ (two_ranges m ++ too_wide m)) n ∙ ap (λ fs. fs ++ too_wide m) (sym (two-ranges m n) ∙ ap range_faults (sym e) ∙ r) ∙ sym (widths-given m) ∙ ap width_faults (sym e) ∙ w
-
-pub refused-range : (m : Module) (rs : List NamedRange) (r : Refused ElabKind) → rs ≡ given (range_texts m) → name_faults m ≡ [] → RefusesOneOf (range_faults rs) r → RefusesOneOf (declaration_faults m) r
-refused-range m rs r e n h =
-    refused-right (name_faults m) (two_ranges m ++ too_wide m) r (refused-left (two_ranges m) (too_wide m) r
-    (subst (λ fs. RefusesOneOf fs r) (ap range_faults e ∙ two-ranges m n) h))
-
-pub refused-width : (m : Module) (rs : List NamedRange) (r : Refused ElabKind) → rs ≡ given (range_texts m) → RefusesOneOf (width_faults rs) r → RefusesOneOf (declaration_faults m) r
-refused-width m rs r e h =
-    refused-right (name_faults m) (two_ranges m ++ too_wide m) r (refused-right (two_ranges m) (too_wide m) r
-    (subst (λ fs. RefusesOneOf fs r) (ap width_faults e ∙ widths-given m) h))

@@ -1,21 +1,13 @@
 -- The declarations of the code, as the definitions see them, and the first name that stands twice.
-use Rattle.std.specs.Prelude.{◌≡◌, ℕ, List, [], ◌∷◌, ◌++◌, Bool, false, ◌&&◌, not, nat_lt, Option, Some, None, map, flat_map, bytes_eq, if◌then◌else◌}
+use Rattle.std.specs.Prelude.{◌≡◌, ℕ, Bool, List, [], ◌∷◌, Option, Some, None, bytes_eq}
 use Rattle.std.specs.Borrow.{Bor}
 use Rattle.std.specs.List.{list_any}
-use Rattle.std.specs.Option.{option_map}
-use Rattle.sg_circuit.specs.Closed.{width_of}
-use Rattle.sg_circuit.specs.declared.scopes.Range.{Range}
 use Rattle.sg_text.specs.declared.places.Place.{Place}
 use Rattle.vl_tree.specs.Seen.{view_name}
-use Rattle.vl_tree.specs.Tree.{Named, Item, PortDeclaration, HeadPort, declared_port, named_port}
-use Rattle.vl_tree.specs.declared.names.Range as written
-use Rattle.elab_model.specs.Faults.{Fault, fault, fault_if, places_again}
-use Rattle.elab_model.specs.NameFaults.{RangeText, port_range, net_range, is_same_range, width_limit}
-use Rattle.elab_model.specs.Names.{bounds}
-use Rattle.elab_model.specs.Ports.{NetDeclaration, with_name, ports_of_item, nets_of_item}
-use Rattle.elab_model.specs.declared.kinds.ElabKind.TheVariants.{WidthMismatch, TooMany}
+use Rattle.vl_tree.specs.Tree.{Named, PortDeclaration, HeadPort, declared_port, named_port}
+use Rattle.elab_model.specs.Faults.{places_again}
+use Rattle.elab_model.specs.Ports.{NetDeclaration, with_name}
 use Rattle.elab_names.specs.declared.nets.NetDeclaration as code_net
-use Rattle.elab_names.specs.declared.ranges.NamedRange as code_range
 
 abbrev pub view_net : code_net.NetDeclaration → NetDeclaration
 view_net d = record { name = view_name d.name; range = d.range; is_reg = d.reg }
@@ -36,49 +28,3 @@ IsFirstAgain names place = place ≡ first_of (places_again [] names)
 -- whether a text is one of those that the code keeps
 abbrev pub is_seen : List ℕ → List (Bor (List ℕ)) → Bool
 is_seen n keys = list_any (λ y. bytes_eq n y.now) keys
-
--- a name and the range that one declaration gives it, be it of a port or of a net
-pub record NamedRange : Type 0 where
-  pub name : Named
-  pub range : Option Range
-
-abbrev pub with_range : Option written.Range → Named → NamedRange
-with_range r n = record { name = n; range = option_map bounds r }
-
-abbrev pub view_range : code_range.NamedRange → NamedRange
-view_range d = with_range d.range (view_name d.name)
-
-abbrev pub given_by_text : RangeText → NamedRange
-given_by_text t = record { name = t.name; range = t.range }
-
-abbrev pub given : List RangeText → List NamedRange
-given ts = map given_by_text ts
-
-abbrev pub port_given : PortDeclaration → NamedRange
-port_given d = with_range d.range d.name
-
-abbrev pub given_by_item : Item → List NamedRange
-given_by_item i = given (map port_range (ports_of_item i) ++ map net_range (nets_of_item i))
-
--- whether a range is another than the one that was given before, if one was
-abbrev pub is_other : Option Range → Option (Option written.Range) → Bool
-is_other r None = false
-is_other r (Some q) = not (is_same_range r (option_map bounds q))
-
--- whether two declarations give one name different ranges
-abbrev pub differs_in_range : NamedRange → NamedRange → Bool
-differs_in_range s t = bytes_eq s.name.text t.name.text && not (is_same_range s.range t.range)
-
--- the places of names that an earlier declaration gives another range
-abbrev pub differing_places : List NamedRange → List NamedRange → List Place
-differing_places before [] = []
-differing_places before (s ∷ ss) = (if list_any (differs_in_range s) before then s.name.place ∷ [] else []) ++ differing_places (s ∷ before) ss
-
-abbrev pub range_faults : List NamedRange → List Fault
-range_faults ss = map (fault WidthMismatch) (differing_places [] ss)
-
-abbrev pub is_wide : NamedRange → Bool
-is_wide s = nat_lt width_limit (width_of s.range)
-
-abbrev pub width_faults : List NamedRange → List Fault
-width_faults ss = flat_map (λ s. fault_if (is_wide s) TooMany s.name.place) ss

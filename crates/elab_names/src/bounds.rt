@@ -4,7 +4,8 @@ ghost use Rattle.std.specs.Option.{option_map};
 ghost use Rattle.sg_circuit.specs.Closed.{width_of};
 ghost use Rattle.elab_model.specs.Names.{bounds};
 ghost use Rattle.elab_model.specs.NameFaults as def;
-ghost use Rattle.elab_names.specs.Words.{first_of, differing_places, is_other, is_wide, view_range};
+ghost use Rattle.elab_names.specs.Words.{first_of};
+ghost use Rattle.elab_names.specs.GivenRanges.{differing_places, is_other, is_wide, view_range};
 
 use crate::NamedRange;
 use indexmap::IndexMap;
@@ -62,6 +63,7 @@ fn is_same_range(one: Option<Range>, other: Option<Range>) -> bool
     }
 }
 
+// A vector has one bit more than its bounds are apart.
 fn is_too_wide(range: Option<Range>) -> bool
     ensures { result ≡ nat_lt def.width_limit (width_of (option_map bounds range)) }
 {

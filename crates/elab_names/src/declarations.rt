@@ -3,7 +3,7 @@ ghost use Rattle.std.specs.Prelude.{◌≡◌, [], OnOk, IfErr, map};
 ghost use Rattle.vl_tree.specs.Seen.{view_module};
 ghost use Rattle.elab_model.specs.Faults.{RefusesOneOf};
 ghost use Rattle.elab_model.specs.NameFaults as def;
-ghost use Rattle.elab_names.specs.Words.{range_faults, width_faults, view_range};
+ghost use Rattle.elab_names.specs.GivenRanges.{range_faults, width_faults, view_range};
 
 use crate::{NamedRange, check_names, first_differing, first_too_wide, named_ranges};
 use elab_model::ElabKind;

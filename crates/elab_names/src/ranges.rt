@@ -2,7 +2,7 @@
 ghost use Rattle.std.specs.Prelude.{◌≡◌, ◌++◌, OnOk, IfOk, map};
 ghost use Rattle.vl_tree.specs.Seen.{view_name, view_net_name, view_item, view_module, view_port_declaration};
 ghost use Rattle.elab_model.specs.NameFaults.{range_texts};
-ghost use Rattle.elab_names.specs.Words.{given, port_given, given_by_item, with_range, view_range};
+ghost use Rattle.elab_names.specs.GivenRanges.{given, port_given, given_by_item, with_range, view_range};
 
 use crate::ports::ports_of_head;
 use sg_text::NoMemory;

@@ -2,7 +2,7 @@
 use Rattle.std.proofs.Common.{Bor, ℕ, List, nat_eq, ◌<◌, length, arith, add-one, ap, sym, ◌∙◌}
 use Rattle.indexmap.specs.IndexMap.{get}
 use lib.Pointwise.{pointwise}
-use Rattle.elab_names.specs.Words.{is_other}
+use Rattle.elab_names.specs.GivenRanges.{is_other}
 use Rattle.elab_names.proofs.KnownRanges.{found-other, next-same}
 use Rattle.elab_names.proofs.bounds.first_differing.Goals as goal
 

@@ -1,6 +1,6 @@
 -- The first that is too wide is still to come.
 use Rattle.std.proofs.Common.{◌≡◌, map, drop, find}
-use Rattle.elab_names.specs.Words.{is_wide, view_range}
+use Rattle.elab_names.specs.GivenRanges.{is_wide, view_range}
 use Rattle.elab_names.proofs.bounds.first_too_wide.Given as goal
 
 abbrev pub invariant-loop-given : goal.invariant-loop-given

@@ -3,8 +3,8 @@ use Rattle.std.proofs.Common.{map, ap, sym, ◌∙◌}
 use Rattle.std.proofs.lemmas.Result.{err_from_is_err_and}
 use Rattle.vl_tree.specs.Seen.{view_module}
 use Rattle.elab_model.specs.NameFaults.{declaration_faults}
-use Rattle.elab_names.specs.Words.{view_range, width_faults}
-use Rattle.elab_names.proofs.OwnNets.{faultless, refused-range, refused-width}
+use Rattle.elab_names.specs.GivenRanges.{view_range, width_faults}
+use Rattle.elab_names.proofs.DeclarationFaults.{faultless, refused-range, refused-width}
 use Rattle.elab_names.proofs.Refusals.{exit}
 use Rattle.elab_names.proofs.declarations.check_declarations.Goals as goal
 

@@ -2,7 +2,7 @@
 use Rattle.std.proofs.Common.{map, sym, ◌∙◌, ap}
 use Rattle.std.specs.Option.{option_map}
 use Rattle.elab_model.specs.declared.kinds.ElabKind.TheVariants.{TooMany}
-use Rattle.elab_names.specs.Words.{is_wide, view_range}
+use Rattle.elab_names.specs.GivenRanges.{is_wide, view_range}
 use Rattle.elab_names.proofs.Refusals.{none-found, some-found}
 use Rattle.elab_names.proofs.declarations.check_widths.Goals as goal
 

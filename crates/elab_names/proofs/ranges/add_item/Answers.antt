@@ -1,7 +1,7 @@
 -- The ranges of each kind of item.
 use Rattle.std.proofs.Common.{rules, map, true, false, None}
 use Rattle.vl_tree.specs.Seen.{view_name, view_net_name}
-use Rattle.elab_names.specs.Words.{with_range, view_range}
+use Rattle.elab_names.specs.GivenRanges.{with_range, view_range}
 use Rattle.elab_names.proofs.ItemRanges.{ports-given, names-given, nets-given, item-given}
 use Rattle.elab_names.proofs.ranges.add_item.Goals as goal
 

@@ -2,7 +2,7 @@
 use Rattle.std.proofs.Common.{rules, ◌≡◌, ◌∙◌, ap, map, flat_map, ◌++◌}
 use Rattle.vl_tree.specs.Seen.{view_item, view_module, view_port_declaration}
 use Rattle.elab_model.specs.Ports.{ports_of_head}
-use Rattle.elab_names.specs.Words.{given_by_item, port_given, view_range}
+use Rattle.elab_names.specs.GivenRanges.{given_by_item, port_given, view_range}
 use Rattle.elab_names.proofs.ItemRanges.{module-given}
 use Rattle.elab_names.proofs.ranges.named_ranges.Goals as goal
 

@@ -2,7 +2,7 @@
 use Rattle.std.proofs.Common.{◌≡◌, ◌++◌, map, flat_map, drop}
 use Rattle.vl_tree.specs.Seen.{view_item, view_module}
 use Rattle.elab_model.specs.NameFaults.{range_texts}
-use Rattle.elab_names.specs.Words.{given, given_by_item, view_range}
+use Rattle.elab_names.specs.GivenRanges.{given, given_by_item, view_range}
 use Rattle.elab_names.proofs.ranges.named_ranges.Given as goal
 
 abbrev pub invariant-loop-item : goal.invariant-loop-item

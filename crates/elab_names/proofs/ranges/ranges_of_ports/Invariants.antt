@@ -1,7 +1,7 @@
 -- What is there, followed by what is left, is the whole.
 use Rattle.std.proofs.Common.{◌≡◌, ◌++◌, map, drop}
 use Rattle.vl_tree.specs.Seen.{view_port_declaration}
-use Rattle.elab_names.specs.Words.{port_given, view_range}
+use Rattle.elab_names.specs.GivenRanges.{port_given, view_range}
 use Rattle.elab_names.proofs.ranges.ranges_of_ports.Given as goal
 
 abbrev pub invariant-loop-port : goal.invariant-loop-port
