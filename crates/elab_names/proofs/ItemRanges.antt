@@ -1,5 +1,5 @@
 -- The ranges that the items of a module give to names.
-use Rattle.std.specs.Prelude.{◌≡◌, List, [], ◌∷◌, ◌++◌, Bool, Option, None, map, flat_map, refl}
+use Rattle.std.specs.Prelude.{◌≡◌, List, [], ◌∷◌, ◌++◌, Bool, Option, map, flat_map, refl}
 use Rattle.std.proofs.Common.{sym, ◌∙◌, ap}
 use Rattle.std.proofs.lemmas.List.{map-append}
 use Rattle.std.proofs.lemmas.Simd.{map-map}

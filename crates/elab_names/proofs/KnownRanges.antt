@@ -14,7 +14,7 @@ use Rattle.vl_tree.specs.declared.names.Range as written
 use Rattle.elab_model.specs.Names.{bounds}
 use Rattle.elab_model.specs.NameFaults.{is_same_int, is_same_range}
 use Rattle.elab_names.specs.Words.{first_of}
-use Rattle.elab_names.specs.GivenRanges.{NamedRange, view_range, is_other, differs_in_range, differing_places}
+use Rattle.elab_names.specs.GivenRanges.{NamedRange, view_range, is_other, differing_places}
 use Rattle.elab_names.specs.declared.ranges.NamedRange as code
 
 both-true : (a b : Bool) → (a && b) ≡ true → (a ≡ true) × (b ≡ true)

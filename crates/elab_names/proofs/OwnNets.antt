@@ -1,5 +1,5 @@
 -- Where no name is declared twice as a port, nor twice as a net, two declarations of a name are a port and its own net.
-use Rattle.std.specs.Prelude.{◌≡◌, ℕ, List, [], ◌∷◌, ◌++◌, Bool, true, false, not, ◌&&◌, ◌||◌, map, flat_map, refl, bytes_eq, if◌then◌else◌}
+use Rattle.std.specs.Prelude.{◌≡◌, List, [], ◌∷◌, ◌++◌, Bool, true, false, not, ◌&&◌, ◌||◌, map, flat_map, refl, bytes_eq, if◌then◌else◌}
 use Rattle.std.specs.List.{list_any}
 use Rattle.std.proofs.Common.{sym, ◌∙◌, ap}
 use Rattle.std.proofs.lemmas.Grind.{flat_map-append}
@@ -8,7 +8,7 @@ use Rattle.sg_text.specs.declared.places.Place.{Place}
 use Rattle.vl_tree.specs.Tree.{Named, Item, PortDeclaration, Module}
 use Rattle.elab_model.specs.declared.kinds.ElabKind.{ElabKind}
 use Rattle.elab_model.specs.declared.kinds.ElabKind.TheVariants.{WidthMismatch, DuplicateName}
-use Rattle.elab_model.specs.Faults.{Fault, fault, fault_if, places_again, texts_of}
+use Rattle.elab_model.specs.Faults.{fault, fault_if, places_again, texts_of}
 use Rattle.elab_model.specs.NameFaults.{declared_ports, declared_nets, twice_in_list, two_directions, two_nets, name_faults, RangeText, port_range, net_range, range_texts, is_same_range, is_xor, differs_from, differing_ranges, two_ranges}
 use Rattle.elab_model.specs.Names.{is_among}
 use Rattle.elab_model.specs.Ports.{NetDeclaration, ports_of_head, ports_of_item, nets_of_item}

@@ -1,5 +1,5 @@
 -- Names and the ranges that declarations give them, be it of a port or of a net, and the faults of these.
-use Rattle.std.specs.Prelude.{ℕ, List, [], ◌∷◌, ◌++◌, Bool, false, ◌&&◌, not, nat_lt, Option, Some, None, map, flat_map, bytes_eq, if◌then◌else◌}
+use Rattle.std.specs.Prelude.{List, [], ◌∷◌, ◌++◌, Bool, false, ◌&&◌, not, nat_lt, Option, Some, None, map, flat_map, bytes_eq, if◌then◌else◌}
 use Rattle.std.specs.List.{list_any}
 use Rattle.std.specs.Option.{option_map}
 use Rattle.sg_circuit.specs.Closed.{width_of}

@@ -1,6 +1,6 @@
 -- The ports of the head come first.
-use Rattle.std.proofs.Common.{rules, ◌≡◌, ◌∙◌, ap, map, flat_map, ◌++◌}
-use Rattle.vl_tree.specs.Seen.{view_item, view_module, view_port_declaration}
+use Rattle.std.proofs.Common.{◌≡◌, ◌∙◌, ap, map, flat_map, ◌++◌}
+use Rattle.vl_tree.specs.Seen.{view_module, view_port_declaration}
 use Rattle.elab_model.specs.Ports.{ports_of_head}
 use Rattle.elab_names.specs.GivenRanges.{given_by_item, port_given, view_range}
 use Rattle.elab_names.proofs.ItemRanges.{module-given}
