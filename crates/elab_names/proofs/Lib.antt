@@ -7,3 +7,4 @@ pub mod ItemRanges
 pub mod KnownRanges
 pub mod OwnNets
 pub mod Refusals
+pub mod WideRanges

@@ -30,16 +30,12 @@ pub fn first_differing(alloc: Global, ranges: &[NamedRange]) -> Result<Option<Pl
     Ok(None)
 }
 
-/// The first name whose range has more bits than a vector may have, if there is one.
-pub fn first_too_wide<'a>(ranges: &[NamedRange<'a>]) -> Option<NamedRange<'a>>
-    ensures { option_map view_range result ≡ find is_wide (map view_range ranges.now) }
+/// The place of the first name whose range has more bits than a vector may have, if there is one.
+pub fn first_too_wide(ranges: &[NamedRange]) -> Option<Place>
+    ensures { result ≡ option_map (λ r. r.name.place) (find (λ r. is_wide (view_range r)) ranges.now) }
 {
-    for given in ranges {
-        if is_too_wide(given.range) {
-            return Some(*given);
-        }
-    }
-    None
+    let given = ranges.iter().find(|given| is_too_wide(given.range))?;
+    Some(given.name.place)
 }
 
 fn is_another(before: Option<Option<Range>>, range: Option<Range>) -> bool

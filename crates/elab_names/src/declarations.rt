@@ -45,9 +45,9 @@ fn check_widths(ranges: &[NamedRange]) -> Result<(), Refused<ElabKind>>
     ensures refused { IfErr result (RefusesOneOf (width_faults (map view_range ranges.now))) }
 {
     match first_too_wide(ranges) {
-        Some(given) => Err(Refused::Fault {
+        Some(place) => Err(Refused::Fault {
             kind: ElabKind::TooMany,
-            place: given.name.place,
+            place,
         }),
         None => Ok(()),
     }

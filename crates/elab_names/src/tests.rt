@@ -280,7 +280,7 @@ fn other_ranges_and_wide_ones(rt: HostRuntime) -> Result<(), Fail> {
     ];
     assert_eq!(rt; first_differing(alloc, &ranges)?, Some(at(4)));
     assert_eq!(rt; first_differing(alloc, &ranges[..3])?, None);
-    assert_eq!(rt; first_too_wide(&ranges), Some(ranges[3]));
+    assert_eq!(rt; first_too_wide(&ranges), Some(at(4)));
     assert_eq!(rt; first_too_wide(&ranges[..3]), None);
     Ok(())
 }
