@@ -1,129 +1,16 @@
 // Modules that are built by hand: each list of what they declare, and each refusal once with its place and once nearly.
+mod trees;
+
 use crate::*;
 use elab_model::ElabKind;
-use sg_logic::GateKind;
-use sg_text::{NoMemory, Place, Refused};
-use sg_time::{Scale, Unit};
+use sg_text::{NoMemory, Refused};
 use std::alloc::Global;
 use std::test::Fail;
-use vl_token::Mark;
-use vl_tree::{
-    Connections, Direction, GateInstance, Head, HeadPort, Instance, Item, Module, Name, NetName,
-    NetType, PortDeclaration, Range, Supply,
+use trees::{
+    at, buffers, declared_in_head, input, module, name, named, net, output, ports, range, wires,
+    with_item,
 };
-
-fn at(byte: u64) -> Place {
-    Place { file: 0, byte }
-}
-
-fn name(text: &[u8], byte: u64) -> Name<'_> {
-    Name {
-        text,
-        place: at(byte),
-    }
-}
-
-// Where a range stands tells two of them apart, and is no part of what they mean.
-fn range(byte: u64, left: i64, right: i64) -> Option<Range> {
-    Some(Range {
-        place: at(byte),
-        left,
-        right,
-    })
-}
-
-fn ports<'a>(
-    alloc: Global,
-    direction: Direction,
-    range: Option<Range>,
-    names: &[Name<'a>],
-) -> Result<Item<'a>, NoMemory> {
-    Ok(Item::Ports {
-        place: at(0),
-        direction,
-        net: None,
-        range,
-        names: Vec::from_slice(alloc, names)?,
-    })
-}
-
-fn wires<'a>(
-    alloc: Global,
-    range: Option<Range>,
-    names: &[Name<'a>],
-) -> Result<Item<'a>, NoMemory> {
-    let mut nets = Vec::new(alloc);
-    for name in names {
-        nets.push(NetName {
-            name: *name,
-            value: None,
-        })?;
-    }
-    Ok(Item::Nets {
-        place: at(0),
-        net: NetType::Wire,
-        range,
-        names: nets,
-    })
-}
-
-fn buffers<'a>(alloc: Global, names: &[Name<'a>]) -> Result<Item<'a>, NoMemory> {
-    let mut instances = Vec::new(alloc);
-    for name in names {
-        instances.push(GateInstance {
-            place: name.place,
-            name: Some(*name),
-            terminals: Vec::new(alloc),
-        })?;
-    }
-    Ok(Item::Gates {
-        place: at(0),
-        gate: GateKind::Buf,
-        delay: None,
-        instances,
-    })
-}
-
-fn cell<'a>(alloc: Global, module: Name<'a>, name: Option<Name<'a>>) -> Result<Item<'a>, NoMemory> {
-    let mut instances = Vec::new(alloc);
-    instances.push(Instance {
-        place: module.place,
-        name,
-        connections: Connections::Ordered(Vec::new(alloc)),
-    })?;
-    Ok(Item::Instances {
-        module,
-        delay: None,
-        instances,
-    })
-}
-
-fn module<'a>(head: Head<'a>, items: Vec<Item<'a>>) -> Module<'a> {
-    Module {
-        place: at(0),
-        mark: Mark {
-            scale: Scale {
-                unit: Unit { power: -9 },
-                precision: Unit { power: -12 },
-            },
-            cell: false,
-            implicit: true,
-        },
-        name: name(b"t", 7),
-        head: Some(Some(head)),
-        items,
-    }
-}
-
-// module t (a, y); input a; output y; .. endmodule
-fn with_item<'a>(alloc: Global, item: Item<'a>) -> Result<Module<'a>, NoMemory> {
-    let list = [name(b"a", 10), name(b"y", 13)];
-    let mut items = Vec::new(alloc);
-    items.push(ports(alloc, Direction::Input, None, &[name(b"a", 23)])?)?;
-    items.push(ports(alloc, Direction::Output, None, &[name(b"y", 33)])?)?;
-    items.push(item)?;
-    Ok(module(Head::Names(Vec::from_slice(alloc, &list)?), items))
-}
+use vl_tree::{Direction, Head, Item};
 
 fn refused(checked: Result<(), Refused<ElabKind>>) -> Option<(ElabKind, u64)> {
     match checked {
@@ -140,58 +27,6 @@ fn names_with(alloc: Global, item: Item) -> Result<Option<(ElabKind, u64)>, NoMe
 // What is refused in all its declarations.
 fn declarations_with(alloc: Global, item: Item) -> Result<Option<(ElabKind, u64)>, NoMemory> {
     Ok(refused(check_declarations(alloc, &with_item(alloc, item)?)))
-}
-
-fn input<'a>(name: Name<'a>) -> PortDeclaration<'a> {
-    PortDeclaration {
-        place: at(10),
-        direction: Direction::Input,
-        net: None,
-        range: range(11, 3, 0),
-        name,
-    }
-}
-
-fn output<'a>(name: Name<'a>) -> PortDeclaration<'a> {
-    PortDeclaration {
-        place: at(15),
-        direction: Direction::Output,
-        net: None,
-        range: None,
-        name,
-    }
-}
-
-// module t (input [3:0] a, b, output y); reg y; supply1 s; wire [1:0] w; c (..); c i (..); endmodule
-fn declared_in_head(alloc: Global) -> Result<Module<'static>, NoMemory> {
-    let mut rest = Vec::new(alloc);
-    rest.push(HeadPort::Name(name(b"b", 14)))?;
-    rest.push(HeadPort::Declaration(output(name(b"y", 16))))?;
-    Ok(module(
-        Head::Declarations {
-            first: input(name(b"a", 12)),
-            rest,
-        },
-        items_of_each_kind(alloc)?,
-    ))
-}
-
-fn items_of_each_kind(alloc: Global) -> Result<Vec<Item<'static>>, NoMemory> {
-    let mut items = Vec::new(alloc);
-    items.push(Item::Registers {
-        place: at(20),
-        names: Vec::from_slice(alloc, &[name(b"y", 21)])?,
-    })?;
-    items.push(Item::Supplies {
-        place: at(24),
-        supply: Supply::One,
-        range: None,
-        names: Vec::from_slice(alloc, &[name(b"s", 25)])?,
-    })?;
-    items.push(wires(alloc, range(28, 1, 0), &[name(b"w", 29)])?)?;
-    items.push(cell(alloc, name(b"c", 32), None)?)?;
-    items.push(cell(alloc, name(b"c", 36), Some(name(b"i", 37)))?)?;
-    Ok(items)
 }
 
 #[test]
@@ -228,14 +63,6 @@ fn nets_and_instances_in_text_order(rt: HostRuntime) -> Result<(), Fail> {
     let instances = instance_names(alloc, &tree)?;
     assert_eq!(rt; instances.as_slice(), [name(b"i", 37)].as_slice());
     Ok(())
-}
-
-fn net<'a>(name: Name<'a>, range: Option<Range>, reg: bool) -> NetDeclaration<'a> {
-    NetDeclaration { name, range, reg }
-}
-
-fn named<'a>(name: Name<'a>, range: Option<Range>) -> NamedRange<'a> {
-    NamedRange { name, range }
 }
 
 #[test]
