@@ -3,4 +3,5 @@ pub mod Undriven
 pub mod Numbers
 pub mod Own
 pub mod Outside
+pub mod Terminals
 pub mod Rows

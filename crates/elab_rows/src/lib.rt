@@ -1,6 +1,7 @@
 //! The nets of a circuit in order, and the number of the net of each bit of each instance.
 #![tactic(auto)]
 
+mod bit_nets;
 mod limit;
 mod outside;
 mod own;
