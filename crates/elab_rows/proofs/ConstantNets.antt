@@ -1,8 +1,9 @@
 -- A net for each constant among the bits of terminals.
-use Rattle.std.specs.Prelude.{◌≡◌, ℕ, zero, suc, ◌+◌, ◌<◌, ◌≤◌, List, [], ◌∷◌, ◌++◌, Option, Some, None, length, map, flat_map, take, drop, refl, slice_index_or}
+use Rattle.std.specs.Prelude.{◌≡◌, ℕ, zero, suc, ◌+◌, ◌-◌, ◌<◌, ◌≤◌, All, List, [], ◌∷◌, ◌++◌, Some, None, length, map, flat_map, take, drop, refl, slice_index_or}
 use Rattle.std.specs.List.{AllByRecursion, enumerate_from}
 use Rattle.std.proofs.Common.{sym, ◌∙◌, ap, arith, drop-cons, length-append, subst}
-use Rattle.std.proofs.lemmas.List.{drop_all, drop-map}
+use Rattle.std.proofs.lemmas.List.{append-nil, drop_all, drop-map, length-map, take_rest}
+use Rattle.std.proofs.lemmas.List.Elements.{recursion_from_All}
 use Rattle.sg_circuit.specs.declared.nets.Net.{Net}
 use Rattle.sg_logic.specs.declared.values.Value.{Value}
 use Rattle.sg_text.specs.declared.places.Place.{Place}
@@ -10,7 +11,7 @@ use Rattle.elab_model.specs.Bits.{Bit, net, constant, index_at}
 use Rattle.elab_model.specs.Hierarchy.{Instance}
 use Rattle.elab_model.specs.Homes.{terminal}
 use Rattle.elab_model.specs.Names.{Variable, variable, variables}
-use Rattle.elab_model.specs.Nets.{terminal_net, terminal_nets}
+use Rattle.elab_model.specs.Nets.{OwnNet, terminal_net, terminal_nets}
 use Rattle.elab_laws.specs.Handing.{all_bits}
 use Rattle.elab_laws.proofs.Lists.{In}
 use Rattle.elab_owned.proofs.Legs.{variable-is}
@@ -109,3 +110,25 @@ output-in_row vs zero bs i h e = cc
 output-in_row vs (suc m) [] i h e = cc
 output-in_row vs (suc m) (bit.Constant p v ∷ bs) i h e = cc
 output-in_row vs (suc m) (bit.Net j ∷ bs) i h e = let same : j ≡ i = cc in subst (λ x. x < length (all_bits vs)) same h.0
+
+-- ---- what is added, as the definition has it
+
+pub none-added : (nets : List Net) (os : List OwnNet) → os ≡ [] → nets ≡ nets ++ map undriven os
+none-added nets os e = sym (append-nil nets) ∙ ap (λ xs. nets ++ map undriven xs) (sym e)
+
+-- where there are fewer bits than outputs, there are no inputs
+pub no-inputs : (s : Instance) (k outputs : ℕ) (bs : List Bit) → length bs ≤ outputs → terminal_nets s k outputs bs ≡ []
+no-inputs s k outputs bs le = ap (λ xs. flat_map (terminal_net s k (take outputs bs)) (enumerate_from 0 xs)) (drop_all outputs bs le)
+
+pub are-meant : (vs : List Variable) (s : Instance) (k scope outputs : ℕ) (bs inputs : List code_bit.Bit) (i : ℕ) → All (IsInRow vs) bs → vs ≡ variables s.step.definition → s.step.number ≡ scope
+    → first_output outputs bs ≡ Some i → inputs ≡ take (length bs - outputs) (drop outputs bs)
+    → flat_map (at_constant (net_at scope (bit_at vs i))) inputs ≡ map undriven (terminal_nets s k outputs (map (view_bit vs) bs))
+are-meant vs s k scope outputs bs inputs i h e n f r =
+    ap (flat_map (at_constant (net_at scope (bit_at vs i)))) (r ∙ take_rest bs outputs)
+    ∙ sym (with-output vs s k scope outputs bs i e n (output-in_row vs outputs bs i (recursion_from_All (IsInRow vs) bs h) f) f)
+
+pub count-meant : (vs : List Variable) (s : Instance) (k scope outputs : ℕ) (bs inputs : List code_bit.Bit) (i : ℕ) → All (IsInRow vs) bs → vs ≡ variables s.step.definition → s.step.number ≡ scope
+    → first_output outputs bs ≡ Some i → inputs ≡ take (length bs - outputs) (drop outputs bs)
+    → length (flat_map (at_constant (net_at scope (bit_at vs i))) inputs) ≡ length (terminal_nets s k outputs (map (view_bit vs) bs))
+count-meant vs s k scope outputs bs inputs i h e n f r =
+    ap length (are-meant vs s k scope outputs bs inputs i h e n f r) ∙ length-map (terminal_nets s k outputs (map (view_bit vs) bs)) undriven

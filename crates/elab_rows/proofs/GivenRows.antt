@@ -63,7 +63,7 @@ row-by : (leaf : Bool) (f g : Variable × ℕ → Option ℕ) (bs : List (Variab
 row-by leaf f g [] h = refl
 row-by leaf f g (b ∷ bs) h = ap (λ x. x ∷ map g bs) h.0 ∙ ap (λ xs. given_in leaf b (f b) ∷ xs) (row-by leaf f g bs h.1)
 
-none-in : (b : Bool) → None ≡ (if b then None else None)
+none-in : (b : Bool) → ◌≡◌ {A = Option ℕ} None (if b then None else None)
 none-in true = refl
 none-in false = refl
 

@@ -5,3 +5,4 @@ pub mod OwnBits
 pub mod ConstantNets
 pub mod HandedNets
 pub mod GivenRows
+pub mod MemberBits

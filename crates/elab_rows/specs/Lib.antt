@@ -5,3 +5,5 @@ pub mod Own
 pub mod Outside
 pub mod Terminals
 pub mod Rows
+pub mod Parts
+pub mod Turns

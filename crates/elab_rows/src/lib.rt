@@ -3,8 +3,10 @@
 
 mod bit_nets;
 mod limit;
+mod member_bits;
 mod outside;
 mod own;
+mod parts;
 mod rows;
 mod terminals;
 
