@@ -4,6 +4,7 @@
 mod bit_nets;
 mod limit;
 mod member_bits;
+mod members;
 mod outside;
 mod own;
 mod parts;
