@@ -1,5 +1,5 @@
 -- Refusals for too many nets, and lists that are made piece by piece.
-use Rattle.std.specs.Prelude.{◌≡◌, ℕ, ◌+◌, List, [], ◌∷◌, ◌++◌, Result, Err, IfErr, length, refl}
+use Rattle.std.specs.Prelude.{◌≡◌, ℕ, ◌+◌, List, [], ◌∷◌, ◌++◌, Result, Ok, Err, IfErr, OnOk, length, refl}
 use Rattle.std.proofs.Common.{sym, ◌∙◌, ap, subst, append_assoc, append-nil, length-append}
 use Rattle.sg_text.specs.declared.refusals.Refused.{Refused}
 use Rattle.elab_model.specs.declared.kinds.ElabKind.{ElabKind}
@@ -20,3 +20,8 @@ nothing-left old rest total r h = sym (append-nil old) ∙ ap (λ xs. old ++ xs)
 -- so many are there when a piece is
 pub count-added : {A : Type 0} (old piece new : List A) → new ≡ old ++ piece → length new ≡ length old + length piece
 count-added old piece new n = ap length n ∙ length-append old piece
+
+-- of two clauses of a last call
+pub on-both : {T E P Q R : Type 0} (r : Result T E) → OnOk r P → OnOk r Q → (P → Q → R) → OnOk r R
+on-both (Ok x) p q f = f p q
+on-both (Err e) p q f = tt

@@ -6,3 +6,17 @@ pub mod ConstantNets
 pub mod HandedNets
 pub mod GivenRows
 pub mod MemberBits
+pub mod Placings
+pub mod RowParts
+pub mod Children
+pub mod Modules
+pub mod ChildRows
+pub mod Defined
+pub mod MemberNets
+pub mod InnerRows
+pub mod OuterRows
+pub mod MemberTurns
+pub mod UpTo
+pub mod PlainMembers
+pub mod AllRows
+pub mod Mine

@@ -1,13 +1,14 @@
 -- The turns of instances: what has been made before an instance's turn, and what its members leave.
-use Rattle.std.specs.Prelude.{◌≡◌, ℕ, suc, ◌+◌, ◌<◌, ◌≤◌, List, [], ◌∷◌, ◌++◌, Option, Some, filter_map, flat_map, length, map, slice_get, take, drop}
+use Rattle.std.specs.Prelude.{◌≡◌, ℕ, suc, ◌+◌, ◌<◌, ◌≤◌, List, [], ◌∷◌, ◌++◌, Bool, Option, Some, filter_map, flat_map, length, map, slice_get, take, drop}
 use Rattle.std.specs.List.{AllByRecursion, enumerate_from, range_with_len}
 use Rattle.sg_delay.specs.declared.corners.Corner.{Corner}
 use Rattle.vl_tree.specs.Tree.{Module, Source}
-use Rattle.elab_model.specs.Hierarchy.{Step, Instance, Child, child_of_member, children_from, children, instances}
+use Rattle.elab_model.specs.Hierarchy.{Step, Instance, Child, child_of_member, children_from, children, instances, is_leaf}
 use Rattle.elab_model.specs.Members.{Member, members}
 use Rattle.elab_model.specs.Names.{Variable, variables}
 use Rattle.elab_model.specs.Nets.{nets, nets_of, variable_nets, member_nets}
 use Rattle.elab_laws.specs.Handing.{all_bits, number_at}
+use Rattle.elab_laws.specs.Laws.{AreSound}
 use Rattle.elab_laws.specs.Words.{In}
 use Rattle.elab_hierarchy.specs.declared.instances.Placed.{Placed}
 use Rattle.elab_hierarchy.specs.Placing.{ArePlaced, tree_faults}
@@ -107,3 +108,33 @@ pub record IsSeenTo (source : Source) (top : Module) (s : Instance) (x : ℕ × 
   pub split : children_from source levels (s.step ∷ s.above) next (children_among source (x ∷ behind)) ≡ cs ++ children_from source levels (s.step ∷ s.above) after (children_among source behind)
   pub outside : AddsOutside source top old.outer.items new.outer.items old.outer_starts.items new.outer_starts.items cs
   pub same : (new.inner ≡ old.inner) × ((new.starts ≡ old.starts) × ((new.firsts ≡ old.firsts) × (new.member_starts ≡ old.member_starts)))
+
+-- so many members of an instance have been seen to
+pub record AreThrough (source : Source) (top : Module) (before : List Instance) (s : Instance) (k next : ℕ) (old new : Rows) : Type 0 where
+  pub made : new.nets.items ≡ old.nets.items ++ map undriven (flat_map (member_nets source s) (take k (members_of s)))
+  pub first_nets : new.firsts.items ≡ old.firsts.items ++ map (first_of_member source before s) (range_with_len 0 k)
+  pub levels : ℕ
+  pub done : List Instance
+  pub rest : children source s ≡ done ++ children_from source levels (s.step ∷ s.above) next (children_among source (drop k (members_of s)))
+  pub outside : AddsOutside source top old.outer.items new.outer.items old.outer_starts.items new.outer_starts.items done
+  pub same : (new.inner ≡ old.inner) × ((new.starts ≡ old.starts) × (new.member_starts ≡ old.member_starts))
+
+-- an instance whose turn it is, with its outer row
+pub record IsMine (source : Source) (top : Module) (corner : Corner) (rows : Rows) (table : List Variable) (number : ℕ) (leaf : Bool) : Type 0 where
+  pub sound : AreSound source top corner
+  pub before : List Instance
+  pub s : Instance
+  pub after : List Instance
+  pub here : instances source top ≡ before ++ s ∷ after
+  pub table_is : table ≡ variables s.step.definition
+  pub number_is : s.step.number ≡ number
+  pub leaf_is : is_leaf source s ≡ leaf
+  pub nets_there : length rows.nets.items ≡ length (flat_map (nets_of source) before)
+  pub outer_row : HasOuterRow source top rows.outer.items rows.outer_starts.items s
+
+-- its own nets and its inner row have been added
+pub record IsBegun (source : Source) (top : Module) (s : Instance) (old new : Rows) : Type 0 where
+  pub made : new.nets.items ≡ old.nets.items ++ map undriven (variable_nets source s)
+  pub start : new.starts.items ≡ old.starts.items ++ length old.inner.items ∷ []
+  pub row : new.inner.items ≡ old.inner.items ++ map (number_at (nets source top) source s) (bits_of s)
+  pub same : (new.outer ≡ old.outer) × ((new.outer_starts ≡ old.outer_starts) × ((new.firsts ≡ old.firsts) × (new.member_starts ≡ old.member_starts)))

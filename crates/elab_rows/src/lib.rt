@@ -10,5 +10,6 @@ mod own;
 mod parts;
 mod rows;
 mod terminals;
+mod turns;
 
 pub use rows::{Rows, rows_of};

@@ -1,5 +1,5 @@
 // The nets of members that no variable names, and what lies outside of the children.
-ghost use Rattle.std.specs.Prelude.{◌≡◌, ◌≤◌, ◌<◌, ◌+◌, ◌^◌, ◌++◌, ℕ, Option, Some, IfOk, OnOk, IfErr, length, map};
+ghost use Rattle.std.specs.Prelude.{◌≡◌, ◌≤◌, ◌<◌, ◌+◌, ◌^◌, ◌++◌, ℕ, Option, Some, IfOk, OnOk, IfErr, length, map, option_map, slice_get};
 ghost use Rattle.sg_delay.specs.declared.corners.Corner as ghost_corner;
 ghost use Rattle.vl_tree.specs.Tree.{Delay as SeenDelay, Module as SeenModule, Named, Source, a_module};
 ghost use Rattle.vl_tree.specs.Seen.{view_gate_instance, view_instance, view_name};
@@ -13,6 +13,7 @@ ghost use Rattle.elab_model.specs.Nets.{nets, member_nets, terminal_nets};
 ghost use Rattle.elab_modules.specs.Ready.{HasReady};
 ghost use Rattle.elab_nets.specs.Refusals.{RefusesCount};
 ghost use Rattle.elab_tables.specs.Seen.{view_member};
+ghost use Rattle.elab_rows.specs.Parts.{is_module};
 ghost use Rattle.elab_rows.specs.Turns.{HasTurn, IsNext, IsSeenTo};
 ghost use Rattle.elab_rows.specs.Undriven.{undriven};
 
@@ -88,6 +89,7 @@ fn add_child(
     next: u32,
     rows: &mut Rows,
 ) -> Result<u32, Refused<ElabKind>>
+    requires instances { length instances.now ≤ 2 ^ 22 }
     requires few { length rows.old.nets.items ≤ 2 ^ 22 }
     ensures few { length rows.new.nets.items ≤ 2 ^ 22 }
     ensures seen { IfOk result (λ after. (source : Source) (top m : SeenModule) (corner : ghost_corner.Corner) (turn : HasTurn source top corner library.now instances.now rows.old table.now number) (k : ℕ) (n : Named) (d : Option SeenDelay)
@@ -111,7 +113,7 @@ fn add_child(
         return Ok(next);
     }
     rows.outer_starts[index] = rows.outer.len();
-    let leaf = placed.end == next.wrapping_add(1);
+    let leaf = placed.end == next + 1;
     add_outside(
         alloc,
         table,
@@ -124,4 +126,90 @@ fn add_child(
         &mut rows.nets,
     )?;
     Ok(placed.end)
+}
+
+// The nets of an instance of the definition of a name, and what lies outside of it.
+fn add_named(
+    alloc: Global,
+    definitions: &Definitions,
+    library: &Library,
+    instances: &[Placed],
+    table: &Table,
+    number: u32,
+    name: Name,
+    text: &Instance,
+    next: u32,
+    bits: &mut Vec<Bit>,
+    rows: &mut Rows,
+) -> Result<u32, Refused<ElabKind>>
+    requires instances { length instances.now ≤ 2 ^ 22 }
+    requires few { length rows.old.nets.items ≤ 2 ^ 22 }
+    ensures few { length rows.new.nets.items ≤ 2 ^ 22 }
+    ensures seen { IfOk result (λ after. (top : SeenModule) (corner : ghost_corner.Corner) (turn : HasTurn definitions.now top corner library.now instances.now rows.old table.now number) (k : ℕ) (d : Option SeenDelay)
+        → (at : IsNext definitions.now turn.before turn.s (k, def_members.instance (view_name name.entry) d (view_instance text.now)) next (length rows.old.nets.items))
+        → IsSeenTo definitions.now top turn.s (k, def_members.instance (view_name name.entry) d (view_instance text.now)) at.levels next after at.behind rows.old rows.new) }
+    ensures refused { IfErr result (λ r. (top : SeenModule) (corner : ghost_corner.Corner) (turn : HasTurn definitions.now top corner library.now instances.now rows.old table.now number) (k : ℕ) (d : Option SeenDelay)
+        → IsNext definitions.now turn.before turn.s (k, def_members.instance (view_name name.entry) d (view_instance text.now)) next (length rows.old.nets.items)
+        → RefusesCount (length (nets definitions.now top)) r) }
+{
+    let Some(place) = definitions.find(name.text) else {
+        return Ok(next);
+    };
+    if is_module(definitions, place) {
+        return add_child(
+            alloc, library, instances, table, number, place, text, next, rows,
+        );
+    }
+    add_primitive(alloc, table, number, text, bits, &mut rows.nets)?;
+    Ok(next)
+}
+
+fn is_module(definitions: &Definitions, place: usize) -> bool
+    requires { place < length definitions.now }
+    ensures { option_map is_module (slice_get definitions.now place) ≡ Some result }
+{
+    match definitions.part(place) {
+        Part::Module(_) => true,
+        Part::Primitive(_) => false,
+    }
+}
+
+/// The nets of a member, and what lies outside of the child that it is. Answers the number of the next child.
+pub fn add_member(
+    alloc: Global,
+    definitions: &Definitions,
+    library: &Library,
+    instances: &[Placed],
+    table: &Table,
+    number: u32,
+    member: Member,
+    next: u32,
+    bits: &mut Vec<Bit>,
+    rows: &mut Rows,
+) -> Result<u32, Refused<ElabKind>>
+    requires instances { length instances.now ≤ 2 ^ 22 }
+    requires few { length rows.old.nets.items ≤ 2 ^ 22 }
+    ensures few { length rows.new.nets.items ≤ 2 ^ 22 }
+    ensures seen { IfOk result (λ after. (top : SeenModule) (corner : ghost_corner.Corner) (turn : HasTurn definitions.now top corner library.now instances.now rows.old table.now number) (k : ℕ)
+        → (at : IsNext definitions.now turn.before turn.s (k, view_member member.entry) next (length rows.old.nets.items))
+        → IsSeenTo definitions.now top turn.s (k, view_member member.entry) at.levels next after at.behind rows.old rows.new) }
+    ensures refused { IfErr result (λ r. (top : SeenModule) (corner : ghost_corner.Corner) (turn : HasTurn definitions.now top corner library.now instances.now rows.old table.now number) (k : ℕ)
+        → IsNext definitions.now turn.before turn.s (k, view_member member.entry) next (length rows.old.nets.items)
+        → RefusesCount (length (nets definitions.now top)) r) }
+{
+    match member {
+        Member::Declared { .. } | Member::Assignment(_) | Member::Supply { .. } => Ok(next),
+        Member::Gate { kind, instance, .. } => {
+            add_gate(alloc, table, number, kind, instance, bits, &mut rows.nets)?;
+            Ok(next)
+        }
+        Member::Instance {
+            definition,
+            instance,
+            ..
+        } => add_named(
+            alloc, definitions, library, instances, table, number, definition, instance, next, bits,
+            rows,
+        ),
+    }
 }
