@@ -6,7 +6,7 @@ use Rattle.std.proofs.lemmas.Option.{slice_get_within}
 use Rattle.sg_delay.specs.declared.corners.Corner.{Corner}
 use Rattle.vl_tree.specs.Tree.{Module, Source}
 use Rattle.elab_model.specs.Hierarchy.{Step, Instance, instances, is_empty, is_leaf, has_no_child}
-use Rattle.elab_model.specs.Names.{Variable, variables}
+use Rattle.elab_model.specs.Members.{members}
 use Rattle.elab_model.specs.Nets.{nets, nets_of, variable_nets}
 use Rattle.elab_model.specs.Scopes.{parent_of}
 use Rattle.elab_laws.specs.Handing.{number_at}
@@ -19,14 +19,14 @@ use Rattle.elab_modules.specs.Reached.{IsReached, IsReadyAt}
 use Rattle.elab_modules.specs.Ready.{IsPrepared}
 use Rattle.elab_numbers.specs.Laws.{nets_before}
 use Rattle.elab_rows.specs.Parts.{module_at}
-use Rattle.elab_rows.specs.Turns.{AreUpTo, HasInnerRow, HasTurn, IsBegun, IsGiven, IsMine, bits_of}
+use Rattle.elab_rows.specs.Turns.{AreThrough, AreUpTo, HasInnerRow, HasTurn, IsBegun, IsGiven, IsMine, bits_of}
 use Rattle.elab_rows.specs.Undriven.{undriven}
 use Rattle.elab_rows.specs.declared.rows.Rows.{Rows}
 use Rattle.elab_rows.proofs.InnerRows.{front-is, own-due}
 use Rattle.elab_rows.proofs.Modules.{is-found, is-prepared}
 use Rattle.elab_rows.proofs.Placings.{is-there, lone-is, no-level, number-is, placed-at, placed-count}
 use Rattle.elab_rows.proofs.RowParts.{get-behind}
-use Rattle.elab_rows.proofs.UpTo.{new-inner}
+use Rattle.elab_rows.proofs.UpTo.{new-inner, one-more}
 
 -- a list, round the element at a place
 pub record IsSplit {A : Type 0} (xs : List A) (n : ℕ) : Type 0 where
@@ -75,19 +75,19 @@ module _ (source : Source) (top : Module) (corner : Corner) (library : Library) 
   pub prepared-is : (q : Prepared) → module_at (slice_get library.parts.items p.definition) ≡ Some q → IsPrepared q s.step.definition
   prepared-is q e = is-prepared source library.parts.items p.definition s.step.definition q given.ready.ready of.placed.definition e
 
-  number_here : s.step.number ≡ n
+  pub number_here : s.step.number ≡ n
   number_here = number-is source top of.split.before of.split.after s of.split.whole ∙ of.split.count
 
   has-parent : (above : List Step) → is_some (parent_of above) ≡ not (is_empty above)
   has-parent [] = refl
   has-parent (x ∷ xs) = refl
 
-  leaf-here : is_leaf source s ≡ (is_some p.parent && p.end == n + 1)
+  pub leaf-here : is_leaf source s ≡ (is_some p.parent && p.end == n + 1)
   leaf-here =
       sym (ap (λ b. b && p.end == n + 1) (ap is_some of.placed.parent ∙ has-parent s.above)
       ∙ ap (λ b. not (is_empty s.above) && b) (ap (λ k. p.end == k + 1) (sym number_here) ∙ lone-is source s.step p.end (no-level source top s given.tree there) of.placed.end))
 
-  count-here : (rows : Rows) → AreUpTo source top rows n → length rows.nets.items ≡ length (flat_map (nets_of source) of.split.before)
+  pub count-here : (rows : Rows) → AreUpTo source top rows n → length rows.nets.items ≡ length (flat_map (nets_of source) of.split.before)
   count-here rows up =
       ap length up.all ∙ length-map (flat_map (nets_of source) (take n (instances source top))) undriven
       ∙ ap (λ k. length (flat_map (nets_of source) (take k (instances source top)))) (sym of.split.count)
@@ -130,3 +130,15 @@ module _ (source : Source) (top : Module) (corner : Corner) (library : Library) 
       let l1 : length begun.nets.items ≡ length old.nets.items + length (map undriven (variable_nets source s)) = ap length b.made ∙ length-append old.nets.items (map undriven (variable_nets source s)) in
       let l2 = length-map (variable_nets source s) undriven in
       omega arith
+
+  -- its turn is over
+  pub turn-done : (r0 r1 r2 r3 r4 : Rows) (next : ℕ) → AreUpTo source top r0 n → IsBegun source top s r0 r1
+      → r2.member_starts.items ≡ r1.member_starts.items ++ length r1.firsts.items ∷ []
+      → (r2.nets ≡ r1.nets) × ((r2.inner ≡ r1.inner) × ((r2.starts ≡ r1.starts) × ((r2.outer ≡ r1.outer) × ((r2.outer_starts ≡ r1.outer_starts) × (r2.firsts ≡ r1.firsts)))))
+      → length r2.nets.items ≡ nets_before source of.split.before s [] → AreThrough source top of.split.before s (length (members s.step.definition)) next r2 r3
+      → r4.firsts.items ≡ r3.firsts.items ++ length r3.nets.items ∷ []
+      → (r4.nets ≡ r3.nets) × ((r4.inner ≡ r3.inner) × ((r4.starts ≡ r3.starts) × ((r4.outer ≡ r3.outer) × ((r4.outer_starts ≡ r3.outer_starts) × (r4.member_starts ≡ r3.member_starts)))))
+      → AreUpTo source top r4 (n + 1)
+  turn-done r0 r1 r2 r3 r4 next up begun m2 same2 count through f4 same4 =
+      subst (λ k. AreUpTo source top r4 (k + 1)) of.split.count
+      (one-more source top of.split.before of.split.after s of.split.whole r0 r1 r2 r3 r4 next (subst (AreUpTo source top r0) (sym of.split.count) up) begun m2 same2 count through f4 same4)

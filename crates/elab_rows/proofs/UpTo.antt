@@ -139,6 +139,7 @@ module _ (source : Source) (top : Module) (before after : List Instance) (s : In
           let same : t ≡ r.0 = same-instance source top t r.0 there inside r.2 in
           let above : r.0.above ≡ s.step ∷ s.above = all-in (λ c. c.above ≡ s.step ∷ s.above) r.0 (children source s) (children-above source s.step.levels s) r.1 in
           let d : s.step.number < length before = subst (IsDue (length before)) (ap (λ x. x.above) same ∙ above) due in
+          let n : s.step.number ≡ length before = number_here in
           absurd (omega arith))
           (h t there due)
 

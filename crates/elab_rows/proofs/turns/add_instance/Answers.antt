@@ -1,12 +1,10 @@
 -- The instance is found in both lists, and its turn is made of its own rows and those of its children.
-use Rattle.std.proofs.Common.{◌≡◌, ◌∙◌, ◌++◌, ◌∷◌, ◌+◌, [], ap, arith, length, refl, Some, None, subst}
+use Rattle.std.proofs.Common.{◌≡◌, ◌∙◌, ◌++◌, ◌∷◌, ◌+◌, [], ap, arith, length, refl}
 use Rattle.std.proofs.lemmas.Option.{slice_get_read}
 use Rattle.std.proofs.lemmas.Result.{err_from_is_err_and}
-use Rattle.elab_rows.specs.Turns.{AreUpTo}
 use Rattle.elab_rows.proofs.Counts.{handed-on}
 use Rattle.elab_rows.proofs.Modules.{lent, none-lent}
-use Rattle.elab_rows.proofs.Mine.{is-of, found, prepared-is, is-mine, is-turn, count-begun}
-use Rattle.elab_rows.proofs.UpTo.{one-more}
+use Rattle.elab_rows.proofs.Mine.{is-of, found, prepared-is, is-mine, is-turn, count-begun, turn-done}
 use Rattle.elab_rows.proofs.turns.add_instance.Goals as goal
 
 pub returns-in_default-clause-done : goal.returns-in_default-clause-done
@@ -18,7 +16,7 @@ returns-in_default-clause-done c = λ top corner given up.
 
 pub returns-in_err-add_inner-clause-refused : goal.returns-in_err-add_inner-clause-refused
 returns-in_err-add_inner-clause-refused c =
-    handed-on c.from_residual-in_err-add_inner.result _ c.in_err-add_inner.field-0.0 (err_from_is_err_and c.from_residual-in_err-add_inner.result c.from_residual-in_err-add_inner.ensures.1)
+    handed-on c.from_residual.result _ c.in_err-add_inner.field-0.0 (err_from_is_err_and c.from_residual.result c.from_residual.ensures.1)
     (λ top corner given up.
     let source = c.args.definitions.now in
     let lib = c.args.library.now in
@@ -61,7 +59,6 @@ returns-clause-done c = λ top corner given up.
     let through = c.in_ok-add_members.ensures.through top corner turn prepared count in
     let firsts : c.len.result ≡ length r1.firsts.items = omega (arith, c.len.ensures, r1.firsts.ok.0) in
     let last : c.len-2.result ≡ length r3.nets.items = omega (arith, c.len-2.ensures, r3.nets.ok.0) in
-    subst (λ k. AreUpTo source top _ (k + 1)) of.split.count
-    (one-more source top of.split.before of.split.after of.split.element of.split.whole c.args.rows.now r1 _ r3 _ through.0 (subst (AreUpTo source top c.args.rows.now) (let k = of.split.count in omega arith) up) begun
+    turn-done source top corner lib list given c.args.number p of c.args.rows.now r1 _ r3 _ through.0 up begun
     (c.in_ok-push.ensures.items ∙ ap (λ n. r1.member_starts.items ++ n ∷ []) firsts) (refl, (refl, (refl, (refl, (refl, refl))))) count through.1
-    (c.in_ok-push-2.ensures.items ∙ ap (λ n. r3.firsts.items ++ n ∷ []) last) (refl, (refl, (refl, (refl, (refl, refl))))))
+    (c.in_ok-push-2.ensures.items ∙ ap (λ n. r3.firsts.items ++ n ∷ []) last) (refl, (refl, (refl, (refl, (refl, refl)))))
