@@ -6,15 +6,13 @@ use Rattle.std.proofs.lemmas.List.{length-map, take_all}
 use Rattle.sg_delay.specs.declared.corners.Corner.{Corner}
 use Rattle.vl_tree.specs.Tree.{Module, Source}
 use Rattle.elab_model.specs.Hierarchy.{Step, Instance, instances, top_instance, levels_below_top}
-use Rattle.elab_model.specs.HierarchyFaults.{count_limit}
 use Rattle.elab_model.specs.Names.{Variable, variables}
 use Rattle.elab_model.specs.Nets.{nets, nets_of}
 use Rattle.elab_laws.specs.Handing.{all_bits}
 use Rattle.elab_laws.proofs.Lists.{In, all-in}
 use Rattle.elab_laws.proofs.Handed.{Rises, instances-rise}
-use Rattle.elab_owned.proofs.Parents.{HasParent, has-parent}
-use Rattle.elab_rows.specs.Outside.{outer_number}
-use Rattle.elab_rows.specs.Rows.{part_of, HasRow, HaveRows}
+use Rattle.elab_owned.proofs.Parents.{has-parent}
+use Rattle.elab_rows.specs.Rows.{part_of, HaveRows}
 use Rattle.elab_rows.specs.Turns.{AreUpTo, HasOuterRow, IsDue, IsGiven}
 use Rattle.elab_hierarchy.specs.declared.instances.Placed.{Placed}
 use Rattle.elab_modules.specs.declared.library.Library.{Library}

@@ -1,7 +1,7 @@
 -- What is added outside of a child.
-use Rattle.std.specs.Prelude.{◌≡◌, ℕ, suc, ◌+◌, ◌<◌, ◌≤◌, ◌==◌, List, [], ◌∷◌, ◌++◌, Bool, Option, Some, None, flat_map, length, map, refl, slice_get}
-use Rattle.std.specs.List.{AllByRecursion, range_with_len}
-use Rattle.std.proofs.Common.{sym, ◌∙◌, ap, arith, inl, inr, subst, append-nil, length-append, set}
+use Rattle.std.specs.Prelude.{◌≡◌, ℕ, ◌+◌, ◌<◌, ◌≤◌, ◌==◌, List, [], ◌∷◌, ◌++◌, Bool, Option, Some, None, flat_map, length, map, refl, slice_get}
+use Rattle.std.specs.List.{range_with_len}
+use Rattle.std.proofs.Common.{sym, ◌∙◌, ap, arith, inl, subst, append-nil, length-append, set}
 use Rattle.std.proofs.lemmas.List.{length-map, length-set}
 use Rattle.std.proofs.lemmas.Option.{slice_get_within}
 use Rattle.sg_delay.specs.declared.corners.Corner.{Corner}
@@ -12,10 +12,10 @@ use Rattle.vl_tree.specs.Seen.{view_instance}
 use Rattle.vl_tree.specs.declared.items.Instance as code_instance
 use Rattle.elab_model.specs.declared.kinds.ElabKind.{ElabKind}
 use Rattle.elab_model.specs.Definitions.{definition_of}
-use Rattle.elab_model.specs.Hierarchy.{Step, Instance, child_of_member, children_from, children, instances, size, has_no_child}
+use Rattle.elab_model.specs.Hierarchy.{Instance, child_of_member, children_from, children, instances, has_no_child}
 use Rattle.elab_model.specs.HierarchyFaults.{count_limit}
 use Rattle.elab_model.specs.Members.{Member, instance}
-use Rattle.elab_model.specs.Names.{Variable, variables}
+use Rattle.elab_model.specs.Names.{Variable}
 use Rattle.elab_model.specs.Nets.{nets, nets_of, variable_nets, member_nets}
 use Rattle.elab_laws.specs.Handing.{all_bits, number_at}
 use Rattle.elab_laws.proofs.Lists.{In, in-right}
@@ -32,7 +32,7 @@ use Rattle.elab_ports.specs.Bound.{AreConnected}
 use Rattle.elab_rows.specs.Outside.{outer_number, outside_nets, IsChild}
 use Rattle.elab_rows.specs.Parts.{IsRow}
 use Rattle.elab_rows.specs.Rows.{part_of}
-use Rattle.elab_rows.specs.Turns.{IsGiven, HasTurn, IsNext, HasOuterRow, HasInnerRow, AddsOutside, IsSeenTo, children_among, members_of, bits_of}
+use Rattle.elab_rows.specs.Turns.{HasTurn, IsNext, AddsOutside, IsSeenTo, children_among, members_of, bits_of}
 use Rattle.elab_rows.specs.Undriven.{undriven}
 use Rattle.elab_rows.specs.declared.rows.Rows.{Rows}
 use Rattle.elab_rows.proofs.Children.{the_child, child-next, no-child, child-nets, child-in, member-faultless, child-connected}
@@ -50,12 +50,15 @@ row-added source top old row new places later c n r lt l =
       more = row;
       grown = n;
       same_count = ap length l ∙ length-set places c.step.number (length old);
-      rows = (record {
-        start = length old;
-        there = ap (λ xs. slice_get xs c.step.number) l ∙ get-written places c.step.number (length old) lt;
-        within = omega arith;
-        outer = ap (λ xs. part_of xs (length old) (length (bits_of c))) n ∙ part-behind old row (length (bits_of c)) count ∙ r;
-      }, tt);
+      rows = (
+        record {
+          start = length old;
+          there = ap (λ xs. slice_get xs c.step.number) l ∙ get-written places c.step.number (length old) lt;
+          within = omega arith;
+          outer = ap (λ xs. part_of xs (length old) (length (bits_of c))) n ∙ part-behind old row (length (bits_of c)) count ∙ r;
+        },
+        tt,
+      );
       others = λ j other. ap (λ xs. slice_get xs j) l ∙ get-other places c.step.number j (length old) (λ e. other (inl e));
     }
 
@@ -121,7 +124,6 @@ member-refused source top corner library placed rows table number turn x next co
 module _ (source : Source) (top : Module) (corner : Corner) (library : Library) (placed : List Placed) (rows : Rows) (table : List Variable) (number : ℕ) (turn : HasTurn source top corner library placed rows table number)
     (k : ℕ) (n : Named) (d : Option Delay) (i : code_instance.Instance) (m : Module) (next count : ℕ) (at : IsNext source turn.before turn.s (k, instance n d (view_instance i)) next count)
     (defined : definition_of source n.text ≡ Some (a_module m)) where
-
   abbrev pub the : Instance
   the = the_child turn.s at.levels next k m (view_instance i)
 

@@ -1,23 +1,21 @@
 -- The child that a member is.
-use Rattle.std.specs.Prelude.{◌≡◌, ℕ, ◌+◌, ◌<◌, ◌≤◌, ◌==◌, List, [], ◌∷◌, ◌++◌, Bool, Option, Some, None, flat_map, length, map, refl, ℤ}
-use Rattle.std.specs.List.{AllByRecursion, cons_option, enumerate_from, range_with_len}
+use Rattle.std.specs.Prelude.{◌≡◌, ℕ, ◌+◌, List, [], ◌∷◌, ◌++◌, Option, Some, None, flat_map, refl, ℤ}
+use Rattle.std.specs.List.{cons_option}
 use Rattle.std.specs.Option.{option_and_then}
-use Rattle.std.proofs.Common.{sym, ◌∙◌, ap, arith, inl, inr, subst, append-nil, length-append}
+use Rattle.std.proofs.Common.{sym, ◌∙◌, ap, inl, inr, subst, append-nil}
 use Rattle.sg_delay.specs.declared.corners.Corner.{Corner}
-use Rattle.vl_tree.specs.Tree.{Named, Delay, Instance as instance_text, Module, Part, Source, a_module}
-use Rattle.vl_tree.specs.Seen.{view_instance}
-use Rattle.vl_tree.specs.declared.items.Instance as code_instance
+use Rattle.vl_tree.specs.Tree.{Named, Delay, Instance as instance_text, Module, Source, a_module}
 use Rattle.elab_model.specs.declared.kinds.ElabKind.TheVariants.{BadTerminal}
 use Rattle.elab_model.specs.Definitions.{definition_of, as_module}
 use Rattle.elab_model.specs.Delays.{tick_of}
 use Rattle.elab_model.specs.Elements.{child_at}
 use Rattle.elab_model.specs.Faults.{fault_if}
-use Rattle.elab_model.specs.Hierarchy.{Step, Instance, Child, child_of, child_of_member, children_from, children, instances, size, text_of, top_instance, levels_below_top}
+use Rattle.elab_model.specs.Hierarchy.{Instance, child_of, child_of_member, children_from, children, instances, size, text_of, top_instance, levels_below_top}
 use Rattle.elab_model.specs.Members.{Member, instance, members, connection_values}
 use Rattle.elab_model.specs.ModuleFaults.{connection_faults, delay_on_module, instance_faults, member_faults, all_member_faults, module_faults}
 use Rattle.elab_model.specs.NameFaults.{declaration_faults}
-use Rattle.elab_model.specs.Names.{Variable, variables}
-use Rattle.elab_model.specs.Nets.{OwnNet, nets, unbound_nets, constant_nets, instance_nets, member_nets}
+use Rattle.elab_model.specs.Names.{variables}
+use Rattle.elab_model.specs.Nets.{unbound_nets, constant_nets, instance_nets, member_nets}
 use Rattle.elab_model.specs.TerminalFaults.{expression_faults, is_missing}
 use Rattle.elab_laws.specs.Laws.{AreSound}
 use Rattle.elab_laws.proofs.Lists.{In, Pairwise, all-in, in-right}
@@ -28,7 +26,6 @@ use Rattle.elab_owned.proofs.Connected.{members-sound}
 use Rattle.elab_ports.specs.Bound.{AreConnected}
 use Rattle.elab_rows.specs.Outside.{outside_nets}
 use Rattle.elab_rows.specs.Turns.{children_among, members_of}
-use Rattle.elab_rows.proofs.Placings.{in-split}
 
 -- the child of this text, as the next
 abbrev pub the_child : Instance → ℕ → ℕ → ℕ → Module → instance_text → Instance

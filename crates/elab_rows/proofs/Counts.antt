@@ -1,9 +1,8 @@
 -- Refusals for too many nets, and lists that are made piece by piece.
-use Rattle.std.specs.Prelude.{◌≡◌, ℕ, ◌+◌, List, [], ◌∷◌, ◌++◌, Result, Ok, Err, IfErr, OnOk, length, refl}
+use Rattle.std.specs.Prelude.{◌≡◌, ◌+◌, List, [], ◌++◌, Result, Ok, Err, IfErr, OnOk, length}
 use Rattle.std.proofs.Common.{sym, ◌∙◌, ap, subst, append_assoc, append-nil, length-append}
 use Rattle.sg_text.specs.declared.refusals.Refused.{Refused}
 use Rattle.elab_model.specs.declared.kinds.ElabKind.{ElabKind}
-use Rattle.elab_nets.specs.Refusals.{RefusesCount}
 
 -- a refusal that is handed on
 pub handed-on : {A : Type 0} (result : Result A (Refused ElabKind)) (P : Refused ElabKind → Type 0) (e : Refused ElabKind) → ((x : Refused ElabKind) × (result ≡ Err x) × (x ≡ e)) → P e → IfErr result P

@@ -1,11 +1,10 @@
 -- What the name of a member defines.
-use Rattle.std.specs.Prelude.{◌≡◌, ℕ, zero, suc, ◌+◌, ◌<◌, List, [], ◌∷◌, ◌++◌, Bool, true, false, Option, Some, None, find, length, map, slice_get, option_map, bytes_eq, refl, if◌then◌else◌}
-use Rattle.std.specs.List.{AllByRecursion, position_from}
-use Rattle.std.proofs.Common.{sym, ◌∙◌, ap, arith, inl, inr, subst, append-nil}
+use Rattle.std.specs.Prelude.{◌≡◌, ℕ, zero, suc, ◌+◌, ◌<◌, List, [], ◌∷◌, ◌++◌, Bool, true, false, Option, Some, None, find, length, slice_get, option_map, bytes_eq, refl, if◌then◌else◌}
+use Rattle.std.specs.List.{position_from}
+use Rattle.std.proofs.Common.{sym, ◌∙◌, ap, arith, inl, subst}
 use Rattle.sg_delay.specs.declared.corners.Corner.{Corner}
 use Rattle.vl_tree.specs.Tree.{Named, Delay, Instance as instance_text, Module, Primitive, Part, Source, a_module, a_primitive}
 use Rattle.elab_hierarchy.specs.Tops.{StandsAt}
-use Rattle.elab_hierarchy.specs.declared.instances.Placed.{Placed}
 use Rattle.elab_model.specs.Definitions.{definition_of, name_of}
 use Rattle.elab_model.specs.Hierarchy.{Instance, instances}
 use Rattle.elab_model.specs.Members.{Member, instance, members}

@@ -1,5 +1,5 @@
 -- The bits of an instance are given what lies outside them, but where a Leg stands.
-use Rattle.std.specs.Prelude.{◌≡◌, ℕ, List, [], ◌∷◌, Bool, true, false, ◌&&◌, not, Option, Some, None, map, flat_map, refl, if◌then◌else◌, slice_get}
+use Rattle.std.specs.Prelude.{◌≡◌, ℕ, List, [], ◌∷◌, Bool, true, false, ◌&&◌, not, Option, Some, None, map, refl, if◌then◌else◌, slice_get}
 use Rattle.std.specs.List.{AllByRecursion}
 use Rattle.std.specs.Option.{option_and_then}
 use Rattle.std.proofs.Common.{sym, ◌∙◌, ap, subst}
@@ -20,7 +20,7 @@ use Rattle.elab_laws.proofs.LegSources.{value-there}
 use Rattle.elab_laws.proofs.NoFaults.{all-from}
 use Rattle.elab_owned.proofs.Connected.{is-connected}
 use Rattle.elab_owned.proofs.Legs.{variable-is}
-use Rattle.elab_owned.proofs.Parents.{HasParent, parent-of}
+use Rattle.elab_owned.proofs.Parents.{parent-of}
 use Rattle.elab_owned.proofs.Ports.{FitsPort}
 use Rattle.elab_rows.specs.Outside.{outer_number}
 use Rattle.elab_rows.specs.Own.{given_in, given_row}

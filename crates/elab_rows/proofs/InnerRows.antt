@@ -1,10 +1,8 @@
 -- The turn of an instance: its own nets and its inner row.
-use Rattle.std.specs.Prelude.{◌≡◌, ℕ, zero, suc, ◌+◌, ◌<◌, ◌≤◌, List, [], ◌∷◌, ◌++◌, Bool, Option, Some, None, flat_map, length, map, slice_get, take, refl}
+use Rattle.std.specs.Prelude.{◌≡◌, ℕ, suc, ◌+◌, ◌<◌, ◌≤◌, List, [], ◌∷◌, ◌++◌, Bool, Option, Some, None, flat_map, length, map, slice_get, take, refl}
 use Rattle.std.specs.List.{AllByRecursion}
-use Rattle.std.proofs.Common.{sym, ◌∙◌, ap, arith, subst, append-nil, length-append}
+use Rattle.std.proofs.Common.{sym, ◌∙◌, ap, arith, length-append}
 use Rattle.std.proofs.lemmas.Grind.{flat_map-append}
-use Rattle.std.proofs.lemmas.List.{length-map}
-use Rattle.sg_circuit.specs.declared.nets.Net.{Net}
 use Rattle.sg_delay.specs.declared.corners.Corner.{Corner}
 use Rattle.sg_text.specs.declared.refusals.Refused.{Refused}
 use Rattle.vl_tree.specs.Tree.{Module, Source}
@@ -51,7 +49,6 @@ front-next (x ∷ xs) after s =
 module _ (source : Source) (top : Module) (corner : Corner) (sound : AreSound source top corner) (before after : List Instance) (s : Instance) (here : instances source top ≡ before ++ s ∷ after)
     (table : List Variable) (leaf : Bool) (outside : List (Option ℕ)) (count : ℕ) (table_is : table ≡ variables s.step.definition) (leaf_is : is_leaf source s ≡ leaf)
     (outside_is : outside ≡ map (outer_number (nets source top) source s.step s.above) (bits_of s)) (count_is : count ≡ length (flat_map (nets_of source) before)) where
-
   -- the bits are given what is handed down
   given-is : given_row leaf (all_bits table) outside ≡ map (given_at (nets source top) source s) (bits_of s)
   given-is =

@@ -1,11 +1,11 @@
 -- The instance of a number, whose turn it is.
-use Rattle.std.specs.Prelude.{◌≡◌, ℕ, zero, suc, ◌+◌, ◌<◌, ◌≤◌, ◌==◌, List, [], ◌∷◌, ◌++◌, Bool, true, false, ◌&&◌, not, Option, Some, None, is_some, flat_map, length, map, slice_get, take, refl}
+use Rattle.std.specs.Prelude.{◌≡◌, ℕ, zero, suc, ◌+◌, ◌<◌, ◌==◌, List, [], ◌∷◌, ◌++◌, Bool, ◌&&◌, not, Some, None, is_some, flat_map, length, map, slice_get, take, refl}
 use Rattle.std.proofs.Common.{sym, ◌∙◌, ap, arith, subst, length-append}
 use Rattle.std.proofs.lemmas.List.{length-map}
 use Rattle.std.proofs.lemmas.Option.{slice_get_within}
 use Rattle.sg_delay.specs.declared.corners.Corner.{Corner}
 use Rattle.vl_tree.specs.Tree.{Module, Source}
-use Rattle.elab_model.specs.Hierarchy.{Step, Instance, instances, is_empty, is_leaf, has_no_child}
+use Rattle.elab_model.specs.Hierarchy.{Step, Instance, instances, is_empty, is_leaf}
 use Rattle.elab_model.specs.Members.{members}
 use Rattle.elab_model.specs.Nets.{nets, nets_of, variable_nets}
 use Rattle.elab_model.specs.Scopes.{parent_of}
@@ -59,7 +59,6 @@ is-of source top corner library list given n p e =
     record { split = r; placed = subst (λ x. IsPlaced source x r.element) h q.2 }
 
 module _ (source : Source) (top : Module) (corner : Corner) (library : Library) (list : List Placed) (given : IsGiven source top corner library list) (n : ℕ) (p : Placed) (of : IsOf source top n p) where
-
   abbrev s : Instance
   s = of.split.element
 

@@ -2,12 +2,12 @@
 use Rattle.std.specs.Prelude.{◌≡◌, ℕ, List, Option, Some, None, option_map, slice_get, refl}
 use Rattle.std.specs.Borrow.{Bor}
 use Rattle.std.proofs.Common.{sym, ◌∙◌, ap, subst}
-use Rattle.vl_tree.specs.Tree.{Module, Source, Part, a_module, a_primitive, Primitive}
+use Rattle.vl_tree.specs.Tree.{Module, Source, a_module, a_primitive, Primitive}
 use Rattle.elab_hierarchy.specs.Tops.{StandsAt}
 use Rattle.elab_modules.specs.declared.library.Ready as code_ready
 use Rattle.elab_modules.specs.declared.library.Ready.TheVariants as ready
 use Rattle.elab_modules.specs.declared.prepared.Prepared.{Prepared}
-use Rattle.elab_modules.specs.Ready.{IsReady, AreReady, HasReady, IsPrepared}
+use Rattle.elab_modules.specs.Ready.{AreReady, HasReady, IsPrepared}
 use Rattle.elab_rows.specs.Parts.{module_in, module_at}
 
 -- two modules at one place are one

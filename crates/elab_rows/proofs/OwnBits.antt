@@ -6,7 +6,7 @@ use Rattle.sg_circuit.specs.declared.nets.Net.{Net}
 use Rattle.sg_circuit.specs.declared.scopes.Port.TheVariants as port
 use Rattle.elab_model.specs.Names.{Variable}
 use Rattle.elab_laws.specs.Handing.{numbered, new_count}
-use Rattle.elab_rows.specs.Own.{given_in, given_row, net_at, new_nets}
+use Rattle.elab_rows.specs.Own.{given_in, given_row, new_nets}
 use Rattle.elab_rows.proofs.Counts.{piece-added, nothing-left, count-added}
 
 -- what stands past the end of a row
@@ -79,9 +79,10 @@ pub all-added : (scope : ℕ) (leaf : Bool) (bs : List (Variable × ℕ)) (os : 
     → (inner ≡ first ++ numbered (length before) (given_row leaf bs os)) × (nets ≡ before ++ new_nets scope bs (given_row leaf bs os))
 all-added scope leaf bs os first before i inner nets le e h =
     let none = given-none leaf bs os i le e in
-    let past : length bs ≤ i = omega arith in
-    (nothing-left inner (numbered (length nets) (given_from leaf bs os i)) _ (ap (numbered (length nets)) none) h.numbers,
-     nothing-left nets (new_nets scope (drop i bs) (given_from leaf bs os i)) _ (ap (λ xs. new_nets scope xs (given_from leaf bs os i)) (drop_all i bs past)) h.made)
+    let past : length bs ≤ i = omega arith in (
+      nothing-left inner (numbered (length nets) (given_from leaf bs os i)) _ (ap (numbered (length nets)) none) h.numbers,
+      nothing-left nets (new_nets scope (drop i bs) (given_from leaf bs os i)) _ (ap (λ xs. new_nets scope xs (given_from leaf bs os i)) (drop_all i bs past)) h.made,
+    )
 
 -- and so many there would be where one more is too many
 pub would-be : (scope : ℕ) (leaf : Bool) (bs : List (Variable × ℕ)) (os : List (Option ℕ)) (first : List ℕ) (before : List Net) (i : ℕ) (inner : List ℕ) (nets : List Net) (d : Variable × ℕ) (o g : Option ℕ)

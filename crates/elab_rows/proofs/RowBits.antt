@@ -1,5 +1,5 @@
 -- Each bit of a row is one of a variable.
-use Rattle.std.specs.Prelude.{◌≡◌, ℕ, ◌<◌, List, false, None, [], length, slice_index_or}
+use Rattle.std.specs.Prelude.{ℕ, ◌<◌, List, false, None, [], length}
 use Rattle.std.specs.List.{AllByRecursion}
 use Rattle.std.proofs.lemmas.Option.{slice_get-get_or}
 use Rattle.sg_circuit.specs.declared.scopes.Port.TheVariants as port

@@ -1,6 +1,6 @@
 -- Rows as parts of lists that grow, and lists of places.
 use Rattle.std.specs.Prelude.{◌≡◌, ℕ, zero, suc, ◌+◌, ◌<◌, ◌≤◌, List, [], ◌∷◌, ◌++◌, Some, length, take, drop, slice_get, refl}
-use Rattle.std.proofs.Common.{sym, ◌∙◌, ap, arith, length-append, set}
+use Rattle.std.proofs.Common.{◌∙◌, ap, arith, set}
 use Rattle.std.proofs.lemmas.List.{drop-append-le, take-append-le, length-drop, take_all}
 use Rattle.elab_rows.specs.Rows.{part_of}
 

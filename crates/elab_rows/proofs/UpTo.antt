@@ -1,6 +1,6 @@
 -- One instance more has had its turn.
-use Rattle.std.specs.Prelude.{◌≡◌, ◌⊎◌, ℕ, zero, suc, ◌+◌, ◌<◌, ◌≤◌, List, [], ◌∷◌, ◌++◌, false, Option, Some, flat_map, length, map, slice_get, take, drop, refl}
-use Rattle.std.specs.List.{AllByRecursion, enumerate_from, range_with_len}
+use Rattle.std.specs.Prelude.{◌≡◌, ◌⊎◌, ℕ, zero, suc, ◌+◌, ◌<◌, List, [], ◌∷◌, ◌++◌, Option, Some, flat_map, length, map, slice_get, take, drop, refl}
+use Rattle.std.specs.List.{enumerate_from, range_with_len}
 use Rattle.std.proofs.Common.{sym, ◌∙◌, ap, arith, inl, inr, subst, append_assoc, append-nil, length-append}
 use Rattle.std.proofs.lemmas.Grind.{flat_map-append}
 use Rattle.std.proofs.lemmas.List.{length-map, map-append, take_all, drop_all}
@@ -8,15 +8,15 @@ use Rattle.std.proofs.lemmas.List.FromFn.{map-range_with_len_more}
 use Rattle.sg_circuit.specs.declared.nets.Net.{Net}
 use Rattle.vl_tree.specs.Tree.{Module, Source}
 use Rattle.elab_model.specs.Hierarchy.{Step, Instance, children, children_from, instances, is_empty}
-use Rattle.elab_model.specs.Members.{Member, members}
+use Rattle.elab_model.specs.Members.{members}
 use Rattle.elab_model.specs.Nets.{nets, nets_of, variable_nets, member_nets}
 use Rattle.elab_laws.specs.Handing.{number_at}
 use Rattle.elab_laws.proofs.Lists.{In, all-in}
 use Rattle.elab_laws.proofs.Numbers.{number}
 use Rattle.elab_laws.proofs.PartsApart.{children-above}
-use Rattle.elab_owned.proofs.Parents.{HasParent, parent-of}
+use Rattle.elab_owned.proofs.Parents.{parent-of}
 use Rattle.elab_numbers.specs.Laws.{nets_before}
-use Rattle.elab_rows.specs.Rows.{first_of_member, part_of}
+use Rattle.elab_rows.specs.Rows.{first_of_member}
 use Rattle.elab_rows.specs.Turns.{AreUpTo, AreThrough, AddsOutside, HasFirsts, HasInnerRow, HasOuterRow, IsBegun, IsDue, bits_of, children_among, members_of}
 use Rattle.elab_rows.specs.Undriven.{undriven}
 use Rattle.elab_rows.specs.declared.rows.Rows.{Rows}
@@ -97,7 +97,6 @@ numbered-count a [] = refl
 numbered-count a (x ∷ xs) = ap suc (numbered-count (a + 1) xs)
 
 module _ (source : Source) (top : Module) (before after : List Instance) (s : Instance) (here : instances source top ≡ before ++ s ∷ after) where
-
   abbrev end : ℕ
   end = length (members s.step.definition)
 

@@ -1,5 +1,5 @@
 -- The turns of instances: what has been made before an instance's turn, and what its members leave.
-use Rattle.std.specs.Prelude.{◌≡◌, ℕ, suc, ◌+◌, ◌<◌, ◌≤◌, List, [], ◌∷◌, ◌++◌, Bool, Option, Some, filter_map, flat_map, length, map, slice_get, take, drop}
+use Rattle.std.specs.Prelude.{◌≡◌, ℕ, ◌+◌, ◌<◌, ◌≤◌, List, [], ◌∷◌, ◌++◌, Bool, Option, Some, filter_map, flat_map, length, map, slice_get, take, drop}
 use Rattle.std.specs.List.{AllByRecursion, enumerate_from, range_with_len}
 use Rattle.sg_delay.specs.declared.corners.Corner.{Corner}
 use Rattle.vl_tree.specs.Tree.{Module, Source}

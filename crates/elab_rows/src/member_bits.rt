@@ -38,11 +38,7 @@ pub fn add_terminal_bits(
     Ok(())
 }
 
-fn add_value(
-    table: &Table,
-    value: &Option<Expression>,
-    bits: &mut Vec<Bit>,
-) -> Result<(), NoMemory>
+fn add_value(table: &Table, value: &Option<Expression>, bits: &mut Vec<Bit>) -> Result<(), NoMemory>
     ensures bits { OnOk result (map (view_bit table.now) bits.new.items ≡ map (view_bit table.now) bits.old.items ++ value_bits table.now (option_map view_expression value.now)) }
     ensures row { All (IsInRow table.now) bits.old.items → All (IsInRow table.now) bits.new.items }
 {

@@ -208,7 +208,16 @@ pub fn add_member(
             instance,
             ..
         } => add_named(
-            alloc, definitions, library, instances, table, number, definition, instance, next, bits,
+            alloc,
+            definitions,
+            library,
+            instances,
+            table,
+            number,
+            definition,
+            instance,
+            next,
+            bits,
             rows,
         ),
     }

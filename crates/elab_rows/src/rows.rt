@@ -71,11 +71,7 @@ pub fn rows_of(
 }
 
 // No rows but the outer one of the top, outside of which is nothing.
-fn first_rows(
-    alloc: Global,
-    library: &Library,
-    instances: &[Placed],
-) -> Result<Rows, NoMemory>
+fn first_rows(alloc: Global, library: &Library, instances: &[Placed]) -> Result<Rows, NoMemory>
     ensures none { IfOk result (λ rows. length rows.nets.items ≤ 2 ^ 22) }
     ensures rows { IfOk result (λ rows. (source : Source) (top : Module) (corner : ghost_corner.Corner) → IsGiven source top corner library.now instances.now → AreUpTo source top rows 0) }
 {

@@ -1,5 +1,5 @@
 -- The lookups find what they should, and what is added lies outside of the child.
-use Rattle.std.proofs.Common.{◌≡◌, ◌<◌, ◌+◌, ◌∙◌, ap, sym, arith, length, subst, Some, None, refl, rules, set}
+use Rattle.std.proofs.Common.{◌≡◌, ap, arith, length, refl, set}
 use Rattle.std.proofs.lemmas.Result.{err_from_is_err_and}
 use Rattle.std.proofs.lemmas.Option.{slice_get_read}
 use Rattle.elab_model.specs.Nets.{nets}
@@ -36,10 +36,10 @@ returns-in_err-add_outside-clause-refused c =
     let prepared = is-prepared source lib.parts.items c.args.place m c.in-Some.child.now turn.given.ready.ready stands (lent c.module_at.result c.in-Some.child _ c.in-Some.is c.module_at.ensures) in
     let p = c.in-Some-get.placed.now in
     let there = placed-is source top corner lib list rows vs c.args.number turn k n d text m c.args.next count at defined p
-        (slice_get_read list (length list) c.args.next p refl c.in-Some-get.ensures.lookup.3.0 c.in-Some-get.ensures.lookup.1) in
+    (slice_get_read list (length list) c.args.next p refl c.in-Some-get.ensures.lookup.3.0 c.in-Some-get.ensures.lookup.1) in
     let row = row-is source top corner lib list rows vs c.args.number turn k n d text m c.args.next count at defined _ c.in-Some-row_of.row.now
-        (row-found source top corner lib list rows vs c.args.number turn k n d text m c.args.next count at defined c.deref.result.now c.deref-2.result.now c.bits.result _ c.deref.ensures.value c.deref-2.ensures.value c.bits.ensures c.row_of.ensures.row)
-        (lent c.row_of.result c.in-Some-row_of.row _ c.in-Some-row_of.is refl) in
+    (row-found source top corner lib list rows vs c.args.number turn k n d text m c.args.next count at defined c.deref.result.now c.deref-2.result.now c.bits.result _ c.deref.ensures.value c.deref-2.ensures.value c.bits.ensures c.row_of.ensures.row)
+    (lent c.row_of.result c.in-Some-row_of.row _ c.in-Some-row_of.is refl) in
     let lone = leaf-is source top corner lib list rows vs c.args.number turn k n d text m c.args.next count at defined p _ there refl in
     child-refused source top corner lib list rows vs c.args.number turn k n d text m c.args.next count at defined c.in_err-add_outside.field-0.0
     (c.in_err-add_outside.ensures.refused (nets source top) source turn.s (the source top corner lib list rows vs c.args.number turn k n d text m c.args.next count at defined)
@@ -56,10 +56,10 @@ returns-clause-seen c = λ source top m corner turn k n d at defined stands read
     let prepared = is-prepared source lib.parts.items c.args.place m c.in-Some.child.now turn.given.ready.ready stands (lent c.module_at.result c.in-Some.child _ c.in-Some.is c.module_at.ensures) in
     let p = c.in-Some-get.placed.now in
     let there = placed-is source top corner lib list rows vs c.args.number turn k n d text m c.args.next count at defined p
-        (slice_get_read list (length list) c.args.next p refl c.in-Some-get.ensures.lookup.3.0 c.in-Some-get.ensures.lookup.1) in
+    (slice_get_read list (length list) c.args.next p refl c.in-Some-get.ensures.lookup.3.0 c.in-Some-get.ensures.lookup.1) in
     let row = row-is source top corner lib list rows vs c.args.number turn k n d text m c.args.next count at defined _ c.in-Some-row_of.row.now
-        (row-found source top corner lib list rows vs c.args.number turn k n d text m c.args.next count at defined c.deref.result.now c.deref-2.result.now c.bits.result _ c.deref.ensures.value c.deref-2.ensures.value c.bits.ensures c.row_of.ensures.row)
-        (lent c.row_of.result c.in-Some-row_of.row _ c.in-Some-row_of.is refl) in
+    (row-found source top corner lib list rows vs c.args.number turn k n d text m c.args.next count at defined c.deref.result.now c.deref-2.result.now c.bits.result _ c.deref.ensures.value c.deref-2.ensures.value c.bits.ensures c.row_of.ensures.row)
+    (lent c.row_of.result c.in-Some-row_of.row _ c.in-Some-row_of.is refl) in
     let lone = leaf-is source top corner lib list rows vs c.args.number turn k n d text m c.args.next count at defined p _ there refl in
     let child = is-child source top corner lib list rows vs c.args.number turn k n d text m c.args.next count at defined c.in-Some.child.now c.in-Some-row_of.row.now _ prepared row lone in
     let new = the source top corner lib list rows vs c.args.number turn k n d text m c.args.next count at defined in

@@ -1,14 +1,13 @@
 -- Gates and instances have nets that no variable names; others have none.
-use Rattle.std.proofs.Common.{◌≡◌, ◌∙◌, ◌++◌, ◌+◌, ap, sym, map, length, subst, refl, append-nil, option_map}
+use Rattle.std.proofs.Common.{◌∙◌, ◌++◌, ◌+◌, ap, sym, map, length, subst, refl, append-nil, option_map}
 use Rattle.std.proofs.lemmas.Result.{err_from_is_err_and, IfOk-weaker, IfErr-weaker}
 use Rattle.vl_tree.specs.Seen.{view_delay, view_gate_instance}
 use Rattle.elab_model.specs.Members.{gate}
-use Rattle.elab_model.specs.Nets.{member_nets, nets}
+use Rattle.elab_model.specs.Nets.{member_nets}
 use Rattle.elab_nets.specs.Refusals.{RefusesCount}
 use Rattle.elab_tables.specs.Seen.{view_member}
 use Rattle.elab_rows.specs.Turns.{IsNext, IsSeenTo}
 use Rattle.elab_rows.specs.Undriven.{undriven}
-use Rattle.elab_rows.specs.declared.rows.Rows.{Rows}
 use Rattle.elab_rows.proofs.Counts.{handed-on}
 use Rattle.elab_rows.proofs.ChildRows.{lone-seen, member-refused}
 use Rattle.elab_rows.proofs.PlainMembers.{is-plain}

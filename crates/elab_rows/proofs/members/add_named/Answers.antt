@@ -1,11 +1,11 @@
 -- What the name defines is a module, whose instance is a child, or a primitive, or nothing.
-use Rattle.std.proofs.Common.{◌≡◌, ◌∙◌, ◌++◌, ◌+◌, ap, sym, map, length, subst, refl, append-nil, Some, None}
+use Rattle.std.proofs.Common.{◌∙◌, ◌++◌, ◌+◌, ap, sym, map, length, subst, refl, append-nil}
 use Rattle.std.specs.Option.{option_and_then}
 use Rattle.std.proofs.lemmas.Result.{err_from_is_err_and, IfOk-weaker, IfErr-weaker}
 use Rattle.vl_tree.specs.Seen.{view_instance, view_name}
-use Rattle.elab_model.specs.Definitions.{as_module, name_of}
+use Rattle.elab_model.specs.Definitions.{as_module}
 use Rattle.elab_model.specs.Hierarchy.{child_of}
-use Rattle.elab_model.specs.Nets.{instance_nets, nets}
+use Rattle.elab_model.specs.Nets.{instance_nets}
 use Rattle.elab_nets.specs.Refusals.{RefusesCount}
 use Rattle.elab_rows.specs.Undriven.{undriven}
 use Rattle.elab_rows.proofs.Counts.{handed-on}

@@ -1,5 +1,5 @@
 -- One bit more is there, and at the end all are.
-use Rattle.std.proofs.Common.{◌<◌, ◌+◌, arith, rules, length, subst, None, [], ◌∷◌}
+use Rattle.std.proofs.Common.{◌<◌, ◌+◌, arith, rules, length, subst, None}
 use Rattle.std.proofs.lemmas.Result.{err_from_is_err_and}
 use Rattle.elab_laws.specs.Handing.{all_bits, new_count}
 use Rattle.elab_nets.specs.Refusals.{RefusesCount}

@@ -1,5 +1,5 @@
 -- Each instance has its turn.
-use Rattle.std.proofs.Common.{◌≡◌, ◌∙◌, arith, rules, length}
+use Rattle.std.proofs.Common.{◌≡◌, ◌∙◌, arith, length}
 use Rattle.std.proofs.lemmas.Result.{err_from_is_err_and}
 use Rattle.elab_model.specs.Hierarchy.{instances}
 use Rattle.elab_rows.specs.Turns.{IsGiven}

@@ -1,5 +1,5 @@
 -- The top is the first instance.
-use Rattle.std.proofs.Common.{◌≡◌, ◌∙◌, ap, sym, arith, length, refl, Some, None}
+use Rattle.std.proofs.Common.{◌∙◌, ap, sym, length}
 use Rattle.elab_laws.specs.Handing.{all_bits}
 use Rattle.elab_rows.proofs.Modules.{lent, none-lent}
 use Rattle.elab_rows.proofs.AllRows.{first-of, is-top}

@@ -1,12 +1,12 @@
 -- One net more is there, and at the end all are.
-use Rattle.std.proofs.Common.{◌<◌, ◌+◌, arith, rules, length, subst, drop, flat_map}
+use Rattle.std.proofs.Common.{◌+◌, length, subst, drop, flat_map}
 use Rattle.std.proofs.lemmas.Result.{err_from_is_err_and}
 use Rattle.elab_bits.specs.Seen.{bit_at}
 use Rattle.elab_nets.specs.Refusals.{RefusesCount}
 use Rattle.elab_rows.specs.Own.{net_at}
 use Rattle.elab_rows.specs.Terminals.{at_constant}
 use Rattle.elab_rows.proofs.Counts.{handed-on}
-use Rattle.elab_rows.proofs.ConstantNets.{net-skipped, constant-added, all-there, would-be}
+use Rattle.elab_rows.proofs.ConstantNets.{would-be}
 use Rattle.elab_rows.proofs.terminals.add_constants.Goals as goal
 
 pub returns-in_err-push_bit_net-in-Constant-clause-refused : goal.returns-in_err-push_bit_net-in-Constant-clause-refused

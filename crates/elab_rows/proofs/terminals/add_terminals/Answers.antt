@@ -2,12 +2,9 @@
 use Rattle.std.proofs.Common.{◌++◌, ◌+◌, ◌∙◌, ap, sym, map, length, subst}
 use Rattle.std.proofs.lemmas.List.Elements.{recursion_from_All}
 use Rattle.std.proofs.lemmas.Result.{on_ok_weaker, IfErr-weaker}
-use Rattle.elab_bits.specs.Seen.{bit_at, view_bit, IsInRow}
-use Rattle.elab_model.specs.Hierarchy as def
-use Rattle.elab_model.specs.Names.{variables}
+use Rattle.elab_bits.specs.Seen.{view_bit, IsInRow}
 use Rattle.elab_model.specs.Nets.{terminal_nets}
 use Rattle.elab_nets.specs.Refusals.{RefusesCount}
-use Rattle.elab_rows.specs.Undriven.{undriven}
 use Rattle.elab_rows.proofs.ConstantNets.{none-added, no-output, output-in_row, are-meant, count-meant}
 use Rattle.elab_rows.proofs.terminals.add_terminals.Goals as goal
 

@@ -1,13 +1,12 @@
 -- One member after another is seen to.
-use Rattle.std.proofs.Common.{◌≡◌, ◌∙◌, ◌++◌, ◌∷◌, ◌+◌, ◌<◌, [], ap, arith, rules, length, map, refl, Some, subst, sym}
+use Rattle.std.proofs.Common.{◌≡◌, ◌∙◌, ◌++◌, ◌∷◌, [], ap, arith, length, refl, subst, sym}
 use Rattle.std.proofs.lemmas.List.{length-map}
-use Rattle.std.proofs.lemmas.Option.{slice_get_read}
 use Rattle.std.proofs.lemmas.Result.{err_from_is_err_and}
 use Rattle.elab_model.specs.Members.{members}
 use Rattle.elab_tables.specs.Seen.{view_member}
 use Rattle.elab_rows.specs.Turns.{AreThrough}
 use Rattle.elab_rows.proofs.Counts.{handed-on}
-use Rattle.elab_rows.proofs.MemberTurns.{none-through, one-through, is-next, turn-later, get-map, member-at}
+use Rattle.elab_rows.proofs.MemberTurns.{none-through, one-through, is-next, turn-later, member-at}
 use Rattle.elab_rows.proofs.turns.add_members.Goals as goal
 
 pub loop-member-init : goal.loop-member-init
