@@ -7,7 +7,7 @@ mod nets;
 mod ports;
 mod repeated;
 
-pub use checks::check_names;
+pub use checks::{check_among, check_names, check_once};
 pub use instances::instance_names;
 pub use nets::{NetDeclaration, net_declarations};
 pub use ports::{port_declarations, port_list};
