@@ -1,5 +1,5 @@
 -- One of several faults is refused.
-use Rattle.std.specs.Prelude.{◌≡◌, ◌+◌, List, [], ◌∷◌, ◌++◌, Bool, true, false, not, Some, None, Result, Err, IfErr, map, flat_map, find, length, refl, if◌then◌else◌}
+use Rattle.std.specs.Prelude.{◌≡◌, ◌+◌, List, [], ◌∷◌, ◌++◌, Bool, true, false, Some, None, Result, Err, IfErr, map, flat_map, find, length, refl, if◌then◌else◌}
 use Rattle.std.specs.List.{IsAmong}
 use Rattle.std.proofs.Common.{sym, ◌∙◌, ap, arith, subst, length-append}
 use Rattle.std.proofs.lemmas.List.{get_or_append_left, get_or-append-add}
@@ -46,25 +46,25 @@ some-again ns p h = by (places_again [] ns) h
     by [] h = cc
     by (q ∷ ps) h = let e : p ≡ q = cc in (0, (omega arith, ap (fault DuplicateName) e))
 
--- ---- names that fail a test
+-- ---- names that a test refuses
 
-pub none-fails : (k : ElabKind) (test : Named → Bool) (ns : List Named) → find (λ n. not (test n)) ns ≡ None → flat_map (λ n. fault_if (not (test n)) k n.place) ns ≡ []
-none-fails k test [] h = refl
-none-fails k test (n ∷ ns) h = by (test n) h (none-fails k test ns)
+pub none-fails : (k : ElabKind) (fails : Named → Bool) (ns : List Named) → find fails ns ≡ None → flat_map (λ n. fault_if (fails n) k n.place) ns ≡ []
+none-fails k fails [] h = refl
+none-fails k fails (n ∷ ns) h = by (fails n) h (none-fails k fails ns)
   where
-    by : (b : Bool) → (if not b then Some n else find (λ n. not (test n)) ns) ≡ None → (find (λ n. not (test n)) ns ≡ None → flat_map (λ n. fault_if (not (test n)) k n.place) ns ≡ [])
-        → fault_if (not b) k n.place ++ flat_map (λ n. fault_if (not (test n)) k n.place) ns ≡ []
-    by true h rest = rest h
-    by false h rest = cc
+    by : (b : Bool) → (if b then Some n else find fails ns) ≡ None → (find fails ns ≡ None → flat_map (λ n. fault_if (fails n) k n.place) ns ≡ [])
+        → fault_if b k n.place ++ flat_map (λ n. fault_if (fails n) k n.place) ns ≡ []
+    by false h rest = rest h
+    by true h rest = cc
 
-pub some-fails : (k : ElabKind) (test : Named → Bool) (ns : List Named) (m : Named) → find (λ n. not (test n)) ns ≡ Some m → IsAmong (flat_map (λ n. fault_if (not (test n)) k n.place) ns) (fault k m.place)
-some-fails k test [] m h = cc
-some-fails k test (n ∷ ns) m h = by (test n) h (some-fails k test ns m)
+pub some-fails : (k : ElabKind) (fails : Named → Bool) (ns : List Named) (m : Named) → find fails ns ≡ Some m → IsAmong (flat_map (λ n. fault_if (fails n) k n.place) ns) (fault k m.place)
+some-fails k fails [] m h = cc
+some-fails k fails (n ∷ ns) m h = by (fails n) h (some-fails k fails ns m)
   where
-    by : (b : Bool) → (if not b then Some n else find (λ n. not (test n)) ns) ≡ Some m → (find (λ n. not (test n)) ns ≡ Some m → IsAmong (flat_map (λ n. fault_if (not (test n)) k n.place) ns) (fault k m.place))
-        → IsAmong (fault_if (not b) k n.place ++ flat_map (λ n. fault_if (not (test n)) k n.place) ns) (fault k m.place)
-    by true h rest = rest h
-    by false h rest = let e : n ≡ m = cc in (0, (omega arith, ap (λ x. fault k x.place) (sym e)))
+    by : (b : Bool) → (if b then Some n else find fails ns) ≡ Some m → (find fails ns ≡ Some m → IsAmong (flat_map (λ n. fault_if (fails n) k n.place) ns) (fault k m.place))
+        → IsAmong (fault_if b k n.place ++ flat_map (λ n. fault_if (fails n) k n.place) ns) (fault k m.place)
+    by false h rest = rest h
+    by true h rest = let e : n ≡ m = cc in (0, (omega arith, ap (λ x. fault k x.place) (sym e)))
 
 -- ---- the exit of a check, of six
 
