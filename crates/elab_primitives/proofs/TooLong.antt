@@ -1,5 +1,5 @@
 -- Delays that no gate may have are refused.
-use Rattle.std.specs.Prelude.{◌≡◌, ℤ, List, Bool, true, ◌||◌, Option, Some, nat_lt, nat_le, map, length, refl}
+use Rattle.std.specs.Prelude.{◌≡◌, ℤ, Bool, true, ◌||◌, Option, Some, nat_lt, map, length, refl}
 use Rattle.std.specs.List.{IsAmong, list_any}
 use Rattle.std.proofs.Common.{sym, ◌∙◌, ap, arith, subst}
 use Rattle.std.proofs.lemmas.List.{length-map}
@@ -8,7 +8,7 @@ use Rattle.vl_token.specs.Tokens.{Timescale}
 use Rattle.vl_tree.specs.Tree.{Delay, Module}
 use Rattle.elab_model.specs.declared.kinds.ElabKind.TheVariants.{BadDelay}
 use Rattle.elab_model.specs.Delays.{ticks_of}
-use Rattle.elab_model.specs.Faults.{Fault, fault, fault_if}
+use Rattle.elab_model.specs.Faults.{fault, fault_if}
 use Rattle.elab_model.specs.TerminalFaults.{delay_faults}
 use Rattle.elab_primitives.specs.Delays.{are_refused, is_too_long}
 
