@@ -15,7 +15,7 @@ use Rattle.elab_model.specs.Drivers.{elements}
 use Rattle.elab_model.specs.Elements.{leg_kind}
 use Rattle.elab_model.specs.HierarchyFaults.{count_limit}
 use Rattle.elab_model.specs.Nets.{nets}
-use Rattle.elab_elements.specs.declared.elements.Placing.{Placing}
+use Rattle.elab_elements.specs.declared.placing.Placing.{Placing}
 
 -- what a kind stands for, where all Legs are those of `leg_kind`
 abbrev pub kind_in : List GateDelays → List UdpUse → ElementKind → Kind

@@ -10,20 +10,13 @@ ghost use Rattle.elab_modules.specs.Reached.{IsLibrary};
 ghost use Rattle.elab_rows.specs.Rows.{HaveRows};
 ghost use Rattle.elab_elements.specs.Seen.{AreElements};
 
+use crate::Placing;
 use elab_hierarchy::{Definitions, Placed};
 use elab_model::ElabKind;
 use elab_modules::Library;
 use elab_rows::Rows;
-use sg_circuit::Element;
-use sg_text::{Place, Refused};
+use sg_text::Refused;
 use std::alloc::Global;
-
-/// Elements, and where the text has each.
-#[derive(Debug, Drop)]
-pub struct Placing {
-    pub elements: Vec<Element>,
-    pub places: Vec<Place>,
-}
 
 /// The elements of the instances below a top, by instance, then in text order. All Legs have timing 0. Refuses more than 2^22 (TooMany, at the first byte of the first
 /// file). Takes memory in proportion to the elements.

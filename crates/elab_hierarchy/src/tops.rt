@@ -17,8 +17,8 @@ pub fn top(
     definitions: &Definitions,
     name: Option<&[u8]>,
 ) -> Result<usize, Refused<ElabKind>>
-    ensures top { IfOk result (λ i. (m : Module) × (top_of definitions.now (option_map (λ n. n.now) name) ≡ Ok m) × StandsAt definitions.now i m) }
-    ensures refused { IfErr result (RefusesTop definitions.now (option_map (λ n. n.now) name)) }
+    ensures top { IfOk result (λ i. (m : Module) × (top_of definitions.now (option_map (λ n. n.now) name.entry) ≡ Ok m) × StandsAt definitions.now i m) }
+    ensures refused { IfErr result (RefusesTop definitions.now (option_map (λ n. n.now) name.entry)) }
 {
     Err(Refused::NoMemory)
 }

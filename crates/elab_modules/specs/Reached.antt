@@ -1,5 +1,5 @@
 -- What stands ready when all that a top reaches has been looked at, and what a refusal says.
-use Rattle.std.specs.Prelude.{◌≡◌, ◌⊎◌, ℕ, ◌<◌, ◌≤◌, All, List, [], Option, Some, None, Ok, flat_map, length, slice_get}
+use Rattle.std.specs.Prelude.{◌≡◌, ◌⊎◌, ℕ, ◌<◌, ◌≤◌, ◌^◌, All, List, [], Option, Some, None, Ok, flat_map, length, slice_get}
 use Rattle.std.specs.List.{AllByRecursion, IsAmong}
 use Rattle.sg_delay.specs.declared.corners.Corner.{Corner}
 use Rattle.sg_text.specs.declared.places.Place.{Place}
@@ -36,7 +36,7 @@ pub record IsReached (source : Source) (corner : Corner) (top : Module) (library
 pub record IsLibrary (source : Source) (corner : Corner) (top : Module) (library : Library) : Type 0 where
   pub ready : AreReady source library.parts.items
   pub udps : HaveUdps source library.udps.items library.parts.items
-  pub few_udps : length library.udps.items ≤ length source
+  pub few_udps : length library.udps.items < 2 ^ 31
   pub counts : All (λ d. d.count ≤ 2) library.gate_delays.items
   pub reached : AllByRecursion (IsReached source corner top library) (instances source top)
   pub sound : AreSound source top corner

@@ -1,6 +1,6 @@
 -- The modules of this folder.
 mod Among
 mod Cuts
-mod Refused
+mod SameFaults
 mod Tables
 mod TooLong

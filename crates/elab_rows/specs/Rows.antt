@@ -1,35 +1,21 @@
 -- The rows of instances: the numbers of the nets of their bits, and of what lies outside their bits.
-use Rattle.std.specs.Prelude.{◌≡◌, ℕ, ◌+◌, ◌≤◌, List, [], ◌∷◌, ◌++◌, Option, Some, None, map, flat_map, take, drop, length, slice_get, if◌then◌else◌}
+use Rattle.std.specs.Prelude.{◌≡◌, ℕ, ◌+◌, ◌≤◌, List, ◌∷◌, ◌++◌, Some, map, take, drop, length, slice_get}
 use Rattle.std.specs.List.{enumerate_from}
-use Rattle.sg_circuit.specs.declared.nets.Net.{Net}
-use Rattle.sg_circuit.specs.declared.nets.Driver.TheVariants.{Nobody}
 use Rattle.vl_tree.specs.Tree.{Module, Source}
-use Rattle.elab_model.specs.Elements.{bound_above, leg_source}
-use Rattle.elab_model.specs.Hierarchy.{Step, Instance, instances}
+use Rattle.elab_model.specs.Hierarchy.{Instance, instances}
 use Rattle.elab_model.specs.HierarchyFaults.{count_limit}
-use Rattle.elab_model.specs.Homes.{has_leg, home}
 use Rattle.elab_model.specs.Members.{members}
-use Rattle.elab_model.specs.Names.{Variable, variables}
-use Rattle.elab_model.specs.Nets.{OwnNet, nets, nets_of, variable_nets, member_nets, number_of}
-use Rattle.elab_laws.specs.Handing.{all_bits, given_by, number_at}
+use Rattle.elab_model.specs.Names.{variables}
+use Rattle.elab_model.specs.Nets.{nets}
+use Rattle.elab_laws.specs.Handing.{all_bits, number_at}
+use Rattle.elab_numbers.specs.Laws.{nets_before}
+use Rattle.elab_rows.specs.Outside.{outer_number}
+use Rattle.elab_rows.specs.Undriven.{undriven}
 use Rattle.elab_rows.specs.declared.rows.Rows.{Rows}
-
--- a net before its driver is known
-abbrev pub undriven : OwnNet → Net
-undriven o = record { scope = o.scope; name = o.name; bit = o.bit; driver = Nobody }
-
--- the number of the net that lies outside a bit of an instance: what a Leg reads, and else the parent's net that the bit is bound to, if it is bound to one
-abbrev pub outer_number : List OwnNet → Source → Step → List Step → Variable × ℕ → Option ℕ
-outer_number all source s [] b = None
-outer_number all source s (parent ∷ above) b =
-    if has_leg source s b.0.name
-    then Some (number_of all (leg_source source s (parent ∷ above) b.0.name b.1 (bound_above s (parent ∷ above) b.0.name b.1)))
-    else given_by (λ m q. number_of all (home source parent above m q)) (bound_above s (parent ∷ above) b.0.name b.1)
 
 -- the number of the first net of the member k that no variable names, or else the next number
 abbrev pub first_of_member : Source → List Instance → Instance → ℕ → ℕ
-first_of_member source before s k =
-    length (flat_map (nets_of source) before) + (length (variable_nets source s) + length (flat_map (member_nets source s) (take k (enumerate_from 0 (members s.step.definition)))))
+first_of_member source before s k = nets_before source before s (take k (enumerate_from 0 (members s.step.definition)))
 
 -- a part of a list, from a place on
 abbrev pub part_of : {A : Type 0} → List A → ℕ → ℕ → List A
@@ -40,7 +26,9 @@ pub record HasRow (source : Source) (top : Module) (rows : Rows) (before : List 
   pub start : ℕ
   pub starts : slice_get rows.starts.items (length before) ≡ Some start
   pub inner : part_of rows.inner.items start (length (all_bits (variables s.step.definition))) ≡ map (number_at (nets source top) source s) (all_bits (variables s.step.definition))
-  pub outer : part_of rows.outer.items start (length (all_bits (variables s.step.definition))) ≡ map (outer_number (nets source top) source s.step s.above) (all_bits (variables s.step.definition))
+  pub outside : ℕ
+  pub outer_starts : slice_get rows.outer_starts.items (length before) ≡ Some outside
+  pub outer : part_of rows.outer.items outside (length (all_bits (variables s.step.definition))) ≡ map (outer_number (nets source top) source s.step s.above) (all_bits (variables s.step.definition))
   pub member : ℕ
   pub member_starts : slice_get rows.member_starts.items (length before) ≡ Some member
   pub firsts : (k : ℕ) → k ≤ length (members s.step.definition) → slice_get rows.firsts.items (member + k) ≡ Some (first_of_member source before s k)

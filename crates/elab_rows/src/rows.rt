@@ -25,8 +25,9 @@ pub struct Rows {
     pub starts: Vec<usize>,
     /// The net of each bit, row after row.
     pub inner: Vec<NetId>,
-    /// The net that lies outside of each bit, row after row: what the Leg of an input bit of a leaf reads, else the parent's net that the bit is
-    /// bound to.
+    /// Where the outer row of each instance begins.
+    pub outer_starts: Vec<usize>,
+    /// The net that lies outside of each bit: what the Leg of an input bit of a leaf reads, else the parent's net that the bit is bound to.
     pub outer: Vec<Option<NetId>>,
     /// Where the members of each instance begin among `firsts`; each instance has one entry more there than it has members.
     pub member_starts: Vec<usize>,

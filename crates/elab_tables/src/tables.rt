@@ -42,7 +42,7 @@ impl<'a> Model for Table<'a> {
 }
 
 impl<'a> Table<'a> {
-    ghost use Rattle.std.specs.Prelude.{◌≡◌, ◌<◌, ◌≤◌, All, length, take, IfOk, IfErr, OnOk, []};
+    ghost use Rattle.std.specs.Prelude.{◌≡◌, ◌<◌, ◌≤◌, Some, length, slice_get, take, IfOk, IfErr, OnOk, []};
     ghost use Rattle.sg_circuit.specs.Closed.{width_of};
     ghost use Rattle.vl_tree.specs.Seen.{view_module};
     ghost use Rattle.elab_model.specs.Faults.{RefusesOneOf};
@@ -99,5 +99,15 @@ impl<'a> Table<'a> {
         ensures { result ≡ length (all_bits self.now) }
     {
         self.bits
+    }
+
+    /// The place of the variable that a bit of the row is one of, and its position in it, from the left.
+    pub fn bit(&self, place: usize) -> (usize, usize)
+        requires { place < length (all_bits self.now) }
+        ensures variable { result.0 < length self.now }
+        ensures position { result.1 < width_of (variable_at self.now result.0).range }
+        ensures bit { slice_get (all_bits self.now) place ≡ Some (variable_at self.now result.0, result.1) }
+    {
+        (self.bits, self.rows.len())
     }
 }

@@ -3,7 +3,7 @@ use Rattle.std.proofs.Common.{map, ap, sym, ◌∙◌, find}
 use Rattle.std.specs.Option.{option_map}
 use Rattle.vl_tree.specs.Seen.{view_name, view_primitive}
 use Rattle.elab_model.specs.PrimitiveFaults.{is_in}
-use Rattle.elab_primitives.proofs.Refused.{others-cut, regs-none, regs-some}
+use Rattle.elab_primitives.proofs.SameFaults.{others-cut, regs-none, regs-some}
 use Rattle.elab_primitives.proofs.declarations.check_regs.Goals as goal
 
 pub returns-in-Some-clause-refused : goal.returns-in-Some-clause-refused

@@ -1,27 +1,18 @@
--- The lists of a primitive's faults, one after another.
+-- Names that the code has are those of the definition, and so are their faults.
 use Rattle.std.specs.Prelude.{◌≡◌, List, [], ◌∷◌, ◌++◌, Bool, not, None, Some, find, map, length, ◌==◌, refl}
 use Rattle.std.specs.List.{IsAmong}
 use Rattle.std.proofs.Common.{sym, ◌∙◌, ap, take, drop, arith}
-use Rattle.sg_text.specs.declared.refusals.Refused.{Refused}
 use Rattle.std.proofs.lemmas.List.{take-map, drop-map}
 use Rattle.vl_tree.specs.declared.names.Name as name
 use Rattle.vl_tree.specs.Seen.{view_name}
 use Rattle.vl_tree.specs.Tree.{Named, Primitive}
 use Rattle.elab_model.specs.declared.kinds.ElabKind.{ElabKind}
 use Rattle.elab_model.specs.declared.kinds.ElabKind.TheVariants.{BadTerminal}
-use Rattle.elab_model.specs.Faults.{Fault, fault, duplicates, missing, RefusesOneOf}
+use Rattle.elab_model.specs.Faults.{Fault, fault, duplicates, missing}
 use Rattle.elab_model.specs.Hierarchy.{is_empty}
 use Rattle.elab_model.specs.Primitives.{outputs, inputs, regs, is_sequential}
 use Rattle.elab_model.specs.PrimitiveFaults.{wrong_directions, wrong_regs, is_in, initial_names}
-use Rattle.elab_names.proofs.Refusals.{refused-left, refused-right, none-fails, some-fails}
-
--- ---- the list after another one, and the one after that
-
-pub second-of : (fs gs rest : List Fault) (r : Refused ElabKind) → RefusesOneOf gs r → RefusesOneOf (fs ++ (gs ++ rest)) r
-second-of fs gs rest r h = refused-right fs (gs ++ rest) r (refused-left gs rest r h)
-
-pub third-of : (fs gs hs rest : List Fault) (r : Refused ElabKind) → RefusesOneOf hs r → RefusesOneOf (fs ++ (gs ++ (hs ++ rest))) r
-third-of fs gs hs rest r h = refused-right fs (gs ++ (hs ++ rest)) r (second-of gs hs rest r h)
+use Rattle.elab_names.proofs.Refusals.{none-found, some-found}
 
 pub none-in_both : (fs gs : List Fault) → fs ≡ [] → gs ≡ [] → fs ++ gs ≡ []
 none-in_both fs gs e h = ap (λ xs. xs ++ gs) e ∙ h
@@ -48,7 +39,7 @@ directions-cut p (n ∷ ns) = refl
 
 pub regs-none : (p : Primitive) (ns ms : List Named) → ms ≡ regs p ++ initial_names p.initial → find (is_in (drop 1 ns)) ms ≡ None → wrong_regs p ns ≡ []
 regs-none p [] ms e h = refl
-regs-none p (n ∷ ns) ms e h = none-fails BadTerminal (is_in ns) (regs p ++ initial_names p.initial) (ap (find (is_in ns)) (sym e) ∙ h)
+regs-none p (n ∷ ns) ms e h = none-found BadTerminal (λ n. n.place) (is_in ns) (regs p ++ initial_names p.initial) (ap (find (is_in ns)) (sym e) ∙ h)
 
 none-in_nothing : (ms : List Named) (m : Named) → find (is_in []) ms ≡ Some m → ⊥
 none-in_nothing [] m h = cc
@@ -56,22 +47,7 @@ none-in_nothing (n ∷ ms) m h = none-in_nothing ms m h
 
 pub regs-some : (p : Primitive) (ns ms : List Named) (m : Named) → ms ≡ regs p ++ initial_names p.initial → find (is_in (drop 1 ns)) ms ≡ Some m → IsAmong (wrong_regs p ns) (fault BadTerminal m.place)
 regs-some p [] ms m e h = absurd (none-in_nothing ms m h)
-regs-some p (n ∷ ns) ms m e h = some-fails BadTerminal (is_in ns) (regs p ++ initial_names p.initial) m (ap (find (is_in ns)) (sym e) ∙ h)
-
--- ---- all lists of a primitive's faults
-
-abbrev pub five : (fs gs hs is js : List Fault) → List Fault
-five fs gs hs is js = fs ++ (gs ++ (hs ++ (is ++ (js ++ []))))
-
-pub fourth-of : (fs gs hs is rest : List Fault) (r : Refused ElabKind) → RefusesOneOf is r → RefusesOneOf (fs ++ (gs ++ (hs ++ (is ++ rest)))) r
-fourth-of fs gs hs is rest r h = refused-right fs (gs ++ (hs ++ (is ++ rest))) r (third-of gs hs is rest r h)
-
-pub fifth-of : (fs gs hs is js rest : List Fault) (r : Refused ElabKind) → RefusesOneOf js r → RefusesOneOf (fs ++ (gs ++ (hs ++ (is ++ (js ++ rest))))) r
-fifth-of fs gs hs is js rest r h = refused-right fs (gs ++ (hs ++ (is ++ (js ++ rest)))) r (fourth-of gs hs is js rest r h)
-
-pub none-in_five : (fs gs hs is js : List Fault) → fs ≡ [] → gs ≡ [] → hs ≡ [] → is ≡ [] → js ≡ [] → five fs gs hs is js ≡ []
-none-in_five fs gs hs is js a b c d e =
-    none-in_both fs (gs ++ (hs ++ (is ++ (js ++ [])))) a (none-in_both gs (hs ++ (is ++ (js ++ []))) b (none-in_both hs (is ++ (js ++ [])) c (none-in_both is (js ++ []) d (none-in_both js [] e refl))))
+regs-some p (n ∷ ns) ms m e h = some-found BadTerminal (λ n. n.place) (is_in ns) (regs p ++ initial_names p.initial) m (ap (find (is_in ns)) (sym e) ∙ h)
 
 -- a primitive is sequential where the code's list of regs isn't empty
 pub sequential-is : (ns : List name.Name) (p : Primitive) (b : Bool) → map view_name ns ≡ regs p → b ≡ (length ns == 0) → not b ≡ is_sequential p

@@ -1,0 +1,6 @@
+-- The modules of this folder.
+pub mod Among
+pub mod Standing
+pub mod Faultless
+pub mod Whole
+pub mod Below
