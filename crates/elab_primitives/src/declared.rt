@@ -4,7 +4,7 @@ ghost use Rattle.std.specs.Prelude.{◌≤◌, length};
 use vl_tree::Name;
 
 /// The names of the outputs, of the inputs, of the regs and of the initial value, one after another, and where each of the first three ends.
-#[derive(Debug, Drop)]
+#[derive(Drop)]
 pub struct Declared<'a> {
     pub names: Vec<Name<'a>>,
     pub after_outputs: usize,

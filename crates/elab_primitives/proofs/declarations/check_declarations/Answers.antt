@@ -56,6 +56,9 @@ returns-clause-faultless c =
     let sequential = sequential-is c.regs.result.now p c.is_empty-sequential.result (c.regs.ensures p h) c.is_empty-sequential.ensures in
     none-of (named_twice p ∷ not_a_port p ∷ wrong_directions p p.ports ∷ wrong_regs p p.ports ∷ no_state p ∷ []) (
       c.in_ok-check_names.ensures.faultless,
-      (missing-none UnknownName (map view_name c.deref.result.now) (declared_names p) (map view_name c.deref-2.result.now) p.ports (ap (map view_name) c.deref.ensures.value ∙ h.names)
-        (ap (map view_name) c.deref-2.ensures.value) c.in_ok-check_among.ensures.faultless,
-      (c.in_ok-check_directions.ensures.faultless, (c.in_ok-check_regs.ensures.faultless, (c.in_ok-check_state.ensures.faultless p refl sequential, tt)))))
+      (
+        missing-none UnknownName (map view_name c.deref.result.now) (declared_names p) (map view_name c.deref-2.result.now) p.ports (ap (map view_name) c.deref.ensures.value ∙ h.names)
+            (ap (map view_name) c.deref-2.ensures.value) c.in_ok-check_among.ensures.faultless,
+        (c.in_ok-check_directions.ensures.faultless, (c.in_ok-check_regs.ensures.faultless, (c.in_ok-check_state.ensures.faultless p refl sequential, tt))),
+      ),
+    )

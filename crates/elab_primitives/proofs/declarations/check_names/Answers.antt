@@ -38,5 +38,8 @@ returns-clause-faultless c =
     let p = view_primitive c.args.primitive.now in
     none-of (duplicates p.ports ∷ duplicates (outputs p ++ inputs p) ∷ duplicates (regs p) ∷ []) (
       once-none (map view_name c.deref.result.now) p.ports (ap (map view_name) c.deref.ensures.value) c.in_ok-check_once.ensures.faultless,
-      (once-none (map view_name c.directions.result.now) (outputs p ++ inputs p) (c.directions.ensures p c.requires) c.in_ok-check_once-2.ensures.faultless,
-      (once-none (map view_name c.regs.result.now) (regs p) (c.regs.ensures p c.requires) c.in_ok-check_once-3.ensures.faultless, tt)))
+      (
+        once-none (map view_name c.directions.result.now) (outputs p ++ inputs p) (c.directions.ensures p c.requires) c.in_ok-check_once-2.ensures.faultless,
+        (once-none (map view_name c.regs.result.now) (regs p) (c.regs.ensures p c.requires) c.in_ok-check_once-3.ensures.faultless, tt),
+      ),
+    )
