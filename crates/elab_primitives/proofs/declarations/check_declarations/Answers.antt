@@ -21,7 +21,9 @@ returns-in_err-check_among-clause-refused c =
     let r = c.in_err-check_among.field-0.0 in
     let h = c.in_ok-declared.ensures in
     exit c.from_residual-in_err-check_among.result (primitive_faults p) r (err_from_is_err_and c.from_residual-in_err-check_among.result c.from_residual-in_err-check_among.ensures.1)
-    (one-of (named_twice p ∷ []) (not_a_port p) (wrong_directions p p.ports ∷ wrong_regs p p.ports ∷ no_state p ∷ []) r (missing-of UnknownName (map view_name c.deref.result.now) (declared_names p) (map view_name c.deref-2.result.now) p.ports r (ap (map view_name) c.deref.ensures.value ∙ h.names) (ap (map view_name) c.deref-2.ensures.value) c.in_err-check_among.ensures.refused))
+    (one-of (named_twice p ∷ []) (not_a_port p) (wrong_directions p p.ports ∷ wrong_regs p p.ports ∷ no_state p ∷ []) r
+    (missing-of UnknownName (map view_name c.deref.result.now) (declared_names p) (map view_name c.deref-2.result.now) p.ports r
+    (ap (map view_name) c.deref.ensures.value ∙ h.names) (ap (map view_name) c.deref-2.ensures.value) c.in_err-check_among.ensures.refused))
 
 pub returns-in_err-check_directions-clause-refused : goal.returns-in_err-check_directions-clause-refused
 returns-in_err-check_directions-clause-refused c =
