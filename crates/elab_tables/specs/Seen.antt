@@ -6,8 +6,8 @@ use Rattle.vl_tree.specs.Tree.{signal}
 use Rattle.vl_tree.specs.Seen.{view_name, view_expression, view_join, view_delay, view_gate_instance, view_instance}
 use Rattle.elab_model.specs.Members.{Member, assignment, supply, gate, instance}
 use Rattle.elab_model.specs.Names.{Variable}
-use Rattle.elab_tables.specs.declared.members.Member as code_member
-use Rattle.elab_tables.specs.declared.members.Member.TheVariants as member
+use Rattle.elab_tables.specs.declared.member_list.Member as code_member
+use Rattle.elab_tables.specs.declared.member_list.Member.TheVariants as member
 
 abbrev pub view_member : code_member.Member → Member
 view_member (member.Declared n e) = assignment (record { place = n.place; left = signal (view_name n) None; right = view_expression e.now })

@@ -1,8 +1,8 @@
 //! What a module has, made ready for its instances: its members in a row, and the table of its variables.
 #![tactic(auto)]
 
-mod members;
+mod member_list;
 mod tables;
 
-pub use members::{Member, members};
+pub use member_list::{Member, members};
 pub use tables::{Row, Table};

@@ -1,9 +1,9 @@
 // The variables of a module, found by their names.
 ghost use Rattle.std.specs.Prelude.{IfOk, OnOk, IfErr, ◌≡◌, []};
 
-use sg_circuit::{Port, Range};
 use elab_model::ElabKind;
 use indexmap::IndexSet;
+use sg_circuit::{Port, Range};
 use sg_text::Refused;
 use std::alloc::Global;
 use std::marker::Model;
