@@ -1,3 +1,4 @@
 -- The modules of this folder: what the code's lists stand for.
+pub mod Naming
 pub mod Seen
 pub mod Tables

@@ -2,6 +2,7 @@
 #![tactic(auto)]
 
 mod member_list;
+mod naming;
 mod tables;
 
 pub use member_list::{Member, members};
