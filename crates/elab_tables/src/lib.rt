@@ -3,6 +3,7 @@
 
 mod member_list;
 mod naming;
+mod rows;
 mod tables;
 
 pub use member_list::{Member, members};
