@@ -1,9 +1,9 @@
 -- The names that are used in an item, and in all items of a module.
-use Rattle.std.specs.Prelude.{◌≡◌, ℕ, List, [], ◌∷◌, ◌++◌, Bool, true, false, Option, Some, None, if◌then◌else◌, map, flat_map, filter_map, refl}
+use Rattle.std.specs.Prelude.{◌≡◌, ℕ, List, [], ◌∷◌, ◌++◌, true, false, Option, Some, None, map, flat_map, filter_map, refl}
 use Rattle.std.specs.Borrow.{Bor}
 use Rattle.std.specs.List.{cons_option}
 use Rattle.std.specs.Option.{option_map}
-use Rattle.std.proofs.Common.{sym, ◌∙◌, ap, append_assoc, Vec, Global}
+use Rattle.std.proofs.Common.{sym, ◌∙◌, ap, Vec, Global}
 use Rattle.std.proofs.lemmas.List.Concat.{flat_map-append}
 use Rattle.std.proofs.lemmas.List.Folds.{flat_map-map}
 use Rattle.sg_logic.specs.declared.gates.GateKind.{GateKind}
@@ -21,9 +21,9 @@ use Rattle.vl_tree.specs.declared.names.Name as code_name
 use Rattle.vl_tree.specs.declared.names.NetType.{NetType}
 use Rattle.vl_tree.specs.declared.names.Range.{Range}
 use Rattle.vl_tree.specs.Seen.{view_name, view_expression, view_delay, view_net_name, view_join, view_gate_instance, view_instance, view_item, view_module}
-use Rattle.vl_tree.specs.Tree.{Named, Expression, Delay, NetName, Join, GateInstance, Instance}
-use Rattle.elab_model.specs.Members.{Member, assignment, supply, gate, instance, assignment_to, connection_values, members_of_item, members}
-use Rattle.elab_model.specs.Names.{variable_names, whole_names, first_of_each}
+use Rattle.vl_tree.specs.Tree.{Named, Expression, NetName, Join}
+use Rattle.elab_model.specs.Members.{assignment, supply, gate, instance, assignment_to, connection_values, members_of_item}
+use Rattle.elab_model.specs.Names.{variable_names, whole_names}
 use Rattle.elab_model.specs.Ports.{port_list, net_declarations}
 use Rattle.elab_names.specs.declared.nets.NetDeclaration as code_declaration
 use Rattle.elab_names.specs.Words.{view_net}

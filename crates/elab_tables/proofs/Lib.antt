@@ -1,6 +1,10 @@
 -- The modules of this folder.
 pub mod ItemNames
+pub mod MadeTable
+pub mod NoneTooWide
 pub mod Placing
+pub mod SaidVariables
+pub mod TableSeen
 pub mod Telling
 pub mod UsedNames
 pub mod WithNames

@@ -1,5 +1,5 @@
 -- What declarations say, one after another.
-use Rattle.std.specs.Prelude.{◌≡◌, ℕ, zero, suc, ◌+◌, ◌<◌, ◌≤◌, ◌-◌, List, [], ◌∷◌, ◌++◌, Bool, true, false, ◌||◌, Option, Some, None, length, slice_index_or, slice_set, take, map, find, refl, bytes_eq, if◌then◌else◌, replicate}
+use Rattle.std.specs.Prelude.{◌≡◌, ℕ, zero, suc, ◌+◌, ◌<◌, ◌≤◌, ◌-◌, List, [], ◌∷◌, ◌++◌, Bool, true, false, ◌||◌, Some, None, length, slice_index_or, slice_set, take, map, find, refl, bytes_eq, if◌then◌else◌, replicate}
 use Rattle.std.specs.Borrow.{Bor}
 use Rattle.std.specs.List.{AllByRecursion, IsDistinct, list_any, position}
 use Rattle.std.proofs.Common.{sym, ◌∙◌, ap, subst, arith, cond}
@@ -12,7 +12,7 @@ use Rattle.elab_names.specs.declared.nets.NetDeclaration.{NetDeclaration}
 use Rattle.vl_tree.specs.declared.modules.PortDeclaration.{PortDeclaration}
 use Rattle.elab_tables.specs.declared.tables.Row.{Row}
 use Rattle.elab_tables.specs.Naming.{key_texts}
-use Rattle.elab_tables.specs.Rows.{blank, said_by, said_of, first_said, rows_with, net_said, port_said, row_said, rows_said}
+use Rattle.elab_tables.specs.Rows.{blank, said_by, said_of, first_said, rows_with, net_said, port_said, rows_said}
 
 -- ---- one name
 

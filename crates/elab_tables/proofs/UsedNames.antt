@@ -1,12 +1,10 @@
 -- The names that are used whole, by the parts of the code's tree.
-use Rattle.std.specs.Prelude.{◌≡◌, ℕ, suc, ◌<◌, ◌≤◌, List, [], ◌∷◌, ◌++◌, Option, Some, None, length, get_or, map, flat_map, filter_map, refl}
+use Rattle.std.specs.Prelude.{◌≡◌, ℕ, ◌≤◌, List, [], ◌∷◌, ◌++◌, Option, Some, None, length, map, flat_map, refl}
 use Rattle.std.specs.List.{cons_option}
 use Rattle.std.specs.Option.{option_map}
-use Rattle.std.proofs.Common.{sym, ◌∙◌, ap, drop, append_assoc, Vec, Global}
+use Rattle.std.proofs.Common.{sym, ◌∙◌, ap, drop, Vec, Global}
 use Rattle.std.proofs.lemmas.List.Concat.{flat_map-append}
 use Rattle.std.proofs.lemmas.List.Folds.{flat_map-map}
-use Rattle.sg_logic.specs.declared.gates.GateKind.{GateKind}
-use Rattle.sg_logic.specs.declared.values.Value.{Value}
 use Rattle.sg_text.specs.declared.places.Place.{Place}
 use Rattle.vl_tree.specs.declared.expressions.Expression as code
 use Rattle.vl_tree.specs.declared.expressions.Select.{Select}
@@ -20,12 +18,12 @@ use Rattle.vl_tree.specs.declared.expressions.Expression.TheVariants.{rolls-Sign
 use Rattle.vl_tree.specs.declared.expressions.Expression.TheOpen as layer
 use Rattle.vl_tree.specs.declared.expressions.Expression.TheFolds.{fold-roll-Expression}
 use Rattle.vl_tree.specs.Seen.{view_expression, view_layer, view_name, view_connections, view_named_connection}
-use Rattle.vl_tree.specs.Tree.{Named, Expression, expressions, Delay, NetName, Join, GateInstance, NamedConnection, Instance, by_order, by_name}
+use Rattle.vl_tree.specs.Tree.{Expression, expressions, NamedConnection, by_order, by_name}
 use Rattle.elab_model.specs.Leaves.{leaves, leaves_of, leaf_of}
-use Rattle.elab_model.specs.Members.{Member, assignment, supply, gate, instance, assignment_to, connection_values}
+use Rattle.elab_model.specs.Members.{connection_values}
 use Rattle.elab_model.specs.Names.{whole_name}
-use Rattle.elab_tables.specs.Naming.{with_names, names_in, names_if, names_at_net, names_of_member}
-use Rattle.elab_tables.proofs.WithNames.{append-nil, with-none, one-more, no-more-parts}
+use Rattle.elab_tables.specs.Naming.{with_names, names_in, names_if, names_at_net}
+use Rattle.elab_tables.proofs.WithNames.{with-none, one-more, no-more-parts}
 
 -- ---- expressions
 

@@ -1,5 +1,5 @@
 -- Names that come one after another to those that are known.
-use Rattle.std.specs.Prelude.{◌≡◌, ℕ, zero, suc, ◌<◌, ◌≤◌, length, slice_index_or, flat_map, List, [], ◌∷◌, ◌++◌, Bool, true, false, ◌||◌, refl, bytes_eq, if◌then◌else◌, map}
+use Rattle.std.specs.Prelude.{◌≡◌, ℕ, zero, suc, ◌<◌, ◌≤◌, length, slice_index_or, flat_map, List, [], ◌∷◌, ◌++◌, Bool, true, false, ◌||◌, refl, bytes_eq, if◌then◌else◌}
 use Rattle.std.specs.Borrow.{Bor}
 use Rattle.std.specs.List.{list_any}
 use Rattle.std.proofs.Common.{sym, ◌∙◌, ap, append_assoc, drop, drop-cons, arith}

@@ -1,7 +1,7 @@
 -- The names of variables, each once: what declares them, and what uses them whole.
 use Rattle.std.specs.Prelude.{ℕ, List, [], ◌∷◌, ◌++◌, Bool, if◌then◌else◌, Option, Some, None, map, flat_map}
 use Rattle.std.specs.Borrow.{Bor}
-use Rattle.vl_tree.specs.Tree.{Expression, NetName}
+use Rattle.vl_tree.specs.Tree.{Expression}
 use Rattle.elab_model.specs.Leaves.{leaves}
 use Rattle.elab_model.specs.Members.{Member, member_values}
 use Rattle.elab_model.specs.Names.{first_of_each, whole_name}

@@ -1,6 +1,7 @@
 //! What a module has, made ready for its instances: its members in a row, and the table of its variables.
 #![tactic(auto)]
 
+mod declarations;
 mod member_list;
 mod naming;
 mod rows;

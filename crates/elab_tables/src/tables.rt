@@ -1,10 +1,17 @@
 // The variables of a module, found by their names.
 ghost use Rattle.std.specs.Prelude.{IfOk, OnOk, IfErr, ◌≡◌, []};
+ghost use Rattle.vl_tree.specs.Seen.{view_module};
+ghost use Rattle.elab_model.specs.NameFaults.{declaration_faults};
+ghost use Rattle.elab_model.specs.Names.{variables};
 
+use crate::declarations::check_declarations;
+use crate::naming::variable_names_of;
+use crate::rows::rows_of;
 use elab_model::ElabKind;
+use elab_names::{net_declarations, port_declarations};
 use indexmap::IndexSet;
 use sg_circuit::{Port, Range};
-use sg_text::Refused;
+use sg_text::{NoMemory, Refused};
 use std::alloc::Global;
 use std::marker::Model;
 use vl_tree::Module;
@@ -56,7 +63,8 @@ impl<'a> Table<'a> {
         ensures faultless { OnOk result (declaration_faults (view_module definition.now) ≡ []) }
         ensures refused { IfErr result (RefusesOneOf (declaration_faults (view_module definition.now))) }
     {
-        Err(Refused::NoMemory)
+        check_declarations(alloc, definition)?;
+        Ok(table_of(alloc, definition)?)
     }
 
     /// How many variables there are.
@@ -99,4 +107,15 @@ impl<'a> Table<'a> {
     {
         self.bits
     }
+}
+
+fn table_of<'a>(alloc: Global, definition: &Module<'a>) -> Result<Table<'a>, NoMemory>
+    requires { declaration_faults (view_module definition.now) ≡ [] }
+    ensures { IfOk result (λ t. t ≡ variables (view_module definition.now)) }
+{
+    let ports = port_declarations(alloc, definition)?;
+    let nets = net_declarations(alloc, definition)?;
+    let names = variable_names_of(alloc, definition, &nets)?;
+    let (rows, bits) = rows_of(alloc, &names, &ports, &nets)?;
+    Ok(Table { names, rows, bits })
 }

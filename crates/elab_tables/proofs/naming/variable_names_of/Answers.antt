@@ -1,6 +1,4 @@
 -- The ports, then the nets, then the implicit ones.
-use Rattle.std.proofs.Common.{ap, ◌∙◌}
-use Rattle.elab_tables.specs.Naming.{key_texts}
 use Rattle.elab_tables.proofs.ItemNames.{all-named}
 use Rattle.elab_tables.proofs.naming.variable_names_of.Goals as goal
 

@@ -2,7 +2,7 @@
 use Rattle.std.proofs.Common.{sym, subst, ◌≡◌, ◌≤◌, OnOk, IfOk}
 use Rattle.std.specs.List.{AllByRecursion}
 use Rattle.sg_circuit.specs.Closed.{width_of}
-use Rattle.elab_tables.specs.Rows.{bit_count, placed, rows_said}
+use Rattle.elab_tables.specs.Rows.{bit_count, placed}
 use Rattle.elab_tables.proofs.Telling.{all-said}
 use Rattle.elab_tables.proofs.rows.fill.Goals as goal
 

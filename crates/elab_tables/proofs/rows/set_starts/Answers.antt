@@ -1,5 +1,5 @@
 -- One row more is placed.
-use Rattle.std.proofs.Common.{rules, ◌<◌, ◌≡◌, length, arith}
+use Rattle.std.proofs.Common.{rules}
 use Rattle.elab_tables.proofs.Placing.{width-at, next-row}
 use Rattle.elab_tables.proofs.rows.set_starts.Goals as goal
 

@@ -1,5 +1,5 @@
 -- Rows so far are placed, and those that are left are as they were.
-use Rattle.std.proofs.Common.{◌≡◌, ◌++◌, take, drop, length}
+use Rattle.std.proofs.Common.{◌≡◌, ◌++◌, take, drop}
 use Rattle.elab_tables.specs.Rows.{placed, bit_count}
 use Rattle.elab_tables.proofs.rows.set_starts.Given as goal
 

@@ -1,5 +1,4 @@
 -- The names of the terminals.
-use Rattle.std.proofs.Common.{ap, ◌∙◌, sym}
 use Rattle.std.proofs.lemmas.Result.{on_ok_weaker}
 use Rattle.elab_tables.specs.Naming.{key_texts}
 use Rattle.elab_tables.proofs.UsedNames.{terminals-named}
