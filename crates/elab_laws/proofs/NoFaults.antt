@@ -27,25 +27,25 @@ use Rattle.elab_laws.proofs.Once.{all-kept, once-by_name, once-by_order}
 use Rattle.sg_delay.specs.declared.corners.Corner.{Corner}
 use Rattle.vl_tree.specs.Tree.{Module, Connections, by_order, by_name, Source}
 
-front : {A : Type 0} (xs ys : List A) → xs ++ ys ≡ [] → xs ≡ []
+pub front : {A : Type 0} (xs ys : List A) → xs ++ ys ≡ [] → xs ≡ []
 front [] ys h = refl
 front (x ∷ xs) ys h = cc
 
-back : {A : Type 0} (xs ys : List A) → xs ++ ys ≡ [] → ys ≡ []
+pub back : {A : Type 0} (xs ys : List A) → xs ++ ys ≡ [] → ys ≡ []
 back [] ys h = h
 back (x ∷ xs) ys h = cc
 
-flat-empty : {A B : Type 0} (f : A → List B) (xs : List A) → flat_map f xs ≡ [] → AllByRecursion (λ x. f x ≡ []) xs
+pub flat-empty : {A B : Type 0} (f : A → List B) (xs : List A) → flat_map f xs ≡ [] → AllByRecursion (λ x. f x ≡ []) xs
 flat-empty f [] h = tt
 flat-empty f (x ∷ xs) h = (front (f x) (flat_map f xs) h, flat-empty f xs (back (f x) (flat_map f xs) h))
 
-map-empty : {A B : Type 0} (f : A → B) (xs : List A) → map f xs ≡ [] → xs ≡ []
+pub map-empty : {A B : Type 0} (f : A → B) (xs : List A) → map f xs ≡ [] → xs ≡ []
 map-empty f [] h = refl
 map-empty f (x ∷ xs) h = cc
 
 -- ---- a instance of an instance is an instance
 
-in-own : (source : Source) (d : ℕ) (c : Instance) → In c (instances_from source d c)
+pub in-own : (source : Source) (d : ℕ) (c : Instance) → In c (instances_from source d c)
 in-own source zero c = inl refl
 in-own source (suc d) c = inl refl
 
@@ -94,7 +94,7 @@ part-once source c tick m k (instance n d i) h y e = by (definition_of source n.
         let g : i.connections ≡ y.connections = ap (λ o. connections_or i.connections o) e in
         subst NamesOnce g (connected-once (variables m) x i.place i.connections f)
 
-all-second : (P : Member → Type 0) (a : ℕ) (ps : List Member) → AllByRecursion P ps → AllByRecursion (λ x. P x.1) (enumerate_from a ps)
+pub all-second : {A : Type 0} (P : A → Type 0) (a : ℕ) (ps : List A) → AllByRecursion P ps → AllByRecursion (λ x. P x.1) (enumerate_from a ps)
 all-second P a [] h = tt
 all-second P a (p ∷ ps) h = (h.0, all-second P (a + 1) ps h.1)
 
@@ -132,7 +132,7 @@ each-faultless source top c h =
     (λ s e. back (too_deep source s) (module_faults source c (tick_of source top) s.step.definition) (back (self_instances source s) (too_deep source s ++ module_faults source c (tick_of source top) s.step.definition) e))
     (flat-empty (instance_faults_below source top c) (instances source top) z)
 
-all-from : {A : Type 0} (P : A → Type 0) (xs : List A) → ((x : A) → In x xs → P x) → AllByRecursion P xs
+pub all-from : {A : Type 0} (P : A → Type 0) (xs : List A) → ((x : A) → In x xs → P x) → AllByRecursion P xs
 all-from P [] f = tt
 all-from P (x ∷ xs) f = (f x (inl refl), all-from P xs (λ y h. f y (inr h)))
 

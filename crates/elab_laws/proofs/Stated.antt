@@ -26,7 +26,7 @@ instances-have_places source top =
     e ∙ ap (range_with_len 0) l
 
 -- where names differ, each is found by its own
-found-own : (vs : List Variable) → Pairwise (λ v w. bytes_eq v.name w.name ≡ false) vs → (x : Variable) → In x vs → find (λ v. bytes_eq x.name v.name) vs ≡ Some x
+pub found-own : (vs : List Variable) → Pairwise (λ v w. bytes_eq v.name w.name ≡ false) vs → (x : Variable) → In x vs → find (λ v. bytes_eq x.name v.name) vs ≡ Some x
 found-own [] h x k = absurd k
 found-own (v ∷ vs) h x (inl e) = ap (λ b. cond b (Some v) (find (λ w. bytes_eq x.name w.name) vs)) ((bytes_eq-Decides x.name v.name).1 (ap (λ w. w.name) e)) ∙ ap (λ w. Some w) (sym e)
 found-own (v ∷ vs) h x (inr k) =

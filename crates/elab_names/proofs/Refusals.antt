@@ -1,5 +1,5 @@
 -- One of several faults is refused.
-use Rattle.std.specs.Prelude.{◌≡◌, ◌+◌, List, [], ◌∷◌, ◌++◌, Bool, true, false, not, Some, None, Result, Err, IfErr, map, flat_map, find, length, refl, if◌then◌else◌}
+use Rattle.std.specs.Prelude.{◌≡◌, ◌+◌, List, [], ◌∷◌, ◌++◌, Bool, true, false, Some, None, Result, Err, IfErr, map, flat_map, find, length, refl, if◌then◌else◌}
 use Rattle.std.specs.List.{IsAmong}
 use Rattle.std.proofs.Common.{sym, ◌∙◌, ap, arith, subst, length-append}
 use Rattle.std.proofs.lemmas.List.{get_or_append_left, get_or-append-add}
@@ -46,25 +46,24 @@ some-again ns p h = by (places_again [] ns) h
     by [] h = cc
     by (q ∷ ps) h = let e : p ≡ q = cc in (0, (omega arith, ap (fault DuplicateName) e))
 
--- ---- names that fail a test
+-- ---- what a test finds
 
-pub none-fails : (k : ElabKind) (test : Named → Bool) (ns : List Named) → find (λ n. not (test n)) ns ≡ None → flat_map (λ n. fault_if (not (test n)) k n.place) ns ≡ []
-none-fails k test [] h = refl
-none-fails k test (n ∷ ns) h = by (test n) h (none-fails k test ns)
+pub none-found : {A : Type 0} (k : ElabKind) (place : A → Place) (test : A → Bool) (xs : List A) → find test xs ≡ None → flat_map (λ x. fault_if (test x) k (place x)) xs ≡ []
+none-found k place test [] h = refl
+none-found k place test (x ∷ xs) h = by (test x) h (none-found k place test xs)
   where
-    by : (b : Bool) → (if not b then Some n else find (λ n. not (test n)) ns) ≡ None → (find (λ n. not (test n)) ns ≡ None → flat_map (λ n. fault_if (not (test n)) k n.place) ns ≡ [])
-        → fault_if (not b) k n.place ++ flat_map (λ n. fault_if (not (test n)) k n.place) ns ≡ []
-    by true h rest = rest h
-    by false h rest = cc
+    by : (b : Bool) → (if b then Some x else find test xs) ≡ None → (find test xs ≡ None → flat_map (λ x. fault_if (test x) k (place x)) xs ≡ []) → fault_if b k (place x) ++ flat_map (λ x. fault_if (test x) k (place x)) xs ≡ []
+    by false h rest = rest h
+    by true h rest = cc
 
-pub some-fails : (k : ElabKind) (test : Named → Bool) (ns : List Named) (m : Named) → find (λ n. not (test n)) ns ≡ Some m → IsAmong (flat_map (λ n. fault_if (not (test n)) k n.place) ns) (fault k m.place)
-some-fails k test [] m h = cc
-some-fails k test (n ∷ ns) m h = by (test n) h (some-fails k test ns m)
+pub some-found : {A : Type 0} (k : ElabKind) (place : A → Place) (test : A → Bool) (xs : List A) (y : A) → find test xs ≡ Some y → IsAmong (flat_map (λ x. fault_if (test x) k (place x)) xs) (fault k (place y))
+some-found k place test [] y h = cc
+some-found k place test (x ∷ xs) y h = by (test x) h (some-found k place test xs y)
   where
-    by : (b : Bool) → (if not b then Some n else find (λ n. not (test n)) ns) ≡ Some m → (find (λ n. not (test n)) ns ≡ Some m → IsAmong (flat_map (λ n. fault_if (not (test n)) k n.place) ns) (fault k m.place))
-        → IsAmong (fault_if (not b) k n.place ++ flat_map (λ n. fault_if (not (test n)) k n.place) ns) (fault k m.place)
-    by true h rest = rest h
-    by false h rest = let e : n ≡ m = cc in (0, (omega arith, ap (λ x. fault k x.place) (sym e)))
+    by : (b : Bool) → (if b then Some x else find test xs) ≡ Some y → (find test xs ≡ Some y → IsAmong (flat_map (λ x. fault_if (test x) k (place x)) xs) (fault k (place y)))
+        → IsAmong (fault_if b k (place x) ++ flat_map (λ x. fault_if (test x) k (place x)) xs) (fault k (place y))
+    by false h rest = rest h
+    by true h rest = let e : x ≡ y = cc in (0, (omega arith, ap (λ z. fault k (place z)) (sym e)))
 
 -- ---- the exit of a check, of six
 

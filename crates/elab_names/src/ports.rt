@@ -68,12 +68,23 @@ pub fn port_declarations<'a>(
 ) -> Result<Vec<PortDeclaration<'a>>, NoMemory>
     ensures { IfOk result (λ ports. map view_port_declaration ports.items ≡ def.port_declarations (view_module definition.now)) }
 {
+    let mut ports = ports_of_head(alloc, definition)?;
+    for item in &definition.items {
+        add_item(item, &mut ports)?;
+    }
+    Ok(ports)
+}
+
+/// The ports that a module declares in its list of ports (IEEE 1364-2005, 12.3.4). Takes memory.
+pub fn ports_of_head<'a>(
+    alloc: Global,
+    definition: &Module<'a>,
+) -> Result<Vec<PortDeclaration<'a>>, NoMemory>
+    ensures { IfOk result (λ ports. map view_port_declaration ports.items ≡ def.ports_of_head (view_module definition.now).head) }
+{
     let mut ports = Vec::new(alloc);
     if let Some(list) = &definition.head {
         add_list(list, &mut ports)?;
-    }
-    for item in &definition.items {
-        add_item(item, &mut ports)?;
     }
     Ok(ports)
 }

@@ -81,10 +81,10 @@ element-second ds es i e lt is h =
 
 -- ---- timing checks
 
-abbrev IsNotifier : Driver → Type 0
+abbrev pub IsNotifier : Driver → Type 0
 IsNotifier d = d ≡ Notifier
 
-checks-at : (n : ℕ) (xs : List ℕ) → AllByRecursion IsNotifier (drivers_at n (map by_checks xs))
+pub checks-at : (n : ℕ) (xs : List ℕ) → AllByRecursion IsNotifier (drivers_at n (map by_checks xs))
 checks-at n xs = at-all IsNotifier n (map by_checks xs) (all-map (λ d. IsNotifier d.driver) by_checks xs (all-anyway (λ x. Notifier ≡ Notifier) xs (λ x. refl)))
 
 outside-other : (d : Driver) → IsOutside d → d ≢ Notifier

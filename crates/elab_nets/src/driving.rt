@@ -1,5 +1,6 @@
 // The table of first drivers.
 ghost use Rattle.std.specs.Prelude.{◌≡◌, ◌<◌, ◌^◌, ◌++◌, ℕ, List, map, take, length, All, OnOk, IfErr, slice_index_or};
+ghost use Rattle.std.specs.List.{IsAmong};
 ghost use Rattle.elab_nets.specs.Driving.{NumberedDrive, StandsFor, IsOutside, IsTaken, Notes, says_nobody, by_stimulus, by_elements, IsSecond, DrivesRegs};
 
 use sg_circuit::{Driver, Element, NetId};
@@ -34,6 +35,7 @@ pub fn drive_inputs(inputs: &[NetId], drivers: &mut Vec<Driver>) -> Result<(), u
     ensures nets { length drivers.new.items ≡ length drivers.old.items }
     ensures noted { OnOk result ((ds : List NumberedDrive) → StandsFor drivers.old.items ds → StandsFor drivers.new.items (ds ++ map by_stimulus inputs.now)) }
     ensures taken { IfErr result (λ i. (ds : List NumberedDrive) → StandsFor drivers.old.items ds → IsTaken (slice_index_or inputs.now i 0) (ds ++ map by_stimulus (take i inputs.now))) }
+    ensures place { IfErr result (λ i. i < length inputs.now) }
 {
     for (place, input) in inputs.iter().enumerate() {
         if !note(drivers, *input, Driver::Stimulus) {
@@ -50,6 +52,7 @@ pub fn drive_outputs(elements: &[Element], drivers: &mut Vec<Driver>) -> Result<
     ensures nets { length drivers.new.items ≡ length drivers.old.items }
     ensures noted { OnOk result ((ds : List NumberedDrive) → StandsFor drivers.old.items ds → StandsFor drivers.new.items (ds ++ by_elements 0 (map (λ e. e.output) elements.now))) }
     ensures second { IfErr result (λ j. (ds : List NumberedDrive) → StandsFor drivers.old.items ds → IsSecond ds (map (λ e. e.output) elements.now) j) }
+    ensures place { IfErr result (λ j. j < length elements.now) }
 {
     for (place, element) in elements.iter().enumerate() {
         if !note(drivers, element.output, Driver::Element(place as u32)) {
@@ -65,6 +68,7 @@ pub fn drive_regs(regs: &[NetId], drivers: &mut Vec<Driver>) -> Result<(), NetId
     ensures nets { length drivers.new.items ≡ length drivers.old.items }
     ensures noted { OnOk result ((ds : List NumberedDrive) → StandsFor drivers.old.items ds → DrivesRegs drivers.new.items ds regs.now) }
     ensures taken { IfErr result (λ n. (ds : List NumberedDrive) → StandsFor drivers.old.items ds → IsTaken n ds) }
+    ensures among { IfErr result (λ n. IsAmong regs.now n) }
 {
     for reg in regs {
         let net = *reg as usize;

@@ -1,4 +1,5 @@
 -- The modules of this folder.
+pub mod BitPlaces
 pub mod ItemNames
 pub mod MadeTable
 pub mod NoneTooWide

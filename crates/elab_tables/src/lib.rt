@@ -1,7 +1,6 @@
 //! What a module has, made ready for its instances: its members in a row, and the table of its variables.
 #![tactic(auto)]
 
-mod declarations;
 mod member_list;
 mod naming;
 mod rows;
@@ -9,3 +8,6 @@ mod tables;
 
 pub use member_list::{Member, members};
 pub use tables::{Row, Table};
+
+#[cfg(test)]
+mod tests;

@@ -1,14 +1,15 @@
 // The variables of a module, found by their names.
-ghost use Rattle.std.specs.Prelude.{IfOk, OnOk, IfErr, ◌≡◌, []};
+ghost use Rattle.std.specs.Prelude.{IfOk, OnOk, IfErr, ◌≡◌, ◌<◌, []};
 ghost use Rattle.vl_tree.specs.Seen.{view_module};
 ghost use Rattle.elab_model.specs.NameFaults.{declaration_faults};
 ghost use Rattle.elab_model.specs.Names.{variables};
+ghost use Rattle.elab_tables.specs.Rows.{bit_count};
+ghost use Rattle.elab_tables.specs.Tables.{starts_are, HasPlace};
 
-use crate::declarations::check_declarations;
 use crate::naming::variable_names_of;
 use crate::rows::rows_of;
 use elab_model::ElabKind;
-use elab_names::{net_declarations, port_declarations};
+use elab_names::{check_declarations, net_declarations, port_declarations};
 use indexmap::IndexSet;
 use sg_circuit::{Port, Range};
 use sg_text::{NoMemory, Refused};
@@ -48,7 +49,7 @@ impl<'a> Model for Table<'a> {
 }
 
 impl<'a> Table<'a> {
-    ghost use Rattle.std.specs.Prelude.{◌≡◌, ◌<◌, ◌≤◌, All, length, take, IfOk, IfErr, OnOk, []};
+    ghost use Rattle.std.specs.Prelude.{◌≡◌, ◌<◌, ◌≤◌, Some, length, slice_get, take, IfOk, IfErr, OnOk, []};
     ghost use Rattle.sg_circuit.specs.Closed.{width_of};
     ghost use Rattle.vl_tree.specs.Seen.{view_module};
     ghost use Rattle.elab_model.specs.Faults.{RefusesOneOf};
@@ -107,6 +108,26 @@ impl<'a> Table<'a> {
     {
         self.bits
     }
+
+    /// The place of the variable that a bit of the row is one of, and its position in it, from the left.
+    pub fn bit(&self, place: usize) -> (usize, usize)
+        requires { place < length (all_bits self.now) }
+        ensures variable { result.0 < length self.now }
+        ensures position { result.1 < width_of (variable_at self.now result.0).range }
+        ensures bit { slice_get (all_bits self.now) place ≡ Some (variable_at self.now result.0, result.1) }
+    {
+        let variable = row_with(&self.rows, place);
+        (variable, place - self.rows[variable].start)
+    }
+}
+
+// The last of the rows that start there or before.
+fn row_with(rows: &[Row], place: usize) -> usize
+    requires starts { starts_are 0 rows.now }
+    requires below { place < bit_count rows.now }
+    ensures { HasPlace rows.now place result }
+{
+    rows.partition_point(|row| row.start <= place) - 1
 }
 
 fn table_of<'a>(alloc: Global, definition: &Module<'a>) -> Result<Table<'a>, NoMemory>

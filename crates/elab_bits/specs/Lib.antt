@@ -1,0 +1,3 @@
+-- The modules of this folder: what the code's bits stand for.
+pub mod Seen
+pub mod Words

@@ -1,0 +1,183 @@
+-- Where a module has no fault, its elements have the inputs and the delays that their kinds ask for.
+use Rattle.std.specs.Prelude.{◌≡◌, ℕ, ◌-◌, ◌≤◌, ◌==◌, List, [], ◌∷◌, ◌++◌, true, false, not, Option, Some, None, flat_map, filter_map, zip, length, map, take, drop, refl, ℤ, nat_lt}
+use Rattle.std.specs.List.{AllByRecursion, enumerate_from, list_any}
+use Rattle.std.proofs.Common.{sym, ◌∙◌, ap, arith, subst, length-drop}
+use Rattle.std.proofs.lemmas.Bool.{and_parts, eqb-true, ltb-false, not-false, not-true}
+use Rattle.std.proofs.lemmas.List.{length-map}
+use Rattle.std.proofs.lemmas.List.FromFn.{length-enumerate_from}
+use Rattle.sg_circuit.specs.Circuit.{Kind, Gate, Udp}
+use Rattle.sg_circuit.specs.Closed.{TakesInputs, HasDelays}
+use Rattle.sg_delay.specs.declared.corners.Corner.{Corner}
+use Rattle.sg_logic.specs.Gate.{TakesInputs as GateTakes}
+use Rattle.sg_logic.specs.declared.gates.GateKind.{GateKind}
+use Rattle.sg_logic.specs.declared.gates.GateKind.TheVariants.{And, Nand, Or, Nor, Xor, Xnor, Buf, Not}
+use Rattle.sg_text.specs.declared.places.Place.{Place}
+use Rattle.vl_tree.specs.Tree.{Expression, Delay, Source, Part, a_module, a_primitive, Primitive, Connections, by_order, by_name, GateInstance, Instance as instance_text}
+use Rattle.elab_model.specs.declared.kinds.ElabKind.TheVariants.{BadTerminal}
+use Rattle.elab_model.specs.Bits.{Bit, net, constant, positions, leaf_bits}
+use Rattle.elab_model.specs.Connections.{port_values}
+use Rattle.elab_model.specs.Definitions.{definition_of}
+use Rattle.elab_model.specs.Delays.{delays_of}
+use Rattle.elab_model.specs.Elements.{Component, expression_bits, leg_at, variable_legs, legs, pass_to, constant_pass, output_count, input_spot, output_element, terminal_elements}
+use Rattle.elab_model.specs.Elements.{terminal_bits, port_spot, port_elements, child_elements, child_at, instance_elements, member_elements, elements_of}
+use Rattle.elab_model.specs.Hierarchy.{Instance, is_leaf}
+use Rattle.elab_model.specs.Homes.{Spot, terminal, is_input}
+use Rattle.elab_model.specs.Leaves.{whole}
+use Rattle.elab_model.specs.Members.{Member, assignment, supply, gate, instance, members, connection_values}
+use Rattle.elab_model.specs.ModuleFaults.{are_terminals, primitive_instance_faults, instance_faults, member_faults, all_member_faults, module_faults}
+use Rattle.elab_model.specs.Names.{variables}
+use Rattle.elab_model.specs.Ports.{port_list}
+use Rattle.elab_model.specs.PrimitiveFaults.{primitive_faults}
+use Rattle.elab_model.specs.Primitives.{table_of, initial_value}
+use Rattle.elab_model.specs.TerminalFaults.{is_missing, expression_faults, width_faults, terminal_faults, delay_faults}
+use Rattle.elab_model.specs.Faults.{fault_if}
+use Rattle.elab_laws.proofs.Lists.{all-append, all-flat, all-flat_in, all-map, all-anyway, all-weaker}
+use Rattle.elab_laws.proofs.PartsApart.{all-if}
+use Rattle.elab_laws.proofs.NoFaults.{front, back, all-second}
+use Rattle.elab_owned.proofs.Connected.{members-sound}
+use Rattle.elab_owned.proofs.Widths.{no-fault, bits-count}
+use Rattle.elab_closed.proofs.Delays.{gate-delays, leg-delays}
+
+-- an element of an instance of this number, that has what its kind asks for
+pub record Fits (k : ℕ) (c : Component) : Type 0 where
+  pub scope : c.scope ≡ k
+  pub takes : TakesInputs c.kind (length c.inputs)
+  pub delays : HasDelays c.kind
+
+-- ---- legs and passes
+
+leg-fits : (source : Source) (s : Instance) (n : List ℕ) (p : ℕ) → Fits s.step.number (leg_at source s n p)
+leg-fits source s n p = record { scope = refl; takes = refl; delays = leg-delays }
+
+legs-fit : (source : Source) (s : Instance) → AllByRecursion (Fits s.step.number) (legs source s)
+legs-fit source s =
+    all-if (Fits s.step.number) (is_leaf source s) (flat_map (variable_legs source s) (variables s.step.definition))
+    (all-flat (Fits s.step.number) (variable_legs source s) (variables s.step.definition)
+    (λ v. all-if (Fits s.step.number) (is_input v.port) (map (leg_at source s v.name) (positions v.range))
+    (all-map (Fits s.step.number) (leg_at source s v.name) (positions v.range) (all-anyway (λ p. Fits s.step.number (leg_at source s v.name p)) (positions v.range) (leg-fits source s v.name)))))
+
+pass-fits : (source : Source) (s : Instance) (at : Place) (b : Bit × Bit) → AllByRecursion (Fits s.step.number) (pass_to source s at b)
+pass-fits source s at (net n p, net m q) = (record { scope = refl; takes = refl; delays = tt }, tt)
+pass-fits source s at (net n p, constant there v) = (record { scope = refl; takes = refl; delays = tt }, tt)
+pass-fits source s at (constant there v, b) = tt
+
+constant-fits : (s : Instance) (spot : Spot) (b : Bit) → AllByRecursion (Fits s.step.number) (constant_pass s spot b)
+constant-fits s spot (net n p) = tt
+constant-fits s spot (constant at v) = (record { scope = refl; takes = refl; delays = tt }, tt)
+
+-- ---- gates and primitives
+
+output-fits : (source : Source) (s : Instance) (at : Place) (kind : Kind) (inputs : List Spot) → TakesInputs kind (length inputs) → HasDelays kind → (b : Bit)
+    → AllByRecursion (Fits s.step.number) (output_element source s at kind inputs b)
+output-fits source s at kind inputs h g (net n p) = (record { scope = refl; takes = h; delays = g }, tt)
+output-fits source s at kind inputs h g (constant there v) = tt
+
+terminals-fit : (source : Source) (s : Instance) (at : Place) (k : ℕ) (kind : Kind) (outputs : ℕ) (bs : List Bit) → TakesInputs kind (length bs - outputs) → HasDelays kind
+    → AllByRecursion (Fits s.step.number) (terminal_elements source s at k kind outputs bs)
+terminals-fit source s at k kind outputs bs h g =
+    let inputs = enumerate_from 0 (drop outputs bs) in
+    let l : length (map (input_spot source s k) inputs) ≡ length bs - outputs = length-map inputs (input_spot source s k) ∙ length-enumerate_from 0 (drop outputs bs) ∙ length-drop outputs bs in
+    all-append (Fits s.step.number)
+    (flat_map (output_element source s at kind (map (input_spot source s k) inputs)) (take outputs bs))
+    (flat_map (λ i. constant_pass s (terminal s.step.number k i.0) i.1) inputs)
+    (all-flat (Fits s.step.number) (output_element source s at kind (map (input_spot source s k) inputs)) (take outputs bs)
+    (output-fits source s at kind (map (input_spot source s k) inputs) (subst (TakesInputs kind) (sym l) h) g))
+    (all-flat (Fits s.step.number) (λ i. constant_pass s (terminal s.step.number k i.0) i.1) inputs (λ i. constant-fits s (terminal s.step.number k i.0) i.1))
+
+gate-takes : (g : GateKind) (n : ℕ) → 2 ≤ n → GateTakes g (n - output_count g n)
+gate-takes And n h = omega arith
+gate-takes Nand n h = omega arith
+gate-takes Or n h = omega arith
+gate-takes Nor n h = omega arith
+gate-takes Xor n h = omega arith
+gate-takes Xnor n h = omega arith
+gate-takes Buf n h = omega arith
+gate-takes Not n h = omega arith
+
+-- as many terminals as ports
+all-present : (es : List (Option Expression)) → list_any is_missing es ≡ false → length (filter_map (λ e. e) es) ≡ length es
+all-present [] h = refl
+all-present (None ∷ es) h = cc
+all-present (Some e ∷ es) h = let l = all-present es h in omega arith
+
+ports-counted : (p : Primitive) (c : Connections) → are_terminals p c ≡ true → length (connection_values c) ≡ length p.ports
+ports-counted p (by_name cs) h = cc
+ports-counted p (by_order es) h =
+    let two = and_parts (not (list_any is_missing es)) (length es == length p.ports) h in
+    all-present es (not-true (list_any is_missing es) two.0) ∙ eqb-true (length es) (length p.ports) two.1
+
+gate-fits : (source : Source) (corner : Corner) (tick : ℤ) (s : Instance) (k : ℕ) (g : GateKind) (d : Option Delay) (i : GateInstance)
+    → flat_map (expression_faults (variables s.step.definition)) i.terminals ≡ [] → member_faults source corner tick s.step.definition (variables s.step.definition) (gate g d i) ≡ []
+    → AllByRecursion (Fits s.step.number) (member_elements source corner tick s (k, gate g d i))
+gate-fits source corner tick s k g d i sound h =
+    let vs = variables s.step.definition in
+    let m = s.step.definition in
+    let ends = terminal_faults vs (output_count g (length i.terminals)) i.terminals in
+    let widths = flat_map (width_faults vs 1) i.terminals in
+    let few = fault_if (nat_lt (length i.terminals) 2) BadTerminal i.place in
+    let later : ends ++ delay_faults corner tick m d ≡ [] = back few (ends ++ delay_faults corner tick m d) h in
+    let two : 2 ≤ length i.terminals = ltb-false (length i.terminals) 2 (no-fault _ BadTerminal i.place (front few (ends ++ delay_faults corner tick m d) h)) in
+    let count : length (terminal_bits s i.terminals) ≡ length i.terminals =
+    bits-count vs i.terminals sound (front widths _ (front ends (delay_faults corner tick m d) later)) in
+    terminals-fit source s i.place k (Gate g (delays_of corner tick m d)) (output_count g (length (terminal_bits s i.terminals))) (terminal_bits s i.terminals)
+    (gate-takes g (length (terminal_bits s i.terminals)) (subst (λ n. 2 ≤ n) (sym count) two))
+    (gate-delays corner tick m d (back ends (delay_faults corner tick m d) later))
+
+primitive-fits : (source : Source) (corner : Corner) (tick : ℤ) (s : Instance) (k : ℕ) (p : Primitive) (d : Option Delay) (i : instance_text)
+    → flat_map (expression_faults (variables s.step.definition)) (connection_values i.connections) ≡ []
+    → primitive_instance_faults corner tick s.step.definition (variables s.step.definition) p d i ≡ []
+    → AllByRecursion (Fits s.step.number) (instance_elements source corner tick s k d i (Some (a_primitive p)))
+primitive-fits source corner tick s k p d i sound h =
+    let vs = variables s.step.definition in
+    let m = s.step.definition in
+    let es = connection_values i.connections in
+    let ends = terminal_faults vs 1 es in
+    let late = delay_faults corner tick m d ++ primitive_faults p in
+    let wrong = fault_if (not (are_terminals p i.connections)) BadTerminal i.place in
+    let later : ends ++ late ≡ [] = back wrong (ends ++ late) h in
+    let right : are_terminals p i.connections ≡ true = not-false (are_terminals p i.connections) (no-fault _ BadTerminal i.place (front wrong (ends ++ late) h)) in
+    let count : length (terminal_bits s es) ≡ length p.ports = bits-count vs es sound (front (flat_map (width_faults vs 1) es) _ (front ends late later)) ∙ ports-counted p i.connections right in
+    terminals-fit source s i.place k (Udp (table_of p) (initial_value p.initial) (delays_of corner tick m d)) 1 (terminal_bits s es)
+    (ap (λ n. n - 1) count)
+    (gate-delays corner tick m d (front (delay_faults corner tick m d) (primitive_faults p) (back ends late later)))
+
+-- ---- all members
+
+child-fits : (source : Source) (s c : Instance) → AllByRecursion (Fits s.step.number) (child_elements source s c)
+child-fits source s c =
+    all-flat (Fits s.step.number) (port_elements source s c) (port_values c.step.connections (port_list c.step.definition))
+    (λ e. all-flat (Fits s.step.number) (λ b. constant_pass s (port_spot source s c e.0 b.0) b.1) (enumerate_from 0 (expression_bits s e.1))
+    (λ b. constant-fits s (port_spot source s c e.0 b.0) b.1))
+
+member-fits : (source : Source) (corner : Corner) (tick : ℤ) (s : Instance) (x : ℕ × Member) → all_member_faults source corner tick s.step.definition x.1 ≡ []
+    → AllByRecursion (Fits s.step.number) (member_elements source corner tick s x)
+member-fits source corner tick s (k, assignment j) h =
+    all-flat (Fits s.step.number) (pass_to source s j.place) (zip (expression_bits s j.left) (expression_bits s j.right)) (pass-fits source s j.place)
+member-fits source corner tick s (k, supply n v) h =
+    all-flat (Fits s.step.number) (λ b. pass_to source s n.place (b, constant n.place v)) (leaf_bits (variables s.step.definition) (whole n)) (λ b. pass-fits source s n.place (b, constant n.place v))
+member-fits source corner tick s (k, gate g d i) h =
+    let vs = variables s.step.definition in
+    let own = member_faults source corner tick s.step.definition vs (gate g d i) in
+    gate-fits source corner tick s k g d i (front (flat_map (expression_faults vs) i.terminals) own h) (back (flat_map (expression_faults vs) i.terminals) own h)
+member-fits source corner tick s (k, instance n d i) h = by (definition_of source n.text) h
+  where
+    by : (o : Option Part)
+        → flat_map (expression_faults (variables s.step.definition)) (connection_values i.connections) ++ instance_faults corner tick s.step.definition (variables s.step.definition) d i o ≡ []
+        → AllByRecursion (Fits s.step.number) (instance_elements source corner tick s k d i o)
+    by None g = tt
+    by (Some (a_module m)) g = all-flat (Fits s.step.number) (child_elements source s) (child_at source s k) (child-fits source s)
+    by (Some (a_primitive p)) g =
+        let vs = variables s.step.definition in
+        let names = flat_map (expression_faults vs) (connection_values i.connections) in
+        let own = primitive_instance_faults corner tick s.step.definition vs p d i in
+        primitive-fits source corner tick s k p d i (front names own g) (back names own g)
+
+pub elements-fit : (source : Source) (corner : Corner) (tick : ℤ) (s : Instance) → module_faults source corner tick s.step.definition ≡ []
+    → AllByRecursion (Fits s.step.number) (elements_of source corner tick s)
+elements-fit source corner tick s h =
+    let m = s.step.definition in
+    all-append (Fits s.step.number) (legs source s) (flat_map (member_elements source corner tick s) (enumerate_from 0 (members m)))
+    (legs-fit source s)
+    (all-flat_in (Fits s.step.number) (member_elements source corner tick s) (enumerate_from 0 (members m))
+    (all-weaker (λ x. all_member_faults source corner tick m x.1 ≡ []) (λ x. AllByRecursion (Fits s.step.number) (member_elements source corner tick s x)) (enumerate_from 0 (members m))
+    (member-fits source corner tick s) (all-second (λ x. all_member_faults source corner tick m x ≡ []) 0 (members m) (members-sound source corner tick m h))))

@@ -1,0 +1,39 @@
+-- The table stands for all drives, or one is refused.
+use Rattle.std.proofs.Common.{rules, [], map, length}
+use Rattle.elab_nets.specs.Driving.{StandsFor, by_stimulus}
+use Rattle.elab_drivers.proofs.ByNumber.{by_others}
+use Rattle.elab_drivers.proofs.Answered.{nobody, tells-drivers, refuses-input, refuses-output, refuses-reg}
+use Rattle.elab_drivers.proofs.table.drivers.Goals as goal
+
+pub returns-in-Err-clause-refused : goal.returns-in-Err-clause-refused
+returns-in-Err-clause-refused c =
+    let table = nobody c.in_ok-drivers.drivers.items c.args.nets (c.in_ok-drivers.ensures.items_if_clones_equal (λ y e. e)) in
+    refuses-input c.args.nets c.args.inputs.now c.args.input_places.now (map (λ e. e.output) c.args.elements.now) c.args.places.now c.args.regs.now
+    c.in-Err.second _ c.second_driver.result c.second_driver.ensures c.requires.input_places c.in-Err.ensures.place (c.in-Err.ensures.taken [] table)
+
+pub returns-in-Err-drive_outputs-clause-refused : goal.returns-in-Err-drive_outputs-clause-refused
+returns-in-Err-drive_outputs-clause-refused c =
+    let table = nobody c.in_ok-drivers.drivers.items c.args.nets (c.in_ok-drivers.ensures.items_if_clones_equal (λ y e. e)) in
+    refuses-output c.args.nets c.args.inputs.now c.args.input_places.now (map (λ e. e.output) c.args.elements.now) c.args.places.now c.args.regs.now
+    (length c.args.elements.now) c.in-Err-drive_outputs.second _ c.second_driver-in-Err-drive_outputs.result c.second_driver-in-Err-drive_outputs.ensures
+    c.requires.places c.in-Err-drive_outputs.ensures.place (c.in-Err-drive_outputs.ensures.second (map by_stimulus c.args.inputs.now) (c.in_default.ensures.noted [] table))
+
+pub place_of_driver-requires-clause-driven : goal.place_of_driver-requires-clause-driven
+place_of_driver-requires-clause-driven c =
+    let table = nobody c.in_ok-drivers.drivers.items c.args.nets (c.in_ok-drivers.ensures.items_if_clones_equal (λ y e. e)) in
+    c.in-Err-drive_regs.ensures.taken (by_others c.args.inputs.now (map (λ e. e.output) c.args.elements.now))
+    (c.in_default-drive_outputs.ensures.noted (map by_stimulus c.args.inputs.now) (c.in_default.ensures.noted [] table))
+
+pub returns-in-Err-drive_regs-clause-refused : goal.returns-in-Err-drive_regs-clause-refused
+returns-in-Err-drive_regs-clause-refused c =
+    refuses-reg c.args.nets c.args.inputs.now c.args.input_places.now (map (λ e. e.output) c.args.elements.now) c.args.places.now c.args.regs.now
+    c.in-Err-drive_regs.reg c.place_of_driver.result c.place_of_driver.ensures c.in-Err-drive_regs.ensures.among
+
+pub returns-clause-drivers : goal.returns-clause-drivers
+returns-clause-drivers c =
+    let outputs = map (λ e. e.output) c.args.elements.now in
+    let table = nobody c.in_ok-drivers.drivers.items c.args.nets (c.in_ok-drivers.ensures.items_if_clones_equal (λ y e. e)) in
+    let before : StandsFor c.drive_outputs.new.drivers.items (by_others c.args.inputs.now outputs) =
+    c.in_default-drive_outputs.ensures.noted (map by_stimulus c.args.inputs.now) (c.in_default.ensures.noted [] table) in
+    tells-drivers c.args.nets c.args.inputs.now c.args.input_places.now outputs c.args.places.now c.args.regs.now c.drive_outputs.new.drivers.items c.drive_regs.new.drivers.items
+    (search rules) before (c.in_default-drive_regs.ensures.noted (by_others c.args.inputs.now outputs) before)

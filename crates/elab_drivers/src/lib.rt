@@ -1,0 +1,9 @@
+//! The driver of each net of a circuit: the stimulus, an element, or timing checks.
+#![tactic(auto)]
+
+mod places;
+mod table;
+#[cfg(test)]
+mod tests;
+
+pub use table::drivers;

@@ -1,0 +1,4 @@
+-- The modules of this folder: words of the contracts.
+pub mod Codes
+pub mod Tops
+pub mod Placing

@@ -1,0 +1,14 @@
+//! Laws of elaboration: what elements read and drive has a net.
+#![tactic(auto)]
+
+ghost use Rattle.elab_owned.specs.Laws.{DrivesHaveNets, ElementsHaveNets};
+
+/// Where no module has a fault, what an element reads and what it drives are nets.
+pub fn elements_have_nets()
+    ensures { ElementsHaveNets }
+{}
+
+/// Where no module has a fault, whatever is driven is a net.
+pub fn drives_have_nets()
+    ensures { DrivesHaveNets }
+{}

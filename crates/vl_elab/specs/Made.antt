@@ -1,0 +1,28 @@
+-- What stands when the parts of a circuit have been made, one after another.
+use Rattle.std.specs.Prelude.{List, [], ◌∷◌}
+use Rattle.sg_circuit.specs.declared.nets.Driver.{Driver}
+use Rattle.sg_circuit.specs.declared.nets.Net.{Net}
+use Rattle.sg_delay.specs.declared.corners.Corner.{Corner}
+use Rattle.vl_tree.specs.Tree.{Module, Source}
+use Rattle.elab_model.specs.Hierarchy.{instances}
+use Rattle.elab_hierarchy.specs.Placing.{ArePlaced}
+use Rattle.elab_hierarchy.specs.declared.instances.Placed.{Placed}
+use Rattle.elab_modules.specs.Reached.{IsLibrary}
+use Rattle.elab_modules.specs.declared.library.Library.{Library}
+use Rattle.elab_rows.specs.Rows.{HaveRows}
+use Rattle.elab_rows.specs.declared.rows.Rows.{Rows}
+use Rattle.elab_elements.specs.Seen.{AreElements}
+use Rattle.elab_elements.specs.declared.placing.Placing.{Placing}
+
+-- the instances, what they are of, their nets and the elements of a top
+pub record AreMade (source : Source) (top : Module) (corner : Corner) (placed : List Placed) (ready : Library) (numbers : Rows) (made : Placing) : Type 0 where
+  pub are_placed : ArePlaced source placed (instances source top)
+  pub is_ready : IsLibrary source corner top ready
+  pub have_rows : HaveRows source top numbers
+  pub are_elements : AreElements source top corner ready.gate_delays.items ready.udps.items made
+
+-- nets, each with its driver in place of another
+abbrev pub driven_by : List Net → List Driver → List Net
+driven_by [] ds = []
+driven_by (n ∷ ns) [] = n ∷ ns
+driven_by (n ∷ ns) (d ∷ ds) = record n { driver = d } ∷ driven_by ns ds
