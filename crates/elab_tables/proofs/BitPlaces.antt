@@ -1,15 +1,14 @@
 -- The row and the variable that a place in the row of bits belongs to.
 use Rattle.std.specs.Prelude.{◌≡◌, ℕ, zero, suc, ◌+◌, ◌-◌, ◌<◌, ◌≤◌, List, [], ◌∷◌, ◌++◌, true, false, Some, length, slice_index_or, slice_get, refl}
 use Rattle.std.specs.Borrow.{Bor}
-use Rattle.std.specs.List.{AllWithin, range_with_len}
+use Rattle.std.specs.List.{AllWithin}
 use Rattle.std.specs.List.Sorted.{IsNonDecreasingBy, IsPartitionPoint, IsPartitionedBy}
-use Rattle.std.specs.Option.{option_map}
 use Rattle.std.proofs.Common.{sym, ◌∙◌, ap, subst, arith, leb}
 use Rattle.std.proofs.lemmas.Bool.{leb-true, leb-false}
-use Rattle.std.proofs.lemmas.List.FromFn.{length-map-range_with_len}
+use Rattle.std.proofs.lemmas.List.FromFn.{get_or-map-range_with_len, length-map-range_with_len}
 use Rattle.std.proofs.lemmas.List.Sorted.{IsPartitionedBy-leb}
 use Rattle.std.proofs.lemmas.List.Sums.{sum_by-cons}
-use Rattle.std.proofs.lemmas.Option.{slice_get-map}
+use Rattle.std.proofs.lemmas.Option.{slice_get-get_or}
 use Rattle.sg_circuit.specs.Closed.{width_of}
 use Rattle.elab_laws.specs.Handing.{all_bits, variable_bits}
 use Rattle.elab_model.specs.Names.{Variable}
@@ -88,7 +87,8 @@ last-before (r ∷ rs) next place (suc (suc k)) s le lt p =
     reaches [] t q = cc
     reaches (x ∷ xs) t q = let f : x.start ≡ next + width_of r.range = t.0 in omega (arith, f, q.0)
 
-pub place-found : (rows : List Row) (place k : ℕ) → starts_are 0 rows → place < bit_count rows → k ≤ length rows → IsPartitionPoint (Starts place) (StartsLater place) rows k → (1 ≤ k) × HasPlace rows place (k - 1)
+pub place-found : (rows : List Row) (place k : ℕ) → starts_are 0 rows → place < bit_count rows → k ≤ length rows → IsPartitionPoint (Starts place) (StartsLater place) rows k
+    → (1 ≤ k) × HasPlace rows place (k - 1)
 place-found rows place k s lt le p =
     let l = last-before rows 0 place k s (omega arith) (omega (arith, lt)) (parts place rows k le p.0 p.1) in
     let e : k - 1 ≡ l.index = omega (arith, l.after) in
@@ -106,15 +106,11 @@ get-right [] ys i n e = let f : n ≡ i = omega (arith, e) in ap (slice_get ys) 
 get-right (x ∷ xs) ys i zero e = absurd (omega (arith, e))
 get-right (x ∷ xs) ys i (suc n) e = get-right xs ys i n (omega (arith, e))
 
-range-at : (a n i : ℕ) → i < n → slice_get (range_with_len a n) i ≡ Some (a + i)
-range-at a zero i lt = absurd (omega (arith, lt))
-range-at a (suc n) zero lt = let e : a ≡ a + 0 = omega arith in ap (λ k. Some k) e
-range-at a (suc n) (suc i) lt = let e : a + 1 + i ≡ a + suc i = omega arith in range-at (a + 1) n i (omega (arith, lt)) ∙ ap (λ k. Some k) e
-
 bit-of : (v : Variable) (i : ℕ) → i < width_of v.range → slice_get (variable_bits v) i ≡ Some (v, i)
 bit-of v i lt =
-    let e : 0 + i ≡ i = omega arith in
-    slice_get-map (λ p. (v, p)) (range_with_len 0 (width_of v.range)) i ∙ ap (option_map (λ p. (v, p))) (range-at 0 (width_of v.range) i lt ∙ ap (λ k. Some k) e)
+    let long = length-map-range_with_len {X = Variable × ℕ} (λ p. (v, p)) 0 (width_of v.range) in
+    let inside : i < length (variable_bits v) = omega (arith, lt, long) in
+    slice_get-get_or (variable_bits v) i (v, 0) inside ∙ ap (λ b. Some b) (get_or-map-range_with_len (λ p. (v, p)) 0 (width_of v.range) i i (v, 0) lt (omega arith))
 
 bit-from : (names : List (Bor (List ℕ))) (rows : List Row) (next i place : ℕ) → length names ≡ length rows → starts_are next rows → HasPlace rows place i
     → slice_get (all_bits (variables_seen names rows)) (place - next) ≡ Some (variable_at (variables_seen names rows) i, place - (slice_index_or rows i blank).start)
@@ -143,7 +139,8 @@ same-at [] i d e lt = absurd (omega (arith, lt))
 same-at (r ∷ rs) zero d e lt = refl
 same-at (r ∷ rs) (suc i) d e lt = same-at rs i d e (omega (arith, lt))
 
-module _ (t : List Variable) (names : List (Bor (List ℕ))) (rows : List Row) (bits : ℕ) (is : IsTable names rows bits) (view : variables_seen names rows ≡ t) (now : List Row) (same : now ≡ rows) (place : ℕ) where
+module _ (t : List Variable) (names : List (Bor (List ℕ))) (rows : List Row) (bits : ℕ) (is : IsTable names rows bits) (view : variables_seen names rows ≡ t) (now : List Row) (same : now ≡ rows)
+    (place : ℕ) where
   pub starts-now : starts_are 0 now
   starts-now = subst (starts_are 0) (sym same) is.starts
 

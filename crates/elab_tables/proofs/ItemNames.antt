@@ -4,6 +4,7 @@ use Rattle.std.specs.Borrow.{Bor}
 use Rattle.std.specs.List.{cons_option}
 use Rattle.std.specs.Option.{option_map}
 use Rattle.std.proofs.Common.{sym, ◌∙◌, ap, Vec, Global}
+use Rattle.std.proofs.lemmas.List.{append-nil}
 use Rattle.std.proofs.lemmas.List.Concat.{flat_map-append}
 use Rattle.std.proofs.lemmas.List.Folds.{flat_map-map}
 use Rattle.sg_logic.specs.declared.gates.GateKind.{GateKind}
@@ -28,7 +29,7 @@ use Rattle.elab_model.specs.Ports.{port_list, net_declarations}
 use Rattle.elab_names.specs.declared.nets.NetDeclaration as code_declaration
 use Rattle.elab_names.specs.Words.{view_net}
 use Rattle.elab_tables.specs.Naming.{key_texts, with_names, names_in, names_at_net, names_of_member, names_where}
-use Rattle.elab_tables.proofs.WithNames.{append-nil, with-none, with-both, all-new}
+use Rattle.elab_tables.proofs.WithNames.{with-none, with-both, all-new}
 
 of-nets : (ns : List NetName) → flat_map names_of_member (filter_map (λ n. assignment_to n.name n.value) ns) ≡ flat_map (λ n. names_at_net n.name.text n.value) ns
 of-nets [] = refl
@@ -53,18 +54,22 @@ as-item : (known after : List (List ℕ)) (x v : code_item.Item) (names : List (
     → after ≡ with_names known (flat_map names_of_member (members_of_item (view_item x)))
 as-item known after x v names is e h = h ∙ ap (with_names known) (sym e) ∙ ap (λ i. with_names known (flat_map names_of_member (members_of_item (view_item i)))) (sym is)
 
-pub unnamed : (known : List (List ℕ)) (x v : code_item.Item) → x ≡ v → flat_map names_of_member (members_of_item (view_item v)) ≡ [] → known ≡ with_names known (flat_map names_of_member (members_of_item (view_item x)))
+pub unnamed : (known : List (List ℕ)) (x v : code_item.Item) → x ≡ v → flat_map names_of_member (members_of_item (view_item v)) ≡ []
+    → known ≡ with_names known (flat_map names_of_member (members_of_item (view_item x)))
 unnamed known x v is e = as-item known known x v [] is e (with-none known)
 
 pub supplies-unnamed : (v : Value) (ns : List Named) → flat_map names_of_member (map (λ n. supply n v) ns) ≡ []
 supplies-unnamed v [] = refl
 supplies-unnamed v (n ∷ ns) = supplies-unnamed v ns
 
-pub nets-named : (known after : List (List ℕ)) (x : code_item.Item) (p : Place) (t : NetType) (r : Option Range) (ns : Vec code_net.NetName Global) → x ≡ item.Nets p t r ns → (now : List code_net.NetName) → now ≡ ns.items
-    → after ≡ with_names known (flat_map (λ n. names_at_net n.name.text.now (option_map view_expression n.value)) now) → after ≡ with_names known (flat_map names_of_member (members_of_item (view_item x)))
+pub nets-named : (known after : List (List ℕ)) (x : code_item.Item) (p : Place) (t : NetType) (r : Option Range) (ns : Vec code_net.NetName Global) → x ≡ item.Nets p t r ns
+    → (now : List code_net.NetName) → now ≡ ns.items
+    → after ≡ with_names known (flat_map (λ n. names_at_net n.name.text.now (option_map view_expression n.value)) now) → after ≡ with_names known
+    (flat_map names_of_member (members_of_item (view_item x)))
 nets-named known after x p t r ns is now same h =
     as-item known after x (item.Nets p t r ns) (flat_map (λ n. names_at_net n.name.text.now (option_map view_expression n.value)) now) is
-    (of-nets (map view_net_name ns.items) ∙ flat_map-map (λ n. names_at_net n.name.text n.value) view_net_name ns.items ∙ ap (flat_map (λ n. names_at_net n.name.text.now (option_map view_expression n.value))) (sym same))
+    (of-nets (map view_net_name ns.items) ∙ flat_map-map (λ n. names_at_net n.name.text n.value) view_net_name ns.items ∙ ap
+    (flat_map (λ n. names_at_net n.name.text.now (option_map view_expression n.value))) (sym same))
     h
 
 pub assigns-named : (known after : List (List ℕ)) (x : code_item.Item) (p : Place) (js : Vec code_join.Join Global) → x ≡ item.Assigns p js → (now : List code_join.Join) → now ≡ js.items
@@ -85,10 +90,12 @@ gates-named known after x p g d is e now same h =
 
 pub instances-named : (known after : List (List ℕ)) (x : code_item.Item) (n : code_name.Name) (d : Option code_delay.Delay) (is : Vec code_instance.Instance Global) → x ≡ item.Instances n d is
     → (now : List code_instance.Instance) → now ≡ is.items
-    → after ≡ with_names known (flat_map (λ i. flat_map names_in (connection_values (view_instance i).connections)) now) → after ≡ with_names known (flat_map names_of_member (members_of_item (view_item x)))
+    → after ≡ with_names known (flat_map (λ i. flat_map names_in (connection_values (view_instance i).connections)) now) → after ≡ with_names known
+    (flat_map names_of_member (members_of_item (view_item x)))
 instances-named known after x n d is e now same h =
     as-item known after x (item.Instances n d is) (flat_map (λ i. flat_map names_in (connection_values (view_instance i).connections)) now) e
-    (flat_map-map names_of_member (instance (view_name n) (option_map view_delay d)) (map view_instance is.items) ∙ flat_map-map (λ i. flat_map names_in (connection_values i.connections)) view_instance is.items
+    (flat_map-map names_of_member (instance (view_name n) (option_map view_delay d)) (map view_instance is.items) ∙ flat_map-map (λ i. flat_map names_in (connection_values i.connections))
+    view_instance is.items
     ∙ ap (flat_map (λ i. flat_map names_in (connection_values (view_instance i).connections))) (sym same))
     h
 
@@ -122,13 +129,15 @@ nets-texts : (ds : List code_declaration.NetDeclaration) → flat_map (λ d. d.n
 nets-texts [] = refl
 nets-texts (d ∷ ds) = ap (λ xs. d.name.text.now ∷ xs) (nets-texts ds)
 
-pub all-named : (m : code_module.Module) (none first second third : List (Bor (List ℕ))) (ports : List code_name.Name) (nets : List code_declaration.NetDeclaration) (now : List code_name.Name) → now ≡ ports
+pub all-named : (m : code_module.Module) (none first second third : List (Bor (List ℕ))) (ports : List code_name.Name) (nets : List code_declaration.NetDeclaration) (now : List code_name.Name)
+    → now ≡ ports
     → map view_name ports ≡ port_list (view_module m) → map view_net nets ≡ net_declarations (view_module m) → none ≡ []
     → key_texts first ≡ with_names (key_texts none) (flat_map (λ n. n.text.now ∷ []) now) → key_texts second ≡ with_names (key_texts first) (flat_map (λ d. d.name.text.now ∷ []) nets)
     → key_texts third ≡ with_names (key_texts second) (names_where m.mark.implicit (whole_names (view_module m))) → key_texts third ≡ variable_names (view_module m)
 all-named m none first second third ports nets now same ps ds e a b c =
     let used = names_where m.mark.implicit (whole_names (view_module m)) in
-    let p = a ∙ ap (λ ks. with_names (key_texts ks) (flat_map (λ n. n.text.now ∷ []) now)) e ∙ ap (with_names []) (ap (flat_map (λ n. n.text.now ∷ [])) same ∙ ports-texts ports ∙ ap (map (λ n. n.text)) ps) in
+    let p = a ∙ ap (λ ks. with_names (key_texts ks) (flat_map (λ n. n.text.now ∷ []) now)) e ∙ ap (with_names [])
+    (ap (flat_map (λ n. n.text.now ∷ [])) same ∙ ports-texts ports ∙ ap (map (λ n. n.text)) ps) in
     let d = nets-texts nets ∙ ap (map (λ d. d.name.text)) ds in
     c
     ∙ ap (λ ks. with_names ks used) (b ∙ ap (λ ks. with_names ks (flat_map (λ d. d.name.text.now ∷ []) nets)) p ∙ ap (with_names (with_names [] (map (λ n. n.text) (port_list (view_module m))))) d)

@@ -1,5 +1,5 @@
 -- The table of a module whose declarations have no fault.
-use Rattle.std.specs.Prelude.{◌≡◌, ℕ, ◌≤◌, List, [], ◌∷◌, ◌++◌, map, length, refl, bytes_eq}
+use Rattle.std.specs.Prelude.{◌≡◌, ℕ, ◌≤◌, List, [], ◌++◌, map, length, bytes_eq}
 use Rattle.std.specs.Borrow.{Bor}
 use Rattle.std.specs.List.{AllByRecursion, IsDistinct}
 use Rattle.std.proofs.Common.{sym, ◌∙◌, ap, subst}
@@ -7,6 +7,7 @@ use Rattle.sg_circuit.specs.Closed.{width_of}
 use Rattle.vl_tree.specs.declared.modules.PortDeclaration.{PortDeclaration}
 use Rattle.vl_tree.specs.Seen.{view_port_declaration}
 use Rattle.vl_tree.specs.Tree.{Module}
+use Rattle.elab_laws.proofs.NoFaults.{front, back}
 use Rattle.elab_model.specs.Faults.{Fault}
 use Rattle.elab_model.specs.Names.{variables, variable_names}
 use Rattle.elab_model.specs.NameFaults.{declaration_faults, name_faults, twice_in_list, two_directions, two_nets, two_instances, no_port, no_direction, two_ranges, too_wide}
@@ -21,23 +22,19 @@ use Rattle.elab_tables.proofs.NoneTooWide.{rows-narrow}
 use Rattle.elab_tables.proofs.SaidVariables.{names-distinct, variables-said, length-said}
 use Rattle.elab_tables.proofs.TableSeen.{counted, length-placed, placed-starts, placed-wide, placed-counted}
 
-both-empty : {A : Type 0} (xs ys : List A) → xs ++ ys ≡ [] → (xs ≡ []) × (ys ≡ [])
-both-empty [] ys h = (refl, h)
-both-empty (x ∷ xs) ys h = cc
-
 fifth-empty : (a b c d e f : List Fault) → a ++ (b ++ (c ++ (d ++ (e ++ (f ++ []))))) ≡ [] → e ≡ []
 fifth-empty a b c d e f h =
-    let p = (both-empty a (b ++ (c ++ (d ++ (e ++ (f ++ []))))) h).1 in
-    let q = (both-empty b (c ++ (d ++ (e ++ (f ++ [])))) p).1 in
-    let r = (both-empty c (d ++ (e ++ (f ++ []))) q).1 in
-    let s = (both-empty d (e ++ (f ++ [])) r).1 in
-    (both-empty e (f ++ []) s).0
+    let p = back a (b ++ (c ++ (d ++ (e ++ (f ++ []))))) h in
+    let q = back b (c ++ (d ++ (e ++ (f ++ [])))) p in
+    let r = back c (d ++ (e ++ (f ++ []))) q in
+    let s = back d (e ++ (f ++ [])) r in
+    front e (f ++ []) s
 
 ports-listed : (m : Module) → declaration_faults m ≡ [] → no_port m ≡ []
-ports-listed m h = fifth-empty (twice_in_list m) (two_directions m) (two_nets m) (two_instances m) (no_port m) (no_direction m) (both-empty (name_faults m) (two_ranges m ++ too_wide m) h).0
+ports-listed m h = fifth-empty (twice_in_list m) (two_directions m) (two_nets m) (two_instances m) (no_port m) (no_direction m) (front (name_faults m) (two_ranges m ++ too_wide m) h)
 
 none-wide : (m : Module) → declaration_faults m ≡ [] → too_wide m ≡ []
-none-wide m h = (both-empty (two_ranges m) (too_wide m) (both-empty (name_faults m) (two_ranges m ++ too_wide m) h).1).1
+none-wide m h = back (two_ranges m) (too_wide m) (back (name_faults m) (two_ranges m ++ too_wide m) h)
 
 -- the code's lists are those of the module
 pub record Are (m : Module) (keys : List (Bor (List ℕ))) (ports : List PortDeclaration) (nets : List NetDeclaration) : Type 0 where

@@ -11,6 +11,7 @@ use Rattle.vl_tree.specs.declared.modules.PortDeclaration.{PortDeclaration}
 use Rattle.vl_tree.specs.Seen.{view_port_declaration}
 use Rattle.vl_tree.specs.Tree.{Item, Module}
 use Rattle.elab_laws.proofs.Lists.{all-in, all-map_back, all-append, found-is}
+use Rattle.elab_laws.proofs.NoFaults.{front, back}
 use Rattle.elab_model.specs.Faults.{fault_if}
 use Rattle.elab_model.specs.Names.{bounds}
 use Rattle.elab_model.specs.NameFaults.{RangeText, port_range, net_range, range_texts, too_wide, width_limit}
@@ -27,15 +28,12 @@ all-front : {A : Type 0} (P : A → Type 0) (xs ys : List A) → AllByRecursion 
 all-front P [] ys a = (tt, a)
 all-front P (x ∷ xs) ys a = let r = all-front P xs ys a.1 in ((a.0, r.0), r.1)
 
-front : {A : Type 0} (xs ys : List A) → xs ++ ys ≡ [] → (xs ≡ []) × (ys ≡ [])
-front [] ys h = (refl, h)
-front (x ∷ xs) ys h = cc
-
 narrow : (ss : List RangeText) → flat_map (λ s. fault_if (nat_lt width_limit (width_of s.range)) TooMany s.name.place) ss ≡ [] → AllByRecursion IsNarrow ss
 narrow [] h = tt
 narrow (s ∷ ss) h =
-    let p = front (fault_if (nat_lt width_limit (width_of s.range)) TooMany s.name.place) (flat_map (λ s. fault_if (nat_lt width_limit (width_of s.range)) TooMany s.name.place) ss) h in
-    (by (nat_lt width_limit (width_of s.range)) refl p.0, narrow ss p.1)
+    let own = fault_if (nat_lt width_limit (width_of s.range)) TooMany s.name.place in
+    let others = flat_map (λ s. fault_if (nat_lt width_limit (width_of s.range)) TooMany s.name.place) ss in
+    (by (nat_lt width_limit (width_of s.range)) refl (front own others h), narrow ss (back own others h))
   where
     by : (b : Bool) → nat_lt width_limit (width_of s.range) ≡ b → fault_if b TooMany s.name.place ≡ [] → width_of s.range ≤ 65536
     by true e h = cc
@@ -47,11 +45,14 @@ module _ (P : RangeText → Type 0) where
       → AllByRecursion P (map port_range (flat_map model.ports_of_item is)) × AllByRecursion P (map net_range (flat_map model.nets_of_item is))
   of-items [] a = (tt, tt)
   of-items (i ∷ is) a =
-      let p = all-front P (map port_range (model.ports_of_item i) ++ map net_range (model.nets_of_item i)) (flat_map (λ i. map port_range (model.ports_of_item i) ++ map net_range (model.nets_of_item i)) is) a in
+      let p = all-front P (map port_range (model.ports_of_item i) ++ map net_range (model.nets_of_item i))
+      (flat_map (λ i. map port_range (model.ports_of_item i) ++ map net_range (model.nets_of_item i)) is) a in
       let q = all-front P (map port_range (model.ports_of_item i)) (map net_range (model.nets_of_item i)) p.0 in
       let r = of-items is p.1 in (
-        subst (AllByRecursion P) (sym (map-append port_range (model.ports_of_item i) (flat_map model.ports_of_item is))) (all-append P (map port_range (model.ports_of_item i)) (map port_range (flat_map model.ports_of_item is)) q.0 r.0),
-        subst (AllByRecursion P) (sym (map-append net_range (model.nets_of_item i) (flat_map model.nets_of_item is))) (all-append P (map net_range (model.nets_of_item i)) (map net_range (flat_map model.nets_of_item is)) q.1 r.1),
+        subst (AllByRecursion P) (sym (map-append port_range (model.ports_of_item i) (flat_map model.ports_of_item is)))
+            (all-append P (map port_range (model.ports_of_item i)) (map port_range (flat_map model.ports_of_item is)) q.0 r.0),
+        subst (AllByRecursion P) (sym (map-append net_range (model.nets_of_item i) (flat_map model.nets_of_item is)))
+            (all-append P (map net_range (model.nets_of_item i)) (map net_range (flat_map model.nets_of_item is)) q.1 r.1),
       )
 
   of-module : (m : Module) → AllByRecursion P (range_texts m) → AllByRecursion P (map port_range (model.port_declarations m)) × AllByRecursion P (map net_range (model.net_declarations m))
@@ -63,7 +64,8 @@ module _ (P : RangeText → Type 0) where
         r.1,
       )
 
-said-narrow : (ports : List PortDeclaration) (nets : List NetDeclaration) → AllByRecursion (λ d. width_of (option_map bounds d.range) ≤ 65536) ports → AllByRecursion (λ d. width_of (option_map bounds d.range) ≤ 65536) nets
+said-narrow : (ports : List PortDeclaration) (nets : List NetDeclaration) → AllByRecursion (λ d. width_of (option_map bounds d.range) ≤ 65536) ports
+    → AllByRecursion (λ d. width_of (option_map bounds d.range) ≤ 65536) nets
     → (n : List ℕ) → width_of (row_said ports nets n).range ≤ 65536
 said-narrow ports nets a b n = by (find (λ d. bytes_eq n d.name.text.now) ports) refl (find (λ d. bytes_eq n d.name.text.now) nets) refl
   where
@@ -77,7 +79,8 @@ pub rows-narrow : (m : Module) (ports : List PortDeclaration) (nets : List NetDe
     → map view_net nets ≡ model.net_declarations m → AllByRecursion (λ r. width_of r.range ≤ 65536) (rows_said ports nets keys)
 rows-narrow m ports nets keys none ps ds =
     let p = of-module IsNarrow m (narrow (range_texts m) none) in
-    let a = all-map_back (λ d. IsNarrow (port_range d)) view_port_declaration ports (subst (AllByRecursion (λ d. IsNarrow (port_range d))) (sym ps) (all-map_back IsNarrow port_range (model.port_declarations m) p.0)) in
+    let a = all-map_back (λ d. IsNarrow (port_range d)) view_port_declaration ports (subst (AllByRecursion (λ d. IsNarrow (port_range d))) (sym ps)
+    (all-map_back IsNarrow port_range (model.port_declarations m) p.0)) in
     let b = all-map_back (λ d. IsNarrow (net_range d)) view_net nets (subst (AllByRecursion (λ d. IsNarrow (net_range d))) (sym ds) (all-map_back IsNarrow net_range (model.net_declarations m) p.1)) in
     each (said-narrow ports nets a b) keys
   where

@@ -17,7 +17,8 @@ heads : {A : Type 0} (x y : A) (xs ys : List A) → x ∷ xs ≡ y ∷ ys → (x
 heads x y xs ys e = (cc, cc)
 
 -- what stands at a place of what is left
-same-from : {A : Type 0} (xs ys : List A) (i : ℕ) (d : A) → i < length xs → i < length ys → drop i xs ≡ drop i ys → (slice_index_or xs i d ≡ slice_index_or ys i d) × (drop (suc i) xs ≡ drop (suc i) ys)
+same-from : {A : Type 0} (xs ys : List A) (i : ℕ) (d : A) → i < length xs → i < length ys → drop i xs ≡ drop i ys
+    → (slice_index_or xs i d ≡ slice_index_or ys i d) × (drop (suc i) xs ≡ drop (suc i) ys)
 same-from xs ys i d lt le e = heads (slice_index_or xs i d) (slice_index_or ys i d) (drop (suc i) xs) (drop (suc i) ys) (sym (drop-cons xs i d lt) ∙ e ∙ drop-cons ys i d le)
 
 pub width-at : (rows initial : List Row) (i : ℕ) (d : Row) → i < length rows → length rows ≡ length initial → drop i rows ≡ drop i initial → AllByRecursion (λ r. width_of r.range ≤ 65536) initial
@@ -30,7 +31,8 @@ abbrev pub starting_at : Row → ℕ → Row
 starting_at r next = record { range = r.range; reg = r.reg; port = r.port; start = next }
 
 one-placed : (rows : List Row) (i bits : ℕ) (d : Row) (total : List Row) → i < length rows → take i rows ++ placed bits (drop i rows) ≡ total
-    → take (i + 1) (slice_set rows i (starting_at (slice_index_or rows i d) bits)) ++ placed (bits + width_of (slice_index_or rows i d).range) (drop (i + 1) (slice_set rows i (starting_at (slice_index_or rows i d) bits))) ≡ total
+    → take (i + 1) (slice_set rows i (starting_at (slice_index_or rows i d) bits)) ++ placed (bits + width_of (slice_index_or rows i d).range)
+    (drop (i + 1) (slice_set rows i (starting_at (slice_index_or rows i d) bits))) ≡ total
 one-placed rows i bits d total lt h =
     let r = slice_index_or rows i d in
     let next = bits + width_of r.range in
@@ -64,7 +66,8 @@ pub next-row : (rows initial : List Row) (i bits next : ℕ) (d : Row) → i < l
     → (take (i + 1) (slice_set rows i (starting_at (slice_index_or rows i d) bits)) ++ placed next (drop (i + 1) (slice_set rows i (starting_at (slice_index_or rows i d) bits))) ≡ placed 0 initial)
     × (drop (i + 1) (slice_set rows i (starting_at (slice_index_or rows i d) bits)) ≡ drop (i + 1) initial) × (next ≡ bit_count (take (i + 1) initial))
 next-row rows initial i bits next d lt l is p e h = (
-  ap (λ n. take (i + 1) (slice_set rows i (starting_at (slice_index_or rows i d) bits)) ++ placed n (drop (i + 1) (slice_set rows i (starting_at (slice_index_or rows i d) bits)))) is ∙ one-placed rows i bits d (placed 0 initial) lt p,
+  ap (λ n. take (i + 1) (slice_set rows i (starting_at (slice_index_or rows i d) bits)) ++ placed n (drop (i + 1) (slice_set rows i (starting_at (slice_index_or rows i d) bits)))) is ∙ one-placed
+      rows i bits d (placed 0 initial) lt p,
   others-left rows initial i (starting_at (slice_index_or rows i d) bits) lt l e,
   is ∙ more-counted rows initial i bits d lt l e h,
 )

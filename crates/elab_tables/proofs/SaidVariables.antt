@@ -12,6 +12,7 @@ use Rattle.vl_tree.specs.Seen.{view_port_declaration}
 use Rattle.vl_tree.specs.Tree.{Named, Module, PortDeclaration as ModelPort}
 use Rattle.elab_laws.proofs.Apart.{first-apart}
 use Rattle.elab_laws.proofs.Lists.{Pairwise, in-map, found-is, all-in}
+use Rattle.elab_laws.proofs.NoFaults.{back}
 use Rattle.elab_model.specs.Faults.{fault_if, missing, texts_of}
 use Rattle.elab_model.specs.Names.{Variable, variable, variables, variable_names, is_among, range_of, is_reg_of, port_of}
 use Rattle.elab_model.specs.Ports as model
@@ -37,12 +38,12 @@ names-distinct m keys e = subst (IsDistinct bytes_eq) (sym e) (from-pairs (varia
 
 none-missing : (ns others : List Named) → missing UnknownName ns others ≡ [] → AllByRecursion (λ n. is_among n.text (texts_of others) ≡ true) ns
 none-missing [] others h = tt
-none-missing (n ∷ ns) others h = (by (is_among n.text (texts_of others)) h, none-missing ns others (rest (fault_if (not (is_among n.text (texts_of others))) UnknownName n.place) (missing UnknownName ns others) h))
+none-missing (n ∷ ns) others h = (
+  by (is_among n.text (texts_of others)) h,
+  none-missing ns others
+      (back (fault_if (not (is_among n.text (texts_of others))) UnknownName n.place) (missing UnknownName ns others) h),
+)
   where
-    rest : {A : Type 0} (xs ys : List A) → xs ++ ys ≡ [] → ys ≡ []
-    rest [] ys h = h
-    rest (x ∷ xs) ys h = cc
-
     by : (b : Bool) → fault_if (not b) UnknownName n.place ++ missing UnknownName ns others ≡ [] → b ≡ true
     by true h = refl
     by false h = cc
@@ -50,7 +51,8 @@ none-missing (n ∷ ns) others h = (by (is_among n.text (texts_of others)) h, no
 declared-listed : (m : Module) (n : List ℕ) (p : ModelPort) → no_port m ≡ [] → find (λ d. bytes_eq n d.name.text) (model.port_declarations m) ≡ Some p → is_among n (model.port_names m) ≡ true
 declared-listed m n p none e =
     let f = found-is (λ d. bytes_eq n d.name.text) (model.port_declarations m) p e in
-    let a = all-in (λ n. is_among n.text (model.port_names m) ≡ true) p.name (declared_ports m) (none-missing (declared_ports m) (model.port_list m) none) (in-map (λ d. d.name) p (model.port_declarations m) f.there) in
+    let a = all-in (λ n. is_among n.text (model.port_names m) ≡ true) p.name (declared_ports m) (none-missing (declared_ports m) (model.port_list m) none)
+    (in-map (λ d. d.name) p (model.port_declarations m) f.there) in
     subst (λ t. is_among t (model.port_names m) ≡ true) (sym ((bytes_eq-Decides n p.name.text).0 f.passes)) a
 
 -- ---- one variable
@@ -75,7 +77,8 @@ by-case n None (Some d) false h = refl
 by-case n None None true h = refl
 by-case n None None false h = refl
 
-one-said : (m : Module) (ports : List PortDeclaration) (nets : List NetDeclaration) → no_port m ≡ [] → map view_port_declaration ports ≡ model.port_declarations m → map view_net nets ≡ model.net_declarations m
+one-said : (m : Module) (ports : List PortDeclaration) (nets : List NetDeclaration) → no_port m ≡ [] → map view_port_declaration ports ≡ model.port_declarations m
+    → map view_net nets ≡ model.net_declarations m
     → (n : List ℕ) → variable_seen n (row_said ports nets n) ≡ variable m n
 one-said m ports nets none ps ds n =
     let p : find (λ d. bytes_eq n d.name.text) (model.port_declarations m) ≡ option_map view_port_declaration (find (λ d. bytes_eq n d.name.text.now) ports) =
@@ -89,7 +92,8 @@ one-said m ports nets none ps ds n =
 
 -- ---- all variables
 
-all-seen : (ports : List PortDeclaration) (nets : List NetDeclaration) (keys : List (Bor (List ℕ))) (next : ℕ) → variables_seen keys (placed next (rows_said ports nets keys)) ≡ map (λ n. variable_seen n (row_said ports nets n)) (key_texts keys)
+all-seen : (ports : List PortDeclaration) (nets : List NetDeclaration) (keys : List (Bor (List ℕ))) (next : ℕ)
+    → variables_seen keys (placed next (rows_said ports nets keys)) ≡ map (λ n. variable_seen n (row_said ports nets n)) (key_texts keys)
 all-seen ports nets [] next = refl
 all-seen ports nets (k ∷ ks) next = ap (λ vs. variable_seen k.now (row_said ports nets k.now) ∷ vs) (all-seen ports nets ks (next + width_of (row_said ports nets k.now).range))
 
@@ -97,7 +101,8 @@ same-map : {A B : Type 0} (f g : A → B) (xs : List A) → ((x : A) → f x ≡
 same-map f g [] h = refl
 same-map f g (x ∷ xs) h = ap (λ y. y ∷ map f xs) (h x) ∙ ap (λ ys. g x ∷ ys) (same-map f g xs h)
 
-pub variables-said : (m : Module) (ports : List PortDeclaration) (nets : List NetDeclaration) (keys : List (Bor (List ℕ))) → no_port m ≡ [] → map view_port_declaration ports ≡ model.port_declarations m
+pub variables-said : (m : Module) (ports : List PortDeclaration) (nets : List NetDeclaration) (keys : List (Bor (List ℕ))) → no_port m ≡ []
+    → map view_port_declaration ports ≡ model.port_declarations m
     → map view_net nets ≡ model.net_declarations m → key_texts keys ≡ variable_names m → variables_seen keys (placed 0 (rows_said ports nets keys)) ≡ variables m
 variables-said m ports nets keys none ps ds ns =
     all-seen ports nets keys 0 ∙ same-map (λ n. variable_seen n (row_said ports nets n)) (variable m) (key_texts keys) (one-said m ports nets none ps ds) ∙ ap (map (variable m)) ns

@@ -63,7 +63,8 @@ pub counted : (names : List (Bor (List ℕ))) (rows : List Row) → length names
 counted [] [] l = refl
 counted [] (r ∷ rs) l = cc
 counted (n ∷ ns) [] l = cc
-counted (n ∷ ns) (r ∷ rs) l = sum_by-cons (λ r. width_of r.range) r rs ∙ ap (λ k. width_of r.range + k) (counted ns rs (omega (arith, l))) ∙ sym (one-wider (variable_seen n.now r) (variables_seen ns rs))
+counted (n ∷ ns) (r ∷ rs) l = sum_by-cons (λ r. width_of r.range) r rs ∙ ap (λ k. width_of r.range + k) (counted ns rs (omega (arith, l))) ∙ sym
+    (one-wider (variable_seen n.now r) (variables_seen ns rs))
 
 pub wide-at : (rows : List Row) (i : ℕ) (r : Row) → i < length rows → AllByRecursion (λ r. width_of r.range ≤ 65536) rows → width_of (slice_index_or rows i r).range ≤ 65536
 wide-at [] i r lt a = absurd (omega (arith, lt))

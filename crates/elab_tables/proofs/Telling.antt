@@ -16,7 +16,8 @@ use Rattle.elab_tables.specs.Rows.{blank, said_by, said_of, first_said, rows_wit
 
 -- ---- one name
 
-none-told : (t : List ℕ) (h : Row → Row) (keys : List (Bor (List ℕ))) (rs : List Row) → length keys ≡ length rs → AllByRecursion (λ n. bytes_eq t n ≡ false) (key_texts keys) → rs ≡ rows_with (said_of t h) keys rs
+none-told : (t : List ℕ) (h : Row → Row) (keys : List (Bor (List ℕ))) (rs : List Row) → length keys ≡ length rs → AllByRecursion (λ n. bytes_eq t n ≡ false) (key_texts keys)
+    → rs ≡ rows_with (said_of t h) keys rs
 none-told t h [] [] l a = refl
 none-told t h [] (r ∷ rs) l a = cc
 none-told t h (k ∷ ks) [] l a = cc
@@ -54,20 +55,24 @@ length-texts [] = refl
 length-texts (k ∷ ks) = ap suc (length-texts ks)
 
 -- the row of a name that is there
-told-at : (t : List ℕ) (h : Row → Row) (keys : List (Bor (List ℕ))) (rs : List Row) (i : ℕ) (d : Bor (List ℕ)) (e : Row) → length keys ≡ length rs → IsDistinct bytes_eq (key_texts keys) → i < length keys
+told-at : (t : List ℕ) (h : Row → Row) (keys : List (Bor (List ℕ))) (rs : List Row) (i : ℕ) (d : Bor (List ℕ)) (e : Row) → length keys ≡ length rs → IsDistinct bytes_eq (key_texts keys)
+    → i < length keys
     → bytes_eq t (slice_index_or keys i d).now ≡ true → slice_set rs i (h (slice_index_or rs i e)) ≡ rows_with (said_of t h) keys rs
 told-at t h [] rs i d e l a lt is = absurd (omega (arith, lt))
 told-at t h (k ∷ ks) [] i d e l a lt is = cc
 told-at t h (k ∷ ks) (r ∷ rs) zero d e l a lt is =
     ap (λ b. (if b then h r else r) ∷ rs) (sym (bytes-either k.now t ∙ is))
-    ∙ ap (λ xs. said_of t h k.now r ∷ xs) (none-told t h ks rs (omega (arith, l)) (subst (λ n. AllByRecursion (λ m. bytes_eq n m ≡ false) (key_texts ks)) (sym (same-text t k.now is)) (IsDistinct-head bytes_eq k.now (key_texts ks) a)))
+    ∙ ap (λ xs. said_of t h k.now r ∷ xs) (none-told t h ks rs (omega (arith, l)) (subst (λ n. AllByRecursion (λ m. bytes_eq n m ≡ false) (key_texts ks)) (sym (same-text t k.now is))
+    (IsDistinct-head bytes_eq k.now (key_texts ks) a)))
 told-at t h (k ∷ ks) (r ∷ rs) (suc i) d e l a lt is =
     let inside : i < length (key_texts ks) = subst (λ n. i < n) (sym (length-texts ks)) (omega (arith, lt)) in
-    let other : bytes_eq k.now t ≡ false = other-text k.now (key_texts ks) t i d.now inside (IsDistinct-head bytes_eq k.now (key_texts ks) a) (same-text t (slice_index_or ks i d).now is ∙ sym (text-at ks i d)) in
+    let other : bytes_eq k.now t ≡ false = other-text k.now (key_texts ks) t i d.now inside (IsDistinct-head bytes_eq k.now (key_texts ks) a)
+    (same-text t (slice_index_or ks i d).now is ∙ sym (text-at ks i d)) in
     ap (λ b. (if b then h r else r) ∷ slice_set rs i (h (slice_index_or rs i e))) (sym other)
     ∙ ap (λ xs. said_of t h k.now r ∷ xs) (told-at t h ks rs i d e (omega (arith, l)) (IsDistinct-tail bytes_eq k.now (key_texts ks) a) (omega (arith, lt)) is)
 
-pub noted : (t : List ℕ) (h : Row → Row) (keys : List (Bor (List ℕ))) (rs : List Row) (i : ℕ) (n : Bor (List ℕ)) (x e : Row) → length keys ≡ length rs → IsDistinct bytes_eq (key_texts keys) → n.now ≡ t
+pub noted : (t : List ℕ) (h : Row → Row) (keys : List (Bor (List ℕ))) (rs : List Row) (i : ℕ) (n : Bor (List ℕ)) (x e : Row) → length keys ≡ length rs → IsDistinct bytes_eq (key_texts keys)
+    → n.now ≡ t
     → position (λ k. bytes_eq n.now k.now) keys ≡ Some i → x ≡ h (slice_index_or rs i e) → slice_set rs i x ≡ rows_with (said_of t h) keys rs
 noted t h keys rs i n x e l a is p said =
     let q = position-Some (λ k. bytes_eq n.now k.now) keys i n p in
@@ -119,7 +124,8 @@ module _ {D : Type 0} (text : D → List ℕ) (said : D → Row → Row) (hides 
       ∙ ap (λ y. take (length ds - 1) ds ++ y ∷ []) (sym is)
 
   -- one declaration less is left
-  pub one-told : (keys : List (Bor (List ℕ))) (rs new : List Row) (ds : List D) (x : D) (total : List Row) → 1 ≤ length ds → x ≡ slice_index_or ds (length ds - 1) x → new ≡ rows_with (said_of (text x) (said x)) keys rs
+  pub one-told : (keys : List (Bor (List ℕ))) (rs new : List Row) (ds : List D) (x : D) (total : List Row) → 1 ≤ length ds → x ≡ slice_index_or ds (length ds - 1) x
+      → new ≡ rows_with (said_of (text x) (said x)) keys rs
       → rows_with (first_said text said ds) keys rs ≡ total → rows_with (first_said text said (take (length ds - 1) ds)) keys new ≡ total
   one-told keys rs new ds x total le is e h =
       let less = take (length ds - 1) ds in
@@ -135,7 +141,8 @@ module _ {D : Type 0} (text : D → List ℕ) (said : D → Row → Row) (hides 
   none-left (k ∷ ks) [] l = cc
   none-left (k ∷ ks) (r ∷ rs) l = ap (λ xs. r ∷ xs) (none-left ks rs (omega (arith, l)))
 
-  pub all-told : (keys : List (Bor (List ℕ))) (rs : List Row) (ds : List D) (total : List Row) → length keys ≡ length rs → length ds < 1 → rows_with (first_said text said ds) keys rs ≡ total → rs ≡ total
+  pub all-told : (keys : List (Bor (List ℕ))) (rs : List Row) (ds : List D) (total : List Row) → length keys ≡ length rs → length ds < 1 → rows_with (first_said text said ds) keys rs ≡ total
+      → rs ≡ total
   all-told keys rs [] total l lt h = sym (none-left keys rs l) ∙ h
   all-told keys rs (d ∷ ds) total l lt h = absurd (omega (arith, lt))
 
@@ -153,7 +160,8 @@ length-blanks keys rs e = by keys ∙ ap length (sym e)
     by (k ∷ ks) = ap suc (by ks)
 
 pub all-said : (keys : List (Bor (List ℕ))) (ports : List PortDeclaration) (nets : List NetDeclaration) (rs first second : List Row) → rs ≡ replicate (length keys) blank
-    → first ≡ rows_with (first_said (λ d. d.name.text.now) net_said nets) keys rs → second ≡ rows_with (first_said (λ d. d.name.text.now) port_said ports) keys first → second ≡ rows_said ports nets keys
+    → first ≡ rows_with (first_said (λ d. d.name.text.now) net_said nets) keys rs → second ≡ rows_with (first_said (λ d. d.name.text.now) port_said ports) keys first → second ≡ rows_said ports
+    nets keys
 all-said keys ports nets rs first second e f g =
     g ∙ ap (rows_with (first_said (λ d. d.name.text.now) port_said ports) keys) (f ∙ ap (rows_with (first_said (λ d. d.name.text.now) net_said nets) keys) e)
     ∙ twice-told (first_said (λ d. d.name.text.now) port_said ports) (first_said (λ d. d.name.text.now) net_said nets) keys (replicate (length keys) blank)

@@ -41,7 +41,8 @@ view-concatenation place parts =
 
 pub concatenation-named : (now known : List (List ℕ)) (e : code.Expression) (place : Place) (parts : Vec code.Expression Global) → e ≡ variant.Concatenation place parts
     → (es : List code.Expression) → es ≡ parts.items → (i : ℕ) → length es ≤ i
-    → with_names now (flat_map (λ x. names_in (view_expression x)) (drop i es)) ≡ with_names known (flat_map (λ x. names_in (view_expression x)) es) → now ≡ with_names known (names_in (view_expression e))
+    → with_names now (flat_map (λ x. names_in (view_expression x)) (drop i es)) ≡ with_names known (flat_map (λ x. names_in (view_expression x)) es) → now ≡ with_names known
+    (names_in (view_expression e))
 concatenation-named now known e place parts is es same i le h =
     no-more-parts (λ x. names_in (view_expression x)) es i now _ le h
     ∙ ap (λ xs. with_names known (flat_map (λ x. names_in (view_expression x)) xs)) same
@@ -73,9 +74,11 @@ of-names (c ∷ cs) = of-option c.value (connection_values (by_name cs)) ∙ ap 
 
 pub terminals-named : (known after : List (List ℕ)) (items now : List code.Expression) → now ≡ items → after ≡ with_names known (flat_map (λ e. names_in (view_expression e)) now)
     → after ≡ with_names known (flat_map names_in (map view_expression items))
-terminals-named known after items now same h = h ∙ ap (λ es. with_names known (flat_map (λ e. names_in (view_expression e)) es)) same ∙ ap (with_names known) (sym (flat_map-map names_in view_expression items))
+terminals-named known after items now same h = h ∙ ap (λ es. with_names known (flat_map (λ e. names_in (view_expression e)) es)) same ∙ ap (with_names known)
+    (sym (flat_map-map names_in view_expression items))
 
-pub ordered-named : (known after : List (List ℕ)) (cs : CodeConnections) (vs : Vec (Option code.Expression) Global) → cs ≡ connections.Ordered vs → (now : List (Option code.Expression)) → now ≡ vs.items
+pub ordered-named : (known after : List (List ℕ)) (cs : CodeConnections) (vs : Vec (Option code.Expression) Global) → cs ≡ connections.Ordered vs → (now : List (Option code.Expression))
+    → now ≡ vs.items
     → after ≡ with_names known (flat_map (λ e. names_if (option_map view_expression e)) now) → after ≡ with_names known (flat_map names_in (connection_values (view_connections cs)))
 ordered-named known after cs vs is now same h =
     h

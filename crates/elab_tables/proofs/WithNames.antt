@@ -1,16 +1,12 @@
 -- Names that come one after another to those that are known.
-use Rattle.std.specs.Prelude.{◌≡◌, ℕ, zero, suc, ◌<◌, ◌≤◌, length, slice_index_or, flat_map, List, [], ◌∷◌, ◌++◌, Bool, true, false, ◌||◌, refl, bytes_eq, if◌then◌else◌}
+use Rattle.std.specs.Prelude.{◌≡◌, ℕ, suc, ◌<◌, ◌≤◌, length, slice_index_or, flat_map, List, [], ◌∷◌, ◌++◌, Bool, true, false, ◌||◌, refl, bytes_eq, if◌then◌else◌}
 use Rattle.std.specs.Borrow.{Bor}
 use Rattle.std.specs.List.{list_any}
-use Rattle.std.proofs.Common.{sym, ◌∙◌, ap, append_assoc, drop, drop-cons, arith}
-use Rattle.std.proofs.lemmas.List.{map-append}
+use Rattle.std.proofs.Common.{sym, ◌∙◌, ap, append_assoc, drop, drop-cons}
+use Rattle.std.proofs.lemmas.List.{append-nil, drop_all, map-append}
 use Rattle.std.proofs.lemmas.List.Folds.{list_any-append}
 use Rattle.elab_model.specs.Names.{is_among, first_of_each}
 use Rattle.elab_tables.specs.Naming.{key_texts, with_names}
-
-pub append-nil : {A : Type 0} (xs : List A) → xs ++ [] ≡ xs
-append-nil [] = refl
-append-nil (x ∷ xs) = ap (λ ys. x ∷ ys) (append-nil xs)
 
 -- which names were seen is what counts, and not their order
 same-first : (s t ns : List (List ℕ)) → ((n : List ℕ) → is_among n s ≡ is_among n t) → first_of_each s ns ≡ first_of_each t ns
@@ -89,11 +85,5 @@ next-part f xs i x known mid total lt is e h =
     ∙ ap (λ ys. with_names known (flat_map f ys)) (sym (drop-cons xs i x lt ∙ ap (λ y. y ∷ drop (suc i) xs) (sym is)))
     ∙ h
 
-none-left : {A : Type 0} (xs : List A) (i : ℕ) → length xs ≤ i → drop i xs ≡ []
-none-left [] zero le = refl
-none-left [] (suc i) le = refl
-none-left (x ∷ xs) zero le = absurd (omega (arith, le))
-none-left (x ∷ xs) (suc i) le = none-left xs i (omega (arith, le))
-
 pub no-more-parts : {A : Type 0} (f : A → List (List ℕ)) (xs : List A) (i : ℕ) (known total : List (List ℕ)) → length xs ≤ i → with_names known (flat_map f (drop i xs)) ≡ total → known ≡ total
-no-more-parts f xs i known total le h = with-none known ∙ ap (λ ys. with_names known (flat_map f ys)) (sym (none-left xs i le)) ∙ h
+no-more-parts f xs i known total le h = with-none known ∙ ap (λ ys. with_names known (flat_map f ys)) (sym (drop_all i xs le)) ∙ h

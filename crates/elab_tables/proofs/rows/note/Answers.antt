@@ -10,4 +10,5 @@ returns-in-Some g c =
 
 pub returns-in_default : goal.returns-in_default
 returns-in_default g c =
-    unnoted (g.D.Declaration.text c.args.declaration.now) (g.D.Declaration.said c.args.declaration.now) c.args.names.now.keys c.args.rows.now c.name.result c.requires.same c.name.ensures (search rules)
+    unnoted (g.D.Declaration.text c.args.declaration.now) (g.D.Declaration.said c.args.declaration.now) c.args.names.now.keys c.args.rows.now c.name.result c.requires.same c.name.ensures
+    (search rules)

@@ -7,10 +7,12 @@ use Rattle.elab_tables.proofs.tables.row_with.Goals as goal
 
 pub overflow_sub-result : goal.overflow_sub-result
 overflow_sub-result c =
-    let point = IsPartitionPoint-from_clause (λ (r : Row). leb r.start c.args.place) c.args.rows.now c.partition_point.result c.partition_point.ensures.partitioned (starts-partition c.args.rows.now c.args.place c.requires.starts) (λ a x f k. search rules) in
+    let point = IsPartitionPoint-from_clause (λ (r : Row). leb r.start c.args.place) c.args.rows.now c.partition_point.result c.partition_point.ensures.partitioned
+    (starts-partition c.args.rows.now c.args.place c.requires.starts) (λ a x f k. search rules) in
     (place-found c.args.rows.now c.args.place c.partition_point.result c.requires.starts c.requires.below c.partition_point.ensures.bound point).0
 
 pub returns : goal.returns
 returns c =
-    let point = IsPartitionPoint-from_clause (λ (r : Row). leb r.start c.args.place) c.args.rows.now c.partition_point.result c.partition_point.ensures.partitioned (starts-partition c.args.rows.now c.args.place c.requires.starts) (λ a x f k. search rules) in
+    let point = IsPartitionPoint-from_clause (λ (r : Row). leb r.start c.args.place) c.args.rows.now c.partition_point.result c.partition_point.ensures.partitioned
+    (starts-partition c.args.rows.now c.args.place c.requires.starts) (λ a x f k. search rules) in
     (place-found c.args.rows.now c.args.place c.partition_point.result c.requires.starts c.requires.below c.partition_point.ensures.bound point).1

@@ -6,7 +6,8 @@ use Rattle.elab_tables.proofs.naming.NetNameNaming.add_to.Goals as goal
 
 pub returns-in_ok-add_name-in-Some : goal.returns-in_ok-add_name-in-Some
 returns-in_ok-add_name-in-Some c =
-    on_ok_weaker c.add_expression.result (net-named (key_texts c.args.known.now.keys) (key_texts c.add_name.new.known.keys) _ c.args.self.now.name.text.now c.args.self.now.value c.in-Some.value c.in-Some.is
+    on_ok_weaker c.add_expression.result (net-named (key_texts c.args.known.now.keys) (key_texts c.add_name.new.known.keys) _ c.args.self.now.name.text.now c.args.self.now.value c.in-Some.value
+    c.in-Some.is
     c.in_ok-add_name-in-Some.ensures)
     c.add_expression.ensures
 
