@@ -1,3 +1,5 @@
 -- The modules of this folder.
 pub mod Once
 pub mod Found
+pub mod Listed
+pub mod Least
