@@ -3,3 +3,5 @@ pub mod Once
 pub mod Found
 pub mod Listed
 pub mod Least
+pub mod Used
+pub mod Chosen
