@@ -3,3 +3,5 @@ pub mod Codes
 pub mod Named
 pub mod Tops
 pub mod Placing
+pub mod Children
+pub mod Growing

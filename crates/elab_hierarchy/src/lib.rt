@@ -1,6 +1,7 @@
 //! The hierarchy of a netlist: its definitions by name, its top, and all instances below the top.
 #![tactic(auto)]
 
+mod children;
 mod definitions;
 mod instances;
 mod ticks;
