@@ -4,6 +4,8 @@
 mod children;
 mod definitions;
 mod instances;
+#[cfg(test)]
+mod tests;
 mod ticks;
 mod tops;
 
