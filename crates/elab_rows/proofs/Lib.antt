@@ -1,0 +1,11 @@
+-- The modules of this folder.
+pub mod WrittenNumbers
+pub mod Filters
+pub mod PortConstants
+pub mod BitPlaces
+pub mod OutsideNets
+pub mod OuterNumbers
+pub mod InputPlaces
+pub mod Texts
+pub mod Parts
+pub mod OutsideClauses
