@@ -1,7 +1,7 @@
 -- The bits of a module's variables, by their places in its row: each is known by its name and position.
-use Rattle.std.specs.Prelude.{◌≡◌, ℕ, zero, suc, ◌<◌, ◌==◌, List, [], ◌∷◌, false, None, Some, bytes_eq, length, map, slice_get, refl}
+use Rattle.std.specs.Prelude.{◌≡◌, ℕ, zero, suc, ◌<◌, ◌==◌, List, [], ◌∷◌, false, None, Some, bytes_eq, length, slice_get, refl}
 use Rattle.std.specs.List.{AllByRecursion}
-use Rattle.std.proofs.Common.{sym, ◌∙◌, ap, arith, get_or, subst}
+use Rattle.std.proofs.Common.{sym, ◌∙◌, ap, subst}
 use Rattle.std.proofs.lemmas.Bool.{eq-eqb}
 use Rattle.std.proofs.lemmas.Option.{slice_get-get_or}
 use Rattle.std.proofs.lemmas.Slice.Eq.{bytes_eq-Decides}
@@ -11,7 +11,7 @@ use Rattle.vl_tree.specs.Tree.{Module}
 use Rattle.elab_model.specs.Bits.{positions}
 use Rattle.elab_model.specs.Names.{Variable, variable, variables}
 use Rattle.elab_laws.specs.Handing.{variable_bits, all_bits}
-use Rattle.elab_laws.proofs.Lists.{In, all-map, all-flat_in, all-anyway, all-weaker, all-get, Pairwise, pairwise-map, pairwise-weaker, pairwise-flat, range-apart}
+use Rattle.elab_laws.proofs.Lists.{all-map, all-flat_in, all-anyway, all-weaker, all-get, Pairwise, pairwise-map, pairwise-weaker, pairwise-flat, range-apart}
 use Rattle.elab_laws.proofs.Apart.{variables-apart}
 use Rattle.elab_laws.proofs.NoFaults.{all-from}
 use Rattle.elab_bits.specs.Seen.{bit_at}

@@ -1,15 +1,15 @@
 -- What a filter keeps, and lists by their places.
-use Rattle.std.specs.Prelude.{◌≡◌, All, ℕ, zero, suc, ◌+◌, ◌-◌, ◌<◌, List, [], ◌∷◌, ◌++◌, Bool, true, false, cond, map, flat_map, length, refl}
+use Rattle.std.specs.Prelude.{◌≡◌, ℕ, zero, suc, ◌+◌, ◌-◌, ◌<◌, List, [], ◌∷◌, ◌++◌, Bool, true, false, cond, map, flat_map, length, refl}
 use Rattle.std.specs.List.{AllByRecursion, filter, range_with_len}
 use Rattle.std.proofs.Common.{sym, ◌∙◌, ap, arith, inl, inr, subst, get_or, add-zero, append_assoc}
-use Rattle.std.proofs.lemmas.List.Elements.{All-head, All-tail}
 use Rattle.elab_laws.proofs.Lists.{In}
 
 pub filter-map : {A B : Type 0} (p : B → Bool) (f : A → B) (xs : List A) → filter p (map f xs) ≡ map f (filter (λ x. p (f x)) xs)
 filter-map p f [] = refl
 filter-map {A} {B} p f (x ∷ xs) = by (p (f x)) (filter-map p f xs)
   where
-    by : (b : Bool) → filter p (map f xs) ≡ map f (filter (λ x. p (f x)) xs) → cond b (f x ∷ filter p (map f xs)) (filter p (map f xs)) ≡ map f (cond b (x ∷ filter (λ x. p (f x)) xs) (filter (λ x. p (f x)) xs))
+    by : (b : Bool) → filter p (map f xs) ≡ map f (filter (λ x. p (f x)) xs)
+        → cond b (f x ∷ filter p (map f xs)) (filter p (map f xs)) ≡ map f (cond b (x ∷ filter (λ x. p (f x)) xs) (filter (λ x. p (f x)) xs))
     by true e = ap (λ ys. f x ∷ ys) e
     by false e = e
 
@@ -59,10 +59,6 @@ pub map-same : {A B : Type 0} (f g : A → B) (xs : List A) → AllByRecursion (
 map-same f g [] h = refl
 map-same f g (x ∷ xs) h = ap (λ y. y ∷ map f xs) h.0 ∙ ap (λ ys. g x ∷ ys) (map-same f g xs h.1)
 
-pub each-of : {A : Type 0} (P : A → Type 0) (xs : List A) → All P xs → AllByRecursion P xs
-each-of P [] h = tt
-each-of P (x ∷ xs) h = (All-head P x xs h, each-of P xs (All-tail P x xs h))
-
 pub all-both : {A : Type 0} (P Q : A → Type 0) (xs : List A) → AllByRecursion P xs → AllByRecursion Q xs → AllByRecursion (λ x. P x × Q x) xs
 all-both P Q [] h k = tt
 all-both P Q (x ∷ xs) h k = ((h.0, k.0), all-both P Q xs h.1 k.1)
@@ -75,7 +71,8 @@ from-map f y (x ∷ xs) (inr h) = let r = from-map f y xs h in (r.0, inr r.1, r.
 
 -- ---- one more is tested
 
-pub one-tested : {A : Type 0} (p : A → Bool) (b : Bool) (x : A) (xs rest left new total : List A) → b ≡ p x → rest ≡ x ∷ left → new ≡ xs ++ filter (λ y. b) (x ∷ []) → xs ++ filter p rest ≡ total → new ++ filter p left ≡ total
+pub one-tested : {A : Type 0} (p : A → Bool) (b : Bool) (x : A) (xs rest left new total : List A) → b ≡ p x → rest ≡ x ∷ left → new ≡ xs ++ filter (λ y. b) (x ∷ [])
+    → xs ++ filter p rest ≡ total → new ++ filter p left ≡ total
 one-tested p b x xs rest left new total is r n h =
     ap (λ ys. ys ++ filter p left) n ∙ append_assoc xs (filter (λ y. b) (x ∷ [])) (filter p left)
     ∙ ap (λ ys. xs ++ ys) (by b ∙ ap (λ b. cond b (x ∷ filter p left) (filter p left)) is ∙ ap (filter p) (sym r)) ∙ h

@@ -1,5 +1,5 @@
 -- The places at which the code writes new numbers are those of the input bits of a leaf to which no net is bound, and the numbers are those of the nets that lie outside.
-use Rattle.std.specs.Prelude.{◌≡◌, ℕ, ◌<◌, ◌≤◌, List, [], ◌∷◌, Bool, true, false, Option, Some, None, option_map, map, length, refl}
+use Rattle.std.specs.Prelude.{◌≡◌, ℕ, ◌<◌, List, [], true, false, Option, Some, None, option_map, map, length, refl}
 use Rattle.std.specs.List.{AllByRecursion, filter, range_with_len}
 use Rattle.std.proofs.Common.{sym, ◌∙◌, ap, arith, subst}
 use Rattle.std.proofs.lemmas.List.{length-map}
@@ -8,9 +8,8 @@ use Rattle.std.proofs.lemmas.List.FromFn.{length-map-range_with_len}
 use Rattle.std.proofs.lemmas.Simd.{map-map}
 use Rattle.sg_logic.specs.declared.values.Value.{Value}
 use Rattle.sg_text.specs.declared.places.Place.{Place}
-use Rattle.sg_circuit.specs.declared.nets.Net.{Net}
 use Rattle.vl_tree.specs.Tree.{Source}
-use Rattle.elab_model.specs.Bits.{Bit, net, constant}
+use Rattle.elab_model.specs.Bits.{Bit, constant}
 use Rattle.elab_model.specs.Connections.{connection_at, bound_to, port_values}
 use Rattle.elab_model.specs.Hierarchy.{Instance, has_no_child}
 use Rattle.elab_model.specs.Homes.{is_input, has_leg}
@@ -27,8 +26,6 @@ use Rattle.elab_ports.specs.Constants.{constants_in, view_constant}
 use Rattle.elab_ports.specs.declared.constants.PortConstant as code_constant
 use Rattle.elab_rows.specs.Inputs.{bound_at, is_input_at, is_nothing, is_free_at}
 use Rattle.elab_rows.specs.Outside.{outer_number, outside_nets}
-use Rattle.elab_rows.specs.Own.{net_at}
-use Rattle.elab_rows.specs.Undriven.{undriven}
 use Rattle.elab_rows.specs.Written.{AreMeant, IsWritten}
 use Rattle.elab_rows.proofs.Filters.{in-filter, all-filter, map-same, all-both, from-map}
 use Rattle.elab_rows.proofs.PortConstants.{IsBoundTo, constants-bound, bound_constant, constant-among}
@@ -47,7 +44,8 @@ pub record IsLeafIn (source : Source) (s c : Instance) (bits : List (Option code
 
 -- ---- all places are there
 
-constant-there : (source : Source) (s c : Instance) (bits : List (Option code_bit.Bit)) (ks : List code_constant.PortConstant) → IsLeafIn source s c bits ks → (i : ℕ) → i < length (all_bits (variables c.step.definition))
+constant-there : (source : Source) (s c : Instance) (bits : List (Option code_bit.Bit)) (ks : List code_constant.PortConstant) → IsLeafIn source s c bits ks → (i : ℕ)
+    → i < length (all_bits (variables c.step.definition))
     → (at : Place) (v : Value) → bound_to c.step s.step (bit_at (variables c.step.definition) i).0.name (bit_at (variables c.step.definition) i).1 ≡ Some (constant at v) → In i (map (λ k. k.bit) ks)
 constant-there source s c bits ks h i lt at v bound =
     let vs = variables c.step.definition in
@@ -89,13 +87,16 @@ covers-leaf source s c bits ks h i lt leg none = by (bound_at bits i) refl (seen
 abbrev IsNew : List OwnNet → Source → Instance → Instance → ℕ → Type 0
 IsNew all source s c i = meant_at all source c i ≡ Some (number_of all (net_outside s c (bit_at (variables c.step.definition) i)).spot)
 
-new-at : (all : List OwnNet) (source : Source) (s c : Instance) (bits : List (Option code_bit.Bit)) (ks : List code_constant.PortConstant) → IsLeafIn source s c bits ks → (i : ℕ) → i < length (all_bits (variables c.step.definition))
-    → is_input_at (variables c.step.definition) i ≡ true → (o : Option Bit) → bound_to c.step s.step (bit_at (variables c.step.definition) i).0.name (bit_at (variables c.step.definition) i).1 ≡ o → IsNoNet o → IsNew all source s c i
+new-at : (all : List OwnNet) (source : Source) (s c : Instance) (bits : List (Option code_bit.Bit)) (ks : List code_constant.PortConstant) → IsLeafIn source s c bits ks → (i : ℕ)
+    → i < length (all_bits (variables c.step.definition))
+    → is_input_at (variables c.step.definition) i ≡ true → (o : Option Bit)
+    → bound_to c.step s.step (bit_at (variables c.step.definition) i).0.name (bit_at (variables c.step.definition) i).1 ≡ o → IsNoNet o → IsNew all source s c i
 new-at all source s c bits ks h i lt input o bound none =
     let b = bit_at (variables c.step.definition) i in
     ap (λ a. outer_number all source c.step a b) h.bound.above ∙ outer-new all source c.step s.step s.above b o (leg-at source c i h.leaf lt ∙ input) bound none
 
-free-new : (all : List OwnNet) (source : Source) (s c : Instance) (bits : List (Option code_bit.Bit)) (ks : List code_constant.PortConstant) → IsLeafIn source s c bits ks → (i : ℕ) → i < length (all_bits (variables c.step.definition))
+free-new : (all : List OwnNet) (source : Source) (s c : Instance) (bits : List (Option code_bit.Bit)) (ks : List code_constant.PortConstant) → IsLeafIn source s c bits ks → (i : ℕ)
+    → i < length (all_bits (variables c.step.definition))
     → is_free_at (variables c.step.definition) bits i ≡ true → IsNew all source s c i
 free-new all source s c bits ks h i lt free =
     let vs = variables c.step.definition in
@@ -146,7 +147,8 @@ are-meant all source s c bits ks next h numbered =
 -- ---- the rows
 
 -- after the writing, the row of a leaf is that of the outside
-pub leaf-row : (all : List OwnNet) (source : Source) (s c : Instance) (bits : List (Option code_bit.Bit)) (ks : List code_constant.PortConstant) (next : ℕ) (new : List (Option ℕ)) → IsLeafIn source s c bits ks
+pub leaf-row : (all : List OwnNet) (source : Source) (s c : Instance) (bits : List (Option code_bit.Bit)) (ks : List code_constant.PortConstant) (next : ℕ) (new : List (Option ℕ))
+    → IsLeafIn source s c bits ks
     → numbers_in all (outside_nets source s c) ≡ range_with_len next (length (outside_nets source s c))
     → IsWritten next (input_places (variables c.step.definition) bits ks) (bound_row (map (number_at all source s) (all_bits (variables s.step.definition))) bits (length (all_bits (variables c.step.definition)))) new
     → new ≡ map (outer_number all source c.step c.above) (all_bits (variables c.step.definition))

@@ -1,13 +1,12 @@
 -- The numbers of what lies outside the bits of an instance, by places of its row.
-use Rattle.std.specs.Prelude.{◌≡◌, ◌⊎◌, ℕ, ◌+◌, ◌<◌, List, [], ◌∷◌, ◌++◌, Bool, true, false, All, IfSome, Option, Some, None, option_map, map, length, slice_get, refl, if◌then◌else◌}
-use Rattle.std.specs.List.{AllByRecursion, range_with_len}
+use Rattle.std.specs.Prelude.{◌≡◌, ◌⊎◌, ℕ, ◌+◌, ◌<◌, List, ◌∷◌, Bool, true, false, All, IfSome, Option, Some, None, option_map, map, length, slice_get, refl, if◌then◌else◌}
+use Rattle.std.specs.List.{range_with_len}
 use Rattle.std.specs.Option.{unwrap_or}
-use Rattle.std.proofs.Common.{sym, ◌∙◌, ap, arith, inl, inr, subst, get_or}
+use Rattle.std.proofs.Common.{sym, ◌∙◌, ap, arith, inl, inr, subst}
+use Rattle.std.proofs.lemmas.List.Elements.{recursion_from_All}
 use Rattle.std.proofs.lemmas.List.FromFn.{length-map-range_with_len, get_or-map-range_with_len}
 use Rattle.std.proofs.lemmas.Option.{slice_get-map, slice_get_within, get_or_from_slice_get}
 use Rattle.std.proofs.lemmas.Simd.{map-map}
-use Rattle.sg_logic.specs.declared.values.Value.{Value}
-use Rattle.sg_text.specs.declared.places.Place.{Place}
 use Rattle.vl_tree.specs.Tree.{Source}
 use Rattle.elab_model.specs.Bits.{Bit, net, constant}
 use Rattle.elab_model.specs.Connections.{bound_to}
@@ -24,7 +23,7 @@ use Rattle.elab_bits.specs.declared.bits.Bit.TheVariants as bit
 use Rattle.elab_rows.specs.Inputs.{bound_at, number_in, is_nothing}
 use Rattle.elab_rows.specs.Outside.{outer_number}
 use Rattle.elab_rows.specs.Written.{AreRightOrAmong}
-use Rattle.elab_rows.proofs.Filters.{each-of, by-places}
+use Rattle.elab_rows.proofs.Filters.{by-places}
 use Rattle.elab_rows.proofs.BitPlaces.{blank, bit-there}
 
 -- ---- the number outside a bit, by what it is bound to
@@ -35,7 +34,8 @@ IsNoNet (Some (constant at v)) = Unit {0}
 IsNoNet (Some (net m q)) = ⊥
 
 -- where a Leg stands at it and no net of the parent is bound to it, a new net's
-pub outer-new : (all : List OwnNet) (source : Source) (t parent : Step) (over : List Step) (b : Variable × ℕ) (o : Option Bit) → has_leg source t b.0.name ≡ true → bound_to t parent b.0.name b.1 ≡ o → IsNoNet o
+pub outer-new : (all : List OwnNet) (source : Source) (t parent : Step) (over : List Step) (b : Variable × ℕ) (o : Option Bit) → has_leg source t b.0.name ≡ true
+    → bound_to t parent b.0.name b.1 ≡ o → IsNoNet o
     → outer_number all source t (parent ∷ over) b ≡ Some (number_of all (outside parent.number t.member b.0.name b.1))
 outer-new all source t parent over b o leg bound none =
     ap (λ l. if l then Some (number_of all (leg_source source t (parent ∷ over) b.0.name b.1 (bound_to t parent b.0.name b.1))) else given_by (λ m q. number_of all (home source parent over m q)) (bound_to t parent b.0.name b.1)) leg
@@ -58,7 +58,8 @@ outer-net all source t parent over b m q bound =
     by false = refl
 
 -- and else none
-outer-none : (all : List OwnNet) (source : Source) (t parent : Step) (over : List Step) (b : Variable × ℕ) (o : Option Bit) → has_leg source t b.0.name ≡ false → bound_to t parent b.0.name b.1 ≡ o → IsNoNet o
+outer-none : (all : List OwnNet) (source : Source) (t parent : Step) (over : List Step) (b : Variable × ℕ) (o : Option Bit) → has_leg source t b.0.name ≡ false
+    → bound_to t parent b.0.name b.1 ≡ o → IsNoNet o
     → outer_number all source t (parent ∷ over) b ≡ None
 outer-none all source t parent over b o leg bound none =
     ap (λ l. if l then Some (number_of all (leg_source source t (parent ∷ over) b.0.name b.1 (bound_to t parent b.0.name b.1))) else given_by (λ m q. number_of all (home source parent over m q)) (bound_to t parent b.0.name b.1)) leg
@@ -84,7 +85,8 @@ seen-at s c bits h i lt =
     let g : Variable × ℕ → Option Bit = λ (b : Variable × ℕ). bound_to c.step s.step b.0.name b.1 in
     one (slice_get bits i) (g (bit_at vs i)) (sym (slice_get-map f bits i) ∙ ap (λ xs. slice_get xs i) h.seen ∙ slice_get-map g (all_bits vs) i ∙ ap (option_map g) (bit-there vs i lt))
   where
-    one : (o : Option (Option code_bit.Bit)) (y : Option Bit) → option_map (option_map (view_bit (variables s.step.definition))) o ≡ Some y → option_map (view_bit (variables s.step.definition)) (unwrap_or o None) ≡ y
+    one : (o : Option (Option code_bit.Bit)) (y : Option Bit) → option_map (option_map (view_bit (variables s.step.definition))) o ≡ Some y
+        → option_map (view_bit (variables s.step.definition)) (unwrap_or o None) ≡ y
     one None y e = cc
     one (Some o) y e = cc
 
@@ -104,7 +106,7 @@ net-within vs bits i k h e = by (slice_get bits i) refl e
   where
     by : (o : Option (Option code_bit.Bit)) → slice_get bits i ≡ o → unwrap_or o None ≡ Some (bit.Net k) → k < length (all_bits vs)
     by None at is = cc
-    by (Some o) at is = all-get (λ b. IfSome b (IsInRow vs)) bits i (Some (bit.Net k)) (each-of (λ b. IfSome b (IsInRow vs)) bits h) (at ∙ ap (λ o. Some o) is)
+    by (Some o) at is = all-get (λ b. IfSome b (IsInRow vs)) bits i (Some (bit.Net k)) (recursion_from_All (λ b. IfSome b (IsInRow vs)) bits h) (at ∙ ap (λ o. Some o) is)
 
 -- ---- all bits
 

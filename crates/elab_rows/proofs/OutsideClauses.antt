@@ -1,6 +1,5 @@
 -- What is written outside an instance is what lies outside it.
-use Rattle.std.specs.Prelude.{◌≡◌, ℕ, ◌+◌, List, [], ◌++◌, Bool, true, false, Option, map, length, refl}
-use Rattle.std.specs.List.{range_with_len}
+use Rattle.std.specs.Prelude.{◌≡◌, ℕ, ◌+◌, List, ◌++◌, Bool, false, Option, map, length}
 use Rattle.std.proofs.Common.{sym, ◌∙◌, ap, subst, append-nil, length-append}
 use Rattle.std.proofs.lemmas.List.{length-map}
 use Rattle.std.proofs.lemmas.List.FromFn.{length-map-range_with_len}
@@ -27,7 +26,8 @@ use Rattle.elab_rows.proofs.InputPlaces.{IsLeafIn, leaf-nets, leaf-row, inner-ro
 
 -- ---- the row that is added
 
-pub row-added : (row : List ℕ) (bits seen : List (Option code_bit.Bit)) (n count : ℕ) (old items : List (Option ℕ)) → items ≡ old ++ bound_row row seen count → count ≡ n → seen ≡ bits → items ≡ old ++ bound_row row bits n
+pub row-added : (row : List ℕ) (bits seen : List (Option code_bit.Bit)) (n count : ℕ) (old items : List (Option ℕ)) → items ≡ old ++ bound_row row seen count → count ≡ n → seen ≡ bits
+    → items ≡ old ++ bound_row row bits n
 row-added row bits seen n count old items e c b = e ∙ ap (λ n. old ++ bound_row row seen n) c ∙ ap (λ bits. old ++ bound_row row bits n) b
 
 pub row-length : (row : List ℕ) (bits : List (Option code_bit.Bit)) (n : ℕ) → length (bound_row row bits n) ≡ n
@@ -44,7 +44,8 @@ bound-row_is : (all : List OwnNet) (source : Source) (s c : Instance) (table : L
     → IsChild all source s c table row child text leaf scope next → (bits : List (Option code_bit.Bit))
     → bound_row row bits (length (all_bits child.table)) ≡ bound_row (map (number_at all source s) (all_bits (variables s.step.definition))) bits (length (all_bits (variables c.step.definition)))
 bound-row_is all source s c table row child text leaf scope next k bits =
-    ap (λ vs. bound_row row bits (length (all_bits vs))) k.prepared.table ∙ ap (λ r. bound_row r bits (length (all_bits (variables c.step.definition)))) (row-is all source s c table row child text leaf scope next k)
+    ap (λ vs. bound_row row bits (length (all_bits vs))) k.prepared.table
+    ∙ ap (λ r. bound_row r bits (length (all_bits (variables c.step.definition)))) (row-is all source s c table row child text leaf scope next k)
 
 -- ---- an instance that has children
 
@@ -61,7 +62,8 @@ inner-nets all source s c table row child text leaf scope next k is nets = sym (
 
 -- ---- a leaf
 
-places-are : (c : Instance) (child : List Variable) (bits : List (Option code_bit.Bit)) (ks : List code_constant.PortConstant) (places : List ℕ) → child ≡ variables c.step.definition → places ≡ input_places child bits ks
+places-are : (c : Instance) (child : List Variable) (bits : List (Option code_bit.Bit)) (ks : List code_constant.PortConstant) (places : List ℕ) → child ≡ variables c.step.definition
+    → places ≡ input_places child bits ks
     → places ≡ input_places (variables c.step.definition) bits ks
 places-are c child bits ks places e p = p ∙ ap (λ vs. input_places vs bits ks) e
 

@@ -1,7 +1,7 @@
 -- The nets that lie outside a leaf and are none of its parent's variables, by places of its row: the inputs that nothing is bound to, then the constants at inputs.
 use Rattle.std.specs.Prelude.{◌≡◌, ℕ, ◌<◌, List, [], ◌∷◌, ◌++◌, Bool, true, false, ◌&&◌, Option, cond, map, flat_map, length, refl, if◌then◌else◌}
 use Rattle.std.specs.List.{AllByRecursion, enumerate_from, filter, range_with_len}
-use Rattle.std.proofs.Common.{sym, ◌∙◌, ap, arith, subst}
+use Rattle.std.proofs.Common.{sym, ◌∙◌, ap, arith}
 use Rattle.std.proofs.Math.Bool.{and-true}
 use Rattle.std.proofs.lemmas.Bool.{and_right}
 use Rattle.std.proofs.lemmas.Grind.{flat_map-append}
@@ -12,7 +12,7 @@ use Rattle.vl_tree.specs.Tree.{Expression, Source}
 use Rattle.elab_model.specs.Bits.{Bit, net, constant, positions}
 use Rattle.elab_model.specs.Connections.{port_values}
 use Rattle.elab_model.specs.Elements.{expression_bits, bound_above}
-use Rattle.elab_model.specs.Hierarchy.{Step, Instance, has_no_child}
+use Rattle.elab_model.specs.Hierarchy.{Instance, has_no_child}
 use Rattle.elab_model.specs.Homes.{is_input, has_leg}
 use Rattle.elab_model.specs.Names.{Variable, variable, variables}
 use Rattle.elab_model.specs.Nets.{OwnNet, outside_net, is_unbound, unbound_net, unbound_nets, constant_net, constant_nets}
@@ -123,7 +123,8 @@ all-connections source s c (e ∷ es) =
     ∙ ap (λ xs. flat_map (constant_outside source s c) (connection_constants vs e) ++ xs) (all-connections source s c es)
     ∙ sym (flat_map-append (constant_outside source s c) (connection_constants vs e) (flat_map (connection_constants vs) es))
 
-constant-places : (source : Source) (s c : Instance) (ks : List code_constant.PortConstant) → has_no_child source c.step ≡ true → AllByRecursion (λ k. k.bit < length (all_bits (variables c.step.definition))) ks
+constant-places : (source : Source) (s c : Instance) (ks : List code_constant.PortConstant) → has_no_child source c.step ≡ true
+    → AllByRecursion (λ k. k.bit < length (all_bits (variables c.step.definition))) ks
     → flat_map (constant_outside source s c) (map (view_constant (variables c.step.definition)) ks)
     ≡ map (λ i. net_outside s c (bit_at (variables c.step.definition) i)) (filter (is_input_at (variables c.step.definition)) (map (λ k. k.bit) ks))
 constant-places source s c [] leaf within = refl

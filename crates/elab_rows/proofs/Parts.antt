@@ -1,9 +1,9 @@
 -- A row that is written behind others.
-use Rattle.std.specs.Prelude.{◌≡◌, ℕ, ◌+◌, ◌-◌, ◌<◌, ◌≤◌, List, [], ◌∷◌, ◌++◌, true, All, Option, Result, Ok, Err, IfErr, map, take, drop, length, refl}
+use Rattle.std.specs.Prelude.{◌≡◌, ℕ, ◌+◌, ◌-◌, ◌<◌, List, [], ◌∷◌, ◌++◌, true, All, Option, map, take, drop, length}
 use Rattle.std.specs.List.{AllByRecursion, filter, range_with_len}
-use Rattle.std.proofs.Common.{sym, ◌∙◌, ap, arith, subst, append-nil, length-append}
+use Rattle.std.proofs.Common.{sym, ◌∙◌, ap, arith, append-nil, length-append}
 use Rattle.std.proofs.lemmas.List.{take_all, take_at, drop_all, drop_at}
-use Rattle.std.proofs.lemmas.List.Elements.{All-nil, All-cons, All-same}
+use Rattle.std.proofs.lemmas.List.Elements.{All-same, All-from_recursion, recursion_from_All}
 use borrow.Rule.Slice.PartMut.{post_of}
 use Rattle.elab_model.specs.Names.{Variable}
 use Rattle.elab_laws.specs.Handing.{all_bits}
@@ -11,7 +11,7 @@ use Rattle.elab_laws.proofs.Lists.{all-append, all-map, all-weaker, all-range}
 use Rattle.elab_bits.specs.declared.bits.Bit as code_bit
 use Rattle.elab_ports.specs.declared.constants.PortConstant as code_constant
 use Rattle.elab_rows.specs.Inputs.{is_input_at, is_free_at}
-use Rattle.elab_rows.proofs.Filters.{all-filter, each-of}
+use Rattle.elab_rows.proofs.Filters.{all-filter}
 use Rattle.elab_rows.proofs.OutsideNets.{input_places}
 
 -- the part behind what was there
@@ -29,7 +29,8 @@ tail-put old row new items whole first len is same at size wide =
     let behind : drop first whole ≡ row = ap (drop first) (same ∙ is) ∙ drop_at old row first (sym at) in
     let long : length whole ≡ length old + length row = ap length (same ∙ is) ∙ length-append old row in
     let none : post_of first (length whole - first) whole ≡ [] = ap (drop (length whole - first)) behind ∙ drop_all (length whole - first) row (omega arith) in
-    let put : take first whole ++ (new ++ post_of first (length whole - first) whole) ≡ old ++ new = ap (λ xs. xs ++ (new ++ post_of first (length whole - first) whole)) front ∙ ap (λ xs. old ++ (new ++ xs)) none ∙ ap (λ xs. old ++ xs) (append-nil new) in
+    let put : take first whole ++ (new ++ post_of first (length whole - first) whole) ≡ old ++ new = ap (λ xs. xs ++ (new ++ post_of first (length whole - first) whole)) front
+    ∙ ap (λ xs. old ++ (new ++ xs)) none ∙ ap (λ xs. old ++ xs) (append-nil new) in
     let count : length items ≡ length old + length row = ap length is ∙ length-append old row in
     let made : length (old ++ new) ≡ length old + length new = length-append old new in
     let rest : drop (length (old ++ new)) items ≡ [] = drop_all (length (old ++ new)) items (omega arith) in
@@ -38,15 +39,12 @@ tail-put old row new items whole first len is same at size wide =
 -- ---- the places
 
 pub places-made : (vs : List Variable) (bits seen : List (Option code_bit.Bit)) (ks listed : List code_constant.PortConstant) (start one two : List ℕ) → start ≡ []
-    → one ≡ start ++ filter (is_free_at vs seen) (range_with_len 0 (length (all_bits vs))) → seen ≡ bits → two ≡ one ++ filter (is_input_at vs) (map (λ k. k.bit) listed) → listed ≡ ks → two ≡ input_places vs bits ks
+    → one ≡ start ++ filter (is_free_at vs seen) (range_with_len 0 (length (all_bits vs))) → seen ≡ bits → two ≡ one ++ filter (is_input_at vs) (map (λ k. k.bit) listed) → listed ≡ ks
+    → two ≡ input_places vs bits ks
 places-made vs bits seen ks listed start one two none o e t f =
     let places = range_with_len 0 (length (all_bits vs)) in
     let first : one ≡ filter (is_free_at vs bits) places = o ∙ ap (λ xs. xs ++ filter (is_free_at vs seen) places) none ∙ ap (λ bits. filter (is_free_at vs bits) places) e in
     t ∙ ap (λ xs. xs ++ filter (is_input_at vs) (map (λ k. k.bit) listed)) first ∙ ap (λ ks. filter (is_free_at vs bits) places ++ filter (is_input_at vs) (map (λ k. k.bit) ks)) f
-
-of-each : {A : Type 0} (P : A → Type 0) (xs : List A) → AllByRecursion P xs → All P xs
-of-each P [] h = All-nil P
-of-each P (x ∷ xs) h = All-cons P x xs h.0 (of-each P xs h.1)
 
 pub places-within : (vs : List Variable) (bits : List (Option code_bit.Bit)) (ks : List code_constant.PortConstant) (places : List ℕ) → places ≡ input_places vs bits ks
     → All (λ k. k.bit < length (all_bits vs)) ks → All (λ i. i < length (all_bits vs)) places
@@ -56,12 +54,7 @@ places-within vs bits ks places e h =
     let free = filter (is_free_at vs bits) (range_with_len 0 n) in
     let constants = filter (is_input_at vs) (map (λ k. k.bit) ks) in
     All-same P places (input_places vs bits ks) e
-    (of-each P (input_places vs bits ks)
+    (All-from_recursion P (input_places vs bits ks)
     (all-append P free constants (all-filter P (is_free_at vs bits) (range_with_len 0 n) (all-weaker P (λ i. is_free_at vs bits i ≡ true → P i) (range_with_len 0 n) (λ i lt e. lt) (all-range n 0 n (omega arith))))
     (all-filter P (is_input_at vs) (map (λ k. k.bit) ks)
-    (all-map (λ i. is_input_at vs i ≡ true → P i) (λ k. k.bit) ks (all-weaker (λ k. k.bit < n) (λ k. is_input_at vs k.bit ≡ true → k.bit < n) ks (λ k lt e. lt) (each-of (λ k. k.bit < n) ks h))))))
-
--- what holds of a refusal holds of a weaker one
-pub err-weaker : {T E : Type 0} (r : Result T E) (P Q : E → Type 0) → ((e : E) → P e → Q e) → IfErr r P → IfErr r Q
-err-weaker (Ok x) P Q f h = h
-err-weaker (Err e) P Q f h = f e h
+    (all-map (λ i. is_input_at vs i ≡ true → P i) (λ k. k.bit) ks (all-weaker (λ k. k.bit < n) (λ k. is_input_at vs k.bit ≡ true → k.bit < n) ks (λ k lt e. lt) (recursion_from_All (λ k. k.bit < n) ks h))))))

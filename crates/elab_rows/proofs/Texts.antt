@@ -2,6 +2,7 @@
 use Rattle.std.specs.Prelude.{◌≡◌, ℕ, ◌<◌, List, Bool, true, All, IfSome, Option, option_map, map, length, refl}
 use Rattle.std.specs.List.{AllByRecursion}
 use Rattle.std.proofs.Common.{sym, ◌∙◌, subst}
+use Rattle.std.proofs.lemmas.List.Elements.{recursion_from_All}
 use Rattle.vl_tree.specs.Tree.{Named, Connections, Module, Source}
 use Rattle.vl_tree.specs.Seen.{view_name, view_connections}
 use Rattle.vl_tree.specs.declared.items.Instance as code
@@ -19,7 +20,6 @@ use Rattle.elab_ports.specs.Constants.{constants_in, view_constant}
 use Rattle.elab_ports.specs.declared.constants.PortConstant as code_constant
 use Rattle.elab_modules.specs.declared.prepared.Prepared.{Prepared}
 use Rattle.elab_rows.specs.Outside.{IsChild}
-use Rattle.elab_rows.proofs.Filters.{each-of}
 use Rattle.elab_rows.proofs.OuterNumbers.{HasBound}
 use Rattle.elab_rows.proofs.InputPlaces.{IsLeafIn}
 
@@ -65,7 +65,8 @@ has-bound all source s c table row child text leaf scope next k ports bits e bou
     }
 
 pub is-leaf_in : (all : List OwnNet) (source : Source) (s c : Instance) (table : List Variable) (row : List ℕ) (child : Prepared) (text : code.Instance) (leaf : Bool) (scope next : ℕ)
-    → IsChild all source s c table row child text leaf scope next → leaf ≡ true → (ports : List code_name.Name) (bits : List (Option code_bit.Bit)) (ks : List code_constant.PortConstant) → ports ≡ child.ports.items
+    → IsChild all source s c table row child text leaf scope next → leaf ≡ true → (ports : List code_name.Name) (bits : List (Option code_bit.Bit)) (ks : List code_constant.PortConstant)
+    → ports ≡ child.ports.items
     → HasBound s c bits → AreConstants table child text ports ks → All (λ k. k.bit < length (all_bits child.table)) ks → IsLeafIn source s c bits ks
 is-leaf_in all source s c table row child text leaf scope next k is ports bits ks e bound constants within =
     let m = c.step.definition in
@@ -74,7 +75,7 @@ is-leaf_in all source s c table row child text leaf scope next k is ports bits k
     record {
       bound = bound;
       leaf = k.is_leaf ∙ is;
-      within = subst (λ vs. AllByRecursion (λ k. k.bit < length (all_bits vs)) ks) k.prepared.table (each-of (λ k. k.bit < length (all_bits child.table)) ks within);
+      within = subst (λ vs. AllByRecursion (λ k. k.bit < length (all_bits vs)) ks) k.prepared.table (recursion_from_All (λ k. k.bit < length (all_bits child.table)) ks within);
       seen = same-constants table (variables s.step.definition) child.table (variables m) (view_connections text.connections) c.step.connections (map view_name ports) (port_list m) ks
           k.numbers.table k.prepared.table (sym k.connections) list (constants m (record { table = k.prepared.table; list = list }) k.connected);
       first = (once-by c.step c.step.connections refl names (declared-once m k.prepared.declared)).first;

@@ -1,22 +1,18 @@
 -- Numbers that are written at places of a row, one after another, with as many nets.
-use Rattle.std.specs.Prelude.{◌≡◌, ◌⊎◌, ℕ, zero, suc, ◌+◌, ◌-◌, ◌<◌, ◌≤◌, ◌==◌, List, [], ◌∷◌, ◌++◌, Bool, true, false, Option, Some, None, length, map, drop, slice_get, set, refl}
+use Rattle.std.specs.Prelude.{◌≡◌, ◌⊎◌, ℕ, zero, suc, ◌+◌, ◌-◌, ◌<◌, ◌≤◌, ◌==◌, List, [], ◌∷◌, ◌++◌, Bool, true, false, Option, Some, length, map, drop, slice_get, set, refl}
 use Rattle.std.specs.List.{range_with_len}
 use Rattle.std.proofs.Common.{sym, ◌∙◌, ap, arith, inl, inr, subst, get_or, drop-cons, add-zero, length-append}
-use Rattle.std.proofs.lemmas.List.{drop_all}
 use Rattle.sg_text.specs.declared.refusals.Refused.{Refused}
 use Rattle.elab_model.specs.declared.kinds.ElabKind.{ElabKind}
 use Rattle.elab_nets.specs.Refusals.{RefusesCount}
 use Rattle.std.proofs.lemmas.Bool.{eqb-true}
 use Rattle.std.proofs.lemmas.Bool.Decides.{nat_tests}
 use Rattle.elab_laws.specs.Words.{In}
-use Rattle.elab_rows.specs.Written.{AreRightOrAmong, AreMeant, IsWritten}
+use Rattle.elab_rows.specs.Written.{AreRightOrAmong, AreMeant}
 
 -- one more is there
 pub one-longer : {A : Type 0} (xs new : List A) (x : A) (start k : ℕ) → new ≡ xs ++ x ∷ [] → length xs ≡ start + k → length new ≡ start + (k + 1)
 one-longer xs new x start k n e = let s : (start + k) + 1 ≡ start + (k + 1) = omega arith in ap length n ∙ length-append xs (x ∷ []) ∙ ap (λ l. l + 1) e ∙ s
-
-pub drop-none : {A : Type 0} (k : ℕ) (xs : List A) → length xs ≤ k → drop k xs ≡ []
-drop-none k xs le = drop_all k xs le
 
 -- what is refused with so many more to come is refused for all
 pub too-many : (r : Refused ElabKind) (now start k places : ℕ) → now ≡ start + k → k < places → ((more : ℕ) → RefusesCount (now + 1 + more) r) → RefusesCount (start + places) r

@@ -1,6 +1,6 @@
 -- The row and the nets, for an instance that has children and for a leaf.
 use Rattle.std.proofs.Common.{◌≡◌, ℕ, ◌+◌, ◌-◌, ◌++◌, ◌∙◌, List, Option, ap, drop, length, rules, subst, take, length-append}
-use Rattle.std.proofs.lemmas.Result.{on_ok_weaker}
+use Rattle.std.proofs.lemmas.Result.{on_ok_weaker, IfErr-weaker}
 use Rattle.vl_tree.specs.Tree.{Source}
 use Rattle.elab_laws.specs.Handing.{all_bits}
 use Rattle.elab_model.specs.Hierarchy.{Instance}
@@ -11,7 +11,7 @@ use Rattle.elab_rows.proofs.InputPlaces.{IsLeafIn}
 use Rattle.elab_rows.proofs.OuterNumbers.{bound_row}
 use Rattle.elab_rows.proofs.OutsideNets.{input_places}
 use Rattle.elab_rows.proofs.Texts.{has-bound, is-leaf_in}
-use Rattle.elab_rows.proofs.Parts.{tail-is, tail-put, places-made, places-within, err-weaker}
+use Rattle.elab_rows.proofs.Parts.{tail-is, tail-put, places-made, places-within}
 use Rattle.elab_rows.proofs.OutsideClauses.{row-added, row-length, added-length, inner-outer, inner-nets, leaf-outer, leaf-added, leaf-count}
 use Rattle.elab_rows.proofs.outside.add_outside.Goals as goal
 use Rattle.elab_rows.proofs.outside.add_outside.Goals.{After-deref_mut}
@@ -125,7 +125,7 @@ pub returns-clause-refused : goal.returns-clause-refused
 returns-clause-refused c =
     let h = (goal.at.returns-clause-refused c).After-deref_mut in
     let next = length c.args.nets.now.items in
-    err-weaker c.add_bit_nets.result (RefusesCount (next + length c.deref-6.result.now)) _
+    IfErr-weaker c.add_bit_nets.result (RefusesCount (next + length c.deref-6.result.now)) _
     (λ refused many all source s x k.
     subst (λ count. RefusesCount (next + count) refused)
     (leaf-count all source s x c.args.parent.now c.args.row.now c.args.child.now c.args.text.now c.args.leaf c.args.scope next k c.in_ok-bits.bits.items c.in_ok-constants.constants.items

@@ -1,13 +1,14 @@
 -- One net more, whose number is what is meant at its place.
-use Rattle.std.proofs.Common.{◌≡◌, ◌+◌, ◌-◌, ◌<◌, ◌∙◌, ℕ, Option, Some, ap, arith, drop, get_or, length, map, rules, subst}
+use Rattle.std.proofs.Common.{◌+◌, ◌∙◌, ℕ, ap, arith, drop, get_or, length, map, rules}
 use Rattle.std.specs.List.{range_with_len}
 use Rattle.std.proofs.lemmas.Grind.{common_steps}
+use Rattle.std.proofs.lemmas.List.{drop_all}
 use Rattle.std.proofs.lemmas.Result.{err_from_is_err_and}
 use Rattle.sg_circuit.specs.declared.nets.Net.{Net}
 use Rattle.elab_bits.specs.Seen.{bit_at}
 use Rattle.elab_bits.proofs.OneMore.{one-added, next-of}
 use Rattle.elab_rows.specs.Own.{net_at}
-use Rattle.elab_rows.proofs.WrittenNumbers.{fewer-left, one-longer, none-left, drop-none, too-many}
+use Rattle.elab_rows.proofs.WrittenNumbers.{fewer-left, one-longer, none-left, too-many}
 use Rattle.elab_rows.proofs.writing.add_bit_nets.Goals as goal
 
 pub returns-in_err-push_bit_net-clause-refused : goal.returns-in_err-push_bit_net-clause-refused
@@ -32,5 +33,5 @@ loop-place-preserved c =
 
 pub returns-clause-row : goal.returns-clause-row
 returns-clause-row c = λ meant is start.
-    none-left meant (drop c.loop-place.place-index c.args.places.now) c.loop-place.row (drop-none c.loop-place.place-index c.args.places.now c.loop-place-test.false) (c.loop-place.invariant.row meant is start)
+    none-left meant (drop c.loop-place.place-index c.args.places.now) c.loop-place.row (drop_all c.loop-place.place-index c.args.places.now c.loop-place-test.false) (c.loop-place.invariant.row meant is start)
     ∙ ap (λ n. map meant (range_with_len 0 n)) c.loop-place.invariant.long
