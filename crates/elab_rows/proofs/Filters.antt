@@ -1,8 +1,9 @@
 -- What a filter keeps, and lists by their places.
 use Rattle.std.specs.Prelude.{◌≡◌, ℕ, zero, suc, ◌+◌, ◌-◌, ◌<◌, List, [], ◌∷◌, ◌++◌, Bool, true, false, cond, map, flat_map, length, refl}
 use Rattle.std.specs.List.{AllByRecursion, filter, range_with_len}
-use Rattle.std.proofs.Common.{sym, ◌∙◌, ap, arith, inl, inr, subst, get_or, add-zero, append_assoc}
+use Rattle.std.proofs.Common.{sym, ◌∙◌, ap, arith, inl, inr, subst, get_or, add-zero}
 use Rattle.elab_laws.proofs.Lists.{In}
+use Rattle.elab_bits.proofs.OneMore.{one-added}
 
 pub filter-map : {A B : Type 0} (p : B → Bool) (f : A → B) (xs : List A) → filter p (map f xs) ≡ map f (filter (λ x. p (f x)) xs)
 filter-map p f [] = refl
@@ -71,15 +72,14 @@ from-map f y (x ∷ xs) (inr h) = let r = from-map f y xs h in (r.0, inr r.1, r.
 
 -- ---- one more is tested
 
-pub one-tested : {A : Type 0} (p : A → Bool) (b : Bool) (x : A) (xs rest left new total : List A) → b ≡ p x → rest ≡ x ∷ left → new ≡ xs ++ filter (λ y. b) (x ∷ [])
-    → xs ++ filter p rest ≡ total → new ++ filter p left ≡ total
-one-tested p b x xs rest left new total is r n h =
-    ap (λ ys. ys ++ filter p left) n ∙ append_assoc xs (filter (λ y. b) (x ∷ [])) (filter p left)
-    ∙ ap (λ ys. xs ++ ys) (by b ∙ ap (λ b. cond b (x ∷ filter p left) (filter p left)) is ∙ ap (filter p) (sym r)) ∙ h
-  where
-    by : (b : Bool) → cond b (x ∷ []) [] ++ filter p left ≡ cond b (x ∷ filter p left) (filter p left)
-    by true = refl
-    by false = refl
+pub one-kept : {A : Type 0} (p : A → Bool) (x : A) (xs rest left new total : List A) → p x ≡ true → rest ≡ x ∷ left → new ≡ xs ++ x ∷ [] → xs ++ filter p rest ≡ total → new ++ filter p left ≡ total
+one-kept p x xs rest left new total is r n h =
+    one-added x xs (filter p rest) (filter p left) new total (ap (filter p) r ∙ ap (λ b. cond b (x ∷ filter p left) (filter p left)) is) n h
+
+pub one-dropped : {A : Type 0} (p : A → Bool) (x : A) (xs rest left new total : List A) → p x ≡ false → rest ≡ x ∷ left → new ≡ xs → xs ++ filter p rest ≡ total → new ++ filter p left ≡ total
+one-dropped p x xs rest left new total is r n h =
+    let same : filter p rest ≡ filter p left = ap (filter p) r ∙ ap (λ b. cond b (x ∷ filter p left) (filter p left)) is in
+    ap (λ ys. ys ++ filter p left) n ∙ ap (λ ys. xs ++ ys) (sym same) ∙ h
 
 pub range-first : (k n : ℕ) → k < n → range_with_len k (n - k) ≡ k ∷ range_with_len (k + 1) (n - (k + 1))
 range-first k n lt = let e : n - k ≡ suc (n - (k + 1)) = omega arith in ap (range_with_len k) e

@@ -1,6 +1,6 @@
 -- A row that is written behind others.
-use Rattle.std.specs.Prelude.{◌≡◌, ℕ, ◌+◌, ◌-◌, ◌<◌, List, [], ◌∷◌, ◌++◌, true, All, Option, map, take, drop, length}
-use Rattle.std.specs.List.{AllByRecursion, filter, range_with_len}
+use Rattle.std.specs.Prelude.{◌≡◌, ℕ, ◌+◌, ◌-◌, ◌<◌, List, [], ◌++◌, true, All, Option, map, take, drop, length}
+use Rattle.std.specs.List.{filter, range_with_len}
 use Rattle.std.proofs.Common.{sym, ◌∙◌, ap, arith, append-nil, length-append}
 use Rattle.std.proofs.lemmas.List.{take_all, take_at, drop_all, drop_at}
 use Rattle.std.proofs.lemmas.List.Elements.{All-same, All-from_recursion, recursion_from_All}

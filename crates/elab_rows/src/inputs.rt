@@ -1,5 +1,5 @@
 // The input bits of a leaf that are bound to no net of its parent, as places of its row of bits.
-ghost use Rattle.std.specs.Prelude.{◌≡◌, ◌<◌, ◌∷◌, ◌++◌, [], All, OnOk, length, map};
+ghost use Rattle.std.specs.Prelude.{◌≡◌, ◌<◌, ◌++◌, All, OnOk, length, map};
 ghost use Rattle.std.specs.List.{filter, range_with_len};
 ghost use Rattle.elab_laws.specs.Handing.{all_bits};
 ghost use Rattle.elab_rows.specs.Inputs.{bound_at, is_free_at, is_input_at};
@@ -32,15 +32,6 @@ fn is_free_at(table: &Table, bits: &[Option<Bit>], place: usize) -> bool
     is_input_at(table, place) && bound_at(bits, place).is_none()
 }
 
-fn add_if(wanted: bool, place: usize, places: &mut Vec<usize>) -> Result<(), NoMemory>
-    ensures { OnOk result (places.new.items ≡ places.old.items ++ filter (λ p. wanted) (place ∷ [])) }
-{
-    if wanted {
-        places.push(place)?;
-    }
-    Ok(())
-}
-
 /// Adds the inputs that nothing is bound to.
 pub fn add_free(
     table: &Table,
@@ -50,7 +41,9 @@ pub fn add_free(
     ensures { OnOk result (places.new.items ≡ places.old.items ++ filter (is_free_at table.now bits.now) (range_with_len 0 (length (all_bits table.now)))) }
 {
     for place in 0..table.bits() {
-        add_if(is_free_at(table, bits, place), place, places)?;
+        if is_free_at(table, bits, place) {
+            places.push(place)?;
+        }
     }
     Ok(())
 }
@@ -65,7 +58,9 @@ pub fn add_constants(
     ensures { OnOk result (places.new.items ≡ places.old.items ++ filter (is_input_at table.now) (map (λ c. c.bit) constants.now)) }
 {
     for constant in constants {
-        add_if(is_input_at(table, constant.bit), constant.bit, places)?;
+        if is_input_at(table, constant.bit) {
+            places.push(constant.bit)?;
+        }
     }
     Ok(())
 }
