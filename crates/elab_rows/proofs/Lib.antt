@@ -7,5 +7,6 @@ pub mod OutsideNets
 pub mod OuterNumbers
 pub mod InputPlaces
 pub mod Texts
-pub mod Parts
+pub mod LentRows
+pub mod MadePlaces
 pub mod OutsideClauses

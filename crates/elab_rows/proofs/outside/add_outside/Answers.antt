@@ -11,7 +11,8 @@ use Rattle.elab_rows.proofs.InputPlaces.{IsLeafIn}
 use Rattle.elab_rows.proofs.OuterNumbers.{bound_row}
 use Rattle.elab_rows.proofs.OutsideNets.{input_places}
 use Rattle.elab_rows.proofs.Texts.{has-bound, is-leaf_in}
-use Rattle.elab_rows.proofs.Parts.{tail-is, tail-put, places-made, places-within}
+use Rattle.elab_rows.proofs.LentRows.{tail-is, tail-put}
+use Rattle.elab_rows.proofs.MadePlaces.{places-made, places-within}
 use Rattle.elab_rows.proofs.OutsideClauses.{row-added, row-length, added-length, inner-outer, inner-nets, leaf-outer, leaf-added, leaf-count}
 use Rattle.elab_rows.proofs.outside.add_outside.Goals as goal
 use Rattle.elab_rows.proofs.outside.add_outside.Goals.{After-deref_mut}
