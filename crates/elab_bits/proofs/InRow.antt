@@ -13,7 +13,7 @@ use Rattle.elab_laws.specs.Handing.{variable_bits, all_bits}
 use Rattle.elab_tables.specs.Seen.{variable_at}
 
 -- what stands past the end
-abbrev blank : Variable
+abbrev pub blank : Variable
 blank = record { name = []; range = None; is_reg = false; port = port.Inner }
 
 pub width-is : (v : Variable) → length (variable_bits v) ≡ width_of v.range

@@ -3,11 +3,11 @@ use Rattle.std.specs.Prelude.{◌≡◌, ℕ, suc, ◌+◌, ◌<◌, List, [], �
 use Rattle.std.specs.List.{position_from}
 use Rattle.std.proofs.Common.{sym, ◌∙◌, arith, subst}
 use Rattle.std.proofs.lemmas.Slice.Eq.{bytes_eq-Decides}
-use Rattle.sg_circuit.specs.declared.scopes.Port.TheVariants as port
 use Rattle.elab_model.specs.Names.{Variable}
 use Rattle.elab_model.specs.Bits.{variable_named}
 use Rattle.elab_laws.proofs.Lists.{found-is}
 use Rattle.elab_tables.specs.Seen.{variable_at, place_named}
+use Rattle.elab_bits.proofs.InRow.{blank}
 
 -- what is found first, where positions count from k
 record FoundAt {A : Type 0} (test : A → Bool) (k : ℕ) (xs : List A) (d : A) (i : ℕ) : Type 0 where
@@ -45,7 +45,7 @@ pub record IsNamedAt (vs : List Variable) (n : List ℕ) (i : ℕ) : Type 0 wher
 
 pub named-at : (vs : List Variable) (n : List ℕ) (i : ℕ) → Some i ≡ place_named vs n → IsNamedAt vs n i
 named-at vs n i e =
-    let r = found-at (λ v. bytes_eq n v.name) 0 vs (record { name = []; range = None; is_reg = false; port = port.Inner }) i (sym e) in
+    let r = found-at (λ v. bytes_eq n v.name) 0 vs blank i (sym e) in
     let s : r.shift ≡ i = sym (r.is ∙ (omega arith)) in
     let f : variable_named vs n ≡ Some (variable_at vs i) = subst (λ j. variable_named vs n ≡ Some (variable_at vs j)) s r.found in
     record {

@@ -26,18 +26,18 @@ pub fn check_members(
     tick: Unit,
     definitions: &Definitions,
     parts: &[Option<Ready>],
-    module: &Prepared,
+    prepared: &Prepared,
     gate_delays: &mut Vec<GateDelays>,
 ) -> Result<Vec<u32>, Refused<ElabKind>>
     requires ready { AreReady definitions.now parts.now }
-    requires named { AllByRecursion (MemberReady definitions.now parts.now) (map view_member module.now.members.items) }
-    requires precision { tick.power ≤ℤ module.now.definition.now.mark.scale.precision.power }
+    requires named { AllByRecursion (MemberReady definitions.now parts.now) (map view_member prepared.now.members.items) }
+    requires precision { tick.power ≤ℤ prepared.now.definition.now.mark.scale.precision.power }
     requires counts { All (λ d. d.count ≤ 2) gate_delays.old.items }
     ensures counts { All (λ d. d.count ≤ 2) gate_delays.new.items }
     ensures kept { (more : List ghost_delays.GateDelays) × (gate_delays.new.items ≡ gate_delays.old.items ++ more) }
-    ensures delays { IfOk result (λ list. (m : Module) → IsPrepared module.now m → HasDelays corner tick.power m gate_delays.new.items list.items) }
-    ensures faultless { OnOk result ((m : Module) → IsPrepared module.now m → flat_map (all_member_faults definitions.now corner tick.power m) (def.members m) ≡ []) }
-    ensures refused { IfErr result (λ r. (m : Module) → IsPrepared module.now m → RefusesOneOf (flat_map (all_member_faults definitions.now corner tick.power m) (def.members m)) r) }
+    ensures delays { IfOk result (λ list. (m : Module) → IsPrepared prepared.now m → HasDelays corner tick.power m gate_delays.new.items list.items) }
+    ensures faultless { OnOk result ((m : Module) → IsPrepared prepared.now m → flat_map (all_member_faults definitions.now corner tick.power m) (def.members m) ≡ []) }
+    ensures refused { IfErr result (λ r. (m : Module) → IsPrepared prepared.now m → RefusesOneOf (flat_map (all_member_faults definitions.now corner tick.power m) (def.members m)) r) }
 {
     Err(Refused::NoMemory)
 }

@@ -4,6 +4,8 @@ pub mod Numbers
 pub mod Own
 pub mod Outside
 pub mod Terminals
+pub mod Inputs
+pub mod Written
 pub mod Rows
 pub mod Parts
 pub mod Turns

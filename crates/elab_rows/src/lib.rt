@@ -2,6 +2,7 @@
 #![tactic(auto)]
 
 mod bit_nets;
+mod inputs;
 mod limit;
 mod member_bits;
 mod members;
@@ -11,5 +12,6 @@ mod parts;
 mod rows;
 mod terminals;
 mod turns;
+mod writing;
 
 pub use rows::{Rows, rows_of};
