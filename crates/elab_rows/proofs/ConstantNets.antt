@@ -22,6 +22,7 @@ use Rattle.elab_rows.specs.Own.{net_at}
 use Rattle.elab_rows.specs.Terminals.{first_output, at_constant}
 use Rattle.elab_rows.specs.Undriven.{undriven}
 use Rattle.elab_rows.proofs.Counts.{piece-added, nothing-left}
+use Rattle.elab_rows.proofs.Filters.{flat-none}
 use Rattle.elab_rows.proofs.RowBits.{bit-of}
 
 -- ---- one bit after another
@@ -60,17 +61,13 @@ would-be o bs before i p v d nets lt e h =
 
 -- ---- the nets of the definition
 
-empty : {A B : Type 0} (f : A → List B) (xs : List A) → ((x : A) → f x ≡ []) → flat_map f xs ≡ []
-empty f [] h = refl
-empty f (x ∷ xs) h = ap (λ ys. ys ++ flat_map f xs) (h x) ∙ empty f xs h
-
 -- where the first output is no net, there are none
 pub no-output : (vs : List Variable) (s : Instance) (k outputs : ℕ) (bs : List code_bit.Bit) → first_output outputs bs ≡ None → terminal_nets s k outputs (map (view_bit vs) bs) ≡ []
-no-output vs s k zero bs h = empty (terminal_net s k []) (enumerate_from 0 (map (view_bit vs) bs)) (λ b. refl)
+no-output vs s k zero bs h = flat-none (terminal_net s k []) (enumerate_from 0 (map (view_bit vs) bs)) (λ b. refl)
 no-output vs s k (suc n) [] h = refl
 no-output vs s k (suc n) (bit.Net i ∷ bs) h = cc
 no-output vs s k (suc n) (bit.Constant p v ∷ bs) h =
-    empty (terminal_net s k (constant p v ∷ take n (map (view_bit vs) bs))) (enumerate_from 0 (drop n (map (view_bit vs) bs))) (λ b. refl)
+    flat-none (terminal_net s k (constant p v ∷ take n (map (view_bit vs) bs))) (enumerate_from 0 (drop n (map (view_bit vs) bs))) (λ b. refl)
 
 -- a constant's net has the name of the first output
 abbrev named : Instance → List ℕ → ℕ → Net

@@ -12,13 +12,9 @@ use Rattle.elab_laws.proofs.PartsApart.{children-apart}
 use Rattle.elab_rows.specs.Rows.{part_of}
 use Rattle.elab_rows.specs.Turns.{AddsOutside, HasOuterRow, bits_of}
 use Rattle.elab_rows.proofs.Children.{child-in}
+use Rattle.elab_rows.proofs.Filters.{from-map}
 use Rattle.elab_rows.proofs.Placings.{same-instance}
 use Rattle.elab_rows.proofs.RowParts.{part-grown}
-
-pub in-map_from : {A B : Type 0} (f : A → B) (y : B) (xs : List A) → In y (map f xs) → (x : A) × In x xs × (y ≡ f x)
-in-map_from f y [] h = absurd h
-in-map_from f y (x ∷ xs) (inl e) = (x, inl refl, e)
-in-map_from f y (x ∷ xs) (inr h) = let r = in-map_from f y xs h in (r.0, inr r.1, r.2)
 
 pub kept-outer : (source : Source) (top : Module) (old new : List (Option ℕ)) (places later : List ℕ) (cs : List Instance) (c : Instance) → AddsOutside source top old new places later cs → (In c.step.number (map number cs) → ⊥)
     → HasOuterRow source top old places c → HasOuterRow source top new later c
@@ -40,11 +36,11 @@ across R (z ∷ xs) ys x y h (inr i) j = across R xs ys x y h.1 i j
 -- two children of an instance have two numbers
 apart : (source : Source) (top : Module) (s : Instance) → In s (instances source top) → (done cs rest : List Instance) → children source s ≡ done ++ (cs ++ rest) → (c : Instance) → In c done → In c.step.number (map number cs) → ⊥
 apart source top s there done cs rest e c i j =
-    let r = in-map_from number c.step.number cs j in
+    let r = from-map number c.step.number cs j in
     let later = in-left r.0 cs rest r.1 in
     let inside : In c (children source s) = subst (In c) (sym e) (in-left c done (cs ++ rest) i) in
     let beside : In r.0 (children source s) = subst (In r.0) (sym e) (in-right r.0 done (cs ++ rest) later) in
-    let same : c ≡ r.0 = same-instance source top c r.0 (child-in source top s c there inside) (child-in source top s r.0 there beside) r.2 in
+    let same : c ≡ r.0 = same-instance source top c r.0 (child-in source top s c there inside) (child-in source top s r.0 there beside) (sym r.2) in
     let differ : (c.step.member == r.0.step.member) ≡ false =
     across (λ c d. (c.step.member == d.step.member) ≡ false) done (cs ++ rest) c r.0 (subst (Pairwise (λ c d. (c.step.member == d.step.member) ≡ false)) e (children-apart source s.step.levels s)) i later in
     let equal : (c.step.member == r.0.step.member) ≡ true = eq-eqb c.step.member r.0.step.member (ap (λ x. x.step.member) same) in

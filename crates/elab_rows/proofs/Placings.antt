@@ -12,7 +12,7 @@ use Rattle.elab_model.specs.Hierarchy.{Step, Instance, Child, children_in, size,
 use Rattle.elab_model.specs.HierarchyFaults.{self_instances, too_deep}
 use Rattle.elab_laws.proofs.Lists.{In, all-in}
 use Rattle.elab_laws.proofs.Numbers.{number}
-use Rattle.elab_laws.proofs.NoFaults.{front, back, flat-empty}
+use Rattle.elab_laws.proofs.NoFaults.{front, back, flat-empty, map-empty}
 use Rattle.elab_laws.proofs.Stated.{instances-have_places}
 use Rattle.elab_hierarchy.specs.declared.instances.Placed.{Placed}
 use Rattle.elab_hierarchy.specs.Placing.{IsPlaced, ArePlaced, tree_faults, tree_faults_at}
@@ -82,10 +82,6 @@ placed-count source (p ∷ ps) [] h = absurd h
 placed-count source (p ∷ ps) (x ∷ xs) h = ap suc (placed-count source ps xs h.1)
 
 -- ---- leaves
-
-map-empty : {A B : Type 0} (f : A → B) (xs : List A) → map f xs ≡ [] → xs ≡ []
-map-empty f [] h = refl
-map-empty f (x ∷ xs) h = cc
 
 -- where the hierarchy isn't too deep, an instance of the last level has no child
 pub no-level : (source : Source) (top : Module) (s : Instance) → tree_faults source top ≡ [] → In s (instances source top) → s.step.levels ≡ 0 → children_in source s.step.definition ≡ []

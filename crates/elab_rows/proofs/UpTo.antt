@@ -23,7 +23,8 @@ use Rattle.elab_rows.specs.declared.rows.Rows.{Rows}
 use Rattle.elab_rows.proofs.Children.{child-in}
 use Rattle.elab_rows.proofs.InnerRows.{front-is, front-next}
 use Rattle.elab_rows.proofs.MemberTurns.{count-there}
-use Rattle.elab_rows.proofs.OuterRows.{in-map_from, kept-outer}
+use Rattle.elab_rows.proofs.Filters.{from-map}
+use Rattle.elab_rows.proofs.OuterRows.{kept-outer}
 use Rattle.elab_rows.proofs.Placings.{number-is, is-there, same-instance}
 use Rattle.elab_rows.proofs.RowParts.{get-grown, get-behind, get-last, part-grown, part-behind}
 
@@ -133,9 +134,9 @@ module _ (source : Source) (top : Module) (before after : List Instance) (s : In
 
       stays : IsDue (length before) t.above → HasOuterRow source top new later t
       stays due = kept-outer source top old new places later (children source s) t a
-          (λ i. let r = in-map_from number t.step.number (children source s) i in
+          (λ i. let r = from-map number t.step.number (children source s) i in
           let inside : In r.0 (instances source top) = child-in source top s r.0 (is-there source top before after s here) r.1 in
-          let same : t ≡ r.0 = same-instance source top t r.0 there inside r.2 in
+          let same : t ≡ r.0 = same-instance source top t r.0 there inside (sym r.2) in
           let above : r.0.above ≡ s.step ∷ s.above = all-in (λ c. c.above ≡ s.step ∷ s.above) r.0 (children source s) (children-above source s.step.levels s) r.1 in
           let d : s.step.number < length before = subst (IsDue (length before)) (ap (λ x. x.above) same ∙ above) due in
           let n : s.step.number ≡ length before = number_here in

@@ -78,6 +78,7 @@ fn add_primitive(
 }
 
 // Adds what lies outside of an instance of the module at a place of the definitions, the next child. Answers the number of the child behind it.
+// Each lookup finds something where the lists stand for a hierarchy.
 fn add_child(
     alloc: Global,
     library: &Library,

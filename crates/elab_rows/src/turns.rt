@@ -103,7 +103,7 @@ fn is_leaf(placed: &Placed, number: u32) -> bool
     placed.parent.is_some() && placed.end == number + 1
 }
 
-/// Adds the rows of the instance of a number, which comes next, and the outer rows of those in it.
+/// Adds the rows of the instance of a number, which comes next, and the outer rows of those in it. Its module is ready where the lists stand for a hierarchy.
 pub fn add_instance(
     alloc: Global,
     definitions: &Definitions,
