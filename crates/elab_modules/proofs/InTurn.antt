@@ -1,10 +1,12 @@
 -- Faults that are looked for one after another.
-use Rattle.std.specs.Prelude.{◌≡◌, ℕ, suc, ◌+◌, ◌<◌, ◌≤◌, List, [], ◌∷◌, ◌++◌, Result, Ok, Err, flat_map, length, slice_index_or, refl}
+use Rattle.std.specs.Prelude.{◌≡◌, ℕ, zero, suc, ◌+◌, ◌<◌, ◌≤◌, List, [], ◌∷◌, ◌++◌, Bool, true, false, Result, Ok, Err, flat_map, length, slice_index_or, refl}
 use Rattle.std.proofs.Common.{sym, ◌∙◌, ap, arith, subst, drop, drop-cons}
 use Rattle.std.proofs.lemmas.List.{drop_all}
+use Rattle.sg_text.specs.declared.places.Place.{Place}
 use Rattle.sg_text.specs.declared.refusals.Refused.{Refused}
+use Rattle.sg_text.specs.declared.refusals.Refused.TheVariants as refused
 use Rattle.elab_model.specs.declared.kinds.ElabKind.{ElabKind}
-use Rattle.elab_model.specs.Faults.{Fault, RefusesOneOf}
+use Rattle.elab_model.specs.Faults.{Fault, fault_if, RefusesOneOf}
 use Rattle.elab_names.proofs.Refusals.{refused-left, refused-right}
 use Rattle.elab_modules.specs.Telling.{Tells}
 
@@ -38,3 +40,45 @@ this-refused f xs i x r lt at left h =
 
 pub none-left : {A : Type 0} (f : A → List Fault) (xs : List A) (i : ℕ) → length xs ≤ i → flat_map f (drop i xs) ≡ flat_map f xs → flat_map f xs ≡ []
 none-left f xs i le left = sym left ∙ ap (flat_map f) (drop_all i xs le)
+
+-- ---- one fault where a test holds
+
+pub fault-told : (test : Bool) (k : ElabKind) (p : Place) → test ≡ true → RefusesOneOf (fault_if test k p) (refused.Fault k p)
+fault-told test k p e = subst (λ b. RefusesOneOf (fault_if b k p) (refused.Fault k p)) (sym e) (0, (omega arith, refl))
+
+pub no-fault : (test : Bool) (k : ElabKind) (p : Place) → test ≡ false → fault_if test k p ≡ []
+no-fault test k p e = ap (λ b. fault_if b k p) e
+
+-- ---- exits of functions that look for several parts in turn
+
+pub exit-first : {A : Type 0} (fs gs : List Fault) (result : Result A (Refused ElabKind)) (e : Refused ElabKind) → ((x : Refused ElabKind) × (result ≡ Err x) × (x ≡ e)) → RefusesOneOf fs e
+    → Tells (fs ++ gs) result
+exit-first fs gs result e x h = exit result (fs ++ gs) e x (refused-left fs gs e h)
+
+pub exit-second : {A : Type 0} (fs gs : List Fault) (result : Result A (Refused ElabKind)) (e : Refused ElabKind) → ((x : Refused ElabKind) × (result ≡ Err x) × (x ≡ e)) → RefusesOneOf gs e
+    → Tells (fs ++ gs) result
+exit-second fs gs result e x h = exit result (fs ++ gs) e x (refused-right fs gs e h)
+
+pub exit-middle : {A : Type 0} (fs gs hs : List Fault) (result : Result A (Refused ElabKind)) (e : Refused ElabKind) → ((x : Refused ElabKind) × (result ≡ Err x) × (x ≡ e)) → RefusesOneOf gs e
+    → Tells (fs ++ (gs ++ hs)) result
+exit-middle fs gs hs result e x h = exit-second fs (gs ++ hs) result e x (refused-left gs hs e h)
+
+-- ---- the same where elements are read by a default
+
+at-place : {A : Type 0} (xs : List A) (i : ℕ) (d : A) → i < length xs → slice_index_or xs i d ≡ slice_index_or xs i (slice_index_or xs i d)
+at-place [] i d lt = absurd (omega arith)
+at-place (x ∷ xs) zero d lt = refl
+at-place {A} (x ∷ xs) (suc i) d lt = again xs i d _ (omega arith)
+  where
+    again : (xs : List A) (i : ℕ) (d e : A) → i < length xs → slice_index_or xs i d ≡ slice_index_or xs i e
+    again [] i d e lt = absurd (omega arith)
+    again (x ∷ xs) zero d e lt = refl
+    again (x ∷ xs) (suc i) d e lt = again xs i d e (omega arith)
+
+pub next-faultless_at : {A : Type 0} (f : A → List Fault) (xs : List A) (i : ℕ) (d : A) → i < length xs → f (slice_index_or xs i d) ≡ [] → flat_map f (drop i xs) ≡ flat_map f xs
+    → flat_map f (drop (i + 1) xs) ≡ flat_map f xs
+next-faultless_at f xs i d lt e left = next-faultless f xs i (slice_index_or xs i d) lt (at-place xs i d lt) e left
+
+pub this-refused_at : {A : Type 0} (f : A → List Fault) (xs : List A) (i : ℕ) (d : A) (r : Refused ElabKind) → i < length xs → flat_map f (drop i xs) ≡ flat_map f xs
+    → RefusesOneOf (f (slice_index_or xs i d)) r → RefusesOneOf (flat_map f xs) r
+this-refused_at f xs i d r lt left h = this-refused f xs i (slice_index_or xs i d) r lt (at-place xs i d lt) left h

@@ -75,3 +75,20 @@ same-parted f g xs = record {
         | inr b ↦ (let r = from-flat g x xs b in in-flat (λ y. f y ++ g y) r.source x xs r.there (in-right x (f r.source) (g r.source) r.made))
       ];
 }
+
+pub same-each : {A : Type 0} (f g : A → List Fault) (xs : List A) → ((x : A) → Same (f x) (g x)) → Same (flat_map f xs) (flat_map g xs)
+same-each f g xs s = record {
+  onto = λ x h. let r = from-flat f x xs h in in-flat g r.source x xs r.there ((s r.source).onto x r.made);
+  back = λ x h. let r = from-flat g x xs h in in-flat f r.source x xs r.there ((s r.source).back x r.made);
+}
+
+-- the first two of three are swapped
+pub same-front : (a b c : List Fault) → Same (a ++ (b ++ c)) (b ++ (a ++ c))
+same-front a b c = record { onto = moved a b c; back = moved b a c }
+  where
+    moved : (a b c : List Fault) (x : Fault) → In x (a ++ (b ++ c)) → In x (b ++ (a ++ c))
+    moved a b c x h =
+        elim (in-either x a (b ++ c) h) [
+          | inl p ↦ in-right x b (a ++ c) (in-left x a c p)
+          | inr p ↦ elim (in-either x b c p) [ inl q ↦ in-left x b (a ++ c) q | inr q ↦ in-right x b (a ++ c) (in-right x a c q) ]
+        ]

@@ -2,3 +2,4 @@
 pub mod Ready
 pub mod Reached
 pub mod Telling
+pub mod Connecting
