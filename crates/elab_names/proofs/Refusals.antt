@@ -1,6 +1,6 @@
 -- One of several faults is refused.
 use Rattle.std.specs.Prelude.{◌≡◌, ◌+◌, List, [], ◌∷◌, ◌++◌, Bool, true, false, Some, None, Result, Err, IfErr, map, flat_map, find, length, refl, if◌then◌else◌}
-use Rattle.std.specs.List.{IsAmong}
+use Rattle.std.specs.List.{IsAmong, AllByRecursion}
 use Rattle.std.proofs.Common.{sym, ◌∙◌, ap, arith, subst, length-append}
 use Rattle.std.proofs.lemmas.List.{get_or_append_left, get_or-append-add}
 use Rattle.sg_text.specs.declared.places.Place.{Place}
@@ -9,7 +9,7 @@ use Rattle.sg_text.specs.declared.refusals.Refused.TheVariants as refused
 use Rattle.vl_tree.specs.Tree.{Named}
 use Rattle.elab_model.specs.declared.kinds.ElabKind.{ElabKind}
 use Rattle.elab_model.specs.declared.kinds.ElabKind.TheVariants.{DuplicateName}
-use Rattle.elab_model.specs.Faults.{Fault, fault, fault_if, places_again, duplicates, missing, RefusesOneOf}
+use Rattle.elab_model.specs.Faults.{Fault, fault, fault_if, places_again, duplicates, missing, all_of, RefusesOneOf}
 use Rattle.elab_names.specs.Words.{first_of}
 
 among-left : {A : Type 0} (xs ys : List A) (v : A) → IsAmong xs v → IsAmong (xs ++ ys) v
@@ -65,37 +65,18 @@ some-found k place test (x ∷ xs) y h = by (test x) h (some-found k place test 
     by false h rest = rest h
     by true h rest = let e : x ≡ y = cc in (0, (omega arith, ap (λ z. fault k (place z)) (sym e)))
 
--- ---- the exit of a check, of six
+-- ---- the exit of a check, of several one after another
 
 pub exit : {A : Type 0} (result : Result A (Refused ElabKind)) (whole : List Fault) (e : Refused ElabKind) → ((x : Refused ElabKind) × (result ≡ Err x) × (x ≡ e)) → RefusesOneOf whole e → IfErr result (RefusesOneOf whole)
 exit result whole e (x, r, s) h = rw r (subst (RefusesOneOf whole) (sym s) h)
 
-abbrev pub six : (hs bs cs ds es fs : List Fault) → List Fault
-six hs bs cs ds es fs = hs ++ (bs ++ (cs ++ (ds ++ (es ++ (fs ++ [])))))
+pub one-of : (before : List (List Fault)) (fs : List Fault) (after : List (List Fault)) (r : Refused ElabKind) → RefusesOneOf fs r → RefusesOneOf (all_of (before ++ fs ∷ after)) r
+one-of [] fs after r h = refused-left fs (all_of after) r h
+one-of (gs ∷ before) fs after r h = refused-right gs (all_of (before ++ fs ∷ after)) r (one-of before fs after r h)
 
-pub first-of : (hs bs cs ds es fs : List Fault) (r : Refused ElabKind) → RefusesOneOf hs r → RefusesOneOf (six hs bs cs ds es fs) r
-first-of hs bs cs ds es fs r h = refused-left hs (bs ++ (cs ++ (ds ++ (es ++ (fs ++ []))))) r h
-
-pub second-of : (hs bs cs ds es fs : List Fault) (r : Refused ElabKind) → RefusesOneOf bs r → RefusesOneOf (six hs bs cs ds es fs) r
-second-of hs bs cs ds es fs r h = refused-right hs (bs ++ (cs ++ (ds ++ (es ++ (fs ++ []))))) r (refused-left bs (cs ++ (ds ++ (es ++ (fs ++ [])))) r h)
-
-pub third-of : (hs bs cs ds es fs : List Fault) (r : Refused ElabKind) → RefusesOneOf cs r → RefusesOneOf (six hs bs cs ds es fs) r
-third-of hs bs cs ds es fs r h =
-    refused-right hs (bs ++ (cs ++ (ds ++ (es ++ (fs ++ []))))) r (refused-right bs (cs ++ (ds ++ (es ++ (fs ++ [])))) r (refused-left cs (ds ++ (es ++ (fs ++ []))) r h))
-
-pub fourth-of : (hs bs cs ds es fs : List Fault) (r : Refused ElabKind) → RefusesOneOf ds r → RefusesOneOf (six hs bs cs ds es fs) r
-fourth-of hs bs cs ds es fs r h =
-    refused-right hs (bs ++ (cs ++ (ds ++ (es ++ (fs ++ []))))) r (refused-right bs (cs ++ (ds ++ (es ++ (fs ++ [])))) r (refused-right cs (ds ++ (es ++ (fs ++ []))) r (refused-left ds (es ++ (fs ++ [])) r h)))
-
-pub fifth-of : (hs bs cs ds es fs : List Fault) (r : Refused ElabKind) → RefusesOneOf es r → RefusesOneOf (six hs bs cs ds es fs) r
-fifth-of hs bs cs ds es fs r h =
-    refused-right hs (bs ++ (cs ++ (ds ++ (es ++ (fs ++ []))))) r (refused-right bs (cs ++ (ds ++ (es ++ (fs ++ [])))) r (refused-right cs (ds ++ (es ++ (fs ++ []))) r
-    (refused-right ds (es ++ (fs ++ [])) r (refused-left es (fs ++ []) r h))))
-
-pub sixth-of : (hs bs cs ds es fs : List Fault) (r : Refused ElabKind) → RefusesOneOf fs r → RefusesOneOf (six hs bs cs ds es fs) r
-sixth-of hs bs cs ds es fs r h =
-    refused-right hs (bs ++ (cs ++ (ds ++ (es ++ (fs ++ []))))) r (refused-right bs (cs ++ (ds ++ (es ++ (fs ++ [])))) r (refused-right cs (ds ++ (es ++ (fs ++ []))) r
-    (refused-right ds (es ++ (fs ++ [])) r (refused-right es (fs ++ []) r (refused-left fs [] r h)))))
+pub none-of : (fss : List (List Fault)) → AllByRecursion (λ fs. fs ≡ []) fss → all_of fss ≡ []
+none-of [] h = refl
+none-of (fs ∷ fss) h = ap (λ xs. xs ++ all_of fss) h.0 ∙ none-of fss h.1
 
 -- names that are those of the definition
 pub once-of : (ns ms : List Named) (r : Refused ElabKind) → ns ≡ ms → RefusesOneOf (duplicates ns) r → RefusesOneOf (duplicates ms) r

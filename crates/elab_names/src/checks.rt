@@ -34,8 +34,8 @@ pub fn check_names(alloc: Global, definition: &Module) -> Result<(), Refused<Ela
     Ok(())
 }
 
-// No two of the names are one.
-fn check_once(alloc: Global, names: &[Name]) -> Result<(), Refused<ElabKind>>
+/// Refuses a name that stands earlier in the list too (DuplicateName, at the name). Takes memory in proportion to the names.
+pub fn check_once(alloc: Global, names: &[Name]) -> Result<(), Refused<ElabKind>>
     ensures faultless { OnOk result (duplicates (map view_name names.now) ≡ []) }
     ensures refused { IfErr result (RefusesOneOf (duplicates (map view_name names.now))) }
 {
@@ -48,8 +48,8 @@ fn check_once(alloc: Global, names: &[Name]) -> Result<(), Refused<ElabKind>>
     }
 }
 
-// Each of the names is one of the others.
-fn check_among(
+/// Refuses a name that is none of the others, as a fault of this kind at the name. Takes memory in proportion to the others.
+pub fn check_among(
     alloc: Global,
     kind: ElabKind,
     names: &[Name],

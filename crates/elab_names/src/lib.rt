@@ -11,7 +11,7 @@ mod ranges;
 mod repeated;
 
 pub use bounds::{first_differing, first_too_wide};
-pub use checks::check_names;
+pub use checks::{check_among, check_names, check_once};
 pub use declarations::check_declarations;
 pub use instances::instance_names;
 pub use nets::{NetDeclaration, net_declarations};

@@ -1,5 +1,5 @@
 -- What a bit of an instance is bound to, and when connections fit.
-use Rattle.std.specs.Prelude.{◌≡◌, ℕ, List, [], Option, Some, None, slice_get}
+use Rattle.std.specs.Prelude.{◌≡◌, ℕ, List, [], Option, slice_get}
 use Rattle.std.specs.List.{AllByRecursion}
 use Rattle.std.specs.Option.{option_and_then}
 use Rattle.sg_text.specs.declared.places.Place.{Place}
@@ -25,5 +25,5 @@ pub record AreConnected (vs : List Variable) (m : Module) (place : Place) (conne
 
 -- the table and the list of ports are those of a module
 pub record AreOf (m : Module) (child : List Variable) (ports : List Named) : Type 0 where
-  pub variables : child ≡ variables m
-  pub ports : ports ≡ port_list m
+  pub table : child ≡ variables m
+  pub list : ports ≡ port_list m

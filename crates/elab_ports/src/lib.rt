@@ -3,6 +3,10 @@
 
 mod bound;
 mod constants;
+mod room;
 
 pub use bound::bound_bits;
 pub use constants::{PortConstant, port_constants};
+
+#[cfg(test)]
+mod tests;

@@ -17,6 +17,10 @@ pub record IsOfTable (p : Primitive) (kind : ElabKind) (place : Place) : Type 0 
   pub named : kind ≡ Udp in_table
   pub stands : TableFault p in_table place
 
+abbrev pub RefusesTable : Primitive → Refused ElabKind → Type 0
+RefusesTable p (refused.Fault kind place) = IsOfTable p kind place
+RefusesTable p refused.NoMemory = Unit {0}
+
 abbrev pub RefusesPrimitive : Primitive → Refused ElabKind → Type 0
 RefusesPrimitive p (refused.Fault kind place) = IsAmong (primitive_faults p) (fault kind place) ⊎ IsOfTable p kind place
 RefusesPrimitive p refused.NoMemory = Unit {0}

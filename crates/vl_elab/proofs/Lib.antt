@@ -2,3 +2,5 @@
 pub mod Among
 pub mod Standing
 pub mod Faultless
+pub mod Whole
+pub mod Below

@@ -1,5 +1,13 @@
 -- What stands when the parts of a circuit have been made, one after another.
-use Rattle.std.specs.Prelude.{List, [], ◌∷◌}
+use Rattle.std.specs.Prelude.{◌≡◌, List, [], ◌∷◌, map}
+use Rattle.sg_time.specs.declared.units.Unit as unit
+use Rattle.sg_circuit.specs.Seen.{scope_seen}
+use Rattle.sg_circuit.specs.declared.scopes.Scope.{Scope}
+use Rattle.elab_model.specs.Delays.{tick_of}
+use Rattle.elab_model.specs.HierarchyFaults.{faults_below}
+use Rattle.elab_model.specs.Nets.{nets}
+use Rattle.elab_model.specs.Scopes.{scope_of}
+use Rattle.elab_drivers.specs.Netlists.{HasDrivers}
 use Rattle.sg_circuit.specs.declared.nets.Driver.{Driver}
 use Rattle.sg_circuit.specs.declared.nets.Net.{Net}
 use Rattle.sg_delay.specs.declared.corners.Corner.{Corner}
@@ -26,3 +34,13 @@ abbrev pub driven_by : List Net → List Driver → List Net
 driven_by [] ds = []
 driven_by (n ∷ ns) [] = n ∷ ns
 driven_by (n ∷ ns) (d ∷ ds) = record n { driver = d } ∷ driven_by ns ds
+
+-- all that a circuit is made of, where no fault stands
+pub record IsWhole (source : Source) (top : Module) (corner : Corner) (tick : unit.Unit) (ready : Library) (numbers : Rows) (made : Placing) (drivers : List Driver) (scopes : List Scope) : Type 0 where
+  pub tick_is : tick.power ≡ tick_of source top
+  pub is_ready : IsLibrary source corner top ready
+  pub have_rows : HaveRows source top numbers
+  pub are_elements : AreElements source top corner ready.gate_delays.items ready.udps.items made
+  pub has_drivers : HasDrivers source top corner drivers
+  pub are_scopes : map (λ s. scope_seen s) scopes ≡ map (scope_of (nets source top) source) (instances source top)
+  pub faultless : faults_below source top corner ≡ []

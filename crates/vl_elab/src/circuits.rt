@@ -1,27 +1,34 @@
 // The circuit of a netlist.
-ghost use Rattle.std.specs.Prelude.{option_map};
+ghost use Rattle.std.specs.Prelude.{◌≡◌, IfOk, IfErr, option_map};
+ghost use Rattle.sg_delay.specs.declared.corners.Corner as ghost_corner;
 ghost use Rattle.vl_tree.specs.Seen.{view_source};
+ghost use Rattle.vl_tree.specs.Tree.{Module, Source as GhostSource};
+ghost use Rattle.elab_model.specs.Circuits as def;
 ghost use Rattle.elab_model.specs.Elaboration.{Elaborates};
+ghost use Rattle.elab_hierarchy.specs.Tops.{StandsAt};
+ghost use Rattle.vl_elab.specs.Below.{IsBelow, RefusesBelow};
+ghost use Rattle.vl_elab.specs.Made.{IsWhole};
 
 use crate::driving::{drive, drivers_in};
-use elab_elements::elements_in;
+use elab_elements::{Placing, elements_in};
 use elab_hierarchy::{Definitions, place_instances, tick, top};
 use elab_model::ElabKind;
-use elab_modules::library_of;
-use elab_rows::rows_of;
+use elab_modules::{Library, library_of};
+use elab_rows::{Rows, rows_of};
 use elab_scopes::scopes_of;
-use sg_circuit::{Circuit, LegTiming, Parts};
+use sg_circuit::{Circuit, Driver, LegTiming, Parts, Scope};
 use sg_delay::{Corner, Delays12, Limit, Limits12};
-use sg_text::Refused;
+use sg_text::{NoMemory, Refused};
+use sg_time::Unit;
 use std::alloc::Global;
 use vl_tree::Source;
 
-/// The circuit of a netlist below a top: the module of that name, or else the only one that is no cell and of which no module has an instance (IEEE 1364-2005, clauses 6 to 8 and
-/// 12). Delays are those of a corner. Refuses a netlist with a fault that `ElabKind` names, at the node that has it; of several faults any one is answered. Takes memory in proportion to
-/// the netlist and to its circuit.
-pub fn elaborate(
+/// The circuit of a netlist below a top: the module of that name, or else the only one that is no cell and of which no module has an instance (IEEE 1364-2005, clauses 6 to 8
+/// and 12). Delays are those of a corner. Refuses a netlist with a fault that `ElabKind` names, at the node that has it; of several faults any one is answered. Takes memory in
+/// proportion to the netlist and to its circuit.
+pub fn elaborate<'a>(
     alloc: Global,
-    source: &Source,
+    source: &'a Source<'a>,
     name: Option<&[u8]>,
     corner: Corner,
 ) -> Result<Circuit, Refused<ElabKind>>
@@ -29,19 +36,52 @@ pub fn elaborate(
 {
     let definitions = Definitions::of(alloc, source)?;
     let top = top(alloc, &definitions, name)?;
-    let instances = place_instances(alloc, &definitions, top)?;
-    let tick = tick(&definitions, top, &instances);
-    let library = library_of(alloc, corner, tick, &definitions, &instances)?;
-    let mut rows = rows_of(alloc, &definitions, &library, &instances)?;
-    let made = elements_in(alloc, &definitions, &library, &instances, &rows)?;
-    let scopes = scopes_of(alloc, &definitions, &library, &instances, &rows)?;
-    let drivers = drivers_in(alloc, &definitions, &library, &instances, &rows, &made)?;
-    drive(&drivers, &mut rows.nets);
+    circuit_below(alloc, &definitions, top, corner)
+}
+
+// The circuit below the module at a place.
+fn circuit_below(
+    alloc: Global,
+    definitions: &Definitions,
+    top: usize,
+    corner: Corner,
+) -> Result<Circuit, Refused<ElabKind>>
+    requires top { (m : Module) × StandsAt definitions.now top m }
+    ensures circuit { IfOk result (λ made. (m : Module) → StandsAt definitions.now top m → IsBelow definitions.now m corner made) }
+    ensures refused { IfErr result (λ r. (m : Module) → StandsAt definitions.now top m → RefusesBelow definitions.now m corner r) }
+{
+    let instances = place_instances(alloc, definitions, top)?;
+    let tick = tick(definitions, top, &instances);
+    let library = library_of(alloc, corner, tick, definitions, &instances)?;
+    let rows = rows_of(alloc, definitions, &library, &instances)?;
+    let made = elements_in(alloc, definitions, &library, &instances, &rows)?;
+    let drivers = drivers_in(alloc, definitions, &library, &instances, &rows, &made)?;
+    let scopes = scopes_of(alloc, definitions, &library, &instances, &rows)?;
+    let circuit = close(alloc, tick, library, rows, made, &drivers, scopes)?;
+    Ok(circuit)
+}
+
+// The circuit of what has been made.
+fn close(
+    alloc: Global,
+    tick: Unit,
+    library: Library,
+    rows: Rows,
+    made: Placing,
+    drivers: &[Driver],
+    scopes: Vec<Scope>,
+) -> Result<Circuit, NoMemory>
+    requires { (source : GhostSource) × ((m : Module) × ((corner : ghost_corner.Corner) × IsWhole source m corner tick library.entry rows.entry made.entry drivers.now scopes.entry)) }
+    ensures { IfOk result (λ circuit. (source : GhostSource) (m : Module) (corner : ghost_corner.Corner) → IsWhole source m corner tick library.entry rows.entry made.entry drivers.now scopes.entry
+        → circuit ≡ def.circuit source m corner) }
+{
+    let mut nets = rows.nets;
+    drive(drivers, &mut nets);
     let mut leg_timings = Vec::new(alloc);
     leg_timings.push(no_delay())?;
     Ok(Circuit::close(Parts {
         tick,
-        nets: rows.nets,
+        nets,
         elements: made.elements,
         gate_delays: library.gate_delays,
         leg_timings,

@@ -1,0 +1,6 @@
+-- They lie between two of the places.
+use Rattle.elab_primitives.proofs.Cuts.{inputs-cut}
+use Rattle.elab_primitives.proofs.declared.Declared.inputs.Goals as goal
+
+pub returns : goal.returns
+returns c = λ p h. inputs-cut p c.args.self.now c.deref.result.now c.deref.ensures.value h
