@@ -3,6 +3,8 @@ use Rattle.std.specs.Prelude.{◌≡◌, ℕ, ◌<◌, ◌≤◌, List, [], ◌�
 use Rattle.std.specs.List.{cons_option}
 use Rattle.std.proofs.Common.{sym, ◌∙◌, ap, arith, subst}
 use Rattle.std.proofs.lemmas.List.{length-map}
+use Rattle.std.proofs.lemmas.Bool.Decides.{nat_tests}
+use Rattle.std.specs.Option.{is_some}
 use Rattle.std.proofs.lemmas.List.Folds.{flat_map-map}
 use Rattle.sg_circuit.specs.Closed.{width_of}
 use Rattle.sg_text.specs.declared.places.Place.{Place}
@@ -14,7 +16,7 @@ use Rattle.vl_tree.specs.declared.items.NamedConnection as code_connection
 use Rattle.vl_tree.specs.Seen.{view_expression, view_name, view_named_connection}
 use Rattle.vl_tree.specs.Tree.{Named, Expression, Delay, NamedConnection, Connections, by_order, by_name, Instance, Module}
 use Rattle.elab_model.specs.declared.kinds.ElabKind.{ElabKind}
-use Rattle.elab_model.specs.declared.kinds.ElabKind.TheVariants.{UnknownName, BadTerminal}
+use Rattle.elab_model.specs.declared.kinds.ElabKind.TheVariants.{UnknownName, BadTerminal, BadDelay}
 use Rattle.elab_model.specs.Faults.{Fault, fault_if, RefusesOneOf, duplicates}
 use Rattle.elab_model.specs.Homes.{is_output}
 use Rattle.elab_model.specs.Members.{connection_values}
@@ -105,8 +107,8 @@ ordered-tells vs m p ns es result names le h =
     let xs = zip ps ves in
     let own = flat_map (λ x. own_faults vs x.1) xs in
     let each = flat_map (λ x. port_faults vs m x.0 x.1) xs in
-    let ln : length ps ≡ length ns = ap length (sym names) ∙ length-map view_name ns in
-    let le-seen : length ves ≡ length es = length-map (option_map view_expression) es in
+    let ln : length ps ≡ length ns = ap length (sym names) ∙ length-map ns view_name in
+    let le-seen : length ves ≡ length es = length-map es (option_map view_expression) in
     let fits : length ves ≤ length ps = omega arith in
     let begun : flat_map (λ x. connected_faults vs m (view_name x.0) (option_map view_expression x.1)) (zip ns es) ≡ flat_map (λ x. connected_faults vs m x.0 x.1) xs =
     sym (flat_map-map (λ x. connected_faults vs m x.0 x.1) (λ x. (view_name x.0, option_map view_expression x.1)) (zip ns es))
@@ -120,7 +122,7 @@ ordered-tells vs m p ns es result names le h =
     (same-then _ (own ++ each) _ (each-connected vs m (λ x. x.0) (λ x. x.1) xs) (same-as _ _ ended))) h
   where
     not-less : (a b : ℕ) → b ≤ a → nat_lt a b ≡ false
-    not-less a b h = grind arith
+    not-less a b h = grind (arith, nat_tests)
 
 pub named-tells : {A : Type 0} (vs : List Variable) (m : Module) (cs : List code_connection.NamedConnection) (result : Result A (Refused ElabKind))
     → Tells (duplicates (map (λ c. view_name c.port) cs) ++ flat_map (λ c. connected_faults vs m (view_name c.port) (option_map view_expression c.value)) cs) result
@@ -160,3 +162,40 @@ module-tells vs m d i result named none h =
     let all : connections_faults vs m i.place i.connections ≡ module_told vs m d i =
     ap (λ o. e ++ (delay_on_module o ++ k)) (sym none) ∙ ap (λ fs. e ++ (fs ++ (delay_on_module d ++ k))) (sym (no-fault (is_missing i.name) BadTerminal i.place named)) in
     subst (λ fs. Tells fs result) all h
+
+pub delayed : (vs : List Variable) (m : Module) (o : Option Delay) (d : Delay) (i : Instance) → o ≡ Some d → RefusesOneOf (module_told vs m o i) (refused.Fault BadDelay d.place)
+delayed vs m o d i e =
+    let f = fault_if (is_missing i.name) BadTerminal i.place in
+    let k = connection_faults vs m i.place i.connections in
+    let one : RefusesOneOf (delay_on_module (Some d)) (refused.Fault BadDelay d.place) = (0, (omega arith, refl)) in
+    refused-right (flat_map (expression_faults vs) (connection_values i.connections)) (f ++ (delay_on_module o ++ k)) (refused.Fault BadDelay d.place)
+    (refused-right f (delay_on_module o ++ k) (refused.Fault BadDelay d.place)
+    (refused-left (delay_on_module o) k (refused.Fault BadDelay d.place) (subst (λ x. RefusesOneOf (delay_on_module x) (refused.Fault BadDelay d.place)) (sym e) one)))
+
+pub name-missing : (o : Option code_name.Name) (b : Bool) → is_some o ≡ not b → b ≡ true → is_missing (option_map view_name o) ≡ true
+name-missing None b e h = refl
+name-missing (Some n) b e h = let f : true ≡ false = e ∙ ap not h in cc
+
+pub name-given : (o : Option code_name.Name) (b : Bool) → is_some o ≡ not b → b ≡ false → is_missing (option_map view_name o) ≡ false
+name-given None b e h = let f : false ≡ true = e ∙ ap not h in cc
+name-given (Some n) b e h = refl
+
+-- more values than ports, as the code counts them
+pub more-values : (vs : List Variable) (m : Module) (p : Place) (ns : List code_name.Name) (es : List (Option code.Expression)) (a b : ℕ) → map view_name ns ≡ port_list m → a ≡ length es → b ≡ length ns → b < a
+    → RefusesOneOf (ordered_faults vs m p (map (option_map view_expression) es)) (refused.Fault BadTerminal p)
+more-values vs m p ns es a b names ea eb lt =
+    let ves = map (option_map view_expression) es in
+    let ln : length (port_list m) ≡ length ns = ap length (sym names) ∙ length-map ns view_name in
+    let le : length ves ≡ length es = length-map es (option_map view_expression) in
+    too-many vs m p ves (less (length (port_list m)) (length ves) (omega arith))
+  where
+    less : (a b : ℕ) → a < b → nat_lt a b ≡ true
+    less a b h = grind (arith, nat_tests)
+
+-- names that the code has
+pub names-tell : {A : Type 0} (vs : List Variable) (m : Module) (ns : List Named) (cs : List code_connection.NamedConnection) (result : Result A (Refused ElabKind)) → ns ≡ map (λ c. view_name c.port) cs
+    → Tells (duplicates ns ++ flat_map (λ c. connected_faults vs m (view_name c.port) (option_map view_expression c.value)) cs) result
+    → Tells (named_faults vs m (map view_named_connection cs)) result
+names-tell vs m ns cs result e h =
+    named-tells vs m cs result
+    (subst (λ ns. Tells (duplicates ns ++ flat_map (λ c. connected_faults vs m (view_name c.port) (option_map view_expression c.value)) cs) result) e h)

@@ -1,15 +1,19 @@
 -- The table of delays as it grows.
-use Rattle.std.specs.Prelude.{◌≡◌, ℕ, zero, suc, ◌+◌, ◌<◌, ◌≤◌, All, List, [], ◌∷◌, ◌++◌, length, map, take, slice_index_or, refl, ℤ}
+use Rattle.std.specs.Prelude.{◌≡◌, ℕ, zero, suc, ◌+◌, ◌<◌, ◌≤◌, All, List, [], ◌∷◌, ◌++◌, flat_map, length, map, take, slice_index_or, refl, ℤ}
 use Rattle.std.specs.List.{AllByRecursion}
-use Rattle.std.proofs.Common.{sym, ◌∙◌, ap, arith, subst, append_assoc, length-append, length-map}
-use Rattle.std.proofs.lemmas.List.{append-nil, map-append, get_or_append_left}
+use Rattle.std.proofs.Common.{sym, ◌∙◌, ap, arith, subst, append_assoc, length-append}
+use Rattle.std.proofs.lemmas.List.{append-nil, map-append, get_or_append_left, length-map, take_more, take_all}
+use Rattle.std.proofs.lemmas.List.Folds.{flat_map-map}
 use Rattle.sg_circuit.specs.Seen.{gate_delays_seen, delays_at}
 use Rattle.sg_delay.specs.declared.corners.Corner.{Corner}
 use Rattle.sg_delay.specs.declared.gates.GateDelays.{GateDelays}
 use Rattle.vl_tree.specs.Tree.{Module}
-use Rattle.elab_model.specs.Members.{Member}
+use Rattle.elab_model.specs.Members.{Member, members}
 use Rattle.elab_laws.proofs.Lists.{all-append, all-weaker}
-use Rattle.elab_modules.specs.Ready.{member_delays}
+use Rattle.elab_tables.specs.Seen.{view_member}
+use Rattle.elab_tables.specs.declared.member_list.Member as code_member
+use Rattle.elab_modules.specs.declared.prepared.Prepared.{Prepared}
+use Rattle.elab_modules.specs.Ready.{IsPrepared, HasDelays, member_delays}
 use Rattle.elab_modules.specs.Telling.{GrowsBy, StandsFor}
 
 pub grows-none : (table : List GateDelays) → GrowsBy table table
@@ -29,7 +33,7 @@ pub entry-last : (old new : List GateDelays) (d : GateDelays) (i : ℕ) → new 
 entry-last old new d i e at =
     let seen : List GateDelays → List (List ℕ) = map (λ d. gate_delays_seen d) in
     let n : length new ≡ length old + 1 = ap length e ∙ length-append old (d ∷ []) in
-    let k : i ≡ length (seen old) = at ∙ sym (length-map (λ d. gate_delays_seen d) old) in
+    let k : i ≡ length (seen old) = at ∙ sym (length-map old (λ d. gate_delays_seen d)) in
     (omega arith,
     ap (λ j. slice_index_or (seen new) j []) k ∙ ap (λ t. slice_index_or (seen t) (length (seen old)) []) e
     ∙ ap (λ t. slice_index_or t (length (seen old)) []) (map-append (λ d. gate_delays_seen d) old (d ∷ [])) ∙ last-at (seen old) (gate_delays_seen d) [])
@@ -38,7 +42,7 @@ pub entry-kept : (old new : List GateDelays) (i : ℕ) → GrowsBy old new → i
 entry-kept old new i (more, e) lt =
     let seen : List GateDelays → List (List ℕ) = map (λ d. gate_delays_seen d) in
     let n : length new ≡ length old + length more = ap length e ∙ length-append old more in
-    let k : length (seen old) ≡ length old = length-map (λ d. gate_delays_seen d) old in
+    let k : length (seen old) ≡ length old = length-map old (λ d. gate_delays_seen d) in
     let below : i < length (seen old) = omega arith in
     (omega arith,
     ap (λ t. slice_index_or (seen t) i []) e ∙ ap (λ t. slice_index_or t i []) (map-append (λ d. gate_delays_seen d) old more) ∙ get_or_append_left (seen old) (seen more) [] i below)
@@ -66,3 +70,26 @@ delays-next corner tick m ms x old new places i g s h =
           ∙ sym (map-append (member_delays corner tick m) ms (x ∷ []));
       below = all-append (λ j. j < length new) places (i ∷ []) kept.1 (s.0, tt);
     }
+
+-- one member more
+pub one-more : (corner : Corner) (tick : ℤ) (m : Module) (xs : List code_member.Member) (k : ℕ) (d : code_member.Member) (old new : List GateDelays) (places : List ℕ) (i : ℕ) → k < length xs → GrowsBy old new
+    → StandsFor new i (member_delays corner tick m (view_member (slice_index_or xs k d))) → AreDelays corner tick m (map view_member (take k xs)) old places
+    → AreDelays corner tick m (map view_member (take (k + 1) xs)) new (places ++ i ∷ [])
+one-more corner tick m xs k d old new places i lt g s h =
+    let x = slice_index_or xs k d in
+    let more : map view_member (take (k + 1) xs) ≡ map view_member (take k xs) ++ view_member x ∷ [] = ap (map view_member) (take_more xs k d lt) ∙ map-append view_member (take k xs) (x ∷ []) in
+    subst (λ ms. AreDelays corner tick m ms new (places ++ i ∷ [])) (sym more) (delays-next corner tick m (map view_member (take k xs)) (view_member x) old new places i g s h)
+
+pub none-yet : (corner : Corner) (tick : ℤ) (m : Module) (table : List GateDelays) → AreDelays corner tick m [] table []
+none-yet corner tick m table = record { delays = refl; below = tt }
+
+pub has-delays : (corner : Corner) (tick : ℤ) (m : Module) (p : Prepared) (xs : List code_member.Member) (k : ℕ) (table : List GateDelays) (places : List ℕ) → IsPrepared p m → xs ≡ p.members.items → length xs ≤ k
+    → AreDelays corner tick m (map view_member (take k xs)) table places → HasDelays corner tick m table places
+has-delays corner tick m p xs k table places ready same le h =
+    let all : map view_member (take k xs) ≡ members m = ap (map view_member) (take_all k xs le ∙ same) ∙ ready.members in
+    record { delays = h.delays ∙ ap (map (member_delays corner tick m)) all; below = h.below }
+
+-- the faults of a module's members, as the code has them
+pub members-faults : {A : Type 0} (f : Member → List A) (m : Module) (p : Prepared) (xs : List code_member.Member) → IsPrepared p m → xs ≡ p.members.items
+    → flat_map (λ x. f (view_member x)) xs ≡ flat_map f (members m)
+members-faults f m p xs ready same = sym (flat_map-map f view_member xs) ∙ ap (λ ys. flat_map f (map view_member ys)) same ∙ ap (flat_map f) ready.members

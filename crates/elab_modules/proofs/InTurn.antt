@@ -1,7 +1,8 @@
 -- Faults that are looked for one after another.
-use Rattle.std.specs.Prelude.{◌≡◌, ℕ, zero, suc, ◌+◌, ◌<◌, ◌≤◌, List, [], ◌∷◌, ◌++◌, Bool, true, false, Result, Ok, Err, flat_map, length, slice_index_or, refl}
+use Rattle.std.specs.Prelude.{◌≡◌, ℕ, zero, suc, ◌+◌, ◌<◌, ◌≤◌, List, [], ◌∷◌, ◌++◌, Bool, true, false, Result, Ok, Err, flat_map, length, slice_index_or, zip, refl}
 use Rattle.std.proofs.Common.{sym, ◌∙◌, ap, arith, subst, drop, drop-cons}
 use Rattle.std.proofs.lemmas.List.{drop_all}
+use Rattle.std.proofs.lemmas.Slice.Zip.{length-zip, get_or-zip}
 use Rattle.sg_text.specs.declared.places.Place.{Place}
 use Rattle.sg_text.specs.declared.refusals.Refused.{Refused}
 use Rattle.sg_text.specs.declared.refusals.Refused.TheVariants as refused
@@ -82,3 +83,27 @@ next-faultless_at f xs i d lt e left = next-faultless f xs i (slice_index_or xs 
 pub this-refused_at : {A : Type 0} (f : A → List Fault) (xs : List A) (i : ℕ) (d : A) (r : Refused ElabKind) → i < length xs → flat_map f (drop i xs) ≡ flat_map f xs
     → RefusesOneOf (f (slice_index_or xs i d)) r → RefusesOneOf (flat_map f xs) r
 this-refused_at f xs i d r lt left h = this-refused f xs i (slice_index_or xs i d) r lt (at-place xs i d lt) left h
+
+-- ---- of two lists side by side
+
+zip-reaches : {A B : Type 0} (xs : List A) (ys : List B) (i : ℕ) → i < length ys → length ys ≤ length xs → i < length (zip xs ys)
+zip-reaches xs ys i lt le = let z = length-zip xs ys in omega arith
+
+pub next-pair_faultless : {A B : Type 0} (f : A × B → List Fault) (xs : List A) (ys : List B) (i : ℕ) (d : A) (y : B) → i < length ys → length ys ≤ length xs → y ≡ slice_index_or ys i y
+    → f (slice_index_or xs i d, y) ≡ [] → flat_map f (drop i (zip xs ys)) ≡ flat_map f (zip xs ys) → flat_map f (drop (i + 1) (zip xs ys)) ≡ flat_map f (zip xs ys)
+next-pair_faultless f xs ys i d y lt le at e left =
+    let pair : slice_index_or (zip xs ys) i (d, y) ≡ (slice_index_or xs i d, y) = get_or-zip xs ys i (d, y) (omega arith) lt ∙ ap (λ z. (slice_index_or xs i d, z)) (sym at) in
+    next-faultless_at f (zip xs ys) i (d, y) (zip-reaches xs ys i lt le) (ap f pair ∙ e) left
+
+pub this-pair_refused : {A B : Type 0} (f : A × B → List Fault) (xs : List A) (ys : List B) (i : ℕ) (d : A) (y : B) (r : Refused ElabKind) → i < length ys → length ys ≤ length xs
+    → y ≡ slice_index_or ys i y → flat_map f (drop i (zip xs ys)) ≡ flat_map f (zip xs ys) → RefusesOneOf (f (slice_index_or xs i d, y)) r → RefusesOneOf (flat_map f (zip xs ys)) r
+this-pair_refused f xs ys i d y r lt le at left h =
+    let pair : slice_index_or (zip xs ys) i (d, y) ≡ (slice_index_or xs i d, y) = get_or-zip xs ys i (d, y) (omega arith) lt ∙ ap (λ z. (slice_index_or xs i d, z)) (sym at) in
+    this-refused_at f (zip xs ys) i (d, y) r (zip-reaches xs ys i lt le) left (subst (λ p. RefusesOneOf (f p) r) (sym pair) h)
+
+pub no-pair_left : {A B : Type 0} (f : A × B → List Fault) (xs : List A) (ys : List B) (i : ℕ) → length ys ≤ i → flat_map f (drop i (zip xs ys)) ≡ flat_map f (zip xs ys) → flat_map f (zip xs ys) ≡ []
+no-pair_left f xs ys i le left = let z = length-zip xs ys in none-left f (zip xs ys) i (omega arith) left
+
+pub first-and_rest : {A : Type 0} (xs : List A) (x : A) → 1 ≤ length xs → x ≡ slice_index_or xs 0 x → xs ≡ x ∷ drop 1 xs
+first-and_rest [] x le e = absurd (omega arith)
+first-and_rest (y ∷ xs) x le e = ap (λ z. z ∷ xs) (sym e)

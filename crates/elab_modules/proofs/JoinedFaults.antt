@@ -61,8 +61,8 @@ driven-refused vs p l r xs x seen h =
 differ-is : (vs : List Variable) (l r : Expression) (xs ys : List code_bit.Bit) (b : Bool) → expression_faults vs l ≡ [] → expression_faults vs r ≡ [] → map (view_bit vs) xs ≡ bits vs l
     → map (view_bit vs) ys ≡ bits vs r → (length ys == length xs) ≡ b → differ vs l r ≡ not b
 differ-is vs l r xs ys b el er sx sy e =
-    let lx : length (bits vs l) ≡ length xs = ap length (sym sx) ∙ length-map (view_bit vs) xs in
-    let ly : length (bits vs r) ≡ length ys = ap length (sym sy) ∙ length-map (view_bit vs) ys in
+    let lx : length (bits vs l) ≡ length xs = ap length (sym sx) ∙ length-map xs (view_bit vs) in
+    let ly : length (bits vs r) ≡ length ys = ap length (sym sy) ∙ length-map ys (view_bit vs) in
     ap (λ fs. is_empty fs && (is_sound vs r && not (length (bits vs l) == length (bits vs r)))) el
     ∙ ap (λ fs. is_empty fs && not (length (bits vs l) == length (bits vs r))) er
     ∙ ap (λ n. not (n == length (bits vs r))) lx ∙ ap (λ n. not (length xs == n)) ly ∙ ap not (swapped (length xs) (length ys) ∙ e)

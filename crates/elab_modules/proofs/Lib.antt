@@ -7,3 +7,4 @@ pub mod TerminalFaults
 pub mod Connected
 pub mod Entries
 pub mod MemberFaults
+pub mod ReadyParts

@@ -93,14 +93,14 @@ defined-at source n i e =
 abbrev own_values : Module → instance_text → List Fault
 own_values m i = flat_map (expression_faults (variables m)) (connection_values i.connections)
 
-pub unknown-tells : {A : Type 0} (source : Source) (m : Module) (n : Named) (d : Option Delay) (i : instance_text) (result : Result A (Refused ElabKind))
-    → None ≡ position_from (λ d. bytes_eq n.text (name_of d).text) 0 source → result ≡ Err (refused.Fault UnknownModule i.place) → TellsButDelay source m (instance n d i) result
-unknown-tells source m n d i result e is corner tick =
+pub unknown-refused : (source : Source) (corner : Corner) (tick : ℤ) (m : Module) (n : Named) (d : Option Delay) (i : instance_text)
+    → None ≡ position_from (λ d. bytes_eq n.text (name_of d).text) 0 source → RefusesOneOf (all_member_faults source corner tick m (instance n d i)) (refused.Fault UnknownModule i.place)
+unknown-refused source corner tick m n d i e =
     let none : definition_of source n.text ≡ None = none-from (λ d. bytes_eq n.text (name_of d).text) 0 source (sym e) in
     let all : own_values m i ++ (fault UnknownModule i.place ∷ []) ≡ all_member_faults source corner tick m (instance n d i) =
     ap (λ o. own_values m i ++ instance_faults corner tick m (variables m) d i o) (sym none) in
-    rw is (subst (λ fs. RefusesOneOf fs (refused.Fault UnknownModule i.place)) all
-    (refused-right (own_values m i) (fault UnknownModule i.place ∷ []) (refused.Fault UnknownModule i.place) (0, (omega arith, refl))))
+    subst (λ fs. RefusesOneOf fs (refused.Fault UnknownModule i.place)) all
+    (refused-right (own_values m i) (fault UnknownModule i.place ∷ []) (refused.Fault UnknownModule i.place) (0, (omega arith, refl)))
 
 no-delay : (d : Option Delay) → delay_on_module d ≡ [] → d ≡ None
 no-delay None h = refl

@@ -1,9 +1,10 @@
 -- What is wrong with terminals, of which the first are outputs: looked for at the outputs, then at the inputs.
 use Rattle.std.specs.Prelude.{◌≡◌, ℕ, ◌+◌, ◌<◌, ◌≤◌, List, [], ◌∷◌, ◌++◌, Bool, true, false, nat_lt, ◌||◌, ◌&&◌, not, ◌==◌, Option, Some, None, Result, map, flat_map, filter_map, option_map, length, take, drop, refl}
-use Rattle.std.specs.List.{list_any, cons_option}
+use Rattle.std.specs.List.{list_any, cons_option, take-map}
 use Rattle.std.proofs.Common.{sym, ◌∙◌, ap, arith, subst, append_assoc, inl, inr}
 use Rattle.std.proofs.lemmas.Grind.{flat_map-append}
-use Rattle.std.proofs.lemmas.List.{append-nil}
+use Rattle.std.proofs.lemmas.List.{append-nil, map-append, length-map, take-append-drop}
+use Rattle.std.proofs.lemmas.Bool.Decides.{nat_tests}
 use Rattle.std.proofs.lemmas.List.Folds.{flat_map-map}
 use Rattle.sg_logic.specs.declared.gates.GateKind.{GateKind}
 use Rattle.sg_text.specs.declared.places.Place.{Place}
@@ -12,17 +13,18 @@ use Rattle.sg_text.specs.declared.refusals.Refused.TheVariants as refused
 use Rattle.vl_tree.specs.declared.expressions.Expression as code
 use Rattle.vl_tree.specs.declared.items.GateInstance as code_gate
 use Rattle.vl_tree.specs.Seen.{view_expression, view_gate_instance}
-use Rattle.vl_tree.specs.Tree.{Expression}
+use Rattle.vl_tree.specs.Tree.{Expression, NamedConnection, Instance, by_name}
 use Rattle.elab_model.specs.declared.kinds.ElabKind.{ElabKind}
 use Rattle.elab_model.specs.declared.kinds.ElabKind.TheVariants.{BadTerminal}
 use Rattle.elab_model.specs.Elements.{output_count}
 use Rattle.elab_model.specs.Faults.{Fault, fault_if, RefusesOneOf}
+use Rattle.elab_model.specs.Members.{connection_values}
 use Rattle.elab_model.specs.Names.{Variable}
 use Rattle.elab_model.specs.TerminalFaults.{expression_faults, width_faults, constant_faults, terminal_faults, is_missing}
 use Rattle.elab_laws.proofs.Lists.{In, in-left, in-right, in-either}
 use Rattle.elab_names.proofs.Refusals.{refused-left, refused-right}
 use Rattle.elab_modules.specs.Telling.{Tells, joined_faults, value_faults}
-use Rattle.elab_modules.specs.Connecting.{gate_told, are_given, values_told, terminals_told}
+use Rattle.elab_modules.specs.Connecting.{gate_told, are_given, fits_ports, values_told, terminals_told, primitive_told}
 use Rattle.elab_modules.proofs.InTurn.{fault-told, no-fault}
 use Rattle.elab_modules.proofs.SameFaults.{Same, same-as, same-then, same-beside, same-parted, tells-same}
 
@@ -162,3 +164,51 @@ not-given vs count p es g =
     let f = fault_if (not (are_given count es)) BadTerminal p in
     refused-right (flat_map (expression_faults vs) (given es)) (f ++ terminal_faults vs 1 (given es)) (refused.Fault BadTerminal p)
     (refused-left f (terminal_faults vs 1 (given es)) (refused.Fault BadTerminal p) (fault-told (not (are_given count es)) BadTerminal p (ap not g)))
+
+-- ---- what the code cuts and counts
+
+few-are : (ts : List code.Expression) (n : ℕ) → n ≡ length ts → n < 2 → nat_lt (length (map view_expression ts)) 2 ≡ true
+few-are ts n e lt = let k = length-map ts view_expression in ap (λ j. nat_lt j 2) (k ∙ sym e) ∙ less n lt
+  where
+    less : (n : ℕ) → n < 2 → nat_lt n 2 ≡ true
+    less n h = grind (arith, nat_tests)
+
+many-are : (ts : List code.Expression) (n : ℕ) → n ≡ length ts → 2 ≤ n → nat_lt (length (map view_expression ts)) 2 ≡ false
+many-are ts n e le = let k = length-map ts view_expression in ap (λ j. nat_lt j 2) (k ∙ sym e) ∙ not-less n le
+  where
+    not-less : (n : ℕ) → 2 ≤ n → nat_lt n 2 ≡ false
+    not-less n h = grind (arith, nat_tests)
+
+pub few-refused : (vs : List Variable) (g : GateKind) (i : code_gate.GateInstance) (n : ℕ) → n ≡ length i.terminals.items → n < 2
+    → RefusesOneOf (gate_told vs g (view_gate_instance i)) (refused.Fault BadTerminal i.place)
+few-refused vs g i n e lt = gate-few vs g i (few-are i.terminals.items n e lt)
+
+pub cut-tells : {A : Type 0} (vs : List Variable) (g : GateKind) (i : code_gate.GateInstance) (k n j : ℕ) (es os is : List code.Expression) (result : Result A (Refused ElabKind))
+    → es ≡ i.terminals.items → n ≡ length i.terminals.items → 2 ≤ n → j ≡ length i.terminals.items → k ≡ output_count g j → os ≡ take k es → is ≡ drop k es
+    → Tells (gate_terminals vs true os ++ gate_terminals vs false is) result → Tells (gate_told vs g (view_gate_instance i)) result
+cut-tells vs g i k n j es os is result same len le again count front back h =
+    let ts = i.terminals.items in
+    let taken : take k (map view_expression ts) ≡ map view_expression os = take-map view_expression k ts ∙ ap (λ xs. map view_expression (take k xs)) (sym same) ∙ ap (map view_expression) (sym front) in
+    let whole : map view_expression os ++ map view_expression is ≡ map view_expression ts =
+    sym (map-append view_expression os is) ∙ ap (map view_expression) (ap (λ xs. xs ++ is) front ∙ ap (λ xs. take k es ++ xs) back ∙ take-append-drop k es ∙ same) in
+    gate-tells vs g i k os is result (many-are ts n len le) taken whole (count ∙ ap (output_count g) (again ∙ sym (length-map ts view_expression))) h
+
+-- ---- connections by name
+
+pub named-refused : (vs : List Variable) (count : ℕ) (i : Instance) (cs : List NamedConnection) → i.connections ≡ by_name cs → RefusesOneOf (primitive_told vs count i) (refused.Fault BadTerminal i.place)
+named-refused vs count i cs e =
+    let f = fault_if (not (fits_ports count i.connections)) BadTerminal i.place in
+    let rest = terminal_faults vs 1 (connection_values i.connections) in
+    refused-right (flat_map (expression_faults vs) (connection_values i.connections)) (f ++ rest) (refused.Fault BadTerminal i.place)
+    (refused-left f rest (refused.Fault BadTerminal i.place) (fault-told (not (fits_ports count i.connections)) BadTerminal i.place (ap (λ x. not (fits_ports count x)) e)))
+
+-- an output and inputs, as the code has them
+pub output-told : {A : Type 0} (vs : List Variable) (values : List (Option code.Expression)) (o : Option code.Expression) (is : List (Option code.Expression)) (result : Result A (Refused ElabKind))
+    → values ≡ o ∷ is
+    → Tells (value_faults vs 1 true (option_map view_expression o) ++ flat_map (λ v. value_faults vs 1 false (option_map view_expression v)) is) result
+    → Tells (values_told vs (map (option_map view_expression) values)) result
+output-told vs values o is result e h =
+    let all : value_faults vs 1 true (option_map view_expression o) ++ flat_map (λ v. value_faults vs 1 false (option_map view_expression v)) is ≡ values_told vs (map (option_map view_expression) values) =
+    ap (λ fs. value_faults vs 1 true (option_map view_expression o) ++ fs) (sym (flat_map-map (value_faults vs 1 false) (option_map view_expression) is))
+    ∙ ap (λ xs. values_told vs (map (option_map view_expression) xs)) (sym e) in
+    subst (λ fs. Tells fs result) all h

@@ -1,5 +1,5 @@
 // What is refused in instances of modules and primitives.
-ghost use Rattle.std.specs.Prelude.{◌≡◌, Some, option_map};
+ghost use Rattle.std.specs.Prelude.{◌≡◌, ◌<◌, Some, length, slice_get, option_map};
 ghost use Rattle.vl_tree.specs.Seen.{view_delay, view_instance, view_name};
 ghost use Rattle.vl_tree.specs.Tree.{Module};
 ghost use Rattle.elab_model.specs.Members as member;
@@ -38,6 +38,13 @@ fn prepared_in<'s, 'a>(part: &'s Option<Ready<'a>>) -> Option<&'s Prepared<'a>>
         Some(ready) => as_prepared(ready),
         None => None,
     }
+}
+
+fn part_at<'s, 'a>(parts: &'s [Option<Ready<'a>>], place: usize) -> &'s Option<Ready<'a>>
+    requires { place < length parts.now }
+    ensures { slice_get parts.now place ≡ Some result.now }
+{
+    &parts[place]
 }
 
 fn check_module(
@@ -82,7 +89,14 @@ pub fn check_instance(
         });
     };
     match definitions.part(place) {
-        Part::Module(_) => check_module(alloc, table, &parts[place], delay, instance, bits),
+        Part::Module(_) => check_module(
+            alloc,
+            table,
+            part_at(parts, place),
+            delay,
+            instance,
+            bits,
+        ),
         Part::Primitive(primitive) => {
             check_primitive_instance(table, primitive.ports.len(), instance, bits)
         }

@@ -116,7 +116,8 @@ pub fn check_members(
     let mut places = Vec::new(alloc);
     for member in &prepared.members {
         check_member(alloc, definitions, parts, prepared, member, &mut bits)?;
-        places.push(add_member(corner, tick, prepared, member, gate_delays)?)?;
+        let place = add_member(corner, tick, prepared, member, gate_delays)?;
+        places.push(place)?;
     }
     Ok(places)
 }

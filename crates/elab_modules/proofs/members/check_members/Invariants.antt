@@ -13,8 +13,8 @@ invariant-loop-member l = record {
   counts : All (λ d. d.count ≤ 2) l.gate_delays.items;
   kept : GrowsBy l.initial.gate_delays.items l.gate_delays.items;
   faults : (m : Module) → IsPrepared l.prepared m
-      → flat_map (λ x. all_member_faults l.definitions l.corner l.tick.power m (view_member x)) (drop l.member-index l.prepared.members.items)
-      ≡ flat_map (λ x. all_member_faults l.definitions l.corner l.tick.power m (view_member x)) l.prepared.members.items;
+      → flat_map (λ x. all_member_faults l.definitions l.corner l.tick.power m (view_member x)) (drop l.member-index l.member-items)
+      ≡ flat_map (λ x. all_member_faults l.definitions l.corner l.tick.power m (view_member x)) l.member-items;
   delays : (m : Module) → IsPrepared l.prepared m
-      → AreDelays l.corner l.tick.power m (map view_member (take l.member-index l.prepared.members.items)) l.gate_delays.items l.places.items;
+      → AreDelays l.corner l.tick.power m (map view_member (take l.member-index l.member-items)) l.gate_delays.items l.places.items;
 }
