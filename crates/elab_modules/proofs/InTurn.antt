@@ -1,7 +1,7 @@
 -- Faults that are looked for one after another.
-use Rattle.std.specs.Prelude.{◌≡◌, ℕ, zero, suc, ◌+◌, ◌<◌, ◌≤◌, List, [], ◌∷◌, ◌++◌, Bool, true, false, Result, Ok, Err, flat_map, length, slice_index_or, zip, refl}
+use Rattle.std.specs.Prelude.{◌≡◌, ℕ, zero, suc, ◌+◌, ◌-◌, ◌<◌, ◌≤◌, List, [], ◌∷◌, ◌++◌, Bool, true, false, Result, Ok, Err, flat_map, length, take, slice_index_or, zip, refl}
 use Rattle.std.proofs.Common.{sym, ◌∙◌, ap, arith, subst, drop, drop-cons}
-use Rattle.std.proofs.lemmas.List.{drop_all}
+use Rattle.std.proofs.lemmas.List.{drop_all, take_all}
 use Rattle.std.proofs.lemmas.Slice.Zip.{length-zip, get_or-zip}
 use Rattle.sg_text.specs.declared.places.Place.{Place}
 use Rattle.sg_text.specs.declared.refusals.Refused.{Refused}
@@ -107,3 +107,7 @@ no-pair_left f xs ys i le left = let z = length-zip xs ys in none-left f (zip xs
 pub first-and_rest : {A : Type 0} (xs : List A) (x : A) → 1 ≤ length xs → x ≡ slice_index_or xs 0 x → xs ≡ x ∷ drop 1 xs
 first-and_rest [] x le e = absurd (omega arith)
 first-and_rest (y ∷ xs) x le e = ap (λ z. z ∷ xs) (sym e)
+
+pub rest-of : {A : Type 0} (xs : List A) → take (length xs - 1) (drop 1 xs) ≡ drop 1 xs
+rest-of [] = refl
+rest-of (x ∷ xs) = let n : suc (length xs) - 1 ≡ length xs = omega arith in ap (λ k. take k xs) n ∙ take_all (length xs) xs (omega arith)

@@ -29,18 +29,18 @@ pub ready-module : (source : Source) (parts : List (Option code_ready.Ready)) (n
 ready-module source parts n i r k all named e at there = let h = named i (sym e) in by h.0 h.1 (all.1 i (Some h.0) h.1)
   where
     by : (x : code_ready.Ready) → slice_get parts i ≡ Some (Some x) → IsReady source i (Some x) → ReadyModule source n r
-    by (ready.Module p) g (m, (stands, prepared)) =
+    by (ready.Module p) g (m, stands, prepared) =
         let is : r ≡ Some (ready.Module p) = cc in
         record { prepared = p; definition = m; is = ap prepared_in is; ready = prepared; defined = (defined-at source n.text i e).found ∙ stands }
-    by (ready.Primitive q) g (p, (stands, faultless)) = let f : Some (a_module k) ≡ Some (a_primitive p) = sym at ∙ stands in cc
+    by (ready.Primitive q) g (p, stands, faultless) = let f : Some (a_module k) ≡ Some (a_primitive p) = sym at ∙ stands in cc
 
 pub ready-primitive : (source : Source) (parts : List (Option code_ready.Ready)) (n : Named) (i : ℕ) (p : Primitive) → AreReady source parts → NamesReady source parts n → IsNamed source n i
     → slice_get source i ≡ Some (a_primitive p) → primitive_faults p ≡ []
 ready-primitive source parts n i p all named e at = let h = named i (sym e) in by h.0 (all.1 i (Some h.0) h.1)
   where
     by : (x : code_ready.Ready) → IsReady source i (Some x) → primitive_faults p ≡ []
-    by (ready.Module q) (m, (stands, prepared)) = let f : Some (a_primitive p) ≡ Some (a_module m) = sym at ∙ stands in cc
-    by (ready.Primitive k) (q, (stands, faultless)) = let f : Some (a_primitive p) ≡ Some (a_primitive q) = sym at ∙ stands in let g : p ≡ q = cc in ap primitive_faults g ∙ faultless.declarations
+    by (ready.Module q) (m, stands, prepared) = let f : Some (a_primitive p) ≡ Some (a_module m) = sym at ∙ stands in cc
+    by (ready.Primitive k) (q, stands, faultless) = let f : Some (a_primitive p) ≡ Some (a_primitive q) = sym at ∙ stands in let g : p ≡ q = cc in ap primitive_faults g ∙ faultless.declarations
 
 -- what holds of each member holds of one
 pub one-of : {A B : Type 0} (P : B → Type 0) (f : A → B) (xs : List A) (i : ℕ) (d : A) → AllByRecursion P (map f xs) → i < length xs → P (f (slice_index_or xs i d))
