@@ -1,5 +1,5 @@
 -- Faults that are looked for one after another.
-use Rattle.std.specs.Prelude.{◌≡◌, ℕ, zero, suc, ◌+◌, ◌-◌, ◌<◌, ◌≤◌, List, [], ◌∷◌, ◌++◌, Bool, true, false, Result, Ok, Err, flat_map, length, take, slice_index_or, zip, refl}
+use Rattle.std.specs.Prelude.{◌≡◌, ℕ, zero, suc, ◌+◌, ◌-◌, ◌<◌, ◌≤◌, List, [], ◌∷◌, ◌++◌, Bool, true, false, Result, Ok, Err, IfErr, flat_map, length, take, slice_index_or, zip, refl}
 use Rattle.std.proofs.Common.{sym, ◌∙◌, ap, arith, subst, drop, drop-cons}
 use Rattle.std.proofs.lemmas.List.{drop_all, take_all}
 use Rattle.std.proofs.lemmas.Slice.Zip.{length-zip, get_or-zip}
@@ -16,6 +16,9 @@ use Rattle.elab_modules.specs.Telling.{Tells}
 -- what an exit returns
 pub exit : {A : Type 0} (result : Result A (Refused ElabKind)) (fs : List Fault) (e : Refused ElabKind) → ((x : Refused ElabKind) × (result ≡ Err x) × (x ≡ e)) → RefusesOneOf fs e → Tells fs result
 exit result fs e (x, r, s) h = rw r (subst (RefusesOneOf fs) (sym s) h)
+
+pub exit-if : {A : Type 0} (result : Result A (Refused ElabKind)) (P : Refused ElabKind → Type 0) (e : Refused ElabKind) → ((x : Refused ElabKind) × (result ≡ Err x) × (x ≡ e)) → P e → IfErr result P
+exit-if result P e (x, r, s) h = rw r (subst P (sym s) h)
 
 -- of two parts, the first has no fault
 pub tells-second : {A : Type 0} (fs gs : List Fault) (r : Result A (Refused ElabKind)) → fs ≡ [] → Tells gs r → Tells (fs ++ gs) r

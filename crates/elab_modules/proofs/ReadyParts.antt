@@ -43,7 +43,10 @@ ready-primitive source parts n i p all named e at = let h = named i (sym e) in b
     by (ready.Primitive k) (q, stands, faultless) = let f : Some (a_primitive p) ≡ Some (a_primitive q) = sym at ∙ stands in let g : p ≡ q = cc in ap primitive_faults g ∙ faultless.declarations
 
 -- what holds of each member holds of one
-pub one-of : {A B : Type 0} (P : B → Type 0) (f : A → B) (xs : List A) (i : ℕ) (d : A) → AllByRecursion P (map f xs) → i < length xs → P (f (slice_index_or xs i d))
-one-of P f [] i d h lt = absurd (omega arith)
-one-of P f (x ∷ xs) zero d h lt = h.0
-one-of P f (x ∷ xs) (suc i) d h lt = one-of P f xs i d h.1 (omega arith)
+each : {A B : Type 0} (P : B → Type 0) (f : A → B) (xs : List A) (i : ℕ) (d : A) → AllByRecursion P (map f xs) → i < length xs → P (f (slice_index_or xs i d))
+each P f [] i d h lt = absurd (omega arith)
+each P f (x ∷ xs) zero d h lt = h.0
+each P f (x ∷ xs) (suc i) d h lt = each P f xs i d h.1 (omega arith)
+
+pub one-of : {A B : Type 0} (P : B → Type 0) (f : A → B) (xs ys : List A) (i : ℕ) (x : A) → xs ≡ ys → AllByRecursion P (map f ys) → i < length xs → x ≡ slice_index_or xs i x → P (f x)
+one-of P f xs ys i x same h lt at = subst (λ y. P (f y)) (sym at) (each P f xs i x (subst (λ zs. AllByRecursion P (map f zs)) (sym same) h) lt)
