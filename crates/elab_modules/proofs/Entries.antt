@@ -33,19 +33,21 @@ pub entry-last : (old new : List GateDelays) (d : GateDelays) (i : ℕ) → new 
 entry-last old new d i e at =
     let seen : List GateDelays → List (List ℕ) = map (λ d. gate_delays_seen d) in
     let n : length new ≡ length old + 1 = ap length e ∙ length-append old (d ∷ []) in
-    let k : i ≡ length (seen old) = at ∙ sym (length-map old (λ d. gate_delays_seen d)) in
-    (omega arith,
-    ap (λ j. slice_index_or (seen new) j []) k ∙ ap (λ t. slice_index_or (seen t) (length (seen old)) []) e
-    ∙ ap (λ t. slice_index_or t (length (seen old)) []) (map-append (λ d. gate_delays_seen d) old (d ∷ [])) ∙ last-at (seen old) (gate_delays_seen d) [])
+    let k : i ≡ length (seen old) = at ∙ sym (length-map old (λ d. gate_delays_seen d)) in (
+      omega arith,
+      ap (λ j. slice_index_or (seen new) j []) k ∙ ap (λ t. slice_index_or (seen t) (length (seen old)) []) e
+          ∙ ap (λ t. slice_index_or t (length (seen old)) []) (map-append (λ d. gate_delays_seen d) old (d ∷ [])) ∙ last-at (seen old) (gate_delays_seen d) [],
+    )
 
 pub entry-kept : (old new : List GateDelays) (i : ℕ) → GrowsBy old new → i < length old → (i < length new) × (delays_at new i ≡ delays_at old i)
 entry-kept old new i (more, e) lt =
     let seen : List GateDelays → List (List ℕ) = map (λ d. gate_delays_seen d) in
     let n : length new ≡ length old + length more = ap length e ∙ length-append old more in
     let k : length (seen old) ≡ length old = length-map old (λ d. gate_delays_seen d) in
-    let below : i < length (seen old) = omega arith in
-    (omega arith,
-    ap (λ t. slice_index_or (seen t) i []) e ∙ ap (λ t. slice_index_or t i []) (map-append (λ d. gate_delays_seen d) old more) ∙ get_or_append_left (seen old) (seen more) [] i below)
+    let below : i < length (seen old) = omega arith in (
+      omega arith,
+      ap (λ t. slice_index_or (seen t) i []) e ∙ ap (λ t. slice_index_or t i []) (map-append (λ d. gate_delays_seen d) old more) ∙ get_or_append_left (seen old) (seen more) [] i below,
+    )
 
 -- ---- the delays of members, one after another
 

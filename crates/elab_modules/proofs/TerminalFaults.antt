@@ -35,27 +35,27 @@ mixed a b c d e = record {
   onto = λ x h.
       elim (in-either x (a ++ (b ++ c)) (d ++ e) h) [
         | inl p ↦ elim (in-either x a (b ++ c) p) [
-            | inl q ↦ in-left x (a ++ d) ((b ++ e) ++ c) (in-left x a d q)
-            | inr q ↦ in-right x (a ++ d) ((b ++ e) ++ c) (elim (in-either x b c q) [ inl r ↦ in-left x (b ++ e) c (in-left x b e r) | inr r ↦ in-right x (b ++ e) c r ])
-          ]
+          | inl q ↦ in-left x (a ++ d) ((b ++ e) ++ c) (in-left x a d q)
+          | inr q ↦ in-right x (a ++ d) ((b ++ e) ++ c) (elim (in-either x b c q) [ inl r ↦ in-left x (b ++ e) c (in-left x b e r) | inr r ↦ in-right x (b ++ e) c r ])
+        ]
         | inr p ↦ elim (in-either x d e p) [
-            | inl q ↦ in-left x (a ++ d) ((b ++ e) ++ c) (in-right x a d q)
-            | inr q ↦ in-right x (a ++ d) ((b ++ e) ++ c) (in-left x (b ++ e) c (in-right x b e q))
-          ]
+          | inl q ↦ in-left x (a ++ d) ((b ++ e) ++ c) (in-right x a d q)
+          | inr q ↦ in-right x (a ++ d) ((b ++ e) ++ c) (in-left x (b ++ e) c (in-right x b e q))
+        ]
       ];
   back = λ x h.
       elim (in-either x (a ++ d) ((b ++ e) ++ c) h) [
         | inl p ↦ elim (in-either x a d p) [
-            | inl q ↦ in-left x (a ++ (b ++ c)) (d ++ e) (in-left x a (b ++ c) q)
-            | inr q ↦ in-right x (a ++ (b ++ c)) (d ++ e) (in-left x d e q)
-          ]
+          | inl q ↦ in-left x (a ++ (b ++ c)) (d ++ e) (in-left x a (b ++ c) q)
+          | inr q ↦ in-right x (a ++ (b ++ c)) (d ++ e) (in-left x d e q)
+        ]
         | inr p ↦ elim (in-either x (b ++ e) c p) [
-            | inl q ↦ elim (in-either x b e q) [
-                | inl r ↦ in-left x (a ++ (b ++ c)) (d ++ e) (in-right x a (b ++ c) (in-left x b c r))
-                | inr r ↦ in-right x (a ++ (b ++ c)) (d ++ e) (in-right x d e r)
-              ]
-            | inr q ↦ in-left x (a ++ (b ++ c)) (d ++ e) (in-right x a (b ++ c) (in-right x b c q))
+          | inl q ↦ elim (in-either x b e q) [
+            | inl r ↦ in-left x (a ++ (b ++ c)) (d ++ e) (in-right x a (b ++ c) (in-left x b c r))
+            | inr r ↦ in-right x (a ++ (b ++ c)) (d ++ e) (in-right x d e r)
           ]
+          | inr q ↦ in-left x (a ++ (b ++ c)) (d ++ e) (in-right x a (b ++ c) (in-right x b c q))
+        ]
       ];
 }
 

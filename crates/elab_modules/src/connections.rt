@@ -35,7 +35,13 @@ fn check_port(
             place: name.place,
         });
     };
-    check_value(table, value, width_of(port.range), is_output(port.port), bits)
+    check_value(
+        table,
+        value,
+        width_of(port.range),
+        is_output(port.port),
+        bits,
+    )
 }
 
 fn check_ordered(
@@ -154,5 +160,12 @@ pub fn check_module_instance(
             place: delay.place,
         });
     }
-    check_connections(alloc, table, child, instance.place, &instance.connections, bits)
+    check_connections(
+        alloc,
+        table,
+        child,
+        instance.place,
+        &instance.connections,
+        bits,
+    )
 }

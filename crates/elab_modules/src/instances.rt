@@ -89,14 +89,7 @@ pub fn check_instance(
         });
     };
     match definitions.part(place) {
-        Part::Module(_) => check_module(
-            alloc,
-            table,
-            part_at(parts, place),
-            delay,
-            instance,
-            bits,
-        ),
+        Part::Module(_) => check_module(alloc, table, part_at(parts, place), delay, instance, bits),
         Part::Primitive(primitive) => {
             check_primitive_instance(table, primitive.ports.len(), instance, bits)
         }
