@@ -106,7 +106,6 @@ fn check_all_ordered(
 }
 
 fn check_all_named(
-    alloc: Global,
     table: &Table,
     child: &Prepared,
     connections: &[NamedConnection],
@@ -114,6 +113,7 @@ fn check_all_named(
 ) -> Result<(), Refused<ElabKind>>
     ensures { (m : Module) → IsPrepared child.now m → Tells (named_faults table.now m (map view_named_connection connections.now)) result }
 {
+    let alloc = *bits.allocator();
     let names = names_of(alloc, connections)?;
     check_once(alloc, &names)?;
     check_named(table, &child.table, connections, bits)
@@ -122,7 +122,6 @@ fn check_all_named(
 /// Refuses connections of a module's instance: more than ports (BadTerminal, at the instance), a port that is connected twice (DuplicateName) or isn't one (UnknownName),
 /// and what is connected to each. Takes memory in proportion to the connections.
 fn check_connections(
-    alloc: Global,
     table: &Table,
     child: &Prepared,
     place: Place,
@@ -133,13 +132,12 @@ fn check_connections(
 {
     match connections {
         Connections::Ordered(values) => check_all_ordered(table, child, place, values, bits),
-        Connections::Named(connections) => check_all_named(alloc, table, child, connections, bits),
+        Connections::Named(connections) => check_all_named(table, child, connections, bits),
     }
 }
 
 /// Refuses an instance of a module for want of a name (BadTerminal), for a delay (BadDelay), and for its connections.
 pub fn check_module_instance(
-    alloc: Global,
     table: &Table,
     child: &Prepared,
     delay: &Option<Delay>,
@@ -160,12 +158,5 @@ pub fn check_module_instance(
             place: delay.place,
         });
     }
-    check_connections(
-        alloc,
-        table,
-        child,
-        instance.place,
-        &instance.connections,
-        bits,
-    )
+    check_connections(table, child, instance.place, &instance.connections, bits)
 }

@@ -13,6 +13,9 @@ use sg_logic::GateKind;
 use sg_text::Refused;
 use vl_tree::{Expression, GateInstance};
 
+// A gate has an output and an input at least (IEEE 1364-2005, 7.2, 7.3).
+const LEAST: usize = 2;
+
 // How many of a gate's terminals are outputs (IEEE 1364-2005, 7.2, 7.3).
 fn output_count(kind: GateKind, terminals: usize) -> usize
     requires { 2 ≤ terminals }
@@ -51,7 +54,7 @@ pub fn check_gate(
     ensures { Tells (gate_told table.now kind (view_gate_instance instance.now)) result }
 {
     let terminals = &instance.terminals;
-    if terminals.len() < 2 {
+    if terminals.len() < LEAST {
         return Err(Refused::Fault {
             kind: ElabKind::BadTerminal,
             place: instance.place,

@@ -18,7 +18,6 @@ use elab_hierarchy::Definitions;
 use elab_model::ElabKind;
 use elab_tables::Table;
 use sg_text::Refused;
-use std::alloc::Global;
 use vl_tree::{Delay, Instance, Name, Part};
 
 fn as_prepared<'s, 'a>(ready: &'s Ready<'a>) -> Option<&'s Prepared<'a>>
@@ -48,7 +47,6 @@ fn part_at<'s, 'a>(parts: &'s [Option<Ready<'a>>], place: usize) -> &'s Option<R
 }
 
 fn check_module(
-    alloc: Global,
     table: &Table,
     part: &Option<Ready>,
     delay: &Option<Delay>,
@@ -63,13 +61,12 @@ fn check_module(
             place: instance.place,
         });
     };
-    check_module_instance(alloc, table, child, delay, instance, bits)
+    check_module_instance(table, child, delay, instance, bits)
 }
 
 /// Refuses an instance of nothing (UnknownModule, at the instance), and what is wrong with one of a module or a primitive but the delay of a primitive's. Takes memory in
 /// proportion to its connections.
 pub fn check_instance(
-    alloc: Global,
     definitions: &Definitions,
     parts: &[Option<Ready>],
     table: &Table,
@@ -89,7 +86,7 @@ pub fn check_instance(
         });
     };
     match definitions.part(place) {
-        Part::Module(_) => check_module(alloc, table, part_at(parts, place), delay, instance, bits),
+        Part::Module(_) => check_module(table, part_at(parts, place), delay, instance, bits),
         Part::Primitive(primitive) => {
             check_primitive_instance(table, primitive.ports.len(), instance, bits)
         }

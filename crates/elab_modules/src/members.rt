@@ -28,7 +28,6 @@ use std::alloc::Global;
 
 // What is wrong with a member but the delay of a gate or a primitive.
 fn check_member(
-    alloc: Global,
     definitions: &Definitions,
     parts: &[Option<Ready>],
     prepared: &Prepared,
@@ -50,7 +49,6 @@ fn check_member(
             delay,
             instance,
         } => check_instance(
-            alloc,
             definitions,
             parts,
             table,
@@ -115,7 +113,7 @@ pub fn check_members(
     let mut bits = Vec::new(alloc);
     let mut places = Vec::new(alloc);
     for member in &prepared.members {
-        check_member(alloc, definitions, parts, prepared, member, &mut bits)?;
+        check_member(definitions, parts, prepared, member, &mut bits)?;
         let place = add_member(corner, tick, prepared, member, gate_delays)?;
         places.push(place)?;
     }
