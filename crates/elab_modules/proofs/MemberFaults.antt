@@ -1,25 +1,25 @@
 -- What is wrong with a member but its delay.
-use Rattle.std.specs.Prelude.{◌≡◌, ℕ, suc, ◌+◌, ◌<◌, List, [], ◌∷◌, ◌++◌, Bool, true, false, not, nat_lt, Option, Some, None, Result, Ok, Err, MatchResult, find, flat_map, length, slice_get, bytes_eq, refl, ℤ}
+use Rattle.std.specs.Prelude.{◌≡◌, ℕ, ◌<◌, List, [], ◌∷◌, ◌++◌, not, nat_lt, Option, Some, None, Result, Ok, Err, MatchResult, flat_map, length, slice_get, bytes_eq, refl, ℤ}
 use Rattle.std.specs.List.{position_from}
 use Rattle.std.proofs.Common.{sym, ◌∙◌, ap, arith, subst, append_assoc}
 use Rattle.std.proofs.lemmas.List.{append-nil}
 use Rattle.sg_delay.specs.declared.corners.Corner.{Corner}
 use Rattle.sg_logic.specs.declared.gates.GateKind.{GateKind}
-use Rattle.sg_text.specs.declared.places.Place.{Place}
 use Rattle.sg_text.specs.declared.refusals.Refused.{Refused}
 use Rattle.sg_text.specs.declared.refusals.Refused.TheVariants as refused
-use Rattle.vl_tree.specs.Tree.{Named, Delay, Expression, Connections, by_order, by_name, GateInstance, Instance as instance_text, Join, Module, Part, a_module, a_primitive, Primitive, Source}
+use Rattle.vl_tree.specs.Tree.{Named, Delay, Connections, by_order, by_name, GateInstance, Instance as instance_text, Join, Module, a_module, a_primitive, Primitive, Source}
 use Rattle.elab_model.specs.declared.kinds.ElabKind.{ElabKind}
-use Rattle.elab_model.specs.declared.kinds.ElabKind.TheVariants.{UnknownModule, BadTerminal, BadDelay}
+use Rattle.elab_model.specs.declared.kinds.ElabKind.TheVariants.{UnknownModule, BadTerminal}
 use Rattle.elab_model.specs.Definitions.{name_of, definition_of}
 use Rattle.elab_model.specs.Elements.{output_count}
 use Rattle.elab_model.specs.Faults.{Fault, fault, fault_if, RefusesOneOf}
-use Rattle.elab_model.specs.Members.{Member, assignment, supply, gate, instance, connection_values}
-use Rattle.elab_model.specs.ModuleFaults.{are_terminals, delay_on_module, connection_faults, module_instance_faults, instance_faults, all_member_faults}
+use Rattle.elab_model.specs.Members.{assignment, gate, instance, connection_values}
+use Rattle.elab_model.specs.ModuleFaults.{are_terminals, delay_on_module, connection_faults, instance_faults, all_member_faults}
 use Rattle.elab_model.specs.Names.{Variable, variables}
 use Rattle.elab_model.specs.PrimitiveFaults.{primitive_faults}
 use Rattle.elab_model.specs.TerminalFaults.{expression_faults, terminal_faults, delay_faults, is_missing}
 use Rattle.elab_laws.proofs.NoFaults.{front, back}
+use Rattle.elab_hierarchy.proofs.Found.{place-first, position-none}
 use Rattle.elab_names.proofs.Refusals.{refused-left, refused-right}
 use Rattle.elab_modules.specs.Connecting.{gate_told, fits_ports, primitive_told, module_told}
 use Rattle.elab_modules.specs.Telling.{Tells, TellsButDelay, sides_faults}
@@ -50,43 +50,12 @@ gate-tell source m vs g d i result e h corner tick =
 
 -- ---- the definition of a name
 
-record FoundFrom {A : Type 0} (test : A → Bool) (k : ℕ) (xs : List A) (i : ℕ) : Type 0 where
-  shift : ℕ
-  is : i ≡ k + shift
-  found : find test xs ≡ slice_get xs shift
-  below : shift < length xs
-
-found-from : {A : Type 0} (test : A → Bool) (k : ℕ) (xs : List A) (i : ℕ) → position_from test k xs ≡ Some i → FoundFrom test k xs i
-found-from test k [] i e = cc
-found-from {A} test k (x ∷ xs) i e = by (test x) refl (λ h. found-from test (k + 1) xs i h)
-  where
-    by : (b : Bool) → test x ≡ b → (position_from test (k + 1) xs ≡ Some i → FoundFrom test (k + 1) xs i) → FoundFrom test k (x ∷ xs) i
-    by true t next =
-        let g : Some k ≡ Some i = rw t at e in
-        let f : k ≡ i = cc in
-        record { shift = 0; is = sym f ∙ (omega arith); found = rw t refl; below = omega arith }
-    by false t next =
-        let g : position_from test (k + 1) xs ≡ Some i = rw t at e in
-        let r = next g in
-        record { shift = suc r.shift; is = r.is ∙ (omega arith); found = rw t r.found; below = (let b = r.below in omega arith) }
-
-none-from : {A : Type 0} (test : A → Bool) (k : ℕ) (xs : List A) → position_from test k xs ≡ None → find test xs ≡ None
-none-from test k [] e = refl
-none-from test k (x ∷ xs) e = by (test x) refl (λ h. none-from test (k + 1) xs h)
-  where
-    by : (b : Bool) → test x ≡ b → (position_from test (k + 1) xs ≡ None → find test xs ≡ None) → find test (x ∷ xs) ≡ None
-    by true t next = let g : Some k ≡ None = rw t at e in cc
-    by false t next = let g : position_from test (k + 1) xs ≡ None = rw t at e in rw t (next g)
-
 pub record IsDefined (source : Source) (n : List ℕ) (i : ℕ) : Type 0 where
   pub below : i < length source
   pub found : definition_of source n ≡ slice_get source i
 
 pub defined-at : (source : Source) (n : List ℕ) (i : ℕ) → Some i ≡ position_from (λ d. bytes_eq n (name_of d).text) 0 source → IsDefined source n i
-defined-at source n i e =
-    let r = found-from (λ d. bytes_eq n (name_of d).text) 0 source i (sym e) in
-    let s : r.shift ≡ i = sym (r.is ∙ (omega arith)) in
-    record { below = subst (λ j. j < length source) s r.below; found = r.found ∙ ap (slice_get source) s }
+defined-at source n i e = let r = place-first source n i (sym e) in record { below = r.below; found = r.first ∙ sym r.there }
 
 -- ---- instances
 
@@ -96,7 +65,7 @@ own_values m i = flat_map (expression_faults (variables m)) (connection_values i
 pub unknown-refused : (source : Source) (corner : Corner) (tick : ℤ) (m : Module) (n : Named) (d : Option Delay) (i : instance_text)
     → None ≡ position_from (λ d. bytes_eq n.text (name_of d).text) 0 source → RefusesOneOf (all_member_faults source corner tick m (instance n d i)) (refused.Fault UnknownModule i.place)
 unknown-refused source corner tick m n d i e =
-    let none : definition_of source n.text ≡ None = none-from (λ d. bytes_eq n.text (name_of d).text) 0 source (sym e) in
+    let none : definition_of source n.text ≡ None = position-none (λ d. bytes_eq n.text (name_of d).text) source 0 (sym e) in
     let all : own_values m i ++ (fault UnknownModule i.place ∷ []) ≡ all_member_faults source corner tick m (instance n d i) =
     ap (λ o. own_values m i ++ instance_faults corner tick m (variables m) d i o) (sym none) in
     subst (λ fs. RefusesOneOf fs (refused.Fault UnknownModule i.place)) all

@@ -1,7 +1,7 @@
 -- What is wrong with terminals, of which the first are outputs: looked for at the outputs, then at the inputs.
-use Rattle.std.specs.Prelude.{◌≡◌, ℕ, ◌+◌, ◌<◌, ◌≤◌, List, [], ◌∷◌, ◌++◌, Bool, true, false, nat_lt, ◌||◌, ◌&&◌, not, ◌==◌, Option, Some, None, Result, map, flat_map, filter_map, option_map, length, take, drop, refl}
-use Rattle.std.specs.List.{list_any, cons_option, take-map}
-use Rattle.std.proofs.Common.{sym, ◌∙◌, ap, arith, subst, append_assoc, inl, inr}
+use Rattle.std.specs.Prelude.{◌≡◌, ℕ, ◌<◌, ◌≤◌, List, [], ◌∷◌, ◌++◌, Bool, true, false, nat_lt, ◌&&◌, not, ◌==◌, Option, Some, None, Result, map, flat_map, filter_map, option_map, length, take, drop, refl}
+use Rattle.std.specs.List.{list_any, take-map}
+use Rattle.std.proofs.Common.{sym, ◌∙◌, ap, arith, subst, inl, inr}
 use Rattle.std.proofs.lemmas.Grind.{flat_map-append}
 use Rattle.std.proofs.lemmas.List.{append-nil, map-append, length-map, take-append-drop}
 use Rattle.std.proofs.lemmas.Bool.Decides.{nat_tests}
@@ -21,7 +21,7 @@ use Rattle.elab_model.specs.Faults.{Fault, fault_if, RefusesOneOf}
 use Rattle.elab_model.specs.Members.{connection_values}
 use Rattle.elab_model.specs.Names.{Variable}
 use Rattle.elab_model.specs.TerminalFaults.{expression_faults, width_faults, constant_faults, terminal_faults, is_missing}
-use Rattle.elab_laws.proofs.Lists.{In, in-left, in-right, in-either}
+use Rattle.elab_laws.proofs.Lists.{in-left, in-right, in-either}
 use Rattle.elab_names.proofs.Refusals.{refused-left, refused-right}
 use Rattle.elab_modules.specs.Telling.{Tells, joined_faults, value_faults}
 use Rattle.elab_modules.specs.Connecting.{gate_told, are_given, fits_ports, values_told, terminals_told, primitive_told}
