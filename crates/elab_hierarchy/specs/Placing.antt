@@ -1,5 +1,5 @@
 -- The instances of the code's list, as the definitions see them.
-use Rattle.std.specs.Prelude.{◌≡◌, ℕ, ◌+◌, List, [], ◌∷◌, ◌++◌, Option, Some, None, drop, flat_map}
+use Rattle.std.specs.Prelude.{◌≡◌, ◌+◌, List, [], ◌∷◌, ◌++◌, Option, Some, None, drop, flat_map}
 use Rattle.std.specs.Borrow.{Bor}
 use Rattle.vl_tree.specs.Tree.{by_order, Module, Source}
 use Rattle.vl_tree.specs.Seen.{view_instance}

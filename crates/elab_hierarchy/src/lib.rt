@@ -1,8 +1,11 @@
 //! The hierarchy of a netlist: its definitions by name, its top, and all instances below the top.
 #![tactic(auto)]
 
+mod children;
 mod definitions;
 mod instances;
+#[cfg(test)]
+mod tests;
 mod ticks;
 mod tops;
 

@@ -1,3 +1,5 @@
 -- The modules of this folder: what the code's lists stand for.
+pub mod Naming
+pub mod Rows
 pub mod Seen
 pub mod Tables

@@ -2,7 +2,12 @@
 #![tactic(auto)]
 
 mod member_list;
+mod naming;
+mod rows;
 mod tables;
 
 pub use member_list::{Member, members};
 pub use tables::{Row, Table};
+
+#[cfg(test)]
+mod tests;

@@ -1,10 +1,18 @@
 // The variables of a module, found by their names.
-ghost use Rattle.std.specs.Prelude.{IfOk, OnOk, IfErr, ◌≡◌, []};
+ghost use Rattle.std.specs.Prelude.{IfOk, OnOk, IfErr, ◌≡◌, ◌<◌, []};
+ghost use Rattle.vl_tree.specs.Seen.{view_module};
+ghost use Rattle.elab_model.specs.NameFaults.{declaration_faults};
+ghost use Rattle.elab_model.specs.Names.{variables};
+ghost use Rattle.elab_tables.specs.Rows.{bit_count};
+ghost use Rattle.elab_tables.specs.Tables.{starts_are, HasPlace};
 
-use sg_circuit::{Port, Range};
+use crate::naming::variable_names_of;
+use crate::rows::rows_of;
 use elab_model::ElabKind;
+use elab_names::{check_declarations, net_declarations, port_declarations};
 use indexmap::IndexSet;
-use sg_text::Refused;
+use sg_circuit::{Port, Range};
+use sg_text::{NoMemory, Refused};
 use std::alloc::Global;
 use std::marker::Model;
 use vl_tree::Module;
@@ -31,14 +39,13 @@ pub struct Table<'a> {
 impl<'a> Model for Table<'a> {
     ghost use Rattle.std.specs.Prelude.{List};
     ghost use Rattle.elab_model.specs.Names.{Variable};
-    ghost use Rattle.std.specs.Prelude.{◌≡◌};
-    ghost use Rattle.elab_tables.specs.Tables.{variables_seen};
+    ghost use Rattle.elab_tables.specs.Tables.{variables_seen, IsTable};
 
     ghost Value = { List Variable };
 
     ghost view = { λ t. variables_seen t.names.keys t.rows.items };
 
-    ghost invariant = { λ t. (t.bits ≡ 0) × (t.bits ≡ 1) };
+    ghost invariant = { λ t. IsTable t.names.keys t.rows.items t.bits };
 }
 
 impl<'a> Table<'a> {
@@ -57,7 +64,8 @@ impl<'a> Table<'a> {
         ensures faultless { OnOk result (declaration_faults (view_module definition.now) ≡ []) }
         ensures refused { IfErr result (RefusesOneOf (declaration_faults (view_module definition.now))) }
     {
-        Err(Refused::NoMemory)
+        check_declarations(alloc, definition)?;
+        Ok(table_of(alloc, definition)?)
     }
 
     /// How many variables there are.
@@ -108,6 +116,27 @@ impl<'a> Table<'a> {
         ensures position { result.1 < width_of (variable_at self.now result.0).range }
         ensures bit { slice_get (all_bits self.now) place ≡ Some (variable_at self.now result.0, result.1) }
     {
-        (self.bits, self.rows.len())
+        let variable = row_with(&self.rows, place);
+        (variable, place - self.rows[variable].start)
     }
+}
+
+// The last of the rows that start there or before.
+fn row_with(rows: &[Row], place: usize) -> usize
+    requires starts { starts_are 0 rows.now }
+    requires below { place < bit_count rows.now }
+    ensures { HasPlace rows.now place result }
+{
+    rows.partition_point(|row| row.start <= place) - 1
+}
+
+fn table_of<'a>(alloc: Global, definition: &Module<'a>) -> Result<Table<'a>, NoMemory>
+    requires { declaration_faults (view_module definition.now) ≡ [] }
+    ensures { IfOk result (λ t. t ≡ variables (view_module definition.now)) }
+{
+    let ports = port_declarations(alloc, definition)?;
+    let nets = net_declarations(alloc, definition)?;
+    let names = variable_names_of(alloc, definition, &nets)?;
+    let (rows, bits) = rows_of(alloc, &names, &ports, &nets)?;
+    Ok(Table { names, rows, bits })
 }
