@@ -3,4 +3,6 @@ pub mod Undriven
 pub mod Numbers
 pub mod Own
 pub mod Outside
+pub mod Inputs
+pub mod Written
 pub mod Rows
