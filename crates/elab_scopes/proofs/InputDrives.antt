@@ -1,5 +1,5 @@
 -- What drives the inputs of an instance, as numbers and places.
-use Rattle.std.specs.Prelude.{◌≡◌, ℕ, ◌+◌, ◌<◌, List, [], ◌∷◌, ◌++◌, Bool, true, false, length, map, flat_map, find, take, refl, bytes_eq, if◌then◌else◌}
+use Rattle.std.specs.Prelude.{◌≡◌, ℕ, ◌+◌, ◌<◌, List, [], ◌∷◌, ◌++◌, true, false, length, map, flat_map, find, take, refl, bytes_eq, if◌then◌else◌}
 use Rattle.std.proofs.Common.{sym, ◌∙◌, ap, subst}
 use Rattle.std.proofs.lemmas.List.{append-nil}
 use Rattle.sg_circuit.specs.declared.nets.Driver.{Driver}
@@ -7,7 +7,7 @@ use Rattle.sg_circuit.specs.declared.nets.Driver.TheVariants.{Stimulus}
 use Rattle.sg_text.specs.declared.places.Place.{Place}
 use Rattle.vl_tree.specs.Tree.{Source}
 use Rattle.elab_model.specs.Bits.{positions}
-use Rattle.elab_model.specs.Drivers.{Drive, variable_drives, port_place, input_drives}
+use Rattle.elab_model.specs.Drivers.{variable_drives, port_place, input_drives}
 use Rattle.elab_model.specs.Hierarchy.{Instance}
 use Rattle.elab_model.specs.Homes.{home_of, is_input}
 use Rattle.elab_model.specs.Names.{Variable}

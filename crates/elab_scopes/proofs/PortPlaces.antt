@@ -1,7 +1,7 @@
 -- The first declaration of a port, where later ones are noted before it.
-use Rattle.std.specs.Prelude.{◌≡◌, ℕ, suc, ◌+◌, ◌-◌, ◌<◌, ◌≤◌, List, [], ◌∷◌, ◌++◌, Bool, true, false, Option, Some, None, cond, find, length, map, IfSome, set, drop, replicate, refl, bytes_eq, slice_index_or}
+use Rattle.std.specs.Prelude.{◌≡◌, ℕ, ◌+◌, ◌-◌, ◌<◌, ◌≤◌, List, [], ◌∷◌, ◌++◌, Bool, true, false, Option, Some, None, cond, find, length, map, IfSome, set, drop, replicate, refl, bytes_eq, slice_index_or}
 use Rattle.std.specs.List.{AllByRecursion, position_from}
-use Rattle.std.proofs.Common.{sym, ◌∙◌, ap, subst, inl, inr, zero-add, arith}
+use Rattle.std.proofs.Common.{sym, ◌∙◌, ap, subst, inl, zero-add, arith}
 use Rattle.std.proofs.lemmas.List.{drop_more, get_or-map, set_at, map-append, length-map}
 use Rattle.std.proofs.lemmas.Slice.Eq.{bytes_eq-Decides}
 use Rattle.sg_text.specs.declared.places.Place.{Place}
@@ -10,7 +10,7 @@ use Rattle.vl_tree.specs.Seen.{view_port_declaration}
 use Rattle.vl_tree.specs.Tree.{PortDeclaration, Module}
 use Rattle.elab_model.specs.Drivers.{port_place}
 use Rattle.elab_model.specs.Names.{Variable, variables}
-use Rattle.elab_laws.proofs.Lists.{In, all-in, in-right, Pairwise}
+use Rattle.elab_laws.proofs.Lists.{all-in, in-right, Pairwise}
 use Rattle.elab_laws.proofs.Apart.{bytes-either, variables-apart}
 use Rattle.elab_tables.specs.Seen.{place_named, variable_at}
 use Rattle.elab_bits.proofs.InRow.{blank}

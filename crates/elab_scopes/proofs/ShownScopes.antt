@@ -1,6 +1,5 @@
 -- A scope is that of its instance.
-use Rattle.std.specs.Prelude.{◌≡◌, ℕ, List, Bool, Option, map, refl, ℤ}
-use Rattle.std.proofs.Common.{sym, ◌∙◌, ap}
+use Rattle.std.specs.Prelude.{◌≡◌, ℕ, List, Bool, Option, map, refl}
 use Rattle.sg_circuit.specs.Circuit.{Scope, Variable as ScopeVariable}
 use Rattle.vl_tree.specs.Tree.{Module, Source}
 use Rattle.elab_model.specs.Hierarchy.{Instance, is_leaf}

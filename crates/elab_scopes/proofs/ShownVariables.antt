@@ -1,6 +1,6 @@
 -- The variables of a scope are those of its instance.
 use Rattle.std.specs.Prelude.{◌≡◌, ℕ, List, [], ◌∷◌, Bool, Option, map, refl}
-use Rattle.std.proofs.Common.{sym, ◌∙◌, ap}
+use Rattle.std.proofs.Common.{◌∙◌, ap}
 use Rattle.sg_circuit.specs.Circuit.{Variable as ScopeVariable}
 use Rattle.sg_circuit.specs.declared.scopes.Port.{Port}
 use Rattle.sg_circuit.specs.declared.scopes.Range.{Range}

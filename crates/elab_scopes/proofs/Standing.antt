@@ -1,11 +1,11 @@
 -- What stands ready of an instance is what the code finds.
-use Rattle.std.specs.Prelude.{◌≡◌, ℕ, ◌+◌, ◌<◌, List, [], ◌∷◌, ◌++◌, Option, Some, None, length, map, flat_map, drop, refl, slice_get, slice_index_or}
+use Rattle.std.specs.Prelude.{◌≡◌, ℕ, ◌+◌, ◌<◌, List, [], ◌∷◌, Option, Some, None, length, map, flat_map, drop, refl, slice_get, slice_index_or}
 use Rattle.std.specs.List.{range_with_len}
 use Rattle.std.proofs.Common.{sym, ◌∙◌, ap, subst, inl, arith}
 use Rattle.std.proofs.lemmas.List.{get_or-map, get_or_at, length-append}
 use Rattle.std.proofs.lemmas.List.FromFn.{get_or-range_with_len}
 use Rattle.sg_delay.specs.declared.corners.Corner.{Corner}
-use Rattle.vl_tree.specs.Tree.{Module, Source, a_module, a_primitive, Primitive}
+use Rattle.vl_tree.specs.Tree.{Module, Source, a_module, a_primitive}
 use Rattle.elab_model.specs.Hierarchy.{Instance, instances}
 use Rattle.elab_model.specs.HierarchyFaults.{self_instances, too_deep, first_too_many, count_limit}
 use Rattle.elab_model.specs.Names.{variables}
@@ -21,11 +21,10 @@ use Rattle.elab_hierarchy.specs.Tops.{StandsAt}
 use Rattle.elab_modules.specs.declared.library.Library.{Library}
 use Rattle.elab_modules.specs.declared.library.Ready as code_ready
 use Rattle.elab_modules.specs.declared.library.Ready.TheVariants as ready
-use Rattle.elab_modules.specs.declared.prepared.Prepared.{Prepared}
 use Rattle.elab_modules.specs.Ready.{IsPrepared, IsReady, AreReady}
 use Rattle.elab_modules.specs.Reached.{IsReached}
 use Rattle.elab_rows.specs.declared.rows.Rows.{Rows}
-use Rattle.elab_rows.specs.Rows.{HasRow, part_of}
+use Rattle.elab_rows.specs.Rows.{part_of}
 use Rattle.elab_scopes.specs.declared.here.Here.{Here}
 use Rattle.elab_scopes.specs.Here.{Stands, IsModule, IsHere}
 use Rattle.elab_scopes.proofs.PlacedAt.{PlacedAt}

@@ -1,5 +1,5 @@
 -- The first instance is the top.
-use Rattle.std.proofs.Common.{◌∙◌, sym}
+use Rattle.std.proofs.Common.{sym}
 use Rattle.elab_model.specs.Hierarchy.{top_instance}
 use Rattle.elab_scopes.proofs.PlacedAt.{stands-first, some-first}
 use Rattle.elab_scopes.proofs.driven.top_at.Goals as goal

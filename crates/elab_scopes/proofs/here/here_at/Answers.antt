@@ -1,5 +1,5 @@
 -- What stands ready is found.
-use Rattle.std.proofs.Common.{◌≡◌, ◌≤◌, ◌∙◌, Some, None, ap, refl, sym, subst, length}
+use Rattle.std.proofs.Common.{◌≡◌, ◌≤◌, ◌∙◌, Some, ap, refl, sym, subst, length}
 use Rattle.std.specs.Prelude.{slice_get}
 use Rattle.std.proofs.lemmas.Bool.{ltb-false}
 use Rattle.std.proofs.lemmas.Option.{slice_get_read, slice_get_past}

@@ -1,5 +1,5 @@
 -- An input's bits are driven.
-use Rattle.std.proofs.Common.{◌≡◌, ◌∙◌, sym, true, false, rules, arith}
+use Rattle.std.proofs.Common.{◌≡◌, true, false, arith}
 use Rattle.elab_model.specs.Homes.{is_input}
 use Rattle.elab_tables.specs.Seen.{variable_at}
 use Rattle.elab_scopes.proofs.InputDrives.{no-input, one-input}

@@ -1,5 +1,5 @@
 -- One declaration more.
-use Rattle.std.proofs.Common.{◌∙◌, arith, map, drop}
+use Rattle.std.proofs.Common.{map, drop}
 use Rattle.vl_tree.specs.Seen.{view_port_declaration}
 use Rattle.elab_scopes.specs.Driven.{place_in}
 use Rattle.elab_scopes.proofs.PortPlaces.{notes-next}

@@ -1,5 +1,5 @@
 -- Where a port has no declaration, the module's name stands.
-use Rattle.std.proofs.Common.{◌≡◌, ◌∙◌, ap, sym, arith, length, map}
+use Rattle.std.proofs.Common.{◌≡◌, ◌∙◌, ap, arith, length, map}
 use Rattle.std.proofs.lemmas.List.{with_items_is}
 use Rattle.vl_tree.specs.Seen.{view_module, view_port_declaration}
 use Rattle.elab_model.specs.Names.{variables}

@@ -1,5 +1,5 @@
 -- A reg's bits may be toggled.
-use Rattle.std.proofs.Common.{◌≡◌, ◌∙◌, sym, true, false, rules, arith}
+use Rattle.std.proofs.Common.{◌≡◌, true, false, arith}
 use Rattle.elab_tables.specs.Seen.{variable_at}
 use Rattle.elab_scopes.proofs.RegDrives.{no-reg, one-reg}
 use Rattle.elab_scopes.proofs.regs.add_reg.Goals as goal

@@ -1,8 +1,7 @@
 -- One variable more.
-use Rattle.std.proofs.Common.{◌≡◌, ◌<◌, ◌≤◌, ◌∙◌, ◌++◌, ap, sym, arith, length}
+use Rattle.std.proofs.Common.{◌<◌, ◌≤◌, ◌∙◌, ◌++◌, ap, arith, length}
 use Rattle.std.specs.Prelude.{flat_map}
 use Rattle.std.proofs.lemmas.List.{take_all}
-use Rattle.elab_bits.proofs.InRow.{blank}
 use Rattle.elab_model.specs.Drivers.{reg_drives}
 use Rattle.elab_scopes.specs.Driven.{drive_numbers}
 use Rattle.elab_scopes.proofs.RegDrives.{regs-next}

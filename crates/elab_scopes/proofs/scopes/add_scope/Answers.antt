@@ -1,5 +1,5 @@
 -- One scope more.
-use Rattle.std.proofs.Common.{◌≡◌, ◌∙◌, ap, map, ◌++◌, ◌∷◌, []}
+use Rattle.std.proofs.Common.{◌∙◌, ap, map, ◌++◌, ◌∷◌, []}
 use Rattle.std.proofs.lemmas.List.{map_push}
 use Rattle.sg_circuit.specs.Seen.{scope_seen}
 use Rattle.elab_scopes.proofs.Standing.{number-is}

@@ -1,5 +1,5 @@
 -- One instance more.
-use Rattle.std.proofs.Common.{◌≡◌, ◌≤◌, ◌∙◌, ap, sym, subst, refl, map, length}
+use Rattle.std.proofs.Common.{◌≤◌, ◌∙◌, ap, sym, subst, refl, map, length}
 use Rattle.std.proofs.lemmas.List.{take_all}
 use Rattle.sg_circuit.specs.Seen.{scope_seen}
 use Rattle.elab_model.specs.Hierarchy.{instances}

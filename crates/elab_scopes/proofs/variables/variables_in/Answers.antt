@@ -1,5 +1,5 @@
 -- One variable more.
-use Rattle.std.proofs.Common.{◌≡◌, ◌<◌, ◌≤◌, ◌∙◌, ◌++◌, ◌∷◌, [], ap, map, arith, length}
+use Rattle.std.proofs.Common.{◌<◌, ◌≤◌, ◌∙◌, ap, map, arith, length}
 use Rattle.std.proofs.lemmas.List.{map_push, take_all}
 use Rattle.sg_circuit.specs.Seen.{variable_seen}
 use Rattle.elab_bits.proofs.InRow.{blank}
