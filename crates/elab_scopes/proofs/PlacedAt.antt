@@ -55,8 +55,8 @@ first-placed : (source : Source) (ps : List Placed) (p : Placed) (s : Instance) 
 first-placed source [] p s ss e h = absurd h
 first-placed source (q ∷ ps) p s ss e h = let f : q ≡ p = cc in subst (λ x. IsPlaced source x s) f h.0
 
-pub stands-first : (source : Source) (top : Module) (corner : Corner) (library : Library) (rows : Rows) (ss : List Instance) (all : List OwnNet) (ps : List Placed) (p : Placed) → slice_get ps 0 ≡ Some p
-    → AreRead source top corner library rows ss all → ArePlaced source ps ss → Stands source top corner library rows ss all 0 p (top_instance top)
+pub stands-first : (source : Source) (top : Module) (corner : Corner) (library : Library) (rows : Rows) (ss : List Instance) (all : List OwnNet) (ps : List Placed) (p : Placed)
+    → slice_get ps 0 ≡ Some p → AreRead source top corner library rows ss all → ArePlaced source ps ss → Stands source top corner library rows ss all 0 p (top_instance top)
 stands-first source top corner library rows ss all ps p e h k =
     let (rest, f) = starts source levels_below_top (top_instance top) in
     let g : ss ≡ top_instance top ∷ rest = h.are_instances ∙ f in

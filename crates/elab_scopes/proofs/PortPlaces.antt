@@ -56,7 +56,8 @@ between d f (b ∷ before) after v e h =
     let apart : bytes_eq b.name v.name ≡ false = all-in (Apart b) v (before ++ v ∷ after) h.0 (in-right v before (v ∷ after) (inl refl)) in
     ap (λ p. p ∷ (map f before ++ d.name.place ∷ map f after)) (passed d f b (ap (bytes_eq b.name) e ∙ apart)) ∙ ap (λ ps. place_in (d ∷ []) f b ∷ ps) (between d f before after v e h.1)
 
-pub noted : (d : PortDeclaration) (f : Variable → Place) (m : Module) (k : ℕ) → place_named (variables m) d.name.text ≡ Some k → set (map f (variables m)) k d.name.place ≡ map (place_in (d ∷ []) f) (variables m)
+pub noted : (d : PortDeclaration) (f : Variable → Place) (m : Module) (k : ℕ) → place_named (variables m) d.name.text ≡ Some k
+    → set (map f (variables m)) k d.name.place ≡ map (place_in (d ∷ []) f) (variables m)
 noted d f m k e =
     let s = split-at (variables m) d.name.text k e in
     let count : length (map f s.before) ≡ k = length-map s.before f ∙ sym (zero-add (length s.before)) ∙ s.count in

@@ -46,8 +46,8 @@ ready-of source top corner library s place r l i e g =
     let here : r ≡ Some k = cc in
     (k, here, ready-is source place s.step.definition k e (l.1 place (Some k) f))
 
-pub module-found : (source : Source) (top : Module) (corner : Corner) (library : Library) (s : Instance) (place : ℕ) (r : Option code_ready.Ready) (k : code_ready.Ready) → AreReady source library.parts.items
-    → IsReached source corner top library s → StandsAt source place s.step.definition → slice_get library.parts.items place ≡ Some r → r ≡ Some k → IsModule s.step.definition k
+pub module-found : (source : Source) (top : Module) (corner : Corner) (library : Library) (s : Instance) (place : ℕ) (r : Option code_ready.Ready) (k : code_ready.Ready)
+    → AreReady source library.parts.items → IsReached source corner top library s → StandsAt source place s.step.definition → slice_get library.parts.items place ≡ Some r → r ≡ Some k → IsModule s.step.definition k
 module-found source top corner library s place r k l i e g w =
     let (j, f, h) = ready-of source top corner library s place r l i e g in
     let same : ◌≡◌ {A = Option _} (Some j) (Some k) = sym f ∙ w in
@@ -91,15 +91,17 @@ number-is source top corner library rows ss all number p s h =
     let from : slice_index_or (map (λ t. t.step.number) ss) number 0 ≡ 0 + number = ap (λ ns. slice_index_or ns number 0) places ∙ get_or-range_with_len 0 (length ss) number 0 lt in
     omega (arith, at, from)
 
-pub not-too_deep : (source : Source) (top : Module) (ss : List Instance) (i : ℕ) (p : Placed) (r : PlacedAt source p i ss) → ss ≡ instances source top → tree_faults source top ≡ [] → too_deep source r.own ≡ []
+pub not-too_deep : (source : Source) (top : Module) (ss : List Instance) (i : ℕ) (p : Placed) (r : PlacedAt source p i ss)
+    → ss ≡ instances source top → tree_faults source top ≡ [] → too_deep source r.own ≡ []
 not-too_deep source top ss i p r e t =
     let there : In r.own (instances source top) = subst (In r.own) (sym r.there ∙ e) (in-right r.own r.before (r.own ∷ r.after) (inl refl)) in
-    let each = flat-empty (tree_faults_at source) (instances source top) (front (flat_map (tree_faults_at source) (instances source top)) (first_too_many (drop count_limit (instances source top))) t) in
+    let own = flat_map (tree_faults_at source) (instances source top) in
+    let each = flat-empty (tree_faults_at source) (instances source top) (front own (first_too_many (drop count_limit (instances source top))) t) in
     back (self_instances source r.own) (too_deep source r.own) (all-in (λ t. tree_faults_at source t ≡ []) r.own (instances source top) each there)
 
 -- the row that the code cuts out
-pub row-found : (source : Source) (top : Module) (corner : Corner) (library : Library) (rows : Rows) (ss : List Instance) (all : List OwnNet) (number start count : ℕ) (p : Placed) (s : Instance) (h : Here)
-    → Stands source top corner library rows ss all number p s → IsPrepared h.prepared.now s.step.definition → slice_get rows.starts.items number ≡ Some start
+pub row-found : (source : Source) (top : Module) (corner : Corner) (library : Library) (rows : Rows) (ss : List Instance) (all : List OwnNet) (number start count : ℕ) (p : Placed) (s : Instance)
+    (h : Here) → Stands source top corner library rows ss all number p s → IsPrepared h.prepared.now s.step.definition → slice_get rows.starts.items number ≡ Some start
     → count ≡ length (all_bits h.prepared.now.table) → h.row.now ≡ part_of rows.inner.items start count → IsHere all source s h
 row-found source top corner library rows ss all number start count p s h st prepared at c cut =
     let has = st.are_read.have_rows.each st.before st.after s (sym st.are_read.are_instances ∙ st.there) in

@@ -15,11 +15,11 @@ abbrev pub drive_places : List Drive → List Place
 drive_places ds = map (λ d. d.place) ds
 
 abbrev pub AreNumbers : List OwnNet → List Drive → List ℕ → Type 0
-AreNumbers all ds numbers = numbers ≡ map (λ d. number_of all d.spot) ds
+AreNumbers all ds numbers = numbers ≡ drive_numbers all ds
 
 pub record AreDriven (all : List OwnNet) (ds : List Drive) (made : DrivenNets) : Type 0 where
   pub nets : AreNumbers all ds made.nets.items
-  pub places : made.places.items ≡ map (λ d. d.place) ds
+  pub places : made.places.items ≡ drive_places ds
 
 -- these are driven too
 pub record AddsDriven (all : List OwnNet) (ds : List Drive) (old new : DrivenNets) : Type 0 where

@@ -37,8 +37,8 @@ pub fn input_nets(
     instances: &[Placed],
     rows: &Rows,
 ) -> Result<DrivenNets, NoMemory>
-    ensures { IfOk result (λ made. (top : Module) (corner : ghost_corner.Corner) → ArePlaced definitions.now instances.now (def.instances definitions.now top) → IsLibrary definitions.now corner top library.now
-        → HaveRows definitions.now top rows.now → AreDriven (nets definitions.now top) (stimulus_drives definitions.now top) made) }
+    ensures { IfOk result (λ made. (top : Module) (corner : ghost_corner.Corner) → ArePlaced definitions.now instances.now (def.instances definitions.now top)
+        → IsLibrary definitions.now corner top library.now → HaveRows definitions.now top rows.now → AreDriven (nets definitions.now top) (stimulus_drives definitions.now top) made) }
 {
     let Some(here) = top_at(library, instances, rows) else {
         return Ok(DrivenNets {
@@ -56,8 +56,8 @@ fn top_at<'a, 't>(
     instances: &[Placed],
     rows: &'a Rows,
 ) -> Option<Here<'a, 't>>
-    ensures { (source : Source) (top : Module) (corner : ghost_corner.Corner) (ss : List def.Instance) (all : List OwnNet) → AreRead source top corner library.now rows.now ss all → ArePlaced source instances.now ss
-        → StandsHere all source (def.top_instance top) result }
+    ensures { (source : Source) (top : Module) (corner : ghost_corner.Corner) (ss : List def.Instance) (all : List OwnNet)
+        → AreRead source top corner library.now rows.now ss all → ArePlaced source instances.now ss → StandsHere all source (def.top_instance top) result }
 {
     let top = instances.first()?;
     here_at(library, rows, 0, top)
@@ -71,8 +71,8 @@ pub fn reg_nets(
     instances: &[Placed],
     rows: &Rows,
 ) -> Result<Vec<NetId>, NoMemory>
-    ensures { IfOk result (λ made. (top : Module) (corner : ghost_corner.Corner) → ArePlaced definitions.now instances.now (def.instances definitions.now top) → IsLibrary definitions.now corner top library.now
-        → HaveRows definitions.now top rows.now → AreNumbers (nets definitions.now top) (check_drives definitions.now top) made.items) }
+    ensures { IfOk result (λ made. (top : Module) (corner : ghost_corner.Corner) → ArePlaced definitions.now instances.now (def.instances definitions.now top)
+        → IsLibrary definitions.now corner top library.now → HaveRows definitions.now top rows.now → AreNumbers (nets definitions.now top) (check_drives definitions.now top) made.items) }
 {
     let mut nets = Vec::new(alloc);
     for (number, placed) in instances.iter().enumerate() {

@@ -22,15 +22,15 @@ pub struct Here<'a, 't> {
     pub row: &'a [NetId],
 }
 
-/// What stands ready of an instance, if anything does.
+/// What stands ready of an instance: of one netlist something always does.
 pub fn here_at<'a, 't>(
     library: &'a Library<'t>,
     rows: &'a Rows,
     number: usize,
     placed: &Placed,
 ) -> Option<Here<'a, 't>>
-    ensures { (source : Source) (top : Module) (corner : ghost_corner.Corner) (ss : List Instance) (all : List OwnNet) (s : Instance) → Stands source top corner library.now rows.now ss all number placed.now s
-        → StandsHere all source s result }
+    ensures { (source : Source) (top : Module) (corner : ghost_corner.Corner) (ss : List Instance) (all : List OwnNet) (s : Instance)
+        → Stands source top corner library.now rows.now ss all number placed.now s → StandsHere all source s result }
 {
     let prepared = module_at(library, placed.definition)?;
     let start = *rows.starts.get(number)?;

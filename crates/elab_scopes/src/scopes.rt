@@ -30,8 +30,9 @@ pub fn scopes_of(
     instances: &[Placed],
     rows: &Rows,
 ) -> Result<Vec<Scope>, NoMemory>
-    ensures { IfOk result (λ scopes. (top : Module) (corner : ghost_corner.Corner) → ArePlaced definitions.now instances.now (def.instances definitions.now top) → IsLibrary definitions.now corner top library.now
-        → HaveRows definitions.now top rows.now → tree_faults definitions.now top ≡ [] → map (λ s. scope_seen s) scopes.items ≡ map (scope_of (nets definitions.now top) definitions.now) (def.instances definitions.now top)) }
+    ensures { IfOk result (λ scopes. (top : Module) (corner : ghost_corner.Corner) → ArePlaced definitions.now instances.now (def.instances definitions.now top)
+        → IsLibrary definitions.now corner top library.now → HaveRows definitions.now top rows.now → tree_faults definitions.now top ≡ []
+        → map (λ s. scope_seen s) scopes.items ≡ map (scope_of (nets definitions.now top) definitions.now) (def.instances definitions.now top)) }
 {
     let mut scopes = Vec::new(alloc);
     for (number, placed) in instances.iter().enumerate() {

@@ -15,4 +15,5 @@ pub returns : goal.returns
 returns c = λ all source s is top p.
     let v = variable_at c.args.here.now.prepared.now.table c.args.variable in
     let input : is_input v.port ≡ true = grind (arith, c.row.ensures.port, c.is_input.ensures, c.if-not-is_input.false) in
-    one-input all source s v c.args.place c.bits_of.result.now c.args.made.now c.add_bits.new.made input top p (c.bits_of.ensures all source s is) c.in_ok-add_bits.ensures.nets c.in_ok-add_bits.ensures.places
+    one-input all source s v c.args.place c.bits_of.result.now c.args.made.now c.add_bits.new.made input top p
+    (c.bits_of.ensures all source s is) c.in_ok-add_bits.ensures.nets c.in_ok-add_bits.ensures.places

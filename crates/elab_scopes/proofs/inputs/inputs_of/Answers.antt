@@ -14,7 +14,8 @@ loop-variable-preserved c = λ all source s is top.
     let i = c.loop-variable.variable in
     let long : length c.deref-place-items.result.now ≡ length vs = ap length c.deref-place-items.ensures.value ∙ c.in_ok-places.ensures.same in
     let lt : i < length vs = subst (λ n. i < n) long c.loop-variable-test.true in
-    let place = place-at s.step.definition vs c.deref-place-items.result.now i _ lt is.prepared.table (c.deref-place-items.ensures.value ∙ c.in_ok-places.ensures.places s.step.definition is.prepared) in
+    let place = place-at s.step.definition vs c.deref-place-items.result.now i _ lt is.prepared.table
+    (c.deref-place-items.ensures.value ∙ c.in_ok-places.ensures.places s.step.definition is.prepared) in
     inputs-next all source s vs i c.loop-variable.made c.add_input.new.made lt (c.in_ok-add_input.ensures all source s is top place) (c.loop-variable.invariant all source s is top)
 
 pub returns : goal.returns

@@ -11,7 +11,8 @@ pub loop-variable-preserved : goal.loop-variable-preserved
 loop-variable-preserved c = λ all source s is.
     let vs = c.args.here.now.prepared.now.table in
     let lt : c.loop-variable.variable < length vs = omega (arith, c.loop-variable-test.true, c.len-variable-end.ensures) in
-    regs-next all source s vs c.loop-variable.variable c.args.nets.now.items c.loop-variable.nets.items c.add_reg.new.nets.items lt (c.in_ok-add_reg.ensures all source s is) (c.loop-variable.invariant all source s is)
+    regs-next all source s vs c.loop-variable.variable c.args.nets.now.items c.loop-variable.nets.items c.add_reg.new.nets.items lt
+    (c.in_ok-add_reg.ensures all source s is) (c.loop-variable.invariant all source s is)
 
 pub returns : goal.returns
 returns c = λ all source s is.

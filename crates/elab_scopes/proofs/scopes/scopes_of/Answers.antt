@@ -19,7 +19,8 @@ loop-number-preserved c = λ top corner ss all read placed tree.
     let r = placed-at source ps ss i p c.loop-number-test.true c.index-instances-number.is placed in
     maps-next (λ s. scope_seen s) (scope_of all source) c.loop-number.scopes.items c.add_scope.new.scopes.items (scope_of all source r.own) ss i r.own
     (below-length source ps ss i c.loop-number-test.true placed)
-    (c.in_ok-add_scope.ensures source top corner ss all r.own (stands-at source top corner c.args.library.now c.args.rows.now ss all p i r read) (not-too_deep source top ss i p r read.are_instances tree))
+    (c.in_ok-add_scope.ensures source top corner ss all r.own (stands-at source top corner c.args.library.now c.args.rows.now ss all p i r read)
+    (not-too_deep source top ss i p r read.are_instances tree))
     (ap (scope_of all source) (sym (own-at source p i ss r))) (c.loop-number.invariant top corner ss all read placed tree)
 
 pub returns : goal.returns

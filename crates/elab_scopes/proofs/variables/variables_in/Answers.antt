@@ -13,7 +13,8 @@ loop-place-preserved c = λ all source s is.
     let v = c.in_ok-variable_in.field-0 in
     let lt : c.loop-place.place < length vs = omega (arith, c.loop-place-test.true, c.len-place-end.ensures) in
     maps-next (λ v. variable_seen v) (scope_variable all source s) c.loop-place.list.items c.push.new.self.items (variable_seen v) vs c.loop-place.place blank lt
-    (ap (map (λ v. variable_seen v)) c.in_ok-push.ensures.items ∙ map_push (λ v. variable_seen v) c.loop-place.list.items v) (c.in_ok-variable_in.ensures all source s is) (c.loop-place.invariant all source s is)
+    (ap (map (λ v. variable_seen v)) c.in_ok-push.ensures.items ∙ map_push (λ v. variable_seen v) c.loop-place.list.items v)
+    (c.in_ok-variable_in.ensures all source s is) (c.loop-place.invariant all source s is)
 
 pub returns : goal.returns
 returns c = λ all source s is.

@@ -10,4 +10,5 @@ use Rattle.elab_scopes.proofs.variables.variables_in.Given as goal
 
 abbrev pub invariant-loop-place : goal.invariant-loop-place
 invariant-loop-place l =
-    (all : List OwnNet) (source : Source) (s : Instance) → IsHere all source s l.here → map (λ v. variable_seen v) l.list.items ≡ map (scope_variable all source s) (take l.place l.here.prepared.now.table)
+    (all : List OwnNet) (source : Source) (s : Instance) → IsHere all source s l.here
+    → map (λ v. variable_seen v) l.list.items ≡ map (scope_variable all source s) (take l.place l.here.prepared.now.table)
