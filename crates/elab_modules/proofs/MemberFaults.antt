@@ -21,7 +21,7 @@ use Rattle.elab_model.specs.TerminalFaults.{expression_faults, terminal_faults, 
 use Rattle.elab_laws.proofs.NoFaults.{front, back}
 use Rattle.elab_hierarchy.proofs.Found.{place-first, position-none}
 use Rattle.elab_names.proofs.Refusals.{refused-left, refused-right}
-use Rattle.elab_modules.specs.Connecting.{gate_told, fits_ports, primitive_told, module_told}
+use Rattle.elab_modules.specs.Connecting.{gate_faults, fits_ports, primitive_terminal_faults, instance_of_module_faults}
 use Rattle.elab_modules.specs.Telling.{Tells, TellsButDelay, sides_faults}
 
 -- ---- assignments and gates
@@ -39,14 +39,14 @@ joined-three : (a b c d : List Fault) → a ++ (b ++ (c ++ d)) ≡ (a ++ (b ++ c
 joined-three a b c d = ap (λ fs. a ++ fs) (sym (append_assoc b c d)) ∙ sym (append_assoc a (b ++ c) d)
 
 pub gate-tell : {A : Type 0} (source : Source) (m : Module) (vs : List Variable) (g : GateKind) (d : Option Delay) (i : GateInstance) (result : Result A (Refused ElabKind)) → vs ≡ variables m
-    → Tells (gate_told vs g i) result → TellsButDelay source m (gate g d i) result
+    → Tells (gate_faults vs g i) result → TellsButDelay source m (gate g d i) result
 gate-tell source m vs g d i result e h corner tick =
     let ws = variables m in
     let own = flat_map (expression_faults ws) i.terminals in
     let few = fault_if (nat_lt (length i.terminals) 2) BadTerminal i.place in
     let each = terminal_faults ws (output_count g (length i.terminals)) i.terminals in
     let delays = delay_faults corner tick m d in
-    but-last (gate_told ws g i) delays (own ++ (few ++ (each ++ delays))) result (joined-three own few each delays) (subst (λ ws. Tells (gate_told ws g i) result) e h)
+    but-last (gate_faults ws g i) delays (own ++ (few ++ (each ++ delays))) result (joined-three own few each delays) (subst (λ ws. Tells (gate_faults ws g i) result) e h)
 
 -- ---- the definition of a name
 
@@ -75,8 +75,8 @@ no-delay : (d : Option Delay) → delay_on_module d ≡ [] → d ≡ None
 no-delay None h = refl
 no-delay (Some d) h = cc
 
-module-tell : {A : Type 0} (corner : Corner) (tick : ℤ) (m k : Module) (d : Option Delay) (i : instance_text) (result : Result A (Refused ElabKind)) → Tells (module_told (variables m) k d i) result
-    → MatchResult result (λ _. module_told (variables m) k d i ≡ delay_faults corner tick m d) (RefusesOneOf (module_told (variables m) k d i))
+module-tell : {A : Type 0} (corner : Corner) (tick : ℤ) (m k : Module) (d : Option Delay) (i : instance_text) (result : Result A (Refused ElabKind)) → Tells (instance_of_module_faults (variables m) k d i) result
+    → MatchResult result (λ _. instance_of_module_faults (variables m) k d i ≡ delay_faults corner tick m d) (RefusesOneOf (instance_of_module_faults (variables m) k d i))
 module-tell corner tick m k d i (Ok x) h =
     let named = fault_if (is_missing i.name) BadTerminal i.place in
     let rest = connection_faults (variables m) k i.place i.connections in
@@ -85,18 +85,18 @@ module-tell corner tick m k d i (Ok x) h =
 module-tell corner tick m k d i (Err r) h = h
 
 pub module-tells : {A : Type 0} (source : Source) (m k : Module) (vs : List Variable) (n : Named) (d : Option Delay) (i : instance_text) (result : Result A (Refused ElabKind))
-    → definition_of source n.text ≡ Some (a_module k) → vs ≡ variables m → Tells (module_told vs k d i) result → TellsButDelay source m (instance n d i) result
+    → definition_of source n.text ≡ Some (a_module k) → vs ≡ variables m → Tells (instance_of_module_faults vs k d i) result → TellsButDelay source m (instance n d i) result
 module-tells source m k vs n d i result f e h corner tick =
-    let all : module_told (variables m) k d i ≡ all_member_faults source corner tick m (instance n d i) = ap (λ o. own_values m i ++ instance_faults corner tick m (variables m) d i o) (sym f) in
+    let all : instance_of_module_faults (variables m) k d i ≡ all_member_faults source corner tick m (instance n d i) = ap (λ o. own_values m i ++ instance_faults corner tick m (variables m) d i o) (sym f) in
     subst (λ fs. MatchResult result (λ _. fs ≡ delay_faults corner tick m d) (RefusesOneOf fs)) all
-    (module-tell corner tick m k d i result (subst (λ ws. Tells (module_told ws k d i) result) e h))
+    (module-tell corner tick m k d i result (subst (λ ws. Tells (instance_of_module_faults ws k d i) result) e h))
 
 fits-are : (p : Primitive) (x : Connections) → fits_ports (length p.ports) x ≡ are_terminals p x
 fits-are p (by_order es) = refl
 fits-are p (by_name cs) = refl
 
 pub primitive-tells : {A : Type 0} (source : Source) (m : Module) (p : Primitive) (vs : List Variable) (n : Named) (d : Option Delay) (i : instance_text) (count : ℕ) (result : Result A (Refused ElabKind))
-    → definition_of source n.text ≡ Some (a_primitive p) → primitive_faults p ≡ [] → vs ≡ variables m → count ≡ length p.ports → Tells (primitive_told vs count i) result
+    → definition_of source n.text ≡ Some (a_primitive p) → primitive_faults p ≡ [] → vs ≡ variables m → count ≡ length p.ports → Tells (primitive_terminal_faults vs count i) result
     → TellsButDelay source m (instance n d i) result
 primitive-tells source m p vs n d i count result f none e c h corner tick =
     let ws = variables m in
@@ -104,8 +104,8 @@ primitive-tells source m p vs n d i count result f none e c h corner tick =
     let fits = fault_if (not (are_terminals p i.connections)) BadTerminal i.place in
     let each = terminal_faults ws 1 (connection_values i.connections) in
     let delays = delay_faults corner tick m d in
-    let told : primitive_told vs count i ≡ own ++ (fits ++ each) =
-    ap (λ ws. primitive_told ws count i) e ∙ ap (λ k. primitive_told ws k i) c ∙ ap (λ b. own ++ (fault_if (not b) BadTerminal i.place ++ each)) (fits-are p i.connections) in
+    let told : primitive_terminal_faults vs count i ≡ own ++ (fits ++ each) =
+    ap (λ ws. primitive_terminal_faults ws count i) e ∙ ap (λ k. primitive_terminal_faults ws k i) c ∙ ap (λ b. own ++ (fault_if (not b) BadTerminal i.place ++ each)) (fits-are p i.connections) in
     let all : all_member_faults source corner tick m (instance n d i) ≡ (own ++ (fits ++ each)) ++ delays =
     ap (λ o. own ++ instance_faults corner tick m ws d i o) f ∙ ap (λ fs. own ++ (fits ++ (each ++ (delays ++ fs)))) none ∙ ap (λ fs. own ++ (fits ++ (each ++ fs))) (append-nil delays)
     ∙ joined-three own fits each delays in
