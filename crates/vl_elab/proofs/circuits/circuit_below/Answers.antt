@@ -38,7 +38,7 @@ returns-in_err-rows-clause-refused c =
     let second = subst (λ ps. ArePlaced d ps (instances d m)) (sym c.deref-2.ensures.value) placed in
     let third = subst (λ ps. ArePlaced d ps (instances d m)) (sym c.deref-3.ensures.value) placed in
     let ready = c.in_ok-library.ensures.library m second (c.tick-tick.ensures m at first) in
-    nets-refused d m c.args.corner c.in_err-rows.field-0.0 (c.in_err-rows.ensures.refused m c.args.corner third ready))
+    nets-refused d m c.args.corner c.in_err-rows.field-0.0 (c.in_err-rows.ensures.refused m c.args.corner third ready (c.in_ok-instances.ensures.faultless m at)))
 
 pub returns-in_err-made-clause-refused : goal.returns-in_err-made-clause-refused
 returns-in_err-made-clause-refused c =
@@ -51,7 +51,7 @@ returns-in_err-made-clause-refused c =
     let third = subst (λ ps. ArePlaced d ps (instances d m)) (sym c.deref-3.ensures.value) placed in
     let fourth = subst (λ ps. ArePlaced d ps (instances d m)) (sym c.deref-4.ensures.value) placed in
     let ready = c.in_ok-library.ensures.library m second (c.tick-tick.ensures m at first) in
-    let rows = c.in_ok-rows.ensures.rows m c.args.corner third ready in
+    let rows = c.in_ok-rows.ensures.rows m c.args.corner third ready (c.in_ok-instances.ensures.faultless m at) in
     elements-refused d m c.args.corner c.in_err-made.field-0.0 (c.in_err-made.ensures.refused m c.args.corner fourth ready rows))
 
 pub drivers_in-requires : goal.drivers_in-requires
@@ -66,7 +66,7 @@ drivers_in-requires c =
     let fourth = subst (λ ps. ArePlaced d ps (instances d m)) (sym c.deref-4.ensures.value) placed in
     let fifth = subst (λ ps. ArePlaced d ps (instances d m)) (sym c.deref-5.ensures.value) placed in
     let ready = c.in_ok-library.ensures.library m second (c.tick-tick.ensures m at first) in
-    let rows = c.in_ok-rows.ensures.rows m c.args.corner third ready in
+    let rows = c.in_ok-rows.ensures.rows m c.args.corner third ready (c.in_ok-instances.ensures.faultless m at) in
     record { made = (m, (c.args.corner, record { are_placed = fifth; is_ready = ready; have_rows = rows; are_elements = c.in_ok-made.ensures.elements m c.args.corner fourth ready rows })) }
 
 pub returns-in_err-drivers-clause-refused : goal.returns-in_err-drivers-clause-refused
@@ -81,7 +81,7 @@ returns-in_err-drivers-clause-refused c =
     let fourth = subst (λ ps. ArePlaced d ps (instances d m)) (sym c.deref-4.ensures.value) placed in
     let fifth = subst (λ ps. ArePlaced d ps (instances d m)) (sym c.deref-5.ensures.value) placed in
     let ready = c.in_ok-library.ensures.library m second (c.tick-tick.ensures m at first) in
-    let rows = c.in_ok-rows.ensures.rows m c.args.corner third ready in
+    let rows = c.in_ok-rows.ensures.rows m c.args.corner third ready (c.in_ok-instances.ensures.faultless m at) in
     let made = c.in_ok-made.ensures.elements m c.args.corner fourth ready rows in
     drivers-refused d m c.args.corner c.in_err-drivers.field-0.0
     (c.in_err-drivers.ensures.refused m c.args.corner (record { are_placed = fifth; is_ready = ready; have_rows = rows; are_elements = made })))
