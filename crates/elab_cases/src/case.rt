@@ -8,6 +8,7 @@ use vl_lex::lex;
 use vl_parse::parse;
 
 /// A netlist, and what is asked of it.
+#[derive(Debug, Drop)]
 pub struct Case {
     title: String,
     top: Option<String>,
@@ -62,7 +63,8 @@ impl Case {
             byte: self.text.len() as u64,
         };
         let Ok(source) = parse(alloc, &tokens, end) else {
-            anyhow::bail!("not a netlist: {title}");
+            writeln!(out, "no netlist")?;
+            return Ok(());
         };
         let top = self.top.as_ref().map(|name| name.as_bytes());
         match elaborate(alloc, &source, top, self.corner) {
