@@ -100,8 +100,8 @@ gate_terminals vs out es = flat_map (λ e. joined_faults vs 1 out (view_expressi
 pub gate-tells : {A : Type 0} (vs : List Variable) (g : GateKind) (i : code_gate.GateInstance) (n : ℕ) (os is : List code.Expression) (result : Result A (Refused ElabKind))
     → nat_lt (length (map view_expression i.terminals.items)) 2 ≡ false → take n (map view_expression i.terminals.items) ≡ map view_expression os
     → map view_expression os ++ map view_expression is ≡ map view_expression i.terminals.items
-    → n ≡ output_count g (length (map view_expression i.terminals.items)) → Tells (gate_terminals vs true os ++ gate_terminals vs false is) result → Tells
-    (gate_faults vs g (view_gate_instance i)) result
+    → n ≡ output_count g (length (map view_expression i.terminals.items)) → Tells (gate_terminals vs true os ++ gate_terminals vs false is) result
+    → Tells (gate_faults vs g (view_gate_instance i)) result
 gate-tells vs g i n os is result many front whole count h =
     let ts = map view_expression i.terminals.items in
     let vos = map view_expression os in
@@ -192,8 +192,8 @@ pub cut-tells : {A : Type 0} (vs : List Variable) (g : GateKind) (i : code_gate.
     → Tells (gate_terminals vs true os ++ gate_terminals vs false is) result → Tells (gate_faults vs g (view_gate_instance i)) result
 cut-tells vs g i k n j es os is result same len le again count front back h =
     let ts = i.terminals.items in
-    let taken : take k (map view_expression ts) ≡ map view_expression os = take-map view_expression k ts ∙ ap (λ xs. map view_expression (take k xs)) (sym same) ∙ ap (map view_expression)
-    (sym front) in
+    let taken : take k (map view_expression ts) ≡ map view_expression os = take-map view_expression k ts ∙ ap (λ xs. map view_expression (take k xs)) (sym same)
+    ∙ ap (map view_expression) (sym front) in
     let whole : map view_expression os ++ map view_expression is ≡ map view_expression ts =
     sym (map-append view_expression os is) ∙ ap (map view_expression) (ap (λ xs. xs ++ is) front ∙ ap (λ xs. take k es ++ xs) back ∙ take-append-drop k es ∙ same) in
     gate-tells vs g i k os is result (many-are ts n len le) taken whole (count ∙ ap (output_count g) (again ∙ sym (length-map ts view_expression))) h
@@ -214,8 +214,8 @@ pub output-told : {A : Type 0} (vs : List Variable) (values : List (Option code.
     → Tells (joined_value_faults vs 1 true (option_map view_expression o) ++ flat_map (λ v. joined_value_faults vs 1 false (option_map view_expression v)) is) result
     → Tells (given_faults vs (map (option_map view_expression) values)) result
 output-told vs values o is result e h =
-    let all : joined_value_faults vs 1 true (option_map view_expression o) ++ flat_map (λ v. joined_value_faults vs 1 false (option_map view_expression v)) is ≡ given_faults vs
-    (map (option_map view_expression) values) =
+    let all : joined_value_faults vs 1 true (option_map view_expression o) ++ flat_map (λ v. joined_value_faults vs 1 false (option_map view_expression v)) is
+    ≡ given_faults vs (map (option_map view_expression) values) =
     ap (λ fs. joined_value_faults vs 1 true (option_map view_expression o) ++ fs) (sym (flat_map-map (joined_value_faults vs 1 false) (option_map view_expression) is))
     ∙ ap (λ xs. given_faults vs (map (option_map view_expression) xs)) (sym e) in
     subst (λ fs. Tells fs result) all h
