@@ -44,13 +44,15 @@ connected-same vs m n (Some e) =
     same-front (fault_if (not (is_among n.text (port_names m))) UnknownName n.place) (expression_faults vs e)
     (width_faults vs (width_of v.range) e ++ (if is_output v.port then constant_faults vs e else []))
 
-pub unknown-port : (vs : List Variable) (m : Module) (n : Named) (o : Option Expression) → is_among n.text (port_names m) ≡ false → RefusesOneOf (connected_faults vs m n o) (refused.Fault UnknownName n.place)
+pub unknown-port : (vs : List Variable) (m : Module) (n : Named) (o : Option Expression) → is_among n.text (port_names m) ≡ false
+    → RefusesOneOf (connected_faults vs m n o) (refused.Fault UnknownName n.place)
 unknown-port vs m n o h =
     let v = variable m n.text in
     let f = fault_if (not (is_among n.text (port_names m))) UnknownName n.place in
     refused-left f (joined_value_faults vs (width_of v.range) (is_output v.port) o) (refused.Fault UnknownName n.place) (fault-told (not (is_among n.text (port_names m))) UnknownName n.place (ap not h))
 
-pub known-port : {A : Type 0} (vs : List Variable) (m : Module) (n : Named) (o : Option Expression) (width : ℕ) (out : Bool) (result : Result A (Refused ElabKind)) → is_among n.text (port_names m) ≡ true
+pub known-port : {A : Type 0} (vs : List Variable) (m : Module) (n : Named) (o : Option Expression) (width : ℕ) (out : Bool) (result : Result A (Refused ElabKind))
+    → is_among n.text (port_names m) ≡ true
     → width ≡ width_of (variable m n.text).range → out ≡ is_output (variable m n.text).port → Tells (joined_value_faults vs width out o) result → Tells (connected_faults vs m n o) result
 known-port vs m n o width out result h w i t =
     let all : joined_value_faults vs width out o ≡ connected_faults vs m n o =
@@ -181,7 +183,8 @@ name-given None b e h = let f : false ≡ true = e ∙ ap not h in cc
 name-given (Some n) b e h = refl
 
 -- more values than ports, as the code counts them
-pub more-values : (vs : List Variable) (m : Module) (p : Place) (ns : List code_name.Name) (es : List (Option code.Expression)) (a b : ℕ) → map view_name ns ≡ port_list m → a ≡ length es → b ≡ length ns → b < a
+pub more-values : (vs : List Variable) (m : Module) (p : Place) (ns : List code_name.Name) (es : List (Option code.Expression)) (a b : ℕ) → map view_name ns ≡ port_list m → a ≡ length es
+    → b ≡ length ns → b < a
     → RefusesOneOf (ordered_faults vs m p (map (option_map view_expression) es)) (refused.Fault BadTerminal p)
 more-values vs m p ns es a b names ea eb lt =
     let ves = map (option_map view_expression) es in
@@ -193,7 +196,8 @@ more-values vs m p ns es a b names ea eb lt =
     less a b h = grind (arith, nat_tests)
 
 -- names that the code has
-pub names-tell : {A : Type 0} (vs : List Variable) (m : Module) (ns : List Named) (cs : List code_connection.NamedConnection) (result : Result A (Refused ElabKind)) → ns ≡ map (λ c. view_name c.port) cs
+pub names-tell : {A : Type 0} (vs : List Variable) (m : Module) (ns : List Named) (cs : List code_connection.NamedConnection) (result : Result A (Refused ElabKind))
+    → ns ≡ map (λ c. view_name c.port) cs
     → Tells (duplicates ns ++ flat_map (λ c. connected_faults vs m (view_name c.port) (option_map view_expression c.value)) cs) result
     → Tells (named_faults vs m (map view_named_connection cs)) result
 names-tell vs m ns cs result e h =

@@ -84,7 +84,8 @@ one-more corner tick m xs k x old new places i lt at g s h =
 pub none-yet : (corner : Corner) (tick : ℤ) (m : Module) (table : List GateDelays) → AreDelays corner tick m [] table []
 none-yet corner tick m table = record { delays = refl; below = tt }
 
-pub has-delays : (corner : Corner) (tick : ℤ) (m : Module) (p : Prepared) (xs : List code_member.Member) (k : ℕ) (table : List GateDelays) (places : List ℕ) → IsPrepared p m → xs ≡ p.members.items → length xs ≤ k
+pub has-delays : (corner : Corner) (tick : ℤ) (m : Module) (p : Prepared) (xs : List code_member.Member) (k : ℕ) (table : List GateDelays) (places : List ℕ) → IsPrepared p m → xs ≡ p.members.items
+    → length xs ≤ k
     → AreDelays corner tick m (map view_member (take k xs)) table places → HasDelays corner tick m table places
 has-delays corner tick m p xs k table places ready same le h =
     let all : map view_member (take k xs) ≡ members m = ap (map view_member) (take_all k xs le ∙ same) ∙ ready.members in

@@ -75,7 +75,8 @@ no-delay : (d : Option Delay) → delay_on_module d ≡ [] → d ≡ None
 no-delay None h = refl
 no-delay (Some d) h = cc
 
-module-tell : {A : Type 0} (corner : Corner) (tick : ℤ) (m k : Module) (d : Option Delay) (i : instance_text) (result : Result A (Refused ElabKind)) → Tells (instance_of_module_faults (variables m) k d i) result
+module-tell : {A : Type 0} (corner : Corner) (tick : ℤ) (m k : Module) (d : Option Delay) (i : instance_text) (result : Result A (Refused ElabKind))
+    → Tells (instance_of_module_faults (variables m) k d i) result
     → MatchResult result (λ _. instance_of_module_faults (variables m) k d i ≡ delay_faults corner tick m d) (RefusesOneOf (instance_of_module_faults (variables m) k d i))
 module-tell corner tick m k d i (Ok x) h =
     let named = fault_if (is_missing i.name) BadTerminal i.place in

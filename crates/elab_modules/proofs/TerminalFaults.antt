@@ -71,7 +71,8 @@ inputs-same : (vs : List Variable) (is : List Expression) → Same (flat_map (jo
 inputs-same vs is =
     let rest = λ (e : Expression). width_faults vs 1 e ++ [] in
     same-then _ (flat_map (expression_faults vs) is ++ flat_map rest is) _ (same-parted (expression_faults vs) rest is)
-    (same-as (flat_map (expression_faults vs) is ++ flat_map rest is) (flat_map (expression_faults vs) is ++ flat_map (width_faults vs 1) is) (ap (λ fs. flat_map (expression_faults vs) is ++ fs) (none-more is)))
+    (same-as (flat_map (expression_faults vs) is ++ flat_map rest is) (flat_map (expression_faults vs) is ++ flat_map (width_faults vs 1) is)
+    (ap (λ fs. flat_map (expression_faults vs) is ++ fs) (none-more is)))
   where
     none-more : (is : List Expression) → flat_map (λ (e : Expression). width_faults vs 1 e ++ []) is ≡ flat_map (width_faults vs 1) is
     none-more [] = refl
@@ -99,7 +100,8 @@ gate_terminals vs out es = flat_map (λ e. joined_faults vs 1 out (view_expressi
 pub gate-tells : {A : Type 0} (vs : List Variable) (g : GateKind) (i : code_gate.GateInstance) (n : ℕ) (os is : List code.Expression) (result : Result A (Refused ElabKind))
     → nat_lt (length (map view_expression i.terminals.items)) 2 ≡ false → take n (map view_expression i.terminals.items) ≡ map view_expression os
     → map view_expression os ++ map view_expression is ≡ map view_expression i.terminals.items
-    → n ≡ output_count g (length (map view_expression i.terminals.items)) → Tells (gate_terminals vs true os ++ gate_terminals vs false is) result → Tells (gate_faults vs g (view_gate_instance i)) result
+    → n ≡ output_count g (length (map view_expression i.terminals.items)) → Tells (gate_terminals vs true os ++ gate_terminals vs false is) result
+    → Tells (gate_faults vs g (view_gate_instance i)) result
 gate-tells vs g i n os is result many front whole count h =
     let ts = map view_expression i.terminals.items in
     let vos = map view_expression os in
@@ -113,7 +115,8 @@ gate-tells vs g i n os is result many front whole count h =
     ∙ ap (λ fs. flat_map (expression_faults vs) ts ++ (fs ++ terminal_faults vs (output_count g (length ts)) ts)) (sym (no-fault (nat_lt (length ts) 2) BadTerminal i.place many)) in
     tells-same (gate_terminals vs true os ++ gate_terminals vs false is) (gate_faults vs g (view_gate_instance i)) result
     (same-then _ (flat_map (joined_faults vs 1 true) vos ++ flat_map (joined_faults vs 1 false) vis) _ (same-as _ _ (sym begun))
-    (same-then _ (flat_map (expression_faults vs) (vos ++ vis) ++ (flat_map (width_faults vs 1) (vos ++ vis) ++ flat_map (constant_faults vs) vos)) _ (terminals-same vs vos vis) (same-as _ _ ended))) h
+    (same-then _ (flat_map (expression_faults vs) (vos ++ vis) ++ (flat_map (width_faults vs 1) (vos ++ vis) ++ flat_map (constant_faults vs) vos)) _ (terminals-same vs vos vis)
+    (same-as _ _ ended))) h
 
 pub gate-few : (vs : List Variable) (g : GateKind) (i : code_gate.GateInstance) → nat_lt (length (map view_expression i.terminals.items)) 2 ≡ true
     → RefusesOneOf (gate_faults vs g (view_gate_instance i)) (refused.Fault BadTerminal i.place)
@@ -159,7 +162,8 @@ given-tells vs count p es result g h =
     tells-same (given_faults vs es) (terminal_list_faults vs count p es) result
     (same-then _ (flat_map (expression_faults vs) (given es) ++ terminal_faults vs 1 (given es)) _ (given-same vs es (all-given count es g)) (same-as _ _ ended)) h
 
-pub not-given : (vs : List Variable) (count : ℕ) (p : Place) (es : List (Option Expression)) → are_given count es ≡ false → RefusesOneOf (terminal_list_faults vs count p es) (refused.Fault BadTerminal p)
+pub not-given : (vs : List Variable) (count : ℕ) (p : Place) (es : List (Option Expression)) → are_given count es ≡ false
+    → RefusesOneOf (terminal_list_faults vs count p es) (refused.Fault BadTerminal p)
 not-given vs count p es g =
     let f = fault_if (not (are_given count es)) BadTerminal p in
     refused-right (flat_map (expression_faults vs) (given es)) (f ++ terminal_faults vs 1 (given es)) (refused.Fault BadTerminal p)
@@ -188,14 +192,16 @@ pub cut-tells : {A : Type 0} (vs : List Variable) (g : GateKind) (i : code_gate.
     → Tells (gate_terminals vs true os ++ gate_terminals vs false is) result → Tells (gate_faults vs g (view_gate_instance i)) result
 cut-tells vs g i k n j es os is result same len le again count front back h =
     let ts = i.terminals.items in
-    let taken : take k (map view_expression ts) ≡ map view_expression os = take-map view_expression k ts ∙ ap (λ xs. map view_expression (take k xs)) (sym same) ∙ ap (map view_expression) (sym front) in
+    let taken : take k (map view_expression ts) ≡ map view_expression os = take-map view_expression k ts ∙ ap (λ xs. map view_expression (take k xs)) (sym same)
+    ∙ ap (map view_expression) (sym front) in
     let whole : map view_expression os ++ map view_expression is ≡ map view_expression ts =
     sym (map-append view_expression os is) ∙ ap (map view_expression) (ap (λ xs. xs ++ is) front ∙ ap (λ xs. take k es ++ xs) back ∙ take-append-drop k es ∙ same) in
     gate-tells vs g i k os is result (many-are ts n len le) taken whole (count ∙ ap (output_count g) (again ∙ sym (length-map ts view_expression))) h
 
 -- ---- connections by name
 
-pub named-refused : (vs : List Variable) (count : ℕ) (i : Instance) (cs : List NamedConnection) → i.connections ≡ by_name cs → RefusesOneOf (primitive_terminal_faults vs count i) (refused.Fault BadTerminal i.place)
+pub named-refused : (vs : List Variable) (count : ℕ) (i : Instance) (cs : List NamedConnection) → i.connections ≡ by_name cs
+    → RefusesOneOf (primitive_terminal_faults vs count i) (refused.Fault BadTerminal i.place)
 named-refused vs count i cs e =
     let f = fault_if (not (fits_ports count i.connections)) BadTerminal i.place in
     let rest = terminal_faults vs 1 (connection_values i.connections) in
@@ -208,7 +214,8 @@ pub output-told : {A : Type 0} (vs : List Variable) (values : List (Option code.
     → Tells (joined_value_faults vs 1 true (option_map view_expression o) ++ flat_map (λ v. joined_value_faults vs 1 false (option_map view_expression v)) is) result
     → Tells (given_faults vs (map (option_map view_expression) values)) result
 output-told vs values o is result e h =
-    let all : joined_value_faults vs 1 true (option_map view_expression o) ++ flat_map (λ v. joined_value_faults vs 1 false (option_map view_expression v)) is ≡ given_faults vs (map (option_map view_expression) values) =
+    let all : joined_value_faults vs 1 true (option_map view_expression o) ++ flat_map (λ v. joined_value_faults vs 1 false (option_map view_expression v)) is
+    ≡ given_faults vs (map (option_map view_expression) values) =
     ap (λ fs. joined_value_faults vs 1 true (option_map view_expression o) ++ fs) (sym (flat_map-map (joined_value_faults vs 1 false) (option_map view_expression) is))
     ∙ ap (λ xs. given_faults vs (map (option_map view_expression) xs)) (sym e) in
     subst (λ fs. Tells fs result) all h

@@ -16,6 +16,17 @@ use sg_text::{NoMemory, Refused};
 use sg_time::{Scale, Unit};
 use vl_tree::Delay;
 
+/// No delays.
+pub fn no_delays() -> GateDelays
+    ensures few { result.count ≤ 2 }
+    ensures none { gate_delays_seen result ≡ [] }
+{
+    GateDelays {
+        count: 0,
+        at: [0; 3],
+    }
+}
+
 // The first entry of a table has no delays.
 fn begins_with_none(table: &[GateDelays]) -> bool
     ensures { IsTrue result → (0 < length table.now) × (delays_at table.now 0 ≡ []) }

@@ -13,7 +13,7 @@ ghost use Rattle.elab_modules.specs.Telling.{Tells, TellsButDelay, GrowsBy, Stan
 ghost use Rattle.elab_model.specs.TerminalFaults.{delay_faults};
 
 use crate::assignments::{check_declared, check_sides};
-use crate::delays::{add_delays, add_entry};
+use crate::delays::{add_delays, add_entry, no_delays};
 use crate::gates::check_gate;
 use crate::instances::check_instance;
 use crate::{Prepared, Ready};
@@ -75,10 +75,7 @@ fn add_member(
     ensures told { (m : Module) → IsPrepared prepared.now m → Tells (delay_faults corner tick.power m (delay_of (view_member member.now))) result }
     ensures place { IfOk result (λ i. (m : Module) → IsPrepared prepared.now m → StandsFor gate_delays.new.items i (member_delays corner tick.power m (view_member member.now))) }
 {
-    let none = GateDelays {
-        count: 0,
-        at: [0; 3],
-    };
+    let none = no_delays();
     let scale = prepared.definition.mark.scale;
     match member {
         Member::Declared { .. } => Ok(add_entry(none, gate_delays)?),
@@ -110,6 +107,8 @@ pub fn check_members(
     ensures faultless { OnOk result ((m : Module) → IsPrepared prepared.now m → flat_map (all_member_faults definitions.now corner tick.power m) (def.members m) ≡ []) }
     ensures refused { IfErr result (λ r. (m : Module) → IsPrepared prepared.now m → RefusesOneOf (flat_map (all_member_faults definitions.now corner tick.power m) (def.members m)) r) }
 {
+    // In an empty table they stand first, for all members without delays.
+    add_entry(no_delays(), gate_delays)?;
     let mut bits = Vec::new(alloc);
     let mut places = Vec::new(alloc);
     for member in &prepared.members {

@@ -21,9 +21,9 @@ check_member-requires-clause-named c =
 
 pub returns-in_err-check_member-clause-refused : goal.returns-in_err-check_member-clause-refused
 returns-in_err-check_member-clause-refused c =
-    exit-if c.from_residual.result
+    exit-if c.from_residual-in_err-check_member.result
     (λ r. (m : Module) → IsPrepared c.args.prepared.now m → RefusesOneOf (flat_map (all_member_faults c.args.definitions.now c.args.corner c.args.tick.power m) (members m)) r)
-    c.in_err-check_member.field-0.0 (err_from_is_err_and c.from_residual.result c.from_residual.ensures.1)
+    c.in_err-check_member.field-0.0 (err_from_is_err_and c.from_residual-in_err-check_member.result c.from_residual-in_err-check_member.ensures.1)
     (λ m p.
     let g = all_member_faults c.args.definitions.now c.args.corner c.args.tick.power m in
     let f : code.Member → List Fault = λ x. g (view_member x) in
