@@ -1,3 +1,5 @@
 -- The modules of this folder: words of the contracts.
 pub mod Ready
 pub mod Reached
+pub mod Reaching
+pub mod Checking
