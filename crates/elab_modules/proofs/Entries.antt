@@ -1,6 +1,6 @@
 -- What stands at the places of a list when one of its elements gives place to another.
-use Rattle.std.specs.Prelude.{◌≡◌, ◌⊎◌, ℕ, zero, suc, ◌<◌, List, [], ◌∷◌, ◌++◌, Some, length, slice_get, slice_index_or, refl}
-use Rattle.std.proofs.Common.{sym, ◌∙◌, ap, arith, inl, inr, set}
+use Rattle.std.specs.Prelude.{◌≡◌, ◌⊎◌, ℕ, zero, suc, ◌<◌, List, [], ◌∷◌, Some, length, slice_get, refl}
+use Rattle.std.proofs.Common.{sym, ap, arith, inl, inr, set}
 
 pub set-there : {A : Type 0} (xs : List A) (i : ℕ) (x : A) → i < length xs → slice_get (set xs i x) i ≡ Some x
 set-there [] i x lt = absurd (omega arith)

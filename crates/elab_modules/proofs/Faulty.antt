@@ -1,10 +1,8 @@
 -- A fault of what a module names is one of the module's, or of a table.
-use Rattle.std.specs.Prelude.{◌≡◌, ◌⊎◌, ℕ, zero, suc, ◌<◌, List, [], ◌∷◌, ◌++◌, Option, Some, None, length, map, flat_map, filter_map, not, slice_get, slice_index_or, refl, ℤ}
-use Rattle.std.specs.List.{IsAmong}
+use Rattle.std.specs.Prelude.{◌≡◌, ℕ, List, [], ◌∷◌, ◌++◌, Option, Some, None, flat_map, not, slice_get, ℤ}
 use Rattle.std.specs.Option.{option_and_then}
-use Rattle.std.proofs.Common.{sym, ◌∙◌, ap, arith, inl, inr, subst}
+use Rattle.std.proofs.Common.{sym, ◌∙◌, ap, inl, inr, subst}
 use Rattle.sg_delay.specs.declared.corners.Corner.{Corner}
-use Rattle.sg_text.specs.declared.places.Place.{Place}
 use Rattle.sg_text.specs.declared.refusals.Refused.{Refused}
 use Rattle.sg_text.specs.declared.refusals.Refused.TheVariants as refused
 use Rattle.vl_tree.specs.Tree.{Delay, Instance, Module, Part, Primitive, Source, a_module, a_primitive}
@@ -12,18 +10,17 @@ use Rattle.elab_model.specs.declared.kinds.ElabKind.{ElabKind}
 use Rattle.elab_model.specs.declared.kinds.ElabKind.TheVariants.{BadTerminal}
 use Rattle.elab_model.specs.Definitions.{definition_of, as_primitive, primitive_of}
 use Rattle.elab_model.specs.Elaboration.{member_primitive}
-use Rattle.elab_model.specs.Faults.{Fault, fault, fault_if, RefusesOneOf}
+use Rattle.elab_model.specs.Faults.{Fault, fault_if, RefusesOneOf}
 use Rattle.elab_model.specs.Members.{Member, assignment, supply, gate, instance, members, member_values, connection_values}
 use Rattle.elab_model.specs.ModuleFaults.{are_terminals, instance_faults, member_faults, all_member_faults, module_faults}
 use Rattle.elab_model.specs.NameFaults.{declaration_faults}
-use Rattle.elab_model.specs.Names.{Variable, variables}
+use Rattle.elab_model.specs.Names.{variables}
 use Rattle.elab_model.specs.PrimitiveFaults.{primitive_faults}
 use Rattle.elab_model.specs.TerminalFaults.{expression_faults, terminal_faults, delay_faults}
 use Rattle.elab_names.proofs.Refusals.{refused-left, refused-right}
 use Rattle.elab_laws.proofs.Lists.{In}
-use Rattle.elab_primitives.specs.Refusals.{IsOfTable, RefusesPrimitive}
 use Rattle.elab_hierarchy.specs.Tops.{StandsAt}
-use Rattle.elab_modules.specs.Reaching.{IsOfMember, RefusesMembers, IsOfUdp, RefusesModule, RefusesNamed}
+use Rattle.elab_modules.specs.Reaching.{RefusesMembers, RefusesModule, RefusesNamed}
 use Rattle.elab_modules.proofs.Among.{in-kept}
 
 -- what is refused of an element's list is of the whole

@@ -1,5 +1,5 @@
 -- The modules of instances stand ready one after the other.
-use Rattle.std.specs.Prelude.{◌≡◌, ◌⊎◌, ℕ, zero, suc, ◌+◌, ◌<◌, ◌^◌, List, [], ◌∷◌, ◌++◌, Bool, true, Option, Some, None, is_some, get_or, length, map, take, slice_get, slice_index_or, replicate, refl}
+use Rattle.std.specs.Prelude.{◌≡◌, ℕ, zero, suc, ◌+◌, ◌<◌, ◌^◌, List, [], ◌∷◌, ◌++◌, Bool, true, Option, Some, None, is_some, get_or, length, map, take, slice_get, slice_index_or, replicate}
 use Rattle.std.specs.List.{AllByRecursion}
 use Rattle.std.specs.Option.{option_and_then}
 use Rattle.std.proofs.Common.{sym, ◌∙◌, ap, arith, inl, inr, subst, set}
@@ -24,8 +24,8 @@ use Rattle.elab_primitives.specs.Refusals.{RefusesPrimitive}
 use Rattle.elab_modules.specs.declared.prepared.Prepared.{Prepared}
 use Rattle.elab_modules.specs.declared.library.Ready as code_ready
 use Rattle.elab_modules.specs.declared.library.Ready.TheVariants as ready
-use Rattle.elab_modules.specs.Ready.{AreReady, IsReady, IsPrepared, HaveUdps, HasReady}
-use Rattle.elab_modules.specs.Reaching.{IsModuleAt, IsStock, KeepsModules, IsNameReady, IsUdpReady, Stocked, HasMet, RefusesNamed, RefusesModule, RefusesMet}
+use Rattle.elab_modules.specs.Ready.{IsReady, IsPrepared, HasReady}
+use Rattle.elab_modules.specs.Reaching.{IsStock, KeepsModules, IsNameReady, IsUdpReady, Stocked, HasMet, RefusesNamed, RefusesModule, RefusesMet}
 use Rattle.elab_modules.proofs.Among.{in-mapped}
 use Rattle.elab_modules.proofs.Entries.{set-either}
 use Rattle.elab_modules.proofs.Stocking.{Parts, put-ready, put-keeps, module-put, no-module}

@@ -1,12 +1,12 @@
 -- What the members of reached modules name stands ready.
-use Rattle.std.specs.Prelude.{◌≡◌, ◌⊎◌, ℕ, zero, suc, ◌+◌, ◌<◌, All, List, [], ◌∷◌, ◌++◌, Option, Some, None, length, map, flat_map, filter_map, slice_get, slice_index_or, refl, bytes_eq, ℤ, ◌≤ℤ◌, ◌==◌, if◌then◌else◌}
-use Rattle.std.specs.List.{AllByRecursion, enumerate_from}
+use Rattle.std.specs.Prelude.{◌≡◌, ℕ, zero, suc, ◌+◌, ◌<◌, All, List, [], ◌∷◌, Some, length, map, flat_map, slice_get, refl, ℤ, ◌≤ℤ◌, ◌==◌, if◌then◌else◌}
+use Rattle.std.specs.List.{enumerate_from}
 use Rattle.std.specs.Option.{option_and_then}
-use Rattle.std.proofs.Common.{sym, ◌∙◌, ap, arith, inl, inr, subst}
+use Rattle.std.proofs.Common.{sym, ap, arith, inl, inr, subst}
 use Rattle.std.proofs.lemmas.Option.{slice_get_within}
 use Rattle.std.proofs.lemmas.Slice.Eq.{bytes_eq-Decides}
 use Rattle.sg_circuit.specs.declared.elements.UdpUse.{UdpUse}
-use Rattle.vl_tree.specs.Tree.{Module, Primitive, Part, Source, a_module, a_primitive}
+use Rattle.vl_tree.specs.Tree.{Module, Part, Source, a_module, a_primitive}
 use Rattle.elab_model.specs.declared.kinds.ElabKind.TheVariants.{TooDeep}
 use Rattle.elab_model.specs.Definitions.{definition_of, as_module}
 use Rattle.elab_model.specs.Delays.{tick_of}
@@ -24,15 +24,14 @@ use Rattle.elab_hierarchy.specs.Tops.{StandsAt}
 use Rattle.elab_hierarchy.proofs.Apart.{same-name}
 use Rattle.elab_hierarchy.proofs.Found.{place-first}
 use Rattle.elab_modules.specs.declared.prepared.Prepared.{Prepared}
-use Rattle.elab_modules.specs.declared.library.Ready as code_ready
 use Rattle.elab_modules.specs.declared.library.Ready.TheVariants as ready
-use Rattle.elab_modules.specs.Ready.{AreReady, IsPrepared, HasReady, MemberReady}
+use Rattle.elab_modules.specs.Ready.{IsPrepared, HasReady, MemberReady}
 use Rattle.elab_modules.specs.Reaching.{IsModuleAt, IsUdpReady, HasMet}
 use Rattle.elab_modules.specs.Checking.{AreNamed, AreInTicks}
 use Rattle.elab_modules.proofs.Among.{in-kept, in-numbered}
 use Rattle.elab_modules.proofs.Meeting.{places_of}
 use Rattle.elab_modules.proofs.Precisions.{least-of_all}
-use Rattle.elab_modules.proofs.Stocking.{Parts, no-module}
+use Rattle.elab_modules.proofs.Stocking.{Parts}
 
 -- ---- instances and their places
 

@@ -1,7 +1,7 @@
 -- A tick is the least precision of the instances' modules.
 use Rattle.std.specs.Prelude.{◌≡◌, List, [], ◌∷◌, Bool, true, false, fold, refl, ℤ, ◌≤ℤ◌, int_le, if◌then◌else◌}
 use Rattle.std.specs.Int.Signed.{≤ℤ_refl}
-use Rattle.std.proofs.Common.{sym, ap, arith, inl, inr, subst}
+use Rattle.std.proofs.Common.{sym, arith, inl, inr, subst}
 use Rattle.std.proofs.lemmas.Int.{ints}
 use Rattle.elab_model.specs.Delays.{lesser, precision_of}
 use Rattle.elab_model.specs.Hierarchy.{Instance}

@@ -1,12 +1,11 @@
 -- A module or a primitive more stands ready.
-use Rattle.std.specs.Prelude.{◌≡◌, ◌⊎◌, ℕ, suc, ◌+◌, ◌-◌, ◌<◌, ◌^◌, List, [], ◌∷◌, ◌++◌, Option, Some, None, length, map, slice_get, slice_index_or, replicate, refl}
-use Rattle.std.specs.List.{AllByRecursion}
-use Rattle.std.proofs.Common.{sym, ◌∙◌, ap, arith, inl, inr, subst, set, length-append, get_or}
-use Rattle.std.proofs.lemmas.List.{get_or_append_left, get_or-append-add}
+use Rattle.std.specs.Prelude.{◌≡◌, ℕ, ◌+◌, ◌<◌, ◌^◌, List, [], ◌∷◌, ◌++◌, Option, Some, None, length, slice_get, refl}
+use Rattle.std.proofs.Common.{sym, ◌∙◌, ap, arith, inl, inr, subst, set, length-append}
+use Rattle.std.proofs.lemmas.List.{get_or_append_left}
 use Rattle.std.proofs.Math.ListN.{length-set}
 use Rattle.sg_circuit.specs.declared.elements.UdpUse.{UdpUse}
 use Rattle.sg_circuit.specs.Seen.{udp_at}
-use Rattle.vl_tree.specs.Tree.{Module, Primitive, Source, a_module, a_primitive}
+use Rattle.vl_tree.specs.Tree.{Module, Primitive, Source, a_primitive}
 use Rattle.elab_model.specs.Primitives.{table_of, initial_value}
 use Rattle.elab_hierarchy.specs.Tops.{StandsAt}
 use Rattle.elab_primitives.specs.Refusals.{IsFaultless}
@@ -14,7 +13,7 @@ use Rattle.elab_modules.specs.declared.prepared.Prepared.{Prepared}
 use Rattle.elab_modules.specs.declared.library.Ready as code_ready
 use Rattle.elab_modules.specs.declared.library.Ready.TheVariants as ready
 use Rattle.elab_modules.specs.Ready.{AreReady, IsReady, IsPrepared, IsUdp, HaveUdps, HasReady}
-use Rattle.elab_modules.specs.Reaching.{IsModuleAt, IsStock, KeepsModules}
+use Rattle.elab_modules.specs.Reaching.{IsStock, KeepsModules}
 use Rattle.elab_modules.proofs.Entries.{set-there, set-either, set-keeps}
 
 abbrev pub Parts : Type 0

@@ -1,18 +1,15 @@
 -- All that a top reaches stands ready, or one of its faults is refused.
-use Rattle.std.specs.Prelude.{◌≡◌, ◌⊎◌, ℕ, ◌<◌, List, [], ◌∷◌, ◌++◌, Option, Some, None, Ok, length, map, flat_map, filter_map, option_map, slice_get, find, refl, bytes_eq, ℤ}
+use Rattle.std.specs.Prelude.{◌≡◌, ℕ, List, [], ◌++◌, Option, Some, None, Ok, length, flat_map, filter_map, option_map, slice_get, refl, bytes_eq, ℤ}
 use Rattle.std.specs.List.{AllByRecursion, IsAmong}
-use Rattle.std.specs.Option.{option_and_then}
-use Rattle.std.proofs.Common.{sym, ◌∙◌, ap, arith, inl, inr, subst}
+use Rattle.std.proofs.Common.{◌∙◌, ap, inl, inr, subst}
 use Rattle.std.proofs.lemmas.Option.{slice_get_within}
 use Rattle.sg_circuit.specs.declared.elements.UdpUse.{UdpUse}
 use Rattle.sg_delay.specs.declared.corners.Corner.{Corner}
-use Rattle.sg_text.specs.declared.places.Place.{Place}
 use Rattle.sg_text.specs.declared.refusals.Refused.{Refused}
 use Rattle.sg_text.specs.declared.refusals.Refused.TheVariants as refused
-use Rattle.udp_rows.specs.declared.faults.UdpKind.{UdpKind}
-use Rattle.vl_tree.specs.Tree.{Module, Primitive, Part, Source, a_module, a_primitive}
+use Rattle.vl_tree.specs.Tree.{Module, Primitive, Part, Source, a_primitive}
 use Rattle.elab_model.specs.declared.kinds.ElabKind.{ElabKind}
-use Rattle.elab_model.specs.Definitions.{name_of, definition_of, as_primitive}
+use Rattle.elab_model.specs.Definitions.{name_of, definition_of}
 use Rattle.elab_model.specs.Delays.{tick_of}
 use Rattle.elab_model.specs.Elaboration.{member_primitive, primitives}
 use Rattle.elab_model.specs.Faults.{fault}
@@ -20,8 +17,6 @@ use Rattle.elab_model.specs.Hierarchy.{Instance, instances}
 use Rattle.elab_model.specs.HierarchyFaults.{two_definitions}
 use Rattle.elab_model.specs.Members.{Member, assignment, supply, gate, instance, members}
 use Rattle.elab_model.specs.ModuleFaults.{all_member_faults, module_faults}
-use Rattle.elab_model.specs.NameFaults.{declaration_faults}
-use Rattle.elab_model.specs.PrimitiveFaults.{TableFault}
 use Rattle.elab_laws.proofs.Lists.{In, in-flat, from-flat, all-in}
 use Rattle.elab_laws.proofs.NoFaults.{all-from}
 use Rattle.elab_hierarchy.specs.declared.instances.Placed.{Placed}
@@ -34,14 +29,14 @@ use Rattle.elab_modules.specs.declared.prepared.Prepared.{Prepared}
 use Rattle.elab_modules.specs.declared.library.Library.{Library}
 use Rattle.elab_modules.specs.declared.library.Ready as code_ready
 use Rattle.elab_modules.specs.declared.library.Ready.TheVariants as ready
-use Rattle.elab_modules.specs.Ready.{AreReady, IsReady, IsPrepared, HasDelays, HasReady, MemberReady}
+use Rattle.elab_modules.specs.Ready.{AreReady, IsPrepared, HasReady, MemberReady}
 use Rattle.elab_modules.specs.Reached.{IsReadyAt, IsReached, IsLibrary, RefusesReached}
 use Rattle.elab_modules.specs.Reaching.{IsModuleAt, HasMet, RefusesMet}
 use Rattle.elab_modules.specs.Checking.{IsChecked, AreChecked, RefusesPart}
 use Rattle.elab_modules.proofs.Among.{in-among, among-in, from-kept}
 use Rattle.elab_modules.proofs.Faulty.{refused-flat, all-refused, primitive-defined}
 use Rattle.elab_modules.proofs.Meeting.{places_of}
-use Rattle.elab_modules.proofs.Named.{AllMet, OfInstance, of-instance, all-named, place-of, one-place, one-top, placed-in}
+use Rattle.elab_modules.proofs.Named.{AllMet, of-instance, all-named, place-of, one-place, one-top, placed-in}
 use Rattle.elab_modules.proofs.Stocking.{Parts, no-module}
 
 -- ---- what is refused

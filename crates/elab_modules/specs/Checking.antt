@@ -1,5 +1,5 @@
 -- What is known of the modules that stand ready once their members have been looked at.
-use Rattle.std.specs.Prelude.{◌≡◌, ℕ, ◌<◌, ◌≤◌, ◌≤ℤ◌, All, List, [], Option, Some, None, length, map, flat_map, option_map, slice_get, ℤ}
+use Rattle.std.specs.Prelude.{◌≡◌, ℕ, ◌<◌, ◌≤◌, ◌≤ℤ◌, All, List, [], Option, Some, length, map, flat_map, option_map, slice_get, ℤ}
 use Rattle.std.specs.List.{AllByRecursion}
 use Rattle.std.specs.Global.{Vec}
 use Rattle.sg_delay.specs.declared.corners.Corner.{Corner}

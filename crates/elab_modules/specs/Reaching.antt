@@ -1,5 +1,5 @@
 -- What stands ready while the modules that a top reaches are met, and what is refused of them.
-use Rattle.std.specs.Prelude.{◌≡◌, ◌⊎◌, ℕ, ◌<◌, ◌^◌, List, [], ◌∷◌, ◌++◌, Option, Some, None, length, map, flat_map, filter_map, slice_get, ℤ}
+use Rattle.std.specs.Prelude.{◌≡◌, ◌⊎◌, ℕ, ◌<◌, ◌^◌, List, Option, Some, length, map, filter_map, slice_get, ℤ}
 use Rattle.std.specs.List.{AllByRecursion, IsAmong}
 use Rattle.sg_circuit.specs.declared.elements.UdpUse.{UdpUse}
 use Rattle.sg_delay.specs.declared.corners.Corner.{Corner}
@@ -21,7 +21,7 @@ use Rattle.elab_primitives.specs.Refusals.{IsOfTable, RefusesPrimitive}
 use Rattle.elab_modules.specs.declared.prepared.Prepared.{Prepared}
 use Rattle.elab_modules.specs.declared.library.Ready as code_ready
 use Rattle.elab_modules.specs.declared.library.Ready.TheVariants as ready
-use Rattle.elab_modules.specs.Ready.{AreReady, HaveUdps, HasReady, MemberReady}
+use Rattle.elab_modules.specs.Ready.{AreReady, HaveUdps, HasReady}
 
 -- this module stands ready at a place
 abbrev pub IsModuleAt : List (Option code_ready.Ready) → ℕ → Prepared → Type 0

@@ -1,11 +1,11 @@
 -- What the code holds ready of modules and primitives.
-use Rattle.std.specs.Prelude.{◌≡◌, ℕ, ◌<◌, List, [], ◌++◌, Option, Some, None, map, flat_map, length, slice_get, bytes_eq, ℤ}
+use Rattle.std.specs.Prelude.{◌≡◌, ℕ, ◌<◌, List, [], Option, Some, None, map, length, slice_get, bytes_eq, ℤ}
 use Rattle.std.specs.List.{AllByRecursion, position_from}
 use Rattle.sg_circuit.specs.declared.elements.UdpUse.{UdpUse}
 use Rattle.sg_circuit.specs.Seen.{delays_at, udp_at}
 use Rattle.sg_delay.specs.declared.corners.Corner.{Corner}
 use Rattle.sg_delay.specs.declared.gates.GateDelays.{GateDelays}
-use Rattle.vl_tree.specs.Tree.{Named, Module, Source, a_module, a_primitive, Primitive}
+use Rattle.vl_tree.specs.Tree.{Named, Module, Source, a_primitive, Primitive}
 use Rattle.vl_tree.specs.Seen.{view_module, view_name}
 use Rattle.elab_model.specs.Definitions.{name_of}
 use Rattle.elab_model.specs.Delays.{delays_of}

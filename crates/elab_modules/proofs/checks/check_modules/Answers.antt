@@ -1,5 +1,5 @@
 -- One part more, or all.
-use Rattle.std.proofs.Common.{rules, ◌<◌, length, arith}
+use Rattle.std.proofs.Common.{◌<◌, length, arith}
 use Rattle.std.proofs.lemmas.Result.{err_from_is_err_and}
 use Rattle.elab_hierarchy.proofs.Whole.{refuses}
 use Rattle.elab_modules.proofs.Listing.{checked-first, checked-next, part-refused}

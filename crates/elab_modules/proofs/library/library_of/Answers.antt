@@ -1,5 +1,5 @@
 -- All stands ready, or a fault of what is reached is refused.
-use Rattle.std.proofs.Common.{rules, ◌≡◌, ◌∙◌, sym, ap, subst, [], length}
+use Rattle.std.proofs.Common.{sym, subst}
 use Rattle.std.proofs.lemmas.Result.{err_from_is_err_and}
 use Rattle.elab_hierarchy.proofs.Whole.{refuses}
 use Rattle.elab_modules.specs.Ready.{AreReady}

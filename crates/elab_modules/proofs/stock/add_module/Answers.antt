@@ -1,5 +1,5 @@
 -- One instance's module more, or a fault of it.
-use Rattle.std.proofs.Common.{rules, ◌≡◌, ◌∙◌, sym, ap, subst, ◌<◌, length, map, Some, arith}
+use Rattle.std.proofs.Common.{◌∙◌, sym, ap, subst, ◌<◌, length, map, Some}
 use Rattle.std.proofs.lemmas.Result.{err_from_is_err_and}
 use Rattle.vl_tree.specs.Seen.{view_part, view_module}
 use Rattle.elab_model.specs.Faults.{RefusesOneOf}

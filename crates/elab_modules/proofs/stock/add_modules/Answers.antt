@@ -1,8 +1,8 @@
 -- One instance more.
-use Rattle.std.proofs.Common.{rules, ◌<◌, length, take, arith}
+use Rattle.std.proofs.Common.{◌<◌, length, take, arith}
 use Rattle.std.proofs.lemmas.Result.{err_from_is_err_and}
 use Rattle.elab_hierarchy.proofs.Whole.{refuses}
-use Rattle.elab_modules.proofs.Meeting.{met-next, met-all, met-refused, places_of}
+use Rattle.elab_modules.proofs.Meeting.{met-next, met-refused, places_of}
 use Rattle.elab_modules.proofs.stock.add_modules.Goals as goal
 
 pub returns-in_err-add_module-clause-refused : goal.returns-in_err-add_module-clause-refused

@@ -1,5 +1,5 @@
 -- One member's primitive more.
-use Rattle.std.proofs.Common.{rules, ◌<◌, length, map, sym, ap, subst, arith}
+use Rattle.std.proofs.Common.{◌<◌, length, map, sym, ap, subst, arith}
 use Rattle.std.proofs.lemmas.Result.{err_from_is_err_and}
 use Rattle.elab_model.specs.Elaboration.{member_primitive}
 use Rattle.elab_laws.proofs.Lists.{In}
@@ -8,7 +8,7 @@ use Rattle.elab_hierarchy.proofs.Whole.{refuses}
 use Rattle.elab_modules.specs.Reaching.{IsUdpReady}
 use Rattle.elab_modules.proofs.Among.{in-mapped}
 use Rattle.elab_modules.proofs.Faulty.{name-told}
-use Rattle.elab_modules.proofs.Meeting.{stocked-first, stocked-next, stocked-all}
+use Rattle.elab_modules.proofs.Meeting.{stocked-first, stocked-next}
 use Rattle.elab_modules.proofs.stock.add_primitives.Goals as goal
 
 pub loop-member-init : goal.loop-member-init
