@@ -1,5 +1,5 @@
 -- The modules of this folder.
-pub mod Entries
+pub mod Replaced
 pub mod Stocking
 pub mod Meeting
 pub mod Listing

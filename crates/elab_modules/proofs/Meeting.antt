@@ -27,7 +27,7 @@ use Rattle.elab_modules.specs.declared.library.Ready.TheVariants as ready
 use Rattle.elab_modules.specs.Ready.{IsReady, IsPrepared, HasReady}
 use Rattle.elab_modules.specs.Reaching.{IsStock, KeepsModules, IsNameReady, IsUdpReady, Stocked, HasMet, RefusesNamed, RefusesModule, RefusesMet}
 use Rattle.elab_modules.proofs.Among.{in-mapped}
-use Rattle.elab_modules.proofs.Entries.{set-either}
+use Rattle.elab_modules.proofs.Replaced.{set-either}
 use Rattle.elab_modules.proofs.Stocking.{Parts, put-ready, put-keeps, module-put, no-module}
 
 -- ---- the primitive of a name

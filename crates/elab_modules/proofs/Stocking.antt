@@ -14,7 +14,7 @@ use Rattle.elab_modules.specs.declared.library.Ready as code_ready
 use Rattle.elab_modules.specs.declared.library.Ready.TheVariants as ready
 use Rattle.elab_modules.specs.Ready.{AreReady, IsReady, IsPrepared, IsUdp, HaveUdps, HasReady}
 use Rattle.elab_modules.specs.Reaching.{IsStock, KeepsModules}
-use Rattle.elab_modules.proofs.Entries.{set-there, set-either, set-keeps}
+use Rattle.elab_modules.proofs.Replaced.{set-there, set-either, set-keeps}
 
 abbrev pub Parts : Type 0
 Parts = List (Option code_ready.Ready)
