@@ -23,29 +23,13 @@ use Rattle.elab_modules.specs.declared.library.Ready.TheVariants as ready
 use Rattle.elab_modules.specs.Ready.{IsPrepared, HasDelays}
 use Rattle.elab_modules.specs.Reaching.{IsModuleAt}
 use Rattle.elab_modules.specs.Checking.{IsModule, IsChecked, AreChecked, RefusesOne, RefusesPart}
+use Rattle.elab_modules.proofs.Entries.{all-kept}
 use Rattle.elab_modules.proofs.Stocking.{Parts}
 
 -- ---- the table of delays grows at its end
 
-abbrev seen : GateDelays → List ℕ
-seen d = gate_delays_seen d
-
-same-delays : (table more : List GateDelays) (places : List ℕ) → AllByRecursion (λ i. i < length table) places → map (delays_at (table ++ more)) places ≡ map (delays_at table) places
-same-delays table more [] h = refl
-same-delays table more (i ∷ is) h =
-    let n : length (map seen table) ≡ length table = length-map table seen in
-    let lt : i < length (map seen table) = subst (λ n. i < n) (sym n) h.0 in
-    let one : delays_at (table ++ more) i ≡ delays_at table i =
-    ap (λ ds. slice_index_or ds i []) (map-append seen table more) ∙ get_or_append_left (map seen table) (map seen more) [] i lt in
-    rw one (ap (λ ds. delays_at table i ∷ ds) (same-delays table more is h.1))
-
 delays-stay : (corner : Corner) (tick : ℤ) (m : Module) (table more : List GateDelays) (places : List ℕ) → HasDelays corner tick m table places → HasDelays corner tick m (table ++ more) places
-delays-stay corner tick m table more places h =
-    let n : length (table ++ more) ≡ length table + length more = length-append table more in
-    record {
-      delays = same-delays table more places h.below ∙ h.delays;
-      below = all-weaker (λ i. i < length table) (λ i. i < length (table ++ more)) places (λ i lt. omega arith) h.below;
-    }
+delays-stay corner tick m table more places h = let k = all-kept table (table ++ more) places (more, refl) h.below in record { delays = k.0 ∙ h.delays; below = k.1 }
 
 checked-stays : (source : Source) (corner : Corner) (tick : ℤ) (table after more : List GateDelays) (places : Option (List ℕ)) (p : Prepared) → after ≡ table ++ more
     → IsChecked source corner tick table places p → IsChecked source corner tick after places p

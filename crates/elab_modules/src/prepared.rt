@@ -6,7 +6,8 @@ ghost use Rattle.elab_model.specs.NameFaults.{declaration_faults};
 ghost use Rattle.elab_modules.specs.Ready.{IsPrepared};
 
 use elab_model::ElabKind;
-use elab_tables::{Member, Table};
+use elab_names::port_list;
+use elab_tables::{Member, Table, members};
 use sg_text::Refused;
 use std::alloc::Global;
 use vl_tree::{Module, Name};
@@ -28,5 +29,13 @@ pub fn prepare<'a>(
     ensures prepared { IfOk result (λ p. IsPrepared p (view_module definition.now)) }
     ensures refused { IfErr result (RefusesOneOf (declaration_faults (view_module definition.now))) }
 {
-    Err(Refused::NoMemory)
+    let table = Table::of(alloc, definition)?;
+    let ports = port_list(alloc, definition)?;
+    let members = members(alloc, definition)?;
+    Ok(Prepared {
+        definition,
+        ports,
+        members,
+        table,
+    })
 }

@@ -1,5 +1,5 @@
 // The delays of gates.
-ghost use Rattle.std.specs.Prelude.{◌≡◌, ◌≤ℤ◌, [], true, false, map, IfOk, OnOk, IfErr, IfSome, IfNone, option_map};
+ghost use Rattle.std.specs.Prelude.{◌≡◌, ◌≤◌, ◌≤ℤ◌, [], true, false, map, IfOk, OnOk, IfErr, IfSome, IfNone, option_map};
 ghost use Rattle.std.specs.Option.{OnSome};
 ghost use Rattle.sg_circuit.specs.Seen.{gate_delays_seen};
 ghost use Rattle.vl_tree.specs.Seen.{view_delay, view_mtm};
@@ -26,6 +26,7 @@ pub fn gate_delays(
     delay: &Option<Delay>,
 ) -> Result<GateDelays, Refused<ElabKind>>
     requires { tick.power ≤ℤ scale.precision.power }
+    ensures few { IfOk result (λ d. d.count ≤ 2) }
     ensures delays { IfOk result (λ d. (m : Module) → m.settings.scale ≡ timescale scale → gate_delays_seen d ≡ delays_of corner tick.power m (option_map view_delay delay.now)) }
     ensures faultless { OnOk result ((m : Module) → m.settings.scale ≡ timescale scale → delay_faults corner tick.power m (option_map view_delay delay.now) ≡ []) }
     ensures refused { IfErr result (λ r. (m : Module) → m.settings.scale ≡ timescale scale → RefusesOneOf (delay_faults corner tick.power m (option_map view_delay delay.now)) r) }
@@ -53,6 +54,7 @@ fn delays_of_values(
     values: &[MinTypMax],
 ) -> Option<GateDelays>
     requires { tick.power ≤ℤ scale.precision.power }
+    ensures few { IfSome result (λ d. d.count ≤ 2) }
     ensures delays { IfSome result (λ d. gate_delays_seen d ≡ map (ticks_of corner tick.power (timescale scale)) (map view_mtm values.now)) }
     ensures faultless { OnSome result (are_refused (map (ticks_of corner tick.power (timescale scale)) (map view_mtm values.now)) ≡ false) }
     ensures refused { IfNone result (are_refused (map (ticks_of corner tick.power (timescale scale)) (map view_mtm values.now)) ≡ true) }
