@@ -59,3 +59,6 @@ pub in-mapped : {A B : Type 0} (f : A → B) (d : A) (xs : List A) (k : ℕ) →
 in-mapped f d [] k lt = absurd (omega arith)
 in-mapped f d (x ∷ xs) zero lt = inl refl
 in-mapped f d (x ∷ xs) (suc k) lt = inr (in-mapped f d xs k (omega arith))
+
+pub some-is : {A : Type 0} (o : Option A) (x y : A) → o ≡ Some x → o ≡ Some y → x ≡ y
+some-is o x y e f = cc

@@ -45,18 +45,9 @@ faults-inside corner tick m d i p r h =
 
 member-refused : (source : Source) (corner : Corner) (tick : ℤ) (m : Module) (x : Member) (p : Primitive) (r : Refused ElabKind) → member_primitive source x ≡ Some p
     → RefusesOneOf (primitive_faults p) r → RefusesOneOf (member_faults source corner tick m (variables m) x) r
-member-refused source corner tick m (assignment j) p r e h = absurd (none p e)
-  where
-    none : (q : Primitive) → ¬ (None ≡ Some q)
-    none q c = cc
-member-refused source corner tick m (supply n v) p r e h = absurd (none p e)
-  where
-    none : (q : Primitive) → ¬ (None ≡ Some q)
-    none q c = cc
-member-refused source corner tick m (gate g d i) p r e h = absurd (none p e)
-  where
-    none : (q : Primitive) → ¬ (None ≡ Some q)
-    none q c = cc
+member-refused source corner tick m (assignment j) p r e h = cc
+member-refused source corner tick m (supply n v) p r e h = cc
+member-refused source corner tick m (gate g d i) p r e h = cc
 member-refused source corner tick m (instance n d i) p r e h =
     subst (λ o. RefusesOneOf (instance_faults corner tick m (variables m) d i o) r) (sym (primitive-defined (definition_of source n.text) p e)) (faults-inside corner tick m d i p r h)
 

@@ -23,6 +23,7 @@ use Rattle.elab_modules.specs.declared.library.Ready.TheVariants as ready
 use Rattle.elab_modules.specs.Ready.{IsPrepared, HasDelays}
 use Rattle.elab_modules.specs.Reaching.{IsModuleAt}
 use Rattle.elab_modules.specs.Checking.{IsModule, IsChecked, AreChecked, RefusesOne, RefusesPart}
+use Rattle.elab_modules.proofs.Among.{some-is}
 use Rattle.elab_modules.proofs.Entries.{all-kept}
 use Rattle.elab_modules.proofs.Stocking.{Parts}
 
@@ -50,9 +51,6 @@ get-front (x ∷ xs) ys (suc i) lt = get-front xs ys i (omega arith)
 get-last : {A : Type 0} (xs : List A) (y : A) → slice_get (xs ++ y ∷ []) (length xs) ≡ Some y
 get-last [] y = refl
 get-last (x ∷ xs) y = get-last xs y
-
-some-is : {A : Type 0} (o : Option A) (x y : A) → o ≡ Some x → o ≡ Some y → x ≡ y
-some-is o x y e f = cc
 
 pub checked-first : (source : Source) (corner : Corner) (tick : ℤ) (parts : Parts) (table : List GateDelays) (delays : List (Vec ℕ)) → table ≡ [] → delays ≡ []
     → AreChecked source corner tick parts 0 table delays

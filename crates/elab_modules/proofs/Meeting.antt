@@ -26,14 +26,11 @@ use Rattle.elab_modules.specs.declared.library.Ready as code_ready
 use Rattle.elab_modules.specs.declared.library.Ready.TheVariants as ready
 use Rattle.elab_modules.specs.Ready.{IsReady, IsPrepared, HasReady}
 use Rattle.elab_modules.specs.Reaching.{IsStock, KeepsModules, IsNameReady, IsUdpReady, Stocked, HasMet, RefusesNamed, RefusesModule, RefusesMet}
-use Rattle.elab_modules.proofs.Among.{in-mapped}
+use Rattle.elab_modules.proofs.Among.{in-mapped, some-is}
 use Rattle.elab_modules.proofs.Replaced.{set-either}
 use Rattle.elab_modules.proofs.Stocking.{Parts, put-ready, put-keeps, module-put, no-module}
 
 -- ---- the primitive of a name
-
-some-is : {A : Type 0} (o : Option A) (x y : A) → o ≡ Some x → o ≡ Some y → x ≡ y
-some-is o x y e f = cc
 
 pub name-ready : (source : Source) (parts : Parts) (n : List ℕ) (place : ℕ) → place_of source n ≡ Some place → HasReady parts place → IsNameReady source parts n
 name-ready source parts n place e h i p f there = subst (HasReady parts) (some-is (place_of source n) place i e f) h

@@ -69,7 +69,7 @@ places-within source (p ∷ ps) (s ∷ ss) h = by (places-within source ps ss h.
     by rest zero d lt = slice_get_within source p.definition (a_module s.step.definition) h.0.definition
     by rest (suc k) d lt = rest k d (omega arith)
 
-module-same : (source : Source) (i : ℕ) (m n : Module) → StandsAt source i m → StandsAt source i n → m ≡ n
+pub module-same : (source : Source) (i : ℕ) (m n : Module) → StandsAt source i m → StandsAt source i n → m ≡ n
 module-same source i m n e f = cc
 
 -- the instances tell the top

@@ -6,9 +6,7 @@ use Rattle.std.proofs.lemmas.Int.{ints}
 use Rattle.elab_model.specs.Delays.{lesser, precision_of}
 use Rattle.elab_model.specs.Hierarchy.{Instance}
 use Rattle.elab_laws.proofs.Lists.{In}
-
-abbrev pub least_of : ℤ → List Instance → ℤ
-least_of p ss = fold (λ q s. lesser q (precision_of s)) p ss
+use Rattle.elab_hierarchy.proofs.Least.{least_of}
 
 le-then : (a b c : ℤ) → a ≤ℤ b → b ≤ℤ c → a ≤ℤ c
 le-then a b c h k = grind (arith, ints)

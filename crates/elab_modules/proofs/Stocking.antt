@@ -45,7 +45,7 @@ number_of None = 0
 number_of (Some (ready.Module p)) = 0
 number_of (Some (ready.Primitive k)) = k
 
-same-primitive : (source : Source) (i : ℕ) (p q : Primitive) → slice_get source i ≡ Some (a_primitive p) → slice_get source i ≡ Some (a_primitive q) → p ≡ q
+pub same-primitive : (source : Source) (i : ℕ) (p q : Primitive) → slice_get source i ≡ Some (a_primitive p) → slice_get source i ≡ Some (a_primitive q) → p ≡ q
 same-primitive source i p q e f = cc
 
 pub no-module : (source : Source) (i : ℕ) (m : Module) (p : Primitive) → StandsAt source i m → slice_get source i ≡ Some (a_primitive p) → ⊥

@@ -33,11 +33,11 @@ use Rattle.elab_modules.specs.Ready.{AreReady, IsPrepared, HasReady, MemberReady
 use Rattle.elab_modules.specs.Reached.{IsReadyAt, IsReached, IsLibrary, RefusesReached}
 use Rattle.elab_modules.specs.Reaching.{IsModuleAt, HasMet, RefusesMet}
 use Rattle.elab_modules.specs.Checking.{IsChecked, AreChecked, RefusesPart}
-use Rattle.elab_modules.proofs.Among.{in-among, among-in, from-kept}
+use Rattle.elab_modules.proofs.Among.{in-among, among-in, from-kept, some-is}
 use Rattle.elab_modules.proofs.Faulty.{refused-flat, all-refused, primitive-defined}
 use Rattle.elab_modules.proofs.Meeting.{places_of}
-use Rattle.elab_modules.proofs.Named.{AllMet, of-instance, all-named, place-of, one-place, one-top, placed-in}
-use Rattle.elab_modules.proofs.Stocking.{Parts, no-module}
+use Rattle.elab_modules.proofs.Named.{AllMet, of-instance, all-named, place-of, module-same, one-place, one-top, placed-in}
+use Rattle.elab_modules.proofs.Stocking.{Parts, no-module, same-primitive}
 
 -- ---- what is refused
 
@@ -73,9 +73,6 @@ record ReadyOf (parts : Parts) (i : ℕ) (m : Module) : Type 0 where
   pub prepared : Prepared
   pub there : IsModuleAt parts i prepared
   pub is : IsPrepared prepared m
-
-module-same : (source : Source) (i : ℕ) (m n : Module) → StandsAt source i m → StandsAt source i n → m ≡ n
-module-same source i m n e f = cc
 
 ready-of : (source : Source) (parts : Parts) (i : ℕ) (m : Module) → AreReady source parts → StandsAt source i m → HasReady parts i → ReadyOf parts i m
 ready-of source parts i m all at h = by h.0 h.1
@@ -144,9 +141,6 @@ no-faults source corner top ps library s h there =
 place-defined : (source : Source) (n : List ℕ) (p : Primitive) → definition_of source n ≡ Some (a_primitive p) → (i : ℕ) × (place_of source n ≡ Some i) × (slice_get source i ≡ Some (a_primitive p))
 place-defined source n p e = by (place_of source n) refl
   where
-    part-same : (o : Option Part) (a b : Part) → o ≡ Some a → o ≡ Some b → a ≡ b
-    part-same o a b f g = cc
-
     nothing : (o : Option Part) → o ≡ None → o ≡ Some (a_primitive p) → ⊥
     nothing o f g = cc
 
@@ -154,10 +148,7 @@ place-defined source n p e = by (place_of source n) refl
     by None f = absurd (nothing (definition_of source n) (position-none (λ d. bytes_eq n (name_of d).text) source 0 f) e)
     by (Some i) f =
         let r = place-first source n i f in
-        (i, f, r.there ∙ ap Some (part-same (definition_of source n) r.element (a_primitive p) r.first e))
-
-primitive-same : (source : Source) (i : ℕ) (p q : Primitive) → slice_get source i ≡ Some (a_primitive p) → slice_get source i ≡ Some (a_primitive q) → p ≡ q
-primitive-same source i p q e f = cc
+        (i, f, r.there ∙ ap Some (some-is (definition_of source n) r.element (a_primitive p) r.first e))
 
 -- a primitive that stands ready has no faults
 faultless-at : (source : Source) (parts : Parts) (i : ℕ) (p : Primitive) → AreReady source parts → slice_get source i ≡ Some (a_primitive p) → HasReady parts i → IsFaultless p
@@ -165,7 +156,7 @@ faultless-at source parts i p all at h = by h.0 h.1
   where
     by : (r : code_ready.Ready) → slice_get parts i ≡ Some (Some r) → IsFaultless p
     by (ready.Module q) e = let r = all.1 i (Some (ready.Module q)) e in absurd (no-module source i r.0 p r.1 at)
-    by (ready.Primitive k) e = let r = all.1 i (Some (ready.Primitive k)) e in subst IsFaultless (primitive-same source i r.0 p r.1 at) r.2
+    by (ready.Primitive k) e = let r = all.1 i (Some (ready.Primitive k)) e in subst IsFaultless (same-primitive source i r.0 p r.1 at) r.2
 
 named-faultless : (source : Source) (parts : Parts) (x : Member) (p : Primitive) → AreReady source parts → member_primitive source x ≡ Some p → MemberReady source parts x → IsFaultless p
 named-faultless source parts (assignment j) p all e h = cc

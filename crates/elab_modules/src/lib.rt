@@ -8,6 +8,8 @@ mod delays;
 mod gates;
 mod instances;
 mod library;
+#[cfg(test)]
+mod library_tests;
 mod members;
 mod ports;
 mod prepared;

@@ -38,8 +38,8 @@ pub struct Library<'a> {
     pub delays: Vec<Vec<u32>>,
 }
 
-/// Makes ready what a top reaches, whose instances these are, none too deep, and whose tick this is. Refuses one of the faults of a module or of a primitive's table. Takes memory in proportion to the
-/// modules and primitives.
+/// Makes ready what a top reaches, whose instances these are and whose tick this is; there is no fault in its hierarchy. Refuses one of the faults of a module or of a
+/// primitive's table. Takes memory in proportion to the definitions and to what is reached of them.
 pub fn library_of<'a>(
     alloc: Global,
     corner: Corner,
