@@ -24,7 +24,7 @@ use Rattle.elab_laws.proofs.Terminals.{in-member}
 use Rattle.elab_laws.proofs.Outside.{child-of, child-at, outside-there}
 
 -- what stands at a place is among the numbered
-place-there : {A : Type 0} (a : ℕ) (xs : List A) (p : ℕ) (x : A) → slice_get xs p ≡ Some x → In (a + p, x) (enumerate_from a xs)
+pub place-there : {A : Type 0} (a : ℕ) (xs : List A) (p : ℕ) (x : A) → slice_get xs p ≡ Some x → In (a + p, x) (enumerate_from a xs)
 place-there a [] p x e = cc
 place-there a (y ∷ xs) zero x e = let z : a + 0 ≡ a = omega arith in let g : y ≡ x = cc in inl (λ i. (z i, sym g i))
 place-there a (y ∷ xs) (suc p) x e = let z : a + suc p ≡ (a + 1) + p = omega arith in inr (subst (λ k. In (k, x) (enumerate_from (a + 1) xs)) (sym z) (place-there (a + 1) xs p x e))
@@ -61,7 +61,7 @@ name-there n (c ∷ cs) e h = by (bytes_eq n c.port.text) refl c.value refl h (�
     by true t (Some y) v h rest = let is : n ≡ c.port.text = (bytes_eq-Decides n c.port.text).0 t in let g : Some y ≡ Some e = sym v ∙ h in let f : y ≡ e = cc in inl (λ i. (is i, sym f i))
     by false t x v h rest = skip (with_port c.port.text x) (rest h)
 
-value-there : (x : Connections) (ps : List Named) (n : List ℕ) (e : Expression) → connection_at x ps n ≡ Some e → In (n, e) (port_values x ps)
+pub value-there : (x : Connections) (ps : List Named) (n : List ℕ) (e : Expression) → connection_at x ps n ≡ Some e → In (n, e) (port_values x ps)
 value-there (by_order es) ps n e h = order-there n ps es e h
 value-there (by_name cs) ps n e h = name-there n cs e h
 

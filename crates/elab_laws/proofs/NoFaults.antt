@@ -68,10 +68,10 @@ abbrev pub NamesOnce : Connections → Type 0
 NamesOnce (by_order es) = Unit {0}
 NamesOnce (by_name cs) = places_again [] (map (λ c. c.port) cs) ≡ []
 
-declared-once : (m : Module) → declaration_faults m ≡ [] → PortsOnce m
+pub declared-once : (m : Module) → declaration_faults m ≡ [] → PortsOnce m
 declared-once m h = map-empty (fault DuplicateName) (places_again [] (port_list m)) (front (twice_in_list m) _ (front (name_faults m) _ h))
 
-connected-once : (vs : List Variable) (m : Module) (p : Place) (x : Connections) → connection_faults vs m p x ≡ [] → NamesOnce x
+pub connected-once : (vs : List Variable) (m : Module) (p : Place) (x : Connections) → connection_faults vs m p x ≡ [] → NamesOnce x
 connected-once vs m p (by_order es) h = tt
 connected-once vs m p (by_name cs) h = map-empty (fault DuplicateName) (places_again [] (map (λ c. c.port) cs)) (front (duplicates (map (λ c. c.port) cs)) _ h)
 
@@ -116,7 +116,7 @@ children_at-once : (source : Source) (n : ℕ) (s : Instance) → AllByRecursion
 children_at-once source zero s h = tt
 children_at-once source (suc d) s h = children-once source d (s.step ∷ s.above) (suc s.step.number) (children_in source s.step.definition) h
 
-once-by : (c : Step) (x : Connections) → c.connections ≡ x → NamesOnce x → PortsOnce c.definition → AreOnce c
+pub once-by : (c : Step) (x : Connections) → c.connections ≡ x → NamesOnce x → PortsOnce c.definition → AreOnce c
 once-by c (by_order es) e n p = once-by_order c es e p
 once-by c (by_name cs) e n p = once-by_name c cs e n
 

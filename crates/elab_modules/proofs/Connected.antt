@@ -1,5 +1,5 @@
 -- What is wrong with what is connected to ports.
-use Rattle.std.specs.Prelude.{◌≡◌, ℕ, ◌<◌, ◌≤◌, List, [], ◌∷◌, ◌++◌, Bool, true, false, not, nat_lt, Option, Some, None, Result, Ok, Err, map, flat_map, filter_map, option_map, length, zip, refl, if◌then◌else◌}
+use Rattle.std.specs.Prelude.{◌≡◌, ℕ, ◌<◌, ◌≤◌, List, [], ◌∷◌, ◌++◌, Bool, true, false, not, nat_lt, Option, Some, None, Result, map, flat_map, filter_map, option_map, length, zip, refl, if◌then◌else◌}
 use Rattle.std.specs.List.{cons_option}
 use Rattle.std.proofs.Common.{sym, ◌∙◌, ap, arith, subst}
 use Rattle.std.proofs.lemmas.List.{length-map}
@@ -14,19 +14,19 @@ use Rattle.vl_tree.specs.declared.expressions.Expression as code
 use Rattle.vl_tree.specs.declared.names.Name as code_name
 use Rattle.vl_tree.specs.declared.items.NamedConnection as code_connection
 use Rattle.vl_tree.specs.Seen.{view_expression, view_name, view_named_connection}
-use Rattle.vl_tree.specs.Tree.{Named, Expression, Delay, NamedConnection, Connections, by_order, by_name, Instance, Module}
+use Rattle.vl_tree.specs.Tree.{Named, Expression, Delay, NamedConnection, Instance, Module}
 use Rattle.elab_model.specs.declared.kinds.ElabKind.{ElabKind}
 use Rattle.elab_model.specs.declared.kinds.ElabKind.TheVariants.{UnknownName, BadTerminal, BadDelay}
 use Rattle.elab_model.specs.Faults.{Fault, fault_if, RefusesOneOf, duplicates}
 use Rattle.elab_model.specs.Homes.{is_output}
 use Rattle.elab_model.specs.Members.{connection_values}
-use Rattle.elab_model.specs.ModuleFaults.{port_faults, connection_faults, delay_on_module, module_instance_faults}
+use Rattle.elab_model.specs.ModuleFaults.{port_faults, connection_faults, delay_on_module}
 use Rattle.elab_model.specs.Names.{Variable, variable, is_among}
 use Rattle.elab_model.specs.Ports.{port_list, port_names}
 use Rattle.elab_model.specs.TerminalFaults.{expression_faults, width_faults, constant_faults, is_missing}
 use Rattle.elab_names.proofs.Refusals.{refused-left, refused-right}
-use Rattle.elab_modules.specs.Telling.{Tells, value_faults}
-use Rattle.elab_modules.specs.Connecting.{connected_faults, ordered_faults, named_faults, connections_faults, module_told}
+use Rattle.elab_modules.specs.Telling.{Tells, joined_value_faults}
+use Rattle.elab_modules.specs.Connecting.{connected_faults, ordered_faults, named_faults, connections_faults, instance_of_module_faults}
 use Rattle.elab_modules.proofs.InTurn.{fault-told, no-fault}
 use Rattle.elab_modules.proofs.SameFaults.{Same, same-as, same-then, same-beside, same-each, same-front, same-parted, tells-same}
 
@@ -48,14 +48,14 @@ pub unknown-port : (vs : List Variable) (m : Module) (n : Named) (o : Option Exp
 unknown-port vs m n o h =
     let v = variable m n.text in
     let f = fault_if (not (is_among n.text (port_names m))) UnknownName n.place in
-    refused-left f (value_faults vs (width_of v.range) (is_output v.port) o) (refused.Fault UnknownName n.place) (fault-told (not (is_among n.text (port_names m))) UnknownName n.place (ap not h))
+    refused-left f (joined_value_faults vs (width_of v.range) (is_output v.port) o) (refused.Fault UnknownName n.place) (fault-told (not (is_among n.text (port_names m))) UnknownName n.place (ap not h))
 
 pub known-port : {A : Type 0} (vs : List Variable) (m : Module) (n : Named) (o : Option Expression) (width : ℕ) (out : Bool) (result : Result A (Refused ElabKind)) → is_among n.text (port_names m) ≡ true
-    → width ≡ width_of (variable m n.text).range → out ≡ is_output (variable m n.text).port → Tells (value_faults vs width out o) result → Tells (connected_faults vs m n o) result
+    → width ≡ width_of (variable m n.text).range → out ≡ is_output (variable m n.text).port → Tells (joined_value_faults vs width out o) result → Tells (connected_faults vs m n o) result
 known-port vs m n o width out result h w i t =
-    let all : value_faults vs width out o ≡ connected_faults vs m n o =
-    ap (λ k. value_faults vs k out o) w ∙ ap (λ b. value_faults vs (width_of (variable m n.text).range) b o) i
-    ∙ ap (λ fs. fs ++ value_faults vs (width_of (variable m n.text).range) (is_output (variable m n.text).port) o) (sym (no-fault (not (is_among n.text (port_names m))) UnknownName n.place (ap not h))) in
+    let all : joined_value_faults vs width out o ≡ connected_faults vs m n o =
+    ap (λ k. joined_value_faults vs k out o) w ∙ ap (λ b. joined_value_faults vs (width_of (variable m n.text).range) b o) i
+    ∙ ap (λ fs. fs ++ joined_value_faults vs (width_of (variable m n.text).range) (is_output (variable m n.text).port) o) (sym (no-fault (not (is_among n.text (port_names m))) UnknownName n.place (ap not h))) in
     subst (λ fs. Tells fs result) all t
 
 -- ---- all of them
@@ -147,7 +147,7 @@ named-tells vs m cs result h =
 
 -- ---- an instance of a module
 
-pub no-name : (vs : List Variable) (m : Module) (d : Option Delay) (i : Instance) → is_missing i.name ≡ true → RefusesOneOf (module_told vs m d i) (refused.Fault BadTerminal i.place)
+pub no-name : (vs : List Variable) (m : Module) (d : Option Delay) (i : Instance) → is_missing i.name ≡ true → RefusesOneOf (instance_of_module_faults vs m d i) (refused.Fault BadTerminal i.place)
 no-name vs m d i h =
     let f = fault_if (is_missing i.name) BadTerminal i.place in
     let rest = delay_on_module d ++ connection_faults vs m i.place i.connections in
@@ -155,15 +155,15 @@ no-name vs m d i h =
     (refused-left f rest (refused.Fault BadTerminal i.place) (fault-told (is_missing i.name) BadTerminal i.place h))
 
 pub module-tells : {A : Type 0} (vs : List Variable) (m : Module) (d : Option Delay) (i : Instance) (result : Result A (Refused ElabKind)) → is_missing i.name ≡ false → d ≡ None
-    → Tells (connections_faults vs m i.place i.connections) result → Tells (module_told vs m d i) result
+    → Tells (connections_faults vs m i.place i.connections) result → Tells (instance_of_module_faults vs m d i) result
 module-tells vs m d i result named none h =
     let e = flat_map (expression_faults vs) (connection_values i.connections) in
     let k = connection_faults vs m i.place i.connections in
-    let all : connections_faults vs m i.place i.connections ≡ module_told vs m d i =
+    let all : connections_faults vs m i.place i.connections ≡ instance_of_module_faults vs m d i =
     ap (λ o. e ++ (delay_on_module o ++ k)) (sym none) ∙ ap (λ fs. e ++ (fs ++ (delay_on_module d ++ k))) (sym (no-fault (is_missing i.name) BadTerminal i.place named)) in
     subst (λ fs. Tells fs result) all h
 
-pub delayed : (vs : List Variable) (m : Module) (o : Option Delay) (d : Delay) (i : Instance) → o ≡ Some d → RefusesOneOf (module_told vs m o i) (refused.Fault BadDelay d.place)
+pub delayed : (vs : List Variable) (m : Module) (o : Option Delay) (d : Delay) (i : Instance) → o ≡ Some d → RefusesOneOf (instance_of_module_faults vs m o i) (refused.Fault BadDelay d.place)
 delayed vs m o d i e =
     let f = fault_if (is_missing i.name) BadTerminal i.place in
     let k = connection_faults vs m i.place i.connections in

@@ -1,5 +1,5 @@
 -- The table of delays as it grows.
-use Rattle.std.specs.Prelude.{◌≡◌, ℕ, zero, suc, ◌+◌, ◌<◌, ◌≤◌, All, List, [], ◌∷◌, ◌++◌, flat_map, length, map, take, slice_index_or, refl, ℤ}
+use Rattle.std.specs.Prelude.{◌≡◌, ℕ, ◌+◌, ◌<◌, ◌≤◌, List, [], ◌∷◌, ◌++◌, flat_map, length, map, take, slice_index_or, refl, ℤ}
 use Rattle.std.specs.List.{AllByRecursion}
 use Rattle.std.proofs.Common.{sym, ◌∙◌, ap, arith, subst, append_assoc, length-append}
 use Rattle.std.proofs.lemmas.List.{append-nil, map-append, get_or_append_left, length-map, take_more, take_all}
@@ -9,7 +9,7 @@ use Rattle.sg_delay.specs.declared.corners.Corner.{Corner}
 use Rattle.sg_delay.specs.declared.gates.GateDelays.{GateDelays}
 use Rattle.vl_tree.specs.Tree.{Module}
 use Rattle.elab_model.specs.Members.{Member, members}
-use Rattle.elab_laws.proofs.Lists.{all-append, all-weaker}
+use Rattle.elab_laws.proofs.Lists.{all-append}
 use Rattle.elab_tables.specs.Seen.{view_member}
 use Rattle.elab_tables.specs.declared.member_list.Member as code_member
 use Rattle.elab_modules.specs.declared.prepared.Prepared.{Prepared}

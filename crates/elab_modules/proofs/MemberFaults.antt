@@ -1,27 +1,27 @@
 -- What is wrong with a member but its delay.
-use Rattle.std.specs.Prelude.{◌≡◌, ℕ, suc, ◌+◌, ◌<◌, List, [], ◌∷◌, ◌++◌, Bool, true, false, not, nat_lt, Option, Some, None, Result, Ok, Err, MatchResult, find, flat_map, length, slice_get, bytes_eq, refl, ℤ}
+use Rattle.std.specs.Prelude.{◌≡◌, ℕ, ◌<◌, List, [], ◌∷◌, ◌++◌, not, nat_lt, Option, Some, None, Result, Ok, Err, MatchResult, flat_map, length, slice_get, bytes_eq, refl, ℤ}
 use Rattle.std.specs.List.{position_from}
 use Rattle.std.proofs.Common.{sym, ◌∙◌, ap, arith, subst, append_assoc}
 use Rattle.std.proofs.lemmas.List.{append-nil}
 use Rattle.sg_delay.specs.declared.corners.Corner.{Corner}
 use Rattle.sg_logic.specs.declared.gates.GateKind.{GateKind}
-use Rattle.sg_text.specs.declared.places.Place.{Place}
 use Rattle.sg_text.specs.declared.refusals.Refused.{Refused}
 use Rattle.sg_text.specs.declared.refusals.Refused.TheVariants as refused
-use Rattle.vl_tree.specs.Tree.{Named, Delay, Expression, Connections, by_order, by_name, GateInstance, Instance as instance_text, Join, Module, Part, a_module, a_primitive, Primitive, Source}
+use Rattle.vl_tree.specs.Tree.{Named, Delay, Connections, by_order, by_name, GateInstance, Instance as instance_text, Join, Module, a_module, a_primitive, Primitive, Source}
 use Rattle.elab_model.specs.declared.kinds.ElabKind.{ElabKind}
-use Rattle.elab_model.specs.declared.kinds.ElabKind.TheVariants.{UnknownModule, BadTerminal, BadDelay}
+use Rattle.elab_model.specs.declared.kinds.ElabKind.TheVariants.{UnknownModule, BadTerminal}
 use Rattle.elab_model.specs.Definitions.{name_of, definition_of}
 use Rattle.elab_model.specs.Elements.{output_count}
 use Rattle.elab_model.specs.Faults.{Fault, fault, fault_if, RefusesOneOf}
-use Rattle.elab_model.specs.Members.{Member, assignment, supply, gate, instance, connection_values}
-use Rattle.elab_model.specs.ModuleFaults.{are_terminals, delay_on_module, connection_faults, module_instance_faults, instance_faults, all_member_faults}
+use Rattle.elab_model.specs.Members.{assignment, gate, instance, connection_values}
+use Rattle.elab_model.specs.ModuleFaults.{are_terminals, delay_on_module, connection_faults, instance_faults, all_member_faults}
 use Rattle.elab_model.specs.Names.{Variable, variables}
 use Rattle.elab_model.specs.PrimitiveFaults.{primitive_faults}
 use Rattle.elab_model.specs.TerminalFaults.{expression_faults, terminal_faults, delay_faults, is_missing}
 use Rattle.elab_laws.proofs.NoFaults.{front, back}
+use Rattle.elab_hierarchy.proofs.Found.{place-first, position-none}
 use Rattle.elab_names.proofs.Refusals.{refused-left, refused-right}
-use Rattle.elab_modules.specs.Connecting.{gate_told, fits_ports, primitive_told, module_told}
+use Rattle.elab_modules.specs.Connecting.{gate_faults, fits_ports, primitive_terminal_faults, instance_of_module_faults}
 use Rattle.elab_modules.specs.Telling.{Tells, TellsButDelay, sides_faults}
 
 -- ---- assignments and gates
@@ -39,54 +39,23 @@ joined-three : (a b c d : List Fault) → a ++ (b ++ (c ++ d)) ≡ (a ++ (b ++ c
 joined-three a b c d = ap (λ fs. a ++ fs) (sym (append_assoc b c d)) ∙ sym (append_assoc a (b ++ c) d)
 
 pub gate-tell : {A : Type 0} (source : Source) (m : Module) (vs : List Variable) (g : GateKind) (d : Option Delay) (i : GateInstance) (result : Result A (Refused ElabKind)) → vs ≡ variables m
-    → Tells (gate_told vs g i) result → TellsButDelay source m (gate g d i) result
+    → Tells (gate_faults vs g i) result → TellsButDelay source m (gate g d i) result
 gate-tell source m vs g d i result e h corner tick =
     let ws = variables m in
     let own = flat_map (expression_faults ws) i.terminals in
     let few = fault_if (nat_lt (length i.terminals) 2) BadTerminal i.place in
     let each = terminal_faults ws (output_count g (length i.terminals)) i.terminals in
     let delays = delay_faults corner tick m d in
-    but-last (gate_told ws g i) delays (own ++ (few ++ (each ++ delays))) result (joined-three own few each delays) (subst (λ ws. Tells (gate_told ws g i) result) e h)
+    but-last (gate_faults ws g i) delays (own ++ (few ++ (each ++ delays))) result (joined-three own few each delays) (subst (λ ws. Tells (gate_faults ws g i) result) e h)
 
 -- ---- the definition of a name
-
-record FoundFrom {A : Type 0} (test : A → Bool) (k : ℕ) (xs : List A) (i : ℕ) : Type 0 where
-  shift : ℕ
-  is : i ≡ k + shift
-  found : find test xs ≡ slice_get xs shift
-  below : shift < length xs
-
-found-from : {A : Type 0} (test : A → Bool) (k : ℕ) (xs : List A) (i : ℕ) → position_from test k xs ≡ Some i → FoundFrom test k xs i
-found-from test k [] i e = cc
-found-from {A} test k (x ∷ xs) i e = by (test x) refl (λ h. found-from test (k + 1) xs i h)
-  where
-    by : (b : Bool) → test x ≡ b → (position_from test (k + 1) xs ≡ Some i → FoundFrom test (k + 1) xs i) → FoundFrom test k (x ∷ xs) i
-    by true t next =
-        let g : Some k ≡ Some i = rw t at e in
-        let f : k ≡ i = cc in
-        record { shift = 0; is = sym f ∙ (omega arith); found = rw t refl; below = omega arith }
-    by false t next =
-        let g : position_from test (k + 1) xs ≡ Some i = rw t at e in
-        let r = next g in
-        record { shift = suc r.shift; is = r.is ∙ (omega arith); found = rw t r.found; below = (let b = r.below in omega arith) }
-
-none-from : {A : Type 0} (test : A → Bool) (k : ℕ) (xs : List A) → position_from test k xs ≡ None → find test xs ≡ None
-none-from test k [] e = refl
-none-from test k (x ∷ xs) e = by (test x) refl (λ h. none-from test (k + 1) xs h)
-  where
-    by : (b : Bool) → test x ≡ b → (position_from test (k + 1) xs ≡ None → find test xs ≡ None) → find test (x ∷ xs) ≡ None
-    by true t next = let g : Some k ≡ None = rw t at e in cc
-    by false t next = let g : position_from test (k + 1) xs ≡ None = rw t at e in rw t (next g)
 
 pub record IsDefined (source : Source) (n : List ℕ) (i : ℕ) : Type 0 where
   pub below : i < length source
   pub found : definition_of source n ≡ slice_get source i
 
 pub defined-at : (source : Source) (n : List ℕ) (i : ℕ) → Some i ≡ position_from (λ d. bytes_eq n (name_of d).text) 0 source → IsDefined source n i
-defined-at source n i e =
-    let r = found-from (λ d. bytes_eq n (name_of d).text) 0 source i (sym e) in
-    let s : r.shift ≡ i = sym (r.is ∙ (omega arith)) in
-    record { below = subst (λ j. j < length source) s r.below; found = r.found ∙ ap (slice_get source) s }
+defined-at source n i e = let r = place-first source n i (sym e) in record { below = r.below; found = r.first ∙ sym r.there }
 
 -- ---- instances
 
@@ -96,7 +65,7 @@ own_values m i = flat_map (expression_faults (variables m)) (connection_values i
 pub unknown-refused : (source : Source) (corner : Corner) (tick : ℤ) (m : Module) (n : Named) (d : Option Delay) (i : instance_text)
     → None ≡ position_from (λ d. bytes_eq n.text (name_of d).text) 0 source → RefusesOneOf (all_member_faults source corner tick m (instance n d i)) (refused.Fault UnknownModule i.place)
 unknown-refused source corner tick m n d i e =
-    let none : definition_of source n.text ≡ None = none-from (λ d. bytes_eq n.text (name_of d).text) 0 source (sym e) in
+    let none : definition_of source n.text ≡ None = position-none (λ d. bytes_eq n.text (name_of d).text) source 0 (sym e) in
     let all : own_values m i ++ (fault UnknownModule i.place ∷ []) ≡ all_member_faults source corner tick m (instance n d i) =
     ap (λ o. own_values m i ++ instance_faults corner tick m (variables m) d i o) (sym none) in
     subst (λ fs. RefusesOneOf fs (refused.Fault UnknownModule i.place)) all
@@ -106,8 +75,8 @@ no-delay : (d : Option Delay) → delay_on_module d ≡ [] → d ≡ None
 no-delay None h = refl
 no-delay (Some d) h = cc
 
-module-tell : {A : Type 0} (corner : Corner) (tick : ℤ) (m k : Module) (d : Option Delay) (i : instance_text) (result : Result A (Refused ElabKind)) → Tells (module_told (variables m) k d i) result
-    → MatchResult result (λ _. module_told (variables m) k d i ≡ delay_faults corner tick m d) (RefusesOneOf (module_told (variables m) k d i))
+module-tell : {A : Type 0} (corner : Corner) (tick : ℤ) (m k : Module) (d : Option Delay) (i : instance_text) (result : Result A (Refused ElabKind)) → Tells (instance_of_module_faults (variables m) k d i) result
+    → MatchResult result (λ _. instance_of_module_faults (variables m) k d i ≡ delay_faults corner tick m d) (RefusesOneOf (instance_of_module_faults (variables m) k d i))
 module-tell corner tick m k d i (Ok x) h =
     let named = fault_if (is_missing i.name) BadTerminal i.place in
     let rest = connection_faults (variables m) k i.place i.connections in
@@ -116,18 +85,18 @@ module-tell corner tick m k d i (Ok x) h =
 module-tell corner tick m k d i (Err r) h = h
 
 pub module-tells : {A : Type 0} (source : Source) (m k : Module) (vs : List Variable) (n : Named) (d : Option Delay) (i : instance_text) (result : Result A (Refused ElabKind))
-    → definition_of source n.text ≡ Some (a_module k) → vs ≡ variables m → Tells (module_told vs k d i) result → TellsButDelay source m (instance n d i) result
+    → definition_of source n.text ≡ Some (a_module k) → vs ≡ variables m → Tells (instance_of_module_faults vs k d i) result → TellsButDelay source m (instance n d i) result
 module-tells source m k vs n d i result f e h corner tick =
-    let all : module_told (variables m) k d i ≡ all_member_faults source corner tick m (instance n d i) = ap (λ o. own_values m i ++ instance_faults corner tick m (variables m) d i o) (sym f) in
+    let all : instance_of_module_faults (variables m) k d i ≡ all_member_faults source corner tick m (instance n d i) = ap (λ o. own_values m i ++ instance_faults corner tick m (variables m) d i o) (sym f) in
     subst (λ fs. MatchResult result (λ _. fs ≡ delay_faults corner tick m d) (RefusesOneOf fs)) all
-    (module-tell corner tick m k d i result (subst (λ ws. Tells (module_told ws k d i) result) e h))
+    (module-tell corner tick m k d i result (subst (λ ws. Tells (instance_of_module_faults ws k d i) result) e h))
 
 fits-are : (p : Primitive) (x : Connections) → fits_ports (length p.ports) x ≡ are_terminals p x
 fits-are p (by_order es) = refl
 fits-are p (by_name cs) = refl
 
 pub primitive-tells : {A : Type 0} (source : Source) (m : Module) (p : Primitive) (vs : List Variable) (n : Named) (d : Option Delay) (i : instance_text) (count : ℕ) (result : Result A (Refused ElabKind))
-    → definition_of source n.text ≡ Some (a_primitive p) → primitive_faults p ≡ [] → vs ≡ variables m → count ≡ length p.ports → Tells (primitive_told vs count i) result
+    → definition_of source n.text ≡ Some (a_primitive p) → primitive_faults p ≡ [] → vs ≡ variables m → count ≡ length p.ports → Tells (primitive_terminal_faults vs count i) result
     → TellsButDelay source m (instance n d i) result
 primitive-tells source m p vs n d i count result f none e c h corner tick =
     let ws = variables m in
@@ -135,8 +104,8 @@ primitive-tells source m p vs n d i count result f none e c h corner tick =
     let fits = fault_if (not (are_terminals p i.connections)) BadTerminal i.place in
     let each = terminal_faults ws 1 (connection_values i.connections) in
     let delays = delay_faults corner tick m d in
-    let told : primitive_told vs count i ≡ own ++ (fits ++ each) =
-    ap (λ ws. primitive_told ws count i) e ∙ ap (λ k. primitive_told ws k i) c ∙ ap (λ b. own ++ (fault_if (not b) BadTerminal i.place ++ each)) (fits-are p i.connections) in
+    let told : primitive_terminal_faults vs count i ≡ own ++ (fits ++ each) =
+    ap (λ ws. primitive_terminal_faults ws count i) e ∙ ap (λ k. primitive_terminal_faults ws k i) c ∙ ap (λ b. own ++ (fault_if (not b) BadTerminal i.place ++ each)) (fits-are p i.connections) in
     let all : all_member_faults source corner tick m (instance n d i) ≡ (own ++ (fits ++ each)) ++ delays =
     ap (λ o. own ++ instance_faults corner tick m ws d i o) f ∙ ap (λ fs. own ++ (fits ++ (each ++ (delays ++ fs)))) none ∙ ap (λ fs. own ++ (fits ++ (each ++ fs))) (append-nil delays)
     ∙ joined-three own fits each delays in

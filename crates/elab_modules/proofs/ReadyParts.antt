@@ -1,11 +1,10 @@
 -- What is ready of the definition that an instance names.
-use Rattle.std.specs.Prelude.{◌≡◌, ℕ, zero, suc, ◌<◌, List, [], ◌∷◌, Option, Some, None, length, map, slice_get, slice_index_or, bytes_eq, refl}
+use Rattle.std.specs.Prelude.{◌≡◌, ℕ, zero, suc, ◌<◌, List, [], ◌∷◌, Option, Some, length, map, slice_get, slice_index_or, bytes_eq}
 use Rattle.std.specs.List.{AllByRecursion, position_from}
 use Rattle.std.proofs.Common.{sym, ◌∙◌, ap, arith, subst}
 use Rattle.vl_tree.specs.Tree.{Named, Module, Primitive, Source, a_module, a_primitive}
 use Rattle.elab_model.specs.Definitions.{name_of, definition_of}
 use Rattle.elab_model.specs.PrimitiveFaults.{primitive_faults}
-use Rattle.elab_hierarchy.specs.Tops.{StandsAt}
 use Rattle.elab_modules.specs.Connecting.{prepared_in}
 use Rattle.elab_modules.specs.Ready.{AreReady, IsReady, IsPrepared, NamesReady}
 use Rattle.elab_modules.specs.declared.library.Ready as code_ready

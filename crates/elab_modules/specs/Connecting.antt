@@ -15,15 +15,15 @@ use Rattle.elab_model.specs.Names.{Variable, variable, is_among}
 use Rattle.elab_model.specs.Ports.{port_names}
 use Rattle.elab_model.specs.TerminalFaults.{expression_faults, terminal_faults, is_missing}
 use Rattle.elab_tables.specs.declared.tables.Row.{Row}
-use Rattle.elab_modules.specs.Telling.{value_faults}
+use Rattle.elab_modules.specs.Telling.{joined_value_faults}
 use Rattle.elab_modules.specs.declared.library.Ready as code_ready
 use Rattle.elab_modules.specs.declared.library.Ready.TheVariants as ready
 use Rattle.elab_modules.specs.declared.prepared.Prepared.{Prepared}
 
 -- ---- gates
 
-abbrev pub gate_told : List Variable → GateKind → GateInstance → List Fault
-gate_told vs g i =
+abbrev pub gate_faults : List Variable → GateKind → GateInstance → List Fault
+gate_faults vs g i =
     flat_map (expression_faults vs) i.terminals
     ++ (fault_if (nat_lt (length i.terminals) 2) BadTerminal i.place ++ terminal_faults vs (output_count g (length i.terminals)) i.terminals)
 
@@ -38,16 +38,16 @@ fits_ports count (by_order es) = are_given count es
 fits_ports count (by_name cs) = false
 
 -- an output, and inputs
-abbrev pub values_told : List Variable → List (Option Expression) → List Fault
-values_told vs [] = []
-values_told vs (o ∷ is) = value_faults vs 1 true o ++ flat_map (value_faults vs 1 false) is
+abbrev pub given_faults : List Variable → List (Option Expression) → List Fault
+given_faults vs [] = []
+given_faults vs (o ∷ is) = joined_value_faults vs 1 true o ++ flat_map (joined_value_faults vs 1 false) is
 
-abbrev pub terminals_told : List Variable → ℕ → Place → List (Option Expression) → List Fault
-terminals_told vs count p es =
+abbrev pub terminal_list_faults : List Variable → ℕ → Place → List (Option Expression) → List Fault
+terminal_list_faults vs count p es =
     flat_map (expression_faults vs) (filter_map (λ e. e) es) ++ (fault_if (not (are_given count es)) BadTerminal p ++ terminal_faults vs 1 (filter_map (λ e. e) es))
 
-abbrev pub primitive_told : List Variable → ℕ → Instance → List Fault
-primitive_told vs count i =
+abbrev pub primitive_terminal_faults : List Variable → ℕ → Instance → List Fault
+primitive_terminal_faults vs count i =
     flat_map (expression_faults vs) (connection_values i.connections)
     ++ (fault_if (not (fits_ports count i.connections)) BadTerminal i.place ++ terminal_faults vs 1 (connection_values i.connections))
 
@@ -61,7 +61,7 @@ IsPortRow m n (Some r) = (is_among n (port_names m) ≡ true) × ((r.range ≡ (
 abbrev pub connected_faults : List Variable → Module → Named → Option Expression → List Fault
 connected_faults vs m n o =
     fault_if (not (is_among n.text (port_names m))) UnknownName n.place
-    ++ value_faults vs (width_of (variable m n.text).range) (is_output (variable m n.text).port) o
+    ++ joined_value_faults vs (width_of (variable m n.text).range) (is_output (variable m n.text).port) o
 
 abbrev pub ordered_faults : List Variable → Module → Place → List (Option Expression) → List Fault
 ordered_faults vs m p es = flat_map (expression_faults vs) (filter_map (λ e. e) es) ++ connection_faults vs m p (by_order es)
@@ -73,8 +73,8 @@ named_faults vs m cs =
 abbrev pub connections_faults : List Variable → Module → Place → Connections → List Fault
 connections_faults vs m p x = flat_map (expression_faults vs) (connection_values x) ++ connection_faults vs m p x
 
-abbrev pub module_told : List Variable → Module → Option Delay → Instance → List Fault
-module_told vs m d i = flat_map (expression_faults vs) (connection_values i.connections) ++ module_instance_faults vs m d i
+abbrev pub instance_of_module_faults : List Variable → Module → Option Delay → Instance → List Fault
+instance_of_module_faults vs m d i = flat_map (expression_faults vs) (connection_values i.connections) ++ module_instance_faults vs m d i
 
 -- ---- what is ready of a definition
 

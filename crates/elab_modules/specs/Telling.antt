@@ -23,9 +23,9 @@ Tells fs result = MatchResult result (λ _. fs ≡ []) (RefusesOneOf fs)
 abbrev pub joined_faults : List Variable → ℕ → Bool → Expression → List Fault
 joined_faults vs width is_output e = expression_faults vs e ++ (width_faults vs width e ++ (if is_output then constant_faults vs e else []))
 
-abbrev pub value_faults : List Variable → ℕ → Bool → Option Expression → List Fault
-value_faults vs width is_output None = []
-value_faults vs width is_output (Some e) = joined_faults vs width is_output e
+abbrev pub joined_value_faults : List Variable → ℕ → Bool → Option Expression → List Fault
+joined_value_faults vs width is_output None = []
+joined_value_faults vs width is_output (Some e) = joined_faults vs width is_output e
 
 -- what is wrong with an assignment
 abbrev pub sides_faults : List Variable → Place → Expression → Expression → List Fault

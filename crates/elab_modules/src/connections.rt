@@ -6,7 +6,7 @@ ghost use Rattle.elab_model.specs.NameFaults.{declaration_faults};
 ghost use Rattle.elab_model.specs.Names.{variables};
 ghost use Rattle.elab_modules.specs.Ready.{IsPrepared};
 ghost use Rattle.elab_modules.specs.Telling.{Tells};
-ghost use Rattle.elab_modules.specs.Connecting.{connected_faults, ordered_faults, named_faults, connections_faults, module_told};
+ghost use Rattle.elab_modules.specs.Connecting.{connected_faults, ordered_faults, named_faults, connections_faults, instance_of_module_faults};
 
 use crate::Prepared;
 use crate::ports::{is_output, port_row, width_of};
@@ -52,7 +52,8 @@ fn check_ordered(
     bits: &mut Vec<Bit>,
 ) -> Result<(), Refused<ElabKind>>
     requires { length values.now ≤ length ports.now }
-    ensures { (m : Module) → child.now ≡ variables m → declaration_faults m ≡ [] → Tells (flat_map (λ x. connected_faults table.now m (view_name x.0) (option_map view_expression x.1)) (zip ports.now values.now)) result }
+    ensures { (m : Module) → child.now ≡ variables m → declaration_faults m ≡ []
+        → Tells (flat_map (λ x. connected_faults table.now m (view_name x.0) (option_map view_expression x.1)) (zip ports.now values.now)) result }
 {
     for (place, value) in values.iter().enumerate() {
         check_port(table, child, ports[place], value, bits)?;
@@ -66,7 +67,8 @@ fn check_named(
     connections: &[NamedConnection],
     bits: &mut Vec<Bit>,
 ) -> Result<(), Refused<ElabKind>>
-    ensures { (m : Module) → child.now ≡ variables m → declaration_faults m ≡ [] → Tells (flat_map (λ c. connected_faults table.now m (view_name c.port) (option_map view_expression c.value)) connections.now) result }
+    ensures { (m : Module) → child.now ≡ variables m → declaration_faults m ≡ []
+        → Tells (flat_map (λ c. connected_faults table.now m (view_name c.port) (option_map view_expression c.value)) connections.now) result }
 {
     for connection in connections {
         check_port(table, child, connection.port, &connection.value, bits)?;
@@ -144,7 +146,7 @@ pub fn check_module_instance(
     instance: &Instance,
     bits: &mut Vec<Bit>,
 ) -> Result<(), Refused<ElabKind>>
-    ensures { (m : Module) → IsPrepared child.now m → Tells (module_told table.now m (option_map view_delay delay.now) (view_instance instance.now)) result }
+    ensures { (m : Module) → IsPrepared child.now m → Tells (instance_of_module_faults table.now m (option_map view_delay delay.now) (view_instance instance.now)) result }
 {
     if instance.name.is_none() {
         return Err(Refused::Fault {

@@ -3,7 +3,7 @@ ghost use Rattle.std.specs.Prelude.{◌≡◌, ◌≤◌, flat_map};
 ghost use Rattle.vl_tree.specs.Seen.{view_expression, view_gate_instance};
 ghost use Rattle.elab_model.specs.Elements as def;
 ghost use Rattle.elab_modules.specs.Telling.{Tells, joined_faults};
-ghost use Rattle.elab_modules.specs.Connecting.{gate_told};
+ghost use Rattle.elab_modules.specs.Connecting.{gate_faults};
 
 use crate::terminals::check_joined;
 use elab_bits::Bit;
@@ -51,7 +51,7 @@ pub fn check_gate(
     instance: &GateInstance,
     bits: &mut Vec<Bit>,
 ) -> Result<(), Refused<ElabKind>>
-    ensures { Tells (gate_told table.now kind (view_gate_instance instance.now)) result }
+    ensures { Tells (gate_faults table.now kind (view_gate_instance instance.now)) result }
 {
     let terminals = &instance.terminals;
     if terminals.len() < LEAST {

@@ -5,7 +5,7 @@ ghost use Rattle.vl_tree.specs.Tree.{Module};
 ghost use Rattle.elab_model.specs.Members as member;
 ghost use Rattle.elab_model.specs.Names.{variables};
 ghost use Rattle.elab_modules.specs.Connecting as told;
-ghost use Rattle.elab_modules.specs.Connecting.{module_told};
+ghost use Rattle.elab_modules.specs.Connecting.{instance_of_module_faults};
 ghost use Rattle.elab_modules.specs.Ready.{AreReady, IsPrepared, NamesReady};
 ghost use Rattle.elab_modules.specs.Telling.{Tells, TellsButDelay};
 ghost use Rattle.elab_modules.specs.declared.prepared.Prepared as ghost_prepared;
@@ -53,7 +53,8 @@ fn check_module(
     instance: &Instance,
     bits: &mut Vec<Bit>,
 ) -> Result<(), Refused<ElabKind>>
-    ensures { (p : ghost_prepared.Prepared) (m : Module) → told.prepared_in part.now ≡ Some p → IsPrepared p m → Tells (module_told table.now m (option_map view_delay delay.now) (view_instance instance.now)) result }
+    ensures { (p : ghost_prepared.Prepared) (m : Module) → told.prepared_in part.now ≡ Some p → IsPrepared p m
+        → Tells (instance_of_module_faults table.now m (option_map view_delay delay.now) (view_instance instance.now)) result }
 {
     let Some(child) = prepared_in(part) else {
         return Err(Refused::Fault {
@@ -77,7 +78,8 @@ pub fn check_instance(
 ) -> Result<(), Refused<ElabKind>>
     requires ready { AreReady definitions.now parts.now }
     requires named { NamesReady definitions.now parts.now (view_name definition) }
-    ensures { (m : Module) → table.now ≡ variables m → TellsButDelay definitions.now m (member.instance (view_name definition.entry) (option_map view_delay delay.now) (view_instance instance.now)) result }
+    ensures { (m : Module) → table.now ≡ variables m
+        → TellsButDelay definitions.now m (member.instance (view_name definition.entry) (option_map view_delay delay.now) (view_instance instance.now)) result }
 {
     let Some(place) = definitions.find(definition.text) else {
         return Err(Refused::Fault {

@@ -20,3 +20,6 @@ mod terminals;
 pub use library::{Library, Ready, library_of};
 pub use members::check_members;
 pub use prepared::{Prepared, prepare};
+
+#[cfg(test)]
+mod tests;

@@ -4,8 +4,8 @@ ghost use Rattle.std.specs.List.{list_any};
 ghost use Rattle.elab_model.specs.TerminalFaults.{is_missing};
 ghost use Rattle.vl_tree.specs.Seen.{view_expression, view_connections, view_instance};
 ghost use Rattle.elab_modules.specs.Connecting as told;
-ghost use Rattle.elab_modules.specs.Telling.{Tells, value_faults};
-ghost use Rattle.elab_modules.specs.Connecting.{values_told, terminals_told, primitive_told};
+ghost use Rattle.elab_modules.specs.Telling.{Tells, joined_value_faults};
+ghost use Rattle.elab_modules.specs.Connecting.{given_faults, terminal_list_faults, primitive_terminal_faults};
 
 use crate::terminals::check_value;
 use elab_bits::Bit;
@@ -41,7 +41,7 @@ fn check_inputs(
     values: &[Option<Expression>],
     bits: &mut Vec<Bit>,
 ) -> Result<(), Refused<ElabKind>>
-    ensures { Tells (flat_map (λ v. value_faults table.now 1 false (option_map view_expression v)) values.now) result }
+    ensures { Tells (flat_map (λ v. joined_value_faults table.now 1 false (option_map view_expression v)) values.now) result }
 {
     for value in values {
         check_value(table, value, 1, false, bits)?;
@@ -54,7 +54,7 @@ fn check_terminals(
     values: &[Option<Expression>],
     bits: &mut Vec<Bit>,
 ) -> Result<(), Refused<ElabKind>>
-    ensures { Tells (values_told table.now (map (option_map view_expression) values.now)) result }
+    ensures { Tells (given_faults table.now (map (option_map view_expression) values.now)) result }
 {
     match values {
         [output, inputs @ ..] => {
@@ -72,7 +72,7 @@ fn check_ordered(
     values: &[Option<Expression>],
     bits: &mut Vec<Bit>,
 ) -> Result<(), Refused<ElabKind>>
-    ensures { Tells (terminals_told table.now ports place (map (option_map view_expression) values.now)) result }
+    ensures { Tells (terminal_list_faults table.now ports place (map (option_map view_expression) values.now)) result }
 {
     if !are_given(values, ports) {
         return Err(Refused::Fault {
@@ -90,7 +90,7 @@ pub fn check_primitive_instance(
     instance: &Instance,
     bits: &mut Vec<Bit>,
 ) -> Result<(), Refused<ElabKind>>
-    ensures { Tells (primitive_told table.now ports (view_instance instance.now)) result }
+    ensures { Tells (primitive_terminal_faults table.now ports (view_instance instance.now)) result }
 {
     match &instance.connections {
         Connections::Ordered(values) => check_ordered(table, ports, instance.place, values, bits),

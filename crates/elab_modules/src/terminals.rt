@@ -6,7 +6,7 @@ ghost use Rattle.elab_model.specs.Leaves as leaves;
 ghost use Rattle.elab_model.specs.Names.{Variable};
 ghost use Rattle.elab_model.specs.TerminalFaults.{expression_faults, width_faults, constant_fault};
 ghost use Rattle.elab_bits.specs.Seen.{view_bit};
-ghost use Rattle.elab_modules.specs.Telling.{Tells, joined_faults, value_faults};
+ghost use Rattle.elab_modules.specs.Telling.{Tells, joined_faults, joined_value_faults};
 
 use elab_bits::{Bit, add_bits, check_expression};
 use elab_model::ElabKind;
@@ -102,7 +102,7 @@ pub fn check_value(
     is_output: bool,
     bits: &mut Vec<Bit>,
 ) -> Result<(), Refused<ElabKind>>
-    ensures { Tells (value_faults table.now width is_output (option_map view_expression value.now)) result }
+    ensures { Tells (joined_value_faults table.now width is_output (option_map view_expression value.now)) result }
 {
     match value {
         Some(expression) => check_joined(table, expression, width, is_output, bits),

@@ -28,7 +28,7 @@ front-numbered f a (x ∷ xs) ys e =
     rest (n ∷ ns) = ns
 
 -- the nets before a member's, and those behind
-nets-split : (source : Source) (top : Module) (before after : List Instance) (s : Instance) (ms ns : List (ℕ × Member)) (x : ℕ × Member)
+pub nets-split : (source : Source) (top : Module) (before after : List Instance) (s : Instance) (ms ns : List (ℕ × Member)) (x : ℕ × Member)
     → instances source top ≡ before ++ s ∷ after → enumerate_from 0 (members s.step.definition) ≡ ms ++ x ∷ ns
     → nets source top
     ≡ (flat_map (nets_of source) before ++ (variable_nets source s ++ flat_map (member_nets source s) ms)) ++ (member_nets source s x ++ (flat_map (member_nets source s) ns ++ flat_map (nets_of source) after))

@@ -3,4 +3,9 @@ pub mod Undriven
 pub mod Numbers
 pub mod Own
 pub mod Outside
+pub mod Terminals
+pub mod Inputs
+pub mod Written
 pub mod Rows
+pub mod Parts
+pub mod Turns

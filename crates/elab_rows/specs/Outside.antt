@@ -1,15 +1,15 @@
 -- What lies outside the bits of an instance, as numbers.
-use Rattle.std.specs.Prelude.{◌≡◌, ℕ, List, [], ◌∷◌, ◌++◌, Bool, Option, Some, None, length, map, if◌then◌else◌}
+use Rattle.std.specs.Prelude.{◌≡◌, ℕ, List, [], ◌∷◌, ◌++◌, Bool, Option, Some, None, length, if◌then◌else◌}
 use Rattle.std.specs.List.{range_with_len}
-use Rattle.vl_tree.specs.Tree.{Module, Source}
+use Rattle.vl_tree.specs.Tree.{Source}
 use Rattle.vl_tree.specs.Seen.{view_instance}
 use Rattle.vl_tree.specs.declared.items.Instance as code
 use Rattle.elab_model.specs.Elements.{bound_above, leg_source}
 use Rattle.elab_model.specs.Hierarchy.{Step, Instance, has_no_child}
 use Rattle.elab_model.specs.Homes.{has_leg, home}
-use Rattle.elab_model.specs.Names.{Variable, variables}
+use Rattle.elab_model.specs.Names.{Variable}
 use Rattle.elab_model.specs.Nets.{OwnNet, unbound_nets, constant_nets, number_of}
-use Rattle.elab_laws.specs.Handing.{all_bits, given_by}
+use Rattle.elab_laws.specs.Handing.{given_by}
 use Rattle.elab_numbers.specs.Laws.{numbers_in}
 use Rattle.elab_ports.specs.Bound.{AreConnected}
 use Rattle.elab_modules.specs.declared.prepared.Prepared.{Prepared}

@@ -1,5 +1,5 @@
 -- The answers of elaboration: each refusal of a step stands, and without one no fault does.
-use Rattle.std.specs.Prelude.{◌≡◌, ℕ, ◌<◌, List, [], ◌++◌, Option, Result, Ok, Err, length}
+use Rattle.std.specs.Prelude.{◌≡◌, ℕ, ◌<◌, List, [], ◌++◌, Option, Result, Ok, Err, IfErr, length}
 use Rattle.std.specs.List.{IsAmong}
 use Rattle.std.proofs.Common.{sym, ◌∙◌, ap, subst, inl, inr}
 use Rattle.sg_circuit.specs.Circuit.{Circuit}
@@ -39,11 +39,11 @@ reached-refused source top corner (refused.Fault k p) (inr h) = inr h
 reached-refused source top corner refused.NoMemory h = tt
 
 pub nets-refused : (source : Source) (top : Module) (corner : Corner) (r : Refused ElabKind) → RefusesCount (length (nets source top)) r → RefusesBelow source top corner r
-nets-refused source top corner (refused.Fault k p) (e, (f, lt)) = inl (subst (λ k. IsAmong (faults_below source top corner) (fault k p)) (sym e) (subst (λ p. IsAmong (faults_below source top corner) (fault TooMany p)) (sym f) (of-nets source top corner lt)))
+nets-refused source top corner (refused.Fault k p) (e, f, lt) = inl (subst (λ k. IsAmong (faults_below source top corner) (fault k p)) (sym e) (subst (λ p. IsAmong (faults_below source top corner) (fault TooMany p)) (sym f) (of-nets source top corner lt)))
 nets-refused source top corner refused.NoMemory h = tt
 
 pub elements-refused : (source : Source) (top : Module) (corner : Corner) (r : Refused ElabKind) → RefusesCount (length (elements source top corner)) r → RefusesBelow source top corner r
-elements-refused source top corner (refused.Fault k p) (e, (f, lt)) = inl (subst (λ k. IsAmong (faults_below source top corner) (fault k p)) (sym e) (subst (λ p. IsAmong (faults_below source top corner) (fault TooMany p)) (sym f) (of-elements source top corner lt)))
+elements-refused source top corner (refused.Fault k p) (e, f, lt) = inl (subst (λ k. IsAmong (faults_below source top corner) (fault k p)) (sym e) (subst (λ p. IsAmong (faults_below source top corner) (fault TooMany p)) (sym f) (of-elements source top corner lt)))
 elements-refused source top corner refused.NoMemory h = tt
 
 pub drivers-refused : (source : Source) (top : Module) (corner : Corner) (r : Refused ElabKind) → RefusesOneOf (driver_faults source top corner) r → RefusesBelow source top corner r
@@ -94,4 +94,8 @@ elaborated source name corner top made twice e below = record {
 
     none : {k : ElabKind} {p : Place} → FaultStands source name corner k p → ⊥
     none (in_list {f} h) = none-in f (faults source name corner) empty (among-in (faults source name corner) f h)
-    none (in_table {q} {k} {p} h t) = below.tables q k p (subst (λ t. IsAmong (primitives source t) q) e h) t
+    none (in_table {p} {kind} {place} h t) = below.tables p kind place (subst (λ t. IsAmong (primitives source t) p) e h) t
+
+-- an error that is passed on
+pub leaves : {A : Type 0} (P : Refused ElabKind → Type 0) (result : Result A (Refused ElabKind)) (e : Refused ElabKind) → ((x : Refused ElabKind) × (result ≡ Err x) × (x ≡ e)) → P e → IfErr result P
+leaves P result e (x, r, s) h = rw r (subst P (sym s) h)

@@ -1,8 +1,8 @@
 -- Where no step of elaboration finds a fault, none stands below the top.
 use Rattle.std.specs.Prelude.{◌≡◌, ℕ, ◌≤◌, List, [], ◌∷◌, ◌++◌, Bool, false, flat_map, length, drop, nat_lt, refl, if◌then◌else◌}
 use Rattle.std.specs.List.{AllByRecursion}
-use Rattle.std.proofs.Common.{◌∙◌, ap}
-use Rattle.std.proofs.lemmas.Bool.{ltb-false}
+use Rattle.std.proofs.Common.{◌∙◌, ap, arith}
+use Rattle.std.proofs.lemmas.Bool.Decides.{nat_tests}
 use Rattle.sg_delay.specs.declared.corners.Corner.{Corner}
 use Rattle.vl_tree.specs.Tree.{Module, Source}
 use Rattle.elab_model.specs.declared.kinds.ElabKind.TheVariants.{TooMany}
@@ -28,8 +28,11 @@ all-both : {A : Type 0} (P Q R : A → Type 0) (xs : List A) → ((x : A) → P 
 all-both P Q R [] f h g = tt
 all-both P Q R (x ∷ xs) f h g = (f x h.0 g.0, all-both P Q R xs f h.1 g.1)
 
+within : (l n : ℕ) → n ≤ l → nat_lt l n ≡ false
+within l n le = grind (arith, nat_tests)
+
 none-past : (n : ℕ) → n ≤ count_limit → fault_if (nat_lt count_limit n) TooMany start ≡ []
-none-past n le = ap (λ b. fault_if b TooMany start) ((ltb-false count_limit n).1 le)
+none-past n le = ap (λ b. fault_if b TooMany start) (within count_limit n le)
 
 pub faultless-below : (source : Source) (top : Module) (corner : Corner) → tree_faults source top ≡ [] → AreSound source top corner → length (nets source top) ≤ count_limit → length (elements source top corner) ≤ count_limit
     → driver_faults source top corner ≡ [] → faults_below source top corner ≡ []

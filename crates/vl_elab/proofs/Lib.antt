@@ -4,3 +4,5 @@ pub mod Standing
 pub mod Faultless
 pub mod Whole
 pub mod Below
+pub mod OneByOne
+pub mod Told

@@ -1,8 +1,8 @@
 -- Each fault that a step of elaboration refuses is one of the faults below the top.
 use Rattle.std.specs.Prelude.{◌≡◌, ℕ, ◌<◌, List, [], ◌∷◌, ◌++◌, Bool, true, flat_map, length, drop, nat_lt, refl, if◌then◌else◌}
 use Rattle.std.specs.List.{IsAmong}
-use Rattle.std.proofs.Common.{sym, ap, inl, subst}
-use Rattle.std.proofs.lemmas.Bool.{ltb-true}
+use Rattle.std.proofs.Common.{sym, arith, inl, inr, subst}
+use Rattle.std.proofs.lemmas.Bool.Decides.{nat_tests}
 use Rattle.sg_delay.specs.declared.corners.Corner.{Corner}
 use Rattle.vl_tree.specs.Tree.{Module, Source}
 use Rattle.elab_model.specs.declared.kinds.ElabKind.TheVariants.{TooMany}
@@ -52,8 +52,11 @@ of-reached source top corner f h =
         in-right f (self_instances source s) (too_deep source s ++ module_faults source corner (tick_of source top) s.step.definition)
         (in-right f (too_deep source s) (module_faults source corner (tick_of source top) s.step.definition) g)
 
+passed : (l n : ℕ) → l < n → nat_lt l n ≡ true
+passed l n lt = grind (arith, nat_tests)
+
 limit-passed : (n : ℕ) → count_limit < n → nat_lt count_limit n ≡ true
-limit-passed n lt = (ltb-true count_limit n).1 lt
+limit-passed n lt = passed count_limit n lt
 
 pub of-nets : (source : Source) (top : Module) (corner : Corner) → count_limit < length (nets source top) → IsAmong (faults_below source top corner) (fault TooMany start)
 of-nets source top corner lt =

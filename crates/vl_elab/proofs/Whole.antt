@@ -1,9 +1,11 @@
 -- What has been made, put together, is the circuit of the definition, and it is closed.
-use Rattle.std.specs.Prelude.{◌≡◌, ℕ, ◌<◌, ◌≤◌, ◌^◌, All, List, [], ◌∷◌, map, length, replicate, None, refl}
+use Rattle.std.specs.Prelude.{◌≡◌, ℕ, ◌<◌, ◌≤◌, ◌^◌, All, List, [], ◌∷◌, ◌++◌, map, length, slice_index_or, refl}
 use Rattle.std.specs.List.{AllByRecursion}
 use Rattle.std.proofs.Common.{sym, ◌∙◌, ap, arith, subst}
+use Rattle.std.proofs.lemmas.List.{length-map}
+use Rattle.elab_model.specs.HierarchyFaults.{count_limit}
 use Rattle.std.proofs.lemmas.List.Elements.{All-from_recursion}
-use Rattle.sg_circuit.specs.Circuit.{Circuit, Timing, Kind, Leg, Element}
+use Rattle.sg_circuit.specs.Circuit.{Leg}
 use Rattle.sg_circuit.specs.Closed.{IsClosed}
 use Rattle.sg_circuit.specs.Seen.{leg_timing_seen, timings_at, kind_seen, element_seen, scope_seen, circuit_seen, IsIndexed, AreIndexed}
 use Rattle.sg_circuit.specs.declared.circuits.Parts.{Parts}
@@ -27,17 +29,13 @@ use Rattle.elab_closed.proofs.Closed.{circuit-is_closed}
 use Rattle.elab_modules.specs.declared.library.Library.{Library}
 use Rattle.elab_rows.specs.Undriven.{undriven}
 use Rattle.elab_rows.specs.declared.rows.Rows.{Rows}
-use Rattle.elab_elements.specs.Seen.{kind_in, element_in, NamesPlaces}
+use Rattle.elab_elements.specs.Seen.{kind_in, element_in, NamesPlaces, AreElements}
 use Rattle.elab_elements.specs.declared.placing.Placing.{Placing}
-use Rattle.vl_elab.specs.Made.{IsWhole, driven_by}
+use Rattle.vl_elab.specs.Made.{IsWhole, driven_by, none_of_twelve}
 
 driven-nets : (ds : List Drive) (os : List OwnNet) → driven_by (map undriven os) (map (λ o. first_driver (drives_of ds o.spot)) os) ≡ map (net_of ds) os
 driven-nets ds [] = refl
 driven-nets ds (o ∷ os) = ap (λ ns. net_of ds o ∷ ns) (driven-nets ds os)
-
--- the timing of all Legs
-abbrev pub none_of_twelve : List Timing
-none_of_twelve = replicate 12 (record { delay = 0; limits = None })
 
 -- the parts are what has been made
 pub record IsOf (tick : unit.Unit) (ready : Library) (numbers : Rows) (made : Placing) (drivers : List Driver) (scopes : List Scope) (parts : Parts) : Type 0 where
@@ -51,11 +49,7 @@ pub record IsOf (tick : unit.Unit) (ready : Library) (numbers : Rows) (made : Pl
   pub scopes_are : parts.scopes.items ≡ scopes
 
 first-timing : (parts : Parts) → map (λ t. leg_timing_seen t) parts.leg_timings.items ≡ none_of_twelve ∷ [] → (t : ℕ) → t ≡ 0 → timings_at parts.leg_timings.items t ≡ none_of_twelve
-first-timing parts e t z = ap (timings_at parts.leg_timings.items) z ∙ ap (λ xs. first xs) e
-  where
-    first : List (List Timing) → List Timing
-    first [] = []
-    first (x ∷ xs) = x
+first-timing parts e t z = ap (timings_at parts.leg_timings.items) z ∙ ap (λ xs. slice_index_or xs 0 []) e
 
 kind-is : (parts : Parts) → map (λ t. leg_timing_seen t) parts.leg_timings.items ≡ none_of_twelve ∷ [] → (k : ElementKind) → NamesPlaces parts.gate_delays.items parts.udps.items k
     → kind_seen parts k ≡ kind_in parts.gate_delays.items parts.udps.items k
@@ -110,7 +104,7 @@ whole-is source top corner tick ready numbers made drivers scopes parts w o =
 
     driven : parts.nets.items ≡ map (net_of (drives source top corner)) (nets source top)
     driven =
-        o.nets_are ∙ ap (λ ns. driven_by ns drivers) w.have_rows.nets ∙ ap (λ ds. driven_by (map undriven (nets source top)) ds) w.has_drivers.table_is
+        o.nets_are ∙ ap (λ ns. driven_by ns drivers) w.have_rows.all ∙ ap (λ ds. driven_by (map undriven (nets source top)) ds) w.has_drivers.table_is
         ∙ driven-nets (drives source top corner) (nets source top)
 
     placed : map (element_seen parts) parts.elements.items ≡ map (element_of (nets source top)) (elements source top corner)
@@ -136,3 +130,14 @@ whole-indexed source top corner tick ready numbers made drivers scopes parts w o
   few_udps = subst (λ us. length us < 2 ^ 31) (sym o.udps_are) w.is_ready.few_udps;
   counts = subst (λ ds. All (λ d. d.count ≤ 2) ds) (sym o.delays_are) w.is_ready.counts;
 }
+
+-- the timings of Legs, when there is one
+pub legs-made : (ts before : List LegTiming) (t : LegTiming) → ts ≡ before ++ t ∷ [] → before ≡ [] → leg_timing_seen t ≡ none_of_twelve → map (λ t. leg_timing_seen t) ts ≡ none_of_twelve ∷ []
+legs-made ts before t e f g = ap (map (λ t. leg_timing_seen t)) (e ∙ ap (λ xs. xs ++ t ∷ []) f) ∙ ap (λ x. x ∷ []) g
+
+-- as many elements as the definition's
+pub elements-few : (source : Source) (top : Module) (corner : Corner) (delays : List GateDelays) (udps : List UdpUse) (made : Placing) → AreElements source top corner delays udps made → length (elements source top corner) ≤ count_limit
+elements-few source top corner delays udps made e =
+    let same : length (elements source top corner) ≡ length made.elements.items =
+    sym (length-map (elements source top corner) (element_of (nets source top))) ∙ sym (ap length e.elements) ∙ length-map made.elements.items (element_in delays udps) in
+    subst (λ n. n ≤ count_limit) (sym same) e.few

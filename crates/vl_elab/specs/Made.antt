@@ -1,5 +1,6 @@
 -- What stands when the parts of a circuit have been made, one after another.
-use Rattle.std.specs.Prelude.{◌≡◌, List, [], ◌∷◌, map}
+use Rattle.std.specs.Prelude.{◌≡◌, List, [], ◌∷◌, map, replicate, None}
+use Rattle.sg_circuit.specs.Circuit.{Timing}
 use Rattle.sg_time.specs.declared.units.Unit as unit
 use Rattle.sg_circuit.specs.Seen.{scope_seen}
 use Rattle.sg_circuit.specs.declared.scopes.Scope.{Scope}
@@ -44,3 +45,7 @@ pub record IsWhole (source : Source) (top : Module) (corner : Corner) (tick : un
   pub has_drivers : HasDrivers source top corner drivers
   pub are_scopes : map (λ s. scope_seen s) scopes ≡ map (scope_of (nets source top) source) (instances source top)
   pub faultless : faults_below source top corner ≡ []
+
+-- the timing of all Legs
+abbrev pub none_of_twelve : List Timing
+none_of_twelve = replicate 12 (record { delay = 0; limits = None })

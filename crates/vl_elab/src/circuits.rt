@@ -7,7 +7,8 @@ ghost use Rattle.elab_model.specs.Circuits as def;
 ghost use Rattle.elab_model.specs.Elaboration.{Elaborates};
 ghost use Rattle.elab_hierarchy.specs.Tops.{StandsAt};
 ghost use Rattle.vl_elab.specs.Below.{IsBelow, RefusesBelow};
-ghost use Rattle.vl_elab.specs.Made.{IsWhole};
+ghost use Rattle.sg_circuit.specs.Seen.{leg_timing_seen};
+ghost use Rattle.vl_elab.specs.Made.{IsWhole, none_of_twelve};
 
 use crate::driving::{drive, drivers_in};
 use elab_elements::{Placing, elements_in};
@@ -71,8 +72,8 @@ fn close(
     drivers: &[Driver],
     scopes: Vec<Scope>,
 ) -> Result<Circuit, NoMemory>
-    requires { (source : GhostSource) × ((m : Module) × ((corner : ghost_corner.Corner) × IsWhole source m corner tick library.entry rows.entry made.entry drivers.now scopes.entry)) }
-    ensures { IfOk result (λ circuit. (source : GhostSource) (m : Module) (corner : ghost_corner.Corner) → IsWhole source m corner tick library.entry rows.entry made.entry drivers.now scopes.entry
+    requires { (source : GhostSource) × ((m : Module) × ((corner : ghost_corner.Corner) × IsWhole source m corner tick library rows made drivers.now scopes.items)) }
+    ensures { IfOk result (λ circuit. (source : GhostSource) (m : Module) (corner : ghost_corner.Corner) → IsWhole source m corner tick library.entry rows made drivers.now scopes.items
         → circuit ≡ def.circuit source m corner) }
 {
     let mut nets = rows.nets;
@@ -92,7 +93,9 @@ fn close(
 }
 
 // The way to an input port's bit has no delay until a text gives it one.
-fn no_delay() -> LegTiming {
+fn no_delay() -> LegTiming
+    ensures { leg_timing_seen result ≡ none_of_twelve }
+{
     LegTiming {
         delays: Delays12 { at: [0; 12] },
         limits: Limits12 {

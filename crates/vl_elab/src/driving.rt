@@ -50,7 +50,7 @@ pub fn drive(drivers: &[Driver], nets: &mut Vec<Net>)
     requires { length drivers.now ≡ length nets.old.items }
     ensures { nets.new.items ≡ driven_by nets.old.items drivers.now }
 {
-    for (net, driver) in nets.iter_mut().zip(drivers) {
-        net.driver = *driver;
+    for place in 0..drivers.len() {
+        nets[place].driver = drivers[place];
     }
 }

@@ -1,5 +1,5 @@
 -- Each port once, then each connection.
-use Rattle.std.proofs.Common.{List, map, flat_map, option_map, ◌∙◌, ap}
+use Rattle.std.proofs.Common.{map, flat_map, option_map, ◌∙◌, ap}
 use Rattle.std.proofs.lemmas.Result.{err_from_is_err_and}
 use Rattle.vl_tree.specs.Seen.{view_expression, view_name}
 use Rattle.elab_model.specs.Faults.{duplicates}

@@ -1,5 +1,5 @@
 -- More values than ports are refused; of the others each is looked at.
-use Rattle.std.proofs.Common.{rules, arith, refl, List, length, map, ◌≡◌, ◌≤◌, ◌∙◌, ap}
+use Rattle.std.proofs.Common.{rules, arith, refl, length, map, ◌≡◌, ◌∙◌, ap}
 use Rattle.vl_tree.specs.Seen.{view_name}
 use Rattle.elab_modules.proofs.Connected.{more-values, ordered-tells}
 use Rattle.elab_modules.proofs.connections.check_all_ordered.Goals as goal

@@ -1,5 +1,5 @@
 -- Outputs, then inputs.
-use Rattle.std.proofs.Common.{List, length, flat_map, rules, true, false, ◌≡◌, ◌∙◌, ap}
+use Rattle.std.proofs.Common.{length, flat_map, rules, true, false, ◌≡◌}
 use Rattle.std.proofs.lemmas.Result.{err_from_is_err_and}
 use Rattle.vl_tree.specs.Seen.{view_expression}
 use Rattle.elab_modules.specs.Telling.{joined_faults}

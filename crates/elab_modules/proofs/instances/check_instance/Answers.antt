@@ -1,5 +1,5 @@
 -- Nothing, a module or a primitive of that name.
-use Rattle.std.proofs.Common.{◌<◌, Some, length, map, option_map, refl, rules, arith, ap, sym, ◌≡◌, ◌∙◌}
+use Rattle.std.proofs.Common.{Some, length, option_map, rules, arith, ap, sym, ◌≡◌, ◌∙◌}
 use Rattle.std.proofs.lemmas.List.{length-map}
 use Rattle.vl_tree.specs.Seen.{view_name, view_delay, view_instance, view_module, view_part, view_primitive}
 use Rattle.elab_modules.proofs.MemberFaults.{defined-at, unknown-refused, module-tells, primitive-tells}

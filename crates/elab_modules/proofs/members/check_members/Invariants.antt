@@ -1,5 +1,5 @@
 -- The members so far have no fault, and their delays stand in the table.
-use Rattle.std.proofs.Common.{◌≡◌, ◌≤◌, All, List, flat_map, map, take, drop}
+use Rattle.std.proofs.Common.{◌≡◌, ◌≤◌, All, flat_map, map, take, drop}
 use Rattle.vl_tree.specs.Tree.{Module}
 use Rattle.elab_model.specs.ModuleFaults.{all_member_faults}
 use Rattle.elab_tables.specs.Seen.{view_member}

@@ -1,7 +1,6 @@
 -- A name that the table hasn't is no port, nor is an inner variable.
-use Rattle.std.proofs.Common.{sym, ◌∙◌, ap}
+use Rattle.std.proofs.Common.{sym, ◌∙◌}
 use Rattle.elab_bits.proofs.NamedAt.{named-at}
-use Rattle.elab_modules.specs.Connecting.{IsPortRow}
 use Rattle.elab_modules.proofs.PortRows.{none-named, no-port, port-found}
 use Rattle.elab_modules.proofs.ports.port_row.Goals as goal
 

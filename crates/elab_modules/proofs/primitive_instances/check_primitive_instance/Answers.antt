@@ -1,6 +1,6 @@
 -- Connections by name are refused.
-use Rattle.std.proofs.Common.{map, ap}
-use Rattle.vl_tree.specs.Seen.{view_connections, view_instance, view_named_connection}
+use Rattle.std.proofs.Common.{ap}
+use Rattle.vl_tree.specs.Seen.{view_connections, view_instance}
 use Rattle.elab_modules.proofs.TerminalFaults.{named-refused}
 use Rattle.elab_modules.proofs.primitive_instances.check_primitive_instance.Goals as goal
 

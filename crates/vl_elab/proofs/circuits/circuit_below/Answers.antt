@@ -1,0 +1,93 @@
+-- Each step refuses a fault below the top, and what they make is the circuit.
+use Rattle.std.proofs.Common.{rules, ◌≡◌, List, sym, ◌∙◌, ap, subst}
+use Rattle.std.proofs.lemmas.Result.{err_from_is_err_and}
+use Rattle.vl_tree.specs.Tree.{Module}
+use Rattle.elab_model.specs.Hierarchy.{instances}
+use Rattle.elab_drivers.specs.Netlists.{HasDrivers}
+use Rattle.elab_hierarchy.specs.Tops.{StandsAt}
+use Rattle.elab_hierarchy.specs.Placing.{ArePlaced}
+use Rattle.vl_elab.specs.Below.{RefusesBelow}
+use Rattle.vl_elab.specs.Made.{AreMade, IsWhole}
+use Rattle.vl_elab.proofs.Below.{leaves, tree-refused, reached-refused, nets-refused, elements-refused, drivers-refused}
+use Rattle.vl_elab.proofs.Faultless.{faultless-below}
+use Rattle.vl_elab.proofs.Whole.{elements-few}
+use Rattle.vl_elab.proofs.circuits.circuit_below.Goals as goal
+
+pub returns-in_err-instances-clause-refused : goal.returns-in_err-instances-clause-refused
+returns-in_err-instances-clause-refused c =
+    leaves _ c.from_residual.result c.in_err-instances.field-0.0 (err_from_is_err_and c.from_residual.result c.from_residual.ensures.1)
+    (λ m at. tree-refused c.args.definitions.now m c.args.corner c.in_err-instances.field-0.0 (c.in_err-instances.ensures.refused m at))
+
+pub returns-in_err-library-clause-refused : goal.returns-in_err-library-clause-refused
+returns-in_err-library-clause-refused c =
+    leaves _ c.from_residual-in_err-library.result c.in_err-library.field-0.0 (err_from_is_err_and c.from_residual-in_err-library.result c.from_residual-in_err-library.ensures.1)
+    (λ m at.
+    let d = c.args.definitions.now in
+    let placed : ArePlaced d c.in_ok-instances.instances.items (instances d m) = c.in_ok-instances.ensures.instances m at in
+    let first = subst (λ ps. ArePlaced d ps (instances d m)) (sym c.deref.ensures.value) placed in
+    let second = subst (λ ps. ArePlaced d ps (instances d m)) (sym c.deref-2.ensures.value) placed in
+    reached-refused d m c.args.corner c.in_err-library.field-0.0 (c.in_err-library.ensures.refused m second (c.tick-tick.ensures m at first)))
+
+pub returns-in_err-rows-clause-refused : goal.returns-in_err-rows-clause-refused
+returns-in_err-rows-clause-refused c =
+    leaves _ c.from_residual-in_err-rows.result c.in_err-rows.field-0.0 (err_from_is_err_and c.from_residual-in_err-rows.result c.from_residual-in_err-rows.ensures.1)
+    (λ m at.
+    let d = c.args.definitions.now in
+    let placed : ArePlaced d c.in_ok-instances.instances.items (instances d m) = c.in_ok-instances.ensures.instances m at in
+    let first = subst (λ ps. ArePlaced d ps (instances d m)) (sym c.deref.ensures.value) placed in
+    let second = subst (λ ps. ArePlaced d ps (instances d m)) (sym c.deref-2.ensures.value) placed in
+    let third = subst (λ ps. ArePlaced d ps (instances d m)) (sym c.deref-3.ensures.value) placed in
+    let ready = c.in_ok-library.ensures.library m second (c.tick-tick.ensures m at first) in
+    nets-refused d m c.args.corner c.in_err-rows.field-0.0 (c.in_err-rows.ensures.refused m c.args.corner third ready (c.in_ok-instances.ensures.faultless m at)))
+
+pub returns-in_err-made-clause-refused : goal.returns-in_err-made-clause-refused
+returns-in_err-made-clause-refused c =
+    leaves _ c.from_residual-in_err-made.result c.in_err-made.field-0.0 (err_from_is_err_and c.from_residual-in_err-made.result c.from_residual-in_err-made.ensures.1)
+    (λ m at.
+    let d = c.args.definitions.now in
+    let placed : ArePlaced d c.in_ok-instances.instances.items (instances d m) = c.in_ok-instances.ensures.instances m at in
+    let first = subst (λ ps. ArePlaced d ps (instances d m)) (sym c.deref.ensures.value) placed in
+    let second = subst (λ ps. ArePlaced d ps (instances d m)) (sym c.deref-2.ensures.value) placed in
+    let third = subst (λ ps. ArePlaced d ps (instances d m)) (sym c.deref-3.ensures.value) placed in
+    let fourth = subst (λ ps. ArePlaced d ps (instances d m)) (sym c.deref-4.ensures.value) placed in
+    let ready = c.in_ok-library.ensures.library m second (c.tick-tick.ensures m at first) in
+    let rows = c.in_ok-rows.ensures.rows m c.args.corner third ready (c.in_ok-instances.ensures.faultless m at) in
+    elements-refused d m c.args.corner c.in_err-made.field-0.0 (c.in_err-made.ensures.refused m c.args.corner fourth ready rows))
+
+pub drivers_in-requires : goal.drivers_in-requires
+drivers_in-requires c =
+    let d = c.args.definitions.now in
+    let m = c.requires.top.0 in
+    let at = c.requires.top.1 in
+    let placed : ArePlaced d c.in_ok-instances.instances.items (instances d m) = c.in_ok-instances.ensures.instances m at in
+    let first = subst (λ ps. ArePlaced d ps (instances d m)) (sym c.deref.ensures.value) placed in
+    let second = subst (λ ps. ArePlaced d ps (instances d m)) (sym c.deref-2.ensures.value) placed in
+    let third = subst (λ ps. ArePlaced d ps (instances d m)) (sym c.deref-3.ensures.value) placed in
+    let fourth = subst (λ ps. ArePlaced d ps (instances d m)) (sym c.deref-4.ensures.value) placed in
+    let fifth = subst (λ ps. ArePlaced d ps (instances d m)) (sym c.deref-5.ensures.value) placed in
+    let ready = c.in_ok-library.ensures.library m second (c.tick-tick.ensures m at first) in
+    let rows = c.in_ok-rows.ensures.rows m c.args.corner third ready (c.in_ok-instances.ensures.faultless m at) in
+    record { made = (m, (c.args.corner, record { are_placed = fifth; is_ready = ready; have_rows = rows; are_elements = c.in_ok-made.ensures.elements m c.args.corner fourth ready rows })) }
+
+pub returns-in_err-drivers-clause-refused : goal.returns-in_err-drivers-clause-refused
+returns-in_err-drivers-clause-refused c =
+    leaves _ c.from_residual-in_err-drivers.result c.in_err-drivers.field-0.0 (err_from_is_err_and c.from_residual-in_err-drivers.result c.from_residual-in_err-drivers.ensures.1)
+    (λ m at.
+    let d = c.args.definitions.now in
+    let placed : ArePlaced d c.in_ok-instances.instances.items (instances d m) = c.in_ok-instances.ensures.instances m at in
+    let first = subst (λ ps. ArePlaced d ps (instances d m)) (sym c.deref.ensures.value) placed in
+    let second = subst (λ ps. ArePlaced d ps (instances d m)) (sym c.deref-2.ensures.value) placed in
+    let third = subst (λ ps. ArePlaced d ps (instances d m)) (sym c.deref-3.ensures.value) placed in
+    let fourth = subst (λ ps. ArePlaced d ps (instances d m)) (sym c.deref-4.ensures.value) placed in
+    let fifth = subst (λ ps. ArePlaced d ps (instances d m)) (sym c.deref-5.ensures.value) placed in
+    let ready = c.in_ok-library.ensures.library m second (c.tick-tick.ensures m at first) in
+    let rows = c.in_ok-rows.ensures.rows m c.args.corner third ready (c.in_ok-instances.ensures.faultless m at) in
+    let made = c.in_ok-made.ensures.elements m c.args.corner fourth ready rows in
+    drivers-refused d m c.args.corner c.in_err-drivers.field-0.0
+    (c.in_err-drivers.ensures.refused m c.args.corner (record { are_placed = fifth; is_ready = ready; have_rows = rows; are_elements = made })))
+
+pub close-requires : goal.close-requires
+close-requires c = ?
+
+pub returns-clause-circuit : goal.returns-clause-circuit
+returns-clause-circuit c = ?
