@@ -55,7 +55,8 @@ pub record AreDelays (corner : Corner) (tick : ℤ) (m : Module) (ms : List Memb
   pub delays : map (delays_at table) places ≡ map (member_delays corner tick m) ms
   pub below : AllByRecursion (λ i. i < length table) places
 
-all-kept : (old new : List GateDelays) (places : List ℕ) → GrowsBy old new → AllByRecursion (λ i. i < length old) places
+-- so do many
+pub all-kept : (old new : List GateDelays) (places : List ℕ) → GrowsBy old new → AllByRecursion (λ i. i < length old) places
     → (map (delays_at new) places ≡ map (delays_at old) places) × AllByRecursion (λ i. i < length new) places
 all-kept old new [] g h = (refl, tt)
 all-kept old new (i ∷ places) g h =

@@ -8,3 +8,12 @@ pub mod Connected
 pub mod Entries
 pub mod MemberFaults
 pub mod ReadyParts
+pub mod Replaced
+pub mod Stocking
+pub mod Meeting
+pub mod Listing
+pub mod Precisions
+pub mod Among
+pub mod Faulty
+pub mod Named
+pub mod Whole

@@ -3,3 +3,5 @@ pub mod Ready
 pub mod Reached
 pub mod Telling
 pub mod Connecting
+pub mod Reaching
+pub mod Checking

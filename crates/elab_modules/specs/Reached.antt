@@ -1,5 +1,5 @@
 -- What stands ready when all that a top reaches has been looked at, and what a refusal says.
-use Rattle.std.specs.Prelude.{◌≡◌, ◌⊎◌, ℕ, ◌<◌, ◌≤◌, ◌^◌, All, List, [], Option, Some, None, Ok, flat_map, length, slice_get, option_map}
+use Rattle.std.specs.Prelude.{◌≡◌, ◌⊎◌, ℕ, ◌<◌, ◌≤◌, ◌^◌, All, List, Some, Ok, flat_map, length, slice_get, option_map}
 use Rattle.std.specs.List.{AllByRecursion, IsAmong}
 use Rattle.sg_delay.specs.declared.corners.Corner.{Corner}
 use Rattle.sg_text.specs.declared.places.Place.{Place}
@@ -16,12 +16,9 @@ use Rattle.elab_model.specs.Members.{members}
 use Rattle.elab_model.specs.ModuleFaults.{module_faults}
 use Rattle.elab_model.specs.PrimitiveFaults.{TableFault}
 use Rattle.elab_laws.specs.Laws.{AreSound}
-use Rattle.elab_hierarchy.specs.declared.instances.Placed.{Placed}
-use Rattle.elab_hierarchy.specs.Placing.{ArePlaced}
 use Rattle.elab_hierarchy.specs.Tops.{StandsAt}
 use Rattle.elab_primitives.specs.Refusals.{IsOfTable}
 use Rattle.elab_modules.specs.declared.library.Library.{Library}
-use Rattle.elab_modules.specs.declared.library.Ready.TheVariants as ready
 use Rattle.elab_modules.specs.Ready.{AreReady, HaveUdps, HasReady, MemberReady, HasDelays}
 
 -- what stands ready of a module at its place: itself, and its members' delays

@@ -2,15 +2,19 @@
 #![tactic(auto)]
 
 mod assignments;
+mod checks;
 mod connections;
 mod delays;
 mod gates;
 mod instances;
 mod library;
+#[cfg(test)]
+mod library_tests;
 mod members;
 mod ports;
 mod prepared;
 mod primitive_instances;
+mod stock;
 mod terminals;
 
 pub use library::{Library, Ready, library_of};
