@@ -1,5 +1,5 @@
 -- What stands ready when all that a top reaches has been looked at, and what a refusal says.
-use Rattle.std.specs.Prelude.{◌≡◌, ◌⊎◌, ℕ, ◌<◌, ◌≤◌, ◌^◌, All, List, [], Option, Some, None, Ok, flat_map, length, slice_get}
+use Rattle.std.specs.Prelude.{◌≡◌, ◌⊎◌, ℕ, ◌<◌, ◌≤◌, ◌^◌, All, List, [], Option, Some, None, Ok, flat_map, length, option_map, slice_get}
 use Rattle.std.specs.List.{AllByRecursion, IsAmong}
 use Rattle.sg_delay.specs.declared.corners.Corner.{Corner}
 use Rattle.sg_text.specs.declared.places.Place.{Place}
@@ -29,7 +29,7 @@ pub record IsReached (source : Source) (corner : Corner) (top : Module) (library
   pub place : ℕ
   pub stands : StandsAt source place s.step.definition
   pub delays : List ℕ
-  pub listed : (slice_get library.delays.items place) ≡ Some delays
+  pub listed : option_map (λ d. d.items) (slice_get library.delays.items place) ≡ Some delays
   pub in_ticks : HasDelays corner (tick_of source top) s.step.definition library.gate_delays.items delays
   pub named : AllByRecursion (MemberReady source library.parts.items) (members s.step.definition)
 
