@@ -1,5 +1,5 @@
 -- What stands ready when all that a top reaches has been looked at, and what a refusal says.
-use Rattle.std.specs.Prelude.{◌≡◌, ◌⊎◌, ℕ, ◌<◌, ◌≤◌, ◌^◌, All, List, [], Option, Some, None, Ok, flat_map, length, option_map, slice_get}
+use Rattle.std.specs.Prelude.{◌≡◌, ◌⊎◌, ℕ, ◌<◌, ◌≤◌, ◌^◌, All, List, [], Option, Some, None, Ok, flat_map, length, slice_get, option_map}
 use Rattle.std.specs.List.{AllByRecursion, IsAmong}
 use Rattle.sg_delay.specs.declared.corners.Corner.{Corner}
 use Rattle.sg_text.specs.declared.places.Place.{Place}
@@ -22,15 +22,18 @@ use Rattle.elab_hierarchy.specs.Tops.{StandsAt}
 use Rattle.elab_primitives.specs.Refusals.{IsOfTable}
 use Rattle.elab_modules.specs.declared.library.Library.{Library}
 use Rattle.elab_modules.specs.declared.library.Ready.TheVariants as ready
-use Rattle.elab_modules.specs.Ready.{AreReady, HaveUdps, IsPrepared, MemberReady, HasDelays}
+use Rattle.elab_modules.specs.Ready.{AreReady, HaveUdps, HasReady, MemberReady, HasDelays}
 
--- a module of an instance stands ready, with its members' delays and what they name
-pub record IsReached (source : Source) (corner : Corner) (top : Module) (library : Library) (s : Instance) : Type 0 where
-  pub place : ℕ
-  pub stands : StandsAt source place s.step.definition
+-- what stands ready of a module at its place: itself, and its members' delays
+pub record IsReadyAt (source : Source) (corner : Corner) (top : Module) (library : Library) (m : Module) (place : ℕ) : Type 0 where
+  pub ready : HasReady library.parts.items place
   pub delays : List ℕ
-  pub listed : option_map (λ d. d.items) (slice_get library.delays.items place) ≡ Some delays
-  pub in_ticks : HasDelays corner (tick_of source top) s.step.definition library.gate_delays.items delays
+  pub listed : option_map (λ list. list.items) (slice_get library.delays.items place) ≡ Some delays
+  pub in_ticks : HasDelays corner (tick_of source top) m library.gate_delays.items delays
+
+-- a module of an instance stands ready wherever it stands, and so does what its members name
+pub record IsReached (source : Source) (corner : Corner) (top : Module) (library : Library) (s : Instance) : Type 0 where
+  pub stands : (place : ℕ) → StandsAt source place s.step.definition → IsReadyAt source corner top library s.step.definition place
   pub named : AllByRecursion (MemberReady source library.parts.items) (members s.step.definition)
 
 pub record IsLibrary (source : Source) (corner : Corner) (top : Module) (library : Library) : Type 0 where

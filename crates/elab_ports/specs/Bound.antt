@@ -25,5 +25,5 @@ pub record AreConnected (vs : List Variable) (m : Module) (place : Place) (conne
 
 -- the table and the list of ports are those of a module
 pub record AreOf (m : Module) (child : List Variable) (ports : List Named) : Type 0 where
-  pub variables : child ≡ variables m
-  pub ports : ports ≡ port_list m
+  pub table : child ≡ variables m
+  pub list : ports ≡ port_list m

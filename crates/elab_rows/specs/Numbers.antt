@@ -7,5 +7,5 @@ use Rattle.elab_model.specs.Nets.{OwnNet}
 use Rattle.elab_laws.specs.Handing.{all_bits, number_at}
 
 pub record HasNumbers (all : List OwnNet) (source : Source) (s : Instance) (vs : List Variable) (row : List ℕ) : Type 0 where
-  pub variables : vs ≡ variables s.step.definition
-  pub row : row ≡ map (number_at all source s) (all_bits vs)
+  pub table : vs ≡ variables s.step.definition
+  pub numbers : row ≡ map (number_at all source s) (all_bits vs)

@@ -35,6 +35,6 @@ pub record IsChild (all : List OwnNet) (source : Source) (s c : Instance) (table
   pub prepared : IsPrepared child c.step.definition
   pub connections : c.step.connections ≡ (view_instance text).connections
   pub connected : AreConnected table c.step.definition (view_instance text).place (view_instance text).connections
-  pub leaf : has_no_child source c.step ≡ leaf
-  pub scope : s.step.number ≡ scope
+  pub is_leaf : has_no_child source c.step ≡ leaf
+  pub number : s.step.number ≡ scope
   pub outside : numbers_in all (outside_nets source s c) ≡ range_with_len next (length (outside_nets source s c))

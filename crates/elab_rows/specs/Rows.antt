@@ -36,4 +36,4 @@ pub record HasRow (source : Source) (top : Module) (rows : Rows) (before : List 
 pub record HaveRows (source : Source) (top : Module) (rows : Rows) : Type 0 where
   pub nets : rows.nets.items ≡ map undriven (nets source top)
   pub few : length (nets source top) ≤ count_limit
-  pub rows : (before after : List Instance) (s : Instance) → instances source top ≡ before ++ s ∷ after → HasRow source top rows before s
+  pub each : (before after : List Instance) (s : Instance) → instances source top ≡ before ++ s ∷ after → HasRow source top rows before s
