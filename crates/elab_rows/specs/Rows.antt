@@ -34,6 +34,6 @@ pub record HasRow (source : Source) (top : Module) (rows : Rows) (before : List 
   pub firsts : (k : ℕ) → k ≤ length (members s.step.definition) → slice_get rows.firsts.items (member + k) ≡ Some (first_of_member source before s k)
 
 pub record HaveRows (source : Source) (top : Module) (rows : Rows) : Type 0 where
-  pub nets : rows.nets.items ≡ map undriven (nets source top)
+  pub all : rows.nets.items ≡ map undriven (nets source top)
   pub few : length (nets source top) ≤ count_limit
   pub each : (before after : List Instance) (s : Instance) → instances source top ≡ before ++ s ∷ after → HasRow source top rows before s
