@@ -11,7 +11,7 @@ use Rattle.sg_circuit.specs.declared.elements.ElementKind.TheVariants as kind
 use Rattle.sg_circuit.specs.declared.elements.UdpUse.{UdpUse}
 use Rattle.vl_tree.specs.Tree.{Module, Source}
 use Rattle.elab_model.specs.Circuits.{element_of}
-use Rattle.elab_model.specs.Drivers.{elements}
+use Rattle.elab_model.specs.Drivers.{elements as components}
 use Rattle.elab_model.specs.Elements.{leg_kind}
 use Rattle.elab_model.specs.HierarchyFaults.{count_limit}
 use Rattle.elab_model.specs.Nets.{nets}
@@ -35,7 +35,7 @@ NamesPlaces delays udps (kind.Pass v) = Unit {0}
 NamesPlaces delays udps (kind.Leg t) = t ≡ 0
 
 pub record AreElements (source : Source) (top : Module) (corner : Corner) (delays : List GateDelays) (udps : List UdpUse) (made : Placing) : Type 0 where
-  pub elements : map (element_in delays udps) made.elements.items ≡ map (element_of (nets source top)) (elements source top corner)
-  pub places : made.places.items ≡ map (λ e. e.place) (elements source top corner)
+  pub elements : map (element_in delays udps) made.elements.items ≡ map (element_of (nets source top)) (components source top corner)
+  pub places : made.places.items ≡ map (λ e. e.place) (components source top corner)
   pub named : AllByRecursion (λ e. NamesPlaces delays udps e.kind) made.elements.items
   pub few : length made.elements.items ≤ count_limit

@@ -1,0 +1,10 @@
+-- The modules of this folder.
+pub mod Putting
+pub mod Left
+pub mod Meaning
+pub mod PassMeaning
+pub mod TerminalMeaning
+pub mod Own
+pub mod LegMeaning
+pub mod PortMeaning
+pub mod Inputs
