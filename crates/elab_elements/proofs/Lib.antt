@@ -8,3 +8,6 @@ pub mod Own
 pub mod LegMeaning
 pub mod PortMeaning
 pub mod Inputs
+pub mod NextChild
+pub mod MemberBits
+pub mod StandingAt

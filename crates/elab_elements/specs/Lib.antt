@@ -3,3 +3,5 @@ pub mod Seen
 pub mod Adding
 pub mod Puts
 pub mod Words
+pub mod Next
+pub mod Standing

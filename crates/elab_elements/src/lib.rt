@@ -4,9 +4,12 @@
 mod elements;
 mod gates;
 mod legs;
+mod members;
 mod passes;
 mod placing;
 mod ports;
+mod primitives;
+mod reading;
 
 pub use elements::elements_in;
 pub use placing::Placing;
