@@ -26,9 +26,11 @@ pub record HasRow (source : Source) (top : Module) (rows : Rows) (before : List 
   pub start : ℕ
   pub starts : slice_get rows.starts.items (length before) ≡ Some start
   pub inner : part_of rows.inner.items start (length (all_bits (variables s.step.definition))) ≡ map (number_at (nets source top) source s) (all_bits (variables s.step.definition))
+  pub inner_within : start + length (all_bits (variables s.step.definition)) ≤ length rows.inner.items
   pub outside : ℕ
   pub outer_starts : slice_get rows.outer_starts.items (length before) ≡ Some outside
   pub outer : part_of rows.outer.items outside (length (all_bits (variables s.step.definition))) ≡ map (outer_number (nets source top) source s.step s.above) (all_bits (variables s.step.definition))
+  pub outer_within : outside + length (all_bits (variables s.step.definition)) ≤ length rows.outer.items
   pub member : ℕ
   pub member_starts : slice_get rows.member_starts.items (length before) ≡ Some member
   pub firsts : (k : ℕ) → k ≤ length (members s.step.definition) → slice_get rows.firsts.items (member + k) ≡ Some (first_of_member source before s k)
