@@ -11,3 +11,5 @@ pub mod Inputs
 pub mod NextChild
 pub mod MemberBits
 pub mod StandingAt
+pub mod ReadHere
+pub mod MemberLaws

@@ -1,5 +1,5 @@
 -- What private functions of the crate add, from what the code has of an instance. No public contract cites it.
-use Rattle.std.specs.Prelude.{ℕ, suc, List, [], ◌∷◌, ◌++◌, Bool, ◌&&◌, Option, Some, None, map, flat_map, take, drop, zip, length, slice_index_or, if◌then◌else◌}
+use Rattle.std.specs.Prelude.{ℕ, suc, ◌-◌, ◌==◌, false, List, [], ◌∷◌, ◌++◌, Bool, ◌&&◌, Option, Some, None, map, flat_map, take, drop, zip, length, slice_index_or, if◌then◌else◌}
 use Rattle.std.specs.List.{range_with_len}
 use Rattle.sg_circuit.specs.Closed.{width_of}
 use Rattle.sg_circuit.specs.declared.elements.ElementKind.{ElementKind}
@@ -99,3 +99,8 @@ driven_puts scope c (Some n) = put scope c.place [] n (kind.Pass (Some c.value))
 
 abbrev pub port_puts : ℕ → List Variable → Bool → List ℕ → List (Option ℕ) → code_constant.PortConstant → List Put
 port_puts scope vs leaf inner outer c = driven_puts scope c (port_net vs leaf inner outer c.bit)
+
+-- whether an instance has a parent, and ends behind its own number
+abbrev pub is_alone : Option ℕ → ℕ → ℕ → Bool
+is_alone None end number = false
+is_alone (Some p) end number = end - number == 1

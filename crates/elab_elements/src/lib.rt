@@ -1,10 +1,12 @@
 //! The elements of a circuit, in order.
 #![tactic(auto)]
 
+mod children;
 mod elements;
 mod gates;
 mod legs;
 mod members;
+mod own_legs;
 mod passes;
 mod placing;
 mod ports;

@@ -4,9 +4,18 @@ ghost use Rattle.elab_modules.specs.declared.library.Ready.TheVariants as ghost_
 ghost use Rattle.elab_modules.specs.declared.prepared.Prepared as ghost_prepared;
 ghost use Rattle.elab_rows.specs.Rows.{part_of};
 
+use elab_hierarchy::Placed;
 use elab_modules::{Library, Prepared, Ready};
 use elab_rows::Rows;
 use sg_circuit::NetId;
+
+/// The instance of a number.
+pub fn placed_at<'a>(instances: &[Placed<'a>], number: u32) -> Placed<'a>
+    requires { number < length instances.now }
+    ensures { slice_get instances.now number ≡ Some result }
+{
+    instances[number as usize]
+}
 
 /// The module at a place of the definitions, made ready.
 pub fn module_at<'a, 'b>(library: &'b Library<'a>, definition: usize) -> &'b Prepared<'a>
