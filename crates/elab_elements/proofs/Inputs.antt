@@ -1,6 +1,6 @@
 -- The numbers of inputs, and how many of them are constants.
-use Rattle.std.specs.Prelude.{◌≡◌, ℕ, suc, ◌+◌, ◌-◌, ◌<◌, ◌≤◌, ◌^◌, List, [], ◌∷◌, ◌++◌, Option, Some, None, map, length, refl}
-use Rattle.std.proofs.Common.{sym, ◌∙◌, ap, arith, subst, append_assoc, drop, drop-cons, get_or}
+use Rattle.std.specs.Prelude.{◌≡◌, ℕ, suc, ◌+◌, ◌-◌, ◌<◌, ◌≤◌, ◌^◌, List, [], ◌∷◌, ◌++◌, length}
+use Rattle.std.proofs.Common.{sym, ◌∙◌, ap, arith, append_assoc, drop, drop-cons, get_or}
 use Rattle.std.proofs.lemmas.List.{append-nil, drop_all}
 use Rattle.sg_logic.specs.declared.values.Value.{Value}
 use Rattle.sg_text.specs.declared.places.Place.{Place}
@@ -9,7 +9,7 @@ use Rattle.elab_model.specs.declared.kinds.ElabKind.{ElabKind}
 use Rattle.elab_nets.specs.Refusals.{RefusesCount}
 use Rattle.elab_bits.specs.declared.bits.Bit as code_bit
 use Rattle.elab_bits.specs.declared.bits.Bit.TheVariants as bit
-use Rattle.elab_elements.specs.Words.{net_in, given_in, input_number, input_numbers, constants_in}
+use Rattle.elab_elements.specs.Words.{net_in, input_number, input_numbers, constants_in}
 
 pub too-many_constants : (b : code_bit.Bit) (p : Place) (v : Value) (before : ℕ) (r : Refused ElabKind) → b ≡ bit.Constant p v → 4194304 ≤ before → ((count : ℕ) → 2 ^ 22 < count → RefusesCount count r)
     → (total : ℕ) → before + constants_in (b ∷ []) ≤ total → RefusesCount total r

@@ -1,15 +1,15 @@
 -- What is left of a list that a loop walks, and a refusal on the way.
-use Rattle.std.specs.Prelude.{◌≡◌, ℕ, suc, ◌+◌, ◌-◌, ◌<◌, ◌≤◌, List, [], ◌∷◌, ◌++◌, Option, Some, None, map, flat_map, length, zip, refl, min}
+use Rattle.std.specs.Prelude.{◌≡◌, ℕ, suc, ◌+◌, ◌-◌, ◌<◌, ◌≤◌, List, [], ◌∷◌, ◌++◌, flat_map, length, zip, min}
 use Rattle.std.specs.Borrow.{Bor}
 use Rattle.std.specs.List.{range_with_len}
-use Rattle.std.proofs.Common.{sym, ◌∙◌, ap, arith, subst, drop, drop-cons, get_or, length-append}
+use Rattle.std.proofs.Common.{sym, ◌∙◌, ap, arith, drop, drop-cons, get_or, length-append}
 use Rattle.std.proofs.lemmas.List.{drop_all}
 use Rattle.std.proofs.lemmas.Slice.Zip.{length-zip, get_or-zip}
 use Rattle.sg_text.specs.declared.refusals.Refused.{Refused}
 use Rattle.elab_model.specs.declared.kinds.ElabKind.{ElabKind}
 use Rattle.elab_elements.specs.declared.placing.Placing.{Placing}
 use Rattle.elab_elements.specs.Puts.{Put, Puts, RefusesPuts}
-use Rattle.elab_elements.proofs.Putting.{Completes, completes-more, completes-end, refuses-left}
+use Rattle.elab_elements.proofs.Putting.{Completes, completes-more, refuses-left}
 
 -- ---- a list
 

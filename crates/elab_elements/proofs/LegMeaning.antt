@@ -1,7 +1,7 @@
 -- The Legs of a leaf.
-use Rattle.std.specs.Prelude.{◌≡◌, ℕ, zero, suc, ◌+◌, ◌-◌, ◌<◌, ◌≤◌, List, [], ◌∷◌, ◌++◌, Bool, true, false, ◌&&◌, not, Option, Some, None, map, flat_map, length, take, refl, if◌then◌else◌}
+use Rattle.std.specs.Prelude.{◌≡◌, ℕ, zero, suc, ◌+◌, ◌-◌, ◌<◌, ◌≤◌, List, [], ◌∷◌, ◌++◌, Bool, true, false, ◌&&◌, not, Option, Some, None, map, flat_map, length, refl, if◌then◌else◌}
 use Rattle.std.specs.List.{range_with_len}
-use Rattle.std.proofs.Common.{sym, ◌∙◌, ap, arith, subst, drop, drop-cons, get_or}
+use Rattle.std.proofs.Common.{sym, ◌∙◌, ap, arith, subst, drop, drop-cons}
 use Rattle.std.proofs.lemmas.List.{get_or-map, drop_all}
 use Rattle.sg_circuit.specs.Closed.{width_of}
 use Rattle.sg_circuit.specs.declared.elements.ElementKind.TheVariants as kind
@@ -9,7 +9,7 @@ use Rattle.sg_circuit.specs.declared.elements.UdpUse.{UdpUse}
 use Rattle.sg_delay.specs.declared.gates.GateDelays.{GateDelays}
 use Rattle.sg_text.specs.declared.places.Place.{Place}
 use Rattle.vl_tree.specs.Tree.{Source}
-use Rattle.elab_model.specs.Elements.{Component, bound_above, leg_source, leg_at, variable_legs, legs}
+use Rattle.elab_model.specs.Elements.{bound_above, leg_source, leg_at, variable_legs, legs}
 use Rattle.elab_model.specs.Hierarchy.{Instance, is_empty, is_leaf, has_no_child}
 use Rattle.elab_model.specs.Homes.{bit, is_input, has_leg}
 use Rattle.elab_model.specs.Names.{Variable, variable, variables}

@@ -1,13 +1,12 @@
 -- What follows for a member of a module without faults: its nets have the next numbers, its terminals fit, and so do its connections.
-use Rattle.std.specs.Prelude.{◌≡◌, ℕ, zero, suc, ◌+◌, ◌<◌, ◌≤◌, List, [], ◌∷◌, ◌++◌, Some, map, flat_map, take, drop, length, slice_get, refl, nat_lt, not, Option}
-use Rattle.std.specs.List.{AllByRecursion, enumerate_from, range_with_len}
+use Rattle.std.specs.Prelude.{◌≡◌, ℕ, zero, suc, ◌+◌, List, [], ◌∷◌, ◌++◌, Some, flat_map, take, drop, length, slice_get, refl, nat_lt, not, Option}
+use Rattle.std.specs.List.{enumerate_from, range_with_len}
 use Rattle.std.proofs.Common.{sym, ◌∙◌, ap, arith, subst, inl, inr}
-use Rattle.std.proofs.lemmas.Bool.Decides.{nat_tests}
 use Rattle.sg_delay.specs.declared.corners.Corner.{Corner}
 use Rattle.sg_logic.specs.declared.gates.GateKind.{GateKind}
-use Rattle.vl_tree.specs.Tree.{Named, Expression, Delay, GateInstance, Instance as instance_text, Part, a_module, a_primitive, Primitive, Module, Source}
+use Rattle.vl_tree.specs.Tree.{Named, Expression, Delay, GateInstance, Instance as instance_text, a_module, a_primitive, Primitive, Module, Source}
 use Rattle.elab_model.specs.declared.kinds.ElabKind.TheVariants.{BadTerminal}
-use Rattle.elab_model.specs.Bits.{Bit, net, bits}
+use Rattle.elab_model.specs.Bits.{bits}
 use Rattle.elab_model.specs.Definitions.{definition_of}
 use Rattle.elab_model.specs.Delays.{tick_of}
 use Rattle.elab_model.specs.Elements.{output_count, terminal_bits}
@@ -17,8 +16,7 @@ use Rattle.elab_model.specs.Members.{Member, gate, instance, members, connection
 use Rattle.elab_model.specs.ModuleFaults.{are_terminals, all_member_faults, connection_faults, delay_on_module, instance_faults, module_faults}
 use Rattle.elab_model.specs.NameFaults.{declaration_faults}
 use Rattle.elab_model.specs.Names.{variables}
-use Rattle.elab_model.specs.Nets.{nets, nets_of, member_nets, instance_nets, terminal_nets}
-use Rattle.elab_model.specs.PrimitiveFaults.{primitive_faults}
+use Rattle.elab_model.specs.Nets.{nets, member_nets, instance_nets, terminal_nets}
 use Rattle.elab_model.specs.TerminalFaults.{expression_faults, width_faults, constant_faults, terminal_faults, delay_faults, is_missing}
 use Rattle.elab_laws.specs.Laws.{AreSound}
 use Rattle.elab_laws.proofs.Lists.{In, all-in, all-get}

@@ -1,16 +1,14 @@
 -- Members and instances side by side: each member that is an instance of a module has the next.
-use Rattle.std.specs.Prelude.{◌≡◌, ℕ, zero, suc, ◌+◌, ◌<◌, ◌≤◌, ◌==◌, List, [], ◌∷◌, ◌++◌, Bool, true, false, Option, Some, None, map, flat_map, filter_map, length, slice_get, drop, refl, if◌then◌else◌}
+use Rattle.std.specs.Prelude.{◌≡◌, ℕ, zero, suc, ◌+◌, ◌<◌, ◌≤◌, ◌==◌, List, [], ◌∷◌, ◌++◌, false, Option, Some, None, flat_map, filter_map, slice_get, drop, refl, if◌then◌else◌}
 use Rattle.std.specs.List.{AllByRecursion, enumerate_from, cons_option}
-use Rattle.std.specs.Option.{option_and_then}
-use Rattle.std.proofs.Common.{sym, ◌∙◌, ap, arith, subst, append_assoc}
+use Rattle.std.proofs.Common.{sym, ◌∙◌, ap, arith, append_assoc}
 use Rattle.std.proofs.lemmas.Bool.{eq-eqb}
 use Rattle.std.proofs.lemmas.Bool.Decides.{nat_tests}
 use Rattle.std.proofs.lemmas.Grind.{flat_map-append}
-use Rattle.std.proofs.lemmas.List.{append-nil}
-use Rattle.vl_tree.specs.Tree.{Module, Part, a_module, a_primitive, Source}
-use Rattle.elab_model.specs.Definitions.{definition_of, as_module, module_of}
+use Rattle.vl_tree.specs.Tree.{Module, Source}
+use Rattle.elab_model.specs.Definitions.{module_of}
 use Rattle.elab_model.specs.Elements.{child_at}
-use Rattle.elab_model.specs.Hierarchy.{Step, Instance, Child, child_of, child_of_member, children_in, children_from, children_at, children, size, text_of}
+use Rattle.elab_model.specs.Hierarchy.{Step, Instance, Child, child_of, child_of_member, children_from, children_at, children, size, text_of}
 use Rattle.elab_model.specs.Members.{Member, assignment, supply, gate, instance, members}
 use Rattle.elab_laws.proofs.Lists.{all-append, all-weaker}
 use Rattle.elab_elements.specs.Next.{children_of, IsNext}

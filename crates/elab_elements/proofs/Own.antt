@@ -1,16 +1,16 @@
 -- The variables of a table are those that the module says of their names, and what follows for Legs and for constants at ports.
-use Rattle.std.specs.Prelude.{◌≡◌, ℕ, ◌<◌, List, [], ◌∷◌, Bool, true, false, ◌&&◌, not, Option, Some, None, map, length, take, refl, if◌then◌else◌}
-use Rattle.std.specs.List.{AllByRecursion, All}
+use Rattle.std.specs.Prelude.{◌≡◌, ℕ, ◌<◌, List, [], ◌∷◌, Bool, true, false, ◌&&◌, not, Some, None, length, take, refl, if◌then◌else◌}
+use Rattle.std.specs.List.{AllByRecursion}
 use Rattle.std.proofs.Common.{sym, ◌∙◌, ap, subst, arith}
 use Rattle.std.proofs.lemmas.List.{take_all}
 use Rattle.std.proofs.lemmas.List.Elements.{All-from_recursion}
 use Rattle.sg_logic.specs.declared.values.Value.{Value}
 use Rattle.sg_text.specs.declared.places.Place.{Place}
 use Rattle.vl_tree.specs.Tree.{Module, Source}
-use Rattle.elab_model.specs.Bits.{Bit, constant, positions}
+use Rattle.elab_model.specs.Bits.{constant, positions}
 use Rattle.elab_model.specs.Connections.{bound_to}
 use Rattle.elab_model.specs.Elements.{bound_above, leg_source}
-use Rattle.elab_model.specs.Hierarchy.{Step, Instance, is_empty, is_leaf, has_no_child}
+use Rattle.elab_model.specs.Hierarchy.{Step, is_empty, has_no_child}
 use Rattle.elab_model.specs.Homes.{bit, outside, is_input, has_leg, is_shared, same_above, home}
 use Rattle.elab_model.specs.Names.{Variable, variable, variables, variable_names}
 use Rattle.elab_model.specs.Nets.{OwnNet, number_of}

@@ -1,5 +1,5 @@
 -- Passes between bits, and of constants.
-use Rattle.std.specs.Prelude.{◌≡◌, ℕ, ◌<◌, ◌≤◌, List, [], ◌∷◌, ◌++◌, Some, None, map, flat_map, length, zip, refl}
+use Rattle.std.specs.Prelude.{◌≡◌, ℕ, ◌≤◌, List, [], ◌∷◌, map, flat_map, length, zip, refl}
 use Rattle.std.specs.List.{AllByRecursion}
 use Rattle.std.proofs.Common.{sym, ap, arith}
 use Rattle.sg_circuit.specs.Circuit.{Pass}
@@ -10,14 +10,13 @@ use Rattle.sg_logic.specs.declared.values.Value.{Value}
 use Rattle.sg_text.specs.declared.places.Place.{Place}
 use Rattle.vl_tree.specs.Tree.{Source}
 use Rattle.elab_model.specs.Bits.{constant}
-use Rattle.elab_model.specs.Elements.{Component, pass_to, passes, bit_spots, value_of}
+use Rattle.elab_model.specs.Elements.{pass_to, passes, bit_spots, value_of}
 use Rattle.elab_model.specs.Hierarchy.{Instance}
 use Rattle.elab_model.specs.Names.{Variable}
 use Rattle.elab_model.specs.Nets.{OwnNet, number_of}
-use Rattle.elab_laws.specs.Handing.{all_bits}
 use Rattle.elab_bits.specs.declared.bits.Bit as code_bit
 use Rattle.elab_bits.specs.declared.bits.Bit.TheVariants as bit
-use Rattle.elab_bits.specs.Seen.{bit_at, view_bit, IsInRow}
+use Rattle.elab_bits.specs.Seen.{view_bit, IsInRow}
 use Rattle.elab_elements.specs.Adding.{IsHere}
 use Rattle.elab_elements.specs.Words.{net_in, bit_inputs, bit_value, pass_puts}
 use Rattle.elab_elements.proofs.Meaning.{Means, means-nil, means-one, means-append, number-is, same-count}

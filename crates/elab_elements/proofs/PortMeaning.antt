@@ -1,5 +1,5 @@
 -- Constants at the ports of an instance.
-use Rattle.std.specs.Prelude.{◌≡◌, ℕ, suc, ◌+◌, ◌<◌, ◌≤◌, List, [], ◌∷◌, ◌++◌, Bool, true, false, ◌&&◌, Option, Some, None, map, flat_map, length, slice_get, refl, if◌then◌else◌}
+use Rattle.std.specs.Prelude.{◌≡◌, ℕ, ◌<◌, ◌≤◌, List, [], ◌∷◌, ◌++◌, Bool, true, false, ◌&&◌, Option, Some, None, map, flat_map, length, slice_get, refl, if◌then◌else◌}
 use Rattle.std.specs.List.{AllByRecursion, All, enumerate_from}
 use Rattle.std.specs.Option.{option_and_then}
 use Rattle.std.proofs.Common.{sym, ◌∙◌, ap, arith, subst, length-append}
@@ -16,11 +16,11 @@ use Rattle.elab_model.specs.Bits.{Bit, net, constant, bits}
 use Rattle.elab_model.specs.Connections.{connection_at, bound_to, port_values}
 use Rattle.elab_model.specs.Elements.{Component, constant_pass, port_spot, port_elements, child_elements}
 use Rattle.elab_model.specs.Hierarchy.{Instance, has_no_child}
-use Rattle.elab_model.specs.Homes.{bit, outside, is_input, has_leg, home, home_of}
-use Rattle.elab_model.specs.Names.{Variable, variable, variables}
+use Rattle.elab_model.specs.Homes.{bit, outside, is_input, has_leg, home}
+use Rattle.elab_model.specs.Names.{Variable, variables}
 use Rattle.elab_model.specs.Nets.{OwnNet, number_of}
 use Rattle.elab_model.specs.Ports.{port_list}
-use Rattle.elab_laws.specs.Handing.{all_bits, number_at}
+use Rattle.elab_laws.specs.Handing.{all_bits}
 use Rattle.elab_laws.proofs.Lists.{all-flat_in, all-weaker}
 use Rattle.elab_laws.proofs.PartsApart.{places-are}
 use Rattle.elab_bits.specs.Seen.{bit_at}

@@ -1,11 +1,10 @@
 -- Elements that are put one after another: what is there, followed by what is left, is the whole.
-use Rattle.std.specs.Prelude.{◌≡◌, ℕ, ◌+◌, ◌-◌, ◌≤◌, List, [], ◌∷◌, ◌++◌, Result, Ok, Err, IfErr, map, length, refl}
+use Rattle.std.specs.Prelude.{◌≡◌, ℕ, ◌+◌, ◌-◌, ◌≤◌, List, [], ◌∷◌, ◌++◌, Result, Ok, Err, IfErr, map, length}
 use Rattle.std.proofs.Common.{sym, ◌∙◌, ap, arith, subst, append_assoc, length-append}
 use Rattle.std.proofs.lemmas.List.{append-nil, map-append, length-map}
 use Rattle.sg_circuit.specs.declared.elements.Element as code
 use Rattle.sg_text.specs.declared.places.Place.{Place}
 use Rattle.sg_text.specs.declared.refusals.Refused.{Refused}
-use Rattle.sg_text.specs.declared.refusals.Refused.TheVariants as refused
 use Rattle.elab_model.specs.declared.kinds.ElabKind.{ElabKind}
 use Rattle.elab_nets.specs.Refusals.{RefusesCount}
 use Rattle.elab_elements.specs.declared.placing.Placing.{Placing}

@@ -1,6 +1,5 @@
 -- What is read of an instance at its place.
-use Rattle.std.specs.Prelude.{◌≡◌, ℕ, zero, suc, ◌+◌, ◌-◌, flat_map, ◌<◌, ◌≤◌, List, [], ◌∷◌, ◌++◌, Bool, true, false, ◌&&◌, not, Option, Some, None, map, take, drop, length, slice_get, refl, if◌then◌else◌, sum_by, ◌==◌}
-use Rattle.std.specs.List.{AllByRecursion}
+use Rattle.std.specs.Prelude.{◌≡◌, ℕ, zero, suc, ◌+◌, ◌-◌, flat_map, ◌<◌, ◌≤◌, List, [], ◌∷◌, false, ◌&&◌, not, Option, Some, None, map, take, drop, length, slice_get, refl, if◌then◌else◌, sum_by, ◌==◌}
 use Rattle.std.proofs.Common.{sym, ◌∙◌, ap, arith, subst}
 use Rattle.std.proofs.lemmas.Bool.Decides.{nat_tests}
 use Rattle.std.proofs.lemmas.List.{length-map}
@@ -9,7 +8,7 @@ use Rattle.std.proofs.lemmas.Option.{slice_get_within}
 use Rattle.sg_delay.specs.declared.corners.Corner.{Corner}
 use Rattle.vl_tree.specs.Tree.{Module, Source}
 use Rattle.elab_model.specs.declared.kinds.ElabKind.TheVariants.{TooDeep}
-use Rattle.elab_model.specs.Faults.{Fault, fault}
+use Rattle.elab_model.specs.Faults.{fault}
 use Rattle.elab_model.specs.Hierarchy.{Step, Instance, Child, instances, children_in, size, is_empty, is_leaf, has_no_child}
 use Rattle.elab_model.specs.HierarchyFaults.{self_instances, too_deep, first_too_many, count_limit}
 use Rattle.elab_model.specs.Names.{Variable, variables}
@@ -36,12 +35,11 @@ use Rattle.elab_modules.specs.declared.library.Ready.TheVariants as ready
 use Rattle.elab_modules.specs.declared.prepared.Prepared.{Prepared}
 use Rattle.elab_modules.specs.Ready.{IsPrepared}
 use Rattle.elab_rows.specs.declared.rows.Rows.{Rows}
-use Rattle.elab_rows.specs.Numbers.{HasNumbers}
 use Rattle.elab_rows.specs.Outside.{outer_number}
 use Rattle.elab_rows.specs.Rows.{part_of, HasRow}
 use Rattle.elab_elements.specs.declared.placing.Placing.{Placing}
 use Rattle.elab_elements.specs.Adding.{Adds, IsHere, HasOutside}
-use Rattle.elab_elements.specs.Standing.{AreRead, IsAt, IsInside}
+use Rattle.elab_elements.specs.Standing.{IsAt, IsInside}
 use Rattle.elab_elements.specs.Words.{is_alone}
 use Rattle.elab_elements.proofs.Meaning.{adds, means-nil}
 use Rattle.elab_elements.proofs.Putting.{puts-none}

@@ -1,6 +1,6 @@
 -- What stands at the place of an instance.
-use Rattle.std.specs.Prelude.{◌≡◌, ℕ, zero, suc, ◌+◌, ◌<◌, ◌≤◌, List, [], ◌∷◌, ◌++◌, Option, Some, None, map, take, drop, length, slice_get, refl}
-use Rattle.std.specs.List.{AllByRecursion, range_with_len}
+use Rattle.std.specs.Prelude.{◌≡◌, ℕ, zero, suc, ◌+◌, List, [], ◌∷◌, ◌++◌, Option, Some, None, map, take, drop, length, slice_get, refl}
+use Rattle.std.specs.List.{range_with_len}
 use Rattle.std.proofs.Common.{sym, ◌∙◌, ap, arith, subst, inl, inr}
 use Rattle.sg_delay.specs.declared.corners.Corner.{Corner}
 use Rattle.vl_tree.specs.Tree.{Module, Part, a_module, a_primitive, Source}
@@ -14,8 +14,8 @@ use Rattle.elab_modules.specs.declared.library.Library.{Library}
 use Rattle.elab_modules.specs.declared.library.Ready as code_ready
 use Rattle.elab_modules.specs.declared.library.Ready.TheVariants as ready
 use Rattle.elab_modules.specs.declared.prepared.Prepared.{Prepared}
-use Rattle.elab_modules.specs.Ready.{IsReady, AreReady, HasReady, IsPrepared}
-use Rattle.elab_modules.specs.Reached.{IsReadyAt, IsReached, IsLibrary}
+use Rattle.elab_modules.specs.Ready.{AreReady, HasReady, IsPrepared}
+use Rattle.elab_modules.specs.Reached.{IsReached, IsLibrary}
 
 -- ---- places in a list
 

@@ -1,5 +1,5 @@
 -- Outputs of gates and primitives, and the constants at their inputs.
-use Rattle.std.specs.Prelude.{◌≡◌, ◌⊎◌, ℕ, suc, ◌+◌, ◌<◌, ◌≤◌, List, [], ◌∷◌, ◌++◌, Option, Some, None, map, flat_map, length, zip, take, drop, min, refl}
+use Rattle.std.specs.Prelude.{◌≡◌, ◌⊎◌, ℕ, suc, ◌+◌, ◌≤◌, List, [], ◌∷◌, ◌++◌, Option, Some, None, map, flat_map, length, zip, take, drop, min, refl}
 use Rattle.std.specs.List.{AllByRecursion, enumerate_from, All}
 use Rattle.std.proofs.Common.{ap, sym, ◌∙◌, subst, arith, inl, inr, length-append}
 use Rattle.std.proofs.lemmas.List.{map-append, length-map, take-map, drop-map, drop_all, take_min, drop_min}
@@ -21,14 +21,14 @@ use Rattle.elab_model.specs.Homes.{Spot, terminal, home_of}
 use Rattle.elab_model.specs.Names.{Variable}
 use Rattle.elab_model.specs.Nets.{OwnNet, number_of}
 use Rattle.elab_laws.specs.Given.{number_of_bit}
-use Rattle.elab_laws.specs.Handing.{all_bits, numbered}
+use Rattle.elab_laws.specs.Handing.{numbered}
 use Rattle.elab_numbers.proofs.TerminalNumbers.{terminals-are_numbered}
 use Rattle.elab_bits.specs.declared.bits.Bit as code_bit
 use Rattle.elab_bits.specs.declared.bits.Bit.TheVariants as bit
-use Rattle.elab_bits.specs.Seen.{bit_at, view_bit, IsInRow}
+use Rattle.elab_bits.specs.Seen.{view_bit, IsInRow}
 use Rattle.elab_elements.specs.Adding.{IsHere, HasTerminals}
 use Rattle.elab_elements.specs.declared.placing.Placing.{Placing}
-use Rattle.elab_elements.specs.Puts.{Put, Puts, RefusesPuts}
+use Rattle.elab_elements.specs.Puts.{Puts, RefusesPuts}
 use Rattle.elab_elements.specs.Seen.{kind_in, NamesPlaces}
 use Rattle.elab_elements.specs.Words.{net_in, output_puts, given_in, input_numbers, constants_in, constant_puts, terminal_puts}
 use Rattle.elab_elements.proofs.Putting.{places_in, puts-same, puts-then, refuses-count, refuses-front, refuses-back}

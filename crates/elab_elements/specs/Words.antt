@@ -1,5 +1,5 @@
 -- What private functions of the crate add, from what the code has of an instance. No public contract cites it.
-use Rattle.std.specs.Prelude.{ℕ, suc, ◌-◌, ◌==◌, false, List, [], ◌∷◌, ◌++◌, Bool, ◌&&◌, Option, Some, None, map, flat_map, take, drop, zip, length, slice_index_or, if◌then◌else◌}
+use Rattle.std.specs.Prelude.{ℕ, suc, ◌-◌, ◌==◌, false, List, [], ◌∷◌, ◌++◌, Bool, ◌&&◌, Option, Some, None, map, flat_map, take, zip, length, slice_index_or, if◌then◌else◌}
 use Rattle.std.specs.List.{range_with_len}
 use Rattle.sg_circuit.specs.Closed.{width_of}
 use Rattle.sg_circuit.specs.declared.elements.ElementKind.{ElementKind}

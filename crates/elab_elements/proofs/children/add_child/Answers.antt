@@ -1,9 +1,8 @@
 -- What is read of the instance is what stands there.
-use Rattle.std.proofs.Common.{◌∙◌, arith, map, subst, sym}
+use Rattle.std.proofs.Common.{arith}
 use Rattle.std.proofs.lemmas.Result.{err_from_is_err_and}
 use Rattle.elab_model.specs.Nets.{nets}
 use Rattle.elab_laws.specs.Handing.{all_bits}
-use Rattle.elab_elements.specs.Adding.{IsHere}
 use Rattle.elab_elements.proofs.ReadHere.{within, ready-is, prepared-is, end-is, inner-within, outer-within, here-is, here-own, outside-is, row-count, one-is, constants-are}
 use Rattle.elab_elements.proofs.Putting.{exit-by}
 use Rattle.elab_elements.proofs.children.add_child.Goals as goal

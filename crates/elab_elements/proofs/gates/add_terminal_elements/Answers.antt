@@ -1,15 +1,6 @@
 -- The elements are those of the definition, outputs first.
-use Rattle.std.proofs.Common.{ℕ, List, ◌≡◌, ◌+◌, ◌∙◌, ap, sym, map, flat_map, length, drop, take, ◌++◌, []}
+use Rattle.std.proofs.Common.{◌∙◌, ap, ◌++◌}
 use Rattle.std.proofs.lemmas.Result.{on_ok_weaker, err_from_is_err_and}
-use Rattle.sg_circuit.specs.declared.elements.UdpUse.{UdpUse}
-use Rattle.sg_delay.specs.declared.gates.GateDelays.{GateDelays}
-use Rattle.vl_tree.specs.Tree.{Source}
-use Rattle.elab_model.specs.Elements.{terminal_elements}
-use Rattle.elab_model.specs.Hierarchy.{Instance}
-use Rattle.elab_model.specs.Nets.{OwnNet}
-use Rattle.elab_nets.specs.Refusals.{RefusesCount}
-use Rattle.elab_bits.specs.Seen.{view_bit}
-use Rattle.elab_elements.specs.Adding.{IsHere}
 use Rattle.elab_elements.specs.Seen.{kind_in}
 use Rattle.elab_elements.specs.Words.{input_numbers}
 use Rattle.elab_elements.proofs.Meaning.{adds}

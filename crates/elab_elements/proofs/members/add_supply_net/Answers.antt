@@ -1,14 +1,11 @@
 -- The bits that were added are those of the definition.
-use Rattle.std.proofs.Common.{ℕ, List, ◌≡◌, ◌+◌, sym, subst, map, flat_map, length}
+use Rattle.std.proofs.Common.{◌+◌, subst, flat_map, length}
 use Rattle.std.proofs.lemmas.Result.{on_ok_weaker}
-use Rattle.sg_circuit.specs.Circuit.{Gate}
-use Rattle.sg_circuit.specs.Seen.{delays_at}
-use Rattle.elab_model.specs.Bits.{Bit, constant}
-use Rattle.elab_model.specs.Elements.{passes, pass_to, terminal_elements}
+use Rattle.elab_model.specs.Bits.{constant}
+use Rattle.elab_model.specs.Elements.{pass_to}
 use Rattle.elab_nets.specs.Refusals.{RefusesCount}
-use Rattle.elab_bits.specs.Seen.{view_bit}
-use Rattle.elab_elements.specs.Adding.{Adds, HasTerminals}
-use Rattle.elab_elements.proofs.MemberBits.{seen-bits, outputs-are}
+use Rattle.elab_elements.specs.Adding.{Adds}
+use Rattle.elab_elements.proofs.MemberBits.{seen-bits}
 use Rattle.elab_elements.proofs.Putting.{if_err-weaker}
 use Rattle.elab_elements.proofs.members.add_supply_net.Goals as goal
 

@@ -1,9 +1,8 @@
 -- What is read of the instance is what stands there.
-use Rattle.std.proofs.Common.{◌∙◌, sym, arith, map}
+use Rattle.std.proofs.Common.{◌∙◌, sym, arith}
 use Rattle.std.proofs.lemmas.Result.{on_ok_weaker}
 use Rattle.elab_model.specs.Nets.{nets}
-use Rattle.elab_laws.specs.Handing.{all_bits, number_at}
-use Rattle.elab_rows.specs.Outside.{outer_number}
+use Rattle.elab_laws.specs.Handing.{all_bits}
 use Rattle.elab_elements.proofs.ReadHere.{within, ready-is, prepared-is, placed-is, end-is, inner-within, outer-within, here-is, outside-is, row-count, leaf-is, no-legs}
 use Rattle.elab_elements.proofs.Putting.{if_err-weaker}
 use Rattle.elab_elements.proofs.own_legs.add_own_legs.Goals as goal

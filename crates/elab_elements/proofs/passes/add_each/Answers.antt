@@ -1,5 +1,5 @@
 -- One more is put, and a refusal on the way is one of all.
-use Rattle.std.proofs.Common.{rules, flat_map, zip, drop, length, ◌++◌, ◌∷◌, []}
+use Rattle.std.proofs.Common.{rules, flat_map, zip}
 use Rattle.std.proofs.lemmas.Result.{err_from_is_err_and}
 use Rattle.std.proofs.lemmas.Slice.Zip.{zip_turn, zip_end}
 use Rattle.elab_elements.specs.Puts.{RefusesPuts}

@@ -1,9 +1,9 @@
 -- The Passes are those of the definition.
-use Rattle.std.proofs.Common.{map, flat_map, zip}
+use Rattle.std.proofs.Common.{map, flat_map}
 use Rattle.std.proofs.lemmas.List.Elements.{recursion_from_All}
 use Rattle.std.proofs.lemmas.Result.{on_ok_weaker}
 use Rattle.elab_model.specs.Bits.{constant}
-use Rattle.elab_model.specs.Elements.{pass_to, passes}
+use Rattle.elab_model.specs.Elements.{pass_to}
 use Rattle.elab_bits.specs.declared.bits.Bit.TheVariants as bit
 use Rattle.elab_bits.specs.Seen.{view_bit, IsInRow}
 use Rattle.elab_elements.specs.Words.{pass_puts}

@@ -1,5 +1,5 @@
 -- One connection more has its bits.
-use Rattle.std.proofs.Common.{map, filter_map, option_map, refl}
+use Rattle.std.proofs.Common.{map, filter_map, refl}
 use Rattle.vl_tree.specs.Seen.{view_named_connection}
 use Rattle.elab_bits.specs.Seen.{view_bit}
 use Rattle.elab_elements.proofs.MemberBits.{connection-added}

@@ -1,5 +1,5 @@
 -- What is there, followed by what is left, is the whole.
-use Rattle.std.proofs.Common.{◌≡◌, ◌++◌, All, map, flat_map, filter_map, option_map, drop}
+use Rattle.std.proofs.Common.{◌≡◌, ◌++◌, All, map, flat_map, filter_map, drop}
 use Rattle.vl_tree.specs.Seen.{view_named_connection}
 use Rattle.elab_model.specs.Bits as def
 use Rattle.elab_bits.specs.Seen.{view_bit, IsInRow}
