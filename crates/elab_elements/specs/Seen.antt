@@ -1,9 +1,9 @@
 -- The code's elements, as the definitions see them: with the tables that they name places of.
-use Rattle.std.specs.Prelude.{◌≡◌, ℕ, ◌<◌, ◌≤◌, List, [], map, length}
+use Rattle.std.specs.Prelude.{◌≡◌, ◌<◌, ◌≤◌, List, map, length}
 use Rattle.std.specs.List.{AllByRecursion}
 use Rattle.sg_delay.specs.declared.corners.Corner.{Corner}
 use Rattle.sg_delay.specs.declared.gates.GateDelays.{GateDelays}
-use Rattle.sg_circuit.specs.Circuit.{Element, Kind, Gate, Udp, Pass, Leg}
+use Rattle.sg_circuit.specs.Circuit.{Element, Kind, Gate, Udp, Pass}
 use Rattle.sg_circuit.specs.Seen.{delays_at, udp_at}
 use Rattle.sg_circuit.specs.declared.elements.Element as code
 use Rattle.sg_circuit.specs.declared.elements.ElementKind.{ElementKind}
