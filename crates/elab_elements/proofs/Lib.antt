@@ -13,3 +13,4 @@ pub mod MemberBits
 pub mod StandingAt
 pub mod ReadHere
 pub mod MemberLaws
+pub mod AllInstances

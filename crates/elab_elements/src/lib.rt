@@ -4,6 +4,7 @@
 mod children;
 mod elements;
 mod gates;
+mod instances;
 mod legs;
 mod members;
 mod own_legs;
