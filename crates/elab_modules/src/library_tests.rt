@@ -1,4 +1,7 @@
 // A top with two instances of a cell and one of a primitive, which the cell has too; and a cell that it doesn't reach.
+ghost use Rattle.vl_tree.specs.Tree.{Module};
+ghost use Rattle.elab_hierarchy.specs.Tops.{StandsAt};
+
 use crate::library_of;
 use elab_hierarchy::{Definitions, place_instances, tick, top};
 use elab_model::ElabKind;
@@ -9,8 +12,7 @@ use std::alloc::Global;
 use std::test::Fail;
 use vl_token::Mark;
 use vl_tree::{
-    Connections, Expression, Instance, Item, Module, Name, Part, Primitive, PrimitiveDeclaration,
-    Source,
+    Connections, Expression, Instance, Item, Name, Part, Primitive, PrimitiveDeclaration, Source,
 };
 
 const NS: Unit = Unit { power: -9 };
@@ -57,7 +59,7 @@ fn instance(
 }
 
 fn module(text: &'static [u8], cell: bool, items: Vec<Item<'static>>) -> Part<'static> {
-    Part::Module(Module {
+    Part::Module(vl_tree::Module {
         place: at(0),
         mark: Mark {
             scale: Scale {
@@ -113,12 +115,25 @@ fn source(alloc: Global, output: &'static [u8]) -> Result<Source<'static>, NoMem
 }
 
 // How many members of each definition were looked at, and how many tables of primitives there are.
-fn looked_at(alloc: Global, source: &Source) -> Result<(Vec<usize>, usize), Refused<ElabKind>> {
+fn looked_at<'a>(
+    alloc: Global,
+    source: &'a Source<'a>,
+) -> Result<(Vec<usize>, usize), Refused<ElabKind>> {
     let definitions = Definitions::of(alloc, source)?;
     let top = top(alloc, &definitions, None)?;
-    let instances = place_instances(alloc, &definitions, top)?;
-    let tick = tick(&definitions, top, &instances);
-    let library = library_of(alloc, Corner::Typ, tick, &definitions, &instances)?;
+    looked_at_below(alloc, &definitions, top)
+}
+
+fn looked_at_below(
+    alloc: Global,
+    definitions: &Definitions,
+    top: usize,
+) -> Result<(Vec<usize>, usize), Refused<ElabKind>>
+    requires top { (m : Module) × StandsAt definitions.now top m }
+{
+    let instances = place_instances(alloc, definitions, top)?;
+    let tick = tick(definitions, top, &instances);
+    let library = library_of(alloc, Corner::Typ, tick, definitions, &instances)?;
     let mut counts = Vec::new(alloc);
     for places in &library.delays {
         counts.push(places.len())?;

@@ -19,6 +19,16 @@ returns-in_err-instances-clause-refused c =
     leaves _ c.from_residual.result c.in_err-instances.field-0.0 (err_from_is_err_and c.from_residual.result c.from_residual.ensures.1)
     (λ m at. tree-refused c.args.definitions.now m c.args.corner c.in_err-instances.field-0.0 (c.in_err-instances.ensures.refused m at))
 
+pub library_of-requires : goal.library_of-requires
+library_of-requires c =
+    let d = c.args.definitions.now in
+    let m = c.requires.top.0 in
+    let at = c.requires.top.1 in
+    let placed : ArePlaced d c.in_ok-instances.instances.items (instances d m) = c.in_ok-instances.ensures.instances m at in
+    let first = subst (λ ps. ArePlaced d ps (instances d m)) (sym c.deref.ensures.value) placed in
+    let second = subst (λ ps. ArePlaced d ps (instances d m)) (sym c.deref-2.ensures.value) placed in
+    record { below = (m, second, c.tick-tick.ensures m at first, c.in_ok-instances.ensures.faultless m at) }
+
 pub returns-in_err-library-clause-refused : goal.returns-in_err-library-clause-refused
 returns-in_err-library-clause-refused c =
     leaves _ c.from_residual-in_err-library.result c.in_err-library.field-0.0 (err_from_is_err_and c.from_residual-in_err-library.result c.from_residual-in_err-library.ensures.1)
