@@ -49,7 +49,8 @@ pub unknown-port : (vs : List Variable) (m : Module) (n : Named) (o : Option Exp
 unknown-port vs m n o h =
     let v = variable m n.text in
     let f = fault_if (not (is_among n.text (port_names m))) UnknownName n.place in
-    refused-left f (joined_value_faults vs (width_of v.range) (is_output v.port) o) (refused.Fault UnknownName n.place) (fault-told (not (is_among n.text (port_names m))) UnknownName n.place (ap not h))
+    refused-left f (joined_value_faults vs (width_of v.range) (is_output v.port) o) (refused.Fault UnknownName n.place)
+    (fault-told (not (is_among n.text (port_names m))) UnknownName n.place (ap not h))
 
 pub known-port : {A : Type 0} (vs : List Variable) (m : Module) (n : Named) (o : Option Expression) (width : ℕ) (out : Bool) (result : Result A (Refused ElabKind))
     → is_among n.text (port_names m) ≡ true
@@ -57,7 +58,8 @@ pub known-port : {A : Type 0} (vs : List Variable) (m : Module) (n : Named) (o :
 known-port vs m n o width out result h w i t =
     let all : joined_value_faults vs width out o ≡ connected_faults vs m n o =
     ap (λ k. joined_value_faults vs k out o) w ∙ ap (λ b. joined_value_faults vs (width_of (variable m n.text).range) b o) i
-    ∙ ap (λ fs. fs ++ joined_value_faults vs (width_of (variable m n.text).range) (is_output (variable m n.text).port) o) (sym (no-fault (not (is_among n.text (port_names m))) UnknownName n.place (ap not h))) in
+    ∙ ap (λ fs. fs ++ joined_value_faults vs (width_of (variable m n.text).range) (is_output (variable m n.text).port) o)
+    (sym (no-fault (not (is_among n.text (port_names m))) UnknownName n.place (ap not h))) in
     subst (λ fs. Tells fs result) all t
 
 -- ---- all of them

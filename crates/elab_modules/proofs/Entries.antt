@@ -79,7 +79,8 @@ pub one-more : (corner : Corner) (tick : ℤ) (m : Module) (xs : List code_membe
     → x ≡ slice_index_or xs k x → GrowsBy old new → StandsFor new i (member_delays corner tick m (view_member x)) → AreDelays corner tick m (map view_member (take k xs)) old places
     → AreDelays corner tick m (map view_member (take (k + 1) xs)) new (places ++ i ∷ [])
 one-more corner tick m xs k x old new places i lt at g s h =
-    let more : map view_member (take (k + 1) xs) ≡ map view_member (take k xs) ++ view_member x ∷ [] = ap (map view_member) (take_more xs k x lt ∙ ap (λ y. take k xs ++ y ∷ []) (sym at)) ∙ map-append view_member (take k xs) (x ∷ []) in
+    let more : map view_member (take (k + 1) xs) ≡ map view_member (take k xs) ++ view_member x ∷ [] = ap (map view_member) (take_more xs k x lt ∙ ap (λ y. take k xs ++ y ∷ []) (sym at))
+    ∙ map-append view_member (take k xs) (x ∷ []) in
     subst (λ ms. AreDelays corner tick m ms new (places ++ i ∷ [])) (sym more) (delays-next corner tick m (map view_member (take k xs)) (view_member x) old new places i g s h)
 
 pub none-yet : (corner : Corner) (tick : ℤ) (m : Module) (table : List GateDelays) → AreDelays corner tick m [] table []

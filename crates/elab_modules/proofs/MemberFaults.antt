@@ -88,7 +88,8 @@ module-tell corner tick m k d i (Err r) h = h
 pub module-tells : {A : Type 0} (source : Source) (m k : Module) (vs : List Variable) (n : Named) (d : Option Delay) (i : instance_text) (result : Result A (Refused ElabKind))
     → definition_of source n.text ≡ Some (a_module k) → vs ≡ variables m → Tells (instance_of_module_faults vs k d i) result → TellsButDelay source m (instance n d i) result
 module-tells source m k vs n d i result f e h corner tick =
-    let all : instance_of_module_faults (variables m) k d i ≡ all_member_faults source corner tick m (instance n d i) = ap (λ o. own_values m i ++ instance_faults corner tick m (variables m) d i o) (sym f) in
+    let all : instance_of_module_faults (variables m) k d i ≡ all_member_faults source corner tick m (instance n d i) =
+    ap (λ o. own_values m i ++ instance_faults corner tick m (variables m) d i o) (sym f) in
     subst (λ fs. MatchResult result (λ _. fs ≡ delay_faults corner tick m d) (RefusesOneOf fs)) all
     (module-tell corner tick m k d i result (subst (λ ws. Tells (instance_of_module_faults ws k d i) result) e h))
 

@@ -212,13 +212,13 @@ fn to_port(text: &'static [u8], value: Option<Expression<'static>>) -> NamedConn
     }
 }
 
-fn instance(
+fn instance<'a>(
     alloc: Global,
+    child: &'a Module<'a>,
     connections: Vec<NamedConnection>,
 ) -> Result<Option<(ElabKind, u64)>, Refused<ElabKind>> {
     let table = table(alloc)?;
-    let child = child(alloc)?;
-    let child = prepare(alloc, &child)?;
+    let child = prepare(alloc, child)?;
     let mut bits = Vec::new(alloc);
     let instance = Instance {
         place: at(7),
@@ -231,14 +231,24 @@ fn instance(
 #[test]
 fn connections_to_ports(rt: HostRuntime) -> Result<(), Fail> {
     let alloc = rt.alloc();
-    let sound = instance(alloc, vec![in alloc; to_port(b"x", Some(signal(b"v", 1)))]?)?;
+    let child = child(alloc)?;
+    let sound = instance(
+        alloc,
+        &child,
+        vec![in alloc; to_port(b"x", Some(signal(b"v", 1)))]?,
+    )?;
     assert_eq!(rt; sound, None);
-    let unknown = instance(alloc, vec![in alloc; to_port(b"y", None)]?)?;
+    let unknown = instance(alloc, &child, vec![in alloc; to_port(b"y", None)]?)?;
     assert_eq!(rt; unknown, Some((ElabKind::UnknownName, 9)));
-    let driven = instance(alloc, vec![in alloc; to_port(b"x", Some(constant(1)))]?)?;
+    let driven = instance(
+        alloc,
+        &child,
+        vec![in alloc; to_port(b"x", Some(constant(1)))]?,
+    )?;
     assert_eq!(rt; driven, Some((ElabKind::BadTerminal, 1)));
     let twice = instance(
         alloc,
+        &child,
         vec![in alloc; to_port(b"x", None), to_port(b"x", None)]?,
     )?;
     assert_eq!(rt; twice, Some((ElabKind::DuplicateName, 9)));

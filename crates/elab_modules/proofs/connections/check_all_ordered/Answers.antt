@@ -14,4 +14,5 @@ returns c = λ m p.
     let n : c.len.result ≡ length c.args.child.now.ports.items = search rules in
     let k : length c.deref.result.now ≡ length c.args.child.now.ports.items = ap length c.deref.ensures.value in
     let le = c.if-values-len.false in
-    ordered-tells c.args.table.now m c.args.place c.deref.result.now c.args.values.now c.check_ordered.result (ap (map view_name) c.deref.ensures.value ∙ p.ports) (omega arith) (c.check_ordered.ensures m p.table p.declared)
+    ordered-tells c.args.table.now m c.args.place c.deref.result.now c.args.values.now c.check_ordered.result (ap (map view_name) c.deref.ensures.value ∙ p.ports) (omega arith)
+    (c.check_ordered.ensures m p.table p.declared)

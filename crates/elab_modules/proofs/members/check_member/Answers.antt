@@ -22,7 +22,8 @@ returns-in-Assignment c = λ m p.
 pub returns-in-Gate : goal.returns-in-Gate
 returns-in-Gate c = λ m p.
     subst (λ x. TellsButDelay c.args.definitions.now m (view_member x) c.check_gate.result) (sym c.in-Gate.is)
-    (gate-tell c.args.definitions.now m c.args.prepared.now.table c.in-Gate.kind (option_map view_delay c.in-Gate.delay.now) (view_gate_instance c.in-Gate.instance.now) c.check_gate.result p.table c.check_gate.ensures)
+    (gate-tell c.args.definitions.now m c.args.prepared.now.table c.in-Gate.kind (option_map view_delay c.in-Gate.delay.now) (view_gate_instance c.in-Gate.instance.now) c.check_gate.result
+    p.table c.check_gate.ensures)
 
 pub returns-in-Instance : goal.returns-in-Instance
 returns-in-Instance c = λ m p.

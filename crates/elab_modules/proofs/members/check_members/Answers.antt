@@ -52,7 +52,8 @@ loop-member-preserved c = record {
       next-faultless (λ x. all_member_faults c.args.definitions.now c.args.corner c.args.tick.power m (view_member x)) c.deref-member-items.result.now c.loop-member.member-index c.member-item.result
       c.loop-member-test.true c.member-item.is (c.in_ok-check_member.ensures m p c.args.corner c.args.tick.power ∙ c.in_ok-place.ensures.told m p) (c.loop-member.invariant.faults m p);
   delays = λ m p.
-      subst (λ ps. AreDelays c.args.corner c.args.tick.power m (map view_member (take (c.loop-member.member-index + 1) c.deref-member-items.result.now)) c.add_member.new.gate_delays.items ps) (sym c.in_ok-push.ensures.items)
+      subst (λ ps. AreDelays c.args.corner c.args.tick.power m (map view_member (take (c.loop-member.member-index + 1) c.deref-member-items.result.now)) c.add_member.new.gate_delays.items ps)
+      (sym c.in_ok-push.ensures.items)
       (one-more c.args.corner c.args.tick.power m c.deref-member-items.result.now c.loop-member.member-index c.member-item.result c.loop-member.gate_delays.items c.add_member.new.gate_delays.items
       c.loop-member.places.items c.in_ok-place.place c.loop-member-test.true c.member-item.is c.add_member.ensures.kept (c.in_ok-place.ensures.place m p) (c.loop-member.invariant.delays m p));
 }

@@ -17,7 +17,8 @@ returns-in_err-check_value c =
 
 pub loop-value-preserved : goal.loop-value-preserved
 loop-value-preserved c =
-    next-faultless (λ v. joined_value_faults c.args.table.now 1 false (option_map view_expression v)) c.args.values.now c.loop-value.value-index c.value-item.result c.loop-value-test.true c.value-item.is
+    next-faultless (λ v. joined_value_faults c.args.table.now 1 false (option_map view_expression v)) c.args.values.now c.loop-value.value-index c.value-item.result c.loop-value-test.true
+    c.value-item.is
     c.in_ok-check_value.ensures c.loop-value.invariant
 
 pub returns : goal.returns
