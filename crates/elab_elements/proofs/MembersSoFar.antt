@@ -25,13 +25,14 @@ use Rattle.elab_laws.specs.Handing.{all_bits}
 use Rattle.elab_laws.proofs.Lists.{In, all-in, all-get}
 use Rattle.elab_hierarchy.specs.declared.instances.Placed.{Placed}
 use Rattle.elab_modules.specs.declared.library.Library.{Library}
+use Rattle.elab_modules.specs.declared.library.Ready.TheVariants as ready
 use Rattle.elab_modules.specs.declared.prepared.Prepared.{Prepared}
 use Rattle.elab_modules.specs.Reached.{IsReached, IsReadyAt}
 use Rattle.elab_modules.specs.Ready.{IsPrepared, member_delays}
 use Rattle.elab_tables.specs.declared.member_list.Member as code_member
 use Rattle.elab_tables.specs.Seen.{view_member}
 use Rattle.elab_rows.specs.declared.rows.Rows.{Rows}
-use Rattle.elab_rows.specs.Rows.{first_of_member, HasRow}
+use Rattle.elab_rows.specs.Rows.{first_of_member, part_of, HasRow}
 use Rattle.elab_rows.specs.Turns.{members_of}
 use Rattle.elab_rows.proofs.ChildRows.{nets-within, refuses-more}
 use Rattle.elab_rows.proofs.MemberTurns.{next-is, taken, get-map}
@@ -44,8 +45,11 @@ use Rattle.elab_elements.proofs.Meaning.{adds, means-nil}
 use Rattle.elab_elements.proofs.MemberLaws.{member-numbered}
 use Rattle.elab_elements.proofs.NextChild.{starts}
 use Rattle.elab_elements.proofs.Putting.{puts-none}
-use Rattle.elab_elements.proofs.ReadHere.{row-is}
+use Rattle.elab_elements.proofs.ReadHere.{row-is, here-is, placed-is, prepared-is}
 use Rattle.elab_elements.proofs.StandingAt.{at-place, at-split, instance-number}
+
+same-some : {A : Type 0} (x y : A) → Some x ≡ Some y → x ≡ y
+same-some x y e = cc
 
 -- ---- adding one thing after another
 
@@ -69,6 +73,19 @@ adds-count delays udps all a b cs h =
 
 -- ---- all of an instance
 
+pub are-members : (source : Source) (top : Module) (corner : Corner) (ps : List Placed) (library : Library) (rows : Rows) (i : ℕ) (s : Instance) (p : Placed) (q : Prepared) (width : ℕ) (row : List ℕ)
+    → IsAt source top corner ps library rows i s → slice_get ps i ≡ Some p → slice_get library.parts.items p.definition ≡ Some (Some (ready.Module q)) → width ≡ length (all_bits q.table)
+    → ((start : ℕ) → slice_get rows.starts.items i ≡ Some start → row ≡ part_of rows.inner.items start width) → AreMembers source top corner ps library rows i p.definition q row (i + 1) s
+are-members source top corner ps library rows i s p q width row h e g w f =
+    let k = prepared-is source top corner ps library rows i s p q h e g in
+    record {
+      at = h;
+      here = here-is source top corner ps library rows i s q width row h k w f;
+      stands = (placed-is source top corner ps library rows i s p h e).definition;
+      is_prepared = k;
+      first_child = omega arith;
+    }
+
 pub front-refused : (old : Placing) (cs ds : List Component) (r : Refused ElabKind) → RefusesCount (length old.elements.items + length cs) r → RefusesCount (length old.elements.items + length (cs ++ ds)) r
 front-refused old cs ds r h = let n = length-append cs ds in refuses-more _ _ r (omega arith) h
 
@@ -80,7 +97,7 @@ back-refused delays udps all old new cs ds r h k = let n = length-append cs ds i
 
 pub record AreAdded (delays : List GateDelays) (udps : List UdpUse) (source : Source) (top : Module) (corner : Corner) (s : Instance) (k next : ℕ) (old new : Placing) : Type 0 where
   pub adds : Adds delays udps (nets source top) old new (flat_map (member_elements source corner (tick_of source top) s) (take k (members_of s)))
-  pub next : IsNext source s k next
+  pub is_next : IsNext source s k next
 
 enumerate-count : {A : Type 0} (a : ℕ) (xs : List A) → length (enumerate_from a xs) ≡ length xs
 enumerate-count a [] = refl
@@ -94,11 +111,11 @@ module _ (source : Source) (top : Module) (corner : Corner) (ps : List Placed) (
   pub none-added : (old : Placing) → AreAdded library.gate_delays.items library.udps.items source top corner s 0 initial old old
   none-added old = record {
     adds = adds-none library.gate_delays.items library.udps.items (nets source top) old;
-    next = subst (IsNext source s 0) (ap suc (instance-number source top s number h.at.there) ∙ sym h.next) (starts source s);
+    is_next = subst (IsNext source s 0) (ap suc (instance-number source top s number h.at.there) ∙ sym h.first_child) (starts source s);
   }
 
   pub member-is : (k : ℕ) (x : code_member.Member) → slice_get prepared.members.items k ≡ Some x → slice_get (members s.step.definition) k ≡ Some (view_member x)
-  member-is k x e = ap (λ xs. slice_get xs k) (sym h.prepared.members) ∙ get-map view_member prepared.members.items k x e
+  member-is k x e = ap (λ xs. slice_get xs k) (sym h.is_prepared.members) ∙ get-map view_member prepared.members.items k x e
 
   pub one-added : (k next after : ℕ) (x : Member) (old mid new : Placing) → slice_get (members s.step.definition) k ≡ Some x → AreAdded library.gate_delays.items library.udps.items source top corner s k next old mid
       → Adds library.gate_delays.items library.udps.items (nets source top) mid new (member_elements source corner (tick_of source top) s (k, x)) → IsNext source s (k + 1) after
@@ -110,13 +127,13 @@ module _ (source : Source) (top : Module) (corner : Corner) (ps : List Placed) (
       record {
         adds = subst (Adds library.gate_delays.items library.udps.items (nets source top) old new) all
             (adds-both library.gate_delays.items library.udps.items (nets source top) old mid new (flat_map f (take k (members_of s))) (f (k, x)) a.adds m);
-        next = n;
+        is_next = n;
       }
 
   pub all-added : (k next : ℕ) (old new : Placing) → length prepared.members.items ≤ k → AreAdded library.gate_delays.items library.udps.items source top corner s k next old new
       → Adds library.gate_delays.items library.udps.items (nets source top) old new (flat_map (member_elements source corner (tick_of source top) s) (enumerate_from 0 (members s.step.definition)))
   all-added k next old new le a =
-      let n : length (members_of s) ≡ length prepared.members.items = enumerate-count 0 (members s.step.definition) ∙ ap length (sym h.prepared.members) ∙ length-map prepared.members.items view_member in
+      let n : length (members_of s) ≡ length prepared.members.items = enumerate-count 0 (members s.step.definition) ∙ ap length (sym h.is_prepared.members) ∙ length-map prepared.members.items view_member in
       subst (λ ms. Adds library.gate_delays.items library.udps.items (nets source top) old new (flat_map (member_elements source corner (tick_of source top) s) ms)) (take_all k (members_of s) (omega arith)) a.adds
 
   pub one-refused : (k next : ℕ) (x : Member) (old mid : Placing) (r : Refused ElabKind) → slice_get (members s.step.definition) k ≡ Some x
@@ -134,12 +151,12 @@ module _ (source : Source) (top : Module) (corner : Corner) (ps : List Placed) (
   -- ---- what is read of a member
 
   reads : IsReadyAt source corner top library s.step.definition definition
-  reads = (all-in (IsReached source corner top library) s (instances source top) h.at.read.is_ready.reached there).stands definition h.definition
+  reads = (all-in (IsReached source corner top library) s (instances source top) h.at.read.is_ready.reached there).stands definition h.stands
 
   delays-count : length reads.delays ≡ length prepared.members.items
   delays-count =
       sym (length-map reads.delays (delays_at library.gate_delays.items)) ∙ ap length reads.in_ticks.delays ∙ length-map (members s.step.definition) (member_delays corner (tick_of source top) s.step.definition)
-      ∙ ap length (sym h.prepared.members) ∙ length-map prepared.members.items view_member
+      ∙ ap length (sym h.is_prepared.members) ∙ length-map prepared.members.items view_member
 
   pub delays-within : (k : ℕ) → k < length prepared.members.items
       → (list : List ℕ) × ((option_map (λ d. d.items) (slice_get library.delays.items definition) ≡ Some list) × (k < length list))
@@ -150,7 +167,7 @@ module _ (source : Source) (top : Module) (corner : Corner) (ps : List Placed) (
 
   pub first-within : (k : ℕ) → k < length prepared.members.items → (start : ℕ) × ((slice_get rows.member_starts.items number ≡ Some start) × (start + k < length rows.firsts.items))
   first-within k lt =
-      let n : length (members s.step.definition) ≡ length prepared.members.items = ap length (sym h.prepared.members) ∙ length-map prepared.members.items view_member in
+      let n : length (members s.step.definition) ≡ length prepared.members.items = ap length (sym h.is_prepared.members) ∙ length-map prepared.members.items view_member in
       let r = the-row in
       (r.2.member, (subst (λ j. slice_get rows.member_starts.items j ≡ Some r.2.member) r.1 r.2.member_starts, slice_get_within rows.firsts.items (r.2.member + k) _ (r.2.firsts k (omega arith))))
 
@@ -162,7 +179,7 @@ module _ (source : Source) (top : Module) (corner : Corner) (ps : List Placed) (
       let lt = slice_get_within (members s.step.definition) k x e in
       let a : slice_get rows.firsts.items (r.member + k) ≡ Some first = f r.member (subst (λ j. slice_get rows.member_starts.items j ≡ Some r.member) split.1 r.member_starts) in
       let b : Some first ≡ Some (first_of_member source (take number (instances source top)) s k) = sym a ∙ r.firsts k (omega arith) in
-      cc
+      same-some first (first_of_member source (take number (instances source top)) s k) b
 
   pub first-few : (k first : ℕ) (x : Member) → slice_get (members s.step.definition) k ≡ Some x → ((start : ℕ) → slice_get rows.member_starts.items number ≡ Some start → slice_get rows.firsts.items (start + k) ≡ Some first)
       → first ≤ 2 ^ 22
@@ -189,9 +206,9 @@ module _ (source : Source) (top : Module) (corner : Corner) (ps : List Placed) (
         at = h.at;
         here = h.here;
         member = e;
-        ticks = cc;
+        ticks = same-some _ _ ticks;
         listed = all-get (λ i. i < length library.gate_delays.items) reads.delays k delays reads.in_ticks.below p;
-        nets = member-numbered source top corner (take number (instances source top)) (drop (suc number) (instances source top)) s k x h.at.read.is_ready.sound split.0 e
+        numbered = member-numbered source top corner (take number (instances source top)) (drop (suc number) (instances source top)) s k x h.at.read.is_ready.sound split.0 e
             ∙ ap (λ n. range_with_len n (length (member_nets source s (k, x)))) (sym (first-is k first x e f));
-        next = a.next;
+        is_next = a.is_next;
       }

@@ -16,6 +16,7 @@ use Rattle.elab_model.specs.Delays.{tick_of, delays_of}
 use Rattle.elab_model.specs.Elements.{Component, child_elements, instance_elements, member_elements, terminal_bits, terminal_elements}
 use Rattle.elab_model.specs.Hierarchy.{Instance, Child, child_of, child_of_member, children_in, children, instances, size}
 use Rattle.elab_model.specs.Members.{Member, instance, members, connection_values}
+use Rattle.elab_model.specs.ModuleFaults.{all_member_faults}
 use Rattle.elab_model.specs.NameFaults.{declaration_faults}
 use Rattle.elab_model.specs.Names.{Variable, variables}
 use Rattle.elab_model.specs.Nets.{nets}
@@ -41,6 +42,12 @@ use Rattle.elab_elements.proofs.NextChild.{IsChildAt, instance_of, passes-by, ta
 use Rattle.elab_elements.proofs.StandingAt.{at-place, instance-at}
 
 -- ---- lists
+
+same-some : {A : Type 0} (x y : A) → Some x ≡ Some y → x ≡ y
+same-some x y e = cc
+
+none-some : {A : Type 0} (x : A) → None ≡ Some x → ⊥
+none-some x e = cc
 
 rest-empty : {B : Type 0} (o : Option B) (ys : List B) → cons_option o ys ≡ [] → ys ≡ []
 rest-empty None ys e = e
@@ -77,7 +84,7 @@ module _ (source : Source) (top : Module) (corner : Corner) (ps : List Placed) (
   there : In s (instances source top)
   there = at-place (instances source top) number s h.at.there
 
-  faultless : _
+  faultless : all_member_faults source corner (tick_of source top) s.step.definition (instance n d (view_instance t)) ≡ []
   faultless = member-sound source top corner s k (instance n d (view_instance t)) h.at.read.is_ready.sound there h.member
 
   -- nothing
@@ -87,7 +94,7 @@ module _ (source : Source) (top : Module) (corner : Corner) (ps : List Placed) (
   pub none-next : position_from (λ d. bytes_eq n.text (name_of d).text) 0 source ≡ None → IsNext source s (k + 1) next
   none-next e =
       passes-by source s k next (instance n d (view_instance t)) h.member
-      (ap (λ o. child_of (option_and_then as_module o) k (view_instance t)) (found-none (λ d. bytes_eq n.text (name_of d).text) 0 source e)) h.next
+      (ap (λ o. child_of (option_and_then as_module o) k (view_instance t)) (found-none (λ d. bytes_eq n.text (name_of d).text) 0 source e)) h.is_next
 
   is-ready : (place : ℕ) → position_from (λ d. bytes_eq n.text (name_of d).text) 0 source ≡ Some place → HasReady library.parts.items place
   is-ready place e =
@@ -102,17 +109,16 @@ module _ (source : Source) (top : Module) (corner : Corner) (ps : List Placed) (
           let m = h.at.read.is_ready.ready.1 place (Some (ready.Module q)) g in
           let f = is-defined source n.text place e in
           record { definition = m.0; is = f.defined ∙ sym f.there ∙ m.1; declared = m.2.declared }
-      by (ready.Primitive u) g = let f : Some u ≡ None = sym (ap primitive_at g) ∙ none in cc
+      by (ready.Primitive u) g = absurd (none-some u (sym none ∙ ap primitive_at g))
 
   pub names-primitive : (place u : ℕ) → position_from (λ d. bytes_eq n.text (name_of d).text) 0 source ≡ Some place → primitive_at (slice_get library.parts.items place) ≡ Some u
       → NamesPrimitive source library n.text u
   names-primitive place u e some = let r = is-ready place e in by r.0 r.1
     where
       by : (r : code_ready.Ready) → slice_get library.parts.items place ≡ Some (Some r) → NamesPrimitive source library n.text u
-      by (ready.Module q) g = let f : None ≡ Some u = sym (ap primitive_at g) ∙ some in cc
+      by (ready.Module q) g = absurd (none-some u (sym (ap primitive_at g) ∙ some))
       by (ready.Primitive v) g =
-          let f : Some v ≡ Some u = sym (ap primitive_at g) ∙ some in
-          let same : v ≡ u = cc in
+          let same : v ≡ u = same-some v u (sym (ap primitive_at g) ∙ some) in
           let p = h.at.read.is_ready.ready.1 place (Some (ready.Primitive v)) g in
           let defined = is-defined source n.text place e in
           record {
@@ -124,13 +130,13 @@ module _ (source : Source) (top : Module) (corner : Corner) (ps : List Placed) (
   -- ---- a module
 
   module _ (m : NamesModule source n.text) where
-    abbrev the_text : Child
+    abbrev pub the_text : Child
     the_text = record { definition = m.definition; member = k; place = (view_instance t).place; name = (view_instance t).name; connections = (view_instance t).connections }
 
     is-child : child_of_member source k (instance n d (view_instance t)) ≡ Some the_text
     is-child = ap (λ o. child_of (option_and_then as_module o) k (view_instance t)) m.is
 
-    level : (l : ℕ) × (s.step.levels ≡ suc l)
+    pub level : (l : ℕ) × (s.step.levels ≡ suc l)
     level = by s.step.levels refl
       where
         by : (l : ℕ) → s.step.levels ≡ l → (l : ℕ) × (s.step.levels ≡ suc l)
@@ -141,7 +147,7 @@ module _ (source : Source) (top : Module) (corner : Corner) (ps : List Placed) (
             (ap (λ j. child_of_member source j (instance n d (view_instance t))) z ∙ is-child))
 
     taken : IsChildAt source s k next level.0 the_text
-    taken = takes-one source s k next level.0 (instance n d (view_instance t)) the_text level.1 h.member is-child h.next
+    taken = takes-one source s k next level.0 (instance n d (view_instance t)) the_text level.1 h.member is-child h.is_next
 
     abbrev pub the : Instance
     the = instance_of source level.0 s next the_text
@@ -177,7 +183,7 @@ module _ (source : Source) (top : Module) (corner : Corner) (ps : List Placed) (
     primitive-bits = ap (λ ws. flat_map (bits ws) (connection_values (view_instance t).connections)) (sym h.here.numbers.table)
 
     pub primitive-fits : HasTerminals (nets source top) s k first 1 the_bits
-    primitive-fits = primitive-terminals source top corner s k first n d (view_instance t) p.definition p.is faultless h.nets
+    primitive-fits = primitive-terminals source top corner s k first n d (view_instance t) p.definition p.is faultless h.numbered
 
     pub primitive-elements : terminal_elements source s t.place k (Udp (udp_at library.udps.items u).rows (udp_at library.udps.items u).first (delays_at library.gate_delays.items delays)) 1 the_bits
         ≡ member_elements source corner (tick_of source top) s (k, instance n d (view_instance t))
@@ -186,4 +192,4 @@ module _ (source : Source) (top : Module) (corner : Corner) (ps : List Placed) (
         ∙ ap (instance_elements source corner (tick_of source top) s k d (view_instance t)) (sym p.is)
 
     pub primitive-next : IsNext source s (k + 1) next
-    primitive-next = passes-by source s k next (instance n d (view_instance t)) h.member (ap (λ o. child_of (option_and_then as_module o) k (view_instance t)) p.is) h.next
+    primitive-next = passes-by source s k next (instance n d (view_instance t)) h.member (ap (λ o. child_of (option_and_then as_module o) k (view_instance t)) p.is) h.is_next

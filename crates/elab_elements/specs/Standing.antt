@@ -49,9 +49,9 @@ pub record IsInside (s c : Instance) (scope : ℕ) (vs : List Variable) (text : 
 pub record AreMembers (source : Source) (top : Module) (corner : Corner) (placed : List Placed) (ready : Library) (numbers : Rows) (number definition : ℕ) (prepared : Prepared) (row : List ℕ) (next : ℕ) (s : Instance) : Type 0 where
   pub at : IsAt source top corner placed ready numbers number s
   pub here : IsHere (nets source top) source s number prepared.table row
-  pub definition : StandsAt source definition s.step.definition
-  pub prepared : IsPrepared prepared s.step.definition
-  pub next : next ≡ suc number
+  pub stands : StandsAt source definition s.step.definition
+  pub is_prepared : IsPrepared prepared s.step.definition
+  pub first_child : next ≡ suc number
 
 -- the member k of an instance: its delays stand at a place of the table, its nets have the numbers from `first` on, and the next instance the number `next`
 pub record IsMember (source : Source) (top : Module) (corner : Corner) (placed : List Placed) (ready : Library) (numbers : Rows) (number : ℕ) (vs : List Variable) (row : List ℕ) (delays first next k : ℕ) (x : Member) (s : Instance) : Type 0 where
@@ -60,5 +60,5 @@ pub record IsMember (source : Source) (top : Module) (corner : Corner) (placed :
   pub member : slice_get (members s.step.definition) k ≡ Some x
   pub ticks : delays_at ready.gate_delays.items delays ≡ member_delays corner (tick_of source top) s.step.definition x
   pub listed : delays < length ready.gate_delays.items
-  pub nets : numbers_in (nets source top) (member_nets source s (k, x)) ≡ range_with_len first (length (member_nets source s (k, x)))
-  pub next : IsNext source s k next
+  pub numbered : numbers_in (nets source top) (member_nets source s (k, x)) ≡ range_with_len first (length (member_nets source s (k, x)))
+  pub is_next : IsNext source s k next

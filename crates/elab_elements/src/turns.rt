@@ -48,7 +48,7 @@ fn add_named(
     made: &mut Placing,
 ) -> Result<u32, Refused<ElabKind>>
     requires at { (top : Module) × ((corner : ghost_corner.Corner) × ((k : ℕ) × ((d : Option SeenDelay) × ((s : def.Instance)
-        × IsMember definitions.now top corner instances.now library.now rows.now number table.now row.now delays first next k (def_members.instance (view_name name.entry) d (view_instance text.now)) s)))) }
+        × IsMember definitions.now top corner instances.now library.now rows.now number table.now row.now delays first next k (def_members.instance (view_name name) d (view_instance text.now)) s)))) }
     requires first { first ≤ 2 ^ 22 }
     requires few { length made.old.elements.items ≤ 2 ^ 22 }
     ensures few { length made.new.elements.items ≤ 2 ^ 22 }
@@ -105,7 +105,7 @@ pub fn add_member(
     made: &mut Placing,
 ) -> Result<u32, Refused<ElabKind>>
     requires at { (top : Module) × ((corner : ghost_corner.Corner) × ((k : ℕ) × ((s : def.Instance)
-        × IsMember definitions.now top corner instances.now library.now rows.now number table.now row.now delays first next k (view_member member.entry) s))) }
+        × IsMember definitions.now top corner instances.now library.now rows.now number table.now row.now delays first next k (view_member member) s))) }
     requires first { first ≤ 2 ^ 22 }
     requires few { length made.old.elements.items ≤ 2 ^ 22 }
     ensures few { length made.new.elements.items ≤ 2 ^ 22 }
