@@ -1,8 +1,9 @@
 -- The elements of the member that it is.
-use Rattle.std.proofs.Common.{◌+◌, ap, length, option_map, subst, sym}
+use Rattle.std.proofs.Common.{◌+◌, ◌∙◌, ap, flat_map, length, map, option_map, subst, sym}
 use Rattle.std.proofs.lemmas.Result.{err_from_is_err_and, IfOk-weaker, on_ok_weaker}
 use Rattle.vl_tree.specs.Seen.{view_delay, view_expression, view_gate_instance, view_join, view_name}
 use Rattle.elab_laws.specs.Handing.{all_bits}
+use Rattle.elab_model.specs.Bits.{bits}
 use Rattle.elab_model.specs.Delays.{tick_of}
 use Rattle.elab_model.specs.Elements.{member_elements, terminal_bits}
 use Rattle.elab_model.specs.Nets.{nets}
@@ -19,7 +20,7 @@ add_declared-requires-clause-row c = row-count _ c.args.row.now (all_bits c.args
 
 pub returns-in_err-add_declared-in-Declared-clause-refused : goal.returns-in_err-add_declared-in-Declared-clause-refused
 returns-in_err-add_declared-in-Declared-clause-refused c =
-    exit-by _ c.from_residual-in_err-add_declared-in-Declared.result c.in_err-add_declared-in-Declared.field-0.0 (err_from_is_err_and c.from_residual-in_err-add_declared-in-Declared.result c.from_residual-in_err-add_declared-in-Declared.ensures.1)
+    exit-by _ c.from_residual.result c.in_err-add_declared-in-Declared.field-0.0 (err_from_is_err_and c.from_residual.result c.from_residual.ensures.1)
     (λ top corner k s h. subst (λ cs. RefusesCount (length c.args.made.now.elements.items + length cs) c.in_err-add_declared-in-Declared.field-0.0)
     (declared-same c.args.definitions.now top corner c.args.instances.now c.args.library.now c.args.rows.now c.args.number c.args.table.now c.args.row.now c.args.delays c.args.first c.args.next k s (view_member c.args.member) (view_name c.in-Declared.name) (view_expression c.in-Declared.value.now) (ap view_member c.in-Declared.is) h)
     (c.in_err-add_declared-in-Declared.ensures.refused (nets c.args.definitions.now top) c.args.definitions.now s h.here))
@@ -40,13 +41,13 @@ pub returns-in_err-add_assignment-in-Assignment-clause-refused : goal.returns-in
 returns-in_err-add_assignment-in-Assignment-clause-refused c =
     exit-by _ c.from_residual-in_err-add_assignment-in-Assignment.result c.in_err-add_assignment-in-Assignment.field-0.0 (err_from_is_err_and c.from_residual-in_err-add_assignment-in-Assignment.result c.from_residual-in_err-add_assignment-in-Assignment.ensures.1)
     (λ top corner k s h. subst (λ cs. RefusesCount (length c.args.made.now.elements.items + length cs) c.in_err-add_assignment-in-Assignment.field-0.0)
-    (assignment-same c.args.definitions.now top corner c.args.instances.now c.args.library.now c.args.rows.now c.args.number c.args.table.now c.args.row.now c.args.delays c.args.first c.args.next k s (view_member c.args.member) (view_join c.in-Assignment.field-0.now) (ap view_member c.in-Assignment.is) h)
+    (assignment-same c.args.definitions.now top corner c.args.instances.now c.args.library.now c.args.rows.now c.args.number c.args.table.now c.args.row.now c.args.delays c.args.first c.args.next k s (view_member c.args.member) (view_join c.in-Assignment.join.now) (ap view_member c.in-Assignment.is) h)
     (c.in_err-add_assignment-in-Assignment.ensures.refused (nets c.args.definitions.now top) c.args.definitions.now s h.here))
 
 pub returns-in_ok-add_assignment-in-Assignment-clause-elements : goal.returns-in_ok-add_assignment-in-Assignment-clause-elements
 returns-in_ok-add_assignment-in-Assignment-clause-elements c = λ top corner k s h.
     subst (Adds c.args.library.now.gate_delays.items c.args.library.now.udps.items (nets c.args.definitions.now top) c.args.made.now c.add_assignment.new.made)
-    (assignment-same c.args.definitions.now top corner c.args.instances.now c.args.library.now c.args.rows.now c.args.number c.args.table.now c.args.row.now c.args.delays c.args.first c.args.next k s (view_member c.args.member) (view_join c.in-Assignment.field-0.now) (ap view_member c.in-Assignment.is) h)
+    (assignment-same c.args.definitions.now top corner c.args.instances.now c.args.library.now c.args.rows.now c.args.number c.args.table.now c.args.row.now c.args.delays c.args.first c.args.next k s (view_member c.args.member) (view_join c.in-Assignment.join.now) (ap view_member c.in-Assignment.is) h)
     (c.in_ok-add_assignment-in-Assignment.ensures.passes _ _ (nets c.args.definitions.now top) c.args.definitions.now s h.here)
 
 pub returns-in_ok-add_assignment-in-Assignment-clause-next : goal.returns-in_ok-add_assignment-in-Assignment-clause-next
@@ -80,14 +81,16 @@ returns-in_err-add_gate-in-Gate-clause-refused c =
     (λ top corner k s h. subst (λ cs. RefusesCount (length c.args.made.now.elements.items + length cs) c.in_err-add_gate-in-Gate.field-0.0)
     (gate-same c.args.definitions.now top corner c.args.instances.now c.args.library.now c.args.rows.now c.args.number c.args.table.now c.args.row.now c.args.delays c.args.first c.args.next k s (view_member c.args.member) c.in-Gate.kind (option_map view_delay c.in-Gate.delay.now) (view_gate_instance c.in-Gate.instance.now) (ap view_member c.in-Gate.is) h)
     (c.in_err-add_gate-in-Gate.ensures.refused c.args.library.now.gate_delays.items (nets c.args.definitions.now top) c.args.definitions.now s k (terminal_bits s (view_gate_instance c.in-Gate.instance.now).terminals) h.here
-    (gate-bits c.args.definitions.now top corner c.args.instances.now c.args.library.now c.args.rows.now c.args.number c.args.table.now c.args.row.now c.args.delays c.args.first c.args.next k s c.in-Gate.kind (option_map view_delay c.in-Gate.delay.now) (view_gate_instance c.in-Gate.instance.now) (as-member c.args.definitions.now top corner c.args.instances.now c.args.library.now c.args.rows.now c.args.number c.args.table.now c.args.row.now c.args.delays c.args.first c.args.next k s (view_member c.args.member) _ (ap view_member c.in-Gate.is) h))))
+    (gate-bits c.args.definitions.now top corner c.args.instances.now c.args.library.now c.args.rows.now c.args.number c.args.table.now c.args.row.now c.args.delays c.args.first c.args.next k s c.in-Gate.kind (option_map view_delay c.in-Gate.delay.now) (view_gate_instance c.in-Gate.instance.now) (as-member c.args.definitions.now top corner c.args.instances.now c.args.library.now c.args.rows.now c.args.number c.args.table.now c.args.row.now c.args.delays c.args.first c.args.next k s (view_member c.args.member) _ (ap view_member c.in-Gate.is) h)
+    ∙ ap (λ es. flat_map (bits c.args.table.now) (map view_expression es)) (sym c.deref.ensures.value))))
 
 pub returns-in_ok-add_gate-in-Gate-clause-elements : goal.returns-in_ok-add_gate-in-Gate-clause-elements
 returns-in_ok-add_gate-in-Gate-clause-elements c = λ top corner k s h.
     subst (Adds c.args.library.now.gate_delays.items c.args.library.now.udps.items (nets c.args.definitions.now top) c.args.made.now c.add_gate.new.made)
     (gate-same c.args.definitions.now top corner c.args.instances.now c.args.library.now c.args.rows.now c.args.number c.args.table.now c.args.row.now c.args.delays c.args.first c.args.next k s (view_member c.args.member) c.in-Gate.kind (option_map view_delay c.in-Gate.delay.now) (view_gate_instance c.in-Gate.instance.now) (ap view_member c.in-Gate.is) h)
     (c.in_ok-add_gate-in-Gate.ensures.elements c.args.library.now.gate_delays.items c.args.library.now.udps.items (nets c.args.definitions.now top) c.args.definitions.now s k (terminal_bits s (view_gate_instance c.in-Gate.instance.now).terminals) h.here
-    (gate-bits c.args.definitions.now top corner c.args.instances.now c.args.library.now c.args.rows.now c.args.number c.args.table.now c.args.row.now c.args.delays c.args.first c.args.next k s c.in-Gate.kind (option_map view_delay c.in-Gate.delay.now) (view_gate_instance c.in-Gate.instance.now) (as-member c.args.definitions.now top corner c.args.instances.now c.args.library.now c.args.rows.now c.args.number c.args.table.now c.args.row.now c.args.delays c.args.first c.args.next k s (view_member c.args.member) _ (ap view_member c.in-Gate.is) h))
+    (gate-bits c.args.definitions.now top corner c.args.instances.now c.args.library.now c.args.rows.now c.args.number c.args.table.now c.args.row.now c.args.delays c.args.first c.args.next k s c.in-Gate.kind (option_map view_delay c.in-Gate.delay.now) (view_gate_instance c.in-Gate.instance.now) (as-member c.args.definitions.now top corner c.args.instances.now c.args.library.now c.args.rows.now c.args.number c.args.table.now c.args.row.now c.args.delays c.args.first c.args.next k s (view_member c.args.member) _ (ap view_member c.in-Gate.is) h)
+    ∙ ap (λ es. flat_map (bits c.args.table.now) (map view_expression es)) (sym c.deref.ensures.value))
     (gate-fits c.args.definitions.now top corner c.args.instances.now c.args.library.now c.args.rows.now c.args.number c.args.table.now c.args.row.now c.args.delays c.args.first c.args.next k s c.in-Gate.kind (option_map view_delay c.in-Gate.delay.now) (view_gate_instance c.in-Gate.instance.now) (as-member c.args.definitions.now top corner c.args.instances.now c.args.library.now c.args.rows.now c.args.number c.args.table.now c.args.row.now c.args.delays c.args.first c.args.next k s (view_member c.args.member) _ (ap view_member c.in-Gate.is) h)) h.listed)
 
 pub returns-in_ok-add_gate-in-Gate-clause-next : goal.returns-in_ok-add_gate-in-Gate-clause-next
