@@ -1,5 +1,5 @@
 -- The elements that are added for a member are those of the definition.
-use Rattle.std.specs.Prelude.{◌≡◌, ℕ, ◌+◌, ◌<◌, List, Option, None, flat_map, map, length, refl}
+use Rattle.std.specs.Prelude.{◌≡◌, ℕ, ◌+◌, List, Option, None, flat_map, length, refl}
 use Rattle.std.proofs.Common.{sym, ◌∙◌, ap, subst}
 use Rattle.std.proofs.lemmas.List.{append-nil}
 use Rattle.sg_circuit.specs.Circuit.{Gate}
@@ -7,9 +7,8 @@ use Rattle.sg_circuit.specs.Seen.{delays_at}
 use Rattle.sg_delay.specs.declared.corners.Corner.{Corner}
 use Rattle.sg_logic.specs.declared.gates.GateKind.{GateKind}
 use Rattle.sg_logic.specs.declared.values.Value.{Value}
-use Rattle.sg_text.specs.declared.places.Place.{Place}
 use Rattle.vl_tree.specs.Tree.{Named, Delay, Expression, signal, GateInstance, Join, Module, Source}
-use Rattle.elab_model.specs.Bits.{Bit, bits, constant, leaf_bits}
+use Rattle.elab_model.specs.Bits.{bits, constant, leaf_bits}
 use Rattle.elab_model.specs.Delays.{tick_of}
 use Rattle.elab_model.specs.Elements.{member_elements, output_count, pass_to, passes, terminal_bits, terminal_elements}
 use Rattle.elab_model.specs.Hierarchy.{Instance, instances}

@@ -1,5 +1,5 @@
 -- The members of an instance, one after another.
-use Rattle.std.specs.Prelude.{◌≡◌, ℕ, zero, suc, ◌+◌, ◌<◌, ◌≤◌, ◌^◌, List, [], ◌∷◌, ◌++◌, Option, Some, flat_map, take, drop, map, length, slice_get, option_map, refl}
+use Rattle.std.specs.Prelude.{◌≡◌, ℕ, suc, ◌+◌, ◌<◌, ◌≤◌, ◌^◌, List, [], ◌∷◌, ◌++◌, Some, flat_map, take, drop, map, length, slice_get, option_map, refl}
 use Rattle.std.specs.List.{enumerate_from, range_with_len}
 use Rattle.std.proofs.Common.{sym, ◌∙◌, ap, arith, subst, append_assoc, length-append}
 use Rattle.std.proofs.lemmas.Grind.{flat_map-append}
@@ -14,11 +14,10 @@ use Rattle.vl_tree.specs.Tree.{Module, Source}
 use Rattle.elab_model.specs.declared.kinds.ElabKind.{ElabKind}
 use Rattle.elab_model.specs.Circuits.{element_of}
 use Rattle.elab_model.specs.Delays.{tick_of}
-use Rattle.elab_model.specs.Elements.{Component, legs, member_elements, elements_of}
+use Rattle.elab_model.specs.Elements.{Component, member_elements}
 use Rattle.elab_model.specs.Hierarchy.{Instance, instances}
 use Rattle.elab_model.specs.HierarchyFaults.{count_limit}
 use Rattle.elab_model.specs.Members.{Member, members}
-use Rattle.elab_model.specs.Names.{variables}
 use Rattle.elab_model.specs.Nets.{OwnNet, nets, member_nets}
 use Rattle.elab_nets.specs.Refusals.{RefusesCount}
 use Rattle.elab_laws.specs.Handing.{all_bits}
@@ -28,7 +27,7 @@ use Rattle.elab_modules.specs.declared.library.Library.{Library}
 use Rattle.elab_modules.specs.declared.library.Ready.TheVariants as ready
 use Rattle.elab_modules.specs.declared.prepared.Prepared.{Prepared}
 use Rattle.elab_modules.specs.Reached.{IsReached, IsReadyAt}
-use Rattle.elab_modules.specs.Ready.{IsPrepared, member_delays}
+use Rattle.elab_modules.specs.Ready.{member_delays}
 use Rattle.elab_tables.specs.declared.member_list.Member as code_member
 use Rattle.elab_tables.specs.Seen.{view_member}
 use Rattle.elab_rows.specs.declared.rows.Rows.{Rows}

@@ -1,5 +1,5 @@
 -- A member that names a definition: an instance of a module, which is the next, or of a primitive.
-use Rattle.std.specs.Prelude.{◌≡◌, ℕ, zero, suc, ◌+◌, ◌<◌, List, [], ◌∷◌, Option, Some, None, flat_map, filter_map, length, slice_get, bytes_eq, refl}
+use Rattle.std.specs.Prelude.{◌≡◌, ℕ, zero, suc, ◌+◌, List, [], ◌∷◌, Option, Some, None, flat_map, filter_map, slice_get, bytes_eq, refl}
 use Rattle.std.specs.List.{enumerate_from, position_from, cons_option}
 use Rattle.std.specs.Option.{option_and_then}
 use Rattle.std.proofs.Common.{sym, ◌∙◌, ap, arith, subst}
@@ -12,15 +12,14 @@ use Rattle.vl_tree.specs.Tree.{Named, Delay, Module, Primitive, Source, a_module
 use Rattle.vl_tree.specs.declared.items.Instance as code_text
 use Rattle.elab_model.specs.Bits.{Bit, bits}
 use Rattle.elab_model.specs.Definitions.{definition_of, name_of, as_module}
-use Rattle.elab_model.specs.Delays.{tick_of, delays_of}
-use Rattle.elab_model.specs.Elements.{Component, child_elements, instance_elements, member_elements, terminal_bits, terminal_elements}
-use Rattle.elab_model.specs.Hierarchy.{Instance, Child, child_of, child_of_member, children_in, children, instances, size}
-use Rattle.elab_model.specs.Members.{Member, instance, members, connection_values}
+use Rattle.elab_model.specs.Delays.{tick_of}
+use Rattle.elab_model.specs.Elements.{child_elements, instance_elements, member_elements, terminal_bits, terminal_elements}
+use Rattle.elab_model.specs.Hierarchy.{Instance, Child, child_of, child_of_member, instances, size}
+use Rattle.elab_model.specs.Members.{instance, members, connection_values}
 use Rattle.elab_model.specs.ModuleFaults.{all_member_faults}
 use Rattle.elab_model.specs.NameFaults.{declaration_faults}
-use Rattle.elab_model.specs.Names.{Variable, variables}
+use Rattle.elab_model.specs.Names.{Variable}
 use Rattle.elab_model.specs.Nets.{nets}
-use Rattle.elab_model.specs.Primitives.{table_of, initial_value}
 use Rattle.elab_laws.proofs.Lists.{In, all-in, all-get}
 use Rattle.elab_ports.specs.Bound.{AreConnected}
 use Rattle.elab_hierarchy.specs.declared.instances.Placed.{Placed}

@@ -1,5 +1,5 @@
 -- The Legs of an instance, then the elements of its members.
-use Rattle.std.proofs.Common.{◌+◌, arith, flat_map}
+use Rattle.std.proofs.Common.{arith, flat_map}
 use Rattle.std.specs.List.{enumerate_from}
 use Rattle.std.proofs.lemmas.Result.{err_from_is_err_and, on_ok_weaker}
 use Rattle.elab_model.specs.Delays.{tick_of}

@@ -21,10 +21,20 @@ first_net-first-requires c =
 
 pub add_member-requires-clause-at : goal.add_member-requires-clause-at
 add_member-requires-clause-at c =
-    let lt : c.loop-at.at < length c.deref-member-items.result.now = omega arith in
-    (c.requires.at.0, (c.requires.at.1.0, (c.loop-at.at, (c.requires.at.1.1.0,
-    (is-member c.args.definitions.now c.requires.at.0 c.requires.at.1.0 c.args.instances.now c.args.library.now c.args.rows.now c.args.number c.args.definition c.args.prepared.now c.args.row.now c.args.start c.requires.at.1.1.0 c.requires.at.1.1.1 c.loop-at.at c.loop-at.next c.delays_at-delays.result c.first_net-first.result (view_member c.member-item.result) c.args.made.now c.loop-at.made
-    (member-at c.args.prepared.now c.requires.at.1.1.0.step.definition c.deref-member-items.result.now c.loop-at.at c.member-item.result c.requires.at.1.1.1.is_prepared c.deref-member-items.ensures.value lt c.member-item.is) c.delays_at-delays.ensures c.first_net-first.ensures (c.loop-at.invariant.added c.requires.at.0 c.requires.at.1.0 c.requires.at.1.1.0 c.requires.at.1.1.1))))))
+    let lt : c.loop-at.at < length c.deref-member-items.result.now = omega arith in (
+      c.requires.at.0,
+      (
+        c.requires.at.1.0,
+        (
+          c.loop-at.at,
+          (
+            c.requires.at.1.1.0,
+            (is-member c.args.definitions.now c.requires.at.0 c.requires.at.1.0 c.args.instances.now c.args.library.now c.args.rows.now c.args.number c.args.definition c.args.prepared.now c.args.row.now c.args.start c.requires.at.1.1.0 c.requires.at.1.1.1 c.loop-at.at c.loop-at.next c.delays_at-delays.result c.first_net-first.result (view_member c.member-item.result) c.args.made.now c.loop-at.made
+                (member-at c.args.prepared.now c.requires.at.1.1.0.step.definition c.deref-member-items.result.now c.loop-at.at c.member-item.result c.requires.at.1.1.1.is_prepared c.deref-member-items.ensures.value lt c.member-item.is) c.delays_at-delays.ensures c.first_net-first.ensures (c.loop-at.invariant.added c.requires.at.0 c.requires.at.1.0 c.requires.at.1.1.0 c.requires.at.1.1.1)),
+          ),
+        ),
+      ),
+    )
 
 pub add_member-requires-clause-first : goal.add_member-requires-clause-first
 add_member-requires-clause-first c =
@@ -49,7 +59,7 @@ loop-at-preserved c =
       few = c.add_member.ensures.few;
       added = λ top corner s h.
           let member = (is-member c.args.definitions.now top corner c.args.instances.now c.args.library.now c.args.rows.now c.args.number c.args.definition c.args.prepared.now c.args.row.now c.args.start s h c.loop-at.at c.loop-at.next c.delays_at-delays.result c.first_net-first.result (view_member c.member-item.result) c.args.made.now c.loop-at.made
-    (member-at c.args.prepared.now s.step.definition c.deref-member-items.result.now c.loop-at.at c.member-item.result h.is_prepared c.deref-member-items.ensures.value lt c.member-item.is) c.delays_at-delays.ensures c.first_net-first.ensures (c.loop-at.invariant.added top corner s h)) in
+          (member-at c.args.prepared.now s.step.definition c.deref-member-items.result.now c.loop-at.at c.member-item.result h.is_prepared c.deref-member-items.ensures.value lt c.member-item.is) c.delays_at-delays.ensures c.first_net-first.ensures (c.loop-at.invariant.added top corner s h)) in
           one-added c.args.definitions.now top corner c.args.instances.now c.args.library.now c.args.rows.now c.args.number c.args.definition c.args.prepared.now c.args.row.now c.args.start s h c.loop-at.at c.loop-at.next c.in_ok-next.next (view_member c.member-item.result) c.args.made.now c.loop-at.made c.add_member.new.made
           (member-at c.args.prepared.now s.step.definition c.deref-member-items.result.now c.loop-at.at c.member-item.result h.is_prepared c.deref-member-items.ensures.value lt c.member-item.is) (c.loop-at.invariant.added top corner s h)
           (c.in_ok-next.ensures.elements top corner c.loop-at.at s member) (c.in_ok-next.ensures.next top corner c.loop-at.at s member);

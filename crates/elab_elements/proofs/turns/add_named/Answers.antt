@@ -22,9 +22,19 @@ returns-in_default-clause-elements c = λ top corner k d s h.
 
 pub add_child-requires-clause-at : goal.add_child-requires-clause-at
 add_child-requires-clause-at c =
-    let m = names-module c.args.definitions.now c.requires.at.0 c.requires.at.1.0 c.args.instances.now c.args.library.now c.args.rows.now c.args.number c.args.table.now c.args.row.now c.args.delays c.args.first c.args.next c.requires.at.1.1.0 (view_name c.args.name) c.requires.at.1.1.1.0 c.args.text.now c.requires.at.1.1.1.1.0 c.requires.at.1.1.1.1.1 c.in-Some.place (sym c.in-Some.ensures) (sym c.in_default-primitive_at.ensures) in
-    (c.args.definitions.now, (c.requires.at.0, (c.requires.at.1.0, (the c.args.definitions.now c.requires.at.0 c.requires.at.1.0 c.args.instances.now c.args.library.now c.args.rows.now c.args.number c.args.table.now c.args.row.now c.args.delays c.args.first c.args.next c.requires.at.1.1.0 (view_name c.args.name) c.requires.at.1.1.1.0 c.args.text.now c.requires.at.1.1.1.1.0 c.requires.at.1.1.1.1.1 m,
-    the-at c.args.definitions.now c.requires.at.0 c.requires.at.1.0 c.args.instances.now c.args.library.now c.args.rows.now c.args.number c.args.table.now c.args.row.now c.args.delays c.args.first c.args.next c.requires.at.1.1.0 (view_name c.args.name) c.requires.at.1.1.1.0 c.args.text.now c.requires.at.1.1.1.1.0 c.requires.at.1.1.1.1.1 m))))
+    let m = names-module c.args.definitions.now c.requires.at.0 c.requires.at.1.0 c.args.instances.now c.args.library.now c.args.rows.now c.args.number c.args.table.now c.args.row.now c.args.delays c.args.first c.args.next c.requires.at.1.1.0 (view_name c.args.name) c.requires.at.1.1.1.0 c.args.text.now c.requires.at.1.1.1.1.0 c.requires.at.1.1.1.1.1 c.in-Some.place (sym c.in-Some.ensures) (sym c.in_default-primitive_at.ensures) in (
+      c.args.definitions.now,
+      (
+        c.requires.at.0,
+        (
+          c.requires.at.1.0,
+          (
+            the c.args.definitions.now c.requires.at.0 c.requires.at.1.0 c.args.instances.now c.args.library.now c.args.rows.now c.args.number c.args.table.now c.args.row.now c.args.delays c.args.first c.args.next c.requires.at.1.1.0 (view_name c.args.name) c.requires.at.1.1.1.0 c.args.text.now c.requires.at.1.1.1.1.0 c.requires.at.1.1.1.1.1 m,
+            the-at c.args.definitions.now c.requires.at.0 c.requires.at.1.0 c.args.instances.now c.args.library.now c.args.rows.now c.args.number c.args.table.now c.args.row.now c.args.delays c.args.first c.args.next c.requires.at.1.1.0 (view_name c.args.name) c.requires.at.1.1.1.0 c.args.text.now c.requires.at.1.1.1.1.0 c.requires.at.1.1.1.1.1 m,
+          ),
+        ),
+      ),
+    )
 
 pub returns-in_default-primitive_at-clause-next : goal.returns-in_default-primitive_at-clause-next
 returns-in_default-primitive_at-clause-next c =
