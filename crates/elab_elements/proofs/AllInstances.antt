@@ -1,7 +1,7 @@
 -- The elements of all instances, one after another.
-use Rattle.std.specs.Prelude.{◌≡◌, ℕ, ◌+◌, ◌<◌, ◌≤◌, ◌^◌, List, [], ◌∷◌, ◌++◌, Some, map, flat_map, take, drop, length, slice_get, refl}
+use Rattle.std.specs.Prelude.{◌≡◌, ℕ, ◌+◌, ◌<◌, ◌≤◌, ◌^◌, List, [], ◌∷◌, ◌++◌, map, flat_map, take, drop, length}
 use Rattle.std.specs.List.{AllByRecursion}
-use Rattle.std.proofs.Common.{sym, ◌∙◌, ap, arith, subst, append_assoc, length-append, get_or}
+use Rattle.std.proofs.Common.{sym, ◌∙◌, ap, arith, subst, length-append, get_or}
 use Rattle.std.proofs.lemmas.Grind.{flat_map-append}
 use Rattle.std.proofs.lemmas.List.{append-nil, map-append, length-map, take_more, take_all, take-append-drop}
 use Rattle.std.proofs.lemmas.Option.{slice_get-get_or}
@@ -16,7 +16,7 @@ use Rattle.elab_model.specs.Circuits.{element_of}
 use Rattle.elab_model.specs.Delays.{tick_of}
 use Rattle.elab_model.specs.Drivers.{elements}
 use Rattle.elab_model.specs.Elements.{Component, elements_of}
-use Rattle.elab_model.specs.Hierarchy.{Instance, instances, top_instance}
+use Rattle.elab_model.specs.Hierarchy.{instances, top_instance}
 use Rattle.elab_model.specs.Nets.{OwnNet, nets}
 use Rattle.elab_nets.specs.Refusals.{RefusesCount}
 use Rattle.elab_hierarchy.specs.declared.instances.Placed.{Placed}

@@ -14,3 +14,6 @@ pub mod StandingAt
 pub mod ReadHere
 pub mod MemberLaws
 pub mod AllInstances
+pub mod NamedMember
+pub mod MemberTurn
+pub mod MembersSoFar

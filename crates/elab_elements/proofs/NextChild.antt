@@ -1,7 +1,7 @@
 -- Members and instances side by side: each member that is an instance of a module has the next.
 use Rattle.std.specs.Prelude.{◌≡◌, ℕ, zero, suc, ◌+◌, ◌<◌, ◌≤◌, ◌==◌, List, [], ◌∷◌, ◌++◌, false, Option, Some, None, flat_map, filter_map, slice_get, drop, refl, if◌then◌else◌}
 use Rattle.std.specs.List.{AllByRecursion, enumerate_from, cons_option}
-use Rattle.std.proofs.Common.{sym, ◌∙◌, ap, arith, append_assoc}
+use Rattle.std.proofs.Common.{sym, ◌∙◌, ap, arith, append_assoc, inl, subst}
 use Rattle.std.proofs.lemmas.Bool.{eq-eqb}
 use Rattle.std.proofs.lemmas.Bool.Decides.{nat_tests}
 use Rattle.std.proofs.lemmas.Grind.{flat_map-append}
@@ -10,7 +10,7 @@ use Rattle.elab_model.specs.Definitions.{module_of}
 use Rattle.elab_model.specs.Elements.{child_at}
 use Rattle.elab_model.specs.Hierarchy.{Step, Instance, Child, child_of, child_of_member, children_from, children_at, children, size, text_of}
 use Rattle.elab_model.specs.Members.{Member, assignment, supply, gate, instance, members}
-use Rattle.elab_laws.proofs.Lists.{all-append, all-weaker}
+use Rattle.elab_laws.proofs.Lists.{In, in-right, all-append, all-weaker}
 use Rattle.elab_elements.specs.Next.{children_of, IsNext}
 
 -- ---- the first member
@@ -56,6 +56,7 @@ instance_of source levels s next c =
 -- a member that is one
 pub record IsChildAt (source : Source) (s : Instance) (k next levels : ℕ) (c : Child) : Type 0 where
   pub alone : child_at source s k ≡ instance_of source levels s next c ∷ []
+  pub there : In (instance_of source levels s next c) (children source s)
   pub after : IsNext source s (k + 1) (next + size source levels c.definition)
 
 member-is : (source : Source) (k : ℕ) (x : Member) (c : Child) → child_of_member source k x ≡ Some c → c.member ≡ k
@@ -111,6 +112,7 @@ takes-one source s k next levels x c level at some h =
     record {
       alone = ap (flat_map (λ c. if c.step.member == k then c ∷ [] else [])) split
           ∙ one-at k child h.before others h.earlier (member-is source k x c some) (later source levels (s.step ∷ s.above) (next + size source levels c.definition) (k + 1) (drop (k + 1) (members s.step.definition)));
+      there = subst (In child) (sym split) (in-right child h.before (child ∷ others) (inl refl));
       after = record {
         before = h.before ++ child ∷ [];
         earlier = all-append (λ c. c.step.member < k + 1) h.before (child ∷ []) (all-weaker (λ c. c.step.member < k) (λ c. c.step.member < k + 1) h.before (λ c lt. omega arith) h.earlier)

@@ -13,6 +13,8 @@ use Rattle.elab_tables.specs.Seen.{variable_at}
 use Rattle.elab_bits.specs.declared.bits.Bit as code_bit
 use Rattle.elab_bits.specs.declared.bits.Bit.TheVariants as bit
 use Rattle.elab_bits.specs.Seen.{bit_at}
+use Rattle.elab_modules.specs.declared.library.Ready as code_ready
+use Rattle.elab_modules.specs.declared.library.Ready.TheVariants as ready
 use Rattle.elab_ports.specs.declared.constants.PortConstant as code_constant
 use Rattle.elab_elements.specs.Puts.{Put, put}
 
@@ -104,3 +106,15 @@ port_puts scope vs leaf inner outer c = driven_puts scope c (port_net vs leaf in
 abbrev pub is_alone : Option ℕ → ℕ → ℕ → Bool
 is_alone None end number = false
 is_alone (Some p) end number = end - number == 1
+
+-- ---- primitives
+
+abbrev pub primitive_in : Option code_ready.Ready → Option ℕ
+primitive_in None = None
+primitive_in (Some (ready.Module q)) = None
+primitive_in (Some (ready.Primitive k)) = Some k
+
+-- the place of the table of the primitive that stands ready
+abbrev pub primitive_at : Option (Option code_ready.Ready) → Option ℕ
+primitive_at None = None
+primitive_at (Some part) = primitive_in part

@@ -13,6 +13,7 @@ mod placing;
 mod ports;
 mod primitives;
 mod reading;
+mod turns;
 
 pub use elements::elements_in;
 pub use placing::Placing;

@@ -3,6 +3,7 @@ ghost use Rattle.std.specs.Prelude.{◌≡◌, ◌≤◌, ◌<◌, ◌+◌, ℕ,
 ghost use Rattle.elab_modules.specs.declared.library.Ready.TheVariants as ghost_ready;
 ghost use Rattle.elab_modules.specs.declared.prepared.Prepared as ghost_prepared;
 ghost use Rattle.elab_rows.specs.Rows.{part_of};
+ghost use Rattle.elab_elements.specs.Words.{primitive_in, primitive_at};
 
 use elab_hierarchy::Placed;
 use elab_modules::{Library, Prepared, Ready};
@@ -26,6 +27,22 @@ pub fn module_at<'a, 'b>(library: &'b Library<'a>, definition: usize) -> &'b Pre
         Some(Ready::Module(prepared)) => prepared,
         _ => unreachable!(),
     }
+}
+
+fn primitive_in(part: &Option<Ready>) -> Option<u32>
+    ensures { result ≡ primitive_in part.now }
+{
+    match part {
+        Some(Ready::Primitive(udp)) => Some(*udp),
+        Some(Ready::Module(_)) | None => None,
+    }
+}
+
+/// The place of the table of the primitive that stands ready at a place of the definitions, if it is one.
+pub fn primitive_at(library: &Library, definition: usize) -> Option<u32>
+    ensures { result ≡ primitive_at (slice_get library.now.parts.items definition) }
+{
+    primitive_in(library.parts.get(definition)?)
 }
 
 /// The place of the delays of a member of the module at a place of the definitions.

@@ -1,5 +1,5 @@
 -- One instance more has its elements, and a refusal on the way is one of all.
-use Rattle.std.proofs.Common.{◌<◌, ◌≤◌, arith, length, get_or}
+use Rattle.std.proofs.Common.{◌<◌, arith, length, get_or}
 use Rattle.std.proofs.lemmas.Result.{err_from_is_err_and}
 use Rattle.elab_model.specs.Hierarchy.{instances, top_instance}
 use Rattle.elab_elements.proofs.AllInstances.{at-next, one-more, all-hold, one-refused}
