@@ -1,12 +1,9 @@
 -- The delays of one module more stand in the table.
-use Rattle.std.specs.Prelude.{◌≡◌, ◌⊎◌, ℕ, zero, suc, ◌+◌, ◌<◌, ◌≤◌, All, List, [], ◌∷◌, ◌++◌, Option, Some, Result, Ok, Err, IfOk, IfErr, OnOk, flat_map, length, map, option_map, slice_get, slice_index_or, refl, ℤ}
+use Rattle.std.specs.Prelude.{◌≡◌, ◌⊎◌, ℕ, zero, suc, ◌+◌, ◌<◌, ◌≤◌, All, List, [], ◌∷◌, ◌++◌, Option, Some, Result, Ok, Err, IfOk, IfErr, OnOk, flat_map, length, option_map, slice_get, slice_index_or, refl, ℤ}
 use Rattle.std.specs.Global.{Vec}
-use Rattle.std.specs.List.{AllByRecursion}
 use Rattle.std.proofs.Common.{sym, ◌∙◌, ap, arith, inl, inr, subst, length-append}
-use Rattle.std.proofs.lemmas.List.{map-append, get_or_append_left, length-map}
 use Rattle.std.proofs.lemmas.List.Elements.{All-nil}
 use Rattle.std.proofs.lemmas.Option.{slice_get-get_or}
-use Rattle.sg_circuit.specs.Seen.{delays_at, gate_delays_seen}
 use Rattle.sg_delay.specs.declared.corners.Corner.{Corner}
 use Rattle.sg_delay.specs.declared.gates.GateDelays.{GateDelays}
 use Rattle.sg_text.specs.declared.refusals.Refused.{Refused}
@@ -16,7 +13,6 @@ use Rattle.elab_model.specs.declared.kinds.ElabKind.{ElabKind}
 use Rattle.elab_model.specs.Faults.{RefusesOneOf}
 use Rattle.elab_model.specs.Members.{members}
 use Rattle.elab_model.specs.ModuleFaults.{all_member_faults}
-use Rattle.elab_laws.proofs.Lists.{all-weaker}
 use Rattle.elab_modules.specs.declared.prepared.Prepared.{Prepared}
 use Rattle.elab_modules.specs.declared.library.Ready as code_ready
 use Rattle.elab_modules.specs.declared.library.Ready.TheVariants as ready

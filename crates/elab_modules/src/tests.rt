@@ -1,8 +1,6 @@
-// What is refused in members, in the module `wire a; wire b; wire [1:0] v;` and in instances of `module p (x); output [1:0] x;`.
+// What is refused in members of the module `wire a; wire b; wire [1:0] v;`.
 use crate::assignments::check_sides;
-use crate::connections::check_module_instance;
 use crate::gates::check_gate;
-use crate::prepare;
 use crate::primitive_instances::check_primitive_instance;
 use elab_model::ElabKind;
 use elab_tables::Table;
@@ -13,8 +11,8 @@ use std::alloc::Global;
 use std::test::Fail;
 use vl_token::{Base, Constant, Mark};
 use vl_tree::{
-    Connections, Direction, Expression, GateInstance, Head, Instance, Item, Module, Name,
-    NamedConnection, NetName, NetType, Range,
+    Connections, Expression, GateInstance, Head, Instance, Item, Module, Name, NetName, NetType,
+    Range,
 };
 
 fn at(byte: u64) -> Place {
@@ -73,18 +71,6 @@ fn table(alloc: Global) -> Result<Table<'static>, Refused<ElabKind>> {
     items.push(wire(alloc, b"b", None)?)?;
     items.push(wire(alloc, b"v", pair())?)?;
     Table::of(alloc, &definition(None, items))
-}
-
-fn child(alloc: Global) -> Result<Module<'static>, NoMemory> {
-    let port = Item::Ports {
-        place: at(0),
-        direction: Direction::Output,
-        net: None,
-        range: pair(),
-        names: vec![in alloc; name(b"x", 0)]?,
-    };
-    let head = Head::Names(vec![in alloc; name(b"x", 0)]?);
-    Ok(definition(Some(Some(head)), vec![in alloc; port]?))
 }
 
 fn signal(text: &[u8], byte: u64) -> Expression<'_> {
@@ -201,56 +187,5 @@ fn terminals_of_primitives(rt: HostRuntime) -> Result<(), Fail> {
     assert_eq!(rt; open, Some((ElabKind::BadTerminal, 7)));
     let named = primitive(alloc, Connections::Named(Vec::new(alloc)))?;
     assert_eq!(rt; named, Some((ElabKind::BadTerminal, 7)));
-    Ok(())
-}
-
-fn to_port(text: &'static [u8], value: Option<Expression<'static>>) -> NamedConnection<'static> {
-    NamedConnection {
-        place: at(8),
-        port: name(text, 9),
-        value,
-    }
-}
-
-fn instance<'a>(
-    alloc: Global,
-    child: &'a Module<'a>,
-    connections: Vec<NamedConnection>,
-) -> Result<Option<(ElabKind, u64)>, Refused<ElabKind>> {
-    let table = table(alloc)?;
-    let child = prepare(alloc, child)?;
-    let mut bits = Vec::new(alloc);
-    let instance = Instance {
-        place: at(7),
-        name: Some(name(b"i", 6)),
-        connections: Connections::Named(connections),
-    };
-    told(check_module_instance(&table, &child, &None, &instance, &mut bits))
-}
-
-#[test]
-fn connections_to_ports(rt: HostRuntime) -> Result<(), Fail> {
-    let alloc = rt.alloc();
-    let child = child(alloc)?;
-    let sound = instance(
-        alloc,
-        &child,
-        vec![in alloc; to_port(b"x", Some(signal(b"v", 1)))]?,
-    )?;
-    assert_eq!(rt; sound, None);
-    let unknown = instance(alloc, &child, vec![in alloc; to_port(b"y", None)]?)?;
-    assert_eq!(rt; unknown, Some((ElabKind::UnknownName, 9)));
-    let driven = instance(
-        alloc,
-        &child,
-        vec![in alloc; to_port(b"x", Some(constant(1)))]?,
-    )?;
-    assert_eq!(rt; driven, Some((ElabKind::BadTerminal, 1)));
-    let twice = instance(
-        alloc,
-        &child,
-        vec![in alloc; to_port(b"x", None), to_port(b"x", None)]?,
-    )?;
-    assert_eq!(rt; twice, Some((ElabKind::DuplicateName, 9)));
     Ok(())
 }
