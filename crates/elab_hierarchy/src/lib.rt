@@ -4,8 +4,6 @@
 mod children;
 mod definitions;
 mod instances;
-#[cfg(test)]
-mod tests;
 mod ticks;
 mod tops;
 

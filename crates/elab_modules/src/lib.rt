@@ -8,8 +8,6 @@ mod delays;
 mod gates;
 mod instances;
 mod library;
-#[cfg(test)]
-mod library_tests;
 mod members;
 mod ports;
 mod prepared;
@@ -20,6 +18,3 @@ mod terminals;
 pub use library::{Library, Ready, library_of};
 pub use members::check_members;
 pub use prepared::{Prepared, prepare};
-
-#[cfg(test)]
-mod tests;

@@ -7,6 +7,3 @@ mod room;
 
 pub use bound::bound_bits;
 pub use constants::{PortConstant, port_constants};
-
-#[cfg(test)]
-mod tests;

@@ -13,6 +13,3 @@ mod variables;
 
 pub use driven::{DrivenNets, input_nets, reg_nets};
 pub use scopes::scopes_of;
-
-#[cfg(test)]
-mod tests;

@@ -1,7 +1,0 @@
-//! `elaborate`: from the syntax tree of a netlist to its circuit.
-#![tactic(auto)]
-
-mod circuits;
-mod driving;
-
-pub use circuits::elaborate;
