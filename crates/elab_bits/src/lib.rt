@@ -9,6 +9,3 @@ mod spans;
 
 pub use bits::{Bit, add_bits, add_variable};
 pub use faults::check_expression;
-
-#[cfg(test)]
-mod tests;

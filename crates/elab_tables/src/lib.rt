@@ -8,6 +8,3 @@ mod tables;
 
 pub use member_list::{Member, members};
 pub use tables::{Row, Table};
-
-#[cfg(test)]
-mod tests;
