@@ -1,3 +1,0 @@
--- The modules of this folder: words of the contracts.
-pub mod Here
-pub mod Driven
