@@ -1,0 +1,19 @@
+-- The modules of this folder.
+pub mod SameFaults
+pub mod InTurn
+pub mod PortRows
+pub mod JoinedFaults
+pub mod TerminalFaults
+pub mod Connected
+pub mod Entries
+pub mod MemberFaults
+pub mod ReadyParts
+pub mod Replaced
+pub mod Stocking
+pub mod Meeting
+pub mod Listing
+pub mod Precisions
+pub mod Among
+pub mod Faulty
+pub mod Named
+pub mod Whole

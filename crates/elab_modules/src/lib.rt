@@ -1,0 +1,20 @@
+//! The modules and primitives that a top reaches, made ready for their instances, and what is refused in them.
+#![tactic(auto)]
+
+mod assignments;
+mod checks;
+mod connections;
+mod delays;
+mod gates;
+mod instances;
+mod library;
+mod members;
+mod ports;
+mod prepared;
+mod primitive_instances;
+mod stock;
+mod terminals;
+
+pub use library::{Library, Ready, library_of};
+pub use members::check_members;
+pub use prepared::{Prepared, prepare};

@@ -1,0 +1,41 @@
+// Modules made ready.
+ghost use Rattle.std.specs.Prelude.{◌≡◌, IfOk, IfErr};
+ghost use Rattle.vl_tree.specs.Seen.{view_module};
+ghost use Rattle.elab_model.specs.Faults.{RefusesOneOf};
+ghost use Rattle.elab_model.specs.NameFaults.{declaration_faults};
+ghost use Rattle.elab_modules.specs.Ready.{IsPrepared};
+
+use elab_model::ElabKind;
+use elab_names::port_list;
+use elab_tables::{Member, Table, members};
+use sg_text::Refused;
+use std::alloc::Global;
+use vl_tree::{Module, Name};
+
+/// A module, with what its instances need of it: the list of its ports, its members in a row, and the table of its variables.
+#[derive(Debug, Drop)]
+pub struct Prepared<'a> {
+    pub definition: &'a Module<'a>,
+    pub ports: Vec<Name<'a>>,
+    pub members: Vec<Member<'a>>,
+    pub table: Table<'a>,
+}
+
+/// A module made ready, or one of the faults of its declarations. Takes memory in proportion to the module.
+pub fn prepare<'a>(
+    alloc: Global,
+    definition: &'a Module<'a>,
+) -> Result<Prepared<'a>, Refused<ElabKind>>
+    ensures prepared { IfOk result (λ p. IsPrepared p (view_module definition.now)) }
+    ensures refused { IfErr result (RefusesOneOf (declaration_faults (view_module definition.now))) }
+{
+    let table = Table::of(alloc, definition)?;
+    let ports = port_list(alloc, definition)?;
+    let members = members(alloc, definition)?;
+    Ok(Prepared {
+        definition,
+        ports,
+        members,
+        table,
+    })
+}
