@@ -1,0 +1,17 @@
+//! The nets of a circuit in order, and the number of the net of each bit of each instance.
+#![tactic(auto)]
+
+mod bit_nets;
+mod inputs;
+mod limit;
+mod member_bits;
+mod members;
+mod outside;
+mod own;
+mod parts;
+mod rows;
+mod terminals;
+mod turns;
+mod writing;
+
+pub use rows::{Rows, rows_of};
