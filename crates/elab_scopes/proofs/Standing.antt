@@ -1,0 +1,122 @@
+-- What stands ready of an instance is what the code finds.
+use Rattle.std.specs.Prelude.{◌≡◌, ℕ, ◌+◌, ◌<◌, List, [], ◌∷◌, Option, Some, None, length, map, flat_map, drop, refl, slice_get, slice_index_or}
+use Rattle.std.specs.List.{range_with_len}
+use Rattle.std.proofs.Common.{sym, ◌∙◌, ap, subst, inl, arith}
+use Rattle.std.proofs.lemmas.List.{get_or-map, get_or_at, length-append}
+use Rattle.std.proofs.lemmas.List.FromFn.{get_or-range_with_len}
+use Rattle.sg_delay.specs.declared.corners.Corner.{Corner}
+use Rattle.vl_tree.specs.Tree.{Module, Source, a_module, a_primitive}
+use Rattle.elab_model.specs.Hierarchy.{Instance, instances}
+use Rattle.elab_model.specs.HierarchyFaults.{self_instances, too_deep, first_too_many, count_limit}
+use Rattle.elab_model.specs.Names.{variables}
+use Rattle.elab_model.specs.Nets.{OwnNet}
+use Rattle.elab_laws.specs.Handing.{all_bits, number_at}
+use Rattle.elab_laws.specs.Words.{In}
+use Rattle.elab_laws.proofs.Lists.{in-right, all-in}
+use Rattle.elab_laws.proofs.NoFaults.{front, back, flat-empty}
+use Rattle.elab_laws.proofs.Stated.{instances-have_places}
+use Rattle.elab_hierarchy.specs.declared.instances.Placed.{Placed}
+use Rattle.elab_hierarchy.specs.Placing.{tree_faults_at, tree_faults}
+use Rattle.elab_hierarchy.specs.Tops.{StandsAt}
+use Rattle.elab_modules.specs.declared.library.Library.{Library}
+use Rattle.elab_modules.specs.declared.library.Ready as code_ready
+use Rattle.elab_modules.specs.declared.library.Ready.TheVariants as ready
+use Rattle.elab_modules.specs.Ready.{IsPrepared, IsReady, AreReady}
+use Rattle.elab_modules.specs.Reached.{IsReached}
+use Rattle.elab_rows.specs.declared.rows.Rows.{Rows}
+use Rattle.elab_rows.specs.Rows.{part_of}
+use Rattle.elab_scopes.specs.declared.here.Here.{Here}
+use Rattle.elab_scopes.specs.Here.{Stands, IsModule, IsHere}
+use Rattle.elab_scopes.proofs.PlacedAt.{PlacedAt}
+
+same-module : (m n : Module) → ◌≡◌ {A = Option _} (Some (a_module m)) (Some (a_module n)) → m ≡ n
+same-module m n e = cc
+
+ready-is : (source : Source) (place : ℕ) (m : Module) (r : code_ready.Ready) → StandsAt source place m → IsReady source place (Some r) → IsModule m r
+ready-is source place m (ready.Module p) e (n, f, h) = subst (IsPrepared p) (same-module n m (sym f ∙ e)) h
+ready-is source place m (ready.Primitive k) e (p, f, h) = let g : ◌≡◌ {A = Option _} (Some (a_module m)) (Some (a_primitive p)) = sym e ∙ f in cc
+
+-- what the library has at the place of an instance's module
+pub ready-of : (source : Source) (top : Module) (corner : Corner) (library : Library) (s : Instance) (place : ℕ) (r : Option code_ready.Ready) → AreReady source library.parts.items
+    → IsReached source corner top library s → StandsAt source place s.step.definition → slice_get library.parts.items place ≡ Some r
+    → (k : code_ready.Ready) × (r ≡ Some k) × IsModule s.step.definition k
+ready-of source top corner library s place r l i e g =
+    let (k, f) = (i.stands place e).ready in
+    let same : ◌≡◌ {A = Option _} (Some r) (Some (Some k)) = sym g ∙ f in
+    let here : r ≡ Some k = cc in
+    (k, here, ready-is source place s.step.definition k e (l.1 place (Some k) f))
+
+pub module-found : (source : Source) (top : Module) (corner : Corner) (library : Library) (s : Instance) (place : ℕ) (r : Option code_ready.Ready) (k : code_ready.Ready)
+    → AreReady source library.parts.items → IsReached source corner top library s → StandsAt source place s.step.definition → slice_get library.parts.items place ≡ Some r → r ≡ Some k → IsModule s.step.definition k
+module-found source top corner library s place r k l i e g w =
+    let (j, f, h) = ready-of source top corner library s place r l i e g in
+    let same : ◌≡◌ {A = Option _} (Some j) (Some k) = sym f ∙ w in
+    let own : j ≡ k = cc in
+    subst (IsModule s.step.definition) own h
+
+pub not-none : (source : Source) (top : Module) (corner : Corner) (library : Library) (s : Instance) (place : ℕ) (r : Option code_ready.Ready) → AreReady source library.parts.items
+    → IsReached source corner top library s → StandsAt source place s.step.definition → slice_get library.parts.items place ≡ Some r → r ≡ None → ⊥
+not-none source top corner library s place r l i e g w =
+    let (k, f, h) = ready-of source top corner library s place r l i e g in
+    let same : ◌≡◌ {A = Option _} (Some k) None = sym f ∙ w in
+    cc
+
+pub none-past : (source : Source) (top : Module) (corner : Corner) (library : Library) (s : Instance) (place : ℕ) → AreReady source library.parts.items
+    → IsReached source corner top library s → StandsAt source place s.step.definition → slice_get library.parts.items place ≡ None → ⊥
+none-past source top corner library s place l i e g =
+    let (k, f) = (i.stands place e).ready in
+    let same : ◌≡◌ {A = Option _} None (Some (Some k)) = sym g ∙ f in
+    cc
+
+-- ---- an element of the code's list
+
+stands-there : (source : Source) (top : Module) (corner : Corner) (library : Library) (rows : Rows) (ss : List Instance) (all : List OwnNet) (number : ℕ) (p : Placed) (s : Instance)
+    → Stands source top corner library rows ss all number p s → In s (instances source top)
+stands-there source top corner library rows ss all number p s h = subst (In s) (sym h.there ∙ h.are_read.are_instances) (in-right s h.before (s ∷ h.after) (inl refl))
+
+pub is-reached : (source : Source) (top : Module) (corner : Corner) (library : Library) (rows : Rows) (ss : List Instance) (all : List OwnNet) (number : ℕ) (p : Placed) (s : Instance)
+    → Stands source top corner library rows ss all number p s → IsReached source corner top library s
+is-reached source top corner library rows ss all number p s h =
+    all-in (IsReached source corner top library) s (instances source top) h.are_read.is_ready.reached (stands-there source top corner library rows ss all number p s h)
+
+pub number-is : (source : Source) (top : Module) (corner : Corner) (library : Library) (rows : Rows) (ss : List Instance) (all : List OwnNet) (number : ℕ) (p : Placed) (s : Instance)
+    → Stands source top corner library rows ss all number p s → number ≡ s.step.number
+number-is source top corner library rows ss all number p s h =
+    let long : length ss ≡ length h.before + length (s ∷ h.after) = ap length h.there ∙ length-append h.before (s ∷ h.after) in
+    let lt : number < length ss = let c : number ≡ length h.before = h.count in omega (arith, long, c) in
+    let own : slice_index_or ss number s ≡ s = ap (λ xs. slice_index_or xs number s) h.there ∙ get_or_at h.before s h.after s number (sym h.count) in
+    let at : slice_index_or (map (λ t. t.step.number) ss) number 0 ≡ s.step.number = get_or-map (λ t. t.step.number) ss number s 0 lt ∙ ap (λ t. t.step.number) own in
+    let places : map (λ t. t.step.number) ss ≡ range_with_len 0 (length ss) =
+    subst (λ xs. map (λ t. t.step.number) xs ≡ range_with_len 0 (length xs)) (sym h.are_read.are_instances) (instances-have_places source top) in
+    let from : slice_index_or (map (λ t. t.step.number) ss) number 0 ≡ 0 + number = ap (λ ns. slice_index_or ns number 0) places ∙ get_or-range_with_len 0 (length ss) number 0 lt in
+    omega (arith, at, from)
+
+pub not-too_deep : (source : Source) (top : Module) (ss : List Instance) (i : ℕ) (p : Placed) (r : PlacedAt source p i ss)
+    → ss ≡ instances source top → tree_faults source top ≡ [] → too_deep source r.own ≡ []
+not-too_deep source top ss i p r e t =
+    let there : In r.own (instances source top) = subst (In r.own) (sym r.there ∙ e) (in-right r.own r.before (r.own ∷ r.after) (inl refl)) in
+    let own = flat_map (tree_faults_at source) (instances source top) in
+    let each = flat-empty (tree_faults_at source) (instances source top) (front own (first_too_many (drop count_limit (instances source top))) t) in
+    back (self_instances source r.own) (too_deep source r.own) (all-in (λ t. tree_faults_at source t ≡ []) r.own (instances source top) each there)
+
+-- the row that the code cuts out
+pub row-found : (source : Source) (top : Module) (corner : Corner) (library : Library) (rows : Rows) (ss : List Instance) (all : List OwnNet) (number start count : ℕ) (p : Placed) (s : Instance)
+    (h : Here) → Stands source top corner library rows ss all number p s → IsPrepared h.prepared.now s.step.definition → slice_get rows.starts.items number ≡ Some start
+    → count ≡ length (all_bits h.prepared.now.table) → h.row.now ≡ part_of rows.inner.items start count → IsHere all source s h
+row-found source top corner library rows ss all number start count p s h st prepared at c cut =
+    let has = st.are_read.have_rows.each st.before st.after s (sym st.are_read.are_instances ∙ st.there) in
+    let both : ◌≡◌ {A = Option _} (Some start) (Some has.start) = sym at ∙ ap (slice_get rows.starts.items) st.count ∙ has.starts in
+    let same : start ≡ has.start = cc in
+    let long : count ≡ length (all_bits (variables s.step.definition)) = c ∙ ap (λ vs. length (all_bits vs)) prepared.table in
+    record {
+      prepared = prepared;
+      row = cut ∙ ap (λ k. part_of rows.inner.items k count) same ∙ ap (part_of rows.inner.items has.start) long ∙ has.inner
+          ∙ ap (λ os. map (number_at os source s) (all_bits (variables s.step.definition))) (sym st.are_read.are_nets);
+    }
+
+pub row-there : (source : Source) (top : Module) (corner : Corner) (library : Library) (rows : Rows) (ss : List Instance) (all : List OwnNet) (number : ℕ) (p : Placed) (s : Instance)
+    → Stands source top corner library rows ss all number p s → slice_get rows.starts.items number ≡ None → ⊥
+row-there source top corner library rows ss all number p s st at =
+    let has = st.are_read.have_rows.each st.before st.after s (sym st.are_read.are_instances ∙ st.there) in
+    let both : ◌≡◌ {A = Option _} None (Some has.start) = sym at ∙ ap (slice_get rows.starts.items) st.count ∙ has.starts in
+    cc

@@ -1,0 +1,68 @@
+// What stands ready of an instance.
+ghost use Rattle.std.specs.Prelude.{◌≡◌, List};
+ghost use Rattle.sg_delay.specs.declared.corners.Corner as ghost_corner;
+ghost use Rattle.vl_tree.specs.Tree.{Module, Source};
+ghost use Rattle.elab_model.specs.Hierarchy.{Instance};
+ghost use Rattle.elab_model.specs.Nets.{OwnNet};
+ghost use Rattle.elab_hierarchy.specs.Tops.{StandsAt};
+ghost use Rattle.elab_modules.specs.Ready.{AreReady};
+ghost use Rattle.elab_modules.specs.Reached.{IsReached};
+ghost use Rattle.elab_rows.specs.Rows.{part_of};
+ghost use Rattle.elab_scopes.specs.Here.{Stands, IsModule, IsReadyOf, StandsHere};
+
+use elab_hierarchy::Placed;
+use elab_modules::{Library, Prepared, Ready};
+use elab_rows::Rows;
+use sg_circuit::NetId;
+
+/// The module of an instance, and the net of each of its bits.
+#[derive(Clone, Copy, Debug)]
+pub struct Here<'a, 't> {
+    pub prepared: &'a Prepared<'t>,
+    pub row: &'a [NetId],
+}
+
+/// What stands ready of an instance: of one netlist something always does.
+pub fn here_at<'a, 't>(
+    library: &'a Library<'t>,
+    rows: &'a Rows,
+    number: usize,
+    placed: &Placed,
+) -> Option<Here<'a, 't>>
+    ensures { (source : Source) (top : Module) (corner : ghost_corner.Corner) (ss : List Instance) (all : List OwnNet) (s : Instance)
+        → Stands source top corner library.now rows.now ss all number placed.now s → StandsHere all source s result }
+{
+    let prepared = module_at(library, placed.definition)?;
+    let start = *rows.starts.get(number)?;
+    Some(Here {
+        prepared,
+        row: part(&rows.inner, start, prepared.table.bits()),
+    })
+}
+
+fn module_at<'a, 't>(library: &'a Library<'t>, definition: usize) -> Option<&'a Prepared<'t>>
+    ensures { (source : Source) (top : Module) (corner : ghost_corner.Corner) (s : Instance) → AreReady source library.now.parts.items → IsReached source corner top library.now s
+        → StandsAt source definition s.step.definition → IsReadyOf s.step.definition result }
+{
+    match library.parts.get(definition)? {
+        Some(ready) => module_in(ready),
+        None => None,
+    }
+}
+
+fn module_in<'a, 't>(ready: &'a Ready<'t>) -> Option<&'a Prepared<'t>>
+    ensures { (m : Module) → IsModule m ready.now → IsReadyOf m result }
+{
+    match ready {
+        Ready::Module(prepared) => Some(prepared),
+        Ready::Primitive(_) => None,
+    }
+}
+
+/// So many nets of a row, from a place on, as far as it goes.
+pub fn part(row: &[NetId], start: usize, count: usize) -> &[NetId]
+    ensures { result.now ≡ part_of row.now start count }
+{
+    let rest = &row[start.min(row.len())..];
+    &rest[..count.min(rest.len())]
+}
