@@ -1,0 +1,120 @@
+-- What private functions of the crate add, from what the code has of an instance. No public contract cites it.
+use Rattle.std.specs.Prelude.{ℕ, suc, ◌-◌, ◌==◌, false, List, [], ◌∷◌, ◌++◌, Bool, ◌&&◌, Option, Some, None, map, flat_map, take, zip, length, slice_index_or, if◌then◌else◌}
+use Rattle.std.specs.List.{range_with_len}
+use Rattle.sg_circuit.specs.Closed.{width_of}
+use Rattle.sg_circuit.specs.declared.elements.ElementKind.{ElementKind}
+use Rattle.sg_circuit.specs.declared.elements.ElementKind.TheVariants as kind
+use Rattle.sg_logic.specs.declared.values.Value.{Value}
+use Rattle.sg_text.specs.declared.places.Place.{Place}
+use Rattle.elab_model.specs.Homes.{is_input}
+use Rattle.elab_model.specs.Names.{Variable}
+use Rattle.elab_laws.specs.Handing.{all_bits, numbered}
+use Rattle.elab_tables.specs.Seen.{variable_at}
+use Rattle.elab_bits.specs.declared.bits.Bit as code_bit
+use Rattle.elab_bits.specs.declared.bits.Bit.TheVariants as bit
+use Rattle.elab_bits.specs.Seen.{bit_at}
+use Rattle.elab_modules.specs.declared.library.Ready as code_ready
+use Rattle.elab_modules.specs.declared.library.Ready.TheVariants as ready
+use Rattle.elab_ports.specs.declared.constants.PortConstant as code_constant
+use Rattle.elab_elements.specs.Puts.{Put, put}
+
+-- the number at a place of a row
+abbrev pub net_in : List ℕ → ℕ → ℕ
+net_in row i = slice_index_or row i 0
+
+abbrev pub outside_in : List (Option ℕ) → ℕ → Option ℕ
+outside_in outer i = slice_index_or outer i None
+
+-- ---- Passes
+
+abbrev pub bit_inputs : List ℕ → code_bit.Bit → List ℕ
+bit_inputs row (bit.Net i) = net_in row i ∷ []
+bit_inputs row (bit.Constant p v) = []
+
+abbrev pub bit_value : code_bit.Bit → Option Value
+bit_value (bit.Net i) = None
+bit_value (bit.Constant p v) = Some v
+
+-- to the first of two bits from the second
+abbrev pub pass_puts : ℕ → Place → List ℕ → code_bit.Bit × code_bit.Bit → List Put
+pass_puts scope place row (bit.Net i, b) = put scope place (bit_inputs row b) (net_in row i) (kind.Pass (bit_value b)) ∷ []
+pass_puts scope place row (bit.Constant p v, b) = []
+
+-- ---- gates and primitives
+
+abbrev pub output_puts : ℕ → Place → ElementKind → List ℕ → List ℕ → code_bit.Bit → List Put
+output_puts scope place k inputs row (bit.Net i) = put scope place inputs (net_in row i) k ∷ []
+output_puts scope place k inputs row (bit.Constant p v) = []
+
+abbrev pub given_in : List ℕ → code_bit.Bit → Option ℕ
+given_in row (bit.Net i) = Some (net_in row i)
+given_in row (bit.Constant p v) = None
+
+-- the net of an input, of which a constant has the next
+abbrev pub input_number : ℕ → List ℕ → code_bit.Bit → ℕ
+input_number next row (bit.Net i) = net_in row i
+input_number next row (bit.Constant p v) = next
+
+-- the nets of inputs, where those of constants are numbered from the first on
+abbrev pub input_numbers : ℕ → List ℕ → List code_bit.Bit → List ℕ
+input_numbers first row bs = numbered first (map (given_in row) bs)
+
+-- how many of the bits are constants
+abbrev pub constants_in : List code_bit.Bit → ℕ
+constants_in [] = 0
+constants_in (bit.Net i ∷ bs) = constants_in bs
+constants_in (bit.Constant p v ∷ bs) = suc (constants_in bs)
+
+abbrev pub constant_puts : ℕ → code_bit.Bit × ℕ → List Put
+constant_puts scope (bit.Net i, n) = []
+constant_puts scope (bit.Constant p v, n) = put scope p [] n (kind.Pass (Some v)) ∷ []
+
+abbrev pub terminal_puts : ℕ → Place → ElementKind → List ℕ → ℕ → (outs ins : List code_bit.Bit) → List Put
+terminal_puts scope place k row first outs ins =
+    flat_map (output_puts scope place k (input_numbers first row ins) row) outs ++ flat_map (constant_puts scope) (zip ins (input_numbers first row ins))
+
+-- ---- Legs
+
+abbrev pub leg_puts : ℕ → Place → ℕ → Option ℕ → List Put
+leg_puts scope place output None = []
+leg_puts scope place output (Some n) = put scope place (n ∷ []) output (kind.Leg 0) ∷ []
+
+abbrev pub bit_leg : ℕ → Place → List ℕ → List (Option ℕ) → ℕ → List Put
+bit_leg scope place inner outer i = leg_puts scope place (net_in inner i) (outside_in outer i)
+
+-- where the bits of a variable begin
+abbrev pub start_of : List Variable → ℕ → ℕ
+start_of vs k = length (all_bits (take k vs))
+
+abbrev pub variable_puts : ℕ → Place → List Variable → List ℕ → List (Option ℕ) → ℕ → List Put
+variable_puts scope place vs inner outer k =
+    if is_input (variable_at vs k).port then flat_map (bit_leg scope place inner outer) (range_with_len (start_of vs k) (width_of (variable_at vs k).range)) else []
+
+-- ---- constants at ports
+
+abbrev pub port_net : List Variable → Bool → List ℕ → List (Option ℕ) → ℕ → Option ℕ
+port_net vs leaf inner outer i = if is_input (bit_at vs i).0.port && leaf then outside_in outer i else Some (net_in inner i)
+
+abbrev pub driven_puts : ℕ → code_constant.PortConstant → Option ℕ → List Put
+driven_puts scope c None = []
+driven_puts scope c (Some n) = put scope c.place [] n (kind.Pass (Some c.value)) ∷ []
+
+abbrev pub port_puts : ℕ → List Variable → Bool → List ℕ → List (Option ℕ) → code_constant.PortConstant → List Put
+port_puts scope vs leaf inner outer c = driven_puts scope c (port_net vs leaf inner outer c.bit)
+
+-- whether an instance has a parent, and ends behind its own number
+abbrev pub is_alone : Option ℕ → ℕ → ℕ → Bool
+is_alone None end number = false
+is_alone (Some p) end number = end - number == 1
+
+-- ---- primitives
+
+abbrev pub primitive_in : Option code_ready.Ready → Option ℕ
+primitive_in None = None
+primitive_in (Some (ready.Module q)) = None
+primitive_in (Some (ready.Primitive k)) = Some k
+
+-- the place of the table of the primitive that stands ready
+abbrev pub primitive_at : Option (Option code_ready.Ready) → Option ℕ
+primitive_at None = None
+primitive_at (Some part) = primitive_in part

@@ -1,0 +1,157 @@
+// The Legs of a leaf.
+ghost use Rattle.std.specs.Prelude.{◌≡◌, ◌≤◌, ◌<◌, ◌+◌, ◌-◌, ◌^◌, ◌++◌, ℕ, List, All, true, Some, OnOk, IfErr, length, map, flat_map, take};
+ghost use Rattle.sg_circuit.specs.declared.elements.UdpUse as ghost_udps;
+ghost use Rattle.sg_delay.specs.declared.gates.GateDelays as ghost_delays;
+ghost use Rattle.vl_tree.specs.Tree.{Source};
+ghost use Rattle.elab_laws.specs.Handing.{all_bits};
+ghost use Rattle.elab_bits.specs.Seen.{view_bit, IsInRow};
+ghost use Rattle.elab_model.specs.Bits.{constant};
+ghost use Rattle.elab_model.specs.Elements as def_elements;
+ghost use Rattle.elab_model.specs.Hierarchy as def;
+ghost use Rattle.elab_model.specs.Nets.{OwnNet};
+ghost use Rattle.elab_nets.specs.Refusals.{RefusesCount};
+ghost use Rattle.elab_elements.specs.Adding.{Adds, IsHere, HasOutside, HasTerminals};
+ghost use Rattle.elab_elements.specs.Seen.{kind_in, NamesPlaces};
+ghost use Rattle.std.specs.List.{range_with_len};
+ghost use Rattle.sg_circuit.specs.Closed.{width_of};
+ghost use Rattle.elab_tables.specs.Seen.{variable_at};
+ghost use Rattle.elab_elements.specs.Puts.{Puts, RefusesPuts};
+ghost use Rattle.elab_elements.specs.Words.{leg_puts, bit_leg, start_of, variable_puts};
+
+use crate::Placing;
+use crate::placing::add_element;
+use elab_model::ElabKind;
+use elab_tables::Table;
+use sg_circuit::{ElementKind, NetId, Port};
+use sg_text::{Place, Refused};
+
+// Adds a Leg to a net from the one outside, if there is one.
+fn add_leg(
+    scope: u32,
+    place: Place,
+    output: NetId,
+    input: Option<NetId>,
+    made: &mut Placing,
+) -> Result<(), Refused<ElabKind>>
+    requires few { length made.old.elements.items ≤ 2 ^ 22 }
+    ensures few { length made.new.elements.items ≤ 2 ^ 22 }
+    ensures puts { OnOk result (Puts made.old made.new (leg_puts scope place output input)) }
+    ensures refused { IfErr result (RefusesPuts made.old (leg_puts scope place output input)) }
+{
+    match input {
+        None => Ok(()),
+        Some(input) => {
+            let kind = ElementKind::Leg { timing: 0 };
+            add_element(scope, place, &[input], output, kind, made)
+        }
+    }
+}
+
+// Adds the Legs of the bits from one to before another.
+fn add_between(
+    scope: u32,
+    place: Place,
+    start: usize,
+    end: usize,
+    inner: &[NetId],
+    outer: &[Option<NetId>],
+    made: &mut Placing,
+) -> Result<(), Refused<ElabKind>>
+    requires inner { end ≤ length inner.now }
+    requires outer { end ≤ length outer.now }
+    requires few { length made.old.elements.items ≤ 2 ^ 22 }
+    ensures few { length made.new.elements.items ≤ 2 ^ 22 }
+    ensures puts { OnOk result (Puts made.old made.new (flat_map (bit_leg scope place inner.now outer.now) (range_with_len start (end - start)))) }
+    ensures refused { IfErr result (RefusesPuts made.old (flat_map (bit_leg scope place inner.now outer.now) (range_with_len start (end - start)))) }
+{
+    for bit in start..end {
+        add_leg(scope, place, inner[bit], outer[bit], made)?;
+    }
+    Ok(())
+}
+
+// Where the bits of a variable end.
+fn end_of(table: &Table, variable: usize) -> usize
+    requires { variable < length table.now }
+    ensures end { result ≡ start_of table.now variable + width_of (variable_at table.now variable).range }
+    ensures within { result ≤ length (all_bits table.now) }
+{
+    let count = table.len();
+    let next = variable + 1;
+    if next == count {
+        return table.bits();
+    }
+    table.row(next).start
+}
+
+// Adds the Legs of the bits of a variable, if it is an input.
+fn add_variable_legs(
+    table: &Table,
+    scope: u32,
+    place: Place,
+    variable: usize,
+    inner: &[NetId],
+    outer: &[Option<NetId>],
+    made: &mut Placing,
+) -> Result<(), Refused<ElabKind>>
+    requires variable { variable < length table.now }
+    requires inner { length inner.now ≡ length (all_bits table.now) }
+    requires outer { length outer.now ≡ length (all_bits table.now) }
+    requires few { length made.old.elements.items ≤ 2 ^ 22 }
+    ensures few { length made.new.elements.items ≤ 2 ^ 22 }
+    ensures puts { OnOk result (Puts made.old made.new (variable_puts scope place table.now inner.now outer.now variable)) }
+    ensures refused { IfErr result (RefusesPuts made.old (variable_puts scope place table.now inner.now outer.now variable)) }
+{
+    let row = table.row(variable);
+    match row.port {
+        Port::Input => {
+            let end = end_of(table, variable);
+            add_between(scope, place, row.start, end, inner, outer, made)
+        }
+        Port::Output | Port::Inner => Ok(()),
+    }
+}
+
+// Adds the Legs of all variables.
+fn add_all_legs(
+    table: &Table,
+    scope: u32,
+    place: Place,
+    inner: &[NetId],
+    outer: &[Option<NetId>],
+    made: &mut Placing,
+) -> Result<(), Refused<ElabKind>>
+    requires inner { length inner.now ≡ length (all_bits table.now) }
+    requires outer { length outer.now ≡ length (all_bits table.now) }
+    requires few { length made.old.elements.items ≤ 2 ^ 22 }
+    ensures few { length made.new.elements.items ≤ 2 ^ 22 }
+    ensures puts { OnOk result (Puts made.old made.new (flat_map (variable_puts scope place table.now inner.now outer.now) (range_with_len 0 (length table.now - 0)))) }
+    ensures refused { IfErr result (RefusesPuts made.old (flat_map (variable_puts scope place table.now inner.now outer.now) (range_with_len 0 (length table.now - 0)))) }
+{
+    let count = table.len();
+    for variable in 0..count {
+        add_variable_legs(table, scope, place, variable, inner, outer, made)?;
+    }
+    Ok(())
+}
+
+/// Adds a Leg for each bit of each input of a leaf, from the net that lies outside of it.
+pub fn add_legs(
+    table: &Table,
+    scope: u32,
+    place: Place,
+    inner: &[NetId],
+    outer: &[Option<NetId>],
+    made: &mut Placing,
+) -> Result<(), Refused<ElabKind>>
+    requires inner { length inner.now ≡ length (all_bits table.now) }
+    requires outer { length outer.now ≡ length (all_bits table.now) }
+    requires few { length made.old.elements.items ≤ 2 ^ 22 }
+    ensures few { length made.new.elements.items ≤ 2 ^ 22 }
+    ensures legs { OnOk result ((delays : List ghost_delays.GateDelays) (udps : List ghost_udps.UdpUse) (all : List OwnNet) (source : Source) (s : def.Instance) → IsHere all source s scope table.now inner.now → HasOutside all source s table.now outer.now
+        → s.step.place ≡ place → def.is_leaf source s ≡ true → Adds delays udps all made.old made.new (def_elements.legs source s)) }
+    ensures refused { IfErr result (λ r. (all : List OwnNet) (source : Source) (s : def.Instance) → IsHere all source s scope table.now inner.now → HasOutside all source s table.now outer.now
+        → s.step.place ≡ place → def.is_leaf source s ≡ true → RefusesCount (length made.old.elements.items + length (def_elements.legs source s)) r) }
+{
+    add_all_legs(table, scope, place, inner, outer, made)
+}

@@ -1,0 +1,81 @@
+// What stands at the place of an instance.
+ghost use Rattle.std.specs.Prelude.{◌≡◌, ◌≤◌, ◌<◌, ◌+◌, ℕ, List, Some, length, slice_get, option_map};
+ghost use Rattle.elab_modules.specs.declared.library.Ready.TheVariants as ghost_ready;
+ghost use Rattle.elab_modules.specs.declared.prepared.Prepared as ghost_prepared;
+ghost use Rattle.elab_rows.specs.Rows.{part_of};
+ghost use Rattle.elab_elements.specs.Words.{primitive_in, primitive_at};
+
+use elab_hierarchy::Placed;
+use elab_modules::{Library, Prepared, Ready};
+use elab_rows::Rows;
+use sg_circuit::NetId;
+
+/// The instance of a number.
+pub fn placed_at<'a>(instances: &[Placed<'a>], number: u32) -> Placed<'a>
+    requires { number < length instances.now }
+    ensures { slice_get instances.now number ≡ Some result }
+{
+    instances[number as usize]
+}
+
+/// The module at a place of the definitions, made ready.
+pub fn module_at<'a, 'b>(library: &'b Library<'a>, definition: usize) -> &'b Prepared<'a>
+    requires { (q : ghost_prepared.Prepared) × (slice_get library.now.parts.items definition ≡ Some (Some (ghost_ready.Module q))) }
+    ensures { slice_get library.now.parts.items definition ≡ Some (Some (ghost_ready.Module result.now)) }
+{
+    match &library.parts[definition] {
+        Some(Ready::Module(prepared)) => prepared,
+        _ => unreachable!(),
+    }
+}
+
+fn primitive_in(part: &Option<Ready>) -> Option<u32>
+    ensures { result ≡ primitive_in part.now }
+{
+    match part {
+        Some(Ready::Primitive(udp)) => Some(*udp),
+        Some(Ready::Module(_)) | None => None,
+    }
+}
+
+/// The place of the table of the primitive that stands ready at a place of the definitions, if it is one.
+pub fn primitive_at(library: &Library, definition: usize) -> Option<u32>
+    ensures { result ≡ primitive_at (slice_get library.now.parts.items definition) }
+{
+    primitive_in(library.parts.get(definition)?)
+}
+
+/// The place of the delays of a member of the module at a place of the definitions.
+pub fn delays_at(library: &Library, definition: usize, member: usize) -> u32
+    requires { (list : List ℕ) × ((option_map (λ d. d.items) (slice_get library.now.delays.items definition) ≡ Some list) × (member < length list)) }
+    ensures { (list : List ℕ) → option_map (λ d. d.items) (slice_get library.now.delays.items definition) ≡ Some list → slice_get list member ≡ Some result }
+{
+    library.delays[definition][member]
+}
+
+/// The nets of the bits of an instance.
+pub fn inner_row(rows: &Rows, number: usize, width: usize) -> &[NetId]
+    requires { (start : ℕ) × ((slice_get rows.now.starts.items number ≡ Some start) × (start + width ≤ length rows.now.inner.items)) }
+    ensures { (start : ℕ) → slice_get rows.now.starts.items number ≡ Some start → result.now ≡ part_of rows.now.inner.items start width }
+{
+    let start = rows.starts[number];
+    &rows.inner[start..start + width]
+}
+
+/// What lies outside the bits of an instance.
+pub fn outer_row(rows: &Rows, number: usize, width: usize) -> &[Option<NetId>]
+    requires { (start : ℕ) × ((slice_get rows.now.outer_starts.items number ≡ Some start) × (start + width ≤ length rows.now.outer.items)) }
+    ensures { (start : ℕ) → slice_get rows.now.outer_starts.items number ≡ Some start → result.now ≡ part_of rows.now.outer.items start width }
+{
+    let start = rows.outer_starts[number];
+    &rows.outer[start..start + width]
+}
+
+/// The first net of a member that no variable names, or the next number.
+pub fn first_net(rows: &Rows, number: usize, member: usize) -> NetId
+    requires { (start : ℕ) × ((slice_get rows.now.member_starts.items number ≡ Some start) × (start + member < length rows.now.firsts.items)) }
+    ensures { (start : ℕ) → slice_get rows.now.member_starts.items number ≡ Some start → slice_get rows.now.firsts.items (start + member) ≡ Some result }
+{
+    let start = rows.member_starts[number];
+    rows.firsts[start + member]
+}
