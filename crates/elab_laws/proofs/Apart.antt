@@ -1,4 +1,4 @@
--- H3: the nets are distinct.
+-- The nets are distinct: the tests of spots, and the nets of variables.
 use Rattle.std.specs.Prelude.{◌≡◌, ℕ, ◌==◌, List, [], ◌∷◌, Bool, true, false, ◌&&◌, ◌||◌, flat_map, refl, if◌then◌else◌, bytes_eq}
 use Rattle.std.specs.List.{AllByRecursion}
 use Rattle.std.specs.Bool.{one_answer}

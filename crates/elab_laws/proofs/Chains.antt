@@ -48,7 +48,7 @@ children-below source d above next (i ∷ is) = ((refl, refl), children-below so
 abbrev pub at_step : Step → List Step → Instance
 at_step s over = record { step = s; above = over }
 
--- H2, of chains: an instance of an instance's chain is an instance, or one above the first
+-- an instance of an instance's chain is an instance, or one above the first
 pub chain-among : (source : Source) (d : ℕ) (s x : Instance) (at : Step) (rest : List Step) → In x (instances_from source d s) → Upper at rest (x.step ∷ x.above)
     → In (at_step at rest) (instances_from source d s) ⊎ Upper at rest s.above
 chain-among source zero s x at rest (inr h) u = absurd h
@@ -68,7 +68,7 @@ pub chain-there : (source : Source) (top : Module) (x : Instance) (at : Step) (r
     → In (at_step at rest) (instances source top)
 chain-there source top x at rest h u = elim (chain-among source levels_below_top (top_instance top) x at rest h u) [ inl k ↦ k | inr v ↦ absurd v ]
 
--- H6: the levels of an instance are those that are left where it is met
+-- the levels of an instance are those that are left where it is met
 pub children-are : (source : Source) (n : ℕ) (s : Instance) → s.step.levels ≡ n → children source s ≡ children_at source n s
 children-are source n s e = ap (λ k. children_at source k s) e
 

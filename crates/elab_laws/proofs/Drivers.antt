@@ -1,4 +1,4 @@
--- H7: drivers by number are drivers by Spot.
+-- Drivers by number are drivers by Spot.
 use Rattle.std.specs.Prelude.{◌≡◌, ℕ, suc, ◌+◌, ◌≤◌, ◌==◌, List, [], ◌∷◌, ◌++◌, Bool, true, false, ◌&&◌, Some, map, slice_get, length, ◌-◌, refl, if◌then◌else◌, bytes_eq}
 use Rattle.std.specs.List.{AllByRecursion, range_with_len, position_from, enumerate_from}
 use Rattle.std.specs.Option.{unwrap_or}

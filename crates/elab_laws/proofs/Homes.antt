@@ -1,4 +1,4 @@
--- H2: the net of each bit lies among the nets.
+-- The net of each bit lies among the nets.
 use Rattle.std.specs.Prelude.{◌≡◌, ℕ, ◌+◌, ◌<◌, List, [], ◌∷◌, Bool, true, false, flat_map, length, refl, if◌then◌else◌, bytes_eq}
 use Rattle.std.specs.List.{position_from}
 use Rattle.std.specs.Option.{unwrap_or}
@@ -44,7 +44,7 @@ own-there source s n p h e =
       same = o.same ∙ ap (λ m. bit s.step.number m p) same;
     }
 
--- H2: each home lies among the nets
+-- each home lies among the nets
 pub home-there : (source : Source) (top : Module) (s : Instance) (n : List ℕ) (p : ℕ) → In s (instances source top) → HasBit (variables s.step.definition) n p
     → Owns (home_of source s n p) (nets source top)
 home-there source top s n p among h =

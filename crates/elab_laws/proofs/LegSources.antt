@@ -1,4 +1,4 @@
--- H2 of what Legs read.
+-- What Legs read has a net.
 use Rattle.std.specs.Prelude.{◌≡◌, ℕ, zero, suc, ◌+◌, ◌<◌, List, [], ◌∷◌, ◌++◌, Bool, true, false, Option, Some, None, find, flat_map, filter_map, zip, slice_get, refl, cond, if◌then◌else◌, bytes_eq}
 use Rattle.std.specs.List.{enumerate_from, cons_option}
 use Rattle.std.specs.Option.{option_and_then}

@@ -1,4 +1,4 @@
--- H3 of constants at a leaf's inputs, of members, of instances; H4.
+-- The nets of constants at a leaf's inputs, of members and of instances are distinct; the number of a net is how many come before it.
 use Rattle.std.specs.Prelude.{◌≡◌, ℕ, ◌==◌, List, [], ◌∷◌, ◌++◌, Bool, true, false, Some, flat_map, slice_get, length, take, drop, refl, if◌then◌else◌, bytes_eq}
 use Rattle.std.specs.List.{AllByRecursion, enumerate_from}
 use Rattle.std.specs.Option.{option_and_then}
@@ -199,7 +199,7 @@ instances-apart source top =
     pairwise-map_back (λ a b. (a == b) ≡ false) number (instances source top)
     (subst (Pairwise (λ a b. (a == b) ≡ false)) (sym (numbers-are-places source top)) (range-apart 0 (size source levels_below_top top)))
 
--- H3: the nets are distinct, where no port is connected twice
+-- the nets are distinct, where no port is connected twice
 pub nets-apart : (source : Source) (top : Module) → AllByRecursion (ConnectedOnce source) (instances source top) → AreApart (nets source top)
 nets-apart source top once =
     pairwise-flat Other (λ s t. (s.step.number == t.step.number) ≡ false) (λ s o. scope_of_spot o.spot ≡ s.step.number) (nets_of source) (instances source top)
@@ -208,7 +208,7 @@ nets-apart source top once =
     (all-weaker (ConnectedOnce source) (λ s. AreApart (nets_of source s)) (instances source top) (nets_of-apart source) once)
     (instances-apart source top)
 
--- ---- H4: the number of a net is how many come before it
+-- ---- the number of a net is how many come before it
 
 pub others-before : (xs : List OwnNet) (o : OwnNet) (ys : List OwnNet) → AreApart (xs ++ o ∷ ys) → AreOther o.spot xs
 others-before [] o ys h = tt

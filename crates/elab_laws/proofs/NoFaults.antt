@@ -145,10 +145,10 @@ connected-once_all source top c each =
     let names = all-in (λ c. NamesOnce c.step.connections) x (children source s) (children_at-once source s.step.levels s (inner-once source c (tick_of source top) s.step.definition own)) k in
     once-by x.step x.step.connections refl names (declared-once x.step.definition (front (declaration_faults x.step.definition) _ below))))
 
--- H3, where no module of the hierarchy has faults
+-- the nets are distinct, where no module of the hierarchy has faults
 pub nets-apart_each : (source : Source) (top : Module) (c : Corner) → AllByRecursion (IsFaultless source top c) (instances source top) → AreApart (nets source top)
 nets-apart_each source top c each = nets-apart source top (connected-once_all source top c each)
 
--- H3, of a netlist without faults
+-- the nets of a netlist without faults are distinct
 pub nets-apart_faultless : (source : Source) (top : Module) (c : Corner) → faults_below source top c ≡ [] → AreApart (nets source top)
 nets-apart_faultless source top c h = nets-apart_each source top c (each-faultless source top c h)

@@ -1,4 +1,4 @@
--- H2 of what lies outside a leaf: an input that nothing is connected to has a net.
+-- What lies outside a leaf: an input that nothing is connected to has a net.
 use Rattle.std.specs.Prelude.{◌≡◌, ℕ, zero, suc, ◌+◌, ◌<◌, ◌==◌, List, [], ◌∷◌, ◌++◌, true, Option, Some, None, flat_map, filter_map, refl, if◌then◌else◌}
 use Rattle.std.specs.List.{enumerate_from, cons_option}
 use Rattle.std.specs.Option.{option_and_then}

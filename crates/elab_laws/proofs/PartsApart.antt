@@ -1,4 +1,4 @@
--- H3 of the nets that no variable names, and of all; H4.
+-- The nets that no variable names are distinct.
 use Rattle.std.specs.Prelude.{◌≡◌, ℕ, zero, suc, ◌+◌, ◌==◌, List, [], ◌∷◌, ◌++◌, Bool, true, false, ◌&&◌, Option, Some, None, map, flat_map, filter_map, slice_get, take, drop, refl, if◌then◌else◌, bytes_eq}
 use Rattle.std.specs.List.{AllByRecursion, enumerate_from, cons_option}
 use Rattle.std.proofs.Common.{sym, ◌∙◌, ap, arith, subst, add-zero}

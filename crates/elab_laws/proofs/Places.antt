@@ -74,7 +74,7 @@ leaf-below vs (whole n) = whole-below vs n.text (variable_named vs n.text) refl
 leaf-below vs (part n s) = select-below vs n.text s (variable_named vs n.text) refl
 leaf-below vs (constants at values) = all-map (IsBitOf vs) (constant at) values (all-anyway (λ v. Unit {0}) values (λ v. tt))
 
--- H5: each bit of an expression
+-- each bit of an expression
 pub bits-below : (vs : List Variable) (e : Expression) → AllByRecursion (IsBitOf vs) (bits vs e)
 bits-below vs e = all-flat (IsBitOf vs) (leaf_bits vs) (leaves e) (leaf-below vs)
 

@@ -1,4 +1,4 @@
--- H2 of what elements read and drive: each bit of an expression has a net, and so has a constant at an input of a gate or a primitive.
+-- What elements read and drive: each bit of an expression has a net, and so has a constant at an input of a gate or a primitive.
 use Rattle.std.specs.Prelude.{◌≡◌, ℕ, List, ◌∷◌, flat_map, take, drop, refl}
 use Rattle.std.specs.List.{AllByRecursion, enumerate_from}
 use Rattle.std.proofs.Common.{sym, inl, subst}
