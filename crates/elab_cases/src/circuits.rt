@@ -1,0 +1,116 @@
+// Circuits as lines: the tick as a power of ten of a second, nets, elements and scopes by their numbers.
+use sg_circuit::{Circuit, Driver, Element, ElementKind, Net, Parts, Scope, Variable};
+use sg_text::Text;
+
+/// Adds a circuit's lines to a text.
+pub fn show_circuit(circuit: &Circuit, out: &mut String) -> anyhow::Result<()> {
+    let parts = circuit.parts();
+    let tick = parts.tick.power;
+    writeln!(out, "tick {tick}")?;
+    for (number, net) in parts.nets.iter().enumerate() {
+        write!(out, "net {number} ")?;
+        show_net(net, out)?;
+    }
+    for (number, element) in parts.elements.iter().enumerate() {
+        write!(out, "element {number} ")?;
+        show_element(parts, element, out)?;
+    }
+    for (number, scope) in parts.scopes.iter().enumerate() {
+        write!(out, "scope {number} ")?;
+        show_scope(scope, out)?;
+    }
+    Ok(())
+}
+
+fn show_text(text: &Text, out: &mut String) -> anyhow::Result<()> {
+    let text = std::str::from_utf8(text.bytes()).unwrap_or("?");
+    write!(out, "{text}")?;
+    Ok(())
+}
+
+fn show_net(net: &Net, out: &mut String) -> anyhow::Result<()> {
+    show_text(&net.name, out)?;
+    if let Some(bit) = net.bit {
+        write!(out, "[{bit}]")?;
+    }
+    let scope = net.scope;
+    write!(out, " of {scope} by ")?;
+    match net.driver {
+        Driver::Nobody => writeln!(out, "nobody")?,
+        Driver::Stimulus => writeln!(out, "stimulus")?,
+        Driver::Element(element) => writeln!(out, "{element}")?,
+        Driver::Notifier => writeln!(out, "checks")?,
+    }
+    Ok(())
+}
+
+fn show_delays(parts: &Parts, place: u32, out: &mut String) -> anyhow::Result<()> {
+    if let Some(delays) = parts.gate_delays.get(place as usize) {
+        for delay in delays.at.iter().take(usize::from(delays.count)) {
+            write!(out, " #{delay}")?;
+        }
+    }
+    Ok(())
+}
+
+fn show_element(parts: &Parts, element: &Element, out: &mut String) -> anyhow::Result<()> {
+    match element.kind {
+        ElementKind::Gate { kind, delays } => {
+            write!(out, "{kind:?}")?;
+            show_delays(parts, delays, out)?;
+        }
+        ElementKind::Udp { udp, delays } => {
+            write!(out, "Udp {udp}")?;
+            show_delays(parts, delays, out)?;
+        }
+        ElementKind::Pass { constant: None } => write!(out, "Pass")?,
+        ElementKind::Pass {
+            constant: Some(value),
+        } => write!(out, "{value:?}")?,
+        ElementKind::Leg { timing } => write!(out, "Leg {timing}")?,
+    }
+    for input in &element.inputs {
+        write!(out, " {input}")?;
+    }
+    let output = element.output;
+    let scope = element.scope;
+    writeln!(out, " -> {output} in {scope}")?;
+    Ok(())
+}
+
+fn show_scope(scope: &Scope, out: &mut String) -> anyhow::Result<()> {
+    show_text(&scope.name, out)?;
+    write!(out, " is ")?;
+    show_text(&scope.module, out)?;
+    if let Some(parent) = scope.parent {
+        write!(out, " in {parent}")?;
+    }
+    if scope.leaf {
+        write!(out, ", a leaf")?;
+    }
+    let unit = scope.scale.unit.power;
+    let precision = scope.scale.precision.power;
+    writeln!(out, ", {unit} {precision}")?;
+    for variable in &scope.variables {
+        show_variable(variable, out)?;
+    }
+    Ok(())
+}
+
+fn show_variable(variable: &Variable, out: &mut String) -> anyhow::Result<()> {
+    write!(out, "  ")?;
+    show_text(&variable.name, out)?;
+    if let Some(range) = variable.range {
+        let left = range.left;
+        let right = range.right;
+        write!(out, "[{left}:{right}]")?;
+    }
+    let port = variable.port;
+    let reg = if variable.reg { " reg" } else { "" };
+    write!(out, " {port:?}{reg}:")?;
+    for bit in &variable.bits {
+        write!(out, " {bit}")?;
+    }
+    writeln!(out, "")?;
+    Ok(())
+}

@@ -1,0 +1,8 @@
+-- The modules of this folder.
+pub mod Among
+pub mod Standing
+pub mod Faultless
+pub mod Whole
+pub mod Below
+pub mod OneByOne
+pub mod Told

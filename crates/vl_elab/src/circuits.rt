@@ -1,0 +1,105 @@
+// The circuit of a netlist.
+ghost use Rattle.std.specs.Prelude.{◌≡◌, IfOk, IfErr, option_map};
+ghost use Rattle.sg_delay.specs.declared.corners.Corner as ghost_corner;
+ghost use Rattle.vl_tree.specs.Seen.{view_source};
+ghost use Rattle.vl_tree.specs.Tree.{Module, Source as GhostSource};
+ghost use Rattle.elab_model.specs.Circuits as def;
+ghost use Rattle.elab_model.specs.Elaboration.{Elaborates};
+ghost use Rattle.elab_hierarchy.specs.Tops.{StandsAt};
+ghost use Rattle.vl_elab.specs.Below.{IsBelow, RefusesBelow};
+ghost use Rattle.sg_circuit.specs.Seen.{leg_timing_seen};
+ghost use Rattle.vl_elab.specs.Made.{IsWhole, none_of_twelve};
+
+use crate::driving::{drive, drivers_in};
+use elab_elements::{Placing, elements_in};
+use elab_hierarchy::{Definitions, place_instances, tick, top};
+use elab_model::ElabKind;
+use elab_modules::{Library, library_of};
+use elab_rows::{Rows, rows_of};
+use elab_scopes::scopes_of;
+use sg_circuit::{Circuit, Driver, LegTiming, Parts, Scope};
+use sg_delay::{Corner, Delays12, Limit, Limits12};
+use sg_text::{NoMemory, Refused};
+use sg_time::Unit;
+use std::alloc::Global;
+use vl_tree::Source;
+
+/// The circuit of a netlist below a top: the module of that name, or else the only one that is no cell and of which no module has an instance (IEEE 1364-2005, clauses 6 to 8
+/// and 12). Delays are those of a corner. Refuses a netlist with a fault that `ElabKind` names, at the node that has it; of several faults any one is answered. Takes memory in
+/// proportion to the netlist and to its circuit.
+pub fn elaborate<'a>(
+    alloc: Global,
+    source: &'a Source<'a>,
+    name: Option<&[u8]>,
+    corner: Corner,
+) -> Result<Circuit, Refused<ElabKind>>
+    ensures { Elaborates (view_source source.now) (option_map (λ n. n.now) name.entry) corner result }
+{
+    let definitions = Definitions::of(alloc, source)?;
+    let top = top(alloc, &definitions, name)?;
+    circuit_below(alloc, &definitions, top, corner)
+}
+
+// The circuit below the module at a place.
+fn circuit_below(
+    alloc: Global,
+    definitions: &Definitions,
+    top: usize,
+    corner: Corner,
+) -> Result<Circuit, Refused<ElabKind>>
+    requires top { (m : Module) × StandsAt definitions.now top m }
+    ensures circuit { IfOk result (λ made. (m : Module) → StandsAt definitions.now top m → IsBelow definitions.now m corner made) }
+    ensures refused { IfErr result (λ r. (m : Module) → StandsAt definitions.now top m → RefusesBelow definitions.now m corner r) }
+{
+    let instances = place_instances(alloc, definitions, top)?;
+    let tick = tick(definitions, top, &instances);
+    let library = library_of(alloc, corner, tick, definitions, &instances)?;
+    let rows = rows_of(alloc, definitions, &library, &instances)?;
+    let made = elements_in(alloc, definitions, &library, &instances, &rows)?;
+    let drivers = drivers_in(alloc, definitions, &library, &instances, &rows, &made)?;
+    let scopes = scopes_of(alloc, definitions, &library, &instances, &rows)?;
+    let circuit = close(alloc, tick, library, rows, made, &drivers, scopes)?;
+    Ok(circuit)
+}
+
+// The circuit of what has been made.
+fn close(
+    alloc: Global,
+    tick: Unit,
+    library: Library,
+    rows: Rows,
+    made: Placing,
+    drivers: &[Driver],
+    scopes: Vec<Scope>,
+) -> Result<Circuit, NoMemory>
+    requires { (source : GhostSource) × ((m : Module) × ((corner : ghost_corner.Corner) × IsWhole source m corner tick library rows made drivers.now scopes.items)) }
+    ensures { IfOk result (λ circuit. (source : GhostSource) (m : Module) (corner : ghost_corner.Corner) → IsWhole source m corner tick library.entry rows made drivers.now scopes.items
+        → circuit ≡ def.circuit source m corner) }
+{
+    let mut nets = rows.nets;
+    drive(drivers, &mut nets);
+    let mut leg_timings = Vec::new(alloc);
+    leg_timings.push(no_delay())?;
+    Ok(Circuit::close(Parts {
+        tick,
+        nets,
+        elements: made.elements,
+        gate_delays: library.gate_delays,
+        leg_timings,
+        udps: library.udps,
+        checks: Vec::new(alloc),
+        scopes,
+    }))
+}
+
+// The way to an input port's bit has no delay until a text gives it one.
+fn no_delay() -> LegTiming
+    ensures { leg_timing_seen result ≡ none_of_twelve }
+{
+    LegTiming {
+        delays: Delays12 { at: [0; 12] },
+        limits: Limits12 {
+            at: [Limit::Follow; 12],
+        },
+    }
+}

@@ -1,0 +1,7 @@
+//! `elaborate`: from the syntax tree of a netlist to its circuit.
+#![tactic(auto)]
+
+mod circuits;
+mod driving;
+
+pub use circuits::elaborate;
