@@ -1,5 +1,5 @@
 -- The answers of elaboration: each refusal of a step stands, and without one no fault does.
-use Rattle.std.specs.Prelude.{◌≡◌, ℕ, ◌<◌, List, [], ◌++◌, Option, Result, Ok, Err, IfErr, length}
+use Rattle.std.specs.Prelude.{◌≡◌, ℕ, ◌<◌, List, [], ◌++◌, Option, Result, Ok, Err, IfOk, IfErr, length}
 use Rattle.std.specs.List.{IsAmong}
 use Rattle.std.proofs.Common.{sym, ◌∙◌, ap, subst, inl, inr}
 use Rattle.sg_circuit.specs.Circuit.{Circuit}
@@ -12,7 +12,7 @@ use Rattle.elab_model.specs.declared.kinds.ElabKind.{ElabKind}
 use Rattle.elab_model.specs.declared.kinds.ElabKind.TheVariants.{TooMany, Udp}
 use Rattle.elab_model.specs.Circuits.{circuit}
 use Rattle.elab_model.specs.Drivers.{elements}
-use Rattle.elab_model.specs.Elaboration.{FaultStands, in_list, in_table, HasNoFault, IsElaborated, RefusalStands, primitives}
+use Rattle.elab_model.specs.Elaboration.{FaultStands, in_list, in_table, HasNoFault, IsElaborated, RefusalStands, Elaborates, primitives}
 use Rattle.elab_model.specs.Faults.{Fault, fault, RefusesOneOf}
 use Rattle.elab_model.specs.HierarchyFaults.{start, two_definitions, driver_faults, faults_below, top_faults, faults}
 use Rattle.elab_model.specs.Nets.{nets}
@@ -99,3 +99,14 @@ elaborated source name corner top made twice e below = record {
 -- an error that is passed on
 pub leaves : {A : Type 0} (P : Refused ElabKind → Type 0) (result : Result A (Refused ElabKind)) (e : Refused ElabKind) → ((x : Refused ElabKind) × (result ≡ Err x) × (x ≡ e)) → P e → IfErr result P
 leaves P result e (x, r, s) h = rw r (subst P (sym s) h)
+
+-- the same where that is all that elaboration answers
+pub refuses : (source : Source) (name : Option (List ℕ)) (corner : Corner) (result : Result Circuit (Refused ElabKind)) (e : Refused ElabKind)
+    → ((x : Refused ElabKind) × (result ≡ Err x) × (x ≡ e)) → RefusalStands source name corner e → Elaborates source name corner result
+refuses source name corner result e (x, r, s) h = rw r (subst (RefusalStands source name corner) (sym s) h)
+
+-- the answer below the top is that of elaboration
+pub elaborates : (source : Source) (name : Option (List ℕ)) (corner : Corner) (top : Module) (result : Result Circuit (Refused ElabKind)) → two_definitions source ≡ [] → top_of source name ≡ Ok top
+    → IfOk result (λ made. IsBelow source top corner made) → IfErr result (λ r. RefusesBelow source top corner r) → Elaborates source name corner result
+elaborates source name corner top (Ok made) twice e below refused = elaborated source name corner top made twice e below
+elaborates source name corner top (Err r) twice e below refused = below-refused source name corner top r e refused

@@ -153,4 +153,29 @@ close-requires c =
     })))
 
 pub returns-clause-circuit : goal.returns-clause-circuit
-returns-clause-circuit c = ?
+returns-clause-circuit c m at =
+    let d = c.args.definitions.now in
+    let placed : ArePlaced d c.in_ok-instances.instances.items (instances d m) = c.in_ok-instances.ensures.instances m at in
+    let tree = c.in_ok-instances.ensures.faultless m at in
+    let first = subst (λ ps. ArePlaced d ps (instances d m)) (sym c.deref.ensures.value) placed in
+    let second = subst (λ ps. ArePlaced d ps (instances d m)) (sym c.deref-2.ensures.value) placed in
+    let third = subst (λ ps. ArePlaced d ps (instances d m)) (sym c.deref-3.ensures.value) placed in
+    let fourth = subst (λ ps. ArePlaced d ps (instances d m)) (sym c.deref-4.ensures.value) placed in
+    let ready = c.in_ok-library.ensures.library m second (c.tick-tick.ensures m at first) in
+    let rows = c.in_ok-rows.ensures.rows m c.args.corner third ready tree in
+    let read = record { are_placed = fourth; shallow = tree; is_ready = ready; have_rows = rows } in
+    let fifth = subst (λ ps. ArePlaced d ps (instances d m)) (sym c.deref-5.ensures.value) placed in
+    let made = c.in_ok-made.ensures.elements m c.args.corner read in
+    let sixth = subst (λ ps. ArePlaced d ps (instances d m)) (sym c.deref-6.ensures.value) placed in
+    let drivers = c.in_ok-drivers.ensures.drivers m c.args.corner (record { are_placed = fifth; is_ready = ready; have_rows = rows; are_elements = made }) in
+    let faultless = faultless-below d m c.args.corner tree ready.sound rows.few (elements-few d m c.args.corner _ _ c.in_ok-made.made made) drivers.faultless in
+    let whole = record {
+      tick_is = c.tick-tick.ensures m at first;
+      is_ready = ready;
+      have_rows = rows;
+      are_elements = made;
+      has_drivers = subst (HasDrivers d m c.args.corner) (sym c.deref-7.ensures.value) drivers;
+      are_scopes = c.in_ok-scopes.ensures m c.args.corner sixth ready rows tree;
+      faultless = faultless;
+    } in
+    record { faultless = faultless; tables = ready.tables; is_circuit = c.in_ok-circuit.ensures d m c.args.corner whole }
