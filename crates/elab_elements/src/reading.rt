@@ -11,7 +11,7 @@ use elab_rows::Rows;
 use sg_circuit::NetId;
 
 /// The instance of a number.
-pub fn placed_at<'a>(instances: &[Placed<'a>], number: u32) -> Placed<'a>
+pub fn placed_at<'t, 'a>(instances: &[Placed<'t, 'a>], number: u32) -> Placed<'t, 'a>
     requires { number < length instances.now }
     ensures { slice_get instances.now number ≡ Some result }
 {
@@ -19,7 +19,10 @@ pub fn placed_at<'a>(instances: &[Placed<'a>], number: u32) -> Placed<'a>
 }
 
 /// The module at a place of the definitions, made ready.
-pub fn module_at<'a, 'b>(library: &'b Library<'a>, definition: usize) -> &'b Prepared<'a>
+pub fn module_at<'l, 't, 'a>(
+    library: &'l Library<'t, 'a>,
+    definition: usize,
+) -> &'l Prepared<'t, 'a>
     requires { (q : ghost_prepared.Prepared) × (slice_get library.now.parts.items definition ≡ Some (Some (ghost_ready.Module q))) }
     ensures { slice_get library.now.parts.items definition ≡ Some (Some (ghost_ready.Module result.now)) }
 {

@@ -15,19 +15,19 @@ use vl_tree::{Instance, Module, Part};
 
 /// An instance of a module in a module.
 #[derive(Clone, Copy, Debug)]
-pub struct Child<'a> {
+pub struct Child<'t, 'a> {
     /// The place of its module among the definitions.
     pub definition: usize,
     /// Which member it is.
     pub member: usize,
-    pub text: &'a Instance<'a>,
+    pub text: &'t Instance<'a>,
 }
 
 /// The instances of modules in each definition, by its place.
-pub fn all_children<'a>(
+pub fn all_children<'t, 'a>(
     alloc: Global,
-    definitions: &Definitions<'a>,
-) -> Result<Vec<Vec<Child<'a>>>, NoMemory>
+    definitions: &Definitions<'t, 'a>,
+) -> Result<Vec<Vec<Child<'t, 'a>>>, NoMemory>
     ensures tree { IfOk result (λ all. IsTree definitions.now all.items) }
     ensures within { IfOk result (λ all. AreAllWithin (length all.items) all.items) }
 {
@@ -39,11 +39,11 @@ pub fn all_children<'a>(
     Ok(all)
 }
 
-fn children_of_part<'a>(
+fn children_of_part<'t, 'a>(
     alloc: Global,
-    definitions: &Definitions<'a>,
-    part: &'a Part<'a>,
-) -> Result<Vec<Child<'a>>, NoMemory>
+    definitions: &Definitions<'t, 'a>,
+    part: &'t Part<'a>,
+) -> Result<Vec<Child<'t, 'a>>, NoMemory>
     ensures children { IfOk result (λ list. AreChildren definitions.now list.items (part_children definitions.now (view_part part.now))) }
     ensures within { IfOk result (λ list. AreWithin (length definitions.now) list.items) }
 {
@@ -53,11 +53,11 @@ fn children_of_part<'a>(
     }
 }
 
-fn children_of<'a>(
+fn children_of<'t, 'a>(
     alloc: Global,
-    definitions: &Definitions<'a>,
-    definition: &'a Module<'a>,
-) -> Result<Vec<Child<'a>>, NoMemory>
+    definitions: &Definitions<'t, 'a>,
+    definition: &'t Module<'a>,
+) -> Result<Vec<Child<'t, 'a>>, NoMemory>
     ensures children { IfOk result (λ list. AreChildren definitions.now list.items (def.children_in definitions.now (view_module definition.now))) }
     ensures within { IfOk result (λ list. AreWithin (length definitions.now) list.items) }
 {
@@ -65,11 +65,11 @@ fn children_of<'a>(
     children_among(alloc, definitions, &list)
 }
 
-fn children_among<'a>(
+fn children_among<'t, 'a>(
     alloc: Global,
     definitions: &Definitions,
-    members: &[Member<'a>],
-) -> Result<Vec<Child<'a>>, NoMemory>
+    members: &[Member<'t, 'a>],
+) -> Result<Vec<Child<'t, 'a>>, NoMemory>
     ensures children { IfOk result (λ list. AreChildren definitions.now list.items (filter_map (λ i. def.child_of_member definitions.now i.0 i.1) (enumerate_from 0 (map view_member members.now)))) }
     ensures within { IfOk result (λ list. AreWithin (length definitions.now) list.items) }
 {
@@ -80,7 +80,10 @@ fn children_among<'a>(
     Ok(children)
 }
 
-fn add_child<'a>(child: Option<Child<'a>>, children: &mut Vec<Child<'a>>) -> Result<(), NoMemory>
+fn add_child<'t, 'a>(
+    child: Option<Child<'t, 'a>>,
+    children: &mut Vec<Child<'t, 'a>>,
+) -> Result<(), NoMemory>
     ensures { OnOk result (children.new.items ≡ children.old.items ++ option_to_list child.entry) }
 {
     if let Some(child) = child {
@@ -89,7 +92,11 @@ fn add_child<'a>(child: Option<Child<'a>>, children: &mut Vec<Child<'a>>) -> Res
     Ok(())
 }
 
-fn child_of<'a>(definitions: &Definitions, number: usize, member: &Member<'a>) -> Option<Child<'a>>
+fn child_of<'t, 'a>(
+    definitions: &Definitions,
+    number: usize,
+    member: &Member<'t, 'a>,
+) -> Option<Child<'t, 'a>>
     ensures { IsChildAnswer definitions.now (def.child_of_member definitions.now number (view_member member.now)) result }
 {
     match member {
@@ -102,12 +109,12 @@ fn child_of<'a>(definitions: &Definitions, number: usize, member: &Member<'a>) -
     }
 }
 
-fn child_at<'a>(
+fn child_at<'t, 'a>(
     definitions: &Definitions,
     name: &[u8],
     number: usize,
-    text: &'a Instance<'a>,
-) -> Option<Child<'a>>
+    text: &'t Instance<'a>,
+) -> Option<Child<'t, 'a>>
     ensures { IsChildAnswer definitions.now (def.child_of (module_of definitions.now name.now) number (view_instance text.now)) result }
 {
     match definitions.module(name) {

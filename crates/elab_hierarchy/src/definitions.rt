@@ -14,12 +14,12 @@ use vl_tree::{Name, Part, Source};
 
 /// The modules and primitives of a netlist, each of another name. It is seen as the list of them.
 #[derive(Debug, Drop)]
-pub struct Definitions<'a> {
-    source: &'a Source<'a>,
+pub struct Definitions<'t, 'a> {
+    source: &'t Source<'a>,
     names: IndexSet<&'a [u8]>,
 }
 
-impl<'a> Model for Definitions<'a> {
+impl<'t, 'a> Model for Definitions<'t, 'a> {
     ghost use Rattle.vl_tree.specs.Tree.{Source as Seen};
     ghost use Rattle.vl_tree.specs.Seen.{view_source};
     ghost use Rattle.std.specs.Coded.{codes};
@@ -35,7 +35,7 @@ impl<'a> Model for Definitions<'a> {
     ghost invariant = { λ d. AreNames d.names.keys (view_source d.source.now) };
 }
 
-impl<'a> Definitions<'a> {
+impl<'t, 'a> Definitions<'t, 'a> {
     ghost use Rattle.std.specs.Prelude.{◌≡◌, ◌<◌, [], IfOk, OnOk, IfErr, IfSome, IfNone, length, map, slice_get, Some, None};
     ghost use Rattle.vl_tree.specs.Tree.{Module};
     ghost use Rattle.vl_tree.specs.Seen.{view_source, view_part};
@@ -46,7 +46,10 @@ impl<'a> Definitions<'a> {
     ghost use Rattle.elab_hierarchy.specs.Tops.{StandsAt};
 
     /// The definitions of a netlist. Two of one name are refused (DuplicateName), at the second. Takes memory in proportion to their number.
-    pub fn of(alloc: Global, source: &'a Source<'a>) -> Result<Definitions<'a>, Refused<ElabKind>>
+    pub fn of(
+        alloc: Global,
+        source: &'t Source<'a>,
+    ) -> Result<Definitions<'t, 'a>, Refused<ElabKind>>
         ensures definitions { IfOk result (λ d. d ≡ view_source source.now) }
         ensures faultless { OnOk result (two_definitions (view_source source.now) ≡ []) }
         ensures refused { IfErr result (RefusesOneOf (two_definitions (view_source source.now))) }
@@ -85,14 +88,14 @@ impl<'a> Definitions<'a> {
     }
 
     /// All of them, in text order.
-    pub fn parts(&self) -> &'a [Part<'a>]
+    pub fn parts(&self) -> &'t [Part<'a>]
         ensures { map view_part result.now ≡ self.now }
     {
         &self.source.parts
     }
 
     /// The definition at a place.
-    pub fn part(&self, place: usize) -> &'a Part<'a>
+    pub fn part(&self, place: usize) -> &'t Part<'a>
         requires { place < length self.now }
         ensures { slice_get self.now place ≡ Some (view_part result.now) }
     {

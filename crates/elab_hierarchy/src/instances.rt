@@ -24,7 +24,7 @@ const MAX_INSTANCES: usize = 1 << 22;
 
 /// An instance in the hierarchy. Its number is its place in the list of all.
 #[derive(Clone, Copy, Debug)]
-pub struct Placed<'a> {
+pub struct Placed<'t, 'a> {
     /// The place of its module among the definitions.
     pub definition: usize,
     /// The number of the instance that has it; the top has none.
@@ -32,7 +32,7 @@ pub struct Placed<'a> {
     /// Which member of its parent's module it is.
     pub member: usize,
     /// Its text; the top has none.
-    pub text: Option<&'a Instance<'a>>,
+    pub text: Option<&'t Instance<'a>>,
     /// The number that comes after those of all instances in it.
     pub end: u32,
 }
@@ -40,11 +40,11 @@ pub struct Placed<'a> {
 /// The instances below a top, the top itself first, in depth-first text order (IEEE 1364-2005, 12.1.2). Refuses a module that reaches itself (SelfInstance, at the
 /// instance that closes the round), one below the 64th level (TooDeep) and the first past 2^22 (TooMany). Takes memory in
 /// proportion to the definitions and the instances.
-pub fn place_instances<'a>(
+pub fn place_instances<'t, 'a>(
     alloc: Global,
-    definitions: &Definitions<'a>,
+    definitions: &Definitions<'t, 'a>,
     top: usize,
-) -> Result<Vec<Placed<'a>>, Refused<ElabKind>>
+) -> Result<Vec<Placed<'t, 'a>>, Refused<ElabKind>>
     ensures instances { IfOk result (λ list. (m : Module) → StandsAt definitions.now top m → ArePlaced definitions.now list.items (def.instances definitions.now m)) }
     ensures few { IfOk result (λ list. length list.items ≤ 2 ^ 22) }
     ensures faultless { OnOk result ((m : Module) → StandsAt definitions.now top m → tree_faults definitions.now m ≡ []) }
@@ -59,12 +59,12 @@ pub fn place_instances<'a>(
     Ok(list)
 }
 
-fn place_top<'a>(
+fn place_top<'t, 'a>(
     alloc: Global,
-    children: &[Vec<Child<'a>>],
+    children: &[Vec<Child<'t, 'a>>],
     levels: u32,
     top: usize,
-    list: &mut Vec<Placed<'a>>,
+    list: &mut Vec<Placed<'t, 'a>>,
 ) -> Result<(), Refused<ElabKind>>
     requires within { AreAllWithin (length children.now) children.now }
     requires top { top < length children.now }
@@ -89,13 +89,13 @@ fn place_top<'a>(
 }
 
 // Places the instances below one, whose place in the list is the last but them. The chain holds its definition and those above it.
-fn place_below<'a>(
-    children: &[Vec<Child<'a>>],
+fn place_below<'t, 'a>(
+    children: &[Vec<Child<'t, 'a>>],
     levels: u32,
     definition: usize,
     number: u32,
     chain: &mut Vec<usize>,
-    list: &mut Vec<Placed<'a>>,
+    list: &mut Vec<Placed<'t, 'a>>,
 ) -> Result<(), Refused<ElabKind>>
     requires within { AreAllWithin (length children.now) children.now }
     requires definition { definition < length children.now }

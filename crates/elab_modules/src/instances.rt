@@ -20,7 +20,7 @@ use elab_tables::Table;
 use sg_text::Refused;
 use vl_tree::{Delay, Instance, Name, Part};
 
-fn as_prepared<'s, 'a>(ready: &'s Ready<'a>) -> Option<&'s Prepared<'a>>
+fn as_prepared<'s, 't, 'a>(ready: &'s Ready<'t, 'a>) -> Option<&'s Prepared<'t, 'a>>
     ensures { option_map (λ p. p.now) result ≡ told.as_prepared ready.now }
 {
     match ready {
@@ -30,7 +30,7 @@ fn as_prepared<'s, 'a>(ready: &'s Ready<'a>) -> Option<&'s Prepared<'a>>
 }
 
 // The module that stands ready at a place, if one does.
-fn prepared_in<'s, 'a>(part: &'s Option<Ready<'a>>) -> Option<&'s Prepared<'a>>
+fn prepared_in<'s, 't, 'a>(part: &'s Option<Ready<'t, 'a>>) -> Option<&'s Prepared<'t, 'a>>
     ensures { option_map (λ p. p.now) result ≡ told.prepared_in part.now }
 {
     match part {
@@ -39,7 +39,10 @@ fn prepared_in<'s, 'a>(part: &'s Option<Ready<'a>>) -> Option<&'s Prepared<'a>>
     }
 }
 
-fn part_at<'s, 'a>(parts: &'s [Option<Ready<'a>>], place: usize) -> &'s Option<Ready<'a>>
+fn part_at<'s, 't, 'a>(
+    parts: &'s [Option<Ready<'t, 'a>>],
+    place: usize,
+) -> &'s Option<Ready<'t, 'a>>
     requires { place < length parts.now }
     ensures { slice_get parts.now place ≡ Some result.now }
 {

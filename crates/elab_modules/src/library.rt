@@ -19,17 +19,17 @@ use std::alloc::Global;
 
 /// What stands ready of a definition.
 #[derive(Debug, Drop)]
-pub enum Ready<'a> {
-    Module(Prepared<'a>),
+pub enum Ready<'t, 'a> {
+    Module(Prepared<'t, 'a>),
     /// The place of the primitive's table.
     Primitive(u32),
 }
 
 /// What stands ready of the definitions that a top reaches.
 #[derive(Debug, Drop)]
-pub struct Library<'a> {
+pub struct Library<'t, 'a> {
     /// By the place of the definition.
-    pub parts: Vec<Option<Ready<'a>>>,
+    pub parts: Vec<Option<Ready<'t, 'a>>>,
     /// The tables of the primitives, in order of first use.
     pub udps: Vec<UdpUse>,
     /// The delays that stand in the modules, in ticks.
@@ -40,13 +40,13 @@ pub struct Library<'a> {
 
 /// Makes ready what a top reaches, whose instances these are and whose tick this is; there is no fault in its hierarchy. Refuses one of the faults of a module or of a
 /// primitive's table. Takes memory in proportion to the definitions and to what is reached of them.
-pub fn library_of<'a>(
+pub fn library_of<'t, 'a>(
     alloc: Global,
     corner: Corner,
     tick: Unit,
-    definitions: &Definitions<'a>,
-    instances: &[Placed<'a>],
-) -> Result<Library<'a>, Refused<ElabKind>>
+    definitions: &Definitions<'t, 'a>,
+    instances: &[Placed<'t, 'a>],
+) -> Result<Library<'t, 'a>, Refused<ElabKind>>
     requires below { (top : Module) × ArePlaced definitions.now instances.now (def.instances definitions.now top) × (tick.power ≡ tick_of definitions.now top)
         × (tree_faults definitions.now top ≡ []) }
     ensures library { IfOk result (λ made. (top : Module) → ArePlaced definitions.now instances.now (def.instances definitions.now top) → tick.power ≡ tick_of definitions.now top

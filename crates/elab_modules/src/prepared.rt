@@ -14,18 +14,18 @@ use vl_tree::{Module, Name};
 
 /// A module, with what its instances need of it: the list of its ports, its members in a row, and the table of its variables.
 #[derive(Debug, Drop)]
-pub struct Prepared<'a> {
-    pub definition: &'a Module<'a>,
+pub struct Prepared<'t, 'a> {
+    pub definition: &'t Module<'a>,
     pub ports: Vec<Name<'a>>,
-    pub members: Vec<Member<'a>>,
+    pub members: Vec<Member<'t, 'a>>,
     pub table: Table<'a>,
 }
 
 /// A module made ready, or one of the faults of its declarations. Takes memory in proportion to the module.
-pub fn prepare<'a>(
+pub fn prepare<'t, 'a>(
     alloc: Global,
-    definition: &'a Module<'a>,
-) -> Result<Prepared<'a>, Refused<ElabKind>>
+    definition: &'t Module<'a>,
+) -> Result<Prepared<'t, 'a>, Refused<ElabKind>>
     ensures prepared { IfOk result (λ p. IsPrepared p (view_module definition.now)) }
     ensures refused { IfErr result (RefusesOneOf (declaration_faults (view_module definition.now))) }
 {

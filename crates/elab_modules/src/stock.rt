@@ -19,12 +19,12 @@ use vl_tree::Part;
 const MOST_UDPS: usize = (1 << 31) - 1;
 
 // What stands ready when the modules of these instances do, and the primitives that their members name.
-pub fn reached<'a>(
+pub fn reached<'t, 'a>(
     alloc: Global,
-    definitions: &Definitions<'a>,
-    instances: &[Placed<'a>],
+    definitions: &Definitions<'t, 'a>,
+    instances: &[Placed<'t, 'a>],
     udps: &mut Vec<UdpUse>,
-) -> Result<Vec<Option<Ready<'a>>>, Refused<ElabKind>>
+) -> Result<Vec<Option<Ready<'t, 'a>>>, Refused<ElabKind>>
     requires within { All (λ p. p.definition < length definitions.now) instances.now }
     requires empty { udps.old.items ≡ [] }
     ensures met { IfOk result (λ parts. HasMet definitions.now parts.items udps.new.items (map (λ p. p.definition) instances.now)) }
@@ -37,7 +37,10 @@ pub fn reached<'a>(
 }
 
 // Where nothing is ready yet.
-fn nothing_ready<'a>(alloc: Global, count: usize) -> Result<Vec<Option<Ready<'a>>>, NoMemory>
+fn nothing_ready<'t, 'a>(
+    alloc: Global,
+    count: usize,
+) -> Result<Vec<Option<Ready<'t, 'a>>>, NoMemory>
     ensures { IfOk result (λ parts. parts.items ≡ replicate count None) }
 {
     let mut parts = Vec::new(alloc);
@@ -47,11 +50,11 @@ fn nothing_ready<'a>(alloc: Global, count: usize) -> Result<Vec<Option<Ready<'a>
     Ok(parts)
 }
 
-fn add_modules<'a>(
+fn add_modules<'t, 'a>(
     alloc: Global,
-    definitions: &Definitions<'a>,
-    instances: &[Placed<'a>],
-    parts: &mut [Option<Ready<'a>>],
+    definitions: &Definitions<'t, 'a>,
+    instances: &[Placed<'t, 'a>],
+    parts: &mut [Option<Ready<'t, 'a>>],
     udps: &mut Vec<UdpUse>,
 ) -> Result<(), Refused<ElabKind>>
     requires within { All (λ p. p.definition < length definitions.now) instances.now }
@@ -65,11 +68,11 @@ fn add_modules<'a>(
     Ok(())
 }
 
-fn add_module<'a>(
+fn add_module<'t, 'a>(
     alloc: Global,
-    definitions: &Definitions<'a>,
+    definitions: &Definitions<'t, 'a>,
     place: usize,
-    parts: &mut [Option<Ready<'a>>],
+    parts: &mut [Option<Ready<'t, 'a>>],
     udps: &mut Vec<UdpUse>,
 ) -> Result<(), Refused<ElabKind>>
     requires within { place < length definitions.now }

@@ -4,7 +4,7 @@ ghost use Rattle.elab_rows.specs.Parts.{module_in, module_at, IsRow};
 
 use elab_modules::{Library, Prepared, Ready};
 
-fn module_in<'l, 'a>(part: &'l Option<Ready<'a>>) -> Option<&'l Prepared<'a>>
+fn module_in<'l, 't, 'a>(part: &'l Option<Ready<'t, 'a>>) -> Option<&'l Prepared<'t, 'a>>
     ensures { option_map (λ p. p.now) result ≡ module_in part.now }
 {
     match part {
@@ -14,7 +14,10 @@ fn module_in<'l, 'a>(part: &'l Option<Ready<'a>>) -> Option<&'l Prepared<'a>>
 }
 
 /// The module that stands ready at a place of the definitions.
-pub fn module_at<'l, 'a>(library: &'l Library<'a>, place: usize) -> Option<&'l Prepared<'a>>
+pub fn module_at<'l, 't, 'a>(
+    library: &'l Library<'t, 'a>,
+    place: usize,
+) -> Option<&'l Prepared<'t, 'a>>
     ensures { option_map (λ p. p.now) result ≡ module_at (slice_get library.now.parts.items place) }
 {
     module_in(library.parts.get(place)?)

@@ -13,7 +13,7 @@ use elab_tables::Table;
 use sg_circuit::NetId;
 
 /// The nets of the bits of the variable at a place, left first.
-pub fn bits_of<'a>(here: &Here<'a, '_>, place: usize) -> &'a [NetId]
+pub fn bits_of<'l>(here: &Here<'l, '_, '_>, place: usize) -> &'l [NetId]
     requires { place < length here.now.prepared.now.table }
     ensures { (all : List OwnNet) (source : Source) (s : Instance) → IsHere all source s here.now
         → result.now ≡ map (number_at all source s) (variable_bits (variable_at here.now.prepared.now.table place)) }

@@ -51,11 +51,11 @@ pub fn input_nets(
 }
 
 // What stands ready of the top.
-fn top_at<'a, 't>(
-    library: &'a Library<'t>,
+fn top_at<'l, 't, 'a>(
+    library: &'l Library<'t, 'a>,
     instances: &[Placed],
-    rows: &'a Rows,
-) -> Option<Here<'a, 't>>
+    rows: &'l Rows,
+) -> Option<Here<'l, 't, 'a>>
     ensures { (source : Source) (top : Module) (corner : ghost_corner.Corner) (ss : List def.Instance) (all : List OwnNet)
         → AreRead source top corner library.now rows.now ss all → ArePlaced source instances.now ss → StandsHere all source (def.top_instance top) result }
 {

@@ -17,18 +17,18 @@ use sg_circuit::NetId;
 
 /// The module of an instance, and the net of each of its bits.
 #[derive(Clone, Copy, Debug)]
-pub struct Here<'a, 't> {
-    pub prepared: &'a Prepared<'t>,
-    pub row: &'a [NetId],
+pub struct Here<'l, 't, 'a> {
+    pub prepared: &'l Prepared<'t, 'a>,
+    pub row: &'l [NetId],
 }
 
 /// What stands ready of an instance: of one netlist something always does.
-pub fn here_at<'a, 't>(
-    library: &'a Library<'t>,
-    rows: &'a Rows,
+pub fn here_at<'l, 't, 'a>(
+    library: &'l Library<'t, 'a>,
+    rows: &'l Rows,
     number: usize,
     placed: &Placed,
-) -> Option<Here<'a, 't>>
+) -> Option<Here<'l, 't, 'a>>
     ensures { (source : Source) (top : Module) (corner : ghost_corner.Corner) (ss : List Instance) (all : List OwnNet) (s : Instance)
         → Stands source top corner library.now rows.now ss all number placed.now s → StandsHere all source s result }
 {
@@ -40,7 +40,10 @@ pub fn here_at<'a, 't>(
     })
 }
 
-fn module_at<'a, 't>(library: &'a Library<'t>, definition: usize) -> Option<&'a Prepared<'t>>
+fn module_at<'l, 't, 'a>(
+    library: &'l Library<'t, 'a>,
+    definition: usize,
+) -> Option<&'l Prepared<'t, 'a>>
     ensures { (source : Source) (top : Module) (corner : ghost_corner.Corner) (s : Instance) → AreReady source library.now.parts.items → IsReached source corner top library.now s
         → StandsAt source definition s.step.definition → IsReadyOf s.step.definition result }
 {
@@ -50,7 +53,7 @@ fn module_at<'a, 't>(library: &'a Library<'t>, definition: usize) -> Option<&'a 
     }
 }
 
-fn module_in<'a, 't>(ready: &'a Ready<'t>) -> Option<&'a Prepared<'t>>
+fn module_in<'l, 't, 'a>(ready: &'l Ready<'t, 'a>) -> Option<&'l Prepared<'t, 'a>>
     ensures { (m : Module) → IsModule m ready.now → IsReadyOf m result }
 {
     match ready {

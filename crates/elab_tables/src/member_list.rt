@@ -14,14 +14,14 @@ use vl_tree::{
 
 /// A member of a module: what makes elements, or holds an instance.
 #[derive(Clone, Copy, Debug)]
-pub enum Member<'a> {
+pub enum Member<'t, 'a> {
     /// A net that is assigned where it is declared (IEEE 1364-2005, 6.1.1).
     Declared {
         name: Name<'a>,
-        value: &'a Expression<'a>,
+        value: &'t Expression<'a>,
     },
     /// A continuous assignment (IEEE 1364-2005, 6.1).
-    Assignment(&'a Join<'a>),
+    Assignment(&'t Join<'a>),
     /// A supply net, and the value that drives it (IEEE 1364-2005, 4.6).
     Supply {
         name: Name<'a>,
@@ -31,18 +31,21 @@ pub enum Member<'a> {
     Gate {
         kind: GateKind,
         delay: &'a Option<Delay>,
-        instance: &'a GateInstance<'a>,
+        instance: &'t GateInstance<'a>,
     },
     /// An instance of the module or the primitive of a name (IEEE 1364-2005, 12.1.2, 8.6).
     Instance {
         definition: Name<'a>,
         delay: &'a Option<Delay>,
-        instance: &'a Instance<'a>,
+        instance: &'t Instance<'a>,
     },
 }
 
 /// The members of a module, in text order. Takes memory.
-pub fn members<'a>(alloc: Global, definition: &'a Module<'a>) -> Result<Vec<Member<'a>>, NoMemory>
+pub fn members<'t, 'a>(
+    alloc: Global,
+    definition: &'t Module<'a>,
+) -> Result<Vec<Member<'t, 'a>>, NoMemory>
     ensures { IfOk result (λ list. map view_member list.items ≡ def.members (view_module definition.now)) }
 {
     let mut list = Vec::new(alloc);
@@ -52,7 +55,7 @@ pub fn members<'a>(alloc: Global, definition: &'a Module<'a>) -> Result<Vec<Memb
     Ok(list)
 }
 
-fn add_item<'a>(item: &'a Item<'a>, list: &mut Vec<Member<'a>>) -> Result<(), NoMemory>
+fn add_item<'t, 'a>(item: &'t Item<'a>, list: &mut Vec<Member<'t, 'a>>) -> Result<(), NoMemory>
     ensures { OnOk result (map view_member list.new.items ≡ map view_member list.old.items ++ def.members_of_item (view_item item.now)) }
 {
     match item {
@@ -84,7 +87,10 @@ fn value_of(supply: Supply) -> Value
     }
 }
 
-fn add_declared<'a>(nets: &'a [NetName<'a>], list: &mut Vec<Member<'a>>) -> Result<(), NoMemory>
+fn add_declared<'t, 'a>(
+    nets: &'t [NetName<'a>],
+    list: &mut Vec<Member<'t, 'a>>,
+) -> Result<(), NoMemory>
     ensures { OnOk result (map view_member list.new.items ≡ map view_member list.old.items ++ filter_map (λ n. def.assignment_to n.name n.value) (map view_net_name nets.now)) }
 {
     for net in nets {
@@ -93,7 +99,7 @@ fn add_declared<'a>(nets: &'a [NetName<'a>], list: &mut Vec<Member<'a>>) -> Resu
     Ok(())
 }
 
-fn add_value<'a>(net: &'a NetName<'a>, list: &mut Vec<Member<'a>>) -> Result<(), NoMemory>
+fn add_value<'t, 'a>(net: &'t NetName<'a>, list: &mut Vec<Member<'t, 'a>>) -> Result<(), NoMemory>
     ensures { OnOk result (map view_member list.new.items ≡ map view_member list.old.items ++ option_to_list (def.assignment_to (view_net_name net.now).name (view_net_name net.now).value)) }
 {
     if let Some(value) = &net.value {
@@ -105,10 +111,10 @@ fn add_value<'a>(net: &'a NetName<'a>, list: &mut Vec<Member<'a>>) -> Result<(),
     Ok(())
 }
 
-fn add_supplies<'a>(
+fn add_supplies<'t, 'a>(
     value: Value,
-    names: &'a [Name<'a>],
-    list: &mut Vec<Member<'a>>,
+    names: &'t [Name<'a>],
+    list: &mut Vec<Member<'t, 'a>>,
 ) -> Result<(), NoMemory>
     ensures { OnOk result (map view_member list.new.items ≡ map view_member list.old.items ++ map (λ n. def.supply n value) (map view_name names.now)) }
 {
@@ -118,7 +124,10 @@ fn add_supplies<'a>(
     Ok(())
 }
 
-fn add_assignments<'a>(joins: &'a [Join<'a>], list: &mut Vec<Member<'a>>) -> Result<(), NoMemory>
+fn add_assignments<'t, 'a>(
+    joins: &'t [Join<'a>],
+    list: &mut Vec<Member<'t, 'a>>,
+) -> Result<(), NoMemory>
     ensures { OnOk result (map view_member list.new.items ≡ map view_member list.old.items ++ map def.assignment (map view_join joins.now)) }
 {
     for join in joins {
@@ -127,11 +136,11 @@ fn add_assignments<'a>(joins: &'a [Join<'a>], list: &mut Vec<Member<'a>>) -> Res
     Ok(())
 }
 
-fn add_gates<'a>(
+fn add_gates<'t, 'a>(
     kind: GateKind,
     delay: &'a Option<Delay>,
-    instances: &'a [GateInstance<'a>],
-    list: &mut Vec<Member<'a>>,
+    instances: &'t [GateInstance<'a>],
+    list: &mut Vec<Member<'t, 'a>>,
 ) -> Result<(), NoMemory>
     ensures { OnOk result (map view_member list.new.items ≡ map view_member list.old.items ++ map (def.gate kind (option_map view_delay delay.now)) (map view_gate_instance instances.now)) }
 {
@@ -145,11 +154,11 @@ fn add_gates<'a>(
     Ok(())
 }
 
-fn add_instances<'a>(
+fn add_instances<'t, 'a>(
     definition: Name<'a>,
     delay: &'a Option<Delay>,
-    instances: &'a [Instance<'a>],
-    list: &mut Vec<Member<'a>>,
+    instances: &'t [Instance<'a>],
+    list: &mut Vec<Member<'t, 'a>>,
 ) -> Result<(), NoMemory>
     ensures { OnOk result (map view_member list.new.items ≡ map view_member list.old.items ++ map (def.instance (view_name definition.entry) (option_map view_delay delay.now)) (map view_instance instances.now)) }
 {

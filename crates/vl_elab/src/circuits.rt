@@ -27,9 +27,9 @@ use vl_tree::Source;
 /// The circuit of a netlist below a top: the module of that name, or else the only one that is no cell and of which no module has an instance (IEEE 1364-2005, clauses 6 to 8
 /// and 12). Delays are those of a corner. Refuses a netlist with a fault that `ElabKind` names, at the node that has it; of several faults any one is answered. Takes memory in
 /// proportion to the netlist and to its circuit.
-pub fn elaborate<'a>(
+pub fn elaborate(
     alloc: Global,
-    source: &'a Source<'a>,
+    source: &Source,
     name: Option<&[u8]>,
     corner: Corner,
 ) -> Result<Circuit, Refused<ElabKind>>

@@ -5,7 +5,6 @@ ghost use Rattle.elab_model.specs.Faults.{RefusesOneOf};
 ghost use Rattle.elab_model.specs.HierarchyFaults.{driver_faults};
 ghost use Rattle.sg_delay.specs.declared.corners.Corner as ghost_corner;
 ghost use Rattle.vl_elab.specs.Made.{AreMade, driven_by};
-
 ghost use Rattle.elab_drivers.specs.Netlists.{HasDrivers};
 
 use elab_drivers::drivers;

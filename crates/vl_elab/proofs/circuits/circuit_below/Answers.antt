@@ -141,16 +141,24 @@ close-requires c =
     let fifth = subst (λ ps. ArePlaced d ps (instances d m)) (sym c.deref-5.ensures.value) placed in
     let made = c.in_ok-made.ensures.elements m c.args.corner read in
     let sixth = subst (λ ps. ArePlaced d ps (instances d m)) (sym c.deref-6.ensures.value) placed in
-    let drivers = c.in_ok-drivers.ensures.drivers m c.args.corner (record { are_placed = fifth; is_ready = ready; have_rows = rows; are_elements = made }) in
-    (d, (m, (c.args.corner, record {
-      tick_is = c.tick-tick.ensures m at first;
-      is_ready = ready;
-      have_rows = rows;
-      are_elements = made;
-      has_drivers = subst (HasDrivers d m c.args.corner) (sym c.deref-7.ensures.value) drivers;
-      are_scopes = c.in_ok-scopes.ensures m c.args.corner sixth ready rows tree;
-      faultless = faultless-below d m c.args.corner tree ready.sound rows.few (elements-few d m c.args.corner _ _ c.in_ok-made.made made) drivers.faultless;
-    })))
+    let drivers = c.in_ok-drivers.ensures.drivers m c.args.corner (record { are_placed = fifth; is_ready = ready; have_rows = rows; are_elements = made }) in (
+      d,
+      (
+        m,
+        (
+          c.args.corner,
+          record {
+            tick_is = c.tick-tick.ensures m at first;
+            is_ready = ready;
+            have_rows = rows;
+            are_elements = made;
+            has_drivers = subst (HasDrivers d m c.args.corner) (sym c.deref-7.ensures.value) drivers;
+            are_scopes = c.in_ok-scopes.ensures m c.args.corner sixth ready rows tree;
+            faultless = faultless-below d m c.args.corner tree ready.sound rows.few (elements-few d m c.args.corner _ _ c.in_ok-made.made made) drivers.faultless;
+          },
+        ),
+      ),
+    )
 
 pub returns-clause-circuit : goal.returns-clause-circuit
 returns-clause-circuit c m at =

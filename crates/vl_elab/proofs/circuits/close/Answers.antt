@@ -37,13 +37,13 @@ pub returns : goal.returns
 returns c source m corner w =
     c.close.ensures
     ∙ whole-is source m corner _ _ _ _ _ _ _ w
-        (record {
-          tick_is = refl;
-          nets_are = c.drive.ensures;
-          elements_are = refl;
-          delays_are = refl;
-          legs_are = legs-made _ _ _ c.in_ok-push.ensures.items c.new-leg_timings.ensures.items c.no_delay.ensures;
-          udps_are = refl;
-          checks_are = c.new.ensures.items;
-          scopes_are = refl;
-        })
+    (record {
+      tick_is = refl;
+      nets_are = c.drive.ensures;
+      elements_are = refl;
+      delays_are = refl;
+      legs_are = legs-made _ _ _ c.in_ok-push.ensures.items c.new-leg_timings.ensures.items c.no_delay.ensures;
+      udps_are = refl;
+      checks_are = c.new.ensures.items;
+      scopes_are = refl;
+    })
