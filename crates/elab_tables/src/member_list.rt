@@ -30,13 +30,13 @@ pub enum Member<'t, 'a> {
     /// An instance of a gate (IEEE 1364-2005, 7.1).
     Gate {
         kind: GateKind,
-        delay: &'a Option<Delay>,
+        delay: &'t Option<Delay>,
         instance: &'t GateInstance<'a>,
     },
     /// An instance of the module or the primitive of a name (IEEE 1364-2005, 12.1.2, 8.6).
     Instance {
         definition: Name<'a>,
-        delay: &'a Option<Delay>,
+        delay: &'t Option<Delay>,
         instance: &'t Instance<'a>,
     },
 }
@@ -138,7 +138,7 @@ fn add_assignments<'t, 'a>(
 
 fn add_gates<'t, 'a>(
     kind: GateKind,
-    delay: &'a Option<Delay>,
+    delay: &'t Option<Delay>,
     instances: &'t [GateInstance<'a>],
     list: &mut Vec<Member<'t, 'a>>,
 ) -> Result<(), NoMemory>
@@ -156,7 +156,7 @@ fn add_gates<'t, 'a>(
 
 fn add_instances<'t, 'a>(
     definition: Name<'a>,
-    delay: &'a Option<Delay>,
+    delay: &'t Option<Delay>,
     instances: &'t [Instance<'a>],
     list: &mut Vec<Member<'t, 'a>>,
 ) -> Result<(), NoMemory>
