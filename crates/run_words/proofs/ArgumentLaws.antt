@@ -1,5 +1,5 @@
 -- The words as arguments: one argument more, and where the words before `--` end.
-use Rattle.std.proofs.Common.{◌≡◌, ℕ, ◌+◌, ◌-◌, ◌<◌, ◌≤◌, ◌⊎◌, inl, inr, List, [], ◌∷◌, ◌++◌, take, drop, map, length, Bool, true, false, cond, min, refl, sym, ap, ◌∙◌, arith, Option, Some, None, option_map, append_assoc, unwrap_or, nat_lt, slice_index_or}
+use Rattle.std.proofs.Common.{◌≡◌, ℕ, ◌+◌, ◌-◌, ◌≤◌, ◌⊎◌, inl, inr, List, [], ◌∷◌, ◌++◌, take, drop, map, length, Bool, true, false, cond, min, refl, sym, ap, ◌∙◌, arith, Option, Some, None, option_map, append_assoc, unwrap_or, nat_lt, slice_index_or}
 use Rattle.std.proofs.lemmas.Bool.{ltb-true, ltb-false}
 use Rattle.std.proofs.lemmas.List.{take-map, drop-map, take_all, drop_all, length-drop, map-append}
 use Rattle.std.proofs.lemmas.List.Sums.{prefix_len-le-length}
@@ -13,7 +13,7 @@ use Rattle.run_words.specs.ArgumentsSeen.{argument_seen, ComesFirst}
 nat_le_total : (a b : ℕ) → (a ≤ b) ⊎ (b ≤ a)
 nat_le_total a b =
     let by : (t : Bool) → nat_lt b a ≡ t → (a ≤ b) ⊎ (b ≤ a) =
-        λ t. elim t as (λ v. nat_lt b a ≡ v → (a ≤ b) ⊎ (b ≤ a)) [ true ↦ λ e. inr (omega (arith, ltb-true b a e)) | false ↦ λ e. inl (ltb-false b a e) ] in
+    λ t. elim t as (λ v. nat_lt b a ≡ v → (a ≤ b) ⊎ (b ≤ a)) [ true ↦ λ e. inr (omega (arith, ltb-true b a e)) | false ↦ λ e. inl (ltb-false b a e) ] in
     by (nat_lt b a) refl
 
 -- the arguments so far and one more
@@ -29,10 +29,10 @@ same_place f p (w ∷ ws) = ap (λ n. cond (not (p (f w))) (1 + n) 0) (same_plac
 pub place_or_end : {X : Type 0} (p : X → Bool) (xs : List X) → unwrap_or (position p xs) (length xs) ≡ position_or_len p xs
 place_or_end p xs =
     let by : (b : Bool) → nat_lt (position_or_len p xs) (length xs) ≡ b → unwrap_or (cond b (Some (position_or_len p xs)) None) (length xs) ≡ position_or_len p xs =
-        λ b. elim b as (λ v. nat_lt (position_or_len p xs) (length xs) ≡ v → unwrap_or (cond v (Some (position_or_len p xs)) None) (length xs) ≡ position_or_len p xs) [
-          | true ↦ λ e. refl
-          | false ↦ λ e. omega (arith, ltb-false (position_or_len p xs) (length xs) e, prefix_len-le-length (λ x. not (p x)) xs)
-        ] in
+    λ b. elim b as (λ v. nat_lt (position_or_len p xs) (length xs) ≡ v → unwrap_or (cond v (Some (position_or_len p xs)) None) (length xs) ≡ position_or_len p xs) [
+      | true ↦ λ e. refl
+      | false ↦ λ e. omega (arith, ltb-false (position_or_len p xs) (length xs) e, prefix_len-le-length (λ x. not (p x)) xs)
+    ] in
     by (nat_lt (position_or_len p xs) (length xs)) refl
 
 pub place_within : {X : Type 0} (p : X → Bool) (xs : List X) → position_or_len p xs ≤ length xs

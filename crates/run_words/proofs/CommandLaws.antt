@@ -1,5 +1,5 @@
 -- The command of the words, from that of their arguments.
-use Rattle.std.proofs.Common.{◌≡◌, ℕ, ◌-◌, ◌≤◌, List, ◌∷◌, take, drop, map, length, slice_index_or, Bool, true, cond, sym, ap, ◌∙◌, Result, Ok, Err, Option, Some, None, option_map, option_and_then, codes, IfOk}
+use Rattle.std.proofs.Common.{◌≡◌, ℕ, ◌-◌, ◌≤◌, List, take, drop, map, length, slice_index_or, true, cond, sym, ap, ◌∙◌, Result, Ok, Err, Option, Some, None, option_map, option_and_then, codes, IfOk}
 use Rattle.run_words.proofs.FrontLaws.{front_words}
 use Rattle.run_words.specs.Arguments.{Argument, is_text, arguments_of}
 use Rattle.run_words.specs.Words.{command_from, command_of}

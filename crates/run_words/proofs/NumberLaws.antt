@@ -1,5 +1,5 @@
 -- A number of seven digits at most is read.
-use Rattle.std.proofs.Common.{◌≡◌, ℕ, ◌<◌, ◌≤◌, ◌^◌, List, [], ◌∷◌, length, Bool, true, false, Result, Ok, Err, ◌&&◌, nat_le, refl, sym, ap, ◌∙◌, arith, rules, Some, None}
+use Rattle.std.proofs.Common.{◌≡◌, ℕ, ◌<◌, ◌≤◌, ◌^◌, List, length, Bool, true, false, Result, Ok, ◌&&◌, nat_le, refl, sym, ap, ◌∙◌, arith, rules, Some, None}
 use Rattle.std.proofs.lemmas.Bool.{leb-true}
 use Rattle.std.specs.Result.{result_ok}
 use Rattle.std.specs.Char.{is_ascii_digit}

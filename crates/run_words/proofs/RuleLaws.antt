@@ -1,12 +1,11 @@
 -- The rules over the code's arguments.
-use Rattle.std.proofs.Common.{◌≡◌, ℕ, suc, ◌&&◌, nat_le, ◌+◌, ◌<◌, List, [], ◌∷◌, drop, map, length, get_or, Bool, true, false, cond, refl, sym, ap, ◌∙◌, arith, Option, Some, None, option_map, is_some, count_by, drop-cons, add-one}
+use Rattle.std.proofs.Common.{◌≡◌, ℕ, suc, ◌&&◌, nat_le, List, [], ◌∷◌, map, length, Bool, true, false, cond, refl, sym, ap, ◌∙◌, Option, Some, None, is_some, count_by}
 use Rattle.std.proofs.lemmas.List.{length-map}
 use Rattle.std.proofs.lemmas.List.Folds.{list_all-map}
 use Rattle.std.proofs.lemmas.List.Sums.{length-filter}
-use Rattle.std.specs.List.{list_all, filter, filter_map, cons_option}
+use Rattle.std.specs.List.{list_all, filter, cons_option}
 use Rattle.std.specs.Borrow.{Bor}
 use Rattle.run_words.specs.declared.arguments.Argument as code
-use Rattle.run_words.specs.Arguments.{Argument}
 use Rattle.run_words.specs.ArgumentsSeen.{argument_seen}
 use Rattle.run_words.specs.Words.{value_under, values_of, netlists_of, option_names, is_known, is_single, are_sound}
 

@@ -1,6 +1,6 @@
 -- The words behind `run` as arguments.
 use lib.Pointwise.{pointwise}
-use Rattle.std.specs.Prelude.{ℕ, ◌+◌, List, [], ◌∷◌, ◌++◌, take, drop, map, Bool, not, ◌&&◌, ◌==◌, Option, Some, None, option_map, option_and_then, is_none, position, nat_eq, codes, if◌then◌else◌}
+use Rattle.std.specs.Prelude.{ℕ, ◌+◌, List, [], ◌∷◌, ◌++◌, take, drop, map, Bool, ◌&&◌, ◌==◌, Option, Some, None, option_map, option_and_then, is_none, position, nat_eq, codes, if◌then◌else◌}
 use Rattle.std.specs.List.{starts_with, before_first, after_first}
 
 -- an option's name, without its dashes, and its value; or the name of a netlist

@@ -1,5 +1,5 @@
 -- Joins `Words` to the code.
-use Rattle.std.specs.Prelude.{ℕ, map, option_map}
+use Rattle.std.specs.Prelude.{map, option_map}
 use Rattle.run_words.specs.declared.words.Command as code
 use Rattle.run_words.specs.Words.{Command}
 

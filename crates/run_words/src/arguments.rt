@@ -56,7 +56,13 @@ fn first_argument<'a>(word: &'a str, rest: &'a [String]) -> Option<(Argument<'a>
     if begins_with_dash(value) {
         return None;
     }
-    Some((Argument::Setting { name: option, value }, rest))
+    Some((
+        Argument::Setting {
+            name: option,
+            value,
+        },
+        rest,
+    ))
 }
 
 fn read_before<'a>(

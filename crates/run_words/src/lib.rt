@@ -7,3 +7,6 @@ mod rules;
 mod words;
 
 pub use words::{Command, read_words};
+
+#[cfg(test)]
+mod tests;

@@ -17,13 +17,7 @@ fn value_under<'a>(argument: &Argument<'a>, name: &str) -> Option<&'a str>
     ensures { option_map (λ value. value.now) result ≡ value_under name.now (argument_seen argument.now) }
 {
     match argument {
-        Argument::Setting { name: own, value } => {
-            if *own == name {
-                Some(value)
-            } else {
-                None
-            }
-        }
+        Argument::Setting { name: own, value } => { if *own == name { Some(value) } else { None } }
         Argument::Netlist(_) => None,
     }
 }
@@ -41,10 +35,7 @@ pub fn value_of<'a>(arguments: &[Argument<'a>], name: &str) -> Option<&'a str>
 }
 
 /// The names of the netlists. Takes memory.
-pub fn netlists_of<'a>(
-    alloc: Global,
-    arguments: &[Argument<'a>],
-) -> Result<Vec<&'a str>, NoMemory>
+pub fn netlists_of<'a>(alloc: Global, arguments: &[Argument<'a>]) -> Result<Vec<&'a str>, NoMemory>
     ensures { IfOk result (λ names. map (λ name. name.now) names.items ≡ netlists_of (map argument_seen arguments.now)) }
 {
     let mut names = Vec::new(alloc);

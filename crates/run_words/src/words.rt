@@ -13,9 +13,13 @@ use sg_text::NoMemory;
 use std::alloc::Global;
 
 const DEFAULT_CORNER: Corner = Corner::Typ;
+
 const DEFAULT_ROUNDS: u32 = 10_000;
+
 const MOST_ROUNDS: u32 = 1_000_000;
+
 const DEFAULT_WHEEL: u32 = 4096;
+
 const MOST_WHEEL: u32 = 1 << 20;
 
 /// A run. The files are named as the words name them.
@@ -44,12 +48,7 @@ fn corner_or_default(arguments: &[Argument<'_>]) -> Option<Corner>
     }
 }
 
-fn number_or(
-    arguments: &[Argument<'_>],
-    name: &str,
-    most: u32,
-    default: u32,
-) -> Option<u32>
+fn number_or(arguments: &[Argument<'_>], name: &str, most: u32, default: u32) -> Option<u32>
     ensures { result ≡ read_or default (number_up_to most) (value_of name.now (map argument_seen arguments.now)) }
 {
     match value_of(arguments, name) {
@@ -99,10 +98,7 @@ fn is_run(word: &str) -> bool
 }
 
 // The command of the words behind `run`.
-fn command_after<'a>(
-    alloc: Global,
-    words: &'a [String],
-) -> Result<Option<Command<'a>>, NoMemory>
+fn command_after<'a>(alloc: Global, words: &'a [String]) -> Result<Option<Command<'a>>, NoMemory>
     ensures { IfOk result (λ c. option_map (λ x. command_seen x) c ≡ option_and_then command_from (arguments_of (map string_bytes words.now))) }
 {
     match read_arguments(alloc, words)? {
@@ -113,10 +109,7 @@ fn command_after<'a>(
 
 /// The command that the words of the command line ask for, or None where they are refused. The program's own name isn't
 /// among the words. Takes memory.
-pub fn read_words<'a>(
-    alloc: Global,
-    words: &'a [String],
-) -> Result<Option<Command<'a>>, NoMemory>
+pub fn read_words<'a>(alloc: Global, words: &'a [String]) -> Result<Option<Command<'a>>, NoMemory>
     ensures command { IfOk result (λ c. option_map (λ x. command_seen x) c ≡ command_of (map (λ w. string_bytes w) words.now)) }
 {
     let [first, rest @ ..] = words else {
