@@ -80,11 +80,11 @@ fn spent_of(end: Result<(), SimEnd>) -> Result<Option<Spent>, ShelfError>
 /// Simulates a circuit under a stimulus, with at most `bound` rounds a time, and writes the file `name`. The answer
 /// tells a time that needed more rounds; the file then ends before it.
 ///
-/// What is pending stands in a wheel of so many `buckets`, from 1 to 1048576; they change the time and memory that a run
-/// takes, and nothing of its dump and answer.
+/// What is pending stands in a wheel of so many `buckets`, from 1 to 1048576. Neither the dump nor the answer depends on
+/// them.
 ///
-/// `Failed` where a call on the shelf failed, `NoMemory` where there is none; the file then has the dump's first bytes, or
-/// isn't made.
+/// `Failed` where a call on the shelf failed, and `NoMemory` for want of memory. The file then has the first bytes of the
+/// dump, or is as it was.
 pub fn run_and_dump<S: Shelf>(
     alloc: Global,
     circuit: &Circuit,
