@@ -31,7 +31,7 @@ pub fn reached<'t, 'a>(
     ensures once { OnOk result (two_definitions definitions.now ≡ []) }
     ensures refused { IfErr result (RefusesMet definitions.now (map (λ p. p.definition) instances.now)) }
 {
-    let mut parts = nothing_ready(alloc, definitions.len())?;
+    let mut parts = nothing_ready(alloc, definitions)?;
     add_modules(alloc, definitions, instances, &mut parts, udps)?;
     Ok(parts)
 }
@@ -39,12 +39,12 @@ pub fn reached<'t, 'a>(
 // Where nothing is ready yet.
 fn nothing_ready<'t, 'a>(
     alloc: Global,
-    count: usize,
+    definitions: &Definitions<'t, 'a>,
 ) -> Result<Vec<Option<Ready<'t, 'a>>>, NoMemory>
-    ensures { IfOk result (λ parts. parts.items ≡ replicate count None) }
+    ensures { IfOk result (λ parts. parts.items ≡ replicate (length definitions.now) None) }
 {
     let mut parts = Vec::new(alloc);
-    for _ in 0..count {
+    for _ in 0..definitions.len() {
         parts.push(None)?;
     }
     Ok(parts)
