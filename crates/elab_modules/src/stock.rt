@@ -37,7 +37,7 @@ pub fn reached<'t, 'a>(
 }
 
 // Where nothing is ready yet.
-fn nothing_ready<'t, 'a>(
+fn nothing_ready<'t, 'a: 't>(
     alloc: Global,
     definitions: &Definitions<'t, 'a>,
 ) -> Result<Vec<Option<Ready<'t, 'a>>>, NoMemory>
