@@ -31,20 +31,17 @@ pub fn reached<'t, 'a>(
     ensures once { OnOk result (two_definitions definitions.now ≡ []) }
     ensures refused { IfErr result (RefusesMet definitions.now (map (λ p. p.definition) instances.now)) }
 {
-    let mut parts = nothing_ready(alloc, definitions)?;
+    let mut parts = nothing_at(alloc, definitions.len())?;
     add_modules(alloc, definitions, instances, &mut parts, udps)?;
     Ok(parts)
 }
 
-// Where nothing is ready yet.
-fn nothing_ready<'t, 'a: 't>(
-    alloc: Global,
-    definitions: &Definitions<'t, 'a>,
-) -> Result<Vec<Option<Ready<'t, 'a>>>, NoMemory>
-    ensures { IfOk result (λ parts. parts.items ≡ replicate (length definitions.now) None) }
+// So many places with nothing at them.
+fn nothing_at<T: Drop>(alloc: Global, count: usize) -> Result<Vec<Option<T>>, NoMemory>
+    ensures { IfOk result (λ parts. parts.items ≡ replicate count None) }
 {
     let mut parts = Vec::new(alloc);
-    for _ in 0..definitions.len() {
+    for _ in 0..count {
         parts.push(None)?;
     }
     Ok(parts)
