@@ -31,20 +31,24 @@ pub fn reached<'t, 'a>(
     ensures once { OnOk result (two_definitions definitions.now ≡ []) }
     ensures refused { IfErr result (RefusesMet definitions.now (map (λ p. p.definition) instances.now)) }
 {
-    let mut parts = nothing_at(alloc, definitions.len())?;
+    let mut parts = Vec::new(alloc);
+    add_nothing(definitions, &mut parts)?;
     add_modules(alloc, definitions, instances, &mut parts, udps)?;
     Ok(parts)
 }
 
-// So many places with nothing at them.
-fn nothing_at<T: Drop>(alloc: Global, count: usize) -> Result<Vec<Option<T>>, NoMemory>
-    ensures { IfOk result (λ parts. parts.items ≡ replicate count None) }
+// Adds a place for each definition, at which nothing is ready yet.
+fn add_nothing<'t, 'a>(
+    definitions: &Definitions<'t, 'a>,
+    parts: &mut Vec<Option<Ready<'t, 'a>>>,
+) -> Result<(), NoMemory>
+    requires { parts.old.items ≡ [] }
+    ensures { OnOk result (parts.new.items ≡ replicate (length definitions.now) None) }
 {
-    let mut parts = Vec::new(alloc);
-    for _ in 0..count {
+    for _ in 0..definitions.len() {
         parts.push(None)?;
     }
-    Ok(parts)
+    Ok(())
 }
 
 fn add_modules<'t, 'a>(
