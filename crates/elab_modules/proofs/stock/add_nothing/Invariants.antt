@@ -3,4 +3,4 @@ use Rattle.std.proofs.Common.{◌≡◌, None, replicate}
 use Rattle.elab_modules.proofs.stock.add_nothing.Given as goal
 
 abbrev pub invariant-loop : goal.invariant-loop
-invariant-loop l = l.parts.now.items ≡ replicate l.counter None
+invariant-loop l = l.parts.items ≡ replicate l.counter None
