@@ -43,7 +43,8 @@ fn add_nothing<'t, 'a>(
     parts: &mut Vec<Option<Ready<'t, 'a>>>,
 ) -> Result<(), NoMemory>
     requires { parts.old.items ≡ [] }
-    ensures { OnOk result (parts.new.items ≡ replicate (length definitions.now) None) }
+    ensures nothing { OnOk result (parts.new.items ≡ replicate (length definitions.now) None) }
+    ensures once { OnOk result (two_definitions definitions.now ≡ []) }
 {
     for _ in 0..definitions.len() {
         parts.push(None)?;
