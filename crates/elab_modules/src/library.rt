@@ -18,7 +18,7 @@ use sg_time::Unit;
 use std::alloc::Global;
 
 /// What stands ready of a definition.
-#[derive(Debug, Drop)]
+#[derive(Drop)]
 pub enum Ready<'t, 'a> {
     Module(Prepared<'t, 'a>),
     /// The place of the primitive's table.
@@ -26,7 +26,7 @@ pub enum Ready<'t, 'a> {
 }
 
 /// What stands ready of the definitions that a top reaches.
-#[derive(Debug, Drop)]
+#[derive(Drop)]
 pub struct Library<'t, 'a> {
     /// By the place of the definition.
     pub parts: Vec<Option<Ready<'t, 'a>>>,

@@ -13,7 +13,7 @@ use std::alloc::Global;
 use vl_tree::{Module, Name};
 
 /// A module, with what its instances need of it: the list of its ports, its members in a row, and the table of its variables.
-#[derive(Debug, Drop)]
+#[derive(Drop)]
 pub struct Prepared<'t, 'a> {
     pub definition: &'t Module<'a>,
     pub ports: Vec<Name<'a>>,

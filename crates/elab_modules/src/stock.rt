@@ -31,23 +31,25 @@ pub fn reached<'t, 'a>(
     ensures once { OnOk result (two_definitions definitions.now ≡ []) }
     ensures refused { IfErr result (RefusesMet definitions.now (map (λ p. p.definition) instances.now)) }
 {
-    let mut parts = nothing_ready(alloc, definitions.len())?;
+    let mut parts = Vec::new(alloc);
+    add_nothing(definitions, &mut parts)?;
     add_modules(alloc, definitions, instances, &mut parts, udps)?;
     Ok(parts)
 }
 
-// Where nothing is ready yet.
-fn nothing_ready<'t, 'a>(
-    alloc: Global,
-    count: usize,
-) -> Result<Vec<Option<Ready<'t, 'a>>>, NoMemory>
-    ensures { IfOk result (λ parts. parts.items ≡ replicate count None) }
+// Adds a place for each definition, at which nothing is ready yet.
+fn add_nothing<'t, 'a>(
+    definitions: &Definitions<'t, 'a>,
+    parts: &mut Vec<Option<Ready<'t, 'a>>>,
+) -> Result<(), NoMemory>
+    requires { parts.old.items ≡ [] }
+    ensures nothing { OnOk result (parts.new.items ≡ replicate (length definitions.now) None) }
+    ensures once { OnOk result (two_definitions definitions.now ≡ []) }
 {
-    let mut parts = Vec::new(alloc);
-    for _ in 0..count {
+    for _ in 0..definitions.len() {
         parts.push(None)?;
     }
-    Ok(parts)
+    Ok(())
 }
 
 fn add_modules<'t, 'a>(

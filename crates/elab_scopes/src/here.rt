@@ -16,7 +16,7 @@ use elab_rows::Rows;
 use sg_circuit::NetId;
 
 /// The module of an instance, and the net of each of its bits.
-#[derive(Clone, Copy, Debug)]
+#[derive(Clone, Copy)]
 pub struct Here<'l, 't, 'a> {
     pub prepared: &'l Prepared<'t, 'a>,
     pub row: &'l [NetId],
