@@ -78,12 +78,17 @@ abbrev pub is_early : Scale → Option Number → Number → Bool
 is_early scale None t = false
 is_early scale (Some u) t = is_before scale t u
 
+abbrev pub at_faults : Scale → ℕ → List Form → Number → List Fault
+at_faults scale byte before t = time_faults scale byte t ++ fault_if (not (is_after scale (last_time before) t)) TimeNotRising byte
+
+abbrev pub end_faults : Scale → ℕ → List Form → Number → List Fault
+end_faults scale byte before t = time_faults scale byte t ++ fault_if (is_early scale (last_time before) t) TimeNotRising byte
+
 -- the faults of a statement behind others, which stand nearest first
 abbrev pub meaning_faults : Circuit → Scale → ℕ → List Form → Form → List Fault
 meaning_faults circuit scale byte before (unit_is power) = []
-meaning_faults circuit scale byte before (sets_at time sets) =
-    time_faults scale byte time ++ (fault_if (not (is_after scale (last_time before) time)) TimeNotRising byte ++ flat_map (set_faults circuit byte) sets)
-meaning_faults circuit scale byte before (ends_at time) = time_faults scale byte time ++ fault_if (is_early scale (last_time before) time) TimeNotRising byte
+meaning_faults circuit scale byte before (sets_at time sets) = at_faults scale byte before time ++ flat_map (set_faults circuit byte) sets
+meaning_faults circuit scale byte before (ends_at time) = end_faults scale byte before time
 meaning_faults circuit scale byte before other = []
 
 abbrev pub faults_of : Circuit → Scale → List Form → Stated → List Fault

@@ -6,3 +6,5 @@ pub mod Times
 pub mod Inputs
 pub mod Faults
 pub mod Reading
+pub mod Seen
+pub mod Meant
