@@ -5,12 +5,9 @@ use Rattle.std.specs.List.{list_any}
 use Rattle.std.proofs.lemmas.Bool.{cases_Bool}
 use Rattle.std.proofs.lemmas.List.{append_assoc, append-nil, map-append}
 use Rattle.sg_logic.specs.declared.values.Value.{Value}
-use Rattle.sg_circuit.specs.Circuit.{Circuit}
 use Rattle.stim_read.specs.declared.steps.Set as code_bit
 use Rattle.stim_read.specs.Seen.{set_seen as bit_seen}
-use Rattle.stim_text.specs.Sets.{Set}
-use Rattle.stim_text.specs.Inputs.{value_of, bits_set, is_set, last_of_each}
-use Rattle.stim_text.specs.Faults.{Fault, set_faults}
+use Rattle.stim_text.specs.Inputs.{value_of}
 
 -- the rest completes what there is, in lists made of pieces
 pub more-pieces : {A : Type 0} (all old new piece rest : List A) → all ≡ old ++ (piece ++ rest) → new ≡ old ++ piece → all ≡ new ++ rest
@@ -21,18 +18,6 @@ seen-push new old c e = ap (map (λ x. bit_seen x)) e ∙ map-append (λ x. bit_
 
 pub zip-next : (nets digits : List ℕ) (n d : ℕ) (ns ds : List ℕ) → nets ≡ n ∷ ns → digits ≡ d ∷ ds → zip nets (map value_of digits) ≡ (n, value_of d) ∷ zip ns (map value_of ds)
 zip-next nets digits n d ns ds e f = ap (λ x. zip x (map value_of digits)) e ∙ ap (λ x. zip (n ∷ ns) (map value_of x)) f
-
--- a set of which a later one is of the same net
-pub later-kept : (c : code_bit.Set) (rest more : List code_bit.Set) (all old : List (ℕ × Value)) → rest ≡ c ∷ more → is_set c.net (map (λ x. bit_seen x) more) ≡ true → all ≡ old ++ last_of_each (map (λ x. bit_seen x) rest)
-    → all ≡ old ++ last_of_each (map (λ x. bit_seen x) more)
-later-kept c rest more all old e y h = h ∙ ap (λ x. old ++ last_of_each (map (λ z. bit_seen z) x)) e ∙ rw y refl
-
--- a set that holds
-pub this-kept : (c : code_bit.Set) (rest more new kept : List code_bit.Set) (all : List (ℕ × Value)) → rest ≡ c ∷ more → is_set c.net (map (λ x. bit_seen x) more) ≡ false → new ≡ kept ++ c ∷ []
-    → all ≡ map (λ x. bit_seen x) kept ++ last_of_each (map (λ x. bit_seen x) rest) → all ≡ map (λ x. bit_seen x) new ++ last_of_each (map (λ x. bit_seen x) more)
-this-kept c rest more new kept all e n push h =
-    let first : last_of_each (map (λ x. bit_seen x) rest) ≡ bit_seen c ∷ last_of_each (map (λ x. bit_seen x) more) = ap (λ x. last_of_each (map (λ z. bit_seen z) x)) e ∙ rw n refl in
-    more-pieces all (map (λ x. bit_seen x) kept) (map (λ x. bit_seen x) new) (bit_seen c ∷ []) (last_of_each (map (λ x. bit_seen x) more)) (h ∙ ap (λ x. map (λ z. bit_seen z) kept ++ x) first) (seen-push new kept c push)
 
 pub nothing-left : {A : Type 0} (all done rest : List A) → rest ≡ [] → all ≡ done ++ rest → done ≡ all
 nothing-left all done rest e h = sym (h ∙ ap (λ x. done ++ x) e ∙ append-nil done)

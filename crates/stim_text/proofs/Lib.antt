@@ -10,6 +10,7 @@ pub mod StatementLaws
 pub mod TimeLaws
 pub mod InputLaws
 pub mod FoundLaws
+pub mod LastLaws
 pub mod BitLaws
 pub mod FaultlessLaws
 pub mod Refusals

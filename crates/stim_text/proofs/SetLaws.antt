@@ -33,25 +33,25 @@ cut-at (b ∷ bs) behind e = rw (cut-at bs behind e) refl
 pub cut-none : (b : ℕ) (behind : List ℕ) → (b == 61) ≡ false → cut behind ≡ None → cut (b ∷ behind) ≡ None
 cut-none b behind n e = rw (e, n) refl
 
-drop-front : (xs ys : List ℕ) → drop (length xs) (xs ++ ys) ≡ ys
+drop-front : {A : Type 0} (xs ys : List A) → drop (length xs) (xs ++ ys) ≡ ys
 drop-front [] ys = refl
 drop-front (x ∷ xs) ys = drop-front xs ys
 
-pub nothing-behind : (word : List ℕ) → drop (length word) word ≡ []
+pub nothing-behind : {A : Type 0} (word : List A) → drop (length word) word ≡ []
 nothing-behind [] = refl
 nothing-behind (x ∷ xs) = nothing-behind xs
 
-pub all-before : (word : List ℕ) → word ≡ word ++ drop (length word) word
+pub all-before : {A : Type 0} (word : List A) → word ≡ word ++ drop (length word) word
 all-before word = rw (nothing-behind word) (sym (append-nil word))
 
-pub one-before : (word left front : List ℕ) (last : ℕ) → left ≡ front ++ last ∷ [] → word ≡ left ++ drop (length left) word → word ≡ front ++ last ∷ drop (length left) word
+pub one-before : {A : Type 0} (word left front : List A) (last : A) → left ≡ front ++ last ∷ [] → word ≡ left ++ drop (length left) word → word ≡ front ++ last ∷ drop (length left) word
 one-before word left front last e whole = whole ∙ ap (λ x. x ++ drop (length left) word) e ∙ append_assoc front (last ∷ []) (drop (length left) word)
 
-pub one-behind : (word left front : List ℕ) (last : ℕ) → left ≡ front ++ last ∷ [] → word ≡ left ++ drop (length left) word → drop (length front) word ≡ last ∷ drop (length left) word
+pub one-behind : {A : Type 0} (word left front : List A) (last : A) → left ≡ front ++ last ∷ [] → word ≡ left ++ drop (length left) word → drop (length front) word ≡ last ∷ drop (length left) word
 one-behind word left front last e whole = ap (drop (length front)) (one-before word left front last e whole) ∙ drop-front front (last ∷ drop (length left) word)
 
 -- one byte less is looked at
-pub still-whole : (word left front : List ℕ) (last : ℕ) → left ≡ front ++ last ∷ [] → word ≡ left ++ drop (length left) word → word ≡ front ++ drop (length front) word
+pub still-whole : {A : Type 0} (word left front : List A) (last : A) → left ≡ front ++ last ∷ [] → word ≡ left ++ drop (length left) word → word ≡ front ++ drop (length front) word
 still-whole word left front last e whole = one-before word left front last e whole ∙ ap (λ x. front ++ x) (sym (one-behind word left front last e whole))
 
 pub none-yet : (word left front : List ℕ) (last : ℕ) → left ≡ front ++ last ∷ [] → word ≡ left ++ drop (length left) word → (last == 61) ≡ false → cut (drop (length left) word) ≡ None → cut (drop (length front) word) ≡ None

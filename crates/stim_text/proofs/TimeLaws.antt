@@ -24,9 +24,6 @@ small_whole n h = rw (mod-of-one n, div-of-one n, lt-leb (2 ^ 60) n h) refl
 pub large_whole : (n : ℕ) → 2 ^ 60 ≤ n → Err TooLarge ≡ fraction_ticks n 1
 large_whole n h = rw (mod-of-one n, le-leb (2 ^ 60) n h) refl
 
-pub none_whole : (places : ℕ) → Ok 0 ≡ fraction_ticks (0 * 10 ^ places) 1
-none_whole places = refl
-
 pub far_up : (size places : ℕ) → (size ≡ 0 → ⊥) → 18 < places → Err TooLarge ≡ fraction_ticks (size * 10 ^ places) 1
 far_up size places some far =
     let high : 10 ^ 19 ≤ 10 ^ places = pow_at_least 19 places (omega arith) in
@@ -38,6 +35,9 @@ pub none_over : (divisor : ℕ) → 0 < divisor → Ok 0 ≡ fraction_ticks 0 di
 none_over divisor h =
     let high : 2 ^ 60 * 1 ≤ 2 ^ 60 * divisor = mul-le (2 ^ 60) 1 (2 ^ 60) divisor (omega arith) (omega arith) in
     rw (zero-mod divisor, zero-div divisor, lt-leb (2 ^ 60 * divisor) 0 (omega (arith, high))) refl
+
+pub none-over-at : (size places : ℕ) → size ≡ 0 → Ok 0 ≡ fraction_ticks size (10 ^ places)
+none-over-at size places e = rw e (none_over (10 ^ places) (one_at_least places))
 
 pub not_whole : (n d : ℕ) → (n % d ≡ 0 → ⊥) → Err NotWholeTick ≡ fraction_ticks n d
 not_whole n d h = rw (ne_eqb (n % d) 0 h) refl

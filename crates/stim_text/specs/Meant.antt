@@ -1,5 +1,5 @@
 -- Joins the definitions to the reader: what it makes of a time and of a statement, and what it knows of the statements before one.
-use Rattle.std.specs.Prelude.{ℕ, suc, ℤ, negsuc, ◌≡◌, ◌*◌, ◌/◌, ◌%◌, ◌^◌, ◌==◌, ◌<ℤ◌, pos, ◌⊎◌, Bool, true, false, not, nat_le, nat_lt, List, [], ◌∷◌, ◌++◌, Option, Some, None, is_some, Result, Ok, Err, if◌then◌else◌, length, map, flat_map, filter_map, option_to_list}
+use Rattle.std.specs.Prelude.{ℕ, suc, ℤ, negsuc, ◌≡◌, ◌*◌, ◌/◌, ◌%◌, ◌^◌, ◌==◌, ◌<ℤ◌, pos, ◌⊎◌, Bool, true, false, not, nat_le, nat_lt, nat_eq, List, [], ◌∷◌, ◌++◌, Option, Some, None, is_some, Result, Ok, Err, if◌then◌else◌, length, map, flat_map, filter_map, option_to_list}
 use Rattle.std.specs.List.{IsAmong, list_any}
 use Rattle.sg_circuit.specs.Circuit.{Circuit}
 use Rattle.sg_text.specs.declared.refusals.Refused.{Refused}
@@ -89,3 +89,11 @@ pub record IsAllRead (circuit : Circuit) (scale : Scale) (all : List Stated) (st
   pub no_fault : faults_behind circuit scale [] all ≡ []
   pub steps_are : steps ≡ steps_at circuit scale all
   pub ends_are : filter_map (λ s. form_end scale s.form) all ≡ option_to_list end
+
+-- nets whose later sets were seen
+abbrev pub is_seen : ℕ → List ℕ → Bool
+is_seen net keys = list_any (λ k. nat_eq net k) keys
+
+abbrev pub unless_seen : {A : Type 0} → Bool → A → List A
+unless_seen true x = []
+unless_seen false x = x ∷ []

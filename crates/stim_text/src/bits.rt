@@ -1,16 +1,16 @@
 // What the sets of a statement do to the nets.
-ghost use Rattle.std.specs.Prelude.{◌≡◌, ◌==◌, ◌++◌, [], IfOk, OnOk, IfErr, length, map, zip, flat_map};
-ghost use Rattle.std.specs.List.{list_any};
+ghost use Rattle.std.specs.Prelude.{◌≡◌, ◌==◌, ◌||◌, ◌++◌, ◌∷◌, [], ℕ, MatchOption, IfOk, OnOk, IfErr, length, map, zip, flat_map};
 ghost use Rattle.sg_text.specs.declared.refusals.Refused.TheVariants as refused;
 ghost use Rattle.stim_read.specs.Seen.{set_seen as bit_seen};
 ghost use Rattle.stim_text.specs.Inputs as def;
 ghost use Rattle.stim_text.specs.Faults.{set_faults};
-ghost use Rattle.stim_text.specs.Meant.{RefusesOneOf};
+ghost use Rattle.stim_text.specs.Meant.{RefusesOneOf, is_seen, unless_seen};
 ghost use Rattle.stim_text.specs.Seen.{set_seen};
 
 use crate::StimKind;
 use crate::inputs::nets_named;
 use crate::sets::SetText;
+use indexmap::IndexSet;
 use sg_circuit::{Circuit, NetId};
 use sg_logic::Value;
 use sg_text::{NoMemory, Place, Refused};
@@ -98,30 +98,39 @@ fn all_bits(
     Ok(bits)
 }
 
-fn is_set(net: NetId, bits: &[Set]) -> bool
-    ensures { result ≡ def.is_set net (map (λ c. bit_seen c) bits.now) }
+// All sets but the last one, and that.
+fn last_off(bits: &[Set]) -> Option<(&[Set], Set)>
+    ensures { MatchOption result (bits.now ≡ []) (λ p. bits.now ≡ p.0.now ++ p.1 ∷ []) }
 {
-    is_among(net, bits)
+    match bits {
+        [front @ .., last] => Some((front, *last)),
+        [] => None,
+    }
 }
 
-fn is_among(net: NetId, bits: &[Set]) -> bool
-    ensures { result ≡ list_any (λ c. c.net == net) bits.now }
+// A set is kept if its net wasn't seen before.
+fn keep(bit: Set, seen: &mut IndexSet<NetId>, kept: &mut Vec<Set>) -> Result<(), NoMemory>
+    ensures seen { OnOk result ((net : ℕ) → is_seen net seen.new.keys ≡ ((bit.net == net) || is_seen net seen.old.keys)) }
+    ensures kept { OnOk result (map (λ c. bit_seen c) kept.new.items ≡ map (λ c. bit_seen c) kept.old.items ++ unless_seen (is_seen bit.net seen.old.keys) (bit_seen bit)) }
 {
-    bits.iter().any(|bit| bit.net == net)
+    if seen.insert(bit.net)? {
+        kept.push(bit)?;
+    }
+    Ok(())
 }
 
 // Of several sets of a net the last one.
 fn last_of_each(alloc: Global, bits: &[Set]) -> Result<Vec<Set>, NoMemory>
     ensures { IfOk result (λ kept. map (λ c. bit_seen c) kept.items ≡ def.last_of_each (map (λ c. bit_seen c) bits.now)) }
 {
+    let mut seen: IndexSet<NetId> = IndexSet::new(alloc);
     let mut kept = Vec::new(alloc);
-    let mut rest = bits;
-    while let [bit, more @ ..] = rest {
-        if !is_set(bit.net, more) {
-            kept.push(*bit)?;
-        }
-        rest = more;
+    let mut left = bits;
+    while let Some((front, bit)) = last_off(left) {
+        keep(bit, &mut seen, &mut kept)?;
+        left = front;
     }
+    kept.reverse();
     Ok(kept)
 }
 
