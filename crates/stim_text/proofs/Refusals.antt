@@ -1,5 +1,6 @@
 -- One of several faults is refused.
 use Rattle.std.proofs.Common.{ℕ, ◌≡◌, ◌+◌, List, [], ◌∷◌, ◌++◌, length, Bool, true, false, refl, sym, ap, ◌∙◌, subst, arith, length-append}
+use Rattle.std.specs.Prelude.{Result, Err, MatchResult, IfErr}
 use Rattle.std.specs.List.{IsAmong}
 use Rattle.std.proofs.lemmas.List.{get_or_append_left, get_or-append-add}
 use Rattle.sg_circuit.specs.Circuit.{Circuit}
@@ -49,3 +50,10 @@ misplaced-refused circuit scale before byte form e =
 pub meaning-refused : (circuit : Circuit) (scale : Scale) (before : List Form) (byte : ℕ) (form : Form) (r : Refused StimKind) → RefusesOneOf (meaning_faults circuit scale byte before form) r
     → RefusesOneOf (faults_of circuit scale before (record { byte = byte; form = form })) r
 meaning-refused circuit scale before byte form r h = refused-right (fault_if (is_misplaced before form) Syntax byte) (meaning_faults circuit scale byte before form) r h
+
+-- the exit of a `?`
+pub exit-match : {A : Type 0} (P : A → Type 0) (fs : List Fault) (result : Result A (Refused StimKind)) (e : Refused StimKind) → ((x : Refused StimKind) × (result ≡ Err x) × (x ≡ e)) → RefusesOneOf fs e → MatchResult result P (RefusesOneOf fs)
+exit-match P fs result e (x, r, s) h = subst (λ y. MatchResult y P (RefusesOneOf fs)) (sym r) (subst (RefusesOneOf fs) (sym s) h)
+
+pub exit-err : {A : Type 0} (fs : List Fault) (result : Result A (Refused StimKind)) (e : Refused StimKind) → ((x : Refused StimKind) × (result ≡ Err x) × (x ≡ e)) → RefusesOneOf fs e → IfErr result (RefusesOneOf fs)
+exit-err fs result e (x, r, s) h = subst (λ y. IfErr y (RefusesOneOf fs)) (sym r) (subst (RefusesOneOf fs) (sym s) h)
