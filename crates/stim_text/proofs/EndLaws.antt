@@ -20,25 +20,27 @@ use Rattle.stim_text.proofs.FormLaws.{are-decimals}
 use Rattle.stim_text.proofs.Refusals.{refused-left, refused-right, test-refused, told}
 use Rattle.stim_text.proofs.ApplicationLaws.{ends, stated-applies}
 
+some-form : (scale : Scale) (byte n : ℕ) (form : Form) (ss : List Stated) → (ends scale ss ≡ n ∷ [] → list_any (λ s. is_end s.form) ss ≡ true) → ends scale (record { byte = byte; form = form } ∷ ss) ≡ n ∷ []
+    → list_any (λ s. is_end s.form) (record { byte = byte; form = form } ∷ ss) ≡ true
+some-form scale byte n (unit_is p) ss rest e = rest e
+some-form scale byte n (sets_at t sets) ss rest e = rest e
+some-form scale byte n (ends_at t) ss rest e = refl
+some-form scale byte n other ss rest e = rest e
+
 some-end : (scale : Scale) (ss : List Stated) (n : ℕ) → ends scale ss ≡ n ∷ [] → list_any (λ s. is_end s.form) ss ≡ true
 some-end scale [] n e = absurd (cc)
-some-end scale (s ∷ ss) n e = by s.form e
-  where
-    by : (form : Form) → ends scale (record { byte = s.byte; form = form } ∷ ss) ≡ n ∷ [] → list_any (λ x. is_end x.form) (record { byte = s.byte; form = form } ∷ ss) ≡ true
-    by (unit_is p) k = some-end scale ss n k
-    by (sets_at t sets) k = some-end scale ss n k
-    by (ends_at t) k = refl
-    by other k = some-end scale ss n k
+some-end scale (s ∷ ss) n e = some-form scale s.byte n s.form ss (some-end scale ss n) e
+
+none-form : (scale : Scale) (byte : ℕ) (form : Form) (ss : List Stated) → (ends scale ss ≡ [] → list_any (λ s. is_end s.form) ss ≡ false) → ends scale (record { byte = byte; form = form } ∷ ss) ≡ []
+    → list_any (λ s. is_end s.form) (record { byte = byte; form = form } ∷ ss) ≡ false
+none-form scale byte (unit_is p) ss rest e = rest e
+none-form scale byte (sets_at t sets) ss rest e = rest e
+none-form scale byte (ends_at t) ss rest e = absurd (cc)
+none-form scale byte other ss rest e = rest e
 
 none-end : (scale : Scale) (ss : List Stated) → ends scale ss ≡ [] → list_any (λ s. is_end s.form) ss ≡ false
 none-end scale [] e = refl
-none-end scale (s ∷ ss) e = by s.form e
-  where
-    by : (form : Form) → ends scale (record { byte = s.byte; form = form } ∷ ss) ≡ [] → list_any (λ x. is_end x.form) (record { byte = s.byte; form = form } ∷ ss) ≡ false
-    by (unit_is p) k = none-end scale ss k
-    by (sets_at t sets) k = none-end scale ss k
-    by (ends_at t) k = absurd (cc)
-    by other k = none-end scale ss k
+none-end scale (s ∷ ss) e = none-form scale s.byte s.form ss (none-end scale ss) e
 
 -- a fault of some statements is one of the text
 pub stands : (text : List ℕ) (circuit : Circuit) (ss : List Stated) (r : Refused StimKind) → ss ≡ all_stated decimals text → RefusesOneOf (stated_faults text circuit ss) r → RefusalStands text circuit r

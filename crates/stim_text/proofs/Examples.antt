@@ -9,7 +9,7 @@ use Rattle.stim_text.specs.Inputs.{last_of_each, position_at, index_value}
 
 -- a CR before a LF is dropped, and none at the end of the file; a comment is passed over
 two_statements : statements (35 ∷ 10 ∷ (codes " at 1" ++ (13 ∷ 10 ∷ (codes "end" ++ (9 ∷ codes "2"))))) ≡ record { byte = 3; words = codes "at" ∷ codes "1" ∷ [] } ∷ record { byte = 9; words = codes "end" ∷ codes "2" ∷ [] } ∷ []
-unfolding lines, words
+unfolding lines words
 two_statements = refl
 
 plain_set : set_in (codes "v[-1]=0x") ≡ Some (record { target = record { name = codes "v"; index = Some (codes "-1") }; digits = codes "0x" })

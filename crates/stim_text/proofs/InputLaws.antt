@@ -1,13 +1,13 @@
 -- Sets are of the top's inputs, and a statement sets each net once.
 use Rattle.std.proofs.Common.{inl, inr, zero, suc, ℕ, ◌≡◌, ◌≢◌, ◌++◌, ◌<◌, ◌==◌, ◌&&◌, ◌||◌, List, [], ◌∷◌, length, map, Bool, true, false, nat_lt, refl, sym, ap, ◌∙◌, arith, Some, None}
-use Rattle.std.specs.Prelude.{Option, All, find, zip, flat_map, slice_get, option_map, option_and_then}
+use Rattle.std.specs.Prelude.{Option, All, find, zip, flat_map, slice_get, option_map, option_and_then, bytes_eq}
 use Rattle.std.specs.List.{list_all, list_any}
 use Rattle.std.proofs.lemmas.Bool.{cases_Bool, and_parts, eqb-false, ltb-true}
 use Rattle.std.proofs.lemmas.List.Elements.{All-nil, All-cons, All-head, All-tail, All-append}
 use Rattle.sg_logic.specs.declared.values.Value.{Value}
 use Rattle.sg_circuit.specs.declared.nets.Driver.{Driver}
 use Rattle.sg_circuit.specs.declared.nets.Driver.TheVariants as driver
-use Rattle.sg_circuit.specs.Circuit.{Circuit, Variable, net_at}
+use Rattle.sg_circuit.specs.Circuit.{Circuit, Variable, net_at, scope_at}
 use Rattle.stim_read.specs.Applied.{IsInput, SetsNot, SetsOnce}
 use Rattle.stim_text.specs.Sets.{Set}
 use Rattle.stim_text.specs.Inputs.{is_stimulated, is_input_net, is_input, input_named, nets_of, nets_named, position_at, index_value, bits_from, bits_set, is_set, last_of_each, all_set}
@@ -64,11 +64,11 @@ zipped circuit (n ∷ ns) (v ∷ vs) h =
 find-passes : {A : Type 0} (p : A → Bool) (xs : List A) (x : A) → find p xs ≡ Some x → p x ≡ true
 find-passes p [] x e = absurd (cc)
 find-passes p (y ∷ ys) x e = elim (cases_Bool (p y)) [
-  | inl yes ↦
-      let same : Some y ≡ Some x = rw yes at e in
+  | inl on ↦
+      let same : Some y ≡ Some x = rw on at e in
       let is : y ≡ x = cc in
-      ap p (sym is) ∙ yes
-  | inr no ↦ find-passes p ys x (rw no at e)
+      ap p (sym is) ∙ on
+  | inr off ↦ find-passes p ys x (rw off at e)
 ]
 
 get-passes : (p : ℕ → Bool) (xs : List ℕ) (i : ℕ) (x : ℕ) → list_all p xs ≡ true → slice_get xs i ≡ Some x → p x ≡ true
@@ -93,7 +93,7 @@ nets-pass circuit (Some index) v nets h e = bit-passes (is_input_net circuit) v.
 
 found-pass : (circuit : Circuit) (name : List ℕ) (index : Option (List ℕ)) (found : Option Variable) (nets : List ℕ) → input_named circuit name ≡ found → option_and_then (nets_of index) found ≡ Some nets → list_all (is_input_net circuit) nets ≡ true
 found-pass circuit name index None nets e k = absurd (cc)
-found-pass circuit name index (Some v) nets e k = nets-pass circuit index v nets (and_parts _ (is_input circuit v) (find-passes _ _ v e)).1 k
+found-pass circuit name index (Some v) nets e k = nets-pass circuit index v nets (and_parts (bytes_eq v.name name) (is_input circuit v) (find-passes (λ x. bytes_eq x.name name && is_input circuit x) (scope_at circuit 0).variables v e)).1 k
 
 bits-input : (circuit : Circuit) (digits : List ℕ) (named : Option (List ℕ)) → ((nets : List ℕ) → named ≡ Some nets → list_all (is_input_net circuit) nets ≡ true) → All (λ c. IsInput circuit c.0) (bits_from digits named)
 bits-input circuit digits None h = All-nil (λ c. IsInput circuit c.0)

@@ -9,6 +9,7 @@ pub mod FormLaws
 pub mod StatementLaws
 pub mod TimeLaws
 pub mod InputLaws
+pub mod NumberLaws
 pub mod FoundLaws
 pub mod LastLaws
 pub mod BitLaws

@@ -2,6 +2,7 @@
 use Rattle.std.proofs.Common.{inl, inr, ℕ, suc, ◌≡◌, ◌++◌, ◌<◌, ◌==◌, List, [], ◌∷◌, length, Bool, true, false, not, nat_lt, refl, sym, ap, ◌∙◌, subst, arith, Some, None}
 use Rattle.std.specs.Prelude.{Option, is_some, filter_map, option_to_list, ◌||◌}
 use Rattle.std.specs.List.{list_any}
+use Rattle.std.proofs.lemmas.Bool.{ne_eqb}
 use Rattle.std.proofs.lemmas.List.{append_assoc, append-nil}
 use Rattle.sg_circuit.specs.Circuit.{Circuit}
 use Rattle.sg_text.specs.declared.refusals.Refused.{Refused}
@@ -21,24 +22,27 @@ use Rattle.stim_text.specs.Meant.{IsLast, IsState, IsMeant, IsAllRead, Reached, 
 use Rattle.stim_text.proofs.FaultlessLaws.{is-fine-at, is-fine-end, no-other}
 use Rattle.stim_text.proofs.Refusals.{refused-left}
 
+not-none : (f : Form) (fs : List Form) → false ≡ (length (f ∷ fs) == 0)
+not-none f fs = sym (ne_eqb (length (f ∷ fs)) 0 (λ e. omega (arith, e)))
+
 state-at : (circuit : Circuit) (scale : Scale) (state : code_state.State) (before : List Form) (byte : ℕ) (t : Number) (sets : List Set) (m : code_meant.Meant) → IsState scale state before → IsMeant circuit scale (sets_at t sets) m
     → faults_of circuit scale before (record { byte = byte; form = sets_at t sets }) ≡ [] → IsState scale (state_after m state) (sets_at t sets ∷ before)
 state-at circuit scale state before byte t sets meant.Nothing st is h = let e = is.0 in absurd (cc)
 state-at circuit scale state before byte t sets (meant.Step step) st is h =
     let e = is.0 in
     let same : step_seen step ≡ _ = cc in
-    record { first = refl; ended = st.ended; times = (ap (λ (s : Step). s.time) same, (is-fine-at circuit scale before byte t sets h).timed.whole) }
+    record { first = not-none (sets_at t sets) before; ended = st.ended; times = (ap (λ (s : Step). s.time) same, (is-fine-at circuit scale before byte t sets h).timed.whole) }
 state-at circuit scale state before byte t sets (meant.End n) st is h = let e = is.0 in absurd (cc)
 
 state-unit : (circuit : Circuit) (scale : Scale) (state : code_state.State) (before : List Form) (power : _) (m : code_meant.Meant) → IsState scale state before → IsMeant circuit scale (unit_is power) m → IsState scale (state_after m state) (unit_is power ∷ before)
-state-unit circuit scale state before power meant.Nothing st is = record { first = refl; ended = st.ended; times = st.times }
+state-unit circuit scale state before power meant.Nothing st is = record { first = not-none (unit_is power) before; ended = st.ended; times = st.times }
 state-unit circuit scale state before power (meant.Step step) st is = let e = is.0 in absurd (cc)
 state-unit circuit scale state before power (meant.End n) st is = let e = is.1 in absurd (cc)
 
 state-end : (circuit : Circuit) (scale : Scale) (state : code_state.State) (before : List Form) (t : Number) (m : code_meant.Meant) → IsState scale state before → IsMeant circuit scale (ends_at t) m → IsState scale (state_after m state) (ends_at t ∷ before)
 state-end circuit scale state before t meant.Nothing st is = let e = is.1 in absurd (cc)
 state-end circuit scale state before t (meant.Step step) st is = let e = is.0 in absurd (cc)
-state-end circuit scale state before t (meant.End n) st is = record { first = refl; ended = refl; times = st.times }
+state-end circuit scale state before t (meant.End n) st is = record { first = not-none (ends_at t) before; ended = refl; times = st.times }
 
 state-next : (circuit : Circuit) (scale : Scale) (state : code_state.State) (before : List Form) (byte : ℕ) (form : Form) (m : code_meant.Meant) → IsState scale state before → IsMeant circuit scale form m
     → faults_of circuit scale before (record { byte = byte; form = form }) ≡ [] → IsState scale (state_after m state) (form ∷ before)

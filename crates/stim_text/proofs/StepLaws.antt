@@ -2,6 +2,7 @@
 use Rattle.std.proofs.Common.{inl, inr, ℕ, ◌≡◌, ◌++◌, ◌==◌, List, [], ◌∷◌, length, map, Bool, true, false, not, nat_lt, refl, sym, ap, ◌∙◌, subst, arith, Some, None, Result, Ok, Err}
 use Rattle.std.specs.Prelude.{Option, is_some, flat_map, if◌then◌else◌, nat_le}
 use Rattle.std.specs.List.{list_any}
+use Rattle.std.proofs.lemmas.Bool.{lt-ltb, eqb-true}
 use Rattle.sg_circuit.specs.Circuit.{Circuit}
 use Rattle.sg_text.specs.declared.refusals.Refused.{Refused}
 use Rattle.sg_time.specs.Spelling.{Number}
@@ -99,11 +100,11 @@ end-fine scale byte last before t n h e is = (e.0, rw (e.1, early-is scale byte 
 
 not-first : (before : List Form) → (length before == 0) ≡ false → nat_lt 0 (length before) ≡ true
 not-first [] e = absurd (cc)
-not-first (f ∷ fs) e = refl
+not-first (f ∷ fs) e = lt-ltb 0 (length (f ∷ fs)) (omega arith)
 
 first-is : (before : List Form) → (length before == 0) ≡ true → nat_lt 0 (length before) ≡ false
 first-is [] e = refl
-first-is (f ∷ fs) e = absurd (cc)
+first-is (f ∷ fs) e = let none = eqb-true (length (f ∷ fs)) 0 e in absurd (omega (arith, none))
 
 pub unit-late : (circuit : Circuit) (scale : Scale) (state : code_state.State) (before : List Form) (byte : ℕ) (power : _) → IsState scale state before → state.none ≡ false
     → RefusesOneOf (faults_of circuit scale before (record { byte = byte; form = unit_is power })) (told Syntax byte)

@@ -47,7 +47,10 @@ fn add_bits(nets: &[NetId], digits: &[u8], bits: &mut Vec<Set>) -> Result<(), No
 {
     let mut nets = nets;
     let mut digits = digits;
-    while let ([net, more_nets @ ..], [digit, more_digits @ ..]) = (nets, digits) {
+    while let [net, more_nets @ ..] = nets {
+        let [digit, more_digits @ ..] = digits else {
+            return Ok(());
+        };
         bits.push(Set {
             net: *net,
             value: value_of(*digit),
