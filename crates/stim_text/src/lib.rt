@@ -1,0 +1,16 @@
+//! Reads a stimulus: what a text says is applied to the inputs of a circuit.
+#![tactic(auto)]
+
+mod bits;
+mod forms;
+mod inputs;
+mod kinds;
+mod lines;
+mod reading;
+mod sets;
+mod statements;
+mod steps;
+mod times;
+
+pub use kinds::StimKind;
+pub use reading::read_stim;
