@@ -1,0 +1,9 @@
+-- The modules of this folder.
+pub mod Putting
+pub mod Telling
+pub mod Composed
+pub mod FilesRead
+pub mod Worked
+pub mod OneAnswer
+pub mod Promised
+pub mod Examples
