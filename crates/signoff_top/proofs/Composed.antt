@@ -1,12 +1,13 @@
 -- How the outcomes of phases compose.
-use Rattle.std.proofs.Common.{refl, ◌≡◌, sym, ap, subst, lit<, Result, ℕ, List}
+use Rattle.std.proofs.Common.{refl, ◌≡◌, sym, ap, subst, lit<, Result, ℕ, List, [], ◌∷◌, ◌++◌}
+use Rattle.std.proofs.lemmas.List.Elements.{Contains-append_left, Contains-append_right}
 use Rattle.std.specs.Prelude.{Ok, Err, Option, Some, None, Contains}
 use Rattle.sg_io.specs.Files.{File}
 use Rattle.sg_circuit.specs.Circuit.{Circuit}
+use Rattle.run_words.specs.Words.{Command, command_of, names_in}
 use Rattle.signoff_top.specs.Phases.{Refusal, Then, stops, goes_on, CircuitOutcome}
 use Rattle.signoff_top.specs.Promises.{FaultAt, at_netlist, at_stimulus, NamesFaultAt}
-use Rattle.signoff_top.specs.Stops.{Gives, IfFailed, IfOutcome, refusal_seen, StopWords}
-use Rattle.run_words.specs.Words.{Command, command_of, names_in}
+use Rattle.signoff_top.specs.Stops.{FailsAtOne, Gives, IfFailed, IfOutcome, refusal_seen, StopWords}
 use Rattle.signoff_top.specs.declared.stop.Stop as code_stop
 use Rattle.signoff_top.specs.declared.stop.Stop.TheVariants as stop
 use Rattle.signoff_top.proofs.Putting.{both_same}
@@ -39,28 +40,33 @@ pub words_command : {X : Type 0} (view : X → Command) (o : Option Command) (x 
 words_command view None x h = absurd h
 words_command view (Some c) x h = ap Some h
 
-failed_again : (X Y : Type 0) (P Q : Type 0) (s : code_stop.Stop) → (P → Q) → IfFailed {X = X} P (Err s) → IfFailed {X = Y} Q (Err s)
+pub failed_again : (X Y : Type 0) (P Q : Type 0) (s : code_stop.Stop) → (P → Q) → IfFailed {X = X} P (Err s) → IfFailed {X = Y} Q (Err s)
 failed_again X Y P Q (stop.Refused r) f h = tt
 failed_again X Y P Q stop.Failed f h = f h
 failed_again X Y P Q stop.NoMemory f h = tt
 
--- a failure on the netlist's file
+netlist_among : (c : Command) (before after : List (List ℕ)) (name : List ℕ) → c.netlists ≡ before ++ name ∷ after → Contains (names_in (Some c)) name
+netlist_among c before after name e =
+    Contains-append_left c.netlists (c.stimulus ∷ c.vcd ∷ []) name (subst (λ ns. Contains ns name) (sym e) (Contains-append_right before (name ∷ after) name (0, lit< tt, refl)))
+
+-- a failure on a file of the netlist
 pub failed_at_netlist : (X Y : Type 0) (ws : List (List ℕ)) (old new : Option (List File)) (last : Option (List ℕ)) (c : Command) (s : code_stop.Stop)
-    → command_of ws ≡ Some c → new ≡ old → IfFailed {X = X} (last ≡ Some c.netlist) (Err s) → IfFailed {X = Y} (NamesFaultAt ws old new last) (Err s)
-failed_at_netlist X Y ws old new last c s e k h = failed_again X Y (last ≡ Some c.netlist) (NamesFaultAt ws old new last) s (λ n. record {
-  name = c.netlist;
-  told = n;
-  among = subst (λ o. Contains (names_in o) c.netlist) (sym e) (0, lit< tt, refl);
-  place = both_same (λ before after. FaultAt ws before after c.netlist) old new k (λ files _. at_netlist c e refl);
+    → command_of ws ≡ Some c → new ≡ old → IfFailed {X = X} (FailsAtOne c.netlists old last) (Err s) → IfFailed {X = Y} (NamesFaultAt ws old new last) (Err s)
+failed_at_netlist X Y ws old new last c s e k h = failed_again X Y (FailsAtOne c.netlists old last) (NamesFaultAt ws old new last) s (λ f. record {
+  name = f.name;
+  told = f.told;
+  among = subst (λ o. Contains (names_in o) f.name) (sym e) (netlist_among c f.before f.after f.name f.split);
+  place = both_same (λ before after. FaultAt ws before after f.name) old new k (λ files is.
+      (let texts = f.read files is in at_netlist c f.before f.name f.after texts.0 e f.split texts.1 refl));
 }) h
 
 -- a failure on the stimulus's file
 pub failed_at_stimulus : (X Y : Type 0) (ws : List (List ℕ)) (old new : Option (List File)) (last : Option (List ℕ)) (c : Command) (circuit : Circuit) (s : code_stop.Stop)
-    → command_of ws ≡ Some c → ((files : List File) → old ≡ Some files → Gives (λ (x : Circuit). x) (CircuitOutcome c.netlist files) (Ok circuit)) → new ≡ old
+    → command_of ws ≡ Some c → ((files : List File) → old ≡ Some files → Gives (λ (x : Circuit). x) (CircuitOutcome c files) (Ok circuit)) → new ≡ old
     → IfFailed {X = X} (last ≡ Some c.stimulus) (Err s) → IfFailed {X = Y} (NamesFaultAt ws old new last) (Err s)
 failed_at_stimulus X Y ws old new last c circuit s e g k h = failed_again X Y (last ≡ Some c.stimulus) (NamesFaultAt ws old new last) s (λ n. record {
   name = c.stimulus;
   told = n;
-  among = subst (λ o. Contains (names_in o) c.stimulus) (sym e) (1, lit< tt, refl);
+  among = subst (λ o. Contains (names_in o) c.stimulus) (sym e) (Contains-append_right c.netlists (c.stimulus ∷ c.vcd ∷ []) c.stimulus (0, lit< tt, refl));
   place = both_same (λ before after. FaultAt ws before after c.stimulus) old new k (λ files is. at_stimulus c circuit e (g files is).outcome refl);
 }) h

@@ -1,14 +1,15 @@
 -- Right answers for the same words and files have one status and make one file. Their reports may differ, where several
 -- faults stand in one phase.
-use Rattle.std.proofs.Common.{◌≡◌, ◌∙◌, sym, ap, subst, refl, ℕ, List}
+use Rattle.std.proofs.Common.{◌≡◌, ◌∙◌, sym, ap, subst, refl, ℕ, List, [], ◌∷◌}
 use Rattle.std.specs.Prelude.{Option, Some, None, Result, Ok, Err}
 use Rattle.sg_io.specs.Files.{File, bytes_of}
 use Rattle.sg_circuit.specs.Circuit.{Circuit}
-use Rattle.signoff_top.specs.Answer.{Answer, IsAnswer, answer_of}
-use Rattle.signoff_top.specs.Phases.{Refusal, Then, stops, goes_on, Task, TaskOutcome, CircuitOutcome, InputOutcome, WordsOutcome, FileOutcome, NetlistOutcome, StimulusOutcome, status_of_refusal}
+use Rattle.sg_delay.specs.declared.corners.Corner.{Corner}
+use Rattle.netlist_read.proofs.ReadingLaws as netlist
+use Rattle.stim_text.proofs.ReadingLaws as stimulus
 use Rattle.run_words.specs.Words.{Command, command_of}
-use Rattle.first_form.proofs.NetlistLaws.{netlist-unique}
-use Rattle.first_form.proofs.StimulusLaws.{stimulus-unique}
+use Rattle.signoff_top.specs.Answer.{Answer, IsAnswer, answer_of}
+use Rattle.signoff_top.specs.Phases.{Refusal, Then, stops, goes_on, Task, TaskOutcome, CircuitOutcome, InputOutcome, WordsOutcome, FileOutcome, FilesOutcome, NetlistOutcome, StimulusOutcome, status_of_refusal}
 
 -- two outcomes are one value, or two refusals of one status
 abbrev Agree : {A : Type 0} → Result A Refusal → Result A Refusal → Type 0
@@ -43,20 +44,27 @@ file_agree : (name : List ℕ) (bytes : Option (List ℕ)) → AllAgree (FileOut
 file_agree name None o p h k = equal_agree o p (h ∙ sym k)
 file_agree name (Some bytes) o p h k = equal_agree o p (h ∙ sym k)
 
-netlist_agree : (name text : List ℕ) → AllAgree (NetlistOutcome name text)
-netlist_agree name text (Ok c) (Ok d) h k = netlist-unique text c d h k
-netlist_agree name text (Ok c) (Err r) h k = k.0 c h
-netlist_agree name text (Err r) (Ok c) h k = h.0 c k
-netlist_agree name text (Err r) (Err s) h k = ap status_of_refusal (h.1 ∙ sym k.1)
+files_agree : (names : List (List ℕ)) (files : List File) → AllAgree (FilesOutcome names files)
+files_agree [] files o p h k = equal_agree o p (h ∙ sym k)
+files_agree (n ∷ ns) files o p h k =
+    then_agree (FileOutcome n (bytes_of n files)) (λ text. Then (FilesOutcome ns files) (λ texts o. o ≡ Ok (text ∷ texts))) (file_agree n (bytes_of n files)) (λ text.
+    then_agree (FilesOutcome ns files) (λ texts o. o ≡ Ok (text ∷ texts)) (files_agree ns files) (λ texts x y e f. equal_agree x y (e ∙ sym f))) o p h k
+
+netlist_agree : (names texts : List (List ℕ)) (top : Option (List ℕ)) (corner : Corner) → AllAgree (NetlistOutcome names texts top corner)
+netlist_agree names texts top corner (Ok c) (Ok d) h k = netlist.read-once texts top corner c d h k
+netlist_agree names texts top corner (Ok c) (Err r) h k = netlist.read-is-faultless texts top corner c h k.0 k.1 k.2
+netlist_agree names texts top corner (Err r) (Ok c) h k = netlist.read-is-faultless texts top corner c k h.0 h.1 h.2
+netlist_agree names texts top corner (Err r) (Err s) h k = ap status_of_refusal h.3 ∙ sym (ap status_of_refusal k.3)
 
 stimulus_agree : (name text : List ℕ) (circuit : Circuit) → AllAgree (StimulusOutcome name text circuit)
-stimulus_agree name text circuit (Ok s) (Ok t) h k = stimulus-unique text circuit s t h k
-stimulus_agree name text circuit (Ok s) (Err r) h k = k.0 s h
-stimulus_agree name text circuit (Err r) (Ok s) h k = h.0 s k
-stimulus_agree name text circuit (Err r) (Err s) h k = ap status_of_refusal (h.1 ∙ sym k.1)
+stimulus_agree name text circuit (Ok s) (Ok t) h k = stimulus.read-once text circuit s t h k
+stimulus_agree name text circuit (Ok s) (Err r) h k = stimulus.read-is-faultless text circuit s h k.0 k.1 k.2
+stimulus_agree name text circuit (Err r) (Ok s) h k = stimulus.read-is-faultless text circuit s k h.0 h.1 h.2
+stimulus_agree name text circuit (Err r) (Err s) h k = ap status_of_refusal h.3 ∙ sym (ap status_of_refusal k.3)
 
-circuit_agree : (name : List ℕ) (files : List File) → AllAgree (CircuitOutcome name files)
-circuit_agree name files = then_agree (FileOutcome name (bytes_of name files)) (NetlistOutcome name) (file_agree name (bytes_of name files)) (λ text. netlist_agree name text)
+circuit_agree : (c : Command) (files : List File) → AllAgree (CircuitOutcome c files)
+circuit_agree c files =
+    then_agree (FilesOutcome c.netlists files) (λ texts. NetlistOutcome c.netlists texts c.top c.corner) (files_agree c.netlists files) (λ texts. netlist_agree c.netlists texts c.top c.corner)
 
 input_agree : (name : List ℕ) (files : List File) (circuit : Circuit) → AllAgree (InputOutcome name files circuit)
 input_agree name files circuit =
@@ -65,7 +73,7 @@ input_agree name files circuit =
 pub task_agree : (ws : List (List ℕ)) (files : List File) (o p : Result Task Refusal) → TaskOutcome ws files o → TaskOutcome ws files p → Agree o p
 task_agree ws files =
     then_agree _ _ (words_agree (command_of ws)) (λ command.
-    then_agree _ _ (circuit_agree command.netlist files) (λ circuit.
+    then_agree _ _ (circuit_agree command files) (λ circuit.
     then_agree _ _ (input_agree command.stimulus files circuit) (λ input o p h k. equal_agree o p (h ∙ sym k))))
 
 status_agrees : (o p : Result Task Refusal) → Agree o p → (answer_of o).status ≡ (answer_of p).status

@@ -10,18 +10,18 @@ use Rattle.sg_model.specs.Machine.{Violation}
 use Rattle.wave_out.specs.Files.{LeavesPrefix}
 use Rattle.wave_out.specs.Report.{report_lines}
 use Rattle.wave_out.specs.Spent.{spent_seen}
+use Rattle.run_dump.specs.RunEnds.{violations_of}
+use Rattle.run_words.specs.Words.{Command, command_of, names_in}
 use Rattle.signoff_top.specs.Answer.{Answer, IsAnswer, FilesAfter, answer_of, dump_of, run_of, status_of_run, fault_line}
 use Rattle.signoff_top.specs.Phases.{Refusal, Task, TaskOutcome, WordsOutcome, CircuitOutcome, InputOutcome, Then, stops, goes_on, words, missing, netlist, stimulus, status_of_refusal, refusal_line}
 use Rattle.signoff_top.specs.Promises.{ShelfTold, IsRight, FitsWords, HasAnswer, FaultAt, at_netlist, at_stimulus, at_dump, NamesFaultAt, LeavesUnfinished, whole, till_fault, Outcome, answered, shelf_fault, sink_fault, no_memory, sink_want, IsExact, IsStatusOf, KeepsBut, KeepsByAnswer, KeepsByWords, IsUsage}
 use Rattle.signoff_top.specs.Putting.{PutsAll, PutsLast}
 use Rattle.signoff_top.specs.Putting as putting
-use Rattle.run_dump.specs.RunEnds.{violations_of}
 use Rattle.signoff_top.specs.Status.{IsDecided, IsRunEnd, is_run_end}
 use Rattle.signoff_top.specs.Stops.{refusal_seen, IfFailed, SparesWords, StopWords, end_of_phase}
 use Rattle.signoff_top.specs.Tasks.{task_seen}
 use Rattle.signoff_top.specs.Work.{WorkLeaves, Tells, TellsStop, TellsEnd}
 use Rattle.signoff_top.specs.Work as telling
-use Rattle.run_words.specs.Words.{Command, command_of, names_in}
 use Rattle.signoff_top.specs.declared.status.Status.{Status}
 use Rattle.signoff_top.specs.declared.status.Status.TheVariants as status
 use Rattle.signoff_top.specs.declared.stop.Stop as code_stop
@@ -56,8 +56,8 @@ run_no_usage (Some s) violations = λ e. let k : status.Rounds ≡ status.Usage 
 refusal_decided : (r : Refusal) → IsDecided (status_of_refusal r)
 refusal_decided words = tt
 refusal_decided (missing name) = tt
-refusal_decided (netlist name) = tt
-refusal_decided (stimulus name) = tt
+refusal_decided (netlist name n kind) = tt
+refusal_decided (stimulus name n kind) = tt
 
 run_fits : (o : Option Command) (P : Command → code_done.Done → Type 0) (done : code_done.Done) (spent : Option (ℕ × Option ℕ)) (violations : List Violation) (text : List ℕ) → StopWords o P (Ok done)
     → FitsWords o (status_of_run spent violations) text
@@ -67,15 +67,19 @@ run_fits (Some c) P done spent violations text h = run_no_usage spent violations
 spares_fits : (r : code_refusal.Refusal) → SparesWords (stop.Refused r) → status_of_refusal (refusal_seen r) ≢ status.Usage
 spares_fits refusal.Words h = absurd h
 spares_fits (refusal.Missing name) h = λ e. let k : status.Missing ≡ status.Usage = e in cc
-spares_fits (refusal.Netlist name) h = λ e. let k : status.Netlist ≡ status.Usage = e in cc
-spares_fits (refusal.Stimulus name) h = λ e. let k : status.Stimulus ≡ status.Usage = e in cc
+spares_fits (refusal.Netlist name line kind) h = λ e. let k : status.Netlist ≡ status.Usage = e in cc
+spares_fits (refusal.Stimulus name line kind) h = λ e. let k : status.Stimulus ≡ status.Usage = e in cc
 
 refused_is : (r s : code_refusal.Refusal) → stop.Refused r ≡ stop.Refused s → r ≡ s
 refused_is r s e = cc
 
+refused_no_want : (r : code_refusal.Refusal) → stop.Refused r ≡ stop.NoMemory → ⊥
+refused_no_want r h = cc
+
 refusal_fits : (o : Option Command) (P : Command → code_done.Done → Type 0) (r : code_refusal.Refusal) → StopWords o P (Err (stop.Refused r))
     → FitsWords o (status_of_refusal (refusal_seen r)) (refusal_line (refusal_seen r))
-refusal_fits None P r h = let e : r ≡ refusal.Words = refused_is r refusal.Words h in (ap (λ x. status_of_refusal (refusal_seen x)) e, ap (λ x. refusal_line (refusal_seen x)) e)
+refusal_fits None P r (inl h) = let e : r ≡ refusal.Words = refused_is r refusal.Words h in (ap (λ x. status_of_refusal (refusal_seen x)) e, ap (λ x. refusal_line (refusal_seen x)) e)
+refusal_fits None P r (inr h) = absurd (refused_no_want r h)
 refusal_fits (Some c) P r h = spares_fits r h
 
 -- the end of a run is a right answer
@@ -164,7 +168,7 @@ words_names (Some d) next f _ (goes_on c p h k) = let e : c ≡ d = (let q : ◌
 task_names : (ws : List (List ℕ)) (files : List File) (p : Result Task Refusal) → TaskOutcome ws files p → NamesIn (command_of ws) p
 task_names ws files =
     words_names (command_of ws) _ (λ c.
-    then_names (CircuitOutcome c.netlist files) _ c (λ circuit.
+    then_names (CircuitOutcome c files) _ c (λ circuit.
     then_names (InputOutcome c.stimulus files circuit) _ c (λ input p e. subst (Names c) (sym e) refl)))
 
 -- where nothing changed, every file but one stays
@@ -190,7 +194,7 @@ unfinished_by_words ws old new (inl same) = same_by_words (command_of ws) old ne
 unfinished_by_words ws old new (inr (task, outcome, left)) = begun_by_words (command_of ws) task (dump_of task) old new (task_names ws old (Ok task) outcome) left
 
 fault_unfinished : (ws : List (List ℕ)) (old new : List File) (name : List ℕ) → FaultAt ws old new name → LeavesUnfinished ws old new
-fault_unfinished ws old new _ (at_netlist c e same) = inl same
+fault_unfinished ws old new _ (at_netlist c before name after texts e split read same) = inl same
 fault_unfinished ws old new _ (at_stimulus c circuit e o same) = inl same
 fault_unfinished ws old new _ (at_dump task o left) = inr (task, o, left)
 

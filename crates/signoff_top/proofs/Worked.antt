@@ -1,14 +1,15 @@
 -- What the phases and the run leave is what the work leaves.
-use Rattle.std.proofs.Common.{◌≡◌, refl, sym, subst, inr, lit<, List, ℕ}
+use Rattle.std.proofs.Common.{◌≡◌, refl, sym, subst, inr, lit<, List, [], ◌∷◌, ℕ}
+use Rattle.std.proofs.lemmas.List.Elements.{Contains-append_right}
 use Rattle.std.specs.Prelude.{Option, Some, None, Result, Ok, Err, Contains}
 use Rattle.sg_io.specs.Files.{File, BothTell}
+use Rattle.run_words.specs.Words.{Command, command_of, names_in}
 use Rattle.wave_out.specs.Files.{LeavesPrefix}
 use Rattle.signoff_top.specs.Answer.{dump_of}
 use Rattle.signoff_top.specs.Phases.{TaskOutcome}
 use Rattle.signoff_top.specs.Promises.{FaultAt, at_dump, NamesFaultAt}
 use Rattle.signoff_top.specs.Stops.{Gives, StopWords}
 use Rattle.signoff_top.specs.Tasks.{task_seen}
-use Rattle.run_words.specs.Words.{Command, command_of, names_in}
 use Rattle.signoff_top.specs.Work.{WorkLeaves}
 use Rattle.signoff_top.specs.declared.phases.Task as code_task
 use Rattle.signoff_top.specs.declared.stop.Stop as code_stop
@@ -36,7 +37,7 @@ want_leaves ws task old mid new g e h =
 -- the dump's name is one of the words
 dump_among : (o : Option Command) (task : code_task.Task) → StopWords o (λ c t. t.vcd.now ≡ c.vcd) (Ok task) → Contains (names_in o) task.vcd.now
 dump_among None task h = absurd h
-dump_among (Some c) task h = (2, lit< tt, sym h)
+dump_among (Some c) task h = Contains-append_right c.netlists (c.stimulus ∷ c.vcd ∷ []) task.vcd.now (1, lit< tt, sym h)
 
 -- a failure on the dump's file
 pub failed_at_dump : (ws : List (List ℕ)) (task : code_task.Task) (old mid new : Option (List File)) (last : Option (List ℕ)) → GivesTask ws old (Ok task) → mid ≡ old

@@ -6,7 +6,7 @@ ghost use Rattle.stim_read.specs.Applied.{IsApplied};
 ghost use Rattle.stim_read.specs.Seen.{stimulus_seen};
 ghost use Rattle.netlist_read.specs.Seen.{kind_seen};
 ghost use Rattle.run_words.specs.Words.{command_of};
-ghost use Rattle.run_words.specs.Seen.{command_seen};
+ghost use Rattle.run_words.specs.WordsSeen.{command_seen};
 ghost use Rattle.signoff_top.specs.Phases.{CircuitOutcome, FileOutcome, FilesOutcome, InputOutcome, NetlistOutcome, StimulusOutcome, TaskOutcome, WordsOutcome, refused_at};
 ghost use Rattle.signoff_top.specs.Promises.{NamesFaultAt};
 ghost use Rattle.signoff_top.specs.Stops.{FailsAtOne, Gives, IfFailed, NeverFails, SparesWords, StopWords, end_of_phase, refusal_seen};
