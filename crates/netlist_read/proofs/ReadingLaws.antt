@@ -20,17 +20,17 @@ use Rattle.elab_model.specs.declared.kinds.ElabKind.{ElabKind}
 use Rattle.netlist_read.specs.Kinds.{Kind}
 use Rattle.netlist_read.specs.Reading.{AreTree, IsRead, FaultStands, in_text, in_syntax, in_meaning}
 
-ok_not_err : {A E : Type 0} {x : A} {e : E} → ◌≡◌ {A = Result A E} (Ok x) (Err e) → ⊥
+pub ok_not_err : {A E : Type 0} {x : A} {e : E} → ◌≡◌ {A = Result A E} (Ok x) (Err e) → ⊥
 ok_not_err h = cc
 
-ok_one : {A E : Type 0} {x y : A} → ◌≡◌ {A = Result A E} (Ok x) (Ok y) → x ≡ y
+pub ok_one : {A E : Type 0} {x y : A} → ◌≡◌ {A = Result A E} (Ok x) (Ok y) → x ≡ y
 ok_one h = cc
 
 -- files have one token list at most, and then no fault
-tokens_once : (texts : List (List ℕ)) (s t : List Lexeme) → Lexes texts (Ok s) → Lexes texts (Ok t) → s ≡ t
+pub tokens_once : (texts : List (List ℕ)) (s t : List Lexeme) → Lexes texts (Ok s) → Lexes texts (Ok t) → s ≡ t
 tokens_once texts s t a b = ok_one (lexes_one texts (Ok s) (Ok t) a b)
 
-tokens_or_fault : (texts : List (List ℕ)) (s : List Lexeme) (f : Fault) → Lexes texts (Ok s) → Lexes texts (Err f) → ⊥
+pub tokens_or_fault : (texts : List (List ℕ)) (s : List Lexeme) (f : Fault) → Lexes texts (Ok s) → Lexes texts (Err f) → ⊥
 tokens_or_fault texts s f a b = ok_not_err (lexes_one texts (Ok s) (Err f) a b)
 
 -- and tokens one tree

@@ -2,3 +2,5 @@
 pub mod Kinds
 pub mod Reading
 pub mod Seen
+pub mod Phases
+pub mod Written

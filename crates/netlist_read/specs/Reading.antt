@@ -31,7 +31,7 @@ pub record IsRead (texts : List (List ℕ)) (name : Option (List ℕ)) (corner :
 abbrev pub end_of : List (List ℕ) → Place
 end_of texts = record { file = length texts - 1; byte = length (slice_index_or texts (length texts - 1) []) }
 
--- A fault of a kind stands at a place of the files. There are at most one of the text, and else one of the syntax; of the meaning there may be several.
+-- A fault of a kind stands at a place of the files. A fault of the text is the only one, and so is one of the syntax; of the meaning several may stand.
 pub data FaultStands (texts : List (List ℕ)) (name : Option (List ℕ)) (corner : Corner) : Kind → Place → Type 0 where
   -- the text or its directives have it
   in_text : (kind : LexKind) (place : Place) → Lexes texts (Err (record { kind = kind; place = place })) → FaultStands texts name corner (of_text kind) place

@@ -2,7 +2,11 @@
 #![tactic(auto)]
 
 mod kinds;
+mod names;
 mod netlists;
 
 pub use kinds::{NetlistKind, write_kind};
 pub use netlists::read_netlist;
+
+#[cfg(test)]
+mod tests;
