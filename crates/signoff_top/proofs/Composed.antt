@@ -1,5 +1,5 @@
 -- How the outcomes of phases compose.
-use Rattle.std.proofs.Common.{refl, ◌≡◌, sym, ap, subst, lit<, Result, ℕ, List, [], ◌∷◌, ◌++◌}
+use Rattle.std.proofs.Common.{refl, ◌≡◌, sym, ap, subst, lit<, arith, Result, ℕ, List, [], ◌∷◌, ◌++◌}
 use Rattle.std.proofs.lemmas.List.Elements.{Contains-append_left, Contains-append_right}
 use Rattle.std.specs.Prelude.{Ok, Err, Option, Some, None, Contains}
 use Rattle.sg_io.specs.Files.{File}
@@ -47,7 +47,7 @@ failed_again X Y P Q stop.NoMemory f h = tt
 
 netlist_among : (c : Command) (before after : List (List ℕ)) (name : List ℕ) → c.netlists ≡ before ++ name ∷ after → Contains (names_in (Some c)) name
 netlist_among c before after name e =
-    Contains-append_left c.netlists (c.stimulus ∷ c.vcd ∷ []) name (subst (λ ns. Contains ns name) (sym e) (Contains-append_right before (name ∷ after) name (0, lit< tt, refl)))
+    Contains-append_left c.netlists (c.stimulus ∷ c.vcd ∷ []) name (subst (λ ns. Contains ns name) (sym e) (Contains-append_right before (name ∷ after) name (0, omega arith, refl)))
 
 -- a failure on a file of the netlist
 pub failed_at_netlist : (X Y : Type 0) (ws : List (List ℕ)) (old new : Option (List File)) (last : Option (List ℕ)) (c : Command) (s : code_stop.Stop)

@@ -3,6 +3,7 @@ pub mod Putting
 pub mod Telling
 pub mod Composed
 pub mod FilesRead
+pub mod WordsRead
 pub mod Worked
 pub mod OneAnswer
 pub mod Promised

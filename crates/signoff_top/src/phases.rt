@@ -37,6 +37,7 @@ pub struct Task<'a> {
 // One byte more than an input file may have.
 const READ_LIMIT: u64 = (1 << 28) + 1;
 
+#[tactic(auto, using(crate::proofs::WordsRead::command_ranges, crate::proofs::WordsRead::command_some))]
 fn words_phase<'a>(alloc: Global, words: &'a [String]) -> Result<Command<'a>, Stop<'a>>
     ensures gives { Gives (λ c. command_seen c) (WordsOutcome (command_of (map (λ w. string_bytes w) words.now))) result }
     ensures works { NeverFails result }

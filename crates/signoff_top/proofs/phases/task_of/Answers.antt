@@ -2,7 +2,7 @@ use Rattle.std.proofs.Common.{◌∙◌, refl}
 use Rattle.std.proofs.lemmas.Result.{err_from_is_err_and}
 use Rattle.sg_circuit.specs.Circuit.{Circuit}
 use Rattle.stim_read.specs.declared.steps.Stimulus.{Stimulus}
-use Rattle.signoff_top.specs.Words.{command_seen}
+use Rattle.run_words.specs.WordsSeen.{command_seen}
 use Rattle.signoff_top.specs.declared.phases.Task.{Task}
 use Rattle.signoff_top.proofs.Composed.{gives_stop, gives_then, words_command, failed_at_netlist, failed_at_stimulus}
 use Rattle.signoff_top.proofs.phases.task_of.Goals as goal
