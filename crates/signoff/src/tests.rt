@@ -19,12 +19,7 @@ fn words_of(alloc: Global, words: &[&str]) -> Result<Vec<String>, AllocError> {
 }
 
 // Whether the program ends with this number on these words, where no file is held, and puts this.
-fn ends_with(
-    alloc: Global,
-    args: io::Result<Args>,
-    number: u8,
-    report: &str,
-) -> bool {
+fn ends_with(alloc: Global, args: io::Result<Args>, number: u8, report: &str) -> bool {
     let mut shelf = MemoryShelf::new(alloc);
     let mut sink = MemorySink::new(alloc);
     let code = program(alloc, args, &mut shelf, &mut sink);

@@ -37,9 +37,10 @@ one_before n text rest files (Err r) h k = goes_on text (Err r) h (stops r k)
 
 one_more : (before : List (List ℕ)) (files : List File) (texts : List (List ℕ)) (n text : List ℕ) → AreRead before files texts → FileOutcome n (bytes_of n files) (Ok text)
     → AreRead (before ++ n ∷ []) files (texts ++ text ∷ [])
-one_more before files texts n text r h = record { go_on = λ rest o k.
-  subst (λ names. FilesOutcome names files (after (texts ++ text ∷ []) o)) (sym (append_assoc before (n ∷ []) rest))
-  (subst (FilesOutcome (before ++ n ∷ rest) files) (after_after texts (text ∷ []) o) (r.go_on (n ∷ rest) (after (text ∷ []) o) (one_before n text rest files o h k)))
+one_more before files texts n text r h = record {
+  go_on = λ rest o k.
+      subst (λ names. FilesOutcome names files (after (texts ++ text ∷ []) o)) (sym (append_assoc before (n ∷ []) rest))
+      (subst (FilesOutcome (before ++ n ∷ rest) files) (after_after texts (text ∷ []) o) (r.go_on (n ∷ rest) (after (text ∷ []) o) (one_before n text rest files o h k)));
 }
 
 all_read : (names : List (List ℕ)) (files : List File) (texts : List (List ℕ)) → AreRead names files texts → FilesOutcome names files (Ok texts)

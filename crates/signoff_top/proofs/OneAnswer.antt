@@ -6,7 +6,7 @@ use Rattle.sg_io.specs.Files.{File, bytes_of}
 use Rattle.sg_circuit.specs.Circuit.{Circuit}
 use Rattle.sg_delay.specs.declared.corners.Corner.{Corner}
 use Rattle.netlist_read.proofs.ReadingLaws as netlist
-use Rattle.stim_text.proofs.ReadingLaws as stimulus
+use Rattle.stim_text.proofs.OnceLaws as stimulus
 use Rattle.run_words.specs.Words.{Command, command_of}
 use Rattle.signoff_top.specs.Answer.{Answer, IsAnswer, answer_of}
 use Rattle.signoff_top.specs.Phases.{Refusal, Then, stops, goes_on, Task, TaskOutcome, CircuitOutcome, InputOutcome, WordsOutcome, FileOutcome, FilesOutcome, NetlistOutcome, StimulusOutcome, status_of_refusal}
@@ -58,8 +58,8 @@ netlist_agree names texts top corner (Err r) (Err s) h k = ap status_of_refusal 
 
 stimulus_agree : (name text : List ℕ) (circuit : Circuit) → AllAgree (StimulusOutcome name text circuit)
 stimulus_agree name text circuit (Ok s) (Ok t) h k = stimulus.read-once text circuit s t h k
-stimulus_agree name text circuit (Ok s) (Err r) h k = stimulus.read-is-faultless text circuit s h k.0 k.1 k.2
-stimulus_agree name text circuit (Err r) (Ok s) h k = stimulus.read-is-faultless text circuit s k h.0 h.1 h.2
+stimulus_agree name text circuit (Ok s) (Err r) h k = stimulus.read-is-faultless text circuit s k.0 k.1 h k.2
+stimulus_agree name text circuit (Err r) (Ok s) h k = stimulus.read-is-faultless text circuit s h.0 h.1 k h.2
 stimulus_agree name text circuit (Err r) (Err s) h k = ap status_of_refusal h.3 ∙ sym (ap status_of_refusal k.3)
 
 circuit_agree : (c : Command) (files : List File) → AllAgree (CircuitOutcome c files)

@@ -41,9 +41,7 @@ fn of_two(alloc: Global, sink: &mut MemorySink) -> Result<Status, Fail> {
     shelf.hold("a.v", b"module t; endmodule\n")?;
     let words = words_of(
         alloc,
-        &[
-            "run", "a.v", "b.v", "--stim", "t.st", "--vcd", "out.vcd",
-        ],
+        &["run", "a.v", "b.v", "--stim", "t.st", "--vcd", "out.vcd"],
     )?;
     Ok(top(alloc, &words, &mut shelf, sink))
 }
