@@ -1,5 +1,6 @@
 -- Worked examples of refusals.
 use Rattle.std.specs.Prelude.{◌≡◌, ◌++◌, List, ℕ, [], ◌∷◌, Err, codes, refl}
+use Rattle.std.specs.Fmt.{digits}
 use Rattle.netlist_read.specs.Kinds.{of_syntax}
 use Rattle.stim_text.specs.declared.kinds.StimKind.TheVariants as stim
 use Rattle.wave_out.specs.Texts.{line}
@@ -17,9 +18,11 @@ in_the_second : refused_at (codes "a.v" ∷ codes "b.v" ∷ []) ((codes "module 
 in_the_second = refl
 
 netlist_line : refusal_line (netlist (codes "b.v") 12 (codes "Syntax")) ≡ line (codes "netlist refused: b.v:12: Syntax")
+unfolding digits
 netlist_line = refl
 
 stimulus_line : refusal_line (stimulus (codes "t.st") 3 (stimulus_kind stim.NoEnd)) ≡ line (codes "stimulus refused: t.st:3: NoEnd")
+unfolding digits
 stimulus_line = refl
 
 -- the first file that isn't held is missing

@@ -9,7 +9,8 @@ use Rattle.netlist_read.proofs.ReadingLaws as netlist
 use Rattle.stim_text.proofs.OnceLaws as stimulus
 use Rattle.run_words.specs.Words.{Command, command_of}
 use Rattle.signoff_top.specs.Answer.{Answer, IsAnswer, answer_of}
-use Rattle.signoff_top.specs.Phases.{Refusal, Then, stops, goes_on, Task, TaskOutcome, CircuitOutcome, InputOutcome, WordsOutcome, FileOutcome, FilesOutcome, NetlistOutcome, StimulusOutcome, status_of_refusal}
+use Rattle.signoff_top.specs.Phases.{Refusal, Then, stops, goes_on, Task, TaskOutcome, status_of_refusal}
+use Rattle.signoff_top.specs.Phases.{CircuitOutcome, InputOutcome, WordsOutcome, FileOutcome, FilesOutcome, NetlistOutcome, StimulusOutcome}
 
 -- two outcomes are one value, or two refusals of one status
 abbrev Agree : {A : Type 0} → Result A Refusal → Result A Refusal → Type 0

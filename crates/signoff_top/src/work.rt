@@ -32,7 +32,7 @@ pub fn work<'a, S: Shelf>(
     ensures words { StopWords (command_of (map (λ w. string_bytes w) words.now)) (λ c done. done.task.vcd.now ≡ c.vcd) result }
 {
     let task = task_of(alloc, words, shelf)?;
-    let end = run_and_dump(
+    match run_and_dump(
         alloc,
         &task.circuit,
         &task.input,
@@ -40,8 +40,7 @@ pub fn work<'a, S: Shelf>(
         task.wheel,
         task.vcd,
         shelf,
-    );
-    match end {
+    ) {
         Ok(end) => Ok(Done { task, end }),
         Err(ShelfError::Failed) => Err(Stop::Failed),
         Err(ShelfError::NoMemory) => Err(Stop::NoMemory),
