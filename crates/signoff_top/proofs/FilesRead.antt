@@ -50,27 +50,30 @@ all_read names files texts r =
 -- ---- the loop, over any list of what has names
 
 module _ {X : Type 0} (name_of : X → List ℕ) (xs : List X) (i : ℕ) (d : X) (l : i < length xs) where
-  at_one : map name_of xs ≡ map name_of (take i xs) ++ (name_of (slice_index_or xs i d)) ∷ map name_of (drop (i + 1) xs)
+  at_one : map name_of xs ≡ map name_of (take i xs) ++ name_of (slice_index_or xs i d) ∷ map name_of (drop (i + 1) xs)
   at_one =
       ap (map name_of) (sym (take-append-drop i xs))
       ∙ (map-append name_of (take i xs) (drop i xs) ∙ ap (λ ys. map name_of (take i xs) ++ map name_of ys) (drop_more xs i d l))
 
-  one_taken : map name_of (take (i + 1) xs) ≡ map name_of (take i xs) ++ (name_of (slice_index_or xs i d)) ∷ []
+  one_taken : map name_of (take (i + 1) xs) ≡ map name_of (take i xs) ++ name_of (slice_index_or xs i d) ∷ []
   one_taken = ap (map name_of) (take_more xs i d l) ∙ map-append name_of (take i xs) (slice_index_or xs i d ∷ [])
 
   -- one file more
   pub read_more : (files : List File) (texts more : List (Vec ℕ)) (text : Vec ℕ) → more ≡ texts ++ text ∷ [] → AreRead (map name_of (take i xs)) files (map (λ f. f.items) texts)
-      → Gives {X = Vec ℕ} (λ v. v.items) (FileOutcome (name_of (slice_index_or xs i d)) (bytes_of (name_of (slice_index_or xs i d)) files)) (Ok text) → AreRead (map name_of (take (i + 1) xs)) files (map (λ f. f.items) more)
+      → Gives {X = Vec ℕ} (λ v. v.items) (FileOutcome (name_of (slice_index_or xs i d)) (bytes_of (name_of (slice_index_or xs i d)) files)) (Ok text)
+      → AreRead (map name_of (take (i + 1) xs)) files (map (λ f. f.items) more)
   read_more files texts more text e r g =
       subst (λ ns. AreRead ns files (map (λ f. f.items) more)) (sym one_taken)
-      (subst (AreRead (map name_of (take i xs) ++ (name_of (slice_index_or xs i d)) ∷ []) files) (sym (ap (λ (vs : List (Vec ℕ)). map (λ f. f.items) vs) e ∙ map-append (λ (f : Vec ℕ). f.items) texts (text ∷ [])))
+      (subst (AreRead (map name_of (take i xs) ++ name_of (slice_index_or xs i d) ∷ []) files)
+      (sym (ap (λ (vs : List (Vec ℕ)). map (λ f. f.items) vs) e ∙ map-append (λ (f : Vec ℕ). f.items) texts (text ∷ [])))
       (one_more (map name_of (take i xs)) files (map (λ f. f.items) texts) (name_of (slice_index_or xs i d)) text.items r g.outcome))
 
   stopped : (files : List File) (texts : List (List ℕ)) (s : code_stop.Stop) → AreRead (map name_of (take i xs)) files texts
       → IfOutcome {X = Vec ℕ} (λ v. v.items) (FileOutcome (name_of (slice_index_or xs i d)) (bytes_of (name_of (slice_index_or xs i d)) files)) (Err s)
       → IfOutcome {X = Vec (Vec ℕ)} (λ v. map (λ f. f.items) v.items) (FilesOutcome (map name_of xs) files) (Err s)
   stopped files texts (stop.Refused r) a h =
-      subst (λ ns. FilesOutcome ns files (Err (refusal_seen r))) (sym at_one) (a.go_on ((name_of (slice_index_or xs i d)) ∷ map name_of (drop (i + 1) xs)) (Err (refusal_seen r)) (stops (refusal_seen r) h))
+      subst (λ ns. FilesOutcome ns files (Err (refusal_seen r))) (sym at_one)
+      (a.go_on (name_of (slice_index_or xs i d) ∷ map name_of (drop (i + 1) xs)) (Err (refusal_seen r)) (stops (refusal_seen r) h))
   stopped files texts stop.Failed a h = tt
   stopped files texts stop.NoMemory a h = tt
 
@@ -86,7 +89,7 @@ module _ {X : Type 0} (name_of : X → List ℕ) (xs : List X) (i : ℕ) (d : X)
       → IfFailed {X = Vec ℕ} (last ≡ Some (name_of (slice_index_or xs i d))) (Err s) → IfFailed {X = Vec (Vec ℕ)} (FailsAtOne (map name_of xs) held last) (Err s)
   read_fails held last texts s a h = failed_again (Vec ℕ) (Vec (Vec ℕ)) (last ≡ Some (name_of (slice_index_or xs i d))) (FailsAtOne (map name_of xs) held last) s (λ told. record {
     before = map name_of (take i xs);
-    name = (name_of (slice_index_or xs i d));
+    name = name_of (slice_index_or xs i d);
     after = map name_of (drop (i + 1) xs);
     split = at_one;
     told = told;
