@@ -1,11 +1,10 @@
 -- Of two faults that stand both are of the meaning, or they are the same.
 use Rattle.std.proofs.Common.{◌≡◌, ℕ, List, refl, sym, ap, ◌∙◌, subst, inl, inr}
-use Rattle.std.specs.Prelude.{◌⊎◌, Option, Result, Ok, Err, length, slice_get}
+use Rattle.std.specs.Prelude.{◌⊎◌, Option, Result, Err, length, slice_get}
 use Rattle.grammar.proofs.Laws.{one_failing}
 use Rattle.grammar.specs.Reads.{FailsAt}
 use Rattle.sg_delay.specs.declared.corners.Corner.{Corner}
 use Rattle.sg_text.specs.declared.places.Place.{Place}
-use Rattle.vl_lex.specs.Lexes.{Lexes}
 use Rattle.vl_lex.specs.State.{Fault}
 use Rattle.vl_lex.proofs.OneReading.{lexes_one}
 use Rattle.vl_parse.specs.Parsed.{fault_kind, fault_place}

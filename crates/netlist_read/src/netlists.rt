@@ -89,7 +89,7 @@ fn read_circuit<'a>(
     ensures read { IfOk result (λ circuit. IsElaborated (view_source source.now) (option_map (λ n. n.now) top.entry) corner circuit) }
     ensures refused { IfErr result (MeaningStands (view_source source.now) (option_map (λ n. n.now) top.entry) corner) }
 {
-    match elaborate(alloc, &*source, top, corner) {
+    match elaborate(alloc, source, top, corner) {
         Ok(circuit) => Ok(circuit),
         Err(Refused::Fault { kind, place }) => Err(Refused::Fault {
             kind: NetlistKind::Meaning(kind),
