@@ -1,10 +1,10 @@
 -- Worked examples of refusals.
-use Rattle.std.specs.Prelude.{◌≡◌, ◌++◌, List, ℕ, [], ◌∷◌, Err, codes, refl}
+use Rattle.std.specs.Prelude.{◌≡◌, ◌++◌, [], ◌∷◌, Err, codes, refl}
 use Rattle.std.specs.Fmt.{digits}
 use Rattle.netlist_read.specs.Kinds.{of_syntax}
 use Rattle.stim_text.specs.declared.kinds.StimKind.TheVariants as stim
 use Rattle.wave_out.specs.Texts.{line}
-use Rattle.signoff_top.specs.Phases.{FilesOutcome, Then, goes_on, stops, line_of, missing, netlist, stimulus, refusal_line, refused_at, stimulus_kind}
+use Rattle.signoff_top.specs.Phases.{FilesOutcome, goes_on, stops, line_of, missing, netlist, stimulus, refusal_line, refused_at, stimulus_kind}
 
 -- a line feed ends the line on which it stands
 breaks : line_of (codes "ab" ++ 10 ∷ codes "c") 2 ≡ 1

@@ -2,7 +2,7 @@
 use Rattle.std.proofs.Common.{◌≡◌, ◌∙◌, sym, ap, subst, refl, ℕ, List, [], ◌∷◌, ◌++◌, ◌+◌, ◌<◌, ◌≤◌, map, take, drop, length, append_assoc}
 use Rattle.std.proofs.lemmas.List.{append-nil, take-append-drop, take_all, take_more, drop_more, map-append}
 use Rattle.std.specs.Global.{Vec}
-use Rattle.std.specs.Prelude.{slice_index_or, Option, Some, None, Result, Ok, Err}
+use Rattle.std.specs.Prelude.{slice_index_or, Option, Some, Result, Ok, Err}
 use Rattle.sg_io.specs.Files.{File, bytes_of}
 use Rattle.signoff_top.specs.Phases.{Refusal, FileOutcome, FilesOutcome, stops, goes_on}
 use Rattle.signoff_top.specs.Stops.{FailsAtOne, Gives, IfFailed, IfOutcome, refusal_seen}
