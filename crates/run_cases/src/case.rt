@@ -12,19 +12,28 @@ struct File {
 /// Files, words, and the name of the file that a run may make.
 #[derive(Debug, Drop)]
 pub struct Case {
+    title: String,
     files: Vec<File>,
     words: Vec<String>,
     made: Option<String>,
 }
 
 impl Case {
-    /// Without files and words.
+    /// Without title, files and words.
     pub fn new(alloc: Global) -> Case {
         Case {
+            title: String::new(alloc),
             files: Vec::new(alloc),
             words: Vec::new(alloc),
             made: None,
         }
+    }
+
+    /// Of a title.
+    pub fn of(alloc: Global, title: &str) -> anyhow::Result<Case> {
+        let mut case = Case::new(alloc);
+        case.title.push_str(title)?;
+        Ok(case)
     }
 
     /// Adds a line of its description.
@@ -60,9 +69,11 @@ impl Case {
 
     /// Runs it, and adds what came to a text.
     pub fn show(&self, alloc: Global, out: &mut String) -> anyhow::Result<()> {
-        if self.files.is_empty() && self.words.is_empty() {
+        if self.title.is_empty() {
             return Ok(());
         }
+        let title = &self.title;
+        writeln!(out, "case {title}")?;
         let mut shelf = MemoryShelf::new(alloc);
         for file in &self.files {
             shelf.hold(&file.name, file.text.as_bytes())?;

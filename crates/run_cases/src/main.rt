@@ -15,8 +15,7 @@ fn main(rt: HostRuntime) -> anyhow::Result<()> {
         match line.strip_prefix("case ") {
             Some(title) => {
                 case.show(alloc, &mut out)?;
-                case = Case::new(alloc);
-                writeln!(out, "case {title}")?;
+                case = Case::of(alloc, title)?;
             }
             None => case.add(alloc, &line)?,
         }
