@@ -1,8 +1,8 @@
 -- What is among the elements of a list, by its place and by recursion.
-use Rattle.std.specs.Prelude.{◌≡◌, ℕ, zero, suc, ◌<◌, List, [], ◌∷◌, ◌++◌, flat_map, length, slice_index_or, refl}
+use Rattle.std.specs.Prelude.{◌≡◌, ℕ, zero, suc, ◌<◌, List, [], ◌∷◌, flat_map, length, slice_index_or}
 use Rattle.std.specs.List.{IsAmong}
 use Rattle.std.proofs.Common.{arith, inl, inr}
-use Rattle.elab_laws.proofs.Lists.{In, in-left, in-right, in-either, in-flat, From, from-flat}
+use Rattle.elab_laws.proofs.Lists.{In, in-flat, from-flat}
 
 at-in : {A : Type 0} (xs : List A) (v : A) (i : ℕ) → i < length xs → v ≡ slice_index_or xs i v → In v xs
 at-in [] v i lt e = absurd (omega arith)

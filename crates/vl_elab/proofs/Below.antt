@@ -1,5 +1,5 @@
 -- The answers of elaboration: each refusal of a step stands, and without one no fault does.
-use Rattle.std.specs.Prelude.{◌≡◌, ℕ, ◌<◌, List, [], ◌++◌, Option, Result, Ok, Err, IfOk, IfErr, length}
+use Rattle.std.specs.Prelude.{◌≡◌, ℕ, List, [], ◌++◌, Option, Result, Ok, Err, IfOk, IfErr, length}
 use Rattle.std.specs.List.{IsAmong}
 use Rattle.std.proofs.Common.{sym, ◌∙◌, ap, subst, inl, inr}
 use Rattle.sg_circuit.specs.Circuit.{Circuit}
@@ -7,22 +7,20 @@ use Rattle.sg_delay.specs.declared.corners.Corner.{Corner}
 use Rattle.sg_text.specs.declared.places.Place.{Place}
 use Rattle.sg_text.specs.declared.refusals.Refused.{Refused}
 use Rattle.sg_text.specs.declared.refusals.Refused.TheVariants as refused
-use Rattle.vl_tree.specs.Tree.{Module, Primitive, Source}
+use Rattle.vl_tree.specs.Tree.{Module, Source}
 use Rattle.elab_model.specs.declared.kinds.ElabKind.{ElabKind}
-use Rattle.elab_model.specs.declared.kinds.ElabKind.TheVariants.{TooMany, Udp}
-use Rattle.elab_model.specs.Circuits.{circuit}
+use Rattle.elab_model.specs.declared.kinds.ElabKind.TheVariants.{TooMany}
 use Rattle.elab_model.specs.Drivers.{elements}
-use Rattle.elab_model.specs.Elaboration.{FaultStands, in_list, in_table, HasNoFault, IsElaborated, RefusalStands, Elaborates, primitives}
+use Rattle.elab_model.specs.Elaboration.{FaultStands, in_list, in_table, IsElaborated, RefusalStands, Elaborates, primitives}
 use Rattle.elab_model.specs.Faults.{Fault, fault, RefusesOneOf}
-use Rattle.elab_model.specs.HierarchyFaults.{start, two_definitions, driver_faults, faults_below, top_faults, faults}
+use Rattle.elab_model.specs.HierarchyFaults.{two_definitions, driver_faults, faults_below, top_faults, faults}
 use Rattle.elab_model.specs.Nets.{nets}
 use Rattle.elab_model.specs.Tops.{top_of}
 use Rattle.elab_nets.specs.Refusals.{RefusesCount}
 use Rattle.elab_laws.proofs.Lists.{In, in-left, in-right}
 use Rattle.elab_hierarchy.specs.Placing.{tree_faults}
 use Rattle.elab_hierarchy.specs.Tops.{RefusesTop}
-use Rattle.elab_primitives.specs.Refusals.{IsOfTable}
-use Rattle.elab_modules.specs.Reached.{reached_faults, IsOfReached, RefusesReached}
+use Rattle.elab_modules.specs.Reached.{RefusesReached}
 use Rattle.vl_elab.specs.Below.{IsBelow, RefusesBelow}
 use Rattle.vl_elab.proofs.Among.{among-in, in-among}
 use Rattle.vl_elab.proofs.Standing.{of-tree, of-reached, of-nets, of-elements, of-drivers}

@@ -1,5 +1,5 @@
 -- Where no step of elaboration finds a fault, none stands below the top.
-use Rattle.std.specs.Prelude.{◌≡◌, ℕ, ◌≤◌, List, [], ◌∷◌, ◌++◌, Bool, false, flat_map, length, drop, nat_lt, refl, if◌then◌else◌}
+use Rattle.std.specs.Prelude.{◌≡◌, ℕ, ◌≤◌, List, [], ◌∷◌, ◌++◌, false, flat_map, length, drop, nat_lt, refl}
 use Rattle.std.specs.List.{AllByRecursion}
 use Rattle.std.proofs.Common.{◌∙◌, ap, arith}
 use Rattle.std.proofs.lemmas.Bool.Decides.{nat_tests}
@@ -8,7 +8,7 @@ use Rattle.vl_tree.specs.Tree.{Module, Source}
 use Rattle.elab_model.specs.declared.kinds.ElabKind.TheVariants.{TooMany}
 use Rattle.elab_model.specs.Delays.{tick_of}
 use Rattle.elab_model.specs.Drivers.{elements}
-use Rattle.elab_model.specs.Faults.{Fault, fault_if}
+use Rattle.elab_model.specs.Faults.{fault_if}
 use Rattle.elab_model.specs.Hierarchy.{Instance, instances}
 use Rattle.elab_model.specs.HierarchyFaults.{self_instances, too_deep, first_too_many, count_limit, start, too_many, driver_faults, instance_faults_below, faults_below}
 use Rattle.elab_model.specs.ModuleFaults.{module_faults}

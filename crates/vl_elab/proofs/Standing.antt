@@ -1,5 +1,5 @@
 -- Each fault that a step of elaboration refuses is one of the faults below the top.
-use Rattle.std.specs.Prelude.{◌≡◌, ℕ, ◌<◌, List, [], ◌∷◌, ◌++◌, Bool, true, flat_map, length, drop, nat_lt, refl, if◌then◌else◌}
+use Rattle.std.specs.Prelude.{◌≡◌, ℕ, ◌<◌, ◌++◌, true, flat_map, length, drop, nat_lt, refl}
 use Rattle.std.specs.List.{IsAmong}
 use Rattle.std.proofs.Common.{sym, arith, inl, inr, subst}
 use Rattle.std.proofs.lemmas.Bool.Decides.{nat_tests}

@@ -23,7 +23,6 @@ use Rattle.vl_tree.specs.Tree.{Module, Source}
 use Rattle.elab_model.specs.Circuits.{net_of, element_of, circuit}
 use Rattle.elab_model.specs.Delays.{tick_of}
 use Rattle.elab_model.specs.Drivers.{Drive, drives, drives_of, first_driver, elements}
-use Rattle.elab_model.specs.Elements.{leg_kind}
 use Rattle.elab_model.specs.Nets.{OwnNet, nets}
 use Rattle.elab_closed.proofs.Closed.{circuit-is_closed}
 use Rattle.elab_modules.specs.declared.library.Library.{Library}

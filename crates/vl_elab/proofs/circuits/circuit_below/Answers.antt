@@ -1,14 +1,10 @@
 -- Each step refuses a fault below the top, and what they make is the circuit.
-use Rattle.std.proofs.Common.{rules, ◌≡◌, ◌≤◌, length, sym, ◌∙◌, ap, subst}
+use Rattle.std.proofs.Common.{◌≤◌, length, sym, subst}
 use Rattle.std.specs.Prelude.{◌^◌}
 use Rattle.std.proofs.lemmas.Result.{err_from_is_err_and}
-use Rattle.vl_tree.specs.Tree.{Module}
 use Rattle.elab_model.specs.Hierarchy.{instances}
 use Rattle.elab_drivers.specs.Netlists.{HasDrivers}
-use Rattle.elab_hierarchy.specs.Tops.{StandsAt}
 use Rattle.elab_hierarchy.specs.Placing.{ArePlaced}
-use Rattle.vl_elab.specs.Below.{RefusesBelow}
-use Rattle.vl_elab.specs.Made.{AreMade, IsWhole}
 use Rattle.vl_elab.proofs.Below.{leaves, tree-refused, reached-refused, nets-refused, elements-refused, drivers-refused}
 use Rattle.vl_elab.proofs.Faultless.{faultless-below}
 use Rattle.vl_elab.proofs.Whole.{elements-few}
@@ -52,7 +48,7 @@ returns-in_err-rows-clause-refused c =
     nets-refused d m c.args.corner c.in_err-rows.field-0.0 (c.in_err-rows.ensures.refused m c.args.corner third ready (c.in_ok-instances.ensures.faultless m at)))
 
 pub rows_of-requires : goal.rows_of-requires
-rows_of-requires c = subst (λ ps. length ps ≤ 2 ^ 22) (sym c.deref-3.ensures.value) c.in_ok-instances.ensures.few
+rows_of-requires c = record { instances = subst (λ ps. length ps ≤ 2 ^ 22) (sym c.deref-3.ensures.value) c.in_ok-instances.ensures.few }
 
 pub elements_in-requires-clause-read : goal.elements_in-requires-clause-read
 elements_in-requires-clause-read c =
@@ -100,9 +96,8 @@ drivers_in-requires c =
     let fourth = subst (λ ps. ArePlaced d ps (instances d m)) (sym c.deref-4.ensures.value) placed in
     let ready = c.in_ok-library.ensures.library m second (c.tick-tick.ensures m at first) in
     let rows = c.in_ok-rows.ensures.rows m c.args.corner third ready tree in
-    let read = record { are_placed = fourth; shallow = tree; is_ready = ready; have_rows = rows } in
     let fifth = subst (λ ps. ArePlaced d ps (instances d m)) (sym c.deref-5.ensures.value) placed in
-    let made = c.in_ok-made.ensures.elements m c.args.corner read in
+    let made = c.in_ok-made.ensures.elements m c.args.corner (record { are_placed = fourth; shallow = tree; is_ready = ready; have_rows = rows }) in
     record { made = (m, (c.args.corner, record { are_placed = fifth; is_ready = ready; have_rows = rows; are_elements = made })) }
 
 pub returns-in_err-drivers-clause-refused : goal.returns-in_err-drivers-clause-refused
@@ -118,9 +113,8 @@ returns-in_err-drivers-clause-refused c =
     let fourth = subst (λ ps. ArePlaced d ps (instances d m)) (sym c.deref-4.ensures.value) placed in
     let ready = c.in_ok-library.ensures.library m second (c.tick-tick.ensures m at first) in
     let rows = c.in_ok-rows.ensures.rows m c.args.corner third ready tree in
-    let read = record { are_placed = fourth; shallow = tree; is_ready = ready; have_rows = rows } in
     let fifth = subst (λ ps. ArePlaced d ps (instances d m)) (sym c.deref-5.ensures.value) placed in
-    let made = c.in_ok-made.ensures.elements m c.args.corner read in
+    let made = c.in_ok-made.ensures.elements m c.args.corner (record { are_placed = fourth; shallow = tree; is_ready = ready; have_rows = rows }) in
     drivers-refused d m c.args.corner c.in_err-drivers.field-0.0
     (c.in_err-drivers.ensures.refused m c.args.corner (record { are_placed = fifth; is_ready = ready; have_rows = rows; are_elements = made })))
 
@@ -137,9 +131,8 @@ close-requires c =
     let fourth = subst (λ ps. ArePlaced d ps (instances d m)) (sym c.deref-4.ensures.value) placed in
     let ready = c.in_ok-library.ensures.library m second (c.tick-tick.ensures m at first) in
     let rows = c.in_ok-rows.ensures.rows m c.args.corner third ready tree in
-    let read = record { are_placed = fourth; shallow = tree; is_ready = ready; have_rows = rows } in
     let fifth = subst (λ ps. ArePlaced d ps (instances d m)) (sym c.deref-5.ensures.value) placed in
-    let made = c.in_ok-made.ensures.elements m c.args.corner read in
+    let made = c.in_ok-made.ensures.elements m c.args.corner (record { are_placed = fourth; shallow = tree; is_ready = ready; have_rows = rows }) in
     let sixth = subst (λ ps. ArePlaced d ps (instances d m)) (sym c.deref-6.ensures.value) placed in
     let drivers = c.in_ok-drivers.ensures.drivers m c.args.corner (record { are_placed = fifth; is_ready = ready; have_rows = rows; are_elements = made }) in (
       d,
@@ -171,19 +164,21 @@ returns-clause-circuit c m at =
     let fourth = subst (λ ps. ArePlaced d ps (instances d m)) (sym c.deref-4.ensures.value) placed in
     let ready = c.in_ok-library.ensures.library m second (c.tick-tick.ensures m at first) in
     let rows = c.in_ok-rows.ensures.rows m c.args.corner third ready tree in
-    let read = record { are_placed = fourth; shallow = tree; is_ready = ready; have_rows = rows } in
     let fifth = subst (λ ps. ArePlaced d ps (instances d m)) (sym c.deref-5.ensures.value) placed in
-    let made = c.in_ok-made.ensures.elements m c.args.corner read in
+    let made = c.in_ok-made.ensures.elements m c.args.corner (record { are_placed = fourth; shallow = tree; is_ready = ready; have_rows = rows }) in
     let sixth = subst (λ ps. ArePlaced d ps (instances d m)) (sym c.deref-6.ensures.value) placed in
     let drivers = c.in_ok-drivers.ensures.drivers m c.args.corner (record { are_placed = fifth; is_ready = ready; have_rows = rows; are_elements = made }) in
     let faultless = faultless-below d m c.args.corner tree ready.sound rows.few (elements-few d m c.args.corner _ _ c.in_ok-made.made made) drivers.faultless in
-    let whole = record {
-      tick_is = c.tick-tick.ensures m at first;
-      is_ready = ready;
-      have_rows = rows;
-      are_elements = made;
-      has_drivers = subst (HasDrivers d m c.args.corner) (sym c.deref-7.ensures.value) drivers;
-      are_scopes = c.in_ok-scopes.ensures m c.args.corner sixth ready rows tree;
+    record {
       faultless = faultless;
-    } in
-    record { faultless = faultless; tables = ready.tables; is_circuit = c.in_ok-circuit.ensures d m c.args.corner whole }
+      tables = ready.tables;
+      is_circuit = c.in_ok-circuit.ensures d m c.args.corner (record {
+        tick_is = c.tick-tick.ensures m at first;
+        is_ready = ready;
+        have_rows = rows;
+        are_elements = made;
+        has_drivers = subst (HasDrivers d m c.args.corner) (sym c.deref-7.ensures.value) drivers;
+        are_scopes = c.in_ok-scopes.ensures m c.args.corner sixth ready rows tree;
+        faultless = faultless;
+      });
+    }

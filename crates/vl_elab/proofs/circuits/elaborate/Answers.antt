@@ -1,6 +1,6 @@
 -- What the steps answer is what elaboration may answer.
-use Rattle.std.proofs.Common.{rules, ◌≡◌, subst}
-use Rattle.std.specs.Prelude.{Ok}
+use Rattle.std.proofs.Common.{◌≡◌, subst}
+use Rattle.std.specs.Prelude.{Ok, option_map}
 use Rattle.std.proofs.lemmas.Result.{err_from_is_err_and}
 use Rattle.elab_model.specs.Tops.{top_of}
 use Rattle.elab_hierarchy.specs.Tops.{RefusesTop}
@@ -17,12 +17,12 @@ returns-in_err-definitions c =
 pub returns-in_err-top : goal.returns-in_err-top
 returns-in_err-top c =
     refuses _ _ _ c.from_residual-in_err-top.result c.in_err-top.field-0.0 (err_from_is_err_and c.from_residual-in_err-top.result c.from_residual-in_err-top.ensures.1)
-    (top-refused _ _ _ c.in_err-top.field-0.0 (subst (λ d. RefusesTop d _ c.in_err-top.field-0.0) c.in_ok-definitions.ensures.definitions c.in_err-top.ensures.refused))
+    (top-refused _ _ _ c.in_err-top.field-0.0 (subst (λ d. RefusesTop d (option_map (λ n. n.now) c.args.name) c.in_err-top.field-0.0) c.in_ok-definitions.ensures.definitions c.in_err-top.ensures.refused))
 
 pub returns : goal.returns
 returns c =
     let same = c.in_ok-definitions.ensures.definitions in
     let top = c.in_ok-top.ensures.top in
-    elaborates _ _ c.args.corner top.0 c.circuit_below.result c.in_ok-definitions.ensures.faultless (subst (λ d. top_of d _ ≡ Ok top.0) same top.1.0)
-    (ok-weaker _ _ c.circuit_below.result (λ made h. subst (λ d. IsBelow d top.0 c.args.corner made) same (h top.0 top.1.1)) c.circuit_below.ensures.circuit)
-    (err-weaker _ _ c.circuit_below.result (λ r h. subst (λ d. RefusesBelow d top.0 c.args.corner r) same (h top.0 top.1.1)) c.circuit_below.ensures.refused)
+    elaborates _ _ c.args.corner top.0 c.circuit_below.result c.in_ok-definitions.ensures.faultless (subst (λ d. top_of d (option_map (λ n. n.now) c.args.name) ≡ Ok top.0) same top.1)
+    (ok-weaker _ _ c.circuit_below.result (λ made h. subst (λ d. IsBelow d top.0 c.args.corner made) same (h top.0 top.2)) c.circuit_below.ensures.circuit)
+    (err-weaker _ _ c.circuit_below.result (λ r h. subst (λ d. RefusesBelow d top.0 c.args.corner r) same (h top.0 top.2)) c.circuit_below.ensures.refused)

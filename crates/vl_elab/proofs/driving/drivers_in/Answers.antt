@@ -1,7 +1,7 @@
 -- The drivers of the nets are those of the netlist.
-use Rattle.std.proofs.Common.{rules, ◌≡◌, ◌<◌, List, ℕ, length, map, sym, ◌∙◌, ap, subst}
+use Rattle.std.proofs.Common.{rules, ◌≡◌, ◌<◌, length, sym, ◌∙◌, ap, subst}
 use Rattle.std.specs.Prelude.{All}
-use Rattle.elab_drivers.specs.Netlists.{HasDrivers, IsDriven}
+use Rattle.elab_drivers.specs.Netlists.{HasDrivers}
 use Rattle.elab_model.specs.Faults.{RefusesOneOf}
 use Rattle.elab_model.specs.HierarchyFaults.{driver_faults}
 use Rattle.vl_elab.specs.Made.{AreMade}
