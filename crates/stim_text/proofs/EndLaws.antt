@@ -1,5 +1,5 @@
 -- All statements are read: what that makes of the text.
-use Rattle.std.proofs.Common.{inl, inr, ℕ, ◌≡◌, ◌++◌, ◌<◌, ◌≤◌, ◌^◌, List, [], ◌∷◌, length, Bool, true, false, not, nat_lt, refl, sym, ap, ◌∙◌, subst, arith, Some, None}
+use Rattle.std.proofs.Common.{inl, inr, ℕ, ◌≡◌, ◌++◌, ◌<◌, ◌≤◌, ◌^◌, List, [], ◌∷◌, length, map, Bool, true, false, not, nat_lt, refl, sym, ap, ◌∙◌, subst, arith, Some, None}
 use Rattle.std.specs.Prelude.{Option, filter_map, option_to_list, slice_index_or}
 use Rattle.std.specs.List.{list_any}
 use Rattle.std.proofs.lemmas.Bool.{lt-ltb, le-ltb}
@@ -15,7 +15,8 @@ use Rattle.stim_text.specs.Times.{Scale}
 use Rattle.stim_text.specs.Faults.{Fault, fault_if, is_end, faults, faults_behind, stated_faults, scale_of, no_end, too_long, most_bytes}
 use Rattle.stim_text.specs.Reading.{FaultStands, IsRead, RefusalStands, form_end, steps_at, stimulus_stated}
 use Rattle.stim_text.specs.Meant.{IsAllRead, RefusesOneOf}
-use Rattle.stim_text.specs.Seen.{decimals}
+use Rattle.stim_text.specs.declared.statements.Stated as code_stated
+use Rattle.stim_text.specs.Seen.{decimals, stated_seen}
 use Rattle.stim_text.proofs.FormLaws.{are-decimals}
 use Rattle.stim_text.proofs.Refusals.{refused-left, refused-right, test-refused, told}
 use Rattle.stim_text.proofs.ApplicationLaws.{ends, stated-applies}
@@ -85,3 +86,42 @@ is-applied circuit ss steps n h =
     let last : slice_index_or (ends (scale_of circuit ss) ss) 0 0 ≡ n = ap (λ l. slice_index_or l 0 0) h.ends_are in
     let same : stimulus_stated circuit ss ≡ record { steps = steps; end = n } = rw (sym h.steps_are, last) refl in
     subst (IsApplied circuit) same (stated-applies circuit ss n [] h.no_fault h.ends_are)
+
+-- ---- as the reader has them
+
+-- what was read of the statements that were made, in the scale that they say
+pub record IsReadOf (text : List ℕ) (circuit : Circuit) (scale : Scale) (items one two : List code_stated.Stated) : Type 0 where
+  pub made : map (λ s. stated_seen s) items ≡ all_stated decimals text
+  pub first : one ≡ items
+  pub second : two ≡ items
+  pub scale_is : scale ≡ scale_of circuit (map (λ s. stated_seen s) one)
+
+same-scale : (text : List ℕ) (circuit : Circuit) (scale : Scale) (items one two : List code_stated.Stated) (h : IsReadOf text circuit scale items one two) → scale ≡ scale_of circuit (map (λ s. stated_seen s) two)
+same-scale text circuit scale items one two h = h.scale_is ∙ ap (λ l. scale_of circuit (map (λ s. stated_seen s) l)) (h.first ∙ sym h.second)
+
+same-statements : (text : List ℕ) (circuit : Circuit) (scale : Scale) (items one two : List code_stated.Stated) (h : IsReadOf text circuit scale items one two) → map (λ s. stated_seen s) two ≡ all_stated decimals text
+same-statements text circuit scale items one two h = ap (map (λ s. stated_seen s)) h.second ∙ h.made
+
+pub statement-stands : (text : List ℕ) (circuit : Circuit) (scale : Scale) (items one two : List code_stated.Stated) (r : Refused StimKind) → IsReadOf text circuit scale items one two → RefusesOneOf (faults_behind circuit scale [] (map (λ s. stated_seen s) two)) r
+    → RefusalStands text circuit r
+statement-stands text circuit scale items one two r h fault =
+    behind-stands text circuit (map (λ s. stated_seen s) two) r (same-statements text circuit scale items one two h)
+    (subst (λ k. RefusesOneOf (faults_behind circuit k [] (map (λ s. stated_seen s) two)) r) (same-scale text circuit scale items one two h) fault)
+
+all-read : (text : List ℕ) (circuit : Circuit) (scale : Scale) (items one two : List code_stated.Stated) (steps : List Step) (end : Option ℕ) → IsReadOf text circuit scale items one two → IsAllRead circuit scale (map (λ s. stated_seen s) two) steps end
+    → IsAllRead circuit (scale_of circuit (map (λ s. stated_seen s) two)) (map (λ s. stated_seen s) two) steps end
+all-read text circuit scale items one two steps end h all = subst (λ k. IsAllRead circuit k (map (λ s. stated_seen s) two) steps end) (same-scale text circuit scale items one two h) all
+
+pub end-stands : (text : List ℕ) (circuit : Circuit) (scale : Scale) (items one two : List code_stated.Stated) (steps : List Step) → IsReadOf text circuit scale items one two → IsAllRead circuit scale (map (λ s. stated_seen s) two) steps None
+    → RefusalStands text circuit (told NoEnd (length text))
+end-stands text circuit scale items one two steps h all =
+    no-end-stands text circuit (map (λ s. stated_seen s) two) steps (same-statements text circuit scale items one two h) (all-read text circuit scale items one two steps None h all)
+
+pub reads : (text : List ℕ) (circuit : Circuit) (scale : Scale) (items one two : List code_stated.Stated) (steps : List Step) (n : ℕ) → length text ≤ 2 ^ 28 → IsReadOf text circuit scale items one two
+    → IsAllRead circuit scale (map (λ s. stated_seen s) two) steps (Some n) → IsRead text circuit (record { steps = steps; end = n })
+reads text circuit scale items one two steps n short h all =
+    is-read text circuit (map (λ s. stated_seen s) two) steps n short (same-statements text circuit scale items one two h) (all-read text circuit scale items one two steps (Some n) h all)
+
+pub applies : (text : List ℕ) (circuit : Circuit) (scale : Scale) (items one two : List code_stated.Stated) (steps : List Step) (n : ℕ) → IsReadOf text circuit scale items one two
+    → IsAllRead circuit scale (map (λ s. stated_seen s) two) steps (Some n) → IsApplied circuit (record { steps = steps; end = n })
+applies text circuit scale items one two steps n h all = is-applied circuit (map (λ s. stated_seen s) two) steps n (all-read text circuit scale items one two steps (Some n) h all)

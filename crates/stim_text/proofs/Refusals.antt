@@ -55,5 +55,5 @@ meaning-refused circuit scale before byte form r h = refused-right (fault_if (is
 pub exit-match : {A : Type 0} (P : A → Type 0) (fs : List Fault) (result : Result A (Refused StimKind)) (e : Refused StimKind) → ((x : Refused StimKind) × (result ≡ Err x) × (x ≡ e)) → RefusesOneOf fs e → MatchResult result P (RefusesOneOf fs)
 exit-match P fs result e (x, r, s) h = subst (λ y. MatchResult y P (RefusesOneOf fs)) (sym r) (subst (RefusesOneOf fs) (sym s) h)
 
-pub exit-err : {A : Type 0} (fs : List Fault) (result : Result A (Refused StimKind)) (e : Refused StimKind) → ((x : Refused StimKind) × (result ≡ Err x) × (x ≡ e)) → RefusesOneOf fs e → IfErr result (RefusesOneOf fs)
-exit-err fs result e (x, r, s) h = subst (λ y. IfErr y (RefusesOneOf fs)) (sym r) (subst (RefusesOneOf fs) (sym s) h)
+pub exit-by : {A : Type 0} (P : Refused StimKind → Type 0) (result : Result A (Refused StimKind)) (e : Refused StimKind) → ((x : Refused StimKind) × (result ≡ Err x) × (x ≡ e)) → P e → IfErr result P
+exit-by P result e (x, r, s) h = subst (λ y. IfErr y P) (sym r) (subst P (sym s) h)

@@ -16,6 +16,7 @@ use Rattle.stim_text.specs.declared.steps.Meant.TheVariants as meant
 use Rattle.stim_text.specs.Sets.{Set}
 use Rattle.stim_text.specs.Forms.{Form, unit_is, sets_at, ends_at, other, Stated}
 use Rattle.stim_text.specs.Times.{Scale, ticks}
+use Rattle.stim_text.specs.Inputs.{all_set}
 use Rattle.stim_text.specs.Faults.{is_end, last_time, faults_of, faults_behind}
 use Rattle.stim_text.specs.Reading.{form_steps, form_end, steps_at}
 use Rattle.stim_text.specs.Meant.{IsLast, IsState, IsMeant, IsAllRead, Reached, RefusesOneOf, meant_steps, meant_end, state_after}
@@ -30,7 +31,7 @@ state-at : (circuit : Circuit) (scale : Scale) (state : code_state.State) (befor
 state-at circuit scale state before byte t sets meant.Nothing st is h = let e = is.0 in absurd (cc)
 state-at circuit scale state before byte t sets (meant.Step step) st is h =
     let e = is.0 in
-    let same : step_seen step ≡ _ = cc in
+    let same : step_seen step ≡ record { time = ticks scale t; sets = all_set circuit sets } = cc in
     record { first = not-none (sets_at t sets) before; ended = st.ended; times = (ap (λ (s : Step). s.time) same, (is-fine-at circuit scale before byte t sets h).timed.whole) }
 state-at circuit scale state before byte t sets (meant.End n) st is h = let e = is.0 in absurd (cc)
 

@@ -11,6 +11,7 @@ use Rattle.stim_read.specs.Seen.{step_seen}
 use Rattle.stim_text.specs.declared.kinds.StimKind.{StimKind}
 use Rattle.stim_text.specs.declared.kinds.StimKind.TheVariants.{Syntax, TimeNotRising, NotWholeTick, TooLarge}
 use Rattle.stim_text.specs.declared.steps.State as code_state
+use Rattle.stim_text.specs.declared.steps.Meant as code_meant
 use Rattle.stim_text.specs.declared.steps.Meant.TheVariants as meant
 use Rattle.stim_text.specs.Sets.{Set}
 use Rattle.stim_text.specs.Forms.{Form, unit_is, sets_at, ends_at, other}
@@ -148,3 +149,14 @@ end-meant circuit scale state before byte t n st e times = ((refl, ap Some times
 
 pub other-refused : (circuit : Circuit) (scale : Scale) (before : List Form) (byte : ℕ) → RefusesOneOf (faults_of circuit scale before (record { byte = byte; form = other })) (told Syntax byte)
 other-refused circuit scale before byte = misplaced-refused circuit scale before byte other refl
+
+-- ---- by the code's form
+
+pub told-as : (circuit : Circuit) (scale : Scale) (before : List Form) (byte : ℕ) (one other_form : Form) (r : Refused StimKind) → one ≡ other_form → RefusesOneOf (faults_of circuit scale before (record { byte = byte; form = other_form })) r
+    → RefusesOneOf (faults_of circuit scale before (record { byte = byte; form = one })) r
+told-as circuit scale before byte one other_form r e h = subst (λ f. RefusesOneOf (faults_of circuit scale before (record { byte = byte; form = f })) r) (sym e) h
+
+pub meant-as : (circuit : Circuit) (scale : Scale) (before : List Form) (byte : ℕ) (one other_form : Form) (m : code_meant.Meant) → one ≡ other_form
+    → IsMeant circuit scale other_form m × (faults_of circuit scale before (record { byte = byte; form = other_form }) ≡ []) → IsMeant circuit scale one m × (faults_of circuit scale before (record { byte = byte; form = one }) ≡ [])
+meant-as circuit scale before byte one other_form m e h =
+    subst (λ f. IsMeant circuit scale f m × (faults_of circuit scale before (record { byte = byte; form = f }) ≡ [])) (sym e) h
