@@ -1,7 +1,8 @@
 // Netlists of many instances of a cell.
 use std::alloc::{AllocError, Global};
 
-const CELL: &str = "module cell (input a, b, output y);\n  wire n, m;\n  nand (n, a, b);\n  nor (m, a, n);\n  xor (y, n, m);\nendmodule\n";
+const CELL: &str =
+    "module cell (input a, b, output y);\n  wire n, m;\n  nand (n, a, b);\n  nor (m, a, n);\n  xor (y, n, m);\nendmodule\n";
 
 // How many modules stand in another, at each of the two upper levels.
 const BRANCHES: u32 = 17;
@@ -10,7 +11,10 @@ const BRANCHES: u32 = 17;
 fn add_chain(text: &mut String, count: u32) -> Result<(), AllocError> {
     for number in 0..count {
         let next = number.saturating_add(1);
-        writeln!(text, "  cell u{number} (.a(n{number}), .b(a), .y(n{next}));")?;
+        writeln!(
+            text,
+            "  cell u{number} (.a(n{number}), .b(a), .y(n{next}));"
+        )?;
     }
     Ok(())
 }
