@@ -1,12 +1,12 @@
 -- What a text says of a circuit can be applied to it.
-use Rattle.std.proofs.Common.{inl, inr, ℕ, ◌≡◌, ◌++◌, ◌<◌, ◌≤◌, ◌^◌, List, [], ◌∷◌, length, Bool, true, false, nat_lt, refl, sym, ap, ◌∙◌, subst, arith, Some, None}
+use Rattle.std.proofs.Common.{ℕ, ◌≡◌, ◌++◌, ◌<◌, ◌≤◌, ◌^◌, List, [], ◌∷◌, true, false, refl, sym, ap, ◌∙◌, subst, arith, Some, None}
 use Rattle.std.specs.Prelude.{Option, All, filter_map, flat_map, slice_index_or}
 use Rattle.std.specs.List.{list_any}
 use Rattle.std.proofs.lemmas.Bool.{ltb-true, ltb-false}
-use Rattle.std.proofs.lemmas.List.Elements.{All-nil, All-cons, All-head, All-tail, All-append}
+use Rattle.std.proofs.lemmas.List.Elements.{All-nil, All-cons, All-head, All-append}
 use Rattle.sg_circuit.specs.Circuit.{Circuit}
 use Rattle.sg_time.specs.Spelling.{Number}
-use Rattle.stim_read.specs.Stimulus.{Step, Stimulus}
+use Rattle.stim_read.specs.Stimulus.{Step}
 use Rattle.stim_read.specs.Applied.{IsApplied, IsBefore, IsInput, StepsRise, SetsOnce}
 use Rattle.stim_text.specs.Forms.{Form, unit_is, sets_at, ends_at, other, Stated}
 use Rattle.stim_text.specs.Times.{Scale, is_whole, is_before, ticks}

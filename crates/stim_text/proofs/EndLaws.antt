@@ -1,19 +1,19 @@
 -- All statements are read: what that makes of the text.
-use Rattle.std.proofs.Common.{inl, inr, ℕ, ◌≡◌, ◌++◌, ◌<◌, ◌≤◌, ◌^◌, List, [], ◌∷◌, length, map, Bool, true, false, not, nat_lt, refl, sym, ap, ◌∙◌, subst, arith, Some, None}
-use Rattle.std.specs.Prelude.{Option, filter_map, option_to_list, slice_index_or}
+use Rattle.std.proofs.Common.{ℕ, ◌≡◌, ◌<◌, ◌≤◌, ◌^◌, List, [], ◌∷◌, length, map, true, false, not, nat_lt, refl, sym, ap, ◌∙◌, subst, Some, None}
+use Rattle.std.specs.Prelude.{Option, slice_index_or}
 use Rattle.std.specs.List.{list_any}
 use Rattle.std.proofs.lemmas.Bool.{lt-ltb, le-ltb}
 use Rattle.sg_circuit.specs.Circuit.{Circuit}
 use Rattle.sg_text.specs.declared.refusals.Refused.{Refused}
 use Rattle.sg_text.specs.declared.refusals.Refused.TheVariants as refused
-use Rattle.stim_read.specs.Stimulus.{Step, Stimulus}
+use Rattle.stim_read.specs.Stimulus.{Step}
 use Rattle.stim_read.specs.Applied.{IsApplied}
 use Rattle.stim_text.specs.declared.kinds.StimKind.{StimKind}
 use Rattle.stim_text.specs.declared.kinds.StimKind.TheVariants.{NoEnd, TooLarge}
 use Rattle.stim_text.specs.Forms.{Form, unit_is, sets_at, ends_at, other, Stated, all_stated}
 use Rattle.stim_text.specs.Times.{Scale}
-use Rattle.stim_text.specs.Faults.{Fault, fault_if, is_end, faults, faults_behind, stated_faults, scale_of, no_end, too_long, most_bytes}
-use Rattle.stim_text.specs.Reading.{FaultStands, IsRead, RefusalStands, form_end, steps_at, stimulus_stated}
+use Rattle.stim_text.specs.Faults.{is_end, faults_behind, stated_faults, scale_of, no_end, too_long, most_bytes}
+use Rattle.stim_text.specs.Reading.{IsRead, RefusalStands, stimulus_stated}
 use Rattle.stim_text.specs.Meant.{IsAllRead, RefusesOneOf}
 use Rattle.stim_text.specs.declared.statements.Stated as code_stated
 use Rattle.stim_text.specs.Seen.{decimals, stated_seen}

@@ -1,10 +1,10 @@
 -- Worked examples of what texts say.
-use Rattle.std.specs.Prelude.{◌≡◌, [], ◌∷◌, ◌++◌, true, false, Some, None, codes, refl, pos, negsuc}
+use Rattle.std.specs.Prelude.{◌≡◌, [], ◌∷◌, ◌++◌, false, Some, None, codes, refl, pos, negsuc}
 use Rattle.sg_logic.specs.declared.values.Value.TheVariants.{Zero, One}
-use Rattle.stim_text.specs.Lines.{lines, words, statements, without_return}
+use Rattle.stim_text.specs.Lines.{lines, words, statements}
 use Rattle.stim_text.specs.Sets.{set_in}
 use Rattle.stim_text.specs.Forms.{unit_in}
-use Rattle.stim_text.specs.Times.{is_whole, ticks, is_before}
+use Rattle.stim_text.specs.Times.{is_whole, ticks}
 use Rattle.stim_text.specs.Inputs.{last_of_each, position_at, index_value}
 
 -- a CR before a LF is dropped, and none at the end of the file; a comment is passed over

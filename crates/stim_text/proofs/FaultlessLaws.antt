@@ -1,5 +1,5 @@
 -- What is so of statements in which no fault stands.
-use Rattle.std.proofs.Common.{inl, inr, ℕ, ◌≡◌, ◌++◌, ◌<◌, List, [], ◌∷◌, length, Bool, true, false, not, nat_lt, refl, sym, ap, ◌∙◌, arith, Some}
+use Rattle.std.proofs.Common.{ℕ, ◌≡◌, ◌++◌, List, [], ◌∷◌, length, Bool, true, false, not, refl, arith}
 use Rattle.std.specs.List.{list_any}
 use Rattle.std.proofs.lemmas.Bool.{lt-ltb}
 use Rattle.sg_circuit.specs.Circuit.{Circuit}
@@ -8,7 +8,7 @@ use Rattle.stim_text.specs.declared.kinds.StimKind.{StimKind}
 use Rattle.stim_text.specs.Sets.{Set}
 use Rattle.stim_text.specs.Forms.{Form, unit_is, sets_at, ends_at, other, Stated}
 use Rattle.stim_text.specs.Times.{Scale, is_whole, is_too_large}
-use Rattle.stim_text.specs.Faults.{Fault, fault, fault_if, is_end, is_misplaced, is_after, is_early, last_time, time_faults, faults_of, faults_behind}
+use Rattle.stim_text.specs.Faults.{fault_if, is_end, is_misplaced, is_after, is_early, last_time, time_faults, faults_of, faults_behind}
 
 pub no-left : {A : Type 0} (xs ys : List A) → xs ++ ys ≡ [] → xs ≡ []
 no-left [] ys e = refl

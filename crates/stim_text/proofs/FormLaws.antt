@@ -1,5 +1,5 @@
 -- What times say.
-use Rattle.std.proofs.Common.{ℕ, ◌≡◌, List, Bool, false, refl, ap, ◌∙◌}
+use Rattle.std.proofs.Common.{ℕ, ◌≡◌, List, false, ap, ◌∙◌}
 use Rattle.std.specs.Prelude.{Option, Result}
 use Rattle.sg_time.specs.declared.decimal.TimeError.{TimeError}
 use Rattle.sg_time.specs.Spelling.{Number}

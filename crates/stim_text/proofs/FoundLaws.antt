@@ -1,10 +1,10 @@
 -- An input that is found by its name.
-use Rattle.std.proofs.Common.{inl, inr, ℕ, ◌≡◌, ◌&&◌, List, [], ◌∷◌, map, Bool, true, false, refl, sym, ap, ◌∙◌, Some, None}
+use Rattle.std.proofs.Common.{inl, inr, ℕ, ◌≡◌, ◌&&◌, List, [], ◌∷◌, map, Bool, refl, sym, ap, ◌∙◌, Some, None}
 use Rattle.std.specs.Prelude.{Option, find, option_map, bytes_eq}
 use Rattle.std.specs.Borrow.{Bor}
 use Rattle.std.proofs.lemmas.Bool.{cases_Bool}
 use Rattle.sg_circuit.specs.declared.scopes.Variable as code_variable
-use Rattle.sg_circuit.specs.Circuit.{Circuit, Variable, scope_at}
+use Rattle.sg_circuit.specs.Circuit.{Circuit, scope_at}
 use Rattle.sg_circuit.specs.Seen.{variable_seen}
 use Rattle.stim_text.specs.Inputs.{is_input, input_named}
 

@@ -1,9 +1,8 @@
 -- The last set of each net, from the back.
-use Rattle.std.proofs.Common.{inl, inr, ℕ, ◌≡◌, ◌++◌, ◌==◌, ◌||◌, List, [], ◌∷◌, length, map, drop, reverse, Bool, true, false, not, nat_eq, refl, sym, ap, ◌∙◌, subst}
+use Rattle.std.proofs.Common.{inl, inr, ℕ, ◌≡◌, ◌++◌, ◌==◌, ◌||◌, List, [], ◌∷◌, length, map, drop, reverse, Bool, true, false, not, nat_eq, refl, sym, ap, ◌∙◌}
 use Rattle.std.specs.Prelude.{if◌then◌else◌}
-use Rattle.std.specs.List.{list_any}
 use Rattle.std.proofs.lemmas.Bool.{cases_Bool, eqb-true, eqb-false, eq-eqb, ne_eqb}
-use Rattle.std.proofs.lemmas.List.{append_assoc, append-nil, map-append, reverse-append}
+use Rattle.std.proofs.lemmas.List.{append-nil, map-append, reverse-append}
 use Rattle.std.proofs.lemmas.List.Folds.{list_any-append}
 use Rattle.indexmap.specs.IndexSet.{insert_key}
 use Rattle.sg_logic.specs.declared.values.Value.{Value}

@@ -1,6 +1,6 @@
 -- The lines that the reader has made.
 use Rattle.std.proofs.Common.{ℕ, ◌≡◌, ◌+◌, ◌-◌, ◌<◌, ◌≤◌, List, [], ◌∷◌, ◌++◌, length, map, take, drop, refl, sym, ap, ◌∙◌, subst, arith}
-use Rattle.std.specs.Prelude.{Option, Some, None, position}
+use Rattle.std.specs.Prelude.{Some, None, position}
 use Rattle.std.specs.List.{slice_split}
 use Rattle.std.proofs.lemmas.List.{map-append, length-take, length-drop}
 use Rattle.stim_text.specs.declared.lines.Line as code_line

@@ -1,5 +1,5 @@
 -- A text says one stimulus at most, and none where a fault stands.
-use Rattle.std.proofs.Common.{ℕ, ◌≡◌, ◌<◌, List, [], refl, sym, ap, ◌∙◌, subst, length, arith}
+use Rattle.std.proofs.Common.{ℕ, ◌≡◌, List, [], sym, ap, ◌∙◌, length, arith}
 use Rattle.std.proofs.Math.Path.{fun_ext}
 use Rattle.std.specs.List.{IsAmong}
 use Rattle.sg_circuit.specs.Circuit.{Circuit}

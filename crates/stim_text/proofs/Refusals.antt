@@ -1,10 +1,9 @@
 -- One of several faults is refused.
-use Rattle.std.proofs.Common.{ℕ, ◌≡◌, ◌+◌, List, [], ◌∷◌, ◌++◌, length, Bool, true, false, refl, sym, ap, ◌∙◌, subst, arith, length-append}
+use Rattle.std.proofs.Common.{ℕ, ◌≡◌, ◌+◌, List, [], ◌∷◌, ◌++◌, length, Bool, true, refl, sym, ◌∙◌, subst, arith, length-append}
 use Rattle.std.specs.Prelude.{Result, Err, MatchResult, IfErr}
 use Rattle.std.specs.List.{IsAmong}
 use Rattle.std.proofs.lemmas.List.{get_or_append_left, get_or-append-add}
 use Rattle.sg_circuit.specs.Circuit.{Circuit}
-use Rattle.sg_text.specs.declared.places.Place.{Place}
 use Rattle.sg_text.specs.declared.refusals.Refused.{Refused}
 use Rattle.sg_text.specs.declared.refusals.Refused.TheVariants as refused
 use Rattle.stim_text.specs.declared.kinds.StimKind.{StimKind}

@@ -1,6 +1,6 @@
 -- Lines stand inside the text, and words are no longer than the line.
-use Rattle.std.proofs.Common.{inl, inr, ℕ, suc, ◌≡◌, ◌+◌, ◌<◌, ◌≤◌, ◌^◌, ◌==◌, List, [], ◌∷◌, ◌++◌, length, map, Bool, true, false, refl, sym, ap, ◌∙◌, subst, arith}
-use Rattle.std.specs.Prelude.{All, filter, nat_lt}
+use Rattle.std.proofs.Common.{inl, inr, ℕ, suc, ◌≡◌, ◌+◌, ◌<◌, ◌≤◌, ◌^◌, ◌==◌, List, [], ◌∷◌, ◌++◌, length, map, Bool, sym, subst, arith}
+use Rattle.std.specs.Prelude.{All, nat_lt}
 use Rattle.std.specs.List.{slice_split, onto_first}
 use Rattle.std.specs.Borrow.{Bor}
 use Rattle.std.proofs.lemmas.Bool.{cases_Bool}
@@ -23,7 +23,7 @@ rows-short p (x ∷ xs) = elim (cases_Bool (p x)) [
 
 pub return-short : (row : List ℕ) → length (without_return row) ≤ length row
 return-short [] = omega arith
-return-short (b ∷ []) = elim (cases_Bool (b == 13)) [ | inl y ↦ rw y (omega arith) | inr n ↦ rw n (omega arith) ]
+return-short (b ∷ []) = elim (cases_Bool (b == 13)) [ inl y ↦ rw y (omega arith) | inr n ↦ rw n (omega arith) ]
 return-short (b ∷ c ∷ bs) = let l = return-short (c ∷ bs) in omega (arith, l)
 
 words-short : (line : List ℕ) → All (λ w. length w ≤ length line) (words line)

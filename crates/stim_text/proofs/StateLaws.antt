@@ -1,7 +1,6 @@
 -- What is known of the statements so far, and one more.
-use Rattle.std.proofs.Common.{inl, inr, ℕ, suc, ◌≡◌, ◌++◌, ◌<◌, ◌==◌, List, [], ◌∷◌, length, Bool, true, false, not, nat_lt, refl, sym, ap, ◌∙◌, subst, arith, Some, None}
-use Rattle.std.specs.Prelude.{Option, is_some, filter_map, option_to_list, ◌||◌}
-use Rattle.std.specs.List.{list_any}
+use Rattle.std.proofs.Common.{ℕ, ◌≡◌, ◌++◌, ◌==◌, List, [], ◌∷◌, length, true, false, refl, sym, ap, ◌∙◌, subst, arith, Some, None}
+use Rattle.std.specs.Prelude.{Option, is_some, filter_map, option_to_list}
 use Rattle.std.proofs.lemmas.Bool.{ne_eqb}
 use Rattle.std.proofs.lemmas.List.{append_assoc, append-nil}
 use Rattle.sg_circuit.specs.Circuit.{Circuit}
@@ -17,9 +16,9 @@ use Rattle.stim_text.specs.Sets.{Set}
 use Rattle.stim_text.specs.Forms.{Form, unit_is, sets_at, ends_at, other, Stated}
 use Rattle.stim_text.specs.Times.{Scale, ticks}
 use Rattle.stim_text.specs.Inputs.{all_set}
-use Rattle.stim_text.specs.Faults.{is_end, last_time, faults_of, faults_behind}
+use Rattle.stim_text.specs.Faults.{faults_of, faults_behind}
 use Rattle.stim_text.specs.Reading.{form_steps, form_end, steps_at}
-use Rattle.stim_text.specs.Meant.{IsLast, IsState, IsMeant, IsAllRead, Reached, RefusesOneOf, meant_steps, meant_end, state_after}
+use Rattle.stim_text.specs.Meant.{IsState, IsMeant, IsAllRead, Reached, RefusesOneOf, meant_steps, meant_end, state_after}
 use Rattle.stim_text.proofs.FaultlessLaws.{is-fine-at, is-fine-end, no-other}
 use Rattle.stim_text.proofs.Refusals.{refused-left}
 

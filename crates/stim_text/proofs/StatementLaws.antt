@@ -1,12 +1,11 @@
 -- The statements of lines, one after another.
-use Rattle.std.proofs.Common.{inl, inr, ℕ, ◌≡◌, ◌++◌, List, [], ◌∷◌, map, Bool, true, false, not, refl, sym, ap, ◌∙◌}
-use Rattle.std.specs.Prelude.{filter}
+use Rattle.std.proofs.Common.{inl, inr, ℕ, ◌≡◌, ◌++◌, List, [], ◌∷◌, map, true, false, refl, sym, ap, ◌∙◌}
 use Rattle.std.proofs.lemmas.Bool.{cases_Bool}
 use Rattle.std.proofs.lemmas.List.{append_assoc, append-nil, map-append}
 use Rattle.stim_text.specs.declared.lines.Line as code_line
 use Rattle.stim_text.specs.declared.statements.Stated as code_stated
 use Rattle.stim_text.specs.Lines.{Line, is_passed_over, statement, words, lines}
-use Rattle.stim_text.specs.Forms.{Form, Stated, form_in, all_stated}
+use Rattle.stim_text.specs.Forms.{Stated, form_in, all_stated}
 use Rattle.stim_text.specs.Seen.{decimals, line_seen, stated_seen, stated_lines}
 
 stated-first : (l : Line) (ls : List Line) → stated_lines (l ∷ ls) ≡ stated_lines (l ∷ []) ++ stated_lines ls

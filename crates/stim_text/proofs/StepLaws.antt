@@ -1,12 +1,10 @@
 -- What a statement means, or which of its faults is told.
-use Rattle.std.proofs.Common.{inl, inr, ℕ, ◌≡◌, ◌++◌, ◌==◌, List, [], ◌∷◌, length, map, Bool, true, false, not, nat_lt, refl, sym, ap, ◌∙◌, subst, arith, Some, None, Result, Ok, Err}
-use Rattle.std.specs.Prelude.{Option, is_some, flat_map, if◌then◌else◌, nat_le}
-use Rattle.std.specs.List.{list_any}
+use Rattle.std.proofs.Common.{ℕ, ◌≡◌, ◌++◌, ◌==◌, List, [], ◌∷◌, length, Bool, true, false, not, nat_lt, refl, sym, ap, ◌∙◌, subst, arith, Some, None, Result, Ok, Err}
+use Rattle.std.specs.Prelude.{Option, is_some, flat_map, if◌then◌else◌}
 use Rattle.std.proofs.lemmas.Bool.{lt-ltb, eqb-true}
 use Rattle.sg_circuit.specs.Circuit.{Circuit}
 use Rattle.sg_text.specs.declared.refusals.Refused.{Refused}
 use Rattle.sg_time.specs.Spelling.{Number}
-use Rattle.stim_read.specs.Stimulus.{Step}
 use Rattle.stim_read.specs.Seen.{step_seen}
 use Rattle.stim_text.specs.declared.kinds.StimKind.{StimKind}
 use Rattle.stim_text.specs.declared.kinds.StimKind.TheVariants.{Syntax, TimeNotRising, NotWholeTick, TooLarge}
@@ -15,9 +13,9 @@ use Rattle.stim_text.specs.declared.steps.Meant as code_meant
 use Rattle.stim_text.specs.declared.steps.Meant.TheVariants as meant
 use Rattle.stim_text.specs.Sets.{Set}
 use Rattle.stim_text.specs.Forms.{Form, unit_is, sets_at, ends_at, other}
-use Rattle.stim_text.specs.Times.{Scale, is_whole, is_too_large, is_before, ticks}
+use Rattle.stim_text.specs.Times.{Scale, is_whole, is_too_large, ticks}
 use Rattle.stim_text.specs.Inputs.{all_set}
-use Rattle.stim_text.specs.Faults.{Fault, fault_if, is_end, is_misplaced, is_after, is_early, last_time, set_faults, time_faults, at_faults, end_faults, meaning_faults, faults_of}
+use Rattle.stim_text.specs.Faults.{fault_if, is_after, is_early, last_time, set_faults, time_faults, at_faults, end_faults, faults_of}
 use Rattle.stim_text.specs.Meant.{IsLast, IsState, IsMeant, RefusesOneOf, time_ticks, is_after_ticks, is_early_ticks}
 use Rattle.stim_text.proofs.TimeLaws.{before-ticks}
 use Rattle.stim_text.proofs.FaultlessLaws.{is-timed}

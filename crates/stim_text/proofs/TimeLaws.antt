@@ -1,14 +1,13 @@
 -- Times in whole ticks.
-use Rattle.std.proofs.Common.{inl, inr, zero, suc, ℕ, ◌≡◌, ◌∙◌, sym, refl, ap, ◌+◌, ◌*◌, ◌/◌, ◌%◌, ◌^◌, ◌==◌, ◌<◌, ◌≤◌, arith, Bool, true, false, Result, Ok, Err}
-use Rattle.std.specs.Prelude.{nat_le, nat_lt, not, if◌then◌else◌}
-use Rattle.std.proofs.Math.Nat.{pow-le-pow_right, pow-zero, mod-one, div-one, zero-mod, zero-div, mod-eq_of_lt, mul-le-mul, mul-le-mul_left, mul_assoc, mul_comm, mul_right_comm}
+use Rattle.std.proofs.Common.{inl, inr, ℕ, ◌≡◌, ◌∙◌, sym, refl, ap, ◌+◌, ◌*◌, ◌/◌, ◌%◌, ◌^◌, ◌<◌, ◌≤◌, arith, true, false, Ok, Err}
+use Rattle.std.specs.Prelude.{nat_lt}
+use Rattle.std.proofs.Math.Nat.{mod-one, div-one, zero-mod, zero-div, mod-eq_of_lt, mul-le-mul_left, mul_assoc, mul_comm}
 use Rattle.std.proofs.lemmas.Nat.{div-add-mod', mul-le, div_below}
-use Rattle.std.proofs.lemmas.Bool.{cases_lt, cases_Bool, eqb-true, ne_eqb, ltb-true, ltb-false, lt-ltb, le-ltb, lt-leb, le-leb, leb-false}
+use Rattle.std.proofs.lemmas.Bool.{cases_lt, eqb-true, ne_eqb, lt-ltb, le-ltb, lt-leb, le-leb, leb-false}
 use Rattle.sg_time.specs.Spelling.{Number}
 use Rattle.sg_time.proofs.ScalingLaws.{pow_at_least, one_at_least}
-use Rattle.stim_text.specs.declared.kinds.StimKind.{StimKind}
 use Rattle.stim_text.specs.declared.kinds.StimKind.TheVariants.{NotWholeTick, TooLarge}
-use Rattle.stim_text.specs.Times.{Scale, numerator, denominator, is_whole, ticks, is_before, is_too_large, power_in}
+use Rattle.stim_text.specs.Times.{Scale, numerator, denominator, is_whole, ticks, is_before, is_too_large}
 use Rattle.stim_text.specs.Meant.{fraction_ticks}
 
 mod-of-one : (n : ℕ) → n % 1 ≡ 0

@@ -1,5 +1,5 @@
 -- Faults of a stimulus's text: each cause of refusal is the list of the places that have it.
-use Rattle.std.specs.Prelude.{ℕ, ℤ, ◌^◌, ◌==◌, ◌&&◌, ◌||◌, negsuc, Bool, true, false, not, List, [], ◌∷◌, ◌++◌, length, map, flat_map, nat_lt, Option, Some, None, if◌then◌else◌}
+use Rattle.std.specs.Prelude.{ℕ, ℤ, ◌^◌, ◌==◌, negsuc, Bool, true, false, not, List, [], ◌∷◌, ◌++◌, length, flat_map, nat_lt, Option, Some, None, if◌then◌else◌}
 use Rattle.std.specs.List.{list_any}
 use Rattle.sg_text.specs.declared.places.Place.{Place}
 use Rattle.sg_time.specs.Spelling.{Number}

@@ -1,5 +1,5 @@
 -- The forms of statements.
-use Rattle.std.specs.Prelude.{ℕ, ◌==◌, ◌&&◌, ◌||◌, Bool, false, List, [], ◌∷◌, drop, map, filter_map, bytes_eq, codes, nat_le, ℤ, pos, negsuc, ◌+ℤ◌, Option, Some, None, option_map, is_some, Result, Ok, Err, if◌then◌else◌}
+use Rattle.std.specs.Prelude.{ℕ, ◌==◌, ◌||◌, Bool, false, List, [], ◌∷◌, drop, map, filter_map, bytes_eq, codes, nat_le, ℤ, pos, negsuc, ◌+ℤ◌, Option, Some, None, option_map, is_some, Result, Ok, Err, if◌then◌else◌}
 use Rattle.std.specs.List.{list_all, prefix_len}
 use Rattle.sg_time.specs.declared.decimal.TimeError.{TimeError}
 use Rattle.sg_time.specs.Spelling.{Number, Says}

@@ -1,6 +1,6 @@
 -- The inputs of the top, and what sets do to them. The nets that the stimulus drives are the bits of the top's inputs, so an
 -- input is a variable of the top's scope all of whose bits the stimulus drives.
-use Rattle.std.specs.Prelude.{ℕ, ◌+◌, ◌-◌, ◌*◌, ◌==◌, ◌&&◌, ◌||◌, Bool, true, false, not, List, [], ◌∷◌, ◌++◌, length, map, zip, find, flat_map, slice_get, bytes_eq, nat_lt, ℤ, pos, neg_ℤ, ◌-ℤ◌, nat_abs, int_le, Option, Some, None, option_map, option_and_then, if◌then◌else◌}
+use Rattle.std.specs.Prelude.{ℕ, ◌==◌, ◌&&◌, ◌||◌, Bool, true, false, List, [], ◌∷◌, length, map, zip, find, flat_map, slice_get, bytes_eq, nat_lt, ℤ, pos, neg_ℤ, ◌-ℤ◌, nat_abs, int_le, Option, Some, None, option_map, option_and_then, if◌then◌else◌}
 use Rattle.std.specs.List.{list_any, list_all}
 use Rattle.sg_logic.specs.declared.values.Value.{Value}
 use Rattle.sg_logic.specs.declared.values.Value.TheVariants.{Zero, One, X, Z}

@@ -1,5 +1,5 @@
 -- Joins the definitions to the reader: what it makes of a time and of a statement, and what it knows of the statements before one.
-use Rattle.std.specs.Prelude.{ℕ, suc, ℤ, negsuc, ◌≡◌, ◌*◌, ◌/◌, ◌%◌, ◌^◌, ◌==◌, ◌<ℤ◌, pos, ◌⊎◌, Bool, true, false, not, nat_le, nat_lt, nat_eq, List, [], ◌∷◌, ◌++◌, Option, Some, None, is_some, Result, Ok, Err, if◌then◌else◌, length, map, flat_map, filter_map, option_to_list}
+use Rattle.std.specs.Prelude.{ℕ, ℤ, negsuc, ◌≡◌, ◌*◌, ◌/◌, ◌%◌, ◌^◌, ◌==◌, ◌<ℤ◌, pos, ◌⊎◌, Bool, true, false, not, nat_le, nat_lt, nat_eq, List, [], ◌∷◌, ◌++◌, Option, Some, None, is_some, Result, Ok, Err, if◌then◌else◌, length, filter_map, option_to_list}
 use Rattle.std.specs.List.{IsAmong, list_any}
 use Rattle.sg_circuit.specs.Circuit.{Circuit}
 use Rattle.sg_text.specs.declared.refusals.Refused.{Refused}

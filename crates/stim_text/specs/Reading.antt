@@ -10,7 +10,7 @@ use Rattle.stim_text.specs.declared.kinds.StimKind.{StimKind}
 use Rattle.stim_text.specs.Forms.{Decimals, AreDecimals, Form, unit_is, sets_at, ends_at, other, Stated, all_stated}
 use Rattle.stim_text.specs.Times.{Scale, ticks}
 use Rattle.stim_text.specs.Inputs.{all_set}
-use Rattle.stim_text.specs.Faults.{Fault, faults, scale_of}
+use Rattle.stim_text.specs.Faults.{faults, scale_of}
 
 -- a step for each `at`
 abbrev pub form_steps : Circuit → Scale → Form → List Step

@@ -1,5 +1,5 @@
 -- What the reader's values stand for.
-use Rattle.std.specs.Prelude.{ℕ, List, map, Option, option_map, filter, not}
+use Rattle.std.specs.Prelude.{List, map, option_map, filter, not}
 use Rattle.sg_time.specs.Seen.{number}
 use Rattle.sg_time.specs.Reading.{parts_of, said_of}
 use Rattle.stim_text.specs.Lines.{Line, is_passed_over, statement}

@@ -10,6 +10,8 @@ mod reading;
 mod sets;
 mod statements;
 mod steps;
+#[cfg(test)]
+mod tests;
 mod times;
 
 pub use kinds::StimKind;

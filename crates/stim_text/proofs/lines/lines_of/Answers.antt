@@ -1,6 +1,6 @@
 -- One line more.
 use Rattle.std.proofs.Common.{arith, refl, length, ap}
-use Rattle.std.proofs.lemmas.List.{length-drop, length-take}
+use Rattle.std.proofs.lemmas.List.{length-drop}
 use Rattle.stim_text.specs.Lines.{lines}
 use Rattle.stim_text.proofs.Slices.{from-place}
 use Rattle.stim_text.proofs.ShortLaws.{inside-next, inside-none}

@@ -16,7 +16,7 @@ pub returns-in_err-read-clause-refused : goal.returns-in_err-read-clause-refused
 returns-in_err-read-clause-refused c =
     exit-by (RefusalStands c.args.bytes.now c.args.circuit.now) c.from_residual-in_err-read.result c.in_err-read.field-0.0 (err_from_is_err_and c.from_residual-in_err-read.result c.from_residual-in_err-read.ensures.1)
     (statement-stands c.args.bytes.now c.args.circuit.now (scale_seen c.scale_of.result) c.in_ok-stated.stated.items c.deref.result.now c.deref-2.result.now c.in_err-read.field-0.0
-      (record { made = c.in_ok-stated.ensures; first = c.deref.ensures.value; second = c.deref-2.ensures.value; scale_is = c.scale_of.ensures }) c.in_err-read.ensures)
+    (record { made = c.in_ok-stated.ensures; first = c.deref.ensures.value; second = c.deref-2.ensures.value; scale_is = c.scale_of.ensures }) c.in_err-read.ensures)
 
 pub returns-in-Some-clause-read : goal.returns-in-Some-clause-read
 returns-in-Some-clause-read c =
@@ -34,5 +34,5 @@ pub returns-clause-refused : goal.returns-clause-refused
 returns-clause-refused c =
     rw c.fault-in-None.ensures
     (end-stands c.args.bytes.now c.args.circuit.now (scale_seen c.scale_of.result) c.in_ok-stated.stated.items c.deref.result.now c.deref-2.result.now
-      (map (λ s. step_seen s) c.in_ok-read.read.steps.items) (record { made = c.in_ok-stated.ensures; first = c.deref.ensures.value; second = c.deref-2.ensures.value; scale_is = c.scale_of.ensures })
-      (subst (λ o. IsAllRead c.args.circuit.now (scale_seen c.scale_of.result) (map (λ s. stated_seen s) c.deref-2.result.now) (map (λ s. step_seen s) c.in_ok-read.read.steps.items) o) c.in-None.is c.in_ok-read.ensures))
+    (map (λ s. step_seen s) c.in_ok-read.read.steps.items) (record { made = c.in_ok-stated.ensures; first = c.deref.ensures.value; second = c.deref-2.ensures.value; scale_is = c.scale_of.ensures })
+    (subst (λ o. IsAllRead c.args.circuit.now (scale_seen c.scale_of.result) (map (λ s. stated_seen s) c.deref-2.result.now) (map (λ s. step_seen s) c.in_ok-read.read.steps.items) o) c.in-None.is c.in_ok-read.ensures))
