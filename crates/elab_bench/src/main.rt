@@ -8,10 +8,21 @@ use crate::shapes::{deep, flat};
 use anyhow::Context;
 use sg_delay::Corner;
 use sg_text::Place;
+use std::alloc::Global;
 use std::env;
 use vl_elab::elaborate;
 use vl_lex::lex;
 use vl_parse::parse;
+use vl_tree::Source;
+
+// The tree of a netlist, of whose tokens nothing is left.
+fn tree_of<'a>(alloc: Global, files: &'a [Vec<u8>], end: Place) -> anyhow::Result<Source<'a>> {
+    let tokens = lex(alloc, files)?;
+    match parse(alloc, &tokens, end) {
+        Ok(source) => Ok(source),
+        Err(_) => anyhow::bail!("no netlist"),
+    }
+}
 
 fn main(rt: HostRuntime) -> anyhow::Result<()> {
     let alloc = rt.alloc();
@@ -28,10 +39,7 @@ fn main(rt: HostRuntime) -> anyhow::Result<()> {
         byte: text.len() as u64,
     };
     let files = [text.into_bytes()];
-    let tokens = lex(alloc, &files)?;
-    let Ok(source) = parse(alloc, &tokens, end) else {
-        anyhow::bail!("no netlist");
-    };
+    let source = tree_of(alloc, &files, end)?;
     let Ok(circuit) = elaborate(alloc, &source, Some(b"top"), Corner::Typ) else {
         anyhow::bail!("no circuit");
     };
