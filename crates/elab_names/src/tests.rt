@@ -1,4 +1,4 @@
-// Modules that are built by hand: each list of what they declare, and each refusal once with its place and once nearly.
+// Modules that are built by hand: each list of what they declare, and names and ranges that differ.
 mod trees;
 
 use crate::*;
@@ -7,10 +7,9 @@ use sg_text::{NoMemory, Refused};
 use std::alloc::Global;
 use std::test::Fail;
 use trees::{
-    at, buffers, declared_in_head, input, module, name, named, net, output, ports, range, wires,
-    with_item,
+    at, buffers, declared_in_head, input, name, named, net, output, range, wires, with_item,
 };
-use vl_tree::{Direction, Head, Item};
+use vl_tree::Item;
 
 fn refused(checked: Result<(), Refused<ElabKind>>) -> Option<(ElabKind, u64)> {
     match checked {
@@ -22,11 +21,6 @@ fn refused(checked: Result<(), Refused<ElabKind>>) -> Option<(ElabKind, u64)> {
 // What is refused in the names of the module that has a further item.
 fn names_with(alloc: Global, item: Item) -> Result<Option<(ElabKind, u64)>, NoMemory> {
     Ok(refused(check_names(alloc, &with_item(alloc, item)?)))
-}
-
-// What is refused in all its declarations.
-fn declarations_with(alloc: Global, item: Item) -> Result<Option<(ElabKind, u64)>, NoMemory> {
-    Ok(refused(check_declarations(alloc, &with_item(alloc, item)?)))
 }
 
 #[test]
@@ -112,27 +106,6 @@ fn other_ranges_and_wide_ones(rt: HostRuntime) -> Result<(), Fail> {
     Ok(())
 }
 
-#[test]
-fn a_name_is_declared_twice(rt: HostRuntime) -> Result<(), Fail> {
-    let alloc = rt.alloc();
-    let direction = ports(alloc, Direction::Input, None, &[name(b"y", 40)])?;
-    assert_eq!(rt;
-        names_with(alloc, direction)?,
-        Some((ElabKind::DuplicateName, 40))
-    );
-    let nets = wires(alloc, None, &[name(b"y", 40), name(b"y", 41)])?;
-    assert_eq!(rt;
-        names_with(alloc, nets)?,
-        Some((ElabKind::DuplicateName, 41))
-    );
-    let gates = buffers(alloc, &[name(b"g", 40), name(b"g", 41)])?;
-    assert_eq!(rt;
-        names_with(alloc, gates)?,
-        Some((ElabKind::DuplicateName, 41))
-    );
-    Ok(())
-}
-
 // A port and its own net have one name, and so may a net and an instance.
 #[test]
 fn names_of_two_kinds_may_be_one(rt: HostRuntime) -> Result<(), Fail> {
@@ -141,63 +114,5 @@ fn names_of_two_kinds_may_be_one(rt: HostRuntime) -> Result<(), Fail> {
     assert_eq!(rt; names_with(alloc, nets)?, None);
     let gates = buffers(alloc, &[name(b"y", 40), name(b"a", 41)])?;
     assert_eq!(rt; names_with(alloc, gates)?, None);
-    Ok(())
-}
-
-#[test]
-fn ports_and_their_directions(rt: HostRuntime) -> Result<(), Fail> {
-    let alloc = rt.alloc();
-    let stray = ports(alloc, Direction::Output, None, &[name(b"b", 40)])?;
-    assert_eq!(rt;
-        names_with(alloc, stray)?,
-        Some((ElabKind::UnknownName, 40))
-    );
-    let list = [name(b"a", 10), name(b"a", 13)];
-    let twice = Head::Names(Vec::from_slice(alloc, &list)?);
-    assert_eq!(rt;
-        refused(check_names(alloc, &module(twice, Vec::new(alloc)))),
-        Some((ElabKind::DuplicateName, 13))
-    );
-    let once = Head::Names(Vec::from_slice(alloc, &list[..1])?);
-    assert_eq!(rt;
-        refused(check_names(alloc, &module(once, Vec::new(alloc)))),
-        Some((ElabKind::BadTerminal, 10))
-    );
-    Ok(())
-}
-
-#[test]
-fn ranges_of_a_port_and_its_net(rt: HostRuntime) -> Result<(), Fail> {
-    let alloc = rt.alloc();
-    let vector = wires(alloc, range(39, 0, 0), &[name(b"y", 40)])?;
-    assert_eq!(rt;
-        declarations_with(alloc, vector)?,
-        Some((ElabKind::WidthMismatch, 40))
-    );
-    let scalar = wires(alloc, None, &[name(b"y", 40)])?;
-    assert_eq!(rt; declarations_with(alloc, scalar)?, None);
-    let nets = wires(alloc, None, &[name(b"y", 40), name(b"y", 41)])?;
-    assert_eq!(rt;
-        declarations_with(alloc, nets)?,
-        Some((ElabKind::DuplicateName, 41))
-    );
-    Ok(())
-}
-
-#[test]
-fn widths_of_vectors(rt: HostRuntime) -> Result<(), Fail> {
-    let alloc = rt.alloc();
-    let wide = wires(alloc, range(39, 65536, 1), &[name(b"v", 40)])?;
-    assert_eq!(rt; declarations_with(alloc, wide)?, None);
-    let too_wide = wires(alloc, range(39, -32768, 32768), &[name(b"v", 40)])?;
-    assert_eq!(rt;
-        declarations_with(alloc, too_wide)?,
-        Some((ElabKind::TooMany, 40))
-    );
-    let widest = wires(alloc, range(39, i64::MIN, i64::MAX), &[name(b"v", 40)])?;
-    assert_eq!(rt;
-        declarations_with(alloc, widest)?,
-        Some((ElabKind::TooMany, 40))
-    );
     Ok(())
 }

@@ -1,17 +1,9 @@
 //! Simulates a netlist of gates under a stimulus, and writes its value change dump and a report.
 #![tactic(auto)]
 
-mod answer;
-mod phases;
 mod program;
-mod report;
-mod run;
-mod status;
-mod stop;
 #[cfg(test)]
 mod tests;
-mod words;
-mod work;
 
 use crate::program::program;
 use sg_io::{FileShelf, StdSink};

@@ -1,7 +1,7 @@
 use Rattle.std.proofs.Common.{refl, inl}
+use Rattle.signoff_top.specs.Promises.{LeavesUnfinished, no_memory}
+use Rattle.signoff_top.proofs.Putting.{both_same}
 use Rattle.signoff.specs.Program.{words_given}
-use Rattle.signoff.specs.Promises.{LeavesUnfinished, no_memory}
-use Rattle.signoff.proofs.Putting.{both_same}
 use Rattle.signoff.proofs.program.status_of.Goals as goal
 
 pub returns-in-Err : goal.returns-in-Err

@@ -1,0 +1,26 @@
+//! Runs whole cases over files in memory, and prints the status, the report and the dump of each. A case begins with a line `case NAME`. `file NAME` begins a file, whose lines
+//! follow; `open` takes away its last line end. `words W ..` are the words of the command line, and `made NAME` asks for a file that the run may have made.
+#![tactic(auto)]
+
+mod case;
+
+use crate::case::Case;
+
+fn main(rt: HostRuntime) -> anyhow::Result<()> {
+    let alloc = rt.alloc();
+    let mut out = String::new(alloc);
+    let mut case = Case::new(alloc);
+    for line in rt.lines(alloc) {
+        let line = line?;
+        match line.strip_prefix("case ") {
+            Some(title) => {
+                case.show(alloc, &mut out)?;
+                case = Case::of(alloc, title)?;
+            }
+            None => case.add(alloc, &line)?,
+        }
+    }
+    case.show(alloc, &mut out)?;
+    print!(rt; "{out}")?;
+    Ok(())
+}

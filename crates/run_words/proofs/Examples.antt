@@ -1,0 +1,51 @@
+-- Worked examples of the words.
+use Rattle.std.proofs.Common.{◌≡◌, [], ◌∷◌, Some, None, codes, refl}
+use Rattle.sg_delay.specs.declared.corners.Corner.TheVariants.{Max}
+use Rattle.run_words.specs.Words.{command_of, default_corner, default_rounds, default_wheel, names_in}
+
+-- `run --stim=s --vcd v -- -a.v`
+behind_the_end : command_of (codes "run" ∷ codes "--stim=s" ∷ codes "--vcd" ∷ codes "v" ∷ codes "--" ∷ codes "-a.v" ∷ [])
+    ≡ Some (record { netlists = codes "-a.v" ∷ []; stimulus = codes "s"; vcd = codes "v"; top = None; corner = default_corner; rounds = default_rounds; wheel = default_wheel })
+behind_the_end = refl
+
+-- `run a.v --stim s b.v --vcd v c.v`
+three_netlists : names_in (command_of (codes "run" ∷ codes "a.v" ∷ codes "--stim" ∷ codes "s" ∷ codes "b.v" ∷ codes "--vcd" ∷ codes "v" ∷ codes "c.v" ∷ []))
+    ≡ codes "a.v" ∷ codes "b.v" ∷ codes "c.v" ∷ codes "s" ∷ codes "v" ∷ []
+three_netlists = refl
+
+-- `run a.v --stim=-s --vcd v --corner max --rounds 0000007`
+value_with_a_dash : command_of (codes "run" ∷ codes "a.v" ∷ codes "--stim=-s" ∷ codes "--vcd" ∷ codes "v" ∷ codes "--corner" ∷ codes "max" ∷ codes "--rounds" ∷ codes "0000007" ∷ [])
+    ≡ Some (record { netlists = codes "a.v" ∷ []; stimulus = codes "-s"; vcd = codes "v"; top = None; corner = Max; rounds = 7; wheel = default_wheel })
+value_with_a_dash = refl
+
+-- no words; an option twice; no netlist; a wheel of 0; eight digits
+no_words : command_of [] ≡ None
+no_words = refl
+
+stimulus_twice : command_of (codes "run" ∷ codes "a.v" ∷ codes "--stim" ∷ codes "s" ∷ codes "--stim" ∷ codes "t" ∷ codes "--vcd" ∷ codes "v" ∷ []) ≡ None
+stimulus_twice = refl
+
+no_netlist : command_of (codes "run" ∷ codes "--stim" ∷ codes "s" ∷ codes "--vcd" ∷ codes "v" ∷ []) ≡ None
+no_netlist = refl
+
+wheel_of_none : command_of (codes "run" ∷ codes "a.v" ∷ codes "--stim" ∷ codes "s" ∷ codes "--vcd" ∷ codes "v" ∷ codes "--wheel" ∷ codes "0" ∷ []) ≡ None
+wheel_of_none = refl
+
+eight_digits : command_of (codes "run" ∷ codes "a.v" ∷ codes "--stim" ∷ codes "s" ∷ codes "--vcd" ∷ codes "v" ∷ codes "--wheel" ∷ codes "00000008" ∷ []) ≡ None
+eight_digits = refl
+
+-- `-` as a netlist; `-` as the next word's value; an empty value; a name cut short; `--` as a value
+dash_alone : command_of (codes "run" ∷ codes "-" ∷ codes "--stim" ∷ codes "s" ∷ codes "--vcd" ∷ codes "v" ∷ []) ≡ None
+dash_alone = refl
+
+dash_as_value : command_of (codes "run" ∷ codes "a.v" ∷ codes "--stim" ∷ codes "-" ∷ codes "--vcd" ∷ codes "v" ∷ []) ≡ None
+dash_as_value = refl
+
+empty_value : command_of (codes "run" ∷ codes "a.v" ∷ codes "--stim=" ∷ codes "--vcd" ∷ codes "v" ∷ []) ≡ None
+empty_value = refl
+
+short_name : command_of (codes "run" ∷ codes "a.v" ∷ codes "--sti" ∷ codes "s" ∷ codes "--vcd" ∷ codes "v" ∷ []) ≡ None
+short_name = refl
+
+end_as_value : command_of (codes "run" ∷ codes "a.v" ∷ codes "--stim" ∷ codes "s" ∷ codes "--vcd" ∷ codes "--" ∷ codes "v" ∷ []) ≡ None
+end_as_value = refl

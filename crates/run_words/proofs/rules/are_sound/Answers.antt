@@ -1,0 +1,11 @@
+use Rattle.std.proofs.Common.{sym, ◌∙◌}
+use Rattle.run_words.proofs.RuleLaws.{sound_by}
+use Rattle.run_words.proofs.rules.are_sound.Goals as goal
+use Rattle.run_words.proofs.rules.are_sound.Goals.{then-are_known, else-are_known}
+
+pub returns-then-are_single : goal.returns-then-are_single
+returns-then-are_single c = elim c.if-are_known.branch [
+  | then-are_known w ↦ sound_by c.are_known.result w.are_single.result c.args.netlists.now c.args.arguments.now c.requires c.are_known.ensures w.are_single.ensures
+      w.if-are_known.true (sym w.value-is ∙ c.if-are_single.true)
+  | else-are_known w ↦ absurd cc
+]

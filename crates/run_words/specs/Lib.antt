@@ -1,0 +1,5 @@
+-- The modules of this folder.
+pub mod Arguments
+pub mod ArgumentsSeen
+pub mod Words
+pub mod WordsSeen

@@ -1,0 +1,117 @@
+-- The words of the command line and the command that they ask for.
+use Rattle.std.specs.Prelude.{ℕ, List, [], ◌∷◌, ◌++◌, length, Bool, ◌&&◌, Option, Some, None, option_and_then, nat_le, codes, if◌then◌else◌}
+use Rattle.std.specs.Char.{is_ascii_digit}
+use Rattle.std.specs.List.{list_any, list_all, filter_map, slice_get}
+use Rattle.std.specs.Str.Parse.{digits_value}
+use Rattle.sg_delay.specs.declared.corners.Corner.{Corner}
+use Rattle.sg_delay.specs.declared.corners.Corner.TheVariants.{Min, Typ, Max}
+use Rattle.run_words.specs.Arguments.{Argument, setting, netlist, is_text, arguments_of}
+
+-- a run: the netlists' files in their order, the files of the stimulus and of the value change dump, the top module, the
+-- corner of the delays, the bound on the rounds of one time, and the slots of the wheel
+pub record Command : Type 0 where
+  pub netlists : List (List ℕ)
+  pub stimulus : List ℕ
+  pub vcd : List ℕ
+  pub top : Option (List ℕ)
+  pub corner : Corner
+  pub rounds : ℕ
+  pub wheel : ℕ
+
+infixl 10 ◌>>=◌
+abbrev pub ◌>>=◌ : {A B : Type 0} → Option A → (A → Option B) → Option B
+known >>= next = option_and_then next known
+
+-- the value that an argument gives to the option of a name
+abbrev pub value_under : List ℕ → Argument → Option (List ℕ)
+value_under name (setting own value) = if is_text name own then Some value else None
+value_under name (netlist _) = None
+
+-- all values of the option of a name
+abbrev pub values_of : List ℕ → List Argument → List (List ℕ)
+values_of name arguments = filter_map (value_under name) arguments
+
+-- the value of an option that comes at most once
+abbrev pub value_of : List ℕ → List Argument → Option (List ℕ)
+value_of name arguments = slice_get (values_of name arguments) 0
+
+abbrev pub netlist_in : Argument → Option (List ℕ)
+netlist_in (setting _ _) = None
+netlist_in (netlist name) = Some name
+
+-- the names of netlists, in their order
+abbrev pub netlists_of : List Argument → List (List ℕ)
+netlists_of arguments = filter_map netlist_in arguments
+
+abbrev pub option_names : List (List ℕ)
+option_names = codes "stim" ∷ codes "vcd" ∷ codes "top" ∷ codes "corner" ∷ codes "rounds" ∷ codes "wheel" ∷ []
+
+-- an option's name is one of the six, and no value and no netlist's name is empty
+abbrev pub is_known : Argument → Bool
+is_known (setting name value) = list_any (is_text name) option_names && nat_le 1 (length value)
+is_known (netlist name) = nat_le 1 (length name)
+
+-- an option comes at most once
+abbrev pub is_single : List Argument → List ℕ → Bool
+is_single arguments name = nat_le (length (values_of name arguments)) 1
+
+-- each argument is known, each option comes at most once, and there is a netlist
+abbrev pub are_sound : List Argument → Bool
+are_sound arguments = list_all is_known arguments && list_all (is_single arguments) option_names && nat_le 1 (length (netlists_of arguments))
+
+abbrev pub corner_of : List ℕ → Option Corner
+corner_of text =
+    if is_text (codes "min") text then Some Min
+    else (if is_text (codes "typ") text then Some Typ else (if is_text (codes "max") text then Some Max else None))
+
+-- one to seven decimal digits, of which the first may be zeros
+abbrev pub is_number : List ℕ → Bool
+is_number text = list_all is_ascii_digit text && nat_le 1 (length text) && nat_le (length text) 7
+
+-- a number from 1 to the most that it may be
+abbrev pub number_up_to : ℕ → List ℕ → Option ℕ
+number_up_to most text =
+    if is_number text && nat_le 1 (digits_value 10 text) && nat_le (digits_value 10 text) most then Some (digits_value 10 text) else None
+
+abbrev pub default_corner : Corner
+default_corner = Typ
+
+abbrev pub default_rounds : ℕ
+default_rounds = 10000
+
+abbrev pub most_rounds : ℕ
+most_rounds = 1000000
+
+abbrev pub default_wheel : ℕ
+default_wheel = 4096
+
+abbrev pub most_wheel : ℕ
+most_wheel = 1048576
+
+-- what an option's value is read as, or the default where the option doesn't come
+abbrev pub read_or : {A : Type 0} → A → (List ℕ → Option A) → Option (List ℕ) → Option A
+read_or default read None = Some default
+read_or default read (Some text) = read text
+
+-- the command of sound arguments and their netlists: the stimulus and the dump are required
+abbrev pub command_with : List (List ℕ) → List Argument → Option Command
+command_with netlists arguments = do
+  stimulus ← value_of (codes "stim") arguments
+  vcd ← value_of (codes "vcd") arguments
+  corner ← read_or default_corner corner_of (value_of (codes "corner") arguments)
+  rounds ← read_or default_rounds (number_up_to most_rounds) (value_of (codes "rounds") arguments)
+  wheel ← read_or default_wheel (number_up_to most_wheel) (value_of (codes "wheel") arguments)
+  Some (record { netlists = netlists; stimulus = stimulus; vcd = vcd; top = value_of (codes "top") arguments; corner = corner; rounds = rounds; wheel = wheel })
+
+abbrev pub command_from : List Argument → Option Command
+command_from arguments = if are_sound arguments then command_with (netlists_of arguments) arguments else None
+
+-- the command of the words `run` and its arguments; none where they are refused
+abbrev pub command_of : List (List ℕ) → Option Command
+command_of [] = None
+command_of (first ∷ words) = if is_text (codes "run") first then option_and_then command_from (arguments_of words) else None
+
+-- the names of files in a command: the netlists, the stimulus, the dump
+abbrev pub names_in : Option Command → List (List ℕ)
+names_in None = []
+names_in (Some c) = c.netlists ++ c.stimulus ∷ c.vcd ∷ []

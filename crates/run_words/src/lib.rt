@@ -1,0 +1,12 @@
+//! The words of the command line, read as a run's command, or refused.
+#![tactic(auto)]
+
+mod arguments;
+mod numbers;
+mod rules;
+mod words;
+
+pub use words::{Command, read_words};
+
+#[cfg(test)]
+mod tests;

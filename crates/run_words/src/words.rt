@@ -1,0 +1,122 @@
+// The words of the command line.
+ghost use Rattle.std.specs.Prelude.{◌≡◌, map, option_map, option_and_then, IfOk, codes, string_bytes};
+ghost use Rattle.run_words.specs.Arguments.{is_text, arguments_of};
+ghost use Rattle.run_words.specs.ArgumentsSeen.{argument_seen};
+ghost use Rattle.run_words.specs.Words.{value_of, corner_of, default_corner, command_with, command_from, command_of, number_up_to, read_or};
+ghost use Rattle.run_words.specs.WordsSeen.{command_seen};
+
+use crate::arguments::{Argument, read_arguments};
+use crate::numbers::number_up_to;
+use crate::rules::{are_sound, corner_of, netlists_of, value_of};
+use sg_delay::Corner;
+use sg_text::NoMemory;
+use std::alloc::Global;
+
+const DEFAULT_CORNER: Corner = Corner::Typ;
+
+const DEFAULT_ROUNDS: u32 = 10_000;
+
+const MOST_ROUNDS: u32 = 1_000_000;
+
+const DEFAULT_WHEEL: u32 = 4096;
+
+const MOST_WHEEL: u32 = 1 << 20;
+
+/// A run. The files are named as the words name them.
+#[derive(Debug, Drop)]
+pub struct Command<'a> {
+    /// One or more, in their order.
+    pub netlists: Vec<&'a str>,
+    pub stimulus: &'a str,
+    /// The file for the value change dump.
+    pub vcd: &'a str,
+    /// The name of the top module.
+    pub top: Option<&'a str>,
+    pub corner: Corner,
+    /// The most rounds that one time may take, from 1 to 1000000.
+    pub rounds: u32,
+    /// How many slots the wheel has, from 1 to 1048576.
+    pub wheel: u32,
+}
+
+fn corner_or_default(arguments: &[Argument<'_>]) -> Option<Corner>
+    ensures { result ≡ read_or default_corner corner_of (value_of (codes "corner") (map argument_seen arguments.now)) }
+{
+    match value_of(arguments, "corner") {
+        Some(text) => corner_of(text),
+        None => Some(DEFAULT_CORNER),
+    }
+}
+
+fn number_or(arguments: &[Argument<'_>], name: &str, most: u32, default: u32) -> Option<u32>
+    ensures { result ≡ read_or default (number_up_to most) (value_of name.now (map argument_seen arguments.now)) }
+{
+    match value_of(arguments, name) {
+        Some(text) => number_up_to(most, text),
+        None => Some(default),
+    }
+}
+
+// The command of sound arguments and their netlists.
+fn command_with<'a>(netlists: Vec<&'a str>, arguments: &[Argument<'a>]) -> Option<Command<'a>>
+    ensures { option_map (λ c. command_seen c) result ≡ command_with (map (λ n. n.now) netlists.entry.items) (map argument_seen arguments.now) }
+{
+    let stimulus = value_of(arguments, "stim")?;
+    let vcd = value_of(arguments, "vcd")?;
+    let corner = corner_or_default(arguments)?;
+    let rounds = number_or(arguments, "rounds", MOST_ROUNDS, DEFAULT_ROUNDS)?;
+    let wheel = number_or(arguments, "wheel", MOST_WHEEL, DEFAULT_WHEEL)?;
+    Some(Command {
+        netlists,
+        stimulus,
+        vcd,
+        top: value_of(arguments, "top"),
+        corner,
+        rounds,
+        wheel,
+    })
+}
+
+fn command_from<'a>(
+    alloc: Global,
+    arguments: &[Argument<'a>],
+) -> Result<Option<Command<'a>>, NoMemory>
+    ensures { IfOk result (λ c. option_map (λ x. command_seen x) c ≡ command_from (map argument_seen arguments.now)) }
+{
+    let netlists = netlists_of(alloc, arguments)?;
+    if are_sound(arguments, &netlists) {
+        Ok(command_with(netlists, arguments))
+    } else {
+        Ok(None)
+    }
+}
+
+fn is_run(word: &str) -> bool
+    ensures { result ≡ is_text (codes "run") word.now }
+{
+    word == "run"
+}
+
+// The command of the words behind `run`.
+fn command_after<'a>(alloc: Global, words: &'a [String]) -> Result<Option<Command<'a>>, NoMemory>
+    ensures { IfOk result (λ c. option_map (λ x. command_seen x) c ≡ option_and_then command_from (arguments_of (map string_bytes words.now))) }
+{
+    match read_arguments(alloc, words)? {
+        Some(arguments) => command_from(alloc, &arguments),
+        None => Ok(None),
+    }
+}
+
+/// The command that the words of the command line ask for, or None where they are refused. The program's own name isn't
+/// among the words. Takes memory.
+pub fn read_words<'a>(alloc: Global, words: &'a [String]) -> Result<Option<Command<'a>>, NoMemory>
+    ensures command { IfOk result (λ c. option_map (λ x. command_seen x) c ≡ command_of (map (λ w. string_bytes w) words.now)) }
+{
+    let [first, rest @ ..] = words else {
+        return Ok(None);
+    };
+    if !is_run(first.as_str()) {
+        return Ok(None);
+    }
+    command_after(alloc, rest)
+}

@@ -1,0 +1,30 @@
+-- Worked examples of refusals.
+use Rattle.std.specs.Prelude.{◌≡◌, ◌++◌, [], ◌∷◌, Err, codes, refl}
+use Rattle.std.specs.Fmt.{digits}
+use Rattle.netlist_read.specs.Kinds.{of_syntax}
+use Rattle.stim_text.specs.declared.kinds.StimKind.TheVariants as stim
+use Rattle.wave_out.specs.Texts.{line}
+use Rattle.signoff_top.specs.Phases.{FilesOutcome, goes_on, stops, line_of, missing, netlist, stimulus, refusal_line, refused_at, stimulus_kind}
+
+-- a line feed ends the line on which it stands
+breaks : line_of (codes "ab" ++ 10 ∷ codes "c") 2 ≡ 1
+breaks = refl
+
+after_a_break : line_of (codes "ab" ++ 10 ∷ codes "c") 3 ≡ 2
+after_a_break = refl
+
+-- a fault of the second file, on its first line
+in_the_second : refused_at (codes "a.v" ∷ codes "b.v" ∷ []) ((codes "module t;" ++ 10 ∷ []) ∷ codes "end" ∷ []) of_syntax (record { file = 1; byte = 2 }) ≡ netlist (codes "b.v") 1 (codes "Syntax")
+in_the_second = refl
+
+netlist_line : refusal_line (netlist (codes "b.v") 12 (codes "Syntax")) ≡ line (codes "netlist refused: b.v:12: Syntax")
+unfolding digits
+netlist_line = refl
+
+stimulus_line : refusal_line (stimulus (codes "t.st") 3 (stimulus_kind stim.NoEnd)) ≡ line (codes "stimulus refused: t.st:3: NoEnd")
+unfolding digits
+stimulus_line = refl
+
+-- the first file that isn't held is missing
+one_is_held : FilesOutcome (codes "a.v" ∷ codes "b.v" ∷ codes "c.v" ∷ []) (record { name = codes "a.v"; bytes = 32 ∷ [] } ∷ []) (Err (missing (codes "b.v")))
+one_is_held = goes_on (32 ∷ []) (Err (missing (codes "b.v"))) refl (stops (missing (codes "b.v")) (stops (missing (codes "b.v")) refl))

@@ -1,0 +1,10 @@
+-- The modules of this folder.
+pub mod Putting
+pub mod Telling
+pub mod Composed
+pub mod FilesRead
+pub mod WordsRead
+pub mod Worked
+pub mod OneAnswer
+pub mod Promised
+pub mod Examples

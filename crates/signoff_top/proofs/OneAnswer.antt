@@ -1,0 +1,98 @@
+-- Right answers for the same words and files have one status and make one file. Their reports may differ, where several
+-- faults stand in one phase.
+use Rattle.std.proofs.Common.{◌≡◌, ◌∙◌, sym, ap, subst, refl, ℕ, List, [], ◌∷◌}
+use Rattle.std.specs.Prelude.{Option, Some, None, Result, Ok, Err}
+use Rattle.sg_io.specs.Files.{File, bytes_of}
+use Rattle.sg_circuit.specs.Circuit.{Circuit}
+use Rattle.sg_delay.specs.declared.corners.Corner.{Corner}
+use Rattle.netlist_read.proofs.ReadingLaws as netlist
+use Rattle.stim_text.proofs.OnceLaws as stimulus
+use Rattle.run_words.specs.Words.{Command, command_of}
+use Rattle.signoff_top.specs.Answer.{Answer, IsAnswer, answer_of}
+use Rattle.signoff_top.specs.Phases.{Refusal, Then, stops, goes_on, Task, TaskOutcome, status_of_refusal}
+use Rattle.signoff_top.specs.Phases.{CircuitOutcome, InputOutcome, WordsOutcome, FileOutcome, FilesOutcome, NetlistOutcome, StimulusOutcome}
+
+-- two outcomes are one value, or two refusals of one status
+abbrev Agree : {A : Type 0} → Result A Refusal → Result A Refusal → Type 0
+Agree (Ok a) (Ok b) = a ≡ b
+Agree (Ok a) (Err r) = ⊥
+Agree (Err r) (Ok a) = ⊥
+Agree (Err r) (Err s) = status_of_refusal r ≡ status_of_refusal s
+
+abbrev AllAgree : {A : Type 0} → (Result A Refusal → Type 0) → Type 0
+AllAgree {A} phase = (o p : Result A Refusal) → phase o → phase p → Agree o p
+
+err_is : (A : Type 0) (r s : Refusal) → ◌≡◌ {A = Result A Refusal} (Err r) (Err s) → r ≡ s
+err_is A r s e = cc
+
+equal_agree : {A : Type 0} (o p : Result A Refusal) → o ≡ p → Agree o p
+equal_agree (Ok a) (Ok b) e = cc
+equal_agree {A} (Ok a) (Err r) e = let k : ◌≡◌ {A = Result A Refusal} (Ok a) (Err r) = e in cc
+equal_agree {A} (Err r) (Ok a) e = let k : ◌≡◌ {A = Result A Refusal} (Err r) (Ok a) = e in cc
+equal_agree {A} (Err r) (Err s) e = let k : r ≡ s = err_is A r s e in ap status_of_refusal k
+
+then_agree : {A B : Type 0} (first : Result A Refusal → Type 0) (next : A → Result B Refusal → Type 0) → AllAgree first → ((a : A) → AllAgree (next a)) → AllAgree (Then first next)
+then_agree first next f g _ _ (stops r h) (stops s k) = f (Err r) (Err s) h k
+then_agree first next f g _ _ (stops r h) (goes_on a o h' k) = absurd (f (Err r) (Ok a) h h')
+then_agree first next f g _ _ (goes_on a o h k) (stops r h') = absurd (f (Ok a) (Err r) h h')
+then_agree first next f g _ _ (goes_on a o h k) (goes_on b p h' k') = g b o p (subst (λ x. next x o) (f (Ok a) (Ok b) h h') k) k'
+
+words_agree : (c : Option Command) → AllAgree (WordsOutcome c)
+words_agree None o p h k = equal_agree o p (h ∙ sym k)
+words_agree (Some c) o p h k = equal_agree o p (h ∙ sym k)
+
+file_agree : (name : List ℕ) (bytes : Option (List ℕ)) → AllAgree (FileOutcome name bytes)
+file_agree name None o p h k = equal_agree o p (h ∙ sym k)
+file_agree name (Some bytes) o p h k = equal_agree o p (h ∙ sym k)
+
+files_agree : (names : List (List ℕ)) (files : List File) → AllAgree (FilesOutcome names files)
+files_agree [] files o p h k = equal_agree o p (h ∙ sym k)
+files_agree (n ∷ ns) files o p h k =
+    then_agree (FileOutcome n (bytes_of n files)) (λ text. Then (FilesOutcome ns files) (λ texts o. o ≡ Ok (text ∷ texts))) (file_agree n (bytes_of n files)) (λ text.
+    then_agree (FilesOutcome ns files) (λ texts o. o ≡ Ok (text ∷ texts)) (files_agree ns files) (λ texts x y e f. equal_agree x y (e ∙ sym f))) o p h k
+
+netlist_agree : (names texts : List (List ℕ)) (top : Option (List ℕ)) (corner : Corner) → AllAgree (NetlistOutcome names texts top corner)
+netlist_agree names texts top corner (Ok c) (Ok d) h k = netlist.read-once texts top corner c d h k
+netlist_agree names texts top corner (Ok c) (Err r) h k = netlist.read-is-faultless texts top corner c h k.0 k.1 k.2
+netlist_agree names texts top corner (Err r) (Ok c) h k = netlist.read-is-faultless texts top corner c k h.0 h.1 h.2
+netlist_agree names texts top corner (Err r) (Err s) h k = ap status_of_refusal h.3 ∙ sym (ap status_of_refusal k.3)
+
+stimulus_agree : (name text : List ℕ) (circuit : Circuit) → AllAgree (StimulusOutcome name text circuit)
+stimulus_agree name text circuit (Ok s) (Ok t) h k = stimulus.read-once text circuit s t h k
+stimulus_agree name text circuit (Ok s) (Err r) h k = stimulus.read-is-faultless text circuit s k.0 k.1 h k.2
+stimulus_agree name text circuit (Err r) (Ok s) h k = stimulus.read-is-faultless text circuit s h.0 h.1 k h.2
+stimulus_agree name text circuit (Err r) (Err s) h k = ap status_of_refusal h.3 ∙ sym (ap status_of_refusal k.3)
+
+circuit_agree : (c : Command) (files : List File) → AllAgree (CircuitOutcome c files)
+circuit_agree c files =
+    then_agree (FilesOutcome c.netlists files) (λ texts. NetlistOutcome c.netlists texts c.top c.corner) (files_agree c.netlists files) (λ texts. netlist_agree c.netlists texts c.top c.corner)
+
+input_agree : (name : List ℕ) (files : List File) (circuit : Circuit) → AllAgree (InputOutcome name files circuit)
+input_agree name files circuit =
+    then_agree (FileOutcome name (bytes_of name files)) (λ text. StimulusOutcome name text circuit) (file_agree name (bytes_of name files)) (λ text. stimulus_agree name text circuit)
+
+pub task_agree : (ws : List (List ℕ)) (files : List File) (o p : Result Task Refusal) → TaskOutcome ws files o → TaskOutcome ws files p → Agree o p
+task_agree ws files =
+    then_agree _ _ (words_agree (command_of ws)) (λ command.
+    then_agree _ _ (circuit_agree command files) (λ circuit.
+    then_agree _ _ (input_agree command.stimulus files circuit) (λ input o p h k. equal_agree o p (h ∙ sym k))))
+
+status_agrees : (o p : Result Task Refusal) → Agree o p → (answer_of o).status ≡ (answer_of p).status
+status_agrees (Ok a) (Ok b) e = ap (λ t. (answer_of (Ok t)).status) e
+status_agrees (Ok a) (Err r) e = absurd e
+status_agrees (Err r) (Ok a) e = absurd e
+status_agrees (Err r) (Err s) e = e
+
+made_agrees : (o p : Result Task Refusal) → Agree o p → (answer_of o).made ≡ (answer_of p).made
+made_agrees (Ok a) (Ok b) e = ap (λ t. (answer_of (Ok t)).made) e
+made_agrees (Ok a) (Err r) e = absurd e
+made_agrees (Err r) (Ok a) e = absurd e
+made_agrees (Err r) (Err s) e = refl
+
+pub one_status : (ws : List (List ℕ)) (files : List File) (a b : Answer) → IsAnswer ws files a → IsAnswer ws files b → a.status ≡ b.status
+one_status ws files a b h k =
+    ap (λ x. x.status) h.2 ∙ (status_agrees h.0 k.0 (task_agree ws files h.0 k.0 h.1 k.1) ∙ sym (ap (λ x. x.status) k.2))
+
+pub one_made : (ws : List (List ℕ)) (files : List File) (a b : Answer) → IsAnswer ws files a → IsAnswer ws files b → a.made ≡ b.made
+one_made ws files a b h k =
+    ap (λ x. x.made) h.2 ∙ (made_agrees h.0 k.0 (task_agree ws files h.0 k.0 h.1 k.1) ∙ sym (ap (λ x. x.made) k.2))

@@ -1,0 +1,303 @@
+-- From what the work left and what was told comes the case of the top call; from the case comes all else that it promises.
+use Rattle.std.proofs.Common.{◌≡◌, ◌≢◌, ◌∙◌, true, false, sym, ap, refl, subst, inl, inr, ℕ, List, [], ◌∷◌, ◌++◌, length, Contains, ◌≤◌, arith}
+use Rattle.std.proofs.lemmas.List.{take_all}
+use Rattle.std.specs.Prelude.{Option, Some, None, Result, Ok, Err, unwrap_or}
+use Rattle.sg_io.specs.Files.{File, BothTell, HasAfter, bytes_of}
+use Rattle.sg_io.specs.Faults.{Cause, Rises, Rose}
+use Rattle.sg_io.specs.Put.{SinkTold}
+use Rattle.sg_io.proofs.Tell.{both_told}
+use Rattle.sg_model.specs.Machine.{Violation}
+use Rattle.wave_out.specs.Files.{LeavesPrefix}
+use Rattle.wave_out.specs.Report.{report_lines}
+use Rattle.wave_out.specs.Spent.{spent_seen}
+use Rattle.run_dump.specs.RunEnds.{violations_of}
+use Rattle.run_words.specs.Words.{Command, command_of, names_in}
+use Rattle.signoff_top.specs.Answer.{Answer, IsAnswer, FilesAfter, answer_of, dump_of, run_of, status_of_run, fault_line}
+use Rattle.signoff_top.specs.Phases.{Refusal, Task, TaskOutcome, WordsOutcome, CircuitOutcome, InputOutcome, Then, stops, goes_on, words, missing, netlist, stimulus, status_of_refusal, refusal_line}
+use Rattle.signoff_top.specs.Promises.{ShelfTold, IsRight, FitsWords, HasAnswer, FaultAt, at_netlist, at_stimulus, at_dump, NamesFaultAt, LeavesUnfinished, whole, till_fault, Outcome, answered, shelf_fault, sink_fault, no_memory, sink_want, IsExact, IsStatusOf, KeepsBut, KeepsByAnswer, KeepsByWords, IsUsage}
+use Rattle.signoff_top.specs.Putting.{PutsAll, PutsLast}
+use Rattle.signoff_top.specs.Putting as putting
+use Rattle.signoff_top.specs.Status.{IsDecided, IsRunEnd, is_run_end}
+use Rattle.signoff_top.specs.Stops.{refusal_seen, IfFailed, SparesWords, StopWords, end_of_phase}
+use Rattle.signoff_top.specs.Tasks.{task_seen}
+use Rattle.signoff_top.specs.Work.{WorkLeaves, Tells, TellsStop, TellsEnd}
+use Rattle.signoff_top.specs.Work as telling
+use Rattle.signoff_top.specs.declared.status.Status.{Status}
+use Rattle.signoff_top.specs.declared.status.Status.TheVariants as status
+use Rattle.signoff_top.specs.declared.stop.Stop as code_stop
+use Rattle.signoff_top.specs.declared.stop.Stop.TheVariants as stop
+use Rattle.signoff_top.specs.declared.stop.Refusal as code_refusal
+use Rattle.signoff_top.specs.declared.stop.Refusal.TheVariants as refusal
+use Rattle.signoff_top.specs.declared.work.Done as code_done
+use Rattle.signoff_top.proofs.OneAnswer.{one_status, one_made}
+use Rattle.signoff_top.proofs.Putting.{both_map}
+
+-- what is made, is begun
+whole_begun : (name bytes : List ℕ) (old new : List File) → HasAfter name bytes old new → LeavesPrefix name bytes old new
+whole_begun name bytes old new h = record { this = inr (length bytes, h.this ∙ ap Some (sym (take_all (length bytes) bytes (omega arith)))); others = h.others }
+
+right_unfinished : (ws : List (List ℕ)) (how : Status) (text : List ℕ) (old new : List File) → IsRight ws how text old new → LeavesUnfinished ws old new
+right_unfinished ws how text old new r = (elim r.right.0 as (λ o. TaskOutcome ws old o → r.answer ≡ answer_of o → LeavesUnfinished ws old new) [
+  | Ok task ↦ λ outcome is. inr (task, outcome, whole_begun task.vcd (dump_of task) old new (subst (λ a. FilesAfter a.made old new) is r.files))
+  | Err s ↦ λ outcome is. inl (subst (λ a. FilesAfter a.made old new) is r.files)
+]) r.right.1 r.right.2
+
+-- the status of a run, and of a refusal, is decided
+run_decided : (spent : Option (ℕ × Option ℕ)) (violations : List Violation) → IsDecided (status_of_run spent violations)
+run_decided None [] = tt
+run_decided None (v ∷ vs) = tt
+run_decided (Some s) violations = tt
+
+run_no_usage : (spent : Option (ℕ × Option ℕ)) (violations : List Violation) → status_of_run spent violations ≢ status.Usage
+run_no_usage None [] = λ e. let k : status.Clean ≡ status.Usage = e in cc
+run_no_usage None (v ∷ vs) = λ e. let k : status.Violations ≡ status.Usage = e in cc
+run_no_usage (Some s) violations = λ e. let k : status.Rounds ≡ status.Usage = e in cc
+
+refusal_decided : (r : Refusal) → IsDecided (status_of_refusal r)
+refusal_decided words = tt
+refusal_decided (missing name) = tt
+refusal_decided (netlist name n kind) = tt
+refusal_decided (stimulus name n kind) = tt
+
+run_fits : (o : Option Command) (P : Command → code_done.Done → Type 0) (done : code_done.Done) (spent : Option (ℕ × Option ℕ)) (violations : List Violation) (text : List ℕ) → StopWords o P (Ok done)
+    → FitsWords o (status_of_run spent violations) text
+run_fits None P done spent violations text h = absurd h
+run_fits (Some c) P done spent violations text h = run_no_usage spent violations
+
+spares_fits : (r : code_refusal.Refusal) → SparesWords (stop.Refused r) → status_of_refusal (refusal_seen r) ≢ status.Usage
+spares_fits refusal.Words h = absurd h
+spares_fits (refusal.Missing name) h = λ e. let k : status.Missing ≡ status.Usage = e in cc
+spares_fits (refusal.Netlist name line kind) h = λ e. let k : status.Netlist ≡ status.Usage = e in cc
+spares_fits (refusal.Stimulus name line kind) h = λ e. let k : status.Stimulus ≡ status.Usage = e in cc
+
+refused_is : (r s : code_refusal.Refusal) → stop.Refused r ≡ stop.Refused s → r ≡ s
+refused_is r s e = cc
+
+refused_no_want : (r : code_refusal.Refusal) → stop.Refused r ≡ stop.NoMemory → ⊥
+refused_no_want r h = cc
+
+refusal_fits : (o : Option Command) (P : Command → code_done.Done → Type 0) (r : code_refusal.Refusal) → StopWords o P (Err (stop.Refused r))
+    → FitsWords o (status_of_refusal (refusal_seen r)) (refusal_line (refusal_seen r))
+refusal_fits None P r (inl h) = let e : r ≡ refusal.Words = refused_is r refusal.Words h in (ap (λ x. status_of_refusal (refusal_seen x)) e, ap (λ x. refusal_line (refusal_seen x)) e)
+refusal_fits None P r (inr h) = absurd (refused_no_want r h)
+refusal_fits (Some c) P r h = spares_fits r h
+
+-- the end of a run is a right answer
+done_right : (ws : List (List ℕ)) (done : code_done.Done) (old new : List File) → WorkLeaves ws (Ok done) old new
+    → IsRight ws (status_of_run (spent_seen done.end.spent) (violations_of done.end)) (report_lines done.task.circuit [] [] (violations_of done.end) done.task.input.end (spent_seen done.end.spent)) old new
+done_right ws done old new (outcome, after, (spent, violations)) =
+    let task : Task = task_seen done.task in
+    record {
+      answer = answer_of (Ok task);
+      right = (Ok task, outcome, refl);
+      status = ap (λ s. status_of_run s (violations_of done.end)) spent ∙ ap (status_of_run (run_of task).spent) violations;
+      report = ap (report_lines task.circuit [] [] (violations_of done.end) task.input.end) spent ∙ ap (λ vs. report_lines task.circuit [] [] vs task.input.end (run_of task).spent) violations;
+      files = after;
+    }
+
+refused_right : (ws : List (List ℕ)) (r : code_refusal.Refusal) (old new : List File) → WorkLeaves ws (Err (stop.Refused r)) old new
+    → IsRight ws (status_of_refusal (refusal_seen r)) (refusal_line (refusal_seen r)) old new
+refused_right ws r old new h = record {
+  answer = answer_of (Err (refusal_seen r));
+  right = (Err (refusal_seen r), h.0, refl);
+  status = refl;
+  report = refl;
+  files = h.1;
+}
+
+-- an answer, and how it was told
+told_case : (ws : List (List ℕ)) (planned how : Status) (text : List ℕ) (shelf shelf' : ShelfTold) (sink sink' : SinkTold)
+    → HasAnswer ws planned text shelf shelf' → Tells text planned sink sink' how → Outcome ws shelf shelf' sink sink' how
+told_case ws planned _ text shelf shelf' sink sink' h (telling.told r) = answered planned text h r
+told_case ws planned _ text shelf shelf' sink sink' h (telling.fault cut e f l) = sink_fault planned text cut h e f l
+told_case ws planned _ text shelf shelf' sink sink' h (telling.want cut w l) = sink_want planned text cut h w l
+told_case ws planned _ text shelf shelf' sink sink' h (telling.no_memory l) =
+    no_memory h.faults (both_map (IsRight ws planned text) (LeavesUnfinished ws) shelf.files shelf'.files h.files (λ x y r. right_unfinished ws planned text x y r)) l
+
+failed_case : (ws : List (List ℕ)) (how : Status) (shelf shelf' : ShelfTold) (sink sink' : SinkTold)
+    → Rises shelf.faults shelf'.faults → NamesFaultAt ws shelf.files shelf'.files shelf'.last → TellsStop shelf'.last stop.Failed sink sink' how → Outcome ws shelf shelf' sink sink' how
+failed_case ws how shelf shelf' sink sink' c n t =
+    subst (Outcome ws shelf shelf' sink sink') (sym t.0) (shelf_fault c n (subst (λ o. PutsLast (fault_line (unwrap_or o [])) sink sink') n.told t.1))
+
+pub outcome : (ws : List (List ℕ)) (end : Result code_done.Done code_stop.Stop) (how : Status) (shelf shelf' : ShelfTold) (sink sink' : SinkTold)
+    → BothTell shelf.files shelf'.files (WorkLeaves ws end) → Cause shelf.faults shelf'.faults (end_of_phase end) → IfFailed (NamesFaultAt ws shelf.files shelf'.files shelf'.last) end
+    → StopWords (command_of ws) (λ c done. done.task.vcd.now ≡ c.vcd) end → TellsEnd shelf'.last end sink sink' how → Outcome ws shelf shelf' sink sink' how
+outcome ws (Ok done) how shelf shelf' sink sink' l c n w t =
+    let planned = status_of_run (spent_seen done.end.spent) (violations_of done.end) in
+    let text = report_lines done.task.circuit [] [] (violations_of done.end) done.task.input.end (spent_seen done.end.spent) in
+    told_case ws planned how text shelf shelf' sink sink' (record {
+      decided = run_decided (spent_seen done.end.spent) (violations_of done.end);
+      words = run_fits (command_of ws) (λ c done. done.task.vcd.now ≡ c.vcd) done (spent_seen done.end.spent) (violations_of done.end) text w;
+      faults = c;
+      files = both_map (WorkLeaves ws (Ok done)) (IsRight ws planned text) shelf.files shelf'.files l (λ x y h. done_right ws done x y h);
+    }) t
+outcome ws (Err (stop.Refused r)) how shelf shelf' sink sink' l c n w t =
+    let planned = status_of_refusal (refusal_seen r) in
+    let text = refusal_line (refusal_seen r) in
+    told_case ws planned how text shelf shelf' sink sink' (record {
+      decided = refusal_decided (refusal_seen r);
+      words = refusal_fits (command_of ws) (λ c done. done.task.vcd.now ≡ c.vcd) r w;
+      faults = c;
+      files = both_map (WorkLeaves ws (Err (stop.Refused r))) (IsRight ws planned text) shelf.files shelf'.files l (λ x y h. refused_right ws r x y h);
+    }) t
+outcome ws (Err stop.Failed) how shelf shelf' sink sink' l c n w t = failed_case ws how shelf shelf' sink sink' c n t
+outcome ws (Err stop.NoMemory) how shelf shelf' sink sink' l c n w t = subst (Outcome ws shelf shelf' sink sink') (sym t.0) (no_memory c l t.1)
+
+-- the name of the dump that a task makes is that of the words
+abbrev Names : Command → Result Task Refusal → Type 0
+Names c (Ok task) = task.vcd ≡ c.vcd
+Names c (Err r) = Unit {0}
+
+abbrev NamesIn : Option Command → Result Task Refusal → Type 0
+NamesIn None (Ok task) = ⊥
+NamesIn None (Err r) = Unit {0}
+NamesIn (Some c) o = Names c o
+
+then_names : {A : Type 0} (first : Result A Refusal → Type 0) (next : A → Result Task Refusal → Type 0) (c : Command) → ((a : A) (p : Result Task Refusal) → next a p → Names c p)
+    → (p : Result Task Refusal) → Then first next p → Names c p
+then_names first next c f _ (stops r h) = tt
+then_names first next c f _ (goes_on a p h k) = f a p k
+
+words_names : (o : Option Command) (next : Command → Result Task Refusal → Type 0) → ((c : Command) (p : Result Task Refusal) → next c p → Names c p)
+    → (p : Result Task Refusal) → Then (WordsOutcome o) next p → NamesIn o p
+words_names None next f _ (stops r h) = tt
+words_names None next f _ (goes_on c p h k) = absurd (let e : ◌≡◌ {A = Result Command Refusal} (Ok c) (Err words) = h in cc)
+words_names (Some d) next f _ (stops r h) = tt
+words_names (Some d) next f _ (goes_on c p h k) = let e : c ≡ d = (let q : ◌≡◌ {A = Result Command Refusal} (Ok c) (Ok d) = h in cc) in subst (λ x. Names x p) e (f c p k)
+
+task_names : (ws : List (List ℕ)) (files : List File) (p : Result Task Refusal) → TaskOutcome ws files p → NamesIn (command_of ws) p
+task_names ws files =
+    words_names (command_of ws) _ (λ c.
+    then_names (CircuitOutcome c files) _ c (λ circuit.
+    then_names (InputOutcome c.stimulus files circuit) _ c (λ input p e. subst (Names c) (sym e) refl)))
+
+-- where nothing changed, every file but one stays
+keeps_same : (made : Option File) (files : List File) → KeepsBut made files files
+keeps_same None files = refl
+keeps_same (Some f) files = record { this = inl refl; others = λ q _. refl }
+
+unfinished_by_answer : (ws : List (List ℕ)) (old new : List File) → LeavesUnfinished ws old new → KeepsByAnswer ws old new
+unfinished_by_answer ws old new (inl same) = λ answer right. subst (KeepsBut answer.made old) (sym same) (keeps_same answer.made old)
+unfinished_by_answer ws old new (inr (task, outcome, left)) = λ answer right.
+    subst (λ m. KeepsBut m old new) (one_made ws old (answer_of (Ok task)) answer (Ok task, outcome, refl) right) left
+
+same_by_words : (o : Option Command) (old new : List File) → new ≡ old → KeepsByWords o old new
+same_by_words None old new e = e
+same_by_words (Some c) old new e = λ q n. ap (bytes_of q) e
+
+begun_by_words : (o : Option Command) (task : Task) (text : List ℕ) (old new : List File) → NamesIn o (Ok task) → LeavesPrefix task.vcd text old new → KeepsByWords o old new
+begun_by_words None task text old new n left = absurd n
+begun_by_words (Some c) task text old new n left = λ q other. left.others q (λ e. other (e ∙ n))
+
+unfinished_by_words : (ws : List (List ℕ)) (old new : List File) → LeavesUnfinished ws old new → KeepsByWords (command_of ws) old new
+unfinished_by_words ws old new (inl same) = same_by_words (command_of ws) old new same
+unfinished_by_words ws old new (inr (task, outcome, left)) = begun_by_words (command_of ws) task (dump_of task) old new (task_names ws old (Ok task) outcome) left
+
+fault_unfinished : (ws : List (List ℕ)) (old new : List File) (name : List ℕ) → FaultAt ws old new name → LeavesUnfinished ws old new
+fault_unfinished ws old new _ (at_netlist c before name after texts e split read same) = inl same
+fault_unfinished ws old new _ (at_stimulus c circuit e o same) = inl same
+fault_unfinished ws old new _ (at_dump task o left) = inr (task, o, left)
+
+fits_usage : (o : Option Command) (how : Status) (text : List ℕ) → FitsWords o how text → IsUsage o how
+fits_usage None how text h = inl h.0
+fits_usage (Some c) how text h = h
+
+name_usage : (o : Option Command) (name : List ℕ) → Contains (names_in o) name → IsUsage o status.Fault
+name_usage None name (k, l, e) = absurd (omega arith)
+name_usage (Some c) name h = λ e. let k : status.Fault ≡ status.Usage = e in cc
+
+end_usage : (o : Option Command) (how : Status) (text : List ℕ) → FitsWords o how text → IsRunEnd how → IsUsage o status.Fault
+end_usage None how text h e = let k : false ≡ true = sym (ap is_run_end h.0) ∙ e in absurd (cc)
+end_usage (Some c) how text h e = λ k. let q : status.Fault ≡ status.Usage = k in cc
+
+want_usage : (o : Option Command) → IsUsage o status.NoMemory
+want_usage None = inr refl
+want_usage (Some c) = λ e. let k : status.NoMemory ≡ status.Usage = e in cc
+
+last_later : (text : List ℕ) (old new : SinkTold) → PutsLast text old new → old.faults ≤ new.faults
+last_later text old new (putting.whole p) = let e : new.faults ≡ old.faults = p.faults in omega arith
+last_later text old new (putting.till_fault p) = p.faults.later
+last_later text old new (putting.till_want p) = let e : new.faults ≡ old.faults = p.faults in omega arith
+
+no_run_end : (how : Status) → is_run_end how ≡ false → IsRunEnd how → ⊥
+no_run_end how f e = let k : false ≡ true = sym f ∙ e in cc
+
+rose_on : (a b c : ℕ) → Rises a b → b ≤ c → Rose a c
+rose_on a b c h l = let r : Rose a b = h.rose in omega arith
+
+-- What follows from the case.
+module _ (ws : List (List ℕ)) (shelf shelf' : ShelfTold) (sink sink' : SinkTold) where
+  unfinished : (how : Status) → Outcome ws shelf shelf' sink sink' how → BothTell shelf.files shelf'.files (LeavesUnfinished ws)
+  unfinished _ (answered how text h r) = both_map (IsRight ws how text) (LeavesUnfinished ws) shelf.files shelf'.files h.files (λ x y q. right_unfinished ws how text x y q)
+  unfinished _ (shelf_fault c f l) = both_map (λ x y. FaultAt ws x y f.name) (LeavesUnfinished ws) shelf.files shelf'.files f.place (λ x y q. fault_unfinished ws x y f.name q)
+  unfinished _ (sink_fault how text cut h e f l) = both_map (IsRight ws how text) (LeavesUnfinished ws) shelf.files shelf'.files h.files (λ x y q. right_unfinished ws how text x y q)
+  unfinished _ (no_memory c f l) = f
+  unfinished _ (sink_want how text cut h w l) = both_map (IsRight ws how text) (LeavesUnfinished ws) shelf.files shelf'.files h.files (λ x y q. right_unfinished ws how text x y q)
+
+  pub kept : (how : Status) → Outcome ws shelf shelf' sink sink' how → BothTell shelf.files shelf'.files (KeepsByAnswer ws)
+  kept how h = both_map (LeavesUnfinished ws) (KeepsByAnswer ws) shelf.files shelf'.files (unfinished how h) (λ x y u. unfinished_by_answer ws x y u)
+
+  pub others : (how : Status) → Outcome ws shelf shelf' sink sink' how → BothTell shelf.files shelf'.files (KeepsByWords (command_of ws))
+  others how h = both_map (LeavesUnfinished ws) (KeepsByWords (command_of ws)) shelf.files shelf'.files (unfinished how h) (λ x y u. unfinished_by_words ws x y u)
+
+  pub answer : (how : Status) → Outcome ws shelf shelf' sink sink' how → IsDecided how → (text : List ℕ) × BothTell shelf.files shelf'.files (IsRight ws how text)
+  answer _ (answered how text h r) d = (text, h.files)
+  answer _ (shelf_fault c f l) d = absurd d
+  answer _ (sink_fault how text cut h e f l) d = absurd d
+  answer _ (no_memory c f l) d = absurd d
+  answer _ (sink_want how text cut h w l) d = absurd d
+
+  pub exact : (how : Status) → Outcome ws shelf shelf' sink sink' how → (files : List File) (answer : Answer) → shelf.files ≡ Some files → IsAnswer ws files answer → IsStatusOf answer how
+  exact _ (answered how text h r) files answer k right =
+      let b = both_told (IsRight ws how text) shelf.files shelf'.files files h.files k in inl (b.2.status ∙ one_status ws files b.2.answer answer b.2.right right)
+  exact _ (shelf_fault c f l) files answer k right = inr (inl refl)
+  exact _ (sink_fault how text cut h e f l) files answer k right = inr (inl refl)
+  exact _ (no_memory c f l) files answer k right = inr (inr refl)
+  exact _ (sink_want how text cut h w l) files answer k right = inr (inr refl)
+
+  pub usage : (how : Status) → Outcome ws shelf shelf' sink sink' how → IsUsage (command_of ws) how
+  usage _ (answered how text h r) = fits_usage (command_of ws) how text h.words
+  usage _ (shelf_fault c f l) = name_usage (command_of ws) f.name f.among
+  usage _ (sink_fault how text cut h e f l) = end_usage (command_of ws) how text h.words e
+  usage _ (no_memory c f l) = want_usage (command_of ws)
+  usage _ (sink_want how text cut h w l) = want_usage (command_of ws)
+
+  pub counted : (how : Status) → Outcome ws shelf shelf' sink sink' how → how ≢ status.Fault → shelf'.faults ≡ shelf.faults
+  counted _ (answered how text h r) n = h.faults
+  counted _ (shelf_fault c f l) n = absurd (n refl)
+  counted _ (sink_fault how text cut h e f l) n = h.faults
+  counted _ (no_memory c f l) n = c
+  counted _ (sink_want how text cut h w l) n = h.faults
+
+  pub run_end : (how : Status) → Outcome ws shelf shelf' sink sink' how → IsRunEnd how → sink'.faults ≡ sink.faults
+  run_end _ (answered how text h (whole p)) e = p.faults
+  run_end _ (answered how text h (till_fault n p)) e = absurd (n e)
+  run_end _ (shelf_fault c f l) e = absurd (no_run_end status.Fault refl e)
+  run_end _ (sink_fault how text cut h k f l) e = absurd (no_run_end status.Fault refl e)
+  run_end _ (no_memory c f l) e = absurd (no_run_end status.NoMemory refl e)
+  run_end _ (sink_want how text cut h w l) e = absurd (no_run_end status.NoMemory refl e)
+
+  right_exact : (how : Status) (text : List ℕ) (files : List File) (held : List ℕ) → BothTell shelf.files shelf'.files (IsRight ws how text) → PutsAll text sink sink'
+      → shelf.files ≡ Some files → sink.contents ≡ Some held → IsExact ws how files held shelf'.files sink'.contents
+  right_exact how text files held h p e k =
+      let b = both_told (IsRight ws how text) shelf.files shelf'.files files h e in
+      let s = both_told (λ (x y : List ℕ). y ≡ x ++ text) sink.contents sink'.contents held p.contents k in
+      let put : s.0 ≡ held ++ text = s.2 in
+      record {
+        answer = b.2.answer;
+        right = b.2.right;
+        status = b.2.status;
+        after = b.0;
+        told = b.1;
+        made = b.2.files;
+        report = s.1 ∙ ap Some (put ∙ ap (λ t. held ++ t) b.2.report);
+      }
+
+  pub headline : (how : Status) → Outcome ws shelf shelf' sink sink' how → (files : List File) (held : List ℕ) → shelf.files ≡ Some files → sink.contents ≡ Some held
+      → how ≢ status.NoMemory → (Rose shelf.faults shelf'.faults → ⊥) → (Rose sink.faults sink'.faults → ⊥) → IsExact ws how files held shelf'.files sink'.contents
+  headline _ (answered how text h (whole p)) files held e k m a b = right_exact how text files held h.files p e k
+  headline _ (answered how text h (till_fault n p)) files held e k m a b = absurd (b p.faults.rose)
+  headline _ (shelf_fault c f l) files held e k m a b = absurd (a c.rose)
+  headline _ (sink_fault how text cut h r f l) files held e k m a b = absurd (b (rose_on sink.faults cut.faults sink'.faults f.faults (last_later _ cut sink' l)))
+  headline _ (no_memory c f l) files held e k m a b = absurd (m refl)
+  headline _ (sink_want how text cut h w l) files held e k m a b = absurd (m refl)

@@ -1,0 +1,121 @@
+-- The answer to a command line, phase by phase. Each phase has its outcomes, over what the phases before it gave: a
+-- value for the phases after it, or a refusal, with which the work ends.
+use Rattle.std.specs.Prelude.{ℕ, ◌≡◌, ◌++◌, ◌+◌, ◌==◌, ◌^◌, List, [], ◌∷◌, Option, Some, None, Result, Ok, Err, codes, count_by, decimal, slice_index_or, take}
+use Rattle.sg_io.specs.Files.{File, bytes_of}
+use Rattle.sg_text.specs.declared.places.Place.{Place}
+use Rattle.sg_delay.specs.declared.corners.Corner.{Corner}
+use Rattle.sg_circuit.specs.Circuit.{Circuit}
+use Rattle.stim_read.specs.Stimulus.{Stimulus}
+use Rattle.wave_out.specs.Texts.{line}
+use Rattle.run_words.specs.Words.{Command, command_of}
+use Rattle.netlist_read.specs.Kinds.{Kind, kind_text}
+use Rattle.netlist_read.specs.Reading as netlist_text
+use Rattle.stim_text.specs.Reading as stimulus_text
+use Rattle.stim_text.specs.declared.kinds.StimKind.{StimKind}
+use Rattle.stim_text.specs.declared.kinds.StimKind.TheVariants as stim
+use Rattle.signoff_top.specs.declared.status.Status.{Status}
+use Rattle.signoff_top.specs.declared.status.Status.TheVariants as status
+
+-- why the work ends before the run
+pub data Refusal : Type 0 where
+  words : Refusal
+  -- the file's name
+  missing : List ℕ → Refusal
+  -- the file's name, the line, and the kind as it is written
+  netlist : List ℕ → ℕ → List ℕ → Refusal
+  stimulus : List ℕ → ℕ → List ℕ → Refusal
+
+abbrev pub status_of_refusal : Refusal → Status
+status_of_refusal words = status.Usage
+status_of_refusal (missing name) = status.Missing
+status_of_refusal (netlist name n kind) = status.Netlist
+status_of_refusal (stimulus name n kind) = status.Stimulus
+
+abbrev pub usage_line : List ℕ
+usage_line = line (codes "usage: signoff run NETLIST.. --stim F --vcd F [--sdf F] [--top NAME] [--corner min|typ|max] [--rounds N] [--wheel N] | signoff gen N")
+
+-- what is refused: the file's name, the line and the kind, with colons between them
+abbrev pub located_line : List ℕ → List ℕ → ℕ → List ℕ → List ℕ
+located_line what name n kind = line (what ++ name ++ codes ":" ++ decimal n ++ codes ": " ++ kind)
+
+abbrev pub refusal_line : Refusal → List ℕ
+refusal_line words = usage_line
+refusal_line (missing name) = line (codes "missing: " ++ name)
+refusal_line (netlist name n kind) = located_line (codes "netlist refused: ") name n kind
+refusal_line (stimulus name n kind) = located_line (codes "stimulus refused: ") name n kind
+
+-- a phase and then another, over what the first gave; a refusal of the first is that of both
+pub data Then {A B : Type 0} (first : Result A Refusal → Type 0) (next : A → Result B Refusal → Type 0) : Result B Refusal → Type 0 where
+  stops : (r : Refusal) → first (Err r) → Then first next (Err r)
+  goes_on : (a : A) (o : Result B Refusal) → first (Ok a) → next a o → Then first next o
+
+-- the words
+abbrev pub WordsOutcome : Option Command → Result Command Refusal → Type 0
+WordsOutcome None outcome = outcome ≡ Err words
+WordsOutcome (Some c) outcome = outcome ≡ Ok c
+
+-- a file is read: the first bytes of it, up to the limit, which is one above what an input file may have
+abbrev pub read_limit : ℕ
+read_limit = 2 ^ 28 + 1
+
+abbrev pub FileOutcome : List ℕ → Option (List ℕ) → Result (List ℕ) Refusal → Type 0
+FileOutcome name None outcome = outcome ≡ Err (missing name)
+FileOutcome name (Some bytes) outcome = outcome ≡ Ok (take read_limit bytes)
+
+-- the files of some names are read in order; the first that isn't held is missing
+abbrev pub FilesOutcome : List (List ℕ) → List File → Result (List (List ℕ)) Refusal → Type 0
+FilesOutcome [] files outcome = outcome ≡ Ok []
+FilesOutcome (n ∷ ns) files outcome = Then (FileOutcome n (bytes_of n files)) (λ text. Then (FilesOutcome ns files) (λ texts o. o ≡ Ok (text ∷ texts))) outcome
+
+-- the line of a byte of a text, counted from 1: one more than the line feeds (byte 10) before it
+abbrev pub line_of : List ℕ → ℕ → ℕ
+line_of text byte = 1 + count_by (λ b. b == 10) (take byte text)
+
+-- a fault of a netlist, named by the file in which it stands: names and texts of the files are those of the words, in order
+abbrev pub refused_at : List (List ℕ) → List (List ℕ) → Kind → Place → Refusal
+refused_at names texts kind place = netlist (slice_index_or names place.file []) (line_of (slice_index_or texts place.file []) place.byte) (kind_text kind)
+
+-- the netlist's texts are read in, with a top of this name, if one is given, and the values of this corner
+abbrev pub NetlistOutcome : List (List ℕ) → List (List ℕ) → Option (List ℕ) → Corner → Result Circuit Refusal → Type 0
+NetlistOutcome names texts top corner (Ok circuit) = netlist_text.IsRead texts top corner circuit
+NetlistOutcome names texts top corner (Err r) = (kind : Kind) × (place : Place) × netlist_text.FaultStands texts top corner kind place × (r ≡ refused_at names texts kind place)
+
+-- the kinds of a stimulus's faults as they are written
+abbrev pub stimulus_kind : StimKind → List ℕ
+stimulus_kind stim.Syntax = codes "Syntax"
+stimulus_kind stim.UnknownInput = codes "UnknownInput"
+stimulus_kind stim.WidthMismatch = codes "WidthMismatch"
+stimulus_kind stim.TimeNotRising = codes "TimeNotRising"
+stimulus_kind stim.NotWholeTick = codes "NotWholeTick"
+stimulus_kind stim.NoEnd = codes "NoEnd"
+stimulus_kind stim.TooLarge = codes "TooLarge"
+
+-- the stimulus's text is read in
+abbrev pub StimulusOutcome : List ℕ → List ℕ → Circuit → Result Stimulus Refusal → Type 0
+StimulusOutcome name text circuit (Ok s) = stimulus_text.IsRead text circuit s
+StimulusOutcome name text circuit (Err r) =
+    (kind : StimKind) × (place : Place) × stimulus_text.FaultStands text circuit kind place × (r ≡ stimulus name (line_of text place.byte) (stimulus_kind kind))
+
+-- what is run
+pub record Task : Type 0 where
+  pub circuit : Circuit
+  pub rounds : ℕ
+  pub input : Stimulus
+  pub vcd : List ℕ
+
+-- the netlist of a command: its files are read, and then their texts
+abbrev pub CircuitOutcome : Command → List File → Result Circuit Refusal → Type 0
+CircuitOutcome command files = Then (FilesOutcome command.netlists files) (λ texts. NetlistOutcome command.netlists texts command.top command.corner)
+
+-- the stimulus of this name
+abbrev pub InputOutcome : List ℕ → List File → Circuit → Result Stimulus Refusal → Type 0
+InputOutcome name files circuit = Then (FileOutcome name (bytes_of name files)) (λ text. StimulusOutcome name text circuit)
+
+-- All phases up to the run, over the words and the files that are held. How many buckets the wheel of events has is no
+-- part of it: the answer is the same.
+abbrev pub TaskOutcome : List (List ℕ) → List File → Result Task Refusal → Type 0
+TaskOutcome ws files =
+    Then (WordsOutcome (command_of ws)) (λ command.
+    Then (CircuitOutcome command files) (λ circuit.
+    Then (InputOutcome command.stimulus files circuit) (λ input outcome.
+    outcome ≡ Ok (record { circuit = circuit; rounds = command.rounds; input = input; vcd = command.vcd }))))

@@ -1,0 +1,116 @@
+-- What the top call promises: one distinction of cases over all that the shelf and the sink tell before and after it,
+-- and words for what follows from it.
+use Rattle.std.specs.Prelude.{ℕ, ◌≡◌, ◌≢◌, ◌⊎◌, ◌++◌, List, [], ◌∷◌, Option, Some, None, Ok, Contains}
+use Rattle.sg_io.specs.Faults.{Rises}
+use Rattle.sg_io.specs.Files.{File, BothTell, bytes_of}
+use Rattle.sg_io.specs.Put.{SinkTold}
+use Rattle.sg_circuit.specs.Circuit.{Circuit}
+use Rattle.signoff_top.specs.Answer.{Answer, IsAnswer, FilesAfter, dump_of, fault_line, report_fault_line, no_memory_line}
+use Rattle.run_words.specs.Words.{Command, command_of, names_in}
+use Rattle.signoff_top.specs.Phases.{Task, TaskOutcome, CircuitOutcome, FilesOutcome, usage_line}
+use Rattle.signoff_top.specs.Putting.{PutsAll, PutsTillFault, PutsTillWant, PutsLast}
+use Rattle.wave_out.specs.Files.{LeavesPrefix}
+use Rattle.signoff_top.specs.Status.{IsDecided, IsRunEnd}
+use Rattle.signoff_top.specs.declared.status.Status.{Status}
+use Rattle.signoff_top.specs.declared.status.Status.TheVariants as status
+
+-- what a shelf tells: its files, where it does; how many calls failed, and the name in the last of them
+pub record ShelfTold : Type 0 where
+  pub files : Option (List File)
+  pub faults : ℕ
+  pub last : Option (List ℕ)
+
+-- a right answer for the files before: its status, its report, and the file that it makes
+pub record IsRight (ws : List (List ℕ)) (how : Status) (text : List ℕ) (old new : List File) : Type 0 where
+  pub answer : Answer
+  pub right : IsAnswer ws old answer
+  pub status : how ≡ answer.status
+  pub report : text ≡ answer.report
+  pub files : FilesAfter answer.made old new
+
+-- the words alone say whether the status is that of refused words, whose report is the usage line
+abbrev pub FitsWords : Option Command → Status → List ℕ → Type 0
+FitsWords None how text = (how ≡ status.Usage) × (text ≡ usage_line)
+FitsWords (Some c) how text = how ≢ status.Usage
+
+-- the work on the shelf came to an answer: no call failed, and where the shelf tells its files the answer is right
+pub record HasAnswer (ws : List (List ℕ)) (how : Status) (text : List ℕ) (old new : ShelfTold) : Type 0 where
+  pub decided : IsDecided how
+  pub words : FitsWords (command_of ws) how text
+  pub faults : new.faults ≡ old.faults
+  pub files : BothTell old.files new.files (IsRight ws how text)
+
+-- A file in a call on which the work may fail, and what is left then: one of the netlist's, where the words are a command
+-- and the files before it were read; the stimulus's, where the netlist was accepted; the dump's, where all phases up to the
+-- run gave a task.
+pub data FaultAt (ws : List (List ℕ)) (old new : List File) : List ℕ → Type 0 where
+  at_netlist : (c : Command) (before : List (List ℕ)) (name : List ℕ) (after texts : List (List ℕ)) → command_of ws ≡ Some c → c.netlists ≡ before ++ name ∷ after → FilesOutcome before old (Ok texts)
+      → new ≡ old → FaultAt ws old new name
+  at_stimulus : (c : Command) (circuit : Circuit) → command_of ws ≡ Some c → CircuitOutcome c old (Ok circuit) → new ≡ old → FaultAt ws old new c.stimulus
+  at_dump : (task : Task) → TaskOutcome ws old (Ok task) → LeavesPrefix task.vcd (dump_of task) old new → FaultAt ws old new task.vcd
+
+-- the shelf names the file of the last call that failed: one of the words, to which the work had come
+pub record NamesFaultAt (ws : List (List ℕ)) (old new : Option (List File)) (last : Option (List ℕ)) : Type 0 where
+  pub name : List ℕ
+  pub told : last ≡ Some name
+  pub among : Contains (names_in (command_of ws)) name
+  pub place : BothTell old new (λ before after. FaultAt ws before after name)
+
+-- all files are as before, or the dump of a task was begun
+abbrev pub LeavesUnfinished : List (List ℕ) → List File → List File → Type 0
+LeavesUnfinished ws old new = (new ≡ old) ⊎ ((task : Task) × TaskOutcome ws old (Ok task) × LeavesPrefix task.vcd (dump_of task) old new)
+
+-- a report was put: all of it; or, but at the end of a run, its first bytes till a call failed
+pub data PutsReport (how : Status) (text : List ℕ) (old new : SinkTold) : Type 0 where
+  whole : PutsAll text old new → PutsReport how text old new
+  till_fault : (IsRunEnd how → ⊥) → PutsTillFault text old new → PutsReport how text old new
+
+-- How the call went, by the status that comes.
+pub data Outcome (ws : List (List ℕ)) (shelf shelf' : ShelfTold) (sink sink' : SinkTold) : Status → Type 0 where
+  -- an answer, and its report
+  answered : (how : Status) (text : List ℕ) → HasAnswer ws how text shelf shelf' → PutsReport how text sink sink' → Outcome ws shelf shelf' sink sink' how
+  -- a call of the shelf failed: its line
+  shelf_fault : Rises shelf.faults shelf'.faults → (f : NamesFaultAt ws shelf.files shelf'.files shelf'.last) → PutsLast (fault_line f.name) sink sink'
+      → Outcome ws shelf shelf' sink sink' status.Fault
+  -- the answer is the end of a run, and a call of the sink failed: the first bytes of the report, then the line of that
+  sink_fault : (how : Status) (text : List ℕ) (cut : SinkTold) → HasAnswer ws how text shelf shelf' → IsRunEnd how
+      → PutsTillFault text sink cut → PutsLast report_fault_line cut sink' → Outcome ws shelf shelf' sink sink' status.Fault
+  -- there was no memory, for the work or for the report's text: its line
+  no_memory : shelf'.faults ≡ shelf.faults → BothTell shelf.files shelf'.files (LeavesUnfinished ws) → PutsLast no_memory_line sink sink'
+      → Outcome ws shelf shelf' sink sink' status.NoMemory
+  -- there is an answer, and the sink found no memory for its report: the line of that
+  sink_want : (how : Status) (text : List ℕ) (cut : SinkTold) → HasAnswer ws how text shelf shelf'
+      → PutsTillWant [] sink cut → PutsLast no_memory_line cut sink' → Outcome ws shelf shelf' sink sink' status.NoMemory
+
+-- the status, the files and the bytes put are exactly those of a right answer
+pub record IsExact (ws : List (List ℕ)) (how : Status) (files : List File) (held : List ℕ) (new : Option (List File)) (contents : Option (List ℕ)) : Type 0 where
+  pub answer : Answer
+  pub right : IsAnswer ws files answer
+  pub status : how ≡ answer.status
+  pub after : List File
+  pub told : new ≡ Some after
+  pub made : FilesAfter answer.made files after
+  pub report : contents ≡ Some (held ++ answer.report)
+
+-- the status is that of the answer, or a fault, or want of memory
+abbrev pub IsStatusOf : Answer → Status → Type 0
+IsStatusOf answer how = (how ≡ answer.status) ⊎ ((how ≡ status.Fault) ⊎ (how ≡ status.NoMemory))
+
+-- the file that a right answer makes is as before, or holds the first bytes of what it makes; every other file stays
+abbrev pub KeepsBut : Option File → List File → List File → Type 0
+KeepsBut None old new = new ≡ old
+KeepsBut (Some f) old new = LeavesPrefix f.name f.bytes old new
+
+-- whatever right answer there is
+abbrev pub KeepsByAnswer : List (List ℕ) → List File → List File → Type 0
+KeepsByAnswer ws old new = (answer : Answer) → IsAnswer ws old answer → KeepsBut answer.made old new
+
+-- by the words alone: every file stays but that which they name for the dump; without a command all do
+abbrev pub KeepsByWords : Option Command → List File → List File → Type 0
+KeepsByWords None old new = new ≡ old
+KeepsByWords (Some c) old new = (q : List ℕ) → q ≢ c.vcd → bytes_of q new ≡ bytes_of q old
+
+-- status 2 comes exactly where the words are no command, unless there was no memory
+abbrev pub IsUsage : Option Command → Status → Type 0
+IsUsage None how = (how ≡ status.Usage) ⊎ (how ≡ status.NoMemory)
+IsUsage (Some c) how = how ≢ status.Usage

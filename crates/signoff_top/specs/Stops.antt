@@ -1,0 +1,74 @@
+-- What the program's phases return, beside the outcomes that the definition has.
+use Rattle.std.specs.Prelude.{ℕ, ◌≡◌, ◌⊎◌, ◌++◌, List, ◌∷◌, Option, Some, None, Result, Ok, Err}
+use Rattle.sg_io.specs.Files.{File}
+use Rattle.sg_io.specs.declared.outside.ShelfError.{ShelfError}
+use Rattle.sg_io.specs.declared.outside.ShelfError.TheVariants as shelf
+use Rattle.run_words.specs.Words.{Command}
+use Rattle.signoff_top.specs.Phases.{Refusal, FilesOutcome, words, missing, netlist, stimulus, stimulus_kind}
+use Rattle.signoff_top.specs.declared.stop.Stop as code_stop
+use Rattle.signoff_top.specs.declared.stop.Stop.TheVariants as stop
+use Rattle.signoff_top.specs.declared.stop.Refusal as code_refusal
+use Rattle.signoff_top.specs.declared.stop.Refusal.TheVariants as refusal
+
+abbrev pub refusal_seen : code_refusal.Refusal → Refusal
+refusal_seen refusal.Words = words
+refusal_seen (refusal.Missing name) = missing name.now
+refusal_seen (refusal.Netlist name line kind) = netlist name.now line kind.items
+refusal_seen (refusal.Stimulus name line kind) = stimulus name.now line (stimulus_kind kind)
+
+-- the outcome that a phase returned, unless memory ran out or a call outside failed
+abbrev pub IfOutcome : {X A : Type 0} → (X → A) → (Result A Refusal → Type 0) → Result X code_stop.Stop → Type 0
+IfOutcome view phase (Ok x) = phase (Ok (view x))
+IfOutcome view phase (Err (stop.Refused r)) = phase (Err (refusal_seen r))
+IfOutcome view phase (Err stop.Failed) = Unit {0}
+IfOutcome view phase (Err stop.NoMemory) = Unit {0}
+
+-- what a phase returned is an outcome that it may have, unless memory ran out or a call outside failed
+pub record Gives {X A : Type 0} (view : X → A) (phase : Result A Refusal → Type 0) (result : Result X code_stop.Stop) : Type 0 where
+  pub outcome : IfOutcome view phase result
+
+-- how a phase ended, as calls outside end: a refusal is no failure of them
+abbrev pub end_of_phase : {X : Type 0} → Result X code_stop.Stop → Result Unit ShelfError
+end_of_phase (Ok x) = Ok tt
+end_of_phase (Err (stop.Refused r)) = Ok tt
+end_of_phase (Err stop.Failed) = Err shelf.Failed
+end_of_phase (Err stop.NoMemory) = Err shelf.NoMemory
+
+-- a phase that calls nothing outside doesn't fail
+abbrev pub NeverFails : {X : Type 0} → Result X code_stop.Stop → Type 0
+NeverFails (Ok x) = Unit {0}
+NeverFails (Err (stop.Refused r)) = Unit {0}
+NeverFails (Err stop.Failed) = ⊥
+NeverFails (Err stop.NoMemory) = Unit {0}
+
+-- after a failure outside
+abbrev pub IfFailed : {X : Type 0} → Type 0 → Result X code_stop.Stop → Type 0
+IfFailed P (Ok x) = Unit {0}
+IfFailed P (Err (stop.Refused r)) = Unit {0}
+IfFailed P (Err stop.Failed) = P
+IfFailed P (Err stop.NoMemory) = Unit {0}
+
+-- the shelf names one of these files in the last call that failed; where it tells its files, those before were read
+pub record FailsAtOne (names : List (List ℕ)) (held : Option (List File)) (last : Option (List ℕ)) : Type 0 where
+  pub before : List (List ℕ)
+  pub name : List ℕ
+  pub after : List (List ℕ)
+  pub split : names ≡ before ++ name ∷ after
+  pub told : last ≡ Some name
+  pub read : (files : List File) → held ≡ Some files → (texts : List (List ℕ)) × FilesOutcome before files (Ok texts)
+
+-- the words aren't refused
+abbrev pub SparesWords : code_stop.Stop → Type 0
+SparesWords (stop.Refused refusal.Words) = ⊥
+SparesWords (stop.Refused (refusal.Missing name)) = Unit {0}
+SparesWords (stop.Refused (refusal.Netlist name line kind)) = Unit {0}
+SparesWords (stop.Refused (refusal.Stimulus name line kind)) = Unit {0}
+SparesWords stop.Failed = Unit {0}
+SparesWords stop.NoMemory = Unit {0}
+
+-- the words alone say whether they are refused, unless there was no memory; of a value that comes they say P
+abbrev pub StopWords : {X : Type 0} → Option Command → (Command → X → Type 0) → Result X code_stop.Stop → Type 0
+StopWords None P (Ok x) = ⊥
+StopWords None P (Err s) = (s ≡ stop.Refused refusal.Words) ⊎ (s ≡ stop.NoMemory)
+StopWords (Some c) P (Ok x) = P c x
+StopWords (Some c) P (Err s) = SparesWords s

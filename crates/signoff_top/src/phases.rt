@@ -1,0 +1,250 @@
+// The phases up to the run, one call for each.
+ghost use Rattle.std.specs.Prelude.{◌≡◌, ◌≤◌, ◌<◌, List, Some, IfErr, IfOk, length, map, option_map, slice_index_or, string_bytes, []};
+ghost use Rattle.sg_io.specs.Faults.{Cause};
+ghost use Rattle.sg_io.specs.Files.{File, bytes_of};
+ghost use Rattle.stim_read.specs.Applied.{IsApplied};
+ghost use Rattle.stim_read.specs.Seen.{stimulus_seen};
+ghost use Rattle.netlist_read.specs.Seen.{kind_seen};
+ghost use Rattle.run_words.specs.Words.{command_of};
+ghost use Rattle.run_words.specs.WordsSeen.{command_seen};
+ghost use Rattle.signoff_top.specs.Phases.{CircuitOutcome, FileOutcome, FilesOutcome, InputOutcome, NetlistOutcome, StimulusOutcome, TaskOutcome, WordsOutcome, refused_at};
+ghost use Rattle.signoff_top.specs.Promises.{NamesFaultAt};
+ghost use Rattle.signoff_top.specs.Stops.{FailsAtOne, Gives, IfFailed, NeverFails, SparesWords, StopWords, end_of_phase, refusal_seen};
+ghost use Rattle.signoff_top.specs.Tasks.{task_seen};
+
+use crate::stop::{Refusal, Stop};
+use netlist_read::{NetlistKind, read_netlist, write_kind};
+use run_words::{Command, read_words};
+use sg_circuit::Circuit;
+use sg_delay::Corner;
+use sg_io::{ReadError, Shelf};
+use sg_text::{NoMemory, Place, Refused};
+use std::alloc::Global;
+use stim_read::Stimulus;
+use stim_text::read_stim;
+
+/// What is run, with at most so many rounds a time, over an event wheel of so many buckets; and the name of the file that
+/// is made.
+#[derive(Debug, Drop)]
+pub struct Task<'a> {
+    pub circuit: Circuit,
+    pub input: Stimulus,
+    pub rounds: u32,
+    pub wheel: u32,
+    pub vcd: &'a str,
+}
+
+// One byte more than an input file may have.
+const READ_LIMIT: u64 = (1 << 28) + 1;
+
+#[tactic(auto, using(crate::proofs::WordsRead::command_ranges, crate::proofs::WordsRead::command_some))]
+fn words_phase<'a>(alloc: Global, words: &'a [String]) -> Result<Command<'a>, Stop<'a>>
+    ensures gives { Gives (λ c. command_seen c) (WordsOutcome (command_of (map (λ w. string_bytes w) words.now))) result }
+    ensures works { NeverFails result }
+    ensures words { StopWords (command_of (map (λ w. string_bytes w) words.now)) (λ c x. c ≡ command_seen x) result }
+    ensures ranges { IfOk result (λ c. (1 ≤ c.rounds) × (1 ≤ c.wheel) × (c.wheel ≤ 1048576)) }
+    ensures some { IfOk result (λ c. 0 < length c.netlists.items) }
+{
+    match read_words(alloc, words)? {
+        Some(command) => Ok(command),
+        None => Err(Stop::Refused(Refusal::Words)),
+    }
+}
+
+fn file_phase<'a, S: Shelf>(
+    alloc: Global,
+    shelf: &mut S,
+    name: &'a str,
+) -> Result<Vec<u8>, Stop<'a>>
+    ensures gives { (files : List File) → S.files shelf.old ≡ Some files
+        → Gives (λ v. v.items) (FileOutcome name.now (bytes_of name.now files)) result }
+    ensures held { S.files shelf.new ≡ S.files shelf.old }
+    ensures cause { Cause (S.fault_count shelf.old) (S.fault_count shelf.new) (end_of_phase result) }
+    ensures named { IfFailed (S.last_fault shelf.new ≡ Some name.now) result }
+    ensures words { IfErr result (λ s. SparesWords s) }
+{
+    match shelf.read(alloc, name, READ_LIMIT) {
+        Ok(bytes) => Ok(bytes),
+        Err(ReadError::Missing) => Err(Stop::Refused(Refusal::Missing(name))),
+        Err(ReadError::Failed) => Err(Stop::Failed),
+        Err(ReadError::NoMemory) => Err(Stop::NoMemory),
+    }
+}
+
+// The files of these names, in order.
+fn files_phase<'a, S: Shelf>(
+    alloc: Global,
+    shelf: &mut S,
+    names: &[&'a str],
+) -> Result<Vec<Vec<u8>>, Stop<'a>>
+    ensures gives { (files : List File) → S.files shelf.old ≡ Some files
+        → Gives (λ v. map (λ f. f.items) v.items) (FilesOutcome (map (λ n. n.now) names.now) files) result }
+    ensures count { IfOk result (λ v. length v.items ≡ length names.now) }
+    ensures held { S.files shelf.new ≡ S.files shelf.old }
+    ensures cause { Cause (S.fault_count shelf.old) (S.fault_count shelf.new) (end_of_phase result) }
+    ensures named { IfFailed (FailsAtOne (map (λ n. n.now) names.now) (S.files shelf.old) (S.last_fault shelf.new)) result }
+    ensures words { IfErr result (λ s. SparesWords s) }
+{
+    let mut texts = Vec::new(alloc);
+    for name in names {
+        let text = file_phase(alloc, shelf, *name)?;
+        texts.push(text)?;
+    }
+    Ok(texts)
+}
+
+fn name_at<'a>(names: &[&'a str], file: u32) -> &'a str
+    ensures { result.now ≡ slice_index_or (map (λ n. n.now) names.now) file [] }
+{
+    match names.get(file as usize) {
+        Some(name) => *name,
+        None => "",
+    }
+}
+
+fn text_at(files: &[Vec<u8>], file: u32) -> &[u8]
+    ensures { result.now ≡ slice_index_or (map (λ f. f.items) files.now) file [] }
+{
+    match files.get(file as usize) {
+        Some(text) => text,
+        None => &[],
+    }
+}
+
+// A fault at a place of the files of these names.
+fn netlist_refusal<'a>(
+    alloc: Global,
+    names: &[&'a str],
+    files: &[Vec<u8>],
+    kind: &NetlistKind<'_>,
+    place: Place,
+) -> Result<Refusal<'a>, NoMemory>
+    ensures { IfOk result (λ r. refusal_seen r ≡ refused_at (map (λ n. n.now) names.now) (map (λ f. f.items) files.now) (kind_seen kind.now) place) }
+{
+    let kind = write_kind(alloc, kind)?;
+    let name = name_at(names, place.file);
+    let line = place.line_of(text_at(files, place.file));
+    Ok(Refusal::Netlist { name, line, kind })
+}
+
+fn top_bytes(top: Option<&str>) -> Option<&[u8]>
+    ensures { option_map (λ n. n.now) result ≡ option_map (λ n. n.now) top.entry }
+{
+    match top {
+        Some(name) => Some(name.as_bytes()),
+        None => None,
+    }
+}
+
+// What the texts of the files of these names say.
+fn netlist_phase<'a>(
+    alloc: Global,
+    names: &[&'a str],
+    files: &[Vec<u8>],
+    top: Option<&str>,
+    corner: Corner,
+) -> Result<Circuit, Stop<'a>>
+    requires some { 0 < length files.now }
+    ensures gives { Gives (λ c. c) (NetlistOutcome (map (λ n. n.now) names.now) (map (λ f. f.items) files.now) (option_map (λ n. n.now) top.entry) corner) result }
+    ensures works { NeverFails result }
+    ensures words { IfErr result (λ s. SparesWords s) }
+{
+    match read_netlist(alloc, files, top_bytes(top), corner) {
+        Ok(circuit) => Ok(circuit),
+        Err(Refused::Fault { kind, place }) => {
+            let refusal = netlist_refusal(alloc, names, files, &kind, place)?;
+            Err(Stop::Refused(refusal))
+        }
+        Err(Refused::NoMemory) => Err(Stop::NoMemory),
+    }
+}
+
+fn stimulus_phase<'a>(
+    alloc: Global,
+    name: &'a str,
+    text: &[u8],
+    circuit: &Circuit,
+) -> Result<Stimulus, Stop<'a>>
+    ensures gives { Gives (λ s. stimulus_seen s) (StimulusOutcome name.now text.now circuit.now) result }
+    ensures applied { IfOk result (λ s. IsApplied circuit.now (stimulus_seen s)) }
+    ensures works { NeverFails result }
+    ensures words { IfErr result (λ s. SparesWords s) }
+{
+    match read_stim(alloc, text, circuit) {
+        Ok(stimulus) => Ok(stimulus),
+        Err(Refused::Fault { kind, place }) => {
+            let line = place.line_of(text);
+            Err(Stop::Refused(Refusal::Stimulus { name, line, kind }))
+        }
+        Err(Refused::NoMemory) => Err(Stop::NoMemory),
+    }
+}
+
+// The netlist's files and their texts.
+fn circuit_of<'a, S: Shelf>(
+    alloc: Global,
+    shelf: &mut S,
+    command: &Command<'a>,
+) -> Result<Circuit, Stop<'a>>
+    requires some { 0 < length command.now.netlists.items }
+    ensures gives { (files : List File) → S.files shelf.old ≡ Some files → Gives (λ c. c) (CircuitOutcome (command_seen command.now) files) result }
+    ensures held { S.files shelf.new ≡ S.files shelf.old }
+    ensures cause { Cause (S.fault_count shelf.old) (S.fault_count shelf.new) (end_of_phase result) }
+    ensures named { IfFailed (FailsAtOne (command_seen command.now).netlists (S.files shelf.old) (S.last_fault shelf.new)) result }
+    ensures words { IfErr result (λ s. SparesWords s) }
+{
+    let texts = files_phase(alloc, shelf, &command.netlists)?;
+    netlist_phase(
+        alloc,
+        &command.netlists,
+        &texts,
+        command.top,
+        command.corner,
+    )
+}
+
+// The stimulus's file and its text.
+fn input_of<'a, S: Shelf>(
+    alloc: Global,
+    shelf: &mut S,
+    name: &'a str,
+    circuit: &Circuit,
+) -> Result<Stimulus, Stop<'a>>
+    ensures gives { (files : List File) → S.files shelf.old ≡ Some files
+        → Gives (λ s. stimulus_seen s) (InputOutcome name.now files circuit.now) result }
+    ensures applied { IfOk result (λ s. IsApplied circuit.now (stimulus_seen s)) }
+    ensures held { S.files shelf.new ≡ S.files shelf.old }
+    ensures cause { Cause (S.fault_count shelf.old) (S.fault_count shelf.new) (end_of_phase result) }
+    ensures named { IfFailed (S.last_fault shelf.new ≡ Some name.now) result }
+    ensures words { IfErr result (λ s. SparesWords s) }
+{
+    let text = file_phase(alloc, shelf, name)?;
+    stimulus_phase(alloc, name, &text, circuit)
+}
+
+/// All phases up to the run: the words, the netlist, the stimulus.
+pub fn task_of<'a, S: Shelf>(
+    alloc: Global,
+    words: &'a [String],
+    shelf: &mut S,
+) -> Result<Task<'a>, Stop<'a>>
+    ensures gives { (files : List File) → S.files shelf.old ≡ Some files
+        → Gives (λ t. task_seen t) (TaskOutcome (map (λ w. string_bytes w) words.now) files) result }
+    ensures applied { IfOk result (λ t. IsApplied t.circuit (stimulus_seen t.input)) }
+    ensures ranges { IfOk result (λ t. (1 ≤ t.rounds) × (1 ≤ t.wheel) × (t.wheel ≤ 1048576)) }
+    ensures held { S.files shelf.new ≡ S.files shelf.old }
+    ensures cause { Cause (S.fault_count shelf.old) (S.fault_count shelf.new) (end_of_phase result) }
+    ensures named { IfFailed (NamesFaultAt (map (λ w. string_bytes w) words.now) (S.files shelf.old) (S.files shelf.new) (S.last_fault shelf.new)) result }
+    ensures words { StopWords (command_of (map (λ w. string_bytes w) words.now)) (λ c t. t.vcd.now ≡ c.vcd) result }
+{
+    let command = words_phase(alloc, words)?;
+    let circuit = circuit_of(alloc, shelf, &command)?;
+    let input = input_of(alloc, shelf, command.stimulus, &circuit)?;
+    Ok(Task {
+        circuit,
+        input,
+        rounds: command.rounds,
+        wheel: command.wheel,
+        vcd: command.vcd,
+    })
+}

@@ -1,0 +1,206 @@
+// The report.
+ghost use Rattle.std.specs.Prelude.{◌≡◌, ◌++◌, [], ℕ, List, IfOk, IfErr, map};
+ghost use Rattle.std.specs.Option.{option_copied};
+ghost use Rattle.time_checks.specs.Seen.{violation_seen};
+ghost use Rattle.wave_out.specs.Report.{report_lines};
+ghost use Rattle.wave_out.specs.Spent.{spent_seen};
+ghost use Rattle.wave_out.specs.Texts.{line};
+ghost use Rattle.signoff_top.specs.Answer.{fault_line, no_memory_line, status_of_run as end_status};
+ghost use Rattle.signoff_top.specs.Phases.{located_line, refusal_line, status_of_refusal, stimulus_kind};
+ghost use Rattle.signoff_top.specs.Putting.{PutsBy, PutsLast};
+ghost use Rattle.signoff_top.specs.Stops.{refusal_seen};
+ghost use Rattle.signoff_top.specs.Work.{Tells, TellsEnd, TellsStop};
+
+use crate::status::Status;
+use crate::stop::{Refusal, Stop};
+use crate::work::Done;
+use itoa::Buffer;
+use run_dump::RunEnd;
+use sg_io::{ShelfError, Sink};
+use std::alloc::{AllocError, Global};
+use stim_text::StimKind;
+use wave_out::report_of;
+
+const USAGE: &str =
+    "usage: signoff run NETLIST.. --stim F --vcd F [--sdf F] [--top NAME] [--corner min|typ|max] [--rounds N] [--wheel N] | signoff gen N";
+
+// A word and a name, on a line of their own.
+fn named_line(alloc: Global, before: &str, name: &str) -> Result<Vec<u8>, AllocError>
+    ensures { IfOk result (λ v. v.items ≡ line (before.now ++ name.now)) }
+{
+    let mut text = Vec::new(alloc);
+    text.extend_from_slice(before.as_bytes())?;
+    text.extend_from_slice(name.as_bytes())?;
+    text.push(b'\n')?;
+    Ok(text)
+}
+
+// What is refused, the line of its file, and the kind of the fault.
+fn located_text(
+    alloc: Global,
+    what: &str,
+    name: &str,
+    number: u64,
+    kind: &[u8],
+) -> Result<Vec<u8>, AllocError>
+    ensures { IfOk result (λ v. v.items ≡ located_line what.now name.now number kind.now) }
+{
+    let mut buffer = Buffer::new();
+    let mut text = Vec::new(alloc);
+    text.extend_from_slice(what.as_bytes())?;
+    text.extend_from_slice(name.as_bytes())?;
+    text.extend_from_slice(b":")?;
+    text.extend_from_slice(buffer.format(number).as_bytes())?;
+    text.extend_from_slice(b": ")?;
+    text.extend_from_slice(kind)?;
+    text.push(b'\n')?;
+    Ok(text)
+}
+
+fn kind_word(kind: StimKind) -> &'static str
+    ensures { result.now ≡ stimulus_kind kind }
+{
+    match kind {
+        StimKind::Syntax => "Syntax",
+        StimKind::UnknownInput => "UnknownInput",
+        StimKind::WidthMismatch => "WidthMismatch",
+        StimKind::TimeNotRising => "TimeNotRising",
+        StimKind::NotWholeTick => "NotWholeTick",
+        StimKind::NoEnd => "NoEnd",
+        StimKind::TooLarge => "TooLarge",
+    }
+}
+
+fn refusal_text(alloc: Global, refusal: &Refusal<'_>) -> Result<Vec<u8>, AllocError>
+    ensures { IfOk result (λ v. v.items ≡ refusal_line (refusal_seen refusal.now)) }
+{
+    match refusal {
+        Refusal::Words => named_line(alloc, USAGE, ""),
+        Refusal::Missing(name) => named_line(alloc, "missing: ", name),
+        Refusal::Netlist { name, line, kind } => {
+            located_text(alloc, "netlist refused: ", name, *line, kind)
+        }
+        Refusal::Stimulus { name, line, kind } => located_text(
+            alloc,
+            "stimulus refused: ",
+            name,
+            *line,
+            kind_word(*kind).as_bytes(),
+        ),
+    }
+}
+
+fn status_of(refusal: &Refusal<'_>) -> Status
+    ensures { result ≡ status_of_refusal (refusal_seen refusal.now) }
+{
+    match refusal {
+        Refusal::Words => Status::Usage,
+        Refusal::Missing(_) => Status::Missing,
+        Refusal::Netlist { .. } => Status::Netlist,
+        Refusal::Stimulus { .. } => Status::Stimulus,
+    }
+}
+
+fn run_text(alloc: Global, done: &Done<'_>) -> Result<Vec<u8>, AllocError>
+    ensures { IfOk result (λ v. v.items ≡ report_lines done.now.task.circuit [] [] (map (λ x. violation_seen x) done.now.end.violations.items) done.now.task.input.end (spent_seen done.now.end.spent)) }
+{
+    report_of(
+        alloc,
+        &done.task.circuit,
+        &done.end.violations,
+        done.task.input.end,
+        done.end.spent,
+    )
+}
+
+// In pieces, so that no memory is taken.
+fn put_line<K: Sink>(report: &mut K, before: &[u8], name: &[u8]) -> Result<(), ShelfError>
+    ensures { PutsBy (line (before.now ++ name.now)) (K.told report.old) (K.told report.new) result }
+{
+    report.put(before)?;
+    report.put(name)?;
+    report.put(b"\n")
+}
+
+fn tell_fault<K: Sink>(report: &mut K, name: &str) -> Status
+    ensures status { result ≡ Status.Fault }
+    ensures put { PutsLast (fault_line name.now) (K.told report.old) (K.told report.new) }
+{
+    let _ = put_line(report, b"fault: ", name.as_bytes());
+    Status::Fault
+}
+
+/// Tells that there was no memory. Takes none.
+pub fn tell_no_memory<K: Sink>(report: &mut K) -> Status
+    ensures status { result ≡ Status.NoMemory }
+    ensures put { PutsLast no_memory_line (K.told report.old) (K.told report.new) }
+{
+    let _ = report.put(b"no memory\n");
+    Status::NoMemory
+}
+
+// A failing sink turns the end of a run into a fault, which it is told too, and leaves every other status.
+fn put_text<K: Sink>(report: &mut K, planned: Status, text: &[u8]) -> Status
+    ensures { Tells text.now planned (K.told report.old) (K.told report.new) result }
+{
+    match report.put(text) {
+        Ok(()) => planned,
+        Err(ShelfError::Failed) if planned.is_run_end() => tell_fault(report, "report"),
+        Err(ShelfError::Failed) => planned,
+        Err(ShelfError::NoMemory) => tell_no_memory(report),
+    }
+}
+
+// Puts a text, if there was memory for it.
+fn put_made<K: Sink>(report: &mut K, planned: Status, made: Result<Vec<u8>, AllocError>) -> Status
+    ensures ok { IfOk made (λ v. Tells v.items planned (K.told report.old) (K.told report.new) result) }
+    ensures err { IfErr made (λ _. (text : List ℕ) → Tells text planned (K.told report.old) (K.told report.new) result) }
+{
+    match made {
+        Ok(text) => put_text(report, planned, &text),
+        Err(_) => tell_no_memory(report),
+    }
+}
+
+fn status_of_run(end: &RunEnd) -> Status
+    ensures { result ≡ end_status (spent_seen end.now.spent) (map (λ v. violation_seen v) end.now.violations.items) }
+{
+    match end.spent {
+        Some(_) => Status::Rounds,
+        None if end.violations.is_empty() => Status::Clean,
+        None => Status::Violations,
+    }
+}
+
+fn tell_stop<K: Sink>(
+    alloc: Global,
+    stop: &Stop<'_>,
+    failed: Option<&str>,
+    report: &mut K,
+) -> Status
+    ensures { TellsStop (option_copied failed.entry) stop.now (K.told report.old) (K.told report.new) result }
+{
+    match stop {
+        Stop::Refused(refusal) => {
+            put_made(report, status_of(refusal), refusal_text(alloc, refusal))
+        }
+        Stop::Failed => tell_fault(report, failed.unwrap_or("")),
+        Stop::NoMemory => tell_no_memory(report),
+    }
+}
+
+/// Tells how the work ended, where `failed` is the name of the file in the last call of the shelf that failed, and
+/// gives the program's status.
+pub fn tell<K: Sink>(
+    alloc: Global,
+    end: &Result<Done<'_>, Stop<'_>>,
+    failed: Option<&str>,
+    report: &mut K,
+) -> Status
+    ensures { TellsEnd (option_copied failed.entry) end.now (K.told report.old) (K.told report.new) result }
+{
+    match end {
+        Ok(done) => put_made(report, status_of_run(&done.end), run_text(alloc, done)),
+        Err(stop) => tell_stop(alloc, stop, failed, report),
+    }
+}

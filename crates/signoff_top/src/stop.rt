@@ -1,0 +1,63 @@
+// Why the work ends before its report.
+use sg_text::NoMemory;
+use std::alloc::{AllocError, AllocFailed};
+use stim_text::StimKind;
+
+/// A refusal of the words or of a file, by name. The line of a fault is counted from 1; the kind of a netlist's fault is
+/// the text of it.
+#[derive(Debug, Drop)]
+pub enum Refusal<'a> {
+    Words,
+    Missing(&'a str),
+    Netlist {
+        name: &'a str,
+        line: u64,
+        kind: Vec<u8>,
+    },
+    Stimulus {
+        name: &'a str,
+        line: u64,
+        kind: StimKind,
+    },
+}
+
+/// A refusal, a call on the shelf that failed, or want of memory.
+#[derive(Debug, Drop)]
+pub enum Stop<'a> {
+    Refused(Refusal<'a>),
+    Failed,
+    NoMemory,
+}
+
+impl From<AllocError> for Stop<'_> {
+    ghost use Rattle.std.specs.Prelude.{◌≡◌};
+    ghost use Rattle.signoff_top.specs.declared.stop.Stop.TheVariants as stop;
+
+    ghost from_gives = { λ _ e. e ≡ stop.NoMemory };
+
+    fn from(_: AllocError) -> Self {
+        Stop::NoMemory
+    }
+}
+
+impl<T: Drop> From<AllocFailed<T>> for Stop<'_> {
+    ghost use Rattle.std.specs.Prelude.{◌≡◌};
+    ghost use Rattle.signoff_top.specs.declared.stop.Stop.TheVariants as stop;
+
+    ghost from_gives = { λ _ e. e ≡ stop.NoMemory };
+
+    fn from(_: AllocFailed<T>) -> Self {
+        Stop::NoMemory
+    }
+}
+
+impl From<NoMemory> for Stop<'_> {
+    ghost use Rattle.std.specs.Prelude.{◌≡◌};
+    ghost use Rattle.signoff_top.specs.declared.stop.Stop.TheVariants as stop;
+
+    ghost from_gives = { λ _ e. e ≡ stop.NoMemory };
+
+    fn from(_: NoMemory) -> Self {
+        Stop::NoMemory
+    }
+}

@@ -1,0 +1,18 @@
+//! Reads a stimulus: what a text says is applied to the inputs of a circuit.
+#![tactic(auto)]
+
+mod bits;
+mod forms;
+mod inputs;
+mod kinds;
+mod lines;
+mod reading;
+mod sets;
+mod statements;
+mod steps;
+#[cfg(test)]
+mod tests;
+mod times;
+
+pub use kinds::StimKind;
+pub use reading::read_stim;
