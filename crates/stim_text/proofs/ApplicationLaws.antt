@@ -8,13 +8,13 @@ use Rattle.sg_circuit.specs.Circuit.{Circuit}
 use Rattle.sg_time.specs.Spelling.{Number}
 use Rattle.stim_read.specs.Stimulus.{Step}
 use Rattle.stim_read.specs.Applied.{IsApplied, IsBefore, IsInput, StepsRise, SetsOnce}
-use Rattle.stim_text.specs.Forms.{Form, unit_is, sets_at, ends_at, other, Stated}
+use Rattle.stim_text.specs.Forms.{Form, unit_is, sets_at, ends_at, faulty_end, other, Stated}
 use Rattle.stim_text.specs.Times.{Scale, is_whole, is_before, ticks}
 use Rattle.stim_text.specs.Inputs.{bits_set}
 use Rattle.stim_text.specs.Faults.{is_end, is_after, is_early, last_time, faults_of, faults_behind, scale_of}
 use Rattle.stim_text.specs.Reading.{form_steps, form_end, steps_at, end_at, stimulus_stated}
 use Rattle.stim_text.proofs.TimeLaws.{before-ticks, ticks-below}
-use Rattle.stim_text.proofs.FaultlessLaws.{no-left, no-right, IsFineAt, IsFineEnd, is-fine-at, is-fine-end, no-other, nothing-behind-end}
+use Rattle.stim_text.proofs.FaultlessLaws.{no-left, no-right, IsFineAt, IsFineEnd, is-fine-at, is-fine-end, no-other, no-faulty-end, nothing-behind-end}
 use Rattle.stim_text.proofs.InputLaws.{last-once, all-input}
 
 abbrev pub ends : Scale → List Stated → List ℕ
@@ -47,6 +47,7 @@ rises-form circuit scale before byte (sets_at t sets) more h r =
     let fine = is-fine-at circuit scale before byte t sets h in
     ((r.1 t refl fine.timed.whole, r.0), λ u e w. ticks-after scale before t u fine e w)
 rises-form circuit scale before byte (ends_at t) more h r = r
+rises-form circuit scale before byte faulty_end more h r = absurd (no-faulty-end circuit scale before byte h)
 rises-form circuit scale before byte other more h r = absurd (no-other circuit scale before byte h)
 
 rises : (circuit : Circuit) (scale : Scale) (before : List Form) (ss : List Stated) → faults_behind circuit scale before ss ≡ [] → RisesBehind scale before (steps_at circuit scale ss)
@@ -77,6 +78,7 @@ keeps-form circuit scale before byte (sets_at t sets) ss n more h none rest e =
       λ u k w. let below = ticks-after scale before t u fine k w in let last = kept.1 t refl fine.timed.whole in omega (arith, below, last),
     )
 keeps-form circuit scale before byte (ends_at t) ss n more h none rest e = keeps-at-end circuit scale before t ss n more (is-fine-end circuit scale before byte t h) (none refl) e
+keeps-form circuit scale before byte faulty_end ss n more h none rest e = absurd (no-faulty-end circuit scale before byte h)
 keeps-form circuit scale before byte other ss n more h none rest e = absurd (no-other circuit scale before byte h)
 
 keeps : (circuit : Circuit) (scale : Scale) (before : List Form) (ss : List Stated) (n : ℕ) (more : List ℕ) → faults_behind circuit scale before ss ≡ [] → ends scale ss ≡ n ∷ more → KeepsTo scale before (steps_at circuit scale ss) n
@@ -93,6 +95,7 @@ below-form circuit scale before byte (unit_is p) ss h rest = rest
 below-form circuit scale before byte (sets_at t sets) ss h rest = rest
 below-form circuit scale before byte (ends_at t) ss h rest =
     All-cons (λ n. n < 2 ^ 60) (ticks scale t) (ends scale ss) (ticks-below scale t (is-fine-end circuit scale before byte t h).timed.small) rest
+below-form circuit scale before byte faulty_end ss h rest = rest
 below-form circuit scale before byte other ss h rest = rest
 
 ends-below : (circuit : Circuit) (scale : Scale) (before : List Form) (ss : List Stated) → faults_behind circuit scale before ss ≡ [] → All (λ n. n < 2 ^ 60) (ends scale ss)
@@ -105,6 +108,7 @@ once-form : (circuit : Circuit) (scale : Scale) (form : Form) → All (λ s. Set
 once-form circuit scale (unit_is p) = All-nil (λ s. SetsOnce s.sets)
 once-form circuit scale (sets_at t sets) = All-cons (λ s. SetsOnce s.sets) _ [] (last-once (flat_map (bits_set circuit) sets)) (All-nil (λ s. SetsOnce s.sets))
 once-form circuit scale (ends_at t) = All-nil (λ s. SetsOnce s.sets)
+once-form circuit scale faulty_end = All-nil (λ s. SetsOnce s.sets)
 once-form circuit scale other = All-nil (λ s. SetsOnce s.sets)
 
 once : (circuit : Circuit) (scale : Scale) (ss : List Stated) → All (λ s. SetsOnce s.sets) (steps_at circuit scale ss)
@@ -118,6 +122,7 @@ inputs-form : (circuit : Circuit) (scale : Scale) (form : Form) → All (SetsInp
 inputs-form circuit scale (unit_is p) = All-nil (SetsInputs circuit)
 inputs-form circuit scale (sets_at t sets) = All-cons (SetsInputs circuit) _ [] (all-input circuit sets) (All-nil (SetsInputs circuit))
 inputs-form circuit scale (ends_at t) = All-nil (SetsInputs circuit)
+inputs-form circuit scale faulty_end = All-nil (SetsInputs circuit)
 inputs-form circuit scale other = All-nil (SetsInputs circuit)
 
 inputs : (circuit : Circuit) (scale : Scale) (ss : List Stated) → All (SetsInputs circuit) (steps_at circuit scale ss)

@@ -10,13 +10,14 @@ use Rattle.stim_read.specs.Stimulus.{Step}
 use Rattle.stim_read.specs.Applied.{IsApplied}
 use Rattle.stim_text.specs.declared.kinds.StimKind.{StimKind}
 use Rattle.stim_text.specs.declared.kinds.StimKind.TheVariants.{NoEnd, TooLarge}
-use Rattle.stim_text.specs.Forms.{Form, unit_is, sets_at, ends_at, other, Stated, all_stated}
+use Rattle.stim_text.specs.Forms.{Form, unit_is, sets_at, ends_at, faulty_end, other, Stated, all_stated}
 use Rattle.stim_text.specs.Times.{Scale}
-use Rattle.stim_text.specs.Faults.{is_end, faults_behind, stated_faults, scale_of, no_end, too_long, most_bytes}
+use Rattle.stim_text.specs.Faults.{is_end, faults_of, faults_behind, stated_faults, scale_of, no_end, too_long, most_bytes}
 use Rattle.stim_text.specs.Reading.{IsRead, RefusalStands, stimulus_stated}
 use Rattle.stim_text.specs.Meant.{IsAllRead, RefusesOneOf}
 use Rattle.stim_text.specs.declared.statements.Stated as code_stated
 use Rattle.stim_text.specs.Seen.{decimals, stated_seen}
+use Rattle.stim_text.proofs.FaultlessLaws.{no-left, no-right, no-faulty-end}
 use Rattle.stim_text.proofs.FormLaws.{are-decimals}
 use Rattle.stim_text.proofs.Refusals.{refused-left, refused-right, test-refused, told}
 use Rattle.stim_text.proofs.ApplicationLaws.{ends, stated-applies}
@@ -26,22 +27,26 @@ some-form : (scale : Scale) (byte n : ℕ) (form : Form) (ss : List Stated) → 
 some-form scale byte n (unit_is p) ss rest e = rest e
 some-form scale byte n (sets_at t sets) ss rest e = rest e
 some-form scale byte n (ends_at t) ss rest e = refl
+some-form scale byte n faulty_end ss rest e = refl
 some-form scale byte n other ss rest e = rest e
 
 some-end : (scale : Scale) (ss : List Stated) (n : ℕ) → ends scale ss ≡ n ∷ [] → list_any (λ s. is_end s.form) ss ≡ true
 some-end scale [] n e = absurd (cc)
 some-end scale (s ∷ ss) n e = some-form scale s.byte n s.form ss (some-end scale ss n) e
 
-none-form : (scale : Scale) (byte : ℕ) (form : Form) (ss : List Stated) → (ends scale ss ≡ [] → list_any (λ s. is_end s.form) ss ≡ false) → ends scale (record { byte = byte; form = form } ∷ ss) ≡ []
+none-form : (circuit : Circuit) (scale : Scale) (before : List Form) (byte : ℕ) (form : Form) (ss : List Stated) → faults_of circuit scale before (record { byte = byte; form = form }) ≡ []
+    → (ends scale ss ≡ [] → list_any (λ s. is_end s.form) ss ≡ false) → ends scale (record { byte = byte; form = form } ∷ ss) ≡ []
     → list_any (λ s. is_end s.form) (record { byte = byte; form = form } ∷ ss) ≡ false
-none-form scale byte (unit_is p) ss rest e = rest e
-none-form scale byte (sets_at t sets) ss rest e = rest e
-none-form scale byte (ends_at t) ss rest e = absurd (cc)
-none-form scale byte other ss rest e = rest e
+none-form circuit scale before byte (unit_is p) ss h rest e = rest e
+none-form circuit scale before byte (sets_at t sets) ss h rest e = rest e
+none-form circuit scale before byte (ends_at t) ss h rest e = absurd (cc)
+none-form circuit scale before byte faulty_end ss h rest e = absurd (no-faulty-end circuit scale before byte h)
+none-form circuit scale before byte other ss h rest e = rest e
 
-none-end : (scale : Scale) (ss : List Stated) → ends scale ss ≡ [] → list_any (λ s. is_end s.form) ss ≡ false
-none-end scale [] e = refl
-none-end scale (s ∷ ss) e = none-form scale s.byte s.form ss (none-end scale ss) e
+none-end : (circuit : Circuit) (scale : Scale) (before : List Form) (ss : List Stated) → faults_behind circuit scale before ss ≡ [] → ends scale ss ≡ [] → list_any (λ s. is_end s.form) ss ≡ false
+none-end circuit scale before [] h e = refl
+none-end circuit scale before (s ∷ ss) h e =
+    none-form circuit scale before s.byte s.form ss (no-left _ _ h) (none-end circuit scale (s.form ∷ before) ss (no-right _ _ h)) e
 
 -- a fault of some statements is one of the text
 pub stands : (text : List ℕ) (circuit : Circuit) (ss : List Stated) (r : Refused StimKind) → ss ≡ all_stated decimals text → RefusesOneOf (stated_faults text circuit ss) r → RefusalStands text circuit r
@@ -54,7 +59,7 @@ behind-stands text circuit ss r e h =
 
 pub no-end-stands : (text : List ℕ) (circuit : Circuit) (ss : List Stated) (steps : List Step) → ss ≡ all_stated decimals text → IsAllRead circuit (scale_of circuit ss) ss steps None → RefusalStands text circuit (told NoEnd (length text))
 no-end-stands text circuit ss steps e h =
-    let missing : not (list_any (λ s. is_end s.form) ss) ≡ true = ap not (none-end (scale_of circuit ss) ss h.ends_are) in
+    let missing : not (list_any (λ s. is_end s.form) ss) ≡ true = ap not (none-end circuit (scale_of circuit ss) [] ss h.no_fault h.ends_are) in
     stands text circuit ss (told NoEnd (length text)) e
     (refused-right (too_long text) _ (told NoEnd (length text)) (refused-left (no_end text ss) _ (told NoEnd (length text)) (test-refused (not (list_any (λ s. is_end s.form) ss)) NoEnd (length text) missing)))
 

@@ -3,7 +3,8 @@ use Rattle.std.specs.Prelude.{◌≡◌, [], ◌∷◌, ◌++◌, false, Some, N
 use Rattle.sg_logic.specs.declared.values.Value.TheVariants.{Zero, One}
 use Rattle.stim_text.specs.Lines.{lines, words, statements}
 use Rattle.stim_text.specs.Sets.{set_in}
-use Rattle.stim_text.specs.Forms.{unit_in}
+use Rattle.stim_text.specs.Forms.{faulty_end, form_in, unit_in}
+use Rattle.stim_text.specs.Seen.{decimals}
 use Rattle.stim_text.specs.Times.{is_whole, ticks}
 use Rattle.stim_text.specs.Inputs.{last_of_each, position_at, index_value}
 
@@ -24,9 +25,16 @@ no_value : set_in (codes "a=") ≡ None
 unfolding set_in
 no_value = refl
 
-leading_zero : set_in (codes "v[01]=1") ≡ None
+leading_zero : set_in (codes "v[01]=1") ≡ Some (record { target = record { name = codes "v"; index = Some (codes "01") }; digits = codes "1" })
 unfolding set_in
 leading_zero = refl
+
+nineteen_digits : set_in (codes "v[0000000000000000001]=1") ≡ None
+unfolding set_in
+nineteen_digits = refl
+
+an_end_without_a_time : form_in decimals (codes "end" ∷ []) ≡ faulty_end
+an_end_without_a_time = refl
 
 ten_picoseconds : unit_in (codes "10ps") ≡ Some (negsuc 10)
 ten_picoseconds = refl

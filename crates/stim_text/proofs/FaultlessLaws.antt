@@ -6,7 +6,7 @@ use Rattle.sg_circuit.specs.Circuit.{Circuit}
 use Rattle.sg_time.specs.Spelling.{Number}
 use Rattle.stim_text.specs.declared.kinds.StimKind.{StimKind}
 use Rattle.stim_text.specs.Sets.{Set}
-use Rattle.stim_text.specs.Forms.{Form, unit_is, sets_at, ends_at, other, Stated}
+use Rattle.stim_text.specs.Forms.{Form, unit_is, sets_at, ends_at, faulty_end, other, Stated}
 use Rattle.stim_text.specs.Times.{Scale, is_whole, is_too_large}
 use Rattle.stim_text.specs.Faults.{fault_if, is_end, is_misplaced, is_after, is_early, last_time, time_faults, faults_of, faults_behind}
 
@@ -71,11 +71,15 @@ is-fine-end circuit scale before byte t e =
 pub no-other : (circuit : Circuit) (scale : Scale) (before : List Form) (byte : ℕ) → faults_of circuit scale before (record { byte = byte; form = other }) ≡ [] → ⊥
 no-other circuit scale before byte e = absurd (cc)
 
+pub no-faulty-end : (circuit : Circuit) (scale : Scale) (before : List Form) (byte : ℕ) → faults_of circuit scale before (record { byte = byte; form = faulty_end }) ≡ [] → ⊥
+no-faulty-end circuit scale before byte e = absurd (cc)
+
 misplaced-behind-end : (before : List Form) (form : Form) → list_any is_end before ≡ true → is_misplaced before form ≡ true
 misplaced-behind-end [] (unit_is p) e = absurd (cc)
 misplaced-behind-end (f ∷ fs) (unit_is p) e = lt-ltb 0 (length (f ∷ fs)) (omega arith)
 misplaced-behind-end before (sets_at t sets) e = e
 misplaced-behind-end before (ends_at t) e = e
+misplaced-behind-end before faulty_end e = refl
 misplaced-behind-end before other e = refl
 
 -- nothing stands behind an end

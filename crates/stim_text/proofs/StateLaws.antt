@@ -13,13 +13,13 @@ use Rattle.stim_text.specs.declared.steps.State as code_state
 use Rattle.stim_text.specs.declared.steps.Meant as code_meant
 use Rattle.stim_text.specs.declared.steps.Meant.TheVariants as meant
 use Rattle.stim_text.specs.Sets.{Set}
-use Rattle.stim_text.specs.Forms.{Form, unit_is, sets_at, ends_at, other, Stated}
+use Rattle.stim_text.specs.Forms.{Form, unit_is, sets_at, ends_at, faulty_end, other, Stated}
 use Rattle.stim_text.specs.Times.{Scale, ticks}
 use Rattle.stim_text.specs.Inputs.{all_set}
 use Rattle.stim_text.specs.Faults.{faults_of, faults_behind}
 use Rattle.stim_text.specs.Reading.{form_steps, form_end, steps_at}
 use Rattle.stim_text.specs.Meant.{IsState, IsMeant, IsAllRead, Reached, RefusesOneOf, meant_steps, meant_end, state_after}
-use Rattle.stim_text.proofs.FaultlessLaws.{is-fine-at, is-fine-end, no-other}
+use Rattle.stim_text.proofs.FaultlessLaws.{is-fine-at, is-fine-end, no-other, no-faulty-end}
 use Rattle.stim_text.proofs.Refusals.{refused-left}
 
 not-none : (f : Form) (fs : List Form) → false ≡ (length (f ∷ fs) == 0)
@@ -49,6 +49,7 @@ state-next : (circuit : Circuit) (scale : Scale) (state : code_state.State) (bef
 state-next circuit scale state before byte (unit_is power) m st is h = state-unit circuit scale state before power m st is
 state-next circuit scale state before byte (sets_at t sets) m st is h = state-at circuit scale state before byte t sets m st is h
 state-next circuit scale state before byte (ends_at t) m st is h = state-end circuit scale state before t m st is
+state-next circuit scale state before byte faulty_end m st is h = absurd (no-faulty-end circuit scale before byte h)
 state-next circuit scale state before byte other m st is h = absurd (no-other circuit scale before byte h)
 
 abbrev pub ends : Scale → List Stated → List ℕ
@@ -77,6 +78,7 @@ ends-next circuit scale state before byte (unit_is power) more m st is h = ends-
 ends-next circuit scale state before byte (sets_at t sets) more m st is h = ends-same m state (ends scale more) is.1
 ends-next circuit scale state before byte (ends_at t) more m st is h =
     ends-end state.end m state (ticks scale t) (ends scale more) refl (st.ended ∙ (is-fine-end circuit scale before byte t h).open_yet) is.1
+ends-next circuit scale state before byte faulty_end more m st is h = absurd (no-faulty-end circuit scale before byte h)
 ends-next circuit scale state before byte other more m st is h = absurd (no-other circuit scale before byte h)
 
 pub reached-start : (circuit : Circuit) (scale : Scale) (all : List Stated) → Reached circuit scale all all [] (record { none = true; last = None; end = None })

@@ -12,7 +12,7 @@ use Rattle.stim_text.specs.declared.steps.State as code_state
 use Rattle.stim_text.specs.declared.steps.Meant as code_meant
 use Rattle.stim_text.specs.declared.steps.Meant.TheVariants as meant
 use Rattle.stim_text.specs.Sets.{Set}
-use Rattle.stim_text.specs.Forms.{Form, unit_is, sets_at, ends_at, other}
+use Rattle.stim_text.specs.Forms.{Form, unit_is, sets_at, ends_at, faulty_end, other}
 use Rattle.stim_text.specs.Times.{Scale, is_whole, is_too_large, ticks}
 use Rattle.stim_text.specs.Inputs.{all_set}
 use Rattle.stim_text.specs.Faults.{fault_if, is_after, is_early, last_time, set_faults, time_faults, at_faults, end_faults, faults_of}
@@ -147,6 +147,9 @@ end-meant circuit scale state before byte t n st e times = ((refl, ap Some times
 
 pub other-refused : (circuit : Circuit) (scale : Scale) (before : List Form) (byte : ℕ) → RefusesOneOf (faults_of circuit scale before (record { byte = byte; form = other })) (told Syntax byte)
 other-refused circuit scale before byte = misplaced-refused circuit scale before byte other refl
+
+pub faulty-end-refused : (circuit : Circuit) (scale : Scale) (before : List Form) (byte : ℕ) → RefusesOneOf (faults_of circuit scale before (record { byte = byte; form = faulty_end })) (told Syntax byte)
+faulty-end-refused circuit scale before byte = misplaced-refused circuit scale before byte faulty_end refl
 
 -- ---- by the code's form
 

@@ -7,7 +7,7 @@ use Rattle.sg_circuit.specs.Circuit.{Circuit}
 use Rattle.stim_text.specs.declared.kinds.StimKind.{StimKind}
 use Rattle.stim_text.specs.declared.kinds.StimKind.TheVariants.{Syntax, UnknownInput, WidthMismatch, TimeNotRising, NotWholeTick, NoEnd, TooLarge}
 use Rattle.stim_text.specs.Sets.{Set}
-use Rattle.stim_text.specs.Forms.{Decimals, Form, unit_is, sets_at, ends_at, other, Stated, all_stated}
+use Rattle.stim_text.specs.Forms.{Decimals, Form, unit_is, sets_at, ends_at, faulty_end, other, Stated, all_stated}
 use Rattle.stim_text.specs.Times.{Scale, is_whole, is_too_large, is_before}
 use Rattle.stim_text.specs.Inputs.{nets_named}
 
@@ -22,10 +22,12 @@ fault kind byte = record { kind = kind; place = record { file = 0; byte = byte }
 abbrev pub fault_if : Bool → StimKind → ℕ → List Fault
 fault_if test kind byte = if test then fault kind byte ∷ [] else []
 
+-- whether a statement begins with the word `end`
 abbrev pub is_end : Form → Bool
 is_end (unit_is power) = false
 is_end (sets_at time sets) = false
 is_end (ends_at time) = true
+is_end faulty_end = true
 is_end other = false
 
 -- a unit is said before all other statements; else it is 1 ns
@@ -33,6 +35,7 @@ abbrev pub unit_said : Form → ℤ
 unit_said (unit_is power) = power
 unit_said (sets_at time sets) = negsuc 8
 unit_said (ends_at time) = negsuc 8
+unit_said faulty_end = negsuc 8
 unit_said other = negsuc 8
 
 abbrev pub unit_of : List Stated → ℤ
@@ -47,6 +50,7 @@ abbrev pub is_misplaced : List Form → Form → Bool
 is_misplaced before (unit_is power) = nat_lt 0 (length before)
 is_misplaced before (sets_at time sets) = list_any is_end before
 is_misplaced before (ends_at time) = list_any is_end before
+is_misplaced before faulty_end = true
 is_misplaced before other = true
 
 -- UnknownInput: no input of the top, or an index out of range. WidthMismatch: another number of digits than of bits
@@ -67,6 +71,7 @@ last_time [] = None
 last_time (unit_is power ∷ before) = last_time before
 last_time (sets_at time sets ∷ before) = Some time
 last_time (ends_at time ∷ before) = last_time before
+last_time (faulty_end ∷ before) = last_time before
 last_time (other ∷ before) = last_time before
 
 -- TimeNotRising: an `at` that isn't after the one before, an `end` that is before the last `at`
@@ -89,6 +94,7 @@ abbrev pub meaning_faults : Circuit → Scale → ℕ → List Form → Form →
 meaning_faults circuit scale byte before (unit_is power) = []
 meaning_faults circuit scale byte before (sets_at time sets) = at_faults scale byte before time ++ flat_map (set_faults circuit byte) sets
 meaning_faults circuit scale byte before (ends_at time) = end_faults scale byte before time
+meaning_faults circuit scale byte before faulty_end = []
 meaning_faults circuit scale byte before other = []
 
 abbrev pub faults_of : Circuit → Scale → List Form → Stated → List Fault
@@ -99,7 +105,7 @@ abbrev pub faults_behind : Circuit → Scale → List Form → List Stated → L
 faults_behind circuit scale before [] = []
 faults_behind circuit scale before (s ∷ ss) = faults_of circuit scale before s ++ faults_behind circuit scale (s.form ∷ before) ss
 
--- NoEnd: no statement is an end; at the end of the file
+-- NoEnd: no statement begins with `end`; at the end of the file
 abbrev pub no_end : List ℕ → List Stated → List Fault
 no_end text ss = fault_if (not (list_any (λ s. is_end s.form) ss)) NoEnd (length text)
 

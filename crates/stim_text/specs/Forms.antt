@@ -20,6 +20,8 @@ pub data Form : Type 0 where
   sets_at : (time : Number) (sets : List Set) → Form
   -- `end T`
   ends_at : (time : Number) → Form
+  -- `end` and anything else
+  faulty_end : Form
   -- any other
   other : Form
 
@@ -72,7 +74,7 @@ at_form (Some time) None = other
 at_form (Some time) (Some sets) = sets_at time sets
 
 abbrev pub end_form : Option Number → Form
-end_form None = other
+end_form None = faulty_end
 end_form (Some time) = ends_at time
 
 abbrev pub behind_unit : List (List ℕ) → Form
@@ -86,7 +88,7 @@ behind_at said _ = other
 
 abbrev pub behind_end : Decimals → List (List ℕ) → Form
 behind_end said (time ∷ []) = end_form (time_in said time)
-behind_end said _ = other
+behind_end said _ = faulty_end
 
 abbrev pub form_in : Decimals → List (List ℕ) → Form
 form_in said [] = other

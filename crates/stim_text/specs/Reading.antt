@@ -7,7 +7,7 @@ use Rattle.sg_text.specs.declared.refusals.Refused.{Refused}
 use Rattle.sg_text.specs.declared.refusals.Refused.TheVariants as refused
 use Rattle.stim_read.specs.Stimulus.{Step, Stimulus}
 use Rattle.stim_text.specs.declared.kinds.StimKind.{StimKind}
-use Rattle.stim_text.specs.Forms.{Decimals, AreDecimals, Form, unit_is, sets_at, ends_at, other, Stated, all_stated}
+use Rattle.stim_text.specs.Forms.{Decimals, AreDecimals, Form, unit_is, sets_at, ends_at, faulty_end, other, Stated, all_stated}
 use Rattle.stim_text.specs.Times.{Scale, ticks}
 use Rattle.stim_text.specs.Inputs.{all_set}
 use Rattle.stim_text.specs.Faults.{faults, scale_of}
@@ -17,6 +17,7 @@ abbrev pub form_steps : Circuit → Scale → Form → List Step
 form_steps circuit scale (unit_is power) = []
 form_steps circuit scale (sets_at time sets) = record { time = ticks scale time; sets = all_set circuit sets } ∷ []
 form_steps circuit scale (ends_at time) = []
+form_steps circuit scale faulty_end = []
 form_steps circuit scale other = []
 
 abbrev pub steps_at : Circuit → Scale → List Stated → List Step
@@ -27,6 +28,7 @@ abbrev pub form_end : Scale → Form → Option ℕ
 form_end scale (unit_is power) = None
 form_end scale (sets_at time sets) = None
 form_end scale (ends_at time) = Some (ticks scale time)
+form_end scale faulty_end = None
 form_end scale other = None
 
 abbrev pub end_at : Scale → List Stated → ℕ

@@ -4,7 +4,7 @@ use Rattle.sg_time.specs.Seen.{number}
 use Rattle.sg_time.specs.Reading.{parts_of, said_of}
 use Rattle.stim_text.specs.Lines.{Line, is_passed_over, statement}
 use Rattle.stim_text.specs.Sets.{Name, Set}
-use Rattle.stim_text.specs.Forms.{Decimals, Form, unit_is, sets_at, ends_at, other, Stated, stated}
+use Rattle.stim_text.specs.Forms.{Decimals, Form, unit_is, sets_at, ends_at, faulty_end, other, Stated, stated}
 use Rattle.stim_text.specs.declared.lines.Line as code_line
 use Rattle.stim_text.specs.declared.sets.Name as code_name
 use Rattle.stim_text.specs.declared.sets.SetText as code_set
@@ -29,6 +29,7 @@ abbrev pub form_seen : code_form.Form → Form
 form_seen (form.Unit unit) = unit_is unit.power
 form_seen (form.At time sets) = sets_at (number time) (map (λ s. set_seen s) sets.items)
 form_seen (form.End time) = ends_at (number time)
+form_seen form.FaultyEnd = faulty_end
 form_seen form.Other = other
 
 abbrev pub stated_seen : code_stated.Stated → Stated

@@ -1,5 +1,5 @@
 -- A set `n=v`: the name of an input or of a bit of it, and a digit for each bit.
-use Rattle.std.specs.Prelude.{ℕ, ◌==◌, ◌&&◌, ◌||◌, Bool, false, not, List, [], ◌∷◌, length, take, drop, reverse, nat_lt, Option, Some, None, option_map, option_and_then, if◌then◌else◌}
+use Rattle.std.specs.Prelude.{ℕ, ◌==◌, ◌&&◌, ◌||◌, Bool, false, List, [], ◌∷◌, length, take, drop, reverse, nat_lt, nat_le, Option, Some, None, option_map, option_and_then, if◌then◌else◌}
 use Rattle.std.specs.List.{list_all, prefix_len}
 use Rattle.std.specs.Char.{is_ascii_digit}
 use Rattle.sg_text.specs.Names.{is_name_byte, is_simple}
@@ -23,15 +23,14 @@ abbrev pub cut : List ℕ → Option (List ℕ × List ℕ)
 cut [] = None
 cut (b ∷ bs) = with_first b bs (cut bs)
 
--- decimal digits without a leading zero, but for a single 0
-abbrev pub is_plain_number : List ℕ → Bool
-is_plain_number [] = false
-is_plain_number (d ∷ ds) = list_all is_ascii_digit (d ∷ ds) && ((length ds == 0) || not (d == 48))
+-- 1 to 18 decimal digits
+abbrev pub is_number : List ℕ → Bool
+is_number digits = nat_lt 0 (length digits) && nat_le (length digits) 18 && list_all is_ascii_digit digits
 
 -- such a number, perhaps behind a `-`
 abbrev pub is_index : List ℕ → Bool
 is_index [] = false
-is_index (b ∷ bs) = if b == 45 then is_plain_number bs else is_plain_number (b ∷ bs)
+is_index (b ∷ bs) = if b == 45 then is_number bs else is_number (b ∷ bs)
 
 -- an index and a `]`, from the back
 abbrev pub index_from_back : List ℕ → Option (List ℕ)

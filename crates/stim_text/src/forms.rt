@@ -8,12 +8,13 @@ use crate::sets::{SetText, sets_of};
 use sg_time::{Decimal, Unit};
 use std::alloc::{AllocError, Global};
 
-/// A statement by its form: the unit of times, what is set at a time, the end, or what has no form.
+/// A statement by its form: the unit of times, what is set at a time, the end, an `end` of another form, or what has no form.
 #[derive(Debug, Drop)]
 pub enum Form<'a> {
     Unit(Unit),
     At(Decimal, Vec<SetText<'a>>),
     End(Decimal),
+    FaultyEnd,
     Other,
 }
 
@@ -142,11 +143,11 @@ fn end_form<'a>(words: &[&[u8]]) -> Form<'a>
     ensures { form_seen result ≡ def.behind_end decimals (map (λ w. w.now) words.now) }
 {
     let [time] = words else {
-        return Form::Other;
+        return Form::FaultyEnd;
     };
     match time_of(time) {
         Some(time) => Form::End(time),
-        None => Form::Other,
+        None => Form::FaultyEnd,
     }
 }
 

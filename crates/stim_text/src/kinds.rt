@@ -14,7 +14,7 @@ pub enum StimKind {
     TimeNotRising,
     /// The time isn't a whole number of ticks.
     NotWholeTick,
-    /// No statement is an `end`; its place is the end of the text.
+    /// No statement begins with `end`; its place is the end of the text.
     NoEnd,
     /// The time is 2^60 ticks or more; or, at byte 2^28, the text has more bytes than that.
     TooLarge,

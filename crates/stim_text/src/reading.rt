@@ -40,6 +40,7 @@ fn unit_said(form: &Form) -> Unit
         Form::Unit(unit) => *unit,
         Form::At(_, _) => NANOSECOND,
         Form::End(_) => NANOSECOND,
+        Form::FaultyEnd => NANOSECOND,
         Form::Other => NANOSECOND,
     }
 }

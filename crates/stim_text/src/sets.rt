@@ -54,21 +54,18 @@ fn are_decimal(bytes: &[u8]) -> bool
     bytes.iter().all(|b| b.is_ascii_digit())
 }
 
-fn is_plain_number(digits: &[u8]) -> bool
-    ensures { result ≡ def.is_plain_number digits.now }
+fn is_number(digits: &[u8]) -> bool
+    ensures { result ≡ def.is_number digits.now }
 {
-    match digits {
-        [] => false,
-        [first, rest @ ..] => are_decimal(digits) && (rest.len() == 0 || *first != b'0'),
-    }
+    digits.len() > 0 && digits.len() <= 18 && are_decimal(digits)
 }
 
 fn is_index(text: &[u8]) -> bool
     ensures { result ≡ def.is_index text.now }
 {
     match text {
-        [b'-', digits @ ..] => is_plain_number(digits),
-        _ => is_plain_number(text),
+        [b'-', digits @ ..] => is_number(digits),
+        _ => is_number(text),
     }
 }
 

@@ -156,6 +156,7 @@ fn meaning_of(
             let ticks = end_ticks(scale, byte, state.last, time)?;
             Ok(Meant::End(ticks))
         }
+        Form::FaultyEnd => Err(fault(StimKind::Syntax, byte)),
         Form::Other => Err(fault(StimKind::Syntax, byte)),
     }
 }

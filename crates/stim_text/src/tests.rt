@@ -157,7 +157,7 @@ fn vectors_bits_and_escaped_names(rt: HostRuntime) -> Result<(), Fail> {
         gives(
             &circuit,
             alloc,
-            "at 1.05 v=01xz\nat 2 v[3]=1 v[0]=0 \\b=c=1\nend 2",
+            "at 1.05 v=01xz\nat 2 v[03]=1 v[-0]=0 \\b=c=1\nend 2",
             &steps,
             2000
         )
@@ -196,7 +196,7 @@ fn other_forms(rt: HostRuntime) -> Result<(), Fail> {
         "at 1\nend 1",
         "at 1 a=\nend 1",
         "at 1 a=X\nend 1",
-        "at 1 v[03]=1\nend 1",
+        "at 1 v[0000000000000000003]=1\nend 1",
         "at 1 v[3=1\nend 1",
         "unit 1000ns\nend 1",
         "end",
@@ -207,6 +207,7 @@ fn other_forms(rt: HostRuntime) -> Result<(), Fail> {
         );
     }
     assert!(rt; is_refused(&circuit, alloc, "end 1\nat 2 a=0", StimKind::Syntax, 6));
+    assert!(rt; is_refused(&circuit, alloc, "end 1\nend 2", StimKind::Syntax, 6));
     assert!(rt;
         is_refused(
             &circuit,

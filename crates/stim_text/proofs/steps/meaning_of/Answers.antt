@@ -5,14 +5,14 @@ use Rattle.std.proofs.lemmas.Result.{err_from_is_err_and}
 use Rattle.sg_time.specs.Seen.{number}
 use Rattle.stim_text.specs.declared.kinds.StimKind.TheVariants.{Syntax}
 use Rattle.stim_text.specs.declared.steps.Meant.TheVariants as meant
-use Rattle.stim_text.specs.Forms.{unit_is, sets_at, ends_at, other}
+use Rattle.stim_text.specs.Forms.{unit_is, sets_at, ends_at, faulty_end, other}
 use Rattle.stim_text.specs.Faults.{faults_of, set_faults}
 use Rattle.stim_read.specs.Seen.{step_seen}
 use Rattle.stim_text.specs.Inputs.{all_set}
 use Rattle.stim_text.specs.Meant.{RefusesOneOf, scale_seen}
 use Rattle.stim_text.specs.Seen.{form_seen, set_seen, stated_seen}
 use Rattle.stim_text.proofs.Refusals.{exit-match, told}
-use Rattle.stim_text.proofs.StepLaws.{told-as, meant-as, unit-late, unit-fine, at-behind-end, at-time-refused, at-sets-refused, at-meant, end-behind-end, end-time-refused, end-meant, other-refused}
+use Rattle.stim_text.proofs.StepLaws.{told-as, meant-as, unit-late, unit-fine, at-behind-end, at-time-refused, at-sets-refused, at-meant, end-behind-end, end-time-refused, end-meant, other-refused, faulty-end-refused}
 use Rattle.stim_text.proofs.steps.meaning_of.Goals as goal
 
 pub returns-then-not-state : goal.returns-then-not-state
@@ -52,6 +52,9 @@ returns-in_err-ticks-in-End c =
 pub returns-in_ok-ticks-in-End : goal.returns-in_ok-ticks-in-End
 returns-in_ok-ticks-in-End c =
     λ before st. meant-as c.args.circuit.now (scale_seen c.args.scale) before c.args.stated.now.byte (form_seen c.args.stated.now.form) (ends_at (number c.in-End.time)) (meant.End c.in_ok-ticks-in-End.ticks) (ap (λ f. form_seen f) c.in-End.is) (end-meant c.args.circuit.now (scale_seen c.args.scale) c.args.state before c.args.stated.now.byte (number c.in-End.time) c.in_ok-ticks-in-End.ticks st (sym c.is_some-in-End.ensures ∙ c.if-is_some-2.false) (c.in_ok-ticks-in-End.ensures before st.times))
+
+pub returns-in-FaultyEnd : goal.returns-in-FaultyEnd
+returns-in-FaultyEnd c = λ before st. rw c.fault-in-FaultyEnd.ensures (told-as c.args.circuit.now (scale_seen c.args.scale) before c.args.stated.now.byte (form_seen c.args.stated.now.form) faulty_end (told Syntax c.args.stated.now.byte) (ap (λ f. form_seen f) c.in-FaultyEnd.is) (faulty-end-refused c.args.circuit.now (scale_seen c.args.scale) before c.args.stated.now.byte))
 
 pub returns-in-Other : goal.returns-in-Other
 returns-in-Other c = λ before st. rw c.fault-in-Other.ensures (told-as c.args.circuit.now (scale_seen c.args.scale) before c.args.stated.now.byte (form_seen c.args.stated.now.form) other (told Syntax c.args.stated.now.byte) (ap (λ f. form_seen f) c.in-Other.is) (other-refused c.args.circuit.now (scale_seen c.args.scale) before c.args.stated.now.byte))
