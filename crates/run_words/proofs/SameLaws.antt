@@ -1,5 +1,5 @@
 -- Two commands are the same where their fields are.
-use Rattle.std.proofs.Common.{◌≡◌, ℕ, List, map, Bool, true, false, ◌&&◌, nat_eq, refl, sym, ap, Bor, Option, Some, None, option_map}
+use Rattle.std.proofs.Common.{◌≡◌, ℕ, List, map, Bool, ◌&&◌, nat_eq, refl, sym, ap, Bor, Option, Some, None, option_map}
 use Rattle.std.specs.Bool.{Decides}
 use Rattle.std.specs.Option.{option_eq}
 use Rattle.std.specs.Str.{bytes_eq}
@@ -50,5 +50,6 @@ commands-Decide a b r e =
     Decides-and _ _ (names-Decides a.netlists.items b.netlists.items) (Decides-and _ _ (bytes_eq-Decides a.stimulus.now b.stimulus.now) (Decides-and _ _ (bytes_eq-Decides a.vcd.now b.vcd.now)
     (Decides-and _ _ (name-Decides a.top b.top) (Decides-and _ _ (corner-Decides a.corner b.corner) (Decides-and _ _ (Decides-eqb a.rounds b.rounds) (Decides-eqb a.wheel b.wheel)))))) in
     Decides-at r _ e (Decides-like _ (λ h. cc) (λ same. (
-      ap (λ c. c.netlists) same, (ap (λ c. c.stimulus) same, (ap (λ c. c.vcd) same, (ap (λ c. c.top) same, (ap (λ c. c.corner) same, (ap (λ c. c.rounds) same, ap (λ c. c.wheel) same))))),
+      ap (λ c. c.netlists) same,
+      (ap (λ c. c.stimulus) same, (ap (λ c. c.vcd) same, (ap (λ c. c.top) same, (ap (λ c. c.corner) same, (ap (λ c. c.rounds) same, ap (λ c. c.wheel) same))))),
     )) fields)

@@ -62,7 +62,10 @@ fn the_parser_agrees_where_the_rules_take_the_words(rt: HostRuntime) -> Result<(
     ] {
         let words = words_of(rt.alloc(), text)?;
         let read = read_words(rt.alloc(), &words)?;
-        assert!(rt; read.is_some() && command_by_parser(rt.alloc(), &words)? == read, "{text}");
+        assert!(rt;
+            read.is_some() && command_by_parser(rt.alloc(), &words)? == read,
+            "{text}"
+        );
     }
     Ok(())
 }

@@ -109,10 +109,7 @@ fn command_after<'a>(alloc: Global, words: &'a [String]) -> Result<Option<Comman
 }
 
 // The command that the rules of the words give.
-fn command_by_rules<'a>(
-    alloc: Global,
-    words: &'a [String],
-) -> Result<Option<Command<'a>>, NoMemory>
+fn command_by_rules<'a>(alloc: Global, words: &'a [String]) -> Result<Option<Command<'a>>, NoMemory>
     ensures { IfOk result (λ c. option_map (λ x. command_seen x) c ≡ command_of (map (λ w. string_bytes w) words.now)) }
 {
     let [first, rest @ ..] = words else {
@@ -149,7 +146,11 @@ fn agreed<'a>(parsed: Option<Command<'a>>, ruled: Command<'a>) -> Command<'a>
     let Some(parsed) = parsed else {
         return ruled;
     };
-    if is_same(&parsed, &ruled) { parsed } else { ruled }
+    if is_same(&parsed, &ruled) {
+        parsed
+    } else {
+        ruled
+    }
 }
 
 /// The command that the words of the command line ask for, or None where they are refused. The program's own name isn't
