@@ -6,3 +6,4 @@ pub mod FrontLaws
 pub mod Laws
 pub mod NumberLaws
 pub mod RuleLaws
+pub mod SameLaws

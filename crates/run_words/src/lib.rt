@@ -3,6 +3,7 @@
 
 mod arguments;
 mod numbers;
+mod parser;
 mod rules;
 mod words;
 

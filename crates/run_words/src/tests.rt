@@ -1,5 +1,6 @@
 // What no clause says: that the calls succeed, and that the clauses mean what a reader takes them for.
 use crate::read_words;
+use crate::words::command_by_parser;
 use sg_delay::Corner;
 use sg_text::NoMemory;
 use std::alloc::Global;
@@ -47,6 +48,34 @@ fn words_are_read_or_refused(rt: HostRuntime) -> Result<(), Fail> {
             assert!(rt; command.rounds == 10_000 && command.wheel == 8);
         }
         None => assert!(rt; false, "refused"),
+    }
+    Ok(())
+}
+
+#[test]
+fn the_parser_agrees_where_the_rules_take_the_words(rt: HostRuntime) -> Result<(), Fail> {
+    for text in [
+        "run a.v --stim s --vcd v",
+        "run --stim=s --vcd v -- -a.v -- --vcd",
+        "run a.v --stim=-s b.v --vcd v c.v --top t --corner max",
+        "run a.v --stim s --vcd v --rounds 0000007 --wheel=8",
+    ] {
+        let words = words_of(rt.alloc(), text)?;
+        let read = read_words(rt.alloc(), &words)?;
+        assert!(rt;
+            read.is_some() && command_by_parser(rt.alloc(), &words)? == read,
+            "{text}"
+        );
+    }
+    Ok(())
+}
+
+#[test]
+fn the_rules_refuse_what_the_parser_takes(rt: HostRuntime) -> Result<(), Fail> {
+    for text in ["run - --stim s --vcd v", "run a.v --stim - --vcd v"] {
+        let words = words_of(rt.alloc(), text)?;
+        assert!(rt; command_by_parser(rt.alloc(), &words)?.is_some(), "{text}");
+        assert!(rt; read_words(rt.alloc(), &words)?.is_none(), "{text}");
     }
     Ok(())
 }

@@ -1,5 +1,5 @@
 // The words of the command line.
-ghost use Rattle.std.specs.Prelude.{◌≡◌, map, option_map, option_and_then, IfOk, codes, string_bytes};
+ghost use Rattle.std.specs.Prelude.{◌≡◌, ◌↔◌, IsTrue, map, option_map, option_and_then, IfOk, codes, string_bytes};
 ghost use Rattle.run_words.specs.Arguments.{is_text, arguments_of};
 ghost use Rattle.run_words.specs.ArgumentsSeen.{argument_seen};
 ghost use Rattle.run_words.specs.Words.{value_of, corner_of, default_corner, command_with, command_from, command_of, number_up_to, read_or};
@@ -7,6 +7,7 @@ ghost use Rattle.run_words.specs.WordsSeen.{command_seen};
 
 use crate::arguments::{Argument, read_arguments};
 use crate::numbers::number_up_to;
+use crate::parser::parse_arguments;
 use crate::rules::{are_sound, corner_of, netlists_of, value_of};
 use sg_delay::Corner;
 use sg_text::NoMemory;
@@ -23,7 +24,7 @@ const DEFAULT_WHEEL: u32 = 4096;
 const MOST_WHEEL: u32 = 1 << 20;
 
 /// A run. The files are named as the words name them.
-#[derive(Debug, Drop)]
+#[derive(Debug, Drop, PartialEq)]
 pub struct Command<'a> {
     /// One or more, in their order.
     pub netlists: Vec<&'a str>,
@@ -107,10 +108,9 @@ fn command_after<'a>(alloc: Global, words: &'a [String]) -> Result<Option<Comman
     }
 }
 
-/// The command that the words of the command line ask for, or None where they are refused. The program's own name isn't
-/// among the words. Takes memory.
-pub fn read_words<'a>(alloc: Global, words: &'a [String]) -> Result<Option<Command<'a>>, NoMemory>
-    ensures command { IfOk result (λ c. option_map (λ x. command_seen x) c ≡ command_of (map (λ w. string_bytes w) words.now)) }
+// The command that the rules of the words give.
+fn command_by_rules<'a>(alloc: Global, words: &'a [String]) -> Result<Option<Command<'a>>, NoMemory>
+    ensures { IfOk result (λ c. option_map (λ x. command_seen x) c ≡ command_of (map (λ w. string_bytes w) words.now)) }
 {
     let [first, rest @ ..] = words else {
         return Ok(None);
@@ -119,4 +119,48 @@ pub fn read_words<'a>(alloc: Global, words: &'a [String]) -> Result<Option<Comma
         return Ok(None);
     }
     command_after(alloc, rest)
+}
+
+/// The command of the same words as the library splits them. Takes memory.
+pub fn command_by_parser<'a>(
+    alloc: Global,
+    words: &'a [String],
+) -> Result<Option<Command<'a>>, NoMemory> {
+    match parse_arguments(alloc, words)? {
+        Some(arguments) => command_from(alloc, &arguments),
+        None => Ok(None),
+    }
+}
+
+// Whether two commands say the same.
+fn is_same(one: &Command<'_>, other: &Command<'_>) -> bool
+    ensures { IsTrue result ↔ (command_seen one.now ≡ command_seen other.now) }
+{
+    one == other
+}
+
+// The rules decide, since the library also takes `-` for the name of a file: its command is taken where it is theirs.
+fn agreed<'a>(parsed: Option<Command<'a>>, ruled: Command<'a>) -> Command<'a>
+    ensures { command_seen result ≡ command_seen ruled.entry }
+{
+    let Some(parsed) = parsed else {
+        return ruled;
+    };
+    if is_same(&parsed, &ruled) {
+        parsed
+    } else {
+        ruled
+    }
+}
+
+/// The command that the words of the command line ask for, or None where they are refused. The program's own name isn't
+/// among the words. Takes memory.
+pub fn read_words<'a>(alloc: Global, words: &'a [String]) -> Result<Option<Command<'a>>, NoMemory>
+    ensures command { IfOk result (λ c. option_map (λ x. command_seen x) c ≡ command_of (map (λ w. string_bytes w) words.now)) }
+{
+    let Some(ruled) = command_by_rules(alloc, words)? else {
+        return Ok(None);
+    };
+    let parsed = command_by_parser(alloc, words)?;
+    Ok(Some(agreed(parsed, ruled)))
 }
