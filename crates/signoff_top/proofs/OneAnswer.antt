@@ -96,3 +96,11 @@ one_status ws files a b h k =
 pub one_made : (ws : List (List ℕ)) (files : List File) (a b : Answer) → IsAnswer ws files a → IsAnswer ws files b → a.made ≡ b.made
 one_made ws files a b h k =
     ap (λ x. x.made) h.2 ∙ (made_agrees h.0 k.0 (task_agree ws files h.0 k.0 h.1 k.1) ∙ sym (ap (λ x. x.made) k.2))
+
+same_run : (o : Result Task Refusal) (task : Task) (a : Answer) → Agree o (Ok task) → a ≡ answer_of o → a ≡ answer_of (Ok task)
+same_run (Ok t) task a same h = h ∙ ap (λ x. answer_of (Ok x)) same
+same_run (Err r) task a same h = absurd same
+
+-- Where the files are accepted there is one right answer: that of the run.
+pub one_run : (ws : List (List ℕ)) (files : List File) (task : Task) (a : Answer) → TaskOutcome ws files (Ok task) → IsAnswer ws files a → a ≡ answer_of (Ok task)
+one_run ws files task a accepted h = same_run h.0 task a (task_agree ws files h.0 (Ok task) h.1 accepted) h.2
