@@ -1,0 +1,5 @@
+-- The modules of this folder.
+pub mod BestLaws
+pub mod ConditionLaws
+pub mod PassLaws
+pub mod PulseLaws
