@@ -23,14 +23,14 @@ is_true values IfNone = false
 abbrev pub some_condition : List Path → List Value → ℕ → Bool
 some_condition paths values input = list_any (λ p. (p.input == input) && is_true values p.condition) paths
 
--- whether a path's condition lets it be taken: that of `ifnone` where no other of the same input is true (14.2.4.4)
-abbrev pub lets : List Path → List Value → ℕ → PathCondition → Bool
-lets paths values input Always = true
-lets paths values input (If written bound) = holds values bound
-lets paths values input IfNone = not (some_condition paths values input)
+-- whether a path may be taken by its condition: by that of `ifnone` where none of a path from the same input is true (14.2.4.4)
+abbrev pub allows : List Path → List Value → ℕ → PathCondition → Bool
+allows paths values input Always = true
+allows paths values input (If written bound) = holds values bound
+allows paths values input IfNone = not (some_condition paths values input)
 
 abbrev pub is_allowed : List Path → List Value → Path → Bool
-is_allowed paths values p = lets paths values p.input p.condition
+is_allowed paths values p = allows paths values p.input p.condition
 
 -- whether an edge has a net's last change; without an edge always, without a change never
 abbrev pub is_of_edge : Option Edge → Option Stamp → Bool

@@ -38,9 +38,9 @@ pub(crate) fn is_allowed<N: Nets>(paths: &[Path], path: &Path, nets: &N) -> bool
     requires path { IsConditionWithin (length (N.values nets.now)) path.now.condition }
     ensures { (conditions : List Condition) (timings : List Timings) → result ≡ is_allowed_among (paths_seen conditions timings paths.now) (N.values nets.now) (path_seen conditions timings path.now) }
 {
-    match &path.condition {
+    match path.condition {
         PathCondition::Always => true,
-        PathCondition::If { bound, .. } => bound.holds(nets),
+        PathCondition::If { .. } => is_true(&path.condition, nets),
         PathCondition::IfNone => !has_true_condition(paths, path.input, nets),
     }
 }

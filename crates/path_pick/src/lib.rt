@@ -6,6 +6,8 @@ mod conditions;
 mod picking;
 mod pulses;
 mod stamps;
+#[cfg(test)]
+mod tests;
 
 pub use picking::{Picked, pick};
 pub use stamps::{Stamp, Stamps};

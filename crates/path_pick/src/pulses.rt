@@ -1,8 +1,8 @@
 // The delay and the limits of a transition.
 ghost use Rattle.std.specs.Prelude.{◌≡◌, ◌<◌, ◌≤◌, ◌^◌, All, IfSome, Some, position};
 ghost use Rattle.sg_logic.specs.Transitions.{goes, transitions};
-ghost use Rattle.sg_circuit.specs.Seen.{leg_timing_seen, timings_of};
-ghost use Rattle.sg_circuit.specs.Timings.{timing_at};
+ghost use Rattle.sg_circuit.specs.Seen.{leg_timing_seen, limit_seen, timings_of};
+ghost use Rattle.sg_circuit.specs.Timings.{limits_or, timing_at};
 ghost use Rattle.path_pick.specs.Pass.{pulse_by};
 ghost use Rattle.path_pick.specs.Within.{AreNear};
 
@@ -26,7 +26,18 @@ pub(crate) fn place_of(from: Value, to: Value) -> Option<usize>
     Some(Trans::of(from, to)?.place())
 }
 
-// The delay and the limits at a place; limits that no text gives are the delay.
+// The limits, reject and error, of pulses of a delay; those that no text gives are the delay.
+fn limits_by(limit: Limit, delay: u64) -> (u64, u64)
+    ensures limits { result ≡ limits_or delay (limit_seen limit) }
+    ensures ordered { result.0 ≤ result.1 }
+{
+    match limit {
+        Limit::Follow => (delay, delay),
+        Limit::Own(widths) => (widths.reject, widths.error),
+    }
+}
+
+// The delay and the limits at a place.
 fn pulse_at(delays: &[u64; 12], limits: &[Limit; 12], place: usize) -> Pulse
     requires { place < 12 }
     ensures pulse { result ≡ pulse_by (timing_at (timings_of delays.now limits.now) (Some place)) }
@@ -34,17 +45,11 @@ fn pulse_at(delays: &[u64; 12], limits: &[Limit; 12], place: usize) -> Pulse
     ensures near { All (λ d. d < 2 ^ 60) delays.now → result.delay < 2 ^ 60 }
 {
     let delay = delays[place];
-    match limits[place] {
-        Limit::Follow => Pulse {
-            delay,
-            reject: delay,
-            error: delay,
-        },
-        Limit::Own(widths) => Pulse {
-            delay,
-            reject: widths.reject,
-            error: widths.error,
-        },
+    let (reject, error) = limits_by(limits[place], delay);
+    Pulse {
+        delay,
+        reject,
+        error,
     }
 }
 
