@@ -26,9 +26,7 @@ fn has_true_condition<N: Nets>(paths: &[Path], input: u32, nets: &N) -> bool
     requires { All (λ p. IsConditionWithin (length (N.values nets.now)) p.condition) paths.now }
     ensures { result ≡ some_is_true paths.now (N.values nets.now) input }
 {
-    paths
-        .iter()
-        .any(|path| path.input == input && is_true(&path.condition, nets))
+    paths.iter().any(|path| path.input == input && is_true(&path.condition, nets))
 }
 
 /// Whether a path's condition lets it be taken.

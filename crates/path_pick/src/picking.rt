@@ -66,7 +66,10 @@ pub fn pick<S: Stamps, N: Nets>(
     let place = place_of(from, to);
     let mut best = None;
     for path in paths {
-        best = better(best, candidate_from(paths, path, timings, stamps, nets, place));
+        best = better(
+            best,
+            candidate_from(paths, path, timings, stamps, nets, place),
+        );
     }
     picked_by(best, now)
 }
