@@ -66,6 +66,7 @@ pub(crate) fn better(best: Option<Candidate>, other: Option<Candidate>) -> Optio
     match (best, other) {
         (None, _) => other,
         (_, None) => best,
-        (Some(kept), Some(new)) => { if goes_before(new, kept) { other } else { best } }
+        (Some(kept), Some(new)) if goes_before(new, kept) => other,
+        _ => best,
     }
 }
