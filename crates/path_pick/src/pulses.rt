@@ -1,5 +1,5 @@
 // The delay and the limits of a transition.
-ghost use Rattle.std.specs.Prelude.{◌≡◌, ◌<◌, ◌≤◌, ◌^◌, All, IfSome, Some, position};
+ghost use Rattle.std.specs.Prelude.{◌≡◌, ◌<◌, ◌≤◌, ◌^◌, IfSome, Some, position};
 ghost use Rattle.sg_logic.specs.Transitions.{goes, transitions};
 ghost use Rattle.sg_circuit.specs.Seen.{leg_timing_seen, limit_seen, timings_of};
 ghost use Rattle.sg_circuit.specs.Timings.{limits_or, timing_at};
@@ -42,7 +42,7 @@ fn pulse_at(delays: &[u64; 12], limits: &[Limit; 12], place: usize) -> Pulse
     requires { place < 12 }
     ensures pulse { result ≡ pulse_by (timing_at (timings_of delays.now limits.now) (Some place)) }
     ensures ordered { result.reject ≤ result.error }
-    ensures near { All (λ d. d < 2 ^ 60) delays.now → result.delay < 2 ^ 60 }
+    ensures near { AreNear (timings_of delays.now limits.now) → result.delay < 2 ^ 60 }
 {
     let delay = delays[place];
     let (reject, error) = limits_by(limits[place], delay);
@@ -58,7 +58,7 @@ pub(crate) fn pulse_of(timing: &LegTiming, place: Option<usize>) -> Pulse
     requires { IfSome place (λ place. place < 12) }
     ensures pulse { result ≡ pulse_by (timing_at (leg_timing_seen timing.now) place) }
     ensures ordered { result.reject ≤ result.error }
-    ensures near { AreNear timing.now → result.delay < 2 ^ 60 }
+    ensures near { AreNear (leg_timing_seen timing.now) → result.delay < 2 ^ 60 }
 {
     match place {
         Some(place) => pulse_at(&timing.delays.at, &timing.limits.at, place),

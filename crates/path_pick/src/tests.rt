@@ -1,5 +1,6 @@
 // A choice among two paths.
 ghost use Rattle.std.specs.Prelude.{◌≡◌, ◌<◌, ◌^◌, All, length, map};
+ghost use Rattle.sg_circuit.specs.Seen.{leg_timing_seen};
 ghost use Rattle.path_pick.specs.Stamps.{stamp_seen};
 ghost use Rattle.path_pick.specs.Within.{AreNear};
 
@@ -32,7 +33,7 @@ impl Nets for Known<'_> {
 }
 
 fn delayed(delay: u32) -> LegTiming
-    ensures { AreNear result }
+    ensures { AreNear (leg_timing_seen result) }
 {
     LegTiming {
         delays: Delays12 {
