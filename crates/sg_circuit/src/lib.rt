@@ -8,6 +8,7 @@ mod elements;
 mod fan_out;
 mod fitting;
 mod nets;
+mod paths;
 mod scopes;
 #[cfg(test)]
 mod tests;
@@ -18,4 +19,5 @@ pub use circuits::{Circuit, Parts};
 pub use elements::{Element, ElementKind, LegTiming, UdpUse};
 pub use fan_out::FanOut;
 pub use nets::{Driver, Net, NetId};
+pub use paths::{Path, PathCondition};
 pub use scopes::{Port, Range, Scope, Variable};
