@@ -109,15 +109,15 @@ sees-first kept next time changed values old none e = record { found = []; added
     first : Snapshot
     first = record { time = time; values = values }
 
+    same : (datum : Option Event) → datum_times datum [] ≡ datum_times datum (first ∷ [])
+    same None = refl
+    same (Some event) = refl
+
     at : (older : List Snapshot) → Stands kept older → DontFall time older → LeadsTo older changed values → ([] ≡ violations kept.checks (first ∷ older)) × Stands next (first ∷ older)
     at [] s f h =
         (sym (first-none kept.checks first),
         subst (λ k. Stands k (first ∷ [])) (sym e) (record { seen = refl; last = refl; each = λ number l. subst (λ ds. StandsFor (latest_at kept.latest number) [] ds) (same (check_at kept.checks number).datum) (s.each number l) }))
     at (last ∷ older) s f h = let no : false ≡ true = sym none ∙ s.seen in cc
-
-    same : (datum : Option Event) → datum_times datum [] ≡ datum_times datum (first ∷ [])
-    same None = refl
-    same (Some event) = refl
 
 -- a later one
 pub sees-next : (kept next : Kept) (time : ℕ) (changed : List ℕ) (values : List Value) (latest : List Latest) (old new : List Violation) → kept.seen ≡ true → length kept.latest ≡ length kept.checks → length kept.last ≡ length values
@@ -127,18 +127,6 @@ sees-next kept next time changed values latest old new seen each many e made = r
   where
     now : Snapshot
     now = record { time = time; values = values }
-
-    at : (older : List Snapshot) → Stands kept older → DontFall time older → LeadsTo older changed values → (made.found ≡ violations kept.checks (now ∷ older)) × Stands next (now ∷ older)
-    at [] s f h = let no : true ≡ false = sym seen ∙ s.seen in cc
-    at (last ∷ older) s f h =
-        let covers : Covers kept.last values changed = subst (λ vs. Covers vs values changed) (sym s.last) h in
-        (made.whole covers ∙ all_from-agree (λ number check. found_in kept.checks kept.last values time kept.latest number) (λ number check. violations_at number check (moment check now (last ∷ older))) 0 kept.checks _
-        (λ number l. let number' : 0 + number ≡ number = zero-add number in
-        ap (found_in kept.checks kept.last values time kept.latest) number'
-        ∙ (ap (λ vs. found_in kept.checks vs values time kept.latest number) s.last
-        ∙ (one_found number (check_at kept.checks number) (latest_at kept.latest number) time values last older f (s.each number l)
-        ∙ ap (λ n. violations_at n (check_at kept.checks number) (moment (check_at kept.checks number) now (last ∷ older))) (sym number')))),
-        subst (λ k. Stands k (now ∷ last ∷ older)) (sym e) (record { seen = seen; last = followed kept.last values changed many covers; each = stands last older s f covers }))
 
     stands : (last : Snapshot) (older : List Snapshot) → Stands kept (last ∷ older) → DontFall time (last ∷ older) → Covers kept.last values changed
         → (number : ℕ) → number < length kept.checks → StandsFor (latest_at latest number) (event_times (check_at kept.checks number).refer (now ∷ last ∷ older)) (datum_times (check_at kept.checks number).datum (now ∷ last ∷ older))
@@ -151,6 +139,18 @@ sees-next kept next time changed values latest old new seen each many e made = r
         ∙ ap (λ vs. next_of time (events_at check vs values) (latest_at kept.latest number)) s.last)) in
         subst (λ x. StandsFor x (event_times check.refer (now ∷ last ∷ older)) (datum_times check.datum (now ∷ last ∷ older))) (sym here)
         (one_stands check (latest_at kept.latest number) time values last older f (s.each number l))
+
+    at : (older : List Snapshot) → Stands kept older → DontFall time older → LeadsTo older changed values → (made.found ≡ violations kept.checks (now ∷ older)) × Stands next (now ∷ older)
+    at [] s f h = let no : true ≡ false = sym seen ∙ s.seen in cc
+    at (last ∷ older) s f h =
+        let covers : Covers kept.last values changed = subst (λ vs. Covers vs values changed) (sym s.last) h in
+        (made.whole covers ∙ all_from-agree (λ number check. found_in kept.checks kept.last values time kept.latest number) (λ number check. violations_at number check (moment check now (last ∷ older))) 0 kept.checks _
+        (λ number l. let number' : 0 + number ≡ number = zero-add number in
+        ap (found_in kept.checks kept.last values time kept.latest) number'
+        ∙ (ap (λ vs. found_in kept.checks vs values time kept.latest number) s.last
+        ∙ (one_found number (check_at kept.checks number) (latest_at kept.latest number) time values last older f (s.each number l)
+        ∙ ap (λ n. violations_at n (check_at kept.checks number) (moment (check_at kept.checks number) now (last ∷ older))) (sym number')))),
+        subst (λ k. Stands k (now ∷ last ∷ older)) (sym e) (record { seen = seen; last = followed kept.last values changed many covers; each = stands last older s f covers }))
 
 -- a new checker
 pub new-stands : (checks : List CheckTiming) (last : List Value) (latest : List Latest) (n : ℕ) → latest ≡ replicate n no_times → Stands (record { checks = checks; seen = false; last = last; latest = latest }) []

@@ -1,10 +1,11 @@
 -- The events of a check over a list of snapshots.
-use Rattle.std.specs.Prelude.{◌≡◌, ℕ, ◌≤◌, Bool, true, false, ◌&&◌, List, [], ◌∷◌, Option, Some, None, refl}
+use Rattle.std.specs.Prelude.{◌≡◌, ℕ, ◌≤◌, Bool, true, false, ◌&&◌, ◌||◌, List, [], ◌∷◌, Option, Some, None, refl}
 use Rattle.std.proofs.Common.{sym, ◌∙◌, ap, subst}
 use Rattle.sg_logic.specs.declared.values.Value.{Value}
 use Rattle.sg_logic.specs.declared.values.Value.TheVariants.{Zero, One, X, Z}
 use Rattle.sg_logic.specs.declared.edges.Edge.{Edge}
-use Rattle.sg_logic.specs.Edges.{has_change}
+use Rattle.sg_logic.specs.Edges.{edge_changes, has_change, is_change}
+use Rattle.std.specs.List.{list_any, zip}
 use Rattle.sg_circuit.specs.declared.checks.Event.{Event}
 use Rattle.sg_circuit.specs.declared.checks.CheckTiming.{CheckTiming}
 use Rattle.sg_model.specs.Machine.{Snapshot}
@@ -17,12 +18,21 @@ use Rattle.time_checks.specs.Events.{is_of_edge, is_enabled, has_event, has_oppo
 use Rattle.time_checks.specs.Kept.{has_datum, events_at}
 use Rattle.time_checks.proofs.TimeLaws.{falls-later}
 
--- a list of changes has none from a value to itself
-none_of_edge : (has : List Bool) (v : Value) → has_change (record { has = has }) v v ≡ false
-none_of_edge has v = at has
-  where
-    at : (has : List Bool) → has_change (record { has = has }) v v ≡ false
-    at has = grind arith
+-- none of an edge's changes is from a value to itself
+abbrev NoneStays : Value → List (Value × Value) → Type 0
+NoneStays v [] = Unit {0}
+NoneStays v (c ∷ cs) = (is_change c v v ≡ false) × NoneStays v cs
+
+none_listed : (v : Value) (has : List Bool) (cs : List (Value × Value)) → NoneStays v cs → list_any (λ place. is_change place.1 v v && place.0) (zip has cs) ≡ false
+none_listed v [] cs h = refl
+none_listed v (b ∷ bs) [] h = refl
+none_listed v (b ∷ bs) (c ∷ cs) h = ap (λ t. (t && b) || list_any (λ place. is_change place.1 v v && place.0) (zip bs cs)) h.0 ∙ none_listed v bs cs h.1
+
+none_of_edge : (edge : Edge) (v : Value) → has_change edge v v ≡ false
+none_of_edge edge Zero = none_listed Zero edge.has edge_changes (refl, (refl, (refl, (refl, (refl, (refl, tt))))))
+none_of_edge edge One = none_listed One edge.has edge_changes (refl, (refl, (refl, (refl, (refl, (refl, tt))))))
+none_of_edge edge X = none_listed X edge.has edge_changes (refl, (refl, (refl, (refl, (refl, (refl, tt))))))
+none_of_edge edge Z = none_listed Z edge.has edge_changes (refl, (refl, (refl, (refl, (refl, (refl, tt))))))
 
 -- a value that stays is no change
 pub no_change : (edge : Option Edge) (v w : Value) → v ≡ w → is_of_edge edge v w ≡ false
@@ -33,7 +43,7 @@ no_change edge v w e = subst (λ x. is_of_edge edge v x ≡ false) e (same edge 
     same None One = refl
     same None X = refl
     same None Z = refl
-    same (Some edge) v = none_of_edge edge.has v
+    same (Some edge) v = none_of_edge edge v
 
 -- a terminal whose net stays has no event
 pub no_event : (event : Event) (last now : List Value) → value_at last event.net ≡ value_at now event.net → has_event event last now ≡ false

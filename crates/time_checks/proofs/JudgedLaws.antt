@@ -1,6 +1,10 @@
 -- The violations of a check that are found from the latest times are those of the definition.
-use Rattle.std.specs.Prelude.{◌≡◌, ℕ, ℤ, suc, nat_lt, ◌-◌, ◌&&◌, List, [], ◌∷◌, ◌++◌, Option, refl}
-use Rattle.std.proofs.Common.{sym, ◌∙◌, ap}
+use Rattle.std.specs.Prelude.{◌≡◌, ℕ, ℤ, suc, nat_lt, ◌-◌, ◌&&◌, List, [], ◌∷◌, ◌++◌, Option, Some, refl}
+use Rattle.std.specs.Option.{option_to_list}
+use Rattle.std.proofs.Common.{sym, ◌∙◌, ap, append_assoc}
+use Rattle.std.proofs.lemmas.List.{append-nil}
+use Rattle.sg_model.specs.Machine.{Violation}
+use Rattle.time_checks.specs.declared.judging.Instant.{Instant}
 use Rattle.sg_circuit.specs.declared.checks.CheckTiming.{CheckTiming}
 use Rattle.time_checks.specs.declared.events.Events.{Events}
 use Rattle.time_checks.specs.declared.latest.Latest.{Latest}
@@ -46,3 +50,13 @@ found-exact number check time events latest rs ds f g s =
     all_from-same (λ place part. listed number part (limit_at check place) (violated_kept part (limit_at check place) check.threshold (instant_of time events latest)))
     (λ place part. listed number part (limit_at check place) (violated part (limit_at check place) check.threshold (moment_by time events rs ds))) 0 (parts_of check.kind)
     (λ place part. ap (listed number part (limit_at check place)) (violated-exact part (limit_at check place) check.threshold time events latest rs ds f g s))
+
+-- the violation of one part after that of the other
+pub judged_two : (number : ℕ) (check : CheckTiming) (now : Instant) (first second : Part) (o : Option Part) (old mid new : List Violation) → parts_of check.kind ≡ first ∷ option_to_list o → o ≡ Some second
+    → mid ≡ old ++ listed number first (limit_at check 0) (violated_kept first (limit_at check 0) check.threshold now)
+    → new ≡ mid ++ listed number second (limit_at check 1) (violated_kept second (limit_at check 1) check.threshold now) → new ≡ old ++ found_at number check now
+judged_two number check now first second o old mid new p q h k =
+    let part : ℕ → Part → List Violation = λ place part. listed number part (limit_at check place) (violated_kept part (limit_at check place) check.threshold now) in
+    let all : found_at number check now ≡ part 0 first ++ (part 1 second ++ []) = ap (all_from part 0) (p ∙ ap (λ x. first ∷ option_to_list x) q) in
+    k ∙ (ap (λ ys. ys ++ part 1 second) h
+    ∙ (append_assoc old (part 0 first) (part 1 second) ∙ (ap (λ ys. old ++ (part 0 first ++ ys)) (sym (append-nil (part 1 second))) ∙ ap (λ ys. old ++ ys) (sym all))))

@@ -1,9 +1,9 @@
 -- Going over the listed checks comes to a pass over all.
-use Rattle.std.specs.Prelude.{◌≡◌, ℕ, ℤ, ◌+◌, ◌<◌, Bool, true, false, All, List, [], ◌∷◌, ◌++◌, length, map, take, replicate, slice_index_or, slice_set, Option, None, refl}
+use Rattle.std.specs.Prelude.{◌≡◌, ℕ, ℤ, ◌+◌, ◌<◌, Bool, true, false, All, List, [], ◌∷◌, ◌++◌, length, map, take, replicate, slice_index_or, slice_set, Option, None, Result, Ok, Err, OnOk, refl}
 use Rattle.std.specs.List.{flat_map}
 use Rattle.std.specs.List.Sorted.{IsNonDecreasing}
 use Rattle.std.proofs.Common.{sym, ◌∙◌, ap, subst, arith, append_assoc, zero-add}
-use Rattle.std.proofs.lemmas.List.{take_more, append-nil}
+use Rattle.std.proofs.lemmas.List.{take_more, append-nil, length-replicate}
 use Rattle.std.proofs.lemmas.Grind.{flat_map-append}
 use Rattle.sg_logic.specs.declared.values.Value.{Value}
 use Rattle.sg_logic.specs.declared.values.Value.TheVariants.{X}
@@ -100,3 +100,15 @@ sees_changes checks index changed last now time latest latest' old new marks wor
 
     below : All (λ k. k < 0 + length checks) work
     below a d m = let b : slice_index_or work a d < length marks = marked-within marks work a d are m in omega arith
+
+-- and no more is said of a call that was refused
+pub sees_changes_ok : {A E : Type 0} (r : Result A E) (checks : List CheckTiming) (index : List (List ℕ)) (changed : List ℕ) (last now : List Value) (time : ℕ) (latest latest' : List Latest) (old new : List Violation) (marks : List Bool) (work seen : List ℕ)
+    → IsFanOut (map (λ c. terminals c) checks) index → All (λ c. IsCheckWithin c (length index)) checks → length latest ≡ length checks
+    → marks ≡ with_readers index changed (replicate (length checks) false) → AreMarked marks work → IsNonDecreasing work → seen ≡ work
+    → OnOk r (latest' ≡ at_places (next_at checks last now time) no_times seen latest) → OnOk r (new ≡ old ++ flat_map (found_in checks last now time latest) seen)
+    → OnOk r (SeesChanges checks changed last now time latest latest' old new)
+sees_changes_ok (Ok a) checks index changed last now time latest latest' old new marks work seen is within each e are sorted same l f =
+    sees_changes checks index changed last now time latest latest' old new marks work is within each e
+    (ap length e ∙ (length-with_readers index changed (replicate (length checks) false) ∙ length-replicate (length checks) false)) are sorted
+    (subst (λ ks. latest' ≡ at_places (next_at checks last now time) no_times ks latest) same l) (subst (λ ks. new ≡ old ++ flat_map (found_in checks last now time latest) ks) same f)
+sees_changes_ok (Err why) checks index changed last now time latest latest' old new marks work seen is within each e are sorted same l f = tt

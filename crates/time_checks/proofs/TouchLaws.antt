@@ -19,7 +19,7 @@ use Rattle.fan_round.specs.Nets.{differs}
 use Rattle.fan_round.specs.Rounds.{IsOnce}
 use Rattle.fan_round.specs.Work.{mark_at, AreMarked, with_marks, with_readers}
 use Rattle.fan_round.proofs.ListLaws.{test_other, occurs_here, occurs_at, test_same}
-use Rattle.fan_round.proofs.WorkLaws.{length-with_marks}
+use Rattle.fan_round.proofs.WorkLaws.{length-with_marks, marked-within}
 use Rattle.fan_round.proofs.WorkIsExact.{or_left, or_right, mark_with, is_reader, occurs_has}
 use Rattle.time_checks.specs.Within.{terminals, datum_nets, IsEventWithin, IsCheckWithin}
 use Rattle.time_checks.specs.Quiet.{StaysSame, IsUntouched}
@@ -129,18 +129,18 @@ rises i (k ∷ ks) above h once =
     rest : (x : ℕ) → occurrences x ks ≤ 1
     rest x = let most : occurrences x (k ∷ ks) ≤ 1 = once.each x in (elim (k == x) as (λ b. (if b then 1 else 0) + occurrences x ks ≤ 1 → occurrences x ks ≤ 1) [ true ↦ λ g. omega arith | false ↦ λ g. omega arith ]) most
 
+    apart : (x : ℕ) → k ≤ x → 0 < occurrences x ks → occurrences k ks ≡ 0 → suc k ≤ x
+    apart x least some none = elim (cases_eq k x) [
+      | inl same ↦ (let e : occurrences x ks ≡ 0 = ap (λ y. occurrences y ks) (sym same) ∙ none in absurd (omega arith))
+      | inr other ↦ omega arith
+    ]
+
     later : All (λ x. suc k ≤ x) ks
     later a d l =
         let least : k ≤ slice_index_or ks a d = h 0 (suc a) d (omega arith) (omega arith) in
         let some : 0 < occurrences (slice_index_or ks a d) ks = occurs_at ks a d l in
         let none : occurrences k ks ≡ 0 = (let most : occurrences k (k ∷ ks) ≤ 1 = once.each k in omega (arith, occurs_here k k ks refl)) in
         apart (slice_index_or ks a d) least some none
-
-    apart : (x : ℕ) → k ≤ x → 0 < occurrences x ks → occurrences k ks ≡ 0 → suc k ≤ x
-    apart x least some none = elim (cases_eq k x) [
-      | inl same ↦ (let e : occurrences x ks ≡ 0 = ap (λ y. occurrences y ks) (sym same) ∙ none in absurd (omega arith))
-      | inr other ↦ omega arith
-    ]
 
 below_none : (i j : ℕ) (ks : List ℕ) → RisesFrom i ks → j < i → has j ks ≡ false
 below_none i j [] r l = refl
@@ -181,3 +181,7 @@ terminals-within checks nets within i d l = at (slice_index_or checks i d) (with
     at : (check : CheckTiming) → IsCheckWithin check nets → All (λ n. n < nets) (terminals check)
     at check w zero e m = w.refer.net
     at check w (suc j) e m = datum check.datum w.datum j e (omega arith)
+
+-- a listed number is one of those that have marks
+pub listed-within : (marks : List Bool) (work seen : List ℕ) (n : ℕ) → AreMarked marks work → length marks ≡ n → seen ≡ work → All (λ k. k < n) seen
+listed-within marks work seen n are many e = subst (λ ks. All (λ k. k < n) ks) (sym e) (λ i d l. subst (λ m. slice_index_or work i d < m) many (marked-within marks work i d are l))

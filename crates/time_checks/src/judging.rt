@@ -1,10 +1,10 @@
 // The violations of a timing check at a snapshot.
-ghost use Rattle.std.specs.Prelude.{◌≡◌, ◌++◌, ◌∷◌, OnOk, map};
+ghost use Rattle.std.specs.Prelude.{◌≡◌, ◌++◌, ◌<◌, ◌∷◌, OnOk, map};
 ghost use Rattle.std.specs.Option.{option_to_list};
 ghost use Rattle.time_checks.specs.Kept.{found_at, violated_kept};
 ghost use Rattle.time_checks.specs.Parts.{parts_of};
 ghost use Rattle.time_checks.specs.Seen.{violation_seen, Continues};
-ghost use Rattle.time_checks.specs.Violations.{listed};
+ghost use Rattle.time_checks.specs.Violations.{limit_at, listed};
 
 use crate::events::Events;
 use crate::latest::{Latest, below};
@@ -91,6 +91,24 @@ fn add(
     Ok(())
 }
 
+// Adds the violation of the part that stands at a place among a check's parts, if there is one.
+fn judge_part(
+    number: u32,
+    check: &CheckTiming,
+    place: usize,
+    part: Part,
+    now: Instant,
+    violations: &mut Vec<Violation>,
+) -> Result<(), NoMemory>
+    requires { place < 2 }
+    ensures found { OnOk result (map (λ v. violation_seen v) violations.new.items ≡ map (λ v. violation_seen v) violations.old.items ++ listed number part (limit_at check.now place) (violated_kept part (limit_at check.now place) check.now.threshold now)) }
+    ensures kept { Continues violations.old.items violations.new.items }
+{
+    let limit = check.limits[place];
+    let times = violating(part, limit, check.threshold, now);
+    add(violations, number, part, limit, times)
+}
+
 /// Adds a check's violations.
 pub fn judge(
     number: u32,
@@ -102,13 +120,9 @@ pub fn judge(
     ensures kept { Continues violations.old.items violations.new.items }
 {
     let (first, second) = parts(check.kind);
-    let limit = check.limits[0];
-    let times = violating(first, limit, check.threshold, now);
-    add(violations, number, first, limit, times)?;
+    judge_part(number, check, 0, first, now, violations)?;
     if let Some(second) = second {
-        let limit = check.limits[1];
-        let times = violating(second, limit, check.threshold, now);
-        add(violations, number, second, limit, times)?;
+        judge_part(number, check, 1, second, now, violations)?;
     }
     Ok(())
 }

@@ -8,6 +8,8 @@ mod judging;
 mod latest;
 mod laws;
 mod seeing;
+#[cfg(test)]
+mod tests;
 mod touching;
 mod violations;
 mod windows;
