@@ -1,5 +1,5 @@
 -- A checker that sees one more snapshot.
-use Rattle.std.specs.Prelude.{◌≡◌, ◌≢◌, ℕ, zero, suc, ◌+◌, ◌<◌, Bool, true, false, not, ◌==◌, ◌||◌, if◌then◌else◌, All, List, [], ◌∷◌, ◌++◌, length, map, replicate, slice_index_or, slice_set, take, Option, Some, None, refl}
+use Rattle.std.specs.Prelude.{◌≡◌, ◌≢◌, ℕ, zero, suc, ◌+◌, ◌<◌, Bool, true, false, not, ◌==◌, ◌||◌, if◌then◌else◌, List, [], ◌∷◌, ◌++◌, length, replicate, slice_index_or, slice_set, take, Option, Some, None, refl}
 use Rattle.std.proofs.Common.{sym, ◌∙◌, ap, subst, arith, inl, inr, zero-add, add-zero}
 use Rattle.std.proofs.lemmas.Bool.{cases_eq}
 use Rattle.std.proofs.lemmas.List.{append-nil, length-set, get_or-set_same, get_or-set_other, ext_get_or, get_or_default}
@@ -10,7 +10,6 @@ use Rattle.sg_circuit.specs.declared.checks.Event.{Event}
 use Rattle.sg_circuit.specs.declared.checks.CheckTiming.{CheckTiming}
 use Rattle.sg_circuit.specs.FanOut.{has}
 use Rattle.sg_model.specs.Machine.{Snapshot, Violation}
-use Rattle.sg_model.specs.Round.{each_from}
 use Rattle.sg_model.specs.Values.{value_at}
 use Rattle.sg_model.proofs.PlacedLaws.{same-true}
 use Rattle.fan_round.specs.Lists.{at_places}
@@ -22,9 +21,9 @@ use Rattle.time_checks.specs.Falling.{DontFall}
 use Rattle.time_checks.specs.Times.{grown}
 use Rattle.time_checks.specs.Events.{event_times, datum_times, moment}
 use Rattle.time_checks.specs.Violations.{all_from, violations_at, violations}
-use Rattle.time_checks.specs.Kept.{StandsFor, has_datum, events_at, next_of, instant_of, found_at}
-use Rattle.time_checks.specs.Checking.{Kept, Stands, IsLast, is_some_snapshot, check_at, latest_at, no_times, next_at, found_in, Covers, LeadsTo, Sees, SeesChanges}
-use Rattle.time_checks.proofs.EventLaws.{falls-event_times, falls-datum_times, datum_times-more, moment-is, moment_by}
+use Rattle.time_checks.specs.Kept.{StandsFor, events_at, next_of, instant_of, found_at}
+use Rattle.time_checks.specs.Checking.{Kept, Stands, check_at, latest_at, no_times, next_at, found_in, Covers, LeadsTo, Sees, SeesChanges}
+use Rattle.time_checks.proofs.EventLaws.{falls-event_times, falls-datum_times, datum_times-more, moment-is}
 use Rattle.time_checks.proofs.KeptLaws.{next-stands}
 use Rattle.time_checks.proofs.JudgedLaws.{found-exact}
 use Rattle.time_checks.proofs.QuietLaws.{first-none}
@@ -114,9 +113,10 @@ sees-first kept next time changed values old none e = record { found = []; added
     same (Some event) = refl
 
     at : (older : List Snapshot) → Stands kept older → DontFall time older → LeadsTo older changed values → ([] ≡ violations kept.checks (first ∷ older)) × Stands next (first ∷ older)
-    at [] s f h =
-        (sym (first-none kept.checks first),
-        subst (λ k. Stands k (first ∷ [])) (sym e) (record { seen = refl; last = refl; each = λ number l. subst (λ ds. StandsFor (latest_at kept.latest number) [] ds) (same (check_at kept.checks number).datum) (s.each number l) }))
+    at [] s f h = (
+      sym (first-none kept.checks first),
+      subst (λ k. Stands k (first ∷ [])) (sym e) (record { seen = refl; last = refl; each = λ number l. subst (λ ds. StandsFor (latest_at kept.latest number) [] ds) (same (check_at kept.checks number).datum) (s.each number l) }),
+    )
     at (last ∷ older) s f h = let no : false ≡ true = sym none ∙ s.seen in cc
 
 -- a later one
@@ -143,14 +143,15 @@ sees-next kept next time changed values latest old new seen each many e made = r
     at : (older : List Snapshot) → Stands kept older → DontFall time older → LeadsTo older changed values → (made.found ≡ violations kept.checks (now ∷ older)) × Stands next (now ∷ older)
     at [] s f h = let no : true ≡ false = sym seen ∙ s.seen in cc
     at (last ∷ older) s f h =
-        let covers : Covers kept.last values changed = subst (λ vs. Covers vs values changed) (sym s.last) h in
-        (made.whole covers ∙ all_from-agree (λ number check. found_in kept.checks kept.last values time kept.latest number) (λ number check. violations_at number check (moment check now (last ∷ older))) 0 kept.checks _
-        (λ number l. let number' : 0 + number ≡ number = zero-add number in
-        ap (found_in kept.checks kept.last values time kept.latest) number'
-        ∙ (ap (λ vs. found_in kept.checks vs values time kept.latest number) s.last
-        ∙ (one_found number (check_at kept.checks number) (latest_at kept.latest number) time values last older f (s.each number l)
-        ∙ ap (λ n. violations_at n (check_at kept.checks number) (moment (check_at kept.checks number) now (last ∷ older))) (sym number')))),
-        subst (λ k. Stands k (now ∷ last ∷ older)) (sym e) (record { seen = seen; last = followed kept.last values changed many covers; each = stands last older s f covers }))
+        let covers : Covers kept.last values changed = subst (λ vs. Covers vs values changed) (sym s.last) h in (
+          made.whole covers ∙ all_from-agree (λ number check. found_in kept.checks kept.last values time kept.latest number) (λ number check. violations_at number check (moment check now (last ∷ older))) 0 kept.checks _
+              (λ number l. let number' : 0 + number ≡ number = zero-add number in
+              ap (found_in kept.checks kept.last values time kept.latest) number'
+              ∙ (ap (λ vs. found_in kept.checks vs values time kept.latest number) s.last
+              ∙ (one_found number (check_at kept.checks number) (latest_at kept.latest number) time values last older f (s.each number l)
+              ∙ ap (λ n. violations_at n (check_at kept.checks number) (moment (check_at kept.checks number) now (last ∷ older))) (sym number')))),
+          subst (λ k. Stands k (now ∷ last ∷ older)) (sym e) (record { seen = seen; last = followed kept.last values changed many covers; each = stands last older s f covers }),
+        )
 
 -- a new checker
 pub new-stands : (checks : List CheckTiming) (last : List Value) (latest : List Latest) (n : ℕ) → latest ≡ replicate n no_times → Stands (record { checks = checks; seen = false; last = last; latest = latest }) []

@@ -1,5 +1,5 @@
 -- Worked examples of timing checks, computed by the definitions.
-use Rattle.std.specs.Prelude.{◌≡◌, ℕ, ℤ, pos, Bool, true, false, List, [], ◌∷◌, Option, Some, None, refl}
+use Rattle.std.specs.Prelude.{◌≡◌, ℕ, pos, true, false, List, [], ◌∷◌, Option, Some, None, refl}
 use Rattle.sg_logic.specs.declared.values.Value.{Value}
 use Rattle.sg_logic.specs.declared.values.Value.TheVariants.{Zero, One, X}
 use Rattle.cond_expr.specs.Tree.{Cond, leaf, constant, binary}

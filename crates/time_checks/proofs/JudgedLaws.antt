@@ -1,5 +1,5 @@
 -- The violations of a check that are found from the latest times are those of the definition.
-use Rattle.std.specs.Prelude.{◌≡◌, ℕ, ℤ, suc, nat_lt, ◌-◌, ◌&&◌, List, [], ◌∷◌, ◌++◌, Option, Some, refl}
+use Rattle.std.specs.Prelude.{◌≡◌, ℕ, ℤ, suc, List, [], ◌∷◌, ◌++◌, Option, Some, refl}
 use Rattle.std.specs.Option.{option_to_list}
 use Rattle.std.proofs.Common.{sym, ◌∙◌, ap, append_assoc}
 use Rattle.std.proofs.lemmas.List.{append-nil}
@@ -13,7 +13,7 @@ use Rattle.time_checks.specs.declared.violations.Part.TheVariants.{Setup, Hold, 
 use Rattle.time_checks.specs.Parts.{parts_of}
 use Rattle.time_checks.specs.Falling.{Falls}
 use Rattle.time_checks.specs.Times.{grown}
-use Rattle.time_checks.specs.Windows.{Pair, setup, hold, where_true, since, size, exceeds, violated}
+use Rattle.time_checks.specs.Windows.{setup, hold, size, violated}
 use Rattle.time_checks.specs.Violations.{all_from, listed, limit_at, violations_at}
 use Rattle.time_checks.specs.Kept.{StandsFor, datum_below, next_of, setup_kept, hold_kept, width_kept, skew_kept, violated_kept, instant_of, found_at}
 use Rattle.time_checks.proofs.KeptLaws.{setup-exact, hold-exact, next_time-exact}

@@ -1,5 +1,5 @@
 -- What is judged from the latest times alone is what the definitions say of all times.
-use Rattle.std.specs.Prelude.{◌≡◌, ℕ, ◌+◌, ◌-◌, ◌<◌, ◌≤◌, nat_lt, nat_le, Bool, true, false, ◌&&◌, if◌then◌else◌, cond, List, [], ◌∷◌, refl}
+use Rattle.std.specs.Prelude.{◌≡◌, ℕ, ◌+◌, ◌-◌, ◌≤◌, nat_lt, nat_le, Bool, true, false, ◌&&◌, if◌then◌else◌, List, [], ◌∷◌, refl}
 use Rattle.std.specs.Option.{option_map}
 use Rattle.std.specs.List.{find}
 use Rattle.std.specs.declared.option.Option.{Option}
@@ -9,8 +9,8 @@ use Rattle.std.proofs.lemmas.Bool.Decides.{nat_tests}
 use Rattle.time_checks.specs.declared.latest.Latest.{Latest}
 use Rattle.time_checks.specs.Times.{grown, greatest, greatest_of}
 use Rattle.time_checks.specs.Falling.{Falls}
-use Rattle.time_checks.proofs.TimeLaws.{head_of, greatest-falls, greatest_of-falls, falls-later, if_near, if_now, find-near, find-now, find-up_to, find-passes}
-use Rattle.time_checks.specs.Windows.{Moment, Pair, where_true, later_of, setup, hold, hold_of_refer, hold_of_datum, since}
+use Rattle.time_checks.proofs.TimeLaws.{head_of, greatest-falls, greatest_of-falls, if_near, if_now, find-near, find-now, find-up_to, find-passes}
+use Rattle.time_checks.specs.Windows.{Pair, where_true, later_of, setup, hold}
 use Rattle.time_checks.specs.Kept.{greatest_below, StandsFor, datum_below, next_time, near, setup_kept, hold_kept, now_kept}
 
 falls-grown : (b : Bool) (time : ℕ) (ts : List ℕ) → Falls time ts → Falls time (grown b time ts)

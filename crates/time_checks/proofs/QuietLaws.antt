@@ -1,10 +1,10 @@
 -- A check none of whose terminals changes.
 use Rattle.std.specs.Prelude.{◌≡◌, ℕ, ℤ, suc, Bool, false, List, [], ◌∷◌, ◌++◌, Option, Some, None, refl}
-use Rattle.std.proofs.Common.{sym, ◌∙◌, ap}
+use Rattle.std.proofs.Common.{◌∙◌, ap}
 use Rattle.sg_logic.specs.declared.values.Value.{Value}
 use Rattle.sg_circuit.specs.declared.checks.Event.{Event}
 use Rattle.sg_circuit.specs.declared.checks.CheckTiming.{CheckTiming}
-use Rattle.sg_model.specs.Machine.{Snapshot, Violation}
+use Rattle.sg_model.specs.Machine.{Snapshot}
 use Rattle.time_checks.specs.declared.events.Events.{Events}
 use Rattle.time_checks.specs.declared.latest.Latest.{Latest}
 use Rattle.time_checks.specs.declared.violations.Part.{Part}
@@ -12,7 +12,7 @@ use Rattle.time_checks.specs.declared.violations.Part.TheVariants.{Setup, Hold, 
 use Rattle.time_checks.specs.Parts.{parts_of}
 use Rattle.time_checks.specs.Times.{grown}
 use Rattle.time_checks.specs.Windows.{Moment, Pair, where_true, later_of, violated}
-use Rattle.time_checks.specs.Events.{has_event, has_opposite, happens, event_times, datum_happens, datum_times, moment}
+use Rattle.time_checks.specs.Events.{has_opposite, event_times, datum_happens, datum_times, moment}
 use Rattle.time_checks.specs.Violations.{all_from, listed, limit_at, violations_at, violations}
 use Rattle.time_checks.specs.Kept.{has_datum, events_at, next_of}
 use Rattle.time_checks.specs.Quiet.{StaysSame, IsUntouched}

@@ -1,36 +1,30 @@
 -- Going over the listed checks comes to a pass over all.
-use Rattle.std.specs.Prelude.{◌≡◌, ℕ, ℤ, ◌+◌, ◌<◌, Bool, true, false, All, List, [], ◌∷◌, ◌++◌, length, map, take, replicate, slice_index_or, slice_set, Option, None, Result, Ok, Err, OnOk, refl}
+use Rattle.std.specs.Prelude.{◌≡◌, ℕ, ℤ, ◌+◌, ◌<◌, Bool, false, All, List, [], ◌∷◌, ◌++◌, length, map, take, replicate, slice_index_or, slice_set, Option, None, Result, Ok, Err, OnOk, refl}
 use Rattle.std.specs.List.{flat_map}
 use Rattle.std.specs.List.Sorted.{IsNonDecreasing}
 use Rattle.std.proofs.Common.{sym, ◌∙◌, ap, subst, arith, append_assoc, zero-add}
 use Rattle.std.proofs.lemmas.List.{take_more, append-nil, length-replicate}
 use Rattle.std.proofs.lemmas.Grind.{flat_map-append}
 use Rattle.sg_logic.specs.declared.values.Value.{Value}
-use Rattle.sg_logic.specs.declared.values.Value.TheVariants.{X}
 use Rattle.sg_circuit.specs.declared.checks.CheckTiming.{CheckTiming}
-use Rattle.sg_circuit.specs.FanOut.{has, IsFanOut}
+use Rattle.sg_circuit.specs.FanOut.{IsFanOut}
 use Rattle.sg_model.specs.Machine.{Violation}
-use Rattle.sg_model.specs.Round.{each_from}
-use Rattle.sg_model.specs.Values.{value_at}
-use Rattle.fan_round.specs.Lists.{occurrences, at_places}
+use Rattle.fan_round.specs.Lists.{at_places}
 use Rattle.fan_round.specs.Rounds.{IsOnce}
 use Rattle.fan_round.specs.Work.{mark_at, AreMarked, with_readers}
 use Rattle.fan_round.proofs.ListLaws.{at_places-more, at_places-other, at_places-each}
 use Rattle.fan_round.proofs.EvaluationLaws.{not_before}
 use Rattle.fan_round.proofs.WorkLaws.{marked-within, length-with_readers}
-use Rattle.time_checks.specs.declared.events.Events.{Events}
-use Rattle.time_checks.specs.declared.judging.Instant.{Instant}
 use Rattle.time_checks.specs.declared.latest.Latest.{Latest}
 use Rattle.time_checks.specs.declared.violations.Part.{Part}
 use Rattle.time_checks.specs.declared.violations.Part.TheVariants.{Setup, Hold, Recovery, Removal, Width, Period, Skew}
 use Rattle.time_checks.specs.Parts.{parts_of}
 use Rattle.time_checks.specs.Windows.{Pair, where_true}
-use Rattle.time_checks.specs.Violations.{all_from, listed, limit_at}
+use Rattle.time_checks.specs.Violations.{listed, limit_at}
 use Rattle.time_checks.specs.Within.{terminals, IsCheckWithin}
 use Rattle.time_checks.specs.Quiet.{IsUntouched}
-use Rattle.time_checks.specs.Kept.{events_at, hold_kept, now_kept, violated_kept, instant_of, found_at}
+use Rattle.time_checks.specs.Kept.{events_at, violated_kept, instant_of, found_at}
 use Rattle.time_checks.specs.Checking.{check_at, latest_at, no_times, next_at, found_in, Covers, SeesChanges}
-use Rattle.time_checks.proofs.EventLaws.{no_event, no_opposite}
 use Rattle.time_checks.proofs.QuietLaws.{all_none, untouched-latest, untouched-events}
 use Rattle.time_checks.proofs.TouchLaws.{unmarked-untouched, unlisted-unmarked, marked-once, rises, listed-all}
 

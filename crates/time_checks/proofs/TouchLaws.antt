@@ -4,7 +4,7 @@ use Rattle.std.specs.List.{flat_map, sum_by}
 use Rattle.std.specs.List.Sorted.{IsNonDecreasing, IsPermutation}
 use Rattle.std.proofs.Common.{sym, ◌∙◌, ap, subst, arith, inl, inr, zero-add}
 use Rattle.std.proofs.lemmas.Bool.{cases_eq}
-use Rattle.std.proofs.lemmas.List.{get_or-map, get_or-replicate, length-replicate, length-map}
+use Rattle.std.proofs.lemmas.List.{get_or-map, length-replicate, length-map}
 use Rattle.std.proofs.lemmas.List.Sums.{sum_by-cons}
 use Rattle.std.proofs.lemmas.List.Sorted.{sum_by-IsPermutation, length_permutation}
 use Rattle.sg_logic.specs.declared.values.Value.{Value}
@@ -14,7 +14,7 @@ use Rattle.sg_circuit.specs.declared.checks.CheckTiming.{CheckTiming}
 use Rattle.sg_circuit.specs.FanOut.{has, readers_at, readers_from, IsFanOut}
 use Rattle.sg_model.specs.Values.{value_at}
 use Rattle.sg_model.proofs.PlacedLaws.{same-true}
-use Rattle.fan_round.specs.Lists.{occurrences, IsListOf}
+use Rattle.fan_round.specs.Lists.{occurrences}
 use Rattle.fan_round.specs.Nets.{differs}
 use Rattle.fan_round.specs.Rounds.{IsOnce}
 use Rattle.fan_round.specs.Work.{mark_at, AreMarked, with_marks, with_readers}
@@ -159,14 +159,14 @@ listed-all g i (x ∷ xs) [] r a none =
 listed-all g i (x ∷ xs) (k ∷ ks) r a none =
     elim (cases_eq k i) [
       | inl same ↦
-        ap (λ n. g n ++ flat_map g ks) same
-        ∙ ap (λ ys. g i ++ ys) (listed-all g (suc i) xs ks (subst (λ n. RisesFrom (suc n) ks) same r.1) (λ b d l. (let m = a (suc b) d (omega arith) in omega arith))
-        (λ j l m h. none j (omega arith) (omega arith) (ap (λ b. b || has j ks) (test_other k j (omega arith)) ∙ h)))
+          ap (λ n. g n ++ flat_map g ks) same
+          ∙ ap (λ ys. g i ++ ys) (listed-all g (suc i) xs ks (subst (λ n. RisesFrom (suc n) ks) same r.1) (λ b d l. (let m = a (suc b) d (omega arith) in omega arith))
+          (λ j l m h. none j (omega arith) (omega arith) (ap (λ b. b || has j ks) (test_other k j (omega arith)) ∙ h)))
       | inr other ↦
-        (let least : i ≤ k = r.0 in
-        let gone : g i ≡ [] = none i (omega arith) (omega arith) (ap (λ b. b || has i ks) (test_other k i other) ∙ below_none (suc k) i ks r.1 (omega arith)) in
-        listed-all g (suc i) xs (k ∷ ks) (omega arith, r.1) (λ b d l. (let m = a b d l in omega arith)) (λ j l m h. none j (omega arith) (omega arith) h)
-        ∙ sym (ap (λ ys. ys ++ all_from (λ n y. g n) (suc i) xs) gone))
+          (let least : i ≤ k = r.0 in
+          let gone : g i ≡ [] = none i (omega arith) (omega arith) (ap (λ b. b || has i ks) (test_other k i other) ∙ below_none (suc k) i ks r.1 (omega arith)) in
+          listed-all g (suc i) xs (k ∷ ks) (omega arith, r.1) (λ b d l. (let m = a b d l in omega arith)) (λ j l m h. none j (omega arith) (omega arith) h)
+          ∙ sym (ap (λ ys. ys ++ all_from (λ n y. g n) (suc i) xs) gone))
     ]
 
 -- each terminal is at a net

@@ -6,7 +6,7 @@ use Rattle.sg_circuit.specs.declared.checks.CheckTiming.{CheckTiming}
 use Rattle.sg_model.specs.Machine.{Snapshot}
 use Rattle.sg_model.specs.Values.{value_at}
 use Rattle.time_checks.specs.Events.{event_times, datum_times, moment}
-use Rattle.time_checks.specs.Violations.{violations_at, violations}
+use Rattle.time_checks.specs.Violations.{violations_at}
 
 -- a terminal's net stays, where there is such a terminal
 abbrev pub StaysSame : Option Event → List Value → List Value → Type 0

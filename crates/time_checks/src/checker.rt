@@ -47,11 +47,7 @@ impl<'a> Model for Checker<'a> {
 
 impl<'a> Checker<'a> {
     /// A checker of these checks that has seen nothing, in a circuit of so many nets.
-    pub fn new(
-        alloc: Global,
-        nets: u32,
-        checks: &'a [CheckTiming],
-    ) -> Result<Checker<'a>, NoMemory>
+    pub fn new(alloc: Global, nets: u32, checks: &'a [CheckTiming]) -> Result<Checker<'a>, NoMemory>
         requires within { All (λ c. IsCheckWithin c nets) checks.now }
         requires few { length checks.now < 2 ^ 31 }
         ensures checks { IfOk result (λ checker. checker.checks ≡ checks.now) }

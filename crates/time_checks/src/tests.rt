@@ -10,6 +10,7 @@ use std::alloc::Global;
 use std::test::Fail;
 
 const SETUP: i64 = 10;
+
 const HOLD: i64 = 3;
 
 fn check(kind: CheckKind, first: i64, second: i64) -> CheckTiming

@@ -1,4 +1,4 @@
-use Rattle.std.proofs.Common.{◌≡◌, ◌∙◌, ℕ, List, All, ap, sym, subst, arith, length, map, false, replicate}
+use Rattle.std.proofs.Common.{◌≡◌, ◌∙◌, All, ap, sym, subst, arith, length, map, false, replicate}
 use Rattle.std.proofs.lemmas.List.{length-map, length-replicate, with_items_is}
 use Rattle.sg_circuit.specs.declared.checks.CheckTiming.{CheckTiming}
 use Rattle.fan_round.proofs.WorkLaws.{length-with_readers}
