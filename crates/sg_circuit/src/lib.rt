@@ -14,7 +14,7 @@ mod scopes;
 mod tests;
 
 pub use building::{Pin, add_pins};
-pub use checks::{Check, CheckKind, Terminal};
+pub use checks::{Check, CheckKind, CheckTiming, Event, Terminal};
 pub use circuits::{Circuit, Parts};
 pub use elements::{Element, ElementKind, LegTiming, UdpUse};
 pub use fan_out::FanOut;
