@@ -16,3 +16,5 @@ pub mod Scanning
 pub mod ValueExamples
 pub mod Views
 pub mod WholeConditions
+pub mod WordReading
+pub mod Words

@@ -11,3 +11,6 @@ pub mod Same
 pub mod ScanSteps
 pub mod Tree
 pub mod Values
+pub mod Vocabulary
+pub mod WordReading
+pub mod WordStates

@@ -1,0 +1,17 @@
+-- What reading one word of a condition among other tokens gives.
+use Rattle.std.specs.Prelude.{◌≡◌, ℕ, true, false, List, Option, Some, None, Result, Ok, Err}
+use Rattle.grammar.specs.Rule.{stands}
+use Rattle.grammar.specs.declared.ReadFault.{ReadFault}
+use Rattle.grammar.specs.declared.ReadFault.TheVariants as faults
+use Rattle.cond_expr.specs.declared.scan.Phase.{Phase}
+use Rattle.cond_expr.specs.declared.tokens.Tok.{Tok}
+use Rattle.cond_expr.specs.ScanSteps.{Next}
+use Rattle.cond_expr.specs.Vocabulary.{Vocabulary}
+use Rattle.cond_expr.specs.WordStates.{word_in, next_state}
+
+-- the word that a state allows at i, the position behind it and the next state; or none, where no such word begins there
+abbrev pub WordRead : {T K : Type 0} → Vocabulary T K → List T → ℕ → Next → Result (Option (Tok × ℕ × ℕ × Phase)) ReadFault → Type 0
+WordRead v ts i s (Ok None) = stands v.kind (word_in v s).starts ts i ≡ false
+WordRead v ts i s (Ok (Some w)) = (stands v.kind (word_in v s).starts ts i ≡ true) × ((word_in v s).read ts i ≡ Ok (w.0, w.1)) × (next_state s w.0 ≡ Some (w.2, w.3))
+WordRead v ts i s (Err faults.Memory) = Unit {0}
+WordRead v ts i s (Err (faults.At e)) = (stands v.kind (word_in v s).starts ts i ≡ true) × ((word_in v s).read ts i ≡ Err e)
