@@ -4,6 +4,11 @@ pub mod Building
 pub mod ExpressionsExact
 pub mod ItemsExact
 pub mod PrimitivesExact
+pub mod AmountsExact
+pub mod ConditionsExact
+pub mod PathsExact
+pub mod ChecksExact
+pub mod SpecifyExact
 pub mod ModulesExact
 pub mod Lists
 pub mod Printed

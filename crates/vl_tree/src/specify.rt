@@ -6,14 +6,14 @@ use sg_text::Place;
 use sg_time::Decimal;
 
 /// `name [ "[" int "]" | "[" int ":" int "]" ]`: a net, a bit of it, or several.
-#[derive(Clone, Copy, Debug, PartialEq)]
+#[derive(Clone, Copy, Debug)]
 pub struct Term<'a> {
     pub name: Name<'a>,
     pub select: Option<Select>,
 }
 
 /// What a word of a condition is. Its name is a part of the files.
-#[derive(Clone, Copy, Debug, PartialEq)]
+#[derive(Clone, Copy, Debug)]
 pub enum WordKind<'a> {
     Name(&'a [u8]),
     /// A bit select of the name before it.
@@ -26,21 +26,21 @@ pub enum WordKind<'a> {
 }
 
 /// A word of a condition. The words of a condition are one by the grammar of the crate `cond_expr`.
-#[derive(Clone, Copy, Debug, PartialEq)]
+#[derive(Clone, Copy, Debug)]
 pub struct Word<'a> {
     pub place: Place,
     pub kind: WordKind<'a>,
 }
 
 /// `number | name`: a number, or a specparam's name.
-#[derive(Clone, Copy, Debug, PartialEq)]
+#[derive(Clone, Copy, Debug)]
 pub enum Amount<'a> {
     Number { place: Place, value: Decimal },
     Parameter(Name<'a>),
 }
 
 /// `amount [ ":" amount ":" amount ]`: an amount for all corners, or one for each.
-#[derive(Clone, Copy, Debug, PartialEq)]
+#[derive(Clone, Copy, Debug)]
 pub enum Amounts<'a> {
     One(Amount<'a>),
     Three {
@@ -51,14 +51,14 @@ pub enum Amounts<'a> {
 }
 
 /// `[ "-" ] amount`
-#[derive(Clone, Copy, Debug, PartialEq)]
+#[derive(Clone, Copy, Debug)]
 pub struct SignedAmount<'a> {
     pub negative: bool,
     pub amount: Amount<'a>,
 }
 
 /// `[ "-" ] amount [ ":" [ "-" ] amount ":" [ "-" ] amount ]`: the limit of a timing check.
-#[derive(Clone, Copy, Debug, PartialEq)]
+#[derive(Clone, Copy, Debug)]
 pub enum Limit<'a> {
     One(SignedAmount<'a>),
     Three {
@@ -69,7 +69,7 @@ pub enum Limit<'a> {
 }
 
 /// A declared value of a specify block (IEEE 1364-2005, 4.10.3 and 14.6.1).
-#[derive(Clone, Copy, Debug, PartialEq)]
+#[derive(Clone, Copy, Debug)]
 pub enum Specparam<'a> {
     /// `name "=" mtm`
     Value { name: Name<'a>, value: MinTypMax },
