@@ -10,8 +10,7 @@ use Rattle.grammar.proofs.Deepening.{grows, deepening-exact}
 use Rattle.grammar.proofs.Many.{many-exact}
 use Rattle.grammar.proofs.Mapped.{mapped-exact}
 use Rattle.grammar.proofs.One.{one-exact}
-use Rattle.grammar.proofs.Whole.{all_failed, one_value}
-use Rattle.grammar.proofs.Whole.{one_failing as one_fails}
+use Rattle.grammar.proofs.Whole.{all_failed, one_value, one_failing as one_fails}
 use Rattle.grammar.proofs.Within.{same_within, mapped_within, named_within, either_within, seq_within, behind_within, many_within}
 use Rattle.cond_expr.specs.declared.tokens.Tok.{Tok}
 use Rattle.cond_expr.specs.declared.scan.Phase.TheVariants.{Operand, Whole}

@@ -16,5 +16,7 @@ pub mod Scanning
 pub mod ValueExamples
 pub mod Views
 pub mod WholeConditions
+mod WordExamples
 pub mod WordReading
+pub mod WordSteps
 pub mod Words

@@ -15,8 +15,8 @@ use Rattle.cond_expr.specs.Kinds.{kind_of as word_kind}
 use Rattle.cond_expr.specs.ScanSteps.{Next, step, after_right, after_whole}
 use Rattle.cond_expr.proofs.Words.{word_in-exact}
 use Rattle.cond_expr.specs.Vocabulary.{Vocabulary}
-use Rattle.cond_expr.specs.WordStates.{IsVocabulary, next_state, word_in, goes_on_with, may_end}
 use Rattle.cond_expr.specs.WordReading.{WordRead}
+use Rattle.cond_expr.specs.WordStates.{IsVocabulary, next_state, word_in, goes_on_with, may_end}
 
 -- ---- the loop over the words of a condition
 

@@ -2,7 +2,6 @@
 use Rattle.std.proofs.Common.{◌≡◌, ℕ, zero, suc, ◌+◌, ◌<◌, Bool, true, false, List, [], ◌∷◌, ◌++◌, length, Option, Some, None, refl, sym, ap, subst, ◌∙◌, arith, inl, inr, append_assoc}
 use Rattle.std.proofs.lemmas.List.{length-append}
 use Rattle.std.proofs.lemmas.Option.{slice_get_within}
-use Rattle.cond_expr.specs.Laws.{OwnWords}
 use Rattle.std.specs.Prelude.{◌⊎◌, ◌&&◌, not, is_some, slice_get, pos}
 use Rattle.std.proofs.lemmas.Bool.{cases_Bool, both_ways, and_parts, or_cases, or_right}
 use Rattle.grammar.specs.Exact.{Exact, IsWithin}
@@ -23,6 +22,7 @@ use Rattle.cond_expr.specs.Kinds.{Kind, name_kind, index_kind, constant_kind, le
 use Rattle.cond_expr.specs.AllKinds.{is_within}
 use Rattle.cond_expr.specs.ScanSteps.{Next, step}
 use Rattle.cond_expr.specs.Grammar.{IsCondition}
+use Rattle.cond_expr.specs.Laws.{OwnWords}
 use Rattle.cond_expr.specs.Vocabulary.{Vocabulary, any_word, BeginsCondition, words_of_condition, own_words}
 use Rattle.cond_expr.specs.WordStates.{IsVocabulary, is_allowed, allows, next_state, ends_at, may_end, word_in, goes_on_with, start, words_by_state, worded}
 use Rattle.cond_expr.proofs.Scanning.{scan, at_end, go_on}

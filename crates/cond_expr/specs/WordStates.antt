@@ -1,6 +1,6 @@
 -- Joins conditions among other tokens to a reader with one look at each word: what is owed of a vocabulary, the words that may
 -- stand in each state of the scan, and the rule. What its language is says `Vocabulary`.
-use Rattle.std.specs.Prelude.{◌≡◌, ℕ, zero, Bool, true, false, ◌&&◌, ◌||◌, not, List, Option, None, Some, is_some}
+use Rattle.std.specs.Prelude.{◌≡◌, ℕ, zero, Bool, true, false, ◌&&◌, ◌||◌, not, List, None, Some, is_some}
 use Rattle.grammar.specs.Exact.{Exact}
 use Rattle.grammar.specs.Rule.{Rule, holds, one, mapped, either, only_if}
 use Rattle.grammar.specs.States.{many_by}
