@@ -10,6 +10,7 @@ pub mod EqualTokens
 mod Examples
 pub mod JoinedValue
 pub mod Levels
+pub mod MappedNames
 pub mod Outermost
 pub mod Scanned
 pub mod Scanning
