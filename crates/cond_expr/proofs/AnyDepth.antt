@@ -10,10 +10,9 @@ use Rattle.grammar.proofs.Deepening.{grows, deepening-exact}
 use Rattle.grammar.proofs.Many.{many-exact}
 use Rattle.grammar.proofs.Mapped.{mapped-exact}
 use Rattle.grammar.proofs.One.{one-exact}
-use Rattle.grammar.proofs.Whole.{all_failed, one_value}
-use Rattle.grammar.proofs.Whole.{one_failing as one_fails}
+use Rattle.grammar.proofs.Whole.{all_failed, one_value, one_failing as one_fails}
 use Rattle.grammar.proofs.Within.{same_within, mapped_within, named_within, either_within, seq_within, behind_within, many_within}
-use Rattle.cond_expr.specs.declared.tokens.Tok.{Tok}
+use Rattle.cond_expr.specs.Token.{Tok}
 use Rattle.cond_expr.specs.declared.scan.Phase.TheVariants.{Operand, Whole}
 use Rattle.cond_expr.specs.Kinds.{Kind, name_kind, index_kind, constant_kind, left_kind, right_kind, operator_kind, kind_of, is_left, is_right, is_unary, is_binary, is_binary_up_to, operator_of}
 use Rattle.cond_expr.specs.Tree.{Cond, unary, chain_of}

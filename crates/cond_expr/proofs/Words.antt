@@ -1,8 +1,7 @@
 -- A condition among other tokens is read exactly, by one look at each word.
-use Rattle.std.proofs.Common.{◌≡◌, ℕ, zero, suc, ◌+◌, ◌<◌, Bool, true, false, List, [], ◌∷◌, ◌++◌, length, Option, Some, None, refl, sym, ap, subst, ◌∙◌, arith, inl, inr, append_assoc}
-use Rattle.std.proofs.lemmas.List.{length-append}
+use Rattle.std.proofs.Common.{◌≡◌, ℕ, zero, suc, ◌+◌, ◌<◌, Bool, true, false, List, [], ◌∷◌, ◌++◌, length, map, Option, Some, None, refl, sym, ap, subst, ◌∙◌, arith, inl, inr, append_assoc}
+use Rattle.std.proofs.lemmas.List.{length-append, map-append, map-id}
 use Rattle.std.proofs.lemmas.Option.{slice_get_within}
-use Rattle.cond_expr.specs.Laws.{OwnWords}
 use Rattle.std.specs.Prelude.{◌⊎◌, ◌&&◌, not, is_some, slice_get, pos}
 use Rattle.std.proofs.lemmas.Bool.{cases_Bool, both_ways, and_parts, or_cases, or_right}
 use Rattle.grammar.specs.Exact.{Exact, IsWithin}
@@ -17,14 +16,15 @@ use Rattle.grammar.proofs.One.{one-exact}
 use Rattle.grammar.proofs.Printing.{SpellsMany-push}
 use Rattle.cond_expr.specs.declared.scan.Phase.{Phase}
 use Rattle.cond_expr.specs.declared.scan.Phase.TheVariants.{Operand, Name, Whole}
-use Rattle.cond_expr.specs.declared.tokens.Tok.{Tok}
+use Rattle.cond_expr.specs.Token.{Tok}
 use Rattle.cond_expr.specs.declared.tokens.Tok.TheVariants as tok
 use Rattle.cond_expr.specs.Kinds.{Kind, name_kind, index_kind, constant_kind, left_kind, right_kind, operator_kind, kind_of, is_index, is_binary_up_to}
 use Rattle.cond_expr.specs.AllKinds.{is_within}
 use Rattle.cond_expr.specs.ScanSteps.{Next, step}
 use Rattle.cond_expr.specs.Grammar.{IsCondition}
-use Rattle.cond_expr.specs.Vocabulary.{Vocabulary, any_word, BeginsCondition, words_of_condition, own_words}
-use Rattle.cond_expr.specs.WordStates.{IsVocabulary, is_allowed, allows, next_state, ends_at, may_end, word_in, goes_on_with, start, words_by_state, worded}
+use Rattle.cond_expr.specs.Laws.{OwnWords}
+use Rattle.cond_expr.specs.Vocabulary.{Vocabulary, any_word, toks, BeginsCondition, words_of_condition, own_words}
+use Rattle.cond_expr.specs.WordStates.{IsVocabulary, is_allowed, allows, next_state, next_by, ends_at, may_end, word_in, goes_on_with, start, words_by_state, worded}
 use Rattle.cond_expr.proofs.Scanning.{scan, at_end, go_on}
 use Rattle.cond_expr.proofs.AnyDepth.{condition-exact, verdict_is}
 
@@ -150,7 +150,7 @@ goes_on_from Operand c e h = absurd cc
 goes_on_from Name c e h = is_within (λ k. not (is_index k) && allows (Some (0, Name)) k) (is_binary_up_to 6) refl c h
 goes_on_from Whole c e h = is_within (λ k. not (is_index k) && allows (Some (0, Whole)) k) (is_binary_up_to 6) refl c h
 
-module _ {T K : Type 0} (v : Vocabulary T K) (iv : IsVocabulary v) where
+module _ {T K W : Type 0} (v : Vocabulary T K W) (iv : IsVocabulary v) where
   no_continues : (s : Next) (k : K) → (word_in v s).continues k ≡ true → ⊥
   no_continues s k p = both_ways (v.index.continues k) (iv.index_closed k) (and_parts (allows s index_kind) (v.index.continues k) p).1
 
@@ -174,17 +174,17 @@ module _ {T K : Type 0} (v : Vocabulary T K) (iv : IsVocabulary v) where
   ]
 
   pub words_by_state-exact : (s : Next) → Exact v.kind (words_by_state v s)
-  words_by_state-exact s = many_by-exact v.kind (goes_on_with v) (word_in v) next_state may_end word_in-exact (λ s. refl) (λ s x k p q. no_continues s k p) ends_in (λ s k p. absurd (no_continues s k p)) s
+  words_by_state-exact s = many_by-exact v.kind (goes_on_with v) (word_in v) (next_by v) may_end word_in-exact (λ s. refl) (λ s x k p q. no_continues s k p) ends_in (λ s k p. absurd (no_continues s k p)) s
 
   -- ---- the same language, by words and by states
 
-  abbrev Parts : List T → Next → ℕ → List Tok → ℕ → Type 0
-  Parts ts s i xs j = SpellsBy (λ s. (word_in v s).language) next_state ts s i xs j
+  abbrev Parts : List T → Next → ℕ → List W → ℕ → Type 0
+  Parts ts s i xs j = SpellsBy (λ s. (word_in v s).language) (next_by v) ts s i xs j
 
-  abbrev Words : List T → ℕ → List Tok → ℕ → Type 0
+  abbrev Words : List T → ℕ → List W → ℕ → Type 0
   Words ts i xs j = SpellsMany (any_word v).language ts i xs j
 
-  guarded_spells : (b : Bool) (ts : List T) (i : ℕ) (x : Tok) (j : ℕ) → (guarded b v.index.language).Spells ts i x j → (b ≡ true) × v.index.language.Spells ts i x j
+  guarded_spells : (b : Bool) (ts : List T) (i : ℕ) (x : W) (j : ℕ) → (guarded b v.index.language).Spells ts i x j → (b ≡ true) × v.index.language.Spells ts i x j
   guarded_spells true ts i x j s = (refl, s)
   guarded_spells false ts i x j s = absurd s
 
@@ -193,34 +193,34 @@ module _ {T K : Type 0} (v : Vocabulary T K) (iv : IsVocabulary v) where
   guarded_begins false ts i j s = inl s
 
   -- a word that a state allows is a word, and the state allows its class
-  a_word : (s : Next) (ts : List T) (i : ℕ) (x : Tok) (j : ℕ) → (word_in v s).language.Spells ts i x j → (any_word v).language.Spells ts i x j × (allows s (kind_of x) ≡ true)
+  a_word : (s : Next) (ts : List T) (i : ℕ) (x : W) (j : ℕ) → (word_in v s).language.Spells ts i x j → (any_word v).language.Spells ts i x j × (allows s (kind_of (v.tok x)) ≡ true)
   a_word s ts i x j p = elim p [
     | inl u ↦
         let c = holds_is _ (v.class (v.kind u.0)) u.2.1 in
         let q = and_parts (not (is_index c.0)) (allows s c.0) c.2 in
-        let is : kind_of x ≡ c.0 = ap kind_of (sym u.1) ∙ iv.class_of_word u.0 c.0 c.1 (not_true (is_index c.0) q.0) in
+        let is : kind_of (v.tok x) ≡ c.0 = ap (λ (y : W). kind_of (v.tok y)) (sym u.1) ∙ iv.class_of_word u.0 c.0 c.1 (not_true (is_index c.0) q.0) in
         (inl (u.0, u.1, (u.2.0, rw c.1 q.0, u.2.2)), rw is q.1)
     | inr u ↦
         let g = guarded_spells (allows s index_kind) ts i x j u in
         (inr g.1, rw (iv.class_of_index ts i x j g.1) g.0)
   ]
 
-  word_allowed : (s : Next) (ts : List T) (i : ℕ) (x : Tok) (j : ℕ) → allows s (kind_of x) ≡ true → (any_word v).language.Spells ts i x j → (word_in v s).language.Spells ts i x j
+  word_allowed : (s : Next) (ts : List T) (i : ℕ) (x : W) (j : ℕ) → allows s (kind_of (v.tok x)) ≡ true → (any_word v).language.Spells ts i x j → (word_in v s).language.Spells ts i x j
   word_allowed s ts i x j h p = elim p [
     | inl u ↦
         let c = holds_is _ (v.class (v.kind u.0)) u.2.1 in
-        let is : kind_of x ≡ c.0 = ap kind_of (sym u.1) ∙ iv.class_of_word u.0 c.0 c.1 (not_true (is_index c.0) c.2) in
+        let is : kind_of (v.tok x) ≡ c.0 = ap (λ (y : W). kind_of (v.tok y)) (sym u.1) ∙ iv.class_of_word u.0 c.0 c.1 (not_true (is_index c.0) c.2) in
         inl (u.0, u.1, (u.2.0, rw (c.1, c.2) (rw is at h), u.2.2))
     | inr u ↦ inr (rw (rw (iv.class_of_index ts i x j u) at h) u)
   ]
 
   -- the words that states allow are words, and lead to a state
-  by_words : (s : Next) (z : ℕ × Phase) → s ≡ Some z → (ts : List T) (i : ℕ) (xs : List Tok) (j : ℕ) → Parts ts s i xs j → Words ts i xs j × (z : ℕ × Phase) × (after s xs ≡ Some z)
+  by_words : (s : Next) (z : ℕ × Phase) → s ≡ Some z → (ts : List T) (i : ℕ) (xs : List W) (j : ℕ) → Parts ts s i xs j → Words ts i xs j × (z : ℕ × Phase) × (after s (toks v xs) ≡ Some z)
   by_words s z e ts i [] j p = (p, z, e)
   by_words s z e ts i (x ∷ xs) j p =
       let w = a_word s ts i x p.0 p.1 in
-      let n = some_if_allowed s x w.1 in
-      let r = by_words (next_state s x) n.0 n.1 ts p.0 xs j p.2 in
+      let n = some_if_allowed s (v.tok x) w.1 in
+      let r = by_words (next_by v s x) n.0 n.1 ts p.0 xs j p.2 in
       ((p.0, w.0, r.0), r.1, r.2)
 
   first_state : (s : Next) (x : Tok) (xs : List Tok) (z : ℕ × Phase) → after (next_state s x) xs ≡ Some z → (y : ℕ × Phase) × (next_state s x ≡ Some y)
@@ -230,11 +230,11 @@ module _ {T K : Type 0} (v : Vocabulary T K) (iv : IsVocabulary v) where
       go None h = absurd (let f : None ≡ Some z = sym (none_stays xs) ∙ (ap (λ (m : Next). after m xs) (sym h) ∙ e) in cc)
       go (Some y) h = (y, h)
 
-  words_by : (s : Next) (z : ℕ × Phase) (ts : List T) (i : ℕ) (xs : List Tok) (j : ℕ) → after s xs ≡ Some z → Words ts i xs j → Parts ts s i xs j
+  words_by : (s : Next) (z : ℕ × Phase) (ts : List T) (i : ℕ) (xs : List W) (j : ℕ) → after s (toks v xs) ≡ Some z → Words ts i xs j → Parts ts s i xs j
   words_by s z ts i [] j e p = p
   words_by s z ts i (x ∷ xs) j e p =
-      let y = first_state s x xs z e in
-      (p.0, word_allowed s ts i x p.0 (allowed_if_some s x y.0 y.1) p.1, words_by (next_state s x) z ts p.0 xs j e p.2)
+      let y = first_state s (v.tok x) (toks v xs) z e in
+      (p.0, word_allowed s ts i x p.0 (allowed_if_some s (v.tok x) y.0 y.1) p.1, words_by (next_by v s x) z ts p.0 xs j e p.2)
 
   state_of : (xs : List Tok) → may_end (after start xs) ≡ true → (z : ℕ × Phase) × (after start xs ≡ Some z)
   state_of xs h = go (after start xs) refl
@@ -246,45 +246,51 @@ module _ {T K : Type 0} (v : Vocabulary T K) (iv : IsVocabulary v) where
   abbrev Begun : List T → ℕ → ℕ → Type 0
   Begun ts i j = (words_of_condition v).Begins ts i j
 
-  begun_by : (ts : List T) (i : ℕ) (xs : List Tok) (m j : ℕ) → Parts ts start i xs m → (word_in v (after start xs)).language.Begins ts m j → Begun ts i j
+  -- the state after words is that after their tokens
+  after_words : (s : Next) (xs : List W) → state_after (next_by v) s xs ≡ after s (toks v xs)
+  after_words s [] = refl
+  after_words s (x ∷ xs) = after_words (next_by v s x) xs
+
+  begun_by : (ts : List T) (i : ℕ) (xs : List W) (m j : ℕ) → Parts ts start i xs m → (word_in v (after start (toks v xs))).language.Begins ts m j → Begun ts i j
   begun_by ts i xs m j p g =
       let w = by_words start (0, Operand) refl ts i xs m p in
-      let b = some_begun xs w.1.0 w.1.1 w.2 in
+      let b = some_begun (toks v xs) w.1.0 w.1.1 w.2 in
       elim g [
         | inl u ↦ elim u [
           | inl e ↦ (xs, m, w.0, b, inl e)
           | inr t ↦
-              let a = a_word (after start xs) ts m (v.word t.0) j (inl (t.0, refl, t.1)) in
-              let n = some_if_allowed (after start xs) (v.word t.0) a.1 in
+              let a = a_word (after start (toks v xs)) ts m (v.word t.0) j (inl (t.0, refl, t.1)) in
+              let n = some_if_allowed (after start (toks v xs)) (v.tok (v.word t.0)) a.1 in
               let more = xs ++ v.word t.0 ∷ [] in
-              (more, j, SpellsMany-push (any_word v).language ts i xs m (v.word t.0) j w.0 a.0, some_begun more n.0.0 n.0.1 (after_more start xs (v.word t.0) ∙ n.1), inl refl)
+              (more, j, SpellsMany-push (any_word v).language ts i xs m (v.word t.0) j w.0 a.0, some_begun (toks v more) n.0.0 n.0.1 (ap (λ (ys : List Tok). after start ys) (map-append v.tok xs (v.word t.0 ∷ [])) ∙ (after_more start (toks v xs) (v.tok (v.word t.0)) ∙ n.1)), inl refl)
         ]
-        | inr u ↦ elim (guarded_begins (allows (after start xs) index_kind) ts m j u) [
+        | inr u ↦ elim (guarded_begins (allows (after start (toks v xs)) index_kind) ts m j u) [
           | inl e ↦ (xs, m, w.0, b, inl e)
           | inr h ↦
-              let n = some_if_allowed (after start xs) (tok.Index (pos 0)) h.0 in
-              (xs, m, w.0, b, inr (some_begun (xs ++ tok.Index (pos 0) ∷ []) n.0.0 n.0.1 (after_more start xs (tok.Index (pos 0)) ∙ n.1), h.1))
+              let n = some_if_allowed (after start (toks v xs)) (tok.Index (pos 0)) h.0 in
+              (xs, m, w.0, b, inr (some_begun (toks v xs ++ tok.Index (pos 0) ∷ []) n.0.0 n.0.1 (after_more start (toks v xs) (tok.Index (pos 0)) ∙ n.1), h.1))
         ]
       ]
 
   by_begun : (ts : List T) (i j : ℕ) → Begun ts i j → (words_by_state v start).language.Begins ts i j
   by_begun ts i j g =
-      let z = begun_state g.0 g.3 in
+      let z = begun_state (toks v g.0) g.3 in
       let p = words_by start z.0 ts i g.0 g.1 z.1 g.2 in
-      let last = after start g.0 in
-      elim g.4 [
-        | inl e ↦ (g.0, g.1, p, subst (λ (m : ℕ). (word_in v last).language.Begins ts g.1 m) (sym e) ((word_in-exact last).nothing ts g.1))
+      let last = after start (toks v g.0) in
+      let begins : (word_in v last).language.Begins ts g.1 j = elim g.4 [
+        | inl e ↦ subst (λ (m : ℕ). (word_in v last).language.Begins ts g.1 m) (sym e) ((word_in-exact last).nothing ts g.1)
         | inr h ↦
-            let y = begun_state (g.0 ++ tok.Index (pos 0) ∷ []) h.0 in
-            let may = allowed_if_some last (tok.Index (pos 0)) y.0 (sym (after_more start g.0 (tok.Index (pos 0))) ∙ y.1) in
-            (g.0, g.1, p, inr (rw may h.1))
-      ]
+            let y = begun_state (toks v g.0 ++ tok.Index (pos 0) ∷ []) h.0 in
+            let may = allowed_if_some last (tok.Index (pos 0)) y.0 (sym (after_more start (toks v g.0) (tok.Index (pos 0))) ∙ y.1) in
+            inr (rw may h.1)
+      ] in
+      (g.0, g.1, p, subst (λ (s : Next). (word_in v s).language.Begins ts g.1 j) (sym (after_words start g.0)) begins)
 
   pub worded-exact : Exact v.kind (worded v)
   worded-exact = alike-exact v.kind (words_by_state v start) (worded v) (words_by_state-exact start) (λ ts i. refl)
-      (λ ts i xs j s. let h = is_ended xs s.1 in let z = state_of xs h in (words_by start z.0 ts i xs j z.1 s.0, h))
-      (λ ts i xs j s. ((by_words start (0, Operand) refl ts i xs j s.0).0, ended_is xs s.1))
-      (λ ts i j g. by_begun ts i j g) (λ ts i j g. begun_by ts i g.0 g.1 j g.2 g.3)
+      (λ ts i xs j s. let h = is_ended (toks v xs) s.1 in let z = state_of (toks v xs) h in (words_by start z.0 ts i xs j z.1 s.0, ap may_end (after_words start xs) ∙ h))
+      (λ ts i xs j s. ((by_words start (0, Operand) refl ts i xs j s.0).0, ended_is (toks v xs) (ap may_end (sym (after_words start xs)) ∙ s.1)))
+      (λ ts i j g. by_begun ts i j g) (λ ts i j g. begun_by ts i g.0 g.1 j g.2 (subst (λ (s : Next). (word_in v s).language.Begins ts g.1 j) (after_words start g.0) g.3))
       refl (λ k p. p) (λ k p. p)
 
 -- ---- among a condition's own tokens
@@ -360,6 +366,6 @@ own_words_are front (y ∷ rest) (x ∷ xs) s =
 -- a condition's own tokens spell by words themselves alone
 pub own_words_spell : OwnWords
 own_words_spell ts xs = (
-  λ s. let is : xs ≡ ts = own_words_are [] ts xs s.0 in (is, subst (λ (ys : List Tok). IsCondition ys) is s.1),
-  λ p. subst (λ (ys : List Tok). (words_of_condition own_words).Spells ts 0 ys (length ts)) (sym p.0) (own_words_of [] ts, p.1),
+  λ s. let is : xs ≡ ts = own_words_are [] ts xs s.0 in (is, subst (λ (ys : List Tok). IsCondition ys) (map-id xs ∙ is) s.1),
+  λ p. subst (λ (ys : List Tok). (words_of_condition own_words).Spells ts 0 ys (length ts)) (sym p.0) (own_words_of [] ts, subst (λ (ys : List Tok). IsCondition ys) (sym (map-id ts)) p.1),
 )

@@ -16,7 +16,7 @@ use Rattle.cond_expr.specs.Kinds.{kind_of, is_name, is_index, is_constant, is_le
 use Rattle.cond_expr.specs.declared.tokens.Op.{Op}
 use Rattle.cond_expr.specs.Grammar.{operator, quoted, operand_parts, operand, atom_parts, atom, primary_starts, level_continues, level_parts, level, primary_parts, primary, expression}
 use Rattle.cond_expr.specs.Tree.{Cond}
-use Rattle.cond_expr.specs.declared.tokens.Tok.{Tok}
+use Rattle.cond_expr.specs.Token.{Tok}
 use Rattle.cond_expr.specs.AllKinds.{apart, is_within}
 
 pub operand-exact : Exact kind_of operand

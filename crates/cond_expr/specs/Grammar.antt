@@ -6,7 +6,7 @@ use Rattle.grammar.specs.Depth.{deepening}
 use Rattle.grammar.specs.Reads.{FailsAt}
 use Rattle.grammar.specs.Rule.{Rule, one, ◌∙∙◌, mapped, located, ◌▸◌, ◌◂◌, either, optional, many, named}
 use Rattle.cond_expr.specs.declared.tokens.Op.{Op}
-use Rattle.cond_expr.specs.declared.tokens.Tok.{Tok}
+use Rattle.cond_expr.specs.Token.{Tok}
 use Rattle.cond_expr.specs.Kinds.{Kind, kind_of, is_name, is_index, is_constant, is_left, is_right, is_unary, is_binary, is_binary_up_to, constant_of, operator_of}
 use Rattle.cond_expr.specs.Tree.{Cond, leaf, constant, unary, chain_of}
 

@@ -1,6 +1,6 @@
 -- What holds of all conditions, as statements.
 use Rattle.std.specs.Prelude.{◌≡◌, ◌↔◌, ℕ, List, length}
-use Rattle.cond_expr.specs.declared.tokens.Tok.{Tok}
+use Rattle.cond_expr.specs.Token.{Tok}
 use Rattle.cond_expr.specs.Tree.{Cond}
 use Rattle.cond_expr.specs.Grammar.{expression, FailsConditionAt, IsCondition}
 use Rattle.cond_expr.specs.Same.{IsCore}

@@ -19,6 +19,7 @@ mod values;
 pub use binding::{BindFault, Find};
 pub use bound::{Bound, Nets};
 pub use conditions::Conditions;
+pub use copies::owned;
 pub use expr::Expr;
 pub use faults::CondFault;
 pub use laws::{one_condition, one_core, one_failing_token, own_words};

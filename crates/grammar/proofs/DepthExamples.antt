@@ -1,5 +1,5 @@
 -- Pairs in parentheses, up to a depth and at any depth.
-use Rattle.std.proofs.Common.{◌≡◌, ℕ, zero, suc, Bool, List, [], ◌∷◌, refl, inl}
+use Rattle.std.proofs.Common.{ℕ, zero, suc, Bool, List, [], ◌∷◌, refl, inl}
 use Rattle.std.specs.Prelude.{◌||◌}
 use Rattle.grammar.specs.Depth.{deepening, Within}
 use Rattle.grammar.specs.Exact.{Exact}

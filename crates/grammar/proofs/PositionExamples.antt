@@ -1,5 +1,5 @@
 -- What a first token tells beside a value, and reading from a position on.
-use Rattle.std.proofs.Common.{◌≡◌, ℕ, List, [], ◌∷◌, Ok, Err, refl}
+use Rattle.std.proofs.Common.{ℕ, List, [], ◌∷◌, Ok, refl}
 use Rattle.grammar.specs.Exact.{Exact}
 use Rattle.grammar.specs.Placed.{placed}
 use Rattle.grammar.specs.ReadsFrom.{FailsFrom, ReadsFrom}

@@ -1,12 +1,12 @@
 -- A repetition with a state: arguments by their number.
-use Rattle.std.proofs.Common.{◌≡◌, ℕ, zero, suc, ◌+◌, Bool, false, List, [], ◌∷◌, Option, Some, None, refl}
+use Rattle.std.proofs.Common.{ℕ, zero, suc, ◌+◌, false, List, [], ◌∷◌, Option, Some, None, refl}
 use Rattle.std.specs.Prelude.{◌||◌, not, nat_lt}
 use Rattle.std.proofs.lemmas.Bool.{and_parts, and_right}
 use Rattle.grammar.specs.Exact.{Exact, IsWithin}
 use Rattle.grammar.specs.Reads.{FailsAt}
 use Rattle.grammar.specs.Rule.{◌▸◌, mapped, named, no_kind, only_if, optional}
 use Rattle.grammar.specs.States.{many_by, read_by}
-use Rattle.grammar.proofs.ExampleTokens.{Kind, left, comma, name, separator, word, kind_of, is, apart, within, Grammar, a_name, a_name-exact, quote, quote-exact}
+use Rattle.grammar.proofs.ExampleTokens.{comma, name, separator, word, kind_of, is, apart, within, Grammar, a_name, a_name-exact, quote, quote-exact}
 use Rattle.grammar.proofs.Laws.{many_by-exact, mapped-exact, named-exact, only_if-exact, optional-exact, seq-exact, all_found, all_failed}
 
 -- ---- "," name [ "," [ name ] [ "," [ name ] ] ]: the state is the number of arguments so far. The first has a name, the others
