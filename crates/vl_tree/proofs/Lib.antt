@@ -19,3 +19,4 @@ pub mod ModulesPrinted
 pub mod PutLeft
 pub mod WholePrinted
 mod Examples
+mod SpecifyExamples

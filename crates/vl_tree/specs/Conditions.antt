@@ -1,17 +1,19 @@
 -- Conditions among the tokens of netlists (IEEE 1364-2005, 14.2.4 and 15.6): which words of a condition they are.
-use Rattle.std.specs.Prelude.{Bool, true, false, ◌||◌, List, [], ◌∷◌, Option, Some, None, unwrap_or}
+use Rattle.std.specs.Prelude.{Bool, true, false, List, Option, Some, None, unwrap_or}
 use Rattle.std.specs.Option.{option_map}
 use Rattle.cond_expr.specs.declared.tokens.Op.TheVariants as op
-use Rattle.cond_expr.specs.declared.tokens.Tok.{Tok}
 use Rattle.cond_expr.specs.declared.tokens.Tok.TheVariants as tok
 use Rattle.cond_expr.specs.Grammar.{primary_starts, level_continues}
 use Rattle.cond_expr.specs.Kinds as words
-use Rattle.grammar.specs.Rule.{◌▸◌, ◌◂◌, holds, one, mapped, named, no_kind}
+use Rattle.cond_expr.specs.Token.{Tok}
+use Rattle.cond_expr.specs.Vocabulary.{Vocabulary}
+use Rattle.cond_expr.specs.WordStates.{worded}
+use Rattle.grammar.specs.Rule.{◌▸◌, ◌◂◌, holds, mapped, named, no_kind}
 use Rattle.vl_token.specs.declared.symbols.Symbol.{Symbol}
 use Rattle.vl_token.specs.declared.symbols.Symbol.TheVariants as symbol
 use Rattle.vl_token.specs.Tokens.{Lexeme, Meaning, name_token, symbol_token}
 use Rattle.vl_tree.specs.Expressions.{int}
-use Rattle.vl_tree.specs.Kinds.{Kind, name_kind, symbol_kind, number_kind, sized_kind, unsized_kind, one_bit, z_bit, kind_of, is_name, is_symbol, value_of}
+use Rattle.vl_tree.specs.Kinds.{Kind, name_kind, symbol_kind, number_kind, sized_kind, unsized_kind, one_bit, z_bit, kind_of, is_symbol, value_of}
 use Rattle.vl_tree.specs.Rules.{Grammar, mark, placed}
 use Rattle.vl_tree.specs.Tree.{Word}
 
@@ -57,24 +59,27 @@ tok_of (symbol_token s) = unwrap_or (word_of_symbol s) tok.Left
 tok_of m = tok.Const (value_of m)
 
 abbrev pub word_of : Lexeme → Word
-word_of t = record { place = t.place; tok = tok_of t.meaning }
+word_of t = record { place = t.place; token = tok_of t.meaning }
 
 -- index = "[" int "]"
 unfoldable pub index_parts : Grammar Word
-index_parts = mapped (λ x. record { place = x.0; tok = tok.Index x.1 }) (placed (mark symbol.LeftBracket ▸ (int ◂ mark symbol.RightBracket)))
+index_parts = mapped (λ x. record { place = x.0; token = tok.Index x.1 }) (placed (mark symbol.LeftBracket ▸ (int ◂ mark symbol.RightBracket)))
 
 abbrev pub index : Grammar Word
 index = named (is_symbol symbol.LeftBracket) no_kind index_parts
 
--- a condition
+-- condition: words that are one (IEEE 1364-2005, 5.1.2 has the precedence of operators), at any depth
+abbrev pub vocabulary : Vocabulary Lexeme Kind Word
+vocabulary = record { kind = kind_of; class = class_of; word = word_of; index = index; tok = λ w. w.token }
+
+unfoldable pub condition_parts : Grammar (List Word)
+condition_parts = worded vocabulary
+
 abbrev pub condition_starts : Kind → Bool
 condition_starts k = holds primary_starts (class_of k)
 
 abbrev pub condition_continues : Kind → Bool
 condition_continues k = holds (level_continues 6) (class_of k)
-
-unfoldable pub condition_parts : Grammar (List Word)
-condition_parts = mapped (λ t. word_of t ∷ []) (one kind_of is_name)
 
 abbrev pub condition : Grammar (List Word)
 condition = named condition_starts condition_continues condition_parts

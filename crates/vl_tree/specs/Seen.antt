@@ -1,7 +1,6 @@
 -- The code's trees, as the definitions see them.
 use Rattle.std.specs.Prelude.{map, option_map}
-use Rattle.cond_expr.specs.declared.tokens.Tok.{Tok}
-use Rattle.cond_expr.specs.declared.tokens.Tok.TheVariants as tok
+use Rattle.cond_expr.specs.Token.{map_name}
 use Rattle.sg_time.specs.Seen.{number}
 use Rattle.vl_token.specs.Constants.{sized_bits}
 use Rattle.vl_token.specs.Seen.{settings}
@@ -58,8 +57,6 @@ use Rattle.vl_tree.specs.declared.specify.Specparam as code_specparam
 use Rattle.vl_tree.specs.declared.specify.Specparam.TheVariants as specparam
 use Rattle.vl_tree.specs.declared.specify.Term as code_term
 use Rattle.vl_tree.specs.declared.specify.Word as code_word
-use Rattle.vl_tree.specs.declared.specify.WordKind as code_word_kind
-use Rattle.vl_tree.specs.declared.specify.WordKind.TheVariants as word_kind
 use Rattle.vl_tree.specs.Tree.{Named, Expression, signal, sized, concatenation, expressions, MinTypMax, one_number, three_numbers, Delay, NetName, Join, GateInstance, NamedConnection, Connections, by_order, by_name, Instance, Item, ports, nets, supplies, registers, assigns, gates, instances, PortDeclaration, HeadPort, declared_port, named_port, Head, head_names, head_declarations, Module, PrimitiveDeclaration, output_port, output_register, input_ports, Initial, Primitive, Part, a_module, a_primitive, Source, Term, Word, Amount, a_number, a_parameter, Amounts, one_amount, three_amounts, SignedAmount, Limit, one_limit, three_limits, Specparam, a_value, pulse_limits, EdgeWord, posedge, negedge, pairs, PathCondition, always, if_none, if_words, DataSource, Destination, SpecifyPath, Event, Check, one_limit_check, two_limit_check, width_check, period_check, SpecifyItem, specparams, a_path, pulse_style, a_check, SpecifyBlock}
 
 abbrev pub view_name : code_name.Name → Named
@@ -146,16 +143,8 @@ view_source s = map view_part s.parts.items
 abbrev pub view_term : code_term.Term → Term
 view_term t = record { name = view_name t.name; select = t.select }
 
-abbrev pub view_word_kind : code_word_kind.WordKind → Tok
-view_word_kind (word_kind.Name text) = tok.Name text.now
-view_word_kind (word_kind.Index i) = tok.Index i
-view_word_kind (word_kind.Const v) = tok.Const v
-view_word_kind (word_kind.Op o) = tok.Op o
-view_word_kind word_kind.Left = tok.Left
-view_word_kind word_kind.Right = tok.Right
-
 abbrev pub view_word : code_word.Word → Word
-view_word w = record { place = w.place; tok = view_word_kind w.kind }
+view_word w = record { place = w.place; token = map_name (λ name. name.now) w.token }
 
 abbrev pub view_amount : code_amount.Amount → Amount
 view_amount (amount.Number p n) = a_number p (number n)

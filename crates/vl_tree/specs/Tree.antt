@@ -1,6 +1,6 @@
 -- Trees, as the definitions see them: without where they lie in memory.
 use Rattle.std.specs.Prelude.{ℕ, Bool, List, [], ◌∷◌, Option}
-use Rattle.cond_expr.specs.declared.tokens.Tok.{Tok}
+use Rattle.cond_expr.specs.Token.{Tok}
 use Rattle.sg_logic.specs.declared.gates.GateKind.{GateKind}
 use Rattle.sg_logic.specs.declared.values.Value.{Value}
 use Rattle.sg_text.specs.declared.places.Place.{Place}
@@ -141,7 +141,7 @@ pub record Term : Type 0 where
 -- a word of a condition
 pub record Word : Type 0 where
   pub place : Place
-  pub tok : Tok
+  pub token : Tok
 
 -- a number, or a specparam's name
 pub data Amount : Type 0 where

@@ -1,7 +1,6 @@
 // Specify blocks and their items, and what the items are made of.
 use crate::{Check, MinTypMax, Name, Select, SpecifyPath};
-use cond_expr::Op;
-use sg_logic::Value;
+use cond_expr::Tok;
 use sg_text::Place;
 use sg_time::Decimal;
 
@@ -12,24 +11,12 @@ pub struct Term<'a> {
     pub select: Option<Select>,
 }
 
-/// What a word of a condition is. Its name is a part of the files.
-#[derive(Clone, Copy, Debug)]
-pub enum WordKind<'a> {
-    Name(&'a [u8]),
-    /// A bit select of the name before it.
-    Index(i64),
-    /// A constant of one bit.
-    Const(Value),
-    Op(Op),
-    Left,
-    Right,
-}
-
-/// A word of a condition. The words of a condition are one by the grammar of the crate `cond_expr`.
-#[derive(Clone, Copy, Debug)]
+/// A word of a condition, whose name is a part of the files. The tokens of its words are a condition by the grammar of the crate
+/// `cond_expr`.
+#[derive(Debug, Drop)]
 pub struct Word<'a> {
     pub place: Place,
-    pub kind: WordKind<'a>,
+    pub token: Tok<&'a [u8]>,
 }
 
 /// `number | name`: a number, or a specparam's name.
