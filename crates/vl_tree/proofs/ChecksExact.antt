@@ -9,7 +9,7 @@ use Rattle.grammar.proofs.Laws.{quoted-exact, only_if-exact, many_by-exact, foll
 use Rattle.vl_token.specs.declared.symbols.Symbol.TheVariants.{AndAndAnd, Comma, LeftParen, RightParen}
 use Rattle.vl_tree.specs.declared.check_names.CheckName.{CheckName}
 use Rattle.vl_tree.specs.declared.check_names.CheckName.TheVariants.{OneLimit, TwoLimits, Width, Period}
-use Rattle.vl_tree.specs.Checks.{event_parts, event, notifier, fills, spare, spare_continues, spares, notifier_and_spares, threshold_and_notifier, arguments_parts, arguments, check_name, check_parts, check}
+use Rattle.vl_tree.specs.Checks.{event_parts, event, notifier, fills, spare, spare_continues, spares, notifier_and_spares, threshold_and_notifier, arguments_of, arguments_parts, arguments, check_name, check_parts, check}
 use Rattle.vl_tree.specs.Kinds.{kind_of, is_check, is_symbol}
 use Rattle.vl_tree.specs.Rules.{mark, placed, optional}
 use Rattle.vl_tree.proofs.AllKinds.{apart, is_within}
@@ -66,23 +66,35 @@ threshold_and_notifier-exact = made _ (perhaps (behind (the_mark Comma) (then (p
 
 -- ---- checks
 
+pub arguments_of-exact : (limited : Bool) (place : Place) (name : CheckName) → IsExact (arguments_of limited place name)
+arguments_of-exact limited place (OneLimit c) =
+    let limits = behind (the_mark Comma) (then (limit-exact false) notifier-exact (apart _ _ refl)) (apart _ _ refl) in
+    made _ (then event-exact (behind (the_mark Comma) (then event-exact limits (apart _ _ refl)) (apart _ _ refl)) (apart _ _ refl))
+arguments_of-exact limited place (TwoLimits c) =
+    let second = behind (the_mark Comma) (then (limit-exact true) (notifier_and_spares-exact limited) (apart _ _ refl)) (apart _ _ refl) in
+    let limits = behind (the_mark Comma) (then (limit-exact true) second (apart _ _ refl)) (apart _ _ refl) in
+    made _ (then event-exact (behind (the_mark Comma) (then event-exact limits (apart _ _ refl)) (apart _ _ refl)) (apart _ _ refl))
+arguments_of-exact limited place Width =
+    let limits = behind (the_mark Comma) (then (limit-exact false) threshold_and_notifier-exact (apart _ _ refl)) (apart _ _ refl) in
+    made _ (then event-exact limits (apart _ _ refl))
+arguments_of-exact limited place Period =
+    let limits = behind (the_mark Comma) (then (limit-exact false) notifier-exact (apart _ _ refl)) (apart _ _ refl) in
+    made _ (then event-exact limits (apart _ _ refl))
+
 pub arguments-exact : (limited : Bool) (place : Place) (name : CheckName) → IsExact (arguments limited place name)
 unfolding arguments_parts
 arguments-exact limited place (OneLimit c) =
-    let limits = behind (the_mark Comma) (then (limit-exact false) notifier-exact (apart _ _ refl)) (apart _ _ refl) in
-    let events = then event-exact (behind (the_mark Comma) (then event-exact limits (apart _ _ refl)) (apart _ _ refl)) (apart _ _ refl) in
-    called _ _ (behind (the_mark LeftParen) (before (made _ events) (the_mark RightParen) (apart _ _ refl)) (apart _ _ refl)) refl (is_within _ _ refl) (is_within _ _ refl)
+    let closed = before (arguments_of-exact limited place (OneLimit c)) (the_mark RightParen) (apart _ _ refl) in
+    called _ _ (behind (the_mark LeftParen) closed (apart _ _ refl)) refl (is_within _ _ refl) (is_within _ _ refl)
 arguments-exact limited place (TwoLimits c) =
-    let second = behind (the_mark Comma) (then (limit-exact true) (notifier_and_spares-exact limited) (apart _ _ refl)) (apart _ _ refl) in
-    let limits = behind (the_mark Comma) (then (limit-exact true) second (apart _ _ refl)) (apart _ _ refl) in
-    let events = then event-exact (behind (the_mark Comma) (then event-exact limits (apart _ _ refl)) (apart _ _ refl)) (apart _ _ refl) in
-    called _ _ (behind (the_mark LeftParen) (before (made _ events) (the_mark RightParen) (apart _ _ refl)) (apart _ _ refl)) refl (is_within _ _ refl) (is_within _ _ refl)
+    let closed = before (arguments_of-exact limited place (TwoLimits c)) (the_mark RightParen) (apart _ _ refl) in
+    called _ _ (behind (the_mark LeftParen) closed (apart _ _ refl)) refl (is_within _ _ refl) (is_within _ _ refl)
 arguments-exact limited place Width =
-    let limits = behind (the_mark Comma) (then (limit-exact false) threshold_and_notifier-exact (apart _ _ refl)) (apart _ _ refl) in
-    called _ _ (behind (the_mark LeftParen) (before (made _ (then event-exact limits (apart _ _ refl))) (the_mark RightParen) (apart _ _ refl)) (apart _ _ refl)) refl (is_within _ _ refl) (is_within _ _ refl)
+    let closed = before (arguments_of-exact limited place Width) (the_mark RightParen) (apart _ _ refl) in
+    called _ _ (behind (the_mark LeftParen) closed (apart _ _ refl)) refl (is_within _ _ refl) (is_within _ _ refl)
 arguments-exact limited place Period =
-    let limits = behind (the_mark Comma) (then (limit-exact false) notifier-exact (apart _ _ refl)) (apart _ _ refl) in
-    called _ _ (behind (the_mark LeftParen) (before (made _ (then event-exact limits (apart _ _ refl))) (the_mark RightParen) (apart _ _ refl)) (apart _ _ refl)) refl (is_within _ _ refl) (is_within _ _ refl)
+    let closed = before (arguments_of-exact limited place Period) (the_mark RightParen) (apart _ _ refl) in
+    called _ _ (behind (the_mark LeftParen) closed (apart _ _ refl)) refl (is_within _ _ refl) (is_within _ _ refl)
 
 pub check_name-exact : IsExact check_name
 check_name-exact = token _ is_check

@@ -18,6 +18,9 @@ pub mod PrimitivesPrinted
 pub mod ModulesPrinted
 pub mod ConditionsPrinted
 pub mod AmountsPrinted
+pub mod PathsPrinted
+pub mod ChecksPrinted
+pub mod SpecifyPrinted
 pub mod PutLeft
 pub mod WholePrinted
 mod Examples

@@ -84,7 +84,7 @@ ends-exact =
     refl (is_within _ _ refl) (is_within _ _ refl)
 
 -- an edge where edges are allowed
-allowed_edge-exact : (edges : Bool) → IsExact (optional (only_if edges edge))
+pub allowed_edge-exact : (edges : Bool) → IsExact (optional (only_if edges edge))
 allowed_edge-exact edges = perhaps (only_if-exact kind_of edges _ edge-exact) (and_right edges false refl)
 
 pub path_body-exact : (limited edges : Bool) → IsExact (path_body limited edges)

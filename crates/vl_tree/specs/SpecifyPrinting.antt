@@ -158,13 +158,9 @@ check_text (TwoLimits RecRem) = codes "$recrem"
 check_text Width = codes "$width"
 check_text Period = codes "$period"
 
--- name "("
-abbrev pub put_check_opening : Place → CheckName → Tokens → Tokens
-put_check_opening p name out = put_mark symbol.LeftParen (put_token (system_token (check_text name)) p out)
-
--- [ "," name ] ")"
-abbrev pub put_check_end : Option Named → Tokens → Tokens
-put_check_end n out = put_mark symbol.RightParen (put_optional (behind_comma put_name) n out)
+-- [ "," name ]
+abbrev pub put_notifier : Option Named → Tokens → Tokens
+put_notifier n out = put_optional (behind_comma put_name) n out
 
 -- event "," event
 abbrev pub put_events : Event → Event → Tokens → Tokens
@@ -177,17 +173,35 @@ put_events_of Recovery r d out = put_events r d out
 put_events_of Removal r d out = put_events r d out
 put_events_of Skew r d out = put_events r d out
 
--- "," [ threshold ] [ "," name ] ")", without the comma where neither is there
-abbrev pub put_width_end : Option Limit → Option Named → Tokens → Tokens
-put_width_end None None out = put_mark symbol.RightParen out
-put_width_end (Some t) n out = put_check_end n (put_next_limit t out)
-put_width_end None (Some n) out = put_check_end (Some n) (put_mark symbol.Comma out)
+-- [ "," [ threshold ] [ "," name ] ], without the comma where neither is there
+abbrev pub put_threshold_and_notifier : Option Limit → Option Named → Tokens → Tokens
+put_threshold_and_notifier None None out = out
+put_threshold_and_notifier (Some t) n out = put_notifier n (put_next_limit t out)
+put_threshold_and_notifier None (Some n) out = put_notifier (Some n) (put_mark symbol.Comma out)
+
+abbrev pub put_arguments : Check → Tokens → Tokens
+put_arguments (one_limit_check p c r d l n) out = put_notifier n (put_next_limit l (put_events_of c r d out))
+put_arguments (two_limit_check p c r d l m n) out = put_notifier n (put_next_limit m (put_next_limit l (put_events r d out)))
+put_arguments (width_check p r l t n) out = put_threshold_and_notifier t n (put_next_limit l (put_event r out))
+put_arguments (period_check p r l n) out = put_notifier n (put_next_limit l (put_event r out))
+
+abbrev pub name_of_check : Check → CheckName
+name_of_check (one_limit_check p c r d l n) = OneLimit c
+name_of_check (two_limit_check p c r d l m n) = TwoLimits c
+name_of_check (width_check p r l t n) = Width
+name_of_check (period_check p r l n) = Period
+
+abbrev pub place_of_check : Check → Place
+place_of_check (one_limit_check p c r d l n) = p
+place_of_check (two_limit_check p c r d l m n) = p
+place_of_check (width_check p r l t n) = p
+place_of_check (period_check p r l n) = p
+
+abbrev pub put_in_parens : Check → Tokens → Tokens
+put_in_parens c out = put_mark symbol.RightParen (put_arguments c (put_mark symbol.LeftParen out))
 
 abbrev pub put_check : Check → Tokens → Tokens
-put_check (one_limit_check p c r d l n) out = put_check_end n (put_next_limit l (put_events_of c r d (put_check_opening p (OneLimit c) out)))
-put_check (two_limit_check p c r d l m n) out = put_check_end n (put_next_limit m (put_next_limit l (put_events r d (put_check_opening p (TwoLimits c) out))))
-put_check (width_check p r l t n) out = put_width_end t n (put_next_limit l (put_event r (put_check_opening p Width out)))
-put_check (period_check p r l n) out = put_check_end n (put_next_limit l (put_event r (put_check_opening p Period out)))
+put_check c out = put_in_parens c (put_token (system_token (check_text (name_of_check c))) (place_of_check c) out)
 
 -- ---- items and blocks
 
