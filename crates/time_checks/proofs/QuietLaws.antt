@@ -1,6 +1,6 @@
 -- A check none of whose terminals changes.
 use Rattle.std.specs.Prelude.{◌≡◌, ℕ, ℤ, suc, Bool, false, List, [], ◌∷◌, ◌++◌, Option, Some, None, refl}
-use Rattle.std.proofs.Common.{◌∙◌, ap}
+use Rattle.std.proofs.Common.{sym, ◌∙◌, ap, subst}
 use Rattle.sg_logic.specs.declared.values.Value.{Value}
 use Rattle.sg_circuit.specs.declared.checks.Event.{Event}
 use Rattle.sg_circuit.specs.declared.checks.CheckTiming.{CheckTiming}
@@ -14,8 +14,9 @@ use Rattle.time_checks.specs.Times.{grown}
 use Rattle.time_checks.specs.Windows.{Moment, Pair, where_true, later_of, violated}
 use Rattle.time_checks.specs.Events.{has_opposite, event_times, datum_happens, datum_times, moment}
 use Rattle.time_checks.specs.Violations.{all_from, listed, limit_at, violations_at, violations}
-use Rattle.time_checks.specs.Kept.{has_datum, events_at, next_of}
-use Rattle.time_checks.specs.Quiet.{StaysSame, IsUntouched}
+use Rattle.time_checks.specs.Kept.{StandsFor, has_datum, events_at, next_of}
+use Rattle.time_checks.specs.Quiet.{StaysSame, IsUntouched, again}
+use Rattle.time_checks.specs.Checking.{Kept, Stands, check_at, latest_at}
 use Rattle.time_checks.proofs.EventLaws.{no_event, no_opposite}
 
 -- nothing of what is given one after another
@@ -88,3 +89,24 @@ untouched-events check last now u =
 -- and its latest times stay
 pub untouched-latest : (check : CheckTiming) (time : ℕ) (last now : List Value) (latest : Latest) → IsUntouched check last now → next_of time (events_at check last now) latest ≡ latest
 untouched-latest check time last now latest u = ap (λ e. next_of time e latest) (untouched-events check last now u)
+
+-- the same nets once more
+same_net : (datum : Option Event) (values : List Value) → StaysSame datum values values
+same_net None values = tt
+same_net (Some event) values = refl
+
+pub violations-again : (checks : List CheckTiming) (time : ℕ) (last : Snapshot) (older : List Snapshot) → violations checks (again time last ∷ last ∷ older) ≡ []
+violations-again checks time last older =
+    all_none (λ number check. violations_at number check (moment check (again time last) (last ∷ older))) 0 checks
+    (λ number check. untouched-none number check (again time last) last older (record { refer = refl; datum = same_net check.datum last.values }))
+
+pub stands-again : (kept : Kept) (time : ℕ) (last : Snapshot) (older : List Snapshot) → Stands kept (last ∷ older) → Stands kept (again time last ∷ last ∷ older)
+stands-again kept time last older s = record {
+  seen = s.seen;
+  last = s.last;
+  each = λ number l.
+      (let check : CheckTiming = check_at kept.checks number in
+      let same : IsUntouched check last.values last.values = record { refer = refl; datum = same_net check.datum last.values } in
+      subst (λ rs. StandsFor (latest_at kept.latest number) rs (datum_times check.datum (again time last ∷ last ∷ older))) (sym (untouched-refer check (again time last) last older same))
+      (subst (λ ds. StandsFor (latest_at kept.latest number) (event_times check.refer (last ∷ older)) ds) (sym (untouched-datum check (again time last) last older same)) (s.each number l)));
+}

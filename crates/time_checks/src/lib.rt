@@ -16,5 +16,5 @@ mod windows;
 
 pub use changes::Change;
 pub use checker::Checker;
-pub use laws::untouched_checks_stay;
+pub use laws::{same_nets_stay, untouched_checks_stay};
 pub use violations::{Part, Violation};
