@@ -1,5 +1,5 @@
 -- The kinds of token that the grammar tells apart.
-use Rattle.std.specs.Prelude.{ℕ, Bool, true, false, List, [], ◌∷◌, Option, None, Some, ◌==◌, ◌||◌, ◌&&◌, not, codes, nat_eq, unwrap_or, if◌then◌else◌, pos}
+use Rattle.std.specs.Prelude.{ℕ, Bool, true, false, List, [], ◌∷◌, Option, Some, ◌==◌, ◌||◌, ◌&&◌, not, codes, nat_eq, unwrap_or, if◌then◌else◌, pos}
 use Rattle.std.specs.List.{starts_with}
 use Rattle.sg_logic.specs.declared.values.Value.{Value}
 use Rattle.sg_logic.specs.declared.values.Value.TheVariants.{Zero, One, X, Z}

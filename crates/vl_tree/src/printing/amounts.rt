@@ -130,10 +130,7 @@ pub fn print_next_limit<'a>(out: &mut Vec<Token<'a>>, limit: &Limit<'a>) -> Resu
 }
 
 // `[ "," mtm ]`
-fn print_error_limit(
-    out: &mut Vec<Token<'_>>,
-    error: &Option<MinTypMax>,
-) -> Result<(), NoMemory>
+fn print_error_limit(out: &mut Vec<Token<'_>>, error: &Option<MinTypMax>) -> Result<(), NoMemory>
     ensures { OnOk result (map lexeme out.new.items ≡ put_optional (behind_comma put_mtm) (option_map view_mtm error.now) (map lexeme out.old.items)) }
 {
     match error {

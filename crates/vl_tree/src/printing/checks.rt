@@ -11,7 +11,9 @@ use crate::printing::amounts::print_next_limit;
 use crate::printing::lists::{Print, print_many};
 use crate::printing::paths::print_edge;
 use crate::printing::tokens::{symbol, token};
-use crate::{Check, CheckName, EdgeWord, Event, Limit, Name, OneLimitCheck, Term, TwoLimitCheck, Word};
+use crate::{
+    Check, CheckName, EdgeWord, Event, Limit, Name, OneLimitCheck, Term, TwoLimitCheck, Word,
+};
 use sg_text::{NoMemory, Place};
 use vl_token::{Symbol, Token, TokenKind};
 
@@ -123,10 +125,7 @@ fn print_opening(out: &mut Vec<Token<'_>>, check: CheckName, place: Place) -> Re
 }
 
 // `[ "," name ]`
-fn print_notifier<'a>(
-    out: &mut Vec<Token<'a>>,
-    notifier: &Option<Name<'a>>,
-) -> Result<(), NoMemory>
+fn print_notifier<'a>(out: &mut Vec<Token<'a>>, notifier: &Option<Name<'a>>) -> Result<(), NoMemory>
     ensures { OnOk result (map lexeme out.new.items ≡ put_notifier (option_map view_name notifier.now) (map lexeme out.old.items)) }
 {
     match notifier {

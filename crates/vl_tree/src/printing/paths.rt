@@ -33,11 +33,7 @@ impl<'a> Print<'a> for EdgePair {
     }
 }
 
-pub fn print_edge(
-    out: &mut Vec<Token<'_>>,
-    edge: &EdgeWord,
-    place: Place,
-) -> Result<(), NoMemory>
+pub fn print_edge(out: &mut Vec<Token<'_>>, edge: &EdgeWord, place: Place) -> Result<(), NoMemory>
     ensures { OnOk result (map lexeme out.new.items ≡ put_edge place (view_edge edge.now) (map lexeme out.old.items)) }
 {
     match edge {
@@ -52,10 +48,7 @@ pub fn print_edge(
     }
 }
 
-fn print_optional_edge(
-    out: &mut Vec<Token<'_>>,
-    edge: &Option<EdgeWord>,
-) -> Result<(), NoMemory>
+fn print_optional_edge(out: &mut Vec<Token<'_>>, edge: &Option<EdgeWord>) -> Result<(), NoMemory>
     ensures { OnOk result (map lexeme out.new.items ≡ put_optional (put_edge NOWHERE) (option_map view_edge edge.now) (map lexeme out.old.items)) }
 {
     match edge {
