@@ -122,15 +122,6 @@ is_initial_value (number_kind whole bit) = whole && bit
 is_initial_value (sized_kind one_bit) = true
 is_initial_value _ = false
 
--- 0, 1, or one bit with or without its width
-abbrev pub is_bit : Kind → Bool
-is_bit (number_kind whole bit) = whole && bit
-is_bit (sized_kind one_bit) = true
-is_bit (sized_kind z_bit) = true
-is_bit (unsized_kind one_bit) = true
-is_bit (unsized_kind z_bit) = true
-is_bit _ = false
-
 abbrev pub byte_number : ByteKind → ℕ
 byte_number colon_byte = 0
 byte_number semicolon_byte = 1
