@@ -1,0 +1,5 @@
+-- The modules of this folder.
+pub mod Words
+pub mod Parts
+pub mod Faults
+pub mod Reading
