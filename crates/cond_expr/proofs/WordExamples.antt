@@ -114,12 +114,12 @@ condition-exact = worded-exact vocabulary is_vocabulary
 abbrev a : Tok
 a = tok.Name (codes "a")
 
--- a[3] == a;
+-- a[3] == a;, the words with the places where they begin
 abbrev text : List Token
 text = word 0 a ∷ left_bracket ∷ number 2 3 ∷ right_bracket ∷ word 4 (tok.Op Equal) ∷ word 6 a ∷ semicolon ∷ []
 
 abbrev at : ℕ → Tok → Word
-at place token = record { place; token }
+at p t = record { place = p; token = t }
 
 abbrev words : List Word
 words = at 0 a ∷ at 2 (tok.Index (pos 3)) ∷ at 4 (tok.Op Equal) ∷ at 6 a ∷ []

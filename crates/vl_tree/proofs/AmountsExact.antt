@@ -1,9 +1,9 @@
 -- Each rule of the numbers of specify blocks is read exactly.
-use Rattle.std.proofs.Common.{◌≡◌, ℕ, suc, Bool, true, false, refl}
+use Rattle.std.proofs.Common.{◌≡◌, ℕ, suc, Bool, true, false, ◌∷◌, refl}
 use Rattle.std.specs.Prelude.{◌||◌, not, nat_lt}
 use Rattle.std.proofs.lemmas.Bool.{and_parts, and_right}
 use Rattle.grammar.specs.Exact.{Apart, IsWithin}
-use Rattle.grammar.specs.Rule.{◌∙∙◌, only_if}
+use Rattle.grammar.specs.Rule.{◌∙∙◌, mapped, only_if}
 use Rattle.grammar.proofs.Laws.{only_if-exact, many_by-exact}
 use Rattle.vl_token.specs.declared.symbols.Symbol.TheVariants.{Comma, Colon, Minus, Assign, LeftParen, RightParen}
 use Rattle.vl_tree.specs.Amounts.{amount_parts, amount, amounts_parts, amounts, path_delay_parts, path_delay, may_close, next_delay, delays_continue, more_delays, delays_parts, delays, signed_amount_parts, signed_amount, plain_limit_parts, plain_limit, limit_parts, limit, pulse_name_parts, pulse_name, specparam_parts, specparam}
@@ -53,16 +53,18 @@ delays_close : (limited : Bool) → Apart (path_delay ∙∙ more_delays limited
 delays_close true = apart _ _ refl
 delays_close false = apart _ _ refl
 
+pub several-exact : (limited : Bool) → IsExact (mapped (λ x. x.0 ∷ x.1) (path_delay ∙∙ more_delays limited))
+several-exact limited = made _ (then path_delay-exact (more_delays-exact limited) (λ k p q. apart (is_symbol Colon) (is_symbol Comma) refl k p (next_delay-starts limited 1 k q)))
+
 pub delays-exact : (limited : Bool) → IsExact (delays limited)
 unfolding delays_parts
 delays-exact limited =
-    let several = then path_delay-exact (more_delays-exact limited) (λ k p q. apart (is_symbol Colon) (is_symbol Comma) refl k p (next_delay-starts limited 1 k q)) in
-    let inside = behind (the_mark LeftParen) (before (made _ several) (the_mark RightParen) (delays_close limited)) (apart _ _ refl) in
+    let inside = behind (the_mark LeftParen) (before (several-exact limited) (the_mark RightParen) (delays_close limited)) (apart _ _ refl) in
     called _ _ (or (made _ amounts-exact) inside refl refl (apart _ _ refl)) refl (is_within _ _ refl) (is_within _ _ refl)
 
 -- ---- limits
 
-sign-exact : (signs : Bool) → IsExact (optional (only_if signs (mark Minus)))
+pub sign-exact : (signs : Bool) → IsExact (optional (only_if signs (mark Minus)))
 sign-exact signs = perhaps (only_if-exact kind_of signs _ (the_mark Minus)) (and_right signs false refl)
 
 pub signed_amount-exact : (signs : Bool) → IsExact (signed_amount signs)

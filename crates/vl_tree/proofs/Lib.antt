@@ -16,6 +16,8 @@ pub mod ExpressionsPrinted
 pub mod ItemsPrinted
 pub mod PrimitivesPrinted
 pub mod ModulesPrinted
+pub mod ConditionsPrinted
+pub mod AmountsPrinted
 pub mod PutLeft
 pub mod WholePrinted
 mod Examples

@@ -147,12 +147,12 @@ any_thirteen = all_found kind_of (delays false) (delays-exact false) (mark_there
 
 -- pulsestyle_ondetect a, b;
 a_style : (specify_item true).language.Spells (word_there keyword.PulseStyleOnDetect ∷ name_there (codes "a") ∷ mark_there symbol.Comma ∷ name_there (codes "b") ∷ mark_there symbol.Semicolon ∷ []) 0 (pulse_style here OnDetect (term_so (codes "a") ∷ term_so (codes "b") ∷ [])) 5
-unfolding specify_item_parts style_item_parts style_parts term_parts terms_parts name_parts read_up_to pulse_front
+unfolding specify_item_parts check_item_parts check_parts style_item_parts style_parts term_parts terms_parts name_parts read_up_to pulse_front
 a_style = all_found kind_of (specify_item true) (specify_item-exact true) (word_there keyword.PulseStyleOnDetect ∷ name_there (codes "a") ∷ mark_there symbol.Comma ∷ name_there (codes "b") ∷ mark_there symbol.Semicolon ∷ []) (pulse_style here OnDetect (term_so (codes "a") ∷ term_so (codes "b") ∷ [])) refl
 
 -- no item begins with showcancelled
 no_style : FailsAt (specify_item true).language (word_there keyword.ShowCancelled ∷ name_there (codes "a") ∷ mark_there symbol.Semicolon ∷ []) 0
-unfolding specify_item_parts style_item_parts style_parts term_parts terms_parts name_parts read_up_to pulse_front
+unfolding specify_item_parts check_item_parts check_parts style_item_parts style_parts term_parts terms_parts name_parts read_up_to pulse_front
 no_style = all_failed kind_of (specify_item true) (specify_item-exact true) (word_there keyword.ShowCancelled ∷ name_there (codes "a") ∷ mark_there symbol.Semicolon ∷ []) 0 refl
 
 -- ---- timing checks
@@ -168,9 +168,9 @@ unfolding specify_item_parts check_item_parts check_parts arguments_parts event_
 a_setuphold = all_found kind_of (specify_item true) (specify_item-exact true) (at_seven (system_token (codes "$setuphold")) ∷ mark_there symbol.LeftParen ∷ word_there keyword.Posedge ∷ name_there (codes "c") ∷ mark_there symbol.Comma ∷ name_there (codes "d") ∷ mark_there symbol.Comma ∷ mark_there symbol.Minus ∷ number_there 1 ∷ mark_there symbol.Comma ∷ mark_there symbol.LeftParen ∷ number_there 2 ∷ mark_there symbol.RightParen ∷ mark_there symbol.Comma ∷ mark_there symbol.Comma ∷ mark_there symbol.Comma ∷ mark_there symbol.RightParen ∷ mark_there symbol.Semicolon ∷ []) (a_check (two_limit_check here SetupHold (rising_so (codes "c")) (event_so (codes "d")) (limit_so true 1) (limit_so false 2) None)) refl
 
 -- a sixth argument may not be filled
-filled : FailsAt (specify_item true).language (at_seven (system_token (codes "$setuphold")) ∷ mark_there symbol.LeftParen ∷ word_there keyword.Posedge ∷ name_there (codes "c") ∷ mark_there symbol.Comma ∷ name_there (codes "d") ∷ mark_there symbol.Comma ∷ number_there 1 ∷ mark_there symbol.Comma ∷ number_there 2 ∷ mark_there symbol.Comma ∷ mark_there symbol.Comma ∷ name_there (codes "x") ∷ mark_there symbol.RightParen ∷ mark_there symbol.Semicolon ∷ []) 13
+filled : FailsAt (specify_item true).language (at_seven (system_token (codes "$setuphold")) ∷ mark_there symbol.LeftParen ∷ word_there keyword.Posedge ∷ name_there (codes "c") ∷ mark_there symbol.Comma ∷ name_there (codes "d") ∷ mark_there symbol.Comma ∷ number_there 1 ∷ mark_there symbol.Comma ∷ number_there 2 ∷ mark_there symbol.Comma ∷ mark_there symbol.Comma ∷ name_there (codes "x") ∷ mark_there symbol.RightParen ∷ mark_there symbol.Semicolon ∷ []) 12
 unfolding specify_item_parts check_item_parts check_parts arguments_parts event_parts check_edge_parts edge_parts pair_parts term_parts name_parts limit_parts plain_limit_parts signed_amount_parts amount_parts read_up_to read_by pulse_front check_rows
-filled = all_failed kind_of (specify_item true) (specify_item-exact true) (at_seven (system_token (codes "$setuphold")) ∷ mark_there symbol.LeftParen ∷ word_there keyword.Posedge ∷ name_there (codes "c") ∷ mark_there symbol.Comma ∷ name_there (codes "d") ∷ mark_there symbol.Comma ∷ number_there 1 ∷ mark_there symbol.Comma ∷ number_there 2 ∷ mark_there symbol.Comma ∷ mark_there symbol.Comma ∷ name_there (codes "x") ∷ mark_there symbol.RightParen ∷ mark_there symbol.Semicolon ∷ []) 13 refl
+filled = all_failed kind_of (specify_item true) (specify_item-exact true) (at_seven (system_token (codes "$setuphold")) ∷ mark_there symbol.LeftParen ∷ word_there keyword.Posedge ∷ name_there (codes "c") ∷ mark_there symbol.Comma ∷ name_there (codes "d") ∷ mark_there symbol.Comma ∷ number_there 1 ∷ mark_there symbol.Comma ∷ number_there 2 ∷ mark_there symbol.Comma ∷ mark_there symbol.Comma ∷ name_there (codes "x") ∷ mark_there symbol.RightParen ∷ mark_there symbol.Semicolon ∷ []) 12 refl
 
 -- one token fills it where that is not limited
 any_filled : (specify_item false).language.Spells (at_seven (system_token (codes "$setuphold")) ∷ mark_there symbol.LeftParen ∷ word_there keyword.Posedge ∷ name_there (codes "c") ∷ mark_there symbol.Comma ∷ name_there (codes "d") ∷ mark_there symbol.Comma ∷ number_there 1 ∷ mark_there symbol.Comma ∷ number_there 2 ∷ mark_there symbol.Comma ∷ mark_there symbol.Comma ∷ name_there (codes "x") ∷ mark_there symbol.RightParen ∷ mark_there symbol.Semicolon ∷ []) 0 (a_check (two_limit_check here SetupHold (rising_so (codes "c")) (event_so (codes "d")) (limit_so false 1) (limit_so false 2) None)) 15

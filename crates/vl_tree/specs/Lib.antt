@@ -15,4 +15,5 @@ pub mod Specify
 pub mod Primitives
 pub mod Modules
 pub mod Printing
+pub mod SpecifyPrinting
 pub mod Printed
