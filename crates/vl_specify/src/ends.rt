@@ -136,7 +136,7 @@ fn arrow<'a>(
 
 /// `terms [ polarity ] arrow destination`
 #[tactic(auto, unfolding(vl_tree::specs::Paths::ends_parts))]
-fn ends<'a>(
+pub fn ends<'a>(
     alloc: Global,
     tokens: &[Token<'a>],
     at: usize,
