@@ -1,10 +1,11 @@
 // Readers of the last arguments of timing checks, which may be empty or missing.
-ghost use Rattle.std.specs.Prelude.{◌≡◌, map, not, option_map};
+ghost use Rattle.std.specs.Prelude.{◌≡◌, ◌<◌, true, map, not, option_map};
 ghost use Rattle.grammar.specs.Reading.{Gives};
-ghost use Rattle.grammar.specs.Rule.{mapped, only_if, quoted, stands};
+ghost use Rattle.grammar.specs.Rule.{◌◂◌, mapped, only_if, quoted, stands};
 ghost use Rattle.vl_token.specs.Seen.{lexeme};
 ghost use Rattle.vl_tree.specs.Checks as checks;
 ghost use Rattle.vl_tree.specs.Checks.{fills};
+ghost use Rattle.vl_tree.specs.Expressions as expressions;
 ghost use Rattle.vl_tree.specs.Kinds.{kind_of};
 ghost use Rattle.vl_tree.specs.Rules as rules;
 ghost use Rattle.vl_tree.specs.Seen.{view_limit, view_name};
@@ -80,7 +81,8 @@ fn filler(tokens: &[Token<'_>], at: usize, limited: bool) -> Result<usize, ReadF
 
 /// Whether another argument comes behind so many that may not be filled.
 fn spare_comes(tokens: &[Token<'_>], at: usize, limited: bool, count: usize) -> bool
-    ensures { result ≡ stands kind_of (checks.spare limited count).starts (map lexeme tokens.now) at }
+    ensures comes { result ≡ stands kind_of (checks.spare limited count).starts (map lexeme tokens.now) at }
+    ensures few { result ≡ true → count < 4 }
 {
     if count >= MAX_SPARES {
         return false;
@@ -122,6 +124,19 @@ fn spares(tokens: &[Token<'_>], at: usize, limited: bool) -> Result<usize, ReadF
     Ok(next)
 }
 
+/// `[ name ] spares`
+fn name_and_spares<'a>(
+    tokens: &[Token<'a>],
+    at: usize,
+    limited: bool,
+) -> Result<(Option<Name<'a>>, usize), ReadFault>
+    ensures { Gives (λ x. (option_map view_name x.0, x.1)) result ((rules.optional expressions.name ◂ checks.spares limited).read (map lexeme tokens.now) at) }
+{
+    let (name, next) = optional_name(tokens, at)?;
+    let next = spares(tokens, next, limited)?;
+    Ok((name, next))
+}
+
 /// `[ "," [ name ] spares ]`
 pub fn notifier_and_spares<'a>(
     tokens: &[Token<'a>],
@@ -134,7 +149,5 @@ pub fn notifier_and_spares<'a>(
         return Ok((None, at));
     }
     let next = mark(tokens, at, Symbol::Comma)?;
-    let (notifier, next) = optional_name(tokens, next)?;
-    let next = spares(tokens, next, limited)?;
-    Ok((notifier, next))
+    name_and_spares(tokens, next, limited)
 }

@@ -147,7 +147,7 @@ const CHECKS: [Row; 34] = [
     ("$setuphold ( c , d , 1 , 2 , n , , , , , ) ;", Some((16, Syntax))),
     ("$width ( c , 1 , 2 , n , ) ;", Some((10, Syntax))),
     ("$width ( c , - 1 ) ;", Some((5, Syntax))),
-    ("$period ( c , 1 , , ) ;", Some((8, Syntax))),
+    ("$period ( c , 1 , , ) ;", Some((7, Syntax))),
     ("$foo ( c , d , 1 ) ;", Some((1, Syntax))),
     ("$timeskew ( c , d , 1 ) ;", Some((1, UnsupportedCheck))),
 ];

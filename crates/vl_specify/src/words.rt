@@ -78,6 +78,7 @@ fn bit_word<'a>(bits: &[Value]) -> Option<Tok<&'a [u8]>>
 }
 
 /// The word that a token is.
+#[tactic(auto, using(crate::proofs::WordOfToken::symbol_alone, crate::proofs::WordOfToken::sized_alone, crate::proofs::WordOfToken::unsized_alone))]
 fn word_of<'a>(alloc: Global, kind: TokenKind<'a>) -> Result<Option<Tok<&'a [u8]>>, NoMemory>
     ensures { IfOk result (λ word. maybe_seen word ≡ word_alone (meaning kind.entry)) }
 {
