@@ -4,3 +4,4 @@ pub mod DelayLists
 pub mod SpareArguments
 pub mod WordOfToken
 pub mod Refusals
+mod Examples

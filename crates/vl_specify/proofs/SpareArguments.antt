@@ -1,15 +1,17 @@
 -- Reading arguments that may not be filled, as a loop does that keeps only how many they are.
 use Rattle.std.proofs.Common.{◌≡◌, ℕ, suc, ◌-◌, ◌<◌, Bool, true, false, List, [], ◌∷◌, length, Option, Result, Ok, Err, refl, sym, ap, ◌∙◌}
 use Rattle.grammar.specs.Reading.{◌>>=◌, Fails}
-use Rattle.grammar.specs.Rule.{stands}
+use Rattle.grammar.specs.Rule.{◌◂◌, stands}
 use Rattle.grammar.specs.States.{many_by}
 use Rattle.grammar.specs.declared.ReadFault.{ReadFault}
 use Rattle.grammar.specs.declared.ReadFault.TheVariants as faults
 use Rattle.grammar.proofs.LoopsBy.{state_goes_on, state_ends, by_begins, by_fails, by_advances}
 use Rattle.vl_token.specs.Tokens.{Lexeme}
-use Rattle.vl_tree.specs.Checks.{spare, spare_continues}
+use Rattle.vl_tree.specs.Checks.{spare, spare_continues, spares}
 use Rattle.vl_tree.specs.Kinds.{kind_of}
+use Rattle.vl_tree.specs.Rules.{Grammar}
 use Rattle.vl_tree.proofs.ChecksExact.{spare-exact, spare-full}
+use Rattle.vl_specify.specs.Skipped.{skipped}
 
 abbrev pub Spare : Type 0
 Spare = Option (Unit {0})
@@ -67,3 +69,10 @@ module _ {A : Type 0} (v : A) where
   fault_stays r faults.Memory h = tt
   fault_stays (Ok y) (faults.At e) h = absurd cc
   fault_stays (Err e) (faults.At k) h = ap fault_at (ap position h)
+
+module _ {A : Type 0} (a : Grammar A) (limited : Bool) (ts : List Lexeme) (i : ℕ) (v : A) (m : ℕ) (before : a.read ts i ≡ Ok (v, m)) where
+  pub value_read : (j : ℕ) → (skipped (spares limited)).read ts m ≡ Ok (tt, j) → (a ◂ spares limited).read ts i ≡ Ok (v, j)
+  value_read j h = rw before (value_stays v ((spares limited).read ts m) j h)
+
+  pub value_fails : (f : ReadFault) → Fails f ((skipped (spares limited)).read ts m) → Fails f ((a ◂ spares limited).read ts i)
+  value_fails f h = rw before (fault_stays v ((spares limited).read ts m) f h)

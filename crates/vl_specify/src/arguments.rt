@@ -55,12 +55,9 @@ fn one_limit<'a>(
     let next = mark(tokens, next, Symbol::Comma)?;
     let (second, next) = event(alloc, tokens, next)?;
     let next = mark(tokens, next, Symbol::Comma)?;
-    let (limit, next) = limit(tokens, next, false)?;
+    let (bound, next) = limit(tokens, next, false)?;
     let (notifier, next) = notifier(tokens, next)?;
-    Ok((
-        between(place, check, first, second, limit, notifier),
-        next,
-    ))
+    Ok((between(place, check, first, second, bound, notifier), next))
 }
 
 /// `event "," event "," limit "," limit notifier-and-spares`

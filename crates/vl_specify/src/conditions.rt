@@ -98,11 +98,7 @@ pub fn condition<'a>(
     let mut unclosed = 0u64;
     let mut phase = Phase::Operand;
     'more: while let Some((one, behind, unclosed_then, then)) = word(
-        alloc,
-        tokens,
-        next,
-        unclosed,
-        phase,
+        alloc, tokens, next, unclosed, phase,
     )? {
         words.push(one)?;
         next = behind;

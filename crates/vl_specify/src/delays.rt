@@ -1,10 +1,12 @@
 // Readers of lists of delays.
 ghost use Rattle.std.specs.Prelude.{◌≡◌, ◌∷◌, map};
 ghost use Rattle.grammar.specs.Reading.{Gives};
-ghost use Rattle.grammar.specs.Rule.{◌∙∙◌, mapped, stands};
+ghost use Rattle.grammar.specs.Rule.{◌∙∙◌, ◌▸◌, mapped, stands};
+ghost use Rattle.vl_token.specs.declared.symbols.Symbol.TheVariants as symbol;
 ghost use Rattle.vl_token.specs.Seen.{lexeme};
 ghost use Rattle.vl_tree.specs.Amounts as amounts;
 ghost use Rattle.vl_tree.specs.Kinds.{kind_of};
+ghost use Rattle.vl_tree.specs.Rules as rules;
 ghost use Rattle.vl_tree.specs.Seen.{view_amounts};
 
 use crate::amounts::{amount_stands, amounts};
@@ -48,18 +50,10 @@ fn delay_comes(tokens: &[Token<'_>], at: usize, limited: bool, count: usize) -> 
     is_mark(tokens, at, Symbol::Comma)
 }
 
-/// `"," path-delay`, where another may come behind so many.
-fn next_delay<'a>(
-    tokens: &[Token<'a>],
-    at: usize,
-    limited: bool,
-    count: usize,
-) -> Result<(Amounts<'a>, usize), ReadFault>
-    ensures { Gives (λ x. (view_amounts x.0, x.1)) result ((amounts.next_delay limited count).read (map lexeme tokens.now) at) }
+/// `"," path-delay`
+fn next_delay<'a>(tokens: &[Token<'a>], at: usize) -> Result<(Amounts<'a>, usize), ReadFault>
+    ensures { Gives (λ x. (view_amounts x.0, x.1)) result ((rules.mark symbol.Comma ▸ amounts.path_delay).read (map lexeme tokens.now) at) }
 {
-    if limited && count >= MAX_DELAYS {
-        return Err(ReadFault::At(at));
-    }
     let next = mark(tokens, at, Symbol::Comma)?;
     path_delay(tokens, next)
 }
@@ -76,7 +70,7 @@ fn several_delays<'a>(
     let (first, mut next) = path_delay(tokens, at)?;
     let mut delays = vec![in alloc; first]?;
     'more: while delay_comes(tokens, next, limited, delays.len()) {
-        let (one, behind) = next_delay(tokens, next, limited, delays.len())?;
+        let (one, behind) = next_delay(tokens, next)?;
         delays.push(one)?;
         next = behind;
     }

@@ -100,7 +100,8 @@ pub fn kind_at(
     if let Some(kind) = told(token.kind) {
         return Ok(kind);
     }
-    if failing < reach(alloc, tokens, at)? {
+    let reached = reach(alloc, tokens, at)?;
+    if failing < reached {
         return Ok(told_by_limit(token.kind));
     }
     Ok(SpecifyKind::Syntax)

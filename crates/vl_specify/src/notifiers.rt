@@ -1,7 +1,7 @@
 // Readers of the last arguments of timing checks, which may be empty or missing.
 ghost use Rattle.std.specs.Prelude.{◌≡◌, ◌<◌, true, map, not, option_map};
 ghost use Rattle.grammar.specs.Reading.{Gives};
-ghost use Rattle.grammar.specs.Rule.{◌◂◌, mapped, only_if, quoted, stands};
+ghost use Rattle.grammar.specs.Rule.{◌◂◌, only_if, quoted, stands};
 ghost use Rattle.vl_token.specs.Seen.{lexeme};
 ghost use Rattle.vl_tree.specs.Checks as checks;
 ghost use Rattle.vl_tree.specs.Checks.{fills};
@@ -9,6 +9,7 @@ ghost use Rattle.vl_tree.specs.Expressions as expressions;
 ghost use Rattle.vl_tree.specs.Kinds.{kind_of};
 ghost use Rattle.vl_tree.specs.Rules as rules;
 ghost use Rattle.vl_tree.specs.Seen.{view_limit, view_name};
+ghost use Rattle.vl_specify.specs.Skipped.{skipped};
 
 use crate::limits::optional_limit;
 use grammar::ReadFault;
@@ -20,10 +21,7 @@ use vl_tree::{Limit, Name};
 const MAX_SPARES: usize = 4;
 
 /// `[ "," [ name ] ]`
-pub fn notifier<'a>(
-    tokens: &[Token<'a>],
-    at: usize,
-) -> Result<(Option<Name<'a>>, usize), ReadFault>
+pub fn notifier<'a>(tokens: &[Token<'a>], at: usize) -> Result<(Option<Name<'a>>, usize), ReadFault>
     ensures { Gives (λ x. (option_map view_name x.0, x.1)) result (checks.notifier.read (map lexeme tokens.now) at) }
 {
     if !is_mark(tokens, at, Symbol::Comma) {
@@ -112,7 +110,7 @@ fn spare(
 
 /// The position behind the arguments that may not be filled, four at most.
 fn spares(tokens: &[Token<'_>], at: usize, limited: bool) -> Result<usize, ReadFault>
-    ensures { Gives (λ next. (tt, next)) result ((mapped (λ _. tt) (checks.spares limited)).read (map lexeme tokens.now) at) }
+    ensures { Gives (λ next. (tt, next)) result ((skipped (checks.spares limited)).read (map lexeme tokens.now) at) }
 {
     let mut next = at;
     let mut count = 0usize;

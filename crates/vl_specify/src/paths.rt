@@ -9,8 +9,8 @@ ghost use Rattle.vl_tree.specs.Paths.{path_starts};
 ghost use Rattle.vl_tree.specs.Seen.{view_path, view_path_condition};
 ghost use Rattle.vl_specify.specs.Parts.{view_body};
 
-use crate::delays::delays;
 use crate::conditions::condition;
+use crate::delays::delays;
 use crate::edges::optional_edge;
 use crate::ends::{PathEnds, ends};
 use grammar::ReadFault;

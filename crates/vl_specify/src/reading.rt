@@ -9,7 +9,7 @@ ghost use Rattle.vl_specify.specs.Reading.{IsBlock, RefusalStands, fault_place};
 use crate::blocks::block;
 use crate::faults::{SpecifyKind, kind_at};
 use grammar::ReadFault;
-use sg_text::{NoMemory, Place, Refused};
+use sg_text::{Place, Refused};
 use std::alloc::Global;
 use vl_terms::tokens::token_at;
 use vl_token::Token;
@@ -50,15 +50,14 @@ pub fn read_specify<'a>(
     // A refusal is at the failing token.
     ensures fault { IfErr result (λ refusal. RefusalStands (map lexeme tokens.now) at end refusal) }
 {
-    match block(alloc, tokens, at, true) {
-        Ok((block, next)) => Ok(SpecifyRead { block, next }),
-        Err(ReadFault::Memory) => Err(Refused::NoMemory),
-        Err(ReadFault::At(failing)) => match kind_at(alloc, tokens, at, failing) {
-            Ok(kind) => Err(Refused::Fault {
-                kind,
-                place: place_of_fault(tokens, failing, end),
-            }),
-            Err(NoMemory) => Err(Refused::NoMemory),
-        },
-    }
+    let failing = match block(alloc, tokens, at, true) {
+        Ok((block, next)) => return Ok(SpecifyRead { block, next }),
+        Err(ReadFault::Memory) => return Err(Refused::NoMemory),
+        Err(ReadFault::At(failing)) => failing,
+    };
+    let kind = kind_at(alloc, tokens, at, failing)?;
+    Err(Refused::Fault {
+        kind,
+        place: place_of_fault(tokens, failing, end),
+    })
 }

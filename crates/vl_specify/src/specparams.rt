@@ -51,10 +51,7 @@ fn is_pulse_name(tokens: &[Token<'_>], at: usize) -> bool
 }
 
 /// `[ "," mtm ]`
-fn optional_error(
-    tokens: &[Token<'_>],
-    at: usize,
-) -> Result<(Option<MinTypMax>, usize), ReadFault>
+fn optional_error(tokens: &[Token<'_>], at: usize) -> Result<(Option<MinTypMax>, usize), ReadFault>
     ensures { Gives (λ x. (option_map view_mtm x.0, x.1)) result ((rules.optional (rules.mark symbol.Comma ▸ expressions.mtm)).read (map lexeme tokens.now) at) }
 {
     if !is_mark(tokens, at, Symbol::Comma) {

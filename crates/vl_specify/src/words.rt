@@ -110,12 +110,10 @@ pub fn word_alone<'a>(
         return Ok(None);
     };
     match word_of(alloc, token.kind)? {
-        Some(word) => Ok(
-            Some(Word {
-                place: token.place,
-                token: word,
-            }),
-        ),
+        Some(word) => Ok(Some(Word {
+            place: token.place,
+            token: word,
+        })),
         None => Ok(None),
     }
 }
