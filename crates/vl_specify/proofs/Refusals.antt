@@ -5,6 +5,7 @@ use Rattle.std.proofs.lemmas.Bool.{cases_lt}
 use Rattle.sg_text.specs.declared.places.Place.{Place}
 use Rattle.sg_text.specs.declared.refusals.Refused.TheVariants.{Fault}
 use Rattle.grammar.specs.ReadsFrom.{FailsFrom}
+use Rattle.grammar.proofs.Extents.{Begins-le}
 use Rattle.grammar.proofs.ReadsFrom.{one_from, from_failed}
 use Rattle.vl_token.specs.Tokens.{Lexeme}
 use Rattle.vl_tree.specs.Kinds.{kind_of}
@@ -28,7 +29,7 @@ module _ (ts : List Lexeme) (i : ℕ) where
   reaches : (n : ℕ) → Begun n → (Begun (n + 1) → ⊥) → Reaches n
   reaches n does fails k le = (
     λ b. elim (cases_lt n k) [
-      | inl lt ↦ absurd (fails ((block-exact false).front ts i k (n + 1) b (omega arith) (omega arith)))
+      | inl lt ↦ absurd (fails ((block-exact false).front ts i k (n + 1) b (omega (arith, Begins-le kind_of (block false) (block-exact false) ts i n does)) (omega arith)))
       | inr ge ↦ ge
     ],
     λ up. (block-exact false).front ts i n k does le up,

@@ -1,5 +1,5 @@
 -- Reading arguments that may not be filled, as a loop does that keeps only how many they are.
-use Rattle.std.proofs.Common.{◌≡◌, ℕ, suc, ◌-◌, ◌<◌, Bool, true, false, List, [], ◌∷◌, length, Option, Result, Ok, Err, refl, sym, ap, ◌∙◌}
+use Rattle.std.proofs.Common.{◌≡◌, ℕ, suc, ◌+◌, ◌-◌, ◌<◌, Bool, true, false, List, [], ◌∷◌, length, Option, Result, Ok, Err, refl, sym, ap, subst, ◌∙◌, arith}
 use Rattle.grammar.specs.Reading.{◌>>=◌, Fails}
 use Rattle.grammar.specs.Rule.{◌◂◌, stands}
 use Rattle.grammar.specs.States.{many_by}
@@ -26,8 +26,11 @@ module _ (limited : Bool) (ts : List Lexeme) where
   spares_behind n i = (many_by kind_of spare_continues (spare limited) (λ n _. suc n) (λ _. true) n).read ts i
 
   module _ (i count : ℕ) (total : Result (Unit {0} × ℕ) ℕ) (so_far : (spares_behind count i >>= end_of) ≡ total) where
-    pub spares_go_on : (x : Spare) (j : ℕ) → stands kind_of (spare limited count).starts ts i ≡ true → (spare limited count).read ts i ≡ Ok (x, j) → (spares_behind (suc count) j >>= end_of) ≡ total
-    spares_go_on x j does h = state_goes_on kind_of spare_continues (spare limited) (λ n _. suc n) (λ _. true) (spare-exact limited) (spare-full limited) ts (λ (y : Spare). y) end_of total count i x j does h so_far
+    pub spares_go_on : (x : Spare) (j : ℕ) → stands kind_of (spare limited count).starts ts i ≡ true → (spare limited count).read ts i ≡ Ok (x, j) → (spares_behind (count + 1) j >>= end_of) ≡ total
+    spares_go_on x j does h =
+        let more = state_goes_on kind_of spare_continues (spare limited) (λ n _. suc n) (λ _. true) (spare-exact limited) (spare-full limited) ts (λ (y : Spare). y) end_of total count i x j does h so_far in
+        let e : suc count ≡ count + 1 = omega arith in
+        subst (λ (n : ℕ). (spares_behind n j >>= end_of) ≡ total) e more
 
     pub spares_end : stands kind_of (spare limited count).starts ts i ≡ false → total ≡ Ok (tt, i)
     spares_end none = state_ends kind_of spare_continues (spare limited) (λ n _. suc n) (λ _. true) (spare-exact limited) (spare-full limited) ts (λ (y : Spare). y) end_of total count i none refl so_far

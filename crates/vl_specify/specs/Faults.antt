@@ -1,5 +1,5 @@
 -- Why a specify block is refused: the kind of the fault at its failing token.
-use Rattle.std.specs.Prelude.{◌≡◌, ℕ, ◌+◌, Bool, false, ◌||◌, ◌==◌, ◌⊎◌, List, Option, Some, None, if◌then◌else◌, codes, nat_eq, slice_get, [], ◌∷◌}
+use Rattle.std.specs.Prelude.{◌≡◌, ℕ, ◌+◌, Bool, true, false, ◌||◌, ◌==◌, ◌⊎◌, List, Option, Some, None, if◌then◌else◌, codes, nat_eq, slice_get, [], ◌∷◌}
 use lib.Pointwise.{pointwise}
 use Rattle.sg_text.specs.declared.words.Keyword.TheVariants as keyword
 use Rattle.sg_text.specs.Words.{keyword_number}
@@ -16,7 +16,7 @@ left_out = codes "$timeskew" ∷ codes "$fullskew" ∷ codes "$nochange" ∷ []
 
 abbrev pub is_one_of : List (List ℕ) → List ℕ → Bool
 is_one_of [] text = false
-is_one_of (name ∷ names) text = pointwise nat_eq name text || is_one_of names text
+is_one_of (name ∷ names) text = if pointwise nat_eq name text then true else is_one_of names text
 
 -- what a failing token says alone
 abbrev pub told : Meaning → Option SpecifyKind

@@ -86,6 +86,7 @@ fn word<'a>(
 }
 
 /// The words of a condition, of any depth.
+#[tactic(auto, unfolding(vl_tree::specs::Conditions::condition_parts))]
 pub fn condition<'a>(
     alloc: Global,
     tokens: &[Token<'a>],

@@ -68,7 +68,8 @@ fn several_delays<'a>(
     ensures { Gives (λ x. (map view_amounts x.0.items, x.1)) result ((mapped (λ x. x.0 ∷ x.1) (amounts.path_delay ∙∙ amounts.more_delays limited)).read (map lexeme tokens.now) at) }
 {
     let (first, mut next) = path_delay(tokens, at)?;
-    let mut delays = vec![in alloc; first]?;
+    let mut delays = Vec::with_capacity(alloc, 1)?;
+    delays.push(first)?;
     'more: while delay_comes(tokens, next, limited, delays.len()) {
         let (one, behind) = next_delay(tokens, next)?;
         delays.push(one)?;

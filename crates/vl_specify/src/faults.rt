@@ -77,10 +77,11 @@ fn reach(alloc: Global, tokens: &[Token<'_>], at: usize) -> Result<usize, NoMemo
     ensures { IfOk result (λ n. (k : ℕ) → at ≤ k → (specify.block false).language.Begins (map lexeme tokens.now) at k ↔ (k ≤ n)) }
 {
     match block(alloc, tokens, at, false) {
-        Ok((_, next)) => Ok(next),
-        Err(ReadFault::At(next)) => Ok(next),
-        Err(ReadFault::Memory) => Err(NoMemory),
+        Ok((_, next)) => return Ok(next),
+        Err(ReadFault::At(next)) => return Ok(next),
+        Err(ReadFault::Memory) => {}
     }
+    Err(NoMemory)
 }
 
 /// The kind of fault of a block that begins at a position and fails at another. Reads the block again, and takes memory for it,
