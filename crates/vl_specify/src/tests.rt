@@ -3,12 +3,12 @@ mod rows;
 mod text;
 
 use crate::SpecifyKind::{Syntax, UnsupportedCheck};
+use crate::tests::rows::{CHECKS, CONDITIONS, DELAYS, ITEMS, PATHS, Row};
+use crate::tests::text::{place_of, put, put_words, tokens_of};
 use crate::*;
 use sg_text::{NoMemory, Refused};
 use std::alloc::Global;
 use std::process::Abort;
-use crate::tests::rows::{CHECKS, CONDITIONS, DELAYS, ITEMS, PATHS, Row};
-use crate::tests::text::{place_of, put, put_words, tokens_of};
 use vl_token::{Symbol, Token, TokenKind};
 use vl_tree::{Check, SpecifyBlock, SpecifyItem};
 
