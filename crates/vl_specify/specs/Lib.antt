@@ -1,0 +1,6 @@
+-- The modules of this folder.
+pub mod Skipped
+pub mod Words
+pub mod Parts
+pub mod Faults
+pub mod Reading
