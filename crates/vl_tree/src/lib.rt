@@ -25,5 +25,6 @@ pub use paths::{
 pub use primitives::{Initial, Primitive, PrimitiveDeclaration};
 pub use printing::print;
 pub use specify::{
-    Amount, Amounts, Limit, PulseStyle, SignedAmount, SpecifyBlock, SpecifyItem, Specparam, Term, Word,
+    Amount, Amounts, Limit, PulseStyle, SignedAmount, SpecifyBlock, SpecifyItem, Specparam, Term,
+    Word,
 };

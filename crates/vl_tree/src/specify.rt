@@ -59,7 +59,10 @@ pub enum Limit<'a> {
 #[derive(Clone, Copy, Debug)]
 pub enum Specparam<'a> {
     /// `name "=" mtm`
-    Value { name: Name<'a>, value: MinTypMax },
+    Value {
+        name: Name<'a>,
+        value: MinTypMax,
+    },
     /// `pulse-name "=" "(" mtm [ "," mtm ] ")"`: the reject limit of pulses, and their error limit.
     PulseLimits {
         name: Name<'a>,
