@@ -1,8 +1,8 @@
 -- What is put for the numbers of specify blocks spells them.
-use Rattle.std.proofs.Common.{◌≡◌, ℕ, suc, Bool, true, false, List, [], ◌∷◌, map, Option, Some, None, refl, sym, subst, ap, ◌∙◌, inl, inr}
+use Rattle.std.proofs.Common.{◌≡◌, ℕ, suc, Bool, true, false, List, [], ◌∷◌, Option, Some, None, refl, sym, subst, ap, ◌∙◌, inl, inr}
 use Rattle.std.proofs.lemmas.List.{append-nil}
 use Rattle.grammar.specs.Exact.{Exact}
-use Rattle.grammar.specs.Language.{image, sequence, guarded, choice}
+use Rattle.grammar.specs.Language.{image, sequence, guarded}
 use Rattle.grammar.specs.Reads.{Appends}
 use Rattle.grammar.specs.Rule.{Rule, ◌∙∙◌, ◌▸◌, ◌◂◌, mapped, only_if, one}
 use Rattle.grammar.specs.States.{repetition_by}
@@ -13,13 +13,13 @@ use Rattle.vl_tree.specs.Amounts.{amount_parts, amount, amounts_of, amounts_part
 use Rattle.vl_tree.specs.Expressions.{name, mtm}
 use Rattle.vl_tree.specs.Kinds.{Kind, kind_of, kind_of_meaning, is_number, is_pulse_name, is_symbol, text_of, number_of}
 use Rattle.vl_tree.specs.Primitives.{is_there}
-use Rattle.vl_tree.specs.Printing.{Tokens, put_mark, put_optional, put_many, behind_comma, put_listed, put_name, put_mtm}
+use Rattle.vl_tree.specs.Printing.{Tokens, put_mark, put_optional, put_many, behind_comma, put_listed, put_name}
 use Rattle.vl_tree.specs.Rules.{Grammar, mark, either, optional}
 use Rattle.vl_tree.specs.SpecifyPrinting.{put_amount, put_amounts, put_delays, put_sign, put_signed, put_limit, put_specparam}
 use Rattle.vl_tree.specs.Tree.{Amount, a_number, a_parameter, Amounts, SignedAmount}
 use Rattle.vl_tree.proofs.AllKinds.{apart}
-use Rattle.vl_tree.proofs.Building.{IsExact, the_mark, then, made, behind, before, perhaps}
-use Rattle.vl_tree.proofs.AmountsExact.{amount-exact, amounts-exact, path_delay-exact, next_delay-exact, more_delays-exact, several-exact, sign-exact, signed_amount-exact, pulse_name-exact}
+use Rattle.vl_tree.proofs.Building.{the_mark, behind, perhaps}
+use Rattle.vl_tree.proofs.AmountsExact.{amount-exact, path_delay-exact, next_delay-exact, several-exact, sign-exact, signed_amount-exact, pulse_name-exact}
 use Rattle.vl_tree.proofs.ExpressionsExact.{name-exact, mtm-exact}
 use Rattle.vl_tree.proofs.ExpressionsPrinted.{text_is, name_prints, mtm_prints}
 use Rattle.vl_tree.proofs.Printed.{Over, Prints, IsSpelled, token_printed, quoted_printed, mapped_prints, seq_prints, either_prints, optional_prints, mark_prints, nothing_prints, behind_mark, before_mark, spelled_as}

@@ -1,5 +1,5 @@
 -- What is put for timing checks spells them.
-use Rattle.std.proofs.Common.{◌≡◌, ℕ, Bool, true, false, List, [], ◌∷◌, length, map, Option, Some, None, refl, sym, subst, ◌∙◌}
+use Rattle.std.proofs.Common.{◌≡◌, ℕ, Bool, true, false, List, [], length, map, Option, Some, None, refl, sym, subst, ◌∙◌}
 use Rattle.std.specs.Prelude.{slice_get, unwrap_or}
 use Rattle.std.proofs.lemmas.List.{append-nil}
 use Rattle.sg_text.specs.declared.places.Place.{Place}
@@ -24,21 +24,20 @@ use Rattle.vl_tree.specs.Conditions.{condition}
 use Rattle.vl_tree.specs.Expressions.{name}
 use Rattle.vl_tree.specs.Kinds.{kind_of, kind_of_meaning, is_check, check_of_meaning}
 use Rattle.vl_tree.specs.Paths.{term, check_edge}
-use Rattle.vl_tree.specs.Printing.{Tokens, put_token, put_mark, put_optional, behind_comma, put_name}
+use Rattle.vl_tree.specs.Printing.{Tokens, put_token, put_mark, put_optional, put_name}
 use Rattle.vl_tree.specs.Rules.{Grammar, mark, placed, optional}
 use Rattle.vl_tree.specs.SpecifyPrinting.{put_term, put_limit, put_next_limit, put_edge, put_event_term, put_held, put_event, check_text, put_notifier, put_events, put_threshold_and_notifier, put_arguments, name_of_check, place_of_check, put_in_parens, put_check}
-use Rattle.vl_tree.specs.Tree.{Named, Term, Word, EdgeWord, Event, Limit, Check, two_limit_check, width_check, period_check}
-use Rattle.vl_tree.proofs.AllKinds.{apart}
+use Rattle.vl_tree.specs.Tree.{Named, Term, Word, EdgeWord, Event, Limit, Check}
 use Rattle.vl_tree.proofs.AmountsExact.{limit-exact}
 use Rattle.vl_tree.proofs.AmountsPrinted.{limit_prints}
-use Rattle.vl_tree.proofs.Building.{the_mark, then, with_place, perhaps}
+use Rattle.vl_tree.proofs.Building.{with_place, perhaps}
 use Rattle.vl_tree.proofs.ChecksExact.{event-exact, arguments_of-exact, check_name-exact}
 use Rattle.vl_tree.proofs.ConditionsPrinted.{condition_prints}
 use Rattle.vl_tree.proofs.ExpressionsExact.{name-exact}
 use Rattle.vl_tree.proofs.ExpressionsPrinted.{name_prints}
 use Rattle.vl_tree.proofs.PathsExact.{term-exact, check_edge-exact}
 use Rattle.vl_tree.proofs.PathsPrinted.{term_prints, term_own, check_edge_first}
-use Rattle.vl_tree.proofs.Printed.{Prints, PrintsAt, Own, IsSpelled, at_end, token_printed, mapped_prints, seq_prints, optional_prints, placed_prints, behind_mark, before_mark, begins_with, begins_behind, own_seq, spelled_as}
+use Rattle.vl_tree.proofs.Printed.{Prints, PrintsAt, Own, IsSpelled, at_end, token_printed, mapped_prints, seq_prints, optional_prints, placed_prints, behind_mark, before_mark, begins_behind, own_seq}
 
 -- ---- events
 

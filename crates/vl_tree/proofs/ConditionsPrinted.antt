@@ -1,5 +1,5 @@
 -- What is put for the words of a condition spells it.
-use Rattle.std.proofs.Common.{◌≡◌, Bool, true, false, List, [], ◌∷◌, refl, subst}
+use Rattle.std.proofs.Common.{◌≡◌, Bool, true, [], ◌∷◌, refl, subst}
 use Rattle.std.specs.Prelude.{unwrap_or}
 use Rattle.sg_logic.specs.declared.values.Value.{Value}
 use Rattle.sg_logic.specs.declared.values.Value.TheVariants.{Zero, One, X, Z}
@@ -10,7 +10,7 @@ use Rattle.grammar.specs.Reads.{Appends}
 use Rattle.grammar.specs.Rule.{one, mapped, ◌◂◌}
 use Rattle.vl_token.specs.declared.symbols.Symbol.{Symbol}
 use Rattle.vl_token.specs.declared.symbols.Symbol.TheVariants as symbol
-use Rattle.vl_token.specs.Tokens.{Lexeme, Meaning, module_word, word_token, left_out_token, name_token, system_token, other_token, number_token, sized_token, unsized_token, pair_token, symbol_token, byte_token}
+use Rattle.vl_token.specs.Tokens.{Meaning, module_word, word_token, left_out_token, name_token, system_token, other_token, number_token, sized_token, unsized_token, pair_token, symbol_token, byte_token}
 use Rattle.vl_tree.specs.Conditions.{word_of_symbol, tok_of, word_of, index_parts, index, vocabulary, condition_parts, condition}
 use Rattle.vl_tree.specs.Expressions.{int}
 use Rattle.vl_tree.specs.Kinds.{Kind, symbol_kind, kind_of, kind_of_meaning, value_of}
@@ -23,7 +23,7 @@ use Rattle.vl_tree.proofs.Building.{IsExact, token, or}
 use Rattle.vl_tree.proofs.ConditionsExact.{index-exact}
 use Rattle.vl_tree.proofs.ExpressionsExact.{int-exact}
 use Rattle.vl_tree.proofs.ExpressionsPrinted.{int_prints}
-use Rattle.vl_tree.proofs.Printed.{Over, Prints, token_printed, either_prints, many_prints, placed_prints, before_mark, mark_first}
+use Rattle.vl_tree.proofs.Printed.{Prints, token_printed, either_prints, many_prints, placed_prints, before_mark, mark_first}
 
 abbrev is_alone : Kind → Bool
 is_alone = among.is_word vocabulary

@@ -1,5 +1,5 @@
 -- What is put for paths spells them.
-use Rattle.std.proofs.Common.{◌≡◌, Bool, true, false, List, [], ◌∷◌, refl}
+use Rattle.std.proofs.Common.{Bool, true, false, [], ◌∷◌, refl}
 use Rattle.std.specs.Prelude.{length, ◌==◌}
 use Rattle.sg_text.specs.declared.places.Place.{Place}
 use Rattle.sg_text.specs.declared.words.Keyword.TheVariants as keyword
@@ -21,7 +21,7 @@ use Rattle.vl_tree.specs.Kinds.{Kind, kind_of, is_pair, is_symbol, is_word, pair
 use Rattle.vl_tree.specs.Paths.{term_parts, term, terms_parts, terms, polarity_parts, polarity, edge_parts, edge, pair_parts, pair, check_edge_parts, check_edge, arrow_terms, data_source, destination_parts, destination, arrow_parts, arrow, Ends, ends_parts, ends, PathBody, path_body_parts, path_body, conditional_parts, conditional, path_parts, path}
 use Rattle.vl_tree.specs.Printing.{Tokens, nowhere, put_mark, mark_at, put_optional}
 use Rattle.vl_tree.specs.Rules.{mark, optional, listed}
-use Rattle.vl_tree.specs.SpecifyPrinting.{put_term, put_terms, put_words, put_delays, put_pair, put_edge, put_polarity, put_arrow, put_data_source, put_destination, put_path_opening, put_path}
+use Rattle.vl_tree.specs.SpecifyPrinting.{put_term, put_terms, put_delays, put_pair, put_edge, put_polarity, put_arrow, put_data_source, put_destination, put_path_opening, put_path}
 use Rattle.vl_tree.specs.Tree.{posedge, negedge, pairs, PathCondition, always, if_none, if_words, Destination}
 use Rattle.vl_tree.proofs.AllKinds.{apart}
 use Rattle.vl_tree.proofs.AmountsPrinted.{guarded_prints, delays_prints}

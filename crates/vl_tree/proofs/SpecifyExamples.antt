@@ -1,6 +1,6 @@
 -- Small texts of specify blocks that the rules spell, and where others fail.
-use Rattle.std.proofs.Common.{◌≡◌, ℕ, Bool, List, [], ◌∷◌, Option, Some, None, refl, true, false}
-use Rattle.std.specs.Prelude.{codes, length, pos}
+use Rattle.std.proofs.Common.{ℕ, Bool, List, [], ◌∷◌, Some, None, refl, true, false}
+use Rattle.std.specs.Prelude.{codes, pos}
 use Rattle.sg_logic.specs.declared.values.Value.TheVariants.{Zero, One, X, Z}
 use Rattle.sg_text.specs.declared.places.Place.{Place}
 use Rattle.sg_text.specs.declared.words.Keyword.{Keyword}
@@ -18,7 +18,6 @@ use Rattle.vl_token.specs.declared.symbols.Symbol.TheVariants as symbol
 use Rattle.vl_token.specs.Tokens.{Lexeme, Meaning, symbol_token, word_token, number_token, name_token, system_token, sized_token, unsized_token, pair_token}
 use Rattle.vl_tree.specs.declared.check_names.OneLimitCheck.TheVariants.{Setup}
 use Rattle.vl_tree.specs.declared.check_names.TwoLimitCheck.TheVariants.{SetupHold}
-use Rattle.vl_tree.specs.declared.expressions.Select.TheVariants.{Bit}
 use Rattle.vl_tree.specs.declared.paths.Arrow.TheVariants.{Parallel, Full}
 use Rattle.vl_tree.specs.declared.paths.Polarity.TheVariants.{Positive}
 use Rattle.vl_tree.specs.declared.specify.PulseStyle.TheVariants.{OnDetect}
@@ -29,11 +28,11 @@ use Rattle.vl_tree.specs.Conditions.{index_parts, condition_parts, condition}
 use Rattle.vl_tree.specs.Expressions.{name_parts, int_parts, select_parts, number_parts, mtm_parts}
 use Rattle.vl_tree.specs.Kinds.{kind_of, pulse_front}
 use Rattle.vl_tree.specs.Paths.{term_parts, terms_parts, polarity_parts, edge_parts, pair_parts, check_edge_parts, destination_parts, arrow_parts, ends_parts, path_body_parts, conditional_parts, path_parts}
-use Rattle.vl_tree.specs.Specify.{specparam_item_parts, path_item_parts, style_parts, style_item_parts, check_item_parts, specify_item_parts, specify_item, block_parts, block}
-use Rattle.vl_tree.specs.Tree.{Named, one_number, Term, Word, Amount, a_number, a_parameter, Amounts, one_amount, SignedAmount, Limit, one_limit, a_value, pulse_limits, posedge, pairs, always, if_words, Event, one_limit_check, two_limit_check, width_check, SpecifyItem, specparams, a_path, pulse_style, a_check}
+use Rattle.vl_tree.specs.Specify.{specparam_item_parts, path_item_parts, style_parts, style_item_parts, check_item_parts, specify_item_parts, specify_item}
+use Rattle.vl_tree.specs.Tree.{Named, one_number, Term, Word, a_number, a_parameter, Amounts, one_amount, Limit, one_limit, a_value, pulse_limits, posedge, pairs, always, if_words, Event, one_limit_check, two_limit_check, width_check, specparams, a_path, pulse_style, a_check}
 use Rattle.vl_tree.proofs.AmountsExact.{delays-exact}
 use Rattle.vl_tree.proofs.ConditionsExact.{condition-exact}
-use Rattle.vl_tree.proofs.SpecifyExact.{specify_item-exact, block-exact}
+use Rattle.vl_tree.proofs.SpecifyExact.{specify_item-exact}
 
 abbrev here : Place
 here = record { file = 0; byte = 7 }

@@ -1,7 +1,6 @@
 -- The grammar of timing checks (IEEE 1364-2005, clause 15 and annex A.7.5).
-use Rattle.std.specs.Prelude.{ℕ, suc, Bool, true, false, ◌||◌, not, nat_lt, List, Option, Some, None, unwrap_or}
+use Rattle.std.specs.Prelude.{ℕ, suc, Bool, true, false, ◌||◌, not, nat_lt, List, Option, None, unwrap_or}
 use Rattle.sg_text.specs.declared.places.Place.{Place}
-use Rattle.sg_text.specs.declared.words.Keyword.TheVariants as keyword
 use Rattle.grammar.specs.Rule.{◌∙∙◌, ◌▸◌, ◌◂◌, one, quoted, mapped, named, no_kind, followed, only_if}
 use Rattle.grammar.specs.States.{many_by}
 use Rattle.vl_token.specs.declared.symbols.Symbol.TheVariants.{AndAndAnd, Comma, LeftParen, RightParen, LeftBracket}
@@ -9,7 +8,6 @@ use Rattle.vl_tree.specs.declared.check_names.CheckName.{CheckName}
 use Rattle.vl_tree.specs.declared.check_names.CheckName.TheVariants.{OneLimit, TwoLimits, Width, Period}
 use Rattle.vl_tree.specs.declared.check_names.OneLimitCheck.{OneLimitCheck}
 use Rattle.vl_tree.specs.declared.check_names.OneLimitCheck.TheVariants.{Setup}
-use Rattle.vl_tree.specs.declared.check_names.TwoLimitCheck.{TwoLimitCheck}
 use Rattle.vl_tree.specs.Amounts.{limit}
 use Rattle.vl_tree.specs.Conditions.{condition, condition_continues}
 use Rattle.vl_tree.specs.Expressions.{name}

@@ -1,5 +1,5 @@
 -- The kinds of token that the grammar tells apart.
-use Rattle.std.specs.Prelude.{ℕ, Bool, true, false, List, [], ◌∷◌, Option, None, Some, ◌==◌, ◌||◌, ◌&&◌, not, codes, nat_eq, unwrap_or, if◌then◌else◌, pos}
+use Rattle.std.specs.Prelude.{ℕ, Bool, true, false, List, [], ◌∷◌, Option, Some, ◌==◌, ◌||◌, ◌&&◌, not, codes, nat_eq, unwrap_or, if◌then◌else◌, pos}
 use Rattle.std.specs.List.{starts_with}
 use Rattle.sg_logic.specs.declared.values.Value.{Value}
 use Rattle.sg_logic.specs.declared.values.Value.TheVariants.{Zero, One, X, Z}
@@ -121,15 +121,6 @@ abbrev pub is_initial_value : Kind → Bool
 is_initial_value (number_kind whole bit) = whole && bit
 is_initial_value (sized_kind one_bit) = true
 is_initial_value _ = false
-
--- 0, 1, or one bit with or without its width
-abbrev pub is_bit : Kind → Bool
-is_bit (number_kind whole bit) = whole && bit
-is_bit (sized_kind one_bit) = true
-is_bit (sized_kind z_bit) = true
-is_bit (unsized_kind one_bit) = true
-is_bit (unsized_kind z_bit) = true
-is_bit _ = false
 
 abbrev pub byte_number : ByteKind → ℕ
 byte_number colon_byte = 0

@@ -1,6 +1,5 @@
 -- Tokens put behind others for each part of a specify block, as `Printing` has them of other parts.
 use Rattle.std.specs.Prelude.{ℕ, Bool, true, false, List, [], ◌∷◌, Option, Some, None, codes}
-use Rattle.sg_logic.specs.declared.values.Value.{Value}
 use Rattle.sg_text.specs.declared.places.Place.{Place}
 use Rattle.sg_text.specs.declared.words.Keyword.TheVariants as keyword
 use Rattle.cond_expr.specs.declared.tokens.Op.{Op}
@@ -9,7 +8,7 @@ use Rattle.cond_expr.specs.declared.tokens.Tok.TheVariants as tok
 use Rattle.cond_expr.specs.Token.{Tok}
 use Rattle.vl_token.specs.declared.symbols.Symbol.{Symbol}
 use Rattle.vl_token.specs.declared.symbols.Symbol.TheVariants as symbol
-use Rattle.vl_token.specs.Tokens.{Meaning, name_token, system_token, number_token, sized_token, pair_token}
+use Rattle.vl_token.specs.Tokens.{name_token, system_token, number_token, sized_token, pair_token}
 use Rattle.vl_tree.specs.declared.check_names.CheckName.{CheckName}
 use Rattle.vl_tree.specs.declared.check_names.CheckName.TheVariants.{OneLimit, TwoLimits, Width, Period}
 use Rattle.vl_tree.specs.declared.check_names.OneLimitCheck.{OneLimitCheck}
@@ -23,7 +22,7 @@ use Rattle.vl_tree.specs.declared.paths.Polarity.TheVariants.{Positive, Negative
 use Rattle.vl_tree.specs.declared.specify.PulseStyle.{PulseStyle}
 use Rattle.vl_tree.specs.declared.specify.PulseStyle.TheVariants.{OnEvent, OnDetect, NoShowCancelled}
 use Rattle.vl_tree.specs.Printing.{Tokens, nowhere, put_token, mark_at, put_mark, word_at, put_word, put_optional, put_many, behind_comma, put_listed, put_name, put_int, put_select, put_mtm}
-use Rattle.vl_tree.specs.Tree.{Named, MinTypMax, Term, Word, Amount, a_number, a_parameter, Amounts, one_amount, three_amounts, SignedAmount, Limit, one_limit, three_limits, Specparam, a_value, pulse_limits, EdgeWord, posedge, negedge, pairs, PathCondition, always, if_none, if_words, DataSource, Destination, SpecifyPath, Event, Check, one_limit_check, two_limit_check, width_check, period_check, SpecifyItem, specparams, a_path, pulse_style, a_check, SpecifyBlock}
+use Rattle.vl_tree.specs.Tree.{Named, Term, Word, Amount, a_number, a_parameter, Amounts, one_amount, three_amounts, SignedAmount, Limit, one_limit, three_limits, Specparam, a_value, pulse_limits, EdgeWord, posedge, negedge, pairs, PathCondition, always, if_none, if_words, DataSource, Destination, SpecifyPath, Event, Check, one_limit_check, two_limit_check, width_check, period_check, SpecifyItem, specparams, a_path, pulse_style, a_check, SpecifyBlock}
 
 abbrev pub put_term : Term → Tokens → Tokens
 put_term t out = put_optional put_select t.select (put_name t.name out)
