@@ -12,7 +12,7 @@ use Rattle.udp_rows.specs.declared.cells.Cell.{Cell}
 use Rattle.udp_rows.specs.declared.cells.RawRow.{RawRow}
 use Rattle.vl_token.specs.declared.symbols.Symbol.{Symbol}
 use Rattle.vl_token.specs.declared.symbols.Symbol.TheVariants as symbol
-use Rattle.vl_token.specs.Tokens.{Lexeme, Meaning, module_word, word_token, name_token, number_token, sized_token, symbol_token, byte_token}
+use Rattle.vl_token.specs.Tokens.{Lexeme, Meaning, word_token, name_token, number_token, sized_token, symbol_token, byte_token}
 use Rattle.vl_tree.specs.declared.expressions.Select.{Select}
 use Rattle.vl_tree.specs.declared.expressions.Select.TheVariants.{Bit, Part}
 use Rattle.vl_tree.specs.declared.names.Direction.{Direction}

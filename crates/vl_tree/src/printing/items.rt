@@ -300,7 +300,7 @@ impl<'a> Print<'a> for Item<'a> {
                 print_optional(out, delay)?;
                 print_listed(out, instances.as_slice())?;
             }
-            Item::Specify(_) => return Err(NoMemory),
+            Item::Specify(block) => return block.print(out),
         }
         symbol(out, Symbol::Semicolon)
     }
