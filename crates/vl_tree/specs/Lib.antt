@@ -16,4 +16,5 @@ pub mod Primitives
 pub mod Modules
 pub mod Printing
 pub mod SpecifyPrinting
+pub mod ModulesPrinting
 pub mod Printed

@@ -57,7 +57,7 @@ use Rattle.vl_tree.specs.declared.specify.Specparam as code_specparam
 use Rattle.vl_tree.specs.declared.specify.Specparam.TheVariants as specparam
 use Rattle.vl_tree.specs.declared.specify.Term as code_term
 use Rattle.vl_tree.specs.declared.specify.Word as code_word
-use Rattle.vl_tree.specs.Tree.{Named, Expression, signal, sized, concatenation, expressions, MinTypMax, one_number, three_numbers, Delay, NetName, Join, GateInstance, NamedConnection, Connections, by_order, by_name, Instance, Item, ports, nets, supplies, registers, assigns, gates, instances, PortDeclaration, HeadPort, declared_port, named_port, Head, head_names, head_declarations, Module, PrimitiveDeclaration, output_port, output_register, input_ports, Initial, Primitive, Part, a_module, a_primitive, Source, Term, Word, Amount, a_number, a_parameter, Amounts, one_amount, three_amounts, SignedAmount, Limit, one_limit, three_limits, Specparam, a_value, pulse_limits, EdgeWord, posedge, negedge, pairs, PathCondition, always, if_none, if_words, DataSource, Destination, SpecifyPath, Event, Check, one_limit_check, two_limit_check, width_check, period_check, SpecifyItem, specparams, a_path, pulse_style, a_check, SpecifyBlock}
+use Rattle.vl_tree.specs.Tree.{Named, Expression, signal, sized, concatenation, expressions, MinTypMax, one_number, three_numbers, Delay, NetName, Join, GateInstance, NamedConnection, Connections, by_order, by_name, Instance, Item, ports, nets, supplies, registers, assigns, gates, instances, specify_block, PortDeclaration, HeadPort, declared_port, named_port, Head, head_names, head_declarations, Module, PrimitiveDeclaration, output_port, output_register, input_ports, Initial, Primitive, Part, a_module, a_primitive, Source, Term, Word, Amount, a_number, a_parameter, Amounts, one_amount, three_amounts, SignedAmount, Limit, one_limit, three_limits, Specparam, a_value, pulse_limits, EdgeWord, posedge, negedge, pairs, PathCondition, always, if_none, if_words, DataSource, Destination, SpecifyPath, Event, Check, one_limit_check, two_limit_check, width_check, period_check, SpecifyItem, specparams, a_path, pulse_style, a_check, SpecifyBlock}
 
 abbrev pub view_name : code_name.Name → Named
 view_name n = record { text = n.text.now; place = n.place }
@@ -96,47 +96,6 @@ view_connections (connections.Named v) = by_name (map view_named_connection v.it
 
 abbrev pub view_instance : code_instance.Instance → Instance
 view_instance i = record { place = i.place; name = option_map view_name i.name; connections = view_connections i.connections }
-
-abbrev pub view_item : code_item.Item → Item
-view_item (item.Ports p d n r ns) = ports p d n r (map view_name ns.items)
-view_item (item.Nets p n r ns) = nets p n r (map view_net_name ns.items)
-view_item (item.Supplies p s r ns) = supplies p s r (map view_name ns.items)
-view_item (item.Registers p ns) = registers p (map view_name ns.items)
-view_item (item.Assigns p js) = assigns p (map view_join js.items)
-view_item (item.Gates p g d gs) = gates p g (option_map view_delay d) (map view_gate_instance gs.items)
-view_item (item.Instances m d is) = instances (view_name m) (option_map view_delay d) (map view_instance is.items)
-
-abbrev pub view_port_declaration : code_declaration.PortDeclaration → PortDeclaration
-view_port_declaration d = record { place = d.place; direction = d.direction; net = d.net; range = d.range; name = view_name d.name }
-
-abbrev pub view_head_port : code_port.HeadPort → HeadPort
-view_head_port (port.Declaration d) = declared_port (view_port_declaration d)
-view_head_port (port.Name n) = named_port (view_name n)
-
-abbrev pub view_head : code_head.Head → Head
-view_head (head.Names ns) = head_names (map view_name ns.items)
-view_head (head.Declarations d ps) = head_declarations (view_port_declaration d) (map view_head_port ps.items)
-
-abbrev pub view_module : code_module.Module → Module
-view_module m = record { place = m.place; settings = settings m.mark; name = view_name m.name; head = option_map (option_map view_head) m.head; items = map view_item m.items.items }
-
-abbrev pub view_primitive_declaration : code_pdec.PrimitiveDeclaration → PrimitiveDeclaration
-view_primitive_declaration (pdec.Output p r n) = output_port p r (view_name n)
-view_primitive_declaration (pdec.Register p n) = output_register p (view_name n)
-view_primitive_declaration (pdec.Inputs p ns) = input_ports p (map view_name ns.items)
-
-abbrev pub view_initial : code_initial.Initial → Initial
-view_initial i = record { place = i.place; name = view_name i.name; value = i.value }
-
-abbrev pub view_primitive : code_primitive.Primitive → Primitive
-view_primitive p = record { place = p.place; name = view_name p.name; ports = map view_name p.ports.items; declarations = map view_primitive_declaration p.declarations.items; initial = option_map view_initial p.initial; rows = p.rows.items }
-
-abbrev pub view_part : code_part.Part → Part
-view_part (part.Module m) = a_module (view_module m)
-view_part (part.Primitive p) = a_primitive (view_primitive p)
-
-abbrev pub view_source : code_source.Source → Source
-view_source s = map view_part s.parts.items
 
 -- ---- specify blocks
 
@@ -201,3 +160,47 @@ view_specify_item (specify_item.Check c) = a_check (view_check c)
 
 abbrev pub view_block : code_block.SpecifyBlock → SpecifyBlock
 view_block b = record { place = b.place; items = map view_specify_item b.items.items }
+
+-- ---- modules and primitives
+
+abbrev pub view_item : code_item.Item → Item
+view_item (item.Ports p d n r ns) = ports p d n r (map view_name ns.items)
+view_item (item.Nets p n r ns) = nets p n r (map view_net_name ns.items)
+view_item (item.Supplies p s r ns) = supplies p s r (map view_name ns.items)
+view_item (item.Registers p ns) = registers p (map view_name ns.items)
+view_item (item.Assigns p js) = assigns p (map view_join js.items)
+view_item (item.Gates p g d gs) = gates p g (option_map view_delay d) (map view_gate_instance gs.items)
+view_item (item.Instances m d is) = instances (view_name m) (option_map view_delay d) (map view_instance is.items)
+view_item (item.Specify b) = specify_block (view_block b)
+
+abbrev pub view_port_declaration : code_declaration.PortDeclaration → PortDeclaration
+view_port_declaration d = record { place = d.place; direction = d.direction; net = d.net; range = d.range; name = view_name d.name }
+
+abbrev pub view_head_port : code_port.HeadPort → HeadPort
+view_head_port (port.Declaration d) = declared_port (view_port_declaration d)
+view_head_port (port.Name n) = named_port (view_name n)
+
+abbrev pub view_head : code_head.Head → Head
+view_head (head.Names ns) = head_names (map view_name ns.items)
+view_head (head.Declarations d ps) = head_declarations (view_port_declaration d) (map view_head_port ps.items)
+
+abbrev pub view_module : code_module.Module → Module
+view_module m = record { place = m.place; settings = settings m.mark; name = view_name m.name; head = option_map (option_map view_head) m.head; items = map view_item m.items.items }
+
+abbrev pub view_primitive_declaration : code_pdec.PrimitiveDeclaration → PrimitiveDeclaration
+view_primitive_declaration (pdec.Output p r n) = output_port p r (view_name n)
+view_primitive_declaration (pdec.Register p n) = output_register p (view_name n)
+view_primitive_declaration (pdec.Inputs p ns) = input_ports p (map view_name ns.items)
+
+abbrev pub view_initial : code_initial.Initial → Initial
+view_initial i = record { place = i.place; name = view_name i.name; value = i.value }
+
+abbrev pub view_primitive : code_primitive.Primitive → Primitive
+view_primitive p = record { place = p.place; name = view_name p.name; ports = map view_name p.ports.items; declarations = map view_primitive_declaration p.declarations.items; initial = option_map view_initial p.initial; rows = p.rows.items }
+
+abbrev pub view_part : code_part.Part → Part
+view_part (part.Module m) = a_module (view_module m)
+view_part (part.Primitive p) = a_primitive (view_primitive p)
+
+abbrev pub view_source : code_source.Source → Source
+view_source s = map view_part s.parts.items

@@ -75,62 +75,6 @@ pub record Instance : Type 0 where
   pub name : Option Named
   pub connections : Connections
 
-pub data Item : Type 0 where
-  ports : Place → Direction → Option NetType → Option Range → List Named → Item
-  nets : Place → NetType → Option Range → List NetName → Item
-  supplies : Place → Supply → Option Range → List Named → Item
-  registers : Place → List Named → Item
-  assigns : Place → List Join → Item
-  gates : Place → GateKind → Option Delay → List GateInstance → Item
-  instances : Named → Option Delay → List Instance → Item
-
-pub record PortDeclaration : Type 0 where
-  pub place : Place
-  pub direction : Direction
-  pub net : Option NetType
-  pub range : Option Range
-  pub name : Named
-
-pub data HeadPort : Type 0 where
-  declared_port : PortDeclaration → HeadPort
-  named_port : Named → HeadPort
-
-pub data Head : Type 0 where
-  head_names : List Named → Head
-  head_declarations : PortDeclaration → List HeadPort → Head
-
-pub record Module : Type 0 where
-  pub place : Place
-  pub settings : Settings
-  pub name : Named
-  pub head : Option (Option Head)
-  pub items : List Item
-
-pub data PrimitiveDeclaration : Type 0 where
-  output_port : Place → (register : Bool) → Named → PrimitiveDeclaration
-  output_register : Place → Named → PrimitiveDeclaration
-  input_ports : Place → List Named → PrimitiveDeclaration
-
-pub record Initial : Type 0 where
-  pub place : Place
-  pub name : Named
-  pub value : Value
-
-pub record Primitive : Type 0 where
-  pub place : Place
-  pub name : Named
-  pub ports : List Named
-  pub declarations : List PrimitiveDeclaration
-  pub initial : Option Initial
-  pub rows : List RawRow
-
-pub data Part : Type 0 where
-  a_module : Module → Part
-  a_primitive : Primitive → Part
-
-abbrev pub Source : Type 0
-Source = List Part
-
 -- ---- specify blocks
 
 -- a net, a bit of it, or several
@@ -213,3 +157,62 @@ pub data SpecifyItem : Type 0 where
 pub record SpecifyBlock : Type 0 where
   pub place : Place
   pub items : List SpecifyItem
+
+-- ---- modules and primitives
+
+pub data Item : Type 0 where
+  ports : Place → Direction → Option NetType → Option Range → List Named → Item
+  nets : Place → NetType → Option Range → List NetName → Item
+  supplies : Place → Supply → Option Range → List Named → Item
+  registers : Place → List Named → Item
+  assigns : Place → List Join → Item
+  gates : Place → GateKind → Option Delay → List GateInstance → Item
+  instances : Named → Option Delay → List Instance → Item
+  specify_block : SpecifyBlock → Item
+
+pub record PortDeclaration : Type 0 where
+  pub place : Place
+  pub direction : Direction
+  pub net : Option NetType
+  pub range : Option Range
+  pub name : Named
+
+pub data HeadPort : Type 0 where
+  declared_port : PortDeclaration → HeadPort
+  named_port : Named → HeadPort
+
+pub data Head : Type 0 where
+  head_names : List Named → Head
+  head_declarations : PortDeclaration → List HeadPort → Head
+
+pub record Module : Type 0 where
+  pub place : Place
+  pub settings : Settings
+  pub name : Named
+  pub head : Option (Option Head)
+  pub items : List Item
+
+pub data PrimitiveDeclaration : Type 0 where
+  output_port : Place → (register : Bool) → Named → PrimitiveDeclaration
+  output_register : Place → Named → PrimitiveDeclaration
+  input_ports : Place → List Named → PrimitiveDeclaration
+
+pub record Initial : Type 0 where
+  pub place : Place
+  pub name : Named
+  pub value : Value
+
+pub record Primitive : Type 0 where
+  pub place : Place
+  pub name : Named
+  pub ports : List Named
+  pub declarations : List PrimitiveDeclaration
+  pub initial : Option Initial
+  pub rows : List RawRow
+
+pub data Part : Type 0 where
+  a_module : Module → Part
+  a_primitive : Primitive → Part
+
+abbrev pub Source : Type 0
+Source = List Part
