@@ -1,7 +1,7 @@
 -- The specify paths to an output's bit (IEEE 1364-2005, clause 14).
 use Rattle.std.specs.Prelude.{ℕ, List, Option}
 use Rattle.sg_logic.specs.declared.edges.Edge.{Edge}
-use Rattle.cond_expr.specs.declared.tokens.Tok.{Tok}
+use Rattle.cond_expr.specs.Token.{Tok}
 use Rattle.cond_expr.specs.Tree.{Cond}
 use Rattle.sg_circuit.specs.Circuit.{Timing}
 
