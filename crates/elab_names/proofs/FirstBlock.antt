@@ -5,7 +5,7 @@ use Rattle.std.proofs.Common.{ap, arith}
 use Rattle.sg_text.specs.declared.places.Place.{Place}
 use Rattle.vl_tree.specs.Tree.{SpecifyBlock}
 use Rattle.elab_model.specs.declared.kinds.ElabKind.TheVariants.{NotYet}
-use Rattle.elab_model.specs.Faults.{Fault, fault}
+use Rattle.elab_model.specs.Faults.{fault}
 use Rattle.elab_names.specs.Words.{first_of}
 
 pub no-block : (bs : List SpecifyBlock) → None ≡ first_of (map (λ b. b.place) bs) → map (λ b. fault NotYet b.place) bs ≡ []
