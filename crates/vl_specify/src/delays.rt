@@ -67,15 +67,17 @@ fn several_delays<'a>(
 ) -> Result<(Vec<Amounts<'a>>, usize), ReadFault>
     ensures { Gives (λ x. (map view_amounts x.0.items, x.1)) result ((mapped (λ x. x.0 ∷ x.1) (amounts.path_delay ∙∙ amounts.more_delays limited)).read (map lexeme tokens.now) at) }
 {
+    let mut delays = Vec::new(alloc);
     let (first, mut next) = path_delay(tokens, at)?;
-    let mut delays = Vec::with_capacity(alloc, 1)?;
     delays.push(first)?;
-    'more: while delay_comes(tokens, next, limited, delays.len()) {
-        let (one, behind) = next_delay(tokens, next)?;
-        delays.push(one)?;
-        next = behind;
+    let mut count = 1usize;
+    'more: while delay_comes(tokens, next, limited, count) {
+        let read = next_delay(tokens, next)?;
+        delays.push(read.0)?;
+        count = delays.len();
+        next = read.1;
     }
-    if !may_close(limited, delays.len()) {
+    if !may_close(limited, count) {
         return Err(ReadFault::At(next));
     }
     delays.shrink_to_fit();

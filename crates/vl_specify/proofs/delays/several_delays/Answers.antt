@@ -9,18 +9,23 @@ use Rattle.vl_specify.proofs.delays.several_delays.Goals as goal
 pub returns-in_err-one : goal.returns-in_err-one
 returns-in_err-one c =
     let p = err_from_is_err_and c.from_residual-in_err-one.result c.from_residual-in_err-one.ensures.1 in
-    rw (p.1, p.2) (delays_fail c.args.limited (map lexeme c.args.tokens.now) view_amounts c.more.next c.len.result c.more.delays.items (omega arith) _ _ (sym c.delay_comes.ensures ∙ c.more-test.true) c.in_err-one.ensures c.more.invariant)
+    rw (p.1, p.2) (delays_fail c.args.limited (map lexeme c.args.tokens.now) view_amounts c.more.next c.more.count c.more.delays.items c.more.invariant.counted _ _ (sym c.delay_comes.ensures ∙ c.more-test.true) c.in_err-one.ensures c.more.invariant.all)
 
 pub more-smaller : goal.more-smaller
-more-smaller c = delays_advance c.args.limited (map lexeme c.args.tokens.now) view_amounts c.more.next c.len.result c.more.delays.items (omega arith) _ _ (sym c.delay_comes.ensures ∙ c.more-test.true) c.in_ok-one.ensures
+more-smaller c = delays_advance c.args.limited (map lexeme c.args.tokens.now) view_amounts c.more.next c.more.count c.more.delays.items c.more.invariant.counted _ _ (sym c.delay_comes.ensures ∙ c.more-test.true) c.in_ok-one.ensures
 
 pub more-preserved : goal.more-preserved
-more-preserved c = rw c.in_ok-push-2.ensures.items (delays_go_on c.args.limited (map lexeme c.args.tokens.now) view_amounts c.more.next c.len.result c.more.delays.items (omega arith) _ _ _ (sym c.delay_comes.ensures ∙ c.more-test.true) c.in_ok-one.ensures c.more.invariant)
+more-preserved c =
+    let items = c.in_ok-push-2.ensures.items in
+    record {
+      all = rw items (delays_go_on c.args.limited (map lexeme c.args.tokens.now) view_amounts c.more.next c.more.count c.more.delays.items c.more.invariant.counted _ _ _ (sym c.delay_comes.ensures ∙ c.more-test.true) c.in_ok-one.ensures c.more.invariant.all);
+      counted = omega (arith, c.len.ensures, c.in_ok-push-2.new.ok.0);
+    }
 
 pub returns-then-not-may_close : goal.returns-then-not-may_close
-returns-then-not-may_close c = delays_refused c.args.limited (map lexeme c.args.tokens.now) view_amounts c.more.next c.len.result c.more.delays.items (omega arith) _ c.len-2.result (omega arith) (sym c.delay_comes.ensures ∙ c.more-test.false) c.more.invariant (sym c.may_close.ensures ∙ c.if-not-may_close.true)
+returns-then-not-may_close c = delays_refused c.args.limited (map lexeme c.args.tokens.now) view_amounts c.more.next c.more.count c.more.delays.items c.more.invariant.counted _ c.more.count c.more.invariant.counted (sym c.delay_comes.ensures ∙ c.more-test.false) c.more.invariant.all (sym c.may_close.ensures ∙ c.if-not-may_close.true)
 
 pub returns : goal.returns
 returns c =
     rw c.shrink_to_fit.ensures.items
-    (delays_end c.args.limited (map lexeme c.args.tokens.now) view_amounts c.more.next c.len.result c.more.delays.items (omega arith) _ c.len-2.result (omega arith) (sym c.delay_comes.ensures ∙ c.more-test.false) c.more.invariant (sym c.may_close.ensures ∙ c.if-not-may_close.false))
+    (delays_end c.args.limited (map lexeme c.args.tokens.now) view_amounts c.more.next c.more.count c.more.delays.items c.more.invariant.counted _ c.more.count c.more.invariant.counted (sym c.delay_comes.ensures ∙ c.more-test.false) c.more.invariant.all (sym c.may_close.ensures ∙ c.if-not-may_close.false))
