@@ -6,20 +6,20 @@ use Rattle.vl_tree.specs.Seen.{view_amounts}
 use Rattle.vl_specify.proofs.DelayLists.{delays_begin, delays_go_on, delays_fail, delays_advance, delays_end, delays_refused}
 use Rattle.vl_specify.proofs.delays.several_delays.Goals as goal
 
-pub returns-in_err-one : goal.returns-in_err-one
-returns-in_err-one c =
-    let p = err_from_is_err_and c.from_residual-in_err-one.result c.from_residual-in_err-one.ensures.1 in
-    rw (p.1, p.2) (delays_fail c.args.limited (map lexeme c.args.tokens.now) view_amounts c.more.next c.more.count c.more.delays.items c.more.invariant.counted _ _ (sym c.delay_comes.ensures ∙ c.more-test.true) c.in_err-one.ensures c.more.invariant.all)
+pub returns-in_err-next : goal.returns-in_err-next
+returns-in_err-next c =
+    let p = err_from_is_err_and c.from_residual-in_err-next.result c.from_residual-in_err-next.ensures.1 in
+    rw (p.1, p.2) (delays_fail c.args.limited (map lexeme c.args.tokens.now) view_amounts c.more.next c.more.count c.more.delays.items c.more.invariant.counted _ _ (sym c.delay_comes.ensures ∙ c.more-test.true) c.in_err-next.ensures c.more.invariant.all)
 
 pub more-smaller : goal.more-smaller
-more-smaller c = delays_advance c.args.limited (map lexeme c.args.tokens.now) view_amounts c.more.next c.more.count c.more.delays.items c.more.invariant.counted _ _ (sym c.delay_comes.ensures ∙ c.more-test.true) c.in_ok-one.ensures
+more-smaller c = delays_advance c.args.limited (map lexeme c.args.tokens.now) view_amounts c.more.next c.more.count c.more.delays.items c.more.invariant.counted _ _ (sym c.delay_comes.ensures ∙ c.more-test.true) c.in_ok-next.ensures.2
 
 pub more-preserved : goal.more-preserved
 more-preserved c =
-    let items = c.in_ok-push-2.ensures.items in
+    let items = c.in_ok-next.ensures.1 in
     record {
-      all = rw items (delays_go_on c.args.limited (map lexeme c.args.tokens.now) view_amounts c.more.next c.more.count c.more.delays.items c.more.invariant.counted _ _ _ (sym c.delay_comes.ensures ∙ c.more-test.true) c.in_ok-one.ensures c.more.invariant.all);
-      counted = omega (arith, c.len.ensures, c.in_ok-push-2.new.ok.0);
+      all = rw items (delays_go_on c.args.limited (map lexeme c.args.tokens.now) view_amounts c.more.next c.more.count c.more.delays.items c.more.invariant.counted _ _ _ (sym c.delay_comes.ensures ∙ c.more-test.true) c.in_ok-next.ensures.2 c.more.invariant.all);
+      counted = omega (arith, c.len-count.ensures, c.add_delay.new.delays.ok.0);
     }
 
 pub returns-then-not-may_close : goal.returns-then-not-may_close
