@@ -3,7 +3,7 @@ use Rattle.std.proofs.Common.{map, sym, ◌∙◌, arith}
 use Rattle.std.proofs.lemmas.Result.{err_from_is_err_and}
 use Rattle.vl_token.specs.Seen.{lexeme}
 use Rattle.vl_tree.specs.Seen.{view_amounts}
-use Rattle.vl_specify.proofs.DelayLists.{delays_begin, delays_go_on, delays_fail, delays_advance, delays_end, delays_refused}
+use Rattle.vl_specify.proofs.DelayLists.{delays_go_on, delays_fail, delays_advance, delays_end, delays_refused}
 use Rattle.vl_specify.proofs.delays.several_delays.Goals as goal
 
 pub returns-in_err-next : goal.returns-in_err-next
