@@ -1,19 +1,18 @@
 -- Reading the delays of a list, as a loop does that keeps them.
-use Rattle.std.proofs.Common.{◌≡◌, ℕ, suc, ◌+◌, ◌-◌, ◌<◌, Bool, true, false, List, [], ◌∷◌, ◌++◌, length, map, Option, Some, None, Result, Ok, Err, refl, sym, subst, ◌∙◌, arith}
+use Rattle.std.proofs.Common.{◌≡◌, ℕ, suc, ◌-◌, ◌<◌, Bool, true, false, List, [], ◌∷◌, ◌++◌, length, map, Option, Some, None, Result, Ok, Err, refl, sym, subst, ◌∙◌, arith}
 use Rattle.std.specs.Prelude.{◌||◌, nat_lt, not, slice_get}
 use Rattle.std.proofs.lemmas.List.{length-append}
 use Rattle.grammar.specs.Reading.{◌>>=◌, Fails}
-use Rattle.grammar.specs.Rule.{◌∙∙◌, ◌▸◌, is_of, mapped, only_if, stands}
+use Rattle.grammar.specs.Rule.{◌∙∙◌, is_of, mapped, only_if, stands}
 use Rattle.grammar.specs.declared.ReadFault.{ReadFault}
 use Rattle.grammar.specs.declared.ReadFault.TheVariants as faults
 use Rattle.grammar.proofs.Loops.{collected}
 use Rattle.grammar.proofs.LoopsBy.{rest_of_by, by_goes_on, by_fails, by_ends, by_refused, by_advances}
-use Rattle.vl_token.specs.declared.symbols.Symbol.TheVariants.{Comma}
 use Rattle.vl_token.specs.Tokens.{Lexeme}
 use Rattle.vl_tree.specs.Amounts.{delays_continue, may_close, more_delays, next_delay, path_delay}
 use Rattle.vl_tree.specs.Kinds.{kind_of}
-use Rattle.vl_tree.specs.Rules.{Grammar, mark}
 use Rattle.vl_tree.specs.Tree.{Amounts}
+use Rattle.vl_specify.specs.Delays.{comma_delay}
 use Rattle.vl_tree.proofs.AmountsExact.{next_delay-exact, next_delay-full}
 
 module _ {X : Type 0} (limited : Bool) (ts : List Lexeme) (view : X → Amounts) where
@@ -33,10 +32,6 @@ module _ {X : Type 0} (limited : Bool) (ts : List Lexeme) (view : X → Amounts)
       go : (r : Result (List Amounts × ℕ) ℕ) → (r >>= collected (view first ∷ [])) ≡ (r >>= with_first (view first)) >>= joined
       go (Ok y) = refl
       go (Err e) = refl
-
-  -- a delay and the comma before it
-  abbrev pub comma_delay : Grammar Amounts
-  comma_delay = mark Comma ▸ path_delay
 
   never : (o : Option Lexeme) → is_of kind_of (λ k. false) o ≡ true → ⊥
   never None h = cc

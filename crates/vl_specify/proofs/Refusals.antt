@@ -1,5 +1,5 @@
 -- Where a block is refused, and of which kind the fault is.
-use Rattle.std.proofs.Common.{◌≡◌, ℕ, suc, ◌+◌, ◌<◌, ◌≤◌, Bool, true, false, List, Option, Some, None, Result, Ok, Err, refl, sym, ap, ◌∙◌, arith, inl, inr}
+use Rattle.std.proofs.Common.{◌≡◌, ℕ, ◌+◌, ◌<◌, ◌≤◌, true, false, List, Some, None, Ok, Err, refl, arith, inl, inr}
 use Rattle.std.specs.Prelude.{◌↔◌, slice_get}
 use Rattle.std.proofs.lemmas.Bool.{cases_lt}
 use Rattle.sg_text.specs.declared.places.Place.{Place}
@@ -9,7 +9,6 @@ use Rattle.grammar.proofs.Extents.{Begins-le}
 use Rattle.grammar.proofs.ReadsFrom.{one_from, from_failed}
 use Rattle.vl_token.specs.Tokens.{Lexeme}
 use Rattle.vl_tree.specs.Kinds.{kind_of}
-use Rattle.vl_tree.specs.Seen.{view_block}
 use Rattle.vl_tree.specs.Specify.{block}
 use Rattle.vl_tree.specs.Tree.{SpecifyBlock}
 use Rattle.vl_tree.proofs.SpecifyExact.{block-exact}

@@ -1,5 +1,5 @@
 -- Reading arguments that may not be filled, as a loop does that keeps only how many they are.
-use Rattle.std.proofs.Common.{◌≡◌, ℕ, suc, ◌+◌, ◌-◌, ◌<◌, Bool, true, false, List, [], ◌∷◌, length, Option, Result, Ok, Err, refl, sym, ap, subst, ◌∙◌, arith}
+use Rattle.std.proofs.Common.{◌≡◌, ℕ, suc, ◌+◌, ◌-◌, ◌<◌, Bool, true, false, List, [], length, Option, Result, Ok, Err, refl, sym, ap, subst, ◌∙◌, arith}
 use Rattle.grammar.specs.Reading.{◌>>=◌, Fails}
 use Rattle.grammar.specs.Rule.{◌◂◌, stands}
 use Rattle.grammar.specs.States.{many_by}

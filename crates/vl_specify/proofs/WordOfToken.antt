@@ -1,5 +1,5 @@
 -- The word of a condition that a token is alone.
-use Rattle.std.proofs.Common.{◌≡◌, ℕ, Bool, true, false, List, [], ◌∷◌, Option, Some, None, Result, Ok, Err, refl, sym, ap, ◌∙◌}
+use Rattle.std.proofs.Common.{◌≡◌, ℕ, Bool, true, false, List, [], ◌∷◌, Option, Some, None, Ok, refl}
 use Rattle.std.specs.Prelude.{slice_get, if◌then◌else◌}
 use Rattle.std.specs.Option.{option_map}
 use Rattle.cond_expr.specs.Token.{Tok}
@@ -10,10 +10,10 @@ use Rattle.sg_logic.specs.declared.values.Value.{Value}
 use Rattle.sg_logic.specs.declared.values.Value.TheVariants.{Zero, One, X, Z}
 use Rattle.vl_token.specs.declared.symbols.Symbol.{Symbol}
 use Rattle.vl_token.specs.declared.symbols.Symbol.TheVariants as symbol
-use Rattle.vl_token.specs.Tokens.{Lexeme, Meaning, symbol_token, sized_token, unsized_token}
+use Rattle.vl_token.specs.Tokens.{Lexeme, symbol_token, sized_token, unsized_token}
 use Rattle.vl_tree.specs.declared.specify.Word as code
 use Rattle.vl_tree.specs.Conditions.{vocabulary, tok_of, word_of_symbol}
-use Rattle.vl_tree.specs.Kinds.{kind_of, kind_of_meaning}
+use Rattle.vl_tree.specs.Kinds.{kind_of}
 use Rattle.vl_tree.specs.Seen.{view_word}
 use Rattle.vl_specify.specs.Words.{seen, single_bit, word_alone}
 

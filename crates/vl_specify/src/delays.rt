@@ -8,6 +8,7 @@ ghost use Rattle.vl_tree.specs.Amounts as amounts;
 ghost use Rattle.vl_tree.specs.Kinds.{kind_of};
 ghost use Rattle.vl_tree.specs.Rules as rules;
 ghost use Rattle.vl_tree.specs.Seen.{view_amounts};
+ghost use Rattle.vl_specify.specs.Delays.{IsAdded};
 
 use crate::amounts::{amount_stands, amounts};
 use grammar::ReadFault;
@@ -58,6 +59,19 @@ fn next_delay<'a>(tokens: &[Token<'a>], at: usize) -> Result<(Amounts<'a>, usize
     path_delay(tokens, next)
 }
 
+/// Reads `"," path-delay` onto the end of a list. Answers the position behind.
+fn add_delay<'a>(
+    delays: &mut Vec<Amounts<'a>>,
+    tokens: &[Token<'a>],
+    at: usize,
+) -> Result<usize, ReadFault>
+    ensures { IsAdded (map lexeme tokens.now) at delays.old.items delays.new.items result }
+{
+    let (delay, next) = next_delay(tokens, at)?;
+    delays.push(delay)?;
+    Ok(next)
+}
+
 /// `path-delay { "," path-delay }`, of an allowed number where that is limited.
 fn several_delays<'a>(
     alloc: Global,
@@ -70,12 +84,12 @@ fn several_delays<'a>(
     let (first, mut next) = path_delay(tokens, at)?;
     let mut delays = Vec::with_capacity(alloc, 1)?;
     delays.push(first)?;
-    'more: while delay_comes(tokens, next, limited, delays.len()) {
-        let (one, behind) = next_delay(tokens, next)?;
-        delays.push(one)?;
-        next = behind;
+    let mut count = 1usize;
+    'more: while delay_comes(tokens, next, limited, count) {
+        next = add_delay(&mut delays, tokens, next)?;
+        count = delays.len();
     }
-    if !may_close(limited, delays.len()) {
+    if !may_close(limited, count) {
         return Err(ReadFault::At(next));
     }
     delays.shrink_to_fit();

@@ -1,7 +1,7 @@
 -- Each way out is one of the steps.
 use Rattle.std.proofs.Common.{Some, map, sym, ◌∙◌}
 use Rattle.cond_expr.proofs.MappedNames.{kind_of_mapped}
-use Rattle.cond_expr.proofs.WordSteps.{index_taken, index_refused, index_fails, no_word_stands, word_refused, word_taken}
+use Rattle.cond_expr.proofs.WordSteps.{index_taken, no_word_stands, word_refused, word_taken}
 use Rattle.vl_token.specs.Seen.{lexeme}
 use Rattle.vl_tree.specs.Conditions.{vocabulary}
 use Rattle.vl_tree.specs.Seen.{view_word}
