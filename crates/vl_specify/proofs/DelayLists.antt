@@ -2,14 +2,13 @@
 use Rattle.std.proofs.Common.{◌≡◌, ℕ, suc, ◌-◌, ◌<◌, Bool, true, false, List, [], ◌∷◌, ◌++◌, length, map, Option, Some, None, Result, Ok, Err, refl, sym, subst, ◌∙◌, arith}
 use Rattle.std.specs.Prelude.{◌||◌, nat_lt, not, slice_get}
 use Rattle.std.proofs.lemmas.List.{length-append}
-use Rattle.grammar.specs.Reading.{◌>>=◌, Fails}
-use Rattle.grammar.specs.Rule.{◌∙∙◌, is_of, mapped, only_if, stands}
+use Rattle.grammar.specs.Reading.{Fails}
+use Rattle.grammar.specs.Rule.{is_of, only_if, stands}
 use Rattle.grammar.specs.declared.ReadFault.{ReadFault}
 use Rattle.grammar.specs.declared.ReadFault.TheVariants as faults
-use Rattle.grammar.proofs.Loops.{collected}
 use Rattle.grammar.proofs.LoopsBy.{rest_of_by, by_goes_on, by_fails, by_ends, by_refused, by_advances}
 use Rattle.vl_token.specs.Tokens.{Lexeme}
-use Rattle.vl_tree.specs.Amounts.{delays_continue, may_close, more_delays, next_delay, path_delay}
+use Rattle.vl_tree.specs.Amounts.{delays_continue, may_close, next_delay}
 use Rattle.vl_tree.specs.Kinds.{kind_of}
 use Rattle.vl_tree.specs.Tree.{Amounts}
 use Rattle.vl_specify.specs.Delays.{comma_delay}
