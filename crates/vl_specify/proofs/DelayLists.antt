@@ -2,14 +2,13 @@
 use Rattle.std.proofs.Common.{◌≡◌, ℕ, suc, ◌-◌, ◌<◌, Bool, true, false, List, [], ◌∷◌, ◌++◌, length, map, Option, Some, None, Result, Ok, Err, refl, sym, subst, ◌∙◌, arith}
 use Rattle.std.specs.Prelude.{◌||◌, nat_lt, not, slice_get}
 use Rattle.std.proofs.lemmas.List.{length-append}
-use Rattle.grammar.specs.Reading.{◌>>=◌, Fails}
-use Rattle.grammar.specs.Rule.{◌∙∙◌, is_of, mapped, only_if, stands}
+use Rattle.grammar.specs.Reading.{Fails}
+use Rattle.grammar.specs.Rule.{is_of, only_if, stands}
 use Rattle.grammar.specs.declared.ReadFault.{ReadFault}
 use Rattle.grammar.specs.declared.ReadFault.TheVariants as faults
-use Rattle.grammar.proofs.Loops.{collected}
 use Rattle.grammar.proofs.LoopsBy.{rest_of_by, by_goes_on, by_fails, by_ends, by_refused, by_advances}
 use Rattle.vl_token.specs.Tokens.{Lexeme}
-use Rattle.vl_tree.specs.Amounts.{delays_continue, may_close, more_delays, next_delay, path_delay}
+use Rattle.vl_tree.specs.Amounts.{delays_continue, may_close, next_delay}
 use Rattle.vl_tree.specs.Kinds.{kind_of}
 use Rattle.vl_tree.specs.Tree.{Amounts}
 use Rattle.vl_specify.specs.Delays.{comma_delay}
@@ -19,19 +18,6 @@ module _ {X : Type 0} (limited : Bool) (ts : List Lexeme) (view : X → Amounts)
   -- what is read behind so many delays, together with those that are kept
   abbrev pub rest_behind : List X → ℕ → ℕ → Result (List Amounts × ℕ) ℕ
   rest_behind items n i = rest_of_by kind_of delays_continue (next_delay limited) (λ n _. suc n) (may_close limited) ts view items n i
-
-  abbrev with_first : Amounts → List Amounts × ℕ → Result ((Amounts × List Amounts) × ℕ) ℕ
-  with_first x y = Ok ((x, y.0), y.1)
-
-  abbrev joined : (Amounts × List Amounts) × ℕ → Result (List Amounts × ℕ) ℕ
-  joined z = Ok (z.0.0 ∷ z.0.1, z.1)
-
-  pub delays_begin : (first : X) (i j : ℕ) → path_delay.read ts i ≡ Ok (view first, j) → rest_behind (first ∷ []) 1 j ≡ (mapped (λ x. x.0 ∷ x.1) (path_delay ∙∙ more_delays limited)).read ts i
-  delays_begin first i j h = rw h (go ((more_delays limited).read ts j))
-    where
-      go : (r : Result (List Amounts × ℕ) ℕ) → (r >>= collected (view first ∷ [])) ≡ (r >>= with_first (view first)) >>= joined
-      go (Ok y) = refl
-      go (Err e) = refl
 
   never : (o : Option Lexeme) → is_of kind_of (λ k. false) o ≡ true → ⊥
   never None h = cc

@@ -1,5 +1,5 @@
--- Where a block is refused, and of which kind the fault is.
-use Rattle.std.proofs.Common.{◌≡◌, ℕ, ◌+◌, ◌<◌, ◌≤◌, true, false, List, Some, None, Ok, Err, refl, arith, inl, inr}
+-- How far a block goes, and where it is refused.
+use Rattle.std.proofs.Common.{◌≡◌, ℕ, ◌+◌, ◌≤◌, true, false, List, Ok, Err, refl, arith, inl, inr}
 use Rattle.std.specs.Prelude.{◌↔◌, slice_get}
 use Rattle.std.proofs.lemmas.Bool.{cases_lt}
 use Rattle.sg_text.specs.declared.places.Place.{Place}
@@ -12,10 +12,9 @@ use Rattle.vl_tree.specs.Kinds.{kind_of}
 use Rattle.vl_tree.specs.Specify.{block}
 use Rattle.vl_tree.specs.Tree.{SpecifyBlock}
 use Rattle.vl_tree.proofs.SpecifyExact.{block-exact}
-use Rattle.vl_specify.specs.Faults.{KindStands, told, told_by_limit}
+use Rattle.vl_specify.specs.Faults.{KindStands}
 use Rattle.vl_specify.specs.Reading.{RefusalStands, fault_place}
 use Rattle.vl_specify.specs.declared.faults.SpecifyKind.{SpecifyKind}
-use Rattle.vl_specify.specs.declared.faults.SpecifyKind.TheVariants.{Syntax}
 
 module _ (ts : List Lexeme) (i : ℕ) where
   -- tokens from i up to n begin the block without limits, and no more do
@@ -41,21 +40,6 @@ module _ (ts : List Lexeme) (i : ℕ) where
 
   pub reach_if_failed : (n : ℕ) → (block false).read ts i ≡ Err n → Reaches n
   reach_if_failed n h = let f = (block-exact false).failed ts i n h in reaches n f.0 f.1
-
-  module _ (e : ℕ) (t : Lexeme) (at : slice_get ts e ≡ Some t) where
-    pub kind_told : (kind : SpecifyKind) → told t.meaning ≡ Some kind → KindStands ts i e kind
-    kind_told kind h = rw (at, h) refl
-
-    module _ (n : ℕ) (reach : Reaches n) (le : i ≤ e) (none : told t.meaning ≡ None) where
-      pub kind_by_limit : e < n → KindStands ts i e (told_by_limit t.meaning)
-      kind_by_limit lt =
-          let b : Begun (e + 1) = (reach (e + 1) (omega arith)).1 (omega arith) in
-          rw (at, none) (inl (b, refl))
-
-      pub kind_of_syntax : n ≤ e → KindStands ts i e Syntax
-      kind_of_syntax ge =
-          let no : Begun (e + 1) → ⊥ = λ b. (let up = (reach (e + 1) (omega arith)).0 b in omega (arith, up, ge)) in
-          rw (at, none) (inr (no, refl))
 
   -- ---- the block with its limits
 

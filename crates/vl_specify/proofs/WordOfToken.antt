@@ -81,14 +81,7 @@ is_chosen : (b : Bool) (t u : Tok) → chosen b t ≡ Some u → (b ≡ true) ×
 is_chosen true t u h = (refl, cc)
 is_chosen false t u h = absurd cc
 
-not_chosen : (b : Bool) (t : Tok) → chosen b t ≡ None → b ≡ false
-not_chosen true t h = absurd cc
-not_chosen false t h = refl
-
 module _ (ts : List Lexeme) (i : ℕ) (t : Lexeme) (at : slice_get ts i ≡ Some t) where
-  pub no_word_there : (E : Type 0) → word_alone t.meaning ≡ None → IsWordAlone {E = E} vocabulary view_word ts i (Ok None)
-  no_word_there E h = rw (at, not_chosen (is_word vocabulary (kind_of t)) (tok_of t.meaning) h) refl
-
   pub word_there : (E : Type 0) (w : code.Word) → word_alone t.meaning ≡ Some (seen w.token) → w.place ≡ t.place → IsWordAlone {E = E} vocabulary view_word ts i (Ok (Some w))
   word_there E w h p =
       let f = is_chosen (is_word vocabulary (kind_of t)) (tok_of t.meaning) (seen w.token) h in

@@ -84,12 +84,10 @@ fn several_delays<'a>(
     let (first, mut next) = path_delay(tokens, at)?;
     let mut delays = Vec::with_capacity(alloc, 1)?;
     delays.push(first)?;
-    let mut count = 1usize;
-    'more: while delay_comes(tokens, next, limited, count) {
+    'more: while delay_comes(tokens, next, limited, delays.len()) {
         next = add_delay(&mut delays, tokens, next)?;
-        count = delays.len();
     }
-    if !may_close(limited, count) {
+    if !may_close(limited, delays.len()) {
         return Err(ReadFault::At(next));
     }
     delays.shrink_to_fit();

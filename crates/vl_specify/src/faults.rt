@@ -73,15 +73,14 @@ fn told_by_limit(kind: TokenKind<'_>) -> SpecifyKind
 }
 
 /// The position up to which tokens begin a block with its limits lifted.
+#[tactic(auto, using(crate::proofs::Refusals::reach_if_read, crate::proofs::Refusals::reach_if_failed))]
 fn reach(alloc: Global, tokens: &[Token<'_>], at: usize) -> Result<usize, NoMemory>
     ensures { IfOk result (λ n. (k : ℕ) → at ≤ k → (specify.block false).language.Begins (map lexeme tokens.now) at k ↔ (k ≤ n)) }
 {
     match block(alloc, tokens, at, false) {
-        Ok((_, next)) => return Ok(next),
-        Err(ReadFault::At(next)) => return Ok(next),
-        Err(ReadFault::Memory) => {}
+        Ok((_, next)) | Err(ReadFault::At(next)) => Ok(next),
+        Err(ReadFault::Memory) => Err(NoMemory),
     }
-    Err(NoMemory)
 }
 
 /// The kind of fault of a block that begins at a position and fails at another. Reads the block again, and takes memory for it,
