@@ -10,9 +10,14 @@ pub mod EqualTokens
 mod Examples
 pub mod JoinedValue
 pub mod Levels
+pub mod MappedNames
 pub mod Outermost
 pub mod Scanned
 pub mod Scanning
 pub mod ValueExamples
 pub mod Views
 pub mod WholeConditions
+mod WordExamples
+pub mod WordReading
+pub mod WordSteps
+pub mod Words

@@ -16,7 +16,7 @@ use Rattle.cond_expr.specs.Kinds.{kind_of, is_name, is_index, is_constant, is_le
 use Rattle.cond_expr.specs.declared.tokens.Op.{Op}
 use Rattle.cond_expr.specs.Grammar.{operator, quoted, operand_parts, operand, atom_parts, atom, primary_starts, level_continues, level_parts, level, primary_parts, primary, expression}
 use Rattle.cond_expr.specs.Tree.{Cond}
-use Rattle.cond_expr.specs.declared.tokens.Tok.{Tok}
+use Rattle.cond_expr.specs.Token.{Tok}
 use Rattle.cond_expr.specs.AllKinds.{apart, is_within}
 
 pub operand-exact : Exact kind_of operand
@@ -27,13 +27,13 @@ pub atom-exact : Exact kind_of atom
 unfolding atom_parts
 atom-exact = named-exact kind_of _ (either-exact kind_of _ _ operand-exact (mapped-exact kind_of _ _ (one-exact kind_of is_constant)) refl refl (apart _ _ refl)) _ _ refl (is_within _ _ refl) (is_within _ _ refl)
 
-quoted-exact : (is : Kind → Bool) → Exact kind_of (quoted is)
+pub quoted-exact : (is : Kind → Bool) → Exact kind_of (quoted is)
 quoted-exact is = mapped-exact kind_of _ _ (one-exact kind_of is)
 
 -- ---- levels
 
 -- no operator of one level is one of a tighter level
-level_apart : (n : ℕ) → Apart (level_continues n) (is_binary (suc n))
+pub level_apart : (n : ℕ) → Apart (level_continues n) (is_binary (suc n))
 level_apart n (operator_kind o) p q =
     let le : precedence o ≤ n = leb-true _ _ ((and_parts (not (precedence o == 0)) (nat_le (precedence o) n) p).1) in
     omega (arith, eqb-true (precedence o) (suc n) q)

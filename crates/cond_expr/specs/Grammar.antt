@@ -1,10 +1,12 @@
 -- The grammar of conditions of specify paths and timing checks (IEEE 1364-2005, 14.2.4 and 15.6), with the precedence of
 -- operators of 5.1.2. A condition of depth d has at most d parentheses and unary operators round any part. A leaf is the
 -- position of an operand's name among the tokens.
-use Rattle.std.specs.Prelude.{ℕ, zero, suc, ◌+◌, ◌≤◌, List, length, Bool, ◌||◌, Option, Some, None}
+use Rattle.std.specs.Prelude.{ℕ, zero, suc, List, length, Bool, ◌||◌, Option, Some, None}
+use Rattle.grammar.specs.Depth.{deepening}
+use Rattle.grammar.specs.Reads.{FailsAt}
 use Rattle.grammar.specs.Rule.{Rule, one, ◌∙∙◌, mapped, located, ◌▸◌, ◌◂◌, either, optional, many, named}
 use Rattle.cond_expr.specs.declared.tokens.Op.{Op}
-use Rattle.cond_expr.specs.declared.tokens.Tok.{Tok}
+use Rattle.cond_expr.specs.Token.{Tok}
 use Rattle.cond_expr.specs.Kinds.{Kind, kind_of, is_name, is_index, is_constant, is_left, is_right, is_unary, is_binary, is_binary_up_to, constant_of, operator_of}
 use Rattle.cond_expr.specs.Tree.{Cond, leaf, constant, unary, chain_of}
 
@@ -64,17 +66,18 @@ primary d = named primary_starts is_index (primary_parts d)
 abbrev pub expression : ℕ → Grammar (Cond ℕ)
 expression d = level 6 (primary d)
 
--- Some condition, of any depth, is spelled.
-abbrev pub IsCondition : List Tok → Type 0
-IsCondition ts = (d : ℕ) × (c : Cond ℕ) × (expression d).language.Spells ts 0 c (length ts)
+-- a condition of any depth
+abbrev pub condition : Grammar (Cond ℕ)
+condition = deepening primary_starts (level_continues 6) expression
 
--- No condition of any depth is spelled, and e is the first token such that the tokens up to and with it begin none. At the
--- length, all tokens begin one.
-pub record FailsConditionAt (ts : List Tok) (e : ℕ) : Type 0 where
-  pub within : e ≤ length ts
-  pub begins : (d : ℕ) × (expression d).language.Begins ts 0 e
-  pub fails : (d : ℕ) → (expression d).language.Begins ts 0 (e + 1) → ⊥
-  pub none : (d : ℕ) (c : Cond ℕ) → (expression d).language.Spells ts 0 c (length ts) → ⊥
+-- All tokens spell some condition.
+abbrev pub IsCondition : List Tok → Type 0
+IsCondition ts = (c : Cond ℕ) × condition.language.Spells ts 0 c (length ts)
+
+-- No condition is spelled, and e is the first token such that the tokens up to and with it begin none. At the length, all
+-- tokens begin one.
+abbrev pub FailsConditionAt : List Tok → ℕ → Type 0
+FailsConditionAt ts e = FailsAt condition.language ts e
 
 abbrev pub FirstFault : List Tok → Option ℕ → Type 0
 FirstFault ts None = IsCondition ts

@@ -9,5 +9,9 @@ pub mod Kinds
 pub mod Laws
 pub mod Same
 pub mod ScanSteps
+pub mod Token
 pub mod Tree
 pub mod Values
+pub mod Vocabulary
+pub mod WordReading
+pub mod WordStates

@@ -4,7 +4,7 @@ ghost use Rattle.cond_expr.specs.Exactness.{expression-exact};
 ghost use Rattle.cond_expr.specs.Grammar.{expression};
 ghost use Rattle.cond_expr.specs.Kinds.{Kind as KindOfToken, kind_of};
 ghost use Rattle.cond_expr.specs.Tree.{Cond};
-ghost use Rattle.cond_expr.specs.declared.tokens.Tok.{Tok as ConditionToken};
+ghost use Rattle.cond_expr.specs.Token.{Tok as ConditionToken};
 
 use grammar::Grammar;
 

@@ -19,10 +19,11 @@ mod values;
 pub use binding::{BindFault, Find};
 pub use bound::{Bound, Nets};
 pub use conditions::Conditions;
+pub use copies::owned;
 pub use expr::Expr;
 pub use faults::CondFault;
-pub use laws::{one_condition, one_core, one_failing_token};
-pub use scan::first_fault;
+pub use laws::{one_condition, one_core, one_failing_token, own_words};
+pub use scan::{Phase, after, first_fault};
 pub use tokens::{Op, Tok};
 
 #[cfg(test)]

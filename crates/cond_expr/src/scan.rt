@@ -6,17 +6,18 @@ ghost use Rattle.cond_expr.specs.Grammar.{FirstFault};
 
 use crate::operators::{may_prefix, precedence_of};
 use crate::tokens::Tok;
+use sg_text::Text;
 
-// What may stand next: a part, a name's index or what follows a part, or only what follows a part.
-#[derive(Clone, Copy, PartialEq, Eq)]
-enum Phase {
+/// What may stand next: a part, a name's index or what follows a part, or only what follows a part.
+#[derive(Clone, Copy, Debug, PartialEq, Eq)]
+pub enum Phase {
     Operand,
     Name,
     Whole,
 }
 
-// The parentheses that are open and the phase after a token, if it may stand where it does.
-fn after(unclosed: u64, phase: Phase, token: &Tok) -> Option<(u64, Phase)>
+/// The parentheses that are open and the phase after a token, if it may stand where it does.
+pub fn after<N>(unclosed: u64, phase: Phase, token: &Tok<N>) -> Option<(u64, Phase)>
     requires { unclosed < 2 ^ 63 }
     ensures { result ≡ step unclosed phase (kind_of token.now) }
 {
@@ -40,7 +41,7 @@ fn after(unclosed: u64, phase: Phase, token: &Tok) -> Option<(u64, Phase)>
 
 /// None where the tokens are a condition of any depth, else the first token with which no condition begins, or their number
 /// where all begin one. Takes no memory.
-pub fn first_fault(tokens: &[Tok]) -> Option<u64>
+pub fn first_fault(tokens: &[Tok<Text>]) -> Option<u64>
     ensures { FirstFault tokens.now result }
 {
     let mut unclosed = 0u64;

@@ -127,6 +127,7 @@ fn add_item<'a>(item: &Item<'a>, used: &mut IndexSet<&'a [u8]>) -> Result<(), No
         Item::Registers { .. } => {}
         Item::Assigns { .. } => {}
         Item::Gates { .. } => {}
+        Item::Specify(_) => {}
     }
     Ok(())
 }

@@ -4,10 +4,10 @@ use Rattle.vl_tree.specs.declared.names.Direction.TheVariants.{Input, Output}
 use Rattle.sg_delay.specs.declared.corners.Corner.TheVariants.{Typ}
 use Rattle.sg_logic.specs.declared.values.Value.TheVariants.{Zero}
 use Rattle.vl_tree.specs.Tree.{one_number, by_order, by_name, Item, instances, Module, a_module, Source}
-use Rattle.elab_model.specs.declared.kinds.ElabKind.TheVariants.{UnknownModule, DuplicateName, UnknownName, WidthMismatch, SecondDriver, SelfInstance, NoTop, SeveralTops, BadTerminal, TooDeep, BadDelay}
+use Rattle.elab_model.specs.declared.kinds.ElabKind.TheVariants.{UnknownModule, DuplicateName, UnknownName, WidthMismatch, SecondDriver, SelfInstance, NoTop, SeveralTops, BadTerminal, TooDeep, BadDelay, NotYet}
 use Rattle.elab_model.specs.Faults.{fault}
 use Rattle.elab_model.specs.HierarchyFaults.{faults, start}
-use Rattle.elab_model.proofs.Writing.{port_item, listing, range, wire_item, net_name, reg_item, as_cell, here, name, use_of, constant_of, instance_item, in_order_of, to_port, whole_number, plainly, module_as}
+use Rattle.elab_model.proofs.Writing.{port_item, listing, range, wire_item, net_name, reg_item, as_cell, here, name, use_of, constant_of, instance_item, block_item, in_order_of, to_port, whole_number, plainly, module_as}
 use Rattle.elab_model.specs.Hierarchy.{Instance, top_instance}
 use Rattle.elab_model.specs.HierarchyFaults.{self_instances, too_deep}
 use Rattle.elab_model.proofs.GateExamples.{inverter}
@@ -44,6 +44,16 @@ delayed_module = refl
 
 unnamed_module : faults (with_cell (instances (name (codes "c") 60) None (record { place = here 62; name = None; connections = by_order [] } ∷ []) ∷ [])) None Typ ≡ fault BadTerminal (here 62) ∷ []
 unnamed_module = refl
+
+-- a specify block in the cell, which is reached by an instance, or isn't
+abbrev pub cell_with_block : Module
+cell_with_block = module_as as_cell (codes "c") 90 None (block_item 95 ∷ [])
+
+reached_block : faults (a_module cell_with_block ∷ a_module (with_items (instance_item (codes "c") 61 (codes "u") (by_order []) ∷ [])) ∷ []) None Typ ≡ fault NotYet (here 95) ∷ []
+reached_block = refl
+
+unreached_block : faults (a_module cell_with_block ∷ a_module (with_items []) ∷ []) None Typ ≡ []
+unreached_block = refl
 
 -- two instances u
 two_instances : faults (with_cell (instance_item (codes "c") 61 (codes "u") (by_order []) ∷ instance_item (codes "c") 62 (codes "u") (by_order []) ∷ [])) None Typ ≡ fault DuplicateName (here 62) ∷ []

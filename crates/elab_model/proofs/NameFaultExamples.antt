@@ -4,10 +4,10 @@ use Rattle.sg_delay.specs.declared.corners.Corner.TheVariants.{Typ}
 use Rattle.sg_logic.specs.declared.gates.GateKind.TheVariants.{Buf}
 use Rattle.vl_tree.specs.declared.names.Direction.TheVariants.{Input, Output}
 use Rattle.vl_tree.specs.Tree.{Item, gates, Module, a_module, Source}
-use Rattle.elab_model.specs.declared.kinds.ElabKind.TheVariants.{DuplicateName, UnknownName, WidthMismatch, BadTerminal, TooMany}
+use Rattle.elab_model.specs.declared.kinds.ElabKind.TheVariants.{DuplicateName, UnknownName, WidthMismatch, BadTerminal, TooMany, NotYet}
 use Rattle.elab_model.specs.Faults.{fault}
 use Rattle.elab_model.specs.HierarchyFaults.{faults}
-use Rattle.elab_model.proofs.Writing.{here, name, use_of, range, port_item, net_name, wire_item, gate_item, plainly, none_implicit, module_as, listing}
+use Rattle.elab_model.proofs.Writing.{here, name, use_of, range, port_item, net_name, wire_item, gate_item, block_item, plainly, none_implicit, module_as, listing}
 use Rattle.elab_model.specs.NameFaults.{declaration_faults}
 
 -- module t (a, y); input a; output y; .. endmodule
@@ -48,6 +48,10 @@ too_wide = refl
 
 widest : declaration_faults (with_items (wire_item (range (pos 65535) (pos 0)) (net_name (name (codes "v") 40) None ∷ []) ∷ [])) ≡ []
 widest = refl
+
+-- specify endspecify, twice
+two_blocks : faults (alone (block_item 40 ∷ block_item 60 ∷ [])) None Typ ≡ fault NotYet (here 40) ∷ fault NotYet (here 60) ∷ []
+two_blocks = refl
 
 -- buf (y, w); with no implicit nets, and with w declared
 abbrev pub strict : List Item → Source

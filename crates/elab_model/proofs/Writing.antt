@@ -13,7 +13,7 @@ use Rattle.vl_tree.specs.declared.expressions.Select.TheVariants as select
 use Rattle.vl_tree.specs.declared.names.Direction.{Direction}
 use Rattle.vl_tree.specs.declared.names.NetType.TheVariants.{Wire}
 use Rattle.vl_tree.specs.declared.names.Range as written
-use Rattle.vl_tree.specs.Tree.{Named, Expression, signal, sized, concatenation, expressions, Delay, NetName, NamedConnection, Connections, by_order, Item, ports, nets, registers, assigns, gates, instances, PortDeclaration, Head, head_names, Module}
+use Rattle.vl_tree.specs.Tree.{Named, Expression, signal, sized, concatenation, expressions, Delay, NetName, NamedConnection, Connections, by_order, Item, ports, nets, registers, assigns, gates, instances, specify_block, PortDeclaration, Head, head_names, Module}
 
 abbrev pub here : ℕ → Place
 here n = record { file = 0; byte = n }
@@ -68,6 +68,10 @@ gate_item g n es = gate_with g None n es
 
 abbrev pub instance_item : List ℕ → ℕ → List ℕ → Connections → Item
 instance_item m n i cs = instances (name m n) None (record { place = here n; name = Some (name i n); connections = cs } ∷ [])
+
+-- a specify block with no items
+abbrev pub block_item : ℕ → Item
+block_item n = specify_block (record { place = here n; items = [] })
 
 abbrev pub in_order_of : List Expression → Connections
 in_order_of es = by_order (map (λ e. Some e) es)

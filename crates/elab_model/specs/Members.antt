@@ -5,7 +5,7 @@ use Rattle.sg_logic.specs.declared.values.Value.{Value}
 use Rattle.sg_logic.specs.declared.values.Value.TheVariants.{Zero, One}
 use Rattle.vl_tree.specs.declared.names.Supply.{Supply}
 use Rattle.vl_tree.specs.declared.names.Supply.TheVariants as level
-use Rattle.vl_tree.specs.Tree.{Named, Expression, signal, Delay, Join, GateInstance, Connections, by_order, by_name, Instance, Item, ports, nets, supplies, registers, assigns, gates, instances, Module}
+use Rattle.vl_tree.specs.Tree.{Named, Expression, signal, Delay, Join, GateInstance, Connections, by_order, by_name, Instance, Item, ports, nets, supplies, registers, assigns, gates, instances, specify_block, Module}
 
 pub data Member : Type 0 where
   -- a continuous assignment (IEEE 1364-2005, 6.1)
@@ -34,6 +34,7 @@ members_of_item (registers p ns) = []
 members_of_item (assigns p js) = map assignment js
 members_of_item (gates p g d is) = map (gate g d) is
 members_of_item (instances n d is) = map (instance n d) is
+members_of_item (specify_block b) = []
 
 abbrev pub members : Module → List Member
 members m = flat_map members_of_item m.items

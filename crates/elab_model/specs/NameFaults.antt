@@ -1,15 +1,15 @@
--- Faults of a module's declarations (IEEE 1364-2005, 4.2, 4.3, 12.3.3).
+-- Faults of a module's declarations (IEEE 1364-2005, 4.2, 4.3, 12.3.3), and what isn't simulated yet.
 use Rattle.std.specs.Prelude.{ℕ, List, [], ◌∷◌, ◌++◌, Bool, true, false, ◌&&◌, not, nat_lt, Option, Some, None, map, flat_map, filter_map, bytes_eq, ℤ, int_le}
 use Rattle.std.specs.List.{list_any}
 use Rattle.sg_circuit.specs.declared.scopes.Range.{Range}
 use Rattle.sg_circuit.specs.Closed.{width_of}
-use Rattle.vl_tree.specs.Tree.{Named, PortDeclaration, Module}
-use Rattle.elab_model.specs.declared.kinds.ElabKind.TheVariants.{UnknownName, WidthMismatch, BadTerminal, TooMany}
+use Rattle.vl_tree.specs.Tree.{Named, PortDeclaration, Item, specify_block, SpecifyBlock, Module}
+use Rattle.elab_model.specs.declared.kinds.ElabKind.TheVariants.{UnknownName, WidthMismatch, BadTerminal, TooMany, NotYet}
 use Rattle.std.specs.Option.{option_map}
 use Rattle.elab_model.specs.Members.{Member, assignment, supply, gate, instance, members}
 use Rattle.elab_model.specs.Ports.{port_list, ports_of_head, ports_of_item, port_declarations, NetDeclaration, nets_of_item, net_declarations}
 use Rattle.elab_model.specs.Names.{bounds}
-use Rattle.elab_model.specs.Faults.{Fault, fault_if, missing, duplicates, all_of}
+use Rattle.elab_model.specs.Faults.{Fault, fault, fault_if, missing, duplicates, all_of}
 
 -- two ports, two directions of a port, two nets or two instances have one name
 abbrev pub twice_in_list : Module → List Fault
@@ -98,5 +98,16 @@ width_limit = 65536
 abbrev pub too_wide : Module → List Fault
 too_wide m = flat_map (λ s. fault_if (nat_lt width_limit (width_of s.range)) TooMany s.name.place) (range_texts m)
 
+-- specify blocks (14.1), whose paths and checks aren't simulated yet: the place is that of the word specify
+abbrev pub block_of : Item → Option SpecifyBlock
+block_of (specify_block b) = Some b
+block_of _ = None
+
+abbrev pub block_faults : List Item → List Fault
+block_faults items = map (λ b. fault NotYet b.place) (filter_map block_of items)
+
+abbrev pub not_yet : Module → List Fault
+not_yet m = block_faults m.items
+
 abbrev pub declaration_faults : Module → List Fault
-declaration_faults m = name_faults m ++ (two_ranges m ++ too_wide m)
+declaration_faults m = name_faults m ++ (two_ranges m ++ (too_wide m ++ not_yet m))

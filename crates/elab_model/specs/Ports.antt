@@ -4,7 +4,7 @@ use Rattle.vl_tree.specs.declared.names.Direction.{Direction}
 use Rattle.vl_tree.specs.declared.names.NetType.{NetType}
 use Rattle.vl_tree.specs.declared.names.Range.{Range}
 use Rattle.sg_text.specs.declared.places.Place.{Place}
-use Rattle.vl_tree.specs.Tree.{Named, Item, ports, nets, supplies, registers, assigns, gates, instances, PortDeclaration, HeadPort, declared_port, named_port, Head, head_names, head_declarations, Module}
+use Rattle.vl_tree.specs.Tree.{Named, Item, ports, nets, supplies, registers, assigns, gates, instances, specify_block, PortDeclaration, HeadPort, declared_port, named_port, Head, head_names, head_declarations, Module}
 
 -- the list of ports: their names in order (IEEE 1364-2005, 12.3.2)
 abbrev pub name_of_port : HeadPort → Named
@@ -50,6 +50,7 @@ ports_of_item (registers p ns) = []
 ports_of_item (assigns p js) = []
 ports_of_item (gates p g d is) = []
 ports_of_item (instances n d is) = []
+ports_of_item (specify_block b) = []
 
 abbrev pub port_declarations : Module → List PortDeclaration
 port_declarations m = ports_of_head m.head ++ flat_map ports_of_item m.items
@@ -71,6 +72,7 @@ nets_of_item (registers p ns) = map (net_as true None) ns
 nets_of_item (assigns p js) = []
 nets_of_item (gates p g d is) = []
 nets_of_item (instances n d is) = []
+nets_of_item (specify_block b) = []
 
 abbrev pub net_declarations : Module → List NetDeclaration
 net_declarations m = flat_map nets_of_item m.items

@@ -28,6 +28,8 @@ pub enum ElabKind {
     TooMany,
     /// A delay is too long, a gate has more than two, or an instance of a module has one.
     BadDelay,
+    /// A specify block, whose paths and checks aren't simulated yet.
+    NotYet,
     /// The table of a primitive has a fault.
     Udp(UdpKind),
 }

@@ -32,6 +32,7 @@ fn add_item<'a>(item: &Item<'a>, names: &mut Vec<Name<'a>>) -> Result<(), NoMemo
         Item::Supplies { .. } => {}
         Item::Registers { .. } => {}
         Item::Assigns { .. } => {}
+        Item::Specify(_) => {}
     }
     Ok(())
 }

@@ -1,6 +1,7 @@
 //! What the modules of a netlist declare, as lists in text order, and which names stand twice or have two ranges.
 #![tactic(auto)]
 
+mod blocks;
 mod bounds;
 mod checks;
 mod declarations;
@@ -10,6 +11,7 @@ mod ports;
 mod ranges;
 mod repeated;
 
+pub use blocks::first_block;
 pub use bounds::{first_differing, first_too_wide};
 pub use checks::{check_among, check_names, check_once};
 pub use declarations::check_declarations;

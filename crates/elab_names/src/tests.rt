@@ -7,7 +7,7 @@ use sg_text::{NoMemory, Refused};
 use std::alloc::Global;
 use std::test::Fail;
 use trees::{
-    at, buffers, declared_in_head, input, name, named, net, output, range, wires, with_item,
+    at, block, buffers, declared_in_head, input, name, named, net, output, range, wires, with_item,
 };
 use vl_tree::Item;
 
@@ -114,5 +114,16 @@ fn names_of_two_kinds_may_be_one(rt: HostRuntime) -> Result<(), Fail> {
     assert_eq!(rt; names_with(alloc, nets)?, None);
     let gates = buffers(alloc, &[name(b"y", 40), name(b"a", 41)])?;
     assert_eq!(rt; names_with(alloc, gates)?, None);
+    Ok(())
+}
+
+#[test]
+fn a_specify_block_is_refused(rt: HostRuntime) -> Result<(), Fail> {
+    let alloc = rt.alloc();
+    let tree = with_item(alloc, block(alloc, 40))?;
+    assert_eq!(rt;
+        refused(check_declarations(alloc, &tree)),
+        Some((ElabKind::NotYet, 40))
+    );
     Ok(())
 }

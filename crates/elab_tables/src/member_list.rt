@@ -75,6 +75,7 @@ fn add_item<'t, 'a>(item: &'t Item<'a>, list: &mut Vec<Member<'t, 'a>>) -> Resul
         } => add_instances(*module, delay, instances, list),
         Item::Ports { .. } => Ok(()),
         Item::Registers { .. } => Ok(()),
+        Item::Specify(_) => Ok(()),
     }
 }
 

@@ -231,6 +231,7 @@ impl<'a> Naming<'a> for Item<'a> {
             Item::Ports { .. } => Ok(()),
             Item::Supplies { .. } => Ok(()),
             Item::Registers { .. } => Ok(()),
+            Item::Specify(_) => Ok(()),
         }
     }
 }

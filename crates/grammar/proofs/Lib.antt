@@ -14,10 +14,20 @@ pub mod Separated
 pub mod Named
 pub mod Counted
 pub mod Stated
+pub mod Within
+pub mod Deepening
+pub mod ManyBy
 pub mod Whole
+pub mod ReadsFrom
+pub mod Reach
 pub mod Laws
 pub mod Finite
 pub mod Steps
 pub mod Loops
+pub mod LoopsBy
 pub mod Printing
-mod Examples
+pub mod ExampleTokens
+pub mod Examples
+mod DepthExamples
+mod StateExamples
+mod PositionExamples

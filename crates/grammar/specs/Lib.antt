@@ -7,3 +7,7 @@ pub mod Stated
 pub mod Exact
 pub mod Laws
 pub mod Placed
+pub mod Depth
+pub mod States
+pub mod ReadsFrom
+pub mod Reach

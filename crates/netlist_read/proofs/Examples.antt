@@ -1,10 +1,11 @@
 -- Small cases, worked.
 use Rattle.std.proofs.Common.{◌≡◌, [], ◌∷◌, refl}
 use Rattle.std.specs.Prelude.{codes}
-use Rattle.elab_model.specs.declared.kinds.ElabKind.TheVariants.{Udp, NoTop}
+use Rattle.elab_model.specs.declared.kinds.ElabKind.TheVariants.{Udp, NoTop, NotYet}
 use Rattle.udp_rows.specs.declared.faults.UdpKind.TheVariants.{TwoEdges}
 use Rattle.vl_lex.specs.declared.faults.LexKind.TheVariants.{BadByte}
-use Rattle.netlist_read.specs.Kinds.{of_text, of_syntax, unsupported, of_meaning, kind_text}
+use Rattle.vl_specify.specs.declared.faults.SpecifyKind.TheVariants.{BadDelayCount}
+use Rattle.netlist_read.specs.Kinds.{of_text, of_syntax, unsupported, of_block, of_meaning, kind_text}
 use Rattle.netlist_read.specs.Reading.{end_of}
 
 -- how kinds are written
@@ -16,6 +17,12 @@ the_syntax = refl
 
 pub a_word : kind_text (unsupported (codes "always")) ≡ codes "Unsupported always"
 a_word = refl
+
+pub a_block : kind_text (of_block BadDelayCount) ≡ codes "Specify BadDelayCount"
+a_block = refl
+
+pub not_simulated : kind_text (of_meaning NotYet) ≡ codes "NotYet"
+not_simulated = refl
 
 pub a_meaning : kind_text (of_meaning NoTop) ≡ codes "NoTop"
 a_meaning = refl

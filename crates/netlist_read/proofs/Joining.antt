@@ -24,7 +24,7 @@ text-refused texts name corner (Fault kind place) h = subst (λ k. FaultStands t
 pub syntax-refused : (texts : List (List ℕ)) (name : Option (List ℕ)) (corner : Corner) (tokens : List Lexeme) (r : Refused NetlistKind) → Lexes texts (Ok tokens)
     → SyntaxStands tokens (end_of texts) r → RefusalStands texts name corner r
 syntax-refused texts name corner tokens NoMemory l h = tt
-syntax-refused texts name corner tokens (Fault kind place) l h = in_syntax tokens h.0 (kind_seen kind) place l h.1 h.3 h.2
+syntax-refused texts name corner tokens (Fault kind place) l h = in_syntax tokens h.0 h.1 (kind_seen kind) place l h.2 h.4 h.5 h.3
 
 pub meaning-refused : (texts : List (List ℕ)) (name : Option (List ℕ)) (corner : Corner) (tokens : List Lexeme) (tree : Source) (r : Refused NetlistKind) → Lexes texts (Ok tokens)
     → AreTree tokens tree → MeaningStands tree name corner r → RefusalStands texts name corner r

@@ -60,7 +60,7 @@ read-once texts name corner c d a b =
 pub read-is-faultless : (texts : List (List ℕ)) (name : Option (List ℕ)) (corner : Corner) (c : Circuit) → IsRead texts name corner c
     → (kind : Kind) (place : Place) → FaultStands texts name corner kind place → ⊥
 read-is-faultless texts name corner c r kind place (in_text k p h) = tokens_or_fault texts r.tokens _ r.are_tokens h
-read-is-faultless texts name corner c r kind place (in_syntax tokens e k p h fails _ _) =
+read-is-faultless texts name corner c r kind place (in_syntax tokens e y k p h fails _ _ _) =
     let same = tokens_once texts r.tokens tokens r.are_tokens h in
     fails.none r.tree (subst (λ ts. AreTree ts r.tree) same r.are_tree)
 read-is-faultless texts name corner c r kind place (in_meaning tokens tree k p h spelled fault) =

@@ -7,7 +7,8 @@ use Rattle.sg_text.specs.declared.refusals.Refused.{Refused}
 use Rattle.sg_text.specs.declared.refusals.Refused.TheVariants.{Fault, NoMemory}
 use Rattle.vl_lex.specs.Lexes.{Lexes}
 use Rattle.vl_lex.specs.declared.faults.LexKind.{LexKind}
-use Rattle.vl_parse.specs.Parsed.{fault_kind, fault_place}
+use Rattle.vl_parse.specs.Parsed.{KindStands, fault_place}
+use Rattle.vl_parse.specs.Parsed as parsed
 use Rattle.vl_token.specs.Tokens.{Lexeme}
 use Rattle.vl_tree.specs.Modules.{source}
 use Rattle.vl_tree.specs.Tree.{Source}
@@ -24,7 +25,7 @@ TextStands texts (Fault kind place) = (k : LexKind) × (kind_seen kind ≡ of_te
 abbrev pub SyntaxStands : List Lexeme → Place → Refused NetlistKind → Type 0
 SyntaxStands tokens end NoMemory = Unit {0}
 SyntaxStands tokens end (Fault kind place) =
-    (e : ℕ) × FailsAt source.language tokens e × (place ≡ fault_place end (slice_get tokens e)) × (kind_seen kind ≡ failing (fault_kind (slice_get tokens e)))
+    (e : ℕ) × (k : parsed.Kind) × FailsAt source.language tokens e × (place ≡ fault_place end (slice_get tokens e)) × KindStands tokens e k × (kind_seen kind ≡ failing k)
 
 abbrev pub MeaningStands : Source → Option (List ℕ) → Corner → Refused NetlistKind → Type 0
 MeaningStands tree name corner NoMemory = Unit {0}

@@ -6,7 +6,8 @@ use Rattle.sg_delay.specs.declared.corners.Corner.{Corner}
 use Rattle.sg_text.specs.declared.places.Place.{Place}
 use Rattle.vl_lex.specs.Lexes.{Lexes}
 use Rattle.vl_lex.specs.declared.faults.LexKind.{LexKind}
-use Rattle.vl_parse.specs.Parsed.{fault_kind, fault_place}
+use Rattle.vl_parse.specs.Parsed.{KindStands, fault_place}
+use Rattle.vl_parse.specs.Parsed as parsed
 use Rattle.vl_token.specs.Tokens.{Lexeme}
 use Rattle.vl_tree.specs.Modules.{source}
 use Rattle.vl_tree.specs.Tree.{Source}
@@ -36,8 +37,8 @@ pub data FaultStands (texts : List (List ℕ)) (name : Option (List ℕ)) (corne
   -- the text or its directives have it
   in_text : (kind : LexKind) (place : Place) → Lexes texts (Err (record { kind = kind; place = place })) → FaultStands texts name corner (of_text kind) place
   -- a token fails, or behind the last token one is wanting: then it stands at the netlist's end
-  in_syntax : (tokens : List Lexeme) (e : ℕ) (kind : Kind) (place : Place) → Lexes texts (Ok tokens) → FailsAt source.language tokens e
-      → kind ≡ failing (fault_kind (slice_get tokens e)) → place ≡ fault_place (end_of texts) (slice_get tokens e) → FaultStands texts name corner kind place
+  in_syntax : (tokens : List Lexeme) (e : ℕ) (why : parsed.Kind) (kind : Kind) (place : Place) → Lexes texts (Ok tokens) → FailsAt source.language tokens e
+      → KindStands tokens e why → kind ≡ failing why → place ≡ fault_place (end_of texts) (slice_get tokens e) → FaultStands texts name corner kind place
   -- the tree that the tokens spell has it
   in_meaning : (tokens : List Lexeme) (tree : Source) (kind : ElabKind) (place : Place) → Lexes texts (Ok tokens) → AreTree tokens tree
       → elaboration.FaultStands tree name corner kind place → FaultStands texts name corner (of_meaning kind) place

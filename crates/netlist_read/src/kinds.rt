@@ -4,11 +4,12 @@ ghost use Rattle.netlist_read.specs.Kinds.{kind_text};
 ghost use Rattle.netlist_read.specs.Seen.{kind_seen};
 ghost use Rattle.netlist_read.specs.Written.{head, meaning_tail, tail};
 
-use crate::names::{meaning_head, table_name, text_name};
+use crate::names::{block_name, meaning_head, table_name, text_name};
 use elab_model::ElabKind;
 use sg_text::NoMemory;
 use std::alloc::Global;
 use vl_lex::LexKind;
+use vl_specify::SpecifyKind;
 
 /// Why the files of a netlist have no circuit.
 #[derive(Clone, Copy, Debug, PartialEq)]
@@ -19,6 +20,8 @@ pub enum NetlistKind<'a> {
     Syntax,
     /// The word there is of a construct that is left out.
     Unsupported(&'a [u8]),
+    /// A specify block is refused for this.
+    Specify(SpecifyKind),
     /// The tree has no circuit.
     Meaning(ElabKind),
 }
@@ -31,6 +34,7 @@ fn head(kind: NetlistKind<'_>) -> &'static str
         NetlistKind::Text(kind) => text_name(kind),
         NetlistKind::Syntax => "Syntax",
         NetlistKind::Unsupported(_) => "Unsupported ",
+        NetlistKind::Specify(_) => "Specify ",
         NetlistKind::Meaning(kind) => meaning_head(kind),
     }
 }
@@ -51,12 +55,14 @@ fn tail(kind: NetlistKind<'_>) -> &[u8]
 {
     match kind {
         NetlistKind::Unsupported(word) => word,
+        NetlistKind::Specify(kind) => block_name(kind).as_bytes(),
         NetlistKind::Meaning(kind) => meaning_tail(kind),
         _ => b"",
     }
 }
 
-/// A kind as a report writes it: its name, and behind a blank the word that isn't supported or the kind of a table's fault.
+/// A kind as a report writes it: its name, and behind a blank the word that isn't supported, or the kind of fault of a
+/// specify block or of a table.
 pub fn write_kind(alloc: Global, kind: &NetlistKind<'_>) -> Result<Vec<u8>, NoMemory>
     ensures { IfOk result (λ text. text.items ≡ kind_text (kind_seen kind.now)) }
 {

@@ -1,11 +1,12 @@
 // The names of kinds, as a report writes them.
 ghost use Rattle.std.specs.Prelude.{◌≡◌};
-ghost use Rattle.netlist_read.specs.Kinds.{text_name, table_name};
+ghost use Rattle.netlist_read.specs.Kinds.{block_name, text_name, table_name};
 ghost use Rattle.netlist_read.specs.Written.{meaning_head};
 
 use elab_model::ElabKind;
 use udp_rows::UdpKind;
 use vl_lex::LexKind;
+use vl_specify::SpecifyKind;
 
 pub fn text_name(kind: LexKind) -> &'static str
     ensures { result.now ≡ text_name kind }
@@ -34,6 +35,17 @@ pub fn table_name(kind: UdpKind) -> &'static str
     }
 }
 
+pub fn block_name(kind: SpecifyKind) -> &'static str
+    ensures { result.now ≡ block_name kind }
+{
+    match kind {
+        SpecifyKind::Syntax => "Syntax",
+        SpecifyKind::ShowCancelled => "ShowCancelled",
+        SpecifyKind::UnsupportedCheck => "UnsupportedCheck",
+        SpecifyKind::BadDelayCount => "BadDelayCount",
+    }
+}
+
 // What stands before the kind of a table's fault, or the whole name.
 pub fn meaning_head(kind: ElabKind) -> &'static str
     ensures { result.now ≡ meaning_head kind }
@@ -51,6 +63,7 @@ pub fn meaning_head(kind: ElabKind) -> &'static str
         ElabKind::TooDeep => "TooDeep",
         ElabKind::TooMany => "TooMany",
         ElabKind::BadDelay => "BadDelay",
+        ElabKind::NotYet => "NotYet",
         ElabKind::Udp(_) => "Udp ",
     }
 }

@@ -58,6 +58,7 @@ fn syntax_kind(kind: ParseKind<'_>) -> NetlistKind<'_>
     match kind {
         ParseKind::Syntax => NetlistKind::Syntax,
         ParseKind::Unsupported(word) => NetlistKind::Unsupported(word),
+        ParseKind::Specify(kind) => NetlistKind::Specify(kind),
     }
 }
 

@@ -18,6 +18,10 @@ fn refusal(alloc: Global, refused: Refused<ParseKind<'_>>) -> Result<String, All
             place,
         } => format!(in alloc; "{} Syntax", place.byte),
         Refused::Fault {
+            kind: ParseKind::Specify(kind),
+            place,
+        } => format!(in alloc; "{} Specify {kind:?}", place.byte),
+        Refused::Fault {
             kind: ParseKind::Unsupported(word),
             place,
         } => {

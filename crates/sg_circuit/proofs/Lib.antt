@@ -3,3 +3,4 @@ pub mod SeenLaws
 pub mod PinLaws
 pub mod FanLaws
 pub mod FittingLaws
+pub mod TimingLaws

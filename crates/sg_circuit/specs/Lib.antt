@@ -6,3 +6,6 @@ pub mod Seen
 pub mod Cuts
 pub mod Pins
 pub mod Fitting
+pub mod Paths
+pub mod PathsSeen
+pub mod Timings

@@ -1,4 +1,7 @@
-// Timing checks, as far as a report names them.
+// Timing checks: how a report names them, and what they look for.
+use crate::NetId;
+use cond_expr::Bound;
+use sg_logic::Edge;
 use sg_text::Text;
 
 /// The timing checks (IEEE 1364-2005, 15.2, 15.3).
@@ -31,4 +34,26 @@ pub struct Check {
     pub refer: Terminal,
     /// The data event's terminal; width and period have none.
     pub datum: Option<Terminal>,
+}
+
+/// The events of a terminal of a timing check (IEEE 1364-2005, 15.1, 15.4, 15.6).
+#[derive(Drop)]
+pub struct Event {
+    pub net: NetId,
+    /// The changes of the net that are events; without an edge each is.
+    pub edge: Option<Edge>,
+    /// They are events only where it enables them.
+    pub condition: Option<Bound>,
+}
+
+/// What a timing check looks for (IEEE 1364-2005, 15.2, 15.3).
+#[derive(Drop)]
+pub struct CheckTiming {
+    pub kind: CheckKind,
+    pub refer: Event,
+    pub datum: Option<Event>,
+    /// In ticks, in the order of the check's text; the second is 0 where the kind has one limit.
+    pub limits: [i64; 2],
+    /// In ticks; width alone has one.
+    pub threshold: u64,
 }

@@ -8,14 +8,16 @@ mod elements;
 mod fan_out;
 mod fitting;
 mod nets;
+mod paths;
 mod scopes;
 #[cfg(test)]
 mod tests;
 
 pub use building::{Pin, add_pins};
-pub use checks::{Check, CheckKind, Terminal};
+pub use checks::{Check, CheckKind, CheckTiming, Event, Terminal};
 pub use circuits::{Circuit, Parts};
 pub use elements::{Element, ElementKind, LegTiming, UdpUse};
 pub use fan_out::FanOut;
 pub use nets::{Driver, Net, NetId};
+pub use paths::{Path, PathCondition};
 pub use scopes::{Port, Range, Scope, Variable};

@@ -1,3 +1,12 @@
 -- The modules of this folder.
+pub mod Checking
+pub mod Events
+pub mod Falling
+pub mod Kept
 pub mod Parts
+pub mod Quiet
 pub mod Seen
+pub mod Times
+pub mod Violations
+pub mod Windows
+pub mod Within

@@ -2,7 +2,19 @@
 #![tactic(auto)]
 
 mod changes;
+mod checker;
+mod events;
+mod judging;
+mod latest;
+mod laws;
+mod seeing;
+#[cfg(test)]
+mod tests;
+mod touching;
 mod violations;
+mod windows;
 
 pub use changes::Change;
+pub use checker::Checker;
+pub use laws::{same_nets_stay, untouched_checks_stay};
 pub use violations::{Part, Violation};

@@ -1,2 +1,4 @@
 -- The modules of this folder.
 pub mod Failed
+pub mod OpenBlock
+pub mod OneKind

@@ -18,6 +18,7 @@ use crate::item_parts::{GateInstancePart, InstancePart, JoinPart, NetNamePart};
 use grammar::ReadFault;
 use sg_text::Keyword;
 use std::alloc::Global;
+use vl_specify::block;
 use vl_terms::delays::optional_delay;
 use vl_terms::lists::listed;
 use vl_terms::names::{names, optional_range};
@@ -172,6 +173,19 @@ fn instance_item<'a>(
     Ok((item, next))
 }
 
+/// `"specify" { specify-item } "endspecify"`
+#[tactic(auto, unfolding(vl_tree::specs::Items::block_item_parts))]
+fn block_item<'a>(
+    alloc: Global,
+    tokens: &[Token<'a>],
+    at: usize,
+) -> Result<(Item<'a>, usize), ReadFault>
+    ensures { Gives (λ x. (view_item x.0, x.1)) result (items.block_item.read (map lexeme tokens.now) at) }
+{
+    let (block, next) = block(alloc, tokens, at, true)?;
+    Ok((Item::Specify(block), next))
+}
+
 /// Whether an item begins there.
 pub fn item_stands(tokens: &[Token<'_>], at: usize) -> bool
     ensures { result ≡ stands kind_of item_starts (map lexeme tokens.now) at }
@@ -182,6 +196,7 @@ pub fn item_stands(tokens: &[Token<'_>], at: usize) -> bool
         || is_word(tokens, at, Keyword::Reg)
         || is_word(tokens, at, Keyword::Assign)
         || gate_stands(tokens, at)
+        || is_word(tokens, at, Keyword::Specify)
         || is_name(tokens, at)
 }
 
@@ -211,6 +226,9 @@ pub fn item<'a>(
     }
     if gate_stands(tokens, at) {
         return gate_item(alloc, tokens, at);
+    }
+    if is_word(tokens, at, Keyword::Specify) {
+        return block_item(alloc, tokens, at);
     }
     instance_item(alloc, tokens, at)
 }

@@ -3,6 +3,7 @@
 
 mod connections;
 mod declarations;
+mod faults;
 mod gates;
 mod item_parts;
 mod items;

@@ -1,21 +1,23 @@
 // The whole of a netlist, and why one is refused.
-ghost use Rattle.std.specs.Prelude.{◌≡◌, IfOk, IfErr, length, map, slice_get};
+ghost use Rattle.std.specs.Prelude.{◌≡◌, IfOk, IfErr, length, map};
 ghost use Rattle.grammar.specs.Reading.{Gives};
 ghost use Rattle.grammar.specs.Rule.{read_all};
 ghost use Rattle.vl_token.specs.Seen.{lexeme};
 ghost use Rattle.vl_tree.specs.Modules as modules;
 ghost use Rattle.vl_tree.specs.Seen.{view_part, view_source};
 ghost use Rattle.vl_tree.specs.Tree.{Source as SourceSeen};
-ghost use Rattle.vl_parse.specs.Parsed.{IsTree, RefusalStands, fault_kind, fault_place, kind_seen, keyword_left_out};
+ghost use Rattle.vl_parse.specs.Parsed.{IsTree, RefusalStands};
 
+use crate::faults::{kind_at, place_of_fault};
 use crate::modules::{is_module, module};
 use grammar::ReadFault;
 use sg_text::{Keyword, Place, Refused};
 use std::alloc::Global;
+use vl_specify::SpecifyKind;
 use vl_terms::lists::{ListPart, many};
 use vl_terms::primitives::primitive;
-use vl_terms::tokens::{is_word, token_at};
-use vl_token::{Token, TokenKind};
+use vl_terms::tokens::is_word;
+use vl_token::Token;
 use vl_tree::{Part, Source};
 
 /// Why tokens are no netlist.
@@ -25,6 +27,8 @@ pub enum ParseKind<'a> {
     Syntax,
     /// The word there is of a construct that is left out.
     Unsupported(&'a [u8]),
+    /// A specify block is refused for this.
+    Specify(SpecifyKind),
 }
 
 /// `module | primitive`
@@ -81,50 +85,10 @@ fn source<'a>(alloc: Global, tokens: &[Token<'a>]) -> Result<Source<'a>, ReadFau
     }
 }
 
-fn word_kind(word: Keyword) -> ParseKind<'static>
-    ensures { kind_seen result ≡ keyword_left_out word }
-{
-    match word {
-        Keyword::Initial => ParseKind::Unsupported(b"initial"),
-        Keyword::Specify => ParseKind::Unsupported(b"specify"),
-        _ => ParseKind::Syntax,
-    }
-}
-
-/// The kind of a fault at a token.
-fn kind_at<'a>(tokens: &[Token<'a>], at: usize) -> ParseKind<'a>
-    ensures { kind_seen result ≡ fault_kind (slice_get (map lexeme tokens.now) at) }
-{
-    match token_at(tokens, at) {
-        Some(
-            Token {
-                kind: TokenKind::LeftOut(text),
-                ..
-            },
-        ) => ParseKind::Unsupported(text),
-        Some(
-            Token {
-                kind: TokenKind::Word(word),
-                ..
-            },
-        ) => word_kind(word),
-        _ => ParseKind::Syntax,
-    }
-}
-
-/// The place of a fault at a token, or behind the last one.
-fn place_of_fault(tokens: &[Token<'_>], at: usize, end: Place) -> Place
-    ensures { result ≡ fault_place end (slice_get (map lexeme tokens.now) at) }
-{
-    match token_at(tokens, at) {
-        Some(token) => token.place,
-        None => end,
-    }
-}
-
 /// The tree of a netlist's tokens (IEEE 1364-2005, annex A), of which `end` is the place behind the last one. Where they
 /// spell none the place is that of the failing token, the first with which the tokens up to it begin no netlist, or `end`.
-/// Unsupported stands exactly where that token is a word of a construct that is left out.
+/// Unsupported stands exactly where that token is a word of a construct that is left out, and Specify where it is another one and
+/// lies in a specify block.
 pub fn parse<'a>(
     alloc: Global,
     tokens: &[Token<'a>],
@@ -140,9 +104,12 @@ pub fn parse<'a>(
     match source(alloc, tokens) {
         Ok(tree) => Ok(tree),
         Err(ReadFault::Memory) => Err(Refused::NoMemory),
-        Err(ReadFault::At(at)) => Err(Refused::Fault {
-            kind: kind_at(tokens, at),
-            place: place_of_fault(tokens, at, end),
-        }),
+        Err(ReadFault::At(at)) => {
+            let kind = kind_at(alloc, tokens, at)?;
+            Err(Refused::Fault {
+                kind,
+                place: place_of_fault(tokens, at, end),
+            })
+        }
     }
 }

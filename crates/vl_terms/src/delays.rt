@@ -17,7 +17,7 @@ use vl_token::{Symbol, Token, TokenKind};
 use vl_tree::{Delay, MinTypMax};
 
 /// Whether a number stands there.
-fn is_number(tokens: &[Token<'_>], at: usize) -> bool
+pub fn is_number(tokens: &[Token<'_>], at: usize) -> bool
     ensures { result ≡ stands kind_of is_number (map lexeme tokens.now) at }
 {
     matches!(
@@ -46,7 +46,7 @@ fn number(tokens: &[Token<'_>], at: usize) -> Result<(Decimal, usize), ReadFault
 
 /// `number [ ":" number ":" number ]`
 #[tactic(auto, unfolding(vl_tree::specs::Expressions::mtm_parts))]
-fn min_typ_max(tokens: &[Token<'_>], at: usize) -> Result<(MinTypMax, usize), ReadFault>
+pub fn min_typ_max(tokens: &[Token<'_>], at: usize) -> Result<(MinTypMax, usize), ReadFault>
     ensures { Gives (λ x. (view_mtm x.0, x.1)) result (expressions.mtm.read (map lexeme tokens.now) at) }
 {
     let (min, next) = number(tokens, at)?;

@@ -12,7 +12,7 @@ ghost use Rattle.vl_tree.specs.Seen.{view_name};
 use grammar::ReadFault;
 use sg_text::{Keyword, Place};
 use vl_token::{Symbol, Token, TokenKind};
-use vl_tree::Name;
+use vl_tree::{Name, is_pulse_text};
 
 pub fn token_at<'a>(tokens: &[Token<'a>], at: usize) -> Option<Token<'a>>
     ensures { slice_get (map lexeme tokens.now) at ≡ option_map lexeme result }
@@ -101,7 +101,7 @@ pub fn name<'a>(tokens: &[Token<'a>], at: usize) -> Result<(Name<'a>, usize), Re
                 kind: TokenKind::Name(text),
                 place,
             },
-        ) => Ok((Name { text, place }, at + 1)),
+        ) if !is_pulse_text(text) => Ok((Name { text, place }, at + 1)),
         _ => Err(ReadFault::At(at)),
     }
 }
@@ -110,13 +110,15 @@ pub fn name<'a>(tokens: &[Token<'a>], at: usize) -> Result<(Name<'a>, usize), Re
 pub fn is_name(tokens: &[Token<'_>], at: usize) -> bool
     ensures { result ≡ stands kind_of is_name (map lexeme tokens.now) at }
 {
-    matches!(
-        token_at(tokens, at),
-        Some(Token {
-            kind: TokenKind::Name(_),
-            ..
-        })
-    )
+    match token_at(tokens, at) {
+        Some(
+            Token {
+                kind: TokenKind::Name(text),
+                ..
+            },
+        ) => !is_pulse_text(text),
+        _ => false,
+    }
 }
 
 /// `[ name ]`

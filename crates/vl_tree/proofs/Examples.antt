@@ -1,20 +1,18 @@
 -- Small texts that the rules spell, and where others fail.
-use Rattle.std.proofs.Common.{◌≡◌, ℕ, List, [], ◌∷◌, Option, Some, None, Ok, Err, refl, true, false}
+use Rattle.std.proofs.Common.{ℕ, [], ◌∷◌, None, refl, true, false}
 use Rattle.std.specs.Prelude.{pos, negsuc}
 use Rattle.sg_text.specs.declared.places.Place.{Place}
-use Rattle.sg_time.specs.Spelling.{Number}
 use Rattle.grammar.specs.Reads.{FailsAt}
 use Rattle.grammar.specs.Rule.{read_up_to}
 use Rattle.grammar.proofs.Laws.{all_found, all_failed}
 use Rattle.vl_token.specs.declared.symbols.Symbol.{Symbol}
 use Rattle.vl_token.specs.declared.symbols.Symbol.TheVariants.{Colon, Comma, Minus, LeftBracket, RightBracket, LeftParen, RightParen}
-use Rattle.vl_token.specs.Tokens.{Lexeme, Meaning, symbol_token, number_token, name_token, byte_token}
-use Rattle.vl_tree.specs.declared.names.Range.{Range}
+use Rattle.vl_token.specs.Tokens.{Lexeme, Meaning, symbol_token, number_token, byte_token}
 use Rattle.vl_tree.specs.Expressions.{int_parts, range_parts, range}
 use Rattle.vl_tree.specs.Items.{connections_parts, instance_parts, instance}
 use Rattle.vl_tree.specs.Kinds.{kind_of}
 use Rattle.vl_tree.specs.Primitives.{symbol_parts, cell_parts, cells_parts, row_parts, row, cell_of, row_of}
-use Rattle.vl_tree.specs.Tree.{Instance, by_order}
+use Rattle.vl_tree.specs.Tree.{by_order}
 use Rattle.vl_tree.proofs.ExpressionsExact.{range-exact}
 use Rattle.vl_tree.proofs.ItemsExact.{instance-exact}
 use Rattle.vl_tree.proofs.PrimitivesExact.{row-exact}

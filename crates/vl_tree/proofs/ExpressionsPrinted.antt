@@ -1,5 +1,5 @@
 -- What is put for names, ranges, expressions and delays spells them.
-use Rattle.std.proofs.Common.{◌≡◌, ℕ, zero, suc, ◌<◌, ◌^◌, true, false, List, [], ◌∷◌, map, Option, Some, None, refl, sym, subst, ap, ◌∙◌, arith, inl, inr}
+use Rattle.std.proofs.Common.{◌≡◌, ℕ, zero, suc, ◌<◌, ◌^◌, Bool, true, false, List, [], ◌∷◌, map, Option, Some, None, refl, sym, subst, ap, ◌∙◌, arith, inl, inr}
 use Rattle.std.specs.Prelude.{pos, neg_ℤ, slice_get, option_map}
 use Rattle.std.proofs.lemmas.Bool.{lt-ltb}
 use Rattle.std.proofs.lemmas.Option.{slice_get-map}
@@ -7,29 +7,48 @@ use Rattle.sg_text.specs.declared.places.Place.{Place}
 use Rattle.sg_time.specs.Spelling.{Number}
 use Rattle.grammar.specs.Language.{image, sequence}
 use Rattle.grammar.specs.Reads.{Appends}
-use Rattle.grammar.specs.Rule.{◌∙∙◌, ◌▸◌, ◌◂◌}
+use Rattle.grammar.specs.Rule.{one, ◌∙∙◌, ◌▸◌, ◌◂◌}
 use Rattle.grammar.proofs.Printing as printing
 use Rattle.vl_token.specs.declared.symbols.Symbol.TheVariants.{Comma, Colon, Hash, Minus, LeftBracket, RightBracket, LeftBrace, RightBrace, LeftParen, RightParen}
 use Rattle.vl_token.specs.declared.tokens.Token.{Token}
 use Rattle.vl_token.specs.declared.tokens.TokenKind.{TokenKind}
 use Rattle.vl_token.specs.declared.tokens.TokenKind.TheVariants as token
 use Rattle.vl_token.specs.Seen.{lexeme, meaning}
-use Rattle.vl_token.specs.Tokens.{Lexeme, symbol_token, name_token, number_token, sized_token}
+use Rattle.vl_token.specs.Tokens.{Lexeme, Meaning, module_word, word_token, left_out_token, name_token, system_token, other_token, number_token, sized_token, unsized_token, pair_token, symbol_token, byte_token}
 use Rattle.vl_tree.specs.declared.expressions.Select.TheVariants.{Bit, Part}
 use Rattle.vl_tree.specs.Expressions.{name_parts, name, names_parts, names, signed, whole, int_parts, int, range_parts, range, select_parts, select, signal_parts, signal_rule, sized_parts, sized_rule, expression_parts, expression_to, expression, max_braces, number_parts, number, mtm_of, mtm_parts, mtm, mtms_of, mtms_parts, mtms, delay_parts, delay}
-use Rattle.vl_tree.specs.Kinds.{kind_of, is_symbol, is_name, is_number, is_whole, is_sized, number_of, bits_of, text_of}
+use Rattle.vl_tree.specs.Kinds.{Kind, kind_of, kind_of_meaning, is_symbol, is_name, is_number, is_whole, is_sized, number_of, bits_of, text_of}
 use Rattle.vl_tree.specs.Printing.{Tokens, nowhere, put_mark, mark_at, put_optional, put_many, behind_comma, put_listed, put_name, put_names, eighteen_digits, whole_number, put_whole, put_int, put_range, put_select, put_expression, put_expressions, put_others, put_number, put_mtm, put_delay}
 use Rattle.vl_tree.specs.Rules.{mark, placed, optional, listed}
-use Rattle.vl_tree.specs.Tree.{Expression, signal, sized, concatenation, expressions, MinTypMax, one_number}
+use Rattle.vl_tree.specs.Tree.{Named, Expression, signal, sized, concatenation, expressions, MinTypMax, one_number}
 use Rattle.vl_tree.proofs.AllKinds.{apart}
 use Rattle.vl_tree.proofs.Building.{the_mark, behind, with_commas, perhaps}
 use Rattle.vl_tree.proofs.ExpressionsExact.{name-exact, int-exact, expression_to-exact, number-exact, mtm-exact, mtms-exact}
 use Rattle.vl_tree.proofs.Lists.{comma_name, comma_expression}
 use Rattle.vl_tree.proofs.Printed.{quoted_printed, Prints, Own, IsSpelled, token_printed, mapped_prints, seq_prints, either_prints, optional_prints, placed_prints, listed_prints, mark_prints, nothing_prints, behind_mark, before_mark, mark_first, own_mapped, own_seq, own_either, own_nothing, own_placed, own_token, begins_with, begins_behind, longer, placed_printed, spelled_as}
 
+-- the text of a token of a kind is of that kind, where only names are
+pub text_is : (is : Kind → Bool) → ((m : Meaning) → is (kind_of_meaning m) ≡ true → kind_of_meaning m ≡ kind_of_meaning (name_token (text_of m))) → (x : Named)
+    → IsSpelled (image (λ t. record { text = text_of t.meaning; place = t.place }) (one kind_of is).language) x → is (kind_of_meaning (name_token x.text)) ≡ true
+text_is is only x (ts, i, j, (t, e, (at, h, end))) = subst (λ (y : Named). is (kind_of_meaning (name_token y.text)) ≡ true) e (subst (λ (k : Kind). is k ≡ true) (only t.meaning h) h)
+
+is_same_name : (m : Meaning) → is_name (kind_of_meaning m) ≡ true → kind_of_meaning m ≡ kind_of_meaning (name_token (text_of m))
+is_same_name (name_token text) h = refl
+is_same_name (module_word s) h = absurd cc
+is_same_name (word_token w) h = absurd cc
+is_same_name (left_out_token text) h = absurd cc
+is_same_name (system_token text) h = absurd cc
+is_same_name (other_token text) h = absurd cc
+is_same_name (number_token n whole) h = absurd cc
+is_same_name (sized_token bits) h = absurd cc
+is_same_name (unsized_token bits) h = absurd cc
+is_same_name (pair_token from to) h = absurd cc
+is_same_name (symbol_token s) h = absurd cc
+is_same_name (byte_token b) h = absurd cc
+
 pub name_prints : Prints name.language put_name
 unfolding name_parts
-name_prints x s out = token_printed (λ t. record { text = text_of t.meaning; place = t.place }) is_name (name_token x.text) x.place x out refl refl
+name_prints x s out = token_printed (λ t. record { text = text_of t.meaning; place = t.place }) is_name (name_token x.text) x.place x out refl (text_is is_name is_same_name x s)
 
 pub name_own : Own name.language put_name
 unfolding name_parts

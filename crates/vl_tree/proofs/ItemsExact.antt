@@ -1,5 +1,5 @@
 -- Each rule of the items of modules is read exactly.
-use Rattle.std.proofs.Common.{refl}
+use Rattle.std.proofs.Common.{true, refl}
 use Rattle.grammar.specs.Stated.{separated_options}
 use Rattle.grammar.proofs.Laws.{separated_options-exact}
 use Rattle.sg_text.specs.declared.words.Keyword.TheVariants.{Input, Output, Wire, Tri, Supply0, Supply1, Reg}
@@ -7,13 +7,14 @@ use Rattle.sg_text.specs.declared.words.Keyword.TheVariants as keyword
 use Rattle.vl_token.specs.declared.symbols.Symbol.TheVariants.{Comma, Semicolon, Point, LeftParen, RightParen}
 use Rattle.vl_token.specs.declared.symbols.Symbol.TheVariants as symbol
 use Rattle.vl_tree.specs.Expressions.{names, expression}
-use Rattle.vl_tree.specs.Items.{direction_parts, direction, net_type_parts, net_type, supply_parts, supply, gate_parts, gate, net_name_parts, net_name, join_parts, join, gate_instance_parts, gate_instance, named_connection_parts, named_connection, connections_parts, connections, instance_parts, instance, port_item_parts, port_item, net_item_parts, net_item, supply_item_parts, supply_item, register_item_parts, register_item, assign_item_parts, assign_item, gate_item_parts, gate_item, instance_item_parts, instance_item, item_parts, item}
+use Rattle.vl_tree.specs.Items.{direction_parts, direction, net_type_parts, net_type, supply_parts, supply, gate_parts, gate, net_name_parts, net_name, join_parts, join, gate_instance_parts, gate_instance, named_connection_parts, named_connection, connections_parts, connections, instance_parts, instance, port_item_parts, port_item, net_item_parts, net_item, supply_item_parts, supply_item, register_item_parts, register_item, assign_item_parts, assign_item, gate_item_parts, gate_item, instance_item_parts, instance_item, block_item_parts, block_item, item_parts, item}
 use Rattle.vl_tree.specs.Kinds.{kind_of, is_symbol}
 use Rattle.grammar.specs.Rule.{◌◂◌}
 use Rattle.vl_tree.specs.Rules.{mark}
 use Rattle.vl_tree.proofs.AllKinds.{apart, is_within}
 use Rattle.vl_tree.proofs.Building.{IsExact, the_mark, the_word, then, made, behind, before, called, with_place, or, perhaps, with_commas}
 use Rattle.vl_tree.proofs.ExpressionsExact.{name-exact, names-exact, range-exact, expression-exact, delay-exact}
+use Rattle.vl_tree.proofs.SpecifyExact.{block-exact}
 
 pub direction-exact : IsExact direction
 unfolding direction_parts
@@ -112,10 +113,15 @@ instance_item-exact =
     let all = before (with_commas instance-exact refl (apart _ _ refl)) (the_mark Semicolon) (apart _ _ refl) in
     called _ _ (made _ (then name-exact (then (perhaps delay-exact refl) all (apart _ _ refl)) (apart _ _ refl))) refl (is_within _ _ refl) (is_within _ _ refl)
 
+pub block_item-exact : IsExact block_item
+unfolding block_item_parts
+block_item-exact = called _ _ (made _ (block-exact true)) refl (is_within _ _ refl) (is_within _ _ refl)
+
 pub item-exact : IsExact item
 unfolding item_parts
 item-exact =
-    let gates = or gate_item-exact instance_item-exact refl refl (apart _ _ refl) in
+    let blocks = or block_item-exact instance_item-exact refl refl (apart _ _ refl) in
+    let gates = or gate_item-exact blocks refl refl (apart _ _ refl) in
     let assigns = or assign_item-exact gates refl refl (apart _ _ refl) in
     let registers = or register_item-exact assigns refl refl (apart _ _ refl) in
     let supplies = or supply_item-exact registers refl refl (apart _ _ refl) in

@@ -1,5 +1,5 @@
 -- What is put for the items of modules spells them.
-use Rattle.std.proofs.Common.{◌≡◌, ℕ, [], ◌∷◌, length, map, Option, Some, None, refl, sym, subst, ap}
+use Rattle.std.proofs.Common.{◌≡◌, ℕ, true, [], ◌∷◌, length, map, Option, Some, None, refl, sym, subst, ap}
 use Rattle.std.specs.Prelude.{slice_get, unwrap_or}
 use Rattle.sg_logic.specs.declared.gates.GateKind.TheVariants as gate_kind
 use Rattle.sg_text.specs.declared.places.Place.{Place}
@@ -20,9 +20,10 @@ use Rattle.vl_tree.specs.declared.names.Direction.TheVariants as direction_of
 use Rattle.vl_tree.specs.declared.names.NetType.TheVariants as net_type_of
 use Rattle.vl_tree.specs.declared.names.Supply.TheVariants as supply_of
 use Rattle.vl_tree.specs.Expressions.{name, names, range, expression, delay}
-use Rattle.vl_tree.specs.Items.{direction_parts, direction, net_type_parts, net_type, supply_parts, supply, gate_parts, gate, net_name_parts, net_name, join_parts, join, gate_instance_parts, gate_instance, named_connection_parts, named_connection, connections_parts, connections, instance_parts, instance, port_item_parts, port_item, net_item_parts, net_item, supply_item_parts, supply_item, register_item_parts, register_item, assign_item_parts, assign_item, gate_item_parts, gate_item, instance_item_parts, instance_item, item_parts, item}
+use Rattle.vl_tree.specs.Items.{direction_parts, direction, net_type_parts, net_type, supply_parts, supply, gate_parts, gate, net_name_parts, net_name, join_parts, join, gate_instance_parts, gate_instance, named_connection_parts, named_connection, connections_parts, connections, instance_parts, instance, port_item_parts, port_item, net_item_parts, net_item, supply_item_parts, supply_item, register_item_parts, register_item, assign_item_parts, assign_item, gate_item_parts, gate_item, instance_item_parts, instance_item, block_item_parts, block_item, item_parts, item}
 use Rattle.vl_tree.specs.Kinds.{kind_of, is_word, is_symbol}
-use Rattle.vl_tree.specs.Printing.{Tokens, nowhere, put_mark, mark_at, put_optional, behind_comma, put_listed, put_name, put_names, put_range, put_expression, put_direction, put_net_type, put_supply, put_gate, put_net_name, put_join, put_opening, put_gate_instance, put_named_connection, put_connections, put_instance, put_item}
+use Rattle.vl_tree.specs.ModulesPrinting.{put_item}
+use Rattle.vl_tree.specs.Printing.{Tokens, nowhere, put_mark, mark_at, put_optional, behind_comma, put_listed, put_name, put_names, put_range, put_expression, put_direction, put_net_type, put_supply, put_gate, put_net_name, put_join, put_opening, put_gate_instance, put_named_connection, put_connections, put_instance}
 use Rattle.vl_tree.specs.Rules.{mark, optional, listed}
 use Rattle.vl_tree.specs.Tree.{Expression, Connections, by_order, by_name}
 use Rattle.vl_tree.proofs.AllKinds.{apart}
@@ -31,6 +32,7 @@ use Rattle.vl_tree.proofs.ExpressionsExact.{name-exact, names-exact, range-exact
 use Rattle.vl_tree.proofs.ItemsExact.{direction-exact, net_type-exact, supply-exact, gate-exact, net_name-exact, join-exact, gate_instance-exact, named_connection-exact, connections-exact, instance-exact}
 use Rattle.vl_tree.proofs.ExpressionsPrinted.{name_prints, name_own, names_prints, range_prints, expression_prints, expression_own, delay_prints}
 use Rattle.vl_tree.proofs.Lists.{comma_expression, comma_net_name, comma_join, comma_gate_instance, comma_named_connection, comma_instance, comma_option}
+use Rattle.vl_tree.proofs.SpecifyPrinted.{block_prints}
 use Rattle.vl_tree.proofs.Printed.{Over, Prints, PrintsAt, mapped_prints, seq_prints, either_prints, optional_prints, many_prints, placed_prints, listed_prints, behind_mark, before_mark, mark_first, word_comes_first, word_first, first_prints, either_first, own_first, word_says, begins_behind}
 
 pub direction_first : PrintsAt direction.language put_direction
@@ -206,7 +208,11 @@ instance_item_prints =
     let delayed = seq_prints (optional delay) (listed instance ◂ mark Semicolon).language _ _ (perhaps delay-exact refl) (optional_prints _ _ delay_prints) all in
     mapped_prints _ _ _ put_item (seq_prints name _ _ _ name-exact name_prints delayed) (λ x out. refl)
 
+block_item_prints : Prints block_item.language put_item
+unfolding block_item_parts
+block_item_prints = mapped_prints _ _ _ put_item (block_prints true) (λ x out. refl)
+
 pub item_prints : Prints item.language put_item
 unfolding item_parts
 item_prints =
-    either_prints _ _ put_item port_item_prints (either_prints _ _ put_item net_item_prints (either_prints _ _ put_item supply_item_prints (either_prints _ _ put_item register_item_prints (either_prints _ _ put_item assign_item_prints (either_prints _ _ put_item gate_item_prints instance_item_prints)))))
+    either_prints _ _ put_item port_item_prints (either_prints _ _ put_item net_item_prints (either_prints _ _ put_item supply_item_prints (either_prints _ _ put_item register_item_prints (either_prints _ _ put_item assign_item_prints (either_prints _ _ put_item gate_item_prints (either_prints _ _ put_item block_item_prints instance_item_prints))))))

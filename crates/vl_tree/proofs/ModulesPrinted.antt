@@ -9,7 +9,8 @@ use Rattle.vl_tree.specs.Items.{direction, net_type, item}
 use Rattle.vl_tree.specs.Kinds.{is_module, settings_of}
 use Rattle.vl_tree.specs.Modules as modules
 use Rattle.vl_tree.specs.Modules.{port_declaration_parts, port_declaration, head_port_parts, head_port, head_parts, head, port_list_parts, port_list, module_parts, module_rule, part_parts, part, source}
-use Rattle.vl_tree.specs.Printing.{nowhere, put_token, put_port_declaration, put_head_port, put_head, put_port_list, put_module, put_part, put_source}
+use Rattle.vl_tree.specs.ModulesPrinting.{put_port_declaration, put_head_port, put_head, put_port_list, put_module, put_part, put_source}
+use Rattle.vl_tree.specs.Printing.{nowhere, put_token}
 use Rattle.vl_tree.specs.Rules.{word, mark, optional, many}
 use Rattle.vl_tree.proofs.AllKinds.{apart}
 use Rattle.vl_tree.proofs.Building.{token, perhaps, repeated}

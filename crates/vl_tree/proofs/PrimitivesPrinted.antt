@@ -15,7 +15,7 @@ use Rattle.udp_rows.specs.declared.cells.Cell.{Cell}
 use Rattle.vl_token.specs.declared.symbols.Symbol.TheVariants.{Semicolon, LeftParen, RightParen, Assign}
 use Rattle.vl_token.specs.Tokens.{Meaning, module_word, word_token, left_out_token, name_token, system_token, other_token, number_token, sized_token, unsized_token, pair_token, symbol_token, byte_token}
 use Rattle.vl_tree.specs.Expressions.{name, names}
-use Rattle.vl_tree.specs.Kinds.{kind_of, is_byte, is_initial_value, cell_byte, colon_byte, semicolon_byte, left_byte, right_byte, kind_of_meaning, is_bit, first_bit, byte_of, value_of}
+use Rattle.vl_tree.specs.Kinds.{kind_of, is_byte, is_initial_value, cell_byte, colon_byte, semicolon_byte, left_byte, right_byte, kind_of_meaning, sized_kind, bits_kind, first_bit, byte_of, value_of}
 use Rattle.vl_tree.specs.Primitives.{is_there, maybe_register, output_parts, output_rule, register_parts, register_rule, inputs_parts, inputs_rule, declaration_parts, declaration, initial_value_parts, initial_value, initial_parts, initial, symbol_parts, symbol_rule, columns_of, cell_of, cell_parts, cell, cells_parts, cells, row_parts, row, body_parts, body, primitive_parts, primitive}
 use Rattle.vl_tree.specs.Printing.{Tokens, nowhere, put_mark, put_word, put_byte, byte_at, put_optional, put_name, whole_number, put_register_word, put_primitive_declaration, put_initial_value, put_initial, put_cell, put_cells, put_column, put_row, put_primitive}
 use Rattle.vl_tree.specs.Rules.{word, mark, byte, optional, many}
@@ -57,7 +57,7 @@ unfolding declaration_parts
 declaration_prints = either_prints _ _ put_primitive_declaration output_prints (either_prints _ _ put_primitive_declaration register_prints inputs_prints)
 
 -- a value that a primitive begins with isn't z
-bits_no_z : (bits : List Value) → is_bit bits ≡ true → first_bit bits ≡ Z → ⊥
+bits_no_z : (bits : List Value) → is_initial_value (sized_kind (bits_kind bits)) ≡ true → first_bit bits ≡ Z → ⊥
 bits_no_z [] h e = cc
 bits_no_z (Zero ∷ []) h e = cc
 bits_no_z (One ∷ []) h e = cc

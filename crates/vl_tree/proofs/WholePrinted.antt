@@ -6,7 +6,8 @@ use Rattle.vl_token.specs.Seen.{lexeme}
 use Rattle.vl_tree.specs.declared.modules.Part as code
 use Rattle.vl_tree.specs.Modules.{source}
 use Rattle.vl_tree.specs.Printed.{IsSpelledSource, SpellsAll}
-use Rattle.vl_tree.specs.Printing.{put_many, put_part, put_source}
+use Rattle.vl_tree.specs.ModulesPrinting.{put_part, put_source}
+use Rattle.vl_tree.specs.Printing.{put_many}
 use Rattle.vl_tree.specs.Seen.{view_part}
 use Rattle.vl_tree.proofs.ModulesPrinted.{source_prints}
 

@@ -1,5 +1,5 @@
 -- The grammar of the items of modules (IEEE 1364-2005, annex A: A.1.4, A.2.1, A.3.1, A.4.1 and A.6.1).
-use Rattle.std.specs.Prelude.{Bool, ◌||◌, [], unwrap_or}
+use Rattle.std.specs.Prelude.{Bool, true, ◌||◌, [], unwrap_or}
 use Rattle.sg_logic.specs.declared.gates.GateKind.{GateKind}
 use Rattle.sg_logic.specs.declared.gates.GateKind.TheVariants as gate_kind
 use Rattle.sg_text.specs.declared.words.Keyword.TheVariants.{Input, Output, Wire, Tri, Supply0, Supply1, Reg, Assign}
@@ -17,7 +17,8 @@ use Rattle.vl_tree.specs.declared.names.Supply.TheVariants as supply_of
 use Rattle.vl_tree.specs.Expressions.{name, names, range, expression, expression_starts, delay}
 use Rattle.vl_tree.specs.Kinds.{Kind, kind_of, is_name, is_symbol, is_word}
 use Rattle.vl_tree.specs.Rules.{Grammar, word, mark, placed, either, optional, listed}
-use Rattle.vl_tree.specs.Tree.{Item, ports, nets, supplies, registers, assigns, gates, instances, NetName, Join, GateInstance, NamedConnection, Connections, by_order, by_name, Instance}
+use Rattle.vl_tree.specs.Specify.{block}
+use Rattle.vl_tree.specs.Tree.{Item, ports, nets, supplies, registers, assigns, gates, instances, specify_block, NetName, Join, GateInstance, NamedConnection, Connections, by_order, by_name, Instance}
 
 -- dir = "input" | "output"
 unfoldable pub direction_parts : Grammar Direction
@@ -166,12 +167,19 @@ instance_item_parts = mapped (λ x. instances x.0 x.1.0 x.1.1) (name ∙∙ (opt
 abbrev pub instance_item : Grammar Item
 instance_item = named is_name no_kind instance_item_parts
 
+-- block, with lists of delays of the lengths that may stand, and arguments of checks that may be filled alone
+unfoldable pub block_item_parts : Grammar Item
+block_item_parts = mapped specify_block (block true)
+
+abbrev pub block_item : Grammar Item
+block_item = named (is_word keyword.Specify) no_kind block_item_parts
+
 -- item: one of these
 unfoldable pub item_parts : Grammar Item
-item_parts = either port_item (either net_item (either supply_item (either register_item (either assign_item (either gate_item instance_item)))))
+item_parts = either port_item (either net_item (either supply_item (either register_item (either assign_item (either gate_item (either block_item instance_item))))))
 
 abbrev pub item_starts : Kind → Bool
-item_starts k = direction_starts k || (net_type_starts k || (supply_starts k || (is_word Reg k || (is_word Assign k || (gate_starts k || is_name k)))))
+item_starts k = direction_starts k || (net_type_starts k || (supply_starts k || (is_word Reg k || (is_word Assign k || (gate_starts k || (is_word keyword.Specify k || is_name k))))))
 
 abbrev pub item : Grammar Item
 item = named item_starts no_kind item_parts

@@ -1,11 +1,20 @@
 -- The modules of this folder: the grammar of netlists, its trees, and how the code's trees are seen.
 pub mod Tree
 pub mod Seen
+pub mod CheckNames
+pub mod CheckNamesSeen
 pub mod Kinds
 pub mod Rules
 pub mod Expressions
 pub mod Items
+pub mod Conditions
+pub mod Amounts
+pub mod Paths
+pub mod Checks
+pub mod Specify
 pub mod Primitives
 pub mod Modules
 pub mod Printing
+pub mod SpecifyPrinting
+pub mod ModulesPrinting
 pub mod Printed

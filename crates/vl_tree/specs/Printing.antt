@@ -12,7 +12,7 @@ use Rattle.udp_rows.specs.declared.cells.Cell.{Cell}
 use Rattle.udp_rows.specs.declared.cells.RawRow.{RawRow}
 use Rattle.vl_token.specs.declared.symbols.Symbol.{Symbol}
 use Rattle.vl_token.specs.declared.symbols.Symbol.TheVariants as symbol
-use Rattle.vl_token.specs.Tokens.{Lexeme, Meaning, module_word, word_token, name_token, number_token, sized_token, symbol_token, byte_token}
+use Rattle.vl_token.specs.Tokens.{Lexeme, Meaning, word_token, name_token, number_token, sized_token, symbol_token, byte_token}
 use Rattle.vl_tree.specs.declared.expressions.Select.{Select}
 use Rattle.vl_tree.specs.declared.expressions.Select.TheVariants.{Bit, Part}
 use Rattle.vl_tree.specs.declared.names.Direction.{Direction}
@@ -22,8 +22,7 @@ use Rattle.vl_tree.specs.declared.names.NetType.TheVariants as net_type
 use Rattle.vl_tree.specs.declared.names.Range.{Range}
 use Rattle.vl_tree.specs.declared.names.Supply.{Supply}
 use Rattle.vl_tree.specs.declared.names.Supply.TheVariants as supply
-use Rattle.vl_tree.specs.Tree.{Named, Expression, signal, sized, concatenation, Expressions, no_more, one_more, MinTypMax, one_number, three_numbers, Delay, NetName, Join, GateInstance, NamedConnection, Connections, by_order, by_name, Instance, Item, ports, nets, supplies, registers, assigns, gates, instances, PortDeclaration, HeadPort, declared_port, named_port, Head, head_names, head_declarations, Module, PrimitiveDeclaration, output_port, output_register, input_ports, Initial, Primitive, Source, a_module, a_primitive}
-use Rattle.vl_tree.specs.Tree.{Part as SourcePart}
+use Rattle.vl_tree.specs.Tree.{Named, Expression, signal, sized, concatenation, Expressions, no_more, one_more, MinTypMax, one_number, three_numbers, Delay, NetName, Join, GateInstance, NamedConnection, Connections, by_order, by_name, Instance, PrimitiveDeclaration, output_port, output_register, input_ports, Initial, Primitive}
 
 abbrev pub Tokens : Type 0
 Tokens = List Lexeme
@@ -178,34 +177,6 @@ put_connections (by_name cs) out = put_listed put_named_connection cs out
 abbrev pub put_instance : Instance → Tokens → Tokens
 put_instance i out = put_mark symbol.RightParen (put_connections i.connections (put_opening i.place i.name out))
 
-abbrev pub put_item : Item → Tokens → Tokens
-put_item (ports p d n r ns) out = put_mark symbol.Semicolon (put_names ns (put_optional put_range r (put_optional (put_net_type nowhere) n (put_direction p d out))))
-put_item (nets p n r ns) out = put_mark symbol.Semicolon (put_listed put_net_name ns (put_optional put_range r (put_net_type p n out)))
-put_item (supplies p s r ns) out = put_mark symbol.Semicolon (put_names ns (put_optional put_range r (put_supply p s out)))
-put_item (registers p ns) out = put_mark symbol.Semicolon (put_names ns (word_at keyword.Reg p out))
-put_item (assigns p js) out = put_mark symbol.Semicolon (put_listed put_join js (word_at keyword.Assign p out))
-put_item (gates p g d gs) out = put_mark symbol.Semicolon (put_listed put_gate_instance gs (put_optional put_delay d (put_gate p g out)))
-put_item (instances m d is) out = put_mark symbol.Semicolon (put_listed put_instance is (put_optional put_delay d (put_name m out)))
-
--- ---- modules
-
-abbrev pub put_port_declaration : PortDeclaration → Tokens → Tokens
-put_port_declaration d out = put_name d.name (put_optional put_range d.range (put_optional (put_net_type nowhere) d.net (put_direction d.place d.direction out)))
-
-abbrev pub put_head_port : HeadPort → Tokens → Tokens
-put_head_port (declared_port d) out = put_port_declaration d out
-put_head_port (named_port n) out = put_name n out
-
-abbrev pub put_head : Head → Tokens → Tokens
-put_head (head_names ns) out = put_names ns out
-put_head (head_declarations d ps) out = put_many (behind_comma put_head_port) ps (put_port_declaration d out)
-
-abbrev pub put_port_list : Option Head → Tokens → Tokens
-put_port_list o out = put_mark symbol.RightParen (put_optional put_head o (put_mark symbol.LeftParen out))
-
-abbrev pub put_module : Module → Tokens → Tokens
-put_module m out = put_word keyword.EndModule (put_many put_item m.items (put_mark symbol.Semicolon (put_optional put_port_list m.head (put_name m.name (put_token (module_word m.settings) m.place out)))))
-
 -- ---- primitives
 
 abbrev pub put_register_word : Bool → Tokens → Tokens
@@ -245,13 +216,6 @@ put_primitive p out =
     put_word keyword.EndPrimitive (put_word keyword.EndTable (put_many put_row p.rows (put_word keyword.Table
     (put_optional put_initial p.initial (put_many put_primitive_declaration p.declarations
     (put_mark symbol.Semicolon (put_mark symbol.RightParen (put_names p.ports (put_mark symbol.LeftParen (put_name p.name (word_at keyword.Primitive p.place out)))))))))))
-
-abbrev pub put_part : SourcePart → Tokens → Tokens
-put_part (a_module m) out = put_module m out
-put_part (a_primitive p) out = put_primitive p out
-
-abbrev pub put_source : Source → Tokens → Tokens
-put_source parts out = put_many put_part parts out
 
 -- ---- steps of the loop over a concatenation
 

@@ -1,16 +1,23 @@
 -- Trees, as the definitions see them: without where they lie in memory.
 use Rattle.std.specs.Prelude.{ℕ, Bool, List, [], ◌∷◌, Option}
+use Rattle.cond_expr.specs.Token.{Tok}
 use Rattle.sg_logic.specs.declared.gates.GateKind.{GateKind}
 use Rattle.sg_logic.specs.declared.values.Value.{Value}
 use Rattle.sg_text.specs.declared.places.Place.{Place}
 use Rattle.sg_time.specs.Spelling.{Number}
 use Rattle.udp_rows.specs.declared.cells.RawRow.{RawRow}
 use Rattle.vl_token.specs.Tokens.{Settings}
+use Rattle.vl_tree.specs.declared.check_names.OneLimitCheck.{OneLimitCheck}
+use Rattle.vl_tree.specs.declared.check_names.TwoLimitCheck.{TwoLimitCheck}
 use Rattle.vl_tree.specs.declared.expressions.Select.{Select}
 use Rattle.vl_tree.specs.declared.names.Direction.{Direction}
 use Rattle.vl_tree.specs.declared.names.NetType.{NetType}
 use Rattle.vl_tree.specs.declared.names.Range.{Range}
 use Rattle.vl_tree.specs.declared.names.Supply.{Supply}
+use Rattle.vl_tree.specs.declared.paths.Arrow.{Arrow}
+use Rattle.vl_tree.specs.declared.paths.EdgePair.{EdgePair}
+use Rattle.vl_tree.specs.declared.paths.Polarity.{Polarity}
+use Rattle.vl_tree.specs.declared.specify.PulseStyle.{PulseStyle}
 
 pub record Named : Type 0 where
   pub text : List ℕ
@@ -68,6 +75,91 @@ pub record Instance : Type 0 where
   pub name : Option Named
   pub connections : Connections
 
+-- ---- specify blocks
+
+-- a net, a bit of it, or several
+pub record Term : Type 0 where
+  pub name : Named
+  pub select : Option Select
+
+-- a word of a condition
+pub record Word : Type 0 where
+  pub place : Place
+  pub token : Tok
+
+-- a number, or a specparam's name
+pub data Amount : Type 0 where
+  a_number : Place → Number → Amount
+  a_parameter : Named → Amount
+
+-- an amount for all corners, or one for each
+pub data Amounts : Type 0 where
+  one_amount : Amount → Amounts
+  three_amounts : (min typ max : Amount) → Amounts
+
+pub record SignedAmount : Type 0 where
+  pub negative : Bool
+  pub amount : Amount
+
+pub data Limit : Type 0 where
+  one_limit : SignedAmount → Limit
+  three_limits : (min typ max : SignedAmount) → Limit
+
+pub data Specparam : Type 0 where
+  a_value : Named → MinTypMax → Specparam
+  pulse_limits : Named → (reject : MinTypMax) → (error : Option MinTypMax) → Specparam
+
+-- the changes that an event is: rising ones, falling ones, or these
+pub data EdgeWord : Type 0 where
+  posedge negedge : EdgeWord
+  pairs : List EdgePair → EdgeWord
+
+pub data PathCondition : Type 0 where
+  always if_none : PathCondition
+  if_words : List Word → PathCondition
+
+pub record DataSource : Type 0 where
+  pub polarity : Option Polarity
+  pub words : List Word
+
+pub record Destination : Type 0 where
+  pub terms : List Term
+  pub source : Option DataSource
+
+pub record SpecifyPath : Type 0 where
+  pub place : Place
+  pub condition : PathCondition
+  pub edge : Option EdgeWord
+  pub sources : List Term
+  pub polarity : Option Polarity
+  pub arrow : Arrow
+  pub destination : Destination
+  pub delays : List Amounts
+
+pub record Event : Type 0 where
+  pub place : Place
+  pub edge : Option EdgeWord
+  pub term : Term
+  pub condition : Option (List Word)
+
+pub data Check : Type 0 where
+  one_limit_check : Place → OneLimitCheck → (reference data_event : Event) → Limit → (notifier : Option Named) → Check
+  two_limit_check : Place → TwoLimitCheck → (reference data_event : Event) → (first second : Limit) → (notifier : Option Named) → Check
+  width_check : Place → (reference : Event) → Limit → (threshold : Option Limit) → (notifier : Option Named) → Check
+  period_check : Place → (reference : Event) → Limit → (notifier : Option Named) → Check
+
+pub data SpecifyItem : Type 0 where
+  specparams : Place → List Specparam → SpecifyItem
+  a_path : SpecifyPath → SpecifyItem
+  pulse_style : Place → PulseStyle → List Term → SpecifyItem
+  a_check : Check → SpecifyItem
+
+pub record SpecifyBlock : Type 0 where
+  pub place : Place
+  pub items : List SpecifyItem
+
+-- ---- modules and primitives
+
 pub data Item : Type 0 where
   ports : Place → Direction → Option NetType → Option Range → List Named → Item
   nets : Place → NetType → Option Range → List NetName → Item
@@ -76,6 +168,7 @@ pub data Item : Type 0 where
   assigns : Place → List Join → Item
   gates : Place → GateKind → Option Delay → List GateInstance → Item
   instances : Named → Option Delay → List Instance → Item
+  specify_block : SpecifyBlock → Item
 
 pub record PortDeclaration : Type 0 where
   pub place : Place

@@ -1,5 +1,5 @@
 // The items of modules.
-use crate::{Delay, Direction, Expression, Name, NetType, Range, Supply};
+use crate::{Delay, Direction, Expression, Name, NetType, Range, SpecifyBlock, Supply};
 use sg_logic::GateKind;
 use sg_text::Place;
 
@@ -97,4 +97,6 @@ pub enum Item<'a> {
         delay: Option<Delay>,
         instances: Vec<Instance<'a>>,
     },
+    /// `"specify" { specify-item } "endspecify"`
+    Specify(SpecifyBlock<'a>),
 }

@@ -1,4 +1,7 @@
 // Names, and what declarations say beside them.
+ghost use Rattle.std.specs.Prelude.{◌≡◌};
+ghost use Rattle.vl_tree.specs.Kinds.{is_pulse_text};
+
 use sg_text::Place;
 
 /// A name, as the files have it: an escaped name without its backslash.
@@ -35,4 +38,12 @@ pub enum NetType {
 pub enum Supply {
     Zero,
     One,
+}
+
+/// Whether a name is one of pulse limits, which is a name nowhere else (IEEE 1364-2005, 14.6.1).
+#[tactic(auto, unfolding(crate::specs::Kinds::pulse_front))]
+pub fn is_pulse_text(text: &[u8]) -> bool
+    ensures { result ≡ is_pulse_text text.now }
+{
+    text.starts_with("PATHPULSE$".as_bytes())
 }

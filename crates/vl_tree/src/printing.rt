@@ -1,9 +1,14 @@
 // Tokens that spell a tree.
+mod amounts;
+mod checks;
 mod expressions;
 mod items;
 mod lists;
 mod modules;
+mod paths;
 mod primitives;
+mod specify;
 mod tokens;
+mod words;
 
 pub use modules::print;

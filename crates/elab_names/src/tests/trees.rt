@@ -7,7 +7,7 @@ use std::alloc::Global;
 use vl_token::Mark;
 use vl_tree::{
     Connections, Direction, GateInstance, Head, HeadPort, Instance, Item, Module, Name, NetName,
-    NetType, PortDeclaration, Range, Supply,
+    NetType, PortDeclaration, Range, SpecifyBlock, Supply,
 };
 
 pub fn at(byte: u64) -> Place {
@@ -173,6 +173,14 @@ fn items_of_each_kind(alloc: Global) -> Result<Vec<Item<'static>>, NoMemory> {
     items.push(cell(alloc, name(b"c", 32), None)?)?;
     items.push(cell(alloc, name(b"c", 36), Some(name(b"i", 37)))?)?;
     Ok(items)
+}
+
+// specify endspecify
+pub fn block(alloc: Global, byte: u64) -> Item<'static> {
+    Item::Specify(SpecifyBlock {
+        place: at(byte),
+        items: Vec::new(alloc),
+    })
 }
 
 pub fn net<'a>(name: Name<'a>, range: Option<Range>, reg: bool) -> NetDeclaration<'a> {

@@ -28,7 +28,7 @@ pub fn whole(out: &mut Vec<Token<'_>>, size: u64) -> Result<(), NoMemory>
     token(out, TokenKind::Number { value, whole: true }, NOWHERE)
 }
 
-fn int(out: &mut Vec<Token<'_>>, value: i64) -> Result<(), NoMemory>
+pub fn int(out: &mut Vec<Token<'_>>, value: i64) -> Result<(), NoMemory>
     ensures { OnOk result (map lexeme out.new.items ≡ put_int value (map lexeme out.old.items)) }
 {
     if value < 0 {

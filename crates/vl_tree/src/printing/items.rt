@@ -231,7 +231,7 @@ impl<'a> Print<'a> for Instance<'a> {
 impl<'a> Print<'a> for Item<'a> {
     ghost use Rattle.vl_tree.specs.Tree.{Item as TreeSeen};
     ghost use Rattle.vl_tree.specs.Seen.{view_item};
-    ghost use Rattle.vl_tree.specs.Printing.{put_item};
+    ghost use Rattle.vl_tree.specs.ModulesPrinting.{put_item};
 
     ghost Tree = { TreeSeen };
 
@@ -300,6 +300,7 @@ impl<'a> Print<'a> for Item<'a> {
                 print_optional(out, delay)?;
                 print_listed(out, instances.as_slice())?;
             }
+            Item::Specify(block) => return block.print(out),
         }
         symbol(out, Symbol::Semicolon)
     }

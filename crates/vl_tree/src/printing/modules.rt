@@ -2,7 +2,8 @@
 ghost use Rattle.std.specs.Prelude.{◌≡◌, IfOk, length, map, OnOk, option_map};
 ghost use Rattle.vl_token.specs.Seen.{lexeme};
 ghost use Rattle.vl_tree.specs.Modules as modules;
-ghost use Rattle.vl_tree.specs.Printing.{put_optional, put_port_list};
+ghost use Rattle.vl_tree.specs.ModulesPrinting.{put_port_list};
+ghost use Rattle.vl_tree.specs.Printing.{put_optional};
 ghost use Rattle.vl_tree.specs.Printed.{IsSpelledSource, SpellsAll};
 ghost use Rattle.vl_tree.specs.Seen.{view_head, view_source};
 
@@ -19,7 +20,7 @@ use vl_token::{Symbol, Token, TokenKind};
 impl<'a> Print<'a> for PortDeclaration<'a> {
     ghost use Rattle.vl_tree.specs.Tree.{PortDeclaration as TreeSeen};
     ghost use Rattle.vl_tree.specs.Seen.{view_port_declaration};
-    ghost use Rattle.vl_tree.specs.Printing.{put_port_declaration};
+    ghost use Rattle.vl_tree.specs.ModulesPrinting.{put_port_declaration};
 
     ghost Tree = { TreeSeen };
 
@@ -38,7 +39,7 @@ impl<'a> Print<'a> for PortDeclaration<'a> {
 impl<'a> Print<'a> for HeadPort<'a> {
     ghost use Rattle.vl_tree.specs.Tree.{HeadPort as TreeSeen};
     ghost use Rattle.vl_tree.specs.Seen.{view_head_port};
-    ghost use Rattle.vl_tree.specs.Printing.{put_head_port};
+    ghost use Rattle.vl_tree.specs.ModulesPrinting.{put_head_port};
 
     ghost Tree = { TreeSeen };
 
@@ -57,7 +58,7 @@ impl<'a> Print<'a> for HeadPort<'a> {
 impl<'a> Print<'a> for Head<'a> {
     ghost use Rattle.vl_tree.specs.Tree.{Head as TreeSeen};
     ghost use Rattle.vl_tree.specs.Seen.{view_head};
-    ghost use Rattle.vl_tree.specs.Printing.{put_head};
+    ghost use Rattle.vl_tree.specs.ModulesPrinting.{put_head};
 
     ghost Tree = { TreeSeen };
 
@@ -100,7 +101,7 @@ fn print_optional_port_list<'a>(
 impl<'a> Print<'a> for Module<'a> {
     ghost use Rattle.vl_tree.specs.Tree.{Module as TreeSeen};
     ghost use Rattle.vl_tree.specs.Seen.{view_module};
-    ghost use Rattle.vl_tree.specs.Printing.{put_module};
+    ghost use Rattle.vl_tree.specs.ModulesPrinting.{put_module};
 
     ghost Tree = { TreeSeen };
 
@@ -121,7 +122,7 @@ impl<'a> Print<'a> for Module<'a> {
 impl<'a> Print<'a> for Part<'a> {
     ghost use Rattle.vl_tree.specs.Tree.{Part as TreeSeen};
     ghost use Rattle.vl_tree.specs.Seen.{view_part};
-    ghost use Rattle.vl_tree.specs.Printing.{put_part};
+    ghost use Rattle.vl_tree.specs.ModulesPrinting.{put_part};
 
     ghost Tree = { TreeSeen };
 

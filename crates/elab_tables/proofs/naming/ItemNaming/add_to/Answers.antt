@@ -35,3 +35,6 @@ returns-in-Supplies c = unnamed (key_texts c.args.known.now.keys) c.args.self.no
 
 pub returns-in-Registers : goal.returns-in-Registers
 returns-in-Registers c = unnamed (key_texts c.args.known.now.keys) c.args.self.now _ c.in-Registers.is refl
+
+pub returns-in-Specify : goal.returns-in-Specify
+returns-in-Specify c = unnamed (key_texts c.args.known.now.keys) c.args.self.now _ c.in-Specify.is refl

@@ -1,0 +1,5 @@
+-- The modules of this folder.
+pub mod Choice
+pub mod Stamps
+pub mod Within
+pub mod Pass

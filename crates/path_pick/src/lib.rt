@@ -1,0 +1,13 @@
+//! Which specify path decides a transition of an output (IEEE 1364-2005, clause 14).
+#![tactic(auto)]
+
+mod candidates;
+mod conditions;
+mod picking;
+mod pulses;
+mod stamps;
+#[cfg(test)]
+mod tests;
+
+pub use picking::{Picked, pick};
+pub use stamps::{Stamp, Stamps};

@@ -1,0 +1,104 @@
+-- The events of a check over a list of snapshots.
+use Rattle.std.specs.Prelude.{◌≡◌, ℕ, ◌≤◌, Bool, true, false, ◌&&◌, ◌||◌, List, [], ◌∷◌, Option, Some, None, refl}
+use Rattle.std.proofs.Common.{sym, ◌∙◌, ap, subst}
+use Rattle.sg_logic.specs.declared.values.Value.{Value}
+use Rattle.sg_logic.specs.declared.values.Value.TheVariants.{Zero, One, X, Z}
+use Rattle.sg_logic.specs.declared.edges.Edge.{Edge}
+use Rattle.sg_logic.specs.Edges.{edge_changes, has_change, is_change}
+use Rattle.std.specs.List.{list_any, zip}
+use Rattle.sg_circuit.specs.declared.checks.Event.{Event}
+use Rattle.sg_circuit.specs.declared.checks.CheckTiming.{CheckTiming}
+use Rattle.sg_model.specs.Machine.{Snapshot}
+use Rattle.sg_model.specs.Values.{value_at}
+use Rattle.time_checks.specs.declared.events.Events.{Events}
+use Rattle.time_checks.specs.Times.{grown}
+use Rattle.time_checks.specs.Falling.{Falls, DontFall}
+use Rattle.time_checks.specs.Windows.{Moment}
+use Rattle.time_checks.specs.Events.{is_of_edge, is_enabled, has_event, has_opposite, happens, event_times, datum_happens, datum_times, moment}
+use Rattle.time_checks.specs.Kept.{has_datum, events_at}
+use Rattle.time_checks.proofs.TimeLaws.{falls-later}
+
+-- none of an edge's changes is from a value to itself
+abbrev NoneStays : Value → List (Value × Value) → Type 0
+NoneStays v [] = Unit {0}
+NoneStays v (c ∷ cs) = (is_change c v v ≡ false) × NoneStays v cs
+
+none_listed : (v : Value) (has : List Bool) (cs : List (Value × Value)) → NoneStays v cs → list_any (λ place. is_change place.1 v v && place.0) (zip has cs) ≡ false
+none_listed v [] cs h = refl
+none_listed v (b ∷ bs) [] h = refl
+none_listed v (b ∷ bs) (c ∷ cs) h = ap (λ t. (t && b) || list_any (λ place. is_change place.1 v v && place.0) (zip bs cs)) h.0 ∙ none_listed v bs cs h.1
+
+none_of_edge : (edge : Edge) (v : Value) → has_change edge v v ≡ false
+none_of_edge edge Zero = none_listed Zero edge.has edge_changes (refl, (refl, (refl, (refl, (refl, (refl, tt))))))
+none_of_edge edge One = none_listed One edge.has edge_changes (refl, (refl, (refl, (refl, (refl, (refl, tt))))))
+none_of_edge edge X = none_listed X edge.has edge_changes (refl, (refl, (refl, (refl, (refl, (refl, tt))))))
+none_of_edge edge Z = none_listed Z edge.has edge_changes (refl, (refl, (refl, (refl, (refl, (refl, tt))))))
+
+-- a value that stays is no change
+pub no_change : (edge : Option Edge) (v w : Value) → v ≡ w → is_of_edge edge v w ≡ false
+no_change edge v w e = subst (λ x. is_of_edge edge v x ≡ false) e (same edge v)
+  where
+    same : (edge : Option Edge) (v : Value) → is_of_edge edge v v ≡ false
+    same None Zero = refl
+    same None One = refl
+    same None X = refl
+    same None Z = refl
+    same (Some edge) v = none_of_edge edge v
+
+-- a terminal whose net stays has no event
+pub no_event : (event : Event) (last now : List Value) → value_at last event.net ≡ value_at now event.net → has_event event last now ≡ false
+no_event event last now e = ap (λ b. b && is_enabled event.condition now) (no_change event.edge (value_at last event.net) (value_at now event.net) e)
+
+pub no_opposite : (event : Event) (last now : List Value) → value_at last event.net ≡ value_at now event.net → has_opposite event last now ≡ false
+no_opposite event last now e = no_change event.edge (value_at now event.net) (value_at last event.net) (sym e)
+
+-- times of events don't rise where times of snapshots don't
+falls-grown : (b : Bool) (time later : ℕ) (ts : List ℕ) → time ≤ later → Falls time ts → Falls later (grown b time ts)
+falls-grown true time later ts l f = (l, f)
+falls-grown false time later ts l f = falls-later time later ts l f
+
+pub falls-event_times : (event : Event) (time : ℕ) (snapshots : List Snapshot) → DontFall time snapshots → Falls time (event_times event snapshots)
+falls-event_times event time [] f = tt
+falls-event_times event time (now ∷ older) f = falls-grown (happens event (now ∷ older)) now.time time (event_times event older) f.0 (falls-event_times event now.time older f.1)
+
+pub falls-datum_times : (datum : Option Event) (time : ℕ) (snapshots : List Snapshot) → DontFall time snapshots → Falls time (datum_times datum snapshots)
+falls-datum_times None time snapshots f = tt
+falls-datum_times (Some event) time snapshots f = falls-event_times event time snapshots f
+
+-- whether a data event happens, and its times, after one more snapshot
+datum_happens-is : (datum : Option Event) (now last : Snapshot) (older : List Snapshot) → datum_happens datum (now ∷ last ∷ older) ≡ has_datum datum last.values now.values
+datum_happens-is None now last older = refl
+datum_happens-is (Some event) now last older = refl
+
+pub datum_times-more : (datum : Option Event) (now last : Snapshot) (older : List Snapshot) → datum_times datum (now ∷ last ∷ older) ≡ grown (has_datum datum last.values now.values) now.time (datum_times datum (last ∷ older))
+datum_times-more None now last older = refl
+datum_times-more (Some event) now last older = refl
+
+-- the moment by the times up to the snapshot before
+abbrev pub moment_by : ℕ → Events → List ℕ → List ℕ → Moment
+moment_by time events rs ds = record {
+  time = time;
+  refer = events.refer;
+  datum = events.datum;
+  back = events.back;
+  refer_times = grown events.refer time rs;
+  datum_times = grown events.datum time ds;
+  refer_before = rs;
+}
+
+pub moment-is : (check : CheckTiming) (now last : Snapshot) (older : List Snapshot)
+    → moment check now (last ∷ older) ≡ moment_by now.time (events_at check last.values now.values) (event_times check.refer (last ∷ older)) (datum_times check.datum (last ∷ older))
+moment-is check now last older =
+    ap (λ b. with_datum b (datum_times check.datum (now ∷ last ∷ older))) (datum_happens-is check.datum now last older)
+    ∙ ap (with_datum (has_datum check.datum last.values now.values)) (datum_times-more check.datum now last older)
+  where
+    with_datum : Bool → List ℕ → Moment
+    with_datum b ds = record {
+      time = now.time;
+      refer = has_event check.refer last.values now.values;
+      datum = b;
+      back = has_opposite check.refer last.values now.values;
+      refer_times = grown (has_event check.refer last.values now.values) now.time (event_times check.refer (last ∷ older));
+      datum_times = ds;
+      refer_before = event_times check.refer (last ∷ older);
+    }

@@ -1,0 +1,10 @@
+pub mod ListLaws
+pub mod TimeLaws
+pub mod KeptLaws
+pub mod EventLaws
+pub mod JudgedLaws
+pub mod QuietLaws
+pub mod TouchLaws
+pub mod SeeingLaws
+pub mod CheckingLaws
+pub mod Examples

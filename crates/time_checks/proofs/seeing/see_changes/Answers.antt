@@ -1,0 +1,39 @@
+use Rattle.std.proofs.Common.{◌≡◌, ◌∙◌, All, ap, sym, subst, arith, length, map, false, replicate}
+use Rattle.std.proofs.lemmas.List.{length-map, length-replicate, with_items_is}
+use Rattle.sg_circuit.specs.declared.checks.CheckTiming.{CheckTiming}
+use Rattle.fan_round.proofs.WorkLaws.{length-with_readers}
+use Rattle.fan_round.proofs.WorkIsExact.{are_readers}
+use Rattle.time_checks.specs.declared.violations.Violation.{Violation}
+use Rattle.time_checks.specs.Seen.{violation_seen}
+use Rattle.time_checks.specs.Within.{terminals, IsCheckWithin}
+use Rattle.time_checks.proofs.TouchLaws.{listed-within}
+use Rattle.time_checks.proofs.SeeingLaws.{sees_changes_ok}
+use Rattle.time_checks.proofs.seeing.see_changes.Goals as goal
+
+pub list_touched-requires-clause-readers : goal.list_touched-requires-clause-readers
+list_touched-requires-clause-readers c =
+    are_readers (map (λ (k : CheckTiming). terminals k) c.args.checks.now) c.args.index.now (length c.args.checks.now) c.requires.ready.indexed (length-map c.args.checks.now (λ (k : CheckTiming). terminals k))
+
+pub see_checks-seen-requires-clause-work : goal.see_checks-seen-requires-clause-work
+see_checks-seen-requires-clause-work c =
+    listed-within c.list_touched.new.work.marks.items c.list_touched.new.work.list.items c.deref.result.now (length c.args.checks.now) c.list_touched.ensures.marked
+    (ap length c.list_touched.ensures.marks ∙ (length-with_readers c.args.index.now c.args.changed.now (replicate (length c.args.checks.now) false) ∙ length-replicate (length c.args.checks.now) false)) c.deref.ensures.value
+
+pub returns-clause-idle : goal.returns-clause-idle
+returns-clause-idle c =
+    let n = length c.args.checks.now in
+    let many : length c.deref_mut.result.now ≡ n =
+    ap length c.deref_mut.ensures.value ∙ (ap length c.list_touched.ensures.marks ∙ (length-with_readers c.args.index.now c.args.changed.now (replicate n false) ∙ length-replicate n false)) in
+    record {
+      marks = with_items_is c.list_touched.new.work.marks c.clear_work.new.marks (c.clear_work.auto.marks ∙ c.deref_mut.ensures.len) ∙ (c.clear_work.ensures.marks ∙ ap (λ m. replicate m false) many);
+      list = c.clear_work.ensures.work;
+      room = omega (arith, c.requires.ready.idle.room, c.list_touched.ensures.capacity, c.clear_work.ensures.capacity);
+    }
+
+pub returns-clause-seen : goal.returns-clause-seen
+returns-clause-seen c =
+    sees_changes_ok c.see_checks-seen.result c.args.checks.now c.args.index.now c.args.changed.now c.args.last.now c.args.values.now c.args.time c.args.latest.now c.see_checks-seen.new.latest
+    (map (λ (v : Violation). violation_seen v) c.args.violations.now.items) (map (λ (v : Violation). violation_seen v) c.see_checks-seen.new.violations.items)
+    c.list_touched.new.work.marks.items c.list_touched.new.work.list.items c.deref.result.now c.requires.ready.indexed
+    (subst (λ n. All (λ (k : CheckTiming). IsCheckWithin k n) c.args.checks.now) (sym c.requires.ready.each_net) c.requires.ready.within) c.requires.ready.each_check
+    c.list_touched.ensures.marks c.list_touched.ensures.marked c.list_touched.ensures.sorted c.deref.ensures.value c.see_checks-seen.ensures.latest c.see_checks-seen.ensures.found

@@ -1,0 +1,105 @@
+// The checker, which sees one snapshot after another.
+ghost use Rattle.std.specs.Prelude.{◌≡◌, ◌<◌, ◌^◌, [], All, IfOk, OnOk, List, length, map, take};
+ghost use Rattle.sg_model.specs.Machine.{Snapshot};
+ghost use Rattle.time_checks.specs.Checking.{Sees, Stands};
+ghost use Rattle.time_checks.specs.Seen.{violation_seen};
+ghost use Rattle.time_checks.specs.Within.{IsCheckWithin};
+
+use crate::Violation;
+use crate::latest::{Latest, NONE};
+use crate::seeing::{follow, see_changes};
+use crate::touching::index_of;
+use fan_round::WorkList;
+use sg_circuit::{CheckTiming, FanOut, NetId};
+use sg_logic::Value;
+use sg_text::NoMemory;
+use std::alloc::Global;
+use std::marker::Model;
+
+/// The timing checks of a circuit, as far as they have seen snapshots. It keeps the nets of the last snapshot, and of each
+/// check's events two or three times.
+#[derive(Drop)]
+pub struct Checker<'a> {
+    checks: &'a [CheckTiming],
+    // the checks with a terminal on each net
+    index: FanOut,
+    work: WorkList,
+    last: Vec<Value>,
+    latest: Vec<Latest>,
+    // whether there was a snapshot
+    seen: bool,
+}
+
+impl<'a> Model for Checker<'a> {
+    ghost use Rattle.std.specs.Coded.{codes, coded_ℕ};
+    ghost use Rattle.std.specs.Prelude.{length};
+    ghost use Rattle.cond_expr.specs.Codes.{coded_cond};
+    ghost use Rattle.time_checks.specs.Checking.{IsReady, Kept};
+
+    ghost Value = { Kept };
+
+    ghost coded = { Prim.hlevel (codes, coded_cond coded_ℕ) };
+
+    ghost view = { λ c. record { checks = c.checks.now; seen = c.seen; last = c.last.items; latest = c.latest.items } };
+
+    ghost invariant = { λ c. IsReady c.checks.now (length c.last.items) c.index c.work c.latest.items };
+}
+
+impl<'a> Checker<'a> {
+    /// A checker of these checks that has seen nothing, in a circuit of so many nets.
+    pub fn new(alloc: Global, nets: u32, checks: &'a [CheckTiming]) -> Result<Checker<'a>, NoMemory>
+        requires within { All (λ c. IsCheckWithin c nets) checks.now }
+        requires few { length checks.now < 2 ^ 31 }
+        ensures checks { IfOk result (λ checker. checker.checks ≡ checks.now) }
+        ensures nets { IfOk result (λ checker. length checker.last ≡ nets) }
+        ensures empty { IfOk result (λ checker. Stands checker []) }
+        ensures alone { IfOk result (λ checker. (snapshots : List Snapshot) → Stands checker snapshots → snapshots ≡ []) }
+    {
+        Ok(Checker {
+            checks,
+            index: index_of(alloc, nets, checks)?,
+            work: WorkList::new(alloc, checks.len() as u32)?,
+            last: vec![in alloc; Value::X; nets as usize]?,
+            latest: vec![in alloc; NONE; checks.len()]?,
+            seen: false,
+        })
+    }
+
+    /// Sees a snapshot, and adds the violations that belong to it: in the order of the checks, and for each in the order of its
+    /// parts. The changed nets are those whose value may differ from the last snapshot; at the first one any will do.
+    ///
+    /// After `NoMemory` no list of snapshots is known that it stands for.
+    pub fn see(
+        &mut self,
+        now: u64,
+        changed: &[NetId],
+        values: &[Value],
+        violations: &mut Vec<Violation>,
+    ) -> Result<(), NoMemory>
+        requires as_many { length values.now ≡ length self.old.last }
+        requires nets { All (λ net. net < length values.now) changed.now }
+        ensures checks { self.new.checks ≡ self.old.checks }
+        ensures nets { length self.new.last ≡ length self.old.last }
+        ensures seen { OnOk result (Sees self.old self.new now changed.now values.now (map (λ v. violation_seen v) violations.old.items) (map (λ v. violation_seen v) violations.new.items)) }
+        ensures kept { take (length violations.old.items) violations.new.items ≡ violations.old.items }
+    {
+        if !self.seen {
+            self.last.copy_from_slice(values);
+            self.seen = true;
+            return Ok(());
+        }
+        see_changes(
+            self.checks,
+            &self.index,
+            &mut self.work,
+            changed,
+            &self.last,
+            values,
+            now,
+            &mut self.latest,
+            violations,
+        )?;
+        follow(&mut self.last, values, changed);
+        Ok(())
+    }
+}

@@ -1,0 +1,7 @@
+-- The modules of this folder.
+pub mod Skipped
+pub mod Words
+pub mod Delays
+pub mod Parts
+pub mod Faults
+pub mod Reading
