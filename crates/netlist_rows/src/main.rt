@@ -1,5 +1,5 @@
 //! Reads netlists, one a line, and says of each whether it is one: `ok`, or the byte of the failing token and the kind. The
-//! tokens that are printed for a netlist are read again.
+//! tokens that are printed for a netlist are read again, and printed as before.
 #![tactic(auto)]
 
 use sg_text::{Place, Refused};
@@ -31,15 +31,26 @@ fn refusal(alloc: Global, refused: Refused<ParseKind<'_>>) -> Result<String, All
     }
 }
 
-// Whether the tokens that are printed for it are a netlist again.
-fn again(alloc: Global, tree: &Source<'_>, end: Place) -> Result<String, AllocError> {
-    let Ok(printed) = print(alloc, tree) else {
+fn printed<'a>(alloc: Global, tree: &Source<'a>) -> Result<Vec<Token<'a>>, AllocError> {
+    let Ok(tokens) = print(alloc, tree) else {
         return Err(AllocError);
     };
-    match parse(alloc, &printed, end) {
-        Ok(_) => String::from_str(alloc, "ok"),
-        Err(_) => String::from_str(alloc, "printed otherwise"),
-    }
+    Ok(tokens)
+}
+
+// Whether the tokens that are printed for it are the same netlist again.
+fn again(alloc: Global, tree: &Source<'_>, end: Place) -> Result<String, AllocError> {
+    let tokens = printed(alloc, tree)?;
+    let Ok(read) = parse(alloc, &tokens, end) else {
+        return String::from_str(alloc, "printed otherwise");
+    };
+    let twice = printed(alloc, &read)?;
+    let outcome = if twice == tokens {
+        "ok"
+    } else {
+        "read otherwise"
+    };
+    String::from_str(alloc, outcome)
 }
 
 fn outcome(alloc: Global, tokens: &[Token<'_>], end: Place) -> Result<String, AllocError> {

@@ -1,41 +1,37 @@
-//! Lexes and parses a netlist of about as many bytes as its one argument says, which it makes itself, and prints the number of
-//! its tokens and of its items.
+//! Lexes and parses a netlist that it makes itself, and prints the number of its tokens, and of the items in its modules. The
+//! first argument is the netlist's size; the second one, if there is one, says what it is of.
 #![tactic(auto)]
+
+mod shapes;
 
 use anyhow::Context;
 use sg_text::Place;
-use std::alloc::{AllocError, Global};
+use shapes::Shape;
 use std::env;
 use vl_lex::lex;
 use vl_parse::parse;
 use vl_tree::Part;
 
-// A chain of inverters of at least so many bytes.
-fn chain(alloc: Global, bytes: usize) -> Result<String, AllocError> {
-    let mut text = String::from_str(alloc, "module chain;\n")?;
-    for number in 0..u32::MAX {
-        if text.len() >= bytes {
-            break;
+fn items_of(parts: &[Part<'_>]) -> usize {
+    let mut items: usize = 0;
+    for part in parts {
+        if let Part::Module(module) = part {
+            items = items.saturating_add(module.items.len());
         }
-        let next = number + 1;
-        writeln!(text, "  INV u{number} (.Y(n{next}), .A(n{number}));")?;
     }
-    text.push_str("endmodule\n")?;
-    Ok(text)
-}
-
-fn items_of(part: &Part<'_>) -> usize {
-    match part {
-        Part::Module(module) => module.items.len(),
-        Part::Primitive(_) => 0,
-    }
+    items
 }
 
 fn main(rt: HostRuntime) -> anyhow::Result<()> {
     let alloc = rt.alloc();
-    let argument = env::args(&rt)?.nth(1).context("no size")?;
-    let bytes: usize = argument.as_str().parse()?;
-    let text = chain(alloc, bytes)?;
+    let mut arguments = env::args(&rt)?;
+    let argument = arguments.nth(1).context("no size")?;
+    let size: usize = argument.as_str().parse()?;
+    let shape = match arguments.next() {
+        Some(name) => Shape::of(name.as_str()).context("no such shape")?,
+        None => Shape::Chain,
+    };
+    let text = shape.text(alloc, size)?;
     let end = Place {
         file: 0,
         byte: text.len() as u64,
@@ -47,7 +43,7 @@ fn main(rt: HostRuntime) -> anyhow::Result<()> {
         println!(rt; "{count} tokens, no netlist")?;
         return Ok(());
     };
-    let items = tree.parts.first().map_or(0, items_of);
+    let items = items_of(&tree.parts);
     println!(rt; "{count} tokens, {items} items")?;
     Ok(())
 }

@@ -36,7 +36,10 @@ fn select(tokens: &[Token<'_>], at: usize) -> Result<(Select, usize), ReadFault>
 }
 
 /// `[ select ]`
-pub fn optional_select(tokens: &[Token<'_>], at: usize) -> Result<(Option<Select>, usize), ReadFault>
+pub fn optional_select(
+    tokens: &[Token<'_>],
+    at: usize,
+) -> Result<(Option<Select>, usize), ReadFault>
     ensures { Gives (λ x. x) result ((rules.optional expressions.select).read (map lexeme tokens.now) at) }
 {
     if !is_mark(tokens, at, Symbol::LeftBracket) {
