@@ -97,7 +97,7 @@ fn each_token_may_fail(rt: HostRuntime) {
 
 // A path whose condition is a name in so many pairs of parentheses.
 fn nested(alloc: Global, pairs: usize) -> Result<Vec<Token<'static>>, NoMemory> {
-    let mut tokens = Vec::new(alloc);
+    let mut tokens: Vec<Token<'static>> = Vec::new(alloc);
     put_words(&mut tokens, "specify if (")?;
     for _ in 0..pairs {
         put(&mut tokens, TokenKind::Symbol(Symbol::LeftParen))?;

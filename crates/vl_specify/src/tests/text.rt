@@ -86,7 +86,7 @@ pub fn put_words(tokens: &mut Vec<Token<'static>>, text: &'static str) -> Result
 }
 
 pub fn tokens_of(alloc: Global, item: &'static str) -> Result<Vec<Token<'static>>, NoMemory> {
-    let mut tokens = Vec::new(alloc);
+    let mut tokens: Vec<Token<'static>> = Vec::new(alloc);
     put_words(&mut tokens, "specify")?;
     put_words(&mut tokens, item)?;
     put_words(&mut tokens, "endspecify")?;
