@@ -1,2 +1,8 @@
--- The lemmas of the crate.
+-- The lemmas of the crate: words, pieces, and whole texts.
 mod RunLaws
+mod WordLaws
+mod EndLaws
+mod FirstPieces
+mod ToldPieces
+mod CutLaws
+mod OneReading

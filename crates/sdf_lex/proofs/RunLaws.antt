@@ -35,14 +35,14 @@ run_escaped ends c cs h = rw h refl
 
 -- ---- step by step
 
-escaped_end : (ends : Option Ends) (xs : List ℕ) → escaped_letter xs ≡ None → run_of ends (92 ∷ xs) ≡ []
+pub escaped_end : (ends : Option Ends) (xs : List ℕ) → escaped_letter xs ≡ None → run_of ends (92 ∷ xs) ≡ []
 escaped_end ends [] h = refl
 escaped_end ends (c ∷ cs) h = elim (cases_Bool (is_good (class_of c))) [
   | inl y ↦ absurd (none_some (sym (rw y at h)))
   | inr n ↦ rw n refl
 ]
 
-plain_end : (ends : Option Ends) (b : ℕ) (xs : List ℕ) → (b == 92) ≡ false → may_be (class_of b) ends b xs ≡ false → run_of ends (b ∷ xs) ≡ []
+pub plain_end : (ends : Option Ends) (b : ℕ) (xs : List ℕ) → (b == 92) ≡ false → may_be (class_of b) ends b xs ≡ false → run_of ends (b ∷ xs) ≡ []
 plain_end ends b [] e h = rw (e, h) refl
 plain_end ends b (c ∷ cs) e h = rw (e, h) refl
 
@@ -56,3 +56,32 @@ run_end ends (b ∷ bs) h = elim (cases_Bool (b == 92)) [
     by : (b == 92) ≡ false → (may_be (class_of b) ends b bs ≡ true) ⊎ (may_be (class_of b) ends b bs ≡ false) → run_of ends (b ∷ bs) ≡ []
     by n (inl y) = absurd (none_some (sym (rw (n, y) at h)))
     by n (inr m) = plain_end ends b bs n m
+
+pub run_step : (ends : Option Ends) (text : List ℕ) (l : Letter) → next_letter ends text ≡ Some l
+    → (run_of ends text ≡ l ∷ run_of (Some (with_last ends l)) (drop (length (written l)) text)) × (length (written l) ≤ length text)
+run_step ends [] l h = absurd (none_some h)
+run_step ends (b ∷ bs) l h = elim (cases_Bool (b == 92)) [
+  | inl y ↦ escaped bs (eqb-true b 92 y) (rw y at h)
+  | inr n ↦ plain n (cases_Bool (may_be (class_of b) ends b bs))
+]
+  where
+    Step : List ℕ → Letter → Type 0
+    Step text l = (run_of ends text ≡ l ∷ run_of (Some (with_last ends l)) (drop (length (written l)) text)) × (length (written l) ≤ length text)
+
+    good : (c : ℕ) (cs : List ℕ) → b ≡ 92 → (is_good (class_of c) ≡ true) ⊎ (is_good (class_of c) ≡ false) → escaped_letter (c ∷ cs) ≡ Some l → Step (b ∷ c ∷ cs) l
+    unfolding Step
+    good c cs e (inl g) k =
+        let same : Escaped c ≡ l = some_same (rw g at k) in
+        subst (λ m. Step (b ∷ c ∷ cs) m) same (subst (λ x. Step (x ∷ c ∷ cs) (Escaped c)) (sym e) (run_escaped ends c cs g, omega arith))
+    good c cs e (inr n) k = absurd (none_some (rw n at k))
+
+    escaped : (xs : List ℕ) → b ≡ 92 → escaped_letter xs ≡ Some l → Step (b ∷ xs) l
+    escaped [] e k = absurd (none_some k)
+    escaped (c ∷ cs) e k = good c cs e (cases_Bool (is_good (class_of c))) k
+
+    plain : (b == 92) ≡ false → (may_be (class_of b) ends b bs ≡ true) ⊎ (may_be (class_of b) ends b bs ≡ false) → Step (b ∷ bs) l
+    unfolding Step
+    plain n (inl y) =
+        let same : Plain b ≡ l = some_same (rw (n, y) at h) in
+        subst (λ m. Step (b ∷ bs) m) same (run_plain ends b bs y, omega arith)
+    plain n (inr m) = absurd (none_some (rw (n, m) at h))

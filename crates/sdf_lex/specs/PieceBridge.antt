@@ -1,6 +1,6 @@
 -- A bridge, on which no public clause rests: the first piece of a text, as the code finds it. That it is the definition's is proved
 -- (`proofs/PieceLaws.antt`).
-use Rattle.std.specs.Prelude.{ℕ, ℤ, ◌+◌, ◌-◌, ◌≡◌, ◌==◌, ◌&&◌, nat_le, nat_lt, Bool, true, false, List, [], ◌∷◌, ◌++◌, length, take, drop, Option, Some, None, if◌then◌else◌}
+use Rattle.std.specs.Prelude.{ℕ, ℤ, ◌+◌, ◌-◌, ◌<◌, ◌≡◌, ◌==◌, ◌&&◌, nat_le, nat_lt, Bool, true, false, List, [], ◌∷◌, ◌++◌, length, take, drop, Option, Some, None, if◌then◌else◌}
 use Rattle.std.specs.Option.{option_map}
 use Rattle.std.specs.List.{prefix_len}
 use Rattle.vl_pieces.specs.Bytes.{is_inline}
@@ -126,6 +126,15 @@ kind_of (open_text inside) = kind.UnendedText
 kind_of (symbol_piece bytes) = kind.Symbol
 kind_of (mark_piece b) = kind.Mark
 kind_of (bad_piece b) = kind.Bad
+
+-- a word's bracket is one of its bytes
+abbrev pub IsWithin : Kind → ℕ → Type 0
+IsWithin (kind.Word (Some n)) size = n < size
+IsWithin _ size = Unit {0}
+
+abbrev pub is_bad_kind : Kind → Bool
+is_bad_kind kind.Bad = true
+is_bad_kind _ = false
 
 -- ---- the tokens of a piece of a kind, at a byte
 

@@ -1,5 +1,5 @@
 // What words are made of.
-ghost use Rattle.std.specs.Prelude.{◌≡◌, ◌≤◌, length, IfSome, ◌<◌};
+ghost use Rattle.std.specs.Prelude.{◌≡◌, ◌≤◌, ◌+◌, length, IfSome};
 ghost use Rattle.sdf_lex.specs.Bytes.{class_of};
 ghost use Rattle.sdf_lex.specs.Words.{written, is_numeric, is_exponent, is_bracket, may_sign, may_be, with_last};
 ghost use Rattle.sdf_lex.specs.PieceBridge.{escaped_letter, next_letter};
@@ -85,7 +85,8 @@ fn may_be(class: ByteClass, ends: Option<Ends>, b: u8, after: &[u8]) -> bool
 }
 
 fn escaped_letter(after: &[u8]) -> Option<Letter>
-    ensures { result ≡ escaped_letter after.now }
+    ensures value { result ≡ escaped_letter after.now }
+    ensures within { IfSome result (λ l. length (written l) ≤ length after.now + 1) }
 {
     match after {
         [b, ..] if is_good(*b) => Some(Letter::Escaped(*b)),
@@ -95,7 +96,8 @@ fn escaped_letter(after: &[u8]) -> Option<Letter>
 
 // The letter that goes on a word with these ends so far.
 pub fn next_letter(ends: Option<Ends>, text: &[u8]) -> Option<Letter>
-    ensures { result ≡ next_letter ends text.now }
+    ensures value { result ≡ next_letter ends text.now }
+    ensures within { IfSome result (λ l. length (written l) ≤ length text.now) }
 {
     let [b, after @ ..] = text else {
         return None;

@@ -1,6 +1,7 @@
 // The piece that a text begins with.
 ghost use Rattle.std.specs.Prelude.{◌≡◌, ◌≤◌, ◌<◌, ◌+◌, ◌∷◌, length};
-ghost use Rattle.sdf_lex.specs.PieceBridge.{slash_cut, quote_cut, class_cut, other_cut, first_cut};
+ghost use Rattle.sdf_lex.specs.Pieces.{spelling};
+ghost use Rattle.sdf_lex.specs.PieceBridge.{slash_cut, quote_cut, class_cut, other_cut, first_cut, first_piece, kind_of, IsWithin, is_bad_kind};
 
 use crate::bytes::{ByteClass, class_of, comment_len, line_len, unquoted_len};
 use crate::operators::symbol_len;
@@ -90,4 +91,23 @@ fn first_cut(text: &[u8]) -> (Kind, usize)
         return other_cut(*b, rest, text);
     }
     (Kind::Word(bracket), size)
+}
+
+/// The kind of the first piece of a text, and how many bytes it has.
+pub fn first_piece(text: &[u8]) -> (Kind, usize)
+    requires { 0 < length text.now }
+    ensures kind { result.0 ≡ kind_of (first_piece text.now) }
+    ensures size { result.1 ≡ length (spelling (first_piece text.now)) }
+    ensures some { 0 < result.1 }
+    ensures within { result.1 ≤ length text.now }
+    ensures bracket { IsWithin result.0 result.1 }
+{
+    first_cut(text)
+}
+
+// Whether a piece of this kind is a fault.
+pub fn is_bad(kind: Kind) -> bool
+    ensures { result ≡ is_bad_kind kind }
+{
+    matches!(kind, Kind::Bad)
 }

@@ -32,10 +32,11 @@ pub fn first_word(text: &[u8]) -> (usize, Option<usize>)
     let mut ends = None;
     let mut rest = text;
     while let Some(letter) = next_letter(ends, rest) {
+        let (_, tail) = rest.split_at(letter.size());
         bracket = bracket_with(letter, size, bracket);
         ends = Some(with_last(ends, letter));
         size += letter.size();
-        rest = &rest[letter.size()..];
+        rest = tail;
     }
     (size, bracket)
 }
