@@ -1,5 +1,5 @@
 -- The piece that the code finds has its form, and no other has a form that isn't shorter.
-use Rattle.std.proofs.Common.{◌≡◌, ℕ, zero, suc, ◌+◌, ◌-◌, ◌<◌, ◌≤◌, List, [], ◌∷◌, ◌++◌, length, take, drop, Bool, true, false, refl, sym, ap, ◌∙◌, subst, arith, inl, inr}
+use Rattle.std.proofs.Common.{◌≡◌, ℕ, zero, suc, ◌+◌, ◌-◌, ◌<◌, ◌≤◌, List, [], ◌∷◌, ◌++◌, length, take, drop, Bool, true, false, refl, sym, ap, ◌∙◌, subst, arith, ◌⊎◌, inl, inr}
 use Rattle.std.specs.Prelude.{Option, Some, None, ◌==◌, ◌||◌, not, nat_lt, if◌then◌else◌}
 use Rattle.std.specs.List.{list_all, prefix_len}
 use Rattle.std.specs.Char.{is_ascii_graphic}
@@ -47,7 +47,7 @@ test_passed false false false false false false false true = refl
 test_passed false false false false false false false false = refl
 
 tested : (b : ℕ) → test_of (class_of b) (b == 47) (b == 92) (b == 34) ≡ true
-unfolding picked
+unfolding picked class_of
 tested b = test_passed (is_blank b) (is_name_byte b || is_word_mark b) (b == 47) (is_sign b) (b == 92) (b == 34) (is_operator_byte b) (is_ascii_graphic b)
 
 slash_is : (b : ℕ) → class_of b ≡ class.Slash → b ≡ 47
@@ -61,6 +61,18 @@ backslash_is b e = eqb-true b 92 (rw e at (tested b))
 quote_is : (b : ℕ) → class_of b ≡ class.Quote → b ≡ 34
 unfolding test_of
 quote_is b e = eqb-true b 34 (rw e at (tested b))
+
+slash_class : class_of 47 ≡ class.Slash
+unfolding class_of
+slash_class = refl
+
+pub backslash_class : class_of 92 ≡ class.Backslash
+unfolding class_of
+backslash_class = refl
+
+quote_class : class_of 34 ≡ class.Quote
+unfolding class_of
+quote_class = refl
 
 -- bytes of two classes are two
 apart : (b n : ℕ) (k m : ByteClass) → class_of b ≡ k → class_of n ≡ m → (k ≡ m → ⊥) → (b == n) ≡ false
@@ -94,8 +106,8 @@ same_letter class.Bad b after h = h
 pub single_first : (b : ℕ) (after : List ℕ) (k : ByteClass) → class_of b ≡ k → IsSingle k after → first_piece (b ∷ after) ≡ class_piece k b after
 single_first b after k e s =
     let letter : may_be (class_of b) None b after ≡ false = rw e (same_letter k b after s.no_letter) in
-    let none : run_of None (b ∷ after) ≡ [] = plain_end None b after (apart b 92 k class.Backslash e refl s.no_backslash) letter in
-    rw (none, apart b 34 k class.Quote e refl s.no_quote, apart b 47 k class.Slash e refl s.no_slash, e) refl
+    let none : run_of None (b ∷ after) ≡ [] = plain_end None b after (apart b 92 k class.Backslash e backslash_class s.no_backslash) letter in
+    rw (none, apart b 34 k class.Quote e quote_class s.no_quote, apart b 47 k class.Slash e slash_class s.no_slash, e) refl
 
 pub blank_single : (after : List ℕ) → IsSingle class.Blank after
 blank_single after = record { no_slash = λ e. cc; no_backslash = λ e. cc; no_quote = λ e. cc; no_letter = refl }
@@ -157,6 +169,7 @@ comment_found inside (Some e) h =
     })
 
 slash_found : (bs : List ℕ) → run_of None (47 ∷ bs) ≡ [] → Found (slash_piece bs) (47 ∷ bs)
+unfolding class_of
 slash_found [] h = absurd (not_nil (sym h))
 slash_found (c ∷ cs) h = elim (cases_Bool (c == 47)) [
   | inl y ↦ rw y (line (eqb-true c 47 y))

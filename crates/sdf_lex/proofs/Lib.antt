@@ -6,3 +6,5 @@ mod FirstPieces
 mod ToldPieces
 mod CutLaws
 mod OneReading
+mod NumberLaws
+mod NameLaws

@@ -1,5 +1,5 @@
 -- The letters of the longest word that a text begins with.
-use Rattle.std.proofs.Common.{◌≡◌, ℕ, zero, suc, ◌+◌, ◌<◌, ◌≤◌, List, [], ◌∷◌, ◌++◌, length, drop, Bool, true, false, refl, sym, ap, ◌∙◌, subst, arith, inl, inr}
+use Rattle.std.proofs.Common.{◌≡◌, ℕ, zero, suc, ◌+◌, ◌<◌, ◌≤◌, List, [], ◌∷◌, ◌++◌, length, drop, Bool, true, false, refl, sym, ap, ◌∙◌, subst, arith, ◌⊎◌, inl, inr}
 use Rattle.std.specs.Prelude.{Option, Some, None, ◌==◌}
 use Rattle.std.proofs.lemmas.Bool.{cases_Bool, eqb-true, ne_eqb, eq-eqb}
 use Rattle.sdf_lex.specs.declared.bytes.ByteClass.{ByteClass}
@@ -9,7 +9,7 @@ use Rattle.sdf_lex.specs.declared.letters.Letter.TheVariants.{Plain, Escaped}
 use Rattle.sdf_lex.specs.declared.letters.Ends.{Ends}
 use Rattle.sdf_lex.specs.Bytes.{class_of, is_good}
 use Rattle.sdf_lex.specs.Words.{written, spelled, may_be, with_last, Fits}
-use Rattle.sdf_lex.specs.PieceBridge.{escaped_letter, next_letter, run_of}
+use Rattle.sdf_lex.specs.PieceBridge.{escaped_letter, next_letter, run_of, bracket_with, measured}
 
 some_same : {A : Type 0} {x y : A} → Some x ≡ Some y → x ≡ y
 some_same h = cc
@@ -19,6 +19,7 @@ none_some h = cc
 
 -- a backslash is no letter of its own
 plain_is : (ends : Option Ends) (b : ℕ) (xs : List ℕ) → may_be (class_of b) ends b xs ≡ true → (b == 92) ≡ false
+unfolding class_of
 plain_is ends b xs h = ne_eqb b 92 (λ e. absurd (impossible (subst (λ c. may_be (class_of c) ends c xs ≡ true) e h)))
   where
     impossible : false ≡ true → ⊥
@@ -57,31 +58,39 @@ run_end ends (b ∷ bs) h = elim (cases_Bool (b == 92)) [
     by n (inl y) = absurd (none_some (sym (rw (n, y) at h)))
     by n (inr m) = plain_end ends b bs n m
 
-pub run_step : (ends : Option Ends) (text : List ℕ) (l : Letter) → next_letter ends text ≡ Some l
-    → (run_of ends text ≡ l ∷ run_of (Some (with_last ends l)) (drop (length (written l)) text)) × (length (written l) ≤ length text)
+abbrev pub Step : Option Ends → List ℕ → Letter → Type 0
+Step ends text l = (run_of ends text ≡ l ∷ run_of (Some (with_last ends l)) (drop (length (written l)) text)) × (length (written l) ≤ length text)
+
+good_step : (ends : Option Ends) (c : ℕ) (cs : List ℕ) (l : Letter) → escaped_letter (c ∷ cs) ≡ Some l → Step ends (92 ∷ c ∷ cs) l
+good_step ends c cs l k = elim (cases_Bool (is_good (class_of c))) [
+  | inl g ↦
+      let same : Escaped c ≡ l = some_same (rw g at k) in
+      subst (λ m. Step ends (92 ∷ c ∷ cs) m) same (run_escaped ends c cs g, omega arith)
+  | inr n ↦ absurd (none_some (rw n at k))
+]
+
+escaped_step : (ends : Option Ends) (xs : List ℕ) (l : Letter) → escaped_letter xs ≡ Some l → Step ends (92 ∷ xs) l
+escaped_step ends [] l k = absurd (none_some k)
+escaped_step ends (c ∷ cs) l k = good_step ends c cs l k
+
+pub run_step : (ends : Option Ends) (text : List ℕ) (l : Letter) → next_letter ends text ≡ Some l → Step ends text l
 run_step ends [] l h = absurd (none_some h)
 run_step ends (b ∷ bs) l h = elim (cases_Bool (b == 92)) [
-  | inl y ↦ escaped bs (eqb-true b 92 y) (rw y at h)
-  | inr n ↦ plain n (cases_Bool (may_be (class_of b) ends b bs))
-]
-  where
-    Step : List ℕ → Letter → Type 0
-    Step text l = (run_of ends text ≡ l ∷ run_of (Some (with_last ends l)) (drop (length (written l)) text)) × (length (written l) ≤ length text)
-
-    good : (c : ℕ) (cs : List ℕ) → b ≡ 92 → (is_good (class_of c) ≡ true) ⊎ (is_good (class_of c) ≡ false) → escaped_letter (c ∷ cs) ≡ Some l → Step (b ∷ c ∷ cs) l
-    unfolding Step
-    good c cs e (inl g) k =
-        let same : Escaped c ≡ l = some_same (rw g at k) in
-        subst (λ m. Step (b ∷ c ∷ cs) m) same (subst (λ x. Step (x ∷ c ∷ cs) (Escaped c)) (sym e) (run_escaped ends c cs g, omega arith))
-    good c cs e (inr n) k = absurd (none_some (rw n at k))
-
-    escaped : (xs : List ℕ) → b ≡ 92 → escaped_letter xs ≡ Some l → Step (b ∷ xs) l
-    escaped [] e k = absurd (none_some k)
-    escaped (c ∷ cs) e k = good c cs e (cases_Bool (is_good (class_of c))) k
-
-    plain : (b == 92) ≡ false → (may_be (class_of b) ends b bs ≡ true) ⊎ (may_be (class_of b) ends b bs ≡ false) → Step (b ∷ bs) l
-    unfolding Step
-    plain n (inl y) =
+  | inl y ↦ subst (λ x. Step ends (x ∷ bs) l) (sym (eqb-true b 92 y)) (escaped_step ends bs l (rw y at h))
+  | inr n ↦ elim (cases_Bool (may_be (class_of b) ends b bs)) [
+    | inl y ↦
         let same : Plain b ≡ l = some_same (rw (n, y) at h) in
-        subst (λ m. Step (b ∷ bs) m) same (run_plain ends b bs y, omega arith)
-    plain n (inr m) = absurd (none_some (rw (n, m) at h))
+        subst (λ m. Step ends (b ∷ bs) m) same (run_plain ends b bs y, omega arith)
+    | inr m ↦ absurd (none_some (rw (n, m) at h))
+  ]
+]
+
+-- what is left of a word after a letter
+pub step_on : (n : ℕ) (bracket : Option ℕ) (ends : Option Ends) (text rest : List ℕ) (l : Letter) (whole : ℕ × Option ℕ) → next_letter ends text ≡ Some l → rest ≡ drop (length (written l)) text
+    → measured n bracket (run_of ends text) ≡ whole → measured (n + length (written l)) (bracket_with l n bracket) (run_of (Some (with_last ends l)) rest) ≡ whole
+step_on n bracket ends text rest l whole h e same =
+    let s = run_step ends text l h in
+    rw e (sym (ap (λ ls. measured n bracket ls) s.0) ∙ same)
+
+pub step_end : (n : ℕ) (bracket : Option ℕ) (ends : Option Ends) (text : List ℕ) (whole : ℕ × Option ℕ) → next_letter ends text ≡ None → measured n bracket (run_of ends text) ≡ whole → whole ≡ (n, bracket)
+step_end n bracket ends text whole h same = sym same ∙ ap (λ ls. measured n bracket ls) (run_end ends text h)

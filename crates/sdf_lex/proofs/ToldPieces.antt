@@ -1,5 +1,5 @@
 -- A piece that has its form is the one that is found, or is shorter.
-use Rattle.std.proofs.Common.{◌≡◌, ℕ, zero, suc, ◌+◌, ◌-◌, ◌<◌, ◌≤◌, List, [], ◌∷◌, ◌++◌, length, take, drop, Bool, true, false, refl, sym, ap, ◌∙◌, subst, arith, inl, inr}
+use Rattle.std.proofs.Common.{◌≡◌, ℕ, zero, suc, ◌+◌, ◌-◌, ◌<◌, ◌≤◌, List, [], ◌∷◌, ◌++◌, length, take, drop, Bool, true, false, refl, sym, ap, ◌∙◌, subst, arith, ◌⊎◌, inl, inr}
 use Rattle.std.specs.Prelude.{Option, Some, None, ◌==◌, ◌||◌, not, nat_lt}
 use Rattle.std.specs.List.{list_all, prefix_len}
 use Rattle.std.proofs.lemmas.Bool.{cases_Bool, not-true, lt-ltb, le-ltb}
@@ -14,11 +14,11 @@ use Rattle.sdf_lex.specs.Bytes.{class_of, is_good, is_unquoted, begins_number, b
 use Rattle.sdf_lex.specs.Words.{written, spelled, Fits}
 use Rattle.sdf_lex.specs.Operators.{is_operator}
 use Rattle.sdf_lex.specs.Pieces.{Piece, blank_piece, line_comment, block_comment, open_comment, word_piece, text_piece, open_text, symbol_piece, mark_piece, bad_piece, spelling, is_mark, is_alone, HasForm}
-use Rattle.sdf_lex.specs.PieceBridge.{run_of, comment_of, quote_piece, symbol_len, class_piece, other_piece, word_or, first_piece}
-use Rattle.sdf_lex.proofs.RunLaws.{escaped_end}
+use Rattle.sdf_lex.specs.PieceBridge.{escaped_letter, run_of, comment_of, quote_piece, symbol_len, class_piece, other_piece, word_or, first_piece}
+use Rattle.sdf_lex.proofs.RunLaws.{plain_end, escaped_end}
 use Rattle.sdf_lex.proofs.WordLaws.{run_front, spelled-append, some_bytes}
 use Rattle.sdf_lex.proofs.EndLaws.{run_on, run_to, run_all, end_here, symbol_told}
-use Rattle.sdf_lex.proofs.FirstPieces.{backslash_is, false_true, single_first, blank_single, operator_single, mark_single, bad_single, sign_single}
+use Rattle.sdf_lex.proofs.FirstPieces.{backslash_class, backslash_is, false_true, single_first, blank_single, operator_single, mark_single, bad_single, sign_single}
 
 abbrev pub Told : Piece → Piece → Type 0
 Told q p = (length (spelling q) < length (spelling p)) ⊎ (q ≡ p)
@@ -29,8 +29,11 @@ told_by q p first e t = subst (λ x. Told q x) (sym e) t
 -- ---- single bytes
 
 backslash_told : (after : List ℕ) → begins_good after ≡ false → first_piece (92 ∷ after) ≡ mark_piece 92
-backslash_told [] h = refl
-backslash_told (c ∷ cs) h = rw h refl
+backslash_told after h = rw (escaped_end None after (no_letter after h), backslash_class) refl
+  where
+    no_letter : (xs : List ℕ) → begins_good xs ≡ false → escaped_letter xs ≡ None
+    no_letter [] k = refl
+    no_letter (c ∷ cs) k = rw k refl
 
 mark_told : (b : ℕ) (after : List ℕ) (k : ByteClass) → class_of b ≡ k → is_mark k after ≡ true → first_piece (b ∷ after) ≡ mark_piece b
 mark_told b after class.Blank e h = absurd (false_true h)
@@ -50,6 +53,7 @@ longer xs [] = inr refl
 longer xs (m ∷ ms) = inl (omega (arith, length-append xs (m ∷ ms)))
 
 line_told : (inside after : List ℕ) → list_all is_inline inside ≡ true → Told (line_comment inside) (first_piece (47 ∷ 47 ∷ (inside ++ after)))
+unfolding class_of
 line_told inside after h =
     let r = run_on is_inline inside after h in
     rw r.1 (elim (longer inside r.0) [
@@ -58,13 +62,20 @@ line_told inside after h =
     ])
 
 block_told : (inside after : List ℕ) → end_of 42 47 (inside ++ 42 ∷ []) ≡ None → first_piece (47 ∷ 42 ∷ ((inside ++ 42 ∷ 47 ∷ []) ++ after)) ≡ block_comment inside
+unfolding class_of
 block_told inside after h =
     let joined : (inside ++ 42 ∷ 47 ∷ []) ++ after ≡ inside ++ 42 ∷ 47 ∷ after = append_assoc inside (42 ∷ 47 ∷ []) after in
     let size : (0 + (length inside + 2)) - 2 ≡ length inside = omega arith in
     rw (joined, end_here 0 inside after h, size, take_at inside (42 ∷ 47 ∷ after) (length inside) refl) refl
 
 open_told : (inside : List ℕ) → end_of 42 47 inside ≡ None → first_piece (47 ∷ 42 ∷ (inside ++ [])) ≡ open_comment inside
+unfolding class_of
 open_told inside h = rw (append-nil inside, h) refl
+
+-- a quote begins no word
+quote_alone : (xs : List ℕ) → run_of None (34 ∷ xs) ≡ []
+unfolding class_of
+quote_alone xs = plain_end None 34 xs refl refl
 
 text_told : (inside after : List ℕ) → list_all is_unquoted inside ≡ true → first_piece (34 ∷ ((inside ++ 34 ∷ []) ++ after)) ≡ text_piece inside
 text_told inside after h =
@@ -74,10 +85,10 @@ text_told inside after h =
     quoted (inside ++ 34 ∷ after) joined run less (take_at inside (34 ∷ after) (length inside) refl)
   where
     quoted : (xs : List ℕ) → (inside ++ 34 ∷ []) ++ after ≡ xs → prefix_len is_unquoted xs ≡ length inside → nat_lt (length inside) (length xs) ≡ true → take (length inside) xs ≡ inside → first_piece (34 ∷ ((inside ++ 34 ∷ []) ++ after)) ≡ text_piece inside
-    quoted xs j r l t = rw (j, r, l, t) refl
+    quoted xs j r l t = rw (j, quote_alone xs, r, l, t) refl
 
 unended_told : (inside : List ℕ) → list_all is_unquoted inside ≡ true → first_piece (34 ∷ (inside ++ [])) ≡ open_text inside
-unended_told inside h = rw (append-nil inside, run_all is_unquoted inside h, le-ltb (length inside) (length inside) (omega arith)) refl
+unended_told inside h = rw (quote_alone (inside ++ []), append-nil inside, run_all is_unquoted inside h, le-ltb (length inside) (length inside) (omega arith)) refl
 
 -- ---- words
 

@@ -1,5 +1,5 @@
 -- The longest word that a text begins with is its letters'.
-use Rattle.std.proofs.Common.{◌≡◌, ℕ, zero, suc, ◌+◌, ◌<◌, ◌≤◌, List, [], ◌∷◌, ◌++◌, length, take, drop, Bool, true, false, refl, sym, ap, ◌∙◌, subst, arith, inl, inr}
+use Rattle.std.proofs.Common.{◌≡◌, ℕ, zero, suc, ◌+◌, ◌<◌, ◌≤◌, List, [], ◌∷◌, ◌++◌, length, take, drop, Bool, true, false, refl, sym, ap, ◌∙◌, subst, arith, ◌⊎◌, inl, inr}
 use Rattle.std.specs.Prelude.{Option, Some, None, ◌==◌}
 use Rattle.std.proofs.lemmas.Bool.{cases_Bool, eqb-true}
 use Rattle.std.proofs.lemmas.List.{length-append, append_assoc}
@@ -124,24 +124,22 @@ some_cut h = cc
 no_cut : {x : Cut} → None ≡ Some x → ⊥
 no_cut h = cc
 
+abbrev pub Parts : Letter → List Letter → Cut → Type 0
+Parts l ls d = written l ++ spelled ls ≡ spelled d.name ++ 91 ∷ spelled d.behind
+
 pub cut_spelled : (ls : List Letter) (c : Cut) → last_cut ls ≡ Some c → spelled ls ≡ spelled c.name ++ 91 ∷ spelled c.behind
 cut_spelled [] c h = absurd (no_cut h)
-cut_spelled (l ∷ ls) c h = by (last_cut ls) refl
+cut_spelled (l ∷ ls) c h = by (last_cut ls) refl (λ d e. cut_spelled ls d e)
   where
-    Goal : Cut → Type 0
-    Goal d = written l ++ spelled ls ≡ spelled d.name ++ 91 ∷ spelled d.behind
+    further : (d : Cut) → spelled ls ≡ spelled d.name ++ 91 ∷ spelled d.behind → Parts l ls (record { name = l ∷ d.name; behind = d.behind })
+    further d e = ap (λ xs. written l ++ xs) e ∙ sym (append_assoc (written l) (spelled d.name) (91 ∷ spelled d.behind))
 
-    further : (d : Cut) → last_cut ls ≡ Some d → Goal (record { name = l ∷ d.name; behind = d.behind })
-    unfolding Goal
-    further d e = ap (λ xs. written l ++ xs) (cut_spelled ls d e) ∙ sym (append_assoc (written l) (spelled d.name) (91 ∷ spelled d.behind))
-
-    here : is_bracket l ≡ true → Goal (record { name = []; behind = ls })
-    unfolding Goal
+    here : is_bracket l ≡ true → Parts l ls (record { name = []; behind = ls })
     here y = ap (λ xs. xs ++ spelled ls) (bracket_spelled l y)
 
-    by : (o : Option Cut) → last_cut ls ≡ o → Goal c
-    by (Some d) e = subst Goal (some_cut (rw e at h)) (further d e)
-    by None e = elim (cases_Bool (is_bracket l)) [
-      | inl y ↦ subst Goal (some_cut (rw (e, y) at h)) (here y)
+    by : (o : Option Cut) → last_cut ls ≡ o → ((d : Cut) → last_cut ls ≡ Some d → spelled ls ≡ spelled d.name ++ 91 ∷ spelled d.behind) → Parts l ls c
+    by (Some d) e below = subst (λ x. Parts l ls x) (some_cut (rw e at h)) (further d (below d e))
+    by None e below = elim (cases_Bool (is_bracket l)) [
+      | inl y ↦ subst (λ x. Parts l ls x) (some_cut (rw (e, y) at h)) (here y)
       | inr n ↦ absurd (no_cut (rw (e, n) at h))
     ]

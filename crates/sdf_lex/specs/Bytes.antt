@@ -18,7 +18,7 @@ abbrev pub is_operator_byte : ℕ → Bool
 is_operator_byte b = (b == 126) || (b == 33) || (b == 38) || (b == 124) || (b == 94) || (b == 61)
 
 -- letters, digits and _ $ . [ ] ' are plain
-abbrev pub class_of : ℕ → ByteClass
+unfoldable pub class_of : ℕ → ByteClass
 class_of b =
     if is_blank b then class.Blank
     else if is_name_byte b || is_word_mark b then class.Plain

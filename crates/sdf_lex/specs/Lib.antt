@@ -6,4 +6,6 @@ pub mod Words
 pub mod Operators
 pub mod Pieces
 pub mod Lexes
+pub mod Names
 pub mod PieceBridge
+pub mod NameBridge

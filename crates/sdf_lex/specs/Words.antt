@@ -87,9 +87,12 @@ is_closing [] = false
 is_closing (b ∷ []) = b == 93
 is_closing (b ∷ c ∷ cs) = false
 
--- so many digits are at most 18, and the closing bracket is behind them
+-- so many digits are 1 to 18, and the closing bracket is behind them
+abbrev pub is_sized : ℕ → List ℕ → Bool
+is_sized n behind = nat_le 1 n && nat_le n 18 && is_closing behind
+
 abbrev pub size_in : ℕ → List ℕ → Option ℕ
-size_in n bytes = if nat_le 1 n && nat_le n 18 && is_closing (drop n bytes) then Some (number_from 0 (take n bytes)) else None
+size_in n bytes = if is_sized n (drop n bytes) then Some (number_from 0 (take n bytes)) else None
 
 -- the number that 1 to 18 digits and a closing bracket spell
 abbrev pub size_of : List ℕ → Option ℕ

@@ -43,6 +43,7 @@ fn is_operator_byte(b: u8) -> bool
     b == b'~' || b == b'!' || b == b'&' || b == b'|' || b == b'^' || b == b'='
 }
 
+#[tactic(auto, unfolding(crate::specs::Bytes::class_of))]
 pub fn class_of(b: u8) -> ByteClass
     ensures { result ≡ class_of b }
 {

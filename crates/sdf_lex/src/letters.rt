@@ -1,7 +1,7 @@
 // What words are made of.
 ghost use Rattle.std.specs.Prelude.{◌≡◌, ◌≤◌, ◌+◌, length, IfSome};
 ghost use Rattle.sdf_lex.specs.Bytes.{class_of};
-ghost use Rattle.sdf_lex.specs.Words.{written, is_numeric, is_exponent, is_bracket, may_sign, may_be, with_last};
+ghost use Rattle.sdf_lex.specs.Words.{written, byte_of, is_numeric, is_exponent, is_bracket, may_sign, may_be, with_last};
 ghost use Rattle.sdf_lex.specs.PieceBridge.{escaped_letter, next_letter};
 
 use crate::bytes::{
@@ -30,6 +30,15 @@ impl Letter {
         match self {
             Letter::Plain(_) => 1,
             Letter::Escaped(_) => 2,
+        }
+    }
+
+    // The byte without its backslash.
+    pub fn byte(self) -> u8
+        ensures { result ≡ byte_of self }
+    {
+        match self {
+            Letter::Plain(b) | Letter::Escaped(b) => b,
         }
     }
 

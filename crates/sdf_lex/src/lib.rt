@@ -4,6 +4,7 @@
 mod bytes;
 mod faults;
 mod letters;
+mod names;
 mod operators;
 mod pieces;
 mod reading;
@@ -11,5 +12,6 @@ mod tokens;
 mod words;
 
 pub use faults::LexKind;
+pub use names::{called, first_part, is_instance_name, is_keyword, is_name};
 pub use reading::lex;
 pub use tokens::{Lexeme, Token};

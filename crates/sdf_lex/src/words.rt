@@ -2,7 +2,7 @@
 ghost use Rattle.std.specs.Prelude.{◌≡◌, ◌≤◌, ◌<◌, ◌^◌, length, IfSome, None};
 ghost use Rattle.std.specs.List.{prefix_len};
 ghost use Rattle.std.specs.Char.{is_ascii_digit};
-ghost use Rattle.sdf_lex.specs.Words.{is_closing, size_in, size_of, index_of};
+ghost use Rattle.sdf_lex.specs.Words.{is_closing, is_sized, size_of, index_of};
 ghost use Rattle.sdf_lex.specs.PieceBridge.{bracket_with, measured, run_of};
 
 use crate::letters::{Letter, next_letter, with_last};
@@ -57,14 +57,20 @@ fn is_closing(bytes: &[u8]) -> bool
     }
 }
 
+fn is_sized(count: usize, behind: &[u8]) -> bool
+    ensures { result ≡ is_sized count behind.now }
+{
+    count >= 1 && count <= MOST_DIGITS && is_closing(behind)
+}
+
 // The number that 1 to 18 digits and a closing bracket spell.
 fn size_of(bytes: &[u8]) -> Option<u64>
     ensures value { result ≡ size_of bytes.now }
     ensures small { IfSome result (λ n. n < 10 ^ 18) }
 {
     let count = digits_len(bytes);
-    let (digits, closing) = bytes.split_at(count);
-    if count < 1 || count > MOST_DIGITS || !is_closing(closing) {
+    let (digits, behind) = bytes.split_at(count);
+    if !is_sized(count, behind) {
         return None;
     }
     number_of(digits)
