@@ -1,10 +1,10 @@
 -- The lemmas of the crate: words, pieces, and whole texts.
-mod RunLaws
-mod WordLaws
-mod EndLaws
-mod FirstPieces
-mod ToldPieces
-mod CutLaws
-mod OneReading
-mod NumberLaws
-mod NameLaws
+pub mod RunLaws
+pub mod WordLaws
+pub mod EndLaws
+pub mod FirstPieces
+pub mod ToldPieces
+pub mod CutLaws
+pub mod OneReading
+pub mod NumberLaws
+pub mod NameLaws

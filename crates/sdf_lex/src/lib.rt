@@ -15,3 +15,6 @@ pub use faults::LexKind;
 pub use names::{called, first_part, is_instance_name, is_keyword, is_name};
 pub use reading::lex;
 pub use tokens::{Lexeme, Token};
+
+#[cfg(test)]
+mod tests;
