@@ -89,7 +89,7 @@ bracket_is at ls (Some c) h =
     let joined : spelled c.name ++ 91 ∷ spelled c.behind ≡ (spelled c.name ++ 91 ∷ []) ++ spelled c.behind = sym (append_assoc (spelled c.name) (91 ∷ []) (spelled c.behind)) in
     let front : take (length (spelled c.name)) (spelled ls) ≡ spelled c.name = ap (λ xs. take (length (spelled c.name)) xs) whole ∙ take_at (spelled c.name) (91 ∷ spelled c.behind) (length (spelled c.name)) refl in
     let back : drop (length (spelled c.name) + 1) (spelled ls) ≡ spelled c.behind =
-        ap (λ xs. drop (length (spelled c.name) + 1) xs) (whole ∙ joined) ∙ drop_at (spelled c.name ++ 91 ∷ []) (spelled c.behind) (length (spelled c.name) + 1) (length-append (spelled c.name) (91 ∷ [])) in
+    ap (λ xs. drop (length (spelled c.name) + 1) xs) (whole ∙ joined) ∙ drop_at (spelled c.name ++ 91 ∷ []) (spelled c.behind) (length (spelled c.name) + 1) (length-append (spelled c.name) (91 ∷ [])) in
     rw (front, back) refl
 
 text_is : (inside : List ℕ) → take (length (34 ∷ (inside ++ 34 ∷ [])) - 2) (inside ++ 34 ∷ []) ≡ inside
@@ -141,8 +141,10 @@ bad_is (symbol_piece bytes) = refl
 bad_is (mark_piece b) = refl
 bad_is (bad_piece b) = refl
 
-pub kind_is : (b : ℕ) (bs text : List ℕ) → text ≡ b ∷ bs → (first_cut text).0 ≡ kind_of (first_piece text)
-kind_is b bs text e = subst (λ xs. (first_cut xs).0 ≡ kind_of (first_piece xs)) (sym e) (ap (λ c. c.0) (cut_is b bs))
+pub kind_is : (text : List ℕ) → 0 < length text → (first_cut text).0 ≡ kind_of (first_piece text)
+kind_is [] lt = absurd (omega arith)
+kind_is (b ∷ bs) lt = ap (λ c. c.0) (cut_is b bs)
 
-pub size_is : (b : ℕ) (bs text : List ℕ) → text ≡ b ∷ bs → (first_cut text).1 ≡ length (spelling (first_piece text))
-size_is b bs text e = subst (λ xs. (first_cut xs).1 ≡ length (spelling (first_piece xs))) (sym e) (ap (λ c. c.1) (cut_is b bs))
+pub size_is : (text : List ℕ) → 0 < length text → (first_cut text).1 ≡ length (spelling (first_piece text))
+size_is [] lt = absurd (omega arith)
+size_is (b ∷ bs) lt = ap (λ c. c.1) (cut_is b bs)

@@ -13,23 +13,26 @@ use Rattle.sdf_lex.specs.PieceBridge.{symbol_len}
 
 -- ---- runs
 
+one_on : (n x : ℕ) (ys zs : List ℕ) → take n ys ≡ zs → take (1 + n) (x ∷ ys) ≡ x ∷ zs
+one_on n x ys zs e = let s : 1 + n ≡ suc n = omega arith in rw s (ap (λ vs. x ∷ vs) e)
+
+run_more : (p : ℕ → Bool) (x : ℕ) (xs zs : List ℕ) → p x ≡ true → take (prefix_len p xs) xs ≡ zs → take (prefix_len p (x ∷ xs)) (x ∷ xs) ≡ x ∷ zs
+run_more p x xs zs y e = rw y (one_on (prefix_len p xs) x xs zs e)
+
 -- a run of a front is of the whole
 pub run_on : (p : ℕ → Bool) (inside after : List ℕ) → list_all p inside ≡ true → (more : List ℕ) × (take (prefix_len p (inside ++ after)) (inside ++ after) ≡ inside ++ more)
 run_on p [] after h = (take (prefix_len p after) after, refl)
 run_on p (x ∷ xs) after h =
     let parts = and_parts (p x) (list_all p xs) h in
     let r = run_on p xs after parts.1 in
-    (r.0, rw parts.0 (one_on (prefix_len p (xs ++ after)) x (xs ++ after) (xs ++ r.0) r.1))
-  where
-    one_on : (n x : ℕ) (ys zs : List ℕ) → take n ys ≡ zs → take (1 + n) (x ∷ ys) ≡ x ∷ zs
-    one_on n x ys zs e = let s : 1 + n ≡ suc n = omega arith in rw s (ap (λ vs. x ∷ vs) e)
+    (r.0, run_more p x (xs ++ after) (xs ++ r.0) parts.0 r.1)
 
 -- a run ends where the first byte that isn't of it stands
 pub run_to : (p : ℕ → Bool) (inside : List ℕ) (x : ℕ) (after : List ℕ) → list_all p inside ≡ true → p x ≡ false → prefix_len p (inside ++ x ∷ after) ≡ length inside
-run_to p [] x after h no = rw no refl
-run_to p (y ∷ ys) x after h no =
+run_to p [] x after h stop = rw stop refl
+run_to p (y ∷ ys) x after h stop =
     let parts = and_parts (p y) (list_all p ys) h in
-    rw (parts.0, run_to p ys x after parts.1 no) (omega arith)
+    rw (parts.0, run_to p ys x after parts.1 stop) (omega arith)
 
 -- a run that goes to the end
 pub run_all : (p : ℕ → Bool) (xs : List ℕ) → list_all p xs ≡ true → prefix_len p xs ≡ length xs
@@ -38,16 +41,23 @@ run_all p (x ∷ xs) h =
     let parts = and_parts (p x) (list_all p xs) h in
     rw (parts.0, run_all p xs parts.1) (omega arith)
 
+stop_more : (p : ℕ → Bool) (x : ℕ) (xs rest : List ℕ) (b : ℕ) → p x ≡ true → xs ≡ take (prefix_len p xs) xs ++ b ∷ rest → x ∷ xs ≡ take (prefix_len p (x ∷ xs)) (x ∷ xs) ++ b ∷ rest
+stop_more p x xs rest b y e = ap (λ vs. x ∷ vs) e ∙ ap (λ vs. vs ++ b ∷ rest) (sym (run_more p x xs (take (prefix_len p xs) xs) y refl))
+
+stop_here : (p : ℕ → Bool) (x : ℕ) (xs : List ℕ) → p x ≡ false → x ∷ xs ≡ take (prefix_len p (x ∷ xs)) (x ∷ xs) ++ x ∷ xs
+stop_here p x xs n = rw n refl
+
+less_stop : (p : ℕ → Bool) (x : ℕ) (xs : List ℕ) → p x ≡ true → prefix_len p (x ∷ xs) < length (x ∷ xs) → prefix_len p xs < length xs
+less_stop p x xs y lt = let less : 1 + prefix_len p xs < suc (length xs) = rw y at lt in omega arith
+
 -- what is behind a run that doesn't go to the end
 pub run_stop : (p : ℕ → Bool) (xs : List ℕ) → prefix_len p xs < length xs → (x : ℕ) × (rest : List ℕ) × (xs ≡ take (prefix_len p xs) xs ++ x ∷ rest) × (p x ≡ false)
 run_stop p [] lt = absurd (omega arith)
 run_stop p (x ∷ xs) lt = elim (cases_Bool (p x)) [
   | inl y ↦
-      let less : 1 + prefix_len p xs < suc (length xs) = rw y at lt in
-      let r = run_stop p xs (omega arith) in
-      let s : 1 + prefix_len p xs ≡ suc (prefix_len p xs) = omega arith in
-      (r.0, r.1, rw (y, s) (ap (λ vs. x ∷ vs) r.2), r.3)
-  | inr n ↦ (x, xs, rw n refl, n)
+      let r = run_stop p xs (less_stop p x xs y lt) in
+      (r.0, r.1, stop_more p x xs r.1 r.0 y r.2, r.3)
+  | inr n ↦ (x, xs, stop_here p x xs n, n)
 ]
 
 pub run_whole : (p : ℕ → Bool) (xs : List ℕ) → length xs ≤ prefix_len p xs → list_all p xs ≡ true
@@ -110,7 +120,7 @@ end_further n e x y zs f r = record {
       where
         never : false ≡ true → ⊥
         never q = cc
-    by (i ∷ is) p h =
+    by (i ∷ js) p h =
         let same : y ≡ i = cc in
         let g : ((x == 42) && (i == 47)) ≡ false = subst (λ j. ((x == 42) && (j == 47)) ≡ false) same f in
         rw g h

@@ -27,7 +27,6 @@ number_bound (suc k) n (d ∷ ds) le h =
     let same : (n + 1) * 10 * 10 ^ k ≡ (n + 1) * 10 ^ suc k = mul_assoc (n + 1) 10 (10 ^ k) ∙ ap (λ (x : ℕ). (n + 1) * x) (mul_comm 10 (10 ^ k) ∙ sym (pow-suc 10 k)) in
     subst (λ (x : ℕ). number_from (n * 10 + (d - 48)) ds < x) same (omega (arith, below, wide))
 
-
 -- what the code finds is the definition's, and below 10 ^ 18
 pub size_stands : (bytes digits : List ℕ) (count : ℕ) (o : Option ℕ) → count ≡ prefix_len is_ascii_digit bytes → digits ≡ take count bytes
     → is_sized count (drop count bytes) ≡ true → IfSome o (λ n. n ≡ number_from 0 digits) → IfNone o (2 ^ 64 ≤ number_from 0 digits)

@@ -1,15 +1,25 @@
 -- The pieces of a text are found one after another, and there are no others.
 use Rattle.std.proofs.Common.{◌≡◌, ℕ, zero, suc, ◌+◌, ◌<◌, ◌≤◌, List, [], ◌∷◌, ◌++◌, length, drop, Bool, true, false, refl, sym, ap, ◌∙◌, subst, arith, ◌⊎◌, inl, inr}
-use Rattle.std.specs.Prelude.{Option, Some, None, Ok}
-use Rattle.std.proofs.lemmas.List.{append-nil, append_cancel_left, append_assoc, drop_at, length-append}
+use Rattle.std.proofs.Common.{◌^◌, take, map}
+use Rattle.std.specs.Prelude.{Option, Some, None, Result, Ok, Err, nat_lt}
+use Rattle.std.specs.Global.{Vec}
+use Rattle.sg_text.specs.declared.refusals.Refused.{Refused}
+use Rattle.sg_text.specs.declared.refusals.Refused.TheVariants as refused
+use Rattle.std.proofs.lemmas.List.{append-nil, append_cancel_left, append_assoc, take_at, drop_at, length-append}
 use Rattle.sdf_lex.specs.Pieces.{Piece, blank_piece, line_comment, block_comment, open_comment, word_piece, text_piece, open_text, symbol_piece, mark_piece, bad_piece, spelling, HasForm, IsPiece, spellings, ArePieces, Spelled, tokens_of, tokens, is_bad, first_bad}
-use Rattle.sdf_lex.specs.Lexes.{Outcome, fault_at, bad_or, outcome, LexesFrom}
+use Rattle.sdf_lex.specs.Lexes.{Outcome, fault_at, bad_or, outcome, LexesFrom, Lexes, Stands, Tells}
+use Rattle.sdf_lex.specs.Seen.{lexeme}
+use Rattle.sdf_lex.specs.declared.faults.LexKind.{LexKind}
+use Rattle.sdf_lex.specs.declared.tokens.Token.{Token}
+use Rattle.sdf_lex.specs.declared.pieces.Kind.{Kind}
+use Rattle.sdf_lex.specs.declared.letters.Letter.TheVariants.{Plain, Escaped}
 use Rattle.sdf_lex.specs.declared.faults.LexKind.TheVariants.{BadByte}
 use Rattle.sdf_lex.specs.Tokens.{Lexeme}
-use Rattle.sdf_lex.specs.PieceBridge.{first_piece}
+use Rattle.sdf_lex.specs.PieceBridge.{first_piece, kind_of, is_bad_kind, kind_tokens}
 use Rattle.sdf_lex.proofs.WordLaws.{some_bytes}
 use Rattle.sdf_lex.proofs.FirstPieces.{Found, first_found}
 use Rattle.sdf_lex.proofs.ToldPieces.{Told, told}
+use Rattle.sdf_lex.proofs.CutLaws.{tokens_are, bad_is}
 
 -- what is found is a piece
 pub first_is : (b : ℕ) (bs : List ℕ) → IsPiece (first_piece (b ∷ bs)) (first_found b bs).after
@@ -124,3 +134,49 @@ reads_bad before at b bs bad =
 
 pub reads_end : (before : List Lexeme) (at : ℕ) → LexesFrom before at [] (Ok before)
 reads_end before at = ([], (refl, tt), rw (append-nil before) refl)
+
+-- ---- by what the code has
+
+pub found_some : (text : List ℕ) → 0 < length text → 0 < length (spelling (first_piece text))
+found_some [] lt = absurd (omega arith)
+found_some (b ∷ bs) lt = first_some b bs
+
+pub found_within : (text : List ℕ) → 0 < length text → length (spelling (first_piece text)) ≤ length text
+found_within [] lt = absurd (omega arith)
+found_within (b ∷ bs) lt = let s = first_size b bs in omega arith
+
+front_is : (b : ℕ) (bs : List ℕ) → take (length (spelling (first_piece (b ∷ bs)))) (b ∷ bs) ≡ spelling (first_piece (b ∷ bs))
+front_is b bs =
+    let f = first_found b bs in
+    ap (λ xs. take (length (spelling (first_piece (b ∷ bs)))) xs) (sym f.spells) ∙ take_at (spelling (first_piece (b ∷ bs))) f.after (length (spelling (first_piece (b ∷ bs)))) refl
+
+good_is : (p : Piece) (kind : Kind) (t : Bool) → kind ≡ kind_of p → is_bad_kind kind ≡ t → is_bad p ≡ t
+good_is p kind t k h = sym (bad_is p) ∙ ap (λ x. is_bad_kind x) (sym k) ∙ h
+
+-- a piece that isn't bad is passed
+pub step_on : (before after : List Lexeme) (at size : ℕ) (kind : Kind) (text front rest : List ℕ) (o : Outcome) → 0 < length text → kind ≡ kind_of (first_piece text)
+    → size ≡ length (spelling (first_piece text)) → is_bad_kind kind ≡ false → front ≡ take size text → rest ≡ drop size text → after ≡ before ++ kind_tokens at kind front
+    → LexesFrom after (at + size) rest o → LexesFrom before at text o
+step_on before after at size kind [] front rest o lt k s good f e a h = absurd (omega arith)
+step_on before after at size kind (b ∷ bs) front rest o lt k s good f e a h =
+    let p = first_piece (b ∷ bs) in
+    let front_spelled : front ≡ spelling p = f ∙ ap (λ (n : ℕ). take n (b ∷ bs)) s ∙ front_is b bs in
+    let ts : kind_tokens at kind front ≡ tokens_of at p = ap (λ x. kind_tokens at x front) k ∙ ap (λ xs. kind_tokens at (kind_of p) xs) front_spelled ∙ tokens_are at p in
+    reads_on before after at size b bs rest o (good_is p kind false k good) (a ∙ ap (λ xs. before ++ xs) ts) s e h
+
+-- a bad one is the fault
+pub step_bad : (before : List Lexeme) (at : ℕ) (kind : Kind) (text : List ℕ) → 0 < length text → kind ≡ kind_of (first_piece text) → is_bad_kind kind ≡ true
+    → LexesFrom before at text (fault_at BadByte at)
+step_bad before at kind [] lt k bad = absurd (omega arith)
+step_bad before at kind (b ∷ bs) lt k bad = reads_bad before at b bs (good_is (first_piece (b ∷ bs)) kind true k bad)
+
+-- ---- no other outcome
+
+small_file : (text : List ℕ) (o : Outcome) → nat_lt (2 ^ 28) (length text) ≡ false → Lexes text o → LexesFrom [] 0 text o
+small_file text o small h = rw small at h
+
+pub only_of : (text : List ℕ) (result : Result (Vec Token) (Refused LexKind)) → nat_lt (2 ^ 28) (length text) ≡ false → Stands (LexesFrom [] 0 text) result
+    → (o : Outcome) → Lexes text o → Tells o result
+only_of text (Ok ts) small s o h = one_outcome [] 0 text o (Ok (map lexeme ts.items)) (small_file text o small h) s
+only_of text (Err (refused.Fault k p)) small s o h = one_outcome [] 0 text o (Err (record { kind = k; place = p })) (small_file text o small h) s
+only_of text (Err refused.NoMemory) small s o h = tt

@@ -1,5 +1,5 @@
 // A whole file, piece by piece.
-ghost use Rattle.std.specs.Prelude.{◌≡◌, ◌≤◌, ◌<◌, ◌+◌, ◌-◌, ◌^◌, ◌++◌, ◌∷◌, [], length, take, drop, map, IfSome, OnOk};
+ghost use Rattle.std.specs.Prelude.{◌≡◌, ◌≤◌, ◌<◌, ◌+◌, ◌-◌, ◌^◌, ◌++◌, ◌∷◌, [], length, take, drop, map, nat_lt, IfSome, OnOk};
 ghost use Rattle.sdf_lex.specs.Seen.{meaning, lexeme};
 ghost use Rattle.sdf_lex.specs.Operators.{operator_of};
 ghost use Rattle.sdf_lex.specs.Pieces.{here, symbol_meaning};
@@ -28,7 +28,7 @@ fn fault(kind: LexKind, at: usize) -> Refused<LexKind>
 }
 
 fn push<'a>(tokens: &mut Vec<Token<'a>>, at: usize, found: Lexeme<'a>) -> Result<(), NoMemory>
-    ensures { OnOk result (map lexeme tokens.new.items ≡ map lexeme tokens.old.items ++ here (meaning found) at ∷ []) }
+    ensures { OnOk result (map lexeme tokens.new.items ≡ map lexeme tokens.old.items ++ here (meaning found.entry) at ∷ []) }
 {
     let byte = at as u64;
     tokens.push(Token {
@@ -117,6 +117,12 @@ fn push_piece<'a>(
     }
 }
 
+fn is_too_large(bytes: &[u8]) -> bool
+    ensures { result ≡ nat_lt (2 ^ 28) (length bytes.now) }
+{
+    bytes.len() > LARGEST
+}
+
 fn lex_small(alloc: Global, bytes: &[u8]) -> Result<Vec<Token<'_>>, Refused<LexKind>>
     requires { length bytes.now ≤ 2 ^ 28 }
     ensures { Stands (LexesFrom [] 0 bytes.now) result }
@@ -147,7 +153,7 @@ pub fn lex(alloc: Global, bytes: &[u8]) -> Result<Vec<Token<'_>>, Refused<LexKin
     // No others stand.
     ensures only { (o : Outcome) → Lexes bytes.now o → Tells o result }
 {
-    if bytes.len() > LARGEST {
+    if is_too_large(bytes) {
         return Err(fault(LexKind::FileTooLarge, LARGEST));
     }
     lex_small(alloc, bytes)

@@ -11,7 +11,7 @@ loop-letter-preserved c =
     let behind = c.split_at.ensures.back ∙ ap (λ (n : ℕ). drop n l.rest.now) c.size.ensures in
     record {
       same = rw (c.bracket_with-bracket.ensures, c.with_last.ensures, c.size-size.ensures)
-        (step_on l.size l.bracket l.ends l.rest.now c.split_at.result.1.now c.in-Some.letter (measured 0 None (run_of None c.args.text.now)) (sym c.next_letter.ensures.value ∙ c.in-Some.is) behind l.invariant.same);
+          (step_on l.size l.bracket l.ends l.rest.now c.split_at.result.1.now c.in-Some.letter (measured 0 None (run_of None c.args.text.now)) (sym c.next_letter.ensures.value ∙ c.in-Some.is) behind l.invariant.same);
       place = omega (arith, c.split_at.ensures.back_len, c.size.ensures, c.size-size.ensures, l.invariant.place);
     }
 
