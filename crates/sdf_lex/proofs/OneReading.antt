@@ -112,7 +112,7 @@ outcome_on : (before : List Lexeme) (at : ℕ) (p : Piece) (ps : List Piece) →
     → outcome (before ++ tokens_of at p) (at + length (spelling p)) ps ≡ outcome before at (p ∷ ps)
 outcome_on before at p ps good = rw (good, append_assoc before (tokens_of at p) (tokens (at + length (spelling p)) ps)) refl
 
-left_is : (b : ℕ) (bs rest : List ℕ) → rest ≡ drop (length (spelling (first_piece (b ∷ bs)))) (b ∷ bs) → rest ≡ (first_found b bs).after
+pub left_is : (b : ℕ) (bs rest : List ℕ) → rest ≡ drop (length (spelling (first_piece (b ∷ bs)))) (b ∷ bs) → rest ≡ (first_found b bs).after
 left_is b bs rest e =
     let f = first_found b bs in
     e ∙ ap (λ xs. drop (length (spelling (first_piece (b ∷ bs)))) xs) (sym f.spells) ∙ drop_at (spelling (first_piece (b ∷ bs))) f.after (length (spelling (first_piece (b ∷ bs)))) refl
