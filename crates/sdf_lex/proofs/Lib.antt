@@ -8,3 +8,5 @@ pub mod CutLaws
 pub mod OneReading
 pub mod NumberLaws
 pub mod NameLaws
+pub mod PushLaws
+pub mod Examples
