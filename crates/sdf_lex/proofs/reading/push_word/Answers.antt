@@ -20,7 +20,7 @@ returns c =
     let whole : to_z w64 (of_z w64 c.in-Some-index_of.index) ≡ c.in-Some-index_of.index = grind (arith, to_z-of_z) in
     let lt : c.in-Some.n < length a.bytes.now = rw c.in-Some.is at c.requires.inside in
     on_ok_weaker c.push-3.result
-      (λ last. two_pushed (map lexeme a.tokens.now.items) (map lexeme c.push-2.new.tokens.items) (map lexeme c.push-3.new.tokens.items) (bracket_tokens a.at a.bytes.now a.bracket)
-        (here (selected_token a.bytes.now c.split_at.result.0.now) a.at) (here (select_token c.in-Some-index_of.index) (a.at + c.in-Some.n)) c.in_ok-push.ensures last
-        (some_select a.at c.in-Some.n a.bytes.now c.split_at.result.0.now c.split_at.result.1.now a.bracket c.in-Some-index_of.index c.in-Some.is lt c.split_at.ensures.front c.split_at.ensures.back (ap (λ xs. index_of xs) (sym (take_rest c.split_at.result.1.now 1)) ∙ sym c.index_of.ensures ∙ c.in-Some-index_of.is)))
-      (rw whole at c.push-3.ensures)
+    (λ last. two_pushed (map lexeme a.tokens.now.items) (map lexeme c.push-2.new.tokens.items) (map lexeme c.push-3.new.tokens.items) (bracket_tokens a.at a.bytes.now a.bracket)
+    (here (selected_token a.bytes.now c.split_at.result.0.now) a.at) (here (select_token c.in-Some-index_of.index) (a.at + c.in-Some.n)) c.in_ok-push.ensures last
+    (some_select a.at c.in-Some.n a.bytes.now c.split_at.result.0.now c.split_at.result.1.now a.bracket c.in-Some-index_of.index c.in-Some.is lt c.split_at.ensures.front c.split_at.ensures.back (ap (λ xs. index_of xs) (sym (take_rest c.split_at.result.1.now 1)) ∙ sym c.index_of.ensures ∙ c.in-Some-index_of.is)))
+    (rw whole at c.push-3.ensures)
