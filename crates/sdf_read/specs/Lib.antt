@@ -1,0 +1,4 @@
+-- The modules of this folder.
+pub mod Tokens
+pub mod Lists
+pub mod Conditions
