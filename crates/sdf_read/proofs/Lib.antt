@@ -2,3 +2,7 @@
 pub mod Marks
 pub mod DelayLists
 pub mod WordOfToken
+pub mod Starts
+pub mod PathTails
+pub mod Parts
+pub mod BalancedTokens

@@ -2,3 +2,7 @@
 pub mod Tokens
 pub mod Lists
 pub mod Conditions
+pub mod Tails
+pub mod Groups
+pub mod Balanced
+pub mod Cells

@@ -153,7 +153,7 @@ pub fn cond<'a>(
     tokens: &[Token<'a>],
     at: usize,
 ) -> Result<(Vec<Tok<&'a [u8]>>, usize), ReadFault>
-    ensures { Gives (λ x. (map view_tok x.0.items, x.1)) result (entries.cond_parts.read (map lexeme tokens.now) at) }
+    ensures { Gives (λ x. (map view_tok x.0.items, x.1)) result (entries.cond.read (map lexeme tokens.now) at) }
 {
     let next = word(tokens, at, Keyword::Cond)?;
     let next = if is_text(tokens, next) { next + 1 } else { next };

@@ -12,7 +12,7 @@ ghost use Rattle.sdf_tree.specs.Seen.{view_port, view_ports, view_terminal};
 ghost use Rattle.sdf_tree.specs.Values as values;
 ghost use Rattle.sdf_read.specs.Tokens.{found};
 
-use crate::named::{Edges, named};
+use crate::named::{Edges, named, named_at};
 use crate::tokens::{left, optional_select, right, token_at};
 use grammar::ReadFault;
 use sdf_lex::{Lexeme, Token};
@@ -92,6 +92,13 @@ pub fn optional_ports<'a>(
     let (from, next) = port(tokens, at, divider)?;
     let (to, next) = port(tokens, next, divider)?;
     Ok((Some(PortPair { from, to }), next))
+}
+
+/// Whether such a word stands there.
+pub fn edge_stands(tokens: &[Token<'_>], at: usize) -> bool
+    ensures { result ≡ stands kind_of values.is_edge (map lexeme tokens.now) at }
+{
+    named_at::<Edges>(tokens, at).is_some()
 }
 
 /// `posedge`, `negedge`, or a change

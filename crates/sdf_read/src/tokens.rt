@@ -1,5 +1,6 @@
 // What stands at a position among the tokens.
-ghost use Rattle.std.specs.Prelude.{◌≡◌, Option, Some, None, map, option_map, slice_get};
+ghost use Rattle.std.specs.Prelude.{◌≡◌, Ok, map, slice_get};
+ghost use Rattle.std.specs.Option.{option_map};
 ghost use Rattle.grammar.specs.Placed.{place_read};
 ghost use Rattle.grammar.specs.Reading.{Gives};
 ghost use Rattle.grammar.specs.Rule.{stands};
@@ -8,7 +9,7 @@ ghost use Rattle.sdf_tree.specs.Kinds as kinds;
 ghost use Rattle.sdf_tree.specs.Kinds.{kind_of};
 ghost use Rattle.sdf_tree.specs.Rules as rules;
 ghost use Rattle.sdf_tree.specs.Values as values;
-ghost use Rattle.sdf_read.specs.Tokens.{found, word_there};
+ghost use Rattle.sdf_read.specs.Tokens.{word_there};
 
 use grammar::ReadFault;
 use sdf_lex::{Lexeme, Token};
@@ -159,11 +160,17 @@ pub fn optional_select(tokens: &[Token<'_>], at: usize) -> (Option<i64>, usize)
     }
 }
 
-/// The position behind a bit select, where one stands.
-pub fn behind_select(tokens: &[Token<'_>], at: usize) -> usize
-    ensures { Reaches ((rules.optional (rules.mark kinds.is_select)).read (map lexeme tokens.now) at) result }
+/// Whether a star stands there.
+pub fn is_star(tokens: &[Token<'_>], at: usize) -> bool
+    ensures { result ≡ stands kind_of kinds.is_star (map lexeme tokens.now) at }
 {
-    if is_select(tokens, at) { at + 1 } else { at }
+    matches!(
+        token_at(tokens, at),
+        Some(Token {
+            lexeme: Lexeme::Star,
+            ..
+        })
+    )
 }
 
 /// The word of the grammar that stands there.
@@ -206,14 +213,4 @@ pub fn word(tokens: &[Token<'_>], at: usize, word: Keyword) -> Result<usize, Rea
         return Err(ReadFault::At(at));
     }
     Ok(at + 1)
-}
-
-/// What stands there, and the position behind it.
-pub fn token_found<A: Copy>(value: Option<A>, at: usize) -> Result<(A, usize), ReadFault>
-    ensures { Gives (λ x. x) result (found value at) }
-{
-    match value {
-        Some(value) => Ok((value, at + 1)),
-        None => Err(ReadFault::At(at)),
-    }
 }

@@ -2,7 +2,6 @@
 use Rattle.std.proofs.Common.{refl}
 use Rattle.sdf_tree.specs.declared.words.Divider.{Divider}
 use Rattle.sdf_tree.specs.Checks.{terminal_rest_parts, terminal_rest, terminal_parts, terminal, is_pair, is_window, is_single, is_skipped_check, two_terminals_parts, two_terminals, check_body_parts, check_body, check_parts, check}
-use Rattle.sdf_tree.specs.Entries.{cond_parts}
 use Rattle.sdf_tree.specs.Kinds.{is_left, is_right}
 use Rattle.sdf_tree.specs.Values.{balanced_parts}
 use Rattle.sdf_tree.proofs.AllKinds.{apart, apart_next, is_within, is_covered}
@@ -11,7 +10,7 @@ use Rattle.sdf_tree.proofs.EntriesExact.{spec-exact, cond-exact}
 use Rattle.sdf_tree.proofs.ValuesExact.{value-exact, port-exact, edge_word-exact, balanced-exact}
 
 pub terminal_rest-exact : (divider : Divider) → IsExact (terminal_rest divider)
-unfolding terminal_rest_parts, cond_parts
+unfolding terminal_rest_parts
 terminal_rest-exact divider =
     let with_edge = then edge_word-exact (before (port-exact divider) (the_mark is_right) (apart _ _ (λ _ _. refl))) (closed _) in
     let conditional = then cond-exact (before (spec-exact divider) (the_mark is_right) (apart _ _ (λ _ _. refl))) (apart _ _ (λ _ _. refl)) in
@@ -30,7 +29,7 @@ two_terminals-exact divider =
     called _ _ (then one (then one value-exact (apart _ _ (λ _ _. refl))) (apart _ _ (λ _ _. refl))) refl (same _) (is_within _ _ (λ _ _. refl))
 
 pub check_body-exact : (divider : Divider) → IsExact (check_body divider)
-unfolding check_body_parts, balanced_parts
+unfolding check_body_parts balanced_parts
 check_body-exact divider =
     let two = two_terminals-exact divider in
     let pair = then (the_token _ is_pair) two (closed _) in

@@ -7,7 +7,7 @@ use Rattle.grammar.specs.Rule.{only_if}
 use Rattle.grammar.proofs.Laws.{only_if-exact, many_by-exact}
 use Rattle.sdf_tree.specs.declared.keywords.Keyword.TheVariants as keyword
 use Rattle.sdf_tree.specs.declared.words.Divider.{Divider}
-use Rattle.sdf_tree.specs.Entries.{spec_parts, spec, cond_parts, TailPart, tail_rest_parts, tail_part, count_after, tail_parts, tail, path_parts, path, inner_path_parts, inner_path, body_parts, body, entry_parts, entry, is_pulse, pulse_parts, pulse, group_body_parts, group_body, group_parts, group}
+use Rattle.sdf_tree.specs.Entries.{spec_parts, spec, cond_parts, cond, TailPart, tail_rest_parts, tail_part, count_after, tail_parts, tail, path_parts, path, inner_path_parts, inner_path, net_body_parts, net_body, body_parts, body, entry_parts, entry, is_pulse, pulse_parts, pulse, group_body_parts, group_body, group_parts, group}
 use Rattle.sdf_tree.specs.Kinds.{kind_of, is_left, is_right, is_word}
 use Rattle.sdf_tree.specs.Values.{may_come, may_end, delay_rest_starts}
 use Rattle.sdf_tree.proofs.AllKinds.{apart, apart_next, is_within, is_covered}
@@ -22,9 +22,9 @@ spec-exact divider =
     let with_edge = behind (the_mark is_left) (then edge_word-exact (before port (the_mark is_right) (apart _ _ (λ _ _. refl))) (closed _)) (closed _) in
     called _ _ (or (made _ port) (made _ with_edge) refl refl (apart_next _ _ (λ _ _. refl))) refl (same _) (is_within _ _ (λ _ _. refl))
 
-pub cond-exact : IsExact cond_parts
+pub cond-exact : IsExact cond
 unfolding cond_parts
-cond-exact = behind (the_word keyword.Cond) (behind (perhaps text-exact refl) condition-exact (apart _ _ (λ _ _. refl))) (closed _)
+cond-exact = called _ _ (behind (the_word keyword.Cond) (behind (perhaps text-exact refl) condition-exact (apart _ _ (λ _ _. refl))) (closed _)) refl (same _) (same _)
 
 -- ---- paths
 
@@ -36,15 +36,6 @@ unfolding tail_rest_parts
 tail_rest-exact limited n =
     let retain = behind (the_word keyword.Retain) (before (list-exact limited) (the_mark is_right) (apart _ _ (λ _ _. refl))) (closed _) in
     or (made _ (only_if-exact kind_of (n == 0) _ retain)) (made _ delay_rest-exact) (and_right (n == 0) false refl) refl (retain_apart n)
-
-never : (b : Bool) → (b && false) ≡ true → ⊥
-never true h = cc
-never false h = cc
-
--- what ends at a parenthesis is closed
-rest_closed : (n : ℕ) (b : Bool) → (b && false || false) ≡ true → ⊥
-rest_closed n true h = cc
-rest_closed n false h = cc
 
 pub tail_part-exact : (limited : Bool) (n : ℕ) → IsExact (tail_part limited n)
 unfolding tail_rest_parts
@@ -60,14 +51,14 @@ continues_none true false h = cc
 continues_none false b h = cc
 
 pub tail_parts-exact : (limited : Bool) → IsExact (tail_parts limited)
-unfolding tail_parts, tail_rest_parts
+unfolding tail_parts tail_rest_parts
 tail_parts-exact limited = many_by-exact kind_of is_left (tail_part limited) count_after (may_end limited) (tail_part-exact limited) (tail_part-full limited)
     (λ n x k p q. continues_none (may_come limited n) (n == 0) p)
     (λ n e k p. (and_parts (may_come limited n) (is_left k) p).1)
     (λ n k p. absurd (continues_none (may_come limited n) (n == 0) p)) 0
 
 pub tail-exact : (limited : Bool) → IsExact (tail limited)
-unfolding tail_parts, tail_rest_parts
+unfolding tail_parts tail_rest_parts
 tail-exact limited = called _ _ (made _ (tail_parts-exact limited)) refl (λ k p. (and_parts (may_come limited 0) (is_left k) p).1) (same _)
 
 pub path-exact : (limited : Bool) (divider : Divider) → IsExact (path limited divider)
@@ -82,22 +73,28 @@ inner_path-exact limited divider = called _ _ (behind (the_mark is_left) (before
 
 -- ---- entries
 
-pub body-exact : (limited : Bool) (divider : Divider) → IsExact (body limited divider)
-unfolding body_parts, cond_parts
-body-exact limited divider =
+pub net_body-exact : (limited : Bool) (divider : Divider) → IsExact (net_body limited divider)
+unfolding net_body_parts
+net_body-exact limited divider =
     let port = port-exact divider in
-    let inner = inner_path-exact limited divider in
     let delays = list-exact limited in
     let port_and_list = then port delays (apart _ _ (λ _ _. refl)) in
-    let conditional = then cond-exact inner (apart_next _ _ (λ _ _. refl)) in
-    let otherwise = behind (the_word keyword.CondElse) inner (closed _) in
     let to_port = behind (the_word keyword.Port) port_and_list (closed _) in
     let between = behind (the_word keyword.Interconnect) (then port port_and_list (apart _ _ (λ _ _. refl))) (closed _) in
     let device = behind (the_word keyword.Device) (then (perhaps port refl) delays (apart_next _ _ (λ _ _. refl))) (closed _) in
     let net = behind (the_word keyword.NetDelay) port_and_list (closed _) in
     let last = or (made _ device) (made _ net) refl refl (apart _ _ (λ _ _. refl)) in
-    let more = or (made _ to_port) (or (made _ between) last refl refl (apart _ _ (λ _ _. refl))) refl refl (apart _ _ (λ _ _. refl)) in
-    let others = or (made _ conditional) (or (made _ otherwise) more refl refl (apart _ _ (λ _ _. refl))) refl refl (apart _ _ (λ _ _. refl)) in
+    let others = or (made _ between) last refl refl (apart _ _ (λ _ _. refl)) in
+    called _ _ (or (made _ to_port) others refl refl (apart _ _ (λ _ _. refl))) refl (same _) (is_within _ _ (λ _ _. refl))
+
+pub body-exact : (limited : Bool) (divider : Divider) → IsExact (body limited divider)
+unfolding body_parts
+body-exact limited divider =
+    let inner = inner_path-exact limited divider in
+    let conditional = then cond-exact inner (apart_next _ _ (λ _ _. refl)) in
+    let otherwise = behind (the_word keyword.CondElse) inner (closed _) in
+    let last = or (made _ otherwise) (net_body-exact limited divider) refl refl (apart _ _ (λ _ _. refl)) in
+    let others = or (made _ conditional) last refl refl (apart _ _ (λ _ _. refl)) in
     called _ _ (or (made _ (path-exact limited divider)) others refl refl (apart _ _ (λ _ _. refl))) refl (same _) (is_within _ _ (λ _ _. refl))
 
 pub entry-exact : (limited : Bool) (divider : Divider) → IsExact (entry limited divider)

@@ -19,7 +19,7 @@ use Rattle.sdf_tree.proofs.ValuesExact.{text-exact, numbers-exact, balanced-exac
 -- ---- cells
 
 pub part_body-exact : (limited : Bool) (divider : Divider) → IsExact (part_body limited divider)
-unfolding part_body_parts, balanced_parts
+unfolding part_body_parts balanced_parts
 part_body-exact limited divider =
     let delays = behind (the_word keyword.Delay) (repeated (group-exact limited divider) refl (closed _)) (closed _) in
     let checks = behind (the_word keyword.TimingCheck) (repeated (check-exact divider) refl (closed _)) (closed _) in
@@ -99,5 +99,5 @@ unfolding file_parts_parts
 file_parts-exact limited = many_by-exact kind_of is_left (file_part limited) state_after_part (λ s. true) (file_part-exact limited) (λ s. refl) (λ s x k p q. absurd cc) (λ s e k p. p) (λ s k p. absurd cc) first_state
 
 pub file-exact : (limited : Bool) → IsExact (file limited)
-unfolding file_body, file_parts_parts
+unfolding file_body file_parts_parts
 file-exact limited = called _ _ (behind (the_mark is_left) (behind (the_word keyword.DelayFile) (before (file_parts-exact limited) (the_mark is_right) (apart _ _ (λ _ _. refl))) (closed _)) (closed _)) refl (same _) (same _)

@@ -3,7 +3,7 @@ use Rattle.std.proofs.Common.{◌≡◌, ℕ, ◌+◌, ◌<◌, ◌≤◌, Bool,
 use Rattle.std.specs.Prelude.{◌==◌, ◌||◌, ◌↔◌, IsTrue, map, bytes_eq, slice_get, if◌then◌else◌}
 use Rattle.std.specs.Char.{to_ascii_lowercase}
 use Rattle.std.specs.Str.{str_to_ascii_lowercase}
-use Rattle.std.proofs.lemmas.Bool.{cases_Bool, both_ways}
+use Rattle.std.proofs.lemmas.Bool.{cases_Bool, both_ways, eqb-true, eq-eqb}
 use Rattle.std.proofs.lemmas.Slice.Eq.{bytes_eq-Decides}
 use Rattle.sdf_tree.specs.declared.keywords.Keyword.{Keyword}
 use Rattle.sdf_tree.specs.declared.keywords.Keyword.TheVariants as word
@@ -129,17 +129,17 @@ is_spelled_in (w ∷ ws) u v e = elim (cases_Bool (bytes_eq (spelling w) u)) [
 ]
 
 own_number : (w : Keyword) (text : List ℕ) → is_word w (word_kind (Some w) text) ≡ true
-own_number w text = eqb-refl (word_number w)
+own_number w text = eq-eqb (word_number w) (word_number w) refl
 
 in_lower_case : (w : Keyword) (u text : List ℕ) → bytes_eq (spelling w) u ≡ is_word w (word_kind (word_in all_words u) text)
 in_lower_case w u text = elim (cases_Bool (bytes_eq (spelling w) u)) [
   | inl does ↦ let e : spelling w ≡ u = (bytes_eq-Decides (spelling w) u).0 does in rw (does, ← e, own_spelling w) (sym (own_number w text))
-  | inr none ↦ rw none (go (word_in all_words u) refl)
+  | inr other ↦ rw other (go other (word_in all_words u) refl)
 ]
   where
-    go : (o : Option Keyword) → word_in all_words u ≡ o → false ≡ is_word w (word_kind o text)
-    go None e = refl
-    go (Some v) e = elim (cases_Bool (word_number w == word_number v)) [
+    go : bytes_eq (spelling w) u ≡ false → (o : Option Keyword) → word_in all_words u ≡ o → false ≡ is_word w (word_kind o text)
+    go none None e = refl
+    go none (Some v) e = elim (cases_Bool (word_number w == word_number v)) [
       | inl same ↦ let f : w ≡ v = same_number w v same in absurd (both_ways (bytes_eq (spelling w) u) none (rw f (is_spelled_in all_words u v e)))
       | inr other ↦ rw other refl
     ]

@@ -12,7 +12,7 @@ use Rattle.sdf_tree.specs.declared.tree.Skipped.TheVariants as skipped
 use Rattle.sdf_tree.specs.declared.tree.WindowCheck.{WindowCheck}
 use Rattle.sdf_tree.specs.declared.tree.WindowCheck.TheVariants as window
 use Rattle.sdf_tree.specs.declared.words.Divider.{Divider}
-use Rattle.sdf_tree.specs.Entries.{spec, cond_parts, plain_terminal, edge_terminal}
+use Rattle.sdf_tree.specs.Entries.{spec, cond, plain_terminal, edge_terminal}
 use Rattle.sdf_tree.specs.Kinds.{Kind, is_left, is_right, is_port, is_select, is_word, is_word_that, pair_of, window_of, single_of, skipped_check_of, names}
 use Rattle.sdf_tree.specs.Rules.{Grammar, token, mark, placed, either, many}
 use Rattle.sdf_tree.specs.Values.{value, port, edge_word, is_edge, balanced}
@@ -26,7 +26,7 @@ conditional_terminal x = record { condition = Some x.0; edge = x.1.edge; port = 
 -- behind the parenthesis of a terminal: edge port ")" | COND [ text ] condition spec ")"
 unfoldable pub terminal_rest_parts : Divider → Grammar Terminal
 terminal_rest_parts divider =
-    either (mapped edge_terminal (edge_word ∙∙ (port divider ◂ mark is_right))) (mapped conditional_terminal (cond_parts ∙∙ (spec divider ◂ mark is_right)))
+    either (mapped edge_terminal (edge_word ∙∙ (port divider ◂ mark is_right))) (mapped conditional_terminal (cond ∙∙ (spec divider ◂ mark is_right)))
 
 abbrev pub terminal_rest_starts : Kind → Bool
 terminal_rest_starts k = is_edge k || is_word keyword.Cond k

@@ -8,7 +8,7 @@ use Rattle.sdf_tree.specs.declared.keywords.Keyword.{Keyword}
 use Rattle.sdf_tree.specs.declared.keywords.Keyword.TheVariants as keyword
 use Rattle.sdf_tree.specs.declared.tree.Edge.{Edge}
 use Rattle.sdf_tree.specs.declared.words.Divider.{Divider}
-use Rattle.sdf_tree.specs.Conditions.{condition}
+use Rattle.sdf_tree.specs.Conditions.{condition, condition_continues}
 use Rattle.sdf_tree.specs.Kinds.{Kind, kind_of, is_left, is_right, is_select, is_port, is_word, is_word_that, names}
 use Rattle.sdf_tree.specs.Rules.{Grammar, token, mark, word, placed, either, optional, many}
 use Rattle.sdf_tree.specs.Values.{text, value, delay_rest, may_come, may_end, list, port, edge_word}
@@ -35,6 +35,9 @@ spec divider = named (spec_starts divider) is_select (spec_parts divider)
 -- COND [ text ] condition, where the text has no effect
 unfoldable pub cond_parts : Grammar (List Tok)
 cond_parts = word keyword.Cond ▸ (optional text ▸ condition)
+
+abbrev pub cond : Grammar (List Tok)
+cond = named (is_word keyword.Cond) condition_continues cond_parts
 
 -- ---- paths
 
@@ -103,21 +106,28 @@ path_body condition p = io_path condition p.0 p.1.0 p.1.1.0 p.1.1.1
 
 -- ---- entries
 
--- body = path | COND [ text ] condition "(" path ")" | CONDELSE "(" path ")" | PORT port list | INTERCONNECT port port list
---     | DEVICE [ port ] list | NETDELAY port list
+-- net-body = PORT port list | INTERCONNECT port port list | DEVICE [ port ] list | NETDELAY port list
+unfoldable pub net_body_parts : (limited : Bool) → Divider → Grammar Body
+net_body_parts limited divider =
+    either (mapped (λ x. port_delay x.0 x.1) (word keyword.Port ▸ (port divider ∙∙ list limited)))
+    (either (mapped (λ x. interconnect x.0 x.1.0 x.1.1) (word keyword.Interconnect ▸ (port divider ∙∙ (port divider ∙∙ list limited))))
+    (either (mapped (λ x. device x.0 x.1) (word keyword.Device ▸ (optional (port divider) ∙∙ list limited))) (mapped (λ x. net_delay x.0 x.1) (word keyword.NetDelay ▸ (port divider ∙∙ list limited)))))
+
+abbrev pub net_body_starts : Kind → Bool
+net_body_starts k = is_word keyword.Port k || (is_word keyword.Interconnect k || (is_word keyword.Device k || is_word keyword.NetDelay k))
+
+abbrev pub net_body : (limited : Bool) → Divider → Grammar Body
+net_body limited divider = named net_body_starts is_left (net_body_parts limited divider)
+
+-- body = path | COND [ text ] condition "(" path ")" | CONDELSE "(" path ")" | net-body
 unfoldable pub body_parts : (limited : Bool) → Divider → Grammar Body
 body_parts limited divider =
     either (mapped (path_body always) (path limited divider))
-    (either (mapped (λ x. path_body (if_words x.0) x.1) (cond_parts ∙∙ inner_path limited divider))
-    (either (mapped (path_body otherwise) (word keyword.CondElse ▸ inner_path limited divider))
-    (either (mapped (λ x. port_delay x.0 x.1) (word keyword.Port ▸ (port divider ∙∙ list limited)))
-    (either (mapped (λ x. interconnect x.0 x.1.0 x.1.1) (word keyword.Interconnect ▸ (port divider ∙∙ (port divider ∙∙ list limited))))
-    (either (mapped (λ x. device x.0 x.1) (word keyword.Device ▸ (optional (port divider) ∙∙ list limited)))
-    (mapped (λ x. net_delay x.0 x.1) (word keyword.NetDelay ▸ (port divider ∙∙ list limited))))))))
+    (either (mapped (λ x. path_body (if_words x.0) x.1) (cond ∙∙ inner_path limited divider))
+    (either (mapped (path_body otherwise) (word keyword.CondElse ▸ inner_path limited divider)) (net_body limited divider)))
 
 abbrev pub body_starts : Kind → Bool
-body_starts k =
-    is_word keyword.IoPath k || (is_word keyword.Cond k || (is_word keyword.CondElse k || (is_word keyword.Port k || (is_word keyword.Interconnect k || (is_word keyword.Device k || is_word keyword.NetDelay k)))))
+body_starts k = is_word keyword.IoPath k || (is_word keyword.Cond k || (is_word keyword.CondElse k || net_body_starts k))
 
 abbrev pub body : (limited : Bool) → Divider → Grammar Body
 body limited divider = named body_starts is_left (body_parts limited divider)

@@ -67,9 +67,13 @@ abbrev pub instance_or_top : Option Instance → Instance
 instance_or_top None = the_top
 instance_or_top (Some i) = i
 
--- instance = "(" INSTANCE [ instance-path | "*" ] ")"
+-- "*" | instance-path
+abbrev pub instance_there : Divider → Grammar Instance
+instance_there divider = either (mapped (λ _. all_of_type) (mark is_star)) (instance_path divider)
+
+-- instance = "(" INSTANCE [ "*" | instance-path ] ")"
 unfoldable pub instance_parts : Divider → Grammar Instance
-instance_parts divider = mapped instance_or_top (mark is_left ▸ (word keyword.Instance ▸ (optional (either (mapped (λ _. all_of_type) (mark is_star)) (instance_path divider)) ◂ mark is_right)))
+instance_parts divider = mapped instance_or_top (mark is_left ▸ (word keyword.Instance ▸ (optional (instance_there divider) ◂ mark is_right)))
 
 abbrev pub instance : Divider → Grammar Instance
 instance divider = named is_left no_kind (instance_parts divider)

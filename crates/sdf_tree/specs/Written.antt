@@ -39,7 +39,9 @@ pub record Number : Type 0 where
 
 -- a value for each corner, or none
 pub record Value : Type 0 where
-  pub min typ max : Option Number
+  pub min : Option Number
+  pub typ : Option Number
+  pub max : Option Number
 
 -- the limits of pulses; a single one is both
 pub record Limits : Type 0 where

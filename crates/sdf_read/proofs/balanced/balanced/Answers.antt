@@ -1,0 +1,8 @@
+-- One more token, or the end.
+use Rattle.std.proofs.Common.{map, refl, sym, arith, ◌∙◌}
+use Rattle.std.specs.Prelude.{◌==◌}
+use Rattle.std.proofs.lemmas.Bool.{ne_eqb}
+use Rattle.cond_expr.proofs.WordReading.{none_if_not_some}
+use Rattle.sdf_lex.specs.Seen.{lexeme}
+use Rattle.sdf_read.proofs.BalancedTokens.{begun, token_goes_on, token_advances, token_few, tokens_end, tokens_refused}
+use Rattle.sdf_read.proofs.balanced.balanced.Goals as goal
