@@ -6,3 +6,5 @@ pub mod Starts
 pub mod PathTails
 pub mod Parts
 pub mod BalancedTokens
+pub mod FileLists
+pub mod Failed

@@ -7,9 +7,9 @@ use Rattle.grammar.specs.Reading.{◌>>=◌}
 use Rattle.sdf_lex.specs.Tokens.{Meaning, Lexeme, word_token, selected_token, select_token, text_token, unended_token, operator_token, left_token, right_token, colon_token, star_token, other_token}
 use Rattle.sdf_tree.specs.declared.keywords.Keyword.{Keyword}
 use Rattle.sdf_tree.specs.Keywords.{keyword_of}
-use Rattle.sdf_tree.specs.Kinds.{Kind, kind_of, is_word_that, names}
+use Rattle.sdf_tree.specs.Kinds.{Kind, word_kind, kind_of, kind_of_meaning, is_word_that, names}
 use Rattle.sdf_tree.specs.Rules.{mark, token}
-use Rattle.sdf_read.specs.Tokens.{found, named_there, word_there}
+use Rattle.sdf_read.specs.Tokens.{found, named_there, word_of_meaning, word_there}
 
 module _ (is : Kind → Bool) (ts : List Lexeme) (i : ℕ) where
   pub mark_stands : stands kind_of is ts i ≡ true → (mark is).read ts i ≡ Ok (tt, i + 1)
@@ -89,3 +89,34 @@ module _ {A : Type 0} (f : Keyword → Option A) (a : A) (i : ℕ) where
 
     pub names_stand : stands kind_of (is_word_that (λ w. is_some (f w))) ts i ≡ is_some (named_there f (word_there (slice_get ts i)))
     names_stand = stands_token (slice_get ts i)
+
+-- ---- whether a word of the grammar passes a test
+
+abbrev pub passes : (Keyword → Bool) → Option Keyword → Bool
+passes p None = false
+passes p (Some w) = p w
+
+module _ (p : Keyword → Bool) where
+  that_word : (text : List ℕ) (o : Option Keyword) → keyword_of text ≡ o → is_word_that p (word_kind (keyword_of text) text) ≡ passes p (keyword_of text)
+  that_word text None e = rw e refl
+  that_word text (Some w) e = rw e refl
+
+  that_meaning : (m : Meaning) → is_word_that p (kind_of_meaning m) ≡ passes p (word_of_meaning m)
+  that_meaning (word_token text) = that_word text (keyword_of text) refl
+  that_meaning (selected_token whole name) = refl
+  that_meaning (select_token n) = refl
+  that_meaning (text_token text) = refl
+  that_meaning unended_token = refl
+  that_meaning (operator_token o) = refl
+  that_meaning left_token = refl
+  that_meaning right_token = refl
+  that_meaning colon_token = refl
+  that_meaning star_token = refl
+  that_meaning (other_token b) = refl
+
+  that_token : (o : Option Lexeme) → is_of kind_of (is_word_that p) o ≡ passes p (word_there o)
+  that_token None = refl
+  that_token (Some t) = that_meaning t.meaning
+
+  pub that_stands : (ts : List Lexeme) (i : ℕ) → stands kind_of (is_word_that p) ts i ≡ passes p (word_there (slice_get ts i))
+  that_stands ts i = that_token (slice_get ts i)

@@ -6,3 +6,5 @@ pub mod Tails
 pub mod Groups
 pub mod Balanced
 pub mod Cells
+pub mod Files
+pub mod Reading

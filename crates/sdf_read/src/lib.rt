@@ -6,11 +6,18 @@ mod cells;
 mod checks;
 mod conditions;
 mod entries;
+mod faults;
+mod files;
 mod groups;
+mod heads;
 mod lists;
 mod named;
 mod parts;
 mod ports;
+mod reading;
 mod tails;
 mod tokens;
 mod values;
+
+pub use faults::SdfKind;
+pub use reading::read_written;

@@ -201,9 +201,12 @@ own_case word.Edge1z = refl
 own_case word.EdgeZ0 = refl
 
 -- what a comparison that leaves case aside tells
-pub same_letters : (w : Keyword) (text : List ℕ) (b : Bool) → IsTrue b ↔ (map to_ascii_lowercase (spelling w) ≡ map to_ascii_lowercase text) → b ≡ is_spelled w text
-same_letters w text true h = sym ((bytes_eq-Decides (spelling w) (str_to_ascii_lowercase text)).1 (sym (own_case w) ∙ h.0 refl))
-same_letters w text false h = elim (cases_Bool (bytes_eq (spelling w) (str_to_ascii_lowercase text))) [
-  | inl does ↦ let e : false ≡ true = h.1 (own_case w ∙ (bytes_eq-Decides (spelling w) (str_to_ascii_lowercase text)).0 does) in absurd cc
-  | inr none ↦ sym none
-]
+pub same_letters : (w : Keyword) (bytes text : List ℕ) (b : Bool) → bytes ≡ spelling w → IsTrue b ↔ (map to_ascii_lowercase bytes ≡ map to_ascii_lowercase text) → b ≡ is_spelled w text
+same_letters w bytes text b e h = go b (rw e at h)
+  where
+    go : (b : Bool) → IsTrue b ↔ (map to_ascii_lowercase (spelling w) ≡ map to_ascii_lowercase text) → b ≡ is_spelled w text
+    go true h = sym ((bytes_eq-Decides (spelling w) (str_to_ascii_lowercase text)).1 (sym (own_case w) ∙ h.0 refl))
+    go false h = elim (cases_Bool (bytes_eq (spelling w) (str_to_ascii_lowercase text))) [
+      | inl does ↦ let e : false ≡ true = h.1 (own_case w ∙ (bytes_eq-Decides (spelling w) (str_to_ascii_lowercase text)).0 does) in absurd cc
+      | inr none ↦ sym none
+    ]

@@ -11,3 +11,5 @@ pub mod Checks
 pub mod Files
 pub mod Seen
 pub mod PathWords
+pub mod Meant
+pub mod Faults

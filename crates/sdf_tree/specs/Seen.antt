@@ -18,6 +18,9 @@ use Rattle.sdf_tree.specs.declared.written.WrittenCheckBody as code_check_body
 use Rattle.sdf_tree.specs.declared.written.WrittenCheckBody.TheVariants as check
 use Rattle.sdf_tree.specs.declared.written.WrittenDelay as code_delay
 use Rattle.sdf_tree.specs.declared.written.WrittenEntry as code_entry
+use Rattle.sdf_tree.specs.declared.written.WrittenFile as code_file
+use Rattle.sdf_tree.specs.declared.written.WrittenFilePart as code_file_part
+use Rattle.sdf_tree.specs.declared.written.WrittenFilePart.TheVariants as file_part
 use Rattle.sdf_tree.specs.declared.written.WrittenGroup as code_group
 use Rattle.sdf_tree.specs.declared.written.WrittenGroup.TheVariants as group
 use Rattle.sdf_tree.specs.declared.written.WrittenHead as code_head
@@ -27,7 +30,7 @@ use Rattle.sdf_tree.specs.declared.written.WrittenNumber as code_number
 use Rattle.sdf_tree.specs.declared.written.WrittenPart as code_part
 use Rattle.sdf_tree.specs.declared.written.WrittenPart.TheVariants as part
 use Rattle.sdf_tree.specs.declared.written.WrittenValue as code_value
-use Rattle.sdf_tree.specs.Written.{Port, Terminal, PathCondition, always, otherwise, if_words, Instance, the_top, all_of_type, the_path, Number, Value, Limits, Delay, Body, io_path, port_delay, interconnect, device, net_delay, Entry, Group, absolute, increment, path_pulse, CheckBody, pair_check, window_check, single_check, skipped_check, Check, Part, delays, checks, skipped_part, Cell, Head, text_head, divider_head, unit_head, value_head}
+use Rattle.sdf_tree.specs.Written.{Port, Terminal, PathCondition, always, otherwise, if_words, Instance, the_top, all_of_type, the_path, Number, Value, Limits, Delay, Body, io_path, port_delay, interconnect, device, net_delay, Entry, Group, absolute, increment, path_pulse, CheckBody, pair_check, window_check, single_check, skipped_check, Check, Part, delays, checks, skipped_part, Cell, Head, text_head, divider_head, unit_head, value_head, FilePart, a_head, a_cell}
 
 -- a word of a condition
 abbrev pub view_tok : over.Tok (Bor (List ℕ)) → Tok
@@ -107,3 +110,10 @@ view_head head.Text = text_head
 view_head (head.Divider d) = divider_head d
 view_head (head.TimeScale u) = unit_head u.power
 view_head (head.Value v) = value_head (option_map view_value v)
+
+abbrev pub view_file_part : code_file_part.WrittenFilePart → FilePart
+view_file_part (file_part.Head h) = a_head (view_head h)
+view_file_part (file_part.Cell c) = a_cell (view_cell c)
+
+abbrev pub view_file : code_file.WrittenFile → List FilePart
+view_file f = map view_file_part f.parts.items

@@ -191,11 +191,17 @@ impl Keyword {
         }
     }
 
+    fn bytes(self) -> &'static [u8]
+        ensures { result.now ≡ spelling self }
+    {
+        self.spelling().as_bytes()
+    }
+
     /// Whether a text is this word, in whatever case.
     pub fn is_spelled(self, text: &[u8]) -> bool
         ensures { result ≡ is_spelled self text.now }
     {
-        self.spelling().as_bytes().eq_ignore_ascii_case(text)
+        self.bytes().eq_ignore_ascii_case(text)
     }
 
     /// The word that a text is, if it is one.

@@ -3,7 +3,6 @@
 
 mod constants;
 mod keywords;
-
 mod tree;
 mod units;
 mod words;
@@ -19,5 +18,5 @@ pub use units::{joined_unit, scale_power, scaled, unit_of};
 pub use words::{Divider, begins_number, is_instance_path, is_name, is_port_path};
 pub use written::{
     WrittenBody, WrittenCell, WrittenCheck, WrittenCheckBody, WrittenDelay, WrittenEntry,
-    WrittenGroup, WrittenHead, WrittenLimits, WrittenNumber, WrittenPart, WrittenValue,
+    WrittenFile, WrittenFilePart, WrittenGroup, WrittenHead, WrittenLimits, WrittenNumber, WrittenPart, WrittenValue,
 };

@@ -57,27 +57,27 @@ fn is_path(bytes: &[u8], divider: Option<Divider>, brackets: bool) -> bool
 {
     let mut begun = false;
     let mut rest = bytes;
-    while let [byte, next, tail @ ..] = rest {
+    while let [byte, tail @ ..] = rest {
+        let [_, after @ ..] = tail else {
+            return is_path_byte(brackets, *byte);
+        };
         if *byte == b'\\' {
             begun = true;
-            rest = tail;
+            rest = after;
         } else if divides(divider, *byte) {
             if !begun {
                 return false;
             }
             begun = false;
-            rest = &rest[1..];
+            rest = tail;
         } else if is_path_byte(brackets, *byte) {
             begun = true;
-            rest = &rest[1..];
+            rest = tail;
         } else {
             return false;
         }
     }
-    match rest {
-        [byte] => is_path_byte(brackets, *byte),
-        _ => begun,
-    }
+    begun
 }
 
 /// Whether a word is a port's or a net's path: names of letters, digits, `_` and `$`, or of any byte behind a backslash, with

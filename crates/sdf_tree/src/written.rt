@@ -143,3 +143,16 @@ pub enum WrittenHead<'a> {
     /// `VOLTAGE` or `TEMPERATURE`, which has no effect.
     Value(Option<WrittenValue<'a>>),
 }
+
+/// What stands in parentheses in a file.
+#[derive(Debug, Drop)]
+pub enum WrittenFilePart<'a> {
+    Head(WrittenHead<'a>),
+    Cell(WrittenCell<'a>),
+}
+
+/// An SDF file: heads, and then cells.
+#[derive(Debug, Drop)]
+pub struct WrittenFile<'a> {
+    pub parts: Vec<WrittenFilePart<'a>>,
+}

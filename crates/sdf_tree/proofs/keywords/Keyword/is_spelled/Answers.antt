@@ -3,4 +3,4 @@ use Rattle.sdf_tree.proofs.KeywordLaws.{same_letters}
 use Rattle.sdf_tree.proofs.keywords.Keyword.is_spelled.Goals as goal
 
 pub returns : goal.returns
-returns c = same_letters c.args.self c.args.text.now c.eq_ignore_ascii_case.result (rw c.spelling.ensures at c.eq_ignore_ascii_case.ensures)
+returns c = same_letters c.args.self c.bytes.result.now c.args.text.now c.eq_ignore_ascii_case.result c.bytes.ensures c.eq_ignore_ascii_case.ensures.test
