@@ -10,14 +10,14 @@ ghost use Rattle.sdf_tree.specs.Kinds.{kind_of};
 ghost use Rattle.sdf_tree.specs.Rules as rules;
 ghost use Rattle.sdf_tree.specs.Seen.{view_cell, view_instance, view_part};
 ghost use Rattle.sdf_read.specs.Cells.{InstanceFound, view_part_body};
-ghost use Rattle.sdf_read.specs.Tokens.{found};
+ghost use Rattle.sdf_terms.specs.Tokens.{found};
 
-use crate::balanced::balanced;
+use sdf_terms::balanced::balanced;
 use crate::checks::Checks;
 use crate::groups::Groups;
-use crate::named::{SkippedParts, named};
-use crate::parts::{Form, Part, many};
-use crate::tokens::{is_select, is_star, is_word, left, place_at, right, text, token_at, word};
+use sdf_terms::named::{SkippedParts, named};
+use sdf_terms::parts::{Form, Part, many};
+use sdf_terms::tokens::{is_select, is_star, is_word, left, place_at, right, text, token_at, word};
 use grammar::ReadFault;
 use sdf_lex::{Lexeme, Token};
 use sdf_tree::{

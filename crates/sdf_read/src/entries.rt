@@ -6,12 +6,12 @@ ghost use Rattle.sdf_tree.specs.Entries as entries;
 ghost use Rattle.sdf_tree.specs.Seen.{view_body, view_condition, view_entry};
 ghost use Rattle.sdf_read.specs.Tails.{view_path};
 
-use crate::conditions::cond;
-use crate::lists::list;
-use crate::parts::{Form, Part};
-use crate::ports::{optional_port, port};
+use sdf_terms::conditions::cond;
+use sdf_terms::lists::list;
+use sdf_terms::parts::{Form, Part};
+use sdf_terms::ports::{optional_port, port};
 use crate::tails::{Path, inner_path, path};
-use crate::tokens::{is_word, left, place_at, right, word};
+use sdf_terms::tokens::{is_word, left, place_at, right, word};
 use grammar::ReadFault;
 use sdf_lex::Token;
 use sdf_tree::{Keyword, PathCondition, WrittenBody, WrittenEntry};

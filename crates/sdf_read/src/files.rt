@@ -8,8 +8,8 @@ ghost use Rattle.sdf_read.specs.Files.{state};
 
 use crate::cells::cell;
 use crate::heads::{head, head_stands};
-use crate::parts::Form;
-use crate::tokens::{is_left, left, right, word};
+use sdf_terms::parts::Form;
+use sdf_terms::tokens::{is_left, left, right, word};
 use grammar::ReadFault;
 use sdf_lex::Token;
 use sdf_tree::{Divider, Keyword, WrittenFilePart, WrittenHead};

@@ -7,11 +7,11 @@ ghost use Rattle.sdf_tree.specs.Seen.{view_group};
 ghost use Rattle.sdf_read.specs.Groups.{view_group_body, view_pulse};
 
 use crate::entries::Entries;
-use crate::named::{Pulses, named};
-use crate::parts::{Form, Part, many};
-use crate::ports::optional_ports;
-use crate::tokens::{is_word, left, place_at, right, word};
-use crate::values::{optional_value, value};
+use sdf_terms::named::{Pulses, named};
+use sdf_terms::parts::{Form, Part, many};
+use sdf_terms::ports::optional_ports;
+use sdf_terms::tokens::{is_word, left, place_at, right, word};
+use sdf_terms::values::{optional_value, value};
 use grammar::ReadFault;
 use sdf_lex::Token;
 use sdf_tree::{Divider, Keyword, PortPair, WrittenEntry, WrittenGroup, WrittenValue};

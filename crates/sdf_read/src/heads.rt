@@ -9,10 +9,10 @@ ghost use Rattle.sdf_tree.specs.Kinds as kinds;
 ghost use Rattle.sdf_tree.specs.Kinds.{kind_of};
 ghost use Rattle.sdf_tree.specs.Rules as rules;
 ghost use Rattle.sdf_tree.specs.Seen.{view_head};
-ghost use Rattle.sdf_read.specs.Tokens.{found};
+ghost use Rattle.sdf_terms.specs.Tokens.{found};
 
-use crate::tokens::{is_word, keyword_at, text, token_at, word};
-use crate::values::optional_numbers;
+use sdf_terms::tokens::{is_word, keyword_at, text, token_at, word};
+use sdf_terms::values::optional_numbers;
 use grammar::ReadFault;
 use sdf_lex::{Lexeme, Token};
 use sdf_tree::{Divider, Keyword, WrittenHead, joined_unit, scale_power, scaled, unit_of};
@@ -40,7 +40,7 @@ fn is_value_word(word: Keyword) -> bool
 }
 
 /// Whether the word of a head with a text stands there.
-#[tactic(auto, using(crate::proofs::Marks::that_stands))]
+#[tactic(auto, using(sdf_terms::proofs::Marks::that_stands))]
 fn text_head_stands(tokens: &[Token<'_>], at: usize) -> bool
     ensures { result ≡ stands kind_of (kinds.is_word_that kinds.is_text_word) (map lexeme tokens.now) at }
 {
@@ -51,7 +51,7 @@ fn text_head_stands(tokens: &[Token<'_>], at: usize) -> bool
 }
 
 /// Whether the word of a head with a value stands there.
-#[tactic(auto, using(crate::proofs::Marks::that_stands))]
+#[tactic(auto, using(sdf_terms::proofs::Marks::that_stands))]
 fn value_head_stands(tokens: &[Token<'_>], at: usize) -> bool
     ensures { result ≡ stands kind_of (kinds.is_word_that kinds.is_value_word) (map lexeme tokens.now) at }
 {
@@ -156,7 +156,7 @@ fn time_unit(tokens: &[Token<'_>], at: usize) -> Result<(Unit, usize), ReadFault
 }
 
 /// A head, behind its parenthesis
-#[tactic(auto, using(crate::proofs::Marks::mark_stands, crate::proofs::Marks::mark_fails), unfolding(sdf_tree::specs::Files::head_parts))]
+#[tactic(auto, using(sdf_terms::proofs::Marks::mark_stands, sdf_terms::proofs::Marks::mark_fails), unfolding(sdf_tree::specs::Files::head_parts))]
 pub fn head<'a>(tokens: &[Token<'a>], at: usize) -> Result<(WrittenHead<'a>, usize), ReadFault>
     ensures { Gives (λ x. (view_head x.0, x.1)) result (files.head.read (map lexeme tokens.now) at) }
 {

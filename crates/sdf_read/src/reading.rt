@@ -11,7 +11,7 @@ ghost use Rattle.sdf_read.specs.Reading.{IsFile, KindStands, RefusalStands, faul
 
 use crate::faults::SdfKind;
 use crate::files::file;
-use crate::tokens::token_at;
+use sdf_terms::tokens::token_at;
 use grammar::ReadFault;
 use sdf_lex::Token;
 use sdf_tree::WrittenFile;

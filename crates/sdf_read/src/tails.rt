@@ -7,11 +7,11 @@ ghost use Rattle.sdf_tree.specs.Entries as entries;
 ghost use Rattle.sdf_tree.specs.Kinds.{kind_of};
 ghost use Rattle.sdf_read.specs.Tails.{IsPartAdded, tail_part_there, view_path, view_tail, view_tail_part, with_part};
 
-use crate::lists::{list, may_come, may_end};
-use crate::parts::Form;
-use crate::ports::{port, spec};
-use crate::tokens::{is_left, is_word, left, place_at, right, word};
-use crate::values::delay_rest;
+use sdf_terms::lists::{list, may_come, may_end};
+use sdf_terms::parts::Form;
+use sdf_terms::ports::{port, spec};
+use sdf_terms::tokens::{is_left, is_word, left, place_at, right, word};
+use sdf_terms::values::delay_rest;
 use grammar::ReadFault;
 use sdf_lex::Token;
 use sdf_tree::{Keyword, Port, Terminal, WrittenDelay};

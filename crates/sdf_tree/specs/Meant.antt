@@ -1,9 +1,10 @@
 -- SDF files as they are meant (IEEE 1497-2001): what is written, with its numbers read.
-use Rattle.std.specs.Prelude.{ℕ, ℤ, pos, neg_ℤ, Bool, true, false, List, [], ◌∷◌, ◌++◌, map, Option, Some, None, Result, Ok, Err}
+use Rattle.std.specs.Prelude.{ℕ, ℤ, pos, neg_ℤ, Bool, true, false, nat_lt, ◌^◌, length, List, [], ◌∷◌, ◌++◌, map, Option, Some, None, Result, Ok, Err, if◌then◌else◌}
 use Rattle.std.specs.List.{flat_map}
 use Rattle.std.specs.Option.{option_map}
 use Rattle.sg_text.specs.declared.places.Place.{Place}
 use Rattle.sg_time.specs.declared.decimal.TimeError.{TimeError}
+use Rattle.sg_time.specs.declared.decimal.TimeError.TheVariants as error
 use Rattle.sg_time.specs.Reading.{parts_of, said_of}
 use Rattle.sg_time.specs.Spelling as time
 use Rattle.sdf_tree.specs.declared.tree.PairCheck.{PairCheck}
@@ -18,9 +19,9 @@ use Rattle.sdf_tree.specs.Written.{Port, Terminal, PathCondition, Instance}
 
 -- ---- numbers
 
--- what a word is as a decimal
+-- What a word is as a decimal. No file has a word of 2^30 bytes, which would have too many digits.
 abbrev pub decimal_of : List ℕ → Result time.Number TimeError
-decimal_of text = said_of (parts_of text)
+decimal_of text = if nat_lt (length text) (2 ^ 30) then said_of (parts_of text) else Err error.TooManyDigits
 
 abbrev pub no_number : time.Number
 no_number = record { negative = false; digits = 0; exponent = pos 0 }

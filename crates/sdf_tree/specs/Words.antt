@@ -26,24 +26,24 @@ divides (Some Point) b = b == 46
 divides (Some Slash) b = b == 47
 
 -- The rest of a path: names of such bytes, or of any behind a backslash, and a divider between two of them. A name may have begun
--- already.
-abbrev pub is_path_from : (ℕ → Bool) → Option Divider → (begun : Bool) → List ℕ → Bool
-is_path_from may divider begun [] = begun
-is_path_from may divider begun (b ∷ []) = may b
-is_path_from may divider begun (b ∷ c ∷ bs) =
-    if b == 92 then is_path_from may divider true bs
-    else if divides divider b then begun && is_path_from may divider false (c ∷ bs)
-    else may b && is_path_from may divider true (c ∷ bs)
+-- already, and the next byte may stand behind a backslash.
+abbrev pub is_path_from : (ℕ → Bool) → Option Divider → (begun escaped : Bool) → List ℕ → Bool
+is_path_from may divider begun escaped [] = begun && not escaped
+is_path_from may divider begun true (b ∷ bs) = is_path_from may divider true false bs
+is_path_from may divider begun false (b ∷ bs) =
+    if b == 92 then is_path_from may divider begun true bs
+    else if divides divider b then begun && is_path_from may divider false false bs
+    else may b && is_path_from may divider true false bs
 
 -- a port, an instance below the top, and a name of a condition
 unfoldable pub is_port_path : Divider → List ℕ → Bool
-is_port_path divider text = is_path_from is_name_byte (Some divider) false text
+is_port_path divider text = is_path_from is_name_byte (Some divider) false false text
 
 unfoldable pub is_instance_path : Divider → List ℕ → Bool
-is_instance_path divider text = is_path_from is_instance_byte (Some divider) false text
+is_instance_path divider text = is_path_from is_instance_byte (Some divider) false false text
 
 unfoldable pub is_name : List ℕ → Bool
-is_name text = is_path_from is_name_byte None false text
+is_name text = is_path_from is_name_byte None false false text
 
 -- ---- numbers and constants
 

@@ -53,17 +53,19 @@ fn is_path_byte(brackets: bool, byte: u8) -> bool
 
 // Whether bytes are names with a divider between two of them.
 fn is_path(bytes: &[u8], divider: Option<Divider>, brackets: bool) -> bool
-    ensures { result ≡ words.is_path_from (path_byte brackets) divider false bytes.now }
+    ensures { result ≡ words.is_path_from (path_byte brackets) divider false false bytes.now }
 {
     let mut begun = false;
+    let mut escaped = false;
     let mut rest = bytes;
     while let [byte, tail @ ..] = rest {
-        let [_, after @ ..] = tail else {
-            return is_path_byte(brackets, *byte);
-        };
-        if *byte == b'\\' {
+        if escaped {
             begun = true;
-            rest = after;
+            escaped = false;
+            rest = tail;
+        } else if *byte == b'\\' {
+            escaped = true;
+            rest = tail;
         } else if divides(divider, *byte) {
             if !begun {
                 return false;
@@ -77,7 +79,7 @@ fn is_path(bytes: &[u8], divider: Option<Divider>, brackets: bool) -> bool
             return false;
         }
     }
-    begun
+    begun && !escaped
 }
 
 /// Whether a word is a port's or a net's path: names of letters, digits, `_` and `$`, or of any byte behind a backslash, with
