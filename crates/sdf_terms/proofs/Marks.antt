@@ -12,17 +12,20 @@ use Rattle.sdf_tree.specs.Rules.{mark, token}
 use Rattle.sdf_terms.specs.Tokens.{found, named_there, word_of_meaning, word_there}
 
 module _ (is : Kind → Bool) (ts : List Lexeme) (i : ℕ) where
+  abbrev behind : Lexeme × ℕ → Result (Unit {0} × ℕ) ℕ
+  behind x = Ok (tt, x.1)
+
   pub mark_stands : stands kind_of is ts i ≡ true → (mark is).read ts i ≡ Ok (tt, i + 1)
   mark_stands h = go (slice_get ts i) h
     where
-      go : (o : Option Lexeme) → is_of kind_of is o ≡ true → (read_one kind_of is i o >>= λ x. Ok (tt, x.1)) ≡ Ok (tt, i + 1)
+      go : (o : Option Lexeme) → is_of kind_of is o ≡ true → (read_one kind_of is i o >>= behind) ≡ Ok (tt, i + 1)
       go None h = absurd cc
       go (Some t) h = rw h refl
 
   pub mark_fails : stands kind_of is ts i ≡ false → (mark is).read ts i ≡ Err i
   mark_fails h = go (slice_get ts i) h
     where
-      go : (o : Option Lexeme) → is_of kind_of is o ≡ false → (read_one kind_of is i o >>= λ x. Ok (tt, x.1)) ≡ Err i
+      go : (o : Option Lexeme) → is_of kind_of is o ≡ false → (read_one kind_of is i o >>= behind) ≡ Err i
       go None h = refl
       go (Some t) h = rw h refl
 
@@ -32,8 +35,11 @@ module _ {A : Type 0} (f : Keyword → Option A) (a : A) (i : ℕ) where
   abbrev names_something : Kind → Bool
   names_something = is_word_that (λ w. is_some (f w))
 
+  abbrev with_name : Lexeme × ℕ → Result (A × ℕ) ℕ
+  with_name x = Ok (names f a x.0.meaning, x.1)
+
   abbrev read_there : Option Lexeme → Result (A × ℕ) ℕ
-  read_there o = read_one kind_of names_something i o >>= λ x. Ok (names f a x.0.meaning, x.1)
+  read_there o = read_one kind_of names_something i o >>= with_name
 
   module _ (place : Place) where
     abbrev with_meaning : Meaning → Option Lexeme

@@ -1,5 +1,5 @@
 // What is passed over: tokens with paired parentheses.
-ghost use Rattle.std.specs.Prelude.{◌<◌, ◌^◌, map};
+ghost use Rattle.std.specs.Prelude.{◌≡◌, ◌<◌, ◌^◌, ◌==◌, map};
 ghost use Rattle.grammar.specs.Reading.{Gives};
 ghost use Rattle.sdf_lex.specs.Seen.{lexeme};
 ghost use Rattle.sdf_tree.specs.Values as values;
@@ -23,6 +23,13 @@ fn unclosed_behind(tokens: &[Token<'_>], at: usize, unclosed: u64) -> Option<u64
     }
 }
 
+/// Whether none is open.
+fn ended(unclosed: u64) -> bool
+    ensures { result ≡ (unclosed == 0) }
+{
+    unclosed == 0
+}
+
 /// The position behind any tokens with paired parentheses.
 #[tactic(auto, unfolding(sdf_tree::specs::Values::balanced_parts))]
 pub fn balanced(tokens: &[Token<'_>], at: usize) -> Result<usize, ReadFault>
@@ -30,11 +37,11 @@ pub fn balanced(tokens: &[Token<'_>], at: usize) -> Result<usize, ReadFault>
 {
     let mut next = at;
     let mut unclosed = 0u64;
-    'more: while let Some(then) = unclosed_behind(tokens, next, unclosed) {
-        unclosed = then;
+    'more: while let Some(after) = unclosed_behind(tokens, next, unclosed) {
+        unclosed = after;
         next += 1;
     }
-    if unclosed != 0 {
+    if !ended(unclosed) {
         return Err(ReadFault::At(next));
     }
     Ok(next)

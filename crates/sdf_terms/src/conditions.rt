@@ -156,6 +156,8 @@ pub fn cond<'a>(
     ensures { Gives (λ x. (map view_tok x.0.items, x.1)) result (entries.cond.read (map lexeme tokens.now) at) }
 {
     let next = word(tokens, at, Keyword::Cond)?;
-    let next = if is_text(tokens, next) { next + 1 } else { next };
+    if is_text(tokens, next) {
+        return condition(alloc, tokens, next + 1);
+    }
     condition(alloc, tokens, next)
 }

@@ -24,6 +24,8 @@ pub struct Form {
 pub trait Part<'a> {
     type Value: Drop;
 
+    ghost use Rattle.sdf_terms.specs.declared.parts.Form.{Form};
+
     ghost Tree: { Type 0 };
 
     ghost rule: { Form → Grammar Tree };

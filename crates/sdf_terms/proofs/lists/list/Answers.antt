@@ -7,7 +7,7 @@ use Rattle.sdf_terms.proofs.DelayLists.{delays_begin, delays_go_on, delays_fail,
 use Rattle.sdf_terms.proofs.lists.list.Goals as goal
 
 pub more-init : goal.more-init
-more-init c = rw c.new.ensures.items (delays_begin c.args.limited (map lexeme c.args.tokens.now) view_delay c.args.at)
+more-init c = rw c.new-delays.ensures.items (delays_begin c.args.limited (map lexeme c.args.tokens.now) view_delay c.args.at)
 
 pub returns-in_err-next : goal.returns-in_err-next
 returns-in_err-next c =

@@ -11,7 +11,7 @@ use Rattle.sdf_terms.proofs.parts.many.Goals as goal
 pub more-init : goal.more-init
 more-init g c =
     let p = g.P.Part in
-    rw c.new.ensures.items (many_begins kind_of (p.rule c.args.form) c.requires.exact c.requires.full (map lexeme c.args.tokens.now) p.view c.args.at)
+    rw c.new-parts.ensures.items (many_begins kind_of (p.rule c.args.form) c.requires.exact c.requires.full (map lexeme c.args.tokens.now) p.view c.args.at)
 
 pub returns-in_err-part : goal.returns-in_err-part
 returns-in_err-part g c =
