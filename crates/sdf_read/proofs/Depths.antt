@@ -1,6 +1,6 @@
 -- Counting the parentheses that are open, token by token.
-use Rattle.std.proofs.Common.{◌≡◌, ℕ, zero, suc, ◌+◌, ◌<◌, ◌≤◌, List, [], ◌∷◌, length, take, Option, Some, None, refl, sym, ap, ◌∙◌, arith, inl, inr, subst}
-use Rattle.std.specs.Prelude.{slice_get, ◌⊎◌}
+use Rattle.std.proofs.Common.{◌≡◌, ℕ, zero, suc, ◌+◌, ◌<◌, ◌≤◌, Bool, true, false, List, [], ◌∷◌, length, take, Option, Some, None, refl, sym, ap, ◌∙◌, arith, inl, inr, subst}
+use Rattle.std.specs.Prelude.{slice_get, ◌⊎◌, ◌↔◌, IsTrue}
 use Rattle.std.proofs.lemmas.Bool.{cases_lt}
 use Rattle.sdf_lex.specs.Tokens.{Lexeme}
 use Rattle.sdf_read.specs.Depth.{depth_behind, depth_from, Exceeds, IsTooDeep, NoneTooDeep}
@@ -9,6 +9,12 @@ one_more : (d : ℕ) (ts : List Lexeme) (i : ℕ) (t : Lexeme) → slice_get ts 
 one_more d [] i t e = absurd cc
 one_more d (x ∷ xs) zero t e = let same : x ≡ t = cc in ap (λ (y : Lexeme). depth_behind d y.meaning) same
 one_more d (x ∷ xs) (suc i) t e = one_more (depth_behind d x.meaning) xs i t e
+
+pub not_deep : (b : Bool) (depth : ℕ) → IsTrue b ↔ (32 < depth) → b ≡ false → depth ≤ 32
+not_deep b depth h e = elim (cases_lt 32 depth) [
+  | inl lt ↦ let f : true ≡ false = sym (h.1 lt) ∙ e in absurd cc
+  | inr ge ↦ ge
+]
 
 -- So many tokens were looked at, and so many parentheses are open behind them, never more than 32.
 pub record Looked (ts : List Lexeme) (i depth : ℕ) : Type 0 where

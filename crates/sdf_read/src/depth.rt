@@ -1,5 +1,5 @@
 // How deep parentheses stand within one another.
-ghost use Rattle.std.specs.Prelude.{◌≡◌, ◌≤◌, MatchOption, map};
+ghost use Rattle.std.specs.Prelude.{◌≡◌, ◌≤◌, ◌<◌, ◌↔◌, IsTrue, MatchOption, map};
 ghost use Rattle.sdf_lex.specs.Seen.{lexeme, meaning};
 ghost use Rattle.sdf_read.specs.Depth.{IsTooDeep, NoneTooDeep, depth_behind};
 
@@ -21,6 +21,12 @@ fn depth_behind(depth: u64, token: Lexeme<'_>) -> u64
     }
 }
 
+fn is_too_deep(depth: u64) -> bool
+    ensures { IsTrue result ↔ (32 < depth) }
+{
+    depth > DEEPEST
+}
+
 /// The position of the first opening parenthesis inside 32 others. One that closes nothing counts for nothing.
 pub fn first_too_deep(tokens: &[Token<'_>]) -> Option<usize>
     ensures { MatchOption result (IsTooDeep (map lexeme tokens.now)) (NoneTooDeep (map lexeme tokens.now)) }
@@ -29,7 +35,7 @@ pub fn first_too_deep(tokens: &[Token<'_>]) -> Option<usize>
     let mut at = 0usize;
     'more: while let Some(token) = token_at(tokens, at) {
         let behind = depth_behind(depth, token.lexeme);
-        if behind > DEEPEST {
+        if is_too_deep(behind) {
             return Some(at);
         }
         depth = behind;

@@ -114,10 +114,9 @@ fn tail<'a>(
 ) -> Result<(Tail<'a>, usize), ReadFault>
     ensures { Gives (λ x. (view_tail x.0, x.1)) result ((entries.tail limited).read (map lexeme tokens.now) at) }
 {
-    let mut tail = Tail {
-        retains: Vec::new(alloc),
-        delays: Vec::new(alloc),
-    };
+    let retains = Vec::new(alloc);
+    let delays = Vec::new(alloc);
+    let mut tail = Tail { retains, delays };
     let mut next = at;
     'more: while part_comes(tokens, next, limited, tail.delays.len()) {
         next = add_part(alloc, &mut tail, tokens, next, limited)?;

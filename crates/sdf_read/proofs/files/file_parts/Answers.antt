@@ -8,7 +8,7 @@ use Rattle.sdf_read.proofs.FileLists.{parts_begin, parts_go_on, parts_fail, part
 use Rattle.sdf_read.proofs.files.file_parts.Goals as goal
 
 pub more-init : goal.more-init
-more-init c = rw c.new.ensures.items (parts_begin c.args.limited (map lexeme c.args.tokens.now) view_file_part c.args.at)
+more-init c = rw c.new-parts.ensures.items (parts_begin c.args.limited (map lexeme c.args.tokens.now) view_file_part c.args.at)
 
 pub returns-in_err-part : goal.returns-in_err-part
 returns-in_err-part c =

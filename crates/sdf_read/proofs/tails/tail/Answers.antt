@@ -9,7 +9,7 @@ use Rattle.sdf_read.proofs.PathTails.{none_kept, part_goes_on, part_fails, part_
 use Rattle.sdf_read.proofs.tails.tail.Goals as goal
 
 pub more-init : goal.more-init
-more-init c = rw (c.new.ensures.items, c.new-2.ensures.items) (none_kept c.args.limited (map lexeme c.args.tokens.now) c.args.at)
+more-init c = rw (c.new-retains.ensures.items, c.new-delays.ensures.items) (none_kept c.args.limited (map lexeme c.args.tokens.now) c.args.at)
 
 pub returns-in_err-next : goal.returns-in_err-next
 returns-in_err-next c =
