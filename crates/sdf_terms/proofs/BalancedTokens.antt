@@ -1,6 +1,6 @@
 -- Passing over tokens with paired parentheses, as a loop does that counts those that are open.
 use Rattle.std.proofs.Common.{◌≡◌, ℕ, zero, suc, ◌+◌, ◌-◌, ◌<◌, ◌≤◌, Bool, true, false, List, [], ◌∷◌, length, Option, Some, None, Result, Ok, Err, refl, sym, ap, ◌∙◌, arith}
-use Rattle.std.specs.Prelude.{slice_get, ◌==◌, not, ◌||◌, ◌&&◌, if◌after◌else◌}
+use Rattle.std.specs.Prelude.{slice_get, ◌==◌, not, ◌||◌, ◌&&◌, if◌then◌else◌}
 use Rattle.std.proofs.lemmas.Bool.{cases_Bool}
 use Rattle.grammar.specs.Reading.{◌>>=◌}
 use Rattle.grammar.specs.Rule.{is_of, one, stands}
@@ -50,11 +50,11 @@ module _ (ts : List Lexeme) where
     pub token_within : (after : ℕ) → StepTaken ts i unclosed (Some after) → i < length ts
     token_within after s = stands_within kind_of (inside unclosed) (one-exact kind_of (is_inside unclosed)) refl ts (is_inside unclosed) i (there after s)
 
-    if_few : (b : Bool) → (if b after unclosed - 1 else unclosed) ≤ unclosed + 1
+    if_few : (b : Bool) → (if b then unclosed - 1 else unclosed) ≤ unclosed + 1
     if_few true = omega arith
     if_few false = omega arith
 
-    few : (b c : Bool) → (if b after suc unclosed else (if c after unclosed - 1 else unclosed)) ≤ unclosed + 1
+    few : (b c : Bool) → (if b then suc unclosed else (if c then unclosed - 1 else unclosed)) ≤ unclosed + 1
     few true c = omega arith
     few false c = if_few c
 

@@ -11,7 +11,7 @@ ghost use Rattle.sdf_tree.specs.Entries as entries;
 ghost use Rattle.sdf_tree.specs.Seen.{view_tok};
 ghost use Rattle.sdf_terms.specs.Conditions.{seen, word_alone};
 
-use crate::tokens::{is_select, is_text, token_at, word};
+use crate::tokens::{is_select, is_text, text, token_at, word};
 use cond_expr::{Phase, Tok, after};
 use grammar::ReadFault;
 use sdf_lex::{Lexeme, Token};
@@ -157,7 +157,8 @@ pub fn cond<'a>(
 {
     let next = word(tokens, at, Keyword::Cond)?;
     if is_text(tokens, next) {
-        return condition(alloc, tokens, next + 1);
+        let (_, next) = text(tokens, next)?;
+        return condition(alloc, tokens, next);
     }
     condition(alloc, tokens, next)
 }
