@@ -12,14 +12,14 @@ ghost use Rattle.sdf_tree.specs.Seen.{view_cell, view_instance, view_part};
 ghost use Rattle.sdf_read.specs.Cells.{InstanceFound, view_part_body};
 ghost use Rattle.sdf_terms.specs.Tokens.{found};
 
-use sdf_terms::balanced::balanced;
 use crate::checks::Checks;
 use crate::groups::Groups;
+use grammar::ReadFault;
+use sdf_lex::{Lexeme, Token};
+use sdf_terms::balanced::balanced;
 use sdf_terms::named::{SkippedParts, named};
 use sdf_terms::parts::{Form, Part, many};
 use sdf_terms::tokens::{is_select, is_star, is_word, left, place_at, right, text, token_at, word};
-use grammar::ReadFault;
-use sdf_lex::{Lexeme, Token};
 use sdf_tree::{
     Divider, Instance, Keyword, Skipped, WrittenCell, WrittenCheck, WrittenGroup, WrittenPart,
     is_instance_path,
@@ -147,11 +147,7 @@ fn instance_word_at<'a>(tokens: &[Token<'a>], at: usize, divider: Divider) -> Op
 }
 
 /// `[ instance-path | "*" ]`
-fn optional_instance<'a>(
-    tokens: &[Token<'a>],
-    at: usize,
-    divider: Divider,
-) -> (Instance<'a>, usize)
+fn optional_instance<'a>(tokens: &[Token<'a>], at: usize, divider: Divider) -> (Instance<'a>, usize)
     ensures { InstanceFound divider (map lexeme tokens.now) at (view_instance result.0) result.1 }
 {
     if is_star(tokens, at) {

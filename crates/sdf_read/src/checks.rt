@@ -5,6 +5,8 @@ ghost use Rattle.sdf_lex.specs.Seen.{lexeme};
 ghost use Rattle.sdf_tree.specs.Checks as checks;
 ghost use Rattle.sdf_tree.specs.Seen.{view_check, view_check_body, view_terminal, view_value};
 
+use grammar::ReadFault;
+use sdf_lex::Token;
 use sdf_terms::balanced::balanced;
 use sdf_terms::conditions::cond;
 use sdf_terms::named::{PairChecks, SingleChecks, SkippedChecks, WindowChecks, named, named_at};
@@ -12,8 +14,6 @@ use sdf_terms::parts::{Form, Part};
 use sdf_terms::ports::{edge_stands, edge_word, port, port_stands, spec};
 use sdf_terms::tokens::{left, place_at, right};
 use sdf_terms::values::value;
-use grammar::ReadFault;
-use sdf_lex::Token;
 use sdf_tree::{Divider, Terminal, WrittenCheck, WrittenCheckBody, WrittenValue};
 use std::alloc::Global;
 

@@ -6,14 +6,14 @@ ghost use Rattle.sdf_tree.specs.Entries as entries;
 ghost use Rattle.sdf_tree.specs.Seen.{view_body, view_condition, view_entry};
 ghost use Rattle.sdf_read.specs.Tails.{view_path};
 
+use crate::tails::{Path, inner_path, path};
+use grammar::ReadFault;
+use sdf_lex::Token;
 use sdf_terms::conditions::cond;
 use sdf_terms::lists::list;
 use sdf_terms::parts::{Form, Part};
 use sdf_terms::ports::{optional_port, port};
-use crate::tails::{Path, inner_path, path};
 use sdf_terms::tokens::{is_word, left, place_at, right, word};
-use grammar::ReadFault;
-use sdf_lex::Token;
 use sdf_tree::{Keyword, PathCondition, WrittenBody, WrittenEntry};
 use std::alloc::Global;
 

@@ -8,10 +8,10 @@ ghost use Rattle.sdf_read.specs.Files.{state};
 
 use crate::cells::cell;
 use crate::heads::{head, head_stands};
-use sdf_terms::parts::Form;
-use sdf_terms::tokens::{is_left, left, right, word};
 use grammar::ReadFault;
 use sdf_lex::Token;
+use sdf_terms::parts::Form;
+use sdf_terms::tokens::{is_left, left, right, word};
 use sdf_tree::{Divider, Keyword, WrittenFilePart, WrittenHead};
 use std::alloc::Global;
 

@@ -7,13 +7,13 @@ ghost use Rattle.sdf_tree.specs.Seen.{view_group};
 ghost use Rattle.sdf_read.specs.Groups.{view_group_body, view_pulse};
 
 use crate::entries::Entries;
+use grammar::ReadFault;
+use sdf_lex::Token;
 use sdf_terms::named::{Pulses, named};
 use sdf_terms::parts::{Form, Part, many};
 use sdf_terms::ports::optional_ports;
 use sdf_terms::tokens::{is_word, left, place_at, right, word};
 use sdf_terms::values::{optional_value, value};
-use grammar::ReadFault;
-use sdf_lex::Token;
 use sdf_tree::{Divider, Keyword, PortPair, WrittenEntry, WrittenGroup, WrittenValue};
 use sg_text::Place;
 use std::alloc::Global;

@@ -11,10 +11,10 @@ ghost use Rattle.sdf_tree.specs.Rules as rules;
 ghost use Rattle.sdf_tree.specs.Seen.{view_head};
 ghost use Rattle.sdf_terms.specs.Tokens.{found};
 
-use sdf_terms::tokens::{is_word, keyword_at, text, token_at, word};
-use sdf_terms::values::optional_numbers;
 use grammar::ReadFault;
 use sdf_lex::{Lexeme, Token};
+use sdf_terms::tokens::{is_word, keyword_at, text, token_at, word};
+use sdf_terms::values::optional_numbers;
 use sdf_tree::{Divider, Keyword, WrittenHead, joined_unit, scale_power, scaled, unit_of};
 use sg_time::Unit;
 

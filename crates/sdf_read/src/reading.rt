@@ -11,9 +11,9 @@ ghost use Rattle.sdf_read.specs.Reading.{IsFile, KindStands, RefusalStands, faul
 
 use crate::faults::SdfKind;
 use crate::files::file;
-use sdf_terms::tokens::token_at;
 use grammar::ReadFault;
 use sdf_lex::Token;
+use sdf_terms::tokens::token_at;
 use sdf_tree::WrittenFile;
 use sg_text::{NoMemory, Place, Refused};
 use std::alloc::Global;

@@ -7,13 +7,13 @@ ghost use Rattle.sdf_tree.specs.Entries as entries;
 ghost use Rattle.sdf_tree.specs.Kinds.{kind_of};
 ghost use Rattle.sdf_read.specs.Tails.{IsPartAdded, tail_part_there, view_path, view_tail, view_tail_part, with_part};
 
+use grammar::ReadFault;
+use sdf_lex::Token;
 use sdf_terms::lists::{list, may_come, may_end};
 use sdf_terms::parts::Form;
 use sdf_terms::ports::{port, spec};
 use sdf_terms::tokens::{is_left, is_word, left, place_at, right, word};
 use sdf_terms::values::delay_rest;
-use grammar::ReadFault;
-use sdf_lex::Token;
 use sdf_tree::{Keyword, Port, Terminal, WrittenDelay};
 use std::alloc::Global;
 
