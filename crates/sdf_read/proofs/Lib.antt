@@ -4,3 +4,4 @@ pub mod Parts
 pub mod FileLists
 pub mod Failed
 pub mod Depths
+pub mod Decimals

@@ -5,9 +5,9 @@ use Rattle.sdf_tree.specs.Entries.{Pulse, GroupBody, absolute_body, increment_bo
 use Rattle.sdf_tree.specs.Seen.{view_entry, view_ports, view_value}
 use Rattle.sdf_read.specs.declared.groups.GroupBody as code_body
 use Rattle.sdf_read.specs.declared.groups.GroupBody.TheVariants as body
-use Rattle.sdf_read.specs.declared.groups.Pulse as code_pulse
+use Rattle.sdf_read.specs.declared.groups.PulseLimits as code_pulse
 
-abbrev pub view_pulse : code_pulse.Pulse → Pulse
+abbrev pub view_pulse : code_pulse.PulseLimits → Pulse
 view_pulse p = (p.percent, (option_map view_ports p.ports, (view_value p.reject, option_map view_value p.error)))
 
 abbrev pub view_group_body : code_body.GroupBody → GroupBody

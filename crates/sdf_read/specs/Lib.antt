@@ -5,3 +5,5 @@ pub mod Cells
 pub mod Files
 pub mod Reading
 pub mod Depth
+pub mod MeantSeen
+pub mod Outcomes

@@ -9,19 +9,19 @@ use Rattle.sdf_tree.specs.Kinds.{is_left}
 use Rattle.sdf_tree.specs.Rules.{Grammar, mark, placed}
 use Rattle.sdf_tree.specs.Seen.{view_delay, view_port, view_terminal}
 use Rattle.sdf_tree.specs.Written.{Delay}
-use Rattle.sdf_read.specs.declared.tails.Path as code_path
-use Rattle.sdf_read.specs.declared.tails.Tail as code_tail
+use Rattle.sdf_read.specs.declared.tails.IoPath as code_path
+use Rattle.sdf_read.specs.declared.tails.TailDelays as code_tail
 use Rattle.sdf_read.specs.declared.tails.TailPart as code_part
 use Rattle.sdf_read.specs.declared.tails.TailPart.TheVariants as part
 
-abbrev pub view_tail : code_tail.Tail → List Delay × List Delay
+abbrev pub view_tail : code_tail.TailDelays → List Delay × List Delay
 view_tail t = (map view_delay t.retains.items, map view_delay t.delays.items)
 
 abbrev pub view_tail_part : code_part.TailPart → TailPart
 view_tail_part (part.Retain ds) = a_retain (map view_delay ds.items)
 view_tail_part (part.Delay d) = a_delay (view_delay d)
 
-abbrev pub view_path : code_path.Path → Path
+abbrev pub view_path : code_path.IoPath → Path
 view_path p = (view_terminal p.from, (view_port p.to, view_tail p.tail))
 
 -- delays of RETAIN and of the list, with a part behind them

@@ -1,5 +1,5 @@
 // Readers of cells.
-ghost use Rattle.std.specs.Prelude.{◌≡◌, is_some, map};
+ghost use Rattle.std.specs.Prelude.{◌≡◌, ◌||◌, is_some, map};
 ghost use Rattle.std.specs.Option.{option_map};
 ghost use Rattle.grammar.specs.Reading.{Gives};
 ghost use Rattle.grammar.specs.Rule.{stands};
@@ -9,7 +9,7 @@ ghost use Rattle.sdf_tree.specs.Kinds as kinds;
 ghost use Rattle.sdf_tree.specs.Kinds.{kind_of};
 ghost use Rattle.sdf_tree.specs.Rules as rules;
 ghost use Rattle.sdf_tree.specs.Seen.{view_cell, view_instance, view_part};
-ghost use Rattle.sdf_read.specs.Cells.{InstanceFound, view_part_body};
+ghost use Rattle.sdf_read.specs.Cells.{view_part_body};
 ghost use Rattle.sdf_terms.specs.Tokens.{found};
 
 use crate::checks::Checks;
@@ -28,6 +28,7 @@ use sg_text::Place;
 use std::alloc::Global;
 
 /// What stands in parentheses in a cell.
+#[derive(Drop)]
 pub enum PartBody<'a> {
     Delays(Vec<WrittenGroup<'a>>),
     Checks(Vec<WrittenCheck<'a>>),
@@ -146,21 +147,52 @@ fn instance_word_at<'a>(tokens: &[Token<'a>], at: usize, divider: Divider) -> Op
     }
 }
 
-/// `[ instance-path | "*" ]`
-fn optional_instance<'a>(tokens: &[Token<'a>], at: usize, divider: Divider) -> (Instance<'a>, usize)
-    ensures { InstanceFound divider (map lexeme tokens.now) at (view_instance result.0) result.1 }
+/// Whether an instance stands there.
+fn instance_stands(tokens: &[Token<'_>], at: usize, divider: Divider) -> bool
+    ensures { result ≡ stands kind_of (λ k. kinds.is_star k || kinds.is_instance divider k) (map lexeme tokens.now) at }
 {
-    if is_star(tokens, at) {
-        return (Instance::All, at + 1);
-    }
-    match instance_word_at(tokens, at, divider) {
-        Some(path) if is_select(tokens, at + 1) => (Instance::Path(path), at + 2),
-        Some(path) => (Instance::Path(path), at + 1),
-        None => (Instance::Top, at),
-    }
+    is_star(tokens, at) || instance_word_at(tokens, at, divider).is_some()
 }
 
-/// `"(" INSTANCE [ instance-path | "*" ] ")"`
+/// `"*" | instance-path`
+#[tactic(auto, using(sdf_terms::proofs::Marks::mark_stands))]
+fn instance_there<'a>(
+    tokens: &[Token<'a>],
+    at: usize,
+    divider: Divider,
+) -> Result<(Instance<'a>, usize), ReadFault>
+    ensures { Gives (λ x. (view_instance x.0, x.1)) result ((files.instance_there divider).read (map lexeme tokens.now) at) }
+{
+    if is_star(tokens, at) {
+        return Ok((Instance::All, at + 1));
+    }
+    let Some(path) = instance_word_at(tokens, at, divider) else {
+        return Err(ReadFault::At(at));
+    };
+    let next = if is_select(tokens, at + 1) {
+        at + 2
+    } else {
+        at + 1
+    };
+    Ok((Instance::Path(path), next))
+}
+
+/// `[ "*" | instance-path ]`
+fn optional_instance<'a>(
+    tokens: &[Token<'a>],
+    at: usize,
+    divider: Divider,
+) -> Result<(Option<Instance<'a>>, usize), ReadFault>
+    ensures { Gives (λ x. (option_map view_instance x.0, x.1)) result ((rules.optional (files.instance_there divider)).read (map lexeme tokens.now) at) }
+{
+    if !instance_stands(tokens, at, divider) {
+        return Ok((None, at));
+    }
+    let (found, next) = instance_there(tokens, at, divider)?;
+    Ok((Some(found), next))
+}
+
+/// `"(" INSTANCE [ "*" | instance-path ] ")"`
 #[tactic(auto, unfolding(sdf_tree::specs::Files::instance_parts))]
 fn instance<'a>(
     tokens: &[Token<'a>],
@@ -171,9 +203,12 @@ fn instance<'a>(
 {
     let next = left(tokens, at)?;
     let next = word(tokens, next, Keyword::Instance)?;
-    let (instance, next) = optional_instance(tokens, next, divider);
+    let (found, next) = optional_instance(tokens, next, divider)?;
     let next = right(tokens, next)?;
-    Ok((instance, next))
+    match found {
+        Some(instance) => Ok((instance, next)),
+        None => Ok((Instance::Top, next)),
+    }
 }
 
 /// `CELL cell-type instance { part }`

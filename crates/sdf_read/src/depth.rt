@@ -29,7 +29,7 @@ fn is_too_deep(depth: u64) -> bool
 
 /// The position of the first opening parenthesis inside 32 others. One that closes nothing counts for nothing.
 pub fn first_too_deep(tokens: &[Token<'_>]) -> Option<usize>
-    ensures { MatchOption result (IsTooDeep (map lexeme tokens.now)) (NoneTooDeep (map lexeme tokens.now)) }
+    ensures { MatchOption result (NoneTooDeep (map lexeme tokens.now)) (IsTooDeep (map lexeme tokens.now)) }
 {
     let mut depth = 0u64;
     let mut at = 0usize;

@@ -6,7 +6,7 @@ ghost use Rattle.sdf_tree.specs.Entries as entries;
 ghost use Rattle.sdf_tree.specs.Seen.{view_body, view_condition, view_entry};
 ghost use Rattle.sdf_read.specs.Tails.{view_path};
 
-use crate::tails::{Path, inner_path, path};
+use crate::tails::{IoPath, inner_path, path};
 use grammar::ReadFault;
 use sdf_lex::Token;
 use sdf_terms::conditions::cond;
@@ -17,7 +17,7 @@ use sdf_terms::tokens::{is_word, left, place_at, right, word};
 use sdf_tree::{Keyword, PathCondition, WrittenBody, WrittenEntry};
 use std::alloc::Global;
 
-fn path_body<'a>(condition: PathCondition<'a>, path: Path<'a>) -> WrittenBody<'a>
+fn path_body<'a>(condition: PathCondition<'a>, path: IoPath<'a>) -> WrittenBody<'a>
     ensures { view_body result ≡ entries.path_body (view_condition condition.entry) (view_path path.entry) }
 {
     WrittenBody::IoPath {

@@ -19,7 +19,8 @@ use sg_text::Place;
 use std::alloc::Global;
 
 /// `PATHPULSE` or `PATHPULSEPERCENT` with what stands behind it
-pub struct Pulse<'a> {
+#[derive(Drop)]
+pub struct PulseLimits<'a> {
     pub percent: bool,
     pub ports: Option<PortPair<'a>>,
     pub reject: WrittenValue<'a>,
@@ -27,10 +28,11 @@ pub struct Pulse<'a> {
 }
 
 /// What stands in parentheses in `DELAY`.
+#[derive(Drop)]
 pub enum GroupBody<'a> {
     Absolute(Vec<WrittenEntry<'a>>),
     Increment(Vec<WrittenEntry<'a>>),
-    Pulse(Pulse<'a>),
+    Pulse(PulseLimits<'a>),
 }
 
 /// `PATHPULSE [ port port ] value [ value ]`, or the same with `PATHPULSEPERCENT`
@@ -39,7 +41,7 @@ fn pulse<'a>(
     tokens: &[Token<'a>],
     at: usize,
     divider: Divider,
-) -> Result<(Pulse<'a>, usize), ReadFault>
+) -> Result<(PulseLimits<'a>, usize), ReadFault>
     ensures { Gives (λ x. (view_pulse x.0, x.1)) result ((entries.pulse divider).read (map lexeme tokens.now) at) }
 {
     let (percent, next) = named::<Pulses>(tokens, at)?;
@@ -47,7 +49,7 @@ fn pulse<'a>(
     let (reject, next) = value(tokens, next)?;
     let (error, next) = optional_value(tokens, next)?;
     Ok((
-        Pulse {
+        PulseLimits {
             percent,
             ports,
             reject,

@@ -9,6 +9,7 @@ mod faults;
 mod files;
 mod groups;
 mod heads;
+mod numbers;
 mod reading;
 mod tails;
 

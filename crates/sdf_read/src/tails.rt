@@ -18,19 +18,22 @@ use sdf_tree::{Keyword, Port, Terminal, WrittenDelay};
 use std::alloc::Global;
 
 /// The delays of a path, and those of its `RETAIN`.
-pub struct Tail<'a> {
+#[derive(Drop)]
+pub struct TailDelays<'a> {
     pub retains: Vec<WrittenDelay<'a>>,
     pub delays: Vec<WrittenDelay<'a>>,
 }
 
 /// `IOPATH` with what stands behind it
-pub struct Path<'a> {
+#[derive(Drop)]
+pub struct IoPath<'a> {
     pub from: Terminal<'a>,
     pub to: Port<'a>,
-    pub tail: Tail<'a>,
+    pub tail: TailDelays<'a>,
 }
 
 /// A part of the list of an `IOPATH`.
+#[derive(Drop)]
 enum TailPart<'a> {
     Retain(Vec<WrittenDelay<'a>>),
     Delay(WrittenDelay<'a>),
@@ -78,8 +81,8 @@ fn tail_part<'a>(
 }
 
 /// Puts a part behind others.
-fn put_part<'a>(tail: &mut Tail<'a>, part: TailPart<'a>) -> Result<(), ReadFault>
-    ensures { IfOk result (λ _. view_tail tail.new ≡ with_part (view_tail tail.old) (view_tail_part part)) }
+fn put_part<'a>(tail: &mut TailDelays<'a>, part: TailPart<'a>) -> Result<(), ReadFault>
+    ensures { IfOk result (λ _. view_tail tail.new ≡ with_part (view_tail tail.old) (view_tail_part part.entry)) }
 {
     match part {
         TailPart::Retain(delays) => tail.retains.extend_from_slice(&delays)?,
@@ -91,7 +94,7 @@ fn put_part<'a>(tail: &mut Tail<'a>, part: TailPart<'a>) -> Result<(), ReadFault
 /// Reads a part and puts it behind the others. Answers the position behind.
 fn add_part<'a>(
     alloc: Global,
-    tail: &mut Tail<'a>,
+    tail: &mut TailDelays<'a>,
     tokens: &[Token<'a>],
     at: usize,
     limited: bool,
@@ -111,12 +114,12 @@ fn tail<'a>(
     tokens: &[Token<'a>],
     at: usize,
     limited: bool,
-) -> Result<(Tail<'a>, usize), ReadFault>
+) -> Result<(TailDelays<'a>, usize), ReadFault>
     ensures { Gives (λ x. (view_tail x.0, x.1)) result ((entries.tail limited).read (map lexeme tokens.now) at) }
 {
     let retains = Vec::new(alloc);
     let delays = Vec::new(alloc);
-    let mut tail = Tail { retains, delays };
+    let mut tail = TailDelays { retains, delays };
     let mut next = at;
     'more: while part_comes(tokens, next, limited, tail.delays.len()) {
         next = add_part(alloc, &mut tail, tokens, next, limited)?;
@@ -134,14 +137,14 @@ pub fn path<'a>(
     tokens: &[Token<'a>],
     at: usize,
     form: Form,
-) -> Result<(Path<'a>, usize), ReadFault>
+) -> Result<(IoPath<'a>, usize), ReadFault>
     ensures { Gives (λ x. (view_path x.0, x.1)) result ((entries.path form.limited form.divider).read (map lexeme tokens.now) at) }
 {
     let next = word(tokens, at, Keyword::IoPath)?;
     let (from, next) = spec(tokens, next, form.divider)?;
     let (to, next) = port(tokens, next, form.divider)?;
     let (tail, next) = tail(alloc, tokens, next, form.limited)?;
-    Ok((Path { from, to, tail }, next))
+    Ok((IoPath { from, to, tail }, next))
 }
 
 /// `"(" path ")"`
@@ -151,7 +154,7 @@ pub fn inner_path<'a>(
     tokens: &[Token<'a>],
     at: usize,
     form: Form,
-) -> Result<(Path<'a>, usize), ReadFault>
+) -> Result<(IoPath<'a>, usize), ReadFault>
     ensures { Gives (λ x. (view_path x.0, x.1)) result ((entries.inner_path form.limited form.divider).read (map lexeme tokens.now) at) }
 {
     let next = left(tokens, at)?;
