@@ -1,5 +1,6 @@
 // Readers of paths and of their delays.
-ghost use Rattle.std.specs.Prelude.{◌≡◌, IfOk, length, map};
+ghost use Rattle.std.specs.Prelude.{◌≡◌, IfErr, IfOk, length, map};
+ghost use Rattle.grammar.specs.declared.ReadFault.TheVariants as faults;
 ghost use Rattle.grammar.specs.Reading.{Gives};
 ghost use Rattle.grammar.specs.Rule.{stands};
 ghost use Rattle.sdf_lex.specs.Seen.{lexeme};
@@ -82,7 +83,8 @@ fn tail_part<'a>(
 
 /// Puts a part behind others.
 fn put_part<'a>(tail: &mut TailDelays<'a>, part: TailPart<'a>) -> Result<(), ReadFault>
-    ensures { IfOk result (λ _. view_tail tail.new ≡ with_part (view_tail tail.old) (view_tail_part part.entry)) }
+    ensures kept { IfOk result (λ _. view_tail tail.new ≡ with_part (view_tail tail.old) (view_tail_part part.entry)) }
+    ensures memory { IfErr result (λ fault. fault ≡ faults.Memory) }
 {
     match part {
         TailPart::Retain(delays) => tail.retains.extend_from_slice(&delays)?,
