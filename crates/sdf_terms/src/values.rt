@@ -80,7 +80,13 @@ fn optional_number<'a>(
 fn others<'a>(
     tokens: &[Token<'a>],
     at: usize,
-) -> Result<((Option<WrittenNumber<'a>>, Option<WrittenNumber<'a>>), usize), ReadFault>
+) -> Result<
+    (
+        (Option<WrittenNumber<'a>>, Option<WrittenNumber<'a>>),
+        usize,
+    ),
+    ReadFault,
+>
     ensures { Gives (λ x. ((option_map view_number x.0.0, option_map view_number x.0.1), x.1)) result (values.others.read (map lexeme tokens.now) at) }
 {
     let next = colon(tokens, at)?;

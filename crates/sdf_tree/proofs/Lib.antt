@@ -8,3 +8,4 @@ pub mod ChecksExact
 pub mod FilesExact
 pub mod KeywordLaws
 pub mod NumberLaws
+pub mod Examples

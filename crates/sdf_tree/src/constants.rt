@@ -25,12 +25,7 @@ fn are_digits_of(base: Base, digits: &[u8]) -> bool
 }
 
 // The bit of a constant of width 1, or of one without a width that has one bit.
-fn bit_of(
-    alloc: Global,
-    sized: bool,
-    base: Base,
-    digits: &[u8],
-) -> Result<Option<Value>, NoMemory>
+fn bit_of(alloc: Global, sized: bool, base: Base, digits: &[u8]) -> Result<Option<Value>, NoMemory>
     ensures { IfOk result (λ bit. bit ≡ words.bit_of sized (Some base) digits.now) }
 {
     if digits.is_empty() || !are_digits_of(base, digits) || !base.has_bits(digits) {

@@ -18,5 +18,6 @@ pub use units::{joined_unit, scale_power, scaled, unit_of};
 pub use words::{Divider, begins_number, is_instance_path, is_name, is_port_path};
 pub use written::{
     WrittenBody, WrittenCell, WrittenCheck, WrittenCheckBody, WrittenDelay, WrittenEntry,
-    WrittenFile, WrittenFilePart, WrittenGroup, WrittenHead, WrittenLimits, WrittenNumber, WrittenPart, WrittenValue,
+    WrittenFile, WrittenFilePart, WrittenGroup, WrittenHead, WrittenLimits, WrittenNumber,
+    WrittenPart, WrittenValue,
 };

@@ -1,7 +1,8 @@
 // SDF files as they are written: one type for each rule of the grammar that isn't in the tree as it is meant. Numbers are
 // still words.
 use crate::{
-    Divider, Instance, PairCheck, PathCondition, Port, PortPair, SingleCheck, Skipped, Terminal, WindowCheck,
+    Divider, Instance, PairCheck, PathCondition, Port, PortPair, SingleCheck, Skipped, Terminal,
+    WindowCheck,
 };
 use sg_text::Place;
 use sg_time::Unit;
