@@ -1,0 +1,10 @@
+-- What a word of few bytes is as a decimal.
+use Rattle.std.proofs.Common.{◌≡◌, ◌^◌, ℕ, true, List, length, Result, refl, ◌∙◌}
+use Rattle.std.specs.Prelude.{nat_lt}
+use Rattle.sg_time.specs.declared.decimal.TimeError.{TimeError}
+use Rattle.sg_time.specs.Reading.{parts_of, said_of}
+use Rattle.sg_time.specs.Spelling.{Number}
+use Rattle.sdf_tree.specs.Meant.{decimal_of}
+
+pub short_decimal : (text : List ℕ) (o : Result Number TimeError) → nat_lt (length text) (2 ^ 30) ≡ true → o ≡ said_of (parts_of text) → o ≡ decimal_of text
+short_decimal text o h e = e ∙ rw h refl

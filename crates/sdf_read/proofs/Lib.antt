@@ -1,0 +1,7 @@
+-- The modules of this folder.
+pub mod PathTails
+pub mod Parts
+pub mod FileLists
+pub mod Failed
+pub mod Depths
+pub mod Decimals
