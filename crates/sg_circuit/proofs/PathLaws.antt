@@ -45,8 +45,7 @@ path_was conditions timings nets p h = record { input = h.input; condition = con
 -- a test of the nets of all paths
 pub tests_nets : (conditions : List Condition) (timings : List LegTiming) (nets nets' : ℕ) (xs ys : List Path) (b : Bool) → nets' ≡ nets → ys ≡ xs → (IsTrue b ↔ All (IsOfNets nets') ys) → IsTrue b ↔ All (IsPathOf nets) (paths_seen conditions timings xs)
 tests_nets conditions timings nets nets' xs ys b m e h =
-    let k : IsTrue b ↔ All (IsOfNets nets) xs = subst (λ n. IsTrue b ↔ All (IsOfNets n) xs) m (subst (λ zs. IsTrue b ↔ All (IsOfNets nets') zs) e h) in
-    (
+    let k : IsTrue b ↔ All (IsOfNets nets) xs = subst (λ n. IsTrue b ↔ All (IsOfNets n) xs) m (subst (λ zs. IsTrue b ↔ All (IsOfNets nets') zs) e h) in (
       (λ t. All-map (IsPathOf nets) (path_seen conditions timings) xs (All-weaker (IsOfNets nets) (λ p. IsPathOf nets (path_seen conditions timings p)) (path_of conditions timings nets) xs (k.0 t))),
       (λ a. k.1 (All-weaker (λ p. IsPathOf nets (path_seen conditions timings p)) (IsOfNets nets) (path_was conditions timings nets) xs (all-unmapped (IsPathOf nets) (path_seen conditions timings) xs a))),
     )

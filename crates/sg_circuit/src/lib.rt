@@ -11,9 +11,9 @@ mod nets;
 mod path_fitting;
 mod paths;
 mod scopes;
-mod timing_fitting;
 #[cfg(test)]
 mod tests;
+mod timing_fitting;
 
 pub use building::{Pin, add_pins};
 pub use checks::{Check, CheckKind, CheckTiming, Event, Terminal};

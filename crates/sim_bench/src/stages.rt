@@ -1,8 +1,6 @@
 // Inverters in a chain, each with a specify path from its input to its output.
 use crate::inverters::{inverter, net};
-use sg_circuit::{
-    Driver, Element, ElementKind, LegTiming, Net, Path, PathCondition, Span,
-};
+use sg_circuit::{Driver, Element, ElementKind, LegTiming, Net, Path, PathCondition, Span};
 use sg_delay::{Limit, Limits12, PulseStyle, expand};
 use sg_text::NoMemory;
 use smallvec::SmallVec;
@@ -54,10 +52,16 @@ pub fn stages(alloc: Global, count: u32) -> anyhow::Result<Joined> {
     }
     for number in 0..count {
         let input = 2 * number;
-        joined.nets.push(net(alloc, input + 1, Driver::Element(input))?)?;
-        joined.nets.push(net(alloc, input + 2, Driver::Element(input + 1))?)?;
+        joined
+            .nets
+            .push(net(alloc, input + 1, Driver::Element(input))?)?;
+        joined
+            .nets
+            .push(net(alloc, input + 2, Driver::Element(input + 1))?)?;
         joined.elements.push(inverter(alloc, input, input + 1, 0)?)?;
-        joined.elements.push(way(alloc, input + 1, input + 2, number)?)?;
+        joined
+            .elements
+            .push(way(alloc, input + 1, input + 2, number)?)?;
         joined.paths.push(Path {
             input,
             edge: None,

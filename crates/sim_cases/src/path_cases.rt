@@ -85,7 +85,17 @@ fn pulse(
     let paths = [plain(0, 0)];
     let sets: [(u64, &[Value]); 3] = [(0, &[Zero]), (10, &[One]), (12, &[Zero])];
     gate_and_paths(
-        alloc, out, title, &names, Buf, &[0], &[timing], &paths, style, &sets, 40,
+        alloc,
+        out,
+        title,
+        &names,
+        Buf,
+        &[0],
+        &[timing],
+        &paths,
+        style,
+        &sets,
+        40,
     )
 }
 
@@ -108,8 +118,20 @@ fn pulses(alloc: Global, out: &mut String) -> anyhow::Result<()> {
     let slow = timing(&[7, 9], Limit::Follow)?;
     let fast = timing(&[9, 3], Limit::Follow)?;
     pulse(alloc, out, "path (7, 9)", slow, OnEvent)?;
-    pulse(alloc, out, "path (7, 9) with limits (2, 9), on event", own, OnEvent)?;
-    pulse(alloc, out, "path (7, 9) with limits (2, 9), on detect", own, OnDetect)?;
+    pulse(
+        alloc,
+        out,
+        "path (7, 9) with limits (2, 9), on event",
+        own,
+        OnEvent,
+    )?;
+    pulse(
+        alloc,
+        out,
+        "path (7, 9) with limits (2, 9), on detect",
+        own,
+        OnDetect,
+    )?;
     pulse(alloc, out, "path (9, 3)", fast, OnEvent)
 }
 
@@ -117,16 +139,25 @@ fn pulses(alloc: Global, out: &mut String) -> anyhow::Result<()> {
 // x to 0 and from 1 to 0 it is 9, of a, and from 0 to 1 it is 5, of b. 3, 2 and 2 evaluations.
 fn two_inputs(alloc: Global, out: &mut String) -> anyhow::Result<()> {
     let names = ["a", "b", "n", "y"];
-    let timings = [timing(&[6, 9], Limit::Follow)?, timing(&[5, 11], Limit::Follow)?];
-    let paths = [plain(0, 0), plain(1, 1)];
-    let sets: [(u64, &[Value]); 3] = [
-        (0, &[Zero, Zero]),
-        (20, &[One, One]),
-        (40, &[Zero, Zero]),
+    let timings = [
+        timing(&[6, 9], Limit::Follow)?,
+        timing(&[5, 11], Limit::Follow)?,
     ];
+    let paths = [plain(0, 0), plain(1, 1)];
+    let sets: [(u64, &[Value]); 3] = [(0, &[Zero, Zero]), (20, &[One, One]), (40, &[Zero, Zero])];
     let title = "paths from both inputs of an and";
     gate_and_paths(
-        alloc, out, title, &names, And, &[0, 1], &timings, &paths, OnEvent, &sets, 60,
+        alloc,
+        out,
+        title,
+        &names,
+        And,
+        &[0, 1],
+        &timings,
+        &paths,
+        OnEvent,
+        &sets,
+        60,
     )
 }
 
@@ -151,7 +182,17 @@ fn conditions(alloc: Global, out: &mut String) -> anyhow::Result<()> {
     ];
     let title = "paths with conditions";
     gate_and_paths(
-        alloc, out, title, &names, Buf, &[0], &timings, &paths, OnEvent, &sets, 120,
+        alloc,
+        out,
+        title,
+        &names,
+        Buf,
+        &[0],
+        &timings,
+        &paths,
+        OnEvent,
+        &sets,
+        120,
     )
 }
 
@@ -164,7 +205,17 @@ fn one_edge(alloc: Global, out: &mut String) -> anyhow::Result<()> {
     let sets: [(u64, &[Value]); 3] = [(0, &[Zero]), (20, &[One]), (40, &[Zero])];
     let title = "a path of the positive edge alone";
     gate_and_paths(
-        alloc, out, title, &names, Buf, &[0], &timings, &paths, OnEvent, &sets, 60,
+        alloc,
+        out,
+        title,
+        &names,
+        Buf,
+        &[0],
+        &timings,
+        &paths,
+        OnEvent,
+        &sets,
+        60,
     )
 }
 
@@ -174,14 +225,20 @@ fn other_edge(alloc: Global, out: &mut String) -> anyhow::Result<()> {
     let names = ["a", "b", "n", "y"];
     let timings = [timing(&[9], Limit::Follow)?, timing(&[5], Limit::Follow)?];
     let paths = [plain(0, 0), at_edge(1, POSEDGE, 1)];
-    let sets: [(u64, &[Value]); 3] = [
-        (0, &[Zero, Zero]),
-        (20, &[One, One]),
-        (40, &[One, Zero]),
-    ];
+    let sets: [(u64, &[Value]); 3] = [(0, &[Zero, Zero]), (20, &[One, One]), (40, &[One, Zero])];
     let title = "an edge that isn't that of the last change";
     gate_and_paths(
-        alloc, out, title, &names, And, &[0, 1], &timings, &paths, OnEvent, &sets, 60,
+        alloc,
+        out,
+        title,
+        &names,
+        And,
+        &[0, 1],
+        &timings,
+        &paths,
+        OnEvent,
+        &sets,
+        60,
     )
 }
 
@@ -194,17 +251,23 @@ fn equal_delays(alloc: Global, out: &mut String) -> anyhow::Result<()> {
         error: 1,
     });
     let timings = [timing(&[5], short)?, timing(&[5], Limit::Follow)?];
-    let sets: [(u64, &[Value]); 3] = [
-        (0, &[Zero, Zero]),
-        (20, &[One, One]),
-        (23, &[Zero, Zero]),
-    ];
+    let sets: [(u64, &[Value]); 3] = [(0, &[Zero, Zero]), (20, &[One, One]), (23, &[Zero, Zero])];
     for (title, paths) in [
         ("equal delays, a first", [plain(0, 0), plain(1, 1)]),
         ("equal delays, b first", [plain(1, 1), plain(0, 0)]),
     ] {
         gate_and_paths(
-            alloc, out, title, &names, And, &[0, 1], &timings, &paths, OnEvent, &sets, 40,
+            alloc,
+            out,
+            title,
+            &names,
+            And,
+            &[0, 1],
+            &timings,
+            &paths,
+            OnEvent,
+            &sets,
+            40,
         )?;
     }
     Ok(())
@@ -219,7 +282,17 @@ fn never_changed(alloc: Global, out: &mut String) -> anyhow::Result<()> {
     let sets: [(u64, &[Value]); 3] = [(0, &[Zero]), (20, &[One]), (40, &[Zero])];
     let title = "an input that never changes";
     gate_and_paths(
-        alloc, out, title, &names, Buf, &[0], &timings, &paths, OnEvent, &sets, 60,
+        alloc,
+        out,
+        title,
+        &names,
+        Buf,
+        &[0],
+        &timings,
+        &paths,
+        OnEvent,
+        &sets,
+        60,
     )
 }
 

@@ -9,6 +9,7 @@ pub mod ToldLaws
 pub mod NamingLaws
 pub mod SimulationLaws
 pub mod PlacingLaws
+mod Examples
 pub mod DelayLaws
 pub mod ElementLaws
 pub mod StepLaws

@@ -126,10 +126,9 @@ pub fn compute<L: Ledger>(
             steps.tick();
             value
         }
-        ElementKind::Pass { constant: None }
-        | ElementKind::Leg { .. }
-        | ElementKind::Path { .. } => {
+        ElementKind::Pass { constant: None } | ElementKind::Leg { .. } => {
             compute_pass(&item.inputs, values, steps)
         }
+        ElementKind::Path { .. } => compute_pass(&item.inputs, values, steps),
     }
 }
