@@ -1,23 +1,21 @@
 // How the values of elements are placed among what is pending.
-ghost use Rattle.std.specs.Prelude.{◌≡◌, ◌<◌, ◌≤◌, ◌^◌, ◌+◌, List, All, length};
-ghost use Rattle.cond_expr.specs.Condition.{Condition};
+ghost use Rattle.std.specs.Prelude.{◌≡◌, ◌<◌, ◌≤◌, ◌^◌, ◌+◌, All, length};
 ghost use Rattle.sg_delay.specs.GateDelay.{delay_to};
 ghost use Rattle.sg_model.specs.Agenda.{list_at, with_list, NoneBelow};
 ghost use Rattle.sg_model.specs.Pending.{last_value};
 ghost use Rattle.sg_model.specs.Round.{placed_by};
-ghost use Rattle.sg_circuit.specs.Closed.{AreTimings, HasDelays, NamesNets};
-ghost use Rattle.sg_circuit.specs.PathsSeen.{paths_seen};
+ghost use Rattle.sg_circuit.specs.Closed.{AreTimings, HasDelays, IsPathOf, NamesNets};
+ghost use Rattle.sg_circuit.specs.PathsSeen.{paths_seen, spanned, AreIndexedPaths};
 ghost use Rattle.sg_circuit.specs.Seen.{delays_at, kind_seen, IsIndexed};
 ghost use Rattle.sg_circuit.specs.Timings.{timing_between};
 ghost use Rattle.sg_circuit.specs.TimingsSeen.{leg_timing_seen};
 ghost use Rattle.path_pick.specs.Choice.{picked};
-ghost use Rattle.path_pick.specs.Within.{IsPathWithin};
 ghost use Rattle.sim_rounds.specs.Simulated.{rule_of_kind, leg_rule, path_rule};
 
 use cond_expr::Nets;
 use path_pick::{Stamps, pick, pulse_between};
 use pulse_list::{Agenda, end_value, place, place_inertial};
-use sg_circuit::{ElementKind, LegTiming, Parts, Path};
+use sg_circuit::{ElementKind, LegTiming, Parts, Span};
 use sg_delay::{GateDelays, PulseStyle, gate_delay};
 use sg_logic::Value;
 
@@ -57,12 +55,12 @@ fn place_leg<A: Agenda>(
 // A value is placed by the pulse rule, with the time and the limits of the specify path that decides.
 fn place_path<A: Agenda, N: Nets + Stamps>(
     agenda: &mut A,
+    parts: &Parts,
     element: u32,
     present: Value,
     now: u64,
     value: Value,
-    paths: &[Path],
-    timings: &[LegTiming],
+    paths: Span,
     style: PulseStyle,
     nets: &N,
 )
@@ -70,14 +68,18 @@ fn place_path<A: Agenda, N: Nets + Stamps>(
     requires room { 2 ≤ A.spare agenda.old }
     requires from_now { NoneBelow now (list_at (A.lists agenda.old) element) }
     requires now { now < 2 ^ 60 }
-    requires paths { All (λ p. IsPathWithin (length (N.values nets.now)) timings.now p) paths.now }
-    requires stamps { All (λ p. p.input < length (N.stamps nets.now)) paths.now }
-    ensures lists { (conditions : List Condition) → A.lists agenda.new ≡ with_list (A.lists agenda.old) element
-        (placed_by (path_rule style (picked (paths_seen conditions timings.now paths.now) (N.values nets.now) (N.stamps nets.now) now (last_value (list_at (A.lists agenda.old) element) present) value)) (list_at (A.lists agenda.old) element) present now value) }
+    requires indexed { AreIndexedPaths (length parts.now.conditions.items) (length parts.now.leg_timings.items) parts.now.paths.items paths }
+    requires delays { All (λ p. AreTimings p.timings) (paths_seen parts.now.conditions.items parts.now.leg_timings.items (spanned parts.now.paths.items paths)) }
+    requires paths { All (IsPathOf (length (N.values nets.now))) (paths_seen parts.now.conditions.items parts.now.leg_timings.items (spanned parts.now.paths.items paths)) }
+    requires stamps { length (N.stamps nets.now) ≡ length (N.values nets.now) }
+    ensures lists { A.lists agenda.new ≡ with_list (A.lists agenda.old) element
+        (placed_by (path_rule style (picked (paths_seen parts.now.conditions.items parts.now.leg_timings.items (spanned parts.now.paths.items paths)) (N.values nets.now) (N.stamps nets.now) now (last_value (list_at (A.lists agenda.old) element) present) value))
+        (list_at (A.lists agenda.old) element) present now value) }
     ensures spare { A.spare agenda.old ≤ A.spare agenda.new + 2 }
 {
     let from = end_value(agenda, element, present);
-    let picked = pick(paths, timings, nets, nets, now, from, value);
+    let paths = parts.paths_in(paths);
+    let picked = pick(paths, &parts.leg_timings, nets, nets, now, from, value);
     place(
         agenda,
         element,
@@ -137,10 +139,8 @@ pub fn place_value<A: Agenda, N: Nets + Stamps>(
             place_leg(agenda, element, present, now, value, timing);
         }
         ElementKind::Path { paths, style } => {
-            let paths = parts.paths_in(paths);
-            let timings = &parts.leg_timings;
             place_path(
-                agenda, element, present, now, value, paths, timings, style, nets,
+                agenda, parts, element, present, now, value, paths, style, nets,
             );
         }
     }
