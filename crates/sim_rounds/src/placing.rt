@@ -39,13 +39,14 @@ fn place_leg<A: Agenda>(
 {
     let from = end_value(agenda, element, present);
     let pulse = pulse_between(timing, from, value);
+    let time = now + pulse.delay;
     place(
         agenda,
         element,
         present,
         now,
         value,
-        now + pulse.delay,
+        time,
         pulse.reject,
         pulse.error,
         PulseStyle::OnEvent,
