@@ -1,14 +1,24 @@
 -- What stands in a module's specify blocks, in text order (IEEE 1364-2005, 14.1).
 use Rattle.std.specs.Prelude.{List, [], Option, Some, None, flat_map, filter_map}
 use Rattle.vl_tree.specs.declared.specify.PulseStyle.{PulseStyle}
-use Rattle.vl_tree.specs.Tree.{Named, MinTypMax, Specparam, a_value, pulse_limits, SpecifyPath, Term, SpecifyItem, specparams, a_path, pulse_style, a_check, SpecifyBlock, Module}
+use Rattle.vl_tree.specs.Tree.{Named, MinTypMax, Specparam, a_value, pulse_limits, SpecifyPath, Term, SpecifyItem, specparams, a_path, pulse_style, a_check, SpecifyBlock, Item, ports, nets, supplies, registers, assigns, gates, instances, specify_block, Module}
 use Rattle.elab_model.specs.NameFaults.{block_of}
 
 abbrev pub blocks : Module → List SpecifyBlock
 blocks m = filter_map block_of m.items
 
+abbrev pub items_of_item : Item → List SpecifyItem
+items_of_item (ports p d t r ns) = []
+items_of_item (nets p t r ns) = []
+items_of_item (supplies p s r ns) = []
+items_of_item (registers p ns) = []
+items_of_item (assigns p js) = []
+items_of_item (gates p g d is) = []
+items_of_item (instances n d is) = []
+items_of_item (specify_block b) = b.items
+
 abbrev pub specify_items : Module → List SpecifyItem
-specify_items m = flat_map (λ b. b.items) (blocks m)
+specify_items m = flat_map items_of_item m.items
 
 abbrev pub specparams_of_item : SpecifyItem → List Specparam
 specparams_of_item (specparams p ps) = ps

@@ -6,7 +6,6 @@ use Rattle.sg_delay.specs.declared.corners.Corner.{Corner}
 use Rattle.sg_text.specs.declared.places.Place.{Place}
 use Rattle.vl_tree.specs.declared.paths.Arrow.{Arrow}
 use Rattle.vl_tree.specs.declared.paths.Arrow.TheVariants.{Parallel, Full}
-use Rattle.vl_tree.specs.Amounts.{is_delay_count}
 use Rattle.vl_tree.specs.Tree.{Amount, a_number, a_parameter, Amounts, one_amount, three_amounts, Term, Word, PathCondition, always, if_none, if_words, DataSource, SpecifyPath, SpecifyItem, Module, Source}
 use Rattle.elab_model.specs.declared.kinds.ElabKind.TheVariants.{UnknownName, WidthMismatch, BadTerminal, BadDelay, TooDeep}
 use Rattle.elab_model.specs.Bits.{variable_named}
@@ -20,7 +19,7 @@ use Rattle.specify_model.specs.Conditions.{tokens, tree_of, operands}
 use Rattle.specify_model.specs.Outputs.{measure}
 use Rattle.specify_model.specs.PulseLimits.{ends_text, named_ends, limit_ticks}
 use Rattle.specify_model.specs.Terms.{expression_of, terms_bits}
-use Rattle.specify_model.specs.Values.{Measure, corner_amount, parameter_named, delay_ticks}
+use Rattle.specify_model.specs.Values.{Measure, Values, value_of, corner_amount, amount_ticks, expanded}
 
 -- ---- a block in a module that has an instance of a module: of a kind that the kinds of elaboration haven't yet
 
@@ -116,24 +115,25 @@ amount_parts (one_amount a) = a ∷ []
 amount_parts (three_amounts min typ max) = min ∷ typ ∷ max ∷ []
 
 -- a specparam that there isn't, in any part
-abbrev pub unknown_faults : List Parameter → Amount → List Fault
-unknown_faults ps (a_number p n) = []
-unknown_faults ps (a_parameter n) = fault_if (is_missing (parameter_named ps n.text)) BadDelay n.place
+abbrev pub unknown_faults : Values → Amount → List Fault
+unknown_faults values (a_number p n) = []
+unknown_faults values (a_parameter n) = fault_if (is_missing (values n.text)) BadDelay n.place
 
--- the corner's part is too long
-abbrev pub delay_faults : Measure → List Parameter → Amounts → List Fault
-delay_faults by ps d =
-    flat_map (unknown_faults ps) (amount_parts d) ++ fault_if (nat_le delay_limit (delay_ticks by ps d)) BadDelay (amount_place (corner_amount by.corner d))
+-- it is too long, which is asked of the corner's part alone
+abbrev pub long_faults : Measure → Values → Amount → List Fault
+long_faults by values a = fault_if (nat_le delay_limit (amount_ticks by values a)) BadDelay (amount_place a)
+
+abbrev pub delay_faults : Measure → Values → Amounts → List Fault
+delay_faults by values d = flat_map (unknown_faults values) (amount_parts d) ++ long_faults by values (corner_amount by.corner d)
 
 -- the list isn't 1, 2, 3, 6 or 12 delays, which no text spells (14.3.1)
-abbrev pub count_faults : SpecifyPath → List Fault
-count_faults p = fault_if (not (is_delay_count (length p.delays))) BadDelay p.place
+abbrev pub list_faults : Measure → Values → Place → List Amounts → List Fault
+list_faults by values place ds = flat_map (delay_faults by values) ds ++ fault_if (is_err (expanded by values ds)) BadDelay place
 
 -- ---- all
 
-abbrev pub path_faults : Measure → List Variable → List Parameter → SpecifyPath → List Fault
-path_faults by vs ps p =
-    end_faults vs p ++ (side_faults vs p ++ (flat_map (condition_faults vs p.place) (conditions p) ++ (flat_map (delay_faults by ps) p.delays ++ count_faults p)))
+abbrev pub path_faults : Measure → List Variable → Values → SpecifyPath → List Fault
+path_faults by vs values p = end_faults vs p ++ (side_faults vs p ++ (flat_map (condition_faults vs p.place) (conditions p) ++ list_faults by values p.place p.delays))
 
 -- the terms of a pulse style are declared; an input among them has no effect (14.6.4)
 abbrev pub style_faults : List Variable → StyleText → List Fault
@@ -142,7 +142,7 @@ style_faults vs s = flat_map (term_faults vs) s.terms
 abbrev pub faults_by : Measure → List Variable → List SpecifyItem → List Fault
 faults_by by vs items =
     parameter_faults (parameters items)
-    ++ (flat_map (pulse_faults by vs) (pulses items) ++ (flat_map (path_faults by vs (parameters items)) (specify_paths items) ++ flat_map (style_faults vs) (style_texts items)))
+    ++ (flat_map (pulse_faults by vs) (pulses items) ++ (flat_map (path_faults by vs (value_of (parameters items))) (specify_paths items) ++ flat_map (style_faults vs) (style_texts items)))
 
 abbrev pub specify_faults : Corner → ℤ → Module → List Fault
 specify_faults corner tick m = faults_by (measure corner tick m) (variables m) (specify_items m)

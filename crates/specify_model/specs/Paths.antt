@@ -11,11 +11,11 @@ use Rattle.sg_logic.specs.Values.{is_same}
 use Rattle.sg_text.specs.declared.places.Place.{Place}
 use Rattle.vl_tree.specs.Tree.{EdgeWord, posedge, negedge, pairs, SpecifyPath, SpecifyItem}
 use Rattle.elab_model.specs.Names.{Variable}
-use Rattle.specify_model.specs.Blocks.{Parameter, parameters, Pulse, pulses, specify_paths}
+use Rattle.specify_model.specs.Blocks.{parameters, pulses, specify_paths}
 use Rattle.specify_model.specs.Conditions.{ModuleCondition, Always, If, IfNone, condition_of, over}
-use Rattle.specify_model.specs.PulseLimits.{limits_between}
+use Rattle.specify_model.specs.PulseLimits.{Limits, limits_of}
 use Rattle.specify_model.specs.Terms.{NetBit, path_pairs}
-use Rattle.specify_model.specs.Values.{Measure, twelve_delays}
+use Rattle.specify_model.specs.Values.{Measure, Values, value_of, twelve_delays}
 
 -- the changes that an edge is (15.4)
 abbrev pub edge_of : EdgeWord → Edge
@@ -41,23 +41,23 @@ abbrev pub timings_with : Option (ℕ × ℕ) → List ℕ → List Timing
 timings_with limits ds = map (λ d. record { delay = d; limits = limits }) ds
 
 -- polarity and data source have no effect
-abbrev pub path_between : Measure → List Variable → List Parameter → List Pulse → SpecifyPath → NetBit × NetBit → PathTo
-path_between by vs parameters pulses p ends = record {
+abbrev pub path_between : Measure → List Variable → Values → Limits → SpecifyPath → NetBit × NetBit → PathTo
+path_between by vs values limits p ends = record {
   output = ends.1;
   place = p.place;
   path = record {
     input = ends.0;
     edge = option_map edge_of p.edge;
     condition = condition_of vs p.condition;
-    timings = timings_with (limits_between by vs pulses ends.0.name ends.1.name) (twelve_delays by parameters p.delays);
+    timings = timings_with (limits ends.0.name ends.1.name) (twelve_delays by values p.delays);
   };
 }
 
-abbrev pub paths_of : Measure → List Variable → List Parameter → List Pulse → SpecifyPath → List PathTo
-paths_of by vs parameters pulses p = map (path_between by vs parameters pulses p) (path_pairs vs p)
+abbrev pub paths_of : Measure → List Variable → Values → Limits → SpecifyPath → List PathTo
+paths_of by vs values limits p = map (path_between by vs values limits p) (path_pairs vs p)
 
 abbrev pub module_paths : Measure → List Variable → List SpecifyItem → List PathTo
-module_paths by vs items = flat_map (paths_of by vs (parameters items) (pulses items)) (specify_paths items)
+module_paths by vs items = flat_map (paths_of by vs (value_of (parameters items)) (limits_of by vs (pulses items))) (specify_paths items)
 
 -- a path of an instance, in which the module's bits have these nets
 abbrev pub circuit_condition : (NetBit → ℕ) → ModuleCondition → circuit.PathCondition

@@ -1,11 +1,10 @@
 -- The limits of pulses that specparams give to paths (IEEE 1364-2005, 14.6.1): PATHPULSE$in$out to those from the port in to the port
 -- out, PATHPULSE$ to all others.
-use Rattle.std.specs.Prelude.{ℕ, List, [], ◌∷◌, ◌++◌, Bool, true, false, ◌&&◌, ◌==◌, Option, Some, None, unwrap_or, bytes_eq, length, drop, map, find, filter, if◌then◌else◌}
+use Rattle.std.specs.Prelude.{ℕ, List, [], ◌∷◌, ◌++◌, Bool, true, false, ◌&&◌, ◌==◌, Option, Some, None, unwrap_or, bytes_eq, drop, map, find, filter, if◌then◌else◌}
 use Rattle.std.specs.List.{last_or}
 use Rattle.std.specs.Option.{option_map, option_or}
 use Rattle.sg_circuit.specs.declared.scopes.Port.{Port}
 use Rattle.sg_circuit.specs.declared.scopes.Port.TheVariants as port
-use Rattle.vl_tree.specs.Kinds.{pulse_front}
 use Rattle.elab_model.specs.Bits.{variable_named}
 use Rattle.elab_model.specs.Hierarchy.{is_empty}
 use Rattle.elab_model.specs.Names.{Variable}
@@ -16,9 +15,12 @@ use Rattle.specify_model.specs.Values.{Measure, ticks}
 abbrev pub limit_ticks : Measure → Pulse → ℕ × ℕ
 limit_ticks by p = (ticks by p.reject, ticks by (unwrap_or p.error p.reject))
 
--- what the name says behind PATHPULSE$
+-- what the name says behind PATHPULSE$, which has so many bytes
+abbrev pub front_length : ℕ
+front_length = 10
+
 abbrev pub ends_text : Pulse → List ℕ
-ends_text p = drop (length pulse_front) p.name.text
+ends_text p = drop front_length p.name.text
 
 -- $
 abbrev pub dollar : ℕ
@@ -56,9 +58,12 @@ abbrev pub is_for_others : Pulse → Bool
 is_for_others p = is_empty (ends_text p)
 
 -- of several that apply alike the last holds
-abbrev pub pulse_between : List Variable → List Pulse → List ℕ → List ℕ → Option Pulse
-pulse_between vs ps i o = option_or (last_or None (filter (is_for_ends vs i o) ps)) (last_or None (filter is_for_others ps))
+abbrev pub last_of : (Pulse → Bool) → List Pulse → Option Pulse
+last_of applies ps = last_or None (filter applies ps)
 
 -- the limits of the paths from one port to another, where a text gives them
-abbrev pub limits_between : Measure → List Variable → List Pulse → List ℕ → List ℕ → Option (ℕ × ℕ)
-limits_between by vs ps i o = option_map (limit_ticks by) (pulse_between vs ps i o)
+abbrev pub Limits : Type 0
+Limits = List ℕ → List ℕ → Option (ℕ × ℕ)
+
+abbrev pub limits_of : Measure → List Variable → List Pulse → Limits
+limits_of by vs ps i o = option_map (limit_ticks by) (option_or (last_of (is_for_ends vs i o) ps) (last_of is_for_others ps))

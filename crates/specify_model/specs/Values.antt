@@ -1,5 +1,6 @@
 -- Specparams and delays in ticks (IEEE 1364-2005, 4.10.3, 14.3, 19.8).
 use Rattle.std.specs.Prelude.{ℕ, ℤ, List, [], ◌∷◌, Option, Some, None, Result, Ok, Err, bytes_eq, find, map}
+use Rattle.std.specs.Option.{option_map}
 use Rattle.sg_delay.specs.declared.corners.Corner.{Corner}
 use Rattle.sg_delay.specs.declared.corners.Corner.TheVariants.{Min, Typ, Max}
 use Rattle.sg_delay.specs.declared.expansion.Delays12.{Delays12}
@@ -26,25 +27,31 @@ corner_amount Min (three_amounts min typ max) = min
 corner_amount Typ (three_amounts min typ max) = typ
 corner_amount Max (three_amounts min typ max) = max
 
--- the specparam of a name, which may stand behind its use
-abbrev pub parameter_named : List Parameter → List ℕ → Option Parameter
-parameter_named ps n = find (λ p. bytes_eq n p.name.text) ps
+-- the values of specparams by their names, wherever they stand; none where there is none
+abbrev pub Values : Type 0
+Values = List ℕ → Option MinTypMax
 
-abbrev pub parameter_ticks : Measure → Option Parameter → ℕ
-parameter_ticks by None = 0
-parameter_ticks by (Some p) = ticks by p.value
+abbrev pub value_of : List Parameter → Values
+value_of ps n = option_map (λ p. p.value) (find (λ p. bytes_eq n p.name.text) ps)
 
-abbrev pub amount_ticks : Measure → List Parameter → Amount → ℕ
-amount_ticks by ps (a_number p n) = ticks by (one_number n)
-amount_ticks by ps (a_parameter n) = parameter_ticks by (parameter_named ps n.text)
+abbrev pub given_ticks : Measure → Option MinTypMax → ℕ
+given_ticks by None = 0
+given_ticks by (Some v) = ticks by v
 
-abbrev pub delay_ticks : Measure → List Parameter → Amounts → ℕ
-delay_ticks by ps d = amount_ticks by ps (corner_amount by.corner d)
+abbrev pub amount_ticks : Measure → Values → Amount → ℕ
+amount_ticks by values (a_number p n) = ticks by (one_number n)
+amount_ticks by values (a_parameter n) = given_ticks by (values n.text)
+
+abbrev pub delay_ticks : Measure → Values → Amounts → ℕ
+delay_ticks by values d = amount_ticks by values (corner_amount by.corner d)
 
 -- the delays of the twelve transitions, from a list of 1, 2, 3, 6 or 12 (14.3.1)
 abbrev pub all_delays : Result Delays12 DelayError → List ℕ
 all_delays (Ok d) = d.at
 all_delays (Err e) = []
 
-abbrev pub twelve_delays : Measure → List Parameter → List Amounts → List ℕ
-twelve_delays by ps ds = all_delays (delays_of (map (delay_ticks by ps) ds))
+abbrev pub expanded : Measure → Values → List Amounts → Result Delays12 DelayError
+expanded by values ds = delays_of (map (delay_ticks by values) ds)
+
+abbrev pub twelve_delays : Measure → Values → List Amounts → List ℕ
+twelve_delays by values ds = all_delays (expanded by values ds)
