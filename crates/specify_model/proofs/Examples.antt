@@ -6,22 +6,21 @@ use Rattle.cond_expr.specs.Grammar.{operand_parts, atom_parts, level_parts, prim
 use Rattle.cond_expr.specs.Tree.{leaf, unary}
 use Rattle.grammar.specs.Rule.{read_up_to}
 use Rattle.sg_circuit.specs.Circuit.{Timing}
-use Rattle.sg_circuit.specs.declared.scopes.Port.TheVariants.{Input, Output, Inner}
-use Rattle.sg_delay.specs.declared.corners.Corner.TheVariants.{Min, Typ, Max}
+use Rattle.sg_circuit.specs.declared.scopes.Port.TheVariants.{Input, Output}
+use Rattle.sg_delay.specs.declared.corners.Corner.TheVariants.{Typ}
 use Rattle.sg_delay.specs.declared.limits.PulseStyle.TheVariants as style
 use Rattle.sg_logic.specs.declared.edges.TheConstants.{POSEDGE}
 use Rattle.vl_tree.specs.declared.paths.Arrow.TheVariants.{Parallel, Full}
-use Rattle.vl_tree.specs.declared.specify.PulseStyle.TheVariants.{OnEvent, OnDetect}
-use Rattle.vl_tree.specs.Tree.{Word, three_numbers, a_value, pulse_limits, posedge, always, if_none, if_words, SpecifyItem, a_path, pulse_style}
+use Rattle.vl_tree.specs.declared.specify.PulseStyle.TheVariants.{OnDetect}
+use Rattle.vl_tree.specs.Tree.{Word, three_numbers, a_value, pulse_limits, posedge, always, if_words, SpecifyItem, a_path, pulse_style}
 use Rattle.elab_model.specs.Names.{Variable}
-use Rattle.elab_model.proofs.Writing.{here, name, whole_number}
 use Rattle.specify_model.specs.Blocks.{pulses}
-use Rattle.specify_model.specs.Conditions.{Always, If, IfNone, condition_of}
+use Rattle.specify_model.specs.Conditions.{Always, If, condition_of}
 use Rattle.specify_model.specs.Faults.{faults_by}
-use Rattle.specify_model.specs.Outputs.{outputs_by, PathOutput}
+use Rattle.specify_model.specs.Outputs.{outputs_by}
 use Rattle.specify_model.specs.PulseLimits.{limits_of}
 use Rattle.specify_model.specs.Terms.{NetBit, pairs}
-use Rattle.specify_model.proofs.Writing.{for_corner, scalar, vector, bit, term, bit_term, word, number, delay, delay_named, parameters_item, path_with, from_to}
+use Rattle.specify_model.proofs.Writing.{here, name, whole_number, for_corner, scalar, vector, bit, term, word, number, delay, delay_named, parameters_item, path_with, from_to}
 
 abbrev after : List ℕ → Option (ℕ × ℕ) → List Timing
 after [] limits = []

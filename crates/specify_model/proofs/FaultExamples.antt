@@ -1,18 +1,17 @@
 -- Specify blocks that are refused, each for what it has and nothing else.
-use Rattle.std.specs.Prelude.{◌≡◌, ℕ, pos, ◌^◌, List, [], ◌∷◌, Option, Some, None, refl, codes}
+use Rattle.std.specs.Prelude.{◌≡◌, pos, List, [], ◌∷◌, Some, None, refl, codes}
 use Rattle.cond_expr.specs.declared.tokens.Tok.TheVariants as tok
 use Rattle.cond_expr.specs.Grammar.{operand_parts, atom_parts, level_parts, primary_parts}
 use Rattle.grammar.specs.Rule.{read_up_to}
 use Rattle.sg_circuit.specs.declared.scopes.Port.TheVariants.{Input, Output, Inner}
-use Rattle.sg_delay.specs.declared.corners.Corner.TheVariants.{Min, Typ, Max}
+use Rattle.sg_delay.specs.declared.corners.Corner.TheVariants.{Min, Typ}
 use Rattle.vl_tree.specs.declared.specify.PulseStyle.TheVariants.{OnDetect}
 use Rattle.vl_tree.specs.Tree.{three_amounts, a_number, a_parameter, a_value, pulse_limits, SpecifyItem, pulse_style}
 use Rattle.elab_model.specs.declared.kinds.ElabKind.TheVariants.{DuplicateName, UnknownName, WidthMismatch, BadTerminal, BadDelay}
 use Rattle.elab_model.specs.Faults.{Fault, fault}
 use Rattle.elab_model.specs.Names.{Variable}
-use Rattle.elab_model.proofs.Writing.{here, name, whole_number}
 use Rattle.specify_model.specs.Faults.{faults_by, condition_faults}
-use Rattle.specify_model.proofs.Writing.{for_corner, scalar, vector, term, bit_term, word, number, delay, delay_named, parameters_item, from_to}
+use Rattle.specify_model.proofs.Writing.{here, name, whole_number, for_corner, scalar, vector, term, bit_term, word, number, delay, parameters_item, from_to}
 
 -- input a; input [3:0] s; output y; wire w;
 abbrev gate : List Variable

@@ -1,21 +1,30 @@
 -- Short words to write specify blocks by hand: each takes the byte at which it stands.
-use Rattle.std.specs.Prelude.{ℕ, ℤ, pos, negsuc, List, [], ◌∷◌, Option, Some, None, codes}
+use Rattle.std.specs.Prelude.{ℕ, ℤ, pos, negsuc, List, [], ◌∷◌, Option, Some, None, false}
 use Rattle.cond_expr.specs.Token.{Tok}
 use Rattle.sg_circuit.specs.declared.scopes.Port.{Port}
-use Rattle.sg_circuit.specs.declared.scopes.Port.TheVariants.{Input, Output, Inner}
 use Rattle.sg_delay.specs.declared.corners.Corner.{Corner}
 use Rattle.vl_tree.specs.declared.expressions.Select.TheVariants as select
 use Rattle.vl_tree.specs.declared.paths.Arrow.{Arrow}
 use Rattle.vl_tree.specs.declared.paths.Arrow.TheVariants.{Parallel}
-use Rattle.vl_tree.specs.Tree.{MinTypMax, one_number, three_numbers, Term, Word, Amounts, one_amount, a_number, a_parameter, Specparam, a_value, pulse_limits, EdgeWord, PathCondition, always, SpecifyPath, SpecifyItem, specparams, a_path}
+use Rattle.sg_text.specs.declared.places.Place.{Place}
+use Rattle.sg_time.specs.Spelling.{Number}
+use Rattle.vl_tree.specs.Tree.{Named, MinTypMax, one_number, Term, Word, Amounts, one_amount, a_number, a_parameter, Specparam, EdgeWord, PathCondition, always, SpecifyPath, SpecifyItem, specparams, a_path}
 use Rattle.elab_model.specs.Names.{Variable}
-use Rattle.elab_model.proofs.Writing.{here, name, whole_number, nanoseconds}
 use Rattle.specify_model.specs.Terms.{NetBit}
 use Rattle.specify_model.specs.Values.{Measure}
 
+abbrev pub here : ℕ → Place
+here n = record { file = 0; byte = n }
+
+abbrev pub name : List ℕ → ℕ → Named
+name t n = record { text = t; place = here n }
+
+abbrev pub whole_number : ℕ → Number
+whole_number n = record { negative = false; digits = n; exponent = pos 0 }
+
 -- in nanoseconds, of which a tick is one
 abbrev pub for_corner : Corner → Measure
-for_corner corner = record { corner = corner; tick = negsuc 8; scale = nanoseconds }
+for_corner corner = record { corner = corner; tick = negsuc 8; scale = record { unit = negsuc 8; precision = negsuc 8 } }
 
 abbrev pub scalar : List ℕ → Port → Variable
 scalar t p = record { name = t; range = None; is_reg = false; port = p }

@@ -1,5 +1,5 @@
 -- Conditions over the bits of a module (IEEE 1364-2005, 14.2.4).
-use Rattle.std.specs.Prelude.{ℕ, ◌+◌, ℤ, List, [], ◌∷◌, ◌++◌, Option, Some, None, Result, Ok, Err, map, filter_map, slice_get}
+use Rattle.std.specs.Prelude.{ℕ, ◌+◌, List, [], ◌∷◌, ◌++◌, Option, Some, None, Result, Ok, Err, map, slice_get}
 use Rattle.std.specs.Option.{option_map}
 use Rattle.cond_expr.specs.declared.tokens.Tok.TheVariants.{Name}
 use Rattle.cond_expr.specs.Binding.{index_of}

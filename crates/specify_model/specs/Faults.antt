@@ -1,5 +1,5 @@
 -- Faults of specify blocks, each with its place (IEEE 1364-2005, clause 14). Timing checks have their own.
-use Rattle.std.specs.Prelude.{ℕ, ℤ, List, [], ◌∷◌, ◌++◌, Bool, true, false, ◌&&◌, ◌||◌, not, ◌==◌, nat_lt, nat_le, Option, Some, None, is_err, length, map, flat_map, filter_map, if◌then◌else◌}
+use Rattle.std.specs.Prelude.{ℕ, ℤ, List, [], ◌∷◌, ◌++◌, Bool, true, false, ◌&&◌, ◌||◌, not, ◌==◌, nat_lt, nat_le, Option, Some, None, is_err, length, map, flat_map, if◌then◌else◌}
 use Rattle.std.specs.List.{list_all}
 use Rattle.sg_circuit.specs.declared.scopes.Port.{Port}
 use Rattle.sg_delay.specs.declared.corners.Corner.{Corner}
@@ -9,7 +9,7 @@ use Rattle.vl_tree.specs.declared.paths.Arrow.TheVariants.{Parallel, Full}
 use Rattle.vl_tree.specs.Tree.{Amount, a_number, a_parameter, Amounts, one_amount, three_amounts, Term, Word, PathCondition, always, if_none, if_words, DataSource, SpecifyPath, SpecifyItem, Module, Source}
 use Rattle.elab_model.specs.declared.kinds.ElabKind.TheVariants.{UnknownName, WidthMismatch, BadTerminal, BadDelay, TooDeep}
 use Rattle.elab_model.specs.Bits.{variable_named}
-use Rattle.elab_model.specs.Faults.{Fault, fault, fault_if, duplicates, all_of}
+use Rattle.elab_model.specs.Faults.{Fault, fault_if, duplicates}
 use Rattle.elab_model.specs.Hierarchy.{children_in, is_empty}
 use Rattle.elab_model.specs.Homes.{is_input, is_output}
 use Rattle.elab_model.specs.Names.{Variable, variables}

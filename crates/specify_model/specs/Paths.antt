@@ -1,5 +1,5 @@
 -- The paths of a module, each from an input bit to an output bit, in text order (IEEE 1364-2005, 14.2 to 14.6).
-use Rattle.std.specs.Prelude.{ℕ, List, [], ◌∷◌, ◌&&◌, Option, map, flat_map}
+use Rattle.std.specs.Prelude.{ℕ, List, ◌&&◌, Option, map, flat_map}
 use Rattle.std.specs.List.{list_any}
 use Rattle.std.specs.Option.{option_map}
 use Rattle.sg_circuit.specs.Circuit.{Timing}

@@ -1,5 +1,5 @@
 -- The bits of a path's terms, and from which input bit to which output bit a path leads (IEEE 1364-2005, 14.2).
-use Rattle.std.specs.Prelude.{ℕ, List, [], ◌∷◌, Bool, ◌&&◌, ◌==◌, Option, Some, None, bytes_eq, map, flat_map, filter_map, zip}
+use Rattle.std.specs.Prelude.{ℕ, List, Bool, ◌&&◌, ◌==◌, Option, Some, None, bytes_eq, map, flat_map, filter_map, zip}
 use Rattle.vl_tree.specs.declared.paths.Arrow.{Arrow}
 use Rattle.vl_tree.specs.declared.paths.Arrow.TheVariants.{Parallel, Full}
 use Rattle.vl_tree.specs.Tree.{Expression, signal, Term, SpecifyPath}

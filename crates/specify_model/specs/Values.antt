@@ -1,5 +1,5 @@
 -- Specparams and delays in ticks (IEEE 1364-2005, 4.10.3, 14.3, 19.8).
-use Rattle.std.specs.Prelude.{ℕ, ℤ, List, [], ◌∷◌, Option, Some, None, Result, Ok, Err, bytes_eq, find, map}
+use Rattle.std.specs.Prelude.{ℕ, ℤ, List, [], Option, Some, None, Result, Ok, Err, bytes_eq, find, map}
 use Rattle.std.specs.Option.{option_map}
 use Rattle.sg_delay.specs.declared.corners.Corner.{Corner}
 use Rattle.sg_delay.specs.declared.corners.Corner.TheVariants.{Min, Typ, Max}
@@ -34,13 +34,16 @@ Values = List ℕ → Option MinTypMax
 abbrev pub value_of : List Parameter → Values
 value_of ps n = option_map (λ p. p.value) (find (λ p. bytes_eq n p.name.text) ps)
 
-abbrev pub given_ticks : Measure → Option MinTypMax → ℕ
-given_ticks by None = 0
-given_ticks by (Some v) = ticks by v
+abbrev pub amount_value : Values → Amount → Option MinTypMax
+amount_value values (a_number p n) = Some (one_number n)
+amount_value values (a_parameter n) = values n.text
+
+abbrev pub ticks_or_none : Measure → Option MinTypMax → ℕ
+ticks_or_none by None = 0
+ticks_or_none by (Some v) = ticks by v
 
 abbrev pub amount_ticks : Measure → Values → Amount → ℕ
-amount_ticks by values (a_number p n) = ticks by (one_number n)
-amount_ticks by values (a_parameter n) = given_ticks by (values n.text)
+amount_ticks by values a = ticks_or_none by (amount_value values a)
 
 abbrev pub delay_ticks : Measure → Values → Amounts → ℕ
 delay_ticks by values d = amount_ticks by values (corner_amount by.corner d)
