@@ -1,72 +1,19 @@
 // Specparams of pulse limits.
-ghost use Rattle.std.specs.Prelude.{◌≡◌, ◌++◌, ◌&&◌, true, false, IfOk, OnOk, IfSome, IfNone, find, map, filter_map};
+ghost use Rattle.std.specs.Prelude.{◌≡◌, ◌&&◌, true, false, IfSome, IfNone, find};
 ghost use Rattle.std.specs.Option.{OnSome, option_map};
-ghost use Rattle.vl_tree.specs.Seen.{view_specify_item, view_specparam};
-ghost use Rattle.specify_model.specs.Blocks as def;
 ghost use Rattle.specify_model.specs.Faults.{are_bad_limits};
 ghost use Rattle.specify_model.specs.PulseLimits as limits;
-ghost use Rattle.specify_values.specs.Seen.{ends_seen, view_items, view_pulse, measured, widths_seen};
+ghost use Rattle.specify_values.specs.Seen.{ends_seen, view_pulse, measured, widths_seen};
 
-use crate::measures::{Measure, ticks};
+use crate::items::Pulse;
+use crate::measures::Measure;
+use crate::ticks::ticks;
 use elab_tables::Table;
 use sg_circuit::Port;
 use sg_delay::Widths;
-use sg_text::NoMemory;
-use std::alloc::Global;
-use vl_tree::{MinTypMax, Name, SpecifyItem, Specparam};
-
-/// Limits of pulses, as a specparam gives them (IEEE 1364-2005, 14.6.1).
-#[derive(Clone, Copy, Debug, PartialEq)]
-pub struct Pulse<'a> {
-    pub name: Name<'a>,
-    pub reject: MinTypMax,
-    pub error: Option<MinTypMax>,
-}
 
 // How many bytes PATHPULSE$ has.
 const FRONT: usize = 10;
-
-/// All of them, in text order. Takes memory.
-pub fn pulse_list<'a>(alloc: Global, items: &[&SpecifyItem<'a>]) -> Result<Vec<Pulse<'a>>, NoMemory>
-    ensures { IfOk result (λ list. map view_pulse list.items ≡ def.pulses (view_items items.now)) }
-{
-    let mut list = Vec::new(alloc);
-    for item in items {
-        add_item(item, &mut list)?;
-    }
-    Ok(list)
-}
-
-fn add_item<'a>(item: &SpecifyItem<'a>, list: &mut Vec<Pulse<'a>>) -> Result<(), NoMemory>
-    ensures { OnOk result (map view_pulse list.new.items ≡ map view_pulse list.old.items ++ filter_map def.pulse_of (def.specparams_of_item (view_specify_item item.now))) }
-{
-    match item {
-        SpecifyItem::Specparams { parameters, .. } => add_pulses(parameters, list),
-        SpecifyItem::Path(_) => Ok(()),
-        SpecifyItem::PulseStyle { .. } => Ok(()),
-        SpecifyItem::Check(_) => Ok(()),
-    }
-}
-
-fn add_pulses<'a>(specparams: &[Specparam<'a>], list: &mut Vec<Pulse<'a>>) -> Result<(), NoMemory>
-    ensures { OnOk result (map view_pulse list.new.items ≡ map view_pulse list.old.items ++ filter_map def.pulse_of (map view_specparam specparams.now)) }
-{
-    for specparam in specparams {
-        if let Specparam::PulseLimits {
-            name,
-            reject,
-            error,
-        } = specparam
-        {
-            list.push(Pulse {
-                name: *name,
-                reject: *reject,
-                error: *error,
-            })?;
-        }
-    }
-    Ok(())
-}
 
 /// What a name says behind PATHPULSE$.
 pub fn ends_text<'a>(pulse: Pulse<'a>) -> &'a [u8]
