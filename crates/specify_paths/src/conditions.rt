@@ -1,10 +1,12 @@
 // Conditions of paths.
 ghost use Rattle.std.specs.Prelude.{◌≡◌, IfOk, map, flat_map};
-ghost use Rattle.cond_expr.specs.Token.{map_name};
+ghost use Rattle.std.specs.Option.{option_map};
 ghost use Rattle.vl_tree.specs.Seen.{view_word, view_term};
 ghost use Rattle.specify_model.specs.Conditions as def;
 ghost use Rattle.specify_model.specs.Faults as faults;
 ghost use Rattle.specify_values.specs.Telling.{Tells};
+ghost use Rattle.specify_paths.specs.Seen.{IsRead};
+ghost use Rattle.specify_paths.specs.Words.{first_operand};
 
 use crate::terms::check_operand;
 use cond_expr::{CondFault, Expr, Tok};
@@ -50,10 +52,13 @@ fn operand_at<'a>(words: &[Word<'a>]) -> Option<Term<'a>>
         place: word.place,
     };
     match behind {
-        [Word {
-            token: Tok::Index(index),
+        [
+            Word {
+                token: Tok::Index(index),
+                ..
+            },
             ..
-        }, ..] => Some(Term {
+        ] => Some(Term {
             name,
             select: Some(Select::Bit(*index)),
         }),
@@ -92,7 +97,7 @@ pub fn condition_of(
     place: Place,
     words: &[Word],
 ) -> Result<Expr, Refused<ElabKind>>
-    ensures condition { IfOk result (λ e. IsRead (map view_word words.now) e) }
+    ensures condition { IfOk result (IsRead (def.tokens (map view_word words.now))) }
     ensures told { Tells (faults.condition_faults table.now place (map view_word words.now)) result }
 {
     check_operands(alloc, table, words)?;

@@ -4,15 +4,14 @@
 mod conditions;
 mod ends;
 mod grouping;
-mod lists;
 mod outputs;
 mod pairs;
 mod statements;
 mod styles;
 mod terms;
 
-pub use outputs::{PathOutputs, path_outputs};
 pub use grouping::PathOutput;
+pub use outputs::{PathOutputs, path_outputs};
 pub use pairs::ModulePath;
 pub use statements::{ModuleCondition, Statement};
 

@@ -1,4 +1,16 @@
 // What specify paths say of all their bits.
+ghost use Rattle.std.specs.Prelude.{◌≡◌, ◌&&◌, ◌++◌, IfOk, flat_map};
+ghost use Rattle.std.specs.List.{list_any};
+ghost use Rattle.std.specs.Option.{option_map};
+ghost use Rattle.sg_logic.specs.Values.{is_same};
+ghost use Rattle.vl_tree.specs.Seen.{view_data_source, view_edge, view_path, view_path_condition};
+ghost use Rattle.specify_model.specs.Conditions as def;
+ghost use Rattle.specify_model.specs.Faults as faults;
+ghost use Rattle.specify_model.specs.Paths.{edge_of as edge_of_word};
+ghost use Rattle.specify_values.specs.Seen.{measured, values_of};
+ghost use Rattle.specify_values.specs.Telling.{Tells};
+ghost use Rattle.specify_paths.specs.Seen.{condition_seen, said_by, said_of};
+
 use crate::conditions::condition_of;
 use cond_expr::Expr;
 use elab_model::ElabKind;
@@ -20,21 +32,22 @@ pub enum ModuleCondition {
     IfNone,
 }
 
-/// A specify path without its bits: where it stands, which changes of an input it is for, when it may be taken, and its delays in ticks.
+/// A specify path without its bits: which changes of an input it is for, when it may be taken, and its delays in ticks.
 #[derive(Drop)]
 pub struct Statement {
-    pub place: Place,
     pub edge: Option<Edge>,
     pub condition: ModuleCondition,
     pub delays: Delays12,
 }
 
-fn has_pair(pairs: &[EdgePair], from: Value, to: Value) -> bool {
+fn has_pair(pairs: &[EdgePair], from: Value, to: Value) -> bool
+    ensures { result ≡ list_any (λ p. is_same p.from from && is_same p.to to) pairs.now }
+{
     pairs.iter().any(|pair| pair.from == from && pair.to == to)
 }
 
 fn edge_of(edge: &EdgeWord) -> Edge
-    ensures { result ≡ def.edge_of (view_edge edge.now) }
+    ensures { result ≡ edge_of_word (view_edge edge.now) }
 {
     match edge {
         EdgeWord::Posedge => POSEDGE,
@@ -52,7 +65,9 @@ fn edge_of(edge: &EdgeWord) -> Edge
     }
 }
 
-fn option_edge(edge: &Option<EdgeWord>) -> Option<Edge> {
+fn option_edge(edge: &Option<EdgeWord>) -> Option<Edge>
+    ensures { result ≡ option_map edge_of_word (option_map view_edge edge.now) }
+{
     match edge {
         Some(edge) => Some(edge_of(edge)),
         None => None,
@@ -62,12 +77,16 @@ fn option_edge(edge: &Option<EdgeWord>) -> Option<Edge> {
 fn own_condition(
     alloc: Global,
     table: &Table,
-    path: &SpecifyPath,
-) -> Result<ModuleCondition, Refused<ElabKind>> {
-    match &path.condition {
+    place: Place,
+    condition: &PathCondition,
+) -> Result<ModuleCondition, Refused<ElabKind>>
+    ensures condition { IfOk result (λ c. condition_seen table.now c ≡ def.condition_of table.now (view_path_condition condition.now)) }
+    ensures told { Tells (flat_map (faults.condition_faults table.now place) (faults.own_condition (view_path_condition condition.now))) result }
+{
+    match condition {
         PathCondition::Always => Ok(ModuleCondition::Always),
         PathCondition::If(words) => Ok(ModuleCondition::If(condition_of(
-            alloc, table, path.place, words,
+            alloc, table, place, words,
         )?)),
         PathCondition::IfNone => Ok(ModuleCondition::IfNone),
     }
@@ -79,7 +98,9 @@ fn check_data_source(
     table: &Table,
     place: Place,
     source: &Option<DataSource>,
-) -> Result<(), Refused<ElabKind>> {
+) -> Result<(), Refused<ElabKind>>
+    ensures { Tells (flat_map (faults.condition_faults table.now place) (faults.data_condition (option_map view_data_source source.now))) result }
+{
     if let Some(source) = source {
         condition_of(alloc, table, place, &source.words)?;
     }
@@ -93,12 +114,14 @@ pub fn statement_of(
     table: &Table,
     parameters: &Parameters,
     path: &SpecifyPath,
-) -> Result<Statement, Refused<ElabKind>> {
-    let condition = own_condition(alloc, table, path)?;
+) -> Result<Statement, Refused<ElabKind>>
+    ensures said { IfOk result (λ s. said_by table.now s ≡ said_of (measured by) table.now (values_of parameters.now) (view_path path.now)) }
+    ensures told { Tells (flat_map (faults.condition_faults table.now path.now.place) (faults.conditions (view_path path.now)) ++ faults.list_faults (measured by) (values_of parameters.now) path.now.place (view_path path.now).delays) result }
+{
+    let condition = own_condition(alloc, table, path.place, &path.condition)?;
     check_data_source(alloc, table, path.place, &path.destination.source)?;
     let delays = path_delays(alloc, by, parameters, path.place, &path.delays)?;
     Ok(Statement {
-        place: path.place,
         edge: option_edge(&path.edge),
         condition,
         delays,

@@ -1,18 +1,20 @@
 // The bits of terms, and what is wrong with a term.
-ghost use Rattle.std.specs.Prelude.{◌≡◌, ◌++◌, All, OnOk, flat_map, map};
-ghost use Rattle.sg_circuit.specs.declared.scopes.Port.{Port as PortSeen};
-ghost use Rattle.vl_tree.specs.Seen.{view_term};
-ghost use Rattle.elab_model.specs.Homes as homes;
+ghost use Rattle.std.specs.Prelude.{◌≡◌, ◌++◌, All, List, IfOk, OnOk, flat_map, filter_map, map};
+ghost use Rattle.vl_tree.specs.Seen.{view_expression, view_term};
+ghost use Rattle.elab_bits.specs.Seen.{IsInRow, view_bit};
+ghost use Rattle.elab_model.specs.Names.{Variable};
 ghost use Rattle.specify_model.specs.Faults as faults;
 ghost use Rattle.specify_model.specs.Terms as def;
 ghost use Rattle.specify_values.specs.Telling.{Tells};
 ghost use Rattle.specify_paths.specs.Seen.{bits_seen, AreInRow};
+ghost use Rattle.specify_paths.specs.Words.{such_port};
 
 use elab_bits::{Bit, add_bits, check_expression};
 use elab_model::ElabKind;
 use elab_tables::Table;
 use sg_circuit::Port;
 use sg_text::{NoMemory, Refused};
+use std::alloc::Global;
 use vl_tree::{Expression, Term};
 
 // A term is an expression of one name.
