@@ -1,5 +1,5 @@
 -- The code's values, as the definitions see them.
-use Rattle.std.specs.Prelude.{◌≡◌, ℕ, List, ◌++◌, Bool, filter_map, nat_le, Option, Some, None, map, bytes_eq, if◌then◌else◌, ◌&&◌}
+use Rattle.std.specs.Prelude.{◌≡◌, ℕ, List, ◌++◌, Bool, filter_map, nat_le, Option, Some, None, map, bytes_eq, if◌then◌else◌, ◌&&◌, ◌==◌, ◌+◌, take, drop, slice_index_or}
 use Rattle.std.specs.Borrow.{Bor}
 use Rattle.std.specs.Option.{option_map, option_or}
 use Rattle.indexmap.specs.IndexMap.{IndexMap, get_by}
@@ -12,7 +12,7 @@ use Rattle.vl_tree.specs.Tree.{SpecifyPath, Specparam, SpecifyItem}
 use Rattle.elab_model.specs.Names.{Variable}
 use Rattle.elab_model.specs.TerminalFaults.{delay_limit}
 use Rattle.specify_model.specs.Blocks.{Parameter, parameter_of, parameters, Pulse, pulse_of, pulses, StyleText, specify_paths, style_texts}
-use Rattle.specify_model.specs.PulseLimits.{Limits, limit_ticks, is_for_ends, is_for_others}
+use Rattle.specify_model.specs.PulseLimits.{Limits, limit_ticks, dollar, are_ports, is_for_ends, is_for_others}
 use Rattle.specify_model.specs.Values.{Measure, Values}
 use Rattle.specify_values.specs.declared.items.BlockItems.{BlockItems}
 use Rattle.specify_values.specs.declared.items.Parameter as code_parameter
@@ -51,6 +51,10 @@ view_pulse p = record { name = view_name p.name; reject = view_mtm p.reject; err
 
 abbrev pub ends_seen : Bor (List ℕ) × Bor (List ℕ) → List ℕ × List ℕ
 ends_seen e = (e.0.now, e.1.now)
+
+-- a $ stands at a place of a text, with a port at either side
+abbrev pub is_divided : List Variable → List ℕ → ℕ → Bool
+is_divided vs text at = slice_index_or text at 0 == dollar && are_ports vs (take at text, drop (at + 1) text)
 
 abbrev pub widths_seen : Widths → ℕ × ℕ
 widths_seen w = (w.reject, w.error)

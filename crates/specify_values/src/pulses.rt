@@ -1,9 +1,9 @@
 // Specparams of pulse limits.
-ghost use Rattle.std.specs.Prelude.{◌≡◌, ◌&&◌, true, false, IfSome, IfNone, find};
+ghost use Rattle.std.specs.Prelude.{◌≡◌, ◌<◌, true, false, length, IfSome, IfNone, find};
 ghost use Rattle.std.specs.Option.{OnSome, option_map};
 ghost use Rattle.specify_model.specs.Faults.{are_bad_limits};
 ghost use Rattle.specify_model.specs.PulseLimits as limits;
-ghost use Rattle.specify_values.specs.Seen.{ends_seen, view_pulse, measured, widths_seen};
+ghost use Rattle.specify_values.specs.Seen.{ends_seen, is_divided, view_pulse, measured, widths_seen};
 
 use crate::items::Pulse;
 use crate::measures::Measure;
@@ -41,16 +41,22 @@ fn is_port(table: &Table, name: &[u8]) -> bool
     }
 }
 
+// Whether a $ stands at a place of a text, with a port at either side.
+fn divides(table: &Table, text: &[u8], at: usize) -> bool
+    requires { at < length text.now }
+    ensures { result ≡ is_divided table.now text.now at }
+{
+    text[at] == b'$' && is_port(table, &text[..at]) && is_port(table, &text[at + 1..])
+}
+
 /// The ports that a text says: what stands before and behind the first $ that has a port at either side.
 pub fn named_ends<'a>(table: &Table, text: &'a [u8]) -> Option<(&'a [u8], &'a [u8])>
-    ensures { option_map ends_seen result ≡ find (λ c. limits.is_port table.now c.0 && limits.is_port table.now c.1) (limits.cuts text.now) }
+    ensures { option_map ends_seen result ≡ find (limits.are_ports table.now) (limits.cuts text.now) }
 {
-    let mut at = 0;
-    while let Some(byte) = text.get(at) {
-        let front = &text[..at];
-        let back = &text[at + 1..];
-        if *byte == b'$' && is_port(table, front) && is_port(table, back) {
-            return Some((front, back));
+    let mut at: usize = 0;
+    while at < text.len() {
+        if divides(table, text, at) {
+            return Some((&text[..at], &text[at + 1..]));
         }
         at += 1;
     }
