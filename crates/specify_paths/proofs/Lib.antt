@@ -1,0 +1,4 @@
+-- The modules of this folder.
+pub mod RowBits
+pub mod Grouped
+pub mod Bridged
