@@ -67,12 +67,12 @@ some-map (Some x) = refl
 -- where it hasn't the name, one is put in
 pub put-in : (p : code.Parameter) (old new : Bor (List ℕ) → Option code_mtm.MinTypMax) → is_some (old (key p.name.text.now)) ≡ false
     → ((q : Bor (List ℕ)) → new q ≡ cond (bytes_eq p.name.text.now q.now) (Some p.value) (old q)) → seen_in new ≡ one_more (seen_in old) (view_parameter p)
-put-in p old new no h = fun_ext (λ n. by n (bytes_eq p.name.text.now n) refl)
+put-in p old new absent h = fun_ext (λ n. by n (bytes_eq p.name.text.now n) refl)
   where
     by : (n : List ℕ) (b : Bool) → bytes_eq p.name.text.now n ≡ b → seen_in new n ≡ one_more (seen_in old) (view_parameter p) n
     by n true e =
         let is : p.name.text.now ≡ n = (bytes_eq-Decides p.name.text.now n).0 e in
-        let none : old (key n) ≡ None = ap (λ m. old (key m)) (sym is) ∙ is-none (old (key p.name.text.now)) no in
+        let none : old (key n) ≡ None = ap (λ m. old (key m)) (sym is) ∙ is-none (old (key p.name.text.now)) absent in
         ap (option_map view_mtm) (h (key n) ∙ ap (λ b. cond b (Some p.value) (old (key n))) e)
         ∙ sym (ap (λ o. option_or (option_map view_mtm o) (if bytes_eq n p.name.text.now then Some (view_mtm p.value) else None)) none
         ∙ ap (λ b. if b then Some (view_mtm p.value) else None) (nat_list_eq_equiv.symm n p.name.text.now ∙ e))
@@ -82,10 +82,10 @@ put-in p old new no h = fun_ext (λ n. by n (bytes_eq p.name.text.now n) refl)
 
 -- where it has, nothing changes
 pub there-already : (p : code.Parameter) (old : Bor (List ℕ) → Option code_mtm.MinTypMax) → is_some (old (key p.name.text.now)) ≡ true → seen_in old ≡ one_more (seen_in old) (view_parameter p)
-there-already p old yes = fun_ext (λ n. by n (bytes_eq n p.name.text.now) refl)
+there-already p old present = fun_ext (λ n. by n (bytes_eq n p.name.text.now) refl)
   where
     by : (n : List ℕ) (b : Bool) → bytes_eq n p.name.text.now ≡ b → seen_in old n ≡ one_more (seen_in old) (view_parameter p) n
     by n true e =
         let is : n ≡ p.name.text.now = (bytes_eq-Decides n p.name.text.now).0 e in
-        sym (or-there (seen_in old n) (if bytes_eq n p.name.text.now then Some (view_mtm p.value) else None) (some-map (old (key n)) ∙ ap (λ m. is_some (old (key m))) is ∙ yes))
+        sym (or-there (seen_in old n) (if bytes_eq n p.name.text.now then Some (view_mtm p.value) else None) (some-map (old (key n)) ∙ ap (λ m. is_some (old (key m))) is ∙ present))
     by n false e = sym (ap (λ b. option_or (seen_in old n) (if b then Some (view_mtm p.value) else None)) e ∙ or-none (seen_in old n))

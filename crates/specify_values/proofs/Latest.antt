@@ -1,15 +1,20 @@
 -- Limits of pulses: what the latest of several says, and a table after one more.
-use Rattle.std.specs.Prelude.{◌≡◌, ℕ, ◌+◌, ◌<◌, ◌≤◌, List, [], ◌∷◌, ◌++◌, Bool, true, false, Option, Some, None, filter, length, map, slice_index_or, take, refl, if◌then◌else◌}
+use Rattle.std.specs.Prelude.{◌≡◌, ◌↔◌, IsTrue, ℕ, ◌+◌, ◌<◌, ◌≤◌, ◌&&◌, List, [], ◌∷◌, ◌++◌, Bool, true, false, cond, Option, Some, None, bytes_eq, filter, find, length, map, slice_index_or, take, refl, if◌then◌else◌}
+use Rattle.std.specs.Borrow.{Bor}
 use Rattle.std.specs.List.{last_or}
 use Rattle.std.specs.Option.{option_map, option_or}
 use Rattle.std.proofs.Common.{sym, ◌∙◌, ap, arith}
+use Rattle.std.proofs.lemmas.Cmp.{nat_list_eq_equiv}
 use Rattle.std.proofs.lemmas.List.{map-append, take_more, take_all}
 use Rattle.std.proofs.Math.Path.{fun_ext}
+use Rattle.sg_delay.specs.declared.limits.Widths.{Widths}
+use Rattle.elab_model.specs.Hierarchy.{is_empty}
 use Rattle.elab_model.specs.Names.{Variable}
 use Rattle.specify_model.specs.Blocks.{Pulse}
-use Rattle.specify_model.specs.PulseLimits.{Limits, limits_of, limit_ticks, last_of, is_for_ends, is_for_others}
+use Rattle.specify_model.specs.PulseLimits.{Limits, limits_of, limit_ticks, ends_text, cuts, are_ports, are_ends, last_of, is_for_ends, is_for_others}
 use Rattle.specify_model.specs.Values.{Measure}
-use Rattle.specify_values.specs.Seen.{IsAdded, view_pulse, limits_seen, named_limit, other_limit}
+use Rattle.specify_values.specs.Seen.{IsAdded, ends_seen, widths_seen, view_pulse, limits_seen, named_limit, other_limit}
+use Rattle.specify_values.proofs.ByName.{key}
 use Rattle.specify_values.specs.declared.items.Pulse as code
 use Rattle.specify_values.specs.declared.limits.PulseLimits.{PulseLimits}
 
@@ -20,11 +25,13 @@ last-more test o [] p = by (test p)
     by : (b : Bool) → last_or o (if b then p ∷ [] else []) ≡ (if b then Some p else o)
     by true = refl
     by false = refl
-last-more test o (q ∷ ps) p = by (test q)
+last-more test o (q ∷ ps) p = by (test q) (last-more test (Some q) ps p) (last-more test o ps p)
   where
-    by : (b : Bool) → last_or o (if b then q ∷ filter test (ps ++ p ∷ []) else filter test (ps ++ p ∷ [])) ≡ (if test p then Some p else last_or o (if b then q ∷ filter test ps else filter test ps))
-    by true = last-more test (Some q) ps p
-    by false = last-more test o ps p
+    by : (b : Bool) → last_or (Some q) (filter test (ps ++ p ∷ [])) ≡ (if test p then Some p else last_or (Some q) (filter test ps))
+        → last_or o (filter test (ps ++ p ∷ [])) ≡ (if test p then Some p else last_or o (filter test ps))
+        → last_or o (if b then q ∷ filter test (ps ++ p ∷ []) else filter test (ps ++ p ∷ [])) ≡ (if test p then Some p else last_or o (if b then q ∷ filter test ps else filter test ps))
+    by true h g = h
+    by false h g = g
 
 of-last : (by : Measure) (b : Bool) (p : Pulse) (o : Option Pulse) → option_map (limit_ticks by) (if b then Some p else o) ≡ (if b then Some (limit_ticks by p) else option_map (limit_ticks by) o)
 of-last by true p o = refl
@@ -62,3 +69,31 @@ all-pulses by vs xs i t le h =
     ap (λ x. option_or x (other_limit t)) (h.named a b) ∙ ap (option_or (option_map (limit_ticks by) (last_of (is_for_ends vs a b) (map view_pulse (take i xs))))) h.others
     ∙ or-mapped by (last_of (is_for_ends vs a b) (map view_pulse (take i xs))) (last_of is_for_others (map view_pulse (take i xs)))))
     ∙ ap (λ ys. limits_of by vs (map view_pulse ys)) (take_all i xs le)
+
+-- ---- one more in a table
+
+-- limits of two ports, put into a table by them
+pub named-added : (by : Measure) (vs : List Variable) (p : Pulse) (e : Bor (List ℕ) × Bor (List ℕ)) (w : Widths) (old new : Bor (List ℕ) × Bor (List ℕ) → Option Widths) (text : List ℕ)
+    → text ≡ ends_text p → Some (ends_seen e) ≡ find (are_ports vs) (cuts text) → widths_seen w ≡ limit_ticks by p
+    → ((q : Bor (List ℕ) × Bor (List ℕ)) → new q ≡ cond (bytes_eq e.0.now q.0.now && bytes_eq e.1.now q.1.now) (Some w) (old q))
+    → (i o : List ℕ) → option_map widths_seen (new (key i, key o)) ≡ (if is_for_ends vs i o p then Some (limit_ticks by p) else option_map widths_seen (old (key i, key o)))
+named-added by vs p e w old new text is found widths put i o =
+    ap (option_map widths_seen) (put (key i, key o)) ∙ taken (bytes_eq e.0.now i && bytes_eq e.1.now o)
+    ∙ ap (λ b. if b then Some (limit_ticks by p) else option_map widths_seen (old (key i, key o))) (sym applies)
+  where
+    applies : is_for_ends vs i o p ≡ (bytes_eq e.0.now i && bytes_eq e.1.now o)
+    applies =
+        ap (λ t. are_ends i o (find (are_ports vs) (cuts t))) (sym is) ∙ ap (are_ends i o) (sym found)
+        ∙ ap (λ b. b && bytes_eq o e.1.now) (nat_list_eq_equiv.symm i e.0.now) ∙ ap (λ b. bytes_eq e.0.now i && b) (nat_list_eq_equiv.symm o e.1.now)
+
+    taken : (b : Bool) → option_map widths_seen (cond b (Some w) (old (key i, key o))) ≡ (if b then Some (limit_ticks by p) else option_map widths_seen (old (key i, key o)))
+    taken true = ap (λ l. Some l) widths
+    taken false = refl
+
+pub text-there : (text : List ℕ) (b : Bool) → IsTrue b ↔ (length text ≡ 0) → b ≡ false → is_empty text ≡ false
+text-there [] b h e = let t : b ≡ true = h.1 refl in let f : true ≡ false = sym t ∙ e in cc
+text-there (x ∷ xs) b h e = refl
+
+pub not-for_others : (by : Measure) (p : Pulse) (text : List ℕ) (t : PulseLimits) → text ≡ ends_text p → is_empty text ≡ false
+    → other_limit t ≡ (if is_for_others p then Some (limit_ticks by p) else other_limit t)
+not-for_others by p text t is e = ap (λ b. if b then Some (limit_ticks by p) else other_limit t) (sym (ap is_empty (sym is) ∙ e))
