@@ -2,3 +2,4 @@
 pub mod RowBits
 pub mod Grouped
 pub mod Bridged
+pub mod Chosen

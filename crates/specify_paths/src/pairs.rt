@@ -75,8 +75,9 @@ fn add_parallel(
         ++ map (path_said (said_at said origin.statement) origin.place (limits_seen limits.now)) (zip (bits_seen table.now ends.now.inputs.items) (bits_seen table.now ends.now.outputs.items))) }
     ensures row { ArePathsInRow table.now list.old.items → ArePathsInRow table.now list.new.items }
 {
-    for (input, output) in ends.inputs.iter().zip(&ends.outputs) {
-        list.push(path_between(table, limits, origin, *input, *output))?;
+    let count = ends.inputs.len().min(ends.outputs.len());
+    for at in 0..count {
+        list.push(path_between(table, limits, origin, ends.inputs[at], ends.outputs[at]))?;
     }
     Ok(())
 }
