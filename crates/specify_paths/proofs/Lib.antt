@@ -3,3 +3,4 @@ pub mod RowBits
 pub mod Grouped
 pub mod Bridged
 pub mod Chosen
+pub mod Whole
