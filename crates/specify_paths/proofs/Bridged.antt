@@ -28,12 +28,14 @@ module _ (vs : List Variable) (said : List Said) (apart : AreApart vs) where
   firsts seen [] h g = refl
   firsts seen (p ∷ ps) h g =
       ap (λ b. if b then first_paths (bits_seen vs seen) (map (path_to_seen vs said) ps) else path_to_seen vs said p ∷ first_paths (bits_seen vs (p.output ∷ seen)) (map (path_to_seen vs said) ps)) (any-same p.output seen g.0 h)
-      ∙ by (list_any (λ k. p.output == k) seen)
+      ∙ by (list_any (λ k. p.output == k) seen) (firsts seen ps h g.1) (firsts (p.output ∷ seen) ps (g.0, h) g.1)
     where
-      by : (b : Bool) → (if b then first_paths (bits_seen vs seen) (map (path_to_seen vs said) ps) else path_to_seen vs said p ∷ first_paths (bits_seen vs (p.output ∷ seen)) (map (path_to_seen vs said) ps))
+      by : (b : Bool) → first_paths (bits_seen vs seen) (map (path_to_seen vs said) ps) ≡ map (path_to_seen vs said) (first_to_each seen ps)
+          → first_paths (bits_seen vs (p.output ∷ seen)) (map (path_to_seen vs said) ps) ≡ map (path_to_seen vs said) (first_to_each (p.output ∷ seen) ps)
+          → (if b then first_paths (bits_seen vs seen) (map (path_to_seen vs said) ps) else path_to_seen vs said p ∷ first_paths (bits_seen vs (p.output ∷ seen)) (map (path_to_seen vs said) ps))
           ≡ map (path_to_seen vs said) (if b then first_to_each seen ps else p ∷ first_to_each (p.output ∷ seen) ps)
-      by true = firsts seen ps h g.1
-      by false = ap (λ xs. path_to_seen vs said p ∷ xs) (firsts (p.output ∷ seen) ps (g.0, h) g.1)
+      by true same next = same
+      by false same next = ap (λ xs. path_to_seen vs said p ∷ xs) next
 
   those-to : (i : ℕ) (ps : List PathTo) → InRow i → AllByRecursion ToRow ps → paths_to (bit_seen vs i) (map (path_to_seen vs said) ps) ≡ map (path_seen vs said) (paths_at i ps)
   those-to i [] h g = refl
@@ -53,11 +55,11 @@ module _ (vs : List Variable) (said : List Said) (apart : AreApart vs) where
 
   firsts-in : (seen : List ℕ) (ps : List PathTo) → AllByRecursion ToRow ps → AllByRecursion ToRow (first_to_each seen ps)
   firsts-in seen [] g = tt
-  firsts-in seen (p ∷ ps) g = by (list_any (λ k. p.output == k) seen)
+  firsts-in seen (p ∷ ps) g = by (list_any (λ k. p.output == k) seen) (firsts-in seen ps g.1) (firsts-in (p.output ∷ seen) ps g.1)
     where
-      by : (b : Bool) → AllByRecursion ToRow (if b then first_to_each seen ps else p ∷ first_to_each (p.output ∷ seen) ps)
-      by true = firsts-in seen ps g.1
-      by false = (g.0, firsts-in (p.output ∷ seen) ps g.1)
+      by : (b : Bool) → AllByRecursion ToRow (first_to_each seen ps) → AllByRecursion ToRow (first_to_each (p.output ∷ seen) ps) → AllByRecursion ToRow (if b then first_to_each seen ps else p ∷ first_to_each (p.output ∷ seen) ps)
+      by true same next = same
+      by false same next = (g.0, next)
 
   pub grouped-seen : (style : ℕ → PulseStyle) (ss : List StyleText) (ps : List PathTo) → AllByRecursion ToRow ps → ((i : ℕ) → InRow i → style i ≡ style_of vs ss (bit_seen vs i))
       → map kept_seen (grouped style ps) ≡ map (output_of vs ss (map (path_to_seen vs said) ps)) (first_paths [] (map (path_to_seen vs said) ps))

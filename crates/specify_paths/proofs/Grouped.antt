@@ -1,17 +1,14 @@
 -- Paths by their outputs, with one more path at the end.
-use Rattle.std.specs.Prelude.{◌≡◌, ℕ, zero, suc, ◌==◌, List, [], ◌∷◌, ◌++◌, Bool, true, false, ◌||◌, map, filter, length, refl, if◌then◌else◌}
+use Rattle.std.specs.Prelude.{◌≡◌, ℕ, zero, suc, ◌+◌, ◌==◌, ◌<◌, List, [], ◌∷◌, ◌++◌, Bool, true, false, not, ◌||◌, map, filter, length, slice_index_or, take, refl, if◌then◌else◌}
 use Rattle.std.specs.List.{list_any, position_or_len}
 use Rattle.std.proofs.lemmas.List.Recursion.{is_position_or_len}
 use Rattle.std.proofs.Common.{sym, ◌∙◌, ap, arith, subst, append-nil}
-use Rattle.std.proofs.lemmas.List.{map-append}
+use Rattle.std.proofs.lemmas.List.{map-append, length-map, take_more}
 use Rattle.std.proofs.lemmas.Bool.{eq-eqb, eqb-true}
 use Rattle.sg_delay.specs.declared.limits.PulseStyle.{PulseStyle}
 use Rattle.specify_paths.specs.declared.pairs.ModulePath.{ModulePath}
 use Rattle.specify_paths.specs.declared.pairs.PathTo.{PathTo}
-use Rattle.specify_paths.specs.Words.{Output, first_to_each, paths_at, output_at, grouped}
-
-abbrev pub outputs_in : List PathTo → List ℕ
-outputs_in ps = map (λ p. p.output) ps
+use Rattle.specify_paths.specs.Words.{Output, first_to_each, paths_at, output_at, grouped, IsPlaced, with_path, set_at, blank_output, outputs_in}
 
 abbrev pub is_in : ℕ → List ℕ → Bool
 is_in b ks = list_any (λ k. b == k) ks
@@ -22,7 +19,7 @@ place_in b [] = 0
 place_in b (k ∷ ks) = if b == k then 0 else suc (place_in b ks)
 
 pub place-is : (b : ℕ) (ks : List ℕ) → position_or_len (λ k. b == k) ks ≡ place_in b ks
-place-is b ks = sym (is_position_or_len (place_in b) (λ k. b == k) refl (λ k ls. refl) ks)
+place-is b ks = sym (is_position_or_len (place_in b) (λ k. b == k) refl (λ k ls. ap (λ n. if b == k then 0 else n) (let n : suc (place_in b ls) ≡ 1 + place_in b ls = omega arith in n)) ks)
 
 or-false : (a : Bool) → (a || false) ≡ a
 or-false true = refl
@@ -81,17 +78,19 @@ seen-gone b seen (q ∷ ps) h = by (is_in q.output seen) refl (seen-gone b seen 
 -- an output to which no path is the first has no path
 pub none-there : (b : ℕ) (seen : List ℕ) (ps : List PathTo) → is_in b seen ≡ false → is_in b (outputs_in (first_to_each seen ps)) ≡ false → paths_at b ps ≡ []
 none-there b seen [] h g = refl
-none-there b seen (q ∷ ps) h g = by (is_in q.output seen) refl (b == q.output) refl g
+none-there b seen (q ∷ ps) h g = by (is_in q.output seen) refl (b == q.output) refl g (none-there b seen ps h) (none-there b (q.output ∷ seen) ps)
   where
     by : (s : Bool) → is_in q.output seen ≡ s → (t : Bool) → (b == q.output) ≡ t
         → is_in b (outputs_in (if s then first_to_each seen ps else q ∷ first_to_each (q.output ∷ seen) ps)) ≡ false
+        → (is_in b (outputs_in (first_to_each seen ps)) ≡ false → paths_at b ps ≡ [])
+        → (is_in b (q.output ∷ seen) ≡ false → is_in b (outputs_in (first_to_each (q.output ∷ seen) ps)) ≡ false → paths_at b ps ≡ [])
         → map (λ p. p.path) (if b == q.output then q ∷ filter (λ p. b == p.output) ps else filter (λ p. b == p.output) ps) ≡ []
-    by true e true u k = let is : b ≡ q.output = eqb-true b q.output u in let f : true ≡ false = sym e ∙ ap (λ n. is_in n seen) (sym is) ∙ h in cc
-    by true e false u k = ap (λ t. map (λ p. p.path) (if t then q ∷ filter (λ p. b == p.output) ps else filter (λ p. b == p.output) ps)) u ∙ none-there b seen ps h k
-    by false e true u k = let f : true ≡ false = sym (ap (λ t. t || is_in b (outputs_in (first_to_each (q.output ∷ seen) ps))) u) ∙ k in cc
-    by false e false u k =
+    by true e true u k same next = let is : b ≡ q.output = eqb-true b q.output u in let f : true ≡ false = sym e ∙ ap (λ n. is_in n seen) (sym is) ∙ h in cc
+    by true e false u k same next = ap (λ t. map (λ p. p.path) (if t then q ∷ filter (λ p. b == p.output) ps else filter (λ p. b == p.output) ps)) u ∙ same k
+    by false e true u k same next = let f : true ≡ false = sym (ap (λ t. t || is_in b (outputs_in (first_to_each (q.output ∷ seen) ps))) u) ∙ k in cc
+    by false e false u k same next =
         ap (λ t. map (λ p. p.path) (if t then q ∷ filter (λ p. b == p.output) ps else filter (λ p. b == p.output) ps)) u
-        ∙ none-there b (q.output ∷ seen) ps (ap (λ t. t || is_in b seen) u ∙ h) (sym (ap (λ t. t || is_in b (outputs_in (first_to_each (q.output ∷ seen) ps))) u) ∙ k)
+        ∙ next (ap (λ t. t || is_in b seen) u ∙ h) (sym (ap (λ t. t || is_in b (outputs_in (first_to_each (q.output ∷ seen) ps))) u) ∙ k)
 
 pub paths-more : (b : ℕ) (ps : List PathTo) (p : PathTo) → paths_at b (ps ++ p ∷ []) ≡ paths_at b ps ++ (if b == p.output then p.path ∷ [] else [])
 paths-more b [] p = by (b == p.output)
@@ -108,14 +107,6 @@ paths-more b (q ∷ ps) p = by (b == q.output) (paths-more b ps p)
     by false h = h
 
 -- ---- an output that takes one more path
-
-abbrev pub with_path : ModulePath → Output → Output
-with_path p o = record { output = o.output; place = o.place; style = o.style; paths = o.paths ++ p ∷ [] }
-
-abbrev pub set_at : ℕ → ModulePath → List Output → List Output
-set_at i p [] = []
-set_at zero p (o ∷ os) = with_path p o ∷ os
-set_at (suc i) p (o ∷ os) = o ∷ set_at i p os
 
 module _ (style : ℕ → PulseStyle) (whole : List PathTo) (p : PathTo) where
   abbrev old : PathTo → Output
@@ -157,10 +148,6 @@ module _ (style : ℕ → PulseStyle) (whole : List PathTo) (p : PathTo) where
       rest : List PathTo
       rest = first_to_each (q.output ∷ seen) ps
 
-      self : (n : ℕ) → (n == n) ≡ true
-      self zero = refl
-      self (suc n) = self n
-
       at : (t : Bool) → (p.output == q.output) ≡ t → (t || is_in p.output (outputs_in rest)) ≡ true
           → (is_in p.output (outputs_in rest) ≡ true → set_at (place_in p.output (outputs_in rest)) p.path (map old rest) ≡ map new rest)
           → set_at (place_in p.output (q.output ∷ outputs_in rest)) p.path (old q ∷ map old rest) ≡ new q ∷ map new rest
@@ -179,10 +166,6 @@ module _ (style : ℕ → PulseStyle) (whole : List PathTo) (p : PathTo) where
       by false k l g = at (p.output == q.output) refl g l
 
 -- ---- grouped, with one more path
-
--- a new output, as yet without a path
-abbrev pub blank_output : (ℕ → PulseStyle) → PathTo → Output
-blank_output style p = record { output = p.output; place = p.place; style = style p.output; paths = [] }
 
 pub grouped-known : (style : ℕ → PulseStyle) (ps : List PathTo) (p : PathTo) → is_in p.output (outputs_in (first_to_each [] ps)) ≡ true
     → grouped style (ps ++ p ∷ []) ≡ set_at (place_in p.output (outputs_in (first_to_each [] ps))) p.path (grouped style ps)
@@ -212,3 +195,52 @@ grouped-new style ps p h =
 
 pub keys-new : (ps : List PathTo) (p : PathTo) → is_in p.output (outputs_in (first_to_each [] ps)) ≡ false → outputs_in (first_to_each [] (ps ++ p ∷ [])) ≡ outputs_in (first_to_each [] ps) ++ p.output ∷ []
 keys-new ps p h = ap outputs_in (first-more [] ps p ∙ ap (λ t. first_to_each [] ps ++ (if t then [] else p ∷ [])) h) ∙ map-append (λ q. q.output) (first_to_each [] ps) (p ∷ [])
+
+-- ---- as the code places it
+
+is-there : (t b : Bool) → t ≡ not b → t ≡ false → b ≡ true
+is-there t true e h = refl
+is-there t false e h = let f : true ≡ false = sym e ∙ h in cc
+
+isnt-there : (t b : Bool) → t ≡ not b → t ≡ true → b ≡ false
+isnt-there t true e h = let f : false ≡ true = sym e ∙ h in cc
+isnt-there t false e h = refl
+
+-- an output that was there
+pub placed-known : (style : ℕ → PulseStyle) (ps : List PathTo) (p : PathTo) (at : ℕ) (old new : List ℕ) (os : List Output) (t : Bool) → old ≡ outputs_in (first_to_each [] ps) → os ≡ grouped style ps
+    → t ≡ not (is_in p.output old) → t ≡ false → at ≡ position_or_len (λ k. p.output == k) old → new ≡ (if is_in p.output old then old else old ++ p.output ∷ []) → IsPlaced style ps p at new os
+placed-known style ps p at old new os t keys group e is place grown =
+    let there : is_in p.output old ≡ true = is-there t (is_in p.output old) e is in
+    let known : is_in p.output (outputs_in (first_to_each [] ps)) ≡ true = ap (is_in p.output) (sym keys) ∙ there in
+    record {
+      keys_are = grown ∙ ap (λ b. if b then old else old ++ p.output ∷ []) there ∙ keys ∙ sym (keys-known ps p known);
+      taking =
+          ap (λ n. set_at n p.path os) (place ∙ place-is p.output old ∙ ap (place_in p.output) keys) ∙ ap (set_at (place_in p.output (outputs_in (first_to_each [] ps))) p.path) group ∙ sym (grouped-known style ps p known);
+    }
+
+not-there : (b : ℕ) (ks : List ℕ) → is_in b ks ≡ false → place_in b ks ≡ length ks
+not-there b [] h = refl
+not-there b (k ∷ ks) h = by (b == k) h (not-there b ks)
+  where
+    by : (t : Bool) → (t || is_in b ks) ≡ false → (is_in b ks ≡ false → place_in b ks ≡ length ks) → (if t then 0 else suc (place_in b ks)) ≡ suc (length ks)
+    by true h rest = cc
+    by false h rest = ap suc (rest h)
+
+-- a new one
+pub placed-new : (style : ℕ → PulseStyle) (ps : List PathTo) (p : PathTo) (at : ℕ) (old new : List ℕ) (os more : List Output) (t : Bool) → old ≡ outputs_in (first_to_each [] ps) → os ≡ grouped style ps
+    → t ≡ not (is_in p.output old) → t ≡ true → at ≡ position_or_len (λ k. p.output == k) old → new ≡ (if is_in p.output old then old else old ++ p.output ∷ []) → more ≡ os ++ blank_output style p ∷ []
+    → IsPlaced style ps p at new more
+placed-new style ps p at old new os more t keys group e is place grown added =
+    let absent : is_in p.output old ≡ false = isnt-there t (is_in p.output old) e is in
+    let new_one : is_in p.output (outputs_in (first_to_each [] ps)) ≡ false = ap (is_in p.output) (sym keys) ∙ absent in
+    let count : length old ≡ length (grouped style ps) = ap length keys ∙ length-map (first_to_each [] ps) (λ q. q.output) ∙ sym (length-map (first_to_each [] ps) (output_at style ps)) in
+    record {
+      keys_are = grown ∙ ap (λ b. if b then old else old ++ p.output ∷ []) absent ∙ ap (λ ks. ks ++ p.output ∷ []) keys ∙ sym (keys-new ps p new_one);
+      taking =
+          ap (λ n. set_at n p.path more) (place ∙ place-is p.output old ∙ not-there p.output old absent ∙ count)
+          ∙ ap (set_at (length (grouped style ps)) p.path) (added ∙ ap (λ xs. xs ++ blank_output style p ∷ []) group) ∙ sym (grouped-new style ps p new_one);
+    }
+
+-- one more of a list
+pub one-taken : {A : Type 0} (xs : List A) (i : ℕ) (x : A) → i < length xs → x ≡ slice_index_or xs i x → take (i + 1) xs ≡ take i xs ++ x ∷ []
+one-taken xs i x lt at = take_more xs i x lt ∙ ap (λ y. take i xs ++ y ∷ []) (sym at)

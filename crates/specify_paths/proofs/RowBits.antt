@@ -2,6 +2,7 @@
 use Rattle.std.specs.Prelude.{◌≡◌, ℕ, zero, suc, ◌<◌, ◌==◌, List, [], ◌∷◌, Bool, true, false, ◌&&◌, length, map, slice_index_or, refl, bytes_eq}
 use Rattle.std.specs.List.{AllByRecursion}
 use Rattle.std.proofs.Common.{sym, ◌∙◌, ap, arith, subst}
+use Rattle.std.proofs.lemmas.Bool.{eq-eqb}
 use Rattle.std.proofs.lemmas.Slice.Eq.{bytes_eq-Decides}
 use Rattle.elab_bits.specs.Seen.{bit_at}
 use Rattle.elab_laws.specs.Handing.{all_bits, variable_bits}
@@ -59,11 +60,7 @@ reached P (x ∷ xs) zero d h lt = h.0
 reached P (x ∷ xs) (suc i) d h lt = reached P xs i d h.1 (omega (arith, lt))
 
 self : (x : Pair) → same x x ≡ true
-self x = ap (λ b. b && x.1 == x.1) ((bytes_eq-Decides x.0.name x.0.name).1 refl) ∙ same-number x.1
-  where
-    same-number : (n : ℕ) → (n == n) ≡ true
-    same-number zero = refl
-    same-number (suc n) = same-number n
+self x = ap (λ b. b && x.1 == x.1) ((bytes_eq-Decides x.0.name x.0.name).1 refl) ∙ eq-eqb x.1 x.1 refl
 
 either : (x y : Pair) → same x y ≡ same y x
 either x y = ap (λ b. b && x.1 == y.1) (bytes-either x.0.name y.0.name) ∙ ap (λ b. bytes_eq y.0.name x.0.name && b) (numbers-either x.1 y.1)

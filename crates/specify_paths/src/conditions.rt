@@ -6,7 +6,7 @@ ghost use Rattle.specify_model.specs.Conditions as def;
 ghost use Rattle.specify_model.specs.Faults as faults;
 ghost use Rattle.specify_values.specs.Telling.{Tells};
 ghost use Rattle.specify_paths.specs.Seen.{IsRead};
-ghost use Rattle.specify_paths.specs.Words.{first_operand};
+ghost use Rattle.specify_paths.specs.Words as def_words;
 
 use crate::terms::check_operand;
 use cond_expr::{CondFault, Expr, Tok};
@@ -41,7 +41,7 @@ fn tokens_of(alloc: Global, words: &[Word]) -> Result<Vec<Tok<Text>>, NoMemory>
 
 // The operand that begins the words, if one does.
 fn operand_at<'a>(words: &[Word<'a>]) -> Option<Term<'a>>
-    ensures { option_map view_term result ≡ first_operand (map view_word words.now) }
+    ensures { option_map view_term result ≡ def_words.first_operand (map view_word words.now) }
 {
     let (word, behind) = words.split_first()?;
     let Tok::Name(text) = &word.token else {
@@ -89,6 +89,22 @@ fn first_place(place: Place, words: &[Word]) -> Place
     }
 }
 
+fn refusal_of(fault: CondFault, place: Place) -> Refused<ElabKind>
+    ensures { result ≡ def_words.refusal_of fault place }
+{
+    match fault {
+        CondFault::NoMemory => Refused::NoMemory,
+        CondFault::Syntax { .. } => Refused::Fault {
+            kind: ElabKind::TooDeep,
+            place,
+        },
+        CondFault::TooDeep => Refused::Fault {
+            kind: ElabKind::TooDeep,
+            place,
+        },
+    }
+}
+
 /// The condition that words spell (IEEE 1364-2005, 14.2.4). Refuses an operand that isn't declared (UnknownName), whose index is out of range (BadTerminal) or that isn't one bit
 /// (WidthMismatch), at the operand, and more than 64 parentheses and unary operators round a part (TooDeep, at the first word). Takes memory in proportion to the words.
 pub fn condition_of(
@@ -104,10 +120,6 @@ pub fn condition_of(
     let tokens = tokens_of(alloc, words)?;
     match Expr::read(alloc, &tokens) {
         Ok(condition) => Ok(condition),
-        Err(CondFault::NoMemory) => Err(Refused::NoMemory),
-        Err(_) => Err(Refused::Fault {
-            kind: ElabKind::TooDeep,
-            place: first_place(place, words),
-        }),
+        Err(fault) => Err(refusal_of(fault, first_place(place, words))),
     }
 }

@@ -75,7 +75,7 @@ items-more xs ys b c h g = record {
   styles_are = g.styles_grow ∙ ap (λ l. l ++ style_texts ys) h.styles_are ∙ sym (filter_map-append style_of_item xs ys);
 }
 
-pub next-block : {A : Type 0} (view : A → List SpecifyItem) (xs : List A) (i : ℕ) (x : A) (b c : BlockItems) → i < length xs → x ≡ slice_index_or xs i x
+next-block : {A : Type 0} (view : A → List SpecifyItem) (xs : List A) (i : ℕ) (x : A) (b c : BlockItems) → i < length xs → x ≡ slice_index_or xs i x
     → AreItems (flat_map view (take i xs)) b → Adds (view x) b c → AreItems (flat_map view (take (i + 1) xs)) c
 next-block view xs i x b c lt e h g =
     let s : flat_map view (take (i + 1) xs) ≡ flat_map view (take i xs) ++ view x =
@@ -83,8 +83,13 @@ next-block view xs i x b c lt e h g =
     ∙ ap (λ l. flat_map view (take i xs) ++ l) (append-nil (view x)) in
     subst (λ l. AreItems l c) (sym s) (items-more (flat_map view (take i xs)) (view x) b c h g)
 
-pub all-blocks : (xs : List code_item.Item) (i : ℕ) (b : BlockItems) → length xs ≤ i → AreItems (flat_map (λ x. items_of_item (view_item x)) (take i xs)) b → AreItems (flat_map items_of_item (map view_item xs)) b
-all-blocks xs i b le h = subst (λ l. AreItems l b) (ap (flat_map (λ x. items_of_item (view_item x))) (take_all i xs le) ∙ by-view xs) h
+pub next-block_of : {A : Type 0} (view : A → List SpecifyItem) (ys xs : List A) (i : ℕ) (x : A) (b c : BlockItems) → ys ≡ xs → i < length ys → x ≡ slice_index_or ys i x
+    → AreItems (flat_map view (take i xs)) b → Adds (view x) b c → AreItems (flat_map view (take (i + 1) xs)) c
+next-block_of view ys xs i x b c same lt e h g =
+    subst (λ zs. AreItems (flat_map view (take (i + 1) zs)) c) same (next-block view ys i x b c lt e (subst (λ zs. AreItems (flat_map view (take i zs)) b) (sym same) h) g)
+
+pub all-blocks : (ys xs : List code_item.Item) (i : ℕ) (b : BlockItems) → ys ≡ xs → length ys ≤ i → AreItems (flat_map (λ x. items_of_item (view_item x)) (take i xs)) b → AreItems (flat_map items_of_item (map view_item xs)) b
+all-blocks ys xs i b same le h = subst (λ l. AreItems l b) (ap (flat_map (λ x. items_of_item (view_item x))) (ap (take i) (sym same) ∙ take_all i ys le ∙ same) ∙ by-view xs) h
   where
     by-view : (xs : List code_item.Item) → flat_map (λ x. items_of_item (view_item x)) xs ≡ flat_map items_of_item (map view_item xs)
     by-view [] = refl

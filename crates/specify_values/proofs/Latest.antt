@@ -1,5 +1,5 @@
 -- Limits of pulses: what the latest of several says, and a table after one more.
-use Rattle.std.specs.Prelude.{◌≡◌, ◌↔◌, IsTrue, ℕ, ◌+◌, ◌<◌, ◌≤◌, ◌&&◌, List, [], ◌∷◌, ◌++◌, Bool, true, false, cond, Option, Some, None, bytes_eq, filter, find, length, map, slice_index_or, take, refl, if◌then◌else◌}
+use Rattle.std.specs.Prelude.{◌≡◌, ℕ, ◌+◌, ◌<◌, ◌≤◌, ◌==◌, ◌&&◌, List, [], ◌∷◌, ◌++◌, Bool, true, false, cond, Option, Some, None, bytes_eq, filter, find, length, map, slice_index_or, take, refl, if◌then◌else◌}
 use Rattle.std.specs.Borrow.{Bor}
 use Rattle.std.specs.List.{last_or}
 use Rattle.std.specs.Option.{option_map, option_or}
@@ -90,8 +90,8 @@ named-added by vs p e w old new text is found widths put i o =
     taken true = ap (λ l. Some l) widths
     taken false = refl
 
-pub text-there : (text : List ℕ) (b : Bool) → IsTrue b ↔ (length text ≡ 0) → b ≡ false → is_empty text ≡ false
-text-there [] b h e = let t : b ≡ true = h.1 refl in let f : true ≡ false = sym t ∙ e in cc
+pub text-there : (text : List ℕ) (b : Bool) → b ≡ (length text == 0) → b ≡ false → is_empty text ≡ false
+text-there [] b h e = let f : true ≡ false = sym h ∙ e in cc
 text-there (x ∷ xs) b h e = refl
 
 pub not-for_others : (by : Measure) (p : Pulse) (text : List ℕ) (t : PulseLimits) → text ≡ ends_text p → is_empty text ≡ false

@@ -1,7 +1,6 @@
 -- Those so far are grouped.
 use Rattle.std.proofs.Common.{◌≡◌, [], map, take}
-use Rattle.specify_paths.specs.Words.{first_to_each, grouped, output_kept, style_at}
-use Rattle.specify_paths.proofs.Grouped.{outputs_in}
+use Rattle.specify_paths.specs.Words.{first_to_each, grouped, output_kept, outputs_in, style_at}
 use Rattle.specify_paths.proofs.grouping.group.Given as goal
 
 abbrev pub invariant-loop-path : goal.invariant-loop-path
