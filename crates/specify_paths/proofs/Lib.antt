@@ -3,5 +3,6 @@ pub mod RowBits
 pub mod Grouped
 pub mod Bridged
 pub mod Chosen
+pub mod InOrder
 pub mod Operands
 pub mod Whole
