@@ -16,10 +16,11 @@ returns-in_err-add_pulse-clause-told c =
 
 pub loop-pulse-preserved : goal.loop-pulse-preserved
 loop-pulse-preserved c = (
-    next-pulse (measured c.args.by) c.args.table.now c.args.list.now c.loop-pulse.pulse-index c.pulse-item.result c.loop-pulse.limits c.add_pulse.new.limits c.loop-pulse-test.true c.pulse-item.is
-    c.loop-pulse.invariant.0 c.in_ok-add_pulse.ensures.limits,
-    next-faultless view_pulse (pulse_faults (measured c.args.by) c.args.table.now) c.args.list.now c.loop-pulse.pulse-index c.pulse-item.result c.loop-pulse-test.true c.pulse-item.is
-    c.in_ok-add_pulse.ensures.told c.loop-pulse.invariant.1)
+  next-pulse (measured c.args.by) c.args.table.now c.args.list.now c.loop-pulse.pulse-index c.pulse-item.result c.loop-pulse.limits c.add_pulse.new.limits c.loop-pulse-test.true c.pulse-item.is
+      c.loop-pulse.invariant.0 c.in_ok-add_pulse.ensures.limits,
+  next-faultless view_pulse (pulse_faults (measured c.args.by) c.args.table.now) c.args.list.now c.loop-pulse.pulse-index c.pulse-item.result c.loop-pulse-test.true c.pulse-item.is
+      c.in_ok-add_pulse.ensures.told c.loop-pulse.invariant.1,
+)
 
 pub returns-clause-limits : goal.returns-clause-limits
 returns-clause-limits c = all-pulses (measured c.args.by) c.args.table.now c.args.list.now c.loop-pulse.pulse-index c.loop-pulse.limits c.loop-pulse-test.false c.loop-pulse.invariant.0
