@@ -2,7 +2,8 @@
 use Rattle.std.specs.Prelude.{◌≡◌, ℕ, zero, suc, ◌<◌, ◌==◌, List, [], ◌∷◌, Bool, true, false, ◌&&◌, length, map, slice_index_or, refl, bytes_eq}
 use Rattle.std.specs.List.{AllByRecursion}
 use Rattle.std.proofs.Common.{sym, ◌∙◌, ap, arith, subst}
-use Rattle.std.proofs.lemmas.Bool.{eq-eqb}
+use Rattle.std.proofs.lemmas.Bool.{eq-eqb, eqb-true}
+use Rattle.std.proofs.lemmas.Bool.Decides.{nat_tests}
 use Rattle.std.proofs.lemmas.Slice.Eq.{bytes_eq-Decides}
 use Rattle.elab_bits.specs.Seen.{bit_at}
 use Rattle.elab_laws.specs.Handing.{all_bits, variable_bits}
@@ -65,12 +66,27 @@ self x = ap (λ b. b && x.1 == x.1) ((bytes_eq-Decides x.0.name x.0.name).1 refl
 either : (x y : Pair) → same x y ≡ same y x
 either x y = ap (λ b. b && x.1 == y.1) (bytes-either x.0.name y.0.name) ∙ ap (λ b. bytes_eq y.0.name x.0.name && b) (numbers-either x.1 y.1)
 
+zero-suc : (j : ℕ) → (0 == suc j) ≡ false
+zero-suc j = grind (arith, nat_tests)
+
+suc-zero : (i : ℕ) → (suc i == 0) ≡ false
+suc-zero i = grind (arith, nat_tests)
+
+suc-suc : (i j : ℕ) → (i == j) ≡ (suc i == suc j)
+suc-suc i j = by (i == j) refl (suc i == suc j) refl
+  where
+    by : (a : Bool) → (i == j) ≡ a → (b : Bool) → (suc i == suc j) ≡ b → a ≡ b
+    by true e true f = refl
+    by false e false f = refl
+    by true e false f = let is : suc i ≡ suc j = ap suc (eqb-true i j e) in sym (eq-eqb (suc i) (suc j) is) ∙ f
+    by false e true f = let same_suc : suc i ≡ suc j = eqb-true (suc i) (suc j) f in let is : i ≡ j = omega (arith, same_suc) in sym e ∙ eq-eqb i j is
+
 by-places : (xs : List Pair) (d : Pair) → Pairwise Differ xs → (i j : ℕ) → i < length xs → j < length xs → same (slice_index_or xs i d) (slice_index_or xs j d) ≡ (i == j)
 by-places [] d h i j lt le = absurd (omega (arith, lt))
 by-places (x ∷ xs) d h zero zero lt le = self x
-by-places (x ∷ xs) d h zero (suc j) lt le = reached (Differ x) xs j d h.0 (omega (arith, le))
-by-places (x ∷ xs) d h (suc i) zero lt le = either (slice_index_or xs i d) x ∙ reached (Differ x) xs i d h.0 (omega (arith, lt))
-by-places (x ∷ xs) d h (suc i) (suc j) lt le = by-places xs d h.1 i j (omega (arith, lt)) (omega (arith, le))
+by-places (x ∷ xs) d h zero (suc j) lt le = reached (Differ x) xs j d h.0 (omega (arith, le)) ∙ sym (zero-suc j)
+by-places (x ∷ xs) d h (suc i) zero lt le = either (slice_index_or xs i d) x ∙ reached (Differ x) xs i d h.0 (omega (arith, lt)) ∙ sym (suc-zero i)
+by-places (x ∷ xs) d h (suc i) (suc j) lt le = by-places xs d h.1 i j (omega (arith, lt)) (omega (arith, le)) ∙ suc-suc i j
 
 pub places-apart : (m : Module) → AreApart (variables m)
 places-apart m = λ i j lt le. by-places (all_bits (variables m)) _ (bits-differ m) i j lt le
