@@ -68,6 +68,11 @@ fn show_element(parts: &Parts, element: &Element, out: &mut String) -> anyhow::R
             constant: Some(value),
         } => write!(out, "{value:?}")?,
         ElementKind::Leg { timing } => write!(out, "Leg {timing}")?,
+        ElementKind::Path { paths, style } => {
+            let start = paths.start;
+            let end = paths.end;
+            write!(out, "Path {start} {end} {style:?}")?;
+        }
     }
     for input in &element.inputs {
         write!(out, " {input}")?;

@@ -3,7 +3,7 @@ use Rattle.std.specs.Prelude.{◌≡◌, ◌<◌, [], ◌↔◌, All, IsSome, le
 use Rattle.std.proofs.Common.{sym, arith, subst₂}
 use Rattle.std.proofs.lemmas.List.{length-map}
 use Rattle.std.proofs.lemmas.List.Elements.{All-from_recursion, All-weaker}
-use Rattle.sg_circuit.specs.Closed.{TakesInputs, HasDelays, HasDatum}
+use Rattle.sg_circuit.specs.Closed.{TakesInputs, HasDelays, HasDatum, NamesNets}
 use Rattle.elab_model.specs.Circuits.{net_of, element_of}
 use Rattle.elab_model.specs.Drivers.{elements, drives}
 use Rattle.elab_model.specs.Hierarchy.{instances}
@@ -50,6 +50,7 @@ circuit-is_closed source top corner h =
       bits = have-bits source top net-count as-nets;
       inputs = All-weaker (StandsIn net-count scope-count) (λ e. All (λ n. n < net-count) e.inputs) (λ e s. s.inputs) made stand;
       outputs = All-weaker (StandsIn net-count scope-count) (λ e. e.output < net-count) (λ e s. s.output) made stand;
+      paths = All-weaker (StandsIn net-count scope-count) (λ e. NamesNets net-count e.kind) (λ e s. s.paths) made stand;
       named = elements-named all es ds (one-driver source top corner h) outputs (element-drives source top corner) _ _;
       drivers = nets-driven all es ds (nets-have_places source top corner sound) (drives-honest source top corner) _ _;
       takes_inputs = All-weaker (StandsIn net-count scope-count) (λ e. TakesInputs e.kind (length e.inputs)) (λ e s. s.takes) made stand;

@@ -5,7 +5,7 @@ use Rattle.std.proofs.Common.{sym, subst}
 use Rattle.std.proofs.lemmas.List.{length-map}
 use Rattle.std.proofs.lemmas.List.Elements.{All-from_recursion}
 use Rattle.sg_circuit.specs.Circuit.{Element}
-use Rattle.sg_circuit.specs.Closed.{TakesInputs, HasDelays}
+use Rattle.sg_circuit.specs.Closed.{TakesInputs, HasDelays, NamesNets}
 use Rattle.sg_delay.specs.declared.corners.Corner.{Corner}
 use Rattle.vl_tree.specs.Tree.{Module, Source}
 use Rattle.elab_model.specs.Circuits.{element_of}
@@ -33,6 +33,7 @@ pub record StandsIn (net_count scope_count : ℕ) (e : Element) : Type 0 where
   pub output : e.output < net_count
   pub takes : TakesInputs e.kind (length e.inputs)
   pub delays : HasDelays e.kind
+  pub paths : NamesNets net_count e.kind
 
 inputs-below : (all : List OwnNet) (spots : List Spot) → AllByRecursion (λ i. Owns i all) spots → All (λ n. n < length all) (map (number_of all) spots)
 inputs-below all spots h =
@@ -46,6 +47,7 @@ element-stands all k scope_count c lt f o = record {
   output = number-below c.output all o.output;
   takes = subst (TakesInputs c.kind) (sym (length-map c.inputs (number_of all))) f.takes;
   delays = f.delays;
+  paths = f.paths (length all);
 }
 
 -- an element of one of the instances

@@ -8,8 +8,10 @@ mod elements;
 mod fan_out;
 mod fitting;
 mod nets;
+mod path_fitting;
 mod paths;
 mod scopes;
+mod timing_fitting;
 #[cfg(test)]
 mod tests;
 
@@ -19,5 +21,5 @@ pub use circuits::{Circuit, Parts};
 pub use elements::{Element, ElementKind, LegTiming, UdpUse};
 pub use fan_out::FanOut;
 pub use nets::{Driver, Net, NetId};
-pub use paths::{Path, PathCondition};
+pub use paths::{Path, PathCondition, Span};
 pub use scopes::{Port, Range, Scope, Variable};

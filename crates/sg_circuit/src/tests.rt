@@ -81,6 +81,8 @@ fn nand(alloc: Global) -> Result<Parts, NoMemory> {
             },
         ]?,
         leg_timings: Vec::new(alloc),
+        paths: Vec::new(alloc),
+        conditions: Vec::new(alloc),
         udps: Vec::new(alloc),
         checks: Vec::new(alloc),
         scopes: vec![in alloc; scope]?,

@@ -141,6 +141,8 @@ impl Shape {
             elements,
             gate_delays: self.all_delays(alloc, count)?,
             leg_timings: Vec::new(alloc),
+            paths: Vec::new(alloc),
+            conditions: Vec::new(alloc),
             udps: Vec::new(alloc),
             checks: Vec::new(alloc),
             scopes: vec![in alloc; top(alloc)?]?,

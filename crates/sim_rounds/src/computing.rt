@@ -126,7 +126,9 @@ pub fn compute<L: Ledger>(
             steps.tick();
             value
         }
-        ElementKind::Pass { constant: None } | ElementKind::Leg { .. } => {
+        ElementKind::Pass { constant: None }
+        | ElementKind::Leg { .. }
+        | ElementKind::Path { .. } => {
             compute_pass(&item.inputs, values, steps)
         }
     }

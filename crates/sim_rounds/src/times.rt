@@ -90,6 +90,7 @@ pub trait Rounds<L: Ledger> {
     /// The net that a spent time is reported on. It is the last call.
     fn name(&mut self, now: u64) -> u32
         requires ready { ready self.old false now }
+        requires now { now < 2 ^ 60 }
         requires moves { moves self.old now }
         ensures machine { machine self.new ≡ machine self.old }
         ensures kept { kept self.new ≡ kept self.old }

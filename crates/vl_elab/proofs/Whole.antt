@@ -7,7 +7,8 @@ use Rattle.elab_model.specs.HierarchyFaults.{count_limit}
 use Rattle.std.proofs.lemmas.List.Elements.{All-from_recursion}
 use Rattle.sg_circuit.specs.Circuit.{Leg}
 use Rattle.sg_circuit.specs.Closed.{IsClosed}
-use Rattle.sg_circuit.specs.Seen.{leg_timing_seen, timings_at, kind_seen, element_seen, scope_seen, circuit_seen, IsIndexed, AreIndexed}
+use Rattle.sg_circuit.specs.TimingsSeen.{leg_timing_seen, timings_at}
+use Rattle.sg_circuit.specs.Seen.{kind_seen, element_seen, scope_seen, circuit_seen, IsIndexed, AreIndexed}
 use Rattle.sg_circuit.specs.declared.circuits.Parts.{Parts}
 use Rattle.sg_circuit.specs.declared.elements.Element as code
 use Rattle.sg_circuit.specs.declared.elements.ElementKind.{ElementKind}
@@ -56,6 +57,7 @@ kind-is parts e (kind.Gate g d) n = refl
 kind-is parts e (kind.Udp u d) n = refl
 kind-is parts e (kind.Pass v) n = refl
 kind-is parts e (kind.Leg t) n = ap (λ ts. Leg ts) (first-timing parts e t n)
+kind-is parts e (kind.Path paths style) n = absurd n
 
 elements-are : (parts : Parts) → map (λ t. leg_timing_seen t) parts.leg_timings.items ≡ none_of_twelve ∷ [] → (es : List code.Element) → AllByRecursion (λ e. NamesPlaces parts.gate_delays.items parts.udps.items e.kind) es
     → map (element_seen parts) es ≡ map (element_in parts.gate_delays.items parts.udps.items) es
@@ -77,6 +79,7 @@ indexed parts lt (kind.Gate g d) n = n
 indexed parts lt (kind.Udp u d) n = n
 indexed parts lt (kind.Pass v) n = tt
 indexed parts lt (kind.Leg t) n = subst (λ i. i < length parts.leg_timings.items) (sym n) lt
+indexed parts lt (kind.Path paths style) n = absurd n
 
 -- what holds of each by recursion holds of all
 indexed-all : (parts : Parts) → 0 < length parts.leg_timings.items → (es : List code.Element) → AllByRecursion (λ e. NamesPlaces parts.gate_delays.items parts.udps.items e.kind) es → AllByRecursion (λ e. IsIndexed parts e.kind) es

@@ -1,6 +1,6 @@
 -- What stands when the parts of a circuit have been made, one after another.
 use Rattle.std.specs.Prelude.{◌≡◌, List, [], ◌∷◌, map, replicate, None}
-use Rattle.sg_circuit.specs.Circuit.{Timing}
+use Rattle.sg_circuit.specs.Timings.{Timing}
 use Rattle.sg_time.specs.declared.units.Unit as unit
 use Rattle.sg_circuit.specs.Seen.{scope_seen}
 use Rattle.sg_circuit.specs.declared.scopes.Scope.{Scope}

@@ -7,7 +7,7 @@ ghost use Rattle.elab_model.specs.Circuits as def;
 ghost use Rattle.elab_model.specs.Elaboration.{Elaborates};
 ghost use Rattle.elab_hierarchy.specs.Tops.{StandsAt};
 ghost use Rattle.vl_elab.specs.Below.{IsBelow, RefusesBelow};
-ghost use Rattle.sg_circuit.specs.Seen.{leg_timing_seen};
+ghost use Rattle.sg_circuit.specs.TimingsSeen.{leg_timing_seen};
 ghost use Rattle.vl_elab.specs.Made.{IsWhole, none_of_twelve};
 
 use crate::driving::{drive, drivers_in};
@@ -86,6 +86,8 @@ fn close(
         elements: made.elements,
         gate_delays: library.gate_delays,
         leg_timings,
+        paths: Vec::new(alloc),
+        conditions: Vec::new(alloc),
         udps: library.udps,
         checks: Vec::new(alloc),
         scopes,

@@ -1,5 +1,5 @@
 use Rattle.sg_circuit.proofs.FittingLaws.{leg_tests}
-use Rattle.sg_circuit.proofs.fitting.timing_fits.Goals as goal
+use Rattle.sg_circuit.proofs.timing_fitting.timing_fits.Goals as goal
 
 pub returns-then-delays : goal.returns-then-delays
 returns-then-delays c =
