@@ -8,7 +8,7 @@ use Rattle.sg_circuit.specs.Circuit.{Element}
 use Rattle.sg_circuit.specs.Closed.{TakesInputs, HasDelays, NamesNets}
 use Rattle.sg_delay.specs.declared.corners.Corner.{Corner}
 use Rattle.vl_tree.specs.Tree.{Module, Source}
-use Rattle.elab_model.specs.Circuits.{element_of}
+use Rattle.elab_model.specs.Numbered.{element_of}
 use Rattle.elab_model.specs.Delays.{tick_of}
 use Rattle.elab_model.specs.Drivers.{elements}
 use Rattle.elab_model.specs.Elements.{Component, elements_of}

@@ -11,7 +11,7 @@ use Rattle.sg_delay.specs.declared.corners.Corner.{Corner}
 use Rattle.sg_delay.specs.declared.gates.GateDelays.{GateDelays}
 use Rattle.sg_text.specs.declared.places.Place.{Place}
 use Rattle.vl_tree.specs.Tree.{Module, Source}
-use Rattle.elab_model.specs.Circuits.{element_of}
+use Rattle.elab_model.specs.Numbered.{element_of}
 use Rattle.elab_model.specs.Drivers.{Drive, elements, drives, stimulus_drives, element_drives, check_drives}
 use Rattle.elab_model.specs.Elements.{Component}
 use Rattle.elab_model.specs.Nets.{OwnNet, nets, number_of}
@@ -23,7 +23,7 @@ use Rattle.elab_owned.proofs.Drives.{drives-have_nets}
 use Rattle.elab_drivers.specs.Netlists.{IsDriven}
 use Rattle.elab_hierarchy.specs.declared.instances.Placed.{Placed}
 use Rattle.elab_modules.specs.declared.library.Library.{Library}
-use Rattle.elab_rows.specs.Undriven.{undriven}
+use Rattle.elab_model.specs.Numbered.{undriven}
 use Rattle.elab_rows.specs.declared.rows.Rows.{Rows}
 use Rattle.elab_elements.specs.Seen.{element_in, AreElements}
 use Rattle.elab_elements.specs.declared.placing.Placing.{Placing}

@@ -27,7 +27,7 @@ use Rattle.elab_model.specs.Drivers.{Drive, drives, drives_of, first_driver, ele
 use Rattle.elab_model.specs.Nets.{OwnNet, nets}
 use Rattle.elab_closed.proofs.Closed.{circuit-is_closed}
 use Rattle.elab_modules.specs.declared.library.Library.{Library}
-use Rattle.elab_rows.specs.Undriven.{undriven}
+use Rattle.elab_model.specs.Numbered.{undriven}
 use Rattle.elab_rows.specs.declared.rows.Rows.{Rows}
 use Rattle.elab_elements.specs.Seen.{kind_in, element_in, NamesPlaces, AreElements}
 use Rattle.elab_elements.specs.declared.placing.Placing.{Placing}

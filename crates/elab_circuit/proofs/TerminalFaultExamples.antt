@@ -6,9 +6,9 @@ use Rattle.sg_logic.specs.declared.values.Value.TheVariants.{Zero, One}
 use Rattle.vl_tree.specs.Tree.{MinTypMax, one_number, three_numbers, Source}
 use Rattle.elab_model.specs.declared.kinds.ElabKind.TheVariants.{UnknownName, WidthMismatch, SecondDriver, BadTerminal, BadDelay}
 use Rattle.elab_model.specs.Faults.{fault}
-use Rattle.elab_model.specs.HierarchyFaults.{faults}
-use Rattle.elab_model.proofs.Writing.{here, name, use_of, bit_of, constant_of, braces, range, net_name, wire_item, reg_item, assign_item, gate_with, gate_item, whole_number}
-use Rattle.elab_model.proofs.NameFaultExamples.{alone}
+use Rattle.elab_circuit.specs.Faults.{faults}
+use Rattle.elab_circuit.proofs.Writing.{here, name, use_of, bit_of, constant_of, braces, range, net_name, wire_item, reg_item, assign_item, gate_with, gate_item, whole_number}
+use Rattle.elab_circuit.proofs.NameFaultExamples.{alone}
 
 -- wire [1:0] v; buf (y, v); buf (y[3], 1'b0); buf (1'b1, n[0]);
 several : faults (alone (wire_item (range (pos 1) (pos 0)) (net_name (name (codes "v") 40) None ∷ [])

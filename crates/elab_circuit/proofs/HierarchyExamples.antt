@@ -9,10 +9,10 @@ use Rattle.sg_logic.specs.declared.gates.GateKind.TheVariants.{And}
 use Rattle.sg_logic.specs.declared.values.Value.TheVariants.{One}
 use Rattle.vl_tree.specs.declared.names.Direction.TheVariants.{Input, Output}
 use Rattle.vl_tree.specs.Tree.{Connections, by_order, one_number, by_name, Module, a_module, Source}
-use Rattle.elab_model.specs.Circuits.{circuit}
+use Rattle.elab_circuit.specs.Circuits.{circuit}
 use Rattle.elab_model.specs.Elements.{leg_kind}
-use Rattle.elab_model.specs.HierarchyFaults.{faults}
-use Rattle.elab_model.proofs.Writing.{here, name, use_of, bit_of, constant_of, range, port_item, gate_with, gate_item, instance_item, in_order_of, to_port, plainly, as_cell, module_as, listing, net, element, variable, vector, scope}
+use Rattle.elab_circuit.specs.Faults.{faults}
+use Rattle.elab_circuit.proofs.Writing.{here, name, use_of, bit_of, constant_of, range, port_item, gate_with, gate_item, instance_item, in_order_of, to_port, plainly, as_cell, module_as, listing, net, element, variable, vector, scope}
 
 -- a cell: module c (Y, A, B); output Y; input A, B; and (Y, A, B); endmodule
 abbrev pub cell : Module

@@ -6,13 +6,14 @@ use Rattle.sg_logic.specs.declared.values.Value.TheVariants.{Zero}
 use Rattle.vl_tree.specs.Tree.{one_number, by_order, by_name, Item, instances, Module, a_module, Source}
 use Rattle.elab_model.specs.declared.kinds.ElabKind.TheVariants.{UnknownModule, DuplicateName, UnknownName, WidthMismatch, SecondDriver, SelfInstance, NoTop, SeveralTops, BadTerminal, TooDeep, BadDelay, NotYet}
 use Rattle.elab_model.specs.Faults.{fault}
-use Rattle.elab_model.specs.HierarchyFaults.{faults, start}
-use Rattle.elab_model.proofs.Writing.{port_item, listing, range, wire_item, net_name, reg_item, as_cell, here, name, use_of, constant_of, instance_item, block_item, in_order_of, to_port, whole_number, plainly, module_as}
+use Rattle.elab_circuit.specs.Faults.{faults}
+use Rattle.elab_model.specs.HierarchyFaults.{start}
+use Rattle.elab_circuit.proofs.Writing.{port_item, listing, range, wire_item, net_name, reg_item, as_cell, here, name, use_of, constant_of, instance_item, block_item, in_order_of, to_port, whole_number, plainly, module_as}
 use Rattle.elab_model.specs.Hierarchy.{Instance, top_instance}
 use Rattle.elab_model.specs.HierarchyFaults.{self_instances, too_deep}
-use Rattle.elab_model.proofs.GateExamples.{inverter}
-use Rattle.elab_model.proofs.HierarchyExamples.{cell}
-use Rattle.elab_model.proofs.NameFaultExamples.{with_items, alone}
+use Rattle.elab_circuit.proofs.GateExamples.{inverter}
+use Rattle.elab_circuit.proofs.HierarchyExamples.{cell}
+use Rattle.elab_circuit.proofs.NameFaultExamples.{with_items, alone}
 
 -- NOPE u ();
 unknown_module : faults (alone (instance_item (codes "NOPE") 61 (codes "u") (by_order []) ∷ [])) None Typ ≡ fault UnknownModule (here 61) ∷ []

@@ -8,11 +8,11 @@ use Rattle.sg_logic.specs.declared.values.Value.TheVariants.{Zero, One}
 use Rattle.vl_tree.specs.declared.names.Direction.TheVariants.{Output}
 use Rattle.vl_tree.specs.declared.names.Supply.TheVariants as level
 use Rattle.vl_tree.specs.Tree.{supplies, Module, a_module}
-use Rattle.elab_model.specs.Circuits.{circuit}
+use Rattle.elab_circuit.specs.Circuits.{circuit}
 use Rattle.elab_model.specs.Elements.{leg_kind}
-use Rattle.elab_model.specs.HierarchyFaults.{faults}
-use Rattle.elab_model.proofs.Writing.{here, name, use_of, bit_of, constant_of, braces, range, port_item, net_name, wire_item, reg_item, assign_item, instance_item, in_order_of, plainly, module_as, listing, net, element}
-use Rattle.elab_model.proofs.HierarchyExamples.{cell, middle}
+use Rattle.elab_circuit.specs.Faults.{faults}
+use Rattle.elab_circuit.proofs.Writing.{here, name, use_of, bit_of, constant_of, braces, range, port_item, net_name, wire_item, reg_item, assign_item, instance_item, in_order_of, plainly, module_as, listing, net, element}
+use Rattle.elab_circuit.proofs.HierarchyExamples.{cell, middle}
 
 -- module s (q); output [1:0] q; supply1 v; wire n = 1'b0; reg r; assign {q[0], q[1]} = {v, n}; m i (w, 1'b1); endmodule
 abbrev pub sources : Module

@@ -6,10 +6,10 @@ use Rattle.sg_circuit.specs.declared.scopes.Port.TheVariants as port
 use Rattle.sg_delay.specs.declared.corners.Corner.TheVariants.{Typ}
 use Rattle.vl_tree.specs.declared.names.Direction.TheVariants.{Input, Output}
 use Rattle.vl_tree.specs.Tree.{declared_port, named_port, head_declarations, Module, a_module}
-use Rattle.elab_model.specs.Circuits.{circuit}
+use Rattle.elab_circuit.specs.Circuits.{circuit}
 use Rattle.elab_model.specs.Elements.{leg_kind}
-use Rattle.elab_model.specs.HierarchyFaults.{faults}
-use Rattle.elab_model.proofs.Writing.{name, use_of, part_of, braces, range, assign_item, instance_item, in_order_of, plainly, module_as, declared, net, element, variable, vector, scope}
+use Rattle.elab_circuit.specs.Faults.{faults}
+use Rattle.elab_circuit.proofs.Writing.{name, use_of, part_of, braces, range, assign_item, instance_item, in_order_of, plainly, module_as, declared, net, element, variable, vector, scope}
 
 -- module v (input [0:1] a, b, output [1:0] y); assign y = a[1:0]; e k ({z, w}, b); endmodule
 -- module e (output [5:4] o, input [1:0] i); endmodule

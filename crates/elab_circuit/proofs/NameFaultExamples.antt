@@ -6,8 +6,8 @@ use Rattle.vl_tree.specs.declared.names.Direction.TheVariants.{Input, Output}
 use Rattle.vl_tree.specs.Tree.{Item, gates, Module, a_module, Source}
 use Rattle.elab_model.specs.declared.kinds.ElabKind.TheVariants.{DuplicateName, UnknownName, WidthMismatch, BadTerminal, TooMany, NotYet}
 use Rattle.elab_model.specs.Faults.{fault}
-use Rattle.elab_model.specs.HierarchyFaults.{faults}
-use Rattle.elab_model.proofs.Writing.{here, name, use_of, range, port_item, net_name, wire_item, gate_item, block_item, plainly, none_implicit, module_as, listing}
+use Rattle.elab_circuit.specs.Faults.{faults}
+use Rattle.elab_circuit.proofs.Writing.{here, name, use_of, range, port_item, net_name, wire_item, gate_item, block_item, plainly, none_implicit, module_as, listing}
 use Rattle.elab_model.specs.NameFaults.{declaration_faults}
 
 -- module t (a, y); input a; output y; .. endmodule

@@ -8,9 +8,9 @@ use Rattle.sg_logic.specs.declared.gates.GateKind.TheVariants.{And, Buf, Not}
 use Rattle.sg_logic.specs.declared.values.Value.TheVariants.{Zero, One}
 use Rattle.vl_tree.specs.declared.names.Direction.TheVariants.{Input, Output}
 use Rattle.vl_tree.specs.Tree.{one_number, three_numbers, Module, a_module}
-use Rattle.elab_model.specs.Circuits.{circuit}
-use Rattle.elab_model.specs.HierarchyFaults.{faults}
-use Rattle.elab_model.proofs.Writing.{here, name, use_of, constant_of, port_item, gate_with, gate_item, whole_number, plainly, module_as, listing, net, element, variable, scope}
+use Rattle.elab_circuit.specs.Circuits.{circuit}
+use Rattle.elab_circuit.specs.Faults.{faults}
+use Rattle.elab_circuit.proofs.Writing.{here, name, use_of, constant_of, port_item, gate_with, gate_item, whole_number, plainly, module_as, listing, net, element, variable, scope}
 
 -- module t (a, y); input a; output y; not (y, a); endmodule
 abbrev pub inverter : Module

@@ -1,5 +1,5 @@
 -- Elaboration: the circuit of a netlist where no fault stands, and else a fault that stands.
-use Rattle.std.specs.Prelude.{◌≡◌, ℕ, List, [], Option, None, Result, Ok, Err, filter_map, flat_map}
+use Rattle.std.specs.Prelude.{◌≡◌, ℕ, List, Option, Result, Ok, Err}
 use Rattle.std.specs.List.{IsAmong}
 use Rattle.sg_circuit.specs.Circuit.{Circuit}
 use Rattle.sg_delay.specs.declared.corners.Corner.{Corner}
@@ -10,25 +10,11 @@ use Rattle.udp_rows.specs.declared.faults.UdpKind.{UdpKind}
 use Rattle.vl_tree.specs.Tree.{Primitive, Module, Source}
 use Rattle.elab_model.specs.declared.kinds.ElabKind.{ElabKind}
 use Rattle.elab_model.specs.declared.kinds.ElabKind.TheVariants.{Udp}
-use Rattle.elab_model.specs.Members.{Member, assignment, supply, gate, instance, members}
-use Rattle.elab_model.specs.Definitions.{primitive_of}
-use Rattle.elab_model.specs.Hierarchy.{instances}
-use Rattle.elab_model.specs.Circuits.{circuit}
 use Rattle.elab_model.specs.Tops.{top_of}
-use Rattle.elab_model.specs.PrimitiveFaults.{TableFault}
-use Rattle.elab_model.specs.HierarchyFaults.{faults}
+use Rattle.elab_model.specs.PrimitiveFaults.{TableFault, primitives}
 use Rattle.elab_model.specs.Faults.{Fault}
-
--- the primitives that a member is an instance of, and all that a top reaches
-abbrev pub member_primitive : Source → Member → Option Primitive
-member_primitive source (assignment j) = None
-member_primitive source (supply n v) = None
-member_primitive source (gate g d i) = None
-member_primitive source (instance n d i) = primitive_of source n.text
-
-abbrev pub primitives : Source → Result Module ElabKind → List Primitive
-primitives source (Err k) = []
-primitives source (Ok top) = flat_map (λ s. filter_map (member_primitive source) (members s.step.definition)) (instances source top)
+use Rattle.elab_circuit.specs.Circuits.{circuit}
+use Rattle.elab_circuit.specs.Faults.{faults}
 
 -- a fault of a kind stands at a place; several may stand
 pub data FaultStands (source : Source) (name : Option (List ℕ)) (corner : Corner) : ElabKind → Place → Type 0 where

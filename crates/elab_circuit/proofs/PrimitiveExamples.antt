@@ -7,15 +7,15 @@ use Rattle.sg_logic.specs.declared.values.Value.TheVariants.{Zero, One}
 use Rattle.vl_tree.specs.declared.names.Direction.TheVariants.{Output}
 use Rattle.vl_tree.specs.Tree.{one_number, Connections, by_order, by_name, instances, Module, a_module, a_primitive, output_port, output_register, input_ports, Primitive}
 use Rattle.elab_model.specs.declared.kinds.ElabKind.TheVariants.{BadTerminal, Udp as Table}
-use Rattle.elab_model.specs.Circuits.{circuit}
+use Rattle.elab_circuit.specs.Circuits.{circuit}
 use Rattle.elab_model.specs.Faults.{fault}
-use Rattle.elab_model.specs.HierarchyFaults.{faults}
-use Rattle.elab_model.proofs.Writing.{here, name, use_of, constant_of, port_item, instance_item, in_order_of, to_port, whole_number, plainly, module_as, listing, net, element}
+use Rattle.elab_circuit.specs.Faults.{faults}
+use Rattle.elab_circuit.proofs.Writing.{here, name, use_of, constant_of, port_item, instance_item, in_order_of, to_port, whole_number, plainly, module_as, listing, net, element}
 use Rattle.std.proofs.Common.{arith}
 use Rattle.udp_rows.specs.declared.cells.Cell.{Cell}
 use Rattle.udp_rows.specs.declared.cells.RawRow.{RawRow}
 use Rattle.udp_rows.specs.declared.faults.UdpKind.TheVariants.{BadSymbol}
-use Rattle.elab_model.specs.Elaboration.{FaultStands, in_table}
+use Rattle.elab_circuit.specs.Elaboration.{FaultStands, in_table}
 
 abbrev pub symbol : ℕ → Cell
 symbol s = record { first = s; second = 0 }
