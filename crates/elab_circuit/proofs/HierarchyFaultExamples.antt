@@ -4,11 +4,11 @@ use Rattle.vl_tree.specs.declared.names.Direction.TheVariants.{Input, Output}
 use Rattle.sg_delay.specs.declared.corners.Corner.TheVariants.{Typ}
 use Rattle.sg_logic.specs.declared.values.Value.TheVariants.{Zero}
 use Rattle.vl_tree.specs.Tree.{one_number, by_order, by_name, Item, instances, Module, a_module, Source}
-use Rattle.elab_model.specs.declared.kinds.ElabKind.TheVariants.{UnknownModule, DuplicateName, UnknownName, WidthMismatch, SecondDriver, SelfInstance, NoTop, SeveralTops, BadTerminal, TooDeep, BadDelay, NotYet}
+use Rattle.elab_model.specs.declared.kinds.ElabKind.TheVariants.{UnknownModule, DuplicateName, UnknownName, WidthMismatch, SecondDriver, SelfInstance, NoTop, SeveralTops, SpecifyInHierarchy, BadTerminal, TooDeep, BadDelay, NotYet}
 use Rattle.elab_model.specs.Faults.{fault}
 use Rattle.elab_circuit.specs.Faults.{faults}
 use Rattle.elab_model.specs.HierarchyFaults.{start}
-use Rattle.elab_circuit.proofs.Writing.{port_item, listing, range, wire_item, net_name, reg_item, as_cell, here, name, use_of, constant_of, instance_item, block_item, in_order_of, to_port, whole_number, plainly, module_as}
+use Rattle.elab_circuit.proofs.Writing.{port_item, listing, range, wire_item, net_name, reg_item, as_cell, here, name, use_of, constant_of, instance_item, term, width_item, block_item, in_order_of, to_port, whole_number, plainly, module_as}
 use Rattle.elab_model.specs.Hierarchy.{Instance, top_instance}
 use Rattle.elab_model.specs.HierarchyFaults.{self_instances, too_deep}
 use Rattle.elab_circuit.proofs.GateExamples.{inverter}
@@ -46,9 +46,9 @@ delayed_module = refl
 unnamed_module : faults (with_cell (instances (name (codes "c") 60) None (record { place = here 62; name = None; connections = by_order [] } ∷ []) ∷ [])) None Typ ≡ fault BadTerminal (here 62) ∷ []
 unnamed_module = refl
 
--- a specify block in the cell, which is reached by an instance, or isn't
+-- a timing check in the cell, which is reached by an instance, or isn't
 abbrev pub cell_with_block : Module
-cell_with_block = module_as as_cell (codes "c") 90 None (block_item 95 ∷ [])
+cell_with_block = module_as as_cell (codes "c") 90 None (block_item 94 (width_item 95 (term (codes "w") 96) 1 ∷ []) ∷ [])
 
 reached_block : faults (a_module cell_with_block ∷ a_module (with_items (instance_item (codes "c") 61 (codes "u") (by_order []) ∷ [])) ∷ []) None Typ ≡ fault NotYet (here 95) ∷ []
 reached_block = refl
@@ -123,3 +123,7 @@ reg_cell =
 
 leaf_reg : faults (a_module reg_cell ∷ a_module (with_items (instance_item (codes "r") 61 (codes "u") (in_order_of (use_of (codes "y") 62 ∷ use_of (codes "a") 63 ∷ [])) ∷ [])) ∷ []) None Typ ≡ fault BadTerminal (here 61) ∷ []
 leaf_reg = refl
+
+-- a specify block and an instance of a module in one module: the place is the block's
+block_beside_instance : faults (with_cell (block_item 50 [] ∷ instance_item (codes "c") 61 (codes "u") (by_order []) ∷ [])) None Typ ≡ fault SpecifyInHierarchy (here 50) ∷ []
+block_beside_instance = refl

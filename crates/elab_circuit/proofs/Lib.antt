@@ -8,3 +8,4 @@ mod PrimitiveExamples
 mod NameFaultExamples
 mod TerminalFaultExamples
 mod HierarchyFaultExamples
+mod PathExamples

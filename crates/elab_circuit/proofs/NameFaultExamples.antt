@@ -7,7 +7,7 @@ use Rattle.vl_tree.specs.Tree.{Item, gates, Module, a_module, Source}
 use Rattle.elab_model.specs.declared.kinds.ElabKind.TheVariants.{DuplicateName, UnknownName, WidthMismatch, BadTerminal, TooMany, NotYet}
 use Rattle.elab_model.specs.Faults.{fault}
 use Rattle.elab_circuit.specs.Faults.{faults}
-use Rattle.elab_circuit.proofs.Writing.{here, name, use_of, range, port_item, net_name, wire_item, gate_item, block_item, plainly, none_implicit, module_as, listing}
+use Rattle.elab_circuit.proofs.Writing.{here, name, use_of, range, port_item, net_name, wire_item, gate_item, term, width_item, block_item, plainly, none_implicit, module_as, listing}
 use Rattle.elab_model.specs.NameFaults.{declaration_faults}
 
 -- module t (a, y); input a; output y; .. endmodule
@@ -49,8 +49,8 @@ too_wide = refl
 widest : declaration_faults (with_items (wire_item (range (pos 65535) (pos 0)) (net_name (name (codes "v") 40) None ∷ []) ∷ [])) ≡ []
 widest = refl
 
--- specify endspecify, twice
-two_blocks : faults (alone (block_item 40 ∷ block_item 60 ∷ [])) None Typ ≡ fault NotYet (here 40) ∷ fault NotYet (here 60) ∷ []
+-- specify endspecify specify $width (posedge a, 1); endspecify
+two_blocks : faults (alone (block_item 40 [] ∷ block_item 60 (width_item 61 (term (codes "a") 62) 1 ∷ []) ∷ [])) None Typ ≡ fault NotYet (here 61) ∷ []
 two_blocks = refl
 
 -- buf (y, w); with no implicit nets, and with w declared

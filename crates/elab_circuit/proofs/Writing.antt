@@ -1,5 +1,6 @@
 -- Short words to write trees and circuits by hand: each takes the byte at which it stands.
 use Rattle.std.specs.Prelude.{ℕ, ℤ, pos, negsuc, List, [], ◌∷◌, Bool, true, false, Option, Some, None, map}
+use Rattle.cond_expr.specs.Token.{Tok}
 use Rattle.sg_circuit.specs.Circuit.{Kind, Element, Variable, Scope}
 use Rattle.sg_circuit.specs.declared.nets.Driver.{Driver}
 use Rattle.sg_circuit.specs.declared.nets.Net.{Net}
@@ -13,7 +14,8 @@ use Rattle.vl_tree.specs.declared.expressions.Select.TheVariants as select
 use Rattle.vl_tree.specs.declared.names.Direction.{Direction}
 use Rattle.vl_tree.specs.declared.names.NetType.TheVariants.{Wire}
 use Rattle.vl_tree.specs.declared.names.Range as written
-use Rattle.vl_tree.specs.Tree.{Named, Expression, signal, sized, concatenation, expressions, Delay, NetName, NamedConnection, Connections, by_order, Item, ports, nets, registers, assigns, gates, instances, specify_block, PortDeclaration, Head, head_names, Module}
+use Rattle.vl_tree.specs.declared.paths.Arrow.{Arrow}
+use Rattle.vl_tree.specs.Tree.{Named, Expression, signal, sized, concatenation, expressions, Delay, NetName, NamedConnection, Connections, by_order, Item, ports, nets, registers, assigns, gates, instances, Term, Word, Amounts, one_amount, a_number, one_limit, PathCondition, posedge, width_check, SpecifyItem, a_path, a_check, specify_block, PortDeclaration, Head, head_names, Module}
 
 abbrev pub here : ℕ → Place
 here n = record { file = 0; byte = n }
@@ -69,18 +71,45 @@ gate_item g n es = gate_with g None n es
 abbrev pub instance_item : List ℕ → ℕ → List ℕ → Connections → Item
 instance_item m n i cs = instances (name m n) None (record { place = here n; name = Some (name i n); connections = cs } ∷ [])
 
--- a specify block with no items
-abbrev pub block_item : ℕ → Item
-block_item n = specify_block (record { place = here n; items = [] })
+abbrev pub whole_number : ℕ → Number
+whole_number n = record { negative = false; digits = n; exponent = pos 0 }
+
+-- specify blocks
+
+abbrev pub block_item : ℕ → List SpecifyItem → Item
+block_item n is = specify_block (record { place = here n; items = is })
+
+abbrev pub term : List ℕ → ℕ → Term
+term t n = record { name = name t n; select = None }
+
+abbrev pub word : ℕ → Tok → Word
+word n t = record { place = here n; token = t }
+
+abbrev pub amount : ℕ → ℕ → Amounts
+amount n at = one_amount (a_number (here at) (whole_number n))
+
+-- a path with one delay
+abbrev pub path_item : ℕ → PathCondition → Term → Arrow → Term → ℕ → SpecifyItem
+path_item n c i arrow o delay = a_path (record {
+  place = here n;
+  condition = c;
+  edge = None;
+  sources = i ∷ [];
+  polarity = None;
+  arrow = arrow;
+  destination = record { terms = o ∷ []; source = None };
+  delays = amount delay n ∷ [];
+})
+
+-- $width (t, l);
+abbrev pub width_item : ℕ → Term → ℕ → SpecifyItem
+width_item n t l = a_check (width_check (here n) (record { place = here n; edge = Some posedge; term = t; condition = None }) (one_limit (record { negative = false; amount = a_number (here n) (whole_number l) })) None None)
 
 abbrev pub in_order_of : List Expression → Connections
 in_order_of es = by_order (map (λ e. Some e) es)
 
 abbrev pub to_port : List ℕ → ℕ → Option Expression → NamedConnection
 to_port p n e = record { place = here n; port = name p n; value = e }
-
-abbrev pub whole_number : ℕ → Number
-whole_number n = record { negative = false; digits = n; exponent = pos 0 }
 
 -- modules: in nanoseconds, no cells, with implicit nets
 

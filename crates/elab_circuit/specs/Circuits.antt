@@ -1,30 +1,48 @@
 -- The circuit of a netlist below a top.
-use Rattle.std.specs.Prelude.{ℕ, List, [], length, map, zip}
-use Rattle.sg_circuit.specs.Circuit.{Element, Circuit}
+use Rattle.std.specs.Prelude.{ℕ, ◌+◌, List, [], ◌++◌, Bool, if◌then◌else◌, length, map, zip}
+use Rattle.std.specs.List.{list_any}
+use Rattle.sg_circuit.specs.Circuit.{Circuit}
 use Rattle.sg_circuit.specs.declared.nets.Driver.{Driver}
 use Rattle.sg_circuit.specs.declared.nets.Net.{Net}
 use Rattle.sg_delay.specs.declared.corners.Corner.{Corner}
 use Rattle.sg_text.specs.declared.places.Place.{Place}
 use Rattle.vl_tree.specs.Tree.{Module, Source}
 use Rattle.elab_model.specs.Delays.{tick_of}
-use Rattle.elab_model.specs.Drivers.{Drive, stimulus_drives, check_drives}
+use Rattle.elab_model.specs.Drivers.{elements, Drive, stimulus_drives, check_drives}
+use Rattle.elab_model.specs.Elements.{Component}
 use Rattle.elab_model.specs.Hierarchy.{instances}
+use Rattle.elab_model.specs.Homes.{Spot, is_same_spot}
 use Rattle.elab_model.specs.Nets.{OwnNet, nets, number_of}
+use Rattle.elab_model.specs.Numbered.{element_of}
 use Rattle.elab_model.specs.Scopes.{scope_of}
-use Rattle.elab_circuit.specs.WithPaths.{all_nets, all_elements}
+use Rattle.elab_circuit.specs.PathUses.{PathUse, path_uses}
+use Rattle.elab_circuit.specs.WithPaths.{redirected, all_nets, all_elements}
 use Rattle.elab_circuit.specs.Driving.{Driving, drivers}
 
 -- what drives nets, by their numbers
 abbrev pub input_at : List OwnNet → Drive → Place × ℕ
 input_at all d = (d.place, number_of all d.spot)
 
-abbrev pub output_at : Place × Element → Place × ℕ
-output_at e = (e.0, e.1.output)
+-- what an element drives may be no net, as a bit of what isn't declared: it then has a number past all nets
+abbrev pub is_net : List OwnNet → Spot → Bool
+is_net all spot = list_any (λ o. is_same_spot spot o.spot) all
+
+abbrev pub output_at : List OwnNet → List PathUse → Component → Place × ℕ
+output_at all uses c =
+    (c.place, if is_net all c.output then (redirected (length all) uses (element_of all c)).output else (length all + length uses))
+
+abbrev pub path_output : PathUse → Place × ℕ
+path_output u = (u.place, u.output)
+
+abbrev pub outputs : Source → Module → Corner → List (Place × ℕ)
+outputs source top corner =
+    let uses = path_uses source top corner in
+    map (output_at (nets source top) uses) (elements source top corner) ++ map path_output uses
 
 abbrev pub driving : Source → Module → Corner → Driving
 driving source top corner = record {
   inputs = map (input_at (nets source top)) (stimulus_drives source top);
-  outputs = map output_at (all_elements source top corner);
+  outputs = outputs source top corner;
   regs = map (λ d. number_of (nets source top) d.spot) (check_drives source top);
 }
 
