@@ -114,8 +114,11 @@ abbrev pub check_of : SpecifyItem → Option Check
 check_of (a_check c) = Some c
 check_of _ = None
 
+abbrev pub check_places : List SpecifyItem → List Place
+check_places items = map check_place (filter_map check_of items)
+
 abbrev pub block_faults : List Item → List Fault
-block_faults items = flat_map (λ b. map (λ c. fault NotYet (check_place c)) (filter_map check_of b.items)) (filter_map block_of items)
+block_faults items = map (fault NotYet) (flat_map (λ b. check_places b.items) (filter_map block_of items))
 
 abbrev pub not_yet : Module → List Fault
 not_yet m = block_faults m.items
