@@ -44,8 +44,11 @@ abbrev pub is_port : List Variable → List ℕ → Bool
 is_port vs n = found_port (variable_named vs n)
 
 -- the ports that a name says: the first $ whose two sides are ports divides them
+abbrev pub are_ports : List Variable → List ℕ × List ℕ → Bool
+are_ports vs c = is_port vs c.0 && is_port vs c.1
+
 abbrev pub named_ends : List Variable → Pulse → Option (List ℕ × List ℕ)
-named_ends vs p = find (λ c. is_port vs c.0 && is_port vs c.1) (cuts (ends_text p))
+named_ends vs p = find (are_ports vs) (cuts (ends_text p))
 
 abbrev pub are_ends : List ℕ → List ℕ → Option (List ℕ × List ℕ) → Bool
 are_ends i o None = false

@@ -7,8 +7,9 @@ ghost use Rattle.specify_model.specs.Values as def;
 ghost use Rattle.specify_values.specs.Seen.{measured, values_of};
 ghost use Rattle.specify_values.specs.Telling.{Tells};
 
-use crate::measures::{Measure, ticks};
+use crate::measures::Measure;
 use crate::parameters::Parameters;
+use crate::ticks::ticks;
 use elab_model::ElabKind;
 use sg_delay::Corner;
 use sg_text::{Place, Refused};

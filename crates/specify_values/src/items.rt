@@ -1,50 +1,33 @@
-// The items of a module's specify blocks.
-ghost use Rattle.std.specs.Prelude.{◌≡◌, ◌++◌, IfOk, OnOk, map};
-ghost use Rattle.vl_tree.specs.Seen.{view_item, view_module, view_specify_item};
-ghost use Rattle.specify_model.specs.Blocks as def;
-ghost use Rattle.specify_values.specs.Seen.{view_items};
+// What stands in a module's specify blocks.
+use vl_tree::{MinTypMax, Name, PulseStyle, SpecifyPath, Term};
 
-use sg_text::NoMemory;
-use std::alloc::Global;
-use vl_tree::{Item, Module, SpecifyItem};
-
-/// The items of all specify blocks of a module (IEEE 1364-2005, 14.1), in text order. Takes memory in proportion to them.
-pub fn specify_items<'t, 'a>(
-    alloc: Global,
-    definition: &'t Module<'a>,
-) -> Result<Vec<&'t SpecifyItem<'a>>, NoMemory>
-    ensures { IfOk result (λ list. view_items list.items ≡ def.specify_items (view_module definition.now)) }
-{
-    let mut list = Vec::new(alloc);
-    for item in &definition.items {
-        add_item(item, &mut list)?;
-    }
-    Ok(list)
+/// A specparam with a value (IEEE 1364-2005, 4.10.3).
+#[derive(Clone, Copy, Debug, PartialEq)]
+pub struct Parameter<'a> {
+    pub name: Name<'a>,
+    pub value: MinTypMax,
 }
 
-fn add_item<'t, 'a>(item: &'t Item<'a>, list: &mut Vec<&'t SpecifyItem<'a>>) -> Result<(), NoMemory>
-    ensures { OnOk result (view_items list.new.items ≡ view_items list.old.items ++ def.items_of_item (view_item item.now)) }
-{
-    match item {
-        Item::Specify(block) => add_all(&block.items, list),
-        Item::Ports { .. } => Ok(()),
-        Item::Nets { .. } => Ok(()),
-        Item::Supplies { .. } => Ok(()),
-        Item::Registers { .. } => Ok(()),
-        Item::Assigns { .. } => Ok(()),
-        Item::Gates { .. } => Ok(()),
-        Item::Instances { .. } => Ok(()),
-    }
+/// Limits of pulses, as a specparam gives them (IEEE 1364-2005, 14.6.1).
+#[derive(Clone, Copy, Debug, PartialEq)]
+pub struct Pulse<'a> {
+    pub name: Name<'a>,
+    pub reject: MinTypMax,
+    pub error: Option<MinTypMax>,
 }
 
-fn add_all<'t, 'a>(
-    items: &'t [SpecifyItem<'a>],
-    list: &mut Vec<&'t SpecifyItem<'a>>,
-) -> Result<(), NoMemory>
-    ensures { OnOk result (view_items list.new.items ≡ view_items list.old.items ++ map view_specify_item items.now) }
-{
-    for item in items {
-        list.push(item)?;
-    }
-    Ok(())
+/// A choice of pulse style for terms (IEEE 1364-2005, 14.6.4).
+#[derive(Clone, Copy, Debug)]
+pub struct StyleText<'t, 'a> {
+    pub style: PulseStyle,
+    pub terms: &'t [Term<'a>],
+}
+
+/// What stands in the specify blocks of a module, but for timing checks; each list is in text order (IEEE 1364-2005, 14.1).
+#[derive(Drop)]
+pub struct BlockItems<'t, 'a> {
+    pub parameters: Vec<Parameter<'a>>,
+    pub pulses: Vec<Pulse<'a>>,
+    pub paths: Vec<&'t SpecifyPath<'a>>,
+    pub styles: Vec<StyleText<'t, 'a>>,
 }

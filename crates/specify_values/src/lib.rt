@@ -3,14 +3,17 @@
 
 mod amounts;
 mod delays;
+mod gathering;
 mod items;
 mod limits;
 mod measures;
 mod parameters;
 mod pulses;
+mod ticks;
 
 pub use delays::path_delays;
-pub use items::specify_items;
+pub use gathering::block_items;
+pub use items::{BlockItems, Parameter, Pulse, StyleText};
 pub use limits::{PulseLimits, pulse_limits};
 pub use measures::Measure;
-pub use parameters::{Parameters, parameters};
+pub use parameters::{Parameters, specparams};

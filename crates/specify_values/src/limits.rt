@@ -1,21 +1,20 @@
 // The limits of the pulses of paths.
-ghost use Rattle.std.specs.Prelude.{◌≡◌, IfOk, OnOk, flat_map};
+ghost use Rattle.std.specs.Prelude.{◌≡◌, IfOk, OnOk, flat_map, map};
 ghost use Rattle.std.specs.Option.{option_map};
-ghost use Rattle.specify_model.specs.Blocks as def;
 ghost use Rattle.specify_model.specs.Faults.{pulse_faults};
 ghost use Rattle.specify_model.specs.PulseLimits.{limits_of};
-ghost use Rattle.specify_values.specs.Seen.{IsAdded, view_items, view_pulse, measured, widths_seen, limits_seen};
+ghost use Rattle.specify_values.specs.Seen.{IsAdded, view_pulse, measured, widths_seen, limits_seen};
 ghost use Rattle.specify_values.specs.Telling.{Tells};
 
+use crate::items::Pulse;
 use crate::measures::Measure;
-use crate::pulses::{Pulse, ends_text, named_ends, pulse_list, widths_of};
+use crate::pulses::{ends_text, named_ends, widths_of};
 use elab_model::ElabKind;
 use elab_tables::Table;
 use indexmap::IndexMap;
 use sg_delay::Widths;
 use sg_text::Refused;
 use std::alloc::Global;
-use vl_tree::SpecifyItem;
 
 /// The limits that specparams give to the pulses of a module's paths, by the ports from which and to which these lead.
 #[derive(Debug, Drop)]
@@ -36,23 +35,22 @@ impl<'a> PulseLimits<'a> {
     }
 }
 
-/// The pulse limits among items (IEEE 1364-2005, 14.6.1). Refuses a name that says no two ports (UnknownName), limits of 2^60 ticks and more, and a reject limit above the
-/// error limit (BadDelay), each at the name. Takes memory in proportion to the items.
+/// Pulse limits by the ports that their names say (IEEE 1364-2005, 14.6.1). Refuses a name that says no two ports (UnknownName), limits of 2^60 ticks and more, and a reject limit above the
+/// error limit (BadDelay), each at the name. Takes memory in proportion to the list.
 pub fn pulse_limits<'a>(
     alloc: Global,
     by: Measure,
     table: &Table,
-    items: &[&SpecifyItem<'a>],
+    list: &[Pulse<'a>],
 ) -> Result<PulseLimits<'a>, Refused<ElabKind>>
-    ensures limits { IfOk result (λ l. limits_seen l ≡ limits_of (measured by) table.now (def.pulses (view_items items.now))) }
-    ensures told { Tells (flat_map (pulse_faults (measured by) table.now) (def.pulses (view_items items.now))) result }
+    ensures limits { IfOk result (λ l. limits_seen l ≡ limits_of (measured by) table.now (map view_pulse list.now)) }
+    ensures told { Tells (flat_map (pulse_faults (measured by) table.now) (map view_pulse list.now)) result }
 {
-    let list = pulse_list(alloc, items)?;
     let mut limits = PulseLimits {
         named: IndexMap::new(alloc),
         others: None,
     };
-    for pulse in &list {
+    for pulse in list {
         add_pulse(by, table, *pulse, &mut limits)?;
     }
     Ok(limits)

@@ -1,26 +1,19 @@
 // Specparams with values.
-ghost use Rattle.std.specs.Prelude.{◌≡◌, ◌++◌, [], OnOk, IfOk, IfErr, map, filter_map};
+ghost use Rattle.std.specs.Prelude.{◌≡◌, [], OnOk, IfOk, IfErr, map};
 ghost use Rattle.std.specs.Option.{option_map};
-ghost use Rattle.vl_tree.specs.Seen.{view_mtm, view_name, view_specparam, view_specify_item};
+ghost use Rattle.vl_tree.specs.Seen.{view_mtm, view_name};
 ghost use Rattle.elab_model.specs.Faults.{RefusesOneOf};
-ghost use Rattle.specify_model.specs.Blocks as def;
 ghost use Rattle.specify_model.specs.Faults.{parameter_faults};
 ghost use Rattle.specify_model.specs.Values.{value_of};
-ghost use Rattle.specify_values.specs.Seen.{view_items, view_parameter, named_in, one_more, values_of};
+ghost use Rattle.specify_values.specs.Seen.{view_parameter, named_in, one_more, values_of};
 
+use crate::items::Parameter;
 use elab_model::ElabKind;
 use elab_names::check_once;
 use indexmap::IndexMap;
 use sg_text::{NoMemory, Refused};
 use std::alloc::Global;
-use vl_tree::{MinTypMax, Name, SpecifyItem, Specparam};
-
-/// A specparam with a value (IEEE 1364-2005, 4.10.3).
-#[derive(Clone, Copy, Debug, PartialEq)]
-pub struct Parameter<'a> {
-    pub name: Name<'a>,
-    pub value: MinTypMax,
-}
+use vl_tree::{MinTypMax, Name};
 
 /// The values of a module's specparams, found by their names.
 #[derive(Debug, Drop)]
@@ -40,60 +33,18 @@ impl<'a> Parameters<'a> {
     }
 }
 
-/// The specparams with values among items. Refuses a second one of a name (DuplicateName, at the name). Takes memory in proportion to the items.
-pub fn parameters<'a>(
+/// Specparams with values, by their names. Refuses a second one of a name (DuplicateName, at the name). Takes memory in proportion to the list.
+pub fn specparams<'a>(
     alloc: Global,
-    items: &[&SpecifyItem<'a>],
+    list: &[Parameter<'a>],
 ) -> Result<Parameters<'a>, Refused<ElabKind>>
-    ensures values { IfOk result (λ p. values_of p ≡ value_of (def.parameters (view_items items.now))) }
-    ensures faultless { OnOk result (parameter_faults (def.parameters (view_items items.now)) ≡ []) }
-    ensures refused { IfErr result (RefusesOneOf (parameter_faults (def.parameters (view_items items.now)))) }
+    ensures values { IfOk result (λ p. values_of p ≡ value_of (map view_parameter list.now)) }
+    ensures faultless { OnOk result (parameter_faults (map view_parameter list.now) ≡ []) }
+    ensures refused { IfErr result (RefusesOneOf (parameter_faults (map view_parameter list.now))) }
 {
-    let list = parameter_list(alloc, items)?;
-    let names = names_of(alloc, &list)?;
+    let names = names_of(alloc, list)?;
     check_once(alloc, &names)?;
-    Ok(by_name(alloc, &list)?)
-}
-
-fn parameter_list<'a>(
-    alloc: Global,
-    items: &[&SpecifyItem<'a>],
-) -> Result<Vec<Parameter<'a>>, NoMemory>
-    ensures { IfOk result (λ list. map view_parameter list.items ≡ def.parameters (view_items items.now)) }
-{
-    let mut list = Vec::new(alloc);
-    for item in items {
-        add_item(item, &mut list)?;
-    }
-    Ok(list)
-}
-
-fn add_item<'a>(item: &SpecifyItem<'a>, list: &mut Vec<Parameter<'a>>) -> Result<(), NoMemory>
-    ensures { OnOk result (map view_parameter list.new.items ≡ map view_parameter list.old.items ++ filter_map def.parameter_of (def.specparams_of_item (view_specify_item item.now))) }
-{
-    match item {
-        SpecifyItem::Specparams { parameters, .. } => add_values(parameters, list),
-        SpecifyItem::Path(_) => Ok(()),
-        SpecifyItem::PulseStyle { .. } => Ok(()),
-        SpecifyItem::Check(_) => Ok(()),
-    }
-}
-
-fn add_values<'a>(
-    specparams: &[Specparam<'a>],
-    list: &mut Vec<Parameter<'a>>,
-) -> Result<(), NoMemory>
-    ensures { OnOk result (map view_parameter list.new.items ≡ map view_parameter list.old.items ++ filter_map def.parameter_of (map view_specparam specparams.now)) }
-{
-    for specparam in specparams {
-        if let Specparam::Value { name, value } = specparam {
-            list.push(Parameter {
-                name: *name,
-                value: *value,
-            })?;
-        }
-    }
-    Ok(())
+    Ok(by_name(alloc, list)?)
 }
 
 fn names_of<'a>(alloc: Global, list: &[Parameter<'a>]) -> Result<Vec<Name<'a>>, NoMemory>

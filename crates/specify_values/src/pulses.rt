@@ -1,72 +1,19 @@
 // Specparams of pulse limits.
-ghost use Rattle.std.specs.Prelude.{◌≡◌, ◌++◌, ◌&&◌, true, false, IfOk, OnOk, IfSome, IfNone, find, map, filter_map};
+ghost use Rattle.std.specs.Prelude.{◌≡◌, ◌<◌, true, false, length, IfSome, IfNone, find};
 ghost use Rattle.std.specs.Option.{OnSome, option_map};
-ghost use Rattle.vl_tree.specs.Seen.{view_specify_item, view_specparam};
-ghost use Rattle.specify_model.specs.Blocks as def;
 ghost use Rattle.specify_model.specs.Faults.{are_bad_limits};
 ghost use Rattle.specify_model.specs.PulseLimits as limits;
-ghost use Rattle.specify_values.specs.Seen.{ends_seen, view_items, view_pulse, measured, widths_seen};
+ghost use Rattle.specify_values.specs.Seen.{ends_seen, is_divided, view_pulse, measured, widths_seen};
 
-use crate::measures::{Measure, ticks};
+use crate::items::Pulse;
+use crate::measures::Measure;
+use crate::ticks::ticks;
 use elab_tables::Table;
 use sg_circuit::Port;
 use sg_delay::Widths;
-use sg_text::NoMemory;
-use std::alloc::Global;
-use vl_tree::{MinTypMax, Name, SpecifyItem, Specparam};
-
-/// Limits of pulses, as a specparam gives them (IEEE 1364-2005, 14.6.1).
-#[derive(Clone, Copy, Debug, PartialEq)]
-pub struct Pulse<'a> {
-    pub name: Name<'a>,
-    pub reject: MinTypMax,
-    pub error: Option<MinTypMax>,
-}
 
 // How many bytes PATHPULSE$ has.
 const FRONT: usize = 10;
-
-/// All of them, in text order. Takes memory.
-pub fn pulse_list<'a>(alloc: Global, items: &[&SpecifyItem<'a>]) -> Result<Vec<Pulse<'a>>, NoMemory>
-    ensures { IfOk result (λ list. map view_pulse list.items ≡ def.pulses (view_items items.now)) }
-{
-    let mut list = Vec::new(alloc);
-    for item in items {
-        add_item(item, &mut list)?;
-    }
-    Ok(list)
-}
-
-fn add_item<'a>(item: &SpecifyItem<'a>, list: &mut Vec<Pulse<'a>>) -> Result<(), NoMemory>
-    ensures { OnOk result (map view_pulse list.new.items ≡ map view_pulse list.old.items ++ filter_map def.pulse_of (def.specparams_of_item (view_specify_item item.now))) }
-{
-    match item {
-        SpecifyItem::Specparams { parameters, .. } => add_pulses(parameters, list),
-        SpecifyItem::Path(_) => Ok(()),
-        SpecifyItem::PulseStyle { .. } => Ok(()),
-        SpecifyItem::Check(_) => Ok(()),
-    }
-}
-
-fn add_pulses<'a>(specparams: &[Specparam<'a>], list: &mut Vec<Pulse<'a>>) -> Result<(), NoMemory>
-    ensures { OnOk result (map view_pulse list.new.items ≡ map view_pulse list.old.items ++ filter_map def.pulse_of (map view_specparam specparams.now)) }
-{
-    for specparam in specparams {
-        if let Specparam::PulseLimits {
-            name,
-            reject,
-            error,
-        } = specparam
-        {
-            list.push(Pulse {
-                name: *name,
-                reject: *reject,
-                error: *error,
-            })?;
-        }
-    }
-    Ok(())
-}
 
 /// What a name says behind PATHPULSE$.
 pub fn ends_text<'a>(pulse: Pulse<'a>) -> &'a [u8]
@@ -94,16 +41,22 @@ fn is_port(table: &Table, name: &[u8]) -> bool
     }
 }
 
+// Whether a $ stands at a place of a text, with a port at either side.
+fn divides(table: &Table, text: &[u8], at: usize) -> bool
+    requires { at < length text.now }
+    ensures { result ≡ is_divided table.now text.now at }
+{
+    text[at] == b'$' && is_port(table, &text[..at]) && is_port(table, &text[at + 1..])
+}
+
 /// The ports that a text says: what stands before and behind the first $ that has a port at either side.
 pub fn named_ends<'a>(table: &Table, text: &'a [u8]) -> Option<(&'a [u8], &'a [u8])>
-    ensures { option_map ends_seen result ≡ find (λ c. limits.is_port table.now c.0 && limits.is_port table.now c.1) (limits.cuts text.now) }
+    ensures { option_map ends_seen result ≡ find (limits.are_ports table.now) (limits.cuts text.now) }
 {
-    let mut at = 0;
-    while let Some(byte) = text.get(at) {
-        let front = &text[..at];
-        let back = &text[at + 1..];
-        if *byte == b'$' && is_port(table, front) && is_port(table, back) {
-            return Some((front, back));
+    let mut at: usize = 0;
+    while at < text.len() {
+        if divides(table, text, at) {
+            return Some((&text[..at], &text[at + 1..]));
         }
         at += 1;
     }
