@@ -57,11 +57,11 @@ list-is f a (suc n) (x ∷ xs) l h =
 -- what something else drives is no reg
 free-none : (k : ℕ) (ds : List NumberedDrive) (regs : List ℕ) → AllByRecursion (λ n. drivers_at n ds ≡ []) regs → has k regs ≡ true → drivers_at k ds ≡ []
 free-none k ds [] h e = cc
-free-none k ds (n ∷ regs) h e = by (n == k) refl e
+free-none k ds (n ∷ regs) h e = by (n == k) refl e (free-none k ds regs h.1)
   where
-    by : (b : Bool) → (n == k) ≡ b → (b || has k regs) ≡ true → drivers_at k ds ≡ []
-    by true t e = ap (λ j. drivers_at j ds) (sym (eqb-true n k t)) ∙ h.0
-    by false t e = free-none k ds regs h.1 e
+    by : (b : Bool) → (n == k) ≡ b → (b || has k regs) ≡ true → (has k regs ≡ true → drivers_at k ds ≡ []) → drivers_at k ds ≡ []
+    by true t e rest = ap (λ j. drivers_at j ds) (sym (eqb-true n k t)) ∙ h.0
+    by false t e rest = rest e
 
 unmapped : (ds : List NetDrive) → map (λ d. d.driver) ds ≡ [] → ds ≡ []
 unmapped [] e = refl
@@ -80,35 +80,47 @@ flat-none : {A B : Type 0} (f : A → List B) (xs : List A) → ((x : A) → f x
 flat-none f [] h = refl
 flat-none f (x ∷ xs) h = ap (λ ys. ys ++ flat_map f xs) (h x) ∙ flat-none f xs h
 
+-- what stands for the lists of numbers
+record Stands (count : ℕ) (inputs : List ℕ) (input_places : List Place) (outputs : List ℕ) (places : List Place) (regs : List ℕ) (before table : List Driver) : Type 0 where
+  input_places_are : length input_places ≡ length inputs
+  places_are : length places ≡ length outputs
+  nets_are : length table ≡ count
+  alone : StandsFor before (by_others inputs outputs)
+  driven : DrivesRegs table (by_others inputs outputs) regs
+
+those : (count : ℕ) (inputs : List ℕ) (input_places : List Place) (outputs : List ℕ) (places : List Place) (regs : List ℕ) (before table : List Driver) → Stands count inputs input_places outputs places regs before table
+    → (k : ℕ) → map (λ d. d.driver) (drives_of (all_drives inputs input_places outputs places) k) ≡ drivers_at k (by_others inputs outputs)
+those count inputs input_places outputs places regs before table s k =
+    drivers-only k (all_drives inputs input_places outputs places) ∙ ap (drivers_at k) (drives-only inputs input_places outputs places s.input_places_are s.places_are)
+
+table-there : (count : ℕ) (inputs : List ℕ) (input_places : List Place) (outputs : List ℕ) (places : List Place) (regs : List ℕ) (before table : List Driver) → Stands count inputs input_places outputs places regs before table
+    → (k : ℕ) → k < length table → slice_index_or table k Nobody ≡ driver_at (driving_of inputs input_places outputs places regs) k
+table-there count inputs input_places outputs places regs before table s k lt =
+    s.driven.first_is k lt
+    ∙ ap first_or_nobody (at-append k (by_others inputs outputs) (map by_checks regs))
+    ∙ ap (λ xs. first_or_nobody (xs ++ drivers_at k (map by_checks regs))) (sym (those count inputs input_places outputs places regs before table s k))
+    ∙ first-driver k regs (drives_of (all_drives inputs input_places outputs places) k)
+
+none-at : (count : ℕ) (inputs : List ℕ) (input_places : List Place) (outputs : List ℕ) (places : List Place) (regs : List ℕ) (before table : List Driver) → Stands count inputs input_places outputs places regs before table
+    → (k : ℕ) → faults_at (driving_of inputs input_places outputs places regs) k ≡ []
+none-at count inputs input_places outputs places regs before table s k =
+    let ds = drives_of (all_drives inputs input_places outputs places) k in
+    let e : map (λ d. d.driver) ds ≡ drivers_at k (by_others inputs outputs) = those count inputs input_places outputs places regs before table s k in
+    let few : length ds ≤ 1 = subst (λ n. n ≤ 1) (sym (ap length e) ∙ length-map ds (λ d. d.driver)) (s.alone.alone k) in
+    ap (λ xs. xs ++ reg_faults (has k regs) ds) (no-second ds few)
+    ∙ no-reg (has k regs) ds (λ t. unmapped ds (e ∙ free-none k (by_others inputs outputs) regs s.driven.free t))
+
+start : (i : ℕ) → i ≡ 0 + i
+start i = omega arith
+
 pub has-drivers : (count : ℕ) (inputs : List ℕ) (input_places : List Place) (outputs : List ℕ) (places : List Place) (regs : List ℕ) (before table : List Driver)
     → length input_places ≡ length inputs → length places ≡ length outputs → length table ≡ count
     → StandsFor before (by_others inputs outputs) → DrivesRegs table (by_others inputs outputs) regs
     → HasDrivers count (driving_of inputs input_places outputs places regs) table
-has-drivers count inputs input_places outputs places regs before table l m n s r = record {
-  table_is = list-is (driver_at d) 0 count table n (λ i lt. there i lt ∙ ap (driver_at d) (start i));
-  faultless = flat-none (faults_at d) (range_with_len 0 count) none;
-}
-  where
-    d = driving_of inputs input_places outputs places regs
-    ds = all_drives inputs input_places outputs places
-
-    start : (i : ℕ) → i ≡ 0 + i
-    start i = omega arith
-
-    those : (k : ℕ) → map (λ d. d.driver) (drives_of ds k) ≡ drivers_at k (by_others inputs outputs)
-    those k = drivers-only k ds ∙ ap (drivers_at k) (drives-only inputs input_places outputs places l m)
-
-    there : (k : ℕ) → k < length table → slice_index_or table k Nobody ≡ driver_at d k
-    there k lt =
-        r.first_is k lt
-        ∙ ap first_or_nobody (at-append k (by_others inputs outputs) (map by_checks regs))
-        ∙ ap (λ xs. first_or_nobody (xs ++ drivers_at k (map by_checks regs))) (sym (those k))
-        ∙ first-driver k regs (drives_of ds k)
-
-    few : (k : ℕ) → length (drives_of ds k) ≤ 1
-    few k = subst (λ n. n ≤ 1) (sym (ap length (those k)) ∙ length-map (drives_of ds k) (λ d. d.driver)) (s.alone k)
-
-    none : (k : ℕ) → faults_at d k ≡ []
-    none k =
-        ap (λ xs. xs ++ reg_faults (has k regs) (drives_of ds k)) (no-second (drives_of ds k) (few k))
-        ∙ no-reg (has k regs) (drives_of ds k) (λ t. unmapped (drives_of ds k) (those k ∙ free-none k (by_others inputs outputs) regs r.free t))
+has-drivers count inputs input_places outputs places regs before table l m n s r =
+    let d = driving_of inputs input_places outputs places regs in
+    let stands : Stands count inputs input_places outputs places regs before table = record { input_places_are = l; places_are = m; nets_are = n; alone = s; driven = r } in
+    record {
+      table_is = list-is (driver_at d) 0 count table n (λ i lt. table-there count inputs input_places outputs places regs before table stands i lt ∙ ap (driver_at d) (start i));
+      faultless = flat-none (faults_at d) (range_with_len 0 count) (none-at count inputs input_places outputs places regs before table stands);
+    }

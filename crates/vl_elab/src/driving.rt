@@ -12,6 +12,7 @@ use elab_elements::Placing;
 use elab_hierarchy::{Definitions, Placed};
 use elab_model::ElabKind;
 use elab_modules::Library;
+use elab_paths::Joined;
 use elab_rows::Rows;
 use elab_scopes::{input_nets, reg_nets};
 use sg_circuit::{Driver, Net};
@@ -25,6 +26,7 @@ pub fn drivers_in(
     library: &Library,
     instances: &[Placed],
     rows: &Rows,
+    joined: &Joined,
     made: &Placing,
 ) -> Result<Vec<Driver>, Refused<ElabKind>>
     requires made { (top : Module) × ((corner : ghost_corner.Corner) × AreMade definitions.now top corner instances.now library.now rows.now made.now) }
@@ -35,7 +37,7 @@ pub fn drivers_in(
     let regs = reg_nets(alloc, definitions, library, instances, rows)?;
     drivers(
         alloc,
-        rows.nets.len() as u32,
+        (rows.nets.len() + joined.inner.len()) as u32,
         &inputs.nets,
         &inputs.places,
         &made.elements,
