@@ -1,10 +1,12 @@
 -- The modules of this folder.
-pub mod Places
-pub mod Counts
-pub mod Scopes
-pub mod Widths
-pub mod Delays
-pub mod Fits
-pub mod Elements
-pub mod Drivers
+mod Places
+mod Widths
+mod Scopes
+mod Counts
+mod Delays
+mod PathTimings
+mod Fits
+mod Elements
+mod Outputs
+mod Drivers
 pub mod Closed
