@@ -47,7 +47,7 @@ min-below : (k a b : ℕ) → a < k → min a b < k
 min-below k a b lt = let le : min a b ≤ a = min-le_left a b in omega arith
 
 max-below : (k a b : ℕ) → a < k → b < k → max a b < k
-max-below k a b lt gt = let le : max a b ≤ k - 1 = max-le {a} {b} {k - 1} (omega arith) (omega arith) in omega arith
+max-below k a b lt gt = let le : max a b ≤ k - 1 = max-le {a = a} {b = b} {k = k - 1} (omega arith) (omega arith) in omega arith
 
 six-below : (k : ℕ) (d : Six ℕ) → SixBelow k d → AreTwelve k (map (delay_of d) transitions)
 six-below k d h = (refl, (

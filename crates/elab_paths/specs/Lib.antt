@@ -1,2 +1,4 @@
 -- The modules of this folder: words of the contracts.
 pub mod Operands
+pub mod Ready
+pub mod Joining

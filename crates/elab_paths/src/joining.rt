@@ -1,4 +1,10 @@
 // The paths of all instances, put in behind the other nets and elements.
+ghost use Rattle.std.specs.Prelude.{◌≡◌, IfOk, IfErr};
+ghost use Rattle.sg_delay.specs.declared.corners.Corner as ghost_corner;
+ghost use Rattle.vl_tree.specs.Tree.{Module, Source};
+ghost use Rattle.elab_model.specs.Faults.{RefusesOneOf};
+ghost use Rattle.elab_paths.specs.Joining.{AreGiven, AreJoined, counts_over};
+
 use crate::modules::ModulePaths;
 use crate::redirecting::redirect;
 use crate::uses::{Here, PathUse, PathUses, add_use};
@@ -51,7 +57,10 @@ fn add_uses(
         table: &prepared.table,
         row: row_of(rows, number, prepared.table.bits()),
     };
-    for output in &modules.outputs[placed.definition] {
+    let Some(outputs) = &modules.outputs[placed.definition] else {
+        unreachable!()
+    };
+    for output in outputs {
         add_use(
             alloc,
             rows.nets.len(),
@@ -87,7 +96,13 @@ pub fn add_paths(
     instances: &[Placed],
     rows: &Rows,
     made: &mut Placing,
-) -> Result<Joined, Refused<ElabKind>> {
+) -> Result<Joined, Refused<ElabKind>>
+    requires given { (source : Source) × ((top : Module) × ((corner : ghost_corner.Corner) × AreGiven source top corner library.now modules.now instances.now rows.now made.old)) }
+    ensures joined { IfOk result (λ joined. (source : Source) (top : Module) (corner : ghost_corner.Corner) → AreGiven source top corner library.now modules.now instances.now rows.now made.old
+        → AreJoined source top corner library.now modules.now rows.now joined made.new) }
+    ensures refused { IfErr result (λ r. (source : Source) (top : Module) (corner : ghost_corner.Corner) → AreGiven source top corner library.now modules.now instances.now rows.now made.old
+        → RefusesOneOf (counts_over source top corner) r) }
+{
     let mut uses = PathUses {
         uses: Vec::new(alloc),
         inner: Vec::new(alloc),

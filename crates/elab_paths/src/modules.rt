@@ -1,7 +1,17 @@
 // The paths of all modules that a top reaches.
+ghost use Rattle.std.specs.Prelude.{◌≡◌, IfOk, IfErr};
+ghost use Rattle.vl_tree.specs.Tree.{Module as GhostModule};
+ghost use Rattle.elab_model.specs.Delays.{tick_of};
+ghost use Rattle.elab_model.specs.Faults.{RefusesOneOf};
+ghost use Rattle.elab_model.specs.Hierarchy as def;
+ghost use Rattle.elab_hierarchy.specs.Placing.{ArePlaced};
+ghost use Rattle.elab_modules.specs.Reached.{IsLibrary};
+ghost use Rattle.elab_circuit.specs.Faults.{path_faults};
+ghost use Rattle.elab_paths.specs.Ready.{HavePaths};
+
 use crate::shelving::{ReadyOutput, Shelves, shelve};
 use cond_expr::Expr;
-use elab_hierarchy::Definitions;
+use elab_hierarchy::{Definitions, Placed};
 use elab_model::ElabKind;
 use elab_modules::{Library, Prepared, Ready};
 use elab_tables::Member;
@@ -17,8 +27,8 @@ use vl_tree::{Item, Module};
 /// The paths of the modules that a top reaches, once a module.
 #[derive(Drop)]
 pub struct ModulePaths {
-    /// By the place of the definition, the output bits of the module there.
-    pub outputs: Vec<Vec<ReadyOutput>>,
+    /// By the place of the definition, the output bits of the module there, where an instance is one of it.
+    pub outputs: Vec<Option<Vec<ReadyOutput>>>,
     pub timings: Vec<LegTiming>,
     pub conditions: Vec<Expr>,
 }
@@ -75,30 +85,72 @@ fn outputs_of(
     Ok(shelve(alloc, paths, shelves)?)
 }
 
-/// The paths of the modules that stand ready, in ticks of a corner (IEEE 1364-2005, clause 14). Refuses a specify block beside an instance of a module (SpecifyInHierarchy, at the block),
-/// and what `path_outputs` does. Takes memory in proportion to the blocks and to the pairs of bits of their paths. Timing 0 is that of all Legs.
+// The module at a place of the definitions, unless it was looked at before.
+fn add_module(
+    alloc: Global,
+    corner: Corner,
+    tick: Unit,
+    definitions: &Definitions,
+    library: &Library,
+    place: usize,
+    outputs: &mut [Option<Vec<ReadyOutput>>],
+    shelves: &mut Shelves,
+) -> Result<(), Refused<ElabKind>> {
+    if outputs[place].is_some() {
+        return Ok(());
+    }
+    let Some(Ready::Module(prepared)) = &library.parts[place] else {
+        return Ok(());
+    };
+    outputs[place] = Some(outputs_of(
+        alloc,
+        corner,
+        tick,
+        definitions,
+        prepared,
+        shelves,
+    )?);
+    Ok(())
+}
+
+/// The paths of the modules of these instances, which stand ready, in ticks of a corner (IEEE 1364-2005, clause 14). Refuses a specify block beside an instance of a module
+/// (SpecifyInHierarchy, at the block), and what `path_outputs` does. Timing 0 is that of all Legs. Takes memory in proportion to the blocks and to the pairs of bits of their paths.
 pub fn module_paths(
     alloc: Global,
     corner: Corner,
     tick: Unit,
     definitions: &Definitions,
     library: &Library,
+    instances: &[Placed],
     legs: LegTiming,
-) -> Result<ModulePaths, Refused<ElabKind>> {
+) -> Result<ModulePaths, Refused<ElabKind>>
+    requires read { (top : GhostModule) × ArePlaced definitions.now instances.now (def.instances definitions.now top) × (tick.power ≡ tick_of definitions.now top)
+        × IsLibrary definitions.now corner top library.now }
+    ensures paths { IfOk result (λ made. (top : GhostModule) → ArePlaced definitions.now instances.now (def.instances definitions.now top) → tick.power ≡ tick_of definitions.now top
+        → IsLibrary definitions.now corner top library.now → HavePaths definitions.now top corner legs made) }
+    ensures refused { IfErr result (λ r. (top : GhostModule) → ArePlaced definitions.now instances.now (def.instances definitions.now top) → tick.power ≡ tick_of definitions.now top
+        → IsLibrary definitions.now corner top library.now → RefusesOneOf (path_faults definitions.now top corner) r) }
+{
     let mut shelves = Shelves {
         timings: Vec::new(alloc),
         conditions: Vec::new(alloc),
     };
     shelves.timings.push(legs)?;
     let mut outputs = Vec::new(alloc);
-    for part in &library.parts {
-        let list = match part {
-            Some(Ready::Module(prepared)) => {
-                outputs_of(alloc, corner, tick, definitions, prepared, &mut shelves)?
-            }
-            Some(Ready::Primitive(_)) | None => Vec::new(alloc),
-        };
-        outputs.push(list)?;
+    for _ in 0..library.parts.len() {
+        outputs.push(None)?;
+    }
+    for placed in instances {
+        add_module(
+            alloc,
+            corner,
+            tick,
+            definitions,
+            library,
+            placed.definition,
+            &mut outputs,
+            &mut shelves,
+        )?;
     }
     Ok(ModulePaths {
         outputs,

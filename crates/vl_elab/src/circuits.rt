@@ -3,8 +3,8 @@ ghost use Rattle.std.specs.Prelude.{◌≡◌, IfOk, IfErr, option_map};
 ghost use Rattle.sg_delay.specs.declared.corners.Corner as ghost_corner;
 ghost use Rattle.vl_tree.specs.Seen.{view_source};
 ghost use Rattle.vl_tree.specs.Tree.{Module, Source as GhostSource};
-ghost use Rattle.elab_model.specs.Circuits as def;
-ghost use Rattle.elab_model.specs.Elaboration.{Elaborates};
+ghost use Rattle.elab_circuit.specs.Circuits as def;
+ghost use Rattle.elab_circuit.specs.Elaboration.{Elaborates};
 ghost use Rattle.elab_hierarchy.specs.Tops.{StandsAt};
 ghost use Rattle.vl_elab.specs.Below.{IsBelow, RefusesBelow};
 ghost use Rattle.sg_circuit.specs.TimingsSeen.{leg_timing_seen};
@@ -57,7 +57,15 @@ fn circuit_below(
     let library = library_of(alloc, corner, tick, definitions, &instances)?;
     let rows = rows_of(alloc, definitions, &library, &instances)?;
     let mut made = elements_in(alloc, definitions, &library, &instances, &rows)?;
-    let modules = module_paths(alloc, corner, tick, definitions, &library, no_delay())?;
+    let modules = module_paths(
+        alloc,
+        corner,
+        tick,
+        definitions,
+        &library,
+        &instances,
+        no_delay(),
+    )?;
     let joined = add_paths(alloc, &library, &modules, &instances, &rows, &mut made)?;
     let drivers = drivers_in(
         alloc,
@@ -87,8 +95,8 @@ fn close(
     drivers: &[Driver],
     scopes: Vec<Scope>,
 ) -> Result<Circuit, NoMemory>
-    requires { (source : GhostSource) × ((m : Module) × ((corner : ghost_corner.Corner) × IsWhole source m corner tick library rows made drivers.now scopes.items)) }
-    ensures { IfOk result (λ circuit. (source : GhostSource) (m : Module) (corner : ghost_corner.Corner) → IsWhole source m corner tick library.entry rows made drivers.now scopes.items
+    requires { (source : GhostSource) × ((m : Module) × ((corner : ghost_corner.Corner) × IsWhole source m corner tick library rows modules joined made drivers.now scopes.items)) }
+    ensures { IfOk result (λ circuit. (source : GhostSource) (m : Module) (corner : ghost_corner.Corner) → IsWhole source m corner tick library.entry rows modules.entry joined.entry made drivers.now scopes.items
         → circuit ≡ def.circuit source m corner) }
 {
     let mut nets = rows.nets;

@@ -3,7 +3,7 @@ use Rattle.std.proofs.Common.{rules, ◌≡◌, ◌<◌, length, sym, ◌∙◌,
 use Rattle.std.specs.Prelude.{All}
 use Rattle.elab_drivers.specs.Netlists.{HasDrivers}
 use Rattle.elab_model.specs.Faults.{RefusesOneOf}
-use Rattle.elab_model.specs.HierarchyFaults.{driver_faults}
+use Rattle.elab_circuit.specs.Faults.{driver_faults}
 use Rattle.vl_elab.specs.Made.{AreMade}
 use Rattle.vl_elab.proofs.Told.{ok-weaker, err-weaker, lists-driven, inputs-placed, elements-placed, inputs-within, regs-within, outputs-within}
 use Rattle.vl_elab.proofs.driving.drivers_in.Goals as goal
