@@ -50,21 +50,16 @@ max-below : (k a b : ℕ) → a < k → b < k → max a b < k
 max-below k a b lt gt = let le : max a b ≤ k - 1 = max-le {a = a} {b = b} {k = k - 1} (omega arith) (omega arith) in omega arith
 
 six-below : (k : ℕ) (d : Six ℕ) → SixBelow k d → AreTwelve k (map (delay_of d) transitions)
-six-below k d h = (refl, (
-  h.t01,
-  h.t10,
-  h.t0z,
-  h.tz1,
-  h.t1z,
-  h.tz0,
-  min-below k d.t0z d.t01 h.t0z,
-  max-below k d.tz1 d.t01 h.tz1 h.t01,
-  min-below k d.t1z d.t10 h.t1z,
-  max-below k d.tz0 d.t10 h.tz0 h.t10,
-  max-below k d.t1z d.t0z h.t1z h.t0z,
-  min-below k d.tz1 d.tz0 h.tz1,
-  tt,
-))
+six-below k d h = (
+  refl,
+  (h.t01, (h.t10, (h.t0z, (h.tz1, (h.t1z, (h.tz0, (
+    min-below k d.t0z d.t01 h.t0z, (max-below k d.tz1 d.t01 h.tz1 h.t01, (
+      min-below k d.t1z d.t10 h.t1z, (max-below k d.tz0 d.t10 h.tz0 h.t10, (
+        max-below k d.t1z d.t0z h.t1z h.t0z, (min-below k d.tz1 d.tz0 h.tz1, tt)
+      ))
+    ))
+  ))))))),
+)
 
 -- a list that isn't twelve long, by its length
 pub twelve-below : (k : ℕ) (list : List ℕ) → AllByRecursion (λ d. d < k) list → is_err (delays_of list) ≡ false → AreTwelve k (all_delays (delays_of list))
