@@ -52,13 +52,40 @@ max-below k a b lt gt = let le : max a b ≤ k - 1 = max-le {a = a} {b = b} {k =
 six-below : (k : ℕ) (d : Six ℕ) → SixBelow k d → AreTwelve k (map (delay_of d) transitions)
 six-below k d h = (
   refl,
-  (h.t01, (h.t10, (h.t0z, (h.tz1, (h.t1z, (h.tz0, (
-    min-below k d.t0z d.t01 h.t0z, (max-below k d.tz1 d.t01 h.tz1 h.t01, (
-      min-below k d.t1z d.t10 h.t1z, (max-below k d.tz0 d.t10 h.tz0 h.t10, (
-        max-below k d.t1z d.t0z h.t1z h.t0z, (min-below k d.tz1 d.tz0 h.tz1, tt)
-      ))
-    ))
-  ))))))),
+  (
+    h.t01,
+    (
+      h.t10,
+      (
+        h.t0z,
+        (
+          h.tz1,
+          (
+            h.t1z,
+            (
+              h.tz0,
+              (
+                min-below k d.t0z d.t01 h.t0z,
+                (
+                  max-below k d.tz1 d.t01 h.tz1 h.t01,
+                  (
+                    min-below k d.t1z d.t10 h.t1z,
+                    (
+                      max-below k d.tz0 d.t10 h.tz0 h.t10,
+                      (
+                        max-below k d.t1z d.t0z h.t1z h.t0z,
+                        (min-below k d.tz1 d.tz0 h.tz1, tt),
+                      ),
+                    ),
+                  ),
+                ),
+              ),
+            ),
+          ),
+        ),
+      ),
+    ),
+  ),
 )
 
 -- a list that isn't twelve long, by its length
@@ -134,9 +161,9 @@ timings-are : (limits : Option (ℕ × ℕ)) (ds : List ℕ) → IfSome limits A
 timings-are limits ds h t = (
   length-map ds (λ d. record { delay = d; limits = limits }) ∙ t.0,
   All-from_recursion IsTiming (timings_with limits ds)
-  (all-map IsTiming (λ d. record { delay = d; limits = limits }) ds
-  (all-weaker (λ d. d < 2 ^ 60) (λ d. IsTiming (record { delay = d; limits = limits })) ds
-  (λ d lt. record { delay = lt; ordered = ordered limits h; error = bounded limits h }) t.1)),
+      (all-map IsTiming (λ d. record { delay = d; limits = limits }) ds
+      (all-weaker (λ d. d < 2 ^ 60) (λ d. IsTiming (record { delay = d; limits = limits })) ds
+      (λ d lt. record { delay = lt; ordered = ordered limits h; error = bounded limits h }) t.1)),
 )
 
 short : (by : Measure) (values : Values) (d : Amounts) → delay_faults by values d ≡ [] → delay_ticks by values d < delay_limit

@@ -7,7 +7,8 @@ use sg_text::{NoMemory, Refused};
 use std::alloc::Global;
 use std::test::Fail;
 use trees::{
-    at, block, buffers, declared_in_head, input, name, named, net, output, period, range, wires, with_item,
+    at, block, buffers, declared_in_head, input, name, named, net, output, period, range, wires,
+    with_item,
 };
 use vl_tree::Item;
 

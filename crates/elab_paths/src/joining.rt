@@ -25,10 +25,7 @@ pub struct Joined {
     pub paths: Vec<Path>,
 }
 
-fn module_at<'l, 't, 'a>(
-    library: &'l Library<'t, 'a>,
-    definition: usize,
-) -> &'l Prepared<'t, 'a> {
+fn module_at<'l, 't, 'a>(library: &'l Library<'t, 'a>, definition: usize) -> &'l Prepared<'t, 'a> {
     match &library.parts[definition] {
         Some(Ready::Module(prepared)) => prepared,
         _ => unreachable!(),
@@ -123,7 +120,8 @@ pub fn add_paths(
     let first = rows.nets.len() as u32;
     redirect(alloc, first, &uses.uses, &mut made.elements)?;
     for (at, path_use) in uses.uses.iter().enumerate() {
-        made.elements.push(path_element(alloc, first + at as u32, path_use)?)?;
+        made.elements
+            .push(path_element(alloc, first + at as u32, path_use)?)?;
         made.places.push(path_use.place)?;
     }
     Ok(Joined {

@@ -50,7 +50,9 @@ fn names_module(definitions: &Definitions, member: &Member) -> bool {
 }
 
 fn has_child(definitions: &Definitions, members: &[Member]) -> bool {
-    members.iter().any(|member| names_module(definitions, member))
+    members
+        .iter()
+        .any(|member| names_module(definitions, member))
 }
 
 // Refuses a specify block in a module that has an instance of a module.
@@ -102,14 +104,7 @@ fn add_module(
     let Some(Ready::Module(prepared)) = &library.parts[place] else {
         return Ok(());
     };
-    outputs[place] = Some(outputs_of(
-        alloc,
-        corner,
-        tick,
-        definitions,
-        prepared,
-        shelves,
-    )?);
+    outputs[place] = Some(outputs_of(alloc, corner, tick, definitions, prepared, shelves)?);
     Ok(())
 }
 

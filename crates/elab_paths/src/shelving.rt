@@ -137,12 +137,7 @@ pub fn shelve(
     let statements = shelve_statements(alloc, paths.statements, &mut shelves.conditions)?;
     let mut outputs = Vec::new(alloc);
     for output in &paths.outputs {
-        outputs.push(shelve_output(
-            alloc,
-            &statements,
-            output,
-            &mut shelves.timings,
-        )?)?;
+        outputs.push(shelve_output(alloc, &statements, output, &mut shelves.timings)?)?;
     }
     Ok(outputs)
 }
