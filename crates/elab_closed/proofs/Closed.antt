@@ -27,7 +27,7 @@ use Rattle.elab_closed.proofs.Scopes.{parents-below, net-scopes}
 use Rattle.elab_closed.proofs.Widths.{have-widths, have-bits}
 
 -- the nets are those of the instances, and an inner one for each path use
-nets-count : (source : Source) (top : Module) (corner : Corner) → length (all_nets source top corner) ≡ length (nets source top) + length (path_uses source top corner)
+pub nets-count : (source : Source) (top : Module) (corner : Corner) → length (all_nets source top corner) ≡ length (nets source top) + length (path_uses source top corner)
 nets-count source top corner =
     let all = nets source top in
     let uses = path_uses source top corner in

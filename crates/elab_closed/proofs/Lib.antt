@@ -1,12 +1,12 @@
 -- The modules of this folder.
-mod Places
-mod Widths
-mod Scopes
-mod Counts
-mod Delays
-mod PathTimings
-mod Fits
-mod Elements
-mod Outputs
-mod Drivers
+pub mod Places
+pub mod Widths
+pub mod Scopes
+pub mod Counts
+pub mod Delays
+pub mod PathTimings
+pub mod Fits
+pub mod Elements
+pub mod Outputs
+pub mod Drivers
 pub mod Closed

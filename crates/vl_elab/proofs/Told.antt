@@ -10,6 +10,7 @@ use Rattle.sg_delay.specs.declared.corners.Corner.{Corner}
 use Rattle.sg_text.specs.declared.places.Place.{Place}
 use Rattle.vl_tree.specs.Tree.{Module, Source}
 use Rattle.elab_model.specs.Drivers.{Drive, stimulus_drives, check_drives}
+use Rattle.elab_model.specs.Hierarchy.{instances}
 use Rattle.elab_model.specs.Nets.{OwnNet, nets, number_of}
 use Rattle.elab_model.specs.Numbered.{undriven}
 use Rattle.elab_circuit.specs.Circuits.{driving}
@@ -17,8 +18,9 @@ use Rattle.elab_circuit.specs.PathUses.{path_uses}
 use Rattle.elab_circuit.specs.WithPaths.{all_nets, all_elements}
 use Rattle.elab_laws.specs.Words.{Owns}
 use Rattle.elab_laws.proofs.Homes.{number-below}
-use Rattle.elab_laws.proofs.Lists.{all-map, all-weaker}
+use Rattle.elab_laws.proofs.Lists.{all-map, all-map_back, all-weaker}
 use Rattle.elab_owned.proofs.Drives.{drives-have_nets}
+use Rattle.elab_closed.proofs.Closed.{nets-count as all-count}
 use Rattle.elab_closed.proofs.Elements.{StandsIn, elements-stand}
 use Rattle.elab_closed.proofs.Outputs.{placed_output, outputs-are}
 use Rattle.elab_drivers.specs.Tables.{driving_of}
@@ -102,3 +104,16 @@ regs-within source top corner regs r =
     let count = length (all_nets source top corner) in
     subst (λ ns. All (λ n. n < count) ns) (sym r)
     (All-from_recursion (λ n. n < count) _ (below-all (nets source top) count (check_drives source top) (plain-fewer source top corner) (drives-have_nets source top).1))
+
+pub outputs-within : (source : Source) (top : Module) (corner : Corner) (placed : List Placed) (ready : Library) (numbers : Rows) (joined : Joined) (made : Placing)
+    → AreMade source top corner placed ready numbers joined made → All (λ e. e.output < length (all_nets source top corner)) made.elements.items
+outputs-within source top corner placed ready numbers joined made m =
+    let es = all_elements source top corner in
+    let count = length (all_nets source top corner) in
+    let scopes = length (instances source top) in
+    let stand : AllByRecursion (λ e. StandsIn count scopes e.1) es =
+    subst (λ k. AllByRecursion (λ e. StandsIn k scopes e.1) es) (sym (all-count source top corner)) (elements-stand source top corner m.is_ready.sound m.sound_blocks) in
+    let outs : AllByRecursion (λ n. n < count) (map (λ e. e.1.output) es) =
+    all-map (λ n. n < count) (λ e. e.1.output) es (all-weaker (λ e. StandsIn count scopes e.1) (λ e. e.1.output < count) es (λ e s. s.output) stand) in
+    All-from_recursion (λ e. e.output < count) made.elements.items
+    (all-map_back (λ n. n < count) (λ e. e.output) made.elements.items (subst (AllByRecursion (λ n. n < count)) (sym m.have_numbers.outputs) outs))

@@ -5,7 +5,7 @@ use Rattle.sg_time.specs.declared.units.Unit as unit
 use Rattle.sg_circuit.specs.Seen.{scope_seen}
 use Rattle.sg_circuit.specs.declared.scopes.Scope.{Scope}
 use Rattle.elab_model.specs.Delays.{tick_of}
-use Rattle.elab_circuit.specs.Faults.{faults_below}
+use Rattle.elab_circuit.specs.Faults.{path_faults, faults_below}
 use Rattle.elab_model.specs.Nets.{nets}
 use Rattle.elab_model.specs.Scopes.{scope_of}
 use Rattle.elab_circuit.specs.Circuits.{driving}
@@ -32,6 +32,7 @@ pub record AreMade (source : Source) (top : Module) (corner : Corner) (placed : 
   pub are_placed : ArePlaced source placed (instances source top)
   pub is_ready : IsLibrary source corner top ready
   pub have_rows : HaveRows source top numbers
+  pub sound_blocks : path_faults source top corner ≡ []
   pub have_numbers : HaveNumbers source top corner numbers joined made
 
 -- the table has the driver of each net, and no net has a fault
