@@ -2,3 +2,5 @@
 pub mod Operands
 pub mod Ready
 pub mod Joining
+pub mod Redirecting
+pub mod Shelving

@@ -1,4 +1,13 @@
 // The paths of a module, with their conditions and timings in tables.
+ghost use Rattle.std.specs.Prelude.{◌≡◌, ◌<◌, ◌++◌, All, List, IfOk, OnOk, length, map};
+ghost use Rattle.cond_expr.specs.Condition.{Condition};
+ghost use Rattle.sg_circuit.specs.declared.elements.LegTiming.{LegTiming as Timings};
+ghost use Rattle.elab_model.specs.Names.{Variable};
+ghost use Rattle.elab_laws.specs.Handing.{all_bits};
+ghost use Rattle.specify_paths.specs.Seen.{outputs_seen, IsInRow};
+ghost use Rattle.elab_paths.specs.Ready.{output_ready, IsReadyOutput};
+ghost use Rattle.elab_paths.specs.Shelving.{IsLonger};
+
 use cond_expr::Expr;
 use sg_circuit::LegTiming;
 use sg_delay::{Delays12, Limit, Limits12, PulseStyle, Widths};
@@ -133,7 +142,14 @@ pub fn shelve(
     alloc: Global,
     paths: PathOutputs,
     shelves: &mut Shelves,
-) -> Result<Vec<ReadyOutput>, NoMemory> {
+) -> Result<Vec<ReadyOutput>, NoMemory>
+    requires within { All (λ o. All (λ p. p.statement < length paths.statements.items) o.paths.items) paths.outputs.items }
+    ensures kept { OnOk result (IsLonger shelves.old shelves.new) }
+    ensures outputs { IfOk result (λ list. (vs : List Variable) (timings : List Timings) (conditions : List Condition)
+        → map (output_ready (shelves.new.timings.items ++ timings) (shelves.new.conditions.items ++ conditions) vs) list.items ≡ outputs_seen vs paths) }
+    ensures named { IfOk result (λ list. (vs : List Variable) → All (IsInRow vs) paths.outputs.items
+        → All (IsReadyOutput (length (all_bits vs)) (length shelves.new.timings.items) (length shelves.new.conditions.items)) list.items) }
+{
     let statements = shelve_statements(alloc, paths.statements, &mut shelves.conditions)?;
     let mut outputs = Vec::new(alloc);
     for output in &paths.outputs {

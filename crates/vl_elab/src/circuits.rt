@@ -96,7 +96,7 @@ fn close(
     scopes: Vec<Scope>,
 ) -> Result<Circuit, NoMemory>
     requires { (source : GhostSource) × ((m : Module) × ((corner : ghost_corner.Corner) × IsWhole source m corner tick library rows modules joined made drivers.now scopes.items)) }
-    ensures { IfOk result (λ circuit. (source : GhostSource) (m : Module) (corner : ghost_corner.Corner) → IsWhole source m corner tick library.entry rows modules.entry joined.entry made drivers.now scopes.items
+    ensures { IfOk result (λ circuit. (source : GhostSource) (m : Module) (corner : ghost_corner.Corner) → IsWhole source m corner tick library.entry rows modules joined made drivers.now scopes.items
         → circuit ≡ def.circuit source m corner) }
 {
     let mut nets = rows.nets;
