@@ -10,7 +10,7 @@ use Rattle.sg_circuit.specs.declared.elements.ElementKind.{ElementKind}
 use Rattle.sg_circuit.specs.declared.elements.ElementKind.TheVariants as kind
 use Rattle.sg_circuit.specs.declared.elements.UdpUse.{UdpUse}
 use Rattle.vl_tree.specs.Tree.{Module, Source}
-use Rattle.elab_model.specs.Circuits.{element_of}
+use Rattle.elab_model.specs.Numbered.{element_of}
 use Rattle.elab_model.specs.Drivers.{elements as components}
 use Rattle.elab_model.specs.Elements.{leg_kind}
 use Rattle.elab_model.specs.HierarchyFaults.{count_limit}

@@ -5,7 +5,7 @@ use Rattle.cond_expr.specs.declared.tokens.Tok.TheVariants as tok
 use Rattle.cond_expr.specs.Grammar.{operand_parts, atom_parts, level_parts, primary_parts}
 use Rattle.cond_expr.specs.Tree.{leaf, unary}
 use Rattle.grammar.specs.Rule.{read_up_to}
-use Rattle.sg_circuit.specs.Circuit.{Timing}
+use Rattle.sg_circuit.specs.Timings.{Timing}
 use Rattle.sg_circuit.specs.declared.scopes.Port.TheVariants.{Input, Output}
 use Rattle.sg_delay.specs.declared.corners.Corner.TheVariants.{Typ}
 use Rattle.sg_delay.specs.declared.limits.PulseStyle.TheVariants as style

@@ -2,7 +2,7 @@
 use Rattle.std.specs.Prelude.{ℕ, List, ◌&&◌, Option, map, flat_map}
 use Rattle.std.specs.List.{list_any}
 use Rattle.std.specs.Option.{option_map}
-use Rattle.sg_circuit.specs.Circuit.{Timing}
+use Rattle.sg_circuit.specs.Timings.{Timing}
 use Rattle.sg_circuit.specs.Paths as circuit
 use Rattle.sg_logic.specs.declared.edges.Edge.{Edge}
 use Rattle.sg_logic.specs.declared.edges.TheConstants.{POSEDGE, NEGEDGE}
