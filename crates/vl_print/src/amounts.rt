@@ -7,9 +7,9 @@ ghost use Rattle.vl_print.specs.SpecifyPrinting.{put_delays, put_next_limit, put
 
 use crate::lists::{Print, print_listed};
 use crate::tokens::{symbol, token};
-use vl_tree::{Amount, Amounts, Limit, MinTypMax, SignedAmount, Specparam};
 use sg_text::NoMemory;
 use vl_token::{Symbol, Token, TokenKind};
+use vl_tree::{Amount, Amounts, Limit, MinTypMax, SignedAmount, Specparam};
 
 impl<'a> Print<'a> for Amount<'a> {
     ghost use Rattle.vl_tree.specs.Tree.{Amount as TreeSeen};

@@ -11,11 +11,11 @@ use crate::amounts::print_next_limit;
 use crate::lists::{Print, print_many};
 use crate::paths::print_edge;
 use crate::tokens::{symbol, token};
+use sg_text::{NoMemory, Place};
+use vl_token::{Symbol, Token, TokenKind};
 use vl_tree::{
     Check, CheckName, EdgeWord, Event, Limit, Name, OneLimitCheck, Term, TwoLimitCheck, Word,
 };
-use sg_text::{NoMemory, Place};
-use vl_token::{Symbol, Token, TokenKind};
 
 // `[ edge ] term`
 fn print_event_term<'a>(

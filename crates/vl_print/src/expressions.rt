@@ -7,10 +7,10 @@ ghost use Rattle.vl_tree.specs.Seen.{view_expression};
 
 use crate::lists::{Print, print_listed, print_optional};
 use crate::tokens::{NOWHERE, symbol, symbol_at, token};
-use vl_tree::{Delay, Expression, MinTypMax, Range, Select};
 use sg_text::NoMemory;
 use sg_time::Decimal;
 use vl_token::{Symbol, Token, TokenKind};
+use vl_tree::{Delay, Expression, MinTypMax, Range, Select};
 
 // One more than the numbers of 18 digits.
 const NINETEEN_DIGITS: u64 = 1_000_000_000_000_000_000;

@@ -7,13 +7,13 @@ ghost use Rattle.vl_tree.specs.Seen.{view_expression, view_name};
 use crate::expressions::print_value;
 use crate::lists::{Print, print_listed, print_optional};
 use crate::tokens::{NOWHERE, keyword_at, symbol, symbol_at};
+use sg_logic::GateKind;
+use sg_text::{Keyword, NoMemory, Place};
+use vl_token::{Symbol, Token};
 use vl_tree::{
     Connections, Direction, Expression, GateInstance, Instance, Item, Join, Name, NamedConnection,
     NetName, NetType, Supply,
 };
-use sg_logic::GateKind;
-use sg_text::{Keyword, NoMemory, Place};
-use vl_token::{Symbol, Token};
 
 pub fn print_direction(
     out: &mut Vec<Token<'_>>,

@@ -8,14 +8,12 @@ ghost use Rattle.vl_print.specs.Printed.{IsSpelledSource, SpellsAll};
 ghost use Rattle.vl_tree.specs.Seen.{view_head, view_source};
 
 use crate::items::{print_direction, print_optional_net_type};
-use crate::lists::{
-    Print, print_behind_commas, print_listed, print_many, print_optional,
-};
+use crate::lists::{Print, print_behind_commas, print_listed, print_many, print_optional};
 use crate::tokens::{keyword, symbol, token};
-use vl_tree::{Head, HeadPort, Module, Part, PortDeclaration, Source};
 use sg_text::{Keyword, NoMemory};
 use std::alloc::Global;
 use vl_token::{Symbol, Token, TokenKind};
+use vl_tree::{Head, HeadPort, Module, Part, PortDeclaration, Source};
 
 impl<'a> Print<'a> for PortDeclaration<'a> {
     ghost use Rattle.vl_tree.specs.Tree.{PortDeclaration as TreeSeen};

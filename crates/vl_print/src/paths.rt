@@ -8,11 +8,11 @@ ghost use Rattle.vl_print.specs.SpecifyPrinting.{put_arrow, put_edge, put_path_o
 use crate::amounts::print_delays;
 use crate::lists::{Print, print_listed, print_many, print_optional};
 use crate::tokens::{NOWHERE, keyword_at, symbol, symbol_at, token};
+use sg_text::{Keyword, NoMemory, Place};
+use vl_token::{Symbol, Token, TokenKind};
 use vl_tree::{
     Arrow, DataSource, Destination, EdgePair, EdgeWord, PathCondition, Polarity, SpecifyPath,
 };
-use sg_text::{Keyword, NoMemory, Place};
-use vl_token::{Symbol, Token, TokenKind};
 
 impl<'a> Print<'a> for EdgePair {
     ghost use Rattle.vl_tree.specs.declared.paths.EdgePair.{EdgePair as TreeSeen};

@@ -6,14 +6,12 @@ ghost use Rattle.vl_print.specs.Printing.{put_cell, put_cells, put_column, put_i
 
 use crate::expressions::whole;
 use crate::lists::{Print, print_listed, print_many, print_optional};
-use crate::tokens::{
-    NOWHERE, keyword, keyword_at, symbol, table_byte, table_byte_at, token,
-};
-use vl_tree::{Initial, Primitive, PrimitiveDeclaration};
+use crate::tokens::{NOWHERE, keyword, keyword_at, symbol, table_byte, table_byte_at, token};
 use sg_logic::Value;
 use sg_text::{Keyword, NoMemory, Place};
 use udp_rows::{Cell, RawRow};
 use vl_token::{Base, Constant, Symbol, Token, TokenKind};
+use vl_tree::{Initial, Primitive, PrimitiveDeclaration};
 
 fn print_register_word(out: &mut Vec<Token<'_>>, is_there: bool) -> Result<(), NoMemory>
     ensures { OnOk result (map lexeme out.new.items ≡ put_register_word is_there (map lexeme out.old.items)) }

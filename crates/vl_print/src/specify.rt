@@ -5,9 +5,9 @@ ghost use Rattle.vl_print.specs.SpecifyPrinting.{put_style};
 
 use crate::lists::{Print, print_listed, print_many};
 use crate::tokens::{keyword, keyword_at, symbol};
-use vl_tree::{PulseStyle, SpecifyBlock, SpecifyItem};
 use sg_text::{Keyword, NoMemory, Place};
 use vl_token::{Symbol, Token};
+use vl_tree::{PulseStyle, SpecifyBlock, SpecifyItem};
 
 fn print_style(out: &mut Vec<Token<'_>>, style: PulseStyle, place: Place) -> Result<(), NoMemory>
     ensures { OnOk result (map lexeme out.new.items ≡ put_style place style (map lexeme out.old.items)) }

@@ -4,10 +4,10 @@ ghost use Rattle.vl_token.specs.Seen.{lexeme, meaning};
 ghost use Rattle.vl_print.specs.Printing.{byte_at, mark_at, put_byte, put_mark, put_name, put_optional, put_token, put_word, word_at};
 ghost use Rattle.vl_tree.specs.Seen.{view_name};
 
-use vl_tree::Name;
 use crate::lists::Print;
 use sg_text::{Keyword, NoMemory, Place};
 use vl_token::{Symbol, Token, TokenKind};
+use vl_tree::Name;
 
 // Where tokens stand of which no tree has the place.
 pub const NOWHERE: Place = Place { file: 0, byte: 0 };

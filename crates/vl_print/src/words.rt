@@ -11,11 +11,11 @@ ghost use Rattle.vl_print.specs.SpecifyPrinting.{put_tok, symbol_of_op};
 use crate::expressions::int;
 use crate::lists::{Print, print_optional};
 use crate::tokens::{symbol, symbol_at, token};
-use vl_tree::{Term, Word};
 use cond_expr::{Op, Tok};
 use sg_logic::Value;
 use sg_text::{NoMemory, Place};
 use vl_token::{Base, Constant, Symbol, Token, TokenKind};
+use vl_tree::{Term, Word};
 
 impl<'a> Print<'a> for Term<'a> {
     ghost use Rattle.vl_tree.specs.Tree.{Term as TreeSeen};

@@ -8,7 +8,7 @@ use Rattle.vl_tree.specs.declared.specify.Word.{Word}
 use Rattle.vl_tree.specs.Conditions.{vocabulary}
 use Rattle.vl_tree.specs.Seen.{view_word}
 use Rattle.vl_tree.proofs.ConditionsExact.{is_vocabulary}
-use Rattle.vl_specify.proofs.conditions.condition.Goals as goal
+use Rattle.vl_conditions.proofs.conditions.condition.Goals as goal
 
 pub returns-in_err-one : goal.returns-in_err-one
 returns-in_err-one c =

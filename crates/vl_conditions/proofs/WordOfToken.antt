@@ -15,7 +15,7 @@ use Rattle.vl_tree.specs.declared.specify.Word as code
 use Rattle.vl_tree.specs.Conditions.{vocabulary, tok_of, word_of_symbol}
 use Rattle.vl_tree.specs.Kinds.{kind_of}
 use Rattle.vl_tree.specs.Seen.{view_word}
-use Rattle.vl_specify.specs.Words.{seen, single_bit, word_alone}
+use Rattle.vl_conditions.specs.Words.{seen, single_bit, word_alone}
 
 pub symbol_alone : (s : Symbol) → word_alone (symbol_token s) ≡ word_of_symbol s
 symbol_alone symbol.Parallel = refl

@@ -8,7 +8,7 @@ ghost use Rattle.vl_token.specs.Seen.{lexeme, meaning};
 ghost use Rattle.vl_token.specs.Tokens.{name_token, number_token};
 ghost use Rattle.vl_tree.specs.Conditions.{vocabulary, word_of_symbol};
 ghost use Rattle.vl_tree.specs.Seen.{view_word};
-ghost use Rattle.vl_specify.specs.Words.{maybe_seen, single_bit, word_alone};
+ghost use Rattle.vl_conditions.specs.Words.{maybe_seen, single_bit, word_alone};
 ghost use Rattle.std.specs.Prelude.{true};
 
 use cond_expr::{Op, Tok};

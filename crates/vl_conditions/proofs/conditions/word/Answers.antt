@@ -6,7 +6,7 @@ use Rattle.vl_token.specs.Seen.{lexeme}
 use Rattle.vl_tree.specs.Conditions.{vocabulary}
 use Rattle.vl_tree.specs.Seen.{view_word}
 use Rattle.vl_tree.proofs.ConditionsExact.{is_vocabulary}
-use Rattle.vl_specify.proofs.conditions.word.Goals as goal
+use Rattle.vl_conditions.proofs.conditions.word.Goals as goal
 
 pub returns-then-is_mark : goal.returns-then-is_mark
 returns-then-is_mark c = index_taken vocabulary is_vocabulary view_word (map lexeme c.args.tokens.now) c.args.at c.args.unclosed c.args.phase c.in_ok-word.word c.in_ok-word.next (sym c.is_mark.ensures ∙ c.if-is_mark.true) (sym c.takes_index.ensures ∙ c.if-not-takes_index.false) c.in_ok-word.ensures

@@ -4,7 +4,7 @@ use Rattle.cond_expr.proofs.WordReading.{rest_of_words}
 use Rattle.vl_token.specs.Seen.{lexeme}
 use Rattle.vl_tree.specs.Conditions.{condition, vocabulary}
 use Rattle.vl_tree.specs.Seen.{view_word}
-use Rattle.vl_specify.proofs.conditions.condition.Given as goal
+use Rattle.vl_conditions.proofs.conditions.condition.Given as goal
 
 abbrev pub invariant-more : goal.invariant-more
 invariant-more l = record {
