@@ -5,3 +5,7 @@ pub mod FileLists
 pub mod Failed
 pub mod Depths
 pub mod Decimals
+pub mod Moving
+pub mod MeantFiles
+pub mod Sizes
+pub mod FirstFaults

@@ -7,3 +7,5 @@ pub mod Reading
 pub mod Depth
 pub mod MeantSeen
 pub mod Outcomes
+pub mod FirstFaults
+pub mod Sizes

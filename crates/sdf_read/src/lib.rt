@@ -3,12 +3,16 @@
 
 mod cells;
 mod checks;
+mod comparing;
 mod depth;
 mod entries;
 mod faults;
 mod files;
+mod first_faults;
 mod groups;
 mod heads;
+mod meant_entries;
+mod meant_files;
 mod numbers;
 mod reading;
 mod tails;

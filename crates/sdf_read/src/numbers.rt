@@ -38,7 +38,7 @@ pub fn decimal_of(text: &[u8]) -> Result<Decimal, TimeError>
 }
 
 /// The number that a word is, and 0 where it is none.
-fn number_of(number: WrittenNumber<'_>) -> Decimal
+pub fn number_of(number: WrittenNumber<'_>) -> Decimal
     ensures { seen_number result ≡ meant.number_of (view_number number.entry) }
 {
     decimal_of(number.text).unwrap_or(ZERO)
