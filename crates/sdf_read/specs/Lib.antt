@@ -9,3 +9,5 @@ pub mod MeantSeen
 pub mod Outcomes
 pub mod FirstFaults
 pub mod Sizes
+pub mod Reads
+pub mod Phases

@@ -151,7 +151,7 @@ fn first_crossing<T: Valued>(parts: &[T]) -> Option<Place>
     None
 }
 
-impl Valued for WrittenDelay<'_> {
+impl<'a> Valued for WrittenDelay<'a> {
     ghost use Rattle.sdf_tree.specs.Faults.{delay_crossings, delay_numbers};
     ghost use Rattle.sdf_tree.specs.Seen.{view_delay};
     ghost use Rattle.sdf_tree.specs.Written.{Delay};
@@ -174,7 +174,7 @@ impl Valued for WrittenDelay<'_> {
     }
 }
 
-impl Valued for WrittenEntry<'_> {
+impl<'a> Valued for WrittenEntry<'a> {
     ghost use Rattle.sdf_tree.specs.Faults.{body_crossings, body_numbers};
     ghost use Rattle.sdf_tree.specs.Seen.{view_entry};
     ghost use Rattle.sdf_tree.specs.Written.{Entry};
@@ -214,7 +214,7 @@ impl Valued for WrittenEntry<'_> {
     }
 }
 
-impl Valued for WrittenGroup<'_> {
+impl<'a> Valued for WrittenGroup<'a> {
     ghost use Rattle.sdf_tree.specs.Faults.{group_crossings, group_numbers};
     ghost use Rattle.sdf_tree.specs.Seen.{view_group};
     ghost use Rattle.sdf_tree.specs.Written.{Group};
@@ -252,7 +252,7 @@ impl Valued for WrittenGroup<'_> {
     }
 }
 
-impl Valued for WrittenCheck<'_> {
+impl<'a> Valued for WrittenCheck<'a> {
     ghost use Rattle.std.specs.Prelude.{[]};
     ghost use Rattle.sdf_tree.specs.Faults.{check_numbers};
     ghost use Rattle.sdf_tree.specs.Seen.{view_check};
@@ -285,7 +285,7 @@ impl Valued for WrittenCheck<'_> {
     }
 }
 
-impl Valued for WrittenPart<'_> {
+impl<'a> Valued for WrittenPart<'a> {
     ghost use Rattle.sdf_tree.specs.Faults.{part_crossings, part_numbers};
     ghost use Rattle.sdf_tree.specs.Seen.{view_part};
     ghost use Rattle.sdf_tree.specs.Written.{Part};
@@ -315,7 +315,7 @@ impl Valued for WrittenPart<'_> {
     }
 }
 
-impl Valued for WrittenFilePart<'_> {
+impl<'a> Valued for WrittenFilePart<'a> {
     ghost use Rattle.sdf_tree.specs.Faults.{file_crossings, file_numbers};
     ghost use Rattle.sdf_tree.specs.Seen.{view_file_part};
     ghost use Rattle.sdf_tree.specs.Written.{FilePart};

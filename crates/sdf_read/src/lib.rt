@@ -15,7 +15,9 @@ mod meant_entries;
 mod meant_files;
 mod numbers;
 mod reading;
+mod sdf_files;
 mod tails;
 
 pub use faults::SdfKind;
 pub use reading::read_written;
+pub use sdf_files::read_sdf;
