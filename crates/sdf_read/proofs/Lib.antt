@@ -9,3 +9,5 @@ pub mod Moving
 pub mod MeantFiles
 pub mod Sizes
 pub mod FirstFaults
+pub mod OneOutcome
+pub mod JoinedPhases

@@ -1,12 +1,13 @@
 // An SDF file from its bytes.
-ghost use Rattle.std.specs.Prelude.{◌≡◌, Result, Ok, IfOk, IfErr, OnOk, map};
+ghost use Rattle.std.specs.Prelude.{◌≡◌, List, Result, Ok, IfOk, IfErr, OnOk, map};
 ghost use Rattle.sdf_lex.specs.Lexes.{Lexes};
 ghost use Rattle.sdf_lex.specs.Seen.{lexeme};
 ghost use Rattle.sdf_tree.specs.Meant as meant;
 ghost use Rattle.sdf_tree.specs.Seen.{view_file};
+ghost use Rattle.sdf_tree.specs.Written.{FilePart};
 ghost use Rattle.sdf_read.specs.Depth.{NoneTooDeep};
-ghost use Rattle.sdf_read.specs.Outcomes.{Fault, Outcome, meaning_of};
-ghost use Rattle.sdf_read.specs.Phases.{BytesStand, DepthStands, ValuesStand};
+ghost use Rattle.sdf_read.specs.Outcomes.{Fault, Outcome, meaning_of, meaning_unless};
+ghost use Rattle.sdf_read.specs.Phases.{BytesStand, DepthStands, RefusedAs};
 ghost use Rattle.sdf_read.specs.Reads.{Reads, Stands, Tells, end_of, kind_of_bytes};
 
 use crate::depth::first_too_deep;
@@ -65,23 +66,32 @@ fn check_depth(tokens: &[Token<'_>], end: Place) -> Result<(), Refused<SdfKind>>
     }
 }
 
-fn check_values(file: &WrittenFile<'_>) -> Result<(), Refused<SdfKind>>
-    ensures faultless { OnOk result (meaning_of (view_file file.now) ≡ Ok (meant.sdf_of (view_file file.now))) }
-    ensures refused { IfErr result (ValuesStand (view_file file.now)) }
+// A number that is none is told before limits that cross.
+fn refuse_values(
+    bad_number: Option<Place>,
+    crossing: Option<Place>,
+) -> Result<(), Refused<SdfKind>>
+    ensures faultless { (parts : List FilePart) → OnOk result (meaning_unless bad_number crossing parts ≡ Ok (meant.sdf_of parts)) }
+    ensures refused { (parts : List FilePart) → IfErr result (RefusedAs (meaning_unless bad_number crossing parts)) }
 {
-    if let Some(place) = file_bad_number(file) {
-        return Err(Refused::Fault {
+    match (bad_number, crossing) {
+        (Some(place), _) => Err(Refused::Fault {
             kind: SdfKind::BadNumber,
             place,
-        });
-    }
-    match file_crossing(file) {
-        Some(place) => Err(Refused::Fault {
+        }),
+        (None, Some(place)) => Err(Refused::Fault {
             kind: SdfKind::LimitsCross,
             place,
         }),
-        None => Ok(()),
+        (None, None) => Ok(()),
     }
+}
+
+fn check_values(file: &WrittenFile<'_>) -> Result<(), Refused<SdfKind>>
+    ensures faultless { OnOk result (meaning_of (view_file file.now) ≡ Ok (meant.sdf_of (view_file file.now))) }
+    ensures refused { IfErr result (RefusedAs (meaning_of (view_file file.now))) }
+{
+    refuse_values(file_bad_number(file), file_crossing(file))
 }
 
 fn read_tokens<'a>(
