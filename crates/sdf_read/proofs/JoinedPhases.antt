@@ -17,8 +17,8 @@ use Rattle.sdf_tree.specs.Written.{FilePart}
 use Rattle.sdf_read.specs.declared.faults.SdfKind.{SdfKind}
 use Rattle.sdf_read.specs.declared.faults.SdfKind.TheVariants.{TooDeep}
 use Rattle.sdf_read.specs.Depth.{NoneTooDeep}
-use Rattle.sdf_read.specs.FirstFaults.{bad_number, crossing}
-use Rattle.sdf_read.specs.MeantSeen.{view_sdf}
+use Rattle.sdf_meaning.specs.FirstFaults.{bad_number, crossing}
+use Rattle.sdf_meaning.specs.MeantSeen.{view_sdf}
 use Rattle.sdf_read.specs.Outcomes.{Fault, refused, meaning_unless, meaning_of, Outcome, is_deep, is_refused, is_spelled}
 use Rattle.sdf_read.specs.Phases.{BytesStand, DepthStands, RefusedAs}
 use Rattle.sdf_read.specs.Reading.{RefusalStands, fault_place}

@@ -12,7 +12,7 @@ use Rattle.sdf_tree.specs.Written.{FilePart}
 use Rattle.sdf_read.specs.declared.faults.SdfKind.{SdfKind}
 use Rattle.sdf_read.specs.declared.faults.SdfKind.TheVariants.{BadNumber, TooDeep, LimitsCross}
 use Rattle.sdf_read.specs.Depth.{IsTooDeep, NoneTooDeep}
-use Rattle.sdf_read.specs.FirstFaults.{bad_number, crossing}
+use Rattle.sdf_meaning.specs.FirstFaults.{bad_number, crossing}
 use Rattle.sdf_read.specs.Reading.{KindStands, fault_place}
 
 pub record Fault : Type 0 where

@@ -12,7 +12,7 @@ use Rattle.sdf_tree.specs.declared.tree.Sdf as code_sdf
 use Rattle.sdf_tree.specs.Meant.{Sdf}
 use Rattle.sdf_read.specs.declared.faults.SdfKind.{SdfKind}
 use Rattle.sdf_read.specs.declared.faults.SdfKind.TheVariants.{BadByte, FileTooLarge}
-use Rattle.sdf_read.specs.MeantSeen.{view_sdf}
+use Rattle.sdf_meaning.specs.MeantSeen.{view_sdf}
 use Rattle.sdf_read.specs.Outcomes.{Fault, refused, Outcome}
 
 -- what a fault of the bytes is as one of the file

@@ -3,17 +3,12 @@
 
 mod cells;
 mod checks;
-mod comparing;
 mod depth;
 mod entries;
 mod faults;
 mod files;
-mod first_faults;
 mod groups;
 mod heads;
-mod meant_entries;
-mod meant_files;
-mod numbers;
 mod reading;
 mod sdf_files;
 mod tails;

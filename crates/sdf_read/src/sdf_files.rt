@@ -12,10 +12,9 @@ ghost use Rattle.sdf_read.specs.Reads.{Reads, Stands, Tells, end_of, kind_of_byt
 
 use crate::depth::first_too_deep;
 use crate::faults::SdfKind;
-use crate::first_faults::{file_bad_number, file_crossing};
-use crate::meant_files::sdf_of;
 use crate::reading::{place_of_fault, read_written};
 use sdf_lex::{LexKind, Token, lex};
+use sdf_meaning::{file_bad_number, file_crossing, sdf_of};
 use sdf_tree::{Sdf, WrittenFile};
 use sg_text::{Place, Refused};
 use std::alloc::Global;
