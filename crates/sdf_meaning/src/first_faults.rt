@@ -11,9 +11,9 @@ ghost use Rattle.sdf_meaning.specs.FirstFaults.{bad_number, crosses_within, cros
 use crate::comparing::is_below;
 use crate::numbers::{decimal_of, number_of};
 use sdf_tree::{
-    WrittenBody, WrittenCheck, WrittenCheckBody, WrittenDelay, WrittenEntry,
-    WrittenFile, WrittenFilePart, WrittenGroup, WrittenHead, WrittenLimits, WrittenNumber,
-    WrittenPart, WrittenValue,
+    WrittenBody, WrittenCheck, WrittenCheckBody, WrittenDelay, WrittenEntry, WrittenFile,
+    WrittenFilePart, WrittenGroup, WrittenHead, WrittenLimits, WrittenNumber, WrittenPart,
+    WrittenValue,
 };
 use sg_text::Place;
 
@@ -191,7 +191,9 @@ impl<'a> Valued for WrittenEntry<'a> {
     fn bad_place(&self) -> Option<Place> {
         match &self.body {
             WrittenBody::IoPath {
-                retains, delays, ..
+                retains,
+                delays,
+                ..
             } => first_bad_number(retains).or(first_bad_number(delays)),
             WrittenBody::Port { delays, .. } => first_bad_number(delays),
             WrittenBody::Interconnect { delays, .. } => first_bad_number(delays),
@@ -204,7 +206,9 @@ impl<'a> Valued for WrittenEntry<'a> {
     fn crossing_place(&self) -> Option<Place> {
         match &self.body {
             WrittenBody::IoPath {
-                retains, delays, ..
+                retains,
+                delays,
+                ..
             } => first_crossing(retains).or(first_crossing(delays)),
             WrittenBody::Port { delays, .. } => first_crossing(delays),
             WrittenBody::Interconnect { delays, .. } => first_crossing(delays),

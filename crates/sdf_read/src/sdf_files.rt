@@ -66,10 +66,7 @@ fn check_depth(tokens: &[Token<'_>], end: Place) -> Result<(), Refused<SdfKind>>
 }
 
 // A number that is none is told before limits that cross.
-fn refuse_values(
-    bad_number: Option<Place>,
-    crossing: Option<Place>,
-) -> Result<(), Refused<SdfKind>>
+fn refuse_values(bad_number: Option<Place>, crossing: Option<Place>) -> Result<(), Refused<SdfKind>>
     ensures faultless { (parts : List FilePart) → OnOk result (meaning_unless bad_number crossing parts ≡ Ok (meant.sdf_of parts)) }
     ensures refused { (parts : List FilePart) → IfErr result (RefusedAs (meaning_unless bad_number crossing parts)) }
 {
