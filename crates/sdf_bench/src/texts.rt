@@ -9,7 +9,8 @@ fn push_cell(text: &mut String, number: u32) -> Result<(), AllocError> {
     text.push_str("    (CONDELSE (IOPATH RN Q ((0.1) (0.05) (0.08)) (0.2:0.25:0.3)))))\n")?;
     text.push_str("  (TIMINGCHECK\n")?;
     text.push_str("    (SETUPHOLD (COND SE D) (posedge CK) (0.08) (0.04))\n")?;
-    text.push_str("    (WIDTH (posedge CK) (0.15))))\n")
+    text.push_str("    (WIDTH (posedge CK) (0.15))))\n")?;
+    Ok(())
 }
 
 /// Cells with three paths and two checks each, of at least so many bytes.

@@ -28,9 +28,11 @@ fn is_bad(number: WrittenNumber<'_>) -> bool
 fn bad_number(number: Option<WrittenNumber<'_>>) -> Option<Place>
     ensures { result ≡ bad_number (faults.listed (option_map view_number number.entry)) }
 {
-    match number {
-        Some(number) if is_bad(number) => Some(number.place),
-        _ => None,
+    let number = number?;
+    if is_bad(number) {
+        Some(number.place)
+    } else {
+        None
     }
 }
 
@@ -74,7 +76,8 @@ fn crosses_at(reject: Option<WrittenNumber<'_>>, error: Option<WrittenNumber<'_>
 {
     match (reject, error) {
         (Some(reject), Some(error)) => is_below(number_of(error), number_of(reject)),
-        _ => false,
+        (None, _) => false,
+        (Some(_), None) => false,
     }
 }
 
@@ -93,9 +96,11 @@ fn crossing_at(
 ) -> Option<Place>
     ensures { result ≡ crossing (faults.crossings_at place (view_value reject.entry) (option_map view_value error.entry)) }
 {
-    match error {
-        Some(error) if crosses(reject, error) => Some(place),
-        _ => None,
+    let error = error?;
+    if crosses(reject, error) {
+        Some(place)
+    } else {
+        None
     }
 }
 

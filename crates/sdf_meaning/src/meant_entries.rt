@@ -74,8 +74,8 @@ fn add_entries<'a>(
     ensures { OnOk result (map view_meant entries.new.items ≡ map view_meant entries.old.items ++ map (meant.entry_of increment) (map view_entry written.items)) }
 {
     for entry in written {
-        let entry = entry_of(alloc, increment, entry)?;
-        entries.push(entry)?;
+        let meant = entry_of(alloc, increment, entry)?;
+        entries.push(meant)?;
     }
     Ok(())
 }

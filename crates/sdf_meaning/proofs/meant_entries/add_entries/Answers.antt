@@ -13,7 +13,7 @@ loop-entry-init c = items_begin (meant.entry_of c.args.increment) view_entry _ c
 pub loop-entry-preserved : goal.loop-entry-preserved
 loop-entry-preserved c =
     items_go_on (meant.entry_of c.args.increment) view_entry c.loop-entry.entry-iterator c.next.new.self (map view_meant c.loop-entry.entries.items) _ _ c.in-Some.entry c.in-Some.ensures.steps
-    (ap (map view_meant) c.in_ok-push.ensures.items ∙ map-append view_meant c.loop-entry.entries.items (c.in_ok-entry.entry ∷ []) ∙ ap (λ e. map view_meant c.loop-entry.entries.items ++ e ∷ []) c.in_ok-entry.ensures)
+    (ap (map view_meant) c.in_ok-push.ensures.items ∙ map-append view_meant c.loop-entry.entries.items (c.in_ok-meant.meant ∷ []) ∙ ap (λ e. map view_meant c.loop-entry.entries.items ++ e ∷ []) c.in_ok-meant.ensures)
     c.loop-entry.invariant
 
 pub returns : goal.returns
