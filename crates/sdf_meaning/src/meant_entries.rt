@@ -71,7 +71,7 @@ fn add_entries<'a>(
     increment: bool,
     written: Vec<WrittenEntry<'a>>,
 ) -> Result<(), NoMemory>
-    ensures { OnOk result (map view_meant entries.new.items ≡ map view_meant entries.old.items ++ map (meant.entry_of increment) (map view_entry written.items)) }
+    ensures { OnOk result (map view_meant entries.new.items ≡ map view_meant entries.old.items ++ map (meant.entry_of increment) (map view_entry written.entry.items)) }
 {
     for entry in written {
         let meant = entry_of(alloc, increment, entry)?;
@@ -114,7 +114,7 @@ fn add_groups<'a>(
     entries: &mut Vec<Entry<'a>>,
     groups: Vec<WrittenGroup<'a>>,
 ) -> Result<(), NoMemory>
-    ensures { OnOk result (map view_meant entries.new.items ≡ map view_meant entries.old.items ++ flat_map meant.entries_of_group (map view_group groups.items)) }
+    ensures { OnOk result (map view_meant entries.new.items ≡ map view_meant entries.old.items ++ flat_map meant.entries_of_group (map view_group groups.entry.items)) }
 {
     for group in groups {
         add_group(alloc, entries, group)?;
@@ -168,7 +168,7 @@ fn add_checks<'a>(
     entries: &mut Vec<Entry<'a>>,
     checks: Vec<WrittenCheck<'a>>,
 ) -> Result<(), NoMemory>
-    ensures { OnOk result (map view_meant entries.new.items ≡ map view_meant entries.old.items ++ map meant.entry_of_check (map view_check checks.items)) }
+    ensures { OnOk result (map view_meant entries.new.items ≡ map view_meant entries.old.items ++ map meant.entry_of_check (map view_check checks.entry.items)) }
 {
     for check in checks {
         add_entry(entries, check.place, kind_of_check(check.body))?;

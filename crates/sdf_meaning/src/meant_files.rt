@@ -16,7 +16,7 @@ use std::alloc::Global;
 const NANOSECOND: Unit = Unit { power: -9 };
 
 fn entries_of<'a>(alloc: Global, parts: Vec<WrittenPart<'a>>) -> Result<Vec<Entry<'a>>, NoMemory>
-    ensures { IfOk result (λ entries. map view_meant entries.items ≡ flat_map meant.entries_of_part (map view_part parts.items)) }
+    ensures { IfOk result (λ entries. map view_meant entries.items ≡ flat_map meant.entries_of_part (map view_part parts.entry.items)) }
 {
     let mut entries: Vec<Entry<'a>> = Vec::new(alloc);
     for part in parts {

@@ -14,4 +14,4 @@ returns-then-to-le-from c = none_above c.args.from c.args.to (omega (arith, ints
 pub returns : goal.returns
 returns c =
     let same = difference c.args.from c.args.to c.from.result c.from-2.result c.ranges.from c.ranges.to c.from.ensures c.from-2.ensures in
-    c.unsigned_abs.ensures ∙ ap unsigned_abs same ∙ so_far_above c.args.from c.args.to (omega (arith, ints, c.if-to-le-from.false))
+    c.unsigned_abs.ensures.value ∙ ap unsigned_abs same ∙ so_far_above c.args.from c.args.to (omega (arith, ints, c.if-to-le-from.false))

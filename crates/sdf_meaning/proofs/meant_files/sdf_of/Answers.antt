@@ -12,7 +12,7 @@ pub loop-part-init : goal.loop-part-init
 loop-part-init c =
     parts_begin view_file_part _ c.args.file.parts.items _ _
     (ap (λ (cs : List Cell). record { unit = neg_ℤ (pos 9); divider = Point; cells = cs }) (ap (map view_meant_cell) c.new-cells.ensures.items))
-    c.into_iter-part-iterator.ensures.rest
+    c.into_iter-part-iterator.ensures.into_iter_gives.0
 
 pub loop-part-preserved : goal.loop-part-preserved
 loop-part-preserved c = parts_go_on view_file_part c.loop-part.part-iterator c.next.new.self (view_sdf c.loop-part.sdf) _ _ c.in-Some.part c.in-Some.ensures.steps c.in_ok-add_file_part.ensures c.loop-part.invariant
