@@ -4,3 +4,4 @@ pub mod Moving
 pub mod MeantFiles
 pub mod Sizes
 pub mod FirstFaults
+pub mod Examples
