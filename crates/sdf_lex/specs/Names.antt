@@ -1,15 +1,10 @@
--- What words say to a grammar (IEEE 1497-2001, the clauses on keywords and identifiers): keywords, names, and the parts of paths.
-use Rattle.std.specs.Prelude.{ℕ, ◌≡◌, ◌==◌, ◌||◌, ◌&&◌, not, Bool, true, false, List, [], ◌∷◌, map, if◌then◌else◌}
+-- What words say to a grammar (IEEE 1497-2001, the clause on identifiers): names, and the parts of paths.
+use Rattle.std.specs.Prelude.{ℕ, ◌==◌, ◌||◌, ◌&&◌, not, Bool, true, false, List, [], ◌∷◌, map, if◌then◌else◌}
 use Rattle.std.specs.List.{list_all}
-use Rattle.std.specs.Char.{to_ascii_lowercase}
 use Rattle.sg_text.specs.Names.{is_name_byte}
 use Rattle.sdf_lex.specs.declared.letters.Letter.{Letter}
 use Rattle.sdf_lex.specs.declared.letters.Letter.TheVariants.{Plain, Escaped}
 use Rattle.sdf_lex.specs.Words.{spelled, byte_of}
-
--- a keyword stands in either case
-abbrev pub IsKeyword : List ℕ → List ℕ → Type 0
-IsKeyword bytes keyword = map to_ascii_lowercase bytes ≡ map to_ascii_lowercase keyword
 
 -- the letters that bytes spell; a backslash at the end is one of its own
 abbrev pub letters_of : List ℕ → List Letter

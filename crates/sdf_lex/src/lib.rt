@@ -12,7 +12,7 @@ mod tokens;
 mod words;
 
 pub use faults::LexKind;
-pub use names::{called, first_part, is_instance_name, is_keyword, is_name};
+pub use names::{called, first_part, is_instance_name, is_name};
 pub use reading::lex;
 pub use tokens::{Lexeme, Token};
 

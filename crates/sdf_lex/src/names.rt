@@ -1,20 +1,13 @@
 // What words say to a grammar.
-ghost use Rattle.std.specs.Prelude.{◌≡◌, ◌≤◌, ◌<◌, ◌+◌, ◌++◌, ◌∷◌, [], length, map, take, drop, IfOk, IfSome, IfNone, IsTrue, ◌↔◌, MatchOption};
+ghost use Rattle.std.specs.Prelude.{◌≡◌, ◌≤◌, ◌<◌, ◌+◌, ◌++◌, ◌∷◌, [], length, map, take, drop, IfOk, IfSome, IfNone};
 ghost use Rattle.std.specs.List.{list_all};
 ghost use Rattle.sdf_lex.specs.Words.{written, byte_of, spelled};
-ghost use Rattle.sdf_lex.specs.Names.{IsKeyword, letters_of, called, is_name_letter, is_instance_letter, is_name, is_instance_name, is_divider, path_parts};
+ghost use Rattle.sdf_lex.specs.Names.{letters_of, called, is_name_letter, is_instance_letter, is_name, is_instance_name, is_divider, path_parts};
 ghost use Rattle.sdf_lex.specs.NameBridge.{IsSplit, PartIs};
 
 use crate::letters::Letter;
 use sg_text::{NoMemory, is_name_byte};
 use std::alloc::Global;
-
-/// Whether a word is a keyword, in either case.
-pub fn is_keyword(word: &[u8], keyword: &str) -> bool
-    ensures { IsTrue result ↔ IsKeyword word.now keyword.now }
-{
-    word.eq_ignore_ascii_case(keyword.as_bytes())
-}
 
 // The first letter, and the bytes behind it.
 #[tactic(auto, using(crate::proofs::NameLaws::split_last, crate::proofs::NameLaws::split_escaped, crate::proofs::NameLaws::split_plain))]

@@ -118,8 +118,6 @@ fn bad_bytes_are_refused(rt: HostRuntime) -> Result<(), Fail> {
 #[test]
 fn words_are_read(rt: HostRuntime) -> Result<(), Fail> {
     let alloc = rt.alloc();
-    assert!(rt; is_keyword(b"DelayFile", "DELAYFILE"));
-    assert!(rt; !is_keyword(b"DELAY", "DELAYFILE"));
     assert!(rt; is_name(b"a_$1\\."));
     assert!(rt; !is_name(b"a.b") && !is_name(b""));
     assert!(rt; is_instance_name(b"u[3]") && !is_name(b"u[3]"));

@@ -4,4 +4,5 @@ pub mod Parts
 pub mod FileLists
 pub mod Failed
 pub mod Depths
-pub mod Decimals
+pub mod OneOutcome
+pub mod JoinedPhases

@@ -5,5 +5,6 @@ pub mod Cells
 pub mod Files
 pub mod Reading
 pub mod Depth
-pub mod MeantSeen
 pub mod Outcomes
+pub mod Reads
+pub mod Phases

@@ -9,9 +9,10 @@ mod faults;
 mod files;
 mod groups;
 mod heads;
-mod numbers;
 mod reading;
+mod sdf_files;
 mod tails;
 
 pub use faults::SdfKind;
 pub use reading::read_written;
+pub use sdf_files::read_sdf;

@@ -58,7 +58,7 @@ fn kind_at(alloc: Global, tokens: &[Token<'_>], failing: usize) -> Result<SdfKin
 }
 
 /// The place of a token, or the end.
-fn place_of_fault(tokens: &[Token<'_>], at: usize, end: Place) -> Place
+pub fn place_of_fault(tokens: &[Token<'_>], at: usize, end: Place) -> Place
     ensures { result ≡ fault_place end (slice_get (map lexeme tokens.now) at) }
 {
     match token_at(tokens, at) {

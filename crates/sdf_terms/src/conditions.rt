@@ -14,8 +14,8 @@ ghost use Rattle.sdf_terms.specs.Conditions.{seen, word_alone};
 use crate::tokens::{is_select, is_text, text, token_at, word};
 use cond_expr::{Phase, Tok, after};
 use grammar::ReadFault;
-use sdf_lex::{Lexeme, Token};
-use sdf_tree::{Keyword, constant_of, is_name};
+use sdf_lex::{Lexeme, Token, is_name};
+use sdf_tree::{Keyword, constant_of};
 use sg_text::NoMemory;
 use std::alloc::Global;
 

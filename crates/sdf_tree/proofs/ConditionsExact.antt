@@ -14,7 +14,8 @@ use Rattle.sg_logic.specs.declared.values.Value.{Value}
 use Rattle.sdf_lex.specs.Tokens.{Meaning, Lexeme, word_token, selected_token, select_token, text_token, unended_token, operator_token, left_token, right_token, colon_token, star_token, other_token}
 use Rattle.sdf_tree.specs.Conditions.{word_class, class_of, word_tok, tok_of, index, vocabulary, condition_parts, condition_starts, condition_continues, condition}
 use Rattle.sdf_tree.specs.Kinds.{Kind, word_kind, selected_kind, operator_kind, select_kind, text_kind, unended_kind, left_kind, right_kind, colon_kind, star_kind, other_kind, kind_of_meaning, is_select}
-use Rattle.sdf_tree.specs.Words.{constant_of, is_name}
+use Rattle.sdf_lex.specs.Names.{is_name}
+use Rattle.sdf_tree.specs.Words.{constant_of}
 use Rattle.sdf_tree.proofs.Building.{IsExact, the_token, called}
 
 no_class : (c : words.Kind) → None ≡ Some c → ⊥

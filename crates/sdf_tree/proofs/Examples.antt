@@ -11,7 +11,8 @@ use Rattle.sdf_tree.specs.Keywords.{keyword_of}
 use Rattle.sdf_tree.specs.Values as values
 use Rattle.sdf_tree.specs.Values.{number_parts, others_parts, numbers_parts, value_parts, delay_rest_parts, delay_parts, list_parts, port_parts}
 use Rattle.sdf_tree.specs.Written.{Number}
-use Rattle.sdf_tree.specs.Words.{is_port_path, is_instance_path, is_name, constant_of, joined_power}
+use Rattle.sdf_lex.specs.Names.{is_name}
+use Rattle.sdf_tree.specs.Words.{is_port_path, is_instance_path, constant_of, joined_power}
 
 -- ---- words
 
@@ -37,7 +38,6 @@ empty_name = refl
 
 -- a backslash, and a divider behind it
 escaped_divider : is_name (92 ∷ 47 ∷ codes "a") ≡ true
-unfolding is_name
 escaped_divider = refl
 
 brackets_of_an_instance : is_instance_path Slash (codes "u[0]/v[1]") ≡ true

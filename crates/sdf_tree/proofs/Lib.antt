@@ -9,3 +9,4 @@ pub mod FilesExact
 pub mod KeywordLaws
 pub mod NumberLaws
 pub mod Examples
+pub mod PathLaws

@@ -11,7 +11,8 @@ use Rattle.sg_logic.specs.declared.values.Value.{Value}
 use Rattle.sdf_lex.specs.Tokens.{Meaning, Lexeme, word_token, selected_token, operator_token, right_token}
 use Rattle.sdf_tree.specs.Kinds.{Kind, word_kind, selected_kind, operator_kind, select_kind, left_kind, right_kind, kind_of, is_select, select_of}
 use Rattle.sdf_tree.specs.Rules.{Grammar, token}
-use Rattle.sdf_tree.specs.Words.{constant_of, is_name}
+use Rattle.sdf_lex.specs.Names.{is_name}
+use Rattle.sdf_tree.specs.Words.{constant_of}
 
 -- a word is a constant, or else a name
 abbrev pub word_class : Option Value → Bool → Option words.Kind

@@ -1,49 +1,29 @@
 -- What words are by what stands in them (IEEE 1497-2001, the clause on lexical elements).
-use Rattle.std.specs.Prelude.{ℕ, ℤ, pos, neg_ℤ, ◌+ℤ◌, ◌==◌, ◌&&◌, ◌||◌, not, Bool, true, false, List, [], ◌∷◌, take, drop, Option, Some, None, is_some, bytes_eq, codes, unwrap_or, if◌then◌else◌}
-use Rattle.std.specs.Char.{is_ascii_alphanumeric, is_ascii_digit}
+use Rattle.std.specs.Prelude.{ℕ, ℤ, pos, neg_ℤ, ◌+ℤ◌, ◌==◌, ◌||◌, Bool, true, false, List, [], ◌∷◌, take, drop, Option, Some, None, is_some, bytes_eq, codes, unwrap_or, if◌then◌else◌}
+use Rattle.std.specs.Char.{is_ascii_digit}
 use Rattle.std.specs.List.{list_all, prefix_len}
 use Rattle.sg_logic.specs.declared.values.Value.{Value}
 use Rattle.sg_logic.specs.declared.values.Value.TheVariants as value
 use Rattle.vl_token.specs.declared.bases.Base.{Base}
 use Rattle.vl_token.specs.Constants.{base_of, is_digit_of, own_bits, to_width}
+use Rattle.sdf_lex.specs.Names.{is_name, is_instance_name, path_parts}
 use Rattle.sdf_tree.specs.declared.words.Divider.{Divider}
 use Rattle.sdf_tree.specs.declared.words.Divider.TheVariants.{Point, Slash}
 
 -- ---- names
 
--- a letter, a digit, `_` or `$`
-abbrev pub is_name_byte : ℕ → Bool
-is_name_byte b = is_ascii_alphanumeric b || ((b == 95) || (b == 36))
+-- the byte that joins the names of a path
+abbrev pub divider_byte : Divider → ℕ
+divider_byte Point = 46
+divider_byte Slash = 47
 
--- the same, or a bracket, as in an instance's name
-abbrev pub is_instance_byte : ℕ → Bool
-is_instance_byte b = is_name_byte b || ((b == 91) || (b == 93))
-
--- a byte that joins the names of a path; in a name alone there is none
-abbrev pub divides : Option Divider → ℕ → Bool
-divides None b = false
-divides (Some Point) b = b == 46
-divides (Some Slash) b = b == 47
-
--- The rest of a path: names of such bytes, or of any behind a backslash, and a divider between two of them. A name may have begun
--- already, and the next byte may stand behind a backslash.
-abbrev pub is_path_from : (ℕ → Bool) → Option Divider → (begun escaped : Bool) → List ℕ → Bool
-is_path_from may divider begun escaped [] = begun && not escaped
-is_path_from may divider begun true (b ∷ bs) = is_path_from may divider true false bs
-is_path_from may divider begun false (b ∷ bs) =
-    if b == 92 then is_path_from may divider begun true bs
-    else if divides divider b then begun && is_path_from may divider false false bs
-    else may b && is_path_from may divider true false bs
-
--- a port, an instance below the top, and a name of a condition
+-- a port is a name, or several that are joined
 unfoldable pub is_port_path : Divider → List ℕ → Bool
-is_port_path divider text = is_path_from is_name_byte (Some divider) false false text
+is_port_path divider text = list_all is_name (path_parts (divider_byte divider) text)
 
+-- an instance below the top likewise, with brackets in its names
 unfoldable pub is_instance_path : Divider → List ℕ → Bool
-is_instance_path divider text = is_path_from is_instance_byte (Some divider) false false text
-
-unfoldable pub is_name : List ℕ → Bool
-is_name text = is_path_from is_name_byte None false false text
+is_instance_path divider text = list_all is_instance_name (path_parts (divider_byte divider) text)
 
 -- ---- numbers and constants
 

@@ -15,7 +15,7 @@ pub use tree::{
     PathCondition, Port, PortPair, Sdf, SingleCheck, Skipped, Terminal, WindowCheck,
 };
 pub use units::{joined_unit, scale_power, scaled, unit_of};
-pub use words::{Divider, begins_number, is_instance_path, is_name, is_port_path};
+pub use words::{Divider, begins_number, is_instance_path, is_port_path};
 pub use written::{
     WrittenBody, WrittenCell, WrittenCheck, WrittenCheckBody, WrittenDelay, WrittenEntry,
     WrittenFile, WrittenFilePart, WrittenGroup, WrittenHead, WrittenLimits, WrittenNumber,

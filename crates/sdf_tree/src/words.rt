@@ -1,7 +1,11 @@
 // What words are, by what stands in them.
-ghost use Rattle.std.specs.Prelude.{◌≡◌, false};
+ghost use Rattle.std.specs.Prelude.{◌≡◌};
+ghost use Rattle.std.specs.List.{list_all};
+ghost use Rattle.sdf_lex.specs.Names.{path_parts};
 ghost use Rattle.sdf_tree.specs.Words as words;
-ghost use Rattle.sdf_tree.specs.PathWords.{path_byte};
+ghost use Rattle.sdf_tree.specs.PathWords.{path_name};
+
+use sdf_lex::{first_part, is_instance_name, is_name};
 
 /// What joins the names of a path.
 #[derive(Clone, Copy, Debug, PartialEq, Eq)]
@@ -23,63 +27,40 @@ impl Divider {
             _ => None,
         }
     }
-}
 
-fn divides(divider: Option<Divider>, byte: u8) -> bool
-    ensures { result ≡ words.divides divider byte }
-{
-    match divider {
-        Some(Divider::Point) => byte == b'.',
-        Some(Divider::Slash) => byte == b'/',
-        None => false,
-    }
-}
-
-fn is_name_byte(byte: u8) -> bool
-    ensures { result ≡ words.is_name_byte byte }
-{
-    byte.is_ascii_alphanumeric() || byte == b'_' || byte == b'$'
-}
-
-// Whether a byte may stand in a name, in which brackets may or not.
-fn is_path_byte(brackets: bool, byte: u8) -> bool
-    ensures { result ≡ path_byte brackets byte }
-{
-    if brackets {
-        return is_name_byte(byte) || byte == b'[' || byte == b']';
-    }
-    is_name_byte(byte)
-}
-
-// Whether bytes are names with a divider between two of them.
-fn is_path(bytes: &[u8], divider: Option<Divider>, brackets: bool) -> bool
-    ensures { result ≡ words.is_path_from (path_byte brackets) divider false false bytes.now }
-{
-    let mut begun = false;
-    let mut escaped = false;
-    let mut rest = bytes;
-    while let [byte, tail @ ..] = rest {
-        if escaped {
-            begun = true;
-            escaped = false;
-            rest = tail;
-        } else if *byte == b'\\' {
-            escaped = true;
-            rest = tail;
-        } else if divides(divider, *byte) {
-            if !begun {
-                return false;
-            }
-            begun = false;
-            rest = tail;
-        } else if is_path_byte(brackets, *byte) {
-            begun = true;
-            rest = tail;
-        } else {
-            return false;
+    /// The byte that joins names.
+    fn byte(self) -> u8
+        ensures { result ≡ words.divider_byte self }
+    {
+        match self {
+            Divider::Point => b'.',
+            Divider::Slash => b'/',
         }
     }
-    begun && !escaped
+}
+
+fn is_path_name(part: &[u8], brackets: bool) -> bool
+    ensures { result ≡ path_name brackets part.now }
+{
+    if brackets {
+        return is_instance_name(part);
+    }
+    is_name(part)
+}
+
+// Whether bytes are names with the divider between two of them.
+fn is_path(bytes: &[u8], divider: u8, brackets: bool) -> bool
+    ensures { result ≡ list_all (path_name brackets) (path_parts divider bytes.now) }
+{
+    let mut left = Some(bytes);
+    'more: while let Some(path) = left {
+        let (part, behind) = first_part(divider, path);
+        if !is_path_name(part, brackets) {
+            return false;
+        }
+        left = behind;
+    }
+    true
 }
 
 /// Whether a word is a port's or a net's path: names of letters, digits, `_` and `$`, or of any byte behind a backslash, with
@@ -88,7 +69,7 @@ fn is_path(bytes: &[u8], divider: Option<Divider>, brackets: bool) -> bool
 pub fn is_port_path(divider: Divider, text: &[u8]) -> bool
     ensures { result ≡ words.is_port_path divider text.now }
 {
-    is_path(text, Some(divider), false)
+    is_path(text, divider.byte(), false)
 }
 
 /// Whether a word is an instance's path: the same, with brackets in names.
@@ -96,15 +77,7 @@ pub fn is_port_path(divider: Divider, text: &[u8]) -> bool
 pub fn is_instance_path(divider: Divider, text: &[u8]) -> bool
     ensures { result ≡ words.is_instance_path divider text.now }
 {
-    is_path(text, Some(divider), true)
-}
-
-/// Whether a word is a name alone.
-#[tactic(auto, unfolding(crate::specs::Words::is_name))]
-pub fn is_name(text: &[u8]) -> bool
-    ensures { result ≡ words.is_name text.now }
-{
-    is_path(text, None, false)
+    is_path(text, divider.byte(), true)
 }
 
 /// Whether a word begins with a sign, a digit or a point.

@@ -1,11 +1,12 @@
--- Whether the bytes that are left are the rest of a path is whether all are one.
-use Rattle.std.proofs.Common.{◌≡◌, false, length}
-use Rattle.sdf_tree.specs.PathWords.{path_byte}
-use Rattle.sdf_tree.specs.Words as words
+-- Whether the names that are left are names is whether all are.
+use Rattle.std.proofs.Common.{◌≡◌, length}
+use Rattle.std.specs.List.{list_all}
+use Rattle.sdf_lex.specs.Names.{path_parts}
+use Rattle.sdf_tree.specs.PathWords.{path_name, parts_left}
 use Rattle.sdf_tree.proofs.words.is_path.Given as goal
 
-abbrev pub invariant-loop-rest : goal.invariant-loop-rest
-invariant-loop-rest l = words.is_path_from (path_byte l.brackets) l.divider l.begun l.escaped l.rest ≡ words.is_path_from (path_byte l.brackets) l.divider false false l.bytes
+abbrev pub invariant-more : goal.invariant-more
+invariant-more l = list_all (path_name l.brackets) (parts_left l.divider l.left) ≡ list_all (path_name l.brackets) (path_parts l.divider l.bytes)
 
-abbrev pub decreases-loop-rest : goal.decreases-loop-rest
-decreases-loop-rest l = length l.rest
+abbrev pub decreases-more : goal.decreases-more
+decreases-more l = length (parts_left l.divider l.left)

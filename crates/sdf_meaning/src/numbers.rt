@@ -4,7 +4,7 @@ ghost use Rattle.std.specs.Option.{option_map};
 ghost use Rattle.sg_time.specs.Seen.{number as seen_number, outcome};
 ghost use Rattle.sdf_tree.specs.Meant as meant;
 ghost use Rattle.sdf_tree.specs.Seen.{view_delay, view_limits, view_number, view_value};
-ghost use Rattle.sdf_read.specs.MeantSeen.{view_delay_value, view_limit_pair, view_triple};
+ghost use Rattle.sdf_meaning.specs.MeantSeen.{view_delay_value, view_limit_pair, view_triple};
 
 use sdf_tree::{DelayValue, LimitPair, WrittenDelay, WrittenLimits, WrittenNumber, WrittenValue};
 use sg_delay::Triple;
@@ -38,7 +38,7 @@ pub fn decimal_of(text: &[u8]) -> Result<Decimal, TimeError>
 }
 
 /// The number that a word is, and 0 where it is none.
-fn number_of(number: WrittenNumber<'_>) -> Decimal
+pub fn number_of(number: WrittenNumber<'_>) -> Decimal
     ensures { seen_number result ≡ meant.number_of (view_number number.entry) }
 {
     decimal_of(number.text).unwrap_or(ZERO)
