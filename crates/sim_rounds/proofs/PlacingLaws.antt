@@ -1,6 +1,6 @@
 -- How a leg's and a path's values are placed, by the numbers that the code reckons with.
 use Rattle.std.specs.Prelude.{◌≡◌, ℕ, ◌+◌, ◌<◌, ◌^◌, All, List, length, Option}
-use Rattle.std.proofs.Common.{sym, ap, subst}
+use Rattle.std.proofs.Common.{sym, ap, subst, ◌∙◌}
 use Rattle.std.proofs.lemmas.List.Elements.{All-weaker}
 use Rattle.cond_expr.specs.Condition.{Condition}
 use Rattle.sg_delay.specs.declared.limits.PulseStyle.{PulseStyle}
@@ -65,4 +65,5 @@ pub inputs_within : (nets stamps : ℕ) (timings : List LegTiming) (conditions :
     → All (IsPathOf nets) (paths_seen conditions timings (spanned table span)) → All (λ (p : Path). p.input < stamps) xs
 inputs_within nets stamps timings conditions table span xs e same named =
     let of : All (λ (p : Path). IsPathOf nets (path_seen conditions timings p)) (spanned table span) = all-unmapped (IsPathOf nets) (path_seen conditions timings) (spanned table span) named in
-    subst (λ ys. All (λ (p : Path). p.input < stamps) ys) (sym e) (λ k d l. subst (λ n. _ < n) (sym same) (of k d l).input)
+    let at_nets : All (λ (p : Path). p.input < nets) (spanned table span) = λ k d l. (of k d l).input in
+    subst (λ ys. All (λ (p : Path). p.input < stamps) ys) (sym e) (subst (λ n. All (λ (p : Path). p.input < n) (spanned table span)) (sym same) at_nets)

@@ -157,6 +157,7 @@ fn toggle<L: Ledger, R: Rounds<L>>(rounds: &mut R, now: u64, steps: &mut Steps<L
 // The end of a time with no round left.
 fn last<L: Ledger, R: Rounds<L>>(rounds: &mut R, now: u64) -> TimeEnd
     requires ready { R.ready rounds.old false now }
+    requires now { now < 2 ^ 60 }
     requires handed { R.handed rounds.old ≡ [] }
     ensures machine { R.machine rounds.new ≡ R.machine rounds.old }
     ensures kept { R.kept rounds.new ≡ R.kept rounds.old }

@@ -1,6 +1,7 @@
 use Rattle.std.proofs.Common.{◌<◌, ◌^◌, ◌∙◌, ap, arith}
 use Rattle.sg_model.specs.Agenda.{list_at, with_list}
 use Rattle.sg_circuit.specs.Timings.{timing_between}
+use Rattle.sg_model.specs.Pending.{last_value}
 use Rattle.sg_circuit.specs.TimingsSeen.{leg_timing_seen}
 use Rattle.path_pick.specs.Pass.{pulse_by}
 use Rattle.pulse_list.proofs.EarliestLaws.{none_below-reverse}
@@ -20,5 +21,5 @@ pub returns-clause-lists : goal.returns-clause-lists
 returns-clause-lists g c =
     c.place.ensures.lists
     ∙ ap (λ l. with_list (g.A.Agenda.lists c.args.agenda.now) c.args.element l)
-    (leg_placed c.pulse_between-pulse.result _ (list_at (g.A.Agenda.lists c.args.agenda.now) c.args.element) c.args.present c.args.now c.args.value
+    (leg_placed c.pulse_between-pulse.result (timing_between (leg_timing_seen c.args.timing.now) (last_value (list_at (g.A.Agenda.lists c.args.agenda.now) c.args.element) c.args.present) c.args.value) (list_at (g.A.Agenda.lists c.args.agenda.now) c.args.element) c.args.present c.args.now c.args.value
     (c.pulse_between-pulse.ensures.pulse ∙ ap (λ f. pulse_by (timing_between (leg_timing_seen c.args.timing.now) f c.args.value)) c.end_value-from.ensures))
