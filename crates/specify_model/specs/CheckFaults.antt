@@ -4,7 +4,7 @@ use Rattle.std.specs.Option.{option_or}
 use Rattle.sg_circuit.specs.declared.checks.CheckKind.{CheckKind}
 use Rattle.sg_circuit.specs.declared.checks.CheckKind.TheVariants as kind
 use Rattle.vl_tree.specs.Tree.{Named, Amount, SignedAmount, Limit, one_limit, three_limits, EdgeWord, Event, Check, SpecifyItem}
-use Rattle.elab_model.specs.declared.kinds.ElabKind.TheVariants.{UnknownName, BadTerminal, BadDelay}
+use Rattle.elab_model.specs.declared.kinds.ElabKind.TheVariants.{UnknownName, BadTerminal, NegativeLimit}
 use Rattle.elab_model.specs.Bits.{variable_named}
 use Rattle.elab_model.specs.Faults.{Fault, fault_if}
 use Rattle.elab_model.specs.Names.{Variable}
@@ -49,7 +49,7 @@ abbrev pub limit_faults : Measure → Values → Limit → List Fault
 limit_faults by values l =
     let chosen = corner_limit by.corner l in
     flat_map (λ a. unknown_faults values a.amount) (limit_parts l)
-    ++ (long_faults by values chosen.amount ++ fault_if (is_below_0 by values chosen) BadDelay (amount_place chosen.amount))
+    ++ (long_faults by values chosen.amount ++ fault_if (is_below_0 by values chosen) NegativeLimit (amount_place chosen.amount))
 
 abbrev pub threshold_faults : Measure → Values → Option Limit → List Fault
 threshold_faults by values None = []
