@@ -50,7 +50,7 @@ unnamed_module = refl
 abbrev pub cell_with_block : Module
 cell_with_block = module_as as_cell (codes "c") 90 None (block_item 94 (width_item 95 (term (codes "w") 96) 1 ∷ []) ∷ [])
 
-reached_block : faults (a_module cell_with_block ∷ a_module (with_items (instance_item (codes "c") 61 (codes "u") (by_order []) ∷ [])) ∷ []) None Typ ≡ fault NotYet (here 95) ∷ []
+reached_block : faults (a_module cell_with_block ∷ a_module (with_items (instance_item (codes "c") 61 (codes "u") (by_order []) ∷ [])) ∷ []) None Typ ≡ fault BadTerminal (here 95) ∷ []
 reached_block = refl
 
 unreached_block : faults (a_module cell_with_block ∷ a_module (with_items []) ∷ []) None Typ ≡ []

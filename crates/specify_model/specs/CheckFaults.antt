@@ -1,16 +1,17 @@
 -- Faults of timing checks, each with its place (IEEE 1364-2005, clause 15).
-use Rattle.std.specs.Prelude.{ℕ, List, [], ◌∷◌, ◌++◌, Bool, true, false, ◌&&◌, not, ◌==◌, Option, Some, None, is_none, flat_map}
-use Rattle.std.specs.Option.{option_or}
+use Rattle.std.specs.Prelude.{ℕ, ℤ, List, [], ◌∷◌, ◌++◌, Bool, true, false, ◌&&◌, not, ◌==◌, Option, Some, None, is_none, flat_map}
 use Rattle.sg_circuit.specs.declared.checks.CheckKind.{CheckKind}
 use Rattle.sg_circuit.specs.declared.checks.CheckKind.TheVariants as kind
-use Rattle.vl_tree.specs.Tree.{Named, Amount, SignedAmount, Limit, one_limit, three_limits, EdgeWord, Event, Check, SpecifyItem}
+use Rattle.sg_delay.specs.declared.corners.Corner.{Corner}
+use Rattle.vl_tree.specs.Tree.{Named, Amount, SignedAmount, Limit, one_limit, three_limits, EdgeWord, Event, Check, SpecifyItem, Module}
 use Rattle.elab_model.specs.declared.kinds.ElabKind.TheVariants.{UnknownName, BadTerminal, NegativeLimit}
 use Rattle.elab_model.specs.Bits.{variable_named}
 use Rattle.elab_model.specs.Faults.{Fault, fault_if}
-use Rattle.elab_model.specs.Names.{Variable}
-use Rattle.specify_model.specs.Blocks.{parameters}
+use Rattle.elab_model.specs.Names.{Variable, variables}
+use Rattle.specify_model.specs.Blocks.{specify_items, parameters}
 use Rattle.specify_model.specs.Checks.{check_texts, kind_of, reference_of, data_of, limits_in, threshold_of, notifier_of, corner_limit}
 use Rattle.specify_model.specs.Faults.{operand_faults, condition_faults, unknown_faults, long_faults, amount_place}
+use Rattle.specify_model.specs.Outputs.{measure}
 use Rattle.specify_model.specs.Values.{Measure, Values, value_of, amount_ticks}
 
 -- ---- terminals
@@ -77,3 +78,6 @@ check_faults by vs values c =
 
 abbrev pub all_check_faults : Measure → List Variable → List SpecifyItem → List Fault
 all_check_faults by vs items = flat_map (check_faults by vs (value_of (parameters items))) (check_texts items)
+
+abbrev pub timing_check_faults : Corner → ℤ → Module → List Fault
+timing_check_faults corner tick m = all_check_faults (measure corner tick m) (variables m) (specify_items m)

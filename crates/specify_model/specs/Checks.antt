@@ -15,10 +15,11 @@ use Rattle.vl_tree.specs.declared.check_names.TwoLimitCheck.{TwoLimitCheck}
 use Rattle.vl_tree.specs.declared.check_names.TwoLimitCheck.TheVariants as two
 use Rattle.vl_tree.specs.declared.expressions.Select.{Select}
 use Rattle.vl_tree.specs.declared.expressions.Select.TheVariants as select
-use Rattle.vl_tree.specs.Tree.{Named, SignedAmount, Limit, one_limit, three_limits, Word, Event, Check, one_limit_check, two_limit_check, width_check, period_check, SpecifyItem, specparams, a_path, pulse_style, a_check}
-use Rattle.elab_model.specs.Names.{Variable}
-use Rattle.specify_model.specs.Blocks.{parameters}
+use Rattle.vl_tree.specs.Tree.{Named, SignedAmount, Limit, one_limit, three_limits, Word, Event, Check, one_limit_check, two_limit_check, width_check, period_check, SpecifyItem, specparams, a_path, pulse_style, a_check, Module}
+use Rattle.elab_model.specs.Names.{Variable, variables}
+use Rattle.specify_model.specs.Blocks.{specify_items, parameters}
 use Rattle.specify_model.specs.Conditions.{tokens, tree_of, bound_to, first_bit}
+use Rattle.specify_model.specs.Outputs.{measure}
 use Rattle.specify_model.specs.Paths.{edge_of}
 use Rattle.specify_model.specs.Terms.{NetBit, term_bits}
 use Rattle.specify_model.specs.Values.{Measure, Values, value_of, amount_ticks}
@@ -158,3 +159,6 @@ module_check by vs values c = record {
 
 abbrev pub module_checks : Measure → List Variable → List SpecifyItem → List ModuleCheck
 module_checks by vs items = map (module_check by vs (value_of (parameters items))) (check_texts items)
+
+abbrev pub timing_checks : Corner → ℤ → Module → List ModuleCheck
+timing_checks corner tick m = module_checks (measure corner tick m) (variables m) (specify_items m)
