@@ -9,10 +9,10 @@ use Rattle.elab_model.specs.Bits.{variable_named}
 use Rattle.elab_model.specs.Faults.{Fault, fault_if}
 use Rattle.elab_model.specs.Names.{Variable, variables}
 use Rattle.specify_model.specs.Blocks.{specify_items, parameters}
-use Rattle.specify_model.specs.Checks.{check_texts, kind_of, reference_of, data_of, limits_in, threshold_of, notifier_of, corner_limit}
+use Rattle.specify_model.specs.Checks.{check_texts, kind_of, reference_of, data_of, limits_in, threshold_of, notifier_of, corner_limit, size_ticks}
 use Rattle.specify_model.specs.Faults.{operand_faults, condition_faults, unknown_faults, long_faults, amount_place}
 use Rattle.specify_model.specs.Outputs.{measure}
-use Rattle.specify_model.specs.Values.{Measure, Values, value_of, amount_ticks}
+use Rattle.specify_model.specs.Values.{Measure, Values, value_of}
 
 -- ---- terminals
 
@@ -44,13 +44,14 @@ limit_parts (three_limits min typ max) = min ∷ typ ∷ max ∷ []
 
 -- the corner's part is below 0
 abbrev pub is_below_0 : Measure → Values → SignedAmount → Bool
-is_below_0 by values a = a.negative && not (amount_ticks by values a.amount == 0)
+is_below_0 by values a = a.negative && not (size_ticks by values a == 0)
 
+abbrev pub part_faults : Measure → Values → SignedAmount → List Fault
+part_faults by values a = long_faults by values a.amount ++ fault_if (is_below_0 by values a) NegativeLimit (amount_place a.amount)
+
+-- a specparam that there isn't, in any part; what is too long or below 0, in the corner's part
 abbrev pub limit_faults : Measure → Values → Limit → List Fault
-limit_faults by values l =
-    let chosen = corner_limit by.corner l in
-    flat_map (λ a. unknown_faults values a.amount) (limit_parts l)
-    ++ (long_faults by values chosen.amount ++ fault_if (is_below_0 by values chosen) NegativeLimit (amount_place chosen.amount))
+limit_faults by values l = flat_map (λ a. unknown_faults values a.amount) (limit_parts l) ++ part_faults by values (corner_limit by.corner l)
 
 abbrev pub threshold_faults : Measure → Values → Option Limit → List Fault
 threshold_faults by values None = []

@@ -121,8 +121,11 @@ corner_limit Min (three_limits min typ max) = min
 corner_limit Typ (three_limits min typ max) = typ
 corner_limit Max (three_limits min typ max) = max
 
+abbrev pub size_ticks : Measure → Values → SignedAmount → ℕ
+size_ticks by values a = amount_ticks by values a.amount
+
 abbrev pub signed_ticks : Measure → Values → SignedAmount → ℤ
-signed_ticks by values a = if a.negative then (pos 0 -ℤ pos (amount_ticks by values a.amount)) else pos (amount_ticks by values a.amount)
+signed_ticks by values a = if a.negative then (pos 0 -ℤ pos (size_ticks by values a)) else pos (size_ticks by values a)
 
 abbrev pub limit_ticks : Measure → Values → Limit → ℤ
 limit_ticks by values l = signed_ticks by values (corner_limit by.corner l)
@@ -130,7 +133,7 @@ limit_ticks by values l = signed_ticks by values (corner_limit by.corner l)
 -- a threshold, which has no sign; without one it is 0 (15.3.4)
 abbrev pub threshold_ticks : Measure → Values → Option Limit → ℕ
 threshold_ticks by values None = 0
-threshold_ticks by values (Some l) = amount_ticks by values (corner_limit by.corner l).amount
+threshold_ticks by values (Some l) = size_ticks by values (corner_limit by.corner l)
 
 -- a check: limits in ticks, in the order of the text; the reg that a violation toggles (15.5)
 pub record ModuleCheck : Type 0 where

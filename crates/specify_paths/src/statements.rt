@@ -65,7 +65,8 @@ fn edge_of(edge: &EdgeWord) -> Edge
     }
 }
 
-fn option_edge(edge: &Option<EdgeWord>) -> Option<Edge>
+/// The changes that an edge is, where there is one (IEEE 1364-2005, 15.4).
+pub fn option_edge(edge: &Option<EdgeWord>) -> Option<Edge>
     ensures { result ≡ option_map edge_of_word (option_map view_edge edge.now) }
 {
     match edge {
