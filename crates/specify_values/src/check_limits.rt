@@ -49,6 +49,7 @@ fn part_ticks(
 ) -> Result<u64, Refused<ElabKind>>
     ensures ticks { IfOk result (λ n. pos n ≡ def.signed_ticks (measured by) (values_of parameters.now) (view_signed part.now)) }
     ensures size { IfOk result (λ n. n ≡ def.size_ticks (measured by) (values_of parameters.now) (view_signed part.now)) }
+    ensures fits { IfOk result (λ n. is_too_long n ≡ false) }
     ensures told { Tells (faults.part_faults (measured by) (values_of parameters.now) (view_signed part.now)) result }
 {
     let ticks = amount_ticks(by, parameters, &part.amount)?;
