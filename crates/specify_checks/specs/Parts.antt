@@ -1,6 +1,6 @@
 -- The parts of a timing check's text, as private functions hand them on.
-use Rattle.std.specs.Prelude.{◌≡◌, ◌∷◌, map}
-use Rattle.std.specs.Option.{option_map, option_to_list}
+use Rattle.std.specs.Prelude.{◌≡◌, ◌∷◌, option_to_list}
+use Rattle.std.specs.Option.{option_map}
 use Rattle.vl_tree.specs.Seen.{view_event, view_limit, view_name}
 use Rattle.vl_tree.specs.Tree.{Check}
 use Rattle.specify_model.specs.Checks.{place_of, kind_of, reference_of, data_of, limits_in, threshold_of, notifier_of}
