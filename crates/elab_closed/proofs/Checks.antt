@@ -1,5 +1,5 @@
 -- Each check of the circuit has a scope that there is, and a data event where its kind has one.
-use Rattle.std.specs.Prelude.{◌≡◌, ℕ, ◌<◌, List, ◌↔◌, IsSome, length, map, option_map, refl}
+use Rattle.std.specs.Prelude.{◌≡◌, ℕ, ℤ, ◌<◌, List, ◌↔◌, IsSome, length, map, option_map, refl}
 use Rattle.std.specs.List.{AllByRecursion}
 use Rattle.sg_circuit.specs.Closed.{HasDatum}
 use Rattle.sg_circuit.specs.declared.checks.Check as circuit
@@ -10,7 +10,7 @@ use Rattle.vl_tree.specs.Tree.{Event, Check, one_limit_check, two_limit_check, w
 use Rattle.elab_model.specs.Delays.{tick_of}
 use Rattle.elab_model.specs.Hierarchy.{Instance, instances}
 use Rattle.elab_model.specs.Names.{variables}
-use Rattle.elab_model.specs.Nets.{nets}
+use Rattle.elab_model.specs.Nets.{OwnNet, nets}
 use Rattle.specify_model.specs.Blocks.{parameters, specify_items}
 use Rattle.specify_model.specs.Checks.{check_texts, data_of, kind_of, module_check, timing_checks}
 use Rattle.specify_model.specs.Outputs.{measure}
@@ -47,9 +47,11 @@ checks-fit source top corner =
     abbrev count : ℕ
     count = length ss
 
-    abbrev all = nets source top
+    abbrev all : List OwnNet
+    all = nets source top
 
-    abbrev tick = tick_of source top
+    abbrev tick : ℤ
+    tick = tick_of source top
 
     each : (s : Instance) → s.step.number < count → AllByRecursion (λ u. CheckFits count (check_of_use u)) (check_uses_of all source corner tick s)
     each s lt =

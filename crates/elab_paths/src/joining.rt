@@ -25,14 +25,16 @@ pub struct Joined {
     pub paths: Vec<Path>,
 }
 
-fn module_at<'l, 't, 'a>(library: &'l Library<'t, 'a>, definition: usize) -> &'l Prepared<'t, 'a> {
+/// The module at a place of the definitions, which stands ready there.
+pub fn module_at<'l, 't, 'a>(library: &'l Library<'t, 'a>, definition: usize) -> &'l Prepared<'t, 'a> {
     match &library.parts[definition] {
         Some(Ready::Module(prepared)) => prepared,
         _ => unreachable!(),
     }
 }
 
-fn row_of(rows: &Rows, number: usize, width: usize) -> &[NetId] {
+/// The nets of the bits of the instance of a number, whose module has so many.
+pub fn row_of(rows: &Rows, number: usize, width: usize) -> &[NetId] {
     let start = rows.starts[number];
     &rows.inner[start..start + width]
 }
