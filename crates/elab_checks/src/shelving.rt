@@ -1,10 +1,11 @@
 // The checks of a module, with their conditions in a table.
-ghost use Rattle.std.specs.Prelude.{◌≡◌, ◌++◌, All, List, IfOk, OnOk, length, map};
-ghost use Rattle.std.specs.Option.{option_map};
+ghost use Rattle.std.specs.Prelude.{◌≡◌, ◌<◌, ◌++◌, All, List, IfOk, IfSome, OnOk, length, map};
+ghost use Rattle.std.specs.Option.{option_and_then, option_map};
 ghost use Rattle.cond_expr.specs.Condition.{Condition};
 ghost use Rattle.elab_model.specs.Names.{Variable};
-ghost use Rattle.specify_checks.specs.Seen.{check_seen, event_seen, IsFitting};
-ghost use Rattle.elab_checks.specs.Ready.{check_ready, event_ready, IsLonger, IsReadyCheck, IsWritten};
+ghost use Rattle.elab_laws.specs.Handing.{all_bits};
+ghost use Rattle.specify_checks.specs.Seen.{check_seen, enabling_seen, event_seen, IsFitting};
+ghost use Rattle.elab_checks.specs.Ready.{check_ready, enabling_at, event_ready, IsLonger, IsReadyCheck, IsReadyEvent};
 
 use cond_expr::Expr;
 use sg_circuit::CheckKind;
@@ -19,7 +20,7 @@ pub struct ReadyEvent {
     pub bit: usize,
     pub index: Option<i64>,
     pub edge: Option<Edge>,
-    pub condition: Option<u32>,
+    pub condition: Option<usize>,
 }
 
 /// A timing check of a module; limits and threshold are in ticks (IEEE 1364-2005, clause 15).
@@ -36,22 +37,36 @@ pub struct ReadyCheck {
     pub notifier: Option<usize>,
 }
 
+// The place of a condition in the table, once it is there.
+fn shelve_condition(
+    condition: Option<Expr>,
+    conditions: &mut Vec<Expr>,
+) -> Result<Option<usize>, NoMemory>
+    ensures kept { OnOk result (IsLonger conditions.old.items conditions.new.items) }
+    ensures condition { IfOk result (λ o. (vs : List Variable) (more : List Condition) → option_and_then (enabling_at (conditions.new.items ++ more) vs) o ≡ option_map (enabling_seen vs) condition.entry) }
+    ensures written { IfOk result (λ o. IfSome o (λ i. i < length conditions.new.items)) }
+{
+    match condition {
+        Some(condition) => {
+            let place = conditions.len();
+            conditions.push(condition)?;
+            Ok(Some(place))
+        }
+        None => Ok(None),
+    }
+}
+
 fn shelve_event(event: ModuleEvent, conditions: &mut Vec<Expr>) -> Result<ReadyEvent, NoMemory>
     ensures kept { OnOk result (IsLonger conditions.old.items conditions.new.items) }
     ensures event { IfOk result (λ e. (vs : List Variable) (more : List Condition) → event_ready (conditions.new.items ++ more) vs e ≡ event_seen vs event.entry) }
-    ensures written { IfOk result (IsWritten (length conditions.new.items)) }
-    ensures bit { IfOk result (λ e. e.bit ≡ event.entry.bit) }
+    ensures named { IfOk result (λ e. (vs : List Variable) → event.entry.bit < length (all_bits vs) → IsReadyEvent vs (length conditions.new.items) e) }
 {
-    let mut written = None;
-    if let Some(condition) = event.condition {
-        written = Some(conditions.len() as u32);
-        conditions.push(condition)?;
-    }
+    let condition = shelve_condition(event.condition, conditions)?;
     Ok(ReadyEvent {
         bit: event.bit,
         index: event.index,
         edge: event.edge,
-        condition: written,
+        condition,
     })
 }
 
@@ -61,6 +76,7 @@ fn shelve_some(
 ) -> Result<Option<ReadyEvent>, NoMemory>
     ensures kept { OnOk result (IsLonger conditions.old.items conditions.new.items) }
     ensures event { IfOk result (λ o. (vs : List Variable) (more : List Condition) → option_map (event_ready (conditions.new.items ++ more) vs) o ≡ option_map (event_seen vs) event.entry) }
+    ensures named { IfOk result (λ o. (vs : List Variable) → IfSome event.entry (λ e. e.bit < length (all_bits vs)) → IfSome o (IsReadyEvent vs (length conditions.new.items))) }
 {
     match event {
         Some(event) => Ok(Some(shelve_event(event, conditions)?)),

@@ -24,7 +24,7 @@ use std::alloc::Global;
 /// A condition over nets, and the place of its text in the table of conditions.
 #[derive(Drop)]
 pub struct BoundCondition {
-    pub written: u32,
+    pub written: usize,
     pub bound: Bound,
 }
 
@@ -64,12 +64,12 @@ struct Here<'m, 'a> {
     conditions: &'m [Expr],
 }
 
-fn bound_to(alloc: Global, here: Here, written: u32) -> Result<BoundCondition, NoMemory> {
+fn bound_to(alloc: Global, here: Here, written: usize) -> Result<BoundCondition, NoMemory> {
     let operands = Operands {
         table: here.table,
         row: here.row,
     };
-    match here.conditions[written as usize].bind(alloc, &operands) {
+    match here.conditions[written].bind(alloc, &operands) {
         Ok(bound) => Ok(BoundCondition { written, bound }),
         Err(BindFault::NoMemory) => Err(NoMemory),
         Err(BindFault::Unknown { .. }) => unreachable!(),
@@ -79,7 +79,7 @@ fn bound_to(alloc: Global, here: Here, written: u32) -> Result<BoundCondition, N
 fn condition_of(
     alloc: Global,
     here: Here,
-    written: Option<u32>,
+    written: Option<usize>,
 ) -> Result<Option<BoundCondition>, NoMemory> {
     match written {
         Some(written) => Ok(Some(bound_to(alloc, here, written)?)),
