@@ -10,9 +10,8 @@ ghost use Rattle.vl_elab.specs.Below.{IsBelow, RefusesBelow};
 ghost use Rattle.sg_circuit.specs.TimingsSeen.{leg_timing_seen};
 ghost use Rattle.vl_elab.specs.Made.{IsWhole, none_of_twelve};
 
-use crate::checks::checks_of;
+use crate::checks::checks_below;
 use crate::driving::{drive, drivers_in};
-use elab_checks::{check_uses, ready_checks};
 use elab_elements::{Placing, elements_in};
 use elab_hierarchy::{Definitions, place_instances, tick, top};
 use elab_model::ElabKind;
@@ -68,11 +67,8 @@ fn circuit_below(
         &instances,
         no_delay(),
     )?;
-    let mut conditions = Vec::new(alloc);
-    let ready = ready_checks(alloc, corner, tick, &library, &instances, &mut conditions)?;
     let joined = add_paths(alloc, &library, &modules, &instances, &rows, &mut made)?;
-    let uses = check_uses(alloc, &library, &ready, &conditions, &instances, &rows)?;
-    let checks = checks_of(alloc, uses)?;
+    let checks = checks_below(alloc, corner, tick, &library, &instances, &rows)?;
     let drivers = drivers_in(
         alloc,
         definitions,
@@ -84,14 +80,13 @@ fn circuit_below(
     )?;
     let scopes = scopes_of(alloc, definitions, &library, &instances, &rows)?;
     let circuit = close(
-        alloc, tick, library, rows, made, modules, joined, &drivers, checks, scopes,
+        tick, library, rows, made, modules, joined, &drivers, checks, scopes,
     )?;
     Ok(circuit)
 }
 
 // The circuit of what has been made.
 fn close(
-    alloc: Global,
     tick: Unit,
     library: Library,
     rows: Rows,
