@@ -1,5 +1,5 @@
 -- Each check of the circuit has a scope that there is, and a data event where its kind has one.
-use Rattle.std.specs.Prelude.{◌≡◌, ℕ, ℤ, ◌<◌, List, ◌↔◌, IsSome, length, map, option_map, refl}
+use Rattle.std.specs.Prelude.{◌≡◌, ℕ, ◌<◌, List, ◌↔◌, IsSome, length, map, option_map, refl}
 use Rattle.std.specs.List.{AllByRecursion}
 use Rattle.sg_circuit.specs.Closed.{HasDatum}
 use Rattle.sg_circuit.specs.declared.checks.Check as circuit
@@ -10,12 +10,12 @@ use Rattle.vl_tree.specs.Tree.{Event, Check, one_limit_check, two_limit_check, w
 use Rattle.elab_model.specs.Delays.{tick_of}
 use Rattle.elab_model.specs.Hierarchy.{Instance, instances}
 use Rattle.elab_model.specs.Names.{variables}
-use Rattle.elab_model.specs.Nets.{OwnNet, nets}
+use Rattle.elab_model.specs.Nets.{nets}
 use Rattle.specify_model.specs.Blocks.{parameters, specify_items}
 use Rattle.specify_model.specs.Checks.{check_texts, data_of, kind_of, module_check, timing_checks}
 use Rattle.specify_model.specs.Outputs.{measure}
 use Rattle.specify_model.specs.Values.{value_of}
-use Rattle.elab_circuit.specs.CheckUses.{check_of_use, check_use, check_uses_of, check_uses}
+use Rattle.elab_circuit.specs.CheckUses.{CheckUse as Check_use, check_of_use, check_use, check_uses_of, check_uses}
 use Rattle.elab_circuit.specs.PathUses.{bit_number}
 use Rattle.elab_laws.proofs.Lists.{all-anyway, all-flat_in, all-map, all-weaker}
 use Rattle.elab_closed.proofs.Scopes.{numbers-below_count}
@@ -35,30 +35,28 @@ has-datum f g h (two_limit_check p two.RecRem r d l m n) = (λ s. tt, λ u. refl
 has-datum f g h (width_check p r l t n) = (λ s. cc, λ u. absurd u)
 has-datum f g h (period_check p r l n) = (λ s. cc, λ u. absurd u)
 
-pub checks-fit : (source : Source) (top : Module) (corner : Corner) → AllByRecursion (CheckFits (length (instances source top))) (map check_of_use (check_uses source top corner))
-checks-fit source top corner =
-    all-map (CheckFits count) check_of_use (check_uses source top corner)
-    (all-flat_in (λ u. CheckFits count (check_of_use u)) (check_uses_of all source corner tick) ss
-    (all-weaker (λ s. s.step.number < count) (λ s. AllByRecursion (λ u. CheckFits count (check_of_use u)) (check_uses_of all source corner tick s)) ss each (numbers-below_count source top)))
-  where
-    abbrev ss : List Instance
-    ss = instances source top
+module _ (source : Source) (top : Module) (corner : Corner) where
+  abbrev ss : List Instance
+  ss = instances source top
 
-    abbrev count : ℕ
-    count = length ss
+  abbrev count : ℕ
+  count = length ss
 
-    abbrev all : List OwnNet
-    all = nets source top
+  abbrev Fits : Check_use → Type 0
+  Fits u = CheckFits count (check_of_use u)
 
-    abbrev tick : ℤ
-    tick = tick_of source top
+  of-instance : (s : Instance) → s.step.number < count → AllByRecursion Fits (check_uses_of (nets source top) source corner (tick_of source top) s)
+  of-instance s lt =
+      let m = s.step.definition in
+      let items = specify_items m in
+      let net = bit_number (nets source top) source s in
+      let made = module_check (measure corner (tick_of source top) m) (variables m) (value_of (parameters items)) in
+      all-map Fits (check_use s.step.number net) (timing_checks corner (tick_of source top) m)
+      (all-map (λ c. Fits (check_use s.step.number net c)) made (check_texts items)
+      (all-anyway (λ c. Fits (check_use s.step.number net (made c))) (check_texts items) (λ c. record { scope = lt; datum = has-datum _ _ _ c })))
 
-    each : (s : Instance) → s.step.number < count → AllByRecursion (λ u. CheckFits count (check_of_use u)) (check_uses_of all source corner tick s)
-    each s lt =
-        let m = s.step.definition in
-        let items = specify_items m in
-        let net = bit_number all source s in
-        let made = module_check (measure corner tick m) (variables m) (value_of (parameters items)) in
-        all-map (λ u. CheckFits count (check_of_use u)) (check_use s.step.number net) (timing_checks corner tick m)
-        (all-map (λ c. CheckFits count (check_of_use (check_use s.step.number net c))) made (check_texts items)
-        (all-anyway (λ c. CheckFits count (check_of_use (check_use s.step.number net (made c)))) (check_texts items) (λ c. record { scope = lt; datum = has-datum _ _ _ c })))
+  pub checks-fit : AllByRecursion (CheckFits (length (instances source top))) (map check_of_use (check_uses source top corner))
+  checks-fit =
+      all-map (CheckFits count) check_of_use (check_uses source top corner)
+      (all-flat_in Fits (check_uses_of (nets source top) source corner (tick_of source top)) ss
+      (all-weaker (λ s. s.step.number < count) (λ s. AllByRecursion Fits (check_uses_of (nets source top) source corner (tick_of source top) s)) ss of-instance (numbers-below_count source top)))

@@ -26,7 +26,10 @@ pub struct Joined {
 }
 
 /// The module at a place of the definitions, which stands ready there.
-pub fn module_at<'l, 't, 'a>(library: &'l Library<'t, 'a>, definition: usize) -> &'l Prepared<'t, 'a> {
+pub fn module_at<'l, 't, 'a>(
+    library: &'l Library<'t, 'a>,
+    definition: usize,
+) -> &'l Prepared<'t, 'a> {
     match &library.parts[definition] {
         Some(Ready::Module(prepared)) => prepared,
         _ => unreachable!(),

@@ -60,11 +60,7 @@ fn index_in(select: Option<Select>) -> Option<i64>
 }
 
 // The condition that enables events.
-fn enabling(
-    alloc: Global,
-    table: &Table,
-    event: &Event,
-) -> Result<Option<Expr>, Refused<ElabKind>>
+fn enabling(alloc: Global, table: &Table, event: &Event) -> Result<Option<Expr>, Refused<ElabKind>>
     ensures condition { IfOk result (λ c. option_map (enabling_seen table.now) c ≡ option_map (λ ws. def.enabled_by table.now (tokens ws)) (view_event event.now).condition) }
     ensures told { Tells (faults.event_condition_faults table.now (view_event event.now)) result }
 {

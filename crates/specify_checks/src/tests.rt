@@ -94,10 +94,7 @@ fn module<'a>(alloc: Global, check: Check<'a>) -> Result<Module<'a>, NoMemory> {
     })
 }
 
-fn checks_in(
-    alloc: Global,
-    check: Check<'_>,
-) -> Result<Vec<ModuleCheck>, Refused<ElabKind>> {
+fn checks_in(alloc: Global, check: Check<'_>) -> Result<Vec<ModuleCheck>, Refused<ElabKind>> {
     let definition = module(alloc, check)?;
     let table = Table::of(alloc, &definition)?;
     let by = Measure {
@@ -108,9 +105,7 @@ fn checks_in(
     module_checks(alloc, by, &table, &definition)
 }
 
-fn refused(
-    made: Result<Vec<ModuleCheck>, Refused<ElabKind>>,
-) -> Option<(ElabKind, u64)> {
+fn refused(made: Result<Vec<ModuleCheck>, Refused<ElabKind>>) -> Option<(ElabKind, u64)> {
     match made {
         Err(Refused::Fault { kind, place }) => Some((kind, place.byte)),
         _ => None,
@@ -129,12 +124,9 @@ fn a_setup(rt: HostRuntime) -> Result<(), Fail> {
         limit: limit(false, 2, 63),
         notifier: Some(name("n".as_bytes(), 64)),
     };
-    let Ok(checks) = checks_in(alloc, check) else {
-        return Err(Fail);
-    };
-    let [made] = checks.as_slice() else {
-        return Err(Fail);
-    };
+    let checks = checks_in(alloc, check)?;
+    assert_eq!(rt; checks.len(), 1);
+    let made = &checks[0];
     assert_eq!(rt; made.kind, CheckKind::Setup);
     assert_eq!(rt; made.refer.bit, 0);
     assert_eq!(rt; made.refer.edge, Some(POSEDGE));
@@ -156,7 +148,10 @@ fn a_limit_below_0(rt: HostRuntime) -> Result<(), Fail> {
         second: limit(false, 5, 64),
         notifier: None,
     };
-    assert_eq!(rt; refused(checks_in(rt.alloc(), check)), Some((ElabKind::NegativeLimit, 63)));
+    assert_eq!(rt;
+        refused(checks_in(rt.alloc(), check)),
+        Some((ElabKind::NegativeLimit, 63))
+    );
     Ok(())
 }
 
@@ -170,6 +165,9 @@ fn a_width_without_an_edge(rt: HostRuntime) -> Result<(), Fail> {
         threshold: None,
         notifier: None,
     };
-    assert_eq!(rt; refused(checks_in(rt.alloc(), check)), Some((ElabKind::BadTerminal, 61)));
+    assert_eq!(rt;
+        refused(checks_in(rt.alloc(), check)),
+        Some((ElabKind::BadTerminal, 61))
+    );
     Ok(())
 }

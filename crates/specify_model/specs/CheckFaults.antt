@@ -27,7 +27,7 @@ edge_faults c = fault_if (wants_edge (kind_of c) && is_none (reference_of c).edg
 
 -- a terminal is one bit of what is declared, and so is each operand of its condition (15.6)
 abbrev pub event_condition_faults : List Variable → Event → List Fault
-event_condition_faults vs e = elim e.condition [ | None ↦ [] | Some ws ↦ condition_faults vs e.place ws ]
+event_condition_faults vs e = elim e.condition [ None ↦ [] | Some ws ↦ condition_faults vs e.place ws ]
 
 abbrev pub event_faults : List Variable → Event → List Fault
 event_faults vs e = operand_faults vs e.term ++ event_condition_faults vs e
