@@ -1,5 +1,5 @@
 // The timing checks of a module.
-ghost use Rattle.std.specs.Prelude.{◌≡◌, ◌&&◌, ◌×◌, ◌∷◌, false, pos, All, IfOk, IfSome, is_none, flat_map, map, option_to_list};
+ghost use Rattle.std.specs.Prelude.{◌≡◌, ◌&&◌, ◌∷◌, false, pos, All, IfOk, IfSome, is_none, flat_map, map, option_to_list};
 ghost use Rattle.std.specs.Option.{option_map};
 ghost use Rattle.vl_tree.specs.Seen.{view_check, view_event, view_limit, view_module};
 ghost use Rattle.elab_model.specs.Faults.{fault_if};

@@ -1,5 +1,5 @@
 // The checks of a circuit.
-ghost use Rattle.std.specs.Prelude.{◌≡◌, ◌++◌, ◌×◌, [], List, IfOk, IfErr, length, map};
+ghost use Rattle.std.specs.Prelude.{◌≡◌, ◌++◌, [], List, IfOk, IfErr, length, map};
 ghost use Rattle.std.specs.Option.{option_map};
 ghost use Rattle.cond_expr.specs.Condition.{Condition};
 ghost use Rattle.vl_tree.specs.Tree.{Module, Source};
