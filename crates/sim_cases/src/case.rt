@@ -113,6 +113,8 @@ impl Case<'_> {
             conditions: made.conditions,
             udps: Vec::new(alloc),
             checks: Vec::new(alloc),
+            check_timings: Vec::new(alloc),
+            check_conditions: Vec::new(alloc),
             scopes: vec![in alloc; top(alloc)?]?,
         })
     }
