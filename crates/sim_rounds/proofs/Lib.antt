@@ -1,6 +1,7 @@
 -- The lemma files of this folder.
 pub mod TimeLaws
 pub mod MachineLaws
+pub mod NotifierLaws
 pub mod CallLaws
 pub mod RunLaws
 pub mod EndLaws
