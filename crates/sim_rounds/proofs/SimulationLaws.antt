@@ -30,6 +30,11 @@ use Rattle.sim_rounds.proofs.DueLaws.{below_next}
 use Rattle.fan_round.proofs.PendingLaws.{pending_rises, pending_below}
 use Rattle.sim_rounds.proofs.NamingLaws.{due_moves, flips_move, toggles_handed, toggles_within}
 
+-- one more fact where a test failed
+pub also_false : (b : Bool) (P Q : Type 0) → OnFalse b P → Q → OnFalse b (P × Q)
+also_false true P Q p q = tt
+also_false false P Q p q = (p, q)
+
 -- a due pair changes a net
 pub due_state_moves : (m : Machine) (fan : List (List ℕ)) (driven : List ℕ) (handed : List (ℕ × Value)) (s : State) (now : ℕ) → IsOfCircuit m fan driven (length s.values) (length s.lists) → AreHanded driven handed → ArePending driven s.values s.lists now → any_due now s.lists ≡ true → Moves m now handed s
 due_state_moves m fan driven handed s now circuit free pending due =
