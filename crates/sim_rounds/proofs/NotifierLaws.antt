@@ -1,12 +1,19 @@
 -- The notifiers that violations name.
-use Rattle.std.specs.Prelude.{◌≡◌, ℕ, zero, suc, ◌+◌, ◌<◌, ◌≤◌, Bool, true, false, ◌||◌, if◌then◌else◌, All, IfSome, List, [], ◌∷◌, length, Option, Some, None, refl}
-use Rattle.std.proofs.Common.{sym, ◌∙◌, ap, subst, arith}
+use Rattle.std.specs.Prelude.{◌≡◌, ℕ, zero, suc, ◌+◌, ◌<◌, ◌≤◌, ◌==◌, Bool, true, false, ◌||◌, if◌then◌else◌, All, IfSome, List, [], ◌∷◌, length, replicate, Option, Some, None, refl}
+use Rattle.std.specs.List.Sorted.{IsNonDecreasing}
+use Rattle.std.proofs.Common.{sym, ◌∙◌, ap, subst, arith, inl, inr}
+use Rattle.std.proofs.lemmas.Bool.{cases_eq}
 use Rattle.std.proofs.lemmas.List.Elements.{All-nil, All-cons, All-head, All-tail}
 use Rattle.std.proofs.lemmas.Bool.Decides.{nat_tests}
 use Rattle.sg_circuit.specs.Circuit.{Circuit}
 use Rattle.sg_circuit.specs.Closed.{IsClosed, IsNotifier}
 use Rattle.sg_circuit.specs.declared.checks.Check.{Check}
 use Rattle.sg_model.specs.Machine.{Violation, IsNoOutput, AreOutputs}
+use Rattle.sg_circuit.specs.FanOut.{has}
+use Rattle.fan_round.specs.Lists.{occurrences}
+use Rattle.fan_round.specs.Work.{mark_at, AreMarked}
+use Rattle.fan_round.proofs.ListLaws.{test_other, test_same}
+use Rattle.time_checks.proofs.TouchLaws.{RisesFrom, rises, below_none, marked-once, unlisted-unmarked, listed-within}
 use Rattle.sim_rounds.specs.Checks.{AreFree}
 use Rattle.sim_rounds.specs.Notifiers.{notifier_at, is_net, is_named, numbers_from, notifiers_of}
 use Rattle.sim_rounds.specs.Simulated.{machine_of}
@@ -65,3 +72,58 @@ notifiers_free circuit closed found = record {
       (λ m e. notifier_is_no_output circuit closed m (named_notifier (IsNotifier circuit) circuit.checks found m closed.notifiers e).driven);
   once = numbers_once (is_named circuit.checks found) 0 (length circuit.nets);
 }
+
+-- a number that doesn't occur isn't there
+none_occurs : (k : ℕ) (ks : List ℕ) → occurrences k ks ≡ 0 → has k ks ≡ false
+none_occurs k [] e = refl
+none_occurs k (x ∷ xs) e = at (x == k) refl (none_occurs k xs) e
+  where
+    at : (b : Bool) → (x == k) ≡ b → (occurrences k xs ≡ 0 → has k xs ≡ false) → (if b then 1 else 0) + occurrences k xs ≡ 0 → (b || has k xs) ≡ false
+    at true f rest g = absurd (omega arith)
+    at false f rest g = rest g
+
+-- numbers that rise are those of a test, where it tells which of them are listed
+listed_numbers : (test : ℕ → Bool) (i n : ℕ) (ks : List ℕ) → RisesFrom i ks → All (λ k. k < i + n) ks → ((k : ℕ) → i ≤ k → k < i + n → test k ≡ has k ks) → ks ≡ numbers_from test i n
+listed_numbers test i zero [] r a h = refl
+listed_numbers test i zero (k ∷ ks) r a h = let l : k < i + 0 = a 0 0 (omega arith) in let m : i ≤ k = r.0 in absurd (omega arith)
+listed_numbers test i (suc n) [] r a h =
+    listed_numbers test (suc i) n [] tt (λ b d l. absurd (omega arith)) (λ k l m. h k (omega arith) (omega arith))
+    ∙ sym (ap (λ b. if b then (i ∷ numbers_from test (suc i) n) else numbers_from test (suc i) n) (h i (omega arith) (omega arith)))
+listed_numbers test i (suc n) (k ∷ ks) r a h =
+    elim (cases_eq k i) [
+      | inl same ↦
+          (let here : test i ≡ true = h i (omega arith) (omega arith) ∙ ap (λ b. b || has i ks) (test_same k i same) in
+          let rest : ks ≡ numbers_from test (suc i) n =
+          listed_numbers test (suc i) n ks (subst (λ x. RisesFrom (suc x) ks) same r.1) (λ b d l. (let m = a (suc b) d (omega arith) in omega arith))
+          (λ j l m. h j (omega arith) (omega arith) ∙ ap (λ b. b || has j ks) (test_other k j (omega arith))) in
+          ap (λ x. x ∷ ks) same ∙ (ap (λ xs. i ∷ xs) rest ∙ sym (ap (λ b. if b then (i ∷ numbers_from test (suc i) n) else numbers_from test (suc i) n) here)))
+      | inr other ↦
+          (let least : i ≤ k = r.0 in
+          let gone : test i ≡ false = h i (omega arith) (omega arith) ∙ (ap (λ b. b || has i ks) (test_other k i other) ∙ below_none (suc k) i ks r.1 (omega arith)) in
+          listed_numbers test (suc i) n (k ∷ ks) (omega arith, r.1) (λ b d l. (let m = a b d l in omega arith)) (λ j l m. h j (omega arith) (omega arith))
+          ∙ sym (ap (λ b. if b then (i ∷ numbers_from test (suc i) n) else numbers_from test (suc i) n) gone))
+    ]
+
+-- a number is listed where it is marked
+listed_marked : (marks : List Bool) (ks : List ℕ) (k : ℕ) → AreMarked marks ks → mark_at marks k ≡ has k ks
+listed_marked marks ks k are = at (has k ks) refl (mark_at marks k) refl
+  where
+    at : (b : Bool) → has k ks ≡ b → (c : Bool) → mark_at marks k ≡ c → c ≡ b
+    at true e true f = refl
+    at false e false f = refl
+    at false e true f = let q : mark_at marks k ≡ false = unlisted-unmarked marks ks k are e in absurd (let z : true ≡ false = sym f ∙ q in cc)
+    at true e false f =
+        let none : occurrences k ks ≡ 0 = are.each.each k ∙ ap (λ b. if b then 1 else 0) f in
+        absurd (let z : true ≡ false = sym e ∙ none_occurs k ks none in cc)
+
+-- the marked nets in order are the notifiers
+pub sorted_numbers : (checks : List Check) (found : List Violation) (old marks : List Bool) (ks : List ℕ) (n : ℕ) → old ≡ replicate n false → length marks ≡ n → AreMarked marks ks → IsNonDecreasing ks
+    → ((net : ℕ) → net < n → mark_at marks net ≡ (mark_at old net || is_named checks found net)) → ks ≡ notifiers_of checks n found
+sorted_numbers checks found old marks ks n none count are sorted h =
+    listed_numbers (is_named checks found) 0 n ks (rises 0 ks (λ a d l. omega arith) sorted (marked-once marks ks are)) (listed-within marks ks ks n are count refl)
+    (λ k l m. sym (ap (λ b. b || is_named checks found k) (ap (λ ms. mark_at ms k) none ∙ none_marked n k)) ∙ (sym (h k m) ∙ listed_marked marks ks k are))
+  where
+    none_marked : (n k : ℕ) → mark_at (replicate n false) k ≡ false
+    none_marked zero k = refl
+    none_marked (suc n) zero = refl
+    none_marked (suc n) (suc k) = none_marked n k

@@ -1,6 +1,5 @@
 // The timing checks of a circuit, and the toggles of their notifiers.
 ghost use Rattle.std.specs.Prelude.{◌≡◌, ℕ, List, ◌||◌, ◌++◌, ◌<◌, ◌≤◌, ◌^◌, [], All, IfOk, IfSome, OnOk, length, map, replicate, false};
-ghost use Rattle.std.specs.List.Sorted.{IsNonDecreasing};
 ghost use Rattle.std.specs.Vec.{vec_capacity};
 ghost use Rattle.fan_round.specs.States.{IsIdle};
 ghost use Rattle.fan_round.specs.Work.{AreMarked, mark_at};
@@ -46,7 +45,7 @@ fn mark_notifier(checks: &[Check], check: u32, marks: &mut [bool], list: &mut Ve
     ensures count { length marks.new ≡ length marks.old }
     ensures marked { AreMarked marks.new list.new.items }
     ensures capacity { vec_capacity list.old ≤ vec_capacity list.new }
-    ensures marks { (net : ℕ) → mark_at marks.new net ≡ (mark_at marks.old net || is_net net (notifier_at checks.now check)) }
+    ensures marks { (net : ℕ) → net < length marks.old → mark_at marks.new net ≡ (mark_at marks.old net || is_net net (notifier_at checks.now check)) }
 {
     if let Some(net) = notifier_of(checks, check) {
         mark_all(&[net], marks, list);
@@ -66,11 +65,31 @@ fn mark_notifiers(
     ensures count { length marks.new ≡ length marks.old }
     ensures marked { AreMarked marks.new list.new.items }
     ensures capacity { vec_capacity list.old ≤ vec_capacity list.new }
-    ensures marks { (net : ℕ) → mark_at marks.new net ≡ (mark_at marks.old net || is_named checks.now (map (λ v. violation_seen v) violations.now) net) }
+    ensures marks { (net : ℕ) → net < length marks.old → mark_at marks.new net ≡ (mark_at marks.old net || is_named checks.now (map (λ v. violation_seen v) violations.now) net) }
 {
     for violation in violations {
         mark_notifier(checks, violation.check, marks, list);
     }
+}
+
+// The same, and they are put in order.
+fn sort_notifiers(
+    checks: &[Check],
+    violations: &[Violation],
+    marks: &mut [bool],
+    list: &mut Vec<u32>,
+)
+    requires notifiers { All (λ k. IfSome k.notifier (λ n. n < length marks.old)) checks.now }
+    requires room { length marks.old ≤ vec_capacity list.old }
+    requires none { marks.old ≡ replicate (length marks.old) false }
+    requires marked { AreMarked marks.old list.old.items }
+    ensures count { length marks.new ≡ length marks.old }
+    ensures marked { AreMarked marks.new list.new.items }
+    ensures capacity { vec_capacity list.old ≤ vec_capacity list.new }
+    ensures list { list.new.items ≡ notifiers_of checks.now (length marks.old) (map (λ v. violation_seen v) violations.now) }
+{
+    mark_notifiers(checks, violations, marks, list);
+    list.sort_unstable();
 }
 
 /// The notifiers that violations name are listed in their order, where no net was listed before.
@@ -83,8 +102,7 @@ fn list_notifiers(checks: &[Check], violations: &[Violation], named: &mut WorkLi
     ensures capacity { vec_capacity named.old.list ≤ vec_capacity named.new.list }
 {
     let _ = nets;
-    mark_notifiers(checks, violations, &mut named.marks, &mut named.list);
-    named.list.sort_unstable();
+    sort_notifiers(checks, violations, &mut named.marks, &mut named.list);
 }
 
 // A net toggles (IEEE 1364-2005, 15.5).
