@@ -130,7 +130,9 @@ fn notifier_fits(nets: &[Net], notifier: Option<NetId>) -> bool
 fn notifiers_fit(nets: &[Net], checks: &[Check]) -> bool
     ensures { IsTrue result ↔ All (λ k. IfSome k.notifier (λ n. IsNotifierAmong nets.now n)) checks.now }
 {
-    checks.iter().all(|check| notifier_fits(nets, check.notifier))
+    checks
+        .iter()
+        .all(|check| notifier_fits(nets, check.notifier))
 }
 
 fn place_fits(place: Option<u32>, conditions: usize) -> bool

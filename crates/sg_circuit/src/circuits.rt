@@ -3,7 +3,9 @@ ghost use Rattle.std.specs.Prelude.{◌≡◌, ◌↔◌, IfSome, IsSome};
 ghost use Rattle.sg_circuit.specs.Closed.{IsClosed};
 ghost use Rattle.sg_circuit.specs.Seen.{circuit_seen, AreIndexed};
 
-use crate::{Check, CheckConditions, CheckTiming, Element, LegTiming, Net, Path, Scope, Span, UdpUse};
+use crate::{
+    Check, CheckConditions, CheckTiming, Element, LegTiming, Net, Path, Scope, Span, UdpUse,
+};
 use cond_expr::Expr;
 use sg_delay::GateDelays;
 use sg_time::Unit;

@@ -92,11 +92,8 @@ impl<L: Ledger, A: Agenda + Drop, E: Elements<A, L>, C: Checks> Rounds<L>
             &self.nets.before,
             &self.nets.values,
         );
-        self.checks.touch(
-            &self.nets.changed,
-            &self.nets.before,
-            &self.nets.values,
-        );
+        self.checks
+            .touch(&self.nets.changed, &self.nets.before, &self.nets.values);
         self.evaluations = self.evaluations.saturating_add(count as u64);
         self.handed.clear();
         Ok(())

@@ -4,7 +4,8 @@ ghost use Rattle.std.specs.Prelude.{◌≡◌, ◌≤◌, IfOk, length};
 use crate::{Spent, VcdWriter, report_of};
 use cond_expr::Nets;
 use sg_circuit::{
-    Check, CheckConditions, CheckKind, CheckTiming, Circuit, Driver, Event, Net, Parts, Port, Range, Scope, Terminal, Variable,
+    Check, CheckConditions, CheckKind, CheckTiming, Circuit, Driver, Event, Net, Parts, Port,
+    Range, Scope, Terminal, Variable,
 };
 use sg_io::{MemoryShelf, ShelfError};
 use sg_logic::{POSEDGE, Value};

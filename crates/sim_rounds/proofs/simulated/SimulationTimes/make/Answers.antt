@@ -16,6 +16,7 @@ returns-in_err-hand_in-clause-made g c =
 pub make_time-requires-clause-ready : goal.make_time-requires-clause-ready
 make_time-requires-clause-ready g c =
     let s = c.args.self.now in (
-    hand_ready _ c.args.now (g.E.Elements.machine s.elements) (g.E.Elements.net_count s.elements) s.fan s.outputs.items s.nets s.told s.work (g.A.Agenda.lists s.agenda) (g.E.Elements.states s.elements) (g.C.Checks.violated s.checks) (g.C.Checks.notifiers s.checks) s.handed.items c.hand_in.new.handed.items c.sets_of.result.now
-    s.ended s.violations.items (stimulus_seen s.stimulus.now) c.requires.ready.0 c.requires.ready.1.1 c.in_ok-hand_in.ensures c.sets_of.ensures,
-    c.requires.ready.1.0)
+      hand_ready _ c.args.now (g.E.Elements.machine s.elements) (g.E.Elements.net_count s.elements) s.fan s.outputs.items s.nets s.told s.work (g.A.Agenda.lists s.agenda) (g.E.Elements.states s.elements) (g.C.Checks.violated s.checks) (g.C.Checks.notifiers s.checks) s.handed.items c.hand_in.new.handed.items c.sets_of.result.now
+          s.ended s.violations.items (stimulus_seen s.stimulus.now) c.requires.ready.0 c.requires.ready.1.1 c.in_ok-hand_in.ensures c.sets_of.ensures,
+      c.requires.ready.1.0,
+    )

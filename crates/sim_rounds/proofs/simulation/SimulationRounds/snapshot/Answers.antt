@@ -19,6 +19,7 @@ returns-clause-moves g c =
 pub returns-clause-ready : goal.returns-clause-ready
 returns-clause-ready g c = λ t h.
     (let s = c.args.self.now in (
-    toggles_ready t (g.E.Elements.machine s.elements) (g.E.Elements.net_count s.elements) s.fan s.outputs.items s.nets s.told s.work (g.A.Agenda.lists s.agenda) (g.E.Elements.states s.elements) (g.C.Checks.violated s.checks) (g.C.Checks.violated c.see.new.self) (g.C.Checks.notifiers s.checks) (g.C.Checks.notifiers c.see.new.self)
-    s.handed.items c.see.new.toggles.items s.ended s.violations.items c.see.new.violations.items (g.C.Checks.stands s.checks c.deref.result.now) (g.C.Checks.stands c.see.new.self c.deref.result.now) c.args.now c.deref.result.now h.0 c.deref.ensures.value c.in_ok-see.ensures.violated c.in_ok-see.ensures.notifiers c.in_ok-see.ensures.seen c.see.ensures.kept,
-    subst (λ vs. g.C.Checks.over c.see.new.self (length vs)) c.deref.ensures.value c.in_ok-see.ensures.over))
+      toggles_ready t (g.E.Elements.machine s.elements) (g.E.Elements.net_count s.elements) s.fan s.outputs.items s.nets s.told s.work (g.A.Agenda.lists s.agenda) (g.E.Elements.states s.elements) (g.C.Checks.violated s.checks) (g.C.Checks.violated c.see.new.self) (g.C.Checks.notifiers s.checks) (g.C.Checks.notifiers c.see.new.self)
+          s.handed.items c.see.new.toggles.items s.ended s.violations.items c.see.new.violations.items (g.C.Checks.stands s.checks c.deref.result.now) (g.C.Checks.stands c.see.new.self c.deref.result.now) c.args.now c.deref.result.now h.0 c.deref.ensures.value c.in_ok-see.ensures.violated c.in_ok-see.ensures.notifiers c.in_ok-see.ensures.seen c.see.ensures.kept,
+      subst (λ vs. g.C.Checks.over c.see.new.self (length vs)) c.deref.ensures.value c.in_ok-see.ensures.over,
+    ))
