@@ -3,6 +3,7 @@ pub mod TimeLaws
 pub mod MachineLaws
 pub mod NotifierLaws
 pub mod SeenLaws
+pub mod TouchedLaws
 pub mod CallLaws
 pub mod RunLaws
 pub mod EndLaws

@@ -105,7 +105,7 @@ listed_numbers test i (suc n) (k ∷ ks) r a h =
     ]
 
 -- a number is listed where it is marked
-listed_marked : (marks : List Bool) (ks : List ℕ) (k : ℕ) → AreMarked marks ks → mark_at marks k ≡ has k ks
+pub listed_marked : (marks : List Bool) (ks : List ℕ) (k : ℕ) → AreMarked marks ks → mark_at marks k ≡ has k ks
 listed_marked marks ks k are = at (has k ks) refl (mark_at marks k) refl
   where
     at : (b : Bool) → has k ks ≡ b → (c : Bool) → mark_at marks k ≡ c → c ≡ b
