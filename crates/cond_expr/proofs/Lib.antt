@@ -8,6 +8,7 @@ pub mod Chains
 pub mod Cores
 pub mod EqualTokens
 mod Examples
+pub mod JoinedBelow
 pub mod JoinedValue
 pub mod Levels
 pub mod MappedNames

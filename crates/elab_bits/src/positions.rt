@@ -12,8 +12,8 @@ fn is_within(range: Range, index: i64) -> bool
     (range.left <= index && index <= range.right) || (range.right <= index && index <= range.left)
 }
 
-// The position of an index from the left; one out of range has none, nor has a scalar any.
-fn position_at(range: Option<Range>, index: i64) -> Option<usize>
+/// The position of an index from the left; one out of range has none, nor has a scalar any (IEEE 1364-2005, 4.3.1).
+pub fn position_at(range: Option<Range>, index: i64) -> Option<usize>
     ensures { result ≡ def.position_at range index }
 {
     let range = range?;

@@ -1,5 +1,8 @@
 // Circuits as lines: the tick as a power of ten of a second, nets, elements and scopes by their numbers.
-use sg_circuit::{Circuit, Driver, Element, ElementKind, Net, Parts, Scope, Variable};
+use sg_circuit::{
+    Circuit, Driver, Element, ElementKind, Net, Parts, Path, PathCondition, Scope, Variable,
+};
+use sg_delay::Limit;
 use sg_text::Text;
 
 /// Adds a circuit's lines to a text.
@@ -68,6 +71,7 @@ fn show_element(parts: &Parts, element: &Element, out: &mut String) -> anyhow::R
             constant: Some(value),
         } => write!(out, "{value:?}")?,
         ElementKind::Leg { timing } => write!(out, "Leg {timing}")?,
+        ElementKind::Path { style, .. } => write!(out, "Path {style:?}")?,
     }
     for input in &element.inputs {
         write!(out, " {input}")?;
@@ -75,6 +79,39 @@ fn show_element(parts: &Parts, element: &Element, out: &mut String) -> anyhow::R
     let output = element.output;
     let scope = element.scope;
     writeln!(out, " -> {output} in {scope}")?;
+    if let ElementKind::Path { paths, .. } = element.kind {
+        for path in parts.paths_in(paths) {
+            show_path(parts, path, out)?;
+        }
+    }
+    Ok(())
+}
+
+// A path: its input, which of the six changes of an edge it is for, the place of its condition, and its delays, with the limits of the first transition where a text gives them.
+fn show_path(parts: &Parts, path: &Path, out: &mut String) -> anyhow::Result<()> {
+    let input = path.input;
+    write!(out, "  from {input}")?;
+    if let Some(edge) = path.edge {
+        write!(out, " edge")?;
+        for has in edge.has {
+            write!(out, " {}", u8::from(has))?;
+        }
+    }
+    match &path.condition {
+        PathCondition::Always => {}
+        PathCondition::If { written, .. } => write!(out, " if {written}")?,
+        PathCondition::IfNone => write!(out, " ifnone")?,
+    }
+    if let Some(timing) = parts.leg_timings.get(path.timing as usize) {
+        write!(out, ":")?;
+        for delay in timing.delays.at {
+            write!(out, " {delay}")?;
+        }
+        if let Limit::Own(widths) = timing.limits.at[0] {
+            write!(out, " limits {} {}", widths.reject, widths.error)?;
+        }
+    }
+    writeln!(out, "")?;
     Ok(())
 }
 

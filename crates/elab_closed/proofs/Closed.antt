@@ -1,59 +1,85 @@
 -- The parts of the circuit of a netlist without faults fit together.
-use Rattle.std.specs.Prelude.{◌≡◌, ◌<◌, [], ◌↔◌, All, IsSome, length, map, refl}
-use Rattle.std.proofs.Common.{sym, arith, subst₂}
+use Rattle.std.specs.Prelude.{◌≡◌, ℕ, ◌+◌, ◌<◌, ◌≤◌, ◌^◌, [], ◌++◌, ◌↔◌, All, IsSome, length, map, refl}
+use Rattle.std.specs.List.{AllByRecursion}
+use Rattle.std.proofs.Common.{sym, ◌∙◌, ap, arith, subst, length-append}
 use Rattle.std.proofs.lemmas.List.{length-map}
 use Rattle.std.proofs.lemmas.List.Elements.{All-from_recursion, All-weaker}
-use Rattle.sg_circuit.specs.Closed.{TakesInputs, HasDelays, HasDatum}
-use Rattle.elab_model.specs.Circuits.{net_of, element_of}
-use Rattle.elab_model.specs.Drivers.{elements, drives}
+use Rattle.sg_circuit.specs.Closed.{TakesInputs, HasDelays, HasDatum, NamesNets}
+use Rattle.sg_delay.specs.declared.corners.Corner.{Corner}
+use Rattle.vl_tree.specs.Tree.{Module, Source}
 use Rattle.elab_model.specs.Hierarchy.{instances}
+use Rattle.elab_model.specs.HierarchyFaults.{count_limit}
 use Rattle.elab_model.specs.Nets.{nets}
+use Rattle.elab_model.specs.Numbered.{undriven}
 use Rattle.elab_model.specs.Scopes.{scope_of}
+use Rattle.elab_circuit.specs.Circuits.{driving, driven_nets}
+use Rattle.elab_circuit.specs.PathUses.{path_uses}
+use Rattle.elab_circuit.specs.WithPaths.{all_nets, all_elements}
 use Rattle.elab_laws.specs.Laws.{AreSound}
-use Rattle.elab_laws.specs.Words.{Owns}
-use Rattle.elab_laws.proofs.Lists.{all-weaker}
+use Rattle.elab_laws.proofs.Lists.{all-map, all-weaker}
 use Rattle.elab_laws.proofs.NoFaults.{each-faultless}
-use Rattle.elab_laws.proofs.Stated.{nets-have_places}
-use Rattle.elab_owned.specs.Laws.{HasNets}
-use Rattle.elab_owned.proofs.Members.{elements-have_nets}
 use Rattle.elab_closed.specs.Laws.{CircuitIsClosed}
-use Rattle.elab_closed.proofs.Counts.{few, few-mapped}
+use Rattle.elab_closed.proofs.Counts.{AreFaultless, faultless-parts, few, few-mapped}
+use Rattle.elab_closed.proofs.Drivers.{driven-count, driven-scopes, elements-named, nets-driven}
+use Rattle.elab_closed.proofs.Elements.{StandsIn, elements-stand}
+use Rattle.elab_closed.proofs.Outputs.{outputs-are}
 use Rattle.elab_closed.proofs.Scopes.{parents-below, net-scopes}
 use Rattle.elab_closed.proofs.Widths.{have-widths, have-bits}
-use Rattle.elab_closed.proofs.Elements.{StandsIn, elements-stand}
-use Rattle.elab_closed.proofs.Drivers.{one-driver, elements-named, element-drives, nets-driven, drives-honest}
+
+-- the nets are those of the instances, and an inner one for each path use
+pub nets-count : (source : Source) (top : Module) (corner : Corner) → length (all_nets source top corner) ≡ length (nets source top) + length (path_uses source top corner)
+nets-count source top corner =
+    let all = nets source top in
+    let uses = path_uses source top corner in
+    length-append (map undriven all) (map (λ u. u.inner) uses) ∙ ap (λ k. k + length (map (λ u. u.inner) uses)) (length-map all undriven) ∙ ap (λ k. length all + k) (length-map uses (λ u. u.inner))
+
+few-of : (k n : ℕ) → k ≡ n → n ≤ count_limit → k < 2 ^ 31
+few-of k n e le = omega arith
 
 pub circuit-is_closed : CircuitIsClosed
 circuit-is_closed source top corner h =
-    let all = nets source top in
-    let es = elements source top corner in
+    let f = faultless-parts source top corner h in
+    let ns = all_nets source top corner in
+    let es = all_elements source top corner in
+    let d = driving source top corner in
     let ss = instances source top in
-    let ds = drives source top corner in
-    let net-count = length (map (net_of ds) all) in
-    let scope-count = length (map (scope_of all source) ss) in
-    let as-nets : net-count ≡ length all = length-map all (net_of ds) in
-    let as-instances : scope-count ≡ length ss = length-map ss (scope_of all source) in
-    let sound : AreSound source top corner = each-faultless source top corner h in
-    let outputs = all-weaker (HasNets all) (λ x. Owns x.output all) es (λ c o. o.output) (elements-have_nets source top corner sound) in
-    let made = map (element_of all) es in
-    let stand : All (StandsIn net-count scope-count) made = subst₂ (λ n k. All (StandsIn n k) made) (sym as-nets) (sym as-instances) (elements-stand source top corner sound) in
-    let count = few source top corner h in
+    let net-count = length (driven_nets ns d) in
+    let scope-count = length (map (scope_of (nets source top) source) ss) in
+    let as-nets : net-count ≡ length ns = driven-count ns d in
+    let whole : length ns ≡ length (nets source top) + length (path_uses source top corner) = nets-count source top corner in
+    let as-instances : scope-count ≡ length ss = length-map ss (scope_of (nets source top) source) in
+    let sound : AreSound source top corner = each-faultless source top corner f.plain in
+    let outs = outputs-are source top corner sound in
+    let placed : AllByRecursion (λ e. StandsIn (length (nets source top) + length (path_uses source top corner)) (length ss) e.1) es = elements-stand source top corner sound f.paths in
+    let fitted : AllByRecursion (λ e. StandsIn net-count scope-count e.1) es =
+    subst (λ k. AllByRecursion (λ e. StandsIn k scope-count e.1) es) (sym (as-nets ∙ whole))
+    (subst (λ k. AllByRecursion (λ e. StandsIn (length (nets source top) + length (path_uses source top corner)) k e.1) es) (sym as-instances) placed) in
+    let made = map (λ e. e.1) es in
+    let stand : All (StandsIn net-count scope-count) made = All-from_recursion (StandsIn net-count scope-count) made (all-map (StandsIn net-count scope-count) (λ e. e.1) es fitted) in
+    let within : AllByRecursion (λ e. e.1.output < length ns) es =
+    subst (λ k. AllByRecursion (λ e. e.1.output < k) es) as-nets (all-weaker (λ e. StandsIn net-count scope-count e.1) (λ e. e.1.output < net-count) es (λ e s. s.output) fitted) in
+    let count = few source top corner f.counts in
     record {
-      few_nets = few-mapped (net_of ds) all count.nets;
-      few_elements = few-mapped (element_of all) es count.elements;
+      few_nets = few-of net-count (length ns) as-nets count.nets;
+      few_elements = few-mapped (λ e. e.1) es count.elements;
       few_checks = omega arith;
-      few_scopes = few-mapped (scope_of all source) ss count.instances;
-      parents = parents-below source top (scope_of all source) (λ s. refl) _;
-      net_scopes = net-scopes source top ds scope-count as-instances;
+      few_scopes = few-mapped (scope_of (nets source top) source) ss count.instances;
+      parents = parents-below source top (scope_of (nets source top) source) (λ s. refl) _;
+      net_scopes = subst (λ k. All (λ n. n.scope < k) (driven_nets ns d)) (sym as-instances)
+          (All-from_recursion (λ n. n.scope < length ss) (driven_nets ns d) (driven-scopes (λ k. k < length ss) ns d (net-scopes source top corner)));
       element_scopes = All-weaker (StandsIn net-count scope-count) (λ e. e.scope < scope-count) (λ e s. s.scope) made stand;
       check_scopes = All-from_recursion (λ k. k.scope < scope-count) [] tt;
-      bits = have-bits source top net-count as-nets;
+      bits = have-bits source top net-count (enough net-count (length ns) (length (nets source top)) (length (path_uses source top corner)) as-nets whole);
       inputs = All-weaker (StandsIn net-count scope-count) (λ e. All (λ n. n < net-count) e.inputs) (λ e s. s.inputs) made stand;
       outputs = All-weaker (StandsIn net-count scope-count) (λ e. e.output < net-count) (λ e s. s.output) made stand;
-      named = elements-named all es ds (one-driver source top corner h) outputs (element-drives source top corner) _ _;
-      drivers = nets-driven all es ds (nets-have_places source top corner sound) (drives-honest source top corner) _ _;
+      paths = All-weaker (StandsIn net-count scope-count) (λ e. NamesNets net-count e.kind) (λ e s. s.paths) made stand;
+      named = elements-named ns d es outs f.drivers within _ _;
+      drivers = nets-driven ns d es outs _ _;
       takes_inputs = All-weaker (StandsIn net-count scope-count) (λ e. TakesInputs e.kind (length e.inputs)) (λ e s. s.takes) made stand;
       has_delays = All-weaker (StandsIn net-count scope-count) (λ e. HasDelays e.kind) (λ e s. s.delays) made stand;
       widths = have-widths source top;
       datums = All-from_recursion (λ k. IsSome k.datum ↔ HasDatum k.kind) [] tt;
     }
+  where
+    enough : (k n a b : ℕ) → k ≡ n → n ≡ a + b → a ≤ k
+    enough k n a b e f = omega arith

@@ -5,7 +5,7 @@ use Rattle.std.proofs.Common.{arith, subst, sym}
 use Rattle.std.proofs.lemmas.Bool.{leb-false, ltb-false, or_parts}
 use Rattle.std.proofs.lemmas.List.{length-map, length-replicate}
 use Rattle.std.proofs.lemmas.List.Elements.{All-from_recursion, All-replicate}
-use Rattle.sg_circuit.specs.Circuit.{Timing}
+use Rattle.sg_circuit.specs.Timings.{Timing}
 use Rattle.sg_circuit.specs.Closed.{AreGateDelays, IsTiming, HasDelays}
 use Rattle.sg_delay.specs.declared.corners.Corner.{Corner}
 use Rattle.vl_tree.specs.Tree.{Delay, Module}

@@ -6,7 +6,7 @@ use Rattle.std.proofs.lemmas.Bool.{and_parts, eqb-true, ltb-false, not-false, no
 use Rattle.std.proofs.lemmas.List.{length-map}
 use Rattle.std.proofs.lemmas.List.FromFn.{length-enumerate_from}
 use Rattle.sg_circuit.specs.Circuit.{Kind, Gate, Udp}
-use Rattle.sg_circuit.specs.Closed.{TakesInputs, HasDelays}
+use Rattle.sg_circuit.specs.Closed.{TakesInputs, HasDelays, NamesNets}
 use Rattle.sg_delay.specs.declared.corners.Corner.{Corner}
 use Rattle.sg_logic.specs.Gate.{TakesInputs as GateTakes}
 use Rattle.sg_logic.specs.declared.gates.GateKind.{GateKind}
@@ -43,11 +43,12 @@ pub record Fits (k : ℕ) (c : Component) : Type 0 where
   pub scope : c.scope ≡ k
   pub takes : TakesInputs c.kind (length c.inputs)
   pub delays : HasDelays c.kind
+  pub paths : (n : ℕ) → NamesNets n c.kind
 
 -- ---- legs and passes
 
 leg-fits : (source : Source) (s : Instance) (n : List ℕ) (p : ℕ) → Fits s.step.number (leg_at source s n p)
-leg-fits source s n p = record { scope = refl; takes = refl; delays = leg-delays }
+leg-fits source s n p = record { scope = refl; takes = refl; delays = leg-delays; paths = λ n. tt }
 
 legs-fit : (source : Source) (s : Instance) → AllByRecursion (Fits s.step.number) (legs source s)
 legs-fit source s =
@@ -57,31 +58,31 @@ legs-fit source s =
     (all-map (Fits s.step.number) (leg_at source s v.name) (positions v.range) (all-anyway (λ p. Fits s.step.number (leg_at source s v.name p)) (positions v.range) (leg-fits source s v.name)))))
 
 pass-fits : (source : Source) (s : Instance) (at : Place) (b : Bit × Bit) → AllByRecursion (Fits s.step.number) (pass_to source s at b)
-pass-fits source s at (net n p, net m q) = (record { scope = refl; takes = refl; delays = tt }, tt)
-pass-fits source s at (net n p, constant there v) = (record { scope = refl; takes = refl; delays = tt }, tt)
+pass-fits source s at (net n p, net m q) = (record { scope = refl; takes = refl; delays = tt; paths = λ n. tt }, tt)
+pass-fits source s at (net n p, constant there v) = (record { scope = refl; takes = refl; delays = tt; paths = λ n. tt }, tt)
 pass-fits source s at (constant there v, b) = tt
 
 constant-fits : (s : Instance) (spot : Spot) (b : Bit) → AllByRecursion (Fits s.step.number) (constant_pass s spot b)
 constant-fits s spot (net n p) = tt
-constant-fits s spot (constant at v) = (record { scope = refl; takes = refl; delays = tt }, tt)
+constant-fits s spot (constant at v) = (record { scope = refl; takes = refl; delays = tt; paths = λ n. tt }, tt)
 
 -- ---- gates and primitives
 
-output-fits : (source : Source) (s : Instance) (at : Place) (kind : Kind) (inputs : List Spot) → TakesInputs kind (length inputs) → HasDelays kind → (b : Bit)
+output-fits : (source : Source) (s : Instance) (at : Place) (kind : Kind) (inputs : List Spot) → TakesInputs kind (length inputs) → HasDelays kind → ((n : ℕ) → NamesNets n kind) → (b : Bit)
     → AllByRecursion (Fits s.step.number) (output_element source s at kind inputs b)
-output-fits source s at kind inputs h g (net n p) = (record { scope = refl; takes = h; delays = g }, tt)
-output-fits source s at kind inputs h g (constant there v) = tt
+output-fits source s at kind inputs h g ns (net n p) = (record { scope = refl; takes = h; delays = g; paths = ns }, tt)
+output-fits source s at kind inputs h g ns (constant there v) = tt
 
-terminals-fit : (source : Source) (s : Instance) (at : Place) (k : ℕ) (kind : Kind) (outputs : ℕ) (bs : List Bit) → TakesInputs kind (length bs - outputs) → HasDelays kind
+terminals-fit : (source : Source) (s : Instance) (at : Place) (k : ℕ) (kind : Kind) (outputs : ℕ) (bs : List Bit) → TakesInputs kind (length bs - outputs) → HasDelays kind → ((n : ℕ) → NamesNets n kind)
     → AllByRecursion (Fits s.step.number) (terminal_elements source s at k kind outputs bs)
-terminals-fit source s at k kind outputs bs h g =
+terminals-fit source s at k kind outputs bs h g ns =
     let inputs = enumerate_from 0 (drop outputs bs) in
     let l : length (map (input_spot source s k) inputs) ≡ length bs - outputs = length-map inputs (input_spot source s k) ∙ length-enumerate_from 0 (drop outputs bs) ∙ length-drop outputs bs in
     all-append (Fits s.step.number)
     (flat_map (output_element source s at kind (map (input_spot source s k) inputs)) (take outputs bs))
     (flat_map (λ i. constant_pass s (terminal s.step.number k i.0) i.1) inputs)
     (all-flat (Fits s.step.number) (output_element source s at kind (map (input_spot source s k) inputs)) (take outputs bs)
-    (output-fits source s at kind (map (input_spot source s k) inputs) (subst (TakesInputs kind) (sym l) h) g))
+    (output-fits source s at kind (map (input_spot source s k) inputs) (subst (TakesInputs kind) (sym l) h) g ns))
     (all-flat (Fits s.step.number) (λ i. constant_pass s (terminal s.step.number k i.0) i.1) inputs (λ i. constant-fits s (terminal s.step.number k i.0) i.1))
 
 gate-takes : (g : GateKind) (n : ℕ) → 2 ≤ n → GateTakes g (n - output_count g n)
@@ -121,7 +122,7 @@ gate-fits source corner tick s k g d i sound h =
     bits-count vs i.terminals sound (front widths _ (front ends (delay_faults corner tick m d) later)) in
     terminals-fit source s i.place k (Gate g (delays_of corner tick m d)) (output_count g (length (terminal_bits s i.terminals))) (terminal_bits s i.terminals)
     (gate-takes g (length (terminal_bits s i.terminals)) (subst (λ n. 2 ≤ n) (sym count) two))
-    (gate-delays corner tick m d (back ends (delay_faults corner tick m d) later))
+    (gate-delays corner tick m d (back ends (delay_faults corner tick m d) later)) (λ n. tt)
 
 primitive-fits : (source : Source) (corner : Corner) (tick : ℤ) (s : Instance) (k : ℕ) (p : Primitive) (d : Option Delay) (i : instance_text)
     → flat_map (expression_faults (variables s.step.definition)) (connection_values i.connections) ≡ []
@@ -139,7 +140,7 @@ primitive-fits source corner tick s k p d i sound h =
     let count : length (terminal_bits s es) ≡ length p.ports = bits-count vs es sound (front (flat_map (width_faults vs 1) es) _ (front ends late later)) ∙ ports-counted p i.connections right in
     terminals-fit source s i.place k (Udp (table_of p) (initial_value p.initial) (delays_of corner tick m d)) 1 (terminal_bits s es)
     (ap (λ n. n - 1) count)
-    (gate-delays corner tick m d (front (delay_faults corner tick m d) (primitive_faults p) (back ends late later)))
+    (gate-delays corner tick m d (front (delay_faults corner tick m d) (primitive_faults p) (back ends late later))) (λ n. tt)
 
 -- ---- all members
 

@@ -12,7 +12,7 @@ place-of [] k lt = absurd (omega arith)
 place-of (x ∷ xs) zero lt = (x, refl)
 place-of (x ∷ xs) (suc k) lt = place-of xs k (omega arith)
 
-mapped-get : {A B : Type 0} (f : A → B) (xs : List A) (k : ℕ) (x : A) → slice_get xs k ≡ Some x → slice_get (map f xs) k ≡ Some (f x)
+pub mapped-get : {A B : Type 0} (f : A → B) (xs : List A) (k : ℕ) (x : A) → slice_get xs k ≡ Some x → slice_get (map f xs) k ≡ Some (f x)
 mapped-get f xs k x e = slice_get-map f xs k ∙ ap (option_map f) e
 
 pub mapped-at : {A B : Type 0} (f : A → B) (xs : List A) (k : ℕ) (d : B) (x : A) → slice_get xs k ≡ Some x → slice_index_or (map f xs) k d ≡ f x

@@ -1,16 +1,15 @@
 -- Instances stand after those that they lie in, and each net is of an instance.
-use Rattle.std.specs.Prelude.{◌≡◌, ℕ, ◌<◌, List, [], ◌∷◌, ◌++◌, if◌then◌else◌, All, IfSome, Option, Some, None, flat_map, length, map, refl, slice_get, slice_index_or, take, drop}
+use Rattle.std.specs.Prelude.{◌≡◌, ℕ, ◌<◌, List, [], ◌∷◌, ◌++◌, if◌then◌else◌, IfSome, Option, Some, None, flat_map, length, map, refl, slice_get, slice_index_or, take, drop}
 use Rattle.std.specs.List.{AllByRecursion, enumerate_from, range_with_len}
 use Rattle.std.proofs.Common.{sym, ◌∙◌, ap, arith, subst}
 use Rattle.std.proofs.lemmas.List.{length-map}
-use Rattle.std.proofs.lemmas.List.Elements.{All-from_recursion}
 use Rattle.sg_circuit.specs.Circuit.{Scope}
+use Rattle.sg_delay.specs.declared.corners.Corner.{Corner}
 use Rattle.vl_tree.specs.Tree.{Module, Source, Part, a_module, a_primitive}
 use Rattle.elab_model.specs.Bits.{Bit, net, constant, positions}
-use Rattle.elab_model.specs.Circuits.{net_of}
 use Rattle.elab_model.specs.Connections.{port_values}
 use Rattle.elab_model.specs.Definitions.{definition_of}
-use Rattle.elab_model.specs.Drivers.{Drive}
+use Rattle.elab_model.specs.Delays.{tick_of}
 use Rattle.elab_model.specs.Elements.{expression_bits, terminal_bits, output_count, child_at, bound_above}
 use Rattle.elab_model.specs.Hierarchy.{Step, Instance, instances}
 use Rattle.elab_model.specs.Homes.{bit, is_same_spot, has_leg, home_of}
@@ -18,9 +17,13 @@ use Rattle.elab_model.specs.Members.{Member, assignment, supply, gate, instance,
 use Rattle.elab_model.specs.Names.{variable, variables}
 use Rattle.elab_model.specs.Nets.{OwnNet, bit_net, variable_nets, terminal_net, terminal_nets, outside_net, is_unbound, unbound_net}
 use Rattle.elab_model.specs.Nets.{unbound_nets, constant_net, constant_nets, instance_nets, member_nets, nets_of, nets}
+use Rattle.elab_model.specs.Numbered.{undriven}
 use Rattle.elab_model.specs.Ports.{port_list}
 use Rattle.elab_model.specs.Scopes.{parent_of}
-use Rattle.elab_laws.proofs.Lists.{all-append, all-flat, all-flat_in, all-get, all-map, all-map_back, all-range, all-weaker}
+use Rattle.specify_model.specs.Outputs.{path_outputs}
+use Rattle.elab_circuit.specs.PathUses.{path_use, path_uses_of, path_uses}
+use Rattle.elab_circuit.specs.WithPaths.{all_nets}
+use Rattle.elab_laws.proofs.Lists.{all-anyway, all-append, all-flat, all-flat_in, all-get, all-map, all-map_back, all-range, all-weaker}
 use Rattle.elab_laws.proofs.PartsApart.{all-if}
 use Rattle.elab_laws.proofs.Handed.{Rises, instances-rise}
 use Rattle.elab_laws.proofs.Numbers.{number}
@@ -117,7 +120,20 @@ nets-below_count source top =
     (λ s lt. all-weaker (IsOf s.step.number) (λ o. o.scope < n) (nets_of source s) (λ o e. subst (λ k. k < n) (sym e) lt) (nets-of source s))
     (numbers-below_count source top))
 
-pub net-scopes : (source : Source) (top : Module) (ds : List Drive) (count : ℕ) → count ≡ length (instances source top) → All (λ n. n.scope < count) (map (net_of ds) (nets source top))
-net-scopes source top ds count e =
-    All-from_recursion (λ n. n.scope < count) (map (net_of ds) (nets source top))
-    (all-map (λ n. n.scope < count) (net_of ds) (nets source top) (subst (λ k. AllByRecursion (λ o. o.scope < k) (nets source top)) (sym e) (nets-below_count source top)))
+-- and so is each inner net
+inner-below_count : (source : Source) (top : Module) (corner : Corner) → AllByRecursion (λ u. u.inner.scope < length (instances source top)) (path_uses source top corner)
+inner-below_count source top corner =
+    let n = length (instances source top) in
+    let tick = tick_of source top in
+    all-flat_in (λ u. u.inner.scope < n) (path_uses_of (nets source top) source corner tick) (instances source top)
+    (all-weaker (λ s. s.step.number < n) (λ s. AllByRecursion (λ u. u.inner.scope < n) (path_uses_of (nets source top) source corner tick s)) (instances source top)
+    (λ s lt. all-map (λ u. u.inner.scope < n) (path_use (nets source top) source s) (path_outputs corner tick s.step.definition)
+    (all-anyway (λ o. s.step.number < n) (path_outputs corner tick s.step.definition) (λ o. lt)))
+    (numbers-below_count source top))
+
+pub net-scopes : (source : Source) (top : Module) (corner : Corner) → AllByRecursion (λ n. n.scope < length (instances source top)) (all_nets source top corner)
+net-scopes source top corner =
+    let n = length (instances source top) in
+    all-append (λ x. x.scope < n) (map undriven (nets source top)) (map (λ u. u.inner) (path_uses source top corner))
+    (all-map (λ x. x.scope < n) undriven (nets source top) (nets-below_count source top))
+    (all-map (λ x. x.scope < n) (λ u. u.inner) (path_uses source top corner) (inner-below_count source top corner))

@@ -1,5 +1,5 @@
 -- Elements of lists.
-use Rattle.std.specs.Prelude.{◌≡◌, ℕ, zero, suc, ◌<◌, List, [], ◌∷◌, ◌++◌, Bool, true, false, Some, map, filter, length, refl, cond, slice_get, slice_index_or}
+use Rattle.std.specs.Prelude.{◌≡◌, ℕ, zero, suc, ◌<◌, All, List, [], ◌∷◌, Bool, true, false, filter, length, refl, cond, slice_index_or}
 use Rattle.std.specs.List.{AllByRecursion, IsAmong}
 use Rattle.std.proofs.Common.{sym, ◌∙◌, ap, arith, inl, inr}
 use Rattle.elab_laws.proofs.Lists.{In}
@@ -33,33 +33,17 @@ all-filter {A} P p (x ∷ xs) h = by (p x) (all-filter P p xs h.1)
     by true k = (h.0, k)
     by false k = k
 
--- an element from which one of a mapped list comes
-pub record Mapped {A B : Type 0} (f : A → B) (b : B) (xs : List A) : Type 0 where
-  pub from : A
-  pub there : In from xs
-  pub made : f from ≡ b
+-- what passes, of a filtered list
+pub from-filter : {A : Type 0} (p : A → Bool) (x : A) (xs : List A) → In x (filter p xs) → In x xs × (p x ≡ true)
+from-filter p x [] h = absurd h
+from-filter {A} p x (y ∷ xs) h = by (p y) refl h (from-filter p x xs)
+  where
+    by : (b : Bool) → p y ≡ b → In x (cond b (y ∷ filter p xs) (filter p xs)) → (In x (filter p xs) → In x xs × (p x ≡ true)) → In x (y ∷ xs) × (p x ≡ true)
+    by true t (inl g) f = (inl g, ap p g ∙ t)
+    by true t (inr k) f = let r = f k in (inr r.0, r.1)
+    by false t k f = let r = f k in (inr r.0, r.1)
 
-pub from-map : {A B : Type 0} (f : A → B) (b : B) (xs : List A) → In b (map f xs) → Mapped f b xs
-from-map f b [] h = absurd h
-from-map f b (x ∷ xs) (inl e) = record { from = x; there = inl refl; made = sym e }
-from-map f b (x ∷ xs) (inr h) = let r = from-map f b xs h in record { from = r.from; there = inr r.there; made = r.made }
-
--- an element with what stands at its place in two mapped lists
-pub record MappedTwice {A B C : Type 0} (f : A → B) (g : A → C) (b : B) (c : C) (xs : List A) : Type 0 where
-  pub from : A
-  pub there : In from xs
-  pub first : f from ≡ b
-  pub second : g from ≡ c
-
-pub from-two : {A B C : Type 0} (f : A → B) (g : A → C) (b : B) (c : C) (xs : List A) (i : ℕ) → slice_get (map f xs) i ≡ Some b → slice_get (map g xs) i ≡ Some c → MappedTwice f g b c xs
-from-two f g b c [] i e h = cc
-from-two f g b c (x ∷ xs) zero e h = record { from = x; there = inl refl; first = cc; second = cc }
-from-two f g b c (x ∷ xs) (suc i) e h = let r = from-two f g b c xs i e h in record { from = r.from; there = inr r.there; first = r.first; second = r.second }
-
-pub all-left : {A : Type 0} (P : A → Type 0) (xs ys : List A) → AllByRecursion P (xs ++ ys) → AllByRecursion P xs
-all-left P [] ys h = tt
-all-left P (x ∷ xs) ys h = (h.0, all-left P xs ys h.1)
-
-pub all-right : {A : Type 0} (P : A → Type 0) (xs ys : List A) → AllByRecursion P (xs ++ ys) → AllByRecursion P ys
-all-right P [] ys h = h
-all-right P (x ∷ xs) ys h = all-right P xs ys h.1
+-- what holds of all, by recursion
+pub all-by : {A : Type 0} (P : A → Type 0) (xs : List A) → All P xs → AllByRecursion P xs
+all-by P [] h = tt
+all-by P (x ∷ xs) h = (h 0 x (omega arith), all-by P xs (λ k d lt. h (suc k) d (omega arith)))

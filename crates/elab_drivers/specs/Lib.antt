@@ -1,3 +1,3 @@
 -- The modules of this folder: words of the contracts.
 pub mod Drivers
-pub mod Netlists
+pub mod Tables

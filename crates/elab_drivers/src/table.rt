@@ -1,6 +1,8 @@
 // The table of drivers.
 ghost use Rattle.std.specs.Prelude.{◌≡◌, ◌<◌, ◌^◌, map, length, All, IfOk, IfErr};
-ghost use Rattle.elab_drivers.specs.Netlists.{TellsDrivers, RefusesDriver};
+ghost use Rattle.elab_model.specs.Faults.{RefusesOneOf};
+ghost use Rattle.elab_circuit.specs.Driving.{driving_faults};
+ghost use Rattle.elab_drivers.specs.Tables.{driving_of, HasDrivers};
 ghost use Rattle.sg_text.specs.declared.refusals.Refused.TheVariants.{Fault};
 ghost use Rattle.elab_model.specs.declared.kinds.ElabKind.TheVariants.{SecondDriver};
 
@@ -30,8 +32,8 @@ pub fn drivers(
     requires inputs { All (λ n. n < nets) inputs.now }
     requires outputs { All (λ e. e.output < nets) elements.now }
     requires regs { All (λ n. n < nets) regs.now }
-    ensures drivers { IfOk result (λ ds. TellsDrivers nets inputs.now input_places.now (map (λ e. e.output) elements.now) places.now regs.now ds.items) }
-    ensures refused { IfErr result (RefusesDriver nets inputs.now input_places.now (map (λ e. e.output) elements.now) places.now regs.now) }
+    ensures drivers { IfOk result (λ ds. HasDrivers nets (driving_of inputs.now input_places.now (map (λ e. e.output) elements.now) places.now regs.now) ds.items) }
+    ensures refused { IfErr result (RefusesOneOf (driving_faults (driving_of inputs.now input_places.now (map (λ e. e.output) elements.now) places.now regs.now) nets)) }
 {
     let mut drivers = vec![in alloc; Driver::Nobody; nets as usize]?;
     if let Err(second) = drive_inputs(inputs, &mut drivers) {

@@ -5,7 +5,7 @@ use Rattle.sg_circuit.specs.declared.elements.UdpUse.{UdpUse}
 use Rattle.sg_delay.specs.declared.gates.GateDelays.{GateDelays}
 use Rattle.vl_tree.specs.Tree.{Source}
 use Rattle.elab_model.specs.Bits.{Bit, net}
-use Rattle.elab_model.specs.Circuits.{element_of}
+use Rattle.elab_model.specs.Numbered.{element_of}
 use Rattle.elab_model.specs.Elements.{Component}
 use Rattle.elab_model.specs.Connections.{connection_at, port_values}
 use Rattle.elab_model.specs.Hierarchy.{Step, Instance}

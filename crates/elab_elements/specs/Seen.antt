@@ -1,16 +1,16 @@
 -- The code's elements, as the definitions see them: with the tables that they name places of.
-use Rattle.std.specs.Prelude.{◌≡◌, ◌<◌, ◌≤◌, List, map, length}
+use Rattle.std.specs.Prelude.{◌≡◌, ◌<◌, ◌≤◌, List, [], map, length}
 use Rattle.std.specs.List.{AllByRecursion}
 use Rattle.sg_delay.specs.declared.corners.Corner.{Corner}
 use Rattle.sg_delay.specs.declared.gates.GateDelays.{GateDelays}
-use Rattle.sg_circuit.specs.Circuit.{Element, Kind, Gate, Udp, Pass}
+use Rattle.sg_circuit.specs.Circuit.{Element, Kind, Gate, Udp, Pass, Path}
 use Rattle.sg_circuit.specs.Seen.{delays_at, udp_at}
 use Rattle.sg_circuit.specs.declared.elements.Element as code
 use Rattle.sg_circuit.specs.declared.elements.ElementKind.{ElementKind}
 use Rattle.sg_circuit.specs.declared.elements.ElementKind.TheVariants as kind
 use Rattle.sg_circuit.specs.declared.elements.UdpUse.{UdpUse}
 use Rattle.vl_tree.specs.Tree.{Module, Source}
-use Rattle.elab_model.specs.Circuits.{element_of}
+use Rattle.elab_model.specs.Numbered.{element_of}
 use Rattle.elab_model.specs.Drivers.{elements as components}
 use Rattle.elab_model.specs.Elements.{leg_kind}
 use Rattle.elab_model.specs.HierarchyFaults.{count_limit}
@@ -23,16 +23,18 @@ kind_in delays udps (kind.Gate g d) = Gate g (delays_at delays d)
 kind_in delays udps (kind.Udp u d) = Udp (udp_at udps u).rows (udp_at udps u).first (delays_at delays d)
 kind_in delays udps (kind.Pass v) = Pass v
 kind_in delays udps (kind.Leg t) = leg_kind
+kind_in delays udps (kind.Path paths style) = Path [] style
 
 abbrev pub element_in : List GateDelays → List UdpUse → code.Element → Element
 element_in delays udps e = record { scope = e.scope; inputs = e.inputs.items; output = e.output; kind = kind_in delays udps e.kind }
 
--- what a kind names stands in its table; the timing of all Legs is the first
+-- what a kind names stands in its table; the timing of all Legs is the first, and none is a Path
 abbrev pub NamesPlaces : List GateDelays → List UdpUse → ElementKind → Type 0
 NamesPlaces delays udps (kind.Gate g d) = d < length delays
 NamesPlaces delays udps (kind.Udp u d) = (u < length udps) × (d < length delays)
 NamesPlaces delays udps (kind.Pass v) = Unit {0}
 NamesPlaces delays udps (kind.Leg t) = t ≡ 0
+NamesPlaces delays udps (kind.Path paths style) = ⊥
 
 pub record AreElements (source : Source) (top : Module) (corner : Corner) (delays : List GateDelays) (udps : List UdpUse) (made : Placing) : Type 0 where
   pub elements : map (element_in delays udps) made.elements.items ≡ map (element_of (nets source top)) (components source top corner)

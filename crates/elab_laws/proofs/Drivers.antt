@@ -1,15 +1,11 @@
--- Drivers by number are drivers by Spot.
-use Rattle.std.specs.Prelude.{◌≡◌, ℕ, suc, ◌+◌, ◌≤◌, ◌==◌, List, [], ◌∷◌, ◌++◌, Bool, true, false, ◌&&◌, Some, map, slice_get, length, ◌-◌, refl, if◌then◌else◌, bytes_eq}
-use Rattle.std.specs.List.{AllByRecursion, range_with_len, position_from, enumerate_from}
+-- Nets are known by their numbers.
+use Rattle.std.specs.Prelude.{◌≡◌, ℕ, suc, ◌+◌, ◌≤◌, ◌==◌, List, [], ◌∷◌, ◌++◌, Bool, true, false, ◌&&◌, Some, map, slice_get, length, ◌-◌, refl, bytes_eq}
+use Rattle.std.specs.List.{range_with_len, position_from}
 use Rattle.std.specs.Option.{unwrap_or}
 use Rattle.std.specs.Bool.{one_answer}
 use Rattle.std.proofs.Common.{sym, ◌∙◌, ap, arith, inl, inr, subst, append_assoc, length-append}
 use Rattle.std.proofs.lemmas.Bool.{eq-eqb, eqb-true}
 use Rattle.std.proofs.lemmas.Slice.Eq.{bytes_eq-Decides}
-use Rattle.elab_laws.specs.Driven.{driven}
-use Rattle.sg_circuit.specs.declared.nets.Driver.TheVariants.{Element}
-use Rattle.elab_model.specs.Elements.{Component}
-use Rattle.elab_model.specs.Drivers.{Drive, drive, drives_of, element_drives}
 use Rattle.elab_laws.proofs.Lists.{In}
 use Rattle.elab_laws.proofs.Homes.{Owns, spot-same}
 use Rattle.elab_laws.proofs.Apart.{AreApart}
@@ -97,31 +93,6 @@ same-by_number a b os x y =
         let s : Some p.owned ≡ Some q.owned = sym p.at ∙ ap (slice_get os) e ∙ q.at in
         let o : p.owned ≡ q.owned = cc in
         p.same ∙ ap (λ o. o.spot) o ∙ sym q.same
-
--- the elements from the number i on that drive a net, by number
-abbrev drive_of : ℕ × Component → Drive
-drive_of e = drive (Element e.0) e.1.place e.1.output
-
-pub drivers-by_number : (os : List OwnNet) (spot : Spot) → Owns spot os → (i : ℕ) (es : List Component) → AllByRecursion (λ e. Owns e.output os) es
-    → map (λ d. d.driver) (drives_of (map drive_of (enumerate_from i es)) spot) ≡ map Element (driven (number_of os spot) i (map (λ e. number_of os e.output) es))
-drivers-by_number os spot own i [] h = refl
-drivers-by_number os spot own i (e ∷ es) h =
-    let s : is_same_spot spot e.output ≡ (number_of os e.output == number_of os spot) =
-    same-by_number spot e.output os own h.0 ∙ one_answer (number_of os spot == number_of os e.output) (number_of os e.output == number_of os spot)
-    (eqb-true (number_of os spot) (number_of os e.output), eq-eqb (number_of os spot) (number_of os e.output))
-    (λ t. sym (eqb-true (number_of os e.output) (number_of os spot) t), λ t. eq-eqb (number_of os e.output) (number_of os spot) (sym t)) in
-    rw s (by (number_of os e.output == number_of os spot) (drivers-by_number os spot own (i + 1) es h.1))
-  where
-    by : (b : Bool) → map (λ d. d.driver) (drives_of (map drive_of (enumerate_from (i + 1) es)) spot) ≡ map Element (driven (number_of os spot) (i + 1) (map (λ e. number_of os e.output) es))
-        → map (λ d. d.driver) (if b then drive_of (i, e) ∷ drives_of (map drive_of (enumerate_from (i + 1) es)) spot else drives_of (map drive_of (enumerate_from (i + 1) es)) spot)
-        ≡ map Element (if b then i ∷ driven (number_of os spot) (i + 1) (map (λ e. number_of os e.output) es) else driven (number_of os spot) (i + 1) (map (λ e. number_of os e.output) es))
-    by true k = ap (λ xs. Element i ∷ xs) k
-    by false k = k
-
--- and so of all elements
-pub elements-by_number : (os : List OwnNet) (spot : Spot) → Owns spot os → (es : List Component) → AllByRecursion (λ e. Owns e.output os) es
-    → map (λ d. d.driver) (drives_of (element_drives es) spot) ≡ map Element (driven (number_of os spot) 0 (map (λ e. number_of os e.output) es))
-elements-by_number os spot own es h = drivers-by_number os spot own 0 es h
 
 -- the nets in order have the numbers in order
 pub numbers-in_order : (os before after : List OwnNet) → AreApart os → os ≡ before ++ after → map (λ o. number_of os o.spot) after ≡ range_with_len (length before) (length after)

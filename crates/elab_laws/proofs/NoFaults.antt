@@ -17,7 +17,7 @@ use Rattle.elab_model.specs.Faults.{fault, fault_if, places_again, duplicates}
 use Rattle.elab_model.specs.NameFaults.{name_faults, declaration_faults, twice_in_list}
 use Rattle.elab_model.specs.TerminalFaults.{expression_faults, is_missing}
 use Rattle.elab_model.specs.ModuleFaults.{connection_faults, delay_on_module, instance_faults, member_faults, all_member_faults, module_faults}
-use Rattle.elab_model.specs.HierarchyFaults.{faults_below, instance_faults_below, self_instances, too_deep}
+use Rattle.elab_model.specs.HierarchyFaults.{instance_faults_below, self_instances, too_deep}
 use Rattle.elab_laws.proofs.Lists.{In, in-flat, from-flat, all-in, all-weaker}
 use Rattle.elab_laws.proofs.Apart.{AreApart}
 use Rattle.elab_laws.proofs.Chains.{IsBelow, children-below, children-are}
@@ -125,9 +125,8 @@ once-by c (by_name cs) e n p = once-by_name c cs e n
 abbrev pub IsFaultless : Source → Module → Corner → Instance → Type 0
 IsFaultless source top c s = module_faults source c (tick_of source top) s.step.definition ≡ []
 
-pub each-faultless : (source : Source) (top : Module) (c : Corner) → faults_below source top c ≡ [] → AllByRecursion (IsFaultless source top c) (instances source top)
-each-faultless source top c h =
-    let z : flat_map (instance_faults_below source top c) (instances source top) ≡ [] = front (flat_map (instance_faults_below source top c) (instances source top)) _ h in
+pub each-faultless : (source : Source) (top : Module) (c : Corner) → flat_map (instance_faults_below source top c) (instances source top) ≡ [] → AllByRecursion (IsFaultless source top c) (instances source top)
+each-faultless source top c z =
     all-weaker (λ s. instance_faults_below source top c s ≡ []) (IsFaultless source top c) (instances source top)
     (λ s e. back (too_deep source s) (module_faults source c (tick_of source top) s.step.definition) (back (self_instances source s) (too_deep source s ++ module_faults source c (tick_of source top) s.step.definition) e))
     (flat-empty (instance_faults_below source top c) (instances source top) z)
@@ -148,7 +147,3 @@ connected-once_all source top c each =
 -- the nets are distinct, where no module of the hierarchy has faults
 pub nets-apart_each : (source : Source) (top : Module) (c : Corner) → AllByRecursion (IsFaultless source top c) (instances source top) → AreApart (nets source top)
 nets-apart_each source top c each = nets-apart source top (connected-once_all source top c each)
-
--- the nets of a netlist without faults are distinct
-pub nets-apart_faultless : (source : Source) (top : Module) (c : Corner) → faults_below source top c ≡ [] → AreApart (nets source top)
-nets-apart_faultless source top c h = nets-apart_each source top c (each-faultless source top c h)

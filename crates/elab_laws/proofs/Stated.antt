@@ -6,13 +6,13 @@ use Rattle.std.proofs.lemmas.Slice.Eq.{bytes_eq-Decides}
 use Rattle.std.proofs.lemmas.List.{length-map}
 use Rattle.elab_model.specs.Names.{Variable, variables}
 use Rattle.elab_model.specs.Hierarchy.{instances, size, levels_below_top}
-use Rattle.elab_laws.specs.Laws.{InstancesHavePlaces, BitsHaveNets, NetsHavePlaces, NumbersAreHandedDown, DriversHaveNumbers}
+use Rattle.elab_laws.specs.Laws.{InstancesHavePlaces, BitsHaveNets, NetsHavePlaces, NumbersAreHandedDown}
 use Rattle.elab_laws.proofs.Lists.{In, all-in, Pairwise}
 use Rattle.elab_laws.proofs.Numbers.{number, numbers-are-places}
 use Rattle.elab_laws.proofs.Homes.{home-there, number-below}
 use Rattle.elab_laws.proofs.Apart.{bytes-either, variables-apart}
 use Rattle.elab_laws.proofs.Handed.{handed-down}
-use Rattle.elab_laws.proofs.Drivers.{numbers-count, elements-by_number}
+use Rattle.elab_laws.proofs.Drivers.{numbers-count}
 use Rattle.elab_laws.proofs.NoFaults.{nets-apart_each}
 
 length-range : (a n : ℕ) → length (range_with_len a n) ≡ n
@@ -42,6 +42,3 @@ nets-have_places source top corner h = numbers-count _ (nets-apart_each source t
 
 pub numbers-are_handed_down : NumbersAreHandedDown
 numbers-are_handed_down source top corner before after s h e = handed-down source top before after s (nets-apart_each source top corner h) e
-
-pub drivers-have_numbers : DriversHaveNumbers
-drivers-have_numbers all spot es own h = elements-by_number all spot own es h

@@ -2,20 +2,16 @@
 use Rattle.std.specs.Prelude.{◌≡◌, ℕ, ◌<◌, List, [], ◌∷◌, ◌++◌, map, flat_map, length}
 use Rattle.std.specs.List.{AllByRecursion, range_with_len}
 use Rattle.sg_circuit.specs.Closed.{width_of}
-use Rattle.sg_circuit.specs.declared.nets.Driver.TheVariants.{Element}
 use Rattle.sg_delay.specs.declared.corners.Corner.{Corner}
 use Rattle.vl_tree.specs.Tree.{Module, Source}
 use Rattle.elab_model.specs.Names.{Variable, variables}
 use Rattle.elab_model.specs.Hierarchy.{Instance, instances}
-use Rattle.elab_model.specs.Homes.{Spot, home_of}
-use Rattle.elab_model.specs.Elements.{Component}
-use Rattle.elab_model.specs.Nets.{OwnNet, nets, nets_of, number_of}
-use Rattle.elab_model.specs.Drivers.{drives_of, element_drives}
+use Rattle.elab_model.specs.Homes.{home_of}
+use Rattle.elab_model.specs.Nets.{nets, nets_of, number_of}
 use Rattle.elab_model.specs.Delays.{tick_of}
 use Rattle.elab_model.specs.ModuleFaults.{module_faults}
 use Rattle.elab_laws.specs.Words.{In, Owns}
 use Rattle.elab_laws.specs.Handing.{IsHandedDown}
-use Rattle.elab_laws.specs.Driven.{driven}
 
 -- no module of the hierarchy has a fault of its own
 abbrev pub AreSound : Source → Module → Corner → Type 0
@@ -39,8 +35,3 @@ NetsHavePlaces = (source : Source) (top : Module) (corner : Corner) → AreSound
 abbrev pub NumbersAreHandedDown : Type 0
 NumbersAreHandedDown = (source : Source) (top : Module) (corner : Corner) (before after : List Instance) (s : Instance) → AreSound source top corner
     → instances source top ≡ before ++ s ∷ after → IsHandedDown source top s (length (flat_map (nets_of source) before))
-
--- the elements that drive a net are those whose output has its number
-abbrev pub DriversHaveNumbers : Type 0
-DriversHaveNumbers = (all : List OwnNet) (spot : Spot) (es : List Component) → Owns spot all → AllByRecursion (λ e. Owns e.output all) es
-    → map (λ d. d.driver) (drives_of (element_drives es) spot) ≡ map Element (driven (number_of all spot) 0 (map (λ e. number_of all e.output) es))

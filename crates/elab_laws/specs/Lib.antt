@@ -2,5 +2,4 @@
 pub mod Words
 pub mod Handing
 pub mod Given
-pub mod Driven
 pub mod Laws

@@ -1,7 +1,7 @@
 //! Laws of elaboration: what code that builds the circuit from the top downwards rests on.
 #![tactic(auto)]
 
-ghost use Rattle.elab_laws.specs.Laws.{BitsHaveNets, DriversHaveNumbers, InstancesHavePlaces, NetsHavePlaces, NumbersAreHandedDown};
+ghost use Rattle.elab_laws.specs.Laws.{BitsHaveNets, InstancesHavePlaces, NetsHavePlaces, NumbersAreHandedDown};
 
 /// The number of an instance is its place among the instances.
 pub fn instances_have_places()
@@ -21,9 +21,4 @@ pub fn nets_have_places()
 /// Where no module has a fault, the numbers of an instance's bits are those that are handed down, and the next that are free.
 pub fn numbers_are_handed_down()
     ensures { NumbersAreHandedDown }
-{}
-
-/// The elements that drive a net are those whose output has its number.
-pub fn drivers_have_numbers()
-    ensures { DriversHaveNumbers }
 {}

@@ -1,8 +1,7 @@
--- Who drives a net: the stimulus, then elements in order, then the timing checks that toggle a reg (IEEE 1364-2005, 15.5).
-use Rattle.std.specs.Prelude.{List, [], ◌∷◌, ◌++◌, Option, Some, None, map, find, filter, flat_map, bytes_eq, if◌then◌else◌}
-use Rattle.std.specs.List.{enumerate_from}
+-- The elements in order, and what else drives nets: the stimulus, and the timing checks that toggle a reg (IEEE 1364-2005, 15.5).
+use Rattle.std.specs.Prelude.{List, [], Option, Some, None, map, find, flat_map, bytes_eq, if◌then◌else◌}
 use Rattle.sg_circuit.specs.declared.nets.Driver.{Driver}
-use Rattle.sg_circuit.specs.declared.nets.Driver.TheVariants.{Nobody, Stimulus, Element, Notifier}
+use Rattle.sg_circuit.specs.declared.nets.Driver.TheVariants.{Stimulus, Notifier}
 use Rattle.sg_delay.specs.declared.corners.Corner.{Corner}
 use Rattle.sg_text.specs.declared.places.Place.{Place}
 use Rattle.vl_tree.specs.Tree.{PortDeclaration, Module, Source}
@@ -10,7 +9,7 @@ use Rattle.elab_model.specs.Ports.{port_declarations, NetDeclaration, net_declar
 use Rattle.elab_model.specs.Names.{Variable, variables}
 use Rattle.elab_model.specs.Bits.{positions}
 use Rattle.elab_model.specs.Hierarchy.{Instance, instances, top_instance}
-use Rattle.elab_model.specs.Homes.{Spot, is_same_spot, is_input, home_of}
+use Rattle.elab_model.specs.Homes.{Spot, is_input, home_of}
 use Rattle.elab_model.specs.Delays.{tick_of}
 use Rattle.elab_model.specs.Elements.{Component, elements_of}
 
@@ -44,9 +43,6 @@ input_drives source s v =
 abbrev pub stimulus_drives : Source → Module → List Drive
 stimulus_drives source top = flat_map (input_drives source (top_instance top)) (variables top)
 
-abbrev pub element_drives : List Component → List Drive
-element_drives es = map (λ e. drive (Element e.0) e.1.place e.1.output) (enumerate_from 0 es)
-
 -- the timing checks may toggle each reg
 abbrev pub net_place : Option NetDeclaration → Place → Place
 net_place None p = p
@@ -59,14 +55,3 @@ reg_drives source s v =
 
 abbrev pub check_drives : Source → Module → List Drive
 check_drives source top = flat_map (λ s. flat_map (reg_drives source s) (variables s.step.definition)) (instances source top)
-
-abbrev pub drives : Source → Module → Corner → List Drive
-drives source top corner = stimulus_drives source top ++ (element_drives (elements source top corner) ++ check_drives source top)
-
--- those that drive one net
-abbrev pub drives_of : List Drive → Spot → List Drive
-drives_of ds spot = filter (λ d. is_same_spot spot d.spot) ds
-
-abbrev pub first_driver : List Drive → Driver
-first_driver [] = Nobody
-first_driver (d ∷ ds) = d.driver

@@ -14,7 +14,7 @@ pub mod Elements
 pub mod Nets
 pub mod Drivers
 pub mod Scopes
-pub mod Circuits
+pub mod Numbered
 pub mod Tops
 pub mod Faults
 pub mod NameFaults
@@ -22,4 +22,3 @@ pub mod TerminalFaults
 pub mod PrimitiveFaults
 pub mod ModuleFaults
 pub mod HierarchyFaults
-pub mod Elaboration

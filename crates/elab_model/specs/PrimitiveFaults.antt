@@ -1,10 +1,14 @@
--- Faults of a user-defined primitive's declarations, and those of its table (IEEE 1364-2005, 8.1).
-use Rattle.std.specs.Prelude.{List, [], ◌∷◌, ◌++◌, Bool, not, Option, Some, None, flat_map}
+-- Faults of a user-defined primitive's declarations, and those of its table (IEEE 1364-2005, 8.1); the primitives that a top reaches.
+use Rattle.std.specs.Prelude.{List, [], ◌∷◌, ◌++◌, Bool, not, Option, Some, None, Result, Ok, Err, filter_map, flat_map}
 use Rattle.sg_text.specs.declared.places.Place.{Place}
 use Rattle.udp_rows.specs.declared.faults.UdpKind.{UdpKind}
 use Rattle.udp_rows.specs.Faults as rows
-use Rattle.vl_tree.specs.Tree.{Named, Primitive, Initial}
+use Rattle.vl_tree.specs.Tree.{Named, Primitive, Initial, Module, Source}
+use Rattle.elab_model.specs.declared.kinds.ElabKind.{ElabKind}
 use Rattle.elab_model.specs.declared.kinds.ElabKind.TheVariants.{UnknownName, BadTerminal}
+use Rattle.elab_model.specs.Definitions.{primitive_of}
+use Rattle.elab_model.specs.Hierarchy.{instances}
+use Rattle.elab_model.specs.Members.{Member, assignment, supply, gate, instance, members}
 use Rattle.elab_model.specs.Names.{is_among}
 use Rattle.elab_model.specs.Faults.{Fault, fault_if, texts_of, missing, duplicates, all_of}
 use Rattle.elab_model.specs.Primitives.{outputs, inputs, regs, is_sequential, input_count}
@@ -48,3 +52,14 @@ primitive_faults p = all_of (named_twice p ∷ not_a_port p ∷ wrong_directions
 -- a fault of a kind stands in the table at a place
 abbrev pub TableFault : Primitive → UdpKind → Place → Type 0
 TableFault p kind place = rows.FaultStands (input_count p) (is_sequential p) p.rows kind place
+
+-- the primitives that a member is an instance of, and all that a top reaches
+abbrev pub member_primitive : Source → Member → Option Primitive
+member_primitive source (assignment j) = None
+member_primitive source (supply n v) = None
+member_primitive source (gate g d i) = None
+member_primitive source (instance n d i) = primitive_of source n.text
+
+abbrev pub primitives : Source → Result Module ElabKind → List Primitive
+primitives source (Err k) = []
+primitives source (Ok top) = flat_map (λ s. filter_map (member_primitive source) (members s.step.definition)) (instances source top)

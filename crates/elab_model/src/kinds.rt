@@ -1,7 +1,7 @@
 // Why a netlist is refused that its grammar takes.
 use udp_rows::UdpKind;
 
-/// Why the tree of a netlist has no circuit (IEEE 1364-2005, clauses 6 to 8 and 12).
+/// Why the tree of a netlist has no circuit (IEEE 1364-2005, clauses 6 to 8, 12 and 14).
 #[derive(Clone, Copy, Debug, PartialEq, Eq)]
 pub enum ElabKind {
     /// An instance names no module and no primitive.
@@ -20,15 +20,17 @@ pub enum ElabKind {
     NoTop,
     /// More than one module can be the top.
     SeveralTops,
+    /// A module with a specify block has an instance of a module.
+    SpecifyInHierarchy,
     /// Terminals or ports are wrong, an index is out of range, a constant or a `reg` is driven, or an instance of a module has no name.
     BadTerminal,
     /// The hierarchy has more than 64 levels.
     TooDeep,
-    /// More scopes, nets, elements or bits of a vector than there may be.
+    /// More scopes, nets, elements, specify paths or bits of a vector than there may be.
     TooMany,
-    /// A delay is too long, a gate has more than two, or an instance of a module has one.
+    /// A delay or a limit is too long, a gate has more than two delays, an instance of a module has one, a specparam isn't there, or pulses are to be lost that are to become x.
     BadDelay,
-    /// A specify block, whose paths and checks aren't simulated yet.
+    /// A timing check, which isn't simulated yet.
     NotYet,
     /// The table of a primitive has a fault.
     Udp(UdpKind),

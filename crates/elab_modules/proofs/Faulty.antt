@@ -9,13 +9,12 @@ use Rattle.vl_tree.specs.Tree.{Delay, Instance, Module, Part, Primitive, Source,
 use Rattle.elab_model.specs.declared.kinds.ElabKind.{ElabKind}
 use Rattle.elab_model.specs.declared.kinds.ElabKind.TheVariants.{BadTerminal}
 use Rattle.elab_model.specs.Definitions.{definition_of, as_primitive, primitive_of}
-use Rattle.elab_model.specs.Elaboration.{member_primitive}
 use Rattle.elab_model.specs.Faults.{Fault, fault_if, RefusesOneOf}
 use Rattle.elab_model.specs.Members.{Member, assignment, supply, gate, instance, members, member_values, connection_values}
 use Rattle.elab_model.specs.ModuleFaults.{are_terminals, instance_faults, member_faults, all_member_faults, module_faults}
 use Rattle.elab_model.specs.NameFaults.{declaration_faults}
 use Rattle.elab_model.specs.Names.{variables}
-use Rattle.elab_model.specs.PrimitiveFaults.{primitive_faults}
+use Rattle.elab_model.specs.PrimitiveFaults.{member_primitive, primitive_faults}
 use Rattle.elab_model.specs.TerminalFaults.{expression_faults, terminal_faults, delay_faults}
 use Rattle.elab_names.proofs.Refusals.{refused-left, refused-right}
 use Rattle.elab_laws.proofs.Lists.{In}

@@ -11,7 +11,7 @@ use Rattle.vl_tree.specs.Tree.{Module, Primitive, Part, Source, a_primitive}
 use Rattle.elab_model.specs.declared.kinds.ElabKind.{ElabKind}
 use Rattle.elab_model.specs.Definitions.{name_of, definition_of}
 use Rattle.elab_model.specs.Delays.{tick_of}
-use Rattle.elab_model.specs.Elaboration.{member_primitive, primitives}
+use Rattle.elab_model.specs.PrimitiveFaults.{member_primitive, primitives}
 use Rattle.elab_model.specs.Faults.{fault}
 use Rattle.elab_model.specs.Hierarchy.{Instance, instances}
 use Rattle.elab_model.specs.HierarchyFaults.{two_definitions}

@@ -9,12 +9,11 @@ use Rattle.udp_rows.specs.declared.faults.UdpKind.{UdpKind}
 use Rattle.vl_tree.specs.Tree.{Module, Primitive, Source}
 use Rattle.elab_model.specs.declared.kinds.ElabKind.{ElabKind}
 use Rattle.elab_model.specs.Delays.{tick_of}
-use Rattle.elab_model.specs.Elaboration.{primitives}
 use Rattle.elab_model.specs.Faults.{Fault, fault}
 use Rattle.elab_model.specs.Hierarchy.{Instance, instances}
 use Rattle.elab_model.specs.Members.{members}
 use Rattle.elab_model.specs.ModuleFaults.{module_faults}
-use Rattle.elab_model.specs.PrimitiveFaults.{TableFault}
+use Rattle.elab_model.specs.PrimitiveFaults.{primitives, TableFault}
 use Rattle.elab_laws.specs.Laws.{AreSound}
 use Rattle.elab_hierarchy.specs.Tops.{StandsAt}
 use Rattle.elab_primitives.specs.Refusals.{IsOfTable}

@@ -9,7 +9,7 @@ use Rattle.sg_text.specs.declared.refusals.Refused.TheVariants as refused
 use Rattle.vl_tree.specs.Tree.{Module, Primitive, Source, a_primitive}
 use Rattle.elab_model.specs.declared.kinds.ElabKind.{ElabKind}
 use Rattle.elab_model.specs.Definitions.{primitive_of}
-use Rattle.elab_model.specs.Elaboration.{member_primitive}
+use Rattle.elab_model.specs.PrimitiveFaults.{member_primitive}
 use Rattle.elab_model.specs.Faults.{fault}
 use Rattle.elab_model.specs.Members.{Member, assignment, supply, gate, instance, members}
 use Rattle.elab_model.specs.ModuleFaults.{module_faults}

@@ -2,7 +2,7 @@
 pub mod Again
 pub mod After
 pub mod DeclarationFaults
-pub mod FirstBlock
+pub mod FirstCheck
 pub mod InstanceNames
 pub mod ItemRanges
 pub mod KnownRanges

@@ -5,15 +5,17 @@ ghost use Rattle.elab_model.specs.Faults.{RefusesOneOf};
 ghost use Rattle.elab_model.specs.NameFaults as def;
 ghost use Rattle.elab_names.specs.GivenRanges.{range_faults, width_faults, view_range};
 
-use crate::{NamedRange, check_names, first_block, first_differing, first_too_wide, named_ranges};
+use crate::{
+    NamedRange, check_names, first_differing, first_timing_check, first_too_wide, named_ranges,
+};
 use elab_model::ElabKind;
 use sg_text::Refused;
 use std::alloc::Global;
 use vl_tree::{Item, Module};
 
 /// Refuses a module for its declarations (IEEE 1364-2005, 4.2, 4.3, 12.3.3): besides what `check_names` refuses, a port and its
-/// own net of different ranges (WidthMismatch; the second is the place), a vector of more than 65536 bits (TooMany), and a specify
-/// block (NotYet). Takes memory in proportion to the names.
+/// own net of different ranges (WidthMismatch; the second is the place), a vector of more than 65536 bits (TooMany), and a timing
+/// check (NotYet). Takes memory in proportion to the names.
 pub fn check_declarations(alloc: Global, definition: &Module) -> Result<(), Refused<ElabKind>>
     ensures faultless { OnOk result (def.declaration_faults (view_module definition.now) ≡ []) }
     ensures refused { IfErr result (RefusesOneOf (def.declaration_faults (view_module definition.now))) }
@@ -54,12 +56,12 @@ fn check_widths(ranges: &[NamedRange]) -> Result<(), Refused<ElabKind>>
     }
 }
 
-// No item is a specify block.
+// No block has a timing check.
 fn check_blocks(items: &[Item]) -> Result<(), Refused<ElabKind>>
     ensures faultless { OnOk result (def.block_faults (map view_item items.now) ≡ []) }
     ensures refused { IfErr result (RefusesOneOf (def.block_faults (map view_item items.now))) }
 {
-    match first_block(items) {
+    match first_timing_check(items) {
         Some(place) => Err(Refused::Fault {
             kind: ElabKind::NotYet,
             place,

@@ -1,7 +1,6 @@
 //! What the modules of a netlist declare, as lists in text order, and which names stand twice or have two ranges.
 #![tactic(auto)]
 
-mod blocks;
 mod bounds;
 mod checks;
 mod declarations;
@@ -10,8 +9,8 @@ mod nets;
 mod ports;
 mod ranges;
 mod repeated;
+mod timing_checks;
 
-pub use blocks::first_block;
 pub use bounds::{first_differing, first_too_wide};
 pub use checks::{check_among, check_names, check_once};
 pub use declarations::check_declarations;
@@ -20,6 +19,7 @@ pub use nets::{NetDeclaration, net_declarations};
 pub use ports::{port_declarations, port_list};
 pub use ranges::{NamedRange, named_ranges};
 pub use repeated::{first_missing, first_repeated};
+pub use timing_checks::first_timing_check;
 
 #[cfg(test)]
 mod tests;

@@ -7,7 +7,8 @@ use sg_text::{NoMemory, Refused};
 use std::alloc::Global;
 use std::test::Fail;
 use trees::{
-    at, block, buffers, declared_in_head, input, name, named, net, output, range, wires, with_item,
+    at, block, buffers, declared_in_head, input, name, named, net, output, period, range, wires,
+    with_item,
 };
 use vl_tree::Item;
 
@@ -118,9 +119,11 @@ fn names_of_two_kinds_may_be_one(rt: HostRuntime) -> Result<(), Fail> {
 }
 
 #[test]
-fn a_specify_block_is_refused(rt: HostRuntime) -> Result<(), Fail> {
+fn a_timing_check_is_refused(rt: HostRuntime) -> Result<(), Fail> {
     let alloc = rt.alloc();
-    let tree = with_item(alloc, block(alloc, 40))?;
+    let tree = with_item(alloc, block(alloc, 30, None)?)?;
+    assert_eq!(rt; refused(check_declarations(alloc, &tree)), None);
+    let tree = with_item(alloc, block(alloc, 30, Some(period(40)))?)?;
     assert_eq!(rt;
         refused(check_declarations(alloc, &tree)),
         Some((ElabKind::NotYet, 40))

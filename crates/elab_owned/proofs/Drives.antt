@@ -1,10 +1,10 @@
--- Whatever is driven, by the stimulus, by elements or by timing checks, is a net.
+-- What the stimulus drives, and what timing checks may toggle, are nets.
 use Rattle.std.specs.Prelude.{◌<◌, List, flat_map, find, bytes_eq}
-use Rattle.std.specs.List.{AllByRecursion, enumerate_from}
+use Rattle.std.specs.List.{AllByRecursion}
 use Rattle.std.proofs.Common.{arith}
 use Rattle.sg_circuit.specs.Closed.{width_of}
 use Rattle.sg_circuit.specs.declared.nets.Driver.{Driver}
-use Rattle.sg_circuit.specs.declared.nets.Driver.TheVariants.{Stimulus, Element, Notifier}
+use Rattle.sg_circuit.specs.declared.nets.Driver.TheVariants.{Stimulus, Notifier}
 use Rattle.sg_text.specs.declared.places.Place.{Place}
 use Rattle.vl_tree.specs.Tree.{Module, Source}
 use Rattle.elab_model.specs.Names.{Variable, variables}
@@ -12,17 +12,15 @@ use Rattle.elab_model.specs.Bits.{positions}
 use Rattle.elab_model.specs.Ports.{port_declarations, net_declarations}
 use Rattle.elab_model.specs.Hierarchy.{Instance, instances, top_instance, levels_below_top}
 use Rattle.elab_model.specs.Homes.{home_of, is_input}
-use Rattle.elab_model.specs.Elements.{Component}
 use Rattle.elab_model.specs.Nets.{nets}
-use Rattle.elab_model.specs.Drivers.{elements, Drive, drive, variable_drives, port_place, input_drives, stimulus_drives, element_drives, net_place, reg_drives, check_drives}
+use Rattle.elab_model.specs.Drivers.{Drive, drive, variable_drives, port_place, input_drives, stimulus_drives, net_place, reg_drives, check_drives}
 use Rattle.elab_laws.specs.Words.{Owns}
-use Rattle.elab_laws.proofs.Lists.{In, all-append, all-map, all-range, all-weaker}
+use Rattle.elab_laws.proofs.Lists.{In, all-map, all-range, all-weaker}
 use Rattle.elab_laws.proofs.PartsApart.{all-if}
-use Rattle.elab_laws.proofs.NoFaults.{all-second, in-own}
+use Rattle.elab_laws.proofs.NoFaults.{in-own}
 use Rattle.elab_laws.proofs.Stated.{bits-have_nets}
-use Rattle.elab_owned.specs.Laws.{HasNets, DrivesHaveNets}
-use Rattle.elab_owned.proofs.HaveNets.{HaveNets, all-flat_from}
-use Rattle.elab_owned.proofs.Members.{elements-have_nets}
+use Rattle.elab_owned.specs.Laws.{DrivesHaveNets}
+use Rattle.elab_owned.proofs.HaveNets.{all-flat_from}
 
 -- these drive nets
 abbrev DriveNets : Source → Module → List Drive → Type 0
@@ -42,11 +40,6 @@ stimulus-drives source top =
     (λ v h. let at = port_place (find (λ d. bytes_eq v.name d.name.text) (port_declarations top)) s.step.place in
     all-if (λ d. Owns d.spot (nets source top)) (is_input v.port) (variable_drives source s Stimulus at v) (variable-driven source top s Stimulus at v (in-own source levels_below_top s) h))
 
-elements-drive : (source : Source) (top : Module) (es : List Component) → HaveNets source top es → DriveNets source top (element_drives es)
-elements-drive source top es h =
-    all-map (λ d. Owns d.spot (nets source top)) (λ e. drive (Element e.0) e.1.place e.1.output) (enumerate_from 0 es)
-    (all-second (λ e. Owns e.output (nets source top)) 0 es (all-weaker (HasNets (nets source top)) (λ e. Owns e.output (nets source top)) es (λ e k. k.output) h))
-
 checks-drive : (source : Source) (top : Module) → DriveNets source top (check_drives source top)
 checks-drive source top =
     all-flat_from (λ d. Owns d.spot (nets source top)) (λ s. flat_map (reg_drives source s) (variables s.step.definition)) (instances source top)
@@ -55,8 +48,4 @@ checks-drive source top =
     all-if (λ d. Owns d.spot (nets source top)) v.is_reg (variable_drives source s Notifier at v) (variable-driven source top s Notifier at v there h)))
 
 pub drives-have_nets : DrivesHaveNets
-drives-have_nets source top corner sound =
-    let es = elements source top corner in
-    all-append (λ d. Owns d.spot (nets source top)) (stimulus_drives source top) _ (stimulus-drives source top)
-    (all-append (λ d. Owns d.spot (nets source top)) (element_drives es) (check_drives source top)
-    (elements-drive source top es (elements-have_nets source top corner sound)) (checks-drive source top))
+drives-have_nets source top = (stimulus-drives source top, checks-drive source top)

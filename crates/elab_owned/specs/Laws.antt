@@ -5,7 +5,7 @@ use Rattle.sg_delay.specs.declared.corners.Corner.{Corner}
 use Rattle.vl_tree.specs.Tree.{Module, Source}
 use Rattle.elab_model.specs.Elements.{Component}
 use Rattle.elab_model.specs.Nets.{OwnNet, nets}
-use Rattle.elab_model.specs.Drivers.{elements, drives}
+use Rattle.elab_model.specs.Drivers.{elements, stimulus_drives, check_drives}
 use Rattle.elab_laws.specs.Words.{Owns}
 use Rattle.elab_laws.specs.Laws.{AreSound}
 
@@ -18,6 +18,7 @@ pub record HasNets (all : List OwnNet) (c : Component) : Type 0 where
 abbrev pub ElementsHaveNets : Type 0
 ElementsHaveNets = (source : Source) (top : Module) (corner : Corner) → AreSound source top corner → AllByRecursion (HasNets (nets source top)) (elements source top corner)
 
--- and whatever is driven, by the stimulus, by elements or by timing checks, is a net
+-- what the stimulus drives, and what timing checks may toggle, are nets
 abbrev pub DrivesHaveNets : Type 0
-DrivesHaveNets = (source : Source) (top : Module) (corner : Corner) → AreSound source top corner → AllByRecursion (λ d. Owns d.spot (nets source top)) (drives source top corner)
+DrivesHaveNets = (source : Source) (top : Module)
+    → AllByRecursion (λ d. Owns d.spot (nets source top)) (stimulus_drives source top) × AllByRecursion (λ d. Owns d.spot (nets source top)) (check_drives source top)

@@ -8,7 +8,7 @@ pub fn elements_have_nets()
     ensures { ElementsHaveNets }
 {}
 
-/// Where no module has a fault, whatever is driven is a net.
+/// What the stimulus drives, and what timing checks may toggle, are nets.
 pub fn drives_have_nets()
     ensures { DrivesHaveNets }
 {}

@@ -16,7 +16,7 @@ use Rattle.elab_rows.specs.Rows.{part_of, HaveRows}
 use Rattle.elab_rows.specs.Turns.{AreUpTo, HasOuterRow, IsDue, IsGiven}
 use Rattle.elab_hierarchy.specs.declared.instances.Placed.{Placed}
 use Rattle.elab_modules.specs.declared.library.Library.{Library}
-use Rattle.elab_rows.specs.Undriven.{undriven}
+use Rattle.elab_model.specs.Numbered.{undriven}
 use Rattle.elab_rows.specs.declared.rows.Rows.{Rows}
 use Rattle.elab_rows.proofs.Placings.{number-is, is-there, placed-count}
 use Rattle.elab_rows.proofs.Mine.{IsOf, is-of}

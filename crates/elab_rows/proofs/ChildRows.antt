@@ -33,7 +33,7 @@ use Rattle.elab_rows.specs.Outside.{outer_number, outside_nets, IsChild}
 use Rattle.elab_rows.specs.Parts.{IsRow}
 use Rattle.elab_rows.specs.Rows.{part_of}
 use Rattle.elab_rows.specs.Turns.{HasTurn, IsNext, AddsOutside, IsSeenTo, children_among, members_of, bits_of}
-use Rattle.elab_rows.specs.Undriven.{undriven}
+use Rattle.elab_model.specs.Numbered.{undriven}
 use Rattle.elab_rows.specs.declared.rows.Rows.{Rows}
 use Rattle.elab_rows.proofs.Children.{the_child, child-next, no-child, child-nets, child-in, member-faultless, child-connected}
 use Rattle.elab_rows.proofs.RowParts.{get-written, get-other, part-behind}

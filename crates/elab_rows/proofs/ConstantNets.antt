@@ -20,7 +20,7 @@ use Rattle.elab_bits.specs.declared.bits.Bit.TheVariants as bit
 use Rattle.elab_bits.specs.Seen.{bit_at, view_bit, IsInRow}
 use Rattle.elab_rows.specs.Own.{net_at}
 use Rattle.elab_rows.specs.Terminals.{first_output, at_constant}
-use Rattle.elab_rows.specs.Undriven.{undriven}
+use Rattle.elab_model.specs.Numbered.{undriven}
 use Rattle.elab_rows.proofs.Counts.{piece-added, nothing-left}
 use Rattle.elab_rows.proofs.Filters.{flat-none}
 use Rattle.elab_rows.proofs.RowBits.{bit-of}

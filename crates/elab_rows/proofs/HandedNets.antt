@@ -8,7 +8,7 @@ use Rattle.elab_model.specs.Nets.{OwnNet, variable_nets}
 use Rattle.elab_laws.specs.Handing.{all_bits, given_at}
 use Rattle.elab_laws.proofs.Handed.{Rises, one-bit, owned_at, variable_nets-bits}
 use Rattle.elab_rows.specs.Own.{net_at, new_nets}
-use Rattle.elab_rows.specs.Undriven.{undriven}
+use Rattle.elab_model.specs.Numbered.{undriven}
 
 nets-of_bits : (all : List OwnNet) (source : Source) (s : Instance) → Rises s → (bs : List (Variable × ℕ)) → map undriven (flat_map (owned_at source s) bs) ≡ new_nets s.step.number bs (map (given_at all source s) bs)
 nets-of_bits all source s rises [] = refl

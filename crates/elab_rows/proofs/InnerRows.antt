@@ -21,7 +21,7 @@ use Rattle.elab_rows.specs.Own.{given_row, new_nets}
 use Rattle.elab_rows.specs.Parts.{IsRow}
 use Rattle.elab_rows.specs.Rows.{part_of}
 use Rattle.elab_rows.specs.Turns.{IsBegun, IsDue, IsMine, bits_of, members_of}
-use Rattle.elab_rows.specs.Undriven.{undriven}
+use Rattle.elab_model.specs.Numbered.{undriven}
 use Rattle.elab_rows.specs.declared.rows.Rows.{Rows}
 use Rattle.elab_rows.proofs.ChildRows.{refuses-more}
 use Rattle.elab_rows.proofs.GivenRows.{outside-given}

@@ -23,7 +23,7 @@ use Rattle.elab_modules.specs.Ready.{IsPrepared}
 use Rattle.elab_numbers.specs.Laws.{nets_before}
 use Rattle.elab_rows.specs.Rows.{first_of_member}
 use Rattle.elab_rows.specs.Turns.{HasInnerRow, HasTurn, IsNext, IsSeenTo, AreThrough, AddsOutside, children_among, members_of}
-use Rattle.elab_rows.specs.Undriven.{undriven}
+use Rattle.elab_model.specs.Numbered.{undriven}
 use Rattle.elab_rows.specs.declared.rows.Rows.{Rows}
 use Rattle.elab_rows.proofs.ChildRows.{none-added}
 use Rattle.elab_rows.proofs.OuterRows.{both-added}

@@ -20,7 +20,7 @@ use Rattle.elab_modules.specs.Ready.{IsPrepared}
 use Rattle.elab_numbers.specs.Laws.{nets_before}
 use Rattle.elab_rows.specs.Parts.{module_at}
 use Rattle.elab_rows.specs.Turns.{AreThrough, AreUpTo, HasInnerRow, HasTurn, IsBegun, IsGiven, IsMine, bits_of}
-use Rattle.elab_rows.specs.Undriven.{undriven}
+use Rattle.elab_model.specs.Numbered.{undriven}
 use Rattle.elab_rows.specs.declared.rows.Rows.{Rows}
 use Rattle.elab_rows.proofs.InnerRows.{front-is, own-due}
 use Rattle.elab_rows.proofs.Modules.{is-found, is-prepared}

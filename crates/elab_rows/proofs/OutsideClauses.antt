@@ -18,7 +18,7 @@ use Rattle.elab_ports.specs.declared.constants.PortConstant as code_constant
 use Rattle.elab_rows.specs.Inputs.{bound_at, number_in}
 use Rattle.elab_rows.specs.Outside.{outer_number, outside_nets, IsChild}
 use Rattle.elab_rows.specs.Own.{net_at}
-use Rattle.elab_rows.specs.Undriven.{undriven}
+use Rattle.elab_model.specs.Numbered.{undriven}
 use Rattle.elab_rows.specs.Written.{IsWritten}
 use Rattle.elab_rows.proofs.OutsideNets.{net_outside, input_places, no-outside}
 use Rattle.elab_rows.proofs.OuterNumbers.{HasBound, bound_row}

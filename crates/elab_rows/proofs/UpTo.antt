@@ -18,7 +18,7 @@ use Rattle.elab_owned.proofs.Parents.{parent-of}
 use Rattle.elab_numbers.specs.Laws.{nets_before}
 use Rattle.elab_rows.specs.Rows.{first_of_member}
 use Rattle.elab_rows.specs.Turns.{AreUpTo, AreThrough, AddsOutside, HasFirsts, HasInnerRow, HasOuterRow, IsBegun, IsDue, bits_of, children_among, members_of}
-use Rattle.elab_rows.specs.Undriven.{undriven}
+use Rattle.elab_model.specs.Numbered.{undriven}
 use Rattle.elab_rows.specs.declared.rows.Rows.{Rows}
 use Rattle.elab_rows.proofs.Children.{child-in}
 use Rattle.elab_rows.proofs.InnerRows.{front-is, front-next}

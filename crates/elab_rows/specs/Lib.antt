@@ -1,5 +1,4 @@
 -- The modules of this folder: words of the contracts.
-pub mod Undriven
 pub mod Numbers
 pub mod Own
 pub mod Outside

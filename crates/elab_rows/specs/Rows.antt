@@ -10,7 +10,7 @@ use Rattle.elab_model.specs.Nets.{nets}
 use Rattle.elab_laws.specs.Handing.{all_bits, number_at}
 use Rattle.elab_numbers.specs.Laws.{nets_before}
 use Rattle.elab_rows.specs.Outside.{outer_number}
-use Rattle.elab_rows.specs.Undriven.{undriven}
+use Rattle.elab_model.specs.Numbered.{undriven}
 use Rattle.elab_rows.specs.declared.rows.Rows.{Rows}
 
 -- the number of the first net of the member k that no variable names, or else the next number

@@ -17,7 +17,7 @@ use Rattle.elab_modules.specs.Reached.{IsLibrary}
 use Rattle.elab_numbers.specs.Laws.{nets_before}
 use Rattle.elab_rows.specs.Outside.{outer_number}
 use Rattle.elab_rows.specs.Rows.{first_of_member, part_of}
-use Rattle.elab_rows.specs.Undriven.{undriven}
+use Rattle.elab_model.specs.Numbered.{undriven}
 use Rattle.elab_rows.specs.declared.rows.Rows.{Rows}
 
 -- what the code is given stands for the hierarchy below a top, which isn't too deep

@@ -15,7 +15,7 @@ ghost use Rattle.elab_nets.specs.Refusals.{RefusesCount};
 ghost use Rattle.elab_tables.specs.Seen.{view_member};
 ghost use Rattle.elab_rows.specs.Parts.{is_module};
 ghost use Rattle.elab_rows.specs.Turns.{HasTurn, IsNext, IsSeenTo};
-ghost use Rattle.elab_rows.specs.Undriven.{undriven};
+ghost use Rattle.elab_model.specs.Numbered.{undriven};
 
 use crate::Rows;
 use crate::member_bits::{add_connection_bits, add_terminal_bits, output_count};

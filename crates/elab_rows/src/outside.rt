@@ -8,7 +8,7 @@ ghost use Rattle.elab_model.specs.Nets.{OwnNet};
 ghost use Rattle.elab_nets.specs.Refusals.{RefusesCount};
 ghost use Rattle.elab_rows.specs.Inputs.{bound_at, number_in};
 ghost use Rattle.elab_rows.specs.Outside.{outer_number, outside_nets, IsChild};
-ghost use Rattle.elab_rows.specs.Undriven.{undriven};
+ghost use Rattle.elab_model.specs.Numbered.{undriven};
 
 use crate::inputs::{add_constants, add_free, bound_at};
 use crate::writing::add_bit_nets;

@@ -8,7 +8,7 @@ ghost use Rattle.elab_model.specs.Nets.{terminal_nets};
 ghost use Rattle.elab_nets.specs.Refusals.{RefusesCount};
 ghost use Rattle.elab_rows.specs.Own.{net_at};
 ghost use Rattle.elab_rows.specs.Terminals.{first_output, at_constant};
-ghost use Rattle.elab_rows.specs.Undriven.{undriven};
+ghost use Rattle.elab_model.specs.Numbered.{undriven};
 
 use crate::bit_nets::push_bit_net;
 use elab_bits::Bit;

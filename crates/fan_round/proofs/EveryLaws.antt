@@ -8,7 +8,7 @@ use Rattle.sg_logic.specs.declared.values.Value.{Value}
 use Rattle.sg_logic.specs.declared.values.Value.TheVariants.{X}
 use Rattle.sg_model.specs.Machine.{Machine}
 use Rattle.sg_model.specs.Round.{each_from, element_list, element_value}
-use Rattle.fan_round.specs.declared.nets.Stamp as code_stamp
+use Rattle.fan_round.specs.declared.stamps.Stamp as code_stamp
 use Rattle.fan_round.specs.Lists.{occurrences, IsListOf, at_places}
 use Rattle.fan_round.specs.Nets.{stamp_seen}
 use Rattle.fan_round.specs.Rounds.{IsOnce}

@@ -16,7 +16,7 @@ use Rattle.sg_model.specs.FanOut.{present_after, AgreeAt, IsSteady, IsSettled}
 use Rattle.sg_model.proofs.PlacedLaws.{same-true}
 use Rattle.sg_model.proofs.FanOutLaws.{settled-value, settled-list, settled-evaluated}
 use Rattle.sg_model.proofs.RunSteps.{round-is}
-use Rattle.fan_round.specs.declared.nets.Stamp as code_stamp
+use Rattle.fan_round.specs.declared.stamps.Stamp as code_stamp
 use Rattle.fan_round.specs.Lists.{IsListOf, at_places}
 use Rattle.fan_round.specs.Work.{has_changed}
 use Rattle.fan_round.specs.Nets.{stamp_seen}

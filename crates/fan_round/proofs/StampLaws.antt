@@ -10,7 +10,7 @@ use Rattle.sg_logic.specs.Values.{is_same}
 use Rattle.sg_model.specs.Values.{value_at}
 use Rattle.sg_model.specs.Machine as model
 use Rattle.sg_model.specs.Round.{each_from, stamp_after}
-use Rattle.fan_round.specs.declared.nets.Stamp as code_stamp
+use Rattle.fan_round.specs.declared.stamps.Stamp as code_stamp
 use Rattle.fan_round.specs.Lists.{at_places}
 use Rattle.fan_round.specs.Nets.{differs, AreChanged}
 use Rattle.fan_round.specs.Nets.{stamp_seen}
@@ -28,23 +28,24 @@ stamp_given now before values net old h = at (is_same (value_at before net) (val
     at true e = cc
     at false e = refl
 
--- one net more
-pub stamped_more : (now : ℕ) (before values : List Value) (nets : List ℕ) (i blank : ℕ) (d : Value) (start mid : List (Option code_stamp.Stamp)) → AreChanged before values nets → i < length nets
+-- one net more, which gets a stamp of its change
+pub stamped_more : (now : ℕ) (before values : List Value) (nets : List ℕ) (i blank : ℕ) (d : Value) (stamp : code_stamp.Stamp) (start mid : List (Option code_stamp.Stamp)) → AreChanged before values nets → i < length nets
+    → stamp.time ≡ now → stamp.before ≡ slice_index_or before (slice_index_or nets i blank) d → stamp.after ≡ slice_index_or values (slice_index_or nets i blank) d
     → map stamp_seen mid ≡ at_places (stamp_after now before values) None (take i nets) (map stamp_seen start)
-    → map stamp_seen (slice_set mid (slice_index_or nets i blank) (Some (record { time = now; before = slice_index_or before (slice_index_or nets i blank) d; after = slice_index_or values (slice_index_or nets i blank) d })))
-    ≡ at_places (stamp_after now before values) None (take (i + 1) nets) (map stamp_seen start)
-stamped_more now before values nets i blank d start mid are l e =
+    → map stamp_seen (slice_set mid (slice_index_or nets i blank) (Some stamp)) ≡ at_places (stamp_after now before values) None (take (i + 1) nets) (map stamp_seen start)
+stamped_more now before values nets i blank d stamp start mid are l t was is e =
     let net : ℕ = slice_index_or nets i blank in
     let m : net < length before = changed-within before values nets i blank are l in
-    let b : slice_index_or before net d ≡ value_at before net = get_or_default before net d X m in
-    let v : slice_index_or values net d ≡ value_at values net = get_or_default values net d X (let many = are.as_many in omega arith) in
+    let b : stamp.before ≡ value_at before net = was ∙ get_or_default before net d X m in
+    let v : stamp.after ≡ value_at values net = is ∙ get_or_default values net d X (let many = are.as_many in omega arith) in
     let done : List (Option model.Stamp) = at_places (stamp_after now before values) None (take i nets) (map stamp_seen start) in
     let given = stamp_given now before values net (slice_index_or done net None) (listed_at (differs before values) nets i blank are.each l) in
-    map-set stamp_seen mid net (Some (record { time = now; before = slice_index_or before net d; after = slice_index_or values net d }))
-    ∙ (ap (λ ss. slice_set ss net (Some (record { time = now; before = slice_index_or before net d; after = slice_index_or values net d }))) e
-    ∙ (ap (λ x. slice_set done net (Some (record { time = now; before = x; after = slice_index_or values net d }))) b
+    map-set stamp_seen mid net (Some stamp)
+    ∙ (ap (λ ss. slice_set ss net (Some (record { time = stamp.time; before = stamp.before; after = stamp.after }))) e
+    ∙ (ap (λ x. slice_set done net (Some (record { time = x; before = stamp.before; after = stamp.after }))) t
+    ∙ (ap (λ x. slice_set done net (Some (record { time = now; before = x; after = stamp.after }))) b
     ∙ (ap (λ x. slice_set done net (Some (record { time = now; before = value_at before net; after = x }))) v
-    ∙ (ap (λ s. slice_set done net s) (sym given) ∙ sym (at_places-more (stamp_after now before values) None nets i blank (map stamp_seen start) l)))))
+    ∙ (ap (λ s. slice_set done net s) (sym given) ∙ sym (at_places-more (stamp_after now before values) None nets i blank (map stamp_seen start) l))))))
 
 -- all have theirs
 pub stamped_all : (now : ℕ) (before values : List Value) (nets : List ℕ) (i : ℕ) (start mid : List (Option code_stamp.Stamp)) → AreChanged before values nets → length nets ≤ i

@@ -8,7 +8,7 @@ use Rattle.sg_logic.specs.Values.{is_same}
 use Rattle.sg_model.specs.Values.{value_at}
 use Rattle.sg_model.specs.Machine as model
 use Rattle.fan_round.specs.declared.nets.Nets.{Nets}
-use Rattle.fan_round.specs.declared.nets.Stamp as code_stamp
+use Rattle.fan_round.specs.declared.stamps.Stamp as code_stamp
 use Rattle.fan_round.specs.Lists.{IsListOf}
 
 -- whether a net's value differs

@@ -10,7 +10,7 @@ ghost use Rattle.fan_round.specs.Lists.{at_places};
 ghost use Rattle.fan_round.specs.Nets.{stamp_seen};
 ghost use Rattle.fan_round.specs.Rounds.{IsOnce};
 
-use crate::nets::Stamp;
+use crate::stamps::Stamp;
 use pulse_list::Agenda;
 use sg_logic::Value;
 use sg_steps::Steps;

@@ -5,9 +5,11 @@ mod evaluation;
 mod lists;
 mod nets;
 mod rounds;
+mod stamps;
 mod work;
 
 pub use evaluation::{Elements, evaluate_all};
-pub use nets::{Nets, Stamp, change_nets};
+pub use nets::{Nets, change_nets};
 pub use rounds::{first_round, make_round, round};
+pub use stamps::Stamp;
 pub use work::{WorkList, clear_work, list_work, mark_all};

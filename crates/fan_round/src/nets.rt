@@ -1,5 +1,5 @@
 // The nets of a simulation, and how what is due in a round changes them: the nets that change are kept in a list.
-ghost use Rattle.std.specs.Prelude.{◌≡◌, ◌++◌, ◌<◌, ◌≤◌, All, IfOk, length, map, slice_set, None, replicate};
+ghost use Rattle.std.specs.Prelude.{◌≡◌, ◌++◌, ◌<◌, ◌≤◌, ◌^◌, All, IfOk, length, map, slice_set, None, replicate};
 ghost use Rattle.std.specs.Vec.{vec_capacity};
 ghost use Rattle.sg_logic.specs.Values.{is_same};
 ghost use Rattle.sg_model.specs.Agenda.{NothingBelow, AllRise};
@@ -9,19 +9,12 @@ ghost use Rattle.stim_read.specs.Seen.{set_seen};
 ghost use Rattle.fan_round.specs.Nets.{stamp_seen, AreChanged, AreNets};
 
 use crate::lists::{add, remove};
+use crate::stamps::Stamp;
 use pulse_list::Agenda;
 use sg_logic::Value;
 use sg_text::NoMemory;
 use std::alloc::Global;
 use stim_read::Set;
-
-/// A net's last change.
-#[derive(Clone, Copy)]
-pub struct Stamp {
-    pub time: u64,
-    pub before: Value,
-    pub after: Value,
-}
 
 /// The values of all nets and those before the last round, each net's last change, and the nets that the last round
 /// changed.
@@ -173,6 +166,7 @@ fn stamp_nets(
 )
     requires as_many { length stamps.old ≡ length before.now }
     requires changed { AreChanged before.now values.now changed.now }
+    requires now { now < 2 ^ 60 }
     ensures { map stamp_seen stamps.new ≡ each_from (stamp_after now before.now values.now) 0 (map stamp_seen stamps.old) }
 {
     for net in changed {
@@ -200,6 +194,7 @@ pub fn change_nets<A: Agenda>(
     requires handed { All (λ c. c.net < length nets.old.values.items) handed.now }
     requires rise { AllRise (A.lists agenda.old) }
     requires below { NothingBelow now (A.lists agenda.old) }
+    requires now { now < 2 ^ 60 }
     ensures nets { AreNets nets.new }
     ensures before { nets.new.before.items ≡ nets.old.values.items }
     ensures values { nets.new.values.items ≡ changed_by (due_changes now outputs.now (A.lists agenda.old) ++ map (λ c. set_seen c) handed.now) nets.old.values.items }

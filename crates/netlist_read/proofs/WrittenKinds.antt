@@ -15,6 +15,7 @@ meaning_written elab.SecondDriver = refl
 meaning_written elab.SelfInstance = refl
 meaning_written elab.NoTop = refl
 meaning_written elab.SeveralTops = refl
+meaning_written elab.SpecifyInHierarchy = refl
 meaning_written elab.BadTerminal = refl
 meaning_written elab.TooDeep = refl
 meaning_written elab.TooMany = refl

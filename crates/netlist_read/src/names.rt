@@ -59,6 +59,7 @@ pub fn meaning_head(kind: ElabKind) -> &'static str
         ElabKind::SelfInstance => "SelfInstance",
         ElabKind::NoTop => "NoTop",
         ElabKind::SeveralTops => "SeveralTops",
+        ElabKind::SpecifyInHierarchy => "SpecifyInHierarchy",
         ElabKind::BadTerminal => "BadTerminal",
         ElabKind::TooDeep => "TooDeep",
         ElabKind::TooMany => "TooMany",

@@ -7,8 +7,9 @@ use std::alloc::{AllocError, Global};
 use std::io;
 use vl_lex::lex;
 use vl_parse::{ParseKind, parse};
+use vl_print::print;
 use vl_token::Token;
-use vl_tree::{Source, print};
+use vl_tree::Source;
 
 fn refusal(alloc: Global, refused: Refused<ParseKind<'_>>) -> Result<String, AllocError> {
     match refused {

@@ -5,7 +5,7 @@ use Rattle.sg_logic.specs.declared.values.Value.TheVariants.{Zero, One, X}
 use Rattle.sg_logic.specs.declared.edges.TheConstants.{POSEDGE, NEGEDGE}
 use Rattle.cond_expr.specs.Tree.{leaf}
 use Rattle.sg_model.specs.Machine.{Stamp}
-use Rattle.sg_circuit.specs.Circuit.{Timing}
+use Rattle.sg_circuit.specs.Timings.{Timing}
 use Rattle.sg_circuit.specs.Paths.{Path, PathCondition, Always, If, IfNone}
 use Rattle.path_pick.specs.Choice.{picked}
 use Rattle.path_pick.specs.declared.picking.Picked.{Picked}

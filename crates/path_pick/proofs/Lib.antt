@@ -4,3 +4,4 @@ pub mod ConditionLaws
 mod Examples
 pub mod PassLaws
 pub mod PulseLaws
+pub mod LaterLaws

@@ -2,9 +2,8 @@
 use Rattle.std.specs.Prelude.{◌≡◌, ℕ, zero, suc, ◌<◌, ◌^◌, List, [], ◌∷◌, None, length, slice_index_or}
 use Rattle.std.proofs.Common.{sym, ◌∙◌, ap, arith}
 use Rattle.sg_delay.specs.declared.limits.Limit.{Limit}
-use Rattle.sg_circuit.specs.Circuit.{Timing}
-use Rattle.sg_circuit.specs.Seen.{limit_seen, timings_of}
-use Rattle.sg_circuit.specs.Timings.{limits_or}
+use Rattle.sg_circuit.specs.Timings.{Timing, limits_or}
+use Rattle.sg_circuit.specs.TimingsSeen.{limit_seen, timings_of}
 use Rattle.sg_circuit.proofs.TimingLaws.{timings_of-at}
 use Rattle.path_pick.specs.declared.pulses.Pulse.{Pulse}
 use Rattle.path_pick.specs.Pass.{pulse_by}

@@ -1,5 +1,4 @@
 -- The modules of this folder.
 pub mod Choice
-pub mod Stamps
 pub mod Within
 pub mod Pass

@@ -9,9 +9,8 @@ use Rattle.sg_model.specs.Machine.{Stamp}
 use Rattle.sg_circuit.specs.declared.paths.Path as code_path
 use Rattle.sg_circuit.specs.declared.paths.PathCondition.{PathCondition}
 use Rattle.sg_circuit.specs.declared.paths.PathCondition.TheVariants.{Always, If, IfNone}
-use Rattle.sg_circuit.specs.Circuit.{Timing}
 use Rattle.sg_circuit.specs.Paths.{Path}
-use Rattle.sg_circuit.specs.Timings.{timing_at, limits_of}
+use Rattle.sg_circuit.specs.Timings.{Timing, timing_at, limits_of}
 use Rattle.path_pick.specs.declared.pulses.Pulse.{Pulse}
 use Rattle.path_pick.specs.declared.candidates.Candidate.{Candidate}
 use Rattle.path_pick.specs.declared.picking.Picked.{Picked}

@@ -1,8 +1,7 @@
 // The paths that may be taken, and which of two is better.
-ghost use Rattle.std.specs.Prelude.{◌≡◌, ◌<◌, ◌^◌, List, All, IfSome, length};
+ghost use Rattle.std.specs.Prelude.{◌≡◌, ◌<◌, List, All, IfSome, length};
 ghost use Rattle.cond_expr.specs.Condition.{Condition};
 ghost use Rattle.sg_circuit.specs.PathsSeen.{path_seen, paths_seen};
-ghost use Rattle.path_pick.specs.Choice.{stamp_at, time_of};
 ghost use Rattle.path_pick.specs.Pass.{better_of, candidate_seen, is_before, IsReady};
 ghost use Rattle.path_pick.specs.Within.{IsPathWithin};
 
@@ -32,7 +31,6 @@ pub(crate) fn candidate_from<S: Stamps, N: Nets>(
     requires paths { All (λ p. IsPathWithin (length (N.values nets.now)) timings.now p) paths.now }
     requires path { IsPathWithin (length (N.values nets.now)) timings.now path.now }
     requires stamp { path.now.input < length (S.stamps stamps.now) }
-    requires time { time_of (stamp_at (S.stamps stamps.now) path.now.input) < 2 ^ 60 }
     requires place { IfSome place (λ place. place < 12) }
     ensures seen { (conditions : List Condition) → result ≡ candidate_seen (paths_seen conditions timings.now paths.now) (N.values nets.now) (S.stamps stamps.now) place (path_seen conditions timings.now path.now) }
     ensures ready { IfSome result IsReady }

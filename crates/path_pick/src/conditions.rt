@@ -1,11 +1,11 @@
 // Whether paths may be taken by their conditions.
 ghost use Rattle.std.specs.Prelude.{◌≡◌, List, All, length};
 ghost use Rattle.cond_expr.specs.Condition.{Condition};
+ghost use Rattle.sg_circuit.specs.PathFitting.{IsConditionWithin};
 ghost use Rattle.sg_circuit.specs.PathsSeen.{path_seen, paths_seen};
 ghost use Rattle.sg_circuit.specs.declared.elements.LegTiming.{LegTiming as Timings};
 ghost use Rattle.path_pick.specs.Choice.{is_allowed as is_allowed_among};
 ghost use Rattle.path_pick.specs.Pass.{condition_is_true, some_is_true};
-ghost use Rattle.path_pick.specs.Within.{IsConditionWithin};
 
 use cond_expr::Nets;
 use sg_circuit::{Path, PathCondition};

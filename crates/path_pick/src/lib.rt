@@ -10,4 +10,5 @@ mod stamps;
 mod tests;
 
 pub use picking::{Picked, pick};
-pub use stamps::{Stamp, Stamps};
+pub use pulses::{Pulse, pulse_between};
+pub use stamps::Stamps;

@@ -2,7 +2,7 @@
 ghost use Rattle.std.specs.Prelude.{◌≡◌, ◌<◌, ◌≤◌, ◌^◌, List, All, IfSome, length};
 ghost use Rattle.cond_expr.specs.Condition.{Condition};
 ghost use Rattle.sg_circuit.specs.PathsSeen.{paths_seen};
-ghost use Rattle.path_pick.specs.Choice.{picked, time_of};
+ghost use Rattle.path_pick.specs.Choice.{picked};
 ghost use Rattle.path_pick.specs.Pass.{picked_from, IsReady};
 ghost use Rattle.path_pick.specs.Within.{IsPathWithin};
 
@@ -56,7 +56,6 @@ pub fn pick<S: Stamps, N: Nets>(
 ) -> Picked
     requires paths { All (λ p. IsPathWithin (length (N.values nets.now)) timings.now p) paths.now }
     requires stamps { All (λ p. p.input < length (S.stamps stamps.now)) paths.now }
-    requires times { All (λ s. time_of s < 2 ^ 60) (S.stamps stamps.now) }
     // whatever the table of their conditions' texts
     ensures picked { (conditions : List Condition) → result ≡ picked (paths_seen conditions timings.now paths.now) (N.values nets.now) (S.stamps stamps.now) now from to }
     ensures from_now { now ≤ result.time }

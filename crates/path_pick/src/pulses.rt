@@ -1,8 +1,8 @@
 // The delay and the limits of a transition.
 ghost use Rattle.std.specs.Prelude.{◌≡◌, ◌<◌, ◌≤◌, ◌^◌, IfSome, Some, position};
 ghost use Rattle.sg_logic.specs.Transitions.{goes, transitions};
-ghost use Rattle.sg_circuit.specs.Seen.{leg_timing_seen, limit_seen, timings_of};
-ghost use Rattle.sg_circuit.specs.Timings.{limits_or, timing_at};
+ghost use Rattle.sg_circuit.specs.Timings.{limits_or, timing_at, timing_between};
+ghost use Rattle.sg_circuit.specs.TimingsSeen.{leg_timing_seen, limit_seen, timings_of};
 ghost use Rattle.path_pick.specs.Pass.{pulse_by};
 ghost use Rattle.path_pick.specs.Within.{AreNear};
 
@@ -68,4 +68,13 @@ pub(crate) fn pulse_of(timing: &LegTiming, place: Option<usize>) -> Pulse
             error: 0,
         },
     }
+}
+
+/// The delay and the limits of a change from a value to another; where nothing changes they are 0.
+pub fn pulse_between(timing: &LegTiming, from: Value, to: Value) -> Pulse
+    ensures pulse { result ≡ pulse_by (timing_between (leg_timing_seen timing.now) from to) }
+    ensures ordered { result.reject ≤ result.error }
+    ensures near { AreNear (leg_timing_seen timing.now) → result.delay < 2 ^ 60 }
+{
+    pulse_of(timing, place_of(from, to))
 }

@@ -1,19 +1,12 @@
 // The last changes of nets.
-ghost use Rattle.std.specs.Prelude.{◌≡◌, ◌<◌, List, None, length, slice_index_or};
+ghost use Rattle.std.specs.Prelude.{◌≡◌, ◌<◌, ◌^◌, List, None, length, slice_index_or};
 ghost use Rattle.std.specs.declared.option.Option.{Option as Optional};
 ghost use Rattle.sg_model.specs.Machine.{Stamp as Change};
+ghost use Rattle.fan_round.specs.Nets.{stamp_seen};
 ghost use Rattle.path_pick.specs.Choice.{is_of_edge, time_of};
-ghost use Rattle.path_pick.specs.Stamps.{stamp_seen};
 
-use sg_logic::{Edge, Value, edge_matches};
-
-/// A net's last change.
-#[derive(Clone, Copy, Debug, PartialEq, Eq)]
-pub struct Stamp {
-    pub time: u64,
-    pub from: Value,
-    pub to: Value,
-}
+use fan_round::Stamp;
+use sg_logic::{Edge, edge_matches};
 
 /// The last changes of nets.
 pub trait Stamps {
@@ -33,13 +26,14 @@ pub(crate) fn is_on_edge(edge: Option<Edge>, stamp: Option<Stamp>) -> bool
     match (edge, stamp) {
         (None, _) => true,
         (Some(_), None) => false,
-        (Some(edge), Some(stamp)) => edge_matches(edge, stamp.from, stamp.to),
+        (Some(edge), Some(stamp)) => edge_matches(edge, stamp.before, stamp.after),
     }
 }
 
 /// When a net changed last; 0 if it never did.
 pub(crate) fn time_of_stamp(stamp: Option<Stamp>) -> u64
-    ensures { result ≡ time_of (stamp_seen stamp) }
+    ensures time { result ≡ time_of (stamp_seen stamp) }
+    ensures near { result < 2 ^ 60 }
 {
     match stamp {
         Some(stamp) => stamp.time,

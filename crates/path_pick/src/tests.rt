@@ -1,11 +1,12 @@
 // A choice among two paths.
 ghost use Rattle.std.specs.Prelude.{◌≡◌, ◌<◌, ◌^◌, All, length, map};
-ghost use Rattle.sg_circuit.specs.Seen.{leg_timing_seen};
-ghost use Rattle.path_pick.specs.Stamps.{stamp_seen};
+ghost use Rattle.fan_round.specs.Nets.{stamp_seen};
+ghost use Rattle.sg_circuit.specs.TimingsSeen.{leg_timing_seen};
 ghost use Rattle.path_pick.specs.Within.{AreNear};
 
-use crate::{Picked, Stamp, Stamps, pick};
+use crate::{Picked, Stamps, pick};
 use cond_expr::Nets;
+use fan_round::Stamp;
 use sg_circuit::{LegTiming, Path, PathCondition};
 use sg_delay::{Delays12, Limit, Limits12};
 use sg_logic::{POSEDGE, Value};
@@ -64,13 +65,13 @@ fn the_input_with_the_edge_decides(rt: HostRuntime) {
     ];
     let rise = Stamp {
         time: 20,
-        from: Value::Zero,
-        to: Value::One,
+        before: Value::Zero,
+        after: Value::One,
     };
     let fall = Stamp {
         time: 20,
-        from: Value::One,
-        to: Value::Zero,
+        before: Value::One,
+        after: Value::Zero,
     };
     let picked = pick(
         &paths,

@@ -11,10 +11,11 @@ use Rattle.sg_circuit.specs.declared.nets.Driver.TheVariants as driver
 use Rattle.sg_circuit.specs.declared.elements.Element as code_element
 use Rattle.sg_circuit.specs.declared.scopes.Scope as code_scope
 use Rattle.sg_circuit.specs.declared.circuits.Parts.{Parts}
-use Rattle.sg_circuit.specs.Circuit.{Leg, Pass, Element, Scope, Variable, net_at, element_at, scope_at}
-use Rattle.sg_circuit.specs.Closed.{IsTiming, HasDelays, TakesInputs, IfElement, IsClosed, width_of}
+use Rattle.sg_circuit.specs.Circuit.{Pass, Element, Scope, Variable, net_at, element_at, scope_at}
+use Rattle.sg_circuit.specs.Closed.{IsTiming, AreTimings, HasDelays, NamesNets, TakesInputs, IfElement, IsClosed, width_of}
 use Rattle.sg_circuit.specs.Fitting.{ScopesFit, DriversFit, PartsFit}
-use Rattle.sg_circuit.specs.Seen.{limit_seen, timings_of, leg_timing_seen, circuit_seen, element_seen, scope_seen, variable_seen, AreIndexed}
+use Rattle.sg_circuit.specs.TimingsSeen.{limit_seen, timings_of, leg_timing_seen}
+use Rattle.sg_circuit.specs.Seen.{circuit_seen, element_seen, scope_seen, variable_seen, AreIndexed}
 use Rattle.sg_circuit.proofs.SeenLaws.{all-unmapped}
 use Rattle.sg_circuit.specs.declared.elements.LegTiming.{LegTiming}
 
@@ -49,18 +50,18 @@ length-timings_of [] limits e = refl
 length-timings_of (d ∷ delays) [] e = absurd (omega arith)
 length-timings_of (d ∷ delays) (l ∷ limits) e = ap suc (length-timings_of delays limits (omega arith))
 
-pub leg_fits : (timing : LegTiming) → length timing.delays.at ≡ 12 → length timing.limits.at ≡ 12 → All (λ d. d < 2 ^ 60) timing.delays.at → All (λ l. IfSome (limit_seen l) (λ w. w.1 < 2 ^ 60)) timing.limits.at → HasDelays (Leg (leg_timing_seen timing))
+pub leg_fits : (timing : LegTiming) → length timing.delays.at ≡ 12 → length timing.limits.at ≡ 12 → All (λ d. d < 2 ^ 60) timing.delays.at → All (λ l. IfSome (limit_seen l) (λ w. w.1 < 2 ^ 60)) timing.limits.at → AreTimings (leg_timing_seen timing)
 leg_fits timing d l ds ls = (length-timings_of timing.delays.at timing.limits.at (d ∙ sym l) ∙ d, timings_are timing.delays.at timing.limits.at ds ls)
 
-pub leg_delays : (timing : LegTiming) → length timing.delays.at ≡ 12 → length timing.limits.at ≡ 12 → HasDelays (Leg (leg_timing_seen timing)) → All (λ d. d < 2 ^ 60) timing.delays.at
+pub leg_delays : (timing : LegTiming) → length timing.delays.at ≡ 12 → length timing.limits.at ≡ 12 → AreTimings (leg_timing_seen timing) → All (λ d. d < 2 ^ 60) timing.delays.at
 leg_delays timing d l h = delays_are timing.delays.at timing.limits.at (d ∙ sym l) h.1
 
-pub leg_limits : (timing : LegTiming) → length timing.delays.at ≡ 12 → length timing.limits.at ≡ 12 → HasDelays (Leg (leg_timing_seen timing)) → All (λ x. IfSome (limit_seen x) (λ w. w.1 < 2 ^ 60)) timing.limits.at
+pub leg_limits : (timing : LegTiming) → length timing.delays.at ≡ 12 → length timing.limits.at ≡ 12 → AreTimings (leg_timing_seen timing) → All (λ x. IfSome (limit_seen x) (λ w. w.1 < 2 ^ 60)) timing.limits.at
 leg_limits timing d l h = limits_are timing.delays.at timing.limits.at (d ∙ sym l) h.1
 
 -- a test of both
 pub leg_tests : (timing : LegTiming) (a b : Bool) → length timing.delays.at ≡ 12 → length timing.limits.at ≡ 12 → (IsTrue a ↔ All (λ d. d < 2 ^ 60) timing.delays.at) → (IsTrue b ↔ All (λ x. IfSome (limit_seen x) (λ w. w.1 < 2 ^ 60)) timing.limits.at)
-    → (a ≡ true → IsTrue b ↔ HasDelays (Leg (leg_timing_seen timing))) × (a ≡ false → IsTrue a ↔ HasDelays (Leg (leg_timing_seen timing)))
+    → (a ≡ true → IsTrue b ↔ AreTimings (leg_timing_seen timing)) × (a ≡ false → IsTrue a ↔ AreTimings (leg_timing_seen timing))
 leg_tests timing a b d l x y = (
   (λ e. ((λ t. leg_fits timing d l (x.0 e) (y.0 t)), (λ h. y.1 (leg_limits timing d l h)))),
   (λ e. ((λ t. (let f : false ≡ true = sym e ∙ t in cc)), (λ h. x.1 (leg_delays timing d l h)))),
@@ -151,6 +152,7 @@ closed_of parts h =
         drivers = drivers_are parts h.drivers;
         takes_inputs = All-map (λ (e : Element). TakesInputs e.kind (length e.inputs)) (element_seen parts) parts.elements.items h.kinds.takes_inputs;
         has_delays = All-map (λ (e : Element). HasDelays e.kind) (element_seen parts) parts.elements.items h.kinds.has_delays;
+        paths = All-map (λ (e : Element). NamesNets (length parts.nets.items) e.kind) (element_seen parts) parts.elements.items h.kinds.paths;
         widths = variables_are (λ v. length v.bits ≡ width_of v.range) parts.scopes.items h.variables.widths;
         datums = h.variables.datums;
       },
@@ -187,6 +189,7 @@ fit_of parts h i =
         indexed = i.named;
         takes_inputs = all-unmapped (λ (e : Element). TakesInputs e.kind (length e.inputs)) (element_seen parts) parts.elements.items h.takes_inputs;
         has_delays = all-unmapped (λ (e : Element). HasDelays e.kind) (element_seen parts) parts.elements.items h.has_delays;
+        paths = all-unmapped (λ (e : Element). NamesNets (length parts.nets.items) e.kind) (element_seen parts) parts.elements.items h.paths;
       };
       variables = record { widths = variables_were (λ v. length v.bits ≡ width_of v.range) parts.scopes.items h.widths; datums = h.datums };
     }

@@ -4,3 +4,4 @@ pub mod PinLaws
 pub mod FanLaws
 pub mod FittingLaws
 pub mod TimingLaws
+pub mod PathLaws

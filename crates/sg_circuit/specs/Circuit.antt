@@ -2,20 +2,17 @@
 use Rattle.std.specs.Prelude.{ℕ, ℤ, pos, List, [], Bool, false, Option, None, slice_index_or}
 use Rattle.sg_logic.specs.declared.values.Value.{Value}
 use Rattle.sg_logic.specs.declared.gates.GateKind.{GateKind}
+use Rattle.sg_delay.specs.declared.limits.PulseStyle.{PulseStyle}
 use Rattle.udp_rows.specs.Meaning.{Primitive}
+use Rattle.sg_circuit.specs.Timings.{Timing}
+use Rattle.sg_circuit.specs.Paths as specify
 use Rattle.sg_circuit.specs.declared.nets.Net.{Net}
 use Rattle.sg_circuit.specs.declared.nets.Driver.TheVariants.{Nobody}
 use Rattle.sg_circuit.specs.declared.scopes.Range.{Range}
 use Rattle.sg_circuit.specs.declared.scopes.Port.{Port}
 use Rattle.sg_circuit.specs.declared.checks.Check.{Check}
 
--- a transition's delay, and the limits of its pulses where a text gives them: reject and error. Without them both are
--- the delay (IEEE 1364-2005, 14.6)
-pub record Timing : Type 0 where
-  pub delay : ℕ
-  pub limits : Option (ℕ × ℕ)
-
--- the kinds of element
+-- the kinds of element (IEEE 1364-2005)
 pub data Kind : Type 0 where
   -- a gate, with no, one or two delays (7.1, 7.14)
   Gate : (kind : GateKind) (delays : List ℕ) → Kind
@@ -26,6 +23,9 @@ pub data Kind : Type 0 where
   -- the way to an input port's bit of an instance, with a timing for each of the twelve transitions (IEEE 1497-2001,
   -- interconnect delays)
   Leg : (timings : List Timing) → Kind
+  -- the way to an output port's bit to which specify paths lead, in the order of their text; the element's one input is the
+  -- net that is driven inside. Error pulses are shown in a style (14.2, 14.6.4)
+  Path : (paths : List specify.Path) (style : PulseStyle) → Kind
 
 -- an element of a scope: the nets that it reads, and the one that it drives
 pub record Element : Type 0 where

@@ -6,7 +6,10 @@ use Rattle.sg_circuit.specs.declared.nets.Driver.TheVariants as driver
 use Rattle.sg_circuit.specs.declared.scopes.Range.{Range}
 use Rattle.sg_circuit.specs.declared.checks.CheckKind.{CheckKind}
 use Rattle.sg_circuit.specs.declared.checks.CheckKind.TheVariants.{Width, Period}
-use Rattle.sg_circuit.specs.Circuit.{Circuit, Timing, Kind, Gate, Udp, Pass, Leg, net_at, element_at, scope_at}
+use Rattle.cond_expr.specs.Values.{AreBelow}
+use Rattle.sg_circuit.specs.Timings.{Timing}
+use Rattle.sg_circuit.specs.Paths as specify
+use Rattle.sg_circuit.specs.Circuit.{Circuit, Kind, Gate, Udp, Pass, Leg, Path, net_at, element_at, scope_at}
 
 -- so many inputs an element of a kind has (IEEE 1364-2005, 6.1, 7.2, 7.3, 8.1)
 abbrev pub TakesInputs : Kind → ℕ → Type 0
@@ -15,6 +18,7 @@ TakesInputs (Udp primitive first delays) n = n ≡ primitive.inputs
 TakesInputs (Pass None) n = n ≡ 1
 TakesInputs (Pass (Some value)) n = n ≡ 0
 TakesInputs (Leg timings) n = n ≡ 1
+TakesInputs (Path paths style) n = n ≡ 1
 
 -- no, one or two delays of a gate, in ticks (7.14, 8.6)
 abbrev pub AreGateDelays : List ℕ → Type 0
@@ -26,12 +30,36 @@ pub record IsTiming (t : Timing) : Type 0 where
   pub ordered : IfSome t.limits (λ l. l.0 ≤ l.1)
   pub error : IfSome t.limits (λ l. l.1 < 2 ^ 60)
 
+-- a timing for each of the twelve transitions (14.3)
+abbrev pub AreTimings : List Timing → Type 0
+AreTimings timings = (length timings ≡ 12) × All IsTiming timings
+
 -- the delays that an element of a kind has (7.14, 14.2)
 abbrev pub HasDelays : Kind → Type 0
 HasDelays (Gate kind delays) = AreGateDelays delays
 HasDelays (Udp primitive first delays) = AreGateDelays delays
 HasDelays (Pass constant) = Unit {0}
-HasDelays (Leg timings) = (length timings ≡ 12) × All IsTiming timings
+HasDelays (Leg timings) = AreTimings timings
+HasDelays (Path paths style) = All (λ p. AreTimings p.timings) paths
+
+-- the nets of a path's condition are among so many
+abbrev pub ReadsNets : ℕ → specify.PathCondition → Type 0
+ReadsNets nets specify.Always = Unit {0}
+ReadsNets nets (specify.If written bound) = AreBelow nets bound
+ReadsNets nets specify.IfNone = Unit {0}
+
+-- the nets that a path names are among so many
+pub record IsPathOf (nets : ℕ) (p : specify.Path) : Type 0 where
+  pub input : p.input < nets
+  pub condition : ReadsNets nets p.condition
+
+-- the nets that a kind names, which the element doesn't read as inputs, are among so many
+abbrev pub NamesNets : ℕ → Kind → Type 0
+NamesNets nets (Gate kind delays) = Unit {0}
+NamesNets nets (Udp primitive first delays) = Unit {0}
+NamesNets nets (Pass constant) = Unit {0}
+NamesNets nets (Leg timings) = Unit {0}
+NamesNets nets (Path paths style) = All (IsPathOf nets) paths
 
 -- how many bits a variable has (4.3.1)
 abbrev pub width_of : Option Range → ℕ
@@ -65,6 +93,7 @@ pub record IsClosed (c : Circuit) : Type 0 where
   pub bits : All (λ s. All (λ v. All (λ n. n < length c.nets) v.bits) s.variables) c.scopes
   pub inputs : All (λ e. All (λ n. n < length c.nets) e.inputs) c.elements
   pub outputs : All (λ e. e.output < length c.nets) c.elements
+  pub paths : All (λ e. NamesNets (length c.nets) e.kind) c.elements
   -- an element's output names it as its driver, and a net's driver drives it
   pub named : (e : ℕ) → e < length c.elements → (net_at c (element_at c e).output).driver ≡ driver.Element e
   pub drivers : (n : ℕ) → n < length c.nets → IfElement (net_at c n).driver (λ e. (e < length c.elements) × ((element_at c e).output ≡ n))

@@ -5,7 +5,7 @@ use Rattle.sg_circuit.specs.declared.nets.Driver.TheVariants as driver
 use Rattle.sg_circuit.specs.declared.scopes.Scope.{Scope}
 use Rattle.sg_circuit.specs.declared.elements.Element.{Element}
 use Rattle.sg_circuit.specs.declared.circuits.Parts.{Parts}
-use Rattle.sg_circuit.specs.Closed.{IfElement, TakesInputs, HasDelays, HasDatum, width_of}
+use Rattle.sg_circuit.specs.Closed.{IfElement, TakesInputs, HasDelays, HasDatum, NamesNets, width_of}
 use Rattle.sg_circuit.specs.Seen.{kind_seen, IsIndexed}
 
 -- no list has too many parts
@@ -36,6 +36,7 @@ pub record KindsFit (parts : Parts) : Type 0 where
   pub indexed : All (λ e. IsIndexed parts e.kind) parts.elements.items
   pub takes_inputs : All (λ e. TakesInputs (kind_seen parts e.kind) (length e.inputs.items)) parts.elements.items
   pub has_delays : All (λ e. HasDelays (kind_seen parts e.kind)) parts.elements.items
+  pub paths : All (λ e. NamesNets (length parts.nets.items) (kind_seen parts e.kind)) parts.elements.items
 
 pub record VariablesFit (parts : Parts) : Type 0 where
   pub widths : All (λ s. All (λ v. length v.bits.items ≡ width_of v.range) s.variables.items) parts.scopes.items

@@ -6,6 +6,8 @@ pub mod Seen
 pub mod Cuts
 pub mod Pins
 pub mod Fitting
+pub mod PathFitting
 pub mod Paths
 pub mod PathsSeen
 pub mod Timings
+pub mod TimingsSeen

@@ -3,7 +3,7 @@ use Rattle.std.specs.Prelude.{ℕ, List, Option}
 use Rattle.sg_logic.specs.declared.edges.Edge.{Edge}
 use Rattle.cond_expr.specs.Token.{Tok}
 use Rattle.cond_expr.specs.Tree.{Cond}
-use Rattle.sg_circuit.specs.Circuit.{Timing}
+use Rattle.sg_circuit.specs.Timings.{Timing}
 
 -- when a path may be taken (14.2.4)
 pub data PathCondition : Type 0 where

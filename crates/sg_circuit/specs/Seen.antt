@@ -1,11 +1,10 @@
 -- What the code's circuit stands for: its parts as lists, and each element with the delays that it names.
-use Rattle.std.specs.Prelude.{ℕ, ◌<◌, ◌≤◌, ◌^◌, false, All, List, [], ◌∷◌, length, map, take, Option, Some, None, slice_index_or}
+use Rattle.std.specs.Prelude.{ℕ, ◌<◌, ◌≤◌, ◌^◌, false, All, List, [], length, map, take, slice_index_or}
 use Rattle.sg_logic.specs.declared.values.Value.TheVariants.{X}
 use Rattle.sg_delay.specs.declared.gates.GateDelays.{GateDelays}
-use Rattle.sg_delay.specs.declared.limits.Limit.{Limit}
-use Rattle.sg_delay.specs.declared.limits.Limit.TheVariants.{Follow, Own}
-use Rattle.sg_circuit.specs.Circuit.{Circuit, Timing, Kind, Gate, Udp, Pass, Leg, Element, Variable, Scope}
-use Rattle.sg_circuit.specs.declared.elements.LegTiming.{LegTiming}
+use Rattle.sg_circuit.specs.Circuit.{Circuit, Kind, Gate, Udp, Pass, Leg, Path, Element, Variable, Scope}
+use Rattle.sg_circuit.specs.TimingsSeen.{timings_at}
+use Rattle.sg_circuit.specs.PathsSeen.{paths_seen, spanned, AreIndexedPaths}
 use Rattle.sg_circuit.specs.declared.elements.UdpUse.{UdpUse}
 use Rattle.sg_circuit.specs.declared.elements.ElementKind.{ElementKind}
 use Rattle.sg_circuit.specs.declared.elements.ElementKind.TheVariants as kind
@@ -24,27 +23,12 @@ delays_at table i = slice_index_or (map (λ d. gate_delays_seen d) table) i []
 abbrev pub udp_at : List UdpUse → ℕ → UdpUse
 udp_at udps i = slice_index_or udps i (record { rows = record { inputs = 0; sequential = false; rows = [] }; first = X })
 
-abbrev pub limit_seen : Limit → Option (ℕ × ℕ)
-limit_seen Follow = None
-limit_seen (Own widths) = Some (widths.reject, widths.error)
-
--- the delays and the limits of the transitions, side by side
-abbrev pub timings_of : List ℕ → List Limit → List Timing
-timings_of [] limits = []
-timings_of (d ∷ ds) [] = []
-timings_of (d ∷ ds) (l ∷ ls) = record { delay = d; limits = limit_seen l } ∷ timings_of ds ls
-
-abbrev pub leg_timing_seen : LegTiming → List Timing
-leg_timing_seen t = timings_of t.delays.at t.limits.at
-
-abbrev pub timings_at : List LegTiming → ℕ → List Timing
-timings_at table i = slice_index_or (map (λ t. leg_timing_seen t) table) i []
-
 abbrev pub kind_seen : Parts → ElementKind → Kind
 kind_seen parts (kind.Gate gate delays) = Gate gate (delays_at parts.gate_delays.items delays)
 kind_seen parts (kind.Udp udp delays) = Udp (udp_at parts.udps.items udp).rows (udp_at parts.udps.items udp).first (delays_at parts.gate_delays.items delays)
 kind_seen parts (kind.Pass constant) = Pass constant
 kind_seen parts (kind.Leg timing) = Leg (timings_at parts.leg_timings.items timing)
+kind_seen parts (kind.Path paths style) = Path (paths_seen parts.conditions.items parts.leg_timings.items (spanned parts.paths.items paths)) style
 
 abbrev pub element_seen : Parts → code_element.Element → Element
 element_seen parts e = record { scope = e.scope; inputs = e.inputs.items; output = e.output; kind = kind_seen parts e.kind }
@@ -78,6 +62,7 @@ IsIndexed parts (kind.Gate gate delays) = delays < length parts.gate_delays.item
 IsIndexed parts (kind.Udp udp delays) = (udp < length parts.udps.items) × (delays < length parts.gate_delays.items)
 IsIndexed parts (kind.Pass constant) = Unit {0}
 IsIndexed parts (kind.Leg timing) = timing < length parts.leg_timings.items
+IsIndexed parts (kind.Path paths style) = AreIndexedPaths (length parts.conditions.items) (length parts.leg_timings.items) parts.paths.items paths
 
 -- the tables have what is named, and no more delays of a gate than two
 pub record AreIndexed (parts : Parts) : Type 0 where

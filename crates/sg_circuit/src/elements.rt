@@ -1,6 +1,6 @@
 // Elements: what drives the nets of a circuit.
-use crate::NetId;
-use sg_delay::{Delays12, Limits12};
+use crate::{NetId, Span};
+use sg_delay::{Delays12, Limits12, PulseStyle};
 use sg_logic::{GateKind, Value};
 use smallvec::SmallVec;
 use udp_rows::UdpRows;
@@ -18,6 +18,9 @@ pub enum ElementKind {
     /// The way to an input port's bit of an instance (IEEE 1364-2005, 14.1; IEEE 1497-2001, interconnect delays). `timing` is a place in
     /// `Parts::leg_timings`.
     Leg { timing: u32 },
+    /// The way to an output port's bit to which specify paths lead, from the net that is driven inside (IEEE 1364-2005, 14.2). `paths` are places in
+    /// `Parts::paths`, and `style` says how an error pulse is shown.
+    Path { paths: Span, style: PulseStyle },
 }
 
 /// An element: the nets that it reads, and the one that it drives.

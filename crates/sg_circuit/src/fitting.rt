@@ -5,16 +5,16 @@ ghost use Rattle.sg_circuit.specs.declared.nets.Driver.TheVariants as driver;
 ghost use Rattle.sg_circuit.specs.declared.scopes.Scope.{Scope as ScopeSeen};
 ghost use Rattle.sg_circuit.specs.declared.nets.Net.{Net as NetSeen};
 ghost use Rattle.sg_circuit.specs.declared.elements.Element.{Element as ElementSeen};
-ghost use Rattle.sg_circuit.specs.Circuit.{Leg};
-ghost use Rattle.sg_circuit.specs.Closed.{IfElement, width_of, TakesInputs, HasDelays, HasDatum, AreGateDelays, IsTiming};
+ghost use Rattle.sg_circuit.specs.Closed.{IfElement, width_of, TakesInputs, HasDelays, HasDatum, AreGateDelays, NamesNets};
 ghost use Rattle.sg_circuit.specs.Fitting.{AreFew, DriversFit, KindsFit, NetsFit, PartsFit, ScopesFit, VariablesFit};
-ghost use Rattle.sg_circuit.specs.Seen.{kind_seen, gate_delays_seen, leg_timing_seen, limit_seen, IsIndexed};
+ghost use Rattle.sg_circuit.specs.Seen.{kind_seen, gate_delays_seen, IsIndexed};
 
+use crate::path_fitting::{are_indexed, path_delays_fit, path_nets_fit};
+use crate::timing_fitting::{are_few, timing_fits};
 use crate::{
-    Check, CheckKind, Driver, Element, ElementKind, LegTiming, Net, NetId, Parts, Scope, UdpUse,
-    Variable,
+    Check, CheckKind, Driver, Element, ElementKind, Net, NetId, Parts, Scope, UdpUse, Variable,
 };
-use sg_delay::{GateDelays, Limit};
+use sg_delay::GateDelays;
 use sg_logic::GateKind;
 
 // Whether each net is of one of so many scopes.
@@ -188,7 +188,7 @@ fn takes_inputs(parts: &Parts, element: &Element) -> bool
         ElementKind::Udp { udp, .. } => count == parts.udps[udp as usize].rows.inputs() as usize,
         ElementKind::Pass { constant: None } => count == 1,
         ElementKind::Pass { constant: Some(_) } => count == 0,
-        ElementKind::Leg { .. } => count == 1,
+        ElementKind::Leg { .. } | ElementKind::Path { .. } => count == 1,
     }
 }
 
@@ -211,6 +211,7 @@ fn is_indexed(parts: &Parts, kind: ElementKind) -> bool
         }
         ElementKind::Pass { .. } => true,
         ElementKind::Leg { timing } => (timing as usize) < parts.leg_timings.len(),
+        ElementKind::Path { paths, .. } => are_indexed(parts, paths),
     }
 }
 
@@ -229,12 +230,6 @@ fn all_take_inputs(parts: &Parts, elements: &[Element]) -> bool
     elements.iter().all(|element| takes_inputs(parts, element))
 }
 
-fn are_few(delays: &[u64]) -> bool
-    ensures { IsTrue result ↔ All (λ d. d < 2 ^ 60) delays.now }
-{
-    delays.iter().all(|delay| *delay < 1 << 60)
-}
-
 fn counts_fit(table: &[GateDelays]) -> bool
     ensures { IsTrue result ↔ All (λ d. d.count ≤ 2) table.now }
 {
@@ -248,40 +243,6 @@ fn gate_delays_fit(delays: &GateDelays) -> bool
     are_few(&delays.at[..delays.count as usize])
 }
 
-// Whether a limit is below 2^60.
-fn limit_fits(limit: Limit) -> bool
-    ensures { IsTrue result ↔ IfSome (limit_seen limit) (λ l. l.1 < 2 ^ 60) }
-{
-    match limit {
-        Limit::Follow => true,
-        Limit::Own(widths) => widths.error < 1 << 60,
-    }
-}
-
-// Whether a leg's delays of twelve transitions are below 2^60.
-fn twelve_few(delays: &[u64; 12]) -> bool
-    ensures few { IsTrue result ↔ All (λ d. d < 2 ^ 60) delays.now }
-    ensures count { length delays.now ≡ 12 }
-{
-    are_few(delays)
-}
-
-// Whether its limits are.
-fn limits_fit(limits: &[Limit; 12]) -> bool
-    ensures few { IsTrue result ↔ All (λ l. IfSome (limit_seen l) (λ w. w.1 < 2 ^ 60)) limits.now }
-    ensures count { length limits.now ≡ 12 }
-{
-    limits.iter().all(|limit| limit_fits(*limit))
-}
-
-fn timing_fits(timing: &LegTiming) -> bool
-    ensures { IsTrue result ↔ HasDelays (Leg (leg_timing_seen timing.now)) }
-{
-    let delays = twelve_few(&timing.delays.at);
-    let limits = limits_fit(&timing.limits.at);
-    delays && limits
-}
-
 fn delays_fit(parts: &Parts, kind: ElementKind) -> bool
     requires counts { All (λ d. d.count ≤ 2) parts.now.gate_delays.items }
     requires indexed { IsIndexed parts.now kind }
@@ -292,6 +253,7 @@ fn delays_fit(parts: &Parts, kind: ElementKind) -> bool
         ElementKind::Udp { delays, .. } => gate_delays_fit(&parts.gate_delays[delays as usize]),
         ElementKind::Pass { .. } => true,
         ElementKind::Leg { timing } => timing_fits(&parts.leg_timings[timing as usize]),
+        ElementKind::Path { paths, .. } => path_delays_fit(parts, paths),
     }
 }
 
@@ -303,6 +265,28 @@ fn all_delays_fit(parts: &Parts, elements: &[Element]) -> bool
     elements
         .iter()
         .all(|element| delays_fit(parts, element.kind))
+}
+
+// Whether the nets that a kind names are among so many.
+fn names_nets(parts: &Parts, kind: ElementKind) -> bool
+    requires few { length parts.now.nets.items < 2 ^ 31 }
+    requires indexed { IsIndexed parts.now kind }
+    ensures { IsTrue result ↔ NamesNets (length parts.now.nets.items) (kind_seen parts.now kind) }
+{
+    match kind {
+        ElementKind::Path { paths, .. } => path_nets_fit(parts, paths),
+        _ => true,
+    }
+}
+
+fn all_names_nets(parts: &Parts, elements: &[Element]) -> bool
+    requires few { length parts.now.nets.items < 2 ^ 31 }
+    requires indexed { All (λ e. IsIndexed parts.now e.kind) elements.now }
+    ensures { IsTrue result ↔ All (λ e. NamesNets (length parts.now.nets.items) (kind_seen parts.now e.kind)) elements.now }
+{
+    elements
+        .iter()
+        .all(|element| names_nets(parts, element.kind))
 }
 
 fn few_parts(parts: &Parts) -> bool
@@ -343,12 +327,14 @@ fn all_drivers_fit(parts: &Parts) -> bool
 }
 
 fn kinds_fit(parts: &Parts) -> bool
+    requires { length parts.now.nets.items < 2 ^ 31 }
     ensures { IsTrue result ↔ KindsFit parts.now }
 {
     counts_fit(&parts.gate_delays)
         && all_indexed(parts, &parts.elements)
         && all_take_inputs(parts, &parts.elements)
         && all_delays_fit(parts, &parts.elements)
+        && all_names_nets(parts, &parts.elements)
 }
 
 fn variables_fit(parts: &Parts) -> bool

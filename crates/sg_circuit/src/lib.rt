@@ -8,10 +8,12 @@ mod elements;
 mod fan_out;
 mod fitting;
 mod nets;
+mod path_fitting;
 mod paths;
 mod scopes;
 #[cfg(test)]
 mod tests;
+mod timing_fitting;
 
 pub use building::{Pin, add_pins};
 pub use checks::{Check, CheckKind, CheckTiming, Event, Terminal};
@@ -19,5 +21,5 @@ pub use circuits::{Circuit, Parts};
 pub use elements::{Element, ElementKind, LegTiming, UdpUse};
 pub use fan_out::FanOut;
 pub use nets::{Driver, Net, NetId};
-pub use paths::{Path, PathCondition};
+pub use paths::{Path, PathCondition, Span};
 pub use scopes::{Port, Range, Scope, Variable};

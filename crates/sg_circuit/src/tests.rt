@@ -1,8 +1,8 @@
 use crate::{
-    Check, CheckKind, Circuit, Driver, Element, ElementKind, FanOut, LegTiming, Net, Parts, Port,
-    Range, Scope, Terminal, Variable,
+    Check, CheckKind, Circuit, Driver, Element, ElementKind, FanOut, LegTiming, Net, Parts, Path,
+    PathCondition, Port, Range, Scope, Span, Terminal, Variable,
 };
-use sg_delay::{Delays12, GateDelays, Limit, Limits12};
+use sg_delay::{Delays12, GateDelays, Limit, Limits12, PulseStyle};
 use sg_logic::{GateKind, Value};
 use sg_text::{NoMemory, Text};
 use sg_time::{Scale, Unit};
@@ -81,6 +81,8 @@ fn nand(alloc: Global) -> Result<Parts, NoMemory> {
             },
         ]?,
         leg_timings: Vec::new(alloc),
+        paths: Vec::new(alloc),
+        conditions: Vec::new(alloc),
         udps: Vec::new(alloc),
         checks: Vec::new(alloc),
         scopes: vec![in alloc; scope]?,
@@ -188,17 +190,46 @@ fn inputs_by_kind(rt: HostRuntime) -> Result<(), Fail> {
     Ok(())
 }
 
+const SEVEN: LegTiming = LegTiming {
+    delays: Delays12 { at: [7; 12] },
+    limits: Limits12 {
+        at: [Limit::Follow; 12],
+    },
+};
+
+// One path, which ends at an element that has those up to a place.
+#[test]
+fn paths_in_their_table(rt: HostRuntime) -> Result<(), Fail> {
+    let alloc = rt.alloc();
+    for (end, input, timing, fits) in [
+        (1, 0, 0, true),
+        (2, 0, 0, false),
+        (1, 3, 0, false),
+        (1, 0, 1, false),
+    ] {
+        let kind = ElementKind::Path {
+            paths: Span { start: 0, end },
+            style: PulseStyle::OnEvent,
+        };
+        let mut parts = with(alloc, &[1], kind)?;
+        parts.leg_timings.push(SEVEN)?;
+        parts.paths.push(Path {
+            input,
+            edge: None,
+            condition: PathCondition::Always,
+            timing,
+        })?;
+        assert_eq!(rt; parts.fit(), fits, "{end} {input} {timing}");
+    }
+    Ok(())
+}
+
 #[test]
 fn timings_in_their_table(rt: HostRuntime) -> Result<(), Fail> {
     let alloc = rt.alloc();
     let mut parts = with(alloc, &[1], ElementKind::Leg { timing: 0 })?;
     assert!(rt; !parts.fit());
-    parts.leg_timings.push(LegTiming {
-        delays: Delays12 { at: [7; 12] },
-        limits: Limits12 {
-            at: [Limit::Follow; 12],
-        },
-    })?;
+    parts.leg_timings.push(SEVEN)?;
     assert!(rt; parts.fit());
     parts.gate_delays.push(GateDelays {
         count: 3,

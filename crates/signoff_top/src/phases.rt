@@ -25,7 +25,7 @@ use stim_text::read_stim;
 
 /// What is run, with at most so many rounds a time, over an event wheel of so many buckets; and the name of the file that
 /// is made.
-#[derive(Debug, Drop)]
+#[derive(Drop)]
 pub struct Task<'a> {
     pub circuit: Circuit,
     pub input: Stimulus,

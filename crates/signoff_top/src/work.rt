@@ -14,7 +14,7 @@ use sg_io::{Shelf, ShelfError};
 use std::alloc::Global;
 
 /// A task that was run, and what the run came to.
-#[derive(Debug, Drop)]
+#[derive(Drop)]
 pub struct Done<'a> {
     pub task: Task<'a>,
     pub end: RunEnd,

@@ -1,4 +1,5 @@
 // Circuits of so many inverters, and what is applied to them.
+use crate::stages::{Joined, path_timing, stages};
 use sg_circuit::{Driver, Element, ElementKind, Net, Parts, Scope};
 use sg_delay::GateDelays;
 use sg_logic::{GateKind, Value};
@@ -24,9 +25,12 @@ pub enum Shape {
     Side,
     /// All read the input, and each has delays of its own.
     Spread,
+    /// Each reads the one before it, and has no delay but that of the specify path from its input to its output.
+    Paths,
 }
 
-fn net(alloc: Global, number: u32, driver: Driver) -> Result<Net, NoMemory> {
+/// A net of the top.
+pub fn net(alloc: Global, number: u32, driver: Driver) -> Result<Net, NoMemory> {
     let mut name = String::new(alloc);
     write!(name, "n{number}")?;
     Ok(Net {
@@ -37,8 +41,8 @@ fn net(alloc: Global, number: u32, driver: Driver) -> Result<Net, NoMemory> {
     })
 }
 
-// not (output, input); with the delays of this number.
-fn inverter(alloc: Global, input: u32, output: u32, delays: u32) -> Result<Element, NoMemory> {
+/// not (output, input); with the delays of this number.
+pub fn inverter(alloc: Global, input: u32, output: u32, delays: u32) -> Result<Element, NoMemory> {
     Ok(Element {
         scope: 0,
         inputs: SmallVec::from_slice(alloc, &[input])?,
@@ -86,6 +90,7 @@ impl Shape {
             "chain" => Some(Shape::Chain),
             "side" => Some(Shape::Side),
             "spread" => Some(Shape::Spread),
+            "paths" => Some(Shape::Paths),
             _ => None,
         }
     }
@@ -93,7 +98,7 @@ impl Shape {
     // The net that an inverter reads; it drives the next one's number.
     fn input(self, number: u32) -> u32 {
         match self {
-            Shape::Chain => number,
+            Shape::Chain | Shape::Paths => number,
             Shape::Side | Shape::Spread => 0,
         }
     }
@@ -101,18 +106,22 @@ impl Shape {
     // The number of an inverter's delays.
     fn delays(self, number: u32) -> u32 {
         match self {
-            Shape::Chain | Shape::Side => 0,
+            Shape::Chain | Shape::Side | Shape::Paths => 0,
             Shape::Spread => number,
         }
     }
 
-    // The delays of so many inverters: #(2, 3) for all, or #(2), #(3) and so on.
+    // The delays of so many inverters: #(2, 3) for all, or #(2), #(3) and so on, or none.
     fn all_delays(self, alloc: Global, count: u32) -> Result<Vec<GateDelays>, AllocError> {
         let mut delays = Vec::new(alloc);
         match self {
             Shape::Chain | Shape::Side => delays.push(GateDelays {
                 count: 2,
                 at: [2, 3, 0],
+            })?,
+            Shape::Paths => delays.push(GateDelays {
+                count: 0,
+                at: [0, 0, 0],
             })?,
             Shape::Spread => {
                 for number in 0..count {
@@ -126,8 +135,8 @@ impl Shape {
         Ok(delays)
     }
 
-    /// The parts of a circuit of so many inverters, with one input.
-    pub fn parts(self, alloc: Global, count: u32) -> Result<Parts, NoMemory> {
+    // Each inverter drives the net of the next number.
+    fn inverters(self, alloc: Global, count: u32) -> Result<Joined, NoMemory> {
         let mut nets = vec![in alloc; net(alloc, 0, Driver::Stimulus)?]?;
         let mut elements = Vec::new(alloc);
         for number in 0..count {
@@ -135,12 +144,27 @@ impl Shape {
             nets.push(net(alloc, output, Driver::Element(number))?)?;
             elements.push(inverter(alloc, self.input(number), output, self.delays(number))?)?;
         }
-        Ok(Parts {
-            tick: PS,
+        Ok(Joined {
             nets,
             elements,
+            paths: Vec::new(alloc),
+        })
+    }
+
+    /// The parts of a circuit of so many inverters, with one input.
+    pub fn parts(self, alloc: Global, count: u32) -> anyhow::Result<Parts> {
+        let joined = match self {
+            Shape::Paths => stages(alloc, count)?,
+            _ => self.inverters(alloc, count)?,
+        };
+        Ok(Parts {
+            tick: PS,
+            nets: joined.nets,
+            elements: joined.elements,
             gate_delays: self.all_delays(alloc, count)?,
-            leg_timings: Vec::new(alloc),
+            leg_timings: vec![in alloc; path_timing()?]?,
+            paths: joined.paths,
+            conditions: Vec::new(alloc),
             udps: Vec::new(alloc),
             checks: Vec::new(alloc),
             scopes: vec![in alloc; top(alloc)?]?,

@@ -5,6 +5,7 @@
 
 mod inverters;
 mod simulation;
+mod stages;
 
 use crate::inverters::Shape;
 use crate::simulation::simulate;
@@ -18,6 +19,8 @@ use std::sync::ledger::Blank;
 // at 20 and takes 5 ticks for two inverters. So of 100 it is 399 evaluations, and 20 + 50 * 5 = 270 at the end.
 // Of N side by side each of three changes wakes N, and the last ones rise in 2 ticks: 3 N evaluations, and 22. Of N with
 // delays of their own, 2 to N + 1, the latest rises at 20 + N + 1.
+// Of N with paths the first round evaluates 2 N, and the first change goes on to all paths and all inverters but the first, 2 N - 1;
+// each later change wakes 2 N: 8 N - 1 evaluations, at the times of a chain.
 fn main(rt: HostRuntime) -> anyhow::Result<()> {
     let alloc = rt.alloc();
     let mut arguments = env::args(&rt)?;

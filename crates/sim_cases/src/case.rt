@@ -1,7 +1,8 @@
-// A small circuit with one input, what is applied to it, and its run.
+// A small circuit, what is applied to its inputs, and its run.
 ghost use Rattle.std.specs.Prelude.{◌≡◌, ◌<◌};
 
 use crate::lines::Lines;
+use crate::paths::{PathFrom, Paths};
 use anyhow::Context;
 use pulse_list::PlainAgenda;
 use sg_circuit::{Circuit, Driver, Element, ElementKind, LegTiming, Net, Parts, Scope};
@@ -32,13 +33,15 @@ const ROUNDS: u32 = 10;
 #[derive(Drop)]
 pub struct Case<'a> {
     pub title: &'a str,
-    /// The names of the nets: of the input, and of what each element drives.
+    /// The names of the nets: of the inputs, and of what each element drives.
     pub names: &'a [&'a str],
+    pub inputs: u32,
     /// Each with the nets that it reads.
     pub elements: &'a [(ElementKind, &'a [u32])],
     pub timings: &'a [LegTiming],
-    /// The input's values, by time.
-    pub sets: &'a [(u64, Value)],
+    pub paths: &'a [PathFrom],
+    /// The values of the inputs, by time.
+    pub sets: &'a [(u64, &'a [Value])],
     pub end: u64,
 }
 
@@ -65,17 +68,19 @@ fn top(alloc: Global) -> Result<Scope, NoMemory> {
 impl Case<'_> {
     fn nets(&self, alloc: Global) -> Result<Vec<Net>, NoMemory> {
         let mut nets = Vec::new(alloc);
-        let mut driver = Driver::Stimulus;
         for (name, number) in self.names.iter().zip(0..u32::MAX) {
+            let driver = match number.checked_sub(self.inputs) {
+                None => Driver::Stimulus,
+                Some(element) => Driver::Element(element),
+            };
             nets.push(net(alloc, name, driver)?)?;
-            driver = Driver::Element(number);
         }
         Ok(nets)
     }
 
     fn elements(&self, alloc: Global) -> Result<Vec<Element>, NoMemory> {
         let mut elements = Vec::new(alloc);
-        for ((kind, inputs), output) in self.elements.iter().zip(1..u32::MAX) {
+        for ((kind, inputs), output) in self.elements.iter().zip(self.inputs..u32::MAX) {
             elements.push(Element {
                 scope: 0,
                 inputs: SmallVec::from_slice(alloc, inputs)?,
@@ -87,7 +92,8 @@ impl Case<'_> {
     }
 
     // Gates have no delay, or rise in 1 tick and fall in 2.
-    fn parts(&self, alloc: Global) -> Result<Parts, NoMemory> {
+    fn parts(&self, alloc: Global) -> anyhow::Result<Parts> {
+        let made = Paths::of(alloc, self.paths)?;
         Ok(Parts {
             tick: NS,
             nets: self.nets(alloc)?,
@@ -103,6 +109,8 @@ impl Case<'_> {
                 },
             ]?,
             leg_timings: Vec::from_slice(alloc, self.timings)?,
+            paths: made.paths,
+            conditions: made.conditions,
             udps: Vec::new(alloc),
             checks: Vec::new(alloc),
             scopes: vec![in alloc; top(alloc)?]?,
@@ -111,15 +119,12 @@ impl Case<'_> {
 
     fn stimulus(&self, alloc: Global) -> Result<Stimulus, AllocError> {
         let mut steps = Vec::new(alloc);
-        for (time, value) in self.sets {
-            let set = Set {
-                net: 0,
-                value: *value,
-            };
-            steps.push(StimStep {
-                time: *time,
-                sets: vec![in alloc; set]?,
-            })?;
+        for (time, values) in self.sets {
+            let mut sets = Vec::new(alloc);
+            for (value, net) in values.iter().zip(0..u32::MAX) {
+                sets.push(Set { net, value: *value })?;
+            }
+            steps.push(StimStep { time: *time, sets })?;
         }
         Ok(Stimulus {
             steps,

@@ -8,12 +8,13 @@ use std::alloc::Global;
 
 const LEG: ElementKind = ElementKind::Leg { timing: 0 };
 
-const fn gate(kind: GateKind, delays: u32) -> ElementKind {
+/// A gate, by the number of its delays.
+pub const fn gate(kind: GateKind, delays: u32) -> ElementKind {
     ElementKind::Gate { kind, delays }
 }
 
-// The same limits for all transitions.
-fn timing(delays: &[u64], limit: Limit) -> anyhow::Result<LegTiming> {
+/// The same limits for all transitions.
+pub fn timing(delays: &[u64], limit: Limit) -> anyhow::Result<LegTiming> {
     Ok(LegTiming {
         delays: expand(delays)?,
         limits: Limits12 { at: [limit; 12] },
@@ -26,14 +27,16 @@ fn leg(
     out: &mut String,
     title: &str,
     timing: LegTiming,
-    sets: &[(u64, Value)],
+    sets: &[(u64, &[Value])],
     end: u64,
 ) -> anyhow::Result<()> {
     let case = Case {
         title,
         names: &["a", "y"],
+        inputs: 1,
         elements: &[(LEG, &[0])],
         timings: &[timing],
+        paths: &[],
         sets,
         end,
     };
@@ -51,16 +54,16 @@ fn leg(
 //
 // The first round evaluates the leg, and each later change of a does once more: 3, 3, 3, 3 and 7.
 pub fn all_legs(alloc: Global, out: &mut String) -> anyhow::Result<()> {
-    let short = [(0, Zero), (10, One), (12, Zero)];
-    let longer = [(0, Zero), (10, One), (16, Zero)];
-    let three = [
-        (0, Zero),
-        (10, One),
-        (11, Zero),
-        (20, One),
-        (23, Zero),
-        (40, One),
-        (44, Zero),
+    let short: [(u64, &[Value]); 3] = [(0, &[Zero]), (10, &[One]), (12, &[Zero])];
+    let longer: [(u64, &[Value]); 3] = [(0, &[Zero]), (10, &[One]), (16, &[Zero])];
+    let three: [(u64, &[Value]); 7] = [
+        (0, &[Zero]),
+        (10, &[One]),
+        (11, &[Zero]),
+        (20, &[One]),
+        (23, &[Zero]),
+        (40, &[One]),
+        (44, &[Zero]),
     ];
     let own = timing(
         &[7, 9],
@@ -99,9 +102,11 @@ fn oscillator(alloc: Global, out: &mut String) -> anyhow::Result<()> {
     let case = Case {
         title: "nand that reads itself",
         names: &["a", "y"],
+        inputs: 1,
         elements: &[(gate(GateKind::Nand, 0), &[0, 1])],
         timings: &[],
-        sets: &[(0, Zero), (10, One)],
+        paths: &[],
+        sets: &[(0, &[Zero]), (10, &[One])],
         end: 20,
     };
     case.show(alloc, out)
@@ -114,6 +119,7 @@ fn chain(alloc: Global, out: &mut String) -> anyhow::Result<()> {
     let case = Case {
         title: "leg, not and leg",
         names: &["a", "b", "c", "y"],
+        inputs: 1,
         elements: &[
             (LEG, &[0]),
             (gate(GateKind::Not, 1), &[1]),
@@ -123,7 +129,8 @@ fn chain(alloc: Global, out: &mut String) -> anyhow::Result<()> {
             timing(&[2, 3], Limit::Follow)?,
             timing(&[4], Limit::Follow)?,
         ],
-        sets: &[(0, Zero), (20, One)],
+        paths: &[],
+        sets: &[(0, &[Zero]), (20, &[One])],
         end: 60,
     };
     case.show(alloc, out)
@@ -136,12 +143,14 @@ fn glitch(alloc: Global, out: &mut String) -> anyhow::Result<()> {
     let case = Case {
         title: "three rounds at one time",
         names: &["a", "y", "w"],
+        inputs: 1,
         elements: &[
             (gate(GateKind::Not, 0), &[0]),
             (gate(GateKind::And, 0), &[0, 1]),
         ],
         timings: &[],
-        sets: &[(0, Zero), (10, One)],
+        paths: &[],
+        sets: &[(0, &[Zero]), (10, &[One])],
         end: 20,
     };
     case.show(alloc, out)
@@ -153,9 +162,11 @@ fn same_again(alloc: Global, out: &mut String) -> anyhow::Result<()> {
     let case = Case {
         title: "a set that changes nothing",
         names: &["a", "y"],
+        inputs: 1,
         elements: &[(gate(GateKind::Not, 1), &[0])],
         timings: &[],
-        sets: &[(0, Zero), (10, Zero), (15, One), (20, X)],
+        paths: &[],
+        sets: &[(0, &[Zero]), (10, &[Zero]), (15, &[One]), (20, &[X])],
         end: 30,
     };
     case.show(alloc, out)

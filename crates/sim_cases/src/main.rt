@@ -6,14 +6,18 @@
 mod case;
 mod cases;
 mod lines;
+mod path_cases;
+mod paths;
 
 use crate::cases::{all_gates, all_legs};
+use crate::path_cases::all_paths;
 
 fn main(rt: HostRuntime) -> anyhow::Result<()> {
     let alloc = rt.alloc();
     let mut out = String::new(alloc);
     all_legs(alloc, &mut out)?;
     all_gates(alloc, &mut out)?;
+    all_paths(alloc, &mut out)?;
     print!(rt; "{out}")?;
     Ok(())
 }

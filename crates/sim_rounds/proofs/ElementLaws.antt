@@ -14,7 +14,7 @@ use Rattle.sg_model.specs.Pending.{last_value}
 use Rattle.sg_model.specs.Machine.{Stamp}
 use Rattle.sg_model.specs.Round.{placed_by, element_list, element_value}
 use Rattle.sg_circuit.specs.Circuit.{Circuit, Element, Pass, element_at}
-use Rattle.sg_circuit.specs.Closed.{IsClosed, TakesInputs, HasDelays}
+use Rattle.sg_circuit.specs.Closed.{IsClosed, TakesInputs, HasDelays, NamesNets}
 use Rattle.sg_circuit.specs.Seen.{circuit_seen, kind_seen, element_seen, IsIndexed, AreIndexed}
 use Rattle.sg_circuit.specs.declared.elements.Element as code_element
 use Rattle.sg_circuit.specs.declared.elements.UdpUse.{UdpUse}
@@ -38,6 +38,7 @@ seen_element parts e item closed indexed l is = record {
   takes = subst (λ (x : code_element.Element). TakesInputs (kind_seen parts x.kind) (length x.inputs.items)) (sym is) (all-unmapped (λ (x : Element). TakesInputs x.kind (length x.inputs)) (element_seen parts) parts.elements.items closed.takes_inputs e item l);
   delays = subst (λ (x : code_element.Element). HasDelays (kind_seen parts x.kind)) (sym is) (all-unmapped (λ (x : Element). HasDelays x.kind) (element_seen parts) parts.elements.items closed.has_delays e item l);
   indexed = subst (λ (x : code_element.Element). IsIndexed parts x.kind) (sym is) (indexed.named e item l);
+  paths = subst (λ (x : code_element.Element). NamesNets (length parts.nets.items) (kind_seen parts x.kind)) (sym is) (all-unmapped (λ (x : Element). NamesNets (length parts.nets.items) x.kind) (element_seen parts) parts.elements.items closed.paths e item l);
 }
 
 pub is_element : (circuit : Circuit) (parts : Parts) (e : ℕ) (item : code_element.Element) → circuit_seen parts ≡ circuit → IsClosed circuit → AreIndexed parts → e < length parts.elements.items → item ≡ slice_index_or parts.elements.items e item
@@ -62,12 +63,12 @@ output_of circuit parts e item h = get_or-map (λ (x : Element). x.output) circu
 -- and where it places it
 pub machine_list : (circuit : Circuit) (parts : Parts) (e : ℕ) (item : code_element.Element) (now : ℕ) (before after : List Value) (stamps : List (Option Stamp)) (states : List Value) (list : List (ℕ × Value)) (v present : Value)
     → IsElement circuit parts e item → v ≡ element_value (machine_of circuit) before after e (value_at states e) → present ≡ value_at after item.output
-    → placed_by (rule_of_kind (kind_seen parts item.kind) now (last_value list present) v) list present now v ≡ element_list (machine_of circuit) now before after stamps states e list
+    → placed_by (rule_of_kind (kind_seen parts item.kind) now after stamps (last_value list present) v) list present now v ≡ element_list (machine_of circuit) now before after stamps states e list
 machine_list circuit parts e item now before after stamps states list v present h value net =
     let net' : present ≡ value_at after (slice_index_or (machine_of circuit).outputs e 0) = net ∙ ap (value_at after) (sym (output_of circuit parts e item h)) in
-    ap (λ (x : Element). placed_by (rule_of_kind x.kind now (last_value list present) v) list present now v) (sym h.at)
-    ∙ (ap (λ w. placed_by (rule_of_kind (element_at circuit e).kind now (last_value list present) w) list present now w) value
-    ∙ ap (λ p. placed_by (rule_of_kind (element_at circuit e).kind now (last_value list p) (element_value (machine_of circuit) before after e (value_at states e))) list p now (element_value (machine_of circuit) before after e (value_at states e))) net')
+    ap (λ (x : Element). placed_by (rule_of_kind x.kind now after stamps (last_value list present) v) list present now v) (sym h.at)
+    ∙ (ap (λ w. placed_by (rule_of_kind (element_at circuit e).kind now after stamps (last_value list present) w) list present now w) value
+    ∙ ap (λ p. placed_by (rule_of_kind (element_at circuit e).kind now after stamps (last_value list p) (element_value (machine_of circuit) before after e (value_at states e))) list p now (element_value (machine_of circuit) before after e (value_at states e))) net')
 
 pub the_element : (circuit : Circuit) (parts : Parts) (e : ℕ) (item : code_element.Element) → circuit_seen parts ≡ circuit → IsClosed circuit → AreIndexed parts → e < length (machine_of circuit).inputs → item ≡ slice_index_or parts.elements.items e item
     → IsElement circuit parts e item
@@ -94,7 +95,7 @@ computed circuit parts e item before after states state v h many read is =
 -- so is the list that it leaves
 pub placed_list : (circuit : Circuit) (parts : Parts) (e : ℕ) (item : code_element.Element) (now : ℕ) (before after : List Value) (stamps : List (Option Stamp)) (states : List Value) (list : List (ℕ × Value)) (v present d : Value)
     → IsElement circuit parts e item → length after ≡ length circuit.nets → v ≡ element_value (machine_of circuit) before after e (value_at states e) → present ≡ slice_index_or after item.output d
-    → placed_by (rule_of_kind (kind_seen parts item.kind) now (last_value list present) v) list present now v ≡ element_list (machine_of circuit) now before after stamps states e list
+    → placed_by (rule_of_kind (kind_seen parts item.kind) now after stamps (last_value list present) v) list present now v ≡ element_list (machine_of circuit) now before after stamps states e list
 placed_list circuit parts e item now before after stamps states list v present d h many value read =
     machine_list circuit parts e item now before after stamps states list v present h value (read_value after item.output present d (subst (λ n. item.output < n) (sym many) h.output) read)
 
@@ -145,6 +146,10 @@ pub delays_in : (seen : ElementsSeen) (parts : Parts) (tables : List Table) (sta
     → e < length (machine_of seen.circuit).inputs → item ≡ slice_index_or parts.elements.items e item → HasDelays (kind_seen parts item.kind)
 delays_in seen parts tables states inputs e item view h l is = (element_in seen parts tables states inputs e item view h l is).delays
 
+pub paths_in : (seen : ElementsSeen) (parts : Parts) (tables : List Table) (states : List Value) (inputs : Inputs) (e : ℕ) (item : code_element.Element) (values : List Value) → record { circuit = circuit_seen parts; states = states } ≡ seen → AreEvaluable parts tables states inputs
+    → e < length (machine_of seen.circuit).inputs → item ≡ slice_index_or parts.elements.items e item → length values ≡ length seen.circuit.nets → NamesNets (length values) (kind_seen parts item.kind)
+paths_in seen parts tables states inputs e item values view h l is many = subst (λ n. NamesNets n (kind_seen parts item.kind)) (sym many) (element_in seen parts tables states inputs e item view h l is).paths
+
 pub value_in : (seen : ElementsSeen) (parts : Parts) (tables : List Table) (states : List Value) (inputs : Inputs) (e : ℕ) (item : code_element.Element) (before after : List Value) (state v : Value) → record { circuit = circuit_seen parts; states = states } ≡ seen → AreEvaluable parts tables states inputs
     → e < length (machine_of seen.circuit).inputs → item ≡ slice_index_or parts.elements.items e item → state ≡ slice_index_or states e state
     → v ≡ value_of_kind (kind_seen parts item.kind) (values_at item.inputs.items before) (values_at item.inputs.items after) state
@@ -158,7 +163,7 @@ pub list_in : (seen : ElementsSeen) (parts : Parts) (tables : List Table) (state
     → record { circuit = circuit_seen parts; states = states } ≡ seen → AreEvaluable parts tables states inputs
     → e < length (machine_of seen.circuit).inputs → item ≡ slice_index_or parts.elements.items e item → length after ≡ length seen.circuit.nets → state ≡ slice_index_or states e state
     → v ≡ value_of_kind (kind_seen parts item.kind) (values_at item.inputs.items before) (values_at item.inputs.items after) state → present ≡ slice_index_or after item.output d
-    → placed_by (rule_of_kind (kind_seen parts item.kind) now (last_value list present) v) list present now v ≡ element_list (machine_of seen.circuit) now before after stamps seen.states e list
+    → placed_by (rule_of_kind (kind_seen parts item.kind) now after stamps (last_value list present) v) list present now v ≡ element_list (machine_of seen.circuit) now before after stamps seen.states e list
 list_in seen parts tables states inputs e item now before after stamps list state v present d view h l is many read value net =
     placed_list seen.circuit parts e item now before after stamps seen.states list v present d (element_in seen parts tables states inputs e item view h l is) many
     (value_in seen parts tables states inputs e item before after state v view h l is read value) net

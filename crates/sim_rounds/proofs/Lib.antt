@@ -8,7 +8,8 @@ pub mod DueLaws
 pub mod ToldLaws
 pub mod NamingLaws
 pub mod SimulationLaws
-pub mod TimingLaws
+pub mod PlacingLaws
+mod Examples
 pub mod DelayLaws
 pub mod ElementLaws
 pub mod StepLaws

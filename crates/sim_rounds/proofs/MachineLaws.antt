@@ -1,5 +1,5 @@
 -- The machine of a circuit keeps what the model and the engine ask of a machine.
-use Rattle.std.specs.Prelude.{◌≡◌, ◌≢◌, Bool, true, false, if◌then◌else◌, ℕ, zero, suc, ◌+◌, ◌<◌, ◌≤◌, All, List, [], ◌∷◌, length, map, Some, None, slice_index_or, refl}
+use Rattle.std.specs.Prelude.{◌≡◌, ◌≢◌, Bool, true, false, if◌then◌else◌, ℕ, zero, suc, ◌+◌, ◌<◌, ◌≤◌, All, List, [], ◌∷◌, length, map, Option, Some, None, slice_index_or, refl}
 use Rattle.std.proofs.Common.{sym, ◌∙◌, ap, subst, arith}
 use Rattle.std.proofs.lemmas.List.{length-map, get_or-map}
 use Rattle.std.proofs.lemmas.List.Elements.{All-map}
@@ -9,12 +9,13 @@ use Rattle.udp_rows.specs.declared.cells.RawRow.{RawRow}
 use Rattle.udp_rows.specs.Meaning.{udp_next, state_after, after_step, step_of, input_value, combinational_value}
 use Rattle.sg_model.proofs.PlacingSteps.{same-self}
 use Rattle.sg_model.specs.Values.{value_at}
-use Rattle.sg_model.specs.Machine.{IsNoOutput, AreOutputs}
+use Rattle.sg_model.specs.Machine.{Stamp, IsNoOutput, AreOutputs}
 use Rattle.sg_model.specs.Quiet.{IsLawful}
 use Rattle.sg_model.specs.FanOut.{IsSteady, AgreeAt}
 use Rattle.sg_circuit.specs.declared.nets.Driver.{Driver}
 use Rattle.sg_circuit.specs.declared.nets.Driver.TheVariants as driver
-use Rattle.sg_circuit.specs.Circuit.{Circuit, Element, Kind, Gate, Udp, Pass, Leg, element_at, net_at}
+use Rattle.sg_circuit.specs.Circuit.{Circuit, Element, Kind, Gate, Udp, Pass, Leg, Path, element_at, net_at}
+use Rattle.path_pick.proofs.LaterLaws.{picked_later}
 use Rattle.sg_circuit.specs.Closed.{IsClosed}
 use Rattle.fan_round.specs.Rounds.{IsLater, time_of_rule}
 use Rattle.sim_rounds.specs.Simulated.{machine_of, values_at, value_of_kind, rule_of_kind}
@@ -47,6 +48,7 @@ kind_same (Udp primitive first delays) a b d s e = ap (λ vs. udp_next primitive
 kind_same (Pass None) a b d s e = ap (λ vs. value_at vs 0) (sym e)
 kind_same (Pass (Some value)) a b d s e = refl
 kind_same (Leg timings) a b d s e = ap (λ vs. value_at vs 0) (sym e)
+kind_same (Path paths style) a b d s e = ap (λ vs. value_at vs 0) (sym e)
 
 pub inputs_at : (elements : List Element) (e : ℕ) (blank : Element) → blank.inputs ≡ [] → slice_index_or (map (λ (x : Element). x.inputs) elements) e [] ≡ (slice_index_or elements e blank).inputs
 inputs_at [] e blank h = sym h
@@ -61,14 +63,15 @@ steady circuit = record {
 }
 
 -- no value is placed before now
-kind_later : (kind : Kind) (now : ℕ) (from to : Value) → now ≤ time_of_rule (rule_of_kind kind now from to)
-kind_later (Gate kind delays) now from to = omega arith
-kind_later (Udp primitive first delays) now from to = omega arith
-kind_later (Pass constant) now from to = omega arith
-kind_later (Leg timings) now from to = omega arith
+kind_later : (kind : Kind) (now : ℕ) (values : List Value) (stamps : List (Option Stamp)) (from to : Value) → now ≤ time_of_rule (rule_of_kind kind now values stamps from to)
+kind_later (Gate kind delays) now values stamps from to = omega arith
+kind_later (Udp primitive first delays) now values stamps from to = omega arith
+kind_later (Pass constant) now values stamps from to = omega arith
+kind_later (Leg timings) now values stamps from to = omega arith
+kind_later (Path paths style) now values stamps from to = picked_later paths values stamps now from to
 
 pub later : (circuit : Circuit) → IsLater (machine_of circuit)
-later circuit = record { later = λ now e values stamps from to. kind_later (element_at circuit e).kind now from to }
+later circuit = record { later = λ now e values stamps from to. kind_later (element_at circuit e).kind now values stamps from to }
 
 -- the outputs of elements are apart, since each net names the element that drives it
 element_of : Driver → ℕ

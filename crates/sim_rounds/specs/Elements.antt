@@ -2,7 +2,7 @@
 use Rattle.std.specs.Prelude.{◌≡◌, ℕ, ◌<◌, All, List, length, slice_index_or}
 use Rattle.sg_logic.specs.declared.values.Value.{Value}
 use Rattle.sg_circuit.specs.Circuit.{Circuit, element_at}
-use Rattle.sg_circuit.specs.Closed.{TakesInputs, HasDelays}
+use Rattle.sg_circuit.specs.Closed.{TakesInputs, HasDelays, NamesNets}
 use Rattle.sg_circuit.specs.Seen.{kind_seen, element_seen, IsIndexed}
 use Rattle.sg_circuit.specs.declared.elements.Element as code_element
 use Rattle.sg_circuit.specs.declared.elements.UdpUse.{UdpUse}
@@ -19,6 +19,7 @@ pub record IsElement (circuit : Circuit) (parts : Parts) (number : ℕ) (item : 
   pub takes : TakesInputs (kind_seen parts item.kind) (length item.inputs.items)
   pub delays : HasDelays (kind_seen parts item.kind)
   pub indexed : IsIndexed parts item.kind
+  pub paths : NamesNets (length circuit.nets) (kind_seen parts item.kind)
 
 -- a table for each primitive
 pub record AreTables (udps : List UdpUse) (tables : List Table) : Type 0 where

@@ -1,7 +1,6 @@
 -- The modules of this folder.
 pub mod Simulated
 pub mod CircuitLaws
-pub mod Pulses
 pub mod Inputs
 pub mod Elements
 pub mod Times

@@ -1,18 +1,22 @@
 -- The machine and the run of a circuit. This is the only place that reads the kinds of elements.
-use Rattle.std.specs.Prelude.{ℕ, ◌+◌, List, [], Bool, true, false, Option, Some, None, map, position, slice_index_or, if◌then◌else◌}
+use Rattle.std.specs.Prelude.{ℕ, ◌+◌, List, [], Bool, true, false, Option, Some, None, map, if◌then◌else◌}
 use Rattle.sg_logic.specs.declared.values.Value.{Value}
 use Rattle.sg_logic.specs.declared.values.Value.TheVariants.{X, Z}
 use Rattle.sg_logic.specs.Gate.{gate_value}
-use Rattle.sg_logic.specs.Transitions.{transitions, goes}
 use Rattle.udp_rows.specs.Meaning.{udp_next}
 use Rattle.sg_delay.specs.GateDelay.{delay_to}
+use Rattle.sg_delay.specs.declared.limits.PulseStyle.{PulseStyle}
 use Rattle.sg_model.specs.Values.{value_at}
 use Rattle.sg_model.specs.Pending.{OnEvent}
-use Rattle.sg_model.specs.Machine.{Machine, State, Rule, Inertial, Pulse}
+use Rattle.sg_model.specs.Machine.{Machine, State, Stamp, Rule, Inertial, Pulse}
 use Rattle.sg_model.specs.Run.{Finished, run_of}
 use Rattle.sg_circuit.specs.declared.nets.Driver.{Driver}
 use Rattle.sg_circuit.specs.declared.nets.Driver.TheVariants as driver
-use Rattle.sg_circuit.specs.Circuit.{Circuit, Timing, Kind, Gate, Udp, Pass, Leg, element_at}
+use Rattle.sg_circuit.specs.Circuit.{Circuit, Kind, Gate, Udp, Pass, Leg, Path, element_at}
+use Rattle.sg_circuit.specs.Timings.{Timing, timing_between, limits_of}
+use Rattle.pulse_list.specs.Seen.{style_seen}
+use Rattle.path_pick.specs.Choice.{picked}
+use Rattle.path_pick.specs.declared.picking.Picked.{Picked}
 use Rattle.stim_read.specs.Stimulus.{Stimulus, sets_at}
 
 -- the values of some nets
@@ -27,33 +31,24 @@ value_of_kind (Udp primitive first delays) before after state = udp_next primiti
 value_of_kind (Pass None) before after state = value_at after 0
 value_of_kind (Pass (Some value)) before after state = value
 value_of_kind (Leg timings) before after state = value_at after 0
+value_of_kind (Path paths style) before after state = value_at after 0
 
--- the timing of a transition, by its place among the twelve
-abbrev pub timing_at : List Timing → Option ℕ → Timing
-timing_at timings None = record { delay = 0; limits = None }
-timing_at timings (Some place) = slice_index_or timings place (record { delay = 0; limits = None })
-
-abbrev pub timing_between : List Timing → Value → Value → Timing
-timing_between timings from to = timing_at timings (position (goes from to) transitions)
-
--- the limits of a transition's pulses; those that no text gives are its delay (14.6)
-abbrev pub limits_or : ℕ → Option (ℕ × ℕ) → ℕ × ℕ
-limits_or delay None = (delay, delay)
-limits_or delay (Some limits) = limits
-
-abbrev pub limits_of : Timing → ℕ × ℕ
-limits_of timing = limits_or timing.delay timing.limits
-
--- the pulse rule; an error pulse shows from its leading edge on (14.6.4.1)
+-- a leg's pulse rule; an error pulse shows from its leading edge on (14.6.4.1)
 abbrev pub leg_rule : ℕ → Timing → Rule
 leg_rule now timing = Pulse (now + timing.delay) (limits_of timing).0 (limits_of timing).1 OnEvent
 
--- by which rule an element of a kind places a value: now, from the value that its list ends with to the new one (6.1, 7.14, 8.6)
-abbrev pub rule_of_kind : Kind → ℕ → Value → Value → Rule
-rule_of_kind (Gate kind delays) now from to = Inertial (now + delay_to delays to)
-rule_of_kind (Udp primitive first delays) now from to = Inertial (now + delay_to delays to)
-rule_of_kind (Pass constant) now from to = Inertial now
-rule_of_kind (Leg timings) now from to = leg_rule now (timing_between timings from to)
+-- the pulse rule of specify paths: by what the path that decides makes of the transition, in the output's style (14.6.4)
+abbrev pub path_rule : PulseStyle → Picked → Rule
+path_rule style picked = Pulse picked.time picked.reject picked.error (style_seen style)
+
+-- by which rule an element of a kind places a value: now, with the nets' values and last changes after the round, from the
+-- value that its list ends with to the new one (6.1, 7.14, 8.6, 14.3)
+abbrev pub rule_of_kind : Kind → ℕ → List Value → List (Option Stamp) → Value → Value → Rule
+rule_of_kind (Gate kind delays) now after stamps from to = Inertial (now + delay_to delays to)
+rule_of_kind (Udp primitive first delays) now after stamps from to = Inertial (now + delay_to delays to)
+rule_of_kind (Pass constant) now after stamps from to = Inertial now
+rule_of_kind (Leg timings) now after stamps from to = leg_rule now (timing_between timings from to)
+rule_of_kind (Path paths style) now after stamps from to = path_rule style (picked paths after stamps now from to)
 
 -- the value that an element of a kind computed last, before time 0: a primitive's first state (8.5)
 abbrev pub first_of_kind : Kind → Value
@@ -61,6 +56,7 @@ first_of_kind (Gate kind delays) = X
 first_of_kind (Udp primitive first delays) = first
 first_of_kind (Pass constant) = X
 first_of_kind (Leg timings) = X
+first_of_kind (Path paths style) = X
 
 -- the machine of a circuit
 abbrev pub machine_of : Circuit → Machine
@@ -68,7 +64,7 @@ machine_of circuit = record {
   inputs = map (λ e. e.inputs) circuit.elements;
   outputs = map (λ e. e.output) circuit.elements;
   value = λ e before after state. value_of_kind (element_at circuit e).kind (values_at (element_at circuit e).inputs before) (values_at (element_at circuit e).inputs after) state;
-  rule = λ e now after stamps from to. rule_of_kind (element_at circuit e).kind now from to;
+  rule = λ e now after stamps from to. rule_of_kind (element_at circuit e).kind now after stamps from to;
   violated = λ snapshots. [];
   notifiers = λ violations. [];
 }

@@ -129,5 +129,6 @@ pub fn compute<L: Ledger>(
         ElementKind::Pass { constant: None } | ElementKind::Leg { .. } => {
             compute_pass(&item.inputs, values, steps)
         }
+        ElementKind::Path { .. } => compute_pass(&item.inputs, values, steps),
     }
 }

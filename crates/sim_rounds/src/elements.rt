@@ -5,6 +5,7 @@ ghost use Rattle.sim_rounds.specs.Elements.{AreTables};
 ghost use Rattle.sim_rounds.specs.Simulated.{first_of_kind, first_state};
 
 use crate::computing::{Inputs, compute};
+use crate::nets::NetsAfter;
 use crate::placing::place_value;
 use fan_round::{Elements, Stamp};
 use pulse_list::Agenda;
@@ -28,9 +29,13 @@ pub struct CircuitElements<'a> {
 }
 
 impl<'a> Model for CircuitElements<'a> {
+    ghost use Rattle.std.specs.Coded.{codes, coded_ℕ};
+    ghost use Rattle.cond_expr.specs.Codes.{coded_cond};
     ghost use Rattle.sim_rounds.specs.Elements.{ElementsSeen};
 
     ghost Value = { ElementsSeen };
+
+    ghost coded = { Prim.hlevel (codes, coded_cond coded_ℕ) };
 
     ghost use Rattle.sg_circuit.specs.Seen.{circuit_seen};
     ghost use Rattle.sim_rounds.specs.Evaluable.{AreEvaluable};
@@ -47,7 +52,10 @@ fn first_value(parts: &Parts, kind: ElementKind) -> Value
 {
     match kind {
         ElementKind::Udp { udp, .. } => parts.udps[udp as usize].first,
-        ElementKind::Gate { .. } | ElementKind::Pass { .. } | ElementKind::Leg { .. } => Value::X,
+        ElementKind::Gate { .. }
+        | ElementKind::Pass { .. }
+        | ElementKind::Leg { .. }
+        | ElementKind::Path { .. } => Value::X,
     }
 }
 
@@ -123,7 +131,7 @@ impl<'a, A: Agenda, L: Ledger> Elements<A, L> for CircuitElements<'a> {
         now: u64,
         before: &[Value],
         values: &[Value],
-        _: &[Option<Stamp>],
+        stamps: &[Option<Stamp>],
         steps: &mut Steps<L>,
     ) {
         let at = element as usize;
@@ -143,6 +151,9 @@ impl<'a, A: Agenda, L: Ledger> Elements<A, L> for CircuitElements<'a> {
         );
         self.states[at] = value;
         let present = values[item.output as usize];
-        place_value(agenda, parts, element, item.kind, present, now, value);
+        let nets = NetsAfter { values, stamps };
+        place_value(
+            agenda, parts, element, item.kind, present, now, value, &nets,
+        );
     }
 }

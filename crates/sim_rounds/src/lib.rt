@@ -6,6 +6,7 @@ mod computing;
 mod elements;
 mod laws;
 mod naming;
+mod nets;
 mod pending;
 mod placing;
 mod runs;

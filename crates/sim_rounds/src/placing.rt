@@ -1,71 +1,23 @@
 // How the values of elements are placed among what is pending.
-ghost use Rattle.std.specs.Prelude.{◌≡◌, ◌<◌, ◌≤◌, ◌^◌, ◌+◌, All, length, position};
-ghost use Rattle.sg_logic.specs.Transitions.{goes, transitions};
+ghost use Rattle.std.specs.Prelude.{◌≡◌, ◌<◌, ◌≤◌, ◌^◌, ◌+◌, All, length};
 ghost use Rattle.sg_delay.specs.GateDelay.{delay_to};
 ghost use Rattle.sg_model.specs.Agenda.{list_at, with_list, NoneBelow};
 ghost use Rattle.sg_model.specs.Pending.{last_value};
 ghost use Rattle.sg_model.specs.Round.{placed_by};
-ghost use Rattle.sg_circuit.specs.Circuit.{Leg};
-ghost use Rattle.sg_circuit.specs.Closed.{HasDelays};
-ghost use Rattle.sg_circuit.specs.Seen.{delays_at, kind_seen, leg_timing_seen, IsIndexed};
-ghost use Rattle.sim_rounds.specs.Pulses.{IsPulse};
-ghost use Rattle.sim_rounds.specs.Simulated.{rule_of_kind, leg_rule, timing_at, timing_between};
+ghost use Rattle.sg_circuit.specs.Closed.{AreTimings, HasDelays, IsPathOf, NamesNets};
+ghost use Rattle.sg_circuit.specs.PathsSeen.{paths_seen, spanned, AreIndexedPaths};
+ghost use Rattle.sg_circuit.specs.Seen.{delays_at, kind_seen, IsIndexed};
+ghost use Rattle.sg_circuit.specs.Timings.{timing_between};
+ghost use Rattle.sg_circuit.specs.TimingsSeen.{leg_timing_seen};
+ghost use Rattle.path_pick.specs.Choice.{picked};
+ghost use Rattle.sim_rounds.specs.Simulated.{rule_of_kind, leg_rule, path_rule};
 
+use cond_expr::Nets;
+use path_pick::{Stamps, pick, pulse_between};
 use pulse_list::{Agenda, end_value, place, place_inertial};
-use sg_circuit::{ElementKind, LegTiming, Parts};
-use sg_delay::{GateDelays, Limit, PulseStyle, gate_delay};
-use sg_logic::{Trans, Value};
-
-// The place of a transition among the twelve, if the values differ.
-fn place_of(from: Value, to: Value) -> Option<usize>
-    ensures { result ≡ position (goes from to) transitions }
-{
-    Some(Trans::of(from, to)?.place())
-}
-
-// A delay and the limits of pulses, in ticks.
-#[derive(Clone, Copy)]
-struct Pulse {
-    delay: u64,
-    reject: u64,
-    error: u64,
-}
-
-// A leg's delay and limits of the transition at a place.
-fn pulse_at(timing: &LegTiming, place: usize) -> Pulse
-    requires place { place < 12 }
-    requires timings { HasDelays (Leg (leg_timing_seen timing.now)) }
-    ensures { IsPulse result (timing_at (leg_timing_seen timing.now) (Some place)) }
-{
-    let delay = timing.delays.at[place];
-    match timing.limits.at[place] {
-        Limit::Follow => Pulse {
-            delay,
-            reject: delay,
-            error: delay,
-        },
-        Limit::Own(widths) => Pulse {
-            delay,
-            reject: widths.reject,
-            error: widths.error,
-        },
-    }
-}
-
-// A leg's delay and limits for a change from a value to another.
-fn pulse_between(timing: &LegTiming, from: Value, to: Value) -> Pulse
-    requires timings { HasDelays (Leg (leg_timing_seen timing.now)) }
-    ensures { IsPulse result (timing_between (leg_timing_seen timing.now) from to) }
-{
-    match place_of(from, to) {
-        Some(place) => pulse_at(timing, place),
-        None => Pulse {
-            delay: 0,
-            reject: 0,
-            error: 0,
-        },
-    }
-}
+use sg_circuit::{ElementKind, LegTiming, Parts, Span};
+use sg_delay::{GateDelays, PulseStyle, gate_delay};
+use sg_logic::Value;
 
 // A leg's value is placed by the pulse rule.
 fn place_leg<A: Agenda>(
@@ -80,23 +32,65 @@ fn place_leg<A: Agenda>(
     requires room { 2 ≤ A.spare agenda.old }
     requires from_now { NoneBelow now (list_at (A.lists agenda.old) element) }
     requires now { now < 2 ^ 60 }
-    requires timings { HasDelays (Leg (leg_timing_seen timing.now)) }
+    requires timings { AreTimings (leg_timing_seen timing.now) }
     ensures lists { A.lists agenda.new ≡ with_list (A.lists agenda.old) element
         (placed_by (leg_rule now (timing_between (leg_timing_seen timing.now) (last_value (list_at (A.lists agenda.old) element) present) value)) (list_at (A.lists agenda.old) element) present now value) }
     ensures spare { A.spare agenda.old ≤ A.spare agenda.new + 2 }
 {
     let from = end_value(agenda, element, present);
     let pulse = pulse_between(timing, from, value);
+    let time = now + pulse.delay;
     place(
         agenda,
         element,
         present,
         now,
         value,
-        now + pulse.delay,
+        time,
         pulse.reject,
         pulse.error,
         PulseStyle::OnEvent,
+    );
+}
+
+// A value is placed by the pulse rule, with the time and the limits of the specify path that decides.
+fn place_path<A: Agenda, N: Nets + Stamps>(
+    agenda: &mut A,
+    parts: &Parts,
+    element: u32,
+    present: Value,
+    now: u64,
+    value: Value,
+    paths: Span,
+    style: PulseStyle,
+    nets: &N,
+)
+    requires element { element < length (A.lists agenda.old) }
+    requires room { 2 ≤ A.spare agenda.old }
+    requires from_now { NoneBelow now (list_at (A.lists agenda.old) element) }
+    requires now { now < 2 ^ 60 }
+    requires indexed { AreIndexedPaths (length parts.now.conditions.items) (length parts.now.leg_timings.items) parts.now.paths.items paths }
+    requires delays { All (λ p. AreTimings p.timings) (paths_seen parts.now.conditions.items parts.now.leg_timings.items (spanned parts.now.paths.items paths)) }
+    requires paths { All (IsPathOf (length (N.values nets.now))) (paths_seen parts.now.conditions.items parts.now.leg_timings.items (spanned parts.now.paths.items paths)) }
+    requires stamps { length (N.stamps nets.now) ≡ length (N.values nets.now) }
+    ensures lists { A.lists agenda.new ≡ with_list (A.lists agenda.old) element
+        (placed_by (path_rule style (picked (paths_seen parts.now.conditions.items parts.now.leg_timings.items (spanned parts.now.paths.items paths)) (N.values nets.now) (N.stamps nets.now) now (last_value (list_at (A.lists agenda.old) element) present) value))
+        (list_at (A.lists agenda.old) element) present now value) }
+    ensures spare { A.spare agenda.old ≤ A.spare agenda.new + 2 }
+{
+    let from = end_value(agenda, element, present);
+    let paths = parts.paths_in(paths);
+    let picked = pick(paths, &parts.leg_timings, nets, nets, now, from, value);
+    place(
+        agenda,
+        element,
+        present,
+        now,
+        value,
+        picked.time,
+        picked.reject,
+        picked.error,
+        style,
     );
 }
 
@@ -111,8 +105,8 @@ fn delay_of(table: &[GateDelays], place: u32, to: Value) -> u64
     gate_delay(&table[place as usize], to)
 }
 
-/// Places an element's value by the rule of its kind.
-pub fn place_value<A: Agenda>(
+/// Places an element's value by the rule of its kind, with the nets as they are after a round.
+pub fn place_value<A: Agenda, N: Nets + Stamps>(
     agenda: &mut A,
     parts: &Parts,
     element: u32,
@@ -120,6 +114,7 @@ pub fn place_value<A: Agenda>(
     present: Value,
     now: u64,
     value: Value,
+    nets: &N,
 )
     requires element { element < length (A.lists agenda.old) }
     requires room { 2 ≤ A.spare agenda.old }
@@ -128,8 +123,10 @@ pub fn place_value<A: Agenda>(
     requires indexed { IsIndexed parts.now kind }
     requires counts { All (λ d. d.count ≤ 2) parts.now.gate_delays.items }
     requires delays { HasDelays (kind_seen parts.now kind) }
+    requires paths { NamesNets (length (N.values nets.now)) (kind_seen parts.now kind) }
+    requires stamps { length (N.stamps nets.now) ≡ length (N.values nets.now) }
     ensures lists { A.lists agenda.new ≡ with_list (A.lists agenda.old) element
-        (placed_by (rule_of_kind (kind_seen parts.now kind) now (last_value (list_at (A.lists agenda.old) element) present) value) (list_at (A.lists agenda.old) element) present now value) }
+        (placed_by (rule_of_kind (kind_seen parts.now kind) now (N.values nets.now) (N.stamps nets.now) (last_value (list_at (A.lists agenda.old) element) present) value) (list_at (A.lists agenda.old) element) present now value) }
     ensures spare { A.spare agenda.old ≤ A.spare agenda.new + 2 }
 {
     match kind {
@@ -141,6 +138,11 @@ pub fn place_value<A: Agenda>(
         ElementKind::Leg { timing } => {
             let timing = &parts.leg_timings[timing as usize];
             place_leg(agenda, element, present, now, value, timing);
+        }
+        ElementKind::Path { paths, style } => {
+            place_path(
+                agenda, parts, element, present, now, value, paths, style, nets,
+            );
         }
     }
 }

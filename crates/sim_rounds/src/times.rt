@@ -90,6 +90,7 @@ pub trait Rounds<L: Ledger> {
     /// The net that a spent time is reported on. It is the last call.
     fn name(&mut self, now: u64) -> u32
         requires ready { ready self.old false now }
+        requires now { now < 2 ^ 60 }
         requires moves { moves self.old now }
         ensures machine { machine self.new ≡ machine self.old }
         ensures kept { kept self.new ≡ kept self.old }
@@ -156,6 +157,7 @@ fn toggle<L: Ledger, R: Rounds<L>>(rounds: &mut R, now: u64, steps: &mut Steps<L
 // The end of a time with no round left.
 fn last<L: Ledger, R: Rounds<L>>(rounds: &mut R, now: u64) -> TimeEnd
     requires ready { R.ready rounds.old false now }
+    requires now { now < 2 ^ 60 }
     requires handed { R.handed rounds.old ≡ [] }
     ensures machine { R.machine rounds.new ≡ R.machine rounds.old }
     ensures kept { R.kept rounds.new ≡ R.kept rounds.old }

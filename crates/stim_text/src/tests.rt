@@ -72,6 +72,8 @@ fn parts(alloc: Global) -> Result<Parts, NoMemory> {
         elements: Vec::new(alloc),
         gate_delays: Vec::new(alloc),
         leg_timings: Vec::new(alloc),
+        paths: Vec::new(alloc),
+        conditions: Vec::new(alloc),
         udps: Vec::new(alloc),
         checks: Vec::new(alloc),
         scopes: vec![in alloc; top(alloc)?]?,

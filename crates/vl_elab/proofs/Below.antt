@@ -11,9 +11,12 @@ use Rattle.vl_tree.specs.Tree.{Module, Source}
 use Rattle.elab_model.specs.declared.kinds.ElabKind.{ElabKind}
 use Rattle.elab_model.specs.declared.kinds.ElabKind.TheVariants.{TooMany}
 use Rattle.elab_model.specs.Drivers.{elements}
-use Rattle.elab_model.specs.Elaboration.{FaultStands, in_list, in_table, IsElaborated, RefusalStands, Elaborates, primitives}
+use Rattle.elab_circuit.specs.Elaboration.{FaultStands, in_list, in_table, IsElaborated, RefusalStands, Elaborates}
+use Rattle.elab_model.specs.PrimitiveFaults.{primitives}
 use Rattle.elab_model.specs.Faults.{Fault, fault, RefusesOneOf}
-use Rattle.elab_model.specs.HierarchyFaults.{two_definitions, driver_faults, faults_below, top_faults, faults}
+use Rattle.elab_model.specs.HierarchyFaults.{two_definitions}
+use Rattle.elab_circuit.specs.Faults.{path_faults, driver_faults, faults_below, top_faults, faults}
+use Rattle.elab_paths.specs.Joining.{counts_over}
 use Rattle.elab_model.specs.Nets.{nets}
 use Rattle.elab_model.specs.Tops.{top_of}
 use Rattle.elab_nets.specs.Refusals.{RefusesCount}
@@ -23,7 +26,7 @@ use Rattle.elab_hierarchy.specs.Tops.{RefusesTop}
 use Rattle.elab_modules.specs.Reached.{RefusesReached}
 use Rattle.vl_elab.specs.Below.{IsBelow, RefusesBelow}
 use Rattle.vl_elab.proofs.Among.{among-in, in-among}
-use Rattle.vl_elab.proofs.Standing.{of-tree, of-reached, of-nets, of-elements, of-drivers}
+use Rattle.vl_elab.proofs.Standing.{of-tree, of-reached, of-paths, of-nets, of-elements, of-joined, of-drivers}
 
 -- ---- below a top
 
@@ -47,6 +50,14 @@ elements-refused source top corner refused.NoMemory h = tt
 pub drivers-refused : (source : Source) (top : Module) (corner : Corner) (r : Refused ElabKind) → RefusesOneOf (driver_faults source top corner) r → RefusesBelow source top corner r
 drivers-refused source top corner (refused.Fault k p) h = inl (of-drivers source top corner (fault k p) h)
 drivers-refused source top corner refused.NoMemory h = tt
+
+pub paths-refused : (source : Source) (top : Module) (corner : Corner) (r : Refused ElabKind) → RefusesOneOf (path_faults source top corner) r → RefusesBelow source top corner r
+paths-refused source top corner (refused.Fault k p) h = inl (of-paths source top corner (fault k p) h)
+paths-refused source top corner refused.NoMemory h = tt
+
+pub joined-refused : (source : Source) (top : Module) (corner : Corner) (r : Refused ElabKind) → RefusesOneOf (counts_over source top corner) r → RefusesBelow source top corner r
+joined-refused source top corner (refused.Fault k p) h = inl (of-joined source top corner (fault k p) h)
+joined-refused source top corner refused.NoMemory h = tt
 
 -- ---- of a netlist
 

@@ -7,12 +7,12 @@ use Rattle.sg_delay.specs.declared.corners.Corner.{Corner}
 use Rattle.vl_tree.specs.Tree.{Module, Source}
 use Rattle.elab_model.specs.declared.kinds.ElabKind.TheVariants.{TooMany}
 use Rattle.elab_model.specs.Delays.{tick_of}
-use Rattle.elab_model.specs.Drivers.{elements}
 use Rattle.elab_model.specs.Faults.{fault_if}
 use Rattle.elab_model.specs.Hierarchy.{Instance, instances}
-use Rattle.elab_model.specs.HierarchyFaults.{self_instances, too_deep, first_too_many, count_limit, start, too_many, driver_faults, instance_faults_below, faults_below}
+use Rattle.elab_model.specs.HierarchyFaults.{self_instances, too_deep, first_too_many, count_limit, start, instance_faults_below}
+use Rattle.elab_circuit.specs.Faults.{path_faults, path_count, over, too_many, driver_faults, faults_below}
 use Rattle.elab_model.specs.ModuleFaults.{module_faults}
-use Rattle.elab_model.specs.Nets.{nets}
+use Rattle.elab_circuit.specs.WithPaths.{all_nets, all_elements}
 use Rattle.elab_laws.specs.Laws.{AreSound}
 use Rattle.elab_laws.proofs.NoFaults.{front, back, flat-empty}
 use Rattle.elab_hierarchy.specs.Placing.{tree_faults_at, tree_faults}
@@ -31,22 +31,27 @@ all-both P Q R (x ∷ xs) f h g = (f x h.0 g.0, all-both P Q R xs f h.1 g.1)
 within : (l n : ℕ) → n ≤ l → nat_lt l n ≡ false
 within l n le = grind (arith, nat_tests)
 
-none-past : (n : ℕ) → n ≤ count_limit → fault_if (nat_lt count_limit n) TooMany start ≡ []
+none-past : (n : ℕ) → n ≤ count_limit → over n ≡ []
 none-past n le = ap (λ b. fault_if b TooMany start) (within count_limit n le)
 
-pub faultless-below : (source : Source) (top : Module) (corner : Corner) → tree_faults source top ≡ [] → AreSound source top corner → length (nets source top) ≤ count_limit → length (elements source top corner) ≤ count_limit
-    → driver_faults source top corner ≡ [] → faults_below source top corner ≡ []
-faultless-below source top corner tree sound few_nets few_elements drivers =
+pub faultless-below : (source : Source) (top : Module) (corner : Corner) → tree_faults source top ≡ [] → AreSound source top corner → path_faults source top corner ≡ [] → length (all_nets source top corner) ≤ count_limit
+    → length (all_elements source top corner) ≤ count_limit → path_count source top corner ≤ count_limit → driver_faults source top corner ≡ [] → faults_below source top corner ≡ []
+faultless-below source top corner tree sound paths few_nets few_elements few_paths drivers =
     let trees = flat_map (tree_faults_at source) (instances source top) in
     let scopes = first_too_many (drop count_limit (instances source top)) in
     let each = flat-empty (tree_faults_at source) (instances source top) (front trees scopes tree) in
-    both-empty (flat_map (instance_faults_below source top corner) (instances source top)) (too_many source top corner ++ driver_faults source top corner)
+    let many_nets = over (length (all_nets source top corner)) in
+    let many_elements = over (length (all_elements source top corner)) in
+    let many_paths = over (path_count source top corner) in
+    both-empty (flat_map (instance_faults_below source top corner) (instances source top)) (path_faults source top corner ++ (too_many source top corner ++ driver_faults source top corner))
     (all-empty (instance_faults_below source top corner) (instances source top)
     (all-both (λ s. tree_faults_at source s ≡ []) (λ s. module_faults source corner (tick_of source top) s.step.definition ≡ []) (λ s. instance_faults_below source top corner s ≡ []) (instances source top) joined each sound))
+    (both-empty (path_faults source top corner) (too_many source top corner ++ driver_faults source top corner) paths
     (both-empty (too_many source top corner) (driver_faults source top corner)
-    (both-empty scopes (fault_if (nat_lt count_limit (length (nets source top))) TooMany start ++ fault_if (nat_lt count_limit (length (elements source top corner))) TooMany start) (back trees scopes tree)
-    (both-empty (fault_if (nat_lt count_limit (length (nets source top))) TooMany start) (fault_if (nat_lt count_limit (length (elements source top corner))) TooMany start) (none-past (length (nets source top)) few_nets) (none-past (length (elements source top corner)) few_elements)))
-    drivers)
+    (both-empty scopes (many_nets ++ (many_elements ++ many_paths)) (back trees scopes tree)
+    (both-empty many_nets (many_elements ++ many_paths) (none-past (length (all_nets source top corner)) few_nets)
+    (both-empty many_elements many_paths (none-past (length (all_elements source top corner)) few_elements) (none-past (path_count source top corner) few_paths))))
+    drivers))
   where
     joined : (s : Instance) → tree_faults_at source s ≡ [] → module_faults source corner (tick_of source top) s.step.definition ≡ [] → instance_faults_below source top corner s ≡ []
     joined s e f =

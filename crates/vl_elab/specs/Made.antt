@@ -1,14 +1,16 @@
 -- What stands when the parts of a circuit have been made, one after another.
-use Rattle.std.specs.Prelude.{◌≡◌, List, [], ◌∷◌, map, replicate, None}
-use Rattle.sg_circuit.specs.Circuit.{Timing}
+use Rattle.std.specs.Prelude.{◌≡◌, List, [], ◌∷◌, length, map, replicate, None}
+use Rattle.sg_circuit.specs.Timings.{Timing}
 use Rattle.sg_time.specs.declared.units.Unit as unit
 use Rattle.sg_circuit.specs.Seen.{scope_seen}
 use Rattle.sg_circuit.specs.declared.scopes.Scope.{Scope}
 use Rattle.elab_model.specs.Delays.{tick_of}
-use Rattle.elab_model.specs.HierarchyFaults.{faults_below}
+use Rattle.elab_circuit.specs.Faults.{path_faults, faults_below}
 use Rattle.elab_model.specs.Nets.{nets}
 use Rattle.elab_model.specs.Scopes.{scope_of}
-use Rattle.elab_drivers.specs.Netlists.{HasDrivers}
+use Rattle.elab_circuit.specs.Circuits.{driving}
+use Rattle.elab_circuit.specs.WithPaths.{all_nets}
+use Rattle.elab_drivers.specs.Tables.{HasDrivers}
 use Rattle.sg_circuit.specs.declared.nets.Driver.{Driver}
 use Rattle.sg_circuit.specs.declared.nets.Net.{Net}
 use Rattle.sg_delay.specs.declared.corners.Corner.{Corner}
@@ -20,15 +22,22 @@ use Rattle.elab_modules.specs.Reached.{IsLibrary}
 use Rattle.elab_modules.specs.declared.library.Library.{Library}
 use Rattle.elab_rows.specs.Rows.{HaveRows}
 use Rattle.elab_rows.specs.declared.rows.Rows.{Rows}
-use Rattle.elab_elements.specs.Seen.{AreElements}
 use Rattle.elab_elements.specs.declared.placing.Placing.{Placing}
+use Rattle.elab_paths.specs.Joining.{HaveNumbers, AreJoined}
+use Rattle.elab_paths.specs.declared.joining.Joined.{Joined}
+use Rattle.elab_paths.specs.declared.modules.ModulePaths.{ModulePaths}
 
--- the instances, what they are of, their nets and the elements of a top
-pub record AreMade (source : Source) (top : Module) (corner : Corner) (placed : List Placed) (ready : Library) (numbers : Rows) (made : Placing) : Type 0 where
+-- the instances, what they are of, their nets and the elements of a top, with its paths
+pub record AreMade (source : Source) (top : Module) (corner : Corner) (placed : List Placed) (ready : Library) (numbers : Rows) (joined : Joined) (made : Placing) : Type 0 where
   pub are_placed : ArePlaced source placed (instances source top)
   pub is_ready : IsLibrary source corner top ready
   pub have_rows : HaveRows source top numbers
-  pub are_elements : AreElements source top corner ready.gate_delays.items ready.udps.items made
+  pub sound_blocks : path_faults source top corner ≡ []
+  pub have_numbers : HaveNumbers source top corner numbers joined made
+
+-- the table has the driver of each net, and no net has a fault
+abbrev pub AreDrivers : Source → Module → Corner → List Driver → Type 0
+AreDrivers source top corner table = HasDrivers (length (all_nets source top corner)) (driving source top corner) table
 
 -- nets, each with its driver in place of another
 abbrev pub driven_by : List Net → List Driver → List Net
@@ -37,12 +46,12 @@ driven_by (n ∷ ns) [] = n ∷ ns
 driven_by (n ∷ ns) (d ∷ ds) = record n { driver = d } ∷ driven_by ns ds
 
 -- all that a circuit is made of, where no fault stands
-pub record IsWhole (source : Source) (top : Module) (corner : Corner) (tick : unit.Unit) (ready : Library) (numbers : Rows) (made : Placing) (drivers : List Driver) (scopes : List Scope) : Type 0 where
+pub record IsWhole (source : Source) (top : Module) (corner : Corner) (tick : unit.Unit) (ready : Library) (numbers : Rows) (modules : ModulePaths) (joined : Joined) (made : Placing) (drivers : List Driver) (scopes : List Scope) : Type 0 where
   pub tick_is : tick.power ≡ tick_of source top
   pub is_ready : IsLibrary source corner top ready
   pub have_rows : HaveRows source top numbers
-  pub are_elements : AreElements source top corner ready.gate_delays.items ready.udps.items made
-  pub has_drivers : HasDrivers source top corner drivers
+  pub are_joined : AreJoined source top corner ready modules numbers joined made
+  pub has_drivers : AreDrivers source top corner drivers
   pub are_scopes : map (λ s. scope_seen s) scopes ≡ map (scope_of (nets source top) source) (instances source top)
   pub faultless : faults_below source top corner ≡ []
 

@@ -3,11 +3,11 @@ ghost use Rattle.std.specs.Prelude.{◌≡◌, IfOk, IfErr, option_map};
 ghost use Rattle.sg_delay.specs.declared.corners.Corner as ghost_corner;
 ghost use Rattle.vl_tree.specs.Seen.{view_source};
 ghost use Rattle.vl_tree.specs.Tree.{Module, Source as GhostSource};
-ghost use Rattle.elab_model.specs.Circuits as def;
-ghost use Rattle.elab_model.specs.Elaboration.{Elaborates};
+ghost use Rattle.elab_circuit.specs.Circuits as def;
+ghost use Rattle.elab_circuit.specs.Elaboration.{Elaborates};
 ghost use Rattle.elab_hierarchy.specs.Tops.{StandsAt};
 ghost use Rattle.vl_elab.specs.Below.{IsBelow, RefusesBelow};
-ghost use Rattle.sg_circuit.specs.Seen.{leg_timing_seen};
+ghost use Rattle.sg_circuit.specs.TimingsSeen.{leg_timing_seen};
 ghost use Rattle.vl_elab.specs.Made.{IsWhole, none_of_twelve};
 
 use crate::driving::{drive, drivers_in};
@@ -15,6 +15,7 @@ use elab_elements::{Placing, elements_in};
 use elab_hierarchy::{Definitions, place_instances, tick, top};
 use elab_model::ElabKind;
 use elab_modules::{Library, library_of};
+use elab_paths::{Joined, ModulePaths, add_paths, module_paths};
 use elab_rows::{Rows, rows_of};
 use elab_scopes::scopes_of;
 use sg_circuit::{Circuit, Driver, LegTiming, Parts, Scope};
@@ -24,8 +25,8 @@ use sg_time::Unit;
 use std::alloc::Global;
 use vl_tree::Source;
 
-/// The circuit of a netlist below a top: the module of that name, or else the only one that is no cell and of which no module has an instance (IEEE 1364-2005, clauses 6 to 8
-/// and 12). Delays are those of a corner. Refuses a netlist with a fault that `ElabKind` names, at the node that has it; of several faults any one is answered. Takes memory in
+/// The circuit of a netlist below a top: the module of that name, or else the only one that is no cell and of which no module has an instance (IEEE 1364-2005, clauses 6 to 8,
+/// 12 and 14). Delays are those of a corner. Refuses a netlist with a fault that `ElabKind` names, at the node that has it; of several faults any one is answered. Takes memory in
 /// proportion to the netlist and to its circuit.
 pub fn elaborate(
     alloc: Global,
@@ -55,10 +56,30 @@ fn circuit_below(
     let tick = tick(definitions, top, &instances);
     let library = library_of(alloc, corner, tick, definitions, &instances)?;
     let rows = rows_of(alloc, definitions, &library, &instances)?;
-    let made = elements_in(alloc, definitions, &library, &instances, &rows)?;
-    let drivers = drivers_in(alloc, definitions, &library, &instances, &rows, &made)?;
+    let mut made = elements_in(alloc, definitions, &library, &instances, &rows)?;
+    let modules = module_paths(
+        alloc,
+        corner,
+        tick,
+        definitions,
+        &library,
+        &instances,
+        no_delay(),
+    )?;
+    let joined = add_paths(alloc, &library, &modules, &instances, &rows, &mut made)?;
+    let drivers = drivers_in(
+        alloc,
+        definitions,
+        &library,
+        &instances,
+        &rows,
+        &joined,
+        &made,
+    )?;
     let scopes = scopes_of(alloc, definitions, &library, &instances, &rows)?;
-    let circuit = close(alloc, tick, library, rows, made, &drivers, scopes)?;
+    let circuit = close(
+        alloc, tick, library, rows, made, modules, joined, &drivers, scopes,
+    )?;
     Ok(circuit)
 }
 
@@ -69,23 +90,28 @@ fn close(
     library: Library,
     rows: Rows,
     made: Placing,
+    modules: ModulePaths,
+    joined: Joined,
     drivers: &[Driver],
     scopes: Vec<Scope>,
 ) -> Result<Circuit, NoMemory>
-    requires { (source : GhostSource) × ((m : Module) × ((corner : ghost_corner.Corner) × IsWhole source m corner tick library rows made drivers.now scopes.items)) }
-    ensures { IfOk result (λ circuit. (source : GhostSource) (m : Module) (corner : ghost_corner.Corner) → IsWhole source m corner tick library.entry rows made drivers.now scopes.items
+    requires { (source : GhostSource) × ((m : Module) × ((corner : ghost_corner.Corner) × IsWhole source m corner tick library rows modules joined made drivers.now scopes.items)) }
+    ensures { IfOk result (λ circuit. (source : GhostSource) (m : Module) (corner : ghost_corner.Corner) → IsWhole source m corner tick library.entry rows modules joined made drivers.now scopes.items
         → circuit ≡ def.circuit source m corner) }
 {
     let mut nets = rows.nets;
+    for inner in joined.inner {
+        nets.push(inner)?;
+    }
     drive(drivers, &mut nets);
-    let mut leg_timings = Vec::new(alloc);
-    leg_timings.push(no_delay())?;
     Ok(Circuit::close(Parts {
         tick,
         nets,
         elements: made.elements,
         gate_delays: library.gate_delays,
-        leg_timings,
+        leg_timings: modules.timings,
+        paths: joined.paths,
+        conditions: modules.conditions,
         udps: library.udps,
         checks: Vec::new(alloc),
         scopes,

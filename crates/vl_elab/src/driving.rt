@@ -2,16 +2,16 @@
 ghost use Rattle.std.specs.Prelude.{◌≡◌, IfOk, IfErr, length};
 ghost use Rattle.vl_tree.specs.Tree.{Module};
 ghost use Rattle.elab_model.specs.Faults.{RefusesOneOf};
-ghost use Rattle.elab_model.specs.HierarchyFaults.{driver_faults};
+ghost use Rattle.elab_circuit.specs.Faults.{driver_faults};
 ghost use Rattle.sg_delay.specs.declared.corners.Corner as ghost_corner;
-ghost use Rattle.vl_elab.specs.Made.{AreMade, driven_by};
-ghost use Rattle.elab_drivers.specs.Netlists.{HasDrivers};
+ghost use Rattle.vl_elab.specs.Made.{AreMade, AreDrivers, driven_by};
 
 use elab_drivers::drivers;
 use elab_elements::Placing;
 use elab_hierarchy::{Definitions, Placed};
 use elab_model::ElabKind;
 use elab_modules::Library;
+use elab_paths::Joined;
 use elab_rows::Rows;
 use elab_scopes::{input_nets, reg_nets};
 use sg_circuit::{Driver, Net};
@@ -25,17 +25,18 @@ pub fn drivers_in(
     library: &Library,
     instances: &[Placed],
     rows: &Rows,
+    joined: &Joined,
     made: &Placing,
 ) -> Result<Vec<Driver>, Refused<ElabKind>>
-    requires made { (top : Module) × ((corner : ghost_corner.Corner) × AreMade definitions.now top corner instances.now library.now rows.now made.now) }
-    ensures drivers { IfOk result (λ ds. (top : Module) (corner : ghost_corner.Corner) → AreMade definitions.now top corner instances.now library.now rows.now made.now → HasDrivers definitions.now top corner ds.items) }
-    ensures refused { IfErr result (λ r. (top : Module) (corner : ghost_corner.Corner) → AreMade definitions.now top corner instances.now library.now rows.now made.now → RefusesOneOf (driver_faults definitions.now top corner) r) }
+    requires made { (top : Module) × ((corner : ghost_corner.Corner) × AreMade definitions.now top corner instances.now library.now rows.now joined.now made.now) }
+    ensures drivers { IfOk result (λ ds. (top : Module) (corner : ghost_corner.Corner) → AreMade definitions.now top corner instances.now library.now rows.now joined.now made.now → AreDrivers definitions.now top corner ds.items) }
+    ensures refused { IfErr result (λ r. (top : Module) (corner : ghost_corner.Corner) → AreMade definitions.now top corner instances.now library.now rows.now joined.now made.now → RefusesOneOf (driver_faults definitions.now top corner) r) }
 {
     let inputs = input_nets(alloc, definitions, library, instances, rows)?;
     let regs = reg_nets(alloc, definitions, library, instances, rows)?;
     drivers(
         alloc,
-        rows.nets.len() as u32,
+        (rows.nets.len() + joined.inner.len()) as u32,
         &inputs.nets,
         &inputs.places,
         &made.elements,

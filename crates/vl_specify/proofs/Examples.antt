@@ -8,7 +8,7 @@ use Rattle.sg_text.specs.declared.words.Keyword.TheVariants as keyword
 use Rattle.vl_token.specs.declared.symbols.Symbol.TheVariants as symbol
 use Rattle.vl_token.specs.Tokens.{name_token, sized_token, symbol_token, system_token, word_token}
 use Rattle.vl_specify.specs.Faults.{left_out, told, told_by_limit}
-use Rattle.vl_specify.specs.Words.{word_alone}
+use Rattle.vl_conditions.specs.Words.{word_alone}
 use Rattle.vl_specify.specs.declared.faults.SpecifyKind.TheVariants.{ShowCancelled, UnsupportedCheck, BadDelayCount}
 
 the_word : told (word_token keyword.ShowCancelled) ≡ Some ShowCancelled

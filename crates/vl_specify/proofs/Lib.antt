@@ -2,6 +2,5 @@
 pub mod Lists
 pub mod DelayLists
 pub mod SpareArguments
-pub mod WordOfToken
 pub mod Refusals
 mod Examples

@@ -1,6 +1,5 @@
 -- The modules of this folder.
 pub mod Skipped
-pub mod Words
 pub mod Delays
 pub mod Parts
 pub mod Faults

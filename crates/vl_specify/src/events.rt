@@ -9,11 +9,11 @@ ghost use Rattle.vl_tree.specs.Conditions as conditions;
 ghost use Rattle.vl_tree.specs.Rules as rules;
 ghost use Rattle.vl_tree.specs.Seen.{view_event, view_word};
 
-use crate::conditions::condition;
 use crate::edges::optional_check_edge;
 use crate::terms::term;
 use grammar::ReadFault;
 use std::alloc::Global;
+use vl_conditions::condition;
 use vl_terms::tokens::{is_mark, mark, place_at};
 use vl_token::{Symbol, Token};
 use vl_tree::{Event, Word};

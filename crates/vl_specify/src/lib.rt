@@ -5,7 +5,6 @@ mod amounts;
 mod arguments;
 mod blocks;
 mod checks;
-mod conditions;
 mod delays;
 mod edges;
 mod ends;
@@ -18,7 +17,6 @@ mod paths;
 mod reading;
 mod specparams;
 mod terms;
-mod words;
 
 pub use blocks::block;
 pub use faults::{SpecifyKind, kind_at};

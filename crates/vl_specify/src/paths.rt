@@ -9,13 +9,13 @@ ghost use Rattle.vl_tree.specs.Paths.{path_starts};
 ghost use Rattle.vl_tree.specs.Seen.{view_path, view_path_condition};
 ghost use Rattle.vl_specify.specs.Parts.{view_body};
 
-use crate::conditions::condition;
 use crate::delays::delays;
 use crate::edges::optional_edge;
 use crate::ends::{PathEnds, ends};
 use grammar::ReadFault;
 use sg_text::Keyword;
 use std::alloc::Global;
+use vl_conditions::condition;
 use vl_terms::tokens::{is_mark, is_word, mark, place_at, word};
 use vl_token::{Symbol, Token};
 use vl_tree::{Amounts, EdgeWord, PathCondition, SpecifyPath};

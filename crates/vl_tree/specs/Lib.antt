@@ -14,7 +14,3 @@ pub mod Checks
 pub mod Specify
 pub mod Primitives
 pub mod Modules
-pub mod Printing
-pub mod SpecifyPrinting
-pub mod ModulesPrinting
-pub mod Printed

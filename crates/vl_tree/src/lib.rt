@@ -1,5 +1,5 @@
-//! The syntax tree of netlists: one type for each rule of their grammar (IEEE 1364-2005, annex A), the grammar, and tokens
-//! that spell a tree.
+//! The syntax tree of netlists: one type for each rule of their grammar (IEEE 1364-2005, annex A), and the
+//! grammar.
 #![tactic(auto)]
 
 mod check_names;
@@ -10,7 +10,6 @@ mod modules;
 mod names;
 mod paths;
 mod primitives;
-mod printing;
 mod specify;
 
 pub use check_names::{CheckName, OneLimitCheck, TwoLimitCheck, check_of};
@@ -23,7 +22,6 @@ pub use paths::{
     Arrow, DataSource, Destination, EdgePair, EdgeWord, PathCondition, Polarity, SpecifyPath,
 };
 pub use primitives::{Initial, Primitive, PrimitiveDeclaration};
-pub use printing::print;
 pub use specify::{
     Amount, Amounts, Limit, PulseStyle, SignedAmount, SpecifyBlock, SpecifyItem, Specparam, Term,
     Word,

@@ -112,6 +112,8 @@ fn nested(alloc: Global) -> Result<Parts, NoMemory>
         elements: Vec::new(alloc),
         gate_delays: Vec::new(alloc),
         leg_timings: Vec::new(alloc),
+        paths: Vec::new(alloc),
+        conditions: Vec::new(alloc),
         udps: Vec::new(alloc),
         checks: checks(alloc)?,
         scopes: vec![in alloc;

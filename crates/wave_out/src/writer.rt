@@ -31,10 +31,14 @@ pub struct VcdWriter<'a> {
 }
 
 impl<'a> Model for VcdWriter<'a> {
+    ghost use Rattle.std.specs.Coded.{codes, coded_ℕ};
+    ghost use Rattle.cond_expr.specs.Codes.{coded_cond};
     ghost use Rattle.wave_out.specs.Shown.{IsShown};
     ghost use Rattle.wave_out.specs.Writing.{Writer};
 
     ghost Value = { Writer };
+
+    ghost coded = { Prim.hlevel (codes, coded_cond coded_ℕ) };
 
     ghost view = { λ w. record { name = w.name.now; circuit = w.circuit.now; last = w.last } };
 

@@ -6,8 +6,9 @@ use sg_time::{Scale, Unit};
 use std::alloc::Global;
 use vl_token::Mark;
 use vl_tree::{
-    Connections, Direction, GateInstance, Head, HeadPort, Instance, Item, Module, Name, NetName,
-    NetType, PortDeclaration, Range, SpecifyBlock, Supply,
+    Amount, Check, Connections, Direction, Event, GateInstance, Head, HeadPort, Instance, Item,
+    Limit, Module, Name, NetName, NetType, PortDeclaration, Range, SignedAmount, SpecifyBlock,
+    SpecifyItem, Supply, Term,
 };
 
 pub fn at(byte: u64) -> Place {
@@ -176,11 +177,40 @@ fn items_of_each_kind(alloc: Global) -> Result<Vec<Item<'static>>, NoMemory> {
 }
 
 // specify endspecify
-pub fn block(alloc: Global, byte: u64) -> Item<'static> {
-    Item::Specify(SpecifyBlock {
+// $period (a, a);
+pub fn period(byte: u64) -> SpecifyItem<'static> {
+    SpecifyItem::Check(Check::Period {
         place: at(byte),
-        items: Vec::new(alloc),
+        reference: Event {
+            place: at(byte),
+            edge: None,
+            term: Term {
+                name: name(b"a", byte),
+                select: None,
+            },
+            condition: None,
+        },
+        limit: Limit::One(SignedAmount {
+            negative: false,
+            amount: Amount::Parameter(name(b"a", byte)),
+        }),
+        notifier: None,
     })
+}
+
+pub fn block(
+    alloc: Global,
+    byte: u64,
+    item: Option<SpecifyItem<'static>>,
+) -> Result<Item<'static>, NoMemory> {
+    let mut items = Vec::new(alloc);
+    if let Some(item) = item {
+        items.push(item)?;
+    }
+    Ok(Item::Specify(SpecifyBlock {
+        place: at(byte),
+        items,
+    }))
 }
 
 pub fn net<'a>(name: Name<'a>, range: Option<Range>, reg: bool) -> NetDeclaration<'a> {

@@ -1,7 +1,7 @@
 -- One member's primitive more.
 use Rattle.std.proofs.Common.{◌<◌, length, map, sym, ap, subst, arith}
 use Rattle.std.proofs.lemmas.Result.{err_from_is_err_and}
-use Rattle.elab_model.specs.Elaboration.{member_primitive}
+use Rattle.elab_model.specs.PrimitiveFaults.{member_primitive}
 use Rattle.elab_laws.proofs.Lists.{In}
 use Rattle.elab_tables.specs.Seen.{view_member}
 use Rattle.elab_hierarchy.proofs.Whole.{refuses}

@@ -5,7 +5,7 @@ use Rattle.vl_tree.specs.Seen.{view_expression}
 use Rattle.elab_bits.specs.Seen.{view_bit}
 use Rattle.elab_model.specs.Elements as def_elements
 use Rattle.elab_nets.specs.Refusals.{RefusesCount}
-use Rattle.elab_rows.specs.Undriven.{undriven}
+use Rattle.elab_model.specs.Numbered.{undriven}
 use Rattle.elab_rows.proofs.MemberNets.{bits-are, gate-nets}
 use Rattle.elab_rows.proofs.members.add_gate.Goals as goal
 

@@ -7,7 +7,7 @@ use Rattle.elab_model.specs.Nets.{member_nets}
 use Rattle.elab_nets.specs.Refusals.{RefusesCount}
 use Rattle.elab_tables.specs.Seen.{view_member}
 use Rattle.elab_rows.specs.Turns.{IsNext, IsSeenTo}
-use Rattle.elab_rows.specs.Undriven.{undriven}
+use Rattle.elab_model.specs.Numbered.{undriven}
 use Rattle.elab_rows.proofs.Counts.{handed-on}
 use Rattle.elab_rows.proofs.ChildRows.{lone-seen, member-refused}
 use Rattle.elab_rows.proofs.PlainMembers.{is-plain}

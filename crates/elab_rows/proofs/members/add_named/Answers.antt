@@ -7,7 +7,7 @@ use Rattle.elab_model.specs.Definitions.{as_module}
 use Rattle.elab_model.specs.Hierarchy.{child_of}
 use Rattle.elab_model.specs.Nets.{instance_nets}
 use Rattle.elab_nets.specs.Refusals.{RefusesCount}
-use Rattle.elab_rows.specs.Undriven.{undriven}
+use Rattle.elab_model.specs.Numbered.{undriven}
 use Rattle.elab_rows.proofs.Counts.{handed-on}
 use Rattle.elab_rows.proofs.ChildRows.{lone-seen, member-refused}
 use Rattle.elab_rows.proofs.Defined.{found-none, is-defined, as-module, as-primitive, names-ready}

@@ -6,7 +6,7 @@ use Rattle.elab_bits.specs.Seen.{view_bit}
 use Rattle.elab_model.specs.Members.{connection_values}
 use Rattle.elab_model.specs.Nets.{terminal_nets}
 use Rattle.elab_nets.specs.Refusals.{RefusesCount}
-use Rattle.elab_rows.specs.Undriven.{undriven}
+use Rattle.elab_model.specs.Numbered.{undriven}
 use Rattle.elab_rows.proofs.MemberNets.{bits-are}
 use Rattle.elab_rows.proofs.members.add_primitive.Goals as goal
 

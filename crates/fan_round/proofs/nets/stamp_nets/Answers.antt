@@ -1,4 +1,4 @@
-use Rattle.std.proofs.Common.{◌<◌, length, slice_index_or, arith}
+use Rattle.std.proofs.Common.{◌<◌, length, slice_index_or, arith, refl}
 use Rattle.fan_round.proofs.NetLaws.{changed-within}
 use Rattle.fan_round.proofs.StampLaws.{stamped_more, stamped_all}
 use Rattle.fan_round.proofs.nets.stamp_nets.Goals as goal
@@ -20,7 +20,7 @@ bounds-stamps-at c =
     omega arith
 
 pub loop-net-preserved : goal.loop-net-preserved
-loop-net-preserved c = stamped_more c.args.now c.args.before.now c.args.values.now c.args.changed.now c.loop-net.net-index 0 _ c.args.stamps.now c.loop-net.stamps c.requires.changed c.loop-net-test.true c.loop-net.invariant
+loop-net-preserved c = stamped_more c.args.now c.args.before.now c.args.values.now c.args.changed.now c.loop-net.net-index 0 _ _ c.args.stamps.now c.loop-net.stamps c.requires.changed c.loop-net-test.true refl refl refl c.loop-net.invariant
 
 pub returns : goal.returns
 returns c = stamped_all c.args.now c.args.before.now c.args.values.now c.args.changed.now c.loop-net.net-index c.args.stamps.now c.loop-net.stamps c.requires.changed c.loop-net-test.false c.loop-net.invariant

@@ -1,13 +1,12 @@
-use Rattle.std.proofs.Common.{◌<◌, ◌^◌, ◌∙◌, ap, sym, subst, []}
+use Rattle.std.proofs.Common.{◌∙◌, ap, sym, subst, []}
 use Rattle.std.proofs.lemmas.List.{get_or-map}
-use Rattle.sg_circuit.specs.Seen.{leg_timing_seen}
-use Rattle.path_pick.specs.Choice.{time_of}
+use Rattle.sg_circuit.specs.TimingsSeen.{leg_timing_seen}
 use Rattle.path_pick.specs.Within.{AreNear}
 use Rattle.path_pick.proofs.candidates.candidate_from.Goals as goal
 
 pub returns-clause-ready : goal.returns-clause-ready
 returns-clause-ready g c = record {
-  time = subst (λ n. n < 2 ^ 60) (sym (c.time_of_stamp.ensures ∙ ap time_of c.of-stamp.ensures)) c.requires.time;
+  time = c.time_of_stamp.ensures.near;
   delay = c.pulse_of-pulse.ensures.near
       (subst AreNear (get_or-map (λ t. leg_timing_seen t) c.args.timings.now c.args.path.now.timing _ [] c.requires.path.timing ∙ ap (λ t. leg_timing_seen t) (sym c.index-timings-path.is)) c.requires.path.near);
   ordered = c.pulse_of-pulse.ensures.ordered;

@@ -12,8 +12,10 @@ close-requires-clause-closed c =
       elements = c.args.made.elements;
       gate_delays = c.args.library.gate_delays;
       leg_timings = c.push.new.self;
+      paths = c.new.result;
+      conditions = c.new-2.result;
       udps = c.args.library.udps;
-      checks = c.new.result;
+      checks = c.new-3.result;
       scopes = c.args.scopes;
     } in
     let of : IsOf c.args.tick c.args.library c.args.rows c.args.made c.args.drivers.now c.args.scopes.items parts = record {
@@ -23,7 +25,7 @@ close-requires-clause-closed c =
       delays_are = refl;
       legs_are = legs-made c.push.new.self.items c.new-leg_timings.result.items c.no_delay.result c.in_ok-push.ensures.items c.new-leg_timings.ensures.items c.no_delay.ensures;
       udps_are = refl;
-      checks_are = c.new.ensures.items;
+      checks_are = c.new-3.ensures.items;
       scopes_are = refl;
     } in
     let w = c.requires in
@@ -37,8 +39,10 @@ close-requires-clause-indexed c =
       elements = c.args.made.elements;
       gate_delays = c.args.library.gate_delays;
       leg_timings = c.push.new.self;
+      paths = c.new.result;
+      conditions = c.new-2.result;
       udps = c.args.library.udps;
-      checks = c.new.result;
+      checks = c.new-3.result;
       scopes = c.args.scopes;
     } in
     let of : IsOf c.args.tick c.args.library c.args.rows c.args.made c.args.drivers.now c.args.scopes.items parts = record {
@@ -48,7 +52,7 @@ close-requires-clause-indexed c =
       delays_are = refl;
       legs_are = legs-made c.push.new.self.items c.new-leg_timings.result.items c.no_delay.result c.in_ok-push.ensures.items c.new-leg_timings.ensures.items c.no_delay.ensures;
       udps_are = refl;
-      checks_are = c.new.ensures.items;
+      checks_are = c.new-3.ensures.items;
       scopes_are = refl;
     } in
     let w = c.requires in
@@ -62,8 +66,10 @@ returns c source m corner w =
       elements = c.args.made.elements;
       gate_delays = c.args.library.gate_delays;
       leg_timings = c.push.new.self;
+      paths = c.new.result;
+      conditions = c.new-2.result;
       udps = c.args.library.udps;
-      checks = c.new.result;
+      checks = c.new-3.result;
       scopes = c.args.scopes;
     } in
     let of : IsOf c.args.tick c.args.library c.args.rows c.args.made c.args.drivers.now c.args.scopes.items parts = record {
@@ -73,7 +79,7 @@ returns c source m corner w =
       delays_are = refl;
       legs_are = legs-made c.push.new.self.items c.new-leg_timings.result.items c.no_delay.result c.in_ok-push.ensures.items c.new-leg_timings.ensures.items c.no_delay.ensures;
       udps_are = refl;
-      checks_are = c.new.ensures.items;
+      checks_are = c.new-3.ensures.items;
       scopes_are = refl;
     } in
     c.close.ensures ∙ whole-is source m corner c.args.tick c.args.library c.args.rows c.args.made c.args.drivers.now c.args.scopes.items parts w of

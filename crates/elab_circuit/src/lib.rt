@@ -1,0 +1,2 @@
+//! What elaboration makes: the circuit of a netlist, with its specify paths, and each fault with its place, as definitions.
+#![tactic(auto)]

@@ -1,0 +1,6 @@
+-- The modules of this folder: words of the contracts.
+pub mod Operands
+pub mod Ready
+pub mod Joining
+pub mod Redirecting
+pub mod Shelving

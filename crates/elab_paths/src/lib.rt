@@ -1,0 +1,14 @@
+//! The specify paths of a circuit: for each output bit of an instance to which paths lead, an inner net and the element between the two.
+#![tactic(auto)]
+
+mod joining;
+mod limit;
+mod modules;
+mod operands;
+mod redirecting;
+mod shelving;
+mod uses;
+
+pub use joining::{Joined, add_paths};
+pub use modules::{ModulePaths, module_paths};
+pub use shelving::{ReadyCondition, ReadyOutput, ReadyPath};

@@ -1,0 +1,140 @@
+// The path uses of instances: output bits to which paths lead, each with its inner net, its element and its paths over nets.
+use crate::limit::check_count;
+use crate::operands::Operands;
+use crate::shelving::{ReadyCondition, ReadyOutput, ReadyPath};
+use cond_expr::{BindFault, Expr};
+use elab_model::ElabKind;
+use elab_tables::Table;
+use sg_circuit::{Driver, Net, NetId, Path, PathCondition, Range, Span};
+use sg_delay::PulseStyle;
+use sg_text::{NoMemory, Place, Refused, Text};
+use std::alloc::Global;
+
+/// A path use: the instance that has it and the place of the first specify path that leads to it, the net to which the paths lead, the paths and their style.
+#[derive(Clone, Copy, Debug, PartialEq)]
+pub struct PathUse {
+    pub scope: u32,
+    pub place: Place,
+    pub output: NetId,
+    pub paths: Span,
+    pub style: PulseStyle,
+}
+
+/// The path uses of all instances, in order, with the inner net of each, and the paths of all, those of one use side by side.
+#[derive(Drop)]
+pub struct PathUses {
+    pub uses: Vec<PathUse>,
+    pub inner: Vec<Net>,
+    pub paths: Vec<Path>,
+}
+
+/// An instance: its number, the variables of its module, and the nets of their bits.
+#[derive(Clone, Copy)]
+pub struct Here<'m, 'a> {
+    pub scope: u32,
+    pub table: &'m Table<'a>,
+    pub row: &'m [NetId],
+}
+
+fn condition_of(
+    alloc: Global,
+    here: Here,
+    conditions: &[Expr],
+    condition: ReadyCondition,
+) -> Result<PathCondition, NoMemory> {
+    let written = match condition {
+        ReadyCondition::Always => return Ok(PathCondition::Always),
+        ReadyCondition::IfNone => return Ok(PathCondition::IfNone),
+        ReadyCondition::If(written) => written,
+    };
+    let operands = Operands {
+        table: here.table,
+        row: here.row,
+    };
+    match conditions[written as usize].bind(alloc, &operands) {
+        Ok(bound) => Ok(PathCondition::If { written, bound }),
+        Err(BindFault::NoMemory) => Err(NoMemory),
+        Err(BindFault::Unknown { .. }) => unreachable!(),
+    }
+}
+
+fn add_path(
+    alloc: Global,
+    here: Here,
+    conditions: &[Expr],
+    path: &ReadyPath,
+    paths: &mut Vec<Path>,
+) -> Result<(), Refused<ElabKind>> {
+    check_count(paths.len())?;
+    let condition = condition_of(alloc, here, conditions, path.condition)?;
+    paths.push(Path {
+        input: here.row[path.input],
+        edge: path.edge,
+        condition,
+        timing: path.timing,
+    })?;
+    Ok(())
+}
+
+fn add_all_paths(
+    alloc: Global,
+    here: Here,
+    conditions: &[Expr],
+    list: &[ReadyPath],
+    paths: &mut Vec<Path>,
+) -> Result<Span, Refused<ElabKind>> {
+    let start = paths.len() as u32;
+    for path in list {
+        add_path(alloc, here, conditions, path, paths)?;
+    }
+    Ok(Span {
+        start,
+        end: paths.len() as u32,
+    })
+}
+
+// The index of the bit at a position from the left; a scalar has none.
+fn index_at(range: Option<Range>, position: usize) -> Option<i64> {
+    let range = range?;
+    if range.left <= range.right {
+        Some(range.left + position as i64)
+    } else {
+        Some(range.left - position as i64)
+    }
+}
+
+// The inner net has the name of the output's bit.
+fn inner_net(alloc: Global, here: Here, output: usize) -> Result<Net, NoMemory> {
+    let (variable, position) = here.table.bit(output);
+    Ok(Net {
+        scope: here.scope,
+        name: Text::copy(alloc, here.table.name(variable))?,
+        bit: index_at(here.table.row(variable).range, position),
+        driver: Driver::Nobody,
+    })
+}
+
+/// Adds a path use of an instance, where `nets` nets and `elements` elements stand before those of path uses. Refuses more than 2^22 nets, elements or paths (TooMany).
+pub fn add_use(
+    alloc: Global,
+    nets: usize,
+    elements: usize,
+    here: Here,
+    conditions: &[Expr],
+    output: &ReadyOutput,
+    uses: &mut PathUses,
+) -> Result<(), Refused<ElabKind>> {
+    check_count(nets + uses.uses.len())?;
+    check_count(elements + uses.uses.len())?;
+    let paths = add_all_paths(alloc, here, conditions, &output.paths, &mut uses.paths)?;
+    let inner = inner_net(alloc, here, output.output)?;
+    uses.inner.push(inner)?;
+    uses.uses.push(PathUse {
+        scope: here.scope,
+        place: output.place,
+        output: here.row[output.output],
+        paths,
+        style: output.style,
+    })?;
+    Ok(())
+}

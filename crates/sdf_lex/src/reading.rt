@@ -1,0 +1,160 @@
+// A whole file, piece by piece.
+ghost use Rattle.std.specs.Prelude.{◌≡◌, ◌≤◌, ◌<◌, ◌+◌, ◌-◌, ◌^◌, ◌++◌, ◌∷◌, [], length, take, drop, map, nat_lt, IfSome, OnOk};
+ghost use Rattle.sdf_lex.specs.Seen.{meaning, lexeme};
+ghost use Rattle.sdf_lex.specs.Operators.{operator_of};
+ghost use Rattle.sdf_lex.specs.Pieces.{here, symbol_meaning};
+ghost use Rattle.sdf_lex.specs.PieceBridge.{bracket_tokens, first_mark, kind_tokens, IsWithin};
+ghost use Rattle.sdf_lex.specs.Lexes.{Outcome, LexesFrom, Lexes, Stands, Tells};
+
+use crate::faults::LexKind;
+use crate::operators::operator_of;
+use crate::pieces::{Kind, first_piece, is_bad};
+use crate::tokens::{Lexeme, Token};
+use crate::words::index_of;
+use sg_text::{NoMemory, Place, Refused};
+use std::alloc::Global;
+
+// How many bytes a file may have.
+const LARGEST: usize = 1 << 28;
+
+fn fault(kind: LexKind, at: usize) -> Refused<LexKind>
+    ensures { result ≡ Refused.Fault kind (record { file = 0; byte = at }) }
+{
+    let byte = at as u64;
+    Refused::Fault {
+        kind,
+        place: Place { file: 0, byte },
+    }
+}
+
+fn push<'a>(tokens: &mut Vec<Token<'a>>, at: usize, found: Lexeme<'a>) -> Result<(), NoMemory>
+    ensures { OnOk result (map lexeme tokens.new.items ≡ map lexeme tokens.old.items ++ here (meaning found.entry) at ∷ []) }
+{
+    let byte = at as u64;
+    tokens.push(Token {
+        place: Place { file: 0, byte },
+        lexeme: found,
+    })?;
+    Ok(())
+}
+
+// What stands between a piece's first byte and its last.
+fn inside(bytes: &[u8]) -> &[u8]
+    ensures { result.now ≡ take (length bytes.now - 2) (drop 1 bytes.now) }
+{
+    match bytes {
+        [_, inside @ .., _] => inside,
+        _ => &[],
+    }
+}
+
+fn symbol(bytes: &[u8]) -> Lexeme<'_>
+    ensures { meaning result ≡ symbol_meaning bytes.now (operator_of bytes.now) }
+{
+    if let Some(operator) = operator_of(bytes) {
+        return Lexeme::Operator(operator);
+    }
+    match bytes {
+        [b, ..] => Lexeme::Other(*b),
+        [] => Lexeme::Other(0),
+    }
+}
+
+fn mark(bytes: &[u8]) -> Lexeme<'_>
+    ensures { meaning result ≡ first_mark bytes.now }
+{
+    match bytes {
+        [b'(', ..] => Lexeme::Left,
+        [b')', ..] => Lexeme::Right,
+        [b':', ..] => Lexeme::Colon,
+        [b'*', ..] => Lexeme::Star,
+        [b, ..] => Lexeme::Other(*b),
+        [] => Lexeme::Other(0),
+    }
+}
+
+// The tokens of a word whose last unescaped bracket stands at this byte of it.
+fn push_word<'a>(
+    tokens: &mut Vec<Token<'a>>,
+    at: usize,
+    bytes: &'a [u8],
+    bracket: Option<usize>,
+) -> Result<(), NoMemory>
+    requires few { at + length bytes.now < 2 ^ 62 }
+    requires inside { IfSome bracket (λ n. n < length bytes.now) }
+    ensures { OnOk result (map lexeme tokens.new.items ≡ map lexeme tokens.old.items ++ bracket_tokens at bytes.now bracket) }
+{
+    let Some(n) = bracket else {
+        return push(tokens, at, Lexeme::Word(bytes));
+    };
+    let (name, behind) = bytes.split_at(n);
+    let Some(index) = index_of(&behind[1..]) else {
+        return push(tokens, at, Lexeme::Word(bytes));
+    };
+    let whole = bytes;
+    push(tokens, at, Lexeme::Selected { whole, name })?;
+    push(tokens, at + n, Lexeme::Select(index))
+}
+
+// The tokens of a piece of a kind.
+fn push_piece<'a>(
+    tokens: &mut Vec<Token<'a>>,
+    at: usize,
+    kind: Kind,
+    bytes: &'a [u8],
+) -> Result<(), NoMemory>
+    requires few { at + length bytes.now < 2 ^ 62 }
+    requires inside { IsWithin kind (length bytes.now) }
+    ensures { OnOk result (map lexeme tokens.new.items ≡ map lexeme tokens.old.items ++ kind_tokens at kind bytes.now) }
+{
+    match kind {
+        Kind::Gap | Kind::Bad => Ok(()),
+        Kind::Word(bracket) => push_word(tokens, at, bytes, bracket),
+        Kind::Text => push(tokens, at, Lexeme::Text(inside(bytes))),
+        Kind::UnendedText => push(tokens, at, Lexeme::UnendedText),
+        Kind::Symbol => push(tokens, at, symbol(bytes)),
+        Kind::Mark => push(tokens, at, mark(bytes)),
+    }
+}
+
+fn is_too_large(bytes: &[u8]) -> bool
+    ensures { result ≡ nat_lt (2 ^ 28) (length bytes.now) }
+{
+    bytes.len() > LARGEST
+}
+
+fn lex_small(alloc: Global, bytes: &[u8]) -> Result<Vec<Token<'_>>, Refused<LexKind>>
+    requires { length bytes.now ≤ 2 ^ 28 }
+    ensures { Stands (LexesFrom [] 0 bytes.now) result }
+{
+    let mut tokens = Vec::new(alloc);
+    let mut at = 0;
+    let mut rest = bytes;
+    while !rest.is_empty() {
+        let (kind, size) = first_piece(rest);
+        let (piece, tail) = rest.split_at(size);
+        if is_bad(kind) {
+            return Err(fault(LexKind::BadByte, at));
+        }
+        push_piece(&mut tokens, at, kind, piece)?;
+        at += size;
+        rest = tail;
+    }
+    Ok(tokens)
+}
+
+/// The tokens of an SDF file (IEEE 1497-2001, the clause on lexical elements), as file 0.
+///
+/// Their texts are parts of the file. A file of more than 2^28 bytes is `FileTooLarge` at that byte; else the first bad
+/// byte is answered, if there is one. Takes memory for the tokens.
+pub fn lex(alloc: Global, bytes: &[u8]) -> Result<Vec<Token<'_>>, Refused<LexKind>>
+    // The tokens or the fault that it answers stand.
+    ensures found { Stands (Lexes bytes.now) result }
+    // No others stand.
+    ensures only { (o : Outcome) → Lexes bytes.now o → Tells o result }
+{
+    if is_too_large(bytes) {
+        return Err(fault(LexKind::FileTooLarge, LARGEST));
+    }
+    lex_small(alloc, bytes)
+}

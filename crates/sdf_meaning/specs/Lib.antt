@@ -1,0 +1,4 @@
+-- The modules of this folder.
+pub mod MeantSeen
+pub mod FirstFaults
+pub mod Sizes

@@ -1,0 +1,8 @@
+-- The modules of this folder.
+pub mod PathTails
+pub mod Parts
+pub mod FileLists
+pub mod Failed
+pub mod Depths
+pub mod OneOutcome
+pub mod JoinedPhases

@@ -1,0 +1,18 @@
+//! The reading of SDF files (IEEE 1497-2001).
+#![tactic(auto)]
+
+mod cells;
+mod checks;
+mod depth;
+mod entries;
+mod faults;
+mod files;
+mod groups;
+mod heads;
+mod reading;
+mod sdf_files;
+mod tails;
+
+pub use faults::SdfKind;
+pub use reading::read_written;
+pub use sdf_files::read_sdf;

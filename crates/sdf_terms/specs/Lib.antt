@@ -1,0 +1,5 @@
+-- The modules of this folder.
+pub mod Tokens
+pub mod Lists
+pub mod Conditions
+pub mod Balanced

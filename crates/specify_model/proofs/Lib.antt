@@ -1,0 +1,4 @@
+-- The modules of this folder.
+mod Examples
+mod FaultExamples
+pub mod Writing

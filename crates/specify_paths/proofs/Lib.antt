@@ -1,0 +1,8 @@
+-- The modules of this folder.
+pub mod RowBits
+pub mod Grouped
+pub mod Bridged
+pub mod Chosen
+pub mod InOrder
+pub mod Operands
+pub mod Whole

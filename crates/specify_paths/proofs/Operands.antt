@@ -1,0 +1,98 @@
+-- Operands of conditions one after another, and what reading a condition tells.
+use Rattle.std.specs.Prelude.{◌≡◌, ℕ, List, [], ◌∷◌, ◌++◌, Bool, true, false, ◌&&◌, not, ◌==◌, Option, Some, None, Result, Ok, Err, is_err, flat_map, length, refl}
+use Rattle.std.proofs.Common.{sym, ◌∙◌, ap, arith, subst, eq-eqb}
+use Rattle.cond_expr.specs.declared.faults.CondFault.{CondFault}
+use Rattle.cond_expr.specs.declared.faults.CondFault.TheVariants as cond
+use Rattle.cond_expr.specs.declared.tokens.Tok.TheVariants as tok
+use Rattle.cond_expr.specs.Condition.{Condition, IsReadAs, Spelled}
+use Rattle.cond_expr.specs.Exactness.{expression-exact}
+use Rattle.cond_expr.specs.Grammar.{expression}
+use Rattle.cond_expr.specs.Kinds.{kind_of}
+use Rattle.cond_expr.specs.Token.{Tok}
+use Rattle.cond_expr.specs.Tree.{Cond}
+use Rattle.cond_expr.proofs.WholeConditions.{spelled_if_read}
+use Rattle.grammar.proofs.Whole.{all_again}
+use Rattle.sg_text.specs.declared.places.Place.{Place}
+use Rattle.sg_text.specs.declared.refusals.Refused.{Refused}
+use Rattle.sg_text.specs.declared.refusals.Refused.TheVariants as refused
+use Rattle.vl_tree.specs.Tree.{Term, Word}
+use Rattle.elab_model.specs.declared.kinds.ElabKind.{ElabKind}
+use Rattle.elab_model.specs.declared.kinds.ElabKind.TheVariants.{WidthMismatch, TooDeep}
+use Rattle.elab_model.specs.Bits.{bits}
+use Rattle.elab_model.specs.Faults.{Fault, fault_if, RefusesOneOf}
+use Rattle.elab_model.specs.Hierarchy.{is_empty}
+use Rattle.elab_model.specs.Names.{Variable}
+use Rattle.elab_names.proofs.Refusals.{refused-left, refused-right}
+use Rattle.specify_model.specs.Conditions.{tree_of, operands, operand_of, next_token}
+use Rattle.specify_model.specs.Faults.{term_faults, operand_faults}
+use Rattle.specify_model.specs.Terms.{expression_of}
+use Rattle.specify_values.proofs.InTurn.{fault-told}
+use Rattle.specify_paths.specs.Seen.{IsRead}
+use Rattle.specify_paths.specs.Words.{first_operand, operand_with, refusal_of}
+
+-- ---- operands
+
+abbrev listed : Option Term → List Term
+listed None = []
+listed (Some t) = t ∷ []
+
+one-listed : (p : Place) (t : Tok) (next : Option Tok) → operand_of p t next ≡ listed (operand_with p t next)
+one-listed p (tok.Name n) next = refl
+one-listed p (tok.Index i) next = refl
+one-listed p (tok.Const v) next = refl
+one-listed p (tok.Op o) next = refl
+one-listed p tok.Left next = refl
+one-listed p tok.Right next = refl
+
+first-listed : (w : Word) (ws : List Word) → operands (w ∷ ws) ≡ listed (first_operand (w ∷ ws)) ++ operands ws
+first-listed w ws = ap (λ ts. ts ++ operands ws) (one-listed w.place w.token (next_token ws))
+
+pub operand-refused : (vs : List Variable) (w : Word) (ws : List Word) (t : Term) (r : Refused ElabKind) → Some t ≡ first_operand (w ∷ ws) → RefusesOneOf (operand_faults vs t) r
+    → RefusesOneOf (flat_map (operand_faults vs) (operands (w ∷ ws))) r
+operand-refused vs w ws t r e h =
+    subst (λ ts. RefusesOneOf (flat_map (operand_faults vs) ts) r) (sym (first-listed w ws ∙ ap (λ o. listed o ++ operands ws) (sym e))) (refused-left (operand_faults vs t) (flat_map (operand_faults vs) (operands ws)) r h)
+
+pub operand-passed : (vs : List Variable) (w : Word) (ws : List Word) (t : Term) → Some t ≡ first_operand (w ∷ ws) → operand_faults vs t ≡ []
+    → flat_map (operand_faults vs) (operands ws) ≡ flat_map (operand_faults vs) (operands (w ∷ ws))
+operand-passed vs w ws t e h =
+    sym (ap (flat_map (operand_faults vs)) (first-listed w ws ∙ ap (λ o. listed o ++ operands ws) (sym e)) ∙ ap (λ fs. fs ++ flat_map (operand_faults vs) (operands ws)) h)
+
+pub no-operand : (vs : List Variable) (w : Word) (ws : List Word) → None ≡ first_operand (w ∷ ws) → flat_map (operand_faults vs) (operands ws) ≡ flat_map (operand_faults vs) (operands (w ∷ ws))
+no-operand vs w ws e = sym (ap (flat_map (operand_faults vs)) (first-listed w ws ∙ ap (λ o. listed o ++ operands ws) (sym e)))
+
+-- ---- one bit
+
+pub operand-wide : (vs : List Variable) (t : Term) (n : ℕ) → term_faults vs t ≡ [] → n ≡ length (bits vs (expression_of t)) → (n == 1) ≡ false → RefusesOneOf (operand_faults vs t) (refused.Fault WidthMismatch t.name.place)
+operand-wide vs t n sound e h =
+    refused-right (term_faults vs t) _ (refused.Fault WidthMismatch t.name.place)
+    (fault-told (is_empty (term_faults vs t) && not (length (bits vs (expression_of t)) == 1)) WidthMismatch t.name.place
+    (ap (λ fs. is_empty fs && not (length (bits vs (expression_of t)) == 1)) sound ∙ ap (λ k. not (k == 1)) (sym e) ∙ ap not h))
+
+pub operand-fine : (vs : List Variable) (t : Term) (n : ℕ) → term_faults vs t ≡ [] → n ≡ length (bits vs (expression_of t)) → (n == 1) ≡ true → operand_faults vs t ≡ []
+operand-fine vs t n sound e h =
+    ap (λ fs. fs ++ fault_if (is_empty (term_faults vs t) && not (length (bits vs (expression_of t)) == 1)) WidthMismatch t.name.place) sound
+    ∙ ap (λ b. fault_if b WidthMismatch t.name.place) (ap (λ fs. is_empty fs && not (length (bits vs (expression_of t)) == 1)) sound ∙ ap (λ k. not (k == 1)) (sym e) ∙ ap not h)
+
+-- ---- reading
+
+abbrev success : Cond ℕ → Result (Cond ℕ) ℕ
+success c = Ok c
+
+pub read-as : (ts : List Tok) (e : Condition) → (e.tokens ≡ ts) × Spelled ts e.tree → IsRead ts e
+read-as ts e h = record { tokens_are = h.0; tree_is = all_again kind_of (expression 64) (expression-exact 64) ts e.tree h.1 }
+
+-- what was read has no fault
+pub read-faultless : (ts : List Tok) (e : Condition) (p : Place) → IsRead ts e → fault_if (is_err (tree_of ts)) TooDeep p ≡ []
+read-faultless ts e p h = ap (λ r. fault_if (is_err r) TooDeep p) h.tree_is
+
+none-spelled : (ts : List Tok) → ((c : Cond ℕ) → Spelled ts c → ⊥) → is_err (tree_of ts) ≡ true
+none-spelled ts h = by (tree_of ts) refl
+  where
+    by : (r : Result (Cond ℕ) ℕ) → tree_of ts ≡ r → is_err r ≡ true
+    by (Ok c) e = absurd (h c (spelled_if_read ts c e))
+    by (Err at) e = refl
+
+pub deep-told : (ts : List Tok) (f : CondFault) (p : Place) → ((c : Cond ℕ) → Spelled ts c → IsReadAs (record { tokens = ts; tree = c }) (Err f)) → RefusesOneOf (fault_if (is_err (tree_of ts)) TooDeep p) (refusal_of f p)
+deep-told ts cond.NoMemory p h = tt
+deep-told ts (cond.Syntax at) p h = fault-told (is_err (tree_of ts)) TooDeep p (none-spelled ts h)
+deep-told ts cond.TooDeep p h = fault-told (is_err (tree_of ts)) TooDeep p (none-spelled ts h)

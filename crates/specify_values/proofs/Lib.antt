@@ -1,0 +1,7 @@
+-- The modules of this folder.
+pub mod Ports
+pub mod Cutting
+pub mod Gathered
+pub mod InTurn
+pub mod ByName
+pub mod Latest

@@ -1,0 +1,3 @@
+-- The modules of this folder: what the code's values stand for.
+pub mod Telling
+pub mod Seen

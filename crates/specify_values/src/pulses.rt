@@ -1,0 +1,81 @@
+// Specparams of pulse limits.
+ghost use Rattle.std.specs.Prelude.{◌≡◌, ◌<◌, true, false, length, IfSome, IfNone, find};
+ghost use Rattle.std.specs.Option.{OnSome, option_map};
+ghost use Rattle.specify_model.specs.Faults.{are_bad_limits};
+ghost use Rattle.specify_model.specs.PulseLimits as limits;
+ghost use Rattle.specify_values.specs.Seen.{ends_seen, is_divided, view_pulse, measured, widths_seen};
+
+use crate::items::Pulse;
+use crate::measures::Measure;
+use crate::ticks::ticks;
+use elab_tables::Table;
+use sg_circuit::Port;
+use sg_delay::Widths;
+
+// How many bytes PATHPULSE$ has.
+const FRONT: usize = 10;
+
+/// What a name says behind PATHPULSE$.
+pub fn ends_text<'a>(pulse: Pulse<'a>) -> &'a [u8]
+    ensures { result.now ≡ limits.ends_text (view_pulse pulse.entry) }
+{
+    let text = pulse.name.text;
+    match text.get(FRONT..) {
+        Some(ends) => ends,
+        None => &[],
+    }
+}
+
+fn is_outside(port: Port) -> bool
+    ensures { result ≡ limits.is_outside port }
+{
+    matches!(port, Port::Input | Port::Output)
+}
+
+fn is_port(table: &Table, name: &[u8]) -> bool
+    ensures { result ≡ limits.is_port table.now name.now }
+{
+    match table.find(name) {
+        Some(place) => is_outside(table.row(place).port),
+        None => false,
+    }
+}
+
+// Whether a $ stands at a place of a text, with a port at either side.
+fn divides(table: &Table, text: &[u8], at: usize) -> bool
+    requires { at < length text.now }
+    ensures { result ≡ is_divided table.now text.now at }
+{
+    text[at] == b'$' && is_port(table, &text[..at]) && is_port(table, &text[at + 1..])
+}
+
+/// The ports that a text says: what stands before and behind the first $ that has a port at either side.
+pub fn named_ends<'a>(table: &Table, text: &'a [u8]) -> Option<(&'a [u8], &'a [u8])>
+    ensures { option_map ends_seen result ≡ find (limits.are_ports table.now) (limits.cuts text.now) }
+{
+    let mut at: usize = 0;
+    while at < text.len() {
+        if divides(table, text, at) {
+            return Some((&text[..at], &text[at + 1..]));
+        }
+        at += 1;
+    }
+    None
+}
+
+/// The limits in ticks, reject and error; None where one is 2^60 or more, or reject is above error.
+pub fn widths_of(by: Measure, pulse: Pulse) -> Option<Widths>
+    ensures widths { IfSome result (λ w. widths_seen w ≡ limits.limit_ticks (measured by) (view_pulse pulse.entry)) }
+    ensures sound { OnSome result (are_bad_limits (limits.limit_ticks (measured by) (view_pulse pulse.entry)) ≡ false) }
+    ensures bad { IfNone result (are_bad_limits (limits.limit_ticks (measured by) (view_pulse pulse.entry)) ≡ true) }
+{
+    let reject = ticks(by, &pulse.reject)?;
+    let error = match &pulse.error {
+        Some(error) => ticks(by, error)?,
+        None => reject,
+    };
+    if reject > error {
+        return None;
+    }
+    Some(Widths { reject, error })
+}
