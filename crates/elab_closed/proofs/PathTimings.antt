@@ -19,7 +19,7 @@ use Rattle.elab_model.specs.Faults.{fault_if}
 use Rattle.elab_model.specs.Names.{Variable, variables}
 use Rattle.elab_model.specs.TerminalFaults.{delay_limit}
 use Rattle.specify_model.specs.Blocks.{Pulse, specify_items, parameters, pulses, specify_paths, style_texts}
-use Rattle.specify_model.specs.Faults.{parameter_faults, has_no_ends, are_bad_limits, pulse_faults, end_faults, side_faults, condition_faults, conditions, amount_parts, amount_place, unknown_faults, long_faults, delay_faults, list_faults, path_faults, style_faults, specify_faults}
+use Rattle.specify_model.specs.Faults.{parameter_faults, has_no_ends, are_bad_limits, pulse_faults, end_faults, side_faults, condition_faults, own_condition, source_faults, amount_parts, amount_place, unknown_faults, long_faults, delay_faults, list_faults, path_faults, style_faults, specify_faults}
 use Rattle.specify_model.specs.Outputs.{PathOutput, first_paths, paths_to, output_of, measure, path_outputs}
 use Rattle.specify_model.specs.Paths.{ModulePath, PathTo, timings_with, path_between, paths_of, module_paths}
 use Rattle.specify_model.specs.PulseLimits.{limit_ticks, is_for_ends, is_for_others, last_of, limits_of}
@@ -189,9 +189,10 @@ path-timed : (by : Measure) (vs : List Variable) (values : Values) (ps : List Pu
 path-timed by vs values ps p limits h =
     let ends = end_faults vs p in
     let sides = side_faults vs p in
-    let conds = flat_map (condition_faults vs p.place) (conditions p) in
+    let conds = flat_map (condition_faults vs p.place) (own_condition p.condition) in
+    let sourced = source_faults vs p.destination.source in
     let lists = list_faults by values p.place p.delays in
-    let e : lists ≡ [] = back conds lists (back sides (conds ++ lists) (back ends (sides ++ (conds ++ lists)) h)) in
+    let e : lists ≡ [] = back sourced lists (back conds (sourced ++ lists) (back sides (conds ++ (sourced ++ lists)) (back ends (sides ++ (conds ++ (sourced ++ lists))) h))) in
     all-map IsTimed (path_between by vs values (limits_of by vs ps) p) (path_pairs vs p)
     (all-anyway (λ b. IsTimed (path_between by vs values (limits_of by vs ps) p b)) (path_pairs vs p)
     (λ b. timings-are (limits_of by vs ps b.0.name b.1.name) (twelve_delays by values p.delays) (given-limits by vs ps limits b.0.name b.1.name) (path-delays by values p.place p.delays e)))

@@ -91,18 +91,15 @@ first_place p (w ∷ ws) = w.place
 abbrev pub condition_faults : List Variable → Place → List Word → List Fault
 condition_faults vs p ws = flat_map (operand_faults vs) (operands ws) ++ fault_if (is_err (tree_of (tokens ws))) TooDeep (first_place p ws)
 
--- the conditions of a path: its own, and its data source
 abbrev pub own_condition : PathCondition → List (List Word)
 own_condition always = []
 own_condition if_none = []
 own_condition (if_words ws) = ws ∷ []
 
-abbrev pub data_condition : Option DataSource → List (List Word)
-data_condition None = []
-data_condition (Some s) = s.words ∷ []
-
-abbrev pub conditions : SpecifyPath → List (List Word)
-conditions p = own_condition p.condition ++ data_condition p.destination.source
+-- a data source is text alone, of any width and any depth: its names are declared, and their indices in range (14.2.3)
+abbrev pub source_faults : List Variable → Option DataSource → List Fault
+source_faults vs None = []
+source_faults vs (Some s) = flat_map (term_faults vs) (operands s.words)
 
 -- ---- delays
 
@@ -133,7 +130,10 @@ list_faults by values place ds = flat_map (delay_faults by values) ds ++ fault_i
 -- ---- all
 
 abbrev pub path_faults : Measure → List Variable → Values → SpecifyPath → List Fault
-path_faults by vs values p = end_faults vs p ++ (side_faults vs p ++ (flat_map (condition_faults vs p.place) (conditions p) ++ list_faults by values p.place p.delays))
+path_faults by vs values p =
+    end_faults vs p
+    ++ (side_faults vs p
+    ++ (flat_map (condition_faults vs p.place) (own_condition p.condition) ++ (source_faults vs p.destination.source ++ list_faults by values p.place p.delays)))
 
 -- the terms of a pulse style are declared; an input among them has no effect (14.6.4)
 abbrev pub style_faults : List Variable → StyleText → List Fault

@@ -1,7 +1,6 @@
 -- The faults of a module's specify blocks, part by part.
 use Rattle.std.specs.Prelude.{◌≡◌, ℕ, ◌+◌, ◌<◌, ◌≤◌, List, [], ◌∷◌, ◌++◌, flat_map, length, map, slice_index_or, take, refl}
 use Rattle.std.proofs.Common.{sym, ◌∙◌, ap, arith, subst, append_assoc, append-nil}
-use Rattle.std.proofs.lemmas.Grind.{flat_map-append}
 use Rattle.sg_text.specs.declared.refusals.Refused.{Refused}
 use Rattle.vl_tree.specs.Tree.{SpecifyPath, SpecifyItem, Word}
 use Rattle.elab_model.specs.declared.kinds.ElabKind.{ElabKind}
@@ -9,7 +8,7 @@ use Rattle.elab_model.specs.Faults.{Fault, RefusesOneOf}
 use Rattle.elab_model.specs.Names.{Variable}
 use Rattle.elab_names.proofs.Refusals.{refused-left, refused-right}
 use Rattle.specify_model.specs.Blocks.{Parameter, parameters, Pulse, pulses, specify_paths, StyleText, style_texts}
-use Rattle.specify_model.specs.Faults.{parameter_faults, pulse_faults, end_faults, side_faults, condition_faults, own_condition, data_condition, conditions, list_faults, path_faults, style_faults, faults_by}
+use Rattle.specify_model.specs.Faults.{parameter_faults, pulse_faults, end_faults, side_faults, condition_faults, own_condition, source_faults, list_faults, path_faults, style_faults, faults_by}
 use Rattle.specify_model.specs.Values.{Measure, Values, value_of}
 
 none : (fs gs : List Fault) → fs ≡ [] → gs ≡ [] → fs ++ gs ≡ []
@@ -29,23 +28,23 @@ module _ (by : Measure) (vs : List Variable) (values : Values) (p : SpecifyPath)
   abbrev words : List (List Word) → List Fault
   words wss = flat_map (condition_faults vs p.place) wss
 
-  abbrev rest : List Fault
-  rest = words (conditions p) ++ list_faults by values p.place p.delays
+  abbrev sourced : List Fault
+  sourced = source_faults vs p.destination.source
 
-  both : words (conditions p) ≡ words (own_condition p.condition) ++ words (data_condition p.destination.source)
-  both = flat_map-append (condition_faults vs p.place) (own_condition p.condition) (data_condition p.destination.source)
+  abbrev rest : List Fault
+  rest = words (own_condition p.condition) ++ (sourced ++ list_faults by values p.place p.delays)
 
   pub own-told : (r : Refused ElabKind) → RefusesOneOf (words (own_condition p.condition)) r → RefusesOneOf rest r
-  own-told r h = refused-left (words (conditions p)) _ r (subst (λ fs. RefusesOneOf fs r) (sym both) (refused-left _ (words (data_condition p.destination.source)) r h))
+  own-told r h = refused-left (words (own_condition p.condition)) _ r h
 
-  pub data-told : (r : Refused ElabKind) → RefusesOneOf (words (data_condition p.destination.source)) r → RefusesOneOf rest r
-  data-told r h = refused-left (words (conditions p)) _ r (subst (λ fs. RefusesOneOf fs r) (sym both) (refused-right (words (own_condition p.condition)) _ r h))
+  pub source-told : (r : Refused ElabKind) → RefusesOneOf sourced r → RefusesOneOf rest r
+  source-told r h = refused-right (words (own_condition p.condition)) _ r (refused-left sourced _ r h)
 
   pub list-told : (r : Refused ElabKind) → RefusesOneOf (list_faults by values p.place p.delays) r → RefusesOneOf rest r
-  list-told r h = refused-right (words (conditions p)) _ r h
+  list-told r h = refused-right (words (own_condition p.condition)) _ r (refused-right sourced _ r h)
 
-  pub statement-faultless : words (own_condition p.condition) ≡ [] → words (data_condition p.destination.source) ≡ [] → list_faults by values p.place p.delays ≡ [] → rest ≡ []
-  statement-faultless a b c = none (words (conditions p)) _ (both ∙ none _ _ a b) c
+  pub statement-faultless : words (own_condition p.condition) ≡ [] → sourced ≡ [] → list_faults by values p.place p.delays ≡ [] → rest ≡ []
+  statement-faultless a b c = none (words (own_condition p.condition)) _ a (none sourced _ b c)
 
   pub ends-told : (r : Refused ElabKind) → RefusesOneOf (end_faults vs p ++ side_faults vs p) r → RefusesOneOf (path_faults by vs values p) r
   ends-told r h = subst (λ fs. RefusesOneOf fs r) (append_assoc (end_faults vs p) (side_faults vs p) rest) (refused-left (end_faults vs p ++ side_faults vs p) rest r h)

@@ -47,18 +47,38 @@ one-listed p tok.Right next = refl
 first-listed : (w : Word) (ws : List Word) → operands (w ∷ ws) ≡ listed (first_operand (w ∷ ws)) ++ operands ws
 first-listed w ws = ap (λ ts. ts ++ operands ws) (one-listed w.place w.token (next_token ws))
 
+module _ (faults : Term → List Fault) where
+  first-refused : (w : Word) (ws : List Word) (t : Term) (r : Refused ElabKind) → Some t ≡ first_operand (w ∷ ws) → RefusesOneOf (faults t) r → RefusesOneOf (flat_map faults (operands (w ∷ ws))) r
+  first-refused w ws t r e h =
+      subst (λ ts. RefusesOneOf (flat_map faults ts) r) (sym (first-listed w ws ∙ ap (λ o. listed o ++ operands ws) (sym e))) (refused-left (faults t) (flat_map faults (operands ws)) r h)
+
+  first-passed : (w : Word) (ws : List Word) (t : Term) → Some t ≡ first_operand (w ∷ ws) → faults t ≡ [] → flat_map faults (operands ws) ≡ flat_map faults (operands (w ∷ ws))
+  first-passed w ws t e h = sym (ap (flat_map faults) (first-listed w ws ∙ ap (λ o. listed o ++ operands ws) (sym e)) ∙ ap (λ fs. fs ++ flat_map faults (operands ws)) h)
+
+  none-first : (w : Word) (ws : List Word) → None ≡ first_operand (w ∷ ws) → flat_map faults (operands ws) ≡ flat_map faults (operands (w ∷ ws))
+  none-first w ws e = sym (ap (flat_map faults) (first-listed w ws ∙ ap (λ o. listed o ++ operands ws) (sym e)))
+
 pub operand-refused : (vs : List Variable) (w : Word) (ws : List Word) (t : Term) (r : Refused ElabKind) → Some t ≡ first_operand (w ∷ ws) → RefusesOneOf (operand_faults vs t) r
     → RefusesOneOf (flat_map (operand_faults vs) (operands (w ∷ ws))) r
-operand-refused vs w ws t r e h =
-    subst (λ ts. RefusesOneOf (flat_map (operand_faults vs) ts) r) (sym (first-listed w ws ∙ ap (λ o. listed o ++ operands ws) (sym e))) (refused-left (operand_faults vs t) (flat_map (operand_faults vs) (operands ws)) r h)
+operand-refused vs w ws t r e h = first-refused (operand_faults vs) w ws t r e h
 
 pub operand-passed : (vs : List Variable) (w : Word) (ws : List Word) (t : Term) → Some t ≡ first_operand (w ∷ ws) → operand_faults vs t ≡ []
     → flat_map (operand_faults vs) (operands ws) ≡ flat_map (operand_faults vs) (operands (w ∷ ws))
-operand-passed vs w ws t e h =
-    sym (ap (flat_map (operand_faults vs)) (first-listed w ws ∙ ap (λ o. listed o ++ operands ws) (sym e)) ∙ ap (λ fs. fs ++ flat_map (operand_faults vs) (operands ws)) h)
+operand-passed vs w ws t e h = first-passed (operand_faults vs) w ws t e h
 
 pub no-operand : (vs : List Variable) (w : Word) (ws : List Word) → None ≡ first_operand (w ∷ ws) → flat_map (operand_faults vs) (operands ws) ≡ flat_map (operand_faults vs) (operands (w ∷ ws))
-no-operand vs w ws e = sym (ap (flat_map (operand_faults vs)) (first-listed w ws ∙ ap (λ o. listed o ++ operands ws) (sym e)))
+no-operand vs w ws e = none-first (operand_faults vs) w ws e
+
+pub name-refused : (vs : List Variable) (w : Word) (ws : List Word) (t : Term) (r : Refused ElabKind) → Some t ≡ first_operand (w ∷ ws) → RefusesOneOf (term_faults vs t) r
+    → RefusesOneOf (flat_map (term_faults vs) (operands (w ∷ ws))) r
+name-refused vs w ws t r e h = first-refused (term_faults vs) w ws t r e h
+
+pub name-passed : (vs : List Variable) (w : Word) (ws : List Word) (t : Term) → Some t ≡ first_operand (w ∷ ws) → term_faults vs t ≡ []
+    → flat_map (term_faults vs) (operands ws) ≡ flat_map (term_faults vs) (operands (w ∷ ws))
+name-passed vs w ws t e h = first-passed (term_faults vs) w ws t e h
+
+pub no-name : (vs : List Variable) (w : Word) (ws : List Word) → None ≡ first_operand (w ∷ ws) → flat_map (term_faults vs) (operands ws) ≡ flat_map (term_faults vs) (operands (w ∷ ws))
+no-name vs w ws e = none-first (term_faults vs) w ws e
 
 -- ---- one bit
 

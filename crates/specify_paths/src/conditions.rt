@@ -8,7 +8,7 @@ ghost use Rattle.specify_values.specs.Telling.{Tells};
 ghost use Rattle.specify_paths.specs.Seen.{IsRead};
 ghost use Rattle.specify_paths.specs.Words as def_words;
 
-use crate::terms::check_operand;
+use crate::terms::{check_operand, check_term};
 use cond_expr::{CondFault, Expr, Tok};
 use elab_model::ElabKind;
 use elab_tables::Table;
@@ -74,6 +74,20 @@ fn check_operands(alloc: Global, table: &Table, words: &[Word]) -> Result<(), Re
     while let [_, behind @ ..] = rest {
         if let Some(operand) = operand_at(rest) {
             check_operand(alloc, table, &operand)?;
+        }
+        rest = behind;
+    }
+    Ok(())
+}
+
+/// Refuses a name among words that isn't declared (UnknownName), or whose index is out of range (BadTerminal), at the name.
+pub fn check_names(table: &Table, words: &[Word]) -> Result<(), Refused<ElabKind>>
+    ensures { Tells (flat_map (faults.term_faults table.now) (def.operands (map view_word words.now))) result }
+{
+    let mut rest = words;
+    while let [_, behind @ ..] = rest {
+        if let Some(operand) = operand_at(rest) {
+            check_term(table, &operand)?;
         }
         rest = behind;
     }

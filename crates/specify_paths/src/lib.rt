@@ -10,10 +10,12 @@ mod statements;
 mod styles;
 mod terms;
 
+pub use conditions::condition_of;
 pub use grouping::PathOutput;
 pub use outputs::{PathOutputs, path_outputs};
 pub use pairs::ModulePath;
-pub use statements::{ModuleCondition, Statement};
+pub use statements::{ModuleCondition, Statement, option_edge};
+pub use terms::{check_term, terms_bits};
 
 #[cfg(test)]
 mod tests;

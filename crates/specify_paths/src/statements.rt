@@ -11,7 +11,7 @@ ghost use Rattle.specify_values.specs.Seen.{measured, values_of};
 ghost use Rattle.specify_values.specs.Telling.{Tells};
 ghost use Rattle.specify_paths.specs.Seen.{condition_seen, said_by, said_of};
 
-use crate::conditions::condition_of;
+use crate::conditions::{check_names, condition_of};
 use cond_expr::Expr;
 use elab_model::ElabKind;
 use elab_tables::Table;
@@ -65,7 +65,8 @@ fn edge_of(edge: &EdgeWord) -> Edge
     }
 }
 
-fn option_edge(edge: &Option<EdgeWord>) -> Option<Edge>
+/// The changes that an edge is, where there is one (IEEE 1364-2005, 15.4).
+pub fn option_edge(edge: &Option<EdgeWord>) -> Option<Edge>
     ensures { result ≡ option_map edge_of_word (option_map view_edge edge.now) }
 {
     match edge {
@@ -92,22 +93,17 @@ fn own_condition(
     }
 }
 
-// A data source has no effect, but is looked at.
-fn check_data_source(
-    alloc: Global,
-    table: &Table,
-    place: Place,
-    source: &Option<DataSource>,
-) -> Result<(), Refused<ElabKind>>
-    ensures { Tells (flat_map (faults.condition_faults table.now place) (faults.data_condition (option_map view_data_source source.now))) result }
+// A data source has no effect, but its names are looked at.
+fn check_data_source(table: &Table, source: &Option<DataSource>) -> Result<(), Refused<ElabKind>>
+    ensures { Tells (faults.source_faults table.now (option_map view_data_source source.now)) result }
 {
-    if let Some(source) = source {
-        condition_of(alloc, table, place, &source.words)?;
+    match source {
+        Some(source) => check_names(table, &source.words),
+        None => Ok(()),
     }
-    Ok(())
 }
 
-/// What a specify path says of all its bits. Refuses what `condition_of` and `path_delays` do. Takes memory in proportion to the path.
+/// What a specify path says of all its bits. Refuses what `condition_of` and `path_delays` do, and a name of a data source as `check_names` does. Takes memory in proportion to the path.
 pub fn statement_of(
     alloc: Global,
     by: Measure,
@@ -116,10 +112,11 @@ pub fn statement_of(
     path: &SpecifyPath,
 ) -> Result<Statement, Refused<ElabKind>>
     ensures said { IfOk result (λ s. said_by table.now s ≡ said_of (measured by) table.now (values_of parameters.now) (view_path path.now)) }
-    ensures told { Tells (flat_map (faults.condition_faults table.now path.now.place) (faults.conditions (view_path path.now)) ++ faults.list_faults (measured by) (values_of parameters.now) path.now.place (view_path path.now).delays) result }
+    ensures told { Tells (flat_map (faults.condition_faults table.now path.now.place) (faults.own_condition (view_path path.now).condition) ++ (faults.source_faults table.now (view_path path.now).destination.source
+        ++ faults.list_faults (measured by) (values_of parameters.now) path.now.place (view_path path.now).delays)) result }
 {
     let condition = own_condition(alloc, table, path.place, &path.condition)?;
-    check_data_source(alloc, table, path.place, &path.destination.source)?;
+    check_data_source(table, &path.destination.source)?;
     let delays = path_delays(alloc, by, parameters, path.place, &path.delays)?;
     Ok(Statement {
         edge: option_edge(&path.edge),
