@@ -95,10 +95,11 @@ output_seen vs said o = record { output = bit_seen vs o.output; place = o.place;
 abbrev pub outputs_seen : List Variable → PathOutputs → List PathOutput
 outputs_seen vs p = map (output_seen vs (map (said_by vs) p.statements.items)) p.outputs.items
 
--- the bits of a path, and of all paths of an output, are in the row
-pub record IsInRow (vs : List Variable) (o : code_output.PathOutput) : Type 0 where
+-- the bits of an output's paths are in the row, and their specify paths in a list of so many
+pub record IsInRow (vs : List Variable) (statements : ℕ) (o : code_output.PathOutput) : Type 0 where
   pub output_in_row : o.output < length (all_bits vs)
   pub inputs_in_row : All (λ p. p.input < length (all_bits vs)) o.paths.items
+  pub statements_listed : All (λ p. p.statement < statements) o.paths.items
 
 -- the bits of paths are in the row
 abbrev pub ArePathsInRow : List Variable → List code_to.PathTo → Type 0

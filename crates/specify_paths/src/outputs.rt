@@ -1,5 +1,5 @@
 // The paths of a module.
-ghost use Rattle.std.specs.Prelude.{◌≡◌, All, IfOk};
+ghost use Rattle.std.specs.Prelude.{◌≡◌, All, IfOk, length};
 ghost use Rattle.vl_tree.specs.Seen.{view_module};
 ghost use Rattle.elab_model.specs.Names.{variables};
 ghost use Rattle.specify_model.specs.Blocks.{specify_items};
@@ -38,7 +38,7 @@ pub fn path_outputs(
 ) -> Result<PathOutputs, Refused<ElabKind>>
     requires { table.now ≡ variables (view_module definition.now) }
     ensures outputs { IfOk result (λ p. outputs_seen table.now p ≡ outputs_by (measured by) table.now (specify_items (view_module definition.now))) }
-    ensures row { IfOk result (λ p. All (IsInRow table.now) p.outputs.items) }
+    ensures row { IfOk result (λ p. All (IsInRow table.now (length p.statements.items)) p.outputs.items) }
     ensures told { Tells (faults_by (measured by) table.now (specify_items (view_module definition.now))) result }
 {
     let items = block_items(alloc, definition)?;
