@@ -102,7 +102,7 @@ fn show_path(parts: &Parts, path: &Path, out: &mut String) -> anyhow::Result<()>
         PathCondition::If { written, .. } => write!(out, " if {written}")?,
         PathCondition::IfNone => write!(out, " ifnone")?,
     }
-    if let Some(timing) = parts.leg_timings.get(path.timing as usize) {
+    if let Some(timing) = parts.leg_timings.get(path.timing) {
         write!(out, ":")?;
         for delay in timing.delays.at {
             write!(out, " {delay}")?;

@@ -21,7 +21,7 @@ use std::alloc::Global;
 pub enum ReadyCondition {
     Always,
     /// Unless the value of the condition at this place of the table is 0.
-    If(u32),
+    If(usize),
     /// Where no path of the same input and output may be taken by a condition of its own.
     IfNone,
 }
@@ -32,7 +32,7 @@ pub struct ReadyPath {
     pub input: usize,
     pub edge: Option<Edge>,
     pub condition: ReadyCondition,
-    pub timing: u32,
+    pub timing: usize,
 }
 
 /// An output bit of a module to which paths lead, a place in the row of bits of its table, with the place of its first specify path, its style, and its paths in text order.
@@ -66,7 +66,7 @@ fn shelve_condition(
     match condition {
         ModuleCondition::Always => Ok(ReadyCondition::Always),
         ModuleCondition::If(expression) => {
-            let place = conditions.len() as u32;
+            let place = conditions.len();
             conditions.push(expression)?;
             Ok(ReadyCondition::If(place))
         }
@@ -104,7 +104,7 @@ fn shelve_path(
     timings: &mut Vec<LegTiming>,
 ) -> Result<ReadyPath, NoMemory> {
     let statement = statements[path.statement];
-    let timing = timings.len() as u32;
+    let timing = timings.len();
     timings.push(LegTiming {
         delays: statement.delays,
         limits: Limits12 {

@@ -51,7 +51,7 @@ fn condition_of(
         table: here.table,
         row: here.row,
     };
-    match conditions[written as usize].bind(alloc, &operands) {
+    match conditions[written].bind(alloc, &operands) {
         Ok(bound) => Ok(PathCondition::If { written, bound }),
         Err(BindFault::NoMemory) => Err(NoMemory),
         Err(BindFault::Unknown { .. }) => unreachable!(),

@@ -42,7 +42,7 @@ pub(crate) fn candidate_from<S: Stamps, N: Nets>(
     if !is_on_edge(path.edge, stamp) {
         return None;
     }
-    let pulse = pulse_of(&timings[path.timing as usize], place);
+    let pulse = pulse_of(&timings[path.timing], place);
     Some(Candidate {
         time: time_of_stamp(stamp),
         pulse,

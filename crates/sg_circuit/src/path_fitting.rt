@@ -12,7 +12,7 @@ fn is_indexed_condition(condition: &PathCondition, conditions: usize) -> bool
     ensures { IsTrue result ↔ IsIndexedCondition conditions condition.now }
 {
     match condition {
-        PathCondition::If { written, .. } => (*written as usize) < conditions,
+        PathCondition::If { written, .. } => *written < conditions,
         PathCondition::Always | PathCondition::IfNone => true,
     }
 }
@@ -20,7 +20,7 @@ fn is_indexed_condition(condition: &PathCondition, conditions: usize) -> bool
 fn is_indexed(path: &Path, conditions: usize, timings: usize) -> bool
     ensures { IsTrue result ↔ IsIndexedPath conditions timings path.now }
 {
-    is_indexed_condition(&path.condition, conditions) && (path.timing as usize) < timings
+    is_indexed_condition(&path.condition, conditions) && path.timing < timings
 }
 
 fn all_indexed(paths: &[Path], conditions: usize, timings: usize) -> bool
@@ -52,7 +52,7 @@ fn path_fits(path: &Path, timings: &[LegTiming]) -> bool
     requires { path.now.timing < length timings.now }
     ensures { IsTrue result ↔ AreTimings (timings_at timings.now path.now.timing) }
 {
-    timing_fits(&timings[path.timing as usize])
+    timing_fits(&timings[path.timing])
 }
 
 fn all_fit(paths: &[Path], timings: &[LegTiming]) -> bool

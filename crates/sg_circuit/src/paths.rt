@@ -15,7 +15,7 @@ pub struct Span {
 pub enum PathCondition {
     Always,
     /// Unless its value is 0. `written` is a place in `Parts::conditions`.
-    If { written: u32, bound: Bound },
+    If { written: usize, bound: Bound },
     /// Where no path of the same input and output may be taken by a condition of its own.
     IfNone,
 }
@@ -28,5 +28,5 @@ pub struct Path {
     pub edge: Option<Edge>,
     pub condition: PathCondition,
     /// A place in `Parts::leg_timings`.
-    pub timing: u32,
+    pub timing: usize,
 }

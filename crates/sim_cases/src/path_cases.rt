@@ -61,7 +61,7 @@ impl Output<'_> {
 }
 
 // A path without edge or condition.
-const fn plain(input: u32, timing: u32) -> PathFrom {
+const fn plain(input: u32, timing: usize) -> PathFrom {
     PathFrom {
         input,
         edge: None,
@@ -70,7 +70,7 @@ const fn plain(input: u32, timing: u32) -> PathFrom {
     }
 }
 
-const fn at_edge(input: u32, edge: Edge, timing: u32) -> PathFrom {
+const fn at_edge(input: u32, edge: Edge, timing: usize) -> PathFrom {
     PathFrom {
         input,
         edge: Some(edge),
@@ -79,7 +79,7 @@ const fn at_edge(input: u32, edge: Edge, timing: u32) -> PathFrom {
     }
 }
 
-const fn by(when: When, timing: u32) -> PathFrom {
+const fn by(when: When, timing: usize) -> PathFrom {
     PathFrom {
         input: 0,
         edge: None,

@@ -22,7 +22,7 @@ pub struct PathFrom {
     pub input: u32,
     pub edge: Option<Edge>,
     pub when: When,
-    pub timing: u32,
+    pub timing: usize,
 }
 
 /// The tables of paths and of their conditions.
@@ -52,7 +52,7 @@ impl Paths {
         let tokens = vec![in alloc; Tok::Name(Text::copy(alloc, b"s")?)]?;
         let condition = Expr::read(alloc, &tokens)?;
         let bound = condition.bind(alloc, &Named { net })?;
-        let written = u32::try_from(self.conditions.len())?;
+        let written = self.conditions.len();
         self.conditions.push(condition)?;
         Ok(PathCondition::If { written, bound })
     }
