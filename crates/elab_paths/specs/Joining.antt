@@ -5,7 +5,7 @@ use Rattle.cond_expr.specs.Condition.{Condition}
 use Rattle.sg_circuit.specs.Circuit.{Element, Kind, Gate, Udp, Pass, Leg, Path}
 use Rattle.sg_circuit.specs.PathsSeen.{paths_seen, spanned, AreIndexedPaths}
 use Rattle.sg_circuit.specs.Seen.{delays_at, udp_at}
-use Rattle.sg_circuit.specs.TimingsSeen.{timings_at}
+use Rattle.sg_circuit.specs.TimingsSeen.{leg_timing_seen, timings_at}
 use Rattle.sg_circuit.specs.declared.elements.Element as code
 use Rattle.sg_circuit.specs.declared.elements.ElementKind.{ElementKind}
 use Rattle.sg_circuit.specs.declared.elements.ElementKind.TheVariants as kind
@@ -15,6 +15,7 @@ use Rattle.sg_circuit.specs.declared.paths.Path as code_path
 use Rattle.sg_delay.specs.declared.corners.Corner.{Corner}
 use Rattle.sg_delay.specs.declared.gates.GateDelays.{GateDelays}
 use Rattle.vl_tree.specs.Tree.{Module, Source}
+use Rattle.elab_model.specs.Elements.{leg_kind}
 use Rattle.elab_model.specs.Faults.{Fault}
 use Rattle.elab_model.specs.Hierarchy.{instances}
 use Rattle.elab_model.specs.HierarchyFaults.{count_limit}
@@ -32,13 +33,15 @@ use Rattle.elab_paths.specs.Ready.{HavePaths}
 use Rattle.elab_paths.specs.declared.joining.Joined.{Joined}
 use Rattle.elab_paths.specs.declared.modules.ModulePaths.{ModulePaths}
 
--- the instances, the nets and the elements of a netlist, and the paths of its modules
+-- the instances, of which there aren't too many, the nets and the elements of a netlist, and the paths of its modules; Legs have no delay
 pub record AreGiven (source : Source) (top : Module) (corner : Corner) (library : Library) (modules : ModulePaths) (placed : List Placed) (rows : Rows) (made : Placing) : Type 0 where
   pub are_placed : ArePlaced source placed (instances source top)
+  pub few : length placed ≤ count_limit
   pub is_ready : IsLibrary source corner top library
   pub have_rows : HaveRows source top rows
   pub are_elements : AreElements source top corner library.gate_delays.items library.udps.items made
   pub legs : LegTiming
+  pub without_delay : Leg (leg_timing_seen legs) ≡ leg_kind
   pub have_paths : HavePaths source top corner legs modules
 
 -- the tables whose places the kinds of elements name

@@ -16,7 +16,7 @@ use Rattle.specify_model.specs.Paths.{ModulePath}
 use Rattle.elab_circuit.specs.Faults.{path_faults}
 use Rattle.elab_laws.specs.Handing.{all_bits}
 use Rattle.elab_hierarchy.specs.Tops.{StandsAt}
-use Rattle.specify_paths.specs.Seen.{bit_seen}
+use Rattle.specify_paths.specs.Seen.{bit_seen, IsRead}
 use Rattle.elab_paths.specs.declared.modules.ModulePaths.{ModulePaths}
 use Rattle.elab_paths.specs.declared.shelving.ReadyCondition.{ReadyCondition}
 use Rattle.elab_paths.specs.declared.shelving.ReadyCondition.TheVariants as ready
@@ -67,8 +67,9 @@ HasPaths source top corner made s =
     (place : ℕ) → StandsAt source place s.step.definition
     → (list : List ReadyOutput) × ((option_and_then (λ o. option_map (λ v. v.items) o) (slice_get made.outputs.items place) ≡ Some list) × IsReadyOf corner s.step.definition source top made list)
 
--- so of all instances; no block has a fault, and the first timing is that of Legs
+-- so of all instances; no block has a fault, each condition is what its tokens spell, and the first timing is that of Legs
 pub record HavePaths (source : Source) (top : Module) (corner : Corner) (legs : LegTiming) (made : ModulePaths) : Type 0 where
   pub each : AllByRecursion (HasPaths source top corner made) (instances source top)
   pub faultless : path_faults source top corner ≡ []
+  pub read : All (λ c. IsRead c.tokens c) made.conditions.items
   pub first : slice_get made.timings.items 0 ≡ Some legs
