@@ -24,17 +24,14 @@ pub fn path_timing() -> anyhow::Result<LegTiming> {
     })
 }
 
-// The way from the net that a stage drives inside to its output, by the path of this number.
-fn way(alloc: Global, inner: u32, output: u32, number: u32) -> Result<Element, NoMemory> {
+// The way from the net that a stage drives inside to its output, by these paths.
+fn way(alloc: Global, inner: u32, output: u32, paths: Span) -> Result<Element, NoMemory> {
     Ok(Element {
         scope: 0,
         inputs: SmallVec::from_slice(alloc, &[inner])?,
         output,
         kind: ElementKind::Path {
-            paths: Span {
-                start: number,
-                end: number + 1,
-            },
+            paths,
             style: PulseStyle::OnEvent,
         },
     })
@@ -59,9 +56,13 @@ pub fn stages(alloc: Global, count: u32) -> anyhow::Result<Joined> {
             .nets
             .push(net(alloc, input + 2, Driver::Element(input + 1))?)?;
         joined.elements.push(inverter(alloc, input, input + 1, 0)?)?;
+        let path = Span {
+            start: number,
+            end: number + 1,
+        };
         joined
             .elements
-            .push(way(alloc, input + 1, input + 2, number)?)?;
+            .push(way(alloc, input + 1, input + 2, path)?)?;
         joined.paths.push(Path {
             input,
             edge: None,
