@@ -7,7 +7,7 @@ use Rattle.sg_circuit.specs.Circuit.{Circuit}
 use Rattle.run_words.specs.Words.{Command, command_of, names_in}
 use Rattle.signoff_top.specs.Phases.{Refusal, Then, stops, goes_on, CircuitOutcome}
 use Rattle.signoff_top.specs.Promises.{FaultAt, at_netlist, at_stimulus, NamesFaultAt}
-use Rattle.signoff_top.specs.Stops.{FailsAtOne, Gives, IfFailed, IfOutcome, refusal_seen, StopWords}
+use Rattle.signoff_top.specs.Stops.{FailsAtOne, Gives, IfFailed, IfOutcome, refusal_seen, SparesWords, StopWords}
 use Rattle.signoff_top.specs.declared.stop.Stop as code_stop
 use Rattle.signoff_top.specs.declared.stop.Stop.TheVariants as stop
 use Rattle.signoff_top.proofs.Putting.{both_same}
@@ -39,6 +39,15 @@ gives_then {X} {Y} {A} {B} {view} {whole} {first} {next} {x} {o} h k = record { 
 pub words_command : {X : Type 0} (view : X → Command) (o : Option Command) (x : X) → StopWords o (λ c y. c ≡ view y) (Ok x) → o ≡ Some (view x)
 words_command view None x h = absurd h
 words_command view (Some c) x h = ap Some h
+
+-- where they asked for something, a later stop isn't theirs, and what comes of it stands
+pub words_spared : {X Y : Type 0} (P : Command → X → Type 0) (Q : Command → Y → Type 0) (o : Option Command) (x : X) (s : code_stop.Stop) → StopWords o P (Ok x) → SparesWords s → StopWords o Q (Err s)
+words_spared P Q None x s h k = absurd h
+words_spared P Q (Some c) x s h k = k
+
+pub words_kept : {X Y : Type 0} (P : Command → X → Type 0) (Q : Command → Y → Type 0) (o : Option Command) (x : X) (y : Y) → StopWords o P (Ok x) → ((c : Command) → P c x → Q c y) → StopWords o Q (Ok y)
+words_kept P Q None x y h f = absurd h
+words_kept P Q (Some c) x y h f = f c h
 
 pub failed_again : (X Y : Type 0) (P Q : Type 0) (s : code_stop.Stop) → (P → Q) → IfFailed {X = X} P (Err s) → IfFailed {X = Y} Q (Err s)
 failed_again X Y P Q (stop.Refused r) f h = tt
