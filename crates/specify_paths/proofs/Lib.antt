@@ -2,6 +2,9 @@
 pub mod RowBits
 pub mod Grouped
 pub mod Bridged
+pub mod Added
+pub mod Between
+pub mod Rows
 pub mod Chosen
 pub mod InOrder
 pub mod Operands
