@@ -1,8 +1,12 @@
 -- The modules of this folder.
 pub mod RowBits
+pub mod TermBits
+pub mod SuchPorts
 pub mod Grouped
 pub mod Bridged
 pub mod Chosen
 pub mod InOrder
 pub mod Operands
+pub mod Sides
+pub mod Stating
 pub mod Whole
