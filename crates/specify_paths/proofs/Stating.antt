@@ -1,8 +1,9 @@
 -- What a specify path says of all its bits, part by part.
-use Rattle.std.specs.Prelude.{◌≡◌, ℕ, List, [], ◌∷◌, ◌++◌, Option, Ok, flat_map, map}
+use Rattle.std.specs.Prelude.{◌≡◌, ℕ, List, [], ◌∷◌, ◌++◌, Option, Ok, flat_map, map, refl}
 use Rattle.std.specs.Option.{option_map}
 use Rattle.std.proofs.Common.{sym, ◌∙◌, ap, subst, Vec, Global}
 use Rattle.cond_expr.specs.Condition.{Condition}
+use Rattle.cond_expr.specs.Token.{Tok}
 use Rattle.sg_delay.specs.declared.expansion.Delays12.{Delays12}
 use Rattle.sg_logic.specs.declared.edges.Edge.{Edge}
 use Rattle.sg_text.specs.declared.places.Place.{Place}
@@ -16,7 +17,7 @@ use Rattle.elab_model.specs.declared.kinds.ElabKind.{ElabKind}
 use Rattle.elab_model.specs.Faults.{RefusesOneOf}
 use Rattle.elab_model.specs.Names.{Variable}
 use Rattle.elab_names.proofs.Refusals.{refused-left}
-use Rattle.specify_model.specs.Conditions.{ModuleCondition, If, condition_of, condition_over, operand_bit, over, tokens}
+use Rattle.specify_model.specs.Conditions.{ModuleCondition, If, condition_of, condition_over, operand_bit, over, tokens, tree_of}
 use Rattle.specify_model.specs.Faults.{condition_faults, own_condition}
 use Rattle.specify_model.specs.Paths.{edge_of}
 use Rattle.specify_model.specs.Values.{Measure, Values, all_delays, expanded, twelve_delays}
@@ -47,3 +48,6 @@ module _ (vs : List Variable) (p : Place) (k : code.PathCondition) (ws : Vec cod
   pub own-bound : (e : Condition) → IsRead (tokens (map view_word xs)) e → If e.tokens (over (operand_bit vs e.tokens) e.tree) ≡ condition_of vs (view_path_condition k)
   own-bound e h =
       condition-bound vs (tokens (map view_word xs)) e h ∙ ap (λ ys. condition_over vs (tokens (map view_word ys))) words_are ∙ ap (λ q. condition_of vs (view_path_condition q)) (sym is)
+
+pub read-own : (ts : List Tok) (e : Condition) → IsRead ts e → IsRead e.tokens e
+read-own ts e h = record { tokens_are = refl; tree_is = ap tree_of h.tokens_are ∙ h.tree_is }
