@@ -4,6 +4,9 @@ pub mod TermBits
 pub mod SuchPorts
 pub mod Grouped
 pub mod Bridged
+pub mod Added
+pub mod Between
+pub mod Rows
 pub mod Chosen
 pub mod InOrder
 pub mod Operands

@@ -1,5 +1,5 @@
 -- What the specify paths so far say, their paths, and the faults of the others.
-use Rattle.std.proofs.Common.{◌≡◌, map, take}
+use Rattle.std.proofs.Common.{◌≡◌, length, map, take}
 use Rattle.std.specs.Prelude.{flat_map}
 use Rattle.vl_tree.specs.Seen.{view_path}
 use Rattle.specify_model.specs.Faults.{path_faults}
@@ -16,5 +16,5 @@ invariant-loop-path l =
     (map (said_by l.table) l.statements.items ≡ map (said_of by l.table values) (view_paths (take l.path-index l.items.paths.items)))
     × (map (path_to_seen l.table (map (said_of by l.table values) (view_paths l.items.paths.items))) l.list.items
     ≡ flat_map (paths_of by l.table values (limits_seen l.limits)) (view_paths (take l.path-index l.items.paths.items)))
-    × ArePathsInRow l.table l.list.items
+    × ArePathsInRow l.table (length l.items.paths.items) l.list.items
     × left_from (λ p. view_path p.now) (path_faults by l.table values) l.items.paths.items l.path-index
