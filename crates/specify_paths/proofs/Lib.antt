@@ -1,6 +1,7 @@
 -- The modules of this folder.
 pub mod RowBits
 pub mod TermBits
+pub mod FirstFault
 pub mod SuchPorts
 pub mod Grouped
 pub mod Bridged

@@ -28,11 +28,11 @@ module _ (such : Port → Bool) (vs : List Variable) (t : Term) where
   is-no i p b e port is = ap (is_no such) (named-at vs t.name.text i e).found ∙ ap not (sym (is ∙ ap such port))
 
   pub such-port : (i : ℕ) (p : Port) (b : Bool) → term_faults vs t ≡ [] → Some i ≡ place_named vs t.name.text → p ≡ (variable_at vs i).port → b ≡ such p → b ≡ true → port_faults such vs t ≡ []
-  such-port i p b h e port is yes =
-      ap (λ fs. fs ++ fault_if (is_no such (variable_named vs t.name.text)) BadTerminal t.name.place) h ∙ ap (λ n. fault_if n BadTerminal t.name.place) (is-no i p b e port is ∙ ap not yes)
+  such-port i p b h e port is holds =
+      ap (λ fs. fs ++ fault_if (is_no such (variable_named vs t.name.text)) BadTerminal t.name.place) h ∙ ap (λ n. fault_if n BadTerminal t.name.place) (is-no i p b e port is ∙ ap not holds)
 
   pub no-such_port : (i : ℕ) (p : Port) (b : Bool) → Some i ≡ place_named vs t.name.text → p ≡ (variable_at vs i).port → b ≡ such p → b ≡ false
       → RefusesOneOf (port_faults such vs t) (refused.Fault BadTerminal t.name.place)
-  no-such_port i p b e port is no =
+  no-such_port i p b e port is fails =
       refused-right (term_faults vs t) _ (refused.Fault BadTerminal t.name.place)
-      (fault-told (is_no such (variable_named vs t.name.text)) BadTerminal t.name.place (is-no i p b e port is ∙ ap not no))
+      (fault-told (is_no such (variable_named vs t.name.text)) BadTerminal t.name.place (is-no i p b e port is ∙ ap not fails))

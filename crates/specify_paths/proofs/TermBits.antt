@@ -22,30 +22,31 @@ use Rattle.specify_paths.specs.Seen.{AreInRow, bit_seen, bits_seen}
 
 -- ---- a bit more
 
-module _ (vs : List Variable) (xs : List code.Bit) (i : ℕ) (x : code.Bit) where
+module _ (vs : List Variable) (xs : List code.Bit) (i : ℕ) (d : code.Bit) where
   abbrev left : List NetBit
   left = filter_map net_bit (map (view_bit vs) (drop (i + 1) xs))
 
-  next : i < length xs → x ≡ slice_index_or xs i x → map (view_bit vs) (drop i xs) ≡ view_bit vs x ∷ map (view_bit vs) (drop (i + 1) xs)
-  next lt at =
+  next : (x : code.Bit) → i < length xs → slice_index_or xs i d ≡ x → map (view_bit vs) (drop i xs) ≡ view_bit vs x ∷ map (view_bit vs) (drop (i + 1) xs)
+  next x lt is =
       let n : suc i ≡ i + 1 = omega arith in
-      ap (map (view_bit vs)) (drop-cons xs i x lt ∙ ap (λ y. y ∷ drop (suc i) xs) (sym at)) ∙ ap (λ k. view_bit vs x ∷ map (view_bit vs) (drop k xs)) n
+      ap (map (view_bit vs)) (drop-cons xs i d lt ∙ ap (λ y. y ∷ drop (suc i) xs) is) ∙ ap (λ k. view_bit vs x ∷ map (view_bit vs) (drop k xs)) n
 
-  pub net-added : (p : ℕ) (old new : List ℕ) (total : List NetBit) → i < length xs → x ≡ slice_index_or xs i x → x ≡ bit.Net p → new ≡ old ++ p ∷ []
+  pub net-added : (p : ℕ) (old new : List ℕ) (total : List NetBit) → i < length xs → slice_index_or xs i d ≡ bit.Net p → new ≡ old ++ p ∷ []
       → bits_seen vs old ++ filter_map net_bit (map (view_bit vs) (drop i xs)) ≡ total → bits_seen vs new ++ left ≡ total
-  net-added p old new total lt at is more h =
+  net-added p old new total lt is more h =
       ap (λ ps. bits_seen vs ps ++ left) more ∙ ap (λ bs. bs ++ left) (map-append (bit_seen vs) old (p ∷ [])) ∙ append_assoc (bits_seen vs old) (bit_seen vs p ∷ []) left
-      ∙ ap (λ bs. bits_seen vs old ++ filter_map net_bit bs) (sym (next lt at ∙ ap (λ y. view_bit vs y ∷ map (view_bit vs) (drop (i + 1) xs)) is)) ∙ h
+      ∙ ap (λ bs. bits_seen vs old ++ filter_map net_bit bs) (sym (next (bit.Net p) lt is)) ∙ h
 
-  pub constant-passed : (p : Place) (v : Value) (old : List ℕ) (total : List NetBit) → i < length xs → x ≡ slice_index_or xs i x → x ≡ bit.Constant p v
-      → bits_seen vs old ++ filter_map net_bit (map (view_bit vs) (drop i xs)) ≡ total → bits_seen vs old ++ left ≡ total
-  constant-passed p v old total lt at is h =
-      ap (λ bs. bits_seen vs old ++ filter_map net_bit bs) (sym (next lt at ∙ ap (λ y. view_bit vs y ∷ map (view_bit vs) (drop (i + 1) xs)) is)) ∙ h
+  pub constant-passed : (p : Place) (v : Value) (old new : List ℕ) (total : List NetBit) → i < length xs → slice_index_or xs i d ≡ bit.Constant p v → new ≡ old
+      → bits_seen vs old ++ filter_map net_bit (map (view_bit vs) (drop i xs)) ≡ total → bits_seen vs new ++ left ≡ total
+  constant-passed p v old new total lt is same h = ap (λ ps. bits_seen vs ps ++ left) same ∙ ap (λ bs. bits_seen vs old ++ filter_map net_bit bs) (sym (next (bit.Constant p v) lt is)) ∙ h
 
-  pub net-in_row : (p : ℕ) (old new : List ℕ) → i < length xs → x ≡ slice_index_or xs i x → x ≡ bit.Net p → new ≡ old ++ p ∷ [] → All (IsInRow vs) xs → AreInRow vs old → AreInRow vs new
-  net-in_row p old new lt at is more bits row =
-      All-same (λ k. IsInRow vs (bit.Net k)) new (old ++ p ∷ []) more
-      (All-push (λ k. IsInRow vs (bit.Net k)) old p row (subst (IsInRow vs) is (subst (IsInRow vs) (sym at) (bits i x lt))))
+  pub net-in_row : (p : ℕ) (old new : List ℕ) → i < length xs → slice_index_or xs i d ≡ bit.Net p → new ≡ old ++ p ∷ [] → All (IsInRow vs) xs → AreInRow vs old → AreInRow vs new
+  net-in_row p old new lt is more bits row =
+      All-same (λ k. IsInRow vs (bit.Net k)) new (old ++ p ∷ []) more (All-push (λ k. IsInRow vs (bit.Net k)) old p row (subst (IsInRow vs) is (bits i d lt)))
+
+pub same-row : (vs : List Variable) (old new : List ℕ) → new ≡ old → AreInRow vs old → AreInRow vs new
+same-row vs old new e h = subst (AreInRow vs) (sym e) h
 
 -- ---- a term
 
