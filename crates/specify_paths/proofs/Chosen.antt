@@ -1,6 +1,6 @@
 -- Styles that are chosen one after another.
-use Rattle.std.specs.Prelude.{◌≡◌, ℕ, ◌+◌, ◌<◌, ◌≤◌, ◌==◌, ◌||◌, List, [], ◌∷◌, ◌++◌, Bool, true, false, cond, Option, Some, None, unwrap_or, filter_map, length, map, slice_index_or, take, refl, if◌then◌else◌}
-use Rattle.std.specs.List.{list_any, last_or, AllByRecursion}
+use Rattle.std.specs.Prelude.{◌≡◌, ℕ, suc, ◌+◌, ◌<◌, ◌≤◌, ◌==◌, ◌||◌, List, [], ◌∷◌, ◌++◌, Bool, true, false, cond, Option, Some, None, unwrap_or, filter_map, length, map, slice_index_or, take, refl, if◌then◌else◌}
+use Rattle.std.specs.List.{list_any, last_or}
 use Rattle.std.specs.Option.{option_or}
 use Rattle.std.proofs.Common.{sym, ◌∙◌, ap, arith}
 use Rattle.std.proofs.lemmas.List.{map-append, take_more, take_all}
@@ -15,7 +15,7 @@ use Rattle.specify_model.specs.Outputs.{names_bit, style_of, chosen_style}
 use Rattle.specify_model.specs.Terms.{NetBit, is_same_bit, terms_bits}
 use Rattle.specify_values.specs.Seen.{view_style}
 use Rattle.specify_values.specs.declared.items.StyleText as code
-use Rattle.specify_paths.specs.Seen.{AreApart, bit_seen, bits_seen}
+use Rattle.specify_paths.specs.Seen.{AreApart, AreInRow, bit_seen, bits_seen}
 use Rattle.specify_paths.specs.Words.{with_style}
 
 -- ---- one bit more in a table
@@ -43,16 +43,20 @@ next-chosen old new first s bits k b lt at put h i =
     by true = refl
     by false = h i
 
+pub all-chosen : (new first : ℕ → PulseStyle) (s : PulseStyle) (bits : List ℕ) (k : ℕ) → length bits ≤ k → ((i : ℕ) → new i ≡ with_style first s (take k bits) i) → (i : ℕ) → new i ≡ with_style first s bits i
+all-chosen new first s bits k le h i = h i ∙ ap (λ bs. with_style first s bs i) (take_all k bits le)
+
 -- ---- places and bits
 
 module _ (vs : List Variable) (apart : AreApart vs) where
-  pub any-place : (i : ℕ) (ks : List ℕ) → i < length (all_bits vs) → AllByRecursion (λ k. k < length (all_bits vs)) ks → list_any (λ k. i == k) ks ≡ list_any (is_same_bit (bit_seen vs i)) (bits_seen vs ks)
+  any-place : (i : ℕ) (ks : List ℕ) → i < length (all_bits vs) → AreInRow vs ks → list_any (λ k. i == k) ks ≡ list_any (is_same_bit (bit_seen vs i)) (bits_seen vs ks)
   any-place i [] h g = refl
-  any-place i (k ∷ ks) h g = ap (λ b. b || list_any (λ k. i == k) ks) (sym (apart i k h g.0)) ∙ ap (λ b. is_same_bit (bit_seen vs i) (bit_seen vs k) || b) (any-place i ks h g.1)
+  any-place i (k ∷ ks) h g = ap (λ b. b || list_any (λ k. i == k) ks) (sym (apart i k h (g 0 k (omega arith))))
+      ∙ ap (λ b. is_same_bit (bit_seen vs i) (bit_seen vs k) || b) (any-place i ks h (λ j d lt. g (suc j) d (omega (arith, lt))))
 
   -- a choice that is made
   pub made : (s : StyleText) (c : PulseStyle) (bits : List ℕ) (first : ℕ → PulseStyle) (i : ℕ) → Some c ≡ chosen_style s.style → bits_seen vs bits ≡ terms_bits vs s.terms
-      → AllByRecursion (λ k. k < length (all_bits vs)) bits → i < length (all_bits vs) → with_style first c bits i ≡ unwrap_or (names_bit vs (bit_seen vs i) s) (first i)
+      → AreInRow vs bits → i < length (all_bits vs) → with_style first c bits i ≡ unwrap_or (names_bit vs (bit_seen vs i) s) (first i)
   made s c bits first i is seen row lt =
       ap (λ t. if t then c else first i) (any-place i bits lt row ∙ ap (list_any (is_same_bit (bit_seen vs i))) seen) ∙ by (list_any (is_same_bit (bit_seen vs i)) (terms_bits vs s.terms))
     where

@@ -1,5 +1,8 @@
 -- The modules of this folder.
 pub mod RowBits
+pub mod TermBits
+pub mod FirstFault
+pub mod SuchPorts
 pub mod Grouped
 pub mod Bridged
 pub mod Added
@@ -8,4 +11,6 @@ pub mod Rows
 pub mod Chosen
 pub mod InOrder
 pub mod Operands
+pub mod Sides
+pub mod Stating
 pub mod Whole
