@@ -1,7 +1,8 @@
 -- Lists that grow in turn: what is there, followed by what is left, is the whole.
-use Rattle.std.specs.Prelude.{◌≡◌, ◌⊎◌, ℕ, zero, suc, ◌+◌, ◌<◌, ◌≤◌, List, [], ◌∷◌, ◌++◌, length, map, flat_map, slice_index_or, take, zip, refl}
+use Rattle.std.specs.Prelude.{◌≡◌, ◌⊎◌, ℕ, zero, suc, ◌+◌, ◌<◌, ◌≤◌, List, [], ◌∷◌, ◌++◌, All, length, map, flat_map, slice_index_or, take, zip, refl}
 use Rattle.std.proofs.Common.{sym, ◌∙◌, ap, arith, subst, inl, inr, drop, drop-cons, append_assoc, append-nil}
 use Rattle.std.proofs.lemmas.List.{map-append, length-map, take_more, take_all, drop_all}
+use Rattle.std.proofs.lemmas.List.Elements.{All-push}
 use Rattle.std.proofs.lemmas.Grind.{flat_map-append}
 
 -- ---- an item of a list, or of one that it is
@@ -22,6 +23,9 @@ dropped xs i x lt at =
 
 pub taken : {A : Type 0} (xs : List A) (i : ℕ) (x : A) → i < length xs → x ≡ slice_index_or xs i x → take (i + 1) xs ≡ take i xs ++ x ∷ []
 taken xs i x lt at = take_more xs i x lt ∙ ap (λ y. take i xs ++ y ∷ []) (sym at)
+
+pub grown-all : {A : Type 0} (P : A → Type 0) (xs new : List A) (x : A) → new ≡ xs ++ x ∷ [] → All P xs → P x → All P new
+grown-all P xs new x grown all one = subst (All P) (sym grown) (All-push P xs x all one)
 
 -- the item that is read with a default
 pub item-read : {A : Type 0} (xs : List A) (i : ℕ) (d : A) → i < length xs → slice_index_or xs i d ≡ slice_index_or xs i (slice_index_or xs i d)
