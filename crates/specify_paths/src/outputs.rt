@@ -37,14 +37,14 @@ fn all_paths(
     table: &Table,
     parameters: &Parameters,
     limits: &PulseLimits,
-    paths: &[&SpecifyPath],
+    paths: Vec<&SpecifyPath>,
 ) -> Result<(Vec<Statement>, Vec<PathTo>), Refused<ElabKind>>
-    ensures said { IfOk result (λ r. map (said_by table.now) r.0.items ≡ map (said_of (measured by) table.now (values_of parameters.now)) (view_paths paths.now)) }
-    ensures list { IfOk result (λ r. map (path_to_seen table.now (map (said_of (measured by) table.now (values_of parameters.now)) (view_paths paths.now))) r.1.items
-        ≡ flat_map (paths_of (measured by) table.now (values_of parameters.now) (limits_seen limits.now)) (view_paths paths.now)) }
-    ensures row { IfOk result (λ r. ArePathsInRow table.now (length paths.now) r.1.items) }
+    ensures said { IfOk result (λ r. map (said_by table.now) r.0.items ≡ map (said_of (measured by) table.now (values_of parameters.now)) (view_paths paths.entry.items)) }
+    ensures list { IfOk result (λ r. map (path_to_seen table.now (map (said_of (measured by) table.now (values_of parameters.now)) (view_paths paths.entry.items))) r.1.items
+        ≡ flat_map (paths_of (measured by) table.now (values_of parameters.now) (limits_seen limits.now)) (view_paths paths.entry.items)) }
+    ensures row { IfOk result (λ r. ArePathsInRow table.now (length paths.entry.items) r.1.items) }
     ensures spelled { IfOk result (λ r. All (λ s. IsSpelled s.condition) r.0.items) }
-    ensures told { Tells (flat_map (path_faults (measured by) table.now (values_of parameters.now)) (view_paths paths.now)) result }
+    ensures told { Tells (flat_map (path_faults (measured by) table.now (values_of parameters.now)) (view_paths paths.entry.items)) result }
 {
     let mut statements = Vec::new(alloc);
     let mut list = Vec::new(alloc);
@@ -74,7 +74,7 @@ pub fn path_outputs(
     let items = block_items(alloc, definition)?;
     let parameters = specparams(alloc, &items.parameters)?;
     let limits = pulse_limits(alloc, by, table, &items.pulses)?;
-    let (statements, list) = all_paths(alloc, by, table, &parameters, &limits, &items.paths)?;
+    let (statements, list) = all_paths(alloc, by, table, &parameters, &limits, items.paths)?;
     let styles = styles_of(alloc, table, &items.styles)?;
     let outputs = group(alloc, &styles, &list)?;
     Ok(PathOutputs {
