@@ -1,5 +1,6 @@
 -- The paths of one specify path, as the definition has them.
 use Rattle.std.specs.Prelude.{◌≡◌, ℕ, ◌+◌, ◌<◌, ◌≤◌, List, [], ◌∷◌, ◌++◌, Option, Some, length, map, flat_map, slice_get, slice_index_or, take, refl}
+use Rattle.std.specs.Borrow.{Bor}
 use Rattle.std.specs.Option.{option_map}
 use Rattle.std.proofs.Common.{sym, ◌∙◌, ap}
 use Rattle.std.proofs.lemmas.List.{length-map, length-take-le, take_all}
@@ -8,12 +9,14 @@ use Rattle.elab_laws.specs.Handing.{all_bits}
 use Rattle.elab_model.specs.Names.{Variable}
 use Rattle.sg_delay.specs.declared.limits.Widths.{Widths}
 use Rattle.sg_text.specs.declared.places.Place.{Place}
+use Rattle.vl_tree.specs.Seen.{view_path}
+use Rattle.vl_tree.specs.declared.paths.SpecifyPath as code_path
 use Rattle.vl_tree.specs.Tree.{SpecifyPath}
 use Rattle.specify_model.specs.Paths.{PathTo as Seen, paths_of, timings_with}
 use Rattle.specify_model.specs.PulseLimits.{Limits}
 use Rattle.specify_model.specs.Terms.{NetBit, pairs, terms_bits}
 use Rattle.specify_model.specs.Values.{Measure, Values}
-use Rattle.specify_values.specs.Seen.{widths_seen}
+use Rattle.specify_values.specs.Seen.{view_paths, widths_seen}
 use Rattle.specify_paths.specs.Seen.{Said, bit_seen, path_to_seen, path_said, said_at, said_by, said_of}
 use Rattle.specify_paths.specs.declared.pairs.PathTo.{PathTo}
 use Rattle.specify_paths.specs.declared.statements.Statement as code_statement
@@ -79,9 +82,9 @@ module _ {A : Type 0} (view : A → SpecifyPath) (by : Measure) (vs : List Varia
   pub all-so_far : (i : ℕ) (ss : List code_statement.Statement) → length xs ≤ i → map (said_by vs) ss ≡ said_so_far i → map (said_by vs) ss ≡ all_said
   all-so_far i ss le h = h ∙ ap (λ ys. map (said_of by vs values) (map view ys)) (take_all i xs le)
 
-  pub all-counted : (i : ℕ) (ss : List code_statement.Statement) → length xs ≤ i → map (said_by vs) ss ≡ said_so_far i → length ss ≡ length xs
-  all-counted i ss le h =
-      sym (length-map ss (said_by vs)) ∙ ap length (all-so_far i ss le h) ∙ length-map (map view xs) (said_of by vs values) ∙ length-map xs view
-
   pub all-paths : (limits : Limits) (i : ℕ) (seen : List Seen) → length xs ≤ i → seen ≡ flat_map (paths_of by vs values limits) (map view (take i xs)) → seen ≡ flat_map (paths_of by vs values limits) (map view xs)
   all-paths limits i seen le h = h ∙ ap (λ ys. flat_map (paths_of by vs values limits) (map view ys)) (take_all i xs le)
+
+-- how many there are
+pub said-counted : (by : Measure) (vs : List Variable) (values : Values) (ps : List (Bor code_path.SpecifyPath)) (ss : List code_statement.Statement) → map (said_by vs) ss ≡ map (said_of by vs values) (view_paths ps) → length ss ≡ length ps
+said-counted by vs values ps ss h = sym (length-map ss (said_by vs)) ∙ ap length h ∙ length-map (view_paths ps) (said_of by vs values) ∙ length-map ps (λ p. view_path p.now)

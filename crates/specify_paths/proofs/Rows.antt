@@ -1,18 +1,31 @@
 -- Paths of which the bits are in the row stay so when they are put together by their outputs.
-use Rattle.std.specs.Prelude.{◌≡◌, ℕ, ◌<◌, ◌==◌, All, List, [], ◌∷◌, Bool, true, false, length, map, filter, if◌then◌else◌}
+use Rattle.std.specs.Prelude.{◌≡◌, ℕ, ◌<◌, ◌==◌, All, List, [], ◌∷◌, ◌++◌, Bool, true, false, length, map, filter, slice_index_or, if◌then◌else◌}
 use Rattle.std.specs.List.{AllByRecursion, list_any}
 use Rattle.std.proofs.Common.{sym, ap, subst}
-use Rattle.std.proofs.lemmas.List.Elements.{All-from_recursion, recursion_from_All}
+use Rattle.std.proofs.lemmas.List.Elements.{All-from_recursion, All-push, recursion_from_All}
 use Rattle.elab_laws.specs.Handing.{all_bits}
 use Rattle.elab_model.specs.Names.{Variable}
 use Rattle.sg_delay.specs.declared.limits.PulseStyle.{PulseStyle}
-use Rattle.specify_paths.specs.Seen.{ArePathsInRow, IsInRow, IsPathInRow}
+use Rattle.specify_paths.specs.Seen.{AreInRow, ArePathsInRow, IsInRow, IsPathInRow}
 use Rattle.specify_paths.specs.Words.{Output, first_to_each, grouped, output_at, output_kept, paths_at}
 use Rattle.specify_paths.specs.declared.grouping.PathOutput as code_output
 use Rattle.specify_paths.specs.declared.pairs.ModulePath.{ModulePath}
 use Rattle.specify_paths.specs.declared.pairs.PathTo.{PathTo}
 
+pub item-in_row : (vs : List Variable) (xs : List ℕ) (i x : ℕ) → i < length xs → x ≡ slice_index_or xs i x → AreInRow vs xs → x < length (all_bits vs)
+item-in_row vs xs i x lt at h = subst (λ k. k < length (all_bits vs)) (sym at) (h i x lt)
+
 module _ (vs : List Variable) (statements : ℕ) where
+  pub path-in_row : (p : PathTo) (i o s : ℕ) → p.path.input ≡ i → p.output ≡ o → p.path.statement ≡ s → i < length (all_bits vs) → o < length (all_bits vs) → s < statements → IsPathInRow vs statements p
+  path-in_row p i o s input output number i_in o_in s_in = record {
+    output_in_row = subst (λ k. k < length (all_bits vs)) (sym output) o_in;
+    input_in_row = subst (λ k. k < length (all_bits vs)) (sym input) i_in;
+    statement_listed = subst (λ k. k < statements) (sym number) s_in;
+  }
+
+  pub one-more_in_row : (list new : List PathTo) (p : PathTo) → new ≡ list ++ p ∷ [] → IsPathInRow vs statements p → ArePathsInRow vs statements list → ArePathsInRow vs statements new
+  one-more_in_row list new p grown one all = subst (ArePathsInRow vs statements) (sym grown) (All-push (IsPathInRow vs statements) list p all one)
+
   -- what holds of all paths holds of those that lead to an output
   paths-in : (Q : ModulePath → Type 0) (b : ℕ) (ps : List PathTo) → ((p : PathTo) → IsPathInRow vs statements p → Q p.path) → AllByRecursion (IsPathInRow vs statements) ps → AllByRecursion Q (paths_at b ps)
   paths-in Q b [] f h = tt
