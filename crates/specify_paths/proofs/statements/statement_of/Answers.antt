@@ -1,10 +1,10 @@
 -- The parts of a specify path one after another.
-use Rattle.std.specs.Prelude.{flat_map, map}
+use Rattle.std.specs.Prelude.{map}
 use Rattle.std.proofs.Common.{sym, ◌∙◌, ap, subst}
 use Rattle.std.proofs.lemmas.Result.{err_from_is_err_and}
 use Rattle.vl_tree.specs.Seen.{view_amounts, view_path}
 use Rattle.elab_model.specs.Faults.{RefusesOneOf}
-use Rattle.specify_model.specs.Faults.{condition_faults, own_condition, source_faults, list_faults}
+use Rattle.specify_model.specs.Faults.{list_faults}
 use Rattle.specify_model.specs.Values.{expanded}
 use Rattle.specify_values.specs.Seen.{measured, values_of}
 use Rattle.specify_values.proofs.InTurn.{exit}

@@ -1,5 +1,5 @@
 -- One more bit has the style, and at the end all have.
-use Rattle.std.proofs.Common.{◌==◌, ℕ}
+use Rattle.std.proofs.Common.{◌==◌}
 use Rattle.indexmap.specs.IndexMap.{get_by}
 use Rattle.specify_paths.specs.Words.{style_at}
 use Rattle.specify_paths.proofs.Chosen.{next-chosen, all-chosen}
