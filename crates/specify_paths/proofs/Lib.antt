@@ -12,5 +12,6 @@ pub mod Chosen
 pub mod InOrder
 pub mod Operands
 pub mod Sides
+pub mod Changes
 pub mod Stating
 pub mod Whole

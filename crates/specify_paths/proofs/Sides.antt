@@ -1,10 +1,15 @@
 -- The two sides of a path: their terms are sound, and whether their widths differ.
 use Rattle.std.specs.Prelude.{◌≡◌, ℕ, List, [], ◌∷◌, ◌++◌, Bool, true, false, ◌&&◌, not, ◌==◌, flat_map, length, map, refl}
 use Rattle.std.proofs.Common.{sym, ◌∙◌, ap}
+use Rattle.std.proofs.lemmas.Bool.{eqb-true}
+use denote.Enum.Bare.{sameb}
 use Rattle.std.proofs.lemmas.List.{length-map}
 use Rattle.sg_circuit.specs.declared.scopes.Port.{Port}
 use Rattle.sg_text.specs.declared.refusals.Refused.{Refused}
 use Rattle.sg_text.specs.declared.refusals.Refused.TheVariants as refused
+use Rattle.vl_tree.specs.contracts.paths.Arrow.{the_type}
+use Rattle.vl_tree.specs.declared.paths.Arrow.{Arrow}
+use Rattle.vl_tree.specs.declared.paths.Arrow.TheVariants.{Parallel, Full}
 use Rattle.vl_tree.specs.Tree.{Term, SpecifyPath}
 use Rattle.elab_model.specs.declared.kinds.ElabKind.{ElabKind}
 use Rattle.elab_model.specs.declared.kinds.ElabKind.TheVariants.{WidthMismatch}
@@ -27,6 +32,18 @@ sound such vs (t ∷ ts) h =
 
 count : (vs : List Variable) (is : List ℕ) (ts : List Term) → bits_seen vs is ≡ terms_bits vs ts → length is ≡ length (terms_bits vs ts)
 count vs is ts h = sym (length-map is (bit_seen vs)) ∙ ap length h
+
+-- as the code sees that they differ
+pub parallel-differ : (a : Arrow) (n m i o : ℕ) → sameb the_type a Parallel ≡ true → n ≡ i → m ≡ o → (n ≡ m → ⊥) → (is_parallel a && not (i == o)) ≡ true
+parallel-differ a n m i o e ni mo differ = ap (λ b. b && not (i == o)) (parallel a e) ∙ ap not (by (i == o) refl)
+  where
+    parallel : (a : Arrow) → sameb the_type a Parallel ≡ true → is_parallel a ≡ true
+    parallel Parallel h = refl
+    parallel Full h = cc
+
+    by : (b : Bool) → (i == o) ≡ b → (i == o) ≡ false
+    by true h = absurd (differ (ni ∙ eqb-true i o h ∙ sym mo))
+    by false h = h
 
 module _ (vs : List Variable) (p : SpecifyPath) where
   abbrev sources : List Term

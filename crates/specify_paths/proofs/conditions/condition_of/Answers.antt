@@ -18,14 +18,14 @@ returns-in_err-check_operands-clause-told c =
 
 pub returns-in-Ok-clause-condition : goal.returns-in-Ok-clause-condition
 returns-in-Ok-clause-condition c =
-    condition-read (map view_word c.args.words.now) c.deref.result.now c.in-Ok.condition (c.deref.ensures.value ∙ c.in_ok-tokens_of.ensures) c.in-Ok.ensures.found
+    condition-read (map view_word c.args.words.now) c.deref.result.now c.in-Ok.condition (c.deref.ensures.value ∙ c.in_ok-tokens.ensures) c.in-Ok.ensures.found
 
 pub returns-in-Ok-clause-told : goal.returns-in-Ok-clause-told
 returns-in-Ok-clause-told c =
     condition-faultless c.args.table.now c.args.place (map view_word c.args.words.now) c.in-Ok.condition c.in_ok-check_operands.ensures
-    (condition-read (map view_word c.args.words.now) c.deref.result.now c.in-Ok.condition (c.deref.ensures.value ∙ c.in_ok-tokens_of.ensures) c.in-Ok.ensures.found)
+    (condition-read (map view_word c.args.words.now) c.deref.result.now c.in-Ok.condition (c.deref.ensures.value ∙ c.in_ok-tokens.ensures) c.in-Ok.ensures.found)
 
-pub returns-in-Err-clause-told : goal.returns-in-Err-clause-told
-returns-in-Err-clause-told c =
+pub returns-clause-told : goal.returns-clause-told
+returns-clause-told c =
     subst (RefusesOneOf (condition_faults c.args.table.now c.args.place (map view_word c.args.words.now))) (sym (c.refusal_of.ensures ∙ ap (refusal_of c.in-Err.fault) c.first_place.ensures))
-    (condition-told c.args.table.now c.args.place (map view_word c.args.words.now) c.deref.result.now c.in-Err.fault (c.deref.ensures.value ∙ c.in_ok-tokens_of.ensures) c.in-Err.ensures.only)
+    (condition-told c.args.table.now c.args.place (map view_word c.args.words.now) c.deref.result.now c.in-Err.fault (c.deref.ensures.value ∙ c.in_ok-tokens.ensures) c.in-Err.ensures.only)

@@ -8,19 +8,19 @@ use Rattle.specify_values.proofs.InTurn.{exit}
 use Rattle.specify_paths.proofs.Stating.{own-refused, own-faultless, own-bound, read-own}
 use Rattle.specify_paths.proofs.statements.own_condition.Goals as goal
 
-pub returns-in_err-condition_of-clause-told : goal.returns-in_err-condition_of-clause-told
-returns-in_err-condition_of-clause-told c =
-    exit c.from_residual.result (flat_map (condition_faults c.args.table.now c.args.place) (own_condition (view_path_condition c.args.condition.now))) c.in_err-condition_of.field-0.0
+pub returns-in_err-condition_of-in-If-clause-told : goal.returns-in_err-condition_of-in-If-clause-told
+returns-in_err-condition_of-in-If-clause-told c =
+    exit c.from_residual.result (flat_map (condition_faults c.args.table.now c.args.place) (own_condition (view_path_condition c.args.condition.now))) c.in_err-condition_of-in-If.field-0.0
     (err_from_is_err_and c.from_residual.result c.from_residual.ensures.1)
-    (own-refused c.args.table.now c.args.place c.args.condition.now c.in-If.words c.deref.result.now c.in-If.is c.deref.ensures.value c.in_err-condition_of.field-0.0 c.in_err-condition_of.ensures.told)
+    (own-refused c.args.table.now c.args.place c.args.condition.now c.in-If.words c.deref.result.now c.in-If.is c.deref.ensures.value c.in_err-condition_of-in-If.field-0.0 c.in_err-condition_of-in-If.ensures.told)
 
-pub returns-in-If-clause-condition : goal.returns-in-If-clause-condition
-returns-in-If-clause-condition c =
-    own-bound c.args.table.now c.args.place c.args.condition.now c.in-If.words c.deref.result.now c.in-If.is c.deref.ensures.value c.in_ok-condition_of.field-0.0 c.in_ok-condition_of.ensures.condition
+pub returns-in_ok-condition_of-in-If-clause-condition : goal.returns-in_ok-condition_of-in-If-clause-condition
+returns-in_ok-condition_of-in-If-clause-condition c =
+    own-bound c.args.table.now c.args.place c.args.condition.now c.in-If.words c.deref.result.now c.in-If.is c.deref.ensures.value c.in_ok-condition_of-in-If.field-0 c.in_ok-condition_of-in-If.ensures.condition
 
-pub returns-in-If-clause-told : goal.returns-in-If-clause-told
-returns-in-If-clause-told c =
-    own-faultless c.args.table.now c.args.place c.args.condition.now c.in-If.words c.deref.result.now c.in-If.is c.deref.ensures.value c.in_ok-condition_of.ensures.told
+pub returns-in_ok-condition_of-in-If-clause-told : goal.returns-in_ok-condition_of-in-If-clause-told
+returns-in_ok-condition_of-in-If-clause-told c =
+    own-faultless c.args.table.now c.args.place c.args.condition.now c.in-If.words c.deref.result.now c.in-If.is c.deref.ensures.value c.in_ok-condition_of-in-If.ensures.told
 
-pub returns-in-If-clause-spelled : goal.returns-in-If-clause-spelled
-returns-in-If-clause-spelled c = read-own (tokens (map view_word c.deref.result.now)) c.in_ok-condition_of.field-0.0 c.in_ok-condition_of.ensures.condition
+pub returns-in_ok-condition_of-in-If-clause-spelled : goal.returns-in_ok-condition_of-in-If-clause-spelled
+returns-in_ok-condition_of-in-If-clause-spelled c = read-own (tokens (map view_word c.deref.result.now)) c.in_ok-condition_of-in-If.field-0 c.in_ok-condition_of-in-If.ensures.condition

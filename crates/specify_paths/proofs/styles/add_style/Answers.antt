@@ -22,4 +22,4 @@ pub returns-clause-styles : goal.returns-clause-styles
 returns-clause-styles c = λ i lt.
     c.in_ok-choose.ensures i
     ∙ made c.args.table.now c.requires (view_style c.args.text) c.in-Some.style c.deref.result.now (style_at c.args.styles.now) i c.in-Some.ensures
-    (ap (bits_seen c.args.table.now) c.deref.ensures.value ∙ c.in_ok-terms_bits.ensures.bits) (subst (AreInRow c.args.table.now) (sym c.deref.ensures.value) c.in_ok-terms_bits.ensures.row) lt
+    (ap (bits_seen c.args.table.now) c.deref.ensures.value ∙ c.in_ok-bits.ensures.bits) (subst (AreInRow c.args.table.now) (sym c.deref.ensures.value) c.in_ok-bits.ensures.row) lt

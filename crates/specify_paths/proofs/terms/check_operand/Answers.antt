@@ -1,6 +1,6 @@
 -- A term that is sound and one bit has no fault.
 use Rattle.std.proofs.lemmas.Result.{err_from_is_err_and}
-use Rattle.vl_tree.specs.Seen.{view_expression, view_term}
+use Rattle.vl_tree.specs.Seen.{view_term}
 use Rattle.elab_model.specs.TerminalFaults.{width_faults}
 use Rattle.elab_names.proofs.Refusals.{refused-left}
 use Rattle.specify_model.specs.Faults.{operand_faults, term_faults}
