@@ -15,3 +15,4 @@ pub mod Sides
 pub mod Changes
 pub mod Stating
 pub mod Whole
+pub mod InTurns
