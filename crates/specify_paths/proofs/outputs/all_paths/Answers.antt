@@ -21,7 +21,7 @@ returns-in_err-ends-clause-told c =
     let x = c.in-Some.path in
     let r = c.in_err-ends.field-0.0 in
     let gives = c.into_iter-path-iterator.ensures.into_iter_gives in
-    let turn = YieldsList-turn (YieldsList-from_vec xs gives.0 (omega (arith, gives.1, c.args.paths.ok.0))) c.loop-path.yielded _ c.loop-path.yielded_by _ _ x c.in-Some.is c.next.ensures.steps in
+    let turn = YieldsList-turn (YieldsList-from_vec xs gives.0 (omega (arith, gives.1, c.args.paths.ok.0))) c.loop-path.yielded c.loop-path.path-iterator c.loop-path.yielded_by c.next.result c.next.new.self x c.in-Some.is c.next.ensures.steps in
     exit c.from_residual.result (flat_map (path_faults by vs values) (map view xs)) r (err_from_is_err_and c.from_residual.result c.from_residual.ensures.1)
     (next-refused by vs values (limits_seen c.args.limits.now) xs (length c.loop-path.yielded) x c.loop-path.statements.items c.loop-path.list.items r c.loop-path.invariant turn.0 turn.1
     (ends-told by vs values (view x) r c.in_err-ends.ensures.told))
@@ -35,7 +35,7 @@ returns-in_err-statement-clause-told c =
     let x = c.in-Some.path in
     let r = c.in_err-statement.field-0.0 in
     let gives = c.into_iter-path-iterator.ensures.into_iter_gives in
-    let turn = YieldsList-turn (YieldsList-from_vec xs gives.0 (omega (arith, gives.1, c.args.paths.ok.0))) c.loop-path.yielded _ c.loop-path.yielded_by _ _ x c.in-Some.is c.next.ensures.steps in
+    let turn = YieldsList-turn (YieldsList-from_vec xs gives.0 (omega (arith, gives.1, c.args.paths.ok.0))) c.loop-path.yielded c.loop-path.path-iterator c.loop-path.yielded_by c.next.result c.next.new.self x c.in-Some.is c.next.ensures.steps in
     exit c.from_residual-in_err-statement.result (flat_map (path_faults by vs values) (map view xs)) r
     (err_from_is_err_and c.from_residual-in_err-statement.result c.from_residual-in_err-statement.ensures.1)
     (next-refused by vs values (limits_seen c.args.limits.now) xs (length c.loop-path.yielded) x c.loop-path.statements.items c.loop-path.list.items r c.loop-path.invariant turn.0 turn.1
@@ -50,7 +50,7 @@ loop-path-preserved c =
     let x = c.in-Some.path in
     let done = c.loop-path.yielded in
     let gives = c.into_iter-path-iterator.ensures.into_iter_gives in
-    let turn = YieldsList-turn (YieldsList-from_vec xs gives.0 (omega (arith, gives.1, c.args.paths.ok.0))) done _ c.loop-path.yielded_by _ _ x c.in-Some.is c.next.ensures.steps in
+    let turn = YieldsList-turn (YieldsList-from_vec xs gives.0 (omega (arith, gives.1, c.args.paths.ok.0))) done c.loop-path.path-iterator c.loop-path.yielded_by c.next.result c.next.new.self x c.in-Some.is c.next.ensures.steps in
     next-so_far by vs values (limits_seen c.args.limits.now) xs (length done) (length (done ++ x ∷ [])) c.len.result x c.in_ok-ends.ends c.in_ok-statement.statement c.loop-path.statements.items c.push.new.self.items
     c.loop-path.list.items c.add_paths.new.list.items (omega (arith, length_push done x)) c.loop-path.invariant turn.0 turn.1 (omega (arith, c.len.ensures, c.loop-path.statements.ok.0))
     c.in_ok-ends.ensures.ends c.in_ok-statement.ensures.said c.in_ok-statement.ensures.spelled (c.in_ok-add_paths.ensures.paths _) c.in_ok-add_paths.ensures.row c.in_ok-push.ensures.items

@@ -2,6 +2,7 @@
 use Rattle.std.specs.Prelude.{◌≡◌, flat_map, length, map}
 use Rattle.std.proofs.Common.{sym, ◌∙◌, ap, subst}
 use Rattle.std.proofs.lemmas.Result.{err_from_is_err_and}
+use Rattle.sg_text.specs.declared.refusals.Refused.TheVariants as refused
 use Rattle.vl_tree.specs.Seen.{view_module}
 use Rattle.specify_model.specs.Blocks.{specify_items}
 use Rattle.specify_model.specs.Faults.{faults_by}
@@ -60,6 +61,11 @@ returns-in_err-styles-clause-told c =
     let r = c.in_err-styles.field-0.0 in
     exit c.from_residual-in_err-styles.result (faults_by by vs items) r (err_from_is_err_and c.from_residual-in_err-styles.result c.from_residual-in_err-styles.ensures.1)
     (styles-told by vs items (map view_style c.deref-3.result.now) r (ap (map view_style) c.deref-3.ensures.value ∙ c.in_ok-items.ensures.styles_are) c.in_err-styles.ensures.told)
+
+pub returns-in_err-outputs-clause-told : goal.returns-in_err-outputs-clause-told
+returns-in_err-outputs-clause-told c =
+    exit c.from_residual-in_err-outputs.result (faults_by (measured c.args.by) c.args.table.now (specify_items (view_module c.args.definition.now))) refused.NoMemory
+    (err_from_is_err_and c.from_residual-in_err-outputs.result c.from_residual-in_err-outputs.ensures.1) tt
 
 pub returns-clause-outputs : goal.returns-clause-outputs
 returns-clause-outputs c =
