@@ -1,14 +1,15 @@
 -- Paths by their outputs, with one more path at the end.
-use Rattle.std.specs.Prelude.{◌≡◌, ℕ, zero, suc, ◌+◌, ◌==◌, ◌<◌, List, [], ◌∷◌, ◌++◌, Bool, true, false, not, ◌||◌, map, filter, length, slice_index_or, take, refl, if◌then◌else◌}
+use Rattle.std.specs.Prelude.{◌≡◌, ℕ, zero, suc, ◌+◌, ◌==◌, ◌<◌, List, [], ◌∷◌, ◌++◌, Bool, true, false, not, ◌||◌, map, filter, length, slice_index_or, slice_set, refl, if◌then◌else◌}
 use Rattle.std.specs.List.{list_any, position_or_len}
 use Rattle.std.proofs.lemmas.List.Recursion.{is_position_or_len}
 use Rattle.std.proofs.Common.{sym, ◌∙◌, ap, arith, subst, append-nil}
-use Rattle.std.proofs.lemmas.List.{map-append, length-map, take_more}
-use Rattle.std.proofs.lemmas.Bool.{eq-eqb, eqb-true}
+use Rattle.std.proofs.lemmas.List.{map-append, length-map}
+use Rattle.std.proofs.lemmas.Bool.{eq-eqb, eqb-true, false≢true}
 use Rattle.sg_delay.specs.declared.limits.PulseStyle.{PulseStyle}
+use Rattle.specify_paths.specs.declared.grouping.PathOutput as code_output
 use Rattle.specify_paths.specs.declared.pairs.ModulePath.{ModulePath}
 use Rattle.specify_paths.specs.declared.pairs.PathTo.{PathTo}
-use Rattle.specify_paths.specs.Words.{Output, first_to_each, paths_at, output_at, grouped, IsPlaced, with_path, set_at, blank_output, outputs_in}
+use Rattle.specify_paths.specs.Words.{Output, first_to_each, paths_at, output_at, grouped, IsPlaced, with_path, set_at, blank_output, output_kept, outputs_in}
 
 abbrev pub is_in : ℕ → List ℕ → Bool
 is_in b ks = list_any (λ k. b == k) ks
@@ -241,6 +242,18 @@ placed-new style ps p at old new os more t keys group e is place grown added =
           ∙ ap (set_at (length (grouped style ps)) p.path) (added ∙ ap (λ xs. xs ++ blank_output style p ∷ []) group) ∙ sym (grouped-new style ps p new_one);
     }
 
--- one more of a list
-pub one-taken : {A : Type 0} (xs : List A) (i : ℕ) (x : A) → i < length xs → x ≡ slice_index_or xs i x → take (i + 1) xs ≡ take i xs ++ x ∷ []
-one-taken xs i x lt at = take_more xs i x lt ∙ ap (λ y. take i xs ++ y ∷ []) (sym at)
+-- ---- the code's outputs
+
+pub one-set : (os : List code_output.PathOutput) (i : ℕ) (x y : code_output.PathOutput) (p : ModulePath) → i < length os → x ≡ slice_index_or os i x → output_kept y ≡ with_path p (output_kept x)
+    → map output_kept (slice_set os i y) ≡ set_at i p (map output_kept os)
+one-set [] i x y p lt at e = absurd (omega (arith, lt))
+one-set (o ∷ os) zero x y p lt at e = ap (λ k. k ∷ map output_kept os) (e ∙ ap (λ z. with_path p (output_kept z)) at)
+one-set (o ∷ os) (suc i) x y p lt at e = ap (λ ks. output_kept o ∷ ks) (one-set os i x y p (omega (arith, lt)) at e)
+
+none-past : (os : List code_output.PathOutput) (i : ℕ) (p : ModulePath) → (i < length os → ⊥) → map output_kept os ≡ set_at i p (map output_kept os)
+none-past [] i p h = refl
+none-past (o ∷ os) zero p h = absurd (h (omega arith))
+none-past (o ∷ os) (suc i) p h = ap (λ ks. output_kept o ∷ ks) (none-past os i p (λ lt. h (omega (arith, lt))))
+
+pub none-set : (os : List code_output.PathOutput) (n i : ℕ) (p : ModulePath) → n ≡ length os → (i < n → false ≡ true) → map output_kept os ≡ set_at i p (map output_kept os)
+none-set os n i p count h = none-past os i p (λ lt. false≢true (h (omega (arith, lt, count))))

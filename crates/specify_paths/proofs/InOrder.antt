@@ -11,14 +11,14 @@ use Rattle.specify_model.specs.Blocks.{Parameter, parameters, Pulse, pulses, spe
 use Rattle.specify_model.specs.Faults.{parameter_faults, pulse_faults, end_faults, side_faults, condition_faults, own_condition, source_faults, list_faults, path_faults, style_faults, faults_by}
 use Rattle.specify_model.specs.Values.{Measure, Values, value_of}
 
-none : (fs gs : List Fault) → fs ≡ [] → gs ≡ [] → fs ++ gs ≡ []
+pub none : (fs gs : List Fault) → fs ≡ [] → gs ≡ [] → fs ++ gs ≡ []
 none fs gs e f = ap (λ hs. hs ++ gs) e ∙ f
 
-none-left : (fs gs : List Fault) → fs ++ gs ≡ [] → fs ≡ []
+pub none-left : (fs gs : List Fault) → fs ++ gs ≡ [] → fs ≡ []
 none-left [] gs e = refl
 none-left (f ∷ fs) gs e = cc
 
-none-right : (fs gs : List Fault) → fs ++ gs ≡ [] → gs ≡ []
+pub none-right : (fs gs : List Fault) → fs ++ gs ≡ [] → gs ≡ []
 none-right [] gs e = e
 none-right (f ∷ fs) gs e = cc
 
@@ -31,7 +31,7 @@ module _ (by : Measure) (vs : List Variable) (values : Values) (p : SpecifyPath)
   abbrev sourced : List Fault
   sourced = source_faults vs p.destination.source
 
-  abbrev rest : List Fault
+  abbrev pub rest : List Fault
   rest = words (own_condition p.condition) ++ (sourced ++ list_faults by values p.place p.delays)
 
   pub own-told : (r : Refused ElabKind) → RefusesOneOf (words (own_condition p.condition)) r → RefusesOneOf rest r

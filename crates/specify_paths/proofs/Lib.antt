@@ -1,8 +1,18 @@
 -- The modules of this folder.
 pub mod RowBits
+pub mod TermBits
+pub mod FirstFault
+pub mod SuchPorts
 pub mod Grouped
 pub mod Bridged
+pub mod Added
+pub mod Between
+pub mod Rows
 pub mod Chosen
 pub mod InOrder
 pub mod Operands
+pub mod Sides
+pub mod Changes
+pub mod Stating
 pub mod Whole
+pub mod InTurns

@@ -23,8 +23,8 @@ use Rattle.elab_model.specs.Faults.{Fault, fault_if, RefusesOneOf}
 use Rattle.elab_model.specs.Hierarchy.{is_empty}
 use Rattle.elab_model.specs.Names.{Variable}
 use Rattle.elab_names.proofs.Refusals.{refused-left, refused-right}
-use Rattle.specify_model.specs.Conditions.{tree_of, operands, operand_of, next_token}
-use Rattle.specify_model.specs.Faults.{term_faults, operand_faults}
+use Rattle.specify_model.specs.Conditions.{If, bound_to, condition_over, over, next_token, operand_bit, operand_of, operands, tokens, tree_of}
+use Rattle.specify_model.specs.Faults.{term_faults, operand_faults, condition_faults, first_place}
 use Rattle.specify_model.specs.Terms.{expression_of}
 use Rattle.specify_values.proofs.InTurn.{fault-told}
 use Rattle.specify_paths.specs.Seen.{IsRead}
@@ -116,3 +116,24 @@ pub deep-told : (ts : List Tok) (f : CondFault) (p : Place) → ((c : Cond ℕ) 
 deep-told ts cond.NoMemory p h = tt
 deep-told ts (cond.Syntax at) p h = fault-told (is_err (tree_of ts)) TooDeep p (none-spelled ts h)
 deep-told ts cond.TooDeep p h = fault-told (is_err (tree_of ts)) TooDeep p (none-spelled ts h)
+
+-- ---- a condition whole
+
+pub condition-read : (ws : List Word) (ts : List Tok) (e : Condition) → ts ≡ tokens ws → (e.tokens ≡ ts) × Spelled ts e.tree → IsRead (tokens ws) e
+condition-read ws ts e is h = subst (λ us. IsRead us e) is (read-as ts e h)
+
+pub condition-faultless : (vs : List Variable) (p : Place) (ws : List Word) (e : Condition) → flat_map (operand_faults vs) (operands ws) ≡ [] → IsRead (tokens ws) e → condition_faults vs p ws ≡ []
+condition-faultless vs p ws e h read = ap (λ fs. fs ++ fault_if (is_err (tree_of (tokens ws))) TooDeep (first_place p ws)) h ∙ read-faultless (tokens ws) e (first_place p ws) read
+
+pub operands-told : (vs : List Variable) (p : Place) (ws : List Word) (r : Refused ElabKind) → RefusesOneOf (flat_map (operand_faults vs) (operands ws)) r → RefusesOneOf (condition_faults vs p ws) r
+operands-told vs p ws r h = refused-left (flat_map (operand_faults vs) (operands ws)) _ r h
+
+pub condition-told : (vs : List Variable) (p : Place) (ws : List Word) (ts : List Tok) (f : CondFault) → ts ≡ tokens ws
+    → ((c : Cond ℕ) → Spelled ts c → IsReadAs (record { tokens = ts; tree = c }) (Err f)) → RefusesOneOf (condition_faults vs p ws) (refusal_of f (first_place p ws))
+condition-told vs p ws ts f is h =
+    refused-right (flat_map (operand_faults vs) (operands ws)) _ (refusal_of f (first_place p ws))
+    (subst (λ us. RefusesOneOf (fault_if (is_err (tree_of us)) TooDeep (first_place p ws)) (refusal_of f (first_place p ws))) is (deep-told ts f (first_place p ws) h))
+
+-- as the definition binds it
+pub condition-bound : (vs : List Variable) (ts : List Tok) (e : Condition) → IsRead ts e → If e.tokens (over (operand_bit vs e.tokens) e.tree) ≡ condition_over vs ts
+condition-bound vs ts e h = ap (λ us. If us (over (operand_bit vs us) e.tree)) h.tokens_are ∙ ap (λ r. If ts (bound_to vs ts r)) (sym h.tree_is)

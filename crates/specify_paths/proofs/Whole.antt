@@ -1,7 +1,8 @@
 -- All of a module's paths.
-use Rattle.std.specs.Prelude.{◌≡◌, ℕ, suc, ◌<◌, All, List, [], ◌∷◌, length, map, flat_map, refl}
+use Rattle.std.specs.Prelude.{◌≡◌, ℕ, ◌<◌, List, [], ◌∷◌, length, map, flat_map, refl}
 use Rattle.std.specs.List.{AllByRecursion}
-use Rattle.std.proofs.Common.{sym, ◌∙◌, ap, arith}
+use Rattle.std.proofs.Common.{◌∙◌, ap}
+use Rattle.std.proofs.lemmas.List.Elements.{recursion_from_All}
 use Rattle.elab_laws.specs.Handing.{all_bits}
 use Rattle.elab_model.specs.Names.{Variable}
 use Rattle.sg_delay.specs.declared.limits.PulseStyle.{PulseStyle}
@@ -11,31 +12,27 @@ use Rattle.specify_model.specs.Outputs.{PathOutput, output_of, first_paths, outp
 use Rattle.specify_model.specs.Paths.{PathTo as Seen, paths_of}
 use Rattle.specify_model.specs.PulseLimits.{Limits, limits_of}
 use Rattle.specify_model.specs.Values.{Measure, Values, value_of}
-use Rattle.specify_paths.specs.Seen.{AreApart, ArePathsInRow, Said, bit_seen, path_to_seen, output_seen}
+use Rattle.specify_paths.specs.Seen.{AreApart, ArePathsInRow, IsPathInRow, Said, bit_seen, path_to_seen, output_seen}
 use Rattle.specify_paths.specs.Words.{Output, grouped, output_kept}
 use Rattle.specify_paths.specs.declared.grouping.PathOutput as code_output
 use Rattle.specify_paths.specs.declared.pairs.PathTo.{PathTo}
 use Rattle.specify_paths.proofs.Bridged.{ToRow, kept_seen, grouped-seen}
 
-pub all-by : {A : Type 0} (P : A → Type 0) (xs : List A) → All P xs → AllByRecursion P xs
-all-by P [] h = tt
-all-by P (x ∷ xs) h = (h 0 x (omega arith), all-by P xs (λ k d lt. h (suc k) d (omega (arith, lt))))
-
-outputs-in : (vs : List Variable) (ps : List PathTo) → ArePathsInRow vs ps → AllByRecursion (λ p. p.output < length (all_bits vs)) ps
-outputs-in vs ps h = weaker ps (all-by _ ps h)
+outputs-in : (vs : List Variable) (statements : ℕ) (ps : List PathTo) → ArePathsInRow vs statements ps → AllByRecursion (λ p. p.output < length (all_bits vs)) ps
+outputs-in vs statements ps h = each ps (recursion_from_All (IsPathInRow vs statements) ps h)
   where
-    weaker : (ps : List PathTo) → AllByRecursion (λ p. (p.output < length (all_bits vs)) × (p.path.input < length (all_bits vs))) ps → AllByRecursion (λ p. p.output < length (all_bits vs)) ps
-    weaker [] h = tt
-    weaker (p ∷ ps) h = (h.0.0, weaker ps h.1)
+    each : (ps : List PathTo) → AllByRecursion (IsPathInRow vs statements) ps → AllByRecursion (λ p. p.output < length (all_bits vs)) ps
+    each [] h = tt
+    each (p ∷ ps) h = (h.0.output_in_row, each ps h.1)
 
 kept : (vs : List Variable) (apart : AreApart vs) (said : List Said) (os : List code_output.PathOutput) → map (output_seen vs said) os ≡ map (kept_seen vs said apart) (map output_kept os)
 kept vs apart said [] = refl
 kept vs apart said (o ∷ os) = ap (λ xs. output_seen vs said o ∷ xs) (kept vs apart said os)
 
-pub outputs-whole : (by : Measure) (vs : List Variable) (items : List SpecifyItem) (apart : AreApart vs) (values : Values) (limits : Limits) (said : List Said) (list : List PathTo) (os : List code_output.PathOutput) (style : ℕ → PulseStyle)
+pub outputs-whole : (by : Measure) (vs : List Variable) (items : List SpecifyItem) (apart : AreApart vs) (values : Values) (limits : Limits) (statements : ℕ) (said : List Said) (list : List PathTo) (os : List code_output.PathOutput) (style : ℕ → PulseStyle)
     → values ≡ value_of (parameters items) → limits ≡ limits_of by vs (pulses items) → map (path_to_seen vs said) list ≡ flat_map (paths_of by vs values limits) (specify_paths items)
-    → ArePathsInRow vs list → map output_kept os ≡ grouped style list → ((i : ℕ) → i < length (all_bits vs) → style i ≡ style_of vs (style_texts items) (bit_seen vs i))
+    → ArePathsInRow vs statements list → map output_kept os ≡ grouped style list → ((i : ℕ) → i < length (all_bits vs) → style i ≡ style_of vs (style_texts items) (bit_seen vs i))
     → map (output_seen vs said) os ≡ outputs_by by vs items
-outputs-whole by vs items apart values limits said list os style v l paths row group styles =
-    kept vs apart said os ∙ ap (map (kept_seen vs said apart)) group ∙ grouped-seen vs said apart style (style_texts items) list (outputs-in vs list row) styles
+outputs-whole by vs items apart values limits statements said list os style v l paths row group styles =
+    kept vs apart said os ∙ ap (map (kept_seen vs said apart)) group ∙ grouped-seen vs said apart style (style_texts items) list (outputs-in vs statements list row) styles
     ∙ ap (λ ps. map (output_of vs (style_texts items) ps) (first_paths [] ps)) (paths ∙ ap (λ f. flat_map f (specify_paths items)) (ap (λ v. paths_of by vs v limits) v ∙ ap (paths_of by vs (value_of (parameters items))) l))

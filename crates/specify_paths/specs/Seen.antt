@@ -101,9 +101,14 @@ pub record IsInRow (vs : List Variable) (statements : ℕ) (o : code_output.Path
   pub inputs_in_row : All (λ p. p.input < length (all_bits vs)) o.paths.items
   pub statements_listed : All (λ p. p.statement < statements) o.paths.items
 
--- the bits of paths are in the row
-abbrev pub ArePathsInRow : List Variable → List code_to.PathTo → Type 0
-ArePathsInRow vs ps = All (λ p. (p.output < length (all_bits vs)) × (p.path.input < length (all_bits vs))) ps
+-- the same of a path
+pub record IsPathInRow (vs : List Variable) (statements : ℕ) (p : code_to.PathTo) : Type 0 where
+  pub output_in_row : p.output < length (all_bits vs)
+  pub input_in_row : p.path.input < length (all_bits vs)
+  pub statement_listed : p.path.statement < statements
+
+abbrev pub ArePathsInRow : List Variable → ℕ → List code_to.PathTo → Type 0
+ArePathsInRow vs statements ps = All (IsPathInRow vs statements) ps
 
 -- different places of the row are different bits
 abbrev pub AreApart : List Variable → Type 0

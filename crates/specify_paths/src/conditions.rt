@@ -1,6 +1,8 @@
 // Conditions of paths.
 ghost use Rattle.std.specs.Prelude.{◌≡◌, IfOk, map, flat_map};
 ghost use Rattle.std.specs.Option.{option_map};
+ghost use Rattle.cond_expr.specs.Binding.{index_of};
+ghost use Rattle.vl_tree.specs.declared.expressions.Select.TheVariants as select;
 ghost use Rattle.vl_tree.specs.Seen.{view_word, view_term};
 ghost use Rattle.specify_model.specs.Conditions as def;
 ghost use Rattle.specify_model.specs.Faults as faults;
@@ -39,6 +41,16 @@ fn tokens_of(alloc: Global, words: &[Word]) -> Result<Vec<Tok<Text>>, NoMemory>
     Ok(tokens)
 }
 
+// The index that begins the words, if one does.
+fn select_at(words: &[Word]) -> Option<Select>
+    ensures { result ≡ option_map select.Bit (index_of (def.next_token (map view_word words.now))) }
+{
+    match &words.first()?.token {
+        Tok::Index(index) => Some(Select::Bit(*index)),
+        _ => None,
+    }
+}
+
 // The operand that begins the words, if one does.
 fn operand_at<'a>(words: &[Word<'a>]) -> Option<Term<'a>>
     ensures { option_map view_term result ≡ def_words.first_operand (map view_word words.now) }
@@ -47,23 +59,13 @@ fn operand_at<'a>(words: &[Word<'a>]) -> Option<Term<'a>>
     let Tok::Name(text) = &word.token else {
         return None;
     };
-    let name = Name {
-        text: *text,
-        place: word.place,
-    };
-    match behind {
-        [
-            Word {
-                token: Tok::Index(index),
-                ..
-            },
-            ..
-        ] => Some(Term {
-            name,
-            select: Some(Select::Bit(*index)),
-        }),
-        _ => Some(Term { name, select: None }),
-    }
+    Some(Term {
+        name: Name {
+            text: *text,
+            place: word.place,
+        },
+        select: select_at(behind),
+    })
 }
 
 // Refuses operands.

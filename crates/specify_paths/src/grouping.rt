@@ -40,7 +40,7 @@ fn place_of_output(
     path: PathTo,
     outputs: &mut Vec<PathOutput>,
 ) -> Result<usize, NoMemory>
-    ensures place { IfOk result (λ at. (ps : List ghost_to.PathTo) → places.old.keys ≡ outputs_in (first_to_each [] ps) → map output_kept outputs.old.items ≡ grouped (style_at styles.now) ps
+    ensures { IfOk result (λ at. (ps : List ghost_to.PathTo) → places.old.keys ≡ outputs_in (first_to_each [] ps) → map output_kept outputs.old.items ≡ grouped (style_at styles.now) ps
         → IsPlaced (style_at styles.now) ps path at places.new.keys (map output_kept outputs.new.items)) }
 {
     let (at, is_new) = places.insert_full(path.output)?;

@@ -1,5 +1,5 @@
 // The paths of specify paths, each from one bit to one bit.
-ghost use Rattle.std.specs.Prelude.{◌≡◌, ◌++◌, ◌<◌, List, OnOk, length, map, zip, flat_map};
+ghost use Rattle.std.specs.Prelude.{◌≡◌, ◌++◌, ◌<◌, ℕ, List, OnOk, length, map, zip, flat_map};
 ghost use Rattle.elab_laws.specs.Handing.{all_bits};
 ghost use Rattle.specify_model.specs.Terms as def;
 ghost use Rattle.specify_values.specs.Seen.{limits_seen};
@@ -47,6 +47,7 @@ fn path_between(
     ensures path { (said : List Said) → path_to_seen table.now said result ≡ path_said (said_at said origin.statement) origin.place (limits_seen limits.now) (bit_seen table.now input, bit_seen table.now output) }
     ensures input { result.path.input ≡ input }
     ensures output { result.output ≡ output }
+    ensures statement { result.path.statement ≡ origin.statement }
 {
     let from = table.name(table.bit(input).0);
     let to = table.name(table.bit(output).0);
@@ -73,7 +74,7 @@ fn add_parallel(
     requires outputs { AreInRow table.now ends.now.outputs.items }
     ensures paths { (said : List Said) → OnOk result (map (path_to_seen table.now said) list.new.items ≡ map (path_to_seen table.now said) list.old.items
         ++ map (path_said (said_at said origin.statement) origin.place (limits_seen limits.now)) (zip (bits_seen table.now ends.now.inputs.items) (bits_seen table.now ends.now.outputs.items))) }
-    ensures row { ArePathsInRow table.now list.old.items → ArePathsInRow table.now list.new.items }
+    ensures row { (statements : ℕ) → origin.statement < statements → ArePathsInRow table.now statements list.old.items → ArePathsInRow table.now statements list.new.items }
 {
     let count = ends.inputs.len().min(ends.outputs.len());
     for at in 0..count {
@@ -95,7 +96,7 @@ fn add_from(
     requires outputs { AreInRow table.now outputs.now }
     ensures paths { (said : List Said) → OnOk result (map (path_to_seen table.now said) list.new.items ≡ map (path_to_seen table.now said) list.old.items
         ++ map (path_said (said_at said origin.statement) origin.place (limits_seen limits.now)) (map (λ o. (bit_seen table.now input, o)) (bits_seen table.now outputs.now))) }
-    ensures row { ArePathsInRow table.now list.old.items → ArePathsInRow table.now list.new.items }
+    ensures row { (statements : ℕ) → origin.statement < statements → ArePathsInRow table.now statements list.old.items → ArePathsInRow table.now statements list.new.items }
 {
     for output in outputs {
         list.push(path_between(table, limits, origin, input, *output))?;
@@ -116,7 +117,7 @@ fn add_full(
     ensures paths { (said : List Said) → OnOk result (map (path_to_seen table.now said) list.new.items ≡ map (path_to_seen table.now said) list.old.items
         ++ map (path_said (said_at said origin.statement) origin.place (limits_seen limits.now))
         (flat_map (λ i. map (λ o. (i, o)) (bits_seen table.now ends.now.outputs.items)) (bits_seen table.now ends.now.inputs.items))) }
-    ensures row { ArePathsInRow table.now list.old.items → ArePathsInRow table.now list.new.items }
+    ensures row { (statements : ℕ) → origin.statement < statements → ArePathsInRow table.now statements list.old.items → ArePathsInRow table.now statements list.new.items }
 {
     for input in &ends.inputs {
         add_from(table, limits, origin, *input, &ends.outputs, list)?;
@@ -137,7 +138,7 @@ pub fn add_paths(
     requires outputs { AreInRow table.now ends.now.outputs.items }
     ensures paths { (said : List Said) → OnOk result (map (path_to_seen table.now said) list.new.items ≡ map (path_to_seen table.now said) list.old.items
         ++ map (path_said (said_at said statement) path.now.place (limits_seen limits.now)) (def.pairs path.now.arrow (bits_seen table.now ends.now.inputs.items) (bits_seen table.now ends.now.outputs.items))) }
-    ensures row { ArePathsInRow table.now list.old.items → ArePathsInRow table.now list.new.items }
+    ensures row { (statements : ℕ) → statement < statements → ArePathsInRow table.now statements list.old.items → ArePathsInRow table.now statements list.new.items }
 {
     let origin = Origin {
         statement,

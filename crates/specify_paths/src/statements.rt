@@ -4,6 +4,7 @@ ghost use Rattle.std.specs.List.{list_any};
 ghost use Rattle.std.specs.Option.{option_map};
 ghost use Rattle.sg_logic.specs.Values.{is_same};
 ghost use Rattle.vl_tree.specs.Seen.{view_data_source, view_edge, view_path, view_path_condition};
+ghost use Rattle.vl_tree.specs.Tree as tree;
 ghost use Rattle.specify_model.specs.Conditions as def;
 ghost use Rattle.specify_model.specs.Faults as faults;
 ghost use Rattle.specify_model.specs.Paths.{edge_of as edge_of_word};
@@ -47,22 +48,28 @@ fn has_pair(pairs: &[EdgePair], from: Value, to: Value) -> bool
     pairs.iter().any(|pair| pair.from == from && pair.to == to)
 }
 
+fn edge_of_pairs(pairs: &[EdgePair]) -> Edge
+    ensures { result ≡ edge_of_word (tree.pairs pairs.now) }
+{
+    Edge {
+        has: [
+            has_pair(pairs, Value::Zero, Value::One),
+            has_pair(pairs, Value::One, Value::Zero),
+            has_pair(pairs, Value::Zero, Value::X),
+            has_pair(pairs, Value::X, Value::One),
+            has_pair(pairs, Value::One, Value::X),
+            has_pair(pairs, Value::X, Value::Zero),
+        ],
+    }
+}
+
 fn edge_of(edge: &EdgeWord) -> Edge
     ensures { result ≡ edge_of_word (view_edge edge.now) }
 {
     match edge {
         EdgeWord::Posedge => POSEDGE,
         EdgeWord::Negedge => NEGEDGE,
-        EdgeWord::Pairs(pairs) => Edge {
-            has: [
-                has_pair(pairs, Value::Zero, Value::One),
-                has_pair(pairs, Value::One, Value::Zero),
-                has_pair(pairs, Value::Zero, Value::X),
-                has_pair(pairs, Value::X, Value::One),
-                has_pair(pairs, Value::One, Value::X),
-                has_pair(pairs, Value::X, Value::Zero),
-            ],
-        },
+        EdgeWord::Pairs(pairs) => edge_of_pairs(pairs),
     }
 }
 

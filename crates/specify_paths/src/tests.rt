@@ -1,9 +1,9 @@
 // A module with a specify block, built by hand.
-use crate::{ModuleCondition, path_outputs};
+use crate::{ModuleCondition, ModulePath, PathOutput, Statement, path_outputs};
 use elab_model::ElabKind;
 use elab_tables::Table;
 use sg_delay::{Corner, PulseStyle, Widths};
-use sg_logic::POSEDGE;
+use sg_logic::{Edge, POSEDGE};
 use sg_text::{NoMemory, Place, Refused};
 use sg_time::{Decimal, Scale, Unit};
 use specify_values::Measure;
@@ -142,6 +142,41 @@ fn measure() -> Measure {
     }
 }
 
+// Whether a specify path is for these changes, always, and has these delays.
+fn is_stated(statements: &[Statement], at: usize, edge: Option<Edge>, delays: [u64; 12]) -> bool {
+    match statements.get(at) {
+        Some(statement) => {
+            matches!(&statement.condition, ModuleCondition::Always)
+                && statement.edge == edge
+                && statement.delays.at == delays
+        }
+        None => false,
+    }
+}
+
+fn between(input: usize, statement: usize, limits: Option<Widths>) -> ModulePath {
+    ModulePath {
+        input,
+        statement,
+        limits,
+    }
+}
+
+// Whether an output has this place and style, and these paths.
+fn is_output(
+    outputs: &[PathOutput],
+    at: usize,
+    told: (usize, PulseStyle),
+    paths: &[ModulePath],
+) -> bool {
+    match outputs.get(at) {
+        Some(output) => {
+            output.output == told.0 && output.style == told.1 && output.paths.as_slice() == paths
+        }
+        None => false,
+    }
+}
+
 #[test]
 fn paths_stand_at_their_outputs(rt: HostRuntime) -> Result<(), Fail> {
     let alloc = rt.alloc();
@@ -189,39 +224,32 @@ fn paths_stand_at_their_outputs(rt: HostRuntime) -> Result<(), Fail> {
             }],
         )?,
     })?;
-    let table = Table::of(alloc, &module(alloc, Vec::new(alloc))?)?;
-    let made = path_outputs(alloc, measure(), &table, &module(alloc, block)?)?;
-    assert_eq!(rt; made.statements.len(), 3);
-    assert_eq!(rt; made.statements[0].edge, Some(POSEDGE));
-    assert!(rt; matches!(&made.statements[0].condition, ModuleCondition::Always));
-    assert_eq!(rt;
-        made.statements[0].delays.at,
-        [20, 40, 20, 20, 40, 40, 20, 20, 40, 40, 40, 20]
-    );
-    assert_eq!(rt; made.outputs.len(), 3);
-    let q = &made.outputs[0];
-    assert_eq!(rt; (q.output, q.style), (0, PulseStyle::OnDetect));
-    assert_eq!(rt;
-        (q.paths.len(), q.paths[0].input, q.paths[0].limits),
-        (1, 1, None)
-    );
-    let y = &made.outputs[1];
-    assert_eq!(rt; (y.output, y.style), (4, PulseStyle::OnEvent));
-    assert_eq!(rt; y.paths.len(), 3);
-    assert_eq!(rt;
-        (y.paths[0].input, y.paths[1].input, y.paths[2].input),
-        (2, 3, 2)
-    );
+    let tree = module(alloc, block)?;
+    let table = Table::of(alloc, &tree)?;
+    let made = path_outputs(alloc, measure(), &table, &tree)?;
+    let delays = [20, 40, 20, 20, 40, 40, 20, 20, 40, 40, 40, 20];
+    assert!(rt; is_stated(&made.statements, 0, Some(POSEDGE), delays));
+    assert!(rt; is_stated(&made.statements, 1, None, [50; 12]));
+    assert!(rt; is_stated(&made.statements, 2, None, [60; 12]));
+    let alone = [between(1, 0, None)];
+    assert!(rt; is_output(&made.outputs, 0, (0, PulseStyle::OnDetect), &alone));
     let limits = Some(Widths {
         reject: 10,
         error: 30,
     });
-    assert_eq!(rt; y.paths[2].limits, limits);
-    assert_eq!(rt; y.paths[2].statement, 2);
-    assert_eq!(rt;
-        (made.outputs[2].output, made.outputs[2].paths.len()),
-        (5, 3)
-    );
+    let left = [
+        between(2, 1, limits),
+        between(3, 1, limits),
+        between(2, 2, limits),
+    ];
+    assert!(rt; is_output(&made.outputs, 1, (4, PulseStyle::OnEvent), &left));
+    let right = [
+        between(2, 1, limits),
+        between(3, 1, limits),
+        between(3, 2, limits),
+    ];
+    assert!(rt; is_output(&made.outputs, 2, (5, PulseStyle::OnEvent), &right));
+    assert_eq!(rt; made.outputs.len(), 3);
     Ok(())
 }
 
@@ -238,8 +266,9 @@ fn a_path_leads_to_an_output(rt: HostRuntime) -> Result<(), Fail> {
         term("ck".as_bytes(), 62),
         &[delay(2)],
     )?)?;
-    let table = Table::of(alloc, &module(alloc, Vec::new(alloc))?)?;
-    let made = path_outputs(alloc, measure(), &table, &module(alloc, block)?);
+    let tree = module(alloc, block)?;
+    let table = Table::of(alloc, &tree)?;
+    let made = path_outputs(alloc, measure(), &table, &tree);
     let told = match made {
         Err(Refused::Fault { kind, place }) => Some((kind, place.byte)),
         _ => None,

@@ -6,8 +6,8 @@ use Rattle.specify_model.specs.Conditions.{operands}
 use Rattle.specify_model.specs.Faults.{term_faults}
 use Rattle.specify_paths.proofs.conditions.check_names.Given as goal
 
-abbrev pub invariant-loop-behind : goal.invariant-loop-behind
-invariant-loop-behind l = flat_map (term_faults l.table) (operands (map view_word l.rest.now)) ≡ flat_map (term_faults l.table) (operands (map view_word l.words))
+abbrev pub invariant-loop-rest : goal.invariant-loop-rest
+invariant-loop-rest l = flat_map (term_faults l.table) (operands (map view_word l.rest)) ≡ flat_map (term_faults l.table) (operands (map view_word l.words))
 
-abbrev pub decreases-loop-behind : goal.decreases-loop-behind
-decreases-loop-behind l = length l.rest.now
+abbrev pub decreases-loop-rest : goal.decreases-loop-rest
+decreases-loop-rest l = length l.rest

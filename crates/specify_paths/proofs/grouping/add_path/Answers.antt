@@ -4,5 +4,5 @@ use Rattle.specify_paths.proofs.grouping.add_path.Goals as goal
 
 pub returns : goal.returns
 returns c = λ ps keys group.
-    let placed = c.in_ok-place_of_output.ensures ps keys group in
+    let placed = c.in_ok-at.ensures ps keys group in
     (placed.keys_are, c.in_ok-push_path.ensures ∙ placed.taking)

@@ -1,5 +1,5 @@
 -- What is there, followed by what is left, is the whole.
-use Rattle.std.proofs.Common.{◌≡◌, ◌++◌, List, map, drop}
+use Rattle.std.proofs.Common.{◌≡◌, ◌++◌, ◌<◌, ℕ, List, map, drop}
 use Rattle.std.specs.Prelude.{flat_map}
 use Rattle.specify_values.specs.Seen.{limits_seen}
 use Rattle.specify_paths.specs.Seen.{ArePathsInRow, Said, bits_seen, path_to_seen, path_said, said_at}
@@ -13,4 +13,4 @@ invariant-loop-input l =
     ≡ map (path_to_seen l.table said) l.initial.list.items
     ++ map (path_said (said_at said l.origin.statement) l.origin.place (limits_seen l.limits))
     (flat_map (λ i. map (λ o. (i, o)) (bits_seen l.table l.ends.outputs.items)) (bits_seen l.table l.ends.inputs.items)))
-    × (ArePathsInRow l.table l.initial.list.items → ArePathsInRow l.table l.list.items)
+    × ((statements : ℕ) → l.origin.statement < statements → ArePathsInRow l.table statements l.initial.list.items → ArePathsInRow l.table statements l.list.items)
