@@ -1,6 +1,6 @@
 -- Operands of conditions one after another, and what reading a condition tells.
-use Rattle.std.specs.Prelude.{◌≡◌, ℕ, List, [], ◌∷◌, ◌++◌, Bool, true, false, ◌&&◌, not, ◌==◌, Option, Some, None, Result, Ok, Err, is_err, flat_map, length, refl}
-use Rattle.std.proofs.Common.{sym, ◌∙◌, ap, arith, subst, eq-eqb}
+use Rattle.std.specs.Prelude.{◌≡◌, ℕ, List, [], ◌∷◌, ◌++◌, true, false, ◌&&◌, not, ◌==◌, Option, Some, None, Result, Ok, Err, is_err, flat_map, length, refl}
+use Rattle.std.proofs.Common.{sym, ◌∙◌, ap, subst}
 use Rattle.cond_expr.specs.declared.faults.CondFault.{CondFault}
 use Rattle.cond_expr.specs.declared.faults.CondFault.TheVariants as cond
 use Rattle.cond_expr.specs.declared.tokens.Tok.TheVariants as tok
