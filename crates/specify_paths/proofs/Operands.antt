@@ -1,4 +1,4 @@
--- Operands of conditions one after another, and what reading a condition tells.
+-- What reading a condition tells.
 use Rattle.std.specs.Prelude.{◌≡◌, ℕ, List, [], ◌∷◌, ◌++◌, Bool, true, false, ◌&&◌, not, ◌==◌, Option, Some, None, Result, Ok, Err, is_err, flat_map, length, refl}
 use Rattle.std.proofs.Common.{sym, ◌∙◌, ap, arith, subst, eq-eqb}
 use Rattle.cond_expr.specs.declared.faults.CondFault.{CondFault}
@@ -30,73 +30,7 @@ use Rattle.specify_values.proofs.InTurn.{fault-told}
 use Rattle.specify_paths.specs.Seen.{IsRead}
 use Rattle.specify_paths.specs.Words.{first_operand, operand_with, refusal_of}
 
--- ---- operands
-
-abbrev listed : Option Term → List Term
-listed None = []
-listed (Some t) = t ∷ []
-
-one-listed : (p : Place) (t : Tok) (next : Option Tok) → operand_of p t next ≡ listed (operand_with p t next)
-one-listed p (tok.Name n) next = refl
-one-listed p (tok.Index i) next = refl
-one-listed p (tok.Const v) next = refl
-one-listed p (tok.Op o) next = refl
-one-listed p tok.Left next = refl
-one-listed p tok.Right next = refl
-
-first-listed : (w : Word) (ws : List Word) → operands (w ∷ ws) ≡ listed (first_operand (w ∷ ws)) ++ operands ws
-first-listed w ws = ap (λ ts. ts ++ operands ws) (one-listed w.place w.token (next_token ws))
-
-module _ (faults : Term → List Fault) where
-  first-refused : (w : Word) (ws : List Word) (t : Term) (r : Refused ElabKind) → Some t ≡ first_operand (w ∷ ws) → RefusesOneOf (faults t) r → RefusesOneOf (flat_map faults (operands (w ∷ ws))) r
-  first-refused w ws t r e h =
-      subst (λ ts. RefusesOneOf (flat_map faults ts) r) (sym (first-listed w ws ∙ ap (λ o. listed o ++ operands ws) (sym e))) (refused-left (faults t) (flat_map faults (operands ws)) r h)
-
-  first-passed : (w : Word) (ws : List Word) (t : Term) → Some t ≡ first_operand (w ∷ ws) → faults t ≡ [] → flat_map faults (operands ws) ≡ flat_map faults (operands (w ∷ ws))
-  first-passed w ws t e h = sym (ap (flat_map faults) (first-listed w ws ∙ ap (λ o. listed o ++ operands ws) (sym e)) ∙ ap (λ fs. fs ++ flat_map faults (operands ws)) h)
-
-  none-first : (w : Word) (ws : List Word) → None ≡ first_operand (w ∷ ws) → flat_map faults (operands ws) ≡ flat_map faults (operands (w ∷ ws))
-  none-first w ws e = sym (ap (flat_map faults) (first-listed w ws ∙ ap (λ o. listed o ++ operands ws) (sym e)))
-
-pub operand-refused : (vs : List Variable) (w : Word) (ws : List Word) (t : Term) (r : Refused ElabKind) → Some t ≡ first_operand (w ∷ ws) → RefusesOneOf (operand_faults vs t) r
-    → RefusesOneOf (flat_map (operand_faults vs) (operands (w ∷ ws))) r
-operand-refused vs w ws t r e h = first-refused (operand_faults vs) w ws t r e h
-
-pub operand-passed : (vs : List Variable) (w : Word) (ws : List Word) (t : Term) → Some t ≡ first_operand (w ∷ ws) → operand_faults vs t ≡ []
-    → flat_map (operand_faults vs) (operands ws) ≡ flat_map (operand_faults vs) (operands (w ∷ ws))
-operand-passed vs w ws t e h = first-passed (operand_faults vs) w ws t e h
-
-pub no-operand : (vs : List Variable) (w : Word) (ws : List Word) → None ≡ first_operand (w ∷ ws) → flat_map (operand_faults vs) (operands ws) ≡ flat_map (operand_faults vs) (operands (w ∷ ws))
-no-operand vs w ws e = none-first (operand_faults vs) w ws e
-
-pub name-refused : (vs : List Variable) (w : Word) (ws : List Word) (t : Term) (r : Refused ElabKind) → Some t ≡ first_operand (w ∷ ws) → RefusesOneOf (term_faults vs t) r
-    → RefusesOneOf (flat_map (term_faults vs) (operands (w ∷ ws))) r
-name-refused vs w ws t r e h = first-refused (term_faults vs) w ws t r e h
-
-pub name-passed : (vs : List Variable) (w : Word) (ws : List Word) (t : Term) → Some t ≡ first_operand (w ∷ ws) → term_faults vs t ≡ []
-    → flat_map (term_faults vs) (operands ws) ≡ flat_map (term_faults vs) (operands (w ∷ ws))
-name-passed vs w ws t e h = first-passed (term_faults vs) w ws t e h
-
-pub no-name : (vs : List Variable) (w : Word) (ws : List Word) → None ≡ first_operand (w ∷ ws) → flat_map (term_faults vs) (operands ws) ≡ flat_map (term_faults vs) (operands (w ∷ ws))
-no-name vs w ws e = none-first (term_faults vs) w ws e
-
--- ---- one bit
-
-pub operand-wide : (vs : List Variable) (t : Term) (n : ℕ) → term_faults vs t ≡ [] → n ≡ length (bits vs (expression_of t)) → (n == 1) ≡ false → RefusesOneOf (operand_faults vs t) (refused.Fault WidthMismatch t.name.place)
-operand-wide vs t n sound e h =
-    refused-right (term_faults vs t) _ (refused.Fault WidthMismatch t.name.place)
-    (fault-told (is_empty (term_faults vs t) && not (length (bits vs (expression_of t)) == 1)) WidthMismatch t.name.place
-    (ap (λ fs. is_empty fs && not (length (bits vs (expression_of t)) == 1)) sound ∙ ap (λ k. not (k == 1)) (sym e) ∙ ap not h))
-
-pub operand-fine : (vs : List Variable) (t : Term) (n : ℕ) → term_faults vs t ≡ [] → n ≡ length (bits vs (expression_of t)) → (n == 1) ≡ true → operand_faults vs t ≡ []
-operand-fine vs t n sound e h =
-    ap (λ fs. fs ++ fault_if (is_empty (term_faults vs t) && not (length (bits vs (expression_of t)) == 1)) WidthMismatch t.name.place) sound
-    ∙ ap (λ b. fault_if b WidthMismatch t.name.place) (ap (λ fs. is_empty fs && not (length (bits vs (expression_of t)) == 1)) sound ∙ ap (λ k. not (k == 1)) (sym e) ∙ ap not h)
-
 -- ---- reading
-
-abbrev success : Cond ℕ → Result (Cond ℕ) ℕ
-success c = Ok c
 
 pub read-as : (ts : List Tok) (e : Condition) → (e.tokens ≡ ts) × Spelled ts e.tree → IsRead ts e
 read-as ts e h = record { tokens_are = h.0; tree_is = all_again kind_of (expression 64) (expression-exact 64) ts e.tree h.1 }

@@ -71,8 +71,3 @@ module _ (vs : List Variable) (p : SpecifyPath) where
       → (is_parallel p.arrow && not (length inputs == length outputs)) ≡ true → RefusesOneOf (end_faults vs p ++ side_faults vs p) (refused.Fault WidthMismatch p.place)
   sides-told inputs outputs h g e f differ =
       refused-right (end_faults vs p) (side_faults vs p) (refused.Fault WidthMismatch p.place) (fault-told (sides_differ vs p) WidthMismatch p.place (differing inputs outputs h g e f ∙ differ))
-
-  pub sides-faultless : (inputs outputs : List ℕ) → flat_map (port_faults is_input vs) sources ≡ [] → flat_map (port_faults is_output vs) terms ≡ [] → bits_seen vs inputs ≡ terms_bits vs sources → bits_seen vs outputs ≡ terms_bits vs terms
-      → (is_parallel p.arrow && not (length inputs == length outputs)) ≡ false → end_faults vs p ++ side_faults vs p ≡ []
-  sides-faultless inputs outputs h g e f same =
-      none (end_faults vs p) (side_faults vs p) (none (flat_map (port_faults is_input vs) sources) _ h g) (ap (λ b. fault_if b WidthMismatch p.place) (differing inputs outputs h g e f ∙ same))

@@ -53,23 +53,9 @@ same-row vs old new e h = subst (AreInRow vs) (sym e) h
 pub bits-are : (vs : List Variable) (t : code_term.Term) (e : Expression) (bs : List code.Bit) → e ≡ expression_of (view_term t) → map (view_bit vs) bs ≡ bits vs e → map (view_bit vs) bs ≡ bits vs (expression_of (view_term t))
 bits-are vs t e bs is h = h ∙ ap (bits vs) is
 
-pub bits-counted : (vs : List Variable) (t : code_term.Term) (e : Expression) (bs : List code.Bit) → e ≡ expression_of (view_term t) → map (view_bit vs) bs ≡ bits vs e → length bs ≡ length (bits vs (expression_of (view_term t)))
-bits-counted vs t e bs is h = sym (length-map bs (view_bit vs)) ∙ ap length (bits-are vs t e bs is h)
-
 pub term-added : (vs : List Variable) (t : code_term.Term) (e : Expression) (bs : List code.Bit) (old new : List ℕ) → e ≡ expression_of (view_term t) → map (view_bit vs) bs ≡ bits vs e
     → bits_seen vs new ≡ bits_seen vs old ++ filter_map net_bit (map (view_bit vs) bs) → bits_seen vs new ≡ bits_seen vs old ++ term_bits vs (view_term t)
 term-added vs t e bs old new is h more = more ∙ ap (λ cs. bits_seen vs old ++ filter_map net_bit cs) (bits-are vs t e bs is h)
-
--- ---- a term more
-
-pub next-term : (vs : List Variable) (xs : List code_term.Term) (i : ℕ) (x : code_term.Term) (old new total : List NetBit) → i < length xs → x ≡ slice_index_or xs i x → new ≡ old ++ term_bits vs (view_term x)
-    → old ++ terms_bits vs (map view_term (drop i xs)) ≡ total → new ++ terms_bits vs (map view_term (drop (i + 1) xs)) ≡ total
-next-term vs xs i x old new total lt at more h =
-    let n : suc i ≡ i + 1 = omega arith in
-    let rest = terms_bits vs (map view_term (drop (i + 1) xs)) in
-    ap (λ bs. bs ++ rest) more ∙ append_assoc old (term_bits vs (view_term x)) rest
-    ∙ ap (λ bs. old ++ bs) (sym (ap (λ ys. terms_bits vs (map view_term ys)) (drop-cons xs i x lt ∙ ap (λ y. y ∷ drop (suc i) xs) (sym at))
-    ∙ ap (λ k. term_bits vs (view_term x) ++ terms_bits vs (map view_term (drop k xs))) n)) ∙ h
 
 -- ---- what a check of another crate tells
 
