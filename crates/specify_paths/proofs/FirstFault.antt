@@ -1,5 +1,5 @@
 -- In a loop over a list, the first of its elements that has a fault is refused, and where none has, the others are left.
-use Rattle.std.specs.Prelude.{◌≡◌, ℕ, suc, ◌+◌, ◌<◌, List, [], ◌∷◌, ◌++◌, flat_map, length, map, slice_index_or}
+use Rattle.std.specs.Prelude.{◌≡◌, ℕ, suc, ◌+◌, ◌<◌, List, [], ◌++◌, flat_map, length, map, slice_index_or}
 use Rattle.std.proofs.Common.{sym, ◌∙◌, ap, arith, subst, drop, drop-cons}
 use Rattle.sg_text.specs.declared.refusals.Refused.{Refused}
 use Rattle.elab_model.specs.declared.kinds.ElabKind.{ElabKind}

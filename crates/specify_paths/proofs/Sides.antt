@@ -1,5 +1,5 @@
 -- The two sides of a path: their terms are sound, and whether their widths differ.
-use Rattle.std.specs.Prelude.{◌≡◌, ℕ, List, [], ◌∷◌, ◌++◌, Bool, true, false, ◌&&◌, not, ◌==◌, flat_map, length, map, refl}
+use Rattle.std.specs.Prelude.{◌≡◌, ℕ, List, [], ◌∷◌, ◌++◌, Bool, true, false, ◌&&◌, not, ◌==◌, flat_map, length, refl}
 use Rattle.std.proofs.Common.{sym, ◌∙◌, ap}
 use Rattle.std.proofs.lemmas.Bool.{eqb-true}
 use denote.Enum.Bare.{sameb}
@@ -13,7 +13,7 @@ use Rattle.vl_tree.specs.declared.paths.Arrow.TheVariants.{Parallel, Full}
 use Rattle.vl_tree.specs.Tree.{Term, SpecifyPath}
 use Rattle.elab_model.specs.declared.kinds.ElabKind.{ElabKind}
 use Rattle.elab_model.specs.declared.kinds.ElabKind.TheVariants.{WidthMismatch}
-use Rattle.elab_model.specs.Faults.{fault_if, RefusesOneOf}
+use Rattle.elab_model.specs.Faults.{RefusesOneOf}
 use Rattle.elab_model.specs.Hierarchy.{is_empty}
 use Rattle.elab_model.specs.Homes.{is_input, is_output}
 use Rattle.elab_model.specs.Names.{Variable}
@@ -22,7 +22,7 @@ use Rattle.specify_model.specs.Faults.{term_faults, port_faults, are_sound, is_p
 use Rattle.specify_model.specs.Terms.{terms_bits}
 use Rattle.specify_values.proofs.InTurn.{fault-told}
 use Rattle.specify_paths.specs.Seen.{bit_seen, bits_seen}
-use Rattle.specify_paths.proofs.InOrder.{none, none-left, none-right}
+use Rattle.specify_paths.proofs.InOrder.{none-left, none-right}
 
 sound : (such : Port → Bool) (vs : List Variable) (ts : List Term) → flat_map (port_faults such vs) ts ≡ [] → are_sound vs ts ≡ true
 sound such vs [] h = refl

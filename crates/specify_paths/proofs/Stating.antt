@@ -20,9 +20,9 @@ use Rattle.elab_names.proofs.Refusals.{refused-left}
 use Rattle.specify_model.specs.Conditions.{ModuleCondition, If, condition_of, condition_over, operand_bit, over, tokens, tree_of}
 use Rattle.specify_model.specs.Faults.{condition_faults, own_condition}
 use Rattle.specify_model.specs.Paths.{edge_of}
-use Rattle.specify_model.specs.Values.{Measure, Values, all_delays, expanded, twelve_delays}
+use Rattle.specify_model.specs.Values.{Measure, Values, all_delays, expanded}
 use Rattle.specify_paths.specs.Seen.{IsRead, Said, said_of}
-use Rattle.specify_paths.proofs.Operands.{condition-bound}
+use Rattle.specify_paths.proofs.ReadConditions.{condition-bound}
 
 abbrev said : Option Edge → ModuleCondition → List ℕ → Said
 said e c ds = record { edge = e; condition = c; delays = ds }

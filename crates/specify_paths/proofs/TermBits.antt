@@ -1,22 +1,22 @@
 -- The bits of terms, one after another, as places of the row.
-use Rattle.std.specs.Prelude.{◌≡◌, ℕ, suc, ◌+◌, ◌<◌, All, List, [], ◌∷◌, ◌++◌, Bool, true, false, Result, Ok, Err, OnOk, IfErr, filter_map, length, map, slice_index_or, refl}
+use Rattle.std.specs.Prelude.{◌≡◌, ℕ, suc, ◌+◌, ◌<◌, All, List, [], ◌∷◌, ◌++◌, Result, Ok, Err, OnOk, IfErr, filter_map, length, map, slice_index_or}
 use Rattle.std.proofs.Common.{sym, ◌∙◌, ap, arith, subst, append_assoc, drop, drop-cons}
-use Rattle.std.proofs.lemmas.List.{length-map, map-append}
+use Rattle.std.proofs.lemmas.List.{map-append}
 use Rattle.std.proofs.lemmas.List.Elements.{All-push, All-same}
 use Rattle.sg_logic.specs.declared.values.Value.{Value}
 use Rattle.sg_text.specs.declared.places.Place.{Place}
 use Rattle.sg_text.specs.declared.refusals.Refused.{Refused}
 use Rattle.vl_tree.specs.declared.specify.Term as code_term
-use Rattle.vl_tree.specs.Seen.{view_expression, view_term}
+use Rattle.vl_tree.specs.Seen.{view_term}
 use Rattle.vl_tree.specs.Tree.{Expression}
 use Rattle.elab_bits.specs.Seen.{IsInRow, view_bit}
 use Rattle.elab_bits.specs.declared.bits.Bit as code
 use Rattle.elab_bits.specs.declared.bits.Bit.TheVariants as bit
-use Rattle.elab_model.specs.Bits.{Bit, bits}
+use Rattle.elab_model.specs.Bits.{bits}
 use Rattle.elab_model.specs.declared.kinds.ElabKind.{ElabKind}
 use Rattle.elab_model.specs.Faults.{Fault, RefusesOneOf}
 use Rattle.elab_model.specs.Names.{Variable}
-use Rattle.specify_model.specs.Terms.{NetBit, net_bit, expression_of, term_bits, terms_bits}
+use Rattle.specify_model.specs.Terms.{NetBit, net_bit, expression_of, term_bits}
 use Rattle.specify_values.specs.Telling.{Tells}
 use Rattle.specify_paths.specs.Seen.{AreInRow, bit_seen, bits_seen}
 

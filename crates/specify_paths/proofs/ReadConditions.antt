@@ -1,9 +1,8 @@
 -- What reading a condition tells.
-use Rattle.std.specs.Prelude.{◌≡◌, ℕ, List, [], ◌∷◌, ◌++◌, Bool, true, false, ◌&&◌, not, ◌==◌, Option, Some, None, Result, Ok, Err, is_err, flat_map, length, refl}
-use Rattle.std.proofs.Common.{sym, ◌∙◌, ap, arith, subst, eq-eqb}
+use Rattle.std.specs.Prelude.{◌≡◌, ℕ, List, [], ◌++◌, true, Result, Ok, Err, is_err, flat_map, refl}
+use Rattle.std.proofs.Common.{sym, ◌∙◌, ap, subst}
 use Rattle.cond_expr.specs.declared.faults.CondFault.{CondFault}
 use Rattle.cond_expr.specs.declared.faults.CondFault.TheVariants as cond
-use Rattle.cond_expr.specs.declared.tokens.Tok.TheVariants as tok
 use Rattle.cond_expr.specs.Condition.{Condition, IsReadAs, Spelled}
 use Rattle.cond_expr.specs.Exactness.{expression-exact}
 use Rattle.cond_expr.specs.Grammar.{expression}
@@ -14,21 +13,17 @@ use Rattle.cond_expr.proofs.WholeConditions.{spelled_if_read}
 use Rattle.grammar.proofs.Whole.{all_again}
 use Rattle.sg_text.specs.declared.places.Place.{Place}
 use Rattle.sg_text.specs.declared.refusals.Refused.{Refused}
-use Rattle.sg_text.specs.declared.refusals.Refused.TheVariants as refused
-use Rattle.vl_tree.specs.Tree.{Term, Word}
+use Rattle.vl_tree.specs.Tree.{Word}
 use Rattle.elab_model.specs.declared.kinds.ElabKind.{ElabKind}
-use Rattle.elab_model.specs.declared.kinds.ElabKind.TheVariants.{WidthMismatch, TooDeep}
-use Rattle.elab_model.specs.Bits.{bits}
-use Rattle.elab_model.specs.Faults.{Fault, fault_if, RefusesOneOf}
-use Rattle.elab_model.specs.Hierarchy.{is_empty}
+use Rattle.elab_model.specs.declared.kinds.ElabKind.TheVariants.{TooDeep}
+use Rattle.elab_model.specs.Faults.{fault_if, RefusesOneOf}
 use Rattle.elab_model.specs.Names.{Variable}
 use Rattle.elab_names.proofs.Refusals.{refused-left, refused-right}
-use Rattle.specify_model.specs.Conditions.{If, bound_to, condition_over, over, next_token, operand_bit, operand_of, operands, tokens, tree_of}
-use Rattle.specify_model.specs.Faults.{term_faults, operand_faults, condition_faults, first_place}
-use Rattle.specify_model.specs.Terms.{expression_of}
+use Rattle.specify_model.specs.Conditions.{If, bound_to, condition_over, over, operand_bit, operands, tokens, tree_of}
+use Rattle.specify_model.specs.Faults.{operand_faults, condition_faults, first_place}
 use Rattle.specify_values.proofs.InTurn.{fault-told}
 use Rattle.specify_paths.specs.Seen.{IsRead}
-use Rattle.specify_paths.specs.Words.{first_operand, operand_with, refusal_of}
+use Rattle.specify_paths.specs.Words.{refusal_of}
 
 -- ---- reading
 
