@@ -1,7 +1,7 @@
 -- Lists that grow in turn: what is there, followed by what is left, is the whole.
 use Rattle.std.specs.Prelude.{◌≡◌, ◌⊎◌, ℕ, zero, suc, ◌+◌, ◌<◌, ◌≤◌, List, [], ◌∷◌, ◌++◌, All, length, map, flat_map, slice_index_or, take, zip, refl}
 use Rattle.std.proofs.Common.{sym, ◌∙◌, ap, arith, subst, inl, inr, drop, drop-cons, append_assoc, append-nil}
-use Rattle.std.proofs.lemmas.List.{map-append, length-map, take_more, take_all, drop_all}
+use Rattle.std.proofs.lemmas.List.{map-append, take_more, drop_all}
 use Rattle.std.proofs.lemmas.List.Elements.{All-push}
 use Rattle.std.proofs.lemmas.Grind.{flat_map-append}
 
@@ -112,8 +112,8 @@ module _ {A B : Type 0} (F : A → B) where
         → map F list ++ map f (zip (map bit (drop i xs)) (map bit (drop i ys))) ≡ whole → map F list ≡ whole
     pair-end i count list whole left right le h =
         elim (ordered (length xs) (length ys)) [
-          inl o ↦ pair-end_left i list whole (omega (arith, left o, le)) h
-        | inr o ↦ pair-end_right i list whole (omega (arith, right o, le)) h
+          | inl o ↦ pair-end_left i list whole (omega (arith, left o, le)) h
+          | inr o ↦ pair-end_right i list whole (omega (arith, right o, le)) h
         ]
 
 -- ---- those so far of a list that is seen by a view

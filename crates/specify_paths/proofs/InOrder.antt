@@ -1,6 +1,6 @@
 -- The faults of a module's specify blocks, part by part.
-use Rattle.std.specs.Prelude.{◌≡◌, ℕ, ◌+◌, ◌<◌, ◌≤◌, List, [], ◌∷◌, ◌++◌, flat_map, length, map, slice_index_or, take, refl}
-use Rattle.std.proofs.Common.{sym, ◌∙◌, ap, arith, subst, append_assoc, append-nil}
+use Rattle.std.specs.Prelude.{◌≡◌, List, [], ◌∷◌, ◌++◌, flat_map, refl}
+use Rattle.std.proofs.Common.{sym, ◌∙◌, ap, subst, append_assoc}
 use Rattle.sg_text.specs.declared.refusals.Refused.{Refused}
 use Rattle.vl_tree.specs.Tree.{SpecifyPath, SpecifyItem, Word}
 use Rattle.elab_model.specs.declared.kinds.ElabKind.{ElabKind}

@@ -1,11 +1,10 @@
 -- Different places in the row of a module's bits are different bits.
-use Rattle.std.specs.Prelude.{◌≡◌, ℕ, zero, suc, ◌<◌, ◌==◌, List, [], ◌∷◌, Bool, true, false, ◌&&◌, length, map, slice_index_or, refl, bytes_eq}
+use Rattle.std.specs.Prelude.{◌≡◌, ℕ, zero, suc, ◌<◌, ◌==◌, List, [], ◌∷◌, Bool, true, false, ◌&&◌, length, slice_index_or, refl, bytes_eq}
 use Rattle.std.specs.List.{AllByRecursion}
-use Rattle.std.proofs.Common.{sym, ◌∙◌, ap, arith, subst}
+use Rattle.std.proofs.Common.{sym, ◌∙◌, ap, arith}
 use Rattle.std.proofs.lemmas.Bool.{eq-eqb, eqb-true}
 use Rattle.std.proofs.lemmas.Bool.Decides.{nat_tests}
 use Rattle.std.proofs.lemmas.Slice.Eq.{bytes_eq-Decides}
-use Rattle.elab_bits.specs.Seen.{bit_at}
 use Rattle.elab_laws.specs.Handing.{all_bits, variable_bits}
 use Rattle.elab_laws.proofs.Apart.{bytes-either, numbers-either, variables-apart}
 use Rattle.elab_laws.proofs.Lists.{Pairwise, pairwise-flat, pairwise-map, range-apart, all-anyway, all-map}
@@ -13,8 +12,7 @@ use Rattle.elab_model.specs.Bits.{positions}
 use Rattle.elab_model.specs.Names.{Variable, variables}
 use Rattle.sg_circuit.specs.Closed.{width_of}
 use Rattle.vl_tree.specs.Tree.{Module}
-use Rattle.specify_model.specs.Terms.{is_same_bit}
-use Rattle.specify_paths.specs.Seen.{AreApart, bit_seen}
+use Rattle.specify_paths.specs.Seen.{AreApart}
 
 abbrev Pair : Type 0
 Pair = Variable × ℕ

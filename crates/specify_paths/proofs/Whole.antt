@@ -8,15 +8,15 @@ use Rattle.elab_model.specs.Names.{Variable}
 use Rattle.sg_delay.specs.declared.limits.PulseStyle.{PulseStyle}
 use Rattle.vl_tree.specs.Tree.{SpecifyItem}
 use Rattle.specify_model.specs.Blocks.{parameters, pulses, specify_paths, style_texts}
-use Rattle.specify_model.specs.Outputs.{PathOutput, output_of, first_paths, outputs_by, style_of}
-use Rattle.specify_model.specs.Paths.{PathTo as Seen, paths_of}
+use Rattle.specify_model.specs.Outputs.{output_of, first_paths, outputs_by, style_of}
+use Rattle.specify_model.specs.Paths.{paths_of}
 use Rattle.specify_model.specs.PulseLimits.{Limits, limits_of}
 use Rattle.specify_model.specs.Values.{Measure, Values, value_of}
 use Rattle.specify_paths.specs.Seen.{AreApart, ArePathsInRow, IsPathInRow, Said, bit_seen, path_to_seen, output_seen}
-use Rattle.specify_paths.specs.Words.{Output, grouped, output_kept}
+use Rattle.specify_paths.specs.Words.{grouped, output_kept}
 use Rattle.specify_paths.specs.declared.grouping.PathOutput as code_output
 use Rattle.specify_paths.specs.declared.pairs.PathTo.{PathTo}
-use Rattle.specify_paths.proofs.Bridged.{ToRow, kept_seen, grouped-seen}
+use Rattle.specify_paths.proofs.Bridged.{kept_seen, grouped-seen}
 
 outputs-in : (vs : List Variable) (statements : ℕ) (ps : List PathTo) → ArePathsInRow vs statements ps → AllByRecursion (λ p. p.output < length (all_bits vs)) ps
 outputs-in vs statements ps h = each ps (recursion_from_All (IsPathInRow vs statements) ps h)

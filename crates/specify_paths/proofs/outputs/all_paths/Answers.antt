@@ -1,5 +1,5 @@
 -- One more specify path is there, or its fault is told.
-use Rattle.std.specs.Prelude.{◌≡◌, ◌∷◌, ◌++◌, [], flat_map, length, map}
+use Rattle.std.specs.Prelude.{◌∷◌, ◌++◌, [], flat_map, length, map}
 use Rattle.std.proofs.Common.{arith}
 use Rattle.std.proofs.lemmas.Iterator.Adapters.{YieldsList-from_vec}
 use Rattle.std.proofs.lemmas.Iterator.Consumers.{YieldsList-turn}

@@ -1,5 +1,4 @@
 -- One more path is there.
-use Rattle.std.specs.Prelude.{◌≡◌, ◌<◌, ℕ, length, map}
 use Rattle.std.proofs.Common.{sym, subst}
 use Rattle.specify_values.specs.Seen.{limits_seen}
 use Rattle.specify_paths.specs.Seen.{ArePathsInRow, bit_seen, path_to_seen, path_said, said_at}
@@ -27,4 +26,4 @@ pub returns-clause-paths : goal.returns-clause-paths
 returns-clause-paths c =
     let vs = c.args.table.now in
     λ said. from-end (path_to_seen vs said) (path_said (said_at said c.args.origin.statement) c.args.origin.place (limits_seen c.args.limits.now)) (λ o. (bit_seen vs c.args.input, o)) (bit_seen vs)
-        c.args.outputs.now c.loop-output.output-index c.loop-output.list.items _ c.loop-output-test.false (c.loop-output.invariant.0 said)
+    c.args.outputs.now c.loop-output.output-index c.loop-output.list.items _ c.loop-output-test.false (c.loop-output.invariant.0 said)

@@ -1,5 +1,5 @@
 -- One more path is there.
-use Rattle.std.specs.Prelude.{◌≡◌, ◌<◌, length}
+use Rattle.std.specs.Prelude.{◌<◌, length}
 use Rattle.std.proofs.Common.{arith, sym, subst}
 use Rattle.specify_values.specs.Seen.{limits_seen}
 use Rattle.specify_paths.specs.Seen.{ArePathsInRow, bit_seen, path_to_seen, path_said, said_at}
@@ -33,5 +33,5 @@ returns-clause-paths c =
     let xs = c.args.ends.now.inputs.items in
     let ys = c.args.ends.now.outputs.items in
     λ said. pair-end (path_to_seen vs said) (path_said (said_at said c.args.origin.statement) c.args.origin.place (limits_seen c.args.limits.now)) (bit_seen vs) xs ys c.loop-at.at c.min-count.result
-        c.loop-at.list.items _ (λ o. omega (arith, o, c.min-count.ensures, c.len.ensures, c.len-2.ensures, c.args.ends.now.inputs.ok.0, c.args.ends.now.outputs.ok.0))
-        (λ o. omega (arith, o, c.min-count.ensures, c.len.ensures, c.len-2.ensures, c.args.ends.now.inputs.ok.0, c.args.ends.now.outputs.ok.0)) c.loop-at-test.false (c.loop-at.invariant.0 said)
+    c.loop-at.list.items _ (λ o. omega (arith, o, c.min-count.ensures, c.len.ensures, c.len-2.ensures, c.args.ends.now.inputs.ok.0, c.args.ends.now.outputs.ok.0))
+    (λ o. omega (arith, o, c.min-count.ensures, c.len.ensures, c.len-2.ensures, c.args.ends.now.inputs.ok.0, c.args.ends.now.outputs.ok.0)) c.loop-at-test.false (c.loop-at.invariant.0 said)
