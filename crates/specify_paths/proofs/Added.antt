@@ -5,18 +5,9 @@ use Rattle.std.proofs.lemmas.List.{map-append, take_more, drop_all}
 use Rattle.std.proofs.lemmas.List.Elements.{All-push}
 use Rattle.std.proofs.lemmas.Grind.{flat_map-append}
 
--- ---- an item of a list, or of one that it is
+-- ---- an item of a list
 
-pub same-bound : {A : Type 0} (ys xs : List A) (i : ℕ) → ys ≡ xs → i < length ys → i < length xs
-same-bound ys xs i same lt = subst (λ zs. i < length zs) same lt
-
-pub same-item : {A : Type 0} (ys xs : List A) (i : ℕ) (x : A) → ys ≡ xs → x ≡ slice_index_or ys i x → x ≡ slice_index_or xs i x
-same-item ys xs i x same at = at ∙ ap (λ zs. slice_index_or zs i x) same
-
-pub same-end : {A : Type 0} (ys xs : List A) (i : ℕ) → ys ≡ xs → length ys ≤ i → length xs ≤ i
-same-end ys xs i same le = subst (λ zs. length zs ≤ i) same le
-
-pub dropped : {A : Type 0} (xs : List A) (i : ℕ) (x : A) → i < length xs → x ≡ slice_index_or xs i x → drop i xs ≡ x ∷ drop (i + 1) xs
+dropped : {A : Type 0} (xs : List A) (i : ℕ) (x : A) → i < length xs → x ≡ slice_index_or xs i x → drop i xs ≡ x ∷ drop (i + 1) xs
 dropped xs i x lt at =
     let n : suc i ≡ i + 1 = omega arith in
     drop-cons xs i x lt ∙ ap (λ y. y ∷ drop (suc i) xs) (sym at) ∙ ap (λ k. x ∷ drop k xs) n
@@ -28,7 +19,7 @@ pub grown-all : {A : Type 0} (P : A → Type 0) (xs new : List A) (x : A) → ne
 grown-all P xs new x grown all one = subst (All P) (sym grown) (All-push P xs x all one)
 
 -- the item that is read with a default
-pub item-read : {A : Type 0} (xs : List A) (i : ℕ) (d : A) → i < length xs → slice_index_or xs i d ≡ slice_index_or xs i (slice_index_or xs i d)
+item-read : {A : Type 0} (xs : List A) (i : ℕ) (d : A) → i < length xs → slice_index_or xs i d ≡ slice_index_or xs i (slice_index_or xs i d)
 item-read [] i d lt = absurd (omega (arith, lt))
 item-read (x ∷ xs) zero d lt = refl
 item-read (x ∷ xs) (suc i) d lt = item-read xs i d (omega (arith, lt))
@@ -55,9 +46,6 @@ module _ {A B : Type 0} (F : A → B) where
         one-more list new p (map f (map g (map bit (drop i xs)))) (map f (map g (map bit (drop (i + 1) xs)))) whole grown
         (ap (λ ys. map f (map g (map bit ys))) (dropped xs i (slice_index_or xs i d) lt (item-read xs i d lt)) ∙ ap (λ b. b ∷ map f (map g (map bit (drop (i + 1) xs)))) (sym is)) h
 
-    pub from-end : (i : ℕ) (list : List A) (whole : List B) → length xs ≤ i → map F list ++ map f (map g (map bit (drop i xs))) ≡ whole → map F list ≡ whole
-    from-end i list whole le h = at-end list (map f (map g (map bit (drop i xs)))) whole (ap (λ ys. map f (map g (map bit ys))) (drop_all i xs le)) h
-
   -- ---- from each bit to each
 
   module _ {C D : Type 0} (f : C → B) (g : List ℕ → D → List C) (bit : ℕ → D) (os outs ys xs : List ℕ) where
@@ -70,11 +58,6 @@ module _ {A B : Type 0} (F : A → B) where
         (ap (λ zs. map f (flat_map (g outs) (map bit (drop i zs)))) (sym same) ∙ ap (λ zs. map f (flat_map (g outs) (map bit zs))) (dropped ys i x lt (item-read ys i d lt))
         ∙ map-append f (g outs (bit x)) (flat_map (g outs) (map bit (drop (i + 1) ys))) ∙ ap (λ zs. map f (g outs (bit x)) ++ map f (flat_map (g outs) (map bit (drop (i + 1) zs)))) same)
         h
-
-    pub full-end : (i : ℕ) (list : List A) (whole : List B) → ys ≡ xs → length ys ≤ i → map F list ++ map f (flat_map (g outs) (map bit (drop i xs))) ≡ whole → map F list ≡ whole
-    full-end i list whole same le h =
-        at-end list (map f (flat_map (g outs) (map bit (drop i xs)))) whole
-        (ap (λ zs. map f (flat_map (g outs) (map bit (drop i zs)))) (sym same) ∙ ap (λ zs. map f (flat_map (g outs) (map bit zs))) (drop_all i ys le)) h
 
   -- ---- bit by bit
 

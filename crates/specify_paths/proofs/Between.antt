@@ -3,7 +3,7 @@ use Rattle.std.specs.Prelude.{◌≡◌, ℕ, ◌+◌, ◌<◌, ◌≤◌, List,
 use Rattle.std.specs.Borrow.{Bor}
 use Rattle.std.specs.Option.{option_map}
 use Rattle.std.proofs.Common.{sym, ◌∙◌, ap}
-use Rattle.std.proofs.lemmas.List.{length-map, length-take-le, take_all}
+use Rattle.std.proofs.lemmas.List.{length-map, length-take-le}
 use Rattle.std.proofs.lemmas.Option.{get_or_from_slice_get}
 use Rattle.elab_laws.specs.Handing.{all_bits}
 use Rattle.elab_model.specs.Names.{Variable}
@@ -39,7 +39,7 @@ between-bits vs limits statement i o place from to a b w at there f t is said =
     ap made (is ∙ ap (λ n. limits n to) (name-at vs i from a at f) ∙ ap (limits (bit_seen vs i).name) (name-at vs o to b there t))
 
 -- those of a specify path whose number has what it says
-pub path-added : (by : Measure) (vs : List Variable) (values : Values) (limits : Limits) (p : SpecifyPath) (s : Said) (inputs outputs : List NetBit) (old new : List Seen)
+path-added : (by : Measure) (vs : List Variable) (values : Values) (limits : Limits) (p : SpecifyPath) (s : Said) (inputs outputs : List NetBit) (old new : List Seen)
     → new ≡ old ++ map (path_said s p.place limits) (pairs p.arrow inputs outputs) → s ≡ said_of by vs values p → inputs ≡ terms_bits vs p.sources → outputs ≡ terms_bits vs p.destination.terms
     → new ≡ old ++ paths_of by vs values limits p
 path-added by vs values limits p s inputs outputs old new grown said ins outs =
@@ -77,12 +77,6 @@ module _ {A : Type 0} (view : A → SpecifyPath) (by : Measure) (vs : List Varia
       let said : said_at all_said n ≡ said_of by vs values (view x) = ap (said_at all_said) number ∙ at-view view (said_of by vs values) _ xs i x lt at in
       path-added by vs values limits (view x) (said_at all_said n) inputs outputs old new grown said ins outs
       ∙ ap (λ l. l ++ paths_of by vs values limits (view x)) h ∙ sym (flat-taken view xs (paths_of by vs values limits) i x lt at)
-
-  pub all-so_far : (i : ℕ) (ss : List code_statement.Statement) → length xs ≤ i → map (said_by vs) ss ≡ said_so_far i → map (said_by vs) ss ≡ all_said
-  all-so_far i ss le h = h ∙ ap (λ ys. map (said_of by vs values) (map view ys)) (take_all i xs le)
-
-  pub all-paths : (limits : Limits) (i : ℕ) (seen : List Seen) → length xs ≤ i → seen ≡ flat_map (paths_of by vs values limits) (map view (take i xs)) → seen ≡ flat_map (paths_of by vs values limits) (map view xs)
-  all-paths limits i seen le h = h ∙ ap (λ ys. flat_map (paths_of by vs values limits) (map view ys)) (take_all i xs le)
 
 -- how many there are
 pub said-counted : (by : Measure) (vs : List Variable) (values : Values) (ps : List (Bor code_path.SpecifyPath)) (ss : List code_statement.Statement) → map (said_by vs) ss ≡ map (said_of by vs values) (view_paths ps) → length ss ≡ length ps

@@ -1,8 +1,7 @@
 -- The specify paths of a module in turn: what those so far say, their paths, and the faults of the others.
-use Rattle.std.specs.Prelude.{◌≡◌, ℕ, ◌+◌, ◌<◌, ◌≤◌, All, List, [], ◌∷◌, ◌++◌, flat_map, length, map, slice_index_or, take, refl}
+use Rattle.std.specs.Prelude.{◌≡◌, ℕ, ◌+◌, ◌<◌, All, List, [], ◌∷◌, ◌++◌, flat_map, length, map, slice_index_or, take}
 use Rattle.std.specs.Borrow.{Bor}
 use Rattle.std.proofs.Common.{sym, arith, subst}
-use Rattle.std.proofs.lemmas.List.Elements.{All-nil}
 use Rattle.sg_text.specs.declared.refusals.Refused.{Refused}
 use Rattle.elab_model.specs.declared.kinds.ElabKind.{ElabKind}
 use Rattle.elab_model.specs.Faults.{RefusesOneOf}
@@ -15,14 +14,14 @@ use Rattle.specify_model.specs.Paths.{paths_of}
 use Rattle.specify_model.specs.PulseLimits.{Limits}
 use Rattle.specify_model.specs.Terms.{pairs}
 use Rattle.specify_model.specs.Values.{Measure, Values}
-use Rattle.specify_values.proofs.InTurn.{left_from, next-faultless, none-left, this-refused}
+use Rattle.specify_values.proofs.InTurn.{left_from, next-faultless, this-refused}
 use Rattle.specify_paths.specs.Seen.{AreEnds, ArePathsInRow, bits_seen, path_to_seen, path_said, said_at, said_by, said_of}
 use Rattle.specify_paths.specs.Spelled.{IsSpelled}
 use Rattle.specify_paths.specs.declared.ends.Ends.{Ends}
 use Rattle.specify_paths.specs.declared.pairs.PathTo.{PathTo}
 use Rattle.specify_paths.specs.declared.statements.Statement.{Statement}
 use Rattle.specify_paths.proofs.Added.{grown-all}
-use Rattle.specify_paths.proofs.Between.{all-paths, all-so_far, all_said, next-paths, next-said, number-is, said_so_far}
+use Rattle.specify_paths.proofs.Between.{all_said, next-paths, next-said, number-is, said_so_far}
 
 abbrev pub view : Bor code_path.SpecifyPath → SpecifyPath
 view p = view_path p.now
@@ -35,11 +34,8 @@ module _ (by : Measure) (vs : List Variable) (values : Values) (limits : Limits)
     pub spelled : All (λ s. IsSpelled s.condition) ss
     pub left : left_from view (path_faults by vs values) xs i
 
-  pub none-so_far : AreSoFar 0 [] []
-  none-so_far = record { said = refl; seen = refl; row = All-nil _; spelled = All-nil _; left = refl }
-
   -- the number of the next
-  pub next-number : (i n : ℕ) (x : Bor code_path.SpecifyPath) (ss : List Statement) (list : List PathTo) → AreSoFar i ss list → i < length xs → n ≡ length ss → n ≡ i
+  next-number : (i n : ℕ) (x : Bor code_path.SpecifyPath) (ss : List Statement) (list : List PathTo) → AreSoFar i ss list → i < length xs → n ≡ length ss → n ≡ i
   next-number i n x ss list h lt count = number-is view by vs values xs i n ss (omega (arith, lt)) count h.said
 
   -- one more
@@ -64,14 +60,3 @@ module _ (by : Measure) (vs : List Variable) (values : Values) (limits : Limits)
   pub next-refused : (i : ℕ) (x : Bor code_path.SpecifyPath) (ss : List Statement) (list : List PathTo) (r : Refused ElabKind) → AreSoFar i ss list → i < length xs → x ≡ slice_index_or xs i x
       → RefusesOneOf (path_faults by vs values (view x)) r → RefusesOneOf (flat_map (path_faults by vs values) (map view xs)) r
   next-refused i x ss list r h lt at told = this-refused view (path_faults by vs values) xs i x r lt at h.left told
-
-  -- all
-  pub all-said : (i : ℕ) (ss : List Statement) (list : List PathTo) → AreSoFar i ss list → length xs ≤ i → map (said_by vs) ss ≡ all_said view by vs values xs
-  all-said i ss list h le = all-so_far view by vs values xs i ss le h.said
-
-  pub all-seen : (i : ℕ) (ss : List Statement) (list : List PathTo) → AreSoFar i ss list → length xs ≤ i
-      → map (path_to_seen vs (all_said view by vs values xs)) list ≡ flat_map (paths_of by vs values limits) (map view xs)
-  all-seen i ss list h le = all-paths view by vs values xs limits i (map (path_to_seen vs (all_said view by vs values xs)) list) le h.seen
-
-  pub all-faultless : (i : ℕ) (ss : List Statement) (list : List PathTo) → AreSoFar i ss list → length xs ≤ i → flat_map (path_faults by vs values) (map view xs) ≡ []
-  all-faultless i ss list h le = none-left view (path_faults by vs values) xs i le h.left

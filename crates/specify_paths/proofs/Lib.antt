@@ -10,7 +10,7 @@ pub mod Between
 pub mod Rows
 pub mod Chosen
 pub mod InOrder
-pub mod Operands
+pub mod ReadConditions
 pub mod Sides
 pub mod Changes
 pub mod Stating

@@ -13,7 +13,7 @@ use Rattle.vl_tree.specs.declared.paths.Arrow.TheVariants.{Parallel, Full}
 use Rattle.vl_tree.specs.Tree.{Term, SpecifyPath}
 use Rattle.elab_model.specs.declared.kinds.ElabKind.{ElabKind}
 use Rattle.elab_model.specs.declared.kinds.ElabKind.TheVariants.{WidthMismatch}
-use Rattle.elab_model.specs.Faults.{fault_if, RefusesOneOf}
+use Rattle.elab_model.specs.Faults.{RefusesOneOf}
 use Rattle.elab_model.specs.Hierarchy.{is_empty}
 use Rattle.elab_model.specs.Homes.{is_input, is_output}
 use Rattle.elab_model.specs.Names.{Variable}
@@ -22,7 +22,7 @@ use Rattle.specify_model.specs.Faults.{term_faults, port_faults, are_sound, is_p
 use Rattle.specify_model.specs.Terms.{terms_bits}
 use Rattle.specify_values.proofs.InTurn.{fault-told}
 use Rattle.specify_paths.specs.Seen.{bit_seen, bits_seen}
-use Rattle.specify_paths.proofs.InOrder.{none, none-left, none-right}
+use Rattle.specify_paths.proofs.InOrder.{none-left, none-right}
 
 sound : (such : Port → Bool) (vs : List Variable) (ts : List Term) → flat_map (port_faults such vs) ts ≡ [] → are_sound vs ts ≡ true
 sound such vs [] h = refl
@@ -71,8 +71,3 @@ module _ (vs : List Variable) (p : SpecifyPath) where
       → (is_parallel p.arrow && not (length inputs == length outputs)) ≡ true → RefusesOneOf (end_faults vs p ++ side_faults vs p) (refused.Fault WidthMismatch p.place)
   sides-told inputs outputs h g e f differ =
       refused-right (end_faults vs p) (side_faults vs p) (refused.Fault WidthMismatch p.place) (fault-told (sides_differ vs p) WidthMismatch p.place (differing inputs outputs h g e f ∙ differ))
-
-  pub sides-faultless : (inputs outputs : List ℕ) → flat_map (port_faults is_input vs) sources ≡ [] → flat_map (port_faults is_output vs) terms ≡ [] → bits_seen vs inputs ≡ terms_bits vs sources → bits_seen vs outputs ≡ terms_bits vs terms
-      → (is_parallel p.arrow && not (length inputs == length outputs)) ≡ false → end_faults vs p ++ side_faults vs p ≡ []
-  sides-faultless inputs outputs h g e f same =
-      none (end_faults vs p) (side_faults vs p) (none (flat_map (port_faults is_input vs) sources) _ h g) (ap (λ b. fault_if b WidthMismatch p.place) (differing inputs outputs h g e f ∙ same))

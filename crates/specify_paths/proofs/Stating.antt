@@ -22,7 +22,7 @@ use Rattle.specify_model.specs.Faults.{condition_faults, own_condition}
 use Rattle.specify_model.specs.Paths.{edge_of}
 use Rattle.specify_model.specs.Values.{Measure, Values, all_delays, expanded}
 use Rattle.specify_paths.specs.Seen.{IsRead, Said, said_of}
-use Rattle.specify_paths.proofs.Operands.{condition-bound}
+use Rattle.specify_paths.proofs.ReadConditions.{condition-bound}
 
 abbrev said : Option Edge → ModuleCondition → List ℕ → Said
 said e c ds = record { edge = e; condition = c; delays = ds }

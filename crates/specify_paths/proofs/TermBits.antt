@@ -1,7 +1,7 @@
 -- The bits of terms, one after another, as places of the row.
 use Rattle.std.specs.Prelude.{◌≡◌, ℕ, suc, ◌+◌, ◌<◌, All, List, [], ◌∷◌, ◌++◌, Result, Ok, Err, OnOk, IfErr, filter_map, length, map, slice_index_or}
 use Rattle.std.proofs.Common.{sym, ◌∙◌, ap, arith, subst, append_assoc, drop, drop-cons}
-use Rattle.std.proofs.lemmas.List.{length-map, map-append}
+use Rattle.std.proofs.lemmas.List.{map-append}
 use Rattle.std.proofs.lemmas.List.Elements.{All-push, All-same}
 use Rattle.sg_logic.specs.declared.values.Value.{Value}
 use Rattle.sg_text.specs.declared.places.Place.{Place}
@@ -16,7 +16,7 @@ use Rattle.elab_model.specs.Bits.{bits}
 use Rattle.elab_model.specs.declared.kinds.ElabKind.{ElabKind}
 use Rattle.elab_model.specs.Faults.{Fault, RefusesOneOf}
 use Rattle.elab_model.specs.Names.{Variable}
-use Rattle.specify_model.specs.Terms.{NetBit, net_bit, expression_of, term_bits, terms_bits}
+use Rattle.specify_model.specs.Terms.{NetBit, net_bit, expression_of, term_bits}
 use Rattle.specify_values.specs.Telling.{Tells}
 use Rattle.specify_paths.specs.Seen.{AreInRow, bit_seen, bits_seen}
 
@@ -53,23 +53,9 @@ same-row vs old new e h = subst (AreInRow vs) (sym e) h
 pub bits-are : (vs : List Variable) (t : code_term.Term) (e : Expression) (bs : List code.Bit) → e ≡ expression_of (view_term t) → map (view_bit vs) bs ≡ bits vs e → map (view_bit vs) bs ≡ bits vs (expression_of (view_term t))
 bits-are vs t e bs is h = h ∙ ap (bits vs) is
 
-pub bits-counted : (vs : List Variable) (t : code_term.Term) (e : Expression) (bs : List code.Bit) → e ≡ expression_of (view_term t) → map (view_bit vs) bs ≡ bits vs e → length bs ≡ length (bits vs (expression_of (view_term t)))
-bits-counted vs t e bs is h = sym (length-map bs (view_bit vs)) ∙ ap length (bits-are vs t e bs is h)
-
 pub term-added : (vs : List Variable) (t : code_term.Term) (e : Expression) (bs : List code.Bit) (old new : List ℕ) → e ≡ expression_of (view_term t) → map (view_bit vs) bs ≡ bits vs e
     → bits_seen vs new ≡ bits_seen vs old ++ filter_map net_bit (map (view_bit vs) bs) → bits_seen vs new ≡ bits_seen vs old ++ term_bits vs (view_term t)
 term-added vs t e bs old new is h more = more ∙ ap (λ cs. bits_seen vs old ++ filter_map net_bit cs) (bits-are vs t e bs is h)
-
--- ---- a term more
-
-pub next-term : (vs : List Variable) (xs : List code_term.Term) (i : ℕ) (x : code_term.Term) (old new total : List NetBit) → i < length xs → x ≡ slice_index_or xs i x → new ≡ old ++ term_bits vs (view_term x)
-    → old ++ terms_bits vs (map view_term (drop i xs)) ≡ total → new ++ terms_bits vs (map view_term (drop (i + 1) xs)) ≡ total
-next-term vs xs i x old new total lt at more h =
-    let n : suc i ≡ i + 1 = omega arith in
-    let rest = terms_bits vs (map view_term (drop (i + 1) xs)) in
-    ap (λ bs. bs ++ rest) more ∙ append_assoc old (term_bits vs (view_term x)) rest
-    ∙ ap (λ bs. old ++ bs) (sym (ap (λ ys. terms_bits vs (map view_term ys)) (drop-cons xs i x lt ∙ ap (λ y. y ∷ drop (suc i) xs) (sym at))
-    ∙ ap (λ k. term_bits vs (view_term x) ++ terms_bits vs (map view_term (drop k xs))) n)) ∙ h
 
 -- ---- what a check of another crate tells
 

@@ -1,6 +1,7 @@
 // The paths of specify paths, each from one bit to one bit.
-ghost use Rattle.std.specs.Prelude.{◌≡◌, ◌++◌, ◌<◌, ℕ, List, OnOk, length, map, zip, flat_map};
+ghost use Rattle.std.specs.Prelude.{◌≡◌, ◌++◌, ◌<◌, ℕ, List, OnOk, length, map};
 ghost use Rattle.elab_laws.specs.Handing.{all_bits};
+ghost use Rattle.vl_tree.specs.declared.paths.Arrow.TheVariants as arrow;
 ghost use Rattle.specify_model.specs.Terms as def;
 ghost use Rattle.specify_values.specs.Seen.{limits_seen};
 ghost use Rattle.specify_paths.specs.Seen.{AreInRow, ArePathsInRow, Said, bit_seen, bits_seen, path_to_seen, path_said, said_at};
@@ -73,7 +74,7 @@ fn add_parallel(
     requires inputs { AreInRow table.now ends.now.inputs.items }
     requires outputs { AreInRow table.now ends.now.outputs.items }
     ensures paths { (said : List Said) → OnOk result (map (path_to_seen table.now said) list.new.items ≡ map (path_to_seen table.now said) list.old.items
-        ++ map (path_said (said_at said origin.statement) origin.place (limits_seen limits.now)) (zip (bits_seen table.now ends.now.inputs.items) (bits_seen table.now ends.now.outputs.items))) }
+        ++ map (path_said (said_at said origin.statement) origin.place (limits_seen limits.now)) (def.pairs arrow.Parallel (bits_seen table.now ends.now.inputs.items) (bits_seen table.now ends.now.outputs.items))) }
     ensures row { (statements : ℕ) → origin.statement < statements → ArePathsInRow table.now statements list.old.items → ArePathsInRow table.now statements list.new.items }
 {
     let count = ends.inputs.len().min(ends.outputs.len());
@@ -115,8 +116,7 @@ fn add_full(
     requires inputs { AreInRow table.now ends.now.inputs.items }
     requires outputs { AreInRow table.now ends.now.outputs.items }
     ensures paths { (said : List Said) → OnOk result (map (path_to_seen table.now said) list.new.items ≡ map (path_to_seen table.now said) list.old.items
-        ++ map (path_said (said_at said origin.statement) origin.place (limits_seen limits.now))
-        (flat_map (λ i. map (λ o. (i, o)) (bits_seen table.now ends.now.outputs.items)) (bits_seen table.now ends.now.inputs.items))) }
+        ++ map (path_said (said_at said origin.statement) origin.place (limits_seen limits.now)) (def.pairs arrow.Full (bits_seen table.now ends.now.inputs.items) (bits_seen table.now ends.now.outputs.items))) }
     ensures row { (statements : ℕ) → origin.statement < statements → ArePathsInRow table.now statements list.old.items → ArePathsInRow table.now statements list.new.items }
 {
     for input in &ends.inputs {

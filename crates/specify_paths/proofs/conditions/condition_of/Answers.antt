@@ -7,7 +7,7 @@ use Rattle.elab_model.specs.Faults.{RefusesOneOf}
 use Rattle.specify_model.specs.Faults.{condition_faults}
 use Rattle.specify_values.proofs.InTurn.{exit}
 use Rattle.specify_paths.specs.Words.{refusal_of}
-use Rattle.specify_paths.proofs.Operands.{condition-read, condition-faultless, operands-told, condition-told}
+use Rattle.specify_paths.proofs.ReadConditions.{condition-read, condition-faultless, operands-told, condition-told}
 use Rattle.specify_paths.proofs.conditions.condition_of.Goals as goal
 
 pub returns-in_err-check_operands-clause-told : goal.returns-in_err-check_operands-clause-told

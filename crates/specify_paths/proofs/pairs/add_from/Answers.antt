@@ -2,7 +2,7 @@
 use Rattle.std.proofs.Common.{sym, subst}
 use Rattle.specify_values.specs.Seen.{limits_seen}
 use Rattle.specify_paths.specs.Seen.{ArePathsInRow, bit_seen, path_to_seen, path_said, said_at}
-use Rattle.specify_paths.proofs.Added.{from-end, from-step}
+use Rattle.specify_paths.proofs.Added.{from-step}
 use Rattle.specify_paths.proofs.Rows.{one-more_in_row, path-in_row}
 use Rattle.specify_paths.proofs.pairs.add_from.Goals as goal
 
@@ -21,9 +21,3 @@ loop-output-preserved c =
           (c.requires.outputs i _ c.loop-output-test.true) lt)
           (c.loop-output.invariant.1 n lt h),
     )
-
-pub returns-clause-paths : goal.returns-clause-paths
-returns-clause-paths c =
-    let vs = c.args.table.now in
-    λ said. from-end (path_to_seen vs said) (path_said (said_at said c.args.origin.statement) c.args.origin.place (limits_seen c.args.limits.now)) (λ o. (bit_seen vs c.args.input, o)) (bit_seen vs)
-    c.args.outputs.now c.loop-output.output-index c.loop-output.list.items _ c.loop-output-test.false (c.loop-output.invariant.0 said)
