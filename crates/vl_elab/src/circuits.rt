@@ -58,12 +58,12 @@ fn circuit_below(
 }
 
 // The circuit of the instances below a top.
-fn circuit_of(
+fn circuit_of<'t, 'a>(
     alloc: Global,
     corner: Corner,
     tick: Unit,
-    definitions: &Definitions,
-    instances: &[Placed],
+    definitions: &Definitions<'t, 'a>,
+    instances: &[Placed<'t, 'a>],
 ) -> Result<Circuit, Refused<ElabKind>>
     requires below { (m : Module) × AreBelow definitions.now m tick instances.now }
     ensures circuit { IfOk result (λ made. (m : Module) → AreBelow definitions.now m tick instances.now → IsBelow definitions.now m corner made) }

@@ -1,12 +1,11 @@
 -- The drivers of the nets are those of the netlist.
-use Rattle.std.proofs.Common.{rules, arith, ◌≡◌, ◌<◌, ◌≤◌, ◌+◌, length, sym, ◌∙◌, ap, subst}
+use Rattle.std.proofs.Common.{rules, ◌≡◌, ◌<◌, ◌+◌, length, sym, ◌∙◌, ap, subst}
 use Rattle.std.specs.Prelude.{All}
 use Rattle.elab_drivers.specs.Tables.{HasDrivers}
 use Rattle.elab_circuit.specs.Driving.{driving_faults}
 use Rattle.elab_circuit.specs.Faults.{driver_faults}
 use Rattle.elab_circuit.specs.WithPaths.{all_nets}
 use Rattle.elab_model.specs.Faults.{RefusesOneOf}
-use Rattle.elab_model.specs.HierarchyFaults.{count_limit}
 use Rattle.vl_elab.specs.Made.{AreMade, AreDrivers}
 use Rattle.vl_elab.proofs.Told.{ok-weaker, err-weaker, lists-driven, nets-count, inputs-placed, elements-placed, inputs-within, regs-within, outputs-within}
 use Rattle.vl_elab.proofs.driving.drivers_in.Goals as goal
