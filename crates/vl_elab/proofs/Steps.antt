@@ -1,6 +1,6 @@
 -- What stands after each step of elaboration, for the next.
-use Rattle.std.specs.Prelude.{◌≡◌, List, [], map}
-use Rattle.std.proofs.Common.{ap}
+use Rattle.std.specs.Prelude.{◌≡◌, ◌≤◌, List, [], length, map}
+use Rattle.std.proofs.Common.{ap, sym, subst}
 use Rattle.sg_circuit.specs.Circuit.{Leg}
 use Rattle.sg_circuit.specs.Seen.{scope_seen}
 use Rattle.sg_circuit.specs.TimingsSeen.{leg_timing_seen}
@@ -10,10 +10,13 @@ use Rattle.sg_circuit.specs.declared.scopes.Scope.{Scope}
 use Rattle.sg_delay.specs.declared.corners.Corner.{Corner}
 use Rattle.sg_time.specs.declared.units.Unit as unit
 use Rattle.vl_tree.specs.Tree.{Module, Source}
+use Rattle.elab_model.specs.Delays.{tick_of}
 use Rattle.elab_model.specs.Hierarchy.{instances}
+use Rattle.elab_model.specs.HierarchyFaults.{count_limit}
 use Rattle.elab_model.specs.Nets.{nets}
 use Rattle.elab_model.specs.Scopes.{scope_of}
 use Rattle.elab_circuit.specs.Faults.{path_faults}
+use Rattle.elab_hierarchy.specs.Placing.{ArePlaced, tree_faults}
 use Rattle.elab_hierarchy.specs.declared.instances.Placed.{Placed}
 use Rattle.elab_modules.specs.Reached.{IsLibrary}
 use Rattle.elab_modules.specs.declared.library.Library.{Library}
@@ -27,6 +30,16 @@ use Rattle.elab_paths.specs.declared.joining.Joined.{Joined}
 use Rattle.elab_paths.specs.declared.modules.ModulePaths.{ModulePaths}
 use Rattle.vl_elab.specs.Made.{AreBelow, AreMade, AreDrivers, IsWhole, none_of_twelve}
 use Rattle.vl_elab.proofs.Faultless.{faultless-below}
+
+-- the list of the instances, as it is lent first and again
+pub below-of : (source : Source) (top : Module) (tick : unit.Unit) (list first second : List Placed) → ArePlaced source list (instances source top) → length list ≤ count_limit → tree_faults source top ≡ []
+    → first ≡ list → second ≡ list → (ArePlaced source first (instances source top) → tick.power ≡ tick_of source top) → AreBelow source top tick second
+below-of source top tick list first second placed few shallow e f is_tick = record {
+  are_placed = subst (λ ps. ArePlaced source ps (instances source top)) (sym f) placed;
+  few = subst (λ ps. length ps ≤ count_limit) (sym f) few;
+  shallow = shallow;
+  tick_is = is_tick (subst (λ ps. ArePlaced source ps (instances source top)) (sym e) placed);
+}
 
 -- before the paths are put in
 pub given-of : (source : Source) (top : Module) (corner : Corner) (tick : unit.Unit) (placed : List Placed) (ready : Library) (modules : ModulePaths) (numbers : Rows) (made : Placing) (legs : LegTiming)
