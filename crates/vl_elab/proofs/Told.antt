@@ -1,10 +1,9 @@
 -- What the lists of nets that are driven tell of a netlist.
-use Rattle.std.specs.Prelude.{◌≡◌, ℕ, ◌+◌, ◌<◌, ◌≤◌, All, List, [], ◌∷◌, ◌++◌, map, length, zip, Result, Ok, Err, IfOk, IfErr, refl}
+use Rattle.std.specs.Prelude.{◌≡◌, ℕ, ◌+◌, ◌<◌, ◌≤◌, All, List, [], ◌∷◌, map, length, zip, Result, Ok, Err, IfOk, IfErr, refl}
 use Rattle.std.specs.List.{AllByRecursion}
 use Rattle.std.proofs.Common.{sym, ◌∙◌, ap, arith, subst, length-append}
 use Rattle.std.proofs.lemmas.List.{length-map}
 use Rattle.std.proofs.lemmas.List.Elements.{All-from_recursion}
-use Rattle.sg_circuit.specs.Circuit.{Element}
 use Rattle.sg_circuit.specs.declared.elements.Element as code
 use Rattle.sg_delay.specs.declared.corners.Corner.{Corner}
 use Rattle.sg_text.specs.declared.places.Place.{Place}
@@ -23,7 +22,7 @@ use Rattle.elab_laws.proofs.Lists.{all-map, all-map_back, all-weaker}
 use Rattle.elab_owned.proofs.Drives.{drives-have_nets}
 use Rattle.elab_closed.proofs.Closed.{nets-count as all-count}
 use Rattle.elab_closed.proofs.Elements.{StandsIn, elements-stand}
-use Rattle.elab_closed.proofs.Outputs.{placed_output, outputs-are}
+use Rattle.elab_closed.proofs.Outputs.{outputs-are}
 use Rattle.elab_drivers.specs.Tables.{driving_of}
 use Rattle.elab_hierarchy.specs.declared.instances.Placed.{Placed}
 use Rattle.elab_modules.specs.declared.library.Library.{Library}

@@ -17,8 +17,13 @@ pub circuit_of-requires : goal.circuit_of-requires
 circuit_of-requires c =
     let m = c.requires.top.0 in
     let at = c.requires.top.1 in
-    record { below = (m, below-of c.args.definitions.now m c.tick-tick.result c.in_ok-instances.instances.items c.deref.result.now c.deref-2.result.now (c.in_ok-instances.ensures.instances m at) c.in_ok-instances.ensures.few
-    (c.in_ok-instances.ensures.faultless m at) c.deref.ensures.value c.deref-2.ensures.value (c.tick-tick.ensures m at)) }
+    record {
+      below = (
+        m,
+        below-of c.args.definitions.now m c.tick-tick.result c.in_ok-instances.instances.items c.deref.result.now c.deref-2.result.now (c.in_ok-instances.ensures.instances m at) c.in_ok-instances.ensures.few
+            (c.in_ok-instances.ensures.faultless m at) c.deref.ensures.value c.deref-2.ensures.value (c.tick-tick.ensures m at),
+      );
+    }
 
 pub returns-clause-circuit : goal.returns-clause-circuit
 returns-clause-circuit c =

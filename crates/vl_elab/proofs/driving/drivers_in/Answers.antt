@@ -61,7 +61,7 @@ pub returns-clause-drivers : goal.returns-clause-drivers
 returns-clause-drivers c =
     ok-weaker _
     (λ ds. (top : _) (corner : _) → AreMade c.args.definitions.now top corner c.args.instances.now c.args.library.now c.args.rows.now c.args.joined.now c.args.made.now
-        → AreDrivers c.args.definitions.now top corner ds.items)
+    → AreDrivers c.args.definitions.now top corner ds.items)
     c.drivers.result
     (λ ds tells top corner made.
     lists-driven c.args.definitions.now top corner c.args.instances.now c.args.library.now c.args.rows.now c.args.joined.now c.args.made.now c.in_ok-inputs.inputs c.in_ok-regs.regs.items _ _ _ _ _ _ _
@@ -74,7 +74,7 @@ pub returns-clause-refused : goal.returns-clause-refused
 returns-clause-refused c =
     err-weaker _
     (λ r. (top : _) (corner : _) → AreMade c.args.definitions.now top corner c.args.instances.now c.args.library.now c.args.rows.now c.args.joined.now c.args.made.now
-        → RefusesOneOf (driver_faults c.args.definitions.now top corner) r)
+    → RefusesOneOf (driver_faults c.args.definitions.now top corner) r)
     c.drivers.result
     (λ r stands top corner made.
     lists-driven c.args.definitions.now top corner c.args.instances.now c.args.library.now c.args.rows.now c.args.joined.now c.args.made.now c.in_ok-inputs.inputs c.in_ok-regs.regs.items _ _ _ _ _ _ _
