@@ -6,3 +6,4 @@ pub mod Whole
 pub mod Below
 pub mod OneByOne
 pub mod Told
+pub mod Steps

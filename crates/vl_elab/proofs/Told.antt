@@ -1,10 +1,9 @@
 -- What the lists of nets that are driven tell of a netlist.
-use Rattle.std.specs.Prelude.{◌≡◌, ℕ, ◌+◌, ◌<◌, ◌≤◌, All, List, [], ◌∷◌, ◌++◌, map, length, zip, Result, Ok, Err, IfOk, IfErr, refl}
+use Rattle.std.specs.Prelude.{◌≡◌, ℕ, ◌+◌, ◌<◌, ◌≤◌, All, List, [], ◌∷◌, map, length, zip, Result, Ok, Err, IfOk, IfErr, refl}
 use Rattle.std.specs.List.{AllByRecursion}
 use Rattle.std.proofs.Common.{sym, ◌∙◌, ap, arith, subst, length-append}
 use Rattle.std.proofs.lemmas.List.{length-map}
 use Rattle.std.proofs.lemmas.List.Elements.{All-from_recursion}
-use Rattle.sg_circuit.specs.Circuit.{Element}
 use Rattle.sg_circuit.specs.declared.elements.Element as code
 use Rattle.sg_delay.specs.declared.corners.Corner.{Corner}
 use Rattle.sg_text.specs.declared.places.Place.{Place}
@@ -14,6 +13,7 @@ use Rattle.elab_model.specs.Hierarchy.{instances}
 use Rattle.elab_model.specs.Nets.{OwnNet, nets, number_of}
 use Rattle.elab_model.specs.Numbered.{undriven}
 use Rattle.elab_circuit.specs.Circuits.{driving}
+use Rattle.elab_circuit.specs.Driving.{Driving}
 use Rattle.elab_circuit.specs.PathUses.{path_uses}
 use Rattle.elab_circuit.specs.WithPaths.{all_nets, all_elements}
 use Rattle.elab_laws.specs.Words.{Owns}
@@ -22,7 +22,7 @@ use Rattle.elab_laws.proofs.Lists.{all-map, all-map_back, all-weaker}
 use Rattle.elab_owned.proofs.Drives.{drives-have_nets}
 use Rattle.elab_closed.proofs.Closed.{nets-count as all-count}
 use Rattle.elab_closed.proofs.Elements.{StandsIn, elements-stand}
-use Rattle.elab_closed.proofs.Outputs.{placed_output, outputs-are}
+use Rattle.elab_closed.proofs.Outputs.{outputs-are}
 use Rattle.elab_drivers.specs.Tables.{driving_of}
 use Rattle.elab_hierarchy.specs.declared.instances.Placed.{Placed}
 use Rattle.elab_modules.specs.declared.library.Library.{Library}
@@ -117,3 +117,16 @@ outputs-within source top corner placed ready numbers joined made m =
     all-map (λ n. n < count) (λ e. e.1.output) es (all-weaker (λ e. StandsIn count scopes e.1) (λ e. e.1.output < count) es (λ e s. s.output) stand) in
     All-from_recursion (λ e. e.output < count) made.elements.items
     (all-map_back (λ n. n < count) (λ e. e.output) made.elements.items (subst (AllByRecursion (λ n. n < count)) (sym m.have_numbers.outputs) outs))
+
+-- what is told of the lists is told of what drives the nets
+pub lists-driven : (source : Source) (top : Module) (corner : Corner) (placed : List Placed) (ready : Library) (numbers : Rows) (joined : Joined) (made : Placing) (inputs : DrivenNets) (regs : List ℕ)
+    (input_nets : List ℕ) (input_places : List Place) (es : List code.Element) (places : List Place) (reg_nets : List ℕ) (count more : ℕ) (P : ℕ → Driving → Type 0)
+    → AreMade source top corner placed ready numbers joined made → AreDriven (nets source top) (stimulus_drives source top) inputs → AreNumbers (nets source top) (check_drives source top) regs
+    → input_nets ≡ inputs.nets.items → input_places ≡ inputs.places.items → es ≡ made.elements.items → places ≡ made.places.items → reg_nets ≡ regs
+    → count ≡ length numbers.nets.items → more ≡ length joined.inner.items
+    → P (count + more) (driving_of input_nets input_places (map (λ e. e.output) es) places reg_nets) → P (length (all_nets source top corner)) (driving source top corner)
+lists-driven source top corner placed ready numbers joined made inputs regs input_nets input_places es places reg_nets count more P m i r a b e f g h k p =
+    let same : driving_of input_nets input_places (map (λ e. e.output) es) places reg_nets ≡ driving source top corner =
+    (λ x. driving_of (a x) (b x) (map (λ e. e.output) (e x)) (f x) (g x)) ∙ driving-is source top corner placed ready numbers joined made inputs regs m i r in
+    let all : count + more ≡ length (all_nets source top corner) = (λ x. h x + k x) ∙ nets-count source top corner placed ready numbers joined made m in
+    subst (λ n. P n (driving source top corner)) all (subst (P (count + more)) same p)

@@ -128,3 +128,10 @@ whole-indexed source top corner tick ready numbers modules joined made table sco
   few_udps = subst (λ us. length us < 2 ^ 31) (sym o.udps_are) w.is_ready.few_udps;
   counts = subst (λ ds. All (λ d. d.count ≤ 2) ds) (sym o.delays_are) w.is_ready.counts;
 }
+
+-- as many drivers as nets
+pub drivers-fit : (source : Source) (top : Module) (corner : Corner) (tick : unit.Unit) (ready : Library) (numbers : Rows) (modules : ModulePaths) (joined : Joined) (made : Placing) (drivers : List Driver) (scopes : List Scope) (ns : List Net)
+    → IsWhole source top corner tick ready numbers modules joined made drivers scopes → ns ≡ numbers.nets.items ++ joined.inner.items → length drivers ≡ length ns
+drivers-fit source top corner tick ready numbers modules joined made table scopes ns w e =
+    let count = length (all_nets source top corner) in
+    ap length w.has_drivers.table_is ∙ drivers-count (driving source top corner) count ∙ sym (ap length (e ∙ w.are_joined.numbers.nets))

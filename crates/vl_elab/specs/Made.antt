@@ -1,5 +1,5 @@
 -- What stands when the parts of a circuit have been made, one after another.
-use Rattle.std.specs.Prelude.{◌≡◌, List, [], ◌∷◌, length, map, replicate, None}
+use Rattle.std.specs.Prelude.{◌≡◌, ◌≤◌, List, [], ◌∷◌, length, map, replicate, None}
 use Rattle.sg_circuit.specs.Timings.{Timing}
 use Rattle.sg_time.specs.declared.units.Unit as unit
 use Rattle.sg_circuit.specs.Seen.{scope_seen}
@@ -16,7 +16,8 @@ use Rattle.sg_circuit.specs.declared.nets.Net.{Net}
 use Rattle.sg_delay.specs.declared.corners.Corner.{Corner}
 use Rattle.vl_tree.specs.Tree.{Module, Source}
 use Rattle.elab_model.specs.Hierarchy.{instances}
-use Rattle.elab_hierarchy.specs.Placing.{ArePlaced}
+use Rattle.elab_model.specs.HierarchyFaults.{count_limit}
+use Rattle.elab_hierarchy.specs.Placing.{ArePlaced, tree_faults}
 use Rattle.elab_hierarchy.specs.declared.instances.Placed.{Placed}
 use Rattle.elab_modules.specs.Reached.{IsLibrary}
 use Rattle.elab_modules.specs.declared.library.Library.{Library}
@@ -26,6 +27,13 @@ use Rattle.elab_elements.specs.declared.placing.Placing.{Placing}
 use Rattle.elab_paths.specs.Joining.{HaveNumbers, AreJoined}
 use Rattle.elab_paths.specs.declared.joining.Joined.{Joined}
 use Rattle.elab_paths.specs.declared.modules.ModulePaths.{ModulePaths}
+
+-- the instances of a top, whose hierarchy has no fault, and its tick
+pub record AreBelow (source : Source) (top : Module) (tick : unit.Unit) (placed : List Placed) : Type 0 where
+  pub are_placed : ArePlaced source placed (instances source top)
+  pub few : length placed ≤ count_limit
+  pub shallow : tree_faults source top ≡ []
+  pub tick_is : tick.power ≡ tick_of source top
 
 -- the instances, what they are of, their nets and the elements of a top, with its paths
 pub record AreMade (source : Source) (top : Module) (corner : Corner) (placed : List Placed) (ready : Library) (numbers : Rows) (joined : Joined) (made : Placing) : Type 0 where

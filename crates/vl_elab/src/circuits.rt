@@ -8,11 +8,11 @@ ghost use Rattle.elab_circuit.specs.Elaboration.{Elaborates};
 ghost use Rattle.elab_hierarchy.specs.Tops.{StandsAt};
 ghost use Rattle.vl_elab.specs.Below.{IsBelow, RefusesBelow};
 ghost use Rattle.sg_circuit.specs.TimingsSeen.{leg_timing_seen};
-ghost use Rattle.vl_elab.specs.Made.{IsWhole, none_of_twelve};
+ghost use Rattle.vl_elab.specs.Made.{AreBelow, IsWhole, none_of_twelve};
 
 use crate::driving::{drive, drivers_in};
 use elab_elements::{Placing, elements_in};
-use elab_hierarchy::{Definitions, place_instances, tick, top};
+use elab_hierarchy::{Definitions, Placed, place_instances, tick, top};
 use elab_model::ElabKind;
 use elab_modules::{Library, library_of};
 use elab_paths::{Joined, ModulePaths, add_paths, module_paths};
@@ -54,29 +54,44 @@ fn circuit_below(
 {
     let instances = place_instances(alloc, definitions, top)?;
     let tick = tick(definitions, top, &instances);
-    let library = library_of(alloc, corner, tick, definitions, &instances)?;
-    let rows = rows_of(alloc, definitions, &library, &instances)?;
-    let mut made = elements_in(alloc, definitions, &library, &instances, &rows)?;
+    circuit_of(alloc, corner, tick, definitions, &instances)
+}
+
+// The circuit of the instances below a top.
+fn circuit_of<'t, 'a>(
+    alloc: Global,
+    corner: Corner,
+    tick: Unit,
+    definitions: &Definitions<'t, 'a>,
+    instances: &[Placed<'t, 'a>],
+) -> Result<Circuit, Refused<ElabKind>>
+    requires below { (m : Module) × AreBelow definitions.now m tick instances.now }
+    ensures circuit { IfOk result (λ made. (m : Module) → AreBelow definitions.now m tick instances.now → IsBelow definitions.now m corner made) }
+    ensures refused { IfErr result (λ r. (m : Module) → AreBelow definitions.now m tick instances.now → RefusesBelow definitions.now m corner r) }
+{
+    let library = library_of(alloc, corner, tick, definitions, instances)?;
+    let rows = rows_of(alloc, definitions, &library, instances)?;
+    let mut made = elements_in(alloc, definitions, &library, instances, &rows)?;
     let modules = module_paths(
         alloc,
         corner,
         tick,
         definitions,
         &library,
-        &instances,
+        instances,
         no_delay(),
     )?;
-    let joined = add_paths(alloc, &library, &modules, &instances, &rows, &mut made)?;
+    let joined = add_paths(alloc, &library, &modules, instances, &rows, &mut made)?;
     let drivers = drivers_in(
         alloc,
         definitions,
         &library,
-        &instances,
+        instances,
         &rows,
         &joined,
         &made,
     )?;
-    let scopes = scopes_of(alloc, definitions, &library, &instances, &rows)?;
+    let scopes = scopes_of(alloc, definitions, &library, instances, &rows)?;
     let circuit = close(
         alloc, tick, library, rows, made, modules, joined, &drivers, scopes,
     )?;
@@ -100,9 +115,8 @@ fn close(
         → circuit ≡ def.circuit source m corner) }
 {
     let mut nets = rows.nets;
-    for inner in joined.inner {
-        nets.push(inner)?;
-    }
+    let mut inner = joined.inner;
+    nets.append(&mut inner)?;
     drive(drivers, &mut nets);
     Ok(Circuit::close(Parts {
         tick,

@@ -1,8 +1,15 @@
 -- What has been made is the circuit.
-use Rattle.std.proofs.Common.{refl, ◌∙◌}
+use Rattle.std.proofs.Common.{refl, ◌∙◌, ap}
 use Rattle.sg_circuit.specs.declared.circuits.Parts.{Parts}
-use Rattle.vl_elab.proofs.Whole.{IsOf, whole-is, whole-closed, whole-indexed, legs-made}
+use Rattle.vl_elab.specs.Made.{driven_by}
+use Rattle.vl_elab.proofs.Whole.{IsOf, whole-is, whole-closed, whole-indexed, drivers-fit}
 use Rattle.vl_elab.proofs.circuits.close.Goals as goal
+
+pub drive-requires : goal.drive-requires
+drive-requires c =
+    let w = c.requires in
+    drivers-fit w.0 w.1.0 w.1.1.0 c.args.tick c.args.library c.args.rows c.args.modules c.args.joined c.args.made c.args.drivers.now c.args.scopes.items c.append.new.self.items w.1.1.1
+    c.in_ok-append.ensures.items
 
 pub close-requires-clause-closed : goal.close-requires-clause-closed
 close-requires-clause-closed c =
@@ -11,25 +18,27 @@ close-requires-clause-closed c =
       nets = c.drive.new.nets;
       elements = c.args.made.elements;
       gate_delays = c.args.library.gate_delays;
-      leg_timings = c.push.new.self;
-      paths = c.new.result;
-      conditions = c.new-2.result;
+      leg_timings = c.args.modules.timings;
+      paths = c.args.joined.paths;
+      conditions = c.args.modules.conditions;
       udps = c.args.library.udps;
-      checks = c.new-3.result;
+      checks = c.new.result;
       scopes = c.args.scopes;
     } in
-    let of : IsOf c.args.tick c.args.library c.args.rows c.args.made c.args.drivers.now c.args.scopes.items parts = record {
+    let of : IsOf c.args.tick c.args.library c.args.rows c.args.modules c.args.joined c.args.made c.args.drivers.now c.args.scopes.items parts = record {
       tick_is = refl;
-      nets_are = c.drive.ensures;
+      nets_are = c.drive.ensures ∙ ap (λ ns. driven_by ns c.args.drivers.now) c.in_ok-append.ensures.items;
       elements_are = refl;
       delays_are = refl;
-      legs_are = legs-made c.push.new.self.items c.new-leg_timings.result.items c.no_delay.result c.in_ok-push.ensures.items c.new-leg_timings.ensures.items c.no_delay.ensures;
+      timings_are = refl;
+      conditions_are = refl;
+      paths_are = refl;
       udps_are = refl;
-      checks_are = c.new-3.ensures.items;
+      checks_are = c.new.ensures.items;
       scopes_are = refl;
     } in
     let w = c.requires in
-    whole-closed w.0 w.1.0 w.1.1.0 c.args.tick c.args.library c.args.rows c.args.made c.args.drivers.now c.args.scopes.items parts w.1.1.1 of
+    whole-closed w.0 w.1.0 w.1.1.0 c.args.tick c.args.library c.args.rows c.args.modules c.args.joined c.args.made c.args.drivers.now c.args.scopes.items parts w.1.1.1 of
 
 pub close-requires-clause-indexed : goal.close-requires-clause-indexed
 close-requires-clause-indexed c =
@@ -38,25 +47,27 @@ close-requires-clause-indexed c =
       nets = c.drive.new.nets;
       elements = c.args.made.elements;
       gate_delays = c.args.library.gate_delays;
-      leg_timings = c.push.new.self;
-      paths = c.new.result;
-      conditions = c.new-2.result;
+      leg_timings = c.args.modules.timings;
+      paths = c.args.joined.paths;
+      conditions = c.args.modules.conditions;
       udps = c.args.library.udps;
-      checks = c.new-3.result;
+      checks = c.new.result;
       scopes = c.args.scopes;
     } in
-    let of : IsOf c.args.tick c.args.library c.args.rows c.args.made c.args.drivers.now c.args.scopes.items parts = record {
+    let of : IsOf c.args.tick c.args.library c.args.rows c.args.modules c.args.joined c.args.made c.args.drivers.now c.args.scopes.items parts = record {
       tick_is = refl;
-      nets_are = c.drive.ensures;
+      nets_are = c.drive.ensures ∙ ap (λ ns. driven_by ns c.args.drivers.now) c.in_ok-append.ensures.items;
       elements_are = refl;
       delays_are = refl;
-      legs_are = legs-made c.push.new.self.items c.new-leg_timings.result.items c.no_delay.result c.in_ok-push.ensures.items c.new-leg_timings.ensures.items c.no_delay.ensures;
+      timings_are = refl;
+      conditions_are = refl;
+      paths_are = refl;
       udps_are = refl;
-      checks_are = c.new-3.ensures.items;
+      checks_are = c.new.ensures.items;
       scopes_are = refl;
     } in
     let w = c.requires in
-    whole-indexed w.0 w.1.0 w.1.1.0 c.args.tick c.args.library c.args.rows c.args.made c.args.drivers.now c.args.scopes.items parts w.1.1.1 of
+    whole-indexed w.0 w.1.0 w.1.1.0 c.args.tick c.args.library c.args.rows c.args.modules c.args.joined c.args.made c.args.drivers.now c.args.scopes.items parts w.1.1.1 of
 
 pub returns : goal.returns
 returns c source m corner w =
@@ -65,21 +76,23 @@ returns c source m corner w =
       nets = c.drive.new.nets;
       elements = c.args.made.elements;
       gate_delays = c.args.library.gate_delays;
-      leg_timings = c.push.new.self;
-      paths = c.new.result;
-      conditions = c.new-2.result;
+      leg_timings = c.args.modules.timings;
+      paths = c.args.joined.paths;
+      conditions = c.args.modules.conditions;
       udps = c.args.library.udps;
-      checks = c.new-3.result;
+      checks = c.new.result;
       scopes = c.args.scopes;
     } in
-    let of : IsOf c.args.tick c.args.library c.args.rows c.args.made c.args.drivers.now c.args.scopes.items parts = record {
+    let of : IsOf c.args.tick c.args.library c.args.rows c.args.modules c.args.joined c.args.made c.args.drivers.now c.args.scopes.items parts = record {
       tick_is = refl;
-      nets_are = c.drive.ensures;
+      nets_are = c.drive.ensures ∙ ap (λ ns. driven_by ns c.args.drivers.now) c.in_ok-append.ensures.items;
       elements_are = refl;
       delays_are = refl;
-      legs_are = legs-made c.push.new.self.items c.new-leg_timings.result.items c.no_delay.result c.in_ok-push.ensures.items c.new-leg_timings.ensures.items c.no_delay.ensures;
+      timings_are = refl;
+      conditions_are = refl;
+      paths_are = refl;
       udps_are = refl;
-      checks_are = c.new-3.ensures.items;
+      checks_are = c.new.ensures.items;
       scopes_are = refl;
     } in
-    c.close.ensures ∙ whole-is source m corner c.args.tick c.args.library c.args.rows c.args.made c.args.drivers.now c.args.scopes.items parts w of
+    c.close.ensures ∙ whole-is source m corner c.args.tick c.args.library c.args.rows c.args.modules c.args.joined c.args.made c.args.drivers.now c.args.scopes.items parts w of
