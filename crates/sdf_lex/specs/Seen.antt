@@ -1,5 +1,5 @@
 -- What `lex` answers, as the definitions see it.
-use Rattle.std.specs.Prelude.{ℕ, ℤ, List, take}
+use Rattle.std.specs.Prelude.{take}
 use Rattle.sdf_lex.specs.Tokens.{Meaning, Lexeme, word_token, selected_token, select_token, text_token, unended_token, operator_token, left_token, right_token, colon_token, star_token, other_token}
 use Rattle.sdf_lex.specs.declared.tokens.Lexeme as over
 use Rattle.sdf_lex.specs.declared.tokens.Lexeme.TheVariants as token
