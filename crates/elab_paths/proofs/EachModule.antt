@@ -38,7 +38,7 @@ use Rattle.elab_modules.proofs.Named.{module-same, one-place, place-of, placed-i
 use Rattle.elab_modules.proofs.Precisions.{least-of_all}
 use Rattle.elab_modules.proofs.Stocking.{Parts, no-module}
 use Rattle.elab_paths.specs.Ready.{output_ready, IsReadyOutput, IsReadyOf, HasPaths, HavePaths}
-use Rattle.elab_paths.specs.Shelving.{IsLonger}
+use Rattle.elab_paths.specs.Shelving.{IsLonger, AreRead}
 use Rattle.elab_paths.specs.Standing.{StandsReady, AreOutputsOf, AreSoundOutputs, AreReadySoFar, HasOutputs, IsOfPlace}
 use Rattle.elab_paths.specs.declared.modules.ModulePaths.{ModulePaths}
 use Rattle.elab_paths.specs.declared.shelving.ReadyOutput.{ReadyOutput}
@@ -141,15 +141,16 @@ faultless source corner top ps outputs shelves s h are inside =
     (outputs-at source corner (tick_of source top) top ps outputs shelves s w.place h are inside w.stands).sound.faultless
 
 pub have-paths : (source : Source) (corner : Corner) (top : Module) (ps : List Placed) (tick : ℤ) (legs : LegTiming) (made : ModulePaths) (shelves : Shelves) → shelves.timings ≡ made.timings
-    → shelves.conditions ≡ made.conditions → slice_get made.timings.items 0 ≡ Some legs → ArePlaced source ps (instances source top) → tick ≡ tick_of source top
-    → AllReady source corner tick ps made.outputs.items shelves → HavePaths source top corner legs made
-have-paths source corner top ps tick legs made shelves e f first are t h =
+    → shelves.conditions ≡ made.conditions → slice_get made.timings.items 0 ≡ Some legs → AreRead made.conditions.items → ArePlaced source ps (instances source top)
+    → tick ≡ tick_of source top → AllReady source corner tick ps made.outputs.items shelves → HavePaths source top corner legs made
+have-paths source corner top ps tick legs made shelves e f first read are t h =
     let all = subst (λ k. AllReady source corner k ps made.outputs.items shelves) t h in
     record {
       each = all-from (HasPaths source top corner made) (instances source top) (λ s inside. has-paths source corner top ps made shelves s e f all are inside);
       faultless = none-of_each (λ s. module_path_faults source corner (tick_of source top) s.step.definition) (instances source top)
           (all-from (λ s. module_path_faults source corner (tick_of source top) s.step.definition ≡ []) (instances source top)
           (λ s inside. faultless source corner top ps made.outputs.items shelves s all are inside));
+      read = read;
       first = first;
     }
 

@@ -1,3 +1,7 @@
 -- The modules of this folder.
-pub mod OnShelves
 pub mod SideBySide
+pub mod OnShelves
+pub mod BlocksBeside
+pub mod SoFar
+pub mod OwnPaths
+pub mod EachModule

@@ -4,7 +4,7 @@ use Rattle.std.specs.Global.{Vec}
 use Rattle.std.specs.Option.{option_map}
 use Rattle.std.proofs.Common.{sym, ◌∙◌, ap, arith, subst, append_assoc, length-append}
 use Rattle.std.proofs.lemmas.List.{append-nil, get_or-map, length-map}
-use Rattle.std.proofs.lemmas.List.Elements.{All-weaker}
+use Rattle.std.proofs.lemmas.List.Elements.{All-push, All-weaker}
 use Rattle.cond_expr.specs.Condition.{Condition}
 use Rattle.sg_circuit.specs.Timings.{Timing}
 use Rattle.sg_circuit.specs.TimingsSeen.{limit_seen, timings_of, leg_timing_seen, timings_at}
@@ -14,20 +14,21 @@ use Rattle.elab_model.specs.Names.{Variable}
 use Rattle.elab_laws.specs.Handing.{all_bits}
 use Rattle.specify_model.specs.Paths.{ModulePath, timings_with}
 use Rattle.specify_values.specs.Seen.{widths_seen}
-use Rattle.specify_paths.specs.Seen.{Said, bit_seen, said_at, said_by, outputs_seen, output_seen, path_seen, IsInRow}
+use Rattle.specify_paths.specs.Seen.{Said, IsRead, bit_seen, said_at, said_by, outputs_seen, output_seen, path_seen, IsInRow}
+use Rattle.specify_paths.specs.Spelled.{IsSpelled}
 use Rattle.specify_paths.specs.declared.grouping.PathOutput as code_output
 use Rattle.specify_paths.specs.declared.outputs.PathOutputs.{PathOutputs}
 use Rattle.specify_paths.specs.declared.pairs.ModulePath as code_path
 use Rattle.specify_paths.specs.declared.statements.ModuleCondition.TheVariants as code
 use Rattle.specify_paths.specs.declared.statements.Statement.{Statement}
 use Rattle.elab_paths.specs.Ready.{condition_ready, written_condition, path_ready, output_ready, IsWrittenBelow, IsReadyPath, IsReadyOutput}
-use Rattle.elab_paths.specs.Shelving.{ListGrows, IsShelvedCondition, said_in, AreWrittenBelow, AreShelved, IsShelvedPath, IsShelvedOutput}
+use Rattle.elab_paths.specs.Shelving.{ListGrows, AreRead, IsShelvedCondition, said_in, AreWrittenBelow, AreShelved, IsShelvedPath, IsShelvedOutput}
 use Rattle.elab_paths.specs.declared.shelving.ReadyCondition.{ReadyCondition}
 use Rattle.elab_paths.specs.declared.shelving.ReadyCondition.TheVariants as ready
 use Rattle.elab_paths.specs.declared.shelving.ReadyOutput.{ReadyOutput}
 use Rattle.elab_paths.specs.declared.shelving.ReadyPath.{ReadyPath}
 use Rattle.elab_paths.specs.declared.shelving.Shelved.{Shelved}
-use Rattle.elab_paths.proofs.SideBySide.{Each, each-then, each-same, each-all}
+use Rattle.elab_paths.proofs.SideBySide.{Each, all-parted, each-then, each-same, each-all}
 
 -- ---- lists that grow
 
@@ -76,6 +77,13 @@ below-stays m n (ready.If written) le h = by le h
     by : m ≤ n → written < m → written < n
     by le h = omega arith
 below-stays m n ready.IfNone le h = tt
+
+pub read-pushed : (old new : List Condition) (e : Condition) → new ≡ old ++ e ∷ [] → IsSpelled (code.If e) → AreRead old → AreRead new
+read-pushed old new e is one all = subst AreRead (sym is) (All-push (λ c. IsRead c.tokens c) old e all one)
+
+pub read-more : (start old new : List Condition) (ss : List Statement) (s : Statement) → (IsSpelled s.condition → AreRead old → AreRead new)
+    → (All (λ x. IsSpelled x.condition) ss → AreRead start → AreRead old) → All (λ x. IsSpelled x.condition) (ss ++ s ∷ []) → AreRead start → AreRead new
+read-more start old new ss s one h all begun = let r = all-parted (λ x. IsSpelled x.condition) ss s all in one r.1 (h r.0 begun)
 
 -- ---- what an output names, in tables that grow
 

@@ -47,3 +47,7 @@ each-all R P Q (x ∷ xs) (y ∷ ys) over h all = All-cons Q y ys (over x y h.0 
 
 pub all-found : {A : Type 0} (P : A → Type 0) (xs ys : List A) (k : ℕ) (x : A) → xs ≡ ys → All P ys → k < length xs → x ≡ slice_index_or xs k x → P x
 all-found P xs ys k x e all lt is = subst P (sym is) (subst (All P) (sym e) all k x lt)
+
+pub all-parted : {A : Type 0} (P : A → Type 0) (xs : List A) (y : A) → All P (xs ++ y ∷ []) → All P xs × P y
+all-parted P [] y h = (All-nil P, All-head P y [] h)
+all-parted P (x ∷ xs) y h = let r = all-parted P xs y (All-tail P x (xs ++ y ∷ []) h) in (All-cons P x xs (All-head P x (xs ++ y ∷ []) h) r.0, r.1)

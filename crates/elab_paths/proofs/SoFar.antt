@@ -1,10 +1,10 @@
 -- The paths of one module more stand ready.
-use Rattle.std.specs.Prelude.{◌≡◌, ℕ, zero, suc, ◌+◌, ◌<◌, ◌≤◌, All, List, [], ◌∷◌, ◌++◌, Bool, true, Option, Some, None, is_some, get_or, length, map, slice_get, slice_index_or, replicate, refl, ℤ}
+use Rattle.std.specs.Prelude.{◌≡◌, ℕ, zero, suc, ◌+◌, ◌<◌, ◌≤◌, All, List, [], ◌∷◌, ◌++◌, Bool, true, Option, Some, None, is_some, get_or, length, map, take, slice_get, slice_index_or, replicate, refl, ℤ}
 use Rattle.std.specs.Global.{Vec}
 use Rattle.std.proofs.Common.{sym, ◌∙◌, ap, arith, inl, inr, subst, set, append_assoc, length-append}
 use Rattle.std.proofs.Math.ListN.{length-set}
-use Rattle.std.proofs.lemmas.List.{append-nil, length-replicate}
-use Rattle.std.proofs.lemmas.List.Elements.{All-weaker}
+use Rattle.std.proofs.lemmas.List.{append-nil, length-replicate, take_more, take_all}
+use Rattle.std.proofs.lemmas.List.Elements.{All-nil, All-push, All-weaker}
 use Rattle.std.proofs.lemmas.Option.{slice_get-get_or, slice_get_within}
 use Rattle.cond_expr.specs.Condition.{Condition}
 use Rattle.sg_circuit.specs.declared.elements.LegTiming.{LegTiming}
@@ -12,9 +12,8 @@ use Rattle.sg_delay.specs.declared.corners.Corner.{Corner}
 use Rattle.vl_tree.specs.Tree.{Module, Source, a_module}
 use Rattle.elab_model.specs.Names.{variables}
 use Rattle.elab_laws.specs.Handing.{all_bits}
-use Rattle.elab_circuit.specs.Faults.{module_path_faults}
+use Rattle.elab_hierarchy.specs.declared.instances.Placed.{Placed}
 use Rattle.elab_hierarchy.specs.Tops.{StandsAt}
-use Rattle.elab_modules.proofs.Named.{module-same}
 use Rattle.elab_modules.proofs.Replaced.{set-there, set-either, set-keeps}
 use Rattle.elab_paths.specs.Ready.{output_ready, IsReadyOutput}
 use Rattle.elab_paths.specs.Shelving.{IsLonger}
@@ -113,3 +112,19 @@ ready-none source corner tick outputs shelves is = record {
   where
     no-list : (v : Vec ReadyOutput) → ¬ (Some v ≡ None)
     no-list v e = cc
+
+-- ---- the modules of instances, one after the other
+
+pub there-none : (outputs : Outputs) (ps : List Placed) → All (λ p. HasOutputs outputs p.definition) (take 0 ps)
+there-none outputs ps = All-nil (λ p. HasOutputs outputs p.definition)
+
+pub there-next : (d x : Placed) (outputs after : Outputs) (ps : List Placed) (k : ℕ) → k < length ps → x ≡ slice_index_or ps k d → ((i : ℕ) → HasOutputs outputs i → HasOutputs after i)
+    → HasOutputs after x.definition → All (λ p. HasOutputs outputs p.definition) (take k ps) → All (λ p. HasOutputs after p.definition) (take (k + 1) ps)
+there-next d x outputs after ps k lt is stays one h =
+    let more : take k ps ++ x ∷ [] ≡ take (k + 1) ps = ap (λ z. take k ps ++ z ∷ []) is ∙ sym (take_more ps k d lt) in
+    subst (All (λ p. HasOutputs after p.definition)) more
+    (All-push (λ p. HasOutputs after p.definition) (take k ps) x
+    (All-weaker (λ p. HasOutputs outputs p.definition) (λ p. HasOutputs after p.definition) (λ p has. stays p.definition has) (take k ps) h) one)
+
+pub there-all : (outputs : Outputs) (ps : List Placed) (k : ℕ) → length ps ≤ k → All (λ p. HasOutputs outputs p.definition) (take k ps) → All (λ p. HasOutputs outputs p.definition) ps
+there-all outputs ps k le h = subst (All (λ p. HasOutputs outputs p.definition)) (take_all k ps le) h

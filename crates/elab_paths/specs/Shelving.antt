@@ -3,7 +3,7 @@ use Rattle.std.specs.Prelude.{◌≡◌, ℕ, ◌<◌, All, List, ◌++◌, leng
 use Rattle.cond_expr.specs.Condition.{Condition}
 use Rattle.sg_circuit.specs.declared.elements.LegTiming.{LegTiming}
 use Rattle.elab_model.specs.Names.{Variable}
-use Rattle.specify_paths.specs.Seen.{Said, condition_seen, said_by, path_seen, output_seen}
+use Rattle.specify_paths.specs.Seen.{Said, IsRead, condition_seen, said_by, path_seen, output_seen}
 use Rattle.specify_paths.specs.declared.grouping.PathOutput.{PathOutput}
 use Rattle.specify_paths.specs.declared.pairs.ModulePath.{ModulePath}
 use Rattle.specify_paths.specs.declared.statements.ModuleCondition.{ModuleCondition}
@@ -24,6 +24,10 @@ pub record IsLonger (old new : Shelves) : Type 0 where
   pub timings_are : new.timings.items ≡ old.timings.items ++ timings
   pub conditions : List Condition
   pub conditions_are : new.conditions.items ≡ old.conditions.items ++ conditions
+
+-- each condition is what its tokens spell
+abbrev pub AreRead : List Condition → Type 0
+AreRead conditions = All (λ c. IsRead c.tokens c) conditions
 
 -- a condition stands in the table, whatever comes behind it
 pub record IsShelvedCondition (conditions : List Condition) (c : ModuleCondition) (r : ReadyCondition) : Type 0 where

@@ -19,7 +19,7 @@ ghost use Rattle.elab_modules.specs.Reached.{IsLibrary};
 ghost use Rattle.elab_modules.specs.Telling.{Tells};
 ghost use Rattle.elab_circuit.specs.Faults.{module_path_faults, path_faults};
 ghost use Rattle.elab_paths.specs.Ready.{HavePaths};
-ghost use Rattle.elab_paths.specs.Shelving.{IsLonger};
+ghost use Rattle.elab_paths.specs.Shelving.{IsLonger, AreRead};
 ghost use Rattle.elab_paths.specs.Standing.{is_child, StandsReady, AreOutputsOf, AreReadySoFar, HasOutputs, IsOfPlace};
 
 use crate::shelving::{ReadyOutput, Shelves, shelve};
@@ -107,6 +107,7 @@ fn outputs_of(
     requires is { (m : GhostModule) × IsPrepared prepared.now m }
     requires fits { tick.power ≤ℤ prepared.now.definition.now.mark.scale.precision.power }
     ensures longer { OnOk result (IsLonger shelves.old shelves.new) }
+    ensures read { OnOk result (AreRead shelves.old.conditions.items → AreRead shelves.new.conditions.items) }
     ensures outputs { IfOk result (λ list. (m : GhostModule) → IsPrepared prepared.now m → AreOutputsOf corner tick.power m shelves.new list.items) }
     ensures told { (m : GhostModule) → IsPrepared prepared.now m → Tells (module_path_faults definitions.now corner tick.power m) result }
 {
@@ -137,6 +138,7 @@ fn add_module(
     ensures there { OnOk result (HasOutputs outputs.new place) }
     ensures stays { OnOk result ((i : ℕ) → HasOutputs outputs.old i → HasOutputs outputs.new i) }
     ensures longer { OnOk result (IsLonger shelves.old shelves.new) }
+    ensures read { OnOk result (AreRead shelves.old.conditions.items → AreRead shelves.new.conditions.items) }
     ensures refused { IfErr result (λ r. (m : GhostModule) → StandsAt definitions.now place m → RefusesOneOf (module_path_faults definitions.now corner tick.power m) r) }
 {
     if outputs[place].is_some() {
@@ -164,6 +166,7 @@ fn add_modules(
     ensures ready { OnOk result (AreReadySoFar definitions.now corner tick.power outputs.new shelves.new) }
     ensures there { OnOk result (All (λ p. HasOutputs outputs.new p.definition) instances.now) }
     ensures longer { OnOk result (IsLonger shelves.old shelves.new) }
+    ensures read { OnOk result (AreRead shelves.old.conditions.items → AreRead shelves.new.conditions.items) }
     ensures refused { IfErr result (IsOfPlace definitions.now corner tick.power (map (λ p. p.definition) instances.now)) }
 {
     for placed in instances {

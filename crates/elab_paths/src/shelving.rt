@@ -9,8 +9,9 @@ ghost use Rattle.elab_laws.specs.Handing.{all_bits};
 ghost use Rattle.specify_model.specs.Paths.{timings_with};
 ghost use Rattle.specify_values.specs.Seen.{widths_seen};
 ghost use Rattle.specify_paths.specs.Seen.{outputs_seen, IsInRow};
+ghost use Rattle.specify_paths.specs.Spelled.{IsSpelled};
 ghost use Rattle.elab_paths.specs.Ready.{output_ready, IsReadyOutput};
-ghost use Rattle.elab_paths.specs.Shelving.{IsLonger, ListGrows, IsShelvedCondition, AreShelved, IsShelvedPath, IsShelvedOutput};
+ghost use Rattle.elab_paths.specs.Shelving.{IsLonger, ListGrows, AreRead, IsShelvedCondition, AreShelved, IsShelvedPath, IsShelvedOutput};
 
 use cond_expr::Expr;
 use sg_circuit::LegTiming;
@@ -69,6 +70,7 @@ fn shelve_condition(
 ) -> Result<ReadyCondition, NoMemory>
     ensures kept { OnOk result (ListGrows conditions.old.items conditions.new.items) }
     ensures condition { IfOk result (IsShelvedCondition conditions.new.items condition) }
+    ensures read { OnOk result (IsSpelled condition → AreRead conditions.old.items → AreRead conditions.new.items) }
 {
     match condition {
         ModuleCondition::Always => Ok(ReadyCondition::Always),
@@ -88,6 +90,7 @@ fn shelve_statements(
 ) -> Result<Vec<Shelved>, NoMemory>
     ensures kept { OnOk result (ListGrows conditions.old.items conditions.new.items) }
     ensures statements { IfOk result (λ list. AreShelved conditions.new.items statements.items list.items) }
+    ensures read { OnOk result (All (λ s. IsSpelled s.condition) statements.items → AreRead conditions.old.items → AreRead conditions.new.items) }
 {
     let mut shelved = Vec::new(alloc);
     for statement in statements {
@@ -111,11 +114,11 @@ fn limit_of(limits: Option<Widths>) -> Limit
 }
 
 // All transitions have the limits that a text gives.
-fn timing_of(delays: [u64; 12], limits: Option<Widths>) -> LegTiming
-    ensures { leg_timing_seen result ≡ timings_with (option_map widths_seen limits) delays }
+fn timing_of(delays: &[u64; 12], limits: Option<Widths>) -> LegTiming
+    ensures { leg_timing_seen result ≡ timings_with (option_map widths_seen limits) delays.now }
 {
     LegTiming {
-        delays: Delays12 { at: delays },
+        delays: Delays12 { at: *delays },
         limits: Limits12 {
             at: [limit_of(limits); 12],
         },
@@ -133,7 +136,7 @@ fn shelve_path(
 {
     let statement = statements[path.statement];
     let timing = timings.len();
-    timings.push(timing_of(statement.delays.at, path.limits))?;
+    timings.push(timing_of(&statement.delays.at, path.limits))?;
     Ok(ReadyPath {
         input: path.input,
         edge: statement.edge,
@@ -176,6 +179,7 @@ pub fn shelve(
         → map (output_ready (shelves.new.timings.items ++ timings) (shelves.new.conditions.items ++ conditions) vs) list.items ≡ outputs_seen vs paths) }
     ensures named { IfOk result (λ list. (vs : List Variable) → All (IsInRow vs (length paths.statements.items)) paths.outputs.items
         → All (IsReadyOutput (length (all_bits vs)) (length shelves.new.timings.items) (length shelves.new.conditions.items)) list.items) }
+    ensures read { OnOk result (All (λ s. IsSpelled s.condition) paths.statements.items → AreRead shelves.old.conditions.items → AreRead shelves.new.conditions.items) }
 {
     let statements = shelve_statements(alloc, paths.statements, &mut shelves.conditions)?;
     let mut outputs = Vec::new(alloc);

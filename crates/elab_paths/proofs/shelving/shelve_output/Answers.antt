@@ -11,9 +11,10 @@ loop-path-init c =
     (grows-none c.args.timings.now.items, each-first (IsShelvedPath c.args.timings.now.items c.args.statements.now) c.deref-path-items.result.now c.new-paths.result.items c.new-paths.ensures.items)
 
 pub shelve_path-requires : goal.shelve_path-requires
-shelve_path-requires c =
-    all-found (λ p. p.statement < length c.args.statements.now) c.deref-path-items.result.now c.args.output.now.paths.items c.loop-path.path-index c.path-item.result c.deref-path-items.ensures.value
-    c.requires.within c.loop-path-test.true c.path-item.is
+shelve_path-requires c = record {
+  within = all-found (λ p. p.statement < length c.args.statements.now) c.deref-path-items.result.now c.args.output.now.paths.items c.loop-path.path-index c.path-item.result
+      c.deref-path-items.ensures.value c.requires.within c.loop-path-test.true c.path-item.is;
+}
 
 pub loop-path-preserved : goal.loop-path-preserved
 loop-path-preserved c = (
