@@ -125,8 +125,10 @@ has-paths : (source : Source) (corner : Corner) (top : Module) (ps : List Placed
 has-paths source corner top ps made shelves s e f h are inside place at =
     let w = outputs-at source corner (tick_of source top) top ps made.outputs.items shelves s place h are inside at in (
       w.list.items,
-      ap (λ o. option_and_then (λ v. option_map (λ x. x.items) v) o) w.there,
-      is-ready source corner top s.step.definition made shelves w.list.items e f w.sound.are,
+      (
+        ap (λ o. option_and_then (λ v. option_map (λ x. x.items) v) o) w.there,
+        is-ready source corner top s.step.definition made shelves w.list.items e f w.sound.are,
+      ),
     )
 
 none-of_each : {A : Type 0} (f : A → List Fault) (xs : List A) → AllByRecursion (λ x. f x ≡ []) xs → flat_map f xs ≡ []

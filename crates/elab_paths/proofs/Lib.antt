@@ -4,4 +4,5 @@ pub mod OnShelves
 pub mod BlocksBeside
 pub mod SoFar
 pub mod OwnPaths
+pub mod OwnModule
 pub mod EachModule

@@ -16,7 +16,7 @@ use Rattle.elab_hierarchy.specs.declared.instances.Placed.{Placed}
 use Rattle.elab_hierarchy.specs.Tops.{StandsAt}
 use Rattle.elab_modules.proofs.Replaced.{set-there, set-either, set-keeps}
 use Rattle.elab_paths.specs.Ready.{output_ready, IsReadyOutput}
-use Rattle.elab_paths.specs.Shelving.{IsLonger}
+use Rattle.elab_paths.specs.Shelving.{IsLonger, ListGrows}
 use Rattle.elab_paths.specs.Standing.{AreOutputsOf, AreSoundOutputs, AreReadySoFar, HasOutputs}
 use Rattle.elab_paths.specs.declared.shelving.ReadyOutput.{ReadyOutput}
 use Rattle.elab_paths.specs.declared.shelving.Shelves.{Shelves}
@@ -41,8 +41,8 @@ longer-then a b c h k = record {
 outputs-stay : (corner : Corner) (tick : ℤ) (m : Module) (old new : Shelves) (list : List ReadyOutput) → IsLonger old new → AreOutputsOf corner tick m old list → AreOutputsOf corner tick m new list
 outputs-stay corner tick m old new list longer h =
     let bits = length (all_bits (variables m)) in
-    let ts = (longer.timings, longer.timings_are) in
-    let cs = (longer.conditions, longer.conditions_are) in
+    let ts : ListGrows old.timings.items new.timings.items = (longer.timings, longer.timings_are) in
+    let cs : ListGrows old.conditions.items new.conditions.items = (longer.conditions, longer.conditions_are) in
     record {
       outputs = λ timings conditions.
           ap (λ t. map (output_ready t (new.conditions.items ++ conditions) (variables m)) list) (grown-front old.timings.items new.timings.items timings ts)

@@ -1,5 +1,5 @@
 // The paths of all modules that a top reaches.
-ghost use Rattle.std.specs.Prelude.{◌≡◌, ◌≤ℤ◌, ℕ, All, [], None, IfOk, OnOk, IfErr, length, map, filter_map, replicate};
+ghost use Rattle.std.specs.Prelude.{◌≡◌, ◌<◌, ◌≤ℤ◌, ℕ, All, [], None, IfOk, OnOk, IfErr, length, map, filter_map, replicate};
 ghost use Rattle.std.specs.List.{list_any};
 ghost use Rattle.vl_tree.specs.Seen.{view_item};
 ghost use Rattle.vl_tree.specs.Tree.{Module as GhostModule};
@@ -132,6 +132,7 @@ fn add_module(
     outputs: &mut [Option<Vec<ReadyOutput>>],
     shelves: &mut Shelves,
 ) -> Result<(), Refused<ElabKind>>
+    requires within { place < length definitions.now }
     requires stands { StandsReady definitions.now tick.power library.now.parts.items place }
     requires ready { AreReadySoFar definitions.now corner tick.power outputs.old shelves.old }
     ensures ready { OnOk result (AreReadySoFar definitions.now corner tick.power outputs.new shelves.new) }
@@ -161,6 +162,7 @@ fn add_modules(
     outputs: &mut [Option<Vec<ReadyOutput>>],
     shelves: &mut Shelves,
 ) -> Result<(), Refused<ElabKind>>
+    requires within { All (λ p. p.definition < length definitions.now) instances.now }
     requires stand { All (λ p. StandsReady definitions.now tick.power library.now.parts.items p.definition) instances.now }
     requires ready { AreReadySoFar definitions.now corner tick.power outputs.old shelves.old }
     ensures ready { OnOk result (AreReadySoFar definitions.now corner tick.power outputs.new shelves.new) }

@@ -1,10 +1,9 @@
 -- One instance more.
-use Rattle.std.proofs.Common.{◌<◌, length, arith}
+use Rattle.std.proofs.Common.{sym, subst}
 use Rattle.std.proofs.lemmas.Result.{err_from_is_err_and}
 use Rattle.elab_hierarchy.proofs.Whole.{refuses}
 use Rattle.elab_paths.proofs.EachModule.{one-refused}
 use Rattle.elab_paths.proofs.SoFar.{longer-none, longer-then, there-none, there-next, there-all}
-use Rattle.elab_paths.proofs.SideBySide.{all-found}
 use Rattle.elab_paths.specs.Standing.{StandsReady}
 use Rattle.elab_paths.proofs.modules.add_modules.Goals as goal
 
@@ -13,7 +12,8 @@ loop-placed-init c = record { ready = c.requires.ready; there = there-none c.arg
 
 pub add_module-requires-clause-stands : goal.add_module-requires-clause-stands
 add_module-requires-clause-stands c =
-    c.requires.stand c.loop-placed.placed-index c.placed-item.result c.loop-placed-test.true
+    subst (λ p. StandsReady c.args.definitions.now c.args.tick.power c.args.library.now.parts.items p.definition) (sym c.placed-item.is)
+    (c.requires.stand c.loop-placed.placed-index c.placed-item.result c.loop-placed-test.true)
 
 pub returns-in_err-add_module-clause-refused : goal.returns-in_err-add_module-clause-refused
 returns-in_err-add_module-clause-refused c =
