@@ -142,11 +142,11 @@ faultless source corner top ps outputs shelves s h are inside =
     let w = place-of source ps (instances source top) s are inside in
     (outputs-at source corner (tick_of source top) top ps outputs shelves s w.place h are inside w.stands).sound.faultless
 
-pub have-paths : (source : Source) (corner : Corner) (top : Module) (ps : List Placed) (tick : ℤ) (legs : LegTiming) (made : ModulePaths) (shelves : Shelves) → shelves.timings ≡ made.timings
-    → shelves.conditions ≡ made.conditions → slice_get made.timings.items 0 ≡ Some legs → AreRead made.conditions.items → ArePlaced source ps (instances source top)
-    → tick ≡ tick_of source top → AllReady source corner tick ps made.outputs.items shelves → HavePaths source top corner legs made
-have-paths source corner top ps tick legs made shelves e f first read are t h =
-    let all = subst (λ k. AllReady source corner k ps made.outputs.items shelves) t h in
+pub have-paths : (source : Source) (corner : Corner) (top : Module) (ps : List Placed) (tick : ℤ) (legs : LegTiming) (made : ModulePaths) (outputs : Outputs) (shelves : Shelves)
+    → made.outputs.items ≡ outputs → shelves.timings ≡ made.timings → shelves.conditions ≡ made.conditions → slice_get made.timings.items 0 ≡ Some legs → AreRead made.conditions.items
+    → ArePlaced source ps (instances source top) → tick ≡ tick_of source top → AllReady source corner tick ps outputs shelves → HavePaths source top corner legs made
+have-paths source corner top ps tick legs made outputs shelves same e f first read are t h =
+    let all = subst (λ k. AllReady source corner k ps made.outputs.items shelves) t (subst (λ os. AllReady source corner tick ps os shelves) (sym same) h) in
     record {
       each = all-from (HasPaths source top corner made) (instances source top) (λ s inside. has-paths source corner top ps made shelves s e f all are inside);
       faultless = none-of_each (λ s. module_path_faults source corner (tick_of source top) s.step.definition) (instances source top)

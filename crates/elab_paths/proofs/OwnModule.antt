@@ -17,6 +17,12 @@ pub found-module : (source : Source) (tick : ℤ) (parts : Parts) (place : ℕ) 
     → x ≡ Some (ready.Module h.prepared)
 found-module source tick parts place x h is = is ∙ get_or_from_slice_get parts place (Some (ready.Module h.prepared)) x h.there
 
+pub no-primitive : (x : Option code_ready.Ready) (p : Prepared) (k : ℕ) → x ≡ Some (ready.Module p) → x ≡ Some (ready.Primitive k) → ⊥
+no-primitive x p k e f = cc
+
+pub not-none : (x : Option code_ready.Ready) (p : Prepared) → x ≡ Some (ready.Module p) → x ≡ None → ⊥
+not-none x p e f = cc
+
 pub ready-within : (source : Source) (tick : ℤ) (parts : Parts) (place : ℕ) → StandsReady source tick parts place → place < length parts
 ready-within source tick parts place h = slice_get_within parts place (Some (ready.Module h.prepared)) h.there
 

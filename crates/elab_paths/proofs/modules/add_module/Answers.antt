@@ -1,10 +1,10 @@
 -- The outputs of one module more, or a fault of it.
 use Rattle.std.specs.Prelude.{◌≡◌, ◌<◌, Some, length}
-use Rattle.std.proofs.Common.{rules, sym, subst, arith}
+use Rattle.std.proofs.Common.{rules, arith}
 use Rattle.std.proofs.lemmas.Result.{err_from_is_err_and}
 use Rattle.elab_hierarchy.proofs.Whole.{refuses}
 use Rattle.elab_modules.specs.declared.library.Ready.TheVariants as ready
-use Rattle.elab_paths.proofs.OwnModule.{found-module, ready-within, is-prepared, has-fits}
+use Rattle.elab_paths.proofs.OwnModule.{found-module, no-primitive, not-none, ready-within, is-prepared, has-fits}
 use Rattle.elab_paths.proofs.SoFar.{longer-none, some-there, place-within, ready-more, put-there, put-stays}
 use Rattle.elab_paths.proofs.modules.add_module.Goals as goal
 
@@ -25,8 +25,7 @@ index-requires c =
 pub returns-in_default-clause-there : goal.returns-in_default-clause-there
 returns-in_default-clause-there c =
     let e = found-module c.args.definitions.now c.args.tick.power c.args.library.now.parts.items c.args.place c.index.result.now c.requires.stands c.index.ensures in
-    let f = c.in_default.is in
-    cc
+    absurd (no-primitive c.index.result.now c.requires.stands.prepared _ e c.in_default.is)
 
 pub returns-in_default-clause-longer : goal.returns-in_default-clause-longer
 returns-in_default-clause-longer c = longer-none c.args.shelves.now
@@ -34,8 +33,7 @@ returns-in_default-clause-longer c = longer-none c.args.shelves.now
 pub returns-in_default-2-clause-there : goal.returns-in_default-2-clause-there
 returns-in_default-2-clause-there c =
     let e = found-module c.args.definitions.now c.args.tick.power c.args.library.now.parts.items c.args.place c.index.result.now c.requires.stands c.index.ensures in
-    let f = c.in_default.is in
-    cc
+    absurd (not-none c.index.result.now c.requires.stands.prepared e c.in_default.is)
 
 pub returns-in_default-2-clause-longer : goal.returns-in_default-2-clause-longer
 returns-in_default-2-clause-longer c = longer-none c.args.shelves.now
