@@ -27,10 +27,10 @@ use Rattle.elab_paths.specs.declared.shelving.Shelves.{Shelves}
 pub outputs-made : (corner : Corner) (tick : ℤ) (n m : Module) (vs : List Variable) (paths : PathOutputs) (shelves : Shelves) (list : List ReadyOutput) → n ≡ m → vs ≡ variables m
     → outputs_seen vs paths ≡ outputs_by (measure corner tick n) vs (specify_items n)
     → ((xs : List Variable) (timings : List LegTiming) (conditions : List Condition)
-        → map (output_ready (shelves.timings.items ++ timings) (shelves.conditions.items ++ conditions) xs) list ≡ outputs_seen xs paths)
+    → map (output_ready (shelves.timings.items ++ timings) (shelves.conditions.items ++ conditions) xs) list ≡ outputs_seen xs paths)
     → All (IsInRow vs (length paths.statements.items)) paths.outputs.items
     → ((xs : List Variable) → All (IsInRow xs (length paths.statements.items)) paths.outputs.items
-        → All (IsReadyOutput (length (all_bits xs)) (length shelves.timings.items) (length shelves.conditions.items)) list)
+    → All (IsReadyOutput (length (all_bits xs)) (length shelves.timings.items) (length shelves.conditions.items)) list)
     → AreOutputsOf corner tick m shelves list
 outputs-made corner tick n m vs paths shelves list e t seen ready row named = record {
   outputs = λ timings conditions.

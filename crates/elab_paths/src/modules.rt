@@ -145,8 +145,10 @@ fn add_module(
     if outputs[place].is_some() {
         return Ok(());
     }
-    let Some(Ready::Module(prepared)) = &library.parts[place] else {
-        return Ok(());
+    let prepared = match &library.parts[place] {
+        Some(Ready::Module(prepared)) => prepared,
+        Some(Ready::Primitive(_)) => return Ok(()),
+        None => return Ok(()),
     };
     outputs[place] = Some(outputs_of(alloc, corner, tick, definitions, prepared, shelves)?);
     Ok(())

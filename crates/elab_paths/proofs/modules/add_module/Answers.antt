@@ -22,27 +22,30 @@ index-requires c =
     let lt : c.args.place < length c.args.library.now.parts.items = ready-within c.args.definitions.now c.args.tick.power c.args.library.now.parts.items c.args.place c.requires.stands in
     omega (arith, lt, c.args.library.now.parts.ok.0)
 
-pub returns-in_default-clause-there : goal.returns-in_default-clause-there
-returns-in_default-clause-there c =
+pub returns-in-Some-Primitive-clause-there : goal.returns-in-Some-Primitive-clause-there
+returns-in-Some-Primitive-clause-there c =
     let e = found-module c.args.definitions.now c.args.tick.power c.args.library.now.parts.items c.args.place c.index.result.now c.requires.stands c.index.ensures in
-    absurd (no-primitive c.index.result.now c.requires.stands.prepared _ e c.in_default.is)
+    let there : c.index.result.now ≡ Some (ready.Primitive c.in-Some-Primitive.field-0-0) = search rules in
+    absurd (no-primitive c.index.result.now c.requires.stands.prepared c.in-Some-Primitive.field-0-0 e there)
 
-pub returns-in_default-clause-longer : goal.returns-in_default-clause-longer
-returns-in_default-clause-longer c = longer-none c.args.shelves.now
+pub returns-in-Some-Primitive-clause-longer : goal.returns-in-Some-Primitive-clause-longer
+returns-in-Some-Primitive-clause-longer c = longer-none c.args.shelves.now
 
-pub returns-in_default-2-clause-there : goal.returns-in_default-2-clause-there
-returns-in_default-2-clause-there c =
+pub returns-in-None-clause-there : goal.returns-in-None-clause-there
+returns-in-None-clause-there c =
     let e = found-module c.args.definitions.now c.args.tick.power c.args.library.now.parts.items c.args.place c.index.result.now c.requires.stands c.index.ensures in
-    absurd (not-none c.index.result.now c.requires.stands.prepared e c.in_default.is)
+    absurd (not-none c.index.result.now c.requires.stands.prepared e c.in-None.is)
 
-pub returns-in_default-2-clause-longer : goal.returns-in_default-2-clause-longer
-returns-in_default-2-clause-longer c = longer-none c.args.shelves.now
+pub returns-in-None-clause-longer : goal.returns-in-None-clause-longer
+returns-in-None-clause-longer c = longer-none c.args.shelves.now
 
 pub outputs_of-requires-clause-is : goal.outputs_of-requires-clause-is
 outputs_of-requires-clause-is c =
-    let there : c.index.result.now ≡ Some (ready.Module c.in-Some-Module.prepared) = search rules in
-    (c.requires.stands.own, is-prepared c.args.definitions.now c.args.tick.power c.args.library.now.parts.items c.args.place c.index.result.now c.in-Some-Module.prepared c.requires.stands.own
-    c.requires.stands c.index.ensures there c.requires.stands.stands)
+    let there : c.index.result.now ≡ Some (ready.Module c.in-Some-Module.prepared) = search rules in (
+      c.requires.stands.own,
+      is-prepared c.args.definitions.now c.args.tick.power c.args.library.now.parts.items c.args.place c.index.result.now c.in-Some-Module.prepared c.requires.stands.own
+          c.requires.stands c.index.ensures there c.requires.stands.stands,
+    )
 
 pub outputs_of-requires-clause-fits : goal.outputs_of-requires-clause-fits
 outputs_of-requires-clause-fits c =

@@ -2,7 +2,7 @@
 use Rattle.std.specs.Prelude.{◌<◌, All, length}
 use Rattle.std.proofs.Common.{◌∙◌, sym, ap, subst}
 use Rattle.elab_paths.specs.Shelving.{AreRead, AreShelved, IsShelvedOutput}
-use Rattle.elab_paths.proofs.OnShelves.{grows-none, grows-then, shelved-count, output-stays, outputs-ready, outputs-named}
+use Rattle.elab_paths.proofs.OnShelves.{grows-then, shelved-count, output-stays, outputs-ready, outputs-named}
 use Rattle.elab_paths.proofs.SideBySide.{Each, each-next, each-whole, all-found}
 use Rattle.elab_paths.proofs.shelving.shelve.Goals.{After-drop-paths-2}
 use Rattle.elab_paths.proofs.shelving.shelve.Goals as goal

@@ -1,6 +1,6 @@
 -- One path more, or all.
 use Rattle.std.specs.Prelude.{◌<◌, length}
-use Rattle.std.proofs.Common.{◌∙◌, sym, ap, subst}
+use Rattle.std.proofs.Common.{subst}
 use Rattle.elab_paths.specs.Shelving.{IsShelvedPath}
 use Rattle.elab_paths.proofs.OnShelves.{grows-none, grows-then, path-stays, output-made}
 use Rattle.elab_paths.proofs.SideBySide.{Each, each-first, each-next, each-whole, all-found}
