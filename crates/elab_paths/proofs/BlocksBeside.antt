@@ -18,7 +18,7 @@ use Rattle.elab_names.specs.Words.{first_of}
 use Rattle.elab_tables.specs.Seen.{view_member}
 use Rattle.elab_hierarchy.specs.Tops.{StandsAt}
 use Rattle.elab_tables.specs.declared.member_list.Member as code_member
-use Rattle.elab_paths.specs.Standing.{is_child}
+use Rattle.elab_paths.specs.OfModules.{is_child}
 
 -- ---- the instances of modules among members
 

@@ -39,7 +39,7 @@ use Rattle.elab_modules.proofs.Precisions.{least-of_all}
 use Rattle.elab_modules.proofs.Stocking.{Parts, no-module}
 use Rattle.elab_paths.specs.Ready.{output_ready, IsReadyOutput, IsReadyOf, HasPaths, HavePaths}
 use Rattle.elab_paths.specs.Shelving.{IsLonger, AreRead}
-use Rattle.elab_paths.specs.Standing.{StandsReady, AreOutputsOf, AreSoundOutputs, AreReadySoFar, HasOutputs, IsOfPlace}
+use Rattle.elab_paths.specs.OfModules.{StandsReady, AreOutputsOf, AreSoundOutputs, AreReadySoFar, HasOutputs, IsOfPlace}
 use Rattle.elab_paths.specs.declared.modules.ModulePaths.{ModulePaths}
 use Rattle.elab_paths.specs.declared.shelving.ReadyOutput.{ReadyOutput}
 use Rattle.elab_paths.specs.declared.shelving.Shelves.{Shelves}

@@ -10,7 +10,7 @@ use Rattle.elab_modules.specs.declared.prepared.Prepared.{Prepared}
 use Rattle.elab_modules.specs.Ready.{IsPrepared}
 use Rattle.elab_modules.proofs.Named.{module-same}
 use Rattle.elab_modules.proofs.Stocking.{Parts}
-use Rattle.elab_paths.specs.Standing.{StandsReady}
+use Rattle.elab_paths.specs.OfModules.{StandsReady}
 
 -- what was found is a module
 pub found-module : (source : Source) (tick : ℤ) (parts : Parts) (place : ℕ) (x : Option code_ready.Ready) (h : StandsReady source tick parts place) → x ≡ slice_index_or parts place x

@@ -19,7 +19,7 @@ use Rattle.elab_names.proofs.Refusals.{refused-left, refused-right}
 use Rattle.specify_paths.specs.Seen.{outputs_seen, IsInRow}
 use Rattle.specify_paths.specs.declared.outputs.PathOutputs.{PathOutputs}
 use Rattle.elab_paths.specs.Ready.{output_ready, IsReadyOutput}
-use Rattle.elab_paths.specs.Standing.{AreOutputsOf}
+use Rattle.elab_paths.specs.OfModules.{AreOutputsOf}
 use Rattle.elab_paths.specs.declared.shelving.ReadyOutput.{ReadyOutput}
 use Rattle.elab_paths.specs.declared.shelving.Shelves.{Shelves}
 

@@ -17,7 +17,7 @@ use Rattle.elab_hierarchy.specs.Tops.{StandsAt}
 use Rattle.elab_modules.proofs.Replaced.{set-there, set-either, set-keeps}
 use Rattle.elab_paths.specs.Ready.{output_ready, IsReadyOutput}
 use Rattle.elab_paths.specs.Shelving.{IsLonger, ListGrows}
-use Rattle.elab_paths.specs.Standing.{AreOutputsOf, AreSoundOutputs, AreReadySoFar, HasOutputs}
+use Rattle.elab_paths.specs.OfModules.{AreOutputsOf, AreSoundOutputs, AreReadySoFar, HasOutputs}
 use Rattle.elab_paths.specs.declared.shelving.ReadyOutput.{ReadyOutput}
 use Rattle.elab_paths.specs.declared.shelving.Shelves.{Shelves}
 use Rattle.elab_paths.proofs.OnShelves.{grown-front, grown-longer, ready-stays}

@@ -4,4 +4,4 @@ pub mod Ready
 pub mod Joining
 pub mod Redirecting
 pub mod Shelving
-pub mod Standing
+pub mod OfModules

@@ -20,7 +20,7 @@ ghost use Rattle.elab_modules.specs.Telling.{Tells};
 ghost use Rattle.elab_circuit.specs.Faults.{module_path_faults, path_faults};
 ghost use Rattle.elab_paths.specs.Ready.{HavePaths};
 ghost use Rattle.elab_paths.specs.Shelving.{IsLonger, AreRead};
-ghost use Rattle.elab_paths.specs.Standing.{is_child, StandsReady, AreOutputsOf, AreReadySoFar, HasOutputs, IsOfPlace};
+ghost use Rattle.elab_paths.specs.OfModules.{is_child, StandsReady, AreOutputsOf, AreReadySoFar, HasOutputs, IsOfPlace};
 
 use crate::shelving::{ReadyOutput, Shelves, shelve};
 use cond_expr::Expr;

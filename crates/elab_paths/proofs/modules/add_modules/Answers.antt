@@ -4,7 +4,7 @@ use Rattle.std.proofs.lemmas.Result.{err_from_is_err_and}
 use Rattle.elab_hierarchy.proofs.Whole.{refuses}
 use Rattle.elab_paths.proofs.EachModule.{one-refused}
 use Rattle.elab_paths.proofs.SoFar.{longer-none, longer-then, there-none, there-next, there-all}
-use Rattle.elab_paths.specs.Standing.{StandsReady}
+use Rattle.elab_paths.specs.OfModules.{StandsReady}
 use Rattle.elab_paths.proofs.modules.add_modules.Goals as goal
 
 pub loop-placed-init : goal.loop-placed-init

@@ -1,7 +1,7 @@
 -- The modules of the instances so far stand ready.
 use Rattle.std.proofs.Common.{All, take}
 use Rattle.elab_paths.specs.Shelving.{IsLonger, AreRead}
-use Rattle.elab_paths.specs.Standing.{AreReadySoFar, HasOutputs}
+use Rattle.elab_paths.specs.OfModules.{AreReadySoFar, HasOutputs}
 use Rattle.elab_paths.proofs.modules.add_modules.Given as goal
 
 abbrev pub invariant-loop-placed : goal.invariant-loop-placed

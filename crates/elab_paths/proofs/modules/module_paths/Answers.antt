@@ -8,7 +8,7 @@ use Rattle.elab_hierarchy.proofs.Whole.{refuses}
 use Rattle.elab_modules.proofs.Named.{places-within}
 use Rattle.specify_paths.specs.Seen.{IsRead}
 use Rattle.elab_paths.specs.Shelving.{AreRead}
-use Rattle.elab_paths.specs.Standing.{AreReadySoFar}
+use Rattle.elab_paths.specs.OfModules.{AreReadySoFar}
 use Rattle.elab_paths.proofs.EachModule.{all-ready, have-paths, first-stays, paths-refused}
 use Rattle.elab_paths.proofs.SoFar.{ready-none}
 use Rattle.elab_paths.proofs.modules.module_paths.Goals as goal
