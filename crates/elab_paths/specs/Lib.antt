@@ -4,3 +4,5 @@ pub mod Ready
 pub mod Joining
 pub mod Redirecting
 pub mod Shelving
+pub mod Uses
+pub mod Standing
