@@ -1,7 +1,7 @@
 -- The leaves of a condition's tree are the places of names among its tokens.
-use Rattle.std.specs.Prelude.{◌≡◌, ℕ, zero, suc, List, [], ◌∷◌, length, Option, Some, Result, Ok, slice_get, true, refl}
+use Rattle.std.specs.Prelude.{◌≡◌, ℕ, zero, suc, List, [], ◌∷◌, length, Some, Ok, slice_get, true}
 use Rattle.std.specs.List.{AllByRecursion}
-use Rattle.std.proofs.Common.{sym, ◌∙◌, ap, subst, inl, inr}
+use Rattle.std.proofs.Common.{sym, subst, inl, inr}
 use Rattle.grammar.specs.Language.{SpellsMany}
 use Rattle.grammar.specs.Rule.{◌∙∙◌, read_all}
 use Rattle.cond_expr.specs.declared.tokens.Op.{Op}

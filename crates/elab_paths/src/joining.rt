@@ -10,6 +10,7 @@ ghost use Rattle.elab_model.specs.Hierarchy.{Instance};
 ghost use Rattle.elab_model.specs.Nets.{OwnNet, nets};
 ghost use Rattle.elab_circuit.specs.Faults.{over, path_count};
 ghost use Rattle.elab_circuit.specs.PathUses as def;
+ghost use Rattle.specify_model.specs.Terms.{NetBit};
 ghost use Rattle.elab_laws.specs.Handing.{all_bits};
 ghost use Rattle.elab_hierarchy.specs.declared.instances.Placed as ghost_placed;
 ghost use Rattle.elab_modules.specs.declared.library.Ready.TheVariants as ghost_ready;
@@ -20,7 +21,7 @@ ghost use Rattle.elab_elements.specs.Puts.{wired};
 ghost use Rattle.elab_paths.specs.Joining.{AreGiven, AreJoined, counts_over};
 ghost use Rattle.elab_paths.specs.Ready.{output_ready, IsReadyOutput};
 ghost use Rattle.elab_paths.specs.Standing.{AreStanding, IsStanding, outputs_at, path_wired};
-ghost use Rattle.elab_paths.specs.Uses.{IsUsable, AreUses, AreFew, RefusesUses};
+ghost use Rattle.elab_paths.specs.Uses.{IsRow, IsUsable, AreUses, AreFew, RefusesUses};
 ghost use Rattle.elab_paths.specs.declared.shelving.ReadyOutput as ghost_output;
 
 use crate::modules::ModulePaths;
@@ -83,7 +84,7 @@ fn add_all_uses(
     outputs: &[ReadyOutput],
     uses: &mut PathUses,
 ) -> Result<(), Refused<ElabKind>>
-    requires row { length here.row.now ≡ length (all_bits here.table.now) }
+    requires row { (net : NetBit → ℕ) × IsRow here.table.now here.row.now net }
     requires usable { All (IsUsable here.table.now conditions.now) outputs.now }
     requires few { AreFew nets elements uses.old }
     ensures uses { OnOk result ((all : List OwnNet) (source : Source) (s : Instance) (timings : List LegTiming) (us : List def.PathUse)

@@ -55,7 +55,7 @@ fn condition_of(
     conditions: &[Expr],
     condition: ReadyCondition,
 ) -> Result<PathCondition, NoMemory>
-    requires row { length here.row.now ≡ length (all_bits here.table.now) }
+    requires row { (net : NetBit → ℕ) × IsRow here.table.now here.row.now net }
     requires bindable { IsBindable here.table.now conditions.now condition }
     ensures bound { IfOk result (λ c. (net : NetBit → ℕ) → IsRow here.entry.table.now here.entry.row.now net
         → condition_seen conditions.now c ≡ circuit_condition net (condition_ready conditions.now here.entry.table.now condition)) }
@@ -84,7 +84,7 @@ fn add_path(
     path: &ReadyPath,
     paths: &mut Vec<Path>,
 ) -> Result<(), Refused<ElabKind>>
-    requires row { length here.row.now ≡ length (all_bits here.table.now) }
+    requires row { (net : NetBit → ℕ) × IsRow here.table.now here.row.now net }
     requires usable { IsUsablePath here.table.now conditions.now path.now }
     ensures paths { OnOk result (AddsPaths conditions.now here.entry.table.now here.entry.row.now (path.now ∷ []) paths.old.items paths.new.items) }
     ensures few { OnOk result (length paths.new.items ≤ 2 ^ 22) }
@@ -108,7 +108,7 @@ fn add_all_paths(
     list: &[ReadyPath],
     paths: &mut Vec<Path>,
 ) -> Result<Span, Refused<ElabKind>>
-    requires row { length here.row.now ≡ length (all_bits here.table.now) }
+    requires row { (net : NetBit → ℕ) × IsRow here.table.now here.row.now net }
     requires usable { All (IsUsablePath here.table.now conditions.now) list.now }
     requires few { length paths.old.items ≤ 2 ^ 22 }
     ensures paths { OnOk result (AddsPaths conditions.now here.entry.table.now here.entry.row.now list.now paths.old.items paths.new.items) }
@@ -164,7 +164,7 @@ pub fn add_use(
     output: &ReadyOutput,
     uses: &mut PathUses,
 ) -> Result<(), Refused<ElabKind>>
-    requires row { length here.row.now ≡ length (all_bits here.table.now) }
+    requires row { (net : NetBit → ℕ) × IsRow here.table.now here.row.now net }
     requires usable { IsUsable here.table.now conditions.now output.now }
     requires few { AreFew nets elements uses.old }
     ensures added { OnOk result (AddsUse conditions.now here.entry.table.now here.entry.row.now here.entry.scope output.now uses.old uses.new) }
