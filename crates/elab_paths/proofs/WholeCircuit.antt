@@ -1,0 +1,202 @@
+-- What stands when the paths of all instances have been put in, and what is refused for its number.
+use Rattle.std.specs.Prelude.{◌≡◌, ℕ, ◌+◌, ◌<◌, ◌≤◌, nat_lt, Bool, true, false, List, [], ◌∷◌, ◌++◌, length, map, refl, if◌then◌else◌}
+use Rattle.std.specs.List.{AllByRecursion, IsAmong, enumerate_from}
+use Rattle.std.proofs.Common.{sym, ◌∙◌, ap, arith, subst, length-append}
+use Rattle.std.proofs.lemmas.Bool.Decides.{nat_tests}
+use Rattle.std.proofs.lemmas.List.{length-map, map-append}
+use Rattle.sg_circuit.specs.PathsSeen.{paths_seen, spanned, AreIndexedPaths}
+use Rattle.sg_circuit.specs.declared.elements.Element as code
+use Rattle.sg_delay.specs.declared.corners.Corner.{Corner}
+use Rattle.sg_text.specs.declared.refusals.Refused.{Refused}
+use Rattle.sg_text.specs.declared.refusals.Refused.TheVariants as refused
+use Rattle.vl_tree.specs.Tree.{Module, Source}
+use Rattle.elab_model.specs.declared.kinds.ElabKind.{ElabKind}
+use Rattle.elab_model.specs.declared.kinds.ElabKind.TheVariants.{TooMany}
+use Rattle.elab_model.specs.Drivers.{elements as components}
+use Rattle.elab_model.specs.Elements.{Component}
+use Rattle.elab_model.specs.Faults.{Fault, fault, RefusesOneOf}
+use Rattle.elab_model.specs.HierarchyFaults.{count_limit, start}
+use Rattle.elab_model.specs.Nets.{OwnNet, nets}
+use Rattle.elab_model.specs.Numbered.{undriven, element_of}
+use Rattle.elab_circuit.specs.Faults.{over, path_count}
+use Rattle.elab_circuit.specs.PathUses as def
+use Rattle.elab_circuit.specs.WithPaths.{redirected, path_element, placed_element, all_nets, all_elements}
+use Rattle.elab_hierarchy.specs.declared.instances.Placed.{Placed}
+use Rattle.elab_modules.specs.declared.library.Library.{Library}
+use Rattle.elab_names.proofs.Refusals.{refused-left, refused-right}
+use Rattle.elab_nets.specs.Refusals.{RefusesCount}
+use Rattle.elab_rows.specs.declared.rows.Rows.{Rows}
+use Rattle.elab_elements.specs.Puts.{wired}
+use Rattle.elab_elements.specs.Seen.{element_in}
+use Rattle.elab_elements.specs.declared.placing.Placing.{Placing}
+use Rattle.elab_paths.specs.Joining.{Tables, tables_of, element_with, AreGiven, HaveNumbers, AreJoined, counts_over}
+use Rattle.elab_paths.specs.Redirecting.{AreRedirected}
+use Rattle.elab_paths.specs.Standing.{AreStanding, path_wired}
+use Rattle.elab_paths.specs.Uses.{AreUses, AreFew}
+use Rattle.elab_paths.specs.declared.joining.Joined.{Joined}
+use Rattle.elab_paths.specs.declared.modules.ModulePaths.{ModulePaths}
+use Rattle.elab_paths.specs.declared.uses.PathUses.{PathUses}
+use Rattle.elab_paths.proofs.JoinedElements.{mapped-twice, HasLegs, AreSame, redirected-seen, wired_with, paths-seen, elements-seen, elements-named}
+
+-- ---- too many
+
+over-among : (n : ℕ) (f : Fault) → f ≡ fault TooMany start → count_limit < n → IsAmong (over n) f
+over-among n f e lt = by (nat_lt count_limit n) (let t : nat_lt count_limit n ≡ true = grind (arith, nat_tests) in t)
+  where
+    by : (b : Bool) → b ≡ true → IsAmong (if b then fault TooMany start ∷ [] else []) f
+    by true t = (0, (omega arith, e))
+    by false t = cc
+
+pub count-refused : (count n : ℕ) (r : Refused ElabKind) → RefusesCount count r → count ≤ n → RefusesOneOf (over n) r
+count-refused count n (refused.Fault kind place) h le =
+    let a = h.2 in
+    over-among n (fault kind place) (ap (λ k. fault k place) h.0 ∙ ap (fault TooMany) h.1) (omega (arith, a, le))
+count-refused count n refused.NoMemory h le = tt
+
+pub nets-refused : (n e p : ℕ) (r : Refused ElabKind) → RefusesOneOf (over n) r → RefusesOneOf (over n ++ (over e ++ over p)) r
+nets-refused n e p r h = refused-left (over n) (over e ++ over p) r h
+
+pub elements-refused : (n e p : ℕ) (r : Refused ElabKind) → RefusesOneOf (over e) r → RefusesOneOf (over n ++ (over e ++ over p)) r
+elements-refused n e p r h = refused-right (over n) (over e ++ over p) r (refused-left (over e) (over p) r h)
+
+pub paths-refused : (n e p : ℕ) (r : Refused ElabKind) → RefusesOneOf (over p) r → RefusesOneOf (over n ++ (over e ++ over p)) r
+paths-refused n e p r h = refused-right (over n) (over e ++ over p) r (refused-right (over e) (over p) r h)
+
+-- ---- what is given
+
+pub are-standing : (source : Source) (top : Module) (corner : Corner) (library : Library) (modules : ModulePaths) (placed : List Placed) (rows : Rows) (made : Placing)
+    → AreGiven source top corner library modules placed rows made → AreStanding source top corner library modules placed rows
+are-standing source top corner library modules placed rows made h =
+    record { are_placed = h.are_placed; few = h.few; is_ready = h.is_ready; have_rows = h.have_rows; legs = h.legs; have_paths = h.have_paths }
+
+has-legs : (source : Source) (top : Module) (corner : Corner) (library : Library) (modules : ModulePaths) (placed : List Placed) (rows : Rows) (made : Placing)
+    → AreGiven source top corner library modules placed rows made → HasLegs modules.timings.items
+has-legs source top corner library modules placed rows made h = record { legs = h.legs; first = h.have_paths.first; without_delay = h.without_delay }
+
+-- ---- all elements, as lists
+
+second-of : {A B : Type 0} (f : A → B) (a : ℕ) (xs : List A) → map (λ x. f x.1) (enumerate_from a xs) ≡ map f xs
+second-of f a [] = refl
+second-of f a (x ∷ xs) = ap (λ ys. f x ∷ ys) (second-of f (a + 1) xs)
+
+length-numbered : {A : Type 0} (a : ℕ) (xs : List A) → length (enumerate_from a xs) ≡ length xs
+length-numbered a [] = refl
+length-numbered a (x ∷ xs) = ap (λ n. n + 1) (length-numbered (a + 1) xs)
+
+module _ (all : List OwnNet) (cs : List Component) (us : List def.PathUse) (first : ℕ) where
+  places-in : map (λ e. e.0) (map (λ e. (e.0, redirected first us e.1)) (map (placed_element all) cs) ++ map (λ u. (u.1.place, path_element u)) (enumerate_from first us))
+      ≡ map (λ c. c.place) cs ++ map (λ u. u.place) us
+  places-in =
+      map-append (λ e. e.0) (map (λ e. (e.0, redirected first us e.1)) (map (placed_element all) cs)) (map (λ u. (u.1.place, path_element u)) (enumerate_from first us))
+      ∙ ap (λ xs. xs ++ map (λ e. e.0) (map (λ u. (u.1.place, path_element u)) (enumerate_from first us)))
+      (mapped-twice (λ e. (e.0, redirected first us e.1)) (λ e. e.0) (map (placed_element all) cs) ∙ mapped-twice (placed_element all) (λ e. e.0) cs)
+      ∙ ap (λ xs. map (λ c. c.place) cs ++ xs) (mapped-twice (λ u. (u.1.place, path_element u)) (λ e. e.0) (enumerate_from first us) ∙ second-of (λ u. u.place) first us)
+
+  elements-in : map (λ e. e.1) (map (λ e. (e.0, redirected first us e.1)) (map (placed_element all) cs) ++ map (λ u. (u.1.place, path_element u)) (enumerate_from first us))
+      ≡ map (redirected first us) (map (element_of all) cs) ++ map path_element (enumerate_from first us)
+  elements-in =
+      map-append (λ e. e.1) (map (λ e. (e.0, redirected first us e.1)) (map (placed_element all) cs)) (map (λ u. (u.1.place, path_element u)) (enumerate_from first us))
+      ∙ ap (λ xs. xs ++ map (λ e. e.1) (map (λ u. (u.1.place, path_element u)) (enumerate_from first us)))
+      (mapped-twice (λ e. (e.0, redirected first us e.1)) (λ e. e.1) (map (placed_element all) cs) ∙ mapped-twice (placed_element all) (λ e. redirected first us e.1) cs
+      ∙ sym (mapped-twice (element_of all) (redirected first us) cs))
+      ∙ ap (λ xs. map (redirected first us) (map (element_of all) cs) ++ xs) (mapped-twice (λ u. (u.1.place, path_element u)) (λ e. e.1) (enumerate_from first us))
+
+  count-in : length (map (λ e. (e.0, redirected first us e.1)) (map (placed_element all) cs) ++ map (λ u. (u.1.place, path_element u)) (enumerate_from first us)) ≡ length cs + length us
+  count-in =
+      length-append (map (λ e. (e.0, redirected first us e.1)) (map (placed_element all) cs)) (map (λ u. (u.1.place, path_element u)) (enumerate_from first us))
+      ∙ ap (λ n. n + length (map (λ u. (u.1.place, path_element u)) (enumerate_from first us)))
+      (length-map (map (placed_element all) cs) (λ e. (e.0, redirected first us e.1)) ∙ length-map cs (placed_element all))
+      ∙ ap (λ n. length cs + n) (length-map (enumerate_from first us) (λ u. (u.1.place, path_element u)) ∙ length-numbered first us)
+
+-- ---- all of a netlist
+
+module _ (source : Source) (top : Module) (corner : Corner) (library : Library) (modules : ModulePaths) (placed : List Placed) (rows : Rows) (old : Placing)
+    (given : AreGiven source top corner library modules placed rows old) where
+  pub first-is : length rows.nets.items ≡ length (nets source top)
+  first-is = ap length given.have_rows.all ∙ length-map (nets source top) undriven
+
+  components-count : length old.elements.items ≡ length (components source top corner)
+  components-count =
+      sym (length-map old.elements.items (element_in library.gate_delays.items library.udps.items)) ∙ ap length given.are_elements.elements
+      ∙ length-map (components source top corner) (element_of (nets source top))
+
+  pub nets-count : length rows.nets.items + length (def.path_uses source top corner) ≡ length (all_nets source top corner)
+  nets-count =
+      sym (length-append (map undriven (nets source top)) (map (λ u. u.inner) (def.path_uses source top corner))
+      ∙ ap (λ n. n + length (map (λ u. u.inner) (def.path_uses source top corner))) (length-map (nets source top) undriven ∙ sym first-is)
+      ∙ ap (λ n. length rows.nets.items + n) (length-map (def.path_uses source top corner) (λ u. u.inner)))
+
+  pub elements-count : length old.elements.items + length (def.path_uses source top corner) ≡ length (all_elements source top corner)
+  elements-count =
+      ap (λ n. n + length (def.path_uses source top corner)) components-count
+      ∙ sym (count-in (nets source top) (components source top corner) (def.path_uses source top corner) (length (nets source top)))
+
+  pub refused-by : (r : Refused ElabKind)
+      → ((n e p : ℕ) → length rows.nets.items + length (def.path_uses source top corner) ≤ n → length old.elements.items + length (def.path_uses source top corner) ≤ e → path_count source top corner ≤ p
+      → RefusesOneOf (over n ++ (over e ++ over p)) r) → RefusesOneOf (counts_over source top corner) r
+  refused-by r h =
+      let a = nets-count in
+      let b = elements-count in
+      h (length (all_nets source top corner)) (length (all_elements source top corner)) (path_count source top corner) (omega (arith, a)) (omega (arith, b)) (omega arith)
+
+  module _ (made : PathUses) (joined : Joined) (mid : List code.Element) (new : Placing) (uses : AreUses modules.conditions.items modules.timings.items made (def.path_uses source top corner))
+      (few : AreFew (length rows.nets.items) (length old.elements.items) made) (inner : joined.inner.items ≡ made.inner.items) (paths : joined.paths.items ≡ made.paths.items)
+      (redirects : AreRedirected (length rows.nets.items) made.uses.items old.elements.items mid)
+      (elements : map wired new.elements.items ≡ map wired mid ++ map path_wired (enumerate_from (length rows.nets.items) made.uses.items))
+      (places : new.places.items ≡ old.places.items ++ map (λ u. u.place) made.uses.items) where
+    us : List def.PathUse
+    us = def.path_uses source top corner
+
+    tables : Tables
+    tables = tables_of library modules joined
+
+    legs : HasLegs modules.timings.items
+    legs = has-legs source top corner library modules placed rows old given
+
+    same : AreSame tables made.uses.items us
+    same = record {
+      scopes = uses.scopes;
+      outputs = uses.outputs;
+      paths = ap (λ ps. map (λ u. paths_seen modules.conditions.items modules.timings.items (spanned ps u.paths)) made.uses.items) paths ∙ uses.paths;
+      styles = uses.styles;
+    }
+
+    uses-long : length made.uses.items ≡ length us
+    uses-long = sym (length-map made.uses.items (λ u. u.scope)) ∙ ap length uses.scopes ∙ length-map us (λ u. u.scope)
+
+    seen : map (element_with tables) new.elements.items ≡ map (λ e. e.1) (all_elements source top corner)
+    seen =
+        let first = length rows.nets.items in
+        let all = nets source top in
+        let cs = components source top corner in
+        elements-seen tables mid new.elements.items (enumerate_from first made.uses.items) elements
+        ∙ ap (λ xs. xs ++ map (λ u. wired_with tables (path_wired u)) (enumerate_from first made.uses.items))
+        (redirected-seen tables first made.uses.items us old.elements.items mid legs (record { scopes = uses.scopes; outputs = uses.outputs }) given.are_elements.named redirects
+        ∙ sym (mapped-twice (element_in library.gate_delays.items library.udps.items) (redirected first us) old.elements.items)
+        ∙ ap (map (redirected first us)) given.are_elements.elements)
+        ∙ ap (λ xs. map (redirected first us) (map (element_of all) cs) ++ xs) (paths-seen tables first made.uses.items us same)
+        ∙ ap (λ n. map (redirected n us) (map (element_of all) cs) ++ map path_element (enumerate_from n us)) first-is
+        ∙ sym (elements-in all cs us (length all))
+
+    numbers : HaveNumbers source top corner rows joined new
+    numbers =
+        let a = nets-count in
+        let b = elements-count in
+        let l = uses-long in
+        record {
+          nets = ap (λ ns. rows.nets.items ++ ns) (inner ∙ uses.inner) ∙ ap (λ ns. ns ++ map (λ u. u.inner) us) given.have_rows.all;
+          outputs = sym (mapped-twice (element_with tables) (λ e. e.output) new.elements.items) ∙ ap (map (λ e. e.output)) seen ∙ mapped-twice (λ e. e.1) (λ e. e.output) (all_elements source top corner);
+          places = places ∙ ap (λ ps. ps ++ map (λ u. u.place) made.uses.items) given.are_elements.places ∙ ap (λ ps. map (λ c. c.place) (components source top corner) ++ ps) uses.places
+              ∙ sym (places-in (nets source top) (components source top corner) us (length (nets source top)));
+          few_nets = (let k = few.nets_few in omega (arith, a, k, l));
+          few_elements = (let k = few.elements_few in omega (arith, b, k, l));
+          few_paths = (let k = few.paths_few in let c = uses.count in omega (arith, k, c));
+        }
+
+    pub are-joined : AreJoined source top corner library modules rows joined new
+    are-joined = record {
+      numbers = numbers;
+      elements = seen;
+      named = elements-named tables (length rows.nets.items) made.uses.items old.elements.items mid new.elements.items legs given.are_elements.named
+          (subst (λ ps. AllByRecursion (λ u. AreIndexedPaths (length modules.conditions.items) (length modules.timings.items) ps u.paths) made.uses.items) (sym paths) uses.spans) redirects elements;
+    }
