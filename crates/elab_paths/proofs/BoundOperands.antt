@@ -1,5 +1,5 @@
 -- A condition with sound operands is bound to the nets of an instance's row.
-use Rattle.std.specs.Prelude.{◌≡◌, ℕ, suc, ℤ, ◌+◌, ◌-◌, ◌<◌, ◌==◌, ◌&&◌, not, List, [], ◌∷◌, ◌++◌, Bool, true, false, cond, Option, Some, None, filter_map, length, map, nat_le, reverse, slice_get, take, refl}
+use Rattle.std.specs.Prelude.{◌≡◌, ℕ, zero, suc, ℤ, ◌+◌, ◌-◌, ◌<◌, ◌==◌, ◌&&◌, not, List, [], ◌∷◌, ◌++◌, Bool, true, false, cond, Option, Some, None, drop, filter_map, length, map, nat_le, reverse, slice_get, take, refl}
 use Rattle.std.specs.List.{range_with_len}
 use Rattle.std.specs.Option.{option_and_then, option_map}
 use Rattle.std.proofs.Common.{sym, ◌∙◌, ap, arith, subst}
@@ -9,7 +9,9 @@ use Rattle.std.proofs.lemmas.List.{append-nil}
 use Rattle.std.proofs.lemmas.List.FromFn.{length-map-range_with_len}
 use Rattle.std.proofs.lemmas.Option.{get_or_from_slice_get, slice_get-get_or, slice_get-map, slice_get_within}
 use Rattle.cond_expr.specs.Binding as binding
-use Rattle.cond_expr.specs.Binding.{index_of, IsBound, first_unknown}
+use Rattle.cond_expr.specs.Binding.{index_of, IsBound, BindFaultStands, first_unknown}
+use Rattle.cond_expr.specs.declared.binding.BindFault.{BindFault}
+use Rattle.cond_expr.specs.declared.binding.BindFault.TheVariants.{Unknown}
 use Rattle.cond_expr.specs.Condition.{Condition}
 use Rattle.cond_expr.specs.Token.{Tok}
 use Rattle.cond_expr.specs.Tree.{Cond, leaf, constant, unary, binary}
@@ -18,6 +20,7 @@ use Rattle.cond_expr.proofs.BindingLaws.{bound_is_known, bound_is_one}
 use Rattle.sg_circuit.specs.Closed.{width_of}
 use Rattle.sg_circuit.specs.Paths as circuit
 use Rattle.sg_circuit.specs.PathsSeen.{written_at}
+use Rattle.sg_circuit.specs.declared.scopes.Range.{Range}
 use Rattle.sg_text.specs.declared.places.Place.{Place}
 use Rattle.vl_tree.specs.declared.expressions.Select.TheVariants as select
 use Rattle.elab_model.specs.declared.kinds.ElabKind.{ElabKind}
@@ -216,3 +219,25 @@ condition-bound vs row number conditions condition written c b e f h r k =
     ∙ ap (circuit.If c.tokens) (bound-over vs row number c b r s k)
     ∙ ap (λ o. circuit_condition number (written_condition vs o)) (sym f)
     ∙ ap (λ x. circuit_condition number (condition_ready conditions vs x)) (sym e)
+
+-- no operand of it is unknown
+pub never-unknown : (vs : List Variable) (row : List ℕ) (number : NetBit → ℕ) (conditions : List Condition) (condition : ReadyCondition) (written : ℕ) (c : Condition) (fault : BindFault) (at : ℕ)
+    → condition ≡ ready.If written → slice_get conditions written ≡ Some c → IsBindable vs conditions condition → IsRow vs row number → fault ≡ Unknown at → BindFaultStands (net_named vs row) c.tokens c.tree fault → ⊥
+never-unknown vs row number conditions condition written c fault at e f h r g k =
+    none-unknown vs row number c at r (sound-at vs conditions condition written c e f h) (subst (BindFaultStands (net_named vs row) c.tokens c.tree) g k)
+
+-- ---- where an operand is looked for
+
+drop-get : {A : Type 0} (xs : List A) (s p : ℕ) → slice_get (drop s xs) p ≡ slice_get xs (s + p)
+drop-get xs zero p = let e : p ≡ 0 + p = omega arith in ap (slice_get xs) e
+drop-get [] (suc s) p = refl
+drop-get (x ∷ xs) (suc s) p = let e : suc (s + p) ≡ suc s + p = omega arith in drop-get xs s p ∙ ap (slice_get (x ∷ xs)) e
+
+-- the net at a position behind those of the variables before
+pub looked-up : (vs : List Variable) (row : List ℕ) (n m : List ℕ) (i : Option ℤ) (k start p : ℕ) (r : Option Range) → Some k ≡ place_named vs m → m ≡ n → start ≡ length (all_bits (take k vs)) → r ≡ (variable_at vs k).range
+    → Some p ≡ operand_position r i → slice_get (drop start row) p ≡ net_named vs row n i
+looked-up vs row n m i k start p r e same s range at =
+    let named : place_named vs n ≡ Some k = ap (place_named vs) (sym same) ∙ sym e in
+    let position : operand_position (variable_at vs k).range i ≡ Some p = ap (λ x. operand_position x i) (sym range) ∙ sym at in
+    drop-get row start p ∙ ap (λ j. slice_get row (j + p)) s
+    ∙ sym (ap (option_and_then (λ x. net_at vs row x (operand_position (variable_at vs x).range i))) named ∙ ap (net_at vs row k) position)

@@ -87,9 +87,13 @@ same-inner n m first (u ∷ uses) (v ∷ us) h =
 
 -- ---- redirected elements
 
+abbrev element-of : ℕ → List ℕ → ℕ → Kind → Element
+element-of scope inputs output k = record { scope = scope; inputs = inputs; output = output; kind = k }
+
 same-element : (scope output : ℕ) (inputs : List ℕ) (k : Kind) (e : Element) → scope ≡ e.scope → inputs ≡ e.inputs → output ≡ e.output → k ≡ e.kind
-    → record { scope = scope; inputs = inputs; output = output; kind = k } ≡ e
-same-element scope output inputs k e a b c d = cc
+    → element-of scope inputs output k ≡ e
+same-element scope output inputs k e a b c d =
+    ap (λ x. element-of x inputs output k) a ∙ ap (λ x. element-of e.scope x output k) b ∙ ap (λ x. element-of e.scope e.inputs x k) c ∙ ap (element-of e.scope e.inputs e.output) d
 
 element-is : (t : Tables) (first : ℕ) (uses : List PathUse) (us : List def.PathUse) (o m : code.Element) → HasLegs t.timings → Agree uses us → NamesPlaces t.gate_delays t.udps o.kind
     → m.scope ≡ o.scope → m.inputs.items ≡ o.inputs.items → m.kind ≡ o.kind → m.output ≡ new_output first uses o

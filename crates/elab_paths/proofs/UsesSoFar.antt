@@ -87,7 +87,7 @@ mapped-twice f g (x ∷ xs) = ap (λ ys. g (f x) ∷ ys) (mapped-twice f g xs)
 
 -- ---- the inner net
 
-inner-of : ℕ → List ℕ → Option ℤ → Net
+abbrev inner-of : ℕ → List ℕ → Option ℤ → Net
 inner-of scope name bit = record { scope = scope; name = name; bit = bit; driver = Nobody }
 
 inner-is : (s : Instance) (scope : ℕ) (vs : List Variable) (i : ℕ) → s.step.number ≡ scope → vs ≡ variables s.step.definition → i < length (all_bits vs) → net_at scope (bit_at vs i) ≡ def.inner_net s (bit_seen vs i)

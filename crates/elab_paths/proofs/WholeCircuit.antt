@@ -1,21 +1,20 @@
--- What stands when the paths of all instances have been put in, and what is refused for its number.
-use Rattle.std.specs.Prelude.{◌≡◌, ℕ, ◌+◌, ◌<◌, ◌≤◌, nat_lt, Bool, true, false, List, [], ◌∷◌, ◌++◌, length, map, refl, if◌then◌else◌}
-use Rattle.std.specs.List.{AllByRecursion, IsAmong, enumerate_from}
+-- What stands when the paths of all instances have been put in.
+use Rattle.std.specs.Prelude.{◌≡◌, ℕ, ◌+◌, ◌≤◌, List, [], ◌∷◌, ◌++◌, length, map, refl}
+use Rattle.std.specs.List.{AllByRecursion, enumerate_from}
 use Rattle.std.proofs.Common.{sym, ◌∙◌, ap, arith, subst, length-append}
-use Rattle.std.proofs.lemmas.Bool.Decides.{nat_tests}
 use Rattle.std.proofs.lemmas.List.{length-map, map-append}
+use Rattle.sg_circuit.specs.Circuit.{Element}
 use Rattle.sg_circuit.specs.PathsSeen.{paths_seen, spanned, AreIndexedPaths}
 use Rattle.sg_circuit.specs.declared.elements.Element as code
 use Rattle.sg_delay.specs.declared.corners.Corner.{Corner}
+use Rattle.sg_text.specs.declared.places.Place.{Place}
 use Rattle.sg_text.specs.declared.refusals.Refused.{Refused}
-use Rattle.sg_text.specs.declared.refusals.Refused.TheVariants as refused
 use Rattle.vl_tree.specs.Tree.{Module, Source}
 use Rattle.elab_model.specs.declared.kinds.ElabKind.{ElabKind}
-use Rattle.elab_model.specs.declared.kinds.ElabKind.TheVariants.{TooMany}
 use Rattle.elab_model.specs.Drivers.{elements as components}
 use Rattle.elab_model.specs.Elements.{Component}
-use Rattle.elab_model.specs.Faults.{Fault, fault, RefusesOneOf}
-use Rattle.elab_model.specs.HierarchyFaults.{count_limit, start}
+use Rattle.elab_model.specs.Faults.{RefusesOneOf}
+use Rattle.elab_model.specs.HierarchyFaults.{count_limit}
 use Rattle.elab_model.specs.Nets.{OwnNet, nets}
 use Rattle.elab_model.specs.Numbered.{undriven, element_of}
 use Rattle.elab_circuit.specs.Faults.{over, path_count}
@@ -23,8 +22,6 @@ use Rattle.elab_circuit.specs.PathUses as def
 use Rattle.elab_circuit.specs.WithPaths.{redirected, path_element, placed_element, all_nets, all_elements}
 use Rattle.elab_hierarchy.specs.declared.instances.Placed.{Placed}
 use Rattle.elab_modules.specs.declared.library.Library.{Library}
-use Rattle.elab_names.proofs.Refusals.{refused-left, refused-right}
-use Rattle.elab_nets.specs.Refusals.{RefusesCount}
 use Rattle.elab_rows.specs.declared.rows.Rows.{Rows}
 use Rattle.elab_elements.specs.Puts.{wired}
 use Rattle.elab_elements.specs.Seen.{element_in}
@@ -37,30 +34,6 @@ use Rattle.elab_paths.specs.declared.joining.Joined.{Joined}
 use Rattle.elab_paths.specs.declared.modules.ModulePaths.{ModulePaths}
 use Rattle.elab_paths.specs.declared.uses.PathUses.{PathUses}
 use Rattle.elab_paths.proofs.JoinedElements.{mapped-twice, HasLegs, AreSame, redirected-seen, wired_with, paths-seen, elements-seen, elements-named}
-
--- ---- too many
-
-over-among : (n : ℕ) (f : Fault) → f ≡ fault TooMany start → count_limit < n → IsAmong (over n) f
-over-among n f e lt = by (nat_lt count_limit n) (let t : nat_lt count_limit n ≡ true = grind (arith, nat_tests) in t)
-  where
-    by : (b : Bool) → b ≡ true → IsAmong (if b then fault TooMany start ∷ [] else []) f
-    by true t = (0, (omega arith, e))
-    by false t = cc
-
-pub count-refused : (count n : ℕ) (r : Refused ElabKind) → RefusesCount count r → count ≤ n → RefusesOneOf (over n) r
-count-refused count n (refused.Fault kind place) h le =
-    let a = h.2 in
-    over-among n (fault kind place) (ap (λ k. fault k place) h.0 ∙ ap (fault TooMany) h.1) (omega (arith, a, le))
-count-refused count n refused.NoMemory h le = tt
-
-pub nets-refused : (n e p : ℕ) (r : Refused ElabKind) → RefusesOneOf (over n) r → RefusesOneOf (over n ++ (over e ++ over p)) r
-nets-refused n e p r h = refused-left (over n) (over e ++ over p) r h
-
-pub elements-refused : (n e p : ℕ) (r : Refused ElabKind) → RefusesOneOf (over e) r → RefusesOneOf (over n ++ (over e ++ over p)) r
-elements-refused n e p r h = refused-right (over n) (over e ++ over p) r (refused-left (over e) (over p) r h)
-
-pub paths-refused : (n e p : ℕ) (r : Refused ElabKind) → RefusesOneOf (over p) r → RefusesOneOf (over n ++ (over e ++ over p)) r
-paths-refused n e p r h = refused-right (over n) (over e ++ over p) r (refused-right (over e) (over p) r h)
 
 -- ---- what is given
 
@@ -84,31 +57,40 @@ length-numbered a [] = refl
 length-numbered a (x ∷ xs) = ap (λ n. n + 1) (length-numbered (a + 1) xs)
 
 module _ (all : List OwnNet) (cs : List Component) (us : List def.PathUse) (first : ℕ) where
-  places-in : map (λ e. e.0) (map (λ e. (e.0, redirected first us e.1)) (map (placed_element all) cs) ++ map (λ u. (u.1.place, path_element u)) (enumerate_from first us))
-      ≡ map (λ c. c.place) cs ++ map (λ u. u.place) us
+  places-in : map (λ (e : Place × Element). e.0) (map (λ (e : Place × Element). (e.0, redirected first us e.1)) (map (placed_element all) cs) ++ map (λ (u : ℕ × def.PathUse). (u.1.place, path_element u)) (enumerate_from first us))
+      ≡ map (λ (c : Component). c.place) cs ++ map (λ (u : def.PathUse). u.place) us
   places-in =
-      map-append (λ e. e.0) (map (λ e. (e.0, redirected first us e.1)) (map (placed_element all) cs)) (map (λ u. (u.1.place, path_element u)) (enumerate_from first us))
-      ∙ ap (λ xs. xs ++ map (λ e. e.0) (map (λ u. (u.1.place, path_element u)) (enumerate_from first us)))
-      (mapped-twice (λ e. (e.0, redirected first us e.1)) (λ e. e.0) (map (placed_element all) cs) ∙ mapped-twice (placed_element all) (λ e. e.0) cs)
-      ∙ ap (λ xs. map (λ c. c.place) cs ++ xs) (mapped-twice (λ u. (u.1.place, path_element u)) (λ e. e.0) (enumerate_from first us) ∙ second-of (λ u. u.place) first us)
+      map-append (λ (e : Place × Element). e.0) (map (λ (e : Place × Element). (e.0, redirected first us e.1)) (map (placed_element all) cs)) (map (λ (u : ℕ × def.PathUse). (u.1.place, path_element u)) (enumerate_from first us))
+      ∙ ap (λ xs. xs ++ map (λ (e : Place × Element). e.0) (map (λ (u : ℕ × def.PathUse). (u.1.place, path_element u)) (enumerate_from first us)))
+      (mapped-twice (λ (e : Place × Element). (e.0, redirected first us e.1)) (λ (e : Place × Element). e.0) (map (placed_element all) cs) ∙ mapped-twice (placed_element all) (λ (e : Place × Element). e.0) cs)
+      ∙ ap (λ xs. map (λ (c : Component). c.place) cs ++ xs) (mapped-twice (λ (u : ℕ × def.PathUse). (u.1.place, path_element u)) (λ (e : Place × Element). e.0) (enumerate_from first us) ∙ second-of (λ (u : def.PathUse). u.place) first us)
 
-  elements-in : map (λ e. e.1) (map (λ e. (e.0, redirected first us e.1)) (map (placed_element all) cs) ++ map (λ u. (u.1.place, path_element u)) (enumerate_from first us))
+  elements-in : map (λ (e : Place × Element). e.1) (map (λ (e : Place × Element). (e.0, redirected first us e.1)) (map (placed_element all) cs) ++ map (λ (u : ℕ × def.PathUse). (u.1.place, path_element u)) (enumerate_from first us))
       ≡ map (redirected first us) (map (element_of all) cs) ++ map path_element (enumerate_from first us)
   elements-in =
-      map-append (λ e. e.1) (map (λ e. (e.0, redirected first us e.1)) (map (placed_element all) cs)) (map (λ u. (u.1.place, path_element u)) (enumerate_from first us))
-      ∙ ap (λ xs. xs ++ map (λ e. e.1) (map (λ u. (u.1.place, path_element u)) (enumerate_from first us)))
-      (mapped-twice (λ e. (e.0, redirected first us e.1)) (λ e. e.1) (map (placed_element all) cs) ∙ mapped-twice (placed_element all) (λ e. redirected first us e.1) cs
+      map-append (λ (e : Place × Element). e.1) (map (λ (e : Place × Element). (e.0, redirected first us e.1)) (map (placed_element all) cs)) (map (λ (u : ℕ × def.PathUse). (u.1.place, path_element u)) (enumerate_from first us))
+      ∙ ap (λ xs. xs ++ map (λ (e : Place × Element). e.1) (map (λ (u : ℕ × def.PathUse). (u.1.place, path_element u)) (enumerate_from first us)))
+      (mapped-twice (λ (e : Place × Element). (e.0, redirected first us e.1)) (λ (e : Place × Element). e.1) (map (placed_element all) cs) ∙ mapped-twice (placed_element all) (λ (e : Place × Element). redirected first us e.1) cs
       ∙ sym (mapped-twice (element_of all) (redirected first us) cs))
-      ∙ ap (λ xs. map (redirected first us) (map (element_of all) cs) ++ xs) (mapped-twice (λ u. (u.1.place, path_element u)) (λ e. e.1) (enumerate_from first us))
+      ∙ ap (λ xs. map (redirected first us) (map (element_of all) cs) ++ xs) (mapped-twice (λ (u : ℕ × def.PathUse). (u.1.place, path_element u)) (λ (e : Place × Element). e.1) (enumerate_from first us))
 
-  count-in : length (map (λ e. (e.0, redirected first us e.1)) (map (placed_element all) cs) ++ map (λ u. (u.1.place, path_element u)) (enumerate_from first us)) ≡ length cs + length us
+  count-in : length (map (λ (e : Place × Element). (e.0, redirected first us e.1)) (map (placed_element all) cs) ++ map (λ (u : ℕ × def.PathUse). (u.1.place, path_element u)) (enumerate_from first us)) ≡ length cs + length us
   count-in =
-      length-append (map (λ e. (e.0, redirected first us e.1)) (map (placed_element all) cs)) (map (λ u. (u.1.place, path_element u)) (enumerate_from first us))
-      ∙ ap (λ n. n + length (map (λ u. (u.1.place, path_element u)) (enumerate_from first us)))
-      (length-map (map (placed_element all) cs) (λ e. (e.0, redirected first us e.1)) ∙ length-map cs (placed_element all))
-      ∙ ap (λ n. length cs + n) (length-map (enumerate_from first us) (λ u. (u.1.place, path_element u)) ∙ length-numbered first us)
+      length-append (map (λ (e : Place × Element). (e.0, redirected first us e.1)) (map (placed_element all) cs)) (map (λ (u : ℕ × def.PathUse). (u.1.place, path_element u)) (enumerate_from first us))
+      ∙ ap (λ n. n + length (map (λ (u : ℕ × def.PathUse). (u.1.place, path_element u)) (enumerate_from first us)))
+      (length-map (map (placed_element all) cs) (λ (e : Place × Element). (e.0, redirected first us e.1)) ∙ length-map cs (placed_element all))
+      ∙ ap (λ n. length cs + n) (length-map (enumerate_from first us) (λ (u : ℕ × def.PathUse). (u.1.place, path_element u)) ∙ length-numbered first us)
 
 -- ---- all of a netlist
+
+no-more : (m n : ℕ) → m ≡ n → m ≤ n
+no-more m n e = omega (arith, e)
+
+few-by : (a m n whole : ℕ) → a + n ≡ whole → m ≡ n → a + m ≤ count_limit → whole ≤ count_limit
+few-by a m n whole e l h = omega (arith, e, l, h)
+
+few-same : (m n : ℕ) → m ≡ n → m ≤ count_limit → n ≤ count_limit
+few-same m n e h = omega (arith, e, h)
 
 module _ (source : Source) (top : Module) (corner : Corner) (library : Library) (modules : ModulePaths) (placed : List Placed) (rows : Rows) (old : Placing)
     (given : AreGiven source top corner library modules placed rows old) where
@@ -135,19 +117,17 @@ module _ (source : Source) (top : Module) (corner : Corner) (library : Library) 
       → ((n e p : ℕ) → length rows.nets.items + length (def.path_uses source top corner) ≤ n → length old.elements.items + length (def.path_uses source top corner) ≤ e → path_count source top corner ≤ p
       → RefusesOneOf (over n ++ (over e ++ over p)) r) → RefusesOneOf (counts_over source top corner) r
   refused-by r h =
-      let a = nets-count in
-      let b = elements-count in
-      h (length (all_nets source top corner)) (length (all_elements source top corner)) (path_count source top corner) (omega (arith, a)) (omega (arith, b)) (omega arith)
+      h (length (all_nets source top corner)) (length (all_elements source top corner)) (path_count source top corner) (no-more _ _ nets-count) (no-more _ _ elements-count) (no-more _ _ refl)
 
   module _ (made : PathUses) (joined : Joined) (mid : List code.Element) (new : Placing) (uses : AreUses modules.conditions.items modules.timings.items made (def.path_uses source top corner))
       (few : AreFew (length rows.nets.items) (length old.elements.items) made) (inner : joined.inner.items ≡ made.inner.items) (paths : joined.paths.items ≡ made.paths.items)
       (redirects : AreRedirected (length rows.nets.items) made.uses.items old.elements.items mid)
       (elements : map wired new.elements.items ≡ map wired mid ++ map path_wired (enumerate_from (length rows.nets.items) made.uses.items))
       (places : new.places.items ≡ old.places.items ++ map (λ u. u.place) made.uses.items) where
-    us : List def.PathUse
+    abbrev us : List def.PathUse
     us = def.path_uses source top corner
 
-    tables : Tables
+    abbrev tables : Tables
     tables = tables_of library modules joined
 
     legs : HasLegs modules.timings.items
@@ -180,17 +160,14 @@ module _ (source : Source) (top : Module) (corner : Corner) (library : Library) 
 
     numbers : HaveNumbers source top corner rows joined new
     numbers =
-        let a = nets-count in
-        let b = elements-count in
-        let l = uses-long in
         record {
           nets = ap (λ ns. rows.nets.items ++ ns) (inner ∙ uses.inner) ∙ ap (λ ns. ns ++ map (λ u. u.inner) us) given.have_rows.all;
-          outputs = sym (mapped-twice (element_with tables) (λ e. e.output) new.elements.items) ∙ ap (map (λ e. e.output)) seen ∙ mapped-twice (λ e. e.1) (λ e. e.output) (all_elements source top corner);
+          outputs = sym (mapped-twice (element_with tables) (λ (e : Element). e.output) new.elements.items) ∙ ap (map (λ (e : Element). e.output)) seen ∙ mapped-twice (λ (e : Place × Element). e.1) (λ (e : Element). e.output) (all_elements source top corner);
           places = places ∙ ap (λ ps. ps ++ map (λ u. u.place) made.uses.items) given.are_elements.places ∙ ap (λ ps. map (λ c. c.place) (components source top corner) ++ ps) uses.places
               ∙ sym (places-in (nets source top) (components source top corner) us (length (nets source top)));
-          few_nets = (let k = few.nets_few in omega (arith, a, k, l));
-          few_elements = (let k = few.elements_few in omega (arith, b, k, l));
-          few_paths = (let k = few.paths_few in let c = uses.count in omega (arith, k, c));
+          few_nets = few-by (length rows.nets.items) (length made.uses.items) _ _ nets-count uses-long few.nets_few;
+          few_elements = few-by (length old.elements.items) (length made.uses.items) _ _ elements-count uses-long few.elements_few;
+          few_paths = few-same (length made.paths.items) _ uses.count few.paths_few;
         }
 
     pub are-joined : AreJoined source top corner library modules rows joined new
