@@ -151,17 +151,17 @@ module _ (source : Source) (top : Module) (corner : Corner) (library : Library) 
       → length (flat_map (λ o. o.paths.items) list) ≡ length (flat_map (λ u. u.paths) (def.path_uses_of all source corner (tick_of source top) s))
   paths-count all q list k e = one list ∙ ap (λ us. length (flat_map (λ u. u.paths) us)) (uses-are all q list k e)
     where
-      use : ReadyOutput → def.PathUse
-      use o = def.path_use all source s (output_ready modules.timings.items modules.conditions.items q.table o)
+      made : ReadyOutput → def.PathUse
+      made o = def.path_use all source s (output_ready modules.timings.items modules.conditions.items q.table o)
 
-      own : (o : ReadyOutput) → length o.paths.items ≡ length (use o).paths
+      own : (o : ReadyOutput) → length o.paths.items ≡ length (made o).paths
       own o = sym (length-map (map (path_ready modules.timings.items modules.conditions.items q.table) o.paths.items) _ ∙ length-map o.paths.items (path_ready modules.timings.items modules.conditions.items q.table))
 
-      one : (os : List ReadyOutput) → length (flat_map (λ o. o.paths.items) os) ≡ length (flat_map (λ u. u.paths) (map use os))
+      one : (os : List ReadyOutput) → length (flat_map (λ o. o.paths.items) os) ≡ length (flat_map (λ u. u.paths) (map made os))
       one [] = refl
       one (o ∷ os) =
-          length-append o.paths.items (flat_map (λ o. o.paths.items) os) ∙ ap (λ n. n + length (flat_map (λ o. o.paths.items) os)) (own o) ∙ ap (λ n. length (use o).paths + n) (one os)
-          ∙ sym (length-append (use o).paths (flat_map (λ u. u.paths) (map use os)))
+          length-append o.paths.items (flat_map (λ o. o.paths.items) os) ∙ ap (λ n. n + length (flat_map (λ o. o.paths.items) os)) (own o) ∙ ap (λ n. length (made o).paths + n) (one os)
+          ∙ sym (length-append (made o).paths (flat_map (λ u. u.paths) (map made os)))
 
 -- ---- so many instances, and one more
 

@@ -4,7 +4,7 @@ use Rattle.std.specs.List.{enumerate_from}
 use Rattle.std.proofs.Common.{sym, ◌∙◌, ap, arith, subst, append_assoc, length-append}
 use Rattle.std.proofs.lemmas.Grind.{flat_map-append}
 use Rattle.std.proofs.lemmas.List.{append-nil, get_or_append_left, get_or-append-add, length-map, map-append, take-append-drop, take_all, take_more}
-use Rattle.std.proofs.lemmas.Option.{slice_get_read}
+use Rattle.std.proofs.lemmas.Option.{slice_get-get_or}
 use Rattle.cond_expr.specs.Condition.{Condition}
 use Rattle.sg_circuit.specs.declared.elements.Element as code
 use Rattle.sg_circuit.specs.declared.elements.LegTiming.{LegTiming}
@@ -53,10 +53,13 @@ added-none conditions vs row scope old =
 all-front : {A : Type 0} (P : A → Type 0) (xs ys : List A) → All P (xs ++ ys) → All P xs
 all-front P xs ys h = λ k d lt. subst P (get_or_append_left xs ys d k lt) (h k d (let l = length-append xs ys in omega (arith, l, lt)))
 
-pub added-more : (conditions : List Condition) (vs : List Variable) (row : List ℕ) (net : NetBit → ℕ) (scope : ℕ) (os : List ReadyOutput) (i : ℕ) (o : ReadyOutput) (start old new : PathUses) → IsRow vs row net → i < length os
-    → o ≡ slice_index_or os i o → AreAdded conditions vs row scope (take i os) start old → AddsUse conditions vs row scope o old new → AreAdded conditions vs row scope (take (i + 1) os) start new
-added-more conditions vs row net scope os i o start old new r lt is h k = subst (λ xs. AreAdded conditions vs row scope xs start new) (ap (λ x. take i os ++ x ∷ []) is ∙ sym (take_more os i o lt)) more
+pub added-more : (conditions : List Condition) (vs : List Variable) (row : List ℕ) (net : NetBit → ℕ) (scope : ℕ) (os : List ReadyOutput) (i : ℕ) (d : ReadyOutput) (start old new : PathUses) → IsRow vs row net → i < length os
+    → AreAdded conditions vs row scope (take i os) start old → AddsUse conditions vs row scope (slice_index_or os i d) old new → AreAdded conditions vs row scope (take (i + 1) os) start new
+added-more conditions vs row net scope os i d start old new r lt h k = subst (λ xs. AreAdded conditions vs row scope xs start new) (sym (take_more os i d lt)) more
   where
+    o : ReadyOutput
+    o = slice_index_or os i d
+
     front : List ReadyOutput
     front = take i os
 
@@ -89,11 +92,12 @@ pub added-all : (conditions : List Condition) (vs : List Variable) (row : List �
 added-all conditions vs row scope os i old new le h = subst (λ xs. AreAdded conditions vs row scope xs old new) (take_all i os le) h
 
 -- what one refuses, all refuse
-pub added-refused : (conditions : List Condition) (vs : List Variable) (row : List ℕ) (scope nets elements : ℕ) (os : List ReadyOutput) (i : ℕ) (o : ReadyOutput) (start old : PathUses) (r : Refused ElabKind) → i < length os
-    → o ≡ slice_index_or os i o → AreAdded conditions vs row scope (take i os) start old → RefusesUses nets elements 1 (length o.paths.items) old r
+pub added-refused : (conditions : List Condition) (vs : List Variable) (row : List ℕ) (scope nets elements : ℕ) (os : List ReadyOutput) (i : ℕ) (d : ReadyOutput) (start old : PathUses) (r : Refused ElabKind) → i < length os
+    → AreAdded conditions vs row scope (take i os) start old → RefusesUses nets elements 1 (length (slice_index_or os i d).paths.items) old r
     → RefusesUses nets elements (length os) (length (flat_map (λ o. o.paths.items) os)) start r
-added-refused conditions vs row scope nets elements os i o start old r lt is h k n e p a b c =
-    let at : slice_get os i ≡ Some o = slice_get_read os (length os) i o refl lt is in
+added-refused conditions vs row scope nets elements os i d start old r lt h k n e p a b c =
+    let o = slice_index_or os i d in
+    let at : slice_get os i ≡ Some o = slice_get-get_or os i d lt in
     let more = ap length (flat-more (λ o. o.paths.items) os i o at) ∙ length-append (flat_map (λ o. o.paths.items) (take i os)) o.paths.items in
     let within = flat-within (λ o. o.paths.items) os (i + 1) in
     let long : length (take i os) ≡ i = length-taken i os (omega (arith, lt)) in
@@ -142,13 +146,14 @@ numbered-more a (y ∷ ys) x =
     let e : a + 1 + length ys ≡ a + suc (length ys) = omega arith in
     ap (λ zs. (a, y) ∷ zs) (numbered-more (a + 1) ys x) ∙ ap (λ n. (a, y) ∷ (enumerate_from (a + 1) ys ++ (n, x) ∷ [])) e
 
-pub wired-next : (first : ℕ) (uses : List PathUse) (i : ℕ) (u : PathUse) (start old new : List code.Element) (e : code.Element) → i < length uses → u ≡ slice_index_or uses i u → wired e ≡ path_wired (first + i, u)
+pub wired-next : (first : ℕ) (uses : List PathUse) (i : ℕ) (d : PathUse) (start old new : List code.Element) (e : code.Element) → i < length uses → wired e ≡ path_wired (first + i, slice_index_or uses i d)
     → new ≡ old ++ e ∷ [] → map wired old ≡ map wired start ++ map path_wired (enumerate_from first (take i uses))
     → map wired new ≡ map wired start ++ map path_wired (enumerate_from first (take (i + 1) uses))
-wired-next first uses i u start old new e lt is own more h =
+wired-next first uses i d start old new e lt own more h =
+    let u = slice_index_or uses i d in
     let front = enumerate_from first (take i uses) in
     let long : length (take i uses) ≡ i = length-taken i uses (omega (arith, lt)) in
-    let taken : take (i + 1) uses ≡ take i uses ++ u ∷ [] = take_more uses i u lt ∙ ap (λ x. take i uses ++ x ∷ []) (sym is) in
+    let taken : take (i + 1) uses ≡ take i uses ++ u ∷ [] = take_more uses i d lt in
     let all : enumerate_from first (take (i + 1) uses) ≡ front ++ (first + i, u) ∷ [] = ap (enumerate_from first) taken ∙ numbered-more first (take i uses) u ∙ ap (λ n. front ++ (first + n, u) ∷ []) long in
     ap (map wired) more ∙ map-append wired old (e ∷ []) ∙ ap (λ x. map wired old ++ x ∷ []) own ∙ ap (λ xs. xs ++ path_wired (first + i, u) ∷ []) h
     ∙ append_assoc (map wired start) (map path_wired front) (path_wired (first + i, u) ∷ [])
@@ -159,8 +164,9 @@ wired-next first uses i u start old new e lt is own more h =
     length-taken (suc n) [] le = absurd (omega (arith, le))
     length-taken (suc n) (x ∷ xs) le = ap suc (length-taken n xs (omega (arith, le)))
 
-pub mapped-next : {A B : Type 0} (f : A → B) (xs : List A) (i : ℕ) (x : A) (start old new : List B) → i < length xs → x ≡ slice_index_or xs i x → new ≡ old ++ f x ∷ [] → old ≡ start ++ map f (take i xs)
+pub mapped-next : {A B : Type 0} (f : A → B) (xs : List A) (i : ℕ) (d : A) (start old new : List B) → i < length xs → new ≡ old ++ f (slice_index_or xs i d) ∷ [] → old ≡ start ++ map f (take i xs)
     → new ≡ start ++ map f (take (i + 1) xs)
-mapped-next f xs i x start old new lt is more h =
+mapped-next f xs i d start old new lt more h =
+    let x = slice_index_or xs i d in
     more ∙ ap (λ ys. ys ++ f x ∷ []) h ∙ append_assoc start (map f (take i xs)) (f x ∷ [])
-    ∙ ap (λ ys. start ++ ys) (sym (ap (map f) (take_more xs i x lt ∙ ap (λ y. take i xs ++ y ∷ []) (sym is)) ∙ map-append f (take i xs) (x ∷ [])))
+    ∙ ap (λ ys. start ++ ys) (sym (ap (map f) (take_more xs i d lt) ∙ map-append f (take i xs) (x ∷ [])))

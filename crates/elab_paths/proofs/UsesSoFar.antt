@@ -108,12 +108,12 @@ pub one-more : (conditions : List Condition) (timings : List LegTiming) (all : L
     → AreUses conditions timings new (us ++ def.path_use all source s (output_ready timings conditions vs o) ∷ [])
 one-more conditions timings all source s scope vs row o old new us here ready h k =
     let net = def.bit_number all source s in
-    let use = def.path_use all source s (output_ready timings conditions vs o) in
+    let made = def.path_use all source s (output_ready timings conditions vs o) in
     let r = row-is all source s scope vs row here in
     let more = k.paths.added in
-    let seen : paths_seen conditions timings more ≡ use.paths = k.paths.seen net timings r ∙ mapped-twice (path_ready timings conditions vs) (circuit_path net) o.paths.items in
+    let seen : paths_seen conditions timings more ≡ made.paths = k.paths.seen net timings r ∙ mapped-twice (path_ready timings conditions vs) (circuit_path net) o.paths.items in
     let long : length new.paths.items ≡ length old.paths.items + length more = ap length k.paths.are ∙ length-append old.paths.items more in
-    let count : length more ≡ length use.paths = sym (length-map more (path_seen conditions timings)) ∙ ap length seen in
+    let count : length more ≡ length made.paths = sym (length-map more (path_seen conditions timings)) ∙ ap length seen in
     let F = λ (ps : List Path) (u : PathUse). paths_seen conditions timings (spanned ps u.paths) in
     let P = λ (ps : List Path) (u : PathUse). AreIndexedPaths (length conditions) (length timings) ps u.paths in
     let own : spanned new.paths.items k.added.paths ≡ more = behind old.paths.items more new.paths.items k.added.paths k.paths.are k.start_is k.end_is in
@@ -121,16 +121,16 @@ one-more conditions timings all source s scope vs row o old new us here ready h 
     all-weaker (IsReadyPath (length (all_bits vs)) (length timings) (length conditions)) (λ p. p.timing < length timings) o.paths.items (λ p q. q.timing)
     (recursion_from_All (IsReadyPath (length (all_bits vs)) (length timings) (length conditions)) o.paths.items ready.paths) in
     record {
-      scopes = mapped-more (λ u. u.scope) (λ u. u.scope) old.uses.items new.uses.items k.added us use k.uses h.scopes (k.scope_is ∙ sym here.number);
-      places = mapped-more (λ u. u.place) (λ u. u.place) old.uses.items new.uses.items k.added us use k.uses h.places k.place_is;
+      scopes = mapped-more (λ u. u.scope) (λ u. u.scope) old.uses.items new.uses.items k.added us made k.uses h.scopes (k.scope_is ∙ sym here.number);
+      places = mapped-more (λ u. u.place) (λ u. u.place) old.uses.items new.uses.items k.added us made k.uses h.places k.place_is;
       inner = k.inner ∙ ap (λ ns. ns ++ net_at scope (bit_at vs o.output) ∷ []) h.inner
-          ∙ ap (λ n. map (λ u. u.inner) us ++ n ∷ []) (inner-is s scope vs o.output here.number here.numbers.table ready.output) ∙ sym (map-append (λ u. u.inner) us (use ∷ []));
-      outputs = mapped-more (λ u. u.output) (λ u. u.output) old.uses.items new.uses.items k.added us use k.uses h.outputs
+          ∙ ap (λ n. map (λ u. u.inner) us ++ n ∷ []) (inner-is s scope vs o.output here.number here.numbers.table ready.output) ∙ sym (map-append (λ u. u.inner) us (made ∷ []));
+      outputs = mapped-more (λ u. u.output) (λ u. u.output) old.uses.items new.uses.items k.added us made k.uses h.outputs
           (sym (get_or_from_slice_get row o.output k.added.output 0 k.output_is) ∙ net-in-row vs row net o.output 0 r ready.output);
-      paths = mapped-more (F new.paths.items) (λ u. u.paths) old.uses.items new.uses.items k.added us use k.uses
+      paths = mapped-more (F new.paths.items) (λ u. u.paths) old.uses.items new.uses.items k.added us made k.uses
           (ap (λ ps. map (F ps) old.uses.items) k.paths.are ∙ same-paths conditions timings old.paths.items more old.uses.items h.spans ∙ h.paths)
           (ap (paths_seen conditions timings) own ∙ seen);
-      styles = mapped-more (λ u. u.style) (λ u. u.style) old.uses.items new.uses.items k.added us use k.uses h.styles k.style_is;
+      styles = mapped-more (λ u. u.style) (λ u. u.style) old.uses.items new.uses.items k.added us made k.uses h.styles k.style_is;
       spans = subst (AllByRecursion (P new.paths.items)) (sym k.uses)
           (all-append (P new.paths.items) old.uses.items (k.added ∷ [])
           (subst (λ ps. AllByRecursion (P ps) old.uses.items) (sym k.paths.are)
@@ -143,6 +143,6 @@ one-more conditions timings all source s scope vs row o old new us here ready h 
             },
             tt,
           ));
-      count = long ∙ ap (λ n. n + length more) h.count ∙ ap (λ n. length (flat_map (λ u. u.paths) us) + n) (count ∙ sym (ap length (append-nil use.paths)))
-          ∙ sym (ap length (flat_map-append (λ u. u.paths) us (use ∷ [])) ∙ length-append (flat_map (λ u. u.paths) us) (use.paths ++ []));
+      count = long ∙ ap (λ n. n + length more) h.count ∙ ap (λ n. length (flat_map (λ u. u.paths) us) + n) (count ∙ sym (ap length (append-nil made.paths)))
+          ∙ sym (ap length (flat_map-append (λ u. u.paths) us (made ∷ [])) ∙ length-append (flat_map (λ u. u.paths) us) (made.paths ++ []));
     }

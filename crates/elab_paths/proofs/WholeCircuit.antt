@@ -1,5 +1,5 @@
 -- What stands when the paths of all instances have been put in.
-use Rattle.std.specs.Prelude.{◌≡◌, ℕ, ◌+◌, ◌≤◌, List, [], ◌∷◌, ◌++◌, length, map, refl}
+use Rattle.std.specs.Prelude.{◌≡◌, ℕ, suc, ◌+◌, ◌≤◌, List, [], ◌∷◌, ◌++◌, length, map, refl}
 use Rattle.std.specs.List.{AllByRecursion, enumerate_from}
 use Rattle.std.proofs.Common.{sym, ◌∙◌, ap, arith, subst, length-append}
 use Rattle.std.proofs.lemmas.List.{length-map, map-append}
@@ -54,32 +54,38 @@ second-of f a (x ∷ xs) = ap (λ ys. f x ∷ ys) (second-of f (a + 1) xs)
 
 length-numbered : {A : Type 0} (a : ℕ) (xs : List A) → length (enumerate_from a xs) ≡ length xs
 length-numbered a [] = refl
-length-numbered a (x ∷ xs) = ap (λ n. n + 1) (length-numbered (a + 1) xs)
+length-numbered a (x ∷ xs) = ap suc (length-numbered (a + 1) xs)
+
+abbrev placed-redirected : ℕ → List def.PathUse → Place × Element → Place × Element
+placed-redirected first us e = (e.0, redirected first us e.1)
+
+abbrev placed-path : ℕ × def.PathUse → Place × Element
+placed-path u = (u.1.place, path_element u)
 
 module _ (all : List OwnNet) (cs : List Component) (us : List def.PathUse) (first : ℕ) where
-  places-in : map (λ (e : Place × Element). e.0) (map (λ (e : Place × Element). (e.0, redirected first us e.1)) (map (placed_element all) cs) ++ map (λ (u : ℕ × def.PathUse). (u.1.place, path_element u)) (enumerate_from first us))
+  places-in : map (λ (e : Place × Element). e.0) (map (placed-redirected first us) (map (placed_element all) cs) ++ map placed-path (enumerate_from first us))
       ≡ map (λ (c : Component). c.place) cs ++ map (λ (u : def.PathUse). u.place) us
   places-in =
-      map-append (λ (e : Place × Element). e.0) (map (λ (e : Place × Element). (e.0, redirected first us e.1)) (map (placed_element all) cs)) (map (λ (u : ℕ × def.PathUse). (u.1.place, path_element u)) (enumerate_from first us))
-      ∙ ap (λ xs. xs ++ map (λ (e : Place × Element). e.0) (map (λ (u : ℕ × def.PathUse). (u.1.place, path_element u)) (enumerate_from first us)))
-      (mapped-twice (λ (e : Place × Element). (e.0, redirected first us e.1)) (λ (e : Place × Element). e.0) (map (placed_element all) cs) ∙ mapped-twice (placed_element all) (λ (e : Place × Element). e.0) cs)
-      ∙ ap (λ xs. map (λ (c : Component). c.place) cs ++ xs) (mapped-twice (λ (u : ℕ × def.PathUse). (u.1.place, path_element u)) (λ (e : Place × Element). e.0) (enumerate_from first us) ∙ second-of (λ (u : def.PathUse). u.place) first us)
+      map-append (λ (e : Place × Element). e.0) (map (placed-redirected first us) (map (placed_element all) cs)) (map placed-path (enumerate_from first us))
+      ∙ ap (λ xs. xs ++ map (λ (e : Place × Element). e.0) (map placed-path (enumerate_from first us)))
+      (mapped-twice (placed-redirected first us) (λ (e : Place × Element). e.0) (map (placed_element all) cs) ∙ mapped-twice (placed_element all) (λ (e : Place × Element). e.0) cs)
+      ∙ ap (λ xs. map (λ (c : Component). c.place) cs ++ xs) (mapped-twice placed-path (λ (e : Place × Element). e.0) (enumerate_from first us) ∙ second-of (λ (u : def.PathUse). u.place) first us)
 
-  elements-in : map (λ (e : Place × Element). e.1) (map (λ (e : Place × Element). (e.0, redirected first us e.1)) (map (placed_element all) cs) ++ map (λ (u : ℕ × def.PathUse). (u.1.place, path_element u)) (enumerate_from first us))
+  elements-in : map (λ (e : Place × Element). e.1) (map (placed-redirected first us) (map (placed_element all) cs) ++ map placed-path (enumerate_from first us))
       ≡ map (redirected first us) (map (element_of all) cs) ++ map path_element (enumerate_from first us)
   elements-in =
-      map-append (λ (e : Place × Element). e.1) (map (λ (e : Place × Element). (e.0, redirected first us e.1)) (map (placed_element all) cs)) (map (λ (u : ℕ × def.PathUse). (u.1.place, path_element u)) (enumerate_from first us))
-      ∙ ap (λ xs. xs ++ map (λ (e : Place × Element). e.1) (map (λ (u : ℕ × def.PathUse). (u.1.place, path_element u)) (enumerate_from first us)))
-      (mapped-twice (λ (e : Place × Element). (e.0, redirected first us e.1)) (λ (e : Place × Element). e.1) (map (placed_element all) cs) ∙ mapped-twice (placed_element all) (λ (e : Place × Element). redirected first us e.1) cs
+      map-append (λ (e : Place × Element). e.1) (map (placed-redirected first us) (map (placed_element all) cs)) (map placed-path (enumerate_from first us))
+      ∙ ap (λ xs. xs ++ map (λ (e : Place × Element). e.1) (map placed-path (enumerate_from first us)))
+      (mapped-twice (placed-redirected first us) (λ (e : Place × Element). e.1) (map (placed_element all) cs) ∙ mapped-twice (placed_element all) (λ (e : Place × Element). redirected first us e.1) cs
       ∙ sym (mapped-twice (element_of all) (redirected first us) cs))
-      ∙ ap (λ xs. map (redirected first us) (map (element_of all) cs) ++ xs) (mapped-twice (λ (u : ℕ × def.PathUse). (u.1.place, path_element u)) (λ (e : Place × Element). e.1) (enumerate_from first us))
+      ∙ ap (λ xs. map (redirected first us) (map (element_of all) cs) ++ xs) (mapped-twice placed-path (λ (e : Place × Element). e.1) (enumerate_from first us))
 
-  count-in : length (map (λ (e : Place × Element). (e.0, redirected first us e.1)) (map (placed_element all) cs) ++ map (λ (u : ℕ × def.PathUse). (u.1.place, path_element u)) (enumerate_from first us)) ≡ length cs + length us
+  count-in : length (map (placed-redirected first us) (map (placed_element all) cs) ++ map placed-path (enumerate_from first us)) ≡ length cs + length us
   count-in =
-      length-append (map (λ (e : Place × Element). (e.0, redirected first us e.1)) (map (placed_element all) cs)) (map (λ (u : ℕ × def.PathUse). (u.1.place, path_element u)) (enumerate_from first us))
-      ∙ ap (λ n. n + length (map (λ (u : ℕ × def.PathUse). (u.1.place, path_element u)) (enumerate_from first us)))
-      (length-map (map (placed_element all) cs) (λ (e : Place × Element). (e.0, redirected first us e.1)) ∙ length-map cs (placed_element all))
-      ∙ ap (λ n. length cs + n) (length-map (enumerate_from first us) (λ (u : ℕ × def.PathUse). (u.1.place, path_element u)) ∙ length-numbered first us)
+      length-append (map (placed-redirected first us) (map (placed_element all) cs)) (map placed-path (enumerate_from first us))
+      ∙ ap (λ n. n + length (map placed-path (enumerate_from first us)))
+      (length-map (map (placed_element all) cs) (placed-redirected first us) ∙ length-map cs (placed_element all))
+      ∙ ap (λ n. length cs + n) (length-map (enumerate_from first us) placed-path ∙ length-numbered first us)
 
 -- ---- all of a netlist
 

@@ -1,5 +1,5 @@
 -- One use more, or too many.
-use Rattle.std.proofs.Common.{ℕ, ◌+◌, ◌≤◌, length, refl, subst}
+use Rattle.std.proofs.Common.{ℕ, ◌+◌, ◌≤◌, arith, length, refl, subst}
 use Rattle.std.proofs.lemmas.Result.{err_from_is_err_and}
 use Rattle.elab_nets.specs.Refusals.{RefusesCount}
 use Rattle.elab_elements.proofs.Putting.{exit-by}
@@ -11,13 +11,13 @@ use Rattle.elab_paths.proofs.uses.add_use.Goals as goal
 pub returns-in_err-check_count-clause-refused : goal.returns-in_err-check_count-clause-refused
 returns-in_err-check_count-clause-refused c =
     exit-by _ c.from_residual.result c.in_err-check_count.field-0.0 (err_from_is_err_and c.from_residual.result c.from_residual.ensures.1)
-    (nets-over c.args.nets c.args.elements c.len.result _ c.args.uses.now c.in_err-check_count.field-0.0 c.len.ensures c.in_err-check_count.ensures.refused)
+    (nets-over c.args.nets c.args.elements c.len.result _ c.args.uses.now c.in_err-check_count.field-0.0 (omega (arith, c.len.ensures, c.args.uses.now.uses.ok.0)) c.in_err-check_count.ensures.refused)
 
 pub returns-in_err-check_count-2-clause-refused : goal.returns-in_err-check_count-2-clause-refused
 returns-in_err-check_count-2-clause-refused c =
     exit-by _ c.from_residual-in_err-check_count-2.result c.in_err-check_count-2.field-0.0
     (err_from_is_err_and c.from_residual-in_err-check_count-2.result c.from_residual-in_err-check_count-2.ensures.1)
-    (elements-over c.args.nets c.args.elements c.len-2.result _ c.args.uses.now c.in_err-check_count-2.field-0.0 c.len-2.ensures c.in_err-check_count-2.ensures.refused)
+    (elements-over c.args.nets c.args.elements c.len-2.result _ c.args.uses.now c.in_err-check_count-2.field-0.0 (omega (arith, c.len-2.ensures, c.args.uses.now.uses.ok.0)) c.in_err-check_count-2.ensures.refused)
 
 pub returns-in_err-paths-clause-refused : goal.returns-in_err-paths-clause-refused
 returns-in_err-paths-clause-refused c =
