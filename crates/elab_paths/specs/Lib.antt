@@ -5,3 +5,5 @@ pub mod Joining
 pub mod Redirecting
 pub mod Shelving
 pub mod OfModules
+pub mod Uses
+pub mod Standing
