@@ -28,8 +28,9 @@ impl<'m, 'a> Find for Operands<'m, 'a> {
     ghost found = { λ o n i. net_named o.table.now o.row.now n i };
 
     fn find(&self, name: &Text, index: Option<i64>) -> Option<u32> {
-        let row = self.table.row(self.table.find(name.bytes())?);
-        let position = position(row.range, index)?;
-        self.row.get(row.start + position).copied()
+        let variable = self.table.row(self.table.find(name.bytes())?);
+        let position = position(variable.range, index)?;
+        let nets = self.row.get(variable.start..)?;
+        nets.get(position).copied()
     }
 }

@@ -1,4 +1,17 @@
 // The path uses of instances: output bits to which paths lead, each with its inner net, its element and its paths over nets.
+ghost use Rattle.std.specs.Prelude.{◌≡◌, ◌<◌, ◌≤◌, ◌+◌, ◌^◌, ℕ, All, [], ◌∷◌, IfOk, OnOk, IfErr, length};
+ghost use Rattle.sg_circuit.specs.Closed.{width_of};
+ghost use Rattle.sg_circuit.specs.PathsSeen.{condition_seen, IsIndexedCondition};
+ghost use Rattle.elab_model.specs.Bits.{index_at};
+ghost use Rattle.specify_model.specs.Paths.{circuit_condition};
+ghost use Rattle.specify_model.specs.Terms.{NetBit};
+ghost use Rattle.elab_laws.specs.Handing.{all_bits};
+ghost use Rattle.elab_bits.specs.Seen.{bit_at};
+ghost use Rattle.elab_nets.specs.Refusals.{RefusesCount};
+ghost use Rattle.elab_rows.specs.Own.{net_at};
+ghost use Rattle.elab_paths.specs.Ready.{condition_ready};
+ghost use Rattle.elab_paths.specs.Uses.{IsRow, IsBindable, IsUsablePath, IsUsable, AddsPaths, AddsUse, AreFew, RefusesUses};
+
 use crate::limit::check_count;
 use crate::operands::Operands;
 use crate::shelving::{ReadyCondition, ReadyOutput, ReadyPath};
@@ -41,7 +54,13 @@ fn condition_of(
     here: Here,
     conditions: &[Expr],
     condition: ReadyCondition,
-) -> Result<PathCondition, NoMemory> {
+) -> Result<PathCondition, NoMemory>
+    requires row { (net : NetBit → ℕ) × IsRow here.table.now here.row.now net }
+    requires bindable { IsBindable here.table.now conditions.now condition }
+    ensures bound { IfOk result (λ c. (net : NetBit → ℕ) → IsRow here.entry.table.now here.entry.row.now net
+        → condition_seen conditions.now c ≡ circuit_condition net (condition_ready conditions.now here.entry.table.now condition)) }
+    ensures indexed { IfOk result (IsIndexedCondition (length conditions.now)) }
+{
     let written = match condition {
         ReadyCondition::Always => return Ok(PathCondition::Always),
         ReadyCondition::IfNone => return Ok(PathCondition::IfNone),
@@ -64,7 +83,13 @@ fn add_path(
     conditions: &[Expr],
     path: &ReadyPath,
     paths: &mut Vec<Path>,
-) -> Result<(), Refused<ElabKind>> {
+) -> Result<(), Refused<ElabKind>>
+    requires row { (net : NetBit → ℕ) × IsRow here.table.now here.row.now net }
+    requires usable { IsUsablePath here.table.now conditions.now path.now }
+    ensures paths { OnOk result (AddsPaths conditions.now here.entry.table.now here.entry.row.now (path.now ∷ []) paths.old.items paths.new.items) }
+    ensures few { OnOk result (length paths.new.items ≤ 2 ^ 22) }
+    ensures refused { IfErr result (λ r. (more : ℕ) → RefusesCount (length paths.old.items + 1 + more) r) }
+{
     check_count(paths.len())?;
     let condition = condition_of(alloc, here, conditions, path.condition)?;
     paths.push(Path {
@@ -82,7 +107,15 @@ fn add_all_paths(
     conditions: &[Expr],
     list: &[ReadyPath],
     paths: &mut Vec<Path>,
-) -> Result<Span, Refused<ElabKind>> {
+) -> Result<Span, Refused<ElabKind>>
+    requires row { (net : NetBit → ℕ) × IsRow here.table.now here.row.now net }
+    requires usable { All (IsUsablePath here.table.now conditions.now) list.now }
+    requires few { length paths.old.items ≤ 2 ^ 22 }
+    ensures paths { OnOk result (AddsPaths conditions.now here.entry.table.now here.entry.row.now list.now paths.old.items paths.new.items) }
+    ensures few { OnOk result (length paths.new.items ≤ 2 ^ 22) }
+    ensures span { IfOk result (λ span. (span.start ≡ length paths.old.items) × (span.end ≡ length paths.new.items)) }
+    ensures refused { IfErr result (λ r. (total : ℕ) → length paths.old.items + length list.now ≤ total → RefusesCount total r) }
+{
     let start = paths.len() as u32;
     for path in list {
         add_path(alloc, here, conditions, path, paths)?;
@@ -94,17 +127,24 @@ fn add_all_paths(
 }
 
 // The index of the bit at a position from the left; a scalar has none.
-fn index_at(range: Option<Range>, position: usize) -> Option<i64> {
+fn index_at(range: Option<Range>, position: usize) -> Option<i64>
+    requires within { position < width_of range }
+    requires wide { width_of range ≤ 65536 }
+    ensures { result ≡ index_at range position }
+{
     let range = range?;
+    let step = position as i64;
     if range.left <= range.right {
-        Some(range.left + position as i64)
-    } else {
-        Some(range.left - position as i64)
+        return Some(range.left + step);
     }
+    Some(range.left - step)
 }
 
 // The inner net has the name of the output's bit.
-fn inner_net(alloc: Global, here: Here, output: usize) -> Result<Net, NoMemory> {
+fn inner_net(alloc: Global, here: Here, output: usize) -> Result<Net, NoMemory>
+    requires { output < length (all_bits here.table.now) }
+    ensures { IfOk result (λ net. net ≡ net_at here.entry.scope (bit_at here.entry.table.now output)) }
+{
     let (variable, position) = here.table.bit(output);
     Ok(Net {
         scope: here.scope,
@@ -123,7 +163,14 @@ pub fn add_use(
     conditions: &[Expr],
     output: &ReadyOutput,
     uses: &mut PathUses,
-) -> Result<(), Refused<ElabKind>> {
+) -> Result<(), Refused<ElabKind>>
+    requires row { (net : NetBit → ℕ) × IsRow here.table.now here.row.now net }
+    requires usable { IsUsable here.table.now conditions.now output.now }
+    requires few { AreFew nets elements uses.old }
+    ensures added { OnOk result (AddsUse conditions.now here.entry.table.now here.entry.row.now here.entry.scope output.now uses.old uses.new) }
+    ensures few { OnOk result (AreFew nets elements uses.new) }
+    ensures refused { IfErr result (RefusesUses nets elements 1 (length output.now.paths.items) uses.old) }
+{
     check_count(nets + uses.uses.len())?;
     check_count(elements + uses.uses.len())?;
     let paths = add_all_paths(alloc, here, conditions, &output.paths, &mut uses.paths)?;
