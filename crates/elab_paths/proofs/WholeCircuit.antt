@@ -32,6 +32,7 @@ use Rattle.elab_paths.specs.Standing.{AreStanding, path_wired}
 use Rattle.elab_paths.specs.Uses.{AreUses, AreFew}
 use Rattle.elab_paths.specs.declared.joining.Joined.{Joined}
 use Rattle.elab_paths.specs.declared.modules.ModulePaths.{ModulePaths}
+use Rattle.elab_paths.specs.declared.uses.PathUse.{PathUse}
 use Rattle.elab_paths.specs.declared.uses.PathUses.{PathUses}
 use Rattle.elab_paths.proofs.JoinedElements.{mapped-twice, HasLegs, AreSame, redirected-seen, wired_with, paths-seen, elements-seen, elements-named}
 
