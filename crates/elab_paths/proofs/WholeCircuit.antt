@@ -32,6 +32,7 @@ use Rattle.elab_paths.specs.Standing.{AreStanding, path_wired}
 use Rattle.elab_paths.specs.Uses.{AreUses, AreFew}
 use Rattle.elab_paths.specs.declared.joining.Joined.{Joined}
 use Rattle.elab_paths.specs.declared.modules.ModulePaths.{ModulePaths}
+use Rattle.elab_paths.specs.declared.uses.PathUse.{PathUse}
 use Rattle.elab_paths.specs.declared.uses.PathUses.{PathUses}
 use Rattle.elab_paths.proofs.JoinedElements.{mapped-twice, HasLegs, AreSame, redirected-seen, wired_with, paths-seen, elements-seen, elements-named}
 
@@ -183,3 +184,29 @@ module _ (source : Source) (top : Module) (corner : Corner) (library : Library) 
       named = elements-named tables (length rows.nets.items) made.uses.items old.elements.items mid new.elements.items legs given.are_elements.named
           (subst (λ ps. AllByRecursion (λ u. AreIndexedPaths (length modules.conditions.items) (length modules.timings.items) ps u.paths) made.uses.items) (sym paths) uses.spans) redirects elements;
     }
+
+-- and so from what the calls say of copies of these lists
+pub joined-by : (source : Source) (top : Module) (corner : Corner) (library : Library) (modules : ModulePaths) (placed : List Placed) (rows : Rows) (old : Placing) → AreGiven source top corner library modules placed rows old
+    → (made : PathUses) (joined : Joined) (first len : ℕ) (front behind : List PathUse) (was mid is : List code.Element) (new : Placing)
+    → AreUses modules.conditions.items modules.timings.items made (def.path_uses source top corner) → AreFew (length rows.nets.items) len made → joined.inner.items ≡ made.inner.items → joined.paths.items ≡ made.paths.items
+    → len ≡ length old.elements.items → first ≡ length rows.nets.items → front ≡ made.uses.items → behind ≡ made.uses.items → was ≡ old.elements.items → is ≡ mid
+    → AreRedirected first front was mid → map wired new.elements.items ≡ map wired is ++ map path_wired (enumerate_from first behind) → new.places.items ≡ old.places.items ++ map (λ u. u.place) behind
+    → AreJoined source top corner library modules rows joined new
+joined-by source top corner library modules placed rows old given made joined first len front behind was mid is new uses few inner paths l f u v w m redirects elements places =
+    let k = length rows.nets.items in
+    let us = made.uses.items in
+    let redirects-too : AreRedirected k us old.elements.items mid =
+    subst (λ n. AreRedirected n us old.elements.items mid) f (subst (λ xs. AreRedirected first xs old.elements.items mid) u (subst (λ xs. AreRedirected first front xs mid) w redirects)) in
+    let elements-too : map wired new.elements.items ≡ map wired mid ++ map path_wired (enumerate_from k us) =
+    elements ∙ ap (λ xs. map wired xs ++ map path_wired (enumerate_from first behind)) m ∙ ap (λ xs. map wired mid ++ map path_wired (enumerate_from first xs)) v
+    ∙ ap (λ n. map wired mid ++ map path_wired (enumerate_from n us)) f in
+    are-joined source top corner library modules placed rows old given made joined mid new uses (subst (λ n. AreFew k n made) l few) inner paths redirects-too elements-too
+    (places ∙ ap (λ xs. old.places.items ++ map (λ u. u.place) xs) v)
+
+-- a refusal, where the number of elements is known
+pub refused-with : (source : Source) (top : Module) (corner : Corner) (library : Library) (modules : ModulePaths) (placed : List Placed) (rows : Rows) (old : Placing) → AreGiven source top corner library modules placed rows old
+    → (len : ℕ) (r : Refused ElabKind) → len ≡ length old.elements.items
+    → ((n e p : ℕ) → length rows.nets.items + length (def.path_uses source top corner) ≤ n → len + length (def.path_uses source top corner) ≤ e → path_count source top corner ≤ p
+    → RefusesOneOf (over n ++ (over e ++ over p)) r) → RefusesOneOf (counts_over source top corner) r
+refused-with source top corner library modules placed rows old given len r l h =
+    refused-by source top corner library modules placed rows old given r (λ n e p a b c. h n e p a (subst (λ k. k + length (def.path_uses source top corner) ≤ e) (sym l) b) c)
