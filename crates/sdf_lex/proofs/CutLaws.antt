@@ -1,8 +1,8 @@
 -- The kind and the size that the code finds are those of the first piece, and so are its tokens.
-use Rattle.std.proofs.Common.{◌≡◌, ℕ, zero, suc, ◌+◌, ◌-◌, ◌<◌, ◌≤◌, List, [], ◌∷◌, ◌++◌, length, take, drop, Bool, true, false, refl, sym, ap, ◌∙◌, subst, arith, inl, inr}
+use Rattle.std.proofs.Common.{◌≡◌, ℕ, ◌+◌, ◌-◌, ◌<◌, List, [], ◌∷◌, ◌++◌, length, take, drop, false, refl, sym, ap, ◌∙◌, arith, inl, inr}
 use Rattle.std.specs.Prelude.{Option, Some, None, ◌==◌, nat_lt}
 use Rattle.std.specs.List.{prefix_len}
-use Rattle.std.proofs.lemmas.Bool.{cases_Bool, ne_eqb, ltb-true}
+use Rattle.std.proofs.lemmas.Bool.{cases_Bool, ne_eqb}
 use Rattle.std.proofs.lemmas.List.{append_assoc, take_at, drop_at, length-append, length-take}
 use Rattle.std.proofs.lemmas.List.Folds.{length-prefix_len}
 use Rattle.vl_pieces.specs.Bytes.{is_inline}
@@ -13,11 +13,11 @@ use Rattle.sdf_lex.specs.declared.letters.Letter.{Letter}
 use Rattle.sdf_lex.specs.declared.pieces.Kind.{Kind}
 use Rattle.sdf_lex.specs.declared.pieces.Kind.TheVariants as kind
 use Rattle.sdf_lex.specs.Bytes.{class_of, is_unquoted}
-use Rattle.sdf_lex.specs.Words.{spelled, Cut, last_cut, index_of}
+use Rattle.sdf_lex.specs.Words.{spelled, Cut, last_cut}
 use Rattle.sdf_lex.specs.Pieces.{Piece, blank_piece, line_comment, block_comment, open_comment, word_piece, text_piece, open_text, symbol_piece, mark_piece, bad_piece, spelling, word_tokens, tokens_of, is_bad}
 use Rattle.sdf_lex.specs.PieceBridge.{run_of, measured, comment_of, slash_piece, quote_piece, symbol_len, class_piece, other_piece, word_or, first_piece, comment_cut, slash_cut, quote_cut, class_cut, other_cut, word_cut, first_cut, bracket_at, kind_of, bracket_tokens, kind_tokens, IsWithin, is_bad_kind}
 use Rattle.sdf_lex.proofs.WordLaws.{word_is, some_bytes, cut_spelled}
-use Rattle.sdf_lex.proofs.EndLaws.{EndsAt, end_parts, symbol_size}
+use Rattle.sdf_lex.proofs.EndLaws.{end_parts, symbol_size}
 
 abbrev pub cut_of : Piece → Kind × ℕ
 cut_of p = (kind_of p, length (spelling p))

@@ -1,11 +1,11 @@
 -- Where runs, comments and operators end.
-use Rattle.std.proofs.Common.{◌≡◌, ℕ, zero, suc, ◌+◌, ◌-◌, ◌<◌, ◌≤◌, List, [], ◌∷◌, ◌++◌, length, take, drop, Bool, true, false, refl, sym, ap, ◌∙◌, subst, arith, ◌⊎◌, inl, inr}
-use Rattle.std.specs.Prelude.{Option, Some, None, ◌==◌, ◌&&◌, ◌||◌, is_some, nat_le, nat_eq}
+use Rattle.std.proofs.Common.{◌≡◌, ℕ, suc, ◌+◌, ◌<◌, ◌≤◌, List, [], ◌∷◌, ◌++◌, length, take, drop, Bool, true, false, refl, sym, ap, ◌∙◌, subst, arith, ◌⊎◌, inl, inr}
+use Rattle.std.specs.Prelude.{Some, None, ◌==◌, ◌&&◌, ◌||◌, is_some, nat_le, nat_eq}
 use Rattle.std.specs.List.{list_all, prefix_len}
 use lib.Pointwise.{pointwise}
 use Rattle.std.proofs.lemmas.Bool.{cases_Bool, eqb-true, and_parts, leb-true, le-leb, and_from, or_right}
 use Rattle.std.proofs.lemmas.List.{take-append-drop, length-take}
-use Rattle.vl_pieces.specs.Ends.{end_from, end_of}
+use Rattle.vl_pieces.specs.Ends.{end_from}
 use Rattle.vl_pieces.proofs.PieceLaws.{pointwise_len}
 use Rattle.sdf_lex.specs.Operators.{Row, operator_rows, operator_in, operator_of, is_operator}
 use Rattle.sdf_lex.specs.Pieces.{is_alone}

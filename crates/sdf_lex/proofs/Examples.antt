@@ -1,9 +1,9 @@
 -- Small texts, as the definitions read them.
-use Rattle.std.proofs.Common.{◌≡◌, ℕ, List, [], ◌∷◌, length, drop, true, false, refl, sym, subst}
+use Rattle.std.proofs.Common.{◌≡◌, ℕ, List, [], ◌∷◌, length, drop, true, false, refl, subst}
 use Rattle.std.specs.Prelude.{Some, None, Ok, codes, pos, neg_ℤ}
 use Rattle.cond_expr.specs.declared.tokens.Op.TheVariants as op
 use Rattle.sdf_lex.specs.declared.faults.LexKind.TheVariants.{BadByte}
-use Rattle.sdf_lex.specs.declared.letters.Letter.TheVariants.{Plain, Escaped}
+use Rattle.sdf_lex.specs.declared.letters.Letter.TheVariants.{Plain}
 use Rattle.sdf_lex.specs.Tokens.{selected_token, select_token}
 use Rattle.sdf_lex.specs.Bytes.{class_of}
 use Rattle.sdf_lex.specs.Words.{may_follow, index_of}

@@ -1,25 +1,24 @@
 -- The piece that the code finds has its form, and no other has a form that isn't shorter.
-use Rattle.std.proofs.Common.{◌≡◌, ℕ, zero, suc, ◌+◌, ◌-◌, ◌<◌, ◌≤◌, List, [], ◌∷◌, ◌++◌, length, take, drop, Bool, true, false, refl, sym, ap, ◌∙◌, subst, arith, ◌⊎◌, inl, inr}
+use Rattle.std.proofs.Common.{◌≡◌, ℕ, ◌-◌, List, [], ◌∷◌, ◌++◌, length, take, drop, Bool, true, false, refl, sym, ap, ◌∙◌, subst, arith, inl, inr}
 use Rattle.std.specs.Prelude.{Option, Some, None, ◌==◌, ◌||◌, not, nat_lt, if◌then◌else◌}
-use Rattle.std.specs.List.{list_all, prefix_len}
+use Rattle.std.specs.List.{prefix_len}
 use Rattle.std.specs.Char.{is_ascii_graphic}
-use Rattle.std.proofs.lemmas.Bool.{cases_Bool, eqb-true, eqb-false, ne_eqb, not-true, ltb-true, ltb-false, lt-ltb, le-ltb, or_cases}
-use Rattle.std.proofs.lemmas.List.{append-nil, append_assoc, take_at, take-append-drop, length-append, length-take}
+use Rattle.std.proofs.lemmas.Bool.{cases_Bool, eqb-true, eqb-false, ne_eqb, ltb-true, ltb-false}
+use Rattle.std.proofs.lemmas.List.{append-nil, append_assoc, take_at, take-append-drop}
 use Rattle.sg_text.specs.Names.{is_name_byte}
 use Rattle.vl_pieces.specs.Bytes.{is_blank, is_inline}
-use Rattle.vl_pieces.specs.Ends.{end_from, end_of}
+use Rattle.vl_pieces.specs.Ends.{end_of}
 use Rattle.sdf_lex.specs.declared.bytes.ByteClass.{ByteClass}
 use Rattle.sdf_lex.specs.declared.bytes.ByteClass.TheVariants as class
 use Rattle.sdf_lex.specs.declared.letters.Letter.{Letter}
-use Rattle.sdf_lex.specs.declared.letters.Letter.TheVariants.{Plain, Escaped}
-use Rattle.sdf_lex.specs.Bytes.{is_word_mark, is_sign, is_operator_byte, class_of, is_good, is_unquoted, begins_number, begins_comment, begins_good}
-use Rattle.sdf_lex.specs.Words.{written, spelled, may_be, Fits}
-use Rattle.sdf_lex.specs.Pieces.{Piece, blank_piece, line_comment, block_comment, open_comment, word_piece, text_piece, open_text, symbol_piece, mark_piece, bad_piece, spelling, is_mark, HasForm}
-use Rattle.sdf_lex.specs.PieceBridge.{escaped_letter, next_letter, run_of, comment_of, slash_piece, quote_piece, symbol_len, class_piece, other_piece, word_or, first_piece}
+use Rattle.sdf_lex.specs.Bytes.{is_word_mark, is_sign, is_operator_byte, class_of, is_good, is_unquoted, begins_number, begins_good}
+use Rattle.sdf_lex.specs.Words.{may_be}
+use Rattle.sdf_lex.specs.Pieces.{Piece, line_comment, text_piece, mark_piece, spelling, is_mark, HasForm}
+use Rattle.sdf_lex.specs.PieceBridge.{run_of, comment_of, slash_piece, quote_piece, class_piece, other_piece, word_or, first_piece}
 use Rattle.vl_pieces.proofs.Runs.{run_form}
-use Rattle.sdf_lex.proofs.RunLaws.{plain_end, escaped_end, run_plain, run_escaped}
-use Rattle.sdf_lex.proofs.WordLaws.{IsRun, run_stands, run_front, spelled-append, some_bytes}
-use Rattle.sdf_lex.proofs.EndLaws.{run_on, run_to, run_all, run_stop, run_whole, end_here, EndsAt, end_parts, symbol_told, symbol_found}
+use Rattle.sdf_lex.proofs.RunLaws.{plain_end, run_plain, run_escaped}
+use Rattle.sdf_lex.proofs.WordLaws.{IsRun, run_stands}
+use Rattle.sdf_lex.proofs.EndLaws.{run_stop, run_whole, end_parts, symbol_found}
 
 -- ---- the classes of single bytes
 

@@ -1,23 +1,22 @@
 -- The pieces of a text are found one after another, and there are no others.
-use Rattle.std.proofs.Common.{◌≡◌, ℕ, zero, suc, ◌+◌, ◌<◌, ◌≤◌, List, [], ◌∷◌, ◌++◌, length, drop, Bool, true, false, refl, sym, ap, ◌∙◌, subst, arith, ◌⊎◌, inl, inr}
+use Rattle.std.proofs.Common.{◌≡◌, ℕ, zero, suc, ◌+◌, ◌<◌, ◌≤◌, List, [], ◌∷◌, ◌++◌, length, drop, Bool, true, false, refl, sym, ap, ◌∙◌, subst, arith, inl, inr}
 use Rattle.std.proofs.Common.{◌^◌, take, map}
-use Rattle.std.specs.Prelude.{Option, Some, None, Result, Ok, Err, nat_lt}
+use Rattle.std.specs.Prelude.{Result, Ok, Err, nat_lt}
 use Rattle.std.specs.Global.{Vec}
 use Rattle.sg_text.specs.declared.refusals.Refused.{Refused}
 use Rattle.sg_text.specs.declared.refusals.Refused.TheVariants as refused
 use Rattle.std.proofs.lemmas.List.{append-nil, append_cancel_left, append_assoc, take_at, drop_at, length-append}
-use Rattle.sdf_lex.specs.Pieces.{Piece, blank_piece, line_comment, block_comment, open_comment, word_piece, text_piece, open_text, symbol_piece, mark_piece, bad_piece, spelling, HasForm, IsPiece, spellings, ArePieces, Spelled, tokens_of, tokens, is_bad, first_bad}
-use Rattle.sdf_lex.specs.Lexes.{Outcome, fault_at, bad_or, outcome, LexesFrom, Lexes, Stands, Tells}
+use Rattle.sdf_lex.specs.Pieces.{Piece, blank_piece, line_comment, block_comment, open_comment, word_piece, text_piece, open_text, symbol_piece, mark_piece, bad_piece, spelling, HasForm, IsPiece, spellings, Spelled, tokens_of, tokens, is_bad}
+use Rattle.sdf_lex.specs.Lexes.{Outcome, fault_at, outcome, LexesFrom, Lexes, Stands, Tells}
 use Rattle.sdf_lex.specs.Seen.{lexeme}
 use Rattle.sdf_lex.specs.declared.faults.LexKind.{LexKind}
 use Rattle.sdf_lex.specs.declared.tokens.Token.{Token}
 use Rattle.sdf_lex.specs.declared.pieces.Kind.{Kind}
-use Rattle.sdf_lex.specs.declared.letters.Letter.TheVariants.{Plain, Escaped}
 use Rattle.sdf_lex.specs.declared.faults.LexKind.TheVariants.{BadByte}
 use Rattle.sdf_lex.specs.Tokens.{Lexeme}
 use Rattle.sdf_lex.specs.PieceBridge.{first_piece, kind_of, is_bad_kind, kind_tokens}
 use Rattle.sdf_lex.proofs.WordLaws.{some_bytes}
-use Rattle.sdf_lex.proofs.FirstPieces.{Found, first_found}
+use Rattle.sdf_lex.proofs.FirstPieces.{first_found}
 use Rattle.sdf_lex.proofs.ToldPieces.{Told, told}
 use Rattle.sdf_lex.proofs.CutLaws.{tokens_are, bad_is}
 

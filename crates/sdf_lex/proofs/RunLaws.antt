@@ -1,14 +1,12 @@
 -- The letters of the longest word that a text begins with.
-use Rattle.std.proofs.Common.{◌≡◌, ℕ, zero, suc, ◌+◌, ◌<◌, ◌≤◌, List, [], ◌∷◌, ◌++◌, length, drop, Bool, true, false, refl, sym, ap, ◌∙◌, subst, arith, ◌⊎◌, inl, inr}
+use Rattle.std.proofs.Common.{◌≡◌, ℕ, ◌+◌, ◌≤◌, List, [], ◌∷◌, length, drop, true, false, refl, sym, ap, ◌∙◌, subst, arith, ◌⊎◌, inl, inr}
 use Rattle.std.specs.Prelude.{Option, Some, None, ◌==◌}
-use Rattle.std.proofs.lemmas.Bool.{cases_Bool, eqb-true, ne_eqb, eq-eqb}
-use Rattle.sdf_lex.specs.declared.bytes.ByteClass.{ByteClass}
-use Rattle.sdf_lex.specs.declared.bytes.ByteClass.TheVariants as class
+use Rattle.std.proofs.lemmas.Bool.{cases_Bool, eqb-true, ne_eqb}
 use Rattle.sdf_lex.specs.declared.letters.Letter.{Letter}
 use Rattle.sdf_lex.specs.declared.letters.Letter.TheVariants.{Plain, Escaped}
 use Rattle.sdf_lex.specs.declared.letters.Ends.{Ends}
 use Rattle.sdf_lex.specs.Bytes.{class_of, is_good}
-use Rattle.sdf_lex.specs.Words.{written, spelled, may_be, with_last, Fits}
+use Rattle.sdf_lex.specs.Words.{written, may_be, with_last}
 use Rattle.sdf_lex.specs.PieceBridge.{escaped_letter, next_letter, run_of, bracket_with, measured}
 
 some_same : {A : Type 0} {x y : A} → Some x ≡ Some y → x ≡ y

@@ -1,8 +1,8 @@
 -- A piece that has its form is the one that is found, or is shorter.
-use Rattle.std.proofs.Common.{◌≡◌, ℕ, zero, suc, ◌+◌, ◌-◌, ◌<◌, ◌≤◌, List, [], ◌∷◌, ◌++◌, length, take, drop, Bool, true, false, refl, sym, ap, ◌∙◌, subst, arith, ◌⊎◌, inl, inr}
-use Rattle.std.specs.Prelude.{Option, Some, None, ◌==◌, ◌||◌, not, nat_lt}
+use Rattle.std.proofs.Common.{◌≡◌, ℕ, ◌+◌, ◌-◌, ◌<◌, List, [], ◌∷◌, ◌++◌, length, take, true, false, refl, sym, ap, ◌∙◌, subst, arith, ◌⊎◌, inl, inr}
+use Rattle.std.specs.Prelude.{None, nat_lt}
 use Rattle.std.specs.List.{list_all, prefix_len}
-use Rattle.std.proofs.lemmas.Bool.{cases_Bool, not-true, lt-ltb, le-ltb}
+use Rattle.std.proofs.lemmas.Bool.{not-true, lt-ltb, le-ltb}
 use Rattle.std.proofs.lemmas.List.{append-nil, append_assoc, take_at, length-append}
 use Rattle.vl_pieces.specs.Bytes.{is_inline}
 use Rattle.vl_pieces.specs.Ends.{end_of}
@@ -10,11 +10,10 @@ use Rattle.sdf_lex.specs.declared.bytes.ByteClass.{ByteClass}
 use Rattle.sdf_lex.specs.declared.bytes.ByteClass.TheVariants as class
 use Rattle.sdf_lex.specs.declared.letters.Letter.{Letter}
 use Rattle.sdf_lex.specs.declared.letters.Letter.TheVariants.{Plain, Escaped}
-use Rattle.sdf_lex.specs.Bytes.{class_of, is_good, is_unquoted, begins_number, begins_good}
-use Rattle.sdf_lex.specs.Words.{written, spelled, Fits}
-use Rattle.sdf_lex.specs.Operators.{is_operator}
-use Rattle.sdf_lex.specs.Pieces.{Piece, blank_piece, line_comment, block_comment, open_comment, word_piece, text_piece, open_text, symbol_piece, mark_piece, bad_piece, spelling, is_mark, is_alone, HasForm}
-use Rattle.sdf_lex.specs.PieceBridge.{escaped_letter, run_of, comment_of, quote_piece, symbol_len, class_piece, other_piece, word_or, first_piece}
+use Rattle.sdf_lex.specs.Bytes.{class_of, is_unquoted, begins_number, begins_good}
+use Rattle.sdf_lex.specs.Words.{spelled}
+use Rattle.sdf_lex.specs.Pieces.{Piece, blank_piece, line_comment, block_comment, open_comment, word_piece, text_piece, open_text, symbol_piece, mark_piece, bad_piece, spelling, is_mark, HasForm}
+use Rattle.sdf_lex.specs.PieceBridge.{escaped_letter, run_of, symbol_len, first_piece}
 use Rattle.sdf_lex.proofs.RunLaws.{plain_end, escaped_end}
 use Rattle.sdf_lex.proofs.WordLaws.{run_front, spelled-append, some_bytes}
 use Rattle.sdf_lex.proofs.EndLaws.{run_on, run_to, run_all, end_here, symbol_told}

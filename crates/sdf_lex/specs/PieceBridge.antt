@@ -1,7 +1,6 @@
 -- A bridge, on which no public clause rests: the first piece of a text, as the code finds it. That it is the definition's is proved
 -- (`proofs/PieceLaws.antt`).
-use Rattle.std.specs.Prelude.{ℕ, ℤ, ◌+◌, ◌-◌, ◌<◌, ◌≡◌, ◌==◌, ◌&&◌, nat_le, nat_lt, Bool, true, false, List, [], ◌∷◌, ◌++◌, length, take, drop, Option, Some, None, if◌then◌else◌}
-use Rattle.std.specs.Option.{option_map}
+use Rattle.std.specs.Prelude.{ℕ, ◌+◌, ◌-◌, ◌<◌, ◌==◌, ◌&&◌, nat_le, nat_lt, Bool, true, false, List, [], ◌∷◌, length, take, drop, Option, Some, None, if◌then◌else◌}
 use Rattle.std.specs.List.{prefix_len}
 use Rattle.vl_pieces.specs.Bytes.{is_inline}
 use Rattle.vl_pieces.specs.Ends.{end_of}
@@ -16,7 +15,7 @@ use Rattle.sdf_lex.specs.Tokens.{Meaning, Lexeme, word_token, text_token, unende
 use Rattle.sdf_lex.specs.Bytes.{class_of, is_good, is_unquoted}
 use Rattle.sdf_lex.specs.Words.{written, spelled, is_bracket, may_be, with_last, Cut, last_cut, index_of}
 use Rattle.sdf_lex.specs.Operators.{operator_of, is_operator}
-use Rattle.sdf_lex.specs.Pieces.{Piece, blank_piece, line_comment, block_comment, open_comment, word_piece, text_piece, open_text, symbol_piece, mark_piece, bad_piece, here, select_tokens, first_other, symbol_meaning, mark_meaning}
+use Rattle.sdf_lex.specs.Pieces.{Piece, blank_piece, line_comment, block_comment, open_comment, word_piece, text_piece, open_text, symbol_piece, mark_piece, bad_piece, here, select_tokens, symbol_meaning, mark_meaning}
 
 -- ---- words
 

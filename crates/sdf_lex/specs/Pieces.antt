@@ -3,7 +3,6 @@ use Rattle.std.specs.Prelude.{ℕ, ◌≡◌, ◌≤◌, ◌+◌, ◌==◌, ◌|
 use Rattle.std.specs.List.{list_all}
 use Rattle.std.specs.Prelude.{ℤ}
 use Rattle.cond_expr.specs.declared.tokens.Op.{Op}
-use Rattle.sg_text.specs.declared.places.Place.{Place}
 use Rattle.vl_pieces.specs.Bytes.{is_inline}
 use Rattle.vl_pieces.specs.Ends.{end_of}
 use Rattle.sdf_lex.specs.Tokens.{Meaning, Lexeme, word_token, selected_token, select_token, text_token, unended_token, operator_token, left_token, right_token, colon_token, star_token, other_token}

@@ -28,11 +28,11 @@ fn fault(kind: LexKind, at: usize) -> Refused<LexKind>
 }
 
 fn push<'a>(tokens: &mut Vec<Token<'a>>, at: usize, found: Lexeme<'a>) -> Result<(), NoMemory>
+    requires { at ≤ 2 ^ 28 }
     ensures { OnOk result (map lexeme tokens.new.items ≡ map lexeme tokens.old.items ++ here (meaning found.entry) at ∷ []) }
 {
-    let byte = at as u64;
     tokens.push(Token {
-        place: Place { file: 0, byte },
+        byte: at as u32,
         lexeme: found,
     })?;
     Ok(())
@@ -80,19 +80,18 @@ fn push_word<'a>(
     bytes: &'a [u8],
     bracket: Option<usize>,
 ) -> Result<(), NoMemory>
-    requires few { at + length bytes.now < 2 ^ 62 }
+    requires few { at + length bytes.now ≤ 2 ^ 28 }
     requires inside { IfSome bracket (λ n. n < length bytes.now) }
     ensures { OnOk result (map lexeme tokens.new.items ≡ map lexeme tokens.old.items ++ bracket_tokens at bytes.now bracket) }
 {
     let Some(n) = bracket else {
         return push(tokens, at, Lexeme::Word(bytes));
     };
-    let (name, behind) = bytes.split_at(n);
-    let Some(index) = index_of(&behind[1..]) else {
+    let Some(index) = index_of(&bytes[n + 1..]) else {
         return push(tokens, at, Lexeme::Word(bytes));
     };
-    let whole = bytes;
-    push(tokens, at, Lexeme::Selected { whole, name })?;
+    let size = n as u32;
+    push(tokens, at, Lexeme::Selected { size, whole: bytes })?;
     push(tokens, at + n, Lexeme::Select(index))
 }
 
@@ -103,7 +102,7 @@ fn push_piece<'a>(
     kind: Kind,
     bytes: &'a [u8],
 ) -> Result<(), NoMemory>
-    requires few { at + length bytes.now < 2 ^ 62 }
+    requires few { at + length bytes.now ≤ 2 ^ 28 }
     requires inside { IsWithin kind (length bytes.now) }
     ensures { OnOk result (map lexeme tokens.new.items ≡ map lexeme tokens.old.items ++ kind_tokens at kind bytes.now) }
 {

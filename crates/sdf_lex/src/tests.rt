@@ -17,9 +17,9 @@ fn put_text(out: &mut String, name: &str, text: &[u8]) -> Result<(), AllocError>
 fn put_token(out: &mut String, token: Token<'_>) -> Result<(), AllocError> {
     match token.lexeme {
         Lexeme::Word(word) => put_text(out, "", word),
-        Lexeme::Selected { whole, name } => {
+        Lexeme::Selected { size, whole } => {
             put_text(out, "", whole)?;
-            put_text(out, "=", name)
+            put_text(out, "=", before_select(whole, size))
         }
         Lexeme::Select(index) => write!(out, "+{index}"),
         Lexeme::Text(text) => put_text(out, "text:", text),
@@ -40,7 +40,7 @@ fn shown(alloc: Global, text: &str) -> Result<String, Refused<LexKind>> {
         if !out.is_empty() {
             out.push(' ')?;
         }
-        let byte = token.place.byte;
+        let byte = token.byte;
         write!(out, "{byte}.")?;
         put_token(&mut out, *token)?;
     }

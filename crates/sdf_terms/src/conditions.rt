@@ -14,7 +14,7 @@ ghost use Rattle.sdf_terms.specs.Conditions.{seen, word_alone};
 use crate::tokens::{is_select, is_text, text, token_at, word};
 use cond_expr::{Phase, Tok, after};
 use grammar::ReadFault;
-use sdf_lex::{Lexeme, Token, is_name};
+use sdf_lex::{Lexeme, Token, before_select, is_name};
 use sdf_tree::{Keyword, constant_of};
 use sg_text::NoMemory;
 use std::alloc::Global;
@@ -32,7 +32,9 @@ fn word_of<'a>(alloc: Global, token: Lexeme<'a>) -> Result<Option<Tok<&'a [u8]>>
                 None => Ok(None),
             }
         }
-        Lexeme::Selected { name, .. } if is_name(name) => Ok(Some(Tok::Name(name))),
+        Lexeme::Selected { size, whole } if is_name(before_select(whole, size)) => {
+            Ok(Some(Tok::Name(before_select(whole, size))))
+        }
         Lexeme::Operator(op) => Ok(Some(Tok::Op(op))),
         Lexeme::Left => Ok(Some(Tok::Left)),
         Lexeme::Right => Ok(Some(Tok::Right)),

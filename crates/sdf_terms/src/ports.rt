@@ -15,7 +15,7 @@ ghost use Rattle.sdf_terms.specs.Tokens.{found};
 use crate::named::{Edges, named, named_at};
 use crate::tokens::{left, optional_select, right, token_at};
 use grammar::ReadFault;
-use sdf_lex::{Lexeme, Token};
+use sdf_lex::{Lexeme, Token, before_select};
 use sdf_tree::{Divider, Edge, Port, PortPair, Terminal, is_port_path};
 
 /// The path of the port that stands there, without its bit select.
@@ -32,10 +32,12 @@ fn port_path_at<'a>(tokens: &[Token<'a>], at: usize, divider: Divider) -> Option
         ) if is_port_path(divider, text) => Some(text),
         Some(
             Token {
-                lexeme: Lexeme::Selected { name, .. },
+                lexeme: Lexeme::Selected { size, whole },
                 ..
             },
-        ) if is_port_path(divider, name) => Some(name),
+        ) if is_port_path(divider, before_select(whole, size)) => {
+            Some(before_select(whole, size))
+        }
         _ => None,
     }
 }

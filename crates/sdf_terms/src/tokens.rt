@@ -27,7 +27,7 @@ pub fn place_at(tokens: &[Token<'_>], at: usize) -> Result<Place, ReadFault>
     ensures { Gives (λ place. place) result (place_read (λ t. t.place) (slice_get (map lexeme tokens.now) at) at) }
 {
     match token_at(tokens, at) {
-        Some(token) => Ok(token.place),
+        Some(token) => Ok(token.place()),
         None => Err(ReadFault::At(at)),
     }
 }

@@ -28,19 +28,16 @@ fn number_at<'a>(tokens: &[Token<'a>], at: usize) -> Option<WrittenNumber<'a>>
     ensures read { values.number_word.read (map lexeme tokens.now) at ≡ found (option_map view_number result) at }
     ensures stands { stands kind_of kinds.is_number (map lexeme tokens.now) at ≡ is_some result }
 {
-    match token_at(tokens, at) {
-        Some(
-            Token {
-                lexeme: Lexeme::Word(text),
-                place,
-            },
-        ) if begins_number(text) => Some(WrittenNumber { place, text }),
-        Some(
-            Token {
-                lexeme: Lexeme::Selected { whole, .. },
-                place,
-            },
-        ) if begins_number(whole) => Some(WrittenNumber { place, text: whole }),
+    let token = token_at(tokens, at)?;
+    match token.lexeme {
+        Lexeme::Word(text) if begins_number(text) => Some(WrittenNumber {
+            place: token.place(),
+            text,
+        }),
+        Lexeme::Selected { whole, .. } if begins_number(whole) => Some(WrittenNumber {
+            place: token.place(),
+            text: whole,
+        }),
         _ => None,
     }
 }

@@ -1,4 +1,4 @@
-use Rattle.std.proofs.Common.{◌≡◌, ◌+◌, ◌≤◌, ◌^◌, length, map, []}
+use Rattle.std.proofs.Common.{◌≡◌, ◌+◌, length, map, []}
 use Rattle.sdf_lex.specs.Seen.{lexeme}
 use Rattle.sdf_lex.specs.Lexes.{Outcome, LexesFrom}
 use Rattle.sdf_lex.proofs.reading.lex_small.Given as goal

@@ -3,7 +3,7 @@ use Rattle.sdf_lex.specs.Words.{is_sized}
 use Rattle.sdf_lex.proofs.NumberLaws.{size_stands}
 use Rattle.sdf_lex.proofs.words.size_of.Goals as goal
 use Rattle.sdf_lex.proofs.words.size_of.Goals.{After-number_of}
-use Rattle.std.proofs.Common.{◌≡◌, ℕ, true, drop}
+use Rattle.std.proofs.Common.{◌≡◌, true, drop}
 
 sized : (c : After-number_of) → is_sized c.digits_len-count.result (drop c.digits_len-count.result c.args.bytes.now) ≡ true
 sized c = ap (λ xs. is_sized c.digits_len-count.result xs) (sym c.split_at.ensures.back) ∙ sym c.is_sized.ensures ∙ c.if-not-is_sized.false
