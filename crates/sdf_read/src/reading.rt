@@ -62,7 +62,7 @@ pub fn place_of_fault(tokens: &[Token<'_>], at: usize, end: Place) -> Place
     ensures { result ≡ fault_place end (slice_get (map lexeme tokens.now) at) }
 {
     match token_at(tokens, at) {
-        Some(token) => token.place,
+        Some(token) => token.place(),
         None => end,
     }
 }

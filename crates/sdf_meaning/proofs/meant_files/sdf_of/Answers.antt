@@ -10,7 +10,7 @@ use Rattle.sdf_meaning.proofs.meant_files.sdf_of.Goals as goal
 
 pub loop-part-init : goal.loop-part-init
 loop-part-init c =
-    parts_begin view_file_part _ c.args.file.parts.items _ _
+    parts_begin view_file_part c.into_iter-part-iterator.result c.args.file.parts.items _ _
     (ap (λ (cs : List Cell). record { unit = neg_ℤ (pos 9); divider = Point; cells = cs }) (ap (map view_meant_cell) c.new-cells.ensures.items))
     c.into_iter-part-iterator.ensures.into_iter_gives.0
 
