@@ -1,5 +1,5 @@
 -- Numbers of 18 digits beside one another: powers of ten above the 18th tell nothing more.
-use Rattle.std.proofs.Common.{◌≡◌, ◌∙◌, sym, refl, ap, ℕ, zero, suc, ◌+◌, ◌*◌, ◌^◌, ◌<◌, ◌≤◌, arith, Bool, true, false, inl, inr}
+use Rattle.std.proofs.Common.{◌≡◌, ◌∙◌, sym, refl, ap, ℕ, ◌*◌, ◌^◌, ◌<◌, ◌≤◌, arith, Bool, true, false, inl, inr}
 use Rattle.std.specs.Prelude.{ℤ, pos, negsuc, ◌⊎◌, ◌||◌, ◌≤ℤ◌, ◌-ℤ◌, nat_lt, nat_le}
 use Rattle.std.specs.Int.{int_gap}
 use Rattle.std.specs.Int.RustNames.{unsigned_abs}

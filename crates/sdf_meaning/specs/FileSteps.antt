@@ -1,5 +1,5 @@
 -- What a file says with another part behind it.
-use Rattle.std.specs.Prelude.{List, [], ◌∷◌, ◌++◌}
+use Rattle.std.specs.Prelude.{[], ◌∷◌, ◌++◌}
 use Rattle.sdf_tree.specs.Meant.{Sdf, cell_of}
 use Rattle.sdf_tree.specs.Written.{Head, text_head, divider_head, unit_head, value_head, FilePart, a_head, a_cell}
 

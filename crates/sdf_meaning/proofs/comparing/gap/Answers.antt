@@ -1,5 +1,5 @@
 -- An exponent is above another by the difference, or it isn't.
-use Rattle.std.proofs.Common.{◌≡◌, arith, w64, w32, to_z, of_z, FitsSigned, ℕ, ℤ, ◌≤ℤ◌, ◌-ℤ◌, sym, ap, ◌∙◌}
+use Rattle.std.proofs.Common.{◌≡◌, arith, w64, w32, to_z, of_z, FitsSigned, ℤ, ◌-ℤ◌, ap, ◌∙◌}
 use Rattle.std.proofs.lemmas.Int.{ints}
 use Rattle.std.specs.Int.RustNames.{unsigned_abs}
 use Rattle.sdf_meaning.proofs.Sizes.{none_above, so_far_above}

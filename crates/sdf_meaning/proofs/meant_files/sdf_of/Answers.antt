@@ -1,8 +1,8 @@
 -- One part more, or the end.
-use Rattle.std.proofs.Common.{◌≡◌, List, [], ap, map}
+use Rattle.std.proofs.Common.{List, ap, map}
 use Rattle.std.specs.Prelude.{pos, neg_ℤ}
 use Rattle.sdf_tree.specs.declared.words.Divider.TheVariants.{Point}
-use Rattle.sdf_tree.specs.Meant.{Sdf, Cell}
+use Rattle.sdf_tree.specs.Meant.{Cell}
 use Rattle.sdf_tree.specs.Seen.{view_file_part}
 use Rattle.sdf_meaning.specs.MeantSeen.{view_sdf, view_meant_cell}
 use Rattle.sdf_meaning.proofs.MeantFiles.{parts_begin, parts_go_on, parts_end}
