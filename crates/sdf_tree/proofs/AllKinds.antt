@@ -1,5 +1,5 @@
 -- The kinds of token in one list, whatever their texts, so that what is checked of each holds of all.
-use Rattle.std.proofs.Common.{◌≡◌, ℕ, zero, suc, Bool, true, false, List, [], ◌∷◌, Option, Some, None, refl}
+use Rattle.std.proofs.Common.{◌≡◌, ℕ, zero, suc, Bool, true, false, List, [], ◌∷◌, Some, None, refl}
 use Rattle.std.specs.Prelude.{◌&&◌, ◌||◌, not, slice_get}
 use Rattle.cond_expr.specs.declared.tokens.Op.TheVariants as op
 use Rattle.grammar.specs.Exact.{Apart, IsWithin}

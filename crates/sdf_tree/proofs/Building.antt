@@ -1,6 +1,5 @@
 -- How each way of building a rule over tokens is shown to be read exactly.
 use Rattle.std.proofs.Common.{◌≡◌, Bool, false}
-use Rattle.std.specs.Prelude.{◌||◌}
 use Rattle.grammar.specs.Exact.{Exact, Apart, IsWithin}
 use Rattle.grammar.specs.Rule as rule
 use Rattle.grammar.specs.Rule.{◌∙∙◌, ◌▸◌, ◌◂◌}

@@ -2,7 +2,6 @@
 use Rattle.std.proofs.Common.{◌≡◌, ℕ, Bool, true, false, List, Option, Some, None, refl, ap, ◌∙◌}
 use Rattle.std.specs.Prelude.{◌||◌, ◌&&◌, not}
 use Rattle.cond_expr.specs.declared.tokens.Op.TheVariants as op
-use Rattle.cond_expr.specs.declared.tokens.Tok.TheVariants as tok
 use Rattle.cond_expr.specs.Grammar.{primary_starts}
 use Rattle.cond_expr.specs.Kinds as words
 use Rattle.cond_expr.specs.Token.{Tok}

@@ -1,16 +1,15 @@
 -- Each rule of the delays of cells is read exactly.
-use Rattle.std.proofs.Common.{◌≡◌, ℕ, Bool, true, false, refl, inl, inr}
+use Rattle.std.proofs.Common.{◌≡◌, ℕ, Bool, true, false, refl}
 use Rattle.std.specs.Prelude.{◌==◌, ◌&&◌, ◌||◌}
 use Rattle.std.proofs.lemmas.Bool.{and_parts, and_right}
-use Rattle.grammar.specs.Exact.{Apart, IsWithin}
-use Rattle.grammar.specs.Rule.{only_if}
+use Rattle.grammar.specs.Exact.{Apart}
 use Rattle.grammar.proofs.Laws.{only_if-exact, many_by-exact}
 use Rattle.sdf_tree.specs.declared.keywords.Keyword.TheVariants as keyword
 use Rattle.sdf_tree.specs.declared.words.Divider.{Divider}
-use Rattle.sdf_tree.specs.Entries.{spec_parts, spec, cond_parts, cond, TailPart, tail_rest_parts, tail_part, count_after, tail_parts, tail, path_parts, path, inner_path_parts, inner_path, net_body_parts, net_body, body_parts, body, entry_parts, entry, is_pulse, pulse_parts, pulse, group_body_parts, group_body, group_parts, group}
+use Rattle.sdf_tree.specs.Entries.{spec_parts, spec, cond_parts, cond, tail_rest_parts, tail_part, count_after, tail_parts, tail, path_parts, path, inner_path_parts, inner_path, net_body_parts, net_body, body_parts, body, entry_parts, entry, is_pulse, pulse_parts, pulse, group_body_parts, group_body, group_parts, group}
 use Rattle.sdf_tree.specs.Kinds.{kind_of, is_left, is_right, is_word}
 use Rattle.sdf_tree.specs.Values.{may_come, may_end, delay_rest_starts}
-use Rattle.sdf_tree.proofs.AllKinds.{apart, apart_next, is_within, is_covered}
+use Rattle.sdf_tree.proofs.AllKinds.{apart, apart_next, is_within}
 use Rattle.sdf_tree.proofs.Building.{IsExact, the_token, the_mark, the_word, then, made, behind, before, called, with_place, or, perhaps, repeated, closed, same}
 use Rattle.sdf_tree.proofs.ConditionsExact.{condition-exact}
 use Rattle.sdf_tree.proofs.ValuesExact.{text-exact, value-exact, delay_rest-exact, list-exact, port-exact, edge_word-exact}

@@ -1,5 +1,5 @@
 -- What words are, and small texts read by computation.
-use Rattle.std.proofs.Common.{◌≡◌, ℕ, true, false, List, [], ◌∷◌, ◌++◌, Option, Some, None, Ok, Err, refl}
+use Rattle.std.proofs.Common.{◌≡◌, ℕ, true, false, List, [], ◌∷◌, Some, None, Ok, Err, refl}
 use Rattle.std.specs.Prelude.{codes, pos, neg_ℤ}
 use Rattle.grammar.specs.States.{read_by}
 use Rattle.sg_logic.specs.declared.values.Value.TheVariants as value

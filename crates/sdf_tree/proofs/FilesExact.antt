@@ -7,7 +7,7 @@ use Rattle.grammar.proofs.Laws.{only_if-exact, many_by-exact}
 use Rattle.sdf_tree.specs.declared.keywords.Keyword.TheVariants as keyword
 use Rattle.sdf_tree.specs.declared.words.Divider.{Divider}
 use Rattle.sdf_tree.specs.Files.{is_skipped_part, part_body_parts, part_body, part_parts, part, cell_type_parts, cell_type, instance_path, instance_parts, instance, cell_parts, cell, unit_parts, time_unit, head_parts, head_starts, head, FileState, state_after_part, file_part_parts, file_part, first_state, file_parts_parts, file_body, file}
-use Rattle.sdf_tree.specs.Kinds.{Kind, word_kind, selected_kind, kind_of, is_left, is_right, is_star, is_select, is_word, is_word_that, is_text_word, is_value_word, is_instance, is_divider, is_scale, is_unit, is_joined}
+use Rattle.sdf_tree.specs.Kinds.{word_kind, kind_of, is_left, is_right, is_star, is_select, is_word, is_word_that, is_text_word, is_value_word, is_instance, is_divider, is_scale, is_unit, is_joined}
 use Rattle.sdf_tree.specs.Values.{balanced_parts, numbers_continue}
 use Rattle.sdf_tree.specs.Words.{scale_power, joined_power}
 use Rattle.sdf_tree.proofs.AllKinds.{apart, apart_next, is_within, is_covered}

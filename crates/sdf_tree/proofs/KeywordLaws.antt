@@ -1,6 +1,6 @@
 -- A text is a word where it is that word's spelling, and is one word at most.
-use Rattle.std.proofs.Common.{◌≡◌, ℕ, ◌+◌, ◌<◌, ◌≤◌, Bool, true, false, List, [], ◌∷◌, Option, Some, None, refl, sym, ap, ◌∙◌, arith, inl, inr}
-use Rattle.std.specs.Prelude.{◌==◌, ◌||◌, ◌↔◌, IsTrue, map, bytes_eq, slice_get, if◌then◌else◌}
+use Rattle.std.proofs.Common.{◌≡◌, ℕ, Bool, true, false, List, [], ◌∷◌, Option, Some, None, refl, sym, ap, ◌∙◌, inl, inr}
+use Rattle.std.specs.Prelude.{◌==◌, ◌↔◌, IsTrue, map, bytes_eq, slice_get}
 use Rattle.std.specs.Char.{to_ascii_lowercase}
 use Rattle.std.specs.Str.{str_to_ascii_lowercase}
 use Rattle.std.proofs.lemmas.Bool.{cases_Bool, both_ways, eqb-true, eq-eqb}
@@ -8,8 +8,7 @@ use Rattle.std.proofs.lemmas.Slice.Eq.{bytes_eq-Decides}
 use Rattle.sdf_tree.specs.declared.keywords.Keyword.{Keyword}
 use Rattle.sdf_tree.specs.declared.keywords.Keyword.TheVariants as word
 use Rattle.sdf_tree.specs.Keywords.{spelling, all_words, is_spelled, word_in, keyword_of, word_number}
-use Rattle.sdf_tree.specs.Kinds.{word_kind, is_word, is_digit_first, is_number}
-use Rattle.sdf_tree.specs.Words.{begins_number, is_number_start}
+use Rattle.sdf_tree.specs.Kinds.{word_kind, is_word}
 
 numbered : (w : Keyword) → slice_get all_words (word_number w) ≡ Some w
 numbered word.DelayFile = refl

@@ -2,7 +2,6 @@
 use Rattle.std.proofs.Common.{◌≡◌, ℕ, suc, Bool, true, false, refl}
 use Rattle.std.specs.Prelude.{not, ◌==◌, ◌||◌, ◌&&◌}
 use Rattle.std.proofs.lemmas.Bool.{and_parts, and_right}
-use Rattle.grammar.specs.Exact.{Apart, IsWithin}
 use Rattle.grammar.specs.Rule.{only_if, one}
 use Rattle.grammar.proofs.Laws.{one-exact, only_if-exact, many_by-exact}
 use Rattle.sdf_tree.specs.declared.words.Divider.{Divider}

@@ -1,20 +1,16 @@
 -- The grammar of the timing checks of cells (IEEE 1497-2001, annex A).
-use Rattle.std.specs.Prelude.{Bool, ◌||◌, not, List, Option, Some, is_some}
+use Rattle.std.specs.Prelude.{Bool, ◌||◌, not, List, Some, is_some}
 use Rattle.cond_expr.specs.Token.{Tok}
 use Rattle.grammar.specs.Rule.{◌∙∙◌, ◌▸◌, ◌◂◌, mapped, named, no_kind}
 use Rattle.sdf_tree.specs.declared.keywords.Keyword.TheVariants as keyword
-use Rattle.sdf_tree.specs.declared.tree.PairCheck.{PairCheck}
 use Rattle.sdf_tree.specs.declared.tree.PairCheck.TheVariants as pair
-use Rattle.sdf_tree.specs.declared.tree.SingleCheck.{SingleCheck}
 use Rattle.sdf_tree.specs.declared.tree.SingleCheck.TheVariants as single
-use Rattle.sdf_tree.specs.declared.tree.Skipped.{Skipped}
 use Rattle.sdf_tree.specs.declared.tree.Skipped.TheVariants as skipped
-use Rattle.sdf_tree.specs.declared.tree.WindowCheck.{WindowCheck}
 use Rattle.sdf_tree.specs.declared.tree.WindowCheck.TheVariants as window
 use Rattle.sdf_tree.specs.declared.words.Divider.{Divider}
 use Rattle.sdf_tree.specs.Entries.{spec, cond, plain_terminal, edge_terminal}
 use Rattle.sdf_tree.specs.Kinds.{Kind, is_left, is_right, is_port, is_select, is_word, is_word_that, pair_of, window_of, single_of, skipped_check_of, names}
-use Rattle.sdf_tree.specs.Rules.{Grammar, token, mark, placed, either, many}
+use Rattle.sdf_tree.specs.Rules.{Grammar, token, mark, placed, either}
 use Rattle.sdf_tree.specs.Values.{value, port, edge_word, is_edge, balanced}
 use Rattle.sdf_tree.specs.Written.{Terminal, Value, CheckBody, pair_check, window_check, single_check, skipped_check, Check}
 

@@ -1,12 +1,12 @@
 -- What may be wrong with a file that the grammar takes: a number, or limits that cross (IEEE 1497-2001; IEEE 1364-2005, 14.6.1).
-use Rattle.std.specs.Prelude.{ℕ, ◌*◌, ◌^◌, Bool, true, false, ◌||◌, nat_lt, List, [], ◌∷◌, ◌++◌, Option, Some, None, Result, Ok, Err}
+use Rattle.std.specs.Prelude.{ℕ, ◌*◌, ◌^◌, Bool, true, false, ◌||◌, nat_lt, List, [], ◌∷◌, ◌++◌, Option, Some, None}
 use Rattle.std.specs.Int.{int_gap}
 use Rattle.std.specs.Result.{is_err}
 use Rattle.std.specs.List.{flat_map}
 use Rattle.sg_text.specs.declared.places.Place.{Place}
 use Rattle.sg_time.specs.Spelling as time
 use Rattle.sdf_tree.specs.Meant.{decimal_of, number_of}
-use Rattle.sdf_tree.specs.Written.{Number, Value, Limits, Delay, Body, io_path, port_delay, interconnect, device, net_delay, Entry, Group, absolute, increment, path_pulse, CheckBody, pair_check, window_check, single_check, skipped_check, Check, Part, delays, checks, skipped_part, Cell, Head, text_head, divider_head, unit_head, value_head, FilePart, a_head, a_cell}
+use Rattle.sdf_tree.specs.Written.{Number, Value, Limits, Delay, Body, io_path, port_delay, interconnect, device, net_delay, Group, absolute, increment, path_pulse, CheckBody, pair_check, window_check, single_check, skipped_check, Part, delays, checks, skipped_part, Head, text_head, divider_head, unit_head, value_head, FilePart, a_head, a_cell}
 
 abbrev pub listed : {A : Type 0} → Option A → List A
 listed None = []

@@ -10,7 +10,7 @@ use Rattle.sdf_tree.specs.declared.words.Divider.{Divider}
 use Rattle.sdf_tree.specs.declared.words.Divider.TheVariants.{Point}
 use Rattle.sdf_tree.specs.Checks.{check}
 use Rattle.sdf_tree.specs.Entries.{group}
-use Rattle.sdf_tree.specs.Kinds.{Kind, kind_of, is_left, is_right, is_star, is_select, is_any_word, is_word, is_word_that, is_text_word, is_value_word, is_instance, is_divider, is_scale, is_unit, is_joined, skipped_part_of, names, word_text, divider_word, scale_word, unit_word, joined_word}
+use Rattle.sdf_tree.specs.Kinds.{Kind, kind_of, is_left, is_right, is_star, is_select, is_word, is_word_that, is_text_word, is_value_word, is_instance, is_divider, is_scale, is_unit, is_joined, skipped_part_of, names, word_text, divider_word, scale_word, unit_word, joined_word}
 use Rattle.sdf_tree.specs.Rules.{Grammar, token, mark, word, placed, either, optional, many}
 use Rattle.sdf_tree.specs.Values.{text, numbers, numbers_continue, balanced}
 use Rattle.sdf_tree.specs.Written.{Instance, the_top, all_of_type, the_path, Group, Check, Part, delays, checks, skipped_part, Cell, Head, text_head, divider_head, unit_head, value_head, FilePart, a_head, a_cell}

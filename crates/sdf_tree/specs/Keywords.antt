@@ -1,5 +1,5 @@
 -- The words of SDF files (IEEE 1497-2001, annex A).
-use Rattle.std.specs.Prelude.{ℕ, Bool, List, [], ◌∷◌, Option, Some, None, ◌==◌, codes, bytes_eq, if◌then◌else◌}
+use Rattle.std.specs.Prelude.{ℕ, Bool, List, [], ◌∷◌, Option, Some, None, codes, bytes_eq, if◌then◌else◌}
 use Rattle.std.specs.Str.{str_to_ascii_lowercase}
 use Rattle.sdf_tree.specs.declared.keywords.Keyword.{Keyword}
 use Rattle.sdf_tree.specs.declared.keywords.Keyword.TheVariants as word

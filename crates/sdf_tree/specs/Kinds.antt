@@ -1,8 +1,7 @@
 -- The kinds of token that the grammar of SDF files tells apart. A word's is by its place: the same word may be a word of the
 -- grammar, a number, a path and a name.
-use Rattle.std.specs.Prelude.{ℕ, ℤ, pos, Bool, true, false, ◌==◌, ◌||◌, ◌&&◌, not, List, [], ◌∷◌, Option, Some, None, is_some, unwrap_or, if◌then◌else◌}
+use Rattle.std.specs.Prelude.{ℕ, ℤ, pos, Bool, true, false, ◌==◌, ◌&&◌, not, List, [], Option, Some, None, is_some, unwrap_or}
 use Rattle.cond_expr.specs.declared.tokens.Op.{Op}
-use Rattle.cond_expr.specs.declared.tokens.Op.TheVariants as op
 use Rattle.sdf_lex.specs.Tokens.{Meaning, Lexeme, word_token, selected_token, select_token, text_token, unended_token, operator_token, left_token, right_token, colon_token, star_token, other_token}
 use Rattle.sdf_tree.specs.declared.keywords.Keyword.{Keyword}
 use Rattle.sdf_tree.specs.declared.keywords.Keyword.TheVariants as word

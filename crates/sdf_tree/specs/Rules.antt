@@ -6,7 +6,7 @@ use Rattle.grammar.specs.Rule as rule
 use Rattle.grammar.specs.Rule.{Rule}
 use Rattle.sdf_lex.specs.Tokens.{Lexeme}
 use Rattle.sdf_tree.specs.declared.keywords.Keyword.{Keyword}
-use Rattle.sdf_tree.specs.Kinds.{Kind, kind_of, is_left, is_right, is_word}
+use Rattle.sdf_tree.specs.Kinds.{Kind, kind_of, is_word}
 
 abbrev pub Grammar : Type 0 → Type 1
 Grammar A = Rule Lexeme Kind A

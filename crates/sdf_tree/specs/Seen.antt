@@ -1,5 +1,5 @@
 -- The code's trees of files as they are written, as the definitions see them.
-use Rattle.std.specs.Prelude.{List, ℕ, map, option_map, Option}
+use Rattle.std.specs.Prelude.{List, ℕ, map, option_map}
 use Rattle.std.specs.Borrow.{Bor}
 use Rattle.cond_expr.specs.Token.{Tok, map_name}
 use Rattle.cond_expr.specs.declared.tokens.Tok as over

@@ -3,12 +3,11 @@ use Rattle.std.specs.Prelude.{ℕ, suc, ◌-◌, Bool, ◌||◌, ◌&&◌, not, 
 use Rattle.grammar.specs.Rule.{◌∙∙◌, ◌▸◌, ◌◂◌, mapped, named, no_kind, one, only_if}
 use Rattle.grammar.specs.States.{many_by}
 use Rattle.sdf_lex.specs.Tokens.{Lexeme}
-use Rattle.sdf_tree.specs.declared.keywords.Keyword.TheVariants as keyword
 use Rattle.sdf_tree.specs.declared.tree.Edge.{Edge}
 use Rattle.sdf_tree.specs.declared.tree.Edge.TheVariants as edge
 use Rattle.sdf_tree.specs.declared.words.Divider.{Divider}
-use Rattle.sdf_tree.specs.Kinds.{Kind, kind_of, is_left, is_right, is_colon, is_text, is_select, is_number, is_port, is_plain, is_any_word, is_word, is_word_that, edge_of, names, text_of, word_text, port_path, select_of}
-use Rattle.sdf_tree.specs.Rules.{Grammar, token, mark, word, placed, either, optional}
+use Rattle.sdf_tree.specs.Kinds.{Kind, kind_of, is_left, is_right, is_colon, is_text, is_select, is_number, is_port, is_plain, is_any_word, is_word_that, edge_of, names, text_of, word_text, port_path, select_of}
+use Rattle.sdf_tree.specs.Rules.{Grammar, token, mark, placed, either, optional}
 use Rattle.sdf_tree.specs.Written.{Number, Value, Limits, Delay, Port}
 use Rattle.std.specs.Prelude.{is_some, if◌then◌else◌}
 
