@@ -1,14 +1,13 @@
 -- Passing over tokens with paired parentheses, as a loop does that counts those that are open.
-use Rattle.std.proofs.Common.{◌≡◌, ℕ, zero, suc, ◌+◌, ◌-◌, ◌<◌, ◌≤◌, Bool, true, false, List, [], ◌∷◌, length, Option, Some, None, Result, Ok, Err, refl, sym, ap, ◌∙◌, arith}
-use Rattle.std.specs.Prelude.{slice_get, ◌==◌, not, ◌||◌, ◌&&◌, if◌then◌else◌}
-use Rattle.std.proofs.lemmas.Bool.{cases_Bool}
+use Rattle.std.proofs.Common.{◌≡◌, ℕ, suc, ◌+◌, ◌-◌, ◌<◌, ◌≤◌, Bool, true, false, List, length, Some, None, Result, Ok, Err, refl, arith}
+use Rattle.std.specs.Prelude.{◌==◌, if◌then◌else◌}
 use Rattle.grammar.specs.Reading.{◌>>=◌}
-use Rattle.grammar.specs.Rule.{is_of, one, stands}
+use Rattle.grammar.specs.Rule.{one, stands}
 use Rattle.grammar.specs.States.{many_by}
 use Rattle.grammar.proofs.Laws.{one-exact}
 use Rattle.grammar.proofs.Loops.{stands_within}
 use Rattle.grammar.proofs.LoopsBy.{state_goes_on, state_ends, state_refused, by_advances}
-use Rattle.sdf_lex.specs.Tokens.{Meaning, Lexeme, word_token, selected_token, select_token, text_token, unended_token, operator_token, left_token, right_token, colon_token, star_token, other_token}
+use Rattle.sdf_lex.specs.Tokens.{Lexeme}
 use Rattle.sdf_tree.specs.Kinds.{kind_of, is_left, is_right}
 use Rattle.sdf_tree.specs.Rules.{Grammar}
 use Rattle.sdf_tree.specs.Values.{is_inside, unclosed_after, balanced_continue, balanced_parts, balanced}

@@ -1,8 +1,8 @@
 -- Reading one token by what stands there.
-use Rattle.std.proofs.Common.{◌≡◌, ℕ, ◌+◌, Bool, true, false, List, Option, Some, None, Result, Ok, Err, refl, ap}
+use Rattle.std.proofs.Common.{◌≡◌, ℕ, ◌+◌, Bool, true, false, List, Option, Some, None, Result, Ok, Err, refl}
 use Rattle.sg_text.specs.declared.places.Place.{Place}
 use Rattle.std.specs.Prelude.{slice_get, is_some}
-use Rattle.grammar.specs.Rule.{is_of, stands, mapped, one, quoted, read_one}
+use Rattle.grammar.specs.Rule.{is_of, stands, read_one}
 use Rattle.grammar.specs.Reading.{◌>>=◌}
 use Rattle.sdf_lex.specs.Tokens.{Meaning, Lexeme, word_token, selected_token, select_token, text_token, unended_token, operator_token, left_token, right_token, colon_token, star_token, other_token}
 use Rattle.sdf_tree.specs.declared.keywords.Keyword.{Keyword}

@@ -1,9 +1,7 @@
 -- The word of a condition that a token is alone.
-use Rattle.std.proofs.Common.{◌≡◌, ℕ, Bool, true, false, List, Option, Some, None, Result, Ok, Err, refl, sym}
+use Rattle.std.proofs.Common.{◌≡◌, ℕ, Bool, true, false, List, Option, Some, None, Ok, refl, sym}
 use Rattle.std.specs.Prelude.{slice_get, if◌then◌else◌}
 use Rattle.std.specs.Borrow.{Bor}
-use Rattle.std.specs.Option.{option_map}
-use Rattle.cond_expr.specs.Token.{Tok}
 use Rattle.cond_expr.specs.Vocabulary.{is_word}
 use Rattle.cond_expr.specs.WordReading.{IsWordAlone}
 use Rattle.cond_expr.specs.declared.tokens.Tok as over

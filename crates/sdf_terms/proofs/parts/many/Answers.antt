@@ -1,7 +1,6 @@
 -- The loop reads a repetition as its rule does.
-use Rattle.std.proofs.Common.{sym, map, ◌∙◌, ap}
+use Rattle.std.proofs.Common.{sym, map}
 use Rattle.std.proofs.lemmas.Result.{err_from_is_err_and}
-use Rattle.grammar.specs.Rule.{stands}
 use Rattle.grammar.proofs.Loops.{many_begins, many_goes_on, many_ends, many_fails, many_advances}
 use Rattle.sdf_lex.specs.Seen.{lexeme}
 use Rattle.sdf_tree.specs.Kinds.{kind_of}
