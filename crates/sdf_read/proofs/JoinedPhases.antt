@@ -43,12 +43,12 @@ module _ (ts : List Lexeme) (end : Place) where
   depth_refused (code.Fault kind place) (i, deep, k, p) = is_deep i deep (ap (λ (x : SdfKind). refused x place) k ∙ ap (λ (x : Place). refused TooDeep x) p)
 
   module _ (none : NoneTooDeep ts) (result : Result WrittenFile (Refused SdfKind)) where
-    one_refused : (r : Refused SdfKind) → RefusalStands ts end r → Refuses (Outcome ts end) r
-    one_refused code.NoMemory h = tt
-    one_refused (code.Fault kind place) (e, fails, p, k) = is_refused none e fails kind k (ap (λ (x : Place). refused kind x) p)
+    token_refused : (r : Refused SdfKind) → RefusalStands ts end r → Refuses (Outcome ts end) r
+    token_refused code.NoMemory h = tt
+    token_refused (code.Fault kind place) (e, fails, p, k) = is_refused none e fails kind k (ap (λ (x : Place). refused kind x) p)
 
     pub tree_refused : IfErr result (RefusalStands ts end) → IfErr result (Refuses (Outcome ts end))
-    tree_refused h = IfErr-weaker result (RefusalStands ts end) (Refuses (Outcome ts end)) one_refused h
+    tree_refused h = IfErr-weaker result (RefusalStands ts end) (Refuses (Outcome ts end)) token_refused h
 
     pub tree_spelled : IfOk result (λ f. (file true).language.Spells ts 0 (view_file f) (length ts)) → IfOk result (λ f. AreSpelled ts (view_file f))
     tree_spelled h = IfOk-weaker result (λ f. (file true).language.Spells ts 0 (view_file f) (length ts)) (λ f. AreSpelled ts (view_file f)) (λ f s. (none, s)) h
@@ -67,7 +67,7 @@ values_at_fault b c ps result e f h =
     subst (λ (y : Option Place). IfErr result (Refuses (λ p. meaning_unless (bad_number (flat_map file_numbers ps)) y ps ≡ p))) f
     (subst (λ (x : Option Place). IfErr result (Refuses (λ p. meaning_unless x c ps ≡ p))) e h)
 
-told : Sdf → Result Sdf Fault
+abbrev told : Sdf → Result Sdf Fault
 told s = Ok s
 
 -- ---- of bytes
