@@ -1,5 +1,5 @@
 -- Numbers of 18 digits beside one another: powers of ten above the 18th tell nothing more.
-use Rattle.std.proofs.Common.{◌≡◌, ◌∙◌, sym, refl, ap, ℕ, zero, suc, ◌+◌, ◌*◌, ◌^◌, ◌<◌, ◌≤◌, arith, Bool, true, false, inl, inr}
+use Rattle.std.proofs.Common.{◌≡◌, ◌∙◌, sym, refl, ap, ℕ, ◌*◌, ◌^◌, ◌<◌, ◌≤◌, arith, Bool, true, false, inl, inr}
 use Rattle.std.specs.Prelude.{ℤ, pos, negsuc, ◌⊎◌, ◌||◌, ◌≤ℤ◌, ◌-ℤ◌, nat_lt, nat_le}
 use Rattle.std.specs.Int.{int_gap}
 use Rattle.std.specs.Int.RustNames.{unsigned_abs}
@@ -59,16 +59,16 @@ large : (a k : ℕ) → 1 ≤ a → 18 ≤ k → 10 ^ 18 ≤ a * 10 ^ k
 large a k some far = omega (arith, pow_at_least 18 k far, mul-le-mul_left (10 ^ k) some)
 
 none_stays : (a k : ℕ) → a ≡ 0 → a * 10 ^ k ≡ 0
-none_stays a k e = ap (λ (n : ℕ). n * 10 ^ k) e
+none_stays a k e = ap (λ (n : ℕ). n * 10 ^ k) e ∙ omega arith
 
 some_stays : (a k : ℕ) → 1 ≤ a → 1 ≤ a * 10 ^ k
 some_stays a k some = omega (arith, one_at_least k, mul-le-mul_left (10 ^ k) some)
 
 -- a size, and what there is of it near the other one
-record Near (size near other : ℕ) : Type 0 where
-  up : nat_lt size other ≡ nat_lt near other
-  down : nat_lt other size ≡ nat_lt other near
-  some : nat_lt 0 size ≡ nat_lt 0 near
+pub record Near (size near other : ℕ) : Type 0 where
+  pub up : nat_lt size other ≡ nat_lt near other
+  pub down : nat_lt other size ≡ nat_lt other near
+  pub some : nat_lt 0 size ≡ nat_lt 0 near
 
 same_near : (size near other : ℕ) → size ≡ near → Near size near other
 same_near size near other e = record { up = ap (λ (n : ℕ). nat_lt n other) e; down = ap (λ (n : ℕ). nat_lt other n) e; some = ap (λ (n : ℕ). nat_lt 0 n) e }

@@ -2,3 +2,4 @@
 pub mod MeantSeen
 pub mod FirstFaults
 pub mod Sizes
+pub mod FileSteps

@@ -3,6 +3,7 @@ ghost use Rattle.std.specs.Prelude.{◌≡◌, IfOk, OnOk, map};
 ghost use Rattle.std.specs.List.{flat_map};
 ghost use Rattle.sdf_tree.specs.Meant as meant;
 ghost use Rattle.sdf_tree.specs.Seen.{view_cell, view_file, view_file_part, view_head, view_part};
+ghost use Rattle.sdf_meaning.specs.FileSteps as steps;
 ghost use Rattle.sdf_meaning.specs.MeantSeen.{view_meant, view_meant_cell, view_sdf};
 
 use crate::meant_entries::add_part;
@@ -41,7 +42,7 @@ fn cell_of<'a>(alloc: Global, cell: WrittenCell<'a>) -> Result<Cell<'a>, NoMemor
 
 /// What a file says with another head behind it.
 fn add_head(sdf: &mut Sdf<'_>, head: WrittenHead<'_>)
-    ensures { view_sdf sdf.new ≡ meant.with_head (view_sdf sdf.old) (view_head head.entry) }
+    ensures { view_sdf sdf.new ≡ steps.with_head (view_sdf sdf.old) (view_head head.entry) }
 {
     match head {
         WrittenHead::Divider(divider) => sdf.divider = divider,
@@ -57,7 +58,7 @@ fn add_file_part<'a>(
     sdf: &mut Sdf<'a>,
     part: WrittenFilePart<'a>,
 ) -> Result<(), NoMemory>
-    ensures { OnOk result (view_sdf sdf.new ≡ meant.with_part (view_sdf sdf.old) (view_file_part part.entry)) }
+    ensures { OnOk result (view_sdf sdf.new ≡ steps.with_part (view_sdf sdf.old) (view_file_part part.entry)) }
 {
     match part {
         WrittenFilePart::Head(head) => add_head(sdf, head),

@@ -47,10 +47,8 @@ pub fn number_of(number: WrittenNumber<'_>) -> Decimal
 fn corner_of(number: Option<WrittenNumber<'_>>) -> Option<Decimal>
     ensures { option_map seen_number result ≡ option_map meant.number_of (option_map view_number number.entry) }
 {
-    match number {
-        Some(number) => Some(number_of(number)),
-        None => None,
-    }
+    let number = number?;
+    Some(number_of(number))
 }
 
 /// A value for each corner.
@@ -68,10 +66,8 @@ pub fn triple_of(value: WrittenValue<'_>) -> Triple
 pub fn optional_triple(value: Option<WrittenValue<'_>>) -> Option<Triple>
     ensures { option_map view_triple result ≡ option_map meant.triple_of (option_map view_value value.entry) }
 {
-    match value {
-        Some(value) => Some(triple_of(value)),
-        None => None,
-    }
+    let value = value?;
+    Some(triple_of(value))
 }
 
 // A single limit is both.

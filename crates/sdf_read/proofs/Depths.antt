@@ -27,7 +27,9 @@ at_first ts = record { is = refl; few = omega arith; before = λ j lt. absurd (o
 
 module _ (ts : List Lexeme) (i depth behind : ℕ) (so_far : Looked ts i depth) (t : Lexeme) (at : slice_get ts i ≡ Some t) (is : behind ≡ depth_behind depth t.meaning) where
   here : behind ≡ depth_from 0 (take (i + 1) ts)
-  here = is ∙ (ap (λ (d : ℕ). depth_behind d t.meaning) so_far.is ∙ sym (one_more 0 ts i t at))
+  here =
+      let next : suc i ≡ i + 1 = omega arith in
+      is ∙ (ap (λ (d : ℕ). depth_behind d t.meaning) so_far.is ∙ (sym (one_more 0 ts i t at) ∙ ap (λ (n : ℕ). depth_from 0 (take n ts)) next))
 
   pub goes_on : behind ≤ 32 → Looked ts (i + 1) behind
   goes_on few = record { is = here; few = few; before = before }

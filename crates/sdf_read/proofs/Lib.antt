@@ -6,3 +6,4 @@ pub mod Failed
 pub mod Depths
 pub mod OneOutcome
 pub mod JoinedPhases
+pub mod Reached

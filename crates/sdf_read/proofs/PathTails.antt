@@ -35,6 +35,17 @@ counted : (t : Lists) (x : TailPart) → length (with_part t x).1 ≡ count_afte
 counted t (a_retain ds) = refl
 counted t (a_delay d) = omega (arith, length-append t.1 (d ∷ []))
 
+abbrev pub kept_made : List TailPart × ℕ → Result (Lists × ℕ) ℕ
+kept_made x = Ok (kept_of x.0, x.1)
+
+pub kept_fails : (f : ReadFault) (total : Result (List TailPart × ℕ) ℕ) → Fails f total → Fails f (total >>= kept_made)
+kept_fails faults.Memory total h = tt
+kept_fails (faults.At e) total h = ap (λ (r : Result (List TailPart × ℕ) ℕ). r >>= kept_made) h
+
+-- whether a part comes behind so many delays, where they are counted otherwise
+pub still : (limited : Bool) (ts : List Lexeme) (i : ℕ) {m n : ℕ} {b : Bool} → m ≡ n → stands kind_of (tail_part limited m).starts ts i ≡ b → stands kind_of (tail_part limited n).starts ts i ≡ b
+still limited ts i {b = b} e h = subst (λ (n : ℕ). stands kind_of (tail_part limited n).starts ts i ≡ b) e h
+
 module _ (limited : Bool) (ts : List Lexeme) where
   abbrev rest : List TailPart → ℕ → ℕ → Result (List TailPart × ℕ) ℕ
   rest done n i = rest_of_by kind_of is_left (tail_part limited) count_after (may_end limited) ts (λ x. x) done n i
@@ -85,18 +96,15 @@ module _ (limited : Bool) (ts : List Lexeme) where
       same : other ≡ count
       same = also ∙ sym is
 
-      abbrev made : List TailPart × ℕ → Result (Lists × ℕ) ℕ
-      made x = Ok (kept_of x.0, x.1)
-
-      pub parts_end : may_end limited other ≡ true → (total >>= made) ≡ Ok (kept, i)
+      pub parts_end : may_end limited other ≡ true → (total >>= kept_made) ≡ Ok (kept, i)
       parts_end closes =
           let may : may_end limited count ≡ true = subst (λ (n : ℕ). may_end limited n ≡ true) same closes in
           let all = by_ends kind_of is_left (tail_part limited) count_after (may_end limited) (tail_part-exact limited) (tail_part-full limited) ts (λ x. x) total so_far.done count i none may here in
           let e : total ≡ Ok (so_far.done, i) = all ∙ ap (λ (l : List TailPart). Ok (l, i)) (map-id so_far.done) in
-          ap (λ (r : Result (List TailPart × ℕ) ℕ). r >>= made) e ∙ ap (λ (k : Lists). Ok (k, i)) (sym so_far.are)
+          ap (λ (r : Result (List TailPart × ℕ) ℕ). r >>= kept_made) e ∙ ap (λ (k : Lists). Ok (k, i)) (sym so_far.are)
 
-      pub parts_refused : may_end limited other ≡ false → (total >>= made) ≡ Err i
+      pub parts_refused : may_end limited other ≡ false → (total >>= kept_made) ≡ Err i
       parts_refused closes =
           let may : may_end limited count ≡ false = subst (λ (n : ℕ). may_end limited n ≡ false) same closes in
           let all = by_refused kind_of is_left (tail_part limited) count_after (may_end limited) (tail_part-exact limited) (tail_part-full limited) ts (λ x. x) total so_far.done count i none may here in
-          ap (λ (r : Result (List TailPart × ℕ) ℕ). r >>= made) all
+          ap (λ (r : Result (List TailPart × ℕ) ℕ). r >>= kept_made) all

@@ -1,15 +1,17 @@
--- A bridge, on which no public clause rests: what a refusal of each phase tells.
-use Rattle.std.specs.Prelude.{◌≡◌, ℕ, List, Result, Err, slice_get}
+-- A bridge, on which no public clause rests: what a refusal of each phase tells, and what the phases that read a tree leave.
+use Rattle.std.specs.Prelude.{◌≡◌, ℕ, true, List, length, Result, Ok, Err, slice_get}
 use Rattle.sg_text.specs.declared.places.Place.{Place}
 use Rattle.sg_text.specs.declared.refusals.Refused.{Refused}
 use Rattle.sg_text.specs.declared.refusals.Refused.TheVariants as code
 use Rattle.sdf_lex.specs.declared.faults.LexKind.{LexKind}
 use Rattle.sdf_lex.specs.Lexes.{Lexes}
 use Rattle.sdf_lex.specs.Tokens.{Lexeme}
+use Rattle.sdf_tree.specs.Files.{file}
 use Rattle.sdf_tree.specs.Meant.{Sdf}
+use Rattle.sdf_tree.specs.Written.{FilePart}
 use Rattle.sdf_read.specs.declared.faults.SdfKind.{SdfKind}
 use Rattle.sdf_read.specs.declared.faults.SdfKind.TheVariants.{TooDeep}
-use Rattle.sdf_read.specs.Depth.{IsTooDeep}
+use Rattle.sdf_read.specs.Depth.{IsTooDeep, NoneTooDeep}
 use Rattle.sdf_read.specs.Outcomes.{Fault, refused}
 use Rattle.sdf_read.specs.Reading.{fault_place}
 use Rattle.sdf_read.specs.Reads.{kind_of_bytes}
@@ -24,7 +26,15 @@ abbrev pub DepthStands : List Lexeme → Place → Refused SdfKind → Type 0
 DepthStands ts end code.NoMemory = Unit {0}
 DepthStands ts end (code.Fault kind place) = (i : ℕ) × IsTooDeep ts i × (kind ≡ TooDeep) × (place ≡ fault_place end (slice_get ts i))
 
--- a file that means this, or has this fault, is refused so
-abbrev pub RefusedAs : Result Sdf Fault → Refused SdfKind → Type 0
-RefusedAs m code.NoMemory = Unit {0}
-RefusedAs m (code.Fault kind place) = m ≡ refused kind place
+-- a refusal holds; want of memory is free
+abbrev pub Refuses : (Result Sdf Fault → Type 0) → Refused SdfKind → Type 0
+Refuses Holds code.NoMemory = Unit {0}
+Refuses Holds (code.Fault kind place) = Holds (refused kind place)
+
+-- tokens that are nowhere too deep spell these parts
+abbrev pub AreSpelled : List Lexeme → List FilePart → Type 0
+AreSpelled ts ps = NoneTooDeep ts × (file true).language.Spells ts 0 ps (length ts)
+
+-- the tokens of these bytes do
+abbrev pub AreRead : List ℕ → List FilePart → Type 0
+AreRead bytes ps = (ts : List Lexeme) × Lexes bytes (Ok ts) × AreSpelled ts ps

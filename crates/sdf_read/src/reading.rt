@@ -35,6 +35,7 @@ fn whole<'a>(
 }
 
 /// How many tokens begin a file in which lists of delays have any length.
+#[tactic(auto, using(crate::proofs::Reached::file_read, crate::proofs::Reached::file_failed))]
 fn reach(alloc: Global, tokens: &[Token<'_>]) -> Result<usize, NoMemory>
     ensures { IfOk result (λ n. IsReach (files.file false).language (map lexeme tokens.now) n) }
 {
@@ -62,7 +63,7 @@ pub fn place_of_fault(tokens: &[Token<'_>], at: usize, end: Place) -> Place
     ensures { result ≡ fault_place end (slice_get (map lexeme tokens.now) at) }
 {
     match token_at(tokens, at) {
-        Some(token) => token.place,
+        Some(token) => token.place(),
         None => end,
     }
 }

@@ -7,7 +7,7 @@ ghost use Rattle.sdf_tree.specs.Seen.{view_file};
 ghost use Rattle.sdf_tree.specs.Written.{FilePart};
 ghost use Rattle.sdf_read.specs.Depth.{NoneTooDeep};
 ghost use Rattle.sdf_read.specs.Outcomes.{Fault, Outcome, meaning_of, meaning_unless};
-ghost use Rattle.sdf_read.specs.Phases.{BytesStand, DepthStands, RefusedAs};
+ghost use Rattle.sdf_read.specs.Phases.{AreRead, AreSpelled, BytesStand, DepthStands, Refuses};
 ghost use Rattle.sdf_read.specs.Reads.{Reads, Stands, Tells, end_of, kind_of_bytes};
 
 use crate::depth::first_too_deep;
@@ -68,7 +68,7 @@ fn check_depth(tokens: &[Token<'_>], end: Place) -> Result<(), Refused<SdfKind>>
 // A number that is none is told before limits that cross.
 fn refuse_values(bad_number: Option<Place>, crossing: Option<Place>) -> Result<(), Refused<SdfKind>>
     ensures faultless { (parts : List FilePart) → OnOk result (meaning_unless bad_number crossing parts ≡ Ok (meant.sdf_of parts)) }
-    ensures refused { (parts : List FilePart) → IfErr result (RefusedAs (meaning_unless bad_number crossing parts)) }
+    ensures refused { (parts : List FilePart) → IfErr result (Refuses (λ p. meaning_unless bad_number crossing parts ≡ p)) }
 {
     match (bad_number, crossing) {
         (Some(place), _) => Err(Refused::Fault {
@@ -85,23 +85,31 @@ fn refuse_values(bad_number: Option<Place>, crossing: Option<Place>) -> Result<(
 
 fn check_values(file: &WrittenFile<'_>) -> Result<(), Refused<SdfKind>>
     ensures faultless { OnOk result (meaning_of (view_file file.now) ≡ Ok (meant.sdf_of (view_file file.now))) }
-    ensures refused { IfErr result (RefusedAs (meaning_of (view_file file.now))) }
+    ensures refused { IfErr result (Refuses (λ p. meaning_of (view_file file.now) ≡ p)) }
 {
     refuse_values(file_bad_number(file), file_crossing(file))
 }
 
-fn read_tokens<'a>(
+/// The parts of a file's tokens, which are nowhere too deep.
+fn read_tree<'a>(
     alloc: Global,
     tokens: &[Token<'a>],
     end: Place,
-) -> Result<Sdf<'a>, Refused<SdfKind>>
-    ensures { Stands (Outcome (map lexeme tokens.now) end) result }
+) -> Result<WrittenFile<'a>, Refused<SdfKind>>
+    ensures spelled { IfOk result (λ file. AreSpelled (map lexeme tokens.now) (view_file file)) }
+    ensures refused { IfErr result (Refuses (Outcome (map lexeme tokens.now) end)) }
 {
     check_depth(tokens, end)?;
-    let file = read_written(alloc, tokens, end)?;
-    check_values(&file)?;
-    let sdf = sdf_of(alloc, file)?;
-    Ok(sdf)
+    read_written(alloc, tokens, end)
+}
+
+/// The parts of a file. Its tokens are gone then.
+fn read_parts(alloc: Global, bytes: &[u8]) -> Result<WrittenFile<'_>, Refused<SdfKind>>
+    ensures read { IfOk result (λ file. AreRead bytes.now (view_file file)) }
+    ensures refused { IfErr result (Refuses (Reads bytes.now)) }
+{
+    let tokens = tokens_of(alloc, bytes)?;
+    read_tree(alloc, &tokens, end_of(bytes))
 }
 
 /// What an SDF file means (IEEE 1497-2001), with file 0 in its places. Its names and texts are parts of the bytes, and its values are in
@@ -116,6 +124,8 @@ pub fn read_sdf(alloc: Global, bytes: &[u8]) -> Result<Sdf<'_>, Refused<SdfKind>
     // It is nothing else.
     ensures only { (o : Result meant.Sdf Fault) → Reads bytes.now o → Tells o result }
 {
-    let tokens = tokens_of(alloc, bytes)?;
-    read_tokens(alloc, &tokens, end_of(bytes))
+    let file = read_parts(alloc, bytes)?;
+    check_values(&file)?;
+    let sdf = sdf_of(alloc, file)?;
+    Ok(sdf)
 }

@@ -1,5 +1,5 @@
 -- SDF files as they are meant (IEEE 1497-2001): what is written, with its numbers read.
-use Rattle.std.specs.Prelude.{ℕ, ℤ, pos, neg_ℤ, Bool, true, false, nat_lt, ◌^◌, length, List, [], ◌∷◌, ◌++◌, map, Option, Some, None, Result, Ok, Err, if◌then◌else◌}
+use Rattle.std.specs.Prelude.{ℕ, ℤ, pos, neg_ℤ, Bool, true, false, nat_lt, ◌^◌, length, List, [], ◌∷◌, map, Option, Some, None, Result, Ok, Err, if◌then◌else◌}
 use Rattle.std.specs.List.{flat_map}
 use Rattle.std.specs.Option.{option_map}
 use Rattle.sg_text.specs.declared.places.Place.{Place}
@@ -129,21 +129,28 @@ pub record Sdf : Type 0 where
 abbrev pub cell_of : written.Cell → Cell
 cell_of c = record { cell_type = c.cell_type; instance = c.instance; entries = flat_map entries_of_part c.parts }
 
--- a file with another part behind it: of several units, and of several dividers, the last holds
-abbrev pub with_head : Sdf → written.Head → Sdf
-with_head s written.text_head = s
-with_head s (written.divider_head d) = record { unit = s.unit; divider = d; cells = s.cells }
-with_head s (written.unit_head u) = record { unit = u; divider = s.divider; cells = s.cells }
-with_head s (written.value_head v) = s
+-- what a part of a file is of each: a unit, a divider, a cell
+abbrev pub units_in : written.FilePart → List ℤ
+units_in (written.a_head (written.unit_head u)) = u ∷ []
+units_in _ = []
 
-abbrev pub with_part : Sdf → written.FilePart → Sdf
-with_part s (written.a_head h) = with_head s h
-with_part s (written.a_cell c) = record { unit = s.unit; divider = s.divider; cells = s.cells ++ cell_of c ∷ [] }
+abbrev pub dividers_in : written.FilePart → List Divider
+dividers_in (written.a_head (written.divider_head d)) = d ∷ []
+dividers_in _ = []
 
-abbrev pub with_parts : Sdf → List written.FilePart → Sdf
-with_parts s [] = s
-with_parts s (p ∷ ps) = with_parts (with_part s p) ps
+abbrev pub cells_in : written.FilePart → List Cell
+cells_in (written.a_cell c) = cell_of c ∷ []
+cells_in _ = []
 
--- before any head the unit is 1 ns and the divider a point
+-- the last of a list, or what is said where it has none
+abbrev pub last_or : {A : Type 0} → A → List A → A
+last_or a [] = a
+last_or a (x ∷ xs) = last_or x xs
+
+-- Of several units, and of several dividers, the last holds; without one the unit is 1 ns and the divider a point.
 abbrev pub sdf_of : List written.FilePart → Sdf
-sdf_of ps = with_parts (record { unit = neg_ℤ (pos 9); divider = Point; cells = [] }) ps
+sdf_of ps = record {
+  unit = last_or (neg_ℤ (pos 9)) (flat_map units_in ps);
+  divider = last_or Point (flat_map dividers_in ps);
+  cells = flat_map cells_in ps;
+}

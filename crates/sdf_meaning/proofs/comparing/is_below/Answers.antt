@@ -1,5 +1,4 @@
 -- Sizes that are near enough tell which is less.
-use Rattle.std.proofs.Common.{rules}
 use Rattle.sg_time.specs.Seen.{number}
 use Rattle.sdf_meaning.proofs.Sizes.{below_near}
 use Rattle.sdf_meaning.proofs.comparing.is_below.Goals as goal

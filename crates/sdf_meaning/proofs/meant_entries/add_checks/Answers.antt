@@ -7,7 +7,7 @@ use Rattle.sdf_meaning.proofs.Moving.{items_begin, items_go_on, items_end}
 use Rattle.sdf_meaning.proofs.meant_entries.add_checks.Goals as goal
 
 pub loop-check-init : goal.loop-check-init
-loop-check-init c = items_begin meant.entry_of_check view_check _ c.args.checks.items (map view_meant c.args.entries.now.items) c.into_iter-check-iterator.ensures.into_iter_gives.0
+loop-check-init c = items_begin meant.entry_of_check view_check c.into_iter-check-iterator.result c.args.checks.items (map view_meant c.args.entries.now.items) c.into_iter-check-iterator.ensures.into_iter_gives.0
 
 pub loop-check-preserved : goal.loop-check-preserved
 loop-check-preserved c =

@@ -8,7 +8,7 @@ use Rattle.sdf_meaning.proofs.Moving.{items_begin, items_go_on, items_end}
 use Rattle.sdf_meaning.proofs.meant_entries.add_entries.Goals as goal
 
 pub loop-entry-init : goal.loop-entry-init
-loop-entry-init c = items_begin (meant.entry_of c.args.increment) view_entry _ c.args.written.items (map view_meant c.args.entries.now.items) c.into_iter-entry-iterator.ensures.into_iter_gives.0
+loop-entry-init c = items_begin (meant.entry_of c.args.increment) view_entry c.into_iter-entry-iterator.result c.args.written.items (map view_meant c.args.entries.now.items) c.into_iter-entry-iterator.ensures.into_iter_gives.0
 
 pub loop-entry-preserved : goal.loop-entry-preserved
 loop-entry-preserved c =

@@ -1,8 +1,8 @@
 -- One part more, or the end.
-use Rattle.std.proofs.Common.{◌≡◌, List, [], ap, map}
+use Rattle.std.proofs.Common.{List, ap, map}
 use Rattle.std.specs.Prelude.{pos, neg_ℤ}
 use Rattle.sdf_tree.specs.declared.words.Divider.TheVariants.{Point}
-use Rattle.sdf_tree.specs.Meant.{Sdf, Cell}
+use Rattle.sdf_tree.specs.Meant.{Cell}
 use Rattle.sdf_tree.specs.Seen.{view_file_part}
 use Rattle.sdf_meaning.specs.MeantSeen.{view_sdf, view_meant_cell}
 use Rattle.sdf_meaning.proofs.MeantFiles.{parts_begin, parts_go_on, parts_end}
@@ -10,7 +10,7 @@ use Rattle.sdf_meaning.proofs.meant_files.sdf_of.Goals as goal
 
 pub loop-part-init : goal.loop-part-init
 loop-part-init c =
-    parts_begin view_file_part _ c.args.file.parts.items _ _
+    parts_begin view_file_part c.into_iter-part-iterator.result c.args.file.parts.items _ _
     (ap (λ (cs : List Cell). record { unit = neg_ℤ (pos 9); divider = Point; cells = cs }) (ap (map view_meant_cell) c.new-cells.ensures.items))
     c.into_iter-part-iterator.ensures.into_iter_gives.0
 

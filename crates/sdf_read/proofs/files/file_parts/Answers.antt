@@ -19,7 +19,7 @@ pub more-smaller : goal.more-smaller
 more-smaller c = parts_advance c.args.limited (map lexeme c.args.tokens.now) view_file_part (state c.more.here) c.more.next _ c.in_ok-part.behind (sym c.more-test.ensures) c.in_ok-part.ensures
 
 pub more-preserved : goal.more-preserved
-more-preserved c = rw (c.in_ok-push.ensures.items, c.state_after.ensures) (parts_go_on c.args.limited (map lexeme c.args.tokens.now) view_file_part _ c.more.parts.items (state c.more.here) c.more.next c.in_ok-part.part c.in_ok-part.behind (sym c.more-test.ensures) c.in_ok-part.ensures c.more.invariant)
+more-preserved c = rw (c.in_ok-push.ensures.items, c.state_after-here.ensures) (parts_go_on c.args.limited (map lexeme c.args.tokens.now) view_file_part _ c.more.parts.items (state c.more.here) c.more.next c.in_ok-part.part c.in_ok-part.behind (sym c.more-test.ensures) c.in_ok-part.ensures c.more.invariant)
 
 pub returns : goal.returns
 returns c = parts_end c.args.limited (map lexeme c.args.tokens.now) view_file_part _ c.more.parts.items (state c.more.here) c.more.next (sym c.more-test.ensures) c.more.invariant
