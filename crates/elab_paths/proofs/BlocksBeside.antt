@@ -1,12 +1,10 @@
 -- A specify block beside an instance of a module.
-use Rattle.std.specs.Prelude.{◌≡◌, ℕ, ◌+◌, ◌<◌, List, [], ◌∷◌, Bool, true, false, not, ◌||◌, Option, Some, None, Result, Ok, Err, IfSome, IfNone, is_some, length, map, filter_map, refl, if◌then◌else◌}
+use Rattle.std.specs.Prelude.{◌≡◌, ℕ, ◌+◌, List, [], ◌∷◌, Bool, true, false, not, ◌||◌, Option, Some, None, is_some, map, filter_map, refl, if◌then◌else◌}
 use Rattle.std.specs.List.{IsAmong, cons_option, enumerate_from, list_any}
 use Rattle.std.proofs.Common.{sym, ◌∙◌, ap, arith, subst}
 use Rattle.sg_text.specs.declared.places.Place.{Place}
-use Rattle.sg_text.specs.declared.refusals.Refused.{Refused}
 use Rattle.sg_text.specs.declared.refusals.Refused.TheVariants as refused
 use Rattle.vl_tree.specs.Tree.{Instance, Item, Module, Source}
-use Rattle.elab_model.specs.declared.kinds.ElabKind.{ElabKind}
 use Rattle.elab_model.specs.declared.kinds.ElabKind.TheVariants.{SpecifyInHierarchy}
 use Rattle.elab_model.specs.Definitions.{module_of}
 use Rattle.elab_model.specs.Faults.{fault, RefusesOneOf}
@@ -16,7 +14,6 @@ use Rattle.elab_model.specs.NameFaults.{block_of}
 use Rattle.specify_model.specs.Faults.{blocks_in_hierarchy}
 use Rattle.elab_names.specs.Words.{first_of}
 use Rattle.elab_tables.specs.Seen.{view_member}
-use Rattle.elab_hierarchy.specs.Tops.{StandsAt}
 use Rattle.elab_tables.specs.declared.member_list.Member as code_member
 use Rattle.elab_paths.specs.OfModules.{is_child}
 
@@ -32,15 +29,6 @@ any-number source k (assignment j) = refl
 any-number source k (supply n v) = refl
 any-number source k (gate g d i) = refl
 any-number source k (instance n d i) = child-numbered (module_of source n.text) k i ∙ sym (child-numbered (module_of source n.text) 0 i)
-
-is-named : (source : Source) (n : List ℕ) (i : Instance) → is_some (child_of (module_of source n) 0 i) ≡ is_some (module_of source n)
-is-named source n i = child-numbered (module_of source n) 0 i
-
--- the code found it by its name
-pub found-some : (source : Source) (n : List ℕ) (i : Instance) (found : Option ℕ) → IfSome found (λ place. (place < length source) × ((m : Module) × (module_of source n ≡ Some m) × StandsAt source place m))
-    → IfNone found (module_of source n ≡ None) → is_some found ≡ is_some (child_of (module_of source n) 0 i)
-found-some source n i None h k = sym (is-named source n i ∙ ap is_some k)
-found-some source n i (Some place) h k = sym (is-named source n i ∙ ap is_some h.1.1)
 
 -- there is one, or the module has no child
 any-child : (source : Source) (a : ℕ) (xs : List Member) → not (is_empty (filter_map (λ i. child_of_member source i.0 i.1) (enumerate_from a xs))) ≡ list_any (is_child source) xs
@@ -72,17 +60,6 @@ places_among items = map (λ b. b.place) (filter_map block_of items)
 
 abbrev pub block_places : Module → List Place
 block_places m = places_among m.items
-
-nothing-first : (ps : List Place) → first_of ps ≡ None → ps ≡ []
-nothing-first [] e = refl
-nothing-first (p ∷ ps) e = cc
-
-pub no-block : (source : Source) (m : Module) (first : Option Place) → first ≡ first_of (block_places m) → first ≡ None → map (fault SpecifyInHierarchy) (blocks_in_hierarchy source m) ≡ []
-no-block source m first is none = by (is_empty (children_in source m)) (nothing-first (block_places m) (sym is ∙ none))
-  where
-    by : (b : Bool) → block_places m ≡ [] → map (fault SpecifyInHierarchy) (if b then [] else block_places m) ≡ []
-    by true e = refl
-    by false e = ap (map (fault SpecifyInHierarchy)) e
 
 pub no-child : (source : Source) (m : Module) → is_empty (children_in source m) ≡ true → map (fault SpecifyInHierarchy) (blocks_in_hierarchy source m) ≡ []
 no-child source m e = ap (λ b. map (fault SpecifyInHierarchy) (if b then [] else block_places m)) e

@@ -1,24 +1,21 @@
 -- The paths of the modules of all instances.
-use Rattle.std.specs.Prelude.{◌≡◌, ℕ, ◌+◌, ◌<◌, ◌≤◌, All, List, [], ◌∷◌, ◌++◌, Option, Some, None, length, map, flat_map, take, slice_get, slice_index_or, refl, ℤ, ◌≤ℤ◌}
+use Rattle.std.specs.Prelude.{◌≡◌, ℕ, ◌<◌, All, List, [], ◌∷◌, ◌++◌, Some, length, map, flat_map, slice_get, slice_index_or, refl, ℤ, ◌≤ℤ◌}
 use Rattle.std.specs.Global.{Vec}
 use Rattle.std.specs.List.{AllByRecursion}
 use Rattle.std.specs.Option.{option_and_then, option_map}
-use Rattle.std.proofs.Common.{sym, ◌∙◌, ap, arith, inl, inr, subst}
+use Rattle.std.proofs.Common.{sym, ◌∙◌, ap, inl, inr, subst}
 use Rattle.std.proofs.lemmas.List.{append-nil}
 use Rattle.std.proofs.lemmas.List.Elements.{All-nil, All-cons, recursion_from_All}
-use Rattle.cond_expr.specs.Condition.{Condition}
 use Rattle.sg_circuit.specs.declared.elements.LegTiming.{LegTiming}
 use Rattle.sg_delay.specs.declared.corners.Corner.{Corner}
 use Rattle.sg_text.specs.declared.refusals.Refused.{Refused}
 use Rattle.vl_tree.specs.Tree.{Module, Source}
-use Rattle.vl_tree.specs.Seen.{view_module}
 use Rattle.elab_model.specs.declared.kinds.ElabKind.{ElabKind}
 use Rattle.elab_model.specs.Delays.{tick_of}
 use Rattle.elab_model.specs.Faults.{Fault, RefusesOneOf}
 use Rattle.elab_model.specs.Hierarchy.{Instance, instances}
 use Rattle.elab_model.specs.HierarchyFaults.{two_definitions}
 use Rattle.elab_model.specs.Names.{variables}
-use Rattle.specify_model.specs.Outputs.{path_outputs}
 use Rattle.elab_circuit.specs.Faults.{module_path_faults, path_faults}
 use Rattle.elab_laws.specs.Handing.{all_bits}
 use Rattle.elab_laws.proofs.Lists.{In, all-in}

@@ -1,28 +1,24 @@
 -- What stands on shelves stays when more comes behind it.
-use Rattle.std.specs.Prelude.{◌≡◌, ℕ, zero, suc, ◌+◌, ◌<◌, ◌≤◌, All, List, [], ◌∷◌, ◌++◌, Option, Some, length, map, replicate, slice_get, slice_index_or, refl}
+use Rattle.std.specs.Prelude.{◌≡◌, ℕ, zero, suc, ◌+◌, ◌<◌, ◌≤◌, All, List, [], ◌∷◌, ◌++◌, Option, length, map, replicate, refl}
 use Rattle.std.specs.Global.{Vec}
-use Rattle.std.specs.Option.{option_map}
 use Rattle.std.proofs.Common.{sym, ◌∙◌, ap, arith, subst, append_assoc, length-append}
-use Rattle.std.proofs.lemmas.List.{append-nil, get_or-map, length-map}
-use Rattle.std.proofs.lemmas.List.Elements.{All-push, All-weaker}
+use Rattle.std.proofs.lemmas.List.{append-nil, length-map}
+use Rattle.std.proofs.lemmas.List.Elements.{All-weaker}
 use Rattle.cond_expr.specs.Condition.{Condition}
-use Rattle.sg_circuit.specs.Timings.{Timing}
-use Rattle.sg_circuit.specs.TimingsSeen.{limit_seen, timings_of, leg_timing_seen, timings_at}
+use Rattle.sg_circuit.specs.TimingsSeen.{limit_seen, timings_of}
 use Rattle.sg_circuit.specs.declared.elements.LegTiming.{LegTiming}
 use Rattle.sg_delay.specs.declared.limits.Limit.{Limit}
 use Rattle.elab_model.specs.Names.{Variable}
 use Rattle.elab_laws.specs.Handing.{all_bits}
-use Rattle.specify_model.specs.Paths.{ModulePath, timings_with}
-use Rattle.specify_values.specs.Seen.{widths_seen}
-use Rattle.specify_paths.specs.Seen.{Said, IsRead, bit_seen, said_at, said_by, outputs_seen, output_seen, path_seen, IsInRow}
+use Rattle.specify_model.specs.Paths.{timings_with}
+use Rattle.specify_paths.specs.Seen.{bit_seen, said_by, outputs_seen, output_seen, path_seen, IsInRow}
 use Rattle.specify_paths.specs.Spelled.{IsSpelled}
 use Rattle.specify_paths.specs.declared.grouping.PathOutput as code_output
 use Rattle.specify_paths.specs.declared.outputs.PathOutputs.{PathOutputs}
 use Rattle.specify_paths.specs.declared.pairs.ModulePath as code_path
-use Rattle.specify_paths.specs.declared.statements.ModuleCondition.TheVariants as code
 use Rattle.specify_paths.specs.declared.statements.Statement.{Statement}
-use Rattle.elab_paths.specs.Ready.{condition_ready, written_condition, path_ready, output_ready, IsWrittenBelow, IsReadyPath, IsReadyOutput}
-use Rattle.elab_paths.specs.Shelving.{ListGrows, AreRead, IsShelvedCondition, said_in, AreWrittenBelow, AreShelved, IsShelvedPath, IsShelvedOutput}
+use Rattle.elab_paths.specs.Ready.{path_ready, output_ready, IsWrittenBelow, IsReadyPath, IsReadyOutput}
+use Rattle.elab_paths.specs.Shelving.{ListGrows, AreRead, IsShelvedCondition, said_in, AreShelved, IsShelvedPath, IsShelvedOutput}
 use Rattle.elab_paths.specs.declared.shelving.ReadyCondition.{ReadyCondition}
 use Rattle.elab_paths.specs.declared.shelving.ReadyCondition.TheVariants as ready
 use Rattle.elab_paths.specs.declared.shelving.ReadyOutput.{ReadyOutput}
@@ -35,9 +31,6 @@ use Rattle.elab_paths.proofs.SideBySide.{Each, all-parted, each-then, each-same,
 pub grows-none : {A : Type 0} (xs : List A) → ListGrows xs xs
 grows-none xs = ([], sym (append-nil xs))
 
-pub grows-one : {A : Type 0} (old new : List A) (x : A) → new ≡ old ++ x ∷ [] → ListGrows old new
-grows-one old new x e = (x ∷ [], e)
-
 pub grows-then : {A : Type 0} (a b c : List A) → ListGrows a b → ListGrows b c → ListGrows a c
 grows-then a b c (xs, e) (ys, f) = (xs ++ ys, f ∙ ap (λ t. t ++ ys) e ∙ append_assoc a xs ys)
 
@@ -48,27 +41,7 @@ grown-front old new more h = ap (λ t. t ++ more) h.1 ∙ append_assoc old h.0 m
 pub grown-longer : {A : Type 0} (old new : List A) → ListGrows old new → length old ≤ length new
 grown-longer old new h = let l : length new ≡ length old + length h.0 = ap length h.1 ∙ length-append old h.0 in omega arith
 
-get-pushed : {A : Type 0} (xs : List A) (y : A) (more : List A) → slice_get ((xs ++ y ∷ []) ++ more) (length xs) ≡ Some y
-get-pushed [] y more = refl
-get-pushed (x ∷ xs) y more = get-pushed xs y more
-
-mapped-pushed : {A B : Type 0} (f : A → B) (xs : List A) (y : A) (more : List A) (d : B) → slice_index_or (map f ((xs ++ y ∷ []) ++ more)) (length xs) d ≡ f y
-mapped-pushed f [] y more d = refl
-mapped-pushed f (x ∷ xs) y more d = mapped-pushed f xs y more d
-
-pushed-below : {A : Type 0} (old new : List A) (x : A) (place : ℕ) → place ≡ length old → new ≡ old ++ x ∷ [] → place < length new
-pushed-below old new x place at is = let l : length new ≡ length old + 1 = ap length is ∙ length-append old (x ∷ []) in omega arith
-
 -- ---- conditions
-
-pub condition-pushed : (old new : List Condition) (e : Condition) (place : ℕ) → place ≡ length old → new ≡ old ++ e ∷ [] → IsShelvedCondition new (code.If e) (ready.If place)
-condition-pushed old new e place at is = record {
-  seen = λ more vs.
-      ap (λ k. written_condition vs (slice_get (new ++ more) k)) at
-      ∙ ap (λ xs. written_condition vs (slice_get (xs ++ more) (length old))) is
-      ∙ ap (written_condition vs) (get-pushed old e more);
-  below = pushed-below old new e place at is;
-}
 
 below-stays : (m n : ℕ) (r : ReadyCondition) → m ≤ n → IsWrittenBelow m r → IsWrittenBelow n r
 below-stays m n ready.Always le h = tt
@@ -77,9 +50,6 @@ below-stays m n (ready.If written) le h = by le h
     by : m ≤ n → written < m → written < n
     by le h = omega arith
 below-stays m n ready.IfNone le h = tt
-
-pub read-pushed : (old new : List Condition) (e : Condition) → new ≡ old ++ e ∷ [] → IsSpelled (code.If e) → AreRead old → AreRead new
-read-pushed old new e is one all = subst AreRead (sym is) (All-push (λ c. IsRead c.tokens c) old e all one)
 
 pub read-more : (start old new : List Condition) (ss : List Statement) (s : Statement) → (IsSpelled s.condition → AreRead old → AreRead new)
     → (All (λ x. IsSpelled x.condition) ss → AreRead start → AreRead old) → All (λ x. IsSpelled x.condition) (ss ++ s ∷ []) → AreRead start → AreRead new
@@ -147,28 +117,6 @@ timings-alike limits l e [] (suc n) h = absurd (omega arith)
 timings-alike limits l e (d ∷ ds) zero h = absurd (omega arith)
 timings-alike limits l e (d ∷ ds) (suc n) h =
     ap (λ x. record { delay = d; limits = x } ∷ timings_of ds (replicate n l)) e ∙ ap (λ ts. record { delay = d; limits = limits } ∷ ts) (timings-alike limits l e ds n (omega arith))
-
-pub path-pushed : (shelved : List Shelved) (p : code_path.ModulePath) (d s : Shelved) (t : LegTiming) (old new : List LegTiming) (timing : ℕ) → p.statement < length shelved
-    → s ≡ slice_index_or shelved p.statement d → leg_timing_seen t ≡ timings_with (option_map widths_seen p.limits) s.delays.at → timing ≡ length old → new ≡ old ++ t ∷ []
-    → IsShelvedPath new shelved p (record { input = p.input; edge = s.edge; condition = s.condition; timing = timing })
-path-pushed shelved p d s t old new timing lt at seen place is = record {
-  path = λ more conditions vs.
-      ap (λ ts. with_timings vs conditions ts) (timings-are more)
-      ∙ ap (λ x. record { input = bit_seen vs p.input; edge = x.edge; condition = x.condition; timings = timings_with (option_map widths_seen p.limits) x.delays }) (sym (said-is conditions vs));
-  input = refl;
-  timing = pushed-below old new t timing place is;
-  condition = λ n all. subst (λ x. IsWrittenBelow n x.condition) (sym at) (all p.statement d lt);
-}
-  where
-    with_timings : List Variable → List Condition → List Timing → ModulePath
-    with_timings vs conditions ts = record { input = bit_seen vs p.input; edge = s.edge; condition = condition_ready conditions vs s.condition; timings = ts }
-
-    timings-are : (more : List LegTiming) → timings_at (new ++ more) timing ≡ timings_with (option_map widths_seen p.limits) s.delays.at
-    timings-are more =
-        ap (timings_at (new ++ more)) place ∙ ap (λ xs. timings_at (xs ++ more) (length old)) is ∙ mapped-pushed (λ x. leg_timing_seen x) old t more [] ∙ seen
-
-    said-is : (conditions : List Condition) (vs : List Variable) → said_at (map (said_in conditions vs) shelved) p.statement ≡ said_in conditions vs s
-    said-is conditions vs = get_or-map (said_in conditions vs) shelved p.statement d _ lt ∙ ap (said_in conditions vs) (sym at)
 
 pub path-stays : (shelved : List Shelved) (old new : List LegTiming) → ListGrows old new → (p : code_path.ModulePath) (r : ReadyPath) → IsShelvedPath old shelved p r → IsShelvedPath new shelved p r
 path-stays shelved old new grows p r h =

@@ -1,6 +1,6 @@
 -- The paths of one module, on shelves.
-use Rattle.std.specs.Prelude.{◌≡◌, ℕ, All, List, [], ◌++◌, Result, length, map, refl, ℤ}
-use Rattle.std.proofs.Common.{sym, ◌∙◌, ap, subst}
+use Rattle.std.specs.Prelude.{◌≡◌, All, List, ◌++◌, length, map, ℤ}
+use Rattle.std.proofs.Common.{◌∙◌, ap, subst}
 use Rattle.cond_expr.specs.Condition.{Condition}
 use Rattle.sg_circuit.specs.declared.elements.LegTiming.{LegTiming}
 use Rattle.sg_delay.specs.declared.corners.Corner.{Corner}
@@ -55,7 +55,3 @@ pub own-refused : (source : Source) (corner : Corner) (tick : ℤ) (n m : Module
     → RefusesOneOf (faults_by (measure corner tick n) vs (specify_items n)) r → RefusesOneOf (module_path_faults source corner tick m) r
 own-refused source corner tick n m vs r e t h =
     refused-right (beside_faults source m) (specify_faults corner tick m) r (subst (λ fs. RefusesOneOf fs r) (faults-same corner tick n m vs e t) h)
-
-pub own-faultless : (source : Source) (corner : Corner) (tick : ℤ) (n m : Module) (vs : List Variable) → n ≡ m → vs ≡ variables m → beside_faults source m ≡ []
-    → faults_by (measure corner tick n) vs (specify_items n) ≡ [] → module_path_faults source corner tick m ≡ []
-own-faultless source corner tick n m vs e t none h = ap (λ fs. fs ++ specify_faults corner tick m) none ∙ (sym (faults-same corner tick n m vs e t) ∙ h)

@@ -1,13 +1,11 @@
 -- The paths of one module more stand ready.
-use Rattle.std.specs.Prelude.{◌≡◌, ℕ, zero, suc, ◌+◌, ◌<◌, ◌≤◌, All, List, [], ◌∷◌, ◌++◌, Bool, true, Option, Some, None, is_some, get_or, length, map, take, slice_get, slice_index_or, replicate, refl, ℤ}
+use Rattle.std.specs.Prelude.{◌≡◌, ℕ, zero, suc, ◌+◌, ◌<◌, ◌≤◌, All, List, [], ◌∷◌, ◌++◌, Bool, true, Option, Some, None, is_some, get_or, length, map, take, slice_get, slice_index_or, replicate, ℤ}
 use Rattle.std.specs.Global.{Vec}
-use Rattle.std.proofs.Common.{sym, ◌∙◌, ap, arith, inl, inr, subst, set, append_assoc, length-append}
+use Rattle.std.proofs.Common.{sym, ◌∙◌, ap, arith, inl, inr, subst, set}
 use Rattle.std.proofs.Math.ListN.{length-set}
 use Rattle.std.proofs.lemmas.List.{append-nil, length-replicate, take_more, take_all}
 use Rattle.std.proofs.lemmas.List.Elements.{All-nil, All-push, All-weaker}
 use Rattle.std.proofs.lemmas.Option.{slice_get-get_or, slice_get_within}
-use Rattle.cond_expr.specs.Condition.{Condition}
-use Rattle.sg_circuit.specs.declared.elements.LegTiming.{LegTiming}
 use Rattle.sg_delay.specs.declared.corners.Corner.{Corner}
 use Rattle.vl_tree.specs.Tree.{Module, Source, a_module}
 use Rattle.elab_model.specs.Names.{variables}

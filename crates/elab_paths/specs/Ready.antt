@@ -1,9 +1,9 @@
 -- The paths of modules made ready for instances, as the definitions see them.
-use Rattle.std.specs.Prelude.{◌≡◌, ℕ, ◌<◌, All, List, [], ◌∷◌, Option, Some, None, length, map, slice_get}
+use Rattle.std.specs.Prelude.{◌≡◌, ℕ, ◌<◌, All, List, [], Option, Some, None, length, map, slice_get}
 use Rattle.std.specs.List.{AllByRecursion}
 use Rattle.std.specs.Option.{option_and_then, option_map}
 use Rattle.cond_expr.specs.Condition.{Condition}
-use Rattle.sg_circuit.specs.TimingsSeen.{leg_timing_seen, timings_at}
+use Rattle.sg_circuit.specs.TimingsSeen.{timings_at}
 use Rattle.sg_circuit.specs.declared.elements.LegTiming.{LegTiming}
 use Rattle.sg_delay.specs.declared.corners.Corner.{Corner}
 use Rattle.vl_tree.specs.Tree.{Module, Source}
