@@ -111,10 +111,10 @@ redirected-seen t first uses us [] (m ∷ mid) legs agree n h = let e : m.scope 
 redirected-seen t first uses us (o ∷ old) [] legs agree n h = let e : [] ≡ o.scope ∷ map (λ e. e.scope) old = h.scopes in cc
 redirected-seen t first uses us (o ∷ old) (m ∷ mid) legs agree n h =
     let own = element-is t first uses us o m legs agree n.0
-        (head-is m.scope o.scope (map (λ e. e.scope) mid) (map (λ e. e.scope) old) h.scopes)
-        (head-is m.inputs.items o.inputs.items (map (λ e. e.inputs.items) mid) (map (λ e. e.inputs.items) old) h.inputs)
-        (head-is m.kind o.kind (map (λ e. e.kind) mid) (map (λ e. e.kind) old) h.kinds)
-        (head-is m.output (new_output first uses o) (map (λ e. e.output) mid) (map (new_output first uses) old) h.outputs) in
+    (head-is m.scope o.scope (map (λ e. e.scope) mid) (map (λ e. e.scope) old) h.scopes)
+    (head-is m.inputs.items o.inputs.items (map (λ e. e.inputs.items) mid) (map (λ e. e.inputs.items) old) h.inputs)
+    (head-is m.kind o.kind (map (λ e. e.kind) mid) (map (λ e. e.kind) old) h.kinds)
+    (head-is m.output (new_output first uses o) (map (λ e. e.output) mid) (map (new_output first uses) old) h.outputs) in
     let rest : AreRedirected first uses old mid = record {
       outputs = tail-is m.output (new_output first uses o) (map (λ e. e.output) mid) (map (new_output first uses) old) h.outputs;
       scopes = tail-is m.scope o.scope (map (λ e. e.scope) mid) (map (λ e. e.scope) old) h.scopes;

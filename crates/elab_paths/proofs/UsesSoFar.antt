@@ -134,8 +134,7 @@ one-more conditions timings all source s scope vs row o old new us here ready h 
       spans = subst (AllByRecursion (P new.paths.items)) (sym k.uses)
           (all-append (P new.paths.items) old.uses.items (k.added ∷ [])
           (subst (λ ps. AllByRecursion (P ps) old.uses.items) (sym k.paths.are)
-          (all-weaker (P old.paths.items) (P (old.paths.items ++ more)) old.uses.items (λ u q. indexed-grown (length conditions) (length timings) old.paths.items more u.paths q) h.spans))
-          (
+          (all-weaker (P old.paths.items) (P (old.paths.items ++ more)) old.uses.items (λ u q. indexed-grown (length conditions) (length timings) old.paths.items more u.paths q) h.spans)) (
             record {
               ordered = (let a = k.start_is in let b = k.end_is in omega (arith, a, b, long));
               within = (let b = k.end_is in omega (arith, b));

@@ -47,10 +47,10 @@ returns-clause-uses c =
     let outputs = c.outputs_at-outputs.result.now in
     on_ok_weaker c.add_all_uses.result
     (λ added. λ source top corner list s us h u.
-        let prepared = prepared-is source top corner c.args.library.now c.args.modules.now list c.args.rows.now c.args.number c.args.placed.now s h q c.module_at-prepared.ensures in
-        let here = here-is source top corner c.args.library.now c.args.modules.now list c.args.rows.now c.args.number c.args.placed.now s h q c.bits.result row prepared c.bits.ensures c.row_of.ensures in
-        instance-uses source top corner c.args.library.now c.args.modules.now list c.args.rows.now c.args.number c.args.placed.now s h q prepared outputs c.outputs_at-outputs.ensures c.deref.result.now row c.args.uses.now
-        c.add_all_uses.new.uses us c.deref.ensures.value here added u)
+    let prepared = prepared-is source top corner c.args.library.now c.args.modules.now list c.args.rows.now c.args.number c.args.placed.now s h q c.module_at-prepared.ensures in
+    let here = here-is source top corner c.args.library.now c.args.modules.now list c.args.rows.now c.args.number c.args.placed.now s h q c.bits.result row prepared c.bits.ensures c.row_of.ensures in
+    instance-uses source top corner c.args.library.now c.args.modules.now list c.args.rows.now c.args.number c.args.placed.now s h q prepared outputs c.outputs_at-outputs.ensures c.deref.result.now row c.args.uses.now
+    c.add_all_uses.new.uses us c.deref.ensures.value here added u)
     c.add_all_uses.ensures.uses
 
 pub returns-clause-refused : goal.returns-clause-refused
@@ -59,7 +59,7 @@ returns-clause-refused c =
     let outputs = c.outputs_at-outputs.result.now in
     if_err-weaker c.add_all_uses.result _ _
     (λ r refused. λ source top corner list s h.
-        let prepared = prepared-is source top corner c.args.library.now c.args.modules.now list c.args.rows.now c.args.number c.args.placed.now s h q c.module_at-prepared.ensures in
-        instance-refused source top corner c.args.library.now c.args.modules.now list c.args.rows.now c.args.number c.args.placed.now s h q prepared outputs c.outputs_at-outputs.ensures c.len.result c.args.elements c.args.uses.now r
-        (omega (arith, c.len.ensures, c.args.rows.now.nets.ok.0)) refused)
+    let prepared = prepared-is source top corner c.args.library.now c.args.modules.now list c.args.rows.now c.args.number c.args.placed.now s h q c.module_at-prepared.ensures in
+    instance-refused source top corner c.args.library.now c.args.modules.now list c.args.rows.now c.args.number c.args.placed.now s h q prepared outputs c.outputs_at-outputs.ensures c.len.result c.args.elements c.args.uses.now r
+    (omega (arith, c.len.ensures, c.args.rows.now.nets.ok.0)) refused)
     c.add_all_uses.ensures.refused

@@ -8,7 +8,7 @@ use Rattle.elab_paths.proofs.joining.uses_of.Goals as goal
 pub add_uses-requires-clause-at : goal.add_uses-requires-clause-at
 add_uses-requires-clause-at c =
     let k = stands c.requires.given.0 c.requires.given.1.0 c.requires.given.1.1.0 c.args.library.now c.args.modules.now c.args.instances.now c.args.rows.now c.loop-number.number c.index-instances-number.result c.loop-number-test.true
-        c.index-instances-number.is c.requires.given.1.1.1 in
+    c.index-instances-number.is c.requires.given.1.1.1 in
     (c.requires.given.0, (c.requires.given.1.0, (c.requires.given.1.1.0, (c.args.instances.now, (k.0, k.1)))))
 
 pub returns-in_err-add_uses-clause-refused : goal.returns-in_err-add_uses-clause-refused
