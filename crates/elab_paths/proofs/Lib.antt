@@ -1,4 +1,11 @@
 -- The modules of this folder, in reading order.
+pub mod SideBySide
+pub mod OnShelves
+pub mod BlocksBeside
+pub mod SoFar
+pub mod OwnPaths
+pub mod OwnModule
+pub mod EachModule
 pub mod Leaves
 pub mod BoundOperands
 pub mod SoundConditions

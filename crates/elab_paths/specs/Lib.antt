@@ -4,5 +4,6 @@ pub mod Ready
 pub mod Joining
 pub mod Redirecting
 pub mod Shelving
+pub mod OfModules
 pub mod Uses
 pub mod Standing

@@ -1,13 +1,26 @@
 // The paths of all modules that a top reaches.
-ghost use Rattle.std.specs.Prelude.{◌≡◌, IfOk, IfErr};
+ghost use Rattle.std.specs.Prelude.{◌≡◌, ◌<◌, ◌≤ℤ◌, ℕ, All, [], None, IfOk, OnOk, IfErr, length, map, filter_map, replicate};
+ghost use Rattle.std.specs.List.{list_any};
+ghost use Rattle.vl_tree.specs.Seen.{view_item};
 ghost use Rattle.vl_tree.specs.Tree.{Module as GhostModule};
+ghost use Rattle.elab_model.specs.declared.kinds.ElabKind.TheVariants as elab_kind;
 ghost use Rattle.elab_model.specs.Delays.{tick_of};
-ghost use Rattle.elab_model.specs.Faults.{RefusesOneOf};
+ghost use Rattle.elab_model.specs.Faults.{RefusesOneOf, fault};
 ghost use Rattle.elab_model.specs.Hierarchy as def;
+ghost use Rattle.elab_model.specs.HierarchyFaults.{two_definitions};
+ghost use Rattle.elab_model.specs.NameFaults.{block_of};
+ghost use Rattle.specify_model.specs.Faults.{blocks_in_hierarchy};
+ghost use Rattle.elab_names.specs.Words.{first_of};
+ghost use Rattle.elab_tables.specs.Seen.{view_member};
 ghost use Rattle.elab_hierarchy.specs.Placing.{ArePlaced};
+ghost use Rattle.elab_hierarchy.specs.Tops.{StandsAt};
+ghost use Rattle.elab_modules.specs.Ready.{IsPrepared};
 ghost use Rattle.elab_modules.specs.Reached.{IsLibrary};
-ghost use Rattle.elab_circuit.specs.Faults.{path_faults};
+ghost use Rattle.elab_modules.specs.Telling.{Tells};
+ghost use Rattle.elab_circuit.specs.Faults.{module_path_faults, path_faults};
 ghost use Rattle.elab_paths.specs.Ready.{HavePaths};
+ghost use Rattle.elab_paths.specs.Shelving.{IsLonger, AreRead};
+ghost use Rattle.elab_paths.specs.OfModules.{is_child, StandsReady, AreOutputsOf, AreReadySoFar, HasOutputs, IsOfPlace};
 
 use crate::shelving::{ReadyOutput, Shelves, shelve};
 use cond_expr::Expr;
@@ -17,12 +30,12 @@ use elab_modules::{Library, Prepared, Ready};
 use elab_tables::Member;
 use sg_circuit::LegTiming;
 use sg_delay::Corner;
-use sg_text::{Place, Refused};
+use sg_text::{NoMemory, Place, Refused};
 use sg_time::Unit;
 use specify_paths::path_outputs;
 use specify_values::Measure;
 use std::alloc::Global;
-use vl_tree::{Item, Module};
+use vl_tree::Item;
 
 /// The paths of the modules that a top reaches, once a module.
 #[derive(Drop)]
@@ -33,31 +46,45 @@ pub struct ModulePaths {
     pub conditions: Vec<Expr>,
 }
 
-fn first_block(definition: &Module) -> Option<Place> {
-    for item in &definition.items {
+// The place of the first specify block among items.
+fn first_block(items: &[Item]) -> Option<Place>
+    ensures { result ≡ first_of (map (λ b. b.place) (filter_map block_of (map view_item items.now))) }
+{
+    let mut rest = items;
+    while let [item, tail @ ..] = rest {
         if let Item::Specify(block) = item {
             return Some(block.place);
         }
+        rest = tail;
     }
     None
 }
 
-fn names_module(definitions: &Definitions, member: &Member) -> bool {
+fn names_module(definitions: &Definitions, member: &Member) -> bool
+    ensures { result ≡ is_child definitions.now (view_member member.now) }
+{
     match member {
         Member::Instance { definition, .. } => definitions.module(definition.text).is_some(),
-        _ => false,
+        Member::Declared { .. } => false,
+        Member::Assignment(_) => false,
+        Member::Supply { .. } => false,
+        Member::Gate { .. } => false,
     }
 }
 
-fn has_child(definitions: &Definitions, members: &[Member]) -> bool {
+fn has_child(definitions: &Definitions, members: &[Member]) -> bool
+    ensures { result ≡ list_any (λ x. is_child definitions.now (view_member x)) members.now }
+{
     members
         .iter()
         .any(|member| names_module(definitions, member))
 }
 
 // Refuses a specify block in a module that has an instance of a module.
-fn check_block(definitions: &Definitions, prepared: &Prepared) -> Result<(), Refused<ElabKind>> {
-    let Some(place) = first_block(prepared.definition) else {
+fn check_block(definitions: &Definitions, prepared: &Prepared) -> Result<(), Refused<ElabKind>>
+    ensures { (m : GhostModule) → IsPrepared prepared.now m → Tells (map (fault elab_kind.SpecifyInHierarchy) (blocks_in_hierarchy definitions.now m)) result }
+{
+    let Some(place) = first_block(&prepared.definition.items) else {
         return Ok(());
     };
     if !has_child(definitions, &prepared.members) {
@@ -76,7 +103,14 @@ fn outputs_of(
     definitions: &Definitions,
     prepared: &Prepared,
     shelves: &mut Shelves,
-) -> Result<Vec<ReadyOutput>, Refused<ElabKind>> {
+) -> Result<Vec<ReadyOutput>, Refused<ElabKind>>
+    requires is { (m : GhostModule) × IsPrepared prepared.now m }
+    requires fits { tick.power ≤ℤ prepared.now.definition.now.mark.scale.precision.power }
+    ensures longer { OnOk result (IsLonger shelves.old shelves.new) }
+    ensures read { OnOk result (AreRead shelves.old.conditions.items → AreRead shelves.new.conditions.items) }
+    ensures outputs { IfOk result (λ list. (m : GhostModule) → IsPrepared prepared.now m → AreOutputsOf corner tick.power m shelves.new list.items) }
+    ensures told { (m : GhostModule) → IsPrepared prepared.now m → Tells (module_path_faults definitions.now corner tick.power m) result }
+{
     check_block(definitions, prepared)?;
     let by = Measure {
         corner,
@@ -97,15 +131,76 @@ fn add_module(
     place: usize,
     outputs: &mut [Option<Vec<ReadyOutput>>],
     shelves: &mut Shelves,
-) -> Result<(), Refused<ElabKind>> {
+) -> Result<(), Refused<ElabKind>>
+    requires within { place < length definitions.now }
+    requires stands { StandsReady definitions.now tick.power library.now.parts.items place }
+    requires ready { AreReadySoFar definitions.now corner tick.power outputs.old shelves.old }
+    ensures ready { OnOk result (AreReadySoFar definitions.now corner tick.power outputs.new shelves.new) }
+    ensures there { OnOk result (HasOutputs outputs.new place) }
+    ensures stays { OnOk result ((i : ℕ) → HasOutputs outputs.old i → HasOutputs outputs.new i) }
+    ensures longer { OnOk result (IsLonger shelves.old shelves.new) }
+    ensures read { OnOk result (AreRead shelves.old.conditions.items → AreRead shelves.new.conditions.items) }
+    ensures refused { IfErr result (λ r. (m : GhostModule) → StandsAt definitions.now place m → RefusesOneOf (module_path_faults definitions.now corner tick.power m) r) }
+{
     if outputs[place].is_some() {
         return Ok(());
     }
-    let Some(Ready::Module(prepared)) = &library.parts[place] else {
-        return Ok(());
+    let prepared = match &library.parts[place] {
+        Some(Ready::Module(prepared)) => prepared,
+        Some(Ready::Primitive(_)) => return Ok(()),
+        None => return Ok(()),
     };
     outputs[place] = Some(outputs_of(alloc, corner, tick, definitions, prepared, shelves)?);
     Ok(())
+}
+
+fn add_modules(
+    alloc: Global,
+    corner: Corner,
+    tick: Unit,
+    definitions: &Definitions,
+    library: &Library,
+    instances: &[Placed],
+    outputs: &mut [Option<Vec<ReadyOutput>>],
+    shelves: &mut Shelves,
+) -> Result<(), Refused<ElabKind>>
+    requires within { All (λ p. p.definition < length definitions.now) instances.now }
+    requires stand { All (λ p. StandsReady definitions.now tick.power library.now.parts.items p.definition) instances.now }
+    requires ready { AreReadySoFar definitions.now corner tick.power outputs.old shelves.old }
+    ensures ready { OnOk result (AreReadySoFar definitions.now corner tick.power outputs.new shelves.new) }
+    ensures there { OnOk result (All (λ p. HasOutputs outputs.new p.definition) instances.now) }
+    ensures longer { OnOk result (IsLonger shelves.old shelves.new) }
+    ensures read { OnOk result (AreRead shelves.old.conditions.items → AreRead shelves.new.conditions.items) }
+    ensures refused { IfErr result (IsOfPlace definitions.now corner tick.power (map (λ p. p.definition) instances.now)) }
+{
+    for placed in instances {
+        add_module(
+            alloc,
+            corner,
+            tick,
+            definitions,
+            library,
+            placed.definition,
+            outputs,
+            shelves,
+        )?;
+    }
+    Ok(())
+}
+
+// At the place of each definition nothing stands ready yet.
+fn no_outputs(
+    alloc: Global,
+    definitions: &Definitions,
+) -> Result<Vec<Option<Vec<ReadyOutput>>>, NoMemory>
+    ensures nothing { IfOk result (λ outputs. outputs.items ≡ replicate (length definitions.now) None) }
+    ensures once { OnOk result (two_definitions definitions.now ≡ []) }
+{
+    let mut outputs = Vec::new(alloc);
+    for _ in 0..definitions.len() {
+        outputs.push(None)?;
+    }
+    Ok(outputs)
 }
 
 /// The paths of the modules of these instances, which stand ready, in ticks of a corner (IEEE 1364-2005, clause 14). Refuses a specify block beside an instance of a module
@@ -131,22 +226,17 @@ pub fn module_paths(
         conditions: Vec::new(alloc),
     };
     shelves.timings.push(legs)?;
-    let mut outputs = Vec::new(alloc);
-    for _ in 0..library.parts.len() {
-        outputs.push(None)?;
-    }
-    for placed in instances {
-        add_module(
-            alloc,
-            corner,
-            tick,
-            definitions,
-            library,
-            placed.definition,
-            &mut outputs,
-            &mut shelves,
-        )?;
-    }
+    let mut outputs = no_outputs(alloc, definitions)?;
+    add_modules(
+        alloc,
+        corner,
+        tick,
+        definitions,
+        library,
+        instances,
+        &mut outputs,
+        &mut shelves,
+    )?;
     Ok(ModulePaths {
         outputs,
         timings: shelves.timings,

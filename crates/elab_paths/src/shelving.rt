@@ -1,12 +1,17 @@
 // The paths of a module, with their conditions and timings in tables.
 ghost use Rattle.std.specs.Prelude.{◌≡◌, ◌<◌, ◌++◌, All, List, IfOk, OnOk, length, map};
+ghost use Rattle.std.specs.Option.{option_map};
 ghost use Rattle.cond_expr.specs.Condition.{Condition};
 ghost use Rattle.sg_circuit.specs.declared.elements.LegTiming.{LegTiming as Timings};
+ghost use Rattle.sg_circuit.specs.TimingsSeen.{limit_seen, leg_timing_seen};
 ghost use Rattle.elab_model.specs.Names.{Variable};
 ghost use Rattle.elab_laws.specs.Handing.{all_bits};
+ghost use Rattle.specify_model.specs.Paths.{timings_with};
+ghost use Rattle.specify_values.specs.Seen.{widths_seen};
 ghost use Rattle.specify_paths.specs.Seen.{outputs_seen, IsInRow};
+ghost use Rattle.specify_paths.specs.Spelled.{IsSpelled};
 ghost use Rattle.elab_paths.specs.Ready.{output_ready, IsReadyOutput};
-ghost use Rattle.elab_paths.specs.Shelving.{IsLonger};
+ghost use Rattle.elab_paths.specs.Shelving.{IsLonger, ListGrows, AreRead, IsShelvedCondition, AreShelved, IsShelvedPath, IsShelvedOutput};
 
 use cond_expr::Expr;
 use sg_circuit::LegTiming;
@@ -62,7 +67,11 @@ struct Shelved {
 fn shelve_condition(
     condition: ModuleCondition,
     conditions: &mut Vec<Expr>,
-) -> Result<ReadyCondition, NoMemory> {
+) -> Result<ReadyCondition, NoMemory>
+    ensures kept { OnOk result (ListGrows conditions.old.items conditions.new.items) }
+    ensures condition { IfOk result (IsShelvedCondition conditions.new.items condition) }
+    ensures read { OnOk result (IsSpelled condition → AreRead conditions.old.items → AreRead conditions.new.items) }
+{
     match condition {
         ModuleCondition::Always => Ok(ReadyCondition::Always),
         ModuleCondition::If(expression) => {
@@ -78,7 +87,11 @@ fn shelve_statements(
     alloc: Global,
     statements: Vec<Statement>,
     conditions: &mut Vec<Expr>,
-) -> Result<Vec<Shelved>, NoMemory> {
+) -> Result<Vec<Shelved>, NoMemory>
+    ensures kept { OnOk result (ListGrows conditions.old.items conditions.new.items) }
+    ensures statements { IfOk result (λ list. AreShelved conditions.new.items statements.items list.items) }
+    ensures read { OnOk result (All (λ s. IsSpelled s.condition) statements.items → AreRead conditions.old.items → AreRead conditions.new.items) }
+{
     let mut shelved = Vec::new(alloc);
     for statement in statements {
         let condition = shelve_condition(statement.condition, conditions)?;
@@ -91,10 +104,24 @@ fn shelve_statements(
     Ok(shelved)
 }
 
-fn limit_of(limits: Option<Widths>) -> Limit {
+fn limit_of(limits: Option<Widths>) -> Limit
+    ensures { limit_seen result ≡ option_map widths_seen limits }
+{
     match limits {
         Some(widths) => Limit::Own(widths),
         None => Limit::Follow,
+    }
+}
+
+// All transitions have the limits that a text gives.
+fn timing_of(delays: &[u64; 12], limits: Option<Widths>) -> LegTiming
+    ensures { leg_timing_seen result ≡ timings_with (option_map widths_seen limits) delays.now }
+{
+    LegTiming {
+        delays: Delays12 { at: *delays },
+        limits: Limits12 {
+            at: [limit_of(limits); 12],
+        },
     }
 }
 
@@ -102,15 +129,14 @@ fn shelve_path(
     statements: &[Shelved],
     path: &ModulePath,
     timings: &mut Vec<LegTiming>,
-) -> Result<ReadyPath, NoMemory> {
+) -> Result<ReadyPath, NoMemory>
+    requires within { path.now.statement < length statements.now }
+    ensures kept { OnOk result (ListGrows timings.old.items timings.new.items) }
+    ensures path { IfOk result (IsShelvedPath timings.new.items statements.now path.now) }
+{
     let statement = statements[path.statement];
     let timing = timings.len();
-    timings.push(LegTiming {
-        delays: statement.delays,
-        limits: Limits12 {
-            at: [limit_of(path.limits); 12],
-        },
-    })?;
+    timings.push(timing_of(&statement.delays.at, path.limits))?;
     Ok(ReadyPath {
         input: path.input,
         edge: statement.edge,
@@ -124,7 +150,11 @@ fn shelve_output(
     statements: &[Shelved],
     output: &PathOutput,
     timings: &mut Vec<LegTiming>,
-) -> Result<ReadyOutput, NoMemory> {
+) -> Result<ReadyOutput, NoMemory>
+    requires within { All (λ p. p.statement < length statements.now) output.now.paths.items }
+    ensures kept { OnOk result (ListGrows timings.old.items timings.new.items) }
+    ensures output { IfOk result (IsShelvedOutput timings.new.items statements.now output.now) }
+{
     let mut paths = Vec::new(alloc);
     for path in &output.paths {
         paths.push(shelve_path(statements, path, timings)?)?;
@@ -147,8 +177,9 @@ pub fn shelve(
     ensures kept { OnOk result (IsLonger shelves.old shelves.new) }
     ensures outputs { IfOk result (λ list. (vs : List Variable) (timings : List Timings) (conditions : List Condition)
         → map (output_ready (shelves.new.timings.items ++ timings) (shelves.new.conditions.items ++ conditions) vs) list.items ≡ outputs_seen vs paths) }
-    ensures named { IfOk result (λ list. (vs : List Variable) → All (IsInRow vs) paths.outputs.items
+    ensures named { IfOk result (λ list. (vs : List Variable) → All (IsInRow vs (length paths.statements.items)) paths.outputs.items
         → All (IsReadyOutput (length (all_bits vs)) (length shelves.new.timings.items) (length shelves.new.conditions.items)) list.items) }
+    ensures read { OnOk result (All (λ s. IsSpelled s.condition) paths.statements.items → AreRead shelves.old.conditions.items → AreRead shelves.new.conditions.items) }
 {
     let statements = shelve_statements(alloc, paths.statements, &mut shelves.conditions)?;
     let mut outputs = Vec::new(alloc);

@@ -8,6 +8,7 @@ ghost use Rattle.specify_model.specs.Outputs.{outputs_by};
 ghost use Rattle.specify_values.specs.Seen.{measured};
 ghost use Rattle.specify_values.specs.Telling.{Tells};
 ghost use Rattle.specify_paths.specs.Seen.{IsInRow, outputs_seen};
+ghost use Rattle.specify_paths.specs.Spelled.{IsSpelled};
 
 use crate::ends::ends_of;
 use crate::grouping::{PathOutput, group};
@@ -39,6 +40,7 @@ pub fn path_outputs(
     requires { table.now ≡ variables (view_module definition.now) }
     ensures outputs { IfOk result (λ p. outputs_seen table.now p ≡ outputs_by (measured by) table.now (specify_items (view_module definition.now))) }
     ensures row { IfOk result (λ p. All (IsInRow table.now (length p.statements.items)) p.outputs.items) }
+    ensures spelled { IfOk result (λ p. All (λ s. IsSpelled s.condition) p.statements.items) }
     ensures told { Tells (faults_by (measured by) table.now (specify_items (view_module definition.now))) result }
 {
     let items = block_items(alloc, definition)?;

@@ -10,6 +10,7 @@ ghost use Rattle.specify_model.specs.Paths.{edge_of as edge_of_word};
 ghost use Rattle.specify_values.specs.Seen.{measured, values_of};
 ghost use Rattle.specify_values.specs.Telling.{Tells};
 ghost use Rattle.specify_paths.specs.Seen.{condition_seen, said_by, said_of};
+ghost use Rattle.specify_paths.specs.Spelled.{IsSpelled};
 
 use crate::conditions::{check_names, condition_of};
 use cond_expr::Expr;
@@ -82,6 +83,7 @@ fn own_condition(
     condition: &PathCondition,
 ) -> Result<ModuleCondition, Refused<ElabKind>>
     ensures condition { IfOk result (λ c. condition_seen table.now c ≡ def.condition_of table.now (view_path_condition condition.now)) }
+    ensures spelled { IfOk result IsSpelled }
     ensures told { Tells (flat_map (faults.condition_faults table.now place) (faults.own_condition (view_path_condition condition.now))) result }
 {
     match condition {
@@ -112,6 +114,7 @@ pub fn statement_of(
     path: &SpecifyPath,
 ) -> Result<Statement, Refused<ElabKind>>
     ensures said { IfOk result (λ s. said_by table.now s ≡ said_of (measured by) table.now (values_of parameters.now) (view_path path.now)) }
+    ensures spelled { IfOk result (λ s. IsSpelled s.condition) }
     ensures told { Tells (flat_map (faults.condition_faults table.now path.now.place) (faults.own_condition (view_path path.now).condition) ++ (faults.source_faults table.now (view_path path.now).destination.source
         ++ faults.list_faults (measured by) (values_of parameters.now) path.now.place (view_path path.now).delays)) result }
 {
