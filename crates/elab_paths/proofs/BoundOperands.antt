@@ -15,7 +15,6 @@ use Rattle.cond_expr.specs.declared.binding.BindFault.TheVariants.{Unknown}
 use Rattle.cond_expr.specs.Condition.{Condition}
 use Rattle.cond_expr.specs.Token.{Tok}
 use Rattle.cond_expr.specs.Tree.{Cond, leaf, constant, unary, binary}
-use Rattle.cond_expr.specs.declared.tokens.Tok.TheVariants.{Name}
 use Rattle.cond_expr.proofs.BindingLaws.{bound_is_known, bound_is_one}
 use Rattle.sg_circuit.specs.Closed.{width_of}
 use Rattle.sg_circuit.specs.Paths as circuit

@@ -1,10 +1,9 @@
 -- What stands ready of an instance, and its path uses.
-use Rattle.std.specs.Prelude.{◌≡◌, ℕ, suc, zero, ◌+◌, ◌<◌, ◌≤◌, All, List, [], ◌∷◌, ◌++◌, Option, Some, None, drop, flat_map, length, map, slice_get, slice_index_or, take, refl}
+use Rattle.std.specs.Prelude.{◌≡◌, ℕ, suc, zero, ◌+◌, ◌<◌, ◌≤◌, All, List, [], ◌∷◌, ◌++◌, Option, Some, drop, flat_map, length, map, slice_get, slice_index_or, take, refl}
 use Rattle.std.proofs.Common.{sym, ◌∙◌, ap, arith, subst, length-append}
 use Rattle.std.proofs.lemmas.Grind.{flat_map-append}
 use Rattle.std.proofs.lemmas.List.{length-map, take-append-drop, take_more}
 use Rattle.std.proofs.lemmas.Option.{get_or_from_slice_get, slice_get_within}
-use Rattle.sg_circuit.specs.declared.elements.LegTiming.{LegTiming}
 use Rattle.sg_delay.specs.declared.corners.Corner.{Corner}
 use Rattle.vl_tree.specs.Tree.{Module, Source}
 use Rattle.elab_model.specs.Delays.{tick_of}
@@ -14,7 +13,6 @@ use Rattle.elab_model.specs.Names.{variables}
 use Rattle.elab_model.specs.Nets.{OwnNet, nets}
 use Rattle.elab_model.specs.declared.kinds.ElabKind.TheVariants.{SpecifyInHierarchy}
 use Rattle.specify_model.specs.Faults.{blocks_in_hierarchy, specify_faults}
-use Rattle.specify_model.specs.Outputs.{path_outputs}
 use Rattle.elab_circuit.specs.Faults.{module_path_faults}
 use Rattle.elab_circuit.specs.PathUses as def
 use Rattle.elab_laws.specs.Handing.{all_bits, number_at}

@@ -1,4 +1,4 @@
--- The modules of this folder.
+-- The modules of this folder, in reading order.
 pub mod SideBySide
 pub mod OnShelves
 pub mod BlocksBeside
@@ -6,3 +6,15 @@ pub mod SoFar
 pub mod OwnPaths
 pub mod OwnModule
 pub mod EachModule
+pub mod Leaves
+pub mod BoundOperands
+pub mod SoundConditions
+pub mod AddedPaths
+pub mod Counts
+pub mod Redirected
+pub mod UsesSoFar
+pub mod InstanceUses
+pub mod OneByOne
+pub mod InstanceTurn
+pub mod JoinedElements
+pub mod WholeCircuit

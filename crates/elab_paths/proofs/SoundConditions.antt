@@ -1,5 +1,5 @@
 -- The conditions of a module's paths have sound operands where its blocks have no fault.
-use Rattle.std.specs.Prelude.{◌≡◌, ℕ, zero, suc, ℤ, ◌+◌, ◌<◌, All, List, [], ◌∷◌, ◌++◌, Bool, true, false, cond, Option, Some, None, filter, flat_map, is_err, length, map, slice_get, slice_index_or, refl}
+use Rattle.std.specs.Prelude.{◌≡◌, ℕ, zero, suc, ℤ, ◌+◌, All, List, [], ◌∷◌, ◌++◌, Bool, true, false, cond, Option, Some, filter, flat_map, is_err, length, map, slice_get, slice_index_or, refl}
 use Rattle.std.specs.List.{AllByRecursion}
 use Rattle.std.proofs.Common.{sym, ◌∙◌, ap, arith, subst}
 use Rattle.std.proofs.lemmas.Grind.{flat_map-append}
@@ -22,7 +22,7 @@ use Rattle.specify_model.specs.Blocks.{specify_items, parameters, pulses, specif
 use Rattle.specify_model.specs.Conditions.{ModuleCondition, Always, If, IfNone, condition_of, next_token, operand, operand_of, operands, tokens, tree_of}
 use Rattle.specify_model.specs.Faults.{parameter_faults, pulse_faults, end_faults, side_faults, first_place, operand_faults, condition_faults, own_condition, source_faults, list_faults, path_faults, style_faults, specify_faults}
 use Rattle.specify_model.specs.Outputs.{PathOutput, first_paths, paths_to, output_of, measure, path_outputs}
-use Rattle.specify_model.specs.Paths.{ModulePath, PathTo, path_between, paths_of, module_paths}
+use Rattle.specify_model.specs.Paths.{PathTo, path_between, paths_of, module_paths}
 use Rattle.specify_model.specs.PulseLimits.{Limits, limits_of}
 use Rattle.specify_model.specs.Terms.{NetBit, is_same_bit, path_pairs}
 use Rattle.specify_model.specs.Values.{Measure, Values, value_of}
@@ -31,7 +31,7 @@ use Rattle.elab_laws.proofs.Lists.{all-anyway, all-flat_in, all-map, all-map_bac
 use Rattle.elab_laws.proofs.NoFaults.{front, back, flat-empty}
 use Rattle.specify_paths.specs.Seen.{IsRead}
 use Rattle.elab_paths.specs.Ready.{path_ready, output_ready, condition_ready, written_condition, IsWrittenBelow, IsReadyPath, IsReadyOutput, IsReadyOf}
-use Rattle.elab_paths.specs.Uses.{AreSound, IsSound, IsBindable, IsUsablePath, IsUsable}
+use Rattle.elab_paths.specs.Uses.{AreSound, IsBindable, IsUsablePath, IsUsable}
 use Rattle.elab_paths.specs.declared.modules.ModulePaths.{ModulePaths}
 use Rattle.elab_paths.specs.declared.shelving.ReadyCondition.{ReadyCondition}
 use Rattle.elab_paths.specs.declared.shelving.ReadyCondition.TheVariants as ready

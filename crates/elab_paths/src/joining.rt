@@ -1,5 +1,5 @@
 // The paths of all instances, put in behind the other nets and elements.
-ghost use Rattle.std.specs.Prelude.{◌≡◌, ◌<◌, ◌≤◌, ◌+◌, ◌++◌, ◌∷◌, ◌^◌, [], ℕ, List, All, Some, IfOk, OnOk, IfErr, length, map, flat_map, slice_get};
+ghost use Rattle.std.specs.Prelude.{◌≡◌, ◌<◌, ◌≤◌, ◌+◌, ◌++◌, ◌^◌, ℕ, List, All, Some, IfOk, OnOk, IfErr, length, map, flat_map, slice_get};
 ghost use Rattle.std.specs.List.{enumerate_from};
 ghost use Rattle.sg_circuit.specs.declared.elements.LegTiming.{LegTiming};
 ghost use Rattle.sg_delay.specs.declared.corners.Corner as ghost_corner;
