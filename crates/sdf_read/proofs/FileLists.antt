@@ -1,5 +1,5 @@
 -- Reading the parts of a file, as a loop does that keeps them.
-use Rattle.std.proofs.Common.{◌≡◌, ℕ, ◌-◌, ◌<◌, Bool, true, false, List, [], ◌∷◌, ◌++◌, length, map, Result, Ok, Err, refl}
+use Rattle.std.proofs.Common.{◌≡◌, ℕ, ◌-◌, ◌<◌, Bool, true, false, List, [], ◌∷◌, ◌++◌, length, map, Result, Ok, refl}
 use Rattle.grammar.specs.Reading.{Fails}
 use Rattle.grammar.specs.Rule.{stands}
 use Rattle.grammar.specs.declared.ReadFault.{ReadFault}

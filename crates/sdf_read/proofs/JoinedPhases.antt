@@ -1,6 +1,6 @@
 -- What each phase answers, joined.
 use Rattle.std.proofs.Common.{◌≡◌, ◌∙◌, ℕ, true, List, length, map, Option, Result, Ok, Err, sym, ap, subst}
-use Rattle.std.specs.Prelude.{IfErr, IfOk, OnOk, slice_get}
+use Rattle.std.specs.Prelude.{IfErr, IfOk, OnOk}
 use Rattle.std.proofs.lemmas.Result.{IfErr-weaker, IfOk-weaker}
 use Rattle.std.specs.List.{flat_map}
 use Rattle.sg_text.specs.declared.places.Place.{Place}
@@ -24,7 +24,7 @@ use Rattle.sdf_meaning.specs.FirstFaults.{bad_number, crossing}
 use Rattle.sdf_meaning.specs.MeantSeen.{view_sdf}
 use Rattle.sdf_read.specs.Outcomes.{Fault, refused, meaning_unless, meaning_of, Outcome, is_deep, is_refused, is_spelled}
 use Rattle.sdf_read.specs.Phases.{AreRead, AreSpelled, BytesStand, DepthStands, Refuses}
-use Rattle.sdf_read.specs.Reading.{RefusalStands, fault_place}
+use Rattle.sdf_read.specs.Reading.{RefusalStands}
 use Rattle.sdf_read.specs.Reads.{Reads, has_fault, has_tokens, Stands, Tells, end_of}
 use Rattle.sdf_read.proofs.OneOutcome.{reads_once}
 

@@ -1,5 +1,5 @@
 -- A file has one outcome at most.
-use Rattle.std.proofs.Common.{◌≡◌, ◌∙◌, ℕ, ◌+◌, ◌<◌, ◌^◌, Bool, true, false, List, [], length, Option, Result, Ok, Err, refl, sym, ap, subst, inl, inr}
+use Rattle.std.proofs.Common.{◌≡◌, ◌∙◌, ℕ, ◌^◌, Bool, true, false, List, [], length, Result, Ok, Err, sym, ap, subst, inl, inr}
 use Rattle.std.specs.Prelude.{nat_lt, slice_get}
 use Rattle.std.proofs.lemmas.Bool.{cases_order}
 use Rattle.grammar.specs.Reads.{FailsAt}
@@ -16,7 +16,7 @@ use Rattle.sdf_tree.specs.Written.{FilePart}
 use Rattle.sdf_tree.proofs.FilesExact.{file-exact}
 use Rattle.sdf_read.specs.declared.faults.SdfKind.{SdfKind}
 use Rattle.sdf_read.specs.declared.faults.SdfKind.TheVariants.{TooDeep}
-use Rattle.sdf_read.specs.Depth.{IsTooDeep, NoneTooDeep}
+use Rattle.sdf_read.specs.Depth.{IsTooDeep}
 use Rattle.sdf_read.specs.Outcomes.{Fault, refused, meaning_of, Outcome, is_deep, is_refused, is_spelled}
 use Rattle.sdf_read.specs.Reading.{KindStands, fault_place}
 use Rattle.sdf_read.specs.Reads.{Reads, has_fault, has_tokens, kind_of_bytes, end_of}

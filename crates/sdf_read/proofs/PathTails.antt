@@ -1,5 +1,5 @@
 -- Reading the parts of the list of an IOPATH, as a loop does that keeps those of RETAIN apart from the others.
-use Rattle.std.proofs.Common.{◌≡◌, ℕ, zero, suc, ◌+◌, ◌-◌, ◌<◌, Bool, true, false, List, [], ◌∷◌, ◌++◌, length, map, Option, Some, None, Result, Ok, Err, refl, sym, ap, subst, ◌∙◌, arith, append_assoc}
+use Rattle.std.proofs.Common.{◌≡◌, ℕ, ◌-◌, ◌<◌, Bool, true, false, List, [], ◌∷◌, ◌++◌, length, Option, Some, None, Result, Ok, Err, refl, sym, ap, subst, ◌∙◌, arith, append_assoc}
 use Rattle.std.specs.Prelude.{slice_get}
 use Rattle.std.proofs.lemmas.List.{append-nil, length-append, map-id}
 use Rattle.grammar.specs.Reading.{◌>>=◌, Fails}
@@ -8,13 +8,12 @@ use Rattle.grammar.specs.declared.ReadFault.{ReadFault}
 use Rattle.grammar.specs.declared.ReadFault.TheVariants as faults
 use Rattle.grammar.proofs.LoopsBy.{rest_of_by, by_begins, by_goes_on, by_fails, by_ends, by_refused, by_advances}
 use Rattle.sdf_lex.specs.Tokens.{Lexeme}
-use Rattle.sdf_tree.specs.Entries.{TailPart, a_retain, a_delay, retains_of, delays_of, count_after, tail_part, tail_parts, tail, tail_rest_parts}
+use Rattle.sdf_tree.specs.Entries.{TailPart, a_retain, a_delay, retains_of, delays_of, count_after, tail_part, tail_parts}
 use Rattle.sdf_tree.specs.Kinds.{kind_of, is_left}
-use Rattle.sdf_tree.specs.Rules.{Grammar}
 use Rattle.sdf_tree.specs.Values.{may_come, may_end}
 use Rattle.sdf_tree.specs.Written.{Delay}
 use Rattle.sdf_tree.proofs.EntriesExact.{tail_part-exact, tail_part-full}
-use Rattle.sdf_read.specs.Tails.{with_part, tail_part_there, IsPartAdded}
+use Rattle.sdf_read.specs.Tails.{with_part, tail_part_there}
 
 abbrev pub Lists : Type 0
 Lists = List Delay × List Delay

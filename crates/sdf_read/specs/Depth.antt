@@ -1,5 +1,5 @@
 -- How deep parentheses stand within one another, over all tokens of a file.
-use Rattle.std.specs.Prelude.{◌≡◌, ℕ, suc, ◌-◌, ◌+◌, ◌<◌, List, [], ◌∷◌, take, Option, Some, slice_get}
+use Rattle.std.specs.Prelude.{◌≡◌, ℕ, suc, ◌-◌, ◌+◌, ◌<◌, List, [], ◌∷◌, take, Some, slice_get}
 use Rattle.sdf_lex.specs.Tokens.{Meaning, Lexeme, left_token, right_token}
 
 -- how many are open behind a token; one that closes nothing counts for nothing

@@ -1,5 +1,5 @@
 -- One more token, the first that is too deep, or the end.
-use Rattle.std.proofs.Common.{map, ap, refl, ◌∙◌}
+use Rattle.std.proofs.Common.{map, ap, ◌∙◌}
 use Rattle.std.specs.Option.{option_map}
 use Rattle.cond_expr.proofs.WordReading.{none_if_not_some}
 use Rattle.sdf_lex.specs.Seen.{lexeme}

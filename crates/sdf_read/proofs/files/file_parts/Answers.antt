@@ -1,5 +1,5 @@
 -- One more part, or the end.
-use Rattle.std.proofs.Common.{map, refl, sym, true}
+use Rattle.std.proofs.Common.{map, sym}
 use Rattle.std.proofs.lemmas.Result.{err_from_is_err_and}
 use Rattle.sdf_lex.specs.Seen.{lexeme}
 use Rattle.sdf_tree.specs.Seen.{view_file_part}

@@ -1,5 +1,5 @@
 -- One more part, or the end.
-use Rattle.std.proofs.Common.{◌≡◌, length, map, sym, ◌∙◌, arith}
+use Rattle.std.proofs.Common.{length, map, sym, ◌∙◌, arith}
 use Rattle.std.proofs.lemmas.List.{length-map}
 use Rattle.std.proofs.lemmas.Result.{err_from_is_err_and}
 use Rattle.sdf_lex.specs.Seen.{lexeme}
