@@ -129,6 +129,8 @@ fn tail<'a>(
     if !may_end(limited, tail.delays.len()) {
         return Err(ReadFault::At(next));
     }
+    tail.retains.shrink_to_fit();
+    tail.delays.shrink_to_fit();
     Ok((tail, next))
 }
 

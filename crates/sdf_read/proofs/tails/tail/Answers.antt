@@ -26,4 +26,4 @@ pub returns-then-not-may_end : goal.returns-then-not-may_end
 returns-then-not-may_end c = parts_refused c.args.limited (map lexeme c.args.tokens.now) _ (view_tail c.more.tail) c.more.next c.len.result (omega (arith, c.len.ensures, c.more.tail.delays.ok.0, length-map c.more.tail.delays.items view_delay)) c.more.invariant c.len-2.result (omega (arith, c.len-2.ensures, c.more.tail.delays.ok.0, length-map c.more.tail.delays.items view_delay)) (sym c.part_comes.ensures ∙ c.more-test.false) (sym c.may_end.ensures ∙ c.if-not-may_end.true)
 
 pub returns : goal.returns
-returns c = parts_end c.args.limited (map lexeme c.args.tokens.now) _ (view_tail c.more.tail) c.more.next c.len.result (omega (arith, c.len.ensures, c.more.tail.delays.ok.0, length-map c.more.tail.delays.items view_delay)) c.more.invariant c.len-2.result (omega (arith, c.len-2.ensures, c.more.tail.delays.ok.0, length-map c.more.tail.delays.items view_delay)) (sym c.part_comes.ensures ∙ c.more-test.false) (sym c.may_end.ensures ∙ c.if-not-may_end.false)
+returns c = rw (c.shrink_to_fit.ensures.items, c.shrink_to_fit-2.ensures.items) (parts_end c.args.limited (map lexeme c.args.tokens.now) _ (view_tail c.more.tail) c.more.next c.len.result (omega (arith, c.len.ensures, c.more.tail.delays.ok.0, length-map c.more.tail.delays.items view_delay)) c.more.invariant c.len-2.result (omega (arith, c.len-2.ensures, c.more.tail.delays.ok.0, length-map c.more.tail.delays.items view_delay)) (sym c.part_comes.ensures ∙ c.more-test.false) (sym c.may_end.ensures ∙ c.if-not-may_end.false))
