@@ -1,4 +1,5 @@
 // Circuits as lines: the tick as a power of ten of a second, nets, elements and scopes by their numbers.
+use anyhow::Context;
 use sg_circuit::{
     Circuit, Driver, Element, ElementKind, Net, Parts, Path, PathCondition, Scope, Variable,
 };
@@ -80,7 +81,8 @@ fn show_element(parts: &Parts, element: &Element, out: &mut String) -> anyhow::R
     let scope = element.scope;
     writeln!(out, " -> {output} in {scope}")?;
     if let ElementKind::Path { paths, .. } = element.kind {
-        for path in parts.paths_in(paths) {
+        let span = paths.start as usize..paths.end as usize;
+        for path in parts.paths.get(span).context("no such paths")? {
             show_path(parts, path, out)?;
         }
     }
