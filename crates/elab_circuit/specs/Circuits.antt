@@ -15,6 +15,7 @@ use Rattle.elab_model.specs.Homes.{Spot, is_same_spot}
 use Rattle.elab_model.specs.Nets.{OwnNet, nets, number_of}
 use Rattle.elab_model.specs.Numbered.{element_of}
 use Rattle.elab_model.specs.Scopes.{scope_of}
+use Rattle.elab_circuit.specs.CheckUses.{check_of_use, check_uses}
 use Rattle.elab_circuit.specs.PathUses.{PathUse, path_uses}
 use Rattle.elab_circuit.specs.WithPaths.{redirected, all_nets, all_elements}
 use Rattle.elab_circuit.specs.Driving.{Driving, drivers}
@@ -53,12 +54,11 @@ with_driver n = record n.0 { driver = n.1 }
 abbrev pub driven_nets : List Net → Driving → List Net
 driven_nets ns d = map with_driver (zip ns (drivers d (length ns)))
 
--- there are no timing checks, since a netlist that has one is refused
 abbrev pub circuit : Source → Module → Corner → Circuit
 circuit source top corner = record {
   tick = tick_of source top;
   nets = driven_nets (all_nets source top corner) (driving source top corner);
   elements = map (λ e. e.1) (all_elements source top corner);
-  checks = [];
+  checks = map check_of_use (check_uses source top corner);
   scopes = map (scope_of (nets source top) source) (instances source top);
 }

@@ -13,12 +13,14 @@ use Rattle.elab_model.specs.Nets.{nets}
 use Rattle.elab_model.specs.Numbered.{undriven}
 use Rattle.elab_model.specs.Scopes.{scope_of}
 use Rattle.elab_circuit.specs.Circuits.{driving, driven_nets}
+use Rattle.elab_circuit.specs.CheckUses.{check_of_use, check_uses}
 use Rattle.elab_circuit.specs.PathUses.{path_uses}
 use Rattle.elab_circuit.specs.WithPaths.{all_nets, all_elements}
 use Rattle.elab_laws.specs.Laws.{AreSound}
 use Rattle.elab_laws.proofs.Lists.{all-map, all-weaker}
 use Rattle.elab_laws.proofs.NoFaults.{each-faultless}
 use Rattle.elab_closed.specs.Laws.{CircuitIsClosed}
+use Rattle.elab_closed.proofs.Checks.{CheckFits, checks-fit}
 use Rattle.elab_closed.proofs.Counts.{AreFaultless, faultless-parts, few, few-mapped}
 use Rattle.elab_closed.proofs.Drivers.{driven-count, driven-scopes, elements-named, nets-driven}
 use Rattle.elab_closed.proofs.Elements.{StandsIn, elements-stand}
@@ -59,16 +61,18 @@ circuit-is_closed source top corner h =
     let within : AllByRecursion (λ e. e.1.output < length ns) es =
     subst (λ k. AllByRecursion (λ e. e.1.output < k) es) as-nets (all-weaker (λ e. StandsIn net-count scope-count e.1) (λ e. e.1.output < net-count) es (λ e s. s.output) fitted) in
     let count = few source top corner f.counts in
+    let checks = map check_of_use (check_uses source top corner) in
+    let checked : AllByRecursion (CheckFits scope-count) checks = subst (λ k. AllByRecursion (CheckFits k) checks) (sym as-instances) (checks-fit source top corner) in
     record {
       few_nets = few-of net-count (length ns) as-nets count.nets;
       few_elements = few-mapped (λ e. e.1) es count.elements;
-      few_checks = omega arith;
+      few_checks = few-mapped check_of_use (check_uses source top corner) count.checks;
       few_scopes = few-mapped (scope_of (nets source top) source) ss count.instances;
       parents = parents-below source top (scope_of (nets source top) source) (λ s. refl) _;
       net_scopes = subst (λ k. All (λ n. n.scope < k) (driven_nets ns d)) (sym as-instances)
           (All-from_recursion (λ n. n.scope < length ss) (driven_nets ns d) (driven-scopes (λ k. k < length ss) ns d (net-scopes source top corner)));
       element_scopes = All-weaker (StandsIn net-count scope-count) (λ e. e.scope < scope-count) (λ e s. s.scope) made stand;
-      check_scopes = All-from_recursion (λ k. k.scope < scope-count) [] tt;
+      check_scopes = All-from_recursion (λ k. k.scope < scope-count) checks (all-weaker (CheckFits scope-count) (λ k. k.scope < scope-count) checks (λ k f. f.scope) checked);
       bits = have-bits source top net-count (enough net-count (length ns) (length (nets source top)) (length (path_uses source top corner)) as-nets whole);
       inputs = All-weaker (StandsIn net-count scope-count) (λ e. All (λ n. n < net-count) e.inputs) (λ e s. s.inputs) made stand;
       outputs = All-weaker (StandsIn net-count scope-count) (λ e. e.output < net-count) (λ e s. s.output) made stand;
@@ -78,7 +82,7 @@ circuit-is_closed source top corner h =
       takes_inputs = All-weaker (StandsIn net-count scope-count) (λ e. TakesInputs e.kind (length e.inputs)) (λ e s. s.takes) made stand;
       has_delays = All-weaker (StandsIn net-count scope-count) (λ e. HasDelays e.kind) (λ e s. s.delays) made stand;
       widths = have-widths source top;
-      datums = All-from_recursion (λ k. IsSome k.datum ↔ HasDatum k.kind) [] tt;
+      datums = All-from_recursion (λ k. IsSome k.datum ↔ HasDatum k.kind) checks (all-weaker (CheckFits scope-count) (λ k. IsSome k.datum ↔ HasDatum k.kind) checks (λ k f. f.datum) checked);
     }
   where
     enough : (k n a b : ℕ) → k ≡ n → n ≡ a + b → a ≤ k

@@ -15,7 +15,8 @@ use Rattle.elab_circuit.specs.Elaboration.{FaultStands, in_list, in_table, IsEla
 use Rattle.elab_model.specs.PrimitiveFaults.{primitives}
 use Rattle.elab_model.specs.Faults.{Fault, fault, RefusesOneOf}
 use Rattle.elab_model.specs.HierarchyFaults.{two_definitions}
-use Rattle.elab_circuit.specs.Faults.{path_faults, driver_faults, faults_below, top_faults, faults}
+use Rattle.elab_circuit.specs.CheckUses.{check_uses}
+use Rattle.elab_circuit.specs.Faults.{path_faults, check_faults, over, driver_faults, faults_below, top_faults, faults}
 use Rattle.elab_paths.specs.Joining.{counts_over}
 use Rattle.elab_model.specs.Nets.{nets}
 use Rattle.elab_model.specs.Tops.{top_of}
@@ -26,7 +27,7 @@ use Rattle.elab_hierarchy.specs.Tops.{RefusesTop}
 use Rattle.elab_modules.specs.Reached.{RefusesReached}
 use Rattle.vl_elab.specs.Below.{IsBelow, RefusesBelow}
 use Rattle.vl_elab.proofs.Among.{among-in, in-among}
-use Rattle.vl_elab.proofs.Standing.{of-tree, of-reached, of-paths, of-nets, of-elements, of-joined, of-drivers}
+use Rattle.vl_elab.proofs.Standing.{of-tree, of-reached, of-paths, of-checks, of-nets, of-elements, of-joined, of-many_checks, of-drivers}
 
 -- ---- below a top
 
@@ -58,6 +59,14 @@ paths-refused source top corner refused.NoMemory h = tt
 pub joined-refused : (source : Source) (top : Module) (corner : Corner) (r : Refused ElabKind) → RefusesOneOf (counts_over source top corner) r → RefusesBelow source top corner r
 joined-refused source top corner (refused.Fault k p) h = inl (of-joined source top corner (fault k p) h)
 joined-refused source top corner refused.NoMemory h = tt
+
+pub checks-refused : (source : Source) (top : Module) (corner : Corner) (r : Refused ElabKind) → RefusesOneOf (check_faults source top corner) r → RefusesBelow source top corner r
+checks-refused source top corner (refused.Fault k p) h = inl (of-checks source top corner (fault k p) h)
+checks-refused source top corner refused.NoMemory h = tt
+
+pub uses-refused : (source : Source) (top : Module) (corner : Corner) (r : Refused ElabKind) → RefusesOneOf (over (length (check_uses source top corner))) r → RefusesBelow source top corner r
+uses-refused source top corner (refused.Fault k p) h = inl (of-many_checks source top corner (fault k p) h)
+uses-refused source top corner refused.NoMemory h = tt
 
 -- ---- of a netlist
 

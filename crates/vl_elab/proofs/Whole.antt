@@ -7,6 +7,7 @@ use Rattle.std.proofs.lemmas.List.Elements.{All-from_recursion}
 use Rattle.std.proofs.lemmas.List.FromFn.{length-range_with_len}
 use Rattle.sg_circuit.specs.Closed.{IsClosed}
 use Rattle.sg_circuit.specs.Seen.{kind_seen, element_seen, scope_seen, circuit_seen, IsIndexed, AreIndexed}
+use Rattle.sg_circuit.specs.declared.checks.Check.{Check}
 use Rattle.sg_circuit.specs.declared.circuits.Parts.{Parts}
 use Rattle.sg_circuit.specs.declared.elements.Element as code
 use Rattle.sg_circuit.specs.declared.elements.ElementKind.{ElementKind}
@@ -50,7 +51,7 @@ tables_in parts = record {
 }
 
 -- the parts are what has been made
-pub record IsOf (tick : unit.Unit) (ready : Library) (numbers : Rows) (modules : ModulePaths) (joined : Joined) (made : Placing) (drivers : List Driver) (scopes : List Scope) (parts : Parts) : Type 0 where
+pub record IsOf (tick : unit.Unit) (ready : Library) (numbers : Rows) (modules : ModulePaths) (joined : Joined) (made : Placing) (drivers : List Driver) (checks : List Check) (scopes : List Scope) (parts : Parts) : Type 0 where
   pub tick_is : parts.tick ≡ tick
   pub nets_are : parts.nets.items ≡ driven_by (numbers.nets.items ++ joined.inner.items) drivers
   pub elements_are : parts.elements.items ≡ made.elements.items
@@ -59,7 +60,7 @@ pub record IsOf (tick : unit.Unit) (ready : Library) (numbers : Rows) (modules :
   pub conditions_are : parts.conditions.items ≡ modules.conditions.items
   pub paths_are : parts.paths.items ≡ joined.paths.items
   pub udps_are : parts.udps.items ≡ ready.udps.items
-  pub checks_are : parts.checks.items ≡ []
+  pub checks_are : parts.checks.items ≡ checks
   pub scopes_are : parts.scopes.items ≡ scopes
 
 kind-is : (parts : Parts) (k : ElementKind) → kind_seen parts k ≡ kind_with (tables_in parts) k
@@ -86,15 +87,15 @@ indexed-all : (parts : Parts) (es : List code.Element) → AllByRecursion (λ e.
 indexed-all parts [] h = tt
 indexed-all parts (e ∷ es) h = (indexed parts e.kind h.0, indexed-all parts es h.1)
 
-tables-are : (tick : unit.Unit) (ready : Library) (numbers : Rows) (modules : ModulePaths) (joined : Joined) (made : Placing) (drivers : List Driver) (scopes : List Scope) (parts : Parts)
-    → IsOf tick ready numbers modules joined made drivers scopes parts → tables_in parts ≡ tables_of ready modules joined
-tables-are tick ready numbers modules joined made drivers scopes parts o =
+tables-are : (tick : unit.Unit) (ready : Library) (numbers : Rows) (modules : ModulePaths) (joined : Joined) (made : Placing) (drivers : List Driver) (checks : List Check) (scopes : List Scope) (parts : Parts)
+    → IsOf tick ready numbers modules joined made drivers checks scopes parts → tables_in parts ≡ tables_of ready modules joined
+tables-are tick ready numbers modules joined made drivers checks scopes parts o =
     λ i. record { gate_delays = o.delays_are i; udps = o.udps_are i; timings = o.timings_are i; conditions = o.conditions_are i; paths = o.paths_are i }
 
-pub whole-is : (source : Source) (top : Module) (corner : Corner) (tick : unit.Unit) (ready : Library) (numbers : Rows) (modules : ModulePaths) (joined : Joined) (made : Placing) (drivers : List Driver) (scopes : List Scope) (parts : Parts)
-    → IsWhole source top corner tick ready numbers modules joined made drivers scopes → IsOf tick ready numbers modules joined made drivers scopes parts → circuit_seen parts ≡ circuit source top corner
-whole-is source top corner tick ready numbers modules joined made table scopes parts w o =
-    λ i. record { tick = ticks i; nets = driven i; elements = placed i; checks = o.checks_are i; scopes = seen i }
+pub whole-is : (source : Source) (top : Module) (corner : Corner) (tick : unit.Unit) (ready : Library) (numbers : Rows) (modules : ModulePaths) (joined : Joined) (made : Placing) (drivers : List Driver) (checks : List Check) (scopes : List Scope) (parts : Parts)
+    → IsWhole source top corner tick ready numbers modules joined made drivers checks scopes → IsOf tick ready numbers modules joined made drivers checks scopes parts → circuit_seen parts ≡ circuit source top corner
+whole-is source top corner tick ready numbers modules joined made table checks scopes parts w o =
+    λ i. record { tick = ticks i; nets = driven i; elements = placed i; checks = (o.checks_are ∙ w.are_checks) i; scopes = seen i }
   where
     ticks : parts.tick.power ≡ tick_of source top
     ticks = ap (λ t. t.power) o.tick_is ∙ w.tick_is
@@ -108,23 +109,23 @@ whole-is source top corner tick ready numbers modules joined made table scopes p
     placed =
         elements-are parts parts.elements.items
         ∙ ap (map (element_with (tables_in parts))) o.elements_are
-        ∙ ap (λ t. map (element_with t) made.elements.items) (tables-are tick ready numbers modules joined made table scopes parts o)
+        ∙ ap (λ t. map (element_with t) made.elements.items) (tables-are tick ready numbers modules joined made table checks scopes parts o)
         ∙ w.are_joined.elements
 
     seen : map (λ s. scope_seen s) parts.scopes.items ≡ (circuit source top corner).scopes
     seen = ap (λ ss. map (λ s. scope_seen s) ss) o.scopes_are ∙ w.are_scopes
 
-pub whole-closed : (source : Source) (top : Module) (corner : Corner) (tick : unit.Unit) (ready : Library) (numbers : Rows) (modules : ModulePaths) (joined : Joined) (made : Placing) (drivers : List Driver) (scopes : List Scope) (parts : Parts)
-    → IsWhole source top corner tick ready numbers modules joined made drivers scopes → IsOf tick ready numbers modules joined made drivers scopes parts → IsClosed (circuit_seen parts)
-whole-closed source top corner tick ready numbers modules joined made table scopes parts w o =
-    subst IsClosed (sym (whole-is source top corner tick ready numbers modules joined made table scopes parts w o)) (circuit-is_closed source top corner w.faultless)
+pub whole-closed : (source : Source) (top : Module) (corner : Corner) (tick : unit.Unit) (ready : Library) (numbers : Rows) (modules : ModulePaths) (joined : Joined) (made : Placing) (drivers : List Driver) (checks : List Check) (scopes : List Scope) (parts : Parts)
+    → IsWhole source top corner tick ready numbers modules joined made drivers checks scopes → IsOf tick ready numbers modules joined made drivers checks scopes parts → IsClosed (circuit_seen parts)
+whole-closed source top corner tick ready numbers modules joined made table checks scopes parts w o =
+    subst IsClosed (sym (whole-is source top corner tick ready numbers modules joined made table checks scopes parts w o)) (circuit-is_closed source top corner w.faultless)
 
-pub whole-indexed : (source : Source) (top : Module) (corner : Corner) (tick : unit.Unit) (ready : Library) (numbers : Rows) (modules : ModulePaths) (joined : Joined) (made : Placing) (drivers : List Driver) (scopes : List Scope) (parts : Parts)
-    → IsWhole source top corner tick ready numbers modules joined made drivers scopes → IsOf tick ready numbers modules joined made drivers scopes parts → AreIndexed parts
-whole-indexed source top corner tick ready numbers modules joined made table scopes parts w o = record {
+pub whole-indexed : (source : Source) (top : Module) (corner : Corner) (tick : unit.Unit) (ready : Library) (numbers : Rows) (modules : ModulePaths) (joined : Joined) (made : Placing) (drivers : List Driver) (checks : List Check) (scopes : List Scope) (parts : Parts)
+    → IsWhole source top corner tick ready numbers modules joined made drivers checks scopes → IsOf tick ready numbers modules joined made drivers checks scopes parts → AreIndexed parts
+whole-indexed source top corner tick ready numbers modules joined made table checks scopes parts w o = record {
   named = All-from_recursion (λ e. IsIndexed parts e.kind) parts.elements.items (indexed-all parts parts.elements.items
       (subst (λ es. AllByRecursion (λ e. NamesTables (tables_in parts) e.kind) es) (sym o.elements_are)
-      (subst (λ t. AllByRecursion (λ e. NamesTables t e.kind) made.elements.items) (sym (tables-are tick ready numbers modules joined made table scopes parts o)) w.are_joined.named)));
+      (subst (λ t. AllByRecursion (λ e. NamesTables t e.kind) made.elements.items) (sym (tables-are tick ready numbers modules joined made table checks scopes parts o)) w.are_joined.named)));
   few_udps = subst (λ us. length us < 2 ^ 31) (sym o.udps_are) w.is_ready.few_udps;
   counts = subst (λ ds. All (λ d. d.count ≤ 2) ds) (sym o.delays_are) w.is_ready.counts;
 }

@@ -3,11 +3,13 @@ use Rattle.std.specs.Prelude.{◌≡◌, ◌≤◌, List, [], ◌∷◌, length,
 use Rattle.sg_circuit.specs.Timings.{Timing}
 use Rattle.sg_time.specs.declared.units.Unit as unit
 use Rattle.sg_circuit.specs.Seen.{scope_seen}
+use Rattle.sg_circuit.specs.declared.checks.Check.{Check}
 use Rattle.sg_circuit.specs.declared.scopes.Scope.{Scope}
 use Rattle.elab_model.specs.Delays.{tick_of}
 use Rattle.elab_circuit.specs.Faults.{path_faults, faults_below}
 use Rattle.elab_model.specs.Nets.{nets}
 use Rattle.elab_model.specs.Scopes.{scope_of}
+use Rattle.elab_circuit.specs.CheckUses.{check_of_use, check_uses}
 use Rattle.elab_circuit.specs.Circuits.{driving}
 use Rattle.elab_circuit.specs.WithPaths.{all_nets}
 use Rattle.elab_drivers.specs.Tables.{HasDrivers}
@@ -54,12 +56,13 @@ driven_by (n ∷ ns) [] = n ∷ ns
 driven_by (n ∷ ns) (d ∷ ds) = record n { driver = d } ∷ driven_by ns ds
 
 -- all that a circuit is made of, where no fault stands
-pub record IsWhole (source : Source) (top : Module) (corner : Corner) (tick : unit.Unit) (ready : Library) (numbers : Rows) (modules : ModulePaths) (joined : Joined) (made : Placing) (drivers : List Driver) (scopes : List Scope) : Type 0 where
+pub record IsWhole (source : Source) (top : Module) (corner : Corner) (tick : unit.Unit) (ready : Library) (numbers : Rows) (modules : ModulePaths) (joined : Joined) (made : Placing) (drivers : List Driver) (checks : List Check) (scopes : List Scope) : Type 0 where
   pub tick_is : tick.power ≡ tick_of source top
   pub is_ready : IsLibrary source corner top ready
   pub have_rows : HaveRows source top numbers
   pub are_joined : AreJoined source top corner ready modules numbers joined made
   pub has_drivers : AreDrivers source top corner drivers
+  pub are_checks : checks ≡ map check_of_use (check_uses source top corner)
   pub are_scopes : map (λ s. scope_seen s) scopes ≡ map (scope_of (nets source top) source) (instances source top)
   pub faultless : faults_below source top corner ≡ []
 

@@ -10,6 +10,7 @@ ghost use Rattle.vl_elab.specs.Below.{IsBelow, RefusesBelow};
 ghost use Rattle.sg_circuit.specs.TimingsSeen.{leg_timing_seen};
 ghost use Rattle.vl_elab.specs.Made.{AreBelow, IsWhole, none_of_twelve};
 
+use crate::checks::checks_below;
 use crate::driving::{drive, drivers_in};
 use elab_elements::{Placing, elements_in};
 use elab_hierarchy::{Definitions, Placed, place_instances, tick, top};
@@ -18,7 +19,7 @@ use elab_modules::{Library, library_of};
 use elab_paths::{Joined, ModulePaths, add_paths, module_paths};
 use elab_rows::{Rows, rows_of};
 use elab_scopes::scopes_of;
-use sg_circuit::{Circuit, Driver, LegTiming, Parts, Scope};
+use sg_circuit::{Check, Circuit, Driver, LegTiming, Parts, Scope};
 use sg_delay::{Corner, Delays12, Limit, Limits12};
 use sg_text::{NoMemory, Refused};
 use sg_time::Unit;
@@ -26,7 +27,7 @@ use std::alloc::Global;
 use vl_tree::Source;
 
 /// The circuit of a netlist below a top: the module of that name, or else the only one that is no cell and of which no module has an instance (IEEE 1364-2005, clauses 6 to 8,
-/// 12 and 14). Delays are those of a corner. Refuses a netlist with a fault that `ElabKind` names, at the node that has it; of several faults any one is answered. Takes memory in
+/// 12, 14 and 15). Delays are those of a corner. Refuses a netlist with a fault that `ElabKind` names, at the node that has it; of several faults any one is answered. Takes memory in
 /// proportion to the netlist and to its circuit.
 pub fn elaborate(
     alloc: Global,
@@ -82,6 +83,7 @@ fn circuit_of<'t, 'a>(
         no_delay(),
     )?;
     let joined = add_paths(alloc, &library, &modules, instances, &rows, &mut made)?;
+    let checks = checks_below(alloc, corner, tick, &library, instances, &rows)?;
     let drivers = drivers_in(
         alloc,
         definitions,
@@ -93,14 +95,13 @@ fn circuit_of<'t, 'a>(
     )?;
     let scopes = scopes_of(alloc, definitions, &library, instances, &rows)?;
     let circuit = close(
-        alloc, tick, library, rows, made, modules, joined, &drivers, scopes,
+        tick, library, rows, made, modules, joined, &drivers, checks, scopes,
     )?;
     Ok(circuit)
 }
 
 // The circuit of what has been made.
 fn close(
-    alloc: Global,
     tick: Unit,
     library: Library,
     rows: Rows,
@@ -108,10 +109,11 @@ fn close(
     modules: ModulePaths,
     joined: Joined,
     drivers: &[Driver],
+    checks: Vec<Check>,
     scopes: Vec<Scope>,
 ) -> Result<Circuit, NoMemory>
-    requires { (source : GhostSource) × ((m : Module) × ((corner : ghost_corner.Corner) × IsWhole source m corner tick library rows modules joined made drivers.now scopes.items)) }
-    ensures { IfOk result (λ circuit. (source : GhostSource) (m : Module) (corner : ghost_corner.Corner) → IsWhole source m corner tick library.entry rows modules joined made drivers.now scopes.items
+    requires { (source : GhostSource) × ((m : Module) × ((corner : ghost_corner.Corner) × IsWhole source m corner tick library rows modules joined made drivers.now checks.items scopes.items)) }
+    ensures { IfOk result (λ circuit. (source : GhostSource) (m : Module) (corner : ghost_corner.Corner) → IsWhole source m corner tick library.entry rows modules joined made drivers.now checks.items scopes.items
         → circuit ≡ def.circuit source m corner) }
 {
     let mut nets = rows.nets;
@@ -127,7 +129,7 @@ fn close(
         paths: joined.paths,
         conditions: modules.conditions,
         udps: library.udps,
-        checks: Vec::new(alloc),
+        checks,
         scopes,
     }))
 }

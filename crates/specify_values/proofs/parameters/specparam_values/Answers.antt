@@ -1,7 +1,7 @@
 -- One more is in the table, and at the end all are.
 use Rattle.specify_values.specs.Seen.{named_in}
 use Rattle.specify_values.proofs.ByName.{next-value, all-values}
-use Rattle.specify_values.proofs.parameters.by_name.Goals as goal
+use Rattle.specify_values.proofs.parameters.specparam_values.Goals as goal
 
 pub loop-parameter-preserved : goal.loop-parameter-preserved
 loop-parameter-preserved c =

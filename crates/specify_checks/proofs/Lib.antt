@@ -1,0 +1,5 @@
+-- The modules of this folder.
+pub mod OneBit
+pub mod Enabling
+pub mod RegBits
+pub mod InOrder
