@@ -60,5 +60,7 @@ circuit source top corner = record {
   nets = driven_nets (all_nets source top corner) (driving source top corner);
   elements = map (λ e. e.1) (all_elements source top corner);
   checks = [];
+  check_timings = [];
+  check_conditions = [];
   scopes = map (scope_of (nets source top) source) (instances source top);
 }

@@ -1,10 +1,10 @@
 -- The parts of the circuit of a netlist without faults fit together.
-use Rattle.std.specs.Prelude.{◌≡◌, ℕ, ◌+◌, ◌<◌, ◌≤◌, ◌^◌, [], ◌++◌, ◌↔◌, All, IsSome, length, map, refl}
+use Rattle.std.specs.Prelude.{◌≡◌, ℕ, ◌+◌, ◌<◌, ◌≤◌, ◌^◌, [], ◌++◌, ◌↔◌, All, IfSome, IsSome, length, map, refl}
 use Rattle.std.specs.List.{AllByRecursion}
 use Rattle.std.proofs.Common.{sym, ◌∙◌, ap, arith, subst, length-append}
 use Rattle.std.proofs.lemmas.List.{length-map}
 use Rattle.std.proofs.lemmas.List.Elements.{All-from_recursion, All-weaker}
-use Rattle.sg_circuit.specs.Closed.{TakesInputs, HasDelays, HasDatum, NamesNets}
+use Rattle.sg_circuit.specs.Closed.{TakesInputs, HasDelays, HasDatum, NamesNets, IsCheckTiming, IsNotifier}
 use Rattle.sg_delay.specs.declared.corners.Corner.{Corner}
 use Rattle.vl_tree.specs.Tree.{Module, Source}
 use Rattle.elab_model.specs.Hierarchy.{instances}
@@ -12,7 +12,7 @@ use Rattle.elab_model.specs.HierarchyFaults.{count_limit}
 use Rattle.elab_model.specs.Nets.{nets}
 use Rattle.elab_model.specs.Numbered.{undriven}
 use Rattle.elab_model.specs.Scopes.{scope_of}
-use Rattle.elab_circuit.specs.Circuits.{driving, driven_nets}
+use Rattle.elab_circuit.specs.Circuits.{circuit, driving, driven_nets}
 use Rattle.elab_circuit.specs.PathUses.{path_uses}
 use Rattle.elab_circuit.specs.WithPaths.{all_nets, all_elements}
 use Rattle.elab_laws.specs.Laws.{AreSound}
@@ -79,6 +79,11 @@ circuit-is_closed source top corner h =
       has_delays = All-weaker (StandsIn net-count scope-count) (λ e. HasDelays e.kind) (λ e s. s.delays) made stand;
       widths = have-widths source top;
       datums = All-from_recursion (λ k. IsSome k.datum ↔ HasDatum k.kind) [] tt;
+      timing_of_each = refl;
+      conditions_of_each = refl;
+      check_kinds = λ k d e l. absurd (omega arith);
+      check_timings = All-from_recursion (IsCheckTiming net-count) [] tt;
+      notifiers = All-from_recursion (λ k. IfSome k.notifier (λ n. IsNotifier (circuit source top corner) n)) [] tt;
     }
   where
     enough : (k n a b : ℕ) → k ≡ n → n ≡ a + b → a ≤ k

@@ -3,8 +3,9 @@ use Rattle.std.specs.Prelude.{◌≡◌, ℕ, ◌<◌, ◌≤◌, ◌^◌, All, 
 use Rattle.std.specs.List.{AllByRecursion, range_with_len}
 use Rattle.std.proofs.Common.{sym, ◌∙◌, ap, arith, subst}
 use Rattle.std.proofs.lemmas.List.{length-map}
-use Rattle.std.proofs.lemmas.List.Elements.{All-from_recursion}
+use Rattle.std.proofs.lemmas.List.Elements.{All-from_recursion, All-nil}
 use Rattle.std.proofs.lemmas.List.FromFn.{length-range_with_len}
+use Rattle.sg_circuit.specs.ChecksSeen.{written_seen, AreWritten}
 use Rattle.sg_circuit.specs.Closed.{IsClosed}
 use Rattle.sg_circuit.specs.Seen.{kind_seen, element_seen, scope_seen, circuit_seen, IsIndexed, AreIndexed}
 use Rattle.sg_circuit.specs.declared.circuits.Parts.{Parts}
@@ -60,6 +61,8 @@ pub record IsOf (tick : unit.Unit) (ready : Library) (numbers : Rows) (modules :
   pub paths_are : parts.paths.items ≡ joined.paths.items
   pub udps_are : parts.udps.items ≡ ready.udps.items
   pub checks_are : parts.checks.items ≡ []
+  pub check_timings_are : parts.check_timings.items ≡ []
+  pub check_conditions_are : parts.check_conditions.items ≡ []
   pub scopes_are : parts.scopes.items ≡ scopes
 
 kind-is : (parts : Parts) (k : ElementKind) → kind_seen parts k ≡ kind_with (tables_in parts) k
@@ -94,8 +97,11 @@ tables-are tick ready numbers modules joined made drivers scopes parts o =
 pub whole-is : (source : Source) (top : Module) (corner : Corner) (tick : unit.Unit) (ready : Library) (numbers : Rows) (modules : ModulePaths) (joined : Joined) (made : Placing) (drivers : List Driver) (scopes : List Scope) (parts : Parts)
     → IsWhole source top corner tick ready numbers modules joined made drivers scopes → IsOf tick ready numbers modules joined made drivers scopes parts → circuit_seen parts ≡ circuit source top corner
 whole-is source top corner tick ready numbers modules joined made table scopes parts w o =
-    λ i. record { tick = ticks i; nets = driven i; elements = placed i; checks = o.checks_are i; scopes = seen i }
+    λ i. record { tick = ticks i; nets = driven i; elements = placed i; checks = o.checks_are i; check_timings = o.check_timings_are i; check_conditions = spelled i; scopes = seen i }
   where
+    spelled : map (written_seen parts.conditions.items) parts.check_conditions.items ≡ []
+    spelled = ap (map (written_seen parts.conditions.items)) o.check_conditions_are
+
     ticks : parts.tick.power ≡ tick_of source top
     ticks = ap (λ t. t.power) o.tick_is ∙ w.tick_is
 
@@ -127,4 +133,5 @@ whole-indexed source top corner tick ready numbers modules joined made table sco
       (subst (λ t. AllByRecursion (λ e. NamesTables t e.kind) made.elements.items) (sym (tables-are tick ready numbers modules joined made table scopes parts o)) w.are_joined.named)));
   few_udps = subst (λ us. length us < 2 ^ 31) (sym o.udps_are) w.is_ready.few_udps;
   counts = subst (λ ds. All (λ d. d.count ≤ 2) ds) (sym o.delays_are) w.is_ready.counts;
+  written = subst (λ ws. All (AreWritten (length parts.conditions.items)) ws) (sym o.check_conditions_are) (All-nil (AreWritten (length parts.conditions.items)));
 }

@@ -114,6 +114,8 @@ fn close(
         conditions: modules.conditions,
         udps: library.udps,
         checks: Vec::new(alloc),
+        check_timings: Vec::new(alloc),
+        check_conditions: Vec::new(alloc),
         scopes,
     }))
 }

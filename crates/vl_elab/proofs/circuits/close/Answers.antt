@@ -16,6 +16,8 @@ close-requires-clause-closed c =
       conditions = c.new-2.result;
       udps = c.args.library.udps;
       checks = c.new-3.result;
+      check_timings = c.new-4.result;
+      check_conditions = c.new-5.result;
       scopes = c.args.scopes;
     } in
     let of : IsOf c.args.tick c.args.library c.args.rows c.args.made c.args.drivers.now c.args.scopes.items parts = record {
@@ -26,6 +28,8 @@ close-requires-clause-closed c =
       legs_are = legs-made c.push.new.self.items c.new-leg_timings.result.items c.no_delay.result c.in_ok-push.ensures.items c.new-leg_timings.ensures.items c.no_delay.ensures;
       udps_are = refl;
       checks_are = c.new-3.ensures.items;
+      check_timings_are = c.new-4.ensures.items;
+      check_conditions_are = c.new-5.ensures.items;
       scopes_are = refl;
     } in
     let w = c.requires in
@@ -43,6 +47,8 @@ close-requires-clause-indexed c =
       conditions = c.new-2.result;
       udps = c.args.library.udps;
       checks = c.new-3.result;
+      check_timings = c.new-4.result;
+      check_conditions = c.new-5.result;
       scopes = c.args.scopes;
     } in
     let of : IsOf c.args.tick c.args.library c.args.rows c.args.made c.args.drivers.now c.args.scopes.items parts = record {
@@ -53,6 +59,8 @@ close-requires-clause-indexed c =
       legs_are = legs-made c.push.new.self.items c.new-leg_timings.result.items c.no_delay.result c.in_ok-push.ensures.items c.new-leg_timings.ensures.items c.no_delay.ensures;
       udps_are = refl;
       checks_are = c.new-3.ensures.items;
+      check_timings_are = c.new-4.ensures.items;
+      check_conditions_are = c.new-5.ensures.items;
       scopes_are = refl;
     } in
     let w = c.requires in
@@ -70,6 +78,8 @@ returns c source m corner w =
       conditions = c.new-2.result;
       udps = c.args.library.udps;
       checks = c.new-3.result;
+      check_timings = c.new-4.result;
+      check_conditions = c.new-5.result;
       scopes = c.args.scopes;
     } in
     let of : IsOf c.args.tick c.args.library c.args.rows c.args.made c.args.drivers.now c.args.scopes.items parts = record {
@@ -80,6 +90,8 @@ returns c source m corner w =
       legs_are = legs-made c.push.new.self.items c.new-leg_timings.result.items c.no_delay.result c.in_ok-push.ensures.items c.new-leg_timings.ensures.items c.no_delay.ensures;
       udps_are = refl;
       checks_are = c.new-3.ensures.items;
+      check_timings_are = c.new-4.ensures.items;
+      check_conditions_are = c.new-5.ensures.items;
       scopes_are = refl;
     } in
     c.close.ensures ∙ whole-is source m corner c.args.tick c.args.library c.args.rows c.args.made c.args.drivers.now c.args.scopes.items parts w of
