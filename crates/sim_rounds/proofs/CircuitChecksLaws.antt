@@ -1,5 +1,5 @@
 -- The timing checks of a circuit before time 0, and after a snapshot.
-use Rattle.std.specs.Prelude.{◌≡◌, ℕ, suc, ◌<◌, ◌^◌, false, All, IfSome, List, [], ◌∷◌, ◌++◌, drop, length, map, Option, Some, None}
+use Rattle.std.specs.Prelude.{◌≡◌, ℕ, suc, ◌<◌, ◌^◌, false, All, IfSome, List, [], ◌∷◌, ◌++◌, drop, length, map, Option, Some, None, refl}
 use Rattle.std.proofs.Common.{sym, ◌∙◌, ap, subst, arith}
 use Rattle.std.proofs.lemmas.List.{length-replicate}
 use Rattle.std.proofs.lemmas.List.Elements.{All-weaker}
@@ -14,7 +14,9 @@ use Rattle.sg_model.specs.Machine.{Snapshot, Violation}
 use Rattle.fan_round.specs.declared.work.WorkList.{WorkList}
 use Rattle.fan_round.specs.States.{IsIdle}
 use Rattle.fan_round.proofs.WorkLaws.{marked-start}
-use Rattle.time_checks.specs.Checking.{Kept, Stands}
+use Rattle.time_checks.specs.Checking.{Kept, Stands, check_at, latest_at}
+use Rattle.time_checks.specs.Events.{datum_times}
+use Rattle.time_checks.specs.Kept.{StandsFor}
 use Rattle.time_checks.specs.Violations.{violations}
 use Rattle.time_checks.specs.Within.{IsCheckWithin, IsEventWithin}
 use Rattle.sim_rounds.specs.CircuitChecks.{AreChecksOver, AreFirst, AreListed}
@@ -63,25 +65,41 @@ idle_listed work nets h = record {
   marked = marked-start work.marks.items work.list.items nets h.marks h.list;
 }
 
+-- nothing happened to data of which there is no snapshot
+no_data : (datum : Option Event) → datum_times datum [] ≡ []
+no_data None = refl
+no_data (Some e) = refl
+
 -- the checks of a circuit before time 0
-pub checks_first : (parts : Parts) (circuit : Circuit) (checks : List Check) (kept : Kept) (touched named : WorkList) (nets : ℕ) → circuit_seen parts ≡ circuit → IsClosed circuit → nets ≡ length parts.nets.items → checks ≡ parts.checks.items
+pub checks_first : (parts : Parts) (circuit : Circuit) (checks : List Check) (kept : Kept) (touched named : WorkList) (nets : ℕ) → circuit_seen parts ≡ circuit → nets ≡ length parts.nets.items → checks ≡ parts.checks.items
     → kept.checks ≡ parts.check_timings.items → length kept.last ≡ nets → Stands kept [] → IsIdle touched nets → IsIdle named nets → AreFirst circuit checks kept touched named
-checks_first parts circuit checks kept touched named nets seen closed many same timings last stands t n =
+checks_first parts circuit checks kept touched named nets seen many same timings last stands t n =
     let all : nets ≡ length circuit.nets = many ∙ ap (λ c. length c.nets) seen in
-    let checks_are : checks ≡ circuit.checks = same ∙ ap (λ c. c.checks) seen in
-    let timings_are : kept.checks ≡ circuit.check_timings = timings ∙ ap (λ c. c.check_timings) seen in
     record {
-      checks_are = checks_are;
-      timings_are = timings_are;
-      over = record {
-        last = last ∙ all;
-        each_check = ap length timings_are ∙ (closed.timing_of_each ∙ sym (ap length checks_are));
-        notifiers = subst (λ ks. All (λ k. IfSome k.notifier (λ m. m < length circuit.nets)) ks) (sym checks_are) (notifiers_within circuit closed);
-        listed = idle_listed touched (length circuit.nets) (subst (IsIdle touched) all t);
-        idle = subst (IsIdle named) all n;
-      };
-      seen = stands;
+      checks_are = same ∙ ap (λ c. c.checks) seen;
+      timings_are = timings ∙ ap (λ c. c.check_timings) seen;
+      last = last ∙ all;
+      unseen = stands.seen;
+      each = λ number l. subst (λ ts. StandsFor (latest_at kept.latest number) [] ts) (no_data (check_at kept.checks number).datum) (stands.each number l);
+      untouched = subst (IsIdle touched) all t;
+      unnamed = subst (IsIdle named) all n;
     }
+
+pub first_stands : (circuit : Circuit) (checks : List Check) (kept : Kept) (touched named : WorkList) → AreFirst circuit checks kept touched named → Stands kept []
+first_stands circuit checks kept touched named h = record {
+  seen = h.unseen;
+  last = tt;
+  each = λ number l. subst (λ ts. StandsFor (latest_at kept.latest number) [] ts) (sym (no_data (check_at kept.checks number).datum)) (h.each number l);
+}
+
+pub first_over : (circuit : Circuit) (checks : List Check) (kept : Kept) (touched named : WorkList) → IsClosed circuit → AreFirst circuit checks kept touched named → AreChecksOver checks kept touched named (length circuit.nets)
+first_over circuit checks kept touched named closed h = record {
+  last = h.last;
+  each_check = ap length h.timings_are ∙ (closed.timing_of_each ∙ sym (ap length h.checks_are));
+  notifiers = subst (λ ks. All (λ k. IfSome k.notifier (λ m. m < length circuit.nets)) ks) (sym h.checks_are) (notifiers_within circuit closed);
+  listed = idle_listed touched (length circuit.nets) h.untouched;
+  idle = h.unnamed;
+}
 
 -- what a checker violates, and which nets toggle, by what it keeps
 pub violated_still : (before after : Kept) → after.checks ≡ before.checks → (λ (ss : List Snapshot). violations after.checks ss) ≡ (λ (ss : List Snapshot). violations before.checks ss)

@@ -37,6 +37,7 @@ use Rattle.time_checks.specs.Violations.{violations}
 use Rattle.sim_rounds.specs.Checks.{AreFree}
 use Rattle.sim_rounds.specs.CircuitChecks.{AreChecksOver, AreFirst, HaveSeen}
 use Rattle.sim_rounds.specs.Notifiers.{notifiers_of}
+use Rattle.sim_rounds.proofs.CircuitChecksLaws.{first_over, first_stands}
 use Rattle.sim_rounds.proofs.NotifierLaws.{notifiers_free}
 use Rattle.sim_rounds.proofs.MachineLaws.{steady, later, one_driver, input_is_no_output, outputs_within, length-inputs, length-outputs}
 
@@ -112,10 +113,10 @@ fresh_ready circuit nets told work elements lists fan driven sets found stimulus
         checks = record {
           violated = ap (λ (ts : List CheckTiming) ss. violations ts ss) (first.timings_are ∙ sym (ap (λ c. c.check_timings) h.circuit_of));
           notifiers = ap (λ (ks : List Check) vs. notifiers_of ks (length kept.last) vs) (first.checks_are ∙ sym (ap (λ c. c.checks) h.circuit_of))
-              ∙ ap (λ (n : ℕ) vs. notifiers_of elements.circuit.checks n vs) (first.over.last ∙ sym (ap (λ c. length c.nets) h.circuit_of));
+              ∙ ap (λ (n : ℕ) vs. notifiers_of elements.circuit.checks n vs) (first.last ∙ sym (ap (λ c. length c.nets) h.circuit_of));
           free = λ vs. subst (λ os. AreFree os (length nets.values.items) (notifiers_of checks (length kept.last) vs)) (sym h.outputs)
               (subst (λ n. AreFree (machine_of circuit).outputs n (notifiers_of checks (length kept.last) vs)) (sym many)
-              (subst (λ n. AreFree (machine_of circuit).outputs (length circuit.nets) (notifiers_of checks n vs)) (sym first.over.last)
+              (subst (λ n. AreFree (machine_of circuit).outputs (length circuit.nets) (notifiers_of checks n vs)) (sym first.last)
               (subst (λ ks. AreFree (machine_of circuit).outputs (length circuit.nets) (notifiers_of ks (length circuit.nets) vs)) (sym first.checks_are) (notifiers_free circuit closed vs))));
         };
         within = All-nil (λ c. c.net < length nets.values.items);
@@ -123,7 +124,7 @@ fresh_ready circuit nets told work elements lists fan driven sets found stimulus
         told = h.told;
         begun = omega arith;
       }),
-      subst (AreChecksOver checks kept touched named) (sym many) first.over,
+      subst (AreChecksOver checks kept touched named) (sym many) (first_over circuit checks kept touched named closed first),
       subst (λ os. CanApply os (length nets.values.items) stimulus) (sym h.outputs) (subst (λ n. CanApply (machine_of circuit).outputs n stimulus) (sym many) (applied_can circuit closed stimulus applied)),
     )
 
@@ -146,7 +147,7 @@ fresh_stands circuit nets told work elements lists fan driven found checks kept 
       run = record {
         state = same_state (first_state circuit) (state_seen nets lists elements.states) (sym h.values) (sym h.stamps) (each_none circuit.elements [] ∙ sym h.lists) (sym h.states);
         before = sym h.before;
-        checks = record { stands = first.seen; leads = tt };
+        checks = record { stands = first_stands circuit checks kept touched named first; leads = tt };
         times = tt;
         violations = refl;
         evaluations = refl;

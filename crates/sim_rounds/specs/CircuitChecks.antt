@@ -1,5 +1,5 @@
 -- The timing checks of a circuit, between two snapshots.
-use Rattle.std.specs.Prelude.{◌≡◌, ℕ, ◌<◌, ◌≤◌, All, IfSome, List, [], length}
+use Rattle.std.specs.Prelude.{◌≡◌, ℕ, ◌<◌, ◌≤◌, false, All, IfSome, List, [], length}
 use Rattle.std.specs.Vec.{vec_capacity}
 use Rattle.sg_logic.specs.declared.values.Value.{Value}
 use Rattle.sg_circuit.specs.Circuit.{Circuit}
@@ -8,7 +8,8 @@ use Rattle.sg_model.specs.Machine.{Snapshot}
 use Rattle.fan_round.specs.declared.work.WorkList.{WorkList}
 use Rattle.fan_round.specs.States.{IsIdle}
 use Rattle.fan_round.specs.Work.{AreMarked}
-use Rattle.time_checks.specs.Checking.{Kept, LeadsTo, Stands}
+use Rattle.time_checks.specs.Checking.{Kept, LeadsTo, Stands, latest_at}
+use Rattle.time_checks.specs.Kept.{StandsFor}
 
 -- some of so many nets are listed, each once
 pub record AreListed (work : WorkList) (nets : ℕ) : Type 0 where
@@ -33,5 +34,8 @@ pub record HaveSeen (kept : Kept) (touched : WorkList) (values : List Value) (sn
 pub record AreFirst (circuit : Circuit) (checks : List Check) (kept : Kept) (touched named : WorkList) : Type 0 where
   pub checks_are : checks ≡ circuit.checks
   pub timings_are : kept.checks ≡ circuit.check_timings
-  pub over : AreChecksOver checks kept touched named (length circuit.nets)
-  pub seen : Stands kept []
+  pub last : length kept.last ≡ length circuit.nets
+  pub unseen : kept.seen ≡ false
+  pub each : (number : ℕ) → number < length kept.checks → StandsFor (latest_at kept.latest number) [] []
+  pub untouched : IsIdle touched (length circuit.nets)
+  pub unnamed : IsIdle named (length circuit.nets)

@@ -26,7 +26,7 @@ copies_seen seen skip (suc k) m n r s h =
     (subst (λ ss. seen (record { time = n; values = r.state.values } ∷ ss)) (sym s.is) (skip n s.last r.state.values s.older (subst seen s.is h)))
 
 -- and their times don't fall
-later_falls : (a b : ℕ) (ss : List Snapshot) → a ≤ b → DontFall a ss → DontFall b ss
+pub later_falls : (a b : ℕ) (ss : List Snapshot) → a ≤ b → DontFall a ss → DontFall b ss
 later_falls a b [] l h = tt
 later_falls a b (s ∷ ss) l h = (let m : s.time ≤ a = h.0 in omega arith, h.1)
 

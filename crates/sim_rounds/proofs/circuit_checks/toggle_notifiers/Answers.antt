@@ -1,5 +1,6 @@
 use Rattle.std.specs.Prelude.{IfSome, All, false, length, map, replicate}
-use Rattle.std.proofs.Common.{◌≡◌, ◌<◌, ◌≤◌, ◌∙◌, ap, sym, subst, arith}
+use Rattle.std.specs.Vec.{with_items}
+use Rattle.std.proofs.Common.{◌≡◌, ◌<◌, ◌∙◌, ap, sym, subst, arith}
 use Rattle.std.proofs.lemmas.List.{length-replicate, with_items_is}
 use Rattle.std.proofs.lemmas.Result.{on_ok_weaker}
 use Rattle.sg_model.specs.Time.{toggles as toggles_of}
@@ -38,6 +39,11 @@ add_toggles-handed-requires-clause-nets c =
     named_within c.args.checks.now n (map (λ v. violation_seen v) c.args.violations.now) c.deref.result.now c.requires.notifiers
     (c.deref.ensures.value ∙ (c.sort_notifiers.ensures.list ∙ ap (λ x. notifiers_of c.args.checks.now x (map (λ v. violation_seen v) c.args.violations.now)) many))
 
+pub clear_work-requires : goal.clear_work-requires
+clear_work-requires c =
+    subst (λ ms. AreMarked ms c.sort_notifiers.new.list.items) (sym (c.deref_mut-2.ensures.value ∙ with_items_is c.args.named.now.marks c.sort_notifiers.new.marks (c.sort_notifiers.auto.marks ∙ c.deref_mut.ensures.len)))
+    c.sort_notifiers.ensures.marked
+
 pub returns-clause-toggles : goal.returns-clause-toggles
 returns-clause-toggles c =
     let n = length c.args.values.now in
@@ -53,7 +59,7 @@ returns-clause-idle c =
     let first : length c.sort_notifiers.new.marks ≡ length c.deref_mut.result.now = c.sort_notifiers.auto.marks in
     let second : length c.deref_mut-2.result.now ≡ n = ap length c.deref_mut-2.ensures.value ∙ (ap length (with_items_is c.args.named.now.marks c.sort_notifiers.new.marks (c.sort_notifiers.auto.marks ∙ c.deref_mut.ensures.len)) ∙ (first ∙ many)) in
     record {
-      marks = with_items_is _ c.clear_work.new.marks (c.clear_work.auto.marks ∙ c.deref_mut-2.ensures.len) ∙ (c.clear_work.ensures.marks ∙ ap (λ m. replicate m false) second);
+      marks = with_items_is (with_items c.args.named.now.marks c.sort_notifiers.new.marks) c.clear_work.new.marks (c.clear_work.auto.marks ∙ c.deref_mut-2.ensures.len) ∙ (c.clear_work.ensures.marks ∙ ap (λ m. replicate m false) second);
       list = c.clear_work.ensures.work;
       room = omega (arith, c.requires.idle.room, c.sort_notifiers.ensures.capacity, c.clear_work.ensures.capacity);
     }

@@ -11,5 +11,5 @@ new-requires-clause-few c = checks_few c.parts-parts.result.now c.args.circuit.n
 
 pub returns : goal.returns
 returns c =
-    checks_first c.parts-parts.result.now c.args.circuit.now c.deref-2.result.now c.in_ok-checker.checker c.in_ok-touched.touched c.in_ok-named.named c.len.result c.parts-parts.ensures.seen c.parts-parts.ensures.closed (c.len.ensures ∙ c.parts-parts.result.now.nets.ok.0)
+    checks_first c.parts-parts.result.now c.args.circuit.now c.deref-2.result.now c.in_ok-checker.checker c.in_ok-touched.touched c.in_ok-named.named c.len.result c.parts-parts.ensures.seen (c.len.ensures ∙ c.parts-parts.result.now.nets.ok.0)
     c.deref-2.ensures.value (c.in_ok-checker.ensures.checks ∙ c.deref.ensures.value) c.in_ok-checker.ensures.nets c.in_ok-checker.ensures.empty c.in_ok-touched.ensures c.in_ok-named.ensures

@@ -1,9 +1,11 @@
+use Rattle.std.specs.Prelude.{map}
+use Rattle.std.proofs.Common.{◌+◌, ◌∙◌, ap, arith}
 use Rattle.std.proofs.lemmas.Result.{err_from_is_err_and}
-use Rattle.stim_read.specs.Seen.{stimulus_seen}
+use Rattle.stim_read.specs.Seen.{set_seen, stimulus_seen}
 use Rattle.stim_read.specs.Stimulus.{sets_at}
 use Rattle.sg_model.specs.Time.{Run}
-use Rattle.sim_rounds.specs.Simulations.{StandsBetween}
-use Rattle.sim_rounds.proofs.SimulatedLaws.{none_made, hand_ready}
+use Rattle.sim_rounds.specs.Simulations.{StandsBetween, StandsFor}
+use Rattle.sim_rounds.proofs.SimulatedLaws.{none_made, hand_ready, stands_later, time_made}
 use Rattle.sim_rounds.proofs.simulated.SimulationTimes.make.Goals as goal
 
 pub returns-in_err-hand_in-clause-made : goal.returns-in_err-hand_in-clause-made
@@ -20,3 +22,18 @@ make_time-requires-clause-ready g c =
           s.ended s.violations.items (stimulus_seen s.stimulus.now) c.requires.ready.0 c.requires.ready.1.1 c.in_ok-hand_in.ensures c.sets_of.ensures,
       c.requires.ready.1.0,
     )
+
+pub returns-clause-made : goal.returns-clause-made
+returns-clause-made g c =
+    let s = c.args.self.now in
+    let t = c.make_time.new.rounds in
+    let lists = g.A.Agenda.lists in
+    let states = g.E.Elements.states in
+    let mid : Run → Type 0 = λ r. StandsFor s.nets (lists s.agenda) (states s.elements) (g.C.Checks.stands s.checks s.nets.values.items) s.violations.items s.evaluations c.args.now r in
+    let late : Run → Type 0 = λ r. StandsFor t.nets (lists t.agenda) (states t.elements) (g.C.Checks.stands t.checks t.nets.values.items) t.violations.items t.evaluations c.args.now r in
+    let stands : Run → Type 0 = λ r. StandsBetween s.nets (lists s.agenda) (states s.elements) (g.C.Checks.stands s.checks s.nets.values.items) s.violations.items s.evaluations s.ended c.args.now r in
+    let after : Run → Type 0 = λ r. StandsBetween t.nets (lists t.agenda) (states t.elements) (g.C.Checks.stands t.checks t.nets.values.items) t.violations.items t.evaluations c.len.result (c.args.now + 1) r in
+    time_made (g.E.Elements.machine s.elements) (sets_at (stimulus_seen s.stimulus.now).steps) c.args.bound c.args.now (map (λ x. set_seen x) c.hand_in.new.handed.items) mid late stands after t.evaluations c.args.steps.now c.make_time.new.steps
+    (ap (map (λ x. set_seen x)) c.in_ok-hand_in.ensures ∙ c.sets_of.ensures) (λ r h. h.run)
+    (λ r h. stands_later t.nets (lists t.agenda) (states t.elements) (g.C.Checks.stands t.checks t.nets.values.items) t.violations.items t.evaluations c.len.result c.args.now r (omega (arith, c.len.ensures, t.violations.ok.0)) h)
+    c.in-Whole.ensures.ended
