@@ -88,7 +88,10 @@ fn show_violations(out: &mut String, violations: &[Violation]) -> anyhow::Result
         let refer = violation.refer_time;
         let datum = violation.datum_time;
         let limit = violation.limit;
-        writeln!(out, "violation {check} {part} {refer} {datum} limit {limit}")?;
+        writeln!(
+            out,
+            "violation {check} {part} {refer} {datum} limit {limit}"
+        )?;
     }
     Ok(())
 }

@@ -5,9 +5,8 @@ use crate::checks::{CheckFrom, EventFrom, Under};
 use sg_circuit::CheckKind::{
     self, Hold, Period, Recovery, Recrem, Removal, Setup, Setuphold, Skew, Width,
 };
-use sg_logic::GateKind;
 use sg_logic::Value::{self, One, X, Zero};
-use sg_logic::{Edge, NEGEDGE, POSEDGE};
+use sg_logic::{Edge, GateKind, NEGEDGE, POSEDGE};
 use std::alloc::Global;
 
 const fn edge_of(net: u32, edge: Edge) -> EventFrom {
