@@ -84,13 +84,14 @@ pub later_test : (n : ℕ) → 0 < n → (n == 0) ≡ false
 later_test n l = grind (arith, nat_tests)
 
 -- a time ended, and what changed in it was told
-pub ended_ready : (now next : ℕ) (m m' : Machine) (net_count : ℕ) (fan : List (List ℕ)) (driven driven' : List ℕ) (nets nets' : Nets) (told told' : Told) (work : WorkList) (lists : List (List (ℕ × Value))) (states : List Value) (found_by : List Snapshot → List Violation) (toggled_by : List Violation → List ℕ) (sets : List Set) (ended ended' : ℕ) (found : List code_violation.Violation) (stimulus stimulus' : Stimulus)
-    → IsReadyAt false next m' net_count fan driven' nets' told work lists states found_by toggled_by sets ended found → next ≡ now + 1 → IsTold told' nets'.values.items → ended' ≤ length found
+pub ended_ready : (now next : ℕ) (m m' : Machine) (net_count : ℕ) (fan : List (List ℕ)) (driven driven' : List ℕ) (nets nets' : Nets) (told told' : Told) (work : WorkList) (lists : List (List (ℕ × Value))) (states : List Value) (found_by : List Snapshot → List Violation) (toggled_by : List Violation → List ℕ) (sets : List Set) (ended ended' : ℕ) (found : List code_violation.Violation) (stimulus stimulus' : Stimulus) (over : Type 0)
+    → IsReadyAt false next m' net_count fan driven' nets' told work lists states found_by toggled_by sets ended found × over → next ≡ now + 1 → IsTold told' nets'.values.items → ended' ≤ length found
     → CanApply driven (length nets.values.items) stimulus → driven ≡ driven' → length nets'.values.items ≡ length nets.values.items → stimulus' ≡ stimulus
-    → IsReadyAt (next == 0) next m' net_count fan driven' nets' told' work lists states found_by toggled_by sets ended' found × CanApply driven' (length nets'.values.items) stimulus'
-ended_ready now next m m' net_count fan driven driven' nets nets' told told' work lists states found_by toggled_by sets ended ended' found stimulus stimulus' h n t b can d l s = (
+    → IsReadyAt (next == 0) next m' net_count fan driven' nets' told' work lists states found_by toggled_by sets ended' found × (over × CanApply driven' (length nets'.values.items) stimulus')
+ended_ready now next m m' net_count fan driven driven' nets nets' told told' work lists states found_by toggled_by sets ended ended' found stimulus stimulus' over h n t b can d l s = (
   subst (λ all. IsReadyAt all next m' net_count fan driven' nets' told' work lists states found_by toggled_by sets ended' found) (sym (later_test next (omega arith)))
-      (record { round = h.round; count = h.count; checks = h.checks; within = h.within; free = h.free; told = t; begun = b }),
+      (record { round = h.0.round; count = h.0.count; checks = h.0.checks; within = h.0.within; free = h.0.free; told = t; begun = b }),
+  h.1,
   subst (λ x. CanApply driven' (length nets'.values.items) x) (sym s) (subst (λ x. CanApply driven' x stimulus) (sym l) (subst (λ x. CanApply x (length nets.values.items) stimulus) d can)),
 )
 
