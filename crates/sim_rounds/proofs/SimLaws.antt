@@ -124,8 +124,10 @@ fresh_ready circuit nets told work elements lists fan driven sets found stimulus
         told = h.told;
         begun = omega arith;
       }),
-      subst (AreChecksOver checks kept touched named) (sym many) (first_over circuit checks kept touched named closed first),
-      subst (λ os. CanApply os (length nets.values.items) stimulus) (sym h.outputs) (subst (λ n. CanApply (machine_of circuit).outputs n stimulus) (sym many) (applied_can circuit closed stimulus applied)),
+      (
+        subst (AreChecksOver checks kept touched named) (sym many) (first_over circuit checks kept touched named closed first),
+        subst (λ os. CanApply os (length nets.values.items) stimulus) (sym h.outputs) (subst (λ n. CanApply (machine_of circuit).outputs n stimulus) (sym many) (applied_can circuit closed stimulus applied)),
+      ),
     )
 
 -- the state before time 0

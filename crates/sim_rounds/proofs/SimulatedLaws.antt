@@ -91,8 +91,7 @@ pub ended_ready : (now next : ℕ) (m m' : Machine) (net_count : ℕ) (fan : Lis
 ended_ready now next m m' net_count fan driven driven' nets nets' told told' work lists states found_by toggled_by sets ended ended' found stimulus stimulus' over h n t b can d l s = (
   subst (λ all. IsReadyAt all next m' net_count fan driven' nets' told' work lists states found_by toggled_by sets ended' found) (sym (later_test next (omega arith)))
       (record { round = h.0.round; count = h.0.count; checks = h.0.checks; within = h.0.within; free = h.0.free; told = t; begun = b }),
-  h.1,
-  subst (λ x. CanApply driven' (length nets'.values.items) x) (sym s) (subst (λ x. CanApply driven' x stimulus) (sym l) (subst (λ x. CanApply x (length nets.values.items) stimulus) d can)),
+  (h.1, subst (λ x. CanApply driven' (length nets'.values.items) x) (sym s) (subst (λ x. CanApply driven' x stimulus) (sym l) (subst (λ x. CanApply x (length nets.values.items) stimulus) d can))),
 )
 
 -- where nothing is pending before a time
