@@ -91,19 +91,13 @@ fn check_timings_fit(parts: &Parts) -> bool
     all_timings_fit(&parts.check_timings, parts.nets.len() as u32)
 }
 
-fn agrees(check: &Check, timing: &CheckTiming) -> bool
-    ensures { IsTrue result ↔ (check.now.kind ≡ timing.now.kind) }
-{
-    check.kind == timing.kind
-}
-
 // Whether each check has the kind of what it looks for.
 fn kinds_agree(checks: &[Check], timings: &[CheckTiming]) -> bool
     requires { length timings.now ≡ length checks.now }
     ensures { IsTrue result ↔ ((k : ℕ) (d : CheckSeen) (e : TimingSeen) → k < length checks.now → (slice_index_or checks.now k d).kind ≡ (slice_index_or timings.now k e).kind) }
 {
     for number in 0..checks.len() {
-        if !agrees(&checks[number], &timings[number]) {
+        if checks[number].kind != timings[number].kind {
             return false;
         }
     }
