@@ -25,9 +25,13 @@ const fn change_of(net: u32) -> EventFrom {
     }
 }
 
-const RISE: EventFrom = edge_of(0, POSEDGE);
+const fn rise() -> EventFrom {
+    edge_of(0, POSEDGE)
+}
 
-const FALL: EventFrom = edge_of(0, NEGEDGE);
+const fn fall() -> EventFrom {
+    edge_of(0, NEGEDGE)
+}
 
 // A check of two events.
 const fn between(kind: CheckKind, refer: EventFrom, datum: EventFrom, limit: i64) -> CheckFrom {
@@ -45,7 +49,7 @@ const fn between(kind: CheckKind, refer: EventFrom, datum: EventFrom, limit: i64
 const fn of_data(kind: CheckKind, first: i64, second: i64) -> CheckFrom {
     CheckFrom {
         limits: [first, second],
-        ..between(kind, RISE, change_of(1), first)
+        ..between(kind, rise(), change_of(1), first)
     }
 }
 
@@ -193,9 +197,9 @@ fn both_parts(alloc: Global, out: &mut String) -> anyhow::Result<()> {
 // of which 95 and 91 are below 96; what was down before 100 has no edge at its beginning.
 fn width(alloc: Global, out: &mut String) -> anyhow::Result<()> {
     let checks = [
-        alone(Width, RISE, 10, 0),
-        alone(Width, RISE, 10, 4),
-        alone(Width, FALL, 96, 0),
+        alone(Width, rise(), 10, 0),
+        alone(Width, rise(), 10, 4),
+        alone(Width, fall(), 96, 0),
     ];
     let sets: [(u64, &[Value]); 11] = [
         (0, &[Zero]),
@@ -216,7 +220,7 @@ fn width(alloc: Global, out: &mut String) -> anyhow::Result<()> {
 // From 100 to 110 is a period of 10, outside. From 0 to x and from x to 1 are rises both: at 119, 9 behind that of 110, and at 120, 1 behind
 // that.
 fn period(alloc: Global, out: &mut String) -> anyhow::Result<()> {
-    let checks = [alone(Period, RISE, 10, 0)];
+    let checks = [alone(Period, rise(), 10, 0)];
     let sets: [(u64, &[Value]); 7] = [
         (0, &[Zero]),
         (100, &[One]),
@@ -251,11 +255,11 @@ fn skew(alloc: Global, out: &mut String) -> anyhow::Result<()> {
 fn conditions(alloc: Global, out: &mut String) -> anyhow::Result<()> {
     let by_equality = EventFrom {
         under: Under::IsOne(2),
-        ..RISE
+        ..rise()
     };
     let by_itself = EventFrom {
         under: Under::Net(2),
-        ..RISE
+        ..rise()
     };
     let checks = [
         between(Hold, by_equality, change_of(1), 3),
@@ -298,11 +302,11 @@ pub fn all_windows(alloc: Global, out: &mut String) -> anyhow::Result<()> {
 // earlier time, whichever comes first.
 fn two_snapshots(alloc: Global, out: &mut String) -> anyhow::Result<()> {
     let checks = [
-        telling(1, alone(Width, RISE, 10, 0)),
-        between(Hold, change_of(1), FALL, 3),
-        between(Hold, FALL, change_of(1), 3),
-        between(Setup, FALL, change_of(1), 10),
-        between(Setup, change_of(1), FALL, 10),
+        telling(1, alone(Width, rise(), 10, 0)),
+        between(Hold, change_of(1), fall(), 3),
+        between(Hold, fall(), change_of(1), 3),
+        between(Setup, fall(), change_of(1), 10),
+        between(Setup, change_of(1), fall(), 10),
     ];
     let sets: [(u64, &[Value]); 3] = [(0, &[Zero]), (100, &[One]), (105, &[Zero])];
     show(
@@ -356,7 +360,7 @@ fn to_an_output(alloc: Global, out: &mut String) -> anyhow::Result<()> {
         elements: &[(gate(GateKind::Buf, 0), &[2])],
         timings: &[],
         paths: &[],
-        checks: &[telling(2, alone(Width, RISE, 10, 0))],
+        checks: &[telling(2, alone(Width, rise(), 10, 0))],
         sets: &[
             (0, &[Zero]),
             (100, &[One]),
@@ -382,8 +386,8 @@ fn endless(alloc: Global, out: &mut String) -> anyhow::Result<()> {
         timings: &[],
         paths: &[],
         checks: &[
-            telling(3, between(Skew, RISE, change_of(1), 1)),
-            telling(3, between(Skew, RISE, change_of(2), 1)),
+            telling(3, between(Skew, rise(), change_of(1), 1)),
+            telling(3, between(Skew, rise(), change_of(2), 1)),
         ],
         sets: &[(0, &[Zero, Zero]), (10, &[One, Zero]), (20, &[One, One])],
         end: 30,

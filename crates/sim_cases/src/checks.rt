@@ -50,7 +50,7 @@ struct Made {
     written: Option<usize>,
 }
 
-fn tokens(alloc: Global, under: Under) -> anyhow::Result<Vec<Tok>> {
+fn tokens(alloc: Global, under: Under) -> anyhow::Result<Vec<Tok<Text>>> {
     let mut tokens = vec![in alloc; Tok::Name(Text::copy(alloc, b"s")?)]?;
     if let Under::IsOne(_) = under {
         tokens.push(Tok::Op(Op::Equal))?;
