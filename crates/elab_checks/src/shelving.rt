@@ -1,11 +1,12 @@
 // The checks of a module, with their conditions in a table.
-ghost use Rattle.std.specs.Prelude.{◌≡◌, ◌<◌, ◌++◌, All, List, IfOk, IfSome, OnOk, length, map};
-ghost use Rattle.std.specs.Option.{option_and_then, option_map};
+ghost use Rattle.std.specs.Prelude.{◌≡◌, ◌++◌, All, List, IfOk, IfSome, OnOk, length, map};
 ghost use Rattle.cond_expr.specs.Condition.{Condition};
 ghost use Rattle.elab_model.specs.Names.{Variable};
-ghost use Rattle.elab_laws.specs.Handing.{all_bits};
-ghost use Rattle.specify_checks.specs.Seen.{check_seen, enabling_seen, event_seen, IsFitting};
-ghost use Rattle.elab_checks.specs.Ready.{check_ready, enabling_at, event_ready, IsLonger, IsReadyCheck, IsReadyEvent};
+ghost use Rattle.specify_paths.specs.Seen.{IsRead};
+ghost use Rattle.specify_checks.specs.Seen.{check_seen, IsFitting, IsSpelledCheck, IsSpelledEvent};
+ghost use Rattle.elab_paths.specs.Shelving.{AreRead, ListGrows};
+ghost use Rattle.elab_checks.specs.Ready.{check_ready, IsReadyCheck};
+ghost use Rattle.elab_checks.specs.Shelving.{IsShelvedCheck, IsShelvedCondition, IsShelvedDatum, IsShelvedEvent};
 
 use cond_expr::Expr;
 use sg_circuit::CheckKind;
@@ -42,9 +43,9 @@ fn shelve_condition(
     condition: Option<Expr>,
     conditions: &mut Vec<Expr>,
 ) -> Result<Option<usize>, NoMemory>
-    ensures kept { OnOk result (IsLonger conditions.old.items conditions.new.items) }
-    ensures condition { IfOk result (λ o. (vs : List Variable) (more : List Condition) → option_and_then (enabling_at (conditions.new.items ++ more) vs) o ≡ option_map (enabling_seen vs) condition.entry) }
-    ensures written { IfOk result (λ o. IfSome o (λ i. i < length conditions.new.items)) }
+    ensures kept { OnOk result (ListGrows conditions.old.items conditions.new.items) }
+    ensures condition { IfOk result (IsShelvedCondition conditions.new.items condition) }
+    ensures read { OnOk result (IfSome condition (λ c. IsRead c.tokens c) → AreRead conditions.old.items → AreRead conditions.new.items) }
 {
     match condition {
         Some(condition) => {
@@ -57,9 +58,9 @@ fn shelve_condition(
 }
 
 fn shelve_event(event: ModuleEvent, conditions: &mut Vec<Expr>) -> Result<ReadyEvent, NoMemory>
-    ensures kept { OnOk result (IsLonger conditions.old.items conditions.new.items) }
-    ensures event { IfOk result (λ e. (vs : List Variable) (more : List Condition) → event_ready (conditions.new.items ++ more) vs e ≡ event_seen vs event.entry) }
-    ensures named { IfOk result (λ e. (vs : List Variable) → event.entry.bit < length (all_bits vs) → IsReadyEvent vs (length conditions.new.items) e) }
+    ensures kept { OnOk result (ListGrows conditions.old.items conditions.new.items) }
+    ensures event { IfOk result (IsShelvedEvent conditions.new.items event) }
+    ensures read { OnOk result (IsSpelledEvent event → AreRead conditions.old.items → AreRead conditions.new.items) }
 {
     let condition = shelve_condition(event.condition, conditions)?;
     Ok(ReadyEvent {
@@ -70,13 +71,13 @@ fn shelve_event(event: ModuleEvent, conditions: &mut Vec<Expr>) -> Result<ReadyE
     })
 }
 
-fn shelve_some(
+fn shelve_datum(
     event: Option<ModuleEvent>,
     conditions: &mut Vec<Expr>,
 ) -> Result<Option<ReadyEvent>, NoMemory>
-    ensures kept { OnOk result (IsLonger conditions.old.items conditions.new.items) }
-    ensures event { IfOk result (λ o. (vs : List Variable) (more : List Condition) → option_map (event_ready (conditions.new.items ++ more) vs) o ≡ option_map (event_seen vs) event.entry) }
-    ensures named { IfOk result (λ o. (vs : List Variable) → IfSome event.entry (λ e. e.bit < length (all_bits vs)) → IfSome o (IsReadyEvent vs (length conditions.new.items))) }
+    ensures kept { OnOk result (ListGrows conditions.old.items conditions.new.items) }
+    ensures event { IfOk result (IsShelvedDatum conditions.new.items event) }
+    ensures read { OnOk result (IfSome event IsSpelledEvent → AreRead conditions.old.items → AreRead conditions.new.items) }
 {
     match event {
         Some(event) => Ok(Some(shelve_event(event, conditions)?)),
@@ -85,12 +86,12 @@ fn shelve_some(
 }
 
 fn shelve_check(check: ModuleCheck, conditions: &mut Vec<Expr>) -> Result<ReadyCheck, NoMemory>
-    ensures kept { OnOk result (IsLonger conditions.old.items conditions.new.items) }
-    ensures check { IfOk result (λ c. (vs : List Variable) (more : List Condition) → check_ready (conditions.new.items ++ more) vs c ≡ check_seen vs check.entry) }
-    ensures named { IfOk result (λ c. (vs : List Variable) → IsFitting vs check.entry → IsReadyCheck vs (length conditions.new.items) c) }
+    ensures kept { OnOk result (ListGrows conditions.old.items conditions.new.items) }
+    ensures check { IfOk result (IsShelvedCheck conditions.new.items check) }
+    ensures read { OnOk result (IsSpelledCheck check → AreRead conditions.old.items → AreRead conditions.new.items) }
 {
     let refer = shelve_event(check.refer, conditions)?;
-    let datum = shelve_some(check.datum, conditions)?;
+    let datum = shelve_datum(check.datum, conditions)?;
     Ok(ReadyCheck {
         place: check.place,
         kind: check.kind,
@@ -109,9 +110,10 @@ pub fn shelve(
     checks: Vec<ModuleCheck>,
     conditions: &mut Vec<Expr>,
 ) -> Result<Vec<ReadyCheck>, NoMemory>
-    ensures kept { OnOk result (IsLonger conditions.old.items conditions.new.items) }
-    ensures checks { IfOk result (λ list. (vs : List Variable) (more : List Condition) → map (check_ready (conditions.new.items ++ more) vs) list.items ≡ map (check_seen vs) checks.entry.items) }
-    ensures named { IfOk result (λ list. (vs : List Variable) → All (IsFitting vs) checks.entry.items → All (IsReadyCheck vs (length conditions.new.items)) list.items) }
+    ensures kept { OnOk result (ListGrows conditions.old.items conditions.new.items) }
+    ensures checks { IfOk result (λ list. (vs : List Variable) (more : List Condition) → map (check_ready (conditions.new.items ++ more) vs) list.items ≡ map (check_seen vs) checks.items) }
+    ensures named { IfOk result (λ list. (vs : List Variable) → All (IsFitting vs) checks.items → All (IsReadyCheck vs (length conditions.new.items)) list.items) }
+    ensures read { OnOk result (All IsSpelledCheck checks.items → AreRead conditions.old.items → AreRead conditions.new.items) }
 {
     let mut list = Vec::new(alloc);
     for check in checks {

@@ -1,10 +1,13 @@
 -- Check uses: a timing check of an instance's module, over nets (IEEE 1364-2005, clause 15).
-use Rattle.std.specs.Prelude.{ℕ, ℤ, List, Option, flat_map, map}
-use Rattle.std.specs.Option.{option_map}
+use Rattle.std.specs.Prelude.{ℕ, ℤ, pos, List, [], ◌∷◌, Option, flat_map, map}
+use Rattle.std.specs.Option.{option_and_then, option_map}
 use Rattle.cond_expr.specs.Token.{Tok}
 use Rattle.cond_expr.specs.Tree.{Cond}
+use Rattle.sg_circuit.specs.Checks.{CheckConditions}
 use Rattle.sg_circuit.specs.declared.checks.Check.{Check}
 use Rattle.sg_circuit.specs.declared.checks.CheckKind.{CheckKind}
+use Rattle.sg_circuit.specs.declared.checks.CheckTiming.{CheckTiming}
+use Rattle.sg_circuit.specs.declared.checks.Event.{Event}
 use Rattle.sg_circuit.specs.declared.checks.Terminal.{Terminal}
 use Rattle.sg_delay.specs.declared.corners.Corner.{Corner}
 use Rattle.sg_logic.specs.declared.edges.Edge.{Edge}
@@ -64,6 +67,27 @@ check_uses_of all source corner tick s = map (check_use s.step.number (bit_numbe
 abbrev pub check_uses : Source → Module → Corner → List CheckUse
 check_uses source top corner = flat_map (check_uses_of (nets source top) source corner (tick_of source top)) (instances source top)
 
--- the check of a circuit
+-- ---- the checks of a circuit
+
+-- how a report names it, and the net that its violations toggle (15.5)
 abbrev pub check_of_use : CheckUse → Check
-check_of_use u = record { scope = u.scope; kind = u.kind; refer = u.refer.terminal; datum = option_map (λ e. e.terminal) u.datum }
+check_of_use u = record { scope = u.scope; kind = u.kind; refer = u.refer.terminal; datum = option_map (λ e. e.terminal) u.datum; notifier = u.notifier }
+
+-- what it looks for: a check has two limits, of which the second is 0 where its kind has one
+abbrev pub event_of_use : EventUse → Event
+event_of_use e = record { net = e.net; edge = e.edge; condition = option_map (λ c. c.1) e.condition }
+
+abbrev pub two_limits : List ℤ → List ℤ
+two_limits [] = pos 0 ∷ pos 0 ∷ []
+two_limits (l ∷ []) = l ∷ pos 0 ∷ []
+two_limits (l ∷ m ∷ more) = l ∷ m ∷ []
+
+abbrev pub timing_of_use : CheckUse → CheckTiming
+timing_of_use u = record { kind = u.kind; refer = event_of_use u.refer; datum = option_map event_of_use u.datum; limits = two_limits u.limits; threshold = u.threshold }
+
+-- how its conditions are spelled
+abbrev pub written_of : EventUse → Option (List Tok)
+written_of e = option_map (λ c. c.0) e.condition
+
+abbrev pub written_of_use : CheckUse → CheckConditions
+written_of_use u = record { refer = written_of u.refer; datum = option_and_then written_of u.datum }

@@ -15,7 +15,7 @@ use Rattle.elab_model.specs.Homes.{Spot, is_same_spot}
 use Rattle.elab_model.specs.Nets.{OwnNet, nets, number_of}
 use Rattle.elab_model.specs.Numbered.{element_of}
 use Rattle.elab_model.specs.Scopes.{scope_of}
-use Rattle.elab_circuit.specs.CheckUses.{check_of_use, check_uses}
+use Rattle.elab_circuit.specs.CheckUses.{check_uses, check_of_use, timing_of_use, written_of_use}
 use Rattle.elab_circuit.specs.PathUses.{PathUse, path_uses}
 use Rattle.elab_circuit.specs.WithPaths.{redirected, all_nets, all_elements}
 use Rattle.elab_circuit.specs.Driving.{Driving, drivers}
@@ -60,5 +60,7 @@ circuit source top corner = record {
   nets = driven_nets (all_nets source top corner) (driving source top corner);
   elements = map (λ e. e.1) (all_elements source top corner);
   checks = map check_of_use (check_uses source top corner);
+  check_timings = map timing_of_use (check_uses source top corner);
+  check_conditions = map written_of_use (check_uses source top corner);
   scopes = map (scope_of (nets source top) source) (instances source top);
 }

@@ -9,7 +9,7 @@ use Rattle.elab_model.specs.Names.{Variable}
 use Rattle.specify_model.specs.Checks.{ModuleEvent, ModuleCheck}
 use Rattle.specify_model.specs.Conditions.{over, operand_bit}
 use Rattle.specify_model.specs.Terms.{NetBit}
-use Rattle.specify_paths.specs.Seen.{bit_seen}
+use Rattle.specify_paths.specs.Seen.{bit_seen, IsRead}
 use Rattle.specify_values.specs.Seen.{is_too_long}
 use Rattle.specify_checks.specs.declared.checks.ModuleCheck as code_check
 use Rattle.specify_checks.specs.declared.events.ModuleEvent as code_event
@@ -40,3 +40,11 @@ pub record IsFitting (vs : List Variable) (c : code_check.ModuleCheck) : Type 0 
   pub first_fits : is_too_long c.first ≡ false
   pub second_fits : IfSome c.second (λ n. is_too_long n ≡ false)
   pub threshold_fits : is_too_long c.threshold ≡ false
+
+-- conditions are what their tokens spell
+abbrev pub IsSpelledEvent : code_event.ModuleEvent → Type 0
+IsSpelledEvent e = IfSome e.condition (λ c. IsRead c.tokens c)
+
+pub record IsSpelledCheck (c : code_check.ModuleCheck) : Type 0 where
+  pub refer : IsSpelledEvent c.refer
+  pub datum : IfSome c.datum IsSpelledEvent

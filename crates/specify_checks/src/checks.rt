@@ -9,7 +9,7 @@ ghost use Rattle.specify_model.specs.CheckFaults as faults;
 ghost use Rattle.specify_model.specs.Checks as def;
 ghost use Rattle.specify_values.specs.Seen.{is_too_long, measured, values_of};
 ghost use Rattle.specify_values.specs.Telling.{Tells};
-ghost use Rattle.specify_checks.specs.Seen.{check_seen, IsFitting};
+ghost use Rattle.specify_checks.specs.Seen.{check_seen, IsFitting, IsSpelledCheck};
 
 use crate::events::{ModuleEvent, event_of, some_event_of};
 use crate::parts::parts_of;
@@ -118,6 +118,7 @@ fn check_of(
 ) -> Result<ModuleCheck, Refused<ElabKind>>
     ensures check { IfOk result (λ c. check_seen table.now c ≡ def.module_check (measured by) table.now (values_of parameters.now) (view_check text.now)) }
     ensures fits { IfOk result (IsFitting table.now) }
+    ensures spelled { IfOk result IsSpelledCheck }
     ensures told { Tells (faults.check_faults (measured by) table.now (values_of parameters.now) (view_check text.now)) result }
 {
     let parts = parts_of(text);
@@ -151,6 +152,7 @@ pub fn module_checks(
 ) -> Result<Vec<ModuleCheck>, Refused<ElabKind>>
     ensures checks { IfOk result (λ list. map (check_seen table.now) list.items ≡ def.module_checks (measured by) table.now (specify_items (view_module definition.now))) }
     ensures fits { IfOk result (λ list. All (IsFitting table.now) list.items) }
+    ensures spelled { IfOk result (λ list. All IsSpelledCheck list.items) }
     ensures told { Tells (faults.all_check_faults (measured by) table.now (specify_items (view_module definition.now))) result }
 {
     let items = block_items(alloc, definition)?;

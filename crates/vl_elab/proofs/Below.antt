@@ -21,7 +21,7 @@ use Rattle.elab_paths.specs.Joining.{counts_over}
 use Rattle.elab_model.specs.Nets.{nets}
 use Rattle.elab_model.specs.Tops.{top_of}
 use Rattle.elab_nets.specs.Refusals.{RefusesCount}
-use Rattle.elab_laws.proofs.Lists.{In, in-left, in-right}
+use Rattle.elab_laws.proofs.Lists.{In, in-either, in-left, in-right}
 use Rattle.elab_hierarchy.specs.Placing.{tree_faults}
 use Rattle.elab_hierarchy.specs.Tops.{RefusesTop}
 use Rattle.elab_modules.specs.Reached.{RefusesReached}
@@ -60,13 +60,15 @@ pub joined-refused : (source : Source) (top : Module) (corner : Corner) (r : Ref
 joined-refused source top corner (refused.Fault k p) h = inl (of-joined source top corner (fault k p) h)
 joined-refused source top corner refused.NoMemory h = tt
 
-pub checks-refused : (source : Source) (top : Module) (corner : Corner) (r : Refused ElabKind) → RefusesOneOf (check_faults source top corner) r → RefusesBelow source top corner r
-checks-refused source top corner (refused.Fault k p) h = inl (of-checks source top corner (fault k p) h)
+pub checks-refused : (source : Source) (top : Module) (corner : Corner) (r : Refused ElabKind) → RefusesOneOf (check_faults source top corner ++ over (length (check_uses source top corner))) r → RefusesBelow source top corner r
+checks-refused source top corner (refused.Fault k p) h =
+    let own = check_faults source top corner in
+    let many = over (length (check_uses source top corner)) in
+    elim (in-either (fault k p) own many (among-in (own ++ many) (fault k p) h)) [
+      | inl g ↦ inl (of-checks source top corner (fault k p) (in-among own (fault k p) g))
+      | inr g ↦ inl (of-many_checks source top corner (fault k p) (in-among many (fault k p) g))
+    ]
 checks-refused source top corner refused.NoMemory h = tt
-
-pub uses-refused : (source : Source) (top : Module) (corner : Corner) (r : Refused ElabKind) → RefusesOneOf (over (length (check_uses source top corner))) r → RefusesBelow source top corner r
-uses-refused source top corner (refused.Fault k p) h = inl (of-many_checks source top corner (fault k p) h)
-uses-refused source top corner refused.NoMemory h = tt
 
 -- ---- of a netlist
 

@@ -12,14 +12,16 @@ ghost use Rattle.vl_elab.specs.Made.{AreBelow, IsWhole, none_of_twelve};
 
 use crate::checks::checks_below;
 use crate::driving::{drive, drivers_in};
+use cond_expr::Expr;
+use elab_checks::CircuitChecks;
 use elab_elements::{Placing, elements_in};
 use elab_hierarchy::{Definitions, Placed, place_instances, tick, top};
 use elab_model::ElabKind;
 use elab_modules::{Library, library_of};
-use elab_paths::{Joined, ModulePaths, add_paths, module_paths};
+use elab_paths::{Joined, add_paths, module_paths};
 use elab_rows::{Rows, rows_of};
 use elab_scopes::scopes_of;
-use sg_circuit::{Check, Circuit, Driver, LegTiming, Parts, Scope};
+use sg_circuit::{Circuit, Driver, LegTiming, Parts, Scope};
 use sg_delay::{Corner, Delays12, Limit, Limits12};
 use sg_text::{NoMemory, Refused};
 use sg_time::Unit;
@@ -83,7 +85,17 @@ fn circuit_of<'t, 'a>(
         no_delay(),
     )?;
     let joined = add_paths(alloc, &library, &modules, instances, &rows, &mut made)?;
-    let checks = checks_below(alloc, corner, tick, &library, instances, &rows)?;
+    let mut conditions = modules.conditions;
+    let checks = checks_below(
+        alloc,
+        corner,
+        tick,
+        definitions,
+        &library,
+        instances,
+        &rows,
+        &mut conditions,
+    )?;
     let drivers = drivers_in(
         alloc,
         definitions,
@@ -95,7 +107,16 @@ fn circuit_of<'t, 'a>(
     )?;
     let scopes = scopes_of(alloc, definitions, &library, instances, &rows)?;
     let circuit = close(
-        tick, library, rows, made, modules, joined, &drivers, checks, scopes,
+        tick,
+        library,
+        rows,
+        made,
+        modules.timings,
+        conditions,
+        joined,
+        &drivers,
+        checks,
+        scopes,
     )?;
     Ok(circuit)
 }
@@ -106,14 +127,15 @@ fn close(
     library: Library,
     rows: Rows,
     made: Placing,
-    modules: ModulePaths,
+    timings: Vec<LegTiming>,
+    conditions: Vec<Expr>,
     joined: Joined,
     drivers: &[Driver],
-    checks: Vec<Check>,
+    checks: CircuitChecks,
     scopes: Vec<Scope>,
 ) -> Result<Circuit, NoMemory>
-    requires { (source : GhostSource) × ((m : Module) × ((corner : ghost_corner.Corner) × IsWhole source m corner tick library rows modules joined made drivers.now checks.items scopes.items)) }
-    ensures { IfOk result (λ circuit. (source : GhostSource) (m : Module) (corner : ghost_corner.Corner) → IsWhole source m corner tick library.entry rows modules joined made drivers.now checks.items scopes.items
+    requires { (source : GhostSource) × ((m : Module) × ((corner : ghost_corner.Corner) × IsWhole source m corner tick library rows timings.items conditions.items joined made drivers.now checks scopes.items)) }
+    ensures { IfOk result (λ circuit. (source : GhostSource) (m : Module) (corner : ghost_corner.Corner) → IsWhole source m corner tick library.entry rows timings.items conditions.items joined made drivers.now checks scopes.items
         → circuit ≡ def.circuit source m corner) }
 {
     let mut nets = rows.nets;
@@ -125,11 +147,13 @@ fn close(
         nets,
         elements: made.elements,
         gate_delays: library.gate_delays,
-        leg_timings: modules.timings,
+        leg_timings: timings,
         paths: joined.paths,
-        conditions: modules.conditions,
+        conditions,
         udps: library.udps,
-        checks,
+        checks: checks.checks,
+        check_timings: checks.timings,
+        check_conditions: checks.conditions,
         scopes,
     }))
 }
