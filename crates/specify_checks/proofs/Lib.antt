@@ -3,3 +3,5 @@ pub mod OneBit
 pub mod Enabling
 pub mod RegBits
 pub mod InOrder
+pub mod NextCheck
+pub mod Whole

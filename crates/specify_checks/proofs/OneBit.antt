@@ -1,23 +1,24 @@
--- A terminal is one bit, or is refused.
+-- A terminal without a fault is one bit.
 use Rattle.std.specs.Prelude.{◌≡◌, ℕ, suc, ◌<◌, List, [], ◌∷◌, ◌++◌, Bool, true, false, ◌&&◌, not, ◌==◌, All, Option, Some, None, flat_map, filter_map, length, map, slice_index_or, refl}
 use Rattle.std.proofs.Common.{sym, ◌∙◌, ap, arith, subst, append-nil}
 use Rattle.std.proofs.lemmas.Bool.{eqb-true}
 use Rattle.std.proofs.lemmas.List.{length-map}
-use Rattle.sg_text.specs.declared.refusals.Refused.TheVariants as refused
 use Rattle.vl_tree.specs.declared.expressions.Select.{Select}
 use Rattle.vl_tree.specs.declared.expressions.Select.TheVariants as select
 use Rattle.vl_tree.specs.Tree.{Named, Term}
 use Rattle.elab_laws.specs.Handing.{all_bits}
 use Rattle.elab_model.specs.declared.kinds.ElabKind.TheVariants.{WidthMismatch}
 use Rattle.elab_model.specs.Bits.{net, bits, bits_between, leaf_bits, part_bits, whole_bits, position_at, positions, positions_between, variable_named}
-use Rattle.elab_model.specs.Faults.{RefusesOneOf}
+use Rattle.elab_model.specs.Faults.{fault_if}
+use Rattle.elab_model.specs.Hierarchy.{is_empty}
 use Rattle.elab_model.specs.Leaves.{leaf_of}
 use Rattle.elab_model.specs.Names.{Variable}
 use Rattle.specify_model.specs.Conditions.{first_bit}
 use Rattle.specify_model.specs.Faults.{term_faults, operand_faults}
 use Rattle.specify_model.specs.Terms.{net_bit, expression_of, term_bits}
 use Rattle.specify_paths.specs.Seen.{bit_seen, bits_seen, AreInRow}
-use Rattle.specify_paths.proofs.Operands.{operand-wide, operand-fine}
+use Rattle.specify_values.proofs.Signed.{if-none}
+use Rattle.specify_paths.proofs.InOrder.{none-left, none-right}
 
 -- ---- all bits of a term are bits of nets
 
@@ -58,11 +59,19 @@ module _ (vs : List Variable) (t : Term) (is : List ℕ) (seen : bits_seen vs is
   as-many : length is ≡ length (bits vs (expression_of t))
   as-many = sym (length-map is (bit_seen vs)) ∙ ap length all-bits ∙ bits-only vs t
 
-  pub wide-told : term_faults vs t ≡ [] → (length is == 1) ≡ false → RefusesOneOf (operand_faults vs t) (refused.Fault WidthMismatch t.name.place)
-  wide-told sound h = operand-wide vs t (length is) sound as-many h
-
-  pub one-bit : term_faults vs t ≡ [] → (length is == 1) ≡ true → operand_faults vs t ≡ []
-  one-bit sound h = operand-fine vs t (length is) sound as-many h
+  -- without a fault it is one bit
+  pub one : operand_faults vs t ≡ [] → length is ≡ 1
+  one h =
+      let count = length (bits vs (expression_of t)) in
+      let wide = fault_if (is_empty (term_faults vs t) && not (count == 1)) WidthMismatch t.name.place in
+      let sound : term_faults vs t ≡ [] = none-left (term_faults vs t) wide h in
+      let test : (is_empty (term_faults vs t) && not (count == 1)) ≡ false = if-none (is_empty (term_faults vs t) && not (count == 1)) WidthMismatch t.name.place (none-right (term_faults vs t) wide h) in
+      let same : not (count == 1) ≡ false = sym (ap (λ fs. is_empty fs && not (count == 1)) sound) ∙ test in
+      as-many ∙ eqb-true count 1 (not-false (count == 1) same)
+    where
+      not-false : (b : Bool) → not b ≡ false → b ≡ true
+      not-false true e = refl
+      not-false false e = cc
 
   pub first-is : (d : ℕ) → length is ≡ 1 → bit_seen vs (slice_index_or is 0 d) ≡ first_bit (term_bits vs t)
   first-is d one = by is one ∙ ap first_bit all-bits

@@ -7,7 +7,7 @@ ghost use Rattle.elab_model.specs.declared.kinds.ElabKind.TheVariants.{BadTermin
 ghost use Rattle.specify_model.specs.Blocks.{specify_items};
 ghost use Rattle.specify_model.specs.CheckFaults as faults;
 ghost use Rattle.specify_model.specs.Checks as def;
-ghost use Rattle.specify_values.specs.Seen.{is_too_long, measured, values_of};
+ghost use Rattle.specify_values.specs.Seen.{is_too_long, measured, values_of, view_checks};
 ghost use Rattle.specify_values.specs.Telling.{Tells};
 ghost use Rattle.specify_checks.specs.Seen.{check_seen, IsFitting, IsSpelledCheck};
 
@@ -125,7 +125,7 @@ fn check_of(
     check_edge(parts.kind, parts.reference)?;
     let refer = event_of(alloc, table, parts.reference)?;
     let datum = some_event_of(alloc, table, parts.data)?;
-    let (first, second) = limits_of(by, parameters, &parts.first, &parts.second)?;
+    let limits = limits_of(by, parameters, &parts.first, &parts.second)?;
     let threshold = threshold_ticks(by, parameters, &parts.threshold)?;
     let notifier = notifier_bit(table, parts.notifier)?;
     Ok(ModuleCheck {
@@ -133,11 +133,31 @@ fn check_of(
         kind: parts.kind,
         refer,
         datum,
-        first,
-        second,
+        first: limits.0,
+        second: limits.1,
         threshold,
         notifier,
     })
+}
+
+// The checks of texts, in their order.
+fn all_checks(
+    alloc: Global,
+    by: Measure,
+    table: &Table,
+    parameters: &Parameters,
+    texts: &[&Check],
+) -> Result<Vec<ModuleCheck>, Refused<ElabKind>>
+    ensures checks { IfOk result (λ list. map (check_seen table.now) list.items ≡ map (def.module_check (measured by) table.now (values_of parameters.now)) (view_checks texts.now)) }
+    ensures fits { IfOk result (λ list. All (IsFitting table.now) list.items) }
+    ensures spelled { IfOk result (λ list. All IsSpelledCheck list.items) }
+    ensures told { Tells (flat_map (faults.check_faults (measured by) table.now (values_of parameters.now)) (view_checks texts.now)) result }
+{
+    let mut checks = Vec::new(alloc);
+    for text in texts {
+        checks.push(check_of(alloc, by, table, parameters, text)?)?;
+    }
+    Ok(checks)
 }
 
 /// The timing checks of a module, whose variables are those of the table, in text order and in ticks of a corner (IEEE 1364-2005, clause 15). Refuses what stands in a check: terminals,
@@ -157,9 +177,6 @@ pub fn module_checks(
 {
     let items = block_items(alloc, definition)?;
     let parameters = specparam_values(alloc, &items.parameters)?;
-    let mut checks = Vec::new(alloc);
-    for text in &items.checks {
-        checks.push(check_of(alloc, by, table, &parameters, text)?)?;
-    }
+    let checks = all_checks(alloc, by, table, &parameters, &items.checks)?;
     Ok(checks)
 }
