@@ -6,7 +6,7 @@ use Rattle.cond_expr.specs.Condition.{Condition}
 use Rattle.elab_laws.specs.Handing.{all_bits}
 use Rattle.elab_model.specs.Names.{Variable}
 use Rattle.specify_paths.specs.Seen.{bit_seen}
-use Rattle.specify_checks.specs.Seen.{check_seen, enabling_seen, event_seen, IsFitting, IsSpelledCheck}
+use Rattle.specify_checks.specs.Seen.{check_seen, enabling_seen, event_seen, IsFitting, IsSpelledCheck, IsSpelledEvent}
 use Rattle.specify_checks.specs.declared.checks.ModuleCheck.{ModuleCheck}
 use Rattle.specify_checks.specs.declared.events.ModuleEvent.{ModuleEvent}
 use Rattle.elab_paths.specs.Shelving.{AreRead, ListGrows}
@@ -24,14 +24,14 @@ put-last : (old : List Condition) (e : Condition) (more : List Condition) → sl
 put-last [] e more = refl
 put-last (x ∷ xs) e more = put-last xs e more
 
-pub condition-put : (old new : List Condition) (e : Condition) (i : ℕ) → new ≡ old ++ e ∷ [] → i ≡ length old → IsShelvedCondition new (Some e) (Some i)
-condition-put old new e i is at =
+pub condition_put : (old new : List Condition) (e : Condition) (i : ℕ) → new ≡ old ++ e ∷ [] → i ≡ length old → IsShelvedCondition new (Some e) (Some i)
+condition_put old new e i is at =
     subst (λ k. IsShelvedCondition new (Some e) (Some k)) (sym at)
     (subst (λ cs. IsShelvedCondition cs (Some e) (Some (length old))) (sym is)
     (record { seen = λ more vs. ap (option_map (enabling_seen vs)) (put-last old e more); below = (let l = length-append old (e ∷ []) in omega (arith, l)) }))
 
-pub condition-none : (conditions : List Condition) → IsShelvedCondition conditions None None
-condition-none conditions = record { seen = λ more vs. refl; below = tt }
+pub condition_none : (conditions : List Condition) → IsShelvedCondition conditions None None
+condition_none conditions = record { seen = λ more vs. refl; below = tt }
 
 below-stays : (m n : ℕ) (o : Option ℕ) → m ≤ n → IfSome o (λ i. i < m) → IfSome o (λ i. i < n)
 below-stays m n None le h = tt
@@ -42,9 +42,9 @@ below-stays m n (Some i) le h = by le h
 
 -- ---- events
 
-pub event-made : (conditions : List Condition) (e : ModuleEvent) (i : Option ℕ) → IsShelvedCondition conditions e.condition i
+pub event_made : (conditions : List Condition) (e : ModuleEvent) (i : Option ℕ) → IsShelvedCondition conditions e.condition i
     → IsShelvedEvent conditions e (record { bit = e.bit; index = e.index; edge = e.edge; condition = i })
-event-made conditions e i h = record {
+event_made conditions e i h = record {
   seen = λ more vs. ap (λ c. record { bit = bit_seen vs e.bit; index = e.index; edge = e.edge; condition = c }) (h.seen more vs);
   bit = refl;
   below = h.below;
@@ -77,10 +77,10 @@ datum-named conditions vs (Some e) (Some r) h lt = event-named conditions vs e r
 -- ---- checks
 
 -- the reference event's condition comes before the data event's
-pub check-made : (mid new : List Condition) (c : ModuleCheck) (refer : ReadyEvent) (datum : Option ReadyEvent) → ListGrows mid new → IsShelvedEvent mid c.refer refer → IsShelvedDatum new c.datum datum
+pub check_made : (mid new : List Condition) (c : ModuleCheck) (refer : ReadyEvent) (datum : Option ReadyEvent) → ListGrows mid new → IsShelvedEvent mid c.refer refer → IsShelvedDatum new c.datum datum
     → IsShelvedCheck new c
     (record { place = c.place; kind = c.kind; refer = refer; datum = datum; first = c.first; second = c.second; threshold = c.threshold; notifier = c.notifier })
-check-made mid new c refer datum grows h k =
+check_made mid new c refer datum grows h k =
     let stays = event-stays mid new grows c.refer refer h in
     record {
       seen = λ more vs. λ i. record {
@@ -101,6 +101,14 @@ check-made mid new c refer datum grows h k =
         threshold_fits = fit.threshold_fits;
       };
     }
+
+-- the table grows twice, and each condition is what its tokens spell
+pub grows_both : (old mid new : List Condition) → ListGrows old mid → ListGrows mid new → ListGrows old new
+grows_both old mid new h k = grows-then old mid new h k
+
+pub read_check : (old mid new : List Condition) (c : ModuleCheck) → (IsSpelledEvent c.refer → AreRead old → AreRead mid) → (IfSome c.datum IsSpelledEvent → AreRead mid → AreRead new)
+    → IsSpelledCheck c → AreRead old → AreRead new
+read_check old mid new c f g h begun = g h.datum (f h.refer begun)
 
 datum-stays : (vs : List Variable) (m n : ℕ) (o : Option ReadyEvent) → m ≤ n → IfSome o (IsReadyEvent vs m) → IfSome o (IsReadyEvent vs n)
 datum-stays vs m n None le h = tt

@@ -39,6 +39,7 @@ pub struct ReadyCheck {
 }
 
 // The place of a condition in the table, once it is there.
+#[tactic(auto, using(crate::proofs::Shelved::condition_put, crate::proofs::Shelved::condition_none))]
 fn shelve_condition(
     condition: Option<Expr>,
     conditions: &mut Vec<Expr>,
@@ -57,6 +58,7 @@ fn shelve_condition(
     }
 }
 
+#[tactic(auto, using(crate::proofs::Shelved::event_made))]
 fn shelve_event(event: ModuleEvent, conditions: &mut Vec<Expr>) -> Result<ReadyEvent, NoMemory>
     ensures kept { OnOk result (ListGrows conditions.old.items conditions.new.items) }
     ensures event { IfOk result (IsShelvedEvent conditions.new.items event) }
@@ -85,6 +87,7 @@ fn shelve_datum(
     }
 }
 
+#[tactic(auto, using(crate::proofs::Shelved::check_made, crate::proofs::Shelved::grows_both, crate::proofs::Shelved::read_check))]
 fn shelve_check(check: ModuleCheck, conditions: &mut Vec<Expr>) -> Result<ReadyCheck, NoMemory>
     ensures kept { OnOk result (ListGrows conditions.old.items conditions.new.items) }
     ensures check { IfOk result (IsShelvedCheck conditions.new.items check) }

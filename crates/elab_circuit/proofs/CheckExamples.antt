@@ -54,5 +54,19 @@ notified : (circuit alone latch Typ).nets ≡
     net 0 (codes "q") None (driver.Element 0) ∷ net 0 (codes "ck") None driver.Stimulus ∷ net 0 (codes "d") None driver.Stimulus ∷ net 0 (codes "n") None driver.Notifier ∷ []
 notified = refl
 
+-- what is looked for, and how conditions are spelled
+looked_for : (circuit alone latch Typ).check_timings ≡
+    record {
+      kind = kind.Setup;
+      refer = record { net = 1; edge = Some POSEDGE; condition = None };
+      datum = Some (record { net = 2; edge = None; condition = None });
+      limits = pos 2 ∷ pos 0 ∷ [];
+      threshold = 0;
+    } ∷ []
+looked_for = refl
+
+spelled : (circuit alone latch Typ).check_conditions ≡ record { refer = None; datum = None } ∷ []
+spelled = refl
+
 taken : faults alone None Typ ≡ []
 taken = refl
