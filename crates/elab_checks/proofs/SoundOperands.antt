@@ -17,7 +17,7 @@ use Rattle.elab_model.specs.Delays.{tick_of}
 use Rattle.elab_model.specs.Faults.{fault_if}
 use Rattle.elab_model.specs.Names.{Variable, variables}
 use Rattle.specify_model.specs.Blocks.{parameters, specify_items}
-use Rattle.specify_model.specs.CheckFaults.{edge_faults, event_condition_faults, event_faults, some_event_faults, limit_faults, threshold_faults, notifier_faults, check_faults, timing_check_faults}
+use Rattle.specify_model.specs.CheckFaults.{edge_faults, words_faults, event_condition_faults, event_faults, some_event_faults, limit_faults, threshold_faults, notifier_faults, check_faults, timing_check_faults}
 use Rattle.specify_model.specs.Checks.{ModuleEvent, ModuleCheck, check_texts, data_of, enabled_by, event_of, limits_in, module_check, notifier_of, reference_of, threshold_of, timing_checks}
 use Rattle.specify_model.specs.Conditions.{operands, tokens, tree_of}
 use Rattle.specify_model.specs.Faults.{condition_faults, first_place, operand_faults}
@@ -54,7 +54,7 @@ enabled-sound vs p (Some ws) h = words-sound vs ws (front (flat_map (operand_fau
 event-sound : (vs : List Variable) (e : Event) → event_faults vs e ≡ [] → IsSoundEvent vs (event_of vs e)
 event-sound vs e h = enabled-sound vs e.place e.condition (by e.condition (back (operand_faults vs e.term) (event_condition_faults vs e) h))
   where
-    by : (o : Option (List Word)) → elim o [ None ↦ [] | Some ws ↦ condition_faults vs e.place ws ] ≡ [] → IfSome o (λ ws. condition_faults vs e.place ws ≡ [])
+    by : (o : Option (List Word)) → words_faults vs e.place o ≡ [] → IfSome o (λ ws. condition_faults vs e.place ws ≡ [])
     by None k = tt
     by (Some ws) k = k
 

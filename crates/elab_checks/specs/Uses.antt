@@ -2,6 +2,7 @@
 use Rattle.std.specs.Prelude.{◌≡◌, ℕ, ℤ, pos, ◌<◌, ◌∷◌, ◌++◌, All, List, [], Option, Some, None, IfSome, length, map, slice_get}
 use Rattle.std.specs.Option.{option_and_then, option_map}
 use Rattle.cond_expr.specs.Condition.{Condition}
+use Rattle.cond_expr.specs.Token.{Tok}
 use Rattle.cond_expr.specs.Tree.{Cond}
 use Rattle.sg_circuit.specs.ChecksSeen.{written_seen, AreWritten}
 use Rattle.sg_circuit.specs.declared.checks.Check.{Check}
@@ -31,7 +32,8 @@ pub record AreUses (conditions : List Condition) (made : CircuitChecks) (us : Li
 
 -- the condition at a place of the table, over nets
 abbrev pub enabled_over : (NetBit → ℕ) → List Condition → List Variable → Option ℕ → Option (Cond ℕ)
-enabled_over net conditions vs i = option_map (λ c. c.1) (option_map (λ c. (c.0, over net c.1)) (option_and_then (enabling_at conditions vs) i))
+enabled_over net conditions vs i =
+    option_map (λ (c : List Tok × Cond ℕ). c.1) (option_map (λ (c : List Tok × Cond NetBit). (c.0, over net c.1)) (option_and_then (enabling_at conditions vs) i))
 
 -- it stands there, is what its tokens spell, and has sound operands
 abbrev pub IsBindable : List Variable → List Condition → Option ℕ → Type 0

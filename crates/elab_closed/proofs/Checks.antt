@@ -11,8 +11,8 @@ use Rattle.cond_expr.specs.Token.{Tok}
 use Rattle.cond_expr.specs.Tree.{Cond}
 use Rattle.cond_expr.specs.Values.{AreBelow}
 use Rattle.sg_circuit.specs.Closed.{HasDatum, HasEdge, IsEventOf, IsCheckTiming, width_of}
-use Rattle.sg_circuit.specs.declared.checks.Check as circuit
-use Rattle.sg_circuit.specs.declared.checks.CheckTiming as timing
+use Rattle.sg_circuit.specs.declared.checks.Check as code_check
+use Rattle.sg_circuit.specs.declared.checks.CheckTiming as code_timing
 use Rattle.sg_circuit.specs.declared.nets.Driver.TheVariants.{Notifier}
 use Rattle.sg_circuit.specs.declared.scopes.Range.{Range}
 use Rattle.sg_delay.specs.declared.corners.Corner.{Corner}
@@ -335,7 +335,7 @@ module _ (source : Source) (top : Module) (corner : Corner) (count : ℕ) (le : 
 
 -- ---- the three tables go together
 
-pub same-kinds : (us : List Check_use) (k : ℕ) (d : circuit.Check) (e : timing.CheckTiming) → k < length (map check_of_use us)
+pub same-kinds : (us : List Check_use) (k : ℕ) (d : code_check.Check) (e : code_timing.CheckTiming) → k < length (map check_of_use us)
     → (slice_index_or (map check_of_use us) k d).kind ≡ (slice_index_or (map timing_of_use us) k e).kind
 same-kinds [] k d e lt = absurd (omega (arith, lt))
 same-kinds (u ∷ us) zero d e lt = refl

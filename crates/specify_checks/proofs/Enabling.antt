@@ -1,5 +1,5 @@
 -- What enables events, as it was read.
-use Rattle.std.specs.Prelude.{◌≡◌, List, [], Option, Some, None, map}
+use Rattle.std.specs.Prelude.{◌≡◌, List, [], Option, Some, map}
 use Rattle.std.specs.Option.{option_map}
 use Rattle.std.proofs.Common.{sym, ◌∙◌, ap, subst, Vec, Global}
 use Rattle.cond_expr.specs.Condition.{Condition}
@@ -8,11 +8,11 @@ use Rattle.sg_text.specs.declared.refusals.Refused.{Refused}
 use Rattle.vl_tree.specs.declared.checks.Event as code
 use Rattle.vl_tree.specs.declared.specify.Word as code_word
 use Rattle.vl_tree.specs.Seen.{view_event, view_word}
-use Rattle.vl_tree.specs.Tree.{Event, Word}
+use Rattle.vl_tree.specs.Tree.{Event}
 use Rattle.elab_model.specs.declared.kinds.ElabKind.{ElabKind}
-use Rattle.elab_model.specs.Faults.{Fault, RefusesOneOf}
+use Rattle.elab_model.specs.Faults.{RefusesOneOf}
 use Rattle.elab_model.specs.Names.{Variable}
-use Rattle.specify_model.specs.CheckFaults.{event_condition_faults}
+use Rattle.specify_model.specs.CheckFaults.{event_condition_faults, words_faults}
 use Rattle.specify_model.specs.Checks.{enabled_by, event_of, index_in}
 use Rattle.specify_model.specs.Conditions.{over, operand_bit, bound_to, first_bit, tokens}
 use Rattle.specify_model.specs.Faults.{condition_faults}
@@ -30,11 +30,8 @@ module _ (vs : List Variable) (e : code.Event) (ws : Vec code_word.Word Global) 
   words : (view_event e).condition ≡ Some (map view_word xs)
   words = ap (option_map (λ (v : Vec code_word.Word Global). map view_word v.items)) is ∙ ap (λ ys. Some (map view_word ys)) (sym words_are)
 
-  faults-of : Option (List Word) → List Fault
-  faults-of o = elim o [ None ↦ [] | Some us ↦ condition_faults vs e.place us ]
-
   faults-are : event_condition_faults vs (view_event e) ≡ condition_faults vs e.place (map view_word xs)
-  faults-are = ap faults-of words
+  faults-are = ap (words_faults vs e.place) words
 
   pub own-refused : (r : Refused ElabKind) → RefusesOneOf (condition_faults vs e.place (map view_word xs)) r → RefusesOneOf (event_condition_faults vs (view_event e)) r
   own-refused r h = subst (λ fs. RefusesOneOf fs r) (sym faults-are) h

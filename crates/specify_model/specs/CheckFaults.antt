@@ -3,7 +3,8 @@ use Rattle.std.specs.Prelude.{ℕ, ℤ, List, [], ◌∷◌, ◌++◌, Bool, tru
 use Rattle.sg_circuit.specs.declared.checks.CheckKind.{CheckKind}
 use Rattle.sg_circuit.specs.declared.checks.CheckKind.TheVariants as kind
 use Rattle.sg_delay.specs.declared.corners.Corner.{Corner}
-use Rattle.vl_tree.specs.Tree.{Named, Amount, SignedAmount, Limit, one_limit, three_limits, EdgeWord, Event, Check, SpecifyItem, Module}
+use Rattle.sg_text.specs.declared.places.Place.{Place}
+use Rattle.vl_tree.specs.Tree.{Named, SignedAmount, Limit, one_limit, three_limits, Word, Event, Check, SpecifyItem, Module}
 use Rattle.elab_model.specs.declared.kinds.ElabKind.TheVariants.{UnknownName, BadTerminal, NegativeLimit}
 use Rattle.elab_model.specs.Bits.{variable_named}
 use Rattle.elab_model.specs.Faults.{Fault, fault_if}
@@ -26,8 +27,12 @@ abbrev pub edge_faults : Check → List Fault
 edge_faults c = fault_if (wants_edge (kind_of c) && is_none (reference_of c).edge) BadTerminal (reference_of c).place
 
 -- a terminal is one bit of what is declared, and so is each operand of its condition (15.6)
+abbrev pub words_faults : List Variable → Place → Option (List Word) → List Fault
+words_faults vs p None = []
+words_faults vs p (Some ws) = condition_faults vs p ws
+
 abbrev pub event_condition_faults : List Variable → Event → List Fault
-event_condition_faults vs e = elim e.condition [ None ↦ [] | Some ws ↦ condition_faults vs e.place ws ]
+event_condition_faults vs e = words_faults vs e.place e.condition
 
 abbrev pub event_faults : List Variable → Event → List Fault
 event_faults vs e = operand_faults vs e.term ++ event_condition_faults vs e
