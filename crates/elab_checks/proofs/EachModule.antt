@@ -29,7 +29,7 @@ use Rattle.elab_modules.proofs.Meeting.{places_of}
 use Rattle.elab_modules.proofs.Named.{one-place, place-of, placed-in}
 use Rattle.elab_paths.specs.Shelving.{AreRead}
 use Rattle.elab_checks.specs.OfModules.{AreChecksOf, AreSoundChecks, AreReadySoFar, HasReady, IsOfPlace}
-use Rattle.elab_checks.specs.Ready.{check_ready, IsReadyCheck, IsReadyOf, HasChecks, HaveChecks}
+use Rattle.elab_checks.specs.Ready.{check_ready, IsReadyOf, HasChecks, HaveChecks}
 use Rattle.elab_checks.specs.declared.modules.ReadyChecks.{ReadyChecks}
 use Rattle.elab_checks.specs.declared.shelving.ReadyCheck.{ReadyCheck}
 use Rattle.elab_checks.proofs.SoFar.{Checks}

@@ -1,5 +1,5 @@
 -- The turn of an instance: its checks come behind those before.
-use Rattle.std.specs.Prelude.{◌≡◌, ℕ, ◌+◌, ◌<◌, ◌≤◌, List, ◌++◌, Some, flat_map, length, map, slice_index_or, take}
+use Rattle.std.specs.Prelude.{◌≡◌, ℕ, ◌+◌, ◌<◌, ◌≤◌, List, ◌++◌, Some, flat_map, length, slice_index_or, take}
 use Rattle.std.proofs.Common.{sym, subst}
 use Rattle.cond_expr.specs.Condition.{Condition}
 use Rattle.sg_delay.specs.declared.corners.Corner.{Corner}
@@ -9,7 +9,6 @@ use Rattle.elab_model.specs.declared.kinds.ElabKind.{ElabKind}
 use Rattle.elab_model.specs.Delays.{tick_of}
 use Rattle.elab_model.specs.Faults.{RefusesOneOf}
 use Rattle.elab_model.specs.Hierarchy.{Instance, instances}
-use Rattle.elab_model.specs.Names.{Variable}
 use Rattle.elab_model.specs.Nets.{OwnNet, nets}
 use Rattle.elab_circuit.specs.CheckUses as def
 use Rattle.elab_circuit.specs.Faults.{over}

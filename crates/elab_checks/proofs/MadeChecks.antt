@@ -1,7 +1,8 @@
 -- The three rows of a check of an instance.
-use Rattle.std.specs.Prelude.{◌≡◌, ℕ, ℤ, pos, ◌<◌, List, [], ◌∷◌, Option, Some, None, IfSome, length, map, option_to_list, slice_get, slice_index_or, refl}
+use Rattle.std.specs.Prelude.{◌≡◌, ℕ, ℤ, pos, ◌<◌, ◌^◌, false, List, [], ◌∷◌, Option, Some, None, IfSome, length, map, option_to_list, slice_get, slice_index_or, refl}
 use Rattle.std.specs.Option.{option_and_then, option_map}
 use Rattle.std.proofs.Common.{sym, ◌∙◌, ap}
+use Rattle.std.proofs.lemmas.Bool.{leb-false}
 use Rattle.std.proofs.lemmas.Option.{get_or_from_slice_get, slice_get-get_or, slice_get-map}
 use Rattle.cond_expr.specs.Condition.{Condition}
 use Rattle.cond_expr.specs.Token.{Tok}
@@ -15,19 +16,20 @@ use Rattle.sg_circuit.specs.declared.checks.Event.{Event}
 use Rattle.sg_circuit.specs.declared.checks.Terminal.{Terminal}
 use Rattle.sg_logic.specs.declared.values.Value.TheVariants.{X}
 use Rattle.elab_model.specs.Names.{Variable}
+use Rattle.elab_model.specs.TerminalFaults.{delay_limit}
 use Rattle.specify_model.specs.Conditions.{over}
 use Rattle.specify_model.specs.Terms.{NetBit}
 use Rattle.elab_circuit.specs.CheckUses.{EventUse, check_of_use, check_use, event_of_use, event_use, timing_of_use, two_limits, written_of, written_of_use}
 use Rattle.elab_laws.specs.Handing.{all_bits}
+use Rattle.specify_values.specs.Seen.{is_too_long}
 use Rattle.specify_paths.specs.Seen.{bit_seen}
 use Rattle.specify_checks.specs.Seen.{enabling_seen}
 use Rattle.elab_paths.specs.Uses.{IsRow}
 use Rattle.elab_paths.proofs.AddedPaths.{net-in-row}
 use Rattle.elab_checks.specs.Ready.{check_ready, enabling_at, event_ready, IsReadyCheck, IsReadyEvent}
-use Rattle.elab_checks.specs.Uses.{second_ticks, terminal_ready, AddsCheck}
+use Rattle.elab_checks.specs.Uses.{second_ticks, terminal_ready}
 use Rattle.elab_checks.specs.declared.shelving.ReadyCheck.{ReadyCheck}
 use Rattle.elab_checks.specs.declared.shelving.ReadyEvent.{ReadyEvent}
-use Rattle.elab_checks.specs.declared.uses.CircuitChecks.{CircuitChecks}
 use Rattle.elab_checks.proofs.BoundEvents.{bit-within}
 
 module _ (vs : List Variable) (row : List ℕ) (net : NetBit → ℕ) (conditions : List Condition) where
@@ -87,6 +89,14 @@ module _ (vs : List Variable) (row : List ℕ) (net : NetBit → ℕ) (condition
       → written_seen conditions w ≡ written_of_use (check_use scope net (check_ready conditions vs c))
   check-spelled scope c w h e f =
       λ i. record { refer = (ap (text_at conditions) e ∙ text-spelled c.refer.condition h.refer_stands.written) i; datum = (ap (text_at conditions) f ∙ datum-spelled c.datum h.datum_stands) i }
+
+-- what isn't too long is short
+pub short : (n : ℕ) → is_too_long n ≡ false → n < 2 ^ 60
+short n e = leb-false delay_limit n e
+
+pub short-if : (o : Option ℕ) → IfSome o (λ n. is_too_long n ≡ false) → IfSome o (λ n. n < 2 ^ 60)
+short-if None h = tt
+short-if (Some n) h = short n h
 
 -- what is named stands in the table
 datum-below : (vs : List Variable) (n : ℕ) (o : Option ReadyEvent) → IfSome o (IsReadyEvent vs n) → IfSome (option_and_then (λ e. e.condition) o) (λ i. i < n)

@@ -1,6 +1,6 @@
 -- The checks of one module, with their conditions in the table.
 use Rattle.std.specs.Prelude.{◌≡◌, ℤ, All, List, ◌++◌, length, map}
-use Rattle.std.proofs.Common.{◌∙◌, ap, sym, subst}
+use Rattle.std.proofs.Common.{◌∙◌, ap, subst}
 use Rattle.cond_expr.specs.Condition.{Condition}
 use Rattle.sg_delay.specs.declared.corners.Corner.{Corner}
 use Rattle.sg_text.specs.declared.refusals.Refused.{Refused}

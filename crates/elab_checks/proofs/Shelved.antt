@@ -12,7 +12,7 @@ use Rattle.specify_checks.specs.declared.events.ModuleEvent.{ModuleEvent}
 use Rattle.elab_paths.specs.Shelving.{AreRead, ListGrows}
 use Rattle.elab_paths.proofs.OnShelves.{grows-then, grown-front, grown-longer}
 use Rattle.elab_paths.proofs.SideBySide.{Each, all-parted, each-all, each-same, each-then}
-use Rattle.elab_checks.specs.Ready.{check_ready, enabling_at, event_ready, IsReadyCheck, IsReadyEvent, IsWritten}
+use Rattle.elab_checks.specs.Ready.{check_ready, event_ready, IsReadyCheck, IsReadyEvent}
 use Rattle.elab_checks.specs.Shelving.{IsShelvedCheck, IsShelvedCondition, IsShelvedDatum, IsShelvedEvent}
 use Rattle.elab_checks.specs.declared.shelving.ReadyCheck.{ReadyCheck}
 use Rattle.elab_checks.specs.declared.shelving.ReadyEvent.{ReadyEvent}

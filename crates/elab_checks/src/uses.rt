@@ -1,5 +1,5 @@
 // The timing checks of instances, over nets.
-ghost use Rattle.std.specs.Prelude.{◌≡◌, ◌<◌, ◌≤◌, ◌+◌, ◌++◌, ◌^◌, ℕ, List, All, Some, false, pos, IfOk, IfErr, IfSome, OnOk, length, map, slice_get};
+ghost use Rattle.std.specs.Prelude.{◌≡◌, ◌<◌, ◌≤◌, ◌+◌, ◌++◌, ◌^◌, ℕ, List, All, Some, pos, IfOk, IfErr, IfSome, OnOk, length, map, slice_get};
 ghost use Rattle.std.specs.Option.{option_and_then, option_map};
 ghost use Rattle.cond_expr.specs.Condition.{Condition};
 ghost use Rattle.sg_delay.specs.declared.corners.Corner as ghost_corner;
@@ -16,7 +16,6 @@ ghost use Rattle.elab_nets.specs.Refusals.{RefusesCount};
 ghost use Rattle.elab_hierarchy.specs.declared.instances.Placed as ghost_placed;
 ghost use Rattle.elab_elements.specs.Adding.{IsHere};
 ghost use Rattle.specify_model.specs.Terms.{NetBit};
-ghost use Rattle.specify_values.specs.Seen.{is_too_long};
 ghost use Rattle.elab_paths.specs.Uses.{IsRow};
 ghost use Rattle.elab_checks.specs.Ready.{check_ready, event_ready, IsReadyCheck};
 ghost use Rattle.elab_checks.specs.Standing.{AreGiven, IsStanding, checks_at};
@@ -114,14 +113,14 @@ fn datum_of(
 
 // A limit as a circuit has it.
 fn limit_of(ticks: u64) -> i64
-    requires { is_too_long ticks ≡ false }
+    requires { ticks < 2 ^ 60 }
     ensures { result ≡ pos ticks }
 {
     ticks as i64
 }
 
 fn second_limit(ticks: Option<u64>) -> i64
-    requires { IfSome ticks (λ n. is_too_long n ≡ false) }
+    requires { IfSome ticks (λ n. n < 2 ^ 60) }
     ensures { result ≡ second_ticks ticks }
 {
     match ticks {

@@ -1,5 +1,5 @@
 -- The circuit of a netlist below a top.
-use Rattle.std.specs.Prelude.{ℕ, ◌+◌, List, [], ◌++◌, Bool, if◌then◌else◌, length, map, zip}
+use Rattle.std.specs.Prelude.{ℕ, ◌+◌, List, ◌++◌, Bool, if◌then◌else◌, length, map, zip}
 use Rattle.std.specs.List.{list_any}
 use Rattle.sg_circuit.specs.Circuit.{Circuit}
 use Rattle.sg_circuit.specs.declared.nets.Driver.{Driver}

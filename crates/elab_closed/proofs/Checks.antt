@@ -1,8 +1,8 @@
 -- Each check of the circuit names an instance and nets that there are, and has what its kind asks for.
-use Rattle.std.specs.Prelude.{◌≡◌, ◌↔◌, ℕ, zero, suc, ℤ, pos, ◌-ℤ◌, ◌+◌, ◌<◌, ◌≤◌, ◌^◌, ◌==◌, ◌&&◌, unsigned_abs, List, [], ◌∷◌, ◌++◌, Bool, true, false, not, Option, Some, None, IfSome, IsSome, All, bytes_eq, cond, find, flat_map, is_none, length, map, nat_le, refl, slice_index_or, if◌then◌else◌}
+use Rattle.std.specs.Prelude.{◌≡◌, ◌↔◌, ℕ, zero, suc, ℤ, pos, ◌-ℤ◌, ◌+◌, ◌<◌, ◌≤◌, ◌^◌, ◌==◌, ◌&&◌, unsigned_abs, List, [], ◌∷◌, ◌++◌, Bool, true, false, not, Option, Some, None, IfSome, IsSome, bytes_eq, cond, find, flat_map, is_none, length, map, nat_le, refl, slice_index_or, if◌then◌else◌}
 use Rattle.std.specs.List.{AllByRecursion}
 use Rattle.std.specs.Option.{option_map}
-use Rattle.std.proofs.Common.{sym, ◌∙◌, ap, arith, inl, inr, subst}
+use Rattle.std.proofs.Common.{sym, ◌∙◌, arith, inl, inr, subst}
 use Rattle.std.proofs.lemmas.Bool.{leb-false}
 use Rattle.std.proofs.lemmas.List.{length-map}
 use Rattle.std.proofs.lemmas.List.Elements.{All-from_recursion}
@@ -16,7 +16,6 @@ use Rattle.sg_circuit.specs.declared.checks.CheckTiming as code_timing
 use Rattle.sg_circuit.specs.declared.nets.Driver.TheVariants.{Notifier}
 use Rattle.sg_circuit.specs.declared.scopes.Range.{Range}
 use Rattle.sg_delay.specs.declared.corners.Corner.{Corner}
-use Rattle.sg_text.specs.declared.places.Place.{Place}
 use Rattle.vl_tree.specs.declared.check_names.OneLimitCheck.TheVariants as one
 use Rattle.vl_tree.specs.declared.check_names.TwoLimitCheck.TheVariants as two
 use Rattle.vl_tree.specs.declared.expressions.Select.{Select}
@@ -25,7 +24,7 @@ use Rattle.elab_model.specs.declared.kinds.ElabKind.TheVariants.{UnknownName, Ba
 use Rattle.elab_model.specs.Bits.{positions, variable_named}
 use Rattle.elab_model.specs.Delays.{tick_of}
 use Rattle.elab_model.specs.Drivers.{Drive, drive, variable_drives, net_place, reg_drives, check_drives}
-use Rattle.elab_model.specs.Faults.{fault, fault_if}
+use Rattle.elab_model.specs.Faults.{fault_if}
 use Rattle.elab_model.specs.Hierarchy.{Instance, instances}
 use Rattle.elab_model.specs.Homes.{home_of}
 use Rattle.elab_model.specs.Leaves.{leaf_of}
@@ -34,8 +33,8 @@ use Rattle.elab_model.specs.Nets.{nets, number_of}
 use Rattle.elab_model.specs.Ports.{net_declarations}
 use Rattle.elab_model.specs.TerminalFaults.{delay_limit, is_missing, leaf_faults, part_faults as select_faults, width_faults}
 use Rattle.specify_model.specs.Blocks.{parameters, specify_items}
-use Rattle.specify_model.specs.CheckFaults.{wants_edge, edge_faults, event_condition_faults, event_faults, some_event_faults, limit_parts, is_below_0, part_faults, limit_faults, threshold_faults, found_notifier_faults, notifier_faults, check_faults as own_faults, timing_check_faults}
-use Rattle.specify_model.specs.Checks.{ModuleEvent, ModuleCheck, check_texts, data_of, event_of, kind_of, corner_limit, limit_ticks, limits_in, module_check, notifier_of, reference_of, reg_bit, signed_ticks, size_ticks, threshold_of, threshold_ticks, timing_checks}
+use Rattle.specify_model.specs.CheckFaults.{edge_faults, event_condition_faults, event_faults, some_event_faults, limit_parts, is_below_0, part_faults, limit_faults, threshold_faults, found_notifier_faults, notifier_faults, check_faults as own_faults, timing_check_faults}
+use Rattle.specify_model.specs.Checks.{ModuleEvent, ModuleCheck, check_texts, data_of, event_of, kind_of, corner_limit, limit_ticks, limits_in, module_check, notifier_of, reference_of, reg_bit, size_ticks, threshold_of, threshold_ticks, timing_checks}
 use Rattle.specify_model.specs.Faults.{amount_place, long_faults, operand_faults, term_faults, unknown_faults}
 use Rattle.specify_model.specs.Outputs.{measure}
 use Rattle.specify_model.specs.Paths.{edge_of}

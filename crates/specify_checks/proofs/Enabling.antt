@@ -1,5 +1,5 @@
 -- What enables events, as it was read.
-use Rattle.std.specs.Prelude.{◌≡◌, List, [], Option, Some, map}
+use Rattle.std.specs.Prelude.{◌≡◌, List, [], Some, map}
 use Rattle.std.specs.Option.{option_map}
 use Rattle.std.proofs.Common.{sym, ◌∙◌, ap, subst, Vec, Global}
 use Rattle.cond_expr.specs.Condition.{Condition}

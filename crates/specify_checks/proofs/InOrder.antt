@@ -1,9 +1,9 @@
 -- The faults of a timing check, part by part, and the check that its parts make.
-use Rattle.std.specs.Prelude.{◌≡◌, ℕ, pos, List, [], ◌∷◌, ◌++◌, ◌&&◌, Option, is_none, flat_map, map, option_to_list, refl}
+use Rattle.std.specs.Prelude.{◌≡◌, pos, List, [], ◌∷◌, ◌++◌, ◌&&◌, is_none, flat_map, map, option_to_list}
 use Rattle.std.specs.Option.{option_map}
 use Rattle.std.proofs.Common.{sym, ◌∙◌, ap, subst}
 use Rattle.sg_text.specs.declared.refusals.Refused.{Refused}
-use Rattle.vl_tree.specs.Tree.{Named, Limit, Event, Check}
+use Rattle.vl_tree.specs.Tree.{Check}
 use Rattle.vl_tree.specs.Seen.{view_event, view_limit, view_name}
 use Rattle.elab_model.specs.declared.kinds.ElabKind.{ElabKind}
 use Rattle.elab_model.specs.declared.kinds.ElabKind.TheVariants.{BadTerminal}

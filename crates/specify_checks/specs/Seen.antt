@@ -1,5 +1,5 @@
 -- The code's timing checks, as the definitions see them.
-use Rattle.std.specs.Prelude.{◌≡◌, ℕ, pos, ◌<◌, false, List, ◌∷◌, IfSome, length, map, option_to_list}
+use Rattle.std.specs.Prelude.{◌≡◌, pos, ◌<◌, false, List, ◌∷◌, IfSome, length, map, option_to_list}
 use Rattle.std.specs.Option.{option_map}
 use Rattle.cond_expr.specs.Condition.{Condition}
 use Rattle.cond_expr.specs.Token.{Tok}

@@ -15,7 +15,7 @@ use Rattle.vl_tree.specs.declared.check_names.TwoLimitCheck.{TwoLimitCheck}
 use Rattle.vl_tree.specs.declared.check_names.TwoLimitCheck.TheVariants as two
 use Rattle.vl_tree.specs.declared.expressions.Select.{Select}
 use Rattle.vl_tree.specs.declared.expressions.Select.TheVariants as select
-use Rattle.vl_tree.specs.Tree.{Named, SignedAmount, Limit, one_limit, three_limits, Word, Event, Check, one_limit_check, two_limit_check, width_check, period_check, SpecifyItem, specparams, a_path, pulse_style, a_check, Module}
+use Rattle.vl_tree.specs.Tree.{Named, SignedAmount, Limit, one_limit, three_limits, Event, Check, one_limit_check, two_limit_check, width_check, period_check, SpecifyItem, specparams, a_path, pulse_style, a_check, Module}
 use Rattle.elab_model.specs.Names.{Variable, variables}
 use Rattle.specify_model.specs.Blocks.{specify_items, parameters}
 use Rattle.specify_model.specs.Conditions.{tokens, tree_of, bound_to, first_bit}

@@ -1,5 +1,5 @@
 -- One check more, or the first that has a fault.
-use Rattle.std.specs.Prelude.{flat_map, map}
+use Rattle.std.specs.Prelude.{flat_map}
 use Rattle.std.proofs.lemmas.Result.{err_from_is_err_and}
 use Rattle.specify_model.specs.CheckFaults.{check_faults}
 use Rattle.specify_values.specs.Seen.{measured, values_of, view_checks}

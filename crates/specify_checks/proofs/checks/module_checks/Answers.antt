@@ -1,6 +1,5 @@
 -- The checks of the module's texts, by its specparams.
-use Rattle.std.specs.Prelude.{flat_map, map}
-use Rattle.std.proofs.Common.{◌∙◌, sym, ap, subst}
+use Rattle.std.proofs.Common.{◌∙◌, sym, subst}
 use Rattle.std.proofs.lemmas.Result.{err_from_is_err_and}
 use Rattle.vl_tree.specs.Seen.{view_module}
 use Rattle.elab_model.specs.Faults.{RefusesOneOf}
