@@ -10,7 +10,7 @@ use Rattle.sg_delay.specs.declared.corners.Corner.TheVariants.{Typ}
 use Rattle.sg_logic.specs.declared.edges.TheConstants.{POSEDGE, NEGEDGE}
 use Rattle.vl_tree.specs.declared.check_names.OneLimitCheck.TheVariants as one
 use Rattle.vl_tree.specs.declared.check_names.TwoLimitCheck.TheVariants as two
-use Rattle.vl_tree.specs.Tree.{a_number, a_parameter, SignedAmount, Limit, one_limit, three_limits, EdgeWord, posedge, negedge, Term, Word, Event, Check, one_limit_check, two_limit_check, width_check, period_check}
+use Rattle.vl_tree.specs.Tree.{a_number, a_parameter, SignedAmount, one_limit, three_limits, EdgeWord, posedge, negedge, Term, Word, Event, Check, one_limit_check, two_limit_check, width_check, period_check}
 use Rattle.elab_model.specs.declared.kinds.ElabKind.TheVariants.{UnknownName, WidthMismatch, BadTerminal, BadDelay, NegativeLimit}
 use Rattle.elab_model.specs.Faults.{Fault, fault}
 use Rattle.elab_model.specs.Names.{Variable}

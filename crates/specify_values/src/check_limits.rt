@@ -1,5 +1,5 @@
 // Limits of timing checks in ticks.
-ghost use Rattle.std.specs.Prelude.{◌≡◌, pos, false, IfOk, flat_map};
+ghost use Rattle.std.specs.Prelude.{◌≡◌, ◌&&◌, ◌==◌, pos, false, not, IfOk, flat_map};
 ghost use Rattle.vl_tree.specs.Seen.{view_limit, view_signed};
 ghost use Rattle.specify_model.specs.CheckFaults as faults;
 ghost use Rattle.specify_model.specs.Checks as def;
@@ -41,6 +41,13 @@ fn corner_part<'a>(corner: Corner, limit: &Limit<'a>) -> SignedAmount<'a>
     }
 }
 
+// What is written is below 0.
+fn is_below_0(part: &SignedAmount, ticks: u64) -> bool
+    ensures { result ≡ (part.now.negative && not (ticks == 0)) }
+{
+    part.negative && ticks != 0
+}
+
 // What is written behind the sign. Refuses 2^60 ticks and more (BadDelay), and a size below 0 (NegativeLimit), at the amount.
 fn part_ticks(
     by: Measure,
@@ -53,7 +60,7 @@ fn part_ticks(
     ensures told { Tells (faults.part_faults (measured by) (values_of parameters.now) (view_signed part.now)) result }
 {
     let ticks = amount_ticks(by, parameters, &part.amount)?;
-    if part.negative && ticks != 0 {
+    if is_below_0(part, ticks) {
         return Err(Refused::Fault {
             kind: ElabKind::NegativeLimit,
             place: place_of(&part.amount),
