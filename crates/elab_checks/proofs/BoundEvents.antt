@@ -2,7 +2,7 @@
 use Rattle.std.specs.Prelude.{◌≡◌, ℕ, ◌<◌, List, Option, Some, None, length, slice_get, slice_index_or}
 use Rattle.std.specs.Option.{option_map}
 use Rattle.std.proofs.Common.{sym, ◌∙◌, ap, arith, subst}
-use Rattle.std.proofs.lemmas.Option.{slice_get_within}
+use Rattle.std.proofs.lemmas.Option.{slice_get_within, slice_get-get_or}
 use Rattle.cond_expr.specs.Binding.{IsBound, BindFaultStands}
 use Rattle.cond_expr.specs.declared.binding.BindFault.{BindFault}
 use Rattle.cond_expr.specs.declared.binding.BindFault.TheVariants.{Unknown}
@@ -15,6 +15,7 @@ use Rattle.specify_model.specs.Conditions.{over}
 use Rattle.specify_model.specs.Terms.{NetBit}
 use Rattle.elab_circuit.specs.CheckUses.{event_of_use, event_use}
 use Rattle.elab_laws.specs.Handing.{all_bits}
+use Rattle.specify_paths.specs.Seen.{bit_seen}
 use Rattle.specify_checks.specs.Seen.{enabling_seen}
 use Rattle.elab_paths.specs.Operands.{net_named}
 use Rattle.elab_paths.specs.Uses.{IsRow, IsSound}
@@ -56,10 +57,16 @@ none-enabled net conditions vs o e = ap (enabled_over net conditions vs) (sym e)
 
 -- ---- events
 
-pub event-over : (vs : List Variable) (row : List ℕ) (net : NetBit → ℕ) (conditions : List Condition) (e : ReadyEvent) (n d : ℕ) (b : Option (Cond ℕ)) → IsRow vs row net → e.bit < length (all_bits vs)
-    → n ≡ slice_index_or row e.bit d → b ≡ enabled_over net conditions vs e.condition
-    → ◌≡◌ {A = Event} (record { net = n; edge = e.edge; condition = b }) (event_of_use (event_use net (event_ready conditions vs e)))
-event-over vs row net conditions e n d b r lt is enabled = λ i. record { net = (is ∙ net-in-row vs row net e.bit d r lt) i; edge = e.edge; condition = enabled i }
-
 pub bit-within : (vs : List Variable) (row : List ℕ) (net : NetBit → ℕ) (i : ℕ) → IsRow vs row net → i < length (all_bits vs) → i < length row
 bit-within vs row net i r lt = let l = row-long vs row net r in omega (arith, l, lt)
+
+net-is : (vs : List Variable) (row : List ℕ) (net : NetBit → ℕ) (i n : ℕ) → IsRow vs row net → i < length (all_bits vs) → slice_get row i ≡ Some n → n ≡ net (bit_seen vs i)
+net-is vs row net i n r lt f =
+    let g : ◌≡◌ {A = Option ℕ} (Some n) (Some (slice_index_or row i n)) = sym f ∙ slice_get-get_or row i n (bit-within vs row net i r lt) in
+    let is : n ≡ slice_index_or row i n = cc in
+    is ∙ net-in-row vs row net i n r lt
+
+pub event-over : (vs : List Variable) (row : List ℕ) (net : NetBit → ℕ) (conditions : List Condition) (e : ReadyEvent) (n : ℕ) (b : Option (Cond ℕ)) → IsRow vs row net → e.bit < length (all_bits vs)
+    → slice_get row e.bit ≡ Some n → b ≡ enabled_over net conditions vs e.condition
+    → ◌≡◌ {A = Event} (record { net = n; edge = e.edge; condition = b }) (event_of_use (event_use net (event_ready conditions vs e)))
+event-over vs row net conditions e n b r lt is enabled = λ i. record { net = net-is vs row net e.bit n r lt is i; edge = e.edge; condition = enabled i }

@@ -62,18 +62,26 @@ fn bound_at(
     requires bindable { IsBindable here.table.now conditions.now written }
     ensures { IfOk result (λ bound. (net : NetBit → ℕ) → IsRow here.entry.table.now here.entry.row.now net → bound ≡ enabled_over net conditions.now here.entry.table.now written) }
 {
-    let Some(written) = written else {
-        return Ok(None);
+    let place = match written {
+        Some(place) => place,
+        None => return Ok(None),
     };
     let operands = Operands {
         table: here.table,
         row: here.row,
     };
-    match conditions[written].bind(alloc, &operands) {
+    match conditions[place].bind(alloc, &operands) {
         Ok(bound) => Ok(Some(bound)),
         Err(BindFault::NoMemory) => Err(NoMemory),
         Err(BindFault::Unknown { .. }) => unreachable!(),
     }
+}
+
+fn net_at(row: &[NetId], bit: usize) -> NetId
+    requires { bit < length row.now }
+    ensures { slice_get row.now bit ≡ Some result }
+{
+    row[bit]
 }
 
 fn event_of(
@@ -88,7 +96,7 @@ fn event_of(
 {
     let condition = bound_at(alloc, here, conditions, event.condition)?;
     Ok(Event {
-        net: here.row[event.bit],
+        net: net_at(here.row, event.bit),
         edge: event.edge,
         condition,
     })
@@ -183,7 +191,7 @@ fn notifier_of(row: &[NetId], notifier: Option<usize>) -> Option<NetId>
     ensures { result ≡ option_and_then (slice_get row.now) notifier }
 {
     match notifier {
-        Some(bit) => Some(row[bit]),
+        Some(bit) => Some(net_at(row, bit)),
         None => None,
     }
 }
