@@ -2,6 +2,8 @@
 pub mod OneBit
 pub mod Enabling
 pub mod RegBits
+pub mod Edges
+pub mod Seconds
 pub mod InOrder
 pub mod NextCheck
 pub mod Whole

@@ -39,21 +39,22 @@ pub struct ModuleCheck {
     pub notifier: Option<usize>,
 }
 
-fn wants_edge(kind: CheckKind) -> bool
-    ensures { result ≡ faults.wants_edge kind }
+// A check of one event is without an edge.
+fn lacks_edge(kind: CheckKind, reference: &Event) -> bool
+    ensures { result ≡ (faults.wants_edge kind && is_none reference.now.edge) }
 {
     match kind {
-        CheckKind::Width => true,
-        CheckKind::Period => true,
+        CheckKind::Width => reference.edge.is_none(),
+        CheckKind::Period => reference.edge.is_none(),
         _ => false,
     }
 }
 
-// Refuses a check of one event without an edge.
+// Refuses such a check.
 fn check_edge(kind: CheckKind, reference: &Event) -> Result<(), Refused<ElabKind>>
     ensures { Tells (fault_if (faults.wants_edge kind && is_none (view_event reference.now).edge) BadTerminal reference.now.place) result }
 {
-    if wants_edge(kind) && reference.edge.is_none() {
+    if lacks_edge(kind, reference) {
         return Err(Refused::Fault {
             kind: ElabKind::BadTerminal,
             place: reference.place,
@@ -73,7 +74,7 @@ fn second_ticks(
     ensures told { Tells (flat_map (faults.limit_faults (measured by) (values_of parameters.now)) (option_to_list (option_map view_limit limit.now))) result }
 {
     match limit {
-        Some(limit) => Ok(Some(limit_ticks(by, parameters, limit)?)),
+        Some(second) => Ok(Some(limit_ticks(by, parameters, second)?)),
         None => Ok(None),
     }
 }

@@ -17,7 +17,7 @@ use Rattle.specify_values.specs.Seen.{is_too_long}
 use Rattle.specify_values.proofs.InTurn.{fault-told}
 
 -- no fault where a test doesn't hold, and the other way round
-none-if : (b : Bool) (k : ElabKind) (p : Place) → b ≡ false → fault_if b k p ≡ []
+pub none-if : (b : Bool) (k : ElabKind) (p : Place) → b ≡ false → fault_if b k p ≡ []
 none-if b k p e = ap (λ c. fault_if c k p) e
 
 pub if-none : (b : Bool) (k : ElabKind) (p : Place) → fault_if b k p ≡ [] → b ≡ false
