@@ -7,8 +7,8 @@ use Rattle.elab_elements.proofs.Putting.{exit-by}
 use Rattle.elab_checks.proofs.MadeChecks.{check-spelled, check-written}
 use Rattle.elab_checks.proofs.uses.add_check.Goals as goal
 
-pub check_of-own-requires-clause-ready : goal.check_of-own-requires-clause-ready
-check_of-own-requires-clause-ready c = (length c.args.conditions.now, c.requires.usable.ready)
+pub check_of-requires-clause-ready : goal.check_of-requires-clause-ready
+check_of-requires-clause-ready c = (length c.args.conditions.now, c.requires.usable.ready)
 
 pub returns-in_err-check_count-clause-refused : goal.returns-in_err-check_count-clause-refused
 returns-in_err-check_count-clause-refused c =

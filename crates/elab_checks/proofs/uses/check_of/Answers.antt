@@ -18,11 +18,11 @@ within : (vs : List Variable) (row : List ℕ) (net : NetBit → ℕ) (o : Optio
 within vs row net None r h = tt
 within vs row net (Some i) r h = bit-within vs row net i r h
 
-pub terminal_of-refer-requires : goal.terminal_of-refer-requires
-terminal_of-refer-requires c = c.requires.ready.1.refer_stands.in_row
+pub terminal_of-requires : goal.terminal_of-requires
+terminal_of-requires c = c.requires.ready.1.refer_stands.in_row
 
-pub datum_terminal-datum-requires : goal.datum_terminal-datum-requires
-datum_terminal-datum-requires c = in-row c.args.here.table.now c.requires.ready.0 c.args.check.now.datum c.requires.ready.1.datum_stands
+pub datum_terminal-requires : goal.datum_terminal-requires
+datum_terminal-requires c = in-row c.args.here.table.now c.requires.ready.0 c.args.check.now.datum c.requires.ready.1.datum_stands
 
 pub notifier_of-requires : goal.notifier_of-requires
 notifier_of-requires c = within c.args.here.table.now c.args.here.row.now c.requires.row.0 c.args.check.now.notifier c.requires.row.1 c.requires.ready.1.notifier_in_row
