@@ -1,6 +1,6 @@
 -- The checks of one module, with their conditions in the table.
-use Rattle.std.specs.Prelude.{◌≡◌, ℤ, All, List, ◌++◌, length, map}
-use Rattle.std.proofs.Common.{◌∙◌, ap, subst}
+use Rattle.std.specs.Prelude.{◌≡◌, ℤ, All, List, [], ◌++◌, length, map}
+use Rattle.std.proofs.Common.{sym, ◌∙◌, ap, subst}
 use Rattle.cond_expr.specs.Condition.{Condition}
 use Rattle.sg_delay.specs.declared.corners.Corner.{Corner}
 use Rattle.sg_text.specs.declared.refusals.Refused.{Refused}
@@ -37,3 +37,6 @@ faults-same corner tick n m vs e t = ap (λ k. all_check_faults (measure corner 
 pub own-refused : (corner : Corner) (tick : ℤ) (n m : Module) (vs : List Variable) (r : Refused ElabKind) → n ≡ m → vs ≡ variables m
     → RefusesOneOf (all_check_faults (measure corner tick n) vs (specify_items n)) r → RefusesOneOf (timing_check_faults corner tick m) r
 own-refused corner tick n m vs r e t h = subst (λ fs. RefusesOneOf fs r) (faults-same corner tick n m vs e t) h
+
+pub own-faultless : (corner : Corner) (tick : ℤ) (n m : Module) (vs : List Variable) → n ≡ m → vs ≡ variables m → all_check_faults (measure corner tick n) vs (specify_items n) ≡ [] → timing_check_faults corner tick m ≡ []
+own-faultless corner tick n m vs e t h = sym (faults-same corner tick n m vs e t) ∙ h
