@@ -1,9 +1,11 @@
-// Circuits as lines: the tick as a power of ten of a second, nets, elements and scopes by their numbers.
+// Circuits as lines: the tick as a power of ten of a second, nets, elements, timing checks and scopes by their numbers.
 use anyhow::Context;
 use sg_circuit::{
-    Circuit, Driver, Element, ElementKind, Net, Parts, Path, PathCondition, Scope, Variable,
+    Check, CheckConditions, CheckTiming, Circuit, Driver, Element, ElementKind, Event, Net, Parts,
+    Path, PathCondition, Scope, Terminal, Variable,
 };
 use sg_delay::Limit;
+use sg_logic::Edge;
 use sg_text::Text;
 
 /// Adds a circuit's lines to a text.
@@ -18,6 +20,11 @@ pub fn show_circuit(circuit: &Circuit, out: &mut String) -> anyhow::Result<()> {
     for (number, element) in parts.elements.iter().enumerate() {
         write!(out, "element {number} ")?;
         show_element(parts, element, out)?;
+    }
+    for (number, check) in parts.checks.iter().enumerate() {
+        write!(out, "check {number} ")?;
+        show_check(check, out)?;
+        show_what_it_looks_for(parts, number, out)?;
     }
     for (number, scope) in parts.scopes.iter().enumerate() {
         write!(out, "scope {number} ")?;
@@ -93,12 +100,7 @@ fn show_element(parts: &Parts, element: &Element, out: &mut String) -> anyhow::R
 fn show_path(parts: &Parts, path: &Path, out: &mut String) -> anyhow::Result<()> {
     let input = path.input;
     write!(out, "  from {input}")?;
-    if let Some(edge) = path.edge {
-        write!(out, " edge")?;
-        for has in edge.has {
-            write!(out, " {}", u8::from(has))?;
-        }
-    }
+    show_edge(path.edge, out)?;
     match &path.condition {
         PathCondition::Always => {}
         PathCondition::If { written, .. } => write!(out, " if {written}")?,
@@ -112,6 +114,79 @@ fn show_path(parts: &Parts, path: &Path, out: &mut String) -> anyhow::Result<()>
         if let Limit::Own(widths) = timing.limits.at[0] {
             write!(out, " limits {} {}", widths.reject, widths.error)?;
         }
+    }
+    writeln!(out, "")?;
+    Ok(())
+}
+
+fn show_edge(edge: Option<Edge>, out: &mut String) -> anyhow::Result<()> {
+    if let Some(edge) = edge {
+        write!(out, " edge")?;
+        for has in edge.has {
+            write!(out, " {}", u8::from(has))?;
+        }
+    }
+    Ok(())
+}
+
+fn show_terminal(terminal: &Terminal, out: &mut String) -> anyhow::Result<()> {
+    show_text(&terminal.name, out)?;
+    if let Some(bit) = terminal.bit {
+        write!(out, "[{bit}]")?;
+    }
+    Ok(())
+}
+
+fn show_check(check: &Check, out: &mut String) -> anyhow::Result<()> {
+    let kind = check.kind;
+    let scope = check.scope;
+    write!(out, "{kind:?} in {scope}: ")?;
+    show_terminal(&check.refer, out)?;
+    if let Some(datum) = &check.datum {
+        write!(out, " ")?;
+        show_terminal(datum, out)?;
+    }
+    if let Some(notifier) = check.notifier {
+        write!(out, ", notifier {notifier}")?;
+    }
+    writeln!(out, "")?;
+    Ok(())
+}
+
+fn show_what_it_looks_for(parts: &Parts, number: usize, out: &mut String) -> anyhow::Result<()> {
+    if let Some(timing) = parts.check_timings.get(number) {
+        if let Some(written) = parts.check_conditions.get(number) {
+            show_timing(timing, written, out)?;
+        }
+    }
+    Ok(())
+}
+
+fn show_timing(
+    timing: &CheckTiming,
+    written: &CheckConditions,
+    out: &mut String,
+) -> anyhow::Result<()> {
+    write!(out, "  limits")?;
+    for limit in timing.limits {
+        write!(out, " {limit}")?;
+    }
+    let threshold = timing.threshold;
+    writeln!(out, " threshold {threshold}")?;
+    show_event(&timing.refer, written.refer, out)?;
+    if let Some(event) = &timing.datum {
+        show_event(event, written.datum, out)?;
+    }
+    Ok(())
+}
+
+// An event: its net, which of the six changes it is, and the place of its condition.
+fn show_event(event: &Event, written: Option<usize>, out: &mut String) -> anyhow::Result<()> {
+    let net = event.net;
+    write!(out, "  on {net}")?;
+    show_edge(event.edge, out)?;
+    if let Some(written) = written {
+        write!(out, " if {written}")?;
     }
     writeln!(out, "")?;
     Ok(())

@@ -26,6 +26,8 @@ inverter_circuit : circuit (a_module inverter ∷ []) inverter Typ ≡ record {
   nets = net 0 (codes "a") None driver.Stimulus ∷ net 0 (codes "y") None (driver.Element 0) ∷ [];
   elements = element 0 (0 ∷ []) 1 (Gate Not []) ∷ [];
   checks = [];
+  check_timings = [];
+  check_conditions = [];
   scopes = scope None (codes "t") (codes "t") false (variable (codes "a") port.Input (0 ∷ []) ∷ variable (codes "y") port.Output (1 ∷ []) ∷ []) ∷ [];
 }
 inverter_circuit = refl

@@ -66,6 +66,8 @@ above_circuit = record {
       ∷ element 3 (3 ∷ []) 9 leg_kind
       ∷ element 3 (8 ∷ 9 ∷ []) 2 (Gate And []) ∷ [];
   checks = [];
+  check_timings = [];
+  check_conditions = [];
   scopes =
       scope None (codes "top") (codes "top") false (variable (codes "a") port.Input (0 ∷ []) ∷ vector (codes "q") (pos 1) (pos 0) port.Output (1 ∷ 2 ∷ []) ∷ variable (codes "w") port.Inner (3 ∷ []) ∷ [])
       ∷ scope (Some 0) (codes "i") (codes "m") false (variable (codes "q") port.Output (1 ∷ []) ∷ variable (codes "d") port.Input (0 ∷ []) ∷ [])

@@ -4,7 +4,7 @@ use Rattle.vl_tree.specs.declared.names.Direction.TheVariants.{Input, Output}
 use Rattle.sg_delay.specs.declared.corners.Corner.TheVariants.{Typ}
 use Rattle.sg_logic.specs.declared.values.Value.TheVariants.{Zero}
 use Rattle.vl_tree.specs.Tree.{one_number, by_order, by_name, Item, instances, Module, a_module, Source}
-use Rattle.elab_model.specs.declared.kinds.ElabKind.TheVariants.{UnknownModule, DuplicateName, UnknownName, WidthMismatch, SecondDriver, SelfInstance, NoTop, SeveralTops, SpecifyInHierarchy, BadTerminal, TooDeep, BadDelay, NotYet}
+use Rattle.elab_model.specs.declared.kinds.ElabKind.TheVariants.{UnknownModule, DuplicateName, UnknownName, WidthMismatch, SecondDriver, SelfInstance, NoTop, SeveralTops, SpecifyInHierarchy, BadTerminal, TooDeep, BadDelay}
 use Rattle.elab_model.specs.Faults.{fault}
 use Rattle.elab_circuit.specs.Faults.{faults}
 use Rattle.elab_model.specs.HierarchyFaults.{start}
@@ -46,11 +46,11 @@ delayed_module = refl
 unnamed_module : faults (with_cell (instances (name (codes "c") 60) None (record { place = here 62; name = None; connections = by_order [] } ∷ []) ∷ [])) None Typ ≡ fault BadTerminal (here 62) ∷ []
 unnamed_module = refl
 
--- a timing check in the cell, which is reached by an instance, or isn't
+-- a timing check, of a net that the cell hasn't; the cell is reached by an instance, or isn't
 abbrev pub cell_with_block : Module
 cell_with_block = module_as as_cell (codes "c") 90 None (block_item 94 (width_item 95 (term (codes "w") 96) 1 ∷ []) ∷ [])
 
-reached_block : faults (a_module cell_with_block ∷ a_module (with_items (instance_item (codes "c") 61 (codes "u") (by_order []) ∷ [])) ∷ []) None Typ ≡ fault NotYet (here 95) ∷ []
+reached_block : faults (a_module cell_with_block ∷ a_module (with_items (instance_item (codes "c") 61 (codes "u") (by_order []) ∷ [])) ∷ []) None Typ ≡ fault UnknownName (here 96) ∷ []
 reached_block = refl
 
 unreached_block : faults (a_module cell_with_block ∷ a_module (with_items []) ∷ []) None Typ ≡ []

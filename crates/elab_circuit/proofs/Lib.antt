@@ -9,3 +9,4 @@ mod NameFaultExamples
 mod TerminalFaultExamples
 mod HierarchyFaultExamples
 mod PathExamples
+mod CheckExamples

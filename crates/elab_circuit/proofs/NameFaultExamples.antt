@@ -4,7 +4,7 @@ use Rattle.sg_delay.specs.declared.corners.Corner.TheVariants.{Typ}
 use Rattle.sg_logic.specs.declared.gates.GateKind.TheVariants.{Buf}
 use Rattle.vl_tree.specs.declared.names.Direction.TheVariants.{Input, Output}
 use Rattle.vl_tree.specs.Tree.{Item, gates, Module, a_module, Source}
-use Rattle.elab_model.specs.declared.kinds.ElabKind.TheVariants.{DuplicateName, UnknownName, WidthMismatch, BadTerminal, TooMany, NotYet}
+use Rattle.elab_model.specs.declared.kinds.ElabKind.TheVariants.{DuplicateName, UnknownName, WidthMismatch, BadTerminal, TooMany}
 use Rattle.elab_model.specs.Faults.{fault}
 use Rattle.elab_circuit.specs.Faults.{faults}
 use Rattle.elab_circuit.proofs.Writing.{here, name, use_of, range, port_item, net_name, wire_item, gate_item, term, width_item, block_item, plainly, none_implicit, module_as, listing}
@@ -50,7 +50,7 @@ widest : declaration_faults (with_items (wire_item (range (pos 65535) (pos 0)) (
 widest = refl
 
 -- specify endspecify specify $width (posedge a, 1); endspecify
-two_blocks : faults (alone (block_item 40 [] ∷ block_item 60 (width_item 61 (term (codes "a") 62) 1 ∷ []) ∷ [])) None Typ ≡ fault NotYet (here 61) ∷ []
+two_blocks : faults (alone (block_item 40 [] ∷ block_item 60 (width_item 61 (term (codes "a") 62) 1 ∷ []) ∷ [])) None Typ ≡ []
 two_blocks = refl
 
 -- buf (y, w); with no implicit nets, and with w declared

@@ -1,5 +1,5 @@
 -- The circuit of a netlist below a top.
-use Rattle.std.specs.Prelude.{ℕ, ◌+◌, List, [], ◌++◌, Bool, if◌then◌else◌, length, map, zip}
+use Rattle.std.specs.Prelude.{ℕ, ◌+◌, List, ◌++◌, Bool, if◌then◌else◌, length, map, zip}
 use Rattle.std.specs.List.{list_any}
 use Rattle.sg_circuit.specs.Circuit.{Circuit}
 use Rattle.sg_circuit.specs.declared.nets.Driver.{Driver}
@@ -15,6 +15,7 @@ use Rattle.elab_model.specs.Homes.{Spot, is_same_spot}
 use Rattle.elab_model.specs.Nets.{OwnNet, nets, number_of}
 use Rattle.elab_model.specs.Numbered.{element_of}
 use Rattle.elab_model.specs.Scopes.{scope_of}
+use Rattle.elab_circuit.specs.CheckUses.{check_uses, check_of_use, timing_of_use, written_of_use}
 use Rattle.elab_circuit.specs.PathUses.{PathUse, path_uses}
 use Rattle.elab_circuit.specs.WithPaths.{redirected, all_nets, all_elements}
 use Rattle.elab_circuit.specs.Driving.{Driving, drivers}
@@ -53,12 +54,13 @@ with_driver n = record n.0 { driver = n.1 }
 abbrev pub driven_nets : List Net → Driving → List Net
 driven_nets ns d = map with_driver (zip ns (drivers d (length ns)))
 
--- there are no timing checks, since a netlist that has one is refused
 abbrev pub circuit : Source → Module → Corner → Circuit
 circuit source top corner = record {
   tick = tick_of source top;
   nets = driven_nets (all_nets source top corner) (driving source top corner);
   elements = map (λ e. e.1) (all_elements source top corner);
-  checks = [];
+  checks = map check_of_use (check_uses source top corner);
+  check_timings = map timing_of_use (check_uses source top corner);
+  check_conditions = map written_of_use (check_uses source top corner);
   scopes = map (scope_of (nets source top) source) (instances source top);
 }

@@ -9,7 +9,9 @@ use Rattle.elab_model.specs.Faults.{Fault, fault, fault_if}
 use Rattle.elab_model.specs.Hierarchy.{instances}
 use Rattle.elab_model.specs.HierarchyFaults.{two_definitions, count_limit, start, first_too_many, instance_faults_below}
 use Rattle.elab_model.specs.Tops.{top_of}
+use Rattle.specify_model.specs.CheckFaults.{timing_check_faults}
 use Rattle.specify_model.specs.Faults.{blocks_in_hierarchy, specify_faults}
+use Rattle.elab_circuit.specs.CheckUses.{check_uses}
 use Rattle.elab_circuit.specs.PathUses.{path_uses}
 use Rattle.elab_circuit.specs.WithPaths.{all_nets, all_elements}
 use Rattle.elab_circuit.specs.Driving.{driving_faults}
@@ -22,7 +24,11 @@ module_path_faults source corner tick m = map (fault SpecifyInHierarchy) (blocks
 abbrev pub path_faults : Source → Module → Corner → List Fault
 path_faults source top corner = flat_map (λ s. module_path_faults source corner (tick_of source top) s.step.definition) (instances source top)
 
--- too many instances, nets, elements or specify paths; a path is one from an input bit to an output bit of an instance
+-- what timing checks say
+abbrev pub check_faults : Source → Module → Corner → List Fault
+check_faults source top corner = flat_map (λ s. timing_check_faults corner (tick_of source top) s.step.definition) (instances source top)
+
+-- too many instances, nets, elements, specify paths or timing checks; a path is one from an input bit to an output bit of an instance
 abbrev pub path_count : Source → Module → Corner → ℕ
 path_count source top corner = length (flat_map (λ u. u.paths) (path_uses source top corner))
 
@@ -32,7 +38,7 @@ over n = fault_if (nat_lt count_limit n) TooMany start
 abbrev pub too_many : Source → Module → Corner → List Fault
 too_many source top corner =
     first_too_many (drop count_limit (instances source top))
-    ++ (over (length (all_nets source top corner)) ++ (over (length (all_elements source top corner)) ++ over (path_count source top corner)))
+    ++ (over (length (all_nets source top corner)) ++ (over (length (all_elements source top corner)) ++ (over (path_count source top corner) ++ over (length (check_uses source top corner)))))
 
 -- a second driver, or a reg that is driven otherwise than by timing checks
 abbrev pub driver_faults : Source → Module → Corner → List Fault
@@ -42,7 +48,7 @@ driver_faults source top corner = driving_faults (driving source top corner) (le
 abbrev pub faults_below : Source → Module → Corner → List Fault
 faults_below source top corner =
     flat_map (instance_faults_below source top corner) (instances source top)
-    ++ (path_faults source top corner ++ (too_many source top corner ++ driver_faults source top corner))
+    ++ (path_faults source top corner ++ (check_faults source top corner ++ (too_many source top corner ++ driver_faults source top corner)))
 
 abbrev pub top_faults : Source → Corner → Result Module ElabKind → List Fault
 top_faults source corner (Err k) = fault k start ∷ []

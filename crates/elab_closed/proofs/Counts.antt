@@ -1,4 +1,4 @@
--- What no fault says: there are no more instances, nets and elements than the limit.
+-- What no fault says: there are no more instances, nets, elements and checks than the limit.
 use Rattle.std.specs.Prelude.{◌≡◌, ℕ, ◌<◌, ◌≤◌, ◌-◌, ◌^◌, List, [], ◌∷◌, ◌++◌, flat_map, drop, length, nat_lt, map, refl}
 use Rattle.std.proofs.Common.{arith, length-drop}
 use Rattle.std.proofs.lemmas.Bool.{ltb-false}
@@ -8,7 +8,8 @@ use Rattle.vl_tree.specs.Tree.{Module, Source}
 use Rattle.elab_model.specs.declared.kinds.ElabKind.TheVariants.{TooMany}
 use Rattle.elab_model.specs.Hierarchy.{Instance, instances}
 use Rattle.elab_model.specs.HierarchyFaults.{instance_faults_below, first_too_many, count_limit, start}
-use Rattle.elab_circuit.specs.Faults.{path_faults, path_count, over, too_many, driver_faults, faults_below}
+use Rattle.elab_circuit.specs.CheckUses.{check_uses}
+use Rattle.elab_circuit.specs.Faults.{path_faults, path_count, check_faults, over, too_many, driver_faults, faults_below}
 use Rattle.elab_circuit.specs.WithPaths.{all_nets, all_elements}
 use Rattle.elab_laws.proofs.NoFaults.{front, back}
 use Rattle.elab_owned.proofs.Widths.{no-fault}
@@ -17,6 +18,7 @@ use Rattle.elab_owned.proofs.Widths.{no-fault}
 pub record AreFaultless (source : Source) (top : Module) (corner : Corner) : Type 0 where
   pub plain : flat_map (instance_faults_below source top corner) (instances source top) ≡ []
   pub paths : path_faults source top corner ≡ []
+  pub checks : check_faults source top corner ≡ []
   pub counts : too_many source top corner ≡ []
   pub drivers : driver_faults source top corner ≡ []
 
@@ -24,11 +26,14 @@ pub faultless-parts : (source : Source) (top : Module) (corner : Corner) → fau
 faultless-parts source top corner h =
     let plain = flat_map (instance_faults_below source top corner) (instances source top) in
     let two = too_many source top corner ++ driver_faults source top corner in
-    let rest = back plain (path_faults source top corner ++ two) h in
-    let last = back (path_faults source top corner) two rest in
+    let three = check_faults source top corner ++ two in
+    let rest = back plain (path_faults source top corner ++ three) h in
+    let behind = back (path_faults source top corner) three rest in
+    let last = back (check_faults source top corner) two behind in
     record {
-      plain = front plain (path_faults source top corner ++ two) h;
-      paths = front (path_faults source top corner) two rest;
+      plain = front plain (path_faults source top corner ++ three) h;
+      paths = front (path_faults source top corner) three rest;
+      checks = front (check_faults source top corner) two behind;
       counts = front (too_many source top corner) (driver_faults source top corner) last;
       drivers = back (too_many source top corner) (driver_faults source top corner) last;
     }
@@ -50,6 +55,7 @@ pub record AreFew (source : Source) (top : Module) (corner : Corner) : Type 0 wh
   pub instances : length (instances source top) ≤ count_limit
   pub nets : length (all_nets source top corner) ≤ count_limit
   pub elements : length (all_elements source top corner) ≤ count_limit
+  pub checks : length (check_uses source top corner) ≤ count_limit
 
 pub few : (source : Source) (top : Module) (corner : Corner) → too_many source top corner ≡ [] → AreFew source top corner
 few source top corner h =
@@ -57,11 +63,14 @@ few source top corner h =
     let nets = over (length (all_nets source top corner)) in
     let elements = over (length (all_elements source top corner)) in
     let paths = over (path_count source top corner) in
-    let two = back past (nets ++ (elements ++ paths)) h in
+    let checks = over (length (check_uses source top corner)) in
+    let three = back past (nets ++ (elements ++ (paths ++ checks))) h in
+    let two = back nets (elements ++ (paths ++ checks)) three in
     record {
-      instances = none-dropped count_limit (instances source top) (front past (nets ++ (elements ++ paths)) h);
-      nets = not-over (length (all_nets source top corner)) (front nets (elements ++ paths) two);
-      elements = not-over (length (all_elements source top corner)) (front elements paths (back nets (elements ++ paths) two));
+      instances = none-dropped count_limit (instances source top) (front past (nets ++ (elements ++ (paths ++ checks))) h);
+      nets = not-over (length (all_nets source top corner)) (front nets (elements ++ (paths ++ checks)) three);
+      elements = not-over (length (all_elements source top corner)) (front elements (paths ++ checks) two);
+      checks = not-over (length (check_uses source top corner)) (back paths checks (back elements (paths ++ checks) two));
     }
 
 -- what has no more parts than the limit has few

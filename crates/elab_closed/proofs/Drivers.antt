@@ -1,7 +1,6 @@
 -- Each element is the driver of its output, and the driver of each net drives it.
-use Rattle.std.specs.Prelude.{◌≡◌, ℕ, zero, suc, ◌+◌, ◌<◌, ◌==◌, List, [], ◌∷◌, ◌++◌, Bool, true, false, Some, cond, filter, flat_map, length, map, refl, slice_get, slice_index_or, zip}
+use Rattle.std.specs.Prelude.{◌≡◌, ℕ, zero, suc, ◌+◌, ◌<◌, ◌==◌, List, [], ◌∷◌, Bool, true, false, ◌||◌, Some, cond, filter, length, map, refl, slice_get, slice_index_or, zip}
 use Rattle.std.specs.List.{AllByRecursion, enumerate_from, range_with_len}
-use Rattle.std.specs.Option.{option_map}
 use Rattle.std.proofs.Common.{sym, ◌∙◌, ap, arith, inl, inr, subst}
 use Rattle.std.proofs.lemmas.Bool.{eq-eqb, eqb-true}
 use Rattle.std.proofs.lemmas.List.{length-map}
@@ -13,10 +12,12 @@ use Rattle.sg_circuit.specs.declared.nets.Driver.{Driver}
 use Rattle.sg_circuit.specs.declared.nets.Driver.TheVariants as driver
 use Rattle.sg_circuit.specs.declared.nets.Net.{Net}
 use Rattle.sg_text.specs.declared.places.Place.{Place}
+use Rattle.elab_model.specs.declared.kinds.ElabKind.TheVariants.{BadTerminal}
+use Rattle.elab_model.specs.Faults.{fault}
 use Rattle.elab_circuit.specs.Circuits.{with_driver, driven_nets}
-use Rattle.elab_circuit.specs.Driving.{Driving, NetDrive, by_stimulus, by_element, net_drives, drives_of, driver_of, driver_at, drivers, net_faults, faults_at, driving_faults}
+use Rattle.elab_circuit.specs.Driving.{Driving, NetDrive, by_stimulus, by_element, net_drives, drives_of, driver_of, driver_at, second_of, reg_faults, net_faults, faults_at, driving_faults}
 use Rattle.elab_laws.proofs.Lists.{In, in-right, in-map, in-range, all-append, all-in, all-get}
-use Rattle.elab_laws.proofs.NoFaults.{flat-empty}
+use Rattle.elab_laws.proofs.NoFaults.{back, flat-empty, map-empty}
 use Rattle.elab_closed.proofs.Outputs.{placed_output}
 use Rattle.elab_closed.proofs.Places.{place-of, mapped-at, mapped-get, in-enumerate}
 
@@ -44,7 +45,7 @@ driven-count ns d = as-many (driver_at d) 0 ns
 pub driven-scopes : (P : ℕ → Type 0) (ns : List Net) (d : Driving) → AllByRecursion (λ n. P n.scope) ns → AllByRecursion (λ n. P n.scope) (driven_nets ns d)
 driven-scopes P ns d h = still-all P (driver_at d) 0 ns h
 
-driven-at : (ns : List Net) (d : Driving) (k : ℕ) (blank : Net) → k < length ns → (slice_index_or (driven_nets ns d) k blank).driver ≡ driver_at d k
+pub driven-at : (ns : List Net) (d : Driving) (k : ℕ) (blank : Net) → k < length ns → (slice_index_or (driven_nets ns d) k blank).driver ≡ driver_at d k
 driven-at ns d k blank lt = let z : 0 + k ≡ k = omega arith in driver-there (driver_at d) 0 ns k blank lt ∙ ap (driver_at d) z
 
 -- ---- each element is the driver of its output
@@ -87,6 +88,27 @@ elements-named ns d es outs faultless within no_element no_net e lt =
     let small : n < length ns = all-get (λ e. e.1.output < length ns) es e x.0 within x.1 in
     subst (λ k. (slice_index_or (driven_nets ns d) k no_net).driver ≡ driver.Element e) (sym out)
     (driven-at ns d n no_net small ∙ element-drives d (length ns) e n x.0.0 faultless at small)
+
+-- ---- the timing checks alone drive the net of a reg
+
+has-there : (n : ℕ) (regs : List ℕ) → In n regs → has n regs ≡ true
+has-there n [] h = absurd h
+has-there n (m ∷ regs) (inl e) = ap (λ b. b || has n regs) (eq-eqb m n (sym e))
+has-there n (m ∷ regs) (inr h) = by (m == n) (has-there n regs h)
+  where
+    by : (b : Bool) → has n regs ≡ true → (b || has n regs) ≡ true
+    by true e = refl
+    by false e = e
+
+pub reg-toggled : (d : Driving) (count n : ℕ) → driving_faults d count ≡ [] → n < count → In n d.regs → driver_at d n ≡ driver.Notifier
+reg-toggled d count n h lt there =
+    let ds = drives_of (net_drives d) n in
+    let reg : has n d.regs ≡ true = has-there n d.regs there in
+    let faultless : faults_at d n ≡ [] =
+    all-in (λ k. faults_at d k ≡ []) n (range_with_len 0 count) (flat-empty (faults_at d) (range_with_len 0 count) h) (in-range n 0 count (omega arith) (omega arith)) in
+    let otherwise : reg_faults true ds ≡ [] = subst (λ b. reg_faults b ds ≡ []) reg (back (second_of ds) (reg_faults (has n d.regs) ds) faultless) in
+    let none : ds ≡ [] = map-empty (λ d. fault BadTerminal d.place) ds otherwise in
+    ap (λ b. driver_of b ds) reg ∙ ap (driver_of true) none
 
 -- ---- the driver of a net drives it
 

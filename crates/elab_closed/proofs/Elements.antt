@@ -1,7 +1,7 @@
 -- Each element of the circuit names nets and an instance that there are, and has what its kind asks for.
-use Rattle.std.specs.Prelude.{◌≡◌, ℕ, suc, ◌+◌, ◌<◌, ◌≤◌, List, [], ◌∷◌, ◌++◌, All, Bool, true, false, Option, Some, None, cond, flat_map, length, map, refl, unwrap_or, ℤ}
+use Rattle.std.specs.Prelude.{◌≡◌, ℕ, suc, ◌+◌, ◌<◌, ◌≤◌, List, [], ◌∷◌, All, Bool, true, false, Option, Some, None, cond, length, map, refl, unwrap_or}
 use Rattle.std.specs.List.{AllByRecursion, enumerate_from, position_from}
-use Rattle.std.proofs.Common.{sym, ◌∙◌, ap, arith, inl, inr, subst, length-append}
+use Rattle.std.proofs.Common.{sym, arith, inl, inr, subst}
 use Rattle.std.proofs.lemmas.List.{length-map}
 use Rattle.std.proofs.lemmas.List.Elements.{All-from_recursion}
 use Rattle.cond_expr.specs.Tree.{Cond, leaf, constant, unary, binary}
@@ -109,6 +109,12 @@ number-most all spot =
     found-below (suc (length all)) 0 (position_from (λ o. is_same_spot spot o.spot) 0 all)
     (λ k e. let lt : k < 0 + length all = place-below (λ o. is_same_spot spot o.spot) 0 all k e in omega arith) (omega arith)
 
+-- where there is a net
+pub number-within : (all : List OwnNet) (spot : Spot) → 0 < length all → number_of all spot < length all
+number-within all spot some =
+    found-below (length all) 0 (position_from (λ o. is_same_spot spot o.spot) 0 all)
+    (λ k e. let lt : k < 0 + length all = place-below (λ o. is_same_spot spot o.spot) 0 all k e in omega arith) some
+
 -- ---- elements that drive inner nets
 
 redirected-stands : (count scope_count first : ℕ) (uses : List PathUse) (e : Element) → first + length uses ≤ count → StandsIn count scope_count e → StandsIn count scope_count (redirected first uses e)
@@ -129,7 +135,7 @@ record UseFits (net_count scope_count : ℕ) (u : PathUse) : Type 0 where
   timings : All (λ p. AreTimings p.timings) u.paths
   paths : All (IsPathOf net_count) u.paths
 
-leaves-below : (count : ℕ) (f : NetBit → ℕ) → ((b : NetBit) → f b < count) → (c : Cond NetBit) → AreBelow count (over f c)
+pub leaves-below : (count : ℕ) (f : NetBit → ℕ) → ((b : NetBit) → f b < count) → (c : Cond NetBit) → AreBelow count (over f c)
 leaves-below count f small (leaf b) = small b
 leaves-below count f small (constant v) = tt
 leaves-below count f small (unary op c) = leaves-below count f small c

@@ -9,4 +9,5 @@ pub mod Fits
 pub mod Elements
 pub mod Outputs
 pub mod Drivers
+pub mod Checks
 pub mod Closed

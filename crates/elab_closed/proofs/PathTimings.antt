@@ -1,19 +1,18 @@
 -- Paths have the delays of twelve transitions, and limits in order, where their blocks have no fault.
-use Rattle.std.specs.Prelude.{◌≡◌, ℕ, ◌-◌, ◌<◌, ◌≤◌, ◌==◌, ◌^◌, ◌||◌, All, IfSome, List, [], ◌∷◌, ◌++◌, Bool, true, false, Option, Some, None, Result, Ok, Err, cond, filter, flat_map, is_err, length, map, max, min, nat_le, nat_lt, refl, ℤ}
+use Rattle.std.specs.Prelude.{◌≡◌, ℕ, ◌-◌, ◌<◌, ◌≤◌, ◌==◌, ◌^◌, ◌||◌, IfSome, List, [], ◌∷◌, ◌++◌, Bool, true, false, Option, Some, None, Ok, cond, filter, flat_map, is_err, length, map, max, min, nat_le, nat_lt, refl, ℤ}
 use Rattle.std.specs.List.{AllByRecursion, last_or}
 use Rattle.std.specs.Option.{option_map, option_or}
-use Rattle.std.proofs.Common.{sym, ◌∙◌, ap, arith, subst}
+use Rattle.std.proofs.Common.{◌∙◌, arith}
 use Rattle.std.proofs.Math.Nat.{min-le_left, max-le}
 use Rattle.std.proofs.lemmas.Bool.{eqb-true, leb-false, ltb-false, or_parts}
 use Rattle.std.proofs.lemmas.List.{length-map}
 use Rattle.std.proofs.lemmas.List.Elements.{All-from_recursion}
 use Rattle.sg_circuit.specs.Closed.{AreTimings, IsTiming}
-use Rattle.sg_circuit.specs.Timings.{Timing}
 use Rattle.sg_delay.specs.Expansion.{Six, six, delay_of, of_six, delays_of}
 use Rattle.sg_delay.specs.declared.corners.Corner.{Corner}
 use Rattle.sg_logic.specs.Transitions.{transitions}
 use Rattle.sg_text.specs.declared.places.Place.{Place}
-use Rattle.vl_tree.specs.Tree.{Amounts, SpecifyPath, SpecifyItem, Module}
+use Rattle.vl_tree.specs.Tree.{Amounts, SpecifyPath, Module}
 use Rattle.elab_model.specs.declared.kinds.ElabKind.TheVariants.{BadDelay, UnknownName}
 use Rattle.elab_model.specs.Faults.{fault_if}
 use Rattle.elab_model.specs.Names.{Variable, variables}
@@ -21,11 +20,11 @@ use Rattle.elab_model.specs.TerminalFaults.{delay_limit}
 use Rattle.specify_model.specs.Blocks.{Pulse, specify_items, parameters, pulses, specify_paths, style_texts}
 use Rattle.specify_model.specs.Faults.{parameter_faults, has_no_ends, are_bad_limits, pulse_faults, end_faults, side_faults, condition_faults, own_condition, source_faults, amount_parts, amount_place, unknown_faults, long_faults, delay_faults, list_faults, path_faults, style_faults, specify_faults}
 use Rattle.specify_model.specs.Outputs.{PathOutput, first_paths, paths_to, output_of, measure, path_outputs}
-use Rattle.specify_model.specs.Paths.{ModulePath, PathTo, timings_with, path_between, paths_of, module_paths}
+use Rattle.specify_model.specs.Paths.{PathTo, timings_with, path_between, paths_of, module_paths}
 use Rattle.specify_model.specs.PulseLimits.{limit_ticks, is_for_ends, is_for_others, last_of, limits_of}
 use Rattle.specify_model.specs.Terms.{NetBit, is_same_bit, path_pairs}
 use Rattle.specify_model.specs.Values.{Measure, Values, value_of, corner_amount, amount_ticks, delay_ticks, all_delays, expanded, twelve_delays}
-use Rattle.elab_laws.proofs.Lists.{all-anyway, all-append, all-flat_in, all-map, all-weaker}
+use Rattle.elab_laws.proofs.Lists.{all-anyway, all-flat_in, all-map, all-weaker}
 use Rattle.elab_laws.proofs.NoFaults.{front, back, flat-empty}
 use Rattle.elab_owned.proofs.Widths.{no-fault}
 

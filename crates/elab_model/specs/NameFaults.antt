@@ -1,11 +1,10 @@
--- Faults of a module's declarations (IEEE 1364-2005, 4.2, 4.3, 12.3.3), and what isn't simulated yet.
+-- Faults of a module's declarations (IEEE 1364-2005, 4.2, 4.3, 12.3.3).
 use Rattle.std.specs.Prelude.{ℕ, List, [], ◌∷◌, ◌++◌, Bool, true, false, ◌&&◌, not, nat_lt, Option, Some, None, map, flat_map, filter_map, bytes_eq, ℤ, int_le}
 use Rattle.std.specs.List.{list_any}
 use Rattle.sg_circuit.specs.declared.scopes.Range.{Range}
 use Rattle.sg_circuit.specs.Closed.{width_of}
-use Rattle.sg_text.specs.declared.places.Place.{Place}
-use Rattle.vl_tree.specs.Tree.{Named, PortDeclaration, Check, one_limit_check, two_limit_check, width_check, period_check, SpecifyItem, a_check, SpecifyBlock, Item, specify_block, Module}
-use Rattle.elab_model.specs.declared.kinds.ElabKind.TheVariants.{UnknownName, WidthMismatch, BadTerminal, TooMany, NotYet}
+use Rattle.vl_tree.specs.Tree.{Named, PortDeclaration, Module}
+use Rattle.elab_model.specs.declared.kinds.ElabKind.TheVariants.{UnknownName, WidthMismatch, BadTerminal, TooMany}
 use Rattle.std.specs.Option.{option_map}
 use Rattle.elab_model.specs.Members.{Member, assignment, supply, gate, instance, members}
 use Rattle.elab_model.specs.Ports.{port_list, ports_of_head, ports_of_item, port_declarations, NetDeclaration, nets_of_item, net_declarations}
@@ -99,29 +98,5 @@ width_limit = 65536
 abbrev pub too_wide : Module → List Fault
 too_wide m = flat_map (λ s. fault_if (nat_lt width_limit (width_of s.range)) TooMany s.name.place) (range_texts m)
 
--- timing checks (15.1), which aren't simulated yet: the place is that of the check's name
-abbrev pub block_of : Item → Option SpecifyBlock
-block_of (specify_block b) = Some b
-block_of _ = None
-
-abbrev pub check_place : Check → Place
-check_place (one_limit_check p k r d l n) = p
-check_place (two_limit_check p k r d l m n) = p
-check_place (width_check p r l t n) = p
-check_place (period_check p r l n) = p
-
-abbrev pub check_of : SpecifyItem → Option Check
-check_of (a_check c) = Some c
-check_of _ = None
-
-abbrev pub check_places : List SpecifyItem → List Place
-check_places items = map check_place (filter_map check_of items)
-
-abbrev pub block_faults : List Item → List Fault
-block_faults items = map (fault NotYet) (flat_map (λ b. check_places b.items) (filter_map block_of items))
-
-abbrev pub not_yet : Module → List Fault
-not_yet m = block_faults m.items
-
 abbrev pub declaration_faults : Module → List Fault
-declaration_faults m = name_faults m ++ (two_ranges m ++ (too_wide m ++ not_yet m))
+declaration_faults m = name_faults m ++ (two_ranges m ++ too_wide m)

@@ -30,8 +30,8 @@ pub enum ElabKind {
     TooMany,
     /// A delay or a limit is too long, a gate has more than two delays, an instance of a module has one, a specparam isn't there, or pulses are to be lost that are to become x.
     BadDelay,
-    /// A timing check, which isn't simulated yet.
-    NotYet,
+    /// A limit of a timing check is below 0.
+    NegativeLimit,
     /// The table of a primitive has a fault.
     Udp(UdpKind),
 }

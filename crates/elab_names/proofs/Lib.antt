@@ -2,7 +2,6 @@
 pub mod Again
 pub mod After
 pub mod DeclarationFaults
-pub mod FirstCheck
 pub mod InstanceNames
 pub mod ItemRanges
 pub mod KnownRanges

@@ -1,21 +1,18 @@
 // What is refused in the declarations of a module.
 ghost use Rattle.std.specs.Prelude.{◌≡◌, [], OnOk, IfErr, map};
-ghost use Rattle.vl_tree.specs.Seen.{view_item, view_module};
+ghost use Rattle.vl_tree.specs.Seen.{view_module};
 ghost use Rattle.elab_model.specs.Faults.{RefusesOneOf};
 ghost use Rattle.elab_model.specs.NameFaults as def;
 ghost use Rattle.elab_names.specs.GivenRanges.{range_faults, width_faults, view_range};
 
-use crate::{
-    NamedRange, check_names, first_differing, first_timing_check, first_too_wide, named_ranges,
-};
+use crate::{NamedRange, check_names, first_differing, first_too_wide, named_ranges};
 use elab_model::ElabKind;
 use sg_text::Refused;
 use std::alloc::Global;
-use vl_tree::{Item, Module};
+use vl_tree::Module;
 
 /// Refuses a module for its declarations (IEEE 1364-2005, 4.2, 4.3, 12.3.3): besides what `check_names` refuses, a port and its
-/// own net of different ranges (WidthMismatch; the second is the place), a vector of more than 65536 bits (TooMany), and a timing
-/// check (NotYet). Takes memory in proportion to the names.
+/// own net of different ranges (WidthMismatch; the second is the place), and a vector of more than 65536 bits (TooMany). Takes memory in proportion to the names.
 pub fn check_declarations(alloc: Global, definition: &Module) -> Result<(), Refused<ElabKind>>
     ensures faultless { OnOk result (def.declaration_faults (view_module definition.now) ≡ []) }
     ensures refused { IfErr result (RefusesOneOf (def.declaration_faults (view_module definition.now))) }
@@ -24,7 +21,6 @@ pub fn check_declarations(alloc: Global, definition: &Module) -> Result<(), Refu
     let ranges = named_ranges(alloc, definition)?;
     check_agreement(alloc, &ranges)?;
     check_widths(&ranges)?;
-    check_blocks(&definition.items)?;
     Ok(())
 }
 
@@ -50,20 +46,6 @@ fn check_widths(ranges: &[NamedRange]) -> Result<(), Refused<ElabKind>>
     match first_too_wide(ranges) {
         Some(place) => Err(Refused::Fault {
             kind: ElabKind::TooMany,
-            place,
-        }),
-        None => Ok(()),
-    }
-}
-
-// No block has a timing check.
-fn check_blocks(items: &[Item]) -> Result<(), Refused<ElabKind>>
-    ensures faultless { OnOk result (def.block_faults (map view_item items.now) ≡ []) }
-    ensures refused { IfErr result (RefusesOneOf (def.block_faults (map view_item items.now))) }
-{
-    match first_timing_check(items) {
-        Some(place) => Err(Refused::Fault {
-            kind: ElabKind::NotYet,
             place,
         }),
         None => Ok(()),

@@ -9,7 +9,6 @@ mod nets;
 mod ports;
 mod ranges;
 mod repeated;
-mod timing_checks;
 
 pub use bounds::{first_differing, first_too_wide};
 pub use checks::{check_among, check_names, check_once};
@@ -19,7 +18,6 @@ pub use nets::{NetDeclaration, net_declarations};
 pub use ports::{port_declarations, port_list};
 pub use ranges::{NamedRange, named_ranges};
 pub use repeated::{first_missing, first_repeated};
-pub use timing_checks::first_timing_check;
 
 #[cfg(test)]
 mod tests;

@@ -119,14 +119,11 @@ fn names_of_two_kinds_may_be_one(rt: HostRuntime) -> Result<(), Fail> {
 }
 
 #[test]
-fn a_timing_check_is_refused(rt: HostRuntime) -> Result<(), Fail> {
+fn a_specify_block_declares_nothing(rt: HostRuntime) -> Result<(), Fail> {
     let alloc = rt.alloc();
     let tree = with_item(alloc, block(alloc, 30, None)?)?;
     assert_eq!(rt; refused(check_declarations(alloc, &tree)), None);
     let tree = with_item(alloc, block(alloc, 30, Some(period(40)))?)?;
-    assert_eq!(rt;
-        refused(check_declarations(alloc, &tree)),
-        Some((ElabKind::NotYet, 40))
-    );
+    assert_eq!(rt; refused(check_declarations(alloc, &tree)), None);
     Ok(())
 }

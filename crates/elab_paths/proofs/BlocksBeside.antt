@@ -10,7 +10,7 @@ use Rattle.elab_model.specs.Definitions.{module_of}
 use Rattle.elab_model.specs.Faults.{fault, RefusesOneOf}
 use Rattle.elab_model.specs.Hierarchy.{Child, child_of, child_of_member, children_in, is_empty}
 use Rattle.elab_model.specs.Members.{Member, assignment, supply, gate, instance, members}
-use Rattle.elab_model.specs.NameFaults.{block_of}
+use Rattle.specify_model.specs.Blocks.{block_of}
 use Rattle.specify_model.specs.Faults.{blocks_in_hierarchy}
 use Rattle.elab_names.specs.Words.{first_of}
 use Rattle.elab_tables.specs.Seen.{view_member}

@@ -47,7 +47,7 @@ next-is (w ∷ ws) = refl
 operand-here : (vs : List Variable) (p : Place) (t : Tok) (next : Option Tok) (n : List ℕ) → t ≡ Name n → flat_map (operand_faults vs) (operand_of p t next) ≡ [] → operand_faults vs (operand n p next) ≡ []
 operand-here vs p t next n e h = front (operand_faults vs (operand n p next)) [] (ap (λ x. flat_map (operand_faults vs) (operand_of p x next)) (sym e) ∙ h)
 
-words-sound : (vs : List Variable) (ws : List Word) → flat_map (operand_faults vs) (operands ws) ≡ [] → AreSound vs (tokens ws)
+pub words-sound : (vs : List Variable) (ws : List Word) → flat_map (operand_faults vs) (operands ws) ≡ [] → AreSound vs (tokens ws)
 words-sound vs [] h at n e = cc
 words-sound vs (w ∷ ws) h zero n e =
     let own = operand_of w.place w.token (next_token ws) in

@@ -46,7 +46,11 @@ pub struct Joined {
     pub paths: Vec<Path>,
 }
 
-fn module_at<'l, 't, 'a>(library: &'l Library<'t, 'a>, definition: usize) -> &'l Prepared<'t, 'a>
+/// The module at a place of the definitions, which stands ready there.
+pub fn module_at<'l, 't, 'a>(
+    library: &'l Library<'t, 'a>,
+    definition: usize,
+) -> &'l Prepared<'t, 'a>
     requires { (q : ghost_prepared.Prepared) × (slice_get library.now.parts.items definition ≡ Some (Some (ghost_ready.Module q))) }
     ensures { slice_get library.now.parts.items definition ≡ Some (Some (ghost_ready.Module result.now)) }
 {
@@ -66,7 +70,8 @@ fn outputs_at(modules: &ModulePaths, definition: usize) -> &[ReadyOutput]
     }
 }
 
-fn row_of(rows: &Rows, number: usize, width: usize) -> &[NetId]
+/// The nets of the bits of the instance of a number, whose module has so many.
+pub fn row_of(rows: &Rows, number: usize, width: usize) -> &[NetId]
     requires { (start : ℕ) × ((slice_get rows.now.starts.items number ≡ Some start) × (start + width ≤ length rows.now.inner.items)) }
     ensures { (start : ℕ) → slice_get rows.now.starts.items number ≡ Some start → result.now ≡ part_of rows.now.inner.items start width }
 {

@@ -8,7 +8,7 @@ ghost use Rattle.elab_model.specs.Delays.{tick_of};
 ghost use Rattle.elab_model.specs.Faults.{RefusesOneOf, fault};
 ghost use Rattle.elab_model.specs.Hierarchy as def;
 ghost use Rattle.elab_model.specs.HierarchyFaults.{two_definitions};
-ghost use Rattle.elab_model.specs.NameFaults.{block_of};
+ghost use Rattle.specify_model.specs.Blocks.{block_of};
 ghost use Rattle.specify_model.specs.Faults.{blocks_in_hierarchy};
 ghost use Rattle.elab_names.specs.Words.{first_of};
 ghost use Rattle.elab_tables.specs.Seen.{view_member};

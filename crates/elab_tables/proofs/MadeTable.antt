@@ -10,7 +10,7 @@ use Rattle.vl_tree.specs.Tree.{Module}
 use Rattle.elab_laws.proofs.NoFaults.{front, back}
 use Rattle.elab_model.specs.Faults.{Fault}
 use Rattle.elab_model.specs.Names.{variables, variable_names}
-use Rattle.elab_model.specs.NameFaults.{declaration_faults, name_faults, twice_in_list, two_directions, two_nets, two_instances, no_port, no_direction, two_ranges, too_wide, not_yet}
+use Rattle.elab_model.specs.NameFaults.{declaration_faults, name_faults, twice_in_list, two_directions, two_nets, two_instances, no_port, no_direction, two_ranges, too_wide}
 use Rattle.elab_model.specs.Ports as model
 use Rattle.elab_names.specs.declared.nets.NetDeclaration.{NetDeclaration}
 use Rattle.elab_names.specs.Words.{view_net}
@@ -31,11 +31,10 @@ fifth-empty a b c d e f h =
     front e (f ++ []) s
 
 ports-listed : (m : Module) → declaration_faults m ≡ [] → no_port m ≡ []
-ports-listed m h = fifth-empty (twice_in_list m) (two_directions m) (two_nets m) (two_instances m) (no_port m) (no_direction m) (front (name_faults m) (two_ranges m ++ (too_wide m ++ not_yet m)) h)
+ports-listed m h = fifth-empty (twice_in_list m) (two_directions m) (two_nets m) (two_instances m) (no_port m) (no_direction m) (front (name_faults m) (two_ranges m ++ too_wide m) h)
 
 none-wide : (m : Module) → declaration_faults m ≡ [] → too_wide m ≡ []
-none-wide m h =
-    front (too_wide m) (not_yet m) (back (two_ranges m) (too_wide m ++ not_yet m) (back (name_faults m) (two_ranges m ++ (too_wide m ++ not_yet m)) h))
+none-wide m h = back (two_ranges m) (too_wide m) (back (name_faults m) (two_ranges m ++ too_wide m) h)
 
 -- the code's lists are those of the module
 pub record Are (m : Module) (keys : List (Bor (List ℕ))) (ports : List PortDeclaration) (nets : List NetDeclaration) : Type 0 where

@@ -16,6 +16,8 @@ use Rattle.sg_circuit.specs.Closed.{IsTiming, AreTimings, HasDelays, NamesNets, 
 use Rattle.sg_circuit.specs.Fitting.{ScopesFit, DriversFit, PartsFit}
 use Rattle.sg_circuit.specs.TimingsSeen.{limit_seen, timings_of, leg_timing_seen}
 use Rattle.sg_circuit.specs.Seen.{circuit_seen, element_seen, scope_seen, variable_seen, AreIndexed}
+use Rattle.sg_circuit.specs.ChecksSeen.{written_seen}
+use Rattle.sg_circuit.proofs.CheckLaws.{notifiers_are, notifiers_were}
 use Rattle.sg_circuit.proofs.SeenLaws.{all-unmapped}
 use Rattle.sg_circuit.specs.declared.elements.LegTiming.{LegTiming}
 
@@ -155,8 +157,13 @@ closed_of parts h =
         paths = All-map (λ (e : Element). NamesNets (length parts.nets.items) e.kind) (element_seen parts) parts.elements.items h.kinds.paths;
         widths = variables_are (λ v. length v.bits ≡ width_of v.range) parts.scopes.items h.variables.widths;
         datums = h.variables.datums;
+        timing_of_each = h.checks.timing_of_each;
+        conditions_of_each = length-map parts.check_conditions.items (written_seen parts.conditions.items) ∙ h.checks.conditions_of_each;
+        check_kinds = h.checks.check_kinds;
+        check_timings = h.checks.check_timings;
+        notifiers = notifiers_are parts h.checks.notifiers;
       },
-      record { named = h.kinds.indexed; few_udps = h.few.udps; counts = h.kinds.counts },
+      record { named = h.kinds.indexed; few_udps = h.few.udps; counts = h.kinds.counts; written = h.checks.written },
     )
 
 pub fit_of : (parts : Parts) → IsClosed (circuit_seen parts) → AreIndexed parts → PartsFit parts
@@ -192,4 +199,12 @@ fit_of parts h i =
         paths = all-unmapped (λ (e : Element). NamesNets (length parts.nets.items) e.kind) (element_seen parts) parts.elements.items h.paths;
       };
       variables = record { widths = variables_were (λ v. length v.bits ≡ width_of v.range) parts.scopes.items h.widths; datums = h.datums };
+      checks = record {
+        timing_of_each = h.timing_of_each;
+        conditions_of_each = sym (length-map parts.check_conditions.items (written_seen parts.conditions.items)) ∙ h.conditions_of_each;
+        check_kinds = h.check_kinds;
+        check_timings = h.check_timings;
+        notifiers = notifiers_were parts h.notifiers;
+        written = i.written;
+      };
     }

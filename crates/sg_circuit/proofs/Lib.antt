@@ -2,6 +2,7 @@
 pub mod SeenLaws
 pub mod PinLaws
 pub mod FanLaws
+pub mod CheckLaws
 pub mod FittingLaws
 pub mod TimingLaws
 pub mod PathLaws

@@ -11,6 +11,8 @@ use Rattle.sg_circuit.specs.declared.nets.Driver.TheVariants.{Nobody}
 use Rattle.sg_circuit.specs.declared.scopes.Range.{Range}
 use Rattle.sg_circuit.specs.declared.scopes.Port.{Port}
 use Rattle.sg_circuit.specs.declared.checks.Check.{Check}
+use Rattle.sg_circuit.specs.declared.checks.CheckTiming.{CheckTiming}
+use Rattle.sg_circuit.specs.Checks.{CheckConditions}
 
 -- the kinds of element (IEEE 1364-2005)
 pub data Kind : Type 0 where
@@ -52,12 +54,15 @@ pub record Scope : Type 0 where
   pub is_leaf : Bool
   pub variables : List Variable
 
--- a circuit: the power of ten of a second that one tick is (19.8), and the parts; scope 0 is the top
+-- a circuit: the power of ten of a second that one tick is (19.8), and the parts; scope 0 is the top. A timing check has what
+-- a report names, what is looked for, and how its conditions are spelled (clause 15)
 pub record Circuit : Type 0 where
   pub tick : ℤ
   pub nets : List Net
   pub elements : List Element
   pub checks : List Check
+  pub check_timings : List CheckTiming
+  pub check_conditions : List CheckConditions
   pub scopes : List Scope
 
 -- what stands at a place; past the end a blank

@@ -1,9 +1,13 @@
 -- What is so of every circuit: its parts fit together.
-use Rattle.std.specs.Prelude.{◌≡◌, ◌↔◌, ℕ, ◌+◌, ◌<◌, ◌≤◌, ◌^◌, ◌-ℤ◌, nat_abs, All, List, length, Option, Some, None, IfSome, IsSome}
+use Rattle.std.specs.Prelude.{◌≡◌, ◌↔◌, ℕ, ◌+◌, ◌<◌, ◌≤◌, ◌^◌, ◌-ℤ◌, nat_abs, unsigned_abs, All, List, length, Option, Some, None, IfSome, IsSome, slice_index_or}
 use Rattle.sg_logic.specs.Gate.{TakesInputs as GateTakes}
 use Rattle.sg_circuit.specs.declared.nets.Driver.{Driver}
 use Rattle.sg_circuit.specs.declared.nets.Driver.TheVariants as driver
 use Rattle.sg_circuit.specs.declared.scopes.Range.{Range}
+use Rattle.sg_logic.specs.declared.edges.Edge.{Edge}
+use Rattle.sg_circuit.specs.declared.checks.Check.{Check}
+use Rattle.sg_circuit.specs.declared.checks.Event.{Event}
+use Rattle.sg_circuit.specs.declared.checks.CheckTiming.{CheckTiming}
 use Rattle.sg_circuit.specs.declared.checks.CheckKind.{CheckKind}
 use Rattle.sg_circuit.specs.declared.checks.CheckKind.TheVariants.{Width, Period}
 use Rattle.cond_expr.specs.Values.{AreBelow}
@@ -79,6 +83,31 @@ HasDatum Width = ⊥
 HasDatum Period = ⊥
 HasDatum _ = Unit {0}
 
+-- and these have an edge (15.3.4, 15.3.5)
+abbrev pub HasEdge : CheckKind → Option Edge → Type 0
+HasEdge Width edge = IsSome edge
+HasEdge Period edge = IsSome edge
+HasEdge _ edge = Unit {0}
+
+-- the net of a check's event, and those of its condition, are among so many
+pub record IsEventOf (nets : ℕ) (e : Event) : Type 0 where
+  pub net : e.net < nets
+  pub condition : IfSome e.condition (λ c. AreBelow nets c)
+
+-- what a check looks for: the events that its kind asks for, limits in ticks whose sizes are below 2^60, and such a threshold
+pub record IsCheckTiming (nets : ℕ) (t : CheckTiming) : Type 0 where
+  pub refer : IsEventOf nets t.refer
+  pub datum : IfSome t.datum (λ e. IsEventOf nets e)
+  pub has_datum : IsSome t.datum ↔ HasDatum t.kind
+  pub has_edge : HasEdge t.kind t.refer.edge
+  pub limits : All (λ l. unsigned_abs l < 2 ^ 60) t.limits
+  pub threshold : t.threshold < 2 ^ 60
+
+-- a net that the timing checks alone drive (15.5)
+pub record IsNotifier (c : Circuit) (n : ℕ) : Type 0 where
+  pub within : n < length c.nets
+  pub driven : (net_at c n).driver ≡ driver.Notifier
+
 pub record IsClosed (c : Circuit) : Type 0 where
   pub few_nets : length c.nets < 2 ^ 31
   pub few_elements : length c.elements < 2 ^ 31
@@ -102,3 +131,9 @@ pub record IsClosed (c : Circuit) : Type 0 where
   pub has_delays : All (λ e. HasDelays e.kind) c.elements
   pub widths : All (λ s. All (λ v. length v.bits ≡ width_of v.range) s.variables) c.scopes
   pub datums : All (λ k. IsSome k.datum ↔ HasDatum k.kind) c.checks
+  -- each check looks for something, of its own kind, and its conditions are spelled in some way
+  pub timing_of_each : length c.check_timings ≡ length c.checks
+  pub conditions_of_each : length c.check_conditions ≡ length c.checks
+  pub check_kinds : (k : ℕ) (d : Check) (e : CheckTiming) → k < length c.checks → (slice_index_or c.checks k d).kind ≡ (slice_index_or c.check_timings k e).kind
+  pub check_timings : All (IsCheckTiming (length c.nets)) c.check_timings
+  pub notifiers : All (λ k. IfSome k.notifier (λ n. IsNotifier c n)) c.checks

@@ -1,11 +1,14 @@
 -- Words of the functions that look whether parts fit together: what is so of a closed circuit, said of the code's parts.
-use Rattle.std.specs.Prelude.{◌≡◌, ◌↔◌, ℕ, ◌<◌, ◌≤◌, ◌^◌, All, length, IfSome, IsSome, slice_index_or}
+use Rattle.std.specs.Prelude.{◌≡◌, ◌↔◌, ℕ, ◌<◌, ◌≤◌, ◌^◌, All, List, length, IfSome, IsSome, slice_index_or}
 use Rattle.sg_circuit.specs.declared.nets.Net.{Net}
 use Rattle.sg_circuit.specs.declared.nets.Driver.TheVariants as driver
 use Rattle.sg_circuit.specs.declared.scopes.Scope.{Scope}
+use Rattle.sg_circuit.specs.declared.checks.Check.{Check}
+use Rattle.sg_circuit.specs.declared.checks.CheckTiming.{CheckTiming}
+use Rattle.sg_circuit.specs.ChecksSeen.{AreWritten}
 use Rattle.sg_circuit.specs.declared.elements.Element.{Element}
 use Rattle.sg_circuit.specs.declared.circuits.Parts.{Parts}
-use Rattle.sg_circuit.specs.Closed.{IfElement, TakesInputs, HasDelays, HasDatum, NamesNets, width_of}
+use Rattle.sg_circuit.specs.Closed.{IfElement, TakesInputs, HasDelays, HasDatum, NamesNets, IsCheckTiming, width_of}
 use Rattle.sg_circuit.specs.Seen.{kind_seen, IsIndexed}
 
 -- no list has too many parts
@@ -42,6 +45,19 @@ pub record VariablesFit (parts : Parts) : Type 0 where
   pub widths : All (λ s. All (λ v. length v.bits.items ≡ width_of v.range) s.variables.items) parts.scopes.items
   pub datums : All (λ k. IsSome k.datum ↔ HasDatum k.kind) parts.checks.items
 
+-- a net that the timing checks alone drive
+pub record IsNotifierAmong (nets : List Net) (n : ℕ) : Type 0 where
+  pub within : n < length nets
+  pub driven : (d : Net) → (slice_index_or nets n d).driver ≡ driver.Notifier
+
+pub record ChecksFit (parts : Parts) : Type 0 where
+  pub timing_of_each : length parts.check_timings.items ≡ length parts.checks.items
+  pub conditions_of_each : length parts.check_conditions.items ≡ length parts.checks.items
+  pub check_kinds : (k : ℕ) (d : Check) (e : CheckTiming) → k < length parts.checks.items → (slice_index_or parts.checks.items k d).kind ≡ (slice_index_or parts.check_timings.items k e).kind
+  pub check_timings : All (IsCheckTiming (length parts.nets.items)) parts.check_timings.items
+  pub notifiers : All (λ k. IfSome k.notifier (λ n. IsNotifierAmong parts.nets.items n)) parts.checks.items
+  pub written : All (AreWritten (length parts.conditions.items)) parts.check_conditions.items
+
 -- all of these
 pub record PartsFit (parts : Parts) : Type 0 where
   pub few : AreFew parts
@@ -50,3 +66,4 @@ pub record PartsFit (parts : Parts) : Type 0 where
   pub drivers : DriversFit parts
   pub kinds : KindsFit parts
   pub variables : VariablesFit parts
+  pub checks : ChecksFit parts

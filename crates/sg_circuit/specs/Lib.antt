@@ -1,4 +1,6 @@
 -- The modules of this folder.
+pub mod Checks
+pub mod ChecksSeen
 pub mod Circuit
 pub mod Closed
 pub mod FanOut

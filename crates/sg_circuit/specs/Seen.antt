@@ -5,6 +5,7 @@ use Rattle.sg_delay.specs.declared.gates.GateDelays.{GateDelays}
 use Rattle.sg_circuit.specs.Circuit.{Circuit, Kind, Gate, Udp, Pass, Leg, Path, Element, Variable, Scope}
 use Rattle.sg_circuit.specs.TimingsSeen.{timings_at}
 use Rattle.sg_circuit.specs.PathsSeen.{paths_seen, spanned, AreIndexedPaths}
+use Rattle.sg_circuit.specs.ChecksSeen.{written_seen, AreWritten}
 use Rattle.sg_circuit.specs.declared.elements.UdpUse.{UdpUse}
 use Rattle.sg_circuit.specs.declared.elements.ElementKind.{ElementKind}
 use Rattle.sg_circuit.specs.declared.elements.ElementKind.TheVariants as kind
@@ -53,6 +54,8 @@ circuit_seen parts = record {
   nets = parts.nets.items;
   elements = map (element_seen parts) parts.elements.items;
   checks = parts.checks.items;
+  check_timings = parts.check_timings.items;
+  check_conditions = map (written_seen parts.conditions.items) parts.check_conditions.items;
   scopes = map (λ s. scope_seen s) parts.scopes.items;
 }
 
@@ -69,3 +72,4 @@ pub record AreIndexed (parts : Parts) : Type 0 where
   pub named : All (λ e. IsIndexed parts e.kind) parts.elements.items
   pub few_udps : length parts.udps.items < 2 ^ 31
   pub counts : All (λ d. d.count ≤ 2) parts.gate_delays.items
+  pub written : All (AreWritten (length parts.conditions.items)) parts.check_conditions.items

@@ -25,7 +25,7 @@ pub struct Terminal {
     pub bit: Option<i64>,
 }
 
-/// A timing check of a scope (IEEE 1364-2005, 15.1).
+/// A timing check of a scope, as a report names it, and its notifier (IEEE 1364-2005, 15.1).
 #[derive(Debug, Drop)]
 pub struct Check {
     pub scope: u32,
@@ -34,6 +34,15 @@ pub struct Check {
     pub refer: Terminal,
     /// The data event's terminal; width and period have none.
     pub datum: Option<Terminal>,
+    /// The net that its violations toggle (IEEE 1364-2005, 15.5).
+    pub notifier: Option<NetId>,
+}
+
+/// How the text of a module spells the conditions of a check's events: places in `Parts::conditions` (IEEE 1364-2005, 15.6).
+#[derive(Clone, Copy, Debug, PartialEq, Eq)]
+pub struct CheckConditions {
+    pub refer: Option<usize>,
+    pub datum: Option<usize>,
 }
 
 /// The events of a terminal of a timing check (IEEE 1364-2005, 15.1, 15.4, 15.6).

@@ -3,7 +3,9 @@ ghost use Rattle.std.specs.Prelude.{◌≡◌, ◌↔◌, IfSome, IsSome};
 ghost use Rattle.sg_circuit.specs.Closed.{IsClosed};
 ghost use Rattle.sg_circuit.specs.Seen.{circuit_seen, AreIndexed};
 
-use crate::{Check, Element, LegTiming, Net, Path, Scope, Span, UdpUse};
+use crate::{
+    Check, CheckConditions, CheckTiming, Element, LegTiming, Net, Path, Scope, Span, UdpUse,
+};
 use cond_expr::Expr;
 use sg_delay::GateDelays;
 use sg_time::Unit;
@@ -22,11 +24,15 @@ pub struct Parts {
     pub leg_timings: Vec<LegTiming>,
     /// The specify paths to the bits of outputs, those to one bit side by side.
     pub paths: Vec<Path>,
-    /// The conditions of paths as modules spell them, each once. Instances share them; only the nets are an instance's own.
+    /// The conditions of paths and timing checks as modules spell them, each once. Instances share them; only the nets are an instance's own.
     pub conditions: Vec<Expr>,
     /// The user-defined primitives that elements are instances of, each once.
     pub udps: Vec<UdpUse>,
     pub checks: Vec<Check>,
+    /// What each of the checks looks for.
+    pub check_timings: Vec<CheckTiming>,
+    /// How the conditions of each are spelled.
+    pub check_conditions: Vec<CheckConditions>,
     pub scopes: Vec<Scope>,
 }
 

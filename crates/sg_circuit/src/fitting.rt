@@ -9,6 +9,7 @@ ghost use Rattle.sg_circuit.specs.Closed.{IfElement, width_of, TakesInputs, HasD
 ghost use Rattle.sg_circuit.specs.Fitting.{AreFew, DriversFit, KindsFit, NetsFit, PartsFit, ScopesFit, VariablesFit};
 ghost use Rattle.sg_circuit.specs.Seen.{kind_seen, gate_delays_seen, IsIndexed};
 
+use crate::check_fitting::checks_fit;
 use crate::path_fitting::{are_indexed, path_delays_fit, path_nets_fit};
 use crate::timing_fitting::{are_few, timing_fits};
 use crate::{
@@ -352,6 +353,7 @@ fn parts_fit(parts: &Parts) -> bool
         && all_drivers_fit(parts)
         && kinds_fit(parts)
         && variables_fit(parts)
+        && checks_fit(parts)
 }
 
 impl Parts {

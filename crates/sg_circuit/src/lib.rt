@@ -2,6 +2,7 @@
 #![tactic(auto)]
 
 mod building;
+mod check_fitting;
 mod checks;
 mod circuits;
 mod elements;
@@ -16,7 +17,7 @@ mod tests;
 mod timing_fitting;
 
 pub use building::{Pin, add_pins};
-pub use checks::{Check, CheckKind, CheckTiming, Event, Terminal};
+pub use checks::{Check, CheckConditions, CheckKind, CheckTiming, Event, Terminal};
 pub use circuits::{Circuit, Parts};
 pub use elements::{Element, ElementKind, LegTiming, UdpUse};
 pub use fan_out::FanOut;

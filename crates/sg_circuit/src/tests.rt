@@ -1,9 +1,10 @@
 use crate::{
-    Check, CheckKind, Circuit, Driver, Element, ElementKind, FanOut, LegTiming, Net, Parts, Path,
-    PathCondition, Port, Range, Scope, Span, Terminal, Variable,
+    Check, CheckConditions, CheckKind, CheckTiming, Circuit, Driver, Element, ElementKind, Event,
+    FanOut, LegTiming, Net, Parts, Path, PathCondition, Port, Range, Scope, Span, Terminal,
+    Variable,
 };
 use sg_delay::{Delays12, GateDelays, Limit, Limits12, PulseStyle};
-use sg_logic::{GateKind, Value};
+use sg_logic::{GateKind, POSEDGE, Value};
 use sg_text::{NoMemory, Text};
 use sg_time::{Scale, Unit};
 use smallvec::SmallVec;
@@ -85,6 +86,8 @@ fn nand(alloc: Global) -> Result<Parts, NoMemory> {
         conditions: Vec::new(alloc),
         udps: Vec::new(alloc),
         checks: Vec::new(alloc),
+        check_timings: Vec::new(alloc),
+        check_conditions: Vec::new(alloc),
         scopes: vec![in alloc; scope]?,
     })
 }
@@ -239,21 +242,42 @@ fn timings_in_their_table(rt: HostRuntime) -> Result<(), Fail> {
     Ok(())
 }
 
+// A check of the rises of net 0 alone.
+fn add_check(alloc: Global, kind: CheckKind, parts: &mut Parts) -> Result<(), NoMemory> {
+    parts.checks.push(Check {
+        scope: 0,
+        kind,
+        refer: Terminal {
+            name: Text::copy(alloc, b"a")?,
+            bit: None,
+        },
+        datum: None,
+        notifier: None,
+    })?;
+    parts.check_timings.push(CheckTiming {
+        kind,
+        refer: Event {
+            net: 0,
+            edge: Some(POSEDGE),
+            condition: None,
+        },
+        datum: None,
+        limits: [0, 0],
+        threshold: 0,
+    })?;
+    parts.check_conditions.push(CheckConditions {
+        refer: None,
+        datum: None,
+    })?;
+    Ok(())
+}
+
 #[test]
 fn checks_by_kind(rt: HostRuntime) -> Result<(), Fail> {
     let alloc = rt.alloc();
     for (kind, fits) in [(CheckKind::Width, true), (CheckKind::Setup, false)] {
         let mut parts = nand(alloc)?;
-        let refer = Terminal {
-            name: Text::copy(alloc, b"a")?,
-            bit: None,
-        };
-        parts.checks.push(Check {
-            scope: 0,
-            kind,
-            refer,
-            datum: None,
-        })?;
+        add_check(alloc, kind, &mut parts)?;
         assert_eq!(rt; parts.fit(), fits);
     }
     Ok(())

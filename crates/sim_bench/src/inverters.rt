@@ -167,6 +167,8 @@ impl Shape {
             conditions: Vec::new(alloc),
             udps: Vec::new(alloc),
             checks: Vec::new(alloc),
+            check_timings: Vec::new(alloc),
+            check_conditions: Vec::new(alloc),
             scopes: vec![in alloc; top(alloc)?]?,
         })
     }

@@ -1,6 +1,7 @@
 // A small circuit, what is applied to its inputs, and its run.
 ghost use Rattle.std.specs.Prelude.{◌≡◌, ◌<◌};
 
+use crate::checks::{CheckFrom, Checks};
 use crate::lines::Lines;
 use crate::paths::{PathFrom, Paths};
 use anyhow::Context;
@@ -18,6 +19,7 @@ use std::alloc::{AllocError, Global};
 use std::marker::Brand;
 use std::sync::ledger::{Blank, Ledger};
 use stim_read::{Set, StimStep, Stimulus};
+use time_checks::{Part, Violation};
 
 const NS: Unit = Unit { power: -9 };
 
@@ -33,13 +35,14 @@ const ROUNDS: u32 = 10;
 #[derive(Drop)]
 pub struct Case<'a> {
     pub title: &'a str,
-    /// The names of the nets: of the inputs, and of what each element drives.
+    /// The names of the nets: of the inputs, of what each element drives, and of the notifiers.
     pub names: &'a [&'a str],
     pub inputs: u32,
     /// Each with the nets that it reads.
     pub elements: &'a [(ElementKind, &'a [u32])],
     pub timings: &'a [LegTiming],
     pub paths: &'a [PathFrom],
+    pub checks: &'a [CheckFrom],
     /// The values of the inputs, by time.
     pub sets: &'a [(u64, &'a [Value])],
     pub end: u64,
@@ -65,15 +68,47 @@ fn top(alloc: Global) -> Result<Scope, NoMemory> {
     })
 }
 
+fn part_name(part: Part) -> &'static str {
+    match part {
+        Part::Setup => "setup",
+        Part::Hold => "hold",
+        Part::Recovery => "recovery",
+        Part::Removal => "removal",
+        Part::Width => "width",
+        Part::Period => "period",
+        Part::Skew => "skew",
+    }
+}
+
+// A line for each violation: the check, the part, the times of the reference and of the data, and the limit.
+fn show_violations(out: &mut String, violations: &[Violation]) -> anyhow::Result<()> {
+    for violation in violations {
+        let check = violation.check;
+        let part = part_name(violation.part);
+        let refer = violation.refer_time;
+        let datum = violation.datum_time;
+        let limit = violation.limit;
+        writeln!(
+            out,
+            "violation {check} {part} {refer} {datum} limit {limit}"
+        )?;
+    }
+    Ok(())
+}
+
 impl Case<'_> {
+    fn driver(&self, number: u32) -> Driver {
+        match number.checked_sub(self.inputs) {
+            None => Driver::Stimulus,
+            Some(element) if (element as usize) < self.elements.len() => Driver::Element(element),
+            Some(_) => Driver::Notifier,
+        }
+    }
+
     fn nets(&self, alloc: Global) -> Result<Vec<Net>, NoMemory> {
         let mut nets = Vec::new(alloc);
         for (name, number) in self.names.iter().zip(0..u32::MAX) {
-            let driver = match number.checked_sub(self.inputs) {
-                None => Driver::Stimulus,
-                Some(element) => Driver::Element(element),
-            };
-            nets.push(net(alloc, name, driver)?)?;
+            nets.push(net(alloc, name, self.driver(number))?)?;
         }
         Ok(nets)
     }
@@ -93,7 +128,8 @@ impl Case<'_> {
 
     // Gates have no delay, or rise in 1 tick and fall in 2.
     fn parts(&self, alloc: Global) -> anyhow::Result<Parts> {
-        let made = Paths::of(alloc, self.paths)?;
+        let mut made = Paths::of(alloc, self.paths)?;
+        let checks = Checks::of(alloc, self.names, self.checks, &mut made.conditions)?;
         Ok(Parts {
             tick: NS,
             nets: self.nets(alloc)?,
@@ -112,7 +148,9 @@ impl Case<'_> {
             paths: made.paths,
             conditions: made.conditions,
             udps: Vec::new(alloc),
-            checks: Vec::new(alloc),
+            checks: checks.checks,
+            check_timings: checks.timings,
+            check_conditions: checks.written,
             scopes: vec![in alloc; top(alloc)?]?,
         })
     }
@@ -162,6 +200,7 @@ impl Case<'_> {
         let evaluations = finished.tally.evaluations;
         let last = finished.tally.last;
         write!(out, "{title}\n{text}")?;
+        show_violations(out, &finished.tally.violations)?;
         self.show_end(out, finished.end)?;
         write!(out, "evaluations {evaluations}, last {last}\n\n")?;
         Ok(())

@@ -37,6 +37,7 @@ fn leg(
         elements: &[(LEG, &[0])],
         timings: &[timing],
         paths: &[],
+        checks: &[],
         sets,
         end,
     };
@@ -106,6 +107,7 @@ fn oscillator(alloc: Global, out: &mut String) -> anyhow::Result<()> {
         elements: &[(gate(GateKind::Nand, 0), &[0, 1])],
         timings: &[],
         paths: &[],
+        checks: &[],
         sets: &[(0, &[Zero]), (10, &[One])],
         end: 20,
     };
@@ -130,6 +132,7 @@ fn chain(alloc: Global, out: &mut String) -> anyhow::Result<()> {
             timing(&[4], Limit::Follow)?,
         ],
         paths: &[],
+        checks: &[],
         sets: &[(0, &[Zero]), (20, &[One])],
         end: 60,
     };
@@ -150,6 +153,7 @@ fn glitch(alloc: Global, out: &mut String) -> anyhow::Result<()> {
         ],
         timings: &[],
         paths: &[],
+        checks: &[],
         sets: &[(0, &[Zero]), (10, &[One])],
         end: 20,
     };
@@ -166,6 +170,7 @@ fn same_again(alloc: Global, out: &mut String) -> anyhow::Result<()> {
         elements: &[(gate(GateKind::Not, 1), &[0])],
         timings: &[],
         paths: &[],
+        checks: &[],
         sets: &[(0, &[Zero]), (10, &[Zero]), (15, &[One]), (20, &[X])],
         end: 30,
     };

@@ -53,6 +53,7 @@ impl Output<'_> {
             ],
             timings: self.timings,
             paths: self.paths,
+            checks: &[],
             sets,
             end,
         };

@@ -32,10 +32,10 @@ pub struct Paths {
     pub conditions: Vec<Expr>,
 }
 
-// A net, by whatever name.
+/// A net, by whatever name.
 #[derive(Drop)]
-struct Named {
-    net: u32,
+pub struct Named {
+    pub net: u32,
 }
 
 impl Find for Named {

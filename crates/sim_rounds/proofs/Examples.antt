@@ -1,8 +1,8 @@
 -- Worked examples of the rule by which a path places a value. The nets: inputs a and b, and s, of which a condition speaks.
-use Rattle.std.proofs.Common.{◌≡◌, refl, ℕ, List, [], ◌∷◌, Option, Some, None}
+use Rattle.std.proofs.Common.{◌≡◌, refl, ℕ, [], ◌∷◌, Option, Some, None}
 use Rattle.sg_delay.specs.declared.limits.PulseStyle.TheVariants.{OnEvent, OnDetect}
-use Rattle.sg_logic.specs.declared.values.Value.TheVariants.{Zero, One, X}
-use Rattle.sg_model.specs.Machine.{Stamp, Rule, Pulse}
+use Rattle.sg_logic.specs.declared.values.Value.TheVariants.{Zero, One}
+use Rattle.sg_model.specs.Machine.{Stamp, Pulse}
 use Rattle.sg_model.specs.Pending.{OnEvent as on_event, OnDetect as on_detect}
 use Rattle.cond_expr.specs.Tree.{leaf}
 use Rattle.sg_circuit.specs.Circuit.{Path}

@@ -1,6 +1,11 @@
 -- The lemma files of this folder.
 pub mod TimeLaws
 pub mod MachineLaws
+pub mod NotifierLaws
+pub mod ToggleLaws
+pub mod CircuitChecksLaws
+pub mod SeenLaws
+pub mod TouchedLaws
 pub mod CallLaws
 pub mod RunLaws
 pub mod EndLaws

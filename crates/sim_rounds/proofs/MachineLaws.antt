@@ -17,11 +17,21 @@ use Rattle.sg_circuit.specs.declared.nets.Driver.TheVariants as driver
 use Rattle.sg_circuit.specs.Circuit.{Circuit, Element, Kind, Gate, Udp, Pass, Leg, Path, element_at, net_at}
 use Rattle.path_pick.proofs.LaterLaws.{picked_later}
 use Rattle.sg_circuit.specs.Closed.{IsClosed}
+use Rattle.sg_circuit.specs.declared.checks.Check.{Check}
+use Rattle.time_checks.proofs.QuietLaws.{violations-again}
+use Rattle.sim_rounds.specs.Notifiers.{is_named, numbers_from}
 use Rattle.fan_round.specs.Rounds.{IsLater, time_of_rule}
 use Rattle.sim_rounds.specs.Simulated.{machine_of, values_at, value_of_kind, rule_of_kind}
 
 pub lawful : (circuit : Circuit) → IsLawful (machine_of circuit)
-lawful circuit = record { quiet = λ now last values older. refl; unnamed = refl }
+lawful circuit = record {
+  quiet = λ now last values older. violations-again circuit.check_timings now (record { time = last; values = values }) older;
+  unnamed = none_named circuit.checks 0 (length circuit.nets);
+}
+  where
+    none_named : (checks : List Check) (k n : ℕ) → numbers_from (is_named checks []) k n ≡ []
+    none_named checks k zero = refl
+    none_named checks k (suc n) = none_named checks (suc k) n
 
 -- the values that an element reads are the same
 pub read_same : (nets : List ℕ) (vs ws : List Value) → AgreeAt nets vs ws → values_at nets vs ≡ values_at nets ws
@@ -113,6 +123,10 @@ one_driver circuit closed = apart (λ n. (net_at circuit n).driver) 0 (machine_o
 pub input_is_no_output : (circuit : Circuit) → IsClosed circuit → (net : ℕ) → (net_at circuit net).driver ≡ driver.Stimulus → IsNoOutput net (machine_of circuit).outputs
 input_is_no_output circuit closed net is =
     no_output (λ n. (net_at circuit n).driver) net (machine_of circuit).outputs (λ e l same. (let f : driver.Stimulus ≡ driver.Element (0 + e) = sym is ∙ (same ∙ named_at circuit closed e l) in cc))
+
+pub notifier_is_no_output : (circuit : Circuit) → IsClosed circuit → (net : ℕ) → (net_at circuit net).driver ≡ driver.Notifier → IsNoOutput net (machine_of circuit).outputs
+notifier_is_no_output circuit closed net is =
+    no_output (λ n. (net_at circuit n).driver) net (machine_of circuit).outputs (λ e l same. (let f : driver.Notifier ≡ driver.Element (0 + e) = sym is ∙ (same ∙ named_at circuit closed e l) in cc))
 
 pub outputs_within : (circuit : Circuit) → IsClosed circuit → All (λ n. n < length circuit.nets) (machine_of circuit).outputs
 outputs_within circuit closed = All-map (λ n. n < length circuit.nets) (λ (x : Element). x.output) circuit.elements closed.outputs

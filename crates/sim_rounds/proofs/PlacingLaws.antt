@@ -10,7 +10,7 @@ use Rattle.sg_model.specs.Machine.{Stamp}
 use Rattle.sg_model.specs.Round.{placed_by}
 use Rattle.pulse_list.specs.Seen.{style_seen}
 use Rattle.sg_circuit.specs.Closed.{IsTiming, AreTimings, IsPathOf}
-use Rattle.sg_circuit.specs.PathsSeen.{path_seen, paths_seen, spanned, AreIndexedPaths, IsIndexedPath}
+use Rattle.sg_circuit.specs.PathsSeen.{path_seen, paths_seen, spanned, AreIndexedPaths}
 use Rattle.sg_circuit.specs.Timings.{Timing}
 use Rattle.sg_circuit.specs.TimingsSeen.{timings_at}
 use Rattle.sg_circuit.specs.declared.elements.LegTiming.{LegTiming}

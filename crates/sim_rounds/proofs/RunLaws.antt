@@ -169,7 +169,7 @@ seen_after m (suc n) t r h = seen_after m n (suc t) (with_snapshot m t r) (recor
 pub came_next : (m : Machine) → IsLawful m → (sets : ℕ → List (ℕ × Value)) (bound end now next : ℕ) (stood : Run → Type 0) (told : List Value) (stands after : Run → Type 0) (kept : Kept) (got got' : List Call → Type 0) (untold : List Call) (steps steps1 : ℕ) → now < next
     → AllCame m sets bound end now stood told stands kept got untold steps steps1 → ((made : List Call) → got made → got' (made ++ untold))
     → ((r : Run) (t : ℕ) → stands r → now < t → t < next → IsQuiet sets r t)
-    → ((k n : ℕ) (r : Run) → IsSeen r → stands r → after (with_copies k m n r))
+    → ((k : ℕ) (r : Run) → now + 1 + k ≡ next → IsSeen r → stands r → after (with_copies k m (now + 1) r))
     → AllCameTo m sets bound end next stood told after kept got' steps steps1
 came_next m law sets bound end now next stood told stands after kept got got' untold steps steps1 later came tells quiet stays = record {
   each = λ first s e. at first (came.each first s e);
@@ -177,6 +177,9 @@ came_next m law sets bound end now next stood told stands after kept got got' un
   where
     k : ℕ
     k = next - suc now
+
+    next_is : now + 1 ≡ suc now
+    next_is = omega arith
 
     is_next : suc now + k ≡ next
     is_next = omega arith
@@ -197,7 +200,7 @@ came_next m law sets bound end now next stood told stands after kept got got' un
         record {
           run = r';
           upto = ap (run_for (setting_of m sets bound end first)) (sym is_next) ∙ upto;
-          stood = stays k (suc now) r c.seen c.stood;
+          stood = subst (λ n. after (with_copies k m n r)) next_is (stays k r (omega arith) c.seen c.stood);
           before = copies-are_before k m (suc now) next r (before_later (suc now) next r.snapshots c.before (omega arith)) (omega arith);
           seen = seen_at first.values now next r' later (seen_after m k (suc now) r c.seen);
           told = c.told ∙ sym (ap (λ x. x.values) (copies-state k m (suc now) r));

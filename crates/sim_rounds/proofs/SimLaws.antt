@@ -7,7 +7,7 @@ use Rattle.sg_logic.specs.declared.values.Value.{Value}
 use Rattle.sg_model.specs.Values.{value_at}
 use Rattle.sg_model.specs.Agenda.{list_at}
 use Rattle.sg_model.specs.Pending.{IsPending}
-use Rattle.sg_model.specs.Machine.{Machine, State, IsNoOutput}
+use Rattle.sg_model.specs.Machine.{Machine, State, Snapshot, Violation}
 use Rattle.sg_circuit.specs.declared.elements.Element as code_element
 use Rattle.sg_circuit.specs.declared.circuits.Parts.{Parts}
 use Rattle.sg_circuit.specs.Seen.{element_seen}
@@ -30,6 +30,15 @@ use Rattle.sim_rounds.specs.Simulations.{IsReadyAt, StandsBetween}
 use Rattle.sim_rounds.specs.Steps.{CanApply}
 use Rattle.sim_rounds.specs.Fresh.{IsFresh, first_value_of}
 use Rattle.sim_rounds.specs.Runs.{start_of}
+use Rattle.sg_circuit.specs.declared.checks.Check.{Check}
+use Rattle.sg_circuit.specs.declared.checks.CheckTiming.{CheckTiming}
+use Rattle.time_checks.specs.Checking.{Kept}
+use Rattle.time_checks.specs.Violations.{violations}
+use Rattle.sim_rounds.specs.Checks.{AreFree}
+use Rattle.sim_rounds.specs.CircuitChecks.{AreChecksOver, AreFirst, HaveSeen}
+use Rattle.sim_rounds.specs.Notifiers.{notifiers_of}
+use Rattle.sim_rounds.proofs.CircuitChecksLaws.{first_over, first_stands}
+use Rattle.sim_rounds.proofs.NotifierLaws.{notifiers_free}
 use Rattle.sim_rounds.proofs.MachineLaws.{steady, later, one_driver, input_is_no_output, outputs_within, length-inputs, length-outputs}
 
 -- what the stimulus sets are inputs, which no element drives
@@ -84,14 +93,14 @@ of_circuit circuit closed m e fan driven nets elements n l f k d =
       few = subst (λ x. x < 2 ^ 31) (sym l) closed.few_elements;
     })
 
-pub fresh_ready : (circuit : Circuit) (nets : Nets) (told : Told) (work : WorkList) (elements : ElementsSeen) (lists : List (List (ℕ × Value))) (fan : List (List ℕ)) (driven : List ℕ) (sets : List Set) (found : List code_violation.Violation) (stimulus : Stimulus)
-    → IsClosed circuit → IsFresh circuit nets told work elements lists fan driven → sets ≡ [] → found ≡ [] → IsApplied circuit stimulus
-    → IsReadyAt true 0 (machine_of elements.circuit) (length elements.circuit.nets) fan driven nets told work lists elements.states (λ ss. []) (λ vs. []) sets 0 found × CanApply driven (length nets.values.items) stimulus
-fresh_ready circuit nets told work elements lists fan driven sets found stimulus closed h s f applied =
+pub fresh_ready : (circuit : Circuit) (nets : Nets) (told : Told) (work : WorkList) (elements : ElementsSeen) (lists : List (List (ℕ × Value))) (fan : List (List ℕ)) (driven : List ℕ) (sets : List Set) (found : List code_violation.Violation) (stimulus : Stimulus) (checks : List Check) (kept : Kept) (touched named : WorkList)
+    → IsClosed circuit → AreFirst circuit checks kept touched named → IsFresh circuit nets told work elements lists fan driven → sets ≡ [] → found ≡ [] → IsApplied circuit stimulus
+    → IsReadyAt true 0 (machine_of elements.circuit) (length elements.circuit.nets) fan driven nets told work lists elements.states (λ ss. violations kept.checks ss) (λ vs. notifiers_of checks (length kept.last) vs) sets 0 found × (AreChecksOver checks kept touched named (length nets.values.items) × CanApply driven (length nets.values.items) stimulus)
+fresh_ready circuit nets told work elements lists fan driven sets found stimulus checks kept touched named closed first h s f applied =
     let many : length nets.values.items ≡ length circuit.nets = ap length h.values ∙ length-map circuit.nets (λ net. first_value_of net.driver) in
     let each : length lists ≡ length circuit.elements = ap length h.lists ∙ length-replicate (length circuit.elements) [] in
     let states : length elements.states ≡ length circuit.elements = ap length h.states ∙ length-map circuit.elements _ in (
-      subst (λ cs. IsReadyAt true 0 (machine_of elements.circuit) (length elements.circuit.nets) fan driven nets told work lists elements.states (λ ss. []) (λ vs. []) cs 0 found) (sym s) (record {
+      subst (λ cs. IsReadyAt true 0 (machine_of elements.circuit) (length elements.circuit.nets) fan driven nets told work lists elements.states (λ ss. violations kept.checks ss) (λ vs. notifiers_of checks (length kept.last) vs) cs 0 found) (sym s) (record {
         round = record {
           circuit = of_circuit circuit closed (machine_of elements.circuit) (ap machine_of h.circuit_of) fan driven (length nets.values.items) (length lists) many each (subst (λ c. IsFanOut (machine_of c).inputs fan) (sym h.circuit_of) h.fan_out) h.each_net h.outputs;
           state_of_each = states ∙ sym each;
@@ -102,16 +111,23 @@ fresh_ready circuit nets told work elements lists fan driven sets found stimulus
         };
         count = ap (λ c. length c.nets) h.circuit_of ∙ sym many;
         checks = record {
-          violated = refl;
-          notifiers = refl;
-          free = λ vs. record { within = All-nil (λ n. n < length nets.values.items); undriven = All-nil (λ n. IsNoOutput n driven); once = tt };
+          violated = ap {B = List Snapshot → List Violation} (λ (ts : List CheckTiming) ss. violations ts ss) (first.timings_are ∙ sym (ap (λ c. c.check_timings) h.circuit_of));
+          notifiers = ap {B = List Violation → List ℕ} (λ (ks : List Check) vs. notifiers_of ks (length kept.last) vs) (first.checks_are ∙ sym (ap (λ c. c.checks) h.circuit_of))
+              ∙ ap {B = List Violation → List ℕ} (λ (n : ℕ) vs. notifiers_of elements.circuit.checks n vs) (first.last ∙ sym (ap (λ c. length c.nets) h.circuit_of));
+          free = λ vs. subst (λ os. AreFree os (length nets.values.items) (notifiers_of checks (length kept.last) vs)) (sym h.outputs)
+              (subst (λ n. AreFree (machine_of circuit).outputs n (notifiers_of checks (length kept.last) vs)) (sym many)
+              (subst (λ n. AreFree (machine_of circuit).outputs (length circuit.nets) (notifiers_of checks n vs)) (sym first.last)
+              (subst (λ ks. AreFree (machine_of circuit).outputs (length circuit.nets) (notifiers_of ks (length circuit.nets) vs)) (sym first.checks_are) (notifiers_free circuit closed vs))));
         };
         within = All-nil (λ c. c.net < length nets.values.items);
         free = tt;
         told = h.told;
         begun = omega arith;
       }),
-      subst (λ os. CanApply os (length nets.values.items) stimulus) (sym h.outputs) (subst (λ n. CanApply (machine_of circuit).outputs n stimulus) (sym many) (applied_can circuit closed stimulus applied)),
+      (
+        subst (AreChecksOver checks kept touched named) (sym many) (first_over circuit checks kept touched named closed first),
+        subst (λ os. CanApply os (length nets.values.items) stimulus) (sym h.outputs) (subst (λ n. CanApply (machine_of circuit).outputs n stimulus) (sym many) (applied_can circuit closed stimulus applied)),
+      ),
     )
 
 -- the state before time 0
@@ -126,14 +142,15 @@ each_none : {A B : Type 0} (xs : List A) (d : B) → map (λ x. d) xs ≡ replic
 each_none [] d = refl
 each_none (x ∷ xs) d = ap (λ ys. d ∷ ys) (each_none xs d)
 
-pub fresh_stands : (circuit : Circuit) (nets : Nets) (told : Told) (work : WorkList) (elements : ElementsSeen) (lists : List (List (ℕ × Value))) (fan : List (List ℕ)) (driven : List ℕ) (found : List code_violation.Violation) → IsFresh circuit nets told work elements lists fan driven → found ≡ []
-    → StandsBetween nets lists elements.states (λ ss. Unit {0}) found 0 0 (start_of (first_state circuit))
-fresh_stands circuit nets told work elements lists fan driven found h f =
-    subst (λ vs. StandsBetween nets lists elements.states (λ ss. Unit {0}) vs 0 0 (start_of (first_state circuit))) (sym f) (record {
+pub fresh_stands : (circuit : Circuit) (nets : Nets) (told : Told) (work : WorkList) (elements : ElementsSeen) (lists : List (List (ℕ × Value))) (fan : List (List ℕ)) (driven : List ℕ) (found : List code_violation.Violation) (checks : List Check) (kept : Kept) (touched named : WorkList) → AreFirst circuit checks kept touched named → IsFresh circuit nets told work elements lists fan driven → found ≡ []
+    → StandsBetween nets lists elements.states (HaveSeen kept touched nets.values.items) found 0 0 0 (start_of (first_state circuit))
+fresh_stands circuit nets told work elements lists fan driven found checks kept touched named first h f =
+    subst (λ vs. StandsBetween nets lists elements.states (HaveSeen kept touched nets.values.items) vs 0 0 0 (start_of (first_state circuit))) (sym f) (record {
       run = record {
         state = same_state (first_state circuit) (state_seen nets lists elements.states) (sym h.values) (sym h.stamps) (each_none circuit.elements [] ∙ sym h.lists) (sym h.states);
         before = sym h.before;
-        checks = tt;
+        checks = record { stands = first_stands circuit checks kept touched named first; leads = tt };
+        times = tt;
         violations = refl;
         evaluations = refl;
       };

@@ -1,5 +1,5 @@
 -- A simulation from one time to the next.
-use Rattle.std.specs.Prelude.{◌≡◌, ℕ, ◌+◌, ◌<◌, ◌≤◌, ◌==◌, Bool, false, All, List, [], ◌∷◌, length, map, reverse, slice_index_or, Result, Err, refl}
+use Rattle.std.specs.Prelude.{◌≡◌, ℕ, ◌+◌, ◌<◌, ◌≤◌, ◌==◌, Bool, false, All, List, [], ◌∷◌, length, map, reverse, slice_index_or, Result, Ok, Err, refl}
 use Rattle.std.proofs.Common.{sym, ◌∙◌, ap, subst, arith}
 use Rattle.std.proofs.lemmas.List.{get_or-map, length-map}
 use Rattle.std.proofs.lemmas.Bool.Decides.{nat_tests}
@@ -8,7 +8,8 @@ use Rattle.sg_model.specs.Values.{value_at}
 use Rattle.sg_model.specs.Pending.{Follows}
 use Rattle.sg_model.specs.Agenda.{list_at, NoneBelow, NothingBelow}
 use Rattle.sg_model.specs.Machine.{Machine, Snapshot, Violation}
-use Rattle.sg_model.specs.Time.{Run}
+use Rattle.sg_model.specs.Time as model
+use Rattle.sg_model.specs.Time.{Run, rounds}
 use Rattle.pulse_list.proofs.EarliestLaws.{none_below-reverse}
 use Rattle.stim_read.specs.declared.steps.Set.{Set}
 use Rattle.stim_read.specs.Seen.{set_seen}
@@ -21,9 +22,11 @@ use Rattle.sim_rounds.specs.declared.runs.SimEnd.{SimEnd}
 use Rattle.sim_rounds.specs.declared.runs.SimEnd.TheVariants.{NoMemory}
 use Rattle.fan_round.specs.Rounds.{AreHanded}
 use Rattle.sim_rounds.specs.Told.{IsTold}
-use Rattle.sim_rounds.specs.Times.{count_shown}
+use Rattle.sim_rounds.specs.Times.{count_shown, RoundsEnd}
+use Rattle.sim_rounds.specs.declared.times.TimeEnd.TheVariants.{Whole}
+use Rattle.sim_rounds.specs.Skipping.{later_falls}
 use Rattle.sim_rounds.specs.Runs.{TimeMade}
-use Rattle.sim_rounds.specs.Simulations.{IsReadyAt}
+use Rattle.sim_rounds.specs.Simulations.{IsReadyAt, StandsBetween, StandsFor}
 use Rattle.sim_rounds.specs.Steps.{CanApply}
 use Rattle.sim_rounds.proofs.TimeLaws.{rounds-evaluations, counted_same}
 
@@ -33,6 +36,29 @@ pub none_made : (m : Machine) (sets : ℕ → List (ℕ × Value)) (bound now : 
 none_made m sets bound now stands after counted steps result e counts is none =
     subst (TimeMade m sets bound now stands after counted steps steps) (sym (is ∙ ap (λ x. Err x) none))
     (record { each = λ r h. (r.evaluations, rounds-evaluations bound m now (now == 0) (sets now) r, counted_same r counted counted steps steps (counts r h) refl refl) })
+
+-- a time was made, and the next one begins
+pub time_made : (m : Machine) (sets : ℕ → List (ℕ × Value)) (bound now : ℕ) (handed : List (ℕ × Value)) (mid late stands after : Run → Type 0) (counted steps steps' : ℕ) → handed ≡ sets now → ((r : Run) → stands r → mid r) → ((r : Run) → late r → after r)
+    → RoundsEnd bound m now (now == 0) handed mid late counted steps steps' Whole → TimeMade m sets bound now stands after counted steps steps' (Ok tt)
+time_made m sets bound now handed mid late stands after counted steps steps' e before behind ended = record {
+  each = λ r h.
+      (let w = ended.each r (before r h) in
+      (w.0, subst (λ cs. rounds bound m now (now == 0) cs r ≡ model.Whole w.0) e w.1, behind w.0 w.2, w.3));
+}
+
+pub stands_later : (nets : Nets) (lists : List (List (ℕ × Value))) (states : List Value) (seen : List Snapshot → Type 0) (found : List code_violation.Violation) (counted ended now : ℕ) (r : Run) → length found ≤ ended
+    → StandsFor nets lists states seen found counted now r → StandsBetween nets lists states seen found counted ended (now + 1) r
+stands_later nets lists states seen found counted ended now r whole h = record {
+  run = record {
+    state = h.state;
+    before = h.before;
+    checks = h.checks;
+    times = later_falls now (now + 1) r.snapshots (omega arith) h.times;
+    violations = h.violations;
+    evaluations = h.evaluations;
+  };
+  whole = whole;
+}
 
 -- what the stimulus sets can be handed in
 pub hand_ready : (all : Bool) (now : ℕ) (m : Machine) (net_count : ℕ) (fan : List (List ℕ)) (driven : List ℕ) (nets : Nets) (told : Told) (work : WorkList) (lists : List (List (ℕ × Value))) (states : List Value) (found_by : List Snapshot → List Violation) (toggled_by : List Violation → List ℕ) (sets sets' given : List Set) (ended : ℕ) (found : List code_violation.Violation) (stimulus : Stimulus)
@@ -58,14 +84,14 @@ pub later_test : (n : ℕ) → 0 < n → (n == 0) ≡ false
 later_test n l = grind (arith, nat_tests)
 
 -- a time ended, and what changed in it was told
-pub ended_ready : (now next : ℕ) (m m' : Machine) (net_count : ℕ) (fan : List (List ℕ)) (driven driven' : List ℕ) (nets nets' : Nets) (told told' : Told) (work : WorkList) (lists : List (List (ℕ × Value))) (states : List Value) (found_by : List Snapshot → List Violation) (toggled_by : List Violation → List ℕ) (sets : List Set) (ended ended' : ℕ) (found : List code_violation.Violation) (stimulus stimulus' : Stimulus)
-    → IsReadyAt false next m' net_count fan driven' nets' told work lists states found_by toggled_by sets ended found → next ≡ now + 1 → IsTold told' nets'.values.items → ended' ≤ length found
+pub ended_ready : (now next : ℕ) (m m' : Machine) (net_count : ℕ) (fan : List (List ℕ)) (driven driven' : List ℕ) (nets nets' : Nets) (told told' : Told) (work : WorkList) (lists : List (List (ℕ × Value))) (states : List Value) (found_by : List Snapshot → List Violation) (toggled_by : List Violation → List ℕ) (sets : List Set) (ended ended' : ℕ) (found : List code_violation.Violation) (stimulus stimulus' : Stimulus) (over : Type 0)
+    → IsReadyAt false next m' net_count fan driven' nets' told work lists states found_by toggled_by sets ended found × over → next ≡ now + 1 → IsTold told' nets'.values.items → ended' ≤ length found
     → CanApply driven (length nets.values.items) stimulus → driven ≡ driven' → length nets'.values.items ≡ length nets.values.items → stimulus' ≡ stimulus
-    → IsReadyAt (next == 0) next m' net_count fan driven' nets' told' work lists states found_by toggled_by sets ended' found × CanApply driven' (length nets'.values.items) stimulus'
-ended_ready now next m m' net_count fan driven driven' nets nets' told told' work lists states found_by toggled_by sets ended ended' found stimulus stimulus' h n t b can d l s = (
+    → IsReadyAt (next == 0) next m' net_count fan driven' nets' told' work lists states found_by toggled_by sets ended' found × (over × CanApply driven' (length nets'.values.items) stimulus')
+ended_ready now next m m' net_count fan driven driven' nets nets' told told' work lists states found_by toggled_by sets ended ended' found stimulus stimulus' over h n t b can d l s = (
   subst (λ all. IsReadyAt all next m' net_count fan driven' nets' told' work lists states found_by toggled_by sets ended' found) (sym (later_test next (omega arith)))
-      (record { round = h.round; count = h.count; checks = h.checks; within = h.within; free = h.free; told = t; begun = b }),
-  subst (λ x. CanApply driven' (length nets'.values.items) x) (sym s) (subst (λ x. CanApply driven' x stimulus) (sym l) (subst (λ x. CanApply x (length nets.values.items) stimulus) d can)),
+      (record { round = h.0.round; count = h.0.count; checks = h.0.checks; within = h.0.within; free = h.0.free; told = t; begun = b }),
+  (h.1, subst (λ x. CanApply driven' (length nets'.values.items) x) (sym s) (subst (λ x. CanApply driven' x stimulus) (sym l) (subst (λ x. CanApply x (length nets.values.items) stimulus) d can))),
 )
 
 -- where nothing is pending before a time

@@ -1,5 +1,5 @@
 -- A simulation from one round to the next, and what it stands for.
-use Rattle.std.specs.Prelude.{◌≡◌, ℕ, zero, suc, ◌+◌, ◌<◌, ◌≤◌, ◌==◌, Bool, true, false, not, All, List, [], ◌∷◌, length, map, take, reverse, slice_index_or, refl}
+use Rattle.std.specs.Prelude.{◌≡◌, ℕ, zero, suc, ◌+◌, ◌<◌, ◌≤◌, ◌==◌, Bool, true, false, not, All, List, [], ◌∷◌, ◌++◌, length, map, take, reverse, slice_index_or, refl}
 use Rattle.std.specs.Bool.{OnTrue, OnFalse}
 use Rattle.std.proofs.Common.{sym, ◌∙◌, ap, subst, arith}
 use Rattle.std.proofs.lemmas.List.{get_or-map, length-map}
@@ -24,10 +24,16 @@ use Rattle.fan_round.specs.Rounds.{AreHanded, ArePending}
 use Rattle.fan_round.specs.States.{IsOfCircuit}
 use Rattle.sim_rounds.specs.Naming.{Moves}
 use Rattle.sim_rounds.specs.Checks.{HasSeen, AreFree}
-use Rattle.sim_rounds.specs.Simulations.{kept_of, AreChecksOf, IsReadyAt}
+use Rattle.sim_rounds.specs.Times.{AfterSnapshot}
+use Rattle.sim_rounds.specs.Simulations.{kept_of, AreChecksOf, IsReadyAt, StandsFor}
 use Rattle.sim_rounds.proofs.DueLaws.{below_next}
 use Rattle.fan_round.proofs.PendingLaws.{pending_rises, pending_below}
 use Rattle.sim_rounds.proofs.NamingLaws.{due_moves, flips_move, toggles_handed, toggles_within}
+
+-- one more fact where a test failed
+pub also_false : (b : Bool) (P Q : Type 0) → OnFalse b P → Q → OnFalse b (P × Q)
+also_false true P Q p q = tt
+also_false false P Q p q = (p, q)
 
 -- a due pair changes a net
 pub due_state_moves : (m : Machine) (fan : List (List ℕ)) (driven : List ℕ) (handed : List (ℕ × Value)) (s : State) (now : ℕ) → IsOfCircuit m fan driven (length s.values) (length s.lists) → AreHanded driven handed → ArePending driven s.values s.lists now → any_due now s.lists ≡ true → Moves m now handed s
@@ -71,7 +77,7 @@ next_ready now m net_count fan driven nets told work lists new states found_by t
     })
 
 -- the violations of the times that ended stay
-begun_still : (old new : List code_violation.Violation) → take (length old) new ≡ old → length old ≤ length new
+pub begun_still : (old new : List code_violation.Violation) → take (length old) new ≡ old → length old ≤ length new
 begun_still old new e = let k : length (take (length old) new) ≡ length old = ap length e in at (length old) new k
   where
     at : (n : ℕ) (xs : List code_violation.Violation) → length (take n xs) ≡ n → n ≤ length xs
@@ -134,3 +140,26 @@ none_handed (x ∷ xs) n b e l = sym (e ∙ later n (length xs) l)
   where
     later : (n k : ℕ) → n ≡ suc k → (n == 0) ≡ false
     later n k q = grind (arith, nat_tests)
+
+-- a snapshot is seen at a time that no snapshot before is later than
+pub snapshot_stands : (m : Machine) (driven : List ℕ) (n now : ℕ) (nets : Nets) (lists : List (List (ℕ × Value))) (states : List Value) (found_by : List Snapshot → List Violation) (toggled_by : List Violation → List ℕ) (stands after : List Snapshot → Type 0)
+    (old new : List code_violation.Violation) (sets : List Set) (counted : ℕ) → AreChecksOf m driven n found_by toggled_by → HasSeen found_by toggled_by stands after now nets.values.items old new sets
+    → AfterSnapshot m now (λ r. StandsFor nets lists states stands old counted now r) (λ r. StandsFor nets lists states after new counted now r) (map (λ c. set_seen c) sets)
+snapshot_stands m driven n now nets lists states found_by toggled_by stands after old new sets counted of s = record {
+  each = λ r h.
+      (let values : r.state.values ≡ nets.values.items = ap (λ x. x.values) h.state in
+      let here = s.each r.snapshots h.checks h.times in
+      let snapshots : List Snapshot = record { time = now; values = r.state.values } ∷ r.snapshots in
+      let found : s.found ≡ m.violated snapshots =
+      here.0 ∙ (ap (λ vs. found_by (record { time = now; values = vs } ∷ r.snapshots)) (sym values) ∙ ap (λ f. f snapshots) of.violated) in (
+        record {
+          state = h.state;
+          before = h.before;
+          checks = subst (λ vs. after (record { time = now; values = vs } ∷ r.snapshots)) (sym values) here.1;
+          times = (omega arith, h.times);
+          violations = ap (λ vs. vs ++ m.violated snapshots) h.violations ∙ (ap (λ vs. map (λ v. violation_seen v) old ++ vs) (sym found) ∙ sym s.added);
+          evaluations = h.evaluations;
+        },
+        s.handed ∙ (ap (toggles_of (toggled_by s.found)) (sym values) ∙ (ap (λ f. toggles_of (f s.found) r.state.values) of.notifiers ∙ ap (λ vs. toggles_of (m.notifiers vs) r.state.values) found)),
+      ));
+}

@@ -6,14 +6,16 @@ use Rattle.sg_model.specs.Time.{toggles as toggles_of}
 use Rattle.stim_read.specs.declared.steps.Set.{Set}
 use Rattle.stim_read.specs.Seen.{set_seen}
 use Rattle.time_checks.specs.declared.violations.Violation as code_violation
+use Rattle.time_checks.specs.Falling.{DontFall}
 use Rattle.time_checks.specs.Seen.{violation_seen}
 
--- violations were added, and the toggles of their notifiers handed in; they are those of the snapshot, by whatever snapshots were seen before
+-- violations were added, and the toggles of their notifiers handed in; they are those of the snapshot, by whatever snapshots were seen before,
+-- none of which is later
 pub record HasSeen (violated : List Snapshot → List Violation) (notifiers : List Violation → List ℕ) (stands after : List Snapshot → Type 0) (now : ℕ) (values : List Value) (old new : List code_violation.Violation) (toggles : List Set) : Type 0 where
   pub found : List Violation
   pub added : map (λ v. violation_seen v) new ≡ map (λ v. violation_seen v) old ++ found
   pub handed : map (λ c. set_seen c) toggles ≡ toggles_of (notifiers found) values
-  pub each : (ss : List Snapshot) → stands ss → (found ≡ violated (record { time = now; values = values } ∷ ss)) × after (record { time = now; values = values } ∷ ss)
+  pub each : (ss : List Snapshot) → stands ss → DontFall now ss → (found ≡ violated (record { time = now; values = values } ∷ ss)) × after (record { time = now; values = values } ∷ ss)
 
 -- nets that no element drives, each once
 pub record AreFree (driven : List ℕ) (nets : ℕ) (ns : List ℕ) : Type 0 where

@@ -9,6 +9,8 @@ pub mod Runs
 pub mod Told
 pub mod Naming
 pub mod Checks
+pub mod CircuitChecks
+pub mod Notifiers
 pub mod Simulations
 pub mod Steps
 pub mod Skipping

@@ -1,5 +1,5 @@
 -- The machine and the run of a circuit. This is the only place that reads the kinds of elements.
-use Rattle.std.specs.Prelude.{ℕ, ◌+◌, List, [], Bool, true, false, Option, Some, None, map, if◌then◌else◌}
+use Rattle.std.specs.Prelude.{ℕ, ◌+◌, List, [], Bool, true, false, Option, Some, None, length, map, if◌then◌else◌}
 use Rattle.sg_logic.specs.declared.values.Value.{Value}
 use Rattle.sg_logic.specs.declared.values.Value.TheVariants.{X, Z}
 use Rattle.sg_logic.specs.Gate.{gate_value}
@@ -15,6 +15,8 @@ use Rattle.sg_circuit.specs.declared.nets.Driver.TheVariants as driver
 use Rattle.sg_circuit.specs.Circuit.{Circuit, Kind, Gate, Udp, Pass, Leg, Path, element_at}
 use Rattle.sg_circuit.specs.Timings.{Timing, timing_between, limits_of}
 use Rattle.pulse_list.specs.Seen.{style_seen}
+use Rattle.time_checks.specs.Violations.{violations}
+use Rattle.sim_rounds.specs.Notifiers.{notifiers_of}
 use Rattle.path_pick.specs.Choice.{picked}
 use Rattle.path_pick.specs.declared.picking.Picked.{Picked}
 use Rattle.stim_read.specs.Stimulus.{Stimulus, sets_at}
@@ -58,15 +60,15 @@ first_of_kind (Pass constant) = X
 first_of_kind (Leg timings) = X
 first_of_kind (Path paths style) = X
 
--- the machine of a circuit
+-- the machine of a circuit; each of its reg nets that a violated check names as its notifier toggles (15.5)
 abbrev pub machine_of : Circuit → Machine
 machine_of circuit = record {
   inputs = map (λ e. e.inputs) circuit.elements;
   outputs = map (λ e. e.output) circuit.elements;
   value = λ e before after state. value_of_kind (element_at circuit e).kind (values_at (element_at circuit e).inputs before) (values_at (element_at circuit e).inputs after) state;
   rule = λ e now after stamps from to. rule_of_kind (element_at circuit e).kind now after stamps from to;
-  violated = λ snapshots. [];
-  notifiers = λ violations. [];
+  violated = λ snapshots. violations circuit.check_timings snapshots;
+  notifiers = λ found. notifiers_of circuit.checks (length circuit.nets) found;
 }
 
 -- whether anything drives a net

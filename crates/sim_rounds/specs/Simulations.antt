@@ -7,6 +7,7 @@ use Rattle.stim_read.specs.declared.steps.Set.{Set}
 use Rattle.stim_read.specs.Seen.{set_seen}
 use Rattle.stim_read.specs.Stimulus.{Stimulus}
 use Rattle.time_checks.specs.declared.violations.Violation as code_violation
+use Rattle.time_checks.specs.Falling.{DontFall}
 use Rattle.time_checks.specs.Seen.{violation_seen}
 use Rattle.fan_round.specs.declared.nets.Nets.{Nets}
 use Rattle.sim_rounds.specs.declared.told.Told.{Told}
@@ -21,11 +22,12 @@ use Rattle.sim_rounds.specs.Times.{Kept, count_shown}
 abbrev pub kept_of : Told → ℕ → List code_violation.Violation → ℕ → Stimulus → Kept
 kept_of told ended found changed applied = record { told = told.values.items; violations = take ended (map (λ v. violation_seen v) found); last = changed; stimulus = applied }
 
--- the nets, what is pending, what was computed, what the checks have seen, the violations and the count are those of the run
-pub record StandsFor (nets : Nets) (lists : List (List (ℕ × Value))) (states : List Value) (seen : List Snapshot → Type 0) (found : List code_violation.Violation) (counted : ℕ) (r : Run) : Type 0 where
+-- at a time that no snapshot is later than: the nets, what is pending, what was computed, what the checks have seen, the violations and the count are those of the run
+pub record StandsFor (nets : Nets) (lists : List (List (ℕ × Value))) (states : List Value) (seen : List Snapshot → Type 0) (found : List code_violation.Violation) (counted now : ℕ) (r : Run) : Type 0 where
   pub state : r.state ≡ state_seen nets lists states
   pub before : r.before ≡ nets.before.items
   pub checks : seen r.snapshots
+  pub times : DontFall now r.snapshots
   pub violations : r.violations ≡ map (λ v. violation_seen v) found
   pub evaluations : counted ≡ count_shown r.evaluations
 
@@ -46,6 +48,6 @@ pub record IsReadyAt (all : Bool) (now : ℕ) (m : Machine) (net_count : ℕ) (f
   pub begun : ended ≤ length found
 
 -- and so it is between two times, when all violations are of times that ended
-pub record StandsBetween (nets : Nets) (lists : List (List (ℕ × Value))) (states : List Value) (seen : List Snapshot → Type 0) (found : List code_violation.Violation) (counted ended : ℕ) (r : Run) : Type 0 where
-  pub run : StandsFor nets lists states seen found counted r
+pub record StandsBetween (nets : Nets) (lists : List (List (ℕ × Value))) (states : List Value) (seen : List Snapshot → Type 0) (found : List code_violation.Violation) (counted ended now : ℕ) (r : Run) : Type 0 where
+  pub run : StandsFor nets lists states seen found counted now r
   pub whole : length found ≤ ended

@@ -41,7 +41,7 @@ pub data AreCalls (first : List Value) : List Snapshot → List Call → Type 0 
 
 -- a circuit of nothing
 abbrev pub no_circuit : Circuit
-no_circuit = record { tick = pos 0; nets = []; elements = []; checks = []; scopes = [] }
+no_circuit = record { tick = pos 0; nets = []; elements = []; checks = []; check_timings = []; check_conditions = []; scopes = [] }
 
 -- the last call, at the end, says that nothing changed
 abbrev pub end_call : ℕ → List Value → Call

@@ -2,6 +2,7 @@
 #![tactic(auto)]
 
 mod checks;
+mod circuit_checks;
 mod computing;
 mod elements;
 mod laws;

@@ -49,8 +49,8 @@ pub trait Times<L: Ledger> {
     /// What the stimulus sets, time by time.
     ghost sets: { Self → ℕ → List (ℕ × NetValue) };
 
-    /// It stands for a run.
-    ghost stands: { Self → Run → Type 0 };
+    /// It stands for a run before a time: none of the run's snapshots is later, and their times don't fall.
+    ghost stands: { Self → ℕ → Run → Type 0 };
 
     /// Nothing is pending before a time.
     ghost ready: { Self → ℕ → Type 0 };
@@ -76,7 +76,7 @@ pub trait Times<L: Ledger> {
         ensures machine { machine self.new ≡ machine self.old }
         ensures sets { sets self.new ≡ sets self.old }
         ensures nets { OnOk result (length (values self.new) ≡ length (values self.old)) }
-        ensures made { TimeMade (machine self.old) (sets self.old) bound now (stands self.old) (stands self.new) (counted self.new) steps.old steps.new result }
+        ensures made { TimeMade (machine self.old) (sets self.old) bound now (stands self.old now) (stands self.new (now + 1)) (counted self.new) steps.old steps.new result }
         ensures steps { steps.old ≤ steps.new }
         ensures end { IsEndOfTime result }
         ensures ready { OnOk result (ready self.new (now + 1)) }
@@ -92,12 +92,12 @@ pub trait Times<L: Ledger> {
         requires end { end < 2 ^ 60 }
         ensures later { now < result }
         ensures within { result ≤ end + 1 }
-        ensures quiet { (r : Run) (t : ℕ) → stands self.old r → now < t → t < result → IsQuiet (sets self.old) r t }
+        ensures quiet { (r : Run) (t : ℕ) → stands self.old (now + 1) r → now < t → t < result → IsQuiet (sets self.old) r t }
         ensures machine { machine self.new ≡ machine self.old }
         ensures sets { sets self.new ≡ sets self.old }
         ensures kept { kept self.new ≡ kept self.old }
         ensures values { values self.new ≡ values self.old }
-        ensures stands { (r : Run) → stands self.old r → stands self.new r }
+        ensures stands { (n : ℕ) (r : Run) → stands self.old n r → stands self.new n r }
         ensures ready { ready self.new result };
 
     /// The values of all nets.
@@ -109,16 +109,16 @@ pub trait Times<L: Ledger> {
         ensures { result.now ≡ changes self.now };
 
     /// Times that are skipped leave what it stands for.
-    ghost skips: { (e : Self) (k n : ℕ) (r : Run) → IsLawful (machine e) → IsSeen r → stands e r → stands e (with_copies k (machine e) n r) };
+    ghost skips: { (e : Self) (k n : ℕ) (r : Run) → IsLawful (machine e) → IsSeen r → stands e n r → stands e (n + k) (with_copies k (machine e) n r) };
 
     /// Its nets have the values of the runs that it stands for.
-    ghost shows: { (e : Self) (r : Run) → stands e r → values e ≡ r.state.values };
+    ghost shows: { (e : Self) (n : ℕ) (r : Run) → stands e n r → values e ≡ r.state.values };
 
     /// It keeps their violations.
-    ghost holds: { (e : Self) (r : Run) → stands e r → (kept e).violations ≡ r.violations };
+    ghost holds: { (e : Self) (n : ℕ) (r : Run) → stands e n r → (kept e).violations ≡ r.violations };
 
     /// It counted their evaluations.
-    ghost counts: { (e : Self) (r : Run) → stands e r → counted e ≡ count_shown r.evaluations };
+    ghost counts: { (e : Self) (n : ℕ) (r : Run) → stands e n r → counted e ≡ count_shown r.evaluations };
 }
 
 /// The values of nets, in a slice.
@@ -216,7 +216,7 @@ pub fn make_times<S: Shelf, W: Watch<S>, L: Ledger, T: Times<L>>(
     requires told { (T.kept times.old).told ≡ T.values times.old }
     requires last { (T.kept times.old).last ≡ 0 }
     requires nets { length (W.circuit watcher.old).nets ≤ length (T.values times.old) }
-    ensures ended { RunMade (T.machine times.old) (T.sets times.old) bound end (T.stands times.old) (T.values times.old) W.stands W.broken watcher.old watcher.new shelf.old shelf.new (T.kept times.new) (T.counted times.new) (steps.new - steps.old) result }
+    ensures ended { RunMade (T.machine times.old) (T.sets times.old) bound end (T.stands times.old 0) (T.values times.old) W.stands W.broken watcher.old watcher.new shelf.old shelf.new (T.kept times.new) (T.counted times.new) (steps.new - steps.old) result }
     ensures steps { steps.old ≤ steps.new }
     ensures cause { CauseOfEnd (S.fault_count shelf.old) (S.fault_count shelf.new) result }
     ensures named { NamesFaultOfEnd (W.name watcher.old) (S.last_fault shelf.old) (S.last_fault shelf.new) result }

@@ -1,10 +1,14 @@
 // The simulator of a circuit.
 ghost use Rattle.std.specs.Prelude.{◌≡◌, IfOk, map, take};
+ghost use Rattle.std.specs.Coded.{Coded-set, coded_ℕ};
+ghost use Rattle.std.proofs.Props.{props};
+ghost use Rattle.cond_expr.specs.Codes.{coded_cond};
 ghost use Rattle.time_checks.specs.Seen.{violation_seen};
+ghost use Rattle.sim_rounds.specs.CircuitChecks.{AreFirst};
 ghost use Rattle.sim_rounds.specs.Fresh.{IsFresh, first_value_of};
 ghost use Rattle.sg_circuit.specs.Closed.{IsClosed};
 
-use crate::checks::NoChecks;
+use crate::circuit_checks::CircuitChecks;
 use crate::elements::CircuitElements;
 use crate::runs::{SimEnd, make_times};
 use crate::simulation::Simulation;
@@ -120,6 +124,8 @@ pub struct Sim<'a, A: Agenda> {
     agenda: A,
     fan: FanOut,
     outputs: Vec<NetId>,
+    checks: CircuitChecks<'a>,
+    ghost first: { AreFirst circuit.now checks.checks.now checks.checker checks.touched checks.named } by { Prim.hlevel (props, Coded-set (coded_cond coded_ℕ)) },
     ghost fresh: { IsFresh circuit.now nets told work elements (A.lists agenda) fan outputs.items },
 }
 
@@ -144,6 +150,7 @@ impl<'a, A: Agenda + Drop> Sim<'a, A> {
         let elements = CircuitElements::new(alloc, circuit)?;
         let fan = FanOut::build(alloc, circuit)?;
         let outputs = outputs_of(alloc, &parts.elements)?;
+        let checks = CircuitChecks::new(alloc, circuit)?;
         Ok(Sim {
             circuit,
             alloc,
@@ -154,6 +161,7 @@ impl<'a, A: Agenda + Drop> Sim<'a, A> {
             agenda,
             fan,
             outputs,
+            checks,
         })
     }
 
@@ -195,6 +203,7 @@ impl<'a, A: Agenda + Drop> Sim<'a, A> {
             agenda,
             fan,
             outputs,
+            checks,
         } = self;
         let mut simulation = Simulation {
             nets,
@@ -202,7 +211,7 @@ impl<'a, A: Agenda + Drop> Sim<'a, A> {
             work,
             elements,
             agenda,
-            checks: NoChecks,
+            checks,
             fan,
             outputs,
             stimulus,

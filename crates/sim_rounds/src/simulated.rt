@@ -28,9 +28,9 @@ impl<L: Ledger, A: Agenda + Drop, E: Elements<A, L>, C: Checks> Times<L>
 
     ghost sets = { λ s. sets_at (stimulus_seen s.stimulus.now).steps };
 
-    ghost stands = { λ s r. StandsBetween s.nets (A.lists s.agenda) (E.states s.elements) (C.stands s.checks) s.violations.items s.evaluations s.ended r };
+    ghost stands = { λ s now r. StandsBetween s.nets (A.lists s.agenda) (E.states s.elements) (C.stands s.checks s.nets.values.items) s.violations.items s.evaluations s.ended now r };
 
-    ghost ready = { λ s now. IsReadyAt (now == 0) now (E.machine s.elements) (E.net_count s.elements) s.fan s.outputs.items s.nets s.told s.work (A.lists s.agenda) (E.states s.elements) (C.violated s.checks) (C.notifiers s.checks) s.handed.items s.ended s.violations.items × CanApply s.outputs.items (length s.nets.values.items) (stimulus_seen s.stimulus.now) };
+    ghost ready = { λ s now. IsReadyAt (now == 0) now (E.machine s.elements) (E.net_count s.elements) s.fan s.outputs.items s.nets s.told s.work (A.lists s.agenda) (E.states s.elements) (C.violated s.checks) (C.notifiers s.checks) s.handed.items s.ended s.violations.items × (C.over s.checks (length s.nets.values.items) × CanApply s.outputs.items (length s.nets.values.items) (stimulus_seen s.stimulus.now)) };
 
     ghost counted = { λ s. s.evaluations };
 
@@ -40,13 +40,13 @@ impl<L: Ledger, A: Agenda + Drop, E: Elements<A, L>, C: Checks> Times<L>
 
     ghost changes = { λ s. s.changes.items };
 
-    ghost skips = { λ s k n r law seen h. stands_skipped (E.machine s.elements) law s.nets (A.lists s.agenda) (E.states s.elements) (C.stands s.checks) s.violations.items s.evaluations s.ended k n r seen (C.skips s.checks) h };
+    ghost skips = { λ s k n r law seen h. stands_skipped (E.machine s.elements) law s.nets (A.lists s.agenda) (E.states s.elements) (C.stands s.checks s.nets.values.items) s.violations.items s.evaluations s.ended k n r seen (λ t last values older. C.skips s.checks t last values s.nets.values.items older) h };
 
-    ghost shows = { λ s r h. shows_values s.nets (A.lists s.agenda) (E.states s.elements) (C.stands s.checks) s.violations.items s.evaluations s.ended r h };
+    ghost shows = { λ s n r h. shows_values s.nets (A.lists s.agenda) (E.states s.elements) (C.stands s.checks s.nets.values.items) s.violations.items s.evaluations s.ended n r h };
 
-    ghost holds = { λ s r h. holds_violations s.nets (A.lists s.agenda) (E.states s.elements) (C.stands s.checks) s.violations.items s.evaluations s.ended s.told s.last (stimulus_seen s.stimulus.now) r h };
+    ghost holds = { λ s n r h. holds_violations s.nets (A.lists s.agenda) (E.states s.elements) (C.stands s.checks s.nets.values.items) s.violations.items s.evaluations s.ended s.told s.last (stimulus_seen s.stimulus.now) n r h };
 
-    ghost counts = { λ s r h. h.run.evaluations };
+    ghost counts = { λ s n r h. h.run.evaluations };
 
     fn make(&mut self, now: u64, bound: u32, steps: &mut Steps<L>) -> Result<(), SimEnd> {
         hand_in(&mut self.handed, sets_of(self.stimulus, now))?;

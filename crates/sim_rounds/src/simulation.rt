@@ -41,7 +41,7 @@ pub struct Simulation<'a, A, E, C> {
 
 impl<L: Ledger, A: Agenda + Drop, E: Elements<A, L>, C: Checks> Rounds<L>
     for Simulation<'_, A, E, C> {
-    ghost use Rattle.std.specs.Prelude.{map};
+    ghost use Rattle.std.specs.Prelude.{length, map};
     ghost use Rattle.stim_read.specs.Seen.{set_seen, stimulus_seen};
     ghost use Rattle.sim_rounds.specs.Naming.{Moves};
     ghost use Rattle.sim_rounds.specs.Simulations.{kept_of, IsReadyAt, StandsFor};
@@ -49,9 +49,9 @@ impl<L: Ledger, A: Agenda + Drop, E: Elements<A, L>, C: Checks> Rounds<L>
 
     ghost machine = { λ s. E.machine s.elements };
 
-    ghost stands = { λ s r. StandsFor s.nets (A.lists s.agenda) (E.states s.elements) (C.stands s.checks) s.violations.items s.evaluations r };
+    ghost stands = { λ s now r. StandsFor s.nets (A.lists s.agenda) (E.states s.elements) (C.stands s.checks s.nets.values.items) s.violations.items s.evaluations now r };
 
-    ghost ready = { λ s all now. IsReadyAt all now (E.machine s.elements) (E.net_count s.elements) s.fan s.outputs.items s.nets s.told s.work (A.lists s.agenda) (E.states s.elements) (C.violated s.checks) (C.notifiers s.checks) s.handed.items s.ended s.violations.items };
+    ghost ready = { λ s all now. IsReadyAt all now (E.machine s.elements) (E.net_count s.elements) s.fan s.outputs.items s.nets s.told s.work (A.lists s.agenda) (E.states s.elements) (C.violated s.checks) (C.notifiers s.checks) s.handed.items s.ended s.violations.items × C.over s.checks (length s.nets.values.items) };
 
     ghost handed = { λ s. map (λ c. set_seen c) s.handed.items };
 
@@ -61,7 +61,7 @@ impl<L: Ledger, A: Agenda + Drop, E: Elements<A, L>, C: Checks> Rounds<L>
 
     ghost kept = { λ s. kept_of s.told s.ended s.violations.items s.last (stimulus_seen s.stimulus.now) };
 
-    ghost counts = { λ s r h. h.evaluations };
+    ghost counts = { λ s n r h. h.evaluations };
 
     fn needs(&mut self, now: u64, must: bool) -> bool {
         if must {
@@ -92,6 +92,8 @@ impl<L: Ledger, A: Agenda + Drop, E: Elements<A, L>, C: Checks> Rounds<L>
             &self.nets.before,
             &self.nets.values,
         );
+        self.checks
+            .touch(&self.nets.changed, &self.nets.before, &self.nets.values);
         self.evaluations = self.evaluations.saturating_add(count as u64);
         self.handed.clear();
         Ok(())

@@ -31,8 +31,8 @@ pub trait Rounds<L: Ledger> {
     /// The circuit that it simulates.
     ghost machine: { Self → Machine };
 
-    /// It stands for a run.
-    ghost stands: { Self → Run → Type 0 };
+    /// It stands for a run at a time: none of the run's snapshots is later, and their times don't fall.
+    ghost stands: { Self → ℕ → Run → Type 0 };
 
     /// It is ready for a round at a time: the first of all, which evaluates every element, or a later one.
     ghost ready: { Self → Bool → ℕ → Type 0 };
@@ -56,8 +56,8 @@ pub trait Rounds<L: Ledger> {
         ensures handed { handed self.new ≡ handed self.old }
         ensures kept { kept self.new ≡ kept self.old }
         ensures counted { counted self.new ≡ counted self.old }
-        ensures stands { (r : Run) → stands self.old r → stands self.new r }
-        ensures needs { Needs now must (handed self.old) (stands self.old) result }
+        ensures stands { (r : Run) → stands self.old now r → stands self.new now r }
+        ensures needs { Needs now must (handed self.old) (stands self.old now) result }
         ensures moves { result ≡ true → must ≡ false → handed self.old ≡ [] → moves self.new now }
         ensures ready { ready self.new must now }
         ensures idle { OnFalse result (ready self.new false now) }
@@ -69,7 +69,7 @@ pub trait Rounds<L: Ledger> {
         requires now { now < 2 ^ 60 }
         ensures machine { machine self.new ≡ machine self.old }
         ensures kept { kept self.new ≡ kept self.old }
-        ensures stands { OnOk result (AfterRound (machine self.old) now all (handed self.old) (stands self.old) (stands self.new) steps.old steps.new) }
+        ensures stands { OnOk result (AfterRound (machine self.old) now all (handed self.old) (stands self.old now) (stands self.new now) steps.old steps.new) }
         ensures handed { OnOk result (handed self.new ≡ []) }
         ensures ready { OnOk result (ready self.new false now) }
         ensures counted { OnErr result (counted self.new ≡ counted self.old) }
@@ -82,7 +82,7 @@ pub trait Rounds<L: Ledger> {
         ensures machine { machine self.new ≡ machine self.old }
         ensures kept { kept self.new ≡ kept self.old }
         ensures counted { counted self.new ≡ counted self.old }
-        ensures stands { OnOk result (AfterSnapshot (machine self.old) now (stands self.old) (stands self.new) (handed self.new)) }
+        ensures stands { OnOk result (AfterSnapshot (machine self.old) now (stands self.old now) (stands self.new now) (handed self.new)) }
         ensures toggles { IfOk result (λ some. is_empty (handed self.new) ≡ not some) }
         ensures moves { IfOk result (λ some. OnTrue some (moves self.new now)) }
         ensures ready { OnOk result ((t : ℕ) → ready self.old false t → ready self.new false t) };
@@ -95,10 +95,10 @@ pub trait Rounds<L: Ledger> {
         ensures machine { machine self.new ≡ machine self.old }
         ensures kept { kept self.new ≡ kept self.old }
         ensures counted { counted self.new ≡ counted self.old }
-        ensures named { Names (machine self.old) now (handed self.old) (stands self.old) result };
+        ensures named { Names (machine self.old) now (handed self.old) (stands self.old now) result };
 
     /// It counted the evaluations of the runs that it stands for.
-    ghost counts: { (e : Self) (r : Run) → stands e r → counted e ≡ count_shown r.evaluations };
+    ghost counts: { (e : Self) (n : ℕ) (r : Run) → stands e n r → counted e ≡ count_shown r.evaluations };
 }
 
 // One turn: a round, or a snapshot and the round of its toggles.
@@ -113,7 +113,7 @@ fn make_turn<L: Ledger, R: Rounds<L>>(
     ensures machine { R.machine rounds.new ≡ R.machine rounds.old }
     ensures kept { R.kept rounds.new ≡ R.kept rounds.old }
     ensures steps { steps.old ≤ steps.new }
-    ensures turned { TurnEnds (R.machine rounds.old) now must (R.handed rounds.old) (R.stands rounds.old) (R.stands rounds.new) (R.counted rounds.new) steps.old steps.new result }
+    ensures turned { TurnEnds (R.machine rounds.old) now must (R.handed rounds.old) (R.stands rounds.old now) (R.stands rounds.new now) (R.counted rounds.new) steps.old steps.new result }
     ensures handed { OnRound result (R.handed rounds.new ≡ []) }
     ensures ready { OnRound result (R.ready rounds.new false now) }
     ensures over { OnEnd result (R.ready rounds.new false (now + 1)) }
@@ -135,7 +135,7 @@ fn toggle<L: Ledger, R: Rounds<L>>(rounds: &mut R, now: u64, steps: &mut Steps<L
     ensures machine { R.machine rounds.new ≡ R.machine rounds.old }
     ensures kept { R.kept rounds.new ≡ R.kept rounds.old }
     ensures steps { steps.old ≤ steps.new }
-    ensures toggled { ToggleEnds (R.machine rounds.old) now (R.stands rounds.old) (R.stands rounds.new) (R.counted rounds.new) steps.old steps.new result }
+    ensures toggled { ToggleEnds (R.machine rounds.old) now (R.stands rounds.old now) (R.stands rounds.new now) (R.counted rounds.new) steps.old steps.new result }
     ensures handed { OnRound result (R.handed rounds.new ≡ []) }
     ensures ready { OnRound result (R.ready rounds.new false now) }
     ensures after { OnEnd result (R.ready rounds.new false (now + 1)) }
@@ -161,7 +161,7 @@ fn last<L: Ledger, R: Rounds<L>>(rounds: &mut R, now: u64) -> TimeEnd
     requires handed { R.handed rounds.old ≡ [] }
     ensures machine { R.machine rounds.new ≡ R.machine rounds.old }
     ensures kept { R.kept rounds.new ≡ R.kept rounds.old }
-    ensures ended { RoundsEnd 0 (R.machine rounds.old) now false [] (R.stands rounds.old) (R.stands rounds.new) (R.counted rounds.new) 0 0 result }
+    ensures ended { RoundsEnd 0 (R.machine rounds.old) now false [] (R.stands rounds.old now) (R.stands rounds.new now) (R.counted rounds.new) 0 0 result }
     ensures over { OnWhole result (R.ready rounds.new false (now + 1)) }
 {
     if rounds.needs(now, false) {
@@ -193,7 +193,7 @@ pub fn make_time<L: Ledger, R: Rounds<L>>(
     ensures machine { R.machine rounds.new ≡ R.machine rounds.old }
     ensures kept { R.kept rounds.new ≡ R.kept rounds.old }
     ensures steps { steps.old ≤ steps.new }
-    ensures ended { RoundsEnd bound (R.machine rounds.old) now first (R.handed rounds.old) (R.stands rounds.old) (R.stands rounds.new) (R.counted rounds.new) steps.old steps.new result }
+    ensures ended { RoundsEnd bound (R.machine rounds.old) now first (R.handed rounds.old) (R.stands rounds.old now) (R.stands rounds.new now) (R.counted rounds.new) steps.old steps.new result }
     ensures over { OnWhole result (R.ready rounds.new false (now + 1)) }
 {
     let mut must = first;

@@ -2,7 +2,10 @@
 use Rattle.std.specs.Prelude.{List, [], Option, Some, None, flat_map, filter_map}
 use Rattle.vl_tree.specs.declared.specify.PulseStyle.{PulseStyle}
 use Rattle.vl_tree.specs.Tree.{Named, MinTypMax, Specparam, a_value, pulse_limits, SpecifyPath, Term, SpecifyItem, specparams, a_path, pulse_style, a_check, SpecifyBlock, Item, ports, nets, supplies, registers, assigns, gates, instances, specify_block, Module}
-use Rattle.elab_model.specs.NameFaults.{block_of}
+
+abbrev pub block_of : Item → Option SpecifyBlock
+block_of (specify_block b) = Some b
+block_of _ = None
 
 abbrev pub blocks : Module → List SpecifyBlock
 blocks m = filter_map block_of m.items

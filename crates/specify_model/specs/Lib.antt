@@ -7,3 +7,5 @@ pub mod Conditions
 pub mod Paths
 pub mod Outputs
 pub mod Faults
+pub mod Checks
+pub mod CheckFaults

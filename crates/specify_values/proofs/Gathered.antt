@@ -8,7 +8,8 @@ use Rattle.vl_tree.specs.declared.items.Item as code_item
 use Rattle.vl_tree.specs.Seen.{view_item}
 use Rattle.vl_tree.specs.Tree.{Specparam, SpecifyItem}
 use Rattle.specify_model.specs.Blocks.{items_of_item, parameter_of, parameters, pulse_of, pulses, specparams_of_item, path_of_item, specify_paths, style_of_item, style_texts}
-use Rattle.specify_values.specs.Seen.{Adds, AddsSpecparams, AreItems, view_parameter, view_pulse, view_paths, view_style}
+use Rattle.specify_model.specs.Checks.{check_of_item, check_texts}
+use Rattle.specify_values.specs.Seen.{Adds, AddsSpecparams, AreItems, view_parameter, view_pulse, view_paths, view_style, view_checks}
 use Rattle.specify_values.specs.declared.items.BlockItems.{BlockItems}
 
 two : {A : Type 0} (a b c xs ys zs : List A) → b ≡ a ++ xs → c ≡ b ++ ys → zs ≡ xs ++ ys → c ≡ a ++ zs
@@ -17,7 +18,7 @@ two a b c xs ys zs e f g = f ∙ ap (λ d. d ++ ys) e ∙ append_assoc a xs ys �
 -- ---- specparams
 
 pub no-specparams : (a : BlockItems) → AddsSpecparams [] a a
-no-specparams a = record { parameters_more = sym (append-nil _); pulses_more = sym (append-nil _); paths_stay = refl; styles_stay = refl }
+no-specparams a = record { parameters_more = sym (append-nil _); pulses_more = sym (append-nil _); paths_stay = refl; styles_stay = refl; checks_stay = refl }
 
 pub more-specparams : (xs ys : List Specparam) (a b c : BlockItems) → AddsSpecparams xs a b → AddsSpecparams ys b c → AddsSpecparams (xs ++ ys) a c
 more-specparams xs ys a b c h g = record {
@@ -25,6 +26,7 @@ more-specparams xs ys a b c h g = record {
   pulses_more = two (map view_pulse a.pulses.items) (map view_pulse b.pulses.items) (map view_pulse c.pulses.items) (filter_map pulse_of xs) (filter_map pulse_of ys) (filter_map pulse_of (xs ++ ys)) h.pulses_more g.pulses_more (filter_map-append pulse_of xs ys);
   paths_stay = g.paths_stay ∙ h.paths_stay;
   styles_stay = g.styles_stay ∙ h.styles_stay;
+  checks_stay = g.checks_stay ∙ h.checks_stay;
 }
 
 -- ---- items
@@ -36,7 +38,8 @@ pulses-append : (xs ys : List SpecifyItem) → pulses (xs ++ ys) ≡ pulses xs +
 pulses-append xs ys = ap (filter_map pulse_of) (flat_map-append specparams_of_item xs ys) ∙ filter_map-append pulse_of (flat_map specparams_of_item xs) (flat_map specparams_of_item ys)
 
 pub none-added : (a : BlockItems) → Adds [] a a
-none-added a = record { parameters_grow = sym (append-nil _); pulses_grow = sym (append-nil _); paths_grow = sym (append-nil _); styles_grow = sym (append-nil _) }
+none-added a =
+    record { parameters_grow = sym (append-nil _); pulses_grow = sym (append-nil _); paths_grow = sym (append-nil _); styles_grow = sym (append-nil _); checks_grow = sym (append-nil _) }
 
 pub more-added : (xs ys : List SpecifyItem) (a b c : BlockItems) → Adds xs a b → Adds ys b c → Adds (xs ++ ys) a c
 more-added xs ys a b c h g = record {
@@ -44,6 +47,7 @@ more-added xs ys a b c h g = record {
   pulses_grow = two (map view_pulse a.pulses.items) (map view_pulse b.pulses.items) (map view_pulse c.pulses.items) (pulses xs) (pulses ys) (pulses (xs ++ ys)) h.pulses_grow g.pulses_grow (pulses-append xs ys);
   paths_grow = two (view_paths a.paths.items) (view_paths b.paths.items) (view_paths c.paths.items) (specify_paths xs) (specify_paths ys) (specify_paths (xs ++ ys)) h.paths_grow g.paths_grow (filter_map-append path_of_item xs ys);
   styles_grow = two (map view_style a.styles.items) (map view_style b.styles.items) (map view_style c.styles.items) (style_texts xs) (style_texts ys) (style_texts (xs ++ ys)) h.styles_grow g.styles_grow (filter_map-append style_of_item xs ys);
+  checks_grow = two (view_checks a.checks.items) (view_checks b.checks.items) (view_checks c.checks.items) (check_texts xs) (check_texts ys) (check_texts (xs ++ ys)) h.checks_grow g.checks_grow (filter_map-append check_of_item xs ys);
 }
 
 -- ---- in loops
@@ -73,6 +77,7 @@ items-more xs ys b c h g = record {
   pulses_are = g.pulses_grow ∙ ap (λ l. l ++ pulses ys) h.pulses_are ∙ sym (pulses-append xs ys);
   paths_are = g.paths_grow ∙ ap (λ l. l ++ specify_paths ys) h.paths_are ∙ sym (filter_map-append path_of_item xs ys);
   styles_are = g.styles_grow ∙ ap (λ l. l ++ style_texts ys) h.styles_are ∙ sym (filter_map-append style_of_item xs ys);
+  checks_are = g.checks_grow ∙ ap (λ l. l ++ check_texts ys) h.checks_are ∙ sym (filter_map-append check_of_item xs ys);
 }
 
 next-block : {A : Type 0} (view : A → List SpecifyItem) (xs : List A) (i : ℕ) (x : A) (b c : BlockItems) → i < length xs → x ≡ slice_index_or xs i x

@@ -5,3 +5,4 @@ pub mod Gathered
 pub mod InTurn
 pub mod ByName
 pub mod Latest
+pub mod Signed

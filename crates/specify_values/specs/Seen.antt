@@ -5,13 +5,15 @@ use Rattle.std.specs.Option.{option_map, option_or}
 use Rattle.indexmap.specs.IndexMap.{IndexMap, get_by}
 use Rattle.sg_delay.specs.declared.limits.Widths.{Widths}
 use Rattle.vl_token.specs.Seen.{timescale}
+use Rattle.vl_tree.specs.declared.checks.Check as code_check
 use Rattle.vl_tree.specs.declared.expressions.MinTypMax as code_mtm
 use Rattle.vl_tree.specs.declared.paths.SpecifyPath as code_path
-use Rattle.vl_tree.specs.Seen.{view_name, view_mtm, view_path, view_term}
-use Rattle.vl_tree.specs.Tree.{SpecifyPath, Specparam, SpecifyItem}
+use Rattle.vl_tree.specs.Seen.{view_name, view_mtm, view_check, view_path, view_term}
+use Rattle.vl_tree.specs.Tree.{Check, SpecifyPath, Specparam, SpecifyItem}
 use Rattle.elab_model.specs.Names.{Variable}
 use Rattle.elab_model.specs.TerminalFaults.{delay_limit}
 use Rattle.specify_model.specs.Blocks.{Parameter, parameter_of, parameters, Pulse, pulse_of, pulses, StyleText, specify_paths, style_texts}
+use Rattle.specify_model.specs.Checks.{check_texts}
 use Rattle.specify_model.specs.PulseLimits.{Limits, limit_ticks, dollar, are_ports, is_for_ends, is_for_others}
 use Rattle.specify_model.specs.Values.{Measure, Values}
 use Rattle.specify_values.specs.declared.items.BlockItems.{BlockItems}
@@ -81,11 +83,15 @@ view_style s = record { style = s.style; terms = map view_term s.terms.now }
 abbrev pub view_paths : List (Bor code_path.SpecifyPath) → List SpecifyPath
 view_paths ps = map (λ p. view_path p.now) ps
 
+abbrev pub view_checks : List (Bor code_check.Check) → List Check
+view_checks cs = map (λ c. view_check c.now) cs
+
 pub record AreItems (items : List SpecifyItem) (b : BlockItems) : Type 0 where
   pub parameters_are : map view_parameter b.parameters.items ≡ parameters items
   pub pulses_are : map view_pulse b.pulses.items ≡ pulses items
   pub paths_are : view_paths b.paths.items ≡ specify_paths items
   pub styles_are : map view_style b.styles.items ≡ style_texts items
+  pub checks_are : view_checks b.checks.items ≡ check_texts items
 
 -- these more
 pub record Adds (items : List SpecifyItem) (old new : BlockItems) : Type 0 where
@@ -93,9 +99,11 @@ pub record Adds (items : List SpecifyItem) (old new : BlockItems) : Type 0 where
   pub pulses_grow : map view_pulse new.pulses.items ≡ map view_pulse old.pulses.items ++ pulses items
   pub paths_grow : view_paths new.paths.items ≡ view_paths old.paths.items ++ specify_paths items
   pub styles_grow : map view_style new.styles.items ≡ map view_style old.styles.items ++ style_texts items
+  pub checks_grow : view_checks new.checks.items ≡ view_checks old.checks.items ++ check_texts items
 
 pub record AddsSpecparams (list : List Specparam) (old new : BlockItems) : Type 0 where
   pub parameters_more : map view_parameter new.parameters.items ≡ map view_parameter old.parameters.items ++ filter_map parameter_of list
   pub pulses_more : map view_pulse new.pulses.items ≡ map view_pulse old.pulses.items ++ filter_map pulse_of list
   pub paths_stay : view_paths new.paths.items ≡ view_paths old.paths.items
   pub styles_stay : map view_style new.styles.items ≡ map view_style old.styles.items
+  pub checks_stay : view_checks new.checks.items ≡ view_checks old.checks.items

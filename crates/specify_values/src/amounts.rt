@@ -15,8 +15,8 @@ use sg_delay::Corner;
 use sg_text::{Place, Refused};
 use vl_tree::{Amount, Amounts, MinTypMax};
 
-// Refuses a specparam that there isn't (BadDelay, at the name).
-fn check_known(parameters: &Parameters, amount: &Amount) -> Result<(), Refused<ElabKind>>
+/// Refuses a specparam that there isn't (BadDelay, at the name).
+pub fn check_known(parameters: &Parameters, amount: &Amount) -> Result<(), Refused<ElabKind>>
     ensures { Tells (faults.unknown_faults (values_of parameters.now) (view_amount amount.now)) result }
 {
     let Amount::Parameter(name) = amount else {
@@ -57,7 +57,8 @@ fn corner_amount<'a>(corner: Corner, amounts: &Amounts<'a>) -> Amount<'a>
     }
 }
 
-fn place_of(amount: &Amount) -> Place
+/// Where an amount stands.
+pub fn place_of(amount: &Amount) -> Place
     ensures { result ≡ faults.amount_place (view_amount amount.now) }
 {
     match amount {
@@ -76,8 +77,8 @@ fn value_of(parameters: &Parameters, amount: &Amount) -> Option<MinTypMax>
     }
 }
 
-// Refuses 2^60 ticks and more (BadDelay, at the amount).
-fn amount_ticks(
+/// What is written or given, in ticks; nothing is 0. Refuses 2^60 ticks and more (BadDelay, at the amount).
+pub fn amount_ticks(
     by: Measure,
     parameters: &Parameters,
     amount: &Amount,

@@ -21,6 +21,7 @@ pub fn block_items<'t, 'a>(
         pulses: Vec::new(alloc),
         paths: Vec::new(alloc),
         styles: Vec::new(alloc),
+        checks: Vec::new(alloc),
     };
     for item in &definition.items {
         add_item(item, &mut items)?;
@@ -68,7 +69,7 @@ fn add_one<'t, 'a>(
             style: *style,
             terms,
         })?,
-        SpecifyItem::Check(_) => {}
+        SpecifyItem::Check(check) => items.checks.push(check)?,
     }
     Ok(())
 }

@@ -1,5 +1,5 @@
 // What stands in a module's specify blocks.
-use vl_tree::{MinTypMax, Name, PulseStyle, SpecifyPath, Term};
+use vl_tree::{Check, MinTypMax, Name, PulseStyle, SpecifyPath, Term};
 
 /// A specparam with a value (IEEE 1364-2005, 4.10.3).
 #[derive(Clone, Copy, Debug, PartialEq)]
@@ -23,11 +23,12 @@ pub struct StyleText<'t, 'a> {
     pub terms: &'t [Term<'a>],
 }
 
-/// What stands in the specify blocks of a module, but for timing checks; each list is in text order (IEEE 1364-2005, 14.1).
+/// What stands in the specify blocks of a module; each list is in text order (IEEE 1364-2005, 14.1).
 #[derive(Drop)]
 pub struct BlockItems<'t, 'a> {
     pub parameters: Vec<Parameter<'a>>,
     pub pulses: Vec<Pulse<'a>>,
     pub paths: Vec<&'t SpecifyPath<'a>>,
     pub styles: Vec<StyleText<'t, 'a>>,
+    pub checks: Vec<&'t Check<'a>>,
 }

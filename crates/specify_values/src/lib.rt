@@ -1,7 +1,8 @@
-//! The numbers of a module's specify blocks in ticks: specparams, delays of paths, and limits of their pulses.
+//! The numbers of a module's specify blocks in ticks: specparams, delays of paths, limits of their pulses, and limits of timing checks.
 #![tactic(auto)]
 
 mod amounts;
+mod check_limits;
 mod delays;
 mod gathering;
 mod items;
@@ -11,9 +12,10 @@ mod parameters;
 mod pulses;
 mod ticks;
 
+pub use check_limits::limit_ticks;
 pub use delays::path_delays;
 pub use gathering::block_items;
 pub use items::{BlockItems, Parameter, Pulse, StyleText};
 pub use limits::{PulseLimits, pulse_limits};
 pub use measures::Measure;
-pub use parameters::{Parameters, specparams};
+pub use parameters::{Parameters, specparam_values, specparams};

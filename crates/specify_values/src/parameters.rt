@@ -44,7 +44,7 @@ pub fn specparams<'a>(
 {
     let names = names_of(alloc, list)?;
     check_once(alloc, &names)?;
-    Ok(by_name(alloc, list)?)
+    Ok(specparam_values(alloc, list)?)
 }
 
 fn names_of<'a>(alloc: Global, list: &[Parameter<'a>]) -> Result<Vec<Name<'a>>, NoMemory>
@@ -57,8 +57,11 @@ fn names_of<'a>(alloc: Global, list: &[Parameter<'a>]) -> Result<Vec<Name<'a>>, 
     Ok(names)
 }
 
-// The first of each name.
-fn by_name<'a>(alloc: Global, list: &[Parameter<'a>]) -> Result<Parameters<'a>, NoMemory>
+/// Specparams with values, by their names, of which the first of a name holds. Takes memory in proportion to the list.
+pub fn specparam_values<'a>(
+    alloc: Global,
+    list: &[Parameter<'a>],
+) -> Result<Parameters<'a>, NoMemory>
     ensures { IfOk result (λ p. values_of p ≡ value_of (map view_parameter list.now)) }
 {
     let mut values: IndexMap<&[u8], MinTypMax> = IndexMap::new(alloc);

@@ -76,6 +76,8 @@ fn parts(alloc: Global) -> Result<Parts, NoMemory> {
         conditions: Vec::new(alloc),
         udps: Vec::new(alloc),
         checks: Vec::new(alloc),
+        check_timings: Vec::new(alloc),
+        check_conditions: Vec::new(alloc),
         scopes: vec![in alloc; top(alloc)?]?,
     })
 }

@@ -142,7 +142,7 @@ rises i (k ∷ ks) above h once =
         let none : occurrences k ks ≡ 0 = (let most : occurrences k (k ∷ ks) ≤ 1 = once.each k in omega (arith, occurs_here k k ks refl)) in
         apart (slice_index_or ks a d) least some none
 
-below_none : (i j : ℕ) (ks : List ℕ) → RisesFrom i ks → j < i → has j ks ≡ false
+pub below_none : (i j : ℕ) (ks : List ℕ) → RisesFrom i ks → j < i → has j ks ≡ false
 below_none i j [] r l = refl
 below_none i j (k ∷ ks) r l =
     let least : i ≤ k = r.0 in

@@ -15,18 +15,19 @@ use Rattle.elab_circuit.specs.Elaboration.{FaultStands, in_list, in_table, IsEla
 use Rattle.elab_model.specs.PrimitiveFaults.{primitives}
 use Rattle.elab_model.specs.Faults.{Fault, fault, RefusesOneOf}
 use Rattle.elab_model.specs.HierarchyFaults.{two_definitions}
-use Rattle.elab_circuit.specs.Faults.{path_faults, driver_faults, faults_below, top_faults, faults}
+use Rattle.elab_circuit.specs.CheckUses.{check_uses}
+use Rattle.elab_circuit.specs.Faults.{path_faults, check_faults, over, driver_faults, faults_below, top_faults, faults}
 use Rattle.elab_paths.specs.Joining.{counts_over}
 use Rattle.elab_model.specs.Nets.{nets}
 use Rattle.elab_model.specs.Tops.{top_of}
 use Rattle.elab_nets.specs.Refusals.{RefusesCount}
-use Rattle.elab_laws.proofs.Lists.{In, in-left, in-right}
+use Rattle.elab_laws.proofs.Lists.{In, in-either, in-left, in-right}
 use Rattle.elab_hierarchy.specs.Placing.{tree_faults}
 use Rattle.elab_hierarchy.specs.Tops.{RefusesTop}
 use Rattle.elab_modules.specs.Reached.{RefusesReached}
 use Rattle.vl_elab.specs.Below.{IsBelow, RefusesBelow}
 use Rattle.vl_elab.proofs.Among.{among-in, in-among}
-use Rattle.vl_elab.proofs.Standing.{of-tree, of-reached, of-paths, of-nets, of-elements, of-joined, of-drivers}
+use Rattle.vl_elab.proofs.Standing.{of-tree, of-reached, of-paths, of-checks, of-nets, of-elements, of-joined, of-many_checks, of-drivers}
 
 -- ---- below a top
 
@@ -58,6 +59,16 @@ paths-refused source top corner refused.NoMemory h = tt
 pub joined-refused : (source : Source) (top : Module) (corner : Corner) (r : Refused ElabKind) → RefusesOneOf (counts_over source top corner) r → RefusesBelow source top corner r
 joined-refused source top corner (refused.Fault k p) h = inl (of-joined source top corner (fault k p) h)
 joined-refused source top corner refused.NoMemory h = tt
+
+pub checks-refused : (source : Source) (top : Module) (corner : Corner) (r : Refused ElabKind) → RefusesOneOf (check_faults source top corner ++ over (length (check_uses source top corner))) r → RefusesBelow source top corner r
+checks-refused source top corner (refused.Fault k p) h =
+    let own = check_faults source top corner in
+    let many = over (length (check_uses source top corner)) in
+    elim (in-either (fault k p) own many (among-in (own ++ many) (fault k p) h)) [
+      | inl g ↦ inl (of-checks source top corner (fault k p) (in-among own (fault k p) g))
+      | inr g ↦ inl (of-many_checks source top corner (fault k p) (in-among many (fault k p) g))
+    ]
+checks-refused source top corner refused.NoMemory h = tt
 
 -- ---- of a netlist
 

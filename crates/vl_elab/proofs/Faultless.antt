@@ -10,7 +10,8 @@ use Rattle.elab_model.specs.Delays.{tick_of}
 use Rattle.elab_model.specs.Faults.{fault_if}
 use Rattle.elab_model.specs.Hierarchy.{Instance, instances}
 use Rattle.elab_model.specs.HierarchyFaults.{self_instances, too_deep, first_too_many, count_limit, start, instance_faults_below}
-use Rattle.elab_circuit.specs.Faults.{path_faults, path_count, over, too_many, driver_faults, faults_below}
+use Rattle.elab_circuit.specs.CheckUses.{check_uses}
+use Rattle.elab_circuit.specs.Faults.{path_faults, path_count, check_faults, over, too_many, driver_faults, faults_below}
 use Rattle.elab_model.specs.ModuleFaults.{module_faults}
 use Rattle.elab_circuit.specs.WithPaths.{all_nets, all_elements}
 use Rattle.elab_laws.specs.Laws.{AreSound}
@@ -34,24 +35,27 @@ within l n le = grind (arith, nat_tests)
 none-past : (n : ℕ) → n ≤ count_limit → over n ≡ []
 none-past n le = ap (λ b. fault_if b TooMany start) (within count_limit n le)
 
-pub faultless-below : (source : Source) (top : Module) (corner : Corner) → tree_faults source top ≡ [] → AreSound source top corner → path_faults source top corner ≡ [] → length (all_nets source top corner) ≤ count_limit
-    → length (all_elements source top corner) ≤ count_limit → path_count source top corner ≤ count_limit → driver_faults source top corner ≡ [] → faults_below source top corner ≡ []
-faultless-below source top corner tree sound paths few_nets few_elements few_paths drivers =
+pub faultless-below : (source : Source) (top : Module) (corner : Corner) → tree_faults source top ≡ [] → AreSound source top corner → path_faults source top corner ≡ [] → check_faults source top corner ≡ [] → length (all_nets source top corner) ≤ count_limit
+    → length (all_elements source top corner) ≤ count_limit → path_count source top corner ≤ count_limit → length (check_uses source top corner) ≤ count_limit → driver_faults source top corner ≡ [] → faults_below source top corner ≡ []
+faultless-below source top corner tree sound paths checks few_nets few_elements few_paths few_checks drivers =
     let trees = flat_map (tree_faults_at source) (instances source top) in
     let scopes = first_too_many (drop count_limit (instances source top)) in
     let each = flat-empty (tree_faults_at source) (instances source top) (front trees scopes tree) in
     let many_nets = over (length (all_nets source top corner)) in
     let many_elements = over (length (all_elements source top corner)) in
     let many_paths = over (path_count source top corner) in
-    both-empty (flat_map (instance_faults_below source top corner) (instances source top)) (path_faults source top corner ++ (too_many source top corner ++ driver_faults source top corner))
+    let many_checks = over (length (check_uses source top corner)) in
+    both-empty (flat_map (instance_faults_below source top corner) (instances source top)) (path_faults source top corner ++ (check_faults source top corner ++ (too_many source top corner ++ driver_faults source top corner)))
     (all-empty (instance_faults_below source top corner) (instances source top)
     (all-both (λ s. tree_faults_at source s ≡ []) (λ s. module_faults source corner (tick_of source top) s.step.definition ≡ []) (λ s. instance_faults_below source top corner s ≡ []) (instances source top) joined each sound))
-    (both-empty (path_faults source top corner) (too_many source top corner ++ driver_faults source top corner) paths
+    (both-empty (path_faults source top corner) (check_faults source top corner ++ (too_many source top corner ++ driver_faults source top corner)) paths
+    (both-empty (check_faults source top corner) (too_many source top corner ++ driver_faults source top corner) checks
     (both-empty (too_many source top corner) (driver_faults source top corner)
-    (both-empty scopes (many_nets ++ (many_elements ++ many_paths)) (back trees scopes tree)
-    (both-empty many_nets (many_elements ++ many_paths) (none-past (length (all_nets source top corner)) few_nets)
-    (both-empty many_elements many_paths (none-past (length (all_elements source top corner)) few_elements) (none-past (path_count source top corner) few_paths))))
-    drivers))
+    (both-empty scopes (many_nets ++ (many_elements ++ (many_paths ++ many_checks))) (back trees scopes tree)
+    (both-empty many_nets (many_elements ++ (many_paths ++ many_checks)) (none-past (length (all_nets source top corner)) few_nets)
+    (both-empty many_elements (many_paths ++ many_checks) (none-past (length (all_elements source top corner)) few_elements)
+    (both-empty many_paths many_checks (none-past (path_count source top corner) few_paths) (none-past (length (check_uses source top corner)) few_checks)))))
+    drivers)))
   where
     joined : (s : Instance) → tree_faults_at source s ≡ [] → module_faults source corner (tick_of source top) s.step.definition ≡ [] → instance_faults_below source top corner s ≡ []
     joined s e f =

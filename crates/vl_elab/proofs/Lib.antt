@@ -2,6 +2,7 @@
 pub mod Among
 pub mod Standing
 pub mod Faultless
+pub mod LongerTables
 pub mod Whole
 pub mod Below
 pub mod OneByOne

@@ -1,7 +1,7 @@
 -- Each fault that a step of elaboration refuses is one of the faults below the top.
 use Rattle.std.specs.Prelude.{◌≡◌, ℕ, ◌+◌, ◌<◌, ◌≤◌, ◌++◌, true, flat_map, length, map, drop, nat_lt, refl}
 use Rattle.std.specs.List.{IsAmong, enumerate_from}
-use Rattle.std.proofs.Common.{sym, ◌∙◌, arith, inl, inr, subst, length-append}
+use Rattle.std.proofs.Common.{sym, ◌∙◌, ap, arith, inl, inr, subst, append_assoc, length-append}
 use Rattle.std.proofs.lemmas.Bool.Decides.{nat_tests}
 use Rattle.std.proofs.lemmas.List.{length-map}
 use Rattle.sg_delay.specs.declared.corners.Corner.{Corner}
@@ -12,7 +12,8 @@ use Rattle.elab_model.specs.Drivers.{elements}
 use Rattle.elab_model.specs.Faults.{Fault, fault, fault_if}
 use Rattle.elab_model.specs.Hierarchy.{Instance, instances}
 use Rattle.elab_model.specs.HierarchyFaults.{self_instances, too_deep, first_too_many, count_limit, start, instance_faults_below}
-use Rattle.elab_circuit.specs.Faults.{path_faults, path_count, over, too_many, driver_faults, faults_below}
+use Rattle.elab_circuit.specs.CheckUses.{check_uses}
+use Rattle.elab_circuit.specs.Faults.{path_faults, path_count, check_faults, over, too_many, driver_faults, faults_below}
 use Rattle.elab_model.specs.ModuleFaults.{module_faults}
 use Rattle.elab_model.specs.Nets.{nets}
 use Rattle.elab_model.specs.Numbered.{undriven}
@@ -27,21 +28,28 @@ use Rattle.vl_elab.proofs.Among.{among-in, in-among, in-wider}
 -- the parts of all faults
 of-instances : (source : Source) (top : Module) (corner : Corner) (f : Fault) → In f (flat_map (instance_faults_below source top corner) (instances source top)) → In f (faults_below source top corner)
 of-instances source top corner f h =
-    in-left f (flat_map (instance_faults_below source top corner) (instances source top)) (path_faults source top corner ++ (too_many source top corner ++ driver_faults source top corner)) h
+    in-left f (flat_map (instance_faults_below source top corner) (instances source top)) (path_faults source top corner ++ (check_faults source top corner ++ (too_many source top corner ++ driver_faults source top corner))) h
 
-behind-instances : (source : Source) (top : Module) (corner : Corner) (f : Fault) → In f (path_faults source top corner ++ (too_many source top corner ++ driver_faults source top corner)) → In f (faults_below source top corner)
+behind-instances : (source : Source) (top : Module) (corner : Corner) (f : Fault) → In f (path_faults source top corner ++ (check_faults source top corner ++ (too_many source top corner ++ driver_faults source top corner))) → In f (faults_below source top corner)
 behind-instances source top corner f h =
-    in-right f (flat_map (instance_faults_below source top corner) (instances source top)) (path_faults source top corner ++ (too_many source top corner ++ driver_faults source top corner)) h
+    in-right f (flat_map (instance_faults_below source top corner) (instances source top)) (path_faults source top corner ++ (check_faults source top corner ++ (too_many source top corner ++ driver_faults source top corner))) h
 
 of-counts : (source : Source) (top : Module) (corner : Corner) (f : Fault) → In f (too_many source top corner) → In f (faults_below source top corner)
 of-counts source top corner f h =
     behind-instances source top corner f
-    (in-right f (path_faults source top corner) (too_many source top corner ++ driver_faults source top corner) (in-left f (too_many source top corner) (driver_faults source top corner) h))
+    (in-right f (path_faults source top corner) (check_faults source top corner ++ (too_many source top corner ++ driver_faults source top corner))
+    (in-right f (check_faults source top corner) (too_many source top corner ++ driver_faults source top corner) (in-left f (too_many source top corner) (driver_faults source top corner) h)))
 
 pub of-paths : (source : Source) (top : Module) (corner : Corner) (f : Fault) → IsAmong (path_faults source top corner) f → IsAmong (faults_below source top corner) f
 of-paths source top corner f h =
     in-among (faults_below source top corner) f
-    (behind-instances source top corner f (in-left f (path_faults source top corner) (too_many source top corner ++ driver_faults source top corner) (among-in (path_faults source top corner) f h)))
+    (behind-instances source top corner f (in-left f (path_faults source top corner) (check_faults source top corner ++ (too_many source top corner ++ driver_faults source top corner)) (among-in (path_faults source top corner) f h)))
+
+pub of-checks : (source : Source) (top : Module) (corner : Corner) (f : Fault) → IsAmong (check_faults source top corner) f → IsAmong (faults_below source top corner) f
+of-checks source top corner f h =
+    in-among (faults_below source top corner) f
+    (behind-instances source top corner f
+    (in-right f (path_faults source top corner) (check_faults source top corner ++ (too_many source top corner ++ driver_faults source top corner)) (in-left f (check_faults source top corner) (too_many source top corner ++ driver_faults source top corner) (among-in (check_faults source top corner) f h))))
 
 pub of-tree : (source : Source) (top : Module) (corner : Corner) (f : Fault) → IsAmong (tree_faults source top) f → IsAmong (faults_below source top corner) f
 of-tree source top corner f h =
@@ -103,7 +111,7 @@ elements-more source top corner =
 
 -- of the counts
 of-all_counts : (source : Source) (top : Module) (corner : Corner) (f : Fault)
-    → In f (over (length (all_nets source top corner)) ++ (over (length (all_elements source top corner)) ++ over (path_count source top corner))) → IsAmong (faults_below source top corner) f
+    → In f (over (length (all_nets source top corner)) ++ (over (length (all_elements source top corner)) ++ (over (path_count source top corner) ++ over (length (check_uses source top corner))))) → IsAmong (faults_below source top corner) f
 of-all_counts source top corner f h =
     in-among (faults_below source top corner) f (of-counts source top corner f (in-right f (first_too_many (drop count_limit (instances source top))) _ h))
 
@@ -117,15 +125,30 @@ pub of-elements : (source : Source) (top : Module) (corner : Corner) → count_l
 of-elements source top corner lt =
     of-all_counts source top corner (fault TooMany start)
     (in-right (fault TooMany start) (over (length (all_nets source top corner))) _
-    (in-left (fault TooMany start) (over (length (all_elements source top corner))) (over (path_count source top corner))
+    (in-left (fault TooMany start) (over (length (all_elements source top corner))) (over (path_count source top corner) ++ over (length (check_uses source top corner)))
     (over-limit (length (all_elements source top corner)) (more count_limit (length (elements source top corner)) (length (all_elements source top corner)) lt (elements-more source top corner)))))
 
 pub of-joined : (source : Source) (top : Module) (corner : Corner) (f : Fault) → IsAmong (counts_over source top corner) f → IsAmong (faults_below source top corner) f
-of-joined source top corner f h = of-all_counts source top corner f (among-in (counts_over source top corner) f h)
+of-joined source top corner f h =
+    let some_nets = over (length (all_nets source top corner)) in
+    let some_elements = over (length (all_elements source top corner)) in
+    let some_paths = over (path_count source top corner) in
+    let some_checks = over (length (check_uses source top corner)) in
+    of-all_counts source top corner f
+    (subst (In f) (append_assoc some_nets (some_elements ++ some_paths) some_checks ∙ ap (λ fs. some_nets ++ fs) (append_assoc some_elements some_paths some_checks))
+    (in-left f (counts_over source top corner) some_checks (among-in (counts_over source top corner) f h)))
+
+pub of-many_checks : (source : Source) (top : Module) (corner : Corner) (f : Fault) → IsAmong (over (length (check_uses source top corner))) f → IsAmong (faults_below source top corner) f
+of-many_checks source top corner f h =
+    of-all_counts source top corner f
+    (in-right f (over (length (all_nets source top corner))) _
+    (in-right f (over (length (all_elements source top corner))) (over (path_count source top corner) ++ over (length (check_uses source top corner)))
+    (in-right f (over (path_count source top corner)) (over (length (check_uses source top corner))) (among-in (over (length (check_uses source top corner))) f h))))
 
 pub of-drivers : (source : Source) (top : Module) (corner : Corner) (f : Fault) → IsAmong (driver_faults source top corner) f → IsAmong (faults_below source top corner) f
 of-drivers source top corner f h =
     in-among (faults_below source top corner) f
     (behind-instances source top corner f
-    (in-right f (path_faults source top corner) (too_many source top corner ++ driver_faults source top corner)
-    (in-right f (too_many source top corner) (driver_faults source top corner) (among-in (driver_faults source top corner) f h))))
+    (in-right f (path_faults source top corner) (check_faults source top corner ++ (too_many source top corner ++ driver_faults source top corner))
+    (in-right f (check_faults source top corner) (too_many source top corner ++ driver_faults source top corner)
+    (in-right f (too_many source top corner) (driver_faults source top corner) (among-in (driver_faults source top corner) f h)))))

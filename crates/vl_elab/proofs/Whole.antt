@@ -5,12 +5,15 @@ use Rattle.std.proofs.Common.{sym, ◌∙◌, ap, arith, subst}
 use Rattle.std.proofs.lemmas.List.{length-map}
 use Rattle.std.proofs.lemmas.List.Elements.{All-from_recursion}
 use Rattle.std.proofs.lemmas.List.FromFn.{length-range_with_len}
+use Rattle.cond_expr.specs.Condition.{Condition}
+use Rattle.sg_circuit.specs.ChecksSeen.{written_seen, AreWritten}
 use Rattle.sg_circuit.specs.Closed.{IsClosed}
 use Rattle.sg_circuit.specs.Seen.{kind_seen, element_seen, scope_seen, circuit_seen, IsIndexed, AreIndexed}
 use Rattle.sg_circuit.specs.declared.circuits.Parts.{Parts}
 use Rattle.sg_circuit.specs.declared.elements.Element as code
 use Rattle.sg_circuit.specs.declared.elements.ElementKind.{ElementKind}
 use Rattle.sg_circuit.specs.declared.elements.ElementKind.TheVariants as kind
+use Rattle.sg_circuit.specs.declared.elements.LegTiming.{LegTiming}
 use Rattle.sg_circuit.specs.declared.nets.Driver.{Driver}
 use Rattle.sg_circuit.specs.declared.nets.Net.{Net}
 use Rattle.sg_circuit.specs.declared.scopes.Scope.{Scope}
@@ -18,6 +21,7 @@ use Rattle.sg_delay.specs.declared.corners.Corner.{Corner}
 use Rattle.sg_time.specs.declared.units.Unit as unit
 use Rattle.vl_tree.specs.Tree.{Module, Source}
 use Rattle.elab_model.specs.Delays.{tick_of}
+use Rattle.elab_circuit.specs.CheckUses.{check_uses, written_of_use}
 use Rattle.elab_circuit.specs.Circuits.{driving, with_driver, driven_nets, circuit}
 use Rattle.elab_circuit.specs.Driving.{Driving, driver_at, drivers}
 use Rattle.elab_circuit.specs.WithPaths.{all_nets, all_elements}
@@ -27,8 +31,9 @@ use Rattle.elab_rows.specs.declared.rows.Rows.{Rows}
 use Rattle.elab_elements.specs.declared.placing.Placing.{Placing}
 use Rattle.elab_paths.specs.Joining.{Tables, tables_of, kind_with, element_with, NamesTables}
 use Rattle.elab_paths.specs.declared.joining.Joined.{Joined}
-use Rattle.elab_paths.specs.declared.modules.ModulePaths.{ModulePaths}
+use Rattle.elab_checks.specs.declared.uses.CircuitChecks.{CircuitChecks}
 use Rattle.vl_elab.specs.Made.{IsWhole, driven_by}
+use Rattle.vl_elab.proofs.LongerTables.{with_more, elements-longer, named-longer}
 
 -- nets with drivers in place of others
 driven-each : (ns : List Net) (ds : List Driver) → length ds ≡ length ns → driven_by ns ds ≡ map with_driver (zip ns ds)
@@ -50,16 +55,18 @@ tables_in parts = record {
 }
 
 -- the parts are what has been made
-pub record IsOf (tick : unit.Unit) (ready : Library) (numbers : Rows) (modules : ModulePaths) (joined : Joined) (made : Placing) (drivers : List Driver) (scopes : List Scope) (parts : Parts) : Type 0 where
+pub record IsOf (tick : unit.Unit) (ready : Library) (numbers : Rows) (timings : List LegTiming) (conditions : List Condition) (joined : Joined) (made : Placing) (drivers : List Driver) (checks : CircuitChecks) (scopes : List Scope) (parts : Parts) : Type 0 where
   pub tick_is : parts.tick ≡ tick
   pub nets_are : parts.nets.items ≡ driven_by (numbers.nets.items ++ joined.inner.items) drivers
   pub elements_are : parts.elements.items ≡ made.elements.items
   pub delays_are : parts.gate_delays.items ≡ ready.gate_delays.items
-  pub timings_are : parts.leg_timings.items ≡ modules.timings.items
-  pub conditions_are : parts.conditions.items ≡ modules.conditions.items
+  pub timings_are : parts.leg_timings.items ≡ timings
+  pub conditions_are : parts.conditions.items ≡ conditions
   pub paths_are : parts.paths.items ≡ joined.paths.items
   pub udps_are : parts.udps.items ≡ ready.udps.items
-  pub checks_are : parts.checks.items ≡ []
+  pub checks_are : parts.checks.items ≡ checks.checks.items
+  pub check_timings_are : parts.check_timings.items ≡ checks.timings.items
+  pub check_conditions_are : parts.check_conditions.items ≡ checks.conditions.items
   pub scopes_are : parts.scopes.items ≡ scopes
 
 kind-is : (parts : Parts) (k : ElementKind) → kind_seen parts k ≡ kind_with (tables_in parts) k
@@ -86,15 +93,31 @@ indexed-all : (parts : Parts) (es : List code.Element) → AllByRecursion (λ e.
 indexed-all parts [] h = tt
 indexed-all parts (e ∷ es) h = (indexed parts e.kind h.0, indexed-all parts es h.1)
 
-tables-are : (tick : unit.Unit) (ready : Library) (numbers : Rows) (modules : ModulePaths) (joined : Joined) (made : Placing) (drivers : List Driver) (scopes : List Scope) (parts : Parts)
-    → IsOf tick ready numbers modules joined made drivers scopes parts → tables_in parts ≡ tables_of ready modules joined
-tables-are tick ready numbers modules joined made drivers scopes parts o =
-    λ i. record { gate_delays = o.delays_are i; udps = o.udps_are i; timings = o.timings_are i; conditions = o.conditions_are i; paths = o.paths_are i }
+-- the tables of the paths, with the conditions of checks behind
+tables-are : (source : Source) (top : Module) (corner : Corner) (tick : unit.Unit) (ready : Library) (numbers : Rows) (timings : List LegTiming) (conditions : List Condition) (joined : Joined) (made : Placing) (drivers : List Driver) (checks : CircuitChecks) (scopes : List Scope) (parts : Parts)
+    → (w : IsWhole source top corner tick ready numbers timings conditions joined made drivers checks scopes) → IsOf tick ready numbers timings conditions joined made drivers checks scopes parts
+    → tables_in parts ≡ with_more (tables_of ready w.modules joined) w.conditions_grow.0
+tables-are source top corner tick ready numbers timings conditions joined made drivers checks scopes parts w o =
+    λ i. record {
+      gate_delays = o.delays_are i;
+      udps = o.udps_are i;
+      timings = (o.timings_are ∙ w.timings_are) i;
+      conditions = (o.conditions_are ∙ w.conditions_grow.1) i;
+      paths = o.paths_are i;
+    }
 
-pub whole-is : (source : Source) (top : Module) (corner : Corner) (tick : unit.Unit) (ready : Library) (numbers : Rows) (modules : ModulePaths) (joined : Joined) (made : Placing) (drivers : List Driver) (scopes : List Scope) (parts : Parts)
-    → IsWhole source top corner tick ready numbers modules joined made drivers scopes → IsOf tick ready numbers modules joined made drivers scopes parts → circuit_seen parts ≡ circuit source top corner
-whole-is source top corner tick ready numbers modules joined made table scopes parts w o =
-    λ i. record { tick = ticks i; nets = driven i; elements = placed i; checks = o.checks_are i; scopes = seen i }
+pub whole-is : (source : Source) (top : Module) (corner : Corner) (tick : unit.Unit) (ready : Library) (numbers : Rows) (timings : List LegTiming) (conditions : List Condition) (joined : Joined) (made : Placing) (drivers : List Driver) (checks : CircuitChecks) (scopes : List Scope) (parts : Parts)
+    → IsWhole source top corner tick ready numbers timings conditions joined made drivers checks scopes → IsOf tick ready numbers timings conditions joined made drivers checks scopes parts → circuit_seen parts ≡ circuit source top corner
+whole-is source top corner tick ready numbers timings conditions joined made table checks scopes parts w o =
+    λ i. record {
+      tick = ticks i;
+      nets = driven i;
+      elements = placed i;
+      checks = (o.checks_are ∙ w.are_checks.checks) i;
+      check_timings = (o.check_timings_are ∙ w.are_checks.timings) i;
+      check_conditions = spelled i;
+      scopes = seen i;
+    }
   where
     ticks : parts.tick.power ≡ tick_of source top
     ticks = ap (λ t. t.power) o.tick_is ∙ w.tick_is
@@ -104,34 +127,45 @@ whole-is source top corner tick ready numbers modules joined made table scopes p
         o.nets_are ∙ ap (λ ns. driven_by ns table) w.are_joined.numbers.nets ∙ ap (driven_by (all_nets source top corner)) w.has_drivers.table_is
         ∙ driven-each (all_nets source top corner) (drivers (driving source top corner) (length (all_nets source top corner))) (drivers-count (driving source top corner) (length (all_nets source top corner)))
 
+    tables : tables_in parts ≡ with_more (tables_of ready w.modules joined) w.conditions_grow.0
+    tables = tables-are source top corner tick ready numbers timings conditions joined made table checks scopes parts w o
+
     placed : map (element_seen parts) parts.elements.items ≡ map (λ e. e.1) (all_elements source top corner)
     placed =
         elements-are parts parts.elements.items
         ∙ ap (map (element_with (tables_in parts))) o.elements_are
-        ∙ ap (λ t. map (element_with t) made.elements.items) (tables-are tick ready numbers modules joined made table scopes parts o)
+        ∙ ap (λ t. map (element_with t) made.elements.items) tables
+        ∙ elements-longer (tables_of ready w.modules joined) w.conditions_grow.0 made.elements.items w.are_joined.named
         ∙ w.are_joined.elements
+
+    spelled : map (written_seen parts.conditions.items) parts.check_conditions.items ≡ map written_of_use (check_uses source top corner)
+    spelled = ap (λ cs. map (written_seen cs) parts.check_conditions.items) o.conditions_are ∙ ap (map (written_seen conditions)) o.check_conditions_are ∙ w.are_checks.spelled
 
     seen : map (λ s. scope_seen s) parts.scopes.items ≡ (circuit source top corner).scopes
     seen = ap (λ ss. map (λ s. scope_seen s) ss) o.scopes_are ∙ w.are_scopes
 
-pub whole-closed : (source : Source) (top : Module) (corner : Corner) (tick : unit.Unit) (ready : Library) (numbers : Rows) (modules : ModulePaths) (joined : Joined) (made : Placing) (drivers : List Driver) (scopes : List Scope) (parts : Parts)
-    → IsWhole source top corner tick ready numbers modules joined made drivers scopes → IsOf tick ready numbers modules joined made drivers scopes parts → IsClosed (circuit_seen parts)
-whole-closed source top corner tick ready numbers modules joined made table scopes parts w o =
-    subst IsClosed (sym (whole-is source top corner tick ready numbers modules joined made table scopes parts w o)) (circuit-is_closed source top corner w.faultless)
+pub whole-closed : (source : Source) (top : Module) (corner : Corner) (tick : unit.Unit) (ready : Library) (numbers : Rows) (timings : List LegTiming) (conditions : List Condition) (joined : Joined) (made : Placing) (drivers : List Driver) (checks : CircuitChecks) (scopes : List Scope) (parts : Parts)
+    → IsWhole source top corner tick ready numbers timings conditions joined made drivers checks scopes → IsOf tick ready numbers timings conditions joined made drivers checks scopes parts → IsClosed (circuit_seen parts)
+whole-closed source top corner tick ready numbers timings conditions joined made table checks scopes parts w o =
+    subst IsClosed (sym (whole-is source top corner tick ready numbers timings conditions joined made table checks scopes parts w o)) (circuit-is_closed source top corner w.faultless)
 
-pub whole-indexed : (source : Source) (top : Module) (corner : Corner) (tick : unit.Unit) (ready : Library) (numbers : Rows) (modules : ModulePaths) (joined : Joined) (made : Placing) (drivers : List Driver) (scopes : List Scope) (parts : Parts)
-    → IsWhole source top corner tick ready numbers modules joined made drivers scopes → IsOf tick ready numbers modules joined made drivers scopes parts → AreIndexed parts
-whole-indexed source top corner tick ready numbers modules joined made table scopes parts w o = record {
+pub whole-indexed : (source : Source) (top : Module) (corner : Corner) (tick : unit.Unit) (ready : Library) (numbers : Rows) (timings : List LegTiming) (conditions : List Condition) (joined : Joined) (made : Placing) (drivers : List Driver) (checks : CircuitChecks) (scopes : List Scope) (parts : Parts)
+    → IsWhole source top corner tick ready numbers timings conditions joined made drivers checks scopes → IsOf tick ready numbers timings conditions joined made drivers checks scopes parts → AreIndexed parts
+whole-indexed source top corner tick ready numbers timings conditions joined made table checks scopes parts w o = record {
   named = All-from_recursion (λ e. IsIndexed parts e.kind) parts.elements.items (indexed-all parts parts.elements.items
       (subst (λ es. AllByRecursion (λ e. NamesTables (tables_in parts) e.kind) es) (sym o.elements_are)
-      (subst (λ t. AllByRecursion (λ e. NamesTables t e.kind) made.elements.items) (sym (tables-are tick ready numbers modules joined made table scopes parts o)) w.are_joined.named)));
+      (subst (λ t. AllByRecursion (λ e. NamesTables t e.kind) made.elements.items)
+      (sym (tables-are source top corner tick ready numbers timings conditions joined made table checks scopes parts w o))
+      (named-longer (tables_of ready w.modules joined) w.conditions_grow.0 made.elements.items w.are_joined.named))));
   few_udps = subst (λ us. length us < 2 ^ 31) (sym o.udps_are) w.is_ready.few_udps;
   counts = subst (λ ds. All (λ d. d.count ≤ 2) ds) (sym o.delays_are) w.is_ready.counts;
+  written = subst (λ cs. All (AreWritten (length cs)) parts.check_conditions.items) (sym o.conditions_are)
+      (subst (All (AreWritten (length conditions))) (sym o.check_conditions_are) w.are_checks.written);
 }
 
 -- as many drivers as nets
-pub drivers-fit : (source : Source) (top : Module) (corner : Corner) (tick : unit.Unit) (ready : Library) (numbers : Rows) (modules : ModulePaths) (joined : Joined) (made : Placing) (drivers : List Driver) (scopes : List Scope) (ns : List Net)
-    → IsWhole source top corner tick ready numbers modules joined made drivers scopes → ns ≡ numbers.nets.items ++ joined.inner.items → length drivers ≡ length ns
-drivers-fit source top corner tick ready numbers modules joined made table scopes ns w e =
+pub drivers-fit : (source : Source) (top : Module) (corner : Corner) (tick : unit.Unit) (ready : Library) (numbers : Rows) (timings : List LegTiming) (conditions : List Condition) (joined : Joined) (made : Placing) (drivers : List Driver) (checks : CircuitChecks) (scopes : List Scope) (ns : List Net)
+    → IsWhole source top corner tick ready numbers timings conditions joined made drivers checks scopes → ns ≡ numbers.nets.items ++ joined.inner.items → length drivers ≡ length ns
+drivers-fit source top corner tick ready numbers timings conditions joined made table checks scopes ns w e =
     let count = length (all_nets source top corner) in
     ap length w.has_drivers.table_is ∙ drivers-count (driving source top corner) count ∙ sym (ap length (e ∙ w.are_joined.numbers.nets))

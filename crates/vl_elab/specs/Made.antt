@@ -1,13 +1,16 @@
 -- What stands when the parts of a circuit have been made, one after another.
 use Rattle.std.specs.Prelude.{◌≡◌, ◌≤◌, List, [], ◌∷◌, length, map, replicate, None}
+use Rattle.cond_expr.specs.Condition.{Condition}
 use Rattle.sg_circuit.specs.Timings.{Timing}
 use Rattle.sg_time.specs.declared.units.Unit as unit
 use Rattle.sg_circuit.specs.Seen.{scope_seen}
+use Rattle.sg_circuit.specs.declared.elements.LegTiming.{LegTiming}
 use Rattle.sg_circuit.specs.declared.scopes.Scope.{Scope}
 use Rattle.elab_model.specs.Delays.{tick_of}
 use Rattle.elab_circuit.specs.Faults.{path_faults, faults_below}
 use Rattle.elab_model.specs.Nets.{nets}
 use Rattle.elab_model.specs.Scopes.{scope_of}
+use Rattle.elab_circuit.specs.CheckUses.{check_uses}
 use Rattle.elab_circuit.specs.Circuits.{driving}
 use Rattle.elab_circuit.specs.WithPaths.{all_nets}
 use Rattle.elab_drivers.specs.Tables.{HasDrivers}
@@ -25,8 +28,11 @@ use Rattle.elab_rows.specs.Rows.{HaveRows}
 use Rattle.elab_rows.specs.declared.rows.Rows.{Rows}
 use Rattle.elab_elements.specs.declared.placing.Placing.{Placing}
 use Rattle.elab_paths.specs.Joining.{HaveNumbers, AreJoined}
+use Rattle.elab_paths.specs.Shelving.{ListGrows}
 use Rattle.elab_paths.specs.declared.joining.Joined.{Joined}
 use Rattle.elab_paths.specs.declared.modules.ModulePaths.{ModulePaths}
+use Rattle.elab_checks.specs.Uses.{AreUses}
+use Rattle.elab_checks.specs.declared.uses.CircuitChecks.{CircuitChecks}
 
 -- the instances of a top, whose hierarchy has no fault, and its tick
 pub record AreBelow (source : Source) (top : Module) (tick : unit.Unit) (placed : List Placed) : Type 0 where
@@ -53,13 +59,23 @@ driven_by [] ds = []
 driven_by (n ∷ ns) [] = n ∷ ns
 driven_by (n ∷ ns) (d ∷ ds) = record n { driver = d } ∷ driven_by ns ds
 
--- all that a circuit is made of, where no fault stands
-pub record IsWhole (source : Source) (top : Module) (corner : Corner) (tick : unit.Unit) (ready : Library) (numbers : Rows) (modules : ModulePaths) (joined : Joined) (made : Placing) (drivers : List Driver) (scopes : List Scope) : Type 0 where
+-- the instances of a top, what they are of, and their nets
+pub record HaveNets (source : Source) (top : Module) (corner : Corner) (tick : unit.Unit) (placed : List Placed) (ready : Library) (numbers : Rows) : Type 0 where
+  pub below : AreBelow source top tick placed
+  pub is_ready : IsLibrary source corner top ready
+  pub have_rows : HaveRows source top numbers
+
+-- all that a circuit is made of, where no fault stands; the conditions of timing checks come behind those of paths
+pub record IsWhole (source : Source) (top : Module) (corner : Corner) (tick : unit.Unit) (ready : Library) (numbers : Rows) (timings : List LegTiming) (conditions : List Condition) (joined : Joined) (made : Placing) (drivers : List Driver) (checks : CircuitChecks) (scopes : List Scope) : Type 0 where
   pub tick_is : tick.power ≡ tick_of source top
   pub is_ready : IsLibrary source corner top ready
   pub have_rows : HaveRows source top numbers
+  pub modules : ModulePaths
   pub are_joined : AreJoined source top corner ready modules numbers joined made
+  pub timings_are : timings ≡ modules.timings.items
+  pub conditions_grow : ListGrows modules.conditions.items conditions
   pub has_drivers : AreDrivers source top corner drivers
+  pub are_checks : AreUses conditions checks (check_uses source top corner)
   pub are_scopes : map (λ s. scope_seen s) scopes ≡ map (scope_of (nets source top) source) (instances source top)
   pub faultless : faults_below source top corner ≡ []
 

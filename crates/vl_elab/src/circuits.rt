@@ -10,12 +10,15 @@ ghost use Rattle.vl_elab.specs.Below.{IsBelow, RefusesBelow};
 ghost use Rattle.sg_circuit.specs.TimingsSeen.{leg_timing_seen};
 ghost use Rattle.vl_elab.specs.Made.{AreBelow, IsWhole, none_of_twelve};
 
+use crate::checks::checks_below;
 use crate::driving::{drive, drivers_in};
+use cond_expr::Expr;
+use elab_checks::CircuitChecks;
 use elab_elements::{Placing, elements_in};
 use elab_hierarchy::{Definitions, Placed, place_instances, tick, top};
 use elab_model::ElabKind;
 use elab_modules::{Library, library_of};
-use elab_paths::{Joined, ModulePaths, add_paths, module_paths};
+use elab_paths::{Joined, add_paths, module_paths};
 use elab_rows::{Rows, rows_of};
 use elab_scopes::scopes_of;
 use sg_circuit::{Circuit, Driver, LegTiming, Parts, Scope};
@@ -26,7 +29,7 @@ use std::alloc::Global;
 use vl_tree::Source;
 
 /// The circuit of a netlist below a top: the module of that name, or else the only one that is no cell and of which no module has an instance (IEEE 1364-2005, clauses 6 to 8,
-/// 12 and 14). Delays are those of a corner. Refuses a netlist with a fault that `ElabKind` names, at the node that has it; of several faults any one is answered. Takes memory in
+/// 12, 14 and 15). Delays are those of a corner. Refuses a netlist with a fault that `ElabKind` names, at the node that has it; of several faults any one is answered. Takes memory in
 /// proportion to the netlist and to its circuit.
 pub fn elaborate(
     alloc: Global,
@@ -82,6 +85,17 @@ fn circuit_of<'t, 'a>(
         no_delay(),
     )?;
     let joined = add_paths(alloc, &library, &modules, instances, &rows, &mut made)?;
+    let mut conditions = modules.conditions;
+    let checks = checks_below(
+        alloc,
+        corner,
+        tick,
+        definitions,
+        &library,
+        instances,
+        &rows,
+        &mut conditions,
+    )?;
     let drivers = drivers_in(
         alloc,
         definitions,
@@ -93,25 +107,35 @@ fn circuit_of<'t, 'a>(
     )?;
     let scopes = scopes_of(alloc, definitions, &library, instances, &rows)?;
     let circuit = close(
-        alloc, tick, library, rows, made, modules, joined, &drivers, scopes,
+        tick,
+        library,
+        rows,
+        made,
+        modules.timings,
+        conditions,
+        joined,
+        &drivers,
+        checks,
+        scopes,
     )?;
     Ok(circuit)
 }
 
 // The circuit of what has been made.
 fn close(
-    alloc: Global,
     tick: Unit,
     library: Library,
     rows: Rows,
     made: Placing,
-    modules: ModulePaths,
+    timings: Vec<LegTiming>,
+    conditions: Vec<Expr>,
     joined: Joined,
     drivers: &[Driver],
+    checks: CircuitChecks,
     scopes: Vec<Scope>,
 ) -> Result<Circuit, NoMemory>
-    requires { (source : GhostSource) × ((m : Module) × ((corner : ghost_corner.Corner) × IsWhole source m corner tick library rows modules joined made drivers.now scopes.items)) }
-    ensures { IfOk result (λ circuit. (source : GhostSource) (m : Module) (corner : ghost_corner.Corner) → IsWhole source m corner tick library.entry rows modules joined made drivers.now scopes.items
+    requires { (source : GhostSource) × ((m : Module) × ((corner : ghost_corner.Corner) × IsWhole source m corner tick library rows timings.items conditions.items joined made drivers.now checks scopes.items)) }
+    ensures { IfOk result (λ circuit. (source : GhostSource) (m : Module) (corner : ghost_corner.Corner) → IsWhole source m corner tick library.entry rows timings.items conditions.items joined made drivers.now checks scopes.items
         → circuit ≡ def.circuit source m corner) }
 {
     let mut nets = rows.nets;
@@ -123,11 +147,13 @@ fn close(
         nets,
         elements: made.elements,
         gate_delays: library.gate_delays,
-        leg_timings: modules.timings,
+        leg_timings: timings,
         paths: joined.paths,
-        conditions: modules.conditions,
+        conditions,
         udps: library.udps,
-        checks: Vec::new(alloc),
+        checks: checks.checks,
+        check_timings: checks.timings,
+        check_conditions: checks.conditions,
         scopes,
     }))
 }

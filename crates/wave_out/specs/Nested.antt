@@ -19,8 +19,10 @@ nested = record {
       ∷ record { scope = 0; name = codes "q"; bit = Some (pos 0); driver = Nobody }
       ∷ record { scope = 1; name = codes "n"; bit = None; driver = Nobody } ∷ [];
   elements = [];
-  checks = record { scope = 1; kind = Hold; refer = record { name = codes "C"; bit = None }; datum = Some (record { name = codes "D"; bit = Some (pos 3) }) }
-      ∷ record { scope = 0; kind = Width; refer = record { name = codes "C"; bit = None }; datum = None } ∷ [];
+  checks = record { scope = 1; kind = Hold; refer = record { name = codes "C"; bit = None }; datum = Some (record { name = codes "D"; bit = Some (pos 3) }); notifier = None }
+      ∷ record { scope = 0; kind = Width; refer = record { name = codes "C"; bit = None }; datum = None; notifier = None } ∷ [];
+  check_timings = [];
+  check_conditions = [];
   scopes = record {
     parent = None;
     name = codes "t";

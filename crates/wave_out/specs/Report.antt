@@ -24,7 +24,7 @@ pub record Zeroed : Type 0 where
 
 -- the check of a number; past the end a blank
 abbrev pub check_at : Circuit → ℕ → Check
-check_at circuit c = slice_index_or circuit.checks c (record { scope = 0; kind = check.Setup; refer = record { name = []; bit = None }; datum = None })
+check_at circuit c = slice_index_or circuit.checks c (record { scope = 0; kind = check.Setup; refer = record { name = []; bit = None }; datum = None; notifier = None })
 
 -- the terminal of a check's data event: for width and period that of its one event (15.2, 15.3)
 abbrev pub terminal_or : Terminal → Option Terminal → Terminal

@@ -4,10 +4,11 @@ ghost use Rattle.std.specs.Prelude.{◌≡◌, ◌≤◌, IfOk, length};
 use crate::{Spent, VcdWriter, report_of};
 use cond_expr::Nets;
 use sg_circuit::{
-    Check, CheckKind, Circuit, Driver, Net, Parts, Port, Range, Scope, Terminal, Variable,
+    Check, CheckConditions, CheckKind, CheckTiming, Circuit, Driver, Event, Net, Parts, Port,
+    Range, Scope, Terminal, Variable,
 };
 use sg_io::{MemoryShelf, ShelfError};
-use sg_logic::Value;
+use sg_logic::{POSEDGE, Value};
 use sg_text::{NoMemory, Text};
 use sg_time::{Scale, Unit};
 use sim_rounds::Watch;
@@ -16,6 +17,11 @@ use std::test::Fail;
 use time_checks::{Change, Part, Violation};
 
 const PS: Unit = Unit { power: -12 };
+
+const UNCONDITIONED: CheckConditions = CheckConditions {
+    refer: None,
+    datum: None,
+};
 
 fn net(alloc: Global, scope: u32, name: &str, bit: Option<i64>) -> Result<Net, NoMemory> {
     Ok(Net {
@@ -76,12 +82,41 @@ fn checks(alloc: Global) -> Result<Vec<Check>, NoMemory> {
         kind: CheckKind::Setup,
         refer: terminal(alloc, "c", None)?,
         datum: Some(datum),
+        notifier: None,
     };
     let width = Check {
         scope: 0,
         kind: CheckKind::Width,
         refer: terminal(alloc, "a", None)?,
         datum: None,
+        notifier: None,
+    };
+    Ok(vec![in alloc; setup, width]?)
+}
+
+fn event(net: u32) -> Event {
+    Event {
+        net,
+        edge: Some(POSEDGE),
+        condition: None,
+    }
+}
+
+// What they look for: the setup has data at the vector's middle bit.
+fn check_timings(alloc: Global) -> Result<Vec<CheckTiming>, NoMemory> {
+    let setup = CheckTiming {
+        kind: CheckKind::Setup,
+        refer: event(4),
+        datum: Some(event(2)),
+        limits: [10, 0],
+        threshold: 0,
+    };
+    let width = CheckTiming {
+        kind: CheckKind::Width,
+        refer: event(0),
+        datum: None,
+        limits: [5, 0],
+        threshold: 0,
     };
     Ok(vec![in alloc; setup, width]?)
 }
@@ -116,6 +151,8 @@ fn nested(alloc: Global) -> Result<Parts, NoMemory>
         conditions: Vec::new(alloc),
         udps: Vec::new(alloc),
         checks: checks(alloc)?,
+        check_timings: check_timings(alloc)?,
+        check_conditions: vec![in alloc; UNCONDITIONED, UNCONDITIONED]?,
         scopes: vec![in alloc;
             scope(alloc, None, "t", top)?,
             scope(alloc, Some(0), "u.v", inner)?,

@@ -1,10 +1,10 @@
 -- Each check refuses one of the faults.
 use Rattle.std.proofs.Common.{map, ap, sym, ◌∙◌}
 use Rattle.std.proofs.lemmas.Result.{err_from_is_err_and}
-use Rattle.vl_tree.specs.Seen.{view_item, view_module}
+use Rattle.vl_tree.specs.Seen.{view_module}
 use Rattle.elab_model.specs.NameFaults.{declaration_faults}
 use Rattle.elab_names.specs.GivenRanges.{view_range, width_faults}
-use Rattle.elab_names.proofs.DeclarationFaults.{faultless, refused-range, refused-width, refused-block}
+use Rattle.elab_names.proofs.DeclarationFaults.{faultless, refused-range, refused-width}
 use Rattle.elab_names.proofs.Refusals.{exit}
 use Rattle.elab_names.proofs.declarations.check_declarations.Goals as goal
 
@@ -22,15 +22,7 @@ returns-in_err-check_widths-clause-refused c =
     (err_from_is_err_and c.from_residual-in_err-check_widths.result c.from_residual-in_err-check_widths.ensures.1)
     (refused-width m (map view_range c.deref-2.result.now) c.in_err-check_widths.field-0.0 (ap (map view_range) c.deref-2.ensures.value ∙ c.in_ok-ranges.ensures) c.in_err-check_widths.ensures.refused)
 
-pub returns-in_err-check_blocks-clause-refused : goal.returns-in_err-check_blocks-clause-refused
-returns-in_err-check_blocks-clause-refused c =
-    let m = view_module c.args.definition.now in
-    exit c.from_residual-in_err-check_blocks.result (declaration_faults m) c.in_err-check_blocks.field-0.0
-    (err_from_is_err_and c.from_residual-in_err-check_blocks.result c.from_residual-in_err-check_blocks.ensures.1)
-    (refused-block m (map view_item c.deref-3.result.now) c.in_err-check_blocks.field-0.0 (ap (map view_item) c.deref-3.ensures.value) c.in_err-check_blocks.ensures.refused)
-
 pub returns-clause-faultless : goal.returns-clause-faultless
 returns-clause-faultless c =
     faultless (view_module c.args.definition.now) (map view_range c.deref.result.now) (ap (map view_range) c.deref.ensures.value ∙ c.in_ok-ranges.ensures) c.in_ok-check_names.ensures.faultless c.in_ok-check_agreement.ensures.faultless
     (ap (λ xs. width_faults (map view_range xs)) (c.deref.ensures.value ∙ sym c.deref-2.ensures.value) ∙ c.in_ok-check_widths.ensures.faultless)
-    (map view_item c.deref-3.result.now) (ap (map view_item) c.deref-3.ensures.value) c.in_ok-check_blocks.ensures.faultless

@@ -1,5 +1,5 @@
 use Rattle.std.specs.Prelude.{Ok, Err, OnOk, OnErr, [], ◌∷◌}
-use Rattle.std.proofs.Common.{◌≡◌, ℕ, ◌-◌, refl, sym, ◌∙◌, ap, subst, arith, rules, length}
+use Rattle.std.proofs.Common.{◌≡◌, ℕ, ◌+◌, ◌-◌, refl, sym, ◌∙◌, ap, subst, arith, rules, length}
 use Rattle.std.proofs.lemmas.Result.{err_from_is_err_and}
 use Rattle.sg_model.specs.Machine.{Machine}
 use Rattle.sg_model.specs.Quiet.{IsLawful, IsQuiet, with_copies}
@@ -19,7 +19,7 @@ loop-now-init g c =
     record {
       machine = refl;
       sets = refl;
-      came = came_start (t.machine times) (t.sets times) c.args.bound c.args.end (t.stands times) (t.values times) (t.kept times) (λ made. Got w.stands c.args.watcher.now c.args.watcher.now c.args.shelf.now c.args.shelf.now made) c.args.steps.now c.requires.told c.requires.last
+      came = came_start (t.machine times) (t.sets times) c.args.bound c.args.end (t.stands times 0) (t.values times) (t.kept times) (λ made. Got w.stands c.args.watcher.now c.args.watcher.now c.args.shelf.now c.args.shelf.now made) c.args.steps.now c.requires.told c.requires.last
           (got_start w.stands c.args.watcher.now c.args.shelf.now);
       ready = c.requires.ready;
       within = omega arith;
@@ -43,11 +43,11 @@ returns-in_err-make-clause-ended g c =
     let is : c.from_residual.result ≡ Err e = p.1 ∙ ap Err p.2 in
     let m : Machine = t.machine c.args.times.now in
     let sets = t.sets c.args.times.now in
-    let made : TimeMade m sets c.args.bound c.loop-now.now (t.stands c.loop-now.times) (t.stands c.make.new.self) (t.counted c.make.new.self) c.loop-now.steps c.make.new.steps (Err e) =
-    made_same _ _ _ _ c.args.bound c.loop-now.now (t.stands c.loop-now.times) (t.stands c.make.new.self) (t.counted c.make.new.self) c.loop-now.steps c.make.new.steps (Err e) c.loop-now.invariant.machine c.loop-now.invariant.sets c.in_err-make.ensures.made in
-    subst (λ r. RunMade m sets c.args.bound c.args.end (t.stands c.args.times.now) (t.values c.args.times.now) w.stands w.broken c.args.watcher.now c.loop-now.watcher c.args.shelf.now c.loop-now.shelf (t.kept c.make.new.self) (t.counted c.make.new.self) (c.make.new.steps - c.args.steps.now) r) (sym is)
-    (stopped_in_time m sets c.args.bound c.args.end c.loop-now.now (t.stands c.args.times.now) (t.values c.args.times.now) (t.stands c.loop-now.times) (t.stands c.make.new.self) (t.kept c.loop-now.times) (t.kept c.make.new.self) w.stands w.broken
-    c.args.watcher.now c.loop-now.watcher c.args.shelf.now c.loop-now.shelf (t.counted c.make.new.self) c.args.steps.now c.loop-now.steps c.make.new.steps e c.loop-now-test.true c.loop-now.invariant.came made (g.met.T.Times.holds c.loop-now.times) c.in_err-make.ensures.ended)
+    let made : TimeMade m sets c.args.bound c.loop-now.now (t.stands c.loop-now.times c.loop-now.now) (t.stands c.make.new.self (c.loop-now.now + 1)) (t.counted c.make.new.self) c.loop-now.steps c.make.new.steps (Err e) =
+    made_same _ _ _ _ c.args.bound c.loop-now.now (t.stands c.loop-now.times c.loop-now.now) (t.stands c.make.new.self (c.loop-now.now + 1)) (t.counted c.make.new.self) c.loop-now.steps c.make.new.steps (Err e) c.loop-now.invariant.machine c.loop-now.invariant.sets c.in_err-make.ensures.made in
+    subst (λ r. RunMade m sets c.args.bound c.args.end (t.stands c.args.times.now 0) (t.values c.args.times.now) w.stands w.broken c.args.watcher.now c.loop-now.watcher c.args.shelf.now c.loop-now.shelf (t.kept c.make.new.self) (t.counted c.make.new.self) (c.make.new.steps - c.args.steps.now) r) (sym is)
+    (stopped_in_time m sets c.args.bound c.args.end c.loop-now.now (t.stands c.args.times.now 0) (t.values c.args.times.now) (t.stands c.loop-now.times c.loop-now.now) (t.stands c.make.new.self (c.loop-now.now + 1)) (t.kept c.loop-now.times) (t.kept c.make.new.self) w.stands w.broken
+    c.args.watcher.now c.loop-now.watcher c.args.shelf.now c.loop-now.shelf (t.counted c.make.new.self) c.args.steps.now c.loop-now.steps c.make.new.steps e c.loop-now-test.true c.loop-now.invariant.came made (g.met.T.Times.holds c.loop-now.times c.loop-now.now) c.in_err-make.ensures.ended)
 
 pub returns-in_err-tell_time-clause-ended : goal.returns-in_err-tell_time-clause-ended
 returns-in_err-tell_time-clause-ended g c =
@@ -60,17 +60,17 @@ returns-in_err-tell_time-clause-ended g c =
     let sets = t.sets c.args.times.now in
     let now : ℕ = c.loop-now.now in
     let new = c.make.new.self in
-    let made : TimeMade m sets c.args.bound now (t.stands c.loop-now.times) (t.stands new) (t.counted new) c.loop-now.steps c.make.new.steps (Ok c.in_ok-make.field-0) =
-    made_same _ _ _ _ c.args.bound now (t.stands c.loop-now.times) (t.stands new) (t.counted new) c.loop-now.steps c.make.new.steps (Ok c.in_ok-make.field-0) c.loop-now.invariant.machine c.loop-now.invariant.sets c.in_ok-make.ensures.made in
-    let came : AllCame m sets c.args.bound c.args.end now (t.stands c.args.times.now) (t.values c.args.times.now) (t.stands new) (t.kept new) (λ made. Got w.stands c.args.watcher.now c.loop-now.watcher c.args.shelf.now c.loop-now.shelf made) (calls_at now (t.changes new) (t.values new)) c.args.steps.now c.make.new.steps =
-    came_time m sets c.args.bound c.args.end now (t.stands c.args.times.now) (t.values c.args.times.now) (t.stands c.loop-now.times) (t.stands new) (t.kept c.loop-now.times) (t.kept new) (λ made. Got w.stands c.args.watcher.now c.loop-now.watcher c.args.shelf.now c.loop-now.shelf made)
-    (t.counted new) c.args.steps.now c.loop-now.steps c.make.new.steps c.in_ok-make.field-0 (t.changes new) (t.values new) c.loop-now.invariant.came made (g.met.T.Times.shows new) (c.in_ok-make.ensures.nets ∙ sym c.loop-now.invariant.told) c.in_ok-make.ensures.changed c.in_ok-make.ensures.kept in
+    let made : TimeMade m sets c.args.bound now (t.stands c.loop-now.times c.loop-now.now) (t.stands new (now + 1)) (t.counted new) c.loop-now.steps c.make.new.steps (Ok c.in_ok-make.field-0) =
+    made_same _ _ _ _ c.args.bound now (t.stands c.loop-now.times c.loop-now.now) (t.stands new (now + 1)) (t.counted new) c.loop-now.steps c.make.new.steps (Ok c.in_ok-make.field-0) c.loop-now.invariant.machine c.loop-now.invariant.sets c.in_ok-make.ensures.made in
+    let came : AllCame m sets c.args.bound c.args.end now (t.stands c.args.times.now 0) (t.values c.args.times.now) (t.stands new (now + 1)) (t.kept new) (λ made. Got w.stands c.args.watcher.now c.loop-now.watcher c.args.shelf.now c.loop-now.shelf made) (calls_at now (t.changes new) (t.values new)) c.args.steps.now c.make.new.steps =
+    came_time m sets c.args.bound c.args.end now (t.stands c.args.times.now 0) (t.values c.args.times.now) (t.stands c.loop-now.times c.loop-now.now) (t.stands new (now + 1)) (t.kept c.loop-now.times) (t.kept new) (λ made. Got w.stands c.args.watcher.now c.loop-now.watcher c.args.shelf.now c.loop-now.shelf made)
+    (t.counted new) c.args.steps.now c.loop-now.steps c.make.new.steps c.in_ok-make.field-0 (t.changes new) (t.values new) c.loop-now.invariant.came made (g.met.T.Times.shows new (now + 1)) (c.in_ok-make.ensures.nets ∙ sym c.loop-now.invariant.told) c.in_ok-make.ensures.changed c.in_ok-make.ensures.kept in
     let broke : Broke w.stands w.broken c.loop-now.watcher c.tell_time.new.watcher c.loop-now.shelf c.tell_time.new.shelf (calls_at now (t.changes new) (t.values new)) =
     subst (λ vs. Broke w.stands w.broken c.loop-now.watcher c.tell_time.new.watcher c.loop-now.shelf c.tell_time.new.shelf (calls_at now (t.changes new) vs)) c.values.ensures
     (subst (λ cs. Broke w.stands w.broken c.loop-now.watcher c.tell_time.new.watcher c.loop-now.shelf c.tell_time.new.shelf (calls_at now cs c.values.result.now)) c.changes.ensures c.in_err-tell_time.ensures.err) in
-    subst (λ r. RunMade m sets c.args.bound c.args.end (t.stands c.args.times.now) (t.values c.args.times.now) w.stands w.broken c.args.watcher.now c.tell_time.new.watcher c.args.shelf.now c.tell_time.new.shelf (t.kept new) (t.counted new) (c.make.new.steps - c.args.steps.now) r) (sym is)
-    (stopped_in_call m sets c.args.bound c.args.end now (t.stands c.args.times.now) (t.values c.args.times.now) (t.stands new) (t.kept new) w.stands w.broken c.args.watcher.now c.loop-now.watcher c.tell_time.new.watcher c.args.shelf.now c.loop-now.shelf c.tell_time.new.shelf
-    (calls_at now (t.changes new) (t.values new)) (t.counted new) c.args.steps.now c.make.new.steps e c.loop-now-test.true came c.in_err-tell_time.ensures.call broke (g.met.T.Times.holds new) (g.met.T.Times.counts new))
+    subst (λ r. RunMade m sets c.args.bound c.args.end (t.stands c.args.times.now 0) (t.values c.args.times.now) w.stands w.broken c.args.watcher.now c.tell_time.new.watcher c.args.shelf.now c.tell_time.new.shelf (t.kept new) (t.counted new) (c.make.new.steps - c.args.steps.now) r) (sym is)
+    (stopped_in_call m sets c.args.bound c.args.end now (t.stands c.args.times.now 0) (t.values c.args.times.now) (t.stands new (now + 1)) (t.kept new) w.stands w.broken c.args.watcher.now c.loop-now.watcher c.tell_time.new.watcher c.args.shelf.now c.loop-now.shelf c.tell_time.new.shelf
+    (calls_at now (t.changes new) (t.values new)) (t.counted new) c.args.steps.now c.make.new.steps e c.loop-now-test.true came c.in_err-tell_time.ensures.call broke (g.met.T.Times.holds new (now + 1)) (g.met.T.Times.counts new (now + 1)))
 
 pub loop-now-preserved : goal.loop-now-preserved
 loop-now-preserved g c =
@@ -80,11 +80,11 @@ loop-now-preserved g c =
     let sets = t.sets c.args.times.now in
     let now : ℕ = c.loop-now.now in
     let new = c.make.new.self in
-    let made : TimeMade m sets c.args.bound now (t.stands c.loop-now.times) (t.stands new) (t.counted new) c.loop-now.steps c.make.new.steps (Ok c.in_ok-make.field-0) =
-    made_same _ _ _ _ c.args.bound now (t.stands c.loop-now.times) (t.stands new) (t.counted new) c.loop-now.steps c.make.new.steps (Ok c.in_ok-make.field-0) c.loop-now.invariant.machine c.loop-now.invariant.sets c.in_ok-make.ensures.made in
-    let came : AllCame m sets c.args.bound c.args.end now (t.stands c.args.times.now) (t.values c.args.times.now) (t.stands new) (t.kept new) (λ made. Got w.stands c.args.watcher.now c.loop-now.watcher c.args.shelf.now c.loop-now.shelf made) (calls_at now (t.changes new) (t.values new)) c.args.steps.now c.make.new.steps =
-    came_time m sets c.args.bound c.args.end now (t.stands c.args.times.now) (t.values c.args.times.now) (t.stands c.loop-now.times) (t.stands new) (t.kept c.loop-now.times) (t.kept new) (λ made. Got w.stands c.args.watcher.now c.loop-now.watcher c.args.shelf.now c.loop-now.shelf made)
-    (t.counted new) c.args.steps.now c.loop-now.steps c.make.new.steps c.in_ok-make.field-0 (t.changes new) (t.values new) c.loop-now.invariant.came made (g.met.T.Times.shows new) (c.in_ok-make.ensures.nets ∙ sym c.loop-now.invariant.told) c.in_ok-make.ensures.changed c.in_ok-make.ensures.kept in
+    let made : TimeMade m sets c.args.bound now (t.stands c.loop-now.times c.loop-now.now) (t.stands new (now + 1)) (t.counted new) c.loop-now.steps c.make.new.steps (Ok c.in_ok-make.field-0) =
+    made_same _ _ _ _ c.args.bound now (t.stands c.loop-now.times c.loop-now.now) (t.stands new (now + 1)) (t.counted new) c.loop-now.steps c.make.new.steps (Ok c.in_ok-make.field-0) c.loop-now.invariant.machine c.loop-now.invariant.sets c.in_ok-make.ensures.made in
+    let came : AllCame m sets c.args.bound c.args.end now (t.stands c.args.times.now 0) (t.values c.args.times.now) (t.stands new (now + 1)) (t.kept new) (λ made. Got w.stands c.args.watcher.now c.loop-now.watcher c.args.shelf.now c.loop-now.shelf made) (calls_at now (t.changes new) (t.values new)) c.args.steps.now c.make.new.steps =
+    came_time m sets c.args.bound c.args.end now (t.stands c.args.times.now 0) (t.values c.args.times.now) (t.stands c.loop-now.times c.loop-now.now) (t.stands new (now + 1)) (t.kept c.loop-now.times) (t.kept new) (λ made. Got w.stands c.args.watcher.now c.loop-now.watcher c.args.shelf.now c.loop-now.shelf made)
+    (t.counted new) c.args.steps.now c.loop-now.steps c.make.new.steps c.in_ok-make.field-0 (t.changes new) (t.values new) c.loop-now.invariant.came made (g.met.T.Times.shows new (now + 1)) (c.in_ok-make.ensures.nets ∙ sym c.loop-now.invariant.told) c.in_ok-make.ensures.changed c.in_ok-make.ensures.kept in
     let got : Got w.stands c.loop-now.watcher c.tell_time.new.watcher c.loop-now.shelf c.tell_time.new.shelf (calls_at now (t.changes new) (t.values new)) =
     subst (λ vs. Got w.stands c.loop-now.watcher c.tell_time.new.watcher c.loop-now.shelf c.tell_time.new.shelf (calls_at now (t.changes new) vs)) c.values.ensures
     (subst (λ cs. Got w.stands c.loop-now.watcher c.tell_time.new.watcher c.loop-now.shelf c.tell_time.new.shelf (calls_at now cs c.values.result.now)) c.changes.ensures c.in_ok-tell_time.ensures.ok) in
@@ -94,12 +94,14 @@ loop-now-preserved g c =
     record {
       machine = c.next-now.ensures.machine ∙ same;
       sets = c.next-now.ensures.sets ∙ same_sets;
-      came = subst (λ k. AllCameTo m sets c.args.bound c.args.end c.next-now.result (t.stands c.args.times.now) (t.values c.args.times.now) (t.stands c.next-now.new.self) k (λ made. Got w.stands c.args.watcher.now c.tell_time.new.watcher c.args.shelf.now c.tell_time.new.shelf made) c.args.steps.now c.make.new.steps) (sym c.next-now.ensures.kept)
-          (came_next m c.requires.law sets c.args.bound c.args.end now c.next-now.result (t.stands c.args.times.now) (t.values c.args.times.now) (t.stands new) (t.stands c.next-now.new.self) (t.kept new)
+      came = subst (λ k. AllCameTo m sets c.args.bound c.args.end c.next-now.result (t.stands c.args.times.now 0) (t.values c.args.times.now) (t.stands c.next-now.new.self c.next-now.result) k (λ made. Got w.stands c.args.watcher.now c.tell_time.new.watcher c.args.shelf.now c.tell_time.new.shelf made) c.args.steps.now c.make.new.steps) (sym c.next-now.ensures.kept)
+          (came_next m c.requires.law sets c.args.bound c.args.end now c.next-now.result (t.stands c.args.times.now 0) (t.values c.args.times.now) (t.stands new (now + 1)) (t.stands c.next-now.new.self c.next-now.result) (t.kept new)
           (λ made. Got w.stands c.args.watcher.now c.loop-now.watcher c.args.shelf.now c.loop-now.shelf made) (λ made. Got w.stands c.args.watcher.now c.tell_time.new.watcher c.args.shelf.now c.tell_time.new.shelf made) (calls_at now (t.changes new) (t.values new)) c.args.steps.now c.make.new.steps
           c.next-now.ensures.later came (λ made h. got_more w.stands c.args.watcher.now c.loop-now.watcher c.tell_time.new.watcher c.args.shelf.now c.loop-now.shelf c.tell_time.new.shelf made (calls_at now (t.changes new) (t.values new)) h got)
           (λ x u h lo hi. subst (λ y. IsQuiet y x u) same_sets (c.next-now.ensures.quiet x u h lo hi))
-          (λ k n x seen h. c.next-now.ensures.stands (with_copies k m n x) (subst (λ y. t.stands new (with_copies k y n x)) same (g.met.T.Times.skips new k n x (subst IsLawful (sym same) c.requires.law) seen h))));
+          (λ k x at seen h. (let to : now + 1 + k ≡ c.next-now.result = omega (arith, at) in
+          subst (λ n. t.stands c.next-now.new.self n (with_copies k m (now + 1) x)) to
+          (c.next-now.ensures.stands (now + 1 + k) (with_copies k m (now + 1) x) (subst (λ y. t.stands new (now + 1 + k) (with_copies k y (now + 1) x)) same (g.met.T.Times.skips new k (now + 1) x (subst IsLawful (sym same) c.requires.law) seen h))))));
       ready = c.next-now.ensures.ready;
       within = c.next-now.ensures.within;
       steps = search rules;
@@ -118,9 +120,9 @@ returns-clause-ended g c =
     let t = g.T.Times in
     let w = g.W.Watch in
     let times = c.loop-now.times in
-    all_told (t.machine c.args.times.now) (t.sets c.args.times.now) c.args.bound c.args.end c.loop-now.now (t.stands c.args.times.now) (t.values c.args.times.now) (t.stands times) (t.kept times) w.stands w.broken c.args.watcher.now c.loop-now.watcher c.tell.new.watcher
-    c.args.shelf.now c.loop-now.shelf c.tell.new.shelf (t.values times) (t.counted times) c.args.steps.now c.loop-now.steps c.tell.result c.loop-now-test.false c.loop-now.invariant.within c.loop-now.invariant.came (g.met.T.Times.shows times)
+    all_told (t.machine c.args.times.now) (t.sets c.args.times.now) c.args.bound c.args.end c.loop-now.now (t.stands c.args.times.now 0) (t.values c.args.times.now) (t.stands times c.loop-now.now) (t.kept times) w.stands w.broken c.args.watcher.now c.loop-now.watcher c.tell.new.watcher
+    c.args.shelf.now c.loop-now.shelf c.tell.new.shelf (t.values times) (t.counted times) c.args.steps.now c.loop-now.steps c.tell.result c.loop-now-test.false c.loop-now.invariant.within c.loop-now.invariant.came (g.met.T.Times.shows times c.loop-now.now)
     c.tell.ensures.call (call_ends w.stands w.broken c.loop-now.watcher c.tell.new.watcher c.loop-now.shelf c.tell.new.shelf (end_call c.args.end (t.values times) ∷ []) c.tell.result
     (subst (λ vs. OnOk c.tell.result (Got w.stands c.loop-now.watcher c.tell.new.watcher c.loop-now.shelf c.tell.new.shelf (end_call c.args.end vs ∷ []))) c.values-2.ensures c.tell.ensures.ok)
     (subst (λ vs. OnErr c.tell.result (Broke w.stands w.broken c.loop-now.watcher c.tell.new.watcher c.loop-now.shelf c.tell.new.shelf (end_call c.args.end vs ∷ []))) c.values-2.ensures c.tell.ensures.err))
-    (g.met.T.Times.holds times) (g.met.T.Times.counts times)
+    (g.met.T.Times.holds times c.loop-now.now) (g.met.T.Times.counts times c.loop-now.now)

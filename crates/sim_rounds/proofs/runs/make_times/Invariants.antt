@@ -11,7 +11,7 @@ invariant-loop-now g l =
     record {
       machine : t.machine l.times ≡ t.machine l.fn.times;
       sets : t.sets l.times ≡ t.sets l.fn.times;
-      came : AllCameTo (t.machine l.fn.times) (t.sets l.fn.times) l.bound l.end l.now (t.stands l.fn.times) (t.values l.fn.times) (t.stands l.times) (t.kept l.times) (λ made. Got w.stands l.fn.watcher l.watcher l.fn.shelf l.shelf made) l.fn.steps l.steps;
+      came : AllCameTo (t.machine l.fn.times) (t.sets l.fn.times) l.bound l.end l.now (t.stands l.fn.times 0) (t.values l.fn.times) (t.stands l.times l.now) (t.kept l.times) (λ made. Got w.stands l.fn.watcher l.watcher l.fn.shelf l.shelf made) l.fn.steps l.steps;
       ready : t.ready l.times l.now;
       within : l.now ≤ l.end + 1;
       steps : l.fn.steps ≤ l.steps;

@@ -2,8 +2,8 @@
 use Rattle.std.proofs.Common.{sym, subst}
 use Rattle.std.proofs.lemmas.Result.{err_from_is_err_and}
 use Rattle.vl_elab.specs.Made.{AreDrivers}
-use Rattle.vl_elab.proofs.Below.{leaves, reached-refused, nets-refused, elements-refused, paths-refused, joined-refused, drivers-refused}
-use Rattle.vl_elab.proofs.Steps.{given-of, made-of, whole-of}
+use Rattle.vl_elab.proofs.Below.{leaves, reached-refused, nets-refused, elements-refused, paths-refused, joined-refused, checks-refused, drivers-refused}
+use Rattle.vl_elab.proofs.Steps.{given-of, made-of, nets-of, whole-of}
 use Rattle.vl_elab.proofs.circuits.circuit_of.Goals as goal
 
 pub library_of-requires : goal.library_of-requires
@@ -81,6 +81,30 @@ returns-in_err-joined-clause-refused c =
     let given = given-of d m c.args.corner c.args.tick c.args.instances.now _ _ _ _ _ b ready rows elements c.no_delay.ensures paths in
     joined-refused c.args.definitions.now m c.args.corner c.in_err-joined.field-0.0 (c.in_err-joined.ensures.refused c.args.definitions.now m c.args.corner given))
 
+pub checks_below-requires-clause-nets : goal.checks_below-requires-clause-nets
+checks_below-requires-clause-nets c =
+    let m = c.requires.below.0 in
+    let b = c.requires.below.1 in
+    let ready = c.in_ok-library.ensures.library m b.are_placed b.tick_is in
+    let rows = c.in_ok-rows.ensures.rows m c.args.corner b.are_placed ready b.shallow in
+    (m, nets-of c.args.definitions.now m c.args.corner c.args.tick c.args.instances.now _ _ b ready rows)
+
+pub checks_below-requires-clause-spelled : goal.checks_below-requires-clause-spelled
+checks_below-requires-clause-spelled c =
+    let m = c.requires.below.0 in
+    let b = c.requires.below.1 in
+    let ready = c.in_ok-library.ensures.library m b.are_placed b.tick_is in
+    (c.in_ok-modules.ensures.paths m b.are_placed b.tick_is ready).read
+
+pub returns-in_err-checks-clause-refused : goal.returns-in_err-checks-clause-refused
+returns-in_err-checks-clause-refused c =
+    leaves _ c.from_residual-in_err-checks.result c.in_err-checks.field-0.0 (err_from_is_err_and c.from_residual-in_err-checks.result c.from_residual-in_err-checks.ensures.1)
+    (λ m b.
+    let d = c.args.definitions.now in
+    let ready = c.in_ok-library.ensures.library m b.are_placed b.tick_is in
+    let rows = c.in_ok-rows.ensures.rows m c.args.corner b.are_placed ready b.shallow in
+    checks-refused d m c.args.corner c.in_err-checks.field-0.0 (c.in_err-checks.ensures.refused m (nets-of d m c.args.corner c.args.tick c.args.instances.now _ _ b ready rows)))
+
 pub drivers_in-requires : goal.drivers_in-requires
 drivers_in-requires c =
     let m = c.requires.below.0 in
@@ -123,7 +147,9 @@ close-requires c =
     let whole = made-of d m c.args.corner c.args.tick c.args.instances.now _ _ _ _ _ b ready rows paths.faultless joined in
     let drivers = subst (AreDrivers d m c.args.corner) (sym c.deref.ensures.value) (c.in_ok-drivers.ensures.drivers m c.args.corner whole) in
     let scopes = c.in_ok-scopes.ensures m c.args.corner b.are_placed ready rows b.shallow in
-    let all = whole-of d m c.args.corner c.args.tick c.args.instances.now _ _ _ _ _ _ _ b ready rows paths.faultless joined drivers scopes in
+    let nets = nets-of d m c.args.corner c.args.tick c.args.instances.now _ _ b ready rows in
+    let all = whole-of d m c.args.corner c.args.tick c.args.instances.now _ _ _ _ _ _ _ _ _ b ready rows paths.faultless joined c.in_ok-checks.ensures.kept (c.in_ok-checks.ensures.faultless m nets)
+    (c.in_ok-checks.ensures.uses m nets) c.in_ok-checks.ensures.few drivers scopes in
     (d, (m, (c.args.corner, all)))
 
 pub returns-clause-circuit : goal.returns-clause-circuit
@@ -138,5 +164,7 @@ returns-clause-circuit c m b =
     let whole = made-of d m c.args.corner c.args.tick c.args.instances.now _ _ _ _ _ b ready rows paths.faultless joined in
     let drivers = subst (AreDrivers d m c.args.corner) (sym c.deref.ensures.value) (c.in_ok-drivers.ensures.drivers m c.args.corner whole) in
     let scopes = c.in_ok-scopes.ensures m c.args.corner b.are_placed ready rows b.shallow in
-    let all = whole-of d m c.args.corner c.args.tick c.args.instances.now _ _ _ _ _ _ _ b ready rows paths.faultless joined drivers scopes in
+    let nets = nets-of d m c.args.corner c.args.tick c.args.instances.now _ _ b ready rows in
+    let all = whole-of d m c.args.corner c.args.tick c.args.instances.now _ _ _ _ _ _ _ _ _ b ready rows paths.faultless joined c.in_ok-checks.ensures.kept (c.in_ok-checks.ensures.faultless m nets)
+    (c.in_ok-checks.ensures.uses m nets) c.in_ok-checks.ensures.few drivers scopes in
     record { faultless = all.faultless; tables = ready.tables; is_circuit = c.in_ok-circuit.ensures d m c.args.corner all }

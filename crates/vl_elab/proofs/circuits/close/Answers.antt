@@ -8,7 +8,7 @@ use Rattle.vl_elab.proofs.circuits.close.Goals as goal
 pub drive-requires : goal.drive-requires
 drive-requires c =
     let w = c.requires in
-    drivers-fit w.0 w.1.0 w.1.1.0 c.args.tick c.args.library c.args.rows c.args.modules c.args.joined c.args.made c.args.drivers.now c.args.scopes.items c.append.new.self.items w.1.1.1
+    drivers-fit w.0 w.1.0 w.1.1.0 c.args.tick c.args.library c.args.rows c.args.timings.items c.args.conditions.items c.args.joined c.args.made c.args.drivers.now c.args.checks c.args.scopes.items c.append.new.self.items w.1.1.1
     c.in_ok-append.ensures.items
 
 pub close-requires-clause-closed : goal.close-requires-clause-closed
@@ -18,14 +18,16 @@ close-requires-clause-closed c =
       nets = c.drive.new.nets;
       elements = c.args.made.elements;
       gate_delays = c.args.library.gate_delays;
-      leg_timings = c.args.modules.timings;
+      leg_timings = c.args.timings;
       paths = c.args.joined.paths;
-      conditions = c.args.modules.conditions;
+      conditions = c.args.conditions;
       udps = c.args.library.udps;
-      checks = c.new.result;
+      checks = c.args.checks.checks;
+      check_timings = c.args.checks.timings;
+      check_conditions = c.args.checks.conditions;
       scopes = c.args.scopes;
     } in
-    let of : IsOf c.args.tick c.args.library c.args.rows c.args.modules c.args.joined c.args.made c.args.drivers.now c.args.scopes.items parts = record {
+    let of : IsOf c.args.tick c.args.library c.args.rows c.args.timings.items c.args.conditions.items c.args.joined c.args.made c.args.drivers.now c.args.checks c.args.scopes.items parts = record {
       tick_is = refl;
       nets_are = c.drive.ensures ∙ ap (λ ns. driven_by ns c.args.drivers.now) c.in_ok-append.ensures.items;
       elements_are = refl;
@@ -34,11 +36,13 @@ close-requires-clause-closed c =
       conditions_are = refl;
       paths_are = refl;
       udps_are = refl;
-      checks_are = c.new.ensures.items;
+      checks_are = refl;
+      check_timings_are = refl;
+      check_conditions_are = refl;
       scopes_are = refl;
     } in
     let w = c.requires in
-    whole-closed w.0 w.1.0 w.1.1.0 c.args.tick c.args.library c.args.rows c.args.modules c.args.joined c.args.made c.args.drivers.now c.args.scopes.items parts w.1.1.1 of
+    whole-closed w.0 w.1.0 w.1.1.0 c.args.tick c.args.library c.args.rows c.args.timings.items c.args.conditions.items c.args.joined c.args.made c.args.drivers.now c.args.checks c.args.scopes.items parts w.1.1.1 of
 
 pub close-requires-clause-indexed : goal.close-requires-clause-indexed
 close-requires-clause-indexed c =
@@ -47,14 +51,16 @@ close-requires-clause-indexed c =
       nets = c.drive.new.nets;
       elements = c.args.made.elements;
       gate_delays = c.args.library.gate_delays;
-      leg_timings = c.args.modules.timings;
+      leg_timings = c.args.timings;
       paths = c.args.joined.paths;
-      conditions = c.args.modules.conditions;
+      conditions = c.args.conditions;
       udps = c.args.library.udps;
-      checks = c.new.result;
+      checks = c.args.checks.checks;
+      check_timings = c.args.checks.timings;
+      check_conditions = c.args.checks.conditions;
       scopes = c.args.scopes;
     } in
-    let of : IsOf c.args.tick c.args.library c.args.rows c.args.modules c.args.joined c.args.made c.args.drivers.now c.args.scopes.items parts = record {
+    let of : IsOf c.args.tick c.args.library c.args.rows c.args.timings.items c.args.conditions.items c.args.joined c.args.made c.args.drivers.now c.args.checks c.args.scopes.items parts = record {
       tick_is = refl;
       nets_are = c.drive.ensures ∙ ap (λ ns. driven_by ns c.args.drivers.now) c.in_ok-append.ensures.items;
       elements_are = refl;
@@ -63,11 +69,13 @@ close-requires-clause-indexed c =
       conditions_are = refl;
       paths_are = refl;
       udps_are = refl;
-      checks_are = c.new.ensures.items;
+      checks_are = refl;
+      check_timings_are = refl;
+      check_conditions_are = refl;
       scopes_are = refl;
     } in
     let w = c.requires in
-    whole-indexed w.0 w.1.0 w.1.1.0 c.args.tick c.args.library c.args.rows c.args.modules c.args.joined c.args.made c.args.drivers.now c.args.scopes.items parts w.1.1.1 of
+    whole-indexed w.0 w.1.0 w.1.1.0 c.args.tick c.args.library c.args.rows c.args.timings.items c.args.conditions.items c.args.joined c.args.made c.args.drivers.now c.args.checks c.args.scopes.items parts w.1.1.1 of
 
 pub returns : goal.returns
 returns c source m corner w =
@@ -76,14 +84,16 @@ returns c source m corner w =
       nets = c.drive.new.nets;
       elements = c.args.made.elements;
       gate_delays = c.args.library.gate_delays;
-      leg_timings = c.args.modules.timings;
+      leg_timings = c.args.timings;
       paths = c.args.joined.paths;
-      conditions = c.args.modules.conditions;
+      conditions = c.args.conditions;
       udps = c.args.library.udps;
-      checks = c.new.result;
+      checks = c.args.checks.checks;
+      check_timings = c.args.checks.timings;
+      check_conditions = c.args.checks.conditions;
       scopes = c.args.scopes;
     } in
-    let of : IsOf c.args.tick c.args.library c.args.rows c.args.modules c.args.joined c.args.made c.args.drivers.now c.args.scopes.items parts = record {
+    let of : IsOf c.args.tick c.args.library c.args.rows c.args.timings.items c.args.conditions.items c.args.joined c.args.made c.args.drivers.now c.args.checks c.args.scopes.items parts = record {
       tick_is = refl;
       nets_are = c.drive.ensures ∙ ap (λ ns. driven_by ns c.args.drivers.now) c.in_ok-append.ensures.items;
       elements_are = refl;
@@ -92,7 +102,9 @@ returns c source m corner w =
       conditions_are = refl;
       paths_are = refl;
       udps_are = refl;
-      checks_are = c.new.ensures.items;
+      checks_are = refl;
+      check_timings_are = refl;
+      check_conditions_are = refl;
       scopes_are = refl;
     } in
-    c.close.ensures ∙ whole-is source m corner c.args.tick c.args.library c.args.rows c.args.modules c.args.joined c.args.made c.args.drivers.now c.args.scopes.items parts w of
+    c.close.ensures ∙ whole-is source m corner c.args.tick c.args.library c.args.rows c.args.timings.items c.args.conditions.items c.args.joined c.args.made c.args.drivers.now c.args.checks c.args.scopes.items parts w of

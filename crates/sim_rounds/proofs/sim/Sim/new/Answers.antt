@@ -22,6 +22,7 @@ invariant_of-result g c =
     let stamps : length c.deref-2.result.now ≡ length circuit.nets = ap length (c.deref-2.ensures.value ∙ values) ∙ count_seen circuit.nets (λ n. first_value_of n.driver) in
     let many : c.len.result ≡ length circuit.elements = c.len.ensures ∙ (parts.elements.ok.0 ∙ (sym (count_seen parts.elements.items (element_seen parts)) ∙ ap (λ x. length x.elements) seen)) in
     record {
+      first = c.in_ok-checks.ensures;
       fresh = record {
         circuit_of = ap (λ x. x.circuit) c.in_ok-elements.ensures;
         states = ap (λ x. x.states) c.in_ok-elements.ensures;

@@ -1,0 +1,11 @@
+-- The modules of this folder.
+pub mod Shelved
+pub mod SoFar
+pub mod OwnChecks
+pub mod EachModule
+pub mod SoundOperands
+pub mod BoundEvents
+pub mod MadeChecks
+pub mod InstanceChecks
+pub mod OneByOne
+pub mod InstanceTurn

@@ -1,0 +1,36 @@
+-- What stands when the checks of instances are made: the instances, the checks of their modules, and their rows.
+use Rattle.std.specs.Prelude.{◌≡◌, ℕ, ◌<◌, ◌≤◌, ◌^◌, List, Option, Some, length, slice_get}
+use Rattle.std.specs.Option.{option_and_then, option_map}
+use Rattle.cond_expr.specs.Condition.{Condition}
+use Rattle.sg_delay.specs.declared.corners.Corner.{Corner}
+use Rattle.vl_tree.specs.Tree.{Module, Source}
+use Rattle.elab_model.specs.Hierarchy.{Instance, instances}
+use Rattle.elab_model.specs.HierarchyFaults.{count_limit}
+use Rattle.elab_hierarchy.specs.Placing.{IsPlaced, ArePlaced}
+use Rattle.elab_hierarchy.specs.declared.instances.Placed.{Placed}
+use Rattle.elab_modules.specs.Reached.{IsLibrary}
+use Rattle.elab_modules.specs.declared.library.Library.{Library}
+use Rattle.elab_rows.specs.Rows.{HaveRows}
+use Rattle.elab_rows.specs.declared.rows.Rows.{Rows}
+use Rattle.elab_checks.specs.Ready.{HaveChecks}
+use Rattle.elab_checks.specs.declared.modules.ReadyChecks.{ReadyChecks}
+use Rattle.elab_checks.specs.declared.shelving.ReadyCheck.{ReadyCheck}
+
+-- the instances, of which there aren't too many, their nets, and the checks of their modules
+pub record AreGiven (source : Source) (top : Module) (corner : Corner) (library : Library) (modules : ReadyChecks) (conditions : List Condition) (placed : List Placed) (rows : Rows) : Type 0 where
+  pub are_placed : ArePlaced source placed (instances source top)
+  pub few : length placed ≤ count_limit
+  pub is_ready : IsLibrary source corner top library
+  pub have_rows : HaveRows source top rows
+  pub have_checks : HaveChecks source top corner conditions modules
+
+-- and an instance at its place
+pub record IsStanding (source : Source) (top : Module) (corner : Corner) (library : Library) (modules : ReadyChecks) (conditions : List Condition) (placed : List Placed) (rows : Rows) (number : ℕ) (p : Placed) (s : Instance) : Type 0 where
+  pub given : AreGiven source top corner library modules conditions placed rows
+  pub there : slice_get (instances source top) number ≡ Some s
+  pub is_placed : IsPlaced source p s
+  pub below : number < 2 ^ 22
+
+-- the checks of the module at a place
+abbrev pub checks_at : ReadyChecks → ℕ → Option (List ReadyCheck)
+checks_at modules place = option_and_then (λ o. option_map (λ v. v.items) o) (slice_get modules.checks.items place)

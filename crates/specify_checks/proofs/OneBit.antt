@@ -1,0 +1,84 @@
+-- A terminal without a fault is one bit.
+use Rattle.std.specs.Prelude.{◌≡◌, ℕ, suc, ◌<◌, List, [], ◌∷◌, Bool, true, false, ◌&&◌, not, ◌==◌, Option, Some, None, flat_map, filter_map, length, map, slice_index_or, refl}
+use Rattle.std.proofs.Common.{sym, ◌∙◌, ap, arith, subst, append-nil}
+use Rattle.std.proofs.lemmas.Bool.{eqb-true}
+use Rattle.std.proofs.lemmas.List.{length-map}
+use Rattle.vl_tree.specs.declared.expressions.Select.{Select}
+use Rattle.vl_tree.specs.declared.expressions.Select.TheVariants as select
+use Rattle.vl_tree.specs.Tree.{Named, Term}
+use Rattle.elab_laws.specs.Handing.{all_bits}
+use Rattle.elab_model.specs.declared.kinds.ElabKind.TheVariants.{WidthMismatch}
+use Rattle.elab_model.specs.Bits.{net, bits, bits_between, leaf_bits, part_bits, whole_bits, position_at, positions, positions_between, variable_named}
+use Rattle.elab_model.specs.Faults.{fault_if}
+use Rattle.elab_model.specs.Hierarchy.{is_empty}
+use Rattle.elab_model.specs.Leaves.{leaf_of}
+use Rattle.elab_model.specs.Names.{Variable}
+use Rattle.specify_model.specs.Conditions.{first_bit}
+use Rattle.specify_model.specs.Faults.{term_faults, operand_faults}
+use Rattle.specify_model.specs.Terms.{net_bit, expression_of, term_bits}
+use Rattle.specify_paths.specs.Seen.{bit_seen, bits_seen, AreInRow}
+use Rattle.specify_values.proofs.Signed.{if-none}
+use Rattle.specify_paths.proofs.InOrder.{none-left, none-right}
+
+-- ---- all bits of a term are bits of nets
+
+nets-only : (n : List ℕ) (ps : List ℕ) → length (filter_map net_bit (map (net n) ps)) ≡ length (map (net n) ps)
+nets-only n [] = refl
+nets-only n (p ∷ ps) = ap (λ k. suc k) (nets-only n ps)
+
+between-only : (n : List ℕ) (a b : Option ℕ) → length (filter_map net_bit (bits_between n a b)) ≡ length (bits_between n a b)
+between-only n (Some p) (Some q) = nets-only n (positions_between p q)
+between-only n (Some p) None = refl
+between-only n None (Some q) = refl
+between-only n None None = refl
+
+part-only : (n : List ℕ) (s : Select) (o : Option Variable) → length (filter_map net_bit (part_bits n s o)) ≡ length (part_bits n s o)
+part-only n s None = refl
+part-only n (select.Bit i) (Some v) = between-only n (position_at v.range i) (position_at v.range i)
+part-only n (select.Part left right) (Some v) = between-only n (position_at v.range left) (position_at v.range right)
+
+whole-only : (n : List ℕ) (o : Option Variable) → length (filter_map net_bit (whole_bits n o)) ≡ length (whole_bits n o)
+whole-only n None = refl
+whole-only n (Some v) = nets-only n (positions v.range)
+
+leaf-only : (vs : List Variable) (n : Named) (s : Option Select) → length (filter_map net_bit (leaf_bits vs (leaf_of n s))) ≡ length (leaf_bits vs (leaf_of n s))
+leaf-only vs n None = whole-only n.text (variable_named vs n.text)
+leaf-only vs n (Some s) = part-only n.text s (variable_named vs n.text)
+
+bits-only : (vs : List Variable) (t : Term) → length (term_bits vs t) ≡ length (bits vs (expression_of t))
+bits-only vs t =
+    let leaf = leaf_bits vs (leaf_of t.name t.select) in
+    subst (λ bs. length (filter_map net_bit bs) ≡ length bs) (sym (append-nil leaf)) (leaf-only vs t.name t.select)
+
+-- ---- places that are the bits of one term
+
+module _ (vs : List Variable) (t : Term) (is : List ℕ) (seen : bits_seen vs is ≡ flat_map (term_bits vs) (t ∷ [])) where
+  all-bits : bits_seen vs is ≡ term_bits vs t
+  all-bits = seen ∙ append-nil (term_bits vs t)
+
+  as-many : length is ≡ length (bits vs (expression_of t))
+  as-many = sym (length-map is (bit_seen vs)) ∙ ap length all-bits ∙ bits-only vs t
+
+  -- without a fault it is one bit
+  pub one : operand_faults vs t ≡ [] → length is ≡ 1
+  one h =
+      let count = length (bits vs (expression_of t)) in
+      let wide = fault_if (is_empty (term_faults vs t) && not (count == 1)) WidthMismatch t.name.place in
+      let sound : term_faults vs t ≡ [] = none-left (term_faults vs t) wide h in
+      let test : (is_empty (term_faults vs t) && not (count == 1)) ≡ false = if-none (is_empty (term_faults vs t) && not (count == 1)) WidthMismatch t.name.place (none-right (term_faults vs t) wide h) in
+      let same : not (count == 1) ≡ false = sym (ap (λ fs. is_empty fs && not (count == 1)) sound) ∙ test in
+      as-many ∙ eqb-true count 1 (not-false (count == 1) same)
+    where
+      not-false : (b : Bool) → not b ≡ false → b ≡ true
+      not-false true e = refl
+      not-false false e = cc
+
+  pub first-is : (d : ℕ) → length is ≡ 1 → bit_seen vs (slice_index_or is 0 d) ≡ first_bit (term_bits vs t)
+  first-is d one = by is one ∙ ap first_bit all-bits
+    where
+      by : (js : List ℕ) → length js ≡ 1 → bit_seen vs (slice_index_or js 0 d) ≡ first_bit (bits_seen vs js)
+      by [] e = absurd (omega (arith, e))
+      by (j ∷ js) e = refl
+
+pub first-in_row : (vs : List Variable) (is : List ℕ) (d : ℕ) → AreInRow vs is → length is ≡ 1 → slice_index_or is 0 d < length (all_bits vs)
+first-in_row vs is d row one = row 0 d (omega (arith, one))

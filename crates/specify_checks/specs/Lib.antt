@@ -1,0 +1,3 @@
+-- The modules of this folder: what the code's values stand for, and parts of a text.
+pub mod Parts
+pub mod Seen

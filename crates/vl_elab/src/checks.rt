@@ -1,0 +1,54 @@
+// The timing checks of a circuit.
+ghost use Rattle.std.specs.Prelude.{◌≡◌, ◌≤◌, ◌++◌, ◌^◌, [], IfOk, IfErr, OnOk, length};
+ghost use Rattle.vl_tree.specs.Tree.{Module};
+ghost use Rattle.elab_model.specs.Faults.{RefusesOneOf};
+ghost use Rattle.elab_circuit.specs.CheckUses.{check_uses};
+ghost use Rattle.elab_circuit.specs.Faults.{check_faults, over};
+ghost use Rattle.elab_paths.specs.Shelving.{AreRead, ListGrows};
+ghost use Rattle.elab_checks.specs.Uses.{AreUses};
+ghost use Rattle.vl_elab.specs.Made.{HaveNets};
+
+use cond_expr::Expr;
+use elab_checks::{CircuitChecks, circuit_checks, ready_checks};
+use elab_hierarchy::{Definitions, Placed};
+use elab_model::ElabKind;
+use elab_modules::Library;
+use elab_rows::Rows;
+use sg_delay::Corner;
+use sg_text::Refused;
+use sg_time::Unit;
+use std::alloc::Global;
+
+/// The timing checks of all instances (IEEE 1364-2005, clause 15), whose conditions come behind those of the table. Refuses what `ready_checks` and `circuit_checks` do. Takes memory in
+/// proportion to the blocks and to the checks of all instances.
+pub fn checks_below(
+    alloc: Global,
+    corner: Corner,
+    tick: Unit,
+    definitions: &Definitions,
+    library: &Library,
+    instances: &[Placed],
+    rows: &Rows,
+    conditions: &mut Vec<Expr>,
+) -> Result<CircuitChecks, Refused<ElabKind>>
+    requires nets { (m : Module) × HaveNets definitions.now m corner tick instances.now library.now rows.now }
+    requires spelled { AreRead conditions.old.items }
+    ensures kept { OnOk result (ListGrows conditions.old.items conditions.new.items) }
+    ensures uses { IfOk result (λ made. (m : Module) → HaveNets definitions.now m corner tick instances.now library.now rows.now → AreUses conditions.new.items made (check_uses definitions.now m corner)) }
+    ensures few { IfOk result (λ made. length made.checks.items ≤ 2 ^ 22) }
+    ensures faultless { OnOk result ((m : Module) → HaveNets definitions.now m corner tick instances.now library.now rows.now → check_faults definitions.now m corner ≡ []) }
+    ensures refused { IfErr result (λ r. (m : Module) → HaveNets definitions.now m corner tick instances.now library.now rows.now
+        → RefusesOneOf (check_faults definitions.now m corner ++ over (length (check_uses definitions.now m corner))) r) }
+{
+    let ready = ready_checks(
+        alloc,
+        corner,
+        tick,
+        definitions,
+        library,
+        instances,
+        conditions,
+    )?;
+    let made = circuit_checks(alloc, library, &ready, conditions, instances, rows)?;
+    Ok(made)
+}
