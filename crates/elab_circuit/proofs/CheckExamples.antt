@@ -1,5 +1,5 @@
 -- A netlist with a timing check: the check over nets, and its notifier.
-use Rattle.std.specs.Prelude.{◌≡◌, List, [], ◌∷◌, Some, None, false, refl, codes, pos}
+use Rattle.std.specs.Prelude.{◌≡◌, [], ◌∷◌, Some, None, false, refl, codes, pos}
 use Rattle.sg_circuit.specs.declared.checks.CheckKind.TheVariants as kind
 use Rattle.sg_circuit.specs.declared.nets.Driver.TheVariants as driver
 use Rattle.sg_delay.specs.declared.corners.Corner.TheVariants.{Typ}

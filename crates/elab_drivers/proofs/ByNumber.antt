@@ -1,16 +1,14 @@
 -- What drives a net, with and without its place.
 use Rattle.std.specs.Prelude.{◌≡◌, ℕ, ◌+◌, ◌<◌, ◌==◌, List, [], ◌∷◌, ◌++◌, Bool, true, false, map, zip, length, refl, cond}
 use Rattle.std.specs.List.{AllByRecursion, enumerate_from}
-use Rattle.std.proofs.Common.{sym, ◌∙◌, ap, arith}
+use Rattle.std.proofs.Common.{◌∙◌, ap, arith}
 use Rattle.std.proofs.lemmas.List.{map-append}
-use Rattle.sg_circuit.specs.declared.nets.Driver.{Driver}
-use Rattle.sg_circuit.specs.declared.nets.Driver.TheVariants.{Stimulus, Element}
+use Rattle.sg_circuit.specs.declared.nets.Driver.TheVariants.{Element}
 use Rattle.sg_text.specs.declared.places.Place.{Place}
 use Rattle.elab_circuit.specs.Driving.{NetDrive, by_stimulus, by_element, drives_of}
 use Rattle.elab_laws.proofs.Lists.{all-append}
 use Rattle.elab_nets.specs.Driving.{NumberedDrive, by_elements, drivers_at}
 use Rattle.elab_nets.specs.Driving as numbered
-use Rattle.elab_drivers.specs.Tables.{driving_of}
 
 -- the drives of the stimulus and of elements
 abbrev pub by_others : List ℕ → List ℕ → List NumberedDrive

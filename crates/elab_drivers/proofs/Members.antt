@@ -1,7 +1,7 @@
 -- Elements of lists.
 use Rattle.std.specs.Prelude.{◌≡◌, ℕ, zero, suc, ◌<◌, All, List, [], ◌∷◌, Bool, true, false, filter, length, refl, cond, slice_index_or}
 use Rattle.std.specs.List.{AllByRecursion, IsAmong}
-use Rattle.std.proofs.Common.{sym, ◌∙◌, ap, arith, inl, inr}
+use Rattle.std.proofs.Common.{◌∙◌, ap, arith, inl, inr}
 use Rattle.elab_laws.proofs.Lists.{In}
 
 pub in-among : {A : Type 0} (x : A) (xs : List A) → In x xs → IsAmong xs x

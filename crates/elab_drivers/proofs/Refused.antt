@@ -1,13 +1,12 @@
 -- What is refused is a fault.
-use Rattle.std.specs.Prelude.{◌≡◌, ℕ, zero, suc, ◌+◌, ◌<◌, ◌==◌, ◌||◌, List, [], ◌∷◌, ◌++◌, Bool, true, false, Option, Some, map, take, zip, length, refl, cond, slice_get, slice_index_or}
-use Rattle.std.specs.List.{AllByRecursion, IsAmong, enumerate_from, range_with_len}
+use Rattle.std.specs.Prelude.{◌≡◌, ℕ, zero, suc, ◌+◌, ◌<◌, ◌==◌, ◌||◌, List, [], ◌∷◌, ◌++◌, Bool, true, false, Some, map, take, length, refl, cond, slice_get, slice_index_or}
+use Rattle.std.specs.List.{AllByRecursion, IsAmong, range_with_len}
 use Rattle.std.proofs.Common.{sym, ◌∙◌, ap, arith, inl, inr, subst}
 use Rattle.std.proofs.lemmas.Bool.{eq-eqb, eqb-true}
-use Rattle.std.proofs.lemmas.List.{length-map}
 use Rattle.std.proofs.lemmas.List.Elements.{filter-append}
 use Rattle.sg_circuit.specs.FanOut.{has}
 use Rattle.sg_circuit.specs.declared.nets.Driver.{Driver}
-use Rattle.sg_circuit.specs.declared.nets.Driver.TheVariants.{Stimulus, Element}
+use Rattle.sg_circuit.specs.declared.nets.Driver.TheVariants.{Element}
 use Rattle.sg_text.specs.declared.places.Place.{Place}
 use Rattle.sg_text.specs.declared.refusals.Refused.{Refused}
 use Rattle.sg_text.specs.declared.refusals.Refused.TheVariants as refused
@@ -20,7 +19,7 @@ use Rattle.elab_nets.specs.Driving.{IsSecond, IsTaken, drivers_at}
 use Rattle.elab_nets.specs.Driving as numbered
 use Rattle.elab_drivers.specs.Drivers.{IsPlaceOf, IsPlaceOfDriver}
 use Rattle.elab_drivers.specs.Tables.{driving_of}
-use Rattle.elab_drivers.proofs.ByNumber.{by_others, placed_inputs, placed_outputs, all_drives, number_only, drives-only, drivers-only, drives-below}
+use Rattle.elab_drivers.proofs.ByNumber.{placed_inputs, placed_outputs, all_drives, number_only, drives-only, drivers-only, drives-below}
 use Rattle.elab_drivers.proofs.Members.{in-among, among-in, in-filter, from-filter, all-filter}
 
 -- a fault of one of the nets

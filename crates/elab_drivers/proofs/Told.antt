@@ -1,18 +1,18 @@
 -- What the table tells.
-use Rattle.std.specs.Prelude.{◌≡◌, ◌⊎◌, ℕ, zero, suc, ◌+◌, ◌<◌, ◌≤◌, ◌==◌, ◌||◌, List, [], ◌∷◌, ◌++◌, Bool, true, false, map, flat_map, length, replicate, refl, cond, slice_index_or}
+use Rattle.std.specs.Prelude.{◌≡◌, ℕ, zero, suc, ◌+◌, ◌<◌, ◌≤◌, ◌==◌, ◌||◌, List, [], ◌∷◌, ◌++◌, Bool, true, false, map, flat_map, length, replicate, refl, cond, slice_index_or}
 use Rattle.std.specs.List.{AllByRecursion, range_with_len}
-use Rattle.std.proofs.Common.{sym, ◌∙◌, ap, arith, inl, inr, subst}
+use Rattle.std.proofs.Common.{sym, ◌∙◌, ap, arith, subst}
 use Rattle.std.proofs.lemmas.Bool.{eqb-true}
 use Rattle.std.proofs.lemmas.List.{get_or-replicate, length-map, length-replicate}
 use Rattle.sg_circuit.specs.FanOut.{has}
 use Rattle.sg_circuit.specs.declared.nets.Driver.{Driver}
 use Rattle.sg_circuit.specs.declared.nets.Driver.TheVariants.{Nobody, Notifier}
 use Rattle.sg_text.specs.declared.places.Place.{Place}
-use Rattle.elab_circuit.specs.Driving.{NetDrive, net_drives, drives_of, driver_of, driver_at, drivers, second_of, reg_faults, net_faults, faults_at, driving_faults}
-use Rattle.elab_nets.specs.Driving.{NumberedDrive, by_checks, drivers_at, first_or_nobody, HasFirst, StandsFor, DrivesRegs}
+use Rattle.elab_circuit.specs.Driving.{NetDrive, drives_of, driver_of, driver_at, drivers, second_of, reg_faults, faults_at}
+use Rattle.elab_nets.specs.Driving.{NumberedDrive, by_checks, drivers_at, first_or_nobody, StandsFor, DrivesRegs}
 use Rattle.elab_nets.proofs.DriveLemmas.{at-append}
 use Rattle.elab_drivers.specs.Tables.{driving_of, HasDrivers}
-use Rattle.elab_drivers.proofs.ByNumber.{by_others, all_drives, number_only, drives-only, drivers-only}
+use Rattle.elab_drivers.proofs.ByNumber.{by_others, all_drives, drives-only, drivers-only}
 
 -- nothing drives a net at first
 pub nobody : (table : List Driver) (n : ℕ) → table ≡ replicate n Nobody → StandsFor table []

@@ -1,7 +1,7 @@
 // Why a netlist is refused that its grammar takes.
 use udp_rows::UdpKind;
 
-/// Why the tree of a netlist has no circuit (IEEE 1364-2005, clauses 6 to 8, 12 and 14).
+/// Why the tree of a netlist has no circuit (IEEE 1364-2005, clauses 6 to 8, 12, 14 and 15).
 #[derive(Clone, Copy, Debug, PartialEq, Eq)]
 pub enum ElabKind {
     /// An instance names no module and no primitive.
@@ -24,9 +24,9 @@ pub enum ElabKind {
     SpecifyInHierarchy,
     /// Terminals or ports are wrong, an index is out of range, a constant or a `reg` is driven, or an instance of a module has no name.
     BadTerminal,
-    /// The hierarchy has more than 64 levels.
+    /// The hierarchy, or a condition, has more than 64 levels.
     TooDeep,
-    /// More scopes, nets, elements, specify paths or bits of a vector than there may be.
+    /// More scopes, nets, elements, specify paths, timing checks or bits of a vector than there may be.
     TooMany,
     /// A delay or a limit is too long, a gate has more than two delays, an instance of a module has one, a specparam isn't there, or pulses are to be lost that are to become x.
     BadDelay,

@@ -1,15 +1,15 @@
 -- The nets of a member have the next numbers, in order.
-use Rattle.std.specs.Prelude.{◌≡◌, ℕ, suc, ◌+◌, List, [], ◌∷◌, ◌++◌, map, flat_map, length, refl}
+use Rattle.std.specs.Prelude.{◌≡◌, ℕ, ◌+◌, List, [], ◌∷◌, ◌++◌, map, flat_map, length, refl}
 use Rattle.std.specs.List.{enumerate_from, range_with_len}
-use Rattle.std.proofs.Common.{sym, ◌∙◌, ap, subst, append_assoc, length-append}
+use Rattle.std.proofs.Common.{sym, ◌∙◌, ap, append_assoc, length-append}
 use Rattle.std.proofs.lemmas.Grind.{flat_map-append}
 use Rattle.vl_tree.specs.Tree.{Module, Source}
 use Rattle.elab_model.specs.Hierarchy.{Instance, instances}
 use Rattle.elab_model.specs.Members.{Member, members}
-use Rattle.elab_model.specs.Nets.{OwnNet, nets, nets_of, variable_nets, member_nets, number_of}
+use Rattle.elab_model.specs.Nets.{nets, nets_of, variable_nets, member_nets, number_of}
 use Rattle.elab_laws.proofs.Drivers.{numbers-in_order}
 use Rattle.elab_laws.proofs.NoFaults.{nets-apart_each}
-use Rattle.elab_numbers.specs.Laws.{numbers_in, nets_before, MemberNetsHavePlaces}
+use Rattle.elab_numbers.specs.Laws.{nets_before, MemberNetsHavePlaces}
 
 -- the first part of a list that is numbered in order
 front-numbered : {A : Type 0} (f : A → ℕ) (a : ℕ) (xs ys : List A) → map f (xs ++ ys) ≡ range_with_len a (length (xs ++ ys)) → map f xs ≡ range_with_len a (length xs)

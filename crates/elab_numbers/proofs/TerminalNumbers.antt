@@ -1,5 +1,5 @@
 -- The numbers of the inputs of a gate or a primitive.
-use Rattle.std.specs.Prelude.{◌≡◌, ℕ, suc, ◌+◌, List, [], ◌∷◌, ◌++◌, map, flat_map, take, drop, length, refl}
+use Rattle.std.specs.Prelude.{◌≡◌, ℕ, suc, ◌+◌, List, [], ◌∷◌, map, flat_map, take, drop, length, refl}
 use Rattle.std.specs.List.{enumerate_from, range_with_len}
 use Rattle.std.proofs.Common.{◌∙◌, ap, subst, add-one}
 use Rattle.vl_tree.specs.Tree.{Source}
@@ -7,7 +7,7 @@ use Rattle.elab_model.specs.Bits.{Bit, net, constant}
 use Rattle.elab_model.specs.Elements.{input_spot}
 use Rattle.elab_model.specs.Hierarchy.{Instance}
 use Rattle.elab_model.specs.Homes.{terminal, home_of}
-use Rattle.elab_model.specs.Nets.{OwnNet, terminal_net, terminal_nets, number_of}
+use Rattle.elab_model.specs.Nets.{OwnNet, terminal_net, number_of}
 use Rattle.elab_laws.specs.Given.{number_of_bit}
 use Rattle.elab_laws.specs.Handing.{numbered}
 use Rattle.elab_numbers.specs.Laws.{numbers_in, TerminalsAreNumbered}

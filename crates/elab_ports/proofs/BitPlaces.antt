@@ -1,5 +1,5 @@
 -- The place in the row of a variable's bit.
-use Rattle.std.specs.Prelude.{◌≡◌, ℕ, ◌+◌, ◌<◌, List, ◌∷◌, Some, length, take, slice_index_or}
+use Rattle.std.specs.Prelude.{◌≡◌, ℕ, ◌+◌, ◌<◌, List, Some, length, take}
 use Rattle.std.proofs.Common.{sym, ◌∙◌, ap, subst, zero-add}
 use Rattle.std.proofs.lemmas.List.{get_or_at}
 use Rattle.sg_circuit.specs.Closed.{width_of}

@@ -14,7 +14,7 @@ use Rattle.vl_tree.specs.declared.items.Connections.TheVariants as connections
 use Rattle.vl_tree.specs.declared.items.NamedConnection.{NamedConnection as CodeConnection}
 use Rattle.vl_token.specs.declared.constants.Constant.{Constant}
 use Rattle.vl_tree.specs.declared.expressions.Expression.TheVariants as variant
-use Rattle.vl_tree.specs.declared.expressions.Expression.TheVariants.{rolls-Signal, rolls-Sized, rolls-Concatenation}
+use Rattle.vl_tree.specs.declared.expressions.Expression.TheVariants.{rolls-Sized, rolls-Concatenation}
 use Rattle.vl_tree.specs.declared.expressions.Expression.TheOpen as layer
 use Rattle.vl_tree.specs.declared.expressions.Expression.TheFolds.{fold-roll-Expression}
 use Rattle.vl_tree.specs.Seen.{view_expression, view_layer, view_name, view_connections, view_named_connection}

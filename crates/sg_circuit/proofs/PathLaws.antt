@@ -1,10 +1,9 @@
 -- What is so of the code's paths, said of the paths that they stand for.
-use Rattle.std.specs.Prelude.{◌≡◌, ◌↔◌, ℕ, ◌<◌, Bool, IsTrue, All, List, length, map}
+use Rattle.std.specs.Prelude.{◌≡◌, ◌↔◌, ℕ, ◌<◌, Bool, IsTrue, All, List, map}
 use Rattle.std.proofs.Common.{sym, subst}
 use Rattle.std.proofs.lemmas.List.Elements.{All-map, All-weaker}
 use Rattle.cond_expr.specs.Condition.{Condition}
 use Rattle.sg_circuit.specs.Closed.{ReadsNets, IsPathOf}
-use Rattle.sg_circuit.specs.Paths as specify
 use Rattle.sg_circuit.specs.PathFitting.{IsConditionWithin, IsOfNets}
 use Rattle.sg_circuit.specs.PathsSeen.{condition_seen, path_seen, paths_seen, spanned, AreIndexedPaths, IsIndexedPath}
 use Rattle.sg_circuit.specs.declared.elements.LegTiming.{LegTiming}

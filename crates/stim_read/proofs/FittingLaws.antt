@@ -1,5 +1,5 @@
 -- The tests of a stimulus say what can be applied.
-use Rattle.std.specs.Prelude.{◌≡◌, ◌≢◌, ◌↔◌, ℕ, ◌<◌, ◌≤◌, ◌^◌, All, List, length, map}
+use Rattle.std.specs.Prelude.{◌≢◌, ◌↔◌, ℕ, ◌<◌, ◌≤◌, ◌^◌, All, List, map}
 use Rattle.std.proofs.lemmas.List.Elements.{All-map}
 use Rattle.sg_circuit.specs.Circuit.{Circuit}
 use Rattle.sg_circuit.proofs.SeenLaws.{all-unmapped}

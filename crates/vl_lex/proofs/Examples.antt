@@ -1,16 +1,11 @@
 -- Small texts, as the definitions read them.
 use Rattle.std.proofs.Common.{◌≡◌, ℕ, List, [], ◌∷◌, length, take, drop, refl, arith}
-use Rattle.std.specs.Prelude.{Some, None, true, false, Ok, Err, codes, pos, neg_ℤ}
-use Rattle.sg_logic.specs.declared.values.Value.TheVariants.{Zero, One, X}
-use Rattle.vl_token.specs.Constants.{low_bits}
-use Rattle.vl_pieces.specs.Sized.{sized_of}
-use Rattle.vl_pieces.specs.Pieces.{class_of}
-use Rattle.vl_pieces.specs.Modes.{IsPiece, class_in, edge_class, is_endtable}
-use Rattle.vl_token.specs.Tokens.{name_token, sized_token, unsized_token, pair_token, other_token}
+use Rattle.std.specs.Prelude.{Some, true, false, Ok, Err, codes, pos, neg_ℤ}
+use Rattle.vl_pieces.specs.Modes.{IsPiece, class_in}
+use Rattle.vl_token.specs.Tokens.{name_token}
 use Rattle.sg_text.specs.Words.{reserved_rows}
 use Rattle.vl_lex.specs.Directives.{scale_of, directive_of, are_no_effect}
 use Rattle.vl_lex.specs.Lexes.{Lexes}
-use Rattle.vl_pieces.specs.Meanings.{sized_meaning, pair_meaning}
 use Rattle.vl_lex.specs.declared.faults.LexKind.TheVariants.{UnknownDirective, UnbalancedIf}
 use Rattle.vl_pieces.specs.declared.modes.Mode.TheVariants.{Plain}
 use Rattle.vl_pieces.specs.declared.pieces.Class.{Class}

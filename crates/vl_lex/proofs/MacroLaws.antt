@@ -4,7 +4,6 @@ use Rattle.std.specs.Prelude.{Option, Some, None, cond, if◌then◌else◌}
 use Rattle.std.specs.Option.{option_map}
 use Rattle.std.proofs.Math.Path.{fun_ext}
 use Rattle.vl_pieces.specs.Bytes.{same_bytes}
-use Rattle.vl_lex.specs.State.{Macros}
 use Rattle.vl_lex.specs.Directives.{with_text, without}
 use Rattle.vl_lex.specs.declared.macros.MacroText.{MacroText}
 

@@ -1,22 +1,22 @@
 -- A file without a backquote is its pieces.
-use Rattle.std.proofs.Common.{◌≡◌, ℕ, zero, suc, ◌+◌, ◌<◌, ◌≤◌, ◌^◌, List, [], ◌∷◌, ◌++◌, length, length-drop, take, drop, Bool, true, false, refl, sym, subst, append_assoc, arith}
+use Rattle.std.proofs.Common.{◌≡◌, ℕ, zero, suc, ◌+◌, ◌<◌, ◌≤◌, ◌^◌, List, [], ◌∷◌, ◌++◌, length, length-drop, take, drop, Bool, true, false, refl, sym, append_assoc, arith}
 use Rattle.std.specs.Prelude.{Option, Some, None, Ok, Err, ◌==◌, ◌&&◌, not, nat_lt, if◌then◌else◌}
 use Rattle.std.specs.List.{list_all, prefix_len}
 use Rattle.std.proofs.lemmas.Bool.{and_parts, le-ltb}
 use Rattle.std.proofs.lemmas.List.{append-nil}
 use Rattle.std.specs.Char.{is_ascii_digit}
 use Rattle.sg_text.specs.declared.places.Place.{Place}
-use Rattle.vl_token.specs.Tokens.{Meaning, Lexeme}
+use Rattle.vl_token.specs.Tokens.{Lexeme}
 use Rattle.sg_text.specs.Names.{is_name_start, is_name_byte}
 use Rattle.vl_pieces.specs.Bytes.{is_blank, is_graphic, is_inline, first_of}
 use Rattle.vl_pieces.specs.Ends.{end_of, quote_end}
 use Rattle.vl_pieces.specs.NumberBridge.{number_len, sized_len}
 use Rattle.vl_lex.specs.State.{State, Fault, Outcome, first_settings, first_state}
 use Rattle.vl_pieces.specs.Modes.{IsPiece, Piece, is_value_byte, is_endtable, cell_of}
-use Rattle.vl_pieces.specs.PieceBridge.{ended_piece, slash_piece, attribute_piece, paren_piece, quote_piece, tick_piece, symbol_len, long_piece, mark_piece, point_piece, apostrophe_piece, digit_piece, piece_from, piece_of, edge_piece, cell_piece, table_piece, line_piece, piece_in}
+use Rattle.vl_pieces.specs.PieceBridge.{ended_piece, slash_piece, attribute_piece, paren_piece, symbol_len, long_piece, point_piece, digit_piece, piece_from, piece_of, edge_piece, cell_piece, table_piece, line_piece, piece_in}
 use Rattle.vl_pieces.specs.Meanings.{meaning_of}
-use Rattle.vl_lex.specs.Effects.{place_at, tokens_at, mode_behind, fault_of, is_use, effect}
-use Rattle.vl_lex.specs.Lexes.{first_fault, Leads, IsRead, Expands, LexesUnless, too_large, Lexes}
+use Rattle.vl_lex.specs.Effects.{place_at, tokens_at, mode_behind, fault_of, is_use}
+use Rattle.vl_lex.specs.Lexes.{first_fault, IsRead, Expands, LexesUnless, Lexes}
 use Rattle.vl_lex.specs.Laws.{AreSplit, tokens_of, unless_fault}
 use Rattle.vl_lex.specs.declared.faults.Found.{Found}
 use Rattle.vl_pieces.specs.declared.bytes.First.{First}

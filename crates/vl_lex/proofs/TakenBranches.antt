@@ -8,7 +8,7 @@ use Rattle.sg_text.specs.Names.{is_name_byte}
 use Rattle.vl_pieces.specs.Bytes.{is_blank}
 use Rattle.vl_lex.specs.State.{Word, Waiting, State, Fault, Outcome, fault, is_taken, is_looked_at, waits}
 use Rattle.vl_lex.specs.Directives.{directive_of, is_conditional, outer, words_wanted, with_branch, with_next_text, without_branch, with_branches, outcome_of_branches, or_bad_directive, scale_of, name_of, implicit_from, test_of, with_macro, outcome_of_directive}
-use Rattle.vl_pieces.specs.Modes.{IsPiece, Piece}
+use Rattle.vl_pieces.specs.Modes.{Piece}
 use Rattle.vl_lex.specs.Effects.{Effect, comes_to, expands, defines, stops, place_at, next_mode, mode_at, taken_piece, fault_in, apply_or_wait, with_word, gap_outcome, is_define, define_effect, line_effect, begins_arguments, begins_name, word_effect, use_effect, tick_effect, untaken_outcome, first_words, is_use, effect_at, effect_of, effect}
 use Rattle.vl_lex.specs.Lexes.{or_state, Leads, Then, Reads, IsRead, Expands}
 use Rattle.vl_lex.specs.Laws.{within}

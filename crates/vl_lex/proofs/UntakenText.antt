@@ -1,5 +1,5 @@
 -- Text that isn't taken changes nothing but branches.
-use Rattle.std.proofs.Common.{◌≡◌, ℕ, List, [], length, Bool, true, false, refl, sym, subst, inl, inr}
+use Rattle.std.proofs.Common.{◌≡◌, ℕ, List, length, Bool, true, false, refl, sym, subst, inl, inr}
 use Rattle.std.specs.Prelude.{Option, Some, None, Ok, Err, ◌==◌, drop, if◌then◌else◌}
 use Rattle.std.proofs.lemmas.Bool.{cases_Bool}
 use Rattle.sg_text.specs.declared.places.Place.{Place}

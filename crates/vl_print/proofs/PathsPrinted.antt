@@ -8,7 +8,7 @@ use Rattle.grammar.specs.Language.{sequence, sequence_by}
 use Rattle.grammar.specs.Rule.{Rule, ◌∙∙◌, ◌▸◌, ◌◂◌, only_if}
 use Rattle.grammar.proofs.Laws.{only_if-exact}
 use Rattle.grammar.proofs.Printing as printing
-use Rattle.vl_token.specs.declared.symbols.Symbol.TheVariants.{Colon, Comma, Plus, Minus, Assign, LeftParen, RightParen, LeftBracket, RightBracket}
+use Rattle.vl_token.specs.declared.symbols.Symbol.TheVariants.{Colon, Plus, Minus, Assign, LeftParen, RightParen, LeftBracket, RightBracket}
 use Rattle.vl_token.specs.declared.symbols.Symbol.TheVariants as symbol
 use Rattle.vl_token.specs.Tokens.{Lexeme, word_token, symbol_token, pair_token}
 use Rattle.vl_tree.specs.declared.paths.Arrow.{Arrow}

@@ -1,5 +1,5 @@
 -- Parts behind others are those of a rule that begins with the others.
-use Rattle.std.proofs.Common.{◌≡◌, ℕ, List, [], ◌∷◌, ◌++◌, Result, Ok, Err, refl, sym, map}
+use Rattle.std.proofs.Common.{◌≡◌, ℕ, List, [], ◌++◌, Result, Ok, Err, refl, map}
 use Rattle.grammar.specs.Reading.{◌>>=◌, Gives}
 use Rattle.grammar.specs.Rule.{◌∙∙◌, mapped, many, read_many}
 use Rattle.grammar.specs.declared.ReadFault.{ReadFault}

@@ -1,5 +1,5 @@
 -- A constant has as many bits as its width.
-use Rattle.std.proofs.Common.{◌≡◌, ℕ, ◌+◌, ◌-◌, List, [], ◌∷◌, length, Option, Some, None, refl, arith, length-append}
+use Rattle.std.proofs.Common.{◌≡◌, ℕ, ◌-◌, List, [], ◌∷◌, length, None, refl, arith, length-append}
 use Rattle.std.proofs.lemmas.List.{length-drop, length-replicate}
 use Rattle.std.specs.Prelude.{replicate, drop}
 use Rattle.sg_logic.specs.declared.values.Value.{Value}

@@ -4,7 +4,7 @@ use Rattle.std.specs.Prelude.{◌||◌}
 use Rattle.sg_text.specs.declared.words.Keyword.{Keyword}
 use Rattle.grammar.specs.Exact.{Exact, Apart, IsWithin}
 use Rattle.grammar.specs.Rule as rule
-use Rattle.grammar.specs.Rule.{Rule, ◌∙∙◌, ◌▸◌, ◌◂◌}
+use Rattle.grammar.specs.Rule.{◌∙∙◌, ◌▸◌, ◌◂◌}
 use Rattle.grammar.specs.Stated as stated
 use Rattle.grammar.proofs.Laws as laws
 use Rattle.vl_token.specs.declared.symbols.Symbol.{Symbol}

@@ -5,7 +5,7 @@ use Rattle.std.proofs.lemmas.Bool.{and_right}
 use Rattle.sg_text.specs.declared.words.Keyword.TheVariants as keyword
 use Rattle.grammar.specs.Rule.{◌∙∙◌, only_if}
 use Rattle.grammar.proofs.Laws.{only_if-exact, followed-exact}
-use Rattle.vl_token.specs.declared.symbols.Symbol.TheVariants.{Colon, Comma, Plus, Minus, Assign, LeftParen, RightParen, LeftBracket, RightBracket}
+use Rattle.vl_token.specs.declared.symbols.Symbol.TheVariants.{Colon, Plus, Minus, Assign, LeftParen, RightParen, LeftBracket, RightBracket}
 use Rattle.vl_token.specs.declared.symbols.Symbol.TheVariants as symbol
 use Rattle.vl_tree.specs.declared.paths.Arrow.{Arrow}
 use Rattle.vl_tree.specs.declared.paths.Arrow.TheVariants.{Parallel, Full}

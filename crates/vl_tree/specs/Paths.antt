@@ -2,7 +2,7 @@
 use Rattle.std.specs.Prelude.{Bool, true, false, ◌||◌, List, [], ◌∷◌, length, ◌==◌, Option, Some, None}
 use Rattle.sg_text.specs.declared.words.Keyword.TheVariants as keyword
 use Rattle.grammar.specs.Rule.{◌∙∙◌, ◌▸◌, ◌◂◌, one, mapped, named, no_kind, followed, only_if}
-use Rattle.vl_token.specs.declared.symbols.Symbol.TheVariants.{Comma, Colon, Plus, Minus, Assign, Semicolon, LeftParen, RightParen, LeftBracket, RightBracket}
+use Rattle.vl_token.specs.declared.symbols.Symbol.TheVariants.{Comma, Colon, Plus, Minus, Assign, LeftParen, RightParen, LeftBracket, RightBracket}
 use Rattle.vl_token.specs.declared.symbols.Symbol.TheVariants as symbol
 use Rattle.vl_tree.specs.declared.paths.Arrow.{Arrow}
 use Rattle.vl_tree.specs.declared.paths.Arrow.TheVariants.{Parallel, Full}

@@ -1,5 +1,4 @@
 -- A part that isn't below the number has a net that isn't, and so has the whole.
-use Rattle.std.proofs.Common.{arith}
 use Rattle.cond_expr.proofs.Below.{start_below}
 use Rattle.cond_expr.proofs.JoinedBelow.{not_all, below_more, part_of_below}
 use Rattle.cond_expr.proofs.bound.+is_below.Goals as goal

@@ -1,5 +1,5 @@
 -- The delays that are left, and their faults, complete all.
-use Rattle.std.proofs.Common.{◌≡◌, ◌++◌, map, flat_map, drop}
+use Rattle.std.proofs.Common.{◌≡◌, ◌++◌, map, drop}
 use Rattle.vl_tree.specs.Seen.{view_amounts}
 use Rattle.specify_model.specs.Faults.{delay_faults}
 use Rattle.specify_model.specs.Values.{delay_ticks}

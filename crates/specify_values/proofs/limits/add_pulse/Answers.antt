@@ -1,6 +1,5 @@
 -- Limits that no path may have, and those of two ports.
-use Rattle.std.proofs.Common.{◌∙◌, sym, ap, refl, Bor, List, ℕ, Bool}
-use Rattle.std.specs.Prelude.{bytes_eq, ◌&&◌, if◌then◌else◌, Some}
+use Rattle.std.specs.Prelude.{bytes_eq, ◌&&◌, Some}
 use Rattle.indexmap.specs.IndexMap.{get_by}
 use Rattle.sg_text.specs.declared.refusals.Refused.TheVariants as refused
 use Rattle.elab_model.specs.declared.kinds.ElabKind.TheVariants.{UnknownName, BadDelay}

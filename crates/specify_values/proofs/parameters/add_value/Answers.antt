@@ -1,5 +1,5 @@
 -- A name that wasn't there is put in.
-use Rattle.std.proofs.Common.{sym, ◌∙◌, Bor, ℕ, List}
+use Rattle.std.proofs.Common.{sym, ◌∙◌}
 use Rattle.std.specs.Prelude.{bytes_eq}
 use Rattle.indexmap.specs.IndexMap.{get_by}
 use Rattle.specify_values.proofs.ByName.{put-in}
