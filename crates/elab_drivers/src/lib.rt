@@ -3,7 +3,5 @@
 
 mod places;
 mod table;
-#[cfg(test)]
-mod tests;
 
 pub use table::drivers;

@@ -18,6 +18,3 @@ pub use nets::{NetDeclaration, net_declarations};
 pub use ports::{port_declarations, port_list};
 pub use ranges::{NamedRange, named_ranges};
 pub use repeated::{first_missing, first_repeated};
-
-#[cfg(test)]
-mod tests;

@@ -9,6 +9,3 @@ mod primitives;
 
 pub use delays::gate_delays;
 pub use primitives::check_primitive;
-
-#[cfg(test)]
-mod tests;

@@ -10,6 +10,3 @@ mod wheel;
 
 pub use nodes::{Node, Nodes};
 pub use wheel::Wheel;
-
-#[cfg(test)]
-mod tests;

@@ -6,8 +6,6 @@ mod conditions;
 mod picking;
 mod pulses;
 mod stamps;
-#[cfg(test)]
-mod tests;
 
 pub use picking::{Picked, pick};
 pub use pulses::{Pulse, pulse_between};

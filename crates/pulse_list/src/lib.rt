@@ -8,6 +8,3 @@ mod plain;
 pub use agenda::Agenda;
 pub use placing::{end_value, place, place_inertial};
 pub use plain::PlainAgenda;
-
-#[cfg(test)]
-mod tests;

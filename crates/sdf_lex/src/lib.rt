@@ -15,6 +15,3 @@ pub use faults::LexKind;
 pub use names::{called, first_part, is_instance_name, is_name};
 pub use reading::lex;
 pub use tokens::{Lexeme, Token, before_select};
-
-#[cfg(test)]
-mod tests;

@@ -12,8 +12,6 @@ mod nets;
 mod path_fitting;
 mod paths;
 mod scopes;
-#[cfg(test)]
-mod tests;
 mod timing_fitting;
 
 pub use building::{Pin, add_pins};

@@ -5,8 +5,6 @@ mod corners;
 mod expansion;
 mod gates;
 mod limits;
-#[cfg(test)]
-mod tests;
 
 pub use corners::{Corner, Triple};
 pub use expansion::{DelayError, Delays12, expand};

@@ -4,8 +4,6 @@
 mod decimal;
 mod reading;
 mod scaling;
-#[cfg(test)]
-mod tests;
 mod units;
 
 pub use decimal::{Decimal, TimeError};

@@ -8,6 +8,3 @@ mod regs;
 
 pub use checks::{ModuleCheck, module_checks};
 pub use events::ModuleEvent;
-
-#[cfg(test)]
-mod tests;

@@ -16,6 +16,3 @@ pub use outputs::{PathOutputs, path_outputs};
 pub use pairs::ModulePath;
 pub use statements::{ModuleCondition, Statement, option_edge};
 pub use terms::{check_operand, terms_bits};
-
-#[cfg(test)]
-mod tests;

@@ -10,8 +10,6 @@ mod reading;
 mod sets;
 mod statements;
 mod steps;
-#[cfg(test)]
-mod tests;
 mod times;
 
 pub use kinds::StimKind;

@@ -8,8 +8,6 @@ mod judging;
 mod latest;
 mod laws;
 mod seeing;
-#[cfg(test)]
-mod tests;
 mod touching;
 mod violations;
 mod windows;

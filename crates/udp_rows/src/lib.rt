@@ -13,6 +13,3 @@ pub use cells::{Cell, Cells, RawRow};
 pub use faults::UdpKind;
 pub use meaning::{input_stays, value_of_input, value_when_taken};
 pub use udp::UdpRows;
-
-#[cfg(test)]
-mod tests;

@@ -12,6 +12,3 @@ mod searching;
 mod table;
 
 pub use table::Table;
-
-#[cfg(test)]
-mod tests;

@@ -21,6 +21,3 @@ pub use laws::{
     macro_use, one_outcome, plain_file, some_outcome, taken_branch, taken_text, untaken_piece,
 };
 pub use reading::lex;
-
-#[cfg(test)]
-mod tests;

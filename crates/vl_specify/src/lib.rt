@@ -21,6 +21,3 @@ mod terms;
 pub use blocks::block;
 pub use faults::{SpecifyKind, kind_at};
 pub use reading::{SpecifyRead, read_specify};
-
-#[cfg(test)]
-mod tests;

@@ -10,6 +10,3 @@ pub use bases::Base;
 pub use constants::{Constant, number_of, unsized_bits};
 pub use symbols::{Symbol, symbol_of};
 pub use tokens::{Mark, Token, TokenKind};
-
-#[cfg(test)]
-mod tests;

@@ -17,6 +17,3 @@ mod writer;
 pub use laws::{calls_of_a_run_are_its_dump, nested_texts};
 pub use report::{Spent, report_of};
 pub use writer::VcdWriter;
-
-#[cfg(test)]
-mod tests;
