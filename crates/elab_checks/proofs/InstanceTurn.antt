@@ -24,14 +24,14 @@ use Rattle.elab_checks.specs.Standing.{AreGiven, IsStanding, checks_at}
 use Rattle.elab_checks.specs.Uses.{AreUses}
 use Rattle.elab_checks.specs.declared.modules.ReadyChecks.{ReadyChecks}
 use Rattle.elab_checks.specs.declared.shelving.ReadyCheck.{ReadyCheck}
-use Rattle.elab_checks.specs.declared.uses.CircuitChecks.{CircuitChecks}
+use Rattle.elab_checks.specs.declared.uses.CheckTables.{CheckTables}
 use Rattle.elab_checks.proofs.InstanceChecks.{stands, uses-are, uses-count}
 use Rattle.elab_checks.proofs.OneByOne.{uses_in, uses-next, uses-all, uses-refused}
 
 module _ (source : Source) (top : Module) (corner : Corner) (library : Library) (modules : ReadyChecks) (conditions : List Condition) (placed : List Placed) (rows : Rows) (i : ℕ) (p : Placed) (s : Instance)
     (h : IsStanding source top corner library modules conditions placed rows i p s) (q : Prepared) (prepared : IsPrepared q s.step.definition) (list : List ReadyCheck)
     (found : checks_at modules p.definition ≡ Some list) where
-  pub instance-uses : (row : List ℕ) (old new : CircuitChecks) (us : List def.CheckUse) → IsHere (nets source top) source s i q.table row
+  pub instance-uses : (row : List ℕ) (old new : CheckTables) (us : List def.CheckUse) → IsHere (nets source top) source s i q.table row
       → ((all : List OwnNet) (source : Source) (s : Instance) (us : List def.CheckUse) → IsHere all source s i q.table row → AreUses conditions old us
       → AreUses conditions new (us ++ uses_in all source s i conditions q.table list))
       → AreUses conditions old us → AreUses conditions new (us ++ def.check_uses_of (nets source top) source corner (tick_of source top) s)
@@ -39,7 +39,7 @@ module _ (source : Source) (top : Module) (corner : Corner) (library : Library) 
       subst (λ xs. AreUses conditions new (us ++ xs)) (uses-are source top corner library modules conditions placed rows i p s h (nets source top) q list i prepared found here.number)
       (f (nets source top) source s us here u)
 
-  pub instance-refused : (old : CircuitChecks) (r : Refused ElabKind) → ((total : ℕ) → length old.checks.items + length list ≤ total → RefusesCount total r)
+  pub instance-refused : (old : CheckTables) (r : Refused ElabKind) → ((total : ℕ) → length old.checks.items + length list ≤ total → RefusesCount total r)
       → (total : ℕ) → length old.checks.items + length (def.check_uses_of (nets source top) source corner (tick_of source top) s) ≤ total → RefusesCount total r
   instance-refused old r f total le =
       f total (subst (λ n. length old.checks.items + n ≤ total) (sym (uses-count source top corner library modules conditions placed rows i p s h (nets source top) q list prepared found)) le)
@@ -48,7 +48,7 @@ module _ (source : Source) (top : Module) (corner : Corner) (library : Library) 
 
 module _ (source : Source) (top : Module) (corner : Corner) (library : Library) (modules : ReadyChecks) (conditions : List Condition) (placed : List Placed) (rows : Rows)
     (h : AreGiven source top corner library modules conditions placed rows) where
-  pub next-uses : (i : ℕ) (p : Placed) (old new : CircuitChecks) → i < length placed → p ≡ slice_index_or placed i p
+  pub next-uses : (i : ℕ) (p : Placed) (old new : CheckTables) → i < length placed → p ≡ slice_index_or placed i p
       → ((s : Instance) (us : List def.CheckUse) → IsStanding source top corner library modules conditions placed rows i p s → AreUses conditions old us
       → AreUses conditions new (us ++ def.check_uses_of (nets source top) source corner (tick_of source top) s))
       → AreUses conditions old (flat_map (def.check_uses_of (nets source top) source corner (tick_of source top)) (take i (instances source top)))
@@ -58,7 +58,7 @@ module _ (source : Source) (top : Module) (corner : Corner) (library : Library) 
       let F = def.check_uses_of (nets source top) source corner (tick_of source top) in
       uses-next F (instances source top) conditions i k.0 new k.1.there (f k.0 (flat_map F (take i (instances source top))) k.1 u)
 
-  pub next-refused : (i : ℕ) (p : Placed) (old : CircuitChecks) (r : Refused ElabKind) → i < length placed → p ≡ slice_index_or placed i p
+  pub next-refused : (i : ℕ) (p : Placed) (old : CheckTables) (r : Refused ElabKind) → i < length placed → p ≡ slice_index_or placed i p
       → ((s : Instance) → IsStanding source top corner library modules conditions placed rows i p s
       → (total : ℕ) → length old.checks.items + length (def.check_uses_of (nets source top) source corner (tick_of source top) s) ≤ total → RefusesCount total r)
       → AreUses conditions old (flat_map (def.check_uses_of (nets source top) source corner (tick_of source top)) (take i (instances source top)))
@@ -67,7 +67,7 @@ module _ (source : Source) (top : Module) (corner : Corner) (library : Library) 
       let k = stands source top corner library modules conditions placed rows i p lt is h in
       uses-refused (def.check_uses_of (nets source top) source corner (tick_of source top)) (instances source top) conditions i k.0 old r k.1.there u (f k.0 k.1)
 
-  pub all-uses : (i : ℕ) (made : CircuitChecks) → length placed ≤ i
+  pub all-uses : (i : ℕ) (made : CheckTables) → length placed ≤ i
       → AreUses conditions made (flat_map (def.check_uses_of (nets source top) source corner (tick_of source top)) (take i (instances source top)))
       → AreUses conditions made (def.check_uses source top corner)
   all-uses i made le u =

@@ -25,14 +25,14 @@ use Rattle.elab_paths.proofs.UsesSoFar.{row-is}
 use Rattle.elab_checks.specs.Ready.{check_ready}
 use Rattle.elab_checks.specs.Uses.{AddsCheck, AreUses}
 use Rattle.elab_checks.specs.declared.shelving.ReadyCheck.{ReadyCheck}
-use Rattle.elab_checks.specs.declared.uses.CircuitChecks.{CircuitChecks}
+use Rattle.elab_checks.specs.declared.uses.CheckTables.{CheckTables}
 
 mapped-last : {A B : Type 0} (f : A → B) (us : List A) (u : A) (old new : List B) (x : B) → new ≡ old ++ x ∷ [] → old ≡ map f us → x ≡ f u → new ≡ map f (us ++ u ∷ [])
 mapped-last f us u old new x e h k = e ∙ ap (λ xs. xs ++ x ∷ []) h ∙ ap (λ y. map f us ++ y ∷ []) k ∙ sym (map-append f us (u ∷ []))
 
 -- ---- one more
 
-one-more : (conditions : List Condition) (vs : List Variable) (row : List ℕ) (net : NetBit → ℕ) (scope : ℕ) (c : ReadyCheck) (old new : CircuitChecks) (us : List def.CheckUse) → IsRow vs row net
+one-more : (conditions : List Condition) (vs : List Variable) (row : List ℕ) (net : NetBit → ℕ) (scope : ℕ) (c : ReadyCheck) (old new : CheckTables) (us : List def.CheckUse) → IsRow vs row net
     → AreUses conditions old us → AddsCheck conditions vs row scope c old new → AreUses conditions new (us ++ def.check_use scope net (check_ready conditions vs c) ∷ [])
 one-more conditions vs row net scope c old new us r h k =
     let u = def.check_use scope net (check_ready conditions vs c) in
@@ -49,15 +49,15 @@ one-more conditions vs row net scope c old new us r h k =
 abbrev pub uses_in : List OwnNet → Source → Instance → ℕ → List Condition → List Variable → List ReadyCheck → List def.CheckUse
 uses_in all source s scope conditions vs cs = map (λ c. def.check_use scope (bit_number all source s) (check_ready conditions vs c)) cs
 
-pub record AreAdded (conditions : List Condition) (vs : List Variable) (row : List ℕ) (scope : ℕ) (cs : List ReadyCheck) (old new : CircuitChecks) : Type 0 where
+pub record AreAdded (conditions : List Condition) (vs : List Variable) (row : List ℕ) (scope : ℕ) (cs : List ReadyCheck) (old new : CheckTables) : Type 0 where
   pub made : (all : List OwnNet) (source : Source) (s : Instance) (us : List def.CheckUse) → IsHere all source s scope vs row → AreUses conditions old us
       → AreUses conditions new (us ++ uses_in all source s scope conditions vs cs)
   pub count : length new.checks.items ≡ length old.checks.items + length cs
 
-pub added-none : (conditions : List Condition) (vs : List Variable) (row : List ℕ) (scope : ℕ) (old : CircuitChecks) → AreAdded conditions vs row scope [] old old
+pub added-none : (conditions : List Condition) (vs : List Variable) (row : List ℕ) (scope : ℕ) (old : CheckTables) → AreAdded conditions vs row scope [] old old
 added-none conditions vs row scope old = record { made = λ all source s us here h. subst (AreUses conditions old) (sym (append-nil us)) h; count = omega arith }
 
-pub added-more : (conditions : List Condition) (vs : List Variable) (row : List ℕ) (scope : ℕ) (cs : List ReadyCheck) (i : ℕ) (d : ReadyCheck) (start old new : CircuitChecks) → i < length cs
+pub added-more : (conditions : List Condition) (vs : List Variable) (row : List ℕ) (scope : ℕ) (cs : List ReadyCheck) (i : ℕ) (d : ReadyCheck) (start old new : CheckTables) → i < length cs
     → AreAdded conditions vs row scope (take i cs) start old → AddsCheck conditions vs row scope (slice_index_or cs i d) old new → AreAdded conditions vs row scope (take (i + 1) cs) start new
 added-more conditions vs row scope cs i d start old new lt h k = subst (λ xs. AreAdded conditions vs row scope xs start new) (sym (take_more cs i d lt)) more
   where
@@ -78,7 +78,7 @@ added-more conditions vs row scope cs i d start old new lt h k = subst (λ xs. A
       count = (let a = ap length k.checks_are ∙ length-append old.checks.items (k.check ∷ []) in let b = h.count in let e = length-append front (c ∷ []) in omega (arith, a, b, e));
     }
 
-pub added-all : (conditions : List Condition) (vs : List Variable) (row : List ℕ) (scope : ℕ) (cs : List ReadyCheck) (i : ℕ) (old new : CircuitChecks) → length cs ≤ i → AreAdded conditions vs row scope (take i cs) old new
+pub added-all : (conditions : List Condition) (vs : List Variable) (row : List ℕ) (scope : ℕ) (cs : List ReadyCheck) (i : ℕ) (old new : CheckTables) → length cs ≤ i → AreAdded conditions vs row scope (take i cs) old new
     → AreAdded conditions vs row scope cs old new
 added-all conditions vs row scope cs i old new le h = subst (λ xs. AreAdded conditions vs row scope xs old new) (take_all i cs le) h
 
@@ -92,7 +92,7 @@ counted : (n total : ℕ) (r : Refused ElabKind) → n ≤ total → ((more : �
 counted n total r le h = let e : n + (total - n) ≡ total = omega (arith, le) in subst (λ k. RefusesCount k r) e (h (total - n))
 
 -- what one refuses, all refuse
-pub added-refused : (conditions : List Condition) (vs : List Variable) (row : List ℕ) (scope : ℕ) (cs : List ReadyCheck) (i : ℕ) (start old : CircuitChecks) (r : Refused ElabKind) → i < length cs
+pub added-refused : (conditions : List Condition) (vs : List Variable) (row : List ℕ) (scope : ℕ) (cs : List ReadyCheck) (i : ℕ) (start old : CheckTables) (r : Refused ElabKind) → i < length cs
     → AreAdded conditions vs row scope (take i cs) start old → ((more : ℕ) → RefusesCount (length old.checks.items + 1 + more) r)
     → (total : ℕ) → length start.checks.items + length cs ≤ total → RefusesCount total r
 added-refused conditions vs row scope cs i start old r lt h k total le =
@@ -103,14 +103,14 @@ added-refused conditions vs row scope cs i start old r lt h k total le =
 -- ---- the instances
 
 module _ (f : Instance → List def.CheckUse) (ss : List Instance) where
-  pub uses-next : (conditions : List Condition) (i : ℕ) (s : Instance) (new : CircuitChecks) → slice_get ss i ≡ Some s → AreUses conditions new (flat_map f (take i ss) ++ f s)
+  pub uses-next : (conditions : List Condition) (i : ℕ) (s : Instance) (new : CheckTables) → slice_get ss i ≡ Some s → AreUses conditions new (flat_map f (take i ss) ++ f s)
       → AreUses conditions new (flat_map f (take (i + 1) ss))
   uses-next conditions i s new at h = subst (AreUses conditions new) (sym (flat-more f ss i s at)) h
 
-  pub uses-all : (conditions : List Condition) (i : ℕ) (new : CircuitChecks) → length ss ≤ i → AreUses conditions new (flat_map f (take i ss)) → AreUses conditions new (flat_map f ss)
+  pub uses-all : (conditions : List Condition) (i : ℕ) (new : CheckTables) → length ss ≤ i → AreUses conditions new (flat_map f (take i ss)) → AreUses conditions new (flat_map f ss)
   uses-all conditions i new le h = subst (λ xs. AreUses conditions new (flat_map f xs)) (take_all i ss le) h
 
-  pub uses-refused : (conditions : List Condition) (i : ℕ) (s : Instance) (old : CircuitChecks) (r : Refused ElabKind) → slice_get ss i ≡ Some s → AreUses conditions old (flat_map f (take i ss))
+  pub uses-refused : (conditions : List Condition) (i : ℕ) (s : Instance) (old : CheckTables) (r : Refused ElabKind) → slice_get ss i ≡ Some s → AreUses conditions old (flat_map f (take i ss))
       → ((total : ℕ) → length old.checks.items + length (f s) ≤ total → RefusesCount total r) → RefusesOneOf (over (length (flat_map f ss))) r
   uses-refused conditions i s old r at h k =
       let front = flat_map f (take i ss) in

@@ -19,10 +19,10 @@ use Rattle.elab_paths.specs.Uses.{IsRow, IsSound}
 use Rattle.elab_checks.specs.Ready.{check_ready, enabling_at, IsReadyCheck}
 use Rattle.elab_checks.specs.declared.shelving.ReadyCheck.{ReadyCheck}
 use Rattle.elab_checks.specs.declared.shelving.ReadyEvent.{ReadyEvent}
-use Rattle.elab_checks.specs.declared.uses.CircuitChecks.{CircuitChecks}
+use Rattle.elab_checks.specs.declared.uses.CheckTables.{CheckTables}
 
 -- the checks are these uses, and what their conditions name stands in the table
-pub record AreUses (conditions : List Condition) (made : CircuitChecks) (us : List CheckUse) : Type 0 where
+pub record AreUses (conditions : List Condition) (made : CheckTables) (us : List CheckUse) : Type 0 where
   pub checks : made.checks.items ≡ map check_of_use us
   pub timings : made.timings.items ≡ map timing_of_use us
   pub spelled : map (written_seen conditions) made.conditions.items ≡ map written_of_use us
@@ -59,7 +59,7 @@ second_ticks None = pos 0
 second_ticks (Some n) = pos n
 
 -- one check more of an instance
-pub record AddsCheck (conditions : List Condition) (vs : List Variable) (row : List ℕ) (scope : ℕ) (c : ReadyCheck) (old new : CircuitChecks) : Type 0 where
+pub record AddsCheck (conditions : List Condition) (vs : List Variable) (row : List ℕ) (scope : ℕ) (c : ReadyCheck) (old new : CheckTables) : Type 0 where
   pub check : Check
   pub timing : CheckTiming
   pub spelled : CheckConditions

@@ -7,4 +7,4 @@ mod uses;
 
 pub use modules::{ReadyChecks, ready_checks};
 pub use shelving::{ReadyCheck, ReadyEvent};
-pub use uses::{CircuitChecks, circuit_checks};
+pub use uses::{CheckTables, circuit_checks};

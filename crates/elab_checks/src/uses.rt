@@ -37,7 +37,7 @@ use std::alloc::Global;
 
 /// The timing checks of a circuit, by instance and then in text order (IEEE 1364-2005, clause 15): how a report names each, what it looks for, and how its conditions are spelled.
 #[derive(Drop)]
-pub struct CircuitChecks {
+pub struct CheckTables {
     pub checks: Vec<Check>,
     pub timings: Vec<CheckTiming>,
     pub conditions: Vec<CheckConditions>,
@@ -228,7 +228,7 @@ fn add_check(
     here: Here,
     conditions: &[Expr],
     check: &ReadyCheck,
-    made: &mut CircuitChecks,
+    made: &mut CheckTables,
 ) -> Result<(), Refused<ElabKind>>
     requires row { (net : NetBit → ℕ) × IsRow here.table.now here.row.now net }
     requires usable { IsUsableCheck here.table.now conditions.now check.now }
@@ -254,7 +254,7 @@ fn add_checks(
     here: Here,
     conditions: &[Expr],
     checks: &[ReadyCheck],
-    made: &mut CircuitChecks,
+    made: &mut CheckTables,
 ) -> Result<(), Refused<ElabKind>>
     requires row { (net : NetBit → ℕ) × IsRow here.table.now here.row.now net }
     requires usable { All (IsUsableCheck here.table.now conditions.now) checks.now }
@@ -290,7 +290,7 @@ fn add_instance(
     rows: &Rows,
     number: usize,
     placed: &Placed,
-    made: &mut CircuitChecks,
+    made: &mut CheckTables,
 ) -> Result<(), Refused<ElabKind>>
     requires at { (source : Source) × ((top : Module) × ((corner : ghost_corner.Corner) × ((list : List ghost_placed.Placed) × ((s : Instance)
         × IsStanding source top corner library.now modules.now conditions.now list rows.now number placed.now s)))) }
@@ -322,7 +322,7 @@ pub fn circuit_checks(
     conditions: &[Expr],
     instances: &[Placed],
     rows: &Rows,
-) -> Result<CircuitChecks, Refused<ElabKind>>
+) -> Result<CheckTables, Refused<ElabKind>>
     requires given { (source : Source) × ((top : Module) × ((corner : ghost_corner.Corner) × AreGiven source top corner library.now modules.now conditions.now instances.now rows.now)) }
     ensures uses { IfOk result (λ made. (source : Source) (top : Module) (corner : ghost_corner.Corner) → AreGiven source top corner library.now modules.now conditions.now instances.now rows.now
         → AreUses conditions.now made (def.check_uses source top corner)) }
@@ -330,7 +330,7 @@ pub fn circuit_checks(
     ensures refused { IfErr result (λ r. (source : Source) (top : Module) (corner : ghost_corner.Corner) → AreGiven source top corner library.now modules.now conditions.now instances.now rows.now
         → RefusesOneOf (over (length (def.check_uses source top corner))) r) }
 {
-    let mut made = CircuitChecks {
+    let mut made = CheckTables {
         checks: Vec::new(alloc),
         timings: Vec::new(alloc),
         conditions: Vec::new(alloc),

@@ -26,7 +26,7 @@ self_instances source s = flat_map (λ c. fault_if (is_above s c.definition) Sel
 abbrev pub too_deep : Source → Instance → List Fault
 too_deep source s = if s.step.levels == 0 then map (λ c. fault TooDeep c.place) (children_in source s.step.definition) else []
 
--- the most instances, nets, elements and specify paths
+-- the most instances, nets, elements, specify paths and timing checks
 abbrev pub count_limit : ℕ
 count_limit = 2 ^ 22
 

@@ -1,4 +1,4 @@
-//! What elaboration is: from the syntax tree of a netlist to its circuit, as definitions, and why a netlist is refused.
+//! What elaboration is: from the syntax tree of a netlist to its nets and elements, as definitions, and why a netlist is refused.
 #![tactic(auto)]
 
 mod kinds;

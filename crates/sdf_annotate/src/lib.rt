@@ -1,4 +1,4 @@
-//! What annotation of a circuit from an SDF file tells: for now the type of an entry that nothing matched.
+//! What annotation of a circuit from an SDF file tells: the type of an entry that nothing matched.
 #![tactic(auto)]
 
 mod unmatched;

@@ -11,7 +11,7 @@ pub enum Driver {
     Stimulus,
     /// The element of this number.
     Element(u32),
-    /// The timing checks that name it as their notifier.
+    /// The timing checks that name it as their notifier, if any do: it is a reg.
     Notifier,
 }
 

@@ -21,7 +21,7 @@ use Rattle.specify_model.specs.PulseLimits.{ends_text, named_ends, limit_ticks}
 use Rattle.specify_model.specs.Terms.{expression_of, terms_bits}
 use Rattle.specify_model.specs.Values.{Measure, Values, value_of, corner_amount, amount_ticks, expanded}
 
--- ---- a block in a module that has an instance of a module: of a kind that the kinds of elaboration haven't yet
+-- ---- a block in a module that has an instance of a module
 
 abbrev pub blocks_in_hierarchy : Source → Module → List Place
 blocks_in_hierarchy source m = if is_empty (children_in source m) then [] else map (λ b. b.place) (blocks m)

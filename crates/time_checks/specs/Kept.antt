@@ -1,4 +1,4 @@
--- What is kept of a check's events, their latest times, and what is found from these alone. Words of the functions of the code.
+-- What is kept of a check's events, their latest times, and what is found from these alone.
 use Rattle.std.specs.Prelude.{◌≡◌, ℕ, ℤ, ◌-◌, nat_lt, nat_le, Bool, false, ◌&&◌, if◌then◌else◌, List, Option, Some, None}
 use Rattle.std.specs.Option.{option_map}
 use Rattle.sg_logic.specs.declared.values.Value.{Value}

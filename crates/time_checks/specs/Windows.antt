@@ -78,8 +78,8 @@ abbrev pub size : ℤ → ℕ
 size (pos n) = n
 size (negsuc n) = 0
 
--- the events by which a part is violated: removal is the setup, and recovery the hold, of a control before a clock and after
--- it (15.2.4, 15.2.5)
+-- the events by which a part is violated: removal has the window of setup, for a control that comes after a clock, and recovery
+-- that of hold, for one that comes before it (15.2.4, 15.2.5)
 abbrev pub violated : Part → ℤ → ℕ → Moment → Option Pair
 violated Setup limit threshold now = setup (size limit) now
 violated Hold limit threshold now = hold (size limit) now

@@ -36,7 +36,7 @@ use Rattle.elab_checks.specs.Ready.{HaveChecks}
 use Rattle.elab_checks.specs.Standing as standing
 use Rattle.elab_checks.specs.Uses.{AreUses}
 use Rattle.elab_checks.specs.declared.modules.ReadyChecks.{ReadyChecks}
-use Rattle.elab_checks.specs.declared.uses.CircuitChecks.{CircuitChecks}
+use Rattle.elab_checks.specs.declared.uses.CheckTables.{CheckTables}
 use Rattle.vl_elab.specs.Made.{AreBelow, AreMade, AreDrivers, HaveNets, IsWhole, none_of_twelve}
 use Rattle.vl_elab.proofs.Faultless.{faultless-below}
 
@@ -93,7 +93,7 @@ few-uses : (n m : ℕ) → n ≡ m → n ≤ 2 ^ 22 → m ≤ count_limit
 few-uses n m e le = omega (arith, e, le)
 
 -- no fault stands at the end
-pub whole-of : (source : Source) (top : Module) (corner : Corner) (tick : unit.Unit) (placed : List Placed) (ready : Library) (modules : ModulePaths) (numbers : Rows) (conditions : List Condition) (joined : Joined) (made : Placing) (drivers : List Driver) (checks : CircuitChecks) (scopes : List Scope)
+pub whole-of : (source : Source) (top : Module) (corner : Corner) (tick : unit.Unit) (placed : List Placed) (ready : Library) (modules : ModulePaths) (numbers : Rows) (conditions : List Condition) (joined : Joined) (made : Placing) (drivers : List Driver) (checks : CheckTables) (scopes : List Scope)
     → AreBelow source top tick placed → IsLibrary source corner top ready → HaveRows source top numbers → path_faults source top corner ≡ [] → AreJoined source top corner ready modules numbers joined made
     → ListGrows modules.conditions.items conditions → check_faults source top corner ≡ [] → AreUses conditions checks (check_uses source top corner) → length checks.checks.items ≤ 2 ^ 22
     → AreDrivers source top corner drivers → map (λ s. scope_seen s) scopes ≡ map (scope_of (nets source top) source) (instances source top)

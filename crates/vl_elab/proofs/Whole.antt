@@ -31,7 +31,7 @@ use Rattle.elab_rows.specs.declared.rows.Rows.{Rows}
 use Rattle.elab_elements.specs.declared.placing.Placing.{Placing}
 use Rattle.elab_paths.specs.Joining.{Tables, tables_of, kind_with, element_with, NamesTables}
 use Rattle.elab_paths.specs.declared.joining.Joined.{Joined}
-use Rattle.elab_checks.specs.declared.uses.CircuitChecks.{CircuitChecks}
+use Rattle.elab_checks.specs.declared.uses.CheckTables.{CheckTables}
 use Rattle.vl_elab.specs.Made.{IsWhole, driven_by}
 use Rattle.vl_elab.proofs.LongerTables.{with_more, elements-longer, named-longer}
 
@@ -55,7 +55,7 @@ tables_in parts = record {
 }
 
 -- the parts are what has been made
-pub record IsOf (tick : unit.Unit) (ready : Library) (numbers : Rows) (timings : List LegTiming) (conditions : List Condition) (joined : Joined) (made : Placing) (drivers : List Driver) (checks : CircuitChecks) (scopes : List Scope) (parts : Parts) : Type 0 where
+pub record IsOf (tick : unit.Unit) (ready : Library) (numbers : Rows) (timings : List LegTiming) (conditions : List Condition) (joined : Joined) (made : Placing) (drivers : List Driver) (checks : CheckTables) (scopes : List Scope) (parts : Parts) : Type 0 where
   pub tick_is : parts.tick ≡ tick
   pub nets_are : parts.nets.items ≡ driven_by (numbers.nets.items ++ joined.inner.items) drivers
   pub elements_are : parts.elements.items ≡ made.elements.items
@@ -94,7 +94,7 @@ indexed-all parts [] h = tt
 indexed-all parts (e ∷ es) h = (indexed parts e.kind h.0, indexed-all parts es h.1)
 
 -- the tables of the paths, with the conditions of checks behind
-tables-are : (source : Source) (top : Module) (corner : Corner) (tick : unit.Unit) (ready : Library) (numbers : Rows) (timings : List LegTiming) (conditions : List Condition) (joined : Joined) (made : Placing) (drivers : List Driver) (checks : CircuitChecks) (scopes : List Scope) (parts : Parts)
+tables-are : (source : Source) (top : Module) (corner : Corner) (tick : unit.Unit) (ready : Library) (numbers : Rows) (timings : List LegTiming) (conditions : List Condition) (joined : Joined) (made : Placing) (drivers : List Driver) (checks : CheckTables) (scopes : List Scope) (parts : Parts)
     → (w : IsWhole source top corner tick ready numbers timings conditions joined made drivers checks scopes) → IsOf tick ready numbers timings conditions joined made drivers checks scopes parts
     → tables_in parts ≡ with_more (tables_of ready w.modules joined) w.conditions_grow.0
 tables-are source top corner tick ready numbers timings conditions joined made drivers checks scopes parts w o =
@@ -106,7 +106,7 @@ tables-are source top corner tick ready numbers timings conditions joined made d
       paths = o.paths_are i;
     }
 
-pub whole-is : (source : Source) (top : Module) (corner : Corner) (tick : unit.Unit) (ready : Library) (numbers : Rows) (timings : List LegTiming) (conditions : List Condition) (joined : Joined) (made : Placing) (drivers : List Driver) (checks : CircuitChecks) (scopes : List Scope) (parts : Parts)
+pub whole-is : (source : Source) (top : Module) (corner : Corner) (tick : unit.Unit) (ready : Library) (numbers : Rows) (timings : List LegTiming) (conditions : List Condition) (joined : Joined) (made : Placing) (drivers : List Driver) (checks : CheckTables) (scopes : List Scope) (parts : Parts)
     → IsWhole source top corner tick ready numbers timings conditions joined made drivers checks scopes → IsOf tick ready numbers timings conditions joined made drivers checks scopes parts → circuit_seen parts ≡ circuit source top corner
 whole-is source top corner tick ready numbers timings conditions joined made table checks scopes parts w o =
     λ i. record {
@@ -144,12 +144,12 @@ whole-is source top corner tick ready numbers timings conditions joined made tab
     seen : map (λ s. scope_seen s) parts.scopes.items ≡ (circuit source top corner).scopes
     seen = ap (λ ss. map (λ s. scope_seen s) ss) o.scopes_are ∙ w.are_scopes
 
-pub whole-closed : (source : Source) (top : Module) (corner : Corner) (tick : unit.Unit) (ready : Library) (numbers : Rows) (timings : List LegTiming) (conditions : List Condition) (joined : Joined) (made : Placing) (drivers : List Driver) (checks : CircuitChecks) (scopes : List Scope) (parts : Parts)
+pub whole-closed : (source : Source) (top : Module) (corner : Corner) (tick : unit.Unit) (ready : Library) (numbers : Rows) (timings : List LegTiming) (conditions : List Condition) (joined : Joined) (made : Placing) (drivers : List Driver) (checks : CheckTables) (scopes : List Scope) (parts : Parts)
     → IsWhole source top corner tick ready numbers timings conditions joined made drivers checks scopes → IsOf tick ready numbers timings conditions joined made drivers checks scopes parts → IsClosed (circuit_seen parts)
 whole-closed source top corner tick ready numbers timings conditions joined made table checks scopes parts w o =
     subst IsClosed (sym (whole-is source top corner tick ready numbers timings conditions joined made table checks scopes parts w o)) (circuit-is_closed source top corner w.faultless)
 
-pub whole-indexed : (source : Source) (top : Module) (corner : Corner) (tick : unit.Unit) (ready : Library) (numbers : Rows) (timings : List LegTiming) (conditions : List Condition) (joined : Joined) (made : Placing) (drivers : List Driver) (checks : CircuitChecks) (scopes : List Scope) (parts : Parts)
+pub whole-indexed : (source : Source) (top : Module) (corner : Corner) (tick : unit.Unit) (ready : Library) (numbers : Rows) (timings : List LegTiming) (conditions : List Condition) (joined : Joined) (made : Placing) (drivers : List Driver) (checks : CheckTables) (scopes : List Scope) (parts : Parts)
     → IsWhole source top corner tick ready numbers timings conditions joined made drivers checks scopes → IsOf tick ready numbers timings conditions joined made drivers checks scopes parts → AreIndexed parts
 whole-indexed source top corner tick ready numbers timings conditions joined made table checks scopes parts w o = record {
   named = All-from_recursion (λ e. IsIndexed parts e.kind) parts.elements.items (indexed-all parts parts.elements.items
@@ -164,7 +164,7 @@ whole-indexed source top corner tick ready numbers timings conditions joined mad
 }
 
 -- as many drivers as nets
-pub drivers-fit : (source : Source) (top : Module) (corner : Corner) (tick : unit.Unit) (ready : Library) (numbers : Rows) (timings : List LegTiming) (conditions : List Condition) (joined : Joined) (made : Placing) (drivers : List Driver) (checks : CircuitChecks) (scopes : List Scope) (ns : List Net)
+pub drivers-fit : (source : Source) (top : Module) (corner : Corner) (tick : unit.Unit) (ready : Library) (numbers : Rows) (timings : List LegTiming) (conditions : List Condition) (joined : Joined) (made : Placing) (drivers : List Driver) (checks : CheckTables) (scopes : List Scope) (ns : List Net)
     → IsWhole source top corner tick ready numbers timings conditions joined made drivers checks scopes → ns ≡ numbers.nets.items ++ joined.inner.items → length drivers ≡ length ns
 drivers-fit source top corner tick ready numbers timings conditions joined made table checks scopes ns w e =
     let count = length (all_nets source top corner) in

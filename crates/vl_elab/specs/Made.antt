@@ -32,7 +32,7 @@ use Rattle.elab_paths.specs.Shelving.{ListGrows}
 use Rattle.elab_paths.specs.declared.joining.Joined.{Joined}
 use Rattle.elab_paths.specs.declared.modules.ModulePaths.{ModulePaths}
 use Rattle.elab_checks.specs.Uses.{AreUses}
-use Rattle.elab_checks.specs.declared.uses.CircuitChecks.{CircuitChecks}
+use Rattle.elab_checks.specs.declared.uses.CheckTables.{CheckTables}
 
 -- the instances of a top, whose hierarchy has no fault, and its tick
 pub record AreBelow (source : Source) (top : Module) (tick : unit.Unit) (placed : List Placed) : Type 0 where
@@ -66,7 +66,7 @@ pub record HaveNets (source : Source) (top : Module) (corner : Corner) (tick : u
   pub have_rows : HaveRows source top numbers
 
 -- all that a circuit is made of, where no fault stands; the conditions of timing checks come behind those of paths
-pub record IsWhole (source : Source) (top : Module) (corner : Corner) (tick : unit.Unit) (ready : Library) (numbers : Rows) (timings : List LegTiming) (conditions : List Condition) (joined : Joined) (made : Placing) (drivers : List Driver) (checks : CircuitChecks) (scopes : List Scope) : Type 0 where
+pub record IsWhole (source : Source) (top : Module) (corner : Corner) (tick : unit.Unit) (ready : Library) (numbers : Rows) (timings : List LegTiming) (conditions : List Condition) (joined : Joined) (made : Placing) (drivers : List Driver) (checks : CheckTables) (scopes : List Scope) : Type 0 where
   pub tick_is : tick.power ≡ tick_of source top
   pub is_ready : IsLibrary source corner top ready
   pub have_rows : HaveRows source top numbers

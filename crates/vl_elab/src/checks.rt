@@ -9,7 +9,7 @@ ghost use Rattle.elab_checks.specs.Uses.{AreUses};
 ghost use Rattle.vl_elab.specs.Made.{HaveNets};
 
 use cond_expr::Expr;
-use elab_checks::{CircuitChecks, circuit_checks, ready_checks};
+use elab_checks::{CheckTables, circuit_checks, ready_checks};
 use elab_hierarchy::{Definitions, Placed};
 use elab_model::ElabKind;
 use elab_modules::Library;
@@ -30,7 +30,7 @@ pub fn checks_below(
     instances: &[Placed],
     rows: &Rows,
     conditions: &mut Vec<Expr>,
-) -> Result<CircuitChecks, Refused<ElabKind>>
+) -> Result<CheckTables, Refused<ElabKind>>
     requires nets { (m : Module) × HaveNets definitions.now m corner tick instances.now library.now rows.now }
     requires spelled { AreRead conditions.old.items }
     ensures kept { OnOk result (ListGrows conditions.old.items conditions.new.items) }

@@ -13,7 +13,7 @@ ghost use Rattle.vl_elab.specs.Made.{AreBelow, IsWhole, none_of_twelve};
 use crate::checks::checks_below;
 use crate::driving::{drive, drivers_in};
 use cond_expr::Expr;
-use elab_checks::CircuitChecks;
+use elab_checks::CheckTables;
 use elab_elements::{Placing, elements_in};
 use elab_hierarchy::{Definitions, Placed, place_instances, tick, top};
 use elab_model::ElabKind;
@@ -131,7 +131,7 @@ fn close(
     conditions: Vec<Expr>,
     joined: Joined,
     drivers: &[Driver],
-    checks: CircuitChecks,
+    checks: CheckTables,
     scopes: Vec<Scope>,
 ) -> Result<Circuit, NoMemory>
     requires { (source : GhostSource) × ((m : Module) × ((corner : ghost_corner.Corner) × IsWhole source m corner tick library rows timings.items conditions.items joined made drivers.now checks scopes.items)) }

@@ -10,7 +10,7 @@ use Rattle.vl_tree.specs.Specify.{block}
 use Rattle.vl_specify.specs.declared.faults.SpecifyKind.{SpecifyKind}
 use Rattle.vl_specify.specs.declared.faults.SpecifyKind.TheVariants.{Syntax, ShowCancelled, UnsupportedCheck, BadDelayCount}
 
--- timing checks that are left out (IEEE 1364-2005, 15.2.4, 15.2.5 and 15.2.6)
+-- timing checks that are left out (IEEE 1364-2005, 15.3.2, 15.3.3 and 15.3.6)
 unfoldable pub left_out : List (List ℕ)
 left_out = codes "$timeskew" ∷ codes "$fullskew" ∷ codes "$nochange" ∷ []
 
