@@ -1,19 +1,5 @@
-//! Worked examples of the values, times, delays, primitives and pending transitions, on the public functions.
+//! What no clause says of the base crates: the texts of their errors.
 #![tactic(auto)]
 
 #[cfg(test)]
-mod decimals;
-#[cfg(test)]
-mod delays;
-#[cfg(test)]
-mod pending;
-#[cfg(test)]
-mod primitives;
-#[cfg(test)]
-mod steps;
-#[cfg(test)]
-mod tables;
-#[cfg(test)]
-mod values;
-#[cfg(test)]
-mod wheels;
+mod texts;

@@ -10,7 +10,7 @@ use Rattle.sg_circuit.specs.Closed.{width_of}
 use Rattle.sg_circuit.specs.declared.scopes.Port.TheVariants as port
 use Rattle.elab_model.specs.Names.{Variable}
 use Rattle.elab_laws.specs.Handing.{variable_bits, all_bits}
-use Rattle.elab_tables.specs.Seen.{variable_at}
+use Rattle.elab_variables.specs.Seen.{variable_at}
 
 -- what stands past the end
 abbrev pub blank : Variable

@@ -12,7 +12,7 @@ use Rattle.elab_model.specs.Names.{Variable}
 use Rattle.elab_laws.proofs.Lists.{all-range}
 use Rattle.elab_laws.proofs.Places.{between-below}
 use Rattle.elab_laws.specs.Handing.{all_bits}
-use Rattle.elab_tables.specs.Seen.{variable_at, place_named}
+use Rattle.elab_variables.specs.Seen.{variable_at, place_named}
 use Rattle.elab_bits.specs.declared.bits.Bit as code_bit
 use Rattle.elab_bits.specs.Seen.{view_bit, bit_at}
 use Rattle.elab_bits.specs.Words.{ends, net_from}

@@ -10,7 +10,7 @@ use Rattle.elab_model.specs.Faults.{Fault, fault, fault_if, RefusesOneOf}
 use Rattle.elab_model.specs.Leaves.{leaf_of, part, whole}
 use Rattle.elab_model.specs.Names.{Variable}
 use Rattle.elab_model.specs.TerminalFaults.{is_missing, has_index, part_faults, leaf_faults}
-use Rattle.elab_tables.specs.Seen.{variable_at, place_named}
+use Rattle.elab_variables.specs.Seen.{variable_at, place_named}
 use Rattle.elab_bits.specs.Words.{ends}
 use Rattle.elab_bits.proofs.NamedAt.{named-at, not-named}
 use Rattle.elab_bits.proofs.Selects.{out-of-range, in-range}

@@ -8,7 +8,7 @@ ghost use Rattle.elab_bits.specs.Seen.{view_bit, IsInRow};
 use crate::adding::{add_all, add_constant, add_part};
 use crate::positions::ends;
 use crate::spans::span_of;
-use elab_tables::Table;
+use elab_variables::Table;
 use sg_logic::Value;
 use sg_text::{NoMemory, Place};
 use vl_tree::{Expression, Name, Select};

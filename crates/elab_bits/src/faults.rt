@@ -7,7 +7,7 @@ ghost use Rattle.elab_model.specs.TerminalFaults.{expression_faults, leaf_faults
 
 use crate::positions::ends;
 use elab_model::ElabKind;
-use elab_tables::Table;
+use elab_variables::Table;
 use sg_text::Refused;
 use vl_tree::{Expression, Name, Select};
 

@@ -2,9 +2,9 @@
 ghost use Rattle.std.specs.Prelude.{◌≡◌, ◌+◌, ◌^◌, ◌<◌, length, take};
 ghost use Rattle.sg_circuit.specs.Closed.{width_of};
 ghost use Rattle.elab_laws.specs.Handing.{all_bits};
-ghost use Rattle.elab_tables.specs.Seen.{variable_at};
+ghost use Rattle.elab_variables.specs.Seen.{variable_at};
 
-use elab_tables::Table;
+use elab_variables::Table;
 
 /// The places of a variable's bits, in a row that a usize counts.
 #[derive(Clone, Copy)]

@@ -17,7 +17,7 @@ use Rattle.elab_model.specs.Hierarchy.{Instance, instances}
 use Rattle.elab_model.specs.HierarchyFaults.{two_definitions}
 use Rattle.elab_model.specs.Names.{variables}
 use Rattle.specify_model.specs.CheckFaults.{timing_check_faults}
-use Rattle.elab_circuit.specs.Faults.{check_faults}
+use Rattle.circuit_model.specs.Faults.{check_faults}
 use Rattle.elab_laws.proofs.Lists.{In}
 use Rattle.elab_laws.proofs.NoFaults.{all-from}
 use Rattle.elab_hierarchy.specs.declared.instances.Placed.{Placed}

@@ -10,8 +10,8 @@ use Rattle.elab_model.specs.Hierarchy.{Instance, instances}
 use Rattle.elab_model.specs.Names.{variables}
 use Rattle.elab_model.specs.Nets.{OwnNet, nets}
 use Rattle.specify_model.specs.CheckFaults.{timing_check_faults}
-use Rattle.elab_circuit.specs.CheckUses as def
-use Rattle.elab_circuit.specs.PathUses.{bit_number}
+use Rattle.circuit_model.specs.CheckUses as def
+use Rattle.circuit_model.specs.PathUses.{bit_number}
 use Rattle.elab_laws.specs.Handing.{all_bits, number_at}
 use Rattle.elab_laws.proofs.Lists.{In, all-in}
 use Rattle.elab_laws.proofs.NoFaults.{flat-empty}
@@ -21,8 +21,8 @@ use Rattle.elab_modules.specs.declared.library.Library.{Library}
 use Rattle.elab_modules.specs.declared.library.Ready as code_ready
 use Rattle.elab_modules.specs.declared.library.Ready.TheVariants as ready
 use Rattle.elab_modules.specs.declared.prepared.Prepared.{Prepared}
-use Rattle.elab_rows.specs.Rows.{part_of, HasRow}
-use Rattle.elab_rows.specs.declared.rows.Rows.{Rows}
+use Rattle.elab_nets.specs.Rows.{part_of, HasRow}
+use Rattle.elab_nets.specs.declared.rows.Rows.{Rows}
 use Rattle.elab_elements.specs.Adding.{IsHere}
 use Rattle.elab_elements.proofs.StandingAt.{at-place, at-split, instance-number, instance-ready}
 use Rattle.elab_paths.proofs.InstanceUses.{placed-own}

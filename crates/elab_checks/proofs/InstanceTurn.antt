@@ -10,14 +10,14 @@ use Rattle.elab_model.specs.Delays.{tick_of}
 use Rattle.elab_model.specs.Faults.{RefusesOneOf}
 use Rattle.elab_model.specs.Hierarchy.{Instance, instances}
 use Rattle.elab_model.specs.Nets.{OwnNet, nets}
-use Rattle.elab_circuit.specs.CheckUses as def
-use Rattle.elab_circuit.specs.Faults.{over}
-use Rattle.elab_nets.specs.Refusals.{RefusesCount}
+use Rattle.circuit_model.specs.CheckUses as def
+use Rattle.circuit_model.specs.Faults.{over}
+use Rattle.elab_numbering.specs.Refusals.{RefusesCount}
 use Rattle.elab_hierarchy.specs.declared.instances.Placed.{Placed}
 use Rattle.elab_modules.specs.Ready.{IsPrepared}
 use Rattle.elab_modules.specs.declared.library.Library.{Library}
 use Rattle.elab_modules.specs.declared.prepared.Prepared.{Prepared}
-use Rattle.elab_rows.specs.declared.rows.Rows.{Rows}
+use Rattle.elab_nets.specs.declared.rows.Rows.{Rows}
 use Rattle.elab_elements.specs.Adding.{IsHere}
 use Rattle.elab_elements.proofs.StandingAt.{placed-count}
 use Rattle.elab_checks.specs.Standing.{AreGiven, IsStanding, checks_at}

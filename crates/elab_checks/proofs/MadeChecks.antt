@@ -19,7 +19,7 @@ use Rattle.elab_model.specs.Names.{Variable}
 use Rattle.elab_model.specs.TerminalFaults.{delay_limit}
 use Rattle.specify_model.specs.Conditions.{over}
 use Rattle.specify_model.specs.Terms.{NetBit}
-use Rattle.elab_circuit.specs.CheckUses.{EventUse, check_of_use, check_use, event_of_use, event_use, timing_of_use, two_limits, written_of, written_of_use}
+use Rattle.circuit_model.specs.CheckUses.{EventUse, check_of_use, check_use, event_of_use, event_use, timing_of_use, two_limits, written_of, written_of_use}
 use Rattle.elab_laws.specs.Handing.{all_bits}
 use Rattle.specify_values.specs.Seen.{is_too_long}
 use Rattle.specify_paths.specs.Seen.{bit_seen}

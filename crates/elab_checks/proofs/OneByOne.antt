@@ -13,10 +13,10 @@ use Rattle.elab_model.specs.Hierarchy.{Instance}
 use Rattle.elab_model.specs.Names.{Variable}
 use Rattle.elab_model.specs.Nets.{OwnNet}
 use Rattle.specify_model.specs.Terms.{NetBit}
-use Rattle.elab_circuit.specs.CheckUses as def
-use Rattle.elab_circuit.specs.Faults.{over}
-use Rattle.elab_circuit.specs.PathUses.{bit_number}
-use Rattle.elab_nets.specs.Refusals.{RefusesCount}
+use Rattle.circuit_model.specs.CheckUses as def
+use Rattle.circuit_model.specs.Faults.{over}
+use Rattle.circuit_model.specs.PathUses.{bit_number}
+use Rattle.elab_numbering.specs.Refusals.{RefusesCount}
 use Rattle.elab_elements.specs.Adding.{IsHere}
 use Rattle.elab_paths.specs.Uses.{IsRow}
 use Rattle.elab_paths.proofs.Counts.{count-refused}

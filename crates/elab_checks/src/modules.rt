@@ -6,7 +6,7 @@ ghost use Rattle.elab_model.specs.Faults.{RefusesOneOf};
 ghost use Rattle.elab_model.specs.Hierarchy as def;
 ghost use Rattle.elab_model.specs.HierarchyFaults.{two_definitions};
 ghost use Rattle.specify_model.specs.CheckFaults.{timing_check_faults};
-ghost use Rattle.elab_circuit.specs.Faults.{check_faults};
+ghost use Rattle.circuit_model.specs.Faults.{check_faults};
 ghost use Rattle.elab_hierarchy.specs.Placing.{ArePlaced};
 ghost use Rattle.elab_hierarchy.specs.Tops.{StandsAt};
 ghost use Rattle.elab_modules.specs.Ready.{IsPrepared};

@@ -41,16 +41,16 @@ use Rattle.specify_model.specs.Paths.{edge_of}
 use Rattle.specify_model.specs.Conditions.{over}
 use Rattle.specify_model.specs.Terms.{NetBit, expression_of}
 use Rattle.specify_model.specs.Values.{Measure, Values, amount_ticks, value_of}
-use Rattle.elab_circuit.specs.CheckUses.{CheckUse as Check_use, EventUse, check_of_use, check_use, check_uses_of, check_uses, event_of_use, event_use, timing_of_use, two_limits}
-use Rattle.elab_circuit.specs.Circuits.{driving}
-use Rattle.elab_circuit.specs.Driving.{driver_at}
-use Rattle.elab_circuit.specs.Faults.{check_faults, driver_faults}
-use Rattle.elab_circuit.specs.PathUses.{bit_number}
-use Rattle.elab_circuit.specs.WithPaths.{all_nets}
+use Rattle.circuit_model.specs.CheckUses.{CheckUse as Check_use, EventUse, check_of_use, check_use, check_uses_of, check_uses, event_of_use, event_use, timing_of_use, two_limits}
+use Rattle.circuit_model.specs.Circuits.{driving}
+use Rattle.circuit_model.specs.Driving.{driver_at}
+use Rattle.circuit_model.specs.Faults.{check_faults, driver_faults}
+use Rattle.circuit_model.specs.PathUses.{bit_number}
+use Rattle.circuit_model.specs.WithPaths.{all_nets}
 use Rattle.elab_laws.proofs.Lists.{In, all-flat_in, all-in, all-map, all-weaker, found-is, in-flat, in-map, in-range}
 use Rattle.elab_laws.proofs.NoFaults.{all-from, back, flat-empty, front}
 use Rattle.elab_laws.proofs.Stated.{bits-have_nets}
-use Rattle.elab_owned.proofs.Widths.{no-fault}
+use Rattle.elab_laws.proofs.ElementWidths.{no-fault}
 use Rattle.elab_closed.proofs.Drivers.{reg-toggled}
 use Rattle.elab_closed.proofs.Elements.{leaves-below, number-within}
 use Rattle.elab_closed.proofs.Scopes.{numbers-below_count}

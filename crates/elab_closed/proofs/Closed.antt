@@ -12,10 +12,10 @@ use Rattle.elab_model.specs.HierarchyFaults.{count_limit}
 use Rattle.elab_model.specs.Nets.{nets}
 use Rattle.elab_model.specs.Numbered.{undriven}
 use Rattle.elab_model.specs.Scopes.{scope_of}
-use Rattle.elab_circuit.specs.Circuits.{circuit, driving, driven_nets}
-use Rattle.elab_circuit.specs.CheckUses.{check_of_use, check_uses, timing_of_use, written_of_use}
-use Rattle.elab_circuit.specs.PathUses.{path_uses}
-use Rattle.elab_circuit.specs.WithPaths.{all_nets, all_elements}
+use Rattle.circuit_model.specs.Circuits.{circuit, driving, driven_nets}
+use Rattle.circuit_model.specs.CheckUses.{check_of_use, check_uses, timing_of_use, written_of_use}
+use Rattle.circuit_model.specs.PathUses.{path_uses}
+use Rattle.circuit_model.specs.WithPaths.{all_nets, all_elements}
 use Rattle.elab_laws.specs.Laws.{AreSound}
 use Rattle.elab_laws.proofs.Lists.{all-map, all-weaker}
 use Rattle.elab_laws.proofs.NoFaults.{each-faultless}

@@ -8,11 +8,11 @@ use Rattle.vl_tree.specs.Tree.{Module, Source}
 use Rattle.elab_model.specs.declared.kinds.ElabKind.TheVariants.{TooMany}
 use Rattle.elab_model.specs.Hierarchy.{Instance, instances}
 use Rattle.elab_model.specs.HierarchyFaults.{instance_faults_below, first_too_many, count_limit, start}
-use Rattle.elab_circuit.specs.CheckUses.{check_uses}
-use Rattle.elab_circuit.specs.Faults.{path_faults, path_count, check_faults, over, too_many, driver_faults, faults_below}
-use Rattle.elab_circuit.specs.WithPaths.{all_nets, all_elements}
+use Rattle.circuit_model.specs.CheckUses.{check_uses}
+use Rattle.circuit_model.specs.Faults.{path_faults, path_count, check_faults, over, too_many, driver_faults, faults_below}
+use Rattle.circuit_model.specs.WithPaths.{all_nets, all_elements}
 use Rattle.elab_laws.proofs.NoFaults.{front, back}
-use Rattle.elab_owned.proofs.Widths.{no-fault}
+use Rattle.elab_laws.proofs.ElementWidths.{no-fault}
 
 -- each list of faults is empty
 pub record AreFaultless (source : Source) (top : Module) (corner : Corner) : Type 0 where

@@ -13,7 +13,7 @@ use Rattle.elab_model.specs.declared.kinds.ElabKind.TheVariants.{BadDelay}
 use Rattle.elab_model.specs.Delays.{delays_of, ticks_of}
 use Rattle.elab_model.specs.Elements.{leg_kind}
 use Rattle.elab_model.specs.TerminalFaults.{delay_faults, delay_limit}
-use Rattle.elab_owned.proofs.Widths.{no-fault}
+use Rattle.elab_laws.proofs.ElementWidths.{no-fault}
 
 all-under : (limit : ℕ) (ds : List ℕ) → list_any (nat_le limit) ds ≡ false → AllByRecursion (λ d. d < limit) ds
 all-under limit [] h = tt

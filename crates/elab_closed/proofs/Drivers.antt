@@ -14,8 +14,8 @@ use Rattle.sg_circuit.specs.declared.nets.Net.{Net}
 use Rattle.sg_text.specs.declared.places.Place.{Place}
 use Rattle.elab_model.specs.declared.kinds.ElabKind.TheVariants.{BadTerminal}
 use Rattle.elab_model.specs.Faults.{fault}
-use Rattle.elab_circuit.specs.Circuits.{with_driver, driven_nets}
-use Rattle.elab_circuit.specs.Driving.{Driving, NetDrive, by_stimulus, by_element, net_drives, drives_of, driver_of, driver_at, second_of, reg_faults, net_faults, faults_at, driving_faults}
+use Rattle.circuit_model.specs.Circuits.{with_driver, driven_nets}
+use Rattle.circuit_model.specs.Driving.{Driving, NetDrive, by_stimulus, by_element, net_drives, drives_of, driver_of, driver_at, second_of, reg_faults, net_faults, faults_at, driving_faults}
 use Rattle.elab_laws.proofs.Lists.{In, in-right, in-map, in-range, all-append, all-in, all-get}
 use Rattle.elab_laws.proofs.NoFaults.{back, flat-empty, map-empty}
 use Rattle.elab_closed.proofs.Outputs.{placed_output}

@@ -23,16 +23,16 @@ use Rattle.specify_model.specs.Faults.{specify_faults}
 use Rattle.specify_model.specs.Outputs.{PathOutput, path_outputs}
 use Rattle.specify_model.specs.Paths.{circuit_condition, circuit_path}
 use Rattle.specify_model.specs.Terms.{NetBit}
-use Rattle.elab_circuit.specs.Faults.{module_path_faults, path_faults}
-use Rattle.elab_circuit.specs.PathUses.{PathUse, bit_number, path_use, path_uses_of, path_uses}
-use Rattle.elab_circuit.specs.WithPaths.{is_behind, inner_of, redirected, path_element, placed_element, plain_elements, all_elements}
+use Rattle.circuit_model.specs.Faults.{module_path_faults, path_faults}
+use Rattle.circuit_model.specs.PathUses.{PathUse, bit_number, path_use, path_uses_of, path_uses}
+use Rattle.circuit_model.specs.WithPaths.{is_behind, inner_of, redirected, path_element, placed_element, plain_elements, all_elements}
 use Rattle.elab_laws.specs.Laws.{AreSound}
 use Rattle.elab_laws.specs.Words.{Owns}
 use Rattle.elab_laws.proofs.Homes.{number-below}
 use Rattle.elab_laws.proofs.Lists.{In, all-anyway, all-append, all-in, all-flat_in, all-map, all-weaker, from-flat}
 use Rattle.elab_laws.proofs.NoFaults.{all-from, back, flat-empty}
-use Rattle.elab_owned.specs.Laws.{HasNets}
-use Rattle.elab_owned.proofs.Members.{elements-have_nets}
+use Rattle.elab_laws.specs.ElementLaws.{HasNets}
+use Rattle.elab_laws.proofs.Members.{elements-have_nets}
 use Rattle.elab_closed.proofs.Fits.{Fits, elements-fit}
 use Rattle.elab_closed.proofs.PathTimings.{AreTimed, outputs-timed}
 use Rattle.elab_closed.proofs.Scopes.{numbers-below_count}

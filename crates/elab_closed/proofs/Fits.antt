@@ -34,8 +34,8 @@ use Rattle.elab_model.specs.Faults.{fault_if}
 use Rattle.elab_laws.proofs.Lists.{all-append, all-flat, all-flat_in, all-map, all-anyway, all-weaker}
 use Rattle.elab_laws.proofs.PartsApart.{all-if}
 use Rattle.elab_laws.proofs.NoFaults.{front, back, all-second}
-use Rattle.elab_owned.proofs.Connected.{members-sound}
-use Rattle.elab_owned.proofs.Widths.{no-fault, bits-count}
+use Rattle.elab_laws.proofs.Connected.{members-sound}
+use Rattle.elab_laws.proofs.ElementWidths.{no-fault, bits-count}
 use Rattle.elab_closed.proofs.Delays.{gate-delays, leg-delays}
 
 -- an element of an instance of this number, that has what its kind asks for

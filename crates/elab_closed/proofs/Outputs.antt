@@ -12,15 +12,15 @@ use Rattle.elab_model.specs.Elements.{Component}
 use Rattle.elab_model.specs.Homes.{Spot, is_same_spot}
 use Rattle.elab_model.specs.Nets.{OwnNet, nets}
 use Rattle.elab_model.specs.Numbered.{element_of}
-use Rattle.elab_circuit.specs.Circuits.{is_net, output_at, path_output, outputs}
-use Rattle.elab_circuit.specs.PathUses.{PathUse, path_uses}
-use Rattle.elab_circuit.specs.WithPaths.{redirected, path_element, placed_element, plain_elements, all_elements}
+use Rattle.circuit_model.specs.Circuits.{is_net, output_at, path_output, outputs}
+use Rattle.circuit_model.specs.PathUses.{PathUse, path_uses}
+use Rattle.circuit_model.specs.WithPaths.{redirected, path_element, placed_element, plain_elements, all_elements}
 use Rattle.elab_laws.specs.Laws.{AreSound}
 use Rattle.elab_laws.specs.Words.{Owns}
 use Rattle.elab_laws.proofs.Homes.{spot-same}
 use Rattle.elab_laws.proofs.Lists.{In, all-weaker}
-use Rattle.elab_owned.specs.Laws.{HasNets}
-use Rattle.elab_owned.proofs.Members.{elements-have_nets}
+use Rattle.elab_laws.specs.ElementLaws.{HasNets}
+use Rattle.elab_laws.proofs.Members.{elements-have_nets}
 
 any-there : {A : Type 0} (p : A → Bool) (x : A) (xs : List A) → In x xs → p x ≡ true → list_any p xs ≡ true
 any-there p x [] h e = absurd h

@@ -26,7 +26,7 @@ use Rattle.specify_model.specs.Terms.{NetBit, is_same_bit, path_pairs}
 use Rattle.specify_model.specs.Values.{Measure, Values, value_of, corner_amount, amount_ticks, delay_ticks, all_delays, expanded, twelve_delays}
 use Rattle.elab_laws.proofs.Lists.{all-anyway, all-flat_in, all-map, all-weaker}
 use Rattle.elab_laws.proofs.NoFaults.{front, back, flat-empty}
-use Rattle.elab_owned.proofs.Widths.{no-fault}
+use Rattle.elab_laws.proofs.ElementWidths.{no-fault}
 
 -- ---- twelve delays
 

@@ -21,8 +21,8 @@ use Rattle.elab_model.specs.Numbered.{undriven}
 use Rattle.elab_model.specs.Ports.{port_list}
 use Rattle.elab_model.specs.Scopes.{parent_of}
 use Rattle.specify_model.specs.Outputs.{path_outputs}
-use Rattle.elab_circuit.specs.PathUses.{path_use, path_uses_of, path_uses}
-use Rattle.elab_circuit.specs.WithPaths.{all_nets}
+use Rattle.circuit_model.specs.PathUses.{path_use, path_uses_of, path_uses}
+use Rattle.circuit_model.specs.WithPaths.{all_nets}
 use Rattle.elab_laws.proofs.Lists.{all-anyway, all-append, all-flat, all-flat_in, all-get, all-map, all-map_back, all-range, all-weaker}
 use Rattle.elab_laws.proofs.PartsApart.{all-if}
 use Rattle.elab_laws.proofs.Handed.{Rises, instances-rise}

@@ -3,8 +3,8 @@ use Rattle.std.specs.Prelude.{◌≡◌, []}
 use Rattle.sg_circuit.specs.Closed.{IsClosed}
 use Rattle.sg_delay.specs.declared.corners.Corner.{Corner}
 use Rattle.vl_tree.specs.Tree.{Module, Source}
-use Rattle.elab_circuit.specs.Circuits.{circuit}
-use Rattle.elab_circuit.specs.Faults.{faults_below}
+use Rattle.circuit_model.specs.Circuits.{circuit}
+use Rattle.circuit_model.specs.Faults.{faults_below}
 
 -- the circuit of a netlist without faults is a circuit: its parts fit together
 abbrev pub CircuitIsClosed : Type 0

@@ -5,10 +5,10 @@ use Rattle.std.proofs.Common.{◌∙◌, ap, arith}
 use Rattle.std.proofs.lemmas.List.{map-append}
 use Rattle.sg_circuit.specs.declared.nets.Driver.TheVariants.{Element}
 use Rattle.sg_text.specs.declared.places.Place.{Place}
-use Rattle.elab_circuit.specs.Driving.{NetDrive, by_stimulus, by_element, drives_of}
+use Rattle.circuit_model.specs.Driving.{NetDrive, by_stimulus, by_element, drives_of}
 use Rattle.elab_laws.proofs.Lists.{all-append}
-use Rattle.elab_nets.specs.Driving.{NumberedDrive, by_elements, drivers_at}
-use Rattle.elab_nets.specs.Driving as numbered
+use Rattle.elab_numbering.specs.Driving.{NumberedDrive, by_elements, drivers_at}
+use Rattle.elab_numbering.specs.Driving as numbered
 
 -- the drives of the stimulus and of elements
 abbrev pub by_others : List ℕ → List ℕ → List NumberedDrive

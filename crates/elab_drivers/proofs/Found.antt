@@ -9,8 +9,8 @@ use Rattle.std.proofs.lemmas.Option.{slice_get-get_or, slice_get-map}
 use Rattle.std.proofs.lemmas.List.Quantifiers.{position-Some}
 use Rattle.sg_text.specs.declared.places.Place.{Place}
 use Rattle.sg_circuit.specs.declared.nets.Driver.TheVariants as driver
-use Rattle.elab_nets.specs.Driving.{by_stimulus, by_elements, drivers_at, IsTaken}
-use Rattle.elab_nets.proofs.DriveLemmas.{at-append}
+use Rattle.elab_numbering.specs.Driving.{by_stimulus, by_elements, drivers_at, IsTaken}
+use Rattle.elab_numbering.proofs.DriveLemmas.{at-append}
 use Rattle.elab_drivers.specs.Drivers.{IsPlaceOf}
 
 pub found-place : {A : Type 0} (output : A → ℕ) (net : ℕ) (xs : List A) (places : List Place) (o : Option ℕ) (i : ℕ) (d : Place) → o ≡ position (λ x. output x == net) xs → o ≡ Some i

@@ -2,7 +2,7 @@
 use Rattle.std.specs.Prelude.{◌≡◌, ℕ, List, [], zip}
 use Rattle.sg_circuit.specs.declared.nets.Driver.{Driver}
 use Rattle.sg_text.specs.declared.places.Place.{Place}
-use Rattle.elab_circuit.specs.Driving.{Driving, drivers, driving_faults}
+use Rattle.circuit_model.specs.Driving.{Driving, drivers, driving_faults}
 
 -- what drives nets, by lists of numbers and of places
 abbrev pub driving_of : List ℕ → List Place → List ℕ → List Place → List ℕ → Driving

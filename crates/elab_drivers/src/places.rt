@@ -1,6 +1,6 @@
 // Where it is said that a net is driven.
 ghost use Rattle.std.specs.Prelude.{◌≡◌, ◌++◌, ◌==◌, map, length, position};
-ghost use Rattle.elab_nets.specs.Driving.{IsTaken, by_stimulus, by_elements};
+ghost use Rattle.elab_numbering.specs.Driving.{IsTaken, by_stimulus, by_elements};
 ghost use Rattle.elab_drivers.specs.Drivers.{IsPlaceOfDriver};
 
 use sg_circuit::{Element, NetId};

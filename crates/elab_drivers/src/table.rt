@@ -1,14 +1,14 @@
 // The table of drivers.
 ghost use Rattle.std.specs.Prelude.{◌≡◌, ◌<◌, ◌^◌, map, length, All, IfOk, IfErr};
 ghost use Rattle.elab_model.specs.Faults.{RefusesOneOf};
-ghost use Rattle.elab_circuit.specs.Driving.{driving_faults};
+ghost use Rattle.circuit_model.specs.Driving.{driving_faults};
 ghost use Rattle.elab_drivers.specs.Tables.{driving_of, HasDrivers};
 ghost use Rattle.sg_text.specs.declared.refusals.Refused.TheVariants.{Fault};
 ghost use Rattle.elab_model.specs.declared.kinds.ElabKind.TheVariants.{SecondDriver};
 
 use crate::places::place_of_driver;
 use elab_model::ElabKind;
-use elab_nets::{drive_inputs, drive_outputs, drive_regs};
+use elab_numbering::{drive_inputs, drive_outputs, drive_regs};
 use sg_circuit::{Driver, Element, NetId};
 use sg_text::{Place, Refused};
 use std::alloc::Global;

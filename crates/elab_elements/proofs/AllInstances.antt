@@ -18,10 +18,10 @@ use Rattle.elab_model.specs.Drivers.{elements}
 use Rattle.elab_model.specs.Elements.{Component, elements_of}
 use Rattle.elab_model.specs.Hierarchy.{instances, top_instance}
 use Rattle.elab_model.specs.Nets.{OwnNet, nets}
-use Rattle.elab_nets.specs.Refusals.{RefusesCount}
+use Rattle.elab_numbering.specs.Refusals.{RefusesCount}
 use Rattle.elab_hierarchy.specs.declared.instances.Placed.{Placed}
 use Rattle.elab_modules.specs.declared.library.Library.{Library}
-use Rattle.elab_rows.specs.declared.rows.Rows.{Rows}
+use Rattle.elab_nets.specs.declared.rows.Rows.{Rows}
 use Rattle.elab_elements.specs.declared.placing.Placing.{Placing}
 use Rattle.elab_elements.specs.Adding.{Adds}
 use Rattle.elab_elements.specs.Seen.{element_in, NamesPlaces, AreElements}

@@ -15,10 +15,10 @@ use Rattle.elab_model.specs.Homes.{bit, is_input, has_leg}
 use Rattle.elab_model.specs.Names.{Variable, variable, variables}
 use Rattle.elab_model.specs.Nets.{OwnNet, number_of}
 use Rattle.elab_laws.specs.Handing.{all_bits, number_at}
-use Rattle.elab_tables.specs.Seen.{variable_at}
+use Rattle.elab_variables.specs.Seen.{variable_at}
 use Rattle.elab_bits.specs.Seen.{bit_at}
 use Rattle.elab_bits.proofs.InRow.{place-is, stands-within}
-use Rattle.elab_rows.specs.Outside.{outer_number}
+use Rattle.elab_nets.specs.Outside.{outer_number}
 use Rattle.elab_elements.specs.Adding.{IsHere, HasOutside}
 use Rattle.elab_elements.specs.Words.{net_in, outside_in, leg_puts, bit_leg, start_of, variable_puts}
 use Rattle.elab_elements.proofs.Meaning.{Means, means-nil, means-one, means-append, means-same, number-is, same-count}

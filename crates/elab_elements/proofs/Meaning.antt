@@ -17,7 +17,7 @@ use Rattle.elab_model.specs.Nets.{OwnNet}
 use Rattle.elab_laws.specs.Handing.{all_bits, number_at}
 use Rattle.elab_laws.proofs.Lists.{all-append, all-map, all-map_back}
 use Rattle.elab_bits.specs.Seen.{bit_at}
-use Rattle.elab_rows.specs.Numbers.{HasNumbers}
+use Rattle.elab_nets.specs.Numbers.{HasNumbers}
 use Rattle.elab_elements.specs.Adding.{Adds}
 use Rattle.elab_elements.specs.Seen.{kind_in, element_in, NamesPlaces}
 use Rattle.elab_elements.specs.declared.placing.Placing.{Placing}

@@ -21,13 +21,13 @@ use Rattle.elab_model.specs.TerminalFaults.{expression_faults, width_faults, con
 use Rattle.elab_laws.specs.Laws.{AreSound}
 use Rattle.elab_laws.proofs.Lists.{In, all-in, all-get}
 use Rattle.elab_laws.proofs.NoFaults.{front, back, flat-empty}
-use Rattle.elab_numbers.specs.Laws.{numbers_in}
-use Rattle.elab_numbers.proofs.InOrder.{member-nets_have_places}
-use Rattle.elab_owned.proofs.Connected.{members-sound, is-connected}
-use Rattle.elab_owned.proofs.Gates.{has-output}
-use Rattle.elab_owned.proofs.Widths.{no-fault, bits-count, width-is, first-is_net}
+use Rattle.elab_laws.specs.NumberLaws.{numbers_in}
+use Rattle.elab_laws.proofs.InOrder.{member-nets_have_places}
+use Rattle.elab_laws.proofs.Connected.{members-sound, is-connected}
+use Rattle.elab_laws.proofs.Gates.{has-output}
+use Rattle.elab_laws.proofs.ElementWidths.{no-fault, bits-count, width-is, first-is_net}
 use Rattle.elab_ports.specs.Bound.{AreConnected}
-use Rattle.elab_rows.specs.Rows.{first_of_member}
+use Rattle.elab_nets.specs.Rows.{first_of_member}
 use Rattle.elab_elements.specs.Adding.{HasTerminals, IsConnectedOnce}
 use Rattle.elab_elements.proofs.StandingAt.{at-split}
 

@@ -18,7 +18,7 @@ use Rattle.elab_model.specs.Names.{Variable, variables}
 use Rattle.elab_model.specs.Nets.{nets}
 use Rattle.elab_hierarchy.specs.declared.instances.Placed.{Placed}
 use Rattle.elab_modules.specs.declared.library.Library.{Library}
-use Rattle.elab_rows.specs.declared.rows.Rows.{Rows}
+use Rattle.elab_nets.specs.declared.rows.Rows.{Rows}
 use Rattle.elab_elements.specs.Adding.{HasTerminals}
 use Rattle.elab_elements.specs.Next.{IsNext}
 use Rattle.elab_elements.specs.Standing.{IsMember}

@@ -19,7 +19,7 @@ use Rattle.elab_model.specs.Hierarchy.{Instance, instances}
 use Rattle.elab_model.specs.HierarchyFaults.{count_limit}
 use Rattle.elab_model.specs.Members.{Member, members}
 use Rattle.elab_model.specs.Nets.{OwnNet, nets, member_nets}
-use Rattle.elab_nets.specs.Refusals.{RefusesCount}
+use Rattle.elab_numbering.specs.Refusals.{RefusesCount}
 use Rattle.elab_laws.specs.Handing.{all_bits}
 use Rattle.elab_laws.proofs.Lists.{In, all-in, all-get}
 use Rattle.elab_hierarchy.specs.declared.instances.Placed.{Placed}
@@ -28,13 +28,13 @@ use Rattle.elab_modules.specs.declared.library.Ready.TheVariants as ready
 use Rattle.elab_modules.specs.declared.prepared.Prepared.{Prepared}
 use Rattle.elab_modules.specs.Reached.{IsReached, IsReadyAt}
 use Rattle.elab_modules.specs.Ready.{member_delays}
-use Rattle.elab_tables.specs.declared.member_list.Member as code_member
-use Rattle.elab_tables.specs.Seen.{view_member}
-use Rattle.elab_rows.specs.declared.rows.Rows.{Rows}
-use Rattle.elab_rows.specs.Rows.{first_of_member, part_of, HasRow}
-use Rattle.elab_rows.specs.Turns.{members_of}
-use Rattle.elab_rows.proofs.ChildRows.{nets-within, refuses-more}
-use Rattle.elab_rows.proofs.MemberTurns.{next-is, taken, get-map}
+use Rattle.elab_variables.specs.declared.member_list.Member as code_member
+use Rattle.elab_variables.specs.Seen.{view_member}
+use Rattle.elab_nets.specs.declared.rows.Rows.{Rows}
+use Rattle.elab_nets.specs.Rows.{first_of_member, part_of, HasRow}
+use Rattle.elab_nets.specs.Turns.{members_of}
+use Rattle.elab_nets.proofs.ChildRows.{nets-within, refuses-more}
+use Rattle.elab_nets.proofs.MemberTurns.{next-is, taken, get-map}
 use Rattle.elab_elements.specs.declared.placing.Placing.{Placing}
 use Rattle.elab_elements.specs.Adding.{Adds}
 use Rattle.elab_elements.specs.Seen.{element_in}

@@ -28,10 +28,10 @@ use Rattle.elab_modules.specs.declared.library.Ready as code_ready
 use Rattle.elab_modules.specs.declared.library.Ready.TheVariants as ready
 use Rattle.elab_modules.specs.Reached.{IsReached}
 use Rattle.elab_modules.specs.Ready.{HasReady, IsUdp, MemberReady}
-use Rattle.elab_rows.specs.declared.rows.Rows.{Rows}
-use Rattle.elab_rows.proofs.Children.{child-in}
-use Rattle.elab_rows.proofs.Defined.{found-none, is-defined}
-use Rattle.elab_rows.proofs.Placings.{no-level}
+use Rattle.elab_nets.specs.declared.rows.Rows.{Rows}
+use Rattle.elab_nets.proofs.Children.{child-in}
+use Rattle.elab_nets.proofs.Defined.{found-none, is-defined}
+use Rattle.elab_nets.proofs.Placings.{no-level}
 use Rattle.elab_elements.specs.Adding.{HasTerminals}
 use Rattle.elab_elements.specs.Next.{IsNext}
 use Rattle.elab_elements.specs.Standing.{IsAt, IsInside, IsMember}

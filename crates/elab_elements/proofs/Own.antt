@@ -17,7 +17,7 @@ use Rattle.elab_model.specs.Nets.{OwnNet, number_of}
 use Rattle.elab_laws.specs.Handing.{variable_bits, all_bits}
 use Rattle.elab_laws.proofs.Lists.{all-flat_in, all-map, all-anyway}
 use Rattle.elab_bits.specs.Seen.{bit_at}
-use Rattle.elab_rows.specs.Outside.{outer_number}
+use Rattle.elab_nets.specs.Outside.{outer_number}
 
 -- each bit is of the variable that the module says of its name
 abbrev IsOwn : Module → Variable × ℕ → Type 0

@@ -26,7 +26,7 @@ use Rattle.elab_laws.proofs.PartsApart.{places-are}
 use Rattle.elab_bits.specs.Seen.{bit_at}
 use Rattle.elab_ports.specs.Constants.{BoundConstant, constant_at, connection_constants, constants_in, view_constant}
 use Rattle.elab_ports.specs.declared.constants.PortConstant as code
-use Rattle.elab_rows.specs.Outside.{outer_number}
+use Rattle.elab_nets.specs.Outside.{outer_number}
 use Rattle.elab_elements.specs.Adding.{IsHere, HasOutside, IsConnectedOnce}
 use Rattle.elab_elements.specs.declared.placing.Placing.{Placing}
 use Rattle.elab_elements.specs.Puts.{RefusesPuts}

@@ -34,9 +34,9 @@ use Rattle.elab_modules.specs.declared.library.Ready as code_ready
 use Rattle.elab_modules.specs.declared.library.Ready.TheVariants as ready
 use Rattle.elab_modules.specs.declared.prepared.Prepared.{Prepared}
 use Rattle.elab_modules.specs.Ready.{IsPrepared}
-use Rattle.elab_rows.specs.declared.rows.Rows.{Rows}
-use Rattle.elab_rows.specs.Outside.{outer_number}
-use Rattle.elab_rows.specs.Rows.{part_of, HasRow}
+use Rattle.elab_nets.specs.declared.rows.Rows.{Rows}
+use Rattle.elab_nets.specs.Outside.{outer_number}
+use Rattle.elab_nets.specs.Rows.{part_of, HasRow}
 use Rattle.elab_elements.specs.declared.placing.Placing.{Placing}
 use Rattle.elab_elements.specs.Adding.{Adds, IsHere, HasOutside}
 use Rattle.elab_elements.specs.Standing.{IsAt, IsInside}

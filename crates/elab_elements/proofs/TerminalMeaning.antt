@@ -13,7 +13,7 @@ use Rattle.sg_text.specs.declared.places.Place.{Place}
 use Rattle.sg_text.specs.declared.refusals.Refused.{Refused}
 use Rattle.vl_tree.specs.Tree.{Source}
 use Rattle.elab_model.specs.declared.kinds.ElabKind.{ElabKind}
-use Rattle.elab_nets.specs.Refusals.{RefusesCount}
+use Rattle.elab_numbering.specs.Refusals.{RefusesCount}
 use Rattle.elab_model.specs.Bits.{Bit, net, constant}
 use Rattle.elab_model.specs.Elements.{Component, input_spot, output_element, constant_pass, terminal_elements}
 use Rattle.elab_model.specs.Hierarchy.{Instance}
@@ -22,7 +22,7 @@ use Rattle.elab_model.specs.Names.{Variable}
 use Rattle.elab_model.specs.Nets.{OwnNet, number_of}
 use Rattle.elab_laws.specs.Given.{number_of_bit}
 use Rattle.elab_laws.specs.Handing.{numbered}
-use Rattle.elab_numbers.proofs.TerminalNumbers.{terminals-are_numbered}
+use Rattle.elab_laws.proofs.TerminalNumbers.{terminals-are_numbered}
 use Rattle.elab_bits.specs.declared.bits.Bit as code_bit
 use Rattle.elab_bits.specs.declared.bits.Bit.TheVariants as bit
 use Rattle.elab_bits.specs.Seen.{view_bit, IsInRow}

@@ -13,9 +13,9 @@ use Rattle.elab_model.specs.Names.{Variable}
 use Rattle.elab_model.specs.Nets.{OwnNet, terminal_nets}
 use Rattle.elab_model.specs.Ports.{port_list}
 use Rattle.elab_laws.specs.Handing.{all_bits}
-use Rattle.elab_numbers.specs.Laws.{numbers_in}
-use Rattle.elab_rows.specs.Numbers.{HasNumbers}
-use Rattle.elab_rows.specs.Outside.{outer_number}
+use Rattle.elab_laws.specs.NumberLaws.{numbers_in}
+use Rattle.elab_nets.specs.Numbers.{HasNumbers}
+use Rattle.elab_nets.specs.Outside.{outer_number}
 use Rattle.elab_elements.specs.declared.placing.Placing.{Placing}
 use Rattle.elab_elements.specs.Seen.{element_in, NamesPlaces}
 

@@ -5,7 +5,7 @@ use Rattle.sg_circuit.specs.declared.elements.ElementKind.{ElementKind}
 use Rattle.sg_text.specs.declared.places.Place.{Place}
 use Rattle.sg_text.specs.declared.refusals.Refused.{Refused}
 use Rattle.elab_model.specs.declared.kinds.ElabKind.{ElabKind}
-use Rattle.elab_nets.specs.Refusals.{RefusesCount}
+use Rattle.elab_numbering.specs.Refusals.{RefusesCount}
 use Rattle.elab_elements.specs.declared.placing.Placing.{Placing}
 
 -- an element, its inputs as a list

@@ -11,7 +11,7 @@ use Rattle.elab_model.specs.Hierarchy.{Instance, instances}
 use Rattle.elab_model.specs.Members.{Member, members}
 use Rattle.elab_model.specs.Names.{Variable, variables}
 use Rattle.elab_model.specs.Nets.{nets, member_nets}
-use Rattle.elab_numbers.specs.Laws.{numbers_in}
+use Rattle.elab_laws.specs.NumberLaws.{numbers_in}
 use Rattle.elab_ports.specs.Bound.{AreConnected}
 use Rattle.elab_hierarchy.specs.declared.instances.Placed.{Placed}
 use Rattle.elab_hierarchy.specs.Placing.{ArePlaced, tree_faults}
@@ -20,8 +20,8 @@ use Rattle.elab_hierarchy.specs.Tops.{StandsAt}
 use Rattle.elab_modules.specs.Reached.{IsLibrary}
 use Rattle.elab_modules.specs.Ready.{IsPrepared, member_delays}
 use Rattle.elab_modules.specs.declared.prepared.Prepared.{Prepared}
-use Rattle.elab_rows.specs.declared.rows.Rows.{Rows}
-use Rattle.elab_rows.specs.Rows.{HaveRows}
+use Rattle.elab_nets.specs.declared.rows.Rows.{Rows}
+use Rattle.elab_nets.specs.Rows.{HaveRows}
 use Rattle.elab_elements.specs.Adding.{IsConnectedOnce, IsHere}
 use Rattle.elab_elements.specs.Next.{IsNext}
 

@@ -9,7 +9,7 @@ use Rattle.sg_text.specs.declared.places.Place.{Place}
 use Rattle.elab_model.specs.Homes.{is_input}
 use Rattle.elab_model.specs.Names.{Variable}
 use Rattle.elab_laws.specs.Handing.{all_bits, numbered}
-use Rattle.elab_tables.specs.Seen.{variable_at}
+use Rattle.elab_variables.specs.Seen.{variable_at}
 use Rattle.elab_bits.specs.declared.bits.Bit as code_bit
 use Rattle.elab_bits.specs.declared.bits.Bit.TheVariants as bit
 use Rattle.elab_bits.specs.Seen.{bit_at}

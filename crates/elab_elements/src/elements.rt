@@ -3,7 +3,7 @@ ghost use Rattle.std.specs.Prelude.{◌≤◌, ◌^◌, IfOk, IfErr, length};
 ghost use Rattle.sg_delay.specs.declared.corners.Corner as ghost_corner;
 ghost use Rattle.vl_tree.specs.Tree.{Module};
 ghost use Rattle.elab_model.specs.Drivers as def_elements;
-ghost use Rattle.elab_nets.specs.Refusals.{RefusesCount};
+ghost use Rattle.elab_numbering.specs.Refusals.{RefusesCount};
 ghost use Rattle.elab_elements.specs.Seen.{AreElements};
 ghost use Rattle.elab_elements.specs.Standing.{AreRead};
 
@@ -13,7 +13,7 @@ use crate::members::Terminals;
 use elab_hierarchy::{Definitions, Placed};
 use elab_model::ElabKind;
 use elab_modules::Library;
-use elab_rows::Rows;
+use elab_nets::Rows;
 use sg_text::Refused;
 use std::alloc::Global;
 

@@ -8,7 +8,7 @@ ghost use Rattle.elab_model.specs.Elements as def_elements;
 ghost use Rattle.elab_model.specs.Hierarchy as def;
 ghost use Rattle.elab_model.specs.Members as def_members;
 ghost use Rattle.elab_model.specs.Nets.{nets};
-ghost use Rattle.elab_nets.specs.Refusals.{RefusesCount};
+ghost use Rattle.elab_numbering.specs.Refusals.{RefusesCount};
 ghost use Rattle.elab_elements.specs.Adding.{Adds};
 ghost use Rattle.elab_elements.specs.Standing.{AreMembers, IsAt};
 
@@ -20,7 +20,7 @@ use crate::turns::add_member;
 use elab_hierarchy::{Definitions, Placed};
 use elab_model::ElabKind;
 use elab_modules::{Library, Prepared};
-use elab_rows::Rows;
+use elab_nets::Rows;
 use sg_circuit::NetId;
 use sg_text::Refused;
 use std::alloc::Global;

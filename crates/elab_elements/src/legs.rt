@@ -9,19 +9,19 @@ ghost use Rattle.elab_model.specs.Bits.{constant};
 ghost use Rattle.elab_model.specs.Elements as def_elements;
 ghost use Rattle.elab_model.specs.Hierarchy as def;
 ghost use Rattle.elab_model.specs.Nets.{OwnNet};
-ghost use Rattle.elab_nets.specs.Refusals.{RefusesCount};
+ghost use Rattle.elab_numbering.specs.Refusals.{RefusesCount};
 ghost use Rattle.elab_elements.specs.Adding.{Adds, IsHere, HasOutside, HasTerminals};
 ghost use Rattle.elab_elements.specs.Seen.{kind_in, NamesPlaces};
 ghost use Rattle.std.specs.List.{range_with_len};
 ghost use Rattle.sg_circuit.specs.Closed.{width_of};
-ghost use Rattle.elab_tables.specs.Seen.{variable_at};
+ghost use Rattle.elab_variables.specs.Seen.{variable_at};
 ghost use Rattle.elab_elements.specs.Puts.{Puts, RefusesPuts};
 ghost use Rattle.elab_elements.specs.Words.{leg_puts, bit_leg, start_of, variable_puts};
 
 use crate::Placing;
 use crate::placing::add_element;
 use elab_model::ElabKind;
-use elab_tables::Table;
+use elab_variables::Table;
 use sg_circuit::{ElementKind, NetId, Port};
 use sg_text::{Place, Refused};
 

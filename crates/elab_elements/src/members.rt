@@ -13,7 +13,7 @@ ghost use Rattle.elab_model.specs.Elements as def_elements;
 ghost use Rattle.elab_model.specs.Hierarchy as def;
 ghost use Rattle.elab_model.specs.Leaves.{whole};
 ghost use Rattle.elab_model.specs.Nets.{OwnNet};
-ghost use Rattle.elab_nets.specs.Refusals.{RefusesCount};
+ghost use Rattle.elab_numbering.specs.Refusals.{RefusesCount};
 ghost use Rattle.elab_elements.specs.Adding.{Adds, IsHere, HasTerminals};
 ghost use Rattle.elab_elements.specs.Seen.{kind_in, NamesPlaces};
 
@@ -22,7 +22,7 @@ use crate::gates::add_terminal_elements;
 use crate::passes::{add_passes, add_supply};
 use elab_bits::{Bit, add_bits, add_variable};
 use elab_model::ElabKind;
-use elab_tables::Table;
+use elab_variables::Table;
 use sg_circuit::{ElementKind, NetId};
 use sg_logic::{GateKind, Value};
 use sg_text::{NoMemory, Place, Refused};

@@ -5,7 +5,7 @@ ghost use Rattle.vl_tree.specs.Tree.{Module, Source as GhostSource};
 ghost use Rattle.elab_model.specs.Elements as def_elements;
 ghost use Rattle.elab_model.specs.Hierarchy as def;
 ghost use Rattle.elab_model.specs.Nets.{nets};
-ghost use Rattle.elab_nets.specs.Refusals.{RefusesCount};
+ghost use Rattle.elab_numbering.specs.Refusals.{RefusesCount};
 ghost use Rattle.elab_elements.specs.Adding.{Adds};
 ghost use Rattle.elab_hierarchy.specs.Placing.{IsPlaced};
 ghost use Rattle.elab_modules.specs.Ready.{IsPrepared};
@@ -18,7 +18,7 @@ use crate::reading::{inner_row, module_at, outer_row, placed_at};
 use elab_hierarchy::Placed;
 use elab_model::ElabKind;
 use elab_modules::{Library, Prepared};
-use elab_rows::Rows;
+use elab_nets::Rows;
 use sg_text::{Place, Refused};
 
 // Whether an instance isn't the top, and no instance is in it.

@@ -1,6 +1,6 @@
 // The lists of elements and their places.
 ghost use Rattle.std.specs.Prelude.{◌≡◌, ◌≤◌, ◌<◌, ◌+◌, ◌^◌, ◌++◌, ◌∷◌, [], ℕ, OnOk, IfErr, length};
-ghost use Rattle.elab_nets.specs.Refusals.{RefusesCount};
+ghost use Rattle.elab_numbering.specs.Refusals.{RefusesCount};
 ghost use Rattle.elab_elements.specs.Puts.{put, Puts, RefusesPuts};
 
 use elab_model::ElabKind;

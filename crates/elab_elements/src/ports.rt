@@ -9,7 +9,7 @@ ghost use Rattle.elab_model.specs.Bits.{constant};
 ghost use Rattle.elab_model.specs.Elements as def_elements;
 ghost use Rattle.elab_model.specs.Hierarchy as def;
 ghost use Rattle.elab_model.specs.Nets.{OwnNet};
-ghost use Rattle.elab_nets.specs.Refusals.{RefusesCount};
+ghost use Rattle.elab_numbering.specs.Refusals.{RefusesCount};
 ghost use Rattle.elab_elements.specs.Adding.{Adds, IsHere, HasOutside, IsConnectedOnce};
 ghost use Rattle.elab_elements.specs.Seen.{kind_in, NamesPlaces};
 ghost use Rattle.elab_elements.specs.Puts.{Puts, RefusesPuts};
@@ -22,7 +22,7 @@ use crate::Placing;
 use crate::placing::add_element;
 use elab_model::ElabKind;
 use elab_ports::PortConstant;
-use elab_tables::Table;
+use elab_variables::Table;
 use sg_circuit::{ElementKind, NetId, Port};
 use sg_text::Refused;
 

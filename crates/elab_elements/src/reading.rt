@@ -2,12 +2,12 @@
 ghost use Rattle.std.specs.Prelude.{◌≡◌, ◌≤◌, ◌<◌, ◌+◌, ℕ, List, Some, length, slice_get, option_map};
 ghost use Rattle.elab_modules.specs.declared.library.Ready.TheVariants as ghost_ready;
 ghost use Rattle.elab_modules.specs.declared.prepared.Prepared as ghost_prepared;
-ghost use Rattle.elab_rows.specs.Rows.{part_of};
+ghost use Rattle.elab_nets.specs.Rows.{part_of};
 ghost use Rattle.elab_elements.specs.Words.{primitive_in, primitive_at};
 
 use elab_hierarchy::Placed;
 use elab_modules::{Library, Prepared, Ready};
-use elab_rows::Rows;
+use elab_nets::Rows;
 use sg_circuit::NetId;
 
 /// The instance of a number.

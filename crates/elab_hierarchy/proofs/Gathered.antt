@@ -12,8 +12,8 @@ use Rattle.elab_laws.proofs.Lists.{all-append}
 use Rattle.elab_model.specs.Hierarchy.{Child, child_of_member}
 use Rattle.elab_model.specs.HierarchyFaults.{two_definitions}
 use Rattle.elab_model.specs.Members.{Member}
-use Rattle.elab_tables.specs.declared.member_list.Member as code_member
-use Rattle.elab_tables.specs.Seen.{view_member}
+use Rattle.elab_variables.specs.declared.member_list.Member as code_member
+use Rattle.elab_variables.specs.Seen.{view_member}
 use Rattle.elab_hierarchy.specs.Children.{AreChildren, IsChildAnswer, AreWithin, AreAllChildren, AreAllWithin, HasChildren, IsTree, part_children}
 use Rattle.elab_hierarchy.specs.declared.children.Child as code_child
 

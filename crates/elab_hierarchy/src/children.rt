@@ -4,11 +4,11 @@ ghost use Rattle.std.specs.List.{enumerate_from};
 ghost use Rattle.vl_tree.specs.Seen.{view_instance, view_module, view_part};
 ghost use Rattle.elab_model.specs.Definitions.{module_of};
 ghost use Rattle.elab_model.specs.Hierarchy as def;
-ghost use Rattle.elab_tables.specs.Seen.{view_member};
+ghost use Rattle.elab_variables.specs.Seen.{view_member};
 ghost use Rattle.elab_hierarchy.specs.Children.{AreAllWithin, AreChildren, AreWithin, IsChildAnswer, IsTree, part_children};
 
 use crate::Definitions;
-use elab_tables::{Member, members};
+use elab_variables::{Member, members};
 use sg_text::NoMemory;
 use std::alloc::Global;
 use vl_tree::{Instance, Module, Part};

@@ -17,3 +17,16 @@ pub mod Terminals
 pub mod Outside
 pub mod LegSources
 pub mod Stated
+pub mod HaveNets
+pub mod Parents
+pub mod Legs
+pub mod Passes
+pub mod ElementWidths
+pub mod Gates
+pub mod Ports
+pub mod PortConstants
+pub mod Connected
+pub mod Members
+pub mod Drives
+pub mod InOrder
+pub mod TerminalNumbers

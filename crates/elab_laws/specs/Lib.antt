@@ -3,3 +3,5 @@ pub mod Words
 pub mod Handing
 pub mod Given
 pub mod Laws
+pub mod ElementLaws
+pub mod NumberLaws

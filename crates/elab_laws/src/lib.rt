@@ -1,7 +1,9 @@
 //! Laws of elaboration: what code that builds the circuit from the top downwards rests on.
 #![tactic(auto)]
 
+ghost use Rattle.elab_laws.specs.ElementLaws.{DrivesHaveNets, ElementsHaveNets};
 ghost use Rattle.elab_laws.specs.Laws.{BitsHaveNets, InstancesHavePlaces, NetsHavePlaces, NumbersAreHandedDown};
+ghost use Rattle.elab_laws.specs.NumberLaws.{MemberNetsHavePlaces, TerminalsAreNumbered};
 
 /// The number of an instance is its place among the instances.
 pub fn instances_have_places()
@@ -21,4 +23,24 @@ pub fn nets_have_places()
 /// Where no module has a fault, the numbers of an instance's bits are those that are handed down, and the next that are free.
 pub fn numbers_are_handed_down()
     ensures { NumbersAreHandedDown }
+{}
+
+/// Where no module has a fault, what an element reads and what it drives are nets.
+pub fn elements_have_nets()
+    ensures { ElementsHaveNets }
+{}
+
+/// What the stimulus drives, and what timing checks may toggle, are nets.
+pub fn drives_have_nets()
+    ensures { DrivesHaveNets }
+{}
+
+/// Where no module has a fault, the nets of a member have the next numbers, in order.
+pub fn member_nets_have_places()
+    ensures { MemberNetsHavePlaces }
+{}
+
+/// The net of each input of a gate or a primitive is that of its bit or, for a constant, the next.
+pub fn terminals_are_numbered()
+    ensures { TerminalsAreNumbered }
 {}

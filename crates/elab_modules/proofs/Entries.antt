@@ -10,8 +10,8 @@ use Rattle.sg_delay.specs.declared.gates.GateDelays.{GateDelays}
 use Rattle.vl_tree.specs.Tree.{Module}
 use Rattle.elab_model.specs.Members.{Member, members}
 use Rattle.elab_laws.proofs.Lists.{all-append}
-use Rattle.elab_tables.specs.Seen.{view_member}
-use Rattle.elab_tables.specs.declared.member_list.Member as code_member
+use Rattle.elab_variables.specs.Seen.{view_member}
+use Rattle.elab_variables.specs.declared.member_list.Member as code_member
 use Rattle.elab_modules.specs.declared.prepared.Prepared.{Prepared}
 use Rattle.elab_modules.specs.Ready.{IsPrepared, HasDelays, member_delays}
 use Rattle.elab_modules.specs.Telling.{GrowsBy, StandsFor}

@@ -14,8 +14,8 @@ use Rattle.elab_model.specs.declared.kinds.ElabKind.{ElabKind}
 use Rattle.elab_model.specs.Definitions.{as_primitive}
 use Rattle.elab_model.specs.Members.{Member, assignment, supply, gate, instance}
 use Rattle.elab_laws.proofs.Lists.{In, in-left, in-right, in-either, all-weaker, all-append}
-use Rattle.elab_tables.specs.Seen.{view_member}
-use Rattle.elab_tables.specs.declared.member_list.Member as code_member
+use Rattle.elab_variables.specs.Seen.{view_member}
+use Rattle.elab_variables.specs.declared.member_list.Member as code_member
 use Rattle.elab_hierarchy.specs.declared.instances.Placed.{Placed}
 use Rattle.elab_hierarchy.specs.Named.{place_of}
 use Rattle.elab_hierarchy.specs.Tops.{StandsAt}

@@ -16,7 +16,7 @@ use Rattle.elab_model.specs.HierarchyFaults.{two_definitions, self_instances, to
 use Rattle.elab_model.specs.Members.{Member, assignment, supply, gate, instance, members}
 use Rattle.elab_laws.proofs.Lists.{In, all-in}
 use Rattle.elab_laws.proofs.NoFaults.{front, back, flat-empty, map-empty, child-there, all-from}
-use Rattle.elab_tables.specs.Seen.{view_member}
+use Rattle.elab_variables.specs.Seen.{view_member}
 use Rattle.elab_hierarchy.specs.declared.instances.Placed.{Placed}
 use Rattle.elab_hierarchy.specs.Named.{place_of}
 use Rattle.elab_hierarchy.specs.Placing.{ArePlaced, tree_faults, tree_faults_at}

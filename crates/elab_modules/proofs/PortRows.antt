@@ -13,8 +13,8 @@ use Rattle.elab_model.specs.Ports.{port_list, port_names, port_declarations}
 use Rattle.elab_model.specs.Names.{Variable, variable, variables, variable_names, is_among, first_of_each, port_of, port_of_direction}
 use Rattle.elab_model.specs.Bits.{variable_named}
 use Rattle.elab_laws.proofs.NoFaults.{front, back}
-use Rattle.elab_tables.specs.Seen.{variable_at, place_named}
-use Rattle.elab_tables.specs.declared.tables.Row.{Row}
+use Rattle.elab_variables.specs.Seen.{variable_at, place_named}
+use Rattle.elab_variables.specs.declared.tables.Row.{Row}
 use Rattle.elab_bits.proofs.NamedAt.{named-at, not-named}
 use Rattle.elab_modules.specs.Telling.{is_port}
 use Rattle.elab_modules.specs.Connecting.{IsPortRow}

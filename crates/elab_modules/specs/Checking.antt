@@ -12,7 +12,7 @@ use Rattle.elab_model.specs.declared.kinds.ElabKind.{ElabKind}
 use Rattle.elab_model.specs.Faults.{RefusesOneOf}
 use Rattle.elab_model.specs.Members.{members}
 use Rattle.elab_model.specs.ModuleFaults.{all_member_faults}
-use Rattle.elab_tables.specs.Seen.{view_member}
+use Rattle.elab_variables.specs.Seen.{view_member}
 use Rattle.elab_modules.specs.declared.prepared.Prepared.{Prepared}
 use Rattle.elab_modules.specs.declared.library.Ready as code_ready
 use Rattle.elab_modules.specs.declared.library.Ready.TheVariants as ready

@@ -14,7 +14,7 @@ use Rattle.elab_model.specs.ModuleFaults.{port_faults, connection_faults, module
 use Rattle.elab_model.specs.Names.{Variable, variable, is_among}
 use Rattle.elab_model.specs.Ports.{port_names}
 use Rattle.elab_model.specs.TerminalFaults.{expression_faults, terminal_faults, is_missing}
-use Rattle.elab_tables.specs.declared.tables.Row.{Row}
+use Rattle.elab_variables.specs.declared.tables.Row.{Row}
 use Rattle.elab_modules.specs.Telling.{joined_value_faults}
 use Rattle.elab_modules.specs.declared.library.Ready as code_ready
 use Rattle.elab_modules.specs.declared.library.Ready.TheVariants as ready

@@ -14,7 +14,7 @@ use Rattle.elab_model.specs.Faults.{fault}
 use Rattle.elab_model.specs.Members.{Member, assignment, supply, gate, instance, members}
 use Rattle.elab_model.specs.ModuleFaults.{module_faults}
 use Rattle.elab_laws.specs.Words.{In}
-use Rattle.elab_tables.specs.Seen.{view_member}
+use Rattle.elab_variables.specs.Seen.{view_member}
 use Rattle.elab_hierarchy.specs.Named.{place_of}
 use Rattle.elab_hierarchy.specs.Tops.{StandsAt}
 use Rattle.elab_primitives.specs.Refusals.{IsOfTable, RefusesPrimitive}

@@ -14,7 +14,7 @@ use Rattle.elab_model.specs.NameFaults.{declaration_faults}
 use Rattle.elab_model.specs.Names.{variables}
 use Rattle.elab_model.specs.Ports.{port_list}
 use Rattle.elab_model.specs.Primitives.{table_of, initial_value}
-use Rattle.elab_tables.specs.Seen.{view_member}
+use Rattle.elab_variables.specs.Seen.{view_member}
 use Rattle.elab_hierarchy.specs.Tops.{StandsAt}
 use Rattle.elab_primitives.specs.Refusals.{IsFaultless}
 use Rattle.elab_modules.specs.declared.prepared.Prepared.{Prepared}

@@ -7,7 +7,7 @@ ghost use Rattle.elab_modules.specs.Telling.{Tells, sides_faults};
 use crate::terminals::{bits_of, check_driven};
 use elab_bits::{Bit, check_expression};
 use elab_model::ElabKind;
-use elab_tables::Table;
+use elab_variables::Table;
 use sg_text::{Place, Refused};
 use vl_tree::{Expression, Name};
 

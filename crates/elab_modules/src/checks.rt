@@ -2,7 +2,7 @@
 ghost use Rattle.std.specs.Prelude.{◌≡◌, ◌≤◌, ◌≤ℤ◌, ◌++◌, All, List, [], Some, IfOk, IfErr, length, map};
 ghost use Rattle.std.specs.List.{AllByRecursion};
 ghost use Rattle.sg_delay.specs.declared.gates.GateDelays as ghost_delays;
-ghost use Rattle.elab_tables.specs.Seen.{view_member};
+ghost use Rattle.elab_variables.specs.Seen.{view_member};
 ghost use Rattle.elab_modules.specs.declared.prepared.Prepared.{Prepared};
 ghost use Rattle.elab_modules.specs.Ready.{AreReady, MemberReady};
 ghost use Rattle.elab_modules.specs.Checking.{AreNamed, AreInTicks, AreChecked, IsModule, IsChecked, RefusesOne, RefusesPart};

@@ -14,7 +14,7 @@ use crate::terminals::check_value;
 use elab_bits::Bit;
 use elab_model::ElabKind;
 use elab_names::check_once;
-use elab_tables::Table;
+use elab_variables::Table;
 use sg_text::{NoMemory, Place, Refused};
 use std::alloc::Global;
 use vl_tree::{Connections, Delay, Expression, Instance, Name, NamedConnection};

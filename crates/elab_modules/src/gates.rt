@@ -8,7 +8,7 @@ ghost use Rattle.elab_modules.specs.Connecting.{gate_faults};
 use crate::terminals::check_joined;
 use elab_bits::Bit;
 use elab_model::ElabKind;
-use elab_tables::Table;
+use elab_variables::Table;
 use sg_logic::GateKind;
 use sg_text::Refused;
 use vl_tree::{Expression, GateInstance};

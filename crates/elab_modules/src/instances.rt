@@ -16,7 +16,7 @@ use crate::{Prepared, Ready};
 use elab_bits::Bit;
 use elab_hierarchy::Definitions;
 use elab_model::ElabKind;
-use elab_tables::Table;
+use elab_variables::Table;
 use sg_text::Refused;
 use vl_tree::{Delay, Instance, Name, Part};
 

@@ -8,7 +8,7 @@ ghost use Rattle.elab_model.specs.Names.{variables};
 ghost use Rattle.elab_modules.specs.Telling as telling;
 ghost use Rattle.elab_modules.specs.Connecting.{IsPortRow};
 
-use elab_tables::{Row, Table};
+use elab_variables::{Row, Table};
 use sg_circuit::{Port, Range};
 
 fn is_port(port: Port) -> bool

@@ -7,7 +7,7 @@ ghost use Rattle.elab_modules.specs.Ready.{IsPrepared};
 
 use elab_model::ElabKind;
 use elab_names::port_list;
-use elab_tables::{Member, Table, members};
+use elab_variables::{Member, Table, members};
 use sg_text::Refused;
 use std::alloc::Global;
 use vl_tree::{Module, Name};

@@ -10,7 +10,7 @@ ghost use Rattle.elab_modules.specs.Connecting.{given_faults, terminal_list_faul
 use crate::terminals::check_value;
 use elab_bits::Bit;
 use elab_model::ElabKind;
-use elab_tables::Table;
+use elab_variables::Table;
 use sg_text::{Place, Refused};
 use vl_tree::{Connections, Expression, Instance};
 

@@ -2,7 +2,7 @@
 ghost use Rattle.std.specs.Prelude.{◌≡◌, ℕ, ◌<◌, ◌^◌, ◌++◌, ◌∷◌, List, [], IfOk, OnOk, IfErr, All, None, length, map, replicate};
 ghost use Rattle.vl_tree.specs.Tree.{Module};
 ghost use Rattle.elab_model.specs.HierarchyFaults.{two_definitions};
-ghost use Rattle.elab_tables.specs.Seen.{view_member};
+ghost use Rattle.elab_variables.specs.Seen.{view_member};
 ghost use Rattle.elab_hierarchy.specs.Tops.{StandsAt};
 ghost use Rattle.elab_modules.specs.Reaching.{IsStock, IsNameReady, Stocked, HasMet, KeepsModules, RefusesMembers, RefusesModule, RefusesMet, RefusesNamed};
 
@@ -10,7 +10,7 @@ use crate::{Ready, prepare};
 use elab_hierarchy::{Definitions, Placed};
 use elab_model::ElabKind;
 use elab_primitives::check_primitive;
-use elab_tables::Member;
+use elab_variables::Member;
 use sg_circuit::UdpUse;
 use sg_text::{NoMemory, Refused};
 use std::alloc::Global;

@@ -10,7 +10,7 @@ ghost use Rattle.elab_modules.specs.Telling.{Tells, joined_faults, joined_value_
 
 use elab_bits::{Bit, add_bits, check_expression};
 use elab_model::ElabKind;
-use elab_tables::Table;
+use elab_variables::Table;
 use sg_text::{NoMemory, Place, Refused};
 use vl_tree::Expression;
 

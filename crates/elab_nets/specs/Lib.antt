@@ -1,3 +1,10 @@
 -- The modules of this folder: words of the contracts.
-pub mod Refusals
-pub mod Driving
+pub mod Numbers
+pub mod Own
+pub mod Outside
+pub mod Terminals
+pub mod Inputs
+pub mod Written
+pub mod Rows
+pub mod Parts
+pub mod Turns

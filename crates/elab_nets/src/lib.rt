@@ -1,8 +1,17 @@
-//! The nets of a circuit by their numbers: what is handed from an instance to those in it, and who drives each.
+//! The nets of a circuit in order, and the number of the net of each bit of each instance.
 #![tactic(auto)]
 
-mod driving;
-mod handing;
+mod bit_nets;
+mod inputs;
+mod limit;
+mod member_bits;
+mod members;
+mod outside;
+mod own;
+mod parts;
+mod rows;
+mod terminals;
+mod turns;
+mod writing;
 
-pub use driving::{drive_inputs, drive_outputs, drive_regs};
-pub use handing::hand_down;
+pub use rows::{Rows, rows_of};

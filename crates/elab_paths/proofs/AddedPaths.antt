@@ -22,8 +22,8 @@ use Rattle.elab_laws.specs.Handing.{all_bits}
 use Rattle.elab_laws.proofs.Lists.{all-append}
 use Rattle.elab_bits.proofs.InRow.{blank}
 use Rattle.elab_bits.specs.Seen.{bit_at}
-use Rattle.elab_nets.specs.Refusals.{RefusesCount}
-use Rattle.elab_rows.specs.Own.{net_at}
+use Rattle.elab_numbering.specs.Refusals.{RefusesCount}
+use Rattle.elab_nets.specs.Own.{net_at}
 use Rattle.specify_paths.specs.Seen.{bit_seen}
 use Rattle.elab_paths.specs.Ready.{condition_ready, path_ready}
 use Rattle.elab_paths.specs.Uses.{IsRow, AddsPaths, AddsUse}

@@ -13,8 +13,8 @@ use Rattle.elab_model.specs.Members.{Member, assignment, supply, gate, instance,
 use Rattle.specify_model.specs.Blocks.{block_of}
 use Rattle.specify_model.specs.Faults.{blocks_in_hierarchy}
 use Rattle.elab_names.specs.Words.{first_of}
-use Rattle.elab_tables.specs.Seen.{view_member}
-use Rattle.elab_tables.specs.declared.member_list.Member as code_member
+use Rattle.elab_variables.specs.Seen.{view_member}
+use Rattle.elab_variables.specs.declared.member_list.Member as code_member
 use Rattle.elab_paths.specs.OfModules.{is_child}
 
 -- ---- the instances of modules among members

@@ -36,7 +36,7 @@ use Rattle.specify_model.specs.Terms.{NetBit, net_bit, term_bits}
 use Rattle.elab_laws.specs.Handing.{all_bits}
 use Rattle.elab_laws.proofs.NoFaults.{front, back}
 use Rattle.elab_laws.proofs.Places.{position-below}
-use Rattle.elab_tables.specs.Seen.{variable_at, place_named}
+use Rattle.elab_variables.specs.Seen.{variable_at, place_named}
 use Rattle.elab_bits.proofs.InRow.{blank, place-is, stands-within}
 use Rattle.elab_bits.proofs.NamedAt.{named-at, not-named}
 use Rattle.specify_paths.specs.Seen.{IsRead}

@@ -16,7 +16,7 @@ use Rattle.elab_model.specs.Faults.{Fault, RefusesOneOf}
 use Rattle.elab_model.specs.Hierarchy.{Instance, instances}
 use Rattle.elab_model.specs.HierarchyFaults.{two_definitions}
 use Rattle.elab_model.specs.Names.{variables}
-use Rattle.elab_circuit.specs.Faults.{module_path_faults, path_faults}
+use Rattle.circuit_model.specs.Faults.{module_path_faults, path_faults}
 use Rattle.elab_laws.specs.Handing.{all_bits}
 use Rattle.elab_laws.proofs.Lists.{In, all-in}
 use Rattle.elab_laws.proofs.NoFaults.{all-from}

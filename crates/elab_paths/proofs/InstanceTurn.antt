@@ -12,14 +12,14 @@ use Rattle.elab_model.specs.Faults.{RefusesOneOf}
 use Rattle.elab_model.specs.Hierarchy.{Instance, instances}
 use Rattle.elab_model.specs.Names.{Variable}
 use Rattle.elab_model.specs.Nets.{OwnNet, nets}
-use Rattle.elab_circuit.specs.Faults.{over, path_count}
-use Rattle.elab_circuit.specs.PathUses as def
+use Rattle.circuit_model.specs.Faults.{over, path_count}
+use Rattle.circuit_model.specs.PathUses as def
 use Rattle.elab_laws.specs.Handing.{all_bits}
 use Rattle.elab_hierarchy.specs.declared.instances.Placed.{Placed}
 use Rattle.elab_modules.specs.Ready.{IsPrepared}
 use Rattle.elab_modules.specs.declared.library.Library.{Library}
 use Rattle.elab_modules.specs.declared.prepared.Prepared.{Prepared}
-use Rattle.elab_rows.specs.declared.rows.Rows.{Rows}
+use Rattle.elab_nets.specs.declared.rows.Rows.{Rows}
 use Rattle.elab_elements.specs.Adding.{IsHere}
 use Rattle.elab_elements.proofs.StandingAt.{placed-count}
 use Rattle.elab_paths.specs.Ready.{IsReadyOutput}

@@ -13,8 +13,8 @@ use Rattle.elab_model.specs.Names.{variables}
 use Rattle.elab_model.specs.Nets.{OwnNet, nets}
 use Rattle.elab_model.specs.declared.kinds.ElabKind.TheVariants.{SpecifyInHierarchy}
 use Rattle.specify_model.specs.Faults.{blocks_in_hierarchy, specify_faults}
-use Rattle.elab_circuit.specs.Faults.{module_path_faults}
-use Rattle.elab_circuit.specs.PathUses as def
+use Rattle.circuit_model.specs.Faults.{module_path_faults}
+use Rattle.circuit_model.specs.PathUses as def
 use Rattle.elab_laws.specs.Handing.{all_bits, number_at}
 use Rattle.elab_laws.proofs.Lists.{In, all-in}
 use Rattle.elab_laws.proofs.NoFaults.{back, flat-empty}
@@ -25,8 +25,8 @@ use Rattle.elab_modules.specs.declared.library.Library.{Library}
 use Rattle.elab_modules.specs.declared.library.Ready as code_ready
 use Rattle.elab_modules.specs.declared.library.Ready.TheVariants as ready
 use Rattle.elab_modules.specs.declared.prepared.Prepared.{Prepared}
-use Rattle.elab_rows.specs.Rows.{part_of, HasRow}
-use Rattle.elab_rows.specs.declared.rows.Rows.{Rows}
+use Rattle.elab_nets.specs.Rows.{part_of, HasRow}
+use Rattle.elab_nets.specs.declared.rows.Rows.{Rows}
 use Rattle.elab_elements.specs.Adding.{IsHere}
 use Rattle.elab_elements.proofs.StandingAt.{at-place, at-split, instance-number, instance-ready}
 use Rattle.elab_paths.specs.Ready.{path_ready, output_ready, IsReadyOutput, IsReadyOf, HasPaths}

@@ -12,8 +12,8 @@ use Rattle.sg_circuit.specs.declared.elements.ElementKind.{ElementKind}
 use Rattle.sg_circuit.specs.declared.elements.ElementKind.TheVariants as kind
 use Rattle.sg_circuit.specs.declared.elements.LegTiming.{LegTiming}
 use Rattle.elab_model.specs.Elements.{leg_kind}
-use Rattle.elab_circuit.specs.PathUses as def
-use Rattle.elab_circuit.specs.WithPaths.{redirected, path_element}
+use Rattle.circuit_model.specs.PathUses as def
+use Rattle.circuit_model.specs.WithPaths.{redirected, path_element}
 use Rattle.elab_laws.proofs.Lists.{all-append, all-map, all-map_back, all-weaker}
 use Rattle.elab_elements.specs.Puts.{Wired, wired}
 use Rattle.elab_elements.specs.Seen.{kind_in, element_in, NamesPlaces}

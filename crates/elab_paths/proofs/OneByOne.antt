@@ -15,8 +15,8 @@ use Rattle.elab_model.specs.Faults.{RefusesOneOf}
 use Rattle.elab_model.specs.Hierarchy.{Instance}
 use Rattle.elab_model.specs.Names.{Variable}
 use Rattle.elab_model.specs.Nets.{OwnNet}
-use Rattle.elab_circuit.specs.Faults.{over}
-use Rattle.elab_circuit.specs.PathUses as def
+use Rattle.circuit_model.specs.Faults.{over}
+use Rattle.circuit_model.specs.PathUses as def
 use Rattle.specify_model.specs.Terms.{NetBit}
 use Rattle.elab_laws.specs.Handing.{all_bits}
 use Rattle.elab_elements.specs.Adding.{IsHere}

@@ -13,7 +13,7 @@ use Rattle.elab_model.specs.Names.{Variable, variables}
 use Rattle.specify_model.specs.Blocks.{specify_items}
 use Rattle.specify_model.specs.Faults.{blocks_in_hierarchy, faults_by, specify_faults}
 use Rattle.specify_model.specs.Outputs.{measure, outputs_by}
-use Rattle.elab_circuit.specs.Faults.{module_path_faults}
+use Rattle.circuit_model.specs.Faults.{module_path_faults}
 use Rattle.elab_laws.specs.Handing.{all_bits}
 use Rattle.elab_names.proofs.Refusals.{refused-left, refused-right}
 use Rattle.specify_paths.specs.Seen.{outputs_seen, IsInRow}

@@ -19,13 +19,13 @@ use Rattle.elab_model.specs.Hierarchy.{Instance}
 use Rattle.elab_model.specs.Names.{Variable, variable, variables}
 use Rattle.elab_model.specs.Nets.{OwnNet}
 use Rattle.specify_model.specs.Paths.{circuit_path}
-use Rattle.elab_circuit.specs.PathUses as def
+use Rattle.circuit_model.specs.PathUses as def
 use Rattle.elab_laws.specs.Handing.{all_bits}
 use Rattle.elab_laws.proofs.Lists.{all-append, all-weaker}
 use Rattle.elab_bits.specs.Seen.{bit_at}
-use Rattle.elab_rows.specs.Own.{net_at}
-use Rattle.elab_rows.proofs.BitPlaces.{known-at}
-use Rattle.elab_rows.proofs.RowParts.{part-grown, part-behind}
+use Rattle.elab_nets.specs.Own.{net_at}
+use Rattle.elab_nets.proofs.BitPlaces.{known-at}
+use Rattle.elab_nets.proofs.RowParts.{part-grown, part-behind}
 use Rattle.elab_elements.specs.Adding.{IsHere}
 use Rattle.specify_paths.specs.Seen.{bit_seen}
 use Rattle.elab_paths.specs.Ready.{path_ready, output_ready, IsReadyPath, IsReadyOutput}

@@ -17,12 +17,12 @@ use Rattle.elab_model.specs.Faults.{RefusesOneOf}
 use Rattle.elab_model.specs.HierarchyFaults.{count_limit}
 use Rattle.elab_model.specs.Nets.{OwnNet, nets}
 use Rattle.elab_model.specs.Numbered.{undriven, element_of}
-use Rattle.elab_circuit.specs.Faults.{over, path_count}
-use Rattle.elab_circuit.specs.PathUses as def
-use Rattle.elab_circuit.specs.WithPaths.{redirected, path_element, placed_element, all_nets, all_elements}
+use Rattle.circuit_model.specs.Faults.{over, path_count}
+use Rattle.circuit_model.specs.PathUses as def
+use Rattle.circuit_model.specs.WithPaths.{redirected, path_element, placed_element, all_nets, all_elements}
 use Rattle.elab_hierarchy.specs.declared.instances.Placed.{Placed}
 use Rattle.elab_modules.specs.declared.library.Library.{Library}
-use Rattle.elab_rows.specs.declared.rows.Rows.{Rows}
+use Rattle.elab_nets.specs.declared.rows.Rows.{Rows}
 use Rattle.elab_elements.specs.Puts.{wired}
 use Rattle.elab_elements.specs.Seen.{element_in}
 use Rattle.elab_elements.specs.declared.placing.Placing.{Placing}

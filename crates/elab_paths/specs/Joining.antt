@@ -19,14 +19,14 @@ use Rattle.elab_model.specs.Elements.{leg_kind}
 use Rattle.elab_model.specs.Faults.{Fault}
 use Rattle.elab_model.specs.Hierarchy.{instances}
 use Rattle.elab_model.specs.HierarchyFaults.{count_limit}
-use Rattle.elab_circuit.specs.Faults.{over, path_count}
-use Rattle.elab_circuit.specs.WithPaths.{all_nets, all_elements}
+use Rattle.circuit_model.specs.Faults.{over, path_count}
+use Rattle.circuit_model.specs.WithPaths.{all_nets, all_elements}
 use Rattle.elab_hierarchy.specs.Placing.{ArePlaced}
 use Rattle.elab_hierarchy.specs.declared.instances.Placed.{Placed}
 use Rattle.elab_modules.specs.Reached.{IsLibrary}
 use Rattle.elab_modules.specs.declared.library.Library.{Library}
-use Rattle.elab_rows.specs.Rows.{HaveRows}
-use Rattle.elab_rows.specs.declared.rows.Rows.{Rows}
+use Rattle.elab_nets.specs.Rows.{HaveRows}
+use Rattle.elab_nets.specs.declared.rows.Rows.{Rows}
 use Rattle.elab_elements.specs.Seen.{AreElements}
 use Rattle.elab_elements.specs.declared.placing.Placing.{Placing}
 use Rattle.elab_paths.specs.Ready.{HavePaths}

@@ -12,7 +12,7 @@ use Rattle.elab_model.specs.Hierarchy.{child_of_member}
 use Rattle.elab_model.specs.Members.{Member}
 use Rattle.elab_model.specs.Names.{variables}
 use Rattle.specify_model.specs.Outputs.{path_outputs}
-use Rattle.elab_circuit.specs.Faults.{module_path_faults}
+use Rattle.circuit_model.specs.Faults.{module_path_faults}
 use Rattle.elab_laws.specs.Handing.{all_bits}
 use Rattle.elab_laws.specs.Words.{In}
 use Rattle.elab_hierarchy.specs.Tops.{StandsAt}

@@ -5,7 +5,7 @@ use Rattle.sg_circuit.specs.declared.scopes.Range.{Range}
 use Rattle.elab_model.specs.Bits.{position_at}
 use Rattle.elab_model.specs.Names.{Variable}
 use Rattle.elab_laws.specs.Handing.{all_bits}
-use Rattle.elab_tables.specs.Seen.{variable_at, place_named}
+use Rattle.elab_variables.specs.Seen.{variable_at, place_named}
 
 -- an operand without an index is one bit
 abbrev pub operand_position : Option Range → Option ℤ → Option ℕ

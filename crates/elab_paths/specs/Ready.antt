@@ -13,7 +13,7 @@ use Rattle.elab_model.specs.Names.{Variable, variables}
 use Rattle.specify_model.specs.Conditions.{ModuleCondition, Always, If, IfNone, over, operand_bit}
 use Rattle.specify_model.specs.Outputs.{PathOutput, path_outputs}
 use Rattle.specify_model.specs.Paths.{ModulePath}
-use Rattle.elab_circuit.specs.Faults.{path_faults}
+use Rattle.circuit_model.specs.Faults.{path_faults}
 use Rattle.elab_laws.specs.Handing.{all_bits}
 use Rattle.elab_hierarchy.specs.Tops.{StandsAt}
 use Rattle.specify_paths.specs.Seen.{bit_seen, IsRead}

@@ -17,11 +17,11 @@ use Rattle.specify_model.specs.Conditions.{operand}
 use Rattle.specify_model.specs.Faults.{operand_faults}
 use Rattle.specify_model.specs.Paths.{circuit_path}
 use Rattle.specify_model.specs.Terms.{NetBit}
-use Rattle.elab_circuit.specs.Faults.{over}
-use Rattle.elab_circuit.specs.PathUses as def
+use Rattle.circuit_model.specs.Faults.{over}
+use Rattle.circuit_model.specs.PathUses as def
 use Rattle.elab_laws.specs.Handing.{all_bits}
 use Rattle.elab_bits.specs.Seen.{bit_at}
-use Rattle.elab_rows.specs.Own.{net_at}
+use Rattle.elab_nets.specs.Own.{net_at}
 use Rattle.specify_paths.specs.Seen.{IsRead}
 use Rattle.elab_paths.specs.Ready.{path_ready}
 use Rattle.elab_paths.specs.declared.shelving.ReadyCondition.{ReadyCondition}

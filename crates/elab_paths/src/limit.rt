@@ -1,6 +1,6 @@
 // How many nets, elements and paths there may be.
 ghost use Rattle.std.specs.Prelude.{ℕ, ◌+◌, ◌<◌, ◌^◌, OnOk, IfErr};
-ghost use Rattle.elab_nets.specs.Refusals.{RefusesCount};
+ghost use Rattle.elab_numbering.specs.Refusals.{RefusesCount};
 
 use elab_model::ElabKind;
 use sg_text::{Place, Refused};

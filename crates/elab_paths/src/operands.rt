@@ -4,7 +4,7 @@ ghost use Rattle.elab_paths.specs.Operands.{operand_position, net_named};
 
 use cond_expr::Find;
 use elab_bits::position_at;
-use elab_tables::Table;
+use elab_variables::Table;
 use sg_circuit::{NetId, Range};
 use sg_text::Text;
 

@@ -5,7 +5,7 @@ use Rattle.std.proofs.lemmas.List.{get_or_at}
 use Rattle.sg_circuit.specs.Closed.{width_of}
 use Rattle.elab_model.specs.Names.{Variable}
 use Rattle.elab_laws.specs.Handing.{all_bits}
-use Rattle.elab_tables.specs.Seen.{place_named, variable_at}
+use Rattle.elab_variables.specs.Seen.{place_named, variable_at}
 use Rattle.elab_bits.specs.Seen.{bit_at}
 use Rattle.elab_bits.proofs.InRow.{blank, place-is}
 use Rattle.elab_ports.proofs.Rows.{SplitsFrom, place-below}

@@ -8,7 +8,7 @@ use Rattle.std.proofs.lemmas.List.Folds.{length-flat_map-take}
 use Rattle.std.proofs.lemmas.Slice.Eq.{bytes_eq-Decides}
 use Rattle.elab_model.specs.Names.{Variable}
 use Rattle.elab_laws.specs.Handing.{variable_bits, all_bits}
-use Rattle.elab_tables.specs.Seen.{place_named}
+use Rattle.elab_variables.specs.Seen.{place_named}
 use Rattle.elab_ports.specs.Binding.{room_from, room_at}
 
 -- where a name is found, in a list whose first has place i

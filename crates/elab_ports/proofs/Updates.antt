@@ -13,7 +13,7 @@ use Rattle.elab_model.specs.Names.{Variable}
 use Rattle.elab_laws.specs.Handing.{variable_bits, all_bits}
 use Rattle.elab_laws.proofs.Apart.{bytes-either}
 use Rattle.elab_laws.proofs.Lists.{all-weaker, Pairwise}
-use Rattle.elab_tables.specs.Seen.{place_named}
+use Rattle.elab_variables.specs.Seen.{place_named}
 use Rattle.elab_ports.specs.Binding.{put, put_at, room_at, bind}
 use Rattle.elab_ports.proofs.Putting.{put-seam, by-places}
 use Rattle.elab_ports.proofs.Rows.{SplitsFrom, split-at, front-is, room-found}

@@ -6,7 +6,7 @@ use Rattle.vl_tree.specs.Tree.{Expression}
 use Rattle.elab_model.specs.Bits.{Bit, bits}
 use Rattle.elab_model.specs.Names.{Variable}
 use Rattle.elab_laws.specs.Handing.{all_bits}
-use Rattle.elab_tables.specs.Seen.{place_named}
+use Rattle.elab_variables.specs.Seen.{place_named}
 use Rattle.elab_bits.specs.Seen.{view_bit, IsInRow}
 use Rattle.elab_bits.specs.declared.bits.Bit as code_bit
 

@@ -11,7 +11,7 @@ ghost use Rattle.elab_ports.specs.Bound.{bound_in, AreConnected, AreOf};
 
 use crate::room::bits_of_port;
 use elab_bits::Bit;
-use elab_tables::Table;
+use elab_variables::Table;
 use sg_text::NoMemory;
 use std::alloc::Global;
 use vl_tree::{Connections, Expression, Instance, Name, NamedConnection};

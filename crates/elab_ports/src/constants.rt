@@ -11,7 +11,7 @@ ghost use Rattle.elab_ports.specs.Placing.{code_constants, Places};
 
 use crate::room::bits_of_port;
 use elab_bits::Bit;
-use elab_tables::Table;
+use elab_variables::Table;
 use sg_logic::Value;
 use sg_text::{NoMemory, Place};
 use std::alloc::Global;

@@ -7,7 +7,7 @@ ghost use Rattle.elab_bits.specs.Seen.{view_bit, IsInRow};
 ghost use Rattle.elab_ports.specs.Binding.{room_at};
 
 use elab_bits::{Bit, add_bits};
-use elab_tables::Table;
+use elab_variables::Table;
 use sg_text::NoMemory;
 use vl_tree::Expression;
 

@@ -9,9 +9,9 @@ use Rattle.elab_model.specs.Hierarchy.{Instance}
 use Rattle.elab_model.specs.Names.{Variable}
 use Rattle.elab_model.specs.Nets.{OwnNet}
 use Rattle.elab_laws.specs.Handing.{variable_bits, all_bits, number_at}
-use Rattle.elab_tables.specs.Seen.{variable_at}
+use Rattle.elab_variables.specs.Seen.{variable_at}
 use Rattle.elab_bits.proofs.InRow.{blank, width-is}
-use Rattle.elab_rows.specs.Rows.{part_of}
+use Rattle.elab_nets.specs.Rows.{part_of}
 use Rattle.elab_scopes.specs.declared.here.Here.{Here}
 use Rattle.elab_scopes.specs.Here.{IsHere}
 

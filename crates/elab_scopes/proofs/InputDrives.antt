@@ -14,7 +14,7 @@ use Rattle.elab_model.specs.Names.{Variable}
 use Rattle.elab_model.specs.Nets.{OwnNet, number_of}
 use Rattle.elab_model.specs.Ports.{port_declarations}
 use Rattle.elab_laws.specs.Handing.{variable_bits, number_at}
-use Rattle.elab_tables.specs.Seen.{variable_at}
+use Rattle.elab_variables.specs.Seen.{variable_at}
 use Rattle.elab_bits.proofs.InRow.{blank}
 use Rattle.elab_scopes.specs.declared.driven.DrivenNets.{DrivenNets}
 use Rattle.elab_scopes.specs.Driven.{drive_numbers, drive_places, AreDriven, AddsDriven, same_place, declared_place}

@@ -9,7 +9,7 @@ use Rattle.elab_model.specs.Nets.{OwnNet}
 use Rattle.elab_hierarchy.specs.declared.instances.Placed.{Placed}
 use Rattle.elab_hierarchy.specs.Placing.{IsPlaced, ArePlaced}
 use Rattle.elab_modules.specs.declared.library.Library.{Library}
-use Rattle.elab_rows.specs.declared.rows.Rows.{Rows}
+use Rattle.elab_nets.specs.declared.rows.Rows.{Rows}
 use Rattle.elab_scopes.specs.Here.{AreRead, Stands}
 
 pub record PlacedAt (source : Source) (p : Placed) (i : ℕ) (ss : List Instance) : Type 0 where

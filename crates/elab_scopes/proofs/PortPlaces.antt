@@ -12,7 +12,7 @@ use Rattle.elab_model.specs.Drivers.{port_place}
 use Rattle.elab_model.specs.Names.{Variable, variables}
 use Rattle.elab_laws.proofs.Lists.{all-in, in-right, Pairwise}
 use Rattle.elab_laws.proofs.Apart.{bytes-either, variables-apart}
-use Rattle.elab_tables.specs.Seen.{place_named, variable_at}
+use Rattle.elab_variables.specs.Seen.{place_named, variable_at}
 use Rattle.elab_bits.proofs.InRow.{blank}
 use Rattle.elab_ports.proofs.Rows.{split-at, place-below}
 use Rattle.elab_model.specs.Ports.{port_declarations}

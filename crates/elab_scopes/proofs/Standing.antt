@@ -23,8 +23,8 @@ use Rattle.elab_modules.specs.declared.library.Ready as code_ready
 use Rattle.elab_modules.specs.declared.library.Ready.TheVariants as ready
 use Rattle.elab_modules.specs.Ready.{IsPrepared, IsReady, AreReady}
 use Rattle.elab_modules.specs.Reached.{IsReached}
-use Rattle.elab_rows.specs.declared.rows.Rows.{Rows}
-use Rattle.elab_rows.specs.Rows.{part_of}
+use Rattle.elab_nets.specs.declared.rows.Rows.{Rows}
+use Rattle.elab_nets.specs.Rows.{part_of}
 use Rattle.elab_scopes.specs.declared.here.Here.{Here}
 use Rattle.elab_scopes.specs.Here.{Stands, IsModule, IsHere}
 use Rattle.elab_scopes.proofs.PlacedAt.{PlacedAt}

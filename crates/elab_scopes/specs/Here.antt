@@ -15,8 +15,8 @@ use Rattle.elab_modules.specs.declared.library.Ready.TheVariants as ready
 use Rattle.elab_modules.specs.declared.prepared.Prepared.{Prepared}
 use Rattle.elab_modules.specs.Ready.{IsPrepared}
 use Rattle.elab_modules.specs.Reached.{IsLibrary}
-use Rattle.elab_rows.specs.declared.rows.Rows.{Rows}
-use Rattle.elab_rows.specs.Rows.{HaveRows}
+use Rattle.elab_nets.specs.declared.rows.Rows.{Rows}
+use Rattle.elab_nets.specs.Rows.{HaveRows}
 use Rattle.elab_scopes.specs.declared.here.Here.{Here}
 
 -- the instances and the nets below a top, and what the code has of them

@@ -5,11 +5,11 @@ ghost use Rattle.vl_tree.specs.Tree.{Source};
 ghost use Rattle.elab_model.specs.Hierarchy.{Instance};
 ghost use Rattle.elab_model.specs.Nets.{OwnNet};
 ghost use Rattle.elab_laws.specs.Handing.{variable_bits, all_bits, number_at};
-ghost use Rattle.elab_tables.specs.Seen.{variable_at};
+ghost use Rattle.elab_variables.specs.Seen.{variable_at};
 ghost use Rattle.elab_scopes.specs.Here.{IsHere};
 
 use crate::here::{Here, part};
-use elab_tables::Table;
+use elab_variables::Table;
 use sg_circuit::NetId;
 
 /// The nets of the bits of the variable at a place, left first.

@@ -8,7 +8,7 @@ ghost use Rattle.elab_model.specs.Names.{variables};
 ghost use Rattle.elab_model.specs.Nets.{OwnNet, nets};
 ghost use Rattle.elab_hierarchy.specs.Placing.{ArePlaced};
 ghost use Rattle.elab_modules.specs.Reached.{IsLibrary};
-ghost use Rattle.elab_rows.specs.Rows.{HaveRows};
+ghost use Rattle.elab_nets.specs.Rows.{HaveRows};
 ghost use Rattle.elab_scopes.specs.Driven.{AreDriven, AreNumbers, drive_numbers};
 ghost use Rattle.elab_scopes.specs.Here.{AreRead, Stands, StandsHere};
 
@@ -17,7 +17,7 @@ use crate::inputs::inputs_of;
 use crate::regs::add_regs;
 use elab_hierarchy::{Definitions, Placed};
 use elab_modules::Library;
-use elab_rows::Rows;
+use elab_nets::Rows;
 use sg_circuit::NetId;
 use sg_text::{NoMemory, Place};
 use std::alloc::Global;

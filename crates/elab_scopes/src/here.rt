@@ -7,12 +7,12 @@ ghost use Rattle.elab_model.specs.Nets.{OwnNet};
 ghost use Rattle.elab_hierarchy.specs.Tops.{StandsAt};
 ghost use Rattle.elab_modules.specs.Ready.{AreReady};
 ghost use Rattle.elab_modules.specs.Reached.{IsReached};
-ghost use Rattle.elab_rows.specs.Rows.{part_of};
+ghost use Rattle.elab_nets.specs.Rows.{part_of};
 ghost use Rattle.elab_scopes.specs.Here.{Stands, IsModule, IsReadyOf, StandsHere};
 
 use elab_hierarchy::Placed;
 use elab_modules::{Library, Prepared, Ready};
-use elab_rows::Rows;
+use elab_nets::Rows;
 use sg_circuit::NetId;
 
 /// The module of an instance, and the net of each of its bits.

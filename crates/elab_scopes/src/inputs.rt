@@ -6,7 +6,7 @@ ghost use Rattle.elab_model.specs.Hierarchy.{Instance};
 ghost use Rattle.elab_model.specs.Homes as def;
 ghost use Rattle.elab_model.specs.Names.{variables};
 ghost use Rattle.elab_model.specs.Nets.{OwnNet};
-ghost use Rattle.elab_tables.specs.Seen.{variable_at};
+ghost use Rattle.elab_variables.specs.Seen.{variable_at};
 ghost use Rattle.elab_scopes.specs.Driven.{AreDriven, AddsDriven, declared_place, same_place};
 ghost use Rattle.elab_scopes.specs.Here.{IsHere};
 

@@ -5,7 +5,7 @@ ghost use Rattle.elab_model.specs.Drivers.{reg_drives};
 ghost use Rattle.elab_model.specs.Hierarchy.{Instance};
 ghost use Rattle.elab_model.specs.Names.{variables};
 ghost use Rattle.elab_model.specs.Nets.{OwnNet};
-ghost use Rattle.elab_tables.specs.Seen.{variable_at};
+ghost use Rattle.elab_variables.specs.Seen.{variable_at};
 ghost use Rattle.elab_scopes.specs.Driven.{drive_numbers};
 ghost use Rattle.elab_scopes.specs.Here.{IsHere};
 

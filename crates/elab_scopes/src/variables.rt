@@ -6,7 +6,7 @@ ghost use Rattle.elab_model.specs.Hierarchy.{Instance};
 ghost use Rattle.elab_model.specs.Names as def;
 ghost use Rattle.elab_model.specs.Nets.{OwnNet};
 ghost use Rattle.elab_model.specs.Scopes.{scope_variable};
-ghost use Rattle.elab_tables.specs.Seen.{variable_at};
+ghost use Rattle.elab_variables.specs.Seen.{variable_at};
 ghost use Rattle.elab_scopes.specs.Here.{IsHere};
 
 use crate::bits::bits_of;

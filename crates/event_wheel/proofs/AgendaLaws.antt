@@ -1,6 +1,6 @@
 -- What an agenda promises, of the table that a wheel stands for.
 use Rattle.std.proofs.Common.{◌≡◌, ◌≢◌, ℕ, zero, suc, ◌<◌, ◌≤◌, ◌%◌, ◌==◌, Bool, true, false, if◌then◌else◌, List, [], ◌∷◌, ◌++◌, length, reverse, refl, sym, ◌∙◌, ap, subst, arith, inl, inr}
-use Rattle.std.specs.Prelude.{slice_index_or}
+use Rattle.std.specs.Prelude.{slice_index_or, IfSome, IfNone}
 use Rattle.std.specs.List.{Contains}
 use Rattle.std.specs.Bool.{OnTrue, OnFalse}
 use Rattle.std.specs.Option.{is_some}
@@ -19,7 +19,7 @@ use Rattle.event_wheel.specs.Keys.{Has}
 use Rattle.event_wheel.specs.Links.{Store}
 use Rattle.event_wheel.specs.Chains.{head_or, last_or, Chain}
 use Rattle.event_wheel.specs.Families.{IsOrdered, pair_of, pairs_at, no_ends}
-use Rattle.event_wheel.specs.Kept.{AreChained, AreBuckets, AreDrivers, HasTaken, NoNodeBelow, NoNode, IsNodesTime, table_of, view_of}
+use Rattle.event_wheel.specs.Kept.{AreChained, AreBuckets, AreDrivers, HasTaken, NoNodeBelow, NoNode, IsNodesTime, IsWheel, table_of, view_of}
 use Rattle.event_wheel.specs.Wheel.{WheelView, HoldsPairs, IsBucket, Leads}
 use Rattle.event_wheel.specs.Places.{StartsAt}
 use Rattle.event_wheel.proofs.OrderLaws.{pairs-append, before-parts, before-has}
@@ -27,6 +27,8 @@ use Rattle.event_wheel.proofs.TableLaws.{IsTabled, table_at, in_table, to_table,
 use Rattle.event_wheel.proofs.WheelLaws.{time_is}
 use Rattle.event_wheel.proofs.PlaceLaws.{last_split, last_none}
 use Rattle.event_wheel.proofs.SearchLaws.{begins_is, none_at}
+use Rattle.event_wheel.proofs.WriteLaws.{read_near}
+use Rattle.event_wheel.proofs.LeastLaws.{least_time, least_first, least_none}
 
 -- the list without its last pair
 without_last-push : (ps : List (ℕ × Value)) (p : ℕ × Value) → without_last (ps ++ p ∷ []) ≡ ps
@@ -254,9 +256,6 @@ chained-slots old new buckets drivers near e h =
     (subst (λ (s : List (Option Node)). (b : AreBuckets (λ k. slice_index_or s k None) buckets) → ((i k : ℕ) → i < length buckets → slice_index_or near i None ≡ Some k → Has k (b.chains i)) → AreDrivers (λ k. slice_index_or s k None) drivers → AreChained new buckets drivers near) e
     (λ b n d. record { some = h.some; by_time = b; by_driver = d; as_many = h.as_many; near_in = n })) h.by_time h.near_in h.by_driver
 
-pub from-slots : (old new : Held) (time : ℕ) → new.slots ≡ old.slots → NoNodeBelow (node_at old) time → NoNodeBelow (node_at new) time
-from-slots old new time e h = subst (λ (s : List (Option Node)). NoNodeBelow (λ k. slice_index_or s k None) time) (sym e) h
-
 -- a driver of a wheel that is seen
 pub driver_in : (held : Held) (buckets drivers : List Ends) (v : WheelView) (d : ℕ) → view_of held buckets drivers ≡ v → d < length v.lists → d < length drivers
 driver_in held buckets drivers v d e l = in_table held drivers d (subst (λ (w : WheelView). d < length w.lists) (sym e) l)
@@ -318,3 +317,28 @@ nothing_below held drivers chains time f b =
         let l : time ≤ r.0.time = b.each k r.0 r.1 in
         let t = time_is (node_at held) k r.0 r.1 in
         (omega arith, at ks (λ j h. s j (inr h)))
+
+-- the first place of the tree has the least time of the table
+module _ (held : Held) (buckets drivers : List Ends) (near firsts : List (Option ℕ)) (v : WheelView) where
+  root : (least : Option ℕ) → IsWheel held buckets drivers near firsts → least ≡ slice_index_or firsts 1 least → least ≡ slice_index_or firsts 1 None
+  root least w e = let n = w.noted.is_tree.twice in let s = w.chained.some in read_near firsts 1 1 least refl (omega arith) e
+
+  pub promised_some : (least : Option ℕ) → IsWheel held buckets drivers near firsts → view_of held buckets drivers ≡ v → least ≡ slice_index_or firsts 1 least → IfSome least (λ time. IsLeastTime v.lists time)
+  promised_some None w e g = tt
+  promised_some (Some t) w e g =
+      let D = w.chained.by_driver in
+      let r = root (Some t) w g in
+      subst (λ (u : WheelView). IsLeastTime u.lists t) e
+      (least_is held drivers D.chains t D.indexed (least_time (node_at held) buckets firsts (Some t) w.chained.by_time w.noted w.chained.some r) (least_first (node_at held) buckets firsts (Some t) w.chained.by_time w.noted w.chained.some r))
+
+  pub promised_none : (least : Option ℕ) → IsWheel held buckets drivers near firsts → view_of held buckets drivers ≡ v → least ≡ slice_index_or firsts 1 least → IfNone least (AllEmpty v.lists)
+  promised_none (Some t) w e g = tt
+  promised_none None w e g =
+      let D = w.chained.by_driver in
+      subst (λ (u : WheelView). AllEmpty u.lists) e (all_empty held drivers D.chains D.indexed (least_none (node_at held) buckets firsts None w.chained.by_time w.noted w.chained.some (root None w g)))
+
+  pub promised_below : (least : Option ℕ) → IsWheel held buckets drivers near firsts → view_of held buckets drivers ≡ v → least ≡ slice_index_or firsts 1 least → IfSome least (λ time. NothingBelow time v.lists)
+  promised_below None w e g = tt
+  promised_below (Some t) w e g =
+      let D = w.chained.by_driver in
+      subst (λ (u : WheelView). NothingBelow t u.lists) e (nothing_below held drivers D.chains t D.indexed (least_first (node_at held) buckets firsts (Some t) w.chained.by_time w.noted w.chained.some (root (Some t) w g)))

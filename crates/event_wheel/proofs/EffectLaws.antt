@@ -1,5 +1,5 @@
 -- Both families after a node was taken out of the store or put into it.
-use Rattle.std.proofs.Common.{◌≡◌, ◌≢◌, ℕ, zero, suc, ◌+◌, ◌==◌, true, false, if◌then◌else◌, ◌<◌, ◌≤◌, List, ◌∷◌, ◌++◌, length, refl, sym, ◌∙◌, ap, subst, arith, inl, inr, IsSome}
+use Rattle.std.proofs.Common.{◌≡◌, ◌≢◌, ℕ, zero, suc, ◌+◌, ◌<◌, ◌≤◌, List, ◌∷◌, ◌++◌, length, refl, sym, ◌∙◌, ap, subst, arith, inl, inr, IsSome}
 use Rattle.std.specs.Prelude.{slice_index_or, slice_set}
 use Rattle.std.specs.declared.option.Option.{Option}
 use Rattle.std.specs.declared.option.Option.TheVariants.{Some, None}
@@ -10,7 +10,7 @@ use Rattle.event_wheel.specs.Links.{Store, slot_with_link, store_with_link, stor
 use Rattle.event_wheel.specs.Chains.{head_or, last_or}
 use Rattle.event_wheel.specs.Families.{IsHome, IsIndexed, IsBefore, IsAfter, pair_of, pairs_at, no_ends}
 use Rattle.event_wheel.specs.Kept.{bucket_of, driver_of}
-use Rattle.event_wheel.proofs.LinkLaws.{linked-forth, linked-none, linked-removed, linked-added, pair-linked, removed-other, removed-same, added-other}
+use Rattle.event_wheel.proofs.LinkLaws.{linked-forth, linked-none, linked-removed, linked-added, pair-linked, removed-other}
 use Rattle.event_wheel.proofs.FamilyLaws.{with_chain, neighbour}
 use Rattle.event_wheel.proofs.OrderLaws.{pairs-same}
 use Rattle.event_wheel.proofs.IndexLaws.{indexed-same, indexed-side, indexed-taken, indexed-put, TakenFrom}
@@ -29,28 +29,6 @@ pub pair-taken : (m : Store) (k : ℕ) (node : Node) (x : ℕ) → x ≢ k → p
 pair-taken m k node x o =
     pair-relinked (store_with_links (store_without m k) (link_of node 0) (link_of node 1) 0 (link_of node 1) (link_of node 0)) (link_of node 2) (link_of node 3) 2 (link_of node 3) (link_of node 2) x
     ∙ (pair-relinked (store_without m k) (link_of node 0) (link_of node 1) 0 (link_of node 1) (link_of node 0) x ∙ ap pair_of (removed-other m k x o))
-
-pub none-relinked : (m : Store) (p q : Option ℕ) (b : ℕ) (s t : Option ℕ) (x : ℕ) → m x ≡ None → store_with_links m p q b s t x ≡ None
-none-relinked m p q b s t x e = linked-none q b t x (store_with_link m p (b + 1) s x) (linked-none p (b + 1) s x (m x) e)
-
-pub none-taken : (m : Store) (k : ℕ) (node : Node) → store_after_taking m k node k ≡ None
-none-taken m k node =
-    none-relinked (store_with_links (store_without m k) (link_of node 0) (link_of node 1) 0 (link_of node 1) (link_of node 0)) (link_of node 2) (link_of node 3) 2 (link_of node 3) (link_of node 2) k
-    (none-relinked (store_without m k) (link_of node 0) (link_of node 1) 0 (link_of node 1) (link_of node 0) k (removed-same m k k refl))
-
--- where there is no node, none comes but the new one
-none_removed : (m : Store) (k j : ℕ) → m j ≡ None → store_without m k j ≡ None
-none_removed m k j e = elim (j == k) as (λ c. (if c then None else m j) ≡ None) [ true ↦ refl | false ↦ e ]
-
-pub none_taken : (m : Store) (k : ℕ) (node : Node) (j : ℕ) → m j ≡ None → store_after_taking m k node j ≡ None
-none_taken m k node j e =
-    none-relinked (store_with_links (store_without m k) (link_of node 0) (link_of node 1) 0 (link_of node 1) (link_of node 0)) (link_of node 2) (link_of node 3) 2 (link_of node 3) (link_of node 2) j
-    (none-relinked (store_without m k) (link_of node 0) (link_of node 1) 0 (link_of node 1) (link_of node 0) j (none_removed m k j e))
-
-pub none_put : (m : Store) (k : ℕ) (node : Node) (j : ℕ) → j ≢ k → m j ≡ None → store_after_putting m k node j ≡ None
-none_put m k node j o e =
-    none-relinked (store_with_links (store_with m k node) (link_of node 0) (link_of node 1) 0 (Some k) (Some k)) (link_of node 2) (link_of node 3) 2 (Some k) (Some k) j
-    (none-relinked (store_with m k node) (link_of node 0) (link_of node 1) 0 (Some k) (Some k) j (added-other m k node j o ∙ e))
 
 pub pair-put : (m : Store) (k : ℕ) (node : Node) (x : ℕ) → pair_of (store_after_putting m k node x) ≡ pair_of (store_with m k node x)
 pair-put m k node x =

@@ -11,7 +11,7 @@ use Rattle.event_wheel.specs.Slots.{Held, node_at}
 use Rattle.event_wheel.specs.Links.{Store}
 use Rattle.event_wheel.specs.Chains.{walk}
 use Rattle.event_wheel.specs.Families.{IsIndexed, no_ends, pairs_at}
-use Rattle.event_wheel.specs.Kept.{AreChained, NoNodeBelow, bucket_of, driver_of, list_of, table_of}
+use Rattle.event_wheel.specs.Kept.{AreChained, bucket_of, driver_of, list_of, table_of}
 use Rattle.event_wheel.proofs.IndexLaws.{same_ends}
 
 pub ends-none : (e : Ends) → e.first ≡ None → e.last ≡ None → e ≡ no_ends
@@ -63,6 +63,3 @@ list_none held = at (length held.slots)
 
 pub table-none : (held : Held) (d : ℕ) (drivers : List Ends) (g : Ends) → g ≡ no_ends → drivers ≡ replicate d g → table_of held drivers ≡ replicate d []
 table-none held d drivers g eg ed = ap (table_of held) (ed ∙ ap (replicate d) eg) ∙ map_replicate (list_of held) no_ends d (list_none held)
-
-pub from_zero : (held : Held) → NoNodeBelow (node_at held) 0
-from_zero held = record { each = λ k node e. omega arith }

@@ -21,7 +21,7 @@ use Rattle.event_wheel.proofs.OrderLaws.{pairs-append, pairs-same, ordered-witho
 pub same_ends : (f f' l l' : Option ℕ) → f ≡ f' → l ≡ l' → (let e : Ends = record { first = f; last = l } in e) ≡ (let e : Ends = record { first = f'; last = l' } in e)
 same_ends f f' l l' p q = cc
 
-end_or-some : (o new old : Option ℕ) (k : ℕ) → o ≡ Some k → end_or o new old ≡ old
+pub end_or-some : (o new old : Option ℕ) (k : ℕ) → o ≡ Some k → end_or o new old ≡ old
 end_or-some None new old k e = cc
 end_or-some (Some x) new old k e = refl
 

@@ -14,3 +14,4 @@ pub mod WriteLaws
 pub mod PlaceLaws
 pub mod AgendaLaws
 pub mod SearchLaws
+pub mod LeastLaws

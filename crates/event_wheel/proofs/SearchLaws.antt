@@ -1,8 +1,7 @@
--- The first nodes of buckets, and the least of all times.
-use Rattle.std.proofs.Common.{◌≡◌, ℕ, ◌+◌, ◌<◌, ◌≤◌, ◌%◌, List, [], ◌∷◌, ◌⊎◌, length, refl, sym, ◌∙◌, ap, subst, arith, inl, inr, IsSome}
-use Rattle.std.specs.Prelude.{slice_index_or, IfSome, IfNone}
+-- The first nodes of buckets.
+use Rattle.std.proofs.Common.{◌≡◌, ℕ, ◌<◌, ◌≤◌, ◌%◌, List, [], ◌∷◌, length, refl, sym, ◌∙◌, ap, subst, arith, inl, inr, IsSome}
+use Rattle.std.specs.Prelude.{slice_index_or}
 use Rattle.std.specs.Option.{ForSome}
-use Rattle.std.proofs.lemmas.Bool.{cases_eq}
 use Rattle.std.specs.declared.option.Option.{Option}
 use Rattle.std.specs.declared.option.Option.TheVariants.{Some, None}
 use Rattle.event_wheel.specs.declared.nodes.Node.{Node}
@@ -11,8 +10,8 @@ use Rattle.event_wheel.specs.Keys.{Has}
 use Rattle.event_wheel.specs.Links.{Store}
 use Rattle.event_wheel.specs.Chains.{head_or}
 use Rattle.event_wheel.specs.Families.{pair_of, pairs_at, IsOrdered, no_ends}
-use Rattle.event_wheel.specs.Kept.{AreBuckets, NoNodeBelow, NoNode, IsNodesTime}
-use Rattle.event_wheel.specs.Places.{StartsAt, HasTime, IsLesser}
+use Rattle.event_wheel.specs.Kept.{AreBuckets, NoNodeBelow}
+use Rattle.event_wheel.specs.Places.{StartsAt, HasTime}
 use Rattle.event_wheel.proofs.LinkLaws.{is_some-of}
 use Rattle.event_wheel.proofs.KeyLaws.{head-has}
 use Rattle.event_wheel.proofs.OrderLaws.{before-has}
@@ -69,9 +68,6 @@ begins_is m (Some key) time h = at (m key) refl h
     at None e g = absurd g
     at (Some node) e g = (key, node, refl, e, g)
 
-pub begins_time : (m : Store) (first : Option ℕ) (time : ℕ) → StartsAt m first time → IsNodesTime m time
-begins_time m first time h = let r = begins_is m first time h in (r.0, r.1, r.3, r.4)
-
 is_begin : (m : Store) (key time : ℕ) (node : Node) → m key ≡ Some node → node.time ≡ time → StartsAt m (Some key) time
 is_begin m key time node e h = subst (λ s. HasTime s time) (sym e) h
 
@@ -86,83 +82,3 @@ none_at m buckets i time (Some key) b some ei e below unmet k node h g =
     let low : f.node.time ≤ node.time = f.least k node h (ap (λ t. t % length buckets) g ∙ sym ei) in
     let high : time ≤ f.node.time = below.each key f.node f.held in
     unmet (is_begin m key time f.node f.held (omega arith))
-
-pub below_more : (m : Store) (buckets : List Ends) (i time : ℕ) (first : Option ℕ) → AreBuckets m buckets → 0 < length buckets → i ≡ time % length buckets → first ≡ (slice_index_or buckets i no_ends).first → NoNodeBelow m time → (StartsAt m first time → ⊥)
-    → NoNodeBelow m (time + 1)
-below_more m buckets i time first b some ei e below unmet =
-    record {
-      each = λ k node h. elim (cases_eq node.time time) [
-        | inl same ↦ absurd (none_at m buckets i time first b some ei e below unmet k node h same)
-        | inr other ↦ (let l : time ≤ node.time = below.each k node h in omega arith)
-      ];
-    }
-
--- the least of the times in the first buckets
-pub record IsLeastUpto (m : Store) (n i : ℕ) (least : Option ℕ) : Type 0 where
-  pub time : (t : ℕ) → least ≡ Some t → IsNodesTime m t
-  pub first : (t : ℕ) → least ≡ Some t → (k : ℕ) (node : Node) → m k ≡ Some node → node.time % n < i → t ≤ node.time
-  pub none : least ≡ None → (k : ℕ) (node : Node) → m k ≡ Some node → node.time % n < i → ⊥
-
-pub least_upto-start : (m : Store) (n : ℕ) → IsLeastUpto m n 0 None
-least_upto-start m n = record { time = λ t e. cc; first = λ t e. cc; none = λ e k node h l. omega (arith, l) }
-
-pub least_upto-more : (m : Store) (buckets : List Ends) (i : ℕ) (least result first : Option ℕ) → AreBuckets m buckets → i < length buckets → first ≡ (slice_index_or buckets i no_ends).first → IsLeastUpto m (length buckets) i least → IsLesser m first least result
-    → IsLeastUpto m (length buckets) (i + 1) result
-least_upto-more m buckets i least result None b l e h r =
-    record {
-      time = λ t g. h.time t (sym r ∙ g);
-      first = λ t g k node w s. elim (cases_eq (node.time % length buckets) i) [
-        | inl here ↦ absurd (none_first m buckets i b l (sym e) k node w here)
-        | inr other ↦ h.first t (sym r ∙ g) k node w (omega (arith, s))
-      ];
-      none = λ g k node w s. elim (cases_eq (node.time % length buckets) i) [
-        | inl here ↦ none_first m buckets i b l (sym e) k node w here
-        | inr other ↦ h.none (sym r ∙ g) k node w (omega (arith, s))
-      ];
-    }
-least_upto-more m buckets i least result (Some key) b l e h r =
-    let n : ℕ = length buckets in
-    let f = is_first m buckets i key b l (sym e) in
-    let node : Node = r.0 in
-    let same : f.node ≡ node = (let y : Some f.node ≡ Some node = sym f.held ∙ r.1 in cc) in
-    let t : ℕ = r.2.0 in
-    let at : (u : ℕ) → result ≡ Some u → t ≡ u = (λ u g. let y : Some t ≡ Some u = sym r.2.1 ∙ g in cc) in
-    record {
-      time = λ u g. subst (IsNodesTime m) (at u g) (elim r.2.3 [
-        | inl own ↦ (key, node, r.1, sym own)
-        | inr old ↦ h.time t old
-      ]);
-      first = λ u g k other w s. subst (λ x. x ≤ other.time) (at u g) (elim (cases_eq (other.time % n) i) [
-        | inl here ↦ (let low : f.node.time ≤ other.time = f.least k other w here in
-            let is : f.node.time ≡ node.time = ap (λ (x : Node). x.time) same in
-            let le : t ≤ node.time = r.2.2 in
-            omega arith)
-        | inr there ↦ (let before : other.time % n < i = omega (arith, s) in old k other w before (cases_option least))
-      ]);
-      none = λ g k other w s. (let y : Some t ≡ None = sym r.2.1 ∙ g in cc);
-    }
-  where
-    cases_option : (o : Option ℕ) → (o ≡ None) ⊎ ((x : ℕ) × (o ≡ Some x))
-    cases_option None = inl refl
-    cases_option (Some x) = inr (x, refl)
-
-    old : (k : ℕ) (other : Node) → m k ≡ Some other → other.time % length buckets < i → (least ≡ None) ⊎ ((x : ℕ) × (least ≡ Some x)) → r.2.0 ≤ other.time
-    old k other w s (inl none) = absurd (h.none none k other w s)
-    old k other w s (inr some) = (let a : r.2.0 ≤ some.0 = r.2.4 some.0 some.1 in let b : some.0 ≤ other.time = h.first some.0 some.1 k other w s in omega arith)
-
--- all buckets
-pub least_time : (m : Store) (n : ℕ) (result : Option ℕ) → 0 < n → IsLeastUpto m n n result → IfSome result (IsNodesTime m)
-least_time m n None some h = tt
-least_time m n (Some t) some h = h.time t refl
-
-pub least_first : (m : Store) (n : ℕ) (result : Option ℕ) → 0 < n → IsLeastUpto m n n result → IfSome result (NoNodeBelow m)
-least_first m n None some h = tt
-least_first m n (Some t) some h = record { each = λ k node e. h.first t refl k node e (omega arith) }
-
-pub least_none : (m : Store) (n : ℕ) (result : Option ℕ) → 0 < n → IsLeastUpto m n n result → IfNone result (NoNode m)
-least_none m n (Some t) some h = tt
-least_none m n None some h = record { each = λ k. at k (m k) refl }
-  where
-    at : (k : ℕ) (slot : Option Node) → m k ≡ slot → m k ≡ None
-    at k None e = e
-    at k (Some node) e = absurd (h.none refl k node e (omega arith))

@@ -1,12 +1,11 @@
 -- A node comes into a wheel's chains, or goes out of them.
-use Rattle.std.proofs.Common.{◌==◌, true, false, if◌then◌else◌, ◌≡◌, ◌≢◌, ℕ, zero, suc, IsSome, ◌<◌, ◌≤◌, ◌%◌, List, [], ◌∷◌, ◌++◌, ◌⊎◌, length, reverse, refl, sym, ◌∙◌, ap, subst, arith, inl, inr}
+use Rattle.std.proofs.Common.{◌==◌, true, false, if◌then◌else◌, ◌≡◌, ◌≢◌, ℕ, zero, suc, IsSome, ◌<◌, ◌≤◌, ◌%◌, List, [], ◌∷◌, ◌++◌, length, reverse, refl, sym, ◌∙◌, ap, subst, arith, inl, inr}
 use Rattle.std.specs.Prelude.{slice_index_or, slice_set}
 use Rattle.std.proofs.lemmas.Bool.{cases_eq}
 use Rattle.std.proofs.lemmas.List.{append-nil, length-set, get_or-set_same, get_or-set_other}
 use Rattle.std.proofs.lemmas.Bool.Decides.{nat_tests}
 use Rattle.std.specs.declared.option.Option.{Option}
 use Rattle.std.specs.declared.option.Option.TheVariants.{Some, None}
-use Rattle.sg_logic.specs.declared.values.Value.{Value}
 use Rattle.sg_model.specs.Pending.{IsAbove}
 use Rattle.sg_model.specs.Agenda.{list_at}
 use Rattle.event_wheel.specs.declared.nodes.Node.{Node}
@@ -23,12 +22,8 @@ use Rattle.event_wheel.proofs.KeyLaws.{has-left, has-other, has-middle, has-righ
 use Rattle.event_wheel.proofs.FamilyLaws.{with_chain, with-same, with-other, one-chain}
 use Rattle.event_wheel.proofs.OrderLaws.{pairs-append, after-above}
 use Rattle.event_wheel.proofs.IndexLaws.{indexed-same, pairs-apart}
-use Rattle.event_wheel.proofs.EffectLaws.{bucket_home, driver_home, buckets-taken, drivers-taken, buckets-put, drivers-put, pair-taken, pair-put, none-taken, none_taken, none_put}
+use Rattle.event_wheel.proofs.EffectLaws.{bucket_home, driver_home, buckets-taken, drivers-taken, buckets-put, drivers-put, pair-taken, pair-put}
 use Rattle.event_wheel.proofs.TableLaws.{table_at, table-changed}
-
-pub cases_slot : (o : Option Node) → (o ≡ None) ⊎ ((n : Node) × (o ≡ Some n))
-cases_slot None = inl refl
-cases_slot (Some n) = inr (n, refl)
 
 -- a node's time, by its transition
 pub time_is : (m : Store) (k : ℕ) (node : Node) → m k ≡ Some node → (pair_of (m k)).0 ≡ node.time
@@ -39,13 +34,20 @@ abbrev pub buckets_over : (m : Store) (n : ℕ) (buckets : List Ends) (chains : 
 buckets_over m n buckets chains e f = record { chains = chains; indexed = subst (λ k. IsIndexed m 0 1 (bucket_of k) (λ s t. s ≤ t) buckets chains) e f }
 
 -- the chain of a bucket
-pub bucket_chain : (m : Store) (buckets : List Ends) (i : ℕ) (near : Option ℕ) (b : AreBuckets m buckets) → i < length buckets → ((k : ℕ) → near ≡ Some k → Has k (b.chains i)) → IsBucketChain m (b.chains i) near (slice_index_or buckets i no_ends).last
+pub bucket_chain : (m : Store) (buckets : List Ends) (i : ℕ) (near : Option ℕ) (b : AreBuckets m buckets) → i < length buckets → ((k : ℕ) → near ≡ Some k → Has k (b.chains i)) → IsBucketChain m (b.chains i) near (slice_index_or buckets i no_ends).first
 bucket_chain m buckets i near b l has =
     record {
-      chain = b.indexed.family.chain i l;
-      distinct = b.indexed.family.distinct i l;
-      ordered = b.indexed.ordered i l;
-      ends = ap (λ (e : Ends). e.last) (b.indexed.ends_are i l);
+      sorted = record {
+        chain = b.indexed.family.chain i l;
+        distinct = b.indexed.family.distinct i l;
+        ordered = b.indexed.ordered i l;
+        closed = λ key other node same h e g t.
+            let s = b.indexed.family.sound i key l h in
+            let is : s.0 ≡ node = (let y : Some s.0 ≡ Some node = sym s.1 ∙ e in cc) in
+            let at : same.time % length buckets ≡ i = ap (λ (n : ℕ). n % length buckets) t ∙ (ap (λ (w : Node). w.time % length buckets) (sym is) ∙ s.2) in
+            subst (λ j. Has other (b.chains j)) at (b.indexed.family.complete other same g).1;
+      };
+      begins = ap (λ (e : Ends). e.first) (b.indexed.ends_are i l);
       has = has;
     }
 
@@ -125,34 +127,17 @@ module _ (old new : Held) (buckets drivers buckets' drivers' : List Ends) (near 
         table = table-changed old new drivers drivers' D.chains cd d (pairs_at m rd.front ++ pairs_at m rd.back) D.indexed nd ld within pairs
             (λ j lj other. ap (pairs_at m') (with-other D.chains d (rd.front ++ rd.back) j other)
             ∙ pairs-apart m m' k (D.chains j) kept (outside-not k (D.chains j) (λ g. other (one-chain m 2 3 driver_of (length drivers) D.chains D.indexed.family j d k lj within g here))));
-        from = λ t below. record {
-          each = λ j node' g. elim (cases_slot (m j)) [
-            | inl none ↦ absurd (gone m node j (same j) none node' g)
-            | inr some ↦ (elim (cases_eq j k) [
-              | inl jk ↦ absurd (taken_key m node j (same j) jk node' g)
-              | inr jo ↦ (let l : t ≤ some.0.time = below.each j some.0 some.1 in
-                  let s : some.0.time ≡ node'.time = sym (time_is m j some.0 some.1) ∙ (sym (ap (λ (p : ℕ × Value). p.0) (kept j jo)) ∙ time_is m' j node' g) in
-                  omega arith)
-            ])
-          ];
-        };
         last = λ o lo g.
             let at : last_or None (D.chains o) ≡ Some k = sym (ap (λ (x : Ends). x.last) (D.indexed.ends_are o lo)) ∙ g in
             let od : d ≡ o = one-chain m 2 3 driver_of (length drivers) D.chains D.indexed.family d o k within lo here (last-in (D.chains o) k at) in
             let at' : last_or None (rd.front ++ k ∷ rd.back) ≡ Some k = ap (last_or None) (sym rd.whole) ∙ (ap (λ n. last_or None (D.chains n)) od ∙ at) in
             (od, ap (pairs_at m) (nothing_after_last rd.front k rd.back (subst AreDistinct rd.whole (D.indexed.family.distinct d within)) at'));
       }
-    where
-      gone : (m : Store) (node : Node) (j : ℕ) → node_at new j ≡ store_after_taking m k node j → m j ≡ None → (node' : Node) → node_at new j ≡ Some node' → ⊥
-      gone m node j s none node' g = (let x : None ≡ Some node' = sym (none_taken m k node j none) ∙ (sym s ∙ g) in cc)
-
-      taken_key : (m : Store) (node : Node) (j : ℕ) → node_at new j ≡ store_after_taking m k node j → j ≡ k → (node' : Node) → node_at new j ≡ Some node' → ⊥
-      taken_key m node j s jk node' g = (let x : None ≡ Some node' = sym (ap (store_after_taking m k node) jk ∙ none-taken m k node) ∙ (sym s ∙ g) in cc)
 
 -- a node was put in
 pub has_put : (old new : Held) (buckets drivers buckets' drivers' : List Ends) (near near' : List (Option ℕ)) (k : ℕ) (node : Node) → AreChained old buckets drivers near → node.driver < length drivers → 4 ≤ length node.links
     → IsAbove node.time (reverse (list_at (table_of old drivers) node.driver))
-    → ((keys : List ℕ) → IsBucketChain (node_at old) keys (slice_index_or near (node.time % length buckets) None) (slice_index_or buckets (node.time % length buckets) no_ends).last → IsPlace (node_at old) keys node.time (link_of node 0) (link_of node 1))
+    → ((keys : List ℕ) → IsBucketChain (node_at old) keys (slice_index_or near (node.time % length buckets) None) (slice_index_or buckets (node.time % length buckets) no_ends).first → IsPlace (node_at old) keys node.time (link_of node 0) (link_of node 1))
     → link_of node 2 ≡ (slice_index_or drivers node.driver no_ends).last → link_of node 3 ≡ None
     → node_at old k ≡ None → ((j : ℕ) → node_at new j ≡ store_after_putting (node_at old) k node j)
     → buckets' ≡ slice_set buckets (node.time % length buckets) (ends_between (slice_index_or buckets (node.time % length buckets) no_ends) (link_of node 0) (link_of node 1) (Some k) (Some k))
@@ -210,22 +195,11 @@ has_put old new buckets drivers buckets' drivers' near near' k node h within fou
       buckets = lb;
       table = table-changed old new drivers drivers' D.chains cd d (list_at (table_of old drivers) d ++ (node.time, node.value) ∷ []) D.indexed nd' ld within pairs
           (λ j lj other. ap (pairs_at m') (with-other D.chains d (keys ++ k ∷ []) j other) ∙ pairs-apart m m' k (D.chains j) kept (new_key j lj));
-      from = λ t below l. record {
-        each = λ j node' g. elim (cases_eq j k) [
-          | inl jk ↦ (let s : node.time ≡ node'.time = sym (ap (λ (p : ℕ × Value). p.0) (ap (λ x. pair_of (m' x)) jk ∙ own)) ∙ time_is m' j node' g in omega arith)
-          | inr jo ↦ (elim (cases_slot (m j)) [
-            | inl none ↦ absurd (let x : None ≡ Some node' = sym (none_put m k node j jo none) ∙ (sym (same j) ∙ g) in cc)
-            | inr found ↦ (let below' : t ≤ found.0.time = below.each j found.0 found.1 in
-                let s : found.0.time ≡ node'.time = sym (time_is m j found.0 found.1) ∙ (sym (ap (λ (p : ℕ × Value). p.0) (kept j jo)) ∙ time_is m' j node' g) in
-                omega arith)
-          ])
-        ];
-      };
     }
 
 -- the neighbours of a node that is put in
 pub put_neighbours : (held : Held) (buckets drivers : List Ends) (near : List (Option ℕ)) (driver time : ℕ) (before after last : Option ℕ) → AreChained held buckets drivers near → driver < length drivers
-    → ((keys : List ℕ) → IsBucketChain (node_at held) keys (slice_index_or near (time % length buckets) None) (slice_index_or buckets (time % length buckets) no_ends).last → IsPlace (node_at held) keys time before after)
+    → ((keys : List ℕ) → IsBucketChain (node_at held) keys (slice_index_or near (time % length buckets) None) (slice_index_or buckets (time % length buckets) no_ends).first → IsPlace (node_at held) keys time before after)
     → last ≡ (slice_index_or drivers driver no_ends).last → AreNeighbours (node_at held) (before ∷ after ∷ last ∷ None ∷ [])
 put_neighbours held buckets drivers near driver time before after last h within place is_last = record { each = each }
   where

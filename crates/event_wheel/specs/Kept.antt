@@ -12,6 +12,7 @@ use Rattle.event_wheel.specs.Links.{Store}
 use Rattle.event_wheel.specs.Chains.{walk}
 use Rattle.event_wheel.specs.Families.{IsIndexed, pairs_at, no_ends}
 use Rattle.event_wheel.specs.Wheel.{WheelView}
+use Rattle.event_wheel.specs.Least.{AreFirsts}
 
 -- the transitions of a driver, along its chain
 abbrev pub list_of : Held → Ends → List (ℕ × Value)
@@ -61,17 +62,16 @@ abbrev pub IsNodesTime : Store → ℕ → Type 0
 IsNodesTime m time = (key : ℕ) × (node : Node) × (m key ≡ Some node) × (node.time ≡ time)
 
 -- what a wheel keeps
-pub record IsWheel (held : Held) (buckets drivers : List Ends) (near : List (Option ℕ)) (earliest : ℕ) : Type 0 where
+pub record IsWheel (held : Held) (buckets drivers : List Ends) (near firsts : List (Option ℕ)) : Type 0 where
   pub few : length buckets ≤ 1048576
   pub chained : AreChained held buckets drivers near
-  pub from : NoNodeBelow (node_at held) earliest
+  pub noted : AreFirsts (node_at held) buckets firsts
 
 -- a driver has one transition more, its latest
 pub record HasPut (old : Held) (old_buckets old_drivers : List Ends) (new : Held) (new_buckets new_drivers : List Ends) (new_near : List (Option ℕ)) (driver : ℕ) (pair : ℕ × Value) : Type 0 where
   pub chained : AreChained new new_buckets new_drivers new_near
   pub buckets : length new_buckets ≡ length old_buckets
   pub table : table_of new new_drivers ≡ with_list (table_of old old_drivers) driver (list_at (table_of old old_drivers) driver ++ pair ∷ [])
-  pub from : (time : ℕ) → NoNodeBelow (node_at old) time → time ≤ pair.0 → NoNodeBelow (node_at new) time
 
 -- a driver has one transition less, that of the node at a key
 pub record HasTaken (old : Held) (old_buckets old_drivers : List Ends) (new : Held) (new_buckets new_drivers : List Ends) (new_near : List (Option ℕ)) (key : ℕ) (node : Node) : Type 0 where
@@ -83,6 +83,5 @@ pub record HasTaken (old : Held) (old_buckets old_drivers : List Ends) (new : He
   pub back : List (ℕ × Value)
   pub list : list_at (table_of old old_drivers) node.driver ≡ front ++ (node.time, node.value) ∷ back
   pub table : table_of new new_drivers ≡ with_list (table_of old old_drivers) node.driver (front ++ back)
-  pub from : (time : ℕ) → NoNodeBelow (node_at old) time → NoNodeBelow (node_at new) time
   -- where it was a driver's last, none came after it
   pub last : (driver : ℕ) → driver < length old_drivers → (slice_index_or old_drivers driver no_ends).last ≡ Some key → (node.driver ≡ driver) × (back ≡ [])

@@ -6,4 +6,5 @@ pub mod Links
 pub mod Chains
 pub mod Families
 pub mod Kept
+pub mod Least
 pub mod Places

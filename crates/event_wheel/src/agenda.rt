@@ -4,7 +4,7 @@ ghost use Rattle.std.specs.Bool.{OnTrue, OnFalse};
 ghost use Rattle.sg_model.specs.Pending.{last_of, without_last, IsAbove};
 ghost use Rattle.sg_model.specs.Agenda.{list_at, with_list, IsTaken, NothingDue, NothingBelow, IsLeastTime, AllEmpty, Rises};
 
-use crate::places::{bucket_of, first_time};
+use crate::places::bucket_of;
 use crate::wheel::Wheel;
 use pulse_list::Agenda;
 use sg_logic::Value;
@@ -26,7 +26,6 @@ fn append_from<L: Ledger>(wheel: &mut Wheel, driver: u32, time: u64, value: Valu
 {
     let mut steps = Steps::<L>::new(blank);
     wheel.chains.put(driver, time, value, &mut steps);
-    wheel.earliest = wheel.earliest.min(time);
 }
 
 fn cancel_from<L: Ledger>(wheel: &mut Wheel, driver: u32, blank: Blank)
@@ -107,24 +106,6 @@ fn take_due_from<L: Ledger>(wheel: &mut Wheel, now: u64, blank: Blank) -> Option
     Some((node.driver, node.value))
 }
 
-fn least_from<L: Ledger>(wheel: &mut Wheel, blank: Blank) -> Option<u64>
-    requires name { blank.name ≡ L.name }
-    requires parts { blank.parts ≡ L.parts }
-    requires some { 0 < blank.parts }
-    ensures some { IfSome result (λ time. IsLeastTime wheel.old.lists time) }
-    ensures none { IfNone result (AllEmpty wheel.old.lists) }
-    ensures below { IfSome result (λ time. NothingBelow time wheel.old.lists) }
-    ensures lists { wheel.new.lists ≡ wheel.old.lists }
-    ensures spare { wheel.old.spare ≤ wheel.new.spare }
-    ensures buckets { wheel.new.buckets ≡ wheel.old.buckets }
-{
-    let mut steps = Steps::<L>::new(blank);
-    let (nodes, buckets) = (&wheel.chains.nodes, &wheel.chains.buckets);
-    let time = first_time(nodes, buckets, wheel.earliest, &mut steps)?;
-    wheel.earliest = time;
-    Some(time)
-}
-
 // Each call has the clauses of `Agenda`, and keeps the number of buckets.
 impl Agenda for Wheel {
     ghost lists = { λ w. w.lists };
@@ -137,7 +118,8 @@ impl Agenda for Wheel {
         ensures spare { self.old.spare ≤ self.new.spare }
         ensures buckets { self.new.buckets ≡ self.old.buckets }
     {
-        self.chains.nodes.reserve(n)
+        self.chains.nodes.reserve(n)?;
+        self.chains.runs.reserve(self.chains.nodes.keys())
     }
 
     fn append(&mut self, driver: u32, time: u64, value: Value)
@@ -193,6 +175,6 @@ impl Agenda for Wheel {
         ensures spare { self.old.spare ≤ self.new.spare }
         ensures buckets { self.new.buckets ≡ self.old.buckets }
     {
-        least_from::<Brand>(self, Blank::new(1))
+        self.chains.firsts[1]
     }
 }

@@ -5,10 +5,13 @@ ghost use Rattle.sg_model.specs.Agenda.{list_at};
 ghost use Rattle.event_wheel.specs.Slots.{node_at};
 ghost use Rattle.event_wheel.specs.Links.{ends_between, known_without};
 ghost use Rattle.event_wheel.specs.Kept.{AreChained, HasPut, HasTaken, table_of};
+ghost use Rattle.event_wheel.specs.Least.{AreFirsts};
 
+use crate::least::note_first;
 use crate::links::{put_in, take_out};
 use crate::nodes::{Node, Nodes};
-use crate::places::{bucket_of, place_of};
+use crate::places::{bucket_of, has_time, place_of};
+use crate::runs::Runs;
 use sg_logic::Value;
 use sg_steps::Steps;
 use sg_text::NoMemory;
@@ -76,6 +79,9 @@ pub struct Chains {
     pub drivers: Vec<Ends>,
     // the node of each bucket that was put in last, or one that stood beside it
     pub near: Vec<Option<usize>>,
+    pub runs: Runs,
+    // the tree of the least times
+    pub firsts: Vec<Option<u64>>,
 }
 
 impl Chains {
@@ -83,6 +89,7 @@ impl Chains {
     pub fn new(alloc: Global, buckets: u32, drivers: u32) -> Result<Chains, NoMemory>
         requires { 0 < buckets }
         ensures chained { IfOk result (λ chains. AreChained chains.nodes chains.buckets.items chains.drivers.items chains.near.items) }
+        ensures firsts { IfOk result (λ chains. AreFirsts (node_at chains.nodes) chains.buckets.items chains.firsts.items) }
         ensures table { IfOk result (λ chains. table_of chains.nodes chains.drivers.items ≡ replicate drivers []) }
         ensures buckets { IfOk result (λ chains. length chains.buckets.items ≡ buckets) }
     {
@@ -91,21 +98,26 @@ impl Chains {
             buckets: vec![in alloc; Ends::none(); buckets as usize]?,
             drivers: vec![in alloc; Ends::none(); drivers as usize]?,
             near: vec![in alloc; None; buckets as usize]?,
+            runs: Runs::new(alloc),
+            firsts: vec![in alloc; None; 2 * buckets as usize]?,
         })
     }
 
     /// Puts a driver's new latest transition into the chains.
     pub fn put<L: Ledger>(&mut self, driver: u32, time: u64, value: Value, steps: &mut Steps<L>)
         requires chained { AreChained self.old.nodes self.old.buckets.items self.old.drivers.items self.old.near.items }
+        requires firsts { AreFirsts (node_at self.old.nodes) self.old.buckets.items self.old.firsts.items }
         requires driver { driver < length self.old.drivers.items }
         requires room { 0 < self.old.nodes.room }
         requires later { IsAbove time (reverse (list_at (table_of self.old.nodes self.old.drivers.items) driver)) }
         ensures put { HasPut self.old.nodes self.old.buckets.items self.old.drivers.items self.new.nodes self.new.buckets.items self.new.drivers.items self.new.near.items driver (time, value) }
+        ensures firsts { AreFirsts (node_at self.new.nodes) self.new.buckets.items self.new.firsts.items }
         ensures room { self.new.nodes.room + 1 ≡ self.old.nodes.room }
     {
         let bucket = bucket_of(&self.buckets, time);
-        let (near, latest) = (self.near[bucket], self.buckets[bucket].last);
-        let (before, after) = place_of(&self.nodes, near, latest, time, steps);
+        let (near, first) = (self.near[bucket], self.buckets[bucket].first);
+        let (before, after) = place_of(&self.nodes, &self.runs, first, near, time, steps);
+        let joins = has_time(&self.nodes, before, time, steps);
         let last = self.drivers[driver as usize].last;
         let node = Node {
             driver,
@@ -113,19 +125,30 @@ impl Chains {
             value,
             links: [before, after, last, None],
         };
-        let key = Some(put_in(&mut self.nodes, node, steps));
-        self.buckets[bucket].join(before, after, key, key);
-        self.drivers[driver as usize].join(last, None, key, key);
-        self.near[bucket] = key;
+        let key = put_in(&mut self.nodes, node, steps);
+        self.buckets[bucket].join(before, after, Some(key), Some(key));
+        self.drivers[driver as usize].join(last, None, Some(key), Some(key));
+        self.near[bucket] = Some(key);
+        self.runs.put(key, if joins { before } else { None });
+        note_first(
+            &mut self.firsts,
+            &self.nodes,
+            &self.buckets,
+            bucket,
+            before,
+            steps,
+        );
     }
 
     /// Takes a node out of the store and out of its chains.
     pub fn take<L: Ledger>(&mut self, key: usize, steps: &mut Steps<L>) -> Node
         requires chained { AreChained self.old.nodes self.old.buckets.items self.old.drivers.items self.old.near.items }
+        requires firsts { AreFirsts (node_at self.old.nodes) self.old.buckets.items self.old.firsts.items }
         requires key { IsSome (node_at self.old.nodes key) }
         ensures taken { HasTaken self.old.nodes self.old.buckets.items self.old.drivers.items self.new.nodes self.new.buckets.items self.new.drivers.items self.new.near.items key result }
+        ensures firsts { AreFirsts (node_at self.new.nodes) self.new.buckets.items self.new.firsts.items }
         ensures room { self.old.nodes.room ≤ self.new.nodes.room }
-        ensures steps { steps.new ≤ steps.old + 5 }
+        ensures steps { steps.new ≤ steps.old + 6 }
     {
         let node = take_out(&mut self.nodes, key, steps);
         let links = node.links;
@@ -133,6 +156,15 @@ impl Chains {
         self.buckets[bucket].join(links[0], links[1], links[1], links[0]);
         self.drivers[node.driver as usize].join(links[2], links[3], links[3], links[2]);
         self.near[bucket] = known_without(self.near[bucket], key, links[0], links[1]);
+        self.runs.take(key, links[0], links[1]);
+        note_first(
+            &mut self.firsts,
+            &self.nodes,
+            &self.buckets,
+            bucket,
+            links[0],
+            steps,
+        );
         node
     }
 }

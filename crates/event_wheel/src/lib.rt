@@ -3,9 +3,11 @@
 
 mod agenda;
 mod chains;
+mod least;
 mod links;
 mod nodes;
 mod places;
+mod runs;
 mod wheel;
 
 pub use nodes::{Node, Nodes};

@@ -22,7 +22,7 @@ pub struct Node {
     pub links: [Option<usize>; 4],
 }
 
-/// Nodes under keys. Each call but `new`, `reserve` and `is_empty` touches the one node that it names, and takes one
+/// Nodes under keys. Each call but `new`, `reserve`, `is_empty` and `keys` touches the one node that it names, and takes one
 /// step. Only `reserve` takes memory.
 #[derive(Drop)]
 pub struct Nodes {
@@ -75,6 +75,20 @@ impl Nodes {
     {
         steps.tick();
         self.slab[key]
+    }
+
+    /// The node at a key, if there is one.
+    pub fn get<L: Ledger>(&self, key: usize, steps: &mut Steps<L>) -> Option<Node>
+        ensures node { result ≡ node_at self.now key }
+        ensures steps { steps.new ≡ steps.old + 1 }
+    {
+        steps.tick();
+        self.slab.get(key).copied()
+    }
+
+    /// How many keys can have nodes before more room is made.
+    pub fn keys(&self) -> usize {
+        self.slab.capacity()
     }
 
     /// Sets one of the four links of the node at a key that has one.

@@ -13,14 +13,17 @@ use std::marker::Model;
 use std::sync::ledger::Ledger;
 
 /// An agenda whose transitions stand in buckets: that of time t in bucket t modulo their number. What is due is found at
-/// the front of its bucket, and one is dropped wherever it stands.
+/// the front of its bucket, the least time is at hand, and one is dropped wherever it stands. Where a bucket's first node
+/// changes, a tree follows at log2 of twice the buckets places, at most 21.
+///
+/// In a bucket times don't fall, and a new transition is put behind all that are as early. Its place is looked for from
+/// the one last put in or from the front, and each run of equal times is passed in one step: a search takes as many steps
+/// as its bucket has distinct times, at most.
 ///
 /// Its memory is in proportion to the buckets, the drivers and the transitions that are pending or reserved.
 #[derive(Drop)]
 pub struct Wheel {
     pub(crate) chains: Chains,
-    // no transition is earlier
-    pub(crate) earliest: u64,
 }
 
 impl Model for Wheel {
@@ -32,7 +35,7 @@ impl Model for Wheel {
 
     ghost view = { λ w. view_of w.chains.nodes w.chains.buckets.items w.chains.drivers.items };
 
-    ghost invariant = { λ w. IsWheel w.chains.nodes w.chains.buckets.items w.chains.drivers.items w.chains.near.items w.earliest };
+    ghost invariant = { λ w. IsWheel w.chains.nodes w.chains.buckets.items w.chains.drivers.items w.chains.near.items w.chains.firsts.items };
 }
 
 impl Wheel {
@@ -47,7 +50,6 @@ impl Wheel {
     {
         Ok(Wheel {
             chains: Chains::new(alloc, buckets, drivers)?,
-            earliest: 0,
         })
     }
 

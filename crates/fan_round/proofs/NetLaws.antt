@@ -8,11 +8,11 @@ use Rattle.sg_logic.specs.declared.values.Value.TheVariants.{X}
 use Rattle.sg_logic.specs.Values.{is_same}
 use Rattle.sg_model.specs.Values.{value_at}
 use Rattle.sg_model.specs.Round.{each_from, changed_by}
-use Rattle.stim_read.specs.declared.steps.Set.{Set}
+use Rattle.sg_stimulus.specs.declared.steps.Set.{Set}
 use Rattle.sg_model.proofs.PlacedLaws.{same-true, same-false}
 use Rattle.sg_model.proofs.PlacingSteps.{same-differs, same-self}
 use Rattle.fan_round.specs.Lists.{occurrences, at_places}
-use Rattle.stim_read.specs.Seen.{set_seen}
+use Rattle.sg_stimulus.specs.Seen.{set_seen}
 use Rattle.fan_round.specs.Nets.{differs, count_same, AreChanged}
 use Rattle.fan_round.proofs.ListLaws.{without, occurs_here, occurs_later, occurrences-append, occurs_removed, occurs_kept, length-without, listed_at, at_places-more, at_places-each, each_from-at, length-each_from}
 

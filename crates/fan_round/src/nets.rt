@@ -5,16 +5,16 @@ ghost use Rattle.sg_logic.specs.Values.{is_same};
 ghost use Rattle.sg_model.specs.Agenda.{NothingBelow, AllRise};
 ghost use Rattle.sg_model.specs.Machine.{AreOutputs};
 ghost use Rattle.sg_model.specs.Round.{changed_by, due_changes, each_from, stamp_after, without_due};
-ghost use Rattle.stim_read.specs.Seen.{set_seen};
+ghost use Rattle.sg_stimulus.specs.Seen.{set_seen};
 ghost use Rattle.fan_round.specs.Nets.{stamp_seen, AreChanged, AreNets};
 
 use crate::lists::{add, remove};
 use crate::stamps::Stamp;
 use pulse_list::Agenda;
 use sg_logic::Value;
+use sg_stimulus::Set;
 use sg_text::NoMemory;
 use std::alloc::Global;
-use stim_read::Set;
 
 /// The values of all nets and those before the last round, each net's last change, and the nets that the last round
 /// changed.

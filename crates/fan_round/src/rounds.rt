@@ -3,7 +3,7 @@ ghost use Rattle.std.specs.Prelude.{◌≡◌, ◌+◌, ◌<◌, ◌≤◌, ◌^
 ghost use Rattle.sg_model.specs.Agenda.{NothingBelow};
 ghost use Rattle.sg_model.specs.Round.{each_from, element_list, element_value, round as round_of};
 ghost use Rattle.sg_model.specs.Time.{count_differing};
-ghost use Rattle.stim_read.specs.Seen.{set_seen};
+ghost use Rattle.sg_stimulus.specs.Seen.{set_seen};
 ghost use Rattle.fan_round.specs.Nets.{stamp_seen, AreNets};
 ghost use Rattle.fan_round.specs.Rounds.{AreHanded, ArePending, StaysElsewhere};
 ghost use Rattle.fan_round.specs.States.{state_seen, IsIdle, IsOfCircuit, IsReady, IsReadyFor};
@@ -15,9 +15,9 @@ use crate::work::{WorkList, clear_work, list_every, list_work};
 use pulse_list::Agenda;
 use sg_circuit::FanOut;
 use sg_steps::Steps;
+use sg_stimulus::Set;
 use sg_text::NoMemory;
 use std::sync::ledger::Ledger;
-use stim_read::Set;
 
 // The elements with a changed input are evaluated. It answers how many these are.
 fn evaluate_work<A: Agenda, L: Ledger, E: Elements<A, L>>(

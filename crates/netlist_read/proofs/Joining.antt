@@ -11,7 +11,7 @@ use Rattle.vl_token.specs.Seen.{lexeme}
 use Rattle.vl_token.specs.Tokens.{Lexeme}
 use Rattle.vl_token.specs.declared.tokens.Token.{Token}
 use Rattle.vl_tree.specs.Tree.{Source}
-use Rattle.elab_circuit.specs.Elaboration.{IsElaborated}
+use Rattle.circuit_model.specs.Elaboration.{IsElaborated}
 use Rattle.netlist_read.specs.Phases.{TextStands, SyntaxStands, MeaningStands}
 use Rattle.netlist_read.specs.Reading.{AreTree, IsRead, FaultStands, in_text, in_syntax, in_meaning, end_of}
 use Rattle.netlist_read.specs.Seen.{RefusalStands, kind_seen}

@@ -13,8 +13,8 @@ use Rattle.vl_tree.specs.Kinds.{kind_of}
 use Rattle.vl_tree.specs.Modules.{source}
 use Rattle.vl_tree.specs.Tree.{Module, Source}
 use Rattle.vl_tree.proofs.ModulesExact.{source-exact}
-use Rattle.elab_circuit.specs.Circuits.{circuit}
-use Rattle.elab_circuit.specs.Elaboration.{IsElaborated}
+use Rattle.circuit_model.specs.Circuits.{circuit}
+use Rattle.circuit_model.specs.Elaboration.{IsElaborated}
 use Rattle.elab_model.specs.declared.kinds.ElabKind.{ElabKind}
 use Rattle.netlist_read.specs.Kinds.{Kind}
 use Rattle.netlist_read.specs.Reading.{AreTree, IsRead, FaultStands, in_text, in_syntax, in_meaning}

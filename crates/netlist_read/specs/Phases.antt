@@ -12,7 +12,7 @@ use Rattle.vl_parse.specs.Parsed as parsed
 use Rattle.vl_token.specs.Tokens.{Lexeme}
 use Rattle.vl_tree.specs.Modules.{source}
 use Rattle.vl_tree.specs.Tree.{Source}
-use Rattle.elab_circuit.specs.Elaboration as elaboration
+use Rattle.circuit_model.specs.Elaboration as elaboration
 use Rattle.elab_model.specs.declared.kinds.ElabKind.{ElabKind}
 use Rattle.netlist_read.specs.Kinds.{of_text, of_meaning, failing}
 use Rattle.netlist_read.specs.Seen.{kind_seen}

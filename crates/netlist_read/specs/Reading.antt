@@ -11,8 +11,8 @@ use Rattle.vl_parse.specs.Parsed as parsed
 use Rattle.vl_token.specs.Tokens.{Lexeme}
 use Rattle.vl_tree.specs.Modules.{source}
 use Rattle.vl_tree.specs.Tree.{Source}
-use Rattle.elab_circuit.specs.Elaboration as elaboration
-use Rattle.elab_circuit.specs.Elaboration.{IsElaborated}
+use Rattle.circuit_model.specs.Elaboration as elaboration
+use Rattle.circuit_model.specs.Elaboration.{IsElaborated}
 use Rattle.elab_model.specs.declared.kinds.ElabKind.{ElabKind}
 use Rattle.netlist_read.specs.Kinds.{Kind, of_text, of_meaning, failing}
 

@@ -9,7 +9,7 @@ ghost use Rattle.netlist_read.specs.Kinds.{failing};
 ghost use Rattle.netlist_read.specs.Seen.{RefusalStands, kind_seen};
 ghost use Rattle.vl_parse.specs.Parsed.{kind_seen as parse_kind_seen};
 ghost use Rattle.netlist_read.specs.Phases.{MeaningStands, SyntaxStands, TextStands};
-ghost use Rattle.elab_circuit.specs.Elaboration.{IsElaborated};
+ghost use Rattle.circuit_model.specs.Elaboration.{IsElaborated};
 
 use crate::kinds::NetlistKind;
 use sg_circuit::Circuit;

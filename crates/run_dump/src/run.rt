@@ -2,8 +2,8 @@
 ghost use Rattle.std.specs.Prelude.{◌≡◌, ◌<◌, ◌≤◌, IfOk, length};
 ghost use Rattle.sg_io.specs.Faults.{Cause, NamesFault};
 ghost use Rattle.sg_io.specs.Files.{BothTell};
-ghost use Rattle.stim_read.specs.Applied.{IsApplied};
-ghost use Rattle.stim_read.specs.Seen.{stimulus_seen};
+ghost use Rattle.sg_stimulus.specs.Applied.{IsApplied};
+ghost use Rattle.sg_stimulus.specs.Seen.{stimulus_seen};
 ghost use Rattle.sim_rounds.specs.Runs.{CauseOfEnd, NamesFaultOfEnd};
 ghost use Rattle.sim_rounds.specs.Setting.{setting_of};
 ghost use Rattle.sim_rounds.specs.Simulated.{run_of_circuit};
@@ -16,12 +16,12 @@ use event_wheel::Wheel;
 use sg_circuit::Circuit;
 use sg_io::{Shelf, ShelfError};
 use sg_steps::Steps;
+use sg_stimulus::Stimulus;
 use sg_text::NoMemory;
 use sim_rounds::{Finished, Sim, SimEnd, Watch};
 use std::alloc::Global;
 use std::marker::Brand;
 use std::sync::ledger::{Blank, Ledger};
-use stim_read::Stimulus;
 use time_checks::Violation;
 use wave_out::{Spent, VcdWriter};
 

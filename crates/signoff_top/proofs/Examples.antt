@@ -2,7 +2,7 @@
 use Rattle.std.specs.Prelude.{◌≡◌, ◌++◌, [], ◌∷◌, Err, codes, refl}
 use Rattle.std.specs.Fmt.{digits}
 use Rattle.netlist_read.specs.Kinds.{of_syntax}
-use Rattle.stim_text.specs.declared.kinds.StimKind.TheVariants as stim
+use Rattle.stim_read.specs.declared.kinds.StimKind.TheVariants as stim
 use Rattle.wave_out.specs.Texts.{line}
 use Rattle.signoff_top.specs.Phases.{FilesOutcome, goes_on, stops, line_of, missing, netlist, stimulus, refusal_line, refused_at, stimulus_kind}
 

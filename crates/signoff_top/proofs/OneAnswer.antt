@@ -6,7 +6,7 @@ use Rattle.sg_io.specs.Files.{File, bytes_of}
 use Rattle.sg_circuit.specs.Circuit.{Circuit}
 use Rattle.sg_delay.specs.declared.corners.Corner.{Corner}
 use Rattle.netlist_read.proofs.ReadingLaws as netlist
-use Rattle.stim_text.proofs.OnceLaws as stimulus
+use Rattle.stim_read.proofs.OnceLaws as stimulus
 use Rattle.run_words.specs.Words.{Command, command_of}
 use Rattle.signoff_top.specs.Answer.{Answer, IsAnswer, answer_of}
 use Rattle.signoff_top.specs.Phases.{Refusal, Then, stops, goes_on, Task, TaskOutcome, status_of_refusal}

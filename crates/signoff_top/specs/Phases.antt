@@ -5,14 +5,14 @@ use Rattle.sg_io.specs.Files.{File, bytes_of}
 use Rattle.sg_text.specs.declared.places.Place.{Place}
 use Rattle.sg_delay.specs.declared.corners.Corner.{Corner}
 use Rattle.sg_circuit.specs.Circuit.{Circuit}
-use Rattle.stim_read.specs.Stimulus.{Stimulus}
+use Rattle.sg_stimulus.specs.Stimulus.{Stimulus}
 use Rattle.wave_out.specs.Texts.{line}
 use Rattle.run_words.specs.Words.{Command, command_of}
 use Rattle.netlist_read.specs.Kinds.{Kind, kind_text}
 use Rattle.netlist_read.specs.Reading as netlist_text
-use Rattle.stim_text.specs.Reading as stimulus_text
-use Rattle.stim_text.specs.declared.kinds.StimKind.{StimKind}
-use Rattle.stim_text.specs.declared.kinds.StimKind.TheVariants as stim
+use Rattle.stim_read.specs.Reading as stimulus_text
+use Rattle.stim_read.specs.declared.kinds.StimKind.{StimKind}
+use Rattle.stim_read.specs.declared.kinds.StimKind.TheVariants as stim
 use Rattle.signoff_top.specs.declared.status.Status.{Status}
 use Rattle.signoff_top.specs.declared.status.Status.TheVariants as status
 

@@ -1,5 +1,5 @@
 -- The program's tasks as the definition sees them.
-use Rattle.stim_read.specs.Seen.{stimulus_seen}
+use Rattle.sg_stimulus.specs.Seen.{stimulus_seen}
 use Rattle.signoff_top.specs.declared.phases.Task as code_task
 use Rattle.signoff_top.specs.Phases.{Task}
 

@@ -2,8 +2,8 @@
 ghost use Rattle.std.specs.Prelude.{◌≡◌, ◌≤◌, ◌<◌, List, Some, IfErr, IfOk, length, map, option_map, slice_index_or, string_bytes, []};
 ghost use Rattle.sg_io.specs.Faults.{Cause};
 ghost use Rattle.sg_io.specs.Files.{File, bytes_of};
-ghost use Rattle.stim_read.specs.Applied.{IsApplied};
-ghost use Rattle.stim_read.specs.Seen.{stimulus_seen};
+ghost use Rattle.sg_stimulus.specs.Applied.{IsApplied};
+ghost use Rattle.sg_stimulus.specs.Seen.{stimulus_seen};
 ghost use Rattle.netlist_read.specs.Seen.{kind_seen};
 ghost use Rattle.run_words.specs.Words.{command_of};
 ghost use Rattle.run_words.specs.WordsSeen.{command_seen};
@@ -18,10 +18,10 @@ use run_words::{Command, read_words};
 use sg_circuit::Circuit;
 use sg_delay::Corner;
 use sg_io::{ReadError, Shelf};
+use sg_stimulus::Stimulus;
 use sg_text::{NoMemory, Place, Refused};
 use std::alloc::Global;
-use stim_read::Stimulus;
-use stim_text::read_stim;
+use stim_read::read_stim;
 
 /// What is run, with at most so many rounds a time, over an event wheel of so many buckets; and the name of the file that
 /// is made.

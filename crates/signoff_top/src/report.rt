@@ -18,7 +18,7 @@ use itoa::Buffer;
 use run_dump::RunEnd;
 use sg_io::{ShelfError, Sink};
 use std::alloc::{AllocError, Global};
-use stim_text::StimKind;
+use stim_read::StimKind;
 use wave_out::report_of;
 
 const USAGE: &str =

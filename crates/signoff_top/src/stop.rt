@@ -1,7 +1,7 @@
 // Why the work ends before its report.
 use sg_text::NoMemory;
 use std::alloc::{AllocError, AllocFailed};
-use stim_text::StimKind;
+use stim_read::StimKind;
 
 /// A refusal of the words or of a file, by name. The line of a fault is counted from 1; the kind of a netlist's fault is
 /// the text of it.

@@ -3,11 +3,11 @@ use crate::stages::{Joined, path_timing, stages};
 use sg_circuit::{Driver, Element, ElementKind, Net, Parts, Scope};
 use sg_delay::GateDelays;
 use sg_logic::{GateKind, Value};
+use sg_stimulus::{Set, StimStep, Stimulus};
 use sg_text::{NoMemory, Text};
 use sg_time::{Scale, Unit};
 use smallvec::SmallVec;
 use std::alloc::{AllocError, Global};
-use stim_read::{Set, StimStep, Stimulus};
 
 const PS: Unit = Unit { power: -12 };
 

@@ -11,6 +11,7 @@ use sg_delay::GateDelays;
 use sg_io::MemoryShelf;
 use sg_logic::Value;
 use sg_steps::Steps;
+use sg_stimulus::{Set, StimStep, Stimulus};
 use sg_text::{NoMemory, Text};
 use sg_time::{Scale, Unit};
 use sim_rounds::{Finished, Sim, SimEnd};
@@ -18,7 +19,6 @@ use smallvec::SmallVec;
 use std::alloc::{AllocError, Global};
 use std::marker::Brand;
 use std::sync::ledger::{Blank, Ledger};
-use stim_read::{Set, StimStep, Stimulus};
 use time_checks::{Part, Violation};
 
 const NS: Unit = Unit { power: -9 };

@@ -6,8 +6,8 @@ use Rattle.sg_model.specs.Machine.{Violation}
 use Rattle.sg_model.specs.Time.{toggles as toggles_of}
 use Rattle.sg_model.specs.Values.{value_at}
 use Rattle.sg_model.proofs.PlacingSteps.{same-self}
-use Rattle.stim_read.specs.declared.steps.Set.{Set}
-use Rattle.stim_read.specs.Seen.{set_seen}
+use Rattle.sg_stimulus.specs.declared.steps.Set.{Set}
+use Rattle.sg_stimulus.specs.Seen.{set_seen}
 use Rattle.fan_round.specs.declared.work.WorkList.{WorkList}
 use Rattle.fan_round.specs.Nets.{differs}
 use Rattle.time_checks.specs.declared.violations.Violation as code_violation

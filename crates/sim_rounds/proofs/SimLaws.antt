@@ -14,9 +14,9 @@ use Rattle.sg_circuit.specs.Seen.{element_seen}
 use Rattle.sg_circuit.specs.Circuit.{Circuit, Element}
 use Rattle.sg_circuit.specs.Closed.{IsClosed}
 use Rattle.sg_circuit.specs.FanOut.{IsFanOut}
-use Rattle.stim_read.specs.declared.steps.Set.{Set}
-use Rattle.stim_read.specs.Stimulus.{Step, Stimulus, sets_at}
-use Rattle.stim_read.specs.Applied.{IsApplied, IsInput}
+use Rattle.sg_stimulus.specs.declared.steps.Set.{Set}
+use Rattle.sg_stimulus.specs.Stimulus.{Step, Stimulus, sets_at}
+use Rattle.sg_stimulus.specs.Applied.{IsApplied, IsInput}
 use Rattle.time_checks.specs.declared.violations.Violation as code_violation
 use Rattle.sim_rounds.specs.Elements.{ElementsSeen}
 use Rattle.fan_round.specs.declared.nets.Nets.{Nets}

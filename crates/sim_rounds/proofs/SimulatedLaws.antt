@@ -11,9 +11,9 @@ use Rattle.sg_model.specs.Machine.{Machine, Snapshot, Violation}
 use Rattle.sg_model.specs.Time as model
 use Rattle.sg_model.specs.Time.{Run, rounds}
 use Rattle.pulse_list.proofs.EarliestLaws.{none_below-reverse}
-use Rattle.stim_read.specs.declared.steps.Set.{Set}
-use Rattle.stim_read.specs.Seen.{set_seen}
-use Rattle.stim_read.specs.Stimulus.{Stimulus, sets_at}
+use Rattle.sg_stimulus.specs.declared.steps.Set.{Set}
+use Rattle.sg_stimulus.specs.Seen.{set_seen}
+use Rattle.sg_stimulus.specs.Stimulus.{Stimulus, sets_at}
 use Rattle.time_checks.specs.declared.violations.Violation as code_violation
 use Rattle.fan_round.specs.declared.nets.Nets.{Nets}
 use Rattle.sim_rounds.specs.declared.told.Told.{Told}

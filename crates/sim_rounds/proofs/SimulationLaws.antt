@@ -11,9 +11,9 @@ use Rattle.sg_model.specs.Agenda.{list_at, NoneBelow, NothingBelow}
 use Rattle.sg_model.specs.Machine.{Machine, State, Snapshot, Violation}
 use Rattle.sg_model.specs.Round.{any_due}
 use Rattle.sg_model.specs.Time.{toggles as toggles_of, is_empty}
-use Rattle.stim_read.specs.declared.steps.Set.{Set}
-use Rattle.stim_read.specs.Seen.{set_seen}
-use Rattle.stim_read.specs.Stimulus.{Stimulus}
+use Rattle.sg_stimulus.specs.declared.steps.Set.{Set}
+use Rattle.sg_stimulus.specs.Seen.{set_seen}
+use Rattle.sg_stimulus.specs.Stimulus.{Stimulus}
 use Rattle.time_checks.specs.declared.violations.Violation as code_violation
 use Rattle.time_checks.specs.Seen.{violation_seen}
 use Rattle.pulse_list.proofs.EarliestLaws.{none_below-reverse}

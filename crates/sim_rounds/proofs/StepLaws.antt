@@ -5,10 +5,10 @@ use Rattle.std.specs.List.Sorted.{IsPartitionedBy}
 use Rattle.std.proofs.Common.{sym, ◌∙◌, ap, subst, arith, inl, inr}
 use Rattle.std.proofs.lemmas.Bool.Decides.{nat_tests}
 use Rattle.std.proofs.lemmas.Bool.{cases_eq}
-use Rattle.stim_read.specs.declared.steps.StimStep.{StimStep}
-use Rattle.stim_read.specs.Stimulus.{sets_at}
-use Rattle.stim_read.specs.Applied.{StepsRise}
-use Rattle.stim_read.specs.Seen.{step_seen, set_seen}
+use Rattle.sg_stimulus.specs.declared.steps.StimStep.{StimStep}
+use Rattle.sg_stimulus.specs.Stimulus.{sets_at}
+use Rattle.sg_stimulus.specs.Applied.{StepsRise}
+use Rattle.sg_stimulus.specs.Seen.{step_seen, set_seen}
 use Rattle.sim_rounds.specs.Steps.{Splits}
 
 -- each step is before each later one

@@ -3,8 +3,8 @@ use Rattle.std.specs.Prelude.{◌≡◌, ℕ, ◌<◌, All, List, ◌∷◌, ◌
 use Rattle.sg_logic.specs.declared.values.Value.{Value}
 use Rattle.sg_model.specs.Machine.{Snapshot, Violation, IsNoOutput, AreOutputs}
 use Rattle.sg_model.specs.Time.{toggles as toggles_of}
-use Rattle.stim_read.specs.declared.steps.Set.{Set}
-use Rattle.stim_read.specs.Seen.{set_seen}
+use Rattle.sg_stimulus.specs.declared.steps.Set.{Set}
+use Rattle.sg_stimulus.specs.Seen.{set_seen}
 use Rattle.time_checks.specs.declared.violations.Violation as code_violation
 use Rattle.time_checks.specs.Falling.{DontFall}
 use Rattle.time_checks.specs.Seen.{violation_seen}

@@ -1,7 +1,7 @@
 -- What a run of a circuit under a stimulus is made from.
 use Rattle.std.specs.Prelude.{ℕ}
 use Rattle.sg_circuit.specs.Circuit.{Circuit}
-use Rattle.stim_read.specs.Stimulus.{Stimulus, sets_at}
+use Rattle.sg_stimulus.specs.Stimulus.{Stimulus, sets_at}
 use Rattle.sim_rounds.specs.Simulated.{machine_of, first_state}
 use Rattle.sim_rounds.specs.Runs.{Setting}
 

@@ -19,7 +19,7 @@ use Rattle.time_checks.specs.Violations.{violations}
 use Rattle.sim_rounds.specs.Notifiers.{notifiers_of}
 use Rattle.path_pick.specs.Choice.{picked}
 use Rattle.path_pick.specs.declared.picking.Picked.{Picked}
-use Rattle.stim_read.specs.Stimulus.{Stimulus, sets_at}
+use Rattle.sg_stimulus.specs.Stimulus.{Stimulus, sets_at}
 
 -- the values of some nets
 abbrev pub values_at : List ℕ → List Value → List Value

@@ -3,9 +3,9 @@ use Rattle.std.specs.Prelude.{◌≡◌, ℕ, ◌<◌, ◌≤◌, Bool, All, Lis
 use Rattle.sg_logic.specs.declared.values.Value.{Value}
 use Rattle.sg_model.specs.Machine.{Machine, Snapshot, Violation}
 use Rattle.sg_model.specs.Time.{Run}
-use Rattle.stim_read.specs.declared.steps.Set.{Set}
-use Rattle.stim_read.specs.Seen.{set_seen}
-use Rattle.stim_read.specs.Stimulus.{Stimulus}
+use Rattle.sg_stimulus.specs.declared.steps.Set.{Set}
+use Rattle.sg_stimulus.specs.Seen.{set_seen}
+use Rattle.sg_stimulus.specs.Stimulus.{Stimulus}
 use Rattle.time_checks.specs.declared.violations.Violation as code_violation
 use Rattle.time_checks.specs.Falling.{DontFall}
 use Rattle.time_checks.specs.Seen.{violation_seen}

@@ -10,7 +10,7 @@ use Rattle.sg_model.proofs.SkipLaws.{copies-state, copies-before, copies-evaluat
 use Rattle.time_checks.specs.declared.violations.Violation as code_violation
 use Rattle.time_checks.specs.Falling.{DontFall}
 use Rattle.time_checks.specs.Seen.{violation_seen}
-use Rattle.stim_read.specs.Stimulus.{Stimulus}
+use Rattle.sg_stimulus.specs.Stimulus.{Stimulus}
 use Rattle.fan_round.specs.declared.nets.Nets.{Nets}
 use Rattle.sim_rounds.specs.declared.told.Told.{Told}
 use Rattle.sim_rounds.specs.Times.{count_shown}

@@ -1,8 +1,8 @@
 -- The steps of a stimulus on either side of a time, and when a simulation can apply it.
 use Rattle.std.specs.Prelude.{ℕ, ◌<◌, ◌≤◌, All, List, length, slice_index_or}
-use Rattle.stim_read.specs.declared.steps.StimStep.{StimStep}
-use Rattle.stim_read.specs.Stimulus.{Stimulus, sets_at}
-use Rattle.stim_read.specs.Applied.{StepsRise}
+use Rattle.sg_stimulus.specs.declared.steps.StimStep.{StimStep}
+use Rattle.sg_stimulus.specs.Stimulus.{Stimulus, sets_at}
+use Rattle.sg_stimulus.specs.Applied.{StepsRise}
 use Rattle.fan_round.specs.Rounds.{AreHanded}
 
 -- the first n steps come before the time, and the others don't

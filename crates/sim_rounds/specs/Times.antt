@@ -1,7 +1,7 @@
 -- How an engine that stands for runs makes the rounds of a time, and counts what it evaluates.
 use Rattle.std.specs.Prelude.{ℕ, suc, ◌≡◌, ◌+◌, ◌-◌, ◌^◌, ◌≤◌, min, Bool, true, false, List, [], Some}
 use Rattle.sg_logic.specs.declared.values.Value.{Value}
-use Rattle.stim_read.specs.Stimulus.{Stimulus}
+use Rattle.sg_stimulus.specs.Stimulus.{Stimulus}
 use Rattle.sg_model.specs.Machine.{Machine, Violation}
 use Rattle.sg_model.specs.Time as model
 use Rattle.sg_model.specs.Time.{Run, Ended, rounds, needs_round, with_round, with_snapshot, flips_of, is_empty, spent_net}

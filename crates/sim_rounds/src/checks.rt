@@ -7,8 +7,8 @@ ghost use Rattle.sim_rounds.specs.Checks.{HasSeen};
 
 use sg_circuit::NetId;
 use sg_logic::Value;
+use sg_stimulus::Set;
 use sg_text::NoMemory;
-use stim_read::Set;
 use time_checks::Violation;
 
 /// Timing checks, which see one snapshot after another.

@@ -5,7 +5,7 @@ ghost use Rattle.fan_round.specs.States.{IsIdle};
 ghost use Rattle.fan_round.specs.Work.{AreMarked, mark_at};
 ghost use Rattle.sg_model.specs.Time.{toggles as toggles_of};
 ghost use Rattle.sg_model.specs.Values.{value_at};
-ghost use Rattle.stim_read.specs.Seen.{set_seen};
+ghost use Rattle.sg_stimulus.specs.Seen.{set_seen};
 ghost use Rattle.time_checks.specs.Seen.{violation_seen};
 ghost use Rattle.sim_rounds.specs.CircuitChecks.{AreFirst};
 ghost use Rattle.sim_rounds.specs.Notifiers.{is_named, is_net, notifier_at, notifiers_of, toggle_to, toggled_value};
@@ -14,9 +14,9 @@ use crate::checks::Checks;
 use fan_round::{WorkList, clear_work, mark_all};
 use sg_circuit::{Check, Circuit, NetId};
 use sg_logic::Value;
+use sg_stimulus::Set;
 use sg_text::NoMemory;
 use std::alloc::Global;
-use stim_read::Set;
 use time_checks::{Checker, Violation};
 
 /// The timing checks of a circuit.

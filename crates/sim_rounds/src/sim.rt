@@ -20,10 +20,10 @@ use sg_circuit::{Circuit, Driver, Element, FanOut, Net, NetId};
 use sg_io::Shelf;
 use sg_logic::Value;
 use sg_steps::Steps;
+use sg_stimulus::Stimulus;
 use sg_text::NoMemory;
 use std::alloc::Global;
 use std::sync::ledger::Ledger;
-use stim_read::Stimulus;
 use time_checks::Violation;
 
 /// What a run found: the violations of the times that ended, how many elements were evaluated, up to 2^64 - 1, and
@@ -131,8 +131,8 @@ pub struct Sim<'a, A: Agenda> {
 
 impl<'a, A: Agenda + Drop> Sim<'a, A> {
     ghost use Rattle.std.specs.Prelude.{◌≡◌, ◌-◌, ◌<◌, ◌≤◌, [], IfOk, length, map, replicate};
-    ghost use Rattle.stim_read.specs.Applied.{IsApplied};
-    ghost use Rattle.stim_read.specs.Seen.{stimulus_seen};
+    ghost use Rattle.sg_stimulus.specs.Applied.{IsApplied};
+    ghost use Rattle.sg_stimulus.specs.Seen.{stimulus_seen};
     ghost use Rattle.sim_rounds.specs.Runs.{CauseOfEnd, HasEnded, NamesFaultOfEnd};
     ghost use Rattle.sim_rounds.specs.Setting.{setting_of};
     ghost use Rattle.sim_rounds.specs.Times.{count_shown};

@@ -18,8 +18,8 @@ use time_checks::Change;
 impl<L: Ledger, A: Agenda + Drop, E: Elements<A, L>, C: Checks> Times<L>
     for Simulation<'_, A, E, C> {
     ghost use Rattle.std.specs.Prelude.{◌==◌, length};
-    ghost use Rattle.stim_read.specs.Seen.{stimulus_seen};
-    ghost use Rattle.stim_read.specs.Stimulus.{sets_at};
+    ghost use Rattle.sg_stimulus.specs.Seen.{stimulus_seen};
+    ghost use Rattle.sg_stimulus.specs.Stimulus.{sets_at};
     ghost use Rattle.sim_rounds.specs.Simulations.{kept_of, IsReadyAt, StandsBetween};
     ghost use Rattle.sim_rounds.specs.Steps.{CanApply};
     ghost use Rattle.sim_rounds.specs.Skipping.{holds_violations, shows_values, stands_skipped};

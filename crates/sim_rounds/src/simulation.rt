@@ -10,9 +10,9 @@ use fan_round::{Elements, Nets, WorkList, change_nets, make_round};
 use pulse_list::Agenda;
 use sg_circuit::{FanOut, NetId};
 use sg_steps::Steps;
+use sg_stimulus::{Set, Stimulus};
 use sg_text::NoMemory;
 use std::sync::ledger::Ledger;
-use stim_read::{Set, Stimulus};
 use time_checks::{Change, Violation};
 
 /// A simulation between two rounds.
@@ -42,7 +42,7 @@ pub struct Simulation<'a, A, E, C> {
 impl<L: Ledger, A: Agenda + Drop, E: Elements<A, L>, C: Checks> Rounds<L>
     for Simulation<'_, A, E, C> {
     ghost use Rattle.std.specs.Prelude.{length, map};
-    ghost use Rattle.stim_read.specs.Seen.{set_seen, stimulus_seen};
+    ghost use Rattle.sg_stimulus.specs.Seen.{set_seen, stimulus_seen};
     ghost use Rattle.sim_rounds.specs.Naming.{Moves};
     ghost use Rattle.sim_rounds.specs.Simulations.{kept_of, IsReadyAt, StandsFor};
     ghost use Rattle.fan_round.specs.States.{state_seen};

@@ -1,12 +1,12 @@
 // What the stimulus does at a time.
 ghost use Rattle.std.specs.Prelude.{◌≡◌, ℕ, ◌<◌, ◌≤◌, [], OnOk, map};
-ghost use Rattle.stim_read.specs.Applied.{StepsRise};
-ghost use Rattle.stim_read.specs.Seen.{set_seen, stimulus_seen};
-ghost use Rattle.stim_read.specs.Stimulus.{sets_at};
+ghost use Rattle.sg_stimulus.specs.Applied.{StepsRise};
+ghost use Rattle.sg_stimulus.specs.Seen.{set_seen, stimulus_seen};
+ghost use Rattle.sg_stimulus.specs.Stimulus.{sets_at};
 ghost use Rattle.sim_rounds.specs.Steps.{Splits};
 
+use sg_stimulus::{Set, Stimulus};
 use sg_text::NoMemory;
-use stim_read::{Set, Stimulus};
 
 // How many steps come before a time.
 fn steps_before(stimulus: &Stimulus, time: u64) -> usize

@@ -13,7 +13,7 @@ use Rattle.elab_model.specs.declared.kinds.ElabKind.TheVariants.{UnknownName, Ba
 use Rattle.elab_model.specs.Bits.{variable_named}
 use Rattle.elab_model.specs.Faults.{fault_if, RefusesOneOf}
 use Rattle.elab_model.specs.Names.{Variable}
-use Rattle.elab_tables.specs.Seen.{variable_at, place_named}
+use Rattle.elab_variables.specs.Seen.{variable_at, place_named}
 use Rattle.specify_model.specs.CheckFaults.{found_notifier_faults}
 use Rattle.specify_model.specs.Checks.{reg_bit}
 use Rattle.specify_paths.specs.Seen.{bit_seen}

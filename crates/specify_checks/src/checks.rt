@@ -15,7 +15,7 @@ use crate::events::{ModuleEvent, event_of, some_event_of};
 use crate::parts::parts_of;
 use crate::regs::notifier_bit;
 use elab_model::ElabKind;
-use elab_tables::Table;
+use elab_variables::Table;
 use sg_circuit::CheckKind;
 use sg_text::{Place, Refused};
 use specify_values::{Measure, Parameters, block_items, limit_ticks, specparam_values};

@@ -14,7 +14,7 @@ ghost use Rattle.specify_checks.specs.Seen.{enabling_seen, event_seen, IsSpelled
 
 use cond_expr::Expr;
 use elab_model::ElabKind;
-use elab_tables::Table;
+use elab_variables::Table;
 use sg_logic::Edge;
 use sg_text::Refused;
 use specify_paths::{check_operand, condition_of, option_edge, terms_bits};

@@ -10,7 +10,7 @@ ghost use Rattle.specify_paths.specs.Seen.{bit_seen};
 ghost use Rattle.specify_values.specs.Telling.{Tells};
 
 use elab_model::ElabKind;
-use elab_tables::Table;
+use elab_variables::Table;
 use sg_text::Refused;
 use vl_tree::Name;
 

@@ -13,7 +13,7 @@ ghost use Rattle.specify_paths.specs.Words as def_words;
 use crate::terms::{check_operand, check_term};
 use cond_expr::{CondFault, Expr, Tok};
 use elab_model::ElabKind;
-use elab_tables::Table;
+use elab_variables::Table;
 use sg_text::{NoMemory, Place, Refused, Text};
 use std::alloc::Global;
 use vl_tree::{Name, Select, Term, Word};

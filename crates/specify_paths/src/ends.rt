@@ -7,7 +7,7 @@ ghost use Rattle.specify_paths.specs.Seen.{AreEnds};
 
 use crate::terms::{Side, check_ports, terms_bits};
 use elab_model::ElabKind;
-use elab_tables::Table;
+use elab_variables::Table;
 use sg_text::Refused;
 use std::alloc::Global;
 use vl_tree::{Arrow, SpecifyPath};

@@ -17,7 +17,7 @@ use crate::pairs::{PathTo, add_paths};
 use crate::statements::{Statement, statement_of};
 use crate::styles::styles_of;
 use elab_model::ElabKind;
-use elab_tables::Table;
+use elab_variables::Table;
 use sg_text::Refused;
 use specify_values::{Measure, Parameters, PulseLimits, block_items, pulse_limits, specparams};
 use std::alloc::Global;

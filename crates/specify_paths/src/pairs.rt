@@ -7,7 +7,7 @@ ghost use Rattle.specify_values.specs.Seen.{limits_seen};
 ghost use Rattle.specify_paths.specs.Seen.{AreInRow, ArePathsInRow, Said, bit_seen, bits_seen, path_to_seen, path_said, said_at};
 
 use crate::ends::Ends;
-use elab_tables::Table;
+use elab_variables::Table;
 use sg_delay::Widths;
 use sg_text::{NoMemory, Place};
 use specify_values::PulseLimits;

@@ -16,7 +16,7 @@ ghost use Rattle.specify_paths.specs.Spelled.{IsSpelled};
 use crate::conditions::{check_names, condition_of};
 use cond_expr::Expr;
 use elab_model::ElabKind;
-use elab_tables::Table;
+use elab_variables::Table;
 use sg_delay::Delays12;
 use sg_logic::{Edge, NEGEDGE, POSEDGE, Value};
 use sg_text::{Place, Refused};

@@ -10,7 +10,7 @@ ghost use Rattle.specify_paths.specs.Words.{style_at, with_style};
 
 use crate::terms::{check_terms, terms_bits};
 use elab_model::ElabKind;
-use elab_tables::Table;
+use elab_variables::Table;
 use indexmap::IndexMap;
 use sg_delay::PulseStyle;
 use sg_text::{NoMemory, Refused};

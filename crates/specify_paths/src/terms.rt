@@ -11,7 +11,7 @@ ghost use Rattle.specify_paths.specs.Words.{such_port};
 
 use elab_bits::{Bit, add_bits, check_expression};
 use elab_model::ElabKind;
-use elab_tables::Table;
+use elab_variables::Table;
 use sg_circuit::Port;
 use sg_text::{NoMemory, Refused};
 use std::alloc::Global;

@@ -4,7 +4,7 @@ use Rattle.std.proofs.Common.{sym, ◌∙◌, ap}
 use Rattle.sg_circuit.specs.declared.scopes.Port.{Port}
 use Rattle.elab_bits.proofs.NamedAt.{named-at, not-named}
 use Rattle.elab_model.specs.Names.{Variable}
-use Rattle.elab_tables.specs.Seen.{variable_at, place_named}
+use Rattle.elab_variables.specs.Seen.{variable_at, place_named}
 use Rattle.specify_model.specs.PulseLimits.{is_outside, found_port, is_port}
 
 pub port-found : (vs : List Variable) (n : List ℕ) (i : ℕ) (p : Port) → Some i ≡ place_named vs n → p ≡ (variable_at vs i).port → is_outside p ≡ is_port vs n

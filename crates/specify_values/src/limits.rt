@@ -10,7 +10,7 @@ use crate::items::Pulse;
 use crate::measures::Measure;
 use crate::pulses::{ends_text, named_ends, widths_of};
 use elab_model::ElabKind;
-use elab_tables::Table;
+use elab_variables::Table;
 use indexmap::IndexMap;
 use sg_delay::Widths;
 use sg_text::Refused;

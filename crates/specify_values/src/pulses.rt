@@ -8,7 +8,7 @@ ghost use Rattle.specify_values.specs.Seen.{ends_seen, is_divided, view_pulse, m
 use crate::items::Pulse;
 use crate::measures::Measure;
 use crate::ticks::ticks;
-use elab_tables::Table;
+use elab_variables::Table;
 use sg_circuit::Port;
 use sg_delay::Widths;
 

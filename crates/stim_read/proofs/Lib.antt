@@ -1,2 +1,23 @@
 -- The lemma files of this folder.
-pub mod FittingLaws
+pub mod Slices
+pub mod LineLaws
+pub mod LinesMade
+pub mod ShortLaws
+pub mod WordLaws
+pub mod SetLaws
+pub mod FormLaws
+pub mod StatementLaws
+pub mod TimeLaws
+pub mod InputLaws
+pub mod NumberLaws
+pub mod FoundLaws
+pub mod LastLaws
+pub mod BitLaws
+pub mod FaultlessLaws
+pub mod Refusals
+pub mod StepLaws
+pub mod StateLaws
+pub mod ApplicationLaws
+pub mod EndLaws
+pub mod OnceLaws
+pub mod Examples

@@ -1,4 +1,10 @@
--- The modules of this folder.
-pub mod Stimulus
-pub mod Applied
+-- The modules of this folder, in reading order.
+pub mod Lines
+pub mod Sets
+pub mod Forms
+pub mod Times
+pub mod Inputs
+pub mod Faults
+pub mod Reading
 pub mod Seen
+pub mod Meant

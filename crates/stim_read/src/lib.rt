@@ -1,7 +1,16 @@
-//! What is applied to a circuit's inputs over time.
+//! Reads a stimulus: what a text says is applied to the inputs of a circuit.
 #![tactic(auto)]
 
-mod fitting;
+mod bits;
+mod forms;
+mod inputs;
+mod kinds;
+mod lines;
+mod reading;
+mod sets;
+mod statements;
 mod steps;
+mod times;
 
-pub use steps::{Set, StimStep, Stimulus};
+pub use kinds::StimKind;
+pub use reading::read_stim;

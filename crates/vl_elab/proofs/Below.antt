@@ -11,16 +11,16 @@ use Rattle.vl_tree.specs.Tree.{Module, Source}
 use Rattle.elab_model.specs.declared.kinds.ElabKind.{ElabKind}
 use Rattle.elab_model.specs.declared.kinds.ElabKind.TheVariants.{TooMany}
 use Rattle.elab_model.specs.Drivers.{elements}
-use Rattle.elab_circuit.specs.Elaboration.{FaultStands, in_list, in_table, IsElaborated, RefusalStands, Elaborates}
+use Rattle.circuit_model.specs.Elaboration.{FaultStands, in_list, in_table, IsElaborated, RefusalStands, Elaborates}
 use Rattle.elab_model.specs.PrimitiveFaults.{primitives}
 use Rattle.elab_model.specs.Faults.{Fault, fault, RefusesOneOf}
 use Rattle.elab_model.specs.HierarchyFaults.{two_definitions}
-use Rattle.elab_circuit.specs.CheckUses.{check_uses}
-use Rattle.elab_circuit.specs.Faults.{path_faults, check_faults, over, driver_faults, faults_below, top_faults, faults}
+use Rattle.circuit_model.specs.CheckUses.{check_uses}
+use Rattle.circuit_model.specs.Faults.{path_faults, check_faults, over, driver_faults, faults_below, top_faults, faults}
 use Rattle.elab_paths.specs.Joining.{counts_over}
 use Rattle.elab_model.specs.Nets.{nets}
 use Rattle.elab_model.specs.Tops.{top_of}
-use Rattle.elab_nets.specs.Refusals.{RefusesCount}
+use Rattle.elab_numbering.specs.Refusals.{RefusesCount}
 use Rattle.elab_laws.proofs.Lists.{In, in-either, in-left, in-right}
 use Rattle.elab_hierarchy.specs.Placing.{tree_faults}
 use Rattle.elab_hierarchy.specs.Tops.{RefusesTop}

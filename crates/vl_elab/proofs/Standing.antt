@@ -12,13 +12,13 @@ use Rattle.elab_model.specs.Drivers.{elements}
 use Rattle.elab_model.specs.Faults.{Fault, fault, fault_if}
 use Rattle.elab_model.specs.Hierarchy.{Instance, instances}
 use Rattle.elab_model.specs.HierarchyFaults.{self_instances, too_deep, first_too_many, count_limit, start, instance_faults_below}
-use Rattle.elab_circuit.specs.CheckUses.{check_uses}
-use Rattle.elab_circuit.specs.Faults.{path_faults, path_count, check_faults, over, too_many, driver_faults, faults_below}
+use Rattle.circuit_model.specs.CheckUses.{check_uses}
+use Rattle.circuit_model.specs.Faults.{path_faults, path_count, check_faults, over, too_many, driver_faults, faults_below}
 use Rattle.elab_model.specs.ModuleFaults.{module_faults}
 use Rattle.elab_model.specs.Nets.{nets}
 use Rattle.elab_model.specs.Numbered.{undriven}
-use Rattle.elab_circuit.specs.PathUses.{path_uses}
-use Rattle.elab_circuit.specs.WithPaths.{redirected, path_element, placed_element, plain_elements, all_nets, all_elements}
+use Rattle.circuit_model.specs.PathUses.{path_uses}
+use Rattle.circuit_model.specs.WithPaths.{redirected, path_element, placed_element, plain_elements, all_nets, all_elements}
 use Rattle.elab_paths.specs.Joining.{counts_over}
 use Rattle.elab_hierarchy.specs.Placing.{tree_faults_at, tree_faults}
 use Rattle.elab_modules.specs.Reached.{reached_faults}

@@ -17,14 +17,14 @@ use Rattle.elab_model.specs.Hierarchy.{instances}
 use Rattle.elab_model.specs.HierarchyFaults.{count_limit}
 use Rattle.elab_model.specs.Nets.{nets}
 use Rattle.elab_model.specs.Scopes.{scope_of}
-use Rattle.elab_circuit.specs.CheckUses.{check_of_use, check_uses}
-use Rattle.elab_circuit.specs.Faults.{check_faults, path_faults}
+use Rattle.circuit_model.specs.CheckUses.{check_of_use, check_uses}
+use Rattle.circuit_model.specs.Faults.{check_faults, path_faults}
 use Rattle.elab_hierarchy.specs.Placing.{ArePlaced, tree_faults}
 use Rattle.elab_hierarchy.specs.declared.instances.Placed.{Placed}
 use Rattle.elab_modules.specs.Reached.{IsLibrary}
 use Rattle.elab_modules.specs.declared.library.Library.{Library}
-use Rattle.elab_rows.specs.Rows.{HaveRows}
-use Rattle.elab_rows.specs.declared.rows.Rows.{Rows}
+use Rattle.elab_nets.specs.Rows.{HaveRows}
+use Rattle.elab_nets.specs.declared.rows.Rows.{Rows}
 use Rattle.elab_elements.specs.Seen.{AreElements}
 use Rattle.elab_elements.specs.declared.placing.Placing.{Placing}
 use Rattle.elab_paths.specs.Ready.{HavePaths}

@@ -12,21 +12,21 @@ use Rattle.elab_model.specs.Drivers.{Drive, stimulus_drives, check_drives}
 use Rattle.elab_model.specs.Hierarchy.{instances}
 use Rattle.elab_model.specs.Nets.{OwnNet, nets, number_of}
 use Rattle.elab_model.specs.Numbered.{undriven}
-use Rattle.elab_circuit.specs.Circuits.{driving}
-use Rattle.elab_circuit.specs.Driving.{Driving}
-use Rattle.elab_circuit.specs.PathUses.{path_uses}
-use Rattle.elab_circuit.specs.WithPaths.{all_nets, all_elements}
+use Rattle.circuit_model.specs.Circuits.{driving}
+use Rattle.circuit_model.specs.Driving.{Driving}
+use Rattle.circuit_model.specs.PathUses.{path_uses}
+use Rattle.circuit_model.specs.WithPaths.{all_nets, all_elements}
 use Rattle.elab_laws.specs.Words.{Owns}
 use Rattle.elab_laws.proofs.Homes.{number-below}
 use Rattle.elab_laws.proofs.Lists.{all-map, all-map_back, all-weaker}
-use Rattle.elab_owned.proofs.Drives.{drives-have_nets}
+use Rattle.elab_laws.proofs.Drives.{drives-have_nets}
 use Rattle.elab_closed.proofs.Closed.{nets-count as all-count}
 use Rattle.elab_closed.proofs.Elements.{StandsIn, elements-stand}
 use Rattle.elab_closed.proofs.Outputs.{outputs-are}
 use Rattle.elab_drivers.specs.Tables.{driving_of}
 use Rattle.elab_hierarchy.specs.declared.instances.Placed.{Placed}
 use Rattle.elab_modules.specs.declared.library.Library.{Library}
-use Rattle.elab_rows.specs.declared.rows.Rows.{Rows}
+use Rattle.elab_nets.specs.declared.rows.Rows.{Rows}
 use Rattle.elab_elements.specs.declared.placing.Placing.{Placing}
 use Rattle.elab_paths.specs.declared.joining.Joined.{Joined}
 use Rattle.elab_scopes.specs.Driven.{AreNumbers, AreDriven}

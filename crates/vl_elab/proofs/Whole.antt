@@ -21,13 +21,13 @@ use Rattle.sg_delay.specs.declared.corners.Corner.{Corner}
 use Rattle.sg_time.specs.declared.units.Unit as unit
 use Rattle.vl_tree.specs.Tree.{Module, Source}
 use Rattle.elab_model.specs.Delays.{tick_of}
-use Rattle.elab_circuit.specs.CheckUses.{check_uses, written_of_use}
-use Rattle.elab_circuit.specs.Circuits.{driving, with_driver, driven_nets, circuit}
-use Rattle.elab_circuit.specs.Driving.{Driving, driver_at, drivers}
-use Rattle.elab_circuit.specs.WithPaths.{all_nets, all_elements}
+use Rattle.circuit_model.specs.CheckUses.{check_uses, written_of_use}
+use Rattle.circuit_model.specs.Circuits.{driving, with_driver, driven_nets, circuit}
+use Rattle.circuit_model.specs.Driving.{Driving, driver_at, drivers}
+use Rattle.circuit_model.specs.WithPaths.{all_nets, all_elements}
 use Rattle.elab_closed.proofs.Closed.{circuit-is_closed}
 use Rattle.elab_modules.specs.declared.library.Library.{Library}
-use Rattle.elab_rows.specs.declared.rows.Rows.{Rows}
+use Rattle.elab_nets.specs.declared.rows.Rows.{Rows}
 use Rattle.elab_elements.specs.declared.placing.Placing.{Placing}
 use Rattle.elab_paths.specs.Joining.{Tables, tables_of, kind_with, element_with, NamesTables}
 use Rattle.elab_paths.specs.declared.joining.Joined.{Joined}

@@ -9,9 +9,9 @@ use Rattle.sg_text.specs.declared.refusals.Refused.TheVariants as refused
 use Rattle.udp_rows.specs.declared.faults.UdpKind.{UdpKind}
 use Rattle.vl_tree.specs.Tree.{Module, Primitive, Source}
 use Rattle.elab_model.specs.declared.kinds.ElabKind.{ElabKind}
-use Rattle.elab_circuit.specs.Circuits.{circuit}
+use Rattle.circuit_model.specs.Circuits.{circuit}
 use Rattle.elab_model.specs.Faults.{fault}
-use Rattle.elab_circuit.specs.Faults.{faults_below}
+use Rattle.circuit_model.specs.Faults.{faults_below}
 use Rattle.elab_model.specs.PrimitiveFaults.{primitives, TableFault}
 use Rattle.elab_modules.specs.Reached.{IsOfReached}
 

@@ -7,12 +7,12 @@ use Rattle.sg_circuit.specs.Seen.{scope_seen}
 use Rattle.sg_circuit.specs.declared.elements.LegTiming.{LegTiming}
 use Rattle.sg_circuit.specs.declared.scopes.Scope.{Scope}
 use Rattle.elab_model.specs.Delays.{tick_of}
-use Rattle.elab_circuit.specs.Faults.{path_faults, faults_below}
+use Rattle.circuit_model.specs.Faults.{path_faults, faults_below}
 use Rattle.elab_model.specs.Nets.{nets}
 use Rattle.elab_model.specs.Scopes.{scope_of}
-use Rattle.elab_circuit.specs.CheckUses.{check_uses}
-use Rattle.elab_circuit.specs.Circuits.{driving}
-use Rattle.elab_circuit.specs.WithPaths.{all_nets}
+use Rattle.circuit_model.specs.CheckUses.{check_uses}
+use Rattle.circuit_model.specs.Circuits.{driving}
+use Rattle.circuit_model.specs.WithPaths.{all_nets}
 use Rattle.elab_drivers.specs.Tables.{HasDrivers}
 use Rattle.sg_circuit.specs.declared.nets.Driver.{Driver}
 use Rattle.sg_circuit.specs.declared.nets.Net.{Net}
@@ -24,8 +24,8 @@ use Rattle.elab_hierarchy.specs.Placing.{ArePlaced, tree_faults}
 use Rattle.elab_hierarchy.specs.declared.instances.Placed.{Placed}
 use Rattle.elab_modules.specs.Reached.{IsLibrary}
 use Rattle.elab_modules.specs.declared.library.Library.{Library}
-use Rattle.elab_rows.specs.Rows.{HaveRows}
-use Rattle.elab_rows.specs.declared.rows.Rows.{Rows}
+use Rattle.elab_nets.specs.Rows.{HaveRows}
+use Rattle.elab_nets.specs.declared.rows.Rows.{Rows}
 use Rattle.elab_elements.specs.declared.placing.Placing.{Placing}
 use Rattle.elab_paths.specs.Joining.{HaveNumbers, AreJoined}
 use Rattle.elab_paths.specs.Shelving.{ListGrows}

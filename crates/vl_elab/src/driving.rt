@@ -2,7 +2,7 @@
 ghost use Rattle.std.specs.Prelude.{◌≡◌, IfOk, IfErr, length};
 ghost use Rattle.vl_tree.specs.Tree.{Module};
 ghost use Rattle.elab_model.specs.Faults.{RefusesOneOf};
-ghost use Rattle.elab_circuit.specs.Faults.{driver_faults};
+ghost use Rattle.circuit_model.specs.Faults.{driver_faults};
 ghost use Rattle.sg_delay.specs.declared.corners.Corner as ghost_corner;
 ghost use Rattle.vl_elab.specs.Made.{AreMade, AreDrivers, driven_by};
 
@@ -11,8 +11,8 @@ use elab_elements::Placing;
 use elab_hierarchy::{Definitions, Placed};
 use elab_model::ElabKind;
 use elab_modules::Library;
+use elab_nets::Rows;
 use elab_paths::Joined;
-use elab_rows::Rows;
 use elab_scopes::{input_nets, reg_nets};
 use sg_circuit::{Driver, Net};
 use sg_text::Refused;

@@ -2,7 +2,7 @@
 use Rattle.std.proofs.Common.{◌<◌, ◌∙◌, ap, sym, subst}
 use Rattle.std.proofs.lemmas.Result.{on_ok_weaker}
 use Rattle.vl_tree.specs.Seen.{view_name}
-use Rattle.elab_tables.specs.Seen.{variable_at}
+use Rattle.elab_variables.specs.Seen.{variable_at}
 use Rattle.elab_bits.specs.Words.{ends}
 use Rattle.elab_bits.proofs.InRow.{span-within}
 use Rattle.elab_bits.proofs.NamedAt.{named-at}

@@ -1,7 +1,7 @@
 -- What stands ready of the instance.
 use Rattle.std.proofs.lemmas.Result.{on_ok_weaker}
 use Rattle.elab_model.specs.Nets.{nets}
-use Rattle.elab_circuit.specs.PathUses.{bit_number}
+use Rattle.circuit_model.specs.PathUses.{bit_number}
 use Rattle.elab_elements.proofs.Putting.{if_err-weaker}
 use Rattle.elab_paths.proofs.UsesSoFar.{row-is}
 use Rattle.elab_checks.proofs.InstanceChecks.{ready-found, prepared-is, row-within, here-is, checks-found, checks-usable}

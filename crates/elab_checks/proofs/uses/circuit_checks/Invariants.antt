@@ -5,7 +5,7 @@ use Rattle.vl_tree.specs.Tree.{Module, Source}
 use Rattle.elab_model.specs.Delays.{tick_of}
 use Rattle.elab_model.specs.Hierarchy.{instances}
 use Rattle.elab_model.specs.Nets.{nets}
-use Rattle.elab_circuit.specs.CheckUses.{check_uses_of}
+use Rattle.circuit_model.specs.CheckUses.{check_uses_of}
 use Rattle.elab_checks.specs.Standing.{AreGiven}
 use Rattle.elab_checks.specs.Uses.{AreUses}
 use Rattle.elab_checks.proofs.uses.circuit_checks.Given as goal

@@ -5,7 +5,7 @@ use Rattle.std.specs.List.{AllByRecursion}
 use Rattle.std.proofs.lemmas.List.{length-map}
 use Rattle.sg_circuit.specs.declared.elements.Element.{Element}
 use Rattle.elab_laws.proofs.Lists.{all-map}
-use Rattle.elab_nets.specs.Driving.{StandsFor, by_stimulus}
+use Rattle.elab_numbering.specs.Driving.{StandsFor, by_stimulus}
 use Rattle.elab_drivers.proofs.ByNumber.{by_others}
 use Rattle.elab_drivers.proofs.Members.{all-by}
 use Rattle.elab_drivers.proofs.Told.{nobody, has-drivers}

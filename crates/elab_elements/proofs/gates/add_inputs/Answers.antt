@@ -1,7 +1,7 @@
 -- One number more is there, and a constant too many is one of all.
 use Rattle.std.proofs.Common.{ℕ, ◌≤◌}
 use Rattle.std.proofs.lemmas.Result.{err_from_is_err_and}
-use Rattle.elab_nets.specs.Refusals.{RefusesCount}
+use Rattle.elab_numbering.specs.Refusals.{RefusesCount}
 use Rattle.elab_bits.specs.declared.bits.Bit.TheVariants as bit
 use Rattle.elab_elements.specs.Words.{constants_in}
 use Rattle.elab_elements.proofs.Inputs.{refused-input}

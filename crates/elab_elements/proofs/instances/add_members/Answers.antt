@@ -1,8 +1,8 @@
 -- One member more has its elements.
 use Rattle.std.proofs.Common.{◌≡◌, ◌≤◌, ◌<◌, ap, arith, length}
 use Rattle.std.proofs.lemmas.Result.{err_from_is_err_and}
-use Rattle.elab_tables.specs.Seen.{view_member}
-use Rattle.elab_rows.proofs.MemberTurns.{member-at}
+use Rattle.elab_variables.specs.Seen.{view_member}
+use Rattle.elab_nets.proofs.MemberTurns.{member-at}
 use Rattle.elab_elements.proofs.MembersSoFar.{one-added, all-added, one-refused, delays-within, first-within, first-few, is-member}
 use Rattle.elab_elements.proofs.Putting.{exit-by}
 use Rattle.elab_elements.proofs.instances.add_members.Goals as goal

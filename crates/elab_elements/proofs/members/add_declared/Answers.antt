@@ -2,7 +2,7 @@
 use Rattle.std.proofs.Common.{◌+◌, subst, length}
 use Rattle.std.proofs.lemmas.Result.{on_ok_weaker}
 use Rattle.elab_model.specs.Elements.{passes}
-use Rattle.elab_nets.specs.Refusals.{RefusesCount}
+use Rattle.elab_numbering.specs.Refusals.{RefusesCount}
 use Rattle.elab_elements.specs.Adding.{Adds}
 use Rattle.elab_elements.proofs.MemberBits.{seen-bits}
 use Rattle.elab_elements.proofs.Putting.{if_err-weaker}

@@ -5,7 +5,7 @@ use Rattle.sg_circuit.specs.Circuit.{Gate}
 use Rattle.sg_circuit.specs.Seen.{delays_at}
 use Rattle.elab_model.specs.Bits.{Bit}
 use Rattle.elab_model.specs.Elements.{terminal_elements}
-use Rattle.elab_nets.specs.Refusals.{RefusesCount}
+use Rattle.elab_numbering.specs.Refusals.{RefusesCount}
 use Rattle.elab_bits.specs.Seen.{view_bit}
 use Rattle.elab_elements.specs.Adding.{Adds, HasTerminals}
 use Rattle.elab_elements.proofs.MemberBits.{seen-bits, outputs-are}

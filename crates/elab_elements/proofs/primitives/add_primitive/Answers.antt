@@ -4,7 +4,7 @@ use Rattle.std.proofs.lemmas.Result.{on_ok_weaker}
 use Rattle.sg_circuit.specs.Circuit.{Udp}
 use Rattle.sg_circuit.specs.Seen.{delays_at, udp_at}
 use Rattle.elab_model.specs.Elements.{terminal_elements}
-use Rattle.elab_nets.specs.Refusals.{RefusesCount}
+use Rattle.elab_numbering.specs.Refusals.{RefusesCount}
 use Rattle.elab_elements.specs.Adding.{Adds, HasTerminals}
 use Rattle.elab_elements.proofs.MemberBits.{seen-bits}
 use Rattle.elab_elements.proofs.Putting.{if_err-weaker}

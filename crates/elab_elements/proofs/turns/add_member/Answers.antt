@@ -7,8 +7,8 @@ use Rattle.elab_model.specs.Bits.{bits}
 use Rattle.elab_model.specs.Delays.{tick_of}
 use Rattle.elab_model.specs.Elements.{member_elements, terminal_bits}
 use Rattle.elab_model.specs.Nets.{nets}
-use Rattle.elab_nets.specs.Refusals.{RefusesCount}
-use Rattle.elab_tables.specs.Seen.{view_member}
+use Rattle.elab_numbering.specs.Refusals.{RefusesCount}
+use Rattle.elab_variables.specs.Seen.{view_member}
 use Rattle.elab_elements.specs.Adding.{Adds}
 use Rattle.elab_elements.proofs.MemberTurn.{as-member, assignment-same, assignment-after, declared-same, supply-same, supply-after, gate-same, gate-after, gate-bits, gate-fits}
 use Rattle.elab_elements.proofs.Putting.{exit-by, if_err-weaker}

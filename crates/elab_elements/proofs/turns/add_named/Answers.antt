@@ -4,7 +4,7 @@ use Rattle.std.proofs.lemmas.Result.{err_from_is_err_and, IfOk-weaker, on_ok_wea
 use Rattle.vl_tree.specs.Seen.{view_name}
 use Rattle.elab_laws.specs.Handing.{all_bits}
 use Rattle.elab_model.specs.Nets.{nets}
-use Rattle.elab_nets.specs.Refusals.{RefusesCount}
+use Rattle.elab_numbering.specs.Refusals.{RefusesCount}
 use Rattle.elab_elements.specs.Adding.{Adds}
 use Rattle.elab_elements.proofs.MembersSoFar.{adds-none}
 use Rattle.elab_elements.proofs.NamedMember.{none-named, none-next, names-module, names-primitive, the, the-at, the-inside, module-elements, module-next, the_bits, primitive-bits, primitive-fits, primitive-elements, primitive-next}

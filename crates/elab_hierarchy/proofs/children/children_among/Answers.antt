@@ -1,7 +1,7 @@
 -- A member more, or all.
 use Rattle.std.proofs.Common.{◌<◌, ◌≡◌, length, arith, subst}
 use Rattle.elab_model.specs.Hierarchy.{child_of_member}
-use Rattle.elab_tables.specs.Seen.{view_member}
+use Rattle.elab_variables.specs.Seen.{view_member}
 use Rattle.elab_hierarchy.specs.Children.{IsChildAnswer}
 use Rattle.elab_hierarchy.proofs.Gathered.{one-more, all-gathered}
 use Rattle.elab_hierarchy.proofs.children.children_among.Goals as goal

@@ -1,7 +1,7 @@
 -- The delays that are written of a gate or a primitive are the member's.
 use Rattle.std.proofs.Common.{ap, sym, subst}
 use Rattle.std.proofs.lemmas.Result.{IfOk-weaker}
-use Rattle.elab_tables.specs.Seen.{view_member}
+use Rattle.elab_variables.specs.Seen.{view_member}
 use Rattle.elab_modules.specs.Ready.{member_delays}
 use Rattle.elab_modules.specs.Telling.{StandsFor}
 use Rattle.elab_modules.proofs.members.add_member.Goals as goal

@@ -2,7 +2,7 @@
 use Rattle.std.proofs.Common.{None, sym, subst, option_map}
 use Rattle.vl_tree.specs.Seen.{view_name, view_expression, view_join, view_delay, view_gate_instance}
 use Rattle.vl_tree.specs.Tree.{signal}
-use Rattle.elab_tables.specs.Seen.{view_member}
+use Rattle.elab_variables.specs.Seen.{view_member}
 use Rattle.elab_modules.specs.Telling.{TellsButDelay}
 use Rattle.elab_modules.proofs.MemberFaults.{sides-tell, gate-tell}
 use Rattle.elab_modules.proofs.members.check_member.Goals as goal

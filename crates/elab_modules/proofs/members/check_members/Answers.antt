@@ -5,8 +5,8 @@ use Rattle.vl_tree.specs.Tree.{Module}
 use Rattle.elab_model.specs.Faults.{Fault, RefusesOneOf}
 use Rattle.elab_model.specs.Members.{members}
 use Rattle.elab_model.specs.ModuleFaults.{all_member_faults}
-use Rattle.elab_tables.specs.declared.member_list.Member as code
-use Rattle.elab_tables.specs.Seen.{view_member}
+use Rattle.elab_variables.specs.declared.member_list.Member as code
+use Rattle.elab_variables.specs.Seen.{view_member}
 use Rattle.elab_modules.specs.Ready.{MemberReady, IsPrepared}
 use Rattle.elab_modules.proofs.Entries.{AreDelays, grows-then, one-more, has-delays, members-faults}
 use Rattle.elab_modules.proofs.InTurn.{exit-if, this-refused, next-faultless, none-left}

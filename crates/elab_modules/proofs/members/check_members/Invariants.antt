@@ -2,7 +2,7 @@
 use Rattle.std.proofs.Common.{◌≡◌, ◌≤◌, All, flat_map, map, take, drop}
 use Rattle.vl_tree.specs.Tree.{Module}
 use Rattle.elab_model.specs.ModuleFaults.{all_member_faults}
-use Rattle.elab_tables.specs.Seen.{view_member}
+use Rattle.elab_variables.specs.Seen.{view_member}
 use Rattle.elab_modules.specs.Ready.{IsPrepared}
 use Rattle.elab_modules.specs.Telling.{GrowsBy}
 use Rattle.elab_modules.proofs.Entries.{AreDelays}

@@ -5,7 +5,7 @@ use Rattle.vl_tree.specs.Seen.{view_part, view_module}
 use Rattle.elab_model.specs.Faults.{RefusesOneOf}
 use Rattle.elab_model.specs.Members.{members}
 use Rattle.elab_model.specs.NameFaults.{declaration_faults}
-use Rattle.elab_tables.specs.Seen.{view_member}
+use Rattle.elab_variables.specs.Seen.{view_member}
 use Rattle.elab_hierarchy.proofs.Whole.{refuses}
 use Rattle.elab_modules.specs.Reaching.{Stocked}
 use Rattle.elab_modules.proofs.Faulty.{declarations-refused, members-refused, module-read}

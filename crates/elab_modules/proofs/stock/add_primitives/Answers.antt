@@ -3,7 +3,7 @@ use Rattle.std.proofs.Common.{◌<◌, length, map, sym, ap, subst, arith}
 use Rattle.std.proofs.lemmas.Result.{err_from_is_err_and}
 use Rattle.elab_model.specs.PrimitiveFaults.{member_primitive}
 use Rattle.elab_laws.proofs.Lists.{In}
-use Rattle.elab_tables.specs.Seen.{view_member}
+use Rattle.elab_variables.specs.Seen.{view_member}
 use Rattle.elab_hierarchy.proofs.Whole.{refuses}
 use Rattle.elab_modules.specs.Reaching.{IsUdpReady}
 use Rattle.elab_modules.proofs.Among.{in-mapped}

@@ -1,6 +1,6 @@
 -- The primitives of the members so far stand ready.
 use Rattle.std.proofs.Common.{map, take}
-use Rattle.elab_tables.specs.Seen.{view_member}
+use Rattle.elab_variables.specs.Seen.{view_member}
 use Rattle.elab_modules.specs.Reaching.{Stocked}
 use Rattle.elab_modules.proofs.stock.add_primitives.Given as goal
 

@@ -2,7 +2,7 @@
 use Rattle.std.proofs.Common.{All, arith, subst, sym}
 use Rattle.std.proofs.lemmas.Result.{on_ok_weaker}
 use Rattle.elab_model.specs.Nets.{nets}
-use Rattle.elab_circuit.specs.PathUses.{bit_number}
+use Rattle.circuit_model.specs.PathUses.{bit_number}
 use Rattle.elab_elements.proofs.Putting.{if_err-weaker}
 use Rattle.elab_paths.specs.Uses.{IsUsable}
 use Rattle.elab_paths.proofs.InstanceTurn.{instance-uses, instance-refused}

@@ -5,7 +5,7 @@ use Rattle.vl_tree.specs.Tree.{Module, Source}
 use Rattle.elab_model.specs.Delays.{tick_of}
 use Rattle.elab_model.specs.Hierarchy.{instances}
 use Rattle.elab_model.specs.Nets.{nets}
-use Rattle.elab_circuit.specs.PathUses.{path_uses_of}
+use Rattle.circuit_model.specs.PathUses.{path_uses_of}
 use Rattle.elab_paths.specs.Standing.{AreStanding}
 use Rattle.elab_paths.specs.Uses.{AreUses, AreFew}
 use Rattle.elab_paths.proofs.joining.uses_of.Given as goal

@@ -1,7 +1,7 @@
 -- The outputs of a module, or a fault of it.
 use Rattle.std.proofs.lemmas.Result.{err_from_is_err_and}
 use Rattle.vl_tree.specs.Seen.{view_module}
-use Rattle.elab_circuit.specs.Faults.{module_path_faults}
+use Rattle.circuit_model.specs.Faults.{module_path_faults}
 use Rattle.elab_modules.proofs.InTurn.{exit}
 use Rattle.elab_paths.proofs.OwnPaths.{outputs-made, beside-refused, own-refused}
 use Rattle.elab_paths.proofs.modules.outputs_of.Goals as goal

@@ -1,7 +1,7 @@
 -- One use more, or too many.
 use Rattle.std.proofs.Common.{ℕ, ◌+◌, ◌≤◌, arith, length, refl, subst}
 use Rattle.std.proofs.lemmas.Result.{err_from_is_err_and}
-use Rattle.elab_nets.specs.Refusals.{RefusesCount}
+use Rattle.elab_numbering.specs.Refusals.{RefusesCount}
 use Rattle.elab_elements.proofs.Putting.{exit-by}
 use Rattle.elab_paths.specs.Uses.{AddsPaths}
 use Rattle.elab_paths.proofs.AddedPaths.{use-added}

@@ -3,7 +3,7 @@ use Rattle.std.proofs.Common.{◌≡◌, ◌≤◌, ◌∙◌, Some, ap, refl, s
 use Rattle.std.specs.Prelude.{slice_get}
 use Rattle.std.proofs.lemmas.Bool.{ltb-false}
 use Rattle.std.proofs.lemmas.Option.{slice_get_read, slice_get_past}
-use Rattle.elab_rows.specs.Rows.{part_of}
+use Rattle.elab_nets.specs.Rows.{part_of}
 use Rattle.elab_scopes.specs.declared.here.Here.{Here}
 use Rattle.elab_scopes.proofs.Standing.{is-reached, row-found, row-there}
 use Rattle.elab_scopes.proofs.here.here_at.Goals as goal

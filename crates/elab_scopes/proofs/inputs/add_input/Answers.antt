@@ -1,7 +1,7 @@
 -- An input's bits are driven.
 use Rattle.std.proofs.Common.{◌≡◌, true, false, arith}
 use Rattle.elab_model.specs.Homes.{is_input}
-use Rattle.elab_tables.specs.Seen.{variable_at}
+use Rattle.elab_variables.specs.Seen.{variable_at}
 use Rattle.elab_scopes.proofs.InputDrives.{no-input, one-input}
 use Rattle.elab_scopes.proofs.inputs.add_input.Goals as goal
 

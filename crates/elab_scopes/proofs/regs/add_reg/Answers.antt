@@ -1,6 +1,6 @@
 -- A reg's bits may be toggled.
 use Rattle.std.proofs.Common.{◌≡◌, true, false, arith}
-use Rattle.elab_tables.specs.Seen.{variable_at}
+use Rattle.elab_variables.specs.Seen.{variable_at}
 use Rattle.elab_scopes.proofs.RegDrives.{no-reg, one-reg}
 use Rattle.elab_scopes.proofs.regs.add_reg.Goals as goal
 

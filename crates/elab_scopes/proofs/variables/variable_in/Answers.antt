@@ -1,6 +1,6 @@
 -- A variable with its nets.
 use Rattle.std.proofs.Common.{◌∙◌}
-use Rattle.elab_tables.specs.Seen.{variable_at}
+use Rattle.elab_variables.specs.Seen.{variable_at}
 use Rattle.elab_scopes.proofs.ShownVariables.{variable-shown}
 use Rattle.elab_scopes.proofs.variables.variable_in.Goals as goal
 

@@ -1,7 +1,7 @@
 use Rattle.std.proofs.Common.{◌≡◌, ◌≤◌, map, take}
 use Rattle.std.specs.Vec.{vec_capacity}
 use Rattle.sg_model.specs.Round.{changed_by}
-use Rattle.stim_read.specs.Seen.{set_seen}
+use Rattle.sg_stimulus.specs.Seen.{set_seen}
 use Rattle.fan_round.specs.Nets.{AreChanged}
 use Rattle.fan_round.proofs.nets.apply.Given as goal
 

@@ -1,6 +1,6 @@
 use Rattle.std.proofs.Common.{◌∙◌, ap, sym, map}
 use Rattle.sg_model.specs.Round.{changed_by, due_changes}
-use Rattle.stim_read.specs.Seen.{set_seen}
+use Rattle.sg_stimulus.specs.Seen.{set_seen}
 use Rattle.fan_round.proofs.NetLaws.{changed_append}
 use Rattle.fan_round.proofs.nets.change_values.Goals as goal
 

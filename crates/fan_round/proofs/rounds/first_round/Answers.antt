@@ -1,7 +1,7 @@
 use Rattle.std.proofs.Common.{◌≡◌, ◌∙◌, ap, length, map, subst}
 use Rattle.sg_model.specs.Machine.{State}
 use Rattle.sg_model.specs.Round.{round}
-use Rattle.stim_read.specs.Seen.{set_seen}
+use Rattle.sg_stimulus.specs.Seen.{set_seen}
 use Rattle.fan_round.specs.States.{state_seen, IsIdle}
 use Rattle.fan_round.proofs.RoundLaws.{round_is_made}
 use Rattle.fan_round.proofs.PendingLaws.{pending_rises, pending_below, ready_again}

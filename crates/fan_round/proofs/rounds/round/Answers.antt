@@ -1,7 +1,7 @@
 use Rattle.std.proofs.Common.{◌≡◌, map}
 use Rattle.sg_model.specs.Machine.{State}
 use Rattle.sg_model.specs.Round.{round}
-use Rattle.stim_read.specs.Seen.{set_seen}
+use Rattle.sg_stimulus.specs.Seen.{set_seen}
 use Rattle.fan_round.specs.States.{state_seen}
 use Rattle.fan_round.proofs.RoundLaws.{on_ok_then, stays_now, round_is_made}
 use Rattle.fan_round.proofs.PendingLaws.{pending_rises, pending_below, idle_as_many, ready_again}

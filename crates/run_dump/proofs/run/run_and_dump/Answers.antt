@@ -1,6 +1,6 @@
 use Rattle.std.proofs.lemmas.Result.{err_from_is_err_and}
 use Rattle.std.specs.Prelude.{map}
-use Rattle.stim_read.specs.Seen.{stimulus_seen}
+use Rattle.sg_stimulus.specs.Seen.{stimulus_seen}
 use Rattle.sim_rounds.specs.Setting.{setting_of}
 use Rattle.time_checks.specs.Seen.{violation_seen}
 use Rattle.run_dump.proofs.RunLaws.{ends, finds, leaves_header, leaves_less, stops}

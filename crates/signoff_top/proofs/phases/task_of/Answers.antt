@@ -1,7 +1,7 @@
 use Rattle.std.proofs.Common.{◌≡◌, ◌∙◌, ap, refl, sym}
 use Rattle.std.proofs.lemmas.Result.{err_from_is_err_and}
 use Rattle.sg_circuit.specs.Circuit.{Circuit}
-use Rattle.stim_read.specs.declared.steps.Stimulus.{Stimulus}
+use Rattle.sg_stimulus.specs.declared.steps.Stimulus.{Stimulus}
 use Rattle.run_words.specs.Words.{Command}
 use Rattle.run_words.specs.WordsSeen.{command_seen}
 use Rattle.signoff_top.specs.declared.phases.Task.{Task}

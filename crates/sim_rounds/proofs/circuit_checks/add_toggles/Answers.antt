@@ -1,5 +1,5 @@
 use Rattle.std.proofs.Common.{map}
-use Rattle.stim_read.specs.Seen.{set_seen}
+use Rattle.sg_stimulus.specs.Seen.{set_seen}
 use Rattle.sim_rounds.proofs.ToggleLaws.{toggled_more}
 use Rattle.sim_rounds.proofs.circuit_checks.add_toggles.Goals as goal
 

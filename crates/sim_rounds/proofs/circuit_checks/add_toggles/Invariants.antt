@@ -1,7 +1,7 @@
 use Rattle.std.specs.Prelude.{map}
 use Rattle.std.proofs.Common.{◌≡◌, take}
 use Rattle.sg_model.specs.Time.{toggles as toggles_of}
-use Rattle.stim_read.specs.Seen.{set_seen}
+use Rattle.sg_stimulus.specs.Seen.{set_seen}
 use Rattle.sim_rounds.proofs.circuit_checks.add_toggles.Given as goal
 
 -- the toggles of the nets so far

@@ -1,7 +1,7 @@
 use Rattle.std.specs.Prelude.{◌≡◌, ℕ, ◌+◌, ◌<◌, ◌≤◌, length, slice_index_or}
 use Rattle.std.proofs.Common.{sym, subst, arith}
 use Rattle.std.proofs.lemmas.Bool.Decides.{nat_tests}
-use Rattle.stim_read.specs.declared.steps.StimStep.{StimStep}
+use Rattle.sg_stimulus.specs.declared.steps.StimStep.{StimStep}
 use Rattle.sim_rounds.proofs.StepLaws.{Rising, rising, sets_later, sets_none}
 use Rattle.sim_rounds.proofs.steps.next_step.Goals as goal
 

@@ -1,8 +1,8 @@
 use Rattle.std.specs.Prelude.{◌≡◌, ℕ, ◌<◌, ◌≤◌, length, map, slice_index_or}
 use Rattle.std.proofs.Common.{sym, ◌∙◌, ap, subst, arith}
 use Rattle.std.proofs.lemmas.Bool.Decides.{nat_tests}
-use Rattle.stim_read.specs.declared.steps.StimStep.{StimStep}
-use Rattle.stim_read.specs.Seen.{set_seen}
+use Rattle.sg_stimulus.specs.declared.steps.StimStep.{StimStep}
+use Rattle.sg_stimulus.specs.Seen.{set_seen}
 use Rattle.sim_rounds.proofs.StepLaws.{Rising, rising, sets_found, sets_later, sets_none}
 use Rattle.sim_rounds.proofs.steps.sets_of.Goals as goal
 use Rattle.sim_rounds.proofs.steps.sets_of.Goals.{in_default-via-in-Some+else-step-now, in_default-via-in_default}

@@ -1,7 +1,7 @@
 use Rattle.std.specs.Prelude.{nat_lt}
 use Rattle.std.proofs.Common.{rules}
 use Rattle.std.proofs.lemmas.List.Sorted.{IsPartitionPoint-from_clause}
-use Rattle.stim_read.specs.declared.steps.StimStep.{StimStep}
+use Rattle.sg_stimulus.specs.declared.steps.StimStep.{StimStep}
 use Rattle.sim_rounds.proofs.StepLaws.{Rising, rising, are_partitioned, splits}
 use Rattle.sim_rounds.proofs.steps.steps_before.Goals as goal
 

@@ -2,8 +2,8 @@
 use Rattle.std.specs.Prelude.{length}
 use Rattle.std.proofs.Common.{sym, subst}
 use Rattle.std.proofs.lemmas.Result.{err_from_is_err_and}
-use Rattle.elab_circuit.specs.CheckUses.{check_uses}
-use Rattle.elab_circuit.specs.Faults.{check_faults, over}
+use Rattle.circuit_model.specs.CheckUses.{check_uses}
+use Rattle.circuit_model.specs.Faults.{check_faults, over}
 use Rattle.elab_names.proofs.Refusals.{refused-left, refused-right}
 use Rattle.elab_checks.specs.Standing.{AreGiven}
 use Rattle.elab_checks.specs.Uses.{AreUses}

@@ -2,9 +2,9 @@
 use Rattle.std.proofs.Common.{rules, ◌≡◌, ◌<◌, ◌+◌, length, sym, ◌∙◌, ap, subst}
 use Rattle.std.specs.Prelude.{All}
 use Rattle.elab_drivers.specs.Tables.{HasDrivers}
-use Rattle.elab_circuit.specs.Driving.{driving_faults}
-use Rattle.elab_circuit.specs.Faults.{driver_faults}
-use Rattle.elab_circuit.specs.WithPaths.{all_nets}
+use Rattle.circuit_model.specs.Driving.{driving_faults}
+use Rattle.circuit_model.specs.Faults.{driver_faults}
+use Rattle.circuit_model.specs.WithPaths.{all_nets}
 use Rattle.elab_model.specs.Faults.{RefusesOneOf}
 use Rattle.vl_elab.specs.Made.{AreMade, AreDrivers}
 use Rattle.vl_elab.proofs.Told.{ok-weaker, err-weaker, lists-driven, nets-count, inputs-placed, elements-placed, inputs-within, regs-within, outputs-within}

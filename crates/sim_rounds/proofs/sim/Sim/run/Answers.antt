@@ -1,8 +1,8 @@
 use Rattle.std.specs.Prelude.{List, map, take, ◌-◌}
 use Rattle.std.proofs.Common.{ℕ, ◌∙◌, sym, ap, subst}
 use Rattle.sg_model.specs.Machine.{Machine, Violation}
-use Rattle.stim_read.specs.Seen.{stimulus_seen}
-use Rattle.stim_read.specs.Stimulus.{Stimulus, sets_at}
+use Rattle.sg_stimulus.specs.Seen.{stimulus_seen}
+use Rattle.sg_stimulus.specs.Stimulus.{Stimulus, sets_at}
 use Rattle.time_checks.specs.Seen.{violation_seen}
 use Rattle.sg_circuit.specs.Circuit.{Circuit}
 use Rattle.sim_rounds.specs.Runs.{HasEnded, start_of}

@@ -1,8 +1,8 @@
 use Rattle.std.specs.Prelude.{map}
 use Rattle.std.proofs.Common.{ℕ, ◌+◌, ◌∙◌, ap, arith}
 use Rattle.std.proofs.lemmas.Result.{err_from_is_err_and}
-use Rattle.stim_read.specs.Seen.{set_seen, stimulus_seen}
-use Rattle.stim_read.specs.Stimulus.{sets_at}
+use Rattle.sg_stimulus.specs.Seen.{set_seen, stimulus_seen}
+use Rattle.sg_stimulus.specs.Stimulus.{sets_at}
 use Rattle.sg_model.specs.Time.{Run}
 use Rattle.sim_rounds.specs.Simulations.{StandsBetween, StandsFor}
 use Rattle.sim_rounds.proofs.SimulatedLaws.{none_made, hand_ready, stands_later, time_made}

@@ -3,7 +3,7 @@ use Rattle.std.proofs.Common.{◌≡◌, ℕ, List, [], ◌∙◌, sym, ap, subs
 use Rattle.sg_logic.specs.declared.values.Value.{Value}
 use Rattle.sg_model.specs.Machine.{Machine}
 use Rattle.sg_model.specs.Round.{changed_by, due_changes, values_after}
-use Rattle.stim_read.specs.Seen.{set_seen}
+use Rattle.sg_stimulus.specs.Seen.{set_seen}
 use Rattle.sim_rounds.specs.Naming.{IsLeastOf}
 use Rattle.fan_round.specs.Nets.{AreChanged}
 use Rattle.fan_round.proofs.PendingLaws.{pending_rises, pending_below}

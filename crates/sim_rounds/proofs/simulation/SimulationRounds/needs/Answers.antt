@@ -1,6 +1,6 @@
 use Rattle.std.proofs.Common.{sym, ◌∙◌, subst}
 use Rattle.std.specs.Prelude.{map}
-use Rattle.stim_read.specs.Seen.{set_seen}
+use Rattle.sg_stimulus.specs.Seen.{set_seen}
 use Rattle.sim_rounds.specs.Naming.{Moves}
 use Rattle.fan_round.specs.States.{state_seen}
 use Rattle.fan_round.proofs.PendingLaws.{pending_rises, pending_below}

@@ -1,7 +1,7 @@
 use Rattle.std.specs.Prelude.{length, map}
 use Rattle.std.proofs.Common.{◌≡◌, subst}
 use Rattle.sg_model.specs.Time.{is_empty}
-use Rattle.stim_read.specs.Seen.{set_seen, stimulus_seen}
+use Rattle.sg_stimulus.specs.Seen.{set_seen, stimulus_seen}
 use Rattle.fan_round.specs.States.{state_seen}
 use Rattle.sim_rounds.specs.Checks.{HasSeen}
 use Rattle.sim_rounds.proofs.SimulationLaws.{none_handed, kept_still, snapshot_stands, toggles_state_move, toggles_ready}

@@ -1,5 +1,0 @@
--- The ledger is that of the blank.
-use Rattle.base_tests.proofs.tables.answer.Given as goal
-
-abbrev pub ghosts-answer_from : goal.ghosts-answer_from
-ghosts-answer_from a = record { name = a.blank.name; parts = a.blank.parts }

@@ -1,0 +1,108 @@
+-- What gates and primitives read and drive has nets, and so have the constants at their inputs.
+use Rattle.std.specs.Prelude.{◌≡◌, ℕ, zero, suc, ◌-◌, ◌≤◌, List, [], ◌∷◌, false, nat_lt, length, flat_map, map, take, drop, refl}
+use Rattle.std.specs.List.{AllByRecursion, enumerate_from}
+use Rattle.std.proofs.Common.{arith}
+use Rattle.std.proofs.lemmas.Bool.Decides.{nat_tests}
+use Rattle.sg_circuit.specs.Circuit.{Kind}
+use Rattle.sg_logic.specs.declared.gates.GateKind.{GateKind}
+use Rattle.sg_logic.specs.declared.gates.GateKind.TheVariants as kinds
+use Rattle.sg_logic.specs.declared.values.Value.{Value}
+use Rattle.sg_text.specs.declared.places.Place.{Place}
+use Rattle.vl_tree.specs.Tree.{Expression, Module, Source}
+use Rattle.elab_model.specs.Members.{Member, members}
+use Rattle.elab_model.specs.Names.{variables}
+use Rattle.elab_model.specs.Bits.{Bit, net, constant, bits}
+use Rattle.elab_model.specs.Hierarchy.{Instance, instances}
+use Rattle.elab_model.specs.Homes.{Spot, terminal}
+use Rattle.elab_model.specs.Elements.{output_count, input_spot, output_element, constant_pass, terminal_elements, terminal_bits, expression_bits}
+use Rattle.elab_model.specs.Nets.{terminal_nets, member_nets, nets}
+use Rattle.elab_model.specs.TerminalFaults.{expression_faults, width_faults, constant_faults, terminal_faults}
+use Rattle.elab_laws.specs.Words.{Owns}
+use Rattle.elab_laws.proofs.Lists.{In, all-in, all-append, all-flat, all-flat_in, all-map, all-weaker}
+use Rattle.elab_laws.proofs.NoFaults.{front, back, all-from, all-second}
+use Rattle.elab_laws.proofs.Terminals.{HasNet, expression-there, terminal-there}
+use Rattle.elab_laws.specs.ElementLaws.{HasNets}
+use Rattle.elab_laws.proofs.HaveNets.{HaveNets, all-flat_from}
+use Rattle.elab_laws.proofs.ElementWidths.{width-is, first-is_net}
+
+all-take : {A : Type 0} (P : A → Type 0) (n : ℕ) (xs : List A) → AllByRecursion P xs → AllByRecursion P (take n xs)
+all-take P zero xs h = tt
+all-take P (suc n) [] h = tt
+all-take P (suc n) (x ∷ xs) h = (h.0, all-take P n xs h.1)
+
+all-drop : {A : Type 0} (P : A → Type 0) (n : ℕ) (xs : List A) → AllByRecursion P xs → AllByRecursion P (drop n xs)
+all-drop P zero xs h = h
+all-drop P (suc n) [] h = tt
+all-drop P (suc n) (x ∷ xs) h = all-drop P n xs h.1
+
+-- each constant at an input has a net
+abbrev pub ConstantsOwned : Source → Module → Instance → ℕ → List (ℕ × Bit) → Type 0
+ConstantsOwned source top s k inputs = (i : ℕ) (at : Place) (v : Value) → In (i, constant at v) inputs → Owns (terminal s.step.number k i) (nets source top)
+
+input-has : (source : Source) (top : Module) (s : Instance) (k : ℕ) (inputs : List (ℕ × Bit)) → ConstantsOwned source top s k inputs → (i : ℕ) (b : Bit) → In (i, b) inputs → HasNet source top s b
+    → Owns (input_spot source s k (i, b)) (nets source top)
+input-has source top s k inputs own i (net n p) there h = h
+input-has source top s k inputs own i (constant at v) there h = own i at v there
+
+output-has : (source : Source) (top : Module) (s : Instance) (at : Place) (kind : Kind) (spots : List Spot) → AllByRecursion (λ i. Owns i (nets source top)) spots → (b : Bit) → HasNet source top s b
+    → HaveNets source top (output_element source s at kind spots b)
+output-has source top s at kind spots inputs (net n p) h = (record { output = h; inputs = inputs }, tt)
+output-has source top s at kind spots inputs (constant there v) h = tt
+
+constant-has : (source : Source) (top : Module) (s : Instance) (k : ℕ) (inputs : List (ℕ × Bit)) → ConstantsOwned source top s k inputs → (i : ℕ) (b : Bit) → In (i, b) inputs
+    → HaveNets source top (constant_pass s (terminal s.step.number k i) b)
+constant-has source top s k inputs own i (net n p) there = tt
+constant-has source top s k inputs own i (constant at v) there = (record { output = own i at v there; inputs = tt }, tt)
+
+elements-have : (source : Source) (top : Module) (s : Instance) (at : Place) (k : ℕ) (kind : Kind) (outputs : ℕ) (bs : List Bit) → AllByRecursion (HasNet source top s) bs
+    → ConstantsOwned source top s k (enumerate_from 0 (drop outputs bs)) → HaveNets source top (terminal_elements source s at k kind outputs bs)
+elements-have source top s at k kind outputs bs each own =
+    let inputs = enumerate_from 0 (drop outputs bs) in
+    let read = all-second (HasNet source top s) 0 (drop outputs bs) (all-drop (HasNet source top s) outputs bs each) in
+    let spots : AllByRecursion (λ i. Owns i (nets source top)) (map (input_spot source s k) inputs) =
+    all-map (λ i. Owns i (nets source top)) (input_spot source s k) inputs
+    (all-from (λ x. Owns (input_spot source s k x) (nets source top)) inputs (λ x h. input-has source top s k inputs own x.0 x.1 h (all-in (λ x. HasNet source top s x.1) x inputs read h))) in
+    all-append (HasNets (nets source top))
+    (flat_map (output_element source s at kind (map (input_spot source s k) inputs)) (take outputs bs)) (flat_map (λ i. constant_pass s (terminal s.step.number k i.0) i.1) inputs)
+    (all-flat_in (HasNets (nets source top)) (output_element source s at kind (map (input_spot source s k) inputs)) (take outputs bs)
+    (all-weaker (HasNet source top s) (λ b. HaveNets source top (output_element source s at kind (map (input_spot source s k) inputs) b)) (take outputs bs)
+    (output-has source top s at kind (map (input_spot source s k) inputs) spots) (all-take (HasNet source top s) outputs bs each)))
+    (all-flat_from (HasNets (nets source top)) (λ i. constant_pass s (terminal s.step.number k i.0) i.1) inputs (λ x h. constant-has source top s k inputs own x.0 x.1 h))
+
+-- a member that makes terminals' nets, whose expressions have no faults
+pub record AreTerminals (source : Source) (s : Instance) (k : ℕ) (x : Member) (outputs : ℕ) (es : List Expression) : Type 0 where
+  pub there : In (k, x) (enumerate_from 0 (members s.step.definition))
+  pub nets_are : member_nets source s (k, x) ≡ terminal_nets s k outputs (terminal_bits s es)
+  pub sound : flat_map (expression_faults (variables s.step.definition)) es ≡ []
+  pub faultless : terminal_faults (variables s.step.definition) outputs es ≡ []
+
+constants-owned : (source : Source) (top : Module) (s : Instance) (k : ℕ) (x : Member) (outputs : ℕ) (es : List Expression) → In s (instances source top) → AreTerminals source s k x (suc outputs) es
+    → ConstantsOwned source top s k (enumerate_from 0 (drop (suc outputs) (terminal_bits s es)))
+constants-owned source top s k x outputs [] there t i at v h = absurd h
+constants-owned source top s k x outputs (e ∷ es) there t i at v h =
+    let vs = variables s.step.definition in
+    let widths = flat_map (width_faults vs 1) (e ∷ es) in
+    let driven = flat_map (constant_faults vs) (take (suc outputs) (e ∷ es)) in
+    let one : length (bits vs e) ≡ 1 =
+    width-is vs 1 e (front (expression_faults vs e) (flat_map (expression_faults vs) es) t.sound) (front (width_faults vs 1 e) (flat_map (width_faults vs 1) es) (front widths driven t.faultless)) in
+    let f = first-is_net vs outputs e es one (back widths driven t.faultless) in
+    terminal-there source top s k x (suc outputs) (terminal_bits s (e ∷ es)) f.name f.position f.rest i at v there t.there t.nets_are f.first h
+
+-- the elements of such a member
+pub terminals-have : (source : Source) (top : Module) (s : Instance) (at : Place) (k : ℕ) (x : Member) (kind : Kind) (outputs : ℕ) (es : List Expression) → In s (instances source top)
+    → AreTerminals source s k x (suc outputs) es → HaveNets source top (terminal_elements source s at k kind (suc outputs) (terminal_bits s es))
+terminals-have source top s at k x kind outputs es there t =
+    elements-have source top s at k kind (suc outputs) (terminal_bits s es)
+    (all-flat (HasNet source top s) (expression_bits s) es (λ e. expression-there source top s e there))
+    (constants-owned source top s k x outputs es there t)
+
+-- a gate of two terminals or more has an output
+pub has-output : (g : GateKind) (n : ℕ) → nat_lt n 2 ≡ false → (k : ℕ) × (output_count g n ≡ suc k)
+has-output kinds.And n h = (0, refl)
+has-output kinds.Nand n h = (0, refl)
+has-output kinds.Or n h = (0, refl)
+has-output kinds.Nor n h = (0, refl)
+has-output kinds.Xor n h = (0, refl)
+has-output kinds.Xnor n h = (0, refl)
+has-output kinds.Buf n h = let le : 2 ≤ n = grind (arith, nat_tests) in (n - 2, omega arith)
+has-output kinds.Not n h = let le : 2 ≤ n = grind (arith, nat_tests) in (n - 2, omega arith)

@@ -1,0 +1,10 @@
+-- The table stands for the drives so far.
+use Rattle.std.proofs.Common.{◌≡◌, ◌++◌, List, map, take, length}
+use Rattle.elab_numbering.specs.Driving.{NumberedDrive, StandsFor, by_elements}
+use Rattle.elab_numbering.proofs.driving.drive_outputs.Given as goal
+
+abbrev pub invariant-loop-place : goal.invariant-loop-place
+invariant-loop-place l = record {
+  nets : length l.drivers.items ≡ length l.initial.drivers.items;
+  so_far : (ds : List NumberedDrive) → StandsFor l.initial.drivers.items ds → StandsFor l.drivers.items (ds ++ by_elements 0 (take l.place (map (λ e. e.output) l.elements)));
+}

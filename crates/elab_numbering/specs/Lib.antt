@@ -1,0 +1,3 @@
+-- The modules of this folder: words of the contracts.
+pub mod Refusals
+pub mod Driving

@@ -1,3 +1,0 @@
--- The modules of this folder.
-pub mod InOrder
-pub mod TerminalNumbers

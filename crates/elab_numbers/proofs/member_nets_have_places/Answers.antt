@@ -1,6 +1,0 @@
--- The law is a lemma.
-use Rattle.elab_numbers.proofs.InOrder.{member-nets_have_places}
-use Rattle.elab_numbers.proofs.member_nets_have_places.Goals as goal
-
-pub returns : goal.returns
-returns c = member-nets_have_places

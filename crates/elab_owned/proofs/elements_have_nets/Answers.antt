@@ -1,6 +1,0 @@
--- The law is a lemma.
-use Rattle.elab_owned.proofs.Members.{elements-have_nets}
-use Rattle.elab_owned.proofs.elements_have_nets.Goals as goal
-
-pub returns : goal.returns
-returns c = elements-have_nets

@@ -1,7 +1,0 @@
--- What is absent names nothing.
-use Rattle.elab_tables.specs.Naming.{key_texts}
-use Rattle.elab_tables.proofs.UsedNames.{none-named}
-use Rattle.elab_tables.proofs.naming.OptionExpressionNaming.add_to.Goals as goal
-
-pub returns-in-None : goal.returns-in-None
-returns-in-None c = none-named (key_texts c.args.known.now.keys) c.args.self.now c.in-None.is

@@ -1,5 +1,0 @@
--- The ledger is that of the blank.
-use Rattle.event_wheel.proofs.agenda.WheelAgenda.least.Given as goal
-
-abbrev pub ghosts-least_from : goal.ghosts-least_from
-ghosts-least_from a = record { name = a.blank.name; parts = a.blank.parts }

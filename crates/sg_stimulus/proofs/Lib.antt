@@ -1,0 +1,2 @@
+-- The lemma files of this folder.
+pub mod FittingLaws
