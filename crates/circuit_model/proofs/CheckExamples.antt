@@ -54,6 +54,18 @@ notified : (circuit alone latch Typ).nets ≡
     net 0 (codes "q") None (driver.Element 0) ∷ net 0 (codes "ck") None driver.Stimulus ∷ net 0 (codes "d") None driver.Stimulus ∷ net 0 (codes "n") None driver.Notifier ∷ []
 notified = refl
 
+-- how a report names it, and where its text stands
+named : (circuit alone latch Typ).checks ≡
+    record {
+      scope = 0;
+      kind = kind.Setup;
+      refer = record { name = codes "ck"; bit = None };
+      datum = Some (record { name = codes "d"; bit = None });
+      notifier = Some 3;
+      place = here 51;
+    } ∷ []
+named = refl
+
 -- what is looked for, and how conditions are spelled
 looked_for : (circuit alone latch Typ).check_timings ≡
     record {
@@ -62,6 +74,7 @@ looked_for : (circuit alone latch Typ).check_timings ≡
       datum = Some (record { net = 2; edge = None; condition = None });
       limits = pos 2 ∷ pos 0 ∷ [];
       threshold = 0;
+      late = None;
     } ∷ []
 looked_for = refl
 

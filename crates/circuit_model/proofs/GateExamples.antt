@@ -29,6 +29,7 @@ inverter_circuit : circuit (a_module inverter ∷ []) inverter Typ ≡ record {
   check_timings = [];
   check_conditions = [];
   scopes = scope None (codes "t") (codes "t") false (variable (codes "a") port.Input (0 ∷ []) ∷ variable (codes "y") port.Output (1 ∷ []) ∷ []) ∷ [];
+  zeroed = [];
 }
 inverter_circuit = refl
 

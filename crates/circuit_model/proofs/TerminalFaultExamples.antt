@@ -1,7 +1,7 @@
 -- Faults of terminals, widths, indices, delays and drivers, each refused and nearly so.
 use Rattle.std.specs.Prelude.{◌≡◌, List, [], ◌∷◌, Some, None, refl, codes, pos}
 use Rattle.sg_delay.specs.declared.corners.Corner.TheVariants.{Typ, Max}
-use Rattle.sg_logic.specs.declared.gates.GateKind.TheVariants.{And, Buf}
+use Rattle.sg_logic.specs.declared.gates.GateKind.TheVariants.{And, Buf, Bufif0, Bufif1}
 use Rattle.sg_logic.specs.declared.values.Value.TheVariants.{Zero, One}
 use Rattle.vl_tree.specs.Tree.{MinTypMax, one_number, three_numbers, Source}
 use Rattle.elab_model.specs.declared.kinds.ElabKind.TheVariants.{UnknownName, WidthMismatch, SecondDriver, BadTerminal, BadDelay}
@@ -60,6 +60,16 @@ one_terminal = refl
 two_terminals : faults (alone (gate_item And 40 (use_of (codes "y") 41 ∷ use_of (codes "a") 42 ∷ []) ∷ [])) None Typ ≡ []
 two_terminals = refl
 
+-- bufif1 (y, a); bufif1 (y, a, b); and bufif1 (y, a, b, a);
+no_control : faults (alone (gate_item Bufif1 40 (use_of (codes "y") 41 ∷ use_of (codes "a") 42 ∷ []) ∷ [])) None Typ ≡ fault BadTerminal (here 40) ∷ []
+no_control = refl
+
+one_control : faults (alone (gate_item Bufif1 40 (use_of (codes "y") 41 ∷ use_of (codes "a") 42 ∷ use_of (codes "b") 43 ∷ []) ∷ [])) None Typ ≡ []
+one_control = refl
+
+four_terminals : faults (alone (gate_item Bufif1 40 (use_of (codes "y") 41 ∷ use_of (codes "a") 42 ∷ use_of (codes "b") 43 ∷ use_of (codes "a") 44 ∷ []) ∷ [])) None Typ ≡ fault BadTerminal (here 40) ∷ []
+four_terminals = refl
+
 -- #(2^60) and #(2^60 - 1); three delays
 abbrev pub delayed : List MinTypMax → Source
 delayed vs = alone (gate_with Buf (Some (record { place = here 39; values = vs })) 40 (use_of (codes "y") 41 ∷ use_of (codes "a") 44 ∷ []) ∷ [])
@@ -72,6 +82,11 @@ longest = refl
 
 three_delays : faults (delayed (one_number (whole_number 1) ∷ one_number (whole_number 2) ∷ one_number (whole_number 3) ∷ [])) None Typ ≡ fault BadDelay (here 39) ∷ []
 three_delays = refl
+
+-- bufif0 #(1, 2, 3) (y, a, b);
+off_delay : faults (alone (gate_with Bufif0 (Some (record { place = here 39; values = one_number (whole_number 1) ∷ one_number (whole_number 2) ∷ one_number (whole_number 3) ∷ [] })) 40
+    (use_of (codes "y") 41 ∷ use_of (codes "a") 42 ∷ use_of (codes "b") 43 ∷ []) ∷ [])) None Typ ≡ []
+off_delay = refl
 
 -- only the corner's part is looked at
 other_corner : faults (delayed (three_numbers (whole_number 1) (whole_number 2) (whole_number 1152921504606846976) ∷ [])) None Typ ≡ []

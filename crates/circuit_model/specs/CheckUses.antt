@@ -1,5 +1,5 @@
 -- Check uses: a timing check of an instance's module, over nets (IEEE 1364-2005, clause 15).
-use Rattle.std.specs.Prelude.{ℕ, ℤ, pos, List, [], ◌∷◌, Option, flat_map, map}
+use Rattle.std.specs.Prelude.{ℕ, ℤ, pos, List, [], ◌∷◌, Option, None, flat_map, map}
 use Rattle.std.specs.Option.{option_and_then, option_map}
 use Rattle.cond_expr.specs.Token.{Tok}
 use Rattle.cond_expr.specs.Tree.{Cond}
@@ -69,11 +69,11 @@ check_uses source top corner = flat_map (check_uses_of (nets source top) source 
 
 -- ---- the checks of a circuit
 
--- how a report names it, and the net that its violations toggle (15.5)
+-- how a report names it, the net that its violations toggle (15.5), and where its text stands
 abbrev pub check_of_use : CheckUse → Check
-check_of_use u = record { scope = u.scope; kind = u.kind; refer = u.refer.terminal; datum = option_map (λ e. e.terminal) u.datum; notifier = u.notifier }
+check_of_use u = record { scope = u.scope; kind = u.kind; refer = u.refer.terminal; datum = option_map (λ e. e.terminal) u.datum; notifier = u.notifier; place = u.place }
 
--- what it looks for: a check has two limits, of which the second is 0 where its kind has one
+-- what it looks for: a check has two limits, of which the second is 0 where its kind has one; its signals aren't delayed (15.8)
 abbrev pub event_of_use : EventUse → Event
 event_of_use e = record { net = e.net; edge = e.edge; condition = option_map (λ c. c.1) e.condition }
 
@@ -83,7 +83,7 @@ two_limits (l ∷ []) = l ∷ pos 0 ∷ []
 two_limits (l ∷ m ∷ more) = l ∷ m ∷ []
 
 abbrev pub timing_of_use : CheckUse → CheckTiming
-timing_of_use u = record { kind = u.kind; refer = event_of_use u.refer; datum = option_map event_of_use u.datum; limits = two_limits u.limits; threshold = u.threshold }
+timing_of_use u = record { kind = u.kind; refer = event_of_use u.refer; datum = option_map event_of_use u.datum; limits = two_limits u.limits; threshold = u.threshold; late = None }
 
 -- how its conditions are spelled
 abbrev pub written_of : EventUse → Option (List Tok)

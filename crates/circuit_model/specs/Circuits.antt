@@ -1,5 +1,5 @@
 -- The circuit of a netlist below a top.
-use Rattle.std.specs.Prelude.{ℕ, ◌+◌, List, ◌++◌, Bool, if◌then◌else◌, length, map, zip}
+use Rattle.std.specs.Prelude.{ℕ, ◌+◌, List, [], ◌++◌, Bool, if◌then◌else◌, length, map, zip}
 use Rattle.std.specs.List.{list_any}
 use Rattle.sg_circuit.specs.Circuit.{Circuit}
 use Rattle.sg_circuit.specs.declared.nets.Driver.{Driver}
@@ -63,4 +63,5 @@ circuit source top corner = record {
   check_timings = map timing_of_use (check_uses source top corner);
   check_conditions = map written_of_use (check_uses source top corner);
   scopes = map (scope_of (nets source top) source) (instances source top);
+  zeroed = [];
 }

@@ -1,11 +1,12 @@
+use circuit_fit::{fit, try_close};
 use sg_circuit::{
     Check, CheckConditions, CheckKind, CheckTiming, Circuit, Driver, Element, ElementKind, Event,
     FanOut, LegTiming, Net, Parts, Path, PathCondition, Port, Range, Scope, Span, Terminal,
-    Variable,
+    Variable, Zero,
 };
 use sg_delay::{Delays12, GateDelays, Limit, Limits12, PulseStyle};
 use sg_logic::{GateKind, POSEDGE, Value};
-use sg_text::{NoMemory, Text};
+use sg_text::{NoMemory, Place, Text};
 use sg_time::{Scale, Unit};
 use smallvec::SmallVec;
 use std::alloc::Global;
@@ -89,6 +90,7 @@ fn nand(alloc: Global) -> Result<Parts, NoMemory> {
         check_timings: Vec::new(alloc),
         check_conditions: Vec::new(alloc),
         scopes: vec![in alloc; scope]?,
+        zeroed: Vec::new(alloc),
     })
 }
 
@@ -103,7 +105,7 @@ fn readers(alloc: Global, circuit: &Circuit, net: u32) -> Result<Vec<u32>, NoMem
 
 #[test]
 fn parts_that_fit(rt: HostRuntime) -> Result<(), Fail> {
-    let circuit = Circuit::try_close(nand(rt.alloc())?).ok_or("no fit")?;
+    let circuit = try_close(nand(rt.alloc())?).ok_or("no fit")?;
     assert_eq!(rt; circuit.parts().nets.len(), 2);
     assert_eq!(rt; circuit.parts().elements.len(), 1);
     assert_eq!(rt;
@@ -134,7 +136,7 @@ fn chain(alloc: Global) -> Result<Parts, NoMemory> {
 
 #[test]
 fn an_element_reads_a_net_once(rt: HostRuntime) -> Result<(), Fail> {
-    let circuit = Circuit::try_close(chain(rt.alloc())?).ok_or("no fit")?;
+    let circuit = try_close(chain(rt.alloc())?).ok_or("no fit")?;
     assert_eq!(rt;
         readers(rt.alloc(), &circuit, 1)?.as_slice(),
         [1, 2].as_slice()
@@ -155,13 +157,13 @@ fn drivers_that_do_not_fit(rt: HostRuntime) -> Result<(), Fail> {
         constant: Some(Value::One),
     };
     two.elements.push(element(alloc, &[], 1, constant)?)?;
-    assert!(rt; !two.fit());
+    assert!(rt; !fit(&two));
     let mut other = nand(alloc)?;
     other.nets.push(net(alloc, "z", Driver::Element(0))?)?;
-    assert!(rt; !other.fit());
+    assert!(rt; !fit(&other));
     let mut far = nand(alloc)?;
     far.elements.push(element(alloc, &[], 2, constant)?)?;
-    assert!(rt; !far.fit());
+    assert!(rt; !fit(&far));
     Ok(())
 }
 
@@ -188,7 +190,7 @@ fn inputs_by_kind(rt: HostRuntime) -> Result<(), Fail> {
         (0, pass, false),
         (1, pass, true),
     ] {
-        assert_eq!(rt; with(alloc, &[0, 0][..count], kind)?.fit(), fits, "{count}");
+        assert_eq!(rt; fit(&with(alloc, &[0, 0][..count], kind)?), fits, "{count}");
     }
     Ok(())
 }
@@ -222,7 +224,7 @@ fn paths_in_their_table(rt: HostRuntime) -> Result<(), Fail> {
             condition: PathCondition::Always,
             timing,
         })?;
-        assert_eq!(rt; parts.fit(), fits, "{end} {input} {timing}");
+        assert_eq!(rt; fit(&parts), fits, "{end} {input} {timing}");
     }
     Ok(())
 }
@@ -231,14 +233,95 @@ fn paths_in_their_table(rt: HostRuntime) -> Result<(), Fail> {
 fn timings_in_their_table(rt: HostRuntime) -> Result<(), Fail> {
     let alloc = rt.alloc();
     let mut parts = with(alloc, &[1], ElementKind::Leg { timing: 0 })?;
-    assert!(rt; !parts.fit());
+    assert!(rt; !fit(&parts));
     parts.leg_timings.push(SEVEN)?;
-    assert!(rt; parts.fit());
-    parts.gate_delays.push(GateDelays {
-        count: 3,
-        at: [1, 2, 3],
+    assert!(rt; fit(&parts));
+    Ok(())
+}
+
+// Three delays are for gates that turn their output off.
+#[test]
+fn delays_by_kind(rt: HostRuntime) -> Result<(), Fail> {
+    let alloc = rt.alloc();
+    for (kind, fits) in [(GateKind::Nand, false), (GateKind::Notif0, true)] {
+        let mut parts = with(alloc, &[1, 0], ElementKind::Gate { kind, delays: 1 })?;
+        parts.gate_delays.push(GateDelays {
+            count: 3,
+            at: [1, 2, 3],
+        })?;
+        assert_eq!(rt; fit(&parts), fits);
+    }
+    Ok(())
+}
+
+// A path from net 0 with the first timing.
+fn add_path(parts: &mut Parts) -> Result<(), NoMemory> {
+    parts.paths.push(Path {
+        input: 0,
+        edge: None,
+        condition: PathCondition::Always,
+        timing: 0,
     })?;
-    assert!(rt; !parts.fit());
+    Ok(())
+}
+
+// Two elements to which paths lead: the first has the first of two paths, and the second those of a span.
+fn with_paths(alloc: Global, start: u32, end: u32) -> Result<Parts, NoMemory> {
+    let first = ElementKind::Path {
+        paths: Span { start: 0, end: 1 },
+        style: PulseStyle::OnEvent,
+    };
+    let second = ElementKind::Path {
+        paths: Span { start, end },
+        style: PulseStyle::OnEvent,
+    };
+    let mut parts = with(alloc, &[1], first)?;
+    parts.nets.push(net(alloc, "w", Driver::Element(2))?)?;
+    parts.elements.push(element(alloc, &[1], 3, second)?)?;
+    parts.leg_timings.push(SEVEN)?;
+    add_path(&mut parts)?;
+    add_path(&mut parts)?;
+    Ok(parts)
+}
+
+#[test]
+fn paths_apart(rt: HostRuntime) -> Result<(), Fail> {
+    let alloc = rt.alloc();
+    for (start, end, fits) in [(1, 2, true), (0, 1, false)] {
+        assert_eq!(rt; fit(&with_paths(alloc, start, end)?), fits, "{start}");
+    }
+    Ok(())
+}
+
+#[test]
+fn no_scope_is_finer_than_the_tick(rt: HostRuntime) -> Result<(), Fail> {
+    let mut parts = nand(rt.alloc())?;
+    parts.tick = Unit { power: -11 };
+    assert!(rt; !fit(&parts));
+    Ok(())
+}
+
+fn terminal(alloc: Global, name: &str) -> Result<Terminal, NoMemory> {
+    Ok(Terminal {
+        name: Text::copy(alloc, name.as_bytes())?,
+        bit: None,
+    })
+}
+
+// The rises of a net.
+fn rises(net: u32) -> Event {
+    Event {
+        net,
+        edge: Some(POSEDGE),
+        condition: None,
+    }
+}
+
+fn add_written(parts: &mut Parts) -> Result<(), NoMemory> {
+    parts.check_conditions.push(CheckConditions {
+        refer: None,
+        datum: None,
+    })?;
     Ok(())
 }
 
@@ -247,29 +330,41 @@ fn add_check(alloc: Global, kind: CheckKind, parts: &mut Parts) -> Result<(), No
     parts.checks.push(Check {
         scope: 0,
         kind,
-        refer: Terminal {
-            name: Text::copy(alloc, b"a")?,
-            bit: None,
-        },
+        refer: terminal(alloc, "a")?,
         datum: None,
         notifier: None,
+        place: Place { file: 0, byte: 0 },
     })?;
     parts.check_timings.push(CheckTiming {
         kind,
-        refer: Event {
-            net: 0,
-            edge: Some(POSEDGE),
-            condition: None,
-        },
+        refer: rises(0),
         datum: None,
         limits: [0, 0],
         threshold: 0,
+        late: None,
     })?;
-    parts.check_conditions.push(CheckConditions {
-        refer: None,
-        datum: None,
+    add_written(parts)
+}
+
+// A setuphold check of nets 0 and 1, whose Lates are elements 1 and 2.
+fn add_setuphold(alloc: Global, parts: &mut Parts) -> Result<(), NoMemory> {
+    parts.checks.push(Check {
+        scope: 0,
+        kind: CheckKind::Setuphold,
+        refer: terminal(alloc, "a")?,
+        datum: Some(terminal(alloc, "y")?),
+        notifier: None,
+        place: Place { file: 0, byte: 0 },
     })?;
-    Ok(())
+    parts.check_timings.push(CheckTiming {
+        kind: CheckKind::Setuphold,
+        refer: rises(0),
+        datum: Some(rises(1)),
+        limits: [-2, 5],
+        threshold: 0,
+        late: Some([1, 2]),
+    })?;
+    add_written(parts)
 }
 
 #[test]
@@ -278,7 +373,36 @@ fn checks_by_kind(rt: HostRuntime) -> Result<(), Fail> {
     for (kind, fits) in [(CheckKind::Width, true), (CheckKind::Setup, false)] {
         let mut parts = nand(alloc)?;
         add_check(alloc, kind, &mut parts)?;
-        assert_eq!(rt; parts.fit(), fits);
+        assert_eq!(rt; fit(&parts), fits);
+    }
+    Ok(())
+}
+
+// A setuphold check with a Late of each event. The first is a copy of this net, and the second limit of the check of this number is
+// taken as 0.
+fn with_lates(alloc: Global, first: u32, check: u32) -> Result<Parts, NoMemory> {
+    let mut parts = with(alloc, &[first], ElementKind::Late { delay: 2 })?;
+    parts.nets.push(net(alloc, "w", Driver::Element(2))?)?;
+    let second = element(alloc, &[1], 3, ElementKind::Late { delay: 0 })?;
+    parts.elements.push(second)?;
+    add_setuphold(alloc, &mut parts)?;
+    parts.zeroed.push(Zero {
+        check,
+        part: 1,
+        value: -3,
+    })?;
+    Ok(parts)
+}
+
+#[test]
+fn lates_of_their_nets(rt: HostRuntime) -> Result<(), Fail> {
+    let alloc = rt.alloc();
+    for (first, check, fits) in [(0, 0, true), (1, 0, false), (0, 1, false)] {
+        assert_eq!(rt;
+            fit(&with_lates(alloc, first, check)?),
+            fits,
+            "{first} {check}"
+        );
     }
     Ok(())
 }
@@ -297,7 +421,7 @@ fn variables_by_range(rt: HostRuntime) -> Result<(), Fail> {
         let mut scope = scope;
         scope.variables.push(bus)?;
         parts.scopes.push(scope)?;
-        assert_eq!(rt; parts.fit(), fits, "{left}");
+        assert_eq!(rt; fit(&parts), fits, "{left}");
     }
     Ok(())
 }

@@ -24,22 +24,3 @@ impl<const DEPTH: usize> Grammar for Conditions<DEPTH> {
 
     ghost exact = { expression-exact DEPTH };
 }
-
-#[cfg(test)]
-mod tests {
-    use super::Conditions;
-    use grammar::{
-        begins_alone, one_failing_token, one_tree, prefix_closed, reads_its_language,
-        spelled_or_failing,
-    };
-
-    #[test]
-    fn laws_of_conditions(_rt: HostRuntime) {
-        reads_its_language::<Conditions<64>>();
-        one_tree::<Conditions<64>>();
-        spelled_or_failing::<Conditions<64>>();
-        one_failing_token::<Conditions<64>>();
-        prefix_closed::<Conditions<64>>();
-        begins_alone::<Conditions<64>>();
-    }
-}

@@ -23,10 +23,5 @@ pub use copies::owned;
 pub use expr::Expr;
 pub use faults::CondFault;
 pub use laws::{one_condition, one_core, one_failing_token, own_words};
-pub use scan::{Phase, after, first_fault};
+pub use scan::{Phase, after, ended, first_fault, takes_index};
 pub use tokens::{Op, Tok};
-
-#[cfg(test)]
-mod tests;
-#[cfg(test)]
-mod value_tests;

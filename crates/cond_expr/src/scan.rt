@@ -1,7 +1,8 @@
 // The first token with which no condition begins.
-ghost use Rattle.std.specs.Prelude.{◌≡◌, ◌<◌, ◌^◌};
-ghost use Rattle.cond_expr.specs.Kinds.{kind_of};
+ghost use Rattle.std.specs.Prelude.{◌≡◌, ◌<◌, ◌^◌, Some};
+ghost use Rattle.cond_expr.specs.Kinds.{kind_of, index_kind};
 ghost use Rattle.cond_expr.specs.ScanSteps.{step};
+ghost use Rattle.cond_expr.specs.WordStates.{allows, may_end};
 ghost use Rattle.cond_expr.specs.Grammar.{FirstFault};
 
 use crate::operators::{may_prefix, precedence_of};
@@ -36,6 +37,26 @@ pub fn after<N>(unclosed: u64, phase: Phase, token: &Tok<N>) -> Option<(u64, Pha
             Phase::Operand,
         )),
         _ => None,
+    }
+}
+
+/// Whether an index may stand next.
+pub fn takes_index(unclosed: u64, phase: Phase) -> bool
+    ensures { result ≡ allows (Some (unclosed, phase)) index_kind }
+{
+    match phase {
+        Phase::Name => true,
+        Phase::Operand | Phase::Whole => false,
+    }
+}
+
+/// Whether a condition may end.
+pub fn ended(unclosed: u64, phase: Phase) -> bool
+    ensures { result ≡ may_end (Some (unclosed, phase)) }
+{
+    match phase {
+        Phase::Operand => false,
+        Phase::Name | Phase::Whole => unclosed == 0,
     }
 }
 

@@ -9,4 +9,4 @@ mod spans;
 
 pub use bits::{Bit, add_bits, add_variable};
 pub use faults::check_expression;
-pub use positions::position_at;
+pub use positions::{index_at, position_at};

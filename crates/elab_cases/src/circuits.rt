@@ -80,6 +80,7 @@ fn show_element(parts: &Parts, element: &Element, out: &mut String) -> anyhow::R
         } => write!(out, "{value:?}")?,
         ElementKind::Leg { timing } => write!(out, "Leg {timing}")?,
         ElementKind::Path { style, .. } => write!(out, "Path {style:?}")?,
+        ElementKind::Late { delay } => write!(out, "Late #{delay}")?,
     }
     for input in &element.inputs {
         write!(out, " {input}")?;

@@ -45,9 +45,9 @@ module _ (vs : List Variable) (row : List ℕ) (net : NetBit → ℕ) (condition
 
   pub check-named : (scope : ℕ) (c : ReadyCheck) (refer : Terminal) (datum : Option Terminal) (notifier : Option ℕ) → IsRow vs row net → IfSome c.notifier (λ i. i < length (all_bits vs))
       → refer ≡ terminal_ready vs c.refer → datum ≡ option_map (terminal_ready vs) c.datum → notifier ≡ option_and_then (slice_get row) c.notifier
-      → ◌≡◌ {A = Check} (record { scope = scope; kind = c.kind; refer = refer; datum = datum; notifier = notifier }) (check_of_use (check_use scope net (check_ready conditions vs c)))
+      → ◌≡◌ {A = Check} (record { scope = scope; kind = c.kind; refer = refer; datum = datum; notifier = notifier; place = c.place }) (check_of_use (check_use scope net (check_ready conditions vs c)))
   check-named scope c refer datum notifier r lt e f g =
-      λ i. record { scope = scope; kind = c.kind; refer = e i; datum = (f ∙ datum-named c.datum) i; notifier = (g ∙ notifier-net c.notifier r lt) i }
+      λ i. record { scope = scope; kind = c.kind; refer = e i; datum = (f ∙ datum-named c.datum) i; notifier = (g ∙ notifier-net c.notifier r lt) i; place = c.place }
 
   -- ---- what it looks for
 
@@ -61,9 +61,9 @@ module _ (vs : List Variable) (row : List ℕ) (net : NetBit → ℕ) (condition
 
   pub check-timed : (scope : ℕ) (c : ReadyCheck) (refer : Event) (datum : Option Event) (l m : ℤ) → refer ≡ event_of_use (event_use net (event_ready conditions vs c.refer))
       → datum ≡ option_map (λ e. event_of_use (event_use net (event_ready conditions vs e))) c.datum → l ≡ pos c.first → m ≡ second_ticks c.second
-      → ◌≡◌ {A = CheckTiming} (record { kind = c.kind; refer = refer; datum = datum; limits = l ∷ m ∷ []; threshold = c.threshold }) (timing_of_use (check_use scope net (check_ready conditions vs c)))
+      → ◌≡◌ {A = CheckTiming} (record { kind = c.kind; refer = refer; datum = datum; limits = l ∷ m ∷ []; threshold = c.threshold; late = None }) (timing_of_use (check_use scope net (check_ready conditions vs c)))
   check-timed scope c refer datum l m e f g h =
-      λ i. record { kind = c.kind; refer = e i; datum = (f ∙ datum-over c.datum) i; limits = (ap (λ x. x ∷ m ∷ []) g ∙ ap (λ x. pos c.first ∷ x ∷ []) h ∙ limits-are c.first c.second) i; threshold = c.threshold }
+      λ i. record { kind = c.kind; refer = e i; datum = (f ∙ datum-over c.datum) i; limits = (ap (λ x. x ∷ m ∷ []) g ∙ ap (λ x. pos c.first ∷ x ∷ []) h ∙ limits-are c.first c.second) i; threshold = c.threshold; late = None }
 
   -- ---- how its conditions are spelled
 

@@ -17,7 +17,7 @@ use Rattle.elab_model.specs.Delays.{tick_of}
 use Rattle.elab_model.specs.Faults.{fault_if}
 use Rattle.elab_model.specs.Names.{Variable, variables}
 use Rattle.specify_model.specs.Blocks.{parameters, specify_items}
-use Rattle.specify_model.specs.CheckFaults.{edge_faults, words_faults, event_condition_faults, event_faults, some_event_faults, limit_faults, threshold_faults, notifier_faults, check_faults, timing_check_faults}
+use Rattle.specify_model.specs.CheckFaults.{edge_faults, words_faults, event_condition_faults, event_faults, some_event_faults, limit_faults, threshold_faults, notifier_faults, signal_faults, check_faults, timing_check_faults}
 use Rattle.specify_model.specs.Checks.{ModuleEvent, ModuleCheck, check_texts, data_of, enabled_by, event_of, limits_in, module_check, notifier_of, reference_of, threshold_of, timing_checks}
 use Rattle.specify_model.specs.Conditions.{operands, tokens, tree_of}
 use Rattle.specify_model.specs.Faults.{condition_faults, first_place, operand_faults}
@@ -66,7 +66,7 @@ check-sound : (by : Measure) (vs : List Variable) (values : Values) (c : Check) 
 check-sound by vs values c h =
     let refers = event_faults vs (reference_of c) in
     let datums = some_event_faults vs (data_of c) in
-    let rest = flat_map (limit_faults by values) (limits_in c) ++ (threshold_faults by values (threshold_of c) ++ notifier_faults vs (notifier_of c)) in
+    let rest = flat_map (limit_faults by values) (limits_in c) ++ (threshold_faults by values (threshold_of c) ++ (notifier_faults vs (notifier_of c) ++ signal_faults c)) in
     let own = back (edge_faults c) (refers ++ (datums ++ rest)) h in
     record { refer = event-sound vs (reference_of c) (front refers (datums ++ rest) own); datum = datum-sound vs (data_of c) (front datums rest (back refers (datums ++ rest) own)) }
 

@@ -27,9 +27,9 @@ use crate::shelving::{ReadyCheck, ReadyEvent};
 use cond_expr::{BindFault, Bound, Expr};
 use elab_hierarchy::Placed;
 use elab_model::ElabKind;
-use elab_modules::Library;
+use elab_modules::{Library, module_at};
 use elab_nets::Rows;
-use elab_paths::{Operands, check_count, module_at, row_of};
+use elab_paths::{Operands, check_count, row_of};
 use elab_variables::Table;
 use sg_circuit::{Check, CheckConditions, CheckTiming, Event, NetId, Terminal};
 use sg_text::{NoMemory, Refused, Text};
@@ -156,6 +156,7 @@ fn timing_of(
         datum,
         limits: [limit_of(check.first), second_limit(check.second)],
         threshold: check.threshold,
+        late: None,
     })
 }
 
@@ -210,6 +211,7 @@ fn check_of(alloc: Global, here: Here, check: &ReadyCheck) -> Result<Check, NoMe
         refer,
         datum,
         notifier: notifier_of(here.row, check.notifier),
+        place: check.place,
     })
 }
 

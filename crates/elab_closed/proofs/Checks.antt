@@ -33,7 +33,7 @@ use Rattle.elab_model.specs.Nets.{nets, number_of}
 use Rattle.elab_model.specs.Ports.{net_declarations}
 use Rattle.elab_model.specs.TerminalFaults.{delay_limit, is_missing, leaf_faults, part_faults as select_faults, width_faults}
 use Rattle.specify_model.specs.Blocks.{parameters, specify_items}
-use Rattle.specify_model.specs.CheckFaults.{edge_faults, event_condition_faults, event_faults, some_event_faults, limit_parts, is_below_0, part_faults, limit_faults, threshold_faults, found_notifier_faults, notifier_faults, check_faults as own_faults, timing_check_faults}
+use Rattle.specify_model.specs.CheckFaults.{edge_faults, event_condition_faults, event_faults, some_event_faults, limit_parts, is_below_0, part_faults, limit_faults, threshold_faults, found_notifier_faults, notifier_faults, signal_faults, check_faults as own_faults, timing_check_faults}
 use Rattle.specify_model.specs.Checks.{ModuleEvent, ModuleCheck, check_texts, data_of, event_of, kind_of, corner_limit, limit_ticks, limits_in, module_check, notifier_of, reference_of, reg_bit, size_ticks, threshold_of, threshold_ticks, timing_checks}
 use Rattle.specify_model.specs.Faults.{amount_place, long_faults, operand_faults, term_faults, unknown_faults}
 use Rattle.specify_model.specs.Outputs.{measure}
@@ -72,8 +72,8 @@ has-datum f (one_limit_check p one.Hold r d l n) = (λ s. tt, λ u. refl)
 has-datum f (one_limit_check p one.Recovery r d l n) = (λ s. tt, λ u. refl)
 has-datum f (one_limit_check p one.Removal r d l n) = (λ s. tt, λ u. refl)
 has-datum f (one_limit_check p one.Skew r d l n) = (λ s. tt, λ u. refl)
-has-datum f (two_limit_check p two.SetupHold r d l m n) = (λ s. tt, λ u. refl)
-has-datum f (two_limit_check p two.RecRem r d l m n) = (λ s. tt, λ u. refl)
+has-datum f (two_limit_check p two.SetupHold r d l m n x y) = (λ s. tt, λ u. refl)
+has-datum f (two_limit_check p two.RecRem r d l m n x y) = (λ s. tt, λ u. refl)
 has-datum f (width_check p r l t n) = (λ s. cc, λ u. absurd u)
 has-datum f (period_check p r l n) = (λ s. cc, λ u. absurd u)
 
@@ -87,8 +87,8 @@ has-edge (one_limit_check p one.Hold r d l n) h = tt
 has-edge (one_limit_check p one.Recovery r d l n) h = tt
 has-edge (one_limit_check p one.Removal r d l n) h = tt
 has-edge (one_limit_check p one.Skew r d l n) h = tt
-has-edge (two_limit_check p two.SetupHold r d l m n) h = tt
-has-edge (two_limit_check p two.RecRem r d l m n) h = tt
+has-edge (two_limit_check p two.SetupHold r d l m n x y) h = tt
+has-edge (two_limit_check p two.RecRem r d l m n x y) h = tt
 has-edge (width_check p r l t n) h = some-edge r.edge (no-fault (is_none r.edge) BadTerminal r.place h)
 has-edge (period_check p r l n) h = some-edge r.edge (no-fault (is_none r.edge) BadTerminal r.place h)
 
@@ -134,7 +134,7 @@ are-none by vs values c h =
     let datums = some_event_faults vs (data_of c) in
     let limits = flat_map (limit_faults by values) (limits_in c) in
     let thresholds = threshold_faults by values (threshold_of c) in
-    let notifiers = notifier_faults vs (notifier_of c) in
+    let notifiers = notifier_faults vs (notifier_of c) ++ signal_faults c in
     let one = back (edge_faults c) (refers ++ (datums ++ (limits ++ (thresholds ++ notifiers)))) h in
     let two = back refers (datums ++ (limits ++ (thresholds ++ notifiers))) one in
     let three = back datums (limits ++ (thresholds ++ notifiers)) two in
@@ -145,7 +145,7 @@ are-none by vs values c h =
       datum = front datums (limits ++ (thresholds ++ notifiers)) two;
       limits = front limits (thresholds ++ notifiers) three;
       threshold = front thresholds notifiers four;
-      notifier = back thresholds notifiers four;
+      notifier = front (notifier_faults vs (notifier_of c)) (signal_faults c) (back thresholds notifiers four);
     }
 
 check-sound : (by : Measure) (vs : List Variable) (values : Values) (c : Check) → AreNone by vs values c → IsSoundCheck (module_check by vs values c)

@@ -1,12 +1,13 @@
 -- The parts of the circuit of a netlist without faults fit together.
-use Rattle.std.specs.Prelude.{◌≡◌, ℕ, ◌+◌, ◌<◌, ◌≤◌, ◌^◌, ◌↔◌, All, Option, Some, None, IfSome, IsSome, length, map, refl}
+use Rattle.std.specs.Prelude.{◌≡◌, ℕ, ◌+◌, ◌<◌, ◌≤◌, ◌≤ℤ◌, ◌^◌, ◌↔◌, All, Option, Some, None, IfSome, IsSome, length, map, refl}
 use Rattle.std.specs.List.{AllByRecursion}
 use Rattle.std.proofs.Common.{sym, ◌∙◌, ap, arith, subst, length-append}
 use Rattle.std.proofs.lemmas.List.{length-map}
-use Rattle.std.proofs.lemmas.List.Elements.{All-from_recursion, All-weaker}
-use Rattle.sg_circuit.specs.Closed.{TakesInputs, HasDelays, HasDatum, NamesNets, IsCheckTiming, IsNotifier}
+use Rattle.std.proofs.lemmas.List.Elements.{All-from_recursion, All-nil, All-weaker}
+use Rattle.sg_circuit.specs.Closed.{TakesInputs, HasDelays, HasDatum, HasLates, NamesNets, IsCheckTiming, IsNotifier, IsZeroOf}
 use Rattle.sg_delay.specs.declared.corners.Corner.{Corner}
 use Rattle.vl_tree.specs.Tree.{Module, Source}
+use Rattle.elab_model.specs.Delays.{precision_of, tick_of}
 use Rattle.elab_model.specs.Hierarchy.{instances}
 use Rattle.elab_model.specs.HierarchyFaults.{count_limit}
 use Rattle.elab_model.specs.Nets.{nets}
@@ -17,8 +18,9 @@ use Rattle.circuit_model.specs.CheckUses.{check_of_use, check_uses, timing_of_us
 use Rattle.circuit_model.specs.PathUses.{path_uses}
 use Rattle.circuit_model.specs.WithPaths.{all_nets, all_elements}
 use Rattle.elab_laws.specs.Laws.{AreSound}
-use Rattle.elab_laws.proofs.Lists.{all-map, all-weaker}
-use Rattle.elab_laws.proofs.NoFaults.{each-faultless}
+use Rattle.elab_laws.proofs.Lists.{all-anyway, all-map, all-weaker}
+use Rattle.elab_laws.proofs.NoFaults.{all-from, each-faultless}
+use Rattle.elab_laws.proofs.Precisions.{least-of_all}
 use Rattle.elab_closed.specs.Laws.{CircuitIsClosed}
 use Rattle.elab_closed.proofs.Checks.{CheckFits, IsToggled, checks-fit, same-kinds, same-long}
 use Rattle.elab_closed.proofs.Counts.{faultless-parts, few, few-mapped}
@@ -97,6 +99,12 @@ circuit-is_closed source top corner h =
       notifiers = All-from_recursion (λ k. IfSome k.notifier (λ n. IsNotifier (circuit source top corner) n)) checks
           (all-map (λ k. IfSome k.notifier (λ n. IsNotifier (circuit source top corner) n)) check_of_use uses
           (all-weaker Fits (λ u. IfSome u.notifier (λ n. IsNotifier (circuit source top corner) n)) uses (λ u f. toggled u.notifier f.notifier) checked));
+      scales = All-from_recursion (λ s. tick_of source top ≤ℤ s.precision) (map (scope_of (nets source top) source) ss)
+          (all-map (λ s. tick_of source top ≤ℤ s.precision) (scope_of (nets source top) source) ss
+          (all-from (λ s. tick_of source top ≤ℤ precision_of s) ss (λ s there. least-of_all top.settings.scale.precision s ss there)));
+      lates = All-from_recursion (HasLates (circuit source top corner)) (map timing_of_use uses)
+          (all-map (HasLates (circuit source top corner)) timing_of_use uses (all-anyway (λ u. HasLates (circuit source top corner) (timing_of_use u)) uses (λ u. tt)));
+      zeroed = All-nil (IsZeroOf (circuit source top corner));
     }
   where
     enough : (k n a b : ℕ) → k ≡ n → n ≡ a + b → a ≤ k

@@ -1,4 +1,4 @@
--- Gates have two delays at most, each below the limit, where their delays have no fault; a leg has twelve of none.
+-- Gates have no more delays than their kinds take, each below the limit, where their delays have no fault; a leg has twelve of none.
 use Rattle.std.specs.Prelude.{◌≡◌, ℕ, ◌<◌, ◌≤◌, ◌^◌, List, [], ◌∷◌, All, false, Option, Some, None, length, map, nat_lt, nat_le, replicate, ℤ}
 use Rattle.std.specs.List.{AllByRecursion, list_any}
 use Rattle.std.proofs.Common.{arith, subst, sym}
@@ -21,13 +21,13 @@ all-under limit (d ∷ ds) h =
     let two = or_parts (nat_le limit d) (list_any (nat_le limit) ds) h in
     (leb-false limit d two.0, all-under limit ds two.1)
 
-pub gate-delays : (corner : Corner) (tick : ℤ) (m : Module) (d : Option Delay) → delay_faults corner tick m d ≡ [] → AreGateDelays (delays_of corner tick m d)
-gate-delays corner tick m None h = (omega arith, All-from_recursion (λ d. d < 2 ^ 60) [] tt)
-gate-delays corner tick m (Some d) h =
+pub gate-delays : (most : ℕ) (corner : Corner) (tick : ℤ) (m : Module) (d : Option Delay) → delay_faults most corner tick m d ≡ [] → AreGateDelays most (delays_of corner tick m d)
+gate-delays most corner tick m None h = (omega arith, All-from_recursion (λ d. d < 2 ^ 60) [] tt)
+gate-delays most corner tick m (Some d) h =
     let ticks = ticks_of corner tick m.settings.scale in
-    let two = or_parts (nat_lt 2 (length d.values)) (list_any (nat_le delay_limit) (map ticks d.values)) (no-fault _ BadDelay d.place h) in
-    let few = ltb-false 2 (length d.values) two.0 in (
-      subst (λ n. n ≤ 2) (sym (length-map d.values ticks)) few,
+    let two = or_parts (nat_lt most (length d.values)) (list_any (nat_le delay_limit) (map ticks d.values)) (no-fault _ BadDelay d.place h) in
+    let few = ltb-false most (length d.values) two.0 in (
+      subst (λ n. n ≤ most) (sym (length-map d.values ticks)) few,
       All-from_recursion (λ d. d < 2 ^ 60) (map ticks d.values) (all-under delay_limit (map ticks d.values) two.1),
     )
 

@@ -1,16 +1,15 @@
 -- Where a module has no fault, its elements have the inputs and the delays that their kinds ask for.
-use Rattle.std.specs.Prelude.{◌≡◌, ℕ, ◌-◌, ◌≤◌, ◌==◌, List, [], ◌∷◌, ◌++◌, true, false, not, Option, Some, None, flat_map, filter_map, zip, length, map, take, drop, refl, ℤ, nat_lt}
+use Rattle.std.specs.Prelude.{◌≡◌, ℕ, ◌-◌, ◌==◌, List, [], ◌∷◌, ◌++◌, true, false, not, Option, Some, None, flat_map, filter_map, zip, length, map, take, drop, refl, ℤ}
 use Rattle.std.specs.List.{AllByRecursion, enumerate_from, list_any}
 use Rattle.std.proofs.Common.{sym, ◌∙◌, ap, arith, subst, length-drop}
-use Rattle.std.proofs.lemmas.Bool.{and_parts, eqb-true, ltb-false, not-false, not-true}
+use Rattle.std.proofs.lemmas.Bool.{and_parts, eqb-true, not-false, not-true}
 use Rattle.std.proofs.lemmas.List.{length-map}
 use Rattle.std.proofs.lemmas.List.FromFn.{length-enumerate_from}
 use Rattle.sg_circuit.specs.Circuit.{Kind, Gate, Udp}
 use Rattle.sg_circuit.specs.Closed.{TakesInputs, HasDelays, NamesNets}
 use Rattle.sg_delay.specs.declared.corners.Corner.{Corner}
-use Rattle.sg_logic.specs.Gate.{TakesInputs as GateTakes}
+use Rattle.sg_logic.specs.Gate.{most_delays}
 use Rattle.sg_logic.specs.declared.gates.GateKind.{GateKind}
-use Rattle.sg_logic.specs.declared.gates.GateKind.TheVariants.{And, Nand, Or, Nor, Xor, Xnor, Buf, Not}
 use Rattle.sg_text.specs.declared.places.Place.{Place}
 use Rattle.vl_tree.specs.Tree.{Expression, Delay, Source, Part, a_module, a_primitive, Primitive, Connections, by_order, by_name, GateInstance, Instance as instance_text}
 use Rattle.elab_model.specs.declared.kinds.ElabKind.TheVariants.{BadTerminal}
@@ -24,13 +23,14 @@ use Rattle.elab_model.specs.Hierarchy.{Instance, is_leaf}
 use Rattle.elab_model.specs.Homes.{Spot, terminal, is_input}
 use Rattle.elab_model.specs.Leaves.{whole}
 use Rattle.elab_model.specs.Members.{Member, assignment, supply, gate, instance, members, connection_values}
-use Rattle.elab_model.specs.ModuleFaults.{are_terminals, primitive_instance_faults, instance_faults, member_faults, all_member_faults, module_faults}
+use Rattle.elab_model.specs.ModuleFaults.{are_terminals, takes_terminals, primitive_instance_faults, instance_faults, member_faults, all_member_faults, module_faults}
 use Rattle.elab_model.specs.Names.{variables}
 use Rattle.elab_model.specs.Ports.{port_list}
 use Rattle.elab_model.specs.PrimitiveFaults.{primitive_faults}
 use Rattle.elab_model.specs.Primitives.{table_of, initial_value}
 use Rattle.elab_model.specs.TerminalFaults.{is_missing, expression_faults, width_faults, terminal_faults, delay_faults}
 use Rattle.elab_model.specs.Faults.{fault_if}
+use Rattle.elab_model.proofs.TerminalLaws.{inputs-taken}
 use Rattle.elab_laws.proofs.Lists.{all-append, all-flat, all-flat_in, all-map, all-anyway, all-weaker}
 use Rattle.elab_laws.proofs.PartsApart.{all-if}
 use Rattle.elab_laws.proofs.NoFaults.{front, back, all-second}
@@ -85,16 +85,6 @@ terminals-fit source s at k kind outputs bs h g ns =
     (output-fits source s at kind (map (input_spot source s k) inputs) (subst (TakesInputs kind) (sym l) h) g ns))
     (all-flat (Fits s.step.number) (λ i. constant_pass s (terminal s.step.number k i.0) i.1) inputs (λ i. constant-fits s (terminal s.step.number k i.0) i.1))
 
-gate-takes : (g : GateKind) (n : ℕ) → 2 ≤ n → GateTakes g (n - output_count g n)
-gate-takes And n h = omega arith
-gate-takes Nand n h = omega arith
-gate-takes Or n h = omega arith
-gate-takes Nor n h = omega arith
-gate-takes Xor n h = omega arith
-gate-takes Xnor n h = omega arith
-gate-takes Buf n h = omega arith
-gate-takes Not n h = omega arith
-
 -- as many terminals as ports
 all-present : (es : List (Option Expression)) → list_any is_missing es ≡ false → length (filter_map (λ e. e) es) ≡ length es
 all-present [] h = refl
@@ -115,14 +105,15 @@ gate-fits source corner tick s k g d i sound h =
     let m = s.step.definition in
     let ends = terminal_faults vs (output_count g (length i.terminals)) i.terminals in
     let widths = flat_map (width_faults vs 1) i.terminals in
-    let few = fault_if (nat_lt (length i.terminals) 2) BadTerminal i.place in
-    let later : ends ++ delay_faults corner tick m d ≡ [] = back few (ends ++ delay_faults corner tick m d) h in
-    let two : 2 ≤ length i.terminals = ltb-false (length i.terminals) 2 (no-fault _ BadTerminal i.place (front few (ends ++ delay_faults corner tick m d) h)) in
+    let late = delay_faults (most_delays g) corner tick m d in
+    let few = fault_if (not (takes_terminals g (length i.terminals))) BadTerminal i.place in
+    let later : ends ++ late ≡ [] = back few (ends ++ late) h in
+    let taken : takes_terminals g (length i.terminals) ≡ true = not-false (takes_terminals g (length i.terminals)) (no-fault _ BadTerminal i.place (front few (ends ++ late) h)) in
     let count : length (terminal_bits s i.terminals) ≡ length i.terminals =
-    bits-count vs i.terminals sound (front widths _ (front ends (delay_faults corner tick m d) later)) in
+    bits-count vs i.terminals sound (front widths _ (front ends late later)) in
     terminals-fit source s i.place k (Gate g (delays_of corner tick m d)) (output_count g (length (terminal_bits s i.terminals))) (terminal_bits s i.terminals)
-    (gate-takes g (length (terminal_bits s i.terminals)) (subst (λ n. 2 ≤ n) (sym count) two))
-    (gate-delays corner tick m d (back ends (delay_faults corner tick m d) later)) (λ n. tt)
+    (inputs-taken g (length (terminal_bits s i.terminals)) (subst (λ n. takes_terminals g n ≡ true) (sym count) taken))
+    (gate-delays (most_delays g) corner tick m d (back ends late later)) (λ n. tt)
 
 primitive-fits : (source : Source) (corner : Corner) (tick : ℤ) (s : Instance) (k : ℕ) (p : Primitive) (d : Option Delay) (i : instance_text)
     → flat_map (expression_faults (variables s.step.definition)) (connection_values i.connections) ≡ []
@@ -133,14 +124,14 @@ primitive-fits source corner tick s k p d i sound h =
     let m = s.step.definition in
     let es = connection_values i.connections in
     let ends = terminal_faults vs 1 es in
-    let late = delay_faults corner tick m d ++ primitive_faults p in
+    let late = delay_faults 2 corner tick m d ++ primitive_faults p in
     let wrong = fault_if (not (are_terminals p i.connections)) BadTerminal i.place in
     let later : ends ++ late ≡ [] = back wrong (ends ++ late) h in
     let right : are_terminals p i.connections ≡ true = not-false (are_terminals p i.connections) (no-fault _ BadTerminal i.place (front wrong (ends ++ late) h)) in
     let count : length (terminal_bits s es) ≡ length p.ports = bits-count vs es sound (front (flat_map (width_faults vs 1) es) _ (front ends late later)) ∙ ports-counted p i.connections right in
     terminals-fit source s i.place k (Udp (table_of p) (initial_value p.initial) (delays_of corner tick m d)) 1 (terminal_bits s es)
     (ap (λ n. n - 1) count)
-    (gate-delays corner tick m d (front (delay_faults corner tick m d) (primitive_faults p) (back ends late later))) (λ n. tt)
+    (gate-delays 2 corner tick m d (front (delay_faults 2 corner tick m d) (primitive_faults p) (back ends late later))) (λ n. tt)
 
 -- ---- all members
 

@@ -1,8 +1,9 @@
 -- What follows for a member of a module without faults: its nets have the next numbers, its terminals fit, and so do its connections.
-use Rattle.std.specs.Prelude.{◌≡◌, ℕ, zero, suc, ◌+◌, List, [], ◌∷◌, ◌++◌, Some, flat_map, take, drop, length, slice_get, refl, nat_lt, not, Option}
+use Rattle.std.specs.Prelude.{◌≡◌, ℕ, zero, suc, ◌+◌, List, [], ◌∷◌, ◌++◌, Some, flat_map, take, drop, length, slice_get, refl, not, Option}
 use Rattle.std.specs.List.{enumerate_from, range_with_len}
 use Rattle.std.proofs.Common.{sym, ◌∙◌, ap, arith, subst, inl, inr}
 use Rattle.sg_delay.specs.declared.corners.Corner.{Corner}
+use Rattle.sg_logic.specs.Gate.{most_delays}
 use Rattle.sg_logic.specs.declared.gates.GateKind.{GateKind}
 use Rattle.vl_tree.specs.Tree.{Named, Expression, Delay, GateInstance, Instance as instance_text, a_module, a_primitive, Primitive, Module, Source}
 use Rattle.elab_model.specs.declared.kinds.ElabKind.TheVariants.{BadTerminal}
@@ -13,7 +14,7 @@ use Rattle.elab_model.specs.Elements.{output_count, terminal_bits}
 use Rattle.elab_model.specs.Faults.{fault_if}
 use Rattle.elab_model.specs.Hierarchy.{Instance, instances, children}
 use Rattle.elab_model.specs.Members.{Member, gate, instance, members, connection_values}
-use Rattle.elab_model.specs.ModuleFaults.{are_terminals, all_member_faults, connection_faults, delay_on_module, instance_faults, module_faults}
+use Rattle.elab_model.specs.ModuleFaults.{are_terminals, takes_terminals, all_member_faults, connection_faults, delay_on_module, instance_faults, module_faults}
 use Rattle.elab_model.specs.NameFaults.{declaration_faults}
 use Rattle.elab_model.specs.Names.{variables}
 use Rattle.elab_model.specs.Nets.{nets, member_nets, instance_nets, terminal_nets}
@@ -86,13 +87,13 @@ gate-terminals source top corner s k first g d i h numbered = by i.terminals h n
         let vs = variables m in
         let bs = terminal_bits s (e ∷ es) in
         let named = flat_map (expression_faults vs) (e ∷ es) in
-        let few = fault_if (nat_lt (length (e ∷ es)) 2) BadTerminal i.place in
+        let few = fault_if (not (takes_terminals g (length (e ∷ es)))) BadTerminal i.place in
         let ts = terminal_faults vs (output_count g (length (e ∷ es))) (e ∷ es) in
-        let ds = delay_faults corner (tick_of source top) m d in
+        let ds = delay_faults (most_delays g) corner (tick_of source top) m d in
         let own : few ++ (ts ++ ds) ≡ [] = back named (few ++ (ts ++ ds)) h in
         let sound : named ≡ [] = front named (few ++ (ts ++ ds)) h in
         let faultless : ts ≡ [] = front ts ds (back few (ts ++ ds) own) in
-        let output = has-output g (length (e ∷ es)) (no-fault (nat_lt (length (e ∷ es)) 2) BadTerminal i.place (front few (ts ++ ds) own)) in
+        let output = has-output g (length (e ∷ es)) (no-fault (not (takes_terminals g (length (e ∷ es)))) BadTerminal i.place (front few (ts ++ ds) own)) in
         let count : length bs ≡ length (e ∷ es) = bits-count vs (e ∷ es) sound (front (flat_map (width_faults vs 1) (e ∷ es)) _ faultless) in
         let same : output_count g (length bs) ≡ suc output.0 = ap (output_count g) count ∙ output.1 in
         subst (λ o. HasTerminals (nets source top) s k first o bs) (sym same)

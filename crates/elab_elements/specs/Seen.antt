@@ -3,7 +3,7 @@ use Rattle.std.specs.Prelude.{◌≡◌, ◌<◌, ◌≤◌, List, [], map, leng
 use Rattle.std.specs.List.{AllByRecursion}
 use Rattle.sg_delay.specs.declared.corners.Corner.{Corner}
 use Rattle.sg_delay.specs.declared.gates.GateDelays.{GateDelays}
-use Rattle.sg_circuit.specs.Circuit.{Element, Kind, Gate, Udp, Pass, Path}
+use Rattle.sg_circuit.specs.Circuit.{Element, Kind, Gate, Udp, Pass, Path, Late}
 use Rattle.sg_circuit.specs.Seen.{delays_at, udp_at}
 use Rattle.sg_circuit.specs.declared.elements.Element as code
 use Rattle.sg_circuit.specs.declared.elements.ElementKind.{ElementKind}
@@ -24,17 +24,19 @@ kind_in delays udps (kind.Udp u d) = Udp (udp_at udps u).rows (udp_at udps u).fi
 kind_in delays udps (kind.Pass v) = Pass v
 kind_in delays udps (kind.Leg t) = leg_kind
 kind_in delays udps (kind.Path paths style) = Path [] style
+kind_in delays udps (kind.Late d) = Late d
 
 abbrev pub element_in : List GateDelays → List UdpUse → code.Element → Element
 element_in delays udps e = record { scope = e.scope; inputs = e.inputs.items; output = e.output; kind = kind_in delays udps e.kind }
 
--- what a kind names stands in its table; the timing of all Legs is the first, and none is a Path
+-- what a kind names stands in its table; the timing of all Legs is the first, and none is a Path or a Late
 abbrev pub NamesPlaces : List GateDelays → List UdpUse → ElementKind → Type 0
 NamesPlaces delays udps (kind.Gate g d) = d < length delays
 NamesPlaces delays udps (kind.Udp u d) = (u < length udps) × (d < length delays)
 NamesPlaces delays udps (kind.Pass v) = Unit {0}
 NamesPlaces delays udps (kind.Leg t) = t ≡ 0
 NamesPlaces delays udps (kind.Path paths style) = ⊥
+NamesPlaces delays udps (kind.Late d) = ⊥
 
 pub record AreElements (source : Source) (top : Module) (corner : Corner) (delays : List GateDelays) (udps : List UdpUse) (made : Placing) : Type 0 where
   pub elements : map (element_in delays udps) made.elements.items ≡ map (element_of (nets source top)) (components source top corner)

@@ -11,10 +11,10 @@ ghost use Rattle.elab_elements.specs.Standing.{IsAt, IsInside};
 
 use crate::Placing;
 use crate::ports::add_port_constants;
-use crate::reading::{inner_row, module_at, outer_row, placed_at};
+use crate::reading::{inner_row, outer_row, placed_at};
 use elab_hierarchy::Placed;
 use elab_model::ElabKind;
-use elab_modules::Library;
+use elab_modules::{Library, module_at};
 use elab_nets::Rows;
 use elab_ports::port_constants;
 use elab_variables::Table;

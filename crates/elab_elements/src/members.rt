@@ -22,6 +22,7 @@ use crate::gates::add_terminal_elements;
 use crate::passes::{add_passes, add_supply};
 use elab_bits::{Bit, add_bits, add_variable};
 use elab_model::ElabKind;
+use elab_modules::output_count;
 use elab_variables::Table;
 use sg_circuit::{ElementKind, NetId};
 use sg_logic::{GateKind, Value};
@@ -118,16 +119,6 @@ pub fn add_supply_net(
     room.left.clear();
     add_variable(table, name, &mut room.left)?;
     add_supply(table, scope, name.place, value, &room.left, row, made)
-}
-
-// How many of a gate's terminals are outputs (IEEE 1364-2005, 7.2, 7.3).
-fn output_count(kind: GateKind, terminals: usize) -> usize
-    ensures { result ≡ def_elements.output_count kind terminals }
-{
-    match kind {
-        GateKind::Buf | GateKind::Not => terminals.saturating_sub(1),
-        _ => 1,
-    }
 }
 
 /// Adds the elements of a gate (IEEE 1364-2005, 7.1). `delays` is the place of its delays.

@@ -14,10 +14,10 @@ ghost use Rattle.elab_elements.specs.Words.{is_alone};
 
 use crate::Placing;
 use crate::legs::add_legs;
-use crate::reading::{inner_row, module_at, outer_row, placed_at};
+use crate::reading::{inner_row, outer_row, placed_at};
 use elab_hierarchy::Placed;
 use elab_model::ElabKind;
-use elab_modules::{Library, Prepared};
+use elab_modules::{Library, Prepared, module_at};
 use elab_nets::Rows;
 use sg_text::{Place, Refused};
 

@@ -1,12 +1,10 @@
 // What stands at the place of an instance.
 ghost use Rattle.std.specs.Prelude.{◌≡◌, ◌≤◌, ◌<◌, ◌+◌, ℕ, List, Some, length, slice_get, option_map};
-ghost use Rattle.elab_modules.specs.declared.library.Ready.TheVariants as ghost_ready;
-ghost use Rattle.elab_modules.specs.declared.prepared.Prepared as ghost_prepared;
 ghost use Rattle.elab_nets.specs.Rows.{part_of};
 ghost use Rattle.elab_elements.specs.Words.{primitive_in, primitive_at};
 
 use elab_hierarchy::Placed;
-use elab_modules::{Library, Prepared, Ready};
+use elab_modules::{Library, Ready};
 use elab_nets::Rows;
 use sg_circuit::NetId;
 
@@ -16,20 +14,6 @@ pub fn placed_at<'t, 'a>(instances: &[Placed<'t, 'a>], number: u32) -> Placed<'t
     ensures { slice_get instances.now number ≡ Some result }
 {
     instances[number as usize]
-}
-
-/// The module at a place of the definitions, made ready.
-pub fn module_at<'l, 't, 'a>(
-    library: &'l Library<'t, 'a>,
-    definition: usize,
-) -> &'l Prepared<'t, 'a>
-    requires { (q : ghost_prepared.Prepared) × (slice_get library.now.parts.items definition ≡ Some (Some (ghost_ready.Module q))) }
-    ensures { slice_get library.now.parts.items definition ≡ Some (Some (ghost_ready.Module result.now)) }
-{
-    match &library.parts[definition] {
-        Some(Ready::Module(prepared)) => prepared,
-        _ => unreachable!(),
-    }
 }
 
 fn primitive_in(part: &Option<Ready>) -> Option<u32>

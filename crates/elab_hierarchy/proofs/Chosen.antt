@@ -14,7 +14,7 @@ use Rattle.vl_tree.specs.Tree.{Module, Part, a_module, a_primitive, Source}
 use Rattle.elab_model.specs.declared.kinds.ElabKind.{ElabKind}
 use Rattle.elab_model.specs.declared.kinds.ElabKind.TheVariants.{NoTop, SeveralTops}
 use Rattle.elab_model.specs.Tops.{has_instance, candidates, only_one, modules, top_of}
-use Rattle.elab_names.specs.Words.{is_seen}
+use Rattle.elab_declared.specs.Words.{is_seen}
 use Rattle.elab_hierarchy.specs.Tops.{StandsAt, IsOnly, RefusesChoice, RefusesTop, chosen, is_candidate_of, part_has}
 use Rattle.elab_hierarchy.proofs.Used.{has-instance}
 

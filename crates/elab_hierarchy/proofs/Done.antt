@@ -13,7 +13,7 @@ use Rattle.elab_model.specs.declared.kinds.ElabKind.TheVariants.{SelfInstance, T
 use Rattle.elab_model.specs.Faults.{fault, fault_if, RefusesOneOf}
 use Rattle.elab_model.specs.Hierarchy.{Instance, Child, children_in, instances_from}
 use Rattle.elab_model.specs.HierarchyFaults.{is_above, self_instances, too_deep, count_limit}
-use Rattle.elab_names.proofs.Refusals.{refused-left, refused-right}
+use Rattle.elab_declared.proofs.Refusals.{refused-left, refused-right}
 use Rattle.elab_hierarchy.specs.Children.{AreChildren}
 use Rattle.elab_hierarchy.specs.Growing.{below, IsAt, Grown, Breaks, BreaksAt, RefusesChild}
 use Rattle.elab_hierarchy.specs.Placing.{ArePlaced, tree_faults_at}

@@ -11,7 +11,7 @@ use Rattle.elab_model.specs.declared.kinds.ElabKind.TheVariants.{TooMany}
 use Rattle.elab_model.specs.Faults.{fault, RefusesOneOf}
 use Rattle.elab_model.specs.Hierarchy.{Instance}
 use Rattle.elab_model.specs.HierarchyFaults.{first_too_many, count_limit}
-use Rattle.elab_names.proofs.Refusals.{refused-left, refused-right}
+use Rattle.elab_declared.proofs.Refusals.{refused-left, refused-right}
 use Rattle.elab_hierarchy.specs.Placing.{tree_faults_at}
 use Rattle.elab_hierarchy.specs.Growing.{Breaks}
 

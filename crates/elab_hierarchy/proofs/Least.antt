@@ -1,16 +1,14 @@
 -- The least precision so far, and of what is left.
-use Rattle.std.specs.Prelude.{◌≡◌, ℕ, suc, ◌+◌, ◌<◌, List, length, slice_index_or, fold, ℤ}
+use Rattle.std.specs.Prelude.{◌≡◌, ℕ, suc, ◌+◌, ◌<◌, List, length, slice_index_or, ℤ}
 use Rattle.std.proofs.Common.{sym, ◌∙◌, ap, drop, add-one, subst}
 use Rattle.vl_tree.specs.Tree.{Module, Source}
-use Rattle.elab_model.specs.Delays.{lesser, precision_of, tick_of}
-use Rattle.elab_model.specs.Hierarchy.{Instance, instances}
+use Rattle.elab_model.specs.Delays.{lesser, tick_of}
+use Rattle.elab_model.specs.Hierarchy.{instances}
+use Rattle.elab_laws.proofs.Precisions.{least_of}
 use Rattle.elab_hierarchy.specs.Placing.{ArePlaced}
 use Rattle.elab_hierarchy.specs.Tops.{StandsAt}
 use Rattle.elab_hierarchy.specs.declared.instances.Placed.{Placed}
 use Rattle.elab_hierarchy.proofs.Listed.{placed-at, placed-end}
-
-abbrev pub least_of : ℤ → List Instance → ℤ
-least_of p ss = fold (λ q s. lesser q (precision_of s)) p ss
 
 -- where these are the instances, the least so far leads to the tick
 abbrev pub LeadsToTick : Source → ℕ → List Placed → ℤ → ℕ → Type 0

@@ -14,9 +14,9 @@ use Rattle.elab_model.specs.declared.kinds.ElabKind.TheVariants.{DuplicateName}
 use Rattle.elab_model.specs.Names.{is_among}
 use Rattle.elab_model.specs.Faults.{fault, places_again}
 use Rattle.elab_model.specs.HierarchyFaults.{two_definitions}
-use Rattle.elab_names.specs.Words.{first_of, is_seen}
-use Rattle.elab_names.proofs.Again.{new-seen, old-seen}
-use Rattle.elab_names.proofs.Refusals.{some-again, none-again}
+use Rattle.elab_declared.specs.Words.{first_of, is_seen}
+use Rattle.elab_declared.proofs.Again.{new-seen, old-seen}
+use Rattle.elab_declared.proofs.Refusals.{some-again, none-again}
 
 abbrev pub texts : List (Bor (List ℕ)) → List (List ℕ)
 texts keys = map (λ k. k.now) keys

@@ -15,8 +15,8 @@ use Rattle.vl_tree.specs.Seen.{view_instance, view_item, view_part}
 use Rattle.vl_tree.specs.Tree.{Named, NetName, Join, Expression, GateInstance, Item, Delay, a_module, a_primitive, Source}
 use Rattle.elab_model.specs.Members.{assignment, supply, gate, instance, assignment_to, members, members_of_item}
 use Rattle.elab_model.specs.Tops.{has_instance, is_instance_of}
-use Rattle.elab_names.specs.Words.{is_seen}
-use Rattle.elab_names.proofs.Again.{put-in}
+use Rattle.elab_declared.specs.Words.{is_seen}
+use Rattle.elab_declared.proofs.Again.{put-in}
 use Rattle.elab_hierarchy.specs.Tops.{part_has}
 
 -- ---- members of no instance

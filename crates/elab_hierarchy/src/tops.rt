@@ -7,7 +7,7 @@ ghost use Rattle.sg_text.specs.declared.refusals.Refused.TheVariants as refused;
 ghost use Rattle.elab_model.specs.HierarchyFaults.{start};
 ghost use Rattle.elab_model.specs.Members.{members_of_item};
 ghost use Rattle.elab_model.specs.Tops.{top_of, is_instance_of};
-ghost use Rattle.elab_names.specs.Words.{is_seen};
+ghost use Rattle.elab_declared.specs.Words.{is_seen};
 ghost use Rattle.elab_hierarchy.specs.Tops.{IsOnly, RefusesChoice, RefusesTop, StandsAt, chosen, is_candidate_of, part_has};
 
 use crate::Definitions;

@@ -1,8 +1,8 @@
 -- What gates and primitives read and drive has nets, and so have the constants at their inputs.
-use Rattle.std.specs.Prelude.{◌≡◌, ℕ, zero, suc, ◌-◌, ◌≤◌, List, [], ◌∷◌, false, nat_lt, length, flat_map, map, take, drop, refl}
+use Rattle.std.specs.Prelude.{◌≡◌, ℕ, zero, suc, ◌-◌, ◌≤◌, List, [], ◌∷◌, false, not, length, flat_map, map, take, drop, refl}
 use Rattle.std.specs.List.{AllByRecursion, enumerate_from}
 use Rattle.std.proofs.Common.{arith}
-use Rattle.std.proofs.lemmas.Bool.Decides.{nat_tests}
+use Rattle.std.proofs.lemmas.Bool.{not-false}
 use Rattle.sg_circuit.specs.Circuit.{Kind}
 use Rattle.sg_logic.specs.declared.gates.GateKind.{GateKind}
 use Rattle.sg_logic.specs.declared.gates.GateKind.TheVariants as kinds
@@ -15,8 +15,10 @@ use Rattle.elab_model.specs.Bits.{Bit, net, constant, bits}
 use Rattle.elab_model.specs.Hierarchy.{Instance, instances}
 use Rattle.elab_model.specs.Homes.{Spot, terminal}
 use Rattle.elab_model.specs.Elements.{output_count, input_spot, output_element, constant_pass, terminal_elements, terminal_bits, expression_bits}
+use Rattle.elab_model.specs.ModuleFaults.{takes_terminals}
 use Rattle.elab_model.specs.Nets.{terminal_nets, member_nets, nets}
 use Rattle.elab_model.specs.TerminalFaults.{expression_faults, width_faults, constant_faults, terminal_faults}
+use Rattle.elab_model.proofs.TerminalLaws.{two-at-least}
 use Rattle.elab_laws.specs.Words.{Owns}
 use Rattle.elab_laws.proofs.Lists.{In, all-in, all-append, all-flat, all-flat_in, all-map, all-weaker}
 use Rattle.elab_laws.proofs.NoFaults.{front, back, all-from, all-second}
@@ -96,13 +98,17 @@ terminals-have source top s at k x kind outputs es there t =
     (all-flat (HasNet source top s) (expression_bits s) es (λ e. expression-there source top s e there))
     (constants-owned source top s k x outputs es there t)
 
--- a gate of two terminals or more has an output
-pub has-output : (g : GateKind) (n : ℕ) → nat_lt n 2 ≡ false → (k : ℕ) × (output_count g n ≡ suc k)
+-- a gate that has as many terminals as it may have has an output
+pub has-output : (g : GateKind) (n : ℕ) → not (takes_terminals g n) ≡ false → (k : ℕ) × (output_count g n ≡ suc k)
 has-output kinds.And n h = (0, refl)
 has-output kinds.Nand n h = (0, refl)
 has-output kinds.Or n h = (0, refl)
 has-output kinds.Nor n h = (0, refl)
 has-output kinds.Xor n h = (0, refl)
 has-output kinds.Xnor n h = (0, refl)
-has-output kinds.Buf n h = let le : 2 ≤ n = grind (arith, nat_tests) in (n - 2, omega arith)
-has-output kinds.Not n h = let le : 2 ≤ n = grind (arith, nat_tests) in (n - 2, omega arith)
+has-output kinds.Buf n h = let le : 2 ≤ n = two-at-least kinds.Buf n (not-false (takes_terminals kinds.Buf n) h) in (n - 2, omega arith)
+has-output kinds.Not n h = let le : 2 ≤ n = two-at-least kinds.Not n (not-false (takes_terminals kinds.Not n) h) in (n - 2, omega arith)
+has-output kinds.Bufif0 n h = (0, refl)
+has-output kinds.Bufif1 n h = (0, refl)
+has-output kinds.Notif0 n h = (0, refl)
+has-output kinds.Notif1 n h = (0, refl)

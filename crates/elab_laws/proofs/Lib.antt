@@ -30,3 +30,4 @@ pub mod Members
 pub mod Drives
 pub mod InOrder
 pub mod TerminalNumbers
+pub mod Precisions

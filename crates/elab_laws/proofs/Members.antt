@@ -1,9 +1,10 @@
 -- What the elements of each member read and drive has nets, and so all elements.
-use Rattle.std.specs.Prelude.{◌≡◌, ℕ, suc, [], ◌++◌, nat_lt, Option, Some, None, length, flat_map, refl, not, ℤ}
+use Rattle.std.specs.Prelude.{◌≡◌, ℕ, suc, [], ◌++◌, Option, Some, None, length, flat_map, refl, not, ℤ}
 use Rattle.std.specs.List.{enumerate_from}
 use Rattle.std.proofs.Common.{sym, ◌∙◌, ap, subst}
 use Rattle.sg_circuit.specs.Circuit.{Gate, Udp}
 use Rattle.sg_delay.specs.declared.corners.Corner.{Corner}
+use Rattle.sg_logic.specs.Gate.{most_delays}
 use Rattle.sg_logic.specs.declared.gates.GateKind.{GateKind}
 use Rattle.vl_tree.specs.Tree.{Part, a_module, a_primitive, Primitive, GateInstance, Instance as instance_text, Delay, Named, Module, Source}
 use Rattle.elab_model.specs.declared.kinds.ElabKind.TheVariants.{BadTerminal}
@@ -18,7 +19,7 @@ use Rattle.elab_model.specs.Nets.{instance_nets, terminal_nets, nets}
 use Rattle.elab_model.specs.Faults.{fault_if}
 use Rattle.elab_model.specs.TerminalFaults.{expression_faults, width_faults, terminal_faults, delay_faults}
 use Rattle.elab_model.specs.PrimitiveFaults.{primitive_faults}
-use Rattle.elab_model.specs.ModuleFaults.{are_terminals, instance_faults, member_faults, all_member_faults, module_faults}
+use Rattle.elab_model.specs.ModuleFaults.{are_terminals, takes_terminals, instance_faults, member_faults, all_member_faults, module_faults}
 use Rattle.elab_laws.specs.Laws.{AreSound}
 use Rattle.elab_laws.proofs.Lists.{In, all-in, all-append, all-flat_in}
 use Rattle.elab_laws.proofs.PartsApart.{child_at-all}
@@ -44,13 +45,13 @@ gate-has source top corner tick s k g d i there member h =
     let es = i.terminals in
     let bs = terminal_bits s es in
     let named = flat_map (expression_faults vs) es in
-    let few = fault_if (nat_lt (length es) 2) BadTerminal i.place in
+    let few = fault_if (not (takes_terminals g (length es))) BadTerminal i.place in
     let ts = terminal_faults vs (output_count g (length es)) es in
-    let ds = delay_faults corner tick m d in
+    let ds = delay_faults (most_delays g) corner tick m d in
     let own : few ++ (ts ++ ds) ≡ [] = back named (few ++ (ts ++ ds)) h in
     let sound : named ≡ [] = front named (few ++ (ts ++ ds)) h in
     let faultless : ts ≡ [] = front ts ds (back few (ts ++ ds) own) in
-    let output = has-output g (length es) (no-fault (nat_lt (length es) 2) BadTerminal i.place (front few (ts ++ ds) own)) in
+    let output = has-output g (length es) (no-fault (not (takes_terminals g (length es))) BadTerminal i.place (front few (ts ++ ds) own)) in
     let count : length bs ≡ length es = bits-count vs es sound (front (flat_map (width_faults vs 1) es) _ faultless) in
     let same : output_count g (length bs) ≡ suc output.0 = ap (output_count g) count ∙ output.1 in
     let kind = Gate g (delays_of corner tick m d) in
@@ -71,7 +72,7 @@ primitive-has source top corner tick s k n d i p there member is sound h =
     let es = connection_values i.connections in
     let wrong = fault_if (not (are_terminals p i.connections)) BadTerminal i.place in
     let ts = terminal_faults vs 1 es in
-    let rest = delay_faults corner tick m d ++ primitive_faults p in
+    let rest = delay_faults 2 corner tick m d ++ primitive_faults p in
     let faultless : ts ≡ [] = front ts rest (back wrong (ts ++ rest) h) in
     let t : AreTerminals source s k (instance n d i) 1 es = record { there = member; nets_are = ap (instance_nets source s k i) is; sound = sound; faultless = faultless } in
     terminals-have source top s i.place k (instance n d i) (Udp (table_of p) (initial_value p.initial) (delays_of corner tick m d)) 0 es there t

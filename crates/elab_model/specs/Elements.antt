@@ -83,7 +83,7 @@ abbrev pub constant_pass : Instance → Spot → Bit → List Component
 constant_pass s spot (net n p) = []
 constant_pass s spot (constant at v) = record { scope = s.step.number; place = at; inputs = []; output = spot; kind = Pass (Some v) } ∷ []
 
--- Gates and primitives: outputs stand first (7.2, 7.3, 8.1.1), and each output has an element
+-- Gates and primitives: outputs stand first (7.2, 7.3, 7.4, 8.1.1), and each output has an element
 
 abbrev pub output_count : GateKind → ℕ → ℕ
 output_count Buf terminals = terminals - 1

@@ -1,8 +1,11 @@
 -- Faults of a module's members, and all faults of a module.
-use Rattle.std.specs.Prelude.{List, [], ◌∷◌, ◌++◌, Bool, false, ◌&&◌, not, ◌==◌, nat_lt, Option, Some, None, length, map, flat_map, zip, if◌then◌else◌, ℤ}
+use Rattle.std.specs.Prelude.{ℕ, List, [], ◌∷◌, ◌++◌, Bool, false, ◌&&◌, not, ◌==◌, nat_lt, nat_le, Option, Some, None, length, map, flat_map, zip, if◌then◌else◌, ℤ}
 use Rattle.std.specs.List.{list_any}
 use Rattle.sg_circuit.specs.Closed.{width_of}
 use Rattle.sg_delay.specs.declared.corners.Corner.{Corner}
+use Rattle.sg_logic.specs.Gate.{most_delays}
+use Rattle.sg_logic.specs.declared.gates.GateKind.{GateKind}
+use Rattle.sg_logic.specs.declared.gates.GateKind.TheVariants.{Bufif0, Bufif1, Notif0, Notif1}
 use Rattle.sg_text.specs.declared.places.Place.{Place}
 use Rattle.vl_tree.specs.Tree.{Named, Expression, Delay, Connections, by_order, by_name, Instance as instance_text, Part, a_module, a_primitive, Primitive, Module, Source}
 use Rattle.elab_model.specs.declared.kinds.ElabKind.TheVariants.{UnknownModule, UnknownName, BadTerminal, BadDelay}
@@ -40,7 +43,7 @@ abbrev pub module_instance_faults : List Variable → Module → Option Delay �
 module_instance_faults vs m d i =
     fault_if (is_missing i.name) BadTerminal i.place ++ (delay_on_module d ++ connection_faults vs m i.place i.connections)
 
--- an instance of a primitive has a terminal for each port, by order (8.6)
+-- an instance of a primitive has a terminal for each port, by order, and two delays at most (8.6)
 abbrev pub are_terminals : Primitive → Connections → Bool
 are_terminals p (by_order es) = not (list_any is_missing es) && (length es == length p.ports)
 are_terminals p (by_name cs) = false
@@ -48,20 +51,27 @@ are_terminals p (by_name cs) = false
 abbrev pub primitive_instance_faults : Corner → ℤ → Module → List Variable → Primitive → Option Delay → instance_text → List Fault
 primitive_instance_faults corner tick m vs p d i =
     fault_if (not (are_terminals p i.connections)) BadTerminal i.place
-    ++ (terminal_faults vs 1 (connection_values i.connections) ++ (delay_faults corner tick m d ++ primitive_faults p))
+    ++ (terminal_faults vs 1 (connection_values i.connections) ++ (delay_faults 2 corner tick m d ++ primitive_faults p))
 
 abbrev pub instance_faults : Corner → ℤ → Module → List Variable → Option Delay → instance_text → Option Part → List Fault
 instance_faults corner tick m vs d i None = fault UnknownModule i.place ∷ []
 instance_faults corner tick m vs d i (Some (a_module n)) = module_instance_faults vs n d i
 instance_faults corner tick m vs d i (Some (a_primitive p)) = primitive_instance_faults corner tick m vs p d i
 
--- a gate has an output and an input at least (7.2, 7.3)
+-- a gate has an output and an input at least (7.2, 7.3); one that its control turns off has an output, an input and the control (7.4)
+abbrev pub takes_terminals : GateKind → ℕ → Bool
+takes_terminals Bufif0 terminals = terminals == 3
+takes_terminals Bufif1 terminals = terminals == 3
+takes_terminals Notif0 terminals = terminals == 3
+takes_terminals Notif1 terminals = terminals == 3
+takes_terminals _ terminals = nat_le 2 terminals
+
 abbrev pub member_faults : Source → Corner → ℤ → Module → List Variable → Member → List Fault
 member_faults source corner tick m vs (assignment j) = assignment_faults vs j
 member_faults source corner tick m vs (supply n v) = []
 member_faults source corner tick m vs (gate g d i) =
-    fault_if (nat_lt (length i.terminals) 2) BadTerminal i.place
-    ++ (terminal_faults vs (output_count g (length i.terminals)) i.terminals ++ delay_faults corner tick m d)
+    fault_if (not (takes_terminals g (length i.terminals))) BadTerminal i.place
+    ++ (terminal_faults vs (output_count g (length i.terminals)) i.terminals ++ delay_faults (most_delays g) corner tick m d)
 member_faults source corner tick m vs (instance n d i) = instance_faults corner tick m vs d i (definition_of source n.text)
 
 -- the names and the indices in a member, and the member itself

@@ -61,11 +61,12 @@ assignment_faults vs j =
 abbrev pub terminal_faults : List Variable → (outputs : ℕ) → List Expression → List Fault
 terminal_faults vs outputs es = flat_map (width_faults vs 1) es ++ flat_map (constant_faults vs) (take outputs es)
 
--- the most delays of a gate, and the ticks that a delay stays below (7.14)
+-- the ticks that a delay stays below
 abbrev pub delay_limit : ℕ
 delay_limit = 2 ^ 60
 
-abbrev pub delay_faults : Corner → ℤ → Module → Option Delay → List Fault
-delay_faults corner tick m None = []
-delay_faults corner tick m (Some d) =
-    fault_if (nat_lt 2 (length d.values) || list_any (nat_le delay_limit) (delays_of corner tick m (Some d))) BadDelay d.place
+-- more delays than a gate or a primitive has (7.14, 8.6), or one that is too long
+abbrev pub delay_faults : (most : ℕ) → Corner → ℤ → Module → Option Delay → List Fault
+delay_faults most corner tick m None = []
+delay_faults most corner tick m (Some d) =
+    fault_if (nat_lt most (length d.values) || list_any (nat_le delay_limit) (delays_of corner tick m (Some d))) BadDelay d.place

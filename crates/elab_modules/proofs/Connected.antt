@@ -24,7 +24,7 @@ use Rattle.elab_model.specs.ModuleFaults.{port_faults, connection_faults, delay_
 use Rattle.elab_model.specs.Names.{Variable, variable, is_among}
 use Rattle.elab_model.specs.Ports.{port_list, port_names}
 use Rattle.elab_model.specs.TerminalFaults.{expression_faults, width_faults, constant_faults, is_missing}
-use Rattle.elab_names.proofs.Refusals.{refused-left, refused-right}
+use Rattle.elab_declared.proofs.Refusals.{refused-left, refused-right}
 use Rattle.elab_modules.specs.Telling.{Tells, joined_value_faults}
 use Rattle.elab_modules.specs.Connecting.{connected_faults, ordered_faults, named_faults, connections_faults, instance_of_module_faults}
 use Rattle.elab_modules.proofs.InTurn.{fault-told, no-fault}

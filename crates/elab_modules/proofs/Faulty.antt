@@ -16,7 +16,7 @@ use Rattle.elab_model.specs.NameFaults.{declaration_faults}
 use Rattle.elab_model.specs.Names.{variables}
 use Rattle.elab_model.specs.PrimitiveFaults.{member_primitive, primitive_faults}
 use Rattle.elab_model.specs.TerminalFaults.{expression_faults, terminal_faults, delay_faults}
-use Rattle.elab_names.proofs.Refusals.{refused-left, refused-right}
+use Rattle.elab_declared.proofs.Refusals.{refused-left, refused-right}
 use Rattle.elab_laws.proofs.Lists.{In}
 use Rattle.elab_hierarchy.specs.Tops.{StandsAt}
 use Rattle.elab_modules.specs.Reaching.{RefusesMembers, RefusesModule, RefusesNamed}
@@ -38,9 +38,9 @@ faults-inside : (corner : Corner) (tick : ℤ) (m : Module) (d : Option Delay) (
     → RefusesOneOf (instance_faults corner tick m (variables m) d i (Some (a_primitive p))) r
 faults-inside corner tick m d i p r h =
     refused-right (fault_if (not (are_terminals p i.connections)) BadTerminal i.place)
-    (terminal_faults (variables m) 1 (connection_values i.connections) ++ (delay_faults corner tick m d ++ primitive_faults p)) r
-    (refused-right (terminal_faults (variables m) 1 (connection_values i.connections)) (delay_faults corner tick m d ++ primitive_faults p) r
-    (refused-right (delay_faults corner tick m d) (primitive_faults p) r h))
+    (terminal_faults (variables m) 1 (connection_values i.connections) ++ (delay_faults 2 corner tick m d ++ primitive_faults p)) r
+    (refused-right (terminal_faults (variables m) 1 (connection_values i.connections)) (delay_faults 2 corner tick m d ++ primitive_faults p) r
+    (refused-right (delay_faults 2 corner tick m d) (primitive_faults p) r h))
 
 member-refused : (source : Source) (corner : Corner) (tick : ℤ) (m : Module) (x : Member) (p : Primitive) (r : Refused ElabKind) → member_primitive source x ≡ Some p
     → RefusesOneOf (primitive_faults p) r → RefusesOneOf (member_faults source corner tick m (variables m) x) r

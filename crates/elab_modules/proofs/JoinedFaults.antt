@@ -15,7 +15,7 @@ use Rattle.elab_model.specs.Faults.{Fault, fault_if, RefusesOneOf}
 use Rattle.elab_model.specs.Hierarchy.{is_empty}
 use Rattle.elab_model.specs.Names.{Variable}
 use Rattle.elab_model.specs.TerminalFaults.{expression_faults, is_sound, width_faults, constant_fault, constant_faults}
-use Rattle.elab_names.proofs.Refusals.{refused-left, refused-right}
+use Rattle.elab_declared.proofs.Refusals.{refused-left, refused-right}
 use Rattle.elab_bits.specs.declared.bits.Bit as code_bit
 use Rattle.elab_bits.specs.Seen.{view_bit}
 use Rattle.elab_modules.specs.Telling.{Tells, joined_faults, sides_faults}

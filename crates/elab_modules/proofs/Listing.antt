@@ -52,12 +52,12 @@ pub checked-first : (source : Source) (corner : Corner) (tick : ℤ) (parts : Pa
     → AreChecked source corner tick parts 0 table delays
 checked-first source corner tick parts table delays e f = record {
   counted = ap length f;
-  counts = subst (All (λ d. d.count ≤ 2)) (sym e) (All-nil (λ d. d.count ≤ 2));
+  counts = subst (All (λ d. d.count ≤ 3)) (sym e) (All-nil (λ d. d.count ≤ 3));
   each = λ i p lt at. absurd (omega arith);
 }
 
 pub checked-next : (source : Source) (corner : Corner) (tick : ℤ) (d x : Option code_ready.Ready) (parts : Parts) (k : ℕ) (table after more : List GateDelays) (delays longer : List (Vec ℕ)) (list : Vec ℕ)
-    → k < length parts → x ≡ slice_index_or parts k d → after ≡ table ++ more → All (λ d. d.count ≤ 2) after → longer ≡ delays ++ list ∷ []
+    → k < length parts → x ≡ slice_index_or parts k d → after ≡ table ++ more → All (λ d. d.count ≤ 3) after → longer ≡ delays ++ list ∷ []
     → ((p : Prepared) → IsModule x p → IsChecked source corner tick after (Some list.items) p) → AreChecked source corner tick parts k table delays
     → AreChecked source corner tick parts (k + 1) after longer
 checked-next source corner tick d x parts k table after more delays longer list lt is grown counts long own h =

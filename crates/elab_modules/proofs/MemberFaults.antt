@@ -1,9 +1,10 @@
 -- What is wrong with a member but its delay.
-use Rattle.std.specs.Prelude.{◌≡◌, ℕ, ◌<◌, List, [], ◌∷◌, ◌++◌, not, nat_lt, Option, Some, None, Result, Ok, Err, MatchResult, flat_map, length, slice_get, bytes_eq, refl, ℤ}
+use Rattle.std.specs.Prelude.{◌≡◌, ℕ, ◌<◌, List, [], ◌∷◌, ◌++◌, not, Option, Some, None, Result, Ok, Err, MatchResult, flat_map, length, slice_get, bytes_eq, refl, ℤ}
 use Rattle.std.specs.List.{position_from}
 use Rattle.std.proofs.Common.{sym, ◌∙◌, ap, arith, subst, append_assoc}
 use Rattle.std.proofs.lemmas.List.{append-nil}
 use Rattle.sg_delay.specs.declared.corners.Corner.{Corner}
+use Rattle.sg_logic.specs.Gate.{most_delays}
 use Rattle.sg_logic.specs.declared.gates.GateKind.{GateKind}
 use Rattle.sg_text.specs.declared.refusals.Refused.{Refused}
 use Rattle.sg_text.specs.declared.refusals.Refused.TheVariants as refused
@@ -14,13 +15,13 @@ use Rattle.elab_model.specs.Definitions.{name_of, definition_of}
 use Rattle.elab_model.specs.Elements.{output_count}
 use Rattle.elab_model.specs.Faults.{Fault, fault, fault_if, RefusesOneOf}
 use Rattle.elab_model.specs.Members.{assignment, gate, instance, connection_values}
-use Rattle.elab_model.specs.ModuleFaults.{are_terminals, delay_on_module, connection_faults, instance_faults, all_member_faults}
+use Rattle.elab_model.specs.ModuleFaults.{are_terminals, takes_terminals, delay_on_module, connection_faults, instance_faults, all_member_faults}
 use Rattle.elab_model.specs.Names.{Variable, variables}
 use Rattle.elab_model.specs.PrimitiveFaults.{primitive_faults}
 use Rattle.elab_model.specs.TerminalFaults.{expression_faults, terminal_faults, delay_faults, is_missing}
 use Rattle.elab_laws.proofs.NoFaults.{front, back}
 use Rattle.elab_hierarchy.proofs.Found.{place-first, position-none}
-use Rattle.elab_names.proofs.Refusals.{refused-left, refused-right}
+use Rattle.elab_declared.proofs.Refusals.{refused-left, refused-right}
 use Rattle.elab_modules.specs.Connecting.{gate_faults, fits_ports, primitive_terminal_faults, instance_of_module_faults}
 use Rattle.elab_modules.specs.Telling.{Tells, TellsButDelay, sides_faults}
 
@@ -43,9 +44,9 @@ pub gate-tell : {A : Type 0} (source : Source) (m : Module) (vs : List Variable)
 gate-tell source m vs g d i result e h corner tick =
     let ws = variables m in
     let own = flat_map (expression_faults ws) i.terminals in
-    let few = fault_if (nat_lt (length i.terminals) 2) BadTerminal i.place in
+    let few = fault_if (not (takes_terminals g (length i.terminals))) BadTerminal i.place in
     let each = terminal_faults ws (output_count g (length i.terminals)) i.terminals in
-    let delays = delay_faults corner tick m d in
+    let delays = delay_faults (most_delays g) corner tick m d in
     but-last (gate_faults ws g i) delays (own ++ (few ++ (each ++ delays))) result (joined-three own few each delays) (subst (λ ws. Tells (gate_faults ws g i) result) e h)
 
 -- ---- the definition of a name
@@ -77,12 +78,12 @@ no-delay (Some d) h = cc
 
 module-tell : {A : Type 0} (corner : Corner) (tick : ℤ) (m k : Module) (d : Option Delay) (i : instance_text) (result : Result A (Refused ElabKind))
     → Tells (instance_of_module_faults (variables m) k d i) result
-    → MatchResult result (λ _. instance_of_module_faults (variables m) k d i ≡ delay_faults corner tick m d) (RefusesOneOf (instance_of_module_faults (variables m) k d i))
+    → MatchResult result (λ _. instance_of_module_faults (variables m) k d i ≡ delay_faults 2 corner tick m d) (RefusesOneOf (instance_of_module_faults (variables m) k d i))
 module-tell corner tick m k d i (Ok x) h =
     let named = fault_if (is_missing i.name) BadTerminal i.place in
     let rest = connection_faults (variables m) k i.place i.connections in
     let none : d ≡ None = no-delay d (front (delay_on_module d) rest (back named (delay_on_module d ++ rest) (back (own_values m i) (named ++ (delay_on_module d ++ rest)) h))) in
-    h ∙ ap (delay_faults corner tick m) (sym none)
+    h ∙ ap (delay_faults 2 corner tick m) (sym none)
 module-tell corner tick m k d i (Err r) h = h
 
 pub module-tells : {A : Type 0} (source : Source) (m k : Module) (vs : List Variable) (n : Named) (d : Option Delay) (i : instance_text) (result : Result A (Refused ElabKind))
@@ -90,7 +91,7 @@ pub module-tells : {A : Type 0} (source : Source) (m k : Module) (vs : List Vari
 module-tells source m k vs n d i result f e h corner tick =
     let all : instance_of_module_faults (variables m) k d i ≡ all_member_faults source corner tick m (instance n d i) =
     ap (λ o. own_values m i ++ instance_faults corner tick m (variables m) d i o) (sym f) in
-    subst (λ fs. MatchResult result (λ _. fs ≡ delay_faults corner tick m d) (RefusesOneOf fs)) all
+    subst (λ fs. MatchResult result (λ _. fs ≡ delay_faults 2 corner tick m d) (RefusesOneOf fs)) all
     (module-tell corner tick m k d i result (subst (λ ws. Tells (instance_of_module_faults ws k d i) result) e h))
 
 fits-are : (p : Primitive) (x : Connections) → fits_ports (length p.ports) x ≡ are_terminals p x
@@ -105,7 +106,7 @@ primitive-tells source m p vs n d i count result f none e c h corner tick =
     let own = own_values m i in
     let fits = fault_if (not (are_terminals p i.connections)) BadTerminal i.place in
     let each = terminal_faults ws 1 (connection_values i.connections) in
-    let delays = delay_faults corner tick m d in
+    let delays = delay_faults 2 corner tick m d in
     let told : primitive_terminal_faults vs count i ≡ own ++ (fits ++ each) =
     ap (λ ws. primitive_terminal_faults ws count i) e ∙ ap (λ k. primitive_terminal_faults ws k i) c ∙ ap (λ b. own ++ (fault_if (not b) BadTerminal i.place ++ each)) (fits-are p i.connections) in
     let all : all_member_faults source corner tick m (instance n d i) ≡ (own ++ (fits ++ each)) ++ delays =

@@ -30,7 +30,7 @@ use Rattle.elab_modules.specs.Reaching.{IsModuleAt, IsUdpReady, HasMet}
 use Rattle.elab_modules.specs.Checking.{AreNamed, AreInTicks}
 use Rattle.elab_modules.proofs.Among.{in-kept, in-numbered}
 use Rattle.elab_modules.proofs.Meeting.{places_of}
-use Rattle.elab_modules.proofs.Precisions.{least-of_all}
+use Rattle.elab_laws.proofs.Precisions.{least-of_all}
 use Rattle.elab_modules.proofs.Stocking.{Parts}
 
 -- ---- instances and their places

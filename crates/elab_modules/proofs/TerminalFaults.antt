@@ -1,10 +1,9 @@
 -- What is wrong with terminals, of which the first are outputs: looked for at the outputs, then at the inputs.
-use Rattle.std.specs.Prelude.{◌≡◌, ℕ, ◌<◌, ◌≤◌, List, [], ◌∷◌, ◌++◌, Bool, true, false, nat_lt, ◌&&◌, not, ◌==◌, Option, Some, None, Result, map, flat_map, filter_map, option_map, length, take, drop, refl}
+use Rattle.std.specs.Prelude.{◌≡◌, ℕ, List, [], ◌∷◌, ◌++◌, Bool, true, false, ◌&&◌, not, ◌==◌, Option, Some, None, Result, map, flat_map, filter_map, option_map, length, take, drop, refl}
 use Rattle.std.specs.List.{list_any, take-map}
-use Rattle.std.proofs.Common.{sym, ◌∙◌, ap, arith, subst, inl, inr}
+use Rattle.std.proofs.Common.{sym, ◌∙◌, ap, subst, inl, inr}
 use Rattle.std.proofs.lemmas.Grind.{flat_map-append}
 use Rattle.std.proofs.lemmas.List.{append-nil, map-append, length-map, take-append-drop}
-use Rattle.std.proofs.lemmas.Bool.Decides.{nat_tests}
 use Rattle.std.proofs.lemmas.List.Folds.{flat_map-map}
 use Rattle.sg_logic.specs.declared.gates.GateKind.{GateKind}
 use Rattle.sg_text.specs.declared.places.Place.{Place}
@@ -19,10 +18,11 @@ use Rattle.elab_model.specs.declared.kinds.ElabKind.TheVariants.{BadTerminal}
 use Rattle.elab_model.specs.Elements.{output_count}
 use Rattle.elab_model.specs.Faults.{Fault, fault_if, RefusesOneOf}
 use Rattle.elab_model.specs.Members.{connection_values}
+use Rattle.elab_model.specs.ModuleFaults.{takes_terminals}
 use Rattle.elab_model.specs.Names.{Variable}
 use Rattle.elab_model.specs.TerminalFaults.{expression_faults, width_faults, constant_faults, terminal_faults, is_missing}
 use Rattle.elab_laws.proofs.Lists.{in-left, in-right, in-either}
-use Rattle.elab_names.proofs.Refusals.{refused-left, refused-right}
+use Rattle.elab_declared.proofs.Refusals.{refused-left, refused-right}
 use Rattle.elab_modules.specs.Telling.{Tells, joined_faults, joined_value_faults}
 use Rattle.elab_modules.specs.Connecting.{gate_faults, are_given, fits_ports, given_faults, terminal_list_faults, primitive_terminal_faults}
 use Rattle.elab_modules.proofs.InTurn.{fault-told, no-fault}
@@ -98,7 +98,7 @@ abbrev gate_terminals : List Variable → Bool → List code.Expression → List
 gate_terminals vs out es = flat_map (λ e. joined_faults vs 1 out (view_expression e)) es
 
 pub gate-tells : {A : Type 0} (vs : List Variable) (g : GateKind) (i : code_gate.GateInstance) (n : ℕ) (os is : List code.Expression) (result : Result A (Refused ElabKind))
-    → nat_lt (length (map view_expression i.terminals.items)) 2 ≡ false → take n (map view_expression i.terminals.items) ≡ map view_expression os
+    → takes_terminals g (length (map view_expression i.terminals.items)) ≡ true → take n (map view_expression i.terminals.items) ≡ map view_expression os
     → map view_expression os ++ map view_expression is ≡ map view_expression i.terminals.items
     → n ≡ output_count g (length (map view_expression i.terminals.items)) → Tells (gate_terminals vs true os ++ gate_terminals vs false is) result
     → Tells (gate_faults vs g (view_gate_instance i)) result
@@ -112,19 +112,19 @@ gate-tells vs g i n os is result many front whole count h =
     let ended : flat_map (expression_faults vs) (vos ++ vis) ++ (flat_map (width_faults vs 1) (vos ++ vis) ++ flat_map (constant_faults vs) vos) ≡ gate_faults vs g (view_gate_instance i) =
     ap (λ es. flat_map (expression_faults vs) es ++ (flat_map (width_faults vs 1) es ++ flat_map (constant_faults vs) vos)) whole
     ∙ ap (λ es. flat_map (expression_faults vs) ts ++ (flat_map (width_faults vs 1) ts ++ flat_map (constant_faults vs) es)) (sym front ∙ ap (λ k. take k ts) count)
-    ∙ ap (λ fs. flat_map (expression_faults vs) ts ++ (fs ++ terminal_faults vs (output_count g (length ts)) ts)) (sym (no-fault (nat_lt (length ts) 2) BadTerminal i.place many)) in
+    ∙ ap (λ fs. flat_map (expression_faults vs) ts ++ (fs ++ terminal_faults vs (output_count g (length ts)) ts)) (sym (no-fault (not (takes_terminals g (length ts))) BadTerminal i.place (ap not many))) in
     tells-same (gate_terminals vs true os ++ gate_terminals vs false is) (gate_faults vs g (view_gate_instance i)) result
     (same-then _ (flat_map (joined_faults vs 1 true) vos ++ flat_map (joined_faults vs 1 false) vis) _ (same-as _ _ (sym begun))
     (same-then _ (flat_map (expression_faults vs) (vos ++ vis) ++ (flat_map (width_faults vs 1) (vos ++ vis) ++ flat_map (constant_faults vs) vos)) _ (terminals-same vs vos vis)
     (same-as _ _ ended))) h
 
-pub gate-few : (vs : List Variable) (g : GateKind) (i : code_gate.GateInstance) → nat_lt (length (map view_expression i.terminals.items)) 2 ≡ true
+gate-miscounted : (vs : List Variable) (g : GateKind) (i : code_gate.GateInstance) → takes_terminals g (length (map view_expression i.terminals.items)) ≡ false
     → RefusesOneOf (gate_faults vs g (view_gate_instance i)) (refused.Fault BadTerminal i.place)
-gate-few vs g i few =
+gate-miscounted vs g i few =
     let ts = map view_expression i.terminals.items in
-    let f = fault_if (nat_lt (length ts) 2) BadTerminal i.place in
+    let f = fault_if (not (takes_terminals g (length ts))) BadTerminal i.place in
     refused-right (flat_map (expression_faults vs) ts) (f ++ terminal_faults vs (output_count g (length ts)) ts) (refused.Fault BadTerminal i.place)
-    (refused-left f (terminal_faults vs (output_count g (length ts)) ts) (refused.Fault BadTerminal i.place) (fault-told (nat_lt (length ts) 2) BadTerminal i.place few))
+    (refused-left f (terminal_faults vs (output_count g (length ts)) ts) (refused.Fault BadTerminal i.place) (fault-told (not (takes_terminals g (length ts))) BadTerminal i.place (ap not few)))
 
 -- ---- primitives
 
@@ -171,32 +171,23 @@ not-given vs count p es g =
 
 -- ---- what the code cuts and counts
 
-few-are : (ts : List code.Expression) (n : ℕ) → n ≡ length ts → n < 2 → nat_lt (length (map view_expression ts)) 2 ≡ true
-few-are ts n e lt = let k = length-map ts view_expression in ap (λ j. nat_lt j 2) (k ∙ sym e) ∙ less n lt
-  where
-    less : (n : ℕ) → n < 2 → nat_lt n 2 ≡ true
-    less n h = grind (arith, nat_tests)
+counted : (g : GateKind) (ts : List code.Expression) (n : ℕ) (b : Bool) → n ≡ length ts → takes_terminals g n ≡ b → takes_terminals g (length (map view_expression ts)) ≡ b
+counted g ts n b e h = ap (takes_terminals g) (length-map ts view_expression ∙ sym e) ∙ h
 
-many-are : (ts : List code.Expression) (n : ℕ) → n ≡ length ts → 2 ≤ n → nat_lt (length (map view_expression ts)) 2 ≡ false
-many-are ts n e le = let k = length-map ts view_expression in ap (λ j. nat_lt j 2) (k ∙ sym e) ∙ not-less n le
-  where
-    not-less : (n : ℕ) → 2 ≤ n → nat_lt n 2 ≡ false
-    not-less n h = grind (arith, nat_tests)
-
-pub few-refused : (vs : List Variable) (g : GateKind) (i : code_gate.GateInstance) (n : ℕ) → n ≡ length i.terminals.items → n < 2
+pub count-refused : (vs : List Variable) (g : GateKind) (i : code_gate.GateInstance) (n : ℕ) → n ≡ length i.terminals.items → takes_terminals g n ≡ false
     → RefusesOneOf (gate_faults vs g (view_gate_instance i)) (refused.Fault BadTerminal i.place)
-few-refused vs g i n e lt = gate-few vs g i (few-are i.terminals.items n e lt)
+count-refused vs g i n e h = gate-miscounted vs g i (counted g i.terminals.items n false e h)
 
-pub cut-tells : {A : Type 0} (vs : List Variable) (g : GateKind) (i : code_gate.GateInstance) (k n j : ℕ) (es os is : List code.Expression) (result : Result A (Refused ElabKind))
-    → es ≡ i.terminals.items → n ≡ length i.terminals.items → 2 ≤ n → j ≡ length i.terminals.items → k ≡ output_count g j → os ≡ take k es → is ≡ drop k es
+pub cut-tells : {A : Type 0} (vs : List Variable) (g : GateKind) (i : code_gate.GateInstance) (k n : ℕ) (es os is : List code.Expression) (result : Result A (Refused ElabKind))
+    → es ≡ i.terminals.items → n ≡ length i.terminals.items → takes_terminals g n ≡ true → k ≡ output_count g n → os ≡ take k es → is ≡ drop k es
     → Tells (gate_terminals vs true os ++ gate_terminals vs false is) result → Tells (gate_faults vs g (view_gate_instance i)) result
-cut-tells vs g i k n j es os is result same len le again count front back h =
+cut-tells vs g i k n es os is result same len takes count front back h =
     let ts = i.terminals.items in
     let taken : take k (map view_expression ts) ≡ map view_expression os = take-map view_expression k ts ∙ ap (λ xs. map view_expression (take k xs)) (sym same)
     ∙ ap (map view_expression) (sym front) in
     let whole : map view_expression os ++ map view_expression is ≡ map view_expression ts =
     sym (map-append view_expression os is) ∙ ap (map view_expression) (ap (λ xs. xs ++ is) front ∙ ap (λ xs. take k es ++ xs) back ∙ take-append-drop k es ∙ same) in
-    gate-tells vs g i k os is result (many-are ts n len le) taken whole (count ∙ ap (output_count g) (again ∙ sym (length-map ts view_expression))) h
+    gate-tells vs g i k os is result (counted g ts n true len takes) taken whole (count ∙ ap (output_count g) (len ∙ sym (length-map ts view_expression))) h
 
 -- ---- connections by name
 

@@ -51,7 +51,7 @@ RefusesOne source corner tick part refused.NoMemory = Unit {0}
 -- the first so many parts were looked at
 pub record AreChecked (source : Source) (corner : Corner) (tick : ℤ) (parts : List (Option code_ready.Ready)) (count : ℕ) (table : List GateDelays) (delays : List (Vec ℕ)) : Type 0 where
   pub counted : length delays ≡ count
-  pub counts : All (λ d. d.count ≤ 2) table
+  pub counts : All (λ d. d.count ≤ 3) table
   pub each : (i : ℕ) (p : Prepared) → i < count → IsModuleAt parts i p → IsChecked source corner tick table (option_map (λ list. list.items) (slice_get delays i)) p
 
 -- a fault of a member of one of the modules

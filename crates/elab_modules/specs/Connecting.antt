@@ -1,5 +1,5 @@
 -- What is looked for in gates, in instances of primitives and in those of modules.
-use Rattle.std.specs.Prelude.{◌≡◌, ℕ, List, [], ◌∷◌, ◌++◌, Bool, true, false, not, ◌&&◌, ◌==◌, nat_lt, Option, Some, None, flat_map, filter_map, length, map}
+use Rattle.std.specs.Prelude.{◌≡◌, ℕ, List, [], ◌∷◌, ◌++◌, Bool, true, false, not, ◌&&◌, ◌==◌, Option, Some, None, flat_map, filter_map, length, map}
 use Rattle.std.specs.List.{list_any}
 use Rattle.sg_circuit.specs.Closed.{width_of}
 use Rattle.sg_logic.specs.declared.gates.GateKind.{GateKind}
@@ -10,7 +10,7 @@ use Rattle.elab_model.specs.Elements.{output_count}
 use Rattle.elab_model.specs.Faults.{Fault, fault_if, duplicates}
 use Rattle.elab_model.specs.Homes.{is_output}
 use Rattle.elab_model.specs.Members.{connection_values}
-use Rattle.elab_model.specs.ModuleFaults.{port_faults, connection_faults, module_instance_faults}
+use Rattle.elab_model.specs.ModuleFaults.{port_faults, connection_faults, module_instance_faults, takes_terminals}
 use Rattle.elab_model.specs.Names.{Variable, variable, is_among}
 use Rattle.elab_model.specs.Ports.{port_names}
 use Rattle.elab_model.specs.TerminalFaults.{expression_faults, terminal_faults, is_missing}
@@ -25,7 +25,7 @@ use Rattle.elab_modules.specs.declared.prepared.Prepared.{Prepared}
 abbrev pub gate_faults : List Variable → GateKind → GateInstance → List Fault
 gate_faults vs g i =
     flat_map (expression_faults vs) i.terminals
-    ++ (fault_if (nat_lt (length i.terminals) 2) BadTerminal i.place ++ terminal_faults vs (output_count g (length i.terminals)) i.terminals)
+    ++ (fault_if (not (takes_terminals g (length i.terminals))) BadTerminal i.place ++ terminal_faults vs (output_count g (length i.terminals)) i.terminals)
 
 -- ---- instances of primitives
 

@@ -5,3 +5,4 @@ pub mod Telling
 pub mod Connecting
 pub mod Reaching
 pub mod Checking
+pub mod Finding

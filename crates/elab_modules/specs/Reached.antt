@@ -36,7 +36,7 @@ pub record IsLibrary (source : Source) (corner : Corner) (top : Module) (library
   pub ready : AreReady source library.parts.items
   pub udps : HaveUdps source library.udps.items library.parts.items
   pub few_udps : length library.udps.items < 2 ^ 31
-  pub counts : All (λ d. d.count ≤ 2) library.gate_delays.items
+  pub counts : All (λ d. d.count ≤ 3) library.gate_delays.items
   pub reached : AllByRecursion (IsReached source corner top library) (instances source top)
   pub sound : AreSound source top corner
   pub tables : (p : Primitive) (kind : UdpKind) (place : Place) → IsAmong (primitives source (Ok top)) p → ¬ TableFault p kind place

@@ -5,6 +5,7 @@ use Rattle.sg_circuit.specs.declared.scopes.Port.TheVariants as port
 use Rattle.sg_circuit.specs.Seen.{delays_at}
 use Rattle.sg_delay.specs.declared.corners.Corner.{Corner}
 use Rattle.sg_delay.specs.declared.gates.GateDelays.{GateDelays}
+use Rattle.sg_logic.specs.Gate.{most_delays}
 use Rattle.sg_text.specs.declared.refusals.Refused.{Refused}
 use Rattle.sg_text.specs.declared.places.Place.{Place}
 use Rattle.vl_tree.specs.Tree.{Delay, Expression, Module, Source}
@@ -38,18 +39,24 @@ is_port port.Input = true
 is_port port.Output = true
 is_port port.Inner = false
 
--- the delay of a member
+-- the delay of a member, and the most that it takes (7.14, 8.6)
 abbrev pub delay_of : Member → Option Delay
 delay_of (assignment j) = None
 delay_of (supply n v) = None
 delay_of (gate g d i) = d
 delay_of (instance n d i) = d
 
+abbrev pub most_of : Member → ℕ
+most_of (assignment j) = 0
+most_of (supply n v) = 0
+most_of (gate g d i) = most_delays g
+most_of (instance n d i) = 2
+
 -- nothing is wrong with a member but perhaps its delay, or a fault is told
 abbrev pub TellsButDelay : {A : Type 0} → Source → Module → Member → Result A (Refused ElabKind) → Type 0
 TellsButDelay source m i result =
     (corner : Corner) (tick : ℤ)
-    → MatchResult result (λ _. all_member_faults source corner tick m i ≡ delay_faults corner tick m (delay_of i)) (RefusesOneOf (all_member_faults source corner tick m i))
+    → MatchResult result (λ _. all_member_faults source corner tick m i ≡ delay_faults (most_of i) corner tick m (delay_of i)) (RefusesOneOf (all_member_faults source corner tick m i))
 
 -- ---- the table of delays
 

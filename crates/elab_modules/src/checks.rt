@@ -52,8 +52,8 @@ fn check_part(
     requires ready { AreReady definitions.now parts.now }
     requires named { (p : Prepared) → IsModule part.now p → AllByRecursion (MemberReady definitions.now parts.now) (map view_member p.members.items) }
     requires precision { (p : Prepared) → IsModule part.now p → tick.power ≤ℤ p.definition.now.mark.scale.precision.power }
-    requires counts { All (λ d. d.count ≤ 2) gate_delays.old.items }
-    ensures counts { All (λ d. d.count ≤ 2) gate_delays.new.items }
+    requires counts { All (λ d. d.count ≤ 3) gate_delays.old.items }
+    ensures counts { All (λ d. d.count ≤ 3) gate_delays.new.items }
     ensures kept { (more : List ghost_delays.GateDelays) × (gate_delays.new.items ≡ gate_delays.old.items ++ more) }
     ensures checked { IfOk result (λ list. (p : Prepared) → IsModule part.now p → IsChecked definitions.now corner tick.power gate_delays.new.items (Some list.items) p) }
     ensures refused { IfErr result (RefusesOne definitions.now corner tick.power part.now) }

@@ -18,7 +18,7 @@ use vl_tree::Delay;
 
 /// No delays.
 pub fn no_delays() -> GateDelays
-    ensures few { result.count ≤ 2 }
+    ensures few { result.count ≤ 3 }
     ensures none { gate_delays_seen result ≡ [] }
 {
     GateDelays {
@@ -39,9 +39,9 @@ fn begins_with_none(table: &[GateDelays]) -> bool
 
 /// The place of delays in a table, to which they are added. Those of most members are none, for which the first entry stands if it has none. A place past 2^32 is want of memory.
 pub fn add_entry(delays: GateDelays, table: &mut Vec<GateDelays>) -> Result<u32, NoMemory>
-    requires few { delays.count ≤ 2 }
-    requires counts { All (λ d. d.count ≤ 2) table.old.items }
-    ensures counts { All (λ d. d.count ≤ 2) table.new.items }
+    requires few { delays.count ≤ 3 }
+    requires counts { All (λ d. d.count ≤ 3) table.old.items }
+    ensures counts { All (λ d. d.count ≤ 3) table.new.items }
     ensures kept { GrowsBy table.old.items table.new.items }
     ensures place { IfOk result (λ i. StandsFor table.new.items i (gate_delays_seen delays)) }
 {
@@ -55,8 +55,9 @@ pub fn add_entry(delays: GateDelays, table: &mut Vec<GateDelays>) -> Result<u32,
     Ok(place)
 }
 
-/// Adds the delays that are written of a gate or a primitive to a table; answers their place. Refuses what `gate_delays` does.
+/// Adds the delays that are written of a gate or a primitive, `most` of them, to a table; answers their place. Refuses what `gate_delays` does.
 pub fn add_delays(
+    most: u8,
     corner: Corner,
     tick: Unit,
     scale: Scale,
@@ -64,12 +65,13 @@ pub fn add_delays(
     table: &mut Vec<GateDelays>,
 ) -> Result<u32, Refused<ElabKind>>
     requires precision { tick.power ≤ℤ scale.precision.power }
-    requires counts { All (λ d. d.count ≤ 2) table.old.items }
-    ensures counts { All (λ d. d.count ≤ 2) table.new.items }
+    requires most { most ≤ 3 }
+    requires counts { All (λ d. d.count ≤ 3) table.old.items }
+    ensures counts { All (λ d. d.count ≤ 3) table.new.items }
     ensures kept { GrowsBy table.old.items table.new.items }
-    ensures told { (m : Module) → m.settings.scale ≡ timescale scale → Tells (delay_faults corner tick.power m (option_map view_delay delay.now)) result }
+    ensures told { (m : Module) → m.settings.scale ≡ timescale scale → Tells (delay_faults most corner tick.power m (option_map view_delay delay.now)) result }
     ensures place { IfOk result (λ i. (m : Module) → m.settings.scale ≡ timescale scale → StandsFor table.new.items i (delays_of corner tick.power m (option_map view_delay delay.now))) }
 {
-    let delays = gate_delays(corner, tick, scale, delay)?;
+    let delays = gate_delays(most, corner, tick, scale, delay)?;
     Ok(add_entry(delays, table)?)
 }

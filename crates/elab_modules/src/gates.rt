@@ -1,7 +1,8 @@
 // What is refused in gates.
-ghost use Rattle.std.specs.Prelude.{◌≡◌, ◌≤◌, flat_map};
+ghost use Rattle.std.specs.Prelude.{◌≡◌, ◌≤◌, IsTrue, flat_map};
 ghost use Rattle.vl_tree.specs.Seen.{view_expression, view_gate_instance};
 ghost use Rattle.elab_model.specs.Elements as def;
+ghost use Rattle.elab_model.specs.ModuleFaults as def_faults;
 ghost use Rattle.elab_modules.specs.Telling.{Tells, joined_faults};
 ghost use Rattle.elab_modules.specs.Connecting.{gate_faults};
 
@@ -13,18 +14,24 @@ use sg_logic::GateKind;
 use sg_text::Refused;
 use vl_tree::{Expression, GateInstance};
 
-// A gate has an output and an input at least (IEEE 1364-2005, 7.2, 7.3).
-const LEAST: usize = 2;
-
-// How many of a gate's terminals are outputs (IEEE 1364-2005, 7.2, 7.3).
-fn output_count(kind: GateKind, terminals: usize) -> usize
-    requires { 2 ≤ terminals }
-    ensures count { result ≡ def.output_count kind terminals }
-    ensures within { result ≤ terminals }
+// Whether a gate may have so many terminals: an output and an input at least, or an output, an input and a control (IEEE 1364-2005, 7.2, 7.3, 7.4).
+fn takes_terminals(kind: GateKind, terminals: usize) -> bool
+    ensures count { result ≡ def_faults.takes_terminals kind terminals }
+    ensures some { IsTrue result → 1 ≤ terminals }
 {
     match kind {
-        GateKind::Buf => terminals - 1,
-        GateKind::Not => terminals - 1,
+        GateKind::Bufif0 | GateKind::Bufif1 | GateKind::Notif0 | GateKind::Notif1 => terminals == 3,
+        _ => terminals >= 2,
+    }
+}
+
+/// How many of so many terminals of a gate are outputs (IEEE 1364-2005, 7.2 to 7.4).
+pub fn output_count(kind: GateKind, terminals: usize) -> usize
+    ensures count { result ≡ def.output_count kind terminals }
+    ensures within { 1 ≤ terminals → result ≤ terminals }
+{
+    match kind {
+        GateKind::Buf | GateKind::Not => terminals.saturating_sub(1),
         _ => 1,
     }
 }
@@ -44,7 +51,7 @@ fn check_terminals(
     Ok(())
 }
 
-/// Refuses a gate of one terminal (BadTerminal), and terminals for their names and indices, for more bits than one, and at an output for a constant.
+/// Refuses a gate that doesn't take as many terminals (BadTerminal, at the instance), and terminals for their names and indices, for more bits than one, and at an output for a constant.
 pub fn check_gate(
     table: &Table,
     kind: GateKind,
@@ -54,13 +61,14 @@ pub fn check_gate(
     ensures { Tells (gate_faults table.now kind (view_gate_instance instance.now)) result }
 {
     let terminals = &instance.terminals;
-    if terminals.len() < LEAST {
+    let count = terminals.len();
+    if !takes_terminals(kind, count) {
         return Err(Refused::Fault {
             kind: ElabKind::BadTerminal,
             place: instance.place,
         });
     }
-    let (outputs, inputs) = terminals.split_at(output_count(kind, terminals.len()));
+    let (outputs, inputs) = terminals.split_at(output_count(kind, count));
     check_terminals(table, outputs, true, bits)?;
     check_terminals(table, inputs, false, bits)
 }

@@ -12,9 +12,12 @@ mod members;
 mod ports;
 mod prepared;
 mod primitive_instances;
+mod readied;
 mod stock;
 mod terminals;
 
+pub use gates::output_count;
 pub use library::{Library, Ready, library_of};
 pub use members::check_members;
 pub use prepared::{Prepared, prepare};
+pub use readied::{find_module, module_at};

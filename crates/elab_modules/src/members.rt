@@ -9,7 +9,7 @@ ghost use Rattle.elab_model.specs.Members as def;
 ghost use Rattle.elab_model.specs.ModuleFaults.{all_member_faults};
 ghost use Rattle.elab_variables.specs.Seen.{view_member};
 ghost use Rattle.elab_modules.specs.Ready.{AreReady, IsPrepared, MemberReady, HasDelays, member_delays};
-ghost use Rattle.elab_modules.specs.Telling.{Tells, TellsButDelay, GrowsBy, StandsFor, delay_of};
+ghost use Rattle.elab_modules.specs.Telling.{Tells, TellsButDelay, GrowsBy, StandsFor, delay_of, most_of};
 ghost use Rattle.elab_model.specs.TerminalFaults.{delay_faults};
 
 use crate::assignments::{check_declared, check_sides};
@@ -25,6 +25,9 @@ use sg_delay::{Corner, GateDelays};
 use sg_text::Refused;
 use sg_time::Unit;
 use std::alloc::Global;
+
+// A primitive has two delays at most (IEEE 1364-2005, 8.6).
+const PRIMITIVE_DELAYS: u8 = 2;
 
 // What is wrong with a member but the delay of a gate or a primitive.
 fn check_member(
@@ -69,10 +72,10 @@ fn add_member(
     gate_delays: &mut Vec<GateDelays>,
 ) -> Result<u32, Refused<ElabKind>>
     requires precision { tick.power ≤ℤ prepared.now.definition.now.mark.scale.precision.power }
-    requires counts { All (λ d. d.count ≤ 2) gate_delays.old.items }
-    ensures counts { All (λ d. d.count ≤ 2) gate_delays.new.items }
+    requires counts { All (λ d. d.count ≤ 3) gate_delays.old.items }
+    ensures counts { All (λ d. d.count ≤ 3) gate_delays.new.items }
     ensures kept { GrowsBy gate_delays.old.items gate_delays.new.items }
-    ensures told { (m : Module) → IsPrepared prepared.now m → Tells (delay_faults corner tick.power m (delay_of (view_member member.now))) result }
+    ensures told { (m : Module) → IsPrepared prepared.now m → Tells (delay_faults (most_of (view_member member.now)) corner tick.power m (delay_of (view_member member.now))) result }
     ensures place { IfOk result (λ i. (m : Module) → IsPrepared prepared.now m → StandsFor gate_delays.new.items i (member_delays corner tick.power m (view_member member.now))) }
 {
     let none = no_delays();
@@ -81,8 +84,13 @@ fn add_member(
         Member::Declared { .. } => Ok(add_entry(none, gate_delays)?),
         Member::Assignment(_) => Ok(add_entry(none, gate_delays)?),
         Member::Supply { .. } => Ok(add_entry(none, gate_delays)?),
-        Member::Gate { delay, .. } => add_delays(corner, tick, scale, delay, gate_delays),
-        Member::Instance { delay, .. } => add_delays(corner, tick, scale, delay, gate_delays),
+        Member::Gate { kind, delay, .. } => {
+            let most = kind.most_delays();
+            add_delays(most, corner, tick, scale, delay, gate_delays)
+        }
+        Member::Instance { delay, .. } => {
+            add_delays(PRIMITIVE_DELAYS, corner, tick, scale, delay, gate_delays)
+        }
     }
 }
 
@@ -100,8 +108,8 @@ pub fn check_members(
     requires ready { AreReady definitions.now parts.now }
     requires named { AllByRecursion (MemberReady definitions.now parts.now) (map view_member prepared.now.members.items) }
     requires precision { tick.power ≤ℤ prepared.now.definition.now.mark.scale.precision.power }
-    requires counts { All (λ d. d.count ≤ 2) gate_delays.old.items }
-    ensures counts { All (λ d. d.count ≤ 2) gate_delays.new.items }
+    requires counts { All (λ d. d.count ≤ 3) gate_delays.old.items }
+    ensures counts { All (λ d. d.count ≤ 3) gate_delays.new.items }
     ensures kept { (more : List ghost_delays.GateDelays) × (gate_delays.new.items ≡ gate_delays.old.items ++ more) }
     ensures delays { IfOk result (λ list. (m : Module) → IsPrepared prepared.now m → HasDelays corner tick.power m gate_delays.new.items list.items) }
     ensures faultless { OnOk result ((m : Module) → IsPrepared prepared.now m → flat_map (all_member_faults definitions.now corner tick.power m) (def.members m) ≡ []) }

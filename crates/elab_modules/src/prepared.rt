@@ -5,8 +5,9 @@ ghost use Rattle.elab_model.specs.Faults.{RefusesOneOf};
 ghost use Rattle.elab_model.specs.NameFaults.{declaration_faults};
 ghost use Rattle.elab_modules.specs.Ready.{IsPrepared};
 
+use elab_declared::port_list;
 use elab_model::ElabKind;
-use elab_names::port_list;
+use elab_names::check_declarations;
 use elab_variables::{Member, Table, members};
 use sg_text::Refused;
 use std::alloc::Global;
@@ -29,6 +30,7 @@ pub fn prepare<'t, 'a>(
     ensures prepared { IfOk result (λ p. IsPrepared p (view_module definition.now)) }
     ensures refused { IfErr result (RefusesOneOf (declaration_faults (view_module definition.now))) }
 {
+    check_declarations(alloc, definition)?;
     let table = Table::of(alloc, definition)?;
     let ports = port_list(alloc, definition)?;
     let members = members(alloc, definition)?;

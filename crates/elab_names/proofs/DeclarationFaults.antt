@@ -10,7 +10,7 @@ use Rattle.elab_model.specs.Faults.{fault_if, RefusesOneOf}
 use Rattle.elab_model.specs.NameFaults.{name_faults, range_texts, two_ranges, too_wide, declaration_faults}
 use Rattle.elab_names.specs.GivenRanges.{NamedRange, given, given_by_text, range_faults, is_wide, width_faults}
 use Rattle.elab_names.proofs.OwnNets.{two-ranges}
-use Rattle.elab_names.proofs.Refusals.{refused-left, refused-right}
+use Rattle.elab_declared.proofs.Refusals.{refused-left, refused-right}
 
 widths-given : (m : Module) → width_faults (given (range_texts m)) ≡ too_wide m
 widths-given m = flat_map-map (λ s. fault_if (is_wide s) TooMany s.name.place) given_by_text (range_texts m)

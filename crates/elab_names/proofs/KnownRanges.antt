@@ -13,7 +13,7 @@ use Rattle.sg_text.specs.declared.places.Place.{Place}
 use Rattle.vl_tree.specs.declared.names.Range as written
 use Rattle.elab_model.specs.Names.{bounds}
 use Rattle.elab_model.specs.NameFaults.{is_same_int, is_same_range}
-use Rattle.elab_names.specs.Words.{first_of}
+use Rattle.elab_declared.specs.Words.{first_of}
 use Rattle.elab_names.specs.GivenRanges.{NamedRange, view_range, is_other, differing_places}
 use Rattle.elab_names.specs.declared.ranges.NamedRange as code
 

@@ -1,10 +1,7 @@
 -- The modules of this folder.
-pub mod Again
-pub mod After
 pub mod DeclarationFaults
 pub mod InstanceNames
 pub mod ItemRanges
 pub mod KnownRanges
 pub mod OwnNets
-pub mod Refusals
 pub mod WideRanges

@@ -9,7 +9,7 @@ use Rattle.elab_model.specs.declared.kinds.ElabKind.TheVariants.{TooMany}
 use Rattle.elab_model.specs.Faults.{fault, fault_if}
 use Rattle.elab_names.specs.GivenRanges.{view_range, is_wide, width_faults}
 use Rattle.elab_names.specs.declared.ranges.NamedRange as code
-use Rattle.elab_names.proofs.Refusals.{none-found, some-found}
+use Rattle.elab_declared.proofs.Refusals.{none-found, some-found}
 
 faults-are : (rs : List code.NamedRange) → width_faults (map view_range rs) ≡ flat_map (λ r. fault_if (is_wide (view_range r)) TooMany r.name.place) rs
 faults-are rs = flat_map-map (λ s. fault_if (is_wide s) TooMany s.name.place) view_range rs

@@ -1,3 +1,2 @@
 -- The modules of this folder: words of the contracts.
-pub mod Words
 pub mod GivenRanges

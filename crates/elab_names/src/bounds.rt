@@ -4,7 +4,7 @@ ghost use Rattle.std.specs.Option.{option_map};
 ghost use Rattle.sg_circuit.specs.Closed.{width_of};
 ghost use Rattle.elab_model.specs.Names.{bounds};
 ghost use Rattle.elab_model.specs.NameFaults as def;
-ghost use Rattle.elab_names.specs.Words.{first_of};
+ghost use Rattle.elab_declared.specs.Words.{first_of};
 ghost use Rattle.elab_names.specs.GivenRanges.{differing_places, is_other, is_wide, view_range};
 
 use crate::NamedRange;

@@ -3,12 +3,10 @@ ghost use Rattle.std.specs.Prelude.{◌≡◌, [], OnOk, IfOk, IfErr, map};
 ghost use Rattle.vl_tree.specs.Seen.{view_name, view_module, view_port_declaration};
 ghost use Rattle.elab_model.specs.Faults.{RefusesOneOf, duplicates, missing};
 ghost use Rattle.elab_model.specs.NameFaults as def;
-ghost use Rattle.elab_names.specs.Words.{view_net};
+ghost use Rattle.elab_declared.specs.Words.{view_net};
 
-use crate::{
-    NetDeclaration, first_missing, first_repeated, instance_names, net_declarations,
-    port_declarations, port_list,
-};
+use crate::{first_missing, first_repeated, instance_names};
+use elab_declared::{NetDeclaration, net_declarations, port_declarations, port_list};
 use elab_model::ElabKind;
 use sg_text::{NoMemory, Refused};
 use std::alloc::Global;

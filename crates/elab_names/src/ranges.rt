@@ -4,7 +4,7 @@ ghost use Rattle.vl_tree.specs.Seen.{view_name, view_net_name, view_item, view_m
 ghost use Rattle.elab_model.specs.NameFaults.{range_texts};
 ghost use Rattle.elab_names.specs.GivenRanges.{given, port_given, given_by_item, with_range, view_range};
 
-use crate::ports::ports_of_head;
+use elab_declared::ports_of_head;
 use sg_text::NoMemory;
 use std::alloc::Global;
 use vl_tree::{Item, Module, Name, NetName, PortDeclaration, Range};

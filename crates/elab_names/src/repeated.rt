@@ -3,7 +3,7 @@ ghost use Rattle.std.specs.Prelude.{◌≡◌, ℕ, List, IfOk, map, not, find};
 ghost use Rattle.std.specs.Option.{option_map};
 ghost use Rattle.elab_model.specs.Names.{is_among};
 ghost use Rattle.vl_tree.specs.Seen.{view_name};
-ghost use Rattle.elab_names.specs.Words.{IsFirstAgain, is_seen};
+ghost use Rattle.elab_declared.specs.Words.{IsFirstAgain, is_seen};
 ghost use Rattle.elab_model.specs.Faults.{texts_of};
 
 use indexmap::IndexSet;

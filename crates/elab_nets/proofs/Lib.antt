@@ -9,7 +9,6 @@ pub mod MemberBits
 pub mod Placings
 pub mod RowParts
 pub mod Children
-pub mod Modules
 pub mod ChildRows
 pub mod Defined
 pub mod MemberNets

@@ -18,12 +18,12 @@ use Rattle.elab_modules.specs.declared.prepared.Prepared.{Prepared}
 use Rattle.elab_modules.specs.Reached.{IsReached, IsReadyAt}
 use Rattle.elab_modules.specs.Ready.{IsPrepared}
 use Rattle.elab_laws.specs.NumberLaws.{nets_before}
-use Rattle.elab_nets.specs.Parts.{module_at}
+use Rattle.elab_modules.specs.Finding.{module_at}
 use Rattle.elab_nets.specs.Turns.{AreThrough, AreUpTo, HasInnerRow, HasTurn, IsBegun, IsGiven, IsMine, bits_of}
 use Rattle.elab_model.specs.Numbered.{undriven}
 use Rattle.elab_nets.specs.declared.rows.Rows.{Rows}
 use Rattle.elab_nets.proofs.InnerRows.{front-is, own-due}
-use Rattle.elab_nets.proofs.Modules.{is-found, is-prepared}
+use Rattle.elab_modules.proofs.FoundModules.{is-found, is-prepared}
 use Rattle.elab_nets.proofs.Placings.{is-there, lone-is, no-level, number-is, placed-at, placed-count}
 use Rattle.elab_nets.proofs.RowParts.{get-behind}
 use Rattle.elab_nets.proofs.UpTo.{new-inner, one-more}

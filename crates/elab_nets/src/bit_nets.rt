@@ -1,32 +1,17 @@
 // New nets that have the names of bits of an instance.
 ghost use Rattle.std.specs.Prelude.{◌≡◌, ◌<◌, ◌≤◌, ◌+◌, ◌^◌, ◌++◌, ◌∷◌, [], ℕ, OnOk, IfErr, length};
-ghost use Rattle.sg_circuit.specs.Closed.{width_of};
 ghost use Rattle.elab_laws.specs.Handing.{all_bits};
-ghost use Rattle.elab_model.specs.Bits.{index_at};
 ghost use Rattle.elab_bits.specs.Seen.{bit_at};
 ghost use Rattle.elab_numbering.specs.Refusals.{RefusesCount};
 ghost use Rattle.elab_nets.specs.Own.{net_at};
 
 use crate::limit::push_net;
+use elab_bits::index_at;
 use elab_model::ElabKind;
 use elab_variables::Table;
-use sg_circuit::{Net, Range};
+use sg_circuit::Net;
 use sg_text::Refused;
 use std::alloc::Global;
-
-// The index at a position of a variable (IEEE 1364-2005, 4.3.1).
-fn index_at(range: Option<Range>, position: usize) -> Option<i64>
-    requires within { position < width_of range }
-    requires wide { width_of range ≤ 65536 }
-    ensures { result ≡ index_at range position }
-{
-    let range = range?;
-    let step = position as i64;
-    if range.left <= range.right {
-        return Some(range.left + step);
-    }
-    Some(range.left - step)
-}
 
 /// Adds a net that has the name of a bit of the row.
 pub fn push_bit_net(

@@ -2,26 +2,14 @@
 ghost use Rattle.std.specs.Prelude.{◌≡◌, ◌++◌, All, OnOk, map, flat_map, option_map};
 ghost use Rattle.vl_tree.specs.Seen.{view_expression, view_connections, view_named_connection};
 ghost use Rattle.elab_model.specs.Bits as def;
-ghost use Rattle.elab_model.specs.Elements as def_elements;
 ghost use Rattle.elab_model.specs.Members.{connection_values};
 ghost use Rattle.elab_bits.specs.Seen.{view_bit, IsInRow};
 ghost use Rattle.elab_nets.specs.Terminals.{value_bits, ordered_bits, named_bits};
 
 use elab_bits::{Bit, add_bits};
 use elab_variables::Table;
-use sg_logic::GateKind;
 use sg_text::NoMemory;
 use vl_tree::{Connections, Expression, NamedConnection};
-
-/// How many of so many terminals of a gate are outputs (IEEE 1364-2005, 7.2, 7.3).
-pub fn output_count(kind: GateKind, terminals: usize) -> usize
-    ensures { result ≡ def_elements.output_count kind terminals }
-{
-    match kind {
-        GateKind::Buf | GateKind::Not => terminals.saturating_sub(1),
-        _ => 1,
-    }
-}
 
 /// Adds the bits of terminals, one after another.
 pub fn add_terminal_bits(

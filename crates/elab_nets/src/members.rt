@@ -18,14 +18,14 @@ ghost use Rattle.elab_nets.specs.Turns.{HasTurn, IsNext, IsSeenTo};
 ghost use Rattle.elab_model.specs.Numbered.{undriven};
 
 use crate::Rows;
-use crate::member_bits::{add_connection_bits, add_terminal_bits, output_count};
+use crate::member_bits::{add_connection_bits, add_terminal_bits};
 use crate::outside::add_outside;
-use crate::parts::{module_at, row_of};
+use crate::parts::row_of;
 use crate::terminals::add_terminals;
 use elab_bits::Bit;
 use elab_hierarchy::{Definitions, Placed};
 use elab_model::ElabKind;
-use elab_modules::Library;
+use elab_modules::{Library, find_module, output_count};
 use elab_variables::{Member, Table};
 use sg_circuit::Net;
 use sg_logic::GateKind;
@@ -100,7 +100,7 @@ fn add_child(
         → IsNext source turn.before turn.s (k, def_members.instance n d (view_instance text.now)) next (length rows.old.nets.items) → definition_of source n.text ≡ Some (a_module m) → StandsAt source place m → HasReady library.now.parts.items place
         → RefusesCount (length (nets source top)) r) }
 {
-    let Some(child) = module_at(library, place) else {
+    let Some(child) = find_module(library, place) else {
         return Ok(next);
     };
     let index = next as usize;

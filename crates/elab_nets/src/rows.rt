@@ -12,11 +12,10 @@ ghost use Rattle.elab_modules.specs.Reached.{IsLibrary};
 ghost use Rattle.elab_nets.specs.Rows.{HaveRows};
 ghost use Rattle.elab_nets.specs.Turns.{AreUpTo, IsGiven};
 
-use crate::parts::module_at;
 use crate::turns::add_instance;
 use elab_hierarchy::{Definitions, Placed};
 use elab_model::ElabKind;
-use elab_modules::Library;
+use elab_modules::{Library, find_module};
 use sg_circuit::{Net, NetId};
 use sg_text::{NoMemory, Refused};
 use std::alloc::Global;
@@ -93,7 +92,7 @@ fn top_bits(library: &Library, instances: &[Placed]) -> usize
     let Some(top) = instances.first() else {
         return 0;
     };
-    let Some(prepared) = module_at(library, top.definition) else {
+    let Some(prepared) = find_module(library, top.definition) else {
         return 0;
     };
     prepared.table.bits()

@@ -12,11 +12,11 @@ ghost use Rattle.elab_nets.specs.Turns.{AreThrough, AreUpTo, HasTurn, IsBegun, I
 use crate::Rows;
 use crate::members::add_member;
 use crate::own::add_own;
-use crate::parts::{module_at, row_of};
+use crate::parts::row_of;
 use elab_bits::Bit;
 use elab_hierarchy::{Definitions, Placed};
 use elab_model::ElabKind;
-use elab_modules::{Library, Prepared};
+use elab_modules::{Library, Prepared, find_module};
 use elab_variables::Table;
 use sg_circuit::NetId;
 use sg_text::Refused;
@@ -123,7 +123,7 @@ pub fn add_instance(
         → RefusesCount (length (nets definitions.now top)) r) }
 {
     let placed = &instances[number];
-    let Some(prepared) = module_at(library, placed.definition) else {
+    let Some(prepared) = find_module(library, placed.definition) else {
         return Ok(());
     };
     let number = number as u32;

@@ -12,7 +12,7 @@ use Rattle.elab_model.specs.Hierarchy.{Child, child_of, child_of_member, childre
 use Rattle.elab_model.specs.Members.{Member, assignment, supply, gate, instance, members}
 use Rattle.specify_model.specs.Blocks.{block_of}
 use Rattle.specify_model.specs.Faults.{blocks_in_hierarchy}
-use Rattle.elab_names.specs.Words.{first_of}
+use Rattle.elab_declared.specs.Words.{first_of}
 use Rattle.elab_variables.specs.Seen.{view_member}
 use Rattle.elab_variables.specs.declared.member_list.Member as code_member
 use Rattle.elab_paths.specs.OfModules.{is_child}

@@ -10,7 +10,7 @@ use Rattle.elab_model.specs.declared.kinds.ElabKind.TheVariants.{TooMany}
 use Rattle.elab_model.specs.Faults.{Fault, fault, RefusesOneOf}
 use Rattle.elab_model.specs.HierarchyFaults.{count_limit, start}
 use Rattle.circuit_model.specs.Faults.{over}
-use Rattle.elab_names.proofs.Refusals.{refused-left, refused-right}
+use Rattle.elab_declared.proofs.Refusals.{refused-left, refused-right}
 use Rattle.elab_numbering.specs.Refusals.{RefusesCount}
 use Rattle.elab_paths.specs.Uses.{RefusesUses}
 use Rattle.elab_paths.specs.declared.uses.PathUses.{PathUses}

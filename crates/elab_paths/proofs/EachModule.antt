@@ -32,7 +32,7 @@ use Rattle.elab_modules.proofs.Among.{in-mapped}
 use Rattle.elab_modules.proofs.Faulty.{refused-flat}
 use Rattle.elab_modules.proofs.Meeting.{places_of}
 use Rattle.elab_modules.proofs.Named.{module-same, one-place, place-of, placed-in}
-use Rattle.elab_modules.proofs.Precisions.{least-of_all}
+use Rattle.elab_laws.proofs.Precisions.{least-of_all}
 use Rattle.elab_modules.proofs.Stocking.{Parts, no-module}
 use Rattle.elab_paths.specs.Ready.{output_ready, IsReadyOutput, IsReadyOf, HasPaths, HavePaths}
 use Rattle.elab_paths.specs.Shelving.{IsLonger, AreRead}

@@ -45,6 +45,7 @@ kind-is t h (kind.Udp u d) n = refl
 kind-is t h (kind.Pass v) n = refl
 kind-is t h (kind.Leg i) n = ap (λ j. Leg (timings_at t.timings j)) n ∙ leg-is t.timings h
 kind-is t h (kind.Path span style) n = absurd n
+kind-is t h (kind.Late d) n = refl
 
 named-is : (t : Tables) → HasLegs t.timings → (k : ElementKind) → NamesPlaces t.gate_delays t.udps k → NamesTables t k
 named-is t h (kind.Gate g d) n = n
@@ -52,6 +53,7 @@ named-is t h (kind.Udp u d) n = n
 named-is t h (kind.Pass v) n = tt
 named-is t h (kind.Leg i) n = subst (λ j. j < length t.timings) (sym n) (slice_get_within t.timings 0 h.legs h.first)
 named-is t h (kind.Path span style) n = absurd n
+named-is t h (kind.Late d) n = tt
 
 -- ---- what elements drive
 

@@ -12,6 +12,7 @@ pub mod SoundConditions
 pub mod AddedPaths
 pub mod Counts
 pub mod Redirected
+pub mod Beside
 pub mod UsesSoFar
 pub mod InstanceUses
 pub mod OneByOne

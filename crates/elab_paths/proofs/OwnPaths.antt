@@ -15,7 +15,7 @@ use Rattle.specify_model.specs.Faults.{blocks_in_hierarchy, faults_by, specify_f
 use Rattle.specify_model.specs.Outputs.{measure, outputs_by}
 use Rattle.circuit_model.specs.Faults.{module_path_faults}
 use Rattle.elab_laws.specs.Handing.{all_bits}
-use Rattle.elab_names.proofs.Refusals.{refused-left, refused-right}
+use Rattle.elab_declared.proofs.Refusals.{refused-left, refused-right}
 use Rattle.specify_paths.specs.Seen.{outputs_seen, IsInRow}
 use Rattle.specify_paths.specs.declared.outputs.PathOutputs.{PathOutputs}
 use Rattle.elab_paths.specs.Ready.{output_ready, IsReadyOutput}

@@ -29,12 +29,13 @@ use Rattle.elab_nets.proofs.RowParts.{part-grown, part-behind}
 use Rattle.elab_elements.specs.Adding.{IsHere}
 use Rattle.specify_paths.specs.Seen.{bit_seen}
 use Rattle.elab_paths.specs.Ready.{path_ready, output_ready, IsReadyPath, IsReadyOutput}
-use Rattle.elab_paths.specs.Uses.{IsRow, AddsUse, AreUses}
+use Rattle.elab_paths.specs.Uses.{IsRow, AddsUse, AreBeside, AreUses}
 use Rattle.elab_paths.specs.declared.shelving.ReadyOutput.{ReadyOutput}
 use Rattle.elab_paths.specs.declared.shelving.ReadyPath.{ReadyPath}
 use Rattle.elab_paths.specs.declared.uses.PathUse.{PathUse}
 use Rattle.elab_paths.specs.declared.uses.PathUses.{PathUses}
 use Rattle.elab_paths.proofs.AddedPaths.{net-in-row}
+use Rattle.elab_paths.proofs.Beside.{beside-more}
 
 -- none yet
 pub uses-none : (conditions : List Condition) (timings : List LegTiming) (made : PathUses) → made.uses.items ≡ [] → made.inner.items ≡ [] → made.paths.items ≡ [] → AreUses conditions timings made []
@@ -47,6 +48,7 @@ uses-none conditions timings made u i p =
       paths = ap (map (λ u. paths_seen conditions timings (spanned made.paths.items u.paths))) u;
       styles = ap (map (λ u. u.style)) u;
       spans = subst (AllByRecursion (λ u. AreIndexedPaths (length conditions) (length timings) made.paths.items u.paths)) (sym u) tt;
+      beside = subst AreBeside (sym u) tt;
       count = ap length p;
     }
 
@@ -142,6 +144,9 @@ one-more conditions timings all source s scope vs row o old new us here ready h 
             },
             tt,
           ));
+      beside = subst AreBeside (sym k.uses)
+          (beside-more old.uses.items k.added h.beside
+          (all-weaker (P old.paths.items) (λ u. u.paths.end ≤ k.added.paths.start) old.uses.items (λ u q. (let w = q.within in let s = k.start_is in omega (arith, w, s))) h.spans));
       count = long ∙ ap (λ n. n + length more) h.count ∙ ap (λ n. length (flat_map (λ u. u.paths) us) + n) (count ∙ sym (ap length (append-nil made.paths)))
           ∙ sym (ap length (flat_map-append (λ u. u.paths) us (made ∷ [])) ∙ length-append (flat_map (λ u. u.paths) us) (made.paths ++ []));
     }

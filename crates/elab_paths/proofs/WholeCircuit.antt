@@ -34,6 +34,7 @@ use Rattle.elab_paths.specs.declared.joining.Joined.{Joined}
 use Rattle.elab_paths.specs.declared.modules.ModulePaths.{ModulePaths}
 use Rattle.elab_paths.specs.declared.uses.PathUse.{PathUse}
 use Rattle.elab_paths.specs.declared.uses.PathUses.{PathUses}
+use Rattle.elab_paths.proofs.Beside.{second-of, elements-apart}
 use Rattle.elab_paths.proofs.JoinedElements.{mapped-twice, HasLegs, AreSame, redirected-seen, wired_with, paths-seen, elements-seen, elements-named}
 
 -- ---- what is given
@@ -48,10 +49,6 @@ has-legs : (source : Source) (top : Module) (corner : Corner) (library : Library
 has-legs source top corner library modules placed rows made h = record { legs = h.legs; first = h.have_paths.first; without_delay = h.without_delay }
 
 -- ---- all elements, as lists
-
-second-of : {A B : Type 0} (f : A → B) (a : ℕ) (xs : List A) → map (λ x. f x.1) (enumerate_from a xs) ≡ map f xs
-second-of f a [] = refl
-second-of f a (x ∷ xs) = ap (λ ys. f x ∷ ys) (second-of f (a + 1) xs)
 
 length-numbered : {A : Type 0} (a : ℕ) (xs : List A) → length (enumerate_from a xs) ≡ length xs
 length-numbered a [] = refl
@@ -183,6 +180,7 @@ module _ (source : Source) (top : Module) (corner : Corner) (library : Library) 
       elements = seen;
       named = elements-named tables (length rows.nets.items) made.uses.items old.elements.items mid new.elements.items legs given.are_elements.named
           (subst (λ ps. AllByRecursion (λ u. AreIndexedPaths (length modules.conditions.items) (length modules.timings.items) ps u.paths) made.uses.items) (sym paths) uses.spans) redirects elements;
+      apart = elements-apart library.gate_delays.items library.udps.items (length rows.nets.items) made.uses.items old.elements.items mid new.elements.items given.are_elements.named uses.beside redirects elements;
     }
 
 -- and so from what the calls say of copies of these lists

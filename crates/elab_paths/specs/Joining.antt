@@ -1,10 +1,10 @@
 -- What stands before and after the paths of all instances have been put in.
-use Rattle.std.specs.Prelude.{◌≡◌, ◌<◌, ◌≤◌, List, ◌++◌, length, map}
+use Rattle.std.specs.Prelude.{◌≡◌, ℕ, ◌<◌, ◌≤◌, List, ◌++◌, length, map, slice_index_or}
 use Rattle.std.specs.List.{AllByRecursion}
 use Rattle.cond_expr.specs.Condition.{Condition}
-use Rattle.sg_circuit.specs.Circuit.{Element, Kind, Gate, Udp, Pass, Leg, Path}
+use Rattle.sg_circuit.specs.Circuit.{Element, Kind, Gate, Udp, Pass, Leg, Path, Late}
 use Rattle.sg_circuit.specs.PathsSeen.{paths_seen, spanned, AreIndexedPaths}
-use Rattle.sg_circuit.specs.Seen.{delays_at, udp_at}
+use Rattle.sg_circuit.specs.Seen.{delays_at, udp_at, paths_of, AreApart}
 use Rattle.sg_circuit.specs.TimingsSeen.{leg_timing_seen, timings_at}
 use Rattle.sg_circuit.specs.declared.elements.Element as code
 use Rattle.sg_circuit.specs.declared.elements.ElementKind.{ElementKind}
@@ -67,6 +67,7 @@ kind_with t (kind.Udp u d) = Udp (udp_at t.udps u).rows (udp_at t.udps u).first 
 kind_with t (kind.Pass v) = Pass v
 kind_with t (kind.Leg i) = Leg (timings_at t.timings i)
 kind_with t (kind.Path span style) = Path (paths_seen t.conditions t.timings (spanned t.paths span)) style
+kind_with t (kind.Late d) = Late d
 
 abbrev pub element_with : Tables → code.Element → Element
 element_with t e = record { scope = e.scope; inputs = e.inputs.items; output = e.output; kind = kind_with t e.kind }
@@ -77,6 +78,7 @@ NamesTables t (kind.Udp u d) = (u < length t.udps) × (d < length t.gate_delays)
 NamesTables t (kind.Pass v) = Unit {0}
 NamesTables t (kind.Leg i) = i < length t.timings
 NamesTables t (kind.Path span style) = AreIndexedPaths (length t.conditions) (length t.timings) t.paths span
+NamesTables t (kind.Late d) = Unit {0}
 
 -- the nets, and what the elements drive, with the paths; there aren't too many
 pub record HaveNumbers (source : Source) (top : Module) (corner : Corner) (rows : Rows) (joined : Joined) (made : Placing) : Type 0 where
@@ -87,11 +89,13 @@ pub record HaveNumbers (source : Source) (top : Module) (corner : Corner) (rows 
   pub few_elements : length (all_elements source top corner) ≤ count_limit
   pub few_paths : path_count source top corner ≤ count_limit
 
--- and the elements themselves
+-- and the elements themselves, of which no two have a path in common
 pub record AreJoined (source : Source) (top : Module) (corner : Corner) (library : Library) (modules : ModulePaths) (rows : Rows) (joined : Joined) (made : Placing) : Type 0 where
   pub numbers : HaveNumbers source top corner rows joined made
   pub elements : map (element_with (tables_of library modules joined)) made.elements.items ≡ map (λ e. e.1) (all_elements source top corner)
   pub named : AllByRecursion (λ e. NamesTables (tables_of library modules joined) e.kind) made.elements.items
+  pub apart : (i j : ℕ) (d : code.Element) → i < j → j < length made.elements.items
+      → AreApart (paths_of (slice_index_or made.elements.items i d).kind) (paths_of (slice_index_or made.elements.items j d).kind)
 
 -- what is refused for its number
 abbrev pub counts_over : Source → Module → Corner → List Fault

@@ -6,7 +6,6 @@ use Rattle.cond_expr.specs.Token.{Tok}
 use Rattle.cond_expr.specs.declared.tokens.Tok.TheVariants.{Name}
 use Rattle.sg_circuit.specs.PathsSeen.{paths_seen, spanned, IsIndexedPath, AreIndexedPaths}
 use Rattle.sg_circuit.specs.declared.elements.LegTiming.{LegTiming}
-use Rattle.sg_circuit.specs.declared.nets.Net.{Net}
 use Rattle.sg_circuit.specs.declared.paths.Path.{Path}
 use Rattle.sg_text.specs.declared.places.Place.{Place}
 use Rattle.sg_text.specs.declared.refusals.Refused.{Refused}
@@ -81,6 +80,11 @@ pub record AddsUse (conditions : List Condition) (vs : List Variable) (row : Lis
   pub end_is : added.paths.end ≡ length new.paths.items
   pub style_is : added.style ≡ o.style
 
+-- the paths of each use end before those of later ones start
+abbrev pub AreBeside : List PathUse → Type 0
+AreBeside [] = Unit {0}
+AreBeside (u ∷ us) = AllByRecursion (λ v. u.paths.end ≤ v.paths.start) us × AreBeside us
+
 -- the uses are these, with their inner nets and their paths
 pub record AreUses (conditions : List Condition) (timings : List LegTiming) (made : PathUses) (us : List def.PathUse) : Type 0 where
   pub scopes : map (λ u. u.scope) made.uses.items ≡ map (λ u. u.scope) us
@@ -90,6 +94,7 @@ pub record AreUses (conditions : List Condition) (timings : List LegTiming) (mad
   pub paths : map (λ u. paths_seen conditions timings (spanned made.paths.items u.paths)) made.uses.items ≡ map (λ u. u.paths) us
   pub styles : map (λ u. u.style) made.uses.items ≡ map (λ u. u.style) us
   pub spans : AllByRecursion (λ u. AreIndexedPaths (length conditions) (length timings) made.paths.items u.paths) made.uses.items
+  pub beside : AreBeside made.uses.items
   pub count : length made.paths.items ≡ length (flat_map (λ u. u.paths) us)
 
 -- ---- how many there are

@@ -13,8 +13,6 @@ ghost use Rattle.circuit_model.specs.PathUses as def;
 ghost use Rattle.specify_model.specs.Terms.{NetBit};
 ghost use Rattle.elab_laws.specs.Handing.{all_bits};
 ghost use Rattle.elab_hierarchy.specs.declared.instances.Placed as ghost_placed;
-ghost use Rattle.elab_modules.specs.declared.library.Ready.TheVariants as ghost_ready;
-ghost use Rattle.elab_modules.specs.declared.prepared.Prepared as ghost_prepared;
 ghost use Rattle.elab_nets.specs.Rows.{part_of};
 ghost use Rattle.elab_elements.specs.Adding.{IsHere};
 ghost use Rattle.elab_elements.specs.Puts.{wired};
@@ -32,7 +30,7 @@ use cond_expr::Expr;
 use elab_elements::Placing;
 use elab_hierarchy::Placed;
 use elab_model::ElabKind;
-use elab_modules::{Library, Prepared, Ready};
+use elab_modules::{Library, module_at};
 use elab_nets::Rows;
 use sg_circuit::{Element, ElementKind, Net, NetId, Path};
 use sg_text::{NoMemory, Refused};
@@ -44,20 +42,6 @@ use std::alloc::Global;
 pub struct Joined {
     pub inner: Vec<Net>,
     pub paths: Vec<Path>,
-}
-
-/// The module at a place of the definitions, which stands ready there.
-pub fn module_at<'l, 't, 'a>(
-    library: &'l Library<'t, 'a>,
-    definition: usize,
-) -> &'l Prepared<'t, 'a>
-    requires { (q : ghost_prepared.Prepared) × (slice_get library.now.parts.items definition ≡ Some (Some (ghost_ready.Module q))) }
-    ensures { slice_get library.now.parts.items definition ≡ Some (Some (ghost_ready.Module result.now)) }
-{
-    match &library.parts[definition] {
-        Some(Ready::Module(prepared)) => prepared,
-        _ => unreachable!(),
-    }
 }
 
 fn outputs_at(modules: &ModulePaths, definition: usize) -> &[ReadyOutput]

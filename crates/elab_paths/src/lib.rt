@@ -9,7 +9,7 @@ mod redirecting;
 mod shelving;
 mod uses;
 
-pub use joining::{Joined, add_paths, module_at, row_of};
+pub use joining::{Joined, add_paths, row_of};
 pub use limit::check_count;
 pub use modules::{ModulePaths, module_paths};
 pub use operands::Operands;

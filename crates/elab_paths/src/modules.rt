@@ -10,7 +10,7 @@ ghost use Rattle.elab_model.specs.Hierarchy as def;
 ghost use Rattle.elab_model.specs.HierarchyFaults.{two_definitions};
 ghost use Rattle.specify_model.specs.Blocks.{block_of};
 ghost use Rattle.specify_model.specs.Faults.{blocks_in_hierarchy};
-ghost use Rattle.elab_names.specs.Words.{first_of};
+ghost use Rattle.elab_declared.specs.Words.{first_of};
 ghost use Rattle.elab_variables.specs.Seen.{view_member};
 ghost use Rattle.elab_hierarchy.specs.Placing.{ArePlaced};
 ghost use Rattle.elab_hierarchy.specs.Tops.{StandsAt};

@@ -1,8 +1,6 @@
 // The path uses of instances: output bits to which paths lead, each with its inner net, its element and its paths over nets.
 ghost use Rattle.std.specs.Prelude.{◌≡◌, ◌<◌, ◌≤◌, ◌+◌, ◌^◌, ℕ, All, [], ◌∷◌, IfOk, OnOk, IfErr, length};
-ghost use Rattle.sg_circuit.specs.Closed.{width_of};
 ghost use Rattle.sg_circuit.specs.PathsSeen.{condition_seen, IsIndexedCondition};
-ghost use Rattle.elab_model.specs.Bits.{index_at};
 ghost use Rattle.specify_model.specs.Paths.{circuit_condition};
 ghost use Rattle.specify_model.specs.Terms.{NetBit};
 ghost use Rattle.elab_laws.specs.Handing.{all_bits};
@@ -16,9 +14,10 @@ use crate::limit::check_count;
 use crate::operands::Operands;
 use crate::shelving::{ReadyCondition, ReadyOutput, ReadyPath};
 use cond_expr::{BindFault, Expr};
+use elab_bits::index_at;
 use elab_model::ElabKind;
 use elab_variables::Table;
-use sg_circuit::{Driver, Net, NetId, Path, PathCondition, Range, Span};
+use sg_circuit::{Driver, Net, NetId, Path, PathCondition, Span};
 use sg_delay::PulseStyle;
 use sg_text::{NoMemory, Place, Refused, Text};
 use std::alloc::Global;
@@ -124,20 +123,6 @@ fn add_all_paths(
         start,
         end: paths.len() as u32,
     })
-}
-
-// The index of the bit at a position from the left; a scalar has none.
-fn index_at(range: Option<Range>, position: usize) -> Option<i64>
-    requires within { position < width_of range }
-    requires wide { width_of range ≤ 65536 }
-    ensures { result ≡ index_at range position }
-{
-    let range = range?;
-    let step = position as i64;
-    if range.left <= range.right {
-        return Some(range.left + step);
-    }
-    Some(range.left - step)
 }
 
 // The inner net has the name of the output's bit.

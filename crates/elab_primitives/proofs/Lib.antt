@@ -1,6 +1,7 @@
 -- The modules of this folder.
 mod Among
 mod Cuts
+mod FewDelays
 mod SameFaults
 mod Tables
 mod TooLong

@@ -12,7 +12,7 @@ use Rattle.elab_model.specs.Faults.{Fault, fault, duplicates, missing}
 use Rattle.elab_model.specs.Hierarchy.{is_empty}
 use Rattle.elab_model.specs.Primitives.{outputs, inputs, regs, is_sequential}
 use Rattle.elab_model.specs.PrimitiveFaults.{wrong_directions, wrong_regs, is_in, initial_names}
-use Rattle.elab_names.proofs.Refusals.{none-found, some-found}
+use Rattle.elab_declared.proofs.Refusals.{none-found, some-found}
 
 pub none-in_both : (fs gs : List Fault) → fs ≡ [] → gs ≡ [] → fs ++ gs ≡ []
 none-in_both fs gs e h = ap (λ xs. xs ++ gs) e ∙ h

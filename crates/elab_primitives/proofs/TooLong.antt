@@ -1,5 +1,5 @@
 -- Delays that no gate may have are refused.
-use Rattle.std.specs.Prelude.{◌≡◌, ℤ, Bool, true, ◌||◌, Option, Some, nat_lt, map, length, refl}
+use Rattle.std.specs.Prelude.{◌≡◌, ℕ, ℤ, Bool, true, ◌||◌, Option, Some, nat_lt, map, length, refl}
 use Rattle.std.specs.List.{IsAmong, list_any}
 use Rattle.std.proofs.Common.{sym, ◌∙◌, ap, arith, subst}
 use Rattle.std.proofs.lemmas.List.{length-map}
@@ -15,10 +15,10 @@ use Rattle.elab_primitives.specs.Delays.{are_refused, is_too_long}
 among-true : (b : Bool) (d : Delay) → b ≡ true → IsAmong (fault_if b BadDelay d.place) (fault BadDelay d.place)
 among-true b d h = subst (λ t. IsAmong (fault_if t BadDelay d.place) (fault BadDelay d.place)) (sym h) (0, (omega arith, refl))
 
-pub too-long : (corner : Corner) (tick : ℤ) (m : Module) (s : Timescale) (o : Option Delay) (d : Delay) → o ≡ Some d → m.settings.scale ≡ s
-    → are_refused (map (ticks_of corner tick s) d.values) ≡ true → IsAmong (delay_faults corner tick m o) (fault BadDelay d.place)
-too-long corner tick m s o d e is h =
-    let g : are_refused (map (ticks_of corner tick m.settings.scale) d.values) ≡ true = subst (λ t. are_refused (map (ticks_of corner tick t) d.values) ≡ true) (sym is) h in
-    let f : (nat_lt 2 (length d.values) || list_any is_too_long (map (ticks_of corner tick m.settings.scale) d.values)) ≡ true =
-    ap (λ n. nat_lt 2 n || list_any is_too_long (map (ticks_of corner tick m.settings.scale) d.values)) (sym (length-map d.values (ticks_of corner tick m.settings.scale))) ∙ g in
-    subst (λ x. IsAmong (delay_faults corner tick m x) (fault BadDelay d.place)) (sym e) (among-true _ d f)
+pub too-long : (most : ℕ) (corner : Corner) (tick : ℤ) (m : Module) (s : Timescale) (o : Option Delay) (d : Delay) → o ≡ Some d → m.settings.scale ≡ s
+    → are_refused most (map (ticks_of corner tick s) d.values) ≡ true → IsAmong (delay_faults most corner tick m o) (fault BadDelay d.place)
+too-long most corner tick m s o d e is h =
+    let g : are_refused most (map (ticks_of corner tick m.settings.scale) d.values) ≡ true = subst (λ t. are_refused most (map (ticks_of corner tick t) d.values) ≡ true) (sym is) h in
+    let f : (nat_lt most (length d.values) || list_any is_too_long (map (ticks_of corner tick m.settings.scale) d.values)) ≡ true =
+    ap (λ n. nat_lt most n || list_any is_too_long (map (ticks_of corner tick m.settings.scale) d.values)) (sym (length-map d.values (ticks_of corner tick m.settings.scale))) ∙ g in
+    subst (λ x. IsAmong (delay_faults most corner tick m x) (fault BadDelay d.place)) (sym e) (among-true _ d f)

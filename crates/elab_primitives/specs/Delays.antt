@@ -6,5 +6,5 @@ use Rattle.elab_model.specs.TerminalFaults.{delay_limit}
 abbrev pub is_too_long : ℕ → Bool
 is_too_long ticks = nat_le delay_limit ticks
 
-abbrev pub are_refused : List ℕ → Bool
-are_refused ticks = nat_lt 2 (length ticks) || list_any is_too_long ticks
+abbrev pub are_refused : (most : ℕ) → List ℕ → Bool
+are_refused most ticks = nat_lt most (length ticks) || list_any is_too_long ticks

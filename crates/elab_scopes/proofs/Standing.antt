@@ -5,7 +5,7 @@ use Rattle.std.proofs.Common.{sym, ◌∙◌, ap, subst, inl, arith}
 use Rattle.std.proofs.lemmas.List.{get_or-map, get_or_at, length-append}
 use Rattle.std.proofs.lemmas.List.FromFn.{get_or-range_with_len}
 use Rattle.sg_delay.specs.declared.corners.Corner.{Corner}
-use Rattle.vl_tree.specs.Tree.{Module, Source, a_module, a_primitive}
+use Rattle.vl_tree.specs.Tree.{Module, Source}
 use Rattle.elab_model.specs.Hierarchy.{Instance, instances}
 use Rattle.elab_model.specs.HierarchyFaults.{self_instances, too_deep, first_too_many, count_limit}
 use Rattle.elab_model.specs.Names.{variables}
@@ -17,56 +17,17 @@ use Rattle.elab_laws.proofs.NoFaults.{front, back, flat-empty}
 use Rattle.elab_laws.proofs.Stated.{instances-have_places}
 use Rattle.elab_hierarchy.specs.declared.instances.Placed.{Placed}
 use Rattle.elab_hierarchy.specs.Placing.{tree_faults_at, tree_faults}
-use Rattle.elab_hierarchy.specs.Tops.{StandsAt}
 use Rattle.elab_modules.specs.declared.library.Library.{Library}
-use Rattle.elab_modules.specs.declared.library.Ready as code_ready
-use Rattle.elab_modules.specs.declared.library.Ready.TheVariants as ready
-use Rattle.elab_modules.specs.Ready.{IsPrepared, IsReady, AreReady}
+use Rattle.elab_modules.specs.declared.prepared.Prepared.{Prepared}
+use Rattle.elab_modules.specs.Finding.{module_at}
+use Rattle.elab_modules.specs.Ready.{IsPrepared}
 use Rattle.elab_modules.specs.Reached.{IsReached}
+use Rattle.elab_modules.proofs.FoundModules.{is-found, is-prepared}
 use Rattle.elab_nets.specs.declared.rows.Rows.{Rows}
 use Rattle.elab_nets.specs.Rows.{part_of}
 use Rattle.elab_scopes.specs.declared.here.Here.{Here}
-use Rattle.elab_scopes.specs.Here.{Stands, IsModule, IsHere}
+use Rattle.elab_scopes.specs.Here.{Stands, IsHere}
 use Rattle.elab_scopes.proofs.PlacedAt.{PlacedAt}
-
-same-module : (m n : Module) → ◌≡◌ {A = Option _} (Some (a_module m)) (Some (a_module n)) → m ≡ n
-same-module m n e = cc
-
-ready-is : (source : Source) (place : ℕ) (m : Module) (r : code_ready.Ready) → StandsAt source place m → IsReady source place (Some r) → IsModule m r
-ready-is source place m (ready.Module p) e (n, f, h) = subst (IsPrepared p) (same-module n m (sym f ∙ e)) h
-ready-is source place m (ready.Primitive k) e (p, f, h) = let g : ◌≡◌ {A = Option _} (Some (a_module m)) (Some (a_primitive p)) = sym e ∙ f in cc
-
--- what the library has at the place of an instance's module
-pub ready-of : (source : Source) (top : Module) (corner : Corner) (library : Library) (s : Instance) (place : ℕ) (r : Option code_ready.Ready) → AreReady source library.parts.items
-    → IsReached source corner top library s → StandsAt source place s.step.definition → slice_get library.parts.items place ≡ Some r
-    → (k : code_ready.Ready) × (r ≡ Some k) × IsModule s.step.definition k
-ready-of source top corner library s place r l i e g =
-    let (k, f) = (i.stands place e).ready in
-    let same : ◌≡◌ {A = Option _} (Some r) (Some (Some k)) = sym g ∙ f in
-    let here : r ≡ Some k = cc in
-    (k, here, ready-is source place s.step.definition k e (l.1 place (Some k) f))
-
-pub module-found : (source : Source) (top : Module) (corner : Corner) (library : Library) (s : Instance) (place : ℕ) (r : Option code_ready.Ready) (k : code_ready.Ready)
-    → AreReady source library.parts.items → IsReached source corner top library s → StandsAt source place s.step.definition → slice_get library.parts.items place ≡ Some r → r ≡ Some k → IsModule s.step.definition k
-module-found source top corner library s place r k l i e g w =
-    let (j, f, h) = ready-of source top corner library s place r l i e g in
-    let same : ◌≡◌ {A = Option _} (Some j) (Some k) = sym f ∙ w in
-    let own : j ≡ k = cc in
-    subst (IsModule s.step.definition) own h
-
-pub not-none : (source : Source) (top : Module) (corner : Corner) (library : Library) (s : Instance) (place : ℕ) (r : Option code_ready.Ready) → AreReady source library.parts.items
-    → IsReached source corner top library s → StandsAt source place s.step.definition → slice_get library.parts.items place ≡ Some r → r ≡ None → ⊥
-not-none source top corner library s place r l i e g w =
-    let (k, f, h) = ready-of source top corner library s place r l i e g in
-    let same : ◌≡◌ {A = Option _} (Some k) None = sym f ∙ w in
-    cc
-
-pub none-past : (source : Source) (top : Module) (corner : Corner) (library : Library) (s : Instance) (place : ℕ) → AreReady source library.parts.items
-    → IsReached source corner top library s → StandsAt source place s.step.definition → slice_get library.parts.items place ≡ None → ⊥
-none-past source top corner library s place l i e g =
-    let (k, f) = (i.stands place e).ready in
-    let same : ◌≡◌ {A = Option _} None (Some (Some k)) = sym g ∙ f in
-    cc
 
 -- ---- an element of the code's list
 
@@ -98,6 +59,18 @@ not-too_deep source top ss i p r e t =
     let own = flat_map (tree_faults_at source) (instances source top) in
     let each = flat-empty (tree_faults_at source) (instances source top) (front own (first_too_many (drop count_limit (instances source top))) t) in
     back (self_instances source r.own) (too_deep source r.own) (all-in (λ t. tree_faults_at source t ≡ []) r.own (instances source top) each there)
+
+-- a module stands ready at its place
+pub module-missing : (source : Source) (top : Module) (corner : Corner) (library : Library) (rows : Rows) (ss : List Instance) (all : List OwnNet) (number : ℕ) (p : Placed) (s : Instance)
+    → Stands source top corner library rows ss all number p s → module_at (slice_get library.parts.items p.definition) ≡ None → ⊥
+module-missing source top corner library rows ss all number p s st e =
+    let reached = is-reached source top corner library rows ss all number p s st in
+    is-found source library.parts.items p.definition s.step.definition st.are_read.is_ready.ready st.is_placed.definition (reached.stands p.definition st.is_placed.definition).ready e
+
+pub module-ready : (source : Source) (top : Module) (corner : Corner) (library : Library) (rows : Rows) (ss : List Instance) (all : List OwnNet) (number : ℕ) (p : Placed) (s : Instance) (q : Prepared)
+    → Stands source top corner library rows ss all number p s → module_at (slice_get library.parts.items p.definition) ≡ Some q → IsPrepared q s.step.definition
+module-ready source top corner library rows ss all number p s q st e =
+    is-prepared source library.parts.items p.definition s.step.definition q st.are_read.is_ready.ready st.is_placed.definition e
 
 -- the row that the code cuts out
 pub row-found : (source : Source) (top : Module) (corner : Corner) (library : Library) (rows : Rows) (ss : List Instance) (all : List OwnNet) (number start count : ℕ) (p : Placed) (s : Instance)

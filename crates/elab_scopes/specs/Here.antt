@@ -1,6 +1,5 @@
 -- What stands ready of an instance: its module, and the numbers of the nets of its bits.
 use Rattle.std.specs.Prelude.{◌≡◌, ℕ, List, ◌∷◌, ◌++◌, Option, Some, None, length, map}
-use Rattle.std.specs.Borrow.{Bor}
 use Rattle.sg_delay.specs.declared.corners.Corner.{Corner}
 use Rattle.vl_tree.specs.Tree.{Module, Source}
 use Rattle.elab_model.specs.Hierarchy.{Instance, instances}
@@ -10,9 +9,6 @@ use Rattle.elab_laws.specs.Handing.{all_bits, number_at}
 use Rattle.elab_hierarchy.specs.declared.instances.Placed.{Placed}
 use Rattle.elab_hierarchy.specs.Placing.{IsPlaced}
 use Rattle.elab_modules.specs.declared.library.Library.{Library}
-use Rattle.elab_modules.specs.declared.library.Ready.{Ready}
-use Rattle.elab_modules.specs.declared.library.Ready.TheVariants as ready
-use Rattle.elab_modules.specs.declared.prepared.Prepared.{Prepared}
 use Rattle.elab_modules.specs.Ready.{IsPrepared}
 use Rattle.elab_modules.specs.Reached.{IsLibrary}
 use Rattle.elab_nets.specs.declared.rows.Rows.{Rows}
@@ -34,15 +30,6 @@ pub record Stands (source : Source) (top : Module) (corner : Corner) (library : 
   pub after : List Instance
   pub there : ss ≡ before ++ s ∷ after
   pub count : number ≡ length before
-
--- what stands ready is this module
-abbrev pub IsModule : Module → Ready → Type 0
-IsModule m (ready.Module p) = IsPrepared p m
-IsModule m (ready.Primitive k) = ⊥
-
-abbrev pub IsReadyOf : Module → Option (Bor Prepared) → Type 0
-IsReadyOf m None = ⊥
-IsReadyOf m (Some p) = IsPrepared p.now m
 
 pub record IsHere (all : List OwnNet) (source : Source) (s : Instance) (h : Here) : Type 0 where
   pub prepared : IsPrepared h.prepared.now s.step.definition

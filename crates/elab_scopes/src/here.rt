@@ -4,14 +4,11 @@ ghost use Rattle.sg_delay.specs.declared.corners.Corner as ghost_corner;
 ghost use Rattle.vl_tree.specs.Tree.{Module, Source};
 ghost use Rattle.elab_model.specs.Hierarchy.{Instance};
 ghost use Rattle.elab_model.specs.Nets.{OwnNet};
-ghost use Rattle.elab_hierarchy.specs.Tops.{StandsAt};
-ghost use Rattle.elab_modules.specs.Ready.{AreReady};
-ghost use Rattle.elab_modules.specs.Reached.{IsReached};
 ghost use Rattle.elab_nets.specs.Rows.{part_of};
-ghost use Rattle.elab_scopes.specs.Here.{Stands, IsModule, IsReadyOf, StandsHere};
+ghost use Rattle.elab_scopes.specs.Here.{Stands, StandsHere};
 
 use elab_hierarchy::Placed;
-use elab_modules::{Library, Prepared, Ready};
+use elab_modules::{Library, Prepared, find_module};
 use elab_nets::Rows;
 use sg_circuit::NetId;
 
@@ -32,34 +29,12 @@ pub fn here_at<'l, 't, 'a>(
     ensures { (source : Source) (top : Module) (corner : ghost_corner.Corner) (ss : List Instance) (all : List OwnNet) (s : Instance)
         → Stands source top corner library.now rows.now ss all number placed.now s → StandsHere all source s result }
 {
-    let prepared = module_at(library, placed.definition)?;
+    let prepared = find_module(library, placed.definition)?;
     let start = *rows.starts.get(number)?;
     Some(Here {
         prepared,
         row: part(&rows.inner, start, prepared.table.bits()),
     })
-}
-
-fn module_at<'l, 't, 'a>(
-    library: &'l Library<'t, 'a>,
-    definition: usize,
-) -> Option<&'l Prepared<'t, 'a>>
-    ensures { (source : Source) (top : Module) (corner : ghost_corner.Corner) (s : Instance) → AreReady source library.now.parts.items → IsReached source corner top library.now s
-        → StandsAt source definition s.step.definition → IsReadyOf s.step.definition result }
-{
-    match library.parts.get(definition)? {
-        Some(ready) => module_in(ready),
-        None => None,
-    }
-}
-
-fn module_in<'l, 't, 'a>(ready: &'l Ready<'t, 'a>) -> Option<&'l Prepared<'t, 'a>>
-    ensures { (m : Module) → IsModule m ready.now → IsReadyOf m result }
-{
-    match ready {
-        Ready::Module(prepared) => Some(prepared),
-        Ready::Primitive(_) => None,
-    }
 }
 
 /// So many nets of a row, from a place on, as far as it goes.

@@ -8,8 +8,8 @@ ghost use Rattle.elab_variables.specs.Seen.{place_named};
 ghost use Rattle.elab_modules.specs.Ready.{IsPrepared};
 ghost use Rattle.elab_scopes.specs.Driven.{declared_place, place_in};
 
+use elab_declared::port_declarations;
 use elab_modules::Prepared;
-use elab_names::port_declarations;
 use elab_variables::Table;
 use sg_text::{NoMemory, Place};
 use std::alloc::Global;

@@ -26,8 +26,8 @@ use Rattle.vl_tree.specs.Tree.{Named, Expression, NetName, Join}
 use Rattle.elab_model.specs.Members.{assignment, supply, gate, instance, assignment_to, connection_values, members_of_item}
 use Rattle.elab_model.specs.Names.{variable_names, whole_names}
 use Rattle.elab_model.specs.Ports.{port_list, net_declarations}
-use Rattle.elab_names.specs.declared.nets.NetDeclaration as code_declaration
-use Rattle.elab_names.specs.Words.{view_net}
+use Rattle.elab_declared.specs.declared.nets.NetDeclaration as code_declaration
+use Rattle.elab_declared.specs.Words.{view_net}
 use Rattle.elab_variables.specs.Naming.{key_texts, with_names, names_in, names_at_net, names_of_member, names_where}
 use Rattle.elab_variables.proofs.WithNames.{with-none, with-both, all-new}
 

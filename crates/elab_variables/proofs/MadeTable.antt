@@ -12,8 +12,8 @@ use Rattle.elab_model.specs.Faults.{Fault}
 use Rattle.elab_model.specs.Names.{variables, variable_names}
 use Rattle.elab_model.specs.NameFaults.{declaration_faults, name_faults, twice_in_list, two_directions, two_nets, two_instances, no_port, no_direction, two_ranges, too_wide}
 use Rattle.elab_model.specs.Ports as model
-use Rattle.elab_names.specs.declared.nets.NetDeclaration.{NetDeclaration}
-use Rattle.elab_names.specs.Words.{view_net}
+use Rattle.elab_declared.specs.declared.nets.NetDeclaration.{NetDeclaration}
+use Rattle.elab_declared.specs.Words.{view_net}
 use Rattle.elab_variables.specs.declared.tables.Row.{Row}
 use Rattle.elab_variables.specs.Naming.{key_texts}
 use Rattle.elab_variables.specs.Rows.{rows_said, placed, bit_count}

@@ -17,8 +17,8 @@ use Rattle.elab_model.specs.Names.{bounds}
 use Rattle.elab_model.specs.NameFaults.{RangeText, port_range, net_range, range_texts, too_wide, width_limit}
 use Rattle.elab_model.specs.Ports as model
 use Rattle.elab_model.specs.declared.kinds.ElabKind.TheVariants.{TooMany}
-use Rattle.elab_names.specs.declared.nets.NetDeclaration.{NetDeclaration}
-use Rattle.elab_names.specs.Words.{view_net}
+use Rattle.elab_declared.specs.declared.nets.NetDeclaration.{NetDeclaration}
+use Rattle.elab_declared.specs.Words.{view_net}
 use Rattle.elab_variables.specs.Rows.{blank, said_by, net_said, port_said, row_said, rows_said}
 
 abbrev IsNarrow : RangeText → Type 0

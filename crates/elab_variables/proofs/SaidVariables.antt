@@ -18,8 +18,8 @@ use Rattle.elab_model.specs.Names.{Variable, variable, variables, variable_names
 use Rattle.elab_model.specs.Ports as model
 use Rattle.elab_model.specs.NameFaults.{declared_ports, no_port}
 use Rattle.elab_model.specs.declared.kinds.ElabKind.TheVariants.{UnknownName}
-use Rattle.elab_names.specs.declared.nets.NetDeclaration.{NetDeclaration}
-use Rattle.elab_names.specs.Words.{view_net}
+use Rattle.elab_declared.specs.declared.nets.NetDeclaration.{NetDeclaration}
+use Rattle.elab_declared.specs.Words.{view_net}
 use Rattle.elab_variables.specs.Naming.{key_texts}
 use Rattle.elab_variables.specs.Rows.{blank, said_by, net_said, port_said, row_said, rows_said, placed}
 use Rattle.elab_variables.specs.Tables.{variable_seen, variables_seen}

@@ -8,7 +8,7 @@ use Rattle.std.proofs.lemmas.Map.Keys.{IsDistinct-head, IsDistinct-tail}
 use Rattle.std.proofs.lemmas.List.Quantifiers.{position-Some}
 use Rattle.std.proofs.lemmas.Slice.Eq.{bytes_eq-Decides}
 use Rattle.elab_laws.proofs.Apart.{bytes-either}
-use Rattle.elab_names.specs.declared.nets.NetDeclaration.{NetDeclaration}
+use Rattle.elab_declared.specs.declared.nets.NetDeclaration.{NetDeclaration}
 use Rattle.vl_tree.specs.declared.modules.PortDeclaration.{PortDeclaration}
 use Rattle.elab_variables.specs.declared.tables.Row.{Row}
 use Rattle.elab_variables.specs.Naming.{key_texts}

@@ -5,7 +5,7 @@ use Rattle.std.specs.Option.{option_map}
 use Rattle.sg_circuit.specs.Closed.{width_of}
 use Rattle.sg_circuit.specs.declared.scopes.Port.TheVariants as port
 use Rattle.elab_model.specs.Names.{bounds, port_of_direction}
-use Rattle.elab_names.specs.declared.nets.NetDeclaration.{NetDeclaration}
+use Rattle.elab_declared.specs.declared.nets.NetDeclaration.{NetDeclaration}
 use Rattle.vl_tree.specs.declared.modules.PortDeclaration.{PortDeclaration}
 use Rattle.elab_variables.specs.declared.tables.Row.{Row}
 

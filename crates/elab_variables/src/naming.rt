@@ -3,11 +3,11 @@ ghost use Rattle.std.specs.Prelude.{◌≡◌, ◌∷◌, [], ℕ, List, OnOk, I
 ghost use Rattle.elab_model.specs.Leaves.{leaf_of};
 ghost use Rattle.elab_model.specs.Names.{variable_names, whole_name, whole_names};
 ghost use Rattle.elab_model.specs.Ports.{net_declarations};
-ghost use Rattle.elab_names.specs.Words.{view_net};
+ghost use Rattle.elab_declared.specs.Words.{view_net};
 ghost use Rattle.elab_variables.specs.Naming.{key_texts, with_names, names_in, names_where};
 ghost use Rattle.vl_tree.specs.Seen.{view_name, view_expression, view_module};
 
-use elab_names::{NetDeclaration, port_list};
+use elab_declared::{NetDeclaration, port_list};
 use indexmap::IndexSet;
 use sg_text::NoMemory;
 use std::alloc::Global;

@@ -8,7 +8,7 @@ ghost use Rattle.elab_variables.specs.Naming.{key_texts};
 ghost use Rattle.elab_variables.specs.Rows.{bit_count, blank, first_said, placed, rows_said, rows_with, said_of};
 
 use crate::tables::Row;
-use elab_names::NetDeclaration;
+use elab_declared::NetDeclaration;
 use indexmap::IndexSet;
 use sg_circuit::{Port, Range};
 use sg_text::NoMemory;

@@ -1,5 +1,5 @@
 // The variables of a module, found by their names.
-ghost use Rattle.std.specs.Prelude.{IfOk, OnOk, IfErr, ◌≡◌, ◌<◌, []};
+ghost use Rattle.std.specs.Prelude.{IfOk, ◌≡◌, ◌<◌, []};
 ghost use Rattle.vl_tree.specs.Seen.{view_module};
 ghost use Rattle.elab_model.specs.NameFaults.{declaration_faults};
 ghost use Rattle.elab_model.specs.Names.{variables};
@@ -8,11 +8,10 @@ ghost use Rattle.elab_variables.specs.Tables.{starts_are, HasPlace};
 
 use crate::naming::variable_names_of;
 use crate::rows::rows_of;
-use elab_model::ElabKind;
-use elab_names::{check_declarations, net_declarations, port_declarations};
+use elab_declared::{net_declarations, port_declarations};
 use indexmap::IndexSet;
 use sg_circuit::{Port, Range};
-use sg_text::{NoMemory, Refused};
+use sg_text::NoMemory;
 use std::alloc::Global;
 use std::marker::Model;
 use vl_tree::Module;
@@ -49,23 +48,20 @@ impl<'a> Model for Table<'a> {
 }
 
 impl<'a> Table<'a> {
-    ghost use Rattle.std.specs.Prelude.{◌≡◌, ◌<◌, ◌≤◌, Some, length, slice_get, take, IfOk, IfErr, OnOk, []};
+    ghost use Rattle.std.specs.Prelude.{◌≡◌, ◌<◌, ◌≤◌, Some, length, slice_get, take, IfOk, []};
     ghost use Rattle.sg_circuit.specs.Closed.{width_of};
     ghost use Rattle.vl_tree.specs.Seen.{view_module};
-    ghost use Rattle.elab_model.specs.Faults.{RefusesOneOf};
     ghost use Rattle.elab_model.specs.NameFaults.{declaration_faults};
     ghost use Rattle.elab_model.specs.Names.{variables};
     ghost use Rattle.elab_laws.specs.Handing.{all_bits};
     ghost use Rattle.elab_variables.specs.Seen.{variable_at, place_named};
 
-    /// The table of a module whose declarations have no fault. Else one of the faults. Takes memory in proportion to the module.
-    pub fn of(alloc: Global, definition: &Module<'a>) -> Result<Table<'a>, Refused<ElabKind>>
-        ensures variables { IfOk result (λ t. t ≡ variables (view_module definition.now)) }
-        ensures faultless { OnOk result (declaration_faults (view_module definition.now) ≡ []) }
-        ensures refused { IfErr result (RefusesOneOf (declaration_faults (view_module definition.now))) }
+    /// The table of a module whose declarations have no fault. Takes memory in proportion to the module.
+    pub fn of(alloc: Global, definition: &Module<'a>) -> Result<Table<'a>, NoMemory>
+        requires { declaration_faults (view_module definition.now) ≡ [] }
+        ensures { IfOk result (λ t. t ≡ variables (view_module definition.now)) }
     {
-        check_declarations(alloc, definition)?;
-        Ok(table_of(alloc, definition)?)
+        table_of(alloc, definition)
     }
 
     /// How many variables there are.

@@ -10,9 +10,6 @@ ghost use Rattle.grammar.specs.declared.ReadFault.TheVariants.{Memory};
 use std::alloc::{AllocError, AllocFailed};
 use thiserror::Error;
 
-#[cfg(test)]
-mod tests;
-
 /// Why nothing was read.
 #[derive(Clone, Copy, Debug, PartialEq, Eq, Error)]
 pub enum ReadFault {

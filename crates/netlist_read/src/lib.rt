@@ -7,6 +7,3 @@ mod netlists;
 
 pub use kinds::{NetlistKind, write_kind};
 pub use netlists::read_netlist;
-
-#[cfg(test)]
-mod tests;

@@ -1,4 +1,4 @@
-// A case: the files that are held, and the words of a command line.
+// A case: the files that are held, the calls that fail, and the words of a command line.
 use sg_io::{MemoryShelf, MemorySink};
 use signoff_top::top;
 use std::alloc::Global;
@@ -9,13 +9,39 @@ struct File {
     text: String,
 }
 
-/// Files, words, and the name of the file that a run may make.
+// A call that fails, by its number, and how many bytes it takes before.
+#[derive(Clone, Copy, Debug)]
+struct Failing {
+    call: u64,
+    taken: u64,
+}
+
+/// Files, words, the calls of the shelf and of the report that fail, and the name of the file that a run may make.
 #[derive(Debug, Drop)]
 pub struct Case {
     title: String,
     files: Vec<File>,
     words: Vec<String>,
+    shelf_failing: Vec<Failing>,
+    report_failing: Vec<Failing>,
     made: Option<String>,
+}
+
+fn failing_of(numbers: &str) -> anyhow::Result<Failing> {
+    let (call, taken) = numbers.split_once(' ').unwrap_or((numbers, "0"));
+    Ok(Failing {
+        call: call.parse()?,
+        taken: taken.parse()?,
+    })
+}
+
+// A text, with a mark behind it where it doesn't end with a line.
+fn show_text(out: &mut String, bytes: &[u8]) -> anyhow::Result<()> {
+    out.push_str(std::str::from_utf8(bytes).unwrap_or("?"))?;
+    if !matches!(bytes, [] | [.., b'\n']) {
+        out.push_str("‖\n")?;
+    }
+    Ok(())
 }
 
 impl Case {
@@ -25,6 +51,8 @@ impl Case {
             title: String::new(alloc),
             files: Vec::new(alloc),
             words: Vec::new(alloc),
+            shelf_failing: Vec::new(alloc),
+            report_failing: Vec::new(alloc),
             made: None,
         }
     }
@@ -43,6 +71,8 @@ impl Case {
                 name: String::from_str(alloc, name)?,
                 text: String::new(alloc),
             })?,
+            Some(("fail", numbers)) => self.shelf_failing.push(failing_of(numbers)?)?,
+            Some(("fail_report", numbers)) => self.report_failing.push(failing_of(numbers)?)?,
             Some(("made", name)) => self.made = Some(String::from_str(alloc, name)?),
             Some(("words", words)) => {
                 for word in words.split(' ') {
@@ -67,6 +97,25 @@ impl Case {
         Ok(())
     }
 
+    fn shelf(&self, alloc: Global) -> anyhow::Result<MemoryShelf> {
+        let mut shelf = MemoryShelf::new(alloc);
+        for file in &self.files {
+            shelf.hold(&file.name, file.text.as_bytes())?;
+        }
+        for failing in &self.shelf_failing {
+            shelf.fail_at(failing.call, failing.taken)?;
+        }
+        Ok(shelf)
+    }
+
+    fn report(&self, alloc: Global) -> anyhow::Result<MemorySink> {
+        let mut report = MemorySink::new(alloc);
+        for failing in &self.report_failing {
+            report.fail_at(failing.call, failing.taken)?;
+        }
+        Ok(report)
+    }
+
     /// Runs it, and adds what came to a text.
     pub fn show(&self, alloc: Global, out: &mut String) -> anyhow::Result<()> {
         if self.title.is_empty() {
@@ -74,19 +123,16 @@ impl Case {
         }
         let title = &self.title;
         writeln!(out, "case {title}")?;
-        let mut shelf = MemoryShelf::new(alloc);
-        for file in &self.files {
-            shelf.hold(&file.name, file.text.as_bytes())?;
-        }
-        let mut report = MemorySink::new(alloc);
+        let mut shelf = self.shelf(alloc)?;
+        let mut report = self.report(alloc)?;
         let status = top(alloc, &self.words, &mut shelf, &mut report).code();
         writeln!(out, "status {status}")?;
-        out.push_str(std::str::from_utf8(report.bytes()).unwrap_or("?"))?;
+        show_text(out, report.bytes())?;
         if let Some(name) = &self.made {
             match shelf.bytes(name) {
                 Some(bytes) => {
                     writeln!(out, "file {name}")?;
-                    out.push_str(std::str::from_utf8(bytes).unwrap_or("?"))?;
+                    show_text(out, bytes)?;
                 }
                 None => writeln!(out, "no file {name}")?,
             }

@@ -8,15 +8,15 @@ use Rattle.sg_io.specs.declared.outside.ShelfError.TheVariants as shelf
 use Rattle.sg_model.specs.Machine.{Violation}
 use Rattle.sg_model.specs.Time.{Run}
 use Rattle.sg_circuit.specs.Circuit.{Circuit}
-use Rattle.sim_rounds.specs.Runs.{Setting, AllCalls, CallsFor, CallsMade, HasEnded, HasEndedTimes, run_for, start_of}
-use Rattle.sim_rounds.specs.Watching.{Call, Got, Broke}
-use Rattle.sim_rounds.specs.declared.runs.SimEnd.{SimEnd}
-use Rattle.sim_rounds.specs.declared.runs.SimEnd.TheVariants.{RoundsSpent, WatchFailed, NoMemory}
+use Rattle.sim_times.specs.Runs.{Setting, AllCalls, CallsFor, CallsMade, HasEnded, HasEndedTimes, run_for, start_of}
+use Rattle.sim_times.specs.Watching.{AreTruthful, Call, Got, Broke}
+use Rattle.sim_times.specs.declared.runs.SimEnd.{SimEnd}
+use Rattle.sim_times.specs.declared.runs.SimEnd.TheVariants.{RoundsSpent, WatchFailed, NoMemory}
 use Rattle.wave_out.specs.Files.{FileBegins, FileHolds, KeepsOthers, Leaves, LeavesPrefix, others_then}
 use Rattle.wave_out.specs.Scopes.{variables_of}
 use Rattle.wave_out.specs.Spent.{spent_seen}
 use Rattle.wave_out.specs.Vcd.{header, vcd_body, vcd_text}
-use Rattle.wave_out.specs.Writing.{AreTruthful, Holds, Writer, text_after}
+use Rattle.wave_out.specs.Writing.{Holds, Writer, text_after}
 use Rattle.wave_out.specs.declared.report.Spent as code_spent
 use Rattle.wave_out.proofs.DumpLaws.{begun_run, spent_whole, whole_run}
 use Rattle.wave_out.proofs.FileLaws.{begins, begins_more, first-bytes, told_before}
@@ -29,10 +29,10 @@ text_for circuit s = vcd_text circuit s.end (run_for s (suc s.end))
 
 -- what a writer and its shelf stand for, and how they break
 abbrev pub StandsFor : {S : Type 0} → (S → Option (List File)) → Writer → S → List Call → Type 0
-StandsFor files = λ w s calls. AreTruthful calls → Holds w (files s) calls
+StandsFor files = λ w s calls. Holds w (files s) calls
 
 abbrev pub BreaksIn : {S : Type 0} → (S → Option (List File)) → Writer → S → List Call → Type 0
-BreaksIn files = λ w s calls. AreTruthful calls → FileBegins w.name (text_after w.circuit calls) (files s)
+BreaksIn files = λ w s calls. FileBegins w.name (text_after w.circuit calls) (files s)
 
 -- a new file with the header holds the text of no calls
 holds_none : (name : List ℕ) (circuit : Circuit) (old new : Option (List File)) → BothTell old new (HasAfter name (header circuit))
@@ -43,6 +43,10 @@ holds_none name circuit old new h = record {
       told.2.this ∙ ap Some (sym (append-nil (header circuit)));
   last = refl;
 }
+
+-- a new writer and its shelf stand for no calls
+pub starts : {S : Type 0} (files : S → Option (List File)) (name : List ℕ) (circuit : Circuit) (w : Writer) (old : Option (List File)) (a : S) → w ≡ record { name = name; circuit = circuit; last = None } → BothTell old (files a) (HasAfter name (header circuit)) → Holds w (files a) []
+starts files name circuit w old a made begun = subst (λ x. Holds x (files a) []) (sym made) (holds_none name circuit old (files a) begun)
 
 -- the calls of a whole run, of a spent one, and of the first times
 whole_file : (s : Setting) (w : Writer) (told : Option (List File)) (made : List Call) → (run_for s (suc s.end)).spent ≡ None → AllCalls s made → (AreTruthful made → Holds w told made)
@@ -84,11 +88,11 @@ FileAs name text told (Err e) = FileBegins name text told
 
 module _ {S : Type 0} (files : S → Option (List File)) where
   got_file : (w w' : Writer) (a b : S) (made : List Call) → Holds w (files a) [] → Got (StandsFor files) w w' a b made → AreTruthful made → Holds w' (files b) made
-  got_file w w' a b made h got = got.each [] (λ _. h)
+  got_file w w' a b made h got = got.each [] h
 
   broke_file : (w w' : Writer) (a b : S) (made : List Call) → Holds w (files a) [] → Broke (StandsFor files) (BreaksIn files) w w' a b made
       → AreTruthful made → FileBegins w'.name (text_after w'.circuit made) (files b)
-  broke_file w w' a b made h broke = broke.each [] (λ _. h)
+  broke_file w w' a b made h broke = broke.each [] h
 
   ended_file : (s : Setting) (w w' : Writer) (a b : S) (found : List Violation) (changed taken : ℕ) (end : Result (Unit {0}) SimEnd) → Holds w (files a) []
       → HasEnded (StandsFor files) (BreaksIn files) w w' a b s found changed taken end → FileAs w'.name (text_for w'.circuit s) (files b) (spent_in end)
@@ -142,7 +146,7 @@ module _ {S : Type 0} (files : S → Option (List File)) (name : List ℕ) (circ
   run_leaves : (found : List Violation) (changed taken : ℕ) (end : Result (Unit {0}) SimEnd) → w ≡ record { name = name; circuit = circuit; last = None } → BothTell old (files a) (HasAfter name (header circuit)) → w'.name ≡ w.name → w'.circuit ≡ w.circuit
       → KeepsOthers w.name (files a) (files b) → HasEnded (StandsFor files) (BreaksIn files) w w' a b s found changed taken end → BothTell old (files b) (Leaves name (text_for circuit s) (spent_in end))
   run_leaves found changed taken end made begun same_name same_circuit others h =
-      let first : Holds w (files a) [] = subst (λ x. Holds x (files a) []) (sym made) (holds_none name circuit old (files a) begun) in
+      let first : Holds w (files a) [] = starts files name circuit w old a made begun in
       let own = ended_file files s w w' a b found changed taken end first h in
       let renamed = subst (λ n. FileAs n (text_for w'.circuit s) (files b) (spent_in end)) (same_name ∙ ap (λ x. x.name) made) own in
       leaves_as name (text_for circuit s) old (files b) (spent_in end)

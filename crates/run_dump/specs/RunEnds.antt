@@ -3,10 +3,10 @@ use Rattle.std.specs.Prelude.{ℕ, ◌≡◌, List, Option, Some, None, Result, 
 use Rattle.sg_io.specs.declared.outside.ShelfError.{ShelfError}
 use Rattle.sg_io.specs.declared.outside.ShelfError.TheVariants as shelf
 use Rattle.sg_model.specs.Machine.{Violation}
-use Rattle.sim_rounds.specs.Runs.{Setting, HasEnded}
-use Rattle.sim_rounds.specs.Watching.{Call}
-use Rattle.sim_rounds.specs.declared.runs.SimEnd.{SimEnd}
-use Rattle.sim_rounds.specs.declared.runs.SimEnd.TheVariants.{RoundsSpent, WatchFailed, NoMemory}
+use Rattle.sim_times.specs.Runs.{Setting, HasEnded}
+use Rattle.sim_times.specs.Watching.{Call}
+use Rattle.sim_times.specs.declared.runs.SimEnd.{SimEnd}
+use Rattle.sim_times.specs.declared.runs.SimEnd.TheVariants.{RoundsSpent, WatchFailed, NoMemory}
 use Rattle.sim_rounds.specs.declared.sim.Finished as code_finished
 use Rattle.time_checks.specs.Seen.{violation_seen}
 use Rattle.wave_out.specs.declared.report.Spent as code_spent

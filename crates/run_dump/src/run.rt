@@ -1,10 +1,10 @@
 // A run, from the first time to its value change dump's last line.
-ghost use Rattle.std.specs.Prelude.{◌≡◌, ◌<◌, ◌≤◌, IfOk, length};
+ghost use Rattle.std.specs.Prelude.{◌≡◌, ◌<◌, ◌≤◌, [], IfOk, length};
 ghost use Rattle.sg_io.specs.Faults.{Cause, NamesFault};
 ghost use Rattle.sg_io.specs.Files.{BothTell};
 ghost use Rattle.sg_stimulus.specs.Applied.{IsApplied};
 ghost use Rattle.sg_stimulus.specs.Seen.{stimulus_seen};
-ghost use Rattle.sim_rounds.specs.Runs.{CauseOfEnd, NamesFaultOfEnd};
+ghost use Rattle.sim_times.specs.Runs.{CauseOfEnd, NamesFaultOfEnd};
 ghost use Rattle.sim_rounds.specs.Setting.{setting_of};
 ghost use Rattle.sim_rounds.specs.Simulated.{run_of_circuit};
 ghost use Rattle.wave_out.specs.Files.{Leaves};
@@ -18,7 +18,8 @@ use sg_io::{Shelf, ShelfError};
 use sg_steps::Steps;
 use sg_stimulus::Stimulus;
 use sg_text::NoMemory;
-use sim_rounds::{Finished, Sim, SimEnd, Watch};
+use sim_rounds::{Finished, Sim};
+use sim_times::{SimEnd, Watch};
 use std::alloc::Global;
 use std::marker::Brand;
 use std::sync::ledger::{Blank, Ledger};
@@ -51,6 +52,7 @@ fn simulate<S: Shelf, W: Watch<S>, L: Ledger>(
     requires some_buckets { 1 ≤ buckets }
     requires most { buckets ≤ 1048576 }
     requires nets { length (W.circuit watcher.old).nets ≤ length circuit.now.nets }
+    requires none_told { W.stands watcher.old shelf.old [] }
     requires applied { IsApplied circuit.now (stimulus_seen stimulus.now) }
     ensures ended { HasSimulated W.stands W.broken watcher.old watcher.new shelf.old shelf.new (setting_of circuit.now (stimulus_seen stimulus.now) bound) result }
     ensures cause { IfOk result (λ f. CauseOfEnd (S.fault_count shelf.old) (S.fault_count shelf.new) f.end) }

@@ -8,6 +8,3 @@ mod rules;
 mod words;
 
 pub use words::{Command, read_words};
-
-#[cfg(test)]
-mod tests;

@@ -121,8 +121,8 @@ fn command_by_rules<'a>(alloc: Global, words: &'a [String]) -> Result<Option<Com
     command_after(alloc, rest)
 }
 
-/// The command of the same words as the library splits them. Takes memory.
-pub fn command_by_parser<'a>(
+// The command of the same words as the library splits them.
+fn command_by_parser<'a>(
     alloc: Global,
     words: &'a [String],
 ) -> Result<Option<Command<'a>>, NoMemory> {

@@ -113,7 +113,7 @@ fn read_parts(alloc: Global, bytes: &[u8]) -> Result<WrittenFile<'_>, Refused<Sd
 }
 
 /// What an SDF file means (IEEE 1497-2001), with file 0 in its places. Its names and texts are parts of the bytes, and its values are in
-/// the file's unit.
+/// the file's unit. A name of a condition stands for its bytes without backslashes.
 ///
 /// The first of these phases that finds a fault tells it: the file's size, its bytes, how deep parentheses stand, the grammar, the numbers,
 /// and limits that cross. A fault of the grammar is told at the failing token, or behind the last byte. Takes time and memory in

@@ -2,11 +2,14 @@
 use Rattle.std.proofs.Common.{◌≡◌, ℕ, true, false, List, [], ◌∷◌, Some, None, Ok, Err, refl}
 use Rattle.std.specs.Prelude.{codes, pos, neg_ℤ}
 use Rattle.grammar.specs.States.{read_by}
+use Rattle.cond_expr.specs.declared.tokens.Op.TheVariants as op
+use Rattle.cond_expr.specs.declared.tokens.Tok.TheVariants as tok
 use Rattle.sg_logic.specs.declared.values.Value.TheVariants as value
-use Rattle.sdf_lex.specs.Tokens.{Meaning, Lexeme, word_token, selected_token, select_token, left_token, right_token, colon_token}
+use Rattle.sdf_lex.specs.Tokens.{Meaning, Lexeme, word_token, selected_token, select_token, operator_token, left_token, right_token, colon_token}
 use Rattle.vl_token.specs.Constants.{low_bits}
 use Rattle.sdf_tree.specs.declared.keywords.Keyword.TheVariants as word
 use Rattle.sdf_tree.specs.declared.words.Divider.TheVariants.{Point, Slash}
+use Rattle.sdf_tree.specs.Conditions.{condition_parts, condition}
 use Rattle.sdf_tree.specs.Keywords.{keyword_of}
 use Rattle.sdf_tree.specs.Values as values
 use Rattle.sdf_tree.specs.Values.{number_parts, others_parts, numbers_parts, value_parts, delay_rest_parts, delay_parts, list_parts, port_parts}
@@ -44,13 +47,25 @@ brackets_of_an_instance : is_instance_path Slash (codes "u[0]/v[1]") ≡ true
 unfolding is_instance_path
 brackets_of_an_instance = refl
 
-no_brackets_of_a_port : is_port_path Slash (codes "u[0]/v") ≡ false
+brackets_before_a_port : is_port_path Slash (codes "g[0]/u/Y") ≡ true
+unfolding is_port_path
+brackets_before_a_port = refl
+
+no_brackets_of_a_port : is_port_path Slash (codes "u/v[0]") ≡ false
 unfolding is_port_path
 no_brackets_of_a_port = refl
 
 one_bit : constant_of (codes "1'b0") ≡ Some value.Zero
 unfolding constant_of low_bits
 one_bit = refl
+
+zeros_before_a_width : constant_of (codes "01'b1") ≡ Some value.One
+unfolding constant_of low_bits
+zeros_before_a_width = refl
+
+two_bits : constant_of (codes "02'b01") ≡ None
+unfolding constant_of
+two_bits = refl
 
 no_constant : constant_of (codes "01") ≡ None
 unfolding constant_of
@@ -94,6 +109,14 @@ four = left ∷ right ∷ left ∷ right ∷ left ∷ right ∷ left ∷ right �
 four_values : (values.list true).read four 0 ≡ Err 8
 unfolding list_parts delay_parts delay_rest_parts read_by
 four_values = refl
+
+-- \S == 01'b1 up to a parenthesis, and \S is called S
+abbrev name_and_constant : List Lexeme
+name_and_constant = word_of (92 ∷ codes "S") ∷ token (operator_token op.Equal) ∷ word_of (codes "01'b1") ∷ left ∷ []
+
+a_condition : condition.read name_and_constant 0 ≡ Ok (tok.Name (codes "S") ∷ tok.Op op.Equal ∷ tok.Const value.One ∷ [], 3)
+unfolding condition_parts constant_of keyword_of low_bits read_by
+a_condition = refl
 
 -- a path and a bit of it
 a_bit : (values.port Slash).read (token (selected_token (codes "u1/D[2]") (codes "u1/D")) ∷ token (select_token (pos 2)) ∷ right ∷ []) 0 ≡ Ok (record { path = codes "u1/D"; bit = Some (pos 2) }, 2)

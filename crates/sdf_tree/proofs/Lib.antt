@@ -10,3 +10,4 @@ pub mod KeywordLaws
 pub mod NumberLaws
 pub mod Examples
 pub mod PathLaws
+pub mod ConstantLaws

@@ -11,7 +11,7 @@ use Rattle.sg_logic.specs.declared.values.Value.{Value}
 use Rattle.sdf_lex.specs.Tokens.{Meaning, Lexeme, word_token, selected_token, operator_token, right_token}
 use Rattle.sdf_tree.specs.Kinds.{Kind, word_kind, selected_kind, operator_kind, select_kind, left_kind, right_kind, kind_of, is_select, select_of}
 use Rattle.sdf_tree.specs.Rules.{Grammar, token}
-use Rattle.sdf_lex.specs.Names.{is_name}
+use Rattle.sdf_lex.specs.Names.{called, is_name}
 use Rattle.sdf_tree.specs.Words.{constant_of}
 
 -- a word is a constant, or else a name
@@ -30,14 +30,14 @@ class_of left_kind = Some words.left_kind
 class_of right_kind = Some words.right_kind
 class_of _ = None
 
--- the word that a token is alone; a name is as it is written
+-- The word that a token is alone. A name is what it is called: without its backslashes (IEEE 1497-2001, the clause on identifiers).
 abbrev pub word_tok : Option Value → List ℕ → Tok
 word_tok (Some v) text = tok.Const v
-word_tok None text = tok.Name text
+word_tok None text = tok.Name (called text)
 
 abbrev pub tok_of : Meaning → Tok
 tok_of (word_token text) = word_tok (constant_of text) text
-tok_of (selected_token whole name) = tok.Name name
+tok_of (selected_token whole name) = tok.Name (called name)
 tok_of (operator_token o) = tok.Op o
 tok_of right_token = tok.Right
 tok_of _ = tok.Left

@@ -3,6 +3,7 @@ use Rattle.std.specs.Prelude.{List, ℕ, map, option_map}
 use Rattle.std.specs.Borrow.{Bor}
 use Rattle.cond_expr.specs.Token.{Tok, map_name}
 use Rattle.cond_expr.specs.declared.tokens.Tok as over
+use Rattle.sdf_lex.specs.Names.{called}
 use Rattle.sdf_tree.specs.declared.tree.Instance as code_instance
 use Rattle.sdf_tree.specs.declared.tree.Instance.TheVariants as instance
 use Rattle.sdf_tree.specs.declared.tree.PathCondition as code_condition
@@ -32,9 +33,12 @@ use Rattle.sdf_tree.specs.declared.written.WrittenPart.TheVariants as part
 use Rattle.sdf_tree.specs.declared.written.WrittenValue as code_value
 use Rattle.sdf_tree.specs.Written.{Port, Terminal, PathCondition, always, otherwise, if_words, Instance, the_top, all_of_type, the_path, Number, Value, Limits, Delay, Body, io_path, port_delay, interconnect, device, net_delay, Entry, Group, absolute, increment, path_pulse, CheckBody, pair_check, window_check, single_check, skipped_check, Check, Part, delays, checks, skipped_part, Cell, Head, text_head, divider_head, unit_head, value_head, FilePart, a_head, a_cell}
 
--- a word of a condition
+-- A word of a condition. The code keeps a name as it is written, and it stands for what it is called.
+abbrev pub written_name : Bor (List ℕ) → List ℕ
+written_name name = called name.now
+
 abbrev pub view_tok : over.Tok (Bor (List ℕ)) → Tok
-view_tok t = map_name (λ name. name.now) t
+view_tok t = map_name written_name t
 
 abbrev pub view_port : code_port.Port → Port
 view_port p = record { path = p.path.now; bit = p.bit }

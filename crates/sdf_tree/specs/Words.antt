@@ -1,7 +1,8 @@
 -- What words are by what stands in them (IEEE 1497-2001, the clause on lexical elements).
-use Rattle.std.specs.Prelude.{ℕ, ℤ, pos, neg_ℤ, ◌+ℤ◌, ◌==◌, ◌||◌, Bool, true, false, List, [], ◌∷◌, take, drop, Option, Some, None, bytes_eq, codes, if◌then◌else◌}
+use Rattle.std.specs.Prelude.{ℕ, ℤ, pos, neg_ℤ, ◌+ℤ◌, ◌==◌, ◌||◌, ◌&&◌, Bool, true, false, List, [], ◌∷◌, take, drop, Option, Some, None, bytes_eq, codes, if◌then◌else◌}
 use Rattle.std.specs.Char.{is_ascii_digit}
 use Rattle.std.specs.List.{list_all, prefix_len}
+use Rattle.sg_time.specs.Spelling.{number_from}
 use Rattle.sg_logic.specs.declared.values.Value.{Value}
 use Rattle.sg_logic.specs.declared.values.Value.TheVariants as value
 use Rattle.vl_token.specs.declared.bases.Base.{Base}
@@ -17,13 +18,28 @@ abbrev pub divider_byte : Divider → ℕ
 divider_byte Point = 46
 divider_byte Slash = 47
 
--- a port is a name, or several that are joined
-unfoldable pub is_port_path : Divider → List ℕ → Bool
-is_port_path divider text = list_all is_name (path_parts (divider_byte divider) text)
-
--- an instance below the top likewise, with brackets in its names
+-- an instance below the top is a name, or several that are joined, in which brackets may stand
 unfoldable pub is_instance_path : Divider → List ℕ → Bool
 is_instance_path divider text = list_all is_instance_name (path_parts (divider_byte divider) text)
+
+-- the parts of a path before its last, which lead to it, and the last
+abbrev pub leading : List (List ℕ) → List (List ℕ)
+leading [] = []
+leading (p ∷ []) = []
+leading (p ∷ q ∷ ps) = p ∷ leading (q ∷ ps)
+
+abbrev pub last_part : List (List ℕ) → List ℕ
+last_part [] = []
+last_part (p ∷ []) = p
+last_part (p ∷ q ∷ ps) = last_part (q ∷ ps)
+
+-- names of instances, and behind them one without brackets
+abbrev pub is_port_of : List (List ℕ) → Bool
+is_port_of parts = list_all is_instance_name (leading parts) && is_name (last_part parts)
+
+-- a port is a name, behind those of the instances that lead to it
+unfoldable pub is_port_path : Divider → List ℕ → Bool
+is_port_path divider text = is_port_of (path_parts (divider_byte divider) text)
 
 -- ---- numbers and constants
 
@@ -58,11 +74,16 @@ based_bit sized [] = None
 based_bit sized (q ∷ []) = None
 based_bit sized (q ∷ letter ∷ digits) = if q == 39 then bit_of sized (base_of letter) digits else None
 
-abbrev pub constant_with_base : List ℕ → Option Value
-constant_with_base [] = None
-constant_with_base (b ∷ bs) = if b == 49 then based_bit true bs else based_bit false (b ∷ bs)
+-- behind the digits of a width, which is 1 if there is one
+abbrev pub behind_width : (width behind : List ℕ) → Option Value
+behind_width [] behind = based_bit false behind
+behind_width (d ∷ ds) behind = if number_from 0 (d ∷ ds) == 1 then based_bit true behind else None
 
--- the value of a constant of a condition: 0, 1, or a constant of one bit with a base as netlists have them
+abbrev pub constant_with_base : List ℕ → Option Value
+constant_with_base text = behind_width (take (prefix_len is_ascii_digit text) text) (drop (prefix_len is_ascii_digit text) text)
+
+-- The value of a constant of a condition: 0, 1, or a constant of one bit with a base as netlists have them (IEEE 1364-2005, the
+-- clause on integer constants). A width may have zeros in front.
 unfoldable pub constant_of : List ℕ → Option Value
 constant_of text =
     if bytes_eq text (codes "0") then Some value.Zero

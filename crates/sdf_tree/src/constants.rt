@@ -1,13 +1,15 @@
 // Constants of conditions.
-ghost use Rattle.std.specs.Prelude.{◌≡◌, IfOk, Some, Option};
-ghost use Rattle.std.specs.List.{list_all};
+ghost use Rattle.std.specs.Prelude.{◌≡◌, ◌≤◌, ◌==◌, length, IfOk, Some, Option};
+ghost use Rattle.std.specs.Char.{is_ascii_digit};
+ghost use Rattle.std.specs.List.{list_all, prefix_len};
+ghost use Rattle.sg_time.specs.Spelling.{number_from};
 ghost use Rattle.vl_token.specs.Constants.{is_digit_of};
 ghost use Rattle.sdf_tree.specs.Words as words;
 
 use sg_logic::Value;
 use sg_text::NoMemory;
 use std::alloc::Global;
-use vl_token::{Base, Constant, unsized_bits};
+use vl_token::{Base, Constant, number_of, unsized_bits};
 
 fn single_bit(bits: &[Value]) -> Option<Value>
     ensures { result ≡ words.single_bit bits.now }
@@ -56,6 +58,45 @@ fn based_bit(alloc: Global, sized: bool, text: &[u8]) -> Result<Option<Value>, N
     }
 }
 
+// How many decimal digits stand in front.
+fn width_len(text: &[u8]) -> usize
+    ensures size { result ≡ prefix_len is_ascii_digit text.now }
+    ensures within { result ≤ length text.now }
+{
+    text.iter().take_while(|b| b.is_ascii_digit()).count()
+}
+
+// Whether decimal digits spell 1.
+#[tactic(auto, using(crate::proofs::ConstantLaws::is_width, crate::proofs::ConstantLaws::too_wide))]
+fn is_one(digits: &[u8]) -> bool
+    ensures { result ≡ (number_from 0 digits.now == 1) }
+{
+    match number_of(digits) {
+        Some(number) => number == 1,
+        None => false,
+    }
+}
+
+// The bit of a constant whose width is spelled by these digits, if there are any.
+fn behind_width(alloc: Global, width: &[u8], behind: &[u8]) -> Result<Option<Value>, NoMemory>
+    ensures { IfOk result (λ bit. bit ≡ words.behind_width width.now behind.now) }
+{
+    if width.is_empty() {
+        return based_bit(alloc, false, behind);
+    }
+    if !is_one(width) {
+        return Ok(None);
+    }
+    based_bit(alloc, true, behind)
+}
+
+fn constant_with_base(alloc: Global, text: &[u8]) -> Result<Option<Value>, NoMemory>
+    ensures { IfOk result (λ bit. bit ≡ words.constant_with_base text.now) }
+{
+    let (width, behind) = text.split_at(width_len(text));
+    behind_width(alloc, width, behind)
+}
+
 /// The value of a constant of a condition: `0`, `1`, or a constant of one bit with a base, as netlists have them (IEEE 1364-2005,
 /// the clause on integer constants). Takes memory.
 #[tactic(auto, unfolding(crate::specs::Words::constant_of))]
@@ -65,7 +106,6 @@ pub fn constant_of(alloc: Global, text: &[u8]) -> Result<Option<Value>, NoMemory
     match text {
         b"0" => Ok(Some(Value::Zero)),
         b"1" => Ok(Some(Value::One)),
-        [b'1', rest @ ..] => based_bit(alloc, true, rest),
-        _ => based_bit(alloc, false, text),
+        _ => constant_with_base(alloc, text),
     }
 }

@@ -1,9 +1,8 @@
 // What words are, by what stands in them.
-ghost use Rattle.std.specs.Prelude.{◌≡◌};
-ghost use Rattle.std.specs.List.{list_all};
+ghost use Rattle.std.specs.Prelude.{◌≡◌, ◌||◌, is_some};
 ghost use Rattle.sdf_lex.specs.Names.{path_parts};
 ghost use Rattle.sdf_tree.specs.Words as words;
-ghost use Rattle.sdf_tree.specs.PathWords.{path_name};
+ghost use Rattle.sdf_tree.specs.PathWords.{are_names, path_name};
 
 use sdf_lex::{first_part, is_instance_name, is_name};
 
@@ -29,7 +28,7 @@ impl Divider {
     }
 
     /// The byte that joins names.
-    fn byte(self) -> u8
+    pub fn byte(self) -> u8
         ensures { result ≡ words.divider_byte self }
     {
         match self {
@@ -48,14 +47,21 @@ fn is_path_name(part: &[u8], brackets: bool) -> bool
     is_name(part)
 }
 
-// Whether bytes are names with the divider between two of them.
+// Whether brackets may stand in a part of a path: they may where another is behind it.
+fn takes_brackets(behind: Option<&[u8]>, brackets: bool) -> bool
+    ensures { result ≡ (brackets || is_some behind.entry) }
+{
+    brackets || behind.is_some()
+}
+
+// Whether bytes are names with the divider between two of them, where brackets may stand in the last or not.
 fn is_path(bytes: &[u8], divider: u8, brackets: bool) -> bool
-    ensures { result ≡ list_all (path_name brackets) (path_parts divider bytes.now) }
+    ensures { result ≡ are_names brackets (path_parts divider bytes.now) }
 {
     let mut left = Some(bytes);
     'more: while let Some(path) = left {
         let (part, behind) = first_part(divider, path);
-        if !is_path_name(part, brackets) {
+        if !is_path_name(part, takes_brackets(behind, brackets)) {
             return false;
         }
         left = behind;
@@ -64,16 +70,14 @@ fn is_path(bytes: &[u8], divider: u8, brackets: bool) -> bool
 }
 
 /// Whether a word is a port's or a net's path: names of letters, digits, `_` and `$`, or of any byte behind a backslash, with
-/// the divider between two of them.
-#[tactic(auto, unfolding(crate::specs::Words::is_port_path))]
+/// the divider between two of them. Brackets may stand in those of instances, which lead to the last.
 pub fn is_port_path(divider: Divider, text: &[u8]) -> bool
     ensures { result ≡ words.is_port_path divider text.now }
 {
     is_path(text, divider.byte(), false)
 }
 
-/// Whether a word is an instance's path: the same, with brackets in names.
-#[tactic(auto, unfolding(crate::specs::Words::is_instance_path))]
+/// Whether a word is an instance's path: the same, with brackets in each name.
 pub fn is_instance_path(divider: Divider, text: &[u8]) -> bool
     ensures { result ≡ words.is_instance_path divider text.now }
 {

@@ -2,7 +2,5 @@
 pub mod SeenLaws
 pub mod PinLaws
 pub mod FanLaws
-pub mod CheckLaws
-pub mod FittingLaws
 pub mod TimingLaws
 pub mod PathLaws

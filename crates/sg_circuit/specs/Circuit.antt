@@ -12,11 +12,12 @@ use Rattle.sg_circuit.specs.declared.scopes.Range.{Range}
 use Rattle.sg_circuit.specs.declared.scopes.Port.{Port}
 use Rattle.sg_circuit.specs.declared.checks.Check.{Check}
 use Rattle.sg_circuit.specs.declared.checks.CheckTiming.{CheckTiming}
+use Rattle.sg_circuit.specs.declared.checks.Zero.{Zero}
 use Rattle.sg_circuit.specs.Checks.{CheckConditions}
 
 -- the kinds of element (IEEE 1364-2005)
 pub data Kind : Type 0 where
-  -- a gate, with no, one or two delays (7.1, 7.14)
+  -- a gate, with no, one, two or three delays (7.1, 7.14)
   Gate : (kind : GateKind) (delays : List ℕ) → Kind
   -- a user-defined primitive, with its state before time 0 and no, one or two delays (8.1, 8.5)
   Udp : (primitive : Primitive) (first : Value) (delays : List ℕ) → Kind
@@ -28,6 +29,8 @@ pub data Kind : Type 0 where
   -- the way to an output port's bit to which specify paths lead, in the order of their text; the element's one input is the
   -- net that is driven inside. Error pulses are shown in a style (14.2, 14.6.4)
   Path : (paths : List specify.Path) (style : PulseStyle) → Kind
+  -- a copy of the one input, so many ticks later: the signal that a timing check with a negative limit sees (15.8)
+  Late : (delay : ℕ) → Kind
 
 -- an element of a scope: the nets that it reads, and the one that it drives
 pub record Element : Type 0 where
@@ -55,7 +58,7 @@ pub record Scope : Type 0 where
   pub variables : List Variable
 
 -- a circuit: the power of ten of a second that one tick is (19.8), and the parts; scope 0 is the top. A timing check has what
--- a report names, what is looked for, and how its conditions are spelled (clause 15)
+-- a report names, what is looked for, and how its conditions are spelled (clause 15). Some limits are taken as 0 (15.8)
 pub record Circuit : Type 0 where
   pub tick : ℤ
   pub nets : List Net
@@ -64,6 +67,7 @@ pub record Circuit : Type 0 where
   pub check_timings : List CheckTiming
   pub check_conditions : List CheckConditions
   pub scopes : List Scope
+  pub zeroed : List Zero
 
 -- what stands at a place; past the end a blank
 abbrev pub net_at : Circuit → ℕ → Net

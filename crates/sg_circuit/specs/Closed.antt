@@ -1,6 +1,6 @@
 -- What is so of every circuit: its parts fit together.
-use Rattle.std.specs.Prelude.{◌≡◌, ◌↔◌, ℕ, ◌+◌, ◌<◌, ◌≤◌, ◌^◌, ◌-ℤ◌, nat_abs, unsigned_abs, All, List, length, Option, Some, None, IfSome, IsSome, slice_index_or}
-use Rattle.sg_logic.specs.Gate.{TakesInputs as GateTakes}
+use Rattle.std.specs.Prelude.{◌≡◌, ◌↔◌, ℕ, ◌+◌, ◌<◌, ◌≤◌, ◌^◌, ◌≤ℤ◌, ◌-ℤ◌, nat_abs, unsigned_abs, All, List, [], ◌∷◌, length, Option, Some, None, IfSome, IsSome, slice_index_or}
+use Rattle.sg_logic.specs.Gate.{TakesInputs as GateTakes, most_delays}
 use Rattle.sg_circuit.specs.declared.nets.Driver.{Driver}
 use Rattle.sg_circuit.specs.declared.nets.Driver.TheVariants as driver
 use Rattle.sg_circuit.specs.declared.scopes.Range.{Range}
@@ -9,11 +9,12 @@ use Rattle.sg_circuit.specs.declared.checks.Check.{Check}
 use Rattle.sg_circuit.specs.declared.checks.Event.{Event}
 use Rattle.sg_circuit.specs.declared.checks.CheckTiming.{CheckTiming}
 use Rattle.sg_circuit.specs.declared.checks.CheckKind.{CheckKind}
-use Rattle.sg_circuit.specs.declared.checks.CheckKind.TheVariants.{Width, Period}
+use Rattle.sg_circuit.specs.declared.checks.CheckKind.TheVariants.{Width, Period, Setuphold, Recrem}
+use Rattle.sg_circuit.specs.declared.checks.Zero.{Zero}
 use Rattle.cond_expr.specs.Values.{AreBelow}
 use Rattle.sg_circuit.specs.Timings.{Timing}
 use Rattle.sg_circuit.specs.Paths as specify
-use Rattle.sg_circuit.specs.Circuit.{Circuit, Kind, Gate, Udp, Pass, Leg, Path, net_at, element_at, scope_at}
+use Rattle.sg_circuit.specs.Circuit.{Circuit, Kind, Gate, Udp, Pass, Leg, Path, Late, net_at, element_at, scope_at}
 
 -- so many inputs an element of a kind has (IEEE 1364-2005, 6.1, 7.2, 7.3, 8.1)
 abbrev pub TakesInputs : Kind → ℕ → Type 0
@@ -23,10 +24,11 @@ TakesInputs (Pass None) n = n ≡ 1
 TakesInputs (Pass (Some value)) n = n ≡ 0
 TakesInputs (Leg timings) n = n ≡ 1
 TakesInputs (Path paths style) n = n ≡ 1
+TakesInputs (Late delay) n = n ≡ 1
 
--- no, one or two delays of a gate, in ticks (7.14, 8.6)
-abbrev pub AreGateDelays : List ℕ → Type 0
-AreGateDelays delays = (length delays ≤ 2) × All (λ d. d < 2 ^ 60) delays
+-- delays of a gate, in ticks: so many at most (7.14, 8.6)
+abbrev pub AreGateDelays : ℕ → List ℕ → Type 0
+AreGateDelays most delays = (length delays ≤ most) × All (λ d. d < 2 ^ 60) delays
 
 -- a delay and limits, in ticks: below 2^60, and what is lost is at most as long as what becomes x (14.6)
 pub record IsTiming (t : Timing) : Type 0 where
@@ -38,13 +40,14 @@ pub record IsTiming (t : Timing) : Type 0 where
 abbrev pub AreTimings : List Timing → Type 0
 AreTimings timings = (length timings ≡ 12) × All IsTiming timings
 
--- the delays that an element of a kind has (7.14, 14.2)
+-- the delays that an element of a kind has (7.14, 8.6, 14.2)
 abbrev pub HasDelays : Kind → Type 0
-HasDelays (Gate kind delays) = AreGateDelays delays
-HasDelays (Udp primitive first delays) = AreGateDelays delays
+HasDelays (Gate kind delays) = AreGateDelays (most_delays kind) delays
+HasDelays (Udp primitive first delays) = AreGateDelays 2 delays
 HasDelays (Pass constant) = Unit {0}
 HasDelays (Leg timings) = AreTimings timings
 HasDelays (Path paths style) = All (λ p. AreTimings p.timings) paths
+HasDelays (Late delay) = delay < 2 ^ 60
 
 -- the nets of a path's condition are among so many
 abbrev pub ReadsNets : ℕ → specify.PathCondition → Type 0
@@ -64,6 +67,7 @@ NamesNets nets (Udp primitive first delays) = Unit {0}
 NamesNets nets (Pass constant) = Unit {0}
 NamesNets nets (Leg timings) = Unit {0}
 NamesNets nets (Path paths style) = All (IsPathOf nets) paths
+NamesNets nets (Late delay) = Unit {0}
 
 -- how many bits a variable has (4.3.1)
 abbrev pub width_of : Option Range → ℕ
@@ -108,6 +112,37 @@ pub record IsNotifier (c : Circuit) (n : ℕ) : Type 0 where
   pub within : n < length c.nets
   pub driven : (net_at c n).driver ≡ driver.Notifier
 
+-- the checks that may see delayed signals (15.8)
+abbrev pub TakesLates : CheckKind → Type 0
+TakesLates Setuphold = Unit {0}
+TakesLates Recrem = Unit {0}
+TakesLates _ = ⊥
+
+abbrev pub IsLate : Kind → Type 0
+IsLate (Late delay) = Unit {0}
+IsLate _ = ⊥
+
+-- an element is a delayed copy of a net
+pub record IsLateOf (c : Circuit) (net e : ℕ) : Type 0 where
+  pub within : e < length c.elements
+  pub kind : IsLate (element_at c e).kind
+  pub input : (element_at c e).inputs ≡ net ∷ []
+
+-- a check's two Lates copy the nets of its reference and of its data event
+pub record AreLatesOf (c : Circuit) (t : CheckTiming) (lates : List ℕ) : Type 0 where
+  pub takes : TakesLates t.kind
+  pub refer : IsLateOf c t.refer.net (slice_index_or lates 0 0)
+  pub datum : IfSome t.datum (λ d. IsLateOf c d.net (slice_index_or lates 1 0))
+
+abbrev pub HasLates : Circuit → CheckTiming → Type 0
+HasLates c t = IfSome t.late (λ lates. AreLatesOf c t lates)
+
+-- a limit that is taken as 0 is one of the two of a check that has Lates
+pub record IsZeroOf (c : Circuit) (z : Zero) : Type 0 where
+  pub check : z.check < length c.check_timings
+  pub late : (d : CheckTiming) → IsSome (slice_index_or c.check_timings z.check d).late
+  pub part : z.part < 2
+
 pub record IsClosed (c : Circuit) : Type 0 where
   pub few_nets : length c.nets < 2 ^ 31
   pub few_elements : length c.elements < 2 ^ 31
@@ -137,3 +172,8 @@ pub record IsClosed (c : Circuit) : Type 0 where
   pub check_kinds : (k : ℕ) (d : Check) (e : CheckTiming) → k < length c.checks → (slice_index_or c.checks k d).kind ≡ (slice_index_or c.check_timings k e).kind
   pub check_timings : All (IsCheckTiming (length c.nets)) c.check_timings
   pub notifiers : All (λ k. IfSome k.notifier (λ n. IsNotifier c n)) c.checks
+  -- no scope is finer than the tick (19.8)
+  pub scales : All (λ s. c.tick ≤ℤ s.precision) c.scopes
+  -- delayed signals are those of the checks, and limits are taken as 0 there alone (15.8)
+  pub lates : All (HasLates c) c.check_timings
+  pub zeroed : All (IsZeroOf c) c.zeroed

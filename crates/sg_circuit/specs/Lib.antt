@@ -7,7 +7,6 @@ pub mod FanOut
 pub mod Seen
 pub mod Cuts
 pub mod Pins
-pub mod Fitting
 pub mod PathFitting
 pub mod Paths
 pub mod PathsSeen

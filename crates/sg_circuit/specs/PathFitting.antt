@@ -1,4 +1,4 @@
--- Words of the functions that look whether paths fit, said of the code's paths.
+-- The nets that the code's paths name are among so many.
 use Rattle.std.specs.Prelude.{ℕ, ◌<◌}
 use Rattle.cond_expr.specs.Values.{AreBelow}
 use Rattle.sg_circuit.specs.declared.paths.Path.{Path}

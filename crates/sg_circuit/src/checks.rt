@@ -2,7 +2,7 @@
 use crate::NetId;
 use cond_expr::Bound;
 use sg_logic::Edge;
-use sg_text::Text;
+use sg_text::{Place, Text};
 
 /// The timing checks (IEEE 1364-2005, 15.2, 15.3).
 #[derive(Clone, Copy, Debug, PartialEq, Eq)]
@@ -36,6 +36,8 @@ pub struct Check {
     pub datum: Option<Terminal>,
     /// The net that its violations toggle (IEEE 1364-2005, 15.5).
     pub notifier: Option<NetId>,
+    /// Where its keyword stands in the netlist's files.
+    pub place: Place,
 }
 
 /// How the text of a module spells the conditions of a check's events: places in `Parts::conditions` (IEEE 1364-2005, 15.6).
@@ -65,4 +67,17 @@ pub struct CheckTiming {
     pub limits: [i64; 2],
     /// In ticks; width alone has one.
     pub threshold: u64,
+    /// The elements of the kind Late that delay the reference and the data signal; only setuphold and recrem may have them (IEEE 1364-2005,
+    /// 15.8).
+    pub late: Option<[u32; 2]>,
+}
+
+/// A limit of a timing check with Lates that is taken as 0, since no delays meet all limits (IEEE 1364-2005, 15.8).
+#[derive(Clone, Copy, Debug, PartialEq, Eq)]
+pub struct Zero {
+    pub check: u32,
+    /// Which limit in the order of the check's text: 0 or 1.
+    pub part: u32,
+    /// What the limit was, in ticks.
+    pub value: i64,
 }

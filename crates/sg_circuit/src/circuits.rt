@@ -1,10 +1,10 @@
 // A circuit, made of its parts.
-ghost use Rattle.std.specs.Prelude.{◌≡◌, ◌↔◌, IfSome, IsSome};
+ghost use Rattle.std.specs.Prelude.{◌≡◌};
 ghost use Rattle.sg_circuit.specs.Closed.{IsClosed};
 ghost use Rattle.sg_circuit.specs.Seen.{circuit_seen, AreIndexed};
 
 use crate::{
-    Check, CheckConditions, CheckTiming, Element, LegTiming, Net, Path, Scope, Span, UdpUse,
+    Check, CheckConditions, CheckTiming, Element, LegTiming, Net, Path, Scope, Span, UdpUse, Zero,
 };
 use cond_expr::Expr;
 use sg_delay::GateDelays;
@@ -34,6 +34,8 @@ pub struct Parts {
     /// How the conditions of each are spelled.
     pub check_conditions: Vec<CheckConditions>,
     pub scopes: Vec<Scope>,
+    /// The limits of timing checks that are taken as 0.
+    pub zeroed: Vec<Zero>,
 }
 
 impl Parts {
@@ -83,15 +85,13 @@ impl Circuit {
         Circuit { parts }
     }
 
-    /// The circuit of these parts, or None where they don't fit together. It takes time in proportion to them.
-    pub fn try_close(parts: Parts) -> Option<Circuit>
-        ensures fit { IsSome result ↔ (IsClosed (circuit_seen parts) × AreIndexed parts) }
-        ensures circuit { IfSome result (λ circuit. circuit ≡ circuit_seen parts) }
+    /// Its parts, by value.
+    pub fn into_parts(self) -> Parts
+        ensures seen { circuit_seen result ≡ self }
+        ensures closed { IsClosed self }
+        ensures indexed { AreIndexed result }
     {
-        if !parts.fit() {
-            return None;
-        }
-        Some(Circuit::close(parts))
+        self.parts
     }
 
     /// Its parts.

@@ -21,6 +21,8 @@ pub enum ElementKind {
     /// The way to an output port's bit to which specify paths lead, from the net that is driven inside (IEEE 1364-2005, 14.2). `paths` are places in
     /// `Parts::paths`, and `style` says how an error pulse is shown.
     Path { paths: Span, style: PulseStyle },
+    /// A copy of the input that comes so many ticks later: the signal that a timing check with a negative limit sees (IEEE 1364-2005, 15.8).
+    Late { delay: u64 },
 }
 
 /// An element: the nets that it reads, and the one that it drives.

@@ -2,20 +2,16 @@
 #![tactic(auto)]
 
 mod building;
-mod check_fitting;
 mod checks;
 mod circuits;
 mod elements;
 mod fan_out;
-mod fitting;
 mod nets;
-mod path_fitting;
 mod paths;
 mod scopes;
-mod timing_fitting;
 
 pub use building::{Pin, add_pins};
-pub use checks::{Check, CheckConditions, CheckKind, CheckTiming, Event, Terminal};
+pub use checks::{Check, CheckConditions, CheckKind, CheckTiming, Event, Terminal, Zero};
 pub use circuits::{Circuit, Parts};
 pub use elements::{Element, ElementKind, LegTiming, UdpUse};
 pub use fan_out::FanOut;

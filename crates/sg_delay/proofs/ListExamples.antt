@@ -31,3 +31,12 @@ one_delay = refl
 
 two_delays : map (delay_to (7 ∷ 4 ∷ [])) (Zero ∷ One ∷ X ∷ Z ∷ []) ≡ 4 ∷ 7 ∷ 4 ∷ 4 ∷ []
 two_delays = refl
+
+lesser_to_x_and_z : map (delay_to (5 ∷ 3 ∷ [])) (X ∷ Z ∷ []) ≡ 3 ∷ 3 ∷ []
+lesser_to_x_and_z = refl
+
+three_delays : map (delay_to (4 ∷ 6 ∷ 9 ∷ [])) (One ∷ Zero ∷ Z ∷ X ∷ []) ≡ 4 ∷ 6 ∷ 9 ∷ 4 ∷ []
+three_delays = refl
+
+least_to_x : map (λ delays. delay_to delays X) ((6 ∷ 4 ∷ 9 ∷ []) ∷ (9 ∷ 6 ∷ 4 ∷ []) ∷ []) ≡ 4 ∷ 4 ∷ []
+least_to_x = refl

@@ -1,6 +1,6 @@
 // Delays of gates, by the value to which the output goes.
 ghost use Rattle.std.specs.Prelude.{ℕ, ◌≡◌, ◌≤◌, slice_index_or, take};
-ghost use Rattle.sg_delay.specs.GateDelay.{delay_to};
+ghost use Rattle.sg_delay.specs.GateDelay.{delay_to, of_two, of_three};
 
 use sg_logic::Value;
 
@@ -12,16 +12,38 @@ pub struct GateDelays {
     ghost rest_is_zero: { (i : ℕ) → count ≤ i → slice_index_or at i 0 ≡ 0 },
 }
 
-/// The delay of a gate whose output goes to a value: none is 0, one stands for all, and of two the lesser is to x and z.
+/// The delay, in ticks, of a gate whose output goes to a value: none is 0, and one stands for all. Of two the first is to 1,
+/// the second to 0, the lesser to x and z; of three the third is to z and the least to x (IEEE 1364-2005, 7.14).
 pub fn gate_delay(delays: &GateDelays, to: Value) -> u64
-    requires { delays.now.count ≤ 2 }
+    requires { delays.now.count ≤ 3 }
     ensures { result ≡ delay_to (take delays.now.count delays.now.at) to }
 {
-    let [first, second, _] = delays.at;
-    match (delays.count, to) {
-        (0, _) => 0,
-        (1, _) | (_, Value::One) => first,
-        (_, Value::Zero) => second,
-        (_, Value::X | Value::Z) => first.min(second),
+    let [rise, fall, off] = delays.at;
+    match delays.count {
+        0 => 0,
+        1 => rise,
+        2 => delay_of_two(rise, fall, to),
+        _ => delay_of_three(rise, fall, off, to),
+    }
+}
+
+fn delay_of_two(rise: u64, fall: u64, to: Value) -> u64
+    ensures { result ≡ of_two rise fall to }
+{
+    match to {
+        Value::One => rise,
+        Value::Zero => fall,
+        Value::X | Value::Z => rise.min(fall),
+    }
+}
+
+fn delay_of_three(rise: u64, fall: u64, off: u64, to: Value) -> u64
+    ensures { result ≡ of_three rise fall off to }
+{
+    match to {
+        Value::One => rise,
+        Value::Zero => fall,
+        Value::X => rise.min(fall).min(off),
+        Value::Z => off,
     }
 }

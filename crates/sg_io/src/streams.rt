@@ -3,19 +3,30 @@ ghost use Rattle.std.specs.Prelude.{◌≡◌, ◌≢◌, ◌+◌, ◌<◌, ◌�
 ghost use Rattle.std.specs.Io.{ReadsAtMost, StartsWith, WritesAtMost, appended_bytes};
 ghost use Rattle.std.specs.Io.KnownBytes.{Appends, Consumes, IsAtEnd, ReadConsumes, WriteAppends};
 ghost use Rattle.std.specs.IoError.{error_kind};
-ghost use Rattle.sg_io.specs.Opening.{opening_error};
+ghost use Rattle.sg_io.specs.Opening.{opening_error, writing_error};
 
-use crate::ReadError;
+use crate::{ReadError, ShelfError};
 use std::alloc::{AllocError, Global};
 use std::io::{self, ErrorKind, Read, Write};
 
-// What it means that a file didn't open: it is missing where there is none of the name.
+// What it means that a file didn't open that is to be read.
 fn opening_error(kind: ErrorKind) -> ReadError
     ensures { result ≡ opening_error kind }
 {
     match kind {
         ErrorKind::NotFound => ReadError::Missing,
+        ErrorKind::OutOfMemory => ReadError::NoMemory,
         _ => ReadError::Failed,
+    }
+}
+
+/// What it means that a file didn't open that is to be written.
+pub fn writing_error(kind: ErrorKind) -> ShelfError
+    ensures { result ≡ writing_error kind }
+{
+    match kind {
+        ErrorKind::OutOfMemory => ShelfError::NoMemory,
+        _ => ShelfError::Failed,
     }
 }
 
@@ -139,4 +150,21 @@ fn write_some<W: Write>(writer: &mut W, bytes: &[u8]) -> io::Result<usize>
         }
     }
     Err(io::Error::from(ErrorKind::TimedOut))
+}
+
+/// Adds bytes to a file that opened, or tells why there is none.
+pub fn write_opened<F: Write + Drop>(opened: io::Result<F>, bytes: &[u8]) -> Result<(), ShelfError>
+    ensures refused { IfErr opened (λ e. result ≡ Err (writing_error (error_kind e))) }
+    ensures failed { IsOk opened → result ≢ Err ShelfError.NoMemory }
+{
+    match opened {
+        Ok(mut file) => {
+            if write_whole(&mut file, bytes) {
+                Ok(())
+            } else {
+                Err(ShelfError::Failed)
+            }
+        }
+        Err(e) => Err(writing_error(e.kind())),
+    }
 }

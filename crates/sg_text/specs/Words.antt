@@ -38,7 +38,9 @@ gate_rows =
     of_grammar (codes "and") word.And ∷ of_grammar (codes "nand") word.Nand ∷
     of_grammar (codes "or") word.Or ∷ of_grammar (codes "nor") word.Nor ∷ of_grammar (codes "xor") word.Xor ∷
     of_grammar (codes "xnor") word.Xnor ∷ of_grammar (codes "buf") word.Buf ∷
-    of_grammar (codes "not") word.Not ∷ []
+    of_grammar (codes "not") word.Not ∷ of_grammar (codes "bufif0") word.Bufif0 ∷
+    of_grammar (codes "bufif1") word.Bufif1 ∷ of_grammar (codes "notif0") word.Notif0 ∷
+    of_grammar (codes "notif1") word.Notif1 ∷ []
 
 -- of user-defined primitives
 abbrev pub primitive_rows : List Row
@@ -74,15 +76,14 @@ declaration_rows =
     left_out (codes "triand") ∷ left_out (codes "trior") ∷ left_out (codes "tri0") ∷ left_out (codes "tri1") ∷
     left_out (codes "trireg") ∷ []
 
--- of switches, pull gates and tri-state gates, which netlists here don't have
+-- of switches and pull gates, which netlists here don't have
 abbrev pub switch_rows : List Row
 switch_rows =
     left_out (codes "pullup") ∷ left_out (codes "pulldown") ∷ left_out (codes "nmos") ∷
     left_out (codes "pmos") ∷ left_out (codes "cmos") ∷ left_out (codes "rnmos") ∷ left_out (codes "rpmos") ∷
     left_out (codes "rcmos") ∷ left_out (codes "tran") ∷ left_out (codes "rtran") ∷
     left_out (codes "tranif0") ∷ left_out (codes "tranif1") ∷ left_out (codes "rtranif0") ∷
-    left_out (codes "rtranif1") ∷ left_out (codes "bufif0") ∷ left_out (codes "bufif1") ∷
-    left_out (codes "notif0") ∷ left_out (codes "notif1") ∷ []
+    left_out (codes "rtranif1") ∷ []
 
 -- of strengths, which netlists here don't have
 abbrev pub strength_rows : List Row
@@ -133,20 +134,24 @@ keyword_number word.Xor = 13
 keyword_number word.Xnor = 14
 keyword_number word.Buf = 15
 keyword_number word.Not = 16
-keyword_number word.Primitive = 17
-keyword_number word.EndPrimitive = 18
-keyword_number word.Table = 19
-keyword_number word.EndTable = 20
-keyword_number word.Initial = 21
-keyword_number word.Specify = 22
-keyword_number word.EndSpecify = 23
-keyword_number word.SpecParam = 24
-keyword_number word.If = 25
-keyword_number word.IfNone = 26
-keyword_number word.PulseStyleOnEvent = 27
-keyword_number word.PulseStyleOnDetect = 28
-keyword_number word.NoShowCancelled = 29
-keyword_number word.ShowCancelled = 30
-keyword_number word.Posedge = 31
-keyword_number word.Negedge = 32
-keyword_number word.Edge = 33
+keyword_number word.Bufif0 = 17
+keyword_number word.Bufif1 = 18
+keyword_number word.Notif0 = 19
+keyword_number word.Notif1 = 20
+keyword_number word.Primitive = 21
+keyword_number word.EndPrimitive = 22
+keyword_number word.Table = 23
+keyword_number word.EndTable = 24
+keyword_number word.Initial = 25
+keyword_number word.Specify = 26
+keyword_number word.EndSpecify = 27
+keyword_number word.SpecParam = 28
+keyword_number word.If = 29
+keyword_number word.IfNone = 30
+keyword_number word.PulseStyleOnEvent = 31
+keyword_number word.PulseStyleOnDetect = 32
+keyword_number word.NoShowCancelled = 33
+keyword_number word.ShowCancelled = 34
+keyword_number word.Posedge = 35
+keyword_number word.Negedge = 36
+keyword_number word.Edge = 37

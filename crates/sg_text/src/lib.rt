@@ -13,6 +13,3 @@ pub use places::Place;
 pub use refusals::{NoMemory, Refused};
 pub use texts::Text;
 pub use words::{Keyword, Reserved, is_reserved, use_of};
-
-#[cfg(test)]
-mod tests;

@@ -1,12 +1,8 @@
 //! Simulates a netlist of gates under a stimulus, and writes its value change dump and a report.
 #![tactic(auto)]
 
-mod program;
-#[cfg(test)]
-mod tests;
-
-use crate::program::program;
 use sg_io::{FileShelf, StdSink};
+use signoff_top::program;
 use std::env;
 use std::process::ExitCode;
 

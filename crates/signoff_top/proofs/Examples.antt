@@ -3,8 +3,8 @@ use Rattle.std.specs.Prelude.{◌≡◌, ◌++◌, [], ◌∷◌, Err, codes, re
 use Rattle.std.specs.Fmt.{digits}
 use Rattle.netlist_read.specs.Kinds.{of_syntax}
 use Rattle.stim_read.specs.declared.kinds.StimKind.TheVariants as stim
-use Rattle.wave_out.specs.Texts.{line}
-use Rattle.signoff_top.specs.Phases.{FilesOutcome, goes_on, stops, line_of, missing, netlist, stimulus, refusal_line, refused_at, stimulus_kind}
+use Rattle.wave_out.specs.Texts.{line, line_of}
+use Rattle.signoff_top.specs.Phases.{FilesOutcome, goes_on, stops, missing, netlist, stimulus, refusal_line, refused_at, stimulus_kind}
 
 -- a line feed ends the line on which it stands
 breaks : line_of (codes "ab" ++ 10 ∷ codes "c") 2 ≡ 1

@@ -6,5 +6,6 @@ pub mod FilesRead
 pub mod WordsRead
 pub mod Worked
 pub mod OneAnswer
+pub mod ProgramWords
 pub mod Promised
 pub mod Examples

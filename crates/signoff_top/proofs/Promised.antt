@@ -84,14 +84,14 @@ refusal_fits (Some c) P r h = spares_fits r h
 
 -- the end of a run is a right answer
 done_right : (ws : List (List ℕ)) (done : code_done.Done) (old new : List File) → WorkLeaves ws (Ok done) old new
-    → IsRight ws (status_of_run (spent_seen done.end.spent) (violations_of done.end)) (report_lines done.task.circuit [] [] (violations_of done.end) done.task.input.end (spent_seen done.end.spent)) old new
+    → IsRight ws (status_of_run (spent_seen done.end.spent) (violations_of done.end)) (report_lines done.task.circuit [] (violations_of done.end) done.task.input.end (spent_seen done.end.spent)) old new
 done_right ws done old new (outcome, after, (spent, violations)) =
     let task : Task = task_seen done.task in
     record {
       answer = answer_of (Ok task);
       right = (Ok task, outcome, refl);
       status = ap (λ s. status_of_run s (violations_of done.end)) spent ∙ ap (status_of_run (run_of task).spent) violations;
-      report = ap (report_lines task.circuit [] [] (violations_of done.end) task.input.end) spent ∙ ap (λ vs. report_lines task.circuit [] [] vs task.input.end (run_of task).spent) violations;
+      report = ap (report_lines task.circuit [] (violations_of done.end) task.input.end) spent ∙ ap (λ vs. report_lines task.circuit [] vs task.input.end (run_of task).spent) violations;
       files = after;
     }
 
@@ -124,7 +124,7 @@ pub outcome : (ws : List (List ℕ)) (end : Result code_done.Done code_stop.Stop
     → StopWords (command_of ws) (λ c done. done.task.vcd.now ≡ c.vcd) end → TellsEnd shelf'.last end sink sink' how → Outcome ws shelf shelf' sink sink' how
 outcome ws (Ok done) how shelf shelf' sink sink' l c n w t =
     let planned = status_of_run (spent_seen done.end.spent) (violations_of done.end) in
-    let text = report_lines done.task.circuit [] [] (violations_of done.end) done.task.input.end (spent_seen done.end.spent) in
+    let text = report_lines done.task.circuit [] (violations_of done.end) done.task.input.end (spent_seen done.end.spent) in
     told_case ws planned how text shelf shelf' sink sink' (record {
       decided = run_decided (spent_seen done.end.spent) (violations_of done.end);
       words = run_fits (command_of ws) (λ c done. done.task.vcd.now ≡ c.vcd) done (spent_seen done.end.spent) (violations_of done.end) text w;

@@ -1,5 +1,5 @@
 -- What the putting of a report tells.
-use Rattle.std.proofs.Common.{◌≡◌, ◌∙◌, sym, ℕ, true, false, List, []}
+use Rattle.std.proofs.Common.{◌≡◌, ◌∙◌, sym, subst, inl, inr, ℕ, true, false, List, []}
 use Rattle.std.specs.Prelude.{Ok, Err}
 use Rattle.sg_io.specs.Put.{SinkTold, Puts}
 use Rattle.sg_io.specs.declared.outside.ShelfError.TheVariants as shelf
@@ -7,20 +7,26 @@ use Rattle.signoff_top.specs.Answer.{report_fault_line, no_memory_line}
 use Rattle.signoff_top.specs.Promises.{whole, till_fault}
 use Rattle.signoff_top.specs.Putting.{PutsLast}
 use Rattle.signoff_top.specs.Status.{is_run_end}
-use Rattle.signoff_top.specs.Work.{Tells, told, fault, want}
+use Rattle.signoff_top.specs.Work.{Tells, told, fault, want, no_memory}
 use Rattle.signoff_top.specs.declared.status.Status.{Status}
 use Rattle.signoff_top.specs.declared.status.Status.TheVariants as status
+use Rattle.wave_out.specs.Reporting.{PutsMade}
 use Rattle.signoff_top.proofs.Putting.{put_by}
 
-pub tells_all : (text : List ℕ) (planned : Status) (old new : SinkTold) (u : Unit {0}) → Puts text old new (Ok u) → Tells text planned old new planned
-tells_all text planned old new u h = told (whole (put_by text old new (Ok u) h))
+-- a text that was put, or for which there was no memory
+pub tells_all : (text : List ℕ) (planned : Status) (old new : SinkTold) (u : Unit {0}) → PutsMade text old new (Ok u) → Tells text planned old new planned
+tells_all text planned old new u (inl h) = told (whole (put_by text old new (Ok u) h))
+tells_all text planned old new u (inr h) = let e : Ok u ≡ Err shelf.NoMemory = h.0 in cc
 
-pub tells_fault : (text : List ℕ) (planned : Status) (old cut new : SinkTold) → is_run_end planned ≡ true → Puts text old cut (Err shelf.Failed) → PutsLast report_fault_line cut new
+pub tells_fault : (text : List ℕ) (planned : Status) (old cut new : SinkTold) → is_run_end planned ≡ true → PutsMade text old cut (Err shelf.Failed) → PutsLast report_fault_line cut new
     → Tells text planned old new status.Fault
-tells_fault text planned old cut new e h l = fault cut e (put_by text old cut (Err shelf.Failed) h) l
+tells_fault text planned old cut new e (inl h) l = fault cut e (put_by text old cut (Err shelf.Failed) h) l
+tells_fault text planned old cut new e (inr h) l = let f : Err shelf.Failed ≡ Err shelf.NoMemory = h.0 in cc
 
-pub tells_cut : (text : List ℕ) (planned : Status) (old new : SinkTold) → is_run_end planned ≡ false → Puts text old new (Err shelf.Failed) → Tells text planned old new planned
-tells_cut text planned old new e h = told (till_fault (λ r. let k : false ≡ true = sym e ∙ r in cc) (put_by text old new (Err shelf.Failed) h))
+pub tells_cut : (text : List ℕ) (planned : Status) (old new : SinkTold) → is_run_end planned ≡ false → PutsMade text old new (Err shelf.Failed) → Tells text planned old new planned
+tells_cut text planned old new e (inl h) = told (till_fault (λ r. let k : false ≡ true = sym e ∙ r in cc) (put_by text old new (Err shelf.Failed) h))
+tells_cut text planned old new e (inr h) = let f : Err shelf.Failed ≡ Err shelf.NoMemory = h.0 in cc
 
-pub tells_want : (text : List ℕ) (planned : Status) (old cut new : SinkTold) → Puts text old cut (Err shelf.NoMemory) → PutsLast no_memory_line cut new → Tells text planned old new status.NoMemory
-tells_want text planned old cut new h l = want cut (put_by [] old cut (Err shelf.NoMemory) h) l
+pub tells_want : (text : List ℕ) (planned : Status) (old cut new : SinkTold) → PutsMade text old cut (Err shelf.NoMemory) → PutsLast no_memory_line cut new → Tells text planned old new status.NoMemory
+tells_want text planned old cut new (inl h) l = want cut (put_by [] old cut (Err shelf.NoMemory) h) l
+tells_want text planned old cut new (inr h) l = no_memory (subst (λ s. PutsLast no_memory_line s new) h.1 l)

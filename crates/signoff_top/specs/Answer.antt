@@ -34,7 +34,7 @@ abbrev pub answer_of : Result Task Refusal → Answer
 answer_of (Ok task) = record {
   status = status_of_run (run_of task).spent (run_of task).run.violations;
   made = Some (record { name = task.vcd; bytes = dump_of task });
-  report = report_text task.circuit [] [] task.input.end (run_of task);
+  report = report_text task.circuit [] task.input.end (run_of task);
 }
 answer_of (Err r) = record { status = status_of_refusal r; made = None; report = refusal_line r }
 

@@ -4,6 +4,7 @@ pub mod Phases
 pub mod Answer
 pub mod Putting
 pub mod Promises
+pub mod Program
 pub mod Stops
 pub mod Tasks
 pub mod Work

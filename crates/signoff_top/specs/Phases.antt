@@ -1,12 +1,12 @@
 -- The answer to a command line, phase by phase. Each phase has its outcomes, over what the phases before it gave: a
 -- value for the phases after it, or a refusal, with which the work ends.
-use Rattle.std.specs.Prelude.{ℕ, ◌≡◌, ◌++◌, ◌+◌, ◌==◌, ◌^◌, List, [], ◌∷◌, Option, Some, None, Result, Ok, Err, codes, count_by, decimal, slice_index_or, take}
+use Rattle.std.specs.Prelude.{ℕ, ◌≡◌, ◌++◌, ◌+◌, ◌^◌, List, [], ◌∷◌, Option, Some, None, Result, Ok, Err, codes, decimal, slice_index_or, take}
 use Rattle.sg_io.specs.Files.{File, bytes_of}
 use Rattle.sg_text.specs.declared.places.Place.{Place}
 use Rattle.sg_delay.specs.declared.corners.Corner.{Corner}
 use Rattle.sg_circuit.specs.Circuit.{Circuit}
 use Rattle.sg_stimulus.specs.Stimulus.{Stimulus}
-use Rattle.wave_out.specs.Texts.{line}
+use Rattle.wave_out.specs.Texts.{line, line_of}
 use Rattle.run_words.specs.Words.{Command, command_of}
 use Rattle.netlist_read.specs.Kinds.{Kind, kind_text}
 use Rattle.netlist_read.specs.Reading as netlist_text
@@ -66,10 +66,6 @@ FileOutcome name (Some bytes) outcome = outcome ≡ Ok (take read_limit bytes)
 abbrev pub FilesOutcome : List (List ℕ) → List File → Result (List (List ℕ)) Refusal → Type 0
 FilesOutcome [] files outcome = outcome ≡ Ok []
 FilesOutcome (n ∷ ns) files outcome = Then (FileOutcome n (bytes_of n files)) (λ text. Then (FilesOutcome ns files) (λ texts o. o ≡ Ok (text ∷ texts))) outcome
-
--- the line of a byte of a text, counted from 1: one more than the line feeds (byte 10) before it
-abbrev pub line_of : List ℕ → ℕ → ℕ
-line_of text byte = 1 + count_by (λ b. b == 10) (take byte text)
 
 -- a fault of a netlist, named by the file in which it stands: names and texts of the files are those of the words, in order
 abbrev pub refused_at : List (List ℕ) → List (List ℕ) → Kind → Place → Refusal

@@ -6,10 +6,9 @@ mod phases;
 mod report;
 mod status;
 mod stop;
-#[cfg(test)]
-mod tests;
+mod system;
 mod work;
 
 pub use answer::top;
-pub use report::tell_no_memory;
 pub use status::Status;
+pub use system::program;

@@ -1,9 +1,13 @@
 // The report.
 ghost use Rattle.std.specs.Prelude.{◌≡◌, ◌++◌, [], ℕ, List, IfOk, IfErr, map};
 ghost use Rattle.std.specs.Option.{option_copied};
+ghost use Rattle.sg_circuit.specs.Circuit.{Circuit};
+ghost use Rattle.sg_io.specs.Put.{SinkTold};
+ghost use Rattle.sg_model.specs.Machine.{Violation};
 ghost use Rattle.time_checks.specs.Seen.{violation_seen};
-ghost use Rattle.wave_out.specs.Report.{report_lines};
-ghost use Rattle.wave_out.specs.Spent.{spent_seen};
+ghost use Rattle.wave_out.specs.Report.{Unmatched, report_lines};
+ghost use Rattle.wave_out.specs.Reporting.{PutsMade};
+ghost use Rattle.wave_out.specs.Spent.{end_spent, end_time, spent_seen};
 ghost use Rattle.wave_out.specs.Texts.{line};
 ghost use Rattle.signoff_top.specs.Answer.{fault_line, no_memory_line, status_of_run as end_status};
 ghost use Rattle.signoff_top.specs.Phases.{located_line, refusal_line, status_of_refusal, stimulus_kind};
@@ -19,7 +23,7 @@ use run_dump::RunEnd;
 use sg_io::{ShelfError, Sink};
 use std::alloc::{AllocError, Global};
 use stim_read::StimKind;
-use wave_out::report_of;
+use wave_out::{ReportEnd, Spent, write_report};
 
 const USAGE: &str =
     "usage: signoff run NETLIST.. --stim F --vcd F [--sdf F] [--top NAME] [--corner min|typ|max] [--rounds N] [--wheel N] | signoff gen N";
@@ -101,18 +105,6 @@ fn status_of(refusal: &Refusal<'_>) -> Status
     }
 }
 
-fn run_text(alloc: Global, done: &Done<'_>) -> Result<Vec<u8>, AllocError>
-    ensures { IfOk result (λ v. v.items ≡ report_lines done.now.task.circuit [] [] (map (λ x. violation_seen x) done.now.end.violations.items) done.now.task.input.end (spent_seen done.now.end.spent)) }
-{
-    report_of(
-        alloc,
-        &done.task.circuit,
-        &done.end.violations,
-        done.task.input.end,
-        done.end.spent,
-    )
-}
-
 // In pieces, so that no memory is taken.
 fn put_line<K: Sink>(report: &mut K, before: &[u8], name: &[u8]) -> Result<(), ShelfError>
     ensures { PutsBy (line (before.now ++ name.now)) (K.told report.old) (K.told report.new) result }
@@ -140,15 +132,31 @@ pub fn tell_no_memory<K: Sink>(report: &mut K) -> Status
 }
 
 // A failing sink turns the end of a run into a fault, which it is told too, and leaves every other status.
+fn tell_error<K: Sink>(report: &mut K, planned: Status, error: ShelfError) -> Status
+    ensures { (text : List ℕ) (before : SinkTold) → PutsMade text before (K.told report.old) (Err error) → Tells text planned before (K.told report.new) result }
+{
+    match error {
+        ShelfError::Failed if planned.is_run_end() => tell_fault(report, "report"),
+        ShelfError::Failed => planned,
+        ShelfError::NoMemory => tell_no_memory(report),
+    }
+}
+
+// How it ends where a text was put so, whichever it was.
+fn tell_put<K: Sink>(report: &mut K, planned: Status, put: Result<(), ShelfError>) -> Status
+    ensures { (text : List ℕ) (before : SinkTold) → PutsMade text before (K.told report.old) put → Tells text planned before (K.told report.new) result }
+{
+    match put {
+        Ok(()) => planned,
+        Err(error) => tell_error(report, planned, error),
+    }
+}
+
 fn put_text<K: Sink>(report: &mut K, planned: Status, text: &[u8]) -> Status
     ensures { Tells text.now planned (K.told report.old) (K.told report.new) result }
 {
-    match report.put(text) {
-        Ok(()) => planned,
-        Err(ShelfError::Failed) if planned.is_run_end() => tell_fault(report, "report"),
-        Err(ShelfError::Failed) => planned,
-        Err(ShelfError::NoMemory) => tell_no_memory(report),
-    }
+    let put = report.put(text);
+    tell_put(report, planned, put)
 }
 
 // Puts a text, if there was memory for it.
@@ -162,6 +170,17 @@ fn put_made<K: Sink>(report: &mut K, planned: Status, made: Result<Vec<u8>, Allo
     }
 }
 
+// How a run ended, by the end of its stimulus and by the time that was spent, if there was one.
+#[tactic(auto, unfolding(wave_out::specs::Report::report_lines))]
+fn report_end(end: u64, spent: Option<Spent>) -> ReportEnd
+    ensures { (c : Circuit) (us : List Unmatched) (vs : List Violation) → report_lines c us vs (end_time result) (end_spent result) ≡ report_lines c us vs end (spent_seen spent) }
+{
+    match spent {
+        Some(Spent { time, net }) => ReportEnd::Spent { time, net },
+        None => ReportEnd::Whole { time: end },
+    }
+}
+
 fn status_of_run(end: &RunEnd) -> Status
     ensures { result ≡ end_status (spent_seen end.now.spent) (map (λ v. violation_seen v) end.now.violations.items) }
 {
@@ -170,6 +189,23 @@ fn status_of_run(end: &RunEnd) -> Status
         None if end.violations.is_empty() => Status::Clean,
         None => Status::Violations,
     }
+}
+
+// Nothing is annotated yet, so no entry is unmatched.
+fn tell_run<K: Sink>(alloc: Global, done: &Done<'_>, report: &mut K) -> Status
+    ensures { Tells (report_lines done.now.task.circuit [] (map (λ v. violation_seen v) done.now.end.violations.items) done.now.task.input.end (spent_seen done.now.end.spent)) (end_status (spent_seen done.now.end.spent) (map (λ v. violation_seen v) done.now.end.violations.items)) (K.told report.old) (K.told report.new) result }
+{
+    let planned = status_of_run(&done.end);
+    let put = write_report(
+        alloc,
+        &done.task.circuit,
+        &[],
+        &[],
+        &done.end.violations,
+        report_end(done.task.input.end, done.end.spent),
+        report,
+    );
+    tell_put(report, planned, put)
 }
 
 fn tell_stop<K: Sink>(
@@ -200,7 +236,7 @@ pub fn tell<K: Sink>(
     ensures { TellsEnd (option_copied failed.entry) end.now (K.told report.old) (K.told report.new) result }
 {
     match end {
-        Ok(done) => put_made(report, status_of_run(&done.end), run_text(alloc, done)),
+        Ok(done) => tell_run(alloc, done, report),
         Err(stop) => tell_stop(alloc, stop, failed, report),
     }
 }

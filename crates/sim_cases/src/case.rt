@@ -5,8 +5,9 @@ use crate::checks::{CheckFrom, Checks};
 use crate::lines::Lines;
 use crate::paths::{PathFrom, Paths};
 use anyhow::Context;
+use circuit_fit::try_close;
 use pulse_list::PlainAgenda;
-use sg_circuit::{Circuit, Driver, Element, ElementKind, LegTiming, Net, Parts, Scope};
+use sg_circuit::{Driver, Element, ElementKind, LegTiming, Net, Parts, Scope};
 use sg_delay::GateDelays;
 use sg_io::MemoryShelf;
 use sg_logic::Value;
@@ -14,7 +15,8 @@ use sg_steps::Steps;
 use sg_stimulus::{Set, StimStep, Stimulus};
 use sg_text::{NoMemory, Text};
 use sg_time::{Scale, Unit};
-use sim_rounds::{Finished, Sim, SimEnd};
+use sim_rounds::{Finished, Sim};
+use sim_times::SimEnd;
 use smallvec::SmallVec;
 use std::alloc::{AllocError, Global};
 use std::marker::Brand;
@@ -152,6 +154,7 @@ impl Case<'_> {
             check_timings: checks.timings,
             check_conditions: checks.written,
             scopes: vec![in alloc; top(alloc)?]?,
+            zeroed: Vec::new(alloc),
         })
     }
 
@@ -176,7 +179,7 @@ impl Case<'_> {
         requires parts { blank.parts ≡ L.parts }
         requires some { 0 < blank.parts }
     {
-        let circuit = Circuit::try_close(self.parts(alloc)?).context("no circuit")?;
+        let circuit = try_close(self.parts(alloc)?).context("no circuit")?;
         let stimulus = self.stimulus(alloc)?;
         if !stimulus.fits(&circuit) {
             anyhow::bail!("no stimulus of the circuit");

@@ -86,14 +86,40 @@ pub fn all_legs(alloc: Global, out: &mut String) -> anyhow::Result<()> {
     leg(alloc, out, "leg (7, 9), a pulse of 6", slow, &longer, 40)?;
     leg(alloc, out, "leg (7, 9) with limits (2, 9)", own, &short, 40)?;
     leg(alloc, out, "leg (9, 3)", fast, &short, 40)?;
-    leg(alloc, out, "leg 6 with limits (2, 4)", both, &three, 60)
+    leg(alloc, out, "leg 6 with limits (2, 4)", both, &three, 60)?;
+    late(alloc, out)
+}
+
+// A delayed copy shows each change 3 ticks later, however short a pulse is. The first round evaluates it, and each later
+// change of a does once more: 6.
+fn late(alloc: Global, out: &mut String) -> anyhow::Result<()> {
+    let case = Case {
+        title: "late 3",
+        names: &["a", "y"],
+        inputs: 1,
+        elements: &[(ElementKind::Late { delay: 3 }, &[0])],
+        timings: &[],
+        paths: &[],
+        checks: &[],
+        sets: &[
+            (0, &[Zero]),
+            (10, &[One]),
+            (11, &[Zero]),
+            (20, &[One]),
+            (21, &[X]),
+            (22, &[Zero]),
+        ],
+        end: 40,
+    };
+    case.show(alloc, out)
 }
 
 pub fn all_gates(alloc: Global, out: &mut String) -> anyhow::Result<()> {
     oscillator(alloc, out)?;
     chain(alloc, out)?;
     glitch(alloc, out)?;
-    same_again(alloc, out)
+    same_again(alloc, out)?;
+    tri_state(alloc, out)
 }
 
 // nand (y, a, y) without delay. At 0 the first round gives 1 at once, and the second finds 1 again: 2 evaluations. At
@@ -173,6 +199,28 @@ fn same_again(alloc: Global, out: &mut String) -> anyhow::Result<()> {
         checks: &[],
         sets: &[(0, &[Zero]), (10, &[Zero]), (15, &[One]), (20, &[X])],
         end: 30,
+    };
+    case.show(alloc, out)
+}
+
+// bufif1 #(1, 2) (y, a, c). While c is 0 its output is z, to which it goes by the lesser of two delays: 1. So it does to
+// x, where c is x. The first round evaluates it, and each change of c once more: 4.
+fn tri_state(alloc: Global, out: &mut String) -> anyhow::Result<()> {
+    let case = Case {
+        title: "bufif1 #(1, 2)",
+        names: &["a", "c", "y"],
+        inputs: 2,
+        elements: &[(gate(GateKind::Bufif1, 1), &[0, 1])],
+        timings: &[],
+        paths: &[],
+        checks: &[],
+        sets: &[
+            (0, &[One, One]),
+            (10, &[One, Zero]),
+            (20, &[One, One]),
+            (30, &[One, X]),
+        ],
+        end: 40,
     };
     case.show(alloc, out)
 }

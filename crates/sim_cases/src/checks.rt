@@ -4,7 +4,7 @@ use anyhow::Context;
 use cond_expr::{Bound, Expr, Op, Tok};
 use sg_circuit::{Check, CheckConditions, CheckKind, CheckTiming, Event, Terminal};
 use sg_logic::{Edge, Value};
-use sg_text::Text;
+use sg_text::{Place, Text};
 use std::alloc::Global;
 
 /// Under which condition a change is an event: none, a net by itself, or that a net is 1.
@@ -146,6 +146,7 @@ impl Checks {
             refer: refer.terminal,
             datum: terminal,
             notifier: from.notifier,
+            place: Place { file: 0, byte: 0 },
         })?;
         self.timings.push(CheckTiming {
             kind: from.kind,
@@ -153,6 +154,7 @@ impl Checks {
             datum: event,
             limits: from.limits,
             threshold: from.threshold,
+            late: None,
         })?;
         self.written.push(CheckConditions {
             refer: refer.written,

@@ -2,7 +2,7 @@
 use cond_expr::Nets;
 use sg_io::{Shelf, ShelfError};
 use sg_logic::Value;
-use sim_rounds::Watch;
+use sim_times::Watch;
 use std::alloc::AllocError;
 use time_checks::Change;
 
@@ -40,7 +40,7 @@ impl Lines<'_> {
 impl<S: Shelf> Watch<S> for Lines<'_> {
     ghost use Rattle.std.specs.Prelude.{◌≡◌, [], refl};
     ghost use Rattle.std.proofs.Common.{◌∙◌};
-    ghost use Rattle.sim_rounds.specs.Watching.{no_circuit};
+    ghost use Rattle.sim_times.specs.Watching.{no_circuit};
 
     ghost name = { λ w. [] };
 

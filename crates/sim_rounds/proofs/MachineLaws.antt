@@ -14,7 +14,7 @@ use Rattle.sg_model.specs.Quiet.{IsLawful}
 use Rattle.sg_model.specs.FanOut.{IsSteady, AgreeAt}
 use Rattle.sg_circuit.specs.declared.nets.Driver.{Driver}
 use Rattle.sg_circuit.specs.declared.nets.Driver.TheVariants as driver
-use Rattle.sg_circuit.specs.Circuit.{Circuit, Element, Kind, Gate, Udp, Pass, Leg, Path, element_at, net_at}
+use Rattle.sg_circuit.specs.Circuit.{Circuit, Element, Kind, Gate, Udp, Pass, Leg, Path, Late, element_at, net_at}
 use Rattle.path_pick.proofs.LaterLaws.{picked_later}
 use Rattle.sg_circuit.specs.Closed.{IsClosed}
 use Rattle.sg_circuit.specs.declared.checks.Check.{Check}
@@ -59,6 +59,7 @@ kind_same (Pass None) a b d s e = ap (λ vs. value_at vs 0) (sym e)
 kind_same (Pass (Some value)) a b d s e = refl
 kind_same (Leg timings) a b d s e = ap (λ vs. value_at vs 0) (sym e)
 kind_same (Path paths style) a b d s e = ap (λ vs. value_at vs 0) (sym e)
+kind_same (Late delay) a b d s e = ap (λ vs. value_at vs 0) (sym e)
 
 pub inputs_at : (elements : List Element) (e : ℕ) (blank : Element) → blank.inputs ≡ [] → slice_index_or (map (λ (x : Element). x.inputs) elements) e [] ≡ (slice_index_or elements e blank).inputs
 inputs_at [] e blank h = sym h
@@ -79,6 +80,7 @@ kind_later (Udp primitive first delays) now values stamps from to = omega arith
 kind_later (Pass constant) now values stamps from to = omega arith
 kind_later (Leg timings) now values stamps from to = omega arith
 kind_later (Path paths style) now values stamps from to = picked_later paths values stamps now from to
+kind_later (Late delay) now values stamps from to = omega arith
 
 pub later : (circuit : Circuit) → IsLater (machine_of circuit)
 later circuit = record { later = λ now e values stamps from to. kind_later (element_at circuit e).kind now values stamps from to }

@@ -14,7 +14,7 @@ use Rattle.time_checks.specs.declared.violations.Violation as code_violation
 use Rattle.time_checks.specs.Checking.{Kept, Covers, Sees}
 use Rattle.time_checks.specs.Seen.{violation_seen}
 use Rattle.time_checks.specs.Violations.{violations}
-use Rattle.sim_rounds.specs.Checks.{HasSeen}
+use Rattle.sim_times.specs.Checks.{HasSeen}
 use Rattle.sim_rounds.specs.CircuitChecks.{HaveSeen}
 
 -- no net differs from itself

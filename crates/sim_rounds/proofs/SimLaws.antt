@@ -20,21 +20,21 @@ use Rattle.sg_stimulus.specs.Applied.{IsApplied, IsInput}
 use Rattle.time_checks.specs.declared.violations.Violation as code_violation
 use Rattle.sim_rounds.specs.Elements.{ElementsSeen}
 use Rattle.fan_round.specs.declared.nets.Nets.{Nets}
-use Rattle.sim_rounds.specs.declared.told.Told.{Told}
+use Rattle.sim_times.specs.declared.told.Told.{Told}
 use Rattle.fan_round.specs.declared.work.WorkList.{WorkList}
 use Rattle.fan_round.specs.Nets.{stamp_seen}
 use Rattle.fan_round.specs.Rounds.{AreHanded, ArePending}
 use Rattle.fan_round.specs.States.{state_seen, IsIdle, IsOfCircuit}
 use Rattle.sim_rounds.specs.Simulated.{first_state, machine_of}
-use Rattle.sim_rounds.specs.Simulations.{IsReadyAt, StandsBetween}
-use Rattle.sim_rounds.specs.Steps.{CanApply}
+use Rattle.sim_times.specs.Simulations.{IsReadyAt, StandsBetween}
+use Rattle.sim_times.specs.Steps.{CanApply}
 use Rattle.sim_rounds.specs.Fresh.{IsFresh, first_value_of}
-use Rattle.sim_rounds.specs.Runs.{start_of}
+use Rattle.sim_times.specs.Runs.{start_of}
 use Rattle.sg_circuit.specs.declared.checks.Check.{Check}
 use Rattle.sg_circuit.specs.declared.checks.CheckTiming.{CheckTiming}
 use Rattle.time_checks.specs.Checking.{Kept}
 use Rattle.time_checks.specs.Violations.{violations}
-use Rattle.sim_rounds.specs.Checks.{AreFree}
+use Rattle.sim_times.specs.Checks.{AreFree}
 use Rattle.sim_rounds.specs.CircuitChecks.{AreChecksOver, AreFirst, HaveSeen}
 use Rattle.sim_rounds.specs.Notifiers.{notifiers_of}
 use Rattle.sim_rounds.proofs.CircuitChecksLaws.{first_over, first_stands}

@@ -7,11 +7,11 @@ use Rattle.sg_circuit.specs.Circuit.{Circuit}
 use Rattle.sg_circuit.specs.FanOut.{IsFanOut}
 use Rattle.sim_rounds.specs.Elements.{ElementsSeen}
 use Rattle.fan_round.specs.declared.nets.Nets.{Nets}
-use Rattle.sim_rounds.specs.declared.told.Told.{Told}
+use Rattle.sim_times.specs.declared.told.Told.{Told}
 use Rattle.fan_round.specs.declared.work.WorkList.{WorkList}
 use Rattle.fan_round.specs.Nets.{stamp_seen, AreNets}
 use Rattle.fan_round.specs.States.{IsIdle}
-use Rattle.sim_rounds.specs.Told.{IsTold}
+use Rattle.sim_times.specs.Told.{IsTold}
 use Rattle.sim_rounds.specs.Simulated.{first_state, is_driven, machine_of}
 
 -- the value of a net before time 0

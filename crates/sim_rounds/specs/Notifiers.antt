@@ -8,7 +8,7 @@ use Rattle.sg_model.specs.Machine.{Violation}
 
 -- the net that the check of a number names as its notifier, if it names one
 abbrev pub notifier_at : List Check → ℕ → Option ℕ
-notifier_at checks number = (slice_index_or checks number (record { scope = 0; kind = kind.Setup; refer = record { name = []; bit = None }; datum = None; notifier = None })).notifier
+notifier_at checks number = (slice_index_or checks number (record { scope = 0; kind = kind.Setup; refer = record { name = []; bit = None }; datum = None; notifier = None; place = record { file = 0; byte = 0 } })).notifier
 
 abbrev pub is_net : ℕ → Option ℕ → Bool
 is_net net None = false

@@ -12,7 +12,7 @@ use Rattle.sg_model.specs.Machine.{Machine, State, Stamp, Rule, Inertial, Pulse}
 use Rattle.sg_model.specs.Run.{Finished, run_of}
 use Rattle.sg_circuit.specs.declared.nets.Driver.{Driver}
 use Rattle.sg_circuit.specs.declared.nets.Driver.TheVariants as driver
-use Rattle.sg_circuit.specs.Circuit.{Circuit, Kind, Gate, Udp, Pass, Leg, Path, element_at}
+use Rattle.sg_circuit.specs.Circuit.{Circuit, Kind, Gate, Udp, Pass, Leg, Path, Late, element_at}
 use Rattle.sg_circuit.specs.Timings.{Timing, timing_between, limits_of}
 use Rattle.pulse_list.specs.Seen.{style_seen}
 use Rattle.time_checks.specs.Violations.{violations}
@@ -34,23 +34,29 @@ value_of_kind (Pass None) before after state = value_at after 0
 value_of_kind (Pass (Some value)) before after state = value
 value_of_kind (Leg timings) before after state = value_at after 0
 value_of_kind (Path paths style) before after state = value_at after 0
+value_of_kind (Late delay) before after state = value_at after 0
 
 -- a leg's pulse rule; an error pulse shows from its leading edge on (14.6.4.1)
 abbrev pub leg_rule : ℕ → Timing → Rule
 leg_rule now timing = Pulse (now + timing.delay) (limits_of timing).0 (limits_of timing).1 OnEvent
+
+-- a delayed signal shows each change of its net so many ticks later, however short a pulse is (15.8)
+abbrev pub late_rule : ℕ → ℕ → Rule
+late_rule now delay = Pulse (now + delay) 0 0 OnEvent
 
 -- the pulse rule of specify paths: by what the path that decides makes of the transition, in the output's style (14.6.4)
 abbrev pub path_rule : PulseStyle → Picked → Rule
 path_rule style picked = Pulse picked.time picked.reject picked.error (style_seen style)
 
 -- by which rule an element of a kind places a value: now, with the nets' values and last changes after the round, from the
--- value that its list ends with to the new one (6.1, 7.14, 8.6, 14.3)
+-- value that its list ends with to the new one (6.1, 7.14, 8.6, 14.3, 15.8)
 abbrev pub rule_of_kind : Kind → ℕ → List Value → List (Option Stamp) → Value → Value → Rule
 rule_of_kind (Gate kind delays) now after stamps from to = Inertial (now + delay_to delays to)
 rule_of_kind (Udp primitive first delays) now after stamps from to = Inertial (now + delay_to delays to)
 rule_of_kind (Pass constant) now after stamps from to = Inertial now
 rule_of_kind (Leg timings) now after stamps from to = leg_rule now (timing_between timings from to)
 rule_of_kind (Path paths style) now after stamps from to = path_rule style (picked paths after stamps now from to)
+rule_of_kind (Late delay) now after stamps from to = late_rule now delay
 
 -- the value that an element of a kind computed last, before time 0: a primitive's first state (8.5)
 abbrev pub first_of_kind : Kind → Value
@@ -59,6 +65,7 @@ first_of_kind (Udp primitive first delays) = first
 first_of_kind (Pass constant) = X
 first_of_kind (Leg timings) = X
 first_of_kind (Path paths style) = X
+first_of_kind (Late delay) = X
 
 -- the machine of a circuit; each of its reg nets that a violated check names as its notifier toggles (15.5)
 abbrev pub machine_of : Circuit → Machine

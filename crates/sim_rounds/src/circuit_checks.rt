@@ -10,12 +10,12 @@ ghost use Rattle.time_checks.specs.Seen.{violation_seen};
 ghost use Rattle.sim_rounds.specs.CircuitChecks.{AreFirst};
 ghost use Rattle.sim_rounds.specs.Notifiers.{is_named, is_net, notifier_at, notifiers_of, toggle_to, toggled_value};
 
-use crate::checks::Checks;
 use fan_round::{WorkList, clear_work, mark_all};
 use sg_circuit::{Check, Circuit, NetId};
 use sg_logic::Value;
 use sg_stimulus::Set;
 use sg_text::NoMemory;
+use sim_times::Checks;
 use std::alloc::Global;
 use time_checks::{Checker, Violation};
 

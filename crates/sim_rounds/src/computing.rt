@@ -126,9 +126,8 @@ pub fn compute<L: Ledger>(
             steps.tick();
             value
         }
-        ElementKind::Pass { constant: None } | ElementKind::Leg { .. } => {
-            compute_pass(&item.inputs, values, steps)
-        }
+        ElementKind::Pass { constant: None } | ElementKind::Leg { .. } | ElementKind::Late { .. } =>
+            compute_pass(&item.inputs, values, steps),
         ElementKind::Path { .. } => compute_pass(&item.inputs, values, steps),
     }
 }

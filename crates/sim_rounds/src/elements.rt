@@ -55,7 +55,8 @@ fn first_value(parts: &Parts, kind: ElementKind) -> Value
         ElementKind::Gate { .. }
         | ElementKind::Pass { .. }
         | ElementKind::Leg { .. }
-        | ElementKind::Path { .. } => Value::X,
+        | ElementKind::Path { .. }
+        | ElementKind::Late { .. } => Value::X,
     }
 }
 

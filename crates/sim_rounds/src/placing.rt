@@ -10,7 +10,7 @@ ghost use Rattle.sg_circuit.specs.Seen.{delays_at, kind_seen, IsIndexed};
 ghost use Rattle.sg_circuit.specs.Timings.{timing_between};
 ghost use Rattle.sg_circuit.specs.TimingsSeen.{leg_timing_seen};
 ghost use Rattle.path_pick.specs.Choice.{picked};
-ghost use Rattle.sim_rounds.specs.Simulated.{rule_of_kind, leg_rule, path_rule};
+ghost use Rattle.sim_rounds.specs.Simulated.{rule_of_kind, late_rule, leg_rule, path_rule};
 
 use cond_expr::Nets;
 use path_pick::{Stamps, pick, pulse_between};
@@ -94,10 +94,42 @@ fn place_path<A: Agenda, N: Nets + Stamps>(
     );
 }
 
+// A delayed signal's value is placed behind what is pending, so many ticks later.
+fn place_late<A: Agenda>(
+    agenda: &mut A,
+    element: u32,
+    present: Value,
+    now: u64,
+    value: Value,
+    delay: u64,
+)
+    requires element { element < length (A.lists agenda.old) }
+    requires room { 2 ≤ A.spare agenda.old }
+    requires from_now { NoneBelow now (list_at (A.lists agenda.old) element) }
+    requires now { now < 2 ^ 60 }
+    requires delay { delay < 2 ^ 60 }
+    ensures lists { A.lists agenda.new ≡ with_list (A.lists agenda.old) element
+        (placed_by (late_rule now delay) (list_at (A.lists agenda.old) element) present now value) }
+    ensures spare { A.spare agenda.old ≤ A.spare agenda.new + 2 }
+{
+    let time = now + delay;
+    place(
+        agenda,
+        element,
+        present,
+        now,
+        value,
+        time,
+        0,
+        0,
+        PulseStyle::OnEvent,
+    );
+}
+
 // The delay of a gate, by the place of its delays in a table.
 fn delay_of(table: &[GateDelays], place: u32, to: Value) -> u64
     requires place { place < length table.now }
-    requires counts { All (λ d. d.count ≤ 2) table.now }
+    requires counts { All (λ d. d.count ≤ 3) table.now }
     requires fits { All (λ d. d < 2 ^ 60) (delays_at table.now place) }
     ensures delay { result ≡ delay_to (delays_at table.now place) to }
     ensures fits { result < 2 ^ 60 }
@@ -121,7 +153,7 @@ pub fn place_value<A: Agenda, N: Nets + Stamps>(
     requires from_now { NoneBelow now (list_at (A.lists agenda.old) element) }
     requires now { now < 2 ^ 60 }
     requires indexed { IsIndexed parts.now kind }
-    requires counts { All (λ d. d.count ≤ 2) parts.now.gate_delays.items }
+    requires counts { All (λ d. d.count ≤ 3) parts.now.gate_delays.items }
     requires delays { HasDelays (kind_seen parts.now kind) }
     requires paths { NamesNets (length (N.values nets.now)) (kind_seen parts.now kind) }
     requires stamps { length (N.stamps nets.now) ≡ length (N.values nets.now) }
@@ -144,5 +176,6 @@ pub fn place_value<A: Agenda, N: Nets + Stamps>(
                 agenda, parts, element, present, now, value, paths, style, nets,
             );
         }
+        ElementKind::Late { delay } => place_late(agenda, element, present, now, value, delay),
     }
 }

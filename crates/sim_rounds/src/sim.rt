@@ -10,10 +10,6 @@ ghost use Rattle.sg_circuit.specs.Closed.{IsClosed};
 
 use crate::circuit_checks::CircuitChecks;
 use crate::elements::CircuitElements;
-use crate::runs::{SimEnd, make_times};
-use crate::simulation::Simulation;
-use crate::told::Told;
-use crate::watch::Watch;
 use fan_round::{Nets, WorkList};
 use pulse_list::Agenda;
 use sg_circuit::{Circuit, Driver, Element, FanOut, Net, NetId};
@@ -22,6 +18,7 @@ use sg_logic::Value;
 use sg_steps::Steps;
 use sg_stimulus::Stimulus;
 use sg_text::NoMemory;
+use sim_times::{SimEnd, Simulation, Told, Watch, make_times};
 use std::alloc::Global;
 use std::sync::ledger::Ledger;
 use time_checks::Violation;
@@ -133,9 +130,9 @@ impl<'a, A: Agenda + Drop> Sim<'a, A> {
     ghost use Rattle.std.specs.Prelude.{◌≡◌, ◌-◌, ◌<◌, ◌≤◌, [], IfOk, length, map, replicate};
     ghost use Rattle.sg_stimulus.specs.Applied.{IsApplied};
     ghost use Rattle.sg_stimulus.specs.Seen.{stimulus_seen};
-    ghost use Rattle.sim_rounds.specs.Runs.{CauseOfEnd, HasEnded, NamesFaultOfEnd};
+    ghost use Rattle.sim_times.specs.Runs.{CauseOfEnd, HasEnded, NamesFaultOfEnd};
     ghost use Rattle.sim_rounds.specs.Setting.{setting_of};
-    ghost use Rattle.sim_rounds.specs.Times.{count_shown};
+    ghost use Rattle.sim_times.specs.Times.{count_shown};
 
     /// A circuit before time 0, with an agenda on which nothing is pending. Takes memory in proportion to the circuit.
     pub fn new(alloc: Global, circuit: &'a Circuit, agenda: A) -> Result<Sim<'a, A>, NoMemory>
@@ -166,8 +163,8 @@ impl<'a, A: Agenda + Drop> Sim<'a, A> {
     }
 
     /// Makes the run of the circuit under a stimulus, from time 0 to the stimulus's end or to a time that needs more
-    /// rounds than so many, and tells the watcher: at time 0, at each later time whose nets differ from those of the
-    /// time before, with exactly these nets, and at the end.
+    /// rounds than so many, and tells the watcher, who was told nothing yet: at time 0, at each later time whose nets
+    /// differ from those of the time before, with exactly these nets, and at the end.
     ///
     /// The counter rises by one for each element that is evaluated: in the first round of time 0 by all, in a later
     /// round by those with an input that changed in it.
@@ -181,6 +178,7 @@ impl<'a, A: Agenda + Drop> Sim<'a, A> {
     ) -> Finished
         requires rounds { 0 < rounds }
         requires nets { length (W.circuit watcher.old).nets ≤ length self.circuit.now.nets }
+        requires none_told { W.stands watcher.old shelf.old [] }
         requires stimulus { IsApplied self.circuit.now (stimulus_seen stimulus.now) }
         ensures ended { HasEnded W.stands W.broken watcher.old watcher.new shelf.old shelf.new (setting_of self.entry.circuit.now (stimulus_seen stimulus.now) rounds)
             (map (λ v. violation_seen v) result.tally.violations.items) result.tally.last (steps.new - steps.old) result.end }

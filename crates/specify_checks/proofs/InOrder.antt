@@ -9,9 +9,9 @@ use Rattle.elab_model.specs.declared.kinds.ElabKind.{ElabKind}
 use Rattle.elab_model.specs.declared.kinds.ElabKind.TheVariants.{BadTerminal}
 use Rattle.elab_model.specs.Faults.{Fault, fault_if, RefusesOneOf}
 use Rattle.elab_model.specs.Names.{Variable}
-use Rattle.elab_names.proofs.Refusals.{refused-left, refused-right}
-use Rattle.specify_model.specs.CheckFaults.{wants_edge, edge_faults, event_faults, some_event_faults, limit_faults, threshold_faults, notifier_faults, check_faults}
-use Rattle.specify_model.specs.Checks.{kind_of, reference_of, data_of, limits_in, threshold_of, notifier_of, event_of, limit_ticks, threshold_ticks, reg_bit, module_check}
+use Rattle.elab_declared.proofs.Refusals.{refused-left, refused-right}
+use Rattle.specify_model.specs.CheckFaults.{wants_edge, edge_faults, event_faults, some_event_faults, limit_faults, threshold_faults, notifier_faults, delayed_faults, signal_faults, check_faults}
+use Rattle.specify_model.specs.Checks.{kind_of, reference_of, data_of, limits_in, threshold_of, notifier_of, delayed_reference_of, event_of, limit_ticks, threshold_ticks, reg_bit, module_check}
 use Rattle.specify_model.specs.Values.{Measure, Values}
 use Rattle.specify_paths.specs.Seen.{bit_seen}
 use Rattle.specify_checks.specs.Parts.{ArePartsOf}
@@ -47,6 +47,14 @@ module _ (by : Measure) (vs : List Variable) (values : Values) (c : Check) (p : 
   notifiers-are : notifier_faults vs (option_map view_name p.notifier) ≡ notifier_faults vs (notifier_of c)
   notifiers-are = ap (notifier_faults vs) parts.notifier_is
 
+  abbrev signals : List Fault
+  signals = delayed_faults (option_map view_name p.delayed_reference) ++ delayed_faults (option_map view_name p.delayed_data)
+
+  signals-are : signals ≡ signal_faults c
+  signals-are =
+      ap (λ n. delayed_faults n ++ delayed_faults (option_map view_name p.delayed_data)) parts.delayed_reference_is
+      ∙ ap (λ n. delayed_faults (delayed_reference_of c) ++ delayed_faults n) parts.delayed_data_is
+
   over : (fs gs : List Fault) (r : Refused ElabKind) → fs ≡ gs → RefusesOneOf fs r → RefusesOneOf gs r
   over fs gs r e h = subst (λ hs. RefusesOneOf hs r) e h
 
@@ -60,7 +68,7 @@ module _ (by : Measure) (vs : List Variable) (values : Values) (c : Check) (p : 
   data-told r h =
       refused-right (edge_faults c) _ r (refused-right (event_faults vs (reference_of c)) _ r (refused-left (some_event_faults vs (data_of c)) _ r (over _ (some_event_faults vs (data_of c)) r data-are h)))
 
-  behind-data : (r : Refused ElabKind) → RefusesOneOf (flat_map (limit_faults by values) (limits_in c) ++ (threshold_faults by values (threshold_of c) ++ notifier_faults vs (notifier_of c))) r → RefusesOneOf all r
+  behind-data : (r : Refused ElabKind) → RefusesOneOf (flat_map (limit_faults by values) (limits_in c) ++ (threshold_faults by values (threshold_of c) ++ (notifier_faults vs (notifier_of c) ++ signal_faults c))) r → RefusesOneOf all r
   behind-data r h = refused-right (edge_faults c) _ r (refused-right (event_faults vs (reference_of c)) _ r (refused-right (some_event_faults vs (data_of c)) _ r h))
 
   pub limits-told : (r : Refused ElabKind) → RefusesOneOf limits r → RefusesOneOf all r
@@ -72,13 +80,21 @@ module _ (by : Measure) (vs : List Variable) (values : Values) (c : Check) (p : 
 
   pub notifier-told : (r : Refused ElabKind) → RefusesOneOf (notifier_faults vs (option_map view_name p.notifier)) r → RefusesOneOf all r
   notifier-told r h =
-      behind-data r (refused-right (flat_map (limit_faults by values) (limits_in c)) _ r (refused-right (threshold_faults by values (threshold_of c)) _ r (over _ (notifier_faults vs (notifier_of c)) r notifiers-are h)))
+      behind-data r (refused-right (flat_map (limit_faults by values) (limits_in c)) _ r (refused-right (threshold_faults by values (threshold_of c)) _ r
+      (refused-left (notifier_faults vs (notifier_of c)) (signal_faults c) r (over _ (notifier_faults vs (notifier_of c)) r notifiers-are h))))
+
+  pub signals-told : (r : Refused ElabKind) → RefusesOneOf signals r → RefusesOneOf all r
+  signals-told r h =
+      behind-data r (refused-right (flat_map (limit_faults by values) (limits_in c)) _ r (refused-right (threshold_faults by values (threshold_of c)) _ r
+      (refused-right (notifier_faults vs (notifier_of c)) (signal_faults c) r (over signals (signal_faults c) r signals-are h))))
 
   pub check-faultless : fault_if (wants_edge p.kind && is_none (view_event p.reference.now).edge) BadTerminal p.reference.now.place ≡ [] → event_faults vs (view_event p.reference.now) ≡ []
-      → some_event_faults vs (option_map (λ e. view_event e.now) p.data) ≡ [] → limits ≡ [] → threshold_faults by values (option_map view_limit p.threshold) ≡ [] → notifier_faults vs (option_map view_name p.notifier) ≡ [] → all ≡ []
-  check-faultless a b d e f g =
+      → some_event_faults vs (option_map (λ e. view_event e.now) p.data) ≡ [] → limits ≡ [] → threshold_faults by values (option_map view_limit p.threshold) ≡ [] → notifier_faults vs (option_map view_name p.notifier) ≡ []
+      → signals ≡ [] → all ≡ []
+  check-faultless a b d e f g h =
       none (edge_faults c) _ (sym edges-are ∙ a) (none (event_faults vs (reference_of c)) _ (sym events-are ∙ b) (none (some_event_faults vs (data_of c)) _ (sym data-are ∙ d)
-      (none (flat_map (limit_faults by values) (limits_in c)) _ (sym limits-are ∙ e) (none (threshold_faults by values (threshold_of c)) _ (sym thresholds-are ∙ f) (sym notifiers-are ∙ g)))))
+      (none (flat_map (limit_faults by values) (limits_in c)) _ (sym limits-are ∙ e) (none (threshold_faults by values (threshold_of c)) _ (sym thresholds-are ∙ f)
+      (none (notifier_faults vs (notifier_of c)) _ (sym notifiers-are ∙ g) (sym signals-are ∙ h))))))
 
   -- the check itself
   pub check-is : (made : ModuleCheck) → made.place ≡ p.place → made.kind ≡ p.kind → event_seen vs made.refer ≡ event_of vs (view_event p.reference.now)

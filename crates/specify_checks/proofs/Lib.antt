@@ -2,6 +2,7 @@
 pub mod OneBit
 pub mod Enabling
 pub mod RegBits
+pub mod FirstSignal
 pub mod Edges
 pub mod Seconds
 pub mod InOrder

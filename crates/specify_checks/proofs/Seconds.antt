@@ -8,7 +8,7 @@ use Rattle.vl_tree.specs.Seen.{view_limit}
 use Rattle.vl_tree.specs.Tree.{Limit}
 use Rattle.elab_model.specs.declared.kinds.ElabKind.{ElabKind}
 use Rattle.elab_model.specs.Faults.{Fault, RefusesOneOf}
-use Rattle.elab_names.proofs.Refusals.{refused-left}
+use Rattle.elab_declared.proofs.Refusals.{refused-left}
 
 module _ (o : Option code_limit.Limit) (l : code_limit.Limit) (is : o ≡ Some l) where
   pub second-told : (f : Limit → List Fault) (r : Refused ElabKind) → RefusesOneOf (f (view_limit l)) r → RefusesOneOf (flat_map f (option_to_list (option_map view_limit o))) r

@@ -14,6 +14,7 @@ ghost use Rattle.specify_checks.specs.Seen.{check_seen, IsFitting, IsSpelledChec
 use crate::events::{ModuleEvent, event_of, some_event_of};
 use crate::parts::parts_of;
 use crate::regs::notifier_bit;
+use crate::signals::check_signals;
 use elab_model::ElabKind;
 use elab_variables::Table;
 use sg_circuit::CheckKind;
@@ -129,6 +130,7 @@ fn check_of(
     let limits = limits_of(by, parameters, &parts.first, &parts.second)?;
     let threshold = threshold_ticks(by, parameters, &parts.threshold)?;
     let notifier = notifier_bit(table, parts.notifier)?;
+    check_signals(parts.delayed_reference, parts.delayed_data)?;
     Ok(ModuleCheck {
         place: parts.place,
         kind: parts.kind,
@@ -163,8 +165,8 @@ fn all_checks(
 
 /// The timing checks of a module, whose variables are those of the table, in text order and in ticks of a corner (IEEE 1364-2005, clause 15). Refuses what stands in a check: terminals,
 /// operands and notifiers that aren't declared (UnknownName), an index out of range, `$width` and `$period` without an edge and a notifier that is no reg (BadTerminal), what isn't one bit
-/// (WidthMismatch), a condition nested too deep (TooDeep), a limit of 2^60 ticks and more or of a specparam that there isn't (BadDelay), and one below 0 (NegativeLimit). Of two specparams
-/// of one name the first holds. Takes memory and time in proportion to the blocks.
+/// (WidthMismatch), a condition nested too deep (TooDeep), a limit of 2^60 ticks and more or of a specparam that there isn't (BadDelay), one below 0 and a delayed
+/// signal, which isn't simulated (NegativeLimit). Of two specparams of one name the first holds. Takes memory and time in proportion to the blocks.
 pub fn module_checks(
     alloc: Global,
     by: Measure,

@@ -5,6 +5,7 @@ mod checks;
 mod events;
 mod parts;
 mod regs;
+mod signals;
 
 pub use checks::{ModuleCheck, module_checks};
 pub use events::ModuleEvent;

@@ -19,6 +19,8 @@ pub struct Parts<'t, 'a> {
     pub second: Option<Limit<'a>>,
     pub threshold: Option<Limit<'a>>,
     pub notifier: Option<Name<'a>>,
+    pub delayed_reference: Option<Name<'a>>,
+    pub delayed_data: Option<Name<'a>>,
 }
 
 fn one_limit_kind(check: OneLimitCheck) -> CheckKind
@@ -63,6 +65,8 @@ pub fn parts_of<'t, 'a>(check: &'t Check<'a>) -> Parts<'t, 'a>
             second: None,
             threshold: None,
             notifier: *notifier,
+            delayed_reference: None,
+            delayed_data: None,
         },
         Check::TwoLimits {
             place,
@@ -72,6 +76,8 @@ pub fn parts_of<'t, 'a>(check: &'t Check<'a>) -> Parts<'t, 'a>
             first,
             second,
             notifier,
+            delayed_reference,
+            delayed_data,
         } => Parts {
             place: *place,
             kind: two_limit_kind(*check),
@@ -81,6 +87,8 @@ pub fn parts_of<'t, 'a>(check: &'t Check<'a>) -> Parts<'t, 'a>
             second: Some(*second),
             threshold: None,
             notifier: *notifier,
+            delayed_reference: *delayed_reference,
+            delayed_data: *delayed_data,
         },
         Check::Width {
             place,
@@ -97,6 +105,8 @@ pub fn parts_of<'t, 'a>(check: &'t Check<'a>) -> Parts<'t, 'a>
             second: None,
             threshold: *threshold,
             notifier: *notifier,
+            delayed_reference: None,
+            delayed_data: None,
         },
         Check::Period {
             place,
@@ -112,6 +122,8 @@ pub fn parts_of<'t, 'a>(check: &'t Check<'a>) -> Parts<'t, 'a>
             second: None,
             threshold: None,
             notifier: *notifier,
+            delayed_reference: None,
+            delayed_data: None,
         },
     }
 }

@@ -10,7 +10,7 @@ use Rattle.sg_delay.specs.declared.corners.Corner.TheVariants.{Typ}
 use Rattle.sg_logic.specs.declared.edges.TheConstants.{POSEDGE, NEGEDGE}
 use Rattle.vl_tree.specs.declared.check_names.OneLimitCheck.TheVariants as one
 use Rattle.vl_tree.specs.declared.check_names.TwoLimitCheck.TheVariants as two
-use Rattle.vl_tree.specs.Tree.{a_number, a_parameter, SignedAmount, one_limit, three_limits, EdgeWord, posedge, negedge, Term, Word, Event, Check, one_limit_check, two_limit_check, width_check, period_check}
+use Rattle.vl_tree.specs.Tree.{Named, a_number, a_parameter, SignedAmount, one_limit, three_limits, EdgeWord, posedge, negedge, Term, Word, Event, Check, one_limit_check, two_limit_check, width_check, period_check}
 use Rattle.elab_model.specs.declared.kinds.ElabKind.TheVariants.{UnknownName, WidthMismatch, BadTerminal, BadDelay, NegativeLimit}
 use Rattle.elab_model.specs.Faults.{Fault, fault}
 use Rattle.elab_model.specs.Names.{Variable}
@@ -86,7 +86,7 @@ width_meant = refl
 
 -- $setuphold (posedge ck, d, -2, 5); and with -0
 abbrev a_setuphold : SignedAmount → Check
-a_setuphold first = two_limit_check (here 10) two.SetupHold clock data_event (one_limit first) (one_limit (amount 5 34)) None
+a_setuphold first = two_limit_check (here 10) two.SetupHold clock data_event (one_limit first) (one_limit (amount 5 34)) None None None
 
 negative_refused : refused (a_setuphold (below_0 2 33)) ≡ fault NegativeLimit (here 33) ∷ []
 negative_refused = refl
@@ -95,8 +95,18 @@ negative_zero : refused (a_setuphold (below_0 0 33)) ≡ []
 negative_zero = refl
 
 -- -1:2:3, of which the corner takes the second
-another_corner : refused (two_limit_check (here 10) two.RecRem clock data_event (three_limits (below_0 1 33) (amount 2 34) (amount 3 35)) (one_limit (amount 5 36)) None) ≡ []
+another_corner : refused (two_limit_check (here 10) two.RecRem clock data_event (three_limits (below_0 1 33) (amount 2 34) (amount 3 35)) (one_limit (amount 5 36)) None None None) ≡ []
 another_corner = refl
+
+-- $setuphold (posedge ck, d, 2, 5, , , , dck, dd); and with the second alone
+abbrev delayed_to : Option Named → Option Named → Check
+delayed_to f g = two_limit_check (here 10) two.SetupHold clock data_event (one_limit (amount 2 33)) (one_limit (amount 5 34)) None f g
+
+both_delayed : refused (delayed_to (Some (name (codes "dck") 38)) (Some (name (codes "dd") 39))) ≡ fault NegativeLimit (here 38) ∷ fault NegativeLimit (here 39) ∷ []
+both_delayed = refl
+
+data_delayed : refused (delayed_to None (Some (name (codes "dd") 39))) ≡ fault NegativeLimit (here 39) ∷ []
+data_delayed = refl
 
 -- t:2:3, without a specparam t
 unknown_parameter : refused (period_check (here 10) clock (three_limits (record { negative = false; amount = a_parameter (name (codes "t") 33) }) (amount 2 34) (amount 3 35)) None) ≡ fault BadDelay (here 33) ∷ []

@@ -10,7 +10,7 @@ use Rattle.elab_model.specs.Bits.{variable_named}
 use Rattle.elab_model.specs.Faults.{Fault, fault_if}
 use Rattle.elab_model.specs.Names.{Variable, variables}
 use Rattle.specify_model.specs.Blocks.{specify_items, parameters}
-use Rattle.specify_model.specs.Checks.{check_texts, kind_of, reference_of, data_of, limits_in, threshold_of, notifier_of, corner_limit, size_ticks}
+use Rattle.specify_model.specs.Checks.{check_texts, kind_of, reference_of, data_of, limits_in, threshold_of, notifier_of, delayed_reference_of, delayed_data_of, corner_limit, size_ticks}
 use Rattle.specify_model.specs.Faults.{operand_faults, condition_faults, unknown_faults, long_faults, amount_place}
 use Rattle.specify_model.specs.Outputs.{measure}
 use Rattle.specify_model.specs.Values.{Measure, Values, value_of}
@@ -73,6 +73,16 @@ abbrev pub notifier_faults : List Variable → Option Named → List Fault
 notifier_faults vs None = []
 notifier_faults vs (Some n) = found_notifier_faults n (variable_named vs n.text)
 
+-- ---- delayed signals
+
+-- none is simulated, so a name in its place is refused (15.8)
+abbrev pub delayed_faults : Option Named → List Fault
+delayed_faults None = []
+delayed_faults (Some n) = fault_if true NegativeLimit n.place
+
+abbrev pub signal_faults : Check → List Fault
+signal_faults c = delayed_faults (delayed_reference_of c) ++ delayed_faults (delayed_data_of c)
+
 -- ---- all
 
 abbrev pub check_faults : Measure → List Variable → Values → Check → List Fault
@@ -80,7 +90,7 @@ check_faults by vs values c =
     edge_faults c
     ++ (event_faults vs (reference_of c)
     ++ (some_event_faults vs (data_of c)
-    ++ (flat_map (limit_faults by values) (limits_in c) ++ (threshold_faults by values (threshold_of c) ++ notifier_faults vs (notifier_of c)))))
+    ++ (flat_map (limit_faults by values) (limits_in c) ++ (threshold_faults by values (threshold_of c) ++ (notifier_faults vs (notifier_of c) ++ signal_faults c)))))
 
 abbrev pub all_check_faults : Measure → List Variable → List SpecifyItem → List Fault
 all_check_faults by vs items = flat_map (check_faults by vs (value_of (parameters items))) (check_texts items)

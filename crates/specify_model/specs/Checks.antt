@@ -37,7 +37,7 @@ check_texts items = filter_map check_of_item items
 
 abbrev pub place_of : Check → Place
 place_of (one_limit_check p k r d l n) = p
-place_of (two_limit_check p k r d l m n) = p
+place_of (two_limit_check p k r d l m n f g) = p
 place_of (width_check p r l t n) = p
 place_of (period_check p r l n) = p
 
@@ -54,40 +54,53 @@ two_limit_kind two.RecRem = kind.Recrem
 
 abbrev pub kind_of : Check → CheckKind
 kind_of (one_limit_check p k r d l n) = one_limit_kind k
-kind_of (two_limit_check p k r d l m n) = two_limit_kind k
+kind_of (two_limit_check p k r d l m n f g) = two_limit_kind k
 kind_of (width_check p r l t n) = kind.Width
 kind_of (period_check p r l n) = kind.Period
 
 abbrev pub reference_of : Check → Event
 reference_of (one_limit_check p k r d l n) = r
-reference_of (two_limit_check p k r d l m n) = r
+reference_of (two_limit_check p k r d l m n f g) = r
 reference_of (width_check p r l t n) = r
 reference_of (period_check p r l n) = r
 
 abbrev pub data_of : Check → Option Event
 data_of (one_limit_check p k r d l n) = Some d
-data_of (two_limit_check p k r d l m n) = Some d
+data_of (two_limit_check p k r d l m n f g) = Some d
 data_of (width_check p r l t n) = None
 data_of (period_check p r l n) = None
 
 -- in the order of the text
 abbrev pub limits_in : Check → List Limit
 limits_in (one_limit_check p k r d l n) = l ∷ []
-limits_in (two_limit_check p k r d l m n) = l ∷ m ∷ []
+limits_in (two_limit_check p k r d l m n f g) = l ∷ m ∷ []
 limits_in (width_check p r l t n) = l ∷ []
 limits_in (period_check p r l n) = l ∷ []
 
 abbrev pub threshold_of : Check → Option Limit
 threshold_of (one_limit_check p k r d l n) = None
-threshold_of (two_limit_check p k r d l m n) = None
+threshold_of (two_limit_check p k r d l m n f g) = None
 threshold_of (width_check p r l t n) = t
 threshold_of (period_check p r l n) = None
 
 abbrev pub notifier_of : Check → Option Named
 notifier_of (one_limit_check p k r d l n) = n
-notifier_of (two_limit_check p k r d l m n) = n
+notifier_of (two_limit_check p k r d l m n f g) = n
 notifier_of (width_check p r l t n) = n
 notifier_of (period_check p r l n) = n
+
+-- the signals that carry delayed copies of reference and data (15.8)
+abbrev pub delayed_reference_of : Check → Option Named
+delayed_reference_of (one_limit_check p k r d l n) = None
+delayed_reference_of (two_limit_check p k r d l m n f g) = f
+delayed_reference_of (width_check p r l t n) = None
+delayed_reference_of (period_check p r l n) = None
+
+abbrev pub delayed_data_of : Check → Option Named
+delayed_data_of (one_limit_check p k r d l n) = None
+delayed_data_of (two_limit_check p k r d l m n f g) = g
+delayed_data_of (width_check p r l t n) = None
+delayed_data_of (period_check p r l n) = None
 
 -- ---- what they mean
 

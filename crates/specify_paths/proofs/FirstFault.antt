@@ -4,7 +4,7 @@ use Rattle.std.proofs.Common.{sym, ◌∙◌, ap, arith, subst, drop, drop-cons}
 use Rattle.sg_text.specs.declared.refusals.Refused.{Refused}
 use Rattle.elab_model.specs.declared.kinds.ElabKind.{ElabKind}
 use Rattle.elab_model.specs.Faults.{Fault, RefusesOneOf}
-use Rattle.elab_names.proofs.Refusals.{refused-left}
+use Rattle.elab_declared.proofs.Refusals.{refused-left}
 use Rattle.specify_values.proofs.InTurn.{left_from}
 
 pub refused-at : {A B : Type 0} (view : A → B) (f : B → List Fault) (xs : List A) (i : ℕ) (d : A) (r : Refused ElabKind) → i < length xs → left_from view f xs i

@@ -6,7 +6,7 @@ use Rattle.vl_tree.specs.Tree.{SpecifyPath, SpecifyItem, Word}
 use Rattle.elab_model.specs.declared.kinds.ElabKind.{ElabKind}
 use Rattle.elab_model.specs.Faults.{Fault, RefusesOneOf}
 use Rattle.elab_model.specs.Names.{Variable}
-use Rattle.elab_names.proofs.Refusals.{refused-left, refused-right}
+use Rattle.elab_declared.proofs.Refusals.{refused-left, refused-right}
 use Rattle.specify_model.specs.Blocks.{Parameter, parameters, Pulse, pulses, specify_paths, StyleText, style_texts}
 use Rattle.specify_model.specs.Faults.{parameter_faults, pulse_faults, end_faults, side_faults, condition_faults, own_condition, source_faults, list_faults, path_faults, style_faults, faults_by}
 use Rattle.specify_model.specs.Values.{Measure, Values, value_of}

@@ -18,7 +18,7 @@ use Rattle.elab_model.specs.declared.kinds.ElabKind.{ElabKind}
 use Rattle.elab_model.specs.declared.kinds.ElabKind.TheVariants.{TooDeep}
 use Rattle.elab_model.specs.Faults.{fault_if, RefusesOneOf}
 use Rattle.elab_model.specs.Names.{Variable}
-use Rattle.elab_names.proofs.Refusals.{refused-left, refused-right}
+use Rattle.elab_declared.proofs.Refusals.{refused-left, refused-right}
 use Rattle.specify_model.specs.Conditions.{If, bound_to, condition_over, over, operand_bit, operands, tokens, tree_of}
 use Rattle.specify_model.specs.Faults.{operand_faults, condition_faults, first_place}
 use Rattle.specify_values.proofs.InTurn.{fault-told}

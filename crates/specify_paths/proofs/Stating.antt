@@ -16,7 +16,7 @@ use Rattle.vl_tree.specs.Tree.{SpecifyPath}
 use Rattle.elab_model.specs.declared.kinds.ElabKind.{ElabKind}
 use Rattle.elab_model.specs.Faults.{RefusesOneOf}
 use Rattle.elab_model.specs.Names.{Variable}
-use Rattle.elab_names.proofs.Refusals.{refused-left}
+use Rattle.elab_declared.proofs.Refusals.{refused-left}
 use Rattle.specify_model.specs.Conditions.{ModuleCondition, If, condition_of, condition_over, operand_bit, over, tokens, tree_of}
 use Rattle.specify_model.specs.Faults.{condition_faults, own_condition}
 use Rattle.specify_model.specs.Paths.{edge_of}

@@ -11,7 +11,7 @@ use Rattle.elab_model.specs.declared.kinds.ElabKind.{ElabKind}
 use Rattle.elab_model.specs.declared.kinds.ElabKind.TheVariants.{BadTerminal}
 use Rattle.elab_model.specs.Faults.{fault_if, RefusesOneOf}
 use Rattle.elab_model.specs.Names.{Variable}
-use Rattle.elab_names.proofs.Refusals.{refused-left, refused-right}
+use Rattle.elab_declared.proofs.Refusals.{refused-left, refused-right}
 use Rattle.elab_variables.specs.Seen.{variable_at, place_named}
 use Rattle.specify_model.specs.Faults.{term_faults, port_faults, is_no}
 use Rattle.specify_values.proofs.InTurn.{fault-told}

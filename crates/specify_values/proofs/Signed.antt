@@ -8,7 +8,7 @@ use Rattle.vl_tree.specs.Tree.{Amount, SignedAmount}
 use Rattle.elab_model.specs.declared.kinds.ElabKind.{ElabKind}
 use Rattle.elab_model.specs.declared.kinds.ElabKind.TheVariants.{NegativeLimit}
 use Rattle.elab_model.specs.Faults.{fault_if, RefusesOneOf}
-use Rattle.elab_names.proofs.Refusals.{refused-right}
+use Rattle.elab_declared.proofs.Refusals.{refused-right}
 use Rattle.specify_model.specs.Checks.{size_ticks, signed_ticks}
 use Rattle.specify_model.specs.CheckFaults.{is_below_0, part_faults}
 use Rattle.specify_model.specs.Faults.{amount_place, long_faults}

@@ -25,10 +25,10 @@ abbrev change : Event
 change = record { net = 1; edge = None; condition = None }
 
 abbrev of_kind : CheckKind → ℕ → ℕ → CheckTiming
-of_kind kind first second = record { kind = kind; refer = rise None; datum = Some change; limits = pos first ∷ pos second ∷ []; threshold = 0 }
+of_kind kind first second = record { kind = kind; refer = rise None; datum = Some change; limits = pos first ∷ pos second ∷ []; threshold = 0; late = None }
 
 abbrev of_clock : CheckKind → ℕ → ℕ → CheckTiming
-of_clock kind limit threshold = record { kind = kind; refer = rise None; datum = None; limits = pos limit ∷ pos 0 ∷ []; threshold = threshold }
+of_clock kind limit threshold = record { kind = kind; refer = rise None; datum = None; limits = pos limit ∷ pos 0 ∷ []; threshold = threshold; late = None }
 
 -- the clock rises, and the data changes, at these times; in one snapshot; in two snapshots of one time
 abbrev data_then_clock : ℕ → ℕ → List Snapshot
@@ -184,7 +184,7 @@ skew_of_two = refl
 
 -- a condition that is x enables by == and not by itself
 abbrev under : Cond ℕ → CheckTiming
-under condition = record { kind = check.Hold; refer = rise (Some condition); datum = Some change; limits = pos 3 ∷ pos 0 ∷ []; threshold = 0 }
+under condition = record { kind = check.Hold; refer = rise (Some condition); datum = Some change; limits = pos 3 ∷ pos 0 ∷ []; threshold = 0; late = None }
 
 enabled_by_equality : violations (under (binary Equal (leaf 2) (constant One)) ∷ []) (together 100) ≡ of Hold 100 100 3 ∷ []
 enabled_by_equality = refl

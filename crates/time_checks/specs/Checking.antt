@@ -18,7 +18,7 @@ use Rattle.time_checks.specs.Kept.{StandsFor, events_at, next_of, instant_of, fo
 
 -- the check of a number; past the end a blank
 abbrev pub check_at : List CheckTiming → ℕ → CheckTiming
-check_at checks number = slice_index_or checks number (record { kind = kind.Setup; refer = record { net = 0; edge = None; condition = None }; datum = None; limits = []; threshold = 0 })
+check_at checks number = slice_index_or checks number (record { kind = kind.Setup; refer = record { net = 0; edge = None; condition = None }; datum = None; limits = []; threshold = 0; late = None })
 
 -- nothing happened yet
 abbrev pub no_times : Latest

@@ -46,6 +46,7 @@ kind-longer t more (kind.Gate g d) h = refl
 kind-longer t more (kind.Udp u d) h = refl
 kind-longer t more (kind.Pass v) h = refl
 kind-longer t more (kind.Leg i) h = refl
+kind-longer t more (kind.Late d) h = refl
 kind-longer t more (kind.Path span style) h =
     ap (λ ps. Path ps style) (paths-longer t.conditions more t.timings (spanned t.paths span) (recursion_from_All (IsIndexedPath (length t.conditions) (length t.timings)) (spanned t.paths span) h.each))
 
@@ -67,6 +68,7 @@ names-longer t more (kind.Gate g d) h = h
 names-longer t more (kind.Udp u d) h = h
 names-longer t more (kind.Pass v) h = tt
 names-longer t more (kind.Leg i) h = h
+names-longer t more (kind.Late d) h = tt
 names-longer t more (kind.Path span style) h = record {
   ordered = h.ordered;
   within = h.within;

@@ -1,5 +1,5 @@
 -- What has been made, put together, is the circuit of the definition, and it is closed.
-use Rattle.std.specs.Prelude.{◌≡◌, ℕ, ◌<◌, ◌≤◌, ◌^◌, All, List, [], ◌∷◌, ◌++◌, map, length, refl, zip}
+use Rattle.std.specs.Prelude.{◌≡◌, ℕ, ◌<◌, ◌≤◌, ◌^◌, All, List, [], ◌∷◌, ◌++◌, map, length, refl, slice_index_or, zip}
 use Rattle.std.specs.List.{AllByRecursion, range_with_len}
 use Rattle.std.proofs.Common.{sym, ◌∙◌, ap, arith, subst}
 use Rattle.std.proofs.lemmas.List.{length-map}
@@ -8,7 +8,7 @@ use Rattle.std.proofs.lemmas.List.FromFn.{length-range_with_len}
 use Rattle.cond_expr.specs.Condition.{Condition}
 use Rattle.sg_circuit.specs.ChecksSeen.{written_seen, AreWritten}
 use Rattle.sg_circuit.specs.Closed.{IsClosed}
-use Rattle.sg_circuit.specs.Seen.{kind_seen, element_seen, scope_seen, circuit_seen, IsIndexed, AreIndexed}
+use Rattle.sg_circuit.specs.Seen.{kind_seen, element_seen, scope_seen, circuit_seen, paths_of, AreApart, IsIndexed, AreIndexed}
 use Rattle.sg_circuit.specs.declared.circuits.Parts.{Parts}
 use Rattle.sg_circuit.specs.declared.elements.Element as code
 use Rattle.sg_circuit.specs.declared.elements.ElementKind.{ElementKind}
@@ -68,6 +68,7 @@ pub record IsOf (tick : unit.Unit) (ready : Library) (numbers : Rows) (timings :
   pub check_timings_are : parts.check_timings.items ≡ checks.timings.items
   pub check_conditions_are : parts.check_conditions.items ≡ checks.conditions.items
   pub scopes_are : parts.scopes.items ≡ scopes
+  pub none_zeroed : parts.zeroed.items ≡ []
 
 kind-is : (parts : Parts) (k : ElementKind) → kind_seen parts k ≡ kind_with (tables_in parts) k
 kind-is parts (kind.Gate g d) = refl
@@ -75,6 +76,7 @@ kind-is parts (kind.Udp u d) = refl
 kind-is parts (kind.Pass v) = refl
 kind-is parts (kind.Leg t) = refl
 kind-is parts (kind.Path span style) = refl
+kind-is parts (kind.Late d) = refl
 
 elements-are : (parts : Parts) (es : List code.Element) → map (element_seen parts) es ≡ map (element_with (tables_in parts)) es
 elements-are parts [] = refl
@@ -88,6 +90,7 @@ indexed parts (kind.Udp u d) n = n
 indexed parts (kind.Pass v) n = tt
 indexed parts (kind.Leg t) n = n
 indexed parts (kind.Path span style) n = n
+indexed parts (kind.Late d) n = tt
 
 indexed-all : (parts : Parts) (es : List code.Element) → AllByRecursion (λ e. NamesTables (tables_in parts) e.kind) es → AllByRecursion (λ e. IsIndexed parts e.kind) es
 indexed-all parts [] h = tt
@@ -117,6 +120,7 @@ whole-is source top corner tick ready numbers timings conditions joined made tab
       check_timings = (o.check_timings_are ∙ w.are_checks.timings) i;
       check_conditions = spelled i;
       scopes = seen i;
+      zeroed = o.none_zeroed i;
     }
   where
     ticks : parts.tick.power ≡ tick_of source top
@@ -158,9 +162,10 @@ whole-indexed source top corner tick ready numbers timings conditions joined mad
       (sym (tables-are source top corner tick ready numbers timings conditions joined made table checks scopes parts w o))
       (named-longer (tables_of ready w.modules joined) w.conditions_grow.0 made.elements.items w.are_joined.named))));
   few_udps = subst (λ us. length us < 2 ^ 31) (sym o.udps_are) w.is_ready.few_udps;
-  counts = subst (λ ds. All (λ d. d.count ≤ 2) ds) (sym o.delays_are) w.is_ready.counts;
+  counts = subst (λ ds. All (λ d. d.count ≤ 3) ds) (sym o.delays_are) w.is_ready.counts;
   written = subst (λ cs. All (AreWritten (length cs)) parts.check_conditions.items) (sym o.conditions_are)
       (subst (All (AreWritten (length conditions))) (sym o.check_conditions_are) w.are_checks.written);
+  apart = subst (λ (es : List code.Element). (i j : ℕ) (d : code.Element) → i < j → j < length es → AreApart (paths_of (slice_index_or es i d).kind) (paths_of (slice_index_or es j d).kind)) (sym o.elements_are) w.are_joined.apart;
 }
 
 -- as many drivers as nets

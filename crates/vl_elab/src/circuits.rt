@@ -107,6 +107,7 @@ fn circuit_of<'t, 'a>(
     )?;
     let scopes = scopes_of(alloc, definitions, &library, instances, &rows)?;
     let circuit = close(
+        alloc,
         tick,
         library,
         rows,
@@ -121,8 +122,9 @@ fn circuit_of<'t, 'a>(
     Ok(circuit)
 }
 
-// The circuit of what has been made.
+// The circuit of what has been made. No limit is taken as 0, since no signal is delayed.
 fn close(
+    alloc: Global,
     tick: Unit,
     library: Library,
     rows: Rows,
@@ -142,6 +144,7 @@ fn close(
     let mut inner = joined.inner;
     nets.append(&mut inner)?;
     drive(drivers, &mut nets);
+    let zeroed = Vec::new(alloc);
     Ok(Circuit::close(Parts {
         tick,
         nets,
@@ -155,6 +158,7 @@ fn close(
         check_timings: checks.timings,
         check_conditions: checks.conditions,
         scopes,
+        zeroed,
     }))
 }
 

@@ -4,7 +4,7 @@ ghost use Rattle.grammar.specs.Reading.{Gives};
 ghost use Rattle.grammar.specs.Rule.{stands};
 ghost use Rattle.vl_token.specs.Seen.{lexeme};
 ghost use Rattle.vl_tree.specs.Items as items;
-ghost use Rattle.vl_tree.specs.Items.{gate_starts};
+ghost use Rattle.vl_tree.specs.Items.{enable_gate_starts, gate_starts};
 ghost use Rattle.vl_tree.specs.Kinds.{kind_of};
 
 use grammar::ReadFault;
@@ -12,6 +12,36 @@ use sg_logic::GateKind;
 use sg_text::Keyword;
 use vl_terms::tokens::is_word;
 use vl_token::Token;
+
+/// Whether a gate with an enabling control stands there.
+fn enable_gate_stands(tokens: &[Token<'_>], at: usize) -> bool
+    ensures { result ≡ stands kind_of enable_gate_starts (map lexeme tokens.now) at }
+{
+    is_word(tokens, at, Keyword::Bufif0)
+        || is_word(tokens, at, Keyword::Bufif1)
+        || is_word(tokens, at, Keyword::Notif0)
+        || is_word(tokens, at, Keyword::Notif1)
+}
+
+/// `"bufif0" | "bufif1" | "notif0" | "notif1"`
+#[tactic(auto, unfolding(vl_tree::specs::Items::enable_gate_parts))]
+fn enable_gate(tokens: &[Token<'_>], at: usize) -> Result<(GateKind, usize), ReadFault>
+    ensures { Gives (λ x. x) result (items.enable_gate.read (map lexeme tokens.now) at) }
+{
+    if is_word(tokens, at, Keyword::Bufif0) {
+        return Ok((GateKind::Bufif0, at + 1));
+    }
+    if is_word(tokens, at, Keyword::Bufif1) {
+        return Ok((GateKind::Bufif1, at + 1));
+    }
+    if is_word(tokens, at, Keyword::Notif0) {
+        return Ok((GateKind::Notif0, at + 1));
+    }
+    if is_word(tokens, at, Keyword::Notif1) {
+        return Ok((GateKind::Notif1, at + 1));
+    }
+    Err(ReadFault::At(at))
+}
 
 /// Whether a gate stands there.
 pub fn gate_stands(tokens: &[Token<'_>], at: usize) -> bool
@@ -25,9 +55,10 @@ pub fn gate_stands(tokens: &[Token<'_>], at: usize) -> bool
         || is_word(tokens, at, Keyword::Xnor)
         || is_word(tokens, at, Keyword::Buf)
         || is_word(tokens, at, Keyword::Not)
+        || enable_gate_stands(tokens, at)
 }
 
-/// `"and" | "nand" | "or" | "nor" | "xor" | "xnor" | "buf" | "not"`
+/// `"and" | "nand" | "or" | "nor" | "xor" | "xnor" | "buf" | "not" | enable-gate`
 #[tactic(auto, unfolding(vl_tree::specs::Items::gate_parts))]
 pub fn gate(tokens: &[Token<'_>], at: usize) -> Result<(GateKind, usize), ReadFault>
     ensures { Gives (λ x. x) result (items.gate.read (map lexeme tokens.now) at) }
@@ -56,5 +87,5 @@ pub fn gate(tokens: &[Token<'_>], at: usize) -> Result<(GateKind, usize), ReadFa
     if is_word(tokens, at, Keyword::Not) {
         return Ok((GateKind::Not, at + 1));
     }
-    Err(ReadFault::At(at))
+    enable_gate(tokens, at)
 }

@@ -1,11 +1,10 @@
 -- What is put for timing checks spells them.
-use Rattle.std.proofs.Common.{◌≡◌, ℕ, Bool, true, false, List, [], length, map, Option, Some, None, refl, sym, subst, ◌∙◌}
-use Rattle.std.specs.Prelude.{slice_get, unwrap_or}
-use Rattle.std.proofs.lemmas.List.{append-nil}
+use Rattle.std.proofs.Common.{◌≡◌, ℕ, Bool, true, false, List, length, map, Option, Some, None, refl, sym, subst, inl, inr, ◌∙◌}
+use Rattle.std.specs.Prelude.{◌⊎◌, not, slice_get, unwrap_or}
 use Rattle.sg_text.specs.declared.places.Place.{Place}
 use Rattle.grammar.specs.Language.{sequence}
 use Rattle.grammar.specs.Reads.{Appends}
-use Rattle.grammar.specs.Rule.{◌∙∙◌, ◌▸◌, ◌◂◌, mapped}
+use Rattle.grammar.specs.Rule.{◌∙∙◌, ◌▸◌, ◌◂◌, quoted, only_if}
 use Rattle.grammar.proofs.Extents.{starts_so}
 use Rattle.grammar.proofs.Printing as printing
 use Rattle.vl_token.specs.declared.symbols.Symbol.TheVariants.{AndAndAnd, Comma, LeftParen, RightParen}
@@ -19,19 +18,19 @@ use Rattle.vl_tree.specs.declared.check_names.OneLimitCheck.TheVariants.{Setup, 
 use Rattle.vl_tree.specs.declared.check_names.TwoLimitCheck.TheVariants.{SetupHold, RecRem}
 use Rattle.vl_tree.specs.Amounts.{limit}
 use Rattle.vl_tree.specs.CheckNames.{check_rows}
-use Rattle.vl_tree.specs.Checks.{event_parts, event, notifier, spares, notifier_and_spares, threshold_and_notifier, between, arguments_of, arguments_parts, arguments, check_name, check_parts, check}
+use Rattle.vl_tree.specs.Checks.{event_parts, event, trailing, trailing_name, threshold_and_notifier, fills, spare, Delayed, delayed_signals, from_checktime, from_stamptime, last_arguments, between, arguments_of, arguments_parts, arguments, check_name, check_parts, check}
 use Rattle.vl_tree.specs.Conditions.{condition}
 use Rattle.vl_tree.specs.Expressions.{name}
 use Rattle.vl_tree.specs.Kinds.{kind_of, kind_of_meaning, is_check, check_of_meaning}
 use Rattle.vl_tree.specs.Paths.{term, check_edge}
 use Rattle.vl_print.specs.Printing.{Tokens, put_token, put_mark, put_optional, put_name}
 use Rattle.vl_tree.specs.Rules.{Grammar, mark, placed, optional}
-use Rattle.vl_print.specs.SpecifyPrinting.{put_term, put_limit, put_next_limit, put_edge, put_event_term, put_held, put_event, check_text, put_notifier, put_events, put_threshold_and_notifier, put_arguments, name_of_check, place_of_check, put_in_parens, put_check}
+use Rattle.vl_print.specs.SpecifyPrinting.{put_term, put_limit, put_next_limit, put_edge, put_event_term, put_held, put_event, check_text, put_notifier, put_events, put_threshold_and_notifier, put_delayed, put_last_arguments, put_arguments, name_of_check, place_of_check, put_in_parens, put_check}
 use Rattle.vl_tree.specs.Tree.{Named, Term, Word, EdgeWord, Event, Limit, Check}
 use Rattle.vl_tree.proofs.AmountsExact.{limit-exact}
 use Rattle.vl_print.proofs.AmountsPrinted.{limit_prints}
 use Rattle.vl_tree.proofs.Building.{with_place, perhaps}
-use Rattle.vl_tree.proofs.ChecksExact.{event-exact, arguments_of-exact, check_name-exact}
+use Rattle.vl_tree.proofs.ChecksExact.{event-exact, spare-exact, arguments_of-exact, check_name-exact}
 use Rattle.vl_print.proofs.ConditionsPrinted.{condition_prints}
 use Rattle.vl_tree.proofs.ExpressionsExact.{name-exact}
 use Rattle.vl_print.proofs.ExpressionsPrinted.{name_prints}
@@ -84,33 +83,40 @@ event_prints = placed_prints _ _ _ put_event event_first (λ x out. refl)
 
 -- ---- arguments that may be missing
 
--- [ "," b ], where b may be empty: no comma is put where it is
-trailing_prints : (b : Grammar (Option Named)) → Prints b.language (put_optional put_name) → Prints (mapped (λ o. unwrap_or o None) (optional (mark Comma ▸ b))).language put_notifier
-trailing_prints b prints n (ts, i, j, (None, e, s)) out =
-    subst (λ (z : Option Named). Appends (mapped (λ o. unwrap_or o None) (optional (mark Comma ▸ b))).language out (put_notifier z out) z) e
-    (printing.appends_mapped (λ o. unwrap_or o None) (optional (mark Comma ▸ b)).language out out None (printing.appends_none (mark Comma ▸ b).language out))
-trailing_prints b prints n (ts, i, j, (Some None, e, s)) out =
-    subst (λ (z : Option Named). Appends (mapped (λ o. unwrap_or o None) (optional (mark Comma ▸ b))).language out (put_notifier z out) z) e
-    (printing.appends_mapped (λ o. unwrap_or o None) (optional (mark Comma ▸ b)).language out out None (printing.appends_none (mark Comma ▸ b).language out))
-trailing_prints b prints n (ts, i, j, (Some (Some x), e, s)) out =
-    let new = put_name x (put_mark Comma out) in
-    let some = printing.appends_some (mark Comma ▸ b).language out new (Some x) (behind_mark Comma b.language (put_optional put_name) prints (Some x) (ts, i, j, s) out) in
-    subst (λ (z : Option Named). Appends (mapped (λ o. unwrap_or o None) (optional (mark Comma ▸ b))).language out (put_notifier z out) z) e
-    (printing.appends_mapped (λ o. unwrap_or o None) (optional (mark Comma ▸ b)).language out new (Some (Some x)) some)
+-- nothing is put where the argument is missing
+missing_printed : {A : Type 0} (missing : A) (a : Grammar A) (out : Tokens) → Appends (trailing missing a).language out out missing
+missing_printed missing a out = printing.appends_mapped (λ o. unwrap_or o missing) (optional (mark Comma ▸ a)).language out out None (printing.appends_none (mark Comma ▸ a).language out)
 
-notifier_prints : Prints notifier.language put_notifier
-notifier_prints = trailing_prints (optional name) (optional_prints name.language put_name name_prints)
+put_as_nothing : {A : Type 0} (missing : A) (a : Grammar A) (put : A → Tokens → Tokens) (out : Tokens) → put missing out ≡ out → Appends (trailing missing a).language out (put missing out) missing
+put_as_nothing missing a put out nothing = rw nothing (missing_printed missing a out)
 
--- no argument is put where none may be filled
-no_spares_print : (limited : Bool) → Prints (optional name ◂ spares limited).language (put_optional put_name)
-no_spares_print limited n (ts, i, j, ((z, w), e, (k, s, t))) out =
-    let new = put_optional put_name z out in
-    subst (λ (y : Option Named). Appends (optional name ◂ spares limited).language out (put_optional put_name y out) y) e
-    (printing.appends_mapped (λ (x : Option Named × List (Option (Unit {0}))). x.0) (sequence (optional name).language (spares limited).language) out new (z, [])
-    (printing.appends_seq kind_of (optional name) (spares limited).language (perhaps name-exact refl) out new new z [] (optional_prints name.language put_name name_prints z (ts, i, k, s) out) (record { more = []; is = sym (append-nil new); spells = (refl, refl) })))
+-- anything else is put behind a comma
+there_printed : {A : Type 0} (missing : A) (a : Grammar A) (put put_a : A → Tokens → Tokens) → Prints a.language put_a → ((out : Tokens) → put missing out ≡ out)
+    → (x : A) → IsSpelled (mark Comma ▸ a).language x → (out : Tokens) → (x ≡ missing) ⊎ ((out : Tokens) → put x out ≡ put_a x (put_mark Comma out)) → Appends (trailing missing a).language out (put x out) x
+there_printed missing a put put_a prints nothing x spelled out (inl same) = subst (λ z. Appends (trailing missing a).language out (put z out) z) (sym same) (put_as_nothing missing a put out (nothing out))
+there_printed missing a put put_a prints nothing x spelled out (inr same) =
+    let new = put_a x (put_mark Comma out) in
+    let some = printing.appends_some (mark Comma ▸ a).language out new x (behind_mark Comma a.language put_a prints x spelled out) in
+    rw (same out) (printing.appends_mapped (λ o. unwrap_or o missing) (optional (mark Comma ▸ a)).language out new (Some x) some)
 
-notifier_and_spares_print : (limited : Bool) → Prints (notifier_and_spares limited).language put_notifier
-notifier_and_spares_print limited = trailing_prints (optional name ◂ spares limited) (no_spares_print limited)
+trailing_prints : {A : Type 0} (missing : A) (a : Grammar A) (put put_a : A → Tokens → Tokens) → Prints a.language put_a → ((out : Tokens) → put missing out ≡ out)
+    → ((x : A) → (x ≡ missing) ⊎ ((out : Tokens) → put x out ≡ put_a x (put_mark Comma out))) → Prints (trailing missing a).language put
+trailing_prints missing a put put_a prints nothing something y (ts, i, j, (None, e, s)) out =
+    subst (λ z. Appends (trailing missing a).language out (put z out) z) e (put_as_nothing missing a put out (nothing out))
+trailing_prints missing a put put_a prints nothing something y (ts, i, j, (Some x, e, s)) out =
+    subst (λ z. Appends (trailing missing a).language out (put z out) z) e (there_printed missing a put put_a prints nothing x (ts, i, j, s) out (something x))
+
+a_name : (x : Option Named) → (x ≡ None) ⊎ ((out : Tokens) → put_notifier x out ≡ put_optional put_name x (put_mark Comma out))
+a_name None = inl refl
+a_name (Some n) = inr (λ out. refl)
+
+optional_name_prints : Prints (optional name).language (put_optional put_name)
+optional_name_prints = optional_prints name.language put_name name_prints
+
+trailing_name_prints : Prints trailing_name.language put_notifier
+trailing_name_prints = trailing_prints None (optional name) put_notifier (put_optional put_name) optional_name_prints (λ out. refl) a_name
+
+-- ---- a threshold and a notifier
 
 abbrev Trailing : Type 0
 Trailing = Option Limit × Option Named
@@ -121,30 +127,102 @@ put_trailing x out = put_threshold_and_notifier x.0 x.1 out
 abbrev put_both : Trailing → Tokens → Tokens
 put_both x out = put_notifier x.1 (put_optional put_limit x.0 out)
 
-both_print : Prints (optional (limit false) ∙∙ notifier).language put_both
-both_print = seq_prints (optional (limit false)) notifier.language _ _ (perhaps (limit-exact false) refl) (optional_prints _ _ (limit_prints false)) notifier_prints
+both_print : Prints (optional (limit false) ∙∙ trailing_name).language put_both
+both_print = seq_prints (optional (limit false)) trailing_name.language _ _ (perhaps (limit-exact false) refl) (optional_prints _ _ (limit_prints false)) trailing_name_prints
 
-abbrev or_none : Option Trailing → Trailing
-or_none o = unwrap_or o (None, None)
-
-abbrev behind : Grammar Trailing
-behind = mark Comma ▸ (optional (limit false) ∙∙ notifier)
-
-none_trailing : (out : Tokens) → Appends threshold_and_notifier.language out out (None, None)
-none_trailing out = printing.appends_mapped or_none (optional behind).language out out None (printing.appends_none behind.language out)
-
-some_trailing : (x : Trailing) → IsSpelled behind.language x → (out : Tokens) → Appends threshold_and_notifier.language out (put_both x (put_mark Comma out)) x
-some_trailing x (ts, i, j, s) out =
-    let new = put_both x (put_mark Comma out) in
-    printing.appends_mapped or_none (optional behind).language out new (Some x) (printing.appends_some behind.language out new x (behind_mark Comma (optional (limit false) ∙∙ notifier).language put_both both_print x (ts, i, j, s) out))
+one_of_both : (x : Trailing) → (x ≡ (None, None)) ⊎ ((out : Tokens) → put_trailing x out ≡ put_both x (put_mark Comma out))
+one_of_both (None, None) = inl refl
+one_of_both (Some t, n) = inr (λ out. refl)
+one_of_both (None, Some n) = inr (λ out. refl)
 
 threshold_and_notifier_print : Prints threshold_and_notifier.language put_trailing
-threshold_and_notifier_print x (ts, i, j, (None, e, s)) out = subst (λ (z : Trailing). Appends threshold_and_notifier.language out (put_trailing z out) z) e (none_trailing out)
-threshold_and_notifier_print x (ts, i, j, (Some (None, None), e, s)) out = subst (λ (z : Trailing). Appends threshold_and_notifier.language out (put_trailing z out) z) e (none_trailing out)
-threshold_and_notifier_print x (ts, i, j, (Some (Some t, n), e, s)) out =
-    subst (λ (z : Trailing). Appends threshold_and_notifier.language out (put_trailing z out) z) e (some_trailing (Some t, n) (ts, i, j, s) out)
-threshold_and_notifier_print x (ts, i, j, (Some (None, Some n), e, s)) out =
-    subst (λ (z : Trailing). Appends threshold_and_notifier.language out (put_trailing z out) z) e (some_trailing (None, Some n) (ts, i, j, s) out)
+threshold_and_notifier_print = trailing_prints (None, None) (optional (limit false) ∙∙ trailing_name) put_trailing put_both both_print (λ out. refl) one_of_both
+
+-- ---- delayed signals, and what stands before them
+
+abbrev put_signals : Delayed → Tokens → Tokens
+put_signals x out = put_delayed x.0 x.1 out
+
+abbrev put_names : Delayed → Tokens → Tokens
+put_names x out = put_notifier x.1 (put_optional put_name x.0 out)
+
+names_print : Prints (optional name ∙∙ trailing_name).language put_names
+names_print = seq_prints (optional name) trailing_name.language _ _ (perhaps name-exact refl) optional_name_prints trailing_name_prints
+
+one_of_names : (x : Delayed) → (x ≡ (None, None)) ⊎ ((out : Tokens) → put_signals x out ≡ put_names x (put_mark Comma out))
+one_of_names (None, None) = inl refl
+one_of_names (Some r, d) = inr (λ out. refl)
+one_of_names (None, Some d) = inr (λ out. refl)
+
+delayed_signals_print : Prints delayed_signals.language put_signals
+delayed_signals_print = trailing_prints (None, None) (optional name ∙∙ trailing_name) put_signals put_names names_print (λ out. refl) one_of_names
+
+-- no token is put where none may stand
+no_spare : (limited : Bool) (out : Tokens) → Appends (spare limited).language out out tt
+no_spare limited out = printing.appends_mapped (λ _. tt) (optional (only_if (not limited) (quoted kind_of fills))).language out out None (printing.appends_none (only_if (not limited) (quoted kind_of fills)).language out)
+
+behind_spare : {A : Type 0} (limited : Bool) (b : Grammar A) (put : A → Tokens → Tokens) → Prints b.language put → Prints (spare limited ▸ b).language put
+behind_spare limited b put prints y (ts, i, j, ((u, x), e, (m, h, s))) out =
+    subst (λ z. Appends (spare limited ▸ b).language out (put z out) z) e
+    (printing.appends_mapped (λ (x : Unit {0} × _). x.1) (sequence (spare limited).language b.language) out (put x out) (tt, x)
+    (printing.appends_seq kind_of (spare limited) b.language (spare-exact limited) out out (put x out) tt x (no_spare limited out) (prints x (ts, m, j, s) out)))
+
+-- the commas before them, where one is there
+abbrev put_checktime : Option Named → Option Named → Tokens → Tokens
+put_checktime None None out = out
+put_checktime (Some r) d out = put_delayed (Some r) d (put_mark Comma out)
+put_checktime None (Some d) out = put_delayed None (Some d) (put_mark Comma out)
+
+abbrev put_from_checktime : Delayed → Tokens → Tokens
+put_from_checktime x out = put_checktime x.0 x.1 out
+
+abbrev put_stamptime : Option Named → Option Named → Tokens → Tokens
+put_stamptime None None out = out
+put_stamptime (Some r) d out = put_checktime (Some r) d (put_mark Comma out)
+put_stamptime None (Some d) out = put_checktime None (Some d) (put_mark Comma out)
+
+abbrev put_from_stamptime : Delayed → Tokens → Tokens
+put_from_stamptime x out = put_stamptime x.0 x.1 out
+
+one_at_checktime : (x : Delayed) → (x ≡ (None, None)) ⊎ ((out : Tokens) → put_from_checktime x out ≡ put_signals x (put_mark Comma out))
+one_at_checktime (None, None) = inl refl
+one_at_checktime (Some r, d) = inr (λ out. refl)
+one_at_checktime (None, Some d) = inr (λ out. refl)
+
+one_at_stamptime : (x : Delayed) → (x ≡ (None, None)) ⊎ ((out : Tokens) → put_from_stamptime x out ≡ put_from_checktime x (put_mark Comma out))
+one_at_stamptime (None, None) = inl refl
+one_at_stamptime (Some r, d) = inr (λ out. refl)
+one_at_stamptime (None, Some d) = inr (λ out. refl)
+
+from_checktime_prints : (limited : Bool) → Prints (from_checktime limited).language put_from_checktime
+from_checktime_prints limited =
+    trailing_prints (None, None) (spare limited ▸ delayed_signals) put_from_checktime put_signals (behind_spare limited delayed_signals put_signals delayed_signals_print) (λ out. refl) one_at_checktime
+
+from_stamptime_prints : (limited : Bool) → Prints (from_stamptime limited).language put_from_stamptime
+from_stamptime_prints limited =
+    trailing_prints (None, None) (spare limited ▸ from_checktime limited) put_from_stamptime put_from_checktime (behind_spare limited (from_checktime limited) put_from_checktime (from_checktime_prints limited)) (λ out. refl) one_at_stamptime
+
+-- ---- a notifier and what stands behind it
+
+abbrev Last : Type 0
+Last = Option Named × Delayed
+
+abbrev put_last : Last → Tokens → Tokens
+put_last x out = put_last_arguments x.0 x.1.0 x.1.1 out
+
+abbrev put_name_and_rest : Last → Tokens → Tokens
+put_name_and_rest x out = put_from_stamptime x.1 (put_optional put_name x.0 out)
+
+one_of_last : (x : Last) → (x ≡ (None, (None, None))) ⊎ ((out : Tokens) → put_last x out ≡ put_name_and_rest x (put_mark Comma out))
+one_of_last (None, (None, None)) = inl refl
+one_of_last (Some n, (None, None)) = inr (λ out. refl)
+one_of_last (n, (Some r, d)) = inr (λ out. refl)
+one_of_last (n, (None, Some d)) = inr (λ out. refl)
+
+last_arguments_print : (limited : Bool) → Prints (last_arguments limited).language put_last
+last_arguments_print limited =
+    let all = seq_prints (optional name) (from_stamptime limited).language _ _ (perhaps name-exact refl) optional_name_prints (from_stamptime_prints limited) in
+    trailing_prints (None, (None, None)) (optional name ∙∙ from_stamptime limited) put_last put_name_and_rest all (λ out. refl) one_of_last
 
 -- ---- the arguments of each check
 
@@ -157,22 +235,22 @@ one_limit_same p Skew a b l n out = refl
 
 arguments_of_print : (limited : Bool) (p : Place) (name : CheckName) → Prints (arguments_of limited p name).language put_arguments
 arguments_of_print limited p (OneLimit c) =
-    let limits = behind_mark Comma (limit false ∙∙ notifier).language _ (seq_prints (limit false) notifier.language _ _ (limit-exact false) (limit_prints false) notifier_prints) in
-    let second = behind_mark Comma (event ∙∙ (mark Comma ▸ (limit false ∙∙ notifier))).language _ (seq_prints event (mark Comma ▸ (limit false ∙∙ notifier)).language _ _ event-exact event_prints limits) in
-    let all = seq_prints event (mark Comma ▸ (event ∙∙ (mark Comma ▸ (limit false ∙∙ notifier)))).language _ _ event-exact event_prints second in
+    let limits = behind_mark Comma (limit false ∙∙ trailing_name).language _ (seq_prints (limit false) trailing_name.language _ _ (limit-exact false) (limit_prints false) trailing_name_prints) in
+    let second = behind_mark Comma (event ∙∙ (mark Comma ▸ (limit false ∙∙ trailing_name))).language _ (seq_prints event (mark Comma ▸ (limit false ∙∙ trailing_name)).language _ _ event-exact event_prints limits) in
+    let all = seq_prints event (mark Comma ▸ (event ∙∙ (mark Comma ▸ (limit false ∙∙ trailing_name)))).language _ _ event-exact event_prints second in
     mapped_prints _ _ _ put_arguments all (λ x out. one_limit_same p c x.0 x.1.0 x.1.1.0 x.1.1.1 out)
 arguments_of_print limited p (TwoLimits c) =
-    let last = behind_mark Comma (limit true ∙∙ notifier_and_spares limited).language _ (seq_prints (limit true) (notifier_and_spares limited).language _ _ (limit-exact true) (limit_prints true) (notifier_and_spares_print limited)) in
-    let limits = behind_mark Comma (limit true ∙∙ (mark Comma ▸ (limit true ∙∙ notifier_and_spares limited))).language _ (seq_prints (limit true) (mark Comma ▸ (limit true ∙∙ notifier_and_spares limited)).language _ _ (limit-exact true) (limit_prints true) last) in
-    let second = behind_mark Comma (event ∙∙ (mark Comma ▸ (limit true ∙∙ (mark Comma ▸ (limit true ∙∙ notifier_and_spares limited))))).language _ (seq_prints event (mark Comma ▸ (limit true ∙∙ (mark Comma ▸ (limit true ∙∙ notifier_and_spares limited)))).language _ _ event-exact event_prints limits) in
-    let all = seq_prints event (mark Comma ▸ (event ∙∙ (mark Comma ▸ (limit true ∙∙ (mark Comma ▸ (limit true ∙∙ notifier_and_spares limited)))))).language _ _ event-exact event_prints second in
+    let last = behind_mark Comma (limit true ∙∙ last_arguments limited).language _ (seq_prints (limit true) (last_arguments limited).language _ _ (limit-exact true) (limit_prints true) (last_arguments_print limited)) in
+    let limits = behind_mark Comma (limit true ∙∙ (mark Comma ▸ (limit true ∙∙ last_arguments limited))).language _ (seq_prints (limit true) (mark Comma ▸ (limit true ∙∙ last_arguments limited)).language _ _ (limit-exact true) (limit_prints true) last) in
+    let second = behind_mark Comma (event ∙∙ (mark Comma ▸ (limit true ∙∙ (mark Comma ▸ (limit true ∙∙ last_arguments limited))))).language _ (seq_prints event (mark Comma ▸ (limit true ∙∙ (mark Comma ▸ (limit true ∙∙ last_arguments limited)))).language _ _ event-exact event_prints limits) in
+    let all = seq_prints event (mark Comma ▸ (event ∙∙ (mark Comma ▸ (limit true ∙∙ (mark Comma ▸ (limit true ∙∙ last_arguments limited)))))).language _ _ event-exact event_prints second in
     mapped_prints _ _ _ put_arguments all (λ x out. refl)
 arguments_of_print limited p Width =
     let limits = behind_mark Comma (limit false ∙∙ threshold_and_notifier).language _ (seq_prints (limit false) threshold_and_notifier.language _ _ (limit-exact false) (limit_prints false) threshold_and_notifier_print) in
     mapped_prints _ _ _ put_arguments (seq_prints event (mark Comma ▸ (limit false ∙∙ threshold_and_notifier)).language _ _ event-exact event_prints limits) (λ x out. refl)
 arguments_of_print limited p Period =
-    let limits = behind_mark Comma (limit false ∙∙ notifier).language _ (seq_prints (limit false) notifier.language _ _ (limit-exact false) (limit_prints false) notifier_prints) in
-    mapped_prints _ _ _ put_arguments (seq_prints event (mark Comma ▸ (limit false ∙∙ notifier)).language _ _ event-exact event_prints limits) (λ x out. refl)
+    let limits = behind_mark Comma (limit false ∙∙ trailing_name).language _ (seq_prints (limit false) trailing_name.language _ _ (limit-exact false) (limit_prints false) trailing_name_prints) in
+    mapped_prints _ _ _ put_arguments (seq_prints event (mark Comma ▸ (limit false ∙∙ trailing_name)).language _ _ event-exact event_prints limits) (λ x out. refl)
 
 arguments_print : (limited : Bool) (p : Place) (name : CheckName) → Prints (arguments limited p name).language put_in_parens
 unfolding arguments_parts

@@ -20,7 +20,7 @@ use Rattle.vl_tree.specs.declared.names.Direction.TheVariants as direction_of
 use Rattle.vl_tree.specs.declared.names.NetType.TheVariants as net_type_of
 use Rattle.vl_tree.specs.declared.names.Supply.TheVariants as supply_of
 use Rattle.vl_tree.specs.Expressions.{name, names, range, expression, delay}
-use Rattle.vl_tree.specs.Items.{direction_parts, direction, net_type_parts, net_type, supply_parts, supply, gate_parts, gate, net_name_parts, net_name, join_parts, join, gate_instance_parts, gate_instance, named_connection_parts, named_connection, connections_parts, connections, instance_parts, instance, port_item_parts, port_item, net_item_parts, net_item, supply_item_parts, supply_item, register_item_parts, register_item, assign_item_parts, assign_item, gate_item_parts, gate_item, instance_item_parts, instance_item, block_item_parts, block_item, item_parts, item}
+use Rattle.vl_tree.specs.Items.{direction_parts, direction, net_type_parts, net_type, supply_parts, supply, enable_gate_parts, enable_gate, gate_parts, gate, net_name_parts, net_name, join_parts, join, gate_instance_parts, gate_instance, named_connection_parts, named_connection, connections_parts, connections, instance_parts, instance, port_item_parts, port_item, net_item_parts, net_item, supply_item_parts, supply_item, register_item_parts, register_item, assign_item_parts, assign_item, gate_item_parts, gate_item, instance_item_parts, instance_item, block_item_parts, block_item, item_parts, item}
 use Rattle.vl_tree.specs.Kinds.{kind_of, is_word, is_symbol}
 use Rattle.vl_print.specs.ModulesPrinting.{put_item}
 use Rattle.vl_print.specs.Printing.{Tokens, nowhere, put_mark, mark_at, put_optional, behind_comma, put_listed, put_name, put_names, put_range, put_expression, put_direction, put_net_type, put_supply, put_gate, put_net_name, put_join, put_opening, put_gate_instance, put_named_connection, put_connections, put_instance}
@@ -56,6 +56,15 @@ supply_first =
     (word_first (is_word Supply0) (word_token Supply0) supply_of.Zero put_supply refl (λ p out. refl))
     (word_first (is_word Supply1) (word_token Supply1) supply_of.One put_supply refl (λ p out. refl))
 
+enable_gate_first : PrintsAt enable_gate.language put_gate
+unfolding enable_gate_parts
+enable_gate_first =
+    either_first _ _ put_gate (word_first (is_word keyword.Bufif0) (word_token keyword.Bufif0) gate_kind.Bufif0 put_gate refl (λ p out. refl))
+    (either_first _ _ put_gate (word_first (is_word keyword.Bufif1) (word_token keyword.Bufif1) gate_kind.Bufif1 put_gate refl (λ p out. refl))
+    (either_first _ _ put_gate
+    (word_first (is_word keyword.Notif0) (word_token keyword.Notif0) gate_kind.Notif0 put_gate refl (λ p out. refl))
+    (word_first (is_word keyword.Notif1) (word_token keyword.Notif1) gate_kind.Notif1 put_gate refl (λ p out. refl))))
+
 gate_first : PrintsAt gate.language put_gate
 unfolding gate_parts
 gate_first =
@@ -65,9 +74,9 @@ gate_first =
     (either_first _ _ put_gate (word_first (is_word keyword.Nor) (word_token keyword.Nor) gate_kind.Nor put_gate refl (λ p out. refl))
     (either_first _ _ put_gate (word_first (is_word keyword.Xor) (word_token keyword.Xor) gate_kind.Xor put_gate refl (λ p out. refl))
     (either_first _ _ put_gate (word_first (is_word keyword.Xnor) (word_token keyword.Xnor) gate_kind.Xnor put_gate refl (λ p out. refl))
-    (either_first _ _ put_gate
-    (word_first (is_word keyword.Buf) (word_token keyword.Buf) gate_kind.Buf put_gate refl (λ p out. refl))
-    (word_first (is_word keyword.Not) (word_token keyword.Not) gate_kind.Not put_gate refl (λ p out. refl))))))))
+    (either_first _ _ put_gate (word_first (is_word keyword.Buf) (word_token keyword.Buf) gate_kind.Buf put_gate refl (λ p out. refl))
+    (either_first _ _ put_gate (word_first (is_word keyword.Not) (word_token keyword.Not) gate_kind.Not put_gate refl (λ p out. refl))
+    enable_gate_first)))))))
 
 pub net_type_prints : (p : Place) → Prints net_type.language (put_net_type p)
 unfolding net_type_parts

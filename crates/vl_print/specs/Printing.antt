@@ -152,6 +152,10 @@ put_gate p gate_kind.Xor out = word_at keyword.Xor p out
 put_gate p gate_kind.Xnor out = word_at keyword.Xnor p out
 put_gate p gate_kind.Buf out = word_at keyword.Buf p out
 put_gate p gate_kind.Not out = word_at keyword.Not p out
+put_gate p gate_kind.Bufif0 out = word_at keyword.Bufif0 p out
+put_gate p gate_kind.Bufif1 out = word_at keyword.Bufif1 p out
+put_gate p gate_kind.Notif0 out = word_at keyword.Notif0 p out
+put_gate p gate_kind.Notif1 out = word_at keyword.Notif1 p out
 
 abbrev pub put_net_name : NetName → Tokens → Tokens
 put_net_name n out = put_optional put_value n.value (put_name n.name out)

@@ -178,21 +178,37 @@ put_threshold_and_notifier None None out = out
 put_threshold_and_notifier (Some t) n out = put_notifier n (put_next_limit t out)
 put_threshold_and_notifier None (Some n) out = put_notifier (Some n) (put_mark symbol.Comma out)
 
+-- [ "," [ name ] [ "," name ] ], without the comma where neither is there
+abbrev pub put_delayed : (reference data_signal : Option Named) → Tokens → Tokens
+put_delayed None None out = out
+put_delayed (Some r) d out = put_notifier d (put_name r (put_mark symbol.Comma out))
+put_delayed None (Some d) out = put_notifier (Some d) (put_mark symbol.Comma out)
+
+-- "," [ name ] "," ",": the arguments before the delayed signals
+abbrev pub put_up_to_delayed : Option Named → Tokens → Tokens
+put_up_to_delayed n out = put_mark symbol.Comma (put_mark symbol.Comma (put_optional put_name n (put_mark symbol.Comma out)))
+
+-- the arguments behind the limits of a check with two, without commas behind the last that is there
+abbrev pub put_last_arguments : (notifier reference data_signal : Option Named) → Tokens → Tokens
+put_last_arguments n None None out = put_notifier n out
+put_last_arguments n (Some r) d out = put_delayed (Some r) d (put_up_to_delayed n out)
+put_last_arguments n None (Some d) out = put_delayed None (Some d) (put_up_to_delayed n out)
+
 abbrev pub put_arguments : Check → Tokens → Tokens
 put_arguments (one_limit_check p c r d l n) out = put_notifier n (put_next_limit l (put_events_of c r d out))
-put_arguments (two_limit_check p c r d l m n) out = put_notifier n (put_next_limit m (put_next_limit l (put_events r d out)))
+put_arguments (two_limit_check p c r d l m n f g) out = put_last_arguments n f g (put_next_limit m (put_next_limit l (put_events r d out)))
 put_arguments (width_check p r l t n) out = put_threshold_and_notifier t n (put_next_limit l (put_event r out))
 put_arguments (period_check p r l n) out = put_notifier n (put_next_limit l (put_event r out))
 
 abbrev pub name_of_check : Check → CheckName
 name_of_check (one_limit_check p c r d l n) = OneLimit c
-name_of_check (two_limit_check p c r d l m n) = TwoLimits c
+name_of_check (two_limit_check p c r d l m n f g) = TwoLimits c
 name_of_check (width_check p r l t n) = Width
 name_of_check (period_check p r l n) = Period
 
 abbrev pub place_of_check : Check → Place
 place_of_check (one_limit_check p c r d l n) = p
-place_of_check (two_limit_check p c r d l m n) = p
+place_of_check (two_limit_check p c r d l m n f g) = p
 place_of_check (width_check p r l t n) = p
 place_of_check (period_check p r l n) = p
 

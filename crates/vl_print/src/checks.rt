@@ -5,10 +5,10 @@ ghost use Rattle.vl_token.specs.declared.symbols.Symbol.TheVariants as symbols;
 ghost use Rattle.vl_token.specs.Tokens.{system_token};
 ghost use Rattle.vl_print.specs.Printing.{put_mark, put_optional, put_token};
 ghost use Rattle.vl_tree.specs.Seen.{view_edge, view_event, view_limit, view_name, view_term, view_word};
-ghost use Rattle.vl_print.specs.SpecifyPrinting.{check_text, put_event_term, put_events, put_events_of, put_held, put_notifier, put_threshold_and_notifier};
+ghost use Rattle.vl_print.specs.SpecifyPrinting.{check_text, put_event_term, put_events, put_events_of, put_held, put_last_arguments, put_notifier, put_threshold_and_notifier, put_up_to_delayed};
 
 use crate::amounts::print_next_limit;
-use crate::lists::{Print, print_many};
+use crate::lists::{Print, print_many, print_optional};
 use crate::paths::print_edge;
 use crate::tokens::{symbol, token};
 use sg_text::{NoMemory, Place};
@@ -171,6 +171,58 @@ fn print_behind_no_threshold<'a>(
     }
 }
 
+// `"," [ name ] "," ","`
+fn print_up_to_delayed<'a>(
+    out: &mut Vec<Token<'a>>,
+    notifier: &Option<Name<'a>>,
+) -> Result<(), NoMemory>
+    ensures { OnOk result (map lexeme out.new.items ≡ put_up_to_delayed (option_map view_name notifier.now) (map lexeme out.old.items)) }
+{
+    symbol(out, Symbol::Comma)?;
+    print_optional(out, notifier)?;
+    symbol(out, Symbol::Comma)?;
+    symbol(out, Symbol::Comma)
+}
+
+// The arguments behind the limits of a check with two.
+fn print_last_arguments<'a>(
+    out: &mut Vec<Token<'a>>,
+    notifier: &Option<Name<'a>>,
+    delayed_reference: &Option<Name<'a>>,
+    delayed_data: &Option<Name<'a>>,
+) -> Result<(), NoMemory>
+    ensures { OnOk result (map lexeme out.new.items ≡ put_last_arguments (option_map view_name notifier.now) (option_map view_name delayed_reference.now) (option_map view_name delayed_data.now) (map lexeme out.old.items)) }
+{
+    match delayed_reference {
+        Some(name) => {
+            print_up_to_delayed(out, notifier)?;
+            symbol(out, Symbol::Comma)?;
+            name.print(out)?;
+            print_notifier(out, delayed_data)
+        }
+        None => print_behind_no_reference(out, notifier, delayed_data),
+    }
+}
+
+// An empty delayed reference is put where delayed data stand behind it.
+fn print_behind_no_reference<'a>(
+    out: &mut Vec<Token<'a>>,
+    notifier: &Option<Name<'a>>,
+    delayed_data: &Option<Name<'a>>,
+) -> Result<(), NoMemory>
+    ensures { OnOk result (map lexeme out.new.items ≡ put_last_arguments (option_map view_name notifier.now) None (option_map view_name delayed_data.now) (map lexeme out.old.items)) }
+{
+    match delayed_data {
+        None => print_notifier(out, notifier),
+        Some(name) => {
+            print_up_to_delayed(out, notifier)?;
+            symbol(out, Symbol::Comma)?;
+            symbol(out, Symbol::Comma)?;
+            name.print(out)
+        }
+    }
+}
+
 impl<'a> Print<'a> for Check<'a> {
     ghost use Rattle.vl_tree.specs.Tree.{Check as TreeSeen};
     ghost use Rattle.vl_tree.specs.Seen.{view_check};
@@ -205,12 +257,14 @@ impl<'a> Print<'a> for Check<'a> {
                 first: first_limit,
                 second: second_limit,
                 notifier,
+                delayed_reference,
+                delayed_data,
             } => {
                 print_opening(out, CheckName::TwoLimits(*check), *place)?;
                 print_events(out, reference, second)?;
                 print_next_limit(out, first_limit)?;
                 print_next_limit(out, second_limit)?;
-                print_notifier(out, notifier)?;
+                print_last_arguments(out, notifier, delayed_reference, delayed_data)?;
             }
             Check::Width {
                 place,

@@ -70,6 +70,10 @@ fn print_gate(out: &mut Vec<Token<'_>>, gate: GateKind, place: Place) -> Result<
         GateKind::Xnor => keyword_at(out, Keyword::Xnor, place),
         GateKind::Buf => keyword_at(out, Keyword::Buf, place),
         GateKind::Not => keyword_at(out, Keyword::Not, place),
+        GateKind::Bufif0 => keyword_at(out, Keyword::Bufif0, place),
+        GateKind::Bufif1 => keyword_at(out, Keyword::Bufif1, place),
+        GateKind::Notif0 => keyword_at(out, Keyword::Notif0, place),
+        GateKind::Notif1 => keyword_at(out, Keyword::Notif1, place),
     }
 }
 

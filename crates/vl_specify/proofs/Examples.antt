@@ -1,14 +1,10 @@
 -- Worked examples of the definitions.
-use Rattle.std.proofs.Common.{◌≡◌, [], ◌∷◌, Some, None, refl}
+use Rattle.std.proofs.Common.{◌≡◌, Some, None, refl}
 use Rattle.std.specs.Prelude.{codes}
-use Rattle.cond_expr.specs.declared.tokens.Op.TheVariants.{And}
-use Rattle.cond_expr.specs.declared.tokens.Tok.TheVariants as tok
-use Rattle.sg_logic.specs.declared.values.Value.TheVariants.{Zero, One, Z}
 use Rattle.sg_text.specs.declared.words.Keyword.TheVariants as keyword
 use Rattle.vl_token.specs.declared.symbols.Symbol.TheVariants as symbol
-use Rattle.vl_token.specs.Tokens.{name_token, sized_token, symbol_token, system_token, word_token}
+use Rattle.vl_token.specs.Tokens.{name_token, symbol_token, system_token, word_token}
 use Rattle.vl_specify.specs.Faults.{left_out, told, told_by_limit}
-use Rattle.vl_conditions.specs.Words.{word_alone}
 use Rattle.vl_specify.specs.declared.faults.SpecifyKind.TheVariants.{ShowCancelled, UnsupportedCheck, BadDelayCount}
 
 the_word : told (word_token keyword.ShowCancelled) ≡ Some ShowCancelled
@@ -33,16 +29,3 @@ a_list_ends = refl
 
 a_filled_argument : told_by_limit (name_token (codes "n")) ≡ UnsupportedCheck
 a_filled_argument = refl
-
-an_operator : word_alone (symbol_token symbol.And) ≡ Some (tok.Op And)
-an_operator = refl
-
-a_bit : word_alone (sized_token (Z ∷ [])) ≡ Some (tok.Const Z)
-a_bit = refl
-
-two_bits : word_alone (sized_token (Zero ∷ One ∷ [])) ≡ None
-two_bits = refl
-
--- an index is of several tokens
-a_bracket : word_alone (symbol_token symbol.LeftBracket) ≡ None
-a_bracket = refl

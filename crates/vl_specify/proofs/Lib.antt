@@ -1,6 +1,5 @@
 -- The modules of this folder.
 pub mod Lists
 pub mod DelayLists
-pub mod SpareArguments
 pub mod Refusals
 mod Examples

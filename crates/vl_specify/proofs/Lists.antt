@@ -5,13 +5,13 @@ use Rattle.grammar.specs.Rule.{◌▸◌}
 use Rattle.vl_token.specs.declared.symbols.Symbol.TheVariants.{Comma}
 use Rattle.vl_tree.specs.Amounts.{specparam}
 use Rattle.vl_tree.specs.Kinds.{kind_of}
-use Rattle.vl_tree.specs.Paths.{pair, term}
+use Rattle.vl_tree.specs.Paths.{term}
 use Rattle.vl_tree.specs.Rules.{mark}
 use Rattle.vl_tree.specs.Specify.{specify_item}
 use Rattle.vl_tree.proofs.AllKinds.{apart}
 use Rattle.vl_tree.proofs.AmountsExact.{specparam-exact}
 use Rattle.vl_tree.proofs.Building.{behind, the_mark}
-use Rattle.vl_tree.proofs.PathsExact.{pair-exact, term-exact}
+use Rattle.vl_tree.proofs.PathsExact.{term-exact}
 use Rattle.vl_tree.proofs.SpecifyExact.{specify_item-exact}
 
 pub comma_specparam : Exact kind_of (mark Comma ▸ specparam)
@@ -19,9 +19,6 @@ comma_specparam = behind (the_mark Comma) specparam-exact (apart _ _ refl)
 
 pub comma_term : Exact kind_of (mark Comma ▸ term)
 comma_term = behind (the_mark Comma) term-exact (apart _ _ refl)
-
-pub comma_pair : Exact kind_of (mark Comma ▸ pair)
-comma_pair = behind (the_mark Comma) pair-exact (apart _ _ refl)
 
 -- ---- what is repeated without commas
 

@@ -1,5 +1,4 @@
 -- The modules of this folder.
-pub mod Skipped
 pub mod Delays
 pub mod Parts
 pub mod Faults

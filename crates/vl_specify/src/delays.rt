@@ -10,15 +10,31 @@ ghost use Rattle.vl_tree.specs.Rules as rules;
 ghost use Rattle.vl_tree.specs.Seen.{view_amounts};
 ghost use Rattle.vl_specify.specs.Delays.{IsAdded};
 
-use crate::amounts::{amount_stands, amounts};
 use grammar::ReadFault;
 use std::alloc::Global;
+use vl_terms::specify::{amount, amount_stands};
 use vl_terms::tokens::{is_mark, mark};
 use vl_token::{Symbol, Token};
 use vl_tree::Amounts;
 
 // The most delays of a list.
 const MAX_DELAYS: usize = 12;
+
+/// `amount [ ":" amount ":" amount ]`
+#[tactic(auto, unfolding(vl_tree::specs::Amounts::amounts_parts))]
+fn amounts<'a>(tokens: &[Token<'a>], at: usize) -> Result<(Amounts<'a>, usize), ReadFault>
+    ensures { Gives (λ x. (view_amounts x.0, x.1)) result (amounts.amounts.read (map lexeme tokens.now) at) }
+{
+    let (min, next) = amount(tokens, at)?;
+    if !is_mark(tokens, next, Symbol::Colon) {
+        return Ok((Amounts::One(min), next));
+    }
+    let next = mark(tokens, next, Symbol::Colon)?;
+    let (typ, next) = amount(tokens, next)?;
+    let next = mark(tokens, next, Symbol::Colon)?;
+    let (max, next) = amount(tokens, next)?;
+    Ok((Amounts::Three { min, typ, max }, next))
+}
 
 /// `amounts | "(" amounts ")"`
 #[tactic(auto, unfolding(vl_tree::specs::Amounts::path_delay_parts))]

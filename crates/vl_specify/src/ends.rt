@@ -11,10 +11,11 @@ ghost use Rattle.vl_tree.specs.Rules.{mark as mark_rule};
 ghost use Rattle.vl_tree.specs.Seen.{view_data_source, view_destination, view_term};
 ghost use Rattle.vl_specify.specs.Parts.{view_ends};
 
-use crate::terms::{optional_polarity, term, terms};
+use crate::terms::{optional_polarity, terms};
 use grammar::ReadFault;
 use std::alloc::Global;
-use vl_conditions::condition;
+use vl_terms::conditions::condition;
+use vl_terms::specify::term;
 use vl_terms::tokens::{is_mark, is_name, mark};
 use vl_token::{Symbol, Token};
 use vl_tree::{Arrow, DataSource, Destination, Polarity, Term};

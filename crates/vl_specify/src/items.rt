@@ -3,22 +3,22 @@ ghost use Rattle.std.specs.Prelude.{◌≡◌, map};
 ghost use Rattle.grammar.specs.Reading.{Gives};
 ghost use Rattle.grammar.specs.Rule.{stands};
 ghost use Rattle.vl_token.specs.Seen.{lexeme};
-ghost use Rattle.vl_tree.specs.Kinds.{kind_of, is_check};
+ghost use Rattle.vl_tree.specs.Kinds.{kind_of};
 ghost use Rattle.vl_tree.specs.Seen.{view_specify_item};
 ghost use Rattle.vl_tree.specs.Specify as specify;
 ghost use Rattle.vl_tree.specs.Specify.{specify_item_starts, style_starts};
 
-use crate::checks::check;
 use crate::paths::{path, path_stands};
 use crate::specparams::SpecparamPart;
 use crate::terms::terms;
 use grammar::ReadFault;
 use sg_text::Keyword;
 use std::alloc::Global;
+use vl_checks::{check, is_check};
 use vl_terms::lists::listed;
-use vl_terms::tokens::{is_word, mark, place_at, token_at, word};
-use vl_token::{Symbol, Token, TokenKind};
-use vl_tree::{PulseStyle, SpecifyItem, check_of};
+use vl_terms::tokens::{is_word, mark, place_at, word};
+use vl_token::{Symbol, Token};
+use vl_tree::{PulseStyle, SpecifyItem};
 
 /// `"specparam" specparam { "," specparam } ";"`
 #[tactic(auto, using(crate::proofs::Lists::comma_specparam), unfolding(vl_tree::specs::Specify::specparam_item_parts))]
@@ -133,21 +133,6 @@ pub fn specify_item<'a>(
         return style_item(alloc, tokens, at);
     }
     check_item(alloc, tokens, at, limited)
-}
-
-/// Whether a check's name stands there.
-fn is_check(tokens: &[Token<'_>], at: usize) -> bool
-    ensures { result ≡ stands kind_of is_check (map lexeme tokens.now) at }
-{
-    match token_at(tokens, at) {
-        Some(
-            Token {
-                kind: TokenKind::System(text),
-                ..
-            },
-        ) => check_of(text).is_some(),
-        _ => false,
-    }
 }
 
 /// Whether an item begins there.

@@ -1,18 +1,13 @@
-//! The reader of specify blocks: tokens to trees, by the grammar of the crate `vl_tree`, and why a block is refused.
+//! The reader of specify blocks: tokens to trees, by the grammar of the crate `vl_tree`, and why a block is refused. Its timing
+//! checks are read by the crate `vl_checks`.
 #![tactic(auto)]
 
-mod amounts;
-mod arguments;
 mod blocks;
-mod checks;
 mod delays;
 mod edges;
 mod ends;
-mod events;
 mod faults;
 mod items;
-mod limits;
-mod notifiers;
 mod paths;
 mod reading;
 mod specparams;

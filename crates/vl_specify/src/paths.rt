@@ -15,7 +15,7 @@ use crate::ends::{PathEnds, ends};
 use grammar::ReadFault;
 use sg_text::Keyword;
 use std::alloc::Global;
-use vl_conditions::condition;
+use vl_terms::conditions::condition;
 use vl_terms::tokens::{is_mark, is_word, mark, place_at, word};
 use vl_token::{Symbol, Token};
 use vl_tree::{Amounts, EdgeWord, PathCondition, SpecifyPath};

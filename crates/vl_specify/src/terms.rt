@@ -11,21 +11,11 @@ ghost use Rattle.vl_tree.specs.Seen.{view_term};
 
 use grammar::ReadFault;
 use std::alloc::Global;
-use vl_terms::expressions::optional_select;
 use vl_terms::lists::{ListPart, listed};
-use vl_terms::tokens::{is_mark, is_name, mark, name};
+use vl_terms::specify::term;
+use vl_terms::tokens::{is_mark, is_name, mark};
 use vl_token::{Symbol, Token};
 use vl_tree::{Polarity, Term};
-
-/// `name [ select ]`
-#[tactic(auto, unfolding(vl_tree::specs::Paths::term_parts))]
-pub fn term<'a>(tokens: &[Token<'a>], at: usize) -> Result<(Term<'a>, usize), ReadFault>
-    ensures { Gives (λ x. (view_term x.0, x.1)) result (paths.term.read (map lexeme tokens.now) at) }
-{
-    let (name, next) = name(tokens, at)?;
-    let (select, next) = optional_select(tokens, next)?;
-    Ok((Term { name, select }, next))
-}
 
 struct TermPart;
 

@@ -1,3 +1,5 @@
 -- The modules of this folder.
 pub mod Behind
 pub mod Width
+pub mod WordOfToken
+mod Examples

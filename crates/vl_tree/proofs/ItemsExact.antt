@@ -7,7 +7,7 @@ use Rattle.sg_text.specs.declared.words.Keyword.TheVariants as keyword
 use Rattle.vl_token.specs.declared.symbols.Symbol.TheVariants.{Comma, Semicolon, Point, LeftParen, RightParen}
 use Rattle.vl_token.specs.declared.symbols.Symbol.TheVariants as symbol
 use Rattle.vl_tree.specs.Expressions.{names, expression}
-use Rattle.vl_tree.specs.Items.{direction_parts, direction, net_type_parts, net_type, supply_parts, supply, gate_parts, gate, net_name_parts, net_name, join_parts, join, gate_instance_parts, gate_instance, named_connection_parts, named_connection, connections_parts, connections, instance_parts, instance, port_item_parts, port_item, net_item_parts, net_item, supply_item_parts, supply_item, register_item_parts, register_item, assign_item_parts, assign_item, gate_item_parts, gate_item, instance_item_parts, instance_item, block_item_parts, block_item, item_parts, item}
+use Rattle.vl_tree.specs.Items.{direction_parts, direction, net_type_parts, net_type, supply_parts, supply, enable_gate_parts, enable_gate, gate_parts, gate, net_name_parts, net_name, join_parts, join, gate_instance_parts, gate_instance, named_connection_parts, named_connection, connections_parts, connections, instance_parts, instance, port_item_parts, port_item, net_item_parts, net_item, supply_item_parts, supply_item, register_item_parts, register_item, assign_item_parts, assign_item, gate_item_parts, gate_item, instance_item_parts, instance_item, block_item_parts, block_item, item_parts, item}
 use Rattle.vl_tree.specs.Kinds.{kind_of, is_symbol}
 use Rattle.grammar.specs.Rule.{◌◂◌}
 use Rattle.vl_tree.specs.Rules.{mark}
@@ -28,10 +28,17 @@ pub supply-exact : IsExact supply
 unfolding supply_parts
 supply-exact = called _ _ (or (made _ (the_word Supply0)) (made _ (the_word Supply1)) refl refl (apart _ _ refl)) refl (is_within _ _ refl) (is_within _ _ refl)
 
+pub enable_gate-exact : IsExact enable_gate
+unfolding enable_gate_parts
+enable_gate-exact =
+    let last = or (made _ (the_word keyword.Notif0)) (made _ (the_word keyword.Notif1)) refl refl (apart _ _ refl) in
+    let second = or (made _ (the_word keyword.Bufif1)) last refl refl (apart _ _ refl) in
+    called _ _ (or (made _ (the_word keyword.Bufif0)) second refl refl (apart _ _ refl)) refl (is_within _ _ refl) (is_within _ _ refl)
+
 pub gate-exact : IsExact gate
 unfolding gate_parts
 gate-exact =
-    let last = or (made _ (the_word keyword.Buf)) (made _ (the_word keyword.Not)) refl refl (apart _ _ refl) in
+    let last = or (made _ (the_word keyword.Buf)) (or (made _ (the_word keyword.Not)) enable_gate-exact refl refl (apart _ _ refl)) refl refl (apart _ _ refl) in
     let fifth = or (made _ (the_word keyword.Xor)) (or (made _ (the_word keyword.Xnor)) last refl refl (apart _ _ refl)) refl refl (apart _ _ refl) in
     let third = or (made _ (the_word keyword.Or)) (or (made _ (the_word keyword.Nor)) fifth refl refl (apart _ _ refl)) refl refl (apart _ _ refl) in
     called _ _ (or (made _ (the_word keyword.And)) (or (made _ (the_word keyword.Nand)) third refl refl (apart _ _ refl)) refl refl (apart _ _ refl)) refl (is_within _ _ refl) (is_within _ _ refl)

@@ -162,9 +162,14 @@ unfolding specify_item_parts check_item_parts check_parts arguments_parts event_
 a_setup = all_found kind_of (specify_item true) (specify_item-exact true) (at_seven (system_token (codes "$setup")) ∷ mark_there symbol.LeftParen ∷ name_there (codes "d") ∷ mark_there symbol.Comma ∷ word_there keyword.Posedge ∷ name_there (codes "c") ∷ mark_there symbol.Comma ∷ number_there 4 ∷ mark_there symbol.Comma ∷ name_there (codes "n") ∷ mark_there symbol.RightParen ∷ mark_there symbol.Semicolon ∷ []) (a_check (one_limit_check here Setup (rising_so (codes "c")) (event_so (codes "d")) (limit_so false 4) (Some (named_so (codes "n"))))) refl
 
 -- $setuphold(posedge c, d, -1, (2), , , ); leaves no trace of what is empty
-a_setuphold : (specify_item true).language.Spells (at_seven (system_token (codes "$setuphold")) ∷ mark_there symbol.LeftParen ∷ word_there keyword.Posedge ∷ name_there (codes "c") ∷ mark_there symbol.Comma ∷ name_there (codes "d") ∷ mark_there symbol.Comma ∷ mark_there symbol.Minus ∷ number_there 1 ∷ mark_there symbol.Comma ∷ mark_there symbol.LeftParen ∷ number_there 2 ∷ mark_there symbol.RightParen ∷ mark_there symbol.Comma ∷ mark_there symbol.Comma ∷ mark_there symbol.Comma ∷ mark_there symbol.RightParen ∷ mark_there symbol.Semicolon ∷ []) 0 (a_check (two_limit_check here SetupHold (rising_so (codes "c")) (event_so (codes "d")) (limit_so true 1) (limit_so false 2) None)) 18
+a_setuphold : (specify_item true).language.Spells (at_seven (system_token (codes "$setuphold")) ∷ mark_there symbol.LeftParen ∷ word_there keyword.Posedge ∷ name_there (codes "c") ∷ mark_there symbol.Comma ∷ name_there (codes "d") ∷ mark_there symbol.Comma ∷ mark_there symbol.Minus ∷ number_there 1 ∷ mark_there symbol.Comma ∷ mark_there symbol.LeftParen ∷ number_there 2 ∷ mark_there symbol.RightParen ∷ mark_there symbol.Comma ∷ mark_there symbol.Comma ∷ mark_there symbol.Comma ∷ mark_there symbol.RightParen ∷ mark_there symbol.Semicolon ∷ []) 0 (a_check (two_limit_check here SetupHold (rising_so (codes "c")) (event_so (codes "d")) (limit_so true 1) (limit_so false 2) None None None)) 18
 unfolding specify_item_parts check_item_parts check_parts arguments_parts event_parts check_edge_parts edge_parts pair_parts term_parts name_parts limit_parts plain_limit_parts signed_amount_parts amount_parts read_up_to read_by pulse_front check_rows
-a_setuphold = all_found kind_of (specify_item true) (specify_item-exact true) (at_seven (system_token (codes "$setuphold")) ∷ mark_there symbol.LeftParen ∷ word_there keyword.Posedge ∷ name_there (codes "c") ∷ mark_there symbol.Comma ∷ name_there (codes "d") ∷ mark_there symbol.Comma ∷ mark_there symbol.Minus ∷ number_there 1 ∷ mark_there symbol.Comma ∷ mark_there symbol.LeftParen ∷ number_there 2 ∷ mark_there symbol.RightParen ∷ mark_there symbol.Comma ∷ mark_there symbol.Comma ∷ mark_there symbol.Comma ∷ mark_there symbol.RightParen ∷ mark_there symbol.Semicolon ∷ []) (a_check (two_limit_check here SetupHold (rising_so (codes "c")) (event_so (codes "d")) (limit_so true 1) (limit_so false 2) None)) refl
+a_setuphold = all_found kind_of (specify_item true) (specify_item-exact true) (at_seven (system_token (codes "$setuphold")) ∷ mark_there symbol.LeftParen ∷ word_there keyword.Posedge ∷ name_there (codes "c") ∷ mark_there symbol.Comma ∷ name_there (codes "d") ∷ mark_there symbol.Comma ∷ mark_there symbol.Minus ∷ number_there 1 ∷ mark_there symbol.Comma ∷ mark_there symbol.LeftParen ∷ number_there 2 ∷ mark_there symbol.RightParen ∷ mark_there symbol.Comma ∷ mark_there symbol.Comma ∷ mark_there symbol.Comma ∷ mark_there symbol.RightParen ∷ mark_there symbol.Semicolon ∷ []) (a_check (two_limit_check here SetupHold (rising_so (codes "c")) (event_so (codes "d")) (limit_so true 1) (limit_so false 2) None None None)) refl
+
+-- $setuphold(posedge c, d, -1, (2), , , , e, f); names the delayed copies of its two signals
+with_delayed_signals : (specify_item true).language.Spells (at_seven (system_token (codes "$setuphold")) ∷ mark_there symbol.LeftParen ∷ word_there keyword.Posedge ∷ name_there (codes "c") ∷ mark_there symbol.Comma ∷ name_there (codes "d") ∷ mark_there symbol.Comma ∷ mark_there symbol.Minus ∷ number_there 1 ∷ mark_there symbol.Comma ∷ mark_there symbol.LeftParen ∷ number_there 2 ∷ mark_there symbol.RightParen ∷ mark_there symbol.Comma ∷ mark_there symbol.Comma ∷ mark_there symbol.Comma ∷ mark_there symbol.Comma ∷ name_there (codes "e") ∷ mark_there symbol.Comma ∷ name_there (codes "f") ∷ mark_there symbol.RightParen ∷ mark_there symbol.Semicolon ∷ []) 0 (a_check (two_limit_check here SetupHold (rising_so (codes "c")) (event_so (codes "d")) (limit_so true 1) (limit_so false 2) None (Some (named_so (codes "e"))) (Some (named_so (codes "f"))))) 22
+unfolding specify_item_parts check_item_parts check_parts arguments_parts event_parts check_edge_parts edge_parts pair_parts term_parts name_parts limit_parts plain_limit_parts signed_amount_parts amount_parts read_up_to read_by pulse_front check_rows
+with_delayed_signals = all_found kind_of (specify_item true) (specify_item-exact true) (at_seven (system_token (codes "$setuphold")) ∷ mark_there symbol.LeftParen ∷ word_there keyword.Posedge ∷ name_there (codes "c") ∷ mark_there symbol.Comma ∷ name_there (codes "d") ∷ mark_there symbol.Comma ∷ mark_there symbol.Minus ∷ number_there 1 ∷ mark_there symbol.Comma ∷ mark_there symbol.LeftParen ∷ number_there 2 ∷ mark_there symbol.RightParen ∷ mark_there symbol.Comma ∷ mark_there symbol.Comma ∷ mark_there symbol.Comma ∷ mark_there symbol.Comma ∷ name_there (codes "e") ∷ mark_there symbol.Comma ∷ name_there (codes "f") ∷ mark_there symbol.RightParen ∷ mark_there symbol.Semicolon ∷ []) (a_check (two_limit_check here SetupHold (rising_so (codes "c")) (event_so (codes "d")) (limit_so true 1) (limit_so false 2) None (Some (named_so (codes "e"))) (Some (named_so (codes "f"))))) refl
 
 -- a sixth argument may not be filled
 filled : FailsAt (specify_item true).language (at_seven (system_token (codes "$setuphold")) ∷ mark_there symbol.LeftParen ∷ word_there keyword.Posedge ∷ name_there (codes "c") ∷ mark_there symbol.Comma ∷ name_there (codes "d") ∷ mark_there symbol.Comma ∷ number_there 1 ∷ mark_there symbol.Comma ∷ number_there 2 ∷ mark_there symbol.Comma ∷ mark_there symbol.Comma ∷ name_there (codes "x") ∷ mark_there symbol.RightParen ∷ mark_there symbol.Semicolon ∷ []) 12
@@ -172,9 +177,9 @@ unfolding specify_item_parts check_item_parts check_parts arguments_parts event_
 filled = all_failed kind_of (specify_item true) (specify_item-exact true) (at_seven (system_token (codes "$setuphold")) ∷ mark_there symbol.LeftParen ∷ word_there keyword.Posedge ∷ name_there (codes "c") ∷ mark_there symbol.Comma ∷ name_there (codes "d") ∷ mark_there symbol.Comma ∷ number_there 1 ∷ mark_there symbol.Comma ∷ number_there 2 ∷ mark_there symbol.Comma ∷ mark_there symbol.Comma ∷ name_there (codes "x") ∷ mark_there symbol.RightParen ∷ mark_there symbol.Semicolon ∷ []) 12 refl
 
 -- one token fills it where that is not limited
-any_filled : (specify_item false).language.Spells (at_seven (system_token (codes "$setuphold")) ∷ mark_there symbol.LeftParen ∷ word_there keyword.Posedge ∷ name_there (codes "c") ∷ mark_there symbol.Comma ∷ name_there (codes "d") ∷ mark_there symbol.Comma ∷ number_there 1 ∷ mark_there symbol.Comma ∷ number_there 2 ∷ mark_there symbol.Comma ∷ mark_there symbol.Comma ∷ name_there (codes "x") ∷ mark_there symbol.RightParen ∷ mark_there symbol.Semicolon ∷ []) 0 (a_check (two_limit_check here SetupHold (rising_so (codes "c")) (event_so (codes "d")) (limit_so false 1) (limit_so false 2) None)) 15
+any_filled : (specify_item false).language.Spells (at_seven (system_token (codes "$setuphold")) ∷ mark_there symbol.LeftParen ∷ word_there keyword.Posedge ∷ name_there (codes "c") ∷ mark_there symbol.Comma ∷ name_there (codes "d") ∷ mark_there symbol.Comma ∷ number_there 1 ∷ mark_there symbol.Comma ∷ number_there 2 ∷ mark_there symbol.Comma ∷ mark_there symbol.Comma ∷ name_there (codes "x") ∷ mark_there symbol.RightParen ∷ mark_there symbol.Semicolon ∷ []) 0 (a_check (two_limit_check here SetupHold (rising_so (codes "c")) (event_so (codes "d")) (limit_so false 1) (limit_so false 2) None None None)) 15
 unfolding specify_item_parts check_item_parts check_parts arguments_parts event_parts check_edge_parts edge_parts pair_parts term_parts name_parts limit_parts plain_limit_parts signed_amount_parts amount_parts read_up_to read_by pulse_front check_rows
-any_filled = all_found kind_of (specify_item false) (specify_item-exact false) (at_seven (system_token (codes "$setuphold")) ∷ mark_there symbol.LeftParen ∷ word_there keyword.Posedge ∷ name_there (codes "c") ∷ mark_there symbol.Comma ∷ name_there (codes "d") ∷ mark_there symbol.Comma ∷ number_there 1 ∷ mark_there symbol.Comma ∷ number_there 2 ∷ mark_there symbol.Comma ∷ mark_there symbol.Comma ∷ name_there (codes "x") ∷ mark_there symbol.RightParen ∷ mark_there symbol.Semicolon ∷ []) (a_check (two_limit_check here SetupHold (rising_so (codes "c")) (event_so (codes "d")) (limit_so false 1) (limit_so false 2) None)) refl
+any_filled = all_found kind_of (specify_item false) (specify_item-exact false) (at_seven (system_token (codes "$setuphold")) ∷ mark_there symbol.LeftParen ∷ word_there keyword.Posedge ∷ name_there (codes "c") ∷ mark_there symbol.Comma ∷ name_there (codes "d") ∷ mark_there symbol.Comma ∷ number_there 1 ∷ mark_there symbol.Comma ∷ number_there 2 ∷ mark_there symbol.Comma ∷ mark_there symbol.Comma ∷ name_there (codes "x") ∷ mark_there symbol.RightParen ∷ mark_there symbol.Semicolon ∷ []) (a_check (two_limit_check here SetupHold (rising_so (codes "c")) (event_so (codes "d")) (limit_so false 1) (limit_so false 2) None None None)) refl
 
 -- $width(edge [01, 0x] c, 1, , n);
 a_width : (specify_item true).language.Spells (at_seven (system_token (codes "$width")) ∷ mark_there symbol.LeftParen ∷ word_there keyword.Edge ∷ mark_there symbol.LeftBracket ∷ at_seven (pair_token Zero One) ∷ mark_there symbol.Comma ∷ at_seven (pair_token Zero X) ∷ mark_there symbol.RightBracket ∷ name_there (codes "c") ∷ mark_there symbol.Comma ∷ number_there 1 ∷ mark_there symbol.Comma ∷ mark_there symbol.Comma ∷ name_there (codes "n") ∷ mark_there symbol.RightParen ∷ mark_there symbol.Semicolon ∷ []) 0 (a_check (width_check here (record { place = here; edge = Some (pairs (record { from = Zero; to = One } ∷ record { from = Zero; to = X } ∷ [])); term = term_so (codes "c"); condition = None }) (limit_so false 1) None (Some (named_so (codes "n"))))) 16

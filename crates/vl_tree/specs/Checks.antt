@@ -1,8 +1,7 @@
 -- The grammar of timing checks (IEEE 1364-2005, clause 15 and annex A.7.5).
-use Rattle.std.specs.Prelude.{ℕ, suc, Bool, true, false, ◌||◌, not, nat_lt, List, Option, None, unwrap_or}
+use Rattle.std.specs.Prelude.{Bool, true, false, ◌||◌, not, Option, None, unwrap_or}
 use Rattle.sg_text.specs.declared.places.Place.{Place}
 use Rattle.grammar.specs.Rule.{◌∙∙◌, ◌▸◌, ◌◂◌, one, quoted, mapped, named, no_kind, followed, only_if}
-use Rattle.grammar.specs.States.{many_by}
 use Rattle.vl_token.specs.declared.symbols.Symbol.TheVariants.{AndAndAnd, Comma, LeftParen, RightParen, LeftBracket}
 use Rattle.vl_tree.specs.declared.check_names.CheckName.{CheckName}
 use Rattle.vl_tree.specs.declared.check_names.CheckName.TheVariants.{OneLimit, TwoLimits, Width, Period}
@@ -29,31 +28,44 @@ event_continues k = is_symbol LeftBracket k || (is_symbol AndAndAnd k || conditi
 abbrev pub event : Grammar Event
 event = named event_starts event_continues event_parts
 
--- [ "," [ name ] ]: a notifier that may be empty, or missing at the end
-abbrev pub notifier : Grammar (Option Named)
-notifier = mapped (λ o. unwrap_or o None) (optional (mark Comma ▸ optional name))
+-- [ "," a ], and what stands for it where it is missing at the end
+abbrev pub trailing : {A : Type 0} → A → Grammar A → Grammar A
+trailing missing a = mapped (λ o. unwrap_or o missing) (optional (mark Comma ▸ a))
 
--- Arguments that may not be filled: four at most, empty or missing at the end. Where that isn't limited, each may have a token
--- that doesn't end it.
+-- [ "," [ name ] ]: a notifier, or the signal that a delayed copy of the data is
+abbrev pub trailing_name : Grammar (Option Named)
+trailing_name = trailing None (optional name)
+
+-- [ "," [ threshold ] [ "," [ notifier ] ] ]
+abbrev pub threshold_and_notifier : Grammar (Option Limit × Option Named)
+threshold_and_notifier = trailing (None, None) (optional (limit false) ∙∙ trailing_name)
+
+-- An argument that may not be filled. Where that isn't limited it may have a token that doesn't end it.
 abbrev pub fills : Kind → Bool
 fills k = not (is_symbol Comma k || is_symbol RightParen k)
 
-abbrev pub spare : Bool → ℕ → Grammar (Option (Unit {0}))
-spare limited n = only_if (nat_lt n 4) (mark Comma ▸ optional (only_if (not limited) (quoted kind_of fills)))
+abbrev pub spare : Bool → Grammar (Unit {0})
+spare limited = mapped (λ _. tt) (optional (only_if (not limited) (quoted kind_of fills)))
 
-abbrev pub spare_continues : Kind → Bool
-spare_continues k = not (is_symbol RightParen k)
+-- the names of the delayed copies of the reference and of the data
+abbrev pub Delayed : Type 0
+Delayed = Option Named × Option Named
 
-abbrev pub spares : Bool → Grammar (List (Option (Unit {0})))
-spares limited = many_by kind_of spare_continues (spare limited) (λ n _. suc n) (λ _. true) 0
+-- [ "," [ delayed-reference ] [ "," [ delayed-data ] ] ]
+abbrev pub delayed_signals : Grammar Delayed
+delayed_signals = trailing (None, None) (optional name ∙∙ trailing_name)
 
--- [ "," [ name ] spares ]
-abbrev pub notifier_and_spares : Bool → Grammar (Option Named)
-notifier_and_spares limited = mapped (λ o. unwrap_or o None) (optional (mark Comma ▸ (optional name ◂ spares limited)))
+-- The arguments of $setuphold and $recrem behind the limits (15.2.3, 15.2.6 and 15.8): a notifier, the conditions of the time
+-- stamp and of the time check, which may not be filled, and the delayed signals.
+abbrev pub from_checktime : Bool → Grammar Delayed
+from_checktime limited = trailing (None, None) (spare limited ▸ delayed_signals)
 
--- [ "," [ threshold ] [ "," [ name ] ] ]
-abbrev pub threshold_and_notifier : Grammar (Option Limit × Option Named)
-threshold_and_notifier = mapped (λ o. unwrap_or o (None, None)) (optional (mark Comma ▸ (optional (limit false) ∙∙ notifier)))
+abbrev pub from_stamptime : Bool → Grammar Delayed
+from_stamptime limited = trailing (None, None) (spare limited ▸ from_checktime limited)
+
+-- [ "," [ notifier ] from-stamptime ]
+abbrev pub last_arguments : Bool → Grammar (Option Named × Delayed)
+last_arguments limited = trailing (None, (None, None)) (optional name ∙∙ from_stamptime limited)
 
 -- in $setup the data stands before the reference
 abbrev pub between : Place → OneLimitCheck → Event → Event → Limit → Option Named → Check
@@ -64,12 +76,12 @@ between place check first second l n = one_limit_check place check first second 
 abbrev pub arguments_of : Bool → Place → CheckName → Grammar Check
 arguments_of limited place (OneLimit check) =
     mapped (λ x. between place check x.0 x.1.0 x.1.1.0 x.1.1.1)
-    (event ∙∙ (mark Comma ▸ (event ∙∙ (mark Comma ▸ (limit false ∙∙ notifier)))))
+    (event ∙∙ (mark Comma ▸ (event ∙∙ (mark Comma ▸ (limit false ∙∙ trailing_name)))))
 arguments_of limited place (TwoLimits check) =
-    mapped (λ x. two_limit_check place check x.0 x.1.0 x.1.1.0 x.1.1.1.0 x.1.1.1.1)
-    (event ∙∙ (mark Comma ▸ (event ∙∙ (mark Comma ▸ (limit true ∙∙ (mark Comma ▸ (limit true ∙∙ notifier_and_spares limited)))))))
+    mapped (λ x. two_limit_check place check x.0 x.1.0 x.1.1.0 x.1.1.1.0 x.1.1.1.1.0 x.1.1.1.1.1.0 x.1.1.1.1.1.1)
+    (event ∙∙ (mark Comma ▸ (event ∙∙ (mark Comma ▸ (limit true ∙∙ (mark Comma ▸ (limit true ∙∙ last_arguments limited)))))))
 arguments_of limited place Width = mapped (λ x. width_check place x.0 x.1.0 x.1.1.0 x.1.1.1) (event ∙∙ (mark Comma ▸ (limit false ∙∙ threshold_and_notifier)))
-arguments_of limited place Period = mapped (λ x. period_check place x.0 x.1.0 x.1.1) (event ∙∙ (mark Comma ▸ (limit false ∙∙ notifier)))
+arguments_of limited place Period = mapped (λ x. period_check place x.0 x.1.0 x.1.1) (event ∙∙ (mark Comma ▸ (limit false ∙∙ trailing_name)))
 
 -- "(" arguments ")"
 unfoldable pub arguments_parts : Bool → Place → CheckName → Grammar Check

@@ -50,16 +50,28 @@ supply_starts k = is_word Supply0 k || is_word Supply1 k
 abbrev pub supply : Grammar Supply
 supply = named supply_starts no_kind supply_parts
 
--- gate = "and" | "nand" | "or" | "nor" | "xor" | "xnor" | "buf" | "not"
+-- enable-gate = "bufif0" | "bufif1" | "notif0" | "notif1"
+unfoldable pub enable_gate_parts : Grammar GateKind
+enable_gate_parts =
+    either (mapped (λ _. gate_kind.Bufif0) (word keyword.Bufif0)) (either (mapped (λ _. gate_kind.Bufif1) (word keyword.Bufif1))
+    (either (mapped (λ _. gate_kind.Notif0) (word keyword.Notif0)) (mapped (λ _. gate_kind.Notif1) (word keyword.Notif1))))
+
+abbrev pub enable_gate_starts : Kind → Bool
+enable_gate_starts k = is_word keyword.Bufif0 k || (is_word keyword.Bufif1 k || (is_word keyword.Notif0 k || is_word keyword.Notif1 k))
+
+abbrev pub enable_gate : Grammar GateKind
+enable_gate = named enable_gate_starts no_kind enable_gate_parts
+
+-- gate = "and" | "nand" | "or" | "nor" | "xor" | "xnor" | "buf" | "not" | enable-gate
 unfoldable pub gate_parts : Grammar GateKind
 gate_parts =
     either (mapped (λ _. gate_kind.And) (word keyword.And)) (either (mapped (λ _. gate_kind.Nand) (word keyword.Nand))
     (either (mapped (λ _. gate_kind.Or) (word keyword.Or)) (either (mapped (λ _. gate_kind.Nor) (word keyword.Nor))
     (either (mapped (λ _. gate_kind.Xor) (word keyword.Xor)) (either (mapped (λ _. gate_kind.Xnor) (word keyword.Xnor))
-    (either (mapped (λ _. gate_kind.Buf) (word keyword.Buf)) (mapped (λ _. gate_kind.Not) (word keyword.Not))))))))
+    (either (mapped (λ _. gate_kind.Buf) (word keyword.Buf)) (either (mapped (λ _. gate_kind.Not) (word keyword.Not)) enable_gate)))))))
 
 abbrev pub gate_starts : Kind → Bool
-gate_starts k = is_word keyword.And k || (is_word keyword.Nand k || (is_word keyword.Or k || (is_word keyword.Nor k || (is_word keyword.Xor k || (is_word keyword.Xnor k || (is_word keyword.Buf k || is_word keyword.Not k))))))
+gate_starts k = is_word keyword.And k || (is_word keyword.Nand k || (is_word keyword.Or k || (is_word keyword.Nor k || (is_word keyword.Xor k || (is_word keyword.Xnor k || (is_word keyword.Buf k || (is_word keyword.Not k || enable_gate_starts k)))))))
 
 abbrev pub gate : Grammar GateKind
 gate = named gate_starts no_kind gate_parts

@@ -148,7 +148,7 @@ view_event e = record { place = e.place; edge = option_map view_edge e.edge; ter
 
 abbrev pub view_check : code_check.Check → Check
 view_check (check.OneLimit p c r d l n) = one_limit_check p c (view_event r) (view_event d) (view_limit l) (option_map view_name n)
-view_check (check.TwoLimits p c r d l m n) = two_limit_check p c (view_event r) (view_event d) (view_limit l) (view_limit m) (option_map view_name n)
+view_check (check.TwoLimits p c r d l m n f g) = two_limit_check p c (view_event r) (view_event d) (view_limit l) (view_limit m) (option_map view_name n) (option_map view_name f) (option_map view_name g)
 view_check (check.Width p r l t n) = width_check p (view_event r) (view_limit l) (option_map view_limit t) (option_map view_name n)
 view_check (check.Period p r l n) = period_check p (view_event r) (view_limit l) (option_map view_name n)
 

@@ -144,7 +144,7 @@ pub record Event : Type 0 where
 
 pub data Check : Type 0 where
   one_limit_check : Place → OneLimitCheck → (reference data_event : Event) → Limit → (notifier : Option Named) → Check
-  two_limit_check : Place → TwoLimitCheck → (reference data_event : Event) → (first second : Limit) → (notifier : Option Named) → Check
+  two_limit_check : Place → TwoLimitCheck → (reference data_event : Event) → (first second : Limit) → (notifier delayed_reference delayed_data : Option Named) → Check
   width_check : Place → (reference : Event) → Limit → (threshold : Option Limit) → (notifier : Option Named) → Check
   period_check : Place → (reference : Event) → Limit → (notifier : Option Named) → Check
 

@@ -23,7 +23,8 @@ pub enum Check<'a> {
         limit: Limit<'a>,
         notifier: Option<Name<'a>>,
     },
-    /// `name "(" reference "," data "," limit "," limit [ "," [ notifier ] ] ")"`, and up to four empty arguments.
+    /// `name "(" reference "," data "," limit "," limit [ "," [ notifier ] [ "," [ "," [ "," [ delayed-reference ] [ "," [ delayed-data ] ] ] ] ] ] ")"`:
+    /// the two arguments behind the notifier are empty.
     TwoLimits {
         place: Place,
         check: TwoLimitCheck,
@@ -32,6 +33,8 @@ pub enum Check<'a> {
         first: Limit<'a>,
         second: Limit<'a>,
         notifier: Option<Name<'a>>,
+        delayed_reference: Option<Name<'a>>,
+        delayed_data: Option<Name<'a>>,
     },
     /// `"$width" "(" reference "," limit [ "," [ threshold ] [ "," [ notifier ] ] ] ")"`
     Width {

@@ -12,12 +12,12 @@ use Rattle.sg_model.proofs.PlacedLaws.{same-true}
 use Rattle.sg_model.proofs.PlacingSteps.{same-self}
 use Rattle.sg_circuit.specs.Circuit.{Variable}
 use Rattle.fan_round.specs.Nets.{differs}
-use Rattle.sim_rounds.specs.Watching.{Call, NetChange, AreDifferences}
+use Rattle.sim_times.specs.Watching.{AreTruthful, AreTruthfulAfter, Call, NetChange, AreDifferences}
 use Rattle.wave_out.specs.Changes.{bits_change, IsText}
 use Rattle.wave_out.specs.Lines.{bits_line}
 use Rattle.wave_out.specs.Texts.{line, by_number}
 use Rattle.wave_out.specs.Vcd.{Dump, any_variable_differs, change_line, dump_text, first_block, later_block, time_line, value_line, values_at}
-use Rattle.wave_out.specs.Writing.{AreTruthful, AreTruthfulAfter, dump_after, later, snapshot_of, time_of, with_call}
+use Rattle.wave_out.specs.Writing.{dump_after, later, snapshot_of, time_of, with_call}
 
 -- values that don't differ
 same_value : (old new : List Value) (k : ℕ) → differs old new k ≡ false → value_at old k ≡ value_at new k
@@ -170,15 +170,6 @@ precedes xs d before (e ∷ es) c agree truth =
 pub after-append : (xs : List Variable) (d : Option Dump) (cs : List Call) (c : Call) → dump_after xs d (cs ++ c ∷ []) ≡ with_call xs c (dump_after xs d cs)
 after-append xs d [] c = refl
 after-append xs d (e ∷ es) c = after-append xs (with_call xs e d) es c
-
--- calls that are truthful with one more are so without it
-truthful_after : (before : List Value) (cs : List Call) (c : Call) → AreTruthfulAfter before (cs ++ c ∷ []) → AreTruthfulAfter before cs
-truthful_after before [] c h = tt
-truthful_after before (e ∷ es) c h = (h.0, truthful_after e.values es c h.1)
-
-pub truthful_before : (calls : List Call) (c : Call) → AreTruthful (calls ++ c ∷ []) → AreTruthful calls
-truthful_before [] c h = tt
-truthful_before (e ∷ es) c h = truthful_after e.values es c h
 
 -- one call more
 pub one_more : (xs : List Variable) (calls : List Call) (c : Call) (text : Option (List ℕ)) → AreTruthful (calls ++ c ∷ []) → IsText (time_of (dump_after xs None calls)) c.time (map (λ x. x.bits) xs) c.changed c.values text

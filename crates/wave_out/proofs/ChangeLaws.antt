@@ -15,7 +15,7 @@ use Rattle.sg_circuit.specs.FanOut.{IsFanOut}
 use Rattle.sg_circuit.proofs.SeenLaws.{map-mapped}
 use Rattle.fan_round.specs.Lists.{occurrences, IsListOf}
 use Rattle.fan_round.specs.Nets.{differs}
-use Rattle.sim_rounds.specs.Watching.{AreDifferences, net_change}
+use Rattle.sim_times.specs.Watching.{AreDifferences, net_change}
 use Rattle.fan_round.specs.Work.{has_changed, AreMarked, IsWorkOf}
 use Rattle.fan_round.proofs.WorkLaws.{marked-within}
 use Rattle.fan_round.proofs.ListLaws.{occurs_later}

@@ -13,17 +13,17 @@ use Rattle.sg_model.specs.Time.{Run}
 use Rattle.sg_model.specs.Quiet.{IsSeen}
 use Rattle.sg_model.specs.Run.{Finished, lasts, lasts_before}
 use Rattle.sg_model.proofs.PlacingSteps.{same-self}
-use Rattle.sim_rounds.specs.Runs.{Setting, AllCalls, CallsFor, run_for, start_of}
+use Rattle.sim_times.specs.Runs.{Setting, AllCalls, CallsFor, run_for, start_of}
 use Rattle.sg_model.proofs.SnapshotLaws.{Extends}
 use Rattle.wave_out.proofs.RunLaws.{IsLong, extends, long_lasts, long_times, seen_run, spent_run}
 use Rattle.sg_model.proofs.PlacedLaws.{same-true}
 use Rattle.sg_circuit.specs.Circuit.{Circuit, Variable}
-use Rattle.sim_rounds.specs.Watching.{AreCalls, none_yet, at_zero, same_again, Call, IsCall, AreDifferences, NetChange, end_call}
-use Rattle.sim_rounds.specs.Watching as watching
-use Rattle.sim_rounds.proofs.CallLaws.{changed_none}
+use Rattle.sim_times.specs.Watching.{AreCalls, none_yet, at_zero, same_again, AreTruthful, AreTruthfulAfter, Call, IsCall, AreDifferences, NetChange, end_call}
+use Rattle.sim_times.specs.Watching as watching
+use Rattle.sim_times.proofs.CallLaws.{changed_none}
 use Rattle.wave_out.specs.Scopes.{variables_of}
 use Rattle.wave_out.specs.Vcd.{Dump, any_variable_differs, dump, dump_text, dump_with, ending, end_line, header, later_block, first_block, vcd_body, vcd_text, time_line}
-use Rattle.wave_out.specs.Writing.{AreTruthful, AreTruthfulAfter, dump_after, later, snapshot_of, text_after, with_call}
+use Rattle.wave_out.specs.Writing.{dump_after, later, snapshot_of, text_after, with_call}
 use Rattle.wave_out.proofs.CallLaws.{Agree, agree_none, after-append, any_agree_none}
 
 -- lists that are the same

@@ -1,6 +1,7 @@
 -- Texts that grow piece by piece.
-use Rattle.std.proofs.Common.{◌≡◌, ◌∙◌, sym, ap, ℕ, suc, ◌+◌, ◌<◌, List, [], ◌∷◌, ◌++◌, length, drop, get_or, map, append_assoc}
-use Rattle.std.proofs.lemmas.List.{drop_more, get_or-map, length-map}
+use Rattle.std.proofs.Common.{◌≡◌, ◌∙◌, sym, ap, ℕ, suc, ◌+◌, ◌<◌, List, [], ◌∷◌, ◌++◌, length, drop, flat_map, get_or, map, take, append_assoc}
+use Rattle.std.proofs.lemmas.List.{append-nil, drop_more, get_or-map, length-map, map_more}
+use Rattle.std.proofs.lemmas.List.Concat.{flat_map-append}
 use Rattle.std.specs.Prelude.{codes}
 use Rattle.wave_out.specs.Texts.{line, by_number}
 
@@ -17,6 +18,10 @@ add_four start a b c d p q r s = add_two start (a ++ b ++ c) d (add_three start 
 pub add_five : {t u v w x : List ℕ} (start a b c d e : List ℕ) → t ≡ start ++ a → u ≡ t ++ b → v ≡ u ++ c → w ≡ v ++ d → x ≡ w ++ e
     → x ≡ start ++ (a ++ b ++ c ++ d ++ e)
 add_five start a b c d e p q r s last = add_two start (a ++ b ++ c ++ d) e (add_four start a b c d p q r s) last
+
+pub add_six : {t u v w x y : List ℕ} (start a b c d e f : List ℕ) → t ≡ start ++ a → u ≡ t ++ b → v ≡ u ++ c → w ≡ v ++ d → x ≡ w ++ e → y ≡ x ++ f
+    → y ≡ start ++ (a ++ b ++ c ++ d ++ e ++ f)
+add_six start a b c d e f p q r s k l = add_two start (a ++ b ++ c ++ d ++ e) f (add_five start a b c d e p q r s k) l
 
 pub add_eight : {t u v w x y z last : List ℕ} (start a b c d e f g h : List ℕ) → t ≡ start ++ a → u ≡ t ++ b → v ≡ u ++ c → w ≡ v ++ d → x ≡ w ++ e → y ≡ x ++ f → z ≡ y ++ g → last ≡ z ++ h
     → last ≡ start ++ (a ++ b ++ c ++ d ++ e ++ f ++ g ++ h)
@@ -40,3 +45,15 @@ pub numbered_next : {A C : Type 0} (f : ℕ → A → List ℕ) (g : C → A) (t
 numbered_next f g text more whole xs i j j' x l n is line e =
     ap (λ t. t ++ by_number f j' (drop (i + 1) (map g xs))) (line ∙ ap (λ y. text ++ f j y) (ap g is ∙ sym (get_or-map g xs i x (g x) l)))
     ∙ numbered_step f text whole (map g xs) i j j' (g x) (simp length-map l) n e
+
+-- the lines of the things up to the i-th, and that one's
+pub line_more : {A B : Type 0} (f : B → List ℕ) (g : A → B) (start text more : List ℕ) (xs : List A) (i : ℕ) (x : A) → i < length xs → x ≡ get_or xs i x
+    → text ≡ start ++ flat_map f (map g (take i xs)) → more ≡ text ++ f (g x) → more ≡ start ++ flat_map f (map g (take (i + 1) xs))
+line_more f g start text more xs i x l is before line =
+    line ∙ (ap (λ t. t ++ f (g x)) before ∙ (append_assoc start (flat_map f (map g (take i xs))) (f (g x)) ∙ ap (λ t. start ++ t) (sym all)))
+  where
+    all : flat_map f (map g (take (i + 1) xs)) ≡ flat_map f (map g (take i xs)) ++ f (g x)
+    all =
+        ap (flat_map f) (map_more g xs i x l)
+        ∙ (flat_map-append f (map g (take i xs)) (g (get_or xs i x) ∷ [])
+        ∙ ap (λ t. flat_map f (map g (take i xs)) ++ t) (append-nil (f (g (get_or xs i x))) ∙ ap (λ y. f (g y)) (sym is)))

@@ -3,7 +3,7 @@ use Rattle.std.specs.Prelude.{◌≡◌, ◌==◌, ℕ, List, [], ◌∷◌, ◌
 use Rattle.std.specs.List.{list_any}
 use Rattle.sg_logic.specs.declared.values.Value.{Value}
 use Rattle.sg_model.specs.Time.{any_differs}
-use Rattle.sim_rounds.specs.Watching.{AreDifferences, NetChange}
+use Rattle.sim_times.specs.Watching.{AreDifferences, NetChange}
 use Rattle.wave_out.specs.Lines.{bits_line, first_text, later_text}
 use Rattle.wave_out.specs.Texts.{by_number}
 use Rattle.wave_out.specs.Vcd.{time_line}

@@ -1,11 +1,11 @@
 -- The law that joins the texts of calls to the text of a run.
 use Rattle.std.specs.Prelude.{ℕ, suc, ◌≡◌, ◌≤◌, ◌++◌, List, Option, Some, None}
 use Rattle.sg_circuit.specs.Circuit.{Circuit}
-use Rattle.sim_rounds.specs.Watching.{Call}
-use Rattle.sim_rounds.specs.Runs.{Setting, AllCalls, CallsFor, run_for}
+use Rattle.sim_times.specs.Watching.{AreTruthful, Call}
+use Rattle.sim_times.specs.Runs.{Setting, AllCalls, CallsFor, run_for}
 use Rattle.wave_out.specs.Nested.{nested, nested_header, nested_calls, nested_dump}
 use Rattle.wave_out.specs.Vcd.{header, vcd_text}
-use Rattle.wave_out.specs.Writing.{AreTruthful, text_after}
+use Rattle.wave_out.specs.Writing.{text_after}
 
 -- the calls of a whole run are truthful, and their text is that of the run
 abbrev pub WholeRunIsWritten : Type 0

@@ -5,7 +5,7 @@ use Rattle.sg_circuit.specs.Circuit.{Circuit}
 use Rattle.sg_circuit.specs.declared.nets.Driver.TheVariants.{Nobody}
 use Rattle.sg_circuit.specs.declared.scopes.Port.TheVariants.{Inner, Input}
 use Rattle.sg_circuit.specs.declared.checks.CheckKind.TheVariants.{Hold, Width}
-use Rattle.sim_rounds.specs.Watching.{Call}
+use Rattle.sim_times.specs.Watching.{Call}
 use Rattle.wave_out.specs.Texts.{line}
 
 -- the top t has the wire a, the vector q of three bits and the reg module; its instance u.v has the reg n and the port p,
@@ -19,8 +19,8 @@ nested = record {
       ∷ record { scope = 0; name = codes "q"; bit = Some (pos 0); driver = Nobody }
       ∷ record { scope = 1; name = codes "n"; bit = None; driver = Nobody } ∷ [];
   elements = [];
-  checks = record { scope = 1; kind = Hold; refer = record { name = codes "C"; bit = None }; datum = Some (record { name = codes "D"; bit = Some (pos 3) }); notifier = None }
-      ∷ record { scope = 0; kind = Width; refer = record { name = codes "C"; bit = None }; datum = None; notifier = None } ∷ [];
+  checks = record { scope = 1; kind = Hold; refer = record { name = codes "C"; bit = None }; datum = Some (record { name = codes "D"; bit = Some (pos 3) }); notifier = None; place = record { file = 0; byte = 0 } }
+      ∷ record { scope = 0; kind = Width; refer = record { name = codes "C"; bit = None }; datum = None; notifier = None; place = record { file = 0; byte = 0 } } ∷ [];
   check_timings = [];
   check_conditions = [];
   scopes = record {
@@ -43,6 +43,7 @@ nested = record {
     variables = record { name = codes "n"; range = None; is_reg = true; port = Inner; bits = 4 ∷ [] }
         ∷ record { name = codes "p"; range = None; is_reg = false; port = Input; bits = 2 ∷ [] } ∷ [];
   } ∷ [];
+  zeroed = [];
 }
 
 abbrev pub nested_header : List ℕ

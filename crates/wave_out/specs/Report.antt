@@ -1,13 +1,16 @@
 -- The text of a report (its form is this project's; the timing checks' violations as in IEEE 1364-2005, 15).
-use Rattle.std.specs.Prelude.{ℕ, ℤ, zero, suc, max, List, [], ◌++◌, length, Option, Some, None, codes, decimal, flat_map, ◌==◌, if◌then◌else◌, slice_index_or}
+use Rattle.std.specs.Prelude.{ℕ, zero, suc, max, List, [], ◌++◌, length, Option, Some, None, codes, decimal, flat_map, ◌==◌, if◌then◌else◌, slice_index_or}
 use Rattle.std.specs.Fmt.{signed_decimal}
 use Rattle.sg_model.specs.Machine.{Violation}
 use Rattle.sg_model.specs.Run.{Finished}
 use Rattle.sg_circuit.specs.declared.checks.Check.{Check}
+use Rattle.sg_circuit.specs.declared.checks.CheckKind.{CheckKind}
 use Rattle.sg_circuit.specs.declared.checks.CheckKind.TheVariants as check
 use Rattle.sg_circuit.specs.declared.checks.Terminal.{Terminal}
+use Rattle.sg_circuit.specs.declared.checks.Zero.{Zero}
 use Rattle.sg_circuit.specs.Circuit.{Circuit, scope_at, net_at}
-use Rattle.time_checks.specs.declared.violations.Part.TheVariants.{Setup, Hold, Recovery, Removal, Width, Period}
+use Rattle.time_checks.specs.declared.violations.Part.{Part}
+use Rattle.time_checks.specs.declared.violations.Part.TheVariants.{Setup, Hold, Recovery, Removal, Width, Period, Skew}
 use Rattle.time_checks.specs.Parts.{part_number}
 use Rattle.wave_out.specs.Texts.{line, bit_text}
 
@@ -16,15 +19,9 @@ pub record Unmatched : Type 0 where
   pub line : ℕ
   pub word : List ℕ
 
--- a limit that was set to 0
-pub record Zeroed : Type 0 where
-  pub check : ℕ
-  pub part : ℕ
-  pub limit : ℤ
-
 -- the check of a number; past the end a blank
 abbrev pub check_at : Circuit → ℕ → Check
-check_at circuit c = slice_index_or circuit.checks c (record { scope = 0; kind = check.Setup; refer = record { name = []; bit = None }; datum = None; notifier = None })
+check_at circuit c = slice_index_or circuit.checks c (record { scope = 0; kind = check.Setup; refer = record { name = []; bit = None }; datum = None; notifier = None; place = record { file = 0; byte = 0 } })
 
 -- the terminal of a check's data event: for width and period that of its one event (15.2, 15.3)
 abbrev pub terminal_or : Terminal → Option Terminal → Terminal
@@ -45,6 +42,18 @@ part_word n =
     else if n == part_number Period then codes "period"
     else codes "skew"
 
+-- the part that a limit of a check is, by its place in the text: of two limits the second is another part (15.2.3, 15.2.6)
+abbrev pub limit_part : CheckKind → ℕ → Part
+limit_part check.Setuphold n = if n == 0 then Setup else Hold
+limit_part check.Recrem n = if n == 0 then Recovery else Removal
+limit_part check.Setup n = Setup
+limit_part check.Hold n = Hold
+limit_part check.Recovery n = Recovery
+limit_part check.Removal n = Removal
+limit_part check.Skew n = Skew
+limit_part check.Width n = Width
+limit_part check.Period n = Period
+
 -- a path that goes on below another one, if there is one
 abbrev pub below : (ℕ → List ℕ) → Option ℕ → List ℕ
 below path None = []
@@ -61,6 +70,10 @@ path_of circuit scope = path_in (length circuit.scopes) circuit scope
 abbrev pub terminal_text : Terminal → List ℕ
 terminal_text t = t.name ++ bit_text t.bit
 
+-- both terminals of a check
+abbrev pub terminals_text : Check → List ℕ
+terminals_text check = terminal_text check.refer ++ (codes " " ++ terminal_text (datum_of check))
+
 -- a terminal and the time of its event
 abbrev pub event_text : Terminal → ℕ → List ℕ
 event_text t time = terminal_text t ++ codes " " ++ decimal time
@@ -72,10 +85,13 @@ net_text circuit net = path_of circuit (net_at circuit net).scope ++ codes "." +
 abbrev pub unmatched_line : Unmatched → List ℕ
 unmatched_line u = line (codes "unannotated " ++ decimal u.line ++ codes " " ++ u.word)
 
-abbrev pub zeroed_line : Circuit → Zeroed → List ℕ
+-- a limit that was taken as 0, with the value that it was (15.8)
+abbrev pub zeroed_line : Circuit → Zero → List ℕ
 zeroed_line circuit z =
-    line (codes "zeroed " ++ path_of circuit (check_at circuit z.check).scope ++ codes " " ++ part_word z.part ++ codes " "
-    ++ terminal_text (check_at circuit z.check).refer ++ codes " " ++ terminal_text (datum_of (check_at circuit z.check)) ++ codes " " ++ signed_decimal z.limit)
+    line (codes "zeroed " ++ path_of circuit (check_at circuit z.check).scope
+    ++ codes " " ++ part_word (part_number (limit_part (check_at circuit z.check).kind z.part))
+    ++ codes " " ++ terminals_text (check_at circuit z.check)
+    ++ codes " " ++ signed_decimal z.value)
 
 -- a violation: at the later of its two times, with the part's word and both terminals with their times (15)
 abbrev pub violation_line : Circuit → Violation → List ℕ
@@ -105,10 +121,10 @@ last_lines circuit violations unmatched end None = summary violations unmatched 
 last_lines circuit violations unmatched end (Some spent) = spent_line circuit spent.0 spent.1
 
 -- the whole text, from what a run comes to
-unfoldable pub report_lines : Circuit → List Unmatched → List Zeroed → List Violation → ℕ → Option (ℕ × Option ℕ) → List ℕ
-report_lines circuit unmatched zeroed violations end spent =
-    flat_map unmatched_line unmatched ++ flat_map (zeroed_line circuit) zeroed ++ flat_map (violation_line circuit) violations
+unfoldable pub report_lines : Circuit → List Unmatched → List Violation → ℕ → Option (ℕ × Option ℕ) → List ℕ
+report_lines circuit unmatched violations end spent =
+    flat_map unmatched_line unmatched ++ flat_map (zeroed_line circuit) circuit.zeroed ++ flat_map (violation_line circuit) violations
     ++ last_lines circuit (length violations) (length unmatched) end spent
 
-abbrev pub report_text : Circuit → List Unmatched → List Zeroed → ℕ → Finished → List ℕ
-report_text circuit unmatched zeroed end finished = report_lines circuit unmatched zeroed finished.run.violations end finished.spent
+abbrev pub report_text : Circuit → List Unmatched → ℕ → Finished → List ℕ
+report_text circuit unmatched end finished = report_lines circuit unmatched finished.run.violations end finished.spent

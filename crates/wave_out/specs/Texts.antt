@@ -1,5 +1,5 @@
 -- Small texts that the dump and the report are made of.
-use Rattle.std.specs.Prelude.{ℕ, ℤ, suc, List, [], ◌∷◌, ◌++◌, ◌&&◌, not, Option, Some, None, codes, if◌then◌else◌}
+use Rattle.std.specs.Prelude.{ℕ, ℤ, suc, List, [], ◌∷◌, ◌++◌, ◌+◌, ◌==◌, ◌&&◌, not, Option, Some, None, codes, count_by, if◌then◌else◌, take}
 use Rattle.std.specs.Fmt.{signed_decimal}
 use Rattle.sg_text.specs.Names.{is_simple}
 use Rattle.sg_text.specs.Words.{is_reserved_word}
@@ -7,6 +7,10 @@ use Rattle.sg_text.specs.Words.{is_reserved_word}
 -- a line ends with LF
 abbrev pub line : List ℕ → List ℕ
 line text = text ++ 10 ∷ []
+
+-- the line of a byte of a text, counted from 1: one more than the line feeds (byte 10) before it
+abbrev pub line_of : List ℕ → ℕ → ℕ
+line_of text byte = 1 + count_by (λ b. b == 10) (take byte text)
 
 -- the texts of some things by their numbers, from k on
 abbrev pub by_number : {A : Type 0} → (ℕ → A → List ℕ) → ℕ → List A → List ℕ

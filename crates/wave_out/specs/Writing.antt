@@ -1,22 +1,12 @@
 -- What a writer of a value change dump keeps, and what its file holds after the calls that it got.
 use Rattle.std.specs.Prelude.{ℕ, ◌≡◌, ◌==◌, ◌++◌, List, [], ◌∷◌, Option, Some, None, if◌then◌else◌}
 use Rattle.sg_io.specs.Files.{File}
-use Rattle.sg_logic.specs.declared.values.Value.{Value}
 use Rattle.sg_model.specs.Machine.{Snapshot}
 use Rattle.sg_circuit.specs.Circuit.{Circuit, Variable}
-use Rattle.sim_rounds.specs.Watching.{Call, NetChange, AreDifferences}
+use Rattle.sim_times.specs.Watching.{Call, NetChange}
 use Rattle.wave_out.specs.Files.{FileHolds}
 use Rattle.wave_out.specs.Scopes.{variables_of}
 use Rattle.wave_out.specs.Vcd.{Dump, dump_text, dump_with, header, time_line}
-
--- each call tells the differences against the values of the call before
-abbrev pub AreTruthfulAfter : List Value → List Call → Type 0
-AreTruthfulAfter before [] = Unit {0}
-AreTruthfulAfter before (c ∷ cs) = AreDifferences before c.values c.changed × AreTruthfulAfter c.values cs
-
-abbrev pub AreTruthful : List Call → Type 0
-AreTruthful [] = Unit {0}
-AreTruthful (c ∷ cs) = AreTruthfulAfter c.values cs
 
 -- the nets as a call tells them
 abbrev pub snapshot_of : Call → Snapshot

@@ -5,7 +5,7 @@ ghost use Rattle.std.specs.List.Sorted.{IsNonDecreasing, IsPermutation};
 ghost use Rattle.std.specs.Vec.{vec_capacity};
 ghost use Rattle.sg_circuit.specs.FanOut.{IsFanOut};
 ghost use Rattle.fan_round.specs.States.{IsIdle};
-ghost use Rattle.sim_rounds.specs.Watching.{net_change};
+ghost use Rattle.sim_times.specs.Watching.{net_change};
 ghost use Rattle.wave_out.specs.Changes.{work_text, IsBlock};
 
 use crate::blocks::later_block_of;

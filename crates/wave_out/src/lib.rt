@@ -9,11 +9,13 @@ mod paths;
 mod report;
 mod scopes;
 mod shown;
+mod unmatched;
 mod variables;
 mod violations;
 mod words;
 mod writer;
+mod zeroed;
 
 pub use laws::{calls_of_a_run_are_its_dump, nested_texts};
-pub use report::{Spent, report_of};
+pub use report::{ReportEnd, Spent, write_report};
 pub use writer::VcdWriter;

@@ -1,14 +1,19 @@
-// The text of a report: the violations and the last lines.
-ghost use Rattle.std.specs.Prelude.{◌≡◌, ◌++◌, [], Some, IfOk, OnOk, decimal, map};
+// The report.
+ghost use Rattle.std.specs.Prelude.{◌≡◌, ◌++◌, Some, IfOk, OnOk, decimal, map};
 ghost use Rattle.time_checks.specs.Seen.{violation_seen};
 ghost use Rattle.wave_out.specs.Report.{last_lines, report_lines, spent_line, summary};
-ghost use Rattle.wave_out.specs.Spent.{spent_seen};
+ghost use Rattle.wave_out.specs.Reporting.{PutsMade, unmatched_seen};
+ghost use Rattle.wave_out.specs.Spent.{end_spent, end_time};
 ghost use Rattle.wave_out.specs.Texts.{line};
 
 use crate::paths::push_net;
+use crate::unmatched::push_unmatched;
 use crate::violations::push_violations;
 use crate::words::push_number;
+use crate::zeroed::push_zeroed;
+use sdf_annotate::Unmatched;
 use sg_circuit::{Circuit, NetId};
+use sg_io::{ShelfError, Sink};
 use std::alloc::{AllocError, Global};
 use time_checks::Violation;
 
@@ -17,6 +22,14 @@ use time_checks::Violation;
 pub struct Spent {
     pub time: u64,
     pub net: NetId,
+}
+
+/// How a run ended: whole at a time, or in a time that needed more rounds than the bound, in which a net went on
+/// changing. Times are in ticks.
+#[derive(Clone, Copy, Debug, PartialEq, Eq)]
+pub enum ReportEnd {
+    Whole { time: u64 },
+    Spent { time: u64, net: NetId },
 }
 
 // A word and a number, on a line of their own.
@@ -43,18 +56,20 @@ fn push_summary(
     push_count(text, "end ", end)
 }
 
+// The time that was spent, and its net.
 fn push_spent(
     alloc: Global,
     text: &mut Vec<u8>,
     circuit: &Circuit,
-    spent: Spent,
+    time: u64,
+    net: NetId,
 ) -> Result<(), AllocError>
-    ensures { OnOk result (text.new.items ≡ text.old.items ++ spent_line circuit.now spent.time (Some spent.net)) }
+    ensures { OnOk result (text.new.items ≡ text.old.items ++ spent_line circuit.now time (Some net)) }
 {
     text.extend_from_slice(b"rounds spent at ")?;
-    push_number(text, spent.time)?;
+    push_number(text, time)?;
     text.extend_from_slice(b" on ")?;
-    push_net(alloc, text, circuit, spent.net)?;
+    push_net(alloc, text, circuit, net)?;
     text.push(b'\n')?;
     Ok(())
 }
@@ -65,39 +80,60 @@ fn push_last(
     text: &mut Vec<u8>,
     circuit: &Circuit,
     violations: u64,
-    end: u64,
-    spent: Option<Spent>,
+    unmatched: u64,
+    end: ReportEnd,
 ) -> Result<(), AllocError>
-    ensures { OnOk result (text.new.items ≡ text.old.items ++ last_lines circuit.now violations 0 end (spent_seen spent)) }
+    ensures { OnOk result (text.new.items ≡ text.old.items ++ last_lines circuit.now violations unmatched (end_time end) (end_spent end)) }
 {
-    match spent {
-        Some(spent) => push_spent(alloc, text, circuit, spent),
-        None => push_summary(text, violations, 0, end),
+    match end {
+        ReportEnd::Whole { time } => push_summary(text, violations, unmatched, time),
+        ReportEnd::Spent { time, net } => push_spent(alloc, text, circuit, time, net),
     }
 }
 
-/// The text of a report: a line for each violation, and then the counts and the end in ticks, or the time that was
-/// spent and the path of its net.
-///
-/// Its form is this project's; the violations are those of IEEE 1364-2005, 15.
-pub fn report_of(
+// The text of a report.
+fn report_of(
     alloc: Global,
     circuit: &Circuit,
+    sdf: &[u8],
+    unmatched: &[Unmatched],
     violations: &[Violation],
-    end: u64,
-    spent: Option<Spent>,
+    end: ReportEnd,
 ) -> Result<Vec<u8>, AllocError>
-    ensures { IfOk result (λ text. text.items ≡ report_lines circuit.now [] [] (map (λ v. violation_seen v) violations.now) end (spent_seen spent)) }
+    ensures { IfOk result (λ text. text.items ≡ report_lines circuit.now (map (unmatched_seen sdf.now) unmatched.now) (map (λ v. violation_seen v) violations.now) (end_time end) (end_spent end)) }
 {
     let mut text = Vec::new(alloc);
+    push_unmatched(&mut text, sdf, unmatched)?;
+    push_zeroed(alloc, &mut text, circuit, &circuit.parts().zeroed)?;
     push_violations(alloc, &mut text, circuit, violations)?;
     push_last(
         alloc,
         &mut text,
         circuit,
         violations.len() as u64,
+        unmatched.len() as u64,
         end,
-        spent,
     )?;
     Ok(text)
+}
+
+/// Puts a report to a sink, in one call: a line for each entry of the SDF that matched nothing (`sdf` has the bytes of
+/// its file), one for each limit that the circuit takes as 0, one for each violation, and then the counts and the end in
+/// ticks, or the time that was spent and the path of its net.
+///
+/// Its form is this project's; the timing checks are those of IEEE 1364-2005, 15. `Failed` only where the sink's call
+/// failed. Without memory for the text the sink isn't called.
+pub fn write_report<K: Sink>(
+    alloc: Global,
+    circuit: &Circuit,
+    sdf: &[u8],
+    unmatched: &[Unmatched],
+    violations: &[Violation],
+    end: ReportEnd,
+    sink: &mut K,
+) -> Result<(), ShelfError>
+    ensures { PutsMade (report_lines circuit.now (map (unmatched_seen sdf.now) unmatched.now) (map (λ v. violation_seen v) violations.now) (end_time end) (end_spent end)) (K.told sink.old) (K.told sink.new) result }
+{
+    let text = report_of(alloc, circuit, sdf, unmatched, violations, end)?;
+    sink.put(&text)
 }

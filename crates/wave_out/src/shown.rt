@@ -1,6 +1,6 @@
 // What a writer keeps of the variables of its circuit, and what it adds for a call.
 ghost use Rattle.std.specs.Prelude.{◌≡◌, ◌==◌, ◌<◌, ◌≤◌, ◌^◌, All, IfOk, Some, None, if◌then◌else◌, length, map, option_map};
-ghost use Rattle.sim_rounds.specs.Watching.{net_change};
+ghost use Rattle.sim_times.specs.Watching.{net_change};
 ghost use Rattle.wave_out.specs.Changes.{IsBlock, IsText};
 ghost use Rattle.wave_out.specs.Scopes.{visits, variables_of};
 ghost use Rattle.wave_out.specs.Shown.{IsShown};

@@ -10,7 +10,8 @@ use sg_circuit::{Check, Circuit, Terminal};
 use std::alloc::{AllocError, Global};
 use time_checks::{Part, Violation};
 
-fn word_of(part: Part) -> &'static str
+/// The word of a part.
+pub fn word_of(part: Part) -> &'static str
     ensures { result.now ≡ part_word (part_number part) }
 {
     match part {
@@ -24,7 +25,8 @@ fn word_of(part: Part) -> &'static str
     }
 }
 
-fn push_terminal(text: &mut Vec<u8>, terminal: &Terminal) -> Result<(), AllocError>
+/// Adds a terminal's name, with its bit.
+pub fn push_terminal(text: &mut Vec<u8>, terminal: &Terminal) -> Result<(), AllocError>
     ensures { OnOk result (text.new.items ≡ text.old.items ++ terminal_text terminal.now) }
 {
     text.extend_from_slice(terminal.name.bytes())?;
@@ -46,8 +48,8 @@ fn push_event(text: &mut Vec<u8>, terminal: &Terminal, time: u64) -> Result<(), 
     push_time(text, time)
 }
 
-// The terminal of a check's data event: for width and period that of its one event.
-fn datum_of(check: &Check) -> &Terminal
+/// The terminal of a check's data event: for width and period that of its one event.
+pub fn datum_of(check: &Check) -> &Terminal
     ensures { result.now ≡ datum_of check.now }
 {
     match &check.datum {
@@ -56,8 +58,8 @@ fn datum_of(check: &Check) -> &Terminal
     }
 }
 
-// The path of a check's scope.
-fn push_check_scope(
+/// Adds the path of a check's scope.
+pub fn push_check_scope(
     alloc: Global,
     text: &mut Vec<u8>,
     circuit: &Circuit,

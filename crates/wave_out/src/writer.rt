@@ -11,7 +11,7 @@ use crate::shown::{Shown, shown_of, text_of};
 use cond_expr::Nets;
 use sg_circuit::Circuit;
 use sg_io::{Shelf, ShelfError};
-use sim_rounds::Watch;
+use sim_times::Watch;
 use std::alloc::Global;
 use std::marker::Model;
 use time_checks::Change;
@@ -76,15 +76,15 @@ impl<'a> VcdWriter<'a> {
 
 impl<S: Shelf> Watch<S> for VcdWriter<'_> {
     ghost use Rattle.wave_out.specs.Files.{FileBegins, KeepsOthers, others_same, others_then};
-    ghost use Rattle.wave_out.specs.Writing.{AreTruthful, Holds, text_after};
+    ghost use Rattle.wave_out.specs.Writing.{Holds, text_after};
 
     ghost name = { λ w. w.name };
 
     ghost circuit = { λ w. w.circuit };
 
-    ghost stands = { λ w s calls. AreTruthful calls → Holds w (S.files s) calls };
+    ghost stands = { λ w s calls. Holds w (S.files s) calls };
 
-    ghost broken = { λ w s calls. AreTruthful calls → FileBegins w.name (text_after w.circuit calls) (S.files s) };
+    ghost broken = { λ w s calls. FileBegins w.name (text_after w.circuit calls) (S.files s) };
 
     ghost keeps = { λ w a b. KeepsOthers w.name (S.files a) (S.files b) };
 

@@ -1,7 +1,7 @@
 -- The first candidate, a second one, or none more.
 use Rattle.std.proofs.Common.{◌<◌, ◌≡◌, ◌+◌, length, arith, ap, ◌∙◌, sym, refl, subst, map, List, ℕ}
 use Rattle.vl_tree.specs.Seen.{view_part}
-use Rattle.elab_names.specs.Words.{is_seen}
+use Rattle.elab_declared.specs.Words.{is_seen}
 use Rattle.elab_hierarchy.specs.Tops.{RefusesChoice, chosen, is_candidate_of}
 use Rattle.elab_hierarchy.proofs.Chosen.{FoundSoFar, part-at, not-chosen, is-chosen, is-none, is-some, first-chosen, second-chosen, none-chosen, one-chosen}
 use Rattle.std.proofs.lemmas.List.{length-map}

@@ -1,7 +1,7 @@
 -- What was found so far.
 use Rattle.std.proofs.Common.{map}
 use Rattle.vl_tree.specs.Seen.{view_part}
-use Rattle.elab_names.specs.Words.{is_seen}
+use Rattle.elab_declared.specs.Words.{is_seen}
 use Rattle.elab_hierarchy.proofs.Chosen.{FoundSoFar}
 use Rattle.elab_hierarchy.proofs.tops.only_candidate.Given as goal
 

@@ -10,7 +10,7 @@ use Rattle.elab_modules.proofs.members.check_members.Given as goal
 
 abbrev pub invariant-loop-member : goal.invariant-loop-member
 invariant-loop-member l = record {
-  counts : All (λ d. d.count ≤ 2) l.gate_delays.items;
+  counts : All (λ d. d.count ≤ 3) l.gate_delays.items;
   kept : GrowsBy l.fn.gate_delays.items l.gate_delays.items;
   faults : (m : Module) → IsPrepared l.prepared m
       → flat_map (λ x. all_member_faults l.definitions l.corner l.tick.power m (view_member x)) (drop l.member-index l.member-items)

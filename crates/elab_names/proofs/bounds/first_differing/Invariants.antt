@@ -2,7 +2,7 @@
 use Rattle.std.proofs.Common.{Bor, ℕ, List, nat_eq, map, drop, []}
 use Rattle.indexmap.specs.IndexMap.{get}
 use lib.Pointwise.{pointwise}
-use Rattle.elab_names.specs.Words.{first_of}
+use Rattle.elab_declared.specs.Words.{first_of}
 use Rattle.elab_names.specs.GivenRanges.{differing_places, view_range}
 use Rattle.elab_names.proofs.KnownRanges.{IsToCome}
 use Rattle.elab_names.proofs.bounds.first_differing.Given as goal

@@ -4,7 +4,7 @@ use Rattle.std.specs.Option.{option_map}
 use Rattle.vl_tree.specs.Seen.{view_name}
 use Rattle.elab_model.specs.Names.{is_among}
 use Rattle.elab_model.specs.Faults.{texts_of}
-use Rattle.elab_names.proofs.Refusals.{none-found, some-found}
+use Rattle.elab_declared.proofs.Refusals.{none-found, some-found}
 use Rattle.elab_names.proofs.checks.check_among.Goals as goal
 
 pub returns-in-Some-clause-refused : goal.returns-in-Some-clause-refused

@@ -5,7 +5,7 @@ use Rattle.vl_tree.specs.Seen.{view_name, view_module}
 use Rattle.elab_model.specs.declared.kinds.ElabKind.TheVariants.{UnknownName, BadTerminal}
 use Rattle.elab_model.specs.Ports.{port_list}
 use Rattle.elab_model.specs.NameFaults.{twice_in_list, two_directions, two_nets, two_instances, no_port, no_direction, declared_ports, declared_nets, instance_names, name_faults}
-use Rattle.elab_names.proofs.Refusals.{exit, one-of, once-of, missing-of}
+use Rattle.elab_declared.proofs.Refusals.{exit, one-of, once-of, missing-of}
 use Rattle.elab_names.proofs.checks.check_names.Goals as goal
 
 pub returns-in_err-check_once-clause-refused : goal.returns-in_err-check_once-clause-refused

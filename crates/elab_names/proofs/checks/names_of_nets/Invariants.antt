@@ -1,7 +1,7 @@
 -- What is there, followed by what is left, is the whole.
 use Rattle.std.proofs.Common.{◌≡◌, ◌++◌, map, drop}
 use Rattle.vl_tree.specs.Seen.{view_name}
-use Rattle.elab_names.specs.Words.{view_net}
+use Rattle.elab_declared.specs.Words.{view_net}
 use Rattle.elab_names.proofs.checks.names_of_nets.Given as goal
 
 abbrev pub invariant-loop-net : goal.invariant-loop-net

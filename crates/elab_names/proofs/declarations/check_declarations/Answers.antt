@@ -5,7 +5,7 @@ use Rattle.vl_tree.specs.Seen.{view_module}
 use Rattle.elab_model.specs.NameFaults.{declaration_faults}
 use Rattle.elab_names.specs.GivenRanges.{view_range, width_faults}
 use Rattle.elab_names.proofs.DeclarationFaults.{faultless, refused-range, refused-width}
-use Rattle.elab_names.proofs.Refusals.{exit}
+use Rattle.elab_declared.proofs.Refusals.{exit}
 use Rattle.elab_names.proofs.declarations.check_declarations.Goals as goal
 
 pub returns-in_err-check_agreement-clause-refused : goal.returns-in_err-check_agreement-clause-refused

@@ -1,6 +1,6 @@
 -- A name that was seen, or one more.
 use Rattle.std.proofs.Common.{◌<◌, length, arith, add-one}
-use Rattle.elab_names.proofs.Again.{found-again, one-seen}
+use Rattle.elab_declared.proofs.Again.{found-again, one-seen}
 use Rattle.elab_names.proofs.repeated.first_repeated.Goals as goal
 
 pub returns-then-not-branch : goal.returns-then-not-branch

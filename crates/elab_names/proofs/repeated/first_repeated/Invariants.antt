@@ -2,7 +2,7 @@
 use Rattle.std.proofs.Common.{◌≡◌, [], map, drop}
 use Rattle.vl_tree.specs.Seen.{view_name}
 use Rattle.elab_model.specs.Faults.{places_again}
-use Rattle.elab_names.specs.Words.{first_of}
+use Rattle.elab_declared.specs.Words.{first_of}
 use Rattle.elab_names.proofs.repeated.first_repeated.Given as goal
 
 abbrev pub invariant-loop-name : goal.invariant-loop-name

@@ -1,6 +1,6 @@
 -- One name more is in the set.
 use Rattle.std.proofs.Common.{◌<◌, length, arith}
-use Rattle.elab_names.proofs.Again.{set-next}
+use Rattle.elab_declared.proofs.Again.{set-next}
 use Rattle.elab_names.proofs.repeated.set_of.Goals as goal
 
 pub loop-name-preserved : goal.loop-name-preserved

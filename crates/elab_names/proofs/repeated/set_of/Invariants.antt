@@ -3,7 +3,7 @@ use Rattle.std.proofs.Common.{◌≡◌, ℕ, List, map, take}
 use Rattle.vl_tree.specs.Seen.{view_name}
 use Rattle.elab_model.specs.Faults.{texts_of}
 use Rattle.elab_model.specs.Names.{is_among}
-use Rattle.elab_names.specs.Words.{is_seen}
+use Rattle.elab_declared.specs.Words.{is_seen}
 use Rattle.elab_names.proofs.repeated.set_of.Given as goal
 
 abbrev pub invariant-loop-name : goal.invariant-loop-name

@@ -4,13 +4,13 @@ use Rattle.std.proofs.lemmas.Result.{err_from_is_err_and}
 use Rattle.std.proofs.lemmas.Option.{slice_get_read}
 use Rattle.elab_model.specs.Nets.{nets}
 use Rattle.elab_nets.proofs.Counts.{handed-on}
-use Rattle.elab_nets.proofs.Modules.{is-prepared, is-found, lent, none-lent}
+use Rattle.elab_modules.proofs.FoundModules.{is-prepared, is-found, lent, none-lent}
 use Rattle.elab_nets.proofs.ChildRows.{the, is-child, leaf-is, child-seen, child-refused, below-placed, placed-is, has-room, row-found, row-is}
 use Rattle.elab_nets.proofs.members.add_child.Goals as goal
 
 pub returns-in_default-clause-seen : goal.returns-in_default-clause-seen
 returns-in_default-clause-seen c = λ source top m corner turn k n d at defined stands ready.
-    absurd (is-found source c.args.library.now.parts.items c.args.place m turn.given.ready.ready stands ready (none-lent c.module_at.result _ c.in_default.is c.module_at.ensures))
+    absurd (is-found source c.args.library.now.parts.items c.args.place m turn.given.ready.ready stands ready (none-lent c.find_module.result _ c.in_default.is c.find_module.ensures))
 
 pub returns-in_default-get-clause-seen : goal.returns-in_default-get-clause-seen
 returns-in_default-get-clause-seen c = λ source top m corner turn k n d at defined stands ready.
@@ -33,7 +33,7 @@ returns-in_err-add_outside-clause-refused c =
     let lib = c.args.library.now in
     let list = c.args.instances.now in
     let count = length rows.nets.items in
-    let prepared = is-prepared source lib.parts.items c.args.place m c.in-Some.child.now turn.given.ready.ready stands (lent c.module_at.result c.in-Some.child _ c.in-Some.is c.module_at.ensures) in
+    let prepared = is-prepared source lib.parts.items c.args.place m c.in-Some.child.now turn.given.ready.ready stands (lent c.find_module.result c.in-Some.child _ c.in-Some.is c.find_module.ensures) in
     let p = c.in-Some-get.placed.now in
     let there = placed-is source top corner lib list rows vs c.args.number turn k n d text m c.args.next count at defined p
     (slice_get_read list (length list) c.args.next p refl c.in-Some-get.ensures.lookup.3.0 c.in-Some-get.ensures.lookup.1) in
@@ -53,7 +53,7 @@ returns-clause-seen c = λ source top m corner turn k n d at defined stands read
     let lib = c.args.library.now in
     let list = c.args.instances.now in
     let count = length rows.nets.items in
-    let prepared = is-prepared source lib.parts.items c.args.place m c.in-Some.child.now turn.given.ready.ready stands (lent c.module_at.result c.in-Some.child _ c.in-Some.is c.module_at.ensures) in
+    let prepared = is-prepared source lib.parts.items c.args.place m c.in-Some.child.now turn.given.ready.ready stands (lent c.find_module.result c.in-Some.child _ c.in-Some.is c.find_module.ensures) in
     let p = c.in-Some-get.placed.now in
     let there = placed-is source top corner lib list rows vs c.args.number turn k n d text m c.args.next count at defined p
     (slice_get_read list (length list) c.args.next p refl c.in-Some-get.ensures.lookup.3.0 c.in-Some-get.ensures.lookup.1) in

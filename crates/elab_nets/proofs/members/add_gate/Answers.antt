@@ -20,7 +20,7 @@ returns-clause-nets c =
     (gate-nets vs s k c.args.kind c.output_count-outputs.result c.deref-2.result.now (def_elements.terminal_bits s es)
     (ap (map (view_bit vs)) c.deref-2.ensures.value
     ∙ bits-are vs s es (map view_expression c.deref.result.now) c.clear.new.self.items c.add_terminal_bits.new.bits.items e c.clear.ensures.items (ap (map view_expression) c.deref.ensures.value) c.in_ok-add_terminal_bits.ensures.bits)
-    (c.output_count-outputs.ensures ∙ ap (def_elements.output_count c.args.kind) len)))
+    (c.output_count-outputs.ensures.count ∙ ap (def_elements.output_count c.args.kind) len)))
     c.add_terminals.ensures.nets
 
 pub returns-clause-refused : goal.returns-clause-refused
@@ -34,5 +34,5 @@ returns-clause-refused c =
     (gate-nets vs s k c.args.kind c.output_count-outputs.result c.deref-2.result.now (def_elements.terminal_bits s es)
     (ap (map (view_bit vs)) c.deref-2.ensures.value
     ∙ bits-are vs s es (map view_expression c.deref.result.now) c.clear.new.self.items c.add_terminal_bits.new.bits.items e c.clear.ensures.items (ap (map view_expression) c.deref.ensures.value) c.in_ok-add_terminal_bits.ensures.bits)
-    (c.output_count-outputs.ensures ∙ ap (def_elements.output_count c.args.kind) len)) (h s k e n))
+    (c.output_count-outputs.ensures.count ∙ ap (def_elements.output_count c.args.kind) len)) (h s k e n))
     c.add_terminals.ensures.refused

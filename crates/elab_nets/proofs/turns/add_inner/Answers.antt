@@ -2,7 +2,7 @@
 use Rattle.std.proofs.Common.{◌≡◌, ◌∙◌, ◌++◌, ◌∷◌, [], ap, arith, length, refl}
 use Rattle.std.proofs.lemmas.Result.{IfErr-weaker}
 use Rattle.elab_nets.proofs.Counts.{on-both}
-use Rattle.elab_nets.proofs.Modules.{lent, none-lent}
+use Rattle.elab_modules.proofs.FoundModules.{lent, none-lent}
 use Rattle.elab_nets.proofs.InnerRows.{own-refused, outer-found, outside-is, is-begun}
 use Rattle.elab_nets.proofs.turns.add_inner.Goals as goal
 

@@ -3,7 +3,7 @@ use Rattle.std.proofs.Common.{◌≡◌, ◌∙◌, ◌++◌, ◌∷◌, [], ap,
 use Rattle.std.proofs.lemmas.Option.{slice_get_read}
 use Rattle.std.proofs.lemmas.Result.{err_from_is_err_and}
 use Rattle.elab_nets.proofs.Counts.{handed-on}
-use Rattle.elab_nets.proofs.Modules.{lent, none-lent}
+use Rattle.elab_modules.proofs.FoundModules.{lent, none-lent}
 use Rattle.elab_nets.proofs.Mine.{is-of, found, prepared-is, is-mine, is-turn, count-begun, turn-done}
 use Rattle.elab_nets.proofs.turns.add_instance.Goals as goal
 
@@ -12,7 +12,7 @@ returns-in_default-clause-done c = λ top corner given up.
     let list = c.args.instances.now in
     let p = c.index-instances-number.result in
     let of = is-of c.args.definitions.now top corner c.args.library.now list given c.args.number p (slice_get_read list (length list) c.args.number p refl c.requires.within c.index-instances-number.is) in
-    absurd (found c.args.definitions.now top corner c.args.library.now list given c.args.number p of (none-lent c.module_at.result _ c.in_default.is c.module_at.ensures))
+    absurd (found c.args.definitions.now top corner c.args.library.now list given c.args.number p of (none-lent c.find_module.result _ c.in_default.is c.find_module.ensures))
 
 pub returns-in_err-add_inner-clause-refused : goal.returns-in_err-add_inner-clause-refused
 returns-in_err-add_inner-clause-refused c =
@@ -23,7 +23,7 @@ returns-in_err-add_inner-clause-refused c =
     let list = c.args.instances.now in
     let p = c.index-instances-number.result in
     let of = is-of source top corner lib list given c.args.number p (slice_get_read list (length list) c.args.number p refl c.requires.within c.index-instances-number.is) in
-    let prepared = prepared-is source top corner lib list given c.args.number p of c.in-Some.prepared.now (lent c.module_at.result c.in-Some.prepared _ c.in-Some.is c.module_at.ensures) in
+    let prepared = prepared-is source top corner lib list given c.args.number p of c.in-Some.prepared.now (lent c.find_module.result c.in-Some.prepared _ c.in-Some.is c.find_module.ensures) in
     c.in_err-add_inner.ensures.refused source top corner (is-mine source top corner lib list given c.args.number p of c.args.rows.now c.in-Some.prepared.now c.is_leaf-leaf.result up prepared c.is_leaf-leaf.ensures))
 
 pub returns-in_err-add_members-clause-refused : goal.returns-in_err-add_members-clause-refused
@@ -35,7 +35,7 @@ returns-in_err-add_members-clause-refused c =
     let list = c.args.instances.now in
     let p = c.index-instances-number.result in
     let of = is-of source top corner lib list given c.args.number p (slice_get_read list (length list) c.args.number p refl c.requires.within c.index-instances-number.is) in
-    let prepared = prepared-is source top corner lib list given c.args.number p of c.in-Some.prepared.now (lent c.module_at.result c.in-Some.prepared _ c.in-Some.is c.module_at.ensures) in
+    let prepared = prepared-is source top corner lib list given c.args.number p of c.in-Some.prepared.now (lent c.find_module.result c.in-Some.prepared _ c.in-Some.is c.find_module.ensures) in
     let mine = is-mine source top corner lib list given c.args.number p of c.args.rows.now c.in-Some.prepared.now c.is_leaf-leaf.result up prepared c.is_leaf-leaf.ensures in
     let begun = c.in_ok-add_inner.ensures.begun source top corner mine in
     c.in_err-add_members.ensures.refused top corner
@@ -49,7 +49,7 @@ returns-clause-done c = λ top corner given up.
     let list = c.args.instances.now in
     let p = c.index-instances-number.result in
     let of = is-of source top corner lib list given c.args.number p (slice_get_read list (length list) c.args.number p refl c.requires.within c.index-instances-number.is) in
-    let prepared = prepared-is source top corner lib list given c.args.number p of c.in-Some.prepared.now (lent c.module_at.result c.in-Some.prepared _ c.in-Some.is c.module_at.ensures) in
+    let prepared = prepared-is source top corner lib list given c.args.number p of c.in-Some.prepared.now (lent c.find_module.result c.in-Some.prepared _ c.in-Some.is c.find_module.ensures) in
     let mine = is-mine source top corner lib list given c.args.number p of c.args.rows.now c.in-Some.prepared.now c.is_leaf-leaf.result up prepared c.is_leaf-leaf.ensures in
     let r1 = c.add_inner.new.rows in
     let r3 = c.add_members.new.rows in

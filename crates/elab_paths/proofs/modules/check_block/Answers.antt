@@ -2,7 +2,7 @@
 use Rattle.std.specs.Prelude.{not}
 use Rattle.std.proofs.Common.{◌∙◌, sym, ap, map}
 use Rattle.vl_tree.specs.Seen.{view_item}
-use Rattle.elab_names.specs.Words.{first_of}
+use Rattle.elab_declared.specs.Words.{first_of}
 use Rattle.elab_variables.specs.Seen.{view_member}
 use Rattle.elab_paths.proofs.BlocksBeside.{has-child, no-child, block-refused, places_among}
 use Rattle.elab_paths.proofs.modules.check_block.Goals as goal

@@ -1,7 +1,7 @@
 -- What is left has the same first block.
 use Rattle.std.proofs.Common.{◌≡◌, length, map}
 use Rattle.vl_tree.specs.Seen.{view_item}
-use Rattle.elab_names.specs.Words.{first_of}
+use Rattle.elab_declared.specs.Words.{first_of}
 use Rattle.elab_paths.proofs.BlocksBeside.{places_among}
 use Rattle.elab_paths.proofs.modules.first_block.Given as goal
 

@@ -4,7 +4,7 @@ use Rattle.std.proofs.lemmas.Result.{err_from_is_err_and}
 use Rattle.vl_tree.specs.Seen.{view_name, view_primitive}
 use Rattle.elab_model.specs.declared.kinds.ElabKind.TheVariants.{UnknownName}
 use Rattle.elab_model.specs.PrimitiveFaults.{named_twice, declared_names, not_a_port, wrong_directions, wrong_regs, no_state, primitive_faults}
-use Rattle.elab_names.proofs.Refusals.{exit, one-of, none-of, missing-of}
+use Rattle.elab_declared.proofs.Refusals.{exit, one-of, none-of, missing-of}
 use Rattle.elab_primitives.proofs.SameFaults.{missing-none, sequential-is}
 use Rattle.elab_primitives.proofs.declarations.check_declarations.Goals as goal
 

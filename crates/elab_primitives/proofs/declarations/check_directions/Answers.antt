@@ -6,7 +6,7 @@ use Rattle.elab_model.specs.declared.kinds.ElabKind.TheVariants.{BadTerminal}
 use Rattle.elab_model.specs.Faults.{missing, RefusesOneOf}
 use Rattle.elab_model.specs.Primitives.{outputs, inputs}
 use Rattle.elab_model.specs.PrimitiveFaults.{wrong_directions}
-use Rattle.elab_names.proofs.Refusals.{exit, refused-left, refused-right, missing-of}
+use Rattle.elab_declared.proofs.Refusals.{exit, refused-left, refused-right, missing-of}
 use Rattle.elab_primitives.proofs.SameFaults.{first-cut, others-cut, directions-cut, none-in_both, missing-none}
 use Rattle.elab_primitives.proofs.declarations.check_directions.Goals as goal
 

@@ -5,7 +5,7 @@ use Rattle.vl_tree.specs.Seen.{view_name, view_primitive}
 use Rattle.elab_model.specs.Faults.{duplicates}
 use Rattle.elab_model.specs.Primitives.{outputs, inputs, regs}
 use Rattle.elab_model.specs.PrimitiveFaults.{named_twice}
-use Rattle.elab_names.proofs.Refusals.{exit, one-of, none-of, once-of}
+use Rattle.elab_declared.proofs.Refusals.{exit, one-of, none-of, once-of}
 use Rattle.elab_primitives.proofs.SameFaults.{once-none}
 use Rattle.elab_primitives.proofs.declarations.check_names.Goals as goal
 

@@ -5,13 +5,12 @@ use Rattle.std.proofs.lemmas.Bool.{ltb-false}
 use Rattle.std.proofs.lemmas.Option.{slice_get_read, slice_get_past}
 use Rattle.elab_nets.specs.Rows.{part_of}
 use Rattle.elab_scopes.specs.declared.here.Here.{Here}
-use Rattle.elab_scopes.proofs.Standing.{is-reached, row-found, row-there}
+use Rattle.elab_scopes.proofs.Standing.{module-missing, module-ready, row-found, row-there}
 use Rattle.elab_scopes.proofs.here.here_at.Goals as goal
 
 pub returns-in_err-prepared : goal.returns-in_err-prepared
 returns-in_err-prepared c = λ source top corner ss all s st.
-    absurd (c.in_err-prepared.ensures source top corner s st.are_read.is_ready.ready (is-reached source top corner c.args.library.now c.args.rows.now ss all c.args.number c.args.placed.now s st)
-    st.is_placed.definition)
+    absurd (module-missing source top corner c.args.library.now c.args.rows.now ss all c.args.number c.args.placed.now s st (sym c.in_err-prepared.ensures))
 
 pub returns-in_err-start : goal.returns-in_err-start
 returns-in_err-start c = λ source top corner ss all s st.
@@ -27,8 +26,7 @@ returns c = λ source top corner ss all s st.
     let at : slice_get c.args.rows.now.starts.items n ≡ Some start =
     subst (λ xs. slice_get xs n ≡ Some start) c.deref.ensures.value
     (slice_get_read c.deref.result.now (length c.deref.result.now) n start refl c.in_ok-start.ensures.lookup.3.0 (c.in_ok-start.ensures.lookup.3.1 start)) in
-    let reached = is-reached source top corner c.args.library.now c.args.rows.now ss all n c.args.placed.now s st in
-    let ready = c.in_ok-prepared.ensures source top corner s st.are_read.is_ready.ready reached st.is_placed.definition in
+    let ready = module-ready source top corner c.args.library.now c.args.rows.now ss all n c.args.placed.now s c.in_ok-prepared.prepared.now st (sym c.in_ok-prepared.ensures) in
     let here : Here = record { prepared = c.in_ok-prepared.prepared; row = c.part.result } in
     row-found source top corner c.args.library.now c.args.rows.now ss all n start c.bits.result c.args.placed.now s here st ready at c.bits.ensures
     (c.part.ensures ∙ ap (λ ns. part_of ns start c.bits.result) c.deref-2.ensures.value)

@@ -1,7 +1,7 @@
 -- The lists are the module's, and so the rows are.
 use Rattle.std.proofs.Common.{ap, ◌∙◌, map}
 use Rattle.vl_tree.specs.Seen.{view_module, view_port_declaration}
-use Rattle.elab_names.specs.Words.{view_net}
+use Rattle.elab_declared.specs.Words.{view_net}
 use Rattle.elab_variables.proofs.MadeTable.{Are, are-distinct, are-narrow, is-table, are-variables}
 use Rattle.elab_variables.proofs.tables.table_of.Goals as goal
 

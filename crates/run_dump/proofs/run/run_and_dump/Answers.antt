@@ -3,13 +3,16 @@ use Rattle.std.specs.Prelude.{map}
 use Rattle.sg_stimulus.specs.Seen.{stimulus_seen}
 use Rattle.sim_rounds.specs.Setting.{setting_of}
 use Rattle.time_checks.specs.Seen.{violation_seen}
-use Rattle.run_dump.proofs.RunLaws.{ends, finds, leaves_header, leaves_less, stops}
+use Rattle.run_dump.proofs.RunLaws.{ends, finds, leaves_header, leaves_less, starts, stops}
 use Rattle.run_dump.proofs.run.run_and_dump.Goals as goal
 
 pub returns-in_err-writer-clause-file : goal.returns-in_err-writer-clause-file
 returns-in_err-writer-clause-file g c =
     rw (err_from_is_err_and c.from_residual.result c.from_residual.ensures.1).1
     (leaves_less c.args.circuit.now (setting_of c.args.circuit.now (stimulus_seen c.args.stimulus.now) c.args.bound) _ _ _ c.in_err-writer.ensures.file)
+
+pub simulate-requires-clause-none_told : goal.simulate-requires-clause-none_told
+simulate-requires-clause-none_told g c = starts g.S.Shelf.files c.args.name.now c.args.circuit.now c.in_ok-writer.writer (g.S.Shelf.files c.args.shelf.now) c.new.new.shelf c.in_ok-writer.ensures.writer c.in_ok-writer.ensures.file
 
 pub returns-in_err-finished-clause-file : goal.returns-in_err-finished-clause-file
 returns-in_err-finished-clause-file g c =

@@ -5,7 +5,7 @@ use Rattle.vl_tree.specs.Seen.{view_check}
 use Rattle.specify_model.specs.CheckFaults.{check_faults}
 use Rattle.specify_values.specs.Seen.{measured, values_of}
 use Rattle.specify_values.proofs.InTurn.{exit}
-use Rattle.specify_checks.proofs.InOrder.{edge-told, reference-told, data-told, limits-told, threshold-told, notifier-told, check-faultless, check-is}
+use Rattle.specify_checks.proofs.InOrder.{edge-told, reference-told, data-told, limits-told, threshold-told, notifier-told, signals-told, check-faultless, check-is}
 use Rattle.specify_checks.proofs.checks.check_of.Goals as goal
 
 pub returns-in_err-check_edge-clause-told : goal.returns-in_err-check_edge-clause-told
@@ -62,6 +62,15 @@ returns-in_err-notifier-clause-told c =
     exit c.from_residual-in_err-notifier.result (check_faults by c.args.table.now values text) r (err_from_is_err_and c.from_residual-in_err-notifier.result c.from_residual-in_err-notifier.ensures.1)
     (notifier-told by c.args.table.now values text c.parts_of-parts.result c.parts_of-parts.ensures r c.in_err-notifier.ensures.told)
 
+pub returns-in_err-check_signals-clause-told : goal.returns-in_err-check_signals-clause-told
+returns-in_err-check_signals-clause-told c =
+    let by = measured c.args.by in
+    let values = values_of c.args.parameters.now in
+    let text = view_check c.args.text.now in
+    let r = c.in_err-check_signals.field-0.0 in
+    exit c.from_residual-in_err-check_signals.result (check_faults by c.args.table.now values text) r (err_from_is_err_and c.from_residual-in_err-check_signals.result c.from_residual-in_err-check_signals.ensures.1)
+    (signals-told by c.args.table.now values text c.parts_of-parts.result c.parts_of-parts.ensures r c.in_err-check_signals.ensures)
+
 pub returns-clause-check : goal.returns-clause-check
 returns-clause-check c =
     check-is (measured c.args.by) c.args.table.now (values_of c.args.parameters.now) (view_check c.args.text.now) c.parts_of-parts.result c.parts_of-parts.ensures _ refl refl c.in_ok-refer.ensures.event
@@ -83,4 +92,4 @@ returns-clause-spelled c = record { refer = c.in_ok-refer.ensures.spelled; datum
 pub returns-clause-told : goal.returns-clause-told
 returns-clause-told c =
     check-faultless (measured c.args.by) c.args.table.now (values_of c.args.parameters.now) (view_check c.args.text.now) c.parts_of-parts.result c.parts_of-parts.ensures c.in_ok-check_edge.ensures
-    c.in_ok-refer.ensures.told c.in_ok-datum.ensures.told c.in_ok-limits.ensures.told c.in_ok-threshold.ensures.told c.in_ok-notifier.ensures.told
+    c.in_ok-refer.ensures.told c.in_ok-datum.ensures.told c.in_ok-limits.ensures.told c.in_ok-threshold.ensures.told c.in_ok-notifier.ensures.told c.in_ok-check_signals.ensures

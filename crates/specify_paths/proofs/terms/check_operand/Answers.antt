@@ -2,7 +2,7 @@
 use Rattle.std.proofs.lemmas.Result.{err_from_is_err_and}
 use Rattle.vl_tree.specs.Seen.{view_term}
 use Rattle.elab_model.specs.TerminalFaults.{width_faults}
-use Rattle.elab_names.proofs.Refusals.{refused-left}
+use Rattle.elab_declared.proofs.Refusals.{refused-left}
 use Rattle.specify_model.specs.Faults.{operand_faults, term_faults}
 use Rattle.specify_model.specs.Terms.{expression_of}
 use Rattle.specify_values.proofs.InTurn.{exit}

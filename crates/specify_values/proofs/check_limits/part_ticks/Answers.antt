@@ -4,7 +4,7 @@ use Rattle.std.proofs.lemmas.Result.{err_from_is_err_and}
 use Rattle.vl_tree.specs.Seen.{view_signed}
 use Rattle.elab_model.specs.declared.kinds.ElabKind.TheVariants.{NegativeLimit}
 use Rattle.elab_model.specs.Faults.{fault_if}
-use Rattle.elab_names.proofs.Refusals.{refused-left}
+use Rattle.elab_declared.proofs.Refusals.{refused-left}
 use Rattle.specify_model.specs.CheckFaults.{is_below_0, part_faults}
 use Rattle.specify_model.specs.Faults.{amount_place, long_faults}
 use Rattle.specify_values.specs.Seen.{measured, values_of}

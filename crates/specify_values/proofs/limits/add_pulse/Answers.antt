@@ -1,10 +1,10 @@
 -- Limits that no path may have, and those of two ports.
-use Rattle.std.specs.Prelude.{bytes_eq, ◌&&◌, Some}
+use Rattle.std.specs.Prelude.{bytes_eq, ◌&&◌}
 use Rattle.indexmap.specs.IndexMap.{get_by}
 use Rattle.sg_text.specs.declared.refusals.Refused.TheVariants as refused
 use Rattle.elab_model.specs.declared.kinds.ElabKind.TheVariants.{UnknownName, BadDelay}
 use Rattle.elab_model.specs.Faults.{fault_if}
-use Rattle.elab_names.proofs.Refusals.{refused-right}
+use Rattle.elab_declared.proofs.Refusals.{refused-right}
 use Rattle.specify_model.specs.Faults.{has_no_ends, are_bad_limits}
 use Rattle.specify_model.specs.PulseLimits.{limit_ticks}
 use Rattle.specify_values.specs.Seen.{measured, view_pulse}

@@ -4,7 +4,7 @@ use Rattle.std.proofs.Common.{sym, subst}
 use Rattle.std.proofs.lemmas.Result.{err_from_is_err_and}
 use Rattle.circuit_model.specs.CheckUses.{check_uses}
 use Rattle.circuit_model.specs.Faults.{check_faults, over}
-use Rattle.elab_names.proofs.Refusals.{refused-left, refused-right}
+use Rattle.elab_declared.proofs.Refusals.{refused-left, refused-right}
 use Rattle.elab_checks.specs.Standing.{AreGiven}
 use Rattle.elab_checks.specs.Uses.{AreUses}
 use Rattle.vl_elab.proofs.Below.{leaves}

@@ -26,6 +26,7 @@ close-requires-clause-closed c =
       check_timings = c.args.checks.timings;
       check_conditions = c.args.checks.conditions;
       scopes = c.args.scopes;
+      zeroed = c.new-zeroed.result;
     } in
     let of : IsOf c.args.tick c.args.library c.args.rows c.args.timings.items c.args.conditions.items c.args.joined c.args.made c.args.drivers.now c.args.checks c.args.scopes.items parts = record {
       tick_is = refl;
@@ -40,6 +41,7 @@ close-requires-clause-closed c =
       check_timings_are = refl;
       check_conditions_are = refl;
       scopes_are = refl;
+      none_zeroed = c.new-zeroed.ensures.items;
     } in
     let w = c.requires in
     whole-closed w.0 w.1.0 w.1.1.0 c.args.tick c.args.library c.args.rows c.args.timings.items c.args.conditions.items c.args.joined c.args.made c.args.drivers.now c.args.checks c.args.scopes.items parts w.1.1.1 of
@@ -59,6 +61,7 @@ close-requires-clause-indexed c =
       check_timings = c.args.checks.timings;
       check_conditions = c.args.checks.conditions;
       scopes = c.args.scopes;
+      zeroed = c.new-zeroed.result;
     } in
     let of : IsOf c.args.tick c.args.library c.args.rows c.args.timings.items c.args.conditions.items c.args.joined c.args.made c.args.drivers.now c.args.checks c.args.scopes.items parts = record {
       tick_is = refl;
@@ -73,6 +76,7 @@ close-requires-clause-indexed c =
       check_timings_are = refl;
       check_conditions_are = refl;
       scopes_are = refl;
+      none_zeroed = c.new-zeroed.ensures.items;
     } in
     let w = c.requires in
     whole-indexed w.0 w.1.0 w.1.1.0 c.args.tick c.args.library c.args.rows c.args.timings.items c.args.conditions.items c.args.joined c.args.made c.args.drivers.now c.args.checks c.args.scopes.items parts w.1.1.1 of
@@ -92,6 +96,7 @@ returns c source m corner w =
       check_timings = c.args.checks.timings;
       check_conditions = c.args.checks.conditions;
       scopes = c.args.scopes;
+      zeroed = c.new-zeroed.result;
     } in
     let of : IsOf c.args.tick c.args.library c.args.rows c.args.timings.items c.args.conditions.items c.args.joined c.args.made c.args.drivers.now c.args.checks c.args.scopes.items parts = record {
       tick_is = refl;
@@ -106,5 +111,6 @@ returns c source m corner w =
       check_timings_are = refl;
       check_conditions_are = refl;
       scopes_are = refl;
+      none_zeroed = c.new-zeroed.ensures.items;
     } in
     c.close.ensures ∙ whole-is source m corner c.args.tick c.args.library c.args.rows c.args.timings.items c.args.conditions.items c.args.joined c.args.made c.args.drivers.now c.args.checks c.args.scopes.items parts w of

@@ -15,7 +15,7 @@ use Rattle.time_checks.proofs.TouchLaws.{listed-within}
 use Rattle.sim_rounds.specs.Notifiers.{notifiers_of}
 use Rattle.sim_rounds.proofs.CircuitChecksLaws.{checks_over, found_behind, notifiers_still, violated_still}
 use Rattle.sim_rounds.proofs.SeenLaws.{seen_by}
-use Rattle.sim_rounds.proofs.SimulationLaws.{begun_still}
+use Rattle.sim_times.proofs.SimulationLaws.{begun_still}
 use Rattle.sim_rounds.proofs.circuit_checks.CircuitChecksChecks.see.Goals as goal
 
 pub see-requires-clause-as_many : goal.see-requires-clause-as_many

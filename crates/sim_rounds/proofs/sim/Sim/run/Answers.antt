@@ -5,10 +5,10 @@ use Rattle.sg_stimulus.specs.Seen.{stimulus_seen}
 use Rattle.sg_stimulus.specs.Stimulus.{Stimulus, sets_at}
 use Rattle.time_checks.specs.Seen.{violation_seen}
 use Rattle.sg_circuit.specs.Circuit.{Circuit}
-use Rattle.sim_rounds.specs.Runs.{HasEnded, start_of}
+use Rattle.sim_times.specs.Runs.{HasEnded, start_of}
 use Rattle.sim_rounds.specs.Simulated.{first_state, machine_of}
 use Rattle.sim_rounds.specs.CircuitChecks.{HaveSeen}
-use Rattle.sim_rounds.specs.Simulations.{StandsBetween}
+use Rattle.sim_times.specs.Simulations.{StandsBetween}
 use Rattle.sim_rounds.proofs.MachineLaws.{lawful}
 use Rattle.sim_rounds.proofs.SimLaws.{fresh_ready, fresh_stands}
 use Rattle.sim_rounds.proofs.sim.Sim.run.Goals as goal

@@ -1,0 +1,7 @@
+-- The lemma files of this folder.
+pub mod ApartLaws
+pub mod CheckLaws
+pub mod FittingLaws
+pub mod LateLaws
+pub mod MappedLaws
+pub mod PathLaws

@@ -1,0 +1,246 @@
+-- A closed circuit stays one where an element's kind, a check's limit or the limits that are taken as 0 are changed.
+use Rattle.std.specs.Prelude.{◌≡◌, ℕ, ℤ, ◌<◌, ◌^◌, All, List, [], Option, Some, None, IfSome, IsSome, length, slice_index_or, unsigned_abs, refl}
+use Rattle.std.proofs.Common.{sym, ◌∙◌, ap, subst}
+use Rattle.std.proofs.lemmas.List.Elements.{All-set, All-weaker}
+use Rattle.sg_circuit.specs.declared.nets.Driver.{Driver}
+use Rattle.sg_circuit.specs.declared.nets.Driver.TheVariants as driver
+use Rattle.sg_circuit.specs.declared.checks.Check.{Check}
+use Rattle.sg_circuit.specs.declared.checks.CheckTiming.{CheckTiming}
+use Rattle.sg_circuit.specs.declared.checks.Zero.{Zero}
+use Rattle.sg_circuit.specs.Timings.{Timing}
+use Rattle.sg_circuit.specs.Paths as specify
+use Rattle.sg_circuit.specs.Circuit.{Circuit, Element, Kind, Gate, Udp, Pass, Leg, Path, Late, net_at, element_at}
+use Rattle.sg_circuit.specs.Closed.{AreTimings, AreLatesOf, HasDelays, HasLates, IfElement, IsCheckTiming, IsClosed, IsLate, IsLateOf, IsNotifier, IsPathOf, IsZeroOf, NamesNets, TakesInputs}
+use Rattle.circuit_open.specs.Open.{changed_at, with_kind, with_leg, with_path, with_delay, with_limit, with_check_limit, with_zeroed}
+use Rattle.circuit_open.proofs.ChangeLaws.{length-changed, All-changed, kept-at, stays-at}
+
+if_some : {A : Type 0} (o : Option A) (P Q : A → Type 0) → ((a : A) → P a → Q a) → IfSome o P → IfSome o Q
+if_some None P Q f h = tt
+if_some (Some a) P Q f h = f a h
+
+if_element : (d : Driver) (P Q : ℕ → Type 0) → ((e : ℕ) → P e → Q e) → IfElement d P → IfElement d Q
+if_element driver.Nobody P Q f h = tt
+if_element driver.Stimulus P Q f h = tt
+if_element (driver.Element e) P Q f h = f e h
+if_element driver.Notifier P Q f h = tt
+
+-- what a change of a kind has to keep
+pub record KeepsKind (nets : ℕ) (g : Kind → Kind) : Type 0 where
+  pub takes : (k : Kind) (n : ℕ) → TakesInputs k n → TakesInputs (g k) n
+  pub delays : (k : Kind) → HasDelays k → HasDelays (g k)
+  pub names : (k : Kind) → NamesNets nets k → NamesNets nets (g k)
+  pub lates : (k : Kind) → IsLate k → IsLate (g k)
+
+leg-cases : (P : Kind → Type 0) (timings : List Timing) → ((before : List Timing) → P (Leg before) → P (Leg timings)) → (k : Kind) → P k → P (with_leg timings k)
+leg-cases P timings f (Gate kind delays) h = h
+leg-cases P timings f (Udp primitive first delays) h = h
+leg-cases P timings f (Pass constant) h = h
+leg-cases P timings f (Leg before) h = f before h
+leg-cases P timings f (Path paths style) h = h
+leg-cases P timings f (Late delay) h = h
+
+pub keeps-leg : (nets : ℕ) (timings : List Timing) → AreTimings timings → KeepsKind nets (with_leg timings)
+keeps-leg nets timings t = record {
+  takes = λ k n. leg-cases (λ q. TakesInputs q n) timings (λ before h. h) k;
+  delays = leg-cases HasDelays timings (λ before h. t);
+  names = leg-cases (NamesNets nets) timings (λ before h. h);
+  lates = leg-cases IsLate timings (λ before h. h);
+}
+
+late-cases : (P : Kind → Type 0) (delay : ℕ) → ((before : ℕ) → P (Late before) → P (Late delay)) → (k : Kind) → P k → P (with_delay delay k)
+late-cases P delay f (Gate kind delays) h = h
+late-cases P delay f (Udp primitive first delays) h = h
+late-cases P delay f (Pass constant) h = h
+late-cases P delay f (Leg timings) h = h
+late-cases P delay f (Path paths style) h = h
+late-cases P delay f (Late before) h = f before h
+
+pub keeps-delay : (nets delay : ℕ) → delay < 2 ^ 60 → KeepsKind nets (with_delay delay)
+keeps-delay nets delay l = record {
+  takes = λ k n. late-cases (λ q. TakesInputs q n) delay (λ before h. h) k;
+  delays = late-cases HasDelays delay (λ before h. l);
+  names = late-cases (NamesNets nets) delay (λ before h. h);
+  lates = late-cases IsLate delay (λ before h. h);
+}
+
+path-cases : (P : Kind → Type 0) (place : ℕ) (timings : List Timing) → ((paths : List specify.Path) (style : _) → P (Path paths style) → P (with_path place timings (Path paths style))) → (k : Kind) → P k → P (with_path place timings k)
+path-cases P place timings f (Gate kind delays) h = h
+path-cases P place timings f (Udp primitive first delays) h = h
+path-cases P place timings f (Pass constant) h = h
+path-cases P place timings f (Leg before) h = h
+path-cases P place timings f (Path paths style) h = f paths style h
+path-cases P place timings f (Late delay) h = h
+
+pub keeps-path : (nets place : ℕ) (timings : List Timing) → AreTimings timings → KeepsKind nets (with_path place timings)
+keeps-path nets place timings t = record {
+  takes = λ k n. path-cases (λ q. TakesInputs q n) place timings (λ paths style h. h) k;
+  delays = path-cases HasDelays place timings (λ paths style. All-changed (λ (p : specify.Path). AreTimings p.timings) (λ p. record p { timings = timings }) (λ p h. t) place paths);
+  names = path-cases (NamesNets nets) place timings (λ paths style. All-changed (IsPathOf nets) (λ p. record p { timings = timings }) (λ p h. record { input = h.input; condition = h.condition }) place paths);
+  lates = path-cases IsLate place timings (λ paths style h. h);
+}
+
+-- delayed signals of a circuit in which an element's kind is changed
+late_of : (c : Circuit) (g : Kind → Kind) (e : ℕ) → KeepsKind (length c.nets) g → (net l : ℕ) → IsLateOf c net l → IsLateOf (with_kind g e c) net l
+late_of c g e keeps net l h =
+    let change = λ (x : Element). record x { kind = g x.kind } in
+    let blank : Element = record { scope = 0; inputs = []; output = 0; kind = Pass None } in
+    record {
+      within = subst (λ n. l < n) (sym (length-changed change e c.elements)) h.within;
+      kind = stays-at (λ (x : Element). IsLate x.kind) change (λ x. keeps.lates x.kind) e c.elements l blank h.kind;
+      input = kept-at (λ (x : Element). x.inputs) change e c.elements (λ d m. refl) l blank ∙ h.input;
+    }
+
+lates_of : (c : Circuit) (g : Kind → Kind) (e : ℕ) → KeepsKind (length c.nets) g → (t : CheckTiming) (lates : List ℕ) → AreLatesOf c t lates → AreLatesOf (with_kind g e c) t lates
+lates_of c g e keeps t lates h = record {
+  takes = h.takes;
+  refer = late_of c g e keeps t.refer.net (slice_index_or lates 0 0) h.refer;
+  datum = if_some t.datum (λ d. IsLateOf c d.net (slice_index_or lates 1 0)) (λ d. IsLateOf (with_kind g e c) d.net (slice_index_or lates 1 0)) (λ d. late_of c g e keeps d.net (slice_index_or lates 1 0)) h.datum;
+}
+
+pub closed-kind : (c : Circuit) (g : Kind → Kind) (e : ℕ) → KeepsKind (length c.nets) g → IsClosed c → IsClosed (with_kind g e c)
+closed-kind c g e keeps h =
+    let change = λ (x : Element). record x { kind = g x.kind } in
+    let blank : Element = record { scope = 0; inputs = []; output = 0; kind = Pass None } in
+    let many : length (changed_at change e c.elements) ≡ length c.elements = length-changed change e c.elements in
+    let outputs = λ (i : ℕ). kept-at (λ (x : Element). x.output) change e c.elements (λ d m. refl) i blank in
+    record {
+      few_nets = h.few_nets;
+      few_elements = subst (λ n. n < 2 ^ 31) (sym many) h.few_elements;
+      few_checks = h.few_checks;
+      few_scopes = h.few_scopes;
+      parents = h.parents;
+      net_scopes = h.net_scopes;
+      element_scopes = All-changed (λ (x : Element). x.scope < length c.scopes) change (λ x s. s) e c.elements h.element_scopes;
+      check_scopes = h.check_scopes;
+      bits = h.bits;
+      inputs = All-changed (λ (x : Element). All (λ n. n < length c.nets) x.inputs) change (λ x s. s) e c.elements h.inputs;
+      outputs = All-changed (λ (x : Element). x.output < length c.nets) change (λ x s. s) e c.elements h.outputs;
+      paths = All-changed (λ (x : Element). NamesNets (length c.nets) x.kind) change (λ x. keeps.names x.kind) e c.elements h.paths;
+      named = λ i l. ap (λ n. (net_at c n).driver) (outputs i) ∙ h.named i (subst (λ n. i < n) many l);
+      drivers = λ n l. if_element (net_at c n).driver (λ i. (i < length c.elements) × ((element_at c i).output ≡ n)) (λ i. (i < length (changed_at change e c.elements)) × ((element_at (with_kind g e c) i).output ≡ n))
+          (λ i d. (subst (λ k. i < k) (sym many) d.0, outputs i ∙ d.1)) (h.drivers n l);
+      takes_inputs = All-changed (λ (x : Element). TakesInputs x.kind (length x.inputs)) change (λ x. keeps.takes x.kind (length x.inputs)) e c.elements h.takes_inputs;
+      has_delays = All-changed (λ (x : Element). HasDelays x.kind) change (λ x. keeps.delays x.kind) e c.elements h.has_delays;
+      widths = h.widths;
+      datums = h.datums;
+      timing_of_each = h.timing_of_each;
+      conditions_of_each = h.conditions_of_each;
+      check_kinds = h.check_kinds;
+      check_timings = h.check_timings;
+      notifiers = All-weaker (λ (k : Check). IfSome k.notifier (λ n. IsNotifier c n)) (λ (k : Check). IfSome k.notifier (λ n. IsNotifier (with_kind g e c) n))
+          (λ k. if_some k.notifier (λ n. IsNotifier c n) (λ n. IsNotifier (with_kind g e c) n) (λ n d. record { within = d.within; driven = d.driven })) c.checks h.notifiers;
+      scales = h.scales;
+      lates = All-weaker (HasLates c) (HasLates (with_kind g e c)) (λ t. if_some t.late (λ lates. AreLatesOf c t lates) (λ lates. AreLatesOf (with_kind g e c) t lates) (lates_of c g e keeps t)) c.check_timings h.lates;
+      zeroed = All-weaker (IsZeroOf c) (IsZeroOf (with_kind g e c)) (λ z d. record { check = d.check; late = d.late; part = d.part }) c.zeroed h.zeroed;
+    }
+
+-- a check's limit
+late-limit : (c : Circuit) (check part : ℕ) (value : ℤ) (net l : ℕ) → IsLateOf c net l → IsLateOf (with_check_limit check part value c) net l
+late-limit c check part value net l h = record { within = h.within; kind = h.kind; input = h.input }
+
+lates-limit : (c : Circuit) (check part : ℕ) (value : ℤ) (t : CheckTiming) (lates : List ℕ) → AreLatesOf c t lates → AreLatesOf (with_check_limit check part value c) t lates
+lates-limit c check part value t lates h = record {
+  takes = h.takes;
+  refer = late-limit c check part value t.refer.net (slice_index_or lates 0 0) h.refer;
+  datum = if_some t.datum (λ d. IsLateOf c d.net (slice_index_or lates 1 0)) (λ d. IsLateOf (with_check_limit check part value c) d.net (slice_index_or lates 1 0)) (λ d. late-limit c check part value d.net (slice_index_or lates 1 0)) h.datum;
+}
+
+has-lates-limit : (c : Circuit) (check part : ℕ) (value : ℤ) (t : CheckTiming) → HasLates c t → HasLates (with_check_limit check part value c) t
+has-lates-limit c check part value t = if_some t.late (λ lates. AreLatesOf c t lates) (λ lates. AreLatesOf (with_check_limit check part value c) t lates) (lates-limit c check part value t)
+
+limit-lates : (c : Circuit) (part : ℕ) (value : ℤ) (t : CheckTiming) → HasLates c t → HasLates c (with_limit part value t)
+limit-lates c part value t = if_some t.late (λ lates. AreLatesOf c t lates) (λ lates. AreLatesOf c (with_limit part value t) lates) (λ lates h. record { takes = h.takes; refer = h.refer; datum = h.datum })
+
+limit-timing : (nets part : ℕ) (value : ℤ) → unsigned_abs value < 2 ^ 60 → (t : CheckTiming) → IsCheckTiming nets t → IsCheckTiming nets (with_limit part value t)
+limit-timing nets part value short t h = record {
+  refer = h.refer;
+  datum = h.datum;
+  has_datum = h.has_datum;
+  has_edge = h.has_edge;
+  limits = All-set (λ l. unsigned_abs l < 2 ^ 60) t.limits part value short h.limits;
+  threshold = h.threshold;
+}
+
+zero-limit : (c : Circuit) (check part : ℕ) (value : ℤ) (z : Zero) → IsZeroOf c z → IsZeroOf (with_check_limit check part value c) z
+zero-limit c check part value z h = record {
+  check = subst (λ n. z.check < n) (sym (length-changed (with_limit part value) check c.check_timings)) h.check;
+  late = λ d. stays-at (λ (t : CheckTiming). IsSome t.late) (with_limit part value) (λ t s. s) check c.check_timings z.check d (h.late d);
+  part = h.part;
+}
+
+pub closed-limit : (c : Circuit) (check part : ℕ) (value : ℤ) → unsigned_abs value < 2 ^ 60 → IsClosed c → IsClosed (with_check_limit check part value c)
+closed-limit c check part value short h =
+    let change = with_limit part value in
+    let many : length (changed_at change check c.check_timings) ≡ length c.check_timings = length-changed change check c.check_timings in
+    record {
+      few_nets = h.few_nets;
+      few_elements = h.few_elements;
+      few_checks = h.few_checks;
+      few_scopes = h.few_scopes;
+      parents = h.parents;
+      net_scopes = h.net_scopes;
+      element_scopes = h.element_scopes;
+      check_scopes = h.check_scopes;
+      bits = h.bits;
+      inputs = h.inputs;
+      outputs = h.outputs;
+      paths = h.paths;
+      named = h.named;
+      drivers = h.drivers;
+      takes_inputs = h.takes_inputs;
+      has_delays = h.has_delays;
+      widths = h.widths;
+      datums = h.datums;
+      timing_of_each = many ∙ h.timing_of_each;
+      conditions_of_each = h.conditions_of_each;
+      check_kinds = λ k d e l. h.check_kinds k d e l ∙ sym (kept-at (λ (t : CheckTiming). t.kind) change check c.check_timings (λ x m. refl) k e);
+      check_timings = All-changed (IsCheckTiming (length c.nets)) change (limit-timing (length c.nets) part value short) check c.check_timings h.check_timings;
+      notifiers = All-weaker (λ (k : Check). IfSome k.notifier (λ n. IsNotifier c n)) (λ (k : Check). IfSome k.notifier (λ n. IsNotifier (with_check_limit check part value c) n))
+          (λ k. if_some k.notifier (λ n. IsNotifier c n) (λ n. IsNotifier (with_check_limit check part value c) n) (λ n d. record { within = d.within; driven = d.driven })) c.checks h.notifiers;
+      scales = h.scales;
+      lates = All-weaker (HasLates c) (HasLates (with_check_limit check part value c)) (has-lates-limit c check part value) (changed_at change check c.check_timings)
+          (All-changed (HasLates c) change (limit-lates c part value) check c.check_timings h.lates);
+      zeroed = All-weaker (IsZeroOf c) (IsZeroOf (with_check_limit check part value c)) (zero-limit c check part value) c.zeroed h.zeroed;
+    }
+
+-- the limits that are taken as 0
+late-zeroed : (c : Circuit) (zeroed : List Zero) (net l : ℕ) → IsLateOf c net l → IsLateOf (with_zeroed zeroed c) net l
+late-zeroed c zeroed net l h = record { within = h.within; kind = h.kind; input = h.input }
+
+lates-zeroed : (c : Circuit) (zeroed : List Zero) (t : CheckTiming) (lates : List ℕ) → AreLatesOf c t lates → AreLatesOf (with_zeroed zeroed c) t lates
+lates-zeroed c zeroed t lates h = record {
+  takes = h.takes;
+  refer = late-zeroed c zeroed t.refer.net (slice_index_or lates 0 0) h.refer;
+  datum = if_some t.datum (λ d. IsLateOf c d.net (slice_index_or lates 1 0)) (λ d. IsLateOf (with_zeroed zeroed c) d.net (slice_index_or lates 1 0)) (λ d. late-zeroed c zeroed d.net (slice_index_or lates 1 0)) h.datum;
+}
+
+pub closed-zeroed : (c : Circuit) (zeroed : List Zero) → All (IsZeroOf c) zeroed → IsClosed c → IsClosed (with_zeroed zeroed c)
+closed-zeroed c zeroed zs h = record {
+  few_nets = h.few_nets;
+  few_elements = h.few_elements;
+  few_checks = h.few_checks;
+  few_scopes = h.few_scopes;
+  parents = h.parents;
+  net_scopes = h.net_scopes;
+  element_scopes = h.element_scopes;
+  check_scopes = h.check_scopes;
+  bits = h.bits;
+  inputs = h.inputs;
+  outputs = h.outputs;
+  paths = h.paths;
+  named = h.named;
+  drivers = h.drivers;
+  takes_inputs = h.takes_inputs;
+  has_delays = h.has_delays;
+  widths = h.widths;
+  datums = h.datums;
+  timing_of_each = h.timing_of_each;
+  conditions_of_each = h.conditions_of_each;
+  check_kinds = h.check_kinds;
+  check_timings = h.check_timings;
+  notifiers = All-weaker (λ (k : Check). IfSome k.notifier (λ n. IsNotifier c n)) (λ (k : Check). IfSome k.notifier (λ n. IsNotifier (with_zeroed zeroed c) n))
+      (λ k. if_some k.notifier (λ n. IsNotifier c n) (λ n. IsNotifier (with_zeroed zeroed c) n) (λ n d. record { within = d.within; driven = d.driven })) c.checks h.notifiers;
+  scales = h.scales;
+  lates = All-weaker (HasLates c) (HasLates (with_zeroed zeroed c)) (λ t. if_some t.late (λ lates. AreLatesOf c t lates) (λ lates. AreLatesOf (with_zeroed zeroed c) t lates) (lates-zeroed c zeroed t)) c.check_timings h.lates;
+  zeroed = All-weaker (IsZeroOf c) (IsZeroOf (with_zeroed zeroed c)) (λ z d. record { check = d.check; late = d.late; part = d.part }) zeroed zs;
+}

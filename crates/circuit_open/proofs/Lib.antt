@@ -1,0 +1,4 @@
+-- The lemma files of this folder.
+pub mod ChangeLaws
+pub mod ClosedLaws
+pub mod OpenLaws
