@@ -18,7 +18,7 @@ use Rattle.elab_model.specs.Hierarchy.{Instance, instances}
 use Rattle.elab_model.specs.Nets.{OwnNet, nets}
 use Rattle.specify_model.specs.Checks.{ModuleEvent, ModuleCheck, timing_checks}
 use Rattle.specify_model.specs.Conditions.{over}
-use Rattle.specify_model.specs.Terms.{NetBit}
+use Rattle.elab_model.specs.Terms.{NetBit}
 use Rattle.circuit_model.specs.PathUses.{bit_number}
 
 -- the events of a terminal: its net, how a report names it, the changes of the net that are events, and what enables them (15.1, 15.4, 15.6)

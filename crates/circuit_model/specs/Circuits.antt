@@ -1,5 +1,5 @@
 -- The circuit of a netlist below a top.
-use Rattle.std.specs.Prelude.{ℕ, ◌+◌, List, [], ◌++◌, Bool, if◌then◌else◌, length, map, zip}
+use Rattle.std.specs.Prelude.{ℕ, List, [], Bool, if◌then◌else◌, length, map, zip}
 use Rattle.std.specs.List.{list_any}
 use Rattle.sg_circuit.specs.Circuit.{Circuit}
 use Rattle.sg_circuit.specs.declared.nets.Driver.{Driver}
@@ -13,11 +13,10 @@ use Rattle.elab_model.specs.Elements.{Component}
 use Rattle.elab_model.specs.Hierarchy.{instances}
 use Rattle.elab_model.specs.Homes.{Spot, is_same_spot}
 use Rattle.elab_model.specs.Nets.{OwnNet, nets, number_of}
-use Rattle.elab_model.specs.Numbered.{element_of}
+use Rattle.elab_model.specs.Numbered.{undriven}
 use Rattle.elab_model.specs.Scopes.{scope_of}
 use Rattle.circuit_model.specs.CheckUses.{check_uses, check_of_use, timing_of_use, written_of_use}
-use Rattle.circuit_model.specs.PathUses.{PathUse, path_uses}
-use Rattle.circuit_model.specs.WithPaths.{redirected, all_nets, all_elements}
+use Rattle.circuit_model.specs.PathUses.{circuit_elements}
 use Rattle.circuit_model.specs.Driving.{Driving, drivers}
 
 -- what drives nets, by their numbers
@@ -28,22 +27,13 @@ input_at all d = (d.place, number_of all d.spot)
 abbrev pub is_net : List OwnNet → Spot → Bool
 is_net all spot = list_any (λ o. is_same_spot spot o.spot) all
 
-abbrev pub output_at : List OwnNet → List PathUse → Component → Place × ℕ
-output_at all uses c =
-    (c.place, if is_net all c.output then (redirected (length all) uses (element_of all c)).output else (length all + length uses))
-
-abbrev pub path_output : PathUse → Place × ℕ
-path_output u = (u.place, u.output)
-
-abbrev pub outputs : Source → Module → Corner → List (Place × ℕ)
-outputs source top corner =
-    let uses = path_uses source top corner in
-    map (output_at (nets source top) uses) (elements source top corner) ++ map path_output uses
+abbrev pub output_at : List OwnNet → Component → Place × ℕ
+output_at all c = (c.place, if is_net all c.output then number_of all c.output else length all)
 
 abbrev pub driving : Source → Module → Corner → Driving
 driving source top corner = record {
   inputs = map (input_at (nets source top)) (stimulus_drives source top);
-  outputs = outputs source top corner;
+  outputs = map (output_at (nets source top)) (elements source top corner);
   regs = map (λ d. number_of (nets source top) d.spot) (check_drives source top);
 }
 
@@ -57,8 +47,8 @@ driven_nets ns d = map with_driver (zip ns (drivers d (length ns)))
 abbrev pub circuit : Source → Module → Corner → Circuit
 circuit source top corner = record {
   tick = tick_of source top;
-  nets = driven_nets (all_nets source top corner) (driving source top corner);
-  elements = map (λ e. e.1) (all_elements source top corner);
+  nets = driven_nets (map undriven (nets source top)) (driving source top corner);
+  elements = circuit_elements source top corner;
   checks = map check_of_use (check_uses source top corner);
   check_timings = map timing_of_use (check_uses source top corner);
   check_conditions = map written_of_use (check_uses source top corner);

@@ -7,13 +7,14 @@ use Rattle.elab_model.specs.declared.kinds.ElabKind.TheVariants.{SpecifyInHierar
 use Rattle.elab_model.specs.Delays.{tick_of}
 use Rattle.elab_model.specs.Faults.{Fault, fault, fault_if}
 use Rattle.elab_model.specs.Hierarchy.{instances}
-use Rattle.elab_model.specs.HierarchyFaults.{two_definitions, count_limit, start, first_too_many, instance_faults_below}
+use Rattle.elab_model.specs.Drivers.{elements}
+use Rattle.elab_model.specs.HierarchyFaults.{two_definitions, count_limit, start, first_too_many, too_deep, instance_faults_below}
+use Rattle.elab_model.specs.Nets.{nets}
 use Rattle.elab_model.specs.Tops.{top_of}
 use Rattle.specify_model.specs.CheckFaults.{timing_check_faults}
 use Rattle.specify_model.specs.Faults.{blocks_in_hierarchy, specify_faults}
 use Rattle.circuit_model.specs.CheckUses.{check_uses}
 use Rattle.circuit_model.specs.PathUses.{path_uses}
-use Rattle.circuit_model.specs.WithPaths.{all_nets, all_elements}
 use Rattle.circuit_model.specs.Driving.{driving_faults}
 use Rattle.circuit_model.specs.Circuits.{driving}
 
@@ -38,17 +39,17 @@ over n = fault_if (nat_lt count_limit n) TooMany start
 abbrev pub too_many : Source → Module → Corner → List Fault
 too_many source top corner =
     first_too_many (drop count_limit (instances source top))
-    ++ (over (length (all_nets source top corner)) ++ (over (length (all_elements source top corner)) ++ (over (path_count source top corner) ++ over (length (check_uses source top corner)))))
+    ++ (over (length (nets source top)) ++ (over (length (elements source top corner)) ++ (over (path_count source top corner) ++ over (length (check_uses source top corner)))))
 
 -- a second driver, or a reg that is driven otherwise than by timing checks
 abbrev pub driver_faults : Source → Module → Corner → List Fault
-driver_faults source top corner = driving_faults (driving source top corner) (length (all_nets source top corner))
+driver_faults source top corner = driving_faults (driving source top corner) (length (nets source top))
 
 -- the faults below a top
 abbrev pub faults_below : Source → Module → Corner → List Fault
 faults_below source top corner =
     flat_map (instance_faults_below source top corner) (instances source top)
-    ++ (path_faults source top corner ++ (check_faults source top corner ++ (too_many source top corner ++ driver_faults source top corner)))
+    ++ (too_deep source top ++ (path_faults source top corner ++ (check_faults source top corner ++ (too_many source top corner ++ driver_faults source top corner))))
 
 abbrev pub top_faults : Source → Corner → Result Module ElabKind → List Fault
 top_faults source corner (Err k) = fault k start ∷ []

@@ -12,7 +12,7 @@ use Rattle.cond_expr.specs.Tree.{Cond}
 use Rattle.sg_circuit.specs.declared.checks.Event.{Event}
 use Rattle.elab_model.specs.Names.{Variable}
 use Rattle.specify_model.specs.Conditions.{over}
-use Rattle.specify_model.specs.Terms.{NetBit}
+use Rattle.elab_model.specs.Terms.{NetBit}
 use Rattle.circuit_model.specs.CheckUses.{event_of_use, event_use}
 use Rattle.elab_laws.specs.Handing.{all_bits}
 use Rattle.specify_paths.specs.Seen.{bit_seen}

@@ -18,7 +18,7 @@ use Rattle.sg_logic.specs.declared.values.Value.TheVariants.{X}
 use Rattle.elab_model.specs.Names.{Variable}
 use Rattle.elab_model.specs.TerminalFaults.{delay_limit}
 use Rattle.specify_model.specs.Conditions.{over}
-use Rattle.specify_model.specs.Terms.{NetBit}
+use Rattle.elab_model.specs.Terms.{NetBit}
 use Rattle.circuit_model.specs.CheckUses.{EventUse, check_of_use, check_use, event_of_use, event_use, timing_of_use, two_limits, written_of, written_of_use}
 use Rattle.elab_laws.specs.Handing.{all_bits}
 use Rattle.specify_values.specs.Seen.{is_too_long}

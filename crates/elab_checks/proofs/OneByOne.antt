@@ -12,7 +12,7 @@ use Rattle.elab_model.specs.Faults.{RefusesOneOf}
 use Rattle.elab_model.specs.Hierarchy.{Instance}
 use Rattle.elab_model.specs.Names.{Variable}
 use Rattle.elab_model.specs.Nets.{OwnNet}
-use Rattle.specify_model.specs.Terms.{NetBit}
+use Rattle.elab_model.specs.Terms.{NetBit}
 use Rattle.circuit_model.specs.CheckUses as def
 use Rattle.circuit_model.specs.Faults.{over}
 use Rattle.circuit_model.specs.PathUses.{bit_number}

@@ -22,7 +22,7 @@ use Rattle.specify_model.specs.Checks.{ModuleEvent, ModuleCheck, check_texts, da
 use Rattle.specify_model.specs.Conditions.{operands, tokens, tree_of}
 use Rattle.specify_model.specs.Faults.{condition_faults, first_place, operand_faults}
 use Rattle.specify_model.specs.Outputs.{measure}
-use Rattle.specify_model.specs.Terms.{NetBit}
+use Rattle.elab_model.specs.Terms.{NetBit}
 use Rattle.specify_model.specs.Values.{Measure, Values, value_of}
 use Rattle.elab_laws.proofs.Lists.{all-map, all-map_back, all-weaker}
 use Rattle.elab_laws.proofs.NoFaults.{front, back, flat-empty}

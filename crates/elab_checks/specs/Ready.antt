@@ -11,7 +11,7 @@ use Rattle.elab_model.specs.Delays.{tick_of}
 use Rattle.elab_model.specs.Hierarchy.{Instance, instances}
 use Rattle.elab_model.specs.Names.{Variable, variables}
 use Rattle.specify_model.specs.Checks.{ModuleEvent, ModuleCheck, timing_checks}
-use Rattle.specify_model.specs.Terms.{NetBit}
+use Rattle.elab_model.specs.Terms.{NetBit}
 use Rattle.circuit_model.specs.Faults.{check_faults}
 use Rattle.elab_laws.specs.Handing.{all_bits}
 use Rattle.elab_hierarchy.specs.Tops.{StandsAt}

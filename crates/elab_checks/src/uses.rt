@@ -15,7 +15,7 @@ ghost use Rattle.elab_laws.specs.Handing.{all_bits};
 ghost use Rattle.elab_numbering.specs.Refusals.{RefusesCount};
 ghost use Rattle.elab_hierarchy.specs.declared.instances.Placed as ghost_placed;
 ghost use Rattle.elab_elements.specs.Adding.{IsHere};
-ghost use Rattle.specify_model.specs.Terms.{NetBit};
+ghost use Rattle.elab_model.specs.Terms.{NetBit};
 ghost use Rattle.elab_paths.specs.Uses.{IsRow};
 ghost use Rattle.elab_checks.specs.Ready.{check_ready, event_ready, IsReadyCheck};
 ghost use Rattle.elab_checks.specs.Standing.{AreGiven, IsStanding, checks_at};

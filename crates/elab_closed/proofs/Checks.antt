@@ -39,7 +39,7 @@ use Rattle.specify_model.specs.Faults.{amount_place, long_faults, operand_faults
 use Rattle.specify_model.specs.Outputs.{measure}
 use Rattle.specify_model.specs.Paths.{edge_of}
 use Rattle.specify_model.specs.Conditions.{over}
-use Rattle.specify_model.specs.Terms.{NetBit, expression_of}
+use Rattle.elab_model.specs.Terms.{NetBit, expression_of}
 use Rattle.specify_model.specs.Values.{Measure, Values, amount_ticks, value_of}
 use Rattle.circuit_model.specs.CheckUses.{CheckUse as Check_use, EventUse, check_of_use, check_use, check_uses_of, check_uses, event_of_use, event_use, timing_of_use, two_limits}
 use Rattle.circuit_model.specs.Circuits.{driving}

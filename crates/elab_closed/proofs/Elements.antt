@@ -22,7 +22,7 @@ use Rattle.specify_model.specs.Conditions.{ModuleCondition, Always, If, IfNone, 
 use Rattle.specify_model.specs.Faults.{specify_faults}
 use Rattle.specify_model.specs.Outputs.{PathOutput, path_outputs}
 use Rattle.specify_model.specs.Paths.{circuit_condition, circuit_path}
-use Rattle.specify_model.specs.Terms.{NetBit}
+use Rattle.elab_model.specs.Terms.{NetBit}
 use Rattle.circuit_model.specs.Faults.{module_path_faults, path_faults}
 use Rattle.circuit_model.specs.PathUses.{PathUse, bit_number, path_use, path_uses_of, path_uses}
 use Rattle.circuit_model.specs.WithPaths.{is_behind, inner_of, redirected, path_element, placed_element, plain_elements, all_elements}

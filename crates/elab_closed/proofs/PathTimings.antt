@@ -22,7 +22,7 @@ use Rattle.specify_model.specs.Faults.{parameter_faults, has_no_ends, are_bad_li
 use Rattle.specify_model.specs.Outputs.{PathOutput, first_paths, paths_to, output_of, measure, path_outputs}
 use Rattle.specify_model.specs.Paths.{PathTo, timings_with, path_between, paths_of, module_paths}
 use Rattle.specify_model.specs.PulseLimits.{limit_ticks, is_for_ends, is_for_others, last_of, limits_of}
-use Rattle.specify_model.specs.Terms.{NetBit, is_same_bit, path_pairs}
+use Rattle.elab_model.specs.Terms.{NetBit, is_same_bit, path_pairs}
 use Rattle.specify_model.specs.Values.{Measure, Values, value_of, corner_amount, amount_ticks, delay_ticks, all_delays, expanded, twelve_delays}
 use Rattle.elab_laws.proofs.Lists.{all-anyway, all-flat_in, all-map, all-weaker}
 use Rattle.elab_laws.proofs.NoFaults.{front, back, flat-empty}

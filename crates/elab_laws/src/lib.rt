@@ -3,7 +3,7 @@
 
 ghost use Rattle.elab_laws.specs.ElementLaws.{DrivesHaveNets, ElementsHaveNets};
 ghost use Rattle.elab_laws.specs.Laws.{BitsHaveNets, InstancesHavePlaces, NetsHavePlaces, NumbersAreHandedDown};
-ghost use Rattle.elab_laws.specs.NumberLaws.{MemberNetsHavePlaces, TerminalsAreNumbered};
+ghost use Rattle.elab_laws.specs.NumberLaws.{DrivenIsNumbered, InnersHaveNets, MemberNetsHavePlaces, TerminalsAreNumbered};
 
 /// The number of an instance is its place among the instances.
 pub fn instances_have_places()
@@ -43,4 +43,14 @@ pub fn member_nets_have_places()
 /// The net of each input of a gate or a primitive is that of its bit or, for a constant, the next.
 pub fn terminals_are_numbered()
     ensures { TerminalsAreNumbered }
+{}
+
+/// What is driven inside in place of an output bit to which specify paths lead is a net.
+pub fn inners_have_nets()
+    ensures { InnersHaveNets }
+{}
+
+/// Where no module has a fault, what is driven inside at a bit is found by the bit's number.
+pub fn driven_is_numbered()
+    ensures { DrivenIsNumbered }
 {}

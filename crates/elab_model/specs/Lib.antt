@@ -5,9 +5,11 @@ pub mod Ports
 pub mod Leaves
 pub mod Names
 pub mod Bits
+pub mod Terms
 pub mod Hierarchy
 pub mod Connections
 pub mod Homes
+pub mod Ends
 pub mod Delays
 pub mod Primitives
 pub mod Elements

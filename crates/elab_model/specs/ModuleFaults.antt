@@ -2,6 +2,8 @@
 use Rattle.std.specs.Prelude.{ℕ, List, [], ◌∷◌, ◌++◌, Bool, false, ◌&&◌, not, ◌==◌, nat_lt, nat_le, Option, Some, None, length, map, flat_map, zip, if◌then◌else◌, ℤ}
 use Rattle.std.specs.List.{list_any}
 use Rattle.sg_circuit.specs.Closed.{width_of}
+use Rattle.sg_circuit.specs.declared.scopes.Port.{Port}
+use Rattle.sg_circuit.specs.declared.scopes.Port.TheVariants as port
 use Rattle.sg_delay.specs.declared.corners.Corner.{Corner}
 use Rattle.sg_logic.specs.Gate.{most_delays}
 use Rattle.sg_logic.specs.declared.gates.GateKind.{GateKind}
@@ -9,21 +11,25 @@ use Rattle.sg_logic.specs.declared.gates.GateKind.TheVariants.{Bufif0, Bufif1, N
 use Rattle.sg_text.specs.declared.places.Place.{Place}
 use Rattle.vl_tree.specs.Tree.{Named, Expression, Delay, Connections, by_order, by_name, Instance as instance_text, Part, a_module, a_primitive, Primitive, Module, Source}
 use Rattle.elab_model.specs.declared.kinds.ElabKind.TheVariants.{UnknownModule, UnknownName, BadTerminal, BadDelay}
-use Rattle.elab_model.specs.Members.{Member, assignment, supply, gate, instance, members, member_values, connection_values}
+use Rattle.elab_model.specs.Members.{Member, assignment, supply, gate, instance, path, members, member_values, connection_values}
 use Rattle.elab_model.specs.Definitions.{definition_of}
 use Rattle.elab_model.specs.Ports.{port_list, port_names}
 use Rattle.elab_model.specs.Names.{Variable, variables, variable, is_among}
-use Rattle.elab_model.specs.Homes.{is_output}
 use Rattle.elab_model.specs.Elements.{output_count}
 use Rattle.elab_model.specs.Faults.{Fault, fault, fault_if, duplicates}
 use Rattle.elab_model.specs.NameFaults.{declaration_faults}
 use Rattle.elab_model.specs.TerminalFaults.{expression_faults, width_faults, constant_faults, assignment_faults, terminal_faults, delay_faults, is_missing}
 use Rattle.elab_model.specs.PrimitiveFaults.{primitive_faults}
 
--- what is connected to a port: it has the port's width, and is no constant where the port is an output
+-- what is connected to a port that has a direction: it has the port's width, and is no constant where the port is an output
+abbrev pub directed_faults : List Variable → Port → (width : ℕ) → Expression → List Fault
+directed_faults vs port.Input w e = width_faults vs w e
+directed_faults vs port.Output w e = width_faults vs w e ++ constant_faults vs e
+directed_faults vs port.Inner w e = []
+
 abbrev pub value_faults : List Variable → Variable → Option Expression → List Fault
 value_faults vs v None = []
-value_faults vs v (Some e) = width_faults vs (width_of v.range) e ++ (if is_output v.port then constant_faults vs e else [])
+value_faults vs v (Some e) = directed_faults vs v.port (width_of v.range) e
 
 abbrev pub port_faults : List Variable → Module → Named → Option Expression → List Fault
 port_faults vs m n e = fault_if (not (is_among n.text (port_names m))) UnknownName n.place ++ value_faults vs (variable m n.text) e
@@ -73,6 +79,7 @@ member_faults source corner tick m vs (gate g d i) =
     fault_if (not (takes_terminals g (length i.terminals))) BadTerminal i.place
     ++ (terminal_faults vs (output_count g (length i.terminals)) i.terminals ++ delay_faults (most_delays g) corner tick m d)
 member_faults source corner tick m vs (instance n d i) = instance_faults corner tick m vs d i (definition_of source n.text)
+member_faults source corner tick m vs (path p) = []
 
 -- the names and the indices in a member, and the member itself
 abbrev pub all_member_faults : Source → Corner → ℤ → Module → Member → List Fault

@@ -1,17 +1,19 @@
 -- The nets in order: by the outermost instance that has the net, its variables first, then nets that no variable names, in text order.
-use Rattle.std.specs.Prelude.{ℕ, List, [], ◌∷◌, ◌++◌, Bool, true, false, Option, Some, None, flat_map, length, take, drop, if◌then◌else◌, ℤ}
+use Rattle.std.specs.Prelude.{ℕ, List, [], ◌∷◌, ◌++◌, Bool, true, false, Option, Some, None, flat_map, length, map, if◌then◌else◌, ℤ}
 use Rattle.std.specs.List.{enumerate_from, position_from}
 use Rattle.std.specs.Option.{unwrap_or}
 use Rattle.vl_tree.specs.Tree.{Instance as instance_text, Part, a_module, a_primitive, Module, Source}
-use Rattle.elab_model.specs.Members.{Member, assignment, supply, gate, instance, members, connection_values}
+use Rattle.elab_model.specs.Members.{Member, assignment, supply, gate, instance, path, members, connection_values}
 use Rattle.elab_model.specs.Definitions.{definition_of}
 use Rattle.elab_model.specs.Ports.{port_list}
 use Rattle.elab_model.specs.Names.{Variable, variables, variable}
 use Rattle.elab_model.specs.Bits.{Bit, net, constant, index_at, positions}
+use Rattle.elab_model.specs.Terms.{NetBit}
 use Rattle.elab_model.specs.Hierarchy.{Instance, instances}
 use Rattle.elab_model.specs.Connections.{port_values}
 use Rattle.elab_model.specs.Homes.{Spot, bit, outside, terminal, is_same_spot, has_leg, home_of}
-use Rattle.elab_model.specs.Elements.{expression_bits, terminal_bits, output_count, child_at, bound_above}
+use Rattle.elab_model.specs.Ends.{first_ends, inner_spot}
+use Rattle.elab_model.specs.Elements.{expression_bits, output_bits, input_bits, output_count, child_at, bound_above}
 
 -- a net, with the instance that has it, and its name there
 pub record OwnNet : Type 0 where
@@ -30,7 +32,7 @@ bit_net source s v p =
 abbrev pub variable_nets : Source → Instance → List OwnNet
 variable_nets source s = flat_map (λ v. flat_map (bit_net source s v) (positions v.range)) (variables s.step.definition)
 
--- a constant at an input of a gate or a primitive has the name of the first output
+-- a constant at an input of a gate or a primitive has the name that the text of its module gives the first output
 abbrev pub terminal_net : Instance → ℕ → List Bit → ℕ × Bit → List OwnNet
 terminal_net s k [] b = []
 terminal_net s k (constant at w ∷ outputs) b = []
@@ -38,8 +40,8 @@ terminal_net s k (net m q ∷ outputs) (i, net n p) = []
 terminal_net s k (net m q ∷ outputs) (i, constant at v) =
     record { spot = terminal s.step.number k i; scope = s.step.number; name = m; bit = index_at (variable s.step.definition m).range q } ∷ []
 
-abbrev pub terminal_nets : Instance → ℕ → (outputs : ℕ) → List Bit → List OwnNet
-terminal_nets s k outputs bs = flat_map (terminal_net s k (take outputs bs)) (enumerate_from 0 (drop outputs bs))
+abbrev pub terminal_nets : Instance → ℕ → (outputs : List Bit) → (inputs : List Bit) → List OwnNet
+terminal_nets s k outputs inputs = flat_map (terminal_net s k outputs) (enumerate_from 0 inputs)
 
 -- what lies outside an input bit of a leaf has the name of that bit
 abbrev pub outside_net : Instance → Instance → Variable → ℕ → OwnNet
@@ -70,13 +72,18 @@ constant_nets source s c =
 abbrev pub instance_nets : Source → Instance → ℕ → instance_text → Option Part → List OwnNet
 instance_nets source s k i None = []
 instance_nets source s k i (Some (a_module m)) = flat_map (λ c. unbound_nets source s c ++ constant_nets source s c) (child_at source s k)
-instance_nets source s k i (Some (a_primitive p)) = terminal_nets s k 1 (terminal_bits s (connection_values i.connections))
+instance_nets source s k i (Some (a_primitive p)) = let es = connection_values i.connections in terminal_nets s k (output_bits s 1 es) (input_bits s 1 es)
+
+-- what is driven inside in place of an output bit has the bit's name
+abbrev pub inner_net : Instance → NetBit → OwnNet
+inner_net s b = record { spot = inner_spot s b; scope = s.step.number; name = b.name; bit = index_at (variable s.step.definition b.name).range b.position }
 
 abbrev pub member_nets : Source → Instance → ℕ × Member → List OwnNet
 member_nets source s (k, assignment j) = []
 member_nets source s (k, supply n v) = []
-member_nets source s (k, gate g d i) = let bs = terminal_bits s i.terminals in terminal_nets s k (output_count g (length bs)) bs
+member_nets source s (k, gate g d i) = let outputs = output_count g (length i.terminals) in terminal_nets s k (output_bits s outputs i.terminals) (input_bits s outputs i.terminals)
 member_nets source s (k, instance n d i) = instance_nets source s k i (definition_of source n.text)
+member_nets source s (k, path p) = map (inner_net s) (first_ends s.step.definition (k, path p))
 
 abbrev pub nets_of : Source → Instance → List OwnNet
 nets_of source s = variable_nets source s ++ flat_map (member_nets source s) (enumerate_from 0 (members s.step.definition))

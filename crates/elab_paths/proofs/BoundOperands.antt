@@ -32,7 +32,7 @@ use Rattle.elab_model.specs.TerminalFaults.{is_missing, part_faults}
 use Rattle.specify_model.specs.Conditions.{operand, bit_of_token, operand_bit, over, first_bit}
 use Rattle.specify_model.specs.Faults.{operand_faults}
 use Rattle.specify_model.specs.Paths.{circuit_condition}
-use Rattle.specify_model.specs.Terms.{NetBit, net_bit, term_bits}
+use Rattle.elab_model.specs.Terms.{NetBit, net_bit, term_bits}
 use Rattle.elab_laws.specs.Handing.{all_bits}
 use Rattle.elab_laws.proofs.NoFaults.{front, back}
 use Rattle.elab_laws.proofs.Places.{position-below}

@@ -17,7 +17,7 @@ use Rattle.elab_model.specs.Names.{Variable}
 use Rattle.elab_model.specs.Nets.{OwnNet}
 use Rattle.circuit_model.specs.Faults.{over}
 use Rattle.circuit_model.specs.PathUses as def
-use Rattle.specify_model.specs.Terms.{NetBit}
+use Rattle.elab_model.specs.Terms.{NetBit}
 use Rattle.elab_laws.specs.Handing.{all_bits}
 use Rattle.elab_elements.specs.Adding.{IsHere}
 use Rattle.elab_elements.specs.Puts.{wired}

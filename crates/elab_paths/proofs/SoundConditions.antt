@@ -24,7 +24,7 @@ use Rattle.specify_model.specs.Faults.{parameter_faults, pulse_faults, end_fault
 use Rattle.specify_model.specs.Outputs.{PathOutput, first_paths, paths_to, output_of, measure, path_outputs}
 use Rattle.specify_model.specs.Paths.{PathTo, path_between, paths_of, module_paths}
 use Rattle.specify_model.specs.PulseLimits.{Limits, limits_of}
-use Rattle.specify_model.specs.Terms.{NetBit, is_same_bit, path_pairs}
+use Rattle.elab_model.specs.Terms.{NetBit, is_same_bit, path_pairs}
 use Rattle.specify_model.specs.Values.{Measure, Values, value_of}
 use Rattle.elab_laws.specs.Handing.{all_bits}
 use Rattle.elab_laws.proofs.Lists.{all-anyway, all-flat_in, all-map, all-map_back, all-weaker}

@@ -15,7 +15,7 @@ use Rattle.elab_model.specs.Names.{Variable}
 use Rattle.specify_model.specs.Conditions.{operand}
 use Rattle.specify_model.specs.Faults.{operand_faults}
 use Rattle.specify_model.specs.Paths.{circuit_path}
-use Rattle.specify_model.specs.Terms.{NetBit}
+use Rattle.elab_model.specs.Terms.{NetBit}
 use Rattle.circuit_model.specs.Faults.{over}
 use Rattle.circuit_model.specs.PathUses as def
 use Rattle.elab_laws.specs.Handing.{all_bits}

@@ -10,7 +10,7 @@ ghost use Rattle.elab_model.specs.Hierarchy.{Instance};
 ghost use Rattle.elab_model.specs.Nets.{OwnNet, nets};
 ghost use Rattle.circuit_model.specs.Faults.{over, path_count};
 ghost use Rattle.circuit_model.specs.PathUses as def;
-ghost use Rattle.specify_model.specs.Terms.{NetBit};
+ghost use Rattle.elab_model.specs.Terms.{NetBit};
 ghost use Rattle.elab_laws.specs.Handing.{all_bits};
 ghost use Rattle.elab_hierarchy.specs.declared.instances.Placed as ghost_placed;
 ghost use Rattle.elab_nets.specs.Rows.{part_of};

@@ -2,7 +2,7 @@
 ghost use Rattle.std.specs.Prelude.{◌≡◌, ◌<◌, ◌≤◌, ◌+◌, ◌^◌, ℕ, All, [], ◌∷◌, IfOk, OnOk, IfErr, length};
 ghost use Rattle.sg_circuit.specs.PathsSeen.{condition_seen, IsIndexedCondition};
 ghost use Rattle.specify_model.specs.Paths.{circuit_condition};
-ghost use Rattle.specify_model.specs.Terms.{NetBit};
+ghost use Rattle.elab_model.specs.Terms.{NetBit};
 ghost use Rattle.elab_laws.specs.Handing.{all_bits};
 ghost use Rattle.elab_bits.specs.Seen.{bit_at};
 ghost use Rattle.elab_numbering.specs.Refusals.{RefusesCount};

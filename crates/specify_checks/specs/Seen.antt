@@ -8,7 +8,7 @@ use Rattle.elab_laws.specs.Handing.{all_bits}
 use Rattle.elab_model.specs.Names.{Variable}
 use Rattle.specify_model.specs.Checks.{ModuleEvent, ModuleCheck}
 use Rattle.specify_model.specs.Conditions.{over, operand_bit}
-use Rattle.specify_model.specs.Terms.{NetBit}
+use Rattle.elab_model.specs.Terms.{NetBit}
 use Rattle.specify_paths.specs.Seen.{bit_seen, IsRead}
 use Rattle.specify_values.specs.Seen.{is_too_long}
 use Rattle.specify_checks.specs.declared.checks.ModuleCheck as code_check

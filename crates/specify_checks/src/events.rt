@@ -7,7 +7,7 @@ ghost use Rattle.specify_model.specs.CheckFaults as faults;
 ghost use Rattle.specify_model.specs.Checks as def;
 ghost use Rattle.specify_model.specs.Conditions.{first_bit, tokens};
 ghost use Rattle.specify_model.specs.Faults.{operand_faults};
-ghost use Rattle.specify_model.specs.Terms.{term_bits};
+ghost use Rattle.elab_model.specs.Terms.{term_bits};
 ghost use Rattle.specify_paths.specs.Seen.{bit_seen, IsRead};
 ghost use Rattle.specify_values.specs.Telling.{Tells};
 ghost use Rattle.specify_checks.specs.Seen.{enabling_seen, event_seen, IsSpelledEvent};

@@ -19,7 +19,7 @@ use Rattle.specify_model.specs.Conditions.{Always, If, condition_of}
 use Rattle.specify_model.specs.Faults.{faults_by}
 use Rattle.specify_model.specs.Outputs.{outputs_by}
 use Rattle.specify_model.specs.PulseLimits.{limits_of}
-use Rattle.specify_model.specs.Terms.{NetBit, pairs}
+use Rattle.elab_model.specs.Terms.{NetBit, pairs}
 use Rattle.specify_model.proofs.Writing.{here, name, whole_number, for_corner, scalar, vector, bit, term, word, number, delay, delay_named, parameters_item, path_with, from_to}
 
 abbrev after : List ℕ → Option (ℕ × ℕ) → List Timing

@@ -10,7 +10,7 @@ use Rattle.sg_text.specs.declared.places.Place.{Place}
 use Rattle.sg_time.specs.Spelling.{Number}
 use Rattle.vl_tree.specs.Tree.{Named, MinTypMax, one_number, Term, Word, Amounts, one_amount, a_number, a_parameter, Specparam, EdgeWord, PathCondition, always, SpecifyPath, SpecifyItem, specparams, a_path}
 use Rattle.elab_model.specs.Names.{Variable}
-use Rattle.specify_model.specs.Terms.{NetBit}
+use Rattle.elab_model.specs.Terms.{NetBit}
 use Rattle.specify_model.specs.Values.{Measure}
 
 abbrev pub here : ℕ → Place

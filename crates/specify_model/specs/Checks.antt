@@ -21,7 +21,7 @@ use Rattle.specify_model.specs.Blocks.{specify_items, parameters}
 use Rattle.specify_model.specs.Conditions.{tokens, tree_of, bound_to, first_bit}
 use Rattle.specify_model.specs.Outputs.{measure}
 use Rattle.specify_model.specs.Paths.{edge_of}
-use Rattle.specify_model.specs.Terms.{NetBit, term_bits}
+use Rattle.elab_model.specs.Terms.{NetBit, term_bits}
 use Rattle.specify_model.specs.Values.{Measure, Values, value_of, amount_ticks}
 
 abbrev pub check_of_item : SpecifyItem → Option Check

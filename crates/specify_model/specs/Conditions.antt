@@ -12,7 +12,7 @@ use Rattle.sg_text.specs.declared.places.Place.{Place}
 use Rattle.vl_tree.specs.declared.expressions.Select.TheVariants as select
 use Rattle.vl_tree.specs.Tree.{Term, Word, PathCondition, always, if_none, if_words}
 use Rattle.elab_model.specs.Names.{Variable}
-use Rattle.specify_model.specs.Terms.{NetBit, term_bits}
+use Rattle.elab_model.specs.Terms.{NetBit, term_bits}
 
 abbrev pub tokens : List Word → List Tok
 tokens ws = map (λ w. w.token) ws

@@ -18,7 +18,7 @@ use Rattle.specify_model.specs.Blocks.{blocks, specify_items, Parameter, paramet
 use Rattle.specify_model.specs.Conditions.{tokens, tree_of, operands}
 use Rattle.specify_model.specs.Outputs.{measure}
 use Rattle.specify_model.specs.PulseLimits.{ends_text, named_ends, limit_ticks}
-use Rattle.specify_model.specs.Terms.{expression_of, terms_bits}
+use Rattle.elab_model.specs.Terms.{expression_of, terms_bits}
 use Rattle.specify_model.specs.Values.{Measure, Values, value_of, corner_amount, amount_ticks, expanded}
 
 -- ---- a block in a module that has an instance of a module

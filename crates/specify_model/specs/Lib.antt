@@ -1,7 +1,6 @@
 -- The modules of this folder, in reading order.
 pub mod Blocks
 pub mod Values
-pub mod Terms
 pub mod PulseLimits
 pub mod Conditions
 pub mod Paths

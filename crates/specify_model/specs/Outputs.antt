@@ -11,7 +11,7 @@ use Rattle.vl_tree.specs.Tree.{SpecifyItem, Module}
 use Rattle.elab_model.specs.Names.{Variable, variables}
 use Rattle.specify_model.specs.Blocks.{specify_items, StyleText, style_texts}
 use Rattle.specify_model.specs.Paths.{ModulePath, PathTo, module_paths}
-use Rattle.specify_model.specs.Terms.{NetBit, is_same_bit, terms_bits}
+use Rattle.elab_model.specs.Terms.{NetBit, is_same_bit, terms_bits}
 use Rattle.specify_model.specs.Values.{Measure}
 
 -- the style that an item chooses (14.6.4); noshowcancelled is the default, and chooses none

@@ -14,7 +14,7 @@ use Rattle.elab_model.specs.Names.{Variable}
 use Rattle.specify_model.specs.Blocks.{parameters, pulses, specify_paths}
 use Rattle.specify_model.specs.Conditions.{ModuleCondition, Always, If, IfNone, condition_of, over}
 use Rattle.specify_model.specs.PulseLimits.{Limits, limits_of}
-use Rattle.specify_model.specs.Terms.{NetBit, path_pairs}
+use Rattle.elab_model.specs.Terms.{NetBit, path_pairs}
 use Rattle.specify_model.specs.Values.{Measure, Values, value_of, twelve_delays}
 
 -- the changes that an edge is (15.4)

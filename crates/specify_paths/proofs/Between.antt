@@ -14,7 +14,7 @@ use Rattle.vl_tree.specs.declared.paths.SpecifyPath as code_path
 use Rattle.vl_tree.specs.Tree.{SpecifyPath}
 use Rattle.specify_model.specs.Paths.{PathTo as Seen, paths_of, timings_with}
 use Rattle.specify_model.specs.PulseLimits.{Limits}
-use Rattle.specify_model.specs.Terms.{NetBit, pairs, terms_bits}
+use Rattle.elab_model.specs.Terms.{NetBit, pairs, terms_bits}
 use Rattle.specify_model.specs.Values.{Measure, Values}
 use Rattle.specify_values.specs.Seen.{view_paths, widths_seen}
 use Rattle.specify_paths.specs.Seen.{Said, bit_seen, path_to_seen, path_said, said_at, said_by, said_of}

@@ -12,7 +12,7 @@ use Rattle.sg_delay.specs.declared.limits.PulseStyle.{PulseStyle}
 use Rattle.sg_delay.specs.declared.limits.PulseStyle.TheVariants.{OnEvent}
 use Rattle.specify_model.specs.Blocks.{StyleText}
 use Rattle.specify_model.specs.Outputs.{names_bit, style_of, chosen_style}
-use Rattle.specify_model.specs.Terms.{NetBit, is_same_bit, terms_bits}
+use Rattle.elab_model.specs.Terms.{NetBit, is_same_bit, terms_bits}
 use Rattle.specify_values.specs.Seen.{view_style}
 use Rattle.specify_values.specs.declared.items.StyleText as code
 use Rattle.specify_paths.specs.Seen.{AreApart, AreInRow, bit_seen, bits_seen}

@@ -12,7 +12,7 @@ use Rattle.vl_tree.specs.Tree.{SpecifyPath}
 use Rattle.specify_model.specs.Faults.{path_faults}
 use Rattle.specify_model.specs.Paths.{paths_of}
 use Rattle.specify_model.specs.PulseLimits.{Limits}
-use Rattle.specify_model.specs.Terms.{pairs}
+use Rattle.elab_model.specs.Terms.{pairs}
 use Rattle.specify_model.specs.Values.{Measure, Values}
 use Rattle.specify_values.proofs.InTurn.{left_from, next-faultless, this-refused}
 use Rattle.specify_paths.specs.Seen.{AreEnds, ArePathsInRow, bits_seen, path_to_seen, path_said, said_at, said_by, said_of}

@@ -19,7 +19,7 @@ use Rattle.elab_model.specs.Homes.{is_input, is_output}
 use Rattle.elab_model.specs.Names.{Variable}
 use Rattle.elab_declared.proofs.Refusals.{refused-left, refused-right}
 use Rattle.specify_model.specs.Faults.{term_faults, port_faults, are_sound, is_parallel, sides_differ, end_faults, side_faults}
-use Rattle.specify_model.specs.Terms.{terms_bits}
+use Rattle.elab_model.specs.Terms.{terms_bits}
 use Rattle.specify_values.proofs.InTurn.{fault-told}
 use Rattle.specify_paths.specs.Seen.{bit_seen, bits_seen}
 use Rattle.specify_paths.proofs.InOrder.{none-left, none-right}

@@ -16,7 +16,7 @@ use Rattle.elab_model.specs.Bits.{bits}
 use Rattle.elab_model.specs.declared.kinds.ElabKind.{ElabKind}
 use Rattle.elab_model.specs.Faults.{Fault, RefusesOneOf}
 use Rattle.elab_model.specs.Names.{Variable}
-use Rattle.specify_model.specs.Terms.{NetBit, net_bit, expression_of, term_bits}
+use Rattle.elab_model.specs.Terms.{NetBit, net_bit, expression_of, term_bits}
 use Rattle.specify_values.specs.Telling.{Tells}
 use Rattle.specify_paths.specs.Seen.{AreInRow, bit_seen, bits_seen}
 

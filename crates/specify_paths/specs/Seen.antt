@@ -13,7 +13,7 @@ use Rattle.specify_model.specs.Conditions.{ModuleCondition, Always, If, IfNone, 
 use Rattle.specify_model.specs.Outputs.{PathOutput}
 use Rattle.specify_model.specs.Paths.{ModulePath, PathTo, edge_of, timings_with}
 use Rattle.specify_model.specs.PulseLimits.{Limits}
-use Rattle.specify_model.specs.Terms.{NetBit, is_same_bit, terms_bits}
+use Rattle.elab_model.specs.Terms.{NetBit, is_same_bit, terms_bits}
 use Rattle.specify_model.specs.Values.{Measure, Values, twelve_delays}
 use Rattle.specify_values.specs.Seen.{widths_seen}
 use Rattle.specify_paths.specs.declared.ends.Ends.{Ends}

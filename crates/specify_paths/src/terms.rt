@@ -4,7 +4,7 @@ ghost use Rattle.vl_tree.specs.Seen.{view_expression, view_term};
 ghost use Rattle.elab_bits.specs.Seen.{IsInRow, view_bit};
 ghost use Rattle.elab_model.specs.Names.{Variable};
 ghost use Rattle.specify_model.specs.Faults as faults;
-ghost use Rattle.specify_model.specs.Terms as def;
+ghost use Rattle.elab_model.specs.Terms as def;
 ghost use Rattle.specify_values.specs.Telling.{Tells};
 ghost use Rattle.specify_paths.specs.Seen.{bits_seen, AreInRow};
 ghost use Rattle.specify_paths.specs.Words.{such_port};

@@ -2,7 +2,7 @@
 use Rattle.std.specs.Prelude.{◌<◌, Option, Some, None, IfSome, length, ℕ, List}
 use Rattle.elab_model.specs.Names.{Variable}
 use Rattle.elab_laws.specs.Handing.{all_bits}
-use Rattle.specify_model.specs.Terms.{NetBit}
+use Rattle.elab_model.specs.Terms.{NetBit}
 use Rattle.elab_paths.specs.Uses.{IsRow}
 use Rattle.elab_checks.specs.Ready.{IsReadyEvent}
 use Rattle.elab_checks.specs.declared.shelving.ReadyEvent.{ReadyEvent}

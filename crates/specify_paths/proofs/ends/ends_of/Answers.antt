@@ -6,7 +6,7 @@ use Rattle.vl_tree.specs.Seen.{view_path, view_term}
 use Rattle.elab_model.specs.Faults.{RefusesOneOf}
 use Rattle.elab_model.specs.Homes.{is_input, is_output}
 use Rattle.specify_model.specs.Faults.{end_faults, port_faults, side_faults}
-use Rattle.specify_model.specs.Terms.{terms_bits}
+use Rattle.elab_model.specs.Terms.{terms_bits}
 use Rattle.specify_values.proofs.InTurn.{exit}
 use Rattle.specify_paths.proofs.Sides.{input-told, output-told, parallel-differ, sides-told}
 use Rattle.specify_paths.proofs.ends.ends_of.Goals as goal

@@ -3,7 +3,7 @@ use Rattle.std.proofs.Common.{◌≡◌, ◌++◌, List, All, map, drop}
 use Rattle.std.specs.Prelude.{filter_map}
 use Rattle.elab_bits.specs.Seen.{IsInRow, view_bit}
 use Rattle.elab_model.specs.Names.{Variable}
-use Rattle.specify_model.specs.Terms.{net_bit}
+use Rattle.elab_model.specs.Terms.{net_bit}
 use Rattle.specify_paths.specs.Seen.{bits_seen, AreInRow}
 use Rattle.specify_paths.proofs.terms.add_places.Given as goal
 

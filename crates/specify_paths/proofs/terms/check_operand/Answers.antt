@@ -4,7 +4,7 @@ use Rattle.vl_tree.specs.Seen.{view_term}
 use Rattle.elab_model.specs.TerminalFaults.{width_faults}
 use Rattle.elab_declared.proofs.Refusals.{refused-left}
 use Rattle.specify_model.specs.Faults.{operand_faults, term_faults}
-use Rattle.specify_model.specs.Terms.{expression_of}
+use Rattle.elab_model.specs.Terms.{expression_of}
 use Rattle.specify_values.proofs.InTurn.{exit}
 use Rattle.specify_paths.proofs.terms.check_operand.Goals as goal
 

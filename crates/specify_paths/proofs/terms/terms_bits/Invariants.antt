@@ -1,7 +1,7 @@
 -- What is there, followed by what is left, is the whole.
 use Rattle.std.proofs.Common.{◌≡◌, ◌++◌, map, drop}
 use Rattle.vl_tree.specs.Seen.{view_term}
-use Rattle.specify_model.specs.Terms.{terms_bits}
+use Rattle.elab_model.specs.Terms.{terms_bits}
 use Rattle.specify_paths.specs.Seen.{bits_seen, AreInRow}
 use Rattle.specify_paths.proofs.terms.terms_bits.Given as goal
 
