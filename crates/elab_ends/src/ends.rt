@@ -4,7 +4,7 @@ ghost use Rattle.vl_tree.specs.Seen.{view_path};
 ghost use Rattle.vl_tree.specs.Tree.{Module};
 ghost use Rattle.elab_model.specs.Ends as def;
 ghost use Rattle.elab_model.specs.Homes as homes;
-ghost use Rattle.elab_model.specs.Members.{members};
+ghost use Rattle.elab_model.specs.Members as model;
 ghost use Rattle.elab_model.specs.Names.{variables};
 ghost use Rattle.elab_model.specs.Terms.{NetBit};
 ghost use Rattle.elab_laws.specs.Handing.{all_bits};
@@ -12,6 +12,7 @@ ghost use Rattle.elab_variables.specs.Seen.{view_member};
 ghost use Rattle.elab_bits.specs.Seen.{bit_at};
 ghost use Rattle.elab_ends.specs.Ends.{AreEnds};
 ghost use Rattle.elab_ends.specs.Seen.{bits_seen, AreInRow};
+ghost use Rattle.elab_ends.specs.Words as words;
 ghost use Rattle.elab_ends.specs.Words.{HasSeen, HasAdded, LeadsTo, is_of_output};
 
 use crate::terms::terms_bits;
@@ -39,6 +40,16 @@ fn is_of_output(table: &Table, place: usize) -> bool
     table.row(variable).port == Port::Output
 }
 
+fn lead_count(arrow: Arrow, inputs: &[usize], outputs: &[usize]) -> usize
+    ensures { result ≡ words.lead_count arrow inputs.now outputs.now }
+{
+    match (arrow, inputs) {
+        (Arrow::Parallel, _) => inputs.len(),
+        (Arrow::Full, []) => 0,
+        (Arrow::Full, [..]) => outputs.len(),
+    }
+}
+
 // The bits to which a path leads, as places in the row, in order of the first lead.
 fn destinations(alloc: Global, table: &Table, path: &SpecifyPath) -> Result<Vec<usize>, NoMemory>
     ensures row { IfOk result (λ places. AreInRow table.now places.items) }
@@ -46,9 +57,7 @@ fn destinations(alloc: Global, table: &Table, path: &SpecifyPath) -> Result<Vec<
 {
     let inputs = terms_bits(alloc, table, &path.sources)?;
     let mut outputs = terms_bits(alloc, table, &path.destination.terms)?;
-    if path.arrow == Arrow::Parallel || inputs.is_empty() {
-        outputs.truncate(inputs.len());
-    }
+    outputs.truncate(lead_count(path.arrow, &inputs, &outputs));
     Ok(outputs)
 }
 
@@ -98,7 +107,7 @@ fn add_ends(
 
 /// The ends of a module's paths, of its table and its members. Takes memory and work in proportion to the bits.
 pub fn path_ends(alloc: Global, table: &Table, members: &[Member]) -> Result<PathEnds, NoMemory>
-    ensures { IfOk result (λ ends. (m : Module) → table.now ≡ variables m → map view_member members.now ≡ members m → AreEnds m ends) }
+    ensures { IfOk result (λ ends. (m : Module) → table.now ≡ variables m → map view_member members.now ≡ model.members m → AreEnds m ends) }
 {
     let mut seen = vec![in alloc; false; table.bits()]?;
     let mut bits = Vec::new(alloc);
