@@ -16,6 +16,7 @@ pub mod NoFaults
 pub mod GivenBits
 pub mod Terminals
 pub mod Outside
+pub mod Inners
 pub mod LegSources
 pub mod Stated
 pub mod HaveNets
