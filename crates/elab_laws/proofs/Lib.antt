@@ -14,9 +14,11 @@ pub mod Once
 pub mod NoFaults
 pub mod GivenBits
 pub mod Terminals
+pub mod EndBits
 pub mod Outside
 pub mod LegSources
 pub mod Stated
+pub mod DrivenNets
 pub mod HaveNets
 pub mod Parents
 pub mod Legs
@@ -28,6 +30,7 @@ pub mod PortConstants
 pub mod Connected
 pub mod Members
 pub mod Drives
+pub mod DrivenNumbers
 pub mod InOrder
 pub mod TerminalNumbers
 pub mod Precisions
