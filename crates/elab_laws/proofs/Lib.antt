@@ -1,5 +1,6 @@
 -- The modules of this folder.
 pub mod Lists
+pub mod Ends
 pub mod Numbers
 pub mod Widths
 pub mod Places
