@@ -30,12 +30,13 @@ zip-ends P [] ys h = tt
 zip-ends P (x ∷ xs) [] h = tt
 zip-ends P (x ∷ xs) (y ∷ ys) h = (h.0, zip-ends P xs ys h.1)
 
-all-pairs : {A B : Type 0} (P : B → Type 0) (xs : List A) (ys : List B) → AllByRecursion P ys → AllByRecursion (λ e. P e.1) (flat_map (λ i. map (λ o. (i, o)) ys) xs)
-all-pairs P xs ys h = all-flat (λ e. P e.1) (λ i. map (λ o. (i, o)) ys) xs (λ i. all-map (λ e. P e.1) (λ o. (i, o)) ys h)
+abbrev Ends : (NetBit → Type 0) → NetBit × NetBit → Type 0
+Ends P e = P e.1
 
 pairs-end : (P : NetBit → Type 0) (a : Arrow) (xs ys : List NetBit) → AllByRecursion P ys → AllByRecursion P (map (λ e. e.1) (pairs a xs ys))
 pairs-end P Parallel xs ys h = zip-ends P xs ys h
-pairs-end P Full xs ys h = all-map P (λ e. e.1) (flat_map (λ i. map (λ o. (i, o)) ys) xs) (all-pairs P xs ys h)
+pairs-end P Full xs ys h =
+    all-map P (λ e. e.1) (flat_map (λ i. map (λ o. (i, o)) ys) xs) (all-flat (Ends P) (λ i. map (λ o. (i, o)) ys) xs (λ i. all-map (Ends P) (λ o. (i, o)) ys h))
 
 all-filter : {A : Type 0} (P : A → Type 0) (f : A → Bool) (xs : List A) → AllByRecursion P xs → AllByRecursion P (filter f xs)
 all-filter P f [] h = tt

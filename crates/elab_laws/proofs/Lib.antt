@@ -19,8 +19,8 @@ pub mod EndBits
 pub mod Outside
 pub mod LegSources
 pub mod Stated
-pub mod DrivenNets
 pub mod HaveNets
+pub mod DrivenNets
 pub mod Parents
 pub mod Legs
 pub mod Passes
