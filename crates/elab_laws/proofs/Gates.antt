@@ -1,7 +1,7 @@
 -- What gates and primitives read and drive has nets, and so have the constants at their inputs.
-use Rattle.std.specs.Prelude.{◌≡◌, ℕ, zero, suc, ◌-◌, ◌≤◌, List, [], ◌∷◌, false, not, length, flat_map, map, take, drop, refl}
+use Rattle.std.specs.Prelude.{◌≡◌, ℕ, suc, ◌-◌, ◌≤◌, List, [], ◌∷◌, false, not, length, flat_map, map, take, drop, refl}
 use Rattle.std.specs.List.{AllByRecursion, enumerate_from}
-use Rattle.std.proofs.Common.{arith}
+use Rattle.std.proofs.Common.{◌∙◌, ap, arith}
 use Rattle.std.proofs.lemmas.Bool.{not-false}
 use Rattle.sg_circuit.specs.Circuit.{Kind}
 use Rattle.sg_logic.specs.declared.gates.GateKind.{GateKind}
@@ -84,7 +84,8 @@ constants-owned source top s k x outputs (e ∷ es) there t i at v h =
     let one : length (bits vs e) ≡ 1 =
     width-is vs 1 e (front (expression_faults vs e) (flat_map (expression_faults vs) es) t.sound) (front (width_faults vs 1 e) (flat_map (width_faults vs 1) es) (front widths driven t.faultless)) in
     let f = first-is_net vs outputs e es one (back widths driven t.faultless) in
-    terminal-there source top s k x (output_bits s (suc outputs) (e ∷ es)) (input_bits s (suc outputs) (e ∷ es)) f.name f.position f.rest i at v there t.there t.nets_are f.first h
+    let inputs = input_bits s (suc outputs) (e ∷ es) in
+    terminal-there source top s k x f.name f.position f.rest inputs i at v there t.there (t.nets_are ∙ ap (λ os. terminal_nets s k os inputs) f.first) h
 
 -- the elements of such a member
 pub terminals-have : (source : Source) (top : Module) (s : Instance) (at : Place) (k : ℕ) (x : Member) (kind : Kind) (outputs : ℕ) (es : List Expression) → In s (instances source top)
