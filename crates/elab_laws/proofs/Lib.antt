@@ -17,6 +17,7 @@ pub mod GivenBits
 pub mod Terminals
 pub mod EndBits
 pub mod Outside
+pub mod Inners
 pub mod LegSources
 pub mod Stated
 pub mod HaveNets
