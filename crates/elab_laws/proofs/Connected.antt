@@ -88,12 +88,14 @@ is-connected source top corner sound s c there child =
     let tick = tick_of source top in
     let own = all-in (λ s. module_faults source corner tick s.step.definition ≡ []) s (instances source top) sound there in
     let once = all-in (ConnectedOnce source) s (instances source top) (connected-once_all source top corner sound) there in
-    let below = all-in (λ s. module_faults source corner tick s.step.definition ≡ []) c (instances source top) sound (child-there source levels_below_top (top_instance top) s c refl there child) in
+    let among = child-there source levels_below_top (top_instance top) s c refl there child in
+    let below = all-in (λ s. module_faults source corner tick s.step.definition ≡ []) c (instances source top) sound among in
+    let directed = directions c.step.definition (front (declaration_faults c.step.definition) _ below) in
     let fit = children-fit source corner tick s (members-sound source corner tick s.step.definition own) in
     record {
       there = there;
       child = child;
       above = all-in (λ c. c.above ≡ s.step ∷ s.above) c (children source s) (children-above source s.step.levels s) child;
       once = all-in (λ c. AreOnce c.step) c (children source s) once child;
-      fit = all-in (λ c. Fits (variables s.step.definition) c.step.definition c.step.connections) c (children source s) fit child (directions c.step.definition (front (declaration_faults c.step.definition) _ below));
+      fit = all-in (λ c. Fits (variables s.step.definition) c.step.definition c.step.connections) c (children source s) fit child directed;
     }

@@ -3,9 +3,9 @@ use Rattle.std.specs.Prelude.{◌≡◌, ◌==◌, ℕ, List, [], ◌∷◌, Boo
 use Rattle.std.specs.List.{AllByRecursion}
 use Rattle.std.specs.Option.{option_map}
 use Rattle.std.proofs.Common.{sym, ◌∙◌, ap}
-use Rattle.vl_tree.specs.Tree.{Module, Source}
+use Rattle.vl_tree.specs.Tree.{Source}
 use Rattle.elab_model.specs.Ends.{all_ends, path_ends, end_at, inner_spot, inner_or}
-use Rattle.elab_model.specs.Hierarchy.{Instance, instances}
+use Rattle.elab_model.specs.Hierarchy.{Instance}
 use Rattle.elab_model.specs.Homes.{Spot, is_same_spot, home_of}
 use Rattle.elab_model.specs.Names.{variables}
 use Rattle.elab_model.specs.Nets.{OwnNet, number_of, nets}
@@ -37,7 +37,8 @@ find-numbers {A} f number inner n (x ∷ xs) h = by (f x) h.0 (find-numbers f nu
 abbrev home_at : Source → Instance → NetBit → Spot
 home_at source s b = home_of source s b.name b.position
 
-driven-by_number : (all : List OwnNet) (source : Source) (s : Instance) (spot : Spot) → AllByRecursion (λ b. is_same_spot (home_at source s b) spot ≡ (number_of all (home_at source s b) == number_of all spot)) (path_ends s.step.definition)
+driven-by_number : (all : List OwnNet) (source : Source) (s : Instance) (spot : Spot)
+    → AllByRecursion (λ b. is_same_spot (home_at source s b) spot ≡ (number_of all (home_at source s b) == number_of all spot)) (path_ends s.step.definition)
     → number_of all (inner_or s spot (end_at source s spot)) ≡ driven_number (end_numbers all source s) (number_of all spot)
 driven-by_number all source s spot same =
     let f : NetBit → Bool = λ b. is_same_spot (home_at source s b) spot in

@@ -1,16 +1,16 @@
 -- The bits to which specify paths lead are bits of variables of their module.
-use Rattle.std.specs.Prelude.{◌≡◌, List, [], ◌∷◌, Bool, true, false, Option, Some, None, filter, filter_map, flat_map, map, zip, if◌then◌else◌}
-use Rattle.std.specs.List.{AllByRecursion, cons_option}
+use Rattle.std.specs.Prelude.{List, [], ◌∷◌, Bool, true, false, filter, filter_map, flat_map, map, zip, if◌then◌else◌}
+use Rattle.std.specs.List.{AllByRecursion}
 use Rattle.vl_tree.specs.declared.paths.Arrow.{Arrow}
 use Rattle.vl_tree.specs.declared.paths.Arrow.TheVariants.{Parallel, Full}
-use Rattle.vl_tree.specs.Tree.{SpecifyPath, Term, Module}
+use Rattle.vl_tree.specs.Tree.{Term, Module}
 use Rattle.elab_model.specs.Bits.{Bit, net, constant, bits}
 use Rattle.elab_model.specs.Ends.{ends, all_ends}
 use Rattle.elab_model.specs.Homes.{is_output}
 use Rattle.elab_model.specs.Members.{Member, assignment, supply, gate, instance, path, members}
 use Rattle.elab_model.specs.Names.{Variable, variable, variables}
 use Rattle.elab_model.specs.Terms.{NetBit, net_bit, expression_of, term_bits, terms_bits, pairs, path_pairs}
-use Rattle.elab_laws.proofs.Lists.{all-append, all-flat, all-map, all-anyway, all-weaker}
+use Rattle.elab_laws.proofs.Lists.{all-flat, all-map}
 use Rattle.elab_laws.proofs.Places.{HasBit, IsBitOf, bits-below}
 
 -- a variable has the bit

@@ -1,7 +1,7 @@
 -- What the elements of each member read and drive has nets, and so all elements.
 use Rattle.std.specs.Prelude.{◌≡◌, ℕ, suc, [], ◌++◌, Option, Some, None, length, flat_map, refl, not, ℤ}
 use Rattle.std.specs.List.{enumerate_from}
-use Rattle.std.proofs.Common.{sym, ◌∙◌, ap, subst}
+use Rattle.std.proofs.Common.{sym, ap, subst}
 use Rattle.sg_circuit.specs.Circuit.{Gate, Udp}
 use Rattle.sg_delay.specs.declared.corners.Corner.{Corner}
 use Rattle.sg_logic.specs.Gate.{most_delays}

@@ -18,13 +18,14 @@ use Rattle.elab_laws.proofs.DrivenNets.{driven-there}
 use Rattle.elab_laws.specs.ElementLaws.{HasNets}
 use Rattle.elab_laws.proofs.HaveNets.{HaveNets}
 
-pass-has : (source : Source) (top : Module) (s : Instance) (at : Place) (b c : Bit) → In s (instances source top) → HasNet source top s b → HasNet source top s c → HaveNets source top (pass_to source s at (b, c))
+pass-has : (source : Source) (top : Module) (s : Instance) (at : Place) (b c : Bit) → In s (instances source top) → HasNet source top s b → HasNet source top s c
+    → HaveNets source top (pass_to source s at (b, c))
 pass-has source top s at (net n p) (net m q) there h k = (record { output = driven-there source top s n p there h; inputs = (k, tt) }, tt)
 pass-has source top s at (net n p) (constant from v) there h k = (record { output = driven-there source top s n p there h; inputs = tt }, tt)
 pass-has source top s at (constant from v) c there h k = tt
 
-passes-have : (source : Source) (top : Module) (s : Instance) (at : Place) (left right : List Bit) → In s (instances source top) → AllByRecursion (HasNet source top s) left → AllByRecursion (HasNet source top s) right
-    → HaveNets source top (passes source s at left right)
+passes-have : (source : Source) (top : Module) (s : Instance) (at : Place) (left right : List Bit) → In s (instances source top) → AllByRecursion (HasNet source top s) left
+    → AllByRecursion (HasNet source top s) right → HaveNets source top (passes source s at left right)
 passes-have source top s at [] right there h k = tt
 passes-have source top s at (b ∷ left) [] there h k = tt
 passes-have source top s at (b ∷ left) (c ∷ right) there h k =
