@@ -3,7 +3,7 @@ use Rattle.std.specs.Prelude.{◌≡◌, ℕ, ◌<◌, ◌==◌, All, List, [], 
 use Rattle.std.specs.Option.{option_map}
 use Rattle.cond_expr.specs.Condition.{Condition}
 use Rattle.cond_expr.specs.Token.{Tok}
-use Rattle.elab_bits.specs.Seen.{bit_at}
+use Rattle.elab_ends.specs.Seen.{bit_seen, bits_seen, AreInRow}
 use Rattle.elab_laws.specs.Handing.{all_bits}
 use Rattle.elab_model.specs.Names.{Variable}
 use Rattle.sg_logic.specs.declared.edges.Edge.{Edge}
@@ -25,17 +25,7 @@ use Rattle.specify_paths.specs.declared.statements.ModuleCondition as code_condi
 use Rattle.specify_paths.specs.declared.statements.ModuleCondition.TheVariants as code
 use Rattle.specify_paths.specs.declared.statements.Statement as code_statement
 
--- ---- bits
-
--- the bit at a place of the row of bits
-abbrev pub bit_seen : List Variable → ℕ → NetBit
-bit_seen vs i = record { name = (bit_at vs i).0.name; position = (bit_at vs i).1 }
-
-abbrev pub bits_seen : List Variable → List ℕ → List NetBit
-bits_seen vs is = map (bit_seen vs) is
-
-abbrev pub AreInRow : List Variable → List ℕ → Type 0
-AreInRow vs is = All (λ i. i < length (all_bits vs)) is
+-- ---- the sides of a path
 
 pub record AreEnds (vs : List Variable) (p : SpecifyPath) (e : Ends) : Type 0 where
   pub inputs_are : bits_seen vs e.inputs.items ≡ terms_bits vs p.sources
