@@ -113,7 +113,8 @@ one-longer now mid p e = ap length e ∙ length-append now (p ∷ [])
 
 -- the same, where the code has put the child at the end of the chain and of the list
 pub code-at-child : (source : Source) (all : List (Vec code_child.Child)) (n definition number : ℕ) (chain chain_now pushed : List ℕ) (c : ℕ) (s : Instance) (x : code_child.Child) (child : Child)
-    (own : ℕ) (now mid : List Placed) (p : Placed) → IsAt source all n definition number chain c s → IsChild source x child → list_any (λ k. k == x.definition) chain ≡ false → own ≡ length now → chain_now ≡ chain
+    (own : ℕ) (now mid : List Placed) (p : Placed) → IsAt source all n definition number chain c s → IsChild source x child → list_any (λ k. k == x.definition) chain ≡ false
+    → own ≡ length now → chain_now ≡ chain
     → pushed ≡ chain_now ++ x.definition ∷ [] → mid ≡ now ++ p ∷ [] → IsAt source all (n - 1) x.definition own pushed (length mid) (child_instance (n - 1) s child own)
 code-at-child source all n definition number chain chain_now pushed c s x child own now mid p h same other e f g k =
     let l = one-longer now mid p k in
