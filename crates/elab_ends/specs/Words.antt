@@ -11,16 +11,13 @@ use Rattle.elab_model.specs.Names.{Variable, variable, variables}
 use Rattle.elab_model.specs.Terms.{NetBit, is_same_bit, path_pairs}
 use Rattle.elab_ends.specs.Seen.{bit_seen, bits_seen}
 
-abbrev pub is_among : List NetBit → NetBit → Bool
-is_among bs b = list_any (is_same_bit b) bs
-
 -- the marks of the row tell the bits that were seen
 abbrev pub HasSeen : Module → List Bool → List NetBit → Type 0
-HasSeen m seen before = (i : ℕ) → i < length (all_bits (variables m)) → slice_get seen i ≡ Some (is_among before (bit_seen (variables m) i))
+HasSeen m seen before = (i : ℕ) → i < length (all_bits (variables m)) → slice_get seen i ≡ Some (list_any (is_same_bit (bit_seen (variables m) i)) before)
 
 -- lists that have the same bits, each first in the same order
 pub record AreAlike (xs ys : List NetBit) : Type 0 where
-  pub same : (b : NetBit) → is_among xs b ≡ is_among ys b
+  pub same : (b : NetBit) → list_any (is_same_bit b) xs ≡ list_any (is_same_bit b) ys
   pub firsts : (seen : List NetBit) → first_bits seen xs ≡ first_bits seen ys
 
 -- these stand for the bits to which a path leads

@@ -1,5 +1,4 @@
 -- The modules of this folder.
-pub mod RowBits
 pub mod AsTold
 pub mod FirstFault
 pub mod SuchPorts

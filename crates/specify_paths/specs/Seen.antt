@@ -1,5 +1,5 @@
 -- The code's paths, as the definitions see them.
-use Rattle.std.specs.Prelude.{◌≡◌, ℕ, ◌<◌, ◌==◌, All, List, [], Option, None, Ok, map, length, slice_index_or}
+use Rattle.std.specs.Prelude.{◌≡◌, ℕ, ◌<◌, All, List, [], Option, None, Ok, map, length, slice_index_or}
 use Rattle.std.specs.Option.{option_map}
 use Rattle.cond_expr.specs.Condition.{Condition}
 use Rattle.cond_expr.specs.Token.{Tok}
@@ -13,7 +13,7 @@ use Rattle.specify_model.specs.Conditions.{ModuleCondition, Always, If, IfNone, 
 use Rattle.specify_model.specs.Outputs.{PathOutput}
 use Rattle.specify_model.specs.Paths.{ModulePath, PathTo, edge_of, timings_with}
 use Rattle.specify_model.specs.PulseLimits.{Limits}
-use Rattle.elab_model.specs.Terms.{NetBit, is_same_bit, terms_bits}
+use Rattle.elab_model.specs.Terms.{NetBit, terms_bits}
 use Rattle.specify_model.specs.Values.{Measure, Values, twelve_delays}
 use Rattle.specify_values.specs.Seen.{widths_seen}
 use Rattle.specify_paths.specs.declared.ends.Ends.{Ends}
@@ -99,7 +99,3 @@ pub record IsPathInRow (vs : List Variable) (statements : ℕ) (p : code_to.Path
 
 abbrev pub ArePathsInRow : List Variable → ℕ → List code_to.PathTo → Type 0
 ArePathsInRow vs statements ps = All (IsPathInRow vs statements) ps
-
--- different places of the row are different bits
-abbrev pub AreApart : List Variable → Type 0
-AreApart vs = (i j : ℕ) → i < length (all_bits vs) → j < length (all_bits vs) → is_same_bit (bit_seen vs i) (bit_seen vs j) ≡ (i == j)

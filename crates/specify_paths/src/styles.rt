@@ -5,8 +5,7 @@ ghost use Rattle.specify_model.specs.Faults as faults;
 ghost use Rattle.specify_model.specs.Outputs as def;
 ghost use Rattle.specify_values.specs.Seen.{view_style};
 ghost use Rattle.specify_values.specs.Telling.{Tells};
-ghost use Rattle.elab_ends.specs.Seen.{bit_seen};
-ghost use Rattle.specify_paths.specs.Seen.{AreApart};
+ghost use Rattle.elab_ends.specs.Seen.{AreApart, bit_seen};
 ghost use Rattle.specify_paths.specs.Words.{style_at, with_style};
 
 use crate::terms::check_terms;
