@@ -123,7 +123,7 @@ last-holds : (P : Pulse → Type 0) (o : Option Pulse) (ps : List Pulse) → IfS
 last-holds P o [] h k = h
 last-holds P o (p ∷ ps) h k = last-holds P (Some p) ps k.0 k.1
 
-filtered : {A : Type 0} (P : A → Type 0) (t : A → Bool) (xs : List A) → AllByRecursion P xs → AllByRecursion P (filter t xs)
+pub filtered : {A : Type 0} (P : A → Type 0) (t : A → Bool) (xs : List A) → AllByRecursion P xs → AllByRecursion P (filter t xs)
 filtered P t [] h = tt
 filtered P t (x ∷ xs) h = by (t x) (filtered P t xs h.1)
   where
@@ -203,23 +203,38 @@ kept b ps h = all-map (λ p. AreTimings p.timings) (λ p. p.path) (filter (λ p.
 abbrev pub AreTimed : PathOutput → Type 0
 AreTimed o = AllByRecursion (λ p. AreTimings p.timings) o.paths
 
+-- no specify path has a fault, and no limit of pulses
+record AreSound (corner : Corner) (tick : ℤ) (m : Module) : Type 0 where
+  limits : flat_map (pulse_faults (measure corner tick m) (variables m)) (pulses (specify_items m)) ≡ []
+  paths : AllByRecursion (λ p. path_faults (measure corner tick m) (variables m) (value_of (parameters (specify_items m))) p ≡ []) (specify_paths (specify_items m))
+
+are-sound : (corner : Corner) (tick : ℤ) (m : Module) → specify_faults corner tick m ≡ [] → AreSound corner tick m
+are-sound corner tick m h =
+    let by = measure corner tick m in
+    let vs = variables m in
+    let items = specify_items m in
+    let each = path_faults by vs (value_of (parameters items)) in
+    let limits = flat_map (pulse_faults by vs) (pulses items) in
+    let paths = flat_map each (specify_paths items) in
+    let styles = flat_map (style_faults vs) (style_texts items) in
+    let rest = back (parameter_faults (parameters items)) (limits ++ (paths ++ styles)) h in
+    record { limits = front limits (paths ++ styles) rest; paths = flat-empty each (specify_paths items) (front paths styles (back limits (paths ++ styles) rest)) }
+
+pub paths-sound : (corner : Corner) (tick : ℤ) (m : Module) → specify_faults corner tick m ≡ []
+    → AllByRecursion (λ p. path_faults (measure corner tick m) (variables m) (value_of (parameters (specify_items m))) p ≡ []) (specify_paths (specify_items m))
+paths-sound corner tick m h = (are-sound corner tick m h).paths
+
 pub outputs-timed : (corner : Corner) (tick : ℤ) (m : Module) → specify_faults corner tick m ≡ [] → AllByRecursion AreTimed (path_outputs corner tick m)
 outputs-timed corner tick m h =
     let by = measure corner tick m in
     let vs = variables m in
     let items = specify_items m in
     let values = value_of (parameters items) in
-    let twice = parameter_faults (parameters items) in
-    let limits = flat_map (pulse_faults by vs) (pulses items) in
-    let paths = flat_map (path_faults by vs values) (specify_paths items) in
-    let styles = flat_map (style_faults vs) (style_texts items) in
-    let rest = back twice (limits ++ (paths ++ styles)) h in
-    let no-limits : limits ≡ [] = front limits (paths ++ styles) rest in
-    let no-paths : paths ≡ [] = front paths styles (back limits (paths ++ styles) rest) in
+    let sound = are-sound corner tick m h in
     let ps = module_paths by vs items in
     let timed : AllByRecursion IsTimed ps =
     all-flat_in IsTimed (paths_of by vs values (limits_of by vs (pulses items))) (specify_paths items)
     (all-weaker (λ p. path_faults by vs values p ≡ []) (λ p. AllByRecursion IsTimed (paths_of by vs values (limits_of by vs (pulses items)) p)) (specify_paths items)
-    (λ p e. path-timed by vs values (pulses items) p no-limits e) (flat-empty (path_faults by vs values) (specify_paths items) no-paths)) in
+    (λ p e. path-timed by vs values (pulses items) p sound.limits e) sound.paths) in
     all-map AreTimed (output_of vs (style_texts items) ps) (first_paths [] ps)
     (all-anyway (λ p. AreTimed (output_of vs (style_texts items) ps p)) (first_paths [] ps) (λ p. kept p.output ps timed))
