@@ -1,12 +1,13 @@
--- The rows of instances: the numbers of the nets of their bits, and of what lies outside their bits.
+-- The rows of instances: the numbers of the nets of their bits, of what lies outside their bits, and of what is driven inside in place of output bits with paths.
 use Rattle.std.specs.Prelude.{◌≡◌, ℕ, ◌+◌, ◌≤◌, List, ◌∷◌, ◌++◌, Some, map, take, drop, length, slice_get}
 use Rattle.std.specs.List.{enumerate_from}
 use Rattle.vl_tree.specs.Tree.{Module, Source}
+use Rattle.elab_model.specs.Ends.{path_ends, inner_spot}
 use Rattle.elab_model.specs.Hierarchy.{Instance, instances}
 use Rattle.elab_model.specs.HierarchyFaults.{count_limit}
 use Rattle.elab_model.specs.Members.{members}
 use Rattle.elab_model.specs.Names.{variables}
-use Rattle.elab_model.specs.Nets.{nets}
+use Rattle.elab_model.specs.Nets.{nets, number_of}
 use Rattle.elab_laws.specs.Handing.{all_bits, number_at}
 use Rattle.elab_laws.specs.NumberLaws.{nets_before}
 use Rattle.elab_nets.specs.Outside.{outer_number}
@@ -34,6 +35,10 @@ pub record HasRow (source : Source) (top : Module) (rows : Rows) (before : List 
   pub member : ℕ
   pub member_starts : slice_get rows.member_starts.items (length before) ≡ Some member
   pub firsts : (k : ℕ) → k ≤ length (members s.step.definition) → slice_get rows.firsts.items (member + k) ≡ Some (first_of_member source before s k)
+  pub end : ℕ
+  pub end_starts : slice_get rows.end_starts.items (length before) ≡ Some end
+  pub ends : part_of rows.ends.items end (length (path_ends s.step.definition)) ≡ map (λ b. number_of (nets source top) (inner_spot s b)) (path_ends s.step.definition)
+  pub ends_within : end + length (path_ends s.step.definition) ≤ length rows.ends.items
 
 pub record HaveRows (source : Source) (top : Module) (rows : Rows) : Type 0 where
   pub all : rows.nets.items ≡ map undriven (nets source top)

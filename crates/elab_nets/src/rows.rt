@@ -37,6 +37,10 @@ pub struct Rows {
     pub member_starts: Vec<usize>,
     /// The first of the nets that a member has and no variable names, or the next number where it has none.
     pub firsts: Vec<NetId>,
+    /// Where the inner nets of each instance begin among `ends`.
+    pub end_starts: Vec<usize>,
+    /// The net that is driven inside in place of each output bit to which specify paths lead; instance after instance, in the order of the module's ends.
+    pub ends: Vec<NetId>,
 }
 
 /// The nets of the instances below a top, numbered by the outermost instance that has the net, its variables first, then nets that no variable names, in text order. Refuses
@@ -82,6 +86,8 @@ fn first_rows(alloc: Global, library: &Library, instances: &[Placed]) -> Result<
         outer: vec![in alloc; None; top_bits(library, instances)]?,
         member_starts: Vec::new(alloc),
         firsts: Vec::new(alloc),
+        end_starts: Vec::new(alloc),
+        ends: Vec::new(alloc),
     })
 }
 
