@@ -79,8 +79,8 @@ two-short [] h = (omega arith, (omega arith, tt))
 two-short (l ∷ []) h = (h.0, (omega arith, tt))
 two-short (l ∷ m ∷ more) h = (h.0, (h.1.0, tt))
 
-use-fits : (P : NetBit → Type 0) (count scope_count scope : ℕ) (Toggled : ℕ → Type 0) (f : NetBit → ℕ) (c : ModuleCheck) → ((b : NetBit) → P b → f b < count) → scope < scope_count → IsSoundCheck c → EachInCheck P c
-    → IfSome c.notifier (λ b. Toggled (f b)) → CheckFits count scope_count Toggled (check_use scope f c)
+use-fits : (P : NetBit → Type 0) (count scope_count scope : ℕ) (Toggled : ℕ → Type 0) (f : NetBit → ℕ) (c : ModuleCheck) → ((b : NetBit) → P b → f b < count) → scope < scope_count
+    → IsSoundCheck c → EachInCheck P c → IfSome c.notifier (λ b. Toggled (f b)) → CheckFits count scope_count Toggled (check_use scope f c)
 use-fits P count scope_count scope Toggled f c small lt sound named toggled = record {
   scope = lt;
   datum = mapped-some (λ (e : EventUse). e.terminal) (option_map (event_use f) c.datum) (HasDatum c.kind) (mapped-some (event_use f) c.datum (HasDatum c.kind) sound.datum);
@@ -124,7 +124,8 @@ module _ (source : Source) (top : Module) (corner : Corner) (faultless : driver_
       let lt = (bits-have_nets source top s v 0 there known (some-bit v.range)).1 in
       (lt, reg-toggled (driving source top corner) count (number_of (nets source top) (home_of source s v.name 0)) faultless lt (regs s v there known reg))
 
-  notifier-toggled : (s : Instance) (o : Option Named) → In s ss → notifier_faults (variables s.step.definition) o ≡ [] → IfSome (option_map reg_bit o) (λ b. IsToggled source top corner (bit_number (nets source top) source s b))
+  notifier-toggled : (s : Instance) (o : Option Named) → In s ss → notifier_faults (variables s.step.definition) o ≡ []
+      → IfSome (option_map reg_bit o) (λ b. IsToggled source top corner (bit_number (nets source top) source s b))
   notifier-toggled s None there h = tt
   notifier-toggled s (Some n) there h =
       let vs = variables s.step.definition in

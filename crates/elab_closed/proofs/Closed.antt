@@ -6,8 +6,6 @@ use Rattle.std.proofs.lemmas.List.{length-map}
 use Rattle.std.proofs.lemmas.List.Elements.{All-from_recursion, All-nil, All-weaker}
 use Rattle.sg_circuit.specs.Circuit.{Scope}
 use Rattle.sg_circuit.specs.Closed.{TakesInputs, HasDelays, HasDatum, HasLates, NamesNets, IsCheckTiming, IsNotifier, IsZeroOf}
-use Rattle.sg_delay.specs.declared.corners.Corner.{Corner}
-use Rattle.vl_tree.specs.Tree.{Module, Source}
 use Rattle.elab_model.specs.Delays.{precision_of, tick_of}
 use Rattle.elab_model.specs.Drivers.{elements}
 use Rattle.elab_model.specs.Hierarchy.{Instance, instances}

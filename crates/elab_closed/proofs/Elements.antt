@@ -1,7 +1,7 @@
 -- Each element of the circuit names nets and an instance that there are, and has what its kind asks for.
-use Rattle.std.specs.Prelude.{◌≡◌, ℕ, ◌<◌, List, [], ◌∷◌, All, true, Option, Some, None, find, length, map, refl}
+use Rattle.std.specs.Prelude.{◌≡◌, ℕ, ◌<◌, List, [], All, true, Option, Some, None, find, length, map, refl}
 use Rattle.std.specs.List.{AllByRecursion, list_any}
-use Rattle.std.proofs.Common.{sym, ap, inl, inr, subst, ◌∙◌}
+use Rattle.std.proofs.Common.{sym, ap, subst, ◌∙◌}
 use Rattle.std.proofs.lemmas.List.{length-map}
 use Rattle.std.proofs.lemmas.List.Elements.{All-from_recursion}
 use Rattle.sg_circuit.specs.Circuit.{Element, Kind}
@@ -27,11 +27,11 @@ use Rattle.elab_laws.specs.ElementLaws.{HasNets}
 use Rattle.elab_laws.specs.Laws.{AreSound}
 use Rattle.elab_laws.specs.Words.{Owns}
 use Rattle.elab_laws.proofs.Homes.{number-below}
-use Rattle.elab_laws.proofs.Lists.{In, all-flat_in, all-in, all-map, all-weaker, found-is}
+use Rattle.elab_laws.proofs.Lists.{all-flat_in, all-in, all-map, all-weaker, found-is}
 use Rattle.elab_laws.proofs.Members.{elements-have_nets}
 use Rattle.elab_laws.proofs.NoFaults.{all-from}
 use Rattle.elab_closed.specs.NamedNets.{EachInCondition, EachInOutput, EachInPath, IsNet}
-use Rattle.elab_closed.proofs.Fits.{Fits, ReadsInnerAlone, elements-fit}
+use Rattle.elab_closed.proofs.Fits.{Fits, elements-fit}
 use Rattle.elab_closed.proofs.Named.{blocks-sound, operands-below, outputs-there}
 use Rattle.elab_closed.proofs.PathTimings.{AreTimed, outputs-timed}
 use Rattle.elab_closed.proofs.Scopes.{numbers-below_count}

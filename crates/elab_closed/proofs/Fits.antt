@@ -18,7 +18,8 @@ use Rattle.elab_model.specs.Bits.{Bit, net, constant, positions, leaf_bits}
 use Rattle.elab_model.specs.Connections.{port_values}
 use Rattle.elab_model.specs.Definitions.{definition_of}
 use Rattle.elab_model.specs.Delays.{delays_of}
-use Rattle.elab_model.specs.Elements.{Component, expression_bits, leg_at, variable_legs, legs, pass_to, constant_pass, output_count, input_spot, output_bits, input_bits, output_element, path_at, terminal_elements}
+use Rattle.elab_model.specs.Elements.{Component, expression_bits, leg_at, variable_legs, legs, pass_to, constant_pass, output_count, input_spot, output_bits, input_bits, output_element, path_at}
+use Rattle.elab_model.specs.Elements.{terminal_elements}
 use Rattle.elab_model.specs.Elements.{port_spot, port_elements, child_elements, child_at, instance_elements, member_elements, elements_of}
 use Rattle.elab_model.specs.Ends.{first_ends}
 use Rattle.elab_model.specs.Hierarchy.{Step, Instance, is_leaf}
@@ -101,8 +102,8 @@ none-read : (source : Source) (s : Instance) (k : ℕ) (xs : List (ℕ × Bit)) 
 none-read source s k [] t m q = refl
 none-read source s k (x ∷ xs) t m q = ap (λ b. b || list_any (is_same_spot (inner t m q)) (map (input_spot source s k) xs)) (input-outer source s k x t m q) ∙ none-read source s k xs t m q
 
-output-fits : (source : Source) (s : Instance) (at : Place) (kind : Kind) (inputs : List Spot) → TakesInputs kind (length inputs) → HasDelays kind → ((n : ℕ) → NamesNets n kind) → ReadsInnerAlone inputs → (b : Bit)
-    → AllByRecursion (Fits s.step.number) (output_element source s at kind inputs b)
+output-fits : (source : Source) (s : Instance) (at : Place) (kind : Kind) (inputs : List Spot) → TakesInputs kind (length inputs) → HasDelays kind → ((n : ℕ) → NamesNets n kind)
+    → ReadsInnerAlone inputs → (b : Bit) → AllByRecursion (Fits s.step.number) (output_element source s at kind inputs b)
 output-fits source s at kind inputs h g ns alone (net n p) = (record { scope = refl; takes = h; delays = g; paths = ns; alone = alone }, tt)
 output-fits source s at kind inputs h g ns alone (constant there v) = tt
 
@@ -172,7 +173,8 @@ primitive-fits source corner tick s k p d i sound h =
     let wrong = fault_if (not (are_terminals p i.connections)) BadTerminal i.place in
     let later : ends ++ late ≡ [] = back wrong (ends ++ late) h in
     let right : are_terminals p i.connections ≡ true = not-false (are_terminals p i.connections) (no-fault _ BadTerminal i.place (front wrong (ends ++ late) h)) in
-    let count : length (input_bits s 1 es) ≡ length p.ports - 1 = inputs-count s 1 es sound (front (flat_map (width_faults vs 1) es) _ (front ends late later)) ∙ ap (λ n. n - 1) (ports-counted p i.connections right) in
+    let count : length (input_bits s 1 es) ≡ length p.ports - 1 =
+    inputs-count s 1 es sound (front (flat_map (width_faults vs 1) es) _ (front ends late later)) ∙ ap (λ n. n - 1) (ports-counted p i.connections right) in
     terminals-fit source s i.place k (Udp (table_of p) (initial_value p.initial) (delays_of corner tick m d)) (output_bits s 1 es) (input_bits s 1 es) count
     (gate-delays 2 corner tick m d (front (delay_faults 2 corner tick m d) (primitive_faults p) (back ends late later))) (λ n. tt)
 

@@ -1,7 +1,6 @@
 -- An operand without fault is one bit of a variable.
-use Rattle.std.specs.Prelude.{◌≡◌, ℕ, List, [], ◌∷◌, ◌++◌, Option, Some, None, filter_map, length, map, refl}
+use Rattle.std.specs.Prelude.{◌≡◌, ℕ, List, [], ◌∷◌, Option, Some, None, filter_map, length, map, refl}
 use Rattle.std.specs.List.{AllByRecursion}
-use Rattle.std.specs.Option.{option_map}
 use Rattle.std.proofs.Common.{subst}
 use Rattle.sg_text.specs.declared.places.Place.{Place}
 use Rattle.vl_tree.specs.declared.expressions.Select.{Select}
@@ -10,7 +9,7 @@ use Rattle.vl_tree.specs.Tree.{Named, Term}
 use Rattle.elab_model.specs.Bits.{Bit, net, constant, bits, bits_between, leaf_bits, part_bits, position_at, positions, variable_named, whole_bits}
 use Rattle.elab_model.specs.Leaves.{leaf_of}
 use Rattle.elab_model.specs.Names.{Variable}
-use Rattle.elab_model.specs.Terms.{NetBit, net_bit, expression_of, term_bits}
+use Rattle.elab_model.specs.Terms.{net_bit, expression_of, term_bits}
 use Rattle.elab_model.specs.TerminalFaults.{width_faults}
 use Rattle.specify_model.specs.Conditions.{first_bit}
 use Rattle.specify_model.specs.Faults.{operand_faults, term_faults}

@@ -1,5 +1,5 @@
 -- Each bit that a path or a timing check of a netlist without faults names is a net, and its number is below their count.
-use Rattle.std.specs.Prelude.{◌≡◌, ℕ, ◌<◌, ◌++◌, [], map}
+use Rattle.std.specs.Prelude.{◌≡◌, ℕ, ◌<◌, [], map}
 use Rattle.std.specs.List.{AllByRecursion}
 use Rattle.cond_expr.specs.Tree.{Cond, leaf, constant, unary, binary}
 use Rattle.cond_expr.specs.Values.{AreBelow}
@@ -35,7 +35,8 @@ bit-there source top s there b h = home-there source top s b.name b.position the
 
 -- ---- paths
 
-pub blocks-sound : (source : Source) (top : Module) (corner : Corner) → path_faults source top corner ≡ [] → AllByRecursion (λ s. specify_faults corner (tick_of source top) s.step.definition ≡ []) (instances source top)
+pub blocks-sound : (source : Source) (top : Module) (corner : Corner) → path_faults source top corner ≡ []
+    → AllByRecursion (λ s. specify_faults corner (tick_of source top) s.step.definition ≡ []) (instances source top)
 blocks-sound source top corner h =
     let tick = tick_of source top in
     let all : Instance → _ = λ s. module_path_faults source corner tick s.step.definition in

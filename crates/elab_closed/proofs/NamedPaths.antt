@@ -10,7 +10,7 @@ use Rattle.elab_model.specs.Names.{Variable, variables}
 use Rattle.elab_model.specs.Terms.{NetBit, expression_of, is_same_bit, net_bit, pairs, path_pairs, term_bits, terms_bits}
 use Rattle.specify_model.specs.Blocks.{parameters, pulses, specify_items, specify_paths, style_texts}
 use Rattle.specify_model.specs.Faults.{condition_faults, end_faults, list_faults, own_condition, path_faults, side_faults, source_faults, specify_faults}
-use Rattle.specify_model.specs.Outputs.{PathOutput, first_paths, measure, output_of, path_outputs, paths_to}
+use Rattle.specify_model.specs.Outputs.{first_paths, measure, output_of, path_outputs, paths_to}
 use Rattle.specify_model.specs.Paths.{PathTo, module_paths, path_between, paths_of}
 use Rattle.specify_model.specs.PulseLimits.{Limits, limits_of}
 use Rattle.specify_model.specs.Values.{Measure, Values, value_of}

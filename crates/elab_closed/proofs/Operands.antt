@@ -1,5 +1,5 @@
 -- The operands of a condition without fault are bits of variables.
-use Rattle.std.specs.Prelude.{◌≡◌, ℕ, zero, suc, ◌+◌, List, [], ◌∷◌, ◌++◌, Option, Some, Result, Ok, Err, flat_map, is_err, slice_get, refl}
+use Rattle.std.specs.Prelude.{◌≡◌, ℕ, zero, suc, ◌+◌, List, [], ◌∷◌, Option, Some, Result, Ok, Err, flat_map, is_err, slice_get, refl}
 use Rattle.std.specs.Option.{option_map}
 use Rattle.std.proofs.Common.{sym, ◌∙◌, ap, arith, subst}
 use Rattle.std.proofs.lemmas.Grind.{flat_map-append}
@@ -39,12 +39,13 @@ pub words-sound : (vs : List Variable) (ws : List Word) → flat_map (operand_fa
 words-sound vs [] h at n e = cc
 words-sound vs (w ∷ ws) h zero n e =
     let own = operand_of w.place w.token (next_token ws) in
+    let none = front (flat_map (operand_faults vs) own) (flat_map (operand_faults vs) (operands ws)) (sym (flat_map-append (operand_faults vs) own (operands ws)) ∙ h) in
     let t : w.token ≡ Name n = (let g : ◌≡◌ {A = Option Tok} (Some w.token) (Some (Name n)) = e in cc) in
-    let here = operand-here vs w.place w.token (next_token ws) n t (front (flat_map (operand_faults vs) own) (flat_map (operand_faults vs) (operands ws)) (sym (flat_map-append (operand_faults vs) own (operands ws)) ∙ h)) in
-    (w.place, ap (λ x. operand_faults vs (operand n w.place x)) (next-is ws) ∙ here)
+    (w.place, ap (λ x. operand_faults vs (operand n w.place x)) (next-is ws) ∙ operand-here vs w.place w.token (next_token ws) n t none)
 words-sound vs (w ∷ ws) h (suc k) n e =
     let own = operand_of w.place w.token (next_token ws) in
-    let rest = words-sound vs ws (back (flat_map (operand_faults vs) own) (flat_map (operand_faults vs) (operands ws)) (sym (flat_map-append (operand_faults vs) own (operands ws)) ∙ h)) k n e in
+    let none = back (flat_map (operand_faults vs) own) (flat_map (operand_faults vs) (operands ws)) (sym (flat_map-append (operand_faults vs) own (operands ws)) ∙ h) in
+    let rest = words-sound vs ws none k n e in
     let j : suc k + 1 ≡ suc (k + 1) = omega arith in
     (rest.0, ap (λ i. operand_faults vs (operand n rest.0 (slice_get (tokens (w ∷ ws)) i))) j ∙ rest.1)
 

@@ -1,5 +1,6 @@
 -- Paths have the delays of twelve transitions, and limits in order, where their blocks have no fault.
-use Rattle.std.specs.Prelude.{◌≡◌, ℕ, ◌-◌, ◌<◌, ◌≤◌, ◌==◌, ◌^◌, ◌||◌, IfSome, List, [], ◌∷◌, ◌++◌, Bool, true, false, Option, Some, None, Ok, cond, filter, flat_map, is_err, length, map, max, min, nat_le, nat_lt, refl, ℤ}
+use Rattle.std.specs.Prelude.{◌≡◌, ℕ, ◌-◌, ◌<◌, ◌≤◌, ◌==◌, ◌^◌, ◌||◌, IfSome, List, [], ◌∷◌, ◌++◌, Bool, true, false, Option, Some, None, Ok, cond, filter, flat_map, is_err, length, map, max, min, nat_le}
+use Rattle.std.specs.Prelude.{nat_lt, refl, ℤ}
 use Rattle.std.specs.List.{AllByRecursion, last_or}
 use Rattle.std.specs.Option.{option_map, option_or}
 use Rattle.std.proofs.Common.{◌∙◌, arith}
@@ -18,7 +19,8 @@ use Rattle.elab_model.specs.Faults.{fault_if}
 use Rattle.elab_model.specs.Names.{Variable, variables}
 use Rattle.elab_model.specs.TerminalFaults.{delay_limit}
 use Rattle.specify_model.specs.Blocks.{Pulse, specify_items, parameters, pulses, specify_paths, style_texts}
-use Rattle.specify_model.specs.Faults.{parameter_faults, has_no_ends, are_bad_limits, pulse_faults, end_faults, side_faults, condition_faults, own_condition, source_faults, amount_parts, amount_place, unknown_faults, long_faults, delay_faults, list_faults, path_faults, style_faults, specify_faults}
+use Rattle.specify_model.specs.Faults.{parameter_faults, has_no_ends, are_bad_limits, pulse_faults, end_faults, side_faults, condition_faults, own_condition, source_faults, amount_parts, amount_place}
+use Rattle.specify_model.specs.Faults.{unknown_faults, long_faults, delay_faults, list_faults, path_faults, style_faults, specify_faults}
 use Rattle.specify_model.specs.Outputs.{PathOutput, first_paths, paths_to, output_of, measure, path_outputs}
 use Rattle.specify_model.specs.Paths.{PathTo, timings_with, path_between, paths_of, module_paths}
 use Rattle.specify_model.specs.PulseLimits.{limit_ticks, is_for_ends, is_for_others, last_of, limits_of}
@@ -140,7 +142,8 @@ pub given-limits : (by : Measure) (vs : List Variable) (ps : List Pulse) → fla
 given-limits by vs ps h i o =
     let each : AllByRecursion (λ p. AreLimits (limit_ticks by p)) ps =
     all-weaker (λ p. pulse_faults by vs p ≡ []) (λ p. AreLimits (limit_ticks by p)) ps
-    (λ p e. limits-are (limit_ticks by p) (no-fault (are_bad_limits (limit_ticks by p)) BadDelay p.name.place (back (fault_if (has_no_ends vs p) UnknownName p.name.place) (fault_if (are_bad_limits (limit_ticks by p)) BadDelay p.name.place) e)))
+    (λ p e. limits-are (limit_ticks by p)
+    (no-fault (are_bad_limits (limit_ticks by p)) BadDelay p.name.place (back (fault_if (has_no_ends vs p) UnknownName p.name.place) (fault_if (are_bad_limits (limit_ticks by p)) BadDelay p.name.place) e)))
     (flat-empty (pulse_faults by vs) ps h) in
     found by (last_of (is_for_ends vs i o) ps) (last_of is_for_others ps)
     (last-holds (λ p. AreLimits (limit_ticks by p)) None (filter (is_for_ends vs i o) ps) tt (filtered (λ p. AreLimits (limit_ticks by p)) (is_for_ends vs i o) ps each))
@@ -177,7 +180,8 @@ path-delays by values place ds h =
     let wrong = fault_if (is_err (expanded by values ds)) BadDelay place in
     twelve-below (2 ^ 60) list
     (all-map (λ n. n < 2 ^ 60) (delay_ticks by values) ds
-    (all-weaker (λ d. delay_faults by values d ≡ []) (λ d. delay_ticks by values d < 2 ^ 60) ds (short by values) (flat-empty (delay_faults by values) ds (front (flat_map (delay_faults by values) ds) wrong h))))
+    (all-weaker (λ d. delay_faults by values d ≡ []) (λ d. delay_ticks by values d < 2 ^ 60) ds (short by values)
+    (flat-empty (delay_faults by values) ds (front (flat_map (delay_faults by values) ds) wrong h))))
     (no-fault (is_err (expanded by values ds)) BadDelay place (back (flat_map (delay_faults by values) ds) wrong h))
 
 abbrev IsTimed : PathTo → Type 0

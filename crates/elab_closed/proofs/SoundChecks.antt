@@ -1,5 +1,6 @@
 -- What a timing check without fault has: the events, the limits and the threshold that its kind asks for.
-use Rattle.std.specs.Prelude.{◌≡◌, ◌↔◌, ℕ, zero, suc, ℤ, pos, ◌-ℤ◌, ◌<◌, ◌^◌, ◌==◌, ◌&&◌, unsigned_abs, List, [], ◌++◌, Bool, true, false, not, Option, Some, None, IsSome, flat_map, is_none, nat_le, refl, if◌then◌else◌}
+use Rattle.std.specs.Prelude.{◌≡◌, ◌↔◌, ℕ, zero, suc, ℤ, pos, ◌-ℤ◌, ◌<◌, ◌^◌, ◌==◌, ◌&&◌, unsigned_abs, List, [], ◌++◌, Bool, true, false, not, Option, Some, None, IsSome, flat_map, is_none, nat_le, refl}
+use Rattle.std.specs.Prelude.{if◌then◌else◌}
 use Rattle.std.specs.List.{AllByRecursion}
 use Rattle.std.specs.Option.{option_map}
 use Rattle.std.proofs.Common.{arith}
@@ -14,8 +15,10 @@ use Rattle.elab_model.specs.Faults.{fault_if}
 use Rattle.elab_model.specs.Names.{Variable, variables}
 use Rattle.elab_model.specs.TerminalFaults.{delay_limit}
 use Rattle.specify_model.specs.Blocks.{parameters, specify_items}
-use Rattle.specify_model.specs.CheckFaults.{edge_faults, event_faults, some_event_faults, limit_parts, is_below_0, part_faults, limit_faults, threshold_faults, notifier_faults, signal_faults, check_faults as own_faults, timing_check_faults}
-use Rattle.specify_model.specs.Checks.{ModuleCheck, check_texts, data_of, event_of, kind_of, corner_limit, limit_ticks, limits_in, module_check, notifier_of, reference_of, size_ticks, threshold_of, threshold_ticks}
+use Rattle.specify_model.specs.CheckFaults.{edge_faults, event_faults, some_event_faults, limit_parts, is_below_0, part_faults, limit_faults, threshold_faults, notifier_faults, signal_faults}
+use Rattle.specify_model.specs.CheckFaults.{check_faults as own_faults, timing_check_faults}
+use Rattle.specify_model.specs.Checks.{ModuleCheck, check_texts, data_of, event_of, kind_of, corner_limit, limit_ticks, limits_in, module_check, notifier_of, reference_of, size_ticks, threshold_of}
+use Rattle.specify_model.specs.Checks.{threshold_ticks}
 use Rattle.specify_model.specs.Faults.{amount_place, long_faults, unknown_faults}
 use Rattle.specify_model.specs.Outputs.{measure}
 use Rattle.specify_model.specs.Paths.{edge_of}
