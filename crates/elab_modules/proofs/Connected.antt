@@ -1,5 +1,5 @@
 -- What is wrong with what is connected to ports.
-use Rattle.std.specs.Prelude.{◌≡◌, ℕ, ◌<◌, ◌≤◌, List, [], ◌∷◌, ◌++◌, Bool, true, false, not, nat_lt, Option, Some, None, Result, map, flat_map, filter_map, option_map, length, zip, refl, if◌then◌else◌}
+use Rattle.std.specs.Prelude.{◌≡◌, ℕ, ◌<◌, ◌≤◌, List, [], ◌∷◌, ◌++◌, Bool, true, false, not, nat_lt, Option, Some, None, Result, map, flat_map, filter_map, option_map, length, zip, refl}
 use Rattle.std.specs.List.{cons_option}
 use Rattle.std.proofs.Common.{sym, ◌∙◌, ap, arith, subst, append-nil}
 use Rattle.std.proofs.lemmas.List.{length-map}
@@ -19,7 +19,7 @@ use Rattle.vl_tree.specs.Seen.{view_expression, view_name, view_named_connection
 use Rattle.vl_tree.specs.Tree.{Named, Expression, Delay, NamedConnection, Instance, Module}
 use Rattle.elab_model.specs.declared.kinds.ElabKind.{ElabKind}
 use Rattle.elab_model.specs.declared.kinds.ElabKind.TheVariants.{UnknownName, BadTerminal, BadDelay}
-use Rattle.elab_model.specs.Faults.{Fault, fault_if, RefusesOneOf, duplicates}
+use Rattle.elab_model.specs.Faults.{fault_if, RefusesOneOf, duplicates}
 use Rattle.elab_model.specs.Homes.{is_output}
 use Rattle.elab_model.specs.Members.{connection_values}
 use Rattle.elab_model.specs.ModuleFaults.{directed_faults, value_faults, port_faults, connection_faults, delay_on_module}

@@ -1,5 +1,5 @@
 -- What was read is ready.
-use Rattle.std.proofs.Common.{refl, ◌∙◌, ap, map, sym}
+use Rattle.std.proofs.Common.{refl, ◌∙◌, ap, map}
 use Rattle.vl_tree.specs.Seen.{view_module}
 use Rattle.elab_variables.specs.Seen.{view_member}
 use Rattle.elab_modules.proofs.prepared.prepare.Goals as goal
