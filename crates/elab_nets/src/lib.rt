@@ -2,6 +2,7 @@
 #![tactic(auto)]
 
 mod bit_nets;
+mod ends;
 mod inputs;
 mod limit;
 mod member_bits;
@@ -14,4 +15,5 @@ mod terminals;
 mod turns;
 mod writing;
 
+pub use member_bits::{TerminalBits, connection_bits, terminal_bits};
 pub use rows::{Rows, rows_of};
