@@ -5,12 +5,16 @@ use Rattle.std.specs.Bool.{one_answer}
 use Rattle.std.proofs.Common.{sym, ◌∙◌}
 use Rattle.std.proofs.lemmas.Bool.{eq-eqb, eqb-true}
 use Rattle.std.proofs.lemmas.Slice.Eq.{bytes_eq-Decides}
-use Rattle.elab_laws.proofs.Lists.{all-flat, all-weaker, all-anyway, Pairwise, pairwise-flat, pairwise-map, range-apart}
+use Rattle.elab_laws.proofs.Ends.{AreOtherBits}
+use Rattle.elab_laws.proofs.Lists.{In, all-in, all-flat, all-weaker, all-anyway, Pairwise, Cross, pairwise-flat, pairwise-map, range-apart}
 use Rattle.elab_model.specs.Bits.{index_at, positions}
+use Rattle.elab_model.specs.Ends.{first_ends}
 use Rattle.elab_model.specs.Hierarchy.{Instance}
-use Rattle.elab_model.specs.Homes.{Spot, bit, outside, terminal, is_same_spot, home_of}
+use Rattle.elab_model.specs.Homes.{Spot, bit, outside, terminal, inner, is_same_spot, home_of}
+use Rattle.elab_model.specs.Members.{Member}
 use Rattle.elab_model.specs.Names.{Variable, variable, variables, variable_names, is_among, first_of_each}
 use Rattle.elab_model.specs.Nets.{OwnNet, bit_net, variable_nets}
+use Rattle.elab_model.specs.Terms.{NetBit}
 use Rattle.sg_circuit.specs.Closed.{width_of}
 use Rattle.vl_tree.specs.Tree.{Module, Source}
 
@@ -26,18 +30,24 @@ abbrev pub scope_of_spot : Spot → ℕ
 scope_of_spot (bit s n p) = s
 scope_of_spot (outside s k n p) = s
 scope_of_spot (terminal s k i) = s
+scope_of_spot (inner s n p) = s
 
-abbrev pub IsOfPart : ℕ → Spot → Type 0
-IsOfPart k (bit s n p) = ⊥
-IsOfPart k (outside s l n p) = l ≡ k
-IsOfPart k (terminal s l i) = l ≡ k
+abbrev pub at_bit : List ℕ → ℕ → NetBit
+at_bit n p = record { name = n; position = p }
+
+abbrev pub IsOfPart : Module → ℕ × Member → Spot → Type 0
+IsOfPart m x (bit s n p) = ⊥
+IsOfPart m x (outside s l n p) = l ≡ x.0
+IsOfPart m x (terminal s l i) = l ≡ x.0
+IsOfPart m x (inner s n p) = In (at_bit n p) (first_ends m x)
 
 abbrev pub IsBit : Spot → Type 0
 IsBit (bit s n p) = Unit {0}
 IsBit (outside s l n p) = ⊥
 IsBit (terminal s l i) = ⊥
+IsBit (inner s n p) = ⊥
 
-and-false : (a b : Bool) → b ≡ false → (a && b) ≡ false
+pub and-false : (a b : Bool) → b ≡ false → (a && b) ≡ false
 and-false true b e = e
 and-false false b e = refl
 
@@ -45,28 +55,49 @@ pub scopes-tell : (a b : Spot) → (scope_of_spot a == scope_of_spot b) ≡ fals
 scopes-tell (bit s n p) (bit t m q) e = rw e refl
 scopes-tell (outside s k n p) (outside t l m q) e = rw e refl
 scopes-tell (terminal s k i) (terminal t l j) e = rw e refl
+scopes-tell (inner s n p) (inner t m q) e = rw e refl
 scopes-tell (bit s n p) (outside t l m q) e = refl
 scopes-tell (bit s n p) (terminal t l j) e = refl
+scopes-tell (bit s n p) (inner t m q) e = refl
 scopes-tell (outside s k n p) (bit t m q) e = refl
 scopes-tell (outside s k n p) (terminal t l j) e = refl
+scopes-tell (outside s k n p) (inner t m q) e = refl
 scopes-tell (terminal s k i) (bit t m q) e = refl
 scopes-tell (terminal s k i) (outside t l m q) e = refl
+scopes-tell (terminal s k i) (inner t m q) e = refl
+scopes-tell (inner s n p) (bit t m q) e = refl
+scopes-tell (inner s n p) (outside t l m q) e = refl
+scopes-tell (inner s n p) (terminal t l j) e = refl
 
-pub parts-tell : (i j : ℕ) (a b : Spot) → (i == j) ≡ false → IsOfPart i a → IsOfPart j b → is_same_spot a b ≡ false
-parts-tell i j (bit s n p) b e h g = absurd h
-parts-tell i j (outside s k n p) (bit t m q) e h g = absurd g
-parts-tell i j (terminal s k n) (bit t m q) e h g = absurd g
-parts-tell i j (outside s k n p) (outside t l m q) e h g = rw (h, g, e) (and-false (s == t) false refl)
-parts-tell i j (terminal s k n) (terminal t l m) e h g = rw (h, g, e) (and-false (s == t) false refl)
-parts-tell i j (outside s k n p) (terminal t l m) e h g = refl
-parts-tell i j (terminal s k n) (outside t l m q) e h g = refl
+-- two members, which are the first to lead to different bits
+abbrev pub AreOtherParts : Module → ℕ × Member → ℕ × Member → Type 0
+AreOtherParts d x y = ((x.0 == y.0) ≡ false) × Cross AreOtherBits (first_ends d x) (first_ends d y)
 
-pub bits-tell : (k : ℕ) (a b : Spot) → IsBit a → IsOfPart k b → is_same_spot a b ≡ false
-bits-tell k (bit s n p) (bit t m q) h g = absurd g
-bits-tell k (bit s n p) (outside t l m q) h g = refl
-bits-tell k (bit s n p) (terminal t l j) h g = refl
-bits-tell k (outside s l n p) b h g = absurd h
-bits-tell k (terminal s l i) b h g = absurd h
+pub parts-tell : (d : Module) (x y : ℕ × Member) (a b : Spot) → AreOtherParts d x y → IsOfPart d x a → IsOfPart d y b → is_same_spot a b ≡ false
+parts-tell d x y (bit s n p) b e h g = absurd h
+parts-tell d x y (outside s k n p) (bit t m q) e h g = absurd g
+parts-tell d x y (terminal s k i) (bit t m q) e h g = absurd g
+parts-tell d x y (inner s n p) (bit t m q) e h g = absurd g
+parts-tell d x y (outside s k n p) (outside t l m q) e h g = rw (h, g, e.0) (and-false (s == t) false refl)
+parts-tell d x y (terminal s k i) (terminal t l j) e h g = rw (h, g, e.0) (and-false (s == t) false refl)
+parts-tell d x y (inner s n p) (inner t m q) e h g =
+    and-false (s == t) (bytes_eq n m && p == q)
+    (all-in (AreOtherBits (at_bit n p)) (at_bit m q) (first_ends d y) (all-in (λ c. AllByRecursion (AreOtherBits c) (first_ends d y)) (at_bit n p) (first_ends d x) e.1 h) g)
+parts-tell d x y (outside s k n p) (terminal t l j) e h g = refl
+parts-tell d x y (outside s k n p) (inner t m q) e h g = refl
+parts-tell d x y (terminal s k i) (outside t l m q) e h g = refl
+parts-tell d x y (terminal s k i) (inner t m q) e h g = refl
+parts-tell d x y (inner s n p) (outside t l m q) e h g = refl
+parts-tell d x y (inner s n p) (terminal t l j) e h g = refl
+
+pub bits-tell : (d : Module) (x : ℕ × Member) (a b : Spot) → IsBit a → IsOfPart d x b → is_same_spot a b ≡ false
+bits-tell d x (bit s n p) (bit t m q) h g = absurd g
+bits-tell d x (bit s n p) (outside t l m q) h g = refl
+bits-tell d x (bit s n p) (terminal t l j) h g = refl
+bits-tell d x (bit s n p) (inner t m q) h g = refl
+bits-tell d x (outside s l n p) b h g = absurd h
+bits-tell d x (terminal s l i) b h g = absurd h
+bits-tell d x (inner s n p) b h g = absurd h
 
 -- which way round makes no difference
 pub bytes-either : (a b : List ℕ) → bytes_eq a b ≡ bytes_eq b a
@@ -82,12 +113,19 @@ pub spots-either : (a b : Spot) → is_same_spot a b ≡ is_same_spot b a
 spots-either (bit s n p) (bit t m q) = rw (numbers-either s t, bytes-either n m, numbers-either p q) refl
 spots-either (outside s k n p) (outside t l m q) = rw (numbers-either s t, numbers-either k l, bytes-either n m, numbers-either p q) refl
 spots-either (terminal s k i) (terminal t l j) = rw (numbers-either s t, numbers-either k l, numbers-either i j) refl
+spots-either (inner s n p) (inner t m q) = rw (numbers-either s t, bytes-either n m, numbers-either p q) refl
 spots-either (bit s n p) (outside t l m q) = refl
 spots-either (bit s n p) (terminal t l j) = refl
+spots-either (bit s n p) (inner t m q) = refl
 spots-either (outside s k n p) (bit t m q) = refl
 spots-either (outside s k n p) (terminal t l j) = refl
+spots-either (outside s k n p) (inner t m q) = refl
 spots-either (terminal s k i) (bit t m q) = refl
 spots-either (terminal s k i) (outside t l m q) = refl
+spots-either (terminal s k i) (inner t m q) = refl
+spots-either (inner s n p) (bit t m q) = refl
+spots-either (inner s n p) (outside t l m q) = refl
+spots-either (inner s n p) (terminal t l j) = refl
 
 -- ---- the bits of variables
 

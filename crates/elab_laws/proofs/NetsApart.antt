@@ -1,5 +1,5 @@
 -- The nets of constants at a leaf's inputs, of members and of instances are distinct; the number of a net is how many come before it.
-use Rattle.std.specs.Prelude.{◌≡◌, ℕ, ◌==◌, List, [], ◌∷◌, ◌++◌, Bool, true, false, Some, flat_map, slice_get, length, take, drop, refl, if◌then◌else◌, bytes_eq}
+use Rattle.std.specs.Prelude.{◌≡◌, ℕ, ◌==◌, List, [], ◌∷◌, ◌++◌, Bool, true, false, ◌&&◌, Some, flat_map, map, slice_get, length, refl, if◌then◌else◌, bytes_eq}
 use Rattle.std.specs.List.{AllByRecursion, enumerate_from}
 use Rattle.std.specs.Option.{option_and_then}
 use Rattle.std.proofs.Common.{sym, ◌∙◌, ap, inl, inr, subst}
@@ -9,20 +9,23 @@ use Rattle.vl_tree.specs.Tree.{Part, a_module, a_primitive}
 use Rattle.elab_model.specs.Definitions.{definition_of}
 use Rattle.elab_model.specs.Members.{connection_values}
 use Rattle.elab_model.specs.Nets.{instance_nets, terminal_nets}
+use Rattle.elab_laws.proofs.Ends.{AreOtherBits, first_bits-apart, path_ends-apart}
 use Rattle.elab_laws.proofs.Numbers.{AreOther, number-after, number, numbers-are-places}
-use Rattle.elab_laws.proofs.Lists.{In, all-in, all-append, all-flat, all-flat_in, all-weaker, all-anyway, Pairwise, pairwise-append, cross-by, pairwise-flat, pairwise-map_back, range-apart, enumerate-apart}
+use Rattle.elab_laws.proofs.Lists.{In, all-in, all-append, all-flat, all-flat_in, all-from, all-map, all-weaker, all-anyway, Pairwise, Cross, pairwise-append, cross-by, pairwise-both, pairwise-flat, pairwise-map, pairwise-map_back, pairwise-pieces, pairwise-weaker, range-apart, enumerate-apart}
 use Rattle.elab_laws.proofs.Homes.{spot-same}
-use Rattle.elab_laws.proofs.Apart.{Other, AreApart, scope_of_spot, IsOfPart, IsBit, scopes-tell, parts-tell, bits-tell, spots-either, IsBitAt, owned-bit, variable_nets-apart}
-use Rattle.elab_laws.proofs.PartsApart.{all-if, pairwise-if, places-are, children-above, child_at-one, child_at-all, gate_nets-apart, IsTerminal, terminal-is, AreOnce, IsOutside, IsUnbound, IsBound, outside-tell, bound-tell, both-false, and-false, unbound-apart, unbound-all}
+use Rattle.elab_laws.proofs.Apart.{Other, AreApart, scope_of_spot, IsOfPart, AreOtherParts, IsBit, and-false, scopes-tell, parts-tell, bits-tell, spots-either, IsBitAt, owned-bit, variable_nets-apart}
+use Rattle.elab_laws.proofs.PartsApart.{all-if, pairwise-if, places-are, children-above, child_at-one, child_at-all, gate_nets-apart, IsTerminal, terminal-is, AreOnce, IsOutside, IsUnbound, IsBound, outside-tell, bound-tell, both-false, unbound-apart, unbound-all}
 use Rattle.elab_model.specs.Bits.{Bit, net, constant, bits, positions}
 use Rattle.elab_model.specs.Connections.{connection_at, port_values}
-use Rattle.elab_model.specs.Elements.{terminal_bits, output_count, child_at, bound_above}
+use Rattle.elab_model.specs.Elements.{output_bits, input_bits, output_count, child_at, bound_above}
+use Rattle.elab_model.specs.Ends.{ends, first_ends}
 use Rattle.elab_model.specs.Hierarchy.{Instance, instances, children, size, levels_below_top}
 use Rattle.elab_model.specs.Homes.{has_leg}
-use Rattle.elab_model.specs.Members.{Member, assignment, supply, gate, instance, members}
+use Rattle.elab_model.specs.Members.{Member, assignment, supply, gate, instance, path, members}
 use Rattle.elab_model.specs.Names.{variable, variables}
-use Rattle.elab_model.specs.Nets.{OwnNet, bit_net, variable_nets, terminal_net, is_unbound, unbound_nets, constant_net, constant_nets, member_nets, nets_of, number_of, nets}
+use Rattle.elab_model.specs.Nets.{OwnNet, bit_net, variable_nets, terminal_net, inner_net, is_unbound, unbound_nets, constant_net, constant_nets, member_nets, nets_of, number_of, nets}
 use Rattle.elab_model.specs.Ports.{port_list}
+use Rattle.elab_model.specs.Terms.{NetBit}
 use Rattle.vl_tree.specs.Tree.{Module, Expression, Source}
 
 -- the nets that one connection makes, and those of one bit
@@ -101,12 +104,16 @@ all-two P Q R (x ∷ xs) f h g = (f x h.0 g.0, all-two P Q R xs f h.1 g.1)
 part-apart : (source : Source) (s : Instance) → ConnectedOnce source s → (x : ℕ × Member) → AreApart (member_nets source s x)
 part-apart source s once (k, assignment j) = tt
 part-apart source s once (k, supply n v) = tt
-part-apart source s once (k, gate g d i) = gate_nets-apart s k (output_count g (length (terminal_bits s i.terminals))) (terminal_bits s i.terminals)
+part-apart source s once (k, gate g d i) = let outputs = output_count g (length i.terminals) in gate_nets-apart s k (output_bits s outputs i.terminals) (input_bits s outputs i.terminals)
+part-apart source s once (k, path p) =
+    let es = first_ends s.step.definition (k, path p) in
+    pairwise-map Other (inner_net s) es
+    (pairwise-weaker AreOtherBits (λ b c. Other (inner_net s b) (inner_net s c)) es (λ b c e. and-false (s.step.number == s.step.number) (bytes_eq b.name c.name && b.position == c.position) e) (first_bits-apart _ (ends s.step.definition (path p))))
 part-apart source s once (k, instance n d i) = by (definition_of source n.text)
   where
     by : (o : Option Part) → AreApart (instance_nets source s k i o)
     by None = tt
-    by (Some (a_primitive p)) = gate_nets-apart s k 1 (terminal_bits s (connection_values i.connections))
+    by (Some (a_primitive p)) = let es = connection_values i.connections in gate_nets-apart s k (output_bits s 1 es) (input_bits s 1 es)
     by (Some (a_module m)) =
         pairwise-flat Other (λ c d. ⊥) (λ c o. Unit {0}) (λ c. unbound_nets source s c ++ constant_nets source s c) (child_at source s k)
         (λ c. all-anyway (λ o. Unit {0}) (unbound_nets source s c ++ constant_nets source s c) (λ o. tt))
@@ -117,18 +124,18 @@ part-apart source s once (k, instance n d i) = by (definition_of source n.text)
         (child_at-one source s k)
 
 -- it is one of the instance's, and of this part
-abbrev pub IsInPart : ℕ → ℕ → OwnNet → Type 0
-IsInPart s k o = (scope_of_spot o.spot ≡ s) × IsOfPart k o.spot
+abbrev pub IsInPart : Instance → ℕ × Member → OwnNet → Type 0
+IsInPart s x o = (scope_of_spot o.spot ≡ s.step.number) × IsOfPart s.step.definition x o.spot
 
-outside-part : (s c : Instance) (k : ℕ) (n : List ℕ) (p : ℕ) (o : OwnNet) → c.step.member ≡ k → IsOutside s c n p o → IsInPart s.step.number k o
-outside-part s c k n p o e h = rw h (refl, e)
+outside-part : (s c : Instance) (x : ℕ × Member) (n : List ℕ) (p : ℕ) (o : OwnNet) → c.step.member ≡ x.0 → IsOutside s c n p o → IsInPart s x o
+outside-part s c x n p o e h = rw h (refl, e)
 
-child-part : (source : Source) (s c : Instance) (k : ℕ) → c.step.member ≡ k → AllByRecursion (IsInPart s.step.number k) (unbound_nets source s c ++ constant_nets source s c)
-child-part source s c k e =
-    all-append (IsInPart s.step.number k) (unbound_nets source s c) (constant_nets source s c)
-    (all-weaker (IsUnbound s c) (IsInPart s.step.number k) (unbound_nets source s c) (λ o h. outside-part s c k h.0 h.1.0 o e h.1.1) (unbound-all source s c))
-    (all-flat (IsInPart s.step.number k) (connection_net source s c) (port_values c.step.connections (port_list c.step.definition))
-    (λ x. all-weaker (IsOutsideOf s c x.0) (IsInPart s.step.number k) (connection_net source s c x) (λ o h. outside-part s c k x.0 h.0 o e h.1) (connection-of source s c x)))
+child-part : (source : Source) (s c : Instance) (x : ℕ × Member) → c.step.member ≡ x.0 → AllByRecursion (IsInPart s x) (unbound_nets source s c ++ constant_nets source s c)
+child-part source s c x e =
+    all-append (IsInPart s x) (unbound_nets source s c) (constant_nets source s c)
+    (all-weaker (IsUnbound s c) (IsInPart s x) (unbound_nets source s c) (λ o h. outside-part s c x h.0 h.1.0 o e h.1.1) (unbound-all source s c))
+    (all-flat (IsInPart s x) (connection_net source s c) (port_values c.step.connections (port_list c.step.definition))
+    (λ v. all-weaker (IsOutsideOf s c v.0) (IsInPart s x) (connection_net source s c v) (λ o h. outside-part s c x v.0 h.0 o e h.1) (connection-of source s c v)))
 
 chosen-part : (k : ℕ) (c : Instance) → AllByRecursion (λ x. x.step.member ≡ k) (if c.step.member == k then c ∷ [] else [])
 chosen-part k c = by (c.step.member == k) refl
@@ -137,31 +144,43 @@ chosen-part k c = by (c.step.member == k) refl
     by true e = (eqb-true c.step.member k e, tt)
     by false e = tt
 
-terminals-part : (s : Instance) (k n : ℕ) (bs : List Bit) → AllByRecursion (IsInPart s.step.number k) (terminal_nets s k n bs)
-terminals-part s k n bs =
-    all-flat (IsInPart s.step.number k) (terminal_net s k (take n bs)) (enumerate_from 0 (drop n bs))
-    (λ x. all-weaker (IsTerminal s.step.number k x) (IsInPart s.step.number k) (terminal_net s k (take n bs) x) (λ o h. rw h (refl, refl)) (terminal-is s k (take n bs) x))
+terminals-part : (s : Instance) (x : ℕ × Member) (outputs inputs : List Bit) → AllByRecursion (IsInPart s x) (terminal_nets s x.0 outputs inputs)
+terminals-part s x outputs inputs =
+    all-flat (IsInPart s x) (terminal_net s x.0 outputs) (enumerate_from 0 inputs)
+    (λ i. all-weaker (IsTerminal s.step.number x.0 i) (IsInPart s x) (terminal_net s x.0 outputs i) (λ o h. rw h (refl, refl)) (terminal-is s x.0 outputs i))
 
-pub part-is : (source : Source) (s : Instance) (x : ℕ × Member) → AllByRecursion (IsInPart s.step.number x.0) (member_nets source s x)
+pub part-is : (source : Source) (s : Instance) (x : ℕ × Member) → AllByRecursion (IsInPart s x) (member_nets source s x)
 part-is source s (k, assignment j) = tt
 part-is source s (k, supply n v) = tt
-part-is source s (k, gate g d i) = let bs = terminal_bits s i.terminals in terminals-part s k (output_count g (length bs)) bs
+part-is source s (k, gate g d i) = let outputs = output_count g (length i.terminals) in terminals-part s (k, gate g d i) (output_bits s outputs i.terminals) (input_bits s outputs i.terminals)
+part-is source s (k, path p) =
+    let es = first_ends s.step.definition (k, path p) in
+    all-map (IsInPart s (k, path p)) (inner_net s) es (all-from (λ b. IsInPart s (k, path p) (inner_net s b)) es (λ b h. (refl, h)))
 part-is source s (k, instance n d i) = by (definition_of source n.text)
   where
-    by : (o : Option Part) → AllByRecursion (IsInPart s.step.number k) (instance_nets source s k i o)
+    x : ℕ × Member
+    x = (k, instance n d i)
+
+    by : (o : Option Part) → AllByRecursion (IsInPart s (k, instance n d i)) (instance_nets source s k i o)
     by None = tt
-    by (Some (a_primitive p)) = terminals-part s k 1 (terminal_bits s (connection_values i.connections))
+    by (Some (a_primitive p)) = let es = connection_values i.connections in terminals-part s x (output_bits s 1 es) (input_bits s 1 es)
     by (Some (a_module m)) =
-        all-flat_in (IsInPart s.step.number k) (λ c. unbound_nets source s c ++ constant_nets source s c) (child_at source s k)
-        (all-weaker (λ c. c.step.member ≡ k) (λ c. AllByRecursion (IsInPart s.step.number k) (unbound_nets source s c ++ constant_nets source s c)) (child_at source s k) (λ c e. child-part source s c k e)
+        all-flat_in (IsInPart s x) (λ c. unbound_nets source s c ++ constant_nets source s c) (child_at source s k)
+        (all-weaker (λ c. c.step.member ≡ k) (λ c. AllByRecursion (IsInPart s x) (unbound_nets source s c ++ constant_nets source s c)) (child_at source s k) (λ c e. child-part source s c x e)
         (all-flat (λ c. c.step.member ≡ k) (λ c. if c.step.member == k then c ∷ [] else []) (children source s) (chosen-part k)))
+
+-- the members of a module are different parts
+parts-differ : (m : Module) → Pairwise (AreOtherParts m) (enumerate_from 0 (members m))
+parts-differ m =
+    pairwise-both (λ x y. (x.0 == y.0) ≡ false) (λ x y. Cross AreOtherBits (first_ends m x) (first_ends m y)) (enumerate_from 0 (members m))
+    (enumerate-apart 0 (members m)) (pairwise-pieces AreOtherBits (first_ends m) (enumerate_from 0 (members m)) (path_ends-apart m))
 
 parts-apart : (source : Source) (s : Instance) → ConnectedOnce source s → AreApart (flat_map (member_nets source s) (enumerate_from 0 (members s.step.definition)))
 parts-apart source s once =
-    pairwise-flat Other (λ x y. (x.0 == y.0) ≡ false) (λ x. IsInPart s.step.number x.0) (member_nets source s) (enumerate_from 0 (members s.step.definition))
-    (part-is source s) (λ x y e a b h g. parts-tell x.0 y.0 a.spot b.spot e h.1 g.1)
+    pairwise-flat Other (AreOtherParts s.step.definition) (IsInPart s) (member_nets source s) (enumerate_from 0 (members s.step.definition))
+    (part-is source s) (λ x y e a b h g. parts-tell s.step.definition x y a.spot b.spot e h.1 g.1)
     (all-anyway (λ x. AreApart (member_nets source s x)) (enumerate_from 0 (members s.step.definition)) (part-apart source s once))
-    (enumerate-apart 0 (members s.step.definition))
+    (parts-differ s.step.definition)
 
 -- a bit of a variable of the instance
 abbrev pub IsBitOwned : ℕ → OwnNet → Type 0
@@ -173,26 +192,26 @@ variable-is source s =
     (λ v. all-flat (IsBitOwned s.step.number) (bit_net source s v) (positions v.range)
     (λ p. all-weaker (IsBitAt s.step.number v.name p) (IsBitOwned s.step.number) (bit_net source s v p) (λ o h. rw h (refl, tt)) (owned-bit source s v p)))
 
-abbrev IsNoBit : ℕ → OwnNet → Type 0
-IsNoBit s o = (k : ℕ) × IsInPart s k o
+abbrev IsNoBit : Instance → OwnNet → Type 0
+IsNoBit s o = (x : ℕ × Member) × IsInPart s x o
 
-parts-are : (source : Source) (s : Instance) → AllByRecursion (IsNoBit s.step.number) (flat_map (member_nets source s) (enumerate_from 0 (members s.step.definition)))
+parts-are : (source : Source) (s : Instance) → AllByRecursion (IsNoBit s) (flat_map (member_nets source s) (enumerate_from 0 (members s.step.definition)))
 parts-are source s =
-    all-flat (IsNoBit s.step.number) (member_nets source s) (enumerate_from 0 (members s.step.definition))
-    (λ x. all-weaker (IsInPart s.step.number x.0) (IsNoBit s.step.number) (member_nets source s x) (λ o h. (x.0, h)) (part-is source s x))
+    all-flat (IsNoBit s) (member_nets source s) (enumerate_from 0 (members s.step.definition))
+    (λ x. all-weaker (IsInPart s x) (IsNoBit s) (member_nets source s x) (λ o h. (x, h)) (part-is source s x))
 
 -- the nets of one instance
 pub nets_of-apart : (source : Source) (s : Instance) → ConnectedOnce source s → AreApart (nets_of source s)
 nets_of-apart source s once =
     pairwise-append Other (variable_nets source s) (flat_map (member_nets source s) (enumerate_from 0 (members s.step.definition))) (variable_nets-apart source s) (parts-apart source s once)
-    (cross-by Other (IsBitOwned s.step.number) (IsNoBit s.step.number) (variable_nets source s) (flat_map (member_nets source s) (enumerate_from 0 (members s.step.definition)))
-    (λ a b h g. bits-tell g.0 a.spot b.spot h.1 g.1.1) (variable-is source s) (parts-are source s))
+    (cross-by Other (IsBitOwned s.step.number) (IsNoBit s) (variable_nets source s) (flat_map (member_nets source s) (enumerate_from 0 (members s.step.definition)))
+    (λ a b h g. bits-tell s.step.definition g.0 a.spot b.spot h.1 g.1.1) (variable-is source s) (parts-are source s))
 
 pub nets_of-scope : (source : Source) (s : Instance) → AllByRecursion (λ o. scope_of_spot o.spot ≡ s.step.number) (nets_of source s)
 nets_of-scope source s =
     all-append (λ o. scope_of_spot o.spot ≡ s.step.number) (variable_nets source s) (flat_map (member_nets source s) (enumerate_from 0 (members s.step.definition)))
     (all-weaker (IsBitOwned s.step.number) (λ o. scope_of_spot o.spot ≡ s.step.number) (variable_nets source s) (λ o h. h.0) (variable-is source s))
-    (all-weaker (IsNoBit s.step.number) (λ o. scope_of_spot o.spot ≡ s.step.number) (flat_map (member_nets source s) (enumerate_from 0 (members s.step.definition))) (λ o h. h.1.0) (parts-are source s))
+    (all-weaker (IsNoBit s) (λ o. scope_of_spot o.spot ≡ s.step.number) (flat_map (member_nets source s) (enumerate_from 0 (members s.step.definition))) (λ o h. h.1.0) (parts-are source s))
 
 pub instances-apart : (source : Source) (top : Module) → Pairwise (λ s t. (s.step.number == t.step.number) ≡ false) (instances source top)
 instances-apart source top =

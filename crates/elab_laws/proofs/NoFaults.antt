@@ -6,7 +6,7 @@ use Rattle.std.specs.Option.{option_and_then}
 use Rattle.vl_tree.specs.Tree.{Part, a_module, a_primitive}
 use Rattle.sg_text.specs.declared.places.Place.{Place}
 use Rattle.elab_model.specs.declared.kinds.ElabKind.TheVariants.{DuplicateName, BadTerminal}
-use Rattle.elab_model.specs.Members.{Member, assignment, supply, gate, instance, members, member_values}
+use Rattle.elab_model.specs.Members.{Member, assignment, supply, gate, instance, path, members, member_values}
 use Rattle.elab_model.specs.Definitions.{definition_of, as_module}
 use Rattle.elab_model.specs.Ports.{port_list}
 use Rattle.elab_model.specs.Names.{Variable, variables}
@@ -17,7 +17,8 @@ use Rattle.elab_model.specs.Faults.{fault, fault_if, places_again, duplicates}
 use Rattle.elab_model.specs.NameFaults.{name_faults, declaration_faults, twice_in_list}
 use Rattle.elab_model.specs.TerminalFaults.{expression_faults, is_missing}
 use Rattle.elab_model.specs.ModuleFaults.{connection_faults, delay_on_module, instance_faults, member_faults, all_member_faults, module_faults}
-use Rattle.elab_model.specs.HierarchyFaults.{instance_faults_below, self_instances, too_deep}
+use Rattle.elab_model.specs.HierarchyFaults.{instance_faults_below, self_instances}
+pub use Rattle.elab_laws.proofs.Lists.{all-from}
 use Rattle.elab_laws.proofs.Lists.{In, in-flat, from-flat, all-in, all-weaker}
 use Rattle.elab_laws.proofs.Apart.{AreApart}
 use Rattle.elab_laws.proofs.Chains.{IsBelow, children-below, children-are}
@@ -83,6 +84,7 @@ part-once : (source : Source) (c : Corner) (tick : ℤ) (m : Module) (k : ℕ) (
 part-once source c tick m k (assignment j) h y e = cc
 part-once source c tick m k (supply n v) h y e = cc
 part-once source c tick m k (gate g d i) h y e = cc
+part-once source c tick m k (path p) h y e = cc
 part-once source c tick m k (instance n d i) h y e = by (definition_of source n.text) h e
   where
     by : (o : Option Part) → instance_faults c tick m (variables m) d i o ≡ [] → child_of (option_and_then as_module o) k i ≡ Some y → NamesOnce y.connections
@@ -128,12 +130,8 @@ IsFaultless source top c s = module_faults source c (tick_of source top) s.step.
 pub each-faultless : (source : Source) (top : Module) (c : Corner) → flat_map (instance_faults_below source top c) (instances source top) ≡ [] → AllByRecursion (IsFaultless source top c) (instances source top)
 each-faultless source top c z =
     all-weaker (λ s. instance_faults_below source top c s ≡ []) (IsFaultless source top c) (instances source top)
-    (λ s e. back (too_deep source s) (module_faults source c (tick_of source top) s.step.definition) (back (self_instances source s) (too_deep source s ++ module_faults source c (tick_of source top) s.step.definition) e))
+    (λ s e. back (self_instances source s) (module_faults source c (tick_of source top) s.step.definition) e)
     (flat-empty (instance_faults_below source top c) (instances source top) z)
-
-pub all-from : {A : Type 0} (P : A → Type 0) (xs : List A) → ((x : A) → In x xs → P x) → AllByRecursion P xs
-all-from P [] f = tt
-all-from P (x ∷ xs) f = (f x (inl refl), all-from P xs (λ y h. f y (inr h)))
 
 pub connected-once_all : (source : Source) (top : Module) (c : Corner) → AllByRecursion (IsFaultless source top c) (instances source top) → AllByRecursion (ConnectedOnce source) (instances source top)
 connected-once_all source top c each =

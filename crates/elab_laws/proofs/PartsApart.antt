@@ -1,19 +1,19 @@
 -- The nets that no variable names are distinct.
-use Rattle.std.specs.Prelude.{◌≡◌, ℕ, zero, suc, ◌+◌, ◌==◌, List, [], ◌∷◌, ◌++◌, Bool, true, false, ◌&&◌, Option, Some, None, map, flat_map, filter_map, slice_get, take, drop, refl, if◌then◌else◌, bytes_eq}
+use Rattle.std.specs.Prelude.{◌≡◌, ℕ, zero, suc, ◌+◌, ◌==◌, List, [], ◌∷◌, ◌++◌, Bool, true, false, ◌&&◌, Option, Some, None, map, flat_map, filter_map, slice_get, refl, if◌then◌else◌, bytes_eq}
 use Rattle.std.specs.List.{AllByRecursion, enumerate_from, cons_option}
 use Rattle.std.proofs.Common.{sym, ◌∙◌, ap, arith, subst, add-zero}
 use Rattle.std.proofs.lemmas.Bool.{eq-eqb, eqb-true}
 use Rattle.std.proofs.lemmas.Slice.Eq.{bytes_eq-Decides}
 use Rattle.elab_laws.proofs.Lists.{all-flat, all-flat_in, all-weaker, all-anyway, Pairwise, pairwise-flat, pairwise-map, pairwise-map_back, range-apart, enumerate-apart}
 use Rattle.elab_laws.proofs.Chains.{IsBelow, children-below}
-use Rattle.elab_laws.proofs.Apart.{Other, AreApart, variables-apart}
+use Rattle.elab_laws.proofs.Apart.{Other, AreApart, and-false, variables-apart}
 use Rattle.elab_model.specs.Bits.{Bit, net, constant, positions}
 use Rattle.elab_model.specs.Connections.{connection_at, port_values}
 use Rattle.elab_model.specs.Definitions.{module_of}
 use Rattle.elab_model.specs.Elements.{child_at, bound_above}
 use Rattle.elab_model.specs.Hierarchy.{Step, Instance, Child, children_in, child_of_member, child_of, children, children_at, children_from, size}
 use Rattle.elab_model.specs.Homes.{outside, terminal, has_leg}
-use Rattle.elab_model.specs.Members.{Member, assignment, supply, gate, instance, members}
+use Rattle.elab_model.specs.Members.{Member, assignment, supply, gate, instance, path, members}
 use Rattle.elab_model.specs.Names.{Variable, variables}
 use Rattle.elab_model.specs.Nets.{OwnNet, terminal_net, terminal_nets, outside_net, is_unbound, unbound_net, unbound_nets}
 use Rattle.elab_model.specs.Ports.{port_list}
@@ -63,6 +63,7 @@ unfolding option_items
 inner-at source (k, assignment j) = tt
 inner-at source (k, supply n v) = tt
 inner-at source (k, gate g d i) = tt
+inner-at source (k, path p) = tt
 inner-at source (k, instance n d i) = by (module_of source n.text)
   where
     by : (o : Option Module) → AllByRecursion (IsAt (k, instance n d i)) (option_items (child_of o k i))
@@ -145,17 +146,13 @@ terminal-one s k (constant at w ∷ os) x = tt
 terminal-one s k (net m q ∷ os) (i, net n p) = tt
 terminal-one s k (net m q ∷ os) (i, constant at v) = (tt, tt)
 
-pub and-false : (a b : Bool) → b ≡ false → (a && b) ≡ false
-and-false true b e = e
-and-false false b e = refl
-
-pub gate_nets-apart : (s : Instance) (k n : ℕ) (bs : List Bit) → AreApart (terminal_nets s k n bs)
-gate_nets-apart s k n bs =
-    pairwise-flat Other (λ x y. (x.0 == y.0) ≡ false) (IsTerminal s.step.number k) (terminal_net s k (take n bs)) (enumerate_from 0 (drop n bs))
-    (terminal-is s k (take n bs))
+pub gate_nets-apart : (s : Instance) (k : ℕ) (outputs inputs : List Bit) → AreApart (terminal_nets s k outputs inputs)
+gate_nets-apart s k outputs inputs =
+    pairwise-flat Other (λ x y. (x.0 == y.0) ≡ false) (IsTerminal s.step.number k) (terminal_net s k outputs) (enumerate_from 0 inputs)
+    (terminal-is s k outputs)
     (λ x y e a b h g. rw (h, g, e) (and-false (s.step.number == s.step.number) ((k == k) && false) (and-false (k == k) false refl)))
-    (all-anyway (λ x. AreApart (terminal_net s k (take n bs) x)) (enumerate_from 0 (drop n bs)) (terminal-one s k (take n bs)))
-    (enumerate-apart 0 (drop n bs))
+    (all-anyway (λ x. AreApart (terminal_net s k outputs x)) (enumerate_from 0 inputs) (terminal-one s k outputs))
+    (enumerate-apart 0 inputs)
 
 -- ---- what lies outside a leaf
 

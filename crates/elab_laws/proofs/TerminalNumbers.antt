@@ -1,7 +1,7 @@
 -- The numbers of the inputs of a gate or a primitive.
-use Rattle.std.specs.Prelude.{◌≡◌, ℕ, suc, ◌+◌, List, [], ◌∷◌, map, flat_map, take, drop, length, refl}
+use Rattle.std.specs.Prelude.{◌≡◌, ℕ, suc, ◌+◌, List, [], ◌∷◌, map, flat_map, length, refl}
 use Rattle.std.specs.List.{enumerate_from, range_with_len}
-use Rattle.std.proofs.Common.{◌∙◌, ap, subst, add-one}
+use Rattle.std.proofs.Common.{◌∙◌, ap, add-one}
 use Rattle.vl_tree.specs.Tree.{Source}
 use Rattle.elab_model.specs.Bits.{Bit, net, constant}
 use Rattle.elab_model.specs.Elements.{input_spot}
@@ -32,10 +32,4 @@ inputs-from all source s k i next m q os (constant at v ∷ bs) e =
     ap (λ n. n ∷ map (λ i. number_of all (input_spot source s k i)) (enumerate_from (i + 1) bs)) here ∙ ap (λ xs. next ∷ xs) (inputs-from all source s k (i + 1) (suc next) m q os bs later)
 
 pub terminals-are_numbered : TerminalsAreNumbered
-terminals-are_numbered all source s k outputs next bs os m q e h = by (take outputs bs) e h
-  where
-    by : (ts : List Bit) → ts ≡ net m q ∷ os → numbers_in all (flat_map (terminal_net s k ts) (enumerate_from 0 (drop outputs bs))) ≡ range_with_len next (length (flat_map (terminal_net s k ts) (enumerate_from 0 (drop outputs bs))))
-        → map (λ i. number_of all (input_spot source s k i)) (enumerate_from 0 (drop outputs bs)) ≡ numbered next (map (number_of_bit (λ n p. number_of all (home_of source s n p))) (drop outputs bs))
-    by ts g h =
-        inputs-from all source s k 0 next m q os (drop outputs bs)
-        (subst (λ ts. numbers_in all (flat_map (terminal_net s k ts) (enumerate_from 0 (drop outputs bs))) ≡ range_with_len next (length (flat_map (terminal_net s k ts) (enumerate_from 0 (drop outputs bs))))) g h)
+terminals-are_numbered all source s k next inputs os m q e = inputs-from all source s k 0 next m q os inputs e

@@ -1,5 +1,5 @@
 -- What elements read and drive: each bit of an expression has a net, and so has a constant at an input of a gate or a primitive.
-use Rattle.std.specs.Prelude.{◌≡◌, ℕ, List, ◌∷◌, flat_map, take, drop, refl}
+use Rattle.std.specs.Prelude.{◌≡◌, ℕ, List, ◌∷◌, flat_map, refl}
 use Rattle.std.specs.List.{AllByRecursion, enumerate_from}
 use Rattle.std.proofs.Common.{sym, inl, subst}
 use Rattle.sg_logic.specs.declared.values.Value.{Value}
@@ -39,17 +39,15 @@ in-member source top s x o there at h =
     in-flat (nets_of source) s o (instances source top) there
     (in-right o (variable_nets source s) (flat_map (member_nets source s) (enumerate_from 0 (members s.step.definition))) (in-flat (member_nets source s) x o (enumerate_from 0 (members s.step.definition)) at h))
 
-pub terminal-there : (source : Source) (top : Module) (s : Instance) (k : ℕ) (x : Member) (outputs : ℕ) (bs : List Bit) (m : List ℕ) (q : ℕ) (rest : List Bit) (i : ℕ) (at : Place) (v : Value)
-    → In s (instances source top) → In (k, x) (enumerate_from 0 (members s.step.definition)) → member_nets source s (k, x) ≡ terminal_nets s k outputs bs → take outputs bs ≡ net m q ∷ rest
-    → In (i, constant at v) (enumerate_from 0 (drop outputs bs)) → Owns (terminal s.step.number k i) (nets source top)
-terminal-there source top s k x outputs bs m q rest i at v there member is first input =
+pub terminal-there : (source : Source) (top : Module) (s : Instance) (k : ℕ) (x : Member) (m : List ℕ) (q : ℕ) (rest inputs : List Bit) (i : ℕ) (at : Place) (v : Value)
+    → In s (instances source top) → In (k, x) (enumerate_from 0 (members s.step.definition)) → member_nets source s (k, x) ≡ terminal_nets s k (net m q ∷ rest) inputs
+    → In (i, constant at v) (enumerate_from 0 inputs) → Owns (terminal s.step.number k i) (nets source top)
+terminal-there source top s k x m q rest inputs i at v there member is input =
     record {
       owned = the_net s k i m q;
       there = in-member source top s (k, x) (the_net s k i m q) there member (subst (In (the_net s k i m q)) (sym is) made);
       same = refl;
     }
   where
-    made : In (the_net s k i m q) (terminal_nets s k outputs bs)
-    made =
-        in-flat (terminal_net s k (take outputs bs)) (i, constant at v) (the_net s k i m q) (enumerate_from 0 (drop outputs bs)) input
-        (subst (λ os. In (the_net s k i m q) (terminal_net s k os (i, constant at v))) (sym first) (inl refl))
+    made : In (the_net s k i m q) (terminal_nets s k (net m q ∷ rest) inputs)
+    made = in-flat (terminal_net s k (net m q ∷ rest)) (i, constant at v) (the_net s k i m q) (enumerate_from 0 inputs) input (inl refl)

@@ -1,4 +1,4 @@
--- The instances of a netlist below a top, in depth-first text order (IEEE 1364-2005, 12.1.2).
+-- The instances of a netlist below a top, in depth-first text order (IEEE 1364-2005, 12.1.2). Their numbers are sums of sizes here; that these are their places in the list is the law `InstancesHavePlaces` of elab_laws.
 use Rattle.std.specs.Prelude.{ℕ, zero, suc, ◌+◌, List, [], ◌∷◌, Bool, true, false, ◌&&◌, not, Option, Some, None, flat_map, filter_map, sum_by}
 use Rattle.std.specs.List.{enumerate_from}
 use Rattle.sg_text.specs.declared.places.Place.{Place}

@@ -1,4 +1,5 @@
--- Conditions over the bits of a module (IEEE 1364-2005, 14.2.4).
+-- Conditions over the bits of a module (IEEE 1364-2005, 14.2.4). A condition is read twice: its operands word by word, for faults, and its tree, for what it means. Where there is no fault both agree: each operand
+-- of the tree is a bit that has a net (`PathsHaveNets` and `ChecksHaveNets` of elab_closed).
 use Rattle.std.specs.Prelude.{ℕ, ◌+◌, List, [], ◌∷◌, ◌++◌, Option, Some, None, Result, Ok, Err, map, slice_get}
 use Rattle.std.specs.Option.{option_map}
 use Rattle.cond_expr.specs.declared.tokens.Tok.TheVariants.{Name}
