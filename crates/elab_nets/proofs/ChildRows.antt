@@ -38,7 +38,8 @@ use Rattle.elab_model.specs.Numbered.{undriven}
 use Rattle.elab_nets.specs.declared.rows.Rows.{Rows}
 use Rattle.elab_nets.proofs.Children.{the_child, child-next, no-child, child-nets, child-in, member-faultless, child-connected}
 use Rattle.elab_nets.proofs.RowParts.{get-written, get-other, part-behind}
-use Rattle.elab_nets.proofs.Placings.{at-number, is-there, lone-is, no-level, placed-at, placed-count}
+use Rattle.elab_hierarchy.proofs.FaultlessTree.{no-children_at_limit}
+use Rattle.elab_nets.proofs.Placings.{at-number, is-there, lone-is, placed-at, placed-count}
 
 -- ---- one outer row more
 
@@ -166,7 +167,7 @@ module _ (source : Source) (top : Module) (corner : Corner) (library : Library) 
   }
 
   pub leaf-is : (p : Placed) (leaf : Bool) → IsPlaced source p the → leaf ≡ (p.end == next + 1) → has_no_child source the.step ≡ leaf
-  leaf-is p leaf is e = sym (lone-is source the.step p.end (no-level source top the turn.given.tree in-instances) is.end) ∙ sym e
+  leaf-is p leaf is e = sym (lone-is source the.step p.end (no-children_at_limit source top the turn.given.tree in-instances) is.end) ∙ sym e
 
   pub child-seen : (child : Prepared) (p : Placed) (new : Rows) → IsPrepared child m → IsPlaced source p the → next < length rows.outer_starts.items
       → new.nets.items ≡ rows.nets.items ++ map undriven (outside_nets source turn.s the)

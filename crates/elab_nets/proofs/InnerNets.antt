@@ -1,11 +1,11 @@
 -- The nets that are driven inside in place of the bits to which a specify path is the first to lead.
-use Rattle.std.specs.Prelude.{◌≡◌, ℕ, ◌+◌, ◌-◌, ◌<◌, ◌≤◌, All, List, [], ◌∷◌, ◌++◌, Option, Some, None, flat_map, length, map, slice_get, take, drop, refl}
+use Rattle.std.specs.Prelude.{◌≡◌, ◌⊎◌, ℕ, ◌+◌, ◌-◌, ◌<◌, ◌≤◌, All, List, [], ◌∷◌, ◌++◌, Option, Some, None, flat_map, length, map, slice_get, slice_index_or, take, drop, refl}
 use Rattle.std.specs.List.{AllByRecursion, enumerate_from}
-use Rattle.std.proofs.Common.{sym, ◌∙◌, ap, arith, subst, append_assoc, append-nil, length-append, take-append-drop}
+use Rattle.std.proofs.Common.{sym, ◌∙◌, ap, arith, inl, inr, subst, append_assoc, append-nil, length-append, take-append-drop}
 use Rattle.std.proofs.lemmas.Grind.{flat_map-append}
 use Rattle.std.proofs.lemmas.List.{drop-append-le, drop-map, drop_all, length-map, take-append-le, take-map, take_all}
 use Rattle.std.proofs.lemmas.List.Elements.{recursion_from_All}
-use Rattle.std.proofs.lemmas.Option.{slice_get_within}
+use Rattle.std.proofs.lemmas.Option.{slice_get_read, slice_get_within}
 use Rattle.vl_tree.specs.Tree.{Module, Source, SpecifyPath}
 use Rattle.elab_model.specs.Ends.{first_ends, path_ends}
 use Rattle.elab_model.specs.Hierarchy.{Instance}
@@ -24,6 +24,14 @@ use Rattle.elab_nets.specs.Ends.{AreFirstEnds, HasPath}
 use Rattle.elab_nets.specs.Own.{net_at}
 use Rattle.elab_nets.proofs.ConstantNets.{same-name}
 use Rattle.elab_nets.proofs.NumberedLists.{taken}
+
+-- a number that the code has read
+pub read-at : (xs ys : List ℕ) (k x : ℕ) → ys ≡ xs → k < length ys → x ≡ slice_index_or ys k x → slice_get xs k ≡ Some x
+read-at xs ys k x e lt is = ap (λ zs. slice_get zs k) (sym e) ∙ slice_get_read ys (length ys) k x refl lt is
+
+not-past : (first end count : ℕ) → (first ≤ end) × (end ≤ count) → (end < first) ⊎ (count < end) → ⊥
+not-past first end count h (inl lt) = let le = h.0 in omega arith
+not-past first end count h (inr lt) = let le = h.1 in omega arith
 
 -- ---- where they stand among all
 
@@ -73,7 +81,7 @@ module _ (m : Module) (e : PathEnds) (k : ℕ) (i : Member) (ends : AreEnds m e)
   whole : path_ends m ≡ (ends_up_to m k ++ first_ends m (k, i)) ++ flat_map (first_ends m) (drop (k + 1) (enumerate_from 0 (members m)))
   whole = ends-split m (k + 1) ∙ ap (λ bs. bs ++ flat_map (first_ends m) (drop (k + 1) (enumerate_from 0 (members m)))) (ends-next m k i there)
 
-  pub in-bits : (first end : ℕ) → slice_get e.starts.items k ≡ Some first → slice_get e.starts.items (k + 1) ≡ Some end → (first ≤ end) × (end ≤ length e.bits.items)
+  in-bits : (first end : ℕ) → slice_get e.starts.items k ≡ Some first → slice_get e.starts.items (k + 1) ≡ Some end → (first ≤ end) × (end ≤ length e.bits.items)
   in-bits first end f g =
       let a = first-is first f in
       let b = end-is end g in
@@ -82,6 +90,9 @@ module _ (m : Module) (e : PathEnds) (k : ℕ) (i : Member) (ends : AreEnds m e)
       sym (length-map e.bits.items (bit_seen (variables m))) ∙ ap length (ends.bits ∙ whole) in
       let o = length-append (ends_up_to m k ++ first_ends m (k, i)) (flat_map (first_ends m) (drop (k + 1) (enumerate_from 0 (members m)))) in
       (omega arith, omega arith)
+
+  pub is-within : (first end count : ℕ) → slice_get e.starts.items k ≡ Some first → slice_get e.starts.items (k + 1) ≡ Some end → count ≡ length e.bits.items → (end < first) ⊎ (count < end) → ⊥
+  is-within first end count f g n h = not-past first end (length e.bits.items) (in-bits first end f g) (subst (λ c. (end < first) ⊎ (c < end)) n h)
 
   pub are-first : (first end : ℕ) (places : List ℕ) → slice_get e.starts.items k ≡ Some first → slice_get e.starts.items (k + 1) ≡ Some end → places ≡ take (end - first) (drop first e.bits.items)
       → bits_seen (variables m) places ≡ first_ends m (k, i)
@@ -99,15 +110,15 @@ inner-nets vs s scope [] e n h = refl
 inner-nets vs s scope (i ∷ places) e n h =
     ap (λ o. o ∷ map (λ i. net_at scope (bit_at vs i)) places) (sym (same-name vs s scope i e n h.0)) ∙ ap (λ os. undriven (inner_net s (bit_seen vs i)) ∷ os) (inner-nets vs s scope places e n h.1)
 
-module _ (source : Source) (s : Instance) (prepared : Prepared) (scope k : ℕ) (p : SpecifyPath) (has : HasPath s prepared scope k p) (places : List ℕ)
-    (row : All (λ i. i < length (all_bits prepared.table)) places) (seen : bits_seen (variables s.step.definition) places ≡ first_ends s.step.definition (k, path p)) where
-  pub nets-are : map (λ i. net_at scope (bit_at prepared.table i)) places ≡ map undriven (member_nets source s (k, path p))
-  nets-are =
-      inner-nets prepared.table s scope places has.ready.table has.number (recursion_from_All (λ i. i < length (all_bits prepared.table)) places row)
-      ∙ ap (λ vs. map undriven (map (inner_net s) (bits_seen vs places))) has.ready.table ∙ ap (λ bs. map undriven (map (inner_net s) bs)) seen
-
+module _ (s : Instance) (prepared : Prepared) (scope k : ℕ) (p : SpecifyPath) (has : HasPath s prepared scope k p) (places : List ℕ)
+    (seen : bits_seen (variables s.step.definition) places ≡ first_ends s.step.definition (k, path p)) where
   pub end-count : length places ≡ length (first_ends s.step.definition (k, path p))
   end-count = sym (length-map places (bit_seen (variables s.step.definition))) ∙ ap length seen
 
-  pub net-count : length places ≡ length (member_nets source s (k, path p))
-  net-count = end-count ∙ sym (length-map (first_ends s.step.definition (k, path p)) (inner_net s))
+  pub nets-are : (source : Source) → All (λ i. i < length (all_bits prepared.table)) places → map (λ i. net_at scope (bit_at prepared.table i)) places ≡ map undriven (member_nets source s (k, path p))
+  nets-are source row =
+      inner-nets prepared.table s scope places has.ready.table has.number (recursion_from_All (λ i. i < length (all_bits prepared.table)) places row)
+      ∙ ap (λ vs. map undriven (map (inner_net s) (bits_seen vs places))) has.ready.table ∙ ap (λ bs. map undriven (map (inner_net s) bs)) seen
+
+  pub net-count : (source : Source) → length places ≡ length (member_nets source s (k, path p))
+  net-count source = end-count ∙ sym (length-map (first_ends s.step.definition (k, path p)) (inner_net s))

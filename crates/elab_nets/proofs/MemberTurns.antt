@@ -29,7 +29,8 @@ use Rattle.elab_nets.specs.declared.rows.Rows.{Rows}
 use Rattle.elab_nets.proofs.ChildRows.{none-added}
 use Rattle.elab_nets.proofs.NumberedLists.{next-is, taken}
 use Rattle.elab_nets.proofs.OuterRows.{both-added}
-use Rattle.elab_nets.proofs.Placings.{is-there, no-level}
+use Rattle.elab_hierarchy.proofs.FaultlessTree.{no-children_at_limit}
+use Rattle.elab_nets.proofs.Placings.{is-there}
 
 -- ---- so many nets are there before a member
 
@@ -115,7 +116,7 @@ first-children : (source : Source) (top : Module) (s : Instance) (next : ℕ) �
 first-children source top s next tree there e = by s.step.levels refl
   where
     by : (n : ℕ) → s.step.levels ≡ n → (d : ℕ) × (children_at source n s ≡ children_from source d (s.step ∷ s.above) next (children_among source (members_of s)))
-    by zero l = (0, ap (children_from source 0 (s.step ∷ s.above) next) (sym (no-level source top s tree there l)))
+    by zero l = (0, ap (children_from source 0 (s.step ∷ s.above) next) (sym (no-children_at_limit source top s tree there l)))
     by (suc d) l = (d, ap (λ k. children_from source d (s.step ∷ s.above) k (children_among source (members_of s))) e)
 
 pub none-through : (source : Source) (top : Module) (corner : Corner) (library : Library) (placed : List Placed) (rows : Rows) (table : List Variable) (number : ℕ) (turn : HasTurn source top corner library placed rows table number)

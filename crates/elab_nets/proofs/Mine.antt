@@ -24,7 +24,8 @@ use Rattle.elab_model.specs.Numbered.{undriven}
 use Rattle.elab_nets.specs.declared.rows.Rows.{Rows}
 use Rattle.elab_nets.proofs.InnerRows.{front-is, own-due}
 use Rattle.elab_modules.proofs.FoundModules.{is-found, is-prepared}
-use Rattle.elab_nets.proofs.Placings.{is-there, lone-is, no-level, number-is, placed-at, placed-count}
+use Rattle.elab_hierarchy.proofs.FaultlessTree.{no-children_at_limit}
+use Rattle.elab_nets.proofs.Placings.{is-there, lone-is, number-is, placed-at, placed-count}
 use Rattle.elab_nets.proofs.RowParts.{get-behind}
 use Rattle.elab_nets.proofs.UpTo.{new-inner, one-more}
 
@@ -84,7 +85,7 @@ module _ (source : Source) (top : Module) (corner : Corner) (library : Library) 
   pub leaf-here : is_leaf source s ≡ (is_some p.parent && p.end == n + 1)
   leaf-here =
       sym (ap (λ b. b && p.end == n + 1) (ap is_some of.placed.parent ∙ has-parent s.above)
-      ∙ ap (λ b. not (is_empty s.above) && b) (ap (λ k. p.end == k + 1) (sym number_here) ∙ lone-is source s.step p.end (no-level source top s given.tree there) of.placed.end))
+      ∙ ap (λ b. not (is_empty s.above) && b) (ap (λ k. p.end == k + 1) (sym number_here) ∙ lone-is source s.step p.end (no-children_at_limit source top s given.tree there) of.placed.end))
 
   pub count-here : (rows : Rows) → AreUpTo source top rows n → length rows.nets.items ≡ length (flat_map (nets_of source) of.split.before)
   count-here rows up =
