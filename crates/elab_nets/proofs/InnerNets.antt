@@ -1,5 +1,5 @@
 -- The nets that are driven inside in place of the bits to which a specify path is the first to lead.
-use Rattle.std.specs.Prelude.{◌≡◌, ◌⊎◌, ℕ, ◌+◌, ◌-◌, ◌<◌, ◌≤◌, All, List, [], ◌∷◌, ◌++◌, Option, Some, None, flat_map, length, map, slice_get, slice_index_or, take, drop, refl}
+use Rattle.std.specs.Prelude.{◌≡◌, ◌⊎◌, ℕ, ◌+◌, ◌-◌, ◌<◌, ◌≤◌, All, List, [], ◌∷◌, ◌++◌, Some, None, flat_map, length, map, slice_get, slice_index_or, take, drop, refl}
 use Rattle.std.specs.List.{AllByRecursion, enumerate_from}
 use Rattle.std.proofs.Common.{sym, ◌∙◌, ap, arith, inl, inr, subst, append_assoc, append-nil, length-append, take-append-drop}
 use Rattle.std.proofs.lemmas.Grind.{flat_map-append}
@@ -20,7 +20,7 @@ use Rattle.elab_ends.specs.Ends.{AreEnds, ends_before}
 use Rattle.elab_ends.specs.Seen.{bit_seen, bits_seen}
 use Rattle.elab_ends.specs.declared.ends.PathEnds.{PathEnds}
 use Rattle.elab_modules.specs.declared.prepared.Prepared.{Prepared}
-use Rattle.elab_nets.specs.Ends.{AreFirstEnds, HasPath}
+use Rattle.elab_nets.specs.Ends.{HasPath}
 use Rattle.elab_nets.specs.Own.{net_at}
 use Rattle.elab_nets.proofs.ConstantNets.{same-name}
 use Rattle.elab_nets.proofs.NumberedLists.{taken}

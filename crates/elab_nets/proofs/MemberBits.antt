@@ -1,5 +1,5 @@
 -- Bits of terminals that come one after another.
-use Rattle.std.specs.Prelude.{◌≡◌, ℕ, zero, suc, ◌+◌, ◌<◌, ◌≤◌, All, List, [], ◌∷◌, ◌++◌, Option, Some, None, length, map, filter_map, take, drop, refl, option_map, slice_index_or}
+use Rattle.std.specs.Prelude.{◌≡◌, ℕ, zero, suc, ◌+◌, ◌<◌, ◌≤◌, List, [], ◌∷◌, ◌++◌, Option, Some, None, length, map, filter_map, take, drop, refl, option_map, slice_index_or}
 use Rattle.std.specs.List.{cons_option}
 use Rattle.std.specs.Option.{option_to_list}
 use Rattle.std.proofs.Common.{sym, ◌∙◌, ap, arith, drop-cons, append_assoc, append-nil, length-append}
@@ -54,10 +54,10 @@ pub input-added : (vs : List Variable) (e : Expression) (old new : TerminalBits)
     → map (view_bit vs) new.inputs.items ≡ map (view_bit vs) old.inputs.items ++ bits vs e → AddsTerminals vs (e ∷ []) old new
 input-added vs e old new z m o i = λ rest. (
   ap (λ xs. map (view_bit vs) xs ++ outputs_of vs new.outputs_to_come rest) o
-  ∙ ap (λ n. map (view_bit vs) old.outputs.items ++ outputs_of vs n rest) (m ∙ z) ∙ ap (λ n. map (view_bit vs) old.outputs.items ++ outputs_of vs n (e ∷ rest)) (sym z),
+      ∙ ap (λ n. map (view_bit vs) old.outputs.items ++ outputs_of vs n rest) (m ∙ z) ∙ ap (λ n. map (view_bit vs) old.outputs.items ++ outputs_of vs n (e ∷ rest)) (sym z),
   ap (λ xs. xs ++ inputs_of vs new.outputs_to_come rest) i
-  ∙ ap (λ n. (map (view_bit vs) old.inputs.items ++ bits vs e) ++ inputs_of vs n rest) (m ∙ z)
-  ∙ append_assoc (map (view_bit vs) old.inputs.items) (bits vs e) (inputs_of vs 0 rest) ∙ ap (λ n. map (view_bit vs) old.inputs.items ++ inputs_of vs n (e ∷ rest)) (sym z),
+      ∙ ap (λ n. (map (view_bit vs) old.inputs.items ++ bits vs e) ++ inputs_of vs n rest) (m ∙ z)
+      ∙ append_assoc (map (view_bit vs) old.inputs.items) (bits vs e) (inputs_of vs 0 rest) ∙ ap (λ n. map (view_bit vs) old.inputs.items ++ inputs_of vs n (e ∷ rest)) (sym z),
 )
 
 pub output-added : (vs : List Variable) (e : Expression) (old new : TerminalBits) → old.outputs_to_come ≡ new.outputs_to_come + 1 → new.inputs.items ≡ old.inputs.items
@@ -66,7 +66,7 @@ output-added vs e old new m i o =
     let s : suc new.outputs_to_come ≡ old.outputs_to_come = omega arith in
     λ rest. (
       ap (λ xs. xs ++ outputs_of vs new.outputs_to_come rest) o ∙ append_assoc (map (view_bit vs) old.outputs.items) (only_bit (bits vs e)) (outputs_of vs new.outputs_to_come rest)
-      ∙ ap (λ n. map (view_bit vs) old.outputs.items ++ outputs_of vs n (e ∷ rest)) s,
+          ∙ ap (λ n. map (view_bit vs) old.outputs.items ++ outputs_of vs n (e ∷ rest)) s,
       ap (λ xs. map (view_bit vs) xs ++ inputs_of vs new.outputs_to_come rest) i ∙ ap (λ n. map (view_bit vs) old.inputs.items ++ inputs_of vs n (e ∷ rest)) s,
     )
 

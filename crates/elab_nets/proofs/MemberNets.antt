@@ -1,6 +1,6 @@
 -- The nets of gates and primitives are those at their terminals.
 use Rattle.std.specs.Prelude.{◌≡◌, ℕ, List, map}
-use Rattle.std.proofs.Common.{sym, ◌∙◌, ap}
+use Rattle.std.proofs.Common.{◌∙◌, ap}
 use Rattle.vl_tree.specs.Tree.{Expression}
 use Rattle.elab_model.specs.Elements.{output_bits, input_bits}
 use Rattle.elab_model.specs.Hierarchy.{Instance}

@@ -1,7 +1,7 @@
 -- Lists that are numbered, element after element.
-use Rattle.std.specs.Prelude.{◌≡◌, ℕ, zero, suc, ◌+◌, List, [], ◌∷◌, ◌++◌, Some, slice_get, take, drop, refl}
+use Rattle.std.specs.Prelude.{◌≡◌, ℕ, zero, suc, ◌+◌, List, [], ◌∷◌, ◌++◌, Some, slice_get, take, drop}
 use Rattle.std.specs.List.{enumerate_from, range_with_len}
-use Rattle.std.proofs.Common.{sym, ◌∙◌, ap, arith}
+use Rattle.std.proofs.Common.{◌∙◌, ap, arith}
 
 next-numbered : {A : Type 0} (a k : ℕ) (xs : List A) (x : A) → slice_get xs k ≡ Some x → drop k (enumerate_from a xs) ≡ (a + k, x) ∷ drop (suc k) (enumerate_from a xs)
 next-numbered a k [] x e = cc

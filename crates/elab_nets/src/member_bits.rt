@@ -79,11 +79,7 @@ fn add_terminal(
     add_output(table, terminal, &mut room.outputs)
 }
 
-fn add_all(
-    table: &Table,
-    terminals: &[Expression],
-    room: &mut TerminalBits,
-) -> Result<(), NoMemory>
+fn add_all(table: &Table, terminals: &[Expression], room: &mut TerminalBits) -> Result<(), NoMemory>
     ensures bits { OnOk result (AddsTerminals table.now (map view_expression terminals.now) room.old room.new) }
     ensures row { AreInRow table.now room.old → AreInRow table.now room.new }
 {

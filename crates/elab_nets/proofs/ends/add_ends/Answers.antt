@@ -1,11 +1,10 @@
 -- The bits are found, and the nets are those of the member.
-use Rattle.std.proofs.Common.{◌≡◌, ◌++◌, ◌+◌, ◌∙◌, None, ap, length, map, option_map, subst}
+use Rattle.std.proofs.Common.{◌++◌, ◌+◌, ◌∙◌, ap, length, option_map, subst}
 use Rattle.std.specs.List.{range_with_len}
 use Rattle.std.proofs.lemmas.Result.{on_ok_weaker, IfErr-weaker}
-use Rattle.elab_model.specs.Hierarchy.{Instance}
 use Rattle.elab_model.specs.Members.{path}
 use Rattle.elab_numbering.specs.Refusals.{RefusesCount}
-use Rattle.elab_nets.specs.Ends.{AreFirstEnds, HasPath}
+use Rattle.elab_nets.specs.Ends.{AreFirstEnds}
 use Rattle.elab_nets.proofs.InnerNets.{nets-are, end-count, net-count}
 use Rattle.elab_nets.proofs.ends.add_ends.Goals as goal
 

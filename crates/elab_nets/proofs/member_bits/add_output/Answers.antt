@@ -2,7 +2,7 @@
 use Rattle.std.proofs.Common.{◌≡◌, ◌+◌, ◌∙◌, ap, arith, length, take}
 use Rattle.vl_tree.specs.Seen.{view_expression}
 use Rattle.elab_model.specs.Bits.{bits}
-use Rattle.elab_nets.proofs.MemberBits.{one-kept, others-cut}
+use Rattle.elab_nets.proofs.MemberBits.{others-cut}
 use Rattle.elab_nets.proofs.member_bits.add_output.Goals as goal
 
 pub returns-then-len-before-clause-bits : goal.returns-then-len-before-clause-bits

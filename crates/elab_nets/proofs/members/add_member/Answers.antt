@@ -2,7 +2,7 @@
 use Rattle.std.proofs.Common.{◌≡◌, ◌∙◌, ◌++◌, ◌+◌, ap, sym, map, length, subst, refl, append-nil, option_map}
 use Rattle.std.proofs.lemmas.Result.{err_from_is_err_and, IfOk-weaker, IfErr-weaker}
 use Rattle.vl_tree.specs.Seen.{view_delay, view_gate_instance, view_path}
-use Rattle.elab_model.specs.Members.{Member, gate, path}
+use Rattle.elab_model.specs.Members.{gate, path}
 use Rattle.elab_model.specs.Nets.{member_nets}
 use Rattle.elab_numbering.specs.Refusals.{RefusesCount}
 use Rattle.elab_variables.specs.Seen.{view_member}

@@ -26,7 +26,7 @@ returns-in_err-next-clause-refused c =
     let x = member-at c.args.prepared.now turn.s.step.definition c.deref-member-items.result.now c.loop-index.index c.member-item.result prepared c.deref-member-items.ensures.value c.loop-index-test.true c.member-item.is in
     c.in_err-next.ensures.refused top corner
     (turn-later source top corner c.args.library.now c.args.instances.now c.args.rows.now _ c.args.prepared.now.table c.args.number turn h.same.0 h.same.1.0 h.outside.same_count)
-    c.loop-index.index
+    prepared
     (is-next source top turn.before turn.s c.loop-index.index c.loop-index.next c.args.rows.now rows (view_member c.member-item.result) count h x))
 
 pub loop-index-preserved : goal.loop-index-preserved
@@ -43,7 +43,7 @@ loop-index-preserved c = record {
       (c.in_ok-push.ensures.items ∙ ap (λ n. rows.firsts.items ++ n ∷ []) made) refl refl refl (refl, (refl, (refl, (refl, refl))))
       (c.in_ok-next.ensures.seen top corner
       (turn-later source top corner c.args.library.now c.args.instances.now c.args.rows.now _ c.args.prepared.now.table c.args.number turn h.same.0 h.same.1.0 h.outside.same_count)
-      k (is-next source top turn.before turn.s k c.loop-index.next c.args.rows.now rows (view_member c.member-item.result) count h x));
+      prepared (is-next source top turn.before turn.s k c.loop-index.next c.args.rows.now rows (view_member c.member-item.result) count h x));
 }
 
 pub returns-clause-through : goal.returns-clause-through
