@@ -41,7 +41,8 @@ top-is source top t there e = elim (has-parent source levels_below_top (top_inst
     not_both : {p : Step} {ps : List Step} → t.above ≡ p ∷ ps → ⊥
     not_both {p} {ps} f = let g : [] ≡ p ∷ ps = sym e ∙ f in cc
 
-pub none-yet : (source : Source) (top : Module) (rows : Rows) (width count : ℕ) → rows.nets.items ≡ [] → rows.starts.items ≡ [] → rows.member_starts.items ≡ [] → rows.end_starts.items ≡ [] → rows.outer_starts.items ≡ replicate count 0
+pub none-yet : (source : Source) (top : Module) (rows : Rows) (width count : ℕ) → rows.nets.items ≡ [] → rows.starts.items ≡ [] → rows.member_starts.items ≡ [] → rows.end_starts.items ≡ []
+    → rows.outer_starts.items ≡ replicate count 0
     → rows.outer.items ≡ replicate width None → count ≡ length (instances source top) → width ≡ length (all_bits (variables top)) → AreUpTo source top rows 0
 none-yet source top rows width count n s m e p o c w = record {
   all = n;
@@ -134,6 +135,7 @@ is-top source top p of =
 
 -- in all, before the first turn
 pub start : (source : Source) (top : Module) (corner : Corner) (library : Library) (list : List Placed) (rows : Rows) → IsGiven source top corner library list → (width : ℕ) → width ≡ length (all_bits (variables top))
-    → rows.nets.items ≡ [] → rows.starts.items ≡ [] → rows.member_starts.items ≡ [] → rows.end_starts.items ≡ [] → rows.outer_starts.items ≡ replicate (length list) 0 → rows.outer.items ≡ replicate width None → AreUpTo source top rows 0
+    → rows.nets.items ≡ [] → rows.starts.items ≡ [] → rows.member_starts.items ≡ [] → rows.end_starts.items ≡ [] → rows.outer_starts.items ≡ replicate (length list) 0
+    → rows.outer.items ≡ replicate width None → AreUpTo source top rows 0
 start source top corner library list rows given width w n s m e p o =
     none-yet source top rows width (length list) n s m e p o (placed-count source list (instances source top) given.instances_are) w

@@ -77,7 +77,8 @@ each-constant vs s k m q outputs j [] = refl
 each-constant vs s k m q outputs j (bit.Net i ∷ bs) = each-constant vs s k m q outputs (j + 1) bs
 each-constant vs s k m q outputs j (bit.Constant p v ∷ bs) = ap (λ xs. named s m q ∷ xs) (each-constant vs s k m q outputs (j + 1) bs)
 
-pub same-name : (vs : List Variable) (s : Instance) (scope i : ℕ) → vs ≡ variables s.step.definition → s.step.number ≡ scope → i < length (all_bits vs) → named s (bit_at vs i).0.name (bit_at vs i).1 ≡ net_at scope (bit_at vs i)
+pub same-name : (vs : List Variable) (s : Instance) (scope i : ℕ) → vs ≡ variables s.step.definition → s.step.number ≡ scope → i < length (all_bits vs)
+    → named s (bit_at vs i).0.name (bit_at vs i).1 ≡ net_at scope (bit_at vs i)
 same-name vs s scope i e n lt =
     let v = (bit_at vs i).0 in
     let there : In v (variables s.step.definition) = subst (In v) e (bit-of vs i lt) in
@@ -107,10 +108,12 @@ output-in_row vs (bit.Net j ∷ bs) i h e = let same : j ≡ i = cc in subst (λ
 pub none-added : (nets : List Net) (os : List OwnNet) → os ≡ [] → nets ≡ nets ++ map undriven os
 none-added nets os e = sym (append-nil nets) ∙ ap (λ xs. nets ++ map undriven xs) (sym e)
 
-pub are-meant : (vs : List Variable) (s : Instance) (k scope : ℕ) (outputs inputs : List code_bit.Bit) (i : ℕ) → All (IsInRow vs) outputs → vs ≡ variables s.step.definition → s.step.number ≡ scope → first_output outputs ≡ Some i
+pub are-meant : (vs : List Variable) (s : Instance) (k scope : ℕ) (outputs inputs : List code_bit.Bit) (i : ℕ) → All (IsInRow vs) outputs → vs ≡ variables s.step.definition → s.step.number ≡ scope
+    → first_output outputs ≡ Some i
     → flat_map (at_constant (net_at scope (bit_at vs i))) inputs ≡ map undriven (terminal_nets s k (map (view_bit vs) outputs) (map (view_bit vs) inputs))
 are-meant vs s k scope outputs inputs i h e n f = sym (with-output vs s k scope outputs inputs i e n (output-in_row vs outputs i (recursion_from_All (IsInRow vs) outputs h) f) f)
 
-pub count-meant : (vs : List Variable) (s : Instance) (k scope : ℕ) (outputs inputs : List code_bit.Bit) (i : ℕ) → All (IsInRow vs) outputs → vs ≡ variables s.step.definition → s.step.number ≡ scope → first_output outputs ≡ Some i
+pub count-meant : (vs : List Variable) (s : Instance) (k scope : ℕ) (outputs inputs : List code_bit.Bit) (i : ℕ) → All (IsInRow vs) outputs → vs ≡ variables s.step.definition → s.step.number ≡ scope
+    → first_output outputs ≡ Some i
     → length (flat_map (at_constant (net_at scope (bit_at vs i))) inputs) ≡ length (terminal_nets s k (map (view_bit vs) outputs) (map (view_bit vs) inputs))
 count-meant vs s k scope outputs inputs i h e n f = ap length (are-meant vs s k scope outputs inputs i h e n f) ∙ length-map (terminal_nets s k (map (view_bit vs) outputs) (map (view_bit vs) inputs)) undriven

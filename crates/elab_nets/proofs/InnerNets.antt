@@ -53,7 +53,8 @@ cut-out : {A : Type 0} (xs ys zs whole : List A) (first end : ℕ) → whole ≡
 cut-out xs ys zs whole first end w f e =
     let l = length-append xs ys in
     let n : end - first ≡ length ys = omega arith in
-    ap (λ ws. take (end - first) (drop first ws)) (w ∙ append_assoc xs ys zs) ∙ ap (take (end - first)) (drop-append-le first xs (ys ++ zs) (omega arith) ∙ ap (λ ws. ws ++ (ys ++ zs)) (drop_all first xs (omega arith)))
+    ap (λ ws. take (end - first) (drop first ws)) (w ∙ append_assoc xs ys zs) ∙ ap (take (end - first))
+    (drop-append-le first xs (ys ++ zs) (omega arith) ∙ ap (λ ws. ws ++ (ys ++ zs)) (drop_all first xs (omega arith)))
     ∙ take-append-le (end - first) ys zs (omega arith) ∙ take_all (end - first) ys (omega arith)
 
 module _ (m : Module) (e : PathEnds) (k : ℕ) (i : Member) (ends : AreEnds m e) (there : slice_get (members m) k ≡ Some i) where

@@ -32,7 +32,8 @@ more-bits : (vs : List Variable) (old new : List code_bit.Bit) (bs : List Bit) �
 more-bits vs old new bs e =
     sym (length-map new (view_bit vs)) ∙ ap length e ∙ length-append (map (view_bit vs) old) bs ∙ ap (λ n. n + length bs) (length-map old (view_bit vs))
 
-pub one-kept : (vs : List Variable) (old new : List code_bit.Bit) (bs : List Bit) → map (view_bit vs) new ≡ map (view_bit vs) old ++ bs → length new ≡ length old + 1 → map (view_bit vs) new ≡ map (view_bit vs) old ++ only_bit bs
+pub one-kept : (vs : List Variable) (old new : List code_bit.Bit) (bs : List Bit) → map (view_bit vs) new ≡ map (view_bit vs) old ++ bs → length new ≡ length old + 1
+    → map (view_bit vs) new ≡ map (view_bit vs) old ++ only_bit bs
 one-kept vs old new bs e n =
     let l = more-bits vs old new bs e in
     let one : length bs ≡ 1 = omega arith in
@@ -79,20 +80,23 @@ AreComing vs all left old now = (rest : List Expression) → (all_outputs vs now
 pub none-yet : (vs : List Variable) (all : List Expression) (old : TerminalBits) → AreComing vs all all old old
 none-yet vs all old = λ rest. (refl, refl)
 
-next-come : (vs : List Variable) (all left piece later : List Expression) (old now new : TerminalBits) → left ≡ piece ++ later → AddsTerminals vs piece now new → AreComing vs all left old now → AreComing vs all later old new
+next-come : (vs : List Variable) (all left piece later : List Expression) (old now new : TerminalBits) → left ≡ piece ++ later → AddsTerminals vs piece now new → AreComing vs all left old now
+    → AreComing vs all later old new
 next-come vs all left piece later old now new e adds h = λ rest.
     let a = adds (later ++ rest) in
     let b = h rest in
     let s : piece ++ (later ++ rest) ≡ left ++ rest = sym (append_assoc piece later rest) ∙ ap (λ xs. xs ++ rest) (sym e) in
     (a.0 ∙ ap (all_outputs vs now) s ∙ b.0, a.1 ∙ ap (all_inputs vs now) s ∙ b.1)
 
-pub all-come : {A : Type 0} (vs : List Variable) (F : List A → List Expression) (xs : List A) (i : ℕ) (old now : TerminalBits) → F [] ≡ [] → length xs ≤ i → AreComing vs (F xs) (F (drop i xs)) old now → AddsTerminals vs (F xs) old now
+pub all-come : {A : Type 0} (vs : List Variable) (F : List A → List Expression) (xs : List A) (i : ℕ) (old now : TerminalBits) → F [] ≡ [] → length xs ≤ i → AreComing vs (F xs) (F (drop i xs)) old now
+    → AddsTerminals vs (F xs) old now
 all-come vs F xs i old now z le h = λ rest.
     let s : rest ≡ F (drop i xs) ++ rest = ap (λ ys. ys ++ rest) (sym (ap F (drop_all i xs le) ∙ z)) in
     let b = h rest in
     (ap (all_outputs vs now) s ∙ b.0, ap (all_inputs vs now) s ∙ b.1)
 
-pub one-come : {A : Type 0} (vs : List Variable) (F : List A → List Expression) (piece : A → List Expression) → ((y : A) (ys : List A) → F (y ∷ ys) ≡ piece y ++ F ys) → (xs : List A) (i : ℕ) (x : A) (old now new : TerminalBits) → i < length xs
+pub one-come : {A : Type 0} (vs : List Variable) (F : List A → List Expression) (piece : A → List Expression) → ((y : A) (ys : List A) → F (y ∷ ys) ≡ piece y ++ F ys)
+    → (xs : List A) (i : ℕ) (x : A) (old now new : TerminalBits) → i < length xs
     → x ≡ slice_index_or xs i x → AddsTerminals vs (piece x) now new → AreComing vs (F xs) (F (drop i xs)) old now → AreComing vs (F xs) (F (drop (i + 1) xs)) old new
 one-come vs F piece h xs i x old now new lt e adds coming =
     let n : suc i ≡ i + 1 = omega arith in
@@ -126,7 +130,8 @@ no-inputs : (vs : List Variable) (n : ℕ) → inputs_of vs n [] ≡ []
 no-inputs vs zero = refl
 no-inputs vs (suc n) = refl
 
-pub has-bits : (vs : List Variable) (count : ℕ) (es : List Expression) (begun new : TerminalBits) → begun.outputs_to_come ≡ count → begun.outputs.items ≡ [] → begun.inputs.items ≡ [] → AddsTerminals vs es begun new → HasBits vs count es new
+pub has-bits : (vs : List Variable) (count : ℕ) (es : List Expression) (begun new : TerminalBits) → begun.outputs_to_come ≡ count → begun.outputs.items ≡ [] → begun.inputs.items ≡ []
+    → AddsTerminals vs es begun new → HasBits vs count es new
 has-bits vs count es begun new n o i adds =
     let a = adds [] in
     let whole = append-nil es in

@@ -11,7 +11,8 @@ use Rattle.elab_bits.specs.declared.bits.Bit as code_bit
 use Rattle.elab_nets.specs.TerminalBits.{HasBits, outputs_of, inputs_of}
 use Rattle.elab_nets.specs.declared.member_bits.TerminalBits.{TerminalBits}
 
-pub terminals-are : (vs : List Variable) (s : Instance) (k count outputs : ℕ) (es fs : List Expression) (t : TerminalBits) (outs ins : List code_bit.Bit) → vs ≡ variables s.step.definition → HasBits vs count es t
+pub terminals-are : (vs : List Variable) (s : Instance) (k count outputs : ℕ) (es fs : List Expression) (t : TerminalBits) (outs ins : List code_bit.Bit) → vs ≡ variables s.step.definition
+    → HasBits vs count es t
     → count ≡ outputs → es ≡ fs → outs ≡ t.outputs.items → ins ≡ t.inputs.items
     → terminal_nets s k (map (view_bit vs) outs) (map (view_bit vs) ins) ≡ terminal_nets s k (output_bits s outputs fs) (input_bits s outputs fs)
 terminals-are vs s k count outputs es fs t outs ins e h n f o i =

@@ -33,7 +33,8 @@ ends-numbered source top corner before after s front behind k p sound here split
     ∙ ap (range_with_len (nets_before source before s front)) (length-map bs (inner_net s))
 
 -- an instance has a member that is a specify path
-pub has-path : (s : Instance) (prepared : Prepared) (scope k : ℕ) (p : SpecifyPath) (x : Member) → x ≡ path p → IsPrepared prepared s.step.definition → s.step.number ≡ scope → slice_get (members s.step.definition) k ≡ Some x
+pub has-path : (s : Instance) (prepared : Prepared) (scope k : ℕ) (p : SpecifyPath) (x : Member) → x ≡ path p → IsPrepared prepared s.step.definition → s.step.number ≡ scope
+    → slice_get (members s.step.definition) k ≡ Some x
     → HasPath s prepared scope k p
 has-path s prepared scope k p x is ready number there = record { ready = ready; number = number; there = there ∙ ap (λ y. Some y) is }
 

@@ -194,15 +194,18 @@ module _ (source : Source) (top : Module) (before after : List Instance) (s : In
       by_lists b t i f e = (
         subst (λ xs. HasInnerRow source top xs new.starts.items t) (sym inner) (subst (λ ys. HasInnerRow source top (old.inner.items ++ map (number_at (nets source top) source s) (bits_of s)) ys t) (sym starts) i),
         (
-          subst (λ xs. HasFirsts source xs new.member_starts.items b t) (sym firsts) (subst (λ ys. HasFirsts source (old.firsts.items ++ map (first_of_member source before s) (range_with_len 0 (end + 1))) ys b t) (sym members) f),
-          subst (λ xs. HasEnds source top xs new.end_starts.items t) (sym ends) (subst (λ ys. HasEnds source top (old.ends.items ++ map (end_number source top s) (path_ends s.step.definition)) ys t) (sym end_starts) e),
+          subst (λ xs. HasFirsts source xs new.member_starts.items b t) (sym firsts)
+          (subst (λ ys. HasFirsts source (old.firsts.items ++ map (first_of_member source before s) (range_with_len 0 (end + 1))) ys b t) (sym members) f),
+          subst (λ xs. HasEnds source top xs new.end_starts.items t) (sym ends)
+          (subst (λ ys. HasEnds source top (old.ends.items ++ map (end_number source top s) (path_ends s.step.definition)) ys t) (sym end_starts) e),
         ),
       )
 
       kept : (b a : List Instance) (t : Instance) → instances source top ≡ b ++ t ∷ a → length b < length before → Own new b t
       kept b a t e lt =
           let o = h.own b a t e lt in
-          by_lists b t (kept-inner source top old.inner.items _ old.starts.items _ t o.0) (kept-firsts source old.firsts.items _ old.member_starts.items _ b t o.1.0) (kept-ends source top old.ends.items _ old.end_starts.items _ t o.1.1)
+          by_lists b t (kept-inner source top old.inner.items _ old.starts.items _ t o.0) (kept-firsts source old.firsts.items _ old.member_starts.items _ b t o.1.0)
+          (kept-ends source top old.ends.items _ old.end_starts.items _ t o.1.1)
 
       mine : (b a : List Instance) (t : Instance) → instances source top ≡ b ++ t ∷ a → length b ≡ length before → Own new b t
       mine b a t e n =
@@ -219,7 +222,8 @@ module _ (source : Source) (top : Module) (before after : List Instance) (s : In
       → (r2.nets ≡ r1.nets) × ((r2.inner ≡ r1.inner) × ((r2.starts ≡ r1.starts) × ((r2.outer ≡ r1.outer) × ((r2.outer_starts ≡ r1.outer_starts) × ((r2.firsts ≡ r1.firsts) × (r2.ends ≡ r1.ends))))))
       → length r2.nets.items ≡ nets_before source before s [] → AreThrough source top before s end next r2 r3
       → r4.firsts.items ≡ r3.firsts.items ++ length r3.nets.items ∷ []
-      → (r4.nets ≡ r3.nets) × ((r4.inner ≡ r3.inner) × ((r4.starts ≡ r3.starts) × ((r4.outer ≡ r3.outer) × ((r4.outer_starts ≡ r3.outer_starts) × ((r4.member_starts ≡ r3.member_starts) × ((r4.ends ≡ r3.ends) × (r4.end_starts ≡ r3.end_starts)))))))
+      → (r4.nets ≡ r3.nets) × ((r4.inner ≡ r3.inner) × ((r4.starts ≡ r3.starts) × ((r4.outer ≡ r3.outer) × ((r4.outer_starts ≡ r3.outer_starts) × ((r4.member_starts ≡ r3.member_starts)
+          × ((r4.ends ≡ r3.ends) × (r4.end_starts ≡ r3.end_starts)))))))
       → AreUpTo source top r4 (length before + 1)
   one-more r0 r1 r2 r3 r4 next h begun m2 e2 same2 count t f4 same4 =
       let z : 0 + end ≡ end = omega arith in
@@ -235,9 +239,11 @@ module _ (source : Source) (top : Module) (before after : List Instance) (s : In
       (f4 ∙ ap (λ xs. xs ++ length r3.nets.items ∷ []) t.first_nets ∙ ap (λ n. (r2.firsts.items ++ map f (range_with_len 0 end)) ++ n ∷ []) last
       ∙ append_assoc r2.firsts.items (map f (range_with_len 0 end)) (f end ∷ []) ∙ ap (λ xs. r2.firsts.items ++ xs) (sym (map-range_with_len_more f 0 end end z))
       ∙ ap (λ v. v.items ++ map f (range_with_len 0 (end + 1))) (same2.1.1.1.1.1.0 ∙ begun.same.1.1.0))
-      (ap (λ v. v.items) same4.1.1.1.1.1.1.0 ∙ t.ends ∙ ap (λ v. v.items ++ map (end_number source top s) (flat_map (first_ends s.step.definition) (take end (members_of s)))) (same2.1.1.1.1.1.1 ∙ begun.same.1.1.1.1.0)
+      (ap (λ v. v.items) same4.1.1.1.1.1.1.0 ∙ t.ends ∙ ap (λ v. v.items ++ map (end_number source top s) (flat_map (first_ends s.step.definition) (take end (members_of s))))
+      (same2.1.1.1.1.1.1 ∙ begun.same.1.1.1.1.0)
       ∙ ap (λ xs. r0.ends.items ++ map (end_number source top s) (flat_map (first_ends s.step.definition) xs)) all-members)
-      (ap (λ v. v.items) (same4.1.1.1.1.1.1.1 ∙ t.same.1.1.1) ∙ e2 ∙ ap (λ v. v.items ++ length r1.ends.items ∷ []) begun.same.1.1.1.1.1 ∙ ap (λ v. r0.end_starts.items ++ length v.items ∷ []) begun.same.1.1.1.1.0)
+      (ap (λ v. v.items) (same4.1.1.1.1.1.1.1 ∙ t.same.1.1.1) ∙ e2 ∙ ap (λ v. v.items ++ length r1.ends.items ∷ []) begun.same.1.1.1.1.1 ∙ ap (λ v. r0.end_starts.items ++ length v.items ∷ [])
+      begun.same.1.1.1.1.0)
       (subst (λ cs. AddsOutside source top r0.outer.items r4.outer.items r0.outer_starts.items r4.outer_starts.items cs) (sym all)
       (subst (λ v. AddsOutside source top v.items r4.outer.items r0.outer_starts.items r4.outer_starts.items t.done) (same2.1.1.1.0 ∙ begun.same.0)
       (subst (λ v. AddsOutside source top r2.outer.items v.items r0.outer_starts.items r4.outer_starts.items t.done) (sym same4.1.1.1.0)

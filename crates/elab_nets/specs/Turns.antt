@@ -154,4 +154,5 @@ pub record IsBegun (source : Source) (top : Module) (s : Instance) (old new : Ro
   pub made : new.nets.items ≡ old.nets.items ++ map undriven (variable_nets source s)
   pub start : new.starts.items ≡ old.starts.items ++ length old.inner.items ∷ []
   pub row : new.inner.items ≡ old.inner.items ++ map (number_at (nets source top) source s) (bits_of s)
-  pub same : (new.outer ≡ old.outer) × ((new.outer_starts ≡ old.outer_starts) × ((new.firsts ≡ old.firsts) × ((new.member_starts ≡ old.member_starts) × ((new.ends ≡ old.ends) × (new.end_starts ≡ old.end_starts)))))
+  pub same : (new.outer ≡ old.outer) × ((new.outer_starts ≡ old.outer_starts) × ((new.firsts ≡ old.firsts) × ((new.member_starts ≡ old.member_starts)
+      × ((new.ends ≡ old.ends) × (new.end_starts ≡ old.end_starts)))))

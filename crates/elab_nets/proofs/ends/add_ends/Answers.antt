@@ -10,11 +10,13 @@ use Rattle.elab_nets.proofs.ends.add_ends.Goals as goal
 
 pub returns-in_default-clause-ends : goal.returns-in_default-clause-ends
 returns-in_default-clause-ends c = λ s p has.
-    absurd (subst (λ o. AreFirstEnds s.step.definition (c.args.member, path p) (option_map (λ r. r.now) o)) c.in_default.is (c.first_ends.ensures.ends s.step.definition (path p) has.ready.table has.ready.ends has.there))
+    absurd (subst (λ o. AreFirstEnds s.step.definition (c.args.member, path p) (option_map (λ r. r.now) o)) c.in_default.is
+    (c.first_ends.ensures.ends s.step.definition (path p) has.ready.table has.ready.ends has.there))
 
 pub returns-in_default-clause-nets : goal.returns-in_default-clause-nets
 returns-in_default-clause-nets c = λ source s p has.
-    absurd (subst (λ o. AreFirstEnds s.step.definition (c.args.member, path p) (option_map (λ r. r.now) o)) c.in_default.is (c.first_ends.ensures.ends s.step.definition (path p) has.ready.table has.ready.ends has.there))
+    absurd (subst (λ o. AreFirstEnds s.step.definition (c.args.member, path p) (option_map (λ r. r.now) o)) c.in_default.is
+    (c.first_ends.ensures.ends s.step.definition (path p) has.ready.table has.ready.ends has.there))
 
 pub returns-clause-ends : goal.returns-clause-ends
 returns-clause-ends c =
@@ -27,7 +29,8 @@ pub returns-clause-nets : goal.returns-clause-nets
 returns-clause-nets c =
     on_ok_weaker c.add_inner_nets.result
     (λ h source s p has. h ∙ ap (λ ns. c.args.nets.now.items ++ ns)
-    (nets-are s c.args.prepared.now c.args.scope c.args.member p has c.in-Some.places.now (c.in-Some.ensures.ends s.step.definition (path p) has.ready.table has.ready.ends has.there) source c.in-Some.ensures.row))
+    (nets-are s c.args.prepared.now c.args.scope c.args.member p has c.in-Some.places.now (c.in-Some.ensures.ends s.step.definition (path p) has.ready.table has.ready.ends has.there) source
+    c.in-Some.ensures.row))
     c.add_inner_nets.ensures.nets
 
 pub returns-clause-refused : goal.returns-clause-refused

@@ -9,10 +9,12 @@ loop-terminal-init c = record { coming = none-yet c.args.table.now (map view_exp
 
 pub loop-terminal-preserved : goal.loop-terminal-preserved
 loop-terminal-preserved c = record {
-  coming = one-come c.args.table.now (map view_expression) (λ x. view_expression x ∷ []) (λ y ys. refl) c.args.terminals.now c.loop-terminal.terminal-index c.terminal-item.result c.args.room.now c.loop-terminal.room c.add_terminal.new.room c.loop-terminal-test.true c.terminal-item.is
+  coming = one-come c.args.table.now (map view_expression) (λ x. view_expression x ∷ []) (λ y ys. refl) c.args.terminals.now c.loop-terminal.terminal-index c.terminal-item.result c.args.room.now
+      c.loop-terminal.room c.add_terminal.new.room c.loop-terminal-test.true c.terminal-item.is
       c.in_ok-add_terminal.ensures.bits c.loop-terminal.invariant.coming;
   row = λ old. c.add_terminal.ensures.row (c.loop-terminal.invariant.row old);
 }
 
 pub returns-clause-bits : goal.returns-clause-bits
-returns-clause-bits c = all-come c.args.table.now (map view_expression) c.args.terminals.now c.loop-terminal.terminal-index c.args.room.now c.loop-terminal.room refl c.loop-terminal-test.false c.loop-terminal.invariant.coming
+returns-clause-bits c =
+    all-come c.args.table.now (map view_expression) c.args.terminals.now c.loop-terminal.terminal-index c.args.room.now c.loop-terminal.room refl c.loop-terminal-test.false c.loop-terminal.invariant.coming

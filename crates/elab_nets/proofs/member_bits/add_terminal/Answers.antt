@@ -9,7 +9,8 @@ pub returns-then-room-eq0-clause-bits : goal.returns-then-room-eq0-clause-bits
 returns-then-room-eq0-clause-bits c =
     let room = c.args.room.now in
     on_ok_weaker c.add_bits.result
-    (λ h. input-added c.args.table.now (view_expression c.args.terminal.now) room (record { outputs_to_come = room.outputs_to_come; outputs = room.outputs; inputs = c.add_bits.new.bits }) c.if-room-eq0.true refl refl h)
+    (λ h. input-added c.args.table.now (view_expression c.args.terminal.now) room (record { outputs_to_come = room.outputs_to_come; outputs = room.outputs; inputs = c.add_bits.new.bits })
+    c.if-room-eq0.true refl refl h)
     c.add_bits.ensures.bits
 
 pub returns-clause-bits : goal.returns-clause-bits

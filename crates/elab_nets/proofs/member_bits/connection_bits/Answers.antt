@@ -8,5 +8,6 @@ use Rattle.elab_nets.proofs.member_bits.connection_bits.Goals as goal
 pub returns-clause-bits : goal.returns-clause-bits
 returns-clause-bits c =
     on_ok_weaker c.add_connected.result
-    (λ h. has-bits c.args.table.now c.args.outputs (connection_values (view_connections c.args.connections.now)) c.await_outputs.new.room c.add_connected.new.room c.await_outputs.ensures.awaited c.await_outputs.ensures.outputs c.await_outputs.ensures.inputs h)
+    (λ h. has-bits c.args.table.now c.args.outputs (connection_values (view_connections c.args.connections.now)) c.await_outputs.new.room c.add_connected.new.room c.await_outputs.ensures.awaited
+    c.await_outputs.ensures.outputs c.await_outputs.ensures.inputs h)
     c.add_connected.ensures.bits

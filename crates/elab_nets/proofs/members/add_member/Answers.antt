@@ -19,7 +19,8 @@ pub returns-in_err-add_gate-in-Gate-clause-refused : goal.returns-in_err-add_gat
 returns-in_err-add_gate-in-Gate-clause-refused c =
     let e = c.in_err-add_gate-in-Gate.field-0.0 in
     handed-on c.from_residual.result _ e (err_from_is_err_and c.from_residual.result c.from_residual.ensures.1)
-    (λ top corner turn prepared at. member-refused c.args.definitions.now top corner c.args.library.now c.args.instances.now c.args.rows.now c.args.prepared.now.table c.args.number turn (c.args.index, view_member c.args.member) c.args.next
+    (λ top corner turn prepared at. member-refused c.args.definitions.now top corner c.args.library.now c.args.instances.now c.args.rows.now c.args.prepared.now.table c.args.number turn
+    (c.args.index, view_member c.args.member) c.args.next
     (length c.args.rows.now.nets.items) at e
     (subst (λ x. RefusesCount (length c.args.rows.now.nets.items + length (member_nets c.args.definitions.now turn.s (c.args.index, x))) e) (sym (ap view_member c.in-Gate.is))
     (c.in_err-add_gate-in-Gate.ensures.refused c.args.definitions.now turn.s c.args.index (option_map view_delay c.in-Gate.delay.now) turn.table_is turn.number_is)))
@@ -27,10 +28,13 @@ returns-in_err-add_gate-in-Gate-clause-refused c =
 pub returns-in_ok-add_gate-in-Gate-clause-seen : goal.returns-in_ok-add_gate-in-Gate-clause-seen
 returns-in_ok-add_gate-in-Gate-clause-seen c = λ top corner turn prepared at.
     subst (λ x. IsSeenTo c.args.definitions.now top turn.s (c.args.index, x) at.levels c.args.next c.args.next at.behind c.args.rows.now
-    (record { nets = c.add_gate.new.nets; starts = c.args.rows.now.starts; inner = c.args.rows.now.inner; outer_starts = c.args.rows.now.outer_starts; outer = c.args.rows.now.outer; member_starts = c.args.rows.now.member_starts; firsts = c.args.rows.now.firsts; end_starts = c.args.rows.now.end_starts; ends = c.args.rows.now.ends }))
+    (record { nets = c.add_gate.new.nets; starts = c.args.rows.now.starts; inner = c.args.rows.now.inner; outer_starts = c.args.rows.now.outer_starts; outer = c.args.rows.now.outer;
+    member_starts = c.args.rows.now.member_starts; firsts = c.args.rows.now.firsts; end_starts = c.args.rows.now.end_starts; ends = c.args.rows.now.ends }))
     (sym (ap view_member c.in-Gate.is))
-    (lone-seen c.args.definitions.now top turn.s (c.args.index, gate c.in-Gate.kind (option_map view_delay c.in-Gate.delay.now) (view_gate_instance c.in-Gate.instance.now)) at.levels c.args.next at.behind c.args.rows.now _ refl
-    (c.in_ok-add_gate-in-Gate.ensures.nets c.args.definitions.now turn.s c.args.index (option_map view_delay c.in-Gate.delay.now) turn.table_is turn.number_is) (sym (append-nil c.args.rows.now.ends.items)) refl refl (refl, (refl, (refl, (refl, refl)))))
+    (lone-seen c.args.definitions.now top turn.s (c.args.index, gate c.in-Gate.kind (option_map view_delay c.in-Gate.delay.now) (view_gate_instance c.in-Gate.instance.now)) at.levels c.args.next at.behind
+    c.args.rows.now _ refl
+    (c.in_ok-add_gate-in-Gate.ensures.nets c.args.definitions.now turn.s c.args.index (option_map view_delay c.in-Gate.delay.now) turn.table_is turn.number_is) (sym (append-nil c.args.rows.now.ends.items))
+    refl refl (refl, (refl, (refl, (refl, refl)))))
 
 pub returns-in-Instance-clause-seen : goal.returns-in-Instance-clause-seen
 returns-in-Instance-clause-seen c =
@@ -42,7 +46,8 @@ returns-in-Instance-clause-seen c =
 pub returns-in-Instance-clause-refused : goal.returns-in-Instance-clause-refused
 returns-in-Instance-clause-refused c =
     IfErr-weaker c.add_named.result _ _
-    (λ r h top corner turn prepared at. h top corner turn c.args.index _ (subst (λ x. IsNext c.args.definitions.now turn.before turn.s (c.args.index, x) c.args.next (length c.args.rows.now.nets.items)) (ap view_member c.in-Instance.is) at))
+    (λ r h top corner turn prepared at. h top corner turn c.args.index _
+    (subst (λ x. IsNext c.args.definitions.now turn.before turn.s (c.args.index, x) c.args.next (length c.args.rows.now.nets.items)) (ap view_member c.in-Instance.is) at))
     c.add_named.ensures.refused
 
 pub returns-in-Declared : goal.returns-in-Declared
@@ -62,7 +67,8 @@ pub returns-in_err-add_ends-in-Path-clause-refused : goal.returns-in_err-add_end
 returns-in_err-add_ends-in-Path-clause-refused c =
     let e = c.in_err-add_ends-in-Path.field-0.0 in
     handed-on c.from_residual-in_err-add_ends-in-Path.result _ e (err_from_is_err_and c.from_residual-in_err-add_ends-in-Path.result c.from_residual-in_err-add_ends-in-Path.ensures.1)
-    (λ top corner turn prepared at. member-refused c.args.definitions.now top corner c.args.library.now c.args.instances.now c.args.rows.now c.args.prepared.now.table c.args.number turn (c.args.index, view_member c.args.member) c.args.next
+    (λ top corner turn prepared at. member-refused c.args.definitions.now top corner c.args.library.now c.args.instances.now c.args.rows.now c.args.prepared.now.table c.args.number turn
+    (c.args.index, view_member c.args.member) c.args.next
     (length c.args.rows.now.nets.items) at e
     (subst (λ x. RefusesCount (length c.args.rows.now.nets.items + length (member_nets c.args.definitions.now turn.s (c.args.index, x))) e) (sym (ap view_member c.in-Path.is))
     (c.in_err-add_ends-in-Path.ensures.refused c.args.definitions.now turn.s (view_path c.in-Path.field-0.now)

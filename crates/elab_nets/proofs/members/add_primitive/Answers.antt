@@ -13,7 +13,8 @@ returns-clause-nets c =
     let es = connection_values (view_connections c.args.instance.now.connections) in
     on_ok_weaker c.add_terminals.result
     (λ h s k e n. h s k e n ∙ ap (λ os. c.args.nets.now.items ++ map undriven os)
-    (terminals-are c.args.table.now s k 1 1 es es c.connection_bits.new.room c.deref.result.now c.deref-2.result.now e c.in_ok-connection_bits.ensures.bits refl refl c.deref.ensures.value c.deref-2.ensures.value))
+    (terminals-are c.args.table.now s k 1 1 es es c.connection_bits.new.room c.deref.result.now c.deref-2.result.now e c.in_ok-connection_bits.ensures.bits refl refl c.deref.ensures.value
+    c.deref-2.ensures.value))
     c.add_terminals.ensures.nets
 
 pub returns-clause-refused : goal.returns-clause-refused
@@ -21,5 +22,6 @@ returns-clause-refused c =
     let es = connection_values (view_connections c.args.instance.now.connections) in
     IfErr-weaker c.add_terminals.result _ _
     (λ r h s k e n. subst (λ os. RefusesCount (length c.args.nets.now.items + length os) r)
-    (terminals-are c.args.table.now s k 1 1 es es c.connection_bits.new.room c.deref.result.now c.deref-2.result.now e c.in_ok-connection_bits.ensures.bits refl refl c.deref.ensures.value c.deref-2.ensures.value) (h s k e n))
+    (terminals-are c.args.table.now s k 1 1 es es c.connection_bits.new.room c.deref.result.now c.deref-2.result.now e c.in_ok-connection_bits.ensures.bits refl refl c.deref.ensures.value
+    c.deref-2.ensures.value) (h s k e n))
     c.add_terminals.ensures.refused

@@ -23,7 +23,8 @@ returns-in_err-next-clause-refused c =
     handed-on c.from_residual-in_err-next.result _ c.in_err-next.field-0.0 (err_from_is_err_and c.from_residual-in_err-next.result c.from_residual-in_err-next.ensures.1)
     (λ top corner turn prepared count.
     let h = c.loop-index.invariant.through top corner turn prepared count in
-    let x = member-at c.args.prepared.now turn.s.step.definition c.deref-member-items.result.now c.loop-index.index c.member-item.result prepared c.deref-member-items.ensures.value c.loop-index-test.true c.member-item.is in
+    let x = member-at c.args.prepared.now turn.s.step.definition c.deref-member-items.result.now c.loop-index.index c.member-item.result prepared c.deref-member-items.ensures.value c.loop-index-test.true
+    c.member-item.is in
     c.in_err-next.ensures.refused top corner
     (turn-later source top corner c.args.library.now c.args.instances.now c.args.rows.now _ c.args.prepared.now.table c.args.number turn h.same.0 h.same.1.0 h.outside.same_count)
     prepared
@@ -52,4 +53,5 @@ returns-clause-through c = λ top corner turn prepared count.
     let n : length (members turn.s.step.definition) ≡ length items = ap length (sym prepared.members) ∙ length-map items view_member in
     let e : length c.deref-member-items.result.now ≡ length items = ap length c.deref-member-items.ensures.value in
     let k : c.loop-index.index ≡ length (members turn.s.step.definition) = omega arith in
-    (c.loop-index.next, subst (λ k. AreThrough c.args.definitions.now top turn.before turn.s k c.loop-index.next c.args.rows.now c.loop-index.rows) k (c.loop-index.invariant.through top corner turn prepared count))
+    (c.loop-index.next, subst (λ k. AreThrough c.args.definitions.now top turn.before turn.s k c.loop-index.next c.args.rows.now c.loop-index.rows) k
+    (c.loop-index.invariant.through top corner turn prepared count))
