@@ -1,10 +1,10 @@
 -- The bits of the terminals of a gate or a primitive.
-use Rattle.std.specs.Prelude.{◌≡◌, All, List, ◌++◌, map, flat_map, take, drop, ℕ}
+use Rattle.std.specs.Prelude.{◌≡◌, ℕ, List, ◌++◌, map, flat_map, take, drop}
 use Rattle.vl_tree.specs.Tree.{Expression}
 use Rattle.elab_model.specs.Bits.{Bit, bits}
 use Rattle.elab_model.specs.Elements.{only_bit}
 use Rattle.elab_model.specs.Names.{Variable}
-use Rattle.elab_bits.specs.Seen.{view_bit, IsInRow}
+use Rattle.elab_bits.specs.Seen.{view_bit}
 use Rattle.elab_nets.specs.declared.member_bits.TerminalBits.{TerminalBits}
 
 -- of so many outputs, and of what stands behind them
@@ -28,7 +28,3 @@ all_inputs vs t es = map (view_bit vs) t.inputs.items ++ inputs_of vs t.outputs_
 -- these have come: whatever comes behind them, it is the same in all
 abbrev pub AddsTerminals : List Variable → List Expression → TerminalBits → TerminalBits → Type 0
 AddsTerminals vs more old new = (rest : List Expression) → (all_outputs vs new rest ≡ all_outputs vs old (more ++ rest)) × (all_inputs vs new rest ≡ all_inputs vs old (more ++ rest))
-
-pub record AreInRow (vs : List Variable) (t : TerminalBits) : Type 0 where
-  pub outputs_in_row : All (IsInRow vs) t.outputs.items
-  pub inputs_in_row : All (IsInRow vs) t.inputs.items

@@ -24,6 +24,7 @@ use sg_circuit::{Net, NetId};
 use sg_text::Refused;
 use std::alloc::Global;
 
+// Whether all these are places of the row of bits.
 fn are_in_row(table: &Table, places: &[usize]) -> bool
     ensures { IsTrue result ↔ All (λ i. i < length (all_bits table.now)) places.now }
 {
@@ -31,7 +32,7 @@ fn are_in_row(table: &Table, places: &[usize]) -> bool
     places.iter().all(|place| *place < count)
 }
 
-// The bits to which a member is the first to lead. They stand in the row of bits.
+// The bits to which a member is the first to lead, where all stand in the row of bits.
 fn first_ends<'p>(table: &Table, ends: &'p PathEnds, member: usize) -> Option<&'p [usize]>
     ensures row { IfSome result (λ places. All (λ i. i < length (all_bits table.now)) places.now) }
     ensures ends { (m : Module) (i : Member) → table.now ≡ variables m → AreEnds m ends.now → slice_get (members m) member ≡ Some i → AreFirstEnds m (member, i) (option_map (λ p. p.now) result) }

@@ -15,5 +15,4 @@ mod terminals;
 mod turns;
 mod writing;
 
-pub use member_bits::{TerminalBits, connection_bits, terminal_bits};
 pub use rows::{Rows, rows_of};

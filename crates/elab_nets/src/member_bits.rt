@@ -6,7 +6,7 @@ ghost use Rattle.elab_model.specs.Bits as def;
 ghost use Rattle.elab_model.specs.Elements.{only_bit};
 ghost use Rattle.elab_model.specs.Members.{connection_values};
 ghost use Rattle.elab_bits.specs.Seen.{view_bit, IsInRow};
-ghost use Rattle.elab_nets.specs.TerminalBits.{AddsTerminals, HasBits, AreInRow};
+ghost use Rattle.elab_nets.specs.TerminalBits.{AddsTerminals, HasBits};
 
 use elab_bits::{Bit, add_bits};
 use elab_variables::Table;
@@ -14,7 +14,7 @@ use sg_text::NoMemory;
 use std::alloc::Global;
 use vl_tree::{Connections, Expression, NamedConnection};
 
-/// The bits of the terminals of a gate or a primitive. The room is used again from member to member.
+/// Room for the bits of the terminals of a gate or a primitive, which is used again from member to member.
 #[derive(Debug, Drop)]
 pub struct TerminalBits {
     /// How many of the terminals to come are outputs.
@@ -70,7 +70,7 @@ fn add_terminal(
     room: &mut TerminalBits,
 ) -> Result<(), NoMemory>
     ensures bits { OnOk result (AddsTerminals table.now (view_expression terminal.now ∷ []) room.old room.new) }
-    ensures row { AreInRow table.now room.old → AreInRow table.now room.new }
+    ensures row { All (IsInRow table.now) room.old.outputs.items → All (IsInRow table.now) room.new.outputs.items }
 {
     if room.outputs_to_come == 0 {
         return add_bits(table, terminal, &mut room.inputs);
@@ -81,7 +81,7 @@ fn add_terminal(
 
 fn add_all(table: &Table, terminals: &[Expression], room: &mut TerminalBits) -> Result<(), NoMemory>
     ensures bits { OnOk result (AddsTerminals table.now (map view_expression terminals.now) room.old room.new) }
-    ensures row { AreInRow table.now room.old → AreInRow table.now room.new }
+    ensures row { All (IsInRow table.now) room.old.outputs.items → All (IsInRow table.now) room.new.outputs.items }
 {
     for terminal in terminals {
         add_terminal(table, terminal, room)?;
@@ -95,7 +95,7 @@ fn add_value(
     room: &mut TerminalBits,
 ) -> Result<(), NoMemory>
     ensures bits { OnOk result (AddsTerminals table.now (option_to_list (option_map view_expression value.now)) room.old room.new) }
-    ensures row { AreInRow table.now room.old → AreInRow table.now room.new }
+    ensures row { All (IsInRow table.now) room.old.outputs.items → All (IsInRow table.now) room.new.outputs.items }
 {
     match value {
         Some(terminal) => add_terminal(table, terminal, room),
@@ -109,7 +109,7 @@ fn add_ordered(
     room: &mut TerminalBits,
 ) -> Result<(), NoMemory>
     ensures bits { OnOk result (AddsTerminals table.now (filter_map (λ e. e) (map (option_map view_expression) values.now)) room.old room.new) }
-    ensures row { AreInRow table.now room.old → AreInRow table.now room.new }
+    ensures row { All (IsInRow table.now) room.old.outputs.items → All (IsInRow table.now) room.new.outputs.items }
 {
     for value in values {
         add_value(table, value, room)?;
@@ -123,7 +123,7 @@ fn add_named(
     room: &mut TerminalBits,
 ) -> Result<(), NoMemory>
     ensures bits { OnOk result (AddsTerminals table.now (filter_map (λ c. c.value) (map view_named_connection connections.now)) room.old room.new) }
-    ensures row { AreInRow table.now room.old → AreInRow table.now room.new }
+    ensures row { All (IsInRow table.now) room.old.outputs.items → All (IsInRow table.now) room.new.outputs.items }
 {
     for connection in connections {
         add_value(table, &connection.value, room)?;
@@ -137,7 +137,7 @@ fn add_connected(
     room: &mut TerminalBits,
 ) -> Result<(), NoMemory>
     ensures bits { OnOk result (AddsTerminals table.now (connection_values (view_connections connections.now)) room.old room.new) }
-    ensures row { AreInRow table.now room.old → AreInRow table.now room.new }
+    ensures row { All (IsInRow table.now) room.old.outputs.items → All (IsInRow table.now) room.new.outputs.items }
 {
     match connections {
         Connections::Ordered(values) => add_ordered(table, values, room),
@@ -153,7 +153,7 @@ pub fn terminal_bits(
     room: &mut TerminalBits,
 ) -> Result<(), NoMemory>
     ensures bits { OnOk result (HasBits table.now outputs (map view_expression terminals.now) room.new) }
-    ensures row { AreInRow table.now room.new }
+    ensures row { All (IsInRow table.now) room.new.outputs.items }
 {
     await_outputs(outputs, room);
     add_all(table, terminals, room)
@@ -167,7 +167,7 @@ pub fn connection_bits(
     room: &mut TerminalBits,
 ) -> Result<(), NoMemory>
     ensures bits { OnOk result (HasBits table.now outputs (connection_values (view_connections connections.now)) room.new) }
-    ensures row { AreInRow table.now room.new }
+    ensures row { All (IsInRow table.now) room.new.outputs.items }
 {
     await_outputs(outputs, room);
     add_connected(table, connections, room)
