@@ -1,5 +1,5 @@
 -- The paths of all instances: the elements are those of the circuit.
-use Rattle.std.specs.Prelude.{◌≡◌, ℕ, ◌<◌, ◌≤◌, ◌^◌, List, [], length, map, slice_index_or}
+use Rattle.std.specs.Prelude.{◌≡◌, ℕ, ◌<◌, ◌≤◌, ◌^◌, List, [], flat_map, length, map, slice_index_or}
 use Rattle.std.specs.List.{AllByRecursion, range_with_len}
 use Rattle.std.proofs.Common.{sym, ◌∙◌, ap, arith, subst}
 use Rattle.std.proofs.lemmas.List.{length-map}
@@ -100,7 +100,7 @@ module _ (source : Source) (top : Module) (corner : Corner) (library : Library) 
   -- there is a use for each Path
   pub uses-enough : paths_among old.elements.items ≤ length made.uses.items
   uses-enough =
-      let paths = paths-count tables (nets source top) (map (λ u. u.inner) us) cs old.elements.items read given.are_elements.elements in
+      let paths = paths-count tables (has-legs source top corner library modules placed rows old given) (nets source top) (map (λ u. u.inner) us) cs old.elements.items read given.are_elements.elements in
       let a = length-map us (λ u. u.inner) in
       let b = length-map us (λ u. u.style) in
       let d = ap length uses.styles in
