@@ -1,13 +1,10 @@
 -- Elements whose Paths have the paths of uses: those of the circuit.
-use Rattle.std.specs.Prelude.{◌≡◌, ℕ, zero, suc, ◌+◌, ◌<◌, ◌≤◌, List, [], ◌∷◌, ◌++◌, Bool, true, false, not, Option, Some, None, find, drop, length, map, option_map, slice_get, slice_index_or, refl, if◌then◌else◌}
+use Rattle.std.specs.Prelude.{◌≡◌, ℕ, suc, ◌<◌, ◌≤◌, List, [], ◌∷◌, ◌++◌, Bool, true, false, Some, find, drop, length, map, option_map, slice_get, refl, if◌then◌else◌}
 use Rattle.std.specs.List.{AllByRecursion}
 use Rattle.std.proofs.Common.{sym, ◌∙◌, ap, arith, inl, inr, subst, append_assoc}
-use Rattle.std.proofs.lemmas.List.{length-map}
-use Rattle.std.proofs.lemmas.List.Elements.{All-from_recursion}
 use Rattle.std.proofs.lemmas.Option.{get_or_from_slice_get, slice_get-map, slice_get_within}
 use Rattle.sg_circuit.specs.Circuit.{Element, Kind, Path, Leg}
 use Rattle.sg_circuit.specs.PathsSeen.{paths_seen, spanned, AreIndexedPaths}
-use Rattle.sg_circuit.specs.Seen.{paths_of, AreApart}
 use Rattle.sg_circuit.specs.TimingsSeen.{leg_timing_seen, timings_at}
 use Rattle.sg_circuit.specs.declared.elements.Element as code
 use Rattle.sg_circuit.specs.declared.elements.ElementKind.{ElementKind}
@@ -19,7 +16,7 @@ use Rattle.elab_model.specs.Nets.{OwnNet}
 use Rattle.elab_model.specs.Numbered.{element_of}
 use Rattle.circuit_model.specs.PathUses as def
 use Rattle.elab_laws.proofs.Homes.{spot-same}
-use Rattle.elab_laws.proofs.Lists.{Pairwise, all-anyway, all-append, all-map, all-weaker, pairwise-map_back}
+use Rattle.elab_laws.proofs.Lists.{Pairwise}
 use Rattle.elab_elements.specs.Seen.{kind_in, element_in, NamesPlaces}
 use Rattle.elab_paths.specs.AllPaths.{Tables, kind_with, element_with, NamesTables}
 use Rattle.elab_paths.specs.Filling.{is_path, paths_among, with_use, with_next, filled}

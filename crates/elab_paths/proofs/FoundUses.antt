@@ -1,15 +1,15 @@
 -- The uses of a circuit: what is driven inside is another net in each, so that each Path finds its own.
-use Rattle.std.specs.Prelude.{◌≡◌, ℕ, ℤ, List, [], ◌∷◌, ◌++◌, Bool, true, false, ◌&&◌, ◌||◌, ◌==◌, Option, Some, None, bytes_eq, cond, find, flat_map, length, map, refl}
+use Rattle.std.specs.Prelude.{◌≡◌, ℕ, ℤ, List, [], ◌∷◌, ◌++◌, Bool, true, false, ◌&&◌, ◌||◌, ◌==◌, Some, None, bytes_eq, cond, find, flat_map, map, refl}
 use Rattle.std.specs.List.{AllByRecursion, list_any, range_with_len}
-use Rattle.std.proofs.Common.{sym, ◌∙◌, ap, subst, append_assoc}
+use Rattle.std.proofs.Common.{sym, ◌∙◌, ap, subst}
 use Rattle.sg_delay.specs.declared.corners.Corner.{Corner}
-use Rattle.vl_tree.specs.Tree.{Module, Source}
+use Rattle.vl_tree.specs.Tree.{Source}
 use Rattle.elab_model.specs.Elements.{Component}
 use Rattle.elab_model.specs.Ends.{path_ends, inner_spot}
 use Rattle.elab_model.specs.Hierarchy.{Instance}
 use Rattle.elab_model.specs.Homes.{Spot, bit, outside, terminal, inner, is_same_spot}
 use Rattle.elab_model.specs.Nets.{OwnNet}
-use Rattle.elab_model.specs.Terms.{NetBit, is_same_bit}
+use Rattle.elab_model.specs.Terms.{is_same_bit}
 use Rattle.specify_model.specs.Faults.{specify_faults}
 use Rattle.specify_model.specs.Outputs.{path_outputs}
 use Rattle.circuit_model.specs.PathUses.{PathUse, path_use, path_uses_of, reads}

@@ -1,7 +1,7 @@
 -- Which elements read what is driven inside: the Paths alone, in the order of the bits to which their paths lead.
 use Rattle.std.specs.Prelude.{◌≡◌, ◌⊎◌, ℕ, ℤ, List, [], ◌∷◌, ◌++◌, Bool, true, false, Option, Some, None, flat_map, length, map, zip, refl, if◌then◌else◌}
 use Rattle.std.specs.List.{AllByRecursion, enumerate_from}
-use Rattle.std.proofs.Common.{sym, ◌∙◌, ap, inl, inr, subst}
+use Rattle.std.proofs.Common.{sym, ap, inl, inr, subst}
 use Rattle.sg_circuit.specs.Circuit.{Kind, Gate, Udp, Pass, Leg, Path, Late}
 use Rattle.sg_delay.specs.declared.corners.Corner.{Corner}
 use Rattle.sg_text.specs.declared.places.Place.{Place}
