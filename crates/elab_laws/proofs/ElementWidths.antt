@@ -10,6 +10,7 @@ use Rattle.elab_model.specs.declared.kinds.ElabKind.TheVariants.{WidthMismatch}
 use Rattle.elab_model.specs.Leaves.{place_of}
 use Rattle.elab_model.specs.Names.{Variable}
 use Rattle.elab_model.specs.Bits.{Bit, net, constant, bits}
+use Rattle.elab_model.specs.Elements.{only_bit}
 use Rattle.elab_model.specs.Hierarchy.{is_empty}
 use Rattle.elab_model.specs.Faults.{fault_if}
 use Rattle.elab_model.specs.TerminalFaults.{expression_faults, is_sound, width_faults, constant_fault, constant_faults}
@@ -45,10 +46,11 @@ pub record FirstIsNet (bs : List Bit) : Type 0 where
 
 -- where the first terminal is driven
 pub first-is_net : (vs : List Variable) (k : ℕ) (e : Expression) (es : List Expression) → length (bits vs e) ≡ 1 → flat_map (constant_faults vs) (take (suc k) (e ∷ es)) ≡ []
-    → FirstIsNet (take (suc k) (flat_map (bits vs) (e ∷ es)))
+    → FirstIsNet (flat_map (λ e. only_bit (bits vs e)) (take (suc k) (e ∷ es)))
 first-is_net vs k e es one h = by (bits vs e) one (front (constant_faults vs e) (flat_map (constant_faults vs) (take k es)) h)
   where
-    by : (bs : List Bit) → length bs ≡ 1 → flat_map constant_fault bs ≡ [] → FirstIsNet (take (suc k) (bs ++ flat_map (bits vs) es))
+    by : (bs : List Bit) → length bs ≡ 1 → flat_map constant_fault bs ≡ [] → FirstIsNet (only_bit bs ++ flat_map (λ e. only_bit (bits vs e)) (take k es))
     by [] one h = cc
-    by (net n p ∷ bs) one h = record { name = n; position = p; rest = take k (bs ++ flat_map (bits vs) es); first = refl }
+    by (net n p ∷ []) one h = record { name = n; position = p; rest = flat_map (λ e. only_bit (bits vs e)) (take k es); first = refl }
+    by (net n p ∷ b ∷ bs) one h = cc
     by (constant at v ∷ bs) one h = cc

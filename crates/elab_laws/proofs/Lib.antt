@@ -15,11 +15,13 @@ pub mod Once
 pub mod NoFaults
 pub mod GivenBits
 pub mod Terminals
+pub mod EndBits
 pub mod Outside
 pub mod Inners
 pub mod LegSources
 pub mod Stated
 pub mod HaveNets
+pub mod DrivenNets
 pub mod Parents
 pub mod Legs
 pub mod Passes
@@ -30,6 +32,7 @@ pub mod PortConstants
 pub mod Connected
 pub mod Members
 pub mod Drives
+pub mod DrivenNumbers
 pub mod InOrder
 pub mod TerminalNumbers
 pub mod Precisions

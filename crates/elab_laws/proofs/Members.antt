@@ -1,34 +1,35 @@
 -- What the elements of each member read and drive has nets, and so all elements.
 use Rattle.std.specs.Prelude.{◌≡◌, ℕ, suc, [], ◌++◌, Option, Some, None, length, flat_map, refl, not, ℤ}
 use Rattle.std.specs.List.{enumerate_from}
-use Rattle.std.proofs.Common.{sym, ◌∙◌, ap, subst}
+use Rattle.std.proofs.Common.{sym, ap, subst}
 use Rattle.sg_circuit.specs.Circuit.{Gate, Udp}
 use Rattle.sg_delay.specs.declared.corners.Corner.{Corner}
 use Rattle.sg_logic.specs.Gate.{most_delays}
 use Rattle.sg_logic.specs.declared.gates.GateKind.{GateKind}
 use Rattle.vl_tree.specs.Tree.{Part, a_module, a_primitive, Primitive, GateInstance, Instance as instance_text, Delay, Named, Module, Source}
 use Rattle.elab_model.specs.declared.kinds.ElabKind.TheVariants.{BadTerminal}
-use Rattle.elab_model.specs.Members.{Member, assignment, supply, gate, instance, members, connection_values}
+use Rattle.elab_model.specs.Members.{Member, assignment, supply, gate, instance, path, members, connection_values}
 use Rattle.elab_model.specs.Definitions.{definition_of}
 use Rattle.elab_model.specs.Names.{variables}
 use Rattle.elab_model.specs.Hierarchy.{Instance, children, instances}
 use Rattle.elab_model.specs.Delays.{tick_of, delays_of}
 use Rattle.elab_model.specs.Primitives.{table_of, initial_value}
-use Rattle.elab_model.specs.Elements.{output_count, terminal_bits, terminal_elements, child_elements, child_at, instance_elements, member_elements, elements_of, legs}
+use Rattle.elab_model.specs.Elements.{output_count, output_bits, input_bits, terminal_elements, child_elements, child_at, instance_elements, member_elements, elements_of, legs}
 use Rattle.elab_model.specs.Nets.{instance_nets, terminal_nets, nets}
 use Rattle.elab_model.specs.Faults.{fault_if}
-use Rattle.elab_model.specs.TerminalFaults.{expression_faults, width_faults, terminal_faults, delay_faults}
+use Rattle.elab_model.specs.TerminalFaults.{expression_faults, terminal_faults, delay_faults}
 use Rattle.elab_model.specs.PrimitiveFaults.{primitive_faults}
 use Rattle.elab_model.specs.ModuleFaults.{are_terminals, takes_terminals, instance_faults, member_faults, all_member_faults, module_faults}
 use Rattle.elab_laws.specs.Laws.{AreSound}
-use Rattle.elab_laws.proofs.Lists.{In, all-in, all-append, all-flat_in}
+use Rattle.elab_laws.proofs.Lists.{In, all-in, all-append, all-flat_in, all-from}
 use Rattle.elab_laws.proofs.PartsApart.{child_at-all}
-use Rattle.elab_laws.proofs.NoFaults.{front, back, all-from, all-second}
+use Rattle.elab_laws.proofs.NoFaults.{front, back, all-second}
 use Rattle.elab_laws.specs.ElementLaws.{HasNets, ElementsHaveNets}
 use Rattle.elab_laws.proofs.HaveNets.{HaveNets, all-flat_from}
 use Rattle.elab_laws.proofs.Legs.{legs-have}
 use Rattle.elab_laws.proofs.Passes.{assignment-has, supply-has}
-use Rattle.elab_laws.proofs.ElementWidths.{no-fault, bits-count}
+use Rattle.elab_laws.proofs.DrivenNets.{paths-have}
+use Rattle.elab_laws.proofs.ElementWidths.{no-fault}
 use Rattle.elab_laws.proofs.Gates.{AreTerminals, terminals-have, has-output}
 use Rattle.elab_laws.proofs.PortConstants.{child-has}
 use Rattle.elab_laws.proofs.Connected.{members-sound, is-connected}
@@ -43,25 +44,22 @@ gate-has source top corner tick s k g d i there member h =
     let m = s.step.definition in
     let vs = variables m in
     let es = i.terminals in
-    let bs = terminal_bits s es in
     let named = flat_map (expression_faults vs) es in
     let few = fault_if (not (takes_terminals g (length es))) BadTerminal i.place in
     let ts = terminal_faults vs (output_count g (length es)) es in
     let ds = delay_faults (most_delays g) corner tick m d in
     let own : few ++ (ts ++ ds) ≡ [] = back named (few ++ (ts ++ ds)) h in
-    let sound : named ≡ [] = front named (few ++ (ts ++ ds)) h in
     let faultless : ts ≡ [] = front ts ds (back few (ts ++ ds) own) in
     let output = has-output g (length es) (no-fault (not (takes_terminals g (length es))) BadTerminal i.place (front few (ts ++ ds) own)) in
-    let count : length bs ≡ length es = bits-count vs es sound (front (flat_map (width_faults vs 1) es) _ faultless) in
-    let same : output_count g (length bs) ≡ suc output.0 = ap (output_count g) count ∙ output.1 in
     let kind = Gate g (delays_of corner tick m d) in
     let t : AreTerminals source s k (gate g d i) (suc output.0) es = record {
       there = member;
-      nets_are = ap (λ o. terminal_nets s k o bs) same;
-      sound = sound;
+      nets_are = ap (λ o. terminal_nets s k (output_bits s o es) (input_bits s o es)) output.1;
+      sound = front named (few ++ (ts ++ ds)) h;
       faultless = subst (λ o. terminal_faults vs o es ≡ []) output.1 faultless;
     } in
-    subst (λ o. HaveNets source top (terminal_elements source s i.place k kind o bs)) (sym same) (terminals-have source top s i.place k (gate g d i) kind output.0 es there t)
+    subst (λ o. HaveNets source top (terminal_elements source s i.place k kind (output_bits s o es) (input_bits s o es))) (sym output.1)
+    (terminals-have source top s i.place k (gate g d i) kind output.0 es there t)
 
 primitive-has : (source : Source) (top : Module) (corner : Corner) (tick : ℤ) (s : Instance) (k : ℕ) (n : Named) (d : Option Delay) (i : instance_text) (p : Primitive) → In s (instances source top)
     → IsMember s k (instance n d i) → definition_of source n.text ≡ Some (a_primitive p) → flat_map (expression_faults (variables s.step.definition)) (connection_values i.connections) ≡ []
@@ -89,6 +87,7 @@ member-has : (source : Source) (top : Module) (corner : Corner) → AreSound sou
 member-has source top corner sound s k (assignment j) there member h = assignment-has source top s j there
 member-has source top corner sound s k (supply n v) there member h = supply-has source top s n v there
 member-has source top corner sound s k (gate g d i) there member h = gate-has source top corner (tick_of source top) s k g d i there member h
+member-has source top corner sound s k (path p) there member h = paths-have source top s p.place (k, path p) there member
 member-has source top corner sound s k (instance n d i) there member h =
     let values = flat_map (expression_faults (variables s.step.definition)) (connection_values i.connections) in
     let own = member_faults source corner (tick_of source top) s.step.definition (variables s.step.definition) (instance n d i) in
