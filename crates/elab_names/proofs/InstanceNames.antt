@@ -7,8 +7,8 @@ use Rattle.sg_logic.specs.declared.values.Value.{Value}
 use Rattle.vl_tree.specs.declared.items.Item as code
 use Rattle.vl_tree.specs.declared.names.Name as code_name
 use Rattle.vl_tree.specs.Seen.{view_name, view_item}
-use Rattle.vl_tree.specs.Tree.{Named, Delay, GateInstance, Instance, NetName, Join, Expression}
-use Rattle.elab_model.specs.Members.{Member, assignment, supply, gate, instance, assignment_to, members_of_item}
+use Rattle.vl_tree.specs.Tree.{Named, Delay, GateInstance, Instance, NetName, Join, Expression, SpecifyItem, specparams, a_path, pulse_style, a_check}
+use Rattle.elab_model.specs.Members.{Member, assignment, supply, gate, instance, assignment_to, member_of_item, members_of_item}
 use Rattle.elab_model.specs.NameFaults.{instance_name}
 
 pub gates-named : (g : GateKind) (d : Option Delay) (is : List GateInstance) → filter_map instance_name (map (gate g d) is) ≡ filter_map (λ i. i.name) is
@@ -35,6 +35,13 @@ nets-unnamed (n ∷ ns) = by n.value (nets-unnamed ns)
         → filter_map instance_name (cons_option (assignment_to n.name e) (filter_map (λ n. assignment_to n.name n.value) ns)) ≡ []
     by None h = h
     by (Some e) h = h
+
+pub paths-unnamed : (is : List SpecifyItem) → filter_map instance_name (filter_map member_of_item is) ≡ []
+paths-unnamed [] = refl
+paths-unnamed (specparams p ps ∷ is) = paths-unnamed is
+paths-unnamed (a_path p ∷ is) = paths-unnamed is
+paths-unnamed (pulse_style p s ts ∷ is) = paths-unnamed is
+paths-unnamed (a_check c ∷ is) = paths-unnamed is
 
 -- the names of an item
 abbrev pub item_names : code.Item → List Named
