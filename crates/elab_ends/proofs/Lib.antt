@@ -1,3 +1,6 @@
 -- The modules of this folder.
 pub mod RowBits
 pub mod TermBits
+mod Leading
+mod Marking
+mod InTurn
