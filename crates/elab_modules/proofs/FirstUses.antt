@@ -92,7 +92,7 @@ all-again xs (y ∷ ys) h =
 pub first-none : (source : Source) (parts : Parts) (udps : List UdpUse) → udps ≡ [] → ((i : ℕ) (x : code_ready.Ready) → slice_get parts i ≡ Some (Some x) → ⊥) → AreFirst source parts udps []
 first-none source parts udps none empty = record {
   tables = ap (map (λ u. udp_seen u)) none;
-  ready = λ p h. absurd h;
+  stand = λ p h. absurd h;
   only = λ i k p e at. absurd (empty i (ready.Primitive k) e);
 }
 
@@ -101,7 +101,7 @@ pub first-again : (source : Source) (parts : Parts) (udps : List UdpUse) (met mo
     → AreFirst source parts udps (met ++ more)
 first-again source parts udps met more inside h = record {
   tables = h.tables ∙ ap (map used) (sym (all-again met more inside));
-  ready = λ p k. h.ready p (elim (in-either p met more k) [ inl a ↦ a | inr b ↦ inside p b ]);
+  stand = λ p k. h.stand p (elim (in-either p met more k) [ inl a ↦ a | inr b ↦ inside p b ]);
   only = λ i k p e at. in-left p met more (h.only i k p e at);
 }
 
@@ -110,7 +110,7 @@ pub first-module : (source : Source) (parts : Parts) (place : ℕ) (m : Prepared
     → AreFirst source (set parts place (Some (ready.Module m))) udps met
 first-module source parts place m udps met lt h = record {
   tables = h.tables;
-  ready = λ p k i q e at. put-keeps parts place (ready.Module m) lt i (h.ready p k i q e at);
+  stand = λ p k i q e at. put-keeps parts place (ready.Module m) lt i (h.stand p k i q e at);
   only = λ i k p e at. elim (set-either parts place i (Some (ready.Module m)) (Some (ready.Primitive k)) e) [
     | inl x ↦ absurd (differ k (sym x.1))
     | inr y ↦ h.only i k p y at
@@ -174,8 +174,8 @@ first-primitive source parts place number n p udps after u met named lt fresh ro
       tables = ap (map (λ u. udp_seen u)) grown
           ∙ (map-append (λ u. udp_seen u) udps (u ∷ []) ∙ (ap (λ ts. ts ++ udp_seen u ∷ []) h.tables ∙ (ap (λ (t : UsedPrimitive). map used (first_uses [] met) ++ t ∷ []) seen
           ∙ (sym (map-append used (first_uses [] met) (p ∷ [])) ∙ ap (map used) (sym (met-first [] met p new))))));
-      ready = λ q k i x e at. elim (in-either q met (p ∷ []) k) [
-        | inl a ↦ put-keeps parts place (ready.Primitive number) lt i (h.ready q a i x e at)
+      stand = λ q k i x e at. elim (in-either q met (p ∷ []) k) [
+        | inl a ↦ put-keeps parts place (ready.Primitive number) lt i (h.stand q a i x e at)
         | inr b ↦ elim b [
           | inl g ↦ (let here : place ≡ i = some-is (place_of source p.name.text) place i placed (subst (λ y. place_of source y.name.text ≡ Some i) g e) in
               subst (HasReady (set parts place (Some (ready.Primitive number)))) here (put-ready parts place (ready.Primitive number) lt))
@@ -195,4 +195,4 @@ first-primitive source parts place number n p udps after u met named lt fresh ro
         by false e = refl
         by true e =
             let same : p.name.text ≡ q.name.text = (bytes_eq-Decides p.name.text q.name.text).0 e in
-            absurd (fresh (h.ready q k place p (subst (λ m. place_of source m ≡ Some place) same placed) named.there))
+            absurd (fresh (h.stand q k place p (subst (λ m. place_of source m ≡ Some place) same placed) named.there))

@@ -50,12 +50,11 @@ IsUdpReady source parts (supply n v) = Unit {0}
 IsUdpReady source parts (gate g d i) = Unit {0}
 IsUdpReady source parts (instance n d i) = IsNameReady source parts n.text
 IsUdpReady source parts (path p) = Unit {0}
-IsUdpReady source parts (path p) = Unit {0}
 
 -- the tables are those of the primitives that were met, in order of first use; these stand ready, and no others
 pub record AreFirst (source : Source) (parts : List (Option code_ready.Ready)) (udps : List UdpUse) (met : List Primitive) : Type 0 where
   pub tables : map (λ u. udp_seen u) udps ≡ map used (first_uses [] met)
-  pub ready : (p : Primitive) → In p met → IsNameReady source parts p.name.text
+  pub stand : (p : Primitive) → In p met → IsNameReady source parts p.name.text
   pub only : (i k : ℕ) (p : Primitive) → slice_get parts i ≡ Some (Some (ready.Primitive k)) → slice_get source i ≡ Some (a_primitive p) → In p met
 
 -- a stock to which the primitives of some members were added

@@ -2,9 +2,10 @@
 use Rattle.std.proofs.Common.{rules, ◌≡◌, ◌∙◌, sym, ap, subst, ◌<◌, ◌+◌, ◌-◌, ◌^◌, length, Some, arith}
 use Rattle.std.proofs.lemmas.Result.{err_from_is_err_and}
 use Rattle.vl_tree.specs.Seen.{view_part}
+use Rattle.elab_model.specs.Definitions.{as_primitive}
 use Rattle.elab_hierarchy.proofs.Found.{place-below}
 use Rattle.elab_hierarchy.proofs.Whole.{refuses}
-use Rattle.elab_modules.proofs.FirstUses.{first-had, first-primitive}
+use Rattle.elab_modules.proofs.FirstUses.{first-had, first-other, first-primitive, first-undefined}
 use Rattle.elab_modules.proofs.Stocking.{primitive-put, primitive-keeps, put-ready}
 use Rattle.elab_modules.proofs.Meeting.{name-ready, name-refused, none-ready, some-ready}
 use Rattle.elab_modules.proofs.stock.add_primitive.Goals as goal
@@ -27,6 +28,15 @@ returns-then-is_some-clause-named c = name-ready c.args.definitions.now c.args.p
     (some-ready c.args.parts.now c.in-Some.place c.index-parts-place.result c.is_some.result
     (subst (λ n. c.in-Some.place < n) (sym c.requires.stock.ready.0) (place-below c.args.definitions.now c.args.name.now c.in-Some.place (sym c.find.ensures ∙ c.in-Some.is)))
     c.is_some.ensures c.if-is_some.true)
+
+pub returns-in_default-clause-first : goal.returns-in_default-clause-first
+returns-in_default-clause-first c = λ met h.
+    first-undefined c.args.definitions.now c.args.parts.now c.args.udps.now.items c.args.name.now met (sym c.find.ensures ∙ c.in_default.is) h
+
+pub returns-in_default-part-clause-first : goal.returns-in_default-part-clause-first
+returns-in_default-part-clause-first c = λ met h.
+    first-other c.args.definitions.now c.args.parts.now c.args.udps.now.items c.args.name.now c.in-Some.place (view_part c.part.result.now) met (sym c.find.ensures ∙ c.in-Some.is) c.part.ensures
+    (ap (λ p. as_primitive (view_part p)) c.in_default-part.is) h
 
 pub returns-then-is_some-clause-first : goal.returns-then-is_some-clause-first
 returns-then-is_some-clause-first c = λ met h.
