@@ -1,5 +1,5 @@
 -- The ends of members, one after another.
-use Rattle.std.specs.Prelude.{◌≡◌, ◌⊎◌, ℕ, zero, suc, ◌+◌, ◌<◌, ◌≤◌, List, [], ◌∷◌, ◌++◌, Bool, true, false, Some, flat_map, length, map, refl, replicate, slice_get, slice_index_or, take, drop}
+use Rattle.std.specs.Prelude.{◌≡◌, ◌⊎◌, ℕ, zero, suc, ◌+◌, ◌<◌, List, [], ◌∷◌, ◌++◌, Bool, true, false, Some, flat_map, length, map, refl, replicate, slice_get, slice_index_or, take, drop}
 use Rattle.std.specs.List.{enumerate_from}
 use Rattle.std.proofs.Common.{arith, sym, ◌∙◌, ap, inl, inr, subst, append-nil}
 use Rattle.std.proofs.Math.Nat.{eq-or-lt_of_le}
@@ -9,9 +9,9 @@ use Rattle.std.proofs.lemmas.List.FromFn.{get_or-enumerate_from, length-enumerat
 use Rattle.std.proofs.lemmas.Option.{slice_get-get_or}
 use Rattle.vl_tree.specs.Tree.{Module}
 use Rattle.elab_laws.specs.Handing.{all_bits}
-use Rattle.elab_model.specs.Ends.{ends, first_ends, path_ends}
+use Rattle.elab_model.specs.Ends.{ends, first_ends}
 use Rattle.elab_model.specs.Members.{Member, members}
-use Rattle.elab_model.specs.Names.{Variable, variables}
+use Rattle.elab_model.specs.Names.{variables}
 use Rattle.elab_variables.specs.Seen.{view_member}
 use Rattle.elab_variables.specs.declared.member_list.Member as code_member
 use Rattle.elab_ends.specs.declared.ends.PathEnds.{PathEnds}
@@ -38,9 +38,9 @@ module _ (m : Module) where
   pub first-none : (seen : List Bool) → seen ≡ replicate (length (all_bits (variables m))) false → AreFirst m 0 seen [] []
   first-none seen e = record {
     marked = λ i lt.
-      ap (λ marks. slice_get marks i) e
-      ∙ slice_get-get_or (replicate (length (all_bits (variables m))) false) i true (subst (λ n. i < n) (sym (length-replicate (length (all_bits (variables m))) false)) lt)
-      ∙ ap Some (get_or-replicate (length (all_bits (variables m))) i false true lt);
+        ap (λ marks. slice_get marks i) e
+        ∙ slice_get-get_or (replicate (length (all_bits (variables m))) false) i true (subst (λ n. i < n) (sym (length-replicate (length (all_bits (variables m))) false)) lt)
+        ∙ ap Some (get_or-replicate (length (all_bits (variables m))) i false true lt);
     these = refl;
     counted = refl;
     before = λ i lt. absurd (omega (arith, lt));
@@ -65,9 +65,9 @@ module _ (m : Module) where
   first-more k x seen marks bits new starts next n lt is h count e added = record {
     marked = subst (HasSeen m marks) (ap (λ y. flat_map (ends m) (take k (members m)) ++ ends m y) (sym is) ∙ sym (flat-more (ends m) (members m) k x lt)) added.marked;
     these =
-      added.bits ∙ ap (λ bs. bs ++ first_ends m (k, x)) h.these
-      ∙ sym (flat-more (first_ends m) (enumerate_from 0 (members m)) k (0, x) (subst (λ n. k < n) (sym (length-enumerate_from 0 (members m))) lt)
-      ∙ ap (λ y. flat_map (first_ends m) (take k (enumerate_from 0 (members m))) ++ first_ends m y) (get_or-enumerate_from 0 (members m) k (0, x) lt ∙ ap (λ y. (0 + k, y)) is ∙ ap (λ j. (j, x)) (omega arith)));
+        added.bits ∙ ap (λ bs. bs ++ first_ends m (k, x)) h.these
+        ∙ sym (flat-more (first_ends m) (enumerate_from 0 (members m)) k (0, x) (subst (λ n. k < n) (sym (length-enumerate_from 0 (members m))) lt)
+        ∙ ap (λ y. flat_map (first_ends m) (take k (enumerate_from 0 (members m))) ++ first_ends m y) (get_or-enumerate_from 0 (members m) k (0, x) lt ∙ ap (λ y. (0 + k, y)) is ∙ ap (λ j. (j, x)) (omega arith)));
     counted = counted-more k starts next n h.counted e;
     before = starts-more k seen bits starts next n h count e;
   }

@@ -1,6 +1,6 @@
 -- The bits to which a path leads, each where it stands first.
-use Rattle.std.specs.Prelude.{◌≡◌, ℕ, suc, List, [], ◌∷◌, ◌++◌, Bool, true, false, ◌||◌, filter, flat_map, length, map, refl, take, zip, if◌then◌else◌}
-use Rattle.std.specs.List.{AllByRecursion, list_any, take-map}
+use Rattle.std.specs.Prelude.{◌≡◌, ℕ, List, [], ◌∷◌, ◌++◌, Bool, true, false, ◌||◌, filter, flat_map, length, map, refl, take, zip, if◌then◌else◌}
+use Rattle.std.specs.List.{AllByRecursion}
 use Rattle.std.proofs.Common.{arith, sym, ◌∙◌, ap, subst, append-nil}
 use Rattle.std.proofs.lemmas.List.{map-append, take_all}
 use Rattle.std.proofs.lemmas.List.Elements.{filter-append}
@@ -8,7 +8,7 @@ use Rattle.std.proofs.lemmas.List.Folds.{list_any-append}
 use Rattle.vl_tree.specs.declared.paths.Arrow.{Arrow}
 use Rattle.vl_tree.specs.declared.paths.Arrow.TheVariants.{Parallel, Full}
 use Rattle.vl_tree.specs.Tree.{SpecifyPath}
-use Rattle.elab_laws.proofs.Ends.{bits-decide, is_one_of, in-one_of, one-of_in, first_bits-append}
+use Rattle.elab_laws.proofs.Ends.{is_one_of, in-one_of, one-of_in, first_bits-append}
 use Rattle.elab_laws.proofs.Lists.{all-append, all-in, all-weaker}
 use Rattle.elab_laws.proofs.NoFaults.{all-from}
 use Rattle.elab_model.specs.Ends.{first_bits}
@@ -27,10 +27,10 @@ pub alike-more : (xs ys : List NetBit) → AllByRecursion (λ b. is_one_of b xs 
 alike-more xs ys h = record {
   same = λ b. list_any-append (is_same_bit b) xs ys ∙ one b (is_one_of b xs) refl (is_one_of b ys) refl;
   firsts = λ seen.
-    first_bits-append seen xs ys
-    ∙ ap (λ zs. first_bits seen xs ++ zs)
-    (none-new (seen ++ xs) ys (all-weaker (λ b. is_one_of b xs ≡ true) (λ b. is_one_of b (seen ++ xs) ≡ true) ys (λ b e. list_any-append (is_same_bit b) seen xs ∙ or-true (is_one_of b seen) (is_one_of b xs) e) h))
-    ∙ append-nil (first_bits seen xs);
+      first_bits-append seen xs ys
+      ∙ ap (λ zs. first_bits seen xs ++ zs)
+      (none-new (seen ++ xs) ys (all-weaker (λ b. is_one_of b xs ≡ true) (λ b. is_one_of b (seen ++ xs) ≡ true) ys (λ b e. list_any-append (is_same_bit b) seen xs ∙ or-true (is_one_of b seen) (is_one_of b xs) e) h))
+      ∙ append-nil (first_bits seen xs);
 }
   where
     or-true : (x y : Bool) → y ≡ true → (x || y) ≡ true

@@ -4,3 +4,4 @@ pub mod TermBits
 mod Leading
 mod Marking
 mod InTurn
+mod Examples

@@ -1,7 +1,7 @@
 -- Bits that are marked and added, one after another.
-use Rattle.std.specs.Prelude.{◌≡◌, ℕ, ◌+◌, ◌<◌, ◌≤◌, ◌==◌, List, [], ◌∷◌, ◌++◌, Bool, true, false, ◌||◌, Some, filter, flat_map, length, map, refl, slice_get, slice_index_or, slice_set, take, if◌then◌else◌}
+use Rattle.std.specs.Prelude.{◌≡◌, ℕ, ◌+◌, ◌<◌, ◌≤◌, ◌==◌, List, [], ◌∷◌, ◌++◌, Bool, true, false, ◌||◌, Some, filter, flat_map, length, map, refl, slice_index_or, slice_set, take, if◌then◌else◌}
 use Rattle.std.specs.Borrow.{Bor}
-use Rattle.std.specs.List.{AllByRecursion, list_any}
+use Rattle.std.specs.List.{AllByRecursion}
 use Rattle.std.proofs.Common.{arith, sym, ◌∙◌, ap, subst, append_assoc, append-nil}
 use Rattle.std.proofs.lemmas.Bool.{eq-eqb, eqb-true}
 use Rattle.std.proofs.lemmas.List.{get_or-set_other, get_or-set_same, length-set, map-append, map_more, take_all}
@@ -95,8 +95,8 @@ module _ (m : Module) (before bs : List NetBit) where
     seen-first e seen old bits new room more h = record {
       marked = λ i lt. slice_get-get_or (slice_set seen p true) i true (subst (λ n. i < n) (sym (length-set seen p true ∙ room)) lt) ∙ ap Some (marked-at seen room h.marked i lt (i == p) refl);
       bits =
-        ap (bits_seen (variables m)) more ∙ map-append (bit_seen (variables m)) bits (p ∷ []) ∙ ap (λ cs. cs ++ b ∷ []) h.bits ∙ append_assoc (bits_seen (variables m) old) (first_bits before bs) (b ∷ [])
-        ∙ ap (λ cs. bits_seen (variables m) old ++ cs) (first-of b false e);
+          ap (bits_seen (variables m)) more ∙ map-append (bit_seen (variables m)) bits (p ∷ []) ∙ ap (λ cs. cs ++ b ∷ []) h.bits ∙ append_assoc (bits_seen (variables m) old) (first_bits before bs) (b ∷ [])
+          ∙ ap (λ cs. bits_seen (variables m) old ++ cs) (first-of b false e);
     }
 
 -- ---- the next place
@@ -164,7 +164,7 @@ module _ (vs : List Variable) (places : List ℕ) (start : List Bool) (old : Lis
       length-set seen at true ∙ h.0,
       λ r. subst (AreInRow vs) (sym more) (All-push (λ i. i < length (all_bits vs)) bits at (h.1 r) (row k d lt)),
       λ m before e s.
-      one-added m before places k d lt (subst (λ ws. AreInRow ws places) e row) (port-in m true e o) seen f is old bits new (h.0 ∙ ap (λ ws. length (all_bits ws)) e) more (h.2 m before e s),
+          one-added m before places k d lt (subst (λ ws. AreInRow ws places) e row) (port-in m true e o) seen f is old bits new (h.0 ∙ ap (λ ws. length (all_bits ws)) e) more (h.2 m before e s),
     )
 
 -- at the end all places were
@@ -185,7 +185,7 @@ none-added m before seen old new e h = record {
 pub alike-added : (m : Module) (xs ys before : List NetBit) (seen : List Bool) (old new : List ℕ) → AreAlike xs ys → HasAdded m ys before seen old new → HasAdded m xs before seen old new
 alike-added m xs ys before seen old new a h = record {
   marked = marked-as m seen (before ++ ys) (before ++ xs)
-    (λ b. list_any-append (is_same_bit b) before ys ∙ ap (λ t. is_one_of b before || t) (sym (a.same b)) ∙ sym (list_any-append (is_same_bit b) before xs)) h.marked;
+      (λ b. list_any-append (is_same_bit b) before ys ∙ ap (λ t. is_one_of b before || t) (sym (a.same b)) ∙ sym (list_any-append (is_same_bit b) before xs)) h.marked;
   bits = h.bits ∙ ap (λ bs. bits_seen (variables m) old ++ bs) (sym (a.firsts before));
 }
 

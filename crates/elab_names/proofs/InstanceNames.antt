@@ -23,6 +23,13 @@ pub assigns-unnamed : (js : List Join) → filter_map instance_name (map assignm
 assigns-unnamed [] = refl
 assigns-unnamed (j ∷ js) = assigns-unnamed js
 
+pub paths-unnamed : (is : List SpecifyItem) → filter_map instance_name (filter_map member_of_item is) ≡ []
+paths-unnamed [] = refl
+paths-unnamed (specparams p ps ∷ is) = paths-unnamed is
+paths-unnamed (a_path p ∷ is) = paths-unnamed is
+paths-unnamed (pulse_style p s ts ∷ is) = paths-unnamed is
+paths-unnamed (a_check c ∷ is) = paths-unnamed is
+
 pub supplies-unnamed : (v : Value) (ns : List Named) → filter_map instance_name (map (λ n. supply n v) ns) ≡ []
 supplies-unnamed v [] = refl
 supplies-unnamed v (n ∷ ns) = supplies-unnamed v ns
