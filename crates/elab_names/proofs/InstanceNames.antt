@@ -43,13 +43,6 @@ nets-unnamed (n ∷ ns) = by n.value (nets-unnamed ns)
     by None h = h
     by (Some e) h = h
 
-pub paths-unnamed : (is : List SpecifyItem) → filter_map instance_name (filter_map member_of_item is) ≡ []
-paths-unnamed [] = refl
-paths-unnamed (specparams p ps ∷ is) = paths-unnamed is
-paths-unnamed (a_path p ∷ is) = paths-unnamed is
-paths-unnamed (pulse_style p s ts ∷ is) = paths-unnamed is
-paths-unnamed (a_check c ∷ is) = paths-unnamed is
-
 -- the names of an item
 abbrev pub item_names : code.Item → List Named
 item_names i = filter_map instance_name (members_of_item (view_item i))
