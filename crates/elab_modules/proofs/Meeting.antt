@@ -1,6 +1,7 @@
 -- The modules of instances stand ready one after the other.
 use Rattle.std.specs.Prelude.{◌≡◌, ℕ, zero, suc, ◌+◌, ◌<◌, ◌^◌, List, [], ◌∷◌, ◌++◌, Bool, true, false, Option, Some, None, filter_map, flat_map, is_some, get_or, length, map, take, slice_get, slice_index_or, refl, replicate}
 use Rattle.std.specs.List.{AllByRecursion, cons_option}
+use Rattle.std.specs.Borrow.{Bor}
 use Rattle.std.specs.Option.{option_and_then}
 use Rattle.std.proofs.Common.{sym, ◌∙◌, ap, arith, inl, inr, subst, set}
 use Rattle.std.proofs.Math.Seq.{take-length}
@@ -11,6 +12,9 @@ use Rattle.std.proofs.lemmas.Option.{slice_get-get_or}
 use Rattle.sg_circuit.specs.declared.elements.UdpUse.{UdpUse}
 use Rattle.sg_text.specs.declared.refusals.Refused.{Refused}
 use Rattle.sg_text.specs.declared.refusals.Refused.TheVariants as refused
+use Rattle.vl_tree.specs.declared.expressions.Delay.{Delay}
+use Rattle.vl_tree.specs.declared.items.Instance.{Instance}
+use Rattle.vl_tree.specs.declared.names.Name.{Name}
 use Rattle.vl_tree.specs.Tree.{Module, Primitive, Part, Source, a_module, a_primitive}
 use Rattle.elab_model.specs.declared.kinds.ElabKind.{ElabKind}
 use Rattle.elab_model.specs.Definitions.{as_primitive}
@@ -19,6 +23,7 @@ use Rattle.elab_model.specs.PrimitiveFaults.{member_primitive}
 use Rattle.elab_laws.proofs.Lists.{In, in-left, in-right, in-either, in-flat, all-weaker, all-append}
 use Rattle.elab_variables.specs.Seen.{view_member}
 use Rattle.elab_variables.specs.declared.member_list.Member as code_member
+use Rattle.elab_variables.specs.declared.member_list.Member.TheVariants as member
 use Rattle.elab_hierarchy.specs.declared.instances.Placed.{Placed}
 use Rattle.elab_hierarchy.specs.Named.{place_of}
 use Rattle.elab_hierarchy.specs.Tops.{StandsAt}
@@ -88,8 +93,8 @@ pub udp-kept : (source : Source) (before after : Parts) → ((i : ℕ) → HasRe
 udp-kept source before after kept (assignment j) h = tt
 udp-kept source before after kept (supply n v) h = tt
 udp-kept source before after kept (gate g d i) h = tt
-udp-kept source before after kept (instance n d i) h = λ j p e at. kept j (h j p e at)
 udp-kept source before after kept (path p) h = tt
+udp-kept source before after kept (instance n d i) h = λ j p e at. kept j (h j p e at)
 
 udps-kept : (source : Source) (before after : Parts) → ((i : ℕ) → HasReady before i → HasReady after i) → (ms : List Member) → AllByRecursion (IsUdpReady source before) ms
     → AllByRecursion (IsUdpReady source after) ms
@@ -123,13 +128,24 @@ stocked-next source d x before mid after tables udps more ms k lt is h stock kee
         append_assoc met (filter_map (member_primitive source) xs) (filter_map (member_primitive source) ys)
         ∙ ap (λ ps. met ++ ps) (sym (filter_map-append (member_primitive source) xs ys) ∙ ap (filter_map (member_primitive source)) e)
 
--- a member that names no primitive
+-- a member that is no instance of a definition
+abbrev pub IsOther : code_member.Member → Type 0
+IsOther x = (n : Name) (d : Bor (Option Delay)) (i : Bor Instance) → x ≡ member.Instance n d i → ⊥
+
+names-none : (source : Source) (parts : Parts) (x : code_member.Member) → IsOther x → IsUdpReady source parts (view_member x) × (member_primitive source (view_member x) ≡ None)
+names-none source parts (member.Declared n e) h = (tt, refl)
+names-none source parts (member.Assignment j) h = (tt, refl)
+names-none source parts (member.Supply n v) h = (tt, refl)
+names-none source parts (member.Gate g d i) h = (tt, refl)
+names-none source parts (member.Instance n d i) h = absurd (h n d i refl)
+names-none source parts (member.Path p) h = (tt, refl)
+
 pub stocked-other : (source : Source) (d x : code_member.Member) (before mid : Parts) (tables udps : List UdpUse) (ms : List code_member.Member) (k : ℕ) → k < length ms → x ≡ slice_index_or ms k d
-    → Stocked source before mid tables udps (map view_member (take k ms)) → IsUdpReady source mid (view_member x) → member_primitive source (view_member x) ≡ None
-    → Stocked source before mid tables udps (map view_member (take (k + 1) ms))
-stocked-other source d x before mid tables udps ms k lt is h named none =
-    stocked-next source d x before mid mid tables udps udps ms k lt is h h.stock (keeps-same mid) named
-    (λ met f. subst (AreFirst source mid udps) (sym (ap (λ o. met ++ cons_option o []) none ∙ append-nil met)) f)
+    → IsOther x → Stocked source before mid tables udps (map view_member (take k ms)) → Stocked source before mid tables udps (map view_member (take (k + 1) ms))
+stocked-other source d x before mid tables udps ms k lt is other h =
+    let none = names-none source mid x other in
+    stocked-next source d x before mid mid tables udps udps ms k lt is h h.stock (keeps-same mid) none.0
+    (λ met f. subst (AreFirst source mid udps) (sym (ap (λ o. met ++ cons_option o []) none.1 ∙ append-nil met)) f)
 
 pub stocked-all : (source : Source) (before after : Parts) (tables udps : List UdpUse) (ms : List code_member.Member) (k : ℕ) → k ≡ length ms
     → Stocked source before after tables udps (map view_member (take k ms)) → Stocked source before after tables udps (map view_member ms)

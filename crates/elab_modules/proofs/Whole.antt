@@ -163,7 +163,7 @@ named-faultless : (source : Source) (parts : Parts) (x : Member) (p : Primitive)
 named-faultless source parts (assignment j) p all e h = cc
 named-faultless source parts (supply n v) p all e h = cc
 named-faultless source parts (gate g d i) p all e h = cc
-named-faultless source parts (path q) p all e h = cc
+named-faultless source parts (path w) p all e h = cc
 named-faultless source parts (instance n d i) p all e h =
     let d = place-defined source n.text p (primitive-defined (definition_of source n.text) p e) in
     faultless-at source parts d.0 p all d.2 (h d.0 d.1)
