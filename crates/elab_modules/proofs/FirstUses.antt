@@ -3,7 +3,8 @@ use Rattle.std.specs.Prelude.{◌≡◌, ◌⊎◌, ℕ, ◌<◌, List, [], ◌�
 use Rattle.std.specs.Option.{option_and_then}
 use Rattle.std.specs.List.{cons_option}
 use Rattle.std.proofs.Common.{sym, ◌∙◌, ap, inl, inr, subst, set}
-use Rattle.std.proofs.lemmas.List.{map-append, append-nil}
+use Rattle.std.proofs.lemmas.Bool.{or_right}
+use Rattle.std.proofs.lemmas.List.{append-nil, append_assoc, map-append}
 use Rattle.std.proofs.lemmas.Slice.Eq.{bytes_eq-Decides}
 use Rattle.sg_circuit.specs.declared.elements.UdpUse.{UdpUse}
 use Rattle.sg_circuit.specs.Circuit.{UsedPrimitive}
@@ -27,12 +28,8 @@ use Rattle.elab_modules.proofs.Stocking.{Parts, put-ready, put-keeps, same-primi
 
 -- ---- one primitive more
 
-true-behind : (b c : Bool) → c ≡ true → (b || c) ≡ true
-true-behind true c e = refl
-true-behind false c e = e
-
 seen-before : (p x : Primitive) (seen : List (List ℕ)) → is_among p.name.text seen ≡ true → is_among p.name.text (x.name.text ∷ seen) ≡ true
-seen-before p x seen e = true-behind (bytes_eq p.name.text x.name.text) (is_among p.name.text seen) e
+seen-before p x seen e = or_right (bytes_eq p.name.text x.name.text) (is_among p.name.text seen) e
 
 seen-last : (x : Primitive) (seen : List (List ℕ)) → is_among x.name.text (x.name.text ∷ seen) ≡ true
 seen-last x seen = ap (λ b. b || is_among x.name.text seen) ((bytes_eq-Decides x.name.text x.name.text).1 refl)
@@ -79,13 +76,9 @@ met-first seen (x ∷ xs) p h = by (is_among x.name.text seen) (met-first seen x
 all-again : (xs ys : List Primitive) → ((p : Primitive) → In p ys → In p xs) → first_uses [] (xs ++ ys) ≡ first_uses [] xs
 all-again xs [] h = ap (first_uses []) (append-nil xs)
 all-again xs (y ∷ ys) h =
-    ap (first_uses []) (one-more xs)
+    ap (first_uses []) (sym (append_assoc xs (y ∷ []) ys))
     ∙ all-again (xs ++ y ∷ []) ys (λ p k. in-left p xs (y ∷ []) (h p (inr k)))
     ∙ met-again [] xs y (inr (h y (inl refl)))
-  where
-    one-more : (zs : List Primitive) → zs ++ y ∷ ys ≡ (zs ++ y ∷ []) ++ ys
-    one-more [] = refl
-    one-more (z ∷ zs) = ap (λ us. z ∷ us) (one-more zs)
 
 -- ---- the tables
 

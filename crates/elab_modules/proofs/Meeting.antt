@@ -1,5 +1,6 @@
 -- The modules of instances stand ready one after the other.
-use Rattle.std.specs.Prelude.{◌≡◌, ℕ, zero, suc, ◌+◌, ◌<◌, ◌^◌, List, [], ◌∷◌, ◌++◌, Bool, true, false, Option, Some, None, filter_map, flat_map, is_some, get_or, length, map, take, slice_get, slice_index_or, refl, replicate}
+use Rattle.std.specs.Prelude.{◌≡◌, ℕ, zero, suc, ◌+◌, ◌<◌, ◌^◌, List, [], ◌∷◌, ◌++◌, Bool, true, false, Option, Some, None, filter_map, flat_map, is_some, get_or}
+use Rattle.std.specs.Prelude.{length, map, take, slice_get, slice_index_or, refl, replicate}
 use Rattle.std.specs.List.{AllByRecursion, cons_option}
 use Rattle.std.specs.Borrow.{Bor}
 use Rattle.std.specs.Option.{option_and_then}
@@ -71,12 +72,9 @@ some-ready parts place d test lt e h = by (get_or parts place d) (slice_get-get_
 
 pub none-ready : (parts : Parts) (place : ℕ) (d : Option code_ready.Ready) (test : Bool) → place < length parts → test ≡ is_some (get_or parts place d) → test ≡ false → ¬ HasReady parts place
 none-ready parts place d test lt e h has =
-    let there : get_or parts place d ≡ Some has.0 = one (slice_get parts place) (get_or parts place d) (Some has.0) (slice_get-get_or parts place d lt) has.1 in
+    let there : get_or parts place d ≡ Some has.0 = some-is (slice_get parts place) (get_or parts place d) (Some has.0) (slice_get-get_or parts place d lt) has.1 in
     differ (get_or parts place d) has.0 there (sym e ∙ h)
   where
-    one : (o : Option (Option code_ready.Ready)) (x y : Option code_ready.Ready) → o ≡ Some x → o ≡ Some y → x ≡ y
-    one o x y f g = cc
-
     differ : (o : Option code_ready.Ready) (r : code_ready.Ready) → o ≡ Some r → ¬ (is_some o ≡ false)
     differ None r f g = cc
     differ (Some q) r f g = cc

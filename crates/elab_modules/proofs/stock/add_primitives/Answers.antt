@@ -25,8 +25,8 @@ returns-in_err-add_primitive-clause-refused c =
 pub loop-member-preserved : goal.loop-member-preserved
 loop-member-preserved c =
     let lt : c.loop-member.member-index < length c.args.members.now = omega arith in
-    stocked-next c.args.definitions.now c.member-item.result c.member-item.result c.args.parts.now c.loop-member.parts c.add_primitive.new.parts c.args.udps.now.items c.loop-member.udps.items c.add_primitive.new.udps.items
-    c.args.members.now c.loop-member.member-index lt c.member-item.is c.loop-member.invariant c.in_ok-add_primitive.ensures.stock c.in_ok-add_primitive.ensures.keeps
+    stocked-next c.args.definitions.now c.member-item.result c.member-item.result c.args.parts.now c.loop-member.parts c.add_primitive.new.parts c.args.udps.now.items c.loop-member.udps.items
+    c.add_primitive.new.udps.items c.args.members.now c.loop-member.member-index lt c.member-item.is c.loop-member.invariant c.in_ok-add_primitive.ensures.stock c.in_ok-add_primitive.ensures.keeps
     (subst (λ m. IsUdpReady c.args.definitions.now c.add_primitive.new.parts (view_member m)) (sym c.in-Instance.is) c.in_ok-add_primitive.ensures.named)
     (subst (λ m. AddsFirst c.args.definitions.now c.loop-member.parts c.add_primitive.new.parts c.loop-member.udps.items c.add_primitive.new.udps.items (view_member m)) (sym c.in-Instance.is)
     c.in_ok-add_primitive.ensures.first)
