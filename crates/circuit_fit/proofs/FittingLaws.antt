@@ -12,7 +12,7 @@ use Rattle.sg_circuit.specs.declared.elements.Element as code_element
 use Rattle.sg_circuit.specs.declared.scopes.Scope as code_scope
 use Rattle.sg_circuit.specs.declared.circuits.Parts.{Parts}
 use Rattle.sg_circuit.specs.Circuit.{Pass, Element, Scope, Variable, net_at, element_at, scope_at}
-use Rattle.sg_circuit.specs.Closed.{IsTiming, AreTimings, HasDelays, NamesNets, TakesInputs, IfElement, IsClosed, width_of}
+use Rattle.sg_circuit.specs.Closed.{IsTiming, AreTimings, HasDelays, HasFewPaths, NamesNets, TakesInputs, IfElement, IsClosed, width_of}
 use Rattle.circuit_fit.specs.Fitting.{ScopesFit, DriversFit, PartsFit}
 use Rattle.sg_circuit.specs.TimingsSeen.{limit_seen, timings_of, leg_timing_seen}
 use Rattle.sg_circuit.specs.Seen.{circuit_seen, element_seen, scope_seen, variable_seen, AreIndexed}
@@ -148,6 +148,7 @@ closed_of parts h =
         drivers = drivers_are parts h.drivers;
         takes_inputs = All-map (λ (e : Element). TakesInputs e.kind (length e.inputs)) (element_seen parts) parts.elements.items h.kinds.takes_inputs;
         has_delays = All-map (λ (e : Element). HasDelays e.kind) (element_seen parts) parts.elements.items h.kinds.has_delays;
+        few_paths = All-map (λ (e : Element). HasFewPaths e.kind) (element_seen parts) parts.elements.items h.kinds.few_paths;
         paths = All-map (λ (e : Element). NamesNets (length parts.nets.items) e.kind) (element_seen parts) parts.elements.items h.kinds.paths;
         widths = variables_are (λ v. length v.bits ≡ width_of v.range) parts.scopes.items h.variables.widths;
         datums = h.variables.datums;
@@ -193,6 +194,7 @@ fit_of parts h i =
         indexed = i.named;
         takes_inputs = all-unmapped (λ (e : Element). TakesInputs e.kind (length e.inputs)) (element_seen parts) parts.elements.items h.takes_inputs;
         has_delays = all-unmapped (λ (e : Element). HasDelays e.kind) (element_seen parts) parts.elements.items h.has_delays;
+        few_paths = all-unmapped (λ (e : Element). HasFewPaths e.kind) (element_seen parts) parts.elements.items h.few_paths;
         paths = all-unmapped (λ (e : Element). NamesNets (length parts.nets.items) e.kind) (element_seen parts) parts.elements.items h.paths;
         apart = i.apart;
       };

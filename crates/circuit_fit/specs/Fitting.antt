@@ -12,7 +12,7 @@ use Rattle.sg_circuit.specs.declared.elements.Element.{Element}
 use Rattle.sg_circuit.specs.declared.elements.ElementKind.{ElementKind}
 use Rattle.sg_circuit.specs.declared.elements.ElementKind.TheVariants as kind
 use Rattle.sg_circuit.specs.declared.circuits.Parts.{Parts}
-use Rattle.sg_circuit.specs.Closed.{IfElement, TakesInputs, HasDelays, HasDatum, NamesNets, IsCheckTiming, TakesLates, width_of}
+use Rattle.sg_circuit.specs.Closed.{IfElement, TakesInputs, HasDelays, HasFewPaths, HasDatum, NamesNets, IsCheckTiming, TakesLates, width_of}
 use Rattle.sg_circuit.specs.Seen.{kind_seen, paths_of, AreApart, IsIndexed}
 
 -- no list has too many parts
@@ -43,6 +43,7 @@ pub record KindsFit (parts : Parts) : Type 0 where
   pub indexed : All (λ e. IsIndexed parts e.kind) parts.elements.items
   pub takes_inputs : All (λ e. TakesInputs (kind_seen parts e.kind) (length e.inputs.items)) parts.elements.items
   pub has_delays : All (λ e. HasDelays (kind_seen parts e.kind)) parts.elements.items
+  pub few_paths : All (λ e. HasFewPaths (kind_seen parts e.kind)) parts.elements.items
   pub paths : All (λ e. NamesNets (length parts.nets.items) (kind_seen parts e.kind)) parts.elements.items
   pub apart : (i j : ℕ) (d : Element) → i < j → j < length parts.elements.items → AreApart (paths_of (slice_index_or parts.elements.items i d).kind) (paths_of (slice_index_or parts.elements.items j d).kind)
 

@@ -5,7 +5,7 @@ ghost use Rattle.sg_circuit.specs.declared.checks.Check.{Check as CheckSeen};
 ghost use Rattle.sg_circuit.specs.declared.checks.CheckTiming.{CheckTiming as TimingSeen};
 ghost use Rattle.sg_circuit.specs.declared.nets.Net.{Net as NetSeen};
 ghost use Rattle.sg_circuit.specs.declared.nets.Driver.TheVariants as drivers;
-ghost use Rattle.sg_circuit.specs.Closed.{HasDatum, HasEdge, IsCheckTiming, IsEventOf};
+ghost use Rattle.sg_circuit.specs.Closed.{HasDatum, HasEdge, HasLimits, IsCheckTiming, IsEventOf};
 ghost use Rattle.sg_circuit.specs.ChecksSeen.{AreWritten};
 ghost use Rattle.circuit_fit.specs.Fitting.{ChecksFit, IsNotifierAmong};
 
@@ -69,6 +69,16 @@ fn has_its_edge(timing: &CheckTiming) -> bool
     }
 }
 
+// Whether the second limit is 0 where the kind has one.
+fn has_its_limits(timing: &CheckTiming) -> bool
+    ensures { IsTrue result ↔ HasLimits timing.now.kind timing.now.limits }
+{
+    match timing.kind {
+        CheckKind::Setuphold | CheckKind::Recrem => true,
+        _ => timing.limits[1] == 0,
+    }
+}
+
 fn check_timing_fits(timing: &CheckTiming, nets: u32) -> bool
     ensures { IsTrue result ↔ IsCheckTiming nets timing.now }
 {
@@ -77,6 +87,7 @@ fn check_timing_fits(timing: &CheckTiming, nets: u32) -> bool
         && has_its_datum(timing)
         && has_its_edge(timing)
         && are_short(&timing.limits)
+        && has_its_limits(timing)
         && timing.threshold < 1 << 60
 }
 

@@ -5,14 +5,14 @@ ghost use Rattle.sg_circuit.specs.declared.nets.Driver.TheVariants as driver;
 ghost use Rattle.sg_circuit.specs.declared.scopes.Scope.{Scope as ScopeSeen};
 ghost use Rattle.sg_circuit.specs.declared.nets.Net.{Net as NetSeen};
 ghost use Rattle.sg_circuit.specs.declared.elements.Element.{Element as ElementSeen};
-ghost use Rattle.sg_circuit.specs.Closed.{IfElement, width_of, TakesInputs, HasDelays, HasDatum, AreGateDelays, NamesNets, IsClosed};
+ghost use Rattle.sg_circuit.specs.Closed.{IfElement, width_of, TakesInputs, HasDelays, HasFewPaths, HasDatum, AreGateDelays, NamesNets, IsClosed};
 ghost use Rattle.circuit_fit.specs.Fitting.{AreFew, DriversFit, KindsFit, NetsFit, PartsFit, ScopesFit, VariablesFit};
 ghost use Rattle.sg_circuit.specs.Seen.{circuit_seen, kind_seen, gate_delays_seen, AreIndexed, IsIndexed};
 
 use crate::apart_fitting::are_apart;
 use crate::check_fitting::checks_fit;
 use crate::late_fitting::lates_fit;
-use crate::path_fitting::{are_indexed, path_delays_fit, path_nets_fit};
+use crate::path_fitting::{are_few_paths, are_indexed, path_delays_fit, path_nets_fit};
 use crate::timing_fitting::{are_few, timing_fits};
 use sg_circuit::{
     Check, CheckKind, Circuit, Driver, Element, ElementKind, Net, NetId, Parts, Scope, UdpUse,
@@ -278,6 +278,25 @@ fn all_delays_fit(parts: &Parts, elements: &[Element]) -> bool
         .all(|element| delays_fit(parts, element.kind))
 }
 
+fn has_few_paths(parts: &Parts, kind: ElementKind) -> bool
+    requires { IsIndexed parts.now kind }
+    ensures { IsTrue result ↔ HasFewPaths (kind_seen parts.now kind) }
+{
+    match kind {
+        ElementKind::Path { paths, .. } => are_few_paths(parts, paths),
+        _ => true,
+    }
+}
+
+fn all_have_few_paths(parts: &Parts, elements: &[Element]) -> bool
+    requires { All (λ e. IsIndexed parts.now e.kind) elements.now }
+    ensures { IsTrue result ↔ All (λ e. HasFewPaths (kind_seen parts.now e.kind)) elements.now }
+{
+    elements
+        .iter()
+        .all(|element| has_few_paths(parts, element.kind))
+}
+
 // Whether the nets that a kind names are among so many.
 fn names_nets(parts: &Parts, kind: ElementKind) -> bool
     requires few { length parts.now.nets.items < 2 ^ 31 }
@@ -345,6 +364,7 @@ fn kinds_fit(parts: &Parts) -> bool
         && all_indexed(parts, &parts.elements)
         && all_take_inputs(parts, &parts.elements)
         && all_delays_fit(parts, &parts.elements)
+        && all_have_few_paths(parts, &parts.elements)
         && all_names_nets(parts, &parts.elements)
         && are_apart(parts, &parts.elements)
 }

@@ -70,6 +70,14 @@ pub(crate) fn path_delays_fit(parts: &Parts, span: Span) -> bool
     all_fit(parts.paths_in(span), &parts.leg_timings)
 }
 
+/// Whether a span has few enough paths.
+pub(crate) fn are_few_paths(parts: &Parts, span: Span) -> bool
+    requires { AreIndexedPaths (length parts.now.conditions.items) (length parts.now.leg_timings.items) parts.now.paths.items span }
+    ensures { IsTrue result ↔ (length (paths_seen parts.now.conditions.items parts.now.leg_timings.items (spanned parts.now.paths.items span)) < 2 ^ 31) }
+{
+    parts.paths_in(span).len() < 1 << 31
+}
+
 fn reads_nets(condition: &PathCondition, nets: u32) -> bool
     ensures { IsTrue result ↔ IsConditionWithin nets condition.now }
 {

@@ -30,6 +30,7 @@ inverter_circuit : circuit (a_module inverter ∷ []) inverter Typ ≡ record {
   check_conditions = [];
   scopes = scope None (codes "t") (codes "t") false (variable (codes "a") port.Input (0 ∷ []) ∷ variable (codes "y") port.Output (1 ∷ []) ∷ []) ∷ [];
   zeroed = [];
+  udps = [];
 }
 inverter_circuit = refl
 

@@ -74,6 +74,7 @@ above_circuit = record {
       ∷ scope (Some 1) (codes "u") (codes "c") true (variable (codes "Y") port.Output (1 ∷ []) ∷ variable (codes "A") port.Input (6 ∷ []) ∷ variable (codes "B") port.Input (7 ∷ []) ∷ [])
       ∷ scope (Some 0) (codes "k") (codes "c") true (variable (codes "Y") port.Output (2 ∷ []) ∷ variable (codes "A") port.Input (8 ∷ []) ∷ variable (codes "B") port.Input (9 ∷ []) ∷ []) ∷ [];
   zeroed = [];
+  udps = [];
 }
 
 hierarchy : circuit (a_module cell ∷ a_module middle ∷ a_module above ∷ []) above Typ ≡ above_circuit

@@ -1,9 +1,9 @@
 -- Instances of primitives.
-use Rattle.std.specs.Prelude.{◌≡◌, ℕ, List, [], ◌∷◌, true, false, Option, Some, None, refl, codes}
+use Rattle.std.specs.Prelude.{◌≡◌, ℕ, List, [], ◌∷◌, true, false, Option, Some, None, map, refl, codes}
 use Rattle.sg_circuit.specs.Circuit.{Udp, Pass}
 use Rattle.sg_circuit.specs.declared.nets.Driver.TheVariants as driver
 use Rattle.sg_delay.specs.declared.corners.Corner.TheVariants.{Typ}
-use Rattle.sg_logic.specs.declared.values.Value.TheVariants.{Zero, One}
+use Rattle.sg_logic.specs.declared.values.Value.TheVariants.{Zero, One, X}
 use Rattle.vl_tree.specs.declared.names.Direction.TheVariants.{Output}
 use Rattle.vl_tree.specs.Tree.{one_number, Connections, by_order, by_name, instances, Module, a_module, a_primitive, output_port, output_register, input_ports, Primitive}
 use Rattle.elab_model.specs.declared.kinds.ElabKind.TheVariants.{BadTerminal, Udp as Table}
@@ -54,6 +54,9 @@ latched_elements : (circuit (a_primitive latch ∷ a_module latched ∷ []) latc
     element 0 (1 ∷ []) 0 (Udp (record { inputs = 1; sequential = true; rows = latch_rows }) Zero (2 ∷ [])) ∷ element 0 [] 1 (Pass (Some One)) ∷ []
 latched_elements = refl
 
+latched_udps : (circuit (a_primitive latch ∷ a_module latched ∷ []) latched Typ).udps ≡ record { primitive = record { inputs = 1; sequential = true; rows = latch_rows }; first = Zero } ∷ []
+latched_udps = refl
+
 latched_faults : faults (a_primitive latch ∷ a_module latched ∷ []) None Typ ≡ []
 latched_faults = refl
 
@@ -73,6 +76,18 @@ unlatched_faults = refl
 
 bad_symbol : FaultStands (a_primitive unlatched ∷ a_module latched ∷ []) None Typ (Table BadSymbol) (here 120)
 bad_symbol = in_table {p = unlatched} (0, (omega arith, refl)) (0, row 120 (symbol 48 ∷ []) None (symbol 45), omega arith, refl, (refl, refl))
+
+-- primitives stand in order of first use, each once: r, then p, which the text defines first
+abbrev pub stateless : Primitive
+stateless = record unlatched { name = name (codes "r") 99; initial = None }
+
+abbrev pub both_used : Module
+both_used =
+    module_as plainly (codes "t") 7 (listing [])
+    (instance_item (codes "r") 30 (codes "u") (in_order_of []) ∷ instance_item (codes "p") 40 (codes "v") (in_order_of []) ∷ instance_item (codes "r") 50 (codes "w") (in_order_of []) ∷ [])
+
+in_order_of_use : map (λ u. u.first) (circuit (a_primitive latch ∷ a_primitive stateless ∷ a_module both_used ∷ []) both_used Typ).udps ≡ X ∷ Zero ∷ []
+in_order_of_use = refl
 
 -- a primitive connected by name, with an empty terminal, and with one too many
 abbrev pub connected_as : Connections → Module

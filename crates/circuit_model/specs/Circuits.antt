@@ -15,6 +15,7 @@ use Rattle.elab_model.specs.Homes.{Spot, is_same_spot}
 use Rattle.elab_model.specs.Nets.{OwnNet, nets, number_of}
 use Rattle.elab_model.specs.Numbered.{undriven}
 use Rattle.elab_model.specs.Scopes.{scope_of}
+use Rattle.elab_model.specs.UsedPrimitives.{used_primitives}
 use Rattle.circuit_model.specs.CheckUses.{check_uses, check_of_use, timing_of_use, written_of_use}
 use Rattle.circuit_model.specs.PathUses.{circuit_elements}
 use Rattle.circuit_model.specs.Driving.{Driving, drivers}
@@ -49,6 +50,7 @@ circuit source top corner = record {
   tick = tick_of source top;
   nets = driven_nets (map undriven (nets source top)) (driving source top corner);
   elements = circuit_elements source top corner;
+  udps = used_primitives source top;
   checks = map check_of_use (check_uses source top corner);
   check_timings = map timing_of_use (check_uses source top corner);
   check_conditions = map written_of_use (check_uses source top corner);

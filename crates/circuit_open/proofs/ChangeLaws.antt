@@ -1,5 +1,5 @@
 -- A list in which the item at a place is changed.
-use Rattle.std.specs.Prelude.{◌≡◌, ◌≢◌, ℕ, zero, suc, ◌+◌, ◌-◌, ◌<◌, ◌≤◌, All, List, [], ◌∷◌, length, map, take, drop, slice_index_or, slice_set, refl}
+use Rattle.std.specs.Prelude.{◌≡◌, ◌≢◌, ℕ, zero, suc, ◌+◌, ◌<◌, ◌≤◌, All, List, [], ◌∷◌, length, map, take, drop, slice_index_or, slice_set, refl}
 use Rattle.std.proofs.Common.{◌∙◌, ap, arith}
 use Rattle.std.proofs.lemmas.List.Elements.{All-cons}
 use Rattle.circuit_open.specs.Open.{changed_at}
@@ -12,10 +12,14 @@ length-changed f k [] = refl
 length-changed f zero (x ∷ xs) = refl
 length-changed f (suc k) (x ∷ xs) = ap suc (length-changed f k xs)
 
+-- where the change keeps what is so of the item at the place
+pub All-changed-there : {A : Type 0} (P : A → Type 0) (f : A → A) (k : ℕ) (xs : List A) → ((d : A) → k < length xs → P (slice_index_or xs k d) → P (f (slice_index_or xs k d))) → All P xs → All P (changed_at f k xs)
+All-changed-there P f k [] g h = h
+All-changed-there P f zero (x ∷ xs) g h = All-cons P (f x) xs (g x (omega arith) (h 0 x (omega arith))) (λ i d l. h (suc i) d (omega arith))
+All-changed-there P f (suc k) (x ∷ xs) g h = All-cons P x (changed_at f k xs) (h 0 x (omega arith)) (All-changed-there P f k xs (λ d l. g d (omega arith)) (λ i d l. h (suc i) d (omega arith)))
+
 pub All-changed : {A : Type 0} (P : A → Type 0) (f : A → A) → ((x : A) → P x → P (f x)) → (k : ℕ) (xs : List A) → All P xs → All P (changed_at f k xs)
-All-changed P f g k [] h = h
-All-changed P f g zero (x ∷ xs) h = All-cons P (f x) xs (g x (h 0 x (omega arith))) (λ i d l. h (suc i) d (omega arith))
-All-changed P f g (suc k) (x ∷ xs) h = All-cons P x (changed_at f k xs) (h 0 x (omega arith)) (All-changed P f g k xs (λ i d l. h (suc i) d (omega arith)))
+All-changed P f g k xs = All-changed-there P f k xs (λ d l. g (slice_index_or xs k d))
 
 -- what the change leaves alone
 pub kept-at : {A B : Type 0} (F : A → B) (f : A → A) (k : ℕ) (xs : List A) → ((d : A) → k < length xs → F (f (slice_index_or xs k d)) ≡ F (slice_index_or xs k d)) → (i : ℕ) (d : A) → F (slice_index_or (changed_at f k xs) i d) ≡ F (slice_index_or xs i d)

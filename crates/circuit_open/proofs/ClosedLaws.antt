@@ -1,18 +1,20 @@
 -- A closed circuit stays one where an element's kind, a check's limit or the limits that are taken as 0 are changed.
-use Rattle.std.specs.Prelude.{◌≡◌, ℕ, ℤ, ◌<◌, ◌^◌, All, List, [], Option, Some, None, IfSome, IsSome, length, slice_index_or, unsigned_abs, refl}
-use Rattle.std.proofs.Common.{sym, ◌∙◌, ap, subst}
+use Rattle.std.specs.Prelude.{◌≡◌, ℕ, zero, suc, ℤ, pos, ◌<◌, ◌≤◌, ◌^◌, All, List, [], ◌∷◌, Option, Some, None, IfSome, IsSome, length, slice_index_or, slice_set, unsigned_abs, refl}
+use Rattle.std.proofs.Common.{sym, ◌∙◌, ap, arith, subst}
 use Rattle.std.proofs.lemmas.List.Elements.{All-set, All-weaker}
 use Rattle.sg_circuit.specs.declared.nets.Driver.{Driver}
 use Rattle.sg_circuit.specs.declared.nets.Driver.TheVariants as driver
 use Rattle.sg_circuit.specs.declared.checks.Check.{Check}
+use Rattle.sg_circuit.specs.declared.checks.CheckKind.{CheckKind}
+use Rattle.sg_circuit.specs.declared.checks.CheckKind.TheVariants as kinds
 use Rattle.sg_circuit.specs.declared.checks.CheckTiming.{CheckTiming}
 use Rattle.sg_circuit.specs.declared.checks.Zero.{Zero}
 use Rattle.sg_circuit.specs.Timings.{Timing}
 use Rattle.sg_circuit.specs.Paths as specify
 use Rattle.sg_circuit.specs.Circuit.{Circuit, Element, Kind, Gate, Udp, Pass, Leg, Path, Late, net_at, element_at}
-use Rattle.sg_circuit.specs.Closed.{AreTimings, AreLatesOf, HasDelays, HasLates, IfElement, IsCheckTiming, IsClosed, IsLate, IsLateOf, IsNotifier, IsPathOf, IsZeroOf, NamesNets, TakesInputs}
+use Rattle.sg_circuit.specs.Closed.{limit_count, AreTimings, AreLatesOf, HasDelays, HasFewPaths, HasLates, HasLimits, IfElement, IsCheckTiming, IsClosed, IsLate, IsLateOf, IsNotifier, IsPathOf, IsZeroOf, NamesNets, TakesInputs}
 use Rattle.circuit_open.specs.Open.{changed_at, with_kind, with_leg, with_path, with_delay, with_limit, with_check_limit, with_zeroed}
-use Rattle.circuit_open.proofs.ChangeLaws.{length-changed, All-changed, kept-at, stays-at}
+use Rattle.circuit_open.proofs.ChangeLaws.{length-changed, All-changed, All-changed-there, kept-at, stays-at}
 
 if_some : {A : Type 0} (o : Option A) (P Q : A → Type 0) → ((a : A) → P a → Q a) → IfSome o P → IfSome o Q
 if_some None P Q f h = tt
@@ -28,6 +30,7 @@ if_element driver.Notifier P Q f h = tt
 pub record KeepsKind (nets : ℕ) (g : Kind → Kind) : Type 0 where
   pub takes : (k : Kind) (n : ℕ) → TakesInputs k n → TakesInputs (g k) n
   pub delays : (k : Kind) → HasDelays k → HasDelays (g k)
+  pub few : (k : Kind) → HasFewPaths k → HasFewPaths (g k)
   pub names : (k : Kind) → NamesNets nets k → NamesNets nets (g k)
   pub lates : (k : Kind) → IsLate k → IsLate (g k)
 
@@ -43,6 +46,7 @@ pub keeps-leg : (nets : ℕ) (timings : List Timing) → AreTimings timings → 
 keeps-leg nets timings t = record {
   takes = λ k n. leg-cases (λ q. TakesInputs q n) timings (λ before h. h) k;
   delays = leg-cases HasDelays timings (λ before h. t);
+  few = leg-cases HasFewPaths timings (λ before h. h);
   names = leg-cases (NamesNets nets) timings (λ before h. h);
   lates = leg-cases IsLate timings (λ before h. h);
 }
@@ -59,6 +63,7 @@ pub keeps-delay : (nets delay : ℕ) → delay < 2 ^ 60 → KeepsKind nets (with
 keeps-delay nets delay l = record {
   takes = λ k n. late-cases (λ q. TakesInputs q n) delay (λ before h. h) k;
   delays = late-cases HasDelays delay (λ before h. l);
+  few = late-cases HasFewPaths delay (λ before h. h);
   names = late-cases (NamesNets nets) delay (λ before h. h);
   lates = late-cases IsLate delay (λ before h. h);
 }
@@ -75,6 +80,7 @@ pub keeps-path : (nets place : ℕ) (timings : List Timing) → AreTimings timin
 keeps-path nets place timings t = record {
   takes = λ k n. path-cases (λ q. TakesInputs q n) place timings (λ paths style h. h) k;
   delays = path-cases HasDelays place timings (λ paths style. All-changed (λ (p : specify.Path). AreTimings p.timings) (λ p. record p { timings = timings }) (λ p h. t) place paths);
+  few = path-cases HasFewPaths place timings (λ paths style. subst (λ n. n < 2 ^ 31) (sym (length-changed (λ (p : specify.Path). record p { timings = timings }) place paths)));
   names = path-cases (NamesNets nets) place timings (λ paths style. All-changed (IsPathOf nets) (λ p. record p { timings = timings }) (λ p h. record { input = h.input; condition = h.condition }) place paths);
   lates = path-cases IsLate place timings (λ paths style h. h);
 }
@@ -121,6 +127,7 @@ closed-kind c g e keeps h =
           (λ i d. (subst (λ k. i < k) (sym many) d.0, outputs i ∙ d.1)) (h.drivers n l);
       takes_inputs = All-changed (λ (x : Element). TakesInputs x.kind (length x.inputs)) change (λ x. keeps.takes x.kind (length x.inputs)) e c.elements h.takes_inputs;
       has_delays = All-changed (λ (x : Element). HasDelays x.kind) change (λ x. keeps.delays x.kind) e c.elements h.has_delays;
+      few_paths = All-changed (λ (x : Element). HasFewPaths x.kind) change (λ x. keeps.few x.kind) e c.elements h.few_paths;
       widths = h.widths;
       datums = h.datums;
       timing_of_each = h.timing_of_each;
@@ -151,15 +158,49 @@ has-lates-limit c check part value t = if_some t.late (λ lates. AreLatesOf c t 
 limit-lates : (c : Circuit) (part : ℕ) (value : ℤ) (t : CheckTiming) → HasLates c t → HasLates c (with_limit part value t)
 limit-lates c part value t = if_some t.late (λ lates. AreLatesOf c t lates) (λ lates. AreLatesOf c (with_limit part value t) lates) (λ lates h. record { takes = h.takes; refer = h.refer; datum = h.datum })
 
-limit-timing : (nets part : ℕ) (value : ℤ) → unsigned_abs value < 2 ^ 60 → (t : CheckTiming) → IsCheckTiming nets t → IsCheckTiming nets (with_limit part value t)
-limit-timing nets part value short t h = record {
+first_set : (limits : List ℤ) (part : ℕ) (value : ℤ) → part < 1 → slice_index_or limits 1 (pos 0) ≡ pos 0 → slice_index_or (slice_set limits part value) 1 (pos 0) ≡ pos 0
+first_set [] part value l h = h
+first_set (x ∷ xs) zero value l h = h
+first_set (x ∷ xs) (suc part) value l h = absurd (omega arith)
+
+-- a limit that the kind has is set: the second is 0 still where it has one
+limits-set : (k : CheckKind) (limits : List ℤ) (part : ℕ) (value : ℤ) → part < limit_count k → HasLimits k limits → HasLimits k (slice_set limits part value)
+limits-set kinds.Setup limits part value l h = first_set limits part value l h
+limits-set kinds.Hold limits part value l h = first_set limits part value l h
+limits-set kinds.Recovery limits part value l h = first_set limits part value l h
+limits-set kinds.Removal limits part value l h = first_set limits part value l h
+limits-set kinds.Skew limits part value l h = first_set limits part value l h
+limits-set kinds.Setuphold limits part value l h = tt
+limits-set kinds.Recrem limits part value l h = tt
+limits-set kinds.Width limits part value l h = first_set limits part value l h
+limits-set kinds.Period limits part value l h = first_set limits part value l h
+
+limit-timing : (nets part : ℕ) (value : ℤ) → unsigned_abs value < 2 ^ 60 → (t : CheckTiming) → part < limit_count t.kind → IsCheckTiming nets t → IsCheckTiming nets (with_limit part value t)
+limit-timing nets part value short t own h = record {
   refer = h.refer;
   datum = h.datum;
   has_datum = h.has_datum;
   has_edge = h.has_edge;
   limits = All-set (λ l. unsigned_abs l < 2 ^ 60) t.limits part value short h.limits;
+  second = limits-set t.kind t.limits part value own h.second;
   threshold = h.threshold;
 }
+
+-- a limit of a check's kind is one of two
+two-limits : (k : CheckKind) → limit_count k ≤ 2
+two-limits kinds.Setup = omega arith
+two-limits kinds.Hold = omega arith
+two-limits kinds.Recovery = omega arith
+two-limits kinds.Removal = omega arith
+two-limits kinds.Skew = omega arith
+two-limits kinds.Setuphold = omega arith
+two-limits kinds.Recrem = omega arith
+two-limits kinds.Width = omega arith
+two-limits kinds.Period = omega arith
+
+pub part-of_two : (ts : List CheckTiming) (check part : ℕ) → check < length ts → ((t : CheckTiming) → part < limit_count (slice_index_or ts check t).kind) → part < 2
+part-of_two [] check part l own = absurd (omega arith)
+part-of_two (t ∷ ts) check part l own = let most = two-limits (slice_index_or (t ∷ ts) check t).kind in let few = own t in omega arith
 
 zero-limit : (c : Circuit) (check part : ℕ) (value : ℤ) (z : Zero) → IsZeroOf c z → IsZeroOf (with_check_limit check part value c) z
 zero-limit c check part value z h = record {
@@ -168,8 +209,9 @@ zero-limit c check part value z h = record {
   part = h.part;
 }
 
-pub closed-limit : (c : Circuit) (check part : ℕ) (value : ℤ) → unsigned_abs value < 2 ^ 60 → IsClosed c → IsClosed (with_check_limit check part value c)
-closed-limit c check part value short h =
+pub closed-limit : (c : Circuit) (check part : ℕ) (value : ℤ) → ((t : CheckTiming) → part < limit_count (slice_index_or c.check_timings check t).kind) → unsigned_abs value < 2 ^ 60 → IsClosed c
+    → IsClosed (with_check_limit check part value c)
+closed-limit c check part value own short h =
     let change = with_limit part value in
     let many : length (changed_at change check c.check_timings) ≡ length c.check_timings = length-changed change check c.check_timings in
     record {
@@ -189,12 +231,13 @@ closed-limit c check part value short h =
       drivers = h.drivers;
       takes_inputs = h.takes_inputs;
       has_delays = h.has_delays;
+      few_paths = h.few_paths;
       widths = h.widths;
       datums = h.datums;
       timing_of_each = many ∙ h.timing_of_each;
       conditions_of_each = h.conditions_of_each;
       check_kinds = λ k d e l. h.check_kinds k d e l ∙ sym (kept-at (λ (t : CheckTiming). t.kind) change check c.check_timings (λ x m. refl) k e);
-      check_timings = All-changed (IsCheckTiming (length c.nets)) change (limit-timing (length c.nets) part value short) check c.check_timings h.check_timings;
+      check_timings = All-changed-there (IsCheckTiming (length c.nets)) change check c.check_timings (λ d l. limit-timing (length c.nets) part value short (slice_index_or c.check_timings check d) (own d)) h.check_timings;
       notifiers = All-weaker (λ (k : Check). IfSome k.notifier (λ n. IsNotifier c n)) (λ (k : Check). IfSome k.notifier (λ n. IsNotifier (with_check_limit check part value c) n))
           (λ k. if_some k.notifier (λ n. IsNotifier c n) (λ n. IsNotifier (with_check_limit check part value c) n) (λ n d. record { within = d.within; driven = d.driven })) c.checks h.notifiers;
       scales = h.scales;
@@ -232,6 +275,7 @@ closed-zeroed c zeroed zs h = record {
   drivers = h.drivers;
   takes_inputs = h.takes_inputs;
   has_delays = h.has_delays;
+  few_paths = h.few_paths;
   widths = h.widths;
   datums = h.datums;
   timing_of_each = h.timing_of_each;

@@ -14,9 +14,9 @@ use Rattle.sg_circuit.specs.declared.elements.LegTiming.{LegTiming}
 use Rattle.sg_circuit.specs.declared.paths.Path as code_path
 use Rattle.sg_circuit.specs.declared.paths.Span.{Span}
 use Rattle.sg_circuit.specs.Paths as specify
-use Rattle.sg_circuit.specs.Circuit.{Circuit, Element, Kind, Gate, Udp, Pass, Leg, Path, Late, element_at}
+use Rattle.sg_circuit.specs.Circuit.{Circuit, Element, Kind, Pass, Leg, Path, Late, element_at}
 use Rattle.sg_circuit.specs.Timings.{Timing}
-use Rattle.sg_circuit.specs.Closed.{AreTimings, IsClosed, IsLate}
+use Rattle.sg_circuit.specs.Closed.{limit_count, AreTimings, IsClosed, IsLate}
 use Rattle.circuit_open.specs.Open.{Open, changed_at, with_kind, with_leg, with_path, with_delay, with_limit, with_check_limit, place_in, HasPath, HasPathIn, IsLeg}
 use Rattle.sg_circuit.specs.PathsSeen.{condition_seen, path_seen, paths_seen, spanned, AreIndexedPaths, IsIndexedPath}
 use Rattle.sg_circuit.specs.Seen.{circuit_seen, element_seen, kind_seen, paths_of, AreApart, AreIndexed, IsIndexed}
@@ -420,15 +420,16 @@ path-set parts timings paths room e path place d t before view l has fine closed
     (elements-path parts timings paths e path place own t grows h (λ c. ap (λ (x : code_element.Element). x.kind) (get_or_default parts.elements.items e c d le)) (path-had parts room e path d before view l has h) le is new)
 
 -- a check's limit is set: the elements stay as they were
-pub limit-set : (parts : Parts) (timings : Vec CheckTiming) (check part : ℕ) (value : ℤ) → unsigned_abs value < 2 ^ 60 → IsClosed (circuit_seen parts) → AreIndexed parts
+pub limit-set : (parts : Parts) (timings : Vec CheckTiming) (check part : ℕ) (value : ℤ) → ((t : CheckTiming) → part < limit_count (slice_index_or parts.check_timings.items check t).kind) → unsigned_abs value < 2 ^ 60
+    → IsClosed (circuit_seen parts) → AreIndexed parts
     → timings.items ≡ changed_at (with_limit part value) check parts.check_timings.items
     → IsClosed (circuit_seen (record parts { check_timings = timings })) × AreIndexed (record parts { check_timings = timings })
-limit-set parts timings check part value short closed h is =
+limit-set parts timings check part value own short closed h is =
     let after = record parts { check_timings = timings } in
     let seen : circuit_seen after ≡ with_check_limit check part value (circuit_seen parts) =
     ap (λ ts. record (circuit_seen parts) { elements = map (element_seen after) parts.elements.items; check_timings = ts }) is
     ∙ ap (λ es. record (with_check_limit check part value (circuit_seen parts)) { elements = es }) (map-same (element_seen parts) (element_seen after) parts.elements.items (λ i d l. same-element parts timings (slice_index_or parts.elements.items i d))) in (
-      subst IsClosed (sym seen) (closed-limit (circuit_seen parts) check part value short closed),
+      subst IsClosed (sym seen) (closed-limit (circuit_seen parts) check part value own short closed),
       record {
         named = All-weaker (λ (x : code_element.Element). IsIndexed parts x.kind) (λ (x : code_element.Element). IsIndexed after x.kind) (λ x. same-indexed parts timings x.kind) parts.elements.items h.named;
         few_udps = h.few_udps;

@@ -1,10 +1,11 @@
 // A circuit that is open for annotation: its timings, limits and delays can be set, with no memory taken.
-ghost use Rattle.std.specs.Prelude.{◌≡◌, ◌+◌, ◌-◌, ◌<◌, ◌≤◌, ◌^◌, ◌∷◌, ◌++◌, [], All, IfOk, IfErr, IsTrue, length, unsigned_abs, vec_len};
+ghost use Rattle.std.specs.Prelude.{◌≡◌, ◌+◌, ◌-◌, ◌<◌, ◌≤◌, ◌^◌, ◌∷◌, ◌++◌, [], All, IfOk, IfErr, IsTrue, length, slice_index_or, unsigned_abs, vec_len};
 ghost use Rattle.std.specs.Vec.{vec_capacity};
+ghost use Rattle.sg_circuit.specs.declared.checks.CheckTiming.{CheckTiming as TimingSeen};
 ghost use Rattle.sg_circuit.specs.declared.elements.Element.{Element as ElementSeen};
 ghost use Rattle.sg_circuit.specs.declared.paths.Path.{Path as PathSeen};
 ghost use Rattle.sg_circuit.specs.Circuit.{element_at};
-ghost use Rattle.sg_circuit.specs.Closed.{AreTimings, IsLate, IsZeroOf};
+ghost use Rattle.sg_circuit.specs.Closed.{limit_count, AreTimings, IsLate, IsZeroOf};
 ghost use Rattle.circuit_open.specs.Open.{changed_at, with_check_limit, with_delay, with_kind, with_leg, with_limit, with_path, with_zeroed, place_in, HasPath, HasPathIn, IsLeg};
 ghost use Rattle.sg_circuit.specs.Seen.{circuit_seen, AreIndexed};
 ghost use Rattle.sg_circuit.specs.TimingsSeen.{leg_timing_seen};
@@ -161,10 +162,10 @@ impl OpenCircuit {
         );
     }
 
-    /// Sets a limit of a timing check, in ticks: the first or the second of its text.
+    /// Sets a limit of a timing check, in ticks: the first of its text, or the second where its kind has two.
     pub fn set_limit(&mut self, check: u32, part: usize, value: i64)
         requires check { check < length self.old.circuit.check_timings }
-        requires part { part < 2 }
+        requires part { (t : TimingSeen) → part < limit_count (slice_index_or self.old.circuit.check_timings check t).kind }
         requires value { unsigned_abs value < 2 ^ 60 }
         ensures { self.new ≡ record { circuit = with_check_limit check part value self.old.circuit; room = self.old.room } }
     {

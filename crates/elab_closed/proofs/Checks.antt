@@ -90,6 +90,7 @@ use-fits P count scope_count scope Toggled f c small lt sound named toggled = re
     has_datum = mapped-some event_of_use (option_map (event_use f) c.datum) (HasDatum c.kind) (mapped-some (event_use f) c.datum (HasDatum c.kind) sound.datum);
     has_edge = sound.edge;
     limits = All-from_recursion IsShort (two_limits c.limits) (two-short c.limits sound.limits);
+    second = sound.second;
     threshold = sound.threshold;
   };
   notifier = mapped-if f c.notifier Toggled toggled;

@@ -5,7 +5,7 @@ use Rattle.std.proofs.Common.{sym, ◌∙◌, arith, subst}
 use Rattle.std.proofs.lemmas.List.{length-map}
 use Rattle.std.proofs.lemmas.List.Elements.{All-from_recursion, All-nil, All-weaker}
 use Rattle.sg_circuit.specs.Circuit.{Scope}
-use Rattle.sg_circuit.specs.Closed.{TakesInputs, HasDelays, HasDatum, HasLates, NamesNets, IsCheckTiming, IsNotifier, IsZeroOf}
+use Rattle.sg_circuit.specs.Closed.{TakesInputs, HasDelays, HasFewPaths, HasDatum, HasLates, NamesNets, IsCheckTiming, IsNotifier, IsZeroOf}
 use Rattle.elab_model.specs.Delays.{precision_of, tick_of}
 use Rattle.elab_model.specs.Drivers.{elements}
 use Rattle.elab_model.specs.Hierarchy.{Instance, instances}
@@ -48,15 +48,15 @@ circuit-is_closed source top corner h =
     let as-nets : net-count ≡ length own = driven-count ns d ∙ as-listed in
     let as-instances : scope-count ≡ length ss = length-map ss scope in
     let sound : AreSound source top corner = each-faultless source top corner f.plain in
+    let count = few source top corner f.counts in
     let outs = outputs-are source top corner sound in
-    let placed : AllByRecursion (StandsIn (length own) (length ss)) es = elements-stand source top corner sound f.paths in
+    let placed : AllByRecursion (StandsIn (length own) (length ss)) es = elements-stand source top corner sound f.paths count.few_paths in
     let Stands = StandsIn net-count scope-count in
     let stand : All Stands es = All-from_recursion Stands es
     (subst (λ k. AllByRecursion (StandsIn k scope-count) es) (sym as-nets) (subst (λ k. AllByRecursion (StandsIn (length own) k) es) (sym as-instances) placed)) in
     let within : AllByRecursion (λ e. e.output < length ns) es =
     subst (λ k. AllByRecursion (λ e. e.output < k) es) (sym as-listed) (all-weaker (StandsIn (length own) (length ss)) (λ e. e.output < length own) es (λ e s. s.output) placed) in
     let faultless : driving_faults d (length ns) ≡ [] = subst (λ k. driving_faults d k ≡ []) (sym as-listed) f.drivers in
-    let count = few source top corner f.counts in
     let uses = check_uses source top corner in
     let checks = map check_of_use uses in
     let Fits = CheckFits net-count scope-count (IsToggled source top corner) in
@@ -82,6 +82,7 @@ circuit-is_closed source top corner h =
       drivers = nets-driven ns d es outs _ _;
       takes_inputs = All-weaker Stands (λ e. TakesInputs e.kind (length e.inputs)) (λ e s. s.takes) es stand;
       has_delays = All-weaker Stands (λ e. HasDelays e.kind) (λ e s. s.delays) es stand;
+      few_paths = All-weaker Stands (λ e. HasFewPaths e.kind) (λ e s. s.few) es stand;
       widths = have-widths source top;
       datums = All-from_recursion (λ k. IsSome k.datum ↔ HasDatum k.kind) checks
           (all-map (λ k. IsSome k.datum ↔ HasDatum k.kind) check_of_use uses (all-weaker Fits (λ u. IsSome (check_of_use u).datum ↔ HasDatum u.kind) uses (λ u f. f.datum) checked));

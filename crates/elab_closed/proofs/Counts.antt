@@ -58,6 +58,7 @@ pub record AreFew (source : Source) (top : Module) (corner : Corner) : Type 0 wh
   pub few_instances : length (instances source top) ≤ count_limit
   pub few_nets : length (nets source top) ≤ count_limit
   pub few_elements : length (elements source top corner) ≤ count_limit
+  pub few_paths : path_count source top corner ≤ count_limit
   pub few_checks : length (check_uses source top corner) ≤ count_limit
 
 pub few : (source : Source) (top : Module) (corner : Corner) → too_many source top corner ≡ [] → AreFew source top corner
@@ -69,11 +70,13 @@ few source top corner h =
     let checks = over (length (check_uses source top corner)) in
     let three = back past (own ++ (made ++ (paths ++ checks))) h in
     let two = back own (made ++ (paths ++ checks)) three in
+    let one = back made (paths ++ checks) two in
     record {
       few_instances = none-dropped count_limit (instances source top) (front past (own ++ (made ++ (paths ++ checks))) h);
       few_nets = not-over (length (nets source top)) (front own (made ++ (paths ++ checks)) three);
       few_elements = not-over (length (elements source top corner)) (front made (paths ++ checks) two);
-      few_checks = not-over (length (check_uses source top corner)) (back paths checks (back made (paths ++ checks) two));
+      few_paths = not-over (path_count source top corner) (front paths checks one);
+      few_checks = not-over (length (check_uses source top corner)) (back paths checks one);
     }
 
 -- what has no more parts than the limit has few

@@ -1,17 +1,18 @@
 -- Each element of the circuit names nets and an instance that there are, and has what its kind asks for.
-use Rattle.std.specs.Prelude.{◌≡◌, ℕ, ◌<◌, List, [], All, true, Option, Some, None, find, length, map, refl}
+use Rattle.std.specs.Prelude.{◌≡◌, ℕ, ◌+◌, ◌<◌, ◌≤◌, ◌^◌, List, [], ◌∷◌, ◌++◌, All, true, Option, Some, None, find, flat_map, length, map, refl}
 use Rattle.std.specs.List.{AllByRecursion, list_any}
-use Rattle.std.proofs.Common.{sym, ap, subst, ◌∙◌}
+use Rattle.std.proofs.Common.{sym, ap, arith, subst, ◌∙◌, length-append}
 use Rattle.std.proofs.lemmas.List.{length-map}
 use Rattle.std.proofs.lemmas.List.Elements.{All-from_recursion}
-use Rattle.sg_circuit.specs.Circuit.{Element, Kind}
-use Rattle.sg_circuit.specs.Closed.{AreTimings, TakesInputs, HasDelays, ReadsNets, IsPathOf, NamesNets}
+use Rattle.sg_circuit.specs.Circuit.{Element, Kind, Gate, Udp, Pass, Leg, Path, Late}
+use Rattle.sg_circuit.specs.Closed.{AreTimings, TakesInputs, HasDelays, HasFewPaths, ReadsNets, IsPathOf, NamesNets}
 use Rattle.sg_delay.specs.declared.corners.Corner.{Corner}
 use Rattle.vl_tree.specs.Tree.{Module, Source}
 use Rattle.elab_model.specs.Delays.{tick_of}
 use Rattle.elab_model.specs.Drivers.{elements}
 use Rattle.elab_model.specs.Elements.{Component, elements_of}
 use Rattle.elab_model.specs.Hierarchy.{Instance, instances}
+use Rattle.elab_model.specs.HierarchyFaults.{count_limit}
 use Rattle.elab_model.specs.Homes.{Spot, inner, is_same_spot}
 use Rattle.elab_model.specs.ModuleFaults.{module_faults}
 use Rattle.elab_model.specs.Nets.{OwnNet, nets, number_of}
@@ -21,7 +22,7 @@ use Rattle.specify_model.specs.Conditions.{ModuleCondition, Always, If, IfNone}
 use Rattle.specify_model.specs.Faults.{specify_faults}
 use Rattle.specify_model.specs.Outputs.{PathOutput, path_outputs}
 use Rattle.specify_model.specs.Paths.{circuit_condition, circuit_path}
-use Rattle.circuit_model.specs.Faults.{path_faults}
+use Rattle.circuit_model.specs.Faults.{path_count, path_faults}
 use Rattle.circuit_model.specs.PathUses.{PathUse, bit_number, circuit_elements, kind_by, path_use, path_uses_of, path_uses, reads, with_paths}
 use Rattle.elab_laws.specs.ElementLaws.{HasNets}
 use Rattle.elab_laws.specs.Laws.{AreSound}
@@ -43,6 +44,7 @@ pub record StandsIn (net_count scope_count : ℕ) (e : Element) : Type 0 where
   pub output : e.output < net_count
   pub takes : TakesInputs e.kind (length e.inputs)
   pub delays : HasDelays e.kind
+  pub few : HasFewPaths e.kind
   pub paths : NamesNets net_count e.kind
 
 -- ---- path uses
@@ -91,24 +93,43 @@ uses-fit source top corner h =
     (all-from (λ o. Use (path_use all source s o)) outputs
     (λ o at. use-fits source top s o (all-in (EachInOutput (IsNet source top s)) o outputs each at) (all-in AreTimed o outputs timed at)))))
 
+-- where all have no more paths than the limit, each has few
+few-each : (uses : List PathUse) → length (flat_map (λ u. u.paths) uses) ≤ count_limit → AllByRecursion (λ u. length u.paths < 2 ^ 31) uses
+few-each [] h = tt
+few-each (u ∷ us) h =
+    let e : length (u.paths ++ flat_map (λ v. v.paths) us) ≡ length u.paths + length (flat_map (λ v. v.paths) us) = length-append u.paths (flat_map (λ v. v.paths) us) in
+    (omega arith, few-each us (omega arith))
+
 -- ---- kinds, with the paths put in
+
+-- a kind that names no net has no paths
+few-of_none : (k : Kind) → NamesNets 0 k → HasFewPaths k
+few-of_none (Gate kind delays) h = tt
+few-of_none (Udp primitive first delays) h = tt
+few-of_none (Pass constant) h = tt
+few-of_none (Leg timings) h = tt
+few-of_none (Path [] style) h = omega arith
+few-of_none (Path (p ∷ ps) style) h = let l : p.input < 0 = (h 0 p (omega arith)).input in absurd (omega (arith, l))
+few-of_none (Late delay) h = tt
 
 record KindFits (net_count : ℕ) (inputs : ℕ) (k : Kind) : Type 0 where
   takes : TakesInputs k inputs
   delays : HasDelays k
+  few : HasFewPaths k
   paths : NamesNets net_count k
 
-kind-fits : (count k : ℕ) (uses : List PathUse) (c : Component) → Fits k c → AllByRecursion (UseFits count) uses → KindFits count (length c.inputs) (with_paths uses c).kind
-kind-fits count k uses c f h = by (find (reads c) uses) refl
+kind-fits : (count k : ℕ) (uses : List PathUse) (c : Component) → Fits k c → AllByRecursion (UseFits count) uses → AllByRecursion (λ u. length u.paths < 2 ^ 31) uses
+    → KindFits count (length c.inputs) (with_paths uses c).kind
+kind-fits count k uses c f h small = by (find (reads c) uses) refl
   where
     by : (o : Option PathUse) → find (reads c) uses ≡ o → KindFits count (length c.inputs) (kind_by c.kind o)
-    by None e = record { takes = f.takes; delays = f.delays; paths = f.paths count }
+    by None e = record { takes = f.takes; delays = f.delays; few = few-of_none c.kind (f.paths 0); paths = f.paths count }
     by (Some u) e =
         let r = found-is (reads c) uses u e in
         let fit : UseFits count u = all-in (UseFits count) u uses h r.there in
         let (s, n, p, is) = fit.inner in
         let reads_it : list_any (is_same_spot (inner s n p)) c.inputs ≡ true = ap (λ i. list_any (is_same_spot i) c.inputs) (sym is) ∙ r.passes in
-        record { takes = f.alone s n p reads_it; delays = fit.timings; paths = fit.paths }
+        record { takes = f.alone s n p reads_it; delays = fit.timings; few = all-in (λ v. length v.paths < 2 ^ 31) u uses small r.there; paths = fit.paths }
 
 -- ---- elements
 
@@ -118,15 +139,16 @@ inputs-below all spots h =
     (all-map (λ n. n < length all) (number_of all) spots (all-weaker (λ i. Owns i all) (λ i. number_of all i < length all) spots (λ i o. number-below i all o) h))
 
 element-stands : (all : List OwnNet) (k scope_count : ℕ) (uses : List PathUse) (c : Component) → k < scope_count → Fits k c → HasNets all c → AllByRecursion (UseFits (length all)) uses
-    → StandsIn (length all) scope_count (element_of all (with_paths uses c))
-element-stands all k scope_count uses c lt f o h =
-    let fit = kind-fits (length all) k uses c f h in
+    → AllByRecursion (λ u. length u.paths < 2 ^ 31) uses → StandsIn (length all) scope_count (element_of all (with_paths uses c))
+element-stands all k scope_count uses c lt f o h small =
+    let fit = kind-fits (length all) k uses c f h small in
     record {
       scope = subst (λ s. s < scope_count) (sym f.scope) lt;
       inputs = inputs-below all c.inputs o.inputs;
       output = number-below c.output all o.output;
       takes = subst (TakesInputs (with_paths uses c).kind) (sym (length-map c.inputs (number_of all))) fit.takes;
       delays = fit.delays;
+      few = fit.few;
       paths = fit.paths;
     }
 
@@ -146,8 +168,8 @@ elements-fit_in source top corner sound =
     all-weaker (Fits s.step.number) (FitsIn count) (elements_of source corner tick s) (λ c f. (s.step.number, lt, f)) (elements-fit source corner tick s faultless)))
 
 pub elements-stand : (source : Source) (top : Module) (corner : Corner) → AreSound source top corner → path_faults source top corner ≡ []
-    → AllByRecursion (StandsIn (length (nets source top)) (length (instances source top))) (circuit_elements source top corner)
-elements-stand source top corner sound h =
+    → path_count source top corner ≤ count_limit → AllByRecursion (StandsIn (length (nets source top)) (length (instances source top))) (circuit_elements source top corner)
+elements-stand source top corner sound h few =
     let all = nets source top in
     let es = elements source top corner in
     let uses = path_uses source top corner in
@@ -156,6 +178,7 @@ elements-stand source top corner sound h =
     let fit = elements-fit_in source top corner sound in
     let owned = elements-have_nets source top corner sound in
     let used = uses-fit source top corner h in
+    let small = few-each uses few in
     all-map Stands (λ c. element_of all (with_paths uses c)) es
     (all-from (λ c. Stands (element_of all (with_paths uses c))) es
-    (λ c there. let f = all-in (FitsIn scopes) c es fit there in element-stands all f.0 scopes uses c f.1 f.2 (all-in (HasNets all) c es owned there) used))
+    (λ c there. let f = all-in (FitsIn scopes) c es fit there in element-stands all f.0 scopes uses c f.1 f.2 (all-in (HasNets all) c es owned there) used small))

@@ -1,11 +1,11 @@
 -- What a timing check without fault has: the events, the limits and the threshold that its kind asks for.
-use Rattle.std.specs.Prelude.{◌≡◌, ◌↔◌, ℕ, zero, suc, ℤ, pos, ◌-ℤ◌, ◌<◌, ◌^◌, ◌==◌, ◌&&◌, unsigned_abs, List, [], ◌++◌, Bool, true, false, not, Option, Some, None, IsSome, flat_map, is_none, nat_le, refl}
+use Rattle.std.specs.Prelude.{◌≡◌, ◌↔◌, ℕ, zero, suc, ℤ, pos, ◌-ℤ◌, ◌<◌, ◌^◌, ◌==◌, ◌&&◌, unsigned_abs, List, [], ◌++◌, Bool, true, false, not, Option, Some, None, IsSome, flat_map, is_none, map, nat_le, refl}
 use Rattle.std.specs.Prelude.{if◌then◌else◌}
 use Rattle.std.specs.List.{AllByRecursion}
 use Rattle.std.specs.Option.{option_map}
 use Rattle.std.proofs.Common.{arith}
 use Rattle.std.proofs.lemmas.Bool.{eqb-true, leb-false, not-false}
-use Rattle.sg_circuit.specs.Closed.{HasDatum, HasEdge}
+use Rattle.sg_circuit.specs.Closed.{HasDatum, HasEdge, HasLimits}
 use Rattle.sg_delay.specs.declared.corners.Corner.{Corner}
 use Rattle.vl_tree.specs.declared.check_names.OneLimitCheck.TheVariants as one
 use Rattle.vl_tree.specs.declared.check_names.TwoLimitCheck.TheVariants as two
@@ -23,6 +23,7 @@ use Rattle.specify_model.specs.Faults.{amount_place, long_faults, unknown_faults
 use Rattle.specify_model.specs.Outputs.{measure}
 use Rattle.specify_model.specs.Paths.{edge_of}
 use Rattle.specify_model.specs.Values.{Measure, Values, amount_ticks, value_of}
+use Rattle.circuit_model.specs.CheckUses.{two_limits}
 use Rattle.elab_laws.proofs.Lists.{all-map, all-weaker}
 use Rattle.elab_laws.proofs.NoFaults.{back, flat-empty, front}
 use Rattle.elab_laws.proofs.ElementWidths.{no-fault}
@@ -34,6 +35,7 @@ pub record IsSoundCheck (c : ModuleCheck) : Type 0 where
   pub datum : IsSome c.datum ↔ HasDatum c.kind
   pub edge : HasEdge c.kind c.refer.edge
   pub limits : AllByRecursion IsShort c.limits
+  pub second : HasLimits c.kind (two_limits c.limits)
   pub threshold : c.threshold < 2 ^ 60
 
 has-datum : {A : Type 0} (f : Event → A) (c : Check) → IsSome (option_map f (data_of c)) ↔ HasDatum (kind_of c)
@@ -46,6 +48,17 @@ has-datum f (two_limit_check p two.SetupHold r d l m n x y) = (λ s. tt, λ u. r
 has-datum f (two_limit_check p two.RecRem r d l m n x y) = (λ s. tt, λ u. refl)
 has-datum f (width_check p r l t n) = (λ s. cc, λ u. absurd u)
 has-datum f (period_check p r l n) = (λ s. cc, λ u. absurd u)
+
+has-limits : (f : Limit → ℤ) (c : Check) → HasLimits (kind_of c) (two_limits (map f (limits_in c)))
+has-limits f (one_limit_check p one.Setup r d l n) = refl
+has-limits f (one_limit_check p one.Hold r d l n) = refl
+has-limits f (one_limit_check p one.Recovery r d l n) = refl
+has-limits f (one_limit_check p one.Removal r d l n) = refl
+has-limits f (one_limit_check p one.Skew r d l n) = refl
+has-limits f (two_limit_check p two.SetupHold r d l m n x y) = tt
+has-limits f (two_limit_check p two.RecRem r d l m n x y) = tt
+has-limits f (width_check p r l t n) = refl
+has-limits f (period_check p r l n) = refl
 
 some-edge : (o : Option EdgeWord) → is_none o ≡ false → IsSome (option_map edge_of o)
 some-edge None e = cc
@@ -124,6 +137,7 @@ check-sound by vs values c h = record {
   edge = has-edge c h.edge;
   limits = all-map IsShort (limit_ticks by values) (limits_in c)
       (all-weaker (λ l. limit_faults by values l ≡ []) (λ l. IsShort (limit_ticks by values l)) (limits_in c) (λ l e. limit-short by values l e) (flat-empty (limit_faults by values) (limits_in c) h.limits));
+  second = has-limits (limit_ticks by values) c;
   threshold = threshold-short by values (threshold_of c) h.threshold;
 }
 

@@ -22,5 +22,6 @@ pub mod Faults
 pub mod NameFaults
 pub mod TerminalFaults
 pub mod PrimitiveFaults
+pub mod UsedPrimitives
 pub mod ModuleFaults
 pub mod HierarchyFaults

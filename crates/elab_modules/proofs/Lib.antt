@@ -10,6 +10,7 @@ pub mod MemberFaults
 pub mod ReadyParts
 pub mod Replaced
 pub mod Stocking
+pub mod FirstUses
 pub mod Meeting
 pub mod Listing
 pub mod Among

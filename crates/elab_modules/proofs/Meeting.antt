@@ -1,21 +1,30 @@
 -- The modules of instances stand ready one after the other.
-use Rattle.std.specs.Prelude.{◌≡◌, ℕ, zero, suc, ◌+◌, ◌<◌, ◌^◌, List, [], ◌∷◌, ◌++◌, Bool, true, Option, Some, None, is_some, get_or, length, map, take, slice_get, slice_index_or, replicate}
-use Rattle.std.specs.List.{AllByRecursion}
+use Rattle.std.specs.Prelude.{◌≡◌, ℕ, zero, suc, ◌+◌, ◌<◌, ◌^◌, List, [], ◌∷◌, ◌++◌, Bool, true, false, Option, Some, None, filter_map, flat_map, is_some, get_or}
+use Rattle.std.specs.Prelude.{length, map, take, slice_get, slice_index_or, refl, replicate}
+use Rattle.std.specs.List.{AllByRecursion, cons_option}
+use Rattle.std.specs.Borrow.{Bor}
 use Rattle.std.specs.Option.{option_and_then}
 use Rattle.std.proofs.Common.{sym, ◌∙◌, ap, arith, inl, inr, subst, set}
 use Rattle.std.proofs.Math.Seq.{take-length}
-use Rattle.std.proofs.lemmas.List.{map-append, take_more, length-replicate}
+use Rattle.std.proofs.lemmas.Grind.{flat_map-append}
+use Rattle.std.proofs.lemmas.List.{append-nil, append_assoc, map-append, take_more, length-replicate}
+use Rattle.std.proofs.lemmas.List.Elements.{filter_map-append}
 use Rattle.std.proofs.lemmas.Option.{slice_get-get_or}
 use Rattle.sg_circuit.specs.declared.elements.UdpUse.{UdpUse}
 use Rattle.sg_text.specs.declared.refusals.Refused.{Refused}
 use Rattle.sg_text.specs.declared.refusals.Refused.TheVariants as refused
-use Rattle.vl_tree.specs.Tree.{Module, Primitive, Source, a_primitive}
+use Rattle.vl_tree.specs.declared.expressions.Delay.{Delay}
+use Rattle.vl_tree.specs.declared.items.Instance.{Instance}
+use Rattle.vl_tree.specs.declared.names.Name.{Name}
+use Rattle.vl_tree.specs.Tree.{Module, Primitive, Part, Source, a_module, a_primitive}
 use Rattle.elab_model.specs.declared.kinds.ElabKind.{ElabKind}
 use Rattle.elab_model.specs.Definitions.{as_primitive}
 use Rattle.elab_model.specs.Members.{Member, assignment, supply, gate, instance, path}
-use Rattle.elab_laws.proofs.Lists.{In, in-left, in-right, in-either, all-weaker, all-append}
+use Rattle.elab_model.specs.PrimitiveFaults.{member_primitive}
+use Rattle.elab_laws.proofs.Lists.{In, in-left, in-right, in-either, in-flat, all-weaker, all-append}
 use Rattle.elab_variables.specs.Seen.{view_member}
 use Rattle.elab_variables.specs.declared.member_list.Member as code_member
+use Rattle.elab_variables.specs.declared.member_list.Member.TheVariants as member
 use Rattle.elab_hierarchy.specs.declared.instances.Placed.{Placed}
 use Rattle.elab_hierarchy.specs.Named.{place_of}
 use Rattle.elab_hierarchy.specs.Tops.{StandsAt}
@@ -25,8 +34,9 @@ use Rattle.elab_modules.specs.declared.prepared.Prepared.{Prepared}
 use Rattle.elab_modules.specs.declared.library.Ready as code_ready
 use Rattle.elab_modules.specs.declared.library.Ready.TheVariants as ready
 use Rattle.elab_modules.specs.Ready.{IsReady, IsPrepared, HasReady}
-use Rattle.elab_modules.specs.Reaching.{IsStock, KeepsModules, IsNameReady, IsUdpReady, Stocked, HasMet, RefusesNamed, RefusesModule, RefusesMet}
+use Rattle.elab_modules.specs.Reaching.{AreFirst, IsStock, KeepsModules, IsNameReady, IsUdpReady, Stocked, HasMet, primitives_of, primitives_at, RefusesNamed, RefusesModule, RefusesMet}
 use Rattle.elab_modules.proofs.Among.{in-mapped, some-is}
+use Rattle.elab_modules.proofs.FirstUses.{first-none, first-again, first-module}
 use Rattle.elab_modules.proofs.Replaced.{set-either}
 use Rattle.elab_modules.proofs.Stocking.{Parts, put-ready, put-keeps, module-put, no-module}
 
@@ -60,6 +70,15 @@ some-ready parts place d test lt e h = by (get_or parts place d) (slice_get-get_
     by None f g = cc
     by (Some r) f g = (r, f)
 
+pub none-ready : (parts : Parts) (place : ℕ) (d : Option code_ready.Ready) (test : Bool) → place < length parts → test ≡ is_some (get_or parts place d) → test ≡ false → ¬ HasReady parts place
+none-ready parts place d test lt e h has =
+    let there : get_or parts place d ≡ Some has.0 = some-is (slice_get parts place) (get_or parts place d) (Some has.0) (slice_get-get_or parts place d lt) has.1 in
+    differ (get_or parts place d) has.0 there (sym e ∙ h)
+  where
+    differ : (o : Option code_ready.Ready) (r : code_ready.Ready) → o ≡ Some r → ¬ (is_some o ≡ false)
+    differ None r f g = cc
+    differ (Some q) r f g = cc
+
 pub keeps-same : (parts : Parts) → KeepsModules parts parts
 keeps-same parts = record { kept = λ i h. h; same = λ i p h. h }
 
@@ -79,13 +98,17 @@ udps-kept : (source : Source) (before after : Parts) → ((i : ℕ) → HasReady
     → AllByRecursion (IsUdpReady source after) ms
 udps-kept source before after kept ms h = all-weaker (IsUdpReady source before) (IsUdpReady source after) ms (udp-kept source before after kept) h
 
-pub stocked-first : (source : Source) (parts : Parts) (udps : List UdpUse) → IsStock source parts udps → Stocked source parts parts udps []
-stocked-first source parts udps h = record { stock = h; keeps = keeps-same parts; named = tt }
+pub stocked-first : (source : Source) (parts : Parts) (udps : List UdpUse) → IsStock source parts udps → Stocked source parts parts udps udps []
+stocked-first source parts udps h = record { stock = h; keeps = keeps-same parts; named = tt; first = λ met k. subst (AreFirst source parts udps) (sym (append-nil met)) k }
 
-pub stocked-next : (source : Source) (d x : code_member.Member) (before mid after : Parts) (udps more : List UdpUse) (ms : List code_member.Member) (k : ℕ) → k < length ms → x ≡ slice_index_or ms k d
-    → Stocked source before mid udps (map view_member (take k ms)) → IsStock source after more → KeepsModules mid after → IsUdpReady source after (view_member x)
-    → Stocked source before after more (map view_member (take (k + 1) ms))
-stocked-next source d x before mid after udps more ms k lt is h stock keeps named =
+-- what a member's primitive adds to the tables
+abbrev pub AddsFirst : Source → Parts → Parts → List UdpUse → List UdpUse → Member → Type 0
+AddsFirst source before after udps more x = (met : List Primitive) → AreFirst source before udps met → AreFirst source after more (met ++ filter_map (member_primitive source) (x ∷ []))
+
+pub stocked-next : (source : Source) (d x : code_member.Member) (before mid after : Parts) (tables udps more : List UdpUse) (ms : List code_member.Member) (k : ℕ) → k < length ms → x ≡ slice_index_or ms k d
+    → Stocked source before mid tables udps (map view_member (take k ms)) → IsStock source after more → KeepsModules mid after → IsUdpReady source after (view_member x)
+    → AddsFirst source mid after udps more (view_member x) → Stocked source before after tables more (map view_member (take (k + 1) ms))
+stocked-next source d x before mid after tables udps more ms k lt is h stock keeps named adds =
     let whole : map view_member (take k ms) ++ view_member x ∷ [] ≡ map view_member (take (k + 1) ms) =
     ap (λ y. map view_member (take k ms) ++ view_member y ∷ []) is ∙ sym (ap (map view_member) (take_more ms k d lt) ∙ map-append view_member (take k ms) (slice_index_or ms k d ∷ [])) in
     record {
@@ -93,13 +116,61 @@ stocked-next source d x before mid after udps more ms k lt is h stock keeps name
       keeps = keeps-then before mid after h.keeps keeps;
       named = subst (AllByRecursion (IsUdpReady source after)) whole
           (all-append (IsUdpReady source after) (map view_member (take k ms)) (view_member x ∷ []) (udps-kept source mid after keeps.kept (map view_member (take k ms)) h.named) (named, tt));
+      first = λ met f. subst (AreFirst source after more) (joined met (map view_member (take k ms)) (view_member x ∷ []) (map view_member (take (k + 1) ms)) whole)
+          (adds (met ++ filter_map (member_primitive source) (map view_member (take k ms))) (h.first met f));
     }
+  where
+    joined : (met : List Primitive) (xs ys zs : List Member) → xs ++ ys ≡ zs
+        → (met ++ filter_map (member_primitive source) xs) ++ filter_map (member_primitive source) ys ≡ met ++ filter_map (member_primitive source) zs
+    joined met xs ys zs e =
+        append_assoc met (filter_map (member_primitive source) xs) (filter_map (member_primitive source) ys)
+        ∙ ap (λ ps. met ++ ps) (sym (filter_map-append (member_primitive source) xs ys) ∙ ap (filter_map (member_primitive source)) e)
 
-pub stocked-all : (source : Source) (before after : Parts) (udps : List UdpUse) (ms : List code_member.Member) (k : ℕ) → k ≡ length ms
-    → Stocked source before after udps (map view_member (take k ms)) → Stocked source before after udps (map view_member ms)
-stocked-all source before after udps ms k e h = subst (λ xs. Stocked source before after udps (map view_member xs)) (ap (λ n. take n ms) e ∙ take-length ms) h
+-- a member that is no instance of a definition
+abbrev pub IsOther : code_member.Member → Type 0
+IsOther x = (n : Name) (d : Bor (Option Delay)) (i : Bor Instance) → x ≡ member.Instance n d i → ⊥
+
+names-none : (source : Source) (parts : Parts) (x : code_member.Member) → IsOther x → IsUdpReady source parts (view_member x) × (member_primitive source (view_member x) ≡ None)
+names-none source parts (member.Declared n e) h = (tt, refl)
+names-none source parts (member.Assignment j) h = (tt, refl)
+names-none source parts (member.Supply n v) h = (tt, refl)
+names-none source parts (member.Gate g d i) h = (tt, refl)
+names-none source parts (member.Instance n d i) h = absurd (h n d i refl)
+names-none source parts (member.Path p) h = (tt, refl)
+
+pub stocked-other : (source : Source) (d x : code_member.Member) (before mid : Parts) (tables udps : List UdpUse) (ms : List code_member.Member) (k : ℕ) → k < length ms → x ≡ slice_index_or ms k d
+    → IsOther x → Stocked source before mid tables udps (map view_member (take k ms)) → Stocked source before mid tables udps (map view_member (take (k + 1) ms))
+stocked-other source d x before mid tables udps ms k lt is other h =
+    let none = names-none source mid x other in
+    stocked-next source d x before mid mid tables udps udps ms k lt is h h.stock (keeps-same mid) none.0
+    (λ met f. subst (AreFirst source mid udps) (sym (ap (λ o. met ++ cons_option o []) none.1 ∙ append-nil met)) f)
+
+pub stocked-all : (source : Source) (before after : Parts) (tables udps : List UdpUse) (ms : List code_member.Member) (k : ℕ) → k ≡ length ms
+    → Stocked source before after tables udps (map view_member (take k ms)) → Stocked source before after tables udps (map view_member ms)
+stocked-all source before after tables udps ms k e h = subst (λ xs. Stocked source before after tables udps (map view_member xs)) (ap (λ n. take n ms) e ∙ take-length ms) h
 
 -- ---- one instance's module more
+
+-- the primitives that are named at the places so far and at one more
+places-more : (source : Source) (places : List ℕ) (place : ℕ) → flat_map (primitives_at source) places ++ primitives_at source place ≡ flat_map (primitives_at source) (places ++ place ∷ [])
+places-more source places place =
+    ap (λ ps. flat_map (primitives_at source) places ++ ps) (sym (append-nil (primitives_at source place))) ∙ sym (flat_map-append (primitives_at source) places (place ∷ []))
+
+-- those of a module that was met were met
+named-again : (source : Source) (parts : Parts) (udps : List UdpUse) (places : List ℕ) (place : ℕ) → ((m : Module) → StandsAt source place m → HasReady parts place) → HasMet source parts udps places
+    → (p : Primitive) → In p (primitives_at source place) → In p (flat_map (primitives_at source) places)
+named-again source parts udps places place has h p k = by (slice_get source place) refl k
+  where
+    met : (m : Module) → StandsAt source place m → (r : code_ready.Ready) → slice_get parts place ≡ Some (Some r) → In place places
+    met m at (ready.Module q) e = h.only place q e
+    met m at (ready.Primitive j) e = let r = h.stock.ready.1 place (Some (ready.Primitive j)) e in absurd (no-module source place m r.0 at r.1)
+
+    by : (o : Option Part) → slice_get source place ≡ o → In p (primitives_of source o) → In p (flat_map (primitives_at source) places)
+    by None e a = absurd a
+    by (Some (a_primitive q)) e a = absurd a
+    by (Some (a_module m)) e a =
+        let r = has m e in
+        in-flat (primitives_at source) place p places (met m e r.0 r.1) k
 
 -- nothing was to be made ready
 pub met-more : (source : Source) (parts : Parts) (udps : List UdpUse) (places : List ℕ) (place : ℕ) → ((m : Module) → StandsAt source place m → HasReady parts place)
@@ -112,13 +183,15 @@ met-more source parts udps places place has h = record {
     | inl a ↦ h.there i m a at
     | inr b ↦ elim b [ inl e ↦ subst (HasReady parts) (sym e) (has m (subst (λ j. StandsAt source j m) e at)) | inr c ↦ absurd c ]
   ];
+  first = subst (AreFirst source parts udps) (places-more source places place)
+      (first-again source parts udps (flat_map (primitives_at source) places) (primitives_at source place) (named-again source parts udps places place has h) h.first);
 }
 
 same-module : (p q : Prepared) → Some (ready.Module p) ≡ Some (ready.Module q) → p ≡ q
 same-module p q e = cc
 
 pub met-module : (source : Source) (before mid : Parts) (udps more : List UdpUse) (places : List ℕ) (place : ℕ) (p : Prepared) (m : Module) → StandsAt source place m → IsPrepared p m → place < length mid
-    → Stocked source before mid more (map view_member p.members.items) → HasMet source before udps places
+    → Stocked source before mid udps more (map view_member p.members.items) → HasMet source before udps places
     → HasMet source (set mid place (Some (ready.Module p))) more (places ++ place ∷ [])
 met-module source before mid udps more places place p m at prepared lt s h =
     let after = set mid place (Some (ready.Module p)) in
@@ -138,6 +211,10 @@ met-module source before mid udps more places place p m at prepared lt s h =
         | inl a ↦ keeps i (s.keeps.kept i (h.there i n a stands))
         | inr b ↦ elim b [ inl e ↦ subst (HasReady after) (sym e) (put-ready mid place (ready.Module p) lt) | inr c ↦ absurd c ]
       ];
+      first = subst (AreFirst source after more)
+          (ap (λ ps. flat_map (primitives_at source) places ++ ps) (ap (filter_map (member_primitive source)) prepared.members ∙ ap (primitives_of source) (sym at)) ∙ places-more source places place)
+          (first-module source mid place p more (flat_map (primitives_at source) places ++ filter_map (member_primitive source) (map view_member p.members.items)) lt
+          (s.first (flat_map (primitives_at source) places) h.first));
     }
 
 -- ---- all instances
@@ -161,6 +238,7 @@ met-none source parts udps n e is none =
       named = λ i p h. absurd (empty i (ready.Module p) h);
       only = λ i p h. absurd (empty i (ready.Module p) h);
       there = λ i m h at. absurd h;
+      first = first-none source parts udps none empty;
     }
   where
     no-some : (x : code_ready.Ready) → ¬ (Some x ≡ None)

@@ -1,5 +1,5 @@
 -- All that a top reaches stands ready, or one of its faults is refused.
-use Rattle.std.specs.Prelude.{◌≡◌, ℕ, List, [], ◌++◌, Option, Some, None, Ok, length, flat_map, filter_map, option_map, slice_get, refl, bytes_eq, ℤ}
+use Rattle.std.specs.Prelude.{◌≡◌, ℕ, List, [], ◌∷◌, ◌++◌, Option, Some, None, Ok, length, flat_map, filter_map, map, option_map, slice_get, refl, bytes_eq, ℤ}
 use Rattle.std.specs.List.{AllByRecursion, IsAmong}
 use Rattle.std.proofs.Common.{◌∙◌, ap, inl, inr, subst}
 use Rattle.std.proofs.lemmas.Option.{slice_get_within}
@@ -17,6 +17,7 @@ use Rattle.elab_model.specs.Hierarchy.{Instance, instances}
 use Rattle.elab_model.specs.HierarchyFaults.{two_definitions}
 use Rattle.elab_model.specs.Members.{Member, assignment, supply, gate, instance, path, members}
 use Rattle.elab_model.specs.ModuleFaults.{all_member_faults, module_faults}
+use Rattle.elab_model.specs.UsedPrimitives.{first_uses, used}
 use Rattle.elab_laws.proofs.Lists.{In, in-flat, from-flat, all-in}
 use Rattle.elab_laws.proofs.NoFaults.{all-from}
 use Rattle.elab_hierarchy.specs.declared.instances.Placed.{Placed}
@@ -31,7 +32,7 @@ use Rattle.elab_modules.specs.declared.library.Ready as code_ready
 use Rattle.elab_modules.specs.declared.library.Ready.TheVariants as ready
 use Rattle.elab_modules.specs.Ready.{AreReady, IsPrepared, HasReady, MemberReady}
 use Rattle.elab_modules.specs.Reached.{IsReadyAt, IsReached, IsLibrary, RefusesReached}
-use Rattle.elab_modules.specs.Reaching.{IsModuleAt, HasMet, RefusesMet}
+use Rattle.elab_modules.specs.Reaching.{IsModuleAt, HasMet, primitives_of, primitives_at, RefusesMet}
 use Rattle.elab_modules.specs.Checking.{IsChecked, AreChecked, RefusesPart}
 use Rattle.elab_modules.proofs.Among.{in-among, among-in, from-kept, some-is}
 use Rattle.elab_modules.proofs.Faulty.{refused-flat, all-refused, primitive-defined}
@@ -175,12 +176,25 @@ reached-faultless source corner top ps library p h there =
     named-faultless source library.parts.items x.source p h.all_met.met.stock.ready x.gives
     (all-in (MemberReady source library.parts.items) x.source (members s.source.step.definition) (all-named_in source corner top ps library s.source h s.there) x.there)
 
+-- ---- the tables of all primitives
+
+-- those that are named at the places of the instances' modules are those of the instances
+placed-primitives : (source : Source) (ps : List Placed) (ss : List Instance) → ArePlaced source ps ss
+    → flat_map (primitives_at source) (places_of ps) ≡ flat_map (λ s. filter_map (member_primitive source) (members s.step.definition)) ss
+placed-primitives source [] [] h = refl
+placed-primitives source [] (s ∷ ss) h = absurd h
+placed-primitives source (p ∷ ps) [] h = absurd h
+placed-primitives source (p ∷ ps) (s ∷ ss) h =
+    ap (λ ts. primitives_at source p.definition ++ ts) (placed-primitives source ps ss h.1)
+    ∙ ap (λ o. primitives_of source o ++ flat_map (λ t. filter_map (member_primitive source) (members t.step.definition)) ss) h.0.definition
+
 -- ---- all of it
 
 pub is-library : (source : Source) (corner : Corner) (top : Module) (ps : List Placed) (library : Library) → AllChecked source corner top ps library → IsLibrary source corner top library
 is-library source corner top ps library h = record {
   ready = h.all_met.met.stock.ready;
   udps = h.all_met.met.stock.tables;
+  listed = h.all_met.met.first.tables ∙ ap (λ ps. map used (first_uses [] ps)) (placed-primitives source ps (instances source top) h.all_met.are);
   few_udps = h.all_met.met.stock.few;
   counts = h.checked.counts;
   reached = all-from (IsReached source corner top library) (instances source top) (λ s there. record {

@@ -1,6 +1,7 @@
 -- What stands ready when all that a top reaches has been looked at, and what a refusal says.
-use Rattle.std.specs.Prelude.{◌≡◌, ◌⊎◌, ℕ, ◌<◌, ◌≤◌, ◌^◌, All, List, Some, Ok, flat_map, length, slice_get, option_map}
+use Rattle.std.specs.Prelude.{◌≡◌, ◌⊎◌, ℕ, ◌<◌, ◌≤◌, ◌^◌, All, List, Some, Ok, flat_map, length, map, slice_get, option_map}
 use Rattle.std.specs.List.{AllByRecursion, IsAmong}
+use Rattle.sg_circuit.specs.Seen.{udp_seen}
 use Rattle.sg_delay.specs.declared.corners.Corner.{Corner}
 use Rattle.sg_text.specs.declared.places.Place.{Place}
 use Rattle.sg_text.specs.declared.refusals.Refused.{Refused}
@@ -14,6 +15,7 @@ use Rattle.elab_model.specs.Hierarchy.{Instance, instances}
 use Rattle.elab_model.specs.Members.{members}
 use Rattle.elab_model.specs.ModuleFaults.{module_faults}
 use Rattle.elab_model.specs.PrimitiveFaults.{primitives, TableFault}
+use Rattle.elab_model.specs.UsedPrimitives.{used_primitives}
 use Rattle.elab_laws.specs.Laws.{AreSound}
 use Rattle.elab_hierarchy.specs.Tops.{StandsAt}
 use Rattle.elab_primitives.specs.Refusals.{IsOfTable}
@@ -35,6 +37,7 @@ pub record IsReached (source : Source) (corner : Corner) (top : Module) (library
 pub record IsLibrary (source : Source) (corner : Corner) (top : Module) (library : Library) : Type 0 where
   pub ready : AreReady source library.parts.items
   pub udps : HaveUdps source library.udps.items library.parts.items
+  pub listed : map (λ u. udp_seen u) library.udps.items ≡ used_primitives source top
   pub few_udps : length library.udps.items < 2 ^ 31
   pub counts : All (λ d. d.count ≤ 3) library.gate_delays.items
   pub reached : AllByRecursion (IsReached source corner top library) (instances source top)

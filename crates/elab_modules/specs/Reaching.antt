@@ -1,18 +1,20 @@
 -- What stands ready while the modules that a top reaches are met, and what is refused of them.
-use Rattle.std.specs.Prelude.{◌≡◌, ◌⊎◌, ℕ, ◌<◌, ◌^◌, List, Option, Some, length, map, filter_map, slice_get, ℤ}
+use Rattle.std.specs.Prelude.{◌≡◌, ◌⊎◌, ℕ, ◌<◌, ◌^◌, List, [], ◌++◌, Option, Some, None, length, map, filter_map, flat_map, slice_get, ℤ}
 use Rattle.std.specs.List.{AllByRecursion, IsAmong}
 use Rattle.sg_circuit.specs.declared.elements.UdpUse.{UdpUse}
+use Rattle.sg_circuit.specs.Seen.{udp_seen}
 use Rattle.sg_delay.specs.declared.corners.Corner.{Corner}
 use Rattle.sg_text.specs.declared.places.Place.{Place}
 use Rattle.sg_text.specs.declared.refusals.Refused.{Refused}
 use Rattle.sg_text.specs.declared.refusals.Refused.TheVariants as refused
-use Rattle.vl_tree.specs.Tree.{Module, Primitive, Source, a_primitive}
+use Rattle.vl_tree.specs.Tree.{Module, Primitive, Part, Source, a_module, a_primitive}
 use Rattle.elab_model.specs.declared.kinds.ElabKind.{ElabKind}
 use Rattle.elab_model.specs.Definitions.{primitive_of}
 use Rattle.elab_model.specs.PrimitiveFaults.{member_primitive}
 use Rattle.elab_model.specs.Faults.{fault}
 use Rattle.elab_model.specs.Members.{Member, assignment, supply, gate, instance, path, members}
 use Rattle.elab_model.specs.ModuleFaults.{module_faults}
+use Rattle.elab_model.specs.UsedPrimitives.{first_uses, used}
 use Rattle.elab_laws.specs.Words.{In}
 use Rattle.elab_variables.specs.Seen.{view_member}
 use Rattle.elab_hierarchy.specs.Named.{place_of}
@@ -49,11 +51,27 @@ IsUdpReady source parts (gate g d i) = Unit {0}
 IsUdpReady source parts (instance n d i) = IsNameReady source parts n.text
 IsUdpReady source parts (path p) = Unit {0}
 
+-- the tables are those of the primitives that were met, in order of first use; these stand ready, and no others
+pub record AreFirst (source : Source) (parts : List (Option code_ready.Ready)) (udps : List UdpUse) (met : List Primitive) : Type 0 where
+  pub tables : map (λ u. udp_seen u) udps ≡ map used (first_uses [] met)
+  pub stand : (p : Primitive) → In p met → IsNameReady source parts p.name.text
+  pub only : (i k : ℕ) (p : Primitive) → slice_get parts i ≡ Some (Some (ready.Primitive k)) → slice_get source i ≡ Some (a_primitive p) → In p met
+
 -- a stock to which the primitives of some members were added
-pub record Stocked (source : Source) (before after : List (Option code_ready.Ready)) (udps : List UdpUse) (ms : List Member) : Type 0 where
+pub record Stocked (source : Source) (before after : List (Option code_ready.Ready)) (tables udps : List UdpUse) (ms : List Member) : Type 0 where
   pub stock : IsStock source after udps
   pub keeps : KeepsModules before after
   pub named : AllByRecursion (IsUdpReady source after) ms
+  pub first : (met : List Primitive) → AreFirst source before tables met → AreFirst source after udps (met ++ filter_map (member_primitive source) ms)
+
+-- the primitives that are named in the module at a place
+abbrev pub primitives_of : Source → Option Part → List Primitive
+primitives_of source None = []
+primitives_of source (Some (a_primitive p)) = []
+primitives_of source (Some (a_module m)) = filter_map (member_primitive source) (members m)
+
+abbrev pub primitives_at : Source → ℕ → List Primitive
+primitives_at source i = primitives_of source (slice_get source i)
 
 -- the modules at some places stand ready, and no others; and what their members name, if it is a primitive
 pub record HasMet (source : Source) (parts : List (Option code_ready.Ready)) (udps : List UdpUse) (places : List ℕ) : Type 0 where
@@ -61,6 +79,7 @@ pub record HasMet (source : Source) (parts : List (Option code_ready.Ready)) (ud
   pub named : (i : ℕ) (p : Prepared) → IsModuleAt parts i p → AllByRecursion (IsUdpReady source parts) (map view_member p.members.items)
   pub only : (i : ℕ) (p : Prepared) → IsModuleAt parts i p → In i places
   pub there : (i : ℕ) (m : Module) → In i places → StandsAt source i m → HasReady parts i
+  pub first : AreFirst source parts udps (flat_map (primitives_at source) places)
 
 -- a fault of the primitive of a name
 pub record IsOfNamed (source : Source) (n : List ℕ) (kind : ElabKind) (place : Place) : Type 0 where

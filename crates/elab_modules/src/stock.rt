@@ -1,10 +1,11 @@
 // The modules of instances made ready, and the primitives that their members name.
-ghost use Rattle.std.specs.Prelude.{◌≡◌, ℕ, ◌<◌, ◌^◌, ◌++◌, ◌∷◌, List, [], IfOk, OnOk, IfErr, All, None, length, map, replicate};
-ghost use Rattle.vl_tree.specs.Tree.{Module};
+ghost use Rattle.std.specs.Prelude.{◌≡◌, ℕ, ◌<◌, ◌^◌, ◌++◌, ◌∷◌, List, [], IfOk, OnOk, IfErr, All, None, filter_map, length, map, replicate};
+ghost use Rattle.vl_tree.specs.Tree.{Module, Primitive};
+ghost use Rattle.elab_model.specs.Definitions.{primitive_of};
 ghost use Rattle.elab_model.specs.HierarchyFaults.{two_definitions};
 ghost use Rattle.elab_variables.specs.Seen.{view_member};
 ghost use Rattle.elab_hierarchy.specs.Tops.{StandsAt};
-ghost use Rattle.elab_modules.specs.Reaching.{IsStock, IsNameReady, Stocked, HasMet, KeepsModules, RefusesMembers, RefusesModule, RefusesMet, RefusesNamed};
+ghost use Rattle.elab_modules.specs.Reaching.{AreFirst, IsStock, IsNameReady, Stocked, HasMet, KeepsModules, RefusesMembers, RefusesModule, RefusesMet, RefusesNamed};
 
 use crate::{Ready, prepare};
 use elab_hierarchy::{Definitions, Placed};
@@ -103,7 +104,7 @@ fn add_primitives(
     udps: &mut Vec<UdpUse>,
 ) -> Result<(), Refused<ElabKind>>
     requires stock { IsStock definitions.now parts.old udps.old.items }
-    ensures stocked { OnOk result (Stocked definitions.now parts.old parts.new udps.new.items (map view_member members.now)) }
+    ensures stocked { OnOk result (Stocked definitions.now parts.old parts.new udps.old.items udps.new.items (map view_member members.now)) }
     ensures refused { IfErr result (RefusesMembers definitions.now (map view_member members.now)) }
 {
     for member in members {
@@ -127,6 +128,8 @@ fn add_primitive(
     ensures stock { OnOk result (IsStock definitions.now parts.new udps.new.items) }
     ensures keeps { OnOk result (KeepsModules parts.old parts.new) }
     ensures named { OnOk result (IsNameReady definitions.now parts.new name.now) }
+    ensures first { OnOk result ((met : List Primitive) → AreFirst definitions.now parts.old udps.old.items met
+        → AreFirst definitions.now parts.new udps.new.items (met ++ filter_map (primitive_of definitions.now) (name.now ∷ []))) }
     ensures refused { IfErr result (RefusesNamed definitions.now name.now) }
 {
     let Some(place) = definitions.find(name) else {

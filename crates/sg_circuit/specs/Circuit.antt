@@ -57,12 +57,19 @@ pub record Scope : Type 0 where
   pub is_leaf : Bool
   pub variables : List Variable
 
--- a circuit: the power of ten of a second that one tick is (19.8), and the parts; scope 0 is the top. A timing check has what
--- a report names, what is looked for, and how its conditions are spelled (clause 15). Some limits are taken as 0 (15.8)
+-- a user-defined primitive of which there are instances, and its state before time 0 (8.1, 8.5)
+pub record UsedPrimitive : Type 0 where
+  pub primitive : Primitive
+  pub first : Value
+
+-- a circuit: the power of ten of a second that one tick is (19.8), and the parts; scope 0 is the top. The primitives stand in
+-- order of first use, each once. A timing check has what a report names, what is looked for, and how its conditions are spelled
+-- (clause 15). Some limits are taken as 0 (15.8)
 pub record Circuit : Type 0 where
   pub tick : ℤ
   pub nets : List Net
   pub elements : List Element
+  pub udps : List UsedPrimitive
   pub checks : List Check
   pub check_timings : List CheckTiming
   pub check_conditions : List CheckConditions

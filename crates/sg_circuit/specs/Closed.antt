@@ -1,5 +1,5 @@
 -- What is so of every circuit: its parts fit together.
-use Rattle.std.specs.Prelude.{◌≡◌, ◌↔◌, ℕ, ◌+◌, ◌<◌, ◌≤◌, ◌^◌, ◌≤ℤ◌, ◌-ℤ◌, nat_abs, unsigned_abs, All, List, [], ◌∷◌, length, Option, Some, None, IfSome, IsSome, slice_index_or}
+use Rattle.std.specs.Prelude.{◌≡◌, ◌↔◌, ℕ, ℤ, pos, ◌+◌, ◌<◌, ◌≤◌, ◌^◌, ◌≤ℤ◌, ◌-ℤ◌, nat_abs, unsigned_abs, All, List, [], ◌∷◌, length, Option, Some, None, IfSome, IsSome, slice_index_or}
 use Rattle.sg_logic.specs.Gate.{TakesInputs as GateTakes, most_delays}
 use Rattle.sg_circuit.specs.declared.nets.Driver.{Driver}
 use Rattle.sg_circuit.specs.declared.nets.Driver.TheVariants as driver
@@ -69,6 +69,11 @@ NamesNets nets (Leg timings) = Unit {0}
 NamesNets nets (Path paths style) = All (IsPathOf nets) paths
 NamesNets nets (Late delay) = Unit {0}
 
+-- so many specify paths lead to an output's bit at the most
+abbrev pub HasFewPaths : Kind → Type 0
+HasFewPaths (Path paths style) = length paths < 2 ^ 31
+HasFewPaths _ = Unit {0}
+
 -- how many bits a variable has (4.3.1)
 abbrev pub width_of : Option Range → ℕ
 width_of None = 1
@@ -93,6 +98,18 @@ HasEdge Width edge = IsSome edge
 HasEdge Period edge = IsSome edge
 HasEdge _ edge = Unit {0}
 
+-- how many limits a check has (15.2, 15.3)
+abbrev pub limit_count : CheckKind → ℕ
+limit_count Setuphold = 2
+limit_count Recrem = 2
+limit_count _ = 1
+
+-- where it has one, the second of the two that are kept is 0
+abbrev pub HasLimits : CheckKind → List ℤ → Type 0
+HasLimits Setuphold limits = Unit {0}
+HasLimits Recrem limits = Unit {0}
+HasLimits _ limits = slice_index_or limits 1 (pos 0) ≡ pos 0
+
 -- the net of a check's event, and those of its condition, are among so many
 pub record IsEventOf (nets : ℕ) (e : Event) : Type 0 where
   pub net : e.net < nets
@@ -105,6 +122,7 @@ pub record IsCheckTiming (nets : ℕ) (t : CheckTiming) : Type 0 where
   pub has_datum : IsSome t.datum ↔ HasDatum t.kind
   pub has_edge : HasEdge t.kind t.refer.edge
   pub limits : All (λ l. unsigned_abs l < 2 ^ 60) t.limits
+  pub second : HasLimits t.kind t.limits
   pub threshold : t.threshold < 2 ^ 60
 
 -- a net that the timing checks alone drive (15.5)
@@ -164,6 +182,7 @@ pub record IsClosed (c : Circuit) : Type 0 where
   -- what each kind asks for
   pub takes_inputs : All (λ e. TakesInputs e.kind (length e.inputs)) c.elements
   pub has_delays : All (λ e. HasDelays e.kind) c.elements
+  pub few_paths : All (λ e. HasFewPaths e.kind) c.elements
   pub widths : All (λ s. All (λ v. length v.bits ≡ width_of v.range) s.variables) c.scopes
   pub datums : All (λ k. IsSome k.datum ↔ HasDatum k.kind) c.checks
   -- each check looks for something, of its own kind, and its conditions are spelled in some way

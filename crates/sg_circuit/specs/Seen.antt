@@ -2,7 +2,7 @@
 use Rattle.std.specs.Prelude.{ℕ, ◌<◌, ◌≤◌, ◌^◌, false, All, List, [], length, map, take, Option, Some, None, IfSome, slice_index_or}
 use Rattle.sg_logic.specs.declared.values.Value.TheVariants.{X}
 use Rattle.sg_delay.specs.declared.gates.GateDelays.{GateDelays}
-use Rattle.sg_circuit.specs.Circuit.{Circuit, Kind, Gate, Udp, Pass, Leg, Path, Late, Element, Variable, Scope}
+use Rattle.sg_circuit.specs.Circuit.{Circuit, Kind, Gate, Udp, Pass, Leg, Path, Late, Element, UsedPrimitive, Variable, Scope}
 use Rattle.sg_circuit.specs.TimingsSeen.{timings_at}
 use Rattle.sg_circuit.specs.PathsSeen.{paths_seen, spanned, AreIndexedPaths}
 use Rattle.sg_circuit.specs.ChecksSeen.{written_seen, AreWritten}
@@ -24,6 +24,9 @@ delays_at table i = slice_index_or (map (λ d. gate_delays_seen d) table) i []
 
 abbrev pub udp_at : List UdpUse → ℕ → UdpUse
 udp_at udps i = slice_index_or udps i (record { rows = record { inputs = 0; sequential = false; rows = [] }; first = X })
+
+abbrev pub udp_seen : UdpUse → UsedPrimitive
+udp_seen u = record { primitive = u.rows; first = u.first }
 
 abbrev pub kind_seen : Parts → ElementKind → Kind
 kind_seen parts (kind.Gate gate delays) = Gate gate (delays_at parts.gate_delays.items delays)
@@ -55,6 +58,7 @@ circuit_seen parts = record {
   tick = parts.tick.power;
   nets = parts.nets.items;
   elements = map (element_seen parts) parts.elements.items;
+  udps = map (λ u. udp_seen u) parts.udps.items;
   checks = parts.checks.items;
   check_timings = parts.check_timings.items;
   check_conditions = map (written_seen parts.conditions.items) parts.check_conditions.items;

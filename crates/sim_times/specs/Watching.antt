@@ -60,7 +60,7 @@ IsNextCall stands call = AreNextCalls stands (call ∷ [])
 
 -- a circuit of nothing
 abbrev pub no_circuit : Circuit
-no_circuit = record { tick = pos 0; nets = []; elements = []; checks = []; check_timings = []; check_conditions = []; scopes = []; zeroed = [] }
+no_circuit = record { tick = pos 0; nets = []; elements = []; udps = []; checks = []; check_timings = []; check_conditions = []; scopes = []; zeroed = [] }
 
 -- the last call, at the end, says that nothing changed
 abbrev pub end_call : ℕ → List Value → Call

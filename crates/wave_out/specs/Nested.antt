@@ -44,6 +44,7 @@ nested = record {
         ∷ record { name = codes "p"; range = None; is_reg = false; port = Input; bits = 2 ∷ [] } ∷ [];
   } ∷ [];
   zeroed = [];
+  udps = [];
 }
 
 abbrev pub nested_header : List ℕ

@@ -48,5 +48,5 @@ returns-clause-met c = λ places h.
     let lt : c.args.place < length c.add_primitives.new.parts = subst (λ n. c.args.place < n) (sym c.in_ok-add_primitives.ensures.stocked.stock.ready.0) c.requires.within in
     met-module c.args.definitions.now c.args.parts.now c.add_primitives.new.parts c.args.udps.now.items c.add_primitives.new.udps.items places c.args.place c.in_ok-prepared.prepared
     (view_module c.in-Module.module) (c.part.ensures ∙ ap (λ q. Some (view_part q)) c.in-Module.is) c.in_ok-prepared.ensures.prepared lt
-    (subst (λ ms. Stocked c.args.definitions.now c.args.parts.now c.add_primitives.new.parts c.add_primitives.new.udps.items (map view_member ms)) c.deref.ensures.value
+    (subst (λ ms. Stocked c.args.definitions.now c.args.parts.now c.add_primitives.new.parts c.args.udps.now.items c.add_primitives.new.udps.items (map view_member ms)) c.deref.ensures.value
     c.in_ok-add_primitives.ensures.stocked) h

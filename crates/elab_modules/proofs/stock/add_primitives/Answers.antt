@@ -8,7 +8,7 @@ use Rattle.elab_hierarchy.proofs.Whole.{refuses}
 use Rattle.elab_modules.specs.Reaching.{IsUdpReady}
 use Rattle.elab_modules.proofs.Among.{in-mapped}
 use Rattle.elab_modules.proofs.Faulty.{name-told}
-use Rattle.elab_modules.proofs.Meeting.{stocked-first, stocked-next}
+use Rattle.elab_modules.proofs.Meeting.{AddsFirst, stocked-first, stocked-next, stocked-other}
 use Rattle.elab_modules.proofs.stock.add_primitives.Goals as goal
 
 pub loop-member-init : goal.loop-member-init
@@ -25,6 +25,14 @@ returns-in_err-add_primitive-clause-refused c =
 pub loop-member-preserved : goal.loop-member-preserved
 loop-member-preserved c =
     let lt : c.loop-member.member-index < length c.args.members.now = omega arith in
-    stocked-next c.args.definitions.now c.member-item.result c.member-item.result c.args.parts.now c.loop-member.parts c.add_primitive.new.parts c.loop-member.udps.items c.add_primitive.new.udps.items
-    c.args.members.now c.loop-member.member-index lt c.member-item.is c.loop-member.invariant c.in_ok-add_primitive.ensures.stock c.in_ok-add_primitive.ensures.keeps
+    stocked-next c.args.definitions.now c.member-item.result c.member-item.result c.args.parts.now c.loop-member.parts c.add_primitive.new.parts c.args.udps.now.items c.loop-member.udps.items
+    c.add_primitive.new.udps.items c.args.members.now c.loop-member.member-index lt c.member-item.is c.loop-member.invariant c.in_ok-add_primitive.ensures.stock c.in_ok-add_primitive.ensures.keeps
     (subst (λ m. IsUdpReady c.args.definitions.now c.add_primitive.new.parts (view_member m)) (sym c.in-Instance.is) c.in_ok-add_primitive.ensures.named)
+    (subst (λ m. AddsFirst c.args.definitions.now c.loop-member.parts c.add_primitive.new.parts c.loop-member.udps.items c.add_primitive.new.udps.items (view_member m)) (sym c.in-Instance.is)
+    c.in_ok-add_primitive.ensures.first)
+
+pub loop-member-preserved-in_default : goal.loop-member-preserved-in_default
+loop-member-preserved-in_default c =
+    let lt : c.loop-member.member-index < length c.args.members.now = omega arith in
+    stocked-other c.args.definitions.now c.member-item.result c.member-item.result c.args.parts.now c.loop-member.parts c.args.udps.now.items c.loop-member.udps.items c.args.members.now
+    c.loop-member.member-index lt c.member-item.is c.in_default.not-Instance c.loop-member.invariant
