@@ -66,3 +66,12 @@ pub fn first_net(rows: &Rows, number: usize, member: usize) -> NetId
     let start = rows.member_starts[number];
     rows.firsts[start + member]
 }
+
+/// The inner nets of an instance's output bits to which specify paths lead.
+pub fn end_row(rows: &Rows, number: usize, count: usize) -> &[NetId]
+    requires { (start : ℕ) × ((slice_get rows.now.end_starts.items number ≡ Some start) × (start + count ≤ length rows.now.ends.items)) }
+    ensures { (start : ℕ) → slice_get rows.now.end_starts.items number ≡ Some start → result.now ≡ part_of rows.now.ends.items start count }
+{
+    let start = rows.end_starts[number];
+    &rows.ends[start..start + count]
+}
