@@ -1,0 +1,49 @@
+-- The Paths of a member.
+use Rattle.std.specs.Prelude.{◌≡◌, ℕ, zero, suc, ◌+◌, ◌-◌, ◌<◌, ◌≤◌, List, [], ◌∷◌, ◌++◌, Some, flat_map, length, map, slice_get, take, drop, zip, refl}
+use Rattle.std.specs.List.{All, AllByRecursion, enumerate_from}
+use Rattle.std.proofs.Common.{sym, ◌∙◌, ap, arith, subst, length-append}
+use Rattle.std.proofs.lemmas.Grind.{flat_map-append}
+use Rattle.std.proofs.lemmas.List.{take-append-drop, length-map}
+use Rattle.std.proofs.lemmas.List.Elements.{recursion_from_All}
+use Rattle.std.proofs.lemmas.Option.{slice_get_within}
+use Rattle.sg_circuit.specs.declared.elements.ElementKind.TheVariants as kind
+use Rattle.sg_circuit.specs.declared.elements.UdpUse.{UdpUse}
+use Rattle.sg_delay.specs.declared.gates.GateDelays.{GateDelays}
+use Rattle.sg_delay.specs.declared.limits.PulseStyle.TheVariants.{OnEvent}
+use Rattle.sg_text.specs.declared.places.Place.{Place}
+use Rattle.vl_tree.specs.Tree.{Module, Source}
+use Rattle.elab_model.specs.Elements.{path_at}
+use Rattle.elab_model.specs.Ends.{first_ends, path_ends, inner_spot}
+use Rattle.elab_model.specs.Hierarchy.{Instance}
+use Rattle.elab_model.specs.Homes.{home_of}
+use Rattle.elab_model.specs.Members.{Member, members}
+use Rattle.elab_model.specs.Names.{Variable, variables}
+use Rattle.elab_model.specs.Nets.{OwnNet, nets, number_of}
+use Rattle.elab_model.specs.Terms.{NetBit}
+use Rattle.elab_laws.specs.Handing.{all_bits}
+use Rattle.elab_ends.specs.Ends.{AreEnds, ends_before}
+use Rattle.elab_ends.specs.Seen.{bit_seen, bits_seen}
+use Rattle.elab_nets.specs.Numbers.{HasNumbers}
+use Rattle.elab_elements.specs.Adding.{IsHere}
+use Rattle.elab_elements.specs.Words.{net_in, path_puts}
+use Rattle.elab_elements.proofs.Meaning.{Means, means-nil, means-one, means-append, number-is}
+
+-- each Path leads from its inner net to the net of its bit
+pub paths-mean : (delays : List GateDelays) (udps : List UdpUse) (all : List OwnNet) (source : Source) (s : Instance) (scope : ℕ) (place : Place) (vs : List Variable) (row bits ends : List ℕ) (bs : List NetBit)
+    → IsHere all source s scope vs row → AllByRecursion (λ i. i < length (all_bits vs)) bits → bits_seen vs bits ≡ bs → ends ≡ map (λ b. number_of all (inner_spot s b)) bs
+    → Means delays udps all (flat_map (path_puts scope place row) (zip bits ends)) (map (path_at source s place) bs)
+paths-mean delays udps all source s scope place vs row bits ends bs h below seen is =
+    subst (λ cs. Means delays udps all (flat_map (path_puts scope place row) (zip bits ends)) (map (path_at source s place) cs)) seen
+    (subst (λ ns. Means delays udps all (flat_map (path_puts scope place row) (zip bits ns)) (map (path_at source s place) (bits_seen vs bits)))
+    (sym (is ∙ ap (map (λ b. number_of all (inner_spot s b))) (sym seen))) (by bits below))
+  where
+    by : (is : List ℕ) → AllByRecursion (λ i. i < length (all_bits vs)) is
+        → Means delays udps all (flat_map (path_puts scope place row) (zip is (map (λ b. number_of all (inner_spot s b)) (bits_seen vs is)))) (map (path_at source s place) (bits_seen vs is))
+    by [] l = means-nil delays udps all
+    by (i ∷ is) l =
+        let b = bit_seen vs i in
+        means-append delays udps all (path_puts scope place row (i, number_of all (inner_spot s b)))
+        (flat_map (path_puts scope place row) (zip is (map (λ b. number_of all (inner_spot s b)) (bits_seen vs is)))) (path_at source s place b ∷ []) (map (path_at source s place) (bits_seen vs is))
+        (means-one delays udps all scope place (number_of all (inner_spot s b) ∷ []) (net_in row i) (kind.Path (record { start = 0; end = 0 }) OnEvent) (path_at source s place b)
+        (sym h.number) refl refl (number-is all source s vs row i h.numbers l.0) refl tt)
+        (by is l.1)
