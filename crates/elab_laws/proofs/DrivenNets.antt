@@ -18,8 +18,7 @@ use Rattle.elab_laws.proofs.Ends.{in-path_ends, in-all_ends}
 use Rattle.elab_laws.proofs.HaveNets.{HaveNets}
 use Rattle.elab_laws.proofs.Homes.{home-there}
 use Rattle.elab_laws.proofs.Inners.{inners-have_nets}
-use Rattle.elab_laws.proofs.Lists.{all-in, all-map, found-is, in-flat}
-use Rattle.elab_laws.proofs.NoFaults.{all-from}
+use Rattle.elab_laws.proofs.Lists.{all-in, all-map, found-is, in-flat, all-from}
 
 -- the net itself, or the inner one of a bit with paths
 inner-or_there : (source : Source) (top : Module) (s : Instance) (spot : Spot) → In s (instances source top) → Owns spot (nets source top) → Owns (inner_or s spot (end_at source s spot)) (nets source top)

@@ -15,8 +15,7 @@ use Rattle.elab_laws.proofs.Drivers.{same-by_number}
 use Rattle.elab_laws.proofs.EndBits.{HasNetBit, ends-below}
 use Rattle.elab_laws.proofs.Ends.{in-all_ends, find-path_ends}
 use Rattle.elab_laws.proofs.Homes.{home-there}
-use Rattle.elab_laws.proofs.Lists.{all-in}
-use Rattle.elab_laws.proofs.NoFaults.{all-from}
+use Rattle.elab_laws.proofs.Lists.{all-in, all-from}
 use Rattle.elab_laws.proofs.Stated.{bits-have_nets}
 
 -- by numbers in place of nets

@@ -6,16 +6,13 @@ use Rattle.std.specs.Bool.{one_answer}
 use Rattle.std.proofs.Common.{sym, ◌∙◌, ap, arith, inl, inr, subst, append_assoc, length-append}
 use Rattle.std.proofs.lemmas.Bool.{eq-eqb, eqb-true}
 use Rattle.std.proofs.lemmas.Slice.Eq.{bytes_eq-Decides}
+use Rattle.elab_laws.proofs.Ends.{and-both}
 use Rattle.elab_laws.proofs.Lists.{In}
 use Rattle.elab_laws.proofs.Homes.{Owns, spot-same}
 use Rattle.elab_laws.proofs.Apart.{AreApart}
 use Rattle.elab_laws.proofs.NetsApart.{number-count}
 use Rattle.elab_model.specs.Homes.{Spot, bit, outside, terminal, inner, is_same_spot}
 use Rattle.elab_model.specs.Nets.{OwnNet, number_of}
-
-and-both : (x y : Bool) → (x && y) ≡ true → (x ≡ true) × (y ≡ true)
-and-both true y h = (refl, h)
-and-both false y h = cc
 
 pub spots-decide : (a b : Spot) → is_same_spot a b ≡ true → a ≡ b
 spots-decide (bit s n p) (bit t m q) h =

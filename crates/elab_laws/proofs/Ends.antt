@@ -13,14 +13,18 @@ use Rattle.elab_model.specs.Members.{Member, members}
 use Rattle.elab_model.specs.Terms.{NetBit, is_same_bit}
 use Rattle.elab_laws.proofs.Lists.{In, all-weaker, Pairwise}
 
+pub and-both : (x y : Bool) → (x && y) ≡ true → (x ≡ true) × (y ≡ true)
+and-both true y h = (refl, h)
+and-both false y h = cc
+
+pub or-neither : (x y : Bool) → (x || y) ≡ false → (x ≡ false) × (y ≡ false)
+or-neither true y h = cc
+or-neither false y h = (refl, h)
+
 -- bits are the same exactly where they are equal
 pub bits-decide : (b c : NetBit) → is_same_bit b c ≡ true → b ≡ c
 bits-decide b c h = by (and-both (bytes_eq b.name c.name) (b.position == c.position) h)
   where
-    and-both : (x y : Bool) → (x && y) ≡ true → (x ≡ true) × (y ≡ true)
-    and-both true y h = (refl, h)
-    and-both false y h = cc
-
     by : (bytes_eq b.name c.name ≡ true) × ((b.position == c.position) ≡ true) → b ≡ c
     by t =
         let n : b.name ≡ c.name = (bytes_eq-Decides b.name c.name).0 t.0 in
@@ -57,10 +61,6 @@ in-one_of b (c ∷ bs) h = by (is_same_bit b c) refl h (in-one_of b bs)
     by : (t : Bool) → is_same_bit b c ≡ t → (t || is_one_of b bs) ≡ true → (is_one_of b bs ≡ true → In b bs) → In b (c ∷ bs)
     by true e h later = inl (bits-decide b c e)
     by false e h later = inr (later h)
-
-or-neither : (x y : Bool) → (x || y) ≡ false → (x ≡ false) × (y ≡ false)
-or-neither true y h = cc
-or-neither false y h = (refl, h)
 
 -- each bit of first_bits is none of those seen
 abbrev pub IsUnseen : List NetBit → NetBit → Type 0

@@ -20,8 +20,8 @@ use Rattle.elab_model.specs.Nets.{terminal_nets, member_nets, nets}
 use Rattle.elab_model.specs.TerminalFaults.{expression_faults, width_faults, constant_faults, terminal_faults}
 use Rattle.elab_model.proofs.TerminalLaws.{two-at-least}
 use Rattle.elab_laws.specs.Words.{Owns}
-use Rattle.elab_laws.proofs.Lists.{In, all-in, all-append, all-flat, all-flat_in, all-map, all-weaker}
-use Rattle.elab_laws.proofs.NoFaults.{front, back, all-from, all-second}
+use Rattle.elab_laws.proofs.Lists.{In, all-in, all-append, all-flat, all-flat_in, all-map, all-weaker, all-from}
+use Rattle.elab_laws.proofs.NoFaults.{front, back, all-second}
 use Rattle.elab_laws.proofs.Terminals.{HasNet, expression-there, terminal-there}
 use Rattle.elab_laws.proofs.DrivenNets.{driven-there}
 use Rattle.elab_laws.specs.ElementLaws.{HasNets}

@@ -4,8 +4,7 @@ use Rattle.std.specs.List.{AllByRecursion}
 use Rattle.vl_tree.specs.Tree.{Module, Source}
 use Rattle.elab_model.specs.Elements.{Component}
 use Rattle.elab_model.specs.Nets.{nets}
-use Rattle.elab_laws.proofs.Lists.{In, all-flat_in}
-use Rattle.elab_laws.proofs.NoFaults.{all-from}
+use Rattle.elab_laws.proofs.Lists.{In, all-flat_in, all-from}
 use Rattle.elab_laws.specs.ElementLaws.{HasNets}
 
 -- what these elements drive and read are nets

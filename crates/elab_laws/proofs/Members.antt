@@ -21,9 +21,9 @@ use Rattle.elab_model.specs.TerminalFaults.{expression_faults, terminal_faults, 
 use Rattle.elab_model.specs.PrimitiveFaults.{primitive_faults}
 use Rattle.elab_model.specs.ModuleFaults.{are_terminals, takes_terminals, instance_faults, member_faults, all_member_faults, module_faults}
 use Rattle.elab_laws.specs.Laws.{AreSound}
-use Rattle.elab_laws.proofs.Lists.{In, all-in, all-append, all-flat_in}
+use Rattle.elab_laws.proofs.Lists.{In, all-in, all-append, all-flat_in, all-from}
 use Rattle.elab_laws.proofs.PartsApart.{child_at-all}
-use Rattle.elab_laws.proofs.NoFaults.{front, back, all-from, all-second}
+use Rattle.elab_laws.proofs.NoFaults.{front, back, all-second}
 use Rattle.elab_laws.specs.ElementLaws.{HasNets, ElementsHaveNets}
 use Rattle.elab_laws.proofs.HaveNets.{HaveNets, all-flat_from}
 use Rattle.elab_laws.proofs.Legs.{legs-have}

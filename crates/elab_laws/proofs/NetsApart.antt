@@ -1,5 +1,5 @@
 -- The nets of constants at a leaf's inputs, of members and of instances are distinct; the number of a net is how many come before it.
-use Rattle.std.specs.Prelude.{◌≡◌, ℕ, ◌==◌, List, [], ◌∷◌, ◌++◌, Bool, true, false, ◌&&◌, Some, flat_map, map, slice_get, length, refl, if◌then◌else◌, bytes_eq}
+use Rattle.std.specs.Prelude.{◌≡◌, ℕ, ◌==◌, List, [], ◌∷◌, ◌++◌, Bool, true, false, Some, flat_map, slice_get, length, refl, if◌then◌else◌, bytes_eq}
 use Rattle.std.specs.List.{AllByRecursion, enumerate_from}
 use Rattle.std.specs.Option.{option_and_then}
 use Rattle.std.proofs.Common.{sym, ◌∙◌, ap, inl, inr, subst}
@@ -25,7 +25,7 @@ use Rattle.elab_model.specs.Members.{Member, assignment, supply, gate, instance,
 use Rattle.elab_model.specs.Names.{variable, variables}
 use Rattle.elab_model.specs.Nets.{OwnNet, bit_net, variable_nets, terminal_net, inner_net, is_unbound, unbound_nets, constant_net, constant_nets, member_nets, nets_of, number_of, nets}
 use Rattle.elab_model.specs.Ports.{port_list}
-use Rattle.elab_model.specs.Terms.{NetBit}
+use Rattle.elab_model.specs.Terms.{is_same_bit}
 use Rattle.vl_tree.specs.Tree.{Module, Expression, Source}
 
 -- the nets that one connection makes, and those of one bit
@@ -108,7 +108,8 @@ part-apart source s once (k, gate g d i) = let outputs = output_count g (length 
 part-apart source s once (k, path p) =
     let es = first_ends s.step.definition (k, path p) in
     pairwise-map Other (inner_net s) es
-    (pairwise-weaker AreOtherBits (λ b c. Other (inner_net s b) (inner_net s c)) es (λ b c e. and-false (s.step.number == s.step.number) (bytes_eq b.name c.name && b.position == c.position) e) (first_bits-apart _ (ends s.step.definition (path p))))
+    (pairwise-weaker AreOtherBits (λ b c. Other (inner_net s b) (inner_net s c)) es
+    (λ b c e. and-false (s.step.number == s.step.number) (is_same_bit b c) e) (first_bits-apart _ (ends s.step.definition (path p))))
 part-apart source s once (k, instance n d i) = by (definition_of source n.text)
   where
     by : (o : Option Part) → AreApart (instance_nets source s k i o)

@@ -1,11 +1,12 @@
 -- Where no name stands twice, no port is connected twice.
-use Rattle.std.specs.Prelude.{◌≡◌, ℕ, List, [], ◌∷◌, ◌++◌, Bool, true, false, ◌||◌, Option, Some, None, map, find, filter_map, zip, refl, cond, if◌then◌else◌, bytes_eq}
+use Rattle.std.specs.Prelude.{◌≡◌, ℕ, List, [], ◌∷◌, ◌++◌, Bool, true, false, Option, Some, None, map, find, filter_map, zip, refl, cond, if◌then◌else◌, bytes_eq}
 use Rattle.std.specs.List.{AllByRecursion, cons_option}
 use Rattle.std.specs.Option.{option_and_then}
 use Rattle.std.proofs.Common.{sym, ◌∙◌, ap, subst}
 use Rattle.std.proofs.lemmas.Slice.Eq.{bytes_eq-Decides}
 use Rattle.elab_laws.proofs.Lists.{all-weaker, Pairwise, pairwise-map_back}
 use Rattle.elab_laws.proofs.Apart.{bytes-either}
+use Rattle.elab_laws.proofs.Ends.{or-neither}
 use Rattle.elab_laws.proofs.PartsApart.{AreOnce}
 use Rattle.elab_model.specs.Connections.{in_order, connection_at, port_values, with_port}
 use Rattle.elab_model.specs.Faults.{places_again}
@@ -22,10 +23,6 @@ Differ a b = bytes_eq a.text b.text ≡ false
 pub record NoneTwice (seen : List (List ℕ)) (ns : List Named) : Type 0 where
   pub apart : Pairwise Differ ns
   pub new : AllByRecursion (λ n. is_among n.text seen ≡ false) ns
-
-or-neither : (a b : Bool) → (a || b) ≡ false → (a ≡ false) × (b ≡ false)
-or-neither true b h = cc
-or-neither false b h = (refl, h)
 
 append-empty : {A : Type 0} (xs ys : List A) → xs ++ ys ≡ [] → (xs ≡ []) × (ys ≡ [])
 append-empty [] ys h = (refl, h)

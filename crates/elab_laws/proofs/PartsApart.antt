@@ -6,6 +6,7 @@ use Rattle.std.proofs.lemmas.Bool.{eq-eqb, eqb-true}
 use Rattle.std.proofs.lemmas.Slice.Eq.{bytes_eq-Decides}
 use Rattle.elab_laws.proofs.Lists.{all-flat, all-flat_in, all-weaker, all-anyway, Pairwise, pairwise-flat, pairwise-map, pairwise-map_back, range-apart, enumerate-apart}
 use Rattle.elab_laws.proofs.Chains.{IsBelow, children-below}
+use Rattle.elab_laws.proofs.Ends.{and-both}
 use Rattle.elab_laws.proofs.Apart.{Other, AreApart, and-false, variables-apart}
 use Rattle.elab_model.specs.Bits.{Bit, net, constant, positions}
 use Rattle.elab_model.specs.Connections.{connection_at, port_values}
@@ -183,10 +184,6 @@ both-false a b e = rw e refl
 pub bound-tell : (s c : Instance) (a b : OwnNet) → IsUnbound s c a → IsBound s c b → Other a b
 bound-tell s c a b (n, (p, h, t)) (m, q, g, f) = by (bytes_eq n m && p == q) refl
   where
-    and-both : (x y : Bool) → (x && y) ≡ true → (x ≡ true) × (y ≡ true)
-    and-both true y h = (refl, h)
-    and-both false y h = cc
-
     by : (r : Bool) → (bytes_eq n m && p == q) ≡ r → Other a b
     by false e = outside-tell s c n m p q a b e h g
     by true e =

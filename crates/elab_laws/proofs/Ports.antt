@@ -21,11 +21,11 @@ use Rattle.elab_model.specs.Faults.{Fault, fault_if, texts_of, missing, duplicat
 use Rattle.elab_model.specs.NameFaults.{declared_ports, no_direction}
 use Rattle.elab_model.specs.TerminalFaults.{expression_faults, width_faults, constant_faults}
 use Rattle.elab_model.specs.ModuleFaults.{directed_faults, value_faults, port_faults, connection_faults}
-use Rattle.elab_laws.proofs.Lists.{In, in-left, in-map, all-in}
+use Rattle.elab_laws.proofs.Lists.{In, in-left, in-map, all-in, all-from}
 use Rattle.elab_laws.proofs.Places.{HasBit}
 use Rattle.elab_laws.proofs.Apart.{variables-apart}
 use Rattle.elab_laws.proofs.Once.{all-kept}
-use Rattle.elab_laws.proofs.NoFaults.{front, back, flat-empty, all-from}
+use Rattle.elab_laws.proofs.NoFaults.{front, back, flat-empty}
 use Rattle.elab_laws.proofs.Stated.{found-own}
 use Rattle.elab_laws.proofs.ElementWidths.{no-fault, width-is}
 

@@ -1,7 +1,6 @@
 -- What stands when paths are put in: the instances, the paths of their modules, and their rows. No public contract cites it.
-use Rattle.std.specs.Prelude.{◌≡◌, ℕ, ◌<◌, ◌≤◌, ◌^◌, List, [], ◌∷◌, Option, Some, length, slice_get}
+use Rattle.std.specs.Prelude.{◌≡◌, ℕ, ◌<◌, ◌≤◌, ◌^◌, List, Option, Some, slice_get, length}
 use Rattle.std.specs.Option.{option_and_then, option_map}
-use Rattle.sg_circuit.specs.declared.elements.ElementKind.TheVariants as kind
 use Rattle.sg_circuit.specs.declared.elements.LegTiming.{LegTiming}
 use Rattle.sg_delay.specs.declared.corners.Corner.{Corner}
 use Rattle.vl_tree.specs.Tree.{Module, Source}
@@ -13,11 +12,9 @@ use Rattle.elab_modules.specs.Reached.{IsLibrary}
 use Rattle.elab_modules.specs.declared.library.Library.{Library}
 use Rattle.elab_nets.specs.Rows.{HaveRows}
 use Rattle.elab_nets.specs.declared.rows.Rows.{Rows}
-use Rattle.elab_elements.specs.Puts.{Wired}
 use Rattle.elab_paths.specs.Ready.{HavePaths}
 use Rattle.elab_paths.specs.declared.modules.ModulePaths.{ModulePaths}
 use Rattle.elab_paths.specs.declared.shelving.ReadyOutput.{ReadyOutput}
-use Rattle.elab_paths.specs.declared.uses.PathUse.{PathUse}
 
 pub record AreStanding (source : Source) (top : Module) (corner : Corner) (library : Library) (modules : ModulePaths) (placed : List Placed) (rows : Rows) : Type 0 where
   pub are_placed : ArePlaced source placed (instances source top)
@@ -37,7 +34,3 @@ pub record IsStanding (source : Source) (top : Module) (corner : Corner) (librar
 -- the output bits of the module at a place
 abbrev pub outputs_at : ModulePaths → ℕ → Option (List ReadyOutput)
 outputs_at modules place = option_and_then (λ o. option_map (λ v. v.items) o) (slice_get modules.outputs.items place)
-
--- the element of a use, whose inner net has a number
-abbrev pub path_wired : ℕ × PathUse → Wired
-path_wired u = record { scope = u.1.scope; inputs = u.0 ∷ []; output = u.1.output; kind = kind.Path u.1.paths u.1.style }

@@ -1,5 +1,5 @@
 -- Path uses as they are added one after another. No public contract cites it.
-use Rattle.std.specs.Prelude.{◌≡◌, ℕ, ◌+◌, ◌<◌, ◌≤◌, ◌^◌, All, List, [], ◌∷◌, ◌++◌, Some, length, map, flat_map, slice_get}
+use Rattle.std.specs.Prelude.{◌≡◌, ℕ, ◌+◌, ◌<◌, ◌≤◌, All, List, [], ◌∷◌, ◌++◌, Some, length, map, flat_map, slice_get}
 use Rattle.std.specs.List.{AllByRecursion}
 use Rattle.cond_expr.specs.Condition.{Condition}
 use Rattle.cond_expr.specs.Token.{Tok}
@@ -8,19 +8,13 @@ use Rattle.sg_circuit.specs.PathsSeen.{paths_seen, spanned, IsIndexedPath, AreIn
 use Rattle.sg_circuit.specs.declared.elements.LegTiming.{LegTiming}
 use Rattle.sg_circuit.specs.declared.paths.Path.{Path}
 use Rattle.sg_text.specs.declared.places.Place.{Place}
-use Rattle.sg_text.specs.declared.refusals.Refused.{Refused}
-use Rattle.elab_model.specs.declared.kinds.ElabKind.{ElabKind}
-use Rattle.elab_model.specs.Faults.{RefusesOneOf}
 use Rattle.elab_model.specs.Names.{Variable}
 use Rattle.specify_model.specs.Conditions.{operand}
 use Rattle.specify_model.specs.Faults.{operand_faults}
 use Rattle.specify_model.specs.Paths.{circuit_path}
 use Rattle.elab_model.specs.Terms.{NetBit}
-use Rattle.circuit_model.specs.Faults.{over}
 use Rattle.circuit_model.specs.PathUses as def
 use Rattle.elab_laws.specs.Handing.{all_bits}
-use Rattle.elab_bits.specs.Seen.{bit_at}
-use Rattle.elab_nets.specs.Own.{net_at}
 use Rattle.specify_paths.specs.Seen.{IsRead}
 use Rattle.elab_paths.specs.Ready.{path_ready}
 use Rattle.elab_paths.specs.declared.shelving.ReadyCondition.{ReadyCondition}
@@ -68,14 +62,10 @@ pub record AddsPaths (conditions : List Condition) (vs : List Variable) (row : L
   pub indexed : (timings : ℕ) → AllByRecursion (λ p. p.timing < timings) ps → AllByRecursion (IsIndexedPath (length conditions) timings) added
 
 -- one output bit more of an instance
-pub record AddsUse (conditions : List Condition) (vs : List Variable) (row : List ℕ) (scope : ℕ) (o : ReadyOutput) (old new : PathUses) : Type 0 where
+pub record AddsUse (conditions : List Condition) (vs : List Variable) (row : List ℕ) (o : ReadyOutput) (old new : PathUses) : Type 0 where
   pub added : PathUse
   pub uses : new.uses.items ≡ old.uses.items ++ added ∷ []
-  pub inner : new.inner.items ≡ old.inner.items ++ net_at scope (bit_at vs o.output) ∷ []
   pub paths : AddsPaths conditions vs row o.paths.items old.paths.items new.paths.items
-  pub scope_is : added.scope ≡ scope
-  pub place_is : added.place ≡ o.place
-  pub output_is : slice_get row o.output ≡ Some added.output
   pub start_is : added.paths.start ≡ length old.paths.items
   pub end_is : added.paths.end ≡ length new.paths.items
   pub style_is : added.style ≡ o.style
@@ -85,27 +75,10 @@ abbrev pub AreBeside : List PathUse → Type 0
 AreBeside [] = Unit {0}
 AreBeside (u ∷ us) = AllByRecursion (λ v. u.paths.end ≤ v.paths.start) us × AreBeside us
 
--- the uses are these, with their inner nets and their paths
+-- the uses have these paths and styles
 pub record AreUses (conditions : List Condition) (timings : List LegTiming) (made : PathUses) (us : List def.PathUse) : Type 0 where
-  pub scopes : map (λ u. u.scope) made.uses.items ≡ map (λ u. u.scope) us
-  pub places : map (λ u. u.place) made.uses.items ≡ map (λ u. u.place) us
-  pub inner : made.inner.items ≡ map (λ u. u.inner) us
-  pub outputs : map (λ u. u.output) made.uses.items ≡ map (λ u. u.output) us
   pub paths : map (λ u. paths_seen conditions timings (spanned made.paths.items u.paths)) made.uses.items ≡ map (λ u. u.paths) us
   pub styles : map (λ u. u.style) made.uses.items ≡ map (λ u. u.style) us
   pub spans : AllByRecursion (λ u. AreIndexedPaths (length conditions) (length timings) made.paths.items u.paths) made.uses.items
   pub beside : AreBeside made.uses.items
   pub count : length made.paths.items ≡ length (flat_map (λ u. u.paths) us)
-
--- ---- how many there are
-
--- there aren't too many, where so many nets and elements stand before those of path uses
-pub record AreFew (nets elements : ℕ) (made : PathUses) : Type 0 where
-  pub nets_few : nets + length made.uses.items ≤ 2 ^ 22
-  pub elements_few : elements + length made.uses.items ≤ 2 ^ 22
-  pub paths_few : length made.paths.items ≤ 2 ^ 22
-
--- with so many more there are too many nets, elements or paths, or there was no memory
-abbrev pub RefusesUses : (nets elements uses paths : ℕ) → PathUses → Refused ElabKind → Type 0
-RefusesUses nets elements uses paths old r =
-    (n e p : ℕ) → nets + length old.uses.items + uses ≤ n → elements + length old.uses.items + uses ≤ e → length old.paths.items + paths ≤ p → RefusesOneOf (over n ++ (over e ++ over p)) r

@@ -1,4 +1,4 @@
-// How many nets, elements and paths there may be.
+// How many paths and timing checks there may be.
 ghost use Rattle.std.specs.Prelude.{ℕ, ◌+◌, ◌<◌, ◌^◌, OnOk, IfErr};
 ghost use Rattle.elab_numbering.specs.Refusals.{RefusesCount};
 

@@ -1,49 +1,41 @@
-// The path uses of instances: output bits to which paths lead, each with its inner net, its element and its paths over nets.
+// The path uses of instances: output bits to which paths lead, each with its paths over nets.
 ghost use Rattle.std.specs.Prelude.{◌≡◌, ◌<◌, ◌≤◌, ◌+◌, ◌^◌, ℕ, All, [], ◌∷◌, IfOk, OnOk, IfErr, length};
 ghost use Rattle.sg_circuit.specs.PathsSeen.{condition_seen, IsIndexedCondition};
 ghost use Rattle.specify_model.specs.Paths.{circuit_condition};
 ghost use Rattle.elab_model.specs.Terms.{NetBit};
 ghost use Rattle.elab_laws.specs.Handing.{all_bits};
-ghost use Rattle.elab_bits.specs.Seen.{bit_at};
 ghost use Rattle.elab_numbering.specs.Refusals.{RefusesCount};
-ghost use Rattle.elab_nets.specs.Own.{net_at};
 ghost use Rattle.elab_paths.specs.Ready.{condition_ready};
-ghost use Rattle.elab_paths.specs.Uses.{IsRow, IsBindable, IsUsablePath, IsUsable, AddsPaths, AddsUse, AreFew, RefusesUses};
+ghost use Rattle.elab_paths.specs.Uses.{IsRow, IsBindable, IsUsablePath, IsUsable, AddsPaths, AddsUse};
 
 use crate::limit::check_count;
 use crate::operands::Operands;
 use crate::shelving::{ReadyCondition, ReadyOutput, ReadyPath};
 use cond_expr::{BindFault, Expr};
-use elab_bits::index_at;
 use elab_model::ElabKind;
 use elab_variables::Table;
-use sg_circuit::{Driver, Net, NetId, Path, PathCondition, Span};
+use sg_circuit::{NetId, Path, PathCondition, Span};
 use sg_delay::PulseStyle;
-use sg_text::{NoMemory, Place, Refused, Text};
+use sg_text::{NoMemory, Refused};
 use std::alloc::Global;
 
-/// A path use: the instance that has it and the place of the first specify path that leads to it, the net to which the paths lead, the paths and their style.
+/// A path use: the paths to an output bit of an instance, and their style.
 #[derive(Clone, Copy, Debug, PartialEq)]
 pub struct PathUse {
-    pub scope: u32,
-    pub place: Place,
-    pub output: NetId,
     pub paths: Span,
     pub style: PulseStyle,
 }
 
-/// The path uses of all instances, in order, with the inner net of each, and the paths of all, those of one use side by side.
+/// Path uses in order, and the paths of all, those of one use side by side.
 #[derive(Drop)]
 pub struct PathUses {
     pub uses: Vec<PathUse>,
-    pub inner: Vec<Net>,
     pub paths: Vec<Path>,
 }
 
-/// An instance: its number, the variables of its module, and the nets of their bits.
+/// An instance: the variables of its module, and the nets of their bits.
 #[derive(Clone, Copy)]
 pub struct Here<'m, 'a> {
-    pub scope: u32,
     pub table: &'m Table<'a>,
     pub row: &'m [NetId],
 }
@@ -125,25 +117,9 @@ fn add_all_paths(
     })
 }
 
-// The inner net has the name of the output's bit.
-fn inner_net(alloc: Global, here: Here, output: usize) -> Result<Net, NoMemory>
-    requires { output < length (all_bits here.table.now) }
-    ensures { IfOk result (λ net. net ≡ net_at here.entry.scope (bit_at here.entry.table.now output)) }
-{
-    let (variable, position) = here.table.bit(output);
-    Ok(Net {
-        scope: here.scope,
-        name: Text::copy(alloc, here.table.name(variable))?,
-        bit: index_at(here.table.row(variable).range, position),
-        driver: Driver::Nobody,
-    })
-}
-
-/// Adds a path use of an instance, where `nets` nets and `elements` elements stand before those of path uses. Refuses more than 2^22 nets, elements or paths (TooMany).
+/// Adds a path use of an instance. Refuses more than 2^22 paths (TooMany).
 pub fn add_use(
     alloc: Global,
-    nets: usize,
-    elements: usize,
     here: Here,
     conditions: &[Expr],
     output: &ReadyOutput,
@@ -151,20 +127,13 @@ pub fn add_use(
 ) -> Result<(), Refused<ElabKind>>
     requires row { (net : NetBit → ℕ) × IsRow here.table.now here.row.now net }
     requires usable { IsUsable here.table.now conditions.now output.now }
-    requires few { AreFew nets elements uses.old }
-    ensures added { OnOk result (AddsUse conditions.now here.entry.table.now here.entry.row.now here.entry.scope output.now uses.old uses.new) }
-    ensures few { OnOk result (AreFew nets elements uses.new) }
-    ensures refused { IfErr result (RefusesUses nets elements 1 (length output.now.paths.items) uses.old) }
+    requires few { length uses.old.paths.items ≤ 2 ^ 22 }
+    ensures added { OnOk result (AddsUse conditions.now here.entry.table.now here.entry.row.now output.now uses.old uses.new) }
+    ensures few { OnOk result (length uses.new.paths.items ≤ 2 ^ 22) }
+    ensures refused { IfErr result (λ r. (total : ℕ) → length uses.old.paths.items + length output.now.paths.items ≤ total → RefusesCount total r) }
 {
-    check_count(nets + uses.uses.len())?;
-    check_count(elements + uses.uses.len())?;
     let paths = add_all_paths(alloc, here, conditions, &output.paths, &mut uses.paths)?;
-    let inner = inner_net(alloc, here, output.output)?;
-    uses.inner.push(inner)?;
     uses.uses.push(PathUse {
-        scope: here.scope,
-        place: output.place,
-        output: here.row[output.output],
         paths,
         style: output.style,
     })?;

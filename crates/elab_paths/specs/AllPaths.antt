@@ -1,5 +1,5 @@
 -- What stands before and after the paths of all instances have been put in.
-use Rattle.std.specs.Prelude.{◌≡◌, ℕ, ◌<◌, ◌≤◌, List, ◌++◌, length, map, slice_index_or}
+use Rattle.std.specs.Prelude.{◌≡◌, ℕ, ◌<◌, ◌≤◌, List, length, map, slice_index_or}
 use Rattle.std.specs.List.{AllByRecursion}
 use Rattle.cond_expr.specs.Condition.{Condition}
 use Rattle.sg_circuit.specs.Circuit.{Element, Kind, Gate, Udp, Pass, Leg, Path, Late}
@@ -15,12 +15,13 @@ use Rattle.sg_circuit.specs.declared.paths.Path as code_path
 use Rattle.sg_delay.specs.declared.corners.Corner.{Corner}
 use Rattle.sg_delay.specs.declared.gates.GateDelays.{GateDelays}
 use Rattle.vl_tree.specs.Tree.{Module, Source}
+use Rattle.elab_model.specs.Drivers.{elements as components}
 use Rattle.elab_model.specs.Elements.{leg_kind}
-use Rattle.elab_model.specs.Faults.{Fault}
 use Rattle.elab_model.specs.Hierarchy.{instances}
 use Rattle.elab_model.specs.HierarchyFaults.{count_limit}
-use Rattle.circuit_model.specs.Faults.{over, path_count}
-use Rattle.circuit_model.specs.WithPaths.{all_nets, all_elements}
+use Rattle.elab_model.specs.Nets.{nets, number_of}
+use Rattle.circuit_model.specs.Faults.{path_count}
+use Rattle.circuit_model.specs.PathUses.{circuit_elements}
 use Rattle.elab_hierarchy.specs.Placing.{ArePlaced}
 use Rattle.elab_hierarchy.specs.declared.instances.Placed.{Placed}
 use Rattle.elab_modules.specs.Reached.{IsLibrary}
@@ -30,7 +31,6 @@ use Rattle.elab_nets.specs.declared.rows.Rows.{Rows}
 use Rattle.elab_elements.specs.Seen.{AreElements}
 use Rattle.elab_elements.specs.declared.placing.Placing.{Placing}
 use Rattle.elab_paths.specs.Ready.{HavePaths}
-use Rattle.elab_paths.specs.declared.joining.Joined.{Joined}
 use Rattle.elab_paths.specs.declared.modules.ModulePaths.{ModulePaths}
 
 -- the instances, of which there aren't too many, the nets and the elements of a netlist, and the paths of its modules; Legs have no delay
@@ -52,13 +52,13 @@ pub record Tables : Type 0 where
   pub conditions : List Condition
   pub paths : List code_path.Path
 
-abbrev pub tables_of : Library → ModulePaths → Joined → Tables
-tables_of library modules joined = record {
+abbrev pub tables_of : Library → ModulePaths → List code_path.Path → Tables
+tables_of library modules paths = record {
   gate_delays = library.gate_delays.items;
   udps = library.udps.items;
   timings = modules.timings.items;
   conditions = modules.conditions.items;
-  paths = joined.paths.items;
+  paths = paths;
 }
 
 abbrev pub kind_with : Tables → ElementKind → Kind
@@ -80,24 +80,13 @@ NamesTables t (kind.Leg i) = i < length t.timings
 NamesTables t (kind.Path span style) = AreIndexedPaths (length t.conditions) (length t.timings) t.paths span
 NamesTables t (kind.Late d) = Unit {0}
 
--- the nets, and what the elements drive, with the paths; there aren't too many
-pub record HaveNumbers (source : Source) (top : Module) (corner : Corner) (rows : Rows) (joined : Joined) (made : Placing) : Type 0 where
-  pub nets : rows.nets.items ++ joined.inner.items ≡ all_nets source top corner
-  pub outputs : map (λ e. e.output) made.elements.items ≡ map (λ e. e.1.output) (all_elements source top corner)
-  pub places : made.places.items ≡ map (λ e. e.0) (all_elements source top corner)
-  pub few_nets : length (all_nets source top corner) ≤ count_limit
-  pub few_elements : length (all_elements source top corner) ≤ count_limit
-  pub few_paths : path_count source top corner ≤ count_limit
-
--- and the elements themselves, of which no two have a path in common
-pub record AreJoined (source : Source) (top : Module) (corner : Corner) (library : Library) (modules : ModulePaths) (rows : Rows) (joined : Joined) (made : Placing) : Type 0 where
-  pub numbers : HaveNumbers source top corner rows joined made
-  pub elements : map (element_with (tables_of library modules joined)) made.elements.items ≡ map (λ e. e.1) (all_elements source top corner)
-  pub named : AllByRecursion (λ e. NamesTables (tables_of library modules joined) e.kind) made.elements.items
+-- the elements with their paths, of which no two have one in common; what they drive and where they stand; there aren't too many
+pub record HaveAllPaths (source : Source) (top : Module) (corner : Corner) (library : Library) (modules : ModulePaths) (paths : List code_path.Path) (made : Placing) : Type 0 where
+  pub elements : map (element_with (tables_of library modules paths)) made.elements.items ≡ circuit_elements source top corner
+  pub outputs : map (λ e. e.output) made.elements.items ≡ map (λ c. number_of (nets source top) c.output) (components source top corner)
+  pub places : made.places.items ≡ map (λ c. c.place) (components source top corner)
+  pub named : AllByRecursion (λ e. NamesTables (tables_of library modules paths) e.kind) made.elements.items
   pub apart : (i j : ℕ) (d : code.Element) → i < j → j < length made.elements.items
       → AreApart (paths_of (slice_index_or made.elements.items i d).kind) (paths_of (slice_index_or made.elements.items j d).kind)
-
--- what is refused for its number
-abbrev pub counts_over : Source → Module → Corner → List Fault
-counts_over source top corner =
-    over (length (all_nets source top corner)) ++ (over (length (all_elements source top corner)) ++ over (path_count source top corner))
+  pub few_elements : length (components source top corner) ≤ count_limit
+  pub few_paths : path_count source top corner ≤ count_limit
