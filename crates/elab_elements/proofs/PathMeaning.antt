@@ -47,3 +47,32 @@ paths-mean delays udps all source s scope place vs row bits ends bs h below seen
         (means-one delays udps all scope place (number_of all (inner_spot s b) ∷ []) (net_in row i) (kind.Path (record { start = 0; end = 0 }) OnEvent) (path_at source s place b)
         (sym h.number) refl refl (number-is all source s vs row i h.numbers l.0) refl tt)
         (by is l.1)
+
+-- ---- those of a member among those of its module
+
+-- a part of a list of lists
+take-front : {B : Type 0} (xs ys : List B) → take (length xs) (xs ++ ys) ≡ xs
+take-front [] ys = refl
+take-front (x ∷ xs) ys = ap (λ zs. x ∷ zs) (take-front xs ys)
+
+drop-front : {B : Type 0} (xs ys : List B) → drop (length xs) (xs ++ ys) ≡ ys
+drop-front [] ys = refl
+drop-front (x ∷ xs) ys = drop-front xs ys
+
+pub part-is : {B : Type 0} (whole before own after : List B) (start end : ℕ) → whole ≡ before ++ (own ++ after) → start ≡ length before → end ≡ length before + length own
+    → (take (end - start) (drop start whole) ≡ own) × (end ≤ length whole)
+part-is whole before own after start end w a b =
+    let n : end - start ≡ length own = omega (arith, a, b) in
+    let c = length-append before (own ++ after) in
+    let d = length-append own after in
+    (
+      (λ i. take (n i) (drop (a i) (w i))) ∙ ap (take (length own)) (drop-front before (own ++ after)) ∙ take-front own after,
+      subst (λ ws. end ≤ length ws) (sym w) (omega (arith, b, c, d)),
+    )
+
+-- the bits of a member stand between those before it and those behind it
+pub record StandBetween (m : Module) (k : ℕ) (x : Member) (start end : ℕ) : Type 0 where
+  pub after : List NetBit
+  pub whole : path_ends m ≡ flat_map (first_ends m) (take k (enumerate_from 0 (members m))) ++ (first_ends m (k, x) ++ after)
+  pub starts : start ≡ ends_before m k
+  pub ends : end ≡ ends_before m k + length (first_ends m (k, x))
