@@ -15,7 +15,7 @@ use Rattle.specify_model.specs.Conditions.{over}
 use Rattle.elab_model.specs.Terms.{NetBit}
 use Rattle.circuit_model.specs.CheckUses.{event_of_use, event_use}
 use Rattle.elab_laws.specs.Handing.{all_bits}
-use Rattle.specify_paths.specs.Seen.{bit_seen}
+use Rattle.elab_ends.specs.Seen.{bit_seen}
 use Rattle.specify_checks.specs.Seen.{enabling_seen}
 use Rattle.elab_paths.specs.Operands.{net_named}
 use Rattle.elab_paths.specs.Uses.{IsRow, IsSound}

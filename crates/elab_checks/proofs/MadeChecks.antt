@@ -22,7 +22,7 @@ use Rattle.elab_model.specs.Terms.{NetBit}
 use Rattle.circuit_model.specs.CheckUses.{EventUse, check_of_use, check_use, event_of_use, event_use, timing_of_use, two_limits, written_of, written_of_use}
 use Rattle.elab_laws.specs.Handing.{all_bits}
 use Rattle.specify_values.specs.Seen.{is_too_long}
-use Rattle.specify_paths.specs.Seen.{bit_seen}
+use Rattle.elab_ends.specs.Seen.{bit_seen}
 use Rattle.specify_checks.specs.Seen.{enabling_seen}
 use Rattle.elab_paths.specs.Uses.{IsRow}
 use Rattle.elab_paths.proofs.AddedPaths.{net-in-row}

@@ -5,7 +5,7 @@ use Rattle.std.proofs.Common.{sym, ◌∙◌, ap, arith, subst, length-append}
 use Rattle.cond_expr.specs.Condition.{Condition}
 use Rattle.elab_laws.specs.Handing.{all_bits}
 use Rattle.elab_model.specs.Names.{Variable}
-use Rattle.specify_paths.specs.Seen.{bit_seen}
+use Rattle.elab_ends.specs.Seen.{bit_seen}
 use Rattle.specify_checks.specs.Seen.{check_seen, enabling_seen, event_seen, IsFitting, IsSpelledCheck, IsSpelledEvent}
 use Rattle.specify_checks.specs.declared.checks.ModuleCheck.{ModuleCheck}
 use Rattle.specify_checks.specs.declared.events.ModuleEvent.{ModuleEvent}

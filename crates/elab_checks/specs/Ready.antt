@@ -16,7 +16,8 @@ use Rattle.circuit_model.specs.Faults.{check_faults}
 use Rattle.elab_laws.specs.Handing.{all_bits}
 use Rattle.elab_hierarchy.specs.Tops.{StandsAt}
 use Rattle.specify_values.specs.Seen.{is_too_long}
-use Rattle.specify_paths.specs.Seen.{bit_seen, IsRead}
+use Rattle.elab_ends.specs.Seen.{bit_seen}
+use Rattle.specify_paths.specs.Seen.{IsRead}
 use Rattle.specify_checks.specs.Seen.{enabling_seen}
 use Rattle.elab_checks.specs.declared.modules.ReadyChecks.{ReadyChecks}
 use Rattle.elab_checks.specs.declared.shelving.ReadyCheck.{ReadyCheck}

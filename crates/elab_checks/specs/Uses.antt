@@ -13,7 +13,7 @@ use Rattle.elab_model.specs.Names.{Variable}
 use Rattle.elab_laws.specs.Handing.{all_bits}
 use Rattle.specify_model.specs.Conditions.{over}
 use Rattle.elab_model.specs.Terms.{NetBit}
-use Rattle.specify_paths.specs.Seen.{bit_seen}
+use Rattle.elab_ends.specs.Seen.{bit_seen}
 use Rattle.circuit_model.specs.CheckUses.{CheckUse, check_use, check_of_use, timing_of_use, written_of_use}
 use Rattle.elab_paths.specs.Uses.{IsRow, IsSound}
 use Rattle.elab_checks.specs.Ready.{check_ready, enabling_at, IsReadyCheck}

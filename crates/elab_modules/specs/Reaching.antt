@@ -11,7 +11,7 @@ use Rattle.elab_model.specs.declared.kinds.ElabKind.{ElabKind}
 use Rattle.elab_model.specs.Definitions.{primitive_of}
 use Rattle.elab_model.specs.PrimitiveFaults.{member_primitive}
 use Rattle.elab_model.specs.Faults.{fault}
-use Rattle.elab_model.specs.Members.{Member, assignment, supply, gate, instance, members}
+use Rattle.elab_model.specs.Members.{Member, assignment, supply, gate, instance, path, members}
 use Rattle.elab_model.specs.ModuleFaults.{module_faults}
 use Rattle.elab_laws.specs.Words.{In}
 use Rattle.elab_variables.specs.Seen.{view_member}
@@ -47,6 +47,7 @@ IsUdpReady source parts (assignment j) = Unit {0}
 IsUdpReady source parts (supply n v) = Unit {0}
 IsUdpReady source parts (gate g d i) = Unit {0}
 IsUdpReady source parts (instance n d i) = IsNameReady source parts n.text
+IsUdpReady source parts (path p) = Unit {0}
 
 -- a stock to which the primitives of some members were added
 pub record Stocked (source : Source) (before after : List (Option code_ready.Ready)) (udps : List UdpUse) (ms : List Member) : Type 0 where

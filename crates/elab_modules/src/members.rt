@@ -46,6 +46,7 @@ fn check_member(
         Member::Declared { name, value } => check_declared(table, *name, value, bits),
         Member::Assignment(join) => check_sides(table, join.place, &join.left, &join.right, bits),
         Member::Supply { .. } => Ok(()),
+        Member::Path(_) => Ok(()),
         Member::Gate { kind, instance, .. } => check_gate(table, *kind, instance, bits),
         Member::Instance {
             definition,
@@ -84,6 +85,7 @@ fn add_member(
         Member::Declared { .. } => Ok(add_entry(none, gate_delays)?),
         Member::Assignment(_) => Ok(add_entry(none, gate_delays)?),
         Member::Supply { .. } => Ok(add_entry(none, gate_delays)?),
+        Member::Path(_) => Ok(add_entry(none, gate_delays)?),
         Member::Gate { kind, delay, .. } => {
             let most = kind.most_delays();
             add_delays(most, corner, tick, scale, delay, gate_delays)

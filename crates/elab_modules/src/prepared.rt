@@ -6,6 +6,7 @@ ghost use Rattle.elab_model.specs.NameFaults.{declaration_faults};
 ghost use Rattle.elab_modules.specs.Ready.{IsPrepared};
 
 use elab_declared::port_list;
+use elab_ends::{PathEnds, path_ends};
 use elab_model::ElabKind;
 use elab_names::check_declarations;
 use elab_variables::{Member, Table, members};
@@ -13,13 +14,15 @@ use sg_text::Refused;
 use std::alloc::Global;
 use vl_tree::{Module, Name};
 
-/// A module, with what its instances need of it: the list of its ports, its members in a row, and the table of its variables.
+/// A module, with what its instances need of it: the list of its ports, its members in a row, the table of its variables, and the output bits to
+/// which its specify paths lead.
 #[derive(Drop)]
 pub struct Prepared<'t, 'a> {
     pub definition: &'t Module<'a>,
     pub ports: Vec<Name<'a>>,
     pub members: Vec<Member<'t, 'a>>,
     pub table: Table<'a>,
+    pub ends: PathEnds,
 }
 
 /// A module made ready, or one of the faults of its declarations. Takes memory in proportion to the module.
@@ -34,10 +37,12 @@ pub fn prepare<'t, 'a>(
     let table = Table::of(alloc, definition)?;
     let ports = port_list(alloc, definition)?;
     let members = members(alloc, definition)?;
+    let ends = path_ends(alloc, &table, &members)?;
     Ok(Prepared {
         definition,
         ports,
         members,
         table,
+        ends,
     })
 }

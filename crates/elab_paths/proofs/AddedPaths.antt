@@ -24,7 +24,7 @@ use Rattle.elab_bits.proofs.InRow.{blank}
 use Rattle.elab_bits.specs.Seen.{bit_at}
 use Rattle.elab_numbering.specs.Refusals.{RefusesCount}
 use Rattle.elab_nets.specs.Own.{net_at}
-use Rattle.specify_paths.specs.Seen.{bit_seen}
+use Rattle.elab_ends.specs.Seen.{bit_seen}
 use Rattle.elab_paths.specs.Ready.{condition_ready, path_ready}
 use Rattle.elab_paths.specs.Uses.{IsRow, AddsPaths, AddsUse}
 use Rattle.elab_paths.specs.declared.shelving.ReadyOutput.{ReadyOutput}

@@ -11,7 +11,8 @@ use Rattle.sg_delay.specs.declared.limits.Limit.{Limit}
 use Rattle.elab_model.specs.Names.{Variable}
 use Rattle.elab_laws.specs.Handing.{all_bits}
 use Rattle.specify_model.specs.Paths.{timings_with}
-use Rattle.specify_paths.specs.Seen.{bit_seen, said_by, outputs_seen, output_seen, path_seen, IsInRow}
+use Rattle.elab_ends.specs.Seen.{bit_seen}
+use Rattle.specify_paths.specs.Seen.{said_by, outputs_seen, output_seen, path_seen, IsInRow}
 use Rattle.specify_paths.specs.Spelled.{IsSpelled}
 use Rattle.specify_paths.specs.declared.grouping.PathOutput as code_output
 use Rattle.specify_paths.specs.declared.outputs.PathOutputs.{PathOutputs}

@@ -27,7 +27,7 @@ use Rattle.elab_nets.specs.Own.{net_at}
 use Rattle.elab_nets.proofs.BitPlaces.{known-at}
 use Rattle.elab_nets.proofs.RowParts.{part-grown, part-behind}
 use Rattle.elab_elements.specs.Adding.{IsHere}
-use Rattle.specify_paths.specs.Seen.{bit_seen}
+use Rattle.elab_ends.specs.Seen.{bit_seen}
 use Rattle.elab_paths.specs.Ready.{path_ready, output_ready, IsReadyPath, IsReadyOutput}
 use Rattle.elab_paths.specs.Uses.{IsRow, AddsUse, AreBeside, AreUses}
 use Rattle.elab_paths.specs.declared.shelving.ReadyOutput.{ReadyOutput}

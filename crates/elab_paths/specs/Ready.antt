@@ -16,7 +16,8 @@ use Rattle.specify_model.specs.Paths.{ModulePath}
 use Rattle.circuit_model.specs.Faults.{path_faults}
 use Rattle.elab_laws.specs.Handing.{all_bits}
 use Rattle.elab_hierarchy.specs.Tops.{StandsAt}
-use Rattle.specify_paths.specs.Seen.{bit_seen, IsRead}
+use Rattle.elab_ends.specs.Seen.{bit_seen}
+use Rattle.specify_paths.specs.Seen.{IsRead}
 use Rattle.elab_paths.specs.declared.modules.ModulePaths.{ModulePaths}
 use Rattle.elab_paths.specs.declared.shelving.ReadyCondition.{ReadyCondition}
 use Rattle.elab_paths.specs.declared.shelving.ReadyCondition.TheVariants as ready

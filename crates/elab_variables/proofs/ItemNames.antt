@@ -22,8 +22,8 @@ use Rattle.vl_tree.specs.declared.names.Name as code_name
 use Rattle.vl_tree.specs.declared.names.NetType.{NetType}
 use Rattle.vl_tree.specs.declared.names.Range.{Range}
 use Rattle.vl_tree.specs.Seen.{view_name, view_expression, view_delay, view_net_name, view_join, view_gate_instance, view_instance, view_item, view_module}
-use Rattle.vl_tree.specs.Tree.{Named, Expression, NetName, Join}
-use Rattle.elab_model.specs.Members.{assignment, supply, gate, instance, assignment_to, connection_values, members_of_item}
+use Rattle.vl_tree.specs.Tree.{Named, Expression, NetName, Join, SpecifyItem, specparams, a_path, pulse_style, a_check}
+use Rattle.elab_model.specs.Members.{assignment, supply, gate, instance, assignment_to, connection_values, member_of_item, members_of_item}
 use Rattle.elab_model.specs.Names.{variable_names, whole_names}
 use Rattle.elab_model.specs.Ports.{port_list, net_declarations}
 use Rattle.elab_declared.specs.declared.nets.NetDeclaration as code_declaration
@@ -61,6 +61,14 @@ unnamed known x v is e = as-item known known x v [] is e (with-none known)
 pub supplies-unnamed : (v : Value) (ns : List Named) → flat_map names_of_member (map (λ n. supply n v) ns) ≡ []
 supplies-unnamed v [] = refl
 supplies-unnamed v (n ∷ ns) = supplies-unnamed v ns
+
+-- paths name terms, which declare nothing
+pub paths-unnamed : (is : List SpecifyItem) → flat_map names_of_member (filter_map member_of_item is) ≡ []
+paths-unnamed [] = refl
+paths-unnamed (specparams p ps ∷ is) = paths-unnamed is
+paths-unnamed (a_path p ∷ is) = paths-unnamed is
+paths-unnamed (pulse_style p s ts ∷ is) = paths-unnamed is
+paths-unnamed (a_check c ∷ is) = paths-unnamed is
 
 pub nets-named : (known after : List (List ℕ)) (x : code_item.Item) (p : Place) (t : NetType) (r : Option Range) (ns : Vec code_net.NetName Global) → x ≡ item.Nets p t r ns
     → (now : List code_net.NetName) → now ≡ ns.items

@@ -1,7 +1,7 @@
 // The members of a module in a row.
 ghost use Rattle.std.specs.Prelude.{◌≡◌, ◌++◌, IfOk, OnOk, map, filter_map, option_to_list};
 ghost use Rattle.std.specs.Option.{option_map};
-ghost use Rattle.vl_tree.specs.Seen.{view_name, view_net_name, view_join, view_delay, view_gate_instance, view_instance, view_item, view_module};
+ghost use Rattle.vl_tree.specs.Seen.{view_name, view_net_name, view_join, view_delay, view_gate_instance, view_instance, view_path, view_specify_item, view_item, view_module};
 ghost use Rattle.elab_model.specs.Members as def;
 ghost use Rattle.elab_variables.specs.Seen.{view_member};
 
@@ -9,7 +9,8 @@ use sg_logic::{GateKind, Value};
 use sg_text::NoMemory;
 use std::alloc::Global;
 use vl_tree::{
-    Delay, Expression, GateInstance, Instance, Item, Join, Module, Name, NetName, Supply,
+    Delay, Expression, GateInstance, Instance, Item, Join, Module, Name, NetName, SpecifyItem,
+    SpecifyPath, Supply,
 };
 
 /// A member of a module: what makes elements, or holds an instance.
@@ -39,6 +40,8 @@ pub enum Member<'t, 'a> {
         delay: &'t Option<Delay>,
         instance: &'t Instance<'a>,
     },
+    /// A specify path (IEEE 1364-2005, 14.2).
+    Path(&'t SpecifyPath<'a>),
 }
 
 /// The members of a module, in text order. Takes memory.
@@ -75,7 +78,7 @@ fn add_item<'t, 'a>(item: &'t Item<'a>, list: &mut Vec<Member<'t, 'a>>) -> Resul
         } => add_instances(*module, delay, instances, list),
         Item::Ports { .. } => Ok(()),
         Item::Registers { .. } => Ok(()),
-        Item::Specify(_) => Ok(()),
+        Item::Specify(block) => add_paths(&block.items, list),
     }
 }
 
@@ -169,6 +172,30 @@ fn add_instances<'t, 'a>(
             delay,
             instance,
         })?;
+    }
+    Ok(())
+}
+
+fn add_paths<'t, 'a>(
+    items: &'t [SpecifyItem<'a>],
+    list: &mut Vec<Member<'t, 'a>>,
+) -> Result<(), NoMemory>
+    ensures { OnOk result (map view_member list.new.items ≡ map view_member list.old.items ++ filter_map def.member_of_item (map view_specify_item items.now)) }
+{
+    for item in items {
+        add_path(item, list)?;
+    }
+    Ok(())
+}
+
+fn add_path<'t, 'a>(
+    item: &'t SpecifyItem<'a>,
+    list: &mut Vec<Member<'t, 'a>>,
+) -> Result<(), NoMemory>
+    ensures { OnOk result (map view_member list.new.items ≡ map view_member list.old.items ++ option_to_list (def.member_of_item (view_specify_item item.now))) }
+{
+    if let SpecifyItem::Path(path) = item {
+        list.push(Member::Path(path))?;
     }
     Ok(())
 }

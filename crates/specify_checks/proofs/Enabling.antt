@@ -18,7 +18,8 @@ use Rattle.specify_model.specs.Conditions.{over, operand_bit, bound_to, first_bi
 use Rattle.specify_model.specs.Faults.{condition_faults}
 use Rattle.specify_model.specs.Paths.{edge_of}
 use Rattle.elab_model.specs.Terms.{term_bits}
-use Rattle.specify_paths.specs.Seen.{bit_seen, IsRead}
+use Rattle.elab_ends.specs.Seen.{bit_seen}
+use Rattle.specify_paths.specs.Seen.{IsRead}
 use Rattle.specify_checks.specs.Seen.{enabling_seen, event_seen}
 use Rattle.specify_checks.specs.declared.events.ModuleEvent.{ModuleEvent}
 

@@ -13,7 +13,7 @@ use Rattle.elab_declared.proofs.Refusals.{refused-left, refused-right}
 use Rattle.specify_model.specs.CheckFaults.{wants_edge, edge_faults, event_faults, some_event_faults, limit_faults, threshold_faults, notifier_faults, delayed_faults, signal_faults, check_faults}
 use Rattle.specify_model.specs.Checks.{kind_of, reference_of, data_of, limits_in, threshold_of, notifier_of, delayed_reference_of, event_of, limit_ticks, threshold_ticks, reg_bit, module_check}
 use Rattle.specify_model.specs.Values.{Measure, Values}
-use Rattle.specify_paths.specs.Seen.{bit_seen}
+use Rattle.elab_ends.specs.Seen.{bit_seen}
 use Rattle.specify_checks.specs.Parts.{ArePartsOf}
 use Rattle.specify_checks.specs.Seen.{check_seen, event_seen}
 use Rattle.specify_checks.specs.declared.checks.ModuleCheck.{ModuleCheck}

@@ -16,7 +16,7 @@ use Rattle.elab_model.specs.Names.{Variable}
 use Rattle.specify_model.specs.Conditions.{first_bit}
 use Rattle.specify_model.specs.Faults.{term_faults, operand_faults}
 use Rattle.elab_model.specs.Terms.{net_bit, expression_of, term_bits}
-use Rattle.specify_paths.specs.Seen.{bit_seen, bits_seen, AreInRow}
+use Rattle.elab_ends.specs.Seen.{bit_seen, bits_seen, AreInRow}
 use Rattle.specify_values.proofs.Signed.{if-none}
 use Rattle.specify_paths.proofs.InOrder.{none-left, none-right}
 

@@ -16,7 +16,7 @@ use Rattle.elab_model.specs.Names.{Variable}
 use Rattle.elab_variables.specs.Seen.{variable_at, place_named}
 use Rattle.specify_model.specs.CheckFaults.{found_notifier_faults}
 use Rattle.specify_model.specs.Checks.{reg_bit}
-use Rattle.specify_paths.specs.Seen.{bit_seen}
+use Rattle.elab_ends.specs.Seen.{bit_seen}
 use Rattle.specify_values.proofs.InTurn.{fault-told}
 
 has-bit : (r : Option Range) → 0 < width_of r

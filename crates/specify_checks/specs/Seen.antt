@@ -9,7 +9,8 @@ use Rattle.elab_model.specs.Names.{Variable}
 use Rattle.specify_model.specs.Checks.{ModuleEvent, ModuleCheck}
 use Rattle.specify_model.specs.Conditions.{over, operand_bit}
 use Rattle.elab_model.specs.Terms.{NetBit}
-use Rattle.specify_paths.specs.Seen.{bit_seen, IsRead}
+use Rattle.elab_ends.specs.Seen.{bit_seen}
+use Rattle.specify_paths.specs.Seen.{IsRead}
 use Rattle.specify_values.specs.Seen.{is_too_long}
 use Rattle.specify_checks.specs.declared.checks.ModuleCheck as code_check
 use Rattle.specify_checks.specs.declared.events.ModuleEvent as code_event

@@ -8,16 +8,18 @@ ghost use Rattle.specify_model.specs.Checks as def;
 ghost use Rattle.specify_model.specs.Conditions.{first_bit, tokens};
 ghost use Rattle.specify_model.specs.Faults.{operand_faults};
 ghost use Rattle.elab_model.specs.Terms.{term_bits};
-ghost use Rattle.specify_paths.specs.Seen.{bit_seen, IsRead};
+ghost use Rattle.elab_ends.specs.Seen.{bit_seen};
+ghost use Rattle.specify_paths.specs.Seen.{IsRead};
 ghost use Rattle.specify_values.specs.Telling.{Tells};
 ghost use Rattle.specify_checks.specs.Seen.{enabling_seen, event_seen, IsSpelledEvent};
 
 use cond_expr::Expr;
+use elab_ends::terms_bits;
 use elab_model::ElabKind;
 use elab_variables::Table;
 use sg_logic::Edge;
 use sg_text::Refused;
-use specify_paths::{check_operand, condition_of, option_edge, terms_bits};
+use specify_paths::{check_operand, condition_of, option_edge};
 use std::alloc::Global;
 use vl_tree::{Event, Select, Term};
 

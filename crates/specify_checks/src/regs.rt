@@ -6,7 +6,7 @@ ghost use Rattle.elab_laws.specs.Handing.{all_bits};
 ghost use Rattle.elab_model.specs.Bits.{variable_named};
 ghost use Rattle.specify_model.specs.CheckFaults as faults;
 ghost use Rattle.specify_model.specs.Checks.{reg_bit};
-ghost use Rattle.specify_paths.specs.Seen.{bit_seen};
+ghost use Rattle.elab_ends.specs.Seen.{bit_seen};
 ghost use Rattle.specify_values.specs.Telling.{Tells};
 
 use elab_model::ElabKind;

@@ -17,7 +17,8 @@ use Rattle.specify_model.specs.PulseLimits.{Limits}
 use Rattle.elab_model.specs.Terms.{NetBit, pairs, terms_bits}
 use Rattle.specify_model.specs.Values.{Measure, Values}
 use Rattle.specify_values.specs.Seen.{view_paths, widths_seen}
-use Rattle.specify_paths.specs.Seen.{Said, bit_seen, path_to_seen, path_said, said_at, said_by, said_of}
+use Rattle.elab_ends.specs.Seen.{bit_seen}
+use Rattle.specify_paths.specs.Seen.{Said, path_to_seen, path_said, said_at, said_by, said_of}
 use Rattle.specify_paths.specs.declared.statements.Statement as code_statement
 use Rattle.specify_paths.proofs.Added.{at-view, flat-taken, map-taken}
 

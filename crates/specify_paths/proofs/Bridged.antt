@@ -8,7 +8,8 @@ use Rattle.sg_delay.specs.declared.limits.PulseStyle.{PulseStyle}
 use Rattle.specify_model.specs.Blocks.{StyleText}
 use Rattle.specify_model.specs.Outputs.{PathOutput, output_of, first_paths, paths_to, style_of}
 use Rattle.elab_model.specs.Terms.{is_same_bit}
-use Rattle.specify_paths.specs.Seen.{AreApart, Said, bit_seen, bits_seen, path_seen, path_to_seen}
+use Rattle.elab_ends.specs.Seen.{AreApart, bit_seen, bits_seen}
+use Rattle.specify_paths.specs.Seen.{Said, path_seen, path_to_seen}
 use Rattle.specify_paths.specs.Words.{Output, first_to_each, paths_at, output_at, grouped}
 use Rattle.specify_paths.specs.declared.pairs.PathTo.{PathTo}
 

@@ -15,7 +15,7 @@ use Rattle.specify_model.specs.Outputs.{names_bit, style_of, chosen_style}
 use Rattle.elab_model.specs.Terms.{NetBit, is_same_bit, terms_bits}
 use Rattle.specify_values.specs.Seen.{view_style}
 use Rattle.specify_values.specs.declared.items.StyleText as code
-use Rattle.specify_paths.specs.Seen.{AreApart, AreInRow, bit_seen, bits_seen}
+use Rattle.elab_ends.specs.Seen.{AreApart, AreInRow, bit_seen, bits_seen}
 use Rattle.specify_paths.specs.Words.{with_style}
 
 -- ---- one bit more in a table

@@ -15,7 +15,8 @@ use Rattle.specify_model.specs.PulseLimits.{Limits}
 use Rattle.elab_model.specs.Terms.{pairs}
 use Rattle.specify_model.specs.Values.{Measure, Values}
 use Rattle.specify_values.proofs.InTurn.{left_from, next-faultless, this-refused}
-use Rattle.specify_paths.specs.Seen.{AreEnds, ArePathsInRow, bits_seen, path_to_seen, path_said, said_at, said_by, said_of}
+use Rattle.elab_ends.specs.Seen.{bits_seen}
+use Rattle.specify_paths.specs.Seen.{AreEnds, ArePathsInRow, path_to_seen, path_said, said_at, said_by, said_of}
 use Rattle.specify_paths.specs.Spelled.{IsSpelled}
 use Rattle.specify_paths.specs.declared.ends.Ends.{Ends}
 use Rattle.specify_paths.specs.declared.pairs.PathTo.{PathTo}

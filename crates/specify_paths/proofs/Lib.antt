@@ -1,6 +1,5 @@
 -- The modules of this folder.
-pub mod RowBits
-pub mod TermBits
+pub mod AsTold
 pub mod FirstFault
 pub mod SuchPorts
 pub mod Grouped

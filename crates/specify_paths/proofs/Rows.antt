@@ -6,7 +6,8 @@ use Rattle.std.proofs.lemmas.List.Elements.{All-from_recursion, All-push, recurs
 use Rattle.elab_laws.specs.Handing.{all_bits}
 use Rattle.elab_model.specs.Names.{Variable}
 use Rattle.sg_delay.specs.declared.limits.PulseStyle.{PulseStyle}
-use Rattle.specify_paths.specs.Seen.{AreInRow, ArePathsInRow, IsInRow, IsPathInRow}
+use Rattle.elab_ends.specs.Seen.{AreInRow}
+use Rattle.specify_paths.specs.Seen.{ArePathsInRow, IsInRow, IsPathInRow}
 use Rattle.specify_paths.specs.Words.{Output, first_to_each, grouped, output_at, output_kept, paths_at}
 use Rattle.specify_paths.specs.declared.grouping.PathOutput as code_output
 use Rattle.specify_paths.specs.declared.pairs.ModulePath.{ModulePath}

@@ -21,7 +21,7 @@ use Rattle.elab_declared.proofs.Refusals.{refused-left, refused-right}
 use Rattle.specify_model.specs.Faults.{term_faults, port_faults, are_sound, is_parallel, sides_differ, end_faults, side_faults}
 use Rattle.elab_model.specs.Terms.{terms_bits}
 use Rattle.specify_values.proofs.InTurn.{fault-told}
-use Rattle.specify_paths.specs.Seen.{bit_seen, bits_seen}
+use Rattle.elab_ends.specs.Seen.{bit_seen, bits_seen}
 use Rattle.specify_paths.proofs.InOrder.{none-left, none-right}
 
 sound : (such : Port → Bool) (vs : List Variable) (ts : List Term) → flat_map (port_faults such vs) ts ≡ [] → are_sound vs ts ≡ true

@@ -12,7 +12,8 @@ use Rattle.specify_model.specs.Outputs.{output_of, first_paths, outputs_by, styl
 use Rattle.specify_model.specs.Paths.{paths_of}
 use Rattle.specify_model.specs.PulseLimits.{Limits, limits_of}
 use Rattle.specify_model.specs.Values.{Measure, Values, value_of}
-use Rattle.specify_paths.specs.Seen.{AreApart, ArePathsInRow, IsPathInRow, Said, bit_seen, path_to_seen, output_seen}
+use Rattle.elab_ends.specs.Seen.{AreApart, bit_seen}
+use Rattle.specify_paths.specs.Seen.{ArePathsInRow, IsPathInRow, Said, path_to_seen, output_seen}
 use Rattle.specify_paths.specs.Words.{grouped, output_kept}
 use Rattle.specify_paths.specs.declared.grouping.PathOutput as code_output
 use Rattle.specify_paths.specs.declared.pairs.PathTo.{PathTo}

@@ -1,9 +1,9 @@
 -- The code's paths, as the definitions see them.
-use Rattle.std.specs.Prelude.{◌≡◌, ℕ, ◌<◌, ◌==◌, All, List, [], Option, None, Ok, map, length, slice_index_or}
+use Rattle.std.specs.Prelude.{◌≡◌, ℕ, ◌<◌, All, List, [], Option, None, Ok, map, length, slice_index_or}
 use Rattle.std.specs.Option.{option_map}
 use Rattle.cond_expr.specs.Condition.{Condition}
 use Rattle.cond_expr.specs.Token.{Tok}
-use Rattle.elab_bits.specs.Seen.{bit_at}
+use Rattle.elab_ends.specs.Seen.{bit_seen, bits_seen, AreInRow}
 use Rattle.elab_laws.specs.Handing.{all_bits}
 use Rattle.elab_model.specs.Names.{Variable}
 use Rattle.sg_logic.specs.declared.edges.Edge.{Edge}
@@ -13,7 +13,7 @@ use Rattle.specify_model.specs.Conditions.{ModuleCondition, Always, If, IfNone, 
 use Rattle.specify_model.specs.Outputs.{PathOutput}
 use Rattle.specify_model.specs.Paths.{ModulePath, PathTo, edge_of, timings_with}
 use Rattle.specify_model.specs.PulseLimits.{Limits}
-use Rattle.elab_model.specs.Terms.{NetBit, is_same_bit, terms_bits}
+use Rattle.elab_model.specs.Terms.{NetBit, terms_bits}
 use Rattle.specify_model.specs.Values.{Measure, Values, twelve_delays}
 use Rattle.specify_values.specs.Seen.{widths_seen}
 use Rattle.specify_paths.specs.declared.ends.Ends.{Ends}
@@ -25,17 +25,7 @@ use Rattle.specify_paths.specs.declared.statements.ModuleCondition as code_condi
 use Rattle.specify_paths.specs.declared.statements.ModuleCondition.TheVariants as code
 use Rattle.specify_paths.specs.declared.statements.Statement as code_statement
 
--- ---- bits
-
--- the bit at a place of the row of bits
-abbrev pub bit_seen : List Variable → ℕ → NetBit
-bit_seen vs i = record { name = (bit_at vs i).0.name; position = (bit_at vs i).1 }
-
-abbrev pub bits_seen : List Variable → List ℕ → List NetBit
-bits_seen vs is = map (bit_seen vs) is
-
-abbrev pub AreInRow : List Variable → List ℕ → Type 0
-AreInRow vs is = All (λ i. i < length (all_bits vs)) is
+-- ---- the sides of a path
 
 pub record AreEnds (vs : List Variable) (p : SpecifyPath) (e : Ends) : Type 0 where
   pub inputs_are : bits_seen vs e.inputs.items ≡ terms_bits vs p.sources
@@ -109,7 +99,3 @@ pub record IsPathInRow (vs : List Variable) (statements : ℕ) (p : code_to.Path
 
 abbrev pub ArePathsInRow : List Variable → ℕ → List code_to.PathTo → Type 0
 ArePathsInRow vs statements ps = All (IsPathInRow vs statements) ps
-
--- different places of the row are different bits
-abbrev pub AreApart : List Variable → Type 0
-AreApart vs = (i j : ℕ) → i < length (all_bits vs) → j < length (all_bits vs) → is_same_bit (bit_seen vs i) (bit_seen vs j) ≡ (i == j)

@@ -5,7 +5,8 @@ ghost use Rattle.specify_model.specs.Faults as faults;
 ghost use Rattle.specify_values.specs.Telling.{Tells};
 ghost use Rattle.specify_paths.specs.Seen.{AreEnds};
 
-use crate::terms::{Side, check_ports, terms_bits};
+use crate::terms::{Side, check_ports};
+use elab_ends::terms_bits;
 use elab_model::ElabKind;
 use elab_variables::Table;
 use sg_text::Refused;

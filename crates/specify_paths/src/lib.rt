@@ -15,4 +15,4 @@ pub use grouping::PathOutput;
 pub use outputs::{PathOutputs, path_outputs};
 pub use pairs::ModulePath;
 pub use statements::{ModuleCondition, Statement, option_edge};
-pub use terms::{check_operand, terms_bits};
+pub use terms::check_operand;

@@ -4,7 +4,8 @@ ghost use Rattle.elab_laws.specs.Handing.{all_bits};
 ghost use Rattle.vl_tree.specs.declared.paths.Arrow.TheVariants as arrow;
 ghost use Rattle.elab_model.specs.Terms as def;
 ghost use Rattle.specify_values.specs.Seen.{limits_seen};
-ghost use Rattle.specify_paths.specs.Seen.{AreInRow, ArePathsInRow, Said, bit_seen, bits_seen, path_to_seen, path_said, said_at};
+ghost use Rattle.elab_ends.specs.Seen.{AreInRow, bit_seen, bits_seen};
+ghost use Rattle.specify_paths.specs.Seen.{ArePathsInRow, Said, path_to_seen, path_said, said_at};
 
 use crate::ends::Ends;
 use elab_variables::Table;

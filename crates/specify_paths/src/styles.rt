@@ -5,10 +5,11 @@ ghost use Rattle.specify_model.specs.Faults as faults;
 ghost use Rattle.specify_model.specs.Outputs as def;
 ghost use Rattle.specify_values.specs.Seen.{view_style};
 ghost use Rattle.specify_values.specs.Telling.{Tells};
-ghost use Rattle.specify_paths.specs.Seen.{AreApart, bit_seen};
+ghost use Rattle.elab_ends.specs.Seen.{AreApart, bit_seen};
 ghost use Rattle.specify_paths.specs.Words.{style_at, with_style};
 
-use crate::terms::{check_terms, terms_bits};
+use crate::terms::check_terms;
+use elab_ends::terms_bits;
 use elab_model::ElabKind;
 use elab_variables::Table;
 use indexmap::IndexMap;

@@ -3,7 +3,7 @@ use Rattle.std.proofs.Common.{◌∙◌, sym, ap, arith, subst}
 use Rattle.std.specs.Prelude.{◌<◌, length}
 use Rattle.vl_tree.specs.Seen.{view_term}
 use Rattle.elab_laws.specs.Handing.{all_bits}
-use Rattle.specify_paths.specs.Seen.{bit_seen}
+use Rattle.elab_ends.specs.Seen.{bit_seen}
 use Rattle.specify_checks.proofs.OneBit.{one, first-is, first-in_row}
 use Rattle.specify_checks.proofs.events.terminal_bit.Goals as goal
 

@@ -12,11 +12,12 @@ use Rattle.specify_model.specs.PulseLimits.{limits_of}
 use Rattle.specify_model.specs.Values.{value_of}
 use Rattle.specify_values.specs.Seen.{limits_seen, measured, values_of, view_parameter, view_paths, view_pulse, view_style}
 use Rattle.specify_values.proofs.InTurn.{exit}
-use Rattle.specify_paths.specs.Seen.{AreApart, ArePathsInRow, bit_seen, output_seen, said_of}
+use Rattle.elab_ends.specs.Seen.{AreApart, bit_seen}
+use Rattle.specify_paths.specs.Seen.{ArePathsInRow, output_seen, said_of}
 use Rattle.specify_paths.specs.Words.{grouped, style_at}
 use Rattle.specify_paths.proofs.Between.{said-counted}
 use Rattle.specify_paths.proofs.InOrder.{none-at_all, parameters-told, paths-told, pulses-told, styles-told}
-use Rattle.specify_paths.proofs.RowBits.{places-apart}
+use Rattle.elab_ends.proofs.RowBits.{places-apart}
 use Rattle.specify_paths.proofs.Rows.{outputs-in_row}
 use Rattle.specify_paths.proofs.Whole.{outputs-whole}
 use Rattle.specify_paths.proofs.outputs.path_outputs.Goals as goal

@@ -1,7 +1,8 @@
 -- One more path is there.
 use Rattle.std.proofs.Common.{sym, subst}
 use Rattle.specify_values.specs.Seen.{limits_seen}
-use Rattle.specify_paths.specs.Seen.{ArePathsInRow, bit_seen, path_to_seen, path_said, said_at}
+use Rattle.elab_ends.specs.Seen.{bit_seen}
+use Rattle.specify_paths.specs.Seen.{ArePathsInRow, path_to_seen, path_said, said_at}
 use Rattle.specify_paths.proofs.Added.{from-step}
 use Rattle.specify_paths.proofs.Rows.{one-more_in_row, path-in_row}
 use Rattle.specify_paths.proofs.pairs.add_from.Goals as goal

@@ -1,7 +1,8 @@
 -- What is there, followed by what is left, is the whole.
 use Rattle.std.proofs.Common.{◌≡◌, ◌++◌, ◌<◌, ℕ, List, map, drop}
 use Rattle.specify_values.specs.Seen.{limits_seen}
-use Rattle.specify_paths.specs.Seen.{ArePathsInRow, Said, bit_seen, bits_seen, path_to_seen, path_said, said_at}
+use Rattle.elab_ends.specs.Seen.{bit_seen, bits_seen}
+use Rattle.specify_paths.specs.Seen.{ArePathsInRow, Said, path_to_seen, path_said, said_at}
 use Rattle.specify_paths.proofs.pairs.add_from.Given as goal
 
 abbrev pub invariant-loop-output : goal.invariant-loop-output

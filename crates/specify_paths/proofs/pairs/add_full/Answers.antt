@@ -2,7 +2,8 @@
 use Rattle.std.specs.Prelude.{List, ℕ, map}
 use Rattle.specify_values.specs.Seen.{limits_seen}
 use Rattle.elab_model.specs.Terms.{NetBit}
-use Rattle.specify_paths.specs.Seen.{bit_seen, bits_seen, path_to_seen, path_said, said_at}
+use Rattle.elab_ends.specs.Seen.{bit_seen, bits_seen}
+use Rattle.specify_paths.specs.Seen.{path_to_seen, path_said, said_at}
 use Rattle.specify_paths.proofs.Added.{full-step}
 use Rattle.specify_paths.proofs.pairs.add_full.Goals as goal
 

@@ -2,7 +2,8 @@
 use Rattle.std.proofs.Common.{◌≡◌, ◌++◌, ◌<◌, ℕ, List, map, drop}
 use Rattle.std.specs.Prelude.{flat_map}
 use Rattle.specify_values.specs.Seen.{limits_seen}
-use Rattle.specify_paths.specs.Seen.{ArePathsInRow, Said, bits_seen, path_to_seen, path_said, said_at}
+use Rattle.elab_ends.specs.Seen.{bits_seen}
+use Rattle.specify_paths.specs.Seen.{ArePathsInRow, Said, path_to_seen, path_said, said_at}
 use Rattle.specify_paths.proofs.pairs.add_full.Given as goal
 
 abbrev pub invariant-loop-input : goal.invariant-loop-input

@@ -2,7 +2,8 @@
 use Rattle.std.specs.Prelude.{◌<◌, length}
 use Rattle.std.proofs.Common.{arith, sym, subst}
 use Rattle.specify_values.specs.Seen.{limits_seen}
-use Rattle.specify_paths.specs.Seen.{ArePathsInRow, bit_seen, path_to_seen, path_said, said_at}
+use Rattle.elab_ends.specs.Seen.{bit_seen}
+use Rattle.specify_paths.specs.Seen.{ArePathsInRow, path_to_seen, path_said, said_at}
 use Rattle.specify_paths.proofs.Added.{pair-end, pair-step}
 use Rattle.specify_paths.proofs.Rows.{item-in_row, one-more_in_row, path-in_row}
 use Rattle.specify_paths.proofs.pairs.add_parallel.Goals as goal

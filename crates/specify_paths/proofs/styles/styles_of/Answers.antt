@@ -4,7 +4,7 @@ use Rattle.std.proofs.lemmas.Result.{err_from_is_err_and}
 use Rattle.specify_model.specs.Faults.{style_faults}
 use Rattle.specify_values.specs.Seen.{view_style}
 use Rattle.specify_values.proofs.InTurn.{exit, none-left}
-use Rattle.specify_paths.specs.Seen.{bit_seen}
+use Rattle.elab_ends.specs.Seen.{bit_seen}
 use Rattle.specify_paths.specs.Words.{style_at}
 use Rattle.specify_paths.proofs.FirstFault.{refused-at, faultless-at}
 use Rattle.specify_paths.proofs.Chosen.{next-style, all-styles}

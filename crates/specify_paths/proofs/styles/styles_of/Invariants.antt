@@ -5,7 +5,7 @@ use Rattle.specify_model.specs.Faults.{style_faults}
 use Rattle.specify_model.specs.Outputs.{style_of}
 use Rattle.specify_values.specs.Seen.{view_style}
 use Rattle.specify_values.proofs.InTurn.{left_from}
-use Rattle.specify_paths.specs.Seen.{bit_seen}
+use Rattle.elab_ends.specs.Seen.{bit_seen}
 use Rattle.specify_paths.specs.Words.{style_at}
 use Rattle.specify_paths.proofs.styles.styles_of.Given as goal
 

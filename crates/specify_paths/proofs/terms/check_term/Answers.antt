@@ -3,7 +3,7 @@ use Rattle.std.proofs.Common.{ap}
 use Rattle.vl_tree.specs.Seen.{view_expression, view_term}
 use Rattle.elab_model.specs.TerminalFaults.{expression_faults}
 use Rattle.specify_model.specs.Faults.{term_faults}
-use Rattle.specify_paths.proofs.TermBits.{as-told}
+use Rattle.specify_paths.proofs.AsTold.{as-told}
 use Rattle.specify_paths.proofs.terms.check_term.Goals as goal
 
 pub returns : goal.returns

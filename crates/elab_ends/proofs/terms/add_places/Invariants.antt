@@ -4,8 +4,8 @@ use Rattle.std.specs.Prelude.{filter_map}
 use Rattle.elab_bits.specs.Seen.{IsInRow, view_bit}
 use Rattle.elab_model.specs.Names.{Variable}
 use Rattle.elab_model.specs.Terms.{net_bit}
-use Rattle.specify_paths.specs.Seen.{bits_seen, AreInRow}
-use Rattle.specify_paths.proofs.terms.add_places.Given as goal
+use Rattle.elab_ends.specs.Seen.{bits_seen, AreInRow}
+use Rattle.elab_ends.proofs.terms.add_places.Given as goal
 
 abbrev pub invariant-loop-bit : goal.invariant-loop-bit
 invariant-loop-bit l =

@@ -2,8 +2,8 @@
 use Rattle.std.proofs.Common.{◌≡◌, ◌++◌, map, drop}
 use Rattle.vl_tree.specs.Seen.{view_term}
 use Rattle.elab_model.specs.Terms.{terms_bits}
-use Rattle.specify_paths.specs.Seen.{bits_seen, AreInRow}
-use Rattle.specify_paths.proofs.terms.terms_bits.Given as goal
+use Rattle.elab_ends.specs.Seen.{bits_seen, AreInRow}
+use Rattle.elab_ends.proofs.terms.terms_bits.Given as goal
 
 abbrev pub invariant-loop-term : goal.invariant-loop-term
 invariant-loop-term l =

@@ -4,8 +4,8 @@ use Rattle.std.proofs.lemmas.Result.{on_ok_weaker}
 use Rattle.vl_tree.specs.Seen.{view_expression}
 use Rattle.elab_bits.specs.Seen.{view_bit}
 use Rattle.elab_model.specs.Bits.{bits}
-use Rattle.specify_paths.proofs.TermBits.{term-added}
-use Rattle.specify_paths.proofs.terms.add_term.Goals as goal
+use Rattle.elab_ends.proofs.TermBits.{term-added}
+use Rattle.elab_ends.proofs.terms.add_term.Goals as goal
 
 pub returns-clause-places : goal.returns-clause-places
 returns-clause-places c =

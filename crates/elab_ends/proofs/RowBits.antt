@@ -12,7 +12,7 @@ use Rattle.elab_model.specs.Bits.{positions}
 use Rattle.elab_model.specs.Names.{Variable, variables}
 use Rattle.sg_circuit.specs.Closed.{width_of}
 use Rattle.vl_tree.specs.Tree.{Module}
-use Rattle.specify_paths.specs.Seen.{AreApart}
+use Rattle.elab_ends.specs.Seen.{AreApart}
 
 abbrev Pair : Type 0
 Pair = Variable × ℕ

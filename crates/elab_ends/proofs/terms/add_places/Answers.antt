@@ -1,8 +1,8 @@
 -- A bit of a variable is added, and a constant isn't.
 use Rattle.std.proofs.Common.{◌∙◌, ap}
-use Rattle.specify_paths.proofs.TermBits.{net-added, constant-passed, net-in_row, same-row}
-use Rattle.specify_paths.proofs.terms.add_places.Goals.{in-Net+in_ok-push, in_default}
-use Rattle.specify_paths.proofs.terms.add_places.Goals as goal
+use Rattle.elab_ends.proofs.TermBits.{net-added, constant-passed, net-in_row, same-row}
+use Rattle.elab_ends.proofs.terms.add_places.Goals.{in-Net+in_ok-push, in_default}
+use Rattle.elab_ends.proofs.terms.add_places.Goals as goal
 
 pub loop-bit-preserved : goal.loop-bit-preserved
 loop-bit-preserved c = elim c.match-bit.branch [

@@ -1,11 +1,10 @@
 -- The bits of terms, one after another, as places of the row.
-use Rattle.std.specs.Prelude.{◌≡◌, ℕ, suc, ◌+◌, ◌<◌, All, List, [], ◌∷◌, ◌++◌, Result, Ok, Err, OnOk, IfErr, filter_map, length, map, slice_index_or}
+use Rattle.std.specs.Prelude.{◌≡◌, ℕ, suc, ◌+◌, ◌<◌, All, List, [], ◌∷◌, ◌++◌, filter_map, length, map, slice_index_or}
 use Rattle.std.proofs.Common.{sym, ◌∙◌, ap, arith, subst, append_assoc, drop, drop-cons}
 use Rattle.std.proofs.lemmas.List.{map-append}
 use Rattle.std.proofs.lemmas.List.Elements.{All-push, All-same}
 use Rattle.sg_logic.specs.declared.values.Value.{Value}
 use Rattle.sg_text.specs.declared.places.Place.{Place}
-use Rattle.sg_text.specs.declared.refusals.Refused.{Refused}
 use Rattle.vl_tree.specs.declared.specify.Term as code_term
 use Rattle.vl_tree.specs.Seen.{view_term}
 use Rattle.vl_tree.specs.Tree.{Expression}
@@ -13,12 +12,9 @@ use Rattle.elab_bits.specs.Seen.{IsInRow, view_bit}
 use Rattle.elab_bits.specs.declared.bits.Bit as code
 use Rattle.elab_bits.specs.declared.bits.Bit.TheVariants as bit
 use Rattle.elab_model.specs.Bits.{bits}
-use Rattle.elab_model.specs.declared.kinds.ElabKind.{ElabKind}
-use Rattle.elab_model.specs.Faults.{Fault, RefusesOneOf}
 use Rattle.elab_model.specs.Names.{Variable}
 use Rattle.elab_model.specs.Terms.{NetBit, net_bit, expression_of, term_bits}
-use Rattle.specify_values.specs.Telling.{Tells}
-use Rattle.specify_paths.specs.Seen.{AreInRow, bit_seen, bits_seen}
+use Rattle.elab_ends.specs.Seen.{AreInRow, bit_seen, bits_seen}
 
 -- ---- a bit more
 
@@ -56,9 +52,3 @@ bits-are vs t e bs is h = h ∙ ap (bits vs) is
 pub term-added : (vs : List Variable) (t : code_term.Term) (e : Expression) (bs : List code.Bit) (old new : List ℕ) → e ≡ expression_of (view_term t) → map (view_bit vs) bs ≡ bits vs e
     → bits_seen vs new ≡ bits_seen vs old ++ filter_map net_bit (map (view_bit vs) bs) → bits_seen vs new ≡ bits_seen vs old ++ term_bits vs (view_term t)
 term-added vs t e bs old new is h more = more ∙ ap (λ cs. bits_seen vs old ++ filter_map net_bit cs) (bits-are vs t e bs is h)
-
--- ---- what a check of another crate tells
-
-pub as-told : {A : Type 0} (r : Result A (Refused ElabKind)) (fs gs : List Fault) → fs ≡ gs → OnOk r (fs ≡ []) → IfErr r (RefusesOneOf fs) → Tells gs r
-as-told (Ok x) fs gs e h g = sym e ∙ h
-as-told (Err x) fs gs e h g = subst (λ xs. RefusesOneOf xs x) e g
