@@ -36,7 +36,7 @@ use Rattle.elab_nets.specs.Turns.{members_of}
 use Rattle.elab_nets.proofs.ChildRows.{nets-within, refuses-more}
 use Rattle.elab_nets.proofs.MemberTurns.{next-is, taken, get-map}
 use Rattle.elab_elements.specs.declared.placing.Placing.{Placing}
-use Rattle.elab_elements.specs.Adding.{Adds}
+use Rattle.elab_elements.specs.Adding.{Adds, HasDriven}
 use Rattle.elab_elements.specs.Seen.{element_in}
 use Rattle.elab_elements.specs.Next.{IsNext}
 use Rattle.elab_elements.specs.Standing.{AreMembers, IsAt, IsMember}
@@ -72,14 +72,16 @@ adds-count delays udps all a b cs h =
 
 -- ---- all of an instance
 
-pub are-members : (source : Source) (top : Module) (corner : Corner) (ps : List Placed) (library : Library) (rows : Rows) (i : ℕ) (s : Instance) (p : Placed) (q : Prepared) (width : ℕ) (row : List ℕ)
+pub are-members : (source : Source) (top : Module) (corner : Corner) (ps : List Placed) (library : Library) (rows : Rows) (i : ℕ) (s : Instance) (p : Placed) (q : Prepared) (width : ℕ) (row inside : List ℕ)
     → IsAt source top corner ps library rows i s → slice_get ps i ≡ Some p → slice_get library.parts.items p.definition ≡ Some (Some (ready.Module q)) → width ≡ length (all_bits q.table)
-    → ((start : ℕ) → slice_get rows.starts.items i ≡ Some start → row ≡ part_of rows.inner.items start width) → AreMembers source top corner ps library rows i p.definition q row (i + 1) s
-are-members source top corner ps library rows i s p q width row h e g w f =
+    → ((start : ℕ) → slice_get rows.starts.items i ≡ Some start → row ≡ part_of rows.inner.items start width)
+    → HasDriven (nets source top) source s q.table inside → AreMembers source top corner ps library rows i p.definition q row inside (i + 1) s
+are-members source top corner ps library rows i s p q width row inside h e g w f d =
     let k = prepared-is source top corner ps library rows i s p q h e g in
     record {
       at = h;
       here = here-is source top corner ps library rows i s q width row h k w f;
+      drives = d;
       stands = (placed-is source top corner ps library rows i s p h e).definition;
       is_prepared = k;
       first_child = omega arith;
@@ -102,8 +104,8 @@ enumerate-count : {A : Type 0} (a : ℕ) (xs : List A) → length (enumerate_fro
 enumerate-count a [] = refl
 enumerate-count a (x ∷ xs) = ap suc (enumerate-count (a + 1) xs)
 
-module _ (source : Source) (top : Module) (corner : Corner) (ps : List Placed) (library : Library) (rows : Rows) (number definition : ℕ) (prepared : Prepared) (row : List ℕ) (initial : ℕ) (s : Instance)
-    (h : AreMembers source top corner ps library rows number definition prepared row initial s) where
+module _ (source : Source) (top : Module) (corner : Corner) (ps : List Placed) (library : Library) (rows : Rows) (number definition : ℕ) (prepared : Prepared) (row inside : List ℕ) (initial : ℕ) (s : Instance)
+    (h : AreMembers source top corner ps library rows number definition prepared row inside initial s) where
   there : In s (instances source top)
   there = at-place (instances source top) number s h.at.there
 
@@ -194,7 +196,7 @@ module _ (source : Source) (top : Module) (corner : Corner) (ps : List Placed) (
       → ((list : List ℕ) → option_map (λ d. d.items) (slice_get library.delays.items definition) ≡ Some list → slice_get list k ≡ Some delays)
       → ((start : ℕ) → slice_get rows.member_starts.items number ≡ Some start → slice_get rows.firsts.items (start + k) ≡ Some first)
       → AreAdded library.gate_delays.items library.udps.items source top corner s k next old new
-      → IsMember source top corner ps library rows number prepared.table row delays first next k x s
+      → IsMember source top corner ps library rows number prepared.table row inside delays first next k x s
   is-member k next delays first x old new e d f a =
       let split = at-split (instances source top) number s h.at.there in
       let p : slice_get reads.delays k ≡ Some delays = d reads.delays reads.listed in
@@ -204,6 +206,7 @@ module _ (source : Source) (top : Module) (corner : Corner) (ps : List Placed) (
       record {
         at = h.at;
         here = h.here;
+        drives = h.drives;
         member = e;
         ticks = same-some _ _ ticks;
         listed = all-get (λ i. i < length library.gate_delays.items) reads.delays k delays reads.in_ticks.below p;

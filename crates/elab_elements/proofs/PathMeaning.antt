@@ -3,7 +3,7 @@ use Rattle.std.specs.Prelude.{◌≡◌, ℕ, zero, suc, ◌+◌, ◌-◌, ◌<�
 use Rattle.std.specs.List.{All, AllByRecursion, enumerate_from}
 use Rattle.std.proofs.Common.{sym, ◌∙◌, ap, arith, subst, length-append}
 use Rattle.std.proofs.lemmas.Grind.{flat_map-append}
-use Rattle.std.proofs.lemmas.List.{take-append-drop, length-map}
+use Rattle.std.proofs.lemmas.List.{append-nil, take-append-drop, length-map, take_at, drop_at}
 use Rattle.std.proofs.lemmas.List.Elements.{recursion_from_All}
 use Rattle.std.proofs.lemmas.Option.{slice_get_within}
 use Rattle.sg_circuit.specs.declared.elements.ElementKind.TheVariants as kind
@@ -24,7 +24,13 @@ use Rattle.elab_laws.specs.Handing.{all_bits}
 use Rattle.elab_ends.specs.Ends.{AreEnds, ends_before}
 use Rattle.elab_ends.specs.Seen.{bit_seen, bits_seen}
 use Rattle.elab_nets.specs.Numbers.{HasNumbers}
+use Rattle.elab_modules.specs.declared.prepared.Prepared.{Prepared}
+use Rattle.elab_nets.specs.Rows.{HasRow}
+use Rattle.elab_nets.specs.declared.rows.Rows.{Rows}
+use Rattle.elab_nets.specs.Turns.{members_of}
+use Rattle.elab_nets.proofs.MemberTurns.{next-is, taken}
 use Rattle.elab_elements.specs.Adding.{IsHere}
+use Rattle.elab_elements.specs.Standing.{HasPaths}
 use Rattle.elab_elements.specs.Words.{net_in, path_puts}
 use Rattle.elab_elements.proofs.Meaning.{Means, means-nil, means-one, means-append, number-is}
 
@@ -51,14 +57,6 @@ paths-mean delays udps all source s scope place vs row bits ends bs h below seen
 -- ---- those of a member among those of its module
 
 -- a part of a list of lists
-take-front : {B : Type 0} (xs ys : List B) → take (length xs) (xs ++ ys) ≡ xs
-take-front [] ys = refl
-take-front (x ∷ xs) ys = ap (λ zs. x ∷ zs) (take-front xs ys)
-
-drop-front : {B : Type 0} (xs ys : List B) → drop (length xs) (xs ++ ys) ≡ ys
-drop-front [] ys = refl
-drop-front (x ∷ xs) ys = drop-front xs ys
-
 pub part-is : {B : Type 0} (whole before own after : List B) (start end : ℕ) → whole ≡ before ++ (own ++ after) → start ≡ length before → end ≡ length before + length own
     → (take (end - start) (drop start whole) ≡ own) × (end ≤ length whole)
 part-is whole before own after start end w a b =
@@ -66,7 +64,7 @@ part-is whole before own after start end w a b =
     let c = length-append before (own ++ after) in
     let d = length-append own after in
     (
-      (λ i. take (n i) (drop (a i) (w i))) ∙ ap (take (length own)) (drop-front before (own ++ after)) ∙ take-front own after,
+      (λ i. take (n i) (drop (a i) (w i))) ∙ ap (take (length own)) (drop_at before (own ++ after) (length before) refl) ∙ take_at own after (length own) refl,
       subst (λ ws. end ≤ length ws) (sym w) (omega (arith, b, c, d)),
     )
 
@@ -76,3 +74,32 @@ pub record StandBetween (m : Module) (k : ℕ) (x : Member) (start end : ℕ) : 
   pub whole : path_ends m ≡ flat_map (first_ends m) (take k (enumerate_from 0 (members m))) ++ (first_ends m (k, x) ++ after)
   pub starts : start ≡ ends_before m k
   pub ends : end ≡ ends_before m k + length (first_ends m (k, x))
+
+pub stand-between : (source : Source) (top : Module) (rows : Rows) (number : ℕ) (prepared : Prepared) (row : List ℕ) (k : ℕ) (x : Member) (s : Instance) (start end : ℕ) → HasPaths source top rows number prepared row k x s
+    → slice_get prepared.ends.starts.items k ≡ Some start → slice_get prepared.ends.starts.items (k + 1) ≡ Some end → StandBetween s.step.definition k x start end
+stand-between source top rows number prepared row k x s start end h a b =
+    let m = s.step.definition in
+    let f = first_ends m in
+    let below : k < length (members m) = slice_get_within (members m) k x h.member in
+    let before = flat_map f (take k (members_of s)) in
+    let more : flat_map f (take (k + 1) (members_of s)) ≡ before ++ f (k, x) = ap (flat_map f) (taken s k x h.member) ∙ flat_map-append f (take k (members_of s)) ((k, x) ∷ []) ∙ ap (λ bs. before ++ bs) (append-nil (f (k, x))) in
+    record {
+      after = flat_map f (drop (k + 1) (members_of s));
+      whole = ap (flat_map f) (sym (take-append-drop k (members_of s)) ∙ ap (λ xs. take k (members_of s) ++ xs) (next-is s k x h.member)) ∙ flat_map-append f (take k (members_of s)) ((k, x) ∷ drop (k + 1) (members_of s));
+      starts = same-some start (ends_before m k) (sym a ∙ h.is_prepared.ends.starts k (omega arith));
+      ends = same-some end (ends_before m (k + 1)) (sym b ∙ h.is_prepared.ends.starts (k + 1) (omega arith)) ∙ ap length more ∙ length-append before (f (k, x));
+    }
+  where
+    same-some : (x y : ℕ) → Some x ≡ Some y → x ≡ y
+    same-some x y e = cc
+
+pub starts-within : (source : Source) (top : Module) (rows : Rows) (number : ℕ) (prepared : Prepared) (row : List ℕ) (k : ℕ) (x : Member) (s : Instance) → HasPaths source top rows number prepared row k x s
+    → k + 1 < length prepared.ends.starts.items
+starts-within source top rows number prepared row k x s h =
+    let below = slice_get_within (members s.step.definition) k x h.member in
+    let count = h.is_prepared.ends.counted in
+    omega arith
+
+-- a part of the list of ends
+pub part-within : {A : Type 0} (whole : List NetBit) (f : A → NetBit) (xs : List A) (end : ℕ) → map f xs ≡ whole → end ≤ length whole → end ≤ length xs
+part-within whole f xs end e le = let n : length xs ≡ length whole = sym (length-map xs f) ∙ ap length e in omega arith
