@@ -35,16 +35,15 @@ ends-count row bits ends e =
     let z : length (ends_in row bits ends) ≡ min (length (map (net_in row) bits)) (length ends) = length-zip (map (net_in row) bits) ends in
     omega (arith, n, z, e)
 
-ends-more : (row bits ends : List ℕ) (i bit end : ℕ) → length bits ≡ length ends → i < length bits → bit ≡ slice_index_or bits i bit → end ≡ slice_index_or ends i end
-    → take (i + 1) (ends_in row bits ends) ≡ take i (ends_in row bits ends) ++ (net_in row bit, end) ∷ []
-ends-more row bits ends i bit end e lt b n =
+pub ends-more : (row bits ends : List ℕ) (i : ℕ) → length bits ≡ length ends → i < length bits
+    → take (i + 1) (ends_in row bits ends) ≡ take i (ends_in row bits ends) ++ (net_in row (slice_index_or bits i 0), slice_index_or ends i 0) ∷ []
+ends-more row bits ends i e lt =
     let es = ends_in row bits ends in
     let c = ends-count row bits ends e in
     let m = length-map bits (net_in row) in
-    let one : slice_index_or es i (net_in row bit, end) ≡ (net_in row bit, end) =
-    get_or-zip (map (net_in row) bits) ends i (net_in row bit, end) (omega (arith, m)) (omega (arith, e))
-    ∙ (λ j. ((get_or-map (net_in row) bits i bit (net_in row bit) lt ∙ ap (net_in row) (sym b)) j, sym n j)) in
-    take_more es i (net_in row bit, end) (omega (arith, c)) ∙ ap (λ e. take i es ++ e ∷ []) one
+    let one : slice_index_or es i (0, 0) ≡ (net_in row (slice_index_or bits i 0), slice_index_or ends i 0) =
+    get_or-zip (map (net_in row) bits) ends i (0, 0) (omega (arith, m, lt)) (omega (arith, e, lt)) ∙ (λ j. (get_or-map (net_in row) bits i 0 0 lt j, slice_index_or ends i 0)) in
+    take_more es i (0, 0) (omega (arith, c, lt)) ∙ ap (λ e. take i es ++ e ∷ []) one
 
 stays : (o p : Option ℕ) → is_some o ≡ true → o ≡ option_or o p
 stays None p e = cc
@@ -95,9 +94,9 @@ one-driven es n = by (find (λ e. e.0 == n) es)
     by None = refl
     by (Some e) = refl
 
-pub driven-more : (f : ℕ → ℕ) (row old new : List ℕ) (i n m : ℕ) → i < length row → n ≡ slice_index_or row i n → m ≡ f n → new ≡ old ++ m ∷ [] → old ≡ map f (take i row) → new ≡ map f (take (i + 1) row)
-driven-more f row old new i n m lt at is more h =
-    more ∙ (λ j. h j ++ is j ∷ []) ∙ sym (ap (map f) (take_more row i n lt ∙ ap (λ x. take i row ++ x ∷ []) (sym at)) ∙ map-append f (take i row) (n ∷ []))
+pub driven-more : (f : ℕ → ℕ) (row old new : List ℕ) (i m : ℕ) → i < length row → m ≡ f (slice_index_or row i 0) → new ≡ old ++ m ∷ [] → old ≡ map f (take i row) → new ≡ map f (take (i + 1) row)
+driven-more f row old new i m lt is more h =
+    more ∙ (λ j. h j ++ is j ∷ []) ∙ sym (ap (map f) (take_more row i 0 lt) ∙ map-append f (take i row) (slice_index_or row i 0 ∷ []))
 
 pub all-driven : (f : ℕ → ℕ) (row new : List ℕ) (i : ℕ) → length row ≤ i → new ≡ map f (take i row) → new ≡ map f row
 all-driven f row new i le h = h ∙ ap (map f) (take_all i row le)

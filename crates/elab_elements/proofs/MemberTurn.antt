@@ -53,21 +53,16 @@ module _ (source : Source) (top : Module) (corner : Corner) (ps : List Placed) (
   pub supply-next : (n : Named) (v : Value) → IsMember source top corner ps library rows number vs row inside delays first next k (supply n v) s → IsNext source s (k + 1) next
   supply-next n v h = passes-by source s k next (supply n v) h.member refl h.is_next
 
-  abbrev pub outputs_in : GateInstance → GateKind → List Bit
-  outputs_in i g = outputs_of vs (output_count g (length i.terminals)) i.terminals
-
-  abbrev pub inputs_in : GateInstance → GateKind → List Bit
-  inputs_in i g = inputs_of vs (output_count g (length i.terminals)) i.terminals
-
   pub gate-fits : (g : GateKind) (d : Option Delay) (i : GateInstance) → IsMember source top corner ps library rows number vs row inside delays first next k (gate g d i) s
-      → HasTerminals (nets source top) s k first (outputs_in i g) (inputs_in i g)
+      → HasTerminals (nets source top) s k first (outputs_of vs (output_count g (length i.terminals)) i.terminals) (inputs_of vs (output_count g (length i.terminals)) i.terminals)
   gate-fits g d i h =
       let n = output_count g (length i.terminals) in
       subst (λ ws. HasTerminals (nets source top) s k first (outputs_of ws n i.terminals) (inputs_of ws n i.terminals)) (sym h.here.numbers.table)
       (gate-terminals source top corner s k first g d i (member-sound source top corner s k (gate g d i) h.at.read.is_ready.sound (at-place (instances source top) number s h.at.there) h.member) h.numbered)
 
   pub gate-elements : (g : GateKind) (d : Option Delay) (i : GateInstance) → IsMember source top corner ps library rows number vs row inside delays first next k (gate g d i) s
-      → terminal_elements source s i.place k (Gate g (delays_at library.gate_delays.items delays)) (outputs_in i g) (inputs_in i g) ≡ member_elements source corner (tick_of source top) s (k, gate g d i)
+      → terminal_elements source s i.place k (Gate g (delays_at library.gate_delays.items delays)) (outputs_of vs (output_count g (length i.terminals)) i.terminals)
+      (inputs_of vs (output_count g (length i.terminals)) i.terminals) ≡ member_elements source corner (tick_of source top) s (k, gate g d i)
   gate-elements g d i h =
       let n = output_count g (length i.terminals) in
       λ j. terminal_elements source s i.place k (Gate g (h.ticks j)) (outputs_of (h.here.numbers.table j) n i.terminals) (inputs_of (h.here.numbers.table j) n i.terminals)
@@ -98,10 +93,20 @@ module _ (source : Source) (top : Module) (corner : Corner) (ps : List Placed) (
   pub supply-after : (x : Member) (n : Named) (v : Value) → x ≡ supply n v → IsMember source top corner ps library rows number vs row inside delays first next k x s → IsNext source s (k + 1) next
   supply-after x n v e h = supply-next n v (as-member x (supply n v) e h)
 
-  pub gate-same : (x : Member) (g : GateKind) (d : Option Delay) (i : GateInstance) → x ≡ gate g d i → IsMember source top corner ps library rows number vs row inside delays first next k x s
-      → terminal_elements source s i.place k (Gate g (delays_at library.gate_delays.items delays)) (outputs_in i g) (inputs_in i g)
+  -- by the list of terminals that the code has
+  pub gate-fit : (x : Member) (g : GateKind) (d : Option Delay) (i : GateInstance) (es : List Expression) → es ≡ i.terminals → x ≡ gate g d i
+      → IsMember source top corner ps library rows number vs row inside delays first next k x s
+      → HasTerminals (nets source top) s k first (outputs_of vs (output_count g (length es)) es) (inputs_of vs (output_count g (length es)) es)
+  gate-fit x g d i es same e h =
+      subst (λ es. HasTerminals (nets source top) s k first (outputs_of vs (output_count g (length es)) es) (inputs_of vs (output_count g (length es)) es)) (sym same) (gate-fits g d i (as-member x (gate g d i) e h))
+
+  pub gate-listed : (x : Member) (g : GateKind) (d : Option Delay) (i : GateInstance) (es : List Expression) → es ≡ i.terminals → x ≡ gate g d i
+      → IsMember source top corner ps library rows number vs row inside delays first next k x s
+      → terminal_elements source s i.place k (Gate g (delays_at library.gate_delays.items delays)) (outputs_of vs (output_count g (length es)) es) (inputs_of vs (output_count g (length es)) es)
       ≡ member_elements source corner (tick_of source top) s (k, x)
-  gate-same x g d i e h = gate-elements g d i (as-member x (gate g d i) e h) ∙ ap (λ y. member_elements source corner (tick_of source top) s (k, y)) (sym e)
+  gate-listed x g d i es same e h =
+      ap (λ es. terminal_elements source s i.place k (Gate g (delays_at library.gate_delays.items delays)) (outputs_of vs (output_count g (length es)) es) (inputs_of vs (output_count g (length es)) es)) same
+      ∙ gate-elements g d i (as-member x (gate g d i) e h) ∙ ap (λ y. member_elements source corner (tick_of source top) s (k, y)) (sym e)
 
   pub gate-after : (x : Member) (g : GateKind) (d : Option Delay) (i : GateInstance) → x ≡ gate g d i → IsMember source top corner ps library rows number vs row inside delays first next k x s → IsNext source s (k + 1) next
   gate-after x g d i e h = gate-next g d i (as-member x (gate g d i) e h)

@@ -23,41 +23,48 @@ or-neither false b h = (refl, h)
 -- what stands once was not seen before
 first-unseen : (seen ns : List (List ℕ)) (k : ℕ) (n : List ℕ) → slice_get (first_of_each seen ns) k ≡ Some n → is_among n seen ≡ false
 first-unseen seen [] k n h = cc
-first-unseen seen (m ∷ ns) k n h = by (is_among m seen) refl h (first-unseen seen ns k n)
+first-unseen seen (m ∷ ns) k n h = by (is_among m seen) refl h (first-unseen seen ns k n) (λ j g. first-unseen (m ∷ seen) ns j n g)
   where
     there : (k : ℕ) → is_among m seen ≡ false → slice_get (m ∷ first_of_each (m ∷ seen) ns) k ≡ Some n → ((j : ℕ) → slice_get (first_of_each (m ∷ seen) ns) j ≡ Some n → is_among n (m ∷ seen) ≡ false) → is_among n seen ≡ false
     there zero e h rest = let g : m ≡ n = cc in ap (λ x. is_among x seen) (sym g) ∙ e
     there (suc j) e h rest = (or-neither (bytes_eq n m) (is_among n seen) (rest j h)).1
 
     by : (b : Bool) → is_among m seen ≡ b → slice_get (if b then first_of_each seen ns else m ∷ first_of_each (m ∷ seen) ns) k ≡ Some n
-        → (slice_get (first_of_each seen ns) k ≡ Some n → is_among n seen ≡ false) → is_among n seen ≡ false
-    by true e h rest = rest h
-    by false e h rest = there k e h (λ j g. first-unseen (m ∷ seen) ns j n g)
+        → (slice_get (first_of_each seen ns) k ≡ Some n → is_among n seen ≡ false)
+        → ((j : ℕ) → slice_get (first_of_each (m ∷ seen) ns) j ≡ Some n → is_among n (m ∷ seen) ≡ false) → is_among n seen ≡ false
+    by true e h rest later = rest h
+    by false e h rest later = there k e h later
 
 -- a name stands among ports that are distinct where it stands among all names, or nowhere
+abbrev IsNamedAt : List (List ℕ) → List Named → ℕ → List ℕ → Type 0
+IsNamedAt seen ports k n = (find (λ q. bytes_eq n q.text) ports ≡ slice_get ports k) × (is_among n seen ≡ false)
+
 named-where : (seen : List (List ℕ)) (ports : List Named) (others : List (List ℕ)) (k : ℕ) (n : List ℕ) → places_again seen ports ≡ []
-    → slice_get (first_of_each seen (map (λ q. q.text) ports ++ others)) k ≡ Some n → (find (λ q. bytes_eq n q.text) ports ≡ slice_get ports k) × (is_among n seen ≡ false)
+    → slice_get (first_of_each seen (map (λ q. q.text) ports ++ others)) k ≡ Some n → IsNamedAt seen ports k n
 named-where seen [] others k n once h = (refl, first-unseen seen others k n h)
-named-where seen (q ∷ qs) others k n once h = by (is_among q.text seen) refl once h
+named-where seen (q ∷ qs) others k n once h = by (is_among q.text seen) refl once h (λ j once g. named-where (q.text ∷ seen) qs others j n once g)
   where
-    behind : (k : ℕ) → is_among q.text seen ≡ false → places_again (q.text ∷ seen) qs ≡ [] → slice_get (q.text ∷ first_of_each (q.text ∷ seen) (map (λ q. q.text) qs ++ others)) k ≡ Some n
-        → (find (λ q. bytes_eq n q.text) (q ∷ qs) ≡ slice_get (q ∷ qs) k) × (is_among n seen ≡ false)
-    behind zero e once h =
+    names : List (List ℕ)
+    names = map (λ q. q.text) qs ++ others
+
+    behind : (k : ℕ) → is_among q.text seen ≡ false → slice_get (q.text ∷ first_of_each (q.text ∷ seen) names) k ≡ Some n
+        → ((j : ℕ) → slice_get (first_of_each (q.text ∷ seen) names) j ≡ Some n → IsNamedAt (q.text ∷ seen) qs j n) → IsNamedAt seen (q ∷ qs) k n
+    behind zero e h rest =
         let g : q.text ≡ n = cc in
         (
           ap (λ b. cond b (Some q) (find (λ q. bytes_eq n q.text) qs)) ((bytes_eq-Decides n q.text).1 (sym g)),
           ap (λ x. is_among x seen) (sym g) ∙ e,
         )
-    behind (suc j) e once h =
-        let r = named-where (q.text ∷ seen) qs others j n once h in
+    behind (suc j) e h rest =
+        let r = rest j h in
         let none = or-neither (bytes_eq n q.text) (is_among n seen) r.1 in
         (ap (λ b. cond b (Some q) (find (λ q. bytes_eq n q.text) qs)) none.0 ∙ r.0, none.1)
 
     by : (b : Bool) → is_among q.text seen ≡ b → (if b then q.place ∷ [] else []) ++ places_again (q.text ∷ seen) qs ≡ []
-        → slice_get (if b then first_of_each seen (map (λ q. q.text) qs ++ others) else q.text ∷ first_of_each (q.text ∷ seen) (map (λ q. q.text) qs ++ others)) k ≡ Some n
-        → (find (λ q. bytes_eq n q.text) (q ∷ qs) ≡ slice_get (q ∷ qs) k) × (is_among n seen ≡ false)
-    by true e once h = cc
-    by false e once h = behind k e once h
+        → slice_get (if b then first_of_each seen names else q.text ∷ first_of_each (q.text ∷ seen) names) k ≡ Some n
+        → ((j : ℕ) → places_again (q.text ∷ seen) qs ≡ [] → slice_get (first_of_each (q.text ∷ seen) names) j ≡ Some n → IsNamedAt (q.text ∷ seen) qs j n) → IsNamedAt seen (q ∷ qs) k n
+    by true e once h rest = cc
+    by false e once h rest = behind k e h (λ j g. rest j once g)
 
 no-place : (ps : List Place) → map (fault DuplicateName) ps ≡ [] → ps ≡ []
 no-place [] h = refl

@@ -42,12 +42,12 @@ output-cut vs before old new bs b n h =
 -- ---- several terminals
 
 take-both : {A : Type 0} (n : ℕ) (xs ys : List A) → take n (xs ++ ys) ≡ take n xs ++ take (n - length xs) ys
-take-both {A} n [] ys = let e : n ≡ n - 0 = omega arith in ap (λ k. take k ys) e ∙ ap (λ zs. zs ++ take (n - 0) ys) (sym (take_all n ([] {A = A}) (omega arith)))
+take-both {A} n [] ys = let e : n ≡ n - 0 = omega arith in ap (λ k. take k ys) e ∙ ap (λ (zs : List A). zs ++ take (n - 0) ys) (sym (take_all n [] (omega arith)))
 take-both zero (x ∷ xs) ys = let e : 0 ≡ 0 - suc (length xs) = omega arith in ap (λ k. take k ys) e
 take-both (suc n) (x ∷ xs) ys = let e : n - length xs ≡ suc n - suc (length xs) = omega arith in ap (λ zs. x ∷ zs) (take-both n xs ys ∙ ap (λ k. take n xs ++ take k ys) e)
 
 drop-both : {A : Type 0} (n : ℕ) (xs ys : List A) → drop n (xs ++ ys) ≡ drop n xs ++ drop (n - length xs) ys
-drop-both {A} n [] ys = let e : n ≡ n - 0 = omega arith in ap (λ k. drop k ys) e ∙ ap (λ zs. zs ++ drop (n - 0) ys) (sym (drop_all n ([] {A = A}) (omega arith)))
+drop-both {A} n [] ys = let e : n ≡ n - 0 = omega arith in ap (λ k. drop k ys) e ∙ ap (λ (zs : List A). zs ++ drop (n - 0) ys) (sym (drop_all n [] (omega arith)))
 drop-both zero (x ∷ xs) ys = let e : 0 ≡ 0 - suc (length xs) = omega arith in ap (λ k. (x ∷ xs) ++ drop k ys) e
 drop-both (suc n) (x ∷ xs) ys = let e : n - length xs ≡ suc n - suc (length xs) = omega arith in drop-both n xs ys ∙ ap (λ k. drop n xs ++ drop k ys) e
 
@@ -113,7 +113,11 @@ chosen-append {C = C} g h (x ∷ xs) ys = by (g (h x)) (chosen-append g h xs ys)
     by None e = e
     by (Some c) e = ap (λ zs. c ∷ zs) e
 
--- in room that was cleared
-pub seen-terminals : (vs : List Variable) (n : ℕ) (es : List Expression) (old new : Terminals) → old.left.items ≡ [] → old.right.items ≡ [] → AddsTerminals vs n es old new
-    → (map (view_bit vs) new.left.items ≡ outputs_of vs n es) × (map (view_bit vs) new.right.items ≡ inputs_of vs n es)
-seen-terminals vs n es old new a b h = (h.left ∙ ap (λ xs. map (view_bit vs) xs ++ outputs_of vs n es) a, h.right ∙ ap (λ xs. map (view_bit vs) xs ++ inputs_of vs n es) b)
+-- in room that was cleared, by the list that is lent
+pub seen-left : (vs : List Variable) (n : ℕ) (es : List Expression) (old new : Terminals) (slice : List code_bit.Bit) → old.left.items ≡ [] → AddsTerminals vs n es old new → slice ≡ new.left.items
+    → map (view_bit vs) slice ≡ outputs_of vs n es
+seen-left vs n es old new slice e h s = ap (map (view_bit vs)) s ∙ h.left ∙ ap (λ xs. map (view_bit vs) xs ++ outputs_of vs n es) e
+
+pub seen-right : (vs : List Variable) (n : ℕ) (es : List Expression) (old new : Terminals) (slice : List code_bit.Bit) → old.right.items ≡ [] → AddsTerminals vs n es old new → slice ≡ new.right.items
+    → map (view_bit vs) slice ≡ inputs_of vs n es
+seen-right vs n es old new slice e h s = ap (map (view_bit vs)) s ∙ h.right ∙ ap (λ xs. map (view_bit vs) xs ++ inputs_of vs n es) e

@@ -129,14 +129,15 @@ pub fn add_gate(
     requires first { first ≤ 2 ^ 22 }
     requires few { length made.old.elements.items ≤ 2 ^ 22 }
     ensures few { length made.new.elements.items ≤ 2 ^ 22 }
-    ensures elements { OnOk result ((listed : List ghost_delays.GateDelays) (udps : List ghost_udps.UdpUse) (all : List OwnNet) (source : GhostSource) (s : def.Instance) (k n : ℕ)
-        → IsHere all source s scope table.now row.now → HasDriven all source s table.now driven.now → n ≡ def_elements.output_count kind (length terminals.now)
-        → HasTerminals all s k first (outputs_of table.now n (map view_expression terminals.now)) (inputs_of table.now n (map view_expression terminals.now)) → delays < length listed
+    ensures elements { OnOk result ((listed : List ghost_delays.GateDelays) (udps : List ghost_udps.UdpUse) (all : List OwnNet) (source : GhostSource) (s : def.Instance) (k : ℕ)
+        → IsHere all source s scope table.now row.now → HasDriven all source s table.now driven.now
+        → HasTerminals all s k first (outputs_of table.now (def_elements.output_count kind (length (map view_expression terminals.now))) (map view_expression terminals.now)) (inputs_of table.now (def_elements.output_count kind (length (map view_expression terminals.now))) (map view_expression terminals.now))
+        → delays < length listed
         → Adds listed udps all made.old made.new (def_elements.terminal_elements source s place k (Gate kind (delays_at listed delays))
-        (outputs_of table.now n (map view_expression terminals.now)) (inputs_of table.now n (map view_expression terminals.now)))) }
-    ensures refused { IfErr result (λ r. (listed : List ghost_delays.GateDelays) (source : GhostSource) (s : def.Instance) (k n : ℕ) → n ≡ def_elements.output_count kind (length terminals.now)
+        (outputs_of table.now (def_elements.output_count kind (length (map view_expression terminals.now))) (map view_expression terminals.now)) (inputs_of table.now (def_elements.output_count kind (length (map view_expression terminals.now))) (map view_expression terminals.now)))) }
+    ensures refused { IfErr result (λ r. (listed : List ghost_delays.GateDelays) (source : GhostSource) (s : def.Instance) (k : ℕ)
         → RefusesCount (length made.old.elements.items + length (def_elements.terminal_elements source s place k (Gate kind (delays_at listed delays))
-        (outputs_of table.now n (map view_expression terminals.now)) (inputs_of table.now n (map view_expression terminals.now)))) r) }
+        (outputs_of table.now (def_elements.output_count kind (length (map view_expression terminals.now))) (map view_expression terminals.now)) (inputs_of table.now (def_elements.output_count kind (length (map view_expression terminals.now))) (map view_expression terminals.now)))) r) }
 {
     room.left.clear();
     room.right.clear();
