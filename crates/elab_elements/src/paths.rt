@@ -16,7 +16,7 @@ ghost use Rattle.elab_elements.specs.Words.{path_puts};
 
 use crate::Placing;
 use crate::placing::add_element;
-use crate::reading::end_row;
+use crate::reading::{end_row, part_between};
 use elab_model::ElabKind;
 use elab_modules::Prepared;
 use elab_nets::Rows;
@@ -70,7 +70,8 @@ pub fn add_own_paths(
 {
     let start = prepared.ends.starts[at];
     let end = prepared.ends.starts[at + 1];
-    let ends = end_row(rows, number as usize, prepared.ends.bits.len());
-    let bits = &prepared.ends.bits[start..end];
-    add_paths(number, place, bits, &ends[start..end], row, made)
+    let bits = part_between(&prepared.ends.bits, start, end);
+    let all = end_row(rows, number as usize, prepared.ends.bits.len());
+    let ends = part_between(all, start, end);
+    add_paths(number, place, bits, ends, row, made)
 }
