@@ -19,14 +19,22 @@ use Rattle.elab_laws.specs.Laws.{AreSound}
 use Rattle.elab_laws.specs.NumberLaws.{end_numbers, driven_number}
 use Rattle.elab_laws.proofs.DrivenNumbers.{driven-is_numbered}
 use Rattle.elab_laws.proofs.Lists.{In, all-from, all-in, all-flat_in, all-map, all-range, all-weaker}
+use Rattle.elab_hierarchy.specs.declared.instances.Placed.{Placed}
+use Rattle.elab_modules.specs.declared.library.Library.{Library}
+use Rattle.elab_modules.specs.declared.prepared.Prepared.{Prepared}
+use Rattle.elab_modules.specs.Ready.{IsPrepared}
 use Rattle.elab_ends.specs.Ends.{AreEnds}
 use Rattle.elab_ends.specs.Seen.{bit_seen, bits_seen}
 use Rattle.elab_ends.specs.declared.ends.PathEnds.{PathEnds}
 use Rattle.elab_nets.specs.Numbers.{HasNumbers}
-use Rattle.elab_nets.specs.Rows.{part_of, HasRow}
+use Rattle.elab_nets.specs.Rows.{part_of}
+use Rattle.elab_nets.specs.declared.rows.Rows.{Rows}
 use Rattle.elab_elements.specs.Adding.{IsHere, HasDriven, driven_at}
+use Rattle.elab_elements.specs.Standing.{IsAt}
 use Rattle.elab_elements.specs.Words.{net_in, ends_in}
 use Rattle.elab_elements.proofs.Meaning.{map-map, number-is}
+use Rattle.elab_elements.proofs.ReadHere.{row-is, here-is, row-count, ends-here}
+use Rattle.elab_elements.proofs.StandingAt.{at-place}
 
 map-same : {A B : Type 0} (f g : A → B) (xs : List A) → AllByRecursion (λ x. f x ≡ g x) xs → map f xs ≡ map g xs
 map-same f g [] h = refl
@@ -94,3 +102,38 @@ driven-none source top corner s vs row e sound there are h empty =
     same : (ns : List ℕ) → map (driven_number []) ns ≡ ns
     same [] = refl
     same (n ∷ ns) = ap (λ ms. n ∷ ms) (same ns)
+
+-- ---- of an instance at its place
+
+pub drives-own : (source : Source) (top : Module) (corner : Corner) (ps : List Placed) (library : Library) (rows : Rows) (i : ℕ) (s : Instance) (q : Prepared) (width : ℕ) (row : List ℕ)
+    → IsAt source top corner ps library rows i s → IsPrepared q s.step.definition → width ≡ length (all_bits q.table) → ((start : ℕ) → slice_get rows.starts.items i ≡ Some start → row ≡ part_of rows.inner.items start width)
+    → length q.ends.bits.items ≡ 0 → HasDriven (nets source top) source s q.table row
+drives-own source top corner ps library rows i s q width row h k w f empty =
+    driven-none source top corner s q.table row q.ends h.read.is_ready.sound (at-place (instances source top) i s h.there) k.ends (here-is source top corner ps library rows i s q width row h k w f).numbers empty
+
+pub drives-made : (source : Source) (top : Module) (corner : Corner) (ps : List Placed) (library : Library) (rows : Rows) (i : ℕ) (s : Instance) (q : Prepared) (width count : ℕ) (row ends inside : List ℕ)
+    → IsAt source top corner ps library rows i s → IsPrepared q s.step.definition → width ≡ length (all_bits q.table) → ((start : ℕ) → slice_get rows.starts.items i ≡ Some start → row ≡ part_of rows.inner.items start width)
+    → count ≡ length q.ends.bits.items → ((start : ℕ) → slice_get rows.end_starts.items i ≡ Some start → ends ≡ part_of rows.ends.items start count)
+    → inside ≡ map (driven_number (ends_in row q.ends.bits.items ends)) row → HasDriven (nets source top) source s q.table inside
+drives-made source top corner ps library rows i s q width count row ends inside h k w f n g made =
+    let r = row-is source top corner ps library rows i s h in
+    driven-is source top corner s q.table row ends inside q.ends h.read.is_ready.sound (at-place (instances source top) i s h.there) k.ends (here-is source top corner ps library rows i s q width row h k w f).numbers
+    (ends-here source top rows r.0 s i q.ends count ends r.1 r.2 k.ends n g) made
+
+-- the ends stand in the row, and are as many as their inner nets
+pub ends-in_row : (source : Source) (top : Module) (corner : Corner) (ps : List Placed) (library : Library) (rows : Rows) (i : ℕ) (s : Instance) (q : Prepared) (width : ℕ) (row bits : List ℕ)
+    → IsAt source top corner ps library rows i s → IsPrepared q s.step.definition → width ≡ length (all_bits q.table) → ((start : ℕ) → slice_get rows.starts.items i ≡ Some start → row ≡ part_of rows.inner.items start width)
+    → bits ≡ q.ends.bits.items → All (λ i. i < length row) bits
+ends-in_row source top corner ps library rows i s q width row bits h k w f e =
+    let here = here-is source top corner ps library rows i s q width row h k w f in
+    let n : length row ≡ length (all_bits (variables s.step.definition)) = row-count _ row (all_bits q.table) here.numbers.numbers ∙ ap (λ vs. length (all_bits vs)) k.table in
+    subst (All (λ i. i < length row)) (sym e) (subst (λ n. All (λ i. i < n) q.ends.bits.items) (sym n) k.ends.in_row)
+
+pub ends-count : (source : Source) (top : Module) (corner : Corner) (ps : List Placed) (library : Library) (rows : Rows) (i : ℕ) (s : Instance) (q : Prepared) (count : ℕ) (bits ends : List ℕ)
+    → IsAt source top corner ps library rows i s → IsPrepared q s.step.definition → bits ≡ q.ends.bits.items → count ≡ length q.ends.bits.items
+    → ((start : ℕ) → slice_get rows.end_starts.items i ≡ Some start → ends ≡ part_of rows.ends.items start count) → length bits ≡ length ends
+ends-count source top corner ps library rows i s q count bits ends h k e n g =
+    let r = row-is source top corner ps library rows i s h in
+    let f : NetBit → ℕ = λ b. number_of (nets source top) (inner_spot s b) in
+    ap length e ∙ sym (length-map q.ends.bits.items (bit_seen (variables s.step.definition))) ∙ ap length k.ends.bits ∙ sym (length-map (path_ends s.step.definition) f)
+    ∙ ap length (sym (ends-here source top rows r.0 s i q.ends count ends r.1 r.2 k.ends n g))

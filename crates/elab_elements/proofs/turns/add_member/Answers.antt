@@ -1,7 +1,7 @@
 -- The elements of the member that it is.
-use Rattle.std.proofs.Common.{◌+◌, ◌∙◌, ap, length, map, option_map, subst, sym}
+use Rattle.std.proofs.Common.{◌+◌, ◌∙◌, ap, length, map, option_map, refl, subst, sym}
 use Rattle.std.proofs.lemmas.Result.{err_from_is_err_and, IfOk-weaker, on_ok_weaker}
-use Rattle.vl_tree.specs.Seen.{view_delay, view_expression, view_gate_instance, view_join, view_name}
+use Rattle.vl_tree.specs.Seen.{view_delay, view_expression, view_gate_instance, view_join, view_name, view_path}
 use Rattle.elab_laws.specs.Handing.{all_bits}
 use Rattle.elab_model.specs.Delays.{tick_of}
 use Rattle.elab_model.specs.Elements.{member_elements}
@@ -142,3 +142,37 @@ returns-in-Instance-clause-refused c =
     (f top corner c.args.at (option_map view_delay c.in-Instance.delay.now) s
     (as-member c.args.definitions.now top corner c.args.instances.now c.args.library.now c.args.rows.now c.args.number c.args.prepared.now.table c.args.row.now c.args.driven.now c.args.delays c.args.first c.args.next c.args.at s (view_member c.args.member) _ (ap view_member c.in-Instance.is) h)))
     c.add_named.ensures.refused
+
+pub add_own_paths-requires-clause-at : goal.add_own_paths-requires-clause-at
+add_own_paths-requires-clause-at c = (
+  c.args.definitions.now,
+  (
+    c.requires.at.0,
+    (
+      c.requires.at.1.1.0,
+      (
+        view_member c.args.member,
+        has-paths c.args.definitions.now c.requires.at.0 c.requires.at.1.0 c.args.instances.now c.args.library.now c.args.rows.now c.args.number c.args.prepared.now.table c.args.row.now c.args.driven.now c.args.delays
+            c.args.first c.args.next c.args.at c.requires.at.1.1.0 c.args.prepared.now (view_member c.args.member) c.requires.at.1.1.1.0 refl c.requires.at.1.1.1.1,
+      ),
+    ),
+  ),
+)
+
+pub returns-in_err-add_own_paths-in-Path-clause-refused : goal.returns-in_err-add_own_paths-in-Path-clause-refused
+returns-in_err-add_own_paths-in-Path-clause-refused c =
+    exit-by _ c.from_residual-in_err-add_own_paths-in-Path.result c.in_err-add_own_paths-in-Path.field-0.0
+    (err_from_is_err_and c.from_residual-in_err-add_own_paths-in-Path.result c.from_residual-in_err-add_own_paths-in-Path.ensures.1)
+    (λ top corner s ready h. subst (λ cs. RefusesCount (length c.args.made.now.elements.items + length cs) c.in_err-add_own_paths-in-Path.field-0.0)
+    (path-same c.args.definitions.now top corner c.args.instances.now c.args.library.now c.args.rows.now c.args.number c.args.prepared.now.table c.args.row.now c.args.driven.now c.args.delays c.args.first c.args.next c.args.at s (view_member c.args.member) (view_path c.in-Path.path.now) c.in-Path.path.now.place (ap view_member c.in-Path.is) refl)
+    (c.in_err-add_own_paths-in-Path.ensures.refused c.args.definitions.now top s (view_member c.args.member) (has-paths c.args.definitions.now top corner c.args.instances.now c.args.library.now c.args.rows.now c.args.number c.args.prepared.now.table c.args.row.now c.args.driven.now c.args.delays c.args.first c.args.next c.args.at s c.args.prepared.now (view_member c.args.member) ready refl h)))
+
+pub returns-in_ok-add_own_paths-in-Path-clause-elements : goal.returns-in_ok-add_own_paths-in-Path-clause-elements
+returns-in_ok-add_own_paths-in-Path-clause-elements c = λ top corner s ready h.
+    subst (Adds c.args.library.now.gate_delays.items c.args.library.now.udps.items (nets c.args.definitions.now top) c.args.made.now c.add_own_paths.new.made)
+    (path-same c.args.definitions.now top corner c.args.instances.now c.args.library.now c.args.rows.now c.args.number c.args.prepared.now.table c.args.row.now c.args.driven.now c.args.delays c.args.first c.args.next c.args.at s (view_member c.args.member) (view_path c.in-Path.path.now) c.in-Path.path.now.place (ap view_member c.in-Path.is) refl)
+    (c.in_ok-add_own_paths-in-Path.ensures.elements c.args.library.now.gate_delays.items c.args.library.now.udps.items c.args.definitions.now top s (view_member c.args.member)
+    (has-paths c.args.definitions.now top corner c.args.instances.now c.args.library.now c.args.rows.now c.args.number c.args.prepared.now.table c.args.row.now c.args.driven.now c.args.delays c.args.first c.args.next c.args.at s c.args.prepared.now (view_member c.args.member) ready refl h))
+
+pub returns-in_ok-add_own_paths-in-Path-clause-next : goal.returns-in_ok-add_own_paths-in-Path-clause-next
+returns-in_ok-add_own_paths-in-Path-clause-next c = λ top corner s ready h. path-after c.args.definitions.now top corner c.args.instances.now c.args.library.now c.args.rows.now c.args.number c.args.prepared.now.table c.args.row.now c.args.driven.now c.args.delays c.args.first c.args.next c.args.at s (view_member c.args.member) (view_path c.in-Path.path.now) (ap view_member c.in-Path.is) h
