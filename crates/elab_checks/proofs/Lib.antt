@@ -7,5 +7,6 @@ pub mod SoundOperands
 pub mod BoundEvents
 pub mod MadeChecks
 pub mod InstanceChecks
+pub mod Counts
 pub mod OneByOne
 pub mod InstanceTurn

@@ -19,13 +19,13 @@ use Rattle.circuit_model.specs.PathUses.{bit_number}
 use Rattle.elab_numbering.specs.Refusals.{RefusesCount}
 use Rattle.elab_elements.specs.Adding.{IsHere}
 use Rattle.elab_paths.specs.Uses.{IsRow}
-use Rattle.elab_paths.proofs.Counts.{count-refused}
 use Rattle.elab_paths.proofs.InstanceUses.{flat-more, flat-within}
 use Rattle.elab_paths.proofs.UsesSoFar.{row-is}
 use Rattle.elab_checks.specs.Ready.{check_ready}
 use Rattle.elab_checks.specs.Uses.{AddsCheck, AreUses}
 use Rattle.elab_checks.specs.declared.shelving.ReadyCheck.{ReadyCheck}
 use Rattle.elab_checks.specs.declared.uses.CheckTables.{CheckTables}
+use Rattle.elab_checks.proofs.Counts.{count-refused}
 
 mapped-last : {A B : Type 0} (f : A → B) (us : List A) (u : A) (old new : List B) (x : B) → new ≡ old ++ x ∷ [] → old ≡ map f us → x ≡ f u → new ≡ map f (us ++ u ∷ [])
 mapped-last f us u old new x e h k = e ∙ ap (λ xs. xs ++ x ∷ []) h ∙ ap (λ y. map f us ++ y ∷ []) k ∙ sym (map-append f us (u ∷ []))
@@ -74,7 +74,7 @@ added-more conditions vs row scope cs i d start old new lt h k = subst (λ xs. A
           subst (AreUses conditions new)
           (append_assoc us (uses_in all source s scope conditions vs front) (def.check_use scope (bit_number all source s) (check_ready conditions vs c) ∷ [])
           ∙ ap (λ xs. us ++ xs) (sym (map-append (λ c. def.check_use scope (bit_number all source s) (check_ready conditions vs c)) front (c ∷ []))))
-          (one-more conditions vs row (bit_number all source s) scope c old new (us ++ uses_in all source s scope conditions vs front) (row-is all source s scope vs row here) before k);
+          (one-more conditions vs row (bit_number all source s) scope c old new (us ++ uses_in all source s scope conditions vs front) (row-is all source s vs row here.numbers) before k);
       count = (let a = ap length k.checks_are ∙ length-append old.checks.items (k.check ∷ []) in let b = h.count in let e = length-append front (c ∷ []) in omega (arith, a, b, e));
     }
 

@@ -3,8 +3,7 @@ use Rattle.std.specs.Prelude.{◌≡◌, ℕ, zero, suc, ◌+◌, ◌<◌, ◌==
 use Rattle.std.specs.List.{AllByRecursion, enumerate_from, range_with_len}
 use Rattle.std.proofs.Common.{sym, ◌∙◌, ap, arith, inl, inr, subst}
 use Rattle.std.proofs.lemmas.Bool.{eq-eqb, eqb-true}
-use Rattle.std.proofs.lemmas.List.{length-map}
-use Rattle.std.proofs.lemmas.Option.{slice_get_within}
+use Rattle.std.proofs.lemmas.Option.{get_or_from_slice_get, slice_get_within}
 use Rattle.sg_circuit.specs.Circuit.{Element}
 use Rattle.sg_circuit.specs.Closed.{IfElement}
 use Rattle.sg_circuit.specs.FanOut.{has}
@@ -18,8 +17,7 @@ use Rattle.circuit_model.specs.Circuits.{with_driver, driven_nets}
 use Rattle.circuit_model.specs.Driving.{Driving, NetDrive, by_stimulus, by_element, net_drives, drives_of, driver_of, driver_at, second_of, reg_faults, net_faults, faults_at, driving_faults}
 use Rattle.elab_laws.proofs.Lists.{In, in-right, in-map, in-range, all-append, all-in, all-get}
 use Rattle.elab_laws.proofs.NoFaults.{back, flat-empty, map-empty}
-use Rattle.elab_closed.proofs.Outputs.{placed_output}
-use Rattle.elab_closed.proofs.Places.{place-of, mapped-at, mapped-get, in-enumerate}
+use Rattle.elab_closed.proofs.Places.{place-of, mapped-get, in-enumerate}
 
 -- ---- the nets, each with its driver
 
@@ -76,18 +74,27 @@ element-drives d count e n p h at lt =
     all-in (λ k. faults_at d k ≡ []) n (range_with_len 0 count) (flat-empty (faults_at d) (range_with_len 0 count) h) (in-range n 0 count (omega arith) (omega arith)) in
     only-driver (has n d.regs) (drives_of (net_drives d) n) (by_element x) faultless (in-filter (λ d. d.net == n) (by_element x) (net_drives d) there (eq-eqb n n refl))
 
-pub elements-named : (ns : List Net) (d : Driving) (es : List (Place × Element)) → d.outputs ≡ map placed_output es → driving_faults d (length ns) ≡ [] → AllByRecursion (λ e. e.1.output < length ns) es
-    → (no_element : Element) (no_net : Net) (e : ℕ) → e < length (map (λ e. e.1) es)
-    → (slice_index_or (driven_nets ns d) (slice_index_or (map (λ e. e.1) es) e no_element).output no_net).driver ≡ driver.Element e
+-- what one at a place of a mapped list is made of
+record MadeAt {A B : Type 0} (f : A → B) (xs : List A) (k : ℕ) (y : B) : Type 0 where
+  source : A
+  at : slice_get xs k ≡ Some source
+  made : f source ≡ y
+
+made-at : {A B : Type 0} (f : A → B) (xs : List A) (k : ℕ) (y : B) → slice_get (map f xs) k ≡ Some y → MadeAt f xs k y
+made-at f [] k y e = cc
+made-at f (x ∷ xs) zero y e = record { source = x; at = refl; made = cc }
+made-at f (x ∷ xs) (suc k) y e = let r = made-at f xs k y e in record { source = r.source; at = r.at; made = r.made }
+
+pub elements-named : (ns : List Net) (d : Driving) (es : List Element) → map (λ o. o.1) d.outputs ≡ map (λ e. e.output) es → driving_faults d (length ns) ≡ [] → AllByRecursion (λ e. e.output < length ns) es
+    → (no_element : Element) (no_net : Net) (e : ℕ) → e < length es → (slice_index_or (driven_nets ns d) (slice_index_or es e no_element).output no_net).driver ≡ driver.Element e
 elements-named ns d es outs faultless within no_element no_net e lt =
-    let l = length-map es (λ e. e.1) in
-    let x = place-of es e (omega arith) in
-    let n = x.0.1.output in
-    let out : (slice_index_or (map (λ e. e.1) es) e no_element).output ≡ n = ap (λ z. z.output) (mapped-at (λ e. e.1) es e no_element x.0 x.1) in
-    let at : slice_get d.outputs e ≡ Some (x.0.0, n) = ap (λ xs. slice_get xs e) outs ∙ mapped-get placed_output es e x.0 x.1 in
-    let small : n < length ns = all-get (λ e. e.1.output < length ns) es e x.0 within x.1 in
-    subst (λ k. (slice_index_or (driven_nets ns d) k no_net).driver ≡ driver.Element e) (sym out)
-    (driven-at ns d n no_net small ∙ element-drives d (length ns) e n x.0.0 faultless at small)
+    let x = place-of es e lt in
+    let n = x.0.output in
+    let out : (slice_index_or es e no_element).output ≡ n = ap (λ z. z.output) (get_or_from_slice_get es e x.0 no_element x.1) in
+    let r = made-at (λ o. o.1) d.outputs e n (ap (λ xs. slice_get xs e) outs ∙ mapped-get (λ e. e.output) es e x.0 x.1) in
+    let small : n < length ns = all-get (λ e. e.output < length ns) es e x.0 within x.1 in
+    let drives : driver_at d r.source.1 ≡ driver.Element e = element-drives d (length ns) e r.source.1 r.source.0 faultless r.at (subst (λ k. k < length ns) (sym r.made) small) in
+    subst (λ k. (slice_index_or (driven_nets ns d) k no_net).driver ≡ driver.Element e) (sym out) (driven-at ns d n no_net small ∙ ap (driver_at d) (sym r.made) ∙ drives)
 
 -- ---- the timing checks alone drive the net of a reg
 
@@ -158,26 +165,13 @@ if-weaker driver.Stimulus P Q f h = tt
 if-weaker (driver.Element e) P Q f h = f e h
 if-weaker driver.Notifier P Q f h = tt
 
--- what one at a place of a mapped list is made of
-record MadeAt {A B : Type 0} (f : A → B) (xs : List A) (k : ℕ) (y : B) : Type 0 where
-  source : A
-  at : slice_get xs k ≡ Some source
-  made : f source ≡ y
-
-made-at : {A B : Type 0} (f : A → B) (xs : List A) (k : ℕ) (y : B) → slice_get (map f xs) k ≡ Some y → MadeAt f xs k y
-made-at f [] k y e = cc
-made-at f (x ∷ xs) zero y e = record { source = x; at = refl; made = cc }
-made-at f (x ∷ xs) (suc k) y e = let r = made-at f xs k y e in record { source = r.source; at = r.at; made = r.made }
-
-pub nets-driven : (ns : List Net) (d : Driving) (es : List (Place × Element)) → d.outputs ≡ map placed_output es
-    → (no_element : Element) (no_net : Net) (n : ℕ) → n < length (driven_nets ns d)
-    → IfElement (slice_index_or (driven_nets ns d) n no_net).driver (λ e. (e < length (map (λ e. e.1) es)) × ((slice_index_or (map (λ e. e.1) es) e no_element).output ≡ n))
+pub nets-driven : (ns : List Net) (d : Driving) (es : List Element) → map (λ o. o.1) d.outputs ≡ map (λ e. e.output) es → (no_element : Element) (no_net : Net) (n : ℕ) → n < length (driven_nets ns d)
+    → IfElement (slice_index_or (driven_nets ns d) n no_net).driver (λ e. (e < length es) × ((slice_index_or es e no_element).output ≡ n))
 nets-driven ns d es outs no_element no_net n lt =
     let l = driven-count ns d in
-    subst (λ w. IfElement w (λ e. (e < length (map (λ e. e.1) es)) × ((slice_index_or (map (λ e. e.1) es) e no_element).output ≡ n))) (sym (driven-at ns d n no_net (omega arith)))
-    (if-weaker (driver_at d n) (λ e. (p : Place) × (slice_get d.outputs e ≡ Some (p, n))) (λ e. (e < length (map (λ e. e.1) es)) × ((slice_index_or (map (λ e. e.1) es) e no_element).output ≡ n))
-    (λ e by. let r = made-at placed_output es e (by.0, n) (ap (λ xs. slice_get xs e) (sym outs) ∙ by.1) in (
-      subst (λ k. e < k) (sym (length-map es (λ e. e.1))) (slice_get_within es e r.source r.at),
-      ap (λ z. z.output) (mapped-at (λ e. e.1) es e no_element r.source r.at) ∙ ap (λ q. q.1) r.made,
-    ))
+    subst (λ w. IfElement w (λ e. (e < length es) × ((slice_index_or es e no_element).output ≡ n))) (sym (driven-at ns d n no_net (omega arith)))
+    (if-weaker (driver_at d n) (λ e. (p : Place) × (slice_get d.outputs e ≡ Some (p, n))) (λ e. (e < length es) × ((slice_index_or es e no_element).output ≡ n))
+    (λ e by.
+    let r = made-at (λ e. e.output) es e n (ap (λ xs. slice_get xs e) (sym outs) ∙ mapped-get (λ o. o.1) d.outputs e (by.0, n) by.1) in
+    (slice_get_within es e r.source r.at, ap (λ z. z.output) (get_or_from_slice_get es e r.source no_element r.at) ∙ r.made))
     (first-drives d.outputs (has n d.regs) n (net_drives d) (drives-honest d)))

@@ -4,7 +4,14 @@ pub mod Widths
 pub mod Scopes
 pub mod Counts
 pub mod Delays
+pub mod KnownBits
+pub mod Leaves
+pub mod Operands
 pub mod PathTimings
+pub mod NamedPaths
+pub mod SoundChecks
+pub mod NamedChecks
+pub mod Named
 pub mod Fits
 pub mod Elements
 pub mod Outputs

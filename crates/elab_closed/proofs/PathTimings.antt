@@ -1,5 +1,6 @@
 -- Paths have the delays of twelve transitions, and limits in order, where their blocks have no fault.
-use Rattle.std.specs.Prelude.{◌≡◌, ℕ, ◌-◌, ◌<◌, ◌≤◌, ◌==◌, ◌^◌, ◌||◌, IfSome, List, [], ◌∷◌, ◌++◌, Bool, true, false, Option, Some, None, Ok, cond, filter, flat_map, is_err, length, map, max, min, nat_le, nat_lt, refl, ℤ}
+use Rattle.std.specs.Prelude.{◌≡◌, ℕ, ◌-◌, ◌<◌, ◌≤◌, ◌==◌, ◌^◌, ◌||◌, IfSome, List, [], ◌∷◌, ◌++◌, Bool, true, false, Option, Some, None, Ok, cond, filter, flat_map, is_err, length, map, max, min, nat_le}
+use Rattle.std.specs.Prelude.{nat_lt, refl, ℤ}
 use Rattle.std.specs.List.{AllByRecursion, last_or}
 use Rattle.std.specs.Option.{option_map, option_or}
 use Rattle.std.proofs.Common.{◌∙◌, arith}
@@ -18,7 +19,8 @@ use Rattle.elab_model.specs.Faults.{fault_if}
 use Rattle.elab_model.specs.Names.{Variable, variables}
 use Rattle.elab_model.specs.TerminalFaults.{delay_limit}
 use Rattle.specify_model.specs.Blocks.{Pulse, specify_items, parameters, pulses, specify_paths, style_texts}
-use Rattle.specify_model.specs.Faults.{parameter_faults, has_no_ends, are_bad_limits, pulse_faults, end_faults, side_faults, condition_faults, own_condition, source_faults, amount_parts, amount_place, unknown_faults, long_faults, delay_faults, list_faults, path_faults, style_faults, specify_faults}
+use Rattle.specify_model.specs.Faults.{parameter_faults, has_no_ends, are_bad_limits, pulse_faults, end_faults, side_faults, condition_faults, own_condition, source_faults, amount_parts, amount_place}
+use Rattle.specify_model.specs.Faults.{unknown_faults, long_faults, delay_faults, list_faults, path_faults, style_faults, specify_faults}
 use Rattle.specify_model.specs.Outputs.{PathOutput, first_paths, paths_to, output_of, measure, path_outputs}
 use Rattle.specify_model.specs.Paths.{PathTo, timings_with, path_between, paths_of, module_paths}
 use Rattle.specify_model.specs.PulseLimits.{limit_ticks, is_for_ends, is_for_others, last_of, limits_of}
@@ -123,7 +125,7 @@ last-holds : (P : Pulse → Type 0) (o : Option Pulse) (ps : List Pulse) → IfS
 last-holds P o [] h k = h
 last-holds P o (p ∷ ps) h k = last-holds P (Some p) ps k.0 k.1
 
-filtered : {A : Type 0} (P : A → Type 0) (t : A → Bool) (xs : List A) → AllByRecursion P xs → AllByRecursion P (filter t xs)
+pub filtered : {A : Type 0} (P : A → Type 0) (t : A → Bool) (xs : List A) → AllByRecursion P xs → AllByRecursion P (filter t xs)
 filtered P t [] h = tt
 filtered P t (x ∷ xs) h = by (t x) (filtered P t xs h.1)
   where
@@ -140,7 +142,8 @@ pub given-limits : (by : Measure) (vs : List Variable) (ps : List Pulse) → fla
 given-limits by vs ps h i o =
     let each : AllByRecursion (λ p. AreLimits (limit_ticks by p)) ps =
     all-weaker (λ p. pulse_faults by vs p ≡ []) (λ p. AreLimits (limit_ticks by p)) ps
-    (λ p e. limits-are (limit_ticks by p) (no-fault (are_bad_limits (limit_ticks by p)) BadDelay p.name.place (back (fault_if (has_no_ends vs p) UnknownName p.name.place) (fault_if (are_bad_limits (limit_ticks by p)) BadDelay p.name.place) e)))
+    (λ p e. limits-are (limit_ticks by p)
+    (no-fault (are_bad_limits (limit_ticks by p)) BadDelay p.name.place (back (fault_if (has_no_ends vs p) UnknownName p.name.place) (fault_if (are_bad_limits (limit_ticks by p)) BadDelay p.name.place) e)))
     (flat-empty (pulse_faults by vs) ps h) in
     found by (last_of (is_for_ends vs i o) ps) (last_of is_for_others ps)
     (last-holds (λ p. AreLimits (limit_ticks by p)) None (filter (is_for_ends vs i o) ps) tt (filtered (λ p. AreLimits (limit_ticks by p)) (is_for_ends vs i o) ps each))
@@ -177,7 +180,8 @@ path-delays by values place ds h =
     let wrong = fault_if (is_err (expanded by values ds)) BadDelay place in
     twelve-below (2 ^ 60) list
     (all-map (λ n. n < 2 ^ 60) (delay_ticks by values) ds
-    (all-weaker (λ d. delay_faults by values d ≡ []) (λ d. delay_ticks by values d < 2 ^ 60) ds (short by values) (flat-empty (delay_faults by values) ds (front (flat_map (delay_faults by values) ds) wrong h))))
+    (all-weaker (λ d. delay_faults by values d ≡ []) (λ d. delay_ticks by values d < 2 ^ 60) ds (short by values)
+    (flat-empty (delay_faults by values) ds (front (flat_map (delay_faults by values) ds) wrong h))))
     (no-fault (is_err (expanded by values ds)) BadDelay place (back (flat_map (delay_faults by values) ds) wrong h))
 
 abbrev IsTimed : PathTo → Type 0
@@ -203,23 +207,38 @@ kept b ps h = all-map (λ p. AreTimings p.timings) (λ p. p.path) (filter (λ p.
 abbrev pub AreTimed : PathOutput → Type 0
 AreTimed o = AllByRecursion (λ p. AreTimings p.timings) o.paths
 
+-- no specify path has a fault, and no limit of pulses
+record AreSound (corner : Corner) (tick : ℤ) (m : Module) : Type 0 where
+  limits : flat_map (pulse_faults (measure corner tick m) (variables m)) (pulses (specify_items m)) ≡ []
+  paths : AllByRecursion (λ p. path_faults (measure corner tick m) (variables m) (value_of (parameters (specify_items m))) p ≡ []) (specify_paths (specify_items m))
+
+are-sound : (corner : Corner) (tick : ℤ) (m : Module) → specify_faults corner tick m ≡ [] → AreSound corner tick m
+are-sound corner tick m h =
+    let by = measure corner tick m in
+    let vs = variables m in
+    let items = specify_items m in
+    let each = path_faults by vs (value_of (parameters items)) in
+    let limits = flat_map (pulse_faults by vs) (pulses items) in
+    let paths = flat_map each (specify_paths items) in
+    let styles = flat_map (style_faults vs) (style_texts items) in
+    let rest = back (parameter_faults (parameters items)) (limits ++ (paths ++ styles)) h in
+    record { limits = front limits (paths ++ styles) rest; paths = flat-empty each (specify_paths items) (front paths styles (back limits (paths ++ styles) rest)) }
+
+pub paths-sound : (corner : Corner) (tick : ℤ) (m : Module) → specify_faults corner tick m ≡ []
+    → AllByRecursion (λ p. path_faults (measure corner tick m) (variables m) (value_of (parameters (specify_items m))) p ≡ []) (specify_paths (specify_items m))
+paths-sound corner tick m h = (are-sound corner tick m h).paths
+
 pub outputs-timed : (corner : Corner) (tick : ℤ) (m : Module) → specify_faults corner tick m ≡ [] → AllByRecursion AreTimed (path_outputs corner tick m)
 outputs-timed corner tick m h =
     let by = measure corner tick m in
     let vs = variables m in
     let items = specify_items m in
     let values = value_of (parameters items) in
-    let twice = parameter_faults (parameters items) in
-    let limits = flat_map (pulse_faults by vs) (pulses items) in
-    let paths = flat_map (path_faults by vs values) (specify_paths items) in
-    let styles = flat_map (style_faults vs) (style_texts items) in
-    let rest = back twice (limits ++ (paths ++ styles)) h in
-    let no-limits : limits ≡ [] = front limits (paths ++ styles) rest in
-    let no-paths : paths ≡ [] = front paths styles (back limits (paths ++ styles) rest) in
+    let sound = are-sound corner tick m h in
     let ps = module_paths by vs items in
     let timed : AllByRecursion IsTimed ps =
     all-flat_in IsTimed (paths_of by vs values (limits_of by vs (pulses items))) (specify_paths items)
     (all-weaker (λ p. path_faults by vs values p ≡ []) (λ p. AllByRecursion IsTimed (paths_of by vs values (limits_of by vs (pulses items)) p)) (specify_paths items)
-    (λ p e. path-timed by vs values (pulses items) p no-limits e) (flat-empty (path_faults by vs values) (specify_paths items) no-paths)) in
+    (λ p e. path-timed by vs values (pulses items) p sound.limits e) sound.paths) in
     all-map AreTimed (output_of vs (style_texts items) ps) (first_paths [] ps)
     (all-anyway (λ p. AreTimed (output_of vs (style_texts items) ps p)) (first_paths [] ps) (λ p. kept p.output ps timed))

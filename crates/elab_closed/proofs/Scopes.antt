@@ -1,28 +1,24 @@
 -- Instances stand after those that they lie in, and each net is of an instance.
-use Rattle.std.specs.Prelude.{◌≡◌, ℕ, ◌<◌, List, [], ◌∷◌, ◌++◌, if◌then◌else◌, IfSome, Option, Some, None, flat_map, length, map, refl, slice_get, slice_index_or, take, drop}
+use Rattle.std.specs.Prelude.{◌≡◌, ℕ, ◌<◌, List, [], ◌∷◌, ◌++◌, if◌then◌else◌, IfSome, Option, Some, None, flat_map, length, map, refl, slice_get, slice_index_or}
 use Rattle.std.specs.List.{AllByRecursion, enumerate_from, range_with_len}
 use Rattle.std.proofs.Common.{sym, ◌∙◌, ap, arith, subst}
 use Rattle.std.proofs.lemmas.List.{length-map}
 use Rattle.sg_circuit.specs.Circuit.{Scope}
-use Rattle.sg_delay.specs.declared.corners.Corner.{Corner}
 use Rattle.vl_tree.specs.Tree.{Module, Source, Part, a_module, a_primitive}
 use Rattle.elab_model.specs.Bits.{Bit, net, constant, positions}
 use Rattle.elab_model.specs.Connections.{port_values}
 use Rattle.elab_model.specs.Definitions.{definition_of}
-use Rattle.elab_model.specs.Delays.{tick_of}
-use Rattle.elab_model.specs.Elements.{expression_bits, terminal_bits, output_count, child_at, bound_above}
+use Rattle.elab_model.specs.Elements.{expression_bits, output_bits, input_bits, output_count, child_at, bound_above}
+use Rattle.elab_model.specs.Ends.{first_ends}
 use Rattle.elab_model.specs.Hierarchy.{Step, Instance, instances}
 use Rattle.elab_model.specs.Homes.{bit, is_same_spot, has_leg, home_of}
-use Rattle.elab_model.specs.Members.{Member, assignment, supply, gate, instance, members, connection_values}
+use Rattle.elab_model.specs.Members.{Member, assignment, supply, gate, instance, path, members, connection_values}
 use Rattle.elab_model.specs.Names.{variable, variables}
 use Rattle.elab_model.specs.Nets.{OwnNet, bit_net, variable_nets, terminal_net, terminal_nets, outside_net, is_unbound, unbound_net}
-use Rattle.elab_model.specs.Nets.{unbound_nets, constant_net, constant_nets, instance_nets, member_nets, nets_of, nets}
+use Rattle.elab_model.specs.Nets.{inner_net, unbound_nets, constant_net, constant_nets, instance_nets, member_nets, nets_of, nets}
 use Rattle.elab_model.specs.Numbered.{undriven}
 use Rattle.elab_model.specs.Ports.{port_list}
 use Rattle.elab_model.specs.Scopes.{parent_of}
-use Rattle.specify_model.specs.Outputs.{path_outputs}
-use Rattle.circuit_model.specs.PathUses.{path_use, path_uses_of, path_uses}
-use Rattle.circuit_model.specs.WithPaths.{all_nets}
 use Rattle.elab_laws.proofs.Lists.{all-anyway, all-append, all-flat, all-flat_in, all-get, all-map, all-map_back, all-range, all-weaker}
 use Rattle.elab_laws.proofs.PartsApart.{all-if}
 use Rattle.elab_laws.proofs.Handed.{Rises, instances-rise}
@@ -69,8 +65,8 @@ terminal-of s k (constant at w ∷ bs) x = tt
 terminal-of s k (net m q ∷ bs) (i, net n p) = tt
 terminal-of s k (net m q ∷ bs) (i, constant at v) = (refl, tt)
 
-terminals-of : (s : Instance) (k outputs : ℕ) (bs : List Bit) → AllByRecursion (IsOf s.step.number) (terminal_nets s k outputs bs)
-terminals-of s k outputs bs = all-flat (IsOf s.step.number) (terminal_net s k (take outputs bs)) (enumerate_from 0 (drop outputs bs)) (terminal-of s k (take outputs bs))
+terminals-of : (s : Instance) (k : ℕ) (outputs inputs : List Bit) → AllByRecursion (IsOf s.step.number) (terminal_nets s k outputs inputs)
+terminals-of s k outputs inputs = all-flat (IsOf s.step.number) (terminal_net s k outputs) (enumerate_from 0 inputs) (terminal-of s k outputs)
 
 unbound-of : (source : Source) (s c : Instance) → AllByRecursion (IsOf s.step.number) (unbound_nets source s c)
 unbound-of source s c =
@@ -94,15 +90,18 @@ constants-of source s c =
 member-of : (source : Source) (s : Instance) (x : ℕ × Member) → AllByRecursion (IsOf s.step.number) (member_nets source s x)
 member-of source s (k, assignment j) = tt
 member-of source s (k, supply n v) = tt
-member-of source s (k, gate g d i) = let bs = terminal_bits s i.terminals in terminals-of s k (output_count g (length bs)) bs
+member-of source s (k, gate g d i) = let outputs = output_count g (length i.terminals) in terminals-of s k (output_bits s outputs i.terminals) (input_bits s outputs i.terminals)
 member-of source s (k, instance n d i) = by (definition_of source n.text)
   where
     by : (o : Option Part) → AllByRecursion (IsOf s.step.number) (instance_nets source s k i o)
     by None = tt
-    by (Some (a_primitive p)) = terminals-of s k 1 (terminal_bits s (connection_values i.connections))
+    by (Some (a_primitive p)) = let es = connection_values i.connections in terminals-of s k (output_bits s 1 es) (input_bits s 1 es)
     by (Some (a_module m)) =
         all-flat (IsOf s.step.number) (λ c. unbound_nets source s c ++ constant_nets source s c) (child_at source s k)
         (λ c. all-append (IsOf s.step.number) (unbound_nets source s c) (constant_nets source s c) (unbound-of source s c) (constants-of source s c))
+member-of source s (k, path p) =
+    let bs = first_ends s.step.definition (k, path p) in
+    all-map (IsOf s.step.number) (inner_net s) bs (all-anyway (λ b. s.step.number ≡ s.step.number) bs (λ b. refl))
 
 nets-of : (source : Source) (s : Instance) → AllByRecursion (IsOf s.step.number) (nets_of source s)
 nets-of source s =
@@ -120,20 +119,5 @@ nets-below_count source top =
     (λ s lt. all-weaker (IsOf s.step.number) (λ o. o.scope < n) (nets_of source s) (λ o e. subst (λ k. k < n) (sym e) lt) (nets-of source s))
     (numbers-below_count source top))
 
--- and so is each inner net
-inner-below_count : (source : Source) (top : Module) (corner : Corner) → AllByRecursion (λ u. u.inner.scope < length (instances source top)) (path_uses source top corner)
-inner-below_count source top corner =
-    let n = length (instances source top) in
-    let tick = tick_of source top in
-    all-flat_in (λ u. u.inner.scope < n) (path_uses_of (nets source top) source corner tick) (instances source top)
-    (all-weaker (λ s. s.step.number < n) (λ s. AllByRecursion (λ u. u.inner.scope < n) (path_uses_of (nets source top) source corner tick s)) (instances source top)
-    (λ s lt. all-map (λ u. u.inner.scope < n) (path_use (nets source top) source s) (path_outputs corner tick s.step.definition)
-    (all-anyway (λ o. s.step.number < n) (path_outputs corner tick s.step.definition) (λ o. lt)))
-    (numbers-below_count source top))
-
-pub net-scopes : (source : Source) (top : Module) (corner : Corner) → AllByRecursion (λ n. n.scope < length (instances source top)) (all_nets source top corner)
-net-scopes source top corner =
-    let n = length (instances source top) in
-    all-append (λ x. x.scope < n) (map undriven (nets source top)) (map (λ u. u.inner) (path_uses source top corner))
-    (all-map (λ x. x.scope < n) undriven (nets source top) (nets-below_count source top))
-    (all-map (λ x. x.scope < n) (λ u. u.inner) (path_uses source top corner) (inner-below_count source top corner))
+pub net-scopes : (source : Source) (top : Module) → AllByRecursion (λ n. n.scope < length (instances source top)) (map undriven (nets source top))
+net-scopes source top = let n = length (instances source top) in all-map (λ x. x.scope < n) undriven (nets source top) (nets-below_count source top)

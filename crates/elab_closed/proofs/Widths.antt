@@ -1,5 +1,5 @@
 -- Each variable of a scope has a net for each of its bits.
-use Rattle.std.specs.Prelude.{◌≡◌, ℕ, ◌<◌, ◌≤◌, All, length, map}
+use Rattle.std.specs.Prelude.{◌≡◌, ℕ, ◌<◌, All, length, map}
 use Rattle.std.proofs.Common.{◌∙◌, arith}
 use Rattle.std.proofs.lemmas.List.{length-map}
 use Rattle.std.proofs.lemmas.List.Elements.{All-from_recursion}
@@ -40,12 +40,11 @@ have-widths source top =
     over-scopes source top HasWidth
     (λ s there v own. length-map (positions v.range) (λ p. number_of (nets source top) (home_of source s v.name p)) ∙ length-range_with_len 0 (width_of v.range))
 
-pub have-bits : (source : Source) (top : Module) (count : ℕ) → length (nets source top) ≤ count
-    → All (λ s. All (HasBitsBelow count) s.variables) (map (scope_of (nets source top) source) (instances source top))
-have-bits source top count le =
+pub have-bits : (source : Source) (top : Module) → All (λ s. All (HasBitsBelow (length (nets source top))) s.variables) (map (scope_of (nets source top) source) (instances source top))
+have-bits source top =
+    let count = length (nets source top) in
     over-scopes source top (HasBitsBelow count)
     (λ s there v own. All-from_recursion (λ n. n < count) (map (λ p. number_of (nets source top) (home_of source s v.name p)) (positions v.range))
     (all-map (λ n. n < count) (λ p. number_of (nets source top) (home_of source s v.name p)) (positions v.range)
     (all-weaker (λ p. p < width_of v.range) (λ p. number_of (nets source top) (home_of source s v.name p) < count) (positions v.range)
-    (λ p lt. let own_lt : number_of (nets source top) (home_of source s v.name p) < length (nets source top) = (bits-have_nets source top s v p there own lt).1 in omega arith)
-    (all-range (width_of v.range) 0 (width_of v.range) (omega arith)))))
+    (λ p lt. (bits-have_nets source top s v p there own lt).1) (all-range (width_of v.range) 0 (width_of v.range) (omega arith)))))

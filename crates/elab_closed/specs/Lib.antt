@@ -1,2 +1,3 @@
--- The modules of this folder: the law.
+-- The modules of this folder: the laws.
+pub mod NamedNets
 pub mod Laws

@@ -12,12 +12,12 @@ use Rattle.sg_text.specs.declared.refusals.Refused.{Refused}
 use Rattle.sg_text.specs.declared.refusals.Refused.TheVariants as refused
 use Rattle.elab_model.specs.declared.kinds.ElabKind.{ElabKind}
 use Rattle.elab_model.specs.declared.kinds.ElabKind.TheVariants.{SecondDriver, BadTerminal}
-use Rattle.elab_model.specs.Faults.{Fault, fault, RefusesOneOf}
+use Rattle.elab_model.specs.Faults.{fault, RefusesOneOf}
 use Rattle.circuit_model.specs.Driving.{NetDrive, by_stimulus, by_element, drives_of, second_of, reg_faults, faults_at, driving_faults}
 use Rattle.elab_laws.proofs.Lists.{In, in-left, in-right, in-map, in-flat, in-range, all-in}
 use Rattle.elab_numbering.specs.Driving.{IsSecond, IsTaken, drivers_at}
 use Rattle.elab_numbering.specs.Driving as numbered
-use Rattle.elab_drivers.specs.Drivers.{IsPlaceOf, IsPlaceOfDriver}
+use Rattle.elab_drivers.specs.Drivers.{IsPlaceOfDriver}
 use Rattle.elab_drivers.specs.Tables.{driving_of}
 use Rattle.elab_drivers.proofs.ByNumber.{placed_inputs, placed_outputs, all_drives, number_only, drives-only, drivers-only, drives-below}
 use Rattle.elab_drivers.proofs.Members.{in-among, among-in, in-filter, from-filter, all-filter}

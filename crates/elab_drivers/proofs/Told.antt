@@ -8,7 +8,7 @@ use Rattle.sg_circuit.specs.FanOut.{has}
 use Rattle.sg_circuit.specs.declared.nets.Driver.{Driver}
 use Rattle.sg_circuit.specs.declared.nets.Driver.TheVariants.{Nobody, Notifier}
 use Rattle.sg_text.specs.declared.places.Place.{Place}
-use Rattle.circuit_model.specs.Driving.{NetDrive, drives_of, driver_of, driver_at, drivers, second_of, reg_faults, faults_at}
+use Rattle.circuit_model.specs.Driving.{NetDrive, drives_of, driver_of, driver_at, second_of, reg_faults, faults_at}
 use Rattle.elab_numbering.specs.Driving.{NumberedDrive, by_checks, drivers_at, first_or_nobody, StandsFor, DrivesRegs}
 use Rattle.elab_numbering.proofs.DriveLemmas.{at-append}
 use Rattle.elab_drivers.specs.Tables.{driving_of, HasDrivers}

@@ -1,5 +1,5 @@
 -- Placing the children of an instance, one after another.
-use Rattle.std.specs.Prelude.{◌≡◌, ℕ, zero, suc, ◌+◌, ◌-◌, ◌<◌, ◌==◌, List, [], ◌∷◌, ◌++◌, false, ◌||◌, Some, flat_map, length, slice_index_or, refl, bytes_eq}
+use Rattle.std.specs.Prelude.{◌≡◌, ℕ, zero, suc, ◌+◌, ◌-◌, ◌<◌, ◌==◌, List, [], ◌∷◌, ◌++◌, Bool, false, ◌||◌, Some, flat_map, length, slice_index_or, refl, bytes_eq, if◌then◌else◌}
 use Rattle.std.specs.Global.{Vec}
 use Rattle.std.specs.List.{list_any}
 use Rattle.std.proofs.Common.{sym, ◌∙◌, ap, arith, subst, drop, drop-cons, append_assoc, append-nil, add-one, length-append}
@@ -10,10 +10,10 @@ use Rattle.vl_tree.specs.Tree.{Source}
 use Rattle.elab_model.specs.declared.kinds.ElabKind.TheVariants.{SelfInstance}
 use Rattle.elab_model.specs.Faults.{Fault, fault_if}
 use Rattle.elab_model.specs.Hierarchy.{Step, Instance, Child, children_in, size, instances_from, text_of}
-use Rattle.elab_model.specs.HierarchyFaults.{is_above, self_instances, two_definitions}
+use Rattle.elab_model.specs.HierarchyFaults.{has_round, is_above, self_instances, past_limit, two_definitions}
 use Rattle.elab_hierarchy.specs.Children.{IsChild, AreChildren}
-use Rattle.elab_hierarchy.specs.Growing.{below, IsChain, IsAt, Grown, ended}
-use Rattle.elab_hierarchy.specs.Placing.{IsPlaced, ArePlaced, tree_faults_at}
+use Rattle.elab_hierarchy.specs.Growing.{below, IsChain, IsAt, AreFaultless, Grown, ended}
+use Rattle.elab_hierarchy.specs.Placing.{IsPlaced, ArePlaced}
 use Rattle.elab_hierarchy.specs.Tops.{StandsAt}
 use Rattle.elab_hierarchy.specs.declared.children.Child as code_child
 use Rattle.elab_hierarchy.specs.declared.instances.Placed.{Placed}
@@ -23,6 +23,12 @@ use Rattle.elab_hierarchy.proofs.Sizes.{size-is, with-below, below_from, child_i
 
 abbrev pub self_at : Instance → Child → List Fault
 self_at s c = fault_if (is_above s c.definition) SelfInstance c.place
+
+pub faultless-append : (source : Source) (ss ts : List Instance) → AreFaultless source ss → AreFaultless source ts → AreFaultless source (ss ++ ts)
+faultless-append source ss ts h k = (
+  flat_map-append (self_instances source) ss ts ∙ ap (λ xs. xs ++ flat_map (self_instances source) ts) h.0 ∙ k.0,
+  flat_map-append (past_limit source) ss ts ∙ ap (λ xs. xs ++ flat_map (past_limit source) ts) h.1 ∙ k.1,
+)
 
 -- the first k children are placed, and these are left
 pub record Going (source : Source) (n : ℕ) (s : Instance) (cs : List code_child.Child) (k : ℕ) (old now : List Placed) : Type 0 where
@@ -34,7 +40,7 @@ pub record Going (source : Source) (n : ℕ) (s : Instance) (cs : List code_chil
   pub placed : ArePlaced source added done
   pub rest : done ++ below_from source n s (length now) left ≡ below source n s
   pub self : flat_map (self_at s) left ≡ self_instances source s
-  pub faultless : flat_map (tree_faults_at source) done ≡ []
+  pub faultless : AreFaultless source done
   pub deep : n ≡ 0 → left ≡ children_in source s.step.definition
 
 -- ---- at first
@@ -44,8 +50,8 @@ all-left source zero s next e = refl
 all-left source (suc d) s next e = ap (λ k. below_from source (suc d) s k (children_in source s.step.definition)) e
 
 pub begun : (source : Source) (n : ℕ) (s : Instance) (cs : List code_child.Child) (old : List Placed) → AreChildren source cs (children_in source s.step.definition)
-    → length old ≡ suc s.step.number → Going source n s cs 0 old old
-begun source n s cs old are e = record {
+    → length old ≡ suc s.step.number → has_round (s.step ∷ s.above) ≡ false → Going source n s cs 0 old old
+begun source n s cs old are e no_round = record {
   left = children_in source s.step.definition;
   are = are;
   added = [];
@@ -53,8 +59,8 @@ begun source n s cs old are e = record {
   done = [];
   placed = tt;
   rest = all-left source n s (length old) e;
-  self = refl;
-  faultless = refl;
+  self = ap (λ (b : Bool). if b then [] else flat_map (self_at s) (children_in source s.step.definition)) (sym no_round);
+  faultless = (refl, refl);
   deep = λ z. refl;
 }
 
@@ -90,14 +96,15 @@ chain-one source j step once stands = chain-more source [] [] j step once stands
 
 -- the code is at the child
 pub at-child : (source : Source) (all : List (Vec code_child.Child)) (n d definition number : ℕ) (chain : List ℕ) (c count : ℕ) (s : Instance) (x : code_child.Child) (child : Child) (next : ℕ)
-    → IsAt source all n definition number chain c s → IsChild source x child → count ≡ suc next
+    → IsAt source all n definition number chain c s → IsChild source x child → list_any (λ k. k == x.definition) chain ≡ false → count ≡ suc next
     → IsAt source all d x.definition next (chain ++ x.definition ∷ []) count (child_instance d s child next)
-at-child source all n d definition number chain c count s x child next h same e = record {
+at-child source all n d definition number chain c count s x child next h same other e = record {
   tree = h.tree;
   stands = same.stands;
   numbered = refl;
   leveled = refl;
   chained = chain-more source chain (s.step ∷ s.above) x.definition (child_instance d s child next).step h.tree.once same.stands h.chained;
+  no_round = ap (λ b. b || has_round (s.step ∷ s.above)) (sym (h.chained x.definition child.definition same.stands) ∙ other) ∙ h.no_round;
   last = e;
 }
 
@@ -106,13 +113,14 @@ one-longer now mid p e = ap length e ∙ length-append now (p ∷ [])
 
 -- the same, where the code has put the child at the end of the chain and of the list
 pub code-at-child : (source : Source) (all : List (Vec code_child.Child)) (n definition number : ℕ) (chain chain_now pushed : List ℕ) (c : ℕ) (s : Instance) (x : code_child.Child) (child : Child)
-    (own : ℕ) (now mid : List Placed) (p : Placed) → IsAt source all n definition number chain c s → IsChild source x child → own ≡ length now → chain_now ≡ chain
+    (own : ℕ) (now mid : List Placed) (p : Placed) → IsAt source all n definition number chain c s → IsChild source x child → list_any (λ k. k == x.definition) chain ≡ false
+    → own ≡ length now → chain_now ≡ chain
     → pushed ≡ chain_now ++ x.definition ∷ [] → mid ≡ now ++ p ∷ [] → IsAt source all (n - 1) x.definition own pushed (length mid) (child_instance (n - 1) s child own)
-code-at-child source all n definition number chain chain_now pushed c s x child own now mid p h same e f g k =
+code-at-child source all n definition number chain chain_now pushed c s x child own now mid p h same other e f g k =
     let l = one-longer now mid p k in
     let m : length mid ≡ suc own = omega arith in
     subst (λ xs. IsAt source all (n - 1) x.definition own xs (length mid) (child_instance (n - 1) s child own)) (sym (g ∙ ap (λ xs. xs ++ x.definition ∷ []) f))
-    (at-child source all n (n - 1) definition number chain c (length mid) s x child own h same m)
+    (at-child source all n (n - 1) definition number chain c (length mid) s x child own h same other m)
 
 pub one-less : (n : ℕ) → 0 < n → n ≡ suc (n - 1)
 one-less n h = omega arith
@@ -129,7 +137,7 @@ pub record Longer (source : Source) (d : ℕ) (s : Instance) (now new : List Pla
   pub placed : ArePlaced source added (below source d s)
   pub count : length new ≡ length now + size source d s.step.definition
   pub at_end : end ≡ length new
-  pub faultless : flat_map (tree_faults_at source) (instances_from source d s) ≡ []
+  pub faultless : AreFaultless source (instances_from source d s)
 
 pub longer : (source : Source) (d : ℕ) (s : Instance) (now mid after new : List Placed) (p : Placed) → mid ≡ now ++ p ∷ [] → Grown source d s mid after
     → ((before behind : List Placed) (q : Placed) → after ≡ before ++ q ∷ behind → length now ≡ length before → new ≡ before ++ ended q (length after) ∷ behind)
@@ -175,9 +183,7 @@ gone-on source d number s x cs k old now new end chain h n e chained other g =
           ∙ ap (λ xs. h.done ++ below_from source (suc d) s (length now) xs) (sym n.cut)
           ∙ h.rest;
       self = ap (λ xs. xs ++ flat_map (self_at s) n.others) (sym skipped) ∙ ap (flat_map (self_at s)) (sym n.cut) ∙ h.self;
-      faultless = flat_map-append (tree_faults_at source) h.done (t ∷ below source d t)
-          ∙ ap (λ xs. xs ++ flat_map (tree_faults_at source) (t ∷ below source d t)) h.faultless
-          ∙ ap (flat_map (tree_faults_at source)) (sym (with-below source d t)) ∙ g.faultless;
+      faultless = faultless-append source h.done (t ∷ below source d t) h.faultless (subst (AreFaultless source) (with-below source d t) g.faultless);
       deep = λ z. absurd (omega arith);
     }
 

@@ -13,3 +13,4 @@ pub mod Faulty
 pub mod Going
 pub mod Done
 pub mod Whole
+pub mod FaultlessTree

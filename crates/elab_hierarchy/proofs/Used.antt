@@ -12,8 +12,8 @@ use Rattle.vl_tree.specs.declared.items.Item as code_item
 use Rattle.vl_tree.specs.declared.items.Instance as code_instance
 use Rattle.vl_tree.specs.declared.modules.Part as code_part
 use Rattle.vl_tree.specs.Seen.{view_instance, view_item, view_part}
-use Rattle.vl_tree.specs.Tree.{Named, NetName, Join, Expression, GateInstance, Item, Delay, a_module, a_primitive, Source}
-use Rattle.elab_model.specs.Members.{assignment, supply, gate, instance, assignment_to, members, members_of_item}
+use Rattle.vl_tree.specs.Tree.{Named, NetName, Join, Expression, GateInstance, SpecifyItem, specparams, a_path, pulse_style, a_check, Item, Delay, a_module, a_primitive, Source}
+use Rattle.elab_model.specs.Members.{assignment, supply, gate, instance, assignment_to, member_of_item, members, members_of_item}
 use Rattle.elab_model.specs.Tops.{has_instance, is_instance_of}
 use Rattle.elab_declared.specs.Words.{is_seen}
 use Rattle.elab_declared.proofs.Again.{put-in}
@@ -41,6 +41,13 @@ assigns-unused n (j ∷ js) = assigns-unused n js
 pub gates-unused : (n : List ℕ) (g : GateKind) (d : Option Delay) (is : List GateInstance) → list_any (is_instance_of n) (map (gate g d) is) ≡ false
 gates-unused n g d [] = refl
 gates-unused n g d (i ∷ is) = gates-unused n g d is
+
+pub paths-unused : (n : List ℕ) (is : List SpecifyItem) → list_any (is_instance_of n) (filter_map member_of_item is) ≡ false
+paths-unused n [] = refl
+paths-unused n (specparams p ps ∷ is) = paths-unused n is
+paths-unused n (a_path p ∷ is) = paths-unused n is
+paths-unused n (pulse_style p s ts ∷ is) = paths-unused n is
+paths-unused n (a_check c ∷ is) = paths-unused n is
 
 -- ---- members of an item
 

@@ -35,7 +35,7 @@ pub begun-at : (source : Source) (all : List (Vec Child)) (n definition number :
 begun-at source all n definition number chain s cs v old h e is =
     let r = h.tree.each definition s.step.definition h.stands in
     let f : cs ≡ r.list.items = e ∙ ap (λ w. w.items) (is ∙ get_or_from_slice_get all definition r.list v r.there) in
-    begun source n s cs old (subst (λ xs. AreChildren source xs (children_in source s.step.definition)) (sym f) r.are) (h.last ∙ ap suc (sym h.numbered))
+    begun source n s cs old (subst (λ xs. AreChildren source xs (children_in source s.step.definition)) (sym f) r.are) (h.last ∙ ap suc (sym h.numbered)) h.no_round
 
 -- a child's definition is one of those
 pub child-within : (n : ℕ) (all : List (Vec Child)) (definition : ℕ) (v : Vec Child) (cs : List Child) (k : ℕ) (d x : Child) → AreAllWithin n all → definition < length all → v ≡ slice_index_or all definition v
@@ -53,6 +53,7 @@ at-top source all n top chain count m tree stands e f = record {
   numbered = refl;
   leveled = refl;
   chained = rw e (chain-one source top (top_with n m).step tree.once stands);
+  no_round = refl;
   last = f;
 }
 

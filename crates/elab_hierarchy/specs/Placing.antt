@@ -41,8 +41,5 @@ ArePlaced source (p ∷ ps) [] = ⊥
 ArePlaced source (p ∷ ps) (s ∷ ss) = IsPlaced source p s × ArePlaced source ps ss
 
 -- what is wrong with the hierarchy itself
-abbrev pub tree_faults_at : Source → Instance → List Fault
-tree_faults_at source s = self_instances source s ++ too_deep source s
-
 abbrev pub tree_faults : Source → Module → List Fault
-tree_faults source top = flat_map (tree_faults_at source) (instances source top) ++ first_too_many (drop count_limit (instances source top))
+tree_faults source top = flat_map (self_instances source) (instances source top) ++ (too_deep source top ++ first_too_many (drop count_limit (instances source top)))

@@ -1,13 +1,13 @@
 // All instances below the top.
-ghost use Rattle.std.specs.Prelude.{◌≡◌, ◌<◌, ◌≤◌, ◌^◌, ◌∷◌, ◌++◌, List, [], IfOk, OnOk, IfErr, flat_map, length};
+ghost use Rattle.std.specs.Prelude.{◌≡◌, ◌<◌, ◌≤◌, ◌^◌, ◌∷◌, ◌++◌, List, [], IfOk, OnOk, IfErr, length};
 ghost use Rattle.sg_text.specs.declared.refusals.Refused.TheVariants as refused;
 ghost use Rattle.vl_tree.specs.Tree.{Module, Source};
 ghost use Rattle.elab_model.specs.Faults.{RefusesOneOf};
 ghost use Rattle.elab_model.specs.Hierarchy as def;
 ghost use Rattle.elab_hierarchy.specs.Tops.{StandsAt};
 ghost use Rattle.elab_hierarchy.specs.Children.{AreAllWithin, IsTree};
-ghost use Rattle.elab_hierarchy.specs.Placing.{ArePlaced, tree_faults, tree_faults_at};
-ghost use Rattle.elab_hierarchy.specs.Growing.{Breaks, Grown, IsAt, Passes, RefusesChild, ended, top_with};
+ghost use Rattle.elab_hierarchy.specs.Placing.{ArePlaced, tree_faults};
+ghost use Rattle.elab_hierarchy.specs.Growing.{AreFaultless, Breaks, Grown, IsAt, Passes, RefusesChild, ended, top_with};
 ghost use Rattle.elab_hierarchy.specs.declared.instances.Placed as placed;
 
 use crate::Definitions;
@@ -38,7 +38,7 @@ pub struct Placed<'t, 'a> {
 }
 
 /// The instances below a top, the top itself first, in depth-first text order (IEEE 1364-2005, 12.1.2). Refuses a module that reaches itself (SelfInstance, at the
-/// instance that closes the round), one below the 64th level (TooDeep) and the first past 2^22 (TooMany). Takes memory in
+/// instance that closes the round), the first instance below the 64th level (TooDeep) and the first past 2^22 (TooMany). Takes memory in
 /// proportion to the definitions and the instances.
 pub fn place_instances<'t, 'a>(
     alloc: Global,
@@ -71,7 +71,7 @@ fn place_top<'t, 'a>(
     requires empty { list.old.items ≡ [] }
     ensures instances { OnOk result ((source : Source) (m : Module) → IsTree source children.now → StandsAt source top m → ArePlaced source list.new.items (def.instances_from source levels (top_with levels m))) }
     ensures few { OnOk result (length list.new.items ≤ 2 ^ 22) }
-    ensures faultless { OnOk result ((source : Source) (m : Module) → IsTree source children.now → StandsAt source top m → flat_map (tree_faults_at source) (def.instances_from source levels (top_with levels m)) ≡ []) }
+    ensures faultless { OnOk result ((source : Source) (m : Module) → IsTree source children.now → StandsAt source top m → AreFaultless source (def.instances_from source levels (top_with levels m))) }
     ensures refused { IfErr result (λ r. (source : Source) (m : Module) → IsTree source children.now → StandsAt source top m → Breaks source 0 (def.instances_from source levels (top_with levels m)) r) }
 {
     let mut chain = Vec::new(alloc);

@@ -1,12 +1,14 @@
 -- What is wrong with what is connected to ports.
-use Rattle.std.specs.Prelude.{◌≡◌, ℕ, ◌<◌, ◌≤◌, List, [], ◌∷◌, ◌++◌, Bool, true, false, not, nat_lt, Option, Some, None, Result, map, flat_map, filter_map, option_map, length, zip, refl, if◌then◌else◌}
+use Rattle.std.specs.Prelude.{◌≡◌, ℕ, ◌<◌, ◌≤◌, List, [], ◌∷◌, ◌++◌, Bool, true, false, not, nat_lt, Option, Some, None, Result, map, flat_map, filter_map, option_map, length, zip, refl}
 use Rattle.std.specs.List.{cons_option}
-use Rattle.std.proofs.Common.{sym, ◌∙◌, ap, arith, subst}
+use Rattle.std.proofs.Common.{sym, ◌∙◌, ap, arith, subst, append-nil}
 use Rattle.std.proofs.lemmas.List.{length-map}
 use Rattle.std.proofs.lemmas.Bool.Decides.{nat_tests}
 use Rattle.std.specs.Option.{is_some}
 use Rattle.std.proofs.lemmas.List.Folds.{flat_map-map}
 use Rattle.sg_circuit.specs.Closed.{width_of}
+use Rattle.sg_circuit.specs.declared.scopes.Port.{Port}
+use Rattle.sg_circuit.specs.declared.scopes.Port.TheVariants as port
 use Rattle.sg_text.specs.declared.places.Place.{Place}
 use Rattle.sg_text.specs.declared.refusals.Refused.{Refused}
 use Rattle.sg_text.specs.declared.refusals.Refused.TheVariants as refused
@@ -17,49 +19,53 @@ use Rattle.vl_tree.specs.Seen.{view_expression, view_name, view_named_connection
 use Rattle.vl_tree.specs.Tree.{Named, Expression, Delay, NamedConnection, Instance, Module}
 use Rattle.elab_model.specs.declared.kinds.ElabKind.{ElabKind}
 use Rattle.elab_model.specs.declared.kinds.ElabKind.TheVariants.{UnknownName, BadTerminal, BadDelay}
-use Rattle.elab_model.specs.Faults.{Fault, fault_if, RefusesOneOf, duplicates}
+use Rattle.elab_model.specs.Faults.{fault_if, RefusesOneOf, duplicates}
 use Rattle.elab_model.specs.Homes.{is_output}
 use Rattle.elab_model.specs.Members.{connection_values}
-use Rattle.elab_model.specs.ModuleFaults.{port_faults, connection_faults, delay_on_module}
+use Rattle.elab_model.specs.ModuleFaults.{directed_faults, value_faults, port_faults, connection_faults, delay_on_module}
 use Rattle.elab_model.specs.Names.{Variable, variable, is_among}
 use Rattle.elab_model.specs.Ports.{port_list, port_names}
-use Rattle.elab_model.specs.TerminalFaults.{expression_faults, width_faults, constant_faults, is_missing}
+use Rattle.elab_model.specs.TerminalFaults.{expression_faults, width_faults, is_missing}
+use Rattle.elab_variables.specs.declared.tables.Row.{Row}
 use Rattle.elab_declared.proofs.Refusals.{refused-left, refused-right}
-use Rattle.elab_modules.specs.Telling.{Tells, joined_value_faults}
-use Rattle.elab_modules.specs.Connecting.{connected_faults, ordered_faults, named_faults, connections_faults, instance_of_module_faults}
+use Rattle.elab_modules.specs.Telling.{Tells, is_port, joined_faults, joined_value_faults}
+use Rattle.elab_modules.specs.Connecting.{IsPortRow, own_faults, connected_faults, ordered_faults, named_faults, connections_faults, instance_of_module_faults}
 use Rattle.elab_modules.proofs.InTurn.{fault-told, no-fault}
 use Rattle.elab_modules.proofs.SameFaults.{Same, same-as, same-then, same-beside, same-each, same-front, same-parted, tells-same}
 
 -- ---- one connection
 
--- the faults of an expression that may be missing
-abbrev own_faults : List Variable → Option Expression → List Fault
-own_faults vs None = []
-own_faults vs (Some e) = expression_faults vs e
-
 connected-same : (vs : List Variable) (m : Module) (n : Named) (o : Option Expression) → Same (connected_faults vs m n o) (own_faults vs o ++ port_faults vs m n o)
-connected-same vs m n None = same-as (connected_faults vs m n None) (port_faults vs m n None) refl
-connected-same vs m n (Some e) =
-    let v = variable m n.text in
-    same-front (fault_if (not (is_among n.text (port_names m))) UnknownName n.place) (expression_faults vs e)
-    (width_faults vs (width_of v.range) e ++ (if is_output v.port then constant_faults vs e else []))
+connected-same vs m n o = same-front (fault_if (not (is_among n.text (port_names m))) UnknownName n.place) (own_faults vs o) (value_faults vs (variable m n.text) o)
 
 pub unknown-port : (vs : List Variable) (m : Module) (n : Named) (o : Option Expression) → is_among n.text (port_names m) ≡ false
     → RefusesOneOf (connected_faults vs m n o) (refused.Fault UnknownName n.place)
 unknown-port vs m n o h =
-    let v = variable m n.text in
-    let f = fault_if (not (is_among n.text (port_names m))) UnknownName n.place in
-    refused-left f (joined_value_faults vs (width_of v.range) (is_output v.port) o) (refused.Fault UnknownName n.place)
+    refused-left (fault_if (not (is_among n.text (port_names m))) UnknownName n.place) (own_faults vs o ++ value_faults vs (variable m n.text) o) (refused.Fault UnknownName n.place)
     (fault-told (not (is_among n.text (port_names m))) UnknownName n.place (ap not h))
 
-pub known-port : {A : Type 0} (vs : List Variable) (m : Module) (n : Named) (o : Option Expression) (width : ℕ) (out : Bool) (result : Result A (Refused ElabKind))
-    → is_among n.text (port_names m) ≡ true
-    → width ≡ width_of (variable m n.text).range → out ≡ is_output (variable m n.text).port → Tells (joined_value_faults vs width out o) result → Tells (connected_faults vs m n o) result
-known-port vs m n o width out result h w i t =
+-- what is joined to a port that has a direction
+joined-port : (vs : List Variable) (v : Variable) (o : Option Expression) (p : Port) → v.port ≡ p → is_port p ≡ true → joined_value_faults vs (width_of v.range) (is_output v.port) o ≡ own_faults vs o ++ value_faults vs v o
+joined-port vs v None p e h = refl
+joined-port vs v (Some x) p e h =
+    ap (λ b. joined_faults vs w (is_output b) x) e ∙ by p h ∙ ap (λ b. expression_faults vs x ++ directed_faults vs b w x) (sym e)
+  where
+    w : ℕ
+    w = width_of v.range
+
+    by : (p : Port) → is_port p ≡ true → joined_faults vs w (is_output p) x ≡ expression_faults vs x ++ directed_faults vs p w x
+    by port.Input h = ap (λ fs. expression_faults vs x ++ fs) (append-nil (width_faults vs w x))
+    by port.Output h = refl
+    by port.Inner h = cc
+
+pub known-port : {A : Type 0} (vs : List Variable) (m : Module) (n : Named) (o : Option Expression) (width : ℕ) (out : Bool) (result : Result A (Refused ElabKind)) (r : Row) → IsPortRow m n.text (Some r)
+    → width ≡ width_of r.range → out ≡ is_output r.port → Tells (joined_value_faults vs width out o) result → Tells (connected_faults vs m n o) result
+known-port vs m n o width out result r (there, (range, (port, directed))) w i t =
+    let v = variable m n.text in
     let all : joined_value_faults vs width out o ≡ connected_faults vs m n o =
-    ap (λ k. joined_value_faults vs k out o) w ∙ ap (λ b. joined_value_faults vs (width_of (variable m n.text).range) b o) i
-    ∙ ap (λ fs. fs ++ joined_value_faults vs (width_of (variable m n.text).range) (is_output (variable m n.text).port) o)
-    (sym (no-fault (not (is_among n.text (port_names m))) UnknownName n.place (ap not h))) in
+    ap (λ k. joined_value_faults vs k out o) (w ∙ ap width_of range) ∙ ap (λ b. joined_value_faults vs (width_of v.range) b o) (i ∙ ap is_output port)
+    ∙ joined-port vs v o v.port refl (ap is_port (sym port) ∙ directed)
+    ∙ ap (λ fs. fs ++ (own_faults vs o ++ value_faults vs v o)) (sym (no-fault (not (is_among n.text (port_names m))) UnknownName n.place (ap not there))) in
     subst (λ fs. Tells fs result) all t
 
 -- ---- all of them

@@ -12,7 +12,7 @@ use Rattle.sg_text.specs.declared.refusals.Refused.TheVariants as refused
 use Rattle.vl_tree.specs.Tree.{Module, Primitive, Source, a_primitive}
 use Rattle.elab_model.specs.declared.kinds.ElabKind.{ElabKind}
 use Rattle.elab_model.specs.Definitions.{as_primitive}
-use Rattle.elab_model.specs.Members.{Member, assignment, supply, gate, instance}
+use Rattle.elab_model.specs.Members.{Member, assignment, supply, gate, instance, path}
 use Rattle.elab_laws.proofs.Lists.{In, in-left, in-right, in-either, all-weaker, all-append}
 use Rattle.elab_variables.specs.Seen.{view_member}
 use Rattle.elab_variables.specs.declared.member_list.Member as code_member
@@ -72,6 +72,7 @@ pub udp-kept : (source : Source) (before after : Parts) → ((i : ℕ) → HasRe
 udp-kept source before after kept (assignment j) h = tt
 udp-kept source before after kept (supply n v) h = tt
 udp-kept source before after kept (gate g d i) h = tt
+udp-kept source before after kept (path p) h = tt
 udp-kept source before after kept (instance n d i) h = λ j p e at. kept j (h j p e at)
 
 udps-kept : (source : Source) (before after : Parts) → ((i : ℕ) → HasReady before i → HasReady after i) → (ms : List Member) → AllByRecursion (IsUdpReady source before) ms

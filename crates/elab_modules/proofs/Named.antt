@@ -1,5 +1,5 @@
 -- What the members of reached modules name stands ready.
-use Rattle.std.specs.Prelude.{◌≡◌, ℕ, zero, suc, ◌+◌, ◌<◌, All, List, [], ◌∷◌, Some, length, map, flat_map, slice_get, refl, ℤ, ◌≤ℤ◌, ◌==◌, if◌then◌else◌}
+use Rattle.std.specs.Prelude.{◌≡◌, ℕ, zero, suc, ◌+◌, ◌<◌, All, List, [], ◌∷◌, Some, length, map, slice_get, refl, ℤ, ◌≤ℤ◌}
 use Rattle.std.specs.List.{enumerate_from}
 use Rattle.std.specs.Option.{option_and_then}
 use Rattle.std.proofs.Common.{sym, ap, arith, inl, inr, subst}
@@ -7,21 +7,20 @@ use Rattle.std.proofs.lemmas.Option.{slice_get_within}
 use Rattle.std.proofs.lemmas.Slice.Eq.{bytes_eq-Decides}
 use Rattle.sg_circuit.specs.declared.elements.UdpUse.{UdpUse}
 use Rattle.vl_tree.specs.Tree.{Module, Part, Source, a_module, a_primitive}
-use Rattle.elab_model.specs.declared.kinds.ElabKind.TheVariants.{TooDeep}
 use Rattle.elab_model.specs.Definitions.{definition_of, as_module}
 use Rattle.elab_model.specs.Delays.{tick_of}
-use Rattle.elab_model.specs.Faults.{fault}
 use Rattle.elab_model.specs.Hierarchy.{Step, Instance, Child, child_of, child_of_member, children_in, children_from, children_at, children, instances, top_instance, levels_below_top, size}
-use Rattle.elab_model.specs.HierarchyFaults.{two_definitions, self_instances, too_deep}
-use Rattle.elab_model.specs.Members.{Member, assignment, supply, gate, instance, members}
+use Rattle.elab_model.specs.HierarchyFaults.{two_definitions}
+use Rattle.elab_model.specs.Members.{Member, assignment, supply, gate, instance, path, members}
 use Rattle.elab_laws.proofs.Lists.{In, all-in}
-use Rattle.elab_laws.proofs.NoFaults.{front, back, flat-empty, map-empty, child-there, all-from}
+use Rattle.elab_laws.proofs.NoFaults.{child-there, all-from}
 use Rattle.elab_variables.specs.Seen.{view_member}
 use Rattle.elab_hierarchy.specs.declared.instances.Placed.{Placed}
 use Rattle.elab_hierarchy.specs.Named.{place_of}
-use Rattle.elab_hierarchy.specs.Placing.{ArePlaced, tree_faults, tree_faults_at}
+use Rattle.elab_hierarchy.specs.Placing.{ArePlaced, tree_faults}
 use Rattle.elab_hierarchy.specs.Tops.{StandsAt}
 use Rattle.elab_hierarchy.proofs.Apart.{same-name}
+use Rattle.elab_hierarchy.proofs.FaultlessTree.{no-children_at_limit}
 use Rattle.elab_hierarchy.proofs.Found.{place-first}
 use Rattle.elab_modules.specs.declared.prepared.Prepared.{Prepared}
 use Rattle.elab_modules.specs.declared.library.Ready.TheVariants as ready
@@ -95,22 +94,12 @@ child-from source levels above next [] c h = absurd h
 child-from source levels above next (d ∷ ds) c (inl e) = (_, inl refl, ap (λ x. x.definition) (sym e))
 child-from source levels above next (d ∷ ds) c (inr h) = let r = child-from source levels above (next + size source levels d.definition) ds c h in (r.0, inr r.1, r.2)
 
-child-at : (source : Source) (levels : ℕ) (s : Instance) (c : Child) → s.step.levels ≡ levels → In c (children_in source s.step.definition) → too_deep source s ≡ [] → HasChild source s c.definition
-child-at source zero s c l h deep =
-    let none : children_in source s.step.definition ≡ [] = map-empty (λ d. fault TooDeep d.place) (children_in source s.step.definition) (at-zero s.step.levels l deep) in
-    absurd (subst (In c) none h)
-  where
-    at-zero : (n : ℕ) → n ≡ 0 → (if n == 0 then map (λ d. fault TooDeep d.place) (children_in source s.step.definition) else []) ≡ [] → map (λ d. fault TooDeep d.place) (children_in source s.step.definition) ≡ []
-    at-zero zero e k = k
-    at-zero (suc n) e k = absurd (omega arith)
-child-at source (suc levels) s c l h deep =
+child-at : (source : Source) (levels : ℕ) (s : Instance) (c : Child) → s.step.levels ≡ levels → In c (children_in source s.step.definition)
+    → (s.step.levels ≡ 0 → children_in source s.step.definition ≡ []) → HasChild source s c.definition
+child-at source zero s c l h none = absurd (subst (In c) (none l) h)
+child-at source (suc levels) s c l h none =
     let r = child-from source levels (s.step ∷ s.above) (suc s.step.number) (children_in source s.step.definition) c h in
     record { instance = r.0; there = subst (λ n. In r.0 (children_at source n s)) (sym l) r.1; is = r.2 }
-
-not-deep : (source : Source) (top : Module) (s : Instance) → tree_faults source top ≡ [] → In s (instances source top) → too_deep source s ≡ []
-not-deep source top s deep there =
-    let all = flat-empty (tree_faults_at source) (instances source top) (front (flat_map (tree_faults_at source) (instances source top)) _ deep) in
-    back (self_instances source s) (too_deep source s) (all-in (λ t. tree_faults_at source t ≡ []) s (instances source top) all there)
 
 -- ---- the members of a reached module
 
@@ -124,7 +113,7 @@ pub record AllMet (source : Source) (top : Module) (ps : List Placed) (parts : P
 module-named : (source : Source) (top : Module) (ps : List Placed) (parts : Parts) (udps : List UdpUse) (s : Instance) (c : Child) (j : ℕ) → AllMet source top ps parts udps
     → In s (instances source top) → In c (children_in source s.step.definition) → StandsAt source j c.definition → HasReady parts j
 module-named source top ps parts udps s c j h there below at =
-    let r = child-at source s.step.levels s c refl below (not-deep source top s h.deep there) in
+    let r = child-at source s.step.levels s c refl below (no-children_at_limit source top s h.deep there) in
     let inside = child-there source levels_below_top (top_instance top) s r.instance refl there r.there in
     let p = place-of source ps (instances source top) r.instance h.are inside in
     let stands : StandsAt source p.place c.definition = subst (StandsAt source p.place) r.is p.stands in
@@ -135,6 +124,7 @@ member-named : (source : Source) (top : Module) (ps : List Placed) (parts : Part
 member-named source top ps parts udps s (assignment a) h there inside udp = tt
 member-named source top ps parts udps s (supply n v) h there inside udp = tt
 member-named source top ps parts udps s (gate g d i) h there inside udp = tt
+member-named source top ps parts udps s (path p) h there inside udp = tt
 member-named source top ps parts udps s (instance n d i) h there inside udp = λ j e. let f = place-first source n.text j e in by j e f.element f.there f.first
   where
     by : (j : ℕ) → place_of source n.text ≡ Some j → (q : Part) → slice_get source j ≡ Some q → definition_of source n.text ≡ Some q → HasReady parts j

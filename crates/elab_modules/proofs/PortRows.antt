@@ -139,4 +139,4 @@ pub port-found : (vs : List Variable) (m : Module) (n : List ℕ) (i : ℕ) (r :
     → r.range ≡ (variable_at vs i).range → is_port r.port ≡ true → IsPortRow m n (Some r)
 port-found vs m n i r e is h p q some =
     let own = row-own vs m n i e is in
-    (sym (port-is m n h) ∙ ap (λ v. is_port v.port) (sym own) ∙ ap is_port (sym p) ∙ some, (q ∙ ap (λ v. v.range) own, p ∙ ap (λ v. v.port) own))
+    (sym (port-is m n h) ∙ ap (λ v. is_port v.port) (sym own) ∙ ap is_port (sym p) ∙ some, (q ∙ ap (λ v. v.range) own, (p ∙ ap (λ v. v.port) own, some)))

@@ -1,21 +1,19 @@
 -- What is looked for in gates, in instances of primitives and in those of modules.
 use Rattle.std.specs.Prelude.{◌≡◌, ℕ, List, [], ◌∷◌, ◌++◌, Bool, true, false, not, ◌&&◌, ◌==◌, Option, Some, None, flat_map, filter_map, length, map}
 use Rattle.std.specs.List.{list_any}
-use Rattle.sg_circuit.specs.Closed.{width_of}
 use Rattle.sg_logic.specs.declared.gates.GateKind.{GateKind}
 use Rattle.sg_text.specs.declared.places.Place.{Place}
 use Rattle.vl_tree.specs.Tree.{Named, Delay, Expression, NamedConnection, Connections, by_order, by_name, GateInstance, Instance, Module}
 use Rattle.elab_model.specs.declared.kinds.ElabKind.TheVariants.{UnknownName, BadTerminal}
 use Rattle.elab_model.specs.Elements.{output_count}
 use Rattle.elab_model.specs.Faults.{Fault, fault_if, duplicates}
-use Rattle.elab_model.specs.Homes.{is_output}
 use Rattle.elab_model.specs.Members.{connection_values}
-use Rattle.elab_model.specs.ModuleFaults.{port_faults, connection_faults, module_instance_faults, takes_terminals}
+use Rattle.elab_model.specs.ModuleFaults.{value_faults, port_faults, connection_faults, module_instance_faults, takes_terminals}
 use Rattle.elab_model.specs.Names.{Variable, variable, is_among}
 use Rattle.elab_model.specs.Ports.{port_names}
 use Rattle.elab_model.specs.TerminalFaults.{expression_faults, terminal_faults, is_missing}
 use Rattle.elab_variables.specs.declared.tables.Row.{Row}
-use Rattle.elab_modules.specs.Telling.{joined_value_faults}
+use Rattle.elab_modules.specs.Telling.{is_port, joined_value_faults}
 use Rattle.elab_modules.specs.declared.library.Ready as code_ready
 use Rattle.elab_modules.specs.declared.library.Ready.TheVariants as ready
 use Rattle.elab_modules.specs.declared.prepared.Prepared.{Prepared}
@@ -56,12 +54,16 @@ primitive_terminal_faults vs count i =
 -- the variable of a port, if the name is one
 abbrev pub IsPortRow : Module → List ℕ → Option Row → Type 0
 IsPortRow m n None = is_among n (port_names m) ≡ false
-IsPortRow m n (Some r) = (is_among n (port_names m) ≡ true) × ((r.range ≡ (variable m n).range) × (r.port ≡ (variable m n).port))
+IsPortRow m n (Some r) = (is_among n (port_names m) ≡ true) × ((r.range ≡ (variable m n).range) × ((r.port ≡ (variable m n).port) × (is_port r.port ≡ true)))
+
+-- the faults of an expression that may be missing
+abbrev pub own_faults : List Variable → Option Expression → List Fault
+own_faults vs None = []
+own_faults vs (Some e) = expression_faults vs e
 
 abbrev pub connected_faults : List Variable → Module → Named → Option Expression → List Fault
 connected_faults vs m n o =
-    fault_if (not (is_among n.text (port_names m))) UnknownName n.place
-    ++ joined_value_faults vs (width_of (variable m n.text).range) (is_output (variable m n.text).port) o
+    fault_if (not (is_among n.text (port_names m))) UnknownName n.place ++ (own_faults vs o ++ value_faults vs (variable m n.text) o)
 
 abbrev pub ordered_faults : List Variable → Module → Place → List (Option Expression) → List Fault
 ordered_faults vs m p es = flat_map (expression_faults vs) (filter_map (λ e. e) es) ++ connection_faults vs m p (by_order es)

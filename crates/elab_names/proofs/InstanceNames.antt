@@ -7,8 +7,8 @@ use Rattle.sg_logic.specs.declared.values.Value.{Value}
 use Rattle.vl_tree.specs.declared.items.Item as code
 use Rattle.vl_tree.specs.declared.names.Name as code_name
 use Rattle.vl_tree.specs.Seen.{view_name, view_item}
-use Rattle.vl_tree.specs.Tree.{Named, Delay, GateInstance, Instance, NetName, Join, Expression}
-use Rattle.elab_model.specs.Members.{Member, assignment, supply, gate, instance, assignment_to, members_of_item}
+use Rattle.vl_tree.specs.Tree.{Named, Delay, GateInstance, Instance, NetName, Join, Expression, SpecifyItem, specparams, a_path, pulse_style, a_check}
+use Rattle.elab_model.specs.Members.{Member, assignment, supply, gate, instance, assignment_to, member_of_item, members_of_item}
 use Rattle.elab_model.specs.NameFaults.{instance_name}
 
 pub gates-named : (g : GateKind) (d : Option Delay) (is : List GateInstance) → filter_map instance_name (map (gate g d) is) ≡ filter_map (λ i. i.name) is
@@ -22,6 +22,13 @@ instances-named n d (i ∷ is) = ap (cons_option i.name) (instances-named n d is
 pub assigns-unnamed : (js : List Join) → filter_map instance_name (map assignment js) ≡ []
 assigns-unnamed [] = refl
 assigns-unnamed (j ∷ js) = assigns-unnamed js
+
+pub paths-unnamed : (is : List SpecifyItem) → filter_map instance_name (filter_map member_of_item is) ≡ []
+paths-unnamed [] = refl
+paths-unnamed (specparams p ps ∷ is) = paths-unnamed is
+paths-unnamed (a_path p ∷ is) = paths-unnamed is
+paths-unnamed (pulse_style p s ts ∷ is) = paths-unnamed is
+paths-unnamed (a_check c ∷ is) = paths-unnamed is
 
 pub supplies-unnamed : (v : Value) (ns : List Named) → filter_map instance_name (map (λ n. supply n v) ns) ≡ []
 supplies-unnamed v [] = refl

@@ -41,12 +41,14 @@ top-is source top t there e = elim (has-parent source levels_below_top (top_inst
     not_both : {p : Step} {ps : List Step} → t.above ≡ p ∷ ps → ⊥
     not_both {p} {ps} f = let g : [] ≡ p ∷ ps = sym e ∙ f in cc
 
-pub none-yet : (source : Source) (top : Module) (rows : Rows) (width count : ℕ) → rows.nets.items ≡ [] → rows.starts.items ≡ [] → rows.member_starts.items ≡ [] → rows.outer_starts.items ≡ replicate count 0
+pub none-yet : (source : Source) (top : Module) (rows : Rows) (width count : ℕ) → rows.nets.items ≡ [] → rows.starts.items ≡ [] → rows.member_starts.items ≡ [] → rows.end_starts.items ≡ []
+    → rows.outer_starts.items ≡ replicate count 0
     → rows.outer.items ≡ replicate width None → count ≡ length (instances source top) → width ≡ length (all_bits (variables top)) → AreUpTo source top rows 0
-none-yet source top rows width count n s m p o c w = record {
+none-yet source top rows width count n s m e p o c w = record {
   all = n;
   start_count = ap length s;
   member_count = ap length m;
+  end_count = ap length e;
   outer_count = ap length p ∙ count-all count 0 ∙ c;
   own = λ before after t e lt. absurd (omega arith);
   outer = λ t there. by t there t.above refl;
@@ -94,7 +96,8 @@ have-rows source top rows count c h few =
           let lt : length before < count = omega arith in
           let o = h.own before after s e lt in
           let i = o.0 in
-          let f = o.1 in
+          let f = o.1.0 in
+          let d = o.1.1 in
           let u = h.outer s (is-there source top before after s e) (subst (λ k. IsDue k s.above) (sym c) (all-due source top before after s e)) in
           record {
             start = i.start;
@@ -108,6 +111,10 @@ have-rows source top rows count c h few =
             member = f.start;
             member_starts = ap (slice_get rows.member_starts.items) (sym n) ∙ f.there;
             firsts = f.firsts;
+            end = d.start;
+            end_starts = ap (slice_get rows.end_starts.items) (sym n) ∙ d.there;
+            ends = d.ends;
+            ends_within = d.within;
           };
     }
 
@@ -128,6 +135,7 @@ is-top source top p of =
 
 -- in all, before the first turn
 pub start : (source : Source) (top : Module) (corner : Corner) (library : Library) (list : List Placed) (rows : Rows) → IsGiven source top corner library list → (width : ℕ) → width ≡ length (all_bits (variables top))
-    → rows.nets.items ≡ [] → rows.starts.items ≡ [] → rows.member_starts.items ≡ [] → rows.outer_starts.items ≡ replicate (length list) 0 → rows.outer.items ≡ replicate width None → AreUpTo source top rows 0
-start source top corner library list rows given width w n s m p o =
-    none-yet source top rows width (length list) n s m p o (placed-count source list (instances source top) given.instances_are) w
+    → rows.nets.items ≡ [] → rows.starts.items ≡ [] → rows.member_starts.items ≡ [] → rows.end_starts.items ≡ [] → rows.outer_starts.items ≡ replicate (length list) 0
+    → rows.outer.items ≡ replicate width None → AreUpTo source top rows 0
+start source top corner library list rows given width w n s m e p o =
+    none-yet source top rows width (length list) n s m e p o (placed-count source list (instances source top) given.instances_are) w

@@ -12,6 +12,7 @@ use Rattle.vl_tree.specs.Seen.{view_instance}
 use Rattle.vl_tree.specs.declared.items.Instance as code_instance
 use Rattle.elab_model.specs.declared.kinds.ElabKind.{ElabKind}
 use Rattle.elab_model.specs.Definitions.{definition_of}
+use Rattle.elab_model.specs.Ends.{first_ends}
 use Rattle.elab_model.specs.Hierarchy.{Instance, child_of_member, children_from, children, instances, has_no_child}
 use Rattle.elab_model.specs.HierarchyFaults.{count_limit}
 use Rattle.elab_model.specs.Members.{Member, instance}
@@ -32,12 +33,13 @@ use Rattle.elab_ports.specs.Bound.{AreConnected}
 use Rattle.elab_nets.specs.Outside.{outer_number, outside_nets, IsChild}
 use Rattle.elab_nets.specs.Parts.{IsRow}
 use Rattle.elab_nets.specs.Rows.{part_of}
-use Rattle.elab_nets.specs.Turns.{HasTurn, IsNext, AddsOutside, IsSeenTo, children_among, members_of, bits_of}
+use Rattle.elab_nets.specs.Turns.{HasTurn, IsNext, AddsOutside, IsSeenTo, children_among, end_number, members_of, bits_of}
 use Rattle.elab_model.specs.Numbered.{undriven}
 use Rattle.elab_nets.specs.declared.rows.Rows.{Rows}
 use Rattle.elab_nets.proofs.Children.{the_child, child-next, no-child, child-nets, child-in, member-faultless, child-connected}
 use Rattle.elab_nets.proofs.RowParts.{get-written, get-other, part-behind}
-use Rattle.elab_nets.proofs.Placings.{at-number, is-there, lone-is, no-level, placed-at, placed-count}
+use Rattle.elab_hierarchy.proofs.FaultlessTree.{no-children_at_limit}
+use Rattle.elab_nets.proofs.Placings.{at-number, is-there, lone-is, placed-at, placed-count}
 
 -- ---- one outer row more
 
@@ -66,16 +68,21 @@ row-added source top old row new places later c n r lt l =
 pub none-added : (source : Source) (top : Module) (old : List (Option ℕ)) (places : List ℕ) → AddsOutside source top old old places places []
 none-added source top old places = record { more = []; grown = sym (append-nil old); same_count = refl; rows = tt; others = λ j other. refl }
 
+-- what no member changes
+abbrev pub AreSame : Rows → Rows → Type 0
+AreSame old new = (new.inner ≡ old.inner) × ((new.starts ≡ old.starts) × ((new.firsts ≡ old.firsts) × ((new.member_starts ≡ old.member_starts) × (new.end_starts ≡ old.end_starts))))
+
 -- a member that is no instance of a module
 pub lone-seen : (source : Source) (top : Module) (s : Instance) (x : ℕ × Member) (levels next : ℕ) (behind : List (ℕ × Member)) (old new : Rows) → child_of_member source x.0 x.1 ≡ None
-    → new.nets.items ≡ old.nets.items ++ map undriven (member_nets source s x) → new.outer ≡ old.outer → new.outer_starts ≡ old.outer_starts
-    → (new.inner ≡ old.inner) × ((new.starts ≡ old.starts) × ((new.firsts ≡ old.firsts) × (new.member_starts ≡ old.member_starts))) → IsSeenTo source top s x levels next next behind old new
-lone-seen source top s x levels next behind old new none made o p same = record {
+    → new.nets.items ≡ old.nets.items ++ map undriven (member_nets source s x) → new.ends.items ≡ old.ends.items ++ map (end_number source top s) (first_ends s.step.definition x)
+    → new.outer ≡ old.outer → new.outer_starts ≡ old.outer_starts → AreSame old new → IsSeenTo source top s x levels next next behind old new
+lone-seen source top s x levels next behind old new none made ends o p same = record {
   made = made;
   cs = [];
   split = ap (children_from source levels (s.step ∷ s.above) next) (none-among none);
   outside = subst (λ z. AddsOutside source top old.outer.items z.items old.outer_starts.items new.outer_starts.items []) (sym o)
       (subst (λ z. AddsOutside source top old.outer.items old.outer.items old.outer_starts.items z.items []) (sym p) (none-added source top old.outer.items old.outer_starts.items));
+  ends = ends;
   same = same;
 }
   where
@@ -160,21 +167,21 @@ module _ (source : Source) (top : Module) (corner : Corner) (library : Library) 
   }
 
   pub leaf-is : (p : Placed) (leaf : Bool) → IsPlaced source p the → leaf ≡ (p.end == next + 1) → has_no_child source the.step ≡ leaf
-  leaf-is p leaf is e = sym (lone-is source the.step p.end (no-level source top the turn.given.tree in-instances) is.end) ∙ sym e
+  leaf-is p leaf is e = sym (lone-is source the.step p.end (no-children_at_limit source top the turn.given.tree in-instances) is.end) ∙ sym e
 
   pub child-seen : (child : Prepared) (p : Placed) (new : Rows) → IsPrepared child m → IsPlaced source p the → next < length rows.outer_starts.items
       → new.nets.items ≡ rows.nets.items ++ map undriven (outside_nets source turn.s the)
       → new.outer.items ≡ rows.outer.items ++ map (outer_number (nets source top) source the.step the.above) (all_bits child.table)
       → new.outer_starts.items ≡ set rows.outer_starts.items next (length rows.outer.items)
-      → (new.inner ≡ rows.inner) × ((new.starts ≡ rows.starts) × ((new.firsts ≡ rows.firsts) × (new.member_starts ≡ rows.member_starts)))
-      → IsSeenTo source top turn.s (k, instance n d (view_instance i)) at.levels next p.end at.behind rows new
-  child-seen child p new prepared is lt made outer starts same = record {
+      → new.ends ≡ rows.ends → AreSame rows new → IsSeenTo source top turn.s (k, instance n d (view_instance i)) at.levels next p.end at.behind rows new
+  child-seen child p new prepared is lt made outer starts ends same = record {
     made = made ∙ ap (λ os. rows.nets.items ++ map undriven os) (sym nets-are);
     cs = the ∷ [];
     split = child-next source turn.s at.levels next k n d (view_instance i) m at.behind defined
         ∙ ap (λ a. the ∷ children_from source at.levels (turn.s.step ∷ turn.s.above) a (children_among source at.behind)) (sym is.end);
     outside = row-added source top rows.outer.items (map (outer_number (nets source top) source the.step the.above) (all_bits child.table)) new.outer.items rows.outer_starts.items new.outer_starts.items the outer
         (ap (λ vs. map (outer_number (nets source top) source the.step the.above) (all_bits vs)) prepared.table) lt starts;
+    ends = ap (λ v. v.items) ends ∙ sym (append-nil rows.ends.items);
     same = same;
   }
 

@@ -1,8 +1,8 @@
 -- A net for each constant among the bits of terminals.
-use Rattle.std.specs.Prelude.{◌≡◌, ℕ, zero, suc, ◌+◌, ◌-◌, ◌<◌, ◌≤◌, All, List, [], ◌∷◌, ◌++◌, Some, None, length, map, flat_map, take, drop, refl, slice_index_or}
+use Rattle.std.specs.Prelude.{◌≡◌, ℕ, suc, ◌+◌, ◌<◌, ◌≤◌, All, List, [], ◌∷◌, ◌++◌, Some, None, length, map, flat_map, drop, refl, slice_index_or}
 use Rattle.std.specs.List.{AllByRecursion, enumerate_from}
 use Rattle.std.proofs.Common.{sym, ◌∙◌, ap, arith, drop-cons, length-append, subst}
-use Rattle.std.proofs.lemmas.List.{append-nil, drop_all, drop-map, length-map, take_rest}
+use Rattle.std.proofs.lemmas.List.{append-nil, drop_all, length-map}
 use Rattle.std.proofs.lemmas.List.Elements.{recursion_from_All}
 use Rattle.sg_circuit.specs.declared.nets.Net.{Net}
 use Rattle.sg_logic.specs.declared.values.Value.{Value}
@@ -62,12 +62,10 @@ would-be o bs before i p v d nets lt e h =
 -- ---- the nets of the definition
 
 -- where the first output is no net, there are none
-pub no-output : (vs : List Variable) (s : Instance) (k outputs : ℕ) (bs : List code_bit.Bit) → first_output outputs bs ≡ None → terminal_nets s k outputs (map (view_bit vs) bs) ≡ []
-no-output vs s k zero bs h = flat-none (terminal_net s k []) (enumerate_from 0 (map (view_bit vs) bs)) (λ b. refl)
-no-output vs s k (suc n) [] h = refl
-no-output vs s k (suc n) (bit.Net i ∷ bs) h = cc
-no-output vs s k (suc n) (bit.Constant p v ∷ bs) h =
-    flat-none (terminal_net s k (constant p v ∷ take n (map (view_bit vs) bs))) (enumerate_from 0 (drop n (map (view_bit vs) bs))) (λ b. refl)
+pub no-output : (vs : List Variable) (s : Instance) (k : ℕ) (outputs inputs : List code_bit.Bit) → first_output outputs ≡ None → terminal_nets s k (map (view_bit vs) outputs) (map (view_bit vs) inputs) ≡ []
+no-output vs s k [] inputs h = flat-none (terminal_net s k []) (enumerate_from 0 (map (view_bit vs) inputs)) (λ b. refl)
+no-output vs s k (bit.Net i ∷ bs) inputs h = cc
+no-output vs s k (bit.Constant p v ∷ bs) inputs h = flat-none (terminal_net s k (constant p v ∷ map (view_bit vs) bs)) (enumerate_from 0 (map (view_bit vs) inputs)) (λ b. refl)
 
 -- a constant's net has the name of the first output
 abbrev named : Instance → List ℕ → ℕ → Net
@@ -79,53 +77,43 @@ each-constant vs s k m q outputs j [] = refl
 each-constant vs s k m q outputs j (bit.Net i ∷ bs) = each-constant vs s k m q outputs (j + 1) bs
 each-constant vs s k m q outputs j (bit.Constant p v ∷ bs) = ap (λ xs. named s m q ∷ xs) (each-constant vs s k m q outputs (j + 1) bs)
 
-same-name : (vs : List Variable) (s : Instance) (scope i : ℕ) → vs ≡ variables s.step.definition → s.step.number ≡ scope → i < length (all_bits vs) → named s (bit_at vs i).0.name (bit_at vs i).1 ≡ net_at scope (bit_at vs i)
+pub same-name : (vs : List Variable) (s : Instance) (scope i : ℕ) → vs ≡ variables s.step.definition → s.step.number ≡ scope → i < length (all_bits vs)
+    → named s (bit_at vs i).0.name (bit_at vs i).1 ≡ net_at scope (bit_at vs i)
 same-name vs s scope i e n lt =
     let v = (bit_at vs i).0 in
     let there : In v (variables s.step.definition) = subst (In v) e (bit-of vs i lt) in
     ap (λ w. undriven (record { spot = terminal 0 0 0; scope = s.step.number; name = v.name; bit = index_at w.range (bit_at vs i).1 })) (variable-is s.step.definition v there)
     ∙ ap (λ k. net_at k (bit_at vs i)) n
 
-pub with-output : (vs : List Variable) (s : Instance) (k scope outputs : ℕ) (bs : List code_bit.Bit) (i : ℕ) → vs ≡ variables s.step.definition → s.step.number ≡ scope → i < length (all_bits vs)
-    → first_output outputs bs ≡ Some i → map undriven (terminal_nets s k outputs (map (view_bit vs) bs)) ≡ flat_map (at_constant (net_at scope (bit_at vs i))) (drop outputs bs)
-with-output vs s k scope zero bs i e n lt h = cc
-with-output vs s k scope (suc m) [] i e n lt h = cc
-with-output vs s k scope (suc m) (bit.Constant p v ∷ bs) i e n lt h = cc
-with-output vs s k scope (suc m) (bit.Net j ∷ bs) i e n lt h =
+pub with-output : (vs : List Variable) (s : Instance) (k scope : ℕ) (outputs inputs : List code_bit.Bit) (i : ℕ) → vs ≡ variables s.step.definition → s.step.number ≡ scope → i < length (all_bits vs)
+    → first_output outputs ≡ Some i → map undriven (terminal_nets s k (map (view_bit vs) outputs) (map (view_bit vs) inputs)) ≡ flat_map (at_constant (net_at scope (bit_at vs i))) inputs
+with-output vs s k scope [] inputs i e n lt h = cc
+with-output vs s k scope (bit.Constant p v ∷ bs) inputs i e n lt h = cc
+with-output vs s k scope (bit.Net j ∷ bs) inputs i e n lt h =
     let same : j ≡ i = cc in
     let below : j < length (all_bits vs) = subst (λ x. x < length (all_bits vs)) (sym same) lt in
     let b = bit_at vs j in
-    let outs = take m (map (view_bit vs) bs) in
-    ap (λ xs. map undriven (flat_map (terminal_net s k (net b.0.name b.1 ∷ outs)) (enumerate_from 0 xs))) (drop-map (view_bit vs) m bs)
-    ∙ each-constant vs s k b.0.name b.1 outs 0 (drop m bs)
-    ∙ ap (λ o. flat_map (at_constant o) (drop m bs)) (same-name vs s scope j e n below)
-    ∙ ap (λ x. flat_map (at_constant (net_at scope (bit_at vs x))) (drop m bs)) same
+    each-constant vs s k b.0.name b.1 (map (view_bit vs) bs) 0 inputs
+    ∙ ap (λ o. flat_map (at_constant o) inputs) (same-name vs s scope j e n below)
+    ∙ ap (λ x. flat_map (at_constant (net_at scope (bit_at vs x))) inputs) same
 
 -- the first output stands in the row
-pub output-in_row : (vs : List Variable) (outputs : ℕ) (bs : List code_bit.Bit) (i : ℕ) → AllByRecursion (IsInRow vs) bs → first_output outputs bs ≡ Some i → i < length (all_bits vs)
-output-in_row vs zero bs i h e = cc
-output-in_row vs (suc m) [] i h e = cc
-output-in_row vs (suc m) (bit.Constant p v ∷ bs) i h e = cc
-output-in_row vs (suc m) (bit.Net j ∷ bs) i h e = let same : j ≡ i = cc in subst (λ x. x < length (all_bits vs)) same h.0
+pub output-in_row : (vs : List Variable) (outputs : List code_bit.Bit) (i : ℕ) → AllByRecursion (IsInRow vs) outputs → first_output outputs ≡ Some i → i < length (all_bits vs)
+output-in_row vs [] i h e = cc
+output-in_row vs (bit.Constant p v ∷ bs) i h e = cc
+output-in_row vs (bit.Net j ∷ bs) i h e = let same : j ≡ i = cc in subst (λ x. x < length (all_bits vs)) same h.0
 
 -- ---- what is added, as the definition has it
 
 pub none-added : (nets : List Net) (os : List OwnNet) → os ≡ [] → nets ≡ nets ++ map undriven os
 none-added nets os e = sym (append-nil nets) ∙ ap (λ xs. nets ++ map undriven xs) (sym e)
 
--- where there are fewer bits than outputs, there are no inputs
-pub no-inputs : (s : Instance) (k outputs : ℕ) (bs : List Bit) → length bs ≤ outputs → terminal_nets s k outputs bs ≡ []
-no-inputs s k outputs bs le = ap (λ xs. flat_map (terminal_net s k (take outputs bs)) (enumerate_from 0 xs)) (drop_all outputs bs le)
+pub are-meant : (vs : List Variable) (s : Instance) (k scope : ℕ) (outputs inputs : List code_bit.Bit) (i : ℕ) → All (IsInRow vs) outputs → vs ≡ variables s.step.definition → s.step.number ≡ scope
+    → first_output outputs ≡ Some i
+    → flat_map (at_constant (net_at scope (bit_at vs i))) inputs ≡ map undriven (terminal_nets s k (map (view_bit vs) outputs) (map (view_bit vs) inputs))
+are-meant vs s k scope outputs inputs i h e n f = sym (with-output vs s k scope outputs inputs i e n (output-in_row vs outputs i (recursion_from_All (IsInRow vs) outputs h) f) f)
 
-pub are-meant : (vs : List Variable) (s : Instance) (k scope outputs : ℕ) (bs inputs : List code_bit.Bit) (i : ℕ) → All (IsInRow vs) bs → vs ≡ variables s.step.definition → s.step.number ≡ scope
-    → first_output outputs bs ≡ Some i → inputs ≡ take (length bs - outputs) (drop outputs bs)
-    → flat_map (at_constant (net_at scope (bit_at vs i))) inputs ≡ map undriven (terminal_nets s k outputs (map (view_bit vs) bs))
-are-meant vs s k scope outputs bs inputs i h e n f r =
-    ap (flat_map (at_constant (net_at scope (bit_at vs i)))) (r ∙ take_rest bs outputs)
-    ∙ sym (with-output vs s k scope outputs bs i e n (output-in_row vs outputs bs i (recursion_from_All (IsInRow vs) bs h) f) f)
-
-pub count-meant : (vs : List Variable) (s : Instance) (k scope outputs : ℕ) (bs inputs : List code_bit.Bit) (i : ℕ) → All (IsInRow vs) bs → vs ≡ variables s.step.definition → s.step.number ≡ scope
-    → first_output outputs bs ≡ Some i → inputs ≡ take (length bs - outputs) (drop outputs bs)
-    → length (flat_map (at_constant (net_at scope (bit_at vs i))) inputs) ≡ length (terminal_nets s k outputs (map (view_bit vs) bs))
-count-meant vs s k scope outputs bs inputs i h e n f r =
-    ap length (are-meant vs s k scope outputs bs inputs i h e n f r) ∙ length-map (terminal_nets s k outputs (map (view_bit vs) bs)) undriven
+pub count-meant : (vs : List Variable) (s : Instance) (k scope : ℕ) (outputs inputs : List code_bit.Bit) (i : ℕ) → All (IsInRow vs) outputs → vs ≡ variables s.step.definition → s.step.number ≡ scope
+    → first_output outputs ≡ Some i
+    → length (flat_map (at_constant (net_at scope (bit_at vs i))) inputs) ≡ length (terminal_nets s k (map (view_bit vs) outputs) (map (view_bit vs) inputs))
+count-meant vs s k scope outputs inputs i h e n f = ap length (are-meant vs s k scope outputs inputs i h e n f) ∙ length-map (terminal_nets s k (map (view_bit vs) outputs) (map (view_bit vs) inputs)) undriven

@@ -1,5 +1,9 @@
 -- The modules of this folder.
 pub mod Counts
+pub mod NumberedLists
+pub mod InnerNets
+pub mod PathTurns
+pub mod EndRows
 pub mod RowBits
 pub mod OwnBits
 pub mod ConstantNets

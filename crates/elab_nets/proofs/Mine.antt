@@ -24,7 +24,8 @@ use Rattle.elab_model.specs.Numbered.{undriven}
 use Rattle.elab_nets.specs.declared.rows.Rows.{Rows}
 use Rattle.elab_nets.proofs.InnerRows.{front-is, own-due}
 use Rattle.elab_modules.proofs.FoundModules.{is-found, is-prepared}
-use Rattle.elab_nets.proofs.Placings.{is-there, lone-is, no-level, number-is, placed-at, placed-count}
+use Rattle.elab_hierarchy.proofs.FaultlessTree.{no-children_at_limit}
+use Rattle.elab_nets.proofs.Placings.{is-there, lone-is, number-is, placed-at, placed-count}
 use Rattle.elab_nets.proofs.RowParts.{get-behind}
 use Rattle.elab_nets.proofs.UpTo.{new-inner, one-more}
 
@@ -84,7 +85,7 @@ module _ (source : Source) (top : Module) (corner : Corner) (library : Library) 
   pub leaf-here : is_leaf source s ≡ (is_some p.parent && p.end == n + 1)
   leaf-here =
       sym (ap (λ b. b && p.end == n + 1) (ap is_some of.placed.parent ∙ has-parent s.above)
-      ∙ ap (λ b. not (is_empty s.above) && b) (ap (λ k. p.end == k + 1) (sym number_here) ∙ lone-is source s.step p.end (no-level source top s given.tree there) of.placed.end))
+      ∙ ap (λ b. not (is_empty s.above) && b) (ap (λ k. p.end == k + 1) (sym number_here) ∙ lone-is source s.step p.end (no-children_at_limit source top s given.tree there) of.placed.end))
 
   pub count-here : (rows : Rows) → AreUpTo source top rows n → length rows.nets.items ≡ length (flat_map (nets_of source) of.split.before)
   count-here rows up =
@@ -133,11 +134,13 @@ module _ (source : Source) (top : Module) (corner : Corner) (library : Library) 
   -- its turn is over
   pub turn-done : (r0 r1 r2 r3 r4 : Rows) (next : ℕ) → AreUpTo source top r0 n → IsBegun source top s r0 r1
       → r2.member_starts.items ≡ r1.member_starts.items ++ length r1.firsts.items ∷ []
-      → (r2.nets ≡ r1.nets) × ((r2.inner ≡ r1.inner) × ((r2.starts ≡ r1.starts) × ((r2.outer ≡ r1.outer) × ((r2.outer_starts ≡ r1.outer_starts) × (r2.firsts ≡ r1.firsts)))))
+      → r2.end_starts.items ≡ r1.end_starts.items ++ length r1.ends.items ∷ []
+      → (r2.nets ≡ r1.nets) × ((r2.inner ≡ r1.inner) × ((r2.starts ≡ r1.starts) × ((r2.outer ≡ r1.outer) × ((r2.outer_starts ≡ r1.outer_starts) × ((r2.firsts ≡ r1.firsts) × (r2.ends ≡ r1.ends))))))
       → length r2.nets.items ≡ nets_before source of.split.before s [] → AreThrough source top of.split.before s (length (members s.step.definition)) next r2 r3
       → r4.firsts.items ≡ r3.firsts.items ++ length r3.nets.items ∷ []
-      → (r4.nets ≡ r3.nets) × ((r4.inner ≡ r3.inner) × ((r4.starts ≡ r3.starts) × ((r4.outer ≡ r3.outer) × ((r4.outer_starts ≡ r3.outer_starts) × (r4.member_starts ≡ r3.member_starts)))))
+      → (r4.nets ≡ r3.nets) × ((r4.inner ≡ r3.inner) × ((r4.starts ≡ r3.starts) × ((r4.outer ≡ r3.outer) × ((r4.outer_starts ≡ r3.outer_starts) × ((r4.member_starts ≡ r3.member_starts)
+          × ((r4.ends ≡ r3.ends) × (r4.end_starts ≡ r3.end_starts)))))))
       → AreUpTo source top r4 (n + 1)
-  turn-done r0 r1 r2 r3 r4 next up begun m2 same2 count through f4 same4 =
+  turn-done r0 r1 r2 r3 r4 next up begun m2 e2 same2 count through f4 same4 =
       subst (λ k. AreUpTo source top r4 (k + 1)) of.split.count
-      (one-more source top of.split.before of.split.after s of.split.whole r0 r1 r2 r3 r4 next (subst (AreUpTo source top r0) (sym of.split.count) up) begun m2 same2 count through f4 same4)
+      (one-more source top of.split.before of.split.after s of.split.whole r0 r1 r2 r3 r4 next (subst (AreUpTo source top r0) (sym of.split.count) up) begun m2 e2 same2 count through f4 same4)

@@ -1,21 +1,17 @@
 -- The instances stand at their numbers, in the definition's list and in the code's.
-use Rattle.std.specs.Prelude.{◌≡◌, ℕ, zero, suc, ◌+◌, ◌<◌, ◌==◌, List, [], ◌∷◌, ◌++◌, true, Some, length, map, slice_get, sum_by, refl, if◌then◌else◌}
+use Rattle.std.specs.Prelude.{◌≡◌, ℕ, zero, suc, ◌+◌, ◌<◌, ◌==◌, List, [], ◌∷◌, ◌++◌, Some, length, map, slice_get, sum_by, refl}
 use Rattle.std.specs.List.{range_with_len}
 use Rattle.std.proofs.Common.{sym, ◌∙◌, ap, arith, inl, inr, subst}
 use Rattle.std.proofs.lemmas.Bool.{eq-eqb}
 use Rattle.std.proofs.lemmas.Bool.Decides.{nat_tests}
 use Rattle.std.proofs.lemmas.List.Sums.{sum_by-cons}
 use Rattle.vl_tree.specs.Tree.{Module, Source}
-use Rattle.elab_model.specs.declared.kinds.ElabKind.TheVariants.{TooDeep}
-use Rattle.elab_model.specs.Faults.{fault}
 use Rattle.elab_model.specs.Hierarchy.{Step, Instance, Child, children_in, size, instances, is_empty, has_no_child}
-use Rattle.elab_model.specs.HierarchyFaults.{self_instances, too_deep}
-use Rattle.elab_laws.proofs.Lists.{In, all-in}
+use Rattle.elab_laws.proofs.Lists.{In}
 use Rattle.elab_laws.proofs.Numbers.{number}
-use Rattle.elab_laws.proofs.NoFaults.{front, back, flat-empty, map-empty}
 use Rattle.elab_laws.proofs.Stated.{instances-have_places}
 use Rattle.elab_hierarchy.specs.declared.instances.Placed.{Placed}
-use Rattle.elab_hierarchy.specs.Placing.{IsPlaced, ArePlaced, tree_faults, tree_faults_at}
+use Rattle.elab_hierarchy.specs.Placing.{IsPlaced, ArePlaced}
 
 abbrev first : List ℕ → ℕ
 first [] = 0
@@ -82,16 +78,6 @@ placed-count source (p ∷ ps) [] h = absurd h
 placed-count source (p ∷ ps) (x ∷ xs) h = ap suc (placed-count source ps xs h.1)
 
 -- ---- leaves
-
--- where the hierarchy isn't too deep, an instance of the last level has no child
-pub no-level : (source : Source) (top : Module) (s : Instance) → tree_faults source top ≡ [] → In s (instances source top) → s.step.levels ≡ 0 → children_in source s.step.definition ≡ []
-no-level source top s h there e =
-    let each = flat-empty (tree_faults_at source) (instances source top) (front _ _ h) in
-    let own : tree_faults_at source s ≡ [] = all-in (λ s. tree_faults_at source s ≡ []) s (instances source top) each there in
-    let deep : too_deep source s ≡ [] = back (self_instances source s) (too_deep source s) own in
-    let zero_is : (s.step.levels == 0) ≡ true = eq-eqb s.step.levels 0 e in
-    map-empty (λ c. fault TooDeep c.place) (children_in source s.step.definition)
-    (ap (λ b. if b then map (λ c. fault TooDeep c.place) (children_in source s.step.definition) else []) (sym zero_is) ∙ deep)
 
 some-size : (source : Source) (d : ℕ) (m : Module) → 0 < size source d m
 some-size source zero m = omega arith

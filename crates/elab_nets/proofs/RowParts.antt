@@ -1,6 +1,6 @@
 -- Rows as parts of lists that grow, and lists of places.
 use Rattle.std.specs.Prelude.{◌≡◌, ℕ, zero, suc, ◌+◌, ◌<◌, ◌≤◌, List, [], ◌∷◌, ◌++◌, Some, length, take, drop, slice_get, refl}
-use Rattle.std.proofs.Common.{◌∙◌, ap, arith, set}
+use Rattle.std.proofs.Common.{sym, ◌∙◌, ap, arith, set}
 use Rattle.std.proofs.lemmas.List.{drop-append-le, take-append-le, length-drop, take_all}
 use Rattle.elab_nets.specs.Rows.{part_of}
 
@@ -16,6 +16,9 @@ get-behind (x ∷ xs) ys i = let e : suc (length xs) + i ≡ suc (length xs + i)
 
 pub get-last : {A : Type 0} (xs : List A) (x : A) → slice_get (xs ++ x ∷ []) (length xs) ≡ Some x
 get-last xs x = let e : length xs ≡ length xs + 0 = omega arith in ap (slice_get (xs ++ x ∷ [])) e ∙ get-behind xs (x ∷ []) 0
+
+pub at-end : (places : List ℕ) (x n : ℕ) → length places ≡ n → slice_get (places ++ x ∷ []) n ≡ Some x
+at-end places x n e = ap (slice_get (places ++ x ∷ [])) (sym e) ∙ get-last places x
 
 pub part-grown : {A : Type 0} (xs ys : List A) (start count : ℕ) → start + count ≤ length xs → part_of (xs ++ ys) start count ≡ part_of xs start count
 part-grown xs ys start count le =

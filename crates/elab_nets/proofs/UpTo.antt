@@ -7,6 +7,7 @@ use Rattle.std.proofs.lemmas.List.{length-map, map-append, take_all, drop_all}
 use Rattle.std.proofs.lemmas.List.FromFn.{map-range_with_len_more}
 use Rattle.sg_circuit.specs.declared.nets.Net.{Net}
 use Rattle.vl_tree.specs.Tree.{Module, Source}
+use Rattle.elab_model.specs.Ends.{first_ends, path_ends}
 use Rattle.elab_model.specs.Hierarchy.{Step, Instance, children, children_from, instances, is_empty}
 use Rattle.elab_model.specs.Members.{members}
 use Rattle.elab_model.specs.Nets.{nets, nets_of, variable_nets, member_nets}
@@ -17,16 +18,17 @@ use Rattle.elab_laws.proofs.PartsApart.{children-above}
 use Rattle.elab_laws.proofs.Parents.{parent-of}
 use Rattle.elab_laws.specs.NumberLaws.{nets_before}
 use Rattle.elab_nets.specs.Rows.{first_of_member}
-use Rattle.elab_nets.specs.Turns.{AreUpTo, AreThrough, AddsOutside, HasFirsts, HasInnerRow, HasOuterRow, IsBegun, IsDue, bits_of, children_among, members_of}
+use Rattle.elab_nets.specs.Turns.{AreUpTo, AreThrough, AddsOutside, HasEnds, HasFirsts, HasInnerRow, HasOuterRow, IsBegun, IsDue, bits_of, children_among, end_number, members_of}
 use Rattle.elab_model.specs.Numbered.{undriven}
 use Rattle.elab_nets.specs.declared.rows.Rows.{Rows}
 use Rattle.elab_nets.proofs.Children.{child-in}
+use Rattle.elab_nets.proofs.EndRows.{kept-ends, new-ends}
 use Rattle.elab_nets.proofs.InnerRows.{front-is, front-next}
 use Rattle.elab_nets.proofs.MemberTurns.{count-there}
 use Rattle.elab_nets.proofs.Filters.{from-map}
 use Rattle.elab_nets.proofs.OuterRows.{kept-outer}
 use Rattle.elab_nets.proofs.Placings.{number-is, is-there, same-instance}
-use Rattle.elab_nets.proofs.RowParts.{get-grown, get-behind, get-last, part-grown, part-behind}
+use Rattle.elab_nets.proofs.RowParts.{get-grown, get-behind, at-end, part-grown, part-behind}
 
 -- ---- rows that stand stay
 
@@ -49,9 +51,6 @@ kept-firsts source numbers more places later before s h = record {
 }
 
 -- ---- and new ones come behind
-
-at-end : (places : List ℕ) (x n : ℕ) → length places ≡ n → slice_get (places ++ x ∷ []) n ≡ Some x
-at-end places x n e = ap (slice_get (places ++ x ∷ [])) (sym e) ∙ get-last places x
 
 pub new-inner : (source : Source) (top : Module) (numbers row places : List ℕ) (s : Instance) → length places ≡ s.step.number → row ≡ map (number_at (nets source top) source s) (bits_of s)
     → HasInnerRow source top (numbers ++ row) (places ++ length numbers ∷ []) s
@@ -166,18 +165,21 @@ module _ (source : Source) (top : Module) (before after : List Instance) (s : In
       → new.starts.items ≡ old.starts.items ++ length old.inner.items ∷ []
       → new.member_starts.items ≡ old.member_starts.items ++ length old.firsts.items ∷ []
       → new.firsts.items ≡ old.firsts.items ++ map (first_of_member source before s) (range_with_len 0 (end + 1))
+      → new.ends.items ≡ old.ends.items ++ map (end_number source top s) (path_ends s.step.definition)
+      → new.end_starts.items ≡ old.end_starts.items ++ length old.ends.items ∷ []
       → AddsOutside source top old.outer.items new.outer.items old.outer_starts.items new.outer_starts.items (children source s) → AreUpTo source top new (length before + 1)
-  up-to_more old new h made inner starts members firsts outside = record {
+  up-to_more old new h made inner starts members firsts ends end_starts outside = record {
     all = nets-up_to old.nets.items new.nets.items h.all made;
     start_count = ap length starts ∙ length-append old.starts.items (length old.inner.items ∷ []) ∙ ap (λ n. n + 1) h.start_count;
     member_count = ap length members ∙ length-append old.member_starts.items (length old.firsts.items ∷ []) ∙ ap (λ n. n + 1) h.member_count;
+    end_count = ap length end_starts ∙ length-append old.end_starts.items (length old.ends.items ∷ []) ∙ ap (λ n. n + 1) h.end_count;
     outer_count = outside.same_count ∙ h.outer_count;
     own = λ b a t e lt. elim (either (length b) (length before) lt) [ inl l ↦ kept b a t e l | inr l ↦ mine b a t e l ];
     outer = due-stands old.outer.items new.outer.items old.outer_starts.items new.outer_starts.items outside h.outer;
   }
     where
       Own : Rows → List Instance → Instance → Type 0
-      Own rows b t = HasInnerRow source top rows.inner.items rows.starts.items t × HasFirsts source rows.firsts.items rows.member_starts.items b t
+      Own rows b t = HasInnerRow source top rows.inner.items rows.starts.items t × (HasFirsts source rows.firsts.items rows.member_starts.items b t × HasEnds source top rows.ends.items rows.end_starts.items t)
 
       number_here : s.step.number ≡ length before
       number_here = number-is source top before after s here
@@ -187,33 +189,43 @@ module _ (source : Source) (top : Module) (before after : List Instance) (s : In
 
       -- by the lists
       by_lists : (b : List Instance) (t : Instance) → HasInnerRow source top (old.inner.items ++ map (number_at (nets source top) source s) (bits_of s)) (old.starts.items ++ length old.inner.items ∷ []) t
-          → HasFirsts source (old.firsts.items ++ map (first_of_member source before s) (range_with_len 0 (end + 1))) (old.member_starts.items ++ length old.firsts.items ∷ []) b t → Own new b t
-      by_lists b t i f = (
+          → HasFirsts source (old.firsts.items ++ map (first_of_member source before s) (range_with_len 0 (end + 1))) (old.member_starts.items ++ length old.firsts.items ∷ []) b t
+          → HasEnds source top (old.ends.items ++ map (end_number source top s) (path_ends s.step.definition)) (old.end_starts.items ++ length old.ends.items ∷ []) t → Own new b t
+      by_lists b t i f e = (
         subst (λ xs. HasInnerRow source top xs new.starts.items t) (sym inner) (subst (λ ys. HasInnerRow source top (old.inner.items ++ map (number_at (nets source top) source s) (bits_of s)) ys t) (sym starts) i),
-        subst (λ xs. HasFirsts source xs new.member_starts.items b t) (sym firsts) (subst (λ ys. HasFirsts source (old.firsts.items ++ map (first_of_member source before s) (range_with_len 0 (end + 1))) ys b t) (sym members) f),
+        (
+          subst (λ xs. HasFirsts source xs new.member_starts.items b t) (sym firsts)
+          (subst (λ ys. HasFirsts source (old.firsts.items ++ map (first_of_member source before s) (range_with_len 0 (end + 1))) ys b t) (sym members) f),
+          subst (λ xs. HasEnds source top xs new.end_starts.items t) (sym ends)
+          (subst (λ ys. HasEnds source top (old.ends.items ++ map (end_number source top s) (path_ends s.step.definition)) ys t) (sym end_starts) e),
+        ),
       )
 
       kept : (b a : List Instance) (t : Instance) → instances source top ≡ b ++ t ∷ a → length b < length before → Own new b t
       kept b a t e lt =
           let o = h.own b a t e lt in
-          by_lists b t (kept-inner source top old.inner.items _ old.starts.items _ t o.0) (kept-firsts source old.firsts.items _ old.member_starts.items _ b t o.1)
+          by_lists b t (kept-inner source top old.inner.items _ old.starts.items _ t o.0) (kept-firsts source old.firsts.items _ old.member_starts.items _ b t o.1.0)
+          (kept-ends source top old.ends.items _ old.end_starts.items _ t o.1.1)
 
       mine : (b a : List Instance) (t : Instance) → instances source top ≡ b ++ t ∷ a → length b ≡ length before → Own new b t
       mine b a t e n =
           let r = split-same before after b a s t (sym here ∙ e) (sym n) in
           subst (λ x. Own new x t) r.0 (subst (λ x. Own new before x) r.1
           (by_lists before s (new-inner source top old.inner.items _ old.starts.items s (h.start_count ∙ sym number_here) refl)
-          (new-firsts source old.firsts.items old.member_starts.items before s (h.member_count ∙ sym number_here))))
+          (new-firsts source old.firsts.items old.member_starts.items before s (h.member_count ∙ sym number_here))
+          (new-ends source top old.ends.items old.end_starts.items s (h.end_count ∙ sym number_here))))
 
   -- the turn of an instance, step by step
   pub one-more : (r0 r1 r2 r3 r4 : Rows) (next : ℕ) → AreUpTo source top r0 (length before) → IsBegun source top s r0 r1
       → r2.member_starts.items ≡ r1.member_starts.items ++ length r1.firsts.items ∷ []
-      → (r2.nets ≡ r1.nets) × ((r2.inner ≡ r1.inner) × ((r2.starts ≡ r1.starts) × ((r2.outer ≡ r1.outer) × ((r2.outer_starts ≡ r1.outer_starts) × (r2.firsts ≡ r1.firsts)))))
+      → r2.end_starts.items ≡ r1.end_starts.items ++ length r1.ends.items ∷ []
+      → (r2.nets ≡ r1.nets) × ((r2.inner ≡ r1.inner) × ((r2.starts ≡ r1.starts) × ((r2.outer ≡ r1.outer) × ((r2.outer_starts ≡ r1.outer_starts) × ((r2.firsts ≡ r1.firsts) × (r2.ends ≡ r1.ends))))))
       → length r2.nets.items ≡ nets_before source before s [] → AreThrough source top before s end next r2 r3
       → r4.firsts.items ≡ r3.firsts.items ++ length r3.nets.items ∷ []
-      → (r4.nets ≡ r3.nets) × ((r4.inner ≡ r3.inner) × ((r4.starts ≡ r3.starts) × ((r4.outer ≡ r3.outer) × ((r4.outer_starts ≡ r3.outer_starts) × (r4.member_starts ≡ r3.member_starts)))))
+      → (r4.nets ≡ r3.nets) × ((r4.inner ≡ r3.inner) × ((r4.starts ≡ r3.starts) × ((r4.outer ≡ r3.outer) × ((r4.outer_starts ≡ r3.outer_starts) × ((r4.member_starts ≡ r3.member_starts)
+          × ((r4.ends ≡ r3.ends) × (r4.end_starts ≡ r3.end_starts)))))))
       → AreUpTo source top r4 (length before + 1)
-  one-more r0 r1 r2 r3 r4 next h begun m2 same2 count t f4 same4 =
+  one-more r0 r1 r2 r3 r4 next h begun m2 e2 same2 count t f4 same4 =
       let z : 0 + end ≡ end = omega arith in
       let f = first_of_member source before s in
       let last : length r3.nets.items ≡ f end = count-there source top before s end next r2 r3 count t in
@@ -223,10 +235,15 @@ module _ (source : Source) (top : Module) (before after : List Instance) (s : In
       ∙ ap (λ xs. xs ++ map undriven (flat_map (member_nets source s) (take end (members_of s)))) begun.made)
       (ap (λ v. v.items) (same4.1.0 ∙ t.same.0 ∙ same2.1.0) ∙ begun.row)
       (ap (λ v. v.items) (same4.1.1.0 ∙ t.same.1.0 ∙ same2.1.1.0) ∙ begun.start)
-      (ap (λ v. v.items) (same4.1.1.1.1.1 ∙ t.same.1.1) ∙ m2 ∙ ap (λ v. v.items ++ length r1.firsts.items ∷ []) begun.same.1.1.1 ∙ ap (λ v. r0.member_starts.items ++ length v.items ∷ []) begun.same.1.1.0)
+      (ap (λ v. v.items) (same4.1.1.1.1.1.0 ∙ t.same.1.1.0) ∙ m2 ∙ ap (λ v. v.items ++ length r1.firsts.items ∷ []) begun.same.1.1.1.0 ∙ ap (λ v. r0.member_starts.items ++ length v.items ∷ []) begun.same.1.1.0)
       (f4 ∙ ap (λ xs. xs ++ length r3.nets.items ∷ []) t.first_nets ∙ ap (λ n. (r2.firsts.items ++ map f (range_with_len 0 end)) ++ n ∷ []) last
       ∙ append_assoc r2.firsts.items (map f (range_with_len 0 end)) (f end ∷ []) ∙ ap (λ xs. r2.firsts.items ++ xs) (sym (map-range_with_len_more f 0 end end z))
-      ∙ ap (λ v. v.items ++ map f (range_with_len 0 (end + 1))) (same2.1.1.1.1.1 ∙ begun.same.1.1.0))
+      ∙ ap (λ v. v.items ++ map f (range_with_len 0 (end + 1))) (same2.1.1.1.1.1.0 ∙ begun.same.1.1.0))
+      (ap (λ v. v.items) same4.1.1.1.1.1.1.0 ∙ t.ends ∙ ap (λ v. v.items ++ map (end_number source top s) (flat_map (first_ends s.step.definition) (take end (members_of s))))
+      (same2.1.1.1.1.1.1 ∙ begun.same.1.1.1.1.0)
+      ∙ ap (λ xs. r0.ends.items ++ map (end_number source top s) (flat_map (first_ends s.step.definition) xs)) all-members)
+      (ap (λ v. v.items) (same4.1.1.1.1.1.1.1 ∙ t.same.1.1.1) ∙ e2 ∙ ap (λ v. v.items ++ length r1.ends.items ∷ []) begun.same.1.1.1.1.1 ∙ ap (λ v. r0.end_starts.items ++ length v.items ∷ [])
+      begun.same.1.1.1.1.0)
       (subst (λ cs. AddsOutside source top r0.outer.items r4.outer.items r0.outer_starts.items r4.outer_starts.items cs) (sym all)
       (subst (λ v. AddsOutside source top v.items r4.outer.items r0.outer_starts.items r4.outer_starts.items t.done) (same2.1.1.1.0 ∙ begun.same.0)
       (subst (λ v. AddsOutside source top r2.outer.items v.items r0.outer_starts.items r4.outer_starts.items t.done) (sym same4.1.1.1.0)

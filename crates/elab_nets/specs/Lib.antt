@@ -2,7 +2,9 @@
 pub mod Numbers
 pub mod Own
 pub mod Outside
+pub mod TerminalBits
 pub mod Terminals
+pub mod Ends
 pub mod Inputs
 pub mod Written
 pub mod Rows

@@ -3,10 +3,12 @@ use Rattle.std.specs.Prelude.{◌≡◌, ℕ, ◌+◌, ◌<◌, ◌≤◌, List,
 use Rattle.std.specs.List.{AllByRecursion, enumerate_from, range_with_len}
 use Rattle.sg_delay.specs.declared.corners.Corner.{Corner}
 use Rattle.vl_tree.specs.Tree.{Module, Source}
+use Rattle.elab_model.specs.Ends.{first_ends, path_ends, inner_spot}
 use Rattle.elab_model.specs.Hierarchy.{Step, Instance, Child, child_of_member, children_from, children, instances, is_leaf}
 use Rattle.elab_model.specs.Members.{Member, members}
 use Rattle.elab_model.specs.Names.{Variable, variables}
-use Rattle.elab_model.specs.Nets.{nets, nets_of, variable_nets, member_nets}
+use Rattle.elab_model.specs.Nets.{nets, nets_of, variable_nets, member_nets, number_of}
+use Rattle.elab_model.specs.Terms.{NetBit}
 use Rattle.elab_laws.specs.Handing.{all_bits, number_at}
 use Rattle.elab_laws.specs.Laws.{AreSound}
 use Rattle.elab_laws.specs.Words.{In}
@@ -49,6 +51,17 @@ pub record HasFirsts (source : Source) (numbers places : List ℕ) (before : Lis
   pub there : slice_get places s.step.number ≡ Some start
   pub firsts : (k : ℕ) → k ≤ length (members s.step.definition) → slice_get numbers (start + k) ≡ Some (first_of_member source before s k)
 
+-- the number of what is driven inside in place of an output bit
+abbrev pub end_number : Source → Module → Instance → NetBit → ℕ
+end_number source top s b = number_of (nets source top) (inner_spot s b)
+
+-- and the inner nets of its output bits with paths
+pub record HasEnds (source : Source) (top : Module) (numbers places : List ℕ) (s : Instance) : Type 0 where
+  pub start : ℕ
+  pub there : slice_get places s.step.number ≡ Some start
+  pub within : start + length (path_ends s.step.definition) ≤ length numbers
+  pub ends : part_of numbers start (length (path_ends s.step.definition)) ≡ map (end_number source top s) (path_ends s.step.definition)
+
 -- an instance is the top, or that in which it lies has had its turn
 abbrev pub IsDue : ℕ → List Step → Type 0
 IsDue count [] = Unit {0}
@@ -59,9 +72,10 @@ pub record AreUpTo (source : Source) (top : Module) (rows : Rows) (count : ℕ) 
   pub all : rows.nets.items ≡ map undriven (flat_map (nets_of source) (take count (instances source top)))
   pub start_count : length rows.starts.items ≡ count
   pub member_count : length rows.member_starts.items ≡ count
+  pub end_count : length rows.end_starts.items ≡ count
   pub outer_count : length rows.outer_starts.items ≡ length (instances source top)
   pub own : (before after : List Instance) (s : Instance) → instances source top ≡ before ++ s ∷ after → length before < count
-      → HasInnerRow source top rows.inner.items rows.starts.items s × HasFirsts source rows.firsts.items rows.member_starts.items before s
+      → HasInnerRow source top rows.inner.items rows.starts.items s × (HasFirsts source rows.firsts.items rows.member_starts.items before s × HasEnds source top rows.ends.items rows.end_starts.items s)
   pub outer : (t : Instance) → In t (instances source top) → IsDue count t.above → HasOuterRow source top rows.outer.items rows.outer_starts.items t
 
 -- the instances of modules among members
@@ -88,6 +102,7 @@ pub record IsNext (source : Source) (before : List Instance) (s : Instance) (x :
   pub front : List (ℕ × Member)
   pub behind : List (ℕ × Member)
   pub split : members_of s ≡ front ++ x ∷ behind
+  pub there : slice_get (members s.step.definition) x.0 ≡ Some x.1
   pub nets_there : count ≡ nets_before source before s front
   pub levels : ℕ
   pub done : List Instance
@@ -107,7 +122,8 @@ pub record IsSeenTo (source : Source) (top : Module) (s : Instance) (x : ℕ × 
   pub cs : List Instance
   pub split : children_from source levels (s.step ∷ s.above) next (children_among source (x ∷ behind)) ≡ cs ++ children_from source levels (s.step ∷ s.above) after (children_among source behind)
   pub outside : AddsOutside source top old.outer.items new.outer.items old.outer_starts.items new.outer_starts.items cs
-  pub same : (new.inner ≡ old.inner) × ((new.starts ≡ old.starts) × ((new.firsts ≡ old.firsts) × (new.member_starts ≡ old.member_starts)))
+  pub ends : new.ends.items ≡ old.ends.items ++ map (end_number source top s) (first_ends s.step.definition x)
+  pub same : (new.inner ≡ old.inner) × ((new.starts ≡ old.starts) × ((new.firsts ≡ old.firsts) × ((new.member_starts ≡ old.member_starts) × (new.end_starts ≡ old.end_starts))))
 
 -- so many members of an instance have been seen to
 pub record AreThrough (source : Source) (top : Module) (before : List Instance) (s : Instance) (k next : ℕ) (old new : Rows) : Type 0 where
@@ -117,7 +133,8 @@ pub record AreThrough (source : Source) (top : Module) (before : List Instance) 
   pub done : List Instance
   pub rest : children source s ≡ done ++ children_from source levels (s.step ∷ s.above) next (children_among source (drop k (members_of s)))
   pub outside : AddsOutside source top old.outer.items new.outer.items old.outer_starts.items new.outer_starts.items done
-  pub same : (new.inner ≡ old.inner) × ((new.starts ≡ old.starts) × (new.member_starts ≡ old.member_starts))
+  pub ends : new.ends.items ≡ old.ends.items ++ map (end_number source top s) (flat_map (first_ends s.step.definition) (take k (members_of s)))
+  pub same : (new.inner ≡ old.inner) × ((new.starts ≡ old.starts) × ((new.member_starts ≡ old.member_starts) × (new.end_starts ≡ old.end_starts)))
 
 -- an instance whose turn it is, with its outer row
 pub record IsMine (source : Source) (top : Module) (corner : Corner) (rows : Rows) (table : List Variable) (number : ℕ) (leaf : Bool) : Type 0 where
@@ -137,4 +154,5 @@ pub record IsBegun (source : Source) (top : Module) (s : Instance) (old new : Ro
   pub made : new.nets.items ≡ old.nets.items ++ map undriven (variable_nets source s)
   pub start : new.starts.items ≡ old.starts.items ++ length old.inner.items ∷ []
   pub row : new.inner.items ≡ old.inner.items ++ map (number_at (nets source top) source s) (bits_of s)
-  pub same : (new.outer ≡ old.outer) × ((new.outer_starts ≡ old.outer_starts) × ((new.firsts ≡ old.firsts) × (new.member_starts ≡ old.member_starts)))
+  pub same : (new.outer ≡ old.outer) × ((new.outer_starts ≡ old.outer_starts) × ((new.firsts ≡ old.firsts) × ((new.member_starts ≡ old.member_starts)
+      × ((new.ends ≡ old.ends) × (new.end_starts ≡ old.end_starts)))))

@@ -5,27 +5,27 @@ ghost use Rattle.vl_tree.specs.Tree.{Delay as SeenDelay, Module as SeenModule, N
 ghost use Rattle.vl_tree.specs.Seen.{view_gate_instance, view_instance, view_name};
 ghost use Rattle.elab_hierarchy.specs.Tops.{StandsAt};
 ghost use Rattle.elab_model.specs.Definitions.{definition_of};
-ghost use Rattle.elab_model.specs.Elements as def_elements;
 ghost use Rattle.elab_model.specs.Hierarchy as def;
 ghost use Rattle.elab_model.specs.Members as def_members;
 ghost use Rattle.elab_model.specs.Names.{variables};
-ghost use Rattle.elab_model.specs.Nets.{nets, member_nets, terminal_nets};
-ghost use Rattle.elab_modules.specs.Ready.{HasReady};
+ghost use Rattle.elab_model.specs.Nets.{nets, member_nets};
+ghost use Rattle.elab_modules.specs.Ready.{HasReady, IsPrepared};
 ghost use Rattle.elab_numbering.specs.Refusals.{RefusesCount};
 ghost use Rattle.elab_variables.specs.Seen.{view_member};
 ghost use Rattle.elab_nets.specs.Parts.{is_module};
+ghost use Rattle.elab_nets.specs.Terminals.{primitive_nets};
 ghost use Rattle.elab_nets.specs.Turns.{HasTurn, IsNext, IsSeenTo};
 ghost use Rattle.elab_model.specs.Numbered.{undriven};
 
 use crate::Rows;
-use crate::member_bits::{add_connection_bits, add_terminal_bits};
+use crate::ends::add_ends;
+use crate::member_bits::{TerminalBits, connection_bits, terminal_bits};
 use crate::outside::add_outside;
 use crate::parts::row_of;
 use crate::terminals::add_terminals;
-use elab_bits::Bit;
 use elab_hierarchy::{Definitions, Placed};
 use elab_model::ElabKind;
-use elab_modules::{Library, find_module, output_count};
+use elab_modules::{Library, Prepared, find_module, output_count};
 use elab_variables::{Member, Table};
 use sg_circuit::Net;
 use sg_logic::GateKind;
@@ -40,7 +40,7 @@ fn add_gate(
     scope: u32,
     kind: GateKind,
     instance: &GateInstance,
-    bits: &mut Vec<Bit>,
+    bits: &mut TerminalBits,
     nets: &mut Vec<Net>,
 ) -> Result<(), Refused<ElabKind>>
     requires few { length nets.old.items ≤ 2 ^ 22 }
@@ -50,10 +50,9 @@ fn add_gate(
     ensures refused { IfErr result (λ r. (source : Source) (s : def.Instance) (k : ℕ) (d : Option SeenDelay) → table.now ≡ variables s.step.definition → s.step.number ≡ scope
         → RefusesCount (length nets.old.items + length (member_nets source s (k, def_members.gate kind d (view_gate_instance instance.now)))) r) }
 {
-    bits.clear();
-    add_terminal_bits(table, &instance.terminals, bits)?;
-    let outputs = output_count(kind, bits.len());
-    add_terminals(alloc, table, scope, outputs, bits, nets)
+    let outputs = output_count(kind, instance.terminals.len());
+    terminal_bits(table, outputs, &instance.terminals, bits)?;
+    add_terminals(alloc, table, scope, &bits.outputs, &bits.inputs, nets)
 }
 
 // The same of a primitive.
@@ -62,19 +61,18 @@ fn add_primitive(
     table: &Table,
     scope: u32,
     instance: &Instance,
-    bits: &mut Vec<Bit>,
+    bits: &mut TerminalBits,
     nets: &mut Vec<Net>,
 ) -> Result<(), Refused<ElabKind>>
     requires few { length nets.old.items ≤ 2 ^ 22 }
     ensures few { length nets.new.items ≤ 2 ^ 22 }
     ensures nets { OnOk result ((s : def.Instance) (k : ℕ) → table.now ≡ variables s.step.definition → s.step.number ≡ scope
-        → nets.new.items ≡ nets.old.items ++ map undriven (terminal_nets s k 1 (def_elements.terminal_bits s (def_members.connection_values (view_instance instance.now).connections)))) }
+        → nets.new.items ≡ nets.old.items ++ map undriven (primitive_nets s k (view_instance instance.now))) }
     ensures refused { IfErr result (λ r. (s : def.Instance) (k : ℕ) → table.now ≡ variables s.step.definition → s.step.number ≡ scope
-        → RefusesCount (length nets.old.items + length (terminal_nets s k 1 (def_elements.terminal_bits s (def_members.connection_values (view_instance instance.now).connections)))) r) }
+        → RefusesCount (length nets.old.items + length (primitive_nets s k (view_instance instance.now))) r) }
 {
-    bits.clear();
-    add_connection_bits(table, &instance.connections, bits)?;
-    add_terminals(alloc, table, scope, 1, bits, nets)
+    connection_bits(table, 1, &instance.connections, bits)?;
+    add_terminals(alloc, table, scope, &bits.outputs, &bits.inputs, nets)
 }
 
 // Adds what lies outside of an instance of the module at a place of the definitions, the next child. Answers the number of the child behind it.
@@ -140,7 +138,7 @@ fn add_named(
     name: Name,
     text: &Instance,
     next: u32,
-    bits: &mut Vec<Bit>,
+    bits: &mut TerminalBits,
     rows: &mut Rows,
 ) -> Result<u32, Refused<ElabKind>>
     requires instances { length instances.now ≤ 2 ^ 22 }
@@ -175,29 +173,31 @@ fn is_module(definitions: &Definitions, place: usize) -> bool
     }
 }
 
-/// The nets of a member, and what lies outside of the child that it is. Answers the number of the next child.
+/// The nets of the member of a number, and what lies outside of the child that it is. Answers the number of the next child.
 pub fn add_member(
     alloc: Global,
     definitions: &Definitions,
     library: &Library,
     instances: &[Placed],
-    table: &Table,
+    prepared: &Prepared,
     number: u32,
+    index: usize,
     member: Member,
     next: u32,
-    bits: &mut Vec<Bit>,
+    bits: &mut TerminalBits,
     rows: &mut Rows,
 ) -> Result<u32, Refused<ElabKind>>
     requires instances { length instances.now ≤ 2 ^ 22 }
     requires few { length rows.old.nets.items ≤ 2 ^ 22 }
     ensures few { length rows.new.nets.items ≤ 2 ^ 22 }
-    ensures seen { IfOk result (λ after. (top : SeenModule) (corner : ghost_corner.Corner) (turn : HasTurn definitions.now top corner library.now instances.now rows.old table.now number) (k : ℕ)
-        → (at : IsNext definitions.now turn.before turn.s (k, view_member member.entry) next (length rows.old.nets.items))
-        → IsSeenTo definitions.now top turn.s (k, view_member member.entry) at.levels next after at.behind rows.old rows.new) }
-    ensures refused { IfErr result (λ r. (top : SeenModule) (corner : ghost_corner.Corner) (turn : HasTurn definitions.now top corner library.now instances.now rows.old table.now number) (k : ℕ)
-        → IsNext definitions.now turn.before turn.s (k, view_member member.entry) next (length rows.old.nets.items)
+    ensures seen { IfOk result (λ after. (top : SeenModule) (corner : ghost_corner.Corner) (turn : HasTurn definitions.now top corner library.now instances.now rows.old prepared.now.table number)
+        → IsPrepared prepared.now turn.s.step.definition → (at : IsNext definitions.now turn.before turn.s (index, view_member member.entry) next (length rows.old.nets.items))
+        → IsSeenTo definitions.now top turn.s (index, view_member member.entry) at.levels next after at.behind rows.old rows.new) }
+    ensures refused { IfErr result (λ r. (top : SeenModule) (corner : ghost_corner.Corner) (turn : HasTurn definitions.now top corner library.now instances.now rows.old prepared.now.table number)
+        → IsPrepared prepared.now turn.s.step.definition → IsNext definitions.now turn.before turn.s (index, view_member member.entry) next (length rows.old.nets.items)
         → RefusesCount (length (nets definitions.now top)) r) }
 {
+    let table = &prepared.table;
     match member {
         Member::Declared { .. } | Member::Assignment(_) | Member::Supply { .. } => Ok(next),
         Member::Gate { kind, instance, .. } => {
@@ -221,5 +221,16 @@ pub fn add_member(
             bits,
             rows,
         ),
+        Member::Path(_) => {
+            add_ends(
+                alloc,
+                prepared,
+                number,
+                index,
+                &mut rows.ends,
+                &mut rows.nets,
+            )?;
+            Ok(next)
+        }
     }
 }

@@ -12,6 +12,7 @@ ghost use Rattle.elab_modules.specs.Reached.{IsLibrary};
 ghost use Rattle.elab_nets.specs.Rows.{HaveRows};
 ghost use Rattle.elab_nets.specs.Turns.{AreUpTo, IsGiven};
 
+use crate::member_bits::TerminalBits;
 use crate::turns::add_instance;
 use elab_hierarchy::{Definitions, Placed};
 use elab_model::ElabKind;
@@ -58,7 +59,7 @@ pub fn rows_of(
         → tree_faults definitions.now top ≡ [] → RefusesCount (length (nets definitions.now top)) r) }
 {
     let mut rows = first_rows(alloc, library, instances)?;
-    let mut bits = Vec::new(alloc);
+    let mut bits = TerminalBits::new(alloc);
     for number in 0..instances.len() {
         add_instance(
             alloc,

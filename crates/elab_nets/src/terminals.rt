@@ -19,13 +19,10 @@ use sg_text::Refused;
 use std::alloc::Global;
 
 // The place of the first output in the row.
-fn first_output(outputs: usize, bits: &[Bit]) -> Option<usize>
-    ensures { result ≡ first_output outputs bits.now }
+fn first_output(outputs: &[Bit]) -> Option<usize>
+    ensures { result ≡ first_output outputs.now }
 {
-    if outputs == 0 {
-        return None;
-    }
-    match *bits.first()? {
+    match *outputs.first()? {
         Bit::Net(place) => Some(place),
         Bit::Constant { .. } => None,
     }
@@ -55,27 +52,24 @@ fn add_constants(
     Ok(())
 }
 
-/// Adds a net for each constant behind the first `outputs` of these bits, which are those of the terminals of a gate or a primitive. It has the name of the first output.
+/// Adds a net for each constant among the inputs of a gate or a primitive. It has the name of the first output.
 pub fn add_terminals(
     alloc: Global,
     table: &Table,
     scope: u32,
-    outputs: usize,
-    bits: &[Bit],
+    outputs: &[Bit],
+    inputs: &[Bit],
     nets: &mut Vec<Net>,
 ) -> Result<(), Refused<ElabKind>>
-    requires row { All (IsInRow table.now) bits.now }
+    requires row { All (IsInRow table.now) outputs.now }
     requires few { length nets.old.items ≤ 2 ^ 22 }
     ensures few { length nets.new.items ≤ 2 ^ 22 }
     ensures nets { OnOk result ((s : def.Instance) (k : ℕ) → table.now ≡ variables s.step.definition → s.step.number ≡ scope
-        → nets.new.items ≡ nets.old.items ++ map undriven (terminal_nets s k outputs (map (view_bit table.now) bits.now))) }
+        → nets.new.items ≡ nets.old.items ++ map undriven (terminal_nets s k (map (view_bit table.now) outputs.now) (map (view_bit table.now) inputs.now))) }
     ensures refused { IfErr result (λ r. (s : def.Instance) (k : ℕ) → table.now ≡ variables s.step.definition → s.step.number ≡ scope
-        → RefusesCount (length nets.old.items + length (terminal_nets s k outputs (map (view_bit table.now) bits.now))) r) }
+        → RefusesCount (length nets.old.items + length (terminal_nets s k (map (view_bit table.now) outputs.now) (map (view_bit table.now) inputs.now))) r) }
 {
-    let Some(output) = first_output(outputs, bits) else {
-        return Ok(());
-    };
-    let Some(inputs) = bits.get(outputs..) else {
+    let Some(output) = first_output(outputs) else {
         return Ok(());
     };
     add_constants(alloc, table, scope, output, inputs, nets)

@@ -10,10 +10,10 @@ ghost use Rattle.elab_laws.specs.NumberLaws.{nets_before};
 ghost use Rattle.elab_nets.specs.Turns.{AreThrough, AreUpTo, HasTurn, IsBegun, IsGiven, IsMine};
 
 use crate::Rows;
+use crate::member_bits::TerminalBits;
 use crate::members::add_member;
 use crate::own::add_own;
 use crate::parts::row_of;
-use elab_bits::Bit;
 use elab_hierarchy::{Definitions, Placed};
 use elab_model::ElabKind;
 use elab_modules::{Library, Prepared, find_module};
@@ -63,7 +63,7 @@ fn add_members(
     instances: &[Placed],
     prepared: &Prepared,
     number: u32,
-    bits: &mut Vec<Bit>,
+    bits: &mut TerminalBits,
     rows: &mut Rows,
 ) -> Result<(), Refused<ElabKind>>
     requires instances { length instances.now ≤ 2 ^ 22 }
@@ -77,15 +77,16 @@ fn add_members(
         → IsPrepared prepared.now turn.s.step.definition → length rows.old.nets.items ≡ nets_before definitions.now turn.before turn.s [] → RefusesCount (length (nets definitions.now top)) r) }
 {
     let mut next = number + 1;
-    for member in &prepared.members {
+    for (index, member) in prepared.members.iter().enumerate() {
         rows.firsts.push(rows.nets.len() as NetId)?;
         next = add_member(
             alloc,
             definitions,
             library,
             instances,
-            &prepared.table,
+            prepared,
             number,
+            index,
             *member,
             next,
             bits,
@@ -110,7 +111,7 @@ pub fn add_instance(
     library: &Library,
     instances: &[Placed],
     number: usize,
-    bits: &mut Vec<Bit>,
+    bits: &mut TerminalBits,
     rows: &mut Rows,
 ) -> Result<(), Refused<ElabKind>>
     requires instances { length instances.now ≤ 2 ^ 22 }
@@ -130,6 +131,7 @@ pub fn add_instance(
     let leaf = is_leaf(placed, number);
     add_inner(alloc, &prepared.table, number, leaf, rows)?;
     rows.member_starts.push(rows.firsts.len())?;
+    rows.end_starts.push(rows.ends.len())?;
     add_members(
         alloc,
         definitions,

@@ -1,14 +1,12 @@
 -- Paths over nets that come behind others.
-use Rattle.std.specs.Prelude.{◌≡◌, ℕ, zero, suc, ◌+◌, ◌-◌, ◌<◌, ◌≤◌, List, [], ◌∷◌, ◌++◌, Option, Some, length, map, slice_index_or, take, refl}
+use Rattle.std.specs.Prelude.{◌≡◌, ℕ, zero, suc, ◌+◌, ◌-◌, ◌<◌, ◌≤◌, List, [], ◌∷◌, ◌++◌, Option, length, map, slice_index_or, take, refl}
 use Rattle.std.specs.List.{AllByRecursion}
 use Rattle.std.proofs.Common.{sym, ◌∙◌, ap, arith, subst, append_assoc, length-append}
 use Rattle.std.proofs.lemmas.List.{append-nil, get_or-map, length-map, map-append, take_all, take_more}
-use Rattle.std.proofs.lemmas.Option.{slice_get-get_or}
 use Rattle.cond_expr.specs.Condition.{Condition}
 use Rattle.sg_circuit.specs.PathsSeen.{condition_seen, path_seen, paths_seen, IsIndexedCondition, IsIndexedPath}
 use Rattle.sg_circuit.specs.TimingsSeen.{timings_at}
 use Rattle.sg_circuit.specs.declared.elements.LegTiming.{LegTiming}
-use Rattle.sg_circuit.specs.declared.nets.Net.{Net}
 use Rattle.sg_circuit.specs.declared.paths.Path.{Path}
 use Rattle.sg_circuit.specs.Paths as circuit
 use Rattle.sg_circuit.specs.Timings.{Timing}
@@ -21,9 +19,7 @@ use Rattle.elab_model.specs.Terms.{NetBit}
 use Rattle.elab_laws.specs.Handing.{all_bits}
 use Rattle.elab_laws.proofs.Lists.{all-append}
 use Rattle.elab_bits.proofs.InRow.{blank}
-use Rattle.elab_bits.specs.Seen.{bit_at}
 use Rattle.elab_numbering.specs.Refusals.{RefusesCount}
-use Rattle.elab_nets.specs.Own.{net_at}
 use Rattle.elab_ends.specs.Seen.{bit_seen}
 use Rattle.elab_paths.specs.Ready.{condition_ready, path_ready}
 use Rattle.elab_paths.specs.Uses.{IsRow, AddsPaths, AddsUse}
@@ -126,21 +122,7 @@ path-refused conditions vs row net ps i start old r total h lt k f le =
 
 -- ---- one use
 
-pub use-added : (conditions : List Condition) (vs : List Variable) (row : List ℕ) (net : NetBit → ℕ) (scope : ℕ) (o : ReadyOutput) (old new : PathUses) (u : PathUse) (n : Net) (d : ℕ) → IsRow vs row net → o.output < length (all_bits vs)
-    → new.uses.items ≡ old.uses.items ++ u ∷ [] → new.inner.items ≡ old.inner.items ++ n ∷ [] → n ≡ net_at scope (bit_at vs o.output)
-    → AddsPaths conditions vs row o.paths.items old.paths.items new.paths.items → u.scope ≡ scope → u.place ≡ o.place → u.output ≡ slice_index_or row o.output d
-    → u.paths.start ≡ length old.paths.items → u.paths.end ≡ length new.paths.items → u.style ≡ o.style → AddsUse conditions vs row scope o old new
-use-added conditions vs row net scope o old new u n d r lt uses inner is paths scope-is place-is output-is start-is end-is style-is =
-    let within : o.output < length row = subst (λ k. o.output < k) (sym (row-long vs row net r)) lt in
-    record {
-      added = u;
-      uses = uses;
-      inner = inner ∙ ap (λ m. old.inner.items ++ m ∷ []) is;
-      paths = paths;
-      scope_is = scope-is;
-      place_is = place-is;
-      output_is = slice_get-get_or row o.output d within ∙ ap (λ m. Some m) (sym output-is);
-      start_is = start-is;
-      end_is = end-is;
-      style_is = style-is;
-    }
+pub use-added : (conditions : List Condition) (vs : List Variable) (row : List ℕ) (o : ReadyOutput) (old new : PathUses) (u : PathUse) → new.uses.items ≡ old.uses.items ++ u ∷ []
+    → AddsPaths conditions vs row o.paths.items old.paths.items new.paths.items → u.paths.start ≡ length old.paths.items → u.paths.end ≡ length new.paths.items → u.style ≡ o.style
+    → AddsUse conditions vs row o old new
+use-added conditions vs row o old new u uses paths start-is end-is style-is = record { added = u; uses = uses; paths = paths; start_is = start-is; end_is = end-is; style_is = style-is }

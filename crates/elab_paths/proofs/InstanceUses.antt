@@ -1,5 +1,6 @@
 -- What stands ready of an instance, and its path uses.
 use Rattle.std.specs.Prelude.{◌≡◌, ℕ, suc, zero, ◌+◌, ◌<◌, ◌≤◌, All, List, [], ◌∷◌, ◌++◌, Option, Some, drop, flat_map, length, map, slice_get, slice_index_or, take, refl}
+use Rattle.std.specs.List.{AllByRecursion}
 use Rattle.std.proofs.Common.{sym, ◌∙◌, ap, arith, subst, length-append}
 use Rattle.std.proofs.lemmas.Grind.{flat_map-append}
 use Rattle.std.proofs.lemmas.List.{length-map, take-append-drop, take_more}
@@ -13,10 +14,10 @@ use Rattle.elab_model.specs.Names.{variables}
 use Rattle.elab_model.specs.Nets.{OwnNet, nets}
 use Rattle.elab_model.specs.declared.kinds.ElabKind.TheVariants.{SpecifyInHierarchy}
 use Rattle.specify_model.specs.Faults.{blocks_in_hierarchy, specify_faults}
-use Rattle.circuit_model.specs.Faults.{module_path_faults}
+use Rattle.circuit_model.specs.Faults.{module_path_faults, path_faults}
 use Rattle.circuit_model.specs.PathUses as def
 use Rattle.elab_laws.specs.Handing.{all_bits, number_at}
-use Rattle.elab_laws.proofs.Lists.{In, all-in}
+use Rattle.elab_laws.proofs.Lists.{In, all-in, all-weaker}
 use Rattle.elab_laws.proofs.NoFaults.{back, flat-empty}
 use Rattle.elab_hierarchy.specs.Placing.{IsPlaced, ArePlaced}
 use Rattle.elab_hierarchy.specs.declared.instances.Placed.{Placed}
@@ -27,14 +28,23 @@ use Rattle.elab_modules.specs.declared.library.Ready.TheVariants as ready
 use Rattle.elab_modules.specs.declared.prepared.Prepared.{Prepared}
 use Rattle.elab_nets.specs.Rows.{part_of, HasRow}
 use Rattle.elab_nets.specs.declared.rows.Rows.{Rows}
-use Rattle.elab_elements.specs.Adding.{IsHere}
-use Rattle.elab_elements.proofs.StandingAt.{at-place, at-split, instance-number, instance-ready}
+use Rattle.elab_nets.specs.Numbers.{HasNumbers}
+use Rattle.elab_elements.proofs.StandingAt.{at-place, at-split, instance-ready}
 use Rattle.elab_paths.specs.Ready.{path_ready, output_ready, IsReadyOutput, IsReadyOf, HasPaths}
 use Rattle.elab_paths.specs.Standing.{AreStanding, IsStanding, outputs_at}
 use Rattle.elab_paths.specs.Uses.{IsUsable}
 use Rattle.elab_paths.specs.declared.modules.ModulePaths.{ModulePaths}
 use Rattle.elab_paths.specs.declared.shelving.ReadyOutput.{ReadyOutput}
+use Rattle.elab_paths.proofs.PathEnds.{mapped-twice}
 use Rattle.elab_paths.proofs.SoundConditions.{usable}
+
+-- ---- blocks without fault
+
+pub no-faults : (source : Source) (top : Module) (corner : Corner) → path_faults source top corner ≡ [] → AllByRecursion (λ s. specify_faults corner (tick_of source top) s.step.definition ≡ []) (instances source top)
+no-faults source top corner h =
+    let faults = λ (s : Instance). module_path_faults source corner (tick_of source top) s.step.definition in
+    all-weaker (λ s. faults s ≡ []) (λ s. specify_faults corner (tick_of source top) s.step.definition ≡ []) (instances source top)
+    (λ s e. back (map (fault SpecifyInHierarchy) (blocks_in_hierarchy source s.step.definition)) (specify_faults corner (tick_of source top) s.step.definition) e) (flat-empty faults (instances source top) h)
 
 -- ---- the instance of a number
 
@@ -83,18 +93,15 @@ module _ (source : Source) (top : Module) (corner : Corner) (library : Library) 
       let same : width ≡ length (all_bits (variables s.step.definition)) = w ∙ ap (λ vs. length (all_bits vs)) k.table in
       (r.2.start, (subst (λ j. slice_get rows.starts.items j ≡ Some r.2.start) r.1 r.2.starts, subst (λ n. r.2.start + n ≤ length rows.inner.items) (sym same) r.2.inner_within))
 
-  pub here-is : (q : Prepared) (width : ℕ) (row : List ℕ) → IsPrepared q s.step.definition → width ≡ length (all_bits q.table)
-      → ((start : ℕ) → slice_get rows.starts.items i ≡ Some start → row ≡ part_of rows.inner.items start width) → IsHere (nets source top) source s i q.table row
-  here-is q width row k w f =
+  pub numbers-are : (q : Prepared) (width : ℕ) (row : List ℕ) → IsPrepared q s.step.definition → width ≡ length (all_bits q.table)
+      → ((start : ℕ) → slice_get rows.starts.items i ≡ Some start → row ≡ part_of rows.inner.items start width) → HasNumbers (nets source top) source s q.table row
+  numbers-are q width row k w f =
       let r = row-of in
       let same : width ≡ length (all_bits (variables s.step.definition)) = w ∙ ap (λ vs. length (all_bits vs)) k.table in
       record {
-        number = instance-number source top s i h.there;
-        numbers = record {
-          table = k.table;
-          numbers = f r.2.start (subst (λ j. slice_get rows.starts.items j ≡ Some r.2.start) r.1 r.2.starts) ∙ ap (part_of rows.inner.items r.2.start) same ∙ r.2.inner
-              ∙ ap (λ vs. map (number_at (nets source top) source s) (all_bits vs)) (sym k.table);
-        };
+        table = k.table;
+        numbers = f r.2.start (subst (λ j. slice_get rows.starts.items j ≡ Some r.2.start) r.1 r.2.starts) ∙ ap (part_of rows.inner.items r.2.start) same ∙ r.2.inner
+            ∙ ap (λ vs. map (number_at (nets source top) source s) (all_bits vs)) (sym k.table);
       }
 
   -- ---- its outputs
@@ -113,10 +120,7 @@ module _ (source : Source) (top : Module) (corner : Corner) (library : Library) 
       subst (IsReadyOf corner s.step.definition source top modules) same k.1.1
 
   no-fault : specify_faults corner (tick_of source top) s.step.definition ≡ []
-  no-fault =
-      let faults = λ (t : Instance). module_path_faults source corner (tick_of source top) t.step.definition in
-      let own : faults s ≡ [] = all-in (λ t. faults t ≡ []) s (instances source top) (flat-empty faults (instances source top) h.standing.have_paths.faultless) is-there in
-      back (map (fault SpecifyInHierarchy) (blocks_in_hierarchy source s.step.definition)) (specify_faults corner (tick_of source top) s.step.definition) own
+  no-fault = all-in (λ t. specify_faults corner (tick_of source top) t.step.definition ≡ []) s (instances source top) (no-faults source top corner h.standing.have_paths.faultless) is-there
 
   pub outputs-usable : (q : Prepared) (list : List ReadyOutput) → IsPrepared q s.step.definition → outputs_at modules p.definition ≡ Some list → All (IsUsable q.table modules.conditions.items) list
   outputs-usable q list k e =
@@ -133,17 +137,8 @@ module _ (source : Source) (top : Module) (corner : Corner) (library : Library) 
       → map (λ o. def.path_use all source s (output_ready modules.timings.items modules.conditions.items q.table o)) list ≡ def.path_uses_of all source corner (tick_of source top) s
   uses-are all q list k e =
       ap (λ vs. map (λ o. def.path_use all source s (output_ready modules.timings.items modules.conditions.items vs o)) list) k.table
-      ∙ twice (output_ready modules.timings.items modules.conditions.items (variables s.step.definition)) (def.path_use all source s) list
+      ∙ sym (mapped-twice (output_ready modules.timings.items modules.conditions.items (variables s.step.definition)) (def.path_use all source s) list)
       ∙ ap (map (def.path_use all source s)) (outputs-are list e).outputs
-    where
-      twice : {A B C : Type 0} (f : A → B) (g : B → C) (xs : List A) → map (λ x. g (f x)) xs ≡ map g (map f xs)
-      twice f g [] = refl
-      twice f g (x ∷ xs) = ap (λ ys. g (f x) ∷ ys) (twice f g xs)
-
-  pub uses-count : (all : List OwnNet) (q : Prepared) (list : List ReadyOutput) → IsPrepared q s.step.definition → outputs_at modules p.definition ≡ Some list
-      → length list ≡ length (def.path_uses_of all source corner (tick_of source top) s)
-  uses-count all q list k e =
-      sym (length-map list (λ o. def.path_use all source s (output_ready modules.timings.items modules.conditions.items q.table o))) ∙ ap length (uses-are all q list k e)
 
   pub paths-count : (all : List OwnNet) (q : Prepared) (list : List ReadyOutput) → IsPrepared q s.step.definition → outputs_at modules p.definition ≡ Some list
       → length (flat_map (λ o. o.paths.items) list) ≡ length (flat_map (λ u. u.paths) (def.path_uses_of all source corner (tick_of source top) s))

@@ -10,12 +10,14 @@ pub mod Leaves
 pub mod BoundOperands
 pub mod SoundConditions
 pub mod AddedPaths
-pub mod Counts
-pub mod Redirected
+pub mod PathEnds
+pub mod InnerReaders
+pub mod FoundUses
+pub mod FilledOne
+pub mod FilledElements
 pub mod Beside
 pub mod UsesSoFar
 pub mod InstanceUses
 pub mod OneByOne
 pub mod InstanceTurn
-pub mod JoinedElements
 pub mod WholeCircuit

@@ -1,50 +1,38 @@
 -- The path uses so far, and one more.
-use Rattle.std.specs.Prelude.{◌≡◌, ℕ, ℤ, ◌+◌, ◌-◌, ◌<◌, ◌≤◌, All, List, [], ◌∷◌, ◌++◌, Option, drop, flat_map, length, map, take, refl}
+use Rattle.std.specs.Prelude.{◌≡◌, ℕ, ◌+◌, ◌-◌, ◌<◌, ◌≤◌, All, List, [], ◌∷◌, ◌++◌, drop, flat_map, length, map, take, refl}
 use Rattle.std.specs.List.{AllByRecursion}
 use Rattle.std.proofs.Common.{sym, ◌∙◌, ap, arith, subst, length-append}
 use Rattle.std.proofs.lemmas.Grind.{flat_map-append}
 use Rattle.std.proofs.lemmas.List.{append-nil, length-map, map-append}
 use Rattle.std.proofs.lemmas.List.Elements.{All-from_recursion, recursion_from_All}
-use Rattle.std.proofs.lemmas.Option.{get_or_from_slice_get}
 use Rattle.cond_expr.specs.Condition.{Condition}
 use Rattle.sg_circuit.specs.PathsSeen.{paths_seen, path_seen, spanned, IsIndexedPath, AreIndexedPaths}
 use Rattle.sg_circuit.specs.declared.elements.LegTiming.{LegTiming}
-use Rattle.sg_circuit.specs.declared.nets.Driver.TheVariants.{Nobody}
-use Rattle.sg_circuit.specs.declared.nets.Net.{Net}
 use Rattle.sg_circuit.specs.declared.paths.Path.{Path}
 use Rattle.sg_circuit.specs.declared.paths.Span.{Span}
 use Rattle.vl_tree.specs.Tree.{Source}
-use Rattle.elab_model.specs.Bits.{index_at}
 use Rattle.elab_model.specs.Hierarchy.{Instance}
-use Rattle.elab_model.specs.Names.{Variable, variable, variables}
+use Rattle.elab_model.specs.Names.{Variable}
 use Rattle.elab_model.specs.Nets.{OwnNet}
 use Rattle.specify_model.specs.Paths.{circuit_path}
 use Rattle.circuit_model.specs.PathUses as def
 use Rattle.elab_laws.specs.Handing.{all_bits}
 use Rattle.elab_laws.proofs.Lists.{all-append, all-weaker}
-use Rattle.elab_bits.specs.Seen.{bit_at}
-use Rattle.elab_nets.specs.Own.{net_at}
-use Rattle.elab_nets.proofs.BitPlaces.{known-at}
 use Rattle.elab_nets.proofs.RowParts.{part-grown, part-behind}
-use Rattle.elab_elements.specs.Adding.{IsHere}
-use Rattle.elab_ends.specs.Seen.{bit_seen}
+use Rattle.elab_nets.specs.Numbers.{HasNumbers}
 use Rattle.elab_paths.specs.Ready.{path_ready, output_ready, IsReadyPath, IsReadyOutput}
 use Rattle.elab_paths.specs.Uses.{IsRow, AddsUse, AreBeside, AreUses}
 use Rattle.elab_paths.specs.declared.shelving.ReadyOutput.{ReadyOutput}
 use Rattle.elab_paths.specs.declared.shelving.ReadyPath.{ReadyPath}
 use Rattle.elab_paths.specs.declared.uses.PathUse.{PathUse}
 use Rattle.elab_paths.specs.declared.uses.PathUses.{PathUses}
-use Rattle.elab_paths.proofs.AddedPaths.{net-in-row}
 use Rattle.elab_paths.proofs.Beside.{beside-more}
+use Rattle.elab_paths.proofs.PathEnds.{mapped-twice}
 
 -- none yet
-pub uses-none : (conditions : List Condition) (timings : List LegTiming) (made : PathUses) → made.uses.items ≡ [] → made.inner.items ≡ [] → made.paths.items ≡ [] → AreUses conditions timings made []
-uses-none conditions timings made u i p =
+pub uses-none : (conditions : List Condition) (timings : List LegTiming) (made : PathUses) → made.uses.items ≡ [] → made.paths.items ≡ [] → AreUses conditions timings made []
+uses-none conditions timings made u p =
     record {
-      scopes = ap (map (λ u. u.scope)) u;
-      places = ap (map (λ u. u.place)) u;
-      inner = i;
-      outputs = ap (map (λ u. u.output)) u;
       paths = ap (map (λ u. paths_seen conditions timings (spanned made.paths.items u.paths))) u;
       styles = ap (map (λ u. u.style)) u;
       spans = subst (AllByRecursion (λ u. AreIndexedPaths (length conditions) (length timings) made.paths.items u.paths)) (sym u) tt;
@@ -83,37 +71,20 @@ mapped-more : {A B C : Type 0} (f : A → C) (g : B → C) (xs zs : List A) (x :
 mapped-more f g xs zs x ys y e h k =
     ap (map f) e ∙ map-append f xs (x ∷ []) ∙ ap (λ ws. ws ++ f x ∷ []) h ∙ ap (λ w. map g ys ++ w ∷ []) k ∙ sym (map-append g ys (y ∷ []))
 
-mapped-twice : {A B C : Type 0} (f : A → B) (g : B → C) (xs : List A) → map (λ x. g (f x)) xs ≡ map g (map f xs)
-mapped-twice f g [] = refl
-mapped-twice f g (x ∷ xs) = ap (λ ys. g (f x) ∷ ys) (mapped-twice f g xs)
-
--- ---- the inner net
-
-abbrev inner-of : ℕ → List ℕ → Option ℤ → Net
-inner-of scope name bit = record { scope = scope; name = name; bit = bit; driver = Nobody }
-
-inner-is : (s : Instance) (scope : ℕ) (vs : List Variable) (i : ℕ) → s.step.number ≡ scope → vs ≡ variables s.step.definition → i < length (all_bits vs) → net_at scope (bit_at vs i) ≡ def.inner_net s (bit_seen vs i)
-inner-is s scope vs i n t lt =
-    let m = s.step.definition in
-    let known : variable m (bit_at vs i).0.name ≡ (bit_at vs i).0 =
-    subst (λ ws. variable m (bit_at ws i).0.name ≡ (bit_at ws i).0) (sym t) (known-at m i (subst (λ ws. i < length (all_bits ws)) t lt)) in
-    ap (λ k. net_at k (bit_at vs i)) (sym n)
-    ∙ ap (λ v. inner-of s.step.number (bit_at vs i).0.name (index_at v.range (bit_at vs i).1)) (sym known)
-
 -- ---- one more
 
-pub row-is : (all : List OwnNet) (source : Source) (s : Instance) (scope : ℕ) (vs : List Variable) (row : List ℕ) → IsHere all source s scope vs row → IsRow vs row (def.bit_number all source s)
-row-is all source s scope vs row h = h.numbers.numbers
+pub row-is : (all : List OwnNet) (source : Source) (s : Instance) (vs : List Variable) (row : List ℕ) → HasNumbers all source s vs row → IsRow vs row (def.bit_number all source s)
+row-is all source s vs row h = h.numbers
 
-pub one-more : (conditions : List Condition) (timings : List LegTiming) (all : List OwnNet) (source : Source) (s : Instance) (scope : ℕ) (vs : List Variable) (row : List ℕ) (o : ReadyOutput) (old new : PathUses) (us : List def.PathUse)
-    → IsHere all source s scope vs row → IsReadyOutput (length (all_bits vs)) (length timings) (length conditions) o → AreUses conditions timings old us → AddsUse conditions vs row scope o old new
+pub one-more : (conditions : List Condition) (timings : List LegTiming) (all : List OwnNet) (source : Source) (s : Instance) (vs : List Variable) (row : List ℕ) (o : ReadyOutput) (old new : PathUses) (us : List def.PathUse)
+    → HasNumbers all source s vs row → IsReadyOutput (length (all_bits vs)) (length timings) (length conditions) o → AreUses conditions timings old us → AddsUse conditions vs row o old new
     → AreUses conditions timings new (us ++ def.path_use all source s (output_ready timings conditions vs o) ∷ [])
-one-more conditions timings all source s scope vs row o old new us here ready h k =
+one-more conditions timings all source s vs row o old new us here ready h k =
     let net = def.bit_number all source s in
     let made = def.path_use all source s (output_ready timings conditions vs o) in
-    let r = row-is all source s scope vs row here in
+    let r = row-is all source s vs row here in
     let more = k.paths.added in
-    let seen : paths_seen conditions timings more ≡ made.paths = k.paths.seen net timings r ∙ mapped-twice (path_ready timings conditions vs) (circuit_path net) o.paths.items in
+    let seen : paths_seen conditions timings more ≡ made.paths = k.paths.seen net timings r ∙ sym (mapped-twice (path_ready timings conditions vs) (circuit_path net) o.paths.items) in
     let long : length new.paths.items ≡ length old.paths.items + length more = ap length k.paths.are ∙ length-append old.paths.items more in
     let count : length more ≡ length made.paths = sym (length-map more (path_seen conditions timings)) ∙ ap length seen in
     let F = λ (ps : List Path) (u : PathUse). paths_seen conditions timings (spanned ps u.paths) in
@@ -123,12 +94,6 @@ one-more conditions timings all source s scope vs row o old new us here ready h 
     all-weaker (IsReadyPath (length (all_bits vs)) (length timings) (length conditions)) (λ p. p.timing < length timings) o.paths.items (λ p q. q.timing)
     (recursion_from_All (IsReadyPath (length (all_bits vs)) (length timings) (length conditions)) o.paths.items ready.paths) in
     record {
-      scopes = mapped-more (λ u. u.scope) (λ u. u.scope) old.uses.items new.uses.items k.added us made k.uses h.scopes (k.scope_is ∙ sym here.number);
-      places = mapped-more (λ u. u.place) (λ u. u.place) old.uses.items new.uses.items k.added us made k.uses h.places k.place_is;
-      inner = k.inner ∙ ap (λ ns. ns ++ net_at scope (bit_at vs o.output) ∷ []) h.inner
-          ∙ ap (λ n. map (λ u. u.inner) us ++ n ∷ []) (inner-is s scope vs o.output here.number here.numbers.table ready.output) ∙ sym (map-append (λ u. u.inner) us (made ∷ []));
-      outputs = mapped-more (λ u. u.output) (λ u. u.output) old.uses.items new.uses.items k.added us made k.uses h.outputs
-          (sym (get_or_from_slice_get row o.output k.added.output 0 k.output_is) ∙ net-in-row vs row net o.output 0 r ready.output);
       paths = mapped-more (F new.paths.items) (λ u. u.paths) old.uses.items new.uses.items k.added us made k.uses
           (ap (λ ps. map (F ps) old.uses.items) k.paths.are ∙ same-paths conditions timings old.paths.items more old.uses.items h.spans ∙ h.paths)
           (ap (paths_seen conditions timings) own ∙ seen);

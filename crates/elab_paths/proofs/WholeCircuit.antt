@@ -1,41 +1,41 @@
--- What stands when the paths of all instances have been put in.
-use Rattle.std.specs.Prelude.{◌≡◌, ℕ, suc, ◌+◌, ◌≤◌, List, [], ◌∷◌, ◌++◌, length, map, refl}
-use Rattle.std.specs.List.{AllByRecursion, enumerate_from}
-use Rattle.std.proofs.Common.{sym, ◌∙◌, ap, arith, subst, length-append}
-use Rattle.std.proofs.lemmas.List.{length-map, map-append}
-use Rattle.sg_circuit.specs.Circuit.{Element}
-use Rattle.sg_circuit.specs.PathsSeen.{paths_seen, spanned, AreIndexedPaths}
+-- The paths of all instances: the elements are those of the circuit.
+use Rattle.std.specs.Prelude.{◌≡◌, ℕ, ◌<◌, ◌≤◌, ◌^◌, List, [], flat_map, length, map, slice_index_or}
+use Rattle.std.specs.List.{AllByRecursion, range_with_len}
+use Rattle.std.proofs.Common.{sym, ◌∙◌, ap, arith, subst}
+use Rattle.std.proofs.lemmas.List.{length-map}
+use Rattle.sg_circuit.specs.Seen.{paths_of, AreApart}
 use Rattle.sg_circuit.specs.declared.elements.Element as code
 use Rattle.sg_delay.specs.declared.corners.Corner.{Corner}
-use Rattle.sg_text.specs.declared.places.Place.{Place}
-use Rattle.sg_text.specs.declared.refusals.Refused.{Refused}
 use Rattle.vl_tree.specs.Tree.{Module, Source}
-use Rattle.elab_model.specs.declared.kinds.ElabKind.{ElabKind}
+use Rattle.elab_model.specs.Delays.{tick_of}
 use Rattle.elab_model.specs.Drivers.{elements as components}
-use Rattle.elab_model.specs.Elements.{Component}
-use Rattle.elab_model.specs.Faults.{RefusesOneOf}
+use Rattle.elab_model.specs.Elements.{Component, elements_of}
+use Rattle.elab_model.specs.Hierarchy.{Instance, instances, size, levels_below_top}
 use Rattle.elab_model.specs.HierarchyFaults.{count_limit}
 use Rattle.elab_model.specs.Nets.{OwnNet, nets}
-use Rattle.elab_model.specs.Numbered.{undriven, element_of}
-use Rattle.circuit_model.specs.Faults.{over, path_count}
+use Rattle.elab_model.specs.Numbered.{element_of}
+use Rattle.specify_model.specs.Faults.{specify_faults}
+use Rattle.circuit_model.specs.Faults.{path_count}
 use Rattle.circuit_model.specs.PathUses as def
-use Rattle.circuit_model.specs.WithPaths.{redirected, path_element, placed_element, all_nets, all_elements}
+use Rattle.elab_laws.proofs.Lists.{Pairwise, all-anyway, all-map_back, pairwise-map_back}
+use Rattle.elab_laws.proofs.Numbers.{numbers-are-places}
 use Rattle.elab_hierarchy.specs.declared.instances.Placed.{Placed}
 use Rattle.elab_modules.specs.declared.library.Library.{Library}
 use Rattle.elab_nets.specs.declared.rows.Rows.{Rows}
-use Rattle.elab_elements.specs.Puts.{wired}
 use Rattle.elab_elements.specs.Seen.{element_in}
 use Rattle.elab_elements.specs.declared.placing.Placing.{Placing}
-use Rattle.elab_paths.specs.Joining.{Tables, tables_of, element_with, AreGiven, HaveNumbers, AreJoined, counts_over}
-use Rattle.elab_paths.specs.Redirecting.{AreRedirected}
-use Rattle.elab_paths.specs.Standing.{AreStanding, path_wired}
-use Rattle.elab_paths.specs.Uses.{AreUses, AreFew}
-use Rattle.elab_paths.specs.declared.joining.Joined.{Joined}
+use Rattle.elab_paths.specs.AllPaths.{AreGiven, HaveAllPaths, Tables, tables_of, element_with, NamesTables}
+use Rattle.elab_paths.specs.Filling.{paths_among, filled}
+use Rattle.elab_paths.specs.Standing.{AreStanding}
+use Rattle.elab_paths.specs.Uses.{AreUses}
 use Rattle.elab_paths.specs.declared.modules.ModulePaths.{ModulePaths}
-use Rattle.elab_paths.specs.declared.uses.PathUse.{PathUse}
 use Rattle.elab_paths.specs.declared.uses.PathUses.{PathUses}
-use Rattle.elab_paths.proofs.Beside.{second-of, elements-apart}
-use Rattle.elab_paths.proofs.JoinedElements.{mapped-twice, HasLegs, AreSame, redirected-seen, wired_with, paths-seen, elements-seen, elements-named}
+use Rattle.elab_paths.proofs.Beside.{elements-apart}
+use Rattle.elab_paths.proofs.FilledElements.{HasLegs, AreSame, Hold, of, elements-seen, elements-named, outputs-stay, paths-count}
+use Rattle.elab_paths.proofs.FoundUses.{inner_spots, HasInner, AreOtherSpots, AreOtherUses, IsInnerOf, inners-apart, uses-inner, have-inner}
+use Rattle.elab_paths.proofs.InnerReaders.{ReadInOrder, elements-read, read-flat}
+use Rattle.elab_paths.proofs.InstanceUses.{no-faults}
+use Rattle.elab_paths.proofs.PathEnds.{mapped-twice}
 
 -- ---- what is given
 
@@ -48,163 +48,82 @@ has-legs : (source : Source) (top : Module) (corner : Corner) (library : Library
     → AreGiven source top corner library modules placed rows made → HasLegs modules.timings.items
 has-legs source top corner library modules placed rows made h = record { legs = h.legs; first = h.have_paths.first; without_delay = h.without_delay }
 
--- ---- all elements, as lists
+-- ---- what is driven inside, where no block has a fault
 
-length-numbered : {A : Type 0} (a : ℕ) (xs : List A) → length (enumerate_from a xs) ≡ length xs
-length-numbered a [] = refl
-length-numbered a (x ∷ xs) = ap suc (length-numbered (a + 1) xs)
+module _ (source : Source) (top : Module) (corner : Corner) (all : List OwnNet) (ss : List Instance)
+    (faultless : AllByRecursion (λ s. specify_faults corner (tick_of source top) s.step.definition ≡ []) ss) where
+  abbrev uses-of : List def.PathUse
+  uses-of = flat_map (def.path_uses_of all source corner (tick_of source top)) ss
 
-abbrev placed-redirected : ℕ → List def.PathUse → Place × Element → Place × Element
-placed-redirected first us e = (e.0, redirected first us e.1)
+  pub read-all : ReadInOrder (flat_map (elements_of source corner (tick_of source top)) ss) (map (λ u. u.inner) uses-of)
+  read-all =
+      subst (ReadInOrder (flat_map (elements_of source corner (tick_of source top)) ss)) (sym (uses-inner all source corner (tick_of source top) ss faultless))
+      (read-flat (elements_of source corner (tick_of source top)) inner_spots ss
+      (all-anyway (λ s. ReadInOrder (elements_of source corner (tick_of source top) s) (inner_spots s)) ss (λ s. elements-read source s corner (tick_of source top))))
 
-abbrev placed-path : ℕ × def.PathUse → Place × Element
-placed-path u = (u.1.place, path_element u)
+  pub uses-have_inner : AllByRecursion HasInner uses-of
+  uses-have_inner =
+      all-map_back (λ spot. (k : ℕ) × IsInnerOf k spot) (λ (u : def.PathUse). u.inner) uses-of
+      (subst (AllByRecursion (λ spot. (k : ℕ) × IsInnerOf k spot)) (sym (uses-inner all source corner (tick_of source top) ss faultless)) (have-inner ss))
 
-module _ (all : List OwnNet) (cs : List Component) (us : List def.PathUse) (first : ℕ) where
-  places-in : map (λ (e : Place × Element). e.0) (map (placed-redirected first us) (map (placed_element all) cs) ++ map placed-path (enumerate_from first us))
-      ≡ map (λ (c : Component). c.place) cs ++ map (λ (u : def.PathUse). u.place) us
-  places-in =
-      map-append (λ (e : Place × Element). e.0) (map (placed-redirected first us) (map (placed_element all) cs)) (map placed-path (enumerate_from first us))
-      ∙ ap (λ xs. xs ++ map (λ (e : Place × Element). e.0) (map placed-path (enumerate_from first us)))
-      (mapped-twice (placed-redirected first us) (λ (e : Place × Element). e.0) (map (placed_element all) cs) ∙ mapped-twice (placed_element all) (λ (e : Place × Element). e.0) cs)
-      ∙ ap (λ xs. map (λ (c : Component). c.place) cs ++ xs) (mapped-twice placed-path (λ (e : Place × Element). e.0) (enumerate_from first us) ∙ second-of (λ (u : def.PathUse). u.place) first us)
-
-  elements-in : map (λ (e : Place × Element). e.1) (map (placed-redirected first us) (map (placed_element all) cs) ++ map placed-path (enumerate_from first us))
-      ≡ map (redirected first us) (map (element_of all) cs) ++ map path_element (enumerate_from first us)
-  elements-in =
-      map-append (λ (e : Place × Element). e.1) (map (placed-redirected first us) (map (placed_element all) cs)) (map placed-path (enumerate_from first us))
-      ∙ ap (λ xs. xs ++ map (λ (e : Place × Element). e.1) (map placed-path (enumerate_from first us)))
-      (mapped-twice (placed-redirected first us) (λ (e : Place × Element). e.1) (map (placed_element all) cs) ∙ mapped-twice (placed_element all) (λ (e : Place × Element). redirected first us e.1) cs
-      ∙ sym (mapped-twice (element_of all) (redirected first us) cs))
-      ∙ ap (λ xs. map (redirected first us) (map (element_of all) cs) ++ xs) (mapped-twice placed-path (λ (e : Place × Element). e.1) (enumerate_from first us))
-
-  count-in : length (map (placed-redirected first us) (map (placed_element all) cs) ++ map placed-path (enumerate_from first us)) ≡ length cs + length us
-  count-in =
-      length-append (map (placed-redirected first us) (map (placed_element all) cs)) (map placed-path (enumerate_from first us))
-      ∙ ap (λ n. n + length (map placed-path (enumerate_from first us)))
-      (length-map (map (placed_element all) cs) (placed-redirected first us) ∙ length-map cs (placed_element all))
-      ∙ ap (λ n. length cs + n) (length-map (enumerate_from first us) placed-path ∙ length-numbered first us)
+  pub uses-apart : (n : ℕ) → map (λ s. s.step.number) ss ≡ range_with_len 0 n → Pairwise AreOtherUses uses-of
+  uses-apart n h =
+      pairwise-map_back AreOtherSpots (λ (u : def.PathUse). u.inner) uses-of
+      (subst (Pairwise AreOtherSpots) (sym (uses-inner all source corner (tick_of source top) ss faultless)) (inners-apart ss n h))
 
 -- ---- all of a netlist
 
-no-more : (m n : ℕ) → m ≡ n → m ≤ n
-no-more m n e = omega (arith, e)
-
-few-by : (a m n whole : ℕ) → a + n ≡ whole → m ≡ n → a + m ≤ count_limit → whole ≤ count_limit
-few-by a m n whole e l h = omega (arith, e, l, h)
+-- no two of them have a path in common
+abbrev Apart : List code.Element → Type 0
+Apart es = (i j : ℕ) (d : code.Element) → i < j → j < length es → AreApart (paths_of (slice_index_or es i d).kind) (paths_of (slice_index_or es j d).kind)
 
 few-same : (m n : ℕ) → m ≡ n → m ≤ count_limit → n ≤ count_limit
 few-same m n e h = omega (arith, e, h)
 
 module _ (source : Source) (top : Module) (corner : Corner) (library : Library) (modules : ModulePaths) (placed : List Placed) (rows : Rows) (old : Placing)
-    (given : AreGiven source top corner library modules placed rows old) where
-  pub first-is : length rows.nets.items ≡ length (nets source top)
-  first-is = ap length given.have_rows.all ∙ length-map (nets source top) undriven
+    (given : AreGiven source top corner library modules placed rows old) (made : PathUses) (uses : AreUses modules.conditions.items modules.timings.items made (def.path_uses source top corner)) where
+  abbrev us : List def.PathUse
+  us = def.path_uses source top corner
 
-  components-count : length old.elements.items ≡ length (components source top corner)
-  components-count =
-      sym (length-map old.elements.items (element_in library.gate_delays.items library.udps.items)) ∙ ap length given.are_elements.elements
-      ∙ length-map (components source top corner) (element_of (nets source top))
+  abbrev cs : List Component
+  cs = components source top corner
 
-  pub nets-count : length rows.nets.items + length (def.path_uses source top corner) ≡ length (all_nets source top corner)
-  nets-count =
-      sym (length-append (map undriven (nets source top)) (map (λ u. u.inner) (def.path_uses source top corner))
-      ∙ ap (λ n. n + length (map (λ u. u.inner) (def.path_uses source top corner))) (length-map (nets source top) undriven ∙ sym first-is)
-      ∙ ap (λ n. length rows.nets.items + n) (length-map (def.path_uses source top corner) (λ u. u.inner)))
+  abbrev tables : Tables
+  tables = tables_of library modules made.paths.items
 
-  pub elements-count : length old.elements.items + length (def.path_uses source top corner) ≡ length (all_elements source top corner)
-  elements-count =
-      ap (λ n. n + length (def.path_uses source top corner)) components-count
-      ∙ sym (count-in (nets source top) (components source top corner) (def.path_uses source top corner) (length (nets source top)))
+  faultless : AllByRecursion (λ s. specify_faults corner (tick_of source top) s.step.definition ≡ []) (instances source top)
+  faultless = no-faults source top corner given.have_paths.faultless
 
-  pub refused-by : (r : Refused ElabKind)
-      → ((n e p : ℕ) → length rows.nets.items + length (def.path_uses source top corner) ≤ n → length old.elements.items + length (def.path_uses source top corner) ≤ e → path_count source top corner ≤ p
-      → RefusesOneOf (over n ++ (over e ++ over p)) r) → RefusesOneOf (counts_over source top corner) r
-  refused-by r h =
-      h (length (all_nets source top corner)) (length (all_elements source top corner)) (path_count source top corner) (no-more _ _ nets-count) (no-more _ _ elements-count) (no-more _ _ refl)
+  read : ReadInOrder cs (map (λ u. u.inner) us)
+  read = read-all source top corner (nets source top) (instances source top) faultless
 
-  module _ (made : PathUses) (joined : Joined) (mid : List code.Element) (new : Placing) (uses : AreUses modules.conditions.items modules.timings.items made (def.path_uses source top corner))
-      (few : AreFew (length rows.nets.items) (length old.elements.items) made) (inner : joined.inner.items ≡ made.inner.items) (paths : joined.paths.items ≡ made.paths.items)
-      (redirects : AreRedirected (length rows.nets.items) made.uses.items old.elements.items mid)
-      (elements : map wired new.elements.items ≡ map wired mid ++ map path_wired (enumerate_from (length rows.nets.items) made.uses.items))
-      (places : new.places.items ≡ old.places.items ++ map (λ u. u.place) made.uses.items) where
-    abbrev us : List def.PathUse
-    us = def.path_uses source top corner
+  -- there is a use for each Path
+  pub uses-enough : paths_among old.elements.items ≤ length made.uses.items
+  uses-enough =
+      let paths = paths-count tables (has-legs source top corner library modules placed rows old given) (nets source top) (map (λ u. u.inner) us) cs old.elements.items read given.are_elements.elements in
+      let a = length-map us (λ u. u.inner) in
+      let b = length-map us (λ u. u.style) in
+      let d = ap length uses.styles in
+      let f = length-map made.uses.items (λ u. u.style) in
+      omega (arith, paths, a, b, d, f)
 
-    abbrev tables : Tables
-    tables = tables_of library modules joined
-
-    legs : HasLegs modules.timings.items
-    legs = has-legs source top corner library modules placed rows old given
-
-    same : AreSame tables made.uses.items us
-    same = record {
-      scopes = uses.scopes;
-      outputs = uses.outputs;
-      paths = ap (λ ps. map (λ u. paths_seen modules.conditions.items modules.timings.items (spanned ps u.paths)) made.uses.items) paths ∙ uses.paths;
-      styles = uses.styles;
-    }
-
-    uses-long : length made.uses.items ≡ length us
-    uses-long = sym (length-map made.uses.items (λ u. u.scope)) ∙ ap length uses.scopes ∙ length-map us (λ u. u.scope)
-
-    seen : map (element_with tables) new.elements.items ≡ map (λ e. e.1) (all_elements source top corner)
-    seen =
-        let first = length rows.nets.items in
-        let all = nets source top in
-        let cs = components source top corner in
-        elements-seen tables mid new.elements.items (enumerate_from first made.uses.items) elements
-        ∙ ap (λ xs. xs ++ map (λ u. wired_with tables (path_wired u)) (enumerate_from first made.uses.items))
-        (redirected-seen tables first made.uses.items us old.elements.items mid legs (record { scopes = uses.scopes; outputs = uses.outputs }) given.are_elements.named redirects
-        ∙ sym (mapped-twice (element_in library.gate_delays.items library.udps.items) (redirected first us) old.elements.items)
-        ∙ ap (map (redirected first us)) given.are_elements.elements)
-        ∙ ap (λ xs. map (redirected first us) (map (element_of all) cs) ++ xs) (paths-seen tables first made.uses.items us same)
-        ∙ ap (λ n. map (redirected n us) (map (element_of all) cs) ++ map path_element (enumerate_from n us)) first-is
-        ∙ sym (elements-in all cs us (length all))
-
-    numbers : HaveNumbers source top corner rows joined new
-    numbers =
-        record {
-          nets = ap (λ ns. rows.nets.items ++ ns) (inner ∙ uses.inner) ∙ ap (λ ns. ns ++ map (λ u. u.inner) us) given.have_rows.all;
-          outputs = sym (mapped-twice (element_with tables) (λ (e : Element). e.output) new.elements.items) ∙ ap (map (λ (e : Element). e.output)) seen ∙ mapped-twice (λ (e : Place × Element). e.1) (λ (e : Element). e.output) (all_elements source top corner);
-          places = places ∙ ap (λ ps. ps ++ map (λ u. u.place) made.uses.items) given.are_elements.places ∙ ap (λ ps. map (λ c. c.place) (components source top corner) ++ ps) uses.places
-              ∙ sym (places-in (nets source top) (components source top corner) us (length (nets source top)));
-          few_nets = few-by (length rows.nets.items) (length made.uses.items) _ _ nets-count uses-long few.nets_few;
-          few_elements = few-by (length old.elements.items) (length made.uses.items) _ _ elements-count uses-long few.elements_few;
-          few_paths = few-same (length made.paths.items) _ uses.count few.paths_few;
-        }
-
-    pub are-joined : AreJoined source top corner library modules rows joined new
-    are-joined = record {
-      numbers = numbers;
-      elements = seen;
-      named = elements-named tables (length rows.nets.items) made.uses.items old.elements.items mid new.elements.items legs given.are_elements.named
-          (subst (λ ps. AllByRecursion (λ u. AreIndexedPaths (length modules.conditions.items) (length modules.timings.items) ps u.paths) made.uses.items) (sym paths) uses.spans) redirects elements;
-      apart = elements-apart library.gate_delays.items library.udps.items (length rows.nets.items) made.uses.items old.elements.items mid new.elements.items given.are_elements.named uses.beside redirects elements;
-    }
-
--- and so from what the calls say of copies of these lists
-pub joined-by : (source : Source) (top : Module) (corner : Corner) (library : Library) (modules : ModulePaths) (placed : List Placed) (rows : Rows) (old : Placing) → AreGiven source top corner library modules placed rows old
-    → (made : PathUses) (joined : Joined) (first len : ℕ) (front behind : List PathUse) (was mid is : List code.Element) (new : Placing)
-    → AreUses modules.conditions.items modules.timings.items made (def.path_uses source top corner) → AreFew (length rows.nets.items) len made → joined.inner.items ≡ made.inner.items → joined.paths.items ≡ made.paths.items
-    → len ≡ length old.elements.items → first ≡ length rows.nets.items → front ≡ made.uses.items → behind ≡ made.uses.items → was ≡ old.elements.items → is ≡ mid
-    → AreRedirected first front was mid → map wired new.elements.items ≡ map wired is ++ map path_wired (enumerate_from first behind) → new.places.items ≡ old.places.items ++ map (λ u. u.place) behind
-    → AreJoined source top corner library modules rows joined new
-joined-by source top corner library modules placed rows old given made joined first len front behind was mid is new uses few inner paths l f u v w m redirects elements places =
-    let k = length rows.nets.items in
-    let us = made.uses.items in
-    let redirects-too : AreRedirected k us old.elements.items mid =
-    subst (λ n. AreRedirected n us old.elements.items mid) f (subst (λ xs. AreRedirected first xs old.elements.items mid) u (subst (λ xs. AreRedirected first front xs mid) w redirects)) in
-    let elements-too : map wired new.elements.items ≡ map wired mid ++ map path_wired (enumerate_from k us) =
-    elements ∙ ap (λ xs. map wired xs ++ map path_wired (enumerate_from first behind)) m ∙ ap (λ xs. map wired mid ++ map path_wired (enumerate_from first xs)) v
-    ∙ ap (λ n. map wired mid ++ map path_wired (enumerate_from n us)) f in
-    are-joined source top corner library modules placed rows old given made joined mid new uses (subst (λ n. AreFew k n made) l few) inner paths redirects-too elements-too
-    (places ∙ ap (λ xs. old.places.items ++ map (λ u. u.place) xs) v)
-
--- a refusal, where the number of elements is known
-pub refused-with : (source : Source) (top : Module) (corner : Corner) (library : Library) (modules : ModulePaths) (placed : List Placed) (rows : Rows) (old : Placing) → AreGiven source top corner library modules placed rows old
-    → (len : ℕ) (r : Refused ElabKind) → len ≡ length old.elements.items
-    → ((n e p : ℕ) → length rows.nets.items + length (def.path_uses source top corner) ≤ n → len + length (def.path_uses source top corner) ≤ e → path_count source top corner ≤ p
-    → RefusesOneOf (over n ++ (over e ++ over p)) r) → RefusesOneOf (counts_over source top corner) r
-refused-with source top corner library modules placed rows old given len r l h =
-    refused-by source top corner library modules placed rows old given r (λ n e p a b c. h n e p a (subst (λ k. k + length (def.path_uses source top corner) ≤ e) (sym l) b) c)
+  pub have-all_paths : (new : Placing) → new.elements.items ≡ filled made.uses.items old.elements.items → new.places.items ≡ old.places.items → length made.paths.items ≤ 2 ^ 22
+      → HaveAllPaths source top corner library modules made.paths.items new
+  have-all_paths new is places few =
+      let all = nets source top in
+      let legs = has-legs source top corner library modules placed rows old given in
+      let same : AreSame tables made.uses.items us = record { paths = uses.paths; styles = uses.styles } in
+      let inner = uses-have_inner source top corner all (instances source top) faultless in
+      let apart = uses-apart source top corner all (instances source top) faultless (size source levels_below_top top) (numbers-are-places source top) in
+      let seen = given.are_elements.elements in
+      let count = length-map old.elements.items (element_in library.gate_delays.items library.udps.items) in
+      record {
+        elements = ap (map (element_with tables)) is ∙ elements-seen tables legs all [] us made.uses.items cs old.elements.items read same inner apart seen given.are_elements.named;
+        outputs = ap of is ∙ outputs-stay made.uses.items old.elements.items ∙ sym (mapped-twice (element_in library.gate_delays.items library.udps.items) (λ e. e.output) old.elements.items) ∙ ap (map (λ e. e.output)) seen
+            ∙ mapped-twice (element_of all) (λ e. e.output) cs;
+        places = places ∙ given.are_elements.places;
+        named = subst (Hold (NamesTables tables)) (sym is) (elements-named tables legs made.uses.items old.elements.items uses-enough uses.spans given.are_elements.named);
+        apart = subst Apart (sym is) (elements-apart made.uses.items old.elements.items uses-enough uses.beside);
+        few_elements = few-same (length old.elements.items) (length cs) (sym count ∙ ap length seen ∙ length-map cs (element_of all)) given.are_elements.few;
+        few_paths = few-same (length made.paths.items) (path_count source top corner) uses.count few;
+      }

@@ -1,5 +1,5 @@
 -- What becomes of elements whose Paths get the paths of uses, one after another.
-use Rattle.std.specs.Prelude.{ℕ, suc, List, [], ◌∷◌, Bool, true, false, if◌then◌else◌}
+use Rattle.std.specs.Prelude.{ℕ, suc, List, [], ◌∷◌, Bool, true, false, drop, if◌then◌else◌}
 use Rattle.sg_circuit.specs.declared.elements.Element.{Element}
 use Rattle.sg_circuit.specs.declared.elements.ElementKind.{ElementKind}
 use Rattle.sg_circuit.specs.declared.elements.ElementKind.TheVariants as kind
@@ -21,8 +21,11 @@ paths_among (e ∷ es) = if is_path e.kind then suc (paths_among es) else paths_
 abbrev pub with_use : PathUse → Element → Element
 with_use u e = record { scope = e.scope; inputs = e.inputs; output = e.output; kind = kind.Path u.paths u.style }
 
+abbrev pub with_next : List PathUse → Element → Element
+with_next [] e = e
+with_next (u ∷ us) e = with_use u e
+
 -- each Path has the paths and the style of the next use
 abbrev pub filled : List PathUse → List Element → List Element
 filled us [] = []
-filled [] (e ∷ es) = e ∷ es
-filled (u ∷ us) (e ∷ es) = if is_path e.kind then with_use u e ∷ filled us es else e ∷ filled (u ∷ us) es
+filled us (e ∷ es) = if is_path e.kind then with_next us e ∷ filled (drop 1 us) es else e ∷ filled us es

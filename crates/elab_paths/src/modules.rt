@@ -69,6 +69,7 @@ fn names_module(definitions: &Definitions, member: &Member) -> bool
         Member::Assignment(_) => false,
         Member::Supply { .. } => false,
         Member::Gate { .. } => false,
+        Member::Path(_) => false,
     }
 }
 

@@ -1,15 +1,12 @@
 -- An instance is a leaf where the next instance isn't in it.
-use Rattle.std.specs.Prelude.{◌≡◌, ℕ, zero, suc, ◌+◌, ◌==◌, List, [], ◌∷◌, Bool, true, false, ◌&&◌, not, is_some, map, refl, sum_by, if◌then◌else◌}
+use Rattle.std.specs.Prelude.{◌≡◌, ℕ, zero, suc, ◌+◌, ◌==◌, List, [], ◌∷◌, Bool, true, false, ◌&&◌, not, is_some, refl, sum_by, if◌then◌else◌}
 use Rattle.std.proofs.Common.{sym, ◌∙◌, ap, arith}
 use Rattle.std.proofs.lemmas.Bool.{eq-eqb, eqb-true}
 use Rattle.std.proofs.lemmas.List.Sums.{sum_by-cons}
 use Rattle.vl_tree.specs.Tree.{Module, Source}
-use Rattle.elab_model.specs.declared.kinds.ElabKind.TheVariants.{TooDeep}
-use Rattle.elab_model.specs.Faults.{fault}
 use Rattle.elab_model.specs.Hierarchy.{Step, Instance, Child, children_in, size, is_empty, has_no_child, is_leaf}
-use Rattle.elab_model.specs.HierarchyFaults.{too_deep}
+use Rattle.elab_model.specs.HierarchyFaults.{past_limit}
 use Rattle.elab_model.specs.Scopes.{parent_of}
-use Rattle.elab_laws.proofs.NoFaults.{map-empty}
 use Rattle.elab_hierarchy.specs.declared.instances.Placed.{Placed}
 use Rattle.elab_hierarchy.specs.Placing.{IsPlaced}
 
@@ -30,13 +27,10 @@ alone n k (c ∷ cs) source levels e =
     differ true t h = absurd (h t)
     differ false t h = t
 
-lowest : (source : Source) (s : Instance) → s.step.levels ≡ 0 → too_deep source s ≡ [] → children_in source s.step.definition ≡ []
-lowest source s e t =
-    let f : map (λ c. fault TooDeep c.place) (children_in source s.step.definition) ≡ [] =
-    sym (ap (λ k. if k == 0 then map (λ c. fault TooDeep c.place) (children_in source s.step.definition) else []) e) ∙ t in
-    map-empty (λ c. fault TooDeep c.place) (children_in source s.step.definition) f
+lowest : (source : Source) (s : Instance) → s.step.levels ≡ 0 → past_limit source s ≡ [] → children_in source s.step.definition ≡ []
+lowest source s e t = sym (ap (λ k. if k == 0 then children_in source s.step.definition else []) e) ∙ t
 
-pub alone-is : (source : Source) (s : Instance) → too_deep source s ≡ [] → (s.step.number + size source s.step.levels s.step.definition == s.step.number + 1) ≡ has_no_child source s.step
+pub alone-is : (source : Source) (s : Instance) → past_limit source s ≡ [] → (s.step.number + size source s.step.levels s.step.definition == s.step.number + 1) ≡ has_no_child source s.step
 alone-is source s t = by s.step.levels refl
   where
     by : (levels : ℕ) → s.step.levels ≡ levels → (s.step.number + size source s.step.levels s.step.definition == s.step.number + 1) ≡ has_no_child source s.step
@@ -47,7 +41,7 @@ alone-is source s t = by s.step.levels refl
         alone s.step.number (size source s.step.levels s.step.definition) (children_in source s.step.definition) source levels (ap (λ k. size source k s.step.definition) e)
 
 -- one that has a parent
-pub leaf-below : (source : Source) (p : Placed) (s : Instance) (number : ℕ) → IsPlaced source p s → number ≡ s.step.number → too_deep source s ≡ [] → is_some p.parent ≡ true
+pub leaf-below : (source : Source) (p : Placed) (s : Instance) (number : ℕ) → IsPlaced source p s → number ≡ s.step.number → past_limit source s ≡ [] → is_some p.parent ≡ true
     → (p.end == number + 1) ≡ is_leaf source s
 leaf-below source p s number h n t e =
     ap (λ k. k == number + 1) h.end ∙ ap (λ k. s.step.number + size source s.step.levels s.step.definition == k + 1) n ∙ alone-is source s t

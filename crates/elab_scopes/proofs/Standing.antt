@@ -1,5 +1,5 @@
 -- What stands ready of an instance is what the code finds.
-use Rattle.std.specs.Prelude.{◌≡◌, ℕ, ◌+◌, ◌<◌, List, [], ◌∷◌, Option, Some, None, length, map, flat_map, drop, refl, slice_get, slice_index_or}
+use Rattle.std.specs.Prelude.{◌≡◌, ℕ, ◌+◌, ◌<◌, List, [], ◌∷◌, Option, Some, None, length, map, refl, slice_get, slice_index_or}
 use Rattle.std.specs.List.{range_with_len}
 use Rattle.std.proofs.Common.{sym, ◌∙◌, ap, subst, inl, arith}
 use Rattle.std.proofs.lemmas.List.{get_or-map, get_or_at, length-append}
@@ -7,16 +7,16 @@ use Rattle.std.proofs.lemmas.List.FromFn.{get_or-range_with_len}
 use Rattle.sg_delay.specs.declared.corners.Corner.{Corner}
 use Rattle.vl_tree.specs.Tree.{Module, Source}
 use Rattle.elab_model.specs.Hierarchy.{Instance, instances}
-use Rattle.elab_model.specs.HierarchyFaults.{self_instances, too_deep, first_too_many, count_limit}
+use Rattle.elab_model.specs.HierarchyFaults.{past_limit}
 use Rattle.elab_model.specs.Names.{variables}
 use Rattle.elab_model.specs.Nets.{OwnNet}
 use Rattle.elab_laws.specs.Handing.{all_bits, number_at}
 use Rattle.elab_laws.specs.Words.{In}
 use Rattle.elab_laws.proofs.Lists.{in-right, all-in}
-use Rattle.elab_laws.proofs.NoFaults.{front, back, flat-empty}
 use Rattle.elab_laws.proofs.Stated.{instances-have_places}
 use Rattle.elab_hierarchy.specs.declared.instances.Placed.{Placed}
-use Rattle.elab_hierarchy.specs.Placing.{tree_faults_at, tree_faults}
+use Rattle.elab_hierarchy.specs.Placing.{tree_faults}
+use Rattle.elab_hierarchy.proofs.FaultlessTree.{none-past_limit}
 use Rattle.elab_modules.specs.declared.library.Library.{Library}
 use Rattle.elab_modules.specs.declared.prepared.Prepared.{Prepared}
 use Rattle.elab_modules.specs.Finding.{module_at}
@@ -52,13 +52,10 @@ number-is source top corner library rows ss all number p s h =
     let from : slice_index_or (map (λ t. t.step.number) ss) number 0 ≡ 0 + number = ap (λ ns. slice_index_or ns number 0) places ∙ get_or-range_with_len 0 (length ss) number 0 lt in
     omega (arith, at, from)
 
-pub not-too_deep : (source : Source) (top : Module) (ss : List Instance) (i : ℕ) (p : Placed) (r : PlacedAt source p i ss)
-    → ss ≡ instances source top → tree_faults source top ≡ [] → too_deep source r.own ≡ []
-not-too_deep source top ss i p r e t =
-    let there : In r.own (instances source top) = subst (In r.own) (sym r.there ∙ e) (in-right r.own r.before (r.own ∷ r.after) (inl refl)) in
-    let own = flat_map (tree_faults_at source) (instances source top) in
-    let each = flat-empty (tree_faults_at source) (instances source top) (front own (first_too_many (drop count_limit (instances source top))) t) in
-    back (self_instances source r.own) (too_deep source r.own) (all-in (λ t. tree_faults_at source t ≡ []) r.own (instances source top) each there)
+pub within-limit : (source : Source) (top : Module) (ss : List Instance) (i : ℕ) (p : Placed) (r : PlacedAt source p i ss)
+    → ss ≡ instances source top → tree_faults source top ≡ [] → past_limit source r.own ≡ []
+within-limit source top ss i p r e t =
+    none-past_limit source top r.own t (subst (In r.own) (sym r.there ∙ e) (in-right r.own r.before (r.own ∷ r.after) (inl refl)))
 
 -- a module stands ready at its place
 pub module-missing : (source : Source) (top : Module) (corner : Corner) (library : Library) (rows : Rows) (ss : List Instance) (all : List OwnNet) (number : ℕ) (p : Placed) (s : Instance)

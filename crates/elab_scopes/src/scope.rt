@@ -6,7 +6,7 @@ ghost use Rattle.vl_tree.specs.Seen.{view_module, view_name};
 ghost use Rattle.vl_tree.specs.Tree.{Source};
 ghost use Rattle.elab_model.specs.Hierarchy as def;
 ghost use Rattle.elab_model.specs.Hierarchy.{Instance, Step, text_of};
-ghost use Rattle.elab_model.specs.HierarchyFaults.{too_deep};
+ghost use Rattle.elab_model.specs.HierarchyFaults.{past_limit};
 ghost use Rattle.elab_model.specs.Nets.{OwnNet};
 ghost use Rattle.elab_model.specs.Scopes.{scope_of};
 ghost use Rattle.elab_hierarchy.specs.Placing.{IsPlaced, SaysStep};
@@ -28,7 +28,7 @@ pub fn scope_in(
     here: &Here,
 ) -> Result<Scope, NoMemory>
     requires { number < usize.MAX }
-    ensures { IfOk result (λ scope. (all : List OwnNet) (source : Source) (s : Instance) → IsHere all source s here.now → IsPlaced source placed.now s → number ≡ s.step.number → too_deep source s ≡ []
+    ensures { IfOk result (λ scope. (all : List OwnNet) (source : Source) (s : Instance) → IsHere all source s here.now → IsPlaced source placed.now s → number ≡ s.step.number → past_limit source s ≡ []
         → scope_seen scope ≡ scope_of all source s) }
 {
     let definition = here.prepared.definition;
@@ -48,7 +48,7 @@ pub fn scope_in(
 // Whether it isn't the top, and no instance lies in it.
 fn is_leaf(placed: &Placed, number: usize) -> bool
     requires { number < usize.MAX }
-    ensures { (source : Source) (s : Instance) → IsPlaced source placed.now s → number ≡ s.step.number → too_deep source s ≡ [] → result ≡ def.is_leaf source s }
+    ensures { (source : Source) (s : Instance) → IsPlaced source placed.now s → number ≡ s.step.number → past_limit source s ≡ [] → result ≡ def.is_leaf source s }
 {
     placed.parent.is_some() && placed.end as usize == number + 1
 }

@@ -4,7 +4,7 @@ ghost use Rattle.sg_delay.specs.declared.corners.Corner as ghost_corner;
 ghost use Rattle.sg_circuit.specs.Seen.{scope_seen};
 ghost use Rattle.vl_tree.specs.Tree.{Module, Source};
 ghost use Rattle.elab_model.specs.Hierarchy as def;
-ghost use Rattle.elab_model.specs.HierarchyFaults.{too_deep};
+ghost use Rattle.elab_model.specs.HierarchyFaults.{past_limit};
 ghost use Rattle.elab_model.specs.Nets.{OwnNet, nets};
 ghost use Rattle.elab_model.specs.Scopes.{scope_of};
 ghost use Rattle.elab_hierarchy.specs.Placing.{ArePlaced, tree_faults};
@@ -52,7 +52,7 @@ fn add_scope(
 ) -> Result<(), NoMemory>
     requires { number < usize.MAX }
     ensures { OnOk result ((source : Source) (top : Module) (corner : ghost_corner.Corner) (ss : List def.Instance) (all : List OwnNet) (s : def.Instance)
-        → Stands source top corner library.now rows.now ss all number placed.now s → too_deep source s ≡ []
+        → Stands source top corner library.now rows.now ss all number placed.now s → past_limit source s ≡ []
         → map (λ c. scope_seen c) scopes.new.items ≡ map (λ c. scope_seen c) scopes.old.items ++ scope_of all source s ∷ []) }
 {
     let Some(here) = here_at(library, rows, number, placed) else {

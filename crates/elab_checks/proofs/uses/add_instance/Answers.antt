@@ -28,7 +28,7 @@ add_checks-requires-clause-row c =
     let top = c.requires.at.1.0 in
     let s = c.requires.at.1.1.1.1.0 in
     let here = here-is _ _ _ _ _ _ _ _ _ _ _ h q c.bits.result row (prepared-is _ _ _ _ _ _ _ _ _ _ _ h q c.module_at-prepared.ensures) c.bits.ensures c.row_of.ensures in
-    (bit_number (nets source top) source s, row-is (nets source top) source s c.args.number q.table row here)
+    (bit_number (nets source top) source s, row-is (nets source top) source s q.table row here.numbers)
 
 pub add_checks-requires-clause-usable : goal.add_checks-requires-clause-usable
 add_checks-requires-clause-usable c =

@@ -1,5 +1,5 @@
 -- A child is refused, or one below it, or it is placed with all below it.
-use Rattle.std.proofs.Common.{rules, ◌≡◌, ◌<◌, ◌≤◌, ◌-◌, ◌^◌, ◌==◌, length, arith, ap, ◌∙◌, sym, subst, refl}
+use Rattle.std.proofs.Common.{rules, ◌≡◌, ◌<◌, ◌≤◌, ◌-◌, ◌^◌, ◌==◌, false, length, arith, ap, ◌∙◌, sym, subst, refl}
 use Rattle.std.proofs.lemmas.Result.{err_from_is_err_and}
 use Rattle.std.specs.List.{list_any}
 use Rattle.elab_hierarchy.specs.Growing.{RefusesChild}
@@ -35,17 +35,19 @@ pub returns-in_err-place_below-clause-refused : goal.returns-in_err-place_below-
 returns-in_err-place_below-clause-refused t c =
     let lt : c.loop-child.child-index < length c.deref-child-items.result.now = omega arith in
     let own : c.len-own.result ≡ length c.loop-child.list.items = search rules in
+    let other : list_any (λ k. k == c.child-item.result.definition) c.args.chain.now.items ≡ false =
+    ap (list_any (λ k. k == c.child-item.result.definition)) (sym c.loop-child.invariant.chain ∙ sym c.deref.ensures.value) ∙ c.in_ok-check_child.ensures.passes.other in
     refuses _ c.from_residual-in_err-place_below.result c.in_err-place_below.field-0.0
     (err_from_is_err_and c.from_residual-in_err-place_below.result c.from_residual-in_err-place_below.ensures.1)
     (λ source s at.
     let h = c.loop-child.invariant.going source s at in
     let n = next-child source c.child-item.result c.child-item.result c.deref-child-items.result.now c.loop-child.child-index h.left lt c.child-item.is h.are in
     code-below-refused source c.args.levels (c.args.levels - 1) c.len-own.result c.args.number s c.child-item.result c.deref-child-items.result.now c.loop-child.child-index c.args.list.now.items
-    c.loop-child.list.items c.in_err-place_below.field-0.0 (one-less c.args.levels c.in_ok-check_child.ensures.passes.level) own h n at.last
+    c.loop-child.list.items c.in_err-place_below.field-0.0 (one-less c.args.levels c.in_ok-check_child.ensures.passes.level) own h n at.last at.leveled
     (c.in_err-place_below.ensures.refused source (child_instance (c.args.levels - 1) s n.child c.len-own.result)
     (code-at-child source c.args.children.now c.args.levels c.args.definition c.args.number c.args.chain.now.items c.loop-child.chain.items c.push.new.self.items
     (length c.args.list.now.items) s c.child-item.result n.child c.len-own.result c.loop-child.list.items c.push-in-loop-child.new.self.items (placed_child c.args.number c.child-item.result)
-    at n.same own c.loop-child.invariant.chain c.in_ok-push.ensures.items c.in_ok-push-2.ensures.items)))
+    at n.same other own c.loop-child.invariant.chain c.in_ok-push.ensures.items c.in_ok-push-2.ensures.items)))
 
 pub set_end-requires-clause-within : goal.set_end-requires-clause-within
 set_end-requires-clause-within t c =
@@ -58,6 +60,8 @@ pub loop-child-preserved : goal.loop-child-preserved
 loop-child-preserved t c =
     let lt : c.loop-child.child-index < length c.deref-child-items.result.now = omega arith in
     let own : c.len-own.result ≡ length c.loop-child.list.items = search rules in
+    let other : list_any (λ k. k == c.child-item.result.definition) c.args.chain.now.items ≡ false =
+    ap (list_any (λ k. k == c.child-item.result.definition)) (sym c.loop-child.invariant.chain ∙ sym c.deref.ensures.value) ∙ c.in_ok-check_child.ensures.passes.other in
     let one = one-longer c.loop-child.list.items c.push-in-loop-child.new.self.items (placed_child c.args.number c.child-item.result) c.in_ok-push-2.ensures.items in
     let further : length c.push-in-loop-child.new.self.items ≤ length c.place_below.new.list.items = c.in_ok-place_below.ensures.more in
     let before : length c.args.list.now.items ≤ length c.loop-child.list.items = c.loop-child.invariant.more in
@@ -73,11 +77,10 @@ loop-child-preserved t c =
           let g = c.in_ok-place_below.ensures.grown source (child_instance (c.args.levels - 1) s n.child c.len-own.result)
           (code-at-child source c.args.children.now c.args.levels c.args.definition c.args.number c.args.chain.now.items c.loop-child.chain.items c.push.new.self.items
           (length c.args.list.now.items) s c.child-item.result n.child c.len-own.result c.loop-child.list.items c.push-in-loop-child.new.self.items (placed_child c.args.number c.child-item.result)
-          at n.same own c.loop-child.invariant.chain c.in_ok-push.ensures.items c.in_ok-push-2.ensures.items) in
+          at n.same other own c.loop-child.invariant.chain c.in_ok-push.ensures.items c.in_ok-push-2.ensures.items) in
           code-gone-on source c.args.levels (c.args.levels - 1) c.len-own.result c.args.number s c.child-item.result c.deref-child-items.result.now c.loop-child.child-index c.args.list.now.items
           c.loop-child.list.items c.set_end.new.list.items (length c.place_below.new.list.items) c.args.chain.now.items (one-less c.args.levels c.in_ok-check_child.ensures.passes.level) own h n at.numbered
-          at.chained
-          (ap (list_any (λ k. k == c.child-item.result.definition)) (sym c.loop-child.invariant.chain ∙ sym c.deref.ensures.value) ∙ c.in_ok-check_child.ensures.passes.other)
+          at.chained other
           (longer source (c.args.levels - 1) (child_instance (c.args.levels - 1) s n.child c.len-own.result) c.loop-child.list.items c.push-in-loop-child.new.self.items c.place_below.new.list.items
           c.set_end.new.list.items (placed_child c.args.number c.child-item.result) c.in_ok-push-2.ensures.items g
           (λ b f q e is. c.set_end.ensures.ended b f q e (own ∙ is)));

@@ -2,9 +2,9 @@
 use Rattle.std.proofs.Common.{map, subst, bytes_eq}
 use Rattle.std.specs.List.{list_any}
 use Rattle.std.specs.Option.{option_map}
-use Rattle.vl_tree.specs.Seen.{view_name, view_net_name, view_join, view_delay, view_gate_instance}
+use Rattle.vl_tree.specs.Seen.{view_name, view_net_name, view_join, view_delay, view_gate_instance, view_specify_item}
 use Rattle.elab_model.specs.Members.{supply_value}
-use Rattle.elab_hierarchy.proofs.Used.{AddsUsed, item-used, item-unused, instances-used, nets-unused, supplies-unused, assigns-unused, gates-unused}
+use Rattle.elab_hierarchy.proofs.Used.{AddsUsed, item-used, item-unused, instances-used, nets-unused, supplies-unused, assigns-unused, gates-unused, paths-unused}
 use Rattle.elab_hierarchy.proofs.tops.add_item.Goals as goal
 
 pub returns-in_ok-add_used-in-Instances : goal.returns-in_ok-add_used-in-Instances
@@ -26,3 +26,6 @@ pub returns-in-Gates : goal.returns-in-Gates
 returns-in-Gates c =
     item-unused c.args.used.now.keys c.args.item.now _ c.in-Gates.is
     (λ n. gates-unused n c.in-Gates.gate (option_map view_delay c.in-Gates.delay) (map view_gate_instance c.in-Gates.instances.items))
+
+pub returns-in-Specify : goal.returns-in-Specify
+returns-in-Specify c = item-unused c.args.used.now.keys c.args.item.now _ c.in-Specify.is (λ n. paths-unused n (map view_specify_item c.in-Specify.field-0.items.items))

@@ -1,8 +1,8 @@
 -- The names of each kind of item.
 use Rattle.std.proofs.Common.{rules, map, filter_map}
-use Rattle.vl_tree.specs.Seen.{view_name, view_net_name, view_join, view_gate_instance, view_instance}
+use Rattle.vl_tree.specs.Seen.{view_name, view_net_name, view_join, view_gate_instance, view_instance, view_specify_item}
 use Rattle.elab_model.specs.Members.{supply_value}
-use Rattle.elab_names.proofs.InstanceNames.{gates-named, instances-named, assigns-unnamed, supplies-unnamed, nets-unnamed, item-named, item-unnamed}
+use Rattle.elab_names.proofs.InstanceNames.{gates-named, instances-named, assigns-unnamed, supplies-unnamed, nets-unnamed, paths-unnamed, item-named, item-unnamed}
 use Rattle.elab_names.proofs.instances.add_item.Goals as goal
 
 pub returns-in_ok-add_gates-in-Gates : goal.returns-in_ok-add_gates-in-Gates
@@ -23,3 +23,6 @@ returns-in-Supplies c = item-unnamed (map view_name c.args.names.now.items) c.ar
 
 pub returns-in-Assigns : goal.returns-in-Assigns
 returns-in-Assigns c = item-unnamed (map view_name c.args.names.now.items) c.args.item.now _ c.in-Assigns.is (assigns-unnamed (map view_join c.in-Assigns.joins.items))
+
+pub returns-in-Specify : goal.returns-in-Specify
+returns-in-Specify c = item-unnamed (map view_name c.args.names.now.items) c.args.item.now _ c.in-Specify.is (paths-unnamed (map view_specify_item c.in-Specify.field-0.items.items))

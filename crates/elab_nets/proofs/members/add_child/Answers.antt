@@ -68,4 +68,4 @@ returns-clause-seen c = λ source top m corner turn k n d at defined stands read
     (c.in_ok-add_outside.ensures.nets (nets source top) source turn.s new child)
     (c.in_ok-add_outside.ensures.outer (nets source top) source turn.s new child)
     (ap (set rows.outer_starts.items c.args.next) (let n : c.len-2.result ≡ length rows.outer.items = omega (arith, c.len-2.ensures, rows.outer.ok.0) in n))
-    (refl, (refl, (refl, refl)))
+    refl (refl, (refl, (refl, (refl, refl))))

@@ -20,7 +20,7 @@ returns-in_default-clause-seen c = λ top corner turn k d at.
     lone-seen c.args.definitions.now top turn.s _ at.levels c.args.next at.behind c.args.rows.now c.args.rows.now
     (ap (λ o. child_of (option_and_then as_module o) k (view_instance c.args.text.now)) none)
     (sym (append-nil c.args.rows.now.nets.items) ∙ ap (λ o. c.args.rows.now.nets.items ++ map undriven (instance_nets c.args.definitions.now turn.s k (view_instance c.args.text.now) o)) (sym none))
-    refl refl (refl, (refl, (refl, refl)))
+    (sym (append-nil c.args.rows.now.ends.items)) refl refl (refl, (refl, (refl, (refl, refl))))
 
 pub is_module-requires : goal.is_module-requires
 is_module-requires c = (is-defined c.args.definitions.now c.args.name.text.now c.in-Some.place (sym c.in-Some.ensures)).below
@@ -67,4 +67,4 @@ returns-clause-seen c = λ top corner turn k d at.
     (ap (λ o. child_of (option_and_then as_module o) k (view_instance c.args.text.now)) p.1)
     (c.in_ok-add_primitive.ensures.nets turn.s k turn.table_is turn.number_is
     ∙ ap (λ o. c.args.rows.now.nets.items ++ map undriven (instance_nets source turn.s k (view_instance c.args.text.now) o)) (sym p.1))
-    refl refl (refl, (refl, (refl, refl)))
+    (sym (append-nil c.args.rows.now.ends.items)) refl refl (refl, (refl, (refl, (refl, refl))))

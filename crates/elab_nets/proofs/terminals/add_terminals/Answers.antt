@@ -10,22 +10,23 @@ use Rattle.elab_nets.proofs.terminals.add_terminals.Goals as goal
 
 pub returns-in_default-clause-nets : goal.returns-in_default-clause-nets
 returns-in_default-clause-nets c = λ s k e n.
-    none-added c.args.nets.now.items (terminal_nets s k c.args.outputs (map (view_bit c.args.table.now) c.args.bits.now)) (no-output c.args.table.now s k c.args.outputs c.args.bits.now (sym c.in_default.ensures))
+    none-added c.args.nets.now.items (terminal_nets s k (map (view_bit c.args.table.now) c.args.outputs.now) (map (view_bit c.args.table.now) c.args.inputs.now))
+    (no-output c.args.table.now s k c.args.outputs.now c.args.inputs.now (sym c.in_default.ensures))
 
 pub add_constants-requires-clause-row : goal.add_constants-requires-clause-row
 add_constants-requires-clause-row c =
-    output-in_row c.args.table.now c.args.outputs c.args.bits.now c.in-Some.output (recursion_from_All (IsInRow c.args.table.now) c.args.bits.now c.requires.row) (sym c.in-Some.ensures)
+    output-in_row c.args.table.now c.args.outputs.now c.in-Some.output (recursion_from_All (IsInRow c.args.table.now) c.args.outputs.now c.requires.row) (sym c.in-Some.ensures)
 
 pub returns-clause-nets : goal.returns-clause-nets
 returns-clause-nets c =
     on_ok_weaker c.add_constants.result
     (λ h s k e n. h ∙ ap (λ xs. c.args.nets.now.items ++ xs)
-    (are-meant c.args.table.now s k c.args.scope c.args.outputs c.args.bits.now c.in-Some-get.inputs.now c.in-Some.output c.requires.row e n (sym c.in-Some.ensures) c.in-Some-get.ensures.lookup.0.2))
+    (are-meant c.args.table.now s k c.args.scope c.args.outputs.now c.args.inputs.now c.in-Some.output c.requires.row e n (sym c.in-Some.ensures)))
     c.add_constants.ensures.nets
 
 pub returns-clause-refused : goal.returns-clause-refused
 returns-clause-refused c =
     IfErr-weaker c.add_constants.result _ _
     (λ r h s k e n. subst (λ m. RefusesCount (length c.args.nets.now.items + m) r)
-    (count-meant c.args.table.now s k c.args.scope c.args.outputs c.args.bits.now c.in-Some-get.inputs.now c.in-Some.output c.requires.row e n (sym c.in-Some.ensures) c.in-Some-get.ensures.lookup.0.2) h)
+    (count-meant c.args.table.now s k c.args.scope c.args.outputs.now c.args.inputs.now c.in-Some.output c.requires.row e n (sym c.in-Some.ensures)) h)
     c.add_constants.ensures.refused

@@ -19,7 +19,8 @@ returns-clause-begun c =
     let row = outside-is source top corner rows c.args.table.now c.args.number c.args.leaf mine c.deref.result.now c.deref-2.result.now c.bits.result _ c.in-Some.outside.now c.deref.ensures.value c.deref-2.ensures.value c.bits.ensures
     c.row_of.ensures.row (lent c.row_of.result c.in-Some.outside _ c.in-Some.is refl) in
     let count : c.len.result ≡ length rows.inner.items = omega (arith, c.len.ensures, rows.inner.ok.0) in
-    is-begun source top corner rows _ c.args.table.now c.args.number c.args.leaf mine c.in-Some.outside.now row inner nets (c.in_ok-push.ensures.items ∙ ap (λ n. rows.starts.items ++ n ∷ []) count) (refl, (refl, (refl, refl))))
+    is-begun source top corner rows _ c.args.table.now c.args.number c.args.leaf mine c.in-Some.outside.now row inner nets (c.in_ok-push.ensures.items ∙ ap (λ n. rows.starts.items ++ n ∷ []) count)
+    (refl, (refl, (refl, (refl, (refl, refl))))))
 
 pub returns-clause-refused : goal.returns-clause-refused
 returns-clause-refused c =

@@ -58,7 +58,9 @@ returns-clause-done c = λ top corner given up.
     let turn = is-turn source top corner lib list given c.args.number p of c.args.rows.now r1 _ c.in-Some.prepared.now up begun prepared refl refl refl in
     let through = c.in_ok-add_members.ensures.through top corner turn prepared count in
     let firsts : c.len.result ≡ length r1.firsts.items = omega (arith, c.len.ensures, r1.firsts.ok.0) in
-    let last : c.len-2.result ≡ length r3.nets.items = omega (arith, c.len-2.ensures, r3.nets.ok.0) in
+    let ends : c.len-2.result ≡ length r1.ends.items = omega (arith, c.len-2.ensures, r1.ends.ok.0) in
+    let last : c.len-3.result ≡ length r3.nets.items = omega (arith, c.len-3.ensures, r3.nets.ok.0) in
     turn-done source top corner lib list given c.args.number p of c.args.rows.now r1 _ r3 _ through.0 up begun
-    (c.in_ok-push.ensures.items ∙ ap (λ n. r1.member_starts.items ++ n ∷ []) firsts) (refl, (refl, (refl, (refl, (refl, refl))))) count through.1
-    (c.in_ok-push-2.ensures.items ∙ ap (λ n. r3.firsts.items ++ n ∷ []) last) (refl, (refl, (refl, (refl, (refl, refl)))))
+    (c.in_ok-push.ensures.items ∙ ap (λ n. r1.member_starts.items ++ n ∷ []) firsts) (c.in_ok-push-2.ensures.items ∙ ap (λ n. r1.end_starts.items ++ n ∷ []) ends)
+    (refl, (refl, (refl, (refl, (refl, (refl, refl)))))) count through.1
+    (c.in_ok-push-3.ensures.items ∙ ap (λ n. r3.firsts.items ++ n ∷ []) last) (refl, (refl, (refl, (refl, (refl, (refl, (refl, refl)))))))

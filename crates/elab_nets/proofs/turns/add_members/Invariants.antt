@@ -7,9 +7,9 @@ use Rattle.elab_laws.specs.NumberLaws.{nets_before}
 use Rattle.elab_nets.specs.Turns.{AreThrough, HasTurn}
 use Rattle.elab_nets.proofs.turns.add_members.Given as goal
 
-abbrev pub invariant-loop-member : goal.invariant-loop-member
-invariant-loop-member l = record {
+abbrev pub invariant-loop-index : goal.invariant-loop-index
+invariant-loop-index l = record {
   few : length l.rows.nets.items ≤ 4194304;
   through : (top : Module) (corner : ghost_corner.Corner) (turn : HasTurn l.definitions top corner l.library l.instances l.initial.rows l.prepared.table l.number) → IsPrepared l.prepared turn.s.step.definition
-      → length l.initial.rows.nets.items ≡ nets_before l.definitions turn.before turn.s [] → AreThrough l.definitions top turn.before turn.s l.member-index l.next l.initial.rows l.rows;
+      → length l.initial.rows.nets.items ≡ nets_before l.definitions turn.before turn.s [] → AreThrough l.definitions top turn.before turn.s l.index l.next l.initial.rows l.rows;
 }

@@ -1,11 +1,10 @@
 -- The outputs so far have been added.
-use Rattle.std.proofs.Common.{take}
-use Rattle.elab_paths.specs.Uses.{AreFew}
+use Rattle.std.proofs.Common.{◌≤◌, ◌^◌, length, take}
 use Rattle.elab_paths.proofs.OneByOne.{AreAdded}
-use Rattle.elab_paths.proofs.joining.add_all_uses.Given as goal
+use Rattle.elab_paths.proofs.adding.add_all_uses.Given as goal
 
 abbrev pub invariant-loop-output : goal.invariant-loop-output
 invariant-loop-output l = record {
-  few : AreFew l.nets l.elements l.uses;
-  added : AreAdded l.conditions l.here.table.now l.here.row.now l.here.scope (take l.output-index l.outputs) l.initial.uses l.uses;
+  few : length l.uses.paths.items ≤ 2 ^ 22;
+  added : AreAdded l.conditions l.here.table.now l.here.row.now (take l.output-index l.outputs) l.initial.uses l.uses;
 }

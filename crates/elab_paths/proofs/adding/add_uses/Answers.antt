@@ -1,14 +1,14 @@
 -- What stands ready of the instance.
-use Rattle.std.proofs.Common.{All, arith, subst, sym}
+use Rattle.std.proofs.Common.{All, subst, sym}
 use Rattle.std.proofs.lemmas.Result.{on_ok_weaker}
 use Rattle.elab_model.specs.Nets.{nets}
 use Rattle.circuit_model.specs.PathUses.{bit_number}
 use Rattle.elab_elements.proofs.Putting.{if_err-weaker}
 use Rattle.elab_paths.specs.Uses.{IsUsable}
 use Rattle.elab_paths.proofs.InstanceTurn.{instance-uses, instance-refused}
-use Rattle.elab_paths.proofs.InstanceUses.{ready-found, prepared-is, row-within, here-is, outputs-found, outputs-usable}
+use Rattle.elab_paths.proofs.InstanceUses.{ready-found, prepared-is, row-within, numbers-are, outputs-found, outputs-usable}
 use Rattle.elab_paths.proofs.UsesSoFar.{row-is}
-use Rattle.elab_paths.proofs.joining.add_uses.Goals as goal
+use Rattle.elab_paths.proofs.adding.add_uses.Goals as goal
 
 pub module_at-prepared-requires : goal.module_at-prepared-requires
 module_at-prepared-requires c = ready-found _ _ _ _ _ _ _ _ _ _ c.requires.at.1.1.1.1.1
@@ -29,8 +29,8 @@ add_all_uses-requires-clause-row c =
     let source = c.requires.at.0 in
     let top = c.requires.at.1.0 in
     let s = c.requires.at.1.1.1.1.0 in
-    let here = here-is _ _ _ _ _ _ _ _ _ _ h q c.bits.result row (prepared-is _ _ _ _ _ _ _ _ _ _ h q c.module_at-prepared.ensures) c.bits.ensures c.row_of.ensures in
-    (bit_number (nets source top) source s, row-is (nets source top) source s c.args.number q.table row here)
+    let here = numbers-are _ _ _ _ _ _ _ _ _ _ h q c.bits.result row (prepared-is _ _ _ _ _ _ _ _ _ _ h q c.module_at-prepared.ensures) c.bits.ensures c.row_of.ensures in
+    (bit_number (nets source top) source s, row-is (nets source top) source s q.table row here)
 
 pub add_all_uses-requires-clause-usable : goal.add_all_uses-requires-clause-usable
 add_all_uses-requires-clause-usable c =
@@ -48,7 +48,7 @@ returns-clause-uses c =
     on_ok_weaker c.add_all_uses.result
     (λ added. λ source top corner list s us h u.
     let prepared = prepared-is source top corner c.args.library.now c.args.modules.now list c.args.rows.now c.args.number c.args.placed.now s h q c.module_at-prepared.ensures in
-    let here = here-is source top corner c.args.library.now c.args.modules.now list c.args.rows.now c.args.number c.args.placed.now s h q c.bits.result row prepared c.bits.ensures c.row_of.ensures in
+    let here = numbers-are source top corner c.args.library.now c.args.modules.now list c.args.rows.now c.args.number c.args.placed.now s h q c.bits.result row prepared c.bits.ensures c.row_of.ensures in
     instance-uses source top corner c.args.library.now c.args.modules.now list c.args.rows.now c.args.number c.args.placed.now s h q prepared outputs c.outputs_at-outputs.ensures c.deref.result.now row c.args.uses.now
     c.add_all_uses.new.uses us c.deref.ensures.value here added u)
     c.add_all_uses.ensures.uses
@@ -60,6 +60,5 @@ returns-clause-refused c =
     if_err-weaker c.add_all_uses.result _ _
     (λ r refused. λ source top corner list s h.
     let prepared = prepared-is source top corner c.args.library.now c.args.modules.now list c.args.rows.now c.args.number c.args.placed.now s h q c.module_at-prepared.ensures in
-    instance-refused source top corner c.args.library.now c.args.modules.now list c.args.rows.now c.args.number c.args.placed.now s h q prepared outputs c.outputs_at-outputs.ensures c.len.result c.args.elements c.args.uses.now r
-    (omega (arith, c.len.ensures, c.args.rows.now.nets.ok.0)) refused)
+    instance-refused source top corner c.args.library.now c.args.modules.now list c.args.rows.now c.args.number c.args.placed.now s h q prepared outputs c.outputs_at-outputs.ensures c.args.uses.now r refused)
     c.add_all_uses.ensures.refused

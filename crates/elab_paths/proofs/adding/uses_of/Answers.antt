@@ -3,7 +3,7 @@ use Rattle.std.proofs.lemmas.Result.{err_from_is_err_and}
 use Rattle.elab_elements.proofs.Putting.{exit-by}
 use Rattle.elab_paths.proofs.InstanceTurn.{next-uses, next-refused, all-uses}
 use Rattle.elab_paths.proofs.InstanceUses.{stands}
-use Rattle.elab_paths.proofs.joining.uses_of.Goals as goal
+use Rattle.elab_paths.proofs.adding.uses_of.Goals as goal
 
 pub add_uses-requires-clause-at : goal.add_uses-requires-clause-at
 add_uses-requires-clause-at c =
@@ -14,7 +14,7 @@ add_uses-requires-clause-at c =
 pub returns-in_err-add_uses-clause-refused : goal.returns-in_err-add_uses-clause-refused
 returns-in_err-add_uses-clause-refused c =
     exit-by _ c.from_residual.result c.in_err-add_uses.field-0.0 (err_from_is_err_and c.from_residual.result c.from_residual.ensures.1)
-    (λ source top corner h. next-refused source top corner c.args.library.now c.args.modules.now c.args.instances.now c.args.rows.now h c.loop-number.number c.index-instances-number.result c.args.elements c.loop-number.uses
+    (λ source top corner h. next-refused source top corner c.args.library.now c.args.modules.now c.args.instances.now c.args.rows.now h c.loop-number.number c.index-instances-number.result c.loop-number.uses
     c.in_err-add_uses.field-0.0 c.loop-number-test.true c.index-instances-number.is (c.in_err-add_uses.ensures.refused source top corner c.args.instances.now) (c.loop-number.invariant.made source top corner h))
 
 pub loop-number-preserved : goal.loop-number-preserved

@@ -6,7 +6,7 @@ use Rattle.elab_model.specs.Hierarchy.{instances}
 use Rattle.elab_model.specs.Nets.{nets}
 use Rattle.elab_model.specs.Scopes.{scope_of}
 use Rattle.elab_scopes.proofs.PlacedAt.{placed-at, placed-length, own-at, below-length, stands-at}
-use Rattle.elab_scopes.proofs.Standing.{not-too_deep}
+use Rattle.elab_scopes.proofs.Standing.{within-limit}
 use Rattle.elab_scopes.proofs.Steps.{maps-next}
 use Rattle.elab_scopes.proofs.scopes.scopes_of.Goals as goal
 
@@ -20,7 +20,7 @@ loop-number-preserved c = λ top corner ss all read placed tree.
     maps-next (λ s. scope_seen s) (scope_of all source) c.loop-number.scopes.items c.add_scope.new.scopes.items (scope_of all source r.own) ss i r.own
     (below-length source ps ss i c.loop-number-test.true placed)
     (c.in_ok-add_scope.ensures source top corner ss all r.own (stands-at source top corner c.args.library.now c.args.rows.now ss all p i r read)
-    (not-too_deep source top ss i p r read.are_instances tree))
+    (within-limit source top ss i p r read.are_instances tree))
     (ap (scope_of all source) (sym (own-at source p i ss r))) (c.loop-number.invariant top corner ss all read placed tree)
 
 pub returns : goal.returns
