@@ -62,8 +62,7 @@ pub part-is : {B : Type 0} (whole before own after : List B) (start end : ℕ) �
 part-is whole before own after start end w a b =
     let n : end - start ≡ length own = omega (arith, a, b) in
     let c = length-append before (own ++ after) in
-    let d = length-append own after in
-    (
+    let d = length-append own after in (
       (λ i. take (n i) (drop (a i) (w i))) ∙ ap (take (length own)) (drop_at before (own ++ after) (length before) refl) ∙ take_at own after (length own) refl,
       subst (λ ws. end ≤ length ws) (sym w) (omega (arith, b, c, d)),
     )
@@ -143,8 +142,7 @@ pub ends-part : (all : List OwnNet) (prepared : Prepared) (row ends : List ℕ) 
 ends-part all prepared row ends k x s start end h e =
     let f : NetBit → ℕ = λ b. number_of all (inner_spot s b) in
     let n : length ends ≡ length (path_ends s.step.definition) = ap length e ∙ length-map (path_ends s.step.definition) f in
-    let within = h.within in
-    (
+    let within = h.within in (
       ap (λ ns. take (end - start) (drop start ns)) e ∙ ap (take (end - start)) (drop-map f start (path_ends s.step.definition)) ∙ take-map f (end - start) (drop start (path_ends s.step.definition)) ∙ ap (map f) h.part,
       omega (arith, n, within),
     )

@@ -50,8 +50,7 @@ named-where seen (q ∷ qs) others k n once h = by (is_among q.text seen) refl o
     behind : (k : ℕ) → is_among q.text seen ≡ false → slice_get (q.text ∷ first_of_each (q.text ∷ seen) names) k ≡ Some n
         → ((j : ℕ) → slice_get (first_of_each (q.text ∷ seen) names) j ≡ Some n → IsNamedAt (q.text ∷ seen) qs j n) → IsNamedAt seen (q ∷ qs) k n
     behind zero e h rest =
-        let g : q.text ≡ n = cc in
-        (
+        let g : q.text ≡ n = cc in (
           ap (λ b. cond b (Some q) (find (λ q. bytes_eq n q.text) qs)) ((bytes_eq-Decides n q.text).1 (sym g)),
           ap (λ x. is_among x seen) (sym g) ∙ e,
         )

@@ -107,13 +107,37 @@ fn add_inside(
     let bits = &prepared.ends.bits;
     if bits.is_empty() {
         return add_members(
-            alloc, definitions, library, instances, rows, number, definition, prepared, row, row, number + 1, room, made,
+            alloc,
+            definitions,
+            library,
+            instances,
+            rows,
+            number,
+            definition,
+            prepared,
+            row,
+            row,
+            number + 1,
+            room,
+            made,
         );
     }
     let ends = end_row(rows, number as usize, bits.len());
     drive(alloc, row, bits, ends, driven)?;
     add_members(
-        alloc, definitions, library, instances, rows, number, definition, prepared, row, driven, number + 1, room, made,
+        alloc,
+        definitions,
+        library,
+        instances,
+        rows,
+        number,
+        definition,
+        prepared,
+        row,
+        driven,
+        number + 1,
+        room,
+        made,
     )
 }
 
@@ -139,6 +163,14 @@ pub fn add_instance(
 {
     add_own_legs(library, instances, rows, number, made)?;
     add_inside(
-        alloc, definitions, library, instances, rows, number, driven, room, made,
+        alloc,
+        definitions,
+        library,
+        instances,
+        rows,
+        number,
+        driven,
+        room,
+        made,
     )
 }

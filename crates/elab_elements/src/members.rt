@@ -55,7 +55,16 @@ pub fn add_assignment(
     room.right.clear();
     add_bits(table, left, &mut room.left)?;
     add_bits(table, right, &mut room.right)?;
-    add_passes(table, scope, place, &room.left, &room.right, row, driven, made)
+    add_passes(
+        table,
+        scope,
+        place,
+        &room.left,
+        &room.right,
+        row,
+        driven,
+        made,
+    )
 }
 
 /// Adds the Passes of a net that is assigned where it is declared (IEEE 1364-2005, 6.1.1).
@@ -82,7 +91,16 @@ pub fn add_declared(
     room.right.clear();
     add_variable(table, name, &mut room.left)?;
     add_bits(table, value, &mut room.right)?;
-    add_passes(table, scope, name.place, &room.left, &room.right, row, driven, made)
+    add_passes(
+        table,
+        scope,
+        name.place,
+        &room.left,
+        &room.right,
+        row,
+        driven,
+        made,
+    )
 }
 
 /// Adds the Passes of a supply net (IEEE 1364-2005, 4.6).
@@ -107,7 +125,9 @@ pub fn add_supply_net(
 {
     room.left.clear();
     add_variable(table, name, &mut room.left)?;
-    add_supply(table, scope, name.place, value, &room.left, row, driven, made)
+    add_supply(
+        table, scope, name.place, value, &room.left, row, driven, made,
+    )
 }
 
 /// Adds the elements of a gate (IEEE 1364-2005, 7.1). `delays` is the place of its delays.
@@ -145,6 +165,15 @@ pub fn add_gate(
     add_terminals(table, terminals, outputs, room)?;
     let kind = ElementKind::Gate { kind, delays };
     add_terminal_elements(
-        table, scope, place, kind, &room.left, &room.right, first, row, driven, made,
+        table,
+        scope,
+        place,
+        kind,
+        &room.left,
+        &room.right,
+        first,
+        row,
+        driven,
+        made,
     )
 }

@@ -98,7 +98,15 @@ fn add_constants(
     ensures refused { IfErr result (RefusesPuts made.old (flat_map (λ b. pass_puts scope place row.now driven.now (b, ghost_bit.Constant place value)) bits.now)) }
 {
     for to in bits {
-        add_pass(scope, place, *to, Bit::Constant { place, value }, row, driven, made)?;
+        add_pass(
+            scope,
+            place,
+            *to,
+            Bit::Constant { place, value },
+            row,
+            driven,
+            made,
+        )?;
     }
     Ok(())
 }

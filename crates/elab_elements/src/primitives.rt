@@ -58,6 +58,15 @@ pub fn add_primitive(
     add_connected(table, connections, 1, room)?;
     let kind = ElementKind::Udp { udp, delays };
     add_terminal_elements(
-        table, scope, place, kind, &room.left, &room.right, first, row, driven, made,
+        table,
+        scope,
+        place,
+        kind,
+        &room.left,
+        &room.right,
+        first,
+        row,
+        driven,
+        made,
     )
 }

@@ -20,11 +20,7 @@ pub struct Terminals {
 }
 
 // Adds the bit of an output; one of another width than one has none.
-fn add_output(
-    table: &Table,
-    expression: &Expression,
-    bits: &mut Vec<Bit>,
-) -> Result<(), NoMemory>
+fn add_output(table: &Table, expression: &Expression, bits: &mut Vec<Bit>) -> Result<(), NoMemory>
     ensures bits { OnOk result (map (view_bit table.now) bits.new.items ≡ map (view_bit table.now) bits.old.items ++ def_elements.only_bit (def_bits.bits table.now (view_expression expression.now))) }
     ensures row { All (IsInRow table.now) bits.old.items → All (IsInRow table.now) bits.new.items }
 {

@@ -26,11 +26,18 @@ overflow_add-number c = let e = end-is _ _ _ _ _ _ _ _ c.placed_at-definition.re
 
 pub add_members-requires-clause-at : goal.add_members-requires-clause-at
 add_members-requires-clause-at c =
-    let z : length c.module_at-prepared.result.now.ends.bits.items ≡ 0 = omega (arith, eqb-true c.module_at-prepared.result.now.ends.bits.len 0 (sym c.is_empty.ensures ∙ c.if-is_empty.true), c.module_at-prepared.result.now.ends.bits.ok.0) in
-    (c.requires.at.0, (c.requires.at.1.0, (c.requires.at.1.1.0,
-    (are-members c.args.definitions.now c.requires.at.0 c.requires.at.1.0 c.args.instances.now c.args.library.now c.args.rows.now c.args.number c.requires.at.1.1.0 c.placed_at-definition.result c.module_at-prepared.result.now c.bits.result
-    c.inner_row-row.result.now c.inner_row-row.result.now c.requires.at.1.1.1 c.placed_at-definition.ensures c.module_at-prepared.ensures c.bits.ensures c.inner_row-row.ensures
-    (drives-own _ _ _ _ _ _ _ _ c.module_at-prepared.result.now c.bits.result c.inner_row-row.result.now c.requires.at.1.1.1 (prepared-is _ _ _ _ _ _ _ _ c.placed_at-definition.result c.module_at-prepared.result.now c.requires.at.1.1.1 c.placed_at-definition.ensures c.module_at-prepared.ensures) c.bits.ensures c.inner_row-row.ensures z)))))
+    let z : length c.module_at-prepared.result.now.ends.bits.items ≡ 0 = omega (arith, eqb-true c.module_at-prepared.result.now.ends.bits.len 0 (sym c.is_empty.ensures ∙ c.if-is_empty.true), c.module_at-prepared.result.now.ends.bits.ok.0) in (
+      c.requires.at.0,
+      (
+        c.requires.at.1.0,
+        (
+          c.requires.at.1.1.0,
+          (are-members c.args.definitions.now c.requires.at.0 c.requires.at.1.0 c.args.instances.now c.args.library.now c.args.rows.now c.args.number c.requires.at.1.1.0 c.placed_at-definition.result c.module_at-prepared.result.now c.bits.result
+              c.inner_row-row.result.now c.inner_row-row.result.now c.requires.at.1.1.1 c.placed_at-definition.ensures c.module_at-prepared.ensures c.bits.ensures c.inner_row-row.ensures
+              (drives-own _ _ _ _ _ _ _ _ c.module_at-prepared.result.now c.bits.result c.inner_row-row.result.now c.requires.at.1.1.1 (prepared-is _ _ _ _ _ _ _ _ c.placed_at-definition.result c.module_at-prepared.result.now c.requires.at.1.1.1 c.placed_at-definition.ensures c.module_at-prepared.ensures) c.bits.ensures c.inner_row-row.ensures z)),
+        ),
+      ),
+    )
 
 pub returns-then-is_empty-clause-elements : goal.returns-then-is_empty-clause-elements
 returns-then-is_empty-clause-elements c =
@@ -74,12 +81,19 @@ overflow_add-number-2 c = let e = end-is _ _ _ _ _ _ _ _ c.placed_at-definition.
 
 pub add_members-requires-2-clause-at : goal.add_members-requires-2-clause-at
 add_members-requires-2-clause-at c =
-    let n : c.len.result ≡ length c.module_at-prepared.result.now.ends.bits.items = omega (arith, c.len.ensures, c.module_at-prepared.result.now.ends.bits.ok.0) in
-    (c.requires.at.0, (c.requires.at.1.0, (c.requires.at.1.1.0,
-    (are-members c.args.definitions.now c.requires.at.0 c.requires.at.1.0 c.args.instances.now c.args.library.now c.args.rows.now c.args.number c.requires.at.1.1.0 c.placed_at-definition.result c.module_at-prepared.result.now c.bits.result
-    c.inner_row-row.result.now c.deref-2.result.now c.requires.at.1.1.1 c.placed_at-definition.ensures c.module_at-prepared.ensures c.bits.ensures c.inner_row-row.ensures
-    (drives-made _ _ _ _ _ _ _ _ c.module_at-prepared.result.now c.bits.result c.len.result c.inner_row-row.result.now c.end_row-ends.result.now c.deref-2.result.now c.requires.at.1.1.1 (prepared-is _ _ _ _ _ _ _ _ c.placed_at-definition.result c.module_at-prepared.result.now c.requires.at.1.1.1 c.placed_at-definition.ensures c.module_at-prepared.ensures) c.bits.ensures c.inner_row-row.ensures n c.end_row-ends.ensures
-    (c.deref-2.ensures.value ∙ c.in_ok-drive.ensures ∙ ap (λ bits. map (driven_number (ends_in c.inner_row-row.result.now bits c.end_row-ends.result.now)) c.inner_row-row.result.now) c.deref.ensures.value))))))
+    let n : c.len.result ≡ length c.module_at-prepared.result.now.ends.bits.items = omega (arith, c.len.ensures, c.module_at-prepared.result.now.ends.bits.ok.0) in (
+      c.requires.at.0,
+      (
+        c.requires.at.1.0,
+        (
+          c.requires.at.1.1.0,
+          (are-members c.args.definitions.now c.requires.at.0 c.requires.at.1.0 c.args.instances.now c.args.library.now c.args.rows.now c.args.number c.requires.at.1.1.0 c.placed_at-definition.result c.module_at-prepared.result.now c.bits.result
+              c.inner_row-row.result.now c.deref-2.result.now c.requires.at.1.1.1 c.placed_at-definition.ensures c.module_at-prepared.ensures c.bits.ensures c.inner_row-row.ensures
+              (drives-made _ _ _ _ _ _ _ _ c.module_at-prepared.result.now c.bits.result c.len.result c.inner_row-row.result.now c.end_row-ends.result.now c.deref-2.result.now c.requires.at.1.1.1 (prepared-is _ _ _ _ _ _ _ _ c.placed_at-definition.result c.module_at-prepared.result.now c.requires.at.1.1.1 c.placed_at-definition.ensures c.module_at-prepared.ensures) c.bits.ensures c.inner_row-row.ensures n c.end_row-ends.ensures
+              (c.deref-2.ensures.value ∙ c.in_ok-drive.ensures ∙ ap (λ bits. map (driven_number (ends_in c.inner_row-row.result.now bits c.end_row-ends.result.now)) c.inner_row-row.result.now) c.deref.ensures.value))),
+        ),
+      ),
+    )
 
 pub returns-clause-elements : goal.returns-clause-elements
 returns-clause-elements c =
