@@ -70,7 +70,8 @@ ends-are all source s vs row ends e are h is =
     let own : HasNumbers all source s ws row = subst (λ us. HasNumbers all source s us row) h.table h in
     let nets : map (net_in row) e.bits.items ≡ map home (path_ends s.step.definition) =
     map-same (net_in row) (λ i. home (bit_seen ws i)) e.bits.items
-    (all-weaker (λ i. i < length (all_bits ws)) (λ i. net_in row i ≡ home (bit_seen ws i)) e.bits.items (λ i lt. number-is all source s ws row i own lt) (recursion_from_All (λ i. i < length (all_bits ws)) e.bits.items are.in_row))
+    (all-weaker (λ i. i < length (all_bits ws)) (λ i. net_in row i ≡ home (bit_seen ws i)) e.bits.items (λ i lt. number-is all source s ws row i own lt)
+    (recursion_from_All (λ i. i < length (all_bits ws)) e.bits.items are.in_row))
     ∙ sym (map-map home (bit_seen ws) e.bits.items) ∙ ap (map home) are.bits in
     (λ i. zip (nets i) (is i)) ∙ zip-maps home inside (path_ends s.step.definition)
 
@@ -106,23 +107,28 @@ driven-none source top corner s vs row e sound there are h empty =
 -- ---- of an instance at its place
 
 pub drives-own : (source : Source) (top : Module) (corner : Corner) (ps : List Placed) (library : Library) (rows : Rows) (i : ℕ) (s : Instance) (q : Prepared) (width : ℕ) (row : List ℕ)
-    → IsAt source top corner ps library rows i s → IsPrepared q s.step.definition → width ≡ length (all_bits q.table) → ((start : ℕ) → slice_get rows.starts.items i ≡ Some start → row ≡ part_of rows.inner.items start width)
+    → IsAt source top corner ps library rows i s → IsPrepared q s.step.definition → width ≡ length (all_bits q.table)
+    → ((start : ℕ) → slice_get rows.starts.items i ≡ Some start → row ≡ part_of rows.inner.items start width)
     → length q.ends.bits.items ≡ 0 → HasDriven (nets source top) source s q.table row
 drives-own source top corner ps library rows i s q width row h k w f empty =
-    driven-none source top corner s q.table row q.ends h.read.is_ready.sound (at-place (instances source top) i s h.there) k.ends (here-is source top corner ps library rows i s q width row h k w f).numbers empty
+    driven-none source top corner s q.table row q.ends h.read.is_ready.sound (at-place (instances source top) i s h.there) k.ends
+    (here-is source top corner ps library rows i s q width row h k w f).numbers empty
 
 pub drives-made : (source : Source) (top : Module) (corner : Corner) (ps : List Placed) (library : Library) (rows : Rows) (i : ℕ) (s : Instance) (q : Prepared) (width count : ℕ) (row ends inside : List ℕ)
-    → IsAt source top corner ps library rows i s → IsPrepared q s.step.definition → width ≡ length (all_bits q.table) → ((start : ℕ) → slice_get rows.starts.items i ≡ Some start → row ≡ part_of rows.inner.items start width)
+    → IsAt source top corner ps library rows i s → IsPrepared q s.step.definition → width ≡ length (all_bits q.table)
+    → ((start : ℕ) → slice_get rows.starts.items i ≡ Some start → row ≡ part_of rows.inner.items start width)
     → count ≡ length q.ends.bits.items → ((start : ℕ) → slice_get rows.end_starts.items i ≡ Some start → ends ≡ part_of rows.ends.items start count)
     → inside ≡ map (driven_number (ends_in row q.ends.bits.items ends)) row → HasDriven (nets source top) source s q.table inside
 drives-made source top corner ps library rows i s q width count row ends inside h k w f n g made =
     let r = row-is source top corner ps library rows i s h in
-    driven-is source top corner s q.table row ends inside q.ends h.read.is_ready.sound (at-place (instances source top) i s h.there) k.ends (here-is source top corner ps library rows i s q width row h k w f).numbers
+    driven-is source top corner s q.table row ends inside q.ends h.read.is_ready.sound (at-place (instances source top) i s h.there) k.ends
+    (here-is source top corner ps library rows i s q width row h k w f).numbers
     (ends-here source top rows r.0 s i q.ends count ends r.1 r.2 k.ends n g) made
 
 -- the ends stand in the row, and are as many as their inner nets
 pub ends-in_row : (source : Source) (top : Module) (corner : Corner) (ps : List Placed) (library : Library) (rows : Rows) (i : ℕ) (s : Instance) (q : Prepared) (width : ℕ) (row bits : List ℕ)
-    → IsAt source top corner ps library rows i s → IsPrepared q s.step.definition → width ≡ length (all_bits q.table) → ((start : ℕ) → slice_get rows.starts.items i ≡ Some start → row ≡ part_of rows.inner.items start width)
+    → IsAt source top corner ps library rows i s → IsPrepared q s.step.definition → width ≡ length (all_bits q.table)
+    → ((start : ℕ) → slice_get rows.starts.items i ≡ Some start → row ≡ part_of rows.inner.items start width)
     → bits ≡ q.ends.bits.items → All (λ i. i < length row) bits
 ends-in_row source top corner ps library rows i s q width row bits h k w f e =
     let here = here-is source top corner ps library rows i s q width row h k w f in

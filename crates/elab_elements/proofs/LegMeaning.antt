@@ -41,7 +41,8 @@ outside-is : (all : List OwnNet) (source : Source) (s : Instance) (vs : List Var
 outside-is all source s vs outer i h lt = ap (λ os. outside_in os i) h.numbers ∙ get_or-map (outer_number all source s.step s.above) (all_bits vs) i _ None lt
 
 -- one bit
-bit-means : (delays : List GateDelays) (udps : List UdpUse) (all : List OwnNet) (source : Source) (s : Instance) (scope : ℕ) (ports : List Named) (base place : Place) (vs : List Variable) (inner : List ℕ) (outer : List (Option ℕ))
+bit-means : (delays : List GateDelays) (udps : List UdpUse) (all : List OwnNet) (source : Source) (s : Instance) (scope : ℕ) (ports : List Named) (base place : Place) (vs : List Variable) (inner : List ℕ)
+    (outer : List (Option ℕ))
     (v : Variable) (i p : ℕ) → IsLeafHere all source s scope ports base vs inner outer → i < length (all_bits vs) → bit_at vs i ≡ (v, p) → is_input v.port ≡ true → place ≡ port_place s v.name
     → Means delays udps all (bit_leg scope place inner outer i) (leg_at source s v.name p ∷ [])
 bit-means delays udps all source s scope ports base place vs inner outer v i p h lt e input at =
@@ -57,8 +58,10 @@ bit-means delays udps all source s scope ports base place vs inner outer v i p h
     (leg_at source s v.name p) (sym h.here.number) at refl refl refl refl)
 
 -- bits of a variable, from one on
-bits-mean : (delays : List GateDelays) (udps : List UdpUse) (all : List OwnNet) (source : Source) (s : Instance) (scope : ℕ) (ports : List Named) (base place : Place) (vs : List Variable) (inner : List ℕ) (outer : List (Option ℕ))
-    (k a i n : ℕ) → IsLeafHere all source s scope ports base vs inner outer → k < length vs → is_input (variable_at vs k).port ≡ true → place ≡ port_place s (variable_at vs k).name → i ≡ start_of vs k + a → a + n ≤ width_of (variable_at vs k).range
+bits-mean : (delays : List GateDelays) (udps : List UdpUse) (all : List OwnNet) (source : Source) (s : Instance) (scope : ℕ) (ports : List Named) (base place : Place) (vs : List Variable) (inner : List ℕ)
+    (outer : List (Option ℕ))
+    (k a i n : ℕ) → IsLeafHere all source s scope ports base vs inner outer → k < length vs → is_input (variable_at vs k).port ≡ true → place ≡ port_place s (variable_at vs k).name → i ≡ start_of vs k + a
+    → a + n ≤ width_of (variable_at vs k).range
     → Means delays udps all (flat_map (bit_leg scope place inner outer) (range_with_len i n)) (map (leg_at source s (variable_at vs k).name) (range_with_len a n))
 bits-mean delays udps all source s scope ports base place vs inner outer k a i zero h lt input at e le = means-nil delays udps all
 bits-mean delays udps all source s scope ports base place vs inner outer k a i (suc n) h lt input at e le =
@@ -82,7 +85,8 @@ variable-means delays udps all source s scope ports base vs inner outer k h lt =
     by : (b : Bool) → is_input (variable_at vs k).port ≡ b
         → Means delays udps all (if b then flat_map (bit_leg scope (place_in (slice_get ports k) base) inner outer) (range_with_len (start_of vs k) (width_of (variable_at vs k).range)) else [])
         (if b then map (leg_at source s (variable_at vs k).name) (range_with_len 0 (width_of (variable_at vs k).range)) else [])
-    by true e = bits-mean delays udps all source s scope ports base (place_in (slice_get ports k) base) vs inner outer k 0 (start_of vs k) (width_of (variable_at vs k).range) h lt e at (omega arith) (omega arith)
+    by true e = bits-mean delays udps all source s scope ports base (place_in (slice_get ports k) base) vs inner outer k 0 (start_of vs k) (width_of (variable_at vs k).range) h lt e at (omega arith)
+        (omega arith)
     by false e = means-nil delays udps all
 
 variables-mean : (delays : List GateDelays) (udps : List UdpUse) (all : List OwnNet) (source : Source) (s : Instance) (scope : ℕ) (ports : List Named) (base : Place) (vs : List Variable) (inner : List ℕ)
@@ -110,7 +114,8 @@ legs-mean delays udps all source s scope ports base vs inner outer h =
     means-same delays udps all _ _ _ _ (ap (λ k. flat_map (port_legs scope ports base vs inner outer) (range_with_len 0 k)) n) whole
     (variables-mean delays udps all source s scope ports base vs inner outer 0 (length vs) h (omega arith))
 
-pub legs-within : (all : List OwnNet) (source : Source) (s : Instance) (scope : ℕ) (ports : List Named) (base : Place) (vs : List Variable) (inner : List ℕ) (outer : List (Option ℕ)) → IsLeafHere all source s scope ports base vs inner outer
+pub legs-within : (all : List OwnNet) (source : Source) (s : Instance) (scope : ℕ) (ports : List Named) (base : Place) (vs : List Variable) (inner : List ℕ) (outer : List (Option ℕ))
+    → IsLeafHere all source s scope ports base vs inner outer
     → length (flat_map (port_legs scope ports base vs inner outer) (range_with_len 0 (length vs - 0))) ≤ length (legs source s)
 legs-within all source s scope ports base vs inner outer h =
     let m = legs-mean [] [] all source s scope ports base vs inner outer h in

@@ -32,7 +32,8 @@ use Rattle.elab_elements.proofs.NextChild.{passes-by}
 use Rattle.elab_elements.proofs.ReadHere.{row-is}
 use Rattle.elab_elements.proofs.StandingAt.{at-place}
 
-module _ (source : Source) (top : Module) (corner : Corner) (ps : List Placed) (library : Library) (rows : Rows) (number : ℕ) (vs : List Variable) (row inside : List ℕ) (delays first next k : ℕ) (s : Instance) where
+module _ (source : Source) (top : Module) (corner : Corner) (ps : List Placed) (library : Library) (rows : Rows) (number : ℕ) (vs : List Variable) (row inside : List ℕ) (delays first next k : ℕ)
+    (s : Instance) where
   pub assignment-elements : (j : Join) → IsMember source top corner ps library rows number vs row inside delays first next k (assignment j) s
       → passes source s j.place (bits vs j.left) (bits vs j.right) ≡ member_elements source corner (tick_of source top) s (k, assignment j)
   assignment-elements j h = ap (λ ws. passes source s j.place (bits ws j.left) (bits ws j.right)) h.here.numbers.table
@@ -40,7 +41,8 @@ module _ (source : Source) (top : Module) (corner : Corner) (ps : List Placed) (
   pub assignment-next : (j : Join) → IsMember source top corner ps library rows number vs row inside delays first next k (assignment j) s → IsNext source s (k + 1) next
   assignment-next j h = passes-by source s k next (assignment j) h.member refl h.is_next
 
-  pub declared-elements : (n : Named) (e : Expression) → IsMember source top corner ps library rows number vs row inside delays first next k (assignment (record { place = n.place; left = signal n None; right = e })) s
+  pub declared-elements : (n : Named) (e : Expression) → IsMember source top corner ps library rows number vs row inside delays first next k
+      (assignment (record { place = n.place; left = signal n None; right = e })) s
       → passes source s n.place (leaf_bits vs (whole n)) (bits vs e) ≡ member_elements source corner (tick_of source top) s (k, assignment (record { place = n.place; left = signal n None; right = e }))
   declared-elements n e h =
       ap (λ ws. passes source s n.place (leaf_bits ws (whole n)) (bits ws e)) h.here.numbers.table
@@ -72,7 +74,8 @@ module _ (source : Source) (top : Module) (corner : Corner) (ps : List Placed) (
 
   -- ---- of a member that is one of these
 
-  pub as-member : (x y : Member) → x ≡ y → IsMember source top corner ps library rows number vs row inside delays first next k x s → IsMember source top corner ps library rows number vs row inside delays first next k y s
+  pub as-member : (x y : Member) → x ≡ y → IsMember source top corner ps library rows number vs row inside delays first next k x s
+      → IsMember source top corner ps library rows number vs row inside delays first next k y s
   as-member x y e h = subst (λ z. IsMember source top corner ps library rows number vs row inside delays first next k z s) e h
 
   pub assignment-same : (x : Member) (j : Join) → x ≡ assignment j → IsMember source top corner ps library rows number vs row inside delays first next k x s
@@ -82,7 +85,8 @@ module _ (source : Source) (top : Module) (corner : Corner) (ps : List Placed) (
   pub assignment-after : (x : Member) (j : Join) → x ≡ assignment j → IsMember source top corner ps library rows number vs row inside delays first next k x s → IsNext source s (k + 1) next
   assignment-after x j e h = assignment-next j (as-member x (assignment j) e h)
 
-  pub declared-same : (x : Member) (n : Named) (v : Expression) → x ≡ assignment (record { place = n.place; left = signal n None; right = v }) → IsMember source top corner ps library rows number vs row inside delays first next k x s
+  pub declared-same : (x : Member) (n : Named) (v : Expression) → x ≡ assignment (record { place = n.place; left = signal n None; right = v })
+      → IsMember source top corner ps library rows number vs row inside delays first next k x s
       → passes source s n.place (leaf_bits vs (whole n)) (bits vs v) ≡ member_elements source corner (tick_of source top) s (k, x)
   declared-same x n v e h = declared-elements n v (as-member x _ e h) ∙ ap (λ y. member_elements source corner (tick_of source top) s (k, y)) (sym e)
 
@@ -98,7 +102,8 @@ module _ (source : Source) (top : Module) (corner : Corner) (ps : List Placed) (
       → IsMember source top corner ps library rows number vs row inside delays first next k x s
       → HasTerminals (nets source top) s k first (outputs_of vs (output_count g (length es)) es) (inputs_of vs (output_count g (length es)) es)
   gate-fit x g d i es same e h =
-      subst (λ es. HasTerminals (nets source top) s k first (outputs_of vs (output_count g (length es)) es) (inputs_of vs (output_count g (length es)) es)) (sym same) (gate-fits g d i (as-member x (gate g d i) e h))
+      subst (λ es. HasTerminals (nets source top) s k first (outputs_of vs (output_count g (length es)) es) (inputs_of vs (output_count g (length es)) es)) (sym same)
+      (gate-fits g d i (as-member x (gate g d i) e h))
 
   pub gate-listed : (x : Member) (g : GateKind) (d : Option Delay) (i : GateInstance) (es : List Expression) → es ≡ i.terminals → x ≡ gate g d i
       → IsMember source top corner ps library rows number vs row inside delays first next k x s
@@ -108,7 +113,8 @@ module _ (source : Source) (top : Module) (corner : Corner) (ps : List Placed) (
       ap (λ es. terminal_elements source s i.place k (Gate g (delays_at library.gate_delays.items delays)) (outputs_of vs (output_count g (length es)) es) (inputs_of vs (output_count g (length es)) es)) same
       ∙ gate-elements g d i (as-member x (gate g d i) e h) ∙ ap (λ y. member_elements source corner (tick_of source top) s (k, y)) (sym e)
 
-  pub gate-after : (x : Member) (g : GateKind) (d : Option Delay) (i : GateInstance) → x ≡ gate g d i → IsMember source top corner ps library rows number vs row inside delays first next k x s → IsNext source s (k + 1) next
+  pub gate-after : (x : Member) (g : GateKind) (d : Option Delay) (i : GateInstance) → x ≡ gate g d i → IsMember source top corner ps library rows number vs row inside delays first next k x s
+      → IsNext source s (k + 1) next
   gate-after x g d i e h = gate-next g d i (as-member x (gate g d i) e h)
 
   pub path-same : (x : Member) (p : SpecifyPath) (place : Place) → x ≡ path p → p.place ≡ place

@@ -34,7 +34,8 @@ use Rattle.elab_nets.specs.declared.rows.Rows.{Rows}
 use Rattle.elab_nets.specs.Rows.{first_of_member, part_of, HasRow}
 use Rattle.elab_nets.specs.Turns.{members_of}
 use Rattle.elab_nets.proofs.ChildRows.{nets-within, refuses-more}
-use Rattle.elab_nets.proofs.MemberTurns.{next-is, taken, get-map}
+use Rattle.elab_nets.proofs.MemberTurns.{get-map}
+use Rattle.elab_nets.proofs.NumberedLists.{next-is, taken}
 use Rattle.elab_elements.specs.declared.placing.Placing.{Placing}
 use Rattle.elab_elements.specs.Adding.{Adds, HasDriven}
 use Rattle.elab_elements.specs.Seen.{element_in}
@@ -124,7 +125,7 @@ module _ (source : Source) (top : Module) (corner : Corner) (ps : List Placed) (
   one-added k next after x old mid new e a m n =
       let f = member_elements source corner (tick_of source top) s in
       let all : flat_map f (take k (members_of s)) ++ f (k, x) ≡ flat_map f (take (k + 1) (members_of s)) =
-      sym (ap (flat_map f) (taken s k x e) ∙ flat_map-append f (take k (members_of s)) ((k, x) ∷ []) ∙ ap (λ ys. flat_map f (take k (members_of s)) ++ ys) (append-nil (f (k, x)))) in
+      sym (ap (flat_map f) (taken (members s.step.definition) k x e) ∙ flat_map-append f (take k (members_of s)) ((k, x) ∷ []) ∙ ap (λ ys. flat_map f (take k (members_of s)) ++ ys) (append-nil (f (k, x)))) in
       record {
         adds = subst (Adds library.gate_delays.items library.udps.items (nets source top) old new) all
             (adds-both library.gate_delays.items library.udps.items (nets source top) old mid new (flat_map f (take k (members_of s))) (f (k, x)) a.adds m);
@@ -145,7 +146,7 @@ module _ (source : Source) (top : Module) (corner : Corner) (ps : List Placed) (
       let c = adds-count library.gate_delays.items library.udps.items (nets source top) old mid (flat_map f (take k (members_of s))) a.adds in
       let w : length (flat_map f (members_of s)) ≡ length (flat_map f (take k (members_of s))) + length (f (k, x) ++ flat_map f (drop (k + 1) (members_of s))) =
       ap (λ ms. length (flat_map f ms)) (sym (take-append-drop k (members_of s))) ∙ ap length (flat_map-append f (take k (members_of s)) (drop k (members_of s)))
-      ∙ length-append (flat_map f (take k (members_of s))) (flat_map f (drop k (members_of s))) ∙ ap (λ ms. length (flat_map f (take k (members_of s))) + length (flat_map f ms)) (next-is s k x e) in
+      ∙ length-append (flat_map f (take k (members_of s))) (flat_map f (drop k (members_of s))) ∙ ap (λ ms. length (flat_map f (take k (members_of s))) + length (flat_map f ms)) (next-is (members s.step.definition) k x e) in
       let v = length-append (f (k, x)) (flat_map f (drop (k + 1) (members_of s))) in
       refuses-more _ _ r (omega arith) refused
 
@@ -187,7 +188,7 @@ module _ (source : Source) (top : Module) (corner : Corner) (ps : List Placed) (
   first-few k first x e f =
       let split = at-split (instances source top) number s h.at.there in
       let g = first-is k first x e f in
-      let whole : members_of s ≡ take k (members_of s) ++ (k, x) ∷ drop (k + 1) (members_of s) = sym (take-append-drop k (members_of s)) ∙ ap (λ xs. take k (members_of s) ++ xs) (next-is s k x e) in
+      let whole : members_of s ≡ take k (members_of s) ++ (k, x) ∷ drop (k + 1) (members_of s) = sym (take-append-drop k (members_of s)) ∙ ap (λ xs. take k (members_of s) ++ xs) (next-is (members s.step.definition) k x e) in
       let le = nets-within source top (take number (instances source top)) (drop (suc number) (instances source top)) s (take k (members_of s)) (drop (k + 1) (members_of s)) (k, x) split.0 whole in
       let few : length (nets source top) ≤ count_limit = h.at.read.have_rows.few in
       omega arith

@@ -30,7 +30,7 @@ use Rattle.elab_modules.specs.Ready.{HasReady, IsUdp, MemberReady}
 use Rattle.elab_nets.specs.declared.rows.Rows.{Rows}
 use Rattle.elab_nets.proofs.Children.{child-in}
 use Rattle.elab_nets.proofs.Defined.{found-none, is-defined}
-use Rattle.elab_nets.proofs.Placings.{no-level}
+use Rattle.elab_hierarchy.proofs.FaultlessTree.{no-children_at_limit}
 use Rattle.elab_elements.specs.Adding.{HasTerminals}
 use Rattle.elab_elements.specs.Next.{IsNext}
 use Rattle.elab_elements.specs.Standing.{IsAt, IsInside, IsMember}
@@ -78,7 +78,8 @@ pub record NamesPrimitive (source : Source) (ready : Library) (n : List ℕ) (u 
   pub is : definition_of source n ≡ Some (a_primitive definition)
   pub table : IsUdp ready.udps.items u definition
 
-module _ (source : Source) (top : Module) (corner : Corner) (ps : List Placed) (library : Library) (rows : Rows) (number : ℕ) (vs : List Variable) (row inside : List ℕ) (delays first next k : ℕ) (n : Named) (d : Option Delay)
+module _ (source : Source) (top : Module) (corner : Corner) (ps : List Placed) (library : Library) (rows : Rows) (number : ℕ) (vs : List Variable) (row inside : List ℕ) (delays first next k : ℕ)
+    (n : Named) (d : Option Delay)
     (t : code_text.Instance) (s : Instance) (h : IsMember source top corner ps library rows number vs row inside delays first next k (instance n d (view_instance t)) s) where
   there : In s (instances source top)
   there = at-place (instances source top) number s h.at.there
@@ -142,7 +143,7 @@ module _ (source : Source) (top : Module) (corner : Corner) (ps : List Placed) (
         by (suc l) e = (l, e)
         by zero e =
             let z : 0 + k ≡ k = omega arith in
-            absurd (none-chosen (λ i. child_of_member source i.0 i.1) 0 (members s.step.definition) k (instance n d (view_instance t)) the_text (no-level source top s h.at.read.shallow there e) h.member
+            absurd (none-chosen (λ i. child_of_member source i.0 i.1) 0 (members s.step.definition) k (instance n d (view_instance t)) the_text (no-children_at_limit source top s h.at.read.shallow there e) h.member
             (ap (λ j. child_of_member source j (instance n d (view_instance t))) z ∙ is-child))
 
     taken : IsChildAt source s k next level.0 the_text
@@ -183,7 +184,8 @@ module _ (source : Source) (top : Module) (corner : Corner) (ps : List Placed) (
         subst (λ ws. HasTerminals (nets source top) s k first (outputs_of ws 1 values) (inputs_of ws 1 values)) (sym h.here.numbers.table)
         (primitive-terminals source top corner s k first n d (view_instance t) p.definition p.is faultless h.numbered)
 
-    pub primitive-elements : terminal_elements source s t.place k (Udp (udp_at library.udps.items u).rows (udp_at library.udps.items u).first (delays_at library.gate_delays.items delays)) (outputs_of vs 1 values)
+    pub primitive-elements : terminal_elements source s t.place k (Udp (udp_at library.udps.items u).rows (udp_at library.udps.items u).first (delays_at library.gate_delays.items delays))
+        (outputs_of vs 1 values)
         (inputs_of vs 1 values) ≡ member_elements source corner (tick_of source top) s (k, instance n d (view_instance t))
     primitive-elements =
         (λ j. terminal_elements source s t.place k (Udp (p.table.rows j) (p.table.first j) (h.ticks j)) (outputs_of (h.here.numbers.table j) 1 values) (inputs_of (h.here.numbers.table j) 1 values))

@@ -28,7 +28,7 @@ use Rattle.elab_modules.specs.declared.prepared.Prepared.{Prepared}
 use Rattle.elab_nets.specs.Rows.{HasRow}
 use Rattle.elab_nets.specs.declared.rows.Rows.{Rows}
 use Rattle.elab_nets.specs.Turns.{members_of}
-use Rattle.elab_nets.proofs.MemberTurns.{next-is, taken}
+use Rattle.elab_nets.proofs.NumberedLists.{next-is, taken}
 use Rattle.elab_elements.specs.Adding.{IsHere}
 use Rattle.elab_elements.specs.Standing.{HasPaths}
 use Rattle.elab_elements.specs.Words.{net_in, path_puts}
@@ -74,17 +74,20 @@ pub record StandBetween (m : Module) (k : ℕ) (x : Member) (start end : ℕ) : 
   pub starts : start ≡ ends_before m k
   pub ends : end ≡ ends_before m k + length (first_ends m (k, x))
 
-pub stand-between : (source : Source) (top : Module) (rows : Rows) (number : ℕ) (prepared : Prepared) (row : List ℕ) (k : ℕ) (x : Member) (s : Instance) (start end : ℕ) → HasPaths source top rows number prepared row k x s
+pub stand-between : (source : Source) (top : Module) (rows : Rows) (number : ℕ) (prepared : Prepared) (row : List ℕ) (k : ℕ) (x : Member) (s : Instance) (start end : ℕ)
+    → HasPaths source top rows number prepared row k x s
     → slice_get prepared.ends.starts.items k ≡ Some start → slice_get prepared.ends.starts.items (k + 1) ≡ Some end → StandBetween s.step.definition k x start end
 stand-between source top rows number prepared row k x s start end h a b =
     let m = s.step.definition in
     let f = first_ends m in
     let below : k < length (members m) = slice_get_within (members m) k x h.member in
     let before = flat_map f (take k (members_of s)) in
-    let more : flat_map f (take (k + 1) (members_of s)) ≡ before ++ f (k, x) = ap (flat_map f) (taken s k x h.member) ∙ flat_map-append f (take k (members_of s)) ((k, x) ∷ []) ∙ ap (λ bs. before ++ bs) (append-nil (f (k, x))) in
+    let more : flat_map f (take (k + 1) (members_of s)) ≡ before ++ f (k, x) = ap (flat_map f) (taken (members s.step.definition) k x h.member) ∙ flat_map-append f (take k (members_of s)) ((k, x) ∷ [])
+    ∙ ap (λ bs. before ++ bs) (append-nil (f (k, x))) in
     record {
       after = flat_map f (drop (k + 1) (members_of s));
-      whole = ap (flat_map f) (sym (take-append-drop k (members_of s)) ∙ ap (λ xs. take k (members_of s) ++ xs) (next-is s k x h.member)) ∙ flat_map-append f (take k (members_of s)) ((k, x) ∷ drop (k + 1) (members_of s));
+      whole = ap (flat_map f) (sym (take-append-drop k (members_of s)) ∙ ap (λ xs. take k (members_of s) ++ xs) (next-is (members s.step.definition) k x h.member))
+          ∙ flat_map-append f (take k (members_of s)) ((k, x) ∷ drop (k + 1) (members_of s));
       starts = same-some start (ends_before m k) (sym a ∙ h.is_prepared.ends.starts k (omega arith));
       ends = same-some end (ends_before m (k + 1)) (sym b ∙ h.is_prepared.ends.starts (k + 1) (omega arith)) ∙ ap length more ∙ length-append before (f (k, x));
     }
@@ -112,17 +115,20 @@ pub record IsPartAt (row : List ℕ) (prepared : Prepared) (k : ℕ) (x : Member
   pub bits : bits_seen prepared.table (take (end - start) (drop start prepared.ends.bits.items)) ≡ first_ends s.step.definition (k, x)
   pub in_row : All (λ i. i < length row) (take (end - start) (drop start prepared.ends.bits.items))
 
-pub is-part : (source : Source) (top : Module) (rows : Rows) (number : ℕ) (prepared : Prepared) (row : List ℕ) (k : ℕ) (x : Member) (s : Instance) (start end : ℕ) → HasPaths source top rows number prepared row k x s
+pub is-part : (source : Source) (top : Module) (rows : Rows) (number : ℕ) (prepared : Prepared) (row : List ℕ) (k : ℕ) (x : Member) (s : Instance) (start end : ℕ)
+    → HasPaths source top rows number prepared row k x s
     → start ≡ slice_index_or prepared.ends.starts.items k start → end ≡ slice_index_or prepared.ends.starts.items (k + 1) end → IsPartAt row prepared k x s start end
 is-part source top rows number prepared row k x s start end h a b =
     let m = s.step.definition in
     let e = h.is_prepared.ends in
     let more = starts-within source top rows number prepared row k x s h in
     let starts = prepared.ends.starts.items in
-    let between = stand-between source top rows number prepared row k x s start end h (slice_get-get_or starts k start (omega (arith, more)) ∙ ap Some (sym a)) (slice_get-get_or starts (k + 1) end more ∙ ap Some (sym b)) in
+    let between = stand-between source top rows number prepared row k x s start end h (slice_get-get_or starts k start (omega (arith, more)) ∙ ap Some (sym a))
+    (slice_get-get_or starts (k + 1) end more ∙ ap Some (sym b)) in
     let part = part-is (path_ends m) (flat_map (first_ends m) (take k (members_of s))) (first_ends m (k, x)) between.after start end between.whole between.starts between.ends in
     let bits = prepared.ends.bits.items in
-    let width : length row ≡ length (all_bits (variables m)) = ap length h.here.numbers.numbers ∙ length-map (all_bits prepared.table) (number_at (nets source top) source s) ∙ ap (λ vs. length (all_bits vs)) h.is_prepared.table in
+    let width : length row ≡ length (all_bits (variables m)) = ap length h.here.numbers.numbers ∙ length-map (all_bits prepared.table) (number_at (nets source top) source s)
+    ∙ ap (λ vs. length (all_bits vs)) h.is_prepared.table in
     let first = between.starts in
     let last = between.ends in
     record {
@@ -143,12 +149,14 @@ ends-part all prepared row ends k x s start end h e =
     let f : NetBit → ℕ = λ b. number_of all (inner_spot s b) in
     let n : length ends ≡ length (path_ends s.step.definition) = ap length e ∙ length-map (path_ends s.step.definition) f in
     let within = h.within in (
-      ap (λ ns. take (end - start) (drop start ns)) e ∙ ap (take (end - start)) (drop-map f start (path_ends s.step.definition)) ∙ take-map f (end - start) (drop start (path_ends s.step.definition)) ∙ ap (map f) h.part,
+      ap (λ ns. take (end - start) (drop start ns)) e ∙ ap (take (end - start)) (drop-map f start (path_ends s.step.definition)) ∙ take-map f (end - start) (drop start (path_ends s.step.definition))
+          ∙ ap (map f) h.part,
       omega (arith, n, within),
     )
 
 -- the Paths of a member
-pub member-paths : (delays : List GateDelays) (udps : List UdpUse) (source : Source) (top : Module) (rows : Rows) (number : ℕ) (prepared : Prepared) (row bits ends whole : List ℕ) (place : Place) (k : ℕ) (x : Member) (s : Instance)
+pub member-paths : (delays : List GateDelays) (udps : List UdpUse) (source : Source) (top : Module) (rows : Rows) (number : ℕ) (prepared : Prepared) (row bits ends whole : List ℕ) (place : Place) (k : ℕ)
+    (x : Member) (s : Instance)
     (start end : ℕ) → HasPaths source top rows number prepared row k x s → start ≡ slice_index_or prepared.ends.starts.items k start → end ≡ slice_index_or prepared.ends.starts.items (k + 1) end
     → bits ≡ take (end - start) (drop start prepared.ends.bits.items) → ends ≡ take (end - start) (drop start whole)
     → whole ≡ map (λ b. number_of (nets source top) (inner_spot s b)) (path_ends s.step.definition)

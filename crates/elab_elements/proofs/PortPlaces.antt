@@ -25,7 +25,8 @@ first-unseen : (seen ns : List (List ℕ)) (k : ℕ) (n : List ℕ) → slice_ge
 first-unseen seen [] k n h = cc
 first-unseen seen (m ∷ ns) k n h = by (is_among m seen) refl h (first-unseen seen ns k n) (λ j g. first-unseen (m ∷ seen) ns j n g)
   where
-    there : (k : ℕ) → is_among m seen ≡ false → slice_get (m ∷ first_of_each (m ∷ seen) ns) k ≡ Some n → ((j : ℕ) → slice_get (first_of_each (m ∷ seen) ns) j ≡ Some n → is_among n (m ∷ seen) ≡ false) → is_among n seen ≡ false
+    there : (k : ℕ) → is_among m seen ≡ false → slice_get (m ∷ first_of_each (m ∷ seen) ns) k ≡ Some n → ((j : ℕ) → slice_get (first_of_each (m ∷ seen) ns) j ≡ Some n → is_among n (m ∷ seen) ≡ false)
+        → is_among n seen ≡ false
     there zero e h rest = let g : m ≡ n = cc in ap (λ x. is_among x seen) (sym g) ∙ e
     there (suc j) e h rest = (or-neither (bytes_eq n m) (is_among n seen) (rest j h)).1
 

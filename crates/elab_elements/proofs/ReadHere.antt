@@ -34,7 +34,7 @@ use Rattle.elab_modules.specs.declared.library.Ready.TheVariants as ready
 use Rattle.elab_modules.specs.declared.prepared.Prepared.{Prepared}
 use Rattle.elab_modules.specs.Ready.{IsPrepared}
 use Rattle.elab_nets.specs.declared.rows.Rows.{Rows}
-use Rattle.elab_nets.proofs.Placings.{no-level}
+use Rattle.elab_hierarchy.proofs.FaultlessTree.{no-children_at_limit}
 use Rattle.elab_nets.specs.Outside.{outer_number}
 use Rattle.elab_nets.specs.Rows.{part_of, HasRow}
 use Rattle.elab_elements.specs.declared.placing.Placing.{Placing}
@@ -161,7 +161,7 @@ alone-by source (suc n) m h = by (children_in source m)
 
 pub alone-is : (source : Source) (top : Module) (corner : Corner) (ps : List Placed) (ready : Library) (rows : Rows) (i : ℕ) (s : Instance) (p : Placed) → IsAt source top corner ps ready rows i s → slice_get ps i ≡ Some p
     → has_no_child source s.step ≡ (size source s.step.levels s.step.definition == 1)
-alone-is source top corner ps ready rows i s p h e = alone-by source s.step.levels s.step.definition (no-level source top s h.read.shallow (at-place (instances source top) i s h.there))
+alone-is source top corner ps ready rows i s p h e = alone-by source s.step.levels s.step.definition (no-children_at_limit source top s h.read.shallow (at-place (instances source top) i s h.there))
 
 pub end-is : (source : Source) (top : Module) (corner : Corner) (ps : List Placed) (ready : Library) (rows : Rows) (i : ℕ) (s : Instance) (p : Placed) → IsAt source top corner ps ready rows i s → slice_get ps i ≡ Some p
     → (p.end ≡ i + size source s.step.levels s.step.definition) × (1 ≤ size source s.step.levels s.step.definition)
@@ -206,7 +206,8 @@ no-legs delays udps all source s old e =
 
 -- ---- the inner nets of its ends
 
-pub ends-within : (source : Source) (top : Module) (rows : Rows) (before : List Instance) (s : Instance) (i : ℕ) (e : PathEnds) (count : ℕ) → length before ≡ i → HasRow source top rows before s → AreEnds s.step.definition e
+pub ends-within : (source : Source) (top : Module) (rows : Rows) (before : List Instance) (s : Instance) (i : ℕ) (e : PathEnds) (count : ℕ) → length before ≡ i → HasRow source top rows before s
+    → AreEnds s.step.definition e
     → count ≡ length e.bits.items → (start : ℕ) × ((slice_get rows.end_starts.items i ≡ Some start) × (start + count ≤ length rows.ends.items))
 ends-within source top rows before s i e count at r are n =
     let same : count ≡ length (path_ends s.step.definition) = n ∙ sym (length-map e.bits.items (bit_seen (variables s.step.definition))) ∙ ap length are.bits in

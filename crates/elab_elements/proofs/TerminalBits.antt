@@ -109,7 +109,8 @@ pub chosen-append : {A B C : Type 0} (g : B → Option C) (h : A → B) (xs ys :
 chosen-append g h [] ys = refl
 chosen-append {C = C} g h (x ∷ xs) ys = by (g (h x)) (chosen-append g h xs ys)
   where
-    by : (o : Option C) → filter_map g (map h (xs ++ ys)) ≡ filter_map g (map h xs) ++ filter_map g (map h ys) → cons_option o (filter_map g (map h (xs ++ ys))) ≡ cons_option o (filter_map g (map h xs)) ++ filter_map g (map h ys)
+    by : (o : Option C) → filter_map g (map h (xs ++ ys)) ≡ filter_map g (map h xs) ++ filter_map g (map h ys)
+        → cons_option o (filter_map g (map h (xs ++ ys))) ≡ cons_option o (filter_map g (map h xs)) ++ filter_map g (map h ys)
     by None e = e
     by (Some c) e = ap (λ zs. c ∷ zs) e
 

@@ -56,7 +56,8 @@ outputs-mean delays udps all source s scope vs inside place k spots (b ∷ outs)
     (output_element source s place (kind_in delays udps k) spots (view_bit vs b)) (flat_map (output_element source s place (kind_in delays udps k) spots) (map (view_bit vs) outs))
     (output-means delays udps all source s scope vs inside place k spots b e h n l.0) (outputs-mean delays udps all source s scope vs inside place k spots outs e h n l.1)
 
-output-places : (source : Source) (s : Instance) (scope : ℕ) (vs : List Variable) (inside : List ℕ) (place : Place) (k : ElementKind) (kk : Kind) (numbers : List ℕ) (spots : List Spot) (outs : List code_bit.Bit)
+output-places : (source : Source) (s : Instance) (scope : ℕ) (vs : List Variable) (inside : List ℕ) (place : Place) (k : ElementKind) (kk : Kind) (numbers : List ℕ) (spots : List Spot)
+    (outs : List code_bit.Bit)
     → places_in (flat_map (output_puts scope place k numbers inside) outs) ≡ component_places (flat_map (output_element source s place kk spots) (map (view_bit vs) outs))
 output-places source s scope vs inside place k kk numbers spots [] = refl
 output-places source s scope vs inside place k kk numbers spots (bit.Net i ∷ outs) = ap (λ ps. place ∷ ps) (output-places source s scope vs inside place k kk numbers spots outs)
@@ -191,7 +192,8 @@ pub outputs-refused : (source : Source) (s : Instance) (scope k first : ℕ) (vs
 outputs-refused source s scope k first vs row inside place e kk outs ins numbers old r c h =
     let whole = terminals-are scope first row inside place e outs ins numbers numbers c c in
     let count = ap length whole ∙ terminals-count source s scope k first vs row inside place e kk outs ins in
-    refuses-count old (flat_map (output_puts scope place e numbers inside) outs ++ flat_map (constant_puts scope) (zip ins numbers)) (terminal_elements source s place k kk (map (view_bit vs) outs) (map (view_bit vs) ins)) r
+    refuses-count old (flat_map (output_puts scope place e numbers inside) outs ++ flat_map (constant_puts scope) (zip ins numbers))
+    (terminal_elements source s place k kk (map (view_bit vs) outs) (map (view_bit vs) ins)) r
     (omega (arith, count)) (refuses-front old (flat_map (output_puts scope place e numbers inside) outs) (flat_map (constant_puts scope) (zip ins numbers)) r h)
 
 pub constants-refused : (source : Source) (s : Instance) (scope k first : ℕ) (vs : List Variable) (row inside : List ℕ) (place : Place) (e : ElementKind) (kk : Kind) (outs ins : List code_bit.Bit)
@@ -201,5 +203,6 @@ pub constants-refused : (source : Source) (s : Instance) (scope k first : ℕ) (
 constants-refused source s scope k first vs row inside place e kk outs ins numbers again old mid r c d p h =
     let whole = terminals-are scope first row inside place e outs ins numbers again c d in
     let count = ap length whole ∙ terminals-count source s scope k first vs row inside place e kk outs ins in
-    refuses-count old (flat_map (output_puts scope place e numbers inside) outs ++ flat_map (constant_puts scope) (zip ins again)) (terminal_elements source s place k kk (map (view_bit vs) outs) (map (view_bit vs) ins)) r
+    refuses-count old (flat_map (output_puts scope place e numbers inside) outs ++ flat_map (constant_puts scope) (zip ins again))
+    (terminal_elements source s place k kk (map (view_bit vs) outs) (map (view_bit vs) ins)) r
     (omega (arith, count)) (refuses-back old mid (flat_map (output_puts scope place e numbers inside) outs) (flat_map (constant_puts scope) (zip ins again)) r p h)

@@ -46,7 +46,8 @@ pub record IsInside (s c : Instance) (scope : ℕ) (vs : List Variable) (text : 
   pub once : IsConnectedOnce c.step
 
 -- the members of an instance, whose module stands at a place of the definitions, and the number of the first instance in it
-pub record AreMembers (source : Source) (top : Module) (corner : Corner) (placed : List Placed) (ready : Library) (numbers : Rows) (number definition : ℕ) (prepared : Prepared) (row inside : List ℕ) (next : ℕ) (s : Instance) : Type 0 where
+pub record AreMembers (source : Source) (top : Module) (corner : Corner) (placed : List Placed) (ready : Library) (numbers : Rows) (number definition : ℕ) (prepared : Prepared) (row inside : List ℕ)
+    (next : ℕ) (s : Instance) : Type 0 where
   pub at : IsAt source top corner placed ready numbers number s
   pub here : IsHere (nets source top) source s number prepared.table row
   pub drives : HasDriven (nets source top) source s prepared.table inside
@@ -55,7 +56,8 @@ pub record AreMembers (source : Source) (top : Module) (corner : Corner) (placed
   pub first_child : next ≡ suc number
 
 -- the member k of an instance: its delays stand at a place of the table, its nets have the numbers from `first` on, and the next instance the number `next`
-pub record IsMember (source : Source) (top : Module) (corner : Corner) (placed : List Placed) (ready : Library) (numbers : Rows) (number : ℕ) (vs : List Variable) (row inside : List ℕ) (delays first next k : ℕ) (x : Member) (s : Instance) : Type 0 where
+pub record IsMember (source : Source) (top : Module) (corner : Corner) (placed : List Placed) (ready : Library) (numbers : Rows) (number : ℕ) (vs : List Variable) (row inside : List ℕ)
+    (delays first next k : ℕ) (x : Member) (s : Instance) : Type 0 where
   pub at : IsAt source top corner placed ready numbers number s
   pub here : IsHere (nets source top) source s number vs row
   pub drives : HasDriven (nets source top) source s vs inside

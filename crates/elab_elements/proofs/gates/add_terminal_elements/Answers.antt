@@ -18,7 +18,8 @@ pub returns-in_err-add_outputs-clause-refused : goal.returns-in_err-add_outputs-
 returns-in_err-add_outputs-clause-refused c =
     exit-by _ c.from_residual-in_err-add_outputs.result c.in_err-add_outputs.field-0.0 (err_from_is_err_and c.from_residual-in_err-add_outputs.result c.from_residual-in_err-add_outputs.ensures.1)
     (λ delays udps source s k.
-    outputs-refused source s c.args.scope k c.args.first c.args.table.now c.args.row.now c.args.driven.now c.args.place c.args.kind (kind_in delays udps c.args.kind) c.args.outputs.now c.args.inputs.now c.as_slice.result.now
+    outputs-refused source s c.args.scope k c.args.first c.args.table.now c.args.row.now c.args.driven.now c.args.place c.args.kind
+    (kind_in delays udps c.args.kind) c.args.outputs.now c.args.inputs.now c.as_slice.result.now
     c.args.made.now c.in_err-add_outputs.field-0.0
     (c.as_slice.ensures ∙ c.in_ok-add_inputs.ensures.inputs ∙ ap (λ xs. xs ++ input_numbers c.args.first c.args.row.now c.args.inputs.now) c.new-nets.ensures.items) c.in_err-add_outputs.ensures.refused)
 
@@ -38,7 +39,8 @@ pub returns-clause-refused : goal.returns-clause-refused
 returns-clause-refused c =
     if_err-weaker c.add_constants.result _ _
     (λ r refused. λ delays udps source s k.
-    constants-refused source s c.args.scope k c.args.first c.args.table.now c.args.row.now c.args.driven.now c.args.place c.args.kind (kind_in delays udps c.args.kind) c.args.outputs.now c.args.inputs.now c.as_slice.result.now
+    constants-refused source s c.args.scope k c.args.first c.args.table.now c.args.row.now c.args.driven.now c.args.place c.args.kind
+    (kind_in delays udps c.args.kind) c.args.outputs.now c.args.inputs.now c.as_slice.result.now
     c.as_slice-2.result.now c.args.made.now c.add_outputs.new.made r
     (c.as_slice.ensures ∙ c.in_ok-add_inputs.ensures.inputs ∙ ap (λ xs. xs ++ input_numbers c.args.first c.args.row.now c.args.inputs.now) c.new-nets.ensures.items)
     (c.as_slice-2.ensures ∙ c.in_ok-add_inputs.ensures.inputs ∙ ap (λ xs. xs ++ input_numbers c.args.first c.args.row.now c.args.inputs.now) c.new-nets.ensures.items) c.in_ok-add_outputs.ensures.puts refused)

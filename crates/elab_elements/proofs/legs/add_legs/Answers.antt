@@ -14,7 +14,8 @@ pub returns-clause-legs : goal.returns-clause-legs
 returns-clause-legs c =
     on_ok_weaker c.add_all_legs.result
     (λ puts. λ delays udps all source s here over at leaf ports declared. adds delays udps all c.args.made.now c.add_all_legs.new.made _ _
-    (legs-mean delays udps all source s c.args.scope (map view_name c.args.ports.now) c.args.place c.args.table.now c.args.inner.now c.args.outer.now (record { here = here; over = over; at = at; ports_are = ports; declared = declared; leaf = leaf }))
+    (legs-mean delays udps all source s c.args.scope (map view_name c.args.ports.now) c.args.place c.args.table.now c.args.inner.now c.args.outer.now
+    (record { here = here; over = over; at = at; ports_are = ports; declared = declared; leaf = leaf }))
     puts)
     c.add_all_legs.ensures.puts
 
@@ -23,6 +24,7 @@ returns-clause-refused c =
     if_err-weaker c.add_all_legs.result _ _
     (λ r refused. λ all source s here over at leaf ports declared. refuses-count c.args.made.now
     (flat_map (port_legs c.args.scope (map view_name c.args.ports.now) c.args.place c.args.table.now c.args.inner.now c.args.outer.now) (range_with_len 0 (length c.args.table.now - 0))) (legs source s) r
-    (legs-within all source s c.args.scope (map view_name c.args.ports.now) c.args.place c.args.table.now c.args.inner.now c.args.outer.now (record { here = here; over = over; at = at; ports_are = ports; declared = declared; leaf = leaf }))
+    (legs-within all source s c.args.scope (map view_name c.args.ports.now) c.args.place c.args.table.now c.args.inner.now c.args.outer.now
+    (record { here = here; over = over; at = at; ports_are = ports; declared = declared; leaf = leaf }))
     refused)
     c.add_all_legs.ensures.refused

@@ -24,7 +24,8 @@ returns-clause-elements c =
     let ins = right ∙ ap (λ k. inputs_of c.args.table.now k es) n in
     on_ok_weaker c.add_terminal_elements.result
     (λ added. λ listed udps all source s k here drives terminals below.
-    subst (λ (x : List Bit × List Bit). Adds listed udps all c.args.made.now c.add_terminal_elements.new.made (terminal_elements source s c.args.place k (Gate c.args.kind (delays_at listed c.args.delays)) x.0 x.1))
+    subst (λ (x : List Bit × List Bit). Adds listed udps all c.args.made.now c.add_terminal_elements.new.made
+    (terminal_elements source s c.args.place k (Gate c.args.kind (delays_at listed c.args.delays)) x.0 x.1))
     (λ i. (outs i, ins i))
     (added listed udps all source s k here drives (subst (λ (x : List Bit × List Bit). HasTerminals all s k c.args.first x.0 x.1) (sym (λ i. (outs i, ins i))) terminals) below))
     c.add_terminal_elements.ensures.elements

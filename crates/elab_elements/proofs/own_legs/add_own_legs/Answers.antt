@@ -39,7 +39,8 @@ returns-clause-legs c =
     (outside-is _ _ _ _ _ _ _ _ c.module_at-module.result.now c.bits-width.result c.outer_row-outer.result.now at (prepared-is _ _ _ _ _ _ _ _ c.placed_at-placed.result c.module_at-module.result.now at c.placed_at-placed.ensures c.module_at-module.ensures) c.bits-width.ensures c.outer_row-outer.ensures)
     (c.place_of-place.ensures source s (placed-is _ _ _ _ _ _ _ _ c.placed_at-placed.result at c.placed_at-placed.ensures) (prepared-is _ _ _ _ _ _ _ _ c.placed_at-placed.result c.module_at-module.result.now at c.placed_at-placed.ensures c.module_at-module.ensures))
     (leaf-is _ _ _ _ _ _ _ _ c.placed_at-placed.result at c.placed_at-placed.ensures ∙ sym c.if-not-is_leaf.ensures)
-    (ap (map view_name) c.deref.ensures.value ∙ (prepared-is _ _ _ _ _ _ _ _ c.placed_at-placed.result c.module_at-module.result.now at c.placed_at-placed.ensures c.module_at-module.ensures).ports) (prepared-is _ _ _ _ _ _ _ _ c.placed_at-placed.result c.module_at-module.result.now at c.placed_at-placed.ensures c.module_at-module.ensures).declared)
+    (ap (map view_name) c.deref.ensures.value ∙ (prepared-is _ _ _ _ _ _ _ _ c.placed_at-placed.result c.module_at-module.result.now at c.placed_at-placed.ensures c.module_at-module.ensures).ports)
+    (prepared-is _ _ _ _ _ _ _ _ c.placed_at-placed.result c.module_at-module.result.now at c.placed_at-placed.ensures c.module_at-module.ensures).declared)
     c.add_legs.ensures.legs
 
 pub returns-clause-refused : goal.returns-clause-refused
@@ -49,5 +50,6 @@ returns-clause-refused c =
     (outside-is _ _ _ _ _ _ _ _ c.module_at-module.result.now c.bits-width.result c.outer_row-outer.result.now at (prepared-is _ _ _ _ _ _ _ _ c.placed_at-placed.result c.module_at-module.result.now at c.placed_at-placed.ensures c.module_at-module.ensures) c.bits-width.ensures c.outer_row-outer.ensures)
     (c.place_of-place.ensures source s (placed-is _ _ _ _ _ _ _ _ c.placed_at-placed.result at c.placed_at-placed.ensures) (prepared-is _ _ _ _ _ _ _ _ c.placed_at-placed.result c.module_at-module.result.now at c.placed_at-placed.ensures c.module_at-module.ensures))
     (leaf-is _ _ _ _ _ _ _ _ c.placed_at-placed.result at c.placed_at-placed.ensures ∙ sym c.if-not-is_leaf.ensures)
-    (ap (map view_name) c.deref.ensures.value ∙ (prepared-is _ _ _ _ _ _ _ _ c.placed_at-placed.result c.module_at-module.result.now at c.placed_at-placed.ensures c.module_at-module.ensures).ports) (prepared-is _ _ _ _ _ _ _ _ c.placed_at-placed.result c.module_at-module.result.now at c.placed_at-placed.ensures c.module_at-module.ensures).declared)
+    (ap (map view_name) c.deref.ensures.value ∙ (prepared-is _ _ _ _ _ _ _ _ c.placed_at-placed.result c.module_at-module.result.now at c.placed_at-placed.ensures c.module_at-module.ensures).ports)
+    (prepared-is _ _ _ _ _ _ _ _ c.placed_at-placed.result c.module_at-module.result.now at c.placed_at-placed.ensures c.module_at-module.ensures).declared)
     c.add_legs.ensures.refused

@@ -23,7 +23,8 @@ loop-to-preserved c = record {
 
 pub returns-in_err-add_pass-clause-refused : goal.returns-in_err-add_pass-clause-refused
 returns-in_err-add_pass-clause-refused c =
-    exit-by (RefusesPuts c.args.made.now (flat_map (pass_puts c.args.scope c.args.place c.args.row.now c.args.driven.now) (zip c.args.left.now c.args.right.now))) c.from_residual.result c.in_err-add_pass.field-0.0
+    exit-by (RefusesPuts c.args.made.now (flat_map (pass_puts c.args.scope c.args.place c.args.row.now c.args.driven.now)
+    (zip c.args.left.now c.args.right.now))) c.from_residual.result c.in_err-add_pass.field-0.0
     (err_from_is_err_and c.from_residual.result c.from_residual.ensures.1)
     (refuses-left c.args.made.now c.loop-to.made _ _ _ _ c.in_err-add_pass.field-0.0 c.loop-to.invariant.left
     (pair-step (pass_puts c.args.scope c.args.place c.args.row.now c.args.driven.now) c.args.left.now c.args.right.now c.loop-to.yielded (c.in-Some.to, c.in-Some.from)

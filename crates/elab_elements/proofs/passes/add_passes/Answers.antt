@@ -23,7 +23,8 @@ returns-clause-passes c =
 pub returns-clause-refused : goal.returns-clause-refused
 returns-clause-refused c =
     if_err-weaker c.add_each.result _ _
-    (λ r refused. λ all source s here drives. refuses-count c.args.made.now (flat_map (pass_puts c.args.scope c.args.place c.args.row.now c.args.driven.now) (zip c.args.left.now c.args.right.now)) (passes source s c.args.place (map (view_bit c.args.table.now) c.args.left.now) (map (view_bit c.args.table.now) c.args.right.now)) r
+    (λ r refused. λ all source s here drives. refuses-count c.args.made.now (flat_map (pass_puts c.args.scope c.args.place c.args.row.now c.args.driven.now) (zip c.args.left.now c.args.right.now))
+    (passes source s c.args.place (map (view_bit c.args.table.now) c.args.left.now) (map (view_bit c.args.table.now) c.args.right.now)) r
     (passes-within all source s c.args.scope c.args.table.now c.args.row.now c.args.driven.now c.args.place c.args.left.now c.args.right.now here drives
     (recursion_from_All (IsInRow c.args.table.now) c.args.left.now c.requires.left)
     (recursion_from_All (IsInRow c.args.table.now) c.args.right.now c.requires.right))

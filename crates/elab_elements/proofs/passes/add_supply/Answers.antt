@@ -24,7 +24,8 @@ returns-clause-passes c =
 pub returns-clause-refused : goal.returns-clause-refused
 returns-clause-refused c =
     if_err-weaker c.add_constants.result _ _
-    (λ r refused. λ all source s here drives. refuses-count c.args.made.now (flat_map (λ b. pass_puts c.args.scope c.args.place c.args.row.now c.args.driven.now (b, bit.Constant c.args.place c.args.value)) c.args.bits.now) (flat_map (λ b. pass_to source s c.args.place (b, constant c.args.place c.args.value)) (map (view_bit c.args.table.now) c.args.bits.now)) r
+    (λ r refused. λ all source s here drives. refuses-count c.args.made.now (flat_map (λ b. pass_puts c.args.scope c.args.place c.args.row.now c.args.driven.now
+    (b, bit.Constant c.args.place c.args.value)) c.args.bits.now) (flat_map (λ b. pass_to source s c.args.place (b, constant c.args.place c.args.value)) (map (view_bit c.args.table.now) c.args.bits.now)) r
     (supply-within all source s c.args.scope c.args.table.now c.args.row.now c.args.driven.now c.args.place c.args.value c.args.bits.now here drives
     (recursion_from_All (IsInRow c.args.table.now) c.args.bits.now c.requires.bits))
     refused)

@@ -45,7 +45,8 @@ part_between-ends-requires-clause-end c =
 
 pub add_paths-requires-clause-row : goal.add_paths-requires-clause-row
 add_paths-requires-clause-row c =
-    subst (All (λ i. i < length c.args.row.now)) (sym (c.part_between-bits.ensures ∙ ap (λ xs. take (c.index-end.result.now - c.index-start.result.now) (drop c.index-start.result.now xs)) c.deref.ensures.value))
+    subst (All (λ i. i < length c.args.row.now)) (sym (c.part_between-bits.ensures
+    ∙ ap (λ xs. take (c.index-end.result.now - c.index-start.result.now) (drop c.index-start.result.now xs)) c.deref.ensures.value))
     (is-part c.requires.at.0 c.requires.at.1.0 c.args.rows.now c.args.number c.args.prepared.now c.args.row.now c.args.at c.requires.at.1.1.1.0 c.requires.at.1.1.0 c.index-start.result.now c.index-end.result.now
     c.requires.at.1.1.1.1 c.index-start.ensures c.index-end.ensures).in_row
 

@@ -33,6 +33,7 @@ returns-clause-refused c =
     let right = seen-right c.args.table.now 1 es _ c.add_connected.new.room c.deref-2.result.now c.clear-2.ensures.items c.in_ok-add_connected.ensures.bits c.deref-2.ensures.value in
     if_err-weaker c.add_terminal_elements.result _ _
     (λ r refused. λ listed udps source s k. subst (λ n. RefusesCount n r)
-    (λ i. length c.args.made.now.elements.items + length (terminal_elements source s c.args.place k (Udp (udp_at udps c.args.udp).rows (udp_at udps c.args.udp).first (delays_at listed c.args.delays)) (left i) (right i)))
+    (λ i. length c.args.made.now.elements.items + length (terminal_elements source s c.args.place k (Udp (udp_at udps c.args.udp).rows (udp_at udps c.args.udp).first (delays_at listed c.args.delays))
+    (left i) (right i)))
     (refused listed udps source s k))
     c.add_terminal_elements.ensures.refused

@@ -130,7 +130,8 @@ returns-in-Instance-clause-next c =
 pub returns-in-Instance-clause-elements : goal.returns-in-Instance-clause-elements
 returns-in-Instance-clause-elements c =
     on_ok_weaker c.add_named.result (λ f. λ top corner s ready h.
-    subst (λ x. Adds c.args.library.now.gate_delays.items c.args.library.now.udps.items (nets c.args.definitions.now top) c.args.made.now c.add_named.new.made (member_elements c.args.definitions.now corner (tick_of c.args.definitions.now top) s (c.args.at, x))) (sym (ap view_member c.in-Instance.is))
+    subst (λ x. Adds c.args.library.now.gate_delays.items c.args.library.now.udps.items (nets c.args.definitions.now top) c.args.made.now c.add_named.new.made
+    (member_elements c.args.definitions.now corner (tick_of c.args.definitions.now top) s (c.args.at, x))) (sym (ap view_member c.in-Instance.is))
     (f top corner c.args.at (option_map view_delay c.in-Instance.delay.now) s
     (as-member c.args.definitions.now top corner c.args.instances.now c.args.library.now c.args.rows.now c.args.number c.args.prepared.now.table c.args.row.now c.args.driven.now c.args.delays c.args.first c.args.next c.args.at s (view_member c.args.member) _ (ap view_member c.in-Instance.is) h)))
     c.add_named.ensures.elements
@@ -138,7 +139,8 @@ returns-in-Instance-clause-elements c =
 pub returns-in-Instance-clause-refused : goal.returns-in-Instance-clause-refused
 returns-in-Instance-clause-refused c =
     if_err-weaker c.add_named.result _ _ (λ r f top corner s ready h.
-    subst (λ x. RefusesCount (length c.args.made.now.elements.items + length (member_elements c.args.definitions.now corner (tick_of c.args.definitions.now top) s (c.args.at, x))) r) (sym (ap view_member c.in-Instance.is))
+    subst (λ x. RefusesCount (length c.args.made.now.elements.items + length (member_elements c.args.definitions.now corner (tick_of c.args.definitions.now top) s (c.args.at, x))) r)
+    (sym (ap view_member c.in-Instance.is))
     (f top corner c.args.at (option_map view_delay c.in-Instance.delay.now) s
     (as-member c.args.definitions.now top corner c.args.instances.now c.args.library.now c.args.rows.now c.args.number c.args.prepared.now.table c.args.row.now c.args.driven.now c.args.delays c.args.first c.args.next c.args.at s (view_member c.args.member) _ (ap view_member c.in-Instance.is) h)))
     c.add_named.ensures.refused
@@ -165,7 +167,8 @@ returns-in_err-add_own_paths-in-Path-clause-refused c =
     (err_from_is_err_and c.from_residual-in_err-add_own_paths-in-Path.result c.from_residual-in_err-add_own_paths-in-Path.ensures.1)
     (λ top corner s ready h. subst (λ cs. RefusesCount (length c.args.made.now.elements.items + length cs) c.in_err-add_own_paths-in-Path.field-0.0)
     (path-same c.args.definitions.now top corner c.args.instances.now c.args.library.now c.args.rows.now c.args.number c.args.prepared.now.table c.args.row.now c.args.driven.now c.args.delays c.args.first c.args.next c.args.at s (view_member c.args.member) (view_path c.in-Path.path.now) c.in-Path.path.now.place (ap view_member c.in-Path.is) refl)
-    (c.in_err-add_own_paths-in-Path.ensures.refused c.args.definitions.now top s (view_member c.args.member) (has-paths c.args.definitions.now top corner c.args.instances.now c.args.library.now c.args.rows.now c.args.number c.args.prepared.now.table c.args.row.now c.args.driven.now c.args.delays c.args.first c.args.next c.args.at s c.args.prepared.now (view_member c.args.member) ready refl h)))
+    (c.in_err-add_own_paths-in-Path.ensures.refused c.args.definitions.now top s (view_member c.args.member)
+    (has-paths c.args.definitions.now top corner c.args.instances.now c.args.library.now c.args.rows.now c.args.number c.args.prepared.now.table c.args.row.now c.args.driven.now c.args.delays c.args.first c.args.next c.args.at s c.args.prepared.now (view_member c.args.member) ready refl h)))
 
 pub returns-in_ok-add_own_paths-in-Path-clause-elements : goal.returns-in_ok-add_own_paths-in-Path-clause-elements
 returns-in_ok-add_own_paths-in-Path-clause-elements c = λ top corner s ready h.

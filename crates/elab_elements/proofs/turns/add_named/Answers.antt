@@ -17,7 +17,8 @@ returns-in_default-clause-next c = λ top corner k d s h. none-next c.args.defin
 
 pub returns-in_default-clause-elements : goal.returns-in_default-clause-elements
 returns-in_default-clause-elements c = λ top corner k d s h.
-    subst (Adds c.args.library.now.gate_delays.items c.args.library.now.udps.items (nets c.args.definitions.now top) c.args.made.now c.args.made.now) (none-named c.args.definitions.now top corner c.args.instances.now c.args.library.now c.args.rows.now c.args.number c.args.table.now c.args.row.now c.args.driven.now c.args.delays c.args.first c.args.next k (view_name c.args.name) d c.args.text.now s h (sym c.in_default.ensures))
+    subst (Adds c.args.library.now.gate_delays.items c.args.library.now.udps.items (nets c.args.definitions.now top) c.args.made.now c.args.made.now)
+    (none-named c.args.definitions.now top corner c.args.instances.now c.args.library.now c.args.rows.now c.args.number c.args.table.now c.args.row.now c.args.driven.now c.args.delays c.args.first c.args.next k (view_name c.args.name) d c.args.text.now s h (sym c.in_default.ensures))
     (adds-none _ _ (nets c.args.definitions.now top) c.args.made.now)
 
 pub add_child-requires-clause-at : goal.add_child-requires-clause-at
@@ -46,7 +47,8 @@ pub returns-in_default-primitive_at-clause-elements : goal.returns-in_default-pr
 returns-in_default-primitive_at-clause-elements c =
     on_ok_weaker c.add_child.result (λ f. λ top corner k d s h.
     let m = names-module c.args.definitions.now top corner c.args.instances.now c.args.library.now c.args.rows.now c.args.number c.args.table.now c.args.row.now c.args.driven.now c.args.delays c.args.first c.args.next k (view_name c.args.name) d c.args.text.now s h c.in-Some.place (sym c.in-Some.ensures) (sym c.in_default-primitive_at.ensures) in
-    subst (Adds c.args.library.now.gate_delays.items c.args.library.now.udps.items (nets c.args.definitions.now top) c.args.made.now c.add_child.new.made) (module-elements c.args.definitions.now top corner c.args.instances.now c.args.library.now c.args.rows.now c.args.number c.args.table.now c.args.row.now c.args.driven.now c.args.delays c.args.first c.args.next k (view_name c.args.name) d c.args.text.now s h m)
+    subst (Adds c.args.library.now.gate_delays.items c.args.library.now.udps.items (nets c.args.definitions.now top) c.args.made.now c.add_child.new.made)
+    (module-elements c.args.definitions.now top corner c.args.instances.now c.args.library.now c.args.rows.now c.args.number c.args.table.now c.args.row.now c.args.driven.now c.args.delays c.args.first c.args.next k (view_name c.args.name) d c.args.text.now s h m)
     (f c.args.definitions.now top corner s (the c.args.definitions.now top corner c.args.instances.now c.args.library.now c.args.rows.now c.args.number c.args.table.now c.args.row.now c.args.driven.now c.args.delays c.args.first c.args.next k (view_name c.args.name) d c.args.text.now s h m) (the-at c.args.definitions.now top corner c.args.instances.now c.args.library.now c.args.rows.now c.args.number c.args.table.now c.args.row.now c.args.driven.now c.args.delays c.args.first c.args.next k (view_name c.args.name) d c.args.text.now s h m) (the-inside c.args.definitions.now top corner c.args.instances.now c.args.library.now c.args.rows.now c.args.number c.args.table.now c.args.row.now c.args.driven.now c.args.delays c.args.first c.args.next k (view_name c.args.name) d c.args.text.now s h m)))
     c.add_child.ensures.elements
 
@@ -54,7 +56,8 @@ pub returns-in_default-primitive_at-clause-refused : goal.returns-in_default-pri
 returns-in_default-primitive_at-clause-refused c =
     if_err-weaker c.add_child.result _ _ (λ r f top corner k d s h.
     let m = names-module c.args.definitions.now top corner c.args.instances.now c.args.library.now c.args.rows.now c.args.number c.args.table.now c.args.row.now c.args.driven.now c.args.delays c.args.first c.args.next k (view_name c.args.name) d c.args.text.now s h c.in-Some.place (sym c.in-Some.ensures) (sym c.in_default-primitive_at.ensures) in
-    subst (λ cs. RefusesCount (length c.args.made.now.elements.items + length cs) r) (module-elements c.args.definitions.now top corner c.args.instances.now c.args.library.now c.args.rows.now c.args.number c.args.table.now c.args.row.now c.args.driven.now c.args.delays c.args.first c.args.next k (view_name c.args.name) d c.args.text.now s h m)
+    subst (λ cs. RefusesCount (length c.args.made.now.elements.items + length cs) r)
+    (module-elements c.args.definitions.now top corner c.args.instances.now c.args.library.now c.args.rows.now c.args.number c.args.table.now c.args.row.now c.args.driven.now c.args.delays c.args.first c.args.next k (view_name c.args.name) d c.args.text.now s h m)
     (f c.args.definitions.now top corner s (the c.args.definitions.now top corner c.args.instances.now c.args.library.now c.args.rows.now c.args.number c.args.table.now c.args.row.now c.args.driven.now c.args.delays c.args.first c.args.next k (view_name c.args.name) d c.args.text.now s h m) (the-at c.args.definitions.now top corner c.args.instances.now c.args.library.now c.args.rows.now c.args.number c.args.table.now c.args.row.now c.args.driven.now c.args.delays c.args.first c.args.next k (view_name c.args.name) d c.args.text.now s h m) (the-inside c.args.definitions.now top corner c.args.instances.now c.args.library.now c.args.rows.now c.args.number c.args.table.now c.args.row.now c.args.driven.now c.args.delays c.args.first c.args.next k (view_name c.args.name) d c.args.text.now s h m)))
     c.add_child.ensures.refused
 
@@ -79,6 +82,7 @@ returns-clause-next c = λ top corner k d s h.
 pub returns-clause-elements : goal.returns-clause-elements
 returns-clause-elements c = λ top corner k d s h.
     let p = names-primitive c.args.definitions.now top corner c.args.instances.now c.args.library.now c.args.rows.now c.args.number c.args.table.now c.args.row.now c.args.driven.now c.args.delays c.args.first c.args.next k (view_name c.args.name) d c.args.text.now s h c.in-Some.place c.in-Some-primitive_at.udp (sym c.in-Some.ensures) (sym c.in-Some-primitive_at.ensures) in
-    subst (Adds c.args.library.now.gate_delays.items c.args.library.now.udps.items (nets c.args.definitions.now top) c.args.made.now c.add_primitive.new.made) (primitive-elements c.args.definitions.now top corner c.args.instances.now c.args.library.now c.args.rows.now c.args.number c.args.table.now c.args.row.now c.args.driven.now c.args.delays c.args.first c.args.next k (view_name c.args.name) d c.args.text.now s h c.in-Some-primitive_at.udp p)
+    subst (Adds c.args.library.now.gate_delays.items c.args.library.now.udps.items (nets c.args.definitions.now top) c.args.made.now c.add_primitive.new.made)
+    (primitive-elements c.args.definitions.now top corner c.args.instances.now c.args.library.now c.args.rows.now c.args.number c.args.table.now c.args.row.now c.args.driven.now c.args.delays c.args.first c.args.next k (view_name c.args.name) d c.args.text.now s h c.in-Some-primitive_at.udp p)
     (c.in_ok-add_primitive.ensures.elements c.args.library.now.gate_delays.items c.args.library.now.udps.items (nets c.args.definitions.now top) c.args.definitions.now s k h.here h.drives
     (primitive-fits c.args.definitions.now top corner c.args.instances.now c.args.library.now c.args.rows.now c.args.number c.args.table.now c.args.row.now c.args.driven.now c.args.delays c.args.first c.args.next k (view_name c.args.name) d c.args.text.now s h c.in-Some-primitive_at.udp p) p.table.below h.listed)
