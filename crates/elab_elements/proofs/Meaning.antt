@@ -18,7 +18,7 @@ use Rattle.elab_laws.specs.Handing.{all_bits, number_at}
 use Rattle.elab_laws.proofs.Lists.{all-append, all-map, all-map_back}
 use Rattle.elab_bits.specs.Seen.{bit_at}
 use Rattle.elab_nets.specs.Numbers.{HasNumbers}
-use Rattle.elab_elements.specs.Adding.{Adds}
+use Rattle.elab_elements.specs.Adding.{Adds, HasDriven, driven_at}
 use Rattle.elab_elements.specs.Seen.{kind_in, element_in, NamesPlaces}
 use Rattle.elab_elements.specs.declared.placing.Placing.{Placing}
 use Rattle.elab_elements.specs.Puts.{Wired, wired, Put, put, Puts}
@@ -89,3 +89,8 @@ adds delays udps all old new ps cs m h =
 pub number-is : (all : List OwnNet) (source : Source) (s : Instance) (vs : List Variable) (row : List ℕ) (i : ℕ) → HasNumbers all source s vs row → i < length (all_bits vs)
     → net_in row i ≡ number_at all source s (bit_at vs i)
 number-is all source s vs row i h lt = ap (λ ns. net_in ns i) h.numbers ∙ get_or-map (number_at all source s) (all_bits vs) i _ 0 lt
+
+-- and at a place of the row of what is driven inside
+pub driven-number : (all : List OwnNet) (source : Source) (s : Instance) (vs : List Variable) (inside : List ℕ) (i : ℕ) → HasDriven all source s vs inside → i < length (all_bits vs)
+    → net_in inside i ≡ driven_at all source s (bit_at vs i)
+driven-number all source s vs inside i h lt = ap (λ ns. net_in ns i) h.numbers ∙ get_or-map (driven_at all source s) (all_bits vs) i _ 0 lt

@@ -2,6 +2,7 @@
 use Rattle.std.specs.Prelude.{◌≡◌, ℕ, zero, suc, ◌+◌, List, [], ◌∷◌, ◌++◌, Some, flat_map, take, drop, length, slice_get, refl, not, Option}
 use Rattle.std.specs.List.{enumerate_from, range_with_len}
 use Rattle.std.proofs.Common.{sym, ◌∙◌, ap, arith, subst, inl, inr}
+use Rattle.std.proofs.lemmas.List.{drop_all}
 use Rattle.sg_delay.specs.declared.corners.Corner.{Corner}
 use Rattle.sg_logic.specs.Gate.{most_delays}
 use Rattle.sg_logic.specs.declared.gates.GateKind.{GateKind}
@@ -10,14 +11,14 @@ use Rattle.elab_model.specs.declared.kinds.ElabKind.TheVariants.{BadTerminal}
 use Rattle.elab_model.specs.Bits.{bits}
 use Rattle.elab_model.specs.Definitions.{definition_of}
 use Rattle.elab_model.specs.Delays.{tick_of}
-use Rattle.elab_model.specs.Elements.{output_count, terminal_bits}
+use Rattle.elab_model.specs.Elements.{output_count, output_bits, input_bits}
 use Rattle.elab_model.specs.Faults.{fault_if}
 use Rattle.elab_model.specs.Hierarchy.{Instance, instances, children}
 use Rattle.elab_model.specs.Members.{Member, gate, instance, members, connection_values}
 use Rattle.elab_model.specs.ModuleFaults.{are_terminals, takes_terminals, all_member_faults, connection_faults, delay_on_module, instance_faults, module_faults}
 use Rattle.elab_model.specs.NameFaults.{declaration_faults}
 use Rattle.elab_model.specs.Names.{variables}
-use Rattle.elab_model.specs.Nets.{nets, member_nets, instance_nets, terminal_nets}
+use Rattle.elab_model.specs.Nets.{OwnNet, nets, member_nets, instance_nets, terminal_nets}
 use Rattle.elab_model.specs.TerminalFaults.{expression_faults, width_faults, constant_faults, terminal_faults, delay_faults, is_missing}
 use Rattle.elab_laws.specs.Laws.{AreSound}
 use Rattle.elab_laws.proofs.Lists.{In, all-in, all-get}
@@ -26,7 +27,7 @@ use Rattle.elab_laws.specs.NumberLaws.{numbers_in}
 use Rattle.elab_laws.proofs.InOrder.{member-nets_have_places}
 use Rattle.elab_laws.proofs.Connected.{members-sound, is-connected}
 use Rattle.elab_laws.proofs.Gates.{has-output}
-use Rattle.elab_laws.proofs.ElementWidths.{no-fault, bits-count, width-is, first-is_net}
+use Rattle.elab_laws.proofs.ElementWidths.{no-fault, width-is, first-is_net}
 use Rattle.elab_ports.specs.Bound.{AreConnected}
 use Rattle.elab_nets.specs.Rows.{first_of_member}
 use Rattle.elab_elements.specs.Adding.{HasTerminals, IsConnectedOnce}
@@ -56,12 +57,13 @@ member-sound source top corner s k x sound there at =
     let own = all-in (λ s. module_faults source corner (tick_of source top) s.step.definition ≡ []) s (instances source top) sound there in
     all-get (λ x. all_member_faults source corner (tick_of source top) s.step.definition x ≡ []) (members s.step.definition) k x (members-sound source corner (tick_of source top) s.step.definition own) at
 
--- the first terminal is an output, and a bit of a net
-first-output : (source : Source) (top : Module) (s : Instance) (k first outputs : ℕ) (e : Expression) (es : List Expression) → flat_map (expression_faults (variables s.step.definition)) (e ∷ es) ≡ []
+-- the first output is a bit of a net
+first-output : (all : List OwnNet) (s : Instance) (k first outputs : ℕ) (e : Expression) (es : List Expression) → flat_map (expression_faults (variables s.step.definition)) (e ∷ es) ≡ []
     → terminal_faults (variables s.step.definition) (suc outputs) (e ∷ es) ≡ []
-    → numbers_in (nets source top) (terminal_nets s k (suc outputs) (terminal_bits s (e ∷ es))) ≡ range_with_len first (length (terminal_nets s k (suc outputs) (terminal_bits s (e ∷ es))))
-    → HasTerminals (nets source top) s k first (suc outputs) (terminal_bits s (e ∷ es))
-first-output source top s k first outputs e es sound faultless numbered =
+    → numbers_in all (terminal_nets s k (output_bits s (suc outputs) (e ∷ es)) (input_bits s (suc outputs) (e ∷ es)))
+    ≡ range_with_len first (length (terminal_nets s k (output_bits s (suc outputs) (e ∷ es)) (input_bits s (suc outputs) (e ∷ es))))
+    → HasTerminals all s k first (output_bits s (suc outputs) (e ∷ es)) (input_bits s (suc outputs) (e ∷ es))
+first-output all s k first outputs e es sound faultless numbered =
     let vs = variables s.step.definition in
     let widths = flat_map (width_faults vs 1) (e ∷ es) in
     let driven = flat_map (constant_faults vs) (take (suc outputs) (e ∷ es)) in
@@ -73,19 +75,19 @@ first-output source top s k first outputs e es sound faultless numbered =
 pub gate-terminals : (source : Source) (top : Module) (corner : Corner) (s : Instance) (k first : ℕ) (g : GateKind) (d : Option Delay) (i : GateInstance)
     → all_member_faults source corner (tick_of source top) s.step.definition (gate g d i) ≡ []
     → numbers_in (nets source top) (member_nets source s (k, gate g d i)) ≡ range_with_len first (length (member_nets source s (k, gate g d i)))
-    → HasTerminals (nets source top) s k first (output_count g (length (terminal_bits s i.terminals))) (terminal_bits s i.terminals)
+    → HasTerminals (nets source top) s k first (output_bits s (output_count g (length i.terminals)) i.terminals) (input_bits s (output_count g (length i.terminals)) i.terminals)
 gate-terminals source top corner s k first g d i h numbered = by i.terminals h numbered
   where
+    AreFitting : List Expression → ℕ → Type 0
+    AreFitting es n = numbers_in (nets source top) (terminal_nets s k (output_bits s n es) (input_bits s n es)) ≡ range_with_len first (length (terminal_nets s k (output_bits s n es) (input_bits s n es)))
+
     by : (es : List Expression)
-        → all_member_faults source corner (tick_of source top) s.step.definition (gate g d (record i { terminals = es })) ≡ []
-        → numbers_in (nets source top) (terminal_nets s k (output_count g (length (terminal_bits s es))) (terminal_bits s es))
-        ≡ range_with_len first (length (terminal_nets s k (output_count g (length (terminal_bits s es))) (terminal_bits s es)))
-        → HasTerminals (nets source top) s k first (output_count g (length (terminal_bits s es))) (terminal_bits s es)
-    by [] h numbered = record { output = inl refl; constants = numbered }
+        → all_member_faults source corner (tick_of source top) s.step.definition (gate g d (record i { terminals = es })) ≡ [] → AreFitting es (output_count g (length es))
+        → HasTerminals (nets source top) s k first (output_bits s (output_count g (length es)) es) (input_bits s (output_count g (length es)) es)
+    by [] h numbered = record { output = inl (ap (flat_map (bits (variables s.step.definition))) (drop_all (output_count g 0) [] (omega arith))); constants = numbered }
     by (e ∷ es) h numbered =
         let m = s.step.definition in
         let vs = variables m in
-        let bs = terminal_bits s (e ∷ es) in
         let named = flat_map (expression_faults vs) (e ∷ es) in
         let few = fault_if (not (takes_terminals g (length (e ∷ es)))) BadTerminal i.place in
         let ts = terminal_faults vs (output_count g (length (e ∷ es))) (e ∷ es) in
@@ -94,16 +96,13 @@ gate-terminals source top corner s k first g d i h numbered = by i.terminals h n
         let sound : named ≡ [] = front named (few ++ (ts ++ ds)) h in
         let faultless : ts ≡ [] = front ts ds (back few (ts ++ ds) own) in
         let output = has-output g (length (e ∷ es)) (no-fault (not (takes_terminals g (length (e ∷ es)))) BadTerminal i.place (front few (ts ++ ds) own)) in
-        let count : length bs ≡ length (e ∷ es) = bits-count vs (e ∷ es) sound (front (flat_map (width_faults vs 1) (e ∷ es)) _ faultless) in
-        let same : output_count g (length bs) ≡ suc output.0 = ap (output_count g) count ∙ output.1 in
-        subst (λ o. HasTerminals (nets source top) s k first o bs) (sym same)
-        (first-output source top s k first output.0 e es sound (subst (λ o. terminal_faults vs o (e ∷ es) ≡ []) output.1 faultless)
-        (subst (λ o. numbers_in (nets source top) (terminal_nets s k o bs) ≡ range_with_len first (length (terminal_nets s k o bs))) same numbered))
+        subst (λ n. HasTerminals (nets source top) s k first (output_bits s n (e ∷ es)) (input_bits s n (e ∷ es))) (sym output.1)
+        (first-output (nets source top) s k first output.0 e es sound (subst (λ n. terminal_faults vs n (e ∷ es) ≡ []) output.1 faultless) (subst (AreFitting (e ∷ es)) output.1 numbered))
 
 pub primitive-terminals : (source : Source) (top : Module) (corner : Corner) (s : Instance) (k first : ℕ) (n : Named) (d : Option Delay) (i : instance_text) (p : Primitive)
     → definition_of source n.text ≡ Some (a_primitive p) → all_member_faults source corner (tick_of source top) s.step.definition (instance n d i) ≡ []
     → numbers_in (nets source top) (member_nets source s (k, instance n d i)) ≡ range_with_len first (length (member_nets source s (k, instance n d i)))
-    → HasTerminals (nets source top) s k first 1 (terminal_bits s (connection_values i.connections))
+    → HasTerminals (nets source top) s k first (output_bits s 1 (connection_values i.connections)) (input_bits s 1 (connection_values i.connections))
 primitive-terminals source top corner s k first n d i p is h numbered =
     by (connection_values i.connections) sound faultless
     (subst (λ o. numbers_in (nets source top) (instance_nets source s k i o) ≡ range_with_len first (length (instance_nets source s k i o))) is numbered)
@@ -121,10 +120,10 @@ primitive-terminals source top corner s k first n d i p is h numbered =
     faultless = front (terminal_faults (variables s.step.definition) 1 values) _ (back (fault_if (not (are_terminals p i.connections)) BadTerminal i.place) _ own)
 
     by : (es : List Expression) → flat_map (expression_faults (variables s.step.definition)) es ≡ [] → terminal_faults (variables s.step.definition) 1 es ≡ []
-        → numbers_in (nets source top) (terminal_nets s k 1 (terminal_bits s es)) ≡ range_with_len first (length (terminal_nets s k 1 (terminal_bits s es)))
-        → HasTerminals (nets source top) s k first 1 (terminal_bits s es)
+        → numbers_in (nets source top) (terminal_nets s k (output_bits s 1 es) (input_bits s 1 es)) ≡ range_with_len first (length (terminal_nets s k (output_bits s 1 es) (input_bits s 1 es)))
+        → HasTerminals (nets source top) s k first (output_bits s 1 es) (input_bits s 1 es)
     by [] a b numbered = record { output = inl refl; constants = numbered }
-    by (e ∷ es) a b numbered = first-output source top s k first 0 e es a b numbered
+    by (e ∷ es) a b numbered = first-output (nets source top) s k first 0 e es a b numbered
 
 -- ---- connections
 

@@ -34,9 +34,10 @@ use Rattle.elab_nets.specs.declared.rows.Rows.{Rows}
 use Rattle.elab_nets.specs.Rows.{first_of_member, part_of, HasRow}
 use Rattle.elab_nets.specs.Turns.{members_of}
 use Rattle.elab_nets.proofs.ChildRows.{nets-within, refuses-more}
-use Rattle.elab_nets.proofs.MemberTurns.{next-is, taken, get-map}
+use Rattle.elab_nets.proofs.MemberTurns.{get-map}
+use Rattle.elab_nets.proofs.NumberedLists.{next-is, taken}
 use Rattle.elab_elements.specs.declared.placing.Placing.{Placing}
-use Rattle.elab_elements.specs.Adding.{Adds}
+use Rattle.elab_elements.specs.Adding.{Adds, HasDriven}
 use Rattle.elab_elements.specs.Seen.{element_in}
 use Rattle.elab_elements.specs.Next.{IsNext}
 use Rattle.elab_elements.specs.Standing.{AreMembers, IsAt, IsMember}
@@ -72,14 +73,16 @@ adds-count delays udps all a b cs h =
 
 -- ---- all of an instance
 
-pub are-members : (source : Source) (top : Module) (corner : Corner) (ps : List Placed) (library : Library) (rows : Rows) (i : ℕ) (s : Instance) (p : Placed) (q : Prepared) (width : ℕ) (row : List ℕ)
+pub are-members : (source : Source) (top : Module) (corner : Corner) (ps : List Placed) (library : Library) (rows : Rows) (i : ℕ) (s : Instance) (p : Placed) (q : Prepared) (width : ℕ) (row inside : List ℕ)
     → IsAt source top corner ps library rows i s → slice_get ps i ≡ Some p → slice_get library.parts.items p.definition ≡ Some (Some (ready.Module q)) → width ≡ length (all_bits q.table)
-    → ((start : ℕ) → slice_get rows.starts.items i ≡ Some start → row ≡ part_of rows.inner.items start width) → AreMembers source top corner ps library rows i p.definition q row (i + 1) s
-are-members source top corner ps library rows i s p q width row h e g w f =
+    → ((start : ℕ) → slice_get rows.starts.items i ≡ Some start → row ≡ part_of rows.inner.items start width)
+    → HasDriven (nets source top) source s q.table inside → AreMembers source top corner ps library rows i p.definition q row inside (i + 1) s
+are-members source top corner ps library rows i s p q width row inside h e g w f d =
     let k = prepared-is source top corner ps library rows i s p q h e g in
     record {
       at = h;
       here = here-is source top corner ps library rows i s q width row h k w f;
+      drives = d;
       stands = (placed-is source top corner ps library rows i s p h e).definition;
       is_prepared = k;
       first_child = omega arith;
@@ -102,8 +105,8 @@ enumerate-count : {A : Type 0} (a : ℕ) (xs : List A) → length (enumerate_fro
 enumerate-count a [] = refl
 enumerate-count a (x ∷ xs) = ap suc (enumerate-count (a + 1) xs)
 
-module _ (source : Source) (top : Module) (corner : Corner) (ps : List Placed) (library : Library) (rows : Rows) (number definition : ℕ) (prepared : Prepared) (row : List ℕ) (initial : ℕ) (s : Instance)
-    (h : AreMembers source top corner ps library rows number definition prepared row initial s) where
+module _ (source : Source) (top : Module) (corner : Corner) (ps : List Placed) (library : Library) (rows : Rows) (number definition : ℕ) (prepared : Prepared) (row inside : List ℕ) (initial : ℕ) (s : Instance)
+    (h : AreMembers source top corner ps library rows number definition prepared row inside initial s) where
   there : In s (instances source top)
   there = at-place (instances source top) number s h.at.there
 
@@ -122,7 +125,7 @@ module _ (source : Source) (top : Module) (corner : Corner) (ps : List Placed) (
   one-added k next after x old mid new e a m n =
       let f = member_elements source corner (tick_of source top) s in
       let all : flat_map f (take k (members_of s)) ++ f (k, x) ≡ flat_map f (take (k + 1) (members_of s)) =
-      sym (ap (flat_map f) (taken s k x e) ∙ flat_map-append f (take k (members_of s)) ((k, x) ∷ []) ∙ ap (λ ys. flat_map f (take k (members_of s)) ++ ys) (append-nil (f (k, x)))) in
+      sym (ap (flat_map f) (taken (members s.step.definition) k x e) ∙ flat_map-append f (take k (members_of s)) ((k, x) ∷ []) ∙ ap (λ ys. flat_map f (take k (members_of s)) ++ ys) (append-nil (f (k, x)))) in
       record {
         adds = subst (Adds library.gate_delays.items library.udps.items (nets source top) old new) all
             (adds-both library.gate_delays.items library.udps.items (nets source top) old mid new (flat_map f (take k (members_of s))) (f (k, x)) a.adds m);
@@ -143,7 +146,7 @@ module _ (source : Source) (top : Module) (corner : Corner) (ps : List Placed) (
       let c = adds-count library.gate_delays.items library.udps.items (nets source top) old mid (flat_map f (take k (members_of s))) a.adds in
       let w : length (flat_map f (members_of s)) ≡ length (flat_map f (take k (members_of s))) + length (f (k, x) ++ flat_map f (drop (k + 1) (members_of s))) =
       ap (λ ms. length (flat_map f ms)) (sym (take-append-drop k (members_of s))) ∙ ap length (flat_map-append f (take k (members_of s)) (drop k (members_of s)))
-      ∙ length-append (flat_map f (take k (members_of s))) (flat_map f (drop k (members_of s))) ∙ ap (λ ms. length (flat_map f (take k (members_of s))) + length (flat_map f ms)) (next-is s k x e) in
+      ∙ length-append (flat_map f (take k (members_of s))) (flat_map f (drop k (members_of s))) ∙ ap (λ ms. length (flat_map f (take k (members_of s))) + length (flat_map f ms)) (next-is (members s.step.definition) k x e) in
       let v = length-append (f (k, x)) (flat_map f (drop (k + 1) (members_of s))) in
       refuses-more _ _ r (omega arith) refused
 
@@ -185,7 +188,7 @@ module _ (source : Source) (top : Module) (corner : Corner) (ps : List Placed) (
   first-few k first x e f =
       let split = at-split (instances source top) number s h.at.there in
       let g = first-is k first x e f in
-      let whole : members_of s ≡ take k (members_of s) ++ (k, x) ∷ drop (k + 1) (members_of s) = sym (take-append-drop k (members_of s)) ∙ ap (λ xs. take k (members_of s) ++ xs) (next-is s k x e) in
+      let whole : members_of s ≡ take k (members_of s) ++ (k, x) ∷ drop (k + 1) (members_of s) = sym (take-append-drop k (members_of s)) ∙ ap (λ xs. take k (members_of s) ++ xs) (next-is (members s.step.definition) k x e) in
       let le = nets-within source top (take number (instances source top)) (drop (suc number) (instances source top)) s (take k (members_of s)) (drop (k + 1) (members_of s)) (k, x) split.0 whole in
       let few : length (nets source top) ≤ count_limit = h.at.read.have_rows.few in
       omega arith
@@ -194,7 +197,7 @@ module _ (source : Source) (top : Module) (corner : Corner) (ps : List Placed) (
       → ((list : List ℕ) → option_map (λ d. d.items) (slice_get library.delays.items definition) ≡ Some list → slice_get list k ≡ Some delays)
       → ((start : ℕ) → slice_get rows.member_starts.items number ≡ Some start → slice_get rows.firsts.items (start + k) ≡ Some first)
       → AreAdded library.gate_delays.items library.udps.items source top corner s k next old new
-      → IsMember source top corner ps library rows number prepared.table row delays first next k x s
+      → IsMember source top corner ps library rows number prepared.table row inside delays first next k x s
   is-member k next delays first x old new e d f a =
       let split = at-split (instances source top) number s h.at.there in
       let p : slice_get reads.delays k ≡ Some delays = d reads.delays reads.listed in
@@ -204,6 +207,7 @@ module _ (source : Source) (top : Module) (corner : Corner) (ps : List Placed) (
       record {
         at = h.at;
         here = h.here;
+        drives = h.drives;
         member = e;
         ticks = same-some _ _ ticks;
         listed = all-get (λ i. i < length library.gate_delays.items) reads.delays k delays reads.in_ticks.below p;

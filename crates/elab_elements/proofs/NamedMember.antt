@@ -7,13 +7,12 @@ use Rattle.std.proofs.lemmas.List.{append-nil}
 use Rattle.sg_circuit.specs.Circuit.{Udp}
 use Rattle.sg_circuit.specs.Seen.{delays_at, udp_at}
 use Rattle.sg_delay.specs.declared.corners.Corner.{Corner}
-use Rattle.vl_tree.specs.Seen.{view_instance, view_connections}
-use Rattle.vl_tree.specs.Tree.{Named, Delay, Module, Primitive, Source, a_module, a_primitive}
+use Rattle.vl_tree.specs.Seen.{view_instance}
+use Rattle.vl_tree.specs.Tree.{Expression, Named, Delay, Module, Primitive, Source, a_module, a_primitive}
 use Rattle.vl_tree.specs.declared.items.Instance as code_text
-use Rattle.elab_model.specs.Bits.{Bit, bits}
 use Rattle.elab_model.specs.Definitions.{definition_of, name_of, as_module}
 use Rattle.elab_model.specs.Delays.{tick_of}
-use Rattle.elab_model.specs.Elements.{child_elements, instance_elements, member_elements, terminal_bits, terminal_elements}
+use Rattle.elab_model.specs.Elements.{child_elements, instance_elements, member_elements, terminal_elements}
 use Rattle.elab_model.specs.Hierarchy.{Instance, Child, child_of, child_of_member, instances, size}
 use Rattle.elab_model.specs.Members.{instance, members, connection_values}
 use Rattle.elab_model.specs.ModuleFaults.{all_member_faults}
@@ -31,10 +30,11 @@ use Rattle.elab_modules.specs.Ready.{HasReady, IsUdp, MemberReady}
 use Rattle.elab_nets.specs.declared.rows.Rows.{Rows}
 use Rattle.elab_nets.proofs.Children.{child-in}
 use Rattle.elab_nets.proofs.Defined.{found-none, is-defined}
-use Rattle.elab_nets.proofs.Placings.{no-level}
+use Rattle.elab_hierarchy.proofs.FaultlessTree.{no-children_at_limit}
 use Rattle.elab_elements.specs.Adding.{HasTerminals}
 use Rattle.elab_elements.specs.Next.{IsNext}
 use Rattle.elab_elements.specs.Standing.{IsAt, IsInside, IsMember}
+use Rattle.elab_elements.specs.Terminals.{outputs_of, inputs_of}
 use Rattle.elab_elements.specs.Words.{primitive_at}
 use Rattle.elab_elements.proofs.MemberLaws.{member-sound, primitive-terminals, connected-once, connections-sound}
 use Rattle.elab_elements.proofs.NextChild.{IsChildAt, instance_of, passes-by, takes-one}
@@ -78,8 +78,9 @@ pub record NamesPrimitive (source : Source) (ready : Library) (n : List ℕ) (u 
   pub is : definition_of source n ≡ Some (a_primitive definition)
   pub table : IsUdp ready.udps.items u definition
 
-module _ (source : Source) (top : Module) (corner : Corner) (ps : List Placed) (library : Library) (rows : Rows) (number : ℕ) (vs : List Variable) (row : List ℕ) (delays first next k : ℕ) (n : Named) (d : Option Delay)
-    (t : code_text.Instance) (s : Instance) (h : IsMember source top corner ps library rows number vs row delays first next k (instance n d (view_instance t)) s) where
+module _ (source : Source) (top : Module) (corner : Corner) (ps : List Placed) (library : Library) (rows : Rows) (number : ℕ) (vs : List Variable) (row inside : List ℕ) (delays first next k : ℕ)
+    (n : Named) (d : Option Delay)
+    (t : code_text.Instance) (s : Instance) (h : IsMember source top corner ps library rows number vs row inside delays first next k (instance n d (view_instance t)) s) where
   there : In s (instances source top)
   there = at-place (instances source top) number s h.at.there
 
@@ -142,7 +143,7 @@ module _ (source : Source) (top : Module) (corner : Corner) (ps : List Placed) (
         by (suc l) e = (l, e)
         by zero e =
             let z : 0 + k ≡ k = omega arith in
-            absurd (none-chosen (λ i. child_of_member source i.0 i.1) 0 (members s.step.definition) k (instance n d (view_instance t)) the_text (no-level source top s h.at.read.shallow there e) h.member
+            absurd (none-chosen (λ i. child_of_member source i.0 i.1) 0 (members s.step.definition) k (instance n d (view_instance t)) the_text (no-children_at_limit source top s h.at.read.shallow there e) h.member
             (ap (λ j. child_of_member source j (instance n d (view_instance t))) z ∙ is-child))
 
     taken : IsChildAt source s k next level.0 the_text
@@ -175,19 +176,19 @@ module _ (source : Source) (top : Module) (corner : Corner) (ps : List Placed) (
   -- ---- a primitive
 
   module _ (u : ℕ) (p : NamesPrimitive source library n.text u) where
-    abbrev pub the_bits : List Bit
-    the_bits = terminal_bits s (connection_values (view_instance t).connections)
+    abbrev values : List Expression
+    values = connection_values (view_instance t).connections
 
-    pub primitive-bits : the_bits ≡ flat_map (bits vs) (connection_values (view_connections t.connections))
-    primitive-bits = ap (λ ws. flat_map (bits ws) (connection_values (view_instance t).connections)) (sym h.here.numbers.table)
+    pub primitive-fits : HasTerminals (nets source top) s k first (outputs_of vs 1 values) (inputs_of vs 1 values)
+    primitive-fits =
+        subst (λ ws. HasTerminals (nets source top) s k first (outputs_of ws 1 values) (inputs_of ws 1 values)) (sym h.here.numbers.table)
+        (primitive-terminals source top corner s k first n d (view_instance t) p.definition p.is faultless h.numbered)
 
-    pub primitive-fits : HasTerminals (nets source top) s k first 1 the_bits
-    primitive-fits = primitive-terminals source top corner s k first n d (view_instance t) p.definition p.is faultless h.numbered
-
-    pub primitive-elements : terminal_elements source s t.place k (Udp (udp_at library.udps.items u).rows (udp_at library.udps.items u).first (delays_at library.gate_delays.items delays)) 1 the_bits
-        ≡ member_elements source corner (tick_of source top) s (k, instance n d (view_instance t))
+    pub primitive-elements : terminal_elements source s t.place k (Udp (udp_at library.udps.items u).rows (udp_at library.udps.items u).first (delays_at library.gate_delays.items delays))
+        (outputs_of vs 1 values)
+        (inputs_of vs 1 values) ≡ member_elements source corner (tick_of source top) s (k, instance n d (view_instance t))
     primitive-elements =
-        (λ j. terminal_elements source s t.place k (Udp (p.table.rows j) (p.table.first j) (h.ticks j)) 1 the_bits)
+        (λ j. terminal_elements source s t.place k (Udp (p.table.rows j) (p.table.first j) (h.ticks j)) (outputs_of (h.here.numbers.table j) 1 values) (inputs_of (h.here.numbers.table j) 1 values))
         ∙ ap (instance_elements source corner (tick_of source top) s k d (view_instance t)) (sym p.is)
 
     pub primitive-next : IsNext source s (k + 1) next

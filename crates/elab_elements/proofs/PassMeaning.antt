@@ -17,9 +17,9 @@ use Rattle.elab_model.specs.Nets.{OwnNet, number_of}
 use Rattle.elab_bits.specs.declared.bits.Bit as code_bit
 use Rattle.elab_bits.specs.declared.bits.Bit.TheVariants as bit
 use Rattle.elab_bits.specs.Seen.{view_bit, IsInRow}
-use Rattle.elab_elements.specs.Adding.{IsHere}
+use Rattle.elab_elements.specs.Adding.{IsHere, HasDriven}
 use Rattle.elab_elements.specs.Words.{net_in, bit_inputs, bit_value, pass_puts}
-use Rattle.elab_elements.proofs.Meaning.{Means, means-nil, means-one, means-append, number-is, same-count}
+use Rattle.elab_elements.proofs.Meaning.{Means, means-nil, means-one, means-append, number-is, driven-number, same-count}
 
 inputs-are : (all : List OwnNet) (source : Source) (s : Instance) (scope : ℕ) (vs : List Variable) (row : List ℕ) (b : code_bit.Bit) → IsHere all source s scope vs row → IsInRow vs b
     → bit_inputs row b ≡ map (number_of all) (bit_spots source s (view_bit vs b))
@@ -30,48 +30,48 @@ value-is : (vs : List Variable) (b : code_bit.Bit) → bit_value b ≡ value_of 
 value-is vs (bit.Net i) = refl
 value-is vs (bit.Constant p v) = refl
 
-pass-means : (delays : List GateDelays) (udps : List UdpUse) (all : List OwnNet) (source : Source) (s : Instance) (scope : ℕ) (vs : List Variable) (row : List ℕ) (place : Place) (to from : code_bit.Bit)
-    → IsHere all source s scope vs row → IsInRow vs to → IsInRow vs from
-    → Means delays udps all (pass_puts scope place row (to, from)) (pass_to source s place (view_bit vs to, view_bit vs from))
-pass-means delays udps all source s scope vs row place (bit.Net i) from h lt lu =
-    means-one delays udps all scope place (bit_inputs row from) (net_in row i) (kind.Pass (bit_value from)) _
-    (sym h.number) refl (inputs-are all source s scope vs row from h lu) (number-is all source s vs row i h.numbers lt) (ap (λ o. Pass o) (value-is vs from)) tt
-pass-means delays udps all source s scope vs row place (bit.Constant p v) from h lt lu = means-nil delays udps all
+pass-means : (delays : List GateDelays) (udps : List UdpUse) (all : List OwnNet) (source : Source) (s : Instance) (scope : ℕ) (vs : List Variable) (row inside : List ℕ) (place : Place) (to from : code_bit.Bit)
+    → IsHere all source s scope vs row → HasDriven all source s vs inside → IsInRow vs to → IsInRow vs from
+    → Means delays udps all (pass_puts scope place row inside (to, from)) (pass_to source s place (view_bit vs to, view_bit vs from))
+pass-means delays udps all source s scope vs row inside place (bit.Net i) from h d lt lu =
+    means-one delays udps all scope place (bit_inputs row from) (net_in inside i) (kind.Pass (bit_value from)) _
+    (sym h.number) refl (inputs-are all source s scope vs row from h lu) (driven-number all source s vs inside i d lt) (ap (λ o. Pass o) (value-is vs from)) tt
+pass-means delays udps all source s scope vs row inside place (bit.Constant p v) from h d lt lu = means-nil delays udps all
 
-pub passes-mean : (delays : List GateDelays) (udps : List UdpUse) (all : List OwnNet) (source : Source) (s : Instance) (scope : ℕ) (vs : List Variable) (row : List ℕ) (place : Place)
+pub passes-mean : (delays : List GateDelays) (udps : List UdpUse) (all : List OwnNet) (source : Source) (s : Instance) (scope : ℕ) (vs : List Variable) (row inside : List ℕ) (place : Place)
     (left right : List code_bit.Bit)
-    → IsHere all source s scope vs row → AllByRecursion (IsInRow vs) left → AllByRecursion (IsInRow vs) right
-    → Means delays udps all (flat_map (pass_puts scope place row) (zip left right)) (passes source s place (map (view_bit vs) left) (map (view_bit vs) right))
-passes-mean delays udps all source s scope vs row place [] right h l r = means-nil delays udps all
-passes-mean delays udps all source s scope vs row place (a ∷ left) [] h l r = means-nil delays udps all
-passes-mean delays udps all source s scope vs row place (a ∷ left) (b ∷ right) h l r =
-    means-append delays udps all (pass_puts scope place row (a, b)) (flat_map (pass_puts scope place row) (zip left right)) (pass_to source s place (view_bit vs a, view_bit vs b))
+    → IsHere all source s scope vs row → HasDriven all source s vs inside → AllByRecursion (IsInRow vs) left → AllByRecursion (IsInRow vs) right
+    → Means delays udps all (flat_map (pass_puts scope place row inside) (zip left right)) (passes source s place (map (view_bit vs) left) (map (view_bit vs) right))
+passes-mean delays udps all source s scope vs row inside place [] right h d l r = means-nil delays udps all
+passes-mean delays udps all source s scope vs row inside place (a ∷ left) [] h d l r = means-nil delays udps all
+passes-mean delays udps all source s scope vs row inside place (a ∷ left) (b ∷ right) h d l r =
+    means-append delays udps all (pass_puts scope place row inside (a, b)) (flat_map (pass_puts scope place row inside) (zip left right)) (pass_to source s place (view_bit vs a, view_bit vs b))
     (passes source s place (map (view_bit vs) left) (map (view_bit vs) right))
-    (pass-means delays udps all source s scope vs row place a b h l.0 r.0) (passes-mean delays udps all source s scope vs row place left right h l.1 r.1)
+    (pass-means delays udps all source s scope vs row inside place a b h d l.0 r.0) (passes-mean delays udps all source s scope vs row inside place left right h d l.1 r.1)
 
-pub supply-means : (delays : List GateDelays) (udps : List UdpUse) (all : List OwnNet) (source : Source) (s : Instance) (scope : ℕ) (vs : List Variable) (row : List ℕ) (place : Place) (v : Value)
-    (bs : List code_bit.Bit) → IsHere all source s scope vs row → AllByRecursion (IsInRow vs) bs
-    → Means delays udps all (flat_map (λ b. pass_puts scope place row (b, bit.Constant place v)) bs) (flat_map (λ b. pass_to source s place (b, constant place v)) (map (view_bit vs) bs))
-supply-means delays udps all source s scope vs row place v [] h l = means-nil delays udps all
-supply-means delays udps all source s scope vs row place v (b ∷ bs) h l =
-    means-append delays udps all (pass_puts scope place row (b, bit.Constant place v)) (flat_map (λ b. pass_puts scope place row (b, bit.Constant place v)) bs)
+pub supply-means : (delays : List GateDelays) (udps : List UdpUse) (all : List OwnNet) (source : Source) (s : Instance) (scope : ℕ) (vs : List Variable) (row inside : List ℕ) (place : Place) (v : Value)
+    (bs : List code_bit.Bit) → IsHere all source s scope vs row → HasDriven all source s vs inside → AllByRecursion (IsInRow vs) bs
+    → Means delays udps all (flat_map (λ b. pass_puts scope place row inside (b, bit.Constant place v)) bs) (flat_map (λ b. pass_to source s place (b, constant place v)) (map (view_bit vs) bs))
+supply-means delays udps all source s scope vs row inside place v [] h d l = means-nil delays udps all
+supply-means delays udps all source s scope vs row inside place v (b ∷ bs) h d l =
+    means-append delays udps all (pass_puts scope place row inside (b, bit.Constant place v)) (flat_map (λ b. pass_puts scope place row inside (b, bit.Constant place v)) bs)
     (pass_to source s place (view_bit vs b, constant place v)) (flat_map (λ b. pass_to source s place (b, constant place v)) (map (view_bit vs) bs))
-    (pass-means delays udps all source s scope vs row place b (bit.Constant place v) h l.0 tt) (supply-means delays udps all source s scope vs row place v bs h l.1)
+    (pass-means delays udps all source s scope vs row inside place b (bit.Constant place v) h d l.0 tt) (supply-means delays udps all source s scope vs row inside place v bs h d l.1)
 
 -- ---- how many
 
-pub passes-within : (all : List OwnNet) (source : Source) (s : Instance) (scope : ℕ) (vs : List Variable) (row : List ℕ) (place : Place) (left right : List code_bit.Bit)
-    → IsHere all source s scope vs row → AllByRecursion (IsInRow vs) left → AllByRecursion (IsInRow vs) right
-    → length (flat_map (pass_puts scope place row) (zip left right)) ≤ length (passes source s place (map (view_bit vs) left) (map (view_bit vs) right))
-passes-within all source s scope vs row place left right h l r =
-    let m = passes-mean [] [] all source s scope vs row place left right h l r in
+pub passes-within : (all : List OwnNet) (source : Source) (s : Instance) (scope : ℕ) (vs : List Variable) (row inside : List ℕ) (place : Place) (left right : List code_bit.Bit)
+    → IsHere all source s scope vs row → HasDriven all source s vs inside → AllByRecursion (IsInRow vs) left → AllByRecursion (IsInRow vs) right
+    → length (flat_map (pass_puts scope place row inside) (zip left right)) ≤ length (passes source s place (map (view_bit vs) left) (map (view_bit vs) right))
+passes-within all source s scope vs row inside place left right h d l r =
+    let m = passes-mean [] [] all source s scope vs row inside place left right h d l r in
     let e = same-count _ _ m.places in
     omega (arith, e)
 
-pub supply-within : (all : List OwnNet) (source : Source) (s : Instance) (scope : ℕ) (vs : List Variable) (row : List ℕ) (place : Place) (v : Value) (bs : List code_bit.Bit)
-    → IsHere all source s scope vs row → AllByRecursion (IsInRow vs) bs
-    → length (flat_map (λ b. pass_puts scope place row (b, bit.Constant place v)) bs) ≤ length (flat_map (λ b. pass_to source s place (b, constant place v)) (map (view_bit vs) bs))
-supply-within all source s scope vs row place v bs h l =
-    let m = supply-means [] [] all source s scope vs row place v bs h l in
+pub supply-within : (all : List OwnNet) (source : Source) (s : Instance) (scope : ℕ) (vs : List Variable) (row inside : List ℕ) (place : Place) (v : Value) (bs : List code_bit.Bit)
+    → IsHere all source s scope vs row → HasDriven all source s vs inside → AllByRecursion (IsInRow vs) bs
+    → length (flat_map (λ b. pass_puts scope place row inside (b, bit.Constant place v)) bs) ≤ length (flat_map (λ b. pass_to source s place (b, constant place v)) (map (view_bit vs) bs))
+supply-within all source s scope vs row inside place v bs h d l =
+    let m = supply-means [] [] all source s scope vs row inside place v bs h d l in
     let e = same-count _ _ m.places in
     omega (arith, e)

@@ -7,21 +7,20 @@ use Rattle.std.proofs.lemmas.List.Sums.{sum_by-cons}
 use Rattle.std.proofs.lemmas.Option.{slice_get_within}
 use Rattle.sg_delay.specs.declared.corners.Corner.{Corner}
 use Rattle.vl_tree.specs.Tree.{Module, Source}
-use Rattle.elab_model.specs.declared.kinds.ElabKind.TheVariants.{TooDeep}
-use Rattle.elab_model.specs.Faults.{fault}
 use Rattle.elab_model.specs.Hierarchy.{Step, Instance, Child, instances, children_in, size, is_empty, is_leaf, has_no_child}
-use Rattle.elab_model.specs.HierarchyFaults.{self_instances, too_deep, first_too_many, count_limit}
 use Rattle.elab_model.specs.Names.{Variable, variables}
 use Rattle.elab_model.specs.Elements.{variable_legs, legs}
-use Rattle.elab_model.specs.Nets.{OwnNet, nets}
+use Rattle.elab_model.specs.Ends.{path_ends, inner_spot}
+use Rattle.elab_model.specs.Nets.{OwnNet, nets, number_of}
+use Rattle.elab_ends.specs.Ends.{AreEnds}
+use Rattle.elab_ends.specs.Seen.{bit_seen}
+use Rattle.elab_ends.specs.declared.ends.PathEnds.{PathEnds}
 use Rattle.sg_circuit.specs.declared.elements.UdpUse.{UdpUse}
 use Rattle.sg_delay.specs.declared.gates.GateDelays.{GateDelays}
 use Rattle.elab_model.specs.Scopes.{parent_of}
 use Rattle.elab_laws.specs.Handing.{all_bits, number_at}
-use Rattle.elab_laws.proofs.Lists.{In, all-in}
-use Rattle.elab_laws.proofs.NoFaults.{front, back, flat-empty}
 use Rattle.elab_hierarchy.specs.declared.instances.Placed.{Placed}
-use Rattle.elab_hierarchy.specs.Placing.{IsPlaced, tree_faults, tree_faults_at}
+use Rattle.elab_hierarchy.specs.Placing.{IsPlaced}
 use Rattle.elab_model.specs.Ports.{port_list}
 use Rattle.elab_ports.specs.Bound.{AreConnected, AreOf}
 use Rattle.elab_ports.specs.Constants.{constants_in, view_constant}
@@ -35,6 +34,7 @@ use Rattle.elab_modules.specs.declared.library.Ready.TheVariants as ready
 use Rattle.elab_modules.specs.declared.prepared.Prepared.{Prepared}
 use Rattle.elab_modules.specs.Ready.{IsPrepared}
 use Rattle.elab_nets.specs.declared.rows.Rows.{Rows}
+use Rattle.elab_hierarchy.proofs.FaultlessTree.{no-children_at_limit}
 use Rattle.elab_nets.specs.Outside.{outer_number}
 use Rattle.elab_nets.specs.Rows.{part_of, HasRow}
 use Rattle.elab_elements.specs.declared.placing.Placing.{Placing}
@@ -159,22 +159,9 @@ alone-by source (suc n) m h = by (children_in source m)
         let more : (suc (sum_by (λ c. size source n c.definition) (c ∷ cs)) == 1) ≡ false = not-one (sum_by (λ c. size source n c.definition) (c ∷ cs)) (omega (arith, e, some)) in
         sym more
 
-shallow-at : (source : Source) (top : Module) (s : Instance) → tree_faults source top ≡ [] → In s (instances source top) → s.step.levels ≡ 0 → children_in source s.step.definition ≡ []
-shallow-at source top s h there e =
-    let each = flat-empty (tree_faults_at source) (instances source top) (front _ (first_too_many (drop count_limit (instances source top))) h) in
-    let own = all-in (λ s. tree_faults_at source s ≡ []) s (instances source top) each there in
-    let deep : too_deep source s ≡ [] = back (self_instances source s) (too_deep source s) own in
-    let all : map (λ c. fault TooDeep c.place) (children_in source s.step.definition) ≡ [] =
-    ap (λ n. if n == 0 then map (λ c. fault TooDeep c.place) (children_in source s.step.definition) else []) (sym e) ∙ deep in
-    none (children_in source s.step.definition) all
-  where
-    none : (cs : List Child) → map (λ c. fault TooDeep c.place) cs ≡ [] → cs ≡ []
-    none [] e = refl
-    none (c ∷ cs) e = cc
-
 pub alone-is : (source : Source) (top : Module) (corner : Corner) (ps : List Placed) (ready : Library) (rows : Rows) (i : ℕ) (s : Instance) (p : Placed) → IsAt source top corner ps ready rows i s → slice_get ps i ≡ Some p
     → has_no_child source s.step ≡ (size source s.step.levels s.step.definition == 1)
-alone-is source top corner ps ready rows i s p h e = alone-by source s.step.levels s.step.definition (shallow-at source top s h.read.shallow (at-place (instances source top) i s h.there))
+alone-is source top corner ps ready rows i s p h e = alone-by source s.step.levels s.step.definition (no-children_at_limit source top s h.read.shallow (at-place (instances source top) i s h.there))
 
 pub end-is : (source : Source) (top : Module) (corner : Corner) (ps : List Placed) (ready : Library) (rows : Rows) (i : ℕ) (s : Instance) (p : Placed) → IsAt source top corner ps ready rows i s → slice_get ps i ≡ Some p
     → (p.end ≡ i + size source s.step.levels s.step.definition) × (1 ≤ size source s.step.levels s.step.definition)
@@ -216,3 +203,19 @@ pub no-legs : (delays : List GateDelays) (udps : List UdpUse) (all : List OwnNet
 no-legs delays udps all source s old e =
     let none : [] ≡ legs source s = ap (λ b. if b then flat_map (variable_legs source s) (variables s.step.definition) else []) (sym e) in
     subst (Adds delays udps all old old) none (adds delays udps all old old [] [] (means-nil delays udps all) (puts-none old))
+
+-- ---- the inner nets of its ends
+
+pub ends-within : (source : Source) (top : Module) (rows : Rows) (before : List Instance) (s : Instance) (i : ℕ) (e : PathEnds) (count : ℕ) → length before ≡ i → HasRow source top rows before s
+    → AreEnds s.step.definition e
+    → count ≡ length e.bits.items → (start : ℕ) × ((slice_get rows.end_starts.items i ≡ Some start) × (start + count ≤ length rows.ends.items))
+ends-within source top rows before s i e count at r are n =
+    let same : count ≡ length (path_ends s.step.definition) = n ∙ sym (length-map e.bits.items (bit_seen (variables s.step.definition))) ∙ ap length are.bits in
+    (r.end, (subst (λ j. slice_get rows.end_starts.items j ≡ Some r.end) at r.end_starts, subst (λ n. r.end + n ≤ length rows.ends.items) (sym same) r.ends_within))
+
+pub ends-here : (source : Source) (top : Module) (rows : Rows) (before : List Instance) (s : Instance) (i : ℕ) (e : PathEnds) (count : ℕ) (ends : List ℕ) → length before ≡ i → HasRow source top rows before s
+    → AreEnds s.step.definition e → count ≡ length e.bits.items → ((start : ℕ) → slice_get rows.end_starts.items i ≡ Some start → ends ≡ part_of rows.ends.items start count)
+    → ends ≡ map (λ b. number_of (nets source top) (inner_spot s b)) (path_ends s.step.definition)
+ends-here source top rows before s i e count ends at r are n f =
+    let same : count ≡ length (path_ends s.step.definition) = n ∙ sym (length-map e.bits.items (bit_seen (variables s.step.definition))) ∙ ap length are.bits in
+    f r.end (subst (λ j. slice_get rows.end_starts.items j ≡ Some r.end) at r.end_starts) ∙ ap (part_of rows.ends.items r.end) same ∙ r.ends

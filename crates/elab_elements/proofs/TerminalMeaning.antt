@@ -1,9 +1,9 @@
 -- Outputs of gates and primitives, and the constants at their inputs.
-use Rattle.std.specs.Prelude.{◌≡◌, ◌⊎◌, ℕ, suc, ◌+◌, ◌≤◌, List, [], ◌∷◌, ◌++◌, Option, Some, None, map, flat_map, length, zip, take, drop, min, refl}
-use Rattle.std.specs.List.{AllByRecursion, enumerate_from, All}
+use Rattle.std.specs.Prelude.{◌≡◌, ◌⊎◌, ℕ, suc, ◌+◌, ◌≤◌, List, [], ◌∷◌, ◌++◌, Option, Some, None, map, flat_map, length, zip, refl}
+use Rattle.std.specs.List.{AllByRecursion, enumerate_from, range_with_len, All}
 use Rattle.std.proofs.Common.{ap, sym, ◌∙◌, subst, arith, inl, inr, length-append}
-use Rattle.std.proofs.lemmas.List.{map-append, length-map, take-map, drop-map, drop_all, take_min, drop_min}
-use Rattle.std.proofs.lemmas.List.Elements.{recursion_from_All, All-take, All-drop}
+use Rattle.std.proofs.lemmas.List.{map-append, length-map}
+use Rattle.std.proofs.lemmas.List.Elements.{recursion_from_All}
 use Rattle.sg_circuit.specs.Circuit.{Kind}
 use Rattle.sg_circuit.specs.declared.elements.ElementKind.{ElementKind}
 use Rattle.sg_circuit.specs.declared.elements.ElementKind.TheVariants as kind
@@ -19,47 +19,49 @@ use Rattle.elab_model.specs.Elements.{Component, input_spot, output_element, con
 use Rattle.elab_model.specs.Hierarchy.{Instance}
 use Rattle.elab_model.specs.Homes.{Spot, terminal, home_of}
 use Rattle.elab_model.specs.Names.{Variable}
-use Rattle.elab_model.specs.Nets.{OwnNet, number_of}
+use Rattle.elab_model.specs.Nets.{OwnNet, number_of, terminal_nets}
 use Rattle.elab_laws.specs.Given.{number_of_bit}
 use Rattle.elab_laws.specs.Handing.{numbered}
+use Rattle.elab_laws.specs.NumberLaws.{numbers_in}
 use Rattle.elab_laws.proofs.TerminalNumbers.{terminals-are_numbered}
 use Rattle.elab_bits.specs.declared.bits.Bit as code_bit
 use Rattle.elab_bits.specs.declared.bits.Bit.TheVariants as bit
 use Rattle.elab_bits.specs.Seen.{view_bit, IsInRow}
-use Rattle.elab_elements.specs.Adding.{IsHere, HasTerminals}
+use Rattle.elab_elements.specs.Adding.{IsHere, HasDriven, HasTerminals}
 use Rattle.elab_elements.specs.declared.placing.Placing.{Placing}
 use Rattle.elab_elements.specs.Puts.{Puts, RefusesPuts}
 use Rattle.elab_elements.specs.Seen.{kind_in, NamesPlaces}
 use Rattle.elab_elements.specs.Words.{net_in, output_puts, given_in, input_numbers, constants_in, constant_puts, terminal_puts}
 use Rattle.elab_elements.proofs.Putting.{places_in, puts-same, puts-then, refuses-count, refuses-front, refuses-back}
-use Rattle.elab_elements.proofs.Meaning.{Means, means-nil, means-one, means-append, means-same, map-map, number-is, same-count}
+use Rattle.elab_elements.proofs.Meaning.{Means, means-nil, means-one, means-append, means-same, map-map, number-is, driven-number, same-count}
 
 abbrev component_places : List Component → List Place
 component_places cs = map (λ c. c.place) cs
 
 -- ---- outputs
 
-output-means : (delays : List GateDelays) (udps : List UdpUse) (all : List OwnNet) (source : Source) (s : Instance) (scope : ℕ) (vs : List Variable) (row : List ℕ) (place : Place) (k : ElementKind)
-    (spots : List Spot) (b : code_bit.Bit) → IsHere all source s scope vs row → NamesPlaces delays udps k → IsInRow vs b
-    → Means delays udps all (output_puts scope place k (map (number_of all) spots) row b) (output_element source s place (kind_in delays udps k) spots (view_bit vs b))
-output-means delays udps all source s scope vs row place k spots (bit.Net i) h n lt =
-    means-one delays udps all scope place (map (number_of all) spots) (net_in row i) k _ (sym h.number) refl refl (number-is all source s vs row i h.numbers lt) refl n
-output-means delays udps all source s scope vs row place k spots (bit.Constant p v) h n lt = means-nil delays udps all
+output-means : (delays : List GateDelays) (udps : List UdpUse) (all : List OwnNet) (source : Source) (s : Instance) (scope : ℕ) (vs : List Variable) (inside : List ℕ) (place : Place) (k : ElementKind)
+    (spots : List Spot) (b : code_bit.Bit) → s.step.number ≡ scope → HasDriven all source s vs inside → NamesPlaces delays udps k → IsInRow vs b
+    → Means delays udps all (output_puts scope place k (map (number_of all) spots) inside b) (output_element source s place (kind_in delays udps k) spots (view_bit vs b))
+output-means delays udps all source s scope vs inside place k spots (bit.Net i) e h n lt =
+    means-one delays udps all scope place (map (number_of all) spots) (net_in inside i) k _ (sym e) refl refl (driven-number all source s vs inside i h lt) refl n
+output-means delays udps all source s scope vs inside place k spots (bit.Constant p v) e h n lt = means-nil delays udps all
 
-outputs-mean : (delays : List GateDelays) (udps : List UdpUse) (all : List OwnNet) (source : Source) (s : Instance) (scope : ℕ) (vs : List Variable) (row : List ℕ) (place : Place) (k : ElementKind)
-    (spots : List Spot) (outs : List code_bit.Bit) → IsHere all source s scope vs row → NamesPlaces delays udps k → AllByRecursion (IsInRow vs) outs
-    → Means delays udps all (flat_map (output_puts scope place k (map (number_of all) spots) row) outs) (flat_map (output_element source s place (kind_in delays udps k) spots) (map (view_bit vs) outs))
-outputs-mean delays udps all source s scope vs row place k spots [] h n l = means-nil delays udps all
-outputs-mean delays udps all source s scope vs row place k spots (b ∷ outs) h n l =
-    means-append delays udps all (output_puts scope place k (map (number_of all) spots) row b) (flat_map (output_puts scope place k (map (number_of all) spots) row) outs)
+outputs-mean : (delays : List GateDelays) (udps : List UdpUse) (all : List OwnNet) (source : Source) (s : Instance) (scope : ℕ) (vs : List Variable) (inside : List ℕ) (place : Place) (k : ElementKind)
+    (spots : List Spot) (outs : List code_bit.Bit) → s.step.number ≡ scope → HasDriven all source s vs inside → NamesPlaces delays udps k → AllByRecursion (IsInRow vs) outs
+    → Means delays udps all (flat_map (output_puts scope place k (map (number_of all) spots) inside) outs) (flat_map (output_element source s place (kind_in delays udps k) spots) (map (view_bit vs) outs))
+outputs-mean delays udps all source s scope vs inside place k spots [] e h n l = means-nil delays udps all
+outputs-mean delays udps all source s scope vs inside place k spots (b ∷ outs) e h n l =
+    means-append delays udps all (output_puts scope place k (map (number_of all) spots) inside b) (flat_map (output_puts scope place k (map (number_of all) spots) inside) outs)
     (output_element source s place (kind_in delays udps k) spots (view_bit vs b)) (flat_map (output_element source s place (kind_in delays udps k) spots) (map (view_bit vs) outs))
-    (output-means delays udps all source s scope vs row place k spots b h n l.0) (outputs-mean delays udps all source s scope vs row place k spots outs h n l.1)
+    (output-means delays udps all source s scope vs inside place k spots b e h n l.0) (outputs-mean delays udps all source s scope vs inside place k spots outs e h n l.1)
 
-output-places : (source : Source) (s : Instance) (scope : ℕ) (vs : List Variable) (row : List ℕ) (place : Place) (k : ElementKind) (kk : Kind) (numbers : List ℕ) (spots : List Spot) (outs : List code_bit.Bit)
-    → places_in (flat_map (output_puts scope place k numbers row) outs) ≡ component_places (flat_map (output_element source s place kk spots) (map (view_bit vs) outs))
-output-places source s scope vs row place k kk numbers spots [] = refl
-output-places source s scope vs row place k kk numbers spots (bit.Net i ∷ outs) = ap (λ ps. place ∷ ps) (output-places source s scope vs row place k kk numbers spots outs)
-output-places source s scope vs row place k kk numbers spots (bit.Constant p v ∷ outs) = output-places source s scope vs row place k kk numbers spots outs
+output-places : (source : Source) (s : Instance) (scope : ℕ) (vs : List Variable) (inside : List ℕ) (place : Place) (k : ElementKind) (kk : Kind) (numbers : List ℕ) (spots : List Spot)
+    (outs : List code_bit.Bit)
+    → places_in (flat_map (output_puts scope place k numbers inside) outs) ≡ component_places (flat_map (output_element source s place kk spots) (map (view_bit vs) outs))
+output-places source s scope vs inside place k kk numbers spots [] = refl
+output-places source s scope vs inside place k kk numbers spots (bit.Net i ∷ outs) = ap (λ ps. place ∷ ps) (output-places source s scope vs inside place k kk numbers spots outs)
+output-places source s scope vs inside place k kk numbers spots (bit.Constant p v ∷ outs) = output-places source s scope vs inside place k kk numbers spots outs
 
 -- ---- constants at inputs
 
@@ -107,132 +109,100 @@ given-are all source s scope vs row (bit.Net i ∷ bs) h l =
     λ j. Some (one j) ∷ rest j
 given-are all source s scope vs row (bit.Constant p v ∷ bs) h l = ap (λ os. None ∷ os) (given-are all source s scope vs row bs h l.1)
 
-numbers-are : (all : List OwnNet) (source : Source) (s : Instance) (scope k first outputs : ℕ) (vs : List Variable) (row : List ℕ) (bs : List code_bit.Bit) → IsHere all source s scope vs row
-    → HasTerminals all s k first outputs (map (view_bit vs) bs) → All (IsInRow vs) bs
-    → input_numbers first row (drop outputs bs) ≡ map (λ i. number_of all (input_spot source s k i)) (enumerate_from 0 (map (view_bit vs) (drop outputs bs)))
-numbers-are all source s scope k first outputs vs row bs h t l = by t.output
+numbers-are : (all : List OwnNet) (source : Source) (s : Instance) (scope k first : ℕ) (vs : List Variable) (row : List ℕ) (outs : List Bit) (ins : List code_bit.Bit) → IsHere all source s scope vs row
+    → HasTerminals all s k first outs (map (view_bit vs) ins) → AllByRecursion (IsInRow vs) ins
+    → input_numbers first row ins ≡ map (λ i. number_of all (input_spot source s k i)) (enumerate_from 0 (map (view_bit vs) ins))
+numbers-are all source s scope k first vs row outs ins h t l = by t.output
   where
-    dropped : drop outputs (map (view_bit vs) bs) ≡ map (view_bit vs) (drop outputs bs)
-    dropped = drop-map (view_bit vs) outputs bs
+    empty : (bs : List code_bit.Bit) → map (view_bit vs) bs ≡ [] → input_numbers first row bs ≡ map (λ i. number_of all (input_spot source s k i)) (enumerate_from 0 (map (view_bit vs) bs))
+    empty [] e = refl
+    empty (b ∷ bs) e = cc
 
-    none : (bs : List code_bit.Bit) → map (view_bit vs) bs ≡ [] → length (drop outputs bs) ≤ 0
-    none [] e = subst (λ xs. length {A = code_bit.Bit} xs ≤ 0) (sym (drop_all outputs [] (omega arith))) (omega arith)
-    none (b ∷ bs) e = cc
-
-    empty : (xs : List code_bit.Bit) → length xs ≤ 0 → input_numbers first row xs ≡ map (λ i. number_of all (input_spot source s k i)) (enumerate_from 0 (map (view_bit vs) xs))
-    empty [] le = refl
-    empty (x ∷ xs) le = absurd (omega arith)
-
-    by : (map (view_bit vs) bs ≡ []) ⊎ ((m : List ℕ) × ((q : ℕ) × ((rest : List Bit) × (take outputs (map (view_bit vs) bs) ≡ net m q ∷ rest))))
-        → input_numbers first row (drop outputs bs) ≡ map (λ i. number_of all (input_spot source s k i)) (enumerate_from 0 (map (view_bit vs) (drop outputs bs)))
-    by (inl e) = empty (drop outputs bs) (none bs e)
+    by : (map (view_bit vs) ins ≡ []) ⊎ ((m : List ℕ) × ((q : ℕ) × ((rest : List Bit) × (outs ≡ net m q ∷ rest))))
+        → input_numbers first row ins ≡ map (λ i. number_of all (input_spot source s k i)) (enumerate_from 0 (map (view_bit vs) ins))
+    by (inl e) = empty ins e
     by (inr (m, (q, (rest, e)))) =
-        let given = given-are all source s scope vs row (drop outputs bs) h (recursion_from_All (IsInRow vs) (drop outputs bs) (All-drop (IsInRow vs) outputs bs l)) in
-        let law = terminals-are_numbered all source s k outputs first (map (view_bit vs) bs) rest m q e t.constants in
-        ap (numbered first) given ∙ ap (λ xs. numbered first (map (number_of_bit (λ n p. number_of all (home_of source s n p))) xs)) (sym dropped) ∙ sym law
-        ∙ ap (λ xs. map (λ i. number_of all (input_spot source s k i)) (enumerate_from 0 xs)) dropped
+        ap (numbered first) (given-are all source s scope vs row ins h l)
+        ∙ sym (terminals-are_numbered all source s k first (map (view_bit vs) ins) rest m q
+        (subst (λ bs. numbers_in all (terminal_nets s k bs (map (view_bit vs) ins)) ≡ range_with_len first (length (terminal_nets s k bs (map (view_bit vs) ins)))) e t.constants))
 
 -- ---- all of a member
 
-abbrev elements_by : Source → Instance → Place → ℕ → Kind → (outs ins : List Bit) → List Component
-elements_by source s at k kk outs ins =
-    flat_map (output_element source s at kk (map (input_spot source s k) (enumerate_from 0 ins))) outs ++ flat_map (λ i. constant_pass s (terminal s.step.number k i.0) i.1) (enumerate_from 0 ins)
-
-split-by : (source : Source) (s : Instance) (at : Place) (k : ℕ) (kk : Kind) (outputs : ℕ) (vs : List Variable) (bs : List code_bit.Bit)
-    → elements_by source s at k kk (map (view_bit vs) (take outputs bs)) (map (view_bit vs) (drop outputs bs)) ≡ terminal_elements source s at k kk outputs (map (view_bit vs) bs)
-split-by source s at k kk outputs vs bs = λ i. elements_by source s at k kk (sym (take-map (view_bit vs) outputs bs) i) (sym (drop-map (view_bit vs) outputs bs) i)
-
-pub terminals-mean : (delays : List GateDelays) (udps : List UdpUse) (all : List OwnNet) (source : Source) (s : Instance) (scope k first outputs : ℕ) (vs : List Variable) (row : List ℕ) (place : Place)
-    (e : ElementKind) (bs : List code_bit.Bit) → IsHere all source s scope vs row → HasTerminals all s k first outputs (map (view_bit vs) bs) → NamesPlaces delays udps e → All (IsInRow vs) bs
-    → Means delays udps all (terminal_puts scope place e row first (take outputs bs) (drop outputs bs)) (terminal_elements source s place k (kind_in delays udps e) outputs (map (view_bit vs) bs))
-terminals-mean delays udps all source s scope k first outputs vs row place e bs h t n l =
-    let outs = take outputs bs in
-    let ins = drop outputs bs in
+pub terminals-mean : (delays : List GateDelays) (udps : List UdpUse) (all : List OwnNet) (source : Source) (s : Instance) (scope k first : ℕ) (vs : List Variable) (row inside : List ℕ) (place : Place)
+    (e : ElementKind) (outs ins : List code_bit.Bit) → IsHere all source s scope vs row → HasDriven all source s vs inside → HasTerminals all s k first (map (view_bit vs) outs) (map (view_bit vs) ins)
+    → NamesPlaces delays udps e → All (IsInRow vs) outs → All (IsInRow vs) ins
+    → Means delays udps all (terminal_puts scope place e row inside first outs ins) (terminal_elements source s place k (kind_in delays udps e) (map (view_bit vs) outs) (map (view_bit vs) ins))
+terminals-mean delays udps all source s scope k first vs row inside place e outs ins h d t n a b =
     let spots = map (input_spot source s k) (enumerate_from 0 (map (view_bit vs) ins)) in
     let numbers = map (λ i. number_of all (input_spot source s k i)) (enumerate_from 0 (map (view_bit vs) ins)) in
     let same : numbers ≡ map (number_of all) spots = sym (map-map (number_of all) (input_spot source s k) (enumerate_from 0 (map (view_bit vs) ins))) in
-    let law : input_numbers first row ins ≡ numbers = numbers-are all source s scope k first outputs vs row bs h t l in
-    let outputs_mean = outputs-mean delays udps all source s scope vs row place e spots outs h n (recursion_from_All (IsInRow vs) outs (All-take (IsInRow vs) outputs bs l)) in
-    let constants_mean = constants-mean delays udps all source s k scope vs 0 ins h.number in
+    let law : input_numbers first row ins ≡ numbers = numbers-are all source s scope k first vs row (map (view_bit vs) outs) ins h t (recursion_from_All (IsInRow vs) ins b) in
     means-same delays udps all _ _ _ _
-    (λ i. flat_map (output_puts scope place e (sym (law ∙ same) i) row) outs ++ flat_map (constant_puts scope) (zip ins (sym law i)))
-    (split-by source s place k (kind_in delays udps e) outputs vs bs)
-    (means-append delays udps all (flat_map (output_puts scope place e (map (number_of all) spots) row) outs) (flat_map (constant_puts scope) (zip ins numbers))
+    (λ i. flat_map (output_puts scope place e (sym (law ∙ same) i) inside) outs ++ flat_map (constant_puts scope) (zip ins (sym law i))) refl
+    (means-append delays udps all (flat_map (output_puts scope place e (map (number_of all) spots) inside) outs) (flat_map (constant_puts scope) (zip ins numbers))
     (flat_map (output_element source s place (kind_in delays udps e) spots) (map (view_bit vs) outs))
-    (flat_map (λ i. constant_pass s (terminal s.step.number k i.0) i.1) (enumerate_from 0 (map (view_bit vs) ins))) outputs_mean constants_mean)
+    (flat_map (λ i. constant_pass s (terminal s.step.number k i.0) i.1) (enumerate_from 0 (map (view_bit vs) ins)))
+    (outputs-mean delays udps all source s scope vs inside place e spots outs h.number d n (recursion_from_All (IsInRow vs) outs a)) (constants-mean delays udps all source s k scope vs 0 ins h.number))
 
-pub terminals-count : (source : Source) (s : Instance) (scope k first outputs : ℕ) (vs : List Variable) (row : List ℕ) (place : Place) (e : ElementKind) (kk : Kind) (bs : List code_bit.Bit)
-    → length (terminal_puts scope place e row first (take outputs bs) (drop outputs bs)) ≡ length (terminal_elements source s place k kk outputs (map (view_bit vs) bs))
-terminals-count source s scope k first outputs vs row place e kk bs =
-    let outs = take outputs bs in
-    let ins = drop outputs bs in
+pub terminals-count : (source : Source) (s : Instance) (scope k first : ℕ) (vs : List Variable) (row inside : List ℕ) (place : Place) (e : ElementKind) (kk : Kind) (outs ins : List code_bit.Bit)
+    → length (terminal_puts scope place e row inside first outs ins) ≡ length (terminal_elements source s place k kk (map (view_bit vs) outs) (map (view_bit vs) ins))
+terminals-count source s scope k first vs row inside place e kk outs ins =
     let numbers = input_numbers first row ins in
-    let f = flat_map (output_puts scope place e numbers row) outs in
+    let f = flat_map (output_puts scope place e numbers inside) outs in
     let g = flat_map (constant_puts scope) (zip ins numbers) in
-    same-count (f ++ g) (elements_by source s place k kk (map (view_bit vs) outs) (map (view_bit vs) ins))
-    (map-append (λ p. p.0) f g ∙ (λ i. output-places source s scope vs row place e kk numbers (map (input_spot source s k) (enumerate_from 0 (map (view_bit vs) ins))) outs i
+    same-count (f ++ g) (terminal_elements source s place k kk (map (view_bit vs) outs) (map (view_bit vs) ins))
+    (map-append (λ p. p.0) f g ∙ (λ i. output-places source s scope vs inside place e kk numbers (map (input_spot source s k) (enumerate_from 0 (map (view_bit vs) ins))) outs i
     ++ constant-places s k scope vs 0 ins numbers (numbers-count first row ins) i)
     ∙ sym (map-append (λ c. c.place) (flat_map (output_element source s place kk (map (input_spot source s k) (enumerate_from 0 (map (view_bit vs) ins)))) (map (view_bit vs) outs))
     (flat_map (λ i. constant_pass s (terminal s.step.number k i.0) i.1) (enumerate_from 0 (map (view_bit vs) ins)))))
-    ∙ ap length (split-by source s place k kk outputs vs bs)
 
 -- no fewer elements than constants at inputs
-pub constants-within : (source : Source) (s : Instance) (k outputs : ℕ) (vs : List Variable) (place : Place) (kk : Kind) (bs : List code_bit.Bit)
-    → constants_in (drop outputs bs) ≤ length (terminal_elements source s place k kk outputs (map (view_bit vs) bs))
-constants-within source s k outputs vs place kk bs =
-    let outs = map (view_bit vs) (take outputs bs) in
-    let ins = map (view_bit vs) (drop outputs bs) in
-    let whole = ap length (split-by source s place k kk outputs vs bs) in
-    let parts = length-append (flat_map (output_element source s place kk (map (input_spot source s k) (enumerate_from 0 ins))) outs) (flat_map (λ i. constant_pass s (terminal s.step.number k i.0) i.1) (enumerate_from 0 ins)) in
-    let count = constants-count s k vs 0 (drop outputs bs) in
-    subst (λ n. constants_in (drop outputs bs) ≤ n) whole (omega arith)
+constants-within : (source : Source) (s : Instance) (k : ℕ) (vs : List Variable) (place : Place) (kk : Kind) (outs ins : List code_bit.Bit)
+    → constants_in ins ≤ length (terminal_elements source s place k kk (map (view_bit vs) outs) (map (view_bit vs) ins))
+constants-within source s k vs place kk outs ins =
+    let parts = length-append (flat_map (output_element source s place kk (map (input_spot source s k) (enumerate_from 0 (map (view_bit vs) ins)))) (map (view_bit vs) outs))
+    (flat_map (λ i. constant_pass s (terminal s.step.number k i.0) i.1) (enumerate_from 0 (map (view_bit vs) ins))) in
+    let count = constants-count s k vs 0 ins in
+    omega (arith, parts, count)
 
 -- ---- what is put is what the member has
 
-pub front-is : (n outputs : ℕ) (bs outs : List code_bit.Bit) → n ≡ min outputs (length bs) → outs ≡ take n bs → outs ≡ take outputs bs
-front-is n outputs bs outs e h = h ∙ ap (λ k. take k bs) e ∙ take_min outputs bs
+terminals-are : (scope first : ℕ) (row inside : List ℕ) (place : Place) (e : ElementKind) (outs ins : List code_bit.Bit) (numbers again : List ℕ)
+    → numbers ≡ input_numbers first row ins → again ≡ input_numbers first row ins
+    → flat_map (output_puts scope place e numbers inside) outs ++ flat_map (constant_puts scope) (zip ins again) ≡ terminal_puts scope place e row inside first outs ins
+terminals-are scope first row inside place e outs ins numbers again c d = λ i. flat_map (output_puts scope place e (c i) inside) outs ++ flat_map (constant_puts scope) (zip ins (d i))
 
-pub back-is : (n outputs : ℕ) (bs ins : List code_bit.Bit) → n ≡ min outputs (length bs) → ins ≡ drop n bs → ins ≡ drop outputs bs
-back-is n outputs bs ins e h = h ∙ ap (λ k. drop k bs) e ∙ drop_min outputs bs
+pub terminals-put : (scope first : ℕ) (row inside : List ℕ) (place : Place) (e : ElementKind) (outs ins : List code_bit.Bit) (numbers again : List ℕ) (old mid new : Placing)
+    → numbers ≡ input_numbers first row ins → again ≡ input_numbers first row ins → Puts old mid (flat_map (output_puts scope place e numbers inside) outs)
+    → Puts mid new (flat_map (constant_puts scope) (zip ins again)) → Puts old new (terminal_puts scope place e row inside first outs ins)
+terminals-put scope first row inside place e outs ins numbers again old mid new c d h k =
+    puts-same old new _ _ (terminals-are scope first row inside place e outs ins numbers again c d)
+    (puts-then old mid new (flat_map (output_puts scope place e numbers inside) outs) (flat_map (constant_puts scope) (zip ins again)) h k)
 
-terminals-are : (scope first outputs : ℕ) (row : List ℕ) (place : Place) (e : ElementKind) (bs outs ins : List code_bit.Bit) (numbers again : List ℕ)
-    → outs ≡ take outputs bs → ins ≡ drop outputs bs → numbers ≡ input_numbers first row ins → again ≡ input_numbers first row ins
-    → flat_map (output_puts scope place e numbers row) outs ++ flat_map (constant_puts scope) (zip ins again) ≡ terminal_puts scope place e row first (take outputs bs) (drop outputs bs)
-terminals-are scope first outputs row place e bs outs ins numbers again a b c d =
-    (λ i. flat_map (output_puts scope place e (c i) row) outs ++ flat_map (constant_puts scope) (zip ins (d i)))
-    ∙ (λ i. terminal_puts scope place e row first (a i) (b i))
+pub inputs-refused : (source : Source) (s : Instance) (k : ℕ) (vs : List Variable) (place : Place) (kk : Kind) (outs ins : List code_bit.Bit) (old : Placing) (r : Refused ElabKind)
+    → ((total : ℕ) → constants_in ins ≤ total → RefusesCount total r)
+    → RefusesCount (length old.elements.items + length (terminal_elements source s place k kk (map (view_bit vs) outs) (map (view_bit vs) ins))) r
+inputs-refused source s k vs place kk outs ins old r h =
+    let few = constants-within source s k vs place kk outs ins in
+    h (length old.elements.items + length (terminal_elements source s place k kk (map (view_bit vs) outs) (map (view_bit vs) ins))) (omega (arith, few))
 
-pub terminals-put : (scope first outputs : ℕ) (row : List ℕ) (place : Place) (e : ElementKind) (bs outs ins : List code_bit.Bit) (numbers again : List ℕ) (old mid new : Placing)
-    → outs ≡ take outputs bs → ins ≡ drop outputs bs → numbers ≡ input_numbers first row ins → again ≡ input_numbers first row ins → Puts old mid (flat_map (output_puts scope place e numbers row) outs)
-    → Puts mid new (flat_map (constant_puts scope) (zip ins again)) → Puts old new (terminal_puts scope place e row first (take outputs bs) (drop outputs bs))
-terminals-put scope first outputs row place e bs outs ins numbers again old mid new a b c d h k =
-    puts-same old new _ _ (terminals-are scope first outputs row place e bs outs ins numbers again a b c d)
-    (puts-then old mid new (flat_map (output_puts scope place e numbers row) outs) (flat_map (constant_puts scope) (zip ins again)) h k)
+pub outputs-refused : (source : Source) (s : Instance) (scope k first : ℕ) (vs : List Variable) (row inside : List ℕ) (place : Place) (e : ElementKind) (kk : Kind) (outs ins : List code_bit.Bit)
+    (numbers : List ℕ) (old : Placing) (r : Refused ElabKind) → numbers ≡ input_numbers first row ins → RefusesPuts old (flat_map (output_puts scope place e numbers inside) outs) r
+    → RefusesCount (length old.elements.items + length (terminal_elements source s place k kk (map (view_bit vs) outs) (map (view_bit vs) ins))) r
+outputs-refused source s scope k first vs row inside place e kk outs ins numbers old r c h =
+    let whole = terminals-are scope first row inside place e outs ins numbers numbers c c in
+    let count = ap length whole ∙ terminals-count source s scope k first vs row inside place e kk outs ins in
+    refuses-count old (flat_map (output_puts scope place e numbers inside) outs ++ flat_map (constant_puts scope) (zip ins numbers))
+    (terminal_elements source s place k kk (map (view_bit vs) outs) (map (view_bit vs) ins)) r
+    (omega (arith, count)) (refuses-front old (flat_map (output_puts scope place e numbers inside) outs) (flat_map (constant_puts scope) (zip ins numbers)) r h)
 
-pub inputs-refused : (source : Source) (s : Instance) (k outputs : ℕ) (vs : List Variable) (place : Place) (kk : Kind) (bs ins : List code_bit.Bit) (old : Placing) (r : Refused ElabKind)
-    → ins ≡ drop outputs bs → ((total : ℕ) → constants_in ins ≤ total → RefusesCount total r)
-    → RefusesCount (length old.elements.items + length (terminal_elements source s place k kk outputs (map (view_bit vs) bs))) r
-inputs-refused source s k outputs vs place kk bs ins old r b h =
-    let few = constants-within source s k outputs vs place kk bs in
-    let e = ap constants_in b in
-    h (length old.elements.items + length (terminal_elements source s place k kk outputs (map (view_bit vs) bs))) (omega (arith, few, e))
-
-pub outputs-refused : (source : Source) (s : Instance) (scope k first outputs : ℕ) (vs : List Variable) (row : List ℕ) (place : Place) (e : ElementKind) (kk : Kind) (bs outs ins : List code_bit.Bit)
-    (numbers : List ℕ) (old : Placing) (r : Refused ElabKind) → outs ≡ take outputs bs → ins ≡ drop outputs bs → numbers ≡ input_numbers first row ins
-    → RefusesPuts old (flat_map (output_puts scope place e numbers row) outs) r
-    → RefusesCount (length old.elements.items + length (terminal_elements source s place k kk outputs (map (view_bit vs) bs))) r
-outputs-refused source s scope k first outputs vs row place e kk bs outs ins numbers old r a b c h =
-    let whole = terminals-are scope first outputs row place e bs outs ins numbers numbers a b c c in
-    let count = ap length whole ∙ terminals-count source s scope k first outputs vs row place e kk bs in
-    refuses-count old (flat_map (output_puts scope place e numbers row) outs ++ flat_map (constant_puts scope) (zip ins numbers)) (terminal_elements source s place k kk outputs (map (view_bit vs) bs)) r
-    (omega (arith, count)) (refuses-front old (flat_map (output_puts scope place e numbers row) outs) (flat_map (constant_puts scope) (zip ins numbers)) r h)
-
-pub constants-refused : (source : Source) (s : Instance) (scope k first outputs : ℕ) (vs : List Variable) (row : List ℕ) (place : Place) (e : ElementKind) (kk : Kind) (bs outs ins : List code_bit.Bit)
-    (numbers again : List ℕ) (old mid : Placing) (r : Refused ElabKind) → outs ≡ take outputs bs → ins ≡ drop outputs bs → numbers ≡ input_numbers first row ins → again ≡ input_numbers first row ins
-    → Puts old mid (flat_map (output_puts scope place e numbers row) outs) → RefusesPuts mid (flat_map (constant_puts scope) (zip ins again)) r
-    → RefusesCount (length old.elements.items + length (terminal_elements source s place k kk outputs (map (view_bit vs) bs))) r
-constants-refused source s scope k first outputs vs row place e kk bs outs ins numbers again old mid r a b c d p h =
-    let whole = terminals-are scope first outputs row place e bs outs ins numbers again a b c d in
-    let count = ap length whole ∙ terminals-count source s scope k first outputs vs row place e kk bs in
-    refuses-count old (flat_map (output_puts scope place e numbers row) outs ++ flat_map (constant_puts scope) (zip ins again)) (terminal_elements source s place k kk outputs (map (view_bit vs) bs)) r
-    (omega (arith, count)) (refuses-back old mid (flat_map (output_puts scope place e numbers row) outs) (flat_map (constant_puts scope) (zip ins again)) r p h)
+pub constants-refused : (source : Source) (s : Instance) (scope k first : ℕ) (vs : List Variable) (row inside : List ℕ) (place : Place) (e : ElementKind) (kk : Kind) (outs ins : List code_bit.Bit)
+    (numbers again : List ℕ) (old mid : Placing) (r : Refused ElabKind) → numbers ≡ input_numbers first row ins → again ≡ input_numbers first row ins
+    → Puts old mid (flat_map (output_puts scope place e numbers inside) outs) → RefusesPuts mid (flat_map (constant_puts scope) (zip ins again)) r
+    → RefusesCount (length old.elements.items + length (terminal_elements source s place k kk (map (view_bit vs) outs) (map (view_bit vs) ins))) r
+constants-refused source s scope k first vs row inside place e kk outs ins numbers again old mid r c d p h =
+    let whole = terminals-are scope first row inside place e outs ins numbers again c d in
+    let count = ap length whole ∙ terminals-count source s scope k first vs row inside place e kk outs ins in
+    refuses-count old (flat_map (output_puts scope place e numbers inside) outs ++ flat_map (constant_puts scope) (zip ins again))
+    (terminal_elements source s place k kk (map (view_bit vs) outs) (map (view_bit vs) ins)) r
+    (omega (arith, count)) (refuses-back old mid (flat_map (output_puts scope place e numbers inside) outs) (flat_map (constant_puts scope) (zip ins again)) r p h)

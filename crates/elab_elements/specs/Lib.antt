@@ -2,6 +2,7 @@
 pub mod Seen
 pub mod Adding
 pub mod Puts
+pub mod Terminals
 pub mod Words
 pub mod Next
 pub mod Standing

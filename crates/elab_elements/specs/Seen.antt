@@ -17,7 +17,7 @@ use Rattle.elab_model.specs.HierarchyFaults.{count_limit}
 use Rattle.elab_model.specs.Nets.{nets}
 use Rattle.elab_elements.specs.declared.placing.Placing.{Placing}
 
--- what a kind stands for, where all Legs are those of `leg_kind`
+-- what a kind stands for, where all Legs are those of `leg_kind` and no Path has its paths yet
 abbrev pub kind_in : List GateDelays → List UdpUse → ElementKind → Kind
 kind_in delays udps (kind.Gate g d) = Gate g (delays_at delays d)
 kind_in delays udps (kind.Udp u d) = Udp (udp_at udps u).rows (udp_at udps u).first (delays_at delays d)
@@ -29,13 +29,13 @@ kind_in delays udps (kind.Late d) = Late d
 abbrev pub element_in : List GateDelays → List UdpUse → code.Element → Element
 element_in delays udps e = record { scope = e.scope; inputs = e.inputs.items; output = e.output; kind = kind_in delays udps e.kind }
 
--- what a kind names stands in its table; the timing of all Legs is the first, and none is a Path or a Late
+-- what a kind names stands in its table; the timing of all Legs is the first, a Path names no paths yet, and none is a Late
 abbrev pub NamesPlaces : List GateDelays → List UdpUse → ElementKind → Type 0
 NamesPlaces delays udps (kind.Gate g d) = d < length delays
 NamesPlaces delays udps (kind.Udp u d) = (u < length udps) × (d < length delays)
 NamesPlaces delays udps (kind.Pass v) = Unit {0}
 NamesPlaces delays udps (kind.Leg t) = t ≡ 0
-NamesPlaces delays udps (kind.Path paths style) = ⊥
+NamesPlaces delays udps (kind.Path paths style) = Unit {0}
 NamesPlaces delays udps (kind.Late d) = ⊥
 
 pub record AreElements (source : Source) (top : Module) (corner : Corner) (delays : List GateDelays) (udps : List UdpUse) (made : Placing) : Type 0 where

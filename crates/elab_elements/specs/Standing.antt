@@ -21,8 +21,8 @@ use Rattle.elab_modules.specs.Reached.{IsLibrary}
 use Rattle.elab_modules.specs.Ready.{IsPrepared, member_delays}
 use Rattle.elab_modules.specs.declared.prepared.Prepared.{Prepared}
 use Rattle.elab_nets.specs.declared.rows.Rows.{Rows}
-use Rattle.elab_nets.specs.Rows.{HaveRows}
-use Rattle.elab_elements.specs.Adding.{IsConnectedOnce, IsHere}
+use Rattle.elab_nets.specs.Rows.{HasRow, HaveRows}
+use Rattle.elab_elements.specs.Adding.{IsConnectedOnce, IsHere, HasDriven}
 use Rattle.elab_elements.specs.Next.{IsNext}
 
 pub record AreRead (source : Source) (top : Module) (corner : Corner) (placed : List Placed) (ready : Library) (numbers : Rows) : Type 0 where
@@ -46,19 +46,32 @@ pub record IsInside (s c : Instance) (scope : ℕ) (vs : List Variable) (text : 
   pub once : IsConnectedOnce c.step
 
 -- the members of an instance, whose module stands at a place of the definitions, and the number of the first instance in it
-pub record AreMembers (source : Source) (top : Module) (corner : Corner) (placed : List Placed) (ready : Library) (numbers : Rows) (number definition : ℕ) (prepared : Prepared) (row : List ℕ) (next : ℕ) (s : Instance) : Type 0 where
+pub record AreMembers (source : Source) (top : Module) (corner : Corner) (placed : List Placed) (ready : Library) (numbers : Rows) (number definition : ℕ) (prepared : Prepared) (row inside : List ℕ)
+    (next : ℕ) (s : Instance) : Type 0 where
   pub at : IsAt source top corner placed ready numbers number s
   pub here : IsHere (nets source top) source s number prepared.table row
+  pub drives : HasDriven (nets source top) source s prepared.table inside
   pub stands : StandsAt source definition s.step.definition
   pub is_prepared : IsPrepared prepared s.step.definition
   pub first_child : next ≡ suc number
 
 -- the member k of an instance: its delays stand at a place of the table, its nets have the numbers from `first` on, and the next instance the number `next`
-pub record IsMember (source : Source) (top : Module) (corner : Corner) (placed : List Placed) (ready : Library) (numbers : Rows) (number : ℕ) (vs : List Variable) (row : List ℕ) (delays first next k : ℕ) (x : Member) (s : Instance) : Type 0 where
+pub record IsMember (source : Source) (top : Module) (corner : Corner) (placed : List Placed) (ready : Library) (numbers : Rows) (number : ℕ) (vs : List Variable) (row inside : List ℕ)
+    (delays first next k : ℕ) (x : Member) (s : Instance) : Type 0 where
   pub at : IsAt source top corner placed ready numbers number s
   pub here : IsHere (nets source top) source s number vs row
+  pub drives : HasDriven (nets source top) source s vs inside
   pub member : slice_get (members s.step.definition) k ≡ Some x
   pub ticks : delays_at ready.gate_delays.items delays ≡ member_delays corner (tick_of source top) s.step.definition x
   pub listed : delays < length ready.gate_delays.items
   pub numbered : numbers_in (nets source top) (member_nets source s (k, x)) ≡ range_with_len first (length (member_nets source s (k, x)))
   pub is_next : IsNext source s k next
+
+-- the member k of an instance that stands behind so many others, with its row and what is ready of its module
+pub record HasPaths (source : Source) (top : Module) (numbers : Rows) (number : ℕ) (prepared : Prepared) (row : List ℕ) (k : ℕ) (x : Member) (s : Instance) : Type 0 where
+  pub before : List Instance
+  pub place : length before ≡ number
+  pub has_row : HasRow source top numbers before s
+  pub here : IsHere (nets source top) source s number prepared.table row
+  pub is_prepared : IsPrepared prepared s.step.definition
+  pub member : slice_get (members s.step.definition) k ≡ Some x

@@ -1,11 +1,14 @@
 -- What private functions of the crate add, from what the code has of an instance. No public contract cites it.
-use Rattle.std.specs.Prelude.{ℕ, suc, ◌-◌, ◌==◌, false, List, [], ◌∷◌, ◌++◌, Bool, ◌&&◌, Option, Some, None, map, flat_map, take, zip, length, slice_index_or, if◌then◌else◌}
+use Rattle.std.specs.Prelude.{ℕ, suc, ◌-◌, ◌==◌, false, List, [], ◌∷◌, ◌++◌, Bool, ◌&&◌, Option, Some, None, map, flat_map, find, option_map, take, zip, length, slice_get, slice_index_or, if◌then◌else◌}
 use Rattle.std.specs.List.{range_with_len}
 use Rattle.sg_circuit.specs.Closed.{width_of}
 use Rattle.sg_circuit.specs.declared.elements.ElementKind.{ElementKind}
 use Rattle.sg_circuit.specs.declared.elements.ElementKind.TheVariants as kind
 use Rattle.sg_logic.specs.declared.values.Value.{Value}
+use Rattle.sg_delay.specs.declared.limits.PulseStyle.TheVariants.{OnEvent}
 use Rattle.sg_text.specs.declared.places.Place.{Place}
+use Rattle.vl_tree.specs.Tree.{Named}
+use Rattle.elab_model.specs.Elements.{place_in}
 use Rattle.elab_model.specs.Homes.{is_input}
 use Rattle.elab_model.specs.Names.{Variable}
 use Rattle.elab_laws.specs.Handing.{all_bits, numbered}
@@ -36,15 +39,15 @@ bit_value (bit.Net i) = None
 bit_value (bit.Constant p v) = Some v
 
 -- to the first of two bits from the second
-abbrev pub pass_puts : ℕ → Place → List ℕ → code_bit.Bit × code_bit.Bit → List Put
-pass_puts scope place row (bit.Net i, b) = put scope place (bit_inputs row b) (net_in row i) (kind.Pass (bit_value b)) ∷ []
-pass_puts scope place row (bit.Constant p v, b) = []
+abbrev pub pass_puts : ℕ → Place → (row inside : List ℕ) → code_bit.Bit × code_bit.Bit → List Put
+pass_puts scope place row inside (bit.Net i, b) = put scope place (bit_inputs row b) (net_in inside i) (kind.Pass (bit_value b)) ∷ []
+pass_puts scope place row inside (bit.Constant p v, b) = []
 
 -- ---- gates and primitives
 
-abbrev pub output_puts : ℕ → Place → ElementKind → List ℕ → List ℕ → code_bit.Bit → List Put
-output_puts scope place k inputs row (bit.Net i) = put scope place inputs (net_in row i) k ∷ []
-output_puts scope place k inputs row (bit.Constant p v) = []
+abbrev pub output_puts : ℕ → Place → ElementKind → (inputs inside : List ℕ) → code_bit.Bit → List Put
+output_puts scope place k inputs inside (bit.Net i) = put scope place inputs (net_in inside i) k ∷ []
+output_puts scope place k inputs inside (bit.Constant p v) = []
 
 abbrev pub given_in : List ℕ → code_bit.Bit → Option ℕ
 given_in row (bit.Net i) = Some (net_in row i)
@@ -69,9 +72,9 @@ abbrev pub constant_puts : ℕ → code_bit.Bit × ℕ → List Put
 constant_puts scope (bit.Net i, n) = []
 constant_puts scope (bit.Constant p v, n) = put scope p [] n (kind.Pass (Some v)) ∷ []
 
-abbrev pub terminal_puts : ℕ → Place → ElementKind → List ℕ → ℕ → (outs ins : List code_bit.Bit) → List Put
-terminal_puts scope place k row first outs ins =
-    flat_map (output_puts scope place k (input_numbers first row ins) row) outs ++ flat_map (constant_puts scope) (zip ins (input_numbers first row ins))
+abbrev pub terminal_puts : ℕ → Place → ElementKind → (row inside : List ℕ) → ℕ → (outs ins : List code_bit.Bit) → List Put
+terminal_puts scope place k row inside first outs ins =
+    flat_map (output_puts scope place k (input_numbers first row ins) inside) outs ++ flat_map (constant_puts scope) (zip ins (input_numbers first row ins))
 
 -- ---- Legs
 
@@ -89,6 +92,24 @@ start_of vs k = length (all_bits (take k vs))
 abbrev pub variable_puts : ℕ → Place → List Variable → List ℕ → List (Option ℕ) → ℕ → List Put
 variable_puts scope place vs inner outer k =
     if is_input (variable_at vs k).port then flat_map (bit_leg scope place inner outer) (range_with_len (start_of vs k) (width_of (variable_at vs k).range)) else []
+
+-- at the place of the port among the names of ports, or else at the instance's
+abbrev pub port_legs : ℕ → List Named → Place → List Variable → List ℕ → List (Option ℕ) → ℕ → List Put
+port_legs scope ports instance vs inner outer k = variable_puts scope (place_in (slice_get ports k) instance) vs inner outer k
+
+-- ---- Paths, and what is driven inside
+
+-- to a bit of the row from an inner net
+abbrev pub path_puts : ℕ → Place → List ℕ → ℕ × ℕ → List Put
+path_puts scope place row e = put scope place (e.1 ∷ []) (net_in row e.0) (kind.Path (record { start = 0; end = 0 }) OnEvent) ∷ []
+
+-- the nets of these bits, each with its inner net
+abbrev pub ends_in : (row bits ends : List ℕ) → List (ℕ × ℕ)
+ends_in row bits ends = zip (map (net_in row) bits) ends
+
+-- the inner net of the first that has a net
+abbrev pub inner_of : List (ℕ × ℕ) → ℕ → Option ℕ
+inner_of ends n = option_map (λ e. e.1) (find (λ e. e.0 == n) ends)
 
 -- ---- constants at ports
 

@@ -9,7 +9,7 @@ ghost use Rattle.elab_elements.specs.Standing.{AreRead};
 
 use crate::Placing;
 use crate::instances::add_instance;
-use crate::members::Terminals;
+use crate::terminals::Terminals;
 use elab_hierarchy::{Definitions, Placed};
 use elab_model::ElabKind;
 use elab_modules::Library;
@@ -37,6 +37,7 @@ pub fn elements_in(
         left: Vec::new(alloc),
         right: Vec::new(alloc),
     };
+    let mut driven = Vec::new(alloc);
     let mut made = Placing {
         elements: Vec::new(alloc),
         places: Vec::new(alloc),
@@ -49,6 +50,7 @@ pub fn elements_in(
             instances,
             rows,
             number,
+            &mut driven,
             &mut room,
             &mut made,
         )?;

@@ -11,7 +11,7 @@ ghost use Rattle.elab_model.specs.Hierarchy as def;
 ghost use Rattle.elab_model.specs.Names.{Variable};
 ghost use Rattle.elab_model.specs.Nets.{OwnNet};
 ghost use Rattle.elab_numbering.specs.Refusals.{RefusesCount};
-ghost use Rattle.elab_elements.specs.Adding.{Adds, IsHere, HasOutside, HasTerminals};
+ghost use Rattle.elab_elements.specs.Adding.{Adds, IsHere, HasDriven, HasTerminals};
 ghost use Rattle.elab_elements.specs.Seen.{kind_in, NamesPlaces};
 ghost use Rattle.elab_elements.specs.Puts.{Puts, RefusesPuts};
 ghost use Rattle.elab_elements.specs.Words.{input_number, input_numbers, output_puts, constant_puts, constants_in};
@@ -86,17 +86,17 @@ fn add_output(
     kind: ElementKind,
     inputs: &[NetId],
     bit: Bit,
-    row: &[NetId],
+    driven: &[NetId],
     made: &mut Placing,
 ) -> Result<(), Refused<ElabKind>>
-    requires row { (vs : List Variable) × ((length row.now ≡ length (all_bits vs)) × IsInRow vs bit) }
+    requires driven { (vs : List Variable) × ((length driven.now ≡ length (all_bits vs)) × IsInRow vs bit) }
     requires few { length made.old.elements.items ≤ 2 ^ 22 }
     ensures few { length made.new.elements.items ≤ 2 ^ 22 }
-    ensures puts { OnOk result (Puts made.old made.new (output_puts scope place kind inputs.now row.now bit)) }
-    ensures refused { IfErr result (RefusesPuts made.old (output_puts scope place kind inputs.now row.now bit)) }
+    ensures puts { OnOk result (Puts made.old made.new (output_puts scope place kind inputs.now driven.now bit)) }
+    ensures refused { IfErr result (RefusesPuts made.old (output_puts scope place kind inputs.now driven.now bit)) }
 {
     match bit {
-        Bit::Net(output) => add_element(scope, place, inputs, row[output], kind, made),
+        Bit::Net(output) => add_element(scope, place, inputs, driven[output], kind, made),
         Bit::Constant { .. } => Ok(()),
     }
 }
@@ -107,17 +107,17 @@ fn add_outputs(
     kind: ElementKind,
     inputs: &[NetId],
     bits: &[Bit],
-    row: &[NetId],
+    driven: &[NetId],
     made: &mut Placing,
 ) -> Result<(), Refused<ElabKind>>
-    requires row { (vs : List Variable) × ((length row.now ≡ length (all_bits vs)) × All (IsInRow vs) bits.now) }
+    requires driven { (vs : List Variable) × ((length driven.now ≡ length (all_bits vs)) × All (IsInRow vs) bits.now) }
     requires few { length made.old.elements.items ≤ 2 ^ 22 }
     ensures few { length made.new.elements.items ≤ 2 ^ 22 }
-    ensures puts { OnOk result (Puts made.old made.new (flat_map (output_puts scope place kind inputs.now row.now) bits.now)) }
-    ensures refused { IfErr result (RefusesPuts made.old (flat_map (output_puts scope place kind inputs.now row.now) bits.now)) }
+    ensures puts { OnOk result (Puts made.old made.new (flat_map (output_puts scope place kind inputs.now driven.now) bits.now)) }
+    ensures refused { IfErr result (RefusesPuts made.old (flat_map (output_puts scope place kind inputs.now driven.now) bits.now)) }
 {
     for bit in bits {
-        add_output(scope, place, kind, inputs, *bit, row, made)?;
+        add_output(scope, place, kind, inputs, *bit, driven, made)?;
     }
     Ok(())
 }
@@ -162,33 +162,36 @@ fn add_constants(
     Ok(())
 }
 
-/// Adds an element of a kind for each output of a gate or a primitive, and then a Pass for each constant at its inputs (IEEE 1364-2005, 7.2, 7.3, 8.1.1). The first `outputs` of
-/// the bits are its outputs; the nets of its constants have the numbers from `first` on.
+/// Adds an element of a kind for each output of a gate or a primitive, and then a Pass for each constant at its inputs (IEEE 1364-2005, 7.2, 7.3, 8.1.1). The nets of its constants
+/// have the numbers from `first` on.
 pub fn add_terminal_elements(
     table: &Table,
     scope: u32,
     place: Place,
     kind: ElementKind,
-    outputs: usize,
-    bits: &[Bit],
+    outputs: &[Bit],
+    inputs: &[Bit],
     first: NetId,
     row: &[NetId],
+    driven: &[NetId],
     made: &mut Placing,
 ) -> Result<(), Refused<ElabKind>>
     requires row { length row.now ≡ length (all_bits table.now) }
-    requires bits { All (IsInRow table.now) bits.now }
+    requires driven { length driven.now ≡ length (all_bits table.now) }
+    requires outputs { All (IsInRow table.now) outputs.now }
+    requires inputs { All (IsInRow table.now) inputs.now }
     requires first { first ≤ 2 ^ 22 }
     requires few { length made.old.elements.items ≤ 2 ^ 22 }
     ensures few { length made.new.elements.items ≤ 2 ^ 22 }
     ensures elements { OnOk result ((delays : List ghost_delays.GateDelays) (udps : List ghost_udps.UdpUse) (all : List OwnNet) (source : Source) (s : def.Instance) (k : ℕ) → IsHere all source s scope table.now row.now
-        → HasTerminals all s k first outputs (map (view_bit table.now) bits.now) → NamesPlaces delays udps kind
-        → Adds delays udps all made.old made.new (def_elements.terminal_elements source s place k (kind_in delays udps kind) outputs (map (view_bit table.now) bits.now))) }
-    ensures refused { IfErr result (λ r. (delays : List ghost_delays.GateDelays) (udps : List ghost_udps.UdpUse) (all : List OwnNet) (source : Source) (s : def.Instance) (k : ℕ) → IsHere all source s scope table.now row.now
-        → RefusesCount (length made.old.elements.items + length (def_elements.terminal_elements source s place k (kind_in delays udps kind) outputs (map (view_bit table.now) bits.now))) r) }
+        → HasDriven all source s table.now driven.now → HasTerminals all s k first (map (view_bit table.now) outputs.now) (map (view_bit table.now) inputs.now) → NamesPlaces delays udps kind
+        → Adds delays udps all made.old made.new (def_elements.terminal_elements source s place k (kind_in delays udps kind) (map (view_bit table.now) outputs.now) (map (view_bit table.now) inputs.now))) }
+    ensures refused { IfErr result (λ r. (delays : List ghost_delays.GateDelays) (udps : List ghost_udps.UdpUse) (source : Source) (s : def.Instance) (k : ℕ)
+        → RefusesCount (length made.old.elements.items
+        + length (def_elements.terminal_elements source s place k (kind_in delays udps kind) (map (view_bit table.now) outputs.now) (map (view_bit table.now) inputs.now))) r) }
 {
-    let (to, from) = bits.split_at(outputs.min(bits.len()));
-    let mut inputs = SmallVec::new(*made.elements.allocator());
-    add_inputs(from, first, row, &mut inputs)?;
-    add_outputs(scope, place, kind, inputs.as_slice(), to, row, made)?;
-    add_constants(scope, from, inputs.as_slice(), made)
+    let mut nets = SmallVec::new(*made.elements.allocator());
+    add_inputs(inputs, first, row, &mut nets)?;
+    add_outputs(scope, place, kind, nets.as_slice(), outputs, driven, made)?;
+    add_constants(scope, inputs, nets.as_slice(), made)
 }

@@ -13,9 +13,10 @@ ghost use Rattle.elab_elements.specs.Adding.{Adds};
 ghost use Rattle.elab_elements.specs.Standing.{AreMembers, IsAt};
 
 use crate::Placing;
-use crate::members::Terminals;
+use crate::driven::drive;
 use crate::own_legs::add_own_legs;
-use crate::reading::{delays_at, first_net, inner_row, placed_at};
+use crate::reading::{delays_at, end_row, first_net, inner_row, placed_at};
+use crate::terminals::Terminals;
 use crate::turns::add_member;
 use elab_hierarchy::{Definitions, Placed};
 use elab_model::ElabKind;
@@ -36,18 +37,19 @@ fn add_members(
     definition: usize,
     prepared: &Prepared,
     row: &[NetId],
+    driven: &[NetId],
     start: u32,
     room: &mut Terminals,
     made: &mut Placing,
 ) -> Result<(), Refused<ElabKind>>
     requires at { (top : Module) × ((corner : ghost_corner.Corner) × ((s : def.Instance)
-        × AreMembers definitions.now top corner instances.now library.now rows.now number definition prepared.now row.now start s)) }
+        × AreMembers definitions.now top corner instances.now library.now rows.now number definition prepared.now row.now driven.now start s)) }
     requires few { length made.old.elements.items ≤ 2 ^ 22 }
     ensures few { length made.new.elements.items ≤ 2 ^ 22 }
-    ensures elements { OnOk result ((top : Module) (corner : ghost_corner.Corner) (s : def.Instance) → AreMembers definitions.now top corner instances.now library.now rows.now number definition prepared.now row.now start s
+    ensures elements { OnOk result ((top : Module) (corner : ghost_corner.Corner) (s : def.Instance) → AreMembers definitions.now top corner instances.now library.now rows.now number definition prepared.now row.now driven.now start s
         → Adds library.now.gate_delays.items library.now.udps.items (nets definitions.now top) made.old made.new
         (flat_map (def_elements.member_elements definitions.now corner (tick_of definitions.now top) s) (enumerate_from 0 (def_members.members s.step.definition)))) }
-    ensures refused { IfErr result (λ r. (top : Module) (corner : ghost_corner.Corner) (s : def.Instance) → AreMembers definitions.now top corner instances.now library.now rows.now number definition prepared.now row.now start s
+    ensures refused { IfErr result (λ r. (top : Module) (corner : ghost_corner.Corner) (s : def.Instance) → AreMembers definitions.now top corner instances.now library.now rows.now number definition prepared.now row.now driven.now start s
         → RefusesCount (length made.old.elements.items
         + length (flat_map (def_elements.member_elements definitions.now corner (tick_of definitions.now top) s) (enumerate_from 0 (def_members.members s.step.definition)))) r) }
 {
@@ -61,11 +63,13 @@ fn add_members(
             library,
             instances,
             rows,
-            &prepared.table,
+            prepared,
             number,
             row,
+            driven,
             delays,
             first,
+            at,
             *member,
             next,
             room,
@@ -73,6 +77,68 @@ fn add_members(
         )?;
     }
     Ok(())
+}
+
+// The same of an instance, with what is driven inside: its own row, unless paths lead to some of its bits.
+fn add_inside(
+    alloc: Global,
+    definitions: &Definitions,
+    library: &Library,
+    instances: &[Placed],
+    rows: &Rows,
+    number: u32,
+    driven: &mut Vec<NetId>,
+    room: &mut Terminals,
+    made: &mut Placing,
+) -> Result<(), Refused<ElabKind>>
+    requires at { (top : Module) × ((corner : ghost_corner.Corner) × ((s : def.Instance) × IsAt definitions.now top corner instances.now library.now rows.now number s)) }
+    requires few { length made.old.elements.items ≤ 2 ^ 22 }
+    ensures few { length made.new.elements.items ≤ 2 ^ 22 }
+    ensures elements { OnOk result ((top : Module) (corner : ghost_corner.Corner) (s : def.Instance) → IsAt definitions.now top corner instances.now library.now rows.now number s
+        → Adds library.now.gate_delays.items library.now.udps.items (nets definitions.now top) made.old made.new
+        (flat_map (def_elements.member_elements definitions.now corner (tick_of definitions.now top) s) (enumerate_from 0 (def_members.members s.step.definition)))) }
+    ensures refused { IfErr result (λ r. (top : Module) (corner : ghost_corner.Corner) (s : def.Instance) → IsAt definitions.now top corner instances.now library.now rows.now number s
+        → RefusesCount (length made.old.elements.items
+        + length (flat_map (def_elements.member_elements definitions.now corner (tick_of definitions.now top) s) (enumerate_from 0 (def_members.members s.step.definition)))) r) }
+{
+    let definition = placed_at(instances, number).definition;
+    let prepared = module_at(library, definition);
+    let row = inner_row(rows, number as usize, prepared.table.bits());
+    let bits = &prepared.ends.bits;
+    if bits.is_empty() {
+        return add_members(
+            alloc,
+            definitions,
+            library,
+            instances,
+            rows,
+            number,
+            definition,
+            prepared,
+            row,
+            row,
+            number + 1,
+            room,
+            made,
+        );
+    }
+    let ends = end_row(rows, number as usize, bits.len());
+    drive(alloc, row, bits, ends, driven)?;
+    add_members(
+        alloc,
+        definitions,
+        library,
+        instances,
+        rows,
+        number,
+        definition,
+        prepared,
+        row,
+        driven,
+        number + 1,
+        room,
+        made,
+    )
 }
 
 /// Adds the elements of the instance of a number: its Legs, where it is a leaf, then those of its members.
@@ -83,6 +149,7 @@ pub fn add_instance(
     instances: &[Placed],
     rows: &Rows,
     number: u32,
+    driven: &mut Vec<NetId>,
     room: &mut Terminals,
     made: &mut Placing,
 ) -> Result<(), Refused<ElabKind>>
@@ -94,21 +161,15 @@ pub fn add_instance(
     ensures refused { IfErr result (λ r. (top : Module) (corner : ghost_corner.Corner) (s : def.Instance) → IsAt definitions.now top corner instances.now library.now rows.now number s
         → RefusesCount (length made.old.elements.items + length (def_elements.elements_of definitions.now corner (tick_of definitions.now top) s)) r) }
 {
-    let definition = placed_at(instances, number).definition;
-    let prepared = module_at(library, definition);
     add_own_legs(library, instances, rows, number, made)?;
-    let row = inner_row(rows, number as usize, prepared.table.bits());
-    add_members(
+    add_inside(
         alloc,
         definitions,
         library,
         instances,
         rows,
         number,
-        definition,
-        prepared,
-        row,
-        number + 1,
+        driven,
         room,
         made,
     )

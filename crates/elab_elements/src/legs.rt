@@ -1,5 +1,5 @@
 // The Legs of a leaf.
-ghost use Rattle.std.specs.Prelude.{◌≡◌, ◌≤◌, ◌<◌, ◌+◌, ◌-◌, ◌^◌, ◌++◌, ℕ, List, All, true, Some, OnOk, IfErr, length, map, flat_map, take};
+ghost use Rattle.std.specs.Prelude.{◌≡◌, ◌≤◌, ◌<◌, ◌+◌, ◌-◌, ◌^◌, ◌++◌, ℕ, List, All, true, Some, OnOk, IfErr, length, map, flat_map, take, slice_get, []};
 ghost use Rattle.sg_circuit.specs.declared.elements.UdpUse as ghost_udps;
 ghost use Rattle.sg_delay.specs.declared.gates.GateDelays as ghost_delays;
 ghost use Rattle.vl_tree.specs.Tree.{Source};
@@ -7,8 +7,12 @@ ghost use Rattle.elab_laws.specs.Handing.{all_bits};
 ghost use Rattle.elab_bits.specs.Seen.{view_bit, IsInRow};
 ghost use Rattle.elab_model.specs.Bits.{constant};
 ghost use Rattle.elab_model.specs.Elements as def_elements;
+ghost use Rattle.elab_model.specs.Elements.{place_in};
 ghost use Rattle.elab_model.specs.Hierarchy as def;
+ghost use Rattle.elab_model.specs.NameFaults.{declaration_faults};
 ghost use Rattle.elab_model.specs.Nets.{OwnNet};
+ghost use Rattle.elab_model.specs.Ports.{port_list};
+ghost use Rattle.vl_tree.specs.Seen.{view_name};
 ghost use Rattle.elab_numbering.specs.Refusals.{RefusesCount};
 ghost use Rattle.elab_elements.specs.Adding.{Adds, IsHere, HasOutside, HasTerminals};
 ghost use Rattle.elab_elements.specs.Seen.{kind_in, NamesPlaces};
@@ -16,7 +20,7 @@ ghost use Rattle.std.specs.List.{range_with_len};
 ghost use Rattle.sg_circuit.specs.Closed.{width_of};
 ghost use Rattle.elab_variables.specs.Seen.{variable_at};
 ghost use Rattle.elab_elements.specs.Puts.{Puts, RefusesPuts};
-ghost use Rattle.elab_elements.specs.Words.{leg_puts, bit_leg, start_of, variable_puts};
+ghost use Rattle.elab_elements.specs.Words.{leg_puts, bit_leg, start_of, variable_puts, port_legs};
 
 use crate::Placing;
 use crate::placing::add_element;
@@ -24,6 +28,7 @@ use elab_model::ElabKind;
 use elab_variables::Table;
 use sg_circuit::{ElementKind, NetId, Port};
 use sg_text::{Place, Refused};
+use vl_tree::Name;
 
 // Adds a Leg to a net from the one outside, if there is one.
 fn add_leg(
@@ -112,9 +117,20 @@ fn add_variable_legs(
     }
 }
 
+// Where a port stands in the list of ports. The variables of a module begin with its ports.
+fn place_of(ports: &[Name], variable: usize, instance: Place) -> Place
+    ensures { result ≡ place_in (slice_get (map view_name ports.now) variable) instance }
+{
+    match ports.get(variable) {
+        Some(port) => port.place,
+        None => instance,
+    }
+}
+
 // Adds the Legs of all variables.
 fn add_all_legs(
     table: &Table,
+    ports: &[Name],
     scope: u32,
     place: Place,
     inner: &[NetId],
@@ -125,19 +141,21 @@ fn add_all_legs(
     requires outer { length outer.now ≡ length (all_bits table.now) }
     requires few { length made.old.elements.items ≤ 2 ^ 22 }
     ensures few { length made.new.elements.items ≤ 2 ^ 22 }
-    ensures puts { OnOk result (Puts made.old made.new (flat_map (variable_puts scope place table.now inner.now outer.now) (range_with_len 0 (length table.now - 0)))) }
-    ensures refused { IfErr result (RefusesPuts made.old (flat_map (variable_puts scope place table.now inner.now outer.now) (range_with_len 0 (length table.now - 0)))) }
+    ensures puts { OnOk result (Puts made.old made.new (flat_map (port_legs scope (map view_name ports.now) place table.now inner.now outer.now) (range_with_len 0 (length table.now - 0)))) }
+    ensures refused { IfErr result (RefusesPuts made.old (flat_map (port_legs scope (map view_name ports.now) place table.now inner.now outer.now) (range_with_len 0 (length table.now - 0)))) }
 {
     let count = table.len();
     for variable in 0..count {
+        let place = place_of(ports, variable, place);
         add_variable_legs(table, scope, place, variable, inner, outer, made)?;
     }
     Ok(())
 }
 
-/// Adds a Leg for each bit of each input of a leaf, from the net that lies outside of it.
+/// Adds a Leg for each bit of each input of a leaf, from the net that lies outside of it. `ports` is the list of ports of its module.
 pub fn add_legs(
     table: &Table,
+    ports: &[Name],
     scope: u32,
     place: Place,
     inner: &[NetId],
@@ -149,9 +167,9 @@ pub fn add_legs(
     requires few { length made.old.elements.items ≤ 2 ^ 22 }
     ensures few { length made.new.elements.items ≤ 2 ^ 22 }
     ensures legs { OnOk result ((delays : List ghost_delays.GateDelays) (udps : List ghost_udps.UdpUse) (all : List OwnNet) (source : Source) (s : def.Instance) → IsHere all source s scope table.now inner.now → HasOutside all source s table.now outer.now
-        → s.step.place ≡ place → def.is_leaf source s ≡ true → Adds delays udps all made.old made.new (def_elements.legs source s)) }
+        → s.step.place ≡ place → def.is_leaf source s ≡ true → map view_name ports.now ≡ port_list s.step.definition → declaration_faults s.step.definition ≡ [] → Adds delays udps all made.old made.new (def_elements.legs source s)) }
     ensures refused { IfErr result (λ r. (all : List OwnNet) (source : Source) (s : def.Instance) → IsHere all source s scope table.now inner.now → HasOutside all source s table.now outer.now
-        → s.step.place ≡ place → def.is_leaf source s ≡ true → RefusesCount (length made.old.elements.items + length (def_elements.legs source s)) r) }
+        → s.step.place ≡ place → def.is_leaf source s ≡ true → map view_name ports.now ≡ port_list s.step.definition → declaration_faults s.step.definition ≡ [] → RefusesCount (length made.old.elements.items + length (def_elements.legs source s)) r) }
 {
-    add_all_legs(table, scope, place, inner, outer, made)
+    add_all_legs(table, ports, scope, place, inner, outer, made)
 }

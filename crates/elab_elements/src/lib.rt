@@ -2,6 +2,7 @@
 #![tactic(auto)]
 
 mod children;
+mod driven;
 mod elements;
 mod gates;
 mod instances;
@@ -9,10 +10,12 @@ mod legs;
 mod members;
 mod own_legs;
 mod passes;
+mod paths;
 mod placing;
 mod ports;
 mod primitives;
 mod reading;
+mod terminals;
 mod turns;
 
 pub use elements::elements_in;

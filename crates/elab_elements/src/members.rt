@@ -14,38 +14,21 @@ ghost use Rattle.elab_model.specs.Hierarchy as def;
 ghost use Rattle.elab_model.specs.Leaves.{whole};
 ghost use Rattle.elab_model.specs.Nets.{OwnNet};
 ghost use Rattle.elab_numbering.specs.Refusals.{RefusesCount};
-ghost use Rattle.elab_elements.specs.Adding.{Adds, IsHere, HasTerminals};
-ghost use Rattle.elab_elements.specs.Seen.{kind_in, NamesPlaces};
+ghost use Rattle.elab_elements.specs.Adding.{Adds, IsHere, HasDriven, HasTerminals};
+ghost use Rattle.elab_elements.specs.Terminals.{outputs_of, inputs_of};
 
 use crate::Placing;
 use crate::gates::add_terminal_elements;
 use crate::passes::{add_passes, add_supply};
-use elab_bits::{Bit, add_bits, add_variable};
+use crate::terminals::{Terminals, add_terminals};
+use elab_bits::{add_bits, add_variable};
 use elab_model::ElabKind;
 use elab_modules::output_count;
 use elab_variables::Table;
 use sg_circuit::{ElementKind, NetId};
 use sg_logic::{GateKind, Value};
-use sg_text::{NoMemory, Place, Refused};
+use sg_text::{Place, Refused};
 use vl_tree::{Expression, Name};
-
-/// Room for the bits of a member's terminals, which is used again from member to member.
-#[derive(Debug, Drop)]
-pub struct Terminals {
-    pub left: Vec<Bit>,
-    pub right: Vec<Bit>,
-}
-
-// Adds the bits of these expressions.
-fn add_all(table: &Table, expressions: &[Expression], bits: &mut Vec<Bit>) -> Result<(), NoMemory>
-    ensures bits { OnOk result (map (view_bit table.now) bits.new.items ≡ map (view_bit table.now) bits.old.items ++ flat_map (def_bits.bits table.now) (map view_expression expressions.now)) }
-    ensures row { All (IsInRow table.now) bits.old.items → All (IsInRow table.now) bits.new.items }
-{
-    for expression in expressions {
-        add_bits(table, expression, bits)?;
-    }
-    Ok(())
-}
 
 /// Adds the Passes of an assignment (IEEE 1364-2005, 6.1).
 pub fn add_assignment(
@@ -55,22 +38,33 @@ pub fn add_assignment(
     left: &Expression,
     right: &Expression,
     row: &[NetId],
+    driven: &[NetId],
     room: &mut Terminals,
     made: &mut Placing,
 ) -> Result<(), Refused<ElabKind>>
     requires row { length row.now ≡ length (all_bits table.now) }
+    requires driven { length driven.now ≡ length (all_bits table.now) }
     requires few { length made.old.elements.items ≤ 2 ^ 22 }
     ensures few { length made.new.elements.items ≤ 2 ^ 22 }
-    ensures passes { OnOk result ((delays : List ghost_delays.GateDelays) (udps : List ghost_udps.UdpUse) (all : List OwnNet) (source : GhostSource) (s : def.Instance) → IsHere all source s scope table.now row.now
+    ensures passes { OnOk result ((delays : List ghost_delays.GateDelays) (udps : List ghost_udps.UdpUse) (all : List OwnNet) (source : GhostSource) (s : def.Instance) → IsHere all source s scope table.now row.now → HasDriven all source s table.now driven.now
         → Adds delays udps all made.old made.new (def_elements.passes source s place (def_bits.bits table.now (view_expression left.now)) (def_bits.bits table.now (view_expression right.now)))) }
-    ensures refused { IfErr result (λ r. (all : List OwnNet) (source : GhostSource) (s : def.Instance) → IsHere all source s scope table.now row.now
+    ensures refused { IfErr result (λ r. (all : List OwnNet) (source : GhostSource) (s : def.Instance) → IsHere all source s scope table.now row.now → HasDriven all source s table.now driven.now
         → RefusesCount (length made.old.elements.items + length (def_elements.passes source s place (def_bits.bits table.now (view_expression left.now)) (def_bits.bits table.now (view_expression right.now)))) r) }
 {
     room.left.clear();
     room.right.clear();
     add_bits(table, left, &mut room.left)?;
     add_bits(table, right, &mut room.right)?;
-    add_passes(table, scope, place, &room.left, &room.right, row, made)
+    add_passes(
+        table,
+        scope,
+        place,
+        &room.left,
+        &room.right,
+        row,
+        driven,
+        made,
+    )
 }
 
 /// Adds the Passes of a net that is assigned where it is declared (IEEE 1364-2005, 6.1.1).
@@ -80,22 +74,33 @@ pub fn add_declared(
     name: Name,
     value: &Expression,
     row: &[NetId],
+    driven: &[NetId],
     room: &mut Terminals,
     made: &mut Placing,
 ) -> Result<(), Refused<ElabKind>>
     requires row { length row.now ≡ length (all_bits table.now) }
+    requires driven { length driven.now ≡ length (all_bits table.now) }
     requires few { length made.old.elements.items ≤ 2 ^ 22 }
     ensures few { length made.new.elements.items ≤ 2 ^ 22 }
-    ensures passes { OnOk result ((delays : List ghost_delays.GateDelays) (udps : List ghost_udps.UdpUse) (all : List OwnNet) (source : GhostSource) (s : def.Instance) → IsHere all source s scope table.now row.now
+    ensures passes { OnOk result ((delays : List ghost_delays.GateDelays) (udps : List ghost_udps.UdpUse) (all : List OwnNet) (source : GhostSource) (s : def.Instance) → IsHere all source s scope table.now row.now → HasDriven all source s table.now driven.now
         → Adds delays udps all made.old made.new (def_elements.passes source s name.entry.place (def_bits.leaf_bits table.now (whole (view_name name.entry))) (def_bits.bits table.now (view_expression value.now)))) }
-    ensures refused { IfErr result (λ r. (all : List OwnNet) (source : GhostSource) (s : def.Instance) → IsHere all source s scope table.now row.now
+    ensures refused { IfErr result (λ r. (all : List OwnNet) (source : GhostSource) (s : def.Instance) → IsHere all source s scope table.now row.now → HasDriven all source s table.now driven.now
         → RefusesCount (length made.old.elements.items + length (def_elements.passes source s name.entry.place (def_bits.leaf_bits table.now (whole (view_name name.entry))) (def_bits.bits table.now (view_expression value.now)))) r) }
 {
     room.left.clear();
     room.right.clear();
     add_variable(table, name, &mut room.left)?;
     add_bits(table, value, &mut room.right)?;
-    add_passes(table, scope, name.place, &room.left, &room.right, row, made)
+    add_passes(
+        table,
+        scope,
+        name.place,
+        &room.left,
+        &room.right,
+        row,
+        driven,
+        made,
+    )
 }
 
 /// Adds the Passes of a supply net (IEEE 1364-2005, 4.6).
@@ -105,20 +110,24 @@ pub fn add_supply_net(
     name: Name,
     value: Value,
     row: &[NetId],
+    driven: &[NetId],
     room: &mut Terminals,
     made: &mut Placing,
 ) -> Result<(), Refused<ElabKind>>
     requires row { length row.now ≡ length (all_bits table.now) }
+    requires driven { length driven.now ≡ length (all_bits table.now) }
     requires few { length made.old.elements.items ≤ 2 ^ 22 }
     ensures few { length made.new.elements.items ≤ 2 ^ 22 }
-    ensures passes { OnOk result ((delays : List ghost_delays.GateDelays) (udps : List ghost_udps.UdpUse) (all : List OwnNet) (source : GhostSource) (s : def.Instance) → IsHere all source s scope table.now row.now
+    ensures passes { OnOk result ((delays : List ghost_delays.GateDelays) (udps : List ghost_udps.UdpUse) (all : List OwnNet) (source : GhostSource) (s : def.Instance) → IsHere all source s scope table.now row.now → HasDriven all source s table.now driven.now
         → Adds delays udps all made.old made.new (flat_map (λ b. def_elements.pass_to source s name.entry.place (b, def_bits.constant name.entry.place value)) (def_bits.leaf_bits table.now (whole (view_name name.entry))))) }
-    ensures refused { IfErr result (λ r. (all : List OwnNet) (source : GhostSource) (s : def.Instance) → IsHere all source s scope table.now row.now
+    ensures refused { IfErr result (λ r. (all : List OwnNet) (source : GhostSource) (s : def.Instance) → IsHere all source s scope table.now row.now → HasDriven all source s table.now driven.now
         → RefusesCount (length made.old.elements.items + length (flat_map (λ b. def_elements.pass_to source s name.entry.place (b, def_bits.constant name.entry.place value)) (def_bits.leaf_bits table.now (whole (view_name name.entry))))) r) }
 {
     room.left.clear();
     add_variable(table, name, &mut room.left)?;
-    add_supply(table, scope, name.place, value, &room.left, row, made)
+    add_supply(
+        table, scope, name.place, value, &room.left, row, driven, made,
+    )
 }
 
 /// Adds the elements of a gate (IEEE 1364-2005, 7.1). `delays` is the place of its delays.
@@ -131,26 +140,40 @@ pub fn add_gate(
     terminals: &[Expression],
     first: NetId,
     row: &[NetId],
+    driven: &[NetId],
     room: &mut Terminals,
     made: &mut Placing,
 ) -> Result<(), Refused<ElabKind>>
     requires row { length row.now ≡ length (all_bits table.now) }
+    requires driven { length driven.now ≡ length (all_bits table.now) }
     requires first { first ≤ 2 ^ 22 }
     requires few { length made.old.elements.items ≤ 2 ^ 22 }
     ensures few { length made.new.elements.items ≤ 2 ^ 22 }
-    ensures elements { OnOk result ((listed : List ghost_delays.GateDelays) (udps : List ghost_udps.UdpUse) (all : List OwnNet) (source : GhostSource) (s : def.Instance) (k : ℕ) (bs : List def_bits.Bit)
-        → IsHere all source s scope table.now row.now → bs ≡ flat_map (def_bits.bits table.now) (map view_expression terminals.now)
-        → HasTerminals all s k first (def_elements.output_count kind (length bs)) bs → delays < length listed
-        → Adds listed udps all made.old made.new (def_elements.terminal_elements source s place k (Gate kind (delays_at listed delays)) (def_elements.output_count kind (length bs)) bs)) }
-    ensures refused { IfErr result (λ r. (listed : List ghost_delays.GateDelays) (all : List OwnNet) (source : GhostSource) (s : def.Instance) (k : ℕ) (bs : List def_bits.Bit)
-        → IsHere all source s scope table.now row.now → bs ≡ flat_map (def_bits.bits table.now) (map view_expression terminals.now)
-        → RefusesCount (length made.old.elements.items + length (def_elements.terminal_elements source s place k (Gate kind (delays_at listed delays)) (def_elements.output_count kind (length bs)) bs)) r) }
+    ensures elements { OnOk result ((listed : List ghost_delays.GateDelays) (udps : List ghost_udps.UdpUse) (all : List OwnNet) (source : GhostSource) (s : def.Instance) (k : ℕ)
+        → IsHere all source s scope table.now row.now → HasDriven all source s table.now driven.now
+        → HasTerminals all s k first (outputs_of table.now (def_elements.output_count kind (length (map view_expression terminals.now))) (map view_expression terminals.now)) (inputs_of table.now (def_elements.output_count kind (length (map view_expression terminals.now))) (map view_expression terminals.now))
+        → delays < length listed
+        → Adds listed udps all made.old made.new (def_elements.terminal_elements source s place k (Gate kind (delays_at listed delays))
+        (outputs_of table.now (def_elements.output_count kind (length (map view_expression terminals.now))) (map view_expression terminals.now)) (inputs_of table.now (def_elements.output_count kind (length (map view_expression terminals.now))) (map view_expression terminals.now)))) }
+    ensures refused { IfErr result (λ r. (listed : List ghost_delays.GateDelays) (source : GhostSource) (s : def.Instance) (k : ℕ)
+        → RefusesCount (length made.old.elements.items + length (def_elements.terminal_elements source s place k (Gate kind (delays_at listed delays))
+        (outputs_of table.now (def_elements.output_count kind (length (map view_expression terminals.now))) (map view_expression terminals.now)) (inputs_of table.now (def_elements.output_count kind (length (map view_expression terminals.now))) (map view_expression terminals.now)))) r) }
 {
     room.left.clear();
-    add_all(table, terminals, &mut room.left)?;
-    let outputs = output_count(kind, room.left.len());
+    room.right.clear();
+    let outputs = output_count(kind, terminals.len());
+    add_terminals(table, terminals, outputs, room)?;
     let kind = ElementKind::Gate { kind, delays };
     add_terminal_elements(
-        table, scope, place, kind, outputs, &room.left, first, row, made,
+        table,
+        scope,
+        place,
+        kind,
+        &room.left,
+        &room.right,
+        first,
+        row,
+        driven,
+        made,
     )
 }

@@ -64,5 +64,13 @@ pub fn add_own_legs(
     let width = module.table.bits();
     let inner = inner_row(rows, number as usize, width);
     let outer = outer_row(rows, number as usize, width);
-    add_legs(&module.table, number, place, inner, outer, made)
+    add_legs(
+        &module.table,
+        &module.ports,
+        number,
+        place,
+        inner,
+        outer,
+        made,
+    )
 }

@@ -11,7 +11,7 @@ ghost use Rattle.elab_model.specs.Hierarchy as def;
 ghost use Rattle.elab_model.specs.Names.{Variable};
 ghost use Rattle.elab_model.specs.Nets.{OwnNet};
 ghost use Rattle.elab_numbering.specs.Refusals.{RefusesCount};
-ghost use Rattle.elab_elements.specs.Adding.{Adds, IsHere, HasOutside, HasTerminals};
+ghost use Rattle.elab_elements.specs.Adding.{Adds, IsHere, HasDriven};
 ghost use Rattle.elab_elements.specs.Seen.{kind_in, NamesPlaces};
 ghost use Rattle.elab_elements.specs.Puts.{Puts, RefusesPuts};
 ghost use Rattle.elab_elements.specs.Words.{pass_puts};
@@ -33,13 +33,14 @@ fn add_pass(
     to: Bit,
     from: Bit,
     row: &[NetId],
+    driven: &[NetId],
     made: &mut Placing,
 ) -> Result<(), Refused<ElabKind>>
-    requires row { (vs : List Variable) × ((length row.now ≡ length (all_bits vs)) × (IsInRow vs to × IsInRow vs from)) }
+    requires row { (vs : List Variable) × ((length row.now ≡ length (all_bits vs)) × ((length driven.now ≡ length (all_bits vs)) × (IsInRow vs to × IsInRow vs from))) }
     requires few { length made.old.elements.items ≤ 2 ^ 22 }
     ensures few { length made.new.elements.items ≤ 2 ^ 22 }
-    ensures puts { OnOk result (Puts made.old made.new (pass_puts scope place row.now (to, from))) }
-    ensures refused { IfErr result (RefusesPuts made.old (pass_puts scope place row.now (to, from))) }
+    ensures puts { OnOk result (Puts made.old made.new (pass_puts scope place row.now driven.now (to, from))) }
+    ensures refused { IfErr result (RefusesPuts made.old (pass_puts scope place row.now driven.now (to, from))) }
 {
     let Bit::Net(output) = to else {
         return Ok(());
@@ -47,13 +48,13 @@ fn add_pass(
     match from {
         Bit::Net(input) => {
             let kind = ElementKind::Pass { constant: None };
-            add_element(scope, place, &[row[input]], row[output], kind, made)
+            add_element(scope, place, &[row[input]], driven[output], kind, made)
         }
         Bit::Constant { value, .. } => {
             let kind = ElementKind::Pass {
                 constant: Some(value),
             };
-            add_element(scope, place, &[], row[output], kind, made)
+            add_element(scope, place, &[], driven[output], kind, made)
         }
     }
 }
@@ -65,16 +66,17 @@ fn add_each(
     left: &[Bit],
     right: &[Bit],
     row: &[NetId],
+    driven: &[NetId],
     made: &mut Placing,
 ) -> Result<(), Refused<ElabKind>>
-    requires row { (vs : List Variable) × ((length row.now ≡ length (all_bits vs)) × (All (IsInRow vs) left.now × All (IsInRow vs) right.now)) }
+    requires row { (vs : List Variable) × ((length row.now ≡ length (all_bits vs)) × ((length driven.now ≡ length (all_bits vs)) × (All (IsInRow vs) left.now × All (IsInRow vs) right.now))) }
     requires few { length made.old.elements.items ≤ 2 ^ 22 }
     ensures few { length made.new.elements.items ≤ 2 ^ 22 }
-    ensures puts { OnOk result (Puts made.old made.new (flat_map (pass_puts scope place row.now) (zip left.now right.now))) }
-    ensures refused { IfErr result (RefusesPuts made.old (flat_map (pass_puts scope place row.now) (zip left.now right.now))) }
+    ensures puts { OnOk result (Puts made.old made.new (flat_map (pass_puts scope place row.now driven.now) (zip left.now right.now))) }
+    ensures refused { IfErr result (RefusesPuts made.old (flat_map (pass_puts scope place row.now driven.now) (zip left.now right.now))) }
 {
     for (to, from) in left.iter().zip(right) {
-        add_pass(scope, place, *to, *from, row, made)?;
+        add_pass(scope, place, *to, *from, row, driven, made)?;
     }
     Ok(())
 }
@@ -86,16 +88,25 @@ fn add_constants(
     value: Value,
     bits: &[Bit],
     row: &[NetId],
+    driven: &[NetId],
     made: &mut Placing,
 ) -> Result<(), Refused<ElabKind>>
-    requires row { (vs : List Variable) × ((length row.now ≡ length (all_bits vs)) × All (IsInRow vs) bits.now) }
+    requires row { (vs : List Variable) × ((length row.now ≡ length (all_bits vs)) × ((length driven.now ≡ length (all_bits vs)) × All (IsInRow vs) bits.now)) }
     requires few { length made.old.elements.items ≤ 2 ^ 22 }
     ensures few { length made.new.elements.items ≤ 2 ^ 22 }
-    ensures puts { OnOk result (Puts made.old made.new (flat_map (λ b. pass_puts scope place row.now (b, ghost_bit.Constant place value)) bits.now)) }
-    ensures refused { IfErr result (RefusesPuts made.old (flat_map (λ b. pass_puts scope place row.now (b, ghost_bit.Constant place value)) bits.now)) }
+    ensures puts { OnOk result (Puts made.old made.new (flat_map (λ b. pass_puts scope place row.now driven.now (b, ghost_bit.Constant place value)) bits.now)) }
+    ensures refused { IfErr result (RefusesPuts made.old (flat_map (λ b. pass_puts scope place row.now driven.now (b, ghost_bit.Constant place value)) bits.now)) }
 {
     for to in bits {
-        add_pass(scope, place, *to, Bit::Constant { place, value }, row, made)?;
+        add_pass(
+            scope,
+            place,
+            *to,
+            Bit::Constant { place, value },
+            row,
+            driven,
+            made,
+        )?;
     }
     Ok(())
 }
@@ -108,19 +119,21 @@ pub fn add_passes(
     left: &[Bit],
     right: &[Bit],
     row: &[NetId],
+    driven: &[NetId],
     made: &mut Placing,
 ) -> Result<(), Refused<ElabKind>>
     requires row { length row.now ≡ length (all_bits table.now) }
+    requires driven { length driven.now ≡ length (all_bits table.now) }
     requires left { All (IsInRow table.now) left.now }
     requires right { All (IsInRow table.now) right.now }
     requires few { length made.old.elements.items ≤ 2 ^ 22 }
     ensures few { length made.new.elements.items ≤ 2 ^ 22 }
-    ensures passes { OnOk result ((delays : List ghost_delays.GateDelays) (udps : List ghost_udps.UdpUse) (all : List OwnNet) (source : Source) (s : def.Instance) → IsHere all source s scope table.now row.now
+    ensures passes { OnOk result ((delays : List ghost_delays.GateDelays) (udps : List ghost_udps.UdpUse) (all : List OwnNet) (source : Source) (s : def.Instance) → IsHere all source s scope table.now row.now → HasDriven all source s table.now driven.now
         → Adds delays udps all made.old made.new (def_elements.passes source s place (map (view_bit table.now) left.now) (map (view_bit table.now) right.now))) }
-    ensures refused { IfErr result (λ r. (all : List OwnNet) (source : Source) (s : def.Instance) → IsHere all source s scope table.now row.now
+    ensures refused { IfErr result (λ r. (all : List OwnNet) (source : Source) (s : def.Instance) → IsHere all source s scope table.now row.now → HasDriven all source s table.now driven.now
         → RefusesCount (length made.old.elements.items + length (def_elements.passes source s place (map (view_bit table.now) left.now) (map (view_bit table.now) right.now))) r) }
 {
-    add_each(scope, place, left, right, row, made)
+    add_each(scope, place, left, right, row, driven, made)
 }
 
 /// Adds a Pass of a constant to each of these bits (IEEE 1364-2005, 4.6).
@@ -131,16 +144,18 @@ pub fn add_supply(
     value: Value,
     bits: &[Bit],
     row: &[NetId],
+    driven: &[NetId],
     made: &mut Placing,
 ) -> Result<(), Refused<ElabKind>>
     requires row { length row.now ≡ length (all_bits table.now) }
+    requires driven { length driven.now ≡ length (all_bits table.now) }
     requires bits { All (IsInRow table.now) bits.now }
     requires few { length made.old.elements.items ≤ 2 ^ 22 }
     ensures few { length made.new.elements.items ≤ 2 ^ 22 }
-    ensures passes { OnOk result ((delays : List ghost_delays.GateDelays) (udps : List ghost_udps.UdpUse) (all : List OwnNet) (source : Source) (s : def.Instance) → IsHere all source s scope table.now row.now
+    ensures passes { OnOk result ((delays : List ghost_delays.GateDelays) (udps : List ghost_udps.UdpUse) (all : List OwnNet) (source : Source) (s : def.Instance) → IsHere all source s scope table.now row.now → HasDriven all source s table.now driven.now
         → Adds delays udps all made.old made.new (flat_map (λ b. def_elements.pass_to source s place (b, constant place value)) (map (view_bit table.now) bits.now))) }
-    ensures refused { IfErr result (λ r. (all : List OwnNet) (source : Source) (s : def.Instance) → IsHere all source s scope table.now row.now
+    ensures refused { IfErr result (λ r. (all : List OwnNet) (source : Source) (s : def.Instance) → IsHere all source s scope table.now row.now → HasDriven all source s table.now driven.now
         → RefusesCount (length made.old.elements.items + length (flat_map (λ b. def_elements.pass_to source s place (b, constant place value)) (map (view_bit table.now) bits.now))) r) }
 {
-    add_constants(scope, place, value, bits, row, made)
+    add_constants(scope, place, value, bits, row, driven, made)
 }

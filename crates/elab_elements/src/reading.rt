@@ -1,5 +1,5 @@
 // What stands at the place of an instance.
-ghost use Rattle.std.specs.Prelude.{◌≡◌, ◌≤◌, ◌<◌, ◌+◌, ℕ, List, Some, length, slice_get, option_map};
+ghost use Rattle.std.specs.Prelude.{◌≡◌, ◌≤◌, ◌<◌, ◌+◌, ◌-◌, ℕ, List, Some, drop, length, option_map, slice_get, take};
 ghost use Rattle.elab_nets.specs.Rows.{part_of};
 ghost use Rattle.elab_elements.specs.Words.{primitive_in, primitive_at};
 
@@ -65,4 +65,22 @@ pub fn first_net(rows: &Rows, number: usize, member: usize) -> NetId
 {
     let start = rows.member_starts[number];
     rows.firsts[start + member]
+}
+
+/// The inner nets of an instance's output bits to which specify paths lead.
+pub fn end_row(rows: &Rows, number: usize, count: usize) -> &[NetId]
+    requires { (start : ℕ) × ((slice_get rows.now.end_starts.items number ≡ Some start) × (start + count ≤ length rows.now.ends.items)) }
+    ensures { (start : ℕ) → slice_get rows.now.end_starts.items number ≡ Some start → result.now ≡ part_of rows.now.ends.items start count }
+{
+    let start = rows.end_starts[number];
+    &rows.ends[start..start + count]
+}
+
+/// What stands from one place of a list to before another.
+pub fn part_between<'n, T>(list: &'n [T], start: usize, end: usize) -> &'n [T]
+    requires start { start ≤ end }
+    requires end { end ≤ length list.now }
+    ensures { result.now ≡ take (end - start) (drop start list.now) }
+{
+    &list[start..end]
 }

@@ -8,6 +8,7 @@ ghost use Rattle.elab_model.specs.Elements as def_elements;
 ghost use Rattle.elab_model.specs.Hierarchy as def;
 ghost use Rattle.elab_model.specs.Members as def_members;
 ghost use Rattle.elab_model.specs.Nets.{nets};
+ghost use Rattle.elab_modules.specs.Ready.{IsPrepared};
 ghost use Rattle.elab_numbering.specs.Refusals.{RefusesCount};
 ghost use Rattle.elab_variables.specs.Seen.{view_member};
 ghost use Rattle.elab_elements.specs.Adding.{Adds};
@@ -16,12 +17,14 @@ ghost use Rattle.elab_elements.specs.Standing.{IsMember};
 
 use crate::Placing;
 use crate::children::add_child;
-use crate::members::{Terminals, add_assignment, add_declared, add_gate, add_supply_net};
+use crate::members::{add_assignment, add_declared, add_gate, add_supply_net};
+use crate::paths::add_own_paths;
 use crate::primitives::add_primitive;
 use crate::reading::primitive_at;
+use crate::terminals::Terminals;
 use elab_hierarchy::{Definitions, Placed};
 use elab_model::ElabKind;
-use elab_modules::Library;
+use elab_modules::{Library, Prepared};
 use elab_nets::Rows;
 use elab_variables::{Member, Table};
 use sg_circuit::NetId;
@@ -39,6 +42,7 @@ fn add_named(
     table: &Table,
     number: u32,
     row: &[NetId],
+    driven: &[NetId],
     delays: u32,
     first: NetId,
     name: Name,
@@ -48,19 +52,19 @@ fn add_named(
     made: &mut Placing,
 ) -> Result<u32, Refused<ElabKind>>
     requires at { (top : Module) × ((corner : ghost_corner.Corner) × ((k : ℕ) × ((d : Option SeenDelay) × ((s : def.Instance)
-        × IsMember definitions.now top corner instances.now library.now rows.now number table.now row.now delays first next k (def_members.instance (view_name name) d (view_instance text.now)) s)))) }
+        × IsMember definitions.now top corner instances.now library.now rows.now number table.now row.now driven.now delays first next k (def_members.instance (view_name name) d (view_instance text.now)) s)))) }
     requires first { first ≤ 2 ^ 22 }
     requires few { length made.old.elements.items ≤ 2 ^ 22 }
     ensures few { length made.new.elements.items ≤ 2 ^ 22 }
     ensures next { IfOk result (λ n. (top : Module) (corner : ghost_corner.Corner) (k : ℕ) (d : Option SeenDelay) (s : def.Instance)
-        → IsMember definitions.now top corner instances.now library.now rows.now number table.now row.now delays first next k (def_members.instance (view_name name.entry) d (view_instance text.now)) s
+        → IsMember definitions.now top corner instances.now library.now rows.now number table.now row.now driven.now delays first next k (def_members.instance (view_name name.entry) d (view_instance text.now)) s
         → IsNext definitions.now s (k + 1) n) }
     ensures elements { OnOk result ((top : Module) (corner : ghost_corner.Corner) (k : ℕ) (d : Option SeenDelay) (s : def.Instance)
-        → IsMember definitions.now top corner instances.now library.now rows.now number table.now row.now delays first next k (def_members.instance (view_name name.entry) d (view_instance text.now)) s
+        → IsMember definitions.now top corner instances.now library.now rows.now number table.now row.now driven.now delays first next k (def_members.instance (view_name name.entry) d (view_instance text.now)) s
         → Adds library.now.gate_delays.items library.now.udps.items (nets definitions.now top) made.old made.new
         (def_elements.member_elements definitions.now corner (tick_of definitions.now top) s (k, def_members.instance (view_name name.entry) d (view_instance text.now)))) }
     ensures refused { IfErr result (λ r. (top : Module) (corner : ghost_corner.Corner) (k : ℕ) (d : Option SeenDelay) (s : def.Instance)
-        → IsMember definitions.now top corner instances.now library.now rows.now number table.now row.now delays first next k (def_members.instance (view_name name.entry) d (view_instance text.now)) s
+        → IsMember definitions.now top corner instances.now library.now rows.now number table.now row.now driven.now delays first next k (def_members.instance (view_name name.entry) d (view_instance text.now)) s
         → RefusesCount (length made.old.elements.items
         + length (def_elements.member_elements definitions.now corner (tick_of definitions.now top) s (k, def_members.instance (view_name name.entry) d (view_instance text.now)))) r) }
 {
@@ -81,47 +85,52 @@ fn add_named(
         &text.connections,
         first,
         row,
+        driven,
         room,
         made,
     )?;
     Ok(next)
 }
 
-/// Adds the elements of a member; answers the number of the next instance. `delays` is the place of its delays; the nets of its constants have the numbers from `first` on.
+/// Adds the elements of the member that stands at a place of the module; answers the number of the next instance. `delays` is the place of its delays; the nets of its constants have
+/// the numbers from `first` on.
 pub fn add_member(
     alloc: Global,
     definitions: &Definitions,
     library: &Library,
     instances: &[Placed],
     rows: &Rows,
-    table: &Table,
+    prepared: &Prepared,
     number: u32,
     row: &[NetId],
+    driven: &[NetId],
     delays: u32,
     first: NetId,
+    at: usize,
     member: Member,
     next: u32,
     room: &mut Terminals,
     made: &mut Placing,
 ) -> Result<u32, Refused<ElabKind>>
-    requires at { (top : Module) × ((corner : ghost_corner.Corner) × ((k : ℕ) × ((s : def.Instance)
-        × IsMember definitions.now top corner instances.now library.now rows.now number table.now row.now delays first next k (view_member member) s))) }
+    requires at { (top : Module) × ((corner : ghost_corner.Corner) × ((s : def.Instance)
+        × (IsPrepared prepared.now s.step.definition × IsMember definitions.now top corner instances.now library.now rows.now number prepared.now.table row.now driven.now delays first next at (view_member member) s))) }
     requires first { first ≤ 2 ^ 22 }
     requires few { length made.old.elements.items ≤ 2 ^ 22 }
     ensures few { length made.new.elements.items ≤ 2 ^ 22 }
-    ensures next { IfOk result (λ n. (top : Module) (corner : ghost_corner.Corner) (k : ℕ) (s : def.Instance)
-        → IsMember definitions.now top corner instances.now library.now rows.now number table.now row.now delays first next k (view_member member.entry) s → IsNext definitions.now s (k + 1) n) }
-    ensures elements { OnOk result ((top : Module) (corner : ghost_corner.Corner) (k : ℕ) (s : def.Instance)
-        → IsMember definitions.now top corner instances.now library.now rows.now number table.now row.now delays first next k (view_member member.entry) s
+    ensures next { IfOk result (λ n. (top : Module) (corner : ghost_corner.Corner) (s : def.Instance) → IsPrepared prepared.now s.step.definition
+        → IsMember definitions.now top corner instances.now library.now rows.now number prepared.now.table row.now driven.now delays first next at (view_member member.entry) s → IsNext definitions.now s (at + 1) n) }
+    ensures elements { OnOk result ((top : Module) (corner : ghost_corner.Corner) (s : def.Instance) → IsPrepared prepared.now s.step.definition
+        → IsMember definitions.now top corner instances.now library.now rows.now number prepared.now.table row.now driven.now delays first next at (view_member member.entry) s
         → Adds library.now.gate_delays.items library.now.udps.items (nets definitions.now top) made.old made.new
-        (def_elements.member_elements definitions.now corner (tick_of definitions.now top) s (k, view_member member.entry))) }
-    ensures refused { IfErr result (λ r. (top : Module) (corner : ghost_corner.Corner) (k : ℕ) (s : def.Instance)
-        → IsMember definitions.now top corner instances.now library.now rows.now number table.now row.now delays first next k (view_member member.entry) s
-        → RefusesCount (length made.old.elements.items + length (def_elements.member_elements definitions.now corner (tick_of definitions.now top) s (k, view_member member.entry))) r) }
+        (def_elements.member_elements definitions.now corner (tick_of definitions.now top) s (at, view_member member.entry))) }
+    ensures refused { IfErr result (λ r. (top : Module) (corner : ghost_corner.Corner) (s : def.Instance) → IsPrepared prepared.now s.step.definition
+        → IsMember definitions.now top corner instances.now library.now rows.now number prepared.now.table row.now driven.now delays first next at (view_member member.entry) s
+        → RefusesCount (length made.old.elements.items + length (def_elements.member_elements definitions.now corner (tick_of definitions.now top) s (at, view_member member.entry))) r) }
 {
+    let table = &prepared.table;
     match member {
         Member::Declared { name, value } => {
-            add_declared(table, number, name, value, row, room, made)?;
+            add_declared(table, number, name, value, row, driven, room, made)?;
             Ok(next)
         }
         Member::Assignment(join) => {
@@ -132,13 +141,14 @@ pub fn add_member(
                 &join.left,
                 &join.right,
                 row,
+                driven,
                 room,
                 made,
             )?;
             Ok(next)
         }
         Member::Supply { name, value } => {
-            add_supply_net(table, number, name, value, row, room, made)?;
+            add_supply_net(table, number, name, value, row, driven, room, made)?;
             Ok(next)
         }
         Member::Gate { kind, instance, .. } => {
@@ -151,6 +161,7 @@ pub fn add_member(
                 &instance.terminals,
                 first,
                 row,
+                driven,
                 room,
                 made,
             )?;
@@ -169,6 +180,7 @@ pub fn add_member(
             table,
             number,
             row,
+            driven,
             delays,
             first,
             definition,
@@ -177,5 +189,9 @@ pub fn add_member(
             room,
             made,
         ),
+        Member::Path(path) => {
+            add_own_paths(rows, prepared, number, at, path.place, row, made)?;
+            Ok(next)
+        }
     }
 }

@@ -10,6 +10,7 @@ use Rattle.elab_elements.proofs.gates.add_outputs.Goals as goal
 
 pub returns-in_err-add_output-clause-refused : goal.returns-in_err-add_output-clause-refused
 returns-in_err-add_output-clause-refused c =
-    exit-by (RefusesPuts c.args.made.now (flat_map (output_puts c.args.scope c.args.place c.args.kind c.args.inputs.now c.args.row.now) c.args.bits.now)) c.from_residual.result c.in_err-add_output.field-0.0 (err_from_is_err_and c.from_residual.result c.from_residual.ensures.1)
-    (list-refused (output_puts c.args.scope c.args.place c.args.kind c.args.inputs.now c.args.row.now) c.args.bits.now c.loop-bit.bit-index (bit.Net 0) c.args.made.now c.loop-bit.made c.in_err-add_output.field-0.0
+    exit-by (RefusesPuts c.args.made.now (flat_map (output_puts c.args.scope c.args.place c.args.kind c.args.inputs.now c.args.driven.now) c.args.bits.now)) c.from_residual.result c.in_err-add_output.field-0.0 (err_from_is_err_and c.from_residual.result c.from_residual.ensures.1)
+    (list-refused (output_puts c.args.scope c.args.place c.args.kind c.args.inputs.now c.args.driven.now) c.args.bits.now c.loop-bit.bit-index
+    (bit.Net 0) c.args.made.now c.loop-bit.made c.in_err-add_output.field-0.0
     c.loop-bit-test.true c.loop-bit.invariant.left c.in_err-add_output.ensures.refused)

@@ -7,6 +7,6 @@ use Rattle.elab_elements.proofs.gates.add_outputs.Given as goal
 abbrev pub invariant-loop-bit : goal.invariant-loop-bit
 invariant-loop-bit l = record {
   few : length l.made.elements.items ≤ 2 ^ 22;
-  left : Completes l.initial.made (flat_map (output_puts l.scope l.place l.kind l.inputs l.row) l.bits) l.made
-      (flat_map (output_puts l.scope l.place l.kind l.inputs l.row) (drop l.bit-index l.bits));
+  left : Completes l.initial.made (flat_map (output_puts l.scope l.place l.kind l.inputs l.driven) l.bits) l.made
+      (flat_map (output_puts l.scope l.place l.kind l.inputs l.driven) (drop l.bit-index l.bits));
 }

@@ -12,15 +12,17 @@ use Rattle.elab_elements.proofs.members.add_supply_net.Goals as goal
 pub returns-clause-passes : goal.returns-clause-passes
 returns-clause-passes c =
     on_ok_weaker c.add_supply.result
-    (λ added. λ delays udps all source s here. subst (λ bs. Adds delays udps all c.args.made.now c.add_supply.new.made (flat_map (λ b. pass_to source s c.args.name.place (b, constant c.args.name.place c.args.value)) bs))
+    (λ added. λ delays udps all source s here drives. subst (λ bs. Adds delays udps all c.args.made.now c.add_supply.new.made
+    (flat_map (λ b. pass_to source s c.args.name.place (b, constant c.args.name.place c.args.value)) bs))
     (seen-bits c.args.table.now c.clear.new.self.items c.add_variable.new.bits.items c.deref.result.now _ c.clear.ensures.items c.in_ok-add_variable.ensures.bits c.deref.ensures.value)
-    (added delays udps all source s here))
+    (added delays udps all source s here drives))
     c.add_supply.ensures.passes
 
 pub returns-clause-refused : goal.returns-clause-refused
 returns-clause-refused c =
     if_err-weaker c.add_supply.result _ _
-    (λ r refused. λ all source s here. subst (λ bs. RefusesCount (length c.args.made.now.elements.items + length (flat_map (λ b. pass_to source s c.args.name.place (b, constant c.args.name.place c.args.value)) bs)) r)
+    (λ r refused. λ all source s here drives. subst (λ bs. RefusesCount (length c.args.made.now.elements.items + length
+    (flat_map (λ b. pass_to source s c.args.name.place (b, constant c.args.name.place c.args.value)) bs)) r)
     (seen-bits c.args.table.now c.clear.new.self.items c.add_variable.new.bits.items c.deref.result.now _ c.clear.ensures.items c.in_ok-add_variable.ensures.bits c.deref.ensures.value)
-    (refused all source s here))
+    (refused all source s here drives))
     c.add_supply.ensures.refused

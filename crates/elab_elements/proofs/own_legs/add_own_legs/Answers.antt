@@ -1,6 +1,7 @@
 -- What is read of the instance is what stands there.
-use Rattle.std.proofs.Common.{◌∙◌, sym, arith}
+use Rattle.std.proofs.Common.{◌∙◌, sym, ap, arith, map}
 use Rattle.std.proofs.lemmas.Result.{on_ok_weaker}
+use Rattle.vl_tree.specs.Seen.{view_name}
 use Rattle.elab_model.specs.Nets.{nets}
 use Rattle.elab_laws.specs.Handing.{all_bits}
 use Rattle.elab_elements.proofs.ReadHere.{within, ready-is, prepared-is, placed-is, end-is, inner-within, outer-within, here-is, outside-is, row-count, leaf-is, no-legs}
@@ -37,7 +38,9 @@ returns-clause-legs c =
     (λ added. λ source top corner s at. added _ _ (nets source top) source s (here-is _ _ _ _ _ _ _ _ c.module_at-module.result.now c.bits-width.result c.inner_row-inner.result.now at (prepared-is _ _ _ _ _ _ _ _ c.placed_at-placed.result c.module_at-module.result.now at c.placed_at-placed.ensures c.module_at-module.ensures) c.bits-width.ensures c.inner_row-inner.ensures)
     (outside-is _ _ _ _ _ _ _ _ c.module_at-module.result.now c.bits-width.result c.outer_row-outer.result.now at (prepared-is _ _ _ _ _ _ _ _ c.placed_at-placed.result c.module_at-module.result.now at c.placed_at-placed.ensures c.module_at-module.ensures) c.bits-width.ensures c.outer_row-outer.ensures)
     (c.place_of-place.ensures source s (placed-is _ _ _ _ _ _ _ _ c.placed_at-placed.result at c.placed_at-placed.ensures) (prepared-is _ _ _ _ _ _ _ _ c.placed_at-placed.result c.module_at-module.result.now at c.placed_at-placed.ensures c.module_at-module.ensures))
-    (leaf-is _ _ _ _ _ _ _ _ c.placed_at-placed.result at c.placed_at-placed.ensures ∙ sym c.if-not-is_leaf.ensures))
+    (leaf-is _ _ _ _ _ _ _ _ c.placed_at-placed.result at c.placed_at-placed.ensures ∙ sym c.if-not-is_leaf.ensures)
+    (ap (map view_name) c.deref.ensures.value ∙ (prepared-is _ _ _ _ _ _ _ _ c.placed_at-placed.result c.module_at-module.result.now at c.placed_at-placed.ensures c.module_at-module.ensures).ports)
+    (prepared-is _ _ _ _ _ _ _ _ c.placed_at-placed.result c.module_at-module.result.now at c.placed_at-placed.ensures c.module_at-module.ensures).declared)
     c.add_legs.ensures.legs
 
 pub returns-clause-refused : goal.returns-clause-refused
@@ -46,5 +49,7 @@ returns-clause-refused c =
     (λ r refused. λ source top corner s at. refused (nets source top) source s (here-is _ _ _ _ _ _ _ _ c.module_at-module.result.now c.bits-width.result c.inner_row-inner.result.now at (prepared-is _ _ _ _ _ _ _ _ c.placed_at-placed.result c.module_at-module.result.now at c.placed_at-placed.ensures c.module_at-module.ensures) c.bits-width.ensures c.inner_row-inner.ensures)
     (outside-is _ _ _ _ _ _ _ _ c.module_at-module.result.now c.bits-width.result c.outer_row-outer.result.now at (prepared-is _ _ _ _ _ _ _ _ c.placed_at-placed.result c.module_at-module.result.now at c.placed_at-placed.ensures c.module_at-module.ensures) c.bits-width.ensures c.outer_row-outer.ensures)
     (c.place_of-place.ensures source s (placed-is _ _ _ _ _ _ _ _ c.placed_at-placed.result at c.placed_at-placed.ensures) (prepared-is _ _ _ _ _ _ _ _ c.placed_at-placed.result c.module_at-module.result.now at c.placed_at-placed.ensures c.module_at-module.ensures))
-    (leaf-is _ _ _ _ _ _ _ _ c.placed_at-placed.result at c.placed_at-placed.ensures ∙ sym c.if-not-is_leaf.ensures))
+    (leaf-is _ _ _ _ _ _ _ _ c.placed_at-placed.result at c.placed_at-placed.ensures ∙ sym c.if-not-is_leaf.ensures)
+    (ap (map view_name) c.deref.ensures.value ∙ (prepared-is _ _ _ _ _ _ _ _ c.placed_at-placed.result c.module_at-module.result.now at c.placed_at-placed.ensures c.module_at-module.ensures).ports)
+    (prepared-is _ _ _ _ _ _ _ _ c.placed_at-placed.result c.module_at-module.result.now at c.placed_at-placed.ensures c.module_at-module.ensures).declared)
     c.add_legs.ensures.refused

@@ -8,6 +8,6 @@ use Rattle.elab_elements.proofs.passes.add_constants.Given as goal
 abbrev pub invariant-loop-to : goal.invariant-loop-to
 invariant-loop-to l = record {
   few : length l.made.elements.items ≤ 2 ^ 22;
-  left : Completes l.initial.made (flat_map (λ b. pass_puts l.scope l.place l.row (b, bit.Constant l.place l.value)) l.bits) l.made
-      (flat_map (λ b. pass_puts l.scope l.place l.row (b, bit.Constant l.place l.value)) (drop l.to-index l.bits));
+  left : Completes l.initial.made (flat_map (λ b. pass_puts l.scope l.place l.row l.driven (b, bit.Constant l.place l.value)) l.bits) l.made
+      (flat_map (λ b. pass_puts l.scope l.place l.row l.driven (b, bit.Constant l.place l.value)) (drop l.to-index l.bits));
 }

@@ -9,6 +9,6 @@ invariant-loop-to l = record {
   steps : (goal.iterator-loop-to).can_next l.to-iterator;
   ends : (goal.iterator-loop-to).is_finite l.to-iterator;
   few : length l.made.elements.items ≤ 2 ^ 22;
-  left : Completes l.initial.made (flat_map (pass_puts l.scope l.place l.row) (zip l.left l.right)) l.made
-      (flat_map (pass_puts l.scope l.place l.row) (drop (length l.yielded) (zip l.left l.right)));
+  left : Completes l.initial.made (flat_map (pass_puts l.scope l.place l.row l.driven) (zip l.left l.right)) l.made
+      (flat_map (pass_puts l.scope l.place l.row l.driven) (drop (length l.yielded) (zip l.left l.right)));
 }

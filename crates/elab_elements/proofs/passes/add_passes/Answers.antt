@@ -13,8 +13,8 @@ use Rattle.elab_elements.proofs.passes.add_passes.Goals as goal
 pub returns-clause-passes : goal.returns-clause-passes
 returns-clause-passes c =
     on_ok_weaker c.add_each.result
-    (λ puts. λ delays udps all source s here. adds delays udps all c.args.made.now c.add_each.new.made _ _
-    (passes-mean delays udps all source s c.args.scope c.args.table.now c.args.row.now c.args.place c.args.left.now c.args.right.now here
+    (λ puts. λ delays udps all source s here drives. adds delays udps all c.args.made.now c.add_each.new.made _ _
+    (passes-mean delays udps all source s c.args.scope c.args.table.now c.args.row.now c.args.driven.now c.args.place c.args.left.now c.args.right.now here drives
     (recursion_from_All (IsInRow c.args.table.now) c.args.left.now c.requires.left)
     (recursion_from_All (IsInRow c.args.table.now) c.args.right.now c.requires.right))
     puts)
@@ -23,8 +23,9 @@ returns-clause-passes c =
 pub returns-clause-refused : goal.returns-clause-refused
 returns-clause-refused c =
     if_err-weaker c.add_each.result _ _
-    (λ r refused. λ all source s here. refuses-count c.args.made.now (flat_map (pass_puts c.args.scope c.args.place c.args.row.now) (zip c.args.left.now c.args.right.now)) (passes source s c.args.place (map (view_bit c.args.table.now) c.args.left.now) (map (view_bit c.args.table.now) c.args.right.now)) r
-    (passes-within all source s c.args.scope c.args.table.now c.args.row.now c.args.place c.args.left.now c.args.right.now here
+    (λ r refused. λ all source s here drives. refuses-count c.args.made.now (flat_map (pass_puts c.args.scope c.args.place c.args.row.now c.args.driven.now) (zip c.args.left.now c.args.right.now))
+    (passes source s c.args.place (map (view_bit c.args.table.now) c.args.left.now) (map (view_bit c.args.table.now) c.args.right.now)) r
+    (passes-within all source s c.args.scope c.args.table.now c.args.row.now c.args.driven.now c.args.place c.args.left.now c.args.right.now here drives
     (recursion_from_All (IsInRow c.args.table.now) c.args.left.now c.requires.left)
     (recursion_from_All (IsInRow c.args.table.now) c.args.right.now c.requires.right))
     refused)
