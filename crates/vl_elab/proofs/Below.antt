@@ -14,10 +14,9 @@ use Rattle.elab_model.specs.Drivers.{elements}
 use Rattle.circuit_model.specs.Elaboration.{FaultStands, in_list, in_table, IsElaborated, RefusalStands, Elaborates}
 use Rattle.elab_model.specs.PrimitiveFaults.{primitives}
 use Rattle.elab_model.specs.Faults.{Fault, fault, RefusesOneOf}
-use Rattle.elab_model.specs.HierarchyFaults.{two_definitions}
+use Rattle.elab_model.specs.HierarchyFaults.{start, two_definitions}
 use Rattle.circuit_model.specs.CheckUses.{check_uses}
-use Rattle.circuit_model.specs.Faults.{path_faults, check_faults, over, driver_faults, faults_below, top_faults, faults}
-use Rattle.elab_paths.specs.Joining.{counts_over}
+use Rattle.circuit_model.specs.Faults.{path_faults, path_count, check_faults, over, driver_faults, faults_below, top_faults, faults}
 use Rattle.elab_model.specs.Nets.{nets}
 use Rattle.elab_model.specs.Tops.{top_of}
 use Rattle.elab_numbering.specs.Refusals.{RefusesCount}
@@ -27,7 +26,7 @@ use Rattle.elab_hierarchy.specs.Tops.{RefusesTop}
 use Rattle.elab_modules.specs.Reached.{RefusesReached}
 use Rattle.vl_elab.specs.Below.{IsBelow, RefusesBelow}
 use Rattle.vl_elab.proofs.Among.{among-in, in-among}
-use Rattle.vl_elab.proofs.Standing.{of-tree, of-reached, of-paths, of-checks, of-nets, of-elements, of-joined, of-many_checks, of-drivers}
+use Rattle.vl_elab.proofs.Standing.{of-tree, of-reached, of-paths, of-checks, of-nets, of-elements, of-many_paths, of-many_checks, of-drivers}
 
 -- ---- below a top
 
@@ -40,12 +39,17 @@ reached-refused source top corner (refused.Fault k p) (inl h) = inl (of-reached 
 reached-refused source top corner (refused.Fault k p) (inr h) = inr h
 reached-refused source top corner refused.NoMemory h = tt
 
+-- too many of something
+told : (source : Source) (top : Module) (corner : Corner) (k : ElabKind) (p : Place) → k ≡ TooMany → p ≡ start
+    → IsAmong (faults_below source top corner) (fault TooMany start) → RefusesBelow source top corner (refused.Fault k p)
+told source top corner k p e f h = inl (subst (λ k. IsAmong (faults_below source top corner) (fault k p)) (sym e) (subst (λ p. IsAmong (faults_below source top corner) (fault TooMany p)) (sym f) h))
+
 pub nets-refused : (source : Source) (top : Module) (corner : Corner) (r : Refused ElabKind) → RefusesCount (length (nets source top)) r → RefusesBelow source top corner r
-nets-refused source top corner (refused.Fault k p) (e, f, lt) = inl (subst (λ k. IsAmong (faults_below source top corner) (fault k p)) (sym e) (subst (λ p. IsAmong (faults_below source top corner) (fault TooMany p)) (sym f) (of-nets source top corner lt)))
+nets-refused source top corner (refused.Fault k p) (e, f, lt) = told source top corner k p e f (of-nets source top corner lt)
 nets-refused source top corner refused.NoMemory h = tt
 
 pub elements-refused : (source : Source) (top : Module) (corner : Corner) (r : Refused ElabKind) → RefusesCount (length (elements source top corner)) r → RefusesBelow source top corner r
-elements-refused source top corner (refused.Fault k p) (e, f, lt) = inl (subst (λ k. IsAmong (faults_below source top corner) (fault k p)) (sym e) (subst (λ p. IsAmong (faults_below source top corner) (fault TooMany p)) (sym f) (of-elements source top corner lt)))
+elements-refused source top corner (refused.Fault k p) (e, f, lt) = told source top corner k p e f (of-elements source top corner lt)
 elements-refused source top corner refused.NoMemory h = tt
 
 pub drivers-refused : (source : Source) (top : Module) (corner : Corner) (r : Refused ElabKind) → RefusesOneOf (driver_faults source top corner) r → RefusesBelow source top corner r
@@ -56,11 +60,12 @@ pub paths-refused : (source : Source) (top : Module) (corner : Corner) (r : Refu
 paths-refused source top corner (refused.Fault k p) h = inl (of-paths source top corner (fault k p) h)
 paths-refused source top corner refused.NoMemory h = tt
 
-pub joined-refused : (source : Source) (top : Module) (corner : Corner) (r : Refused ElabKind) → RefusesOneOf (counts_over source top corner) r → RefusesBelow source top corner r
-joined-refused source top corner (refused.Fault k p) h = inl (of-joined source top corner (fault k p) h)
-joined-refused source top corner refused.NoMemory h = tt
+pub many_paths-refused : (source : Source) (top : Module) (corner : Corner) (r : Refused ElabKind) → RefusesCount (path_count source top corner) r → RefusesBelow source top corner r
+many_paths-refused source top corner (refused.Fault k p) (e, f, lt) = told source top corner k p e f (of-many_paths source top corner lt)
+many_paths-refused source top corner refused.NoMemory h = tt
 
-pub checks-refused : (source : Source) (top : Module) (corner : Corner) (r : Refused ElabKind) → RefusesOneOf (check_faults source top corner ++ over (length (check_uses source top corner))) r → RefusesBelow source top corner r
+pub checks-refused : (source : Source) (top : Module) (corner : Corner) (r : Refused ElabKind)
+    → RefusesOneOf (check_faults source top corner ++ over (length (check_uses source top corner))) r → RefusesBelow source top corner r
 checks-refused source top corner (refused.Fault k p) h =
     let own = check_faults source top corner in
     let many = over (length (check_uses source top corner)) in
@@ -87,7 +92,8 @@ top-refused source name corner (refused.Fault k p) (e, f) =
     (subst (λ t. In (fault k p) (top_faults source corner t)) (sym e) (inl (ap (λ p. fault k p) f))))
 top-refused source name corner refused.NoMemory h = tt
 
-pub below-refused : (source : Source) (name : Option (List ℕ)) (corner : Corner) (top : Module) (r : Refused ElabKind) → top_of source name ≡ Ok top → RefusesBelow source top corner r → RefusalStands source name corner r
+pub below-refused : (source : Source) (name : Option (List ℕ)) (corner : Corner) (top : Module) (r : Refused ElabKind) → top_of source name ≡ Ok top
+    → RefusesBelow source top corner r → RefusalStands source name corner r
 below-refused source name corner top (refused.Fault k p) e (inl h) =
     in-faults source name corner (fault k p)
     (in-right (fault k p) (two_definitions source) (top_faults source corner (top_of source name))
@@ -101,7 +107,8 @@ below-refused source name corner top refused.NoMemory e h = tt
 none-in : {A : Type 0} (x : A) (xs : List A) → xs ≡ [] → In x xs → ⊥
 none-in x xs e h = subst (In x) e h
 
-pub elaborated : (source : Source) (name : Option (List ℕ)) (corner : Corner) (top : Module) (made : Circuit) → two_definitions source ≡ [] → top_of source name ≡ Ok top → IsBelow source top corner made → IsElaborated source name corner made
+pub elaborated : (source : Source) (name : Option (List ℕ)) (corner : Corner) (top : Module) (made : Circuit) → two_definitions source ≡ [] → top_of source name ≡ Ok top
+    → IsBelow source top corner made → IsElaborated source name corner made
 elaborated source name corner top made twice e below = record {
   top = top;
   is_top = e;

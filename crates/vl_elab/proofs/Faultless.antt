@@ -8,15 +8,16 @@ use Rattle.vl_tree.specs.Tree.{Module, Source}
 use Rattle.elab_model.specs.declared.kinds.ElabKind.TheVariants.{TooMany}
 use Rattle.elab_model.specs.Delays.{tick_of}
 use Rattle.elab_model.specs.Faults.{fault_if}
-use Rattle.elab_model.specs.Hierarchy.{Instance, instances}
+use Rattle.elab_model.specs.Drivers.{elements}
+use Rattle.elab_model.specs.Hierarchy.{instances}
 use Rattle.elab_model.specs.HierarchyFaults.{self_instances, too_deep, first_too_many, count_limit, start, instance_faults_below}
 use Rattle.circuit_model.specs.CheckUses.{check_uses}
 use Rattle.circuit_model.specs.Faults.{path_faults, path_count, check_faults, over, too_many, driver_faults, faults_below}
 use Rattle.elab_model.specs.ModuleFaults.{module_faults}
-use Rattle.circuit_model.specs.WithPaths.{all_nets, all_elements}
+use Rattle.elab_model.specs.Nets.{nets}
 use Rattle.elab_laws.specs.Laws.{AreSound}
 use Rattle.elab_laws.proofs.NoFaults.{front, back, flat-empty}
-use Rattle.elab_hierarchy.specs.Placing.{tree_faults_at, tree_faults}
+use Rattle.elab_hierarchy.specs.Placing.{tree_faults}
 
 both-empty : {A : Type 0} (xs ys : List A) → xs ≡ [] → ys ≡ [] → xs ++ ys ≡ []
 both-empty xs ys e f = ap (λ zs. zs ++ ys) e ∙ f
@@ -35,29 +36,31 @@ within l n le = grind (arith, nat_tests)
 none-past : (n : ℕ) → n ≤ count_limit → over n ≡ []
 none-past n le = ap (λ b. fault_if b TooMany start) (within count_limit n le)
 
-pub faultless-below : (source : Source) (top : Module) (corner : Corner) → tree_faults source top ≡ [] → AreSound source top corner → path_faults source top corner ≡ [] → check_faults source top corner ≡ [] → length (all_nets source top corner) ≤ count_limit
-    → length (all_elements source top corner) ≤ count_limit → path_count source top corner ≤ count_limit → length (check_uses source top corner) ≤ count_limit → driver_faults source top corner ≡ [] → faults_below source top corner ≡ []
+pub faultless-below : (source : Source) (top : Module) (corner : Corner) → tree_faults source top ≡ [] → AreSound source top corner → path_faults source top corner ≡ [] → check_faults source top corner ≡ []
+    → length (nets source top) ≤ count_limit → length (elements source top corner) ≤ count_limit → path_count source top corner ≤ count_limit → length (check_uses source top corner) ≤ count_limit
+    → driver_faults source top corner ≡ [] → faults_below source top corner ≡ []
 faultless-below source top corner tree sound paths checks few_nets few_elements few_paths few_checks drivers =
-    let trees = flat_map (tree_faults_at source) (instances source top) in
+    let own = flat_map (self_instances source) (instances source top) in
+    let deep = too_deep source top in
     let scopes = first_too_many (drop count_limit (instances source top)) in
-    let each = flat-empty (tree_faults_at source) (instances source top) (front trees scopes tree) in
-    let many_nets = over (length (all_nets source top corner)) in
-    let many_elements = over (length (all_elements source top corner)) in
+    let later : deep ++ scopes ≡ [] = back own (deep ++ scopes) tree in
+    let each = flat-empty (self_instances source) (instances source top) (front own (deep ++ scopes) tree) in
+    let many_nets = over (length (nets source top)) in
+    let many_elements = over (length (elements source top corner)) in
     let many_paths = over (path_count source top corner) in
     let many_checks = over (length (check_uses source top corner)) in
-    both-empty (flat_map (instance_faults_below source top corner) (instances source top)) (path_faults source top corner ++ (check_faults source top corner ++ (too_many source top corner ++ driver_faults source top corner)))
+    let counted = too_many source top corner ++ driver_faults source top corner in
+    let checked = check_faults source top corner ++ counted in
+    both-empty (flat_map (instance_faults_below source top corner) (instances source top)) (deep ++ (path_faults source top corner ++ checked))
     (all-empty (instance_faults_below source top corner) (instances source top)
-    (all-both (λ s. tree_faults_at source s ≡ []) (λ s. module_faults source corner (tick_of source top) s.step.definition ≡ []) (λ s. instance_faults_below source top corner s ≡ []) (instances source top) joined each sound))
-    (both-empty (path_faults source top corner) (check_faults source top corner ++ (too_many source top corner ++ driver_faults source top corner)) paths
-    (both-empty (check_faults source top corner) (too_many source top corner ++ driver_faults source top corner) checks
+    (all-both (λ s. self_instances source s ≡ []) (λ s. module_faults source corner (tick_of source top) s.step.definition ≡ []) (λ s. instance_faults_below source top corner s ≡ []) (instances source top)
+    (λ s e f. both-empty (self_instances source s) (module_faults source corner (tick_of source top) s.step.definition) e f) each sound))
+    (both-empty deep (path_faults source top corner ++ checked) (front deep scopes later)
+    (both-empty (path_faults source top corner) checked paths
+    (both-empty (check_faults source top corner) counted checks
     (both-empty (too_many source top corner) (driver_faults source top corner)
-    (both-empty scopes (many_nets ++ (many_elements ++ (many_paths ++ many_checks))) (back trees scopes tree)
-    (both-empty many_nets (many_elements ++ (many_paths ++ many_checks)) (none-past (length (all_nets source top corner)) few_nets)
-    (both-empty many_elements (many_paths ++ many_checks) (none-past (length (all_elements source top corner)) few_elements)
+    (both-empty scopes (many_nets ++ (many_elements ++ (many_paths ++ many_checks))) (back deep scopes later)
+    (both-empty many_nets (many_elements ++ (many_paths ++ many_checks)) (none-past (length (nets source top)) few_nets)
+    (both-empty many_elements (many_paths ++ many_checks) (none-past (length (elements source top corner)) few_elements)
     (both-empty many_paths many_checks (none-past (path_count source top corner) few_paths) (none-past (length (check_uses source top corner)) few_checks)))))
-    drivers)))
-  where
-    joined : (s : Instance) → tree_faults_at source s ≡ [] → module_faults source corner (tick_of source top) s.step.definition ≡ [] → instance_faults_below source top corner s ≡ []
-    joined s e f =
-        both-empty (self_instances source s) (too_deep source s ++ module_faults source corner (tick_of source top) s.step.definition) (front (self_instances source s) (too_deep source s) e)
-        (both-empty (too_deep source s) (module_faults source corner (tick_of source top) s.step.definition) (back (self_instances source s) (too_deep source s) e) f)
+    drivers))))

@@ -16,7 +16,7 @@ use Rattle.sg_circuit.specs.declared.elements.LegTiming.{LegTiming}
 use Rattle.sg_circuit.specs.declared.paths.Path as code_path
 use Rattle.sg_circuit.specs.declared.paths.PathCondition as code_condition
 use Rattle.sg_circuit.specs.declared.paths.PathCondition.TheVariants as code_kind
-use Rattle.elab_paths.specs.Joining.{Tables, kind_with, element_with, NamesTables}
+use Rattle.elab_paths.specs.AllPaths.{Tables, kind_with, element_with, NamesTables}
 
 -- ---- conditions by their places
 
@@ -30,7 +30,8 @@ condition-longer old more code_kind.Always h = refl
 condition-longer old more (code_kind.If w bound) h = ap (λ ts. circuit.If ts bound) (written-longer old more w h)
 condition-longer old more code_kind.IfNone h = refl
 
-paths-longer : (old more : List Condition) (timings : List LegTiming) (ps : List code_path.Path) → AllByRecursion (IsIndexedPath (length old) (length timings)) ps → paths_seen (old ++ more) timings ps ≡ paths_seen old timings ps
+paths-longer : (old more : List Condition) (timings : List LegTiming) (ps : List code_path.Path) → AllByRecursion (IsIndexedPath (length old) (length timings)) ps
+    → paths_seen (old ++ more) timings ps ≡ paths_seen old timings ps
 paths-longer old more timings [] h = refl
 paths-longer old more timings (p ∷ ps) h =
     ap (λ c. record { input = p.input; edge = p.edge; condition = c; timings = timings_at timings p.timing } ∷ paths_seen (old ++ more) timings ps) (condition-longer old more p.condition h.0.condition)

@@ -1,7 +1,7 @@
 -- What stands after each step of elaboration, for the next.
-use Rattle.std.specs.Prelude.{◌≡◌, ℕ, ◌≤◌, ◌^◌, List, [], length, map, refl}
-use Rattle.std.proofs.Common.{◌∙◌, ap, arith, sym, subst}
-use Rattle.std.proofs.lemmas.List.{length-map}
+use Rattle.std.specs.Prelude.{◌≡◌, ℕ, ◌≤◌, ◌^◌, List, [], ◌++◌, length, map}
+use Rattle.std.proofs.Common.{◌∙◌, ap, arith, sym, subst, append_assoc}
+use Rattle.std.proofs.lemmas.List.{append-nil, length-map}
 use Rattle.cond_expr.specs.Condition.{Condition}
 use Rattle.sg_circuit.specs.Circuit.{Leg}
 use Rattle.sg_circuit.specs.Seen.{scope_seen}
@@ -18,7 +18,7 @@ use Rattle.elab_model.specs.HierarchyFaults.{count_limit}
 use Rattle.elab_model.specs.Nets.{nets}
 use Rattle.elab_model.specs.Scopes.{scope_of}
 use Rattle.circuit_model.specs.CheckUses.{check_of_use, check_uses}
-use Rattle.circuit_model.specs.Faults.{check_faults, path_faults}
+use Rattle.circuit_model.specs.Faults.{check_faults}
 use Rattle.elab_hierarchy.specs.Placing.{ArePlaced, tree_faults}
 use Rattle.elab_hierarchy.specs.declared.instances.Placed.{Placed}
 use Rattle.elab_modules.specs.Reached.{IsLibrary}
@@ -26,10 +26,10 @@ use Rattle.elab_modules.specs.declared.library.Library.{Library}
 use Rattle.elab_nets.specs.Rows.{HaveRows}
 use Rattle.elab_nets.specs.declared.rows.Rows.{Rows}
 use Rattle.elab_elements.specs.Seen.{AreElements}
+use Rattle.elab_elements.specs.Standing.{AreRead}
 use Rattle.elab_elements.specs.declared.placing.Placing.{Placing}
+use Rattle.elab_paths.specs.AllPaths.{AreGiven, HaveAllPaths}
 use Rattle.elab_paths.specs.Ready.{HavePaths}
-use Rattle.elab_paths.specs.Joining.{AreGiven, AreJoined}
-use Rattle.elab_paths.specs.declared.joining.Joined.{Joined}
 use Rattle.elab_paths.specs.Shelving.{ListGrows}
 use Rattle.elab_paths.specs.declared.modules.ModulePaths.{ModulePaths}
 use Rattle.elab_checks.specs.Ready.{HaveChecks}
@@ -37,7 +37,8 @@ use Rattle.elab_checks.specs.Standing as standing
 use Rattle.elab_checks.specs.Uses.{AreUses}
 use Rattle.elab_checks.specs.declared.modules.ReadyChecks.{ReadyChecks}
 use Rattle.elab_checks.specs.declared.uses.CheckTables.{CheckTables}
-use Rattle.vl_elab.specs.Made.{AreBelow, AreMade, AreDrivers, HaveNets, IsWhole, none_of_twelve}
+use Rattle.vl_elab.specs.Made.{AreBelow, AreDrivers, AreMade, HaveElements, HaveNets, IsWhole, none_of_twelve}
+use Rattle.vl_elab.specs.declared.elements.ElementTables.{ElementTables}
 use Rattle.vl_elab.proofs.Faultless.{faultless-below}
 
 -- the list of the instances, as it is lent first and again
@@ -50,66 +51,89 @@ below-of source top tick list first second placed few shallow e f is_tick = reco
   tick_is = is_tick (subst (λ ps. ArePlaced source ps (instances source top)) (sym e) placed);
 }
 
--- before the paths are put in
-pub given-of : (source : Source) (top : Module) (corner : Corner) (tick : unit.Unit) (placed : List Placed) (ready : Library) (modules : ModulePaths) (numbers : Rows) (made : Placing) (legs : LegTiming)
-    → AreBelow source top tick placed → IsLibrary source corner top ready → HaveRows source top numbers → AreElements source top corner ready.gate_delays.items ready.udps.items made
-    → leg_timing_seen legs ≡ none_of_twelve → HavePaths source top corner legs modules → AreGiven source top corner ready modules placed numbers made
-given-of source top corner tick placed ready modules numbers made legs b is_ready rows elements none paths = record {
-  are_placed = b.are_placed;
-  few = b.few;
-  is_ready = is_ready;
-  have_rows = rows;
-  are_elements = elements;
-  legs = legs;
-  without_delay = ap Leg none;
-  have_paths = paths;
-}
-
--- and after that, before the nets have their drivers
-pub made-of : (source : Source) (top : Module) (corner : Corner) (tick : unit.Unit) (placed : List Placed) (ready : Library) (modules : ModulePaths) (numbers : Rows) (joined : Joined) (made : Placing)
-    → AreBelow source top tick placed → IsLibrary source corner top ready → HaveRows source top numbers → path_faults source top corner ≡ []
-    → AreJoined source top corner ready modules numbers joined made → AreMade source top corner placed ready numbers joined made
-made-of source top corner tick placed ready modules numbers joined made b is_ready rows sound are_joined = record {
-  are_placed = b.are_placed;
-  is_ready = is_ready;
-  have_rows = rows;
-  sound_blocks = sound;
-  have_numbers = are_joined.numbers;
-}
-
--- before the checks are made
-pub nets-of : (source : Source) (top : Module) (corner : Corner) (tick : unit.Unit) (placed : List Placed) (ready : Library) (numbers : Rows)
-    → AreBelow source top tick placed → IsLibrary source corner top ready → HaveRows source top numbers → HaveNets source top corner tick placed ready numbers
+-- and when they have nets
+pub nets-of : (source : Source) (top : Module) (corner : Corner) (tick : unit.Unit) (placed : List Placed) (ready : Library) (numbers : Rows) → AreBelow source top tick placed
+    → IsLibrary source corner top ready → HaveRows source top numbers → HaveNets source top corner tick placed ready numbers
 nets-of source top corner tick placed ready numbers b is_ready rows = record { below = b; is_ready = is_ready; have_rows = rows }
 
--- and when those of modules stand ready
-pub checks-given : (source : Source) (top : Module) (corner : Corner) (tick : unit.Unit) (placed : List Placed) (ready : Library) (numbers : Rows) (conditions : List Condition) (modules : ReadyChecks)
-    → HaveNets source top corner tick placed ready numbers → HaveChecks source top corner conditions modules → standing.AreGiven source top corner ready modules conditions placed numbers
-checks-given source top corner tick placed ready numbers conditions modules h have =
-    record { are_placed = h.below.are_placed; few = h.below.few; is_ready = h.is_ready; have_rows = h.have_rows; have_checks = have }
+module _ (source : Source) (top : Module) (corner : Corner) (tick : unit.Unit) (placed : List Placed) (ready : Library) (numbers : Rows) (h : HaveNets source top corner tick placed ready numbers) where
+  -- before the elements are made
+  pub read-of : AreRead source top corner placed ready numbers
+  read-of = record { are_placed = h.below.are_placed; shallow = h.below.shallow; is_ready = h.is_ready; have_rows = h.have_rows }
+
+  -- before the paths are put in
+  pub given-of : (modules : ModulePaths) (made : Placing) (legs : LegTiming) → AreElements source top corner ready.gate_delays.items ready.udps.items made → leg_timing_seen legs ≡ none_of_twelve
+      → HavePaths source top corner legs modules → AreGiven source top corner ready modules placed numbers made
+  given-of modules made legs elements none paths = record {
+    are_placed = h.below.are_placed;
+    few = h.below.few;
+    is_ready = h.is_ready;
+    have_rows = h.have_rows;
+    are_elements = elements;
+    legs = legs;
+    without_delay = ap Leg none;
+    have_paths = paths;
+  }
+
+  -- before the nets have their drivers
+  pub made-of : (made : ElementTables) → HaveElements source top corner ready made → AreMade source top corner placed ready numbers made.placing
+  made-of made e = record {
+    are_placed = h.below.are_placed;
+    is_ready = h.is_ready;
+    have_rows = h.have_rows;
+    outputs = e.have_paths.outputs;
+    places = e.have_paths.places;
+    few = e.have_paths.few_elements;
+  }
+
+  -- when the checks of modules stand ready
+  pub checks-given : (conditions : List Condition) (modules : ReadyChecks) → HaveChecks source top corner conditions modules → standing.AreGiven source top corner ready modules conditions placed numbers
+  checks-given conditions modules have = record { are_placed = h.below.are_placed; few = h.below.few; is_ready = h.is_ready; have_rows = h.have_rows; have_checks = have }
+
+-- the elements, when their paths have been put in
+pub elements-of : (source : Source) (top : Module) (corner : Corner) (ready : Library) (modules : ModulePaths) (legs : LegTiming) (made : ElementTables) → made.timings.items ≡ modules.timings.items
+    → made.conditions.items ≡ modules.conditions.items → HavePaths source top corner legs modules → HaveAllPaths source top corner ready modules made.paths.items made.placing
+    → HaveElements source top corner ready made
+elements-of source top corner ready modules legs made e f paths have = record {
+  modules = modules;
+  have_paths = have;
+  timings_are = e;
+  conditions_grow = ([], f ∙ sym (append-nil modules.conditions.items));
+  faultless = paths.faultless;
+}
+
+-- more conditions come behind
+pub elements-grow : (source : Source) (top : Module) (corner : Corner) (ready : Library) (old new : ElementTables) → new.placing ≡ old.placing → new.timings ≡ old.timings → new.paths ≡ old.paths
+    → ListGrows old.conditions.items new.conditions.items → HaveElements source top corner ready old → HaveElements source top corner ready new
+elements-grow source top corner ready old new e f g grow h =
+    let first = h.conditions_grow in
+    record {
+      modules = h.modules;
+      have_paths = subst (λ p. HaveAllPaths source top corner ready h.modules new.paths.items p) (sym e) (subst (λ p. HaveAllPaths source top corner ready h.modules p.items old.placing) (sym g) h.have_paths);
+      timings_are = ap (λ t. t.items) f ∙ h.timings_are;
+      conditions_grow = (first.0 ++ grow.0, grow.1 ∙ ap (λ cs. cs ++ grow.0) first.1 ∙ append_assoc h.modules.conditions.items first.0 grow.0);
+      faultless = h.faultless;
+    }
 
 -- as many checks as there may be
 few-uses : (n m : ℕ) → n ≡ m → n ≤ 2 ^ 22 → m ≤ count_limit
 few-uses n m e le = omega (arith, e, le)
 
 -- no fault stands at the end
-pub whole-of : (source : Source) (top : Module) (corner : Corner) (tick : unit.Unit) (placed : List Placed) (ready : Library) (modules : ModulePaths) (numbers : Rows) (conditions : List Condition) (joined : Joined) (made : Placing) (drivers : List Driver) (checks : CheckTables) (scopes : List Scope)
-    → AreBelow source top tick placed → IsLibrary source corner top ready → HaveRows source top numbers → path_faults source top corner ≡ [] → AreJoined source top corner ready modules numbers joined made
-    → ListGrows modules.conditions.items conditions → check_faults source top corner ≡ [] → AreUses conditions checks (check_uses source top corner) → length checks.checks.items ≤ 2 ^ 22
-    → AreDrivers source top corner drivers → map (λ s. scope_seen s) scopes ≡ map (scope_of (nets source top) source) (instances source top)
-    → IsWhole source top corner tick ready numbers modules.timings.items conditions joined made drivers checks scopes
-whole-of source top corner tick placed ready modules numbers conditions joined made drivers checks scopes b is_ready rows sound are_joined grow sound_checks uses few have seen =
+pub whole-of : (source : Source) (top : Module) (corner : Corner) (tick : unit.Unit) (placed : List Placed) (ready : Library) (numbers : Rows) (made : ElementTables)
+    (drivers : List Driver) (checks : CheckTables) (scopes : List Scope) → HaveNets source top corner tick placed ready numbers → HaveElements source top corner ready made → check_faults source top corner ≡ []
+    → AreUses made.conditions.items checks (check_uses source top corner)
+    → length checks.checks.items ≤ 2 ^ 22 → AreDrivers source top corner drivers → map (λ s. scope_seen s) scopes ≡ map (scope_of (nets source top) source) (instances source top)
+    → IsWhole source top corner tick ready numbers made drivers checks scopes
+whole-of source top corner tick placed ready numbers made drivers checks scopes h e sound uses few have seen =
     let few_checks = few-uses (length checks.checks.items) (length (check_uses source top corner)) (ap length uses.checks ∙ length-map (check_uses source top corner) check_of_use) few in
     record {
-      tick_is = b.tick_is;
-      is_ready = is_ready;
-      have_rows = rows;
-      modules = modules;
-      are_joined = are_joined;
-      timings_are = refl;
-      conditions_grow = grow;
+      tick_is = h.below.tick_is;
+      is_ready = h.is_ready;
+      have_rows = h.have_rows;
+      have_elements = e;
       has_drivers = have;
       are_checks = uses;
       are_scopes = seen;
-      faultless = faultless-below source top corner b.shallow is_ready.sound sound sound_checks are_joined.numbers.few_nets are_joined.numbers.few_elements are_joined.numbers.few_paths few_checks have.faultless;
+      faultless = faultless-below source top corner h.below.shallow h.is_ready.sound e.faultless sound h.have_rows.few e.have_paths.few_elements e.have_paths.few_paths few_checks have.faultless;
     }

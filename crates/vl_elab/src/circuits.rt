@@ -7,23 +7,20 @@ ghost use Rattle.circuit_model.specs.Circuits as def;
 ghost use Rattle.circuit_model.specs.Elaboration.{Elaborates};
 ghost use Rattle.elab_hierarchy.specs.Tops.{StandsAt};
 ghost use Rattle.vl_elab.specs.Below.{IsBelow, RefusesBelow};
-ghost use Rattle.sg_circuit.specs.TimingsSeen.{leg_timing_seen};
-ghost use Rattle.vl_elab.specs.Made.{AreBelow, IsWhole, none_of_twelve};
+ghost use Rattle.vl_elab.specs.Made.{AreBelow, IsWhole};
 
 use crate::checks::checks_below;
 use crate::driving::{drive, drivers_in};
-use cond_expr::Expr;
+use crate::elements::{ElementTables, elements_below};
 use elab_checks::CheckTables;
-use elab_elements::{Placing, elements_in};
 use elab_hierarchy::{Definitions, Placed, place_instances, tick, top};
 use elab_model::ElabKind;
 use elab_modules::{Library, library_of};
 use elab_nets::{Rows, rows_of};
-use elab_paths::{Joined, add_paths, module_paths};
 use elab_scopes::scopes_of;
-use sg_circuit::{Circuit, Driver, LegTiming, Parts, Scope};
-use sg_delay::{Corner, Delays12, Limit, Limits12};
-use sg_text::{NoMemory, Refused};
+use sg_circuit::{Circuit, Driver, Parts, Scope};
+use sg_delay::Corner;
+use sg_text::Refused;
 use sg_time::Unit;
 use std::alloc::Global;
 use vl_tree::Source;
@@ -74,18 +71,7 @@ fn circuit_of<'t, 'a>(
 {
     let library = library_of(alloc, corner, tick, definitions, instances)?;
     let rows = rows_of(alloc, definitions, &library, instances)?;
-    let mut made = elements_in(alloc, definitions, &library, instances, &rows)?;
-    let modules = module_paths(
-        alloc,
-        corner,
-        tick,
-        definitions,
-        &library,
-        instances,
-        no_delay(),
-    )?;
-    let joined = add_paths(alloc, &library, &modules, instances, &rows, &mut made)?;
-    let mut conditions = modules.conditions;
+    let mut made = elements_below(alloc, corner, tick, definitions, &library, instances, &rows)?;
     let checks = checks_below(
         alloc,
         corner,
@@ -94,7 +80,7 @@ fn circuit_of<'t, 'a>(
         &library,
         instances,
         &rows,
-        &mut conditions,
+        &mut made.conditions,
     )?;
     let drivers = drivers_in(
         alloc,
@@ -102,23 +88,10 @@ fn circuit_of<'t, 'a>(
         &library,
         instances,
         &rows,
-        &joined,
-        &made,
+        &made.placing,
     )?;
     let scopes = scopes_of(alloc, definitions, &library, instances, &rows)?;
-    let circuit = close(
-        alloc,
-        tick,
-        library,
-        rows,
-        made,
-        modules.timings,
-        conditions,
-        joined,
-        &drivers,
-        checks,
-        scopes,
-    )?;
+    let circuit = close(alloc, tick, library, rows, made, &drivers, checks, scopes);
     Ok(circuit)
 }
 
@@ -128,48 +101,31 @@ fn close(
     tick: Unit,
     library: Library,
     rows: Rows,
-    made: Placing,
-    timings: Vec<LegTiming>,
-    conditions: Vec<Expr>,
-    joined: Joined,
+    made: ElementTables,
     drivers: &[Driver],
     checks: CheckTables,
     scopes: Vec<Scope>,
-) -> Result<Circuit, NoMemory>
-    requires { (source : GhostSource) × ((m : Module) × ((corner : ghost_corner.Corner) × IsWhole source m corner tick library rows timings.items conditions.items joined made drivers.now checks scopes.items)) }
-    ensures { IfOk result (λ circuit. (source : GhostSource) (m : Module) (corner : ghost_corner.Corner) → IsWhole source m corner tick library.entry rows timings.items conditions.items joined made drivers.now checks scopes.items
-        → circuit ≡ def.circuit source m corner) }
+) -> Circuit
+    requires { (source : GhostSource) × ((m : Module) × ((corner : ghost_corner.Corner) × IsWhole source m corner tick library rows made drivers.now checks scopes.items)) }
+    ensures { (source : GhostSource) (m : Module) (corner : ghost_corner.Corner) → IsWhole source m corner tick library.entry rows made drivers.now checks scopes.items → result ≡ def.circuit source m corner }
 {
     let mut nets = rows.nets;
-    let mut inner = joined.inner;
-    nets.append(&mut inner)?;
     drive(drivers, &mut nets);
+    let placing = made.placing;
     let zeroed = Vec::new(alloc);
-    Ok(Circuit::close(Parts {
+    Circuit::close(Parts {
         tick,
         nets,
-        elements: made.elements,
+        elements: placing.elements,
         gate_delays: library.gate_delays,
-        leg_timings: timings,
-        paths: joined.paths,
-        conditions,
+        leg_timings: made.timings,
+        paths: made.paths,
+        conditions: made.conditions,
         udps: library.udps,
         checks: checks.checks,
         check_timings: checks.timings,
         check_conditions: checks.conditions,
         scopes,
         zeroed,
-    }))
-}
-
-// The way to an input port's bit has no delay until a text gives it one.
-fn no_delay() -> LegTiming
-    ensures { leg_timing_seen result ≡ none_of_twelve }
-{
-    LegTiming {
-        delays: Delays12 { at: [0; 12] },
-        limits: Limits12 {
-            at: [Limit::Follow; 12],
-        },
-    }
+    })
 }

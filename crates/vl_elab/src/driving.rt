@@ -12,7 +12,6 @@ use elab_hierarchy::{Definitions, Placed};
 use elab_model::ElabKind;
 use elab_modules::Library;
 use elab_nets::Rows;
-use elab_paths::Joined;
 use elab_scopes::{input_nets, reg_nets};
 use sg_circuit::{Driver, Net};
 use sg_text::Refused;
@@ -25,18 +24,17 @@ pub fn drivers_in(
     library: &Library,
     instances: &[Placed],
     rows: &Rows,
-    joined: &Joined,
     made: &Placing,
 ) -> Result<Vec<Driver>, Refused<ElabKind>>
-    requires made { (top : Module) × ((corner : ghost_corner.Corner) × AreMade definitions.now top corner instances.now library.now rows.now joined.now made.now) }
-    ensures drivers { IfOk result (λ ds. (top : Module) (corner : ghost_corner.Corner) → AreMade definitions.now top corner instances.now library.now rows.now joined.now made.now → AreDrivers definitions.now top corner ds.items) }
-    ensures refused { IfErr result (λ r. (top : Module) (corner : ghost_corner.Corner) → AreMade definitions.now top corner instances.now library.now rows.now joined.now made.now → RefusesOneOf (driver_faults definitions.now top corner) r) }
+    requires made { (top : Module) × ((corner : ghost_corner.Corner) × AreMade definitions.now top corner instances.now library.now rows.now made.now) }
+    ensures drivers { IfOk result (λ ds. (top : Module) (corner : ghost_corner.Corner) → AreMade definitions.now top corner instances.now library.now rows.now made.now → AreDrivers definitions.now top corner ds.items) }
+    ensures refused { IfErr result (λ r. (top : Module) (corner : ghost_corner.Corner) → AreMade definitions.now top corner instances.now library.now rows.now made.now → RefusesOneOf (driver_faults definitions.now top corner) r) }
 {
     let inputs = input_nets(alloc, definitions, library, instances, rows)?;
     let regs = reg_nets(alloc, definitions, library, instances, rows)?;
     drivers(
         alloc,
-        (rows.nets.len() + joined.inner.len()) as u32,
+        rows.nets.len() as u32,
         &inputs.nets,
         &inputs.places,
         &made.elements,

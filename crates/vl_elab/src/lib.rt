@@ -4,5 +4,6 @@
 mod checks;
 mod circuits;
 mod driving;
+mod elements;
 
 pub use circuits::elaborate;

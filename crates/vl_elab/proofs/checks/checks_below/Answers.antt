@@ -34,7 +34,7 @@ circuit_checks-requires c =
           (
             c.args.corner,
             subst (λ cs. AreGiven d m c.args.corner c.args.library.now c.in_ok-ready.ready cs c.args.instances.now c.args.rows.now) (sym c.deref.ensures.value)
-                (checks-given d m c.args.corner c.args.tick c.args.instances.now c.args.library.now c.args.rows.now _ _ h checks),
+                (checks-given d m c.args.corner c.args.tick c.args.instances.now c.args.library.now c.args.rows.now h _ _ checks),
           ),
         ),
       );
@@ -49,7 +49,7 @@ returns-in_err-made-clause-refused c =
     refused-right (check_faults d m c.args.corner) (over (length (check_uses d m c.args.corner))) c.in_err-made.field-0.0
     (c.in_err-made.ensures.refused d m c.args.corner
     (subst (λ cs. AreGiven d m c.args.corner c.args.library.now c.in_ok-ready.ready cs c.args.instances.now c.args.rows.now) (sym c.deref.ensures.value)
-    (checks-given d m c.args.corner c.args.tick c.args.instances.now c.args.library.now c.args.rows.now _ _ h checks))))
+    (checks-given d m c.args.corner c.args.tick c.args.instances.now c.args.library.now c.args.rows.now h _ _ checks))))
 
 pub returns-clause-uses : goal.returns-clause-uses
 returns-clause-uses c = λ m h.
@@ -58,7 +58,7 @@ returns-clause-uses c = λ m h.
     subst (λ cs. AreUses cs c.in_ok-made.made (check_uses d m c.args.corner)) c.deref.ensures.value
     (c.in_ok-made.ensures.uses d m c.args.corner
     (subst (λ cs. AreGiven d m c.args.corner c.args.library.now c.in_ok-ready.ready cs c.args.instances.now c.args.rows.now) (sym c.deref.ensures.value)
-    (checks-given d m c.args.corner c.args.tick c.args.instances.now c.args.library.now c.args.rows.now _ _ h checks)))
+    (checks-given d m c.args.corner c.args.tick c.args.instances.now c.args.library.now c.args.rows.now h _ _ checks)))
 
 pub returns-clause-faultless : goal.returns-clause-faultless
 returns-clause-faultless c = λ m h. (c.in_ok-ready.ensures.checks m h.below.are_placed h.below.tick_is h.is_ready).faultless
