@@ -1,5 +1,5 @@
 -- The row of what is driven inside an instance is that of the definition.
-use Rattle.std.specs.Prelude.{◌≡◌, ℕ, ◌+◌, ◌<◌, ◌≤◌, List, [], ◌∷◌, All, Some, map, length, slice_get, zip, refl}
+use Rattle.std.specs.Prelude.{◌≡◌, ℕ, ◌<◌, List, [], ◌∷◌, All, Some, map, length, slice_get, zip, refl}
 use Rattle.std.specs.List.{AllByRecursion}
 use Rattle.std.proofs.Common.{sym, ◌∙◌, ap, arith, subst}
 use Rattle.std.proofs.lemmas.List.{length-map}
@@ -29,7 +29,7 @@ use Rattle.elab_ends.specs.declared.ends.PathEnds.{PathEnds}
 use Rattle.elab_nets.specs.Numbers.{HasNumbers}
 use Rattle.elab_nets.specs.Rows.{part_of}
 use Rattle.elab_nets.specs.declared.rows.Rows.{Rows}
-use Rattle.elab_elements.specs.Adding.{IsHere, HasDriven, driven_at}
+use Rattle.elab_elements.specs.Adding.{HasDriven, driven_at}
 use Rattle.elab_elements.specs.Standing.{IsAt}
 use Rattle.elab_elements.specs.Words.{net_in, ends_in}
 use Rattle.elab_elements.proofs.Meaning.{map-map, number-is}

@@ -9,7 +9,7 @@ use Rattle.sg_logic.specs.declared.gates.GateKind.{GateKind}
 use Rattle.sg_logic.specs.declared.values.Value.{Value}
 use Rattle.sg_text.specs.declared.places.Place.{Place}
 use Rattle.vl_tree.specs.Tree.{Named, Delay, Expression, signal, GateInstance, Join, SpecifyPath, Module, Source}
-use Rattle.elab_model.specs.Bits.{Bit, bits, constant, leaf_bits}
+use Rattle.elab_model.specs.Bits.{bits, constant, leaf_bits}
 use Rattle.elab_model.specs.Delays.{tick_of}
 use Rattle.elab_model.specs.Elements.{member_elements, output_count, pass_to, passes, path_at, terminal_elements}
 use Rattle.elab_model.specs.Ends.{first_ends}

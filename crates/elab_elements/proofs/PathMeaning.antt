@@ -1,5 +1,5 @@
 -- The Paths of a member.
-use Rattle.std.specs.Prelude.{◌≡◌, ℕ, zero, suc, ◌+◌, ◌-◌, ◌<◌, ◌≤◌, List, [], ◌∷◌, ◌++◌, Some, flat_map, length, map, slice_get, slice_index_or, take, drop, zip, refl}
+use Rattle.std.specs.Prelude.{◌≡◌, ℕ, ◌+◌, ◌-◌, ◌<◌, ◌≤◌, List, [], ◌∷◌, ◌++◌, Some, flat_map, length, map, slice_get, slice_index_or, take, drop, zip, refl}
 use Rattle.std.specs.List.{All, AllByRecursion, enumerate_from}
 use Rattle.std.proofs.Common.{sym, ◌∙◌, ap, arith, subst, length-append}
 use Rattle.std.proofs.lemmas.Grind.{flat_map-append}
@@ -15,17 +15,14 @@ use Rattle.vl_tree.specs.Tree.{Module, Source}
 use Rattle.elab_model.specs.Elements.{path_at}
 use Rattle.elab_model.specs.Ends.{first_ends, path_ends, inner_spot}
 use Rattle.elab_model.specs.Hierarchy.{Instance}
-use Rattle.elab_model.specs.Homes.{home_of}
 use Rattle.elab_model.specs.Members.{Member, members}
 use Rattle.elab_model.specs.Names.{Variable, variables}
 use Rattle.elab_model.specs.Nets.{OwnNet, nets, number_of}
 use Rattle.elab_model.specs.Terms.{NetBit}
 use Rattle.elab_laws.specs.Handing.{all_bits, number_at}
-use Rattle.elab_ends.specs.Ends.{AreEnds, ends_before}
+use Rattle.elab_ends.specs.Ends.{ends_before}
 use Rattle.elab_ends.specs.Seen.{bit_seen, bits_seen}
-use Rattle.elab_nets.specs.Numbers.{HasNumbers}
 use Rattle.elab_modules.specs.declared.prepared.Prepared.{Prepared}
-use Rattle.elab_nets.specs.Rows.{HasRow}
 use Rattle.elab_nets.specs.declared.rows.Rows.{Rows}
 use Rattle.elab_nets.specs.Turns.{members_of}
 use Rattle.elab_nets.proofs.NumberedLists.{next-is, taken}

@@ -1,19 +1,19 @@
 -- The variables of a module without faults begin with its ports, in order.
-use Rattle.std.specs.Prelude.{◌≡◌, ℕ, zero, suc, ◌<◌, List, [], ◌∷◌, ◌++◌, Bool, true, false, ◌||◌, cond, Option, Some, None, bytes_eq, find, length, map, slice_get, slice_index_or, refl, if◌then◌else◌}
-use Rattle.std.proofs.Common.{sym, ◌∙◌, ap, arith, subst}
+use Rattle.std.specs.Prelude.{◌≡◌, ℕ, zero, suc, ◌<◌, List, [], ◌∷◌, ◌++◌, Bool, true, false, ◌||◌, cond, Some, bytes_eq, find, length, map, slice_get, refl, if◌then◌else◌}
+use Rattle.std.proofs.Common.{sym, ◌∙◌, ap, subst}
 use Rattle.std.proofs.lemmas.List.{get_or-map, length-map}
 use Rattle.std.proofs.lemmas.Option.{slice_get-get_or}
 use Rattle.std.proofs.lemmas.Slice.Eq.{bytes_eq-Decides}
 use Rattle.sg_text.specs.declared.places.Place.{Place}
 use Rattle.vl_tree.specs.Tree.{Named, Module}
 use Rattle.elab_model.specs.Elements.{place_in, port_place}
-use Rattle.elab_model.specs.Faults.{Fault, fault, places_again, duplicates}
+use Rattle.elab_model.specs.Faults.{fault, places_again}
 use Rattle.elab_model.specs.declared.kinds.ElabKind.TheVariants.{DuplicateName}
 use Rattle.elab_model.specs.Hierarchy.{Instance}
 use Rattle.elab_model.specs.NameFaults.{declaration_faults, name_faults, twice_in_list}
-use Rattle.elab_model.specs.Names.{Variable, variable, variables, variable_names, is_among, first_of_each}
-use Rattle.elab_model.specs.Ports.{port_list, port_names}
-use Rattle.elab_laws.proofs.NoFaults.{front, back}
+use Rattle.elab_model.specs.Names.{variable, variables, variable_names, is_among, first_of_each}
+use Rattle.elab_model.specs.Ports.{port_list}
+use Rattle.elab_laws.proofs.NoFaults.{front}
 use Rattle.elab_variables.specs.Seen.{variable_at}
 
 or-neither : (a b : Bool) → (a || b) ≡ false → (a ≡ false) × (b ≡ false)

@@ -3,7 +3,7 @@ use Rattle.std.specs.Prelude.{◌≡◌, ℕ, zero, suc, ◌+◌, ◌-◌, ◌<�
 use Rattle.std.specs.List.{cons_option}
 use Rattle.std.proofs.Common.{sym, ◌∙◌, ap, arith, subst, append_assoc, length-append}
 use Rattle.std.proofs.lemmas.Grind.{flat_map-append}
-use Rattle.std.proofs.lemmas.List.{append-nil, map-append, length-map, take-map, take_all, take_at, take_more, drop_all}
+use Rattle.std.proofs.lemmas.List.{append-nil, length-map, take-map, take_all, take_at, take_more, drop_all}
 use Rattle.vl_tree.specs.Tree.{Expression}
 use Rattle.elab_model.specs.Bits.{Bit, bits}
 use Rattle.elab_model.specs.Elements.{only_bit}

@@ -38,6 +38,7 @@ NamesPlaces delays udps (kind.Leg t) = t ≡ 0
 NamesPlaces delays udps (kind.Path paths style) = Unit {0}
 NamesPlaces delays udps (kind.Late d) = ⊥
 
+-- all elements are there, in order, where no Path has its paths yet
 pub record AreElements (source : Source) (top : Module) (corner : Corner) (delays : List GateDelays) (udps : List UdpUse) (made : Placing) : Type 0 where
   pub elements : map (element_in delays udps) made.elements.items ≡ map (element_of (nets source top)) (components source top corner)
   pub places : made.places.items ≡ map (λ e. e.place) (components source top corner)

@@ -1,5 +1,5 @@
 // What is driven inside at the bits of an instance.
-ghost use Rattle.std.specs.Prelude.{◌≡◌, ◌<◌, ℕ, All, IfOk, OnOk, length, map, nat_eq, zip};
+ghost use Rattle.std.specs.Prelude.{◌≡◌, ◌<◌, ℕ, All, IfOk, OnOk, length, map, nat_eq};
 ghost use Rattle.indexmap.specs.IndexMap.{get};
 ghost use Rattle.elab_laws.specs.NumberLaws.{driven_number};
 ghost use Rattle.elab_elements.specs.Words.{ends_in, inner_of};

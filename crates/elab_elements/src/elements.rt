@@ -17,8 +17,8 @@ use elab_nets::Rows;
 use sg_text::Refused;
 use std::alloc::Global;
 
-/// The elements of the instances below a top, by instance, then in text order. All Legs have timing 0. Refuses more than 2^22 (TooMany, at the first byte of the first
-/// file). Takes memory in proportion to the elements.
+/// The elements of the instances below a top, by instance, then in text order. All Legs have timing 0, and no Path has its paths yet. Refuses more than 2^22 (TooMany, at the first
+/// byte of the first file). Takes memory in proportion to the elements.
 pub fn elements_in(
     alloc: Global,
     definitions: &Definitions,

@@ -1,5 +1,5 @@
 // Gates and primitives.
-ghost use Rattle.std.specs.Prelude.{◌≡◌, ◌≤◌, ◌<◌, ◌+◌, ◌-◌, ◌^◌, ◌++◌, ◌∷◌, [], ℕ, List, All, true, Some, OnOk, IfErr, length, map, flat_map, zip, min, take, drop, IfOk};
+ghost use Rattle.std.specs.Prelude.{◌≡◌, ◌≤◌, ◌<◌, ◌+◌, ◌-◌, ◌^◌, ◌++◌, ◌∷◌, [], ℕ, List, All, Some, OnOk, IfErr, length, map, flat_map, zip, IfOk};
 ghost use Rattle.sg_circuit.specs.declared.elements.UdpUse as ghost_udps;
 ghost use Rattle.sg_delay.specs.declared.gates.GateDelays as ghost_delays;
 ghost use Rattle.vl_tree.specs.Tree.{Source};

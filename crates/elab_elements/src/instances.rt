@@ -1,5 +1,5 @@
 // The elements of an instance.
-ghost use Rattle.std.specs.Prelude.{◌≡◌, ◌≤◌, ◌+◌, ◌^◌, OnOk, IfErr, flat_map, length};
+ghost use Rattle.std.specs.Prelude.{◌≤◌, ◌+◌, ◌^◌, OnOk, IfErr, flat_map, length};
 ghost use Rattle.std.specs.List.{enumerate_from};
 ghost use Rattle.sg_delay.specs.declared.corners.Corner as ghost_corner;
 ghost use Rattle.vl_tree.specs.Tree.{Module};

@@ -1,11 +1,9 @@
 // The Legs of a leaf.
-ghost use Rattle.std.specs.Prelude.{◌≡◌, ◌≤◌, ◌<◌, ◌+◌, ◌-◌, ◌^◌, ◌++◌, ℕ, List, All, true, Some, OnOk, IfErr, length, map, flat_map, take, slice_get, []};
+ghost use Rattle.std.specs.Prelude.{◌≡◌, ◌≤◌, ◌<◌, ◌+◌, ◌-◌, ◌^◌, List, true, Some, OnOk, IfErr, length, map, flat_map, slice_get, []};
 ghost use Rattle.sg_circuit.specs.declared.elements.UdpUse as ghost_udps;
 ghost use Rattle.sg_delay.specs.declared.gates.GateDelays as ghost_delays;
 ghost use Rattle.vl_tree.specs.Tree.{Source};
 ghost use Rattle.elab_laws.specs.Handing.{all_bits};
-ghost use Rattle.elab_bits.specs.Seen.{view_bit, IsInRow};
-ghost use Rattle.elab_model.specs.Bits.{constant};
 ghost use Rattle.elab_model.specs.Elements as def_elements;
 ghost use Rattle.elab_model.specs.Elements.{place_in};
 ghost use Rattle.elab_model.specs.Hierarchy as def;
@@ -14,8 +12,7 @@ ghost use Rattle.elab_model.specs.Nets.{OwnNet};
 ghost use Rattle.elab_model.specs.Ports.{port_list};
 ghost use Rattle.vl_tree.specs.Seen.{view_name};
 ghost use Rattle.elab_numbering.specs.Refusals.{RefusesCount};
-ghost use Rattle.elab_elements.specs.Adding.{Adds, IsHere, HasOutside, HasTerminals};
-ghost use Rattle.elab_elements.specs.Seen.{kind_in, NamesPlaces};
+ghost use Rattle.elab_elements.specs.Adding.{Adds, IsHere, HasOutside};
 ghost use Rattle.std.specs.List.{range_with_len};
 ghost use Rattle.sg_circuit.specs.Closed.{width_of};
 ghost use Rattle.elab_variables.specs.Seen.{variable_at};

@@ -1,5 +1,5 @@
 // The elements of one member.
-ghost use Rattle.std.specs.Prelude.{◌≡◌, ◌≤◌, ◌<◌, ◌+◌, ◌^◌, ◌++◌, ℕ, List, All, OnOk, IfErr, length, map, flat_map};
+ghost use Rattle.std.specs.Prelude.{◌≡◌, ◌≤◌, ◌<◌, ◌+◌, ◌^◌, ℕ, List, OnOk, IfErr, length, map, flat_map};
 ghost use Rattle.sg_circuit.specs.Circuit.{Gate};
 ghost use Rattle.sg_circuit.specs.Seen.{delays_at};
 ghost use Rattle.sg_circuit.specs.declared.elements.UdpUse as ghost_udps;
@@ -7,7 +7,6 @@ ghost use Rattle.sg_delay.specs.declared.gates.GateDelays as ghost_delays;
 ghost use Rattle.vl_tree.specs.Seen.{view_expression, view_name};
 ghost use Rattle.vl_tree.specs.Tree.{Source as GhostSource};
 ghost use Rattle.elab_laws.specs.Handing.{all_bits};
-ghost use Rattle.elab_bits.specs.Seen.{view_bit, IsInRow};
 ghost use Rattle.elab_model.specs.Bits as def_bits;
 ghost use Rattle.elab_model.specs.Elements as def_elements;
 ghost use Rattle.elab_model.specs.Hierarchy as def;

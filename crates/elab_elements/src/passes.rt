@@ -1,5 +1,5 @@
 // Continuous assignments and supplies.
-ghost use Rattle.std.specs.Prelude.{◌≡◌, ◌≤◌, ◌<◌, ◌+◌, ◌^◌, ◌++◌, ℕ, List, All, true, Some, OnOk, IfErr, length, map, flat_map, zip};
+ghost use Rattle.std.specs.Prelude.{◌≡◌, ◌≤◌, ◌<◌, ◌+◌, ◌^◌, List, All, Some, OnOk, IfErr, length, map, flat_map, zip};
 ghost use Rattle.sg_circuit.specs.declared.elements.UdpUse as ghost_udps;
 ghost use Rattle.sg_delay.specs.declared.gates.GateDelays as ghost_delays;
 ghost use Rattle.vl_tree.specs.Tree.{Source};
@@ -12,7 +12,6 @@ ghost use Rattle.elab_model.specs.Names.{Variable};
 ghost use Rattle.elab_model.specs.Nets.{OwnNet};
 ghost use Rattle.elab_numbering.specs.Refusals.{RefusesCount};
 ghost use Rattle.elab_elements.specs.Adding.{Adds, IsHere, HasDriven};
-ghost use Rattle.elab_elements.specs.Seen.{kind_in, NamesPlaces};
 ghost use Rattle.elab_elements.specs.Puts.{Puts, RefusesPuts};
 ghost use Rattle.elab_elements.specs.Words.{pass_puts};
 ghost use Rattle.elab_bits.specs.declared.bits.Bit.TheVariants as ghost_bit;

@@ -1,5 +1,5 @@
 // The bits of the terminals of gates and primitives, of which outputs stand first.
-ghost use Rattle.std.specs.Prelude.{◌≡◌, ◌≤◌, ◌-◌, ◌+◌, ◌++◌, ◌∷◌, [], ℕ, List, All, IfOk, OnOk, length, map, filter_map, option_map};
+ghost use Rattle.std.specs.Prelude.{◌≡◌, ◌-◌, ◌+◌, ◌++◌, ◌∷◌, [], All, IfOk, OnOk, length, map, filter_map, option_map};
 ghost use Rattle.vl_tree.specs.Seen.{view_connections, view_expression, view_named_connection};
 ghost use Rattle.elab_bits.specs.Seen.{view_bit, IsInRow};
 ghost use Rattle.elab_model.specs.Bits as def_bits;

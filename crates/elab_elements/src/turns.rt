@@ -1,5 +1,5 @@
 // The elements of a member, and the instances that are members.
-ghost use Rattle.std.specs.Prelude.{◌≡◌, ◌≤◌, ◌+◌, ◌^◌, ℕ, Option, OnOk, IfOk, IfErr, length};
+ghost use Rattle.std.specs.Prelude.{◌≤◌, ◌+◌, ◌^◌, ℕ, Option, OnOk, IfOk, IfErr, length};
 ghost use Rattle.sg_delay.specs.declared.corners.Corner as ghost_corner;
 ghost use Rattle.vl_tree.specs.Seen.{view_instance, view_name};
 ghost use Rattle.vl_tree.specs.Tree.{Delay as SeenDelay, Module};

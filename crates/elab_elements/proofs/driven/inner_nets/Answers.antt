@@ -1,7 +1,7 @@
 -- One bit more: its net has an inner net, or takes this one.
-use Rattle.std.proofs.Common.{sym, ◌∙◌, subst, ℕ, nat_eq, ◌≡◌, ◌+◌, slice_index_or, take}
+use Rattle.std.proofs.Common.{sym, ◌∙◌, subst, ℕ, nat_eq, ◌≡◌, ◌+◌, take}
 use Rattle.indexmap.specs.IndexMap.{get}
-use Rattle.elab_elements.specs.Words.{net_in, ends_in, inner_of}
+use Rattle.elab_elements.specs.Words.{ends_in, inner_of}
 use Rattle.elab_elements.proofs.InnerNets.{ends-more, known-already, known-new, all-known}
 use Rattle.elab_elements.proofs.driven.inner_nets.Goals as goal
 use Rattle.elab_elements.proofs.driven.inner_nets.Goals.{then-not-contains_key+in_ok-insert, else-not-contains_key}

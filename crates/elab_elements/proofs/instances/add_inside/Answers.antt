@@ -1,7 +1,7 @@
 -- What is driven inside is the instance's row, or is made of it.
 use Rattle.std.proofs.Common.{◌≡◌, ◌∙◌, ap, arith, sym, length, map}
 use Rattle.std.proofs.lemmas.Bool.{eqb-true}
-use Rattle.std.proofs.lemmas.Result.{err_from_is_err_and, on_ok_weaker}
+use Rattle.std.proofs.lemmas.Result.{on_ok_weaker}
 use Rattle.elab_laws.specs.NumberLaws.{driven_number}
 use Rattle.elab_elements.specs.Words.{ends_in}
 use Rattle.elab_elements.proofs.DrivenHere.{drives-own, drives-made, ends-in_row, ends-count}

@@ -1,5 +1,5 @@
 -- The elements of the member that it is.
-use Rattle.std.proofs.Common.{◌+◌, ◌∙◌, ap, length, map, option_map, refl, subst, sym}
+use Rattle.std.proofs.Common.{◌+◌, ap, length, map, option_map, refl, subst, sym}
 use Rattle.std.proofs.lemmas.Result.{err_from_is_err_and, IfOk-weaker, on_ok_weaker}
 use Rattle.vl_tree.specs.Seen.{view_delay, view_expression, view_gate_instance, view_join, view_name, view_path}
 use Rattle.elab_laws.specs.Handing.{all_bits}
