@@ -52,7 +52,8 @@ filled-apart uses (e ∷ es) le b = by (is_path e.kind) refl uses le b (λ vs. f
         → Pairwise ElementsApart (if t then with_next vs e ∷ filled (drop 1 vs) es else e ∷ filled vs es)
     by true f [] le b later = absurd (omega (arith, le))
     by true f (v ∷ vs) le b later =
-        (all-filled (KindsApart (kind-of v)) (λ k. Unit {0}) (λ k g n. before-plain v k g) vs es (omega (arith, le)) b.0 (all-anyway (λ (x : code.Element). Unit {0}) es (λ x. tt)), later vs (omega (arith, le)) b.1)
+        let few : paths_among es ≤ length vs = omega (arith, le) in
+        (all-filled (KindsApart (kind-of v)) (λ k. Unit {0}) (λ k g n. before-plain v k g) vs es few b.0 (all-anyway (λ (x : code.Element). Unit {0}) es (λ x. tt)), later vs few b.1)
     by false f vs le b later = (all-anyway (ElementsApart e) (filled vs es) (λ y. plain-apart e.kind y.kind f), later vs le b)
 
 pairwise-at : {A : Type 0} (R : A → A → Type 0) (xs : List A) → Pairwise R xs → (i j : ℕ) (d : A) → i < j → j < length xs → R (slice_index_or xs i d) (slice_index_or xs j d)

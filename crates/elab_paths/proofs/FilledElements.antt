@@ -110,7 +110,8 @@ module _ (t : Tables) (legs : HasLegs t.timings) (all : List OwnNet) where
 
   -- each Path has its use, behind those of the Paths before
   pub elements-seen : (before us : List def.PathUse) (uses : List PathUse) (cs : List Component) (es : List code.Element) → ReadInOrder cs (map (λ u. u.inner) us) → AreSame t uses us
-      → AllByRecursion HasInner (before ++ us) → Pairwise AreOtherUses (before ++ us) → map (element_in t.gate_delays t.udps) es ≡ map (element_of all) cs → AllByRecursion (λ e. NamesPlaces t.gate_delays t.udps e.kind) es
+      → AllByRecursion HasInner (before ++ us) → Pairwise AreOtherUses (before ++ us) → map (element_in t.gate_delays t.udps) es ≡ map (element_of all) cs
+      → AllByRecursion (λ e. NamesPlaces t.gate_delays t.udps e.kind) es
       → map (element_with t) (filled uses es) ≡ map (λ c. element_of all (def.with_paths (before ++ us) c)) cs
   elements-seen before us uses [] [] r s inner apart e n = refl
   elements-seen before us uses [] (x ∷ es) r s inner apart e n = cc
@@ -138,7 +139,9 @@ module _ (t : Tables) (legs : HasLegs t.timings) (all : List OwnNet) where
         paths = tail-is (F u) v.paths (map F uses) (map (λ u. u.paths) us) s.paths;
         styles = tail-is u.style v.style (map (λ u. u.style) uses) (map (λ u. u.style) us) s.styles;
       } in
-      let later = elements-seen (before ++ v ∷ []) us uses cs es (subst (ReadInOrder cs) (sym spots) r.4) same (subst (AllByRecursion HasInner) (sym moved) inner) (subst (Pairwise AreOtherUses) (sym moved) apart) rest n.1 in
+      let later =
+      elements-seen (before ++ v ∷ []) us uses cs es (subst (ReadInOrder cs) (sym spots) r.4) same (subst (AllByRecursion HasInner) (sym moved) inner) (subst (Pairwise AreOtherUses) (sym moved) apart)
+      rest n.1 in
       ap (λ b. map (element_with t) (if b then with_use u x ∷ filled uses es else x ∷ filled (u ∷ uses) es)) is
       ∙ ap (λ y. y ∷ map (element_with t) (filled uses es))
       (path-seen x c (before ++ v ∷ us) u v own found (head-is (F u) v.paths (map F uses) (map (λ u. u.paths) us) s.paths) (head-is u.style v.style (map (λ u. u.style) uses) (map (λ u. u.style) us) s.styles))

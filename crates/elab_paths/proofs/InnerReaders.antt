@@ -10,7 +10,9 @@ use Rattle.elab_model.specs.Bits.{Bit, net, constant, leaf_bits, positions}
 use Rattle.elab_model.specs.Connections.{port_values}
 use Rattle.elab_model.specs.Definitions.{definition_of}
 use Rattle.elab_model.specs.Delays.{delays_of}
-use Rattle.elab_model.specs.Elements.{Component, expression_bits, bound_above, leg_source, leg_at, variable_legs, legs, pass_to, passes, constant_pass, output_count, input_spot, output_element, terminal_elements, output_bits, input_bits, port_spot, port_elements, child_elements, child_at, path_kind, path_at, instance_elements, member_elements, elements_of}
+use Rattle.elab_model.specs.Elements.{Component, expression_bits, bound_above, leg_source, leg_at, variable_legs, legs, pass_to, passes, constant_pass}
+use Rattle.elab_model.specs.Elements.{output_count, input_spot, output_element, terminal_elements, output_bits, input_bits, port_spot, port_elements, child_elements, child_at}
+use Rattle.elab_model.specs.Elements.{path_kind, path_at, instance_elements, member_elements, elements_of}
 use Rattle.elab_model.specs.Ends.{first_ends, path_ends, inner_spot}
 use Rattle.elab_model.specs.Hierarchy.{Step, Instance, is_leaf}
 use Rattle.elab_model.specs.Homes.{Spot, bit, outside, terminal, inner, same_above, home, is_input}
@@ -143,7 +145,8 @@ module _ (source : Source) (s : Instance) where
       (all-flat IsPlain (pass_to source s j.place) (zip (expression_bits s j.left) (expression_bits s j.right)) (pass-plain j.place))
   member-read corner tick (k, supply n v) =
       let bs = leaf_bits (variables s.step.definition) (whole n) in
-      read-plain (flat_map (λ b. pass_to source s n.place (b, constant n.place v)) bs) (all-flat IsPlain (λ b. pass_to source s n.place (b, constant n.place v)) bs (λ b. pass-plain n.place (b, constant n.place v)))
+      read-plain (flat_map (λ b. pass_to source s n.place (b, constant n.place v)) bs)
+      (all-flat IsPlain (λ b. pass_to source s n.place (b, constant n.place v)) bs (λ b. pass-plain n.place (b, constant n.place v)))
   member-read corner tick (k, gate g d i) =
       let outputs = output_count g (length i.terminals) in
       read-plain (member_elements source corner tick s (k, gate g d i))

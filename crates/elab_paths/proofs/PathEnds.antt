@@ -13,7 +13,8 @@ use Rattle.vl_tree.specs.declared.expressions.Select.{Select}
 use Rattle.vl_tree.specs.declared.expressions.Select.TheVariants as select
 use Rattle.vl_tree.specs.declared.paths.Arrow.{Arrow}
 use Rattle.vl_tree.specs.declared.paths.Arrow.TheVariants.{Parallel, Full}
-use Rattle.vl_tree.specs.Tree.{Expression, NetName, Term, SpecifyPath, SpecifyItem, specparams, a_path, pulse_style, a_check, Item, ports, nets, supplies, registers, assigns, gates, instances, specify_block, Module}
+use Rattle.vl_tree.specs.Tree.{Expression, NetName, Term, SpecifyPath, SpecifyItem, specparams, a_path, pulse_style, a_check}
+use Rattle.vl_tree.specs.Tree.{Item, ports, nets, supplies, registers, assigns, gates, instances, specify_block, Module}
 use Rattle.elab_model.specs.declared.kinds.ElabKind.{ElabKind}
 use Rattle.elab_model.specs.declared.kinds.ElabKind.TheVariants.{BadTerminal}
 use Rattle.elab_model.specs.Bits.{net, positions, positions_between, bits_between, position_at, select_bits, leaf_bits, variable_named}
@@ -151,10 +152,6 @@ path-ends by m values p h =
 
 -- ---- all paths of a module
 
-flat-flat : {A B C : Type 0} (f : B → List C) (g : A → List B) (xs : List A) → flat_map f (flat_map g xs) ≡ flat_map (λ x. flat_map f (g x)) xs
-flat-flat f g [] = refl
-flat-flat f g (x ∷ xs) = flat_map-append f (g x) (flat_map g xs) ∙ ap (λ ys. flat_map f (g x) ++ ys) (flat-flat f g xs)
-
 pub map-flat : {A B C : Type 0} (f : B → C) (g : A → List B) (xs : List A) → map f (flat_map g xs) ≡ flat_map (λ x. map f (g x)) xs
 map-flat f g [] = refl
 map-flat f g (x ∷ xs) = map-append f (g x) (flat_map g xs) ∙ ap (λ ys. map f (g x) ++ ys) (map-flat f g xs)
@@ -233,7 +230,8 @@ outputs-are_ends corner tick m h =
     let none : paths ≡ [] = front paths styles (back pulsed (paths ++ styles) (back twice (pulsed ++ (paths ++ styles)) h)) in
     let same : flat_map (path-end m) (specify_paths items) ≡ flat_map (path-bits m) (specify_paths items) =
     flat-same (path-end m) (path-bits m) (specify_paths items)
-    (all-weaker (λ p. path_faults by vs values p ≡ []) (λ p. path-end m p ≡ path-bits m p) (specify_paths items) (λ p e. path-ends by m values p e) (flat-empty (path_faults by vs values) (specify_paths items) none)) in
+    (all-weaker (λ p. path_faults by vs values p ≡ []) (λ p. path-end m p ≡ path-bits m p) (specify_paths items) (λ p e. path-ends by m values p e)
+    (flat-empty (path_faults by vs values) (specify_paths items) none)) in
     let ps = module_paths by vs items in
     mapped-twice (output_of vs (style_texts items) ps) (λ o. o.output) (first_paths [] ps)
     ∙ first-lead [] ps

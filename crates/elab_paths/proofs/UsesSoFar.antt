@@ -76,8 +76,8 @@ mapped-more f g xs zs x ys y e h k =
 pub row-is : (all : List OwnNet) (source : Source) (s : Instance) (vs : List Variable) (row : List ℕ) → HasNumbers all source s vs row → IsRow vs row (def.bit_number all source s)
 row-is all source s vs row h = h.numbers
 
-pub one-more : (conditions : List Condition) (timings : List LegTiming) (all : List OwnNet) (source : Source) (s : Instance) (vs : List Variable) (row : List ℕ) (o : ReadyOutput) (old new : PathUses) (us : List def.PathUse)
-    → HasNumbers all source s vs row → IsReadyOutput (length (all_bits vs)) (length timings) (length conditions) o → AreUses conditions timings old us → AddsUse conditions vs row o old new
+pub one-more : (conditions : List Condition) (timings : List LegTiming) (all : List OwnNet) (source : Source) (s : Instance) (vs : List Variable) (row : List ℕ) (o : ReadyOutput) (old new : PathUses)
+    (us : List def.PathUse) → HasNumbers all source s vs row → IsReadyOutput (length (all_bits vs)) (length timings) (length conditions) o → AreUses conditions timings old us → AddsUse conditions vs row o old new
     → AreUses conditions timings new (us ++ def.path_use all source s (output_ready timings conditions vs o) ∷ [])
 one-more conditions timings all source s vs row o old new us here ready h k =
     let net = def.bit_number all source s in

@@ -119,8 +119,8 @@ module _ (source : Source) (top : Module) (corner : Corner) (library : Library) 
       let count = length-map old.elements.items (element_in library.gate_delays.items library.udps.items) in
       record {
         elements = ap (map (element_with tables)) is ∙ elements-seen tables legs all [] us made.uses.items cs old.elements.items read same inner apart seen given.are_elements.named;
-        outputs = ap of is ∙ outputs-stay made.uses.items old.elements.items ∙ sym (mapped-twice (element_in library.gate_delays.items library.udps.items) (λ e. e.output) old.elements.items) ∙ ap (map (λ e. e.output)) seen
-            ∙ mapped-twice (element_of all) (λ e. e.output) cs;
+        outputs = ap of is ∙ outputs-stay made.uses.items old.elements.items
+            ∙ sym (mapped-twice (element_in library.gate_delays.items library.udps.items) (λ e. e.output) old.elements.items) ∙ ap (map (λ e. e.output)) seen ∙ mapped-twice (element_of all) (λ e. e.output) cs;
         places = places ∙ given.are_elements.places;
         named = subst (Hold (NamesTables tables)) (sym is) (elements-named tables legs made.uses.items old.elements.items uses-enough uses.spans given.are_elements.named);
         apart = subst Apart (sym is) (elements-apart made.uses.items old.elements.items uses-enough uses.beside);
