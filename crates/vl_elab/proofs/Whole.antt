@@ -8,7 +8,7 @@ use Rattle.std.proofs.lemmas.List.FromFn.{length-range_with_len}
 use Rattle.cond_expr.specs.Condition.{Condition}
 use Rattle.sg_circuit.specs.ChecksSeen.{written_seen, AreWritten}
 use Rattle.sg_circuit.specs.Closed.{IsClosed}
-use Rattle.sg_circuit.specs.Seen.{kind_seen, element_seen, scope_seen, circuit_seen, paths_of, AreApart, IsIndexed, AreIndexed}
+use Rattle.sg_circuit.specs.Seen.{kind_seen, element_seen, udp_seen, scope_seen, circuit_seen, paths_of, AreApart, IsIndexed, AreIndexed}
 use Rattle.sg_circuit.specs.declared.checks.Zero.{Zero}
 use Rattle.sg_circuit.specs.declared.circuits.Parts.{Parts}
 use Rattle.sg_circuit.specs.declared.elements.Element as code
@@ -174,6 +174,9 @@ module _ (source : Source) (top : Module) (corner : Corner) (tick : unit.Unit) (
         elements-are parts parts.elements.items ∙ ap (map (element_with (tables_in parts))) o.elements_are ∙ ap (λ t. map (element_with t) es) tables-are
         ∙ elements-longer paths_tables more es w.have_elements.have_paths.named ∙ w.have_elements.have_paths.elements
 
+    used : map (λ u. udp_seen u) parts.udps.items ≡ (circuit source top corner).udps
+    used = ap (map (λ u. udp_seen u)) o.udps_are ∙ w.is_ready.listed
+
     spelled : map (written_seen parts.conditions.items) parts.check_conditions.items ≡ map written_of_use (check_uses source top corner)
     spelled =
         ap (λ cs. map (written_seen cs) parts.check_conditions.items) o.conditions_are ∙ ap (map (written_seen made.conditions.items)) o.check_conditions_are ∙ w.are_checks.spelled
@@ -186,6 +189,7 @@ module _ (source : Source) (top : Module) (corner : Corner) (tick : unit.Unit) (
       tick = ticks i;
       nets = driven i;
       elements = placed i;
+      udps = used i;
       checks = (o.checks_are ∙ w.are_checks.checks) i;
       check_timings = (o.check_timings_are ∙ w.are_checks.timings) i;
       check_conditions = spelled i;
