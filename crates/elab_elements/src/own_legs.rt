@@ -1,5 +1,5 @@
 // The Legs of an instance, where it is a leaf.
-ghost use Rattle.std.specs.Prelude.{◌≡◌, ◌≤◌, ◌+◌, ◌^◌, ◌++◌, OnOk, IfErr, length};
+ghost use Rattle.std.specs.Prelude.{◌≡◌, ◌≤◌, ◌+◌, ◌^◌, OnOk, IfErr, length};
 ghost use Rattle.sg_delay.specs.declared.corners.Corner as ghost_corner;
 ghost use Rattle.vl_tree.specs.Tree.{Module, Source as GhostSource};
 ghost use Rattle.elab_model.specs.Elements as def_elements;

@@ -1,5 +1,5 @@
 // The output bits to which specify paths lead.
-ghost use Rattle.std.specs.Prelude.{◌≡◌, ◌<◌, ◌++◌, IfOk, OnOk, List, filter, length, map};
+ghost use Rattle.std.specs.Prelude.{◌≡◌, ◌<◌, IfOk, OnOk, List, filter, length, map};
 ghost use Rattle.vl_tree.specs.Seen.{view_path};
 ghost use Rattle.vl_tree.specs.Tree.{Module};
 ghost use Rattle.elab_model.specs.Ends as def;

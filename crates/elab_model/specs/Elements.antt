@@ -8,7 +8,7 @@ use Rattle.sg_logic.specs.declared.gates.GateKind.{GateKind}
 use Rattle.sg_logic.specs.declared.gates.GateKind.TheVariants.{Buf, Not}
 use Rattle.sg_logic.specs.declared.values.Value.{Value}
 use Rattle.sg_text.specs.declared.places.Place.{Place}
-use Rattle.vl_tree.specs.Tree.{Named, Expression, Delay, SpecifyPath, Instance as instance_text, Part, a_module, a_primitive, Source}
+use Rattle.vl_tree.specs.Tree.{Named, Expression, Delay, Instance as instance_text, Part, a_module, a_primitive, Source}
 use Rattle.elab_model.specs.Members.{Member, assignment, supply, gate, instance, path, members, connection_values}
 use Rattle.elab_model.specs.Definitions.{definition_of}
 use Rattle.elab_model.specs.Ports.{port_list}

@@ -9,7 +9,7 @@ use Rattle.std.specs.Option.{option_map}
 use Rattle.elab_model.specs.Members.{Member, assignment, supply, gate, instance, path, members}
 use Rattle.elab_model.specs.Ports.{port_list, ports_of_head, ports_of_item, port_declarations, NetDeclaration, nets_of_item, net_declarations}
 use Rattle.elab_model.specs.Names.{bounds}
-use Rattle.elab_model.specs.Faults.{Fault, fault, fault_if, missing, duplicates, all_of}
+use Rattle.elab_model.specs.Faults.{Fault, fault_if, missing, duplicates, all_of}
 
 -- two ports, two directions of a port, two nets or two instances have one name
 abbrev pub twice_in_list : Module → List Fault

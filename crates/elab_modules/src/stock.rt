@@ -1,5 +1,5 @@
 // The modules of instances made ready, and the primitives that their members name.
-ghost use Rattle.std.specs.Prelude.{◌≡◌, ℕ, ◌<◌, ◌^◌, ◌++◌, ◌∷◌, List, [], IfOk, OnOk, IfErr, All, None, filter_map, length, map, replicate};
+ghost use Rattle.std.specs.Prelude.{◌≡◌, ℕ, ◌<◌, ◌++◌, ◌∷◌, List, [], IfOk, OnOk, IfErr, All, None, filter_map, length, map, replicate};
 ghost use Rattle.vl_tree.specs.Tree.{Module, Primitive};
 ghost use Rattle.elab_model.specs.Definitions.{primitive_of};
 ghost use Rattle.elab_model.specs.HierarchyFaults.{two_definitions};

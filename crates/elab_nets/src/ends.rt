@@ -1,5 +1,5 @@
 // What is driven inside in place of output bits to which specify paths lead.
-ghost use Rattle.std.specs.Prelude.{◌≡◌, ◌≤◌, ◌<◌, ◌+◌, ◌^◌, ◌++◌, ℕ, All, IfSome, IsTrue, ◌↔◌, OnOk, IfErr, Option, Some, length, map, option_map, slice_get};
+ghost use Rattle.std.specs.Prelude.{◌≡◌, ◌≤◌, ◌<◌, ◌+◌, ◌^◌, ◌++◌, All, IfSome, IsTrue, ◌↔◌, OnOk, IfErr, Option, Some, length, map, option_map, slice_get};
 ghost use Rattle.std.specs.List.{range_with_len};
 ghost use Rattle.vl_tree.specs.Tree.{Module, Source, SpecifyPath};
 ghost use Rattle.elab_bits.specs.Seen.{bit_at};

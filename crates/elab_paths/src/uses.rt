@@ -3,7 +3,6 @@ ghost use Rattle.std.specs.Prelude.{◌≡◌, ◌<◌, ◌≤◌, ◌+◌, ◌^
 ghost use Rattle.sg_circuit.specs.PathsSeen.{condition_seen, IsIndexedCondition};
 ghost use Rattle.specify_model.specs.Paths.{circuit_condition};
 ghost use Rattle.elab_model.specs.Terms.{NetBit};
-ghost use Rattle.elab_laws.specs.Handing.{all_bits};
 ghost use Rattle.elab_numbering.specs.Refusals.{RefusesCount};
 ghost use Rattle.elab_paths.specs.Ready.{condition_ready};
 ghost use Rattle.elab_paths.specs.Uses.{IsRow, IsBindable, IsUsablePath, IsUsable, AddsPaths, AddsUse};

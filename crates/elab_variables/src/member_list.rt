@@ -1,7 +1,7 @@
 // The members of a module in a row.
 ghost use Rattle.std.specs.Prelude.{◌≡◌, ◌++◌, IfOk, OnOk, map, filter_map, option_to_list};
 ghost use Rattle.std.specs.Option.{option_map};
-ghost use Rattle.vl_tree.specs.Seen.{view_name, view_net_name, view_join, view_delay, view_gate_instance, view_instance, view_path, view_specify_item, view_item, view_module};
+ghost use Rattle.vl_tree.specs.Seen.{view_name, view_net_name, view_join, view_delay, view_gate_instance, view_instance, view_specify_item, view_item, view_module};
 ghost use Rattle.elab_model.specs.Members as def;
 ghost use Rattle.elab_variables.specs.Seen.{view_member};
 

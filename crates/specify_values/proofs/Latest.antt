@@ -11,7 +11,7 @@ use Rattle.sg_delay.specs.declared.limits.Widths.{Widths}
 use Rattle.elab_model.specs.Hierarchy.{is_empty}
 use Rattle.elab_model.specs.Names.{Variable}
 use Rattle.specify_model.specs.Blocks.{Pulse}
-use Rattle.specify_model.specs.PulseLimits.{Limits, limits_of, limit_ticks, ends_text, cuts, are_ports, are_ends, last_of, is_for_ends, is_for_others}
+use Rattle.specify_model.specs.PulseLimits.{limits_of, limit_ticks, ends_text, cuts, are_ports, are_ends, last_of, is_for_ends, is_for_others}
 use Rattle.specify_model.specs.Values.{Measure}
 use Rattle.specify_values.specs.Seen.{IsAdded, ends_seen, widths_seen, view_pulse, limits_seen, named_limit, other_limit}
 use Rattle.specify_values.proofs.ByName.{key}
