@@ -12,7 +12,8 @@ pub returns-in_err-add_inputs-clause-refused : goal.returns-in_err-add_inputs-cl
 returns-in_err-add_inputs-clause-refused c =
     exit-by _ c.from_residual.result c.in_err-add_inputs.field-0.0 (err_from_is_err_and c.from_residual.result c.from_residual.ensures.1)
     (λ delays udps source s k.
-    inputs-refused source s k c.args.table.now c.args.place (kind_in delays udps c.args.kind) c.args.outputs.now c.args.inputs.now c.args.made.now c.in_err-add_inputs.field-0.0 c.in_err-add_inputs.ensures.refused)
+    inputs-refused source s k c.args.table.now c.args.place (kind_in delays udps c.args.kind) c.args.outputs.now c.args.inputs.now c.args.made.now c.in_err-add_inputs.field-0.0
+    c.in_err-add_inputs.ensures.refused)
 
 pub returns-in_err-add_outputs-clause-refused : goal.returns-in_err-add_outputs-clause-refused
 returns-in_err-add_outputs-clause-refused c =
@@ -27,7 +28,8 @@ pub returns-clause-elements : goal.returns-clause-elements
 returns-clause-elements c =
     on_ok_weaker c.add_constants.result
     (λ puts. λ delays udps all source s k here drives terminals named. adds delays udps all c.args.made.now c.add_constants.new.made _ _
-    (terminals-mean delays udps all source s c.args.scope k c.args.first c.args.table.now c.args.row.now c.args.driven.now c.args.place c.args.kind c.args.outputs.now c.args.inputs.now here drives terminals named
+    (terminals-mean delays udps all source s c.args.scope k c.args.first c.args.table.now c.args.row.now c.args.driven.now c.args.place c.args.kind c.args.outputs.now c.args.inputs.now here drives
+    terminals named
     c.requires.outputs c.requires.inputs)
     (terminals-put c.args.scope c.args.first c.args.row.now c.args.driven.now c.args.place c.args.kind c.args.outputs.now c.args.inputs.now c.as_slice.result.now c.as_slice-2.result.now c.args.made.now
     c.add_outputs.new.made c.add_constants.new.made

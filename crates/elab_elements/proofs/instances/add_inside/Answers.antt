@@ -37,10 +37,12 @@ add_members-requires-clause-at c =
         c.requires.at.1.0,
         (
           c.requires.at.1.1.0,
-          (are-members c.args.definitions.now c.requires.at.0 c.requires.at.1.0 c.args.instances.now c.args.library.now c.args.rows.now c.args.number c.requires.at.1.1.0 c.placed_at-definition.result c.module_at-prepared.result.now c.bits.result
+          (are-members c.args.definitions.now c.requires.at.0 c.requires.at.1.0 c.args.instances.now c.args.library.now c.args.rows.now c.args.number c.requires.at.1.1.0 c.placed_at-definition.result
+              c.module_at-prepared.result.now c.bits.result
               c.inner_row-row.result.now c.inner_row-row.result.now c.requires.at.1.1.1 c.placed_at-definition.ensures c.module_at-prepared.ensures c.bits.ensures c.inner_row-row.ensures
               (drives-own _ _ _ _ _ _ _ _ c.module_at-prepared.result.now c.bits.result c.inner_row-row.result.now c.requires.at.1.1.1
-              (prepared-is _ _ _ _ _ _ _ _ c.placed_at-definition.result c.module_at-prepared.result.now c.requires.at.1.1.1 c.placed_at-definition.ensures c.module_at-prepared.ensures) c.bits.ensures c.inner_row-row.ensures z)),
+              (prepared-is _ _ _ _ _ _ _ _ c.placed_at-definition.result c.module_at-prepared.result.now c.requires.at.1.1.1 c.placed_at-definition.ensures c.module_at-prepared.ensures) c.bits.ensures
+              c.inner_row-row.ensures z)),
         ),
       ),
     )
@@ -87,13 +89,15 @@ end_row-ends-requires c =
 pub drive-requires-clause-row : goal.drive-requires-clause-row
 drive-requires-clause-row c =
     ends-in_row _ _ _ _ _ _ _ _ c.module_at-prepared.result.now c.bits.result c.inner_row-row.result.now c.deref.result.now c.requires.at.1.1.1
-    (prepared-is _ _ _ _ _ _ _ _ c.placed_at-definition.result c.module_at-prepared.result.now c.requires.at.1.1.1 c.placed_at-definition.ensures c.module_at-prepared.ensures) c.bits.ensures c.inner_row-row.ensures c.deref.ensures.value
+    (prepared-is _ _ _ _ _ _ _ _ c.placed_at-definition.result c.module_at-prepared.result.now c.requires.at.1.1.1 c.placed_at-definition.ensures c.module_at-prepared.ensures) c.bits.ensures
+    c.inner_row-row.ensures c.deref.ensures.value
 
 pub drive-requires-clause-count : goal.drive-requires-clause-count
 drive-requires-clause-count c =
     let n : c.len.result ≡ length c.module_at-prepared.result.now.ends.bits.items = omega (arith, c.len.ensures, c.module_at-prepared.result.now.ends.bits.ok.0) in
     ends-count _ _ _ _ _ _ _ _ c.module_at-prepared.result.now c.len.result c.deref.result.now c.end_row-ends.result.now c.requires.at.1.1.1
-    (prepared-is _ _ _ _ _ _ _ _ c.placed_at-definition.result c.module_at-prepared.result.now c.requires.at.1.1.1 c.placed_at-definition.ensures c.module_at-prepared.ensures) c.deref.ensures.value n c.end_row-ends.ensures
+    (prepared-is _ _ _ _ _ _ _ _ c.placed_at-definition.result c.module_at-prepared.result.now c.requires.at.1.1.1 c.placed_at-definition.ensures c.module_at-prepared.ensures) c.deref.ensures.value n
+    c.end_row-ends.ensures
 
 pub overflow_add-number-2 : goal.overflow_add-number-2
 overflow_add-number-2 c = let e = end-is _ _ _ _ _ _ _ _ c.placed_at-definition.result c.requires.at.1.1.1 c.placed_at-definition.ensures in omega (arith, e.0, e.1, c.placed_at-definition.type_inv)
@@ -106,10 +110,12 @@ add_members-requires-2-clause-at c =
         c.requires.at.1.0,
         (
           c.requires.at.1.1.0,
-          (are-members c.args.definitions.now c.requires.at.0 c.requires.at.1.0 c.args.instances.now c.args.library.now c.args.rows.now c.args.number c.requires.at.1.1.0 c.placed_at-definition.result c.module_at-prepared.result.now c.bits.result
+          (are-members c.args.definitions.now c.requires.at.0 c.requires.at.1.0 c.args.instances.now c.args.library.now c.args.rows.now c.args.number c.requires.at.1.1.0 c.placed_at-definition.result
+              c.module_at-prepared.result.now c.bits.result
               c.inner_row-row.result.now c.deref-2.result.now c.requires.at.1.1.1 c.placed_at-definition.ensures c.module_at-prepared.ensures c.bits.ensures c.inner_row-row.ensures
               (drives-made _ _ _ _ _ _ _ _ c.module_at-prepared.result.now c.bits.result c.len.result c.inner_row-row.result.now c.end_row-ends.result.now c.deref-2.result.now c.requires.at.1.1.1
-              (prepared-is _ _ _ _ _ _ _ _ c.placed_at-definition.result c.module_at-prepared.result.now c.requires.at.1.1.1 c.placed_at-definition.ensures c.module_at-prepared.ensures) c.bits.ensures c.inner_row-row.ensures n c.end_row-ends.ensures
+              (prepared-is _ _ _ _ _ _ _ _ c.placed_at-definition.result c.module_at-prepared.result.now c.requires.at.1.1.1 c.placed_at-definition.ensures c.module_at-prepared.ensures) c.bits.ensures
+              c.inner_row-row.ensures n c.end_row-ends.ensures
               (c.deref-2.ensures.value ∙ c.in_ok-drive.ensures ∙ ap (λ bits. map (driven_number
               (ends_in c.inner_row-row.result.now bits c.end_row-ends.result.now)) c.inner_row-row.result.now) c.deref.ensures.value))),
         ),
@@ -124,7 +130,8 @@ returns-clause-elements c =
     (are-members c.args.definitions.now top corner c.args.instances.now c.args.library.now c.args.rows.now c.args.number s c.placed_at-definition.result c.module_at-prepared.result.now c.bits.result
     c.inner_row-row.result.now c.deref-2.result.now at c.placed_at-definition.ensures c.module_at-prepared.ensures c.bits.ensures c.inner_row-row.ensures
     (drives-made _ _ _ _ _ _ _ _ c.module_at-prepared.result.now c.bits.result c.len.result c.inner_row-row.result.now c.end_row-ends.result.now c.deref-2.result.now at
-    (prepared-is _ _ _ _ _ _ _ _ c.placed_at-definition.result c.module_at-prepared.result.now at c.placed_at-definition.ensures c.module_at-prepared.ensures) c.bits.ensures c.inner_row-row.ensures n c.end_row-ends.ensures
+    (prepared-is _ _ _ _ _ _ _ _ c.placed_at-definition.result c.module_at-prepared.result.now at c.placed_at-definition.ensures c.module_at-prepared.ensures) c.bits.ensures c.inner_row-row.ensures n
+    c.end_row-ends.ensures
     (c.deref-2.ensures.value ∙ c.in_ok-drive.ensures ∙ ap (λ bits. map (driven_number (ends_in c.inner_row-row.result.now bits c.end_row-ends.result.now)) c.inner_row-row.result.now) c.deref.ensures.value))))
     c.add_members-2.ensures.elements
 
@@ -136,6 +143,7 @@ returns-clause-refused c =
     (are-members c.args.definitions.now top corner c.args.instances.now c.args.library.now c.args.rows.now c.args.number s c.placed_at-definition.result c.module_at-prepared.result.now c.bits.result
     c.inner_row-row.result.now c.deref-2.result.now at c.placed_at-definition.ensures c.module_at-prepared.ensures c.bits.ensures c.inner_row-row.ensures
     (drives-made _ _ _ _ _ _ _ _ c.module_at-prepared.result.now c.bits.result c.len.result c.inner_row-row.result.now c.end_row-ends.result.now c.deref-2.result.now at
-    (prepared-is _ _ _ _ _ _ _ _ c.placed_at-definition.result c.module_at-prepared.result.now at c.placed_at-definition.ensures c.module_at-prepared.ensures) c.bits.ensures c.inner_row-row.ensures n c.end_row-ends.ensures
+    (prepared-is _ _ _ _ _ _ _ _ c.placed_at-definition.result c.module_at-prepared.result.now at c.placed_at-definition.ensures c.module_at-prepared.ensures) c.bits.ensures c.inner_row-row.ensures n
+    c.end_row-ends.ensures
     (c.deref-2.ensures.value ∙ c.in_ok-drive.ensures ∙ ap (λ bits. map (driven_number (ends_in c.inner_row-row.result.now bits c.end_row-ends.result.now)) c.inner_row-row.result.now) c.deref.ensures.value))))
     c.add_members-2.ensures.refused

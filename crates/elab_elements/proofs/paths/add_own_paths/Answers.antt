@@ -13,13 +13,15 @@ use Rattle.elab_elements.proofs.paths.add_own_paths.Goals as goal
 
 pub part_between-bits-requires-clause-start : goal.part_between-bits-requires-clause-start
 part_between-bits-requires-clause-start c =
-    (is-part c.requires.at.0 c.requires.at.1.0 c.args.rows.now c.args.number c.args.prepared.now c.args.row.now c.args.at c.requires.at.1.1.1.0 c.requires.at.1.1.0 c.index-start.result.now c.index-end.result.now
+    (is-part c.requires.at.0 c.requires.at.1.0 c.args.rows.now c.args.number c.args.prepared.now c.args.row.now c.args.at c.requires.at.1.1.1.0 c.requires.at.1.1.0 c.index-start.result.now
+    c.index-end.result.now
     c.requires.at.1.1.1.1 c.index-start.ensures c.index-end.ensures).order
 
 pub part_between-bits-requires-clause-end : goal.part_between-bits-requires-clause-end
 part_between-bits-requires-clause-end c =
     subst (λ n. c.index-end.result.now ≤ n) (sym (ap length c.deref.ensures.value))
-    (is-part c.requires.at.0 c.requires.at.1.0 c.args.rows.now c.args.number c.args.prepared.now c.args.row.now c.args.at c.requires.at.1.1.1.0 c.requires.at.1.1.0 c.index-start.result.now c.index-end.result.now
+    (is-part c.requires.at.0 c.requires.at.1.0 c.args.rows.now c.args.number c.args.prepared.now c.args.row.now c.args.at c.requires.at.1.1.1.0 c.requires.at.1.1.0 c.index-start.result.now
+    c.index-end.result.now
     c.requires.at.1.1.1.1 c.index-start.ensures c.index-end.ensures).bits_within
 
 pub end_row-all-requires : goal.end_row-all-requires
@@ -30,15 +32,18 @@ end_row-all-requires c =
 
 pub part_between-ends-requires-clause-start : goal.part_between-ends-requires-clause-start
 part_between-ends-requires-clause-start c =
-    (is-part c.requires.at.0 c.requires.at.1.0 c.args.rows.now c.args.number c.args.prepared.now c.args.row.now c.args.at c.requires.at.1.1.1.0 c.requires.at.1.1.0 c.index-start.result.now c.index-end.result.now
+    (is-part c.requires.at.0 c.requires.at.1.0 c.args.rows.now c.args.number c.args.prepared.now c.args.row.now c.args.at c.requires.at.1.1.1.0 c.requires.at.1.1.0 c.index-start.result.now
+    c.index-end.result.now
     c.requires.at.1.1.1.1 c.index-start.ensures c.index-end.ensures).order
 
 pub part_between-ends-requires-clause-end : goal.part_between-ends-requires-clause-end
 part_between-ends-requires-clause-end c =
     let h = c.requires.at.1.1.1.1 in
     let n : c.len.result ≡ length c.args.prepared.now.ends.bits.items = omega (arith, c.len.ensures, c.args.prepared.now.ends.bits.ok.0) in
-    (ends-part (nets c.requires.at.0 c.requires.at.1.0) c.args.prepared.now c.args.row.now c.end_row-all.result.now c.args.at c.requires.at.1.1.1.0 c.requires.at.1.1.0 c.index-start.result.now c.index-end.result.now
-    (is-part c.requires.at.0 c.requires.at.1.0 c.args.rows.now c.args.number c.args.prepared.now c.args.row.now c.args.at c.requires.at.1.1.1.0 c.requires.at.1.1.0 c.index-start.result.now c.index-end.result.now h
+    (ends-part (nets c.requires.at.0 c.requires.at.1.0) c.args.prepared.now c.args.row.now c.end_row-all.result.now c.args.at c.requires.at.1.1.1.0 c.requires.at.1.1.0 c.index-start.result.now
+    c.index-end.result.now
+    (is-part c.requires.at.0 c.requires.at.1.0 c.args.rows.now c.args.number c.args.prepared.now c.args.row.now c.args.at c.requires.at.1.1.1.0 c.requires.at.1.1.0 c.index-start.result.now
+    c.index-end.result.now h
     c.index-start.ensures c.index-end.ensures)
     (ends-here c.requires.at.0 c.requires.at.1.0 c.args.rows.now h.before c.requires.at.1.1.0 c.args.number c.args.prepared.now.ends c.len.result c.end_row-all.result.now h.place h.has_row h.is_prepared.ends n
     c.end_row-all.ensures)).1
@@ -47,7 +52,8 @@ pub add_paths-requires-clause-row : goal.add_paths-requires-clause-row
 add_paths-requires-clause-row c =
     subst (All (λ i. i < length c.args.row.now)) (sym (c.part_between-bits.ensures
     ∙ ap (λ xs. take (c.index-end.result.now - c.index-start.result.now) (drop c.index-start.result.now xs)) c.deref.ensures.value))
-    (is-part c.requires.at.0 c.requires.at.1.0 c.args.rows.now c.args.number c.args.prepared.now c.args.row.now c.args.at c.requires.at.1.1.1.0 c.requires.at.1.1.0 c.index-start.result.now c.index-end.result.now
+    (is-part c.requires.at.0 c.requires.at.1.0 c.args.rows.now c.args.number c.args.prepared.now c.args.row.now c.args.at c.requires.at.1.1.1.0 c.requires.at.1.1.0 c.index-start.result.now
+    c.index-end.result.now
     c.requires.at.1.1.1.1 c.index-start.ensures c.index-end.ensures).in_row
 
 pub returns-clause-elements : goal.returns-clause-elements
@@ -55,7 +61,8 @@ returns-clause-elements c =
     let n : c.len.result ≡ length c.args.prepared.now.ends.bits.items = omega (arith, c.len.ensures, c.args.prepared.now.ends.bits.ok.0) in
     on_ok_weaker c.add_paths.result
     (λ puts. λ delays udps source top s x h. adds delays udps (nets source top) c.args.made.now c.add_paths.new.made _ _
-    (member-paths delays udps source top c.args.rows.now c.args.number c.args.prepared.now c.args.row.now c.part_between-bits.result.now c.part_between-ends.result.now c.end_row-all.result.now c.args.place c.args.at x s
+    (member-paths delays udps source top c.args.rows.now c.args.number c.args.prepared.now c.args.row.now c.part_between-bits.result.now c.part_between-ends.result.now c.end_row-all.result.now c.args.place
+    c.args.at x s
     c.index-start.result.now c.index-end.result.now h c.index-start.ensures c.index-end.ensures
     (c.part_between-bits.ensures ∙ ap (λ xs. take (c.index-end.result.now - c.index-start.result.now) (drop c.index-start.result.now xs)) c.deref.ensures.value) c.part_between-ends.ensures
     (ends-here source top c.args.rows.now h.before s c.args.number c.args.prepared.now.ends c.len.result c.end_row-all.result.now h.place h.has_row h.is_prepared.ends n c.end_row-all.ensures))

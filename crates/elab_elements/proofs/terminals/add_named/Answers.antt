@@ -10,7 +10,8 @@ loop-connection-init c = record { added = begins c.args.table.now c.args.outputs
 pub loop-connection-preserved : goal.loop-connection-preserved
 loop-connection-preserved c = record {
   added = one-added (λ xs. filter_map (λ c. c.value) (map view_named_connection xs))
-      (chosen-append (λ c. c.value) view_named_connection) c.args.table.now c.args.outputs c.loop-connection.rest c.in_ok-rest.rest c.args.connections.now c.loop-connection.connection-index c.connection-item.result
+      (chosen-append (λ c. c.value) view_named_connection) c.args.table.now c.args.outputs c.loop-connection.rest c.in_ok-rest.rest c.args.connections.now c.loop-connection.connection-index
+      c.connection-item.result
       c.args.room.now c.loop-connection.room c.add_present.new.room c.loop-connection-test.true c.connection-item.is c.loop-connection.invariant.added c.in_ok-rest.ensures.bits c.in_ok-rest.ensures.count;
   row = λ old. c.add_present.ensures.row (c.loop-connection.invariant.row old);
 }

@@ -10,7 +10,8 @@ loop-terminal-init c = record { added = begins c.args.table.now c.args.outputs c
 
 pub loop-terminal-preserved : goal.loop-terminal-preserved
 loop-terminal-preserved c = record {
-  added = one-added (map view_expression) (map-append view_expression) c.args.table.now c.args.outputs c.loop-terminal.rest c.in_ok-rest.rest c.args.terminals.now c.loop-terminal.terminal-index c.terminal-item.result
+  added = one-added (map view_expression) (map-append view_expression) c.args.table.now c.args.outputs c.loop-terminal.rest c.in_ok-rest.rest c.args.terminals.now c.loop-terminal.terminal-index
+      c.terminal-item.result
       c.args.room.now c.loop-terminal.room c.add_terminal.new.room c.loop-terminal-test.true c.terminal-item.is c.loop-terminal.invariant.added c.in_ok-rest.ensures.bits c.in_ok-rest.ensures.count;
   row = λ old. c.add_terminal.ensures.row (c.loop-terminal.invariant.row old);
 }
