@@ -112,7 +112,7 @@ pub is-begun : (source : Source) (top : Module) (corner : Corner) (rows new : Ro
     → new.nets.items ≡ rows.nets.items ++ new_nets number (all_bits table) (given_row leaf (all_bits table) row)
     → new.starts.items ≡ rows.starts.items ++ length rows.inner.items ∷ []
     → (new.outer ≡ rows.outer) × ((new.outer_starts ≡ rows.outer_starts) × ((new.firsts ≡ rows.firsts) × ((new.member_starts ≡ rows.member_starts)
-        × ((new.ends ≡ rows.ends) × (new.end_starts ≡ rows.end_starts))))) → IsBegun source top mine.s rows new
+    × ((new.ends ≡ rows.ends) × (new.end_starts ≡ rows.end_starts))))) → IsBegun source top mine.s rows new
 is-begun source top corner rows new table number leaf mine row r inner made start same = record {
   made = made ∙ ap (λ ns. rows.nets.items ++ ns)
       (nets-made source top corner mine.sound mine.before mine.after mine.s mine.here table leaf row (length rows.nets.items) mine.table_is mine.leaf_is r mine.nets_there number mine.number_is);

@@ -139,7 +139,7 @@ module _ (source : Source) (top : Module) (corner : Corner) (library : Library) 
       → length r2.nets.items ≡ nets_before source of.split.before s [] → AreThrough source top of.split.before s (length (members s.step.definition)) next r2 r3
       → r4.firsts.items ≡ r3.firsts.items ++ length r3.nets.items ∷ []
       → (r4.nets ≡ r3.nets) × ((r4.inner ≡ r3.inner) × ((r4.starts ≡ r3.starts) × ((r4.outer ≡ r3.outer) × ((r4.outer_starts ≡ r3.outer_starts) × ((r4.member_starts ≡ r3.member_starts)
-          × ((r4.ends ≡ r3.ends) × (r4.end_starts ≡ r3.end_starts)))))))
+      × ((r4.ends ≡ r3.ends) × (r4.end_starts ≡ r3.end_starts)))))))
       → AreUpTo source top r4 (n + 1)
   turn-done r0 r1 r2 r3 r4 next up begun m2 e2 same2 count through f4 same4 =
       subst (λ k. AreUpTo source top r4 (k + 1)) of.split.count

@@ -195,9 +195,9 @@ module _ (source : Source) (top : Module) (before after : List Instance) (s : In
         subst (λ xs. HasInnerRow source top xs new.starts.items t) (sym inner) (subst (λ ys. HasInnerRow source top (old.inner.items ++ map (number_at (nets source top) source s) (bits_of s)) ys t) (sym starts) i),
         (
           subst (λ xs. HasFirsts source xs new.member_starts.items b t) (sym firsts)
-          (subst (λ ys. HasFirsts source (old.firsts.items ++ map (first_of_member source before s) (range_with_len 0 (end + 1))) ys b t) (sym members) f),
+              (subst (λ ys. HasFirsts source (old.firsts.items ++ map (first_of_member source before s) (range_with_len 0 (end + 1))) ys b t) (sym members) f),
           subst (λ xs. HasEnds source top xs new.end_starts.items t) (sym ends)
-          (subst (λ ys. HasEnds source top (old.ends.items ++ map (end_number source top s) (path_ends s.step.definition)) ys t) (sym end_starts) e),
+              (subst (λ ys. HasEnds source top (old.ends.items ++ map (end_number source top s) (path_ends s.step.definition)) ys t) (sym end_starts) e),
         ),
       )
 
@@ -223,7 +223,7 @@ module _ (source : Source) (top : Module) (before after : List Instance) (s : In
       → length r2.nets.items ≡ nets_before source before s [] → AreThrough source top before s end next r2 r3
       → r4.firsts.items ≡ r3.firsts.items ++ length r3.nets.items ∷ []
       → (r4.nets ≡ r3.nets) × ((r4.inner ≡ r3.inner) × ((r4.starts ≡ r3.starts) × ((r4.outer ≡ r3.outer) × ((r4.outer_starts ≡ r3.outer_starts) × ((r4.member_starts ≡ r3.member_starts)
-          × ((r4.ends ≡ r3.ends) × (r4.end_starts ≡ r3.end_starts)))))))
+      × ((r4.ends ≡ r3.ends) × (r4.end_starts ≡ r3.end_starts)))))))
       → AreUpTo source top r4 (length before + 1)
   one-more r0 r1 r2 r3 r4 next h begun m2 e2 same2 count t f4 same4 =
       let z : 0 + end ≡ end = omega arith in

@@ -28,8 +28,17 @@ returns-in_err-add_gate-in-Gate-clause-refused c =
 pub returns-in_ok-add_gate-in-Gate-clause-seen : goal.returns-in_ok-add_gate-in-Gate-clause-seen
 returns-in_ok-add_gate-in-Gate-clause-seen c = λ top corner turn prepared at.
     subst (λ x. IsSeenTo c.args.definitions.now top turn.s (c.args.index, x) at.levels c.args.next c.args.next at.behind c.args.rows.now
-    (record { nets = c.add_gate.new.nets; starts = c.args.rows.now.starts; inner = c.args.rows.now.inner; outer_starts = c.args.rows.now.outer_starts; outer = c.args.rows.now.outer;
-    member_starts = c.args.rows.now.member_starts; firsts = c.args.rows.now.firsts; end_starts = c.args.rows.now.end_starts; ends = c.args.rows.now.ends }))
+    (record {
+      nets = c.add_gate.new.nets;
+      starts = c.args.rows.now.starts;
+      inner = c.args.rows.now.inner;
+      outer_starts = c.args.rows.now.outer_starts;
+      outer = c.args.rows.now.outer;
+      member_starts = c.args.rows.now.member_starts;
+      firsts = c.args.rows.now.firsts;
+      end_starts = c.args.rows.now.end_starts;
+      ends = c.args.rows.now.ends;
+    }))
     (sym (ap view_member c.in-Gate.is))
     (lone-seen c.args.definitions.now top turn.s (c.args.index, gate c.in-Gate.kind (option_map view_delay c.in-Gate.delay.now) (view_gate_instance c.in-Gate.instance.now)) at.levels c.args.next at.behind
     c.args.rows.now _ refl

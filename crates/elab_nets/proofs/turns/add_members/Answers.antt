@@ -52,6 +52,8 @@ returns-clause-through c = λ top corner turn prepared count.
     let items = c.args.prepared.now.members.items in
     let n : length (members turn.s.step.definition) ≡ length items = ap length (sym prepared.members) ∙ length-map items view_member in
     let e : length c.deref-member-items.result.now ≡ length items = ap length c.deref-member-items.ensures.value in
-    let k : c.loop-index.index ≡ length (members turn.s.step.definition) = omega arith in
-    (c.loop-index.next, subst (λ k. AreThrough c.args.definitions.now top turn.before turn.s k c.loop-index.next c.args.rows.now c.loop-index.rows) k
-    (c.loop-index.invariant.through top corner turn prepared count))
+    let k : c.loop-index.index ≡ length (members turn.s.step.definition) = omega arith in (
+      c.loop-index.next,
+      subst (λ k. AreThrough c.args.definitions.now top turn.before turn.s k c.loop-index.next c.args.rows.now c.loop-index.rows) k
+          (c.loop-index.invariant.through top corner turn prepared count),
+    )
