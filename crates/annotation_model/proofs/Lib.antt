@@ -1,6 +1,7 @@
 -- The modules of this folder.
 pub mod AfterLaws
 pub mod AnyLaws
+pub mod CheckExamples
 pub mod EntryLaws
 pub mod FlopExamples
 pub mod LimitLaws

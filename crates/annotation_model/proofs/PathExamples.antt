@@ -5,7 +5,6 @@ use Rattle.sg_delay.specs.declared.corners.Corner.TheVariants.{Typ}
 use Rattle.sg_delay.specs.declared.limits.PulseStyle.TheVariants.{OnEvent}
 use Rattle.cond_expr.specs.declared.tokens.Op.TheVariants as op
 use Rattle.cond_expr.specs.declared.tokens.Tok.TheVariants as tok
-use Rattle.cond_expr.specs.Token.{Tok}
 use Rattle.cond_expr.specs.Tree.{leaf, constant, binary}
 use Rattle.sg_circuit.specs.declared.scopes.Port.TheVariants.{Input, Output}
 use Rattle.sg_circuit.specs.Paths as specify
@@ -18,7 +17,7 @@ use Rattle.annotation_model.specs.Given.{given}
 use Rattle.annotation_model.specs.Same.{bare, same_condition}
 use Rattle.annotation_model.specs.Spots.{path_spot, spot_after}
 use Rattle.annotation_model.specs.Annotated.{too_large, unmatched}
-use Rattle.annotation_model.proofs.Samples.{decimal, whole, lone, nothing, delay, port, from, at_line, entry, more, cell, nanoseconds, delays, limits, scalar, scope, path, plain}
+use Rattle.annotation_model.proofs.Samples.{s_is_1, decimal, whole, lone, nothing, delay, port, from, at_line, entry, more, cell, nanoseconds, delays, limits, scalar, scope, path, plain}
 
 -- ---- one path A => Y of delay 5 in a module with a precision
 
@@ -150,9 +149,6 @@ none_given = refl
 
 -- ---- conditions: if (S == 1'b1) (A => Y) = 5; ifnone (A => Y) = 6; (B => Y) = 7;
 
-abbrev s_is_1 : List Tok
-s_is_1 = tok.Name (codes "S") ∷ tok.Op op.Equal ∷ tok.Const One ∷ []
-
 abbrev if_path : specify.Path
 if_path = path 1 (specify.If s_is_1 (binary op.Equal (leaf 3) (constant One))) 5
 
@@ -205,3 +201,7 @@ not_a_pair = refl
 
 pub another_condition : same_condition (tok.Op op.Bang ∷ tok.Name (codes "S") ∷ []) s_is_1 ≡ false
 another_condition = refl
+
+-- a backslash in a name is a letter of it, as of the netlist's \a\b and the file's a\\b
+pub backslash_in_a_name : same_condition (tok.Name (97 ∷ 92 ∷ 98 ∷ []) ∷ []) (tok.Name (97 ∷ 92 ∷ 98 ∷ []) ∷ []) ≡ true
+backslash_in_a_name = refl
