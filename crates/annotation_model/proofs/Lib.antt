@@ -4,6 +4,7 @@ pub mod AnyLaws
 pub mod CheckExamples
 pub mod EntryLaws
 pub mod FlopExamples
+pub mod KeptLaws
 pub mod LimitLaws
 pub mod ListedLaws
 pub mod PassLaws
