@@ -20,10 +20,10 @@ use Rattle.annotation_model.proofs.TableLaws.{below_if}
 
 -- ---- numbers
 
-small : (n : ℤ) → is_large n ≡ false → unsigned_abs n < 2 ^ 60
+pub small : (n : ℤ) → is_large n ≡ false → unsigned_abs n < 2 ^ 60
 small n e = below_if (unsigned_abs n) (2 ^ 60) (not-false (nat_lt (unsigned_abs n) (2 ^ 60)) e)
 
-above-small : (n : ℤ) → unsigned_abs n < 2 ^ 60 → above n < 2 ^ 60
+pub above-small : (n : ℤ) → unsigned_abs n < 2 ^ 60 → above n < 2 ^ 60
 above-small (pos n) l = l
 above-small (negsuc n) l = pow_pos 60
 

@@ -5,6 +5,7 @@ pub mod CheckExamples
 pub mod EntryLaws
 pub mod FlopExamples
 pub mod KeptLaws
+pub mod KeptPlaces
 pub mod LimitLaws
 pub mod ListedLaws
 pub mod PassLaws
