@@ -18,18 +18,11 @@ use Rattle.annotation_model.specs.Spots.{Spot, spots, spot_after, is_for_spot, i
 use Rattle.annotation_model.specs.Spots.{Checked, all_checked, limits_after, is_for_check, is_limit_large_at, limits_with, given_to}
 use Rattle.annotation_model.specs.Annotated.{is_too_large_after, first_too_large, too_large}
 use Rattle.annotation_model.proofs.AfterLaws.{after-more}
-use Rattle.annotation_model.proofs.AnyLaws.{fails_at}
+use Rattle.annotation_model.specs.Laws.{AreSmall, StayWithinBounds}
+use Rattle.annotation_model.proofs.AnyLaws.{and-off, fails_at}
 use Rattle.annotation_model.proofs.KeptLaws.{small, above-small, entry-kept}
 
 -- ---- one entry at one place
-
--- what is left of a test that a place passes
-passed : (a b : Bool) → (a && b) ≡ false → a ≡ true → b ≡ false
-passed true b e f = e
-passed false b e f = absurd cc
-
-abbrev pub AreSmall : List ℤ → Type 0
-AreSmall limits = All (λ l. unsigned_abs l < 2 ^ 60) limits
 
 limit-kept : (l : Option ℤ) (old : ℤ) → unsigned_abs old < 2 ^ 60 → is_limit_large l ≡ false → unsigned_abs (limit_or l old) < 2 ^ 60
 limit-kept None old s e = s
@@ -63,7 +56,7 @@ module _ (c : Circuit) (sdf : Sdf) (corner : Corner) where
       more = after-more (λ h. is_for_spot c sdf.divider h spot) (λ h. applied_at c sdf corner h spot) done g (timings_of spot)
 
       by : (b : Bool) → is_for_spot c sdf.divider g spot ≡ b → AreTimings (if b then applied_at c sdf corner g spot old else old)
-      by true q = entry-kept (grid c sdf corner (scope_of spot)) g.entry old are (passed (is_for_spot c sdf.divider g spot) (is_large_at c sdf corner g spot old) e q)
+      by true q = entry-kept (grid c sdf corner (scope_of spot)) g.entry old are (and-off (is_for_spot c sdf.divider g spot) (is_large_at c sdf corner g spot old) q e)
       by false q = are
 
   check-step : (done : List Given) (g : Given) (k : Checked) → AreSmall (limits_after c sdf corner done k)
@@ -77,7 +70,7 @@ module _ (c : Circuit) (sdf : Sdf) (corner : Corner) where
       more = after-more (λ h. is_for_check c sdf.divider h k) (λ h. limits_with c sdf corner h k) done g k.timing.limits
 
       by : (b : Bool) → is_for_check c sdf.divider g k ≡ b → AreSmall (if b then limits_with c sdf corner g k old else old)
-      by true q = limits-kept (grid c sdf corner k.check.scope) (given_to c sdf.divider g k) old s (passed (is_for_check c sdf.divider g k) (is_limit_large_at c sdf corner g k) e q)
+      by true q = limits-kept (grid c sdf corner k.check.scope) (given_to c sdf.divider g k) old s (and-off (is_for_check c sdf.divider g k) (is_limit_large_at c sdf corner g k) q e)
       by false q = s
 
   spot-kept : (done gs : List Given) (n : ℕ) (d : Spot) → n < length (spots c) → AreTimings (spot_after c sdf corner done (slice_index_or (spots c) n d))
@@ -104,11 +97,8 @@ module _ (c : Circuit) (sdf : Sdf) (corner : Corner) where
       subst (λ hs. AreSmall (limits_after c sdf corner hs (slice_index_or (all_checked c) n d))) (append_assoc done (g ∷ []) gs)
       (check-kept (done ++ g ∷ []) gs n d l (check-step done g (slice_index_or (all_checked c) n d) s here) parts.1)
 
-  -- Where nothing is too large, timings and limits that are within bounds stay so.
-  pub each-spot-kept : All (λ spot. AreTimings (timings_of spot)) (spots c) → too_large c sdf corner ≡ None
-      → All (λ spot. AreTimings (spot_after c sdf corner (given sdf) spot)) (spots c)
-  each-spot-kept are e = λ n d l. spot-kept [] (given sdf) n d l (are n d l) e
-
-  pub each-check-kept : All (λ k. AreSmall k.timing.limits) (all_checked c) → too_large c sdf corner ≡ None
-      → All (λ k. AreSmall (limits_after c sdf corner (given sdf) k)) (all_checked c)
-  each-check-kept s e = λ n d l. check-kept [] (given sdf) n d l (s n d l) e
+  pub stay : too_large c sdf corner ≡ None → StayWithinBounds c sdf corner
+  stay e = record {
+    spot = λ are n d l. spot-kept [] (given sdf) n d l (are n d l) e;
+    check = λ s n d l. check-kept [] (given sdf) n d l (s n d l) e;
+  }

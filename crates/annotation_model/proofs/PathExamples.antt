@@ -147,6 +147,28 @@ percent_stays = refl
 pub none_given : path_limits (neg_ℤ (pos 9)) (neg_ℤ (pos 9)) (more 1 (a_to_y (delay (lone (whole 5)) ∷ [])) ∷ []) ≡ replicate 12 None
 none_given = refl
 
+-- of two transitions with one delay the first of the formula gives the limits: 0x those of 0z, x1 of z1, 1x of 1z, x0 of z0, xz of 1z, zx of z1
+abbrev limited_by : ℕ → DelayValue
+limited_by n = record { delay = lone (whole 5); limits = Some (record { reject = lone (whole n); error = lone (whole n) }) }
+
+pub equal_delays :
+    path_limits (neg_ℤ (pos 9)) (neg_ℤ (pos 9))
+    (more 1 (a_to_y (limited_by 1 ∷ limited_by 2 ∷ limited_by 3 ∷ limited_by 4 ∷ limited_by 5 ∷ limited_by 6 ∷ [])) ∷ [])
+    ≡ map (λ n. Some (n, n)) (1 ∷ 2 ∷ 3 ∷ 4 ∷ 5 ∷ 6 ∷ 3 ∷ 4 ∷ 5 ∷ 6 ∷ 5 ∷ 4 ∷ [])
+equal_delays = refl
+
+-- where one limit has no value for the corner, both are passed over, and the delay isn't
+abbrev reject_alone : DelayValue
+reject_alone = record { delay = lone (whole 9); limits = Some (record { reject = lone (whole 1); error = nothing }) }
+
+pub one_limit_is_none :
+    path_limits (neg_ℤ (pos 9)) (neg_ℤ (pos 9)) (entry 1 (path_pulse false None (lone (whole 2)) None) ∷ entry 2 (a_to_y (reject_alone ∷ [])) ∷ [])
+    ≡ replicate 12 (Some (2, 2))
+one_limit_is_none = refl
+
+pub its_delay_counts : path_delays (neg_ℤ (pos 9)) (neg_ℤ (pos 9)) (entry 1 (a_to_y (reject_alone ∷ [])) ∷ []) ≡ replicate 12 9
+its_delay_counts = refl
+
 -- ---- conditions: if (S == 1'b1) (A => Y) = 5; ifnone (A => Y) = 6; (B => Y) = 7;
 
 abbrev if_path : specify.Path
