@@ -1,6 +1,6 @@
 -- Where no entry is too large, all places of a circuit stay within bounds.
 use Rattle.std.specs.Prelude.{◌≡◌, refl, ℕ, ◌<◌, ◌^◌, ◌&&◌, ℤ, unsigned_abs, Bool, true, false, if◌then◌else◌}
-use Rattle.std.specs.Prelude.{All, List, [], ◌∷◌, ◌++◌, length, Option, Some, None, slice_index_or}
+use Rattle.std.specs.Prelude.{List, [], ◌∷◌, ◌++◌, length, Option, Some, None, slice_index_or}
 use Rattle.std.specs.List.{list_any}
 use Rattle.std.proofs.Common.{sym, subst}
 use Rattle.std.proofs.lemmas.Bool.{or_parts}
@@ -79,8 +79,8 @@ module _ (c : Circuit) (sdf : Sdf) (corner : Corner) where
   spot-kept done (g ∷ gs) n d l are e =
       let parts = none-first (is_too_large_after c sdf corner done g) g.entry.place (first_too_large c sdf corner (done ++ g ∷ []) gs) e in
       let fits = or_parts
-          (list_any (λ spot. is_for_spot c sdf.divider g spot && is_large_at c sdf corner g spot (spot_after c sdf corner done spot)) (spots c))
-          (list_any (λ k. is_for_check c sdf.divider g k && is_limit_large_at c sdf corner g k) (all_checked c)) parts.0 in
+      (list_any (λ spot. is_for_spot c sdf.divider g spot && is_large_at c sdf corner g spot (spot_after c sdf corner done spot)) (spots c))
+      (list_any (λ k. is_for_check c sdf.divider g k && is_limit_large_at c sdf corner g k) (all_checked c)) parts.0 in
       let here = fails_at (λ spot. is_for_spot c sdf.divider g spot && is_large_at c sdf corner g spot (spot_after c sdf corner done spot)) (spots c) d n fits.0 l in
       subst (λ hs. AreTimings (spot_after c sdf corner hs (slice_index_or (spots c) n d))) (append_assoc done (g ∷ []) gs)
       (spot-kept (done ++ g ∷ []) gs n d l (spot-step done g (slice_index_or (spots c) n d) are here) parts.1)
@@ -91,8 +91,8 @@ module _ (c : Circuit) (sdf : Sdf) (corner : Corner) where
   check-kept done (g ∷ gs) n d l s e =
       let parts = none-first (is_too_large_after c sdf corner done g) g.entry.place (first_too_large c sdf corner (done ++ g ∷ []) gs) e in
       let fits = or_parts
-          (list_any (λ spot. is_for_spot c sdf.divider g spot && is_large_at c sdf corner g spot (spot_after c sdf corner done spot)) (spots c))
-          (list_any (λ k. is_for_check c sdf.divider g k && is_limit_large_at c sdf corner g k) (all_checked c)) parts.0 in
+      (list_any (λ spot. is_for_spot c sdf.divider g spot && is_large_at c sdf corner g spot (spot_after c sdf corner done spot)) (spots c))
+      (list_any (λ k. is_for_check c sdf.divider g k && is_limit_large_at c sdf corner g k) (all_checked c)) parts.0 in
       let here = fails_at (λ k. is_for_check c sdf.divider g k && is_limit_large_at c sdf corner g k) (all_checked c) d n fits.1 l in
       subst (λ hs. AreSmall (limits_after c sdf corner hs (slice_index_or (all_checked c) n d))) (append_assoc done (g ∷ []) gs)
       (check-kept (done ++ g ∷ []) gs n d l (check-step done g (slice_index_or (all_checked c) n d) s here) parts.1)

@@ -1,5 +1,5 @@
 -- Worked examples of paths, reckoned by hand.
-use Rattle.std.specs.Prelude.{◌≡◌, refl, ℕ, ℤ, pos, neg_ℤ, true, false, List, [], ◌∷◌, replicate, Option, Some, None, codes}
+use Rattle.std.specs.Prelude.{map, ◌≡◌, refl, ℕ, ℤ, pos, neg_ℤ, true, false, List, [], ◌∷◌, replicate, Option, Some, None, codes}
 use Rattle.sg_logic.specs.declared.values.Value.TheVariants.{One}
 use Rattle.sg_delay.specs.declared.corners.Corner.TheVariants.{Typ}
 use Rattle.sg_delay.specs.declared.limits.PulseStyle.TheVariants.{OnEvent}
