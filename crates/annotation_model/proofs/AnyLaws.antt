@@ -3,15 +3,15 @@ use Rattle.std.specs.Prelude.{◌≡◌, refl, ℕ, zero, suc, ◌+◌, ◌<◌,
 use Rattle.std.specs.List.{list_any}
 use Rattle.std.proofs.Common.{ap, sym, ◌∙◌, subst, arith, inl, inr}
 use Rattle.std.proofs.lemmas.Bool.{cases_eq}
-use Rattle.std.proofs.lemmas.Bool.Decides.{nat_tests}
 use Rattle.annotation_model.specs.Listed.{occurrences, IsListOf}
 use Rattle.annotation_model.proofs.ListedLaws.{occurs_here, occurs_later}
+use Rattle.annotation_model.proofs.TableLaws.{is_below, below_if}
 
 or-true : (b : Bool) → (b || true) ≡ true
 or-true true = refl
 or-true false = refl
 
-and-left : (a b : Bool) → (a && b) ≡ true → a ≡ true
+pub and-left : (a b : Bool) → (a && b) ≡ true → a ≡ true
 and-left true b e = refl
 and-left false b e = absurd cc
 
@@ -33,7 +33,8 @@ or-right : (a b : Bool) → (a || b) ≡ false → b ≡ false
 or-right true b e = absurd cc
 or-right false b e = e
 
-counted : (b : Bool) (n : ℕ) → n ≡ (if b then 1 else 0) → 0 < n → b ≡ true
+-- what occurs passes the test
+pub counted : (b : Bool) (n : ℕ) → n ≡ (if b then 1 else 0) → 0 < n → b ≡ true
 counted true n e l = refl
 counted false n e l = absurd (omega (arith, e, l))
 
@@ -79,17 +80,11 @@ module _ {X : Type 0} where
       test : ℕ → Bool
       test k = nat_lt k (length xs) && p (slice_index_or xs k d)
 
-      below : (k : ℕ) → k < length xs → nat_lt k (length xs) ≡ true
-      below k l = grind (arith, nat_tests)
-
-      above : (k : ℕ) → nat_lt k (length xs) ≡ true → k < length xs
-      above k e = grind (arith, nat_tests)
-
       by : (b : Bool) → list_any (λ x. p x && q x) xs ≡ b → list_any (λ k. q (slice_index_or xs k d)) ks ≡ b
       by true e =
           let f = passes_at (λ x. p x && q x) xs d e in
           let x : X = slice_index_or xs f.0 d in
-          let t : test f.0 ≡ true = and-both (nat_lt f.0 (length xs)) (p x) (below f.0 f.1) (and-left (p x) (q x) f.2) in
+          let t : test f.0 ≡ true = and-both (nat_lt f.0 (length xs)) (p x) (is_below f.0 (length xs) f.1) (and-left (p x) (q x) f.2) in
           let n : occurrences f.0 ks ≡ 1 = is.each f.0 ∙ ap (λ b. if b then 1 else 0) t in
           any_here (λ k. q (slice_index_or xs k d)) f.0 ks (omega (arith, n)) (and-right (p x) (q x) f.2)
       by false e = none_here (λ k. q (slice_index_or xs k d)) ks none
@@ -98,4 +93,4 @@ module _ {X : Type 0} where
           none k l =
               let t : test k ≡ true = counted (test k) (occurrences k ks) (is.each k) l in
               let x : X = slice_index_or xs k d in
-              and-off (p x) (q x) (and-right (nat_lt k (length xs)) (p x) t) (fails_at (λ y. p y && q y) xs d k e (above k (and-left (nat_lt k (length xs)) (p x) t)))
+              and-off (p x) (q x) (and-right (nat_lt k (length xs)) (p x) t) (fails_at (λ y. p y && q y) xs d k e (below_if k (length xs) (and-left (nat_lt k (length xs)) (p x) t)))

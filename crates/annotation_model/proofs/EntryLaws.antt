@@ -1,8 +1,7 @@
 -- What one entry makes of the tables, by the lists of the places that it is for.
-use Rattle.std.specs.Prelude.{◌≡◌, refl, ℕ, ℤ, suc, zero, ◌<◌, ◌&&◌, ◌||◌, nat_lt, Bool, true, false, if◌then◌else◌, List, [], ◌∷◌, ◌++◌, length, map, slice_index_or, slice_set}
+use Rattle.std.specs.Prelude.{◌≡◌, refl, ℕ, ℤ, suc, zero, ◌<◌, ◌&&◌, ◌||◌, nat_lt, Bool, true, false, List, [], ◌∷◌, ◌++◌, length, map, slice_index_or, slice_set}
 use Rattle.std.specs.List.{list_any}
-use Rattle.std.proofs.Common.{ap, ◌∙◌, arith}
-use Rattle.std.proofs.lemmas.Bool.Decides.{nat_tests}
+use Rattle.std.proofs.Common.{ap, ◌∙◌}
 use Rattle.std.proofs.lemmas.List.{get_or-map}
 use Rattle.sg_delay.specs.declared.corners.Corner.{Corner}
 use Rattle.sg_circuit.specs.Circuit.{Circuit}
@@ -10,11 +9,12 @@ use Rattle.sdf_tree.specs.Meant.{Sdf}
 use Rattle.annotation_model.specs.Given.{Given}
 use Rattle.annotation_model.specs.Listed.{occurrences, IsListOf, written}
 use Rattle.annotation_model.specs.Passes.{meets_large}
-use Rattle.annotation_model.specs.Spots.{spots, spot_after, is_for_spot, applied_at, is_large_at, timings_of, all_checked, is_for_check, limits_with, limits_after, is_limit_large_at}
+use Rattle.annotation_model.specs.Spots.{spots, spot_after, is_for_spot, applied_at, is_large_at, timings_of}
+use Rattle.annotation_model.specs.Spots.{all_checked, is_for_check, limits_with, limits_after, is_limit_large_at}
 use Rattle.annotation_model.specs.Finding.{no_spot, no_check, spot_at, check_at, is_found_spot, is_found_check}
 use Rattle.annotation_model.specs.Annotated.{is_for_something}
-use Rattle.annotation_model.proofs.TableLaws.{table-more}
-use Rattle.annotation_model.proofs.AnyLaws.{any_listed}
+use Rattle.annotation_model.proofs.TableLaws.{table-more, below_if}
+use Rattle.annotation_model.proofs.AnyLaws.{any_listed, and-left, counted}
 use Rattle.annotation_model.proofs.PassLaws.{meets_once, listed_once, any_alike}
 
 -- past the end too
@@ -45,21 +45,12 @@ some-listed : (ks : List ℕ) → is_some_listed ks ≡ list_any (λ k. true) ks
 some-listed [] = refl
 some-listed (k ∷ ks) = refl
 
-below_if : (k n : ℕ) → nat_lt k n ≡ true → k < n
-below_if k n e = grind (arith, nat_tests)
-
-counted : (b : Bool) (n : ℕ) → n ≡ (if b then 1 else 0) → 0 < n → b ≡ true
-counted true n e l = refl
-counted false n e l = absurd (omega (arith, e, l))
-
-first-true : (a b : Bool) → (a && b) ≡ true → a ≡ true
-first-true true b e = refl
-first-true false b e = absurd cc
-
 module _ (c : Circuit) (sdf : Sdf) (corner : Corner) (done : List Given) (g : Given) where
   -- what is in the list is one of the places
   pub spot-in : (ks : List ℕ) → IsListOf (is_found_spot c sdf g) ks → (k : ℕ) → 0 < occurrences k ks → k < length (spots c)
-  spot-in ks is k l = below_if k (length (spots c)) (first-true (nat_lt k (length (spots c))) (is_for_spot c sdf.divider g (spot_at c k)) (counted (is_found_spot c sdf g k) (occurrences k ks) (is.each k) l))
+  spot-in ks is k l =
+      let found : is_found_spot c sdf g k ≡ true = counted (is_found_spot c sdf g k) (occurrences k ks) (is.each k) l in
+      below_if k (length (spots c)) (and-left (nat_lt k (length (spots c))) (is_for_spot c sdf.divider g (spot_at c k)) found)
 
   pub spots-more : (ks : List ℕ) → IsListOf (is_found_spot c sdf g) ks
       → written (λ k ts. applied_at c sdf corner g (spot_at c k) ts) [] ks (map (spot_after c sdf corner done) (spots c)) ≡ map (spot_after c sdf corner (done ++ g ∷ [])) (spots c)
@@ -73,7 +64,8 @@ module _ (c : Circuit) (sdf : Sdf) (corner : Corner) (done : List Given) (g : Gi
       → meets_large (λ k ts. is_large_at c sdf corner g (spot_at c k) ts) (λ k ts. applied_at c sdf corner g (spot_at c k) ts) [] ks (map (spot_after c sdf corner done) (spots c))
       ≡ list_any (λ spot. is_for_spot c sdf.divider g spot && is_large_at c sdf corner g spot (spot_after c sdf corner done spot)) (spots c)
   spots-large ks is =
-      meets_once (λ k ts. is_large_at c sdf corner g (spot_at c k) ts) (λ k ts. applied_at c sdf corner g (spot_at c k) ts) [] ks (map (spot_after c sdf corner done) (spots c)) (listed_once (is_found_spot c sdf g) ks is)
+      meets_once (λ k ts. is_large_at c sdf corner g (spot_at c k) ts) (λ k ts. applied_at c sdf corner g (spot_at c k) ts) [] ks
+      (map (spot_after c sdf corner done) (spots c)) (listed_once (is_found_spot c sdf g) ks is)
       ∙ (any_alike (λ k. is_large_at c sdf corner g (spot_at c k) (slice_index_or (map (spot_after c sdf corner done) (spots c)) k []))
       (λ k. is_large_at c sdf corner g (spot_at c k) (spot_after c sdf corner done (spot_at c k))) ks
       (λ k l. ap (λ ts. is_large_at c sdf corner g (spot_at c k) ts) (get_or-map (spot_after c sdf corner done) (spots c) k no_spot [] (spot-in ks is k l)))
@@ -83,7 +75,8 @@ module _ (c : Circuit) (sdf : Sdf) (corner : Corner) (done : List Given) (g : Gi
       → meets_large (λ k ls. is_limit_large_at c sdf corner g (check_at c k)) (λ k ls. limits_with c sdf corner g (check_at c k) ls) [] ks (map (limits_after c sdf corner done) (all_checked c))
       ≡ list_any (λ k. is_for_check c sdf.divider g k && is_limit_large_at c sdf corner g k) (all_checked c)
   checks-large ks is =
-      meets_once (λ k (ls : List ℤ). is_limit_large_at c sdf corner g (check_at c k)) (λ k ls. limits_with c sdf corner g (check_at c k) ls) [] ks (map (limits_after c sdf corner done) (all_checked c)) (listed_once (is_found_check c sdf g) ks is)
+      meets_once (λ k (ls : List ℤ). is_limit_large_at c sdf corner g (check_at c k)) (λ k ls. limits_with c sdf corner g (check_at c k) ls) [] ks
+      (map (limits_after c sdf corner done) (all_checked c)) (listed_once (is_found_check c sdf g) ks is)
       ∙ any_listed (λ k. is_for_check c sdf.divider g k) (λ k. is_limit_large_at c sdf corner g k) (all_checked c) no_check ks is
 
   -- an entry is for something where one of the two lists has a place
@@ -91,7 +84,11 @@ module _ (c : Circuit) (sdf : Sdf) (corner : Corner) (done : List Given) (g : Gi
   something ks ls one two = ap (λ b. b || is_some_listed ls) spot ∙ ap (λ b. list_any (λ s. is_for_spot c sdf.divider g s) (spots c) || b) check
     where
       spot : is_some_listed ks ≡ list_any (λ s. is_for_spot c sdf.divider g s) (spots c)
-      spot = some-listed ks ∙ (any_listed (λ s. is_for_spot c sdf.divider g s) (λ s. true) (spots c) no_spot ks one ∙ any-same (λ s. is_for_spot c sdf.divider g s && true) (λ s. is_for_spot c sdf.divider g s) (spots c) (λ s. and-true (is_for_spot c sdf.divider g s)))
+      spot = some-listed ks
+          ∙ (any_listed (λ s. is_for_spot c sdf.divider g s) (λ s. true) (spots c) no_spot ks one
+          ∙ any-same (λ s. is_for_spot c sdf.divider g s && true) (λ s. is_for_spot c sdf.divider g s) (spots c) (λ s. and-true (is_for_spot c sdf.divider g s)))
 
       check : is_some_listed ls ≡ list_any (λ k. is_for_check c sdf.divider g k) (all_checked c)
-      check = some-listed ls ∙ (any_listed (λ k. is_for_check c sdf.divider g k) (λ k. true) (all_checked c) no_check ls two ∙ any-same (λ k. is_for_check c sdf.divider g k && true) (λ k. is_for_check c sdf.divider g k) (all_checked c) (λ k. and-true (is_for_check c sdf.divider g k)))
+      check = some-listed ls
+          ∙ (any_listed (λ k. is_for_check c sdf.divider g k) (λ k. true) (all_checked c) no_check ls two
+          ∙ any-same (λ k. is_for_check c sdf.divider g k && true) (λ k. is_for_check c sdf.divider g k) (all_checked c) (λ k. and-true (is_for_check c sdf.divider g k)))

@@ -1,5 +1,6 @@
 -- What going over a list of places comes to.
-use Rattle.std.specs.Prelude.{◌≡◌, ◌≢◌, ℕ, zero, suc, ◌+◌, ◌<◌, ◌==◌, Bool, true, false, if◌then◌else◌, List, [], ◌∷◌, ◌++◌, length, take, slice_index_or, slice_set, refl}
+use Rattle.std.specs.Prelude.{◌≡◌, ◌≢◌, ℕ, zero, suc, ◌+◌, ◌<◌, ◌==◌, Bool, true, false, if◌then◌else◌}
+use Rattle.std.specs.Prelude.{List, [], ◌∷◌, ◌++◌, length, take, slice_index_or, slice_set, refl}
 use Rattle.std.proofs.Common.{sym, ◌∙◌, ap, subst, arith, inl, inr, zero-add}
 use Rattle.std.proofs.lemmas.Bool.{cases_eq}
 use Rattle.std.proofs.lemmas.Bool.Decides.{nat_tests}
@@ -41,7 +42,9 @@ listed_at test ks i blank is l = at (test (slice_index_or ks i blank)) refl
   where
     at : (b : Bool) → test (slice_index_or ks i blank) ≡ b → b ≡ true
     at true e = refl
-    at false e = let n : occurrences (slice_index_or ks i blank) ks ≡ 0 = is.each (slice_index_or ks i blank) ∙ ap (λ b. if b then 1 else 0) e in absurd (omega (arith, occurs_at ks i blank l))
+    at false e =
+        let n : occurrences (slice_index_or ks i blank) ks ≡ 0 = is.each (slice_index_or ks i blank) ∙ ap (λ b. if b then 1 else 0) e in
+        absurd (omega (arith, occurs_at ks i blank l))
 
 pub length-written : {A : Type 0} (f : ℕ → A → A) (d : A) (ks : List ℕ) (xs : List A) → length (written f d ks xs) ≡ length xs
 length-written f d [] xs = refl
@@ -54,7 +57,9 @@ written-append f d (j ∷ js) k xs = written-append f d js k (slice_set xs j (f 
 
 -- one place more
 pub written-more : {A : Type 0} (f : ℕ → A → A) (d : A) (ks : List ℕ) (i : ℕ) (blank : ℕ) (xs : List A) → i < length ks
-    → written f d (take (i + 1) ks) xs ≡ slice_set (written f d (take i ks) xs) (slice_index_or ks i blank) (f (slice_index_or ks i blank) (slice_index_or (written f d (take i ks) xs) (slice_index_or ks i blank) d))
+    → written f d (take (i + 1) ks) xs
+    ≡ slice_set (written f d (take i ks) xs) (slice_index_or ks i blank)
+    (f (slice_index_or ks i blank) (slice_index_or (written f d (take i ks) xs) (slice_index_or ks i blank) d))
 written-more f d ks i blank xs l = ap (λ js. written f d js xs) (take_more ks i blank l) ∙ written-append f d (take i ks) (slice_index_or ks i blank) xs
 
 -- a place that isn't gone over stays
@@ -68,7 +73,8 @@ written-other f d (k ∷ ks) xs j c h = elim (cases_eq k j) [
 ]
 
 -- a place that is gone over once has f once
-pub written-once : {A : Type 0} (f : ℕ → A → A) (d : A) (ks : List ℕ) (xs : List A) (j : ℕ) (c : A) → j < length xs → occurrences j ks ≡ 1 → slice_index_or (written f d ks xs) j c ≡ f j (slice_index_or xs j d)
+pub written-once : {A : Type 0} (f : ℕ → A → A) (d : A) (ks : List ℕ) (xs : List A) (j : ℕ) (c : A) → j < length xs → occurrences j ks ≡ 1
+    → slice_index_or (written f d ks xs) j c ≡ f j (slice_index_or xs j d)
 written-once f d [] xs j c l h = absurd (omega arith)
 written-once f d (k ∷ ks) xs j c l h = elim (cases_eq k j) [
   | inl same ↦ (let e : occurrences j ks ≡ 0 = omega (arith, occurs_here k j ks same) in

@@ -13,6 +13,9 @@ use Rattle.annotation_model.proofs.AfterLaws.{after-yes, after-no}
 pub is_below : (j n : ℕ) → j < n → nat_lt j n ≡ true
 is_below j n l = grind (arith, nat_tests)
 
+pub below_if : (j n : ℕ) → nat_lt j n ≡ true → j < n
+below_if j n e = grind (arith, nat_tests)
+
 module _ {X V : Type 0} (test : Given → X → Bool) (f : Given → X → V → V) (start : X → V) where
   -- the value of a place after the entries of a list
   abbrev pub value_after : List Given → X → V
@@ -48,6 +51,7 @@ module _ {X V : Type 0} (test : Given → X → Bool) (f : Given → X → V →
           written-other write e ks (map (value_after gs) xs) j e (is.each j ∙ ap (λ b. if b then 1 else 0) (passes j l false q))
           ∙ (old j l ∙ sym (after-no (λ h. test h (slice_index_or xs j d)) (λ h. f h (slice_index_or xs j d)) gs g (start (slice_index_or xs j d)) q))
 
-      at : (j : ℕ) → j < length (written write e ks (map (value_after gs) xs)) → slice_index_or (written write e ks (map (value_after gs) xs)) j e ≡ slice_index_or (map (value_after (gs ++ g ∷ [])) xs) j e
+      at : (j : ℕ) → j < length (written write e ks (map (value_after gs) xs))
+          → slice_index_or (written write e ks (map (value_after gs) xs)) j e ≡ slice_index_or (map (value_after (gs ++ g ∷ [])) xs) j e
       at j l = let m : j < length xs = subst (λ n. j < n) (length-written write e ks (map (value_after gs) xs) ∙ length-map xs (value_after gs)) l in
           case j m (test g (slice_index_or xs j d)) refl ∙ sym (new j m)
