@@ -8,11 +8,11 @@ use Rattle.annotation_model.specs.Ports.{has}
 use Rattle.annotation_model.proofs.ListedLaws.{test_same, test_other, occurs_here, occurs_later, occurrences-append}
 use Rattle.annotation_index.specs.Picking.{ArePicked, HasEach}
 
-or-false : (b : Bool) → (b || false) ≡ b
+pub or-false : (b : Bool) → (b || false) ≡ b
 or-false true = refl
 or-false false = refl
 
-has-append : (k : ℕ) (xs ys : List ℕ) → has k (xs ++ ys) ≡ (has k xs || has k ys)
+pub has-append : (k : ℕ) (xs ys : List ℕ) → has k (xs ++ ys) ≡ (has k xs || has k ys)
 has-append k [] ys = refl
 has-append k (x ∷ xs) ys = by (x == k) (has-append k xs ys)
   where
