@@ -1,0 +1,14 @@
+//! What an entry of an SDF file makes of one path, leg or timing check, in ticks.
+#![tactic(auto)]
+
+mod changes;
+mod grids;
+mod lists;
+mod spreading;
+mod values;
+
+pub use changes::{Transition, change_at, changed, set_transition, transition_at};
+pub use grids::Grid;
+pub use lists::change_list;
+pub use spreading::with_list;
+pub use values::{TooLarge, both, chosen, chosen_limits, ticks};
