@@ -2,14 +2,10 @@
 use Rattle.std.specs.Prelude.{◌≡◌, refl, ℕ, zero, suc, ◌+◌, ◌<◌, ◌==◌, ◌&&◌, ◌||◌, nat_lt, Bool, true, false, if◌then◌else◌, List, [], ◌∷◌, length, slice_index_or}
 use Rattle.std.specs.List.{list_any}
 use Rattle.std.proofs.Common.{ap, sym, ◌∙◌, subst, arith, inl, inr}
-use Rattle.std.proofs.lemmas.Bool.{cases_eq}
+use Rattle.std.proofs.lemmas.Bool.{cases_eq, and_from, or_parts, or_right}
 use Rattle.annotation_model.specs.Listed.{occurrences, IsListOf}
 use Rattle.annotation_model.proofs.ListedLaws.{occurs_here, occurs_later}
 use Rattle.annotation_model.proofs.TableLaws.{is_below, below_if}
-
-or-true : (b : Bool) → (b || true) ≡ true
-or-true true = refl
-or-true false = refl
 
 pub and-left : (a b : Bool) → (a && b) ≡ true → a ≡ true
 and-left true b e = refl
@@ -19,19 +15,8 @@ and-right : (a b : Bool) → (a && b) ≡ true → b ≡ true
 and-right true b e = e
 and-right false b e = absurd cc
 
-and-both : (a b : Bool) → a ≡ true → b ≡ true → (a && b) ≡ true
-and-both a b e f = ap (λ c. c && b) e ∙ f
-
-and-off : (a b : Bool) → a ≡ true → (a && b) ≡ false → b ≡ false
+pub and-off : (a b : Bool) → a ≡ true → (a && b) ≡ false → b ≡ false
 and-off a b e f = sym (ap (λ c. c && b) e) ∙ f
-
-or-left : (a b : Bool) → (a || b) ≡ false → a ≡ false
-or-left true b e = absurd cc
-or-left false b e = refl
-
-or-right : (a b : Bool) → (a || b) ≡ false → b ≡ false
-or-right true b e = absurd cc
-or-right false b e = e
 
 -- what occurs passes the test
 pub counted : (b : Bool) (n : ℕ) → n ≡ (if b then 1 else 0) → 0 < n → b ≡ true
@@ -43,7 +28,7 @@ any_here q k [] l e = absurd (omega arith)
 any_here q k (x ∷ ks) l e = elim (cases_eq x k) [
   | inl same ↦ ap (λ b. b || list_any q ks) (ap q same ∙ e)
   | inr other ↦ (let m : 0 < occurrences k ks = subst (λ n. 0 < n) (occurs_later x k ks other) l in
-      ap (λ b. q x || b) (any_here q k ks m e) ∙ or-true (q x))
+      or_right (q x) (list_any q ks) (any_here q k ks m e))
 ]
 
 none_here : (q : ℕ → Bool) (ks : List ℕ) → ((k : ℕ) → 0 < occurrences k ks → q k ≡ false) → list_any q ks ≡ false
@@ -69,8 +54,8 @@ module _ {X : Type 0} where
 
   pub fails_at : (q : X → Bool) (xs : List X) (d : X) (k : ℕ) → list_any q xs ≡ false → k < length xs → q (slice_index_or xs k d) ≡ false
   fails_at q [] d k e l = absurd (omega arith)
-  fails_at q (x ∷ xs) d zero e l = or-left (q x) (list_any q xs) e
-  fails_at q (x ∷ xs) d (suc k) e l = fails_at q xs d k (or-right (q x) (list_any q xs) e) (omega arith)
+  fails_at q (x ∷ xs) d zero e l = (or_parts (q x) (list_any q xs) e).0
+  fails_at q (x ∷ xs) d (suc k) e l = fails_at q xs d k (or_parts (q x) (list_any q xs) e).1 (omega arith)
 
   -- Where a list has the places that pass one test, another passes at one of them exactly where both pass at some place.
   pub any_listed : (p q : X → Bool) (xs : List X) (d : X) (ks : List ℕ) → IsListOf (λ k. nat_lt k (length xs) && p (slice_index_or xs k d)) ks
@@ -84,7 +69,7 @@ module _ {X : Type 0} where
       by true e =
           let f = passes_at (λ x. p x && q x) xs d e in
           let x : X = slice_index_or xs f.0 d in
-          let t : test f.0 ≡ true = and-both (nat_lt f.0 (length xs)) (p x) (is_below f.0 (length xs) f.1) (and-left (p x) (q x) f.2) in
+          let t : test f.0 ≡ true = and_from (nat_lt f.0 (length xs)) (p x) (is_below f.0 (length xs) f.1) (and-left (p x) (q x) f.2) in
           let n : occurrences f.0 ks ≡ 1 = is.each f.0 ∙ ap (λ b. if b then 1 else 0) t in
           any_here (λ k. q (slice_index_or xs k d)) f.0 ks (omega (arith, n)) (and-right (p x) (q x) f.2)
       by false e = none_here (λ k. q (slice_index_or xs k d)) ks none

@@ -1,8 +1,7 @@
 -- Worked examples of interconnect delays and timing checks, reckoned by hand: two flip-flops u0 and u1 of a module DFF in top, of which u0/Q is
 -- q[0], net 3, and leads to u1/D.
-use Rattle.std.specs.Prelude.{◌≡◌, refl, ℕ, ℤ, pos, neg_ℤ, true, false, List, [], ◌∷◌, map, replicate, Option, Some, None, codes}
+use Rattle.std.specs.Prelude.{◌≡◌, refl, ℕ, ℤ, pos, neg_ℤ, true, false, List, [], ◌∷◌, map, replicate, Some, None, codes}
 use Rattle.sg_logic.specs.declared.values.Value.TheVariants.{Zero, X}
-use Rattle.sg_logic.specs.declared.edges.Edge.{Edge}
 use Rattle.sg_logic.specs.declared.edges.TheConstants.{POSEDGE}
 use Rattle.sg_delay.specs.declared.corners.Corner.TheVariants.{Min, Typ, Max}
 use Rattle.sg_delay.specs.declared.limits.PulseStyle.TheVariants.{OnEvent}
@@ -11,7 +10,6 @@ use Rattle.sg_circuit.specs.declared.scopes.Port.TheVariants.{Input, Output, Inn
 use Rattle.sg_circuit.specs.declared.checks.Check.{Check}
 use Rattle.sg_circuit.specs.declared.checks.CheckKind.TheVariants as check
 use Rattle.sg_circuit.specs.declared.checks.CheckTiming.{CheckTiming}
-use Rattle.sg_circuit.specs.declared.checks.Event.{Event}
 use Rattle.sg_circuit.specs.Checks.{CheckConditions}
 use Rattle.sg_circuit.specs.Timings.{Timing}
 use Rattle.sg_circuit.specs.Paths as specify
@@ -27,7 +25,7 @@ use Rattle.annotation_model.specs.Ports.{bits_of}
 use Rattle.annotation_model.specs.Scopes.{is_of_cell}
 use Rattle.annotation_model.specs.Spots.{Spot, leg_spot, spot_after, all_checked, limits_after}
 use Rattle.annotation_model.specs.Annotated.{annotated, too_large, unmatched}
-use Rattle.annotation_model.proofs.Samples.{decimal, whole, lone, delay, port, from, rising, at_line, entry, more, cell, nanoseconds, flat, delays, scalar, scope, two, timings}
+use Rattle.annotation_model.proofs.Samples.{event, decimal, whole, lone, delay, port, from, rising, at_line, entry, more, cell, nanoseconds, flat, delays, scalar, scope, two, timings}
 
 -- ---- the circuit, by the values that entries may change
 
@@ -61,9 +59,6 @@ top_scope = scope None (codes "top") (codes "top") false (neg_ℤ (pos 12)) (sca
 abbrev dff : List ℕ → (q d ck n : ℕ) → Scope
 dff name q d ck n =
     scope (Some 0) name (codes "DFF") true (neg_ℤ (pos 12)) (scalar (codes "Q") Output q ∷ scalar (codes "D") Input d ∷ scalar (codes "CK") Input ck ∷ notifier n ∷ [])
-
-abbrev event : ℕ → Option Edge → Event
-event net edge = record { net = net; edge = edge; condition = None }
 
 abbrev setuphold : ℕ → (n : ℕ) → Check
 setuphold s n = record {

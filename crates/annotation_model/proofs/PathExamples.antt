@@ -1,11 +1,10 @@
 -- Worked examples of paths, reckoned by hand.
-use Rattle.std.specs.Prelude.{◌≡◌, refl, ℕ, ℤ, pos, neg_ℤ, true, false, List, [], ◌∷◌, replicate, Option, Some, None, codes}
+use Rattle.std.specs.Prelude.{map, ◌≡◌, refl, ℕ, ℤ, pos, neg_ℤ, true, false, List, [], ◌∷◌, replicate, Option, Some, None, codes}
 use Rattle.sg_logic.specs.declared.values.Value.TheVariants.{One}
 use Rattle.sg_delay.specs.declared.corners.Corner.TheVariants.{Typ}
 use Rattle.sg_delay.specs.declared.limits.PulseStyle.TheVariants.{OnEvent}
 use Rattle.cond_expr.specs.declared.tokens.Op.TheVariants as op
 use Rattle.cond_expr.specs.declared.tokens.Tok.TheVariants as tok
-use Rattle.cond_expr.specs.Token.{Tok}
 use Rattle.cond_expr.specs.Tree.{leaf, constant, binary}
 use Rattle.sg_circuit.specs.declared.scopes.Port.TheVariants.{Input, Output}
 use Rattle.sg_circuit.specs.Paths as specify
@@ -18,7 +17,7 @@ use Rattle.annotation_model.specs.Given.{given}
 use Rattle.annotation_model.specs.Same.{bare, same_condition}
 use Rattle.annotation_model.specs.Spots.{path_spot, spot_after}
 use Rattle.annotation_model.specs.Annotated.{too_large, unmatched}
-use Rattle.annotation_model.proofs.Samples.{decimal, whole, lone, nothing, delay, port, from, at_line, entry, more, cell, nanoseconds, delays, limits, scalar, scope, path, plain}
+use Rattle.annotation_model.proofs.Samples.{s_is_1, decimal, whole, lone, nothing, delay, port, from, at_line, entry, more, cell, nanoseconds, delays, limits, scalar, scope, path, plain}
 
 -- ---- one path A => Y of delay 5 in a module with a precision
 
@@ -148,10 +147,29 @@ percent_stays = refl
 pub none_given : path_limits (neg_ℤ (pos 9)) (neg_ℤ (pos 9)) (more 1 (a_to_y (delay (lone (whole 5)) ∷ [])) ∷ []) ≡ replicate 12 None
 none_given = refl
 
--- ---- conditions: if (S == 1'b1) (A => Y) = 5; ifnone (A => Y) = 6; (B => Y) = 7;
+-- of two transitions with one delay the first of the formula gives the limits: 0x those of 0z, x1 of z1, 1x of 1z, x0 of z0, xz of 1z, zx of z1
+abbrev limited_by : ℕ → DelayValue
+limited_by n = record { delay = lone (whole 5); limits = Some (record { reject = lone (whole n); error = lone (whole n) }) }
 
-abbrev s_is_1 : List Tok
-s_is_1 = tok.Name (codes "S") ∷ tok.Op op.Equal ∷ tok.Const One ∷ []
+pub equal_delays :
+    path_limits (neg_ℤ (pos 9)) (neg_ℤ (pos 9))
+    (more 1 (a_to_y (limited_by 1 ∷ limited_by 2 ∷ limited_by 3 ∷ limited_by 4 ∷ limited_by 5 ∷ limited_by 6 ∷ [])) ∷ [])
+    ≡ map (λ n. Some (n, n)) (1 ∷ 2 ∷ 3 ∷ 4 ∷ 5 ∷ 6 ∷ 3 ∷ 4 ∷ 5 ∷ 6 ∷ 5 ∷ 4 ∷ [])
+equal_delays = refl
+
+-- where one limit has no value for the corner, both are passed over, and the delay isn't
+abbrev reject_alone : DelayValue
+reject_alone = record { delay = lone (whole 9); limits = Some (record { reject = lone (whole 1); error = nothing }) }
+
+pub one_limit_is_none :
+    path_limits (neg_ℤ (pos 9)) (neg_ℤ (pos 9)) (entry 1 (path_pulse false None (lone (whole 2)) None) ∷ entry 2 (a_to_y (reject_alone ∷ [])) ∷ [])
+    ≡ replicate 12 (Some (2, 2))
+one_limit_is_none = refl
+
+pub its_delay_counts : path_delays (neg_ℤ (pos 9)) (neg_ℤ (pos 9)) (entry 1 (a_to_y (reject_alone ∷ [])) ∷ []) ≡ replicate 12 9
+its_delay_counts = refl
+
+-- ---- conditions: if (S == 1'b1) (A => Y) = 5; ifnone (A => Y) = 6; (B => Y) = 7;
 
 abbrev if_path : specify.Path
 if_path = path 1 (specify.If s_is_1 (binary op.Equal (leaf 3) (constant One))) 5
@@ -205,3 +223,7 @@ not_a_pair = refl
 
 pub another_condition : same_condition (tok.Op op.Bang ∷ tok.Name (codes "S") ∷ []) s_is_1 ≡ false
 another_condition = refl
+
+-- a backslash in a name is a letter of it, as of the netlist's \a\b and the file's a\\b
+pub backslash_in_a_name : same_condition (tok.Name (97 ∷ 92 ∷ 98 ∷ []) ∷ []) (tok.Name (97 ∷ 92 ∷ 98 ∷ []) ∷ []) ≡ true
+backslash_in_a_name = refl

@@ -1,7 +1,13 @@
 -- Parts of worked examples: values, entries, cells, and circuits.
-use Rattle.std.specs.Prelude.{ℕ, ℤ, pos, neg_ℤ, Bool, true, false, min, max, List, [], ◌∷◌, map, replicate, Option, Some, None}
+use Rattle.std.specs.Prelude.{ℕ, ℤ, pos, neg_ℤ, Bool, true, false, min, max, List, [], ◌∷◌, map, replicate, Option, Some, None, codes}
 use Rattle.sg_text.specs.declared.places.Place.{Place}
 use Rattle.sg_time.specs.Spelling.{Number}
+use Rattle.sg_logic.specs.declared.edges.Edge.{Edge}
+use Rattle.sg_logic.specs.declared.values.Value.TheVariants.{One}
+use Rattle.cond_expr.specs.declared.tokens.Op.TheVariants as op
+use Rattle.cond_expr.specs.declared.tokens.Tok.TheVariants as tok
+use Rattle.cond_expr.specs.Token.{Tok}
+use Rattle.sg_circuit.specs.declared.checks.Event.{Event}
 use Rattle.sg_circuit.specs.declared.scopes.Port.{Port as Role}
 use Rattle.sg_circuit.specs.Timings.{Timing}
 use Rattle.sg_circuit.specs.Paths as specify
@@ -94,3 +100,11 @@ plain elements scopes tick = record {
   scopes = scopes;
   zeroed = [];
 }
+
+-- ---- checks and conditions
+
+abbrev pub event : ℕ → Option Edge → Event
+event net edge = record { net = net; edge = edge; condition = None }
+
+abbrev pub s_is_1 : List Tok
+s_is_1 = tok.Name (codes "S") ∷ tok.Op op.Equal ∷ tok.Const One ∷ []
