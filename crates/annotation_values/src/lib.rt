@@ -11,7 +11,7 @@ mod values;
 
 pub use changes::{Transition, change_at, changed, set_transition, transition_at};
 pub use grids::Grid;
-pub use limits::limits_for;
+pub use limits::{apply_check, limits_for, with_limits};
 pub use lists::change_list;
 pub use pulses::with_pulses;
 pub use spreading::with_list;

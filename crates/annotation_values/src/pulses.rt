@@ -5,14 +5,16 @@ ghost use Rattle.std.specs.Option.{option_map};
 ghost use Rattle.sdf_meaning.specs.MeantSeen.{view_triple};
 ghost use Rattle.sg_circuit.specs.Timings.{Timing};
 ghost use Rattle.sg_circuit.specs.TimingsSeen.{leg_timing_seen, limit_seen, timings_of};
+ghost use Rattle.sg_time.specs.Seen.{number as number_seen};
 ghost use Rattle.annotation_model.specs.Applied as def;
-ghost use Rattle.annotation_values.specs.Leg.{TellsAll};
+ghost use Rattle.annotation_values.specs.Leg.{TellsAll, TellsLimit};
 ghost use Rattle.annotation_values.specs.Seen.{grid_seen, Tells};
 
 use crate::grids::Grid;
 use crate::values::{TooLarge, both, limit_of};
 use sg_circuit::LegTiming;
-use sg_delay::{Limit, Limits12, Triple};
+use sg_delay::{Limit, Limits12, Triple, Widths};
+use sg_time::Decimal;
 
 // A missing error limit is the reject limit.
 fn pulse_limits(
@@ -69,5 +71,21 @@ pub fn with_pulses(
     match pulse_limits(grid, reject, error) {
         Ok(limits) => Ok(with_both(limits, timing)),
         Err(refused) => Err(refused),
+    }
+}
+
+// Those percentages of a delay.
+fn percent_limit(reject: &Decimal, error: &Decimal, delay: u64) -> Result<Limit, TooLarge>
+    ensures { TellsLimit (not (nat_lt (def.percents (number_seen reject.now, number_seen error.now) delay).1 (2 ^ 60))) (def.percents (number_seen reject.now, number_seen error.now) delay) result }
+{
+    match reject.percent_of(delay) {
+        Ok(reject) => match error.percent_of(delay) {
+            Ok(error) => Ok(Limit::Own(Widths {
+                reject,
+                error: u64::max(reject, error),
+            })),
+            Err(_) => Err(TooLarge),
+        },
+        Err(_) => Err(TooLarge),
     }
 }
