@@ -3,12 +3,16 @@
 
 mod changes;
 mod grids;
+mod limits;
 mod lists;
+mod pulses;
 mod spreading;
 mod values;
 
 pub use changes::{Transition, change_at, changed, set_transition, transition_at};
 pub use grids::Grid;
+pub use limits::{apply_check, limits_for, with_limits};
 pub use lists::change_list;
+pub use pulses::with_pulses;
 pub use spreading::with_list;
 pub use values::{TooLarge, both, chosen, chosen_limits, ticks};

@@ -96,15 +96,23 @@ pub fn chosen_limits(grid: Grid, limits: &Option<LimitPair>) -> Result<Option<(i
     }
 }
 
+/// Two limits in ticks. What lies below 0 is 0, and the error limit isn't below the reject limit.
+pub fn limit_of(limits: (i64, i64)) -> Limit
+    ensures { limit_seen result ≡ Some (def.limits_from limits) }
+{
+    let (reject, error) = limits;
+    Limit::Own(Widths {
+        reject: above(reject),
+        error: u64::max(above(reject), above(error)),
+    })
+}
+
 /// Limits, in ticks, replace those before them; without any they stay. What lies below 0 is 0.
 pub fn new_limit(limits: Option<(i64, i64)>, old: Limit) -> Limit
     ensures { limit_seen result ≡ def.new_limits limits (limit_seen old) }
 {
     match limits {
-        Some((reject, error)) => Limit::Own(Widths {
-            reject: above(reject),
-            error: u64::max(above(reject), above(error)),
-        }),
+        Some(limits) => limit_of(limits),
         None => old,
     }
 }
