@@ -89,3 +89,72 @@ fn percent_limit(reject: &Decimal, error: &Decimal, delay: u64) -> Result<Limit,
         Err(_) => Err(TooLarge),
     }
 }
+
+// Each transition's limits are those percentages of its delay.
+fn set_percents(
+    reject: &Decimal,
+    error: &Decimal,
+    delays: &[u64; 12],
+    limits: &mut [Limit; 12],
+) -> Result<(), TooLarge>
+    ensures fine { OnOk result (def.is_percent_large (Some (number_seen reject.now, number_seen error.now)) (timings_of delays.now limits.old) ≡ false) }
+    ensures changed { OnOk result (timings_of delays.now limits.new ≡ def.with_percents (Some (number_seen reject.now, number_seen error.now)) (timings_of delays.now limits.old)) }
+    ensures told { OnErr result (def.is_percent_large (Some (number_seen reject.now, number_seen error.now)) (timings_of delays.now limits.old) ≡ true) }
+{
+    for i in 0..12 {
+        limits[i] = percent_limit(reject, error, delays[i])?;
+    }
+    Ok(())
+}
+
+// Two percentages.
+fn with_numbers(
+    reject: &Decimal,
+    error: &Decimal,
+    timing: &LegTiming,
+) -> Result<LegTiming, TooLarge>
+    ensures { TellsAll (def.is_percent_large (Some (number_seen reject.now, number_seen error.now)) (leg_timing_seen timing.now)) (def.with_percents (Some (number_seen reject.now, number_seen error.now)) (leg_timing_seen timing.now)) result }
+{
+    let delays = timing.delays.at;
+    let mut limits = timing.limits.at;
+    set_percents(reject, error, &delays, &mut limits)?;
+    Ok(LegTiming {
+        delays: timing.delays,
+        limits: Limits12 { at: limits },
+    })
+}
+
+// Two percentages, where both have a value for the corner.
+fn with_parts(
+    grid: Grid,
+    reject: &Triple,
+    error: &Triple,
+    timing: &LegTiming,
+) -> Result<LegTiming, TooLarge>
+    ensures { TellsAll (def.is_percent_large (def.both_numbers (def.part_of grid.corner (view_triple reject.now)) (def.part_of grid.corner (view_triple error.now))) (leg_timing_seen timing.now)) (def.with_percents (def.both_numbers (def.part_of grid.corner (view_triple reject.now)) (def.part_of grid.corner (view_triple error.now))) (leg_timing_seen timing.now)) result }
+{
+    match reject.part(grid.corner) {
+        Some(first) => match error.part(grid.corner) {
+            Some(second) => with_numbers(&first, &second, timing),
+            None => Ok(*timing),
+        },
+        None => Ok(*timing),
+    }
+}
+
+/// The timing of a path after PATHPULSEPERCENT (IEEE 1497-2001): the two limits of each transition, in ticks, are those percentages of its
+/// delay as it stands, where both have a value for the corner; a missing second one is the first. What lies below 0 is 0. 2^60 ticks and
+/// more is TooLarge.
+pub fn with_percents(
+    grid: Grid,
+    reject: &Triple,
+    error: &Option<Triple>,
+    timing: &LegTiming,
+) -> Result<LegTiming, TooLarge>
+    ensures { TellsAll (def.is_percent_large (def.pulse_numbers (grid_seen grid) (view_triple reject.now) (option_map view_triple error.now)) (leg_timing_seen timing.now)) (def.with_percents (def.pulse_numbers (grid_seen grid) (view_triple reject.now) (option_map view_triple error.now)) (leg_timing_seen timing.now)) result }
+{
+    match error {
+        Some(error) => with_parts(grid, reject, error, timing),
+        None => with_parts(grid, reject, reject, timing),
+    }
+}
