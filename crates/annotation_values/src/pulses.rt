@@ -1,6 +1,5 @@
 // Limits of pulses for all transitions of a path.
 ghost use Rattle.std.specs.Prelude.{ℕ, ◌≡◌, ◌<◌, ◌^◌, OnErr, OnOk, Some, false, length, map, not, nat_lt, replicate, true};
-ghost use Rattle.std.specs.List.{list_any};
 ghost use Rattle.std.specs.Option.{option_map};
 ghost use Rattle.sdf_meaning.specs.MeantSeen.{view_triple};
 ghost use Rattle.sg_circuit.specs.Timings.{Timing};
