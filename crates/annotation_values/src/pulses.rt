@@ -2,7 +2,6 @@
 ghost use Rattle.std.specs.Prelude.{ℕ, ◌≡◌, ◌<◌, ◌^◌, OnErr, OnOk, Some, false, length, map, not, nat_lt, replicate, true};
 ghost use Rattle.std.specs.Option.{option_map};
 ghost use Rattle.sdf_meaning.specs.MeantSeen.{view_triple};
-ghost use Rattle.sg_circuit.specs.Timings.{Timing};
 ghost use Rattle.sg_circuit.specs.TimingsSeen.{leg_timing_seen, limit_seen, timings_of};
 ghost use Rattle.sg_time.specs.Seen.{number as number_seen};
 ghost use Rattle.annotation_model.specs.Applied as def;

@@ -1,5 +1,5 @@
 // A list of delays over all twelve transitions.
-ghost use Rattle.std.specs.Prelude.{◌≡◌, ◌≤◌, ◌==◌, None, false, if◌then◌else◌, is_some, length};
+ghost use Rattle.std.specs.Prelude.{◌≡◌, ◌≤◌, None, if◌then◌else◌, is_some, length};
 ghost use Rattle.std.specs.List.{list_any};
 ghost use Rattle.sg_circuit.specs.TimingsSeen.{leg_timing_seen};
 ghost use Rattle.sg_delay.specs.Expansion.{six};
