@@ -1,7 +1,7 @@
 // A list of delays over all twelve transitions.
 ghost use Rattle.std.specs.Prelude.{◌≡◌, ◌≤◌, None, if◌then◌else◌, is_some, length};
 ghost use Rattle.std.specs.List.{list_any};
-ghost use Rattle.sg_circuit.specs.TimingsSeen.{leg_timing_seen};
+ghost use Rattle.sg_circuit.specs.TimingsSeen.{leg_timing_seen, timings_of};
 ghost use Rattle.sg_delay.specs.Expansion.{six};
 ghost use Rattle.annotation_model.specs.Applied as def;
 ghost use Rattle.annotation_values.specs.Changes.{change_seen, changes_seen, in_order};
@@ -15,7 +15,7 @@ use crate::lists::change_list;
 use crate::values::TooLarge;
 use sdf_tree::DelayValue;
 use sg_circuit::LegTiming;
-use sg_delay::{Delays12, Limits12};
+use sg_delay::{Delays12, Limit, Limits12};
 
 // What a list of 1, 2, 3 or 6 gives to the changes between 0, 1 and z, in the order 01, 10, 0z, z1, 1z, z0.
 fn six_of(values: &[DelayValue]) -> Option<[DelayValue; 6]>
@@ -78,35 +78,15 @@ fn with_each(
 }
 
 // The transitions to and from x anew, from those between 0, 1 and z, each with the limits of the one whose delay it takes.
-fn with_x(timing: &LegTiming) -> LegTiming
-    ensures { leg_timing_seen result ≡ def.with_x (leg_timing_seen timing.now) }
+fn with_x(delays: &[u64; 12], limits: &[Limit; 12]) -> LegTiming
+    ensures { leg_timing_seen result ≡ def.with_x (timings_of delays.now limits.now) }
 {
-    let [d01, d10, d0z, dz1, d1z, dz0, ..] = timing.delays.at;
-    let [l01, l10, l0z, lz1, l1z, lz0, ..] = timing.limits.at;
-    let t01 = Transition {
-        delay: d01,
-        limit: l01,
-    };
-    let t10 = Transition {
-        delay: d10,
-        limit: l10,
-    };
-    let t0z = Transition {
-        delay: d0z,
-        limit: l0z,
-    };
-    let tz1 = Transition {
-        delay: dz1,
-        limit: lz1,
-    };
-    let t1z = Transition {
-        delay: d1z,
-        limit: l1z,
-    };
-    let tz0 = Transition {
-        delay: dz0,
-        limit: lz0,
-    };
+    let t01 = transition_at(delays, limits, 0);
+    let t10 = transition_at(delays, limits, 1);
+    let t0z = transition_at(delays, limits, 2);
+    let tz1 = transition_at(delays, limits, 3);
+    let t1z = transition_at(delays, limits, 4);
+    let tz0 = transition_at(delays, limits, 5);
     let t0x = lesser(t0z, t01);
     let tx1 = greater(tz1, t01);
     let t1x = lesser(t1z, t10);
@@ -116,14 +96,14 @@ fn with_x(timing: &LegTiming) -> LegTiming
     LegTiming {
         delays: Delays12 {
             at: [
-                d01, d10, d0z, dz1, d1z, dz0, t0x.delay, tx1.delay, t1x.delay, tx0.delay,
-                txz.delay, tzx.delay,
+                t01.delay, t10.delay, t0z.delay, tz1.delay, t1z.delay, tz0.delay, t0x.delay,
+                tx1.delay, t1x.delay, tx0.delay, txz.delay, tzx.delay,
             ],
         },
         limits: Limits12 {
             at: [
-                l01, l10, l0z, lz1, l1z, lz0, t0x.limit, tx1.limit, t1x.limit, tx0.limit,
-                txz.limit, tzx.limit,
+                t01.limit, t10.limit, t0z.limit, tz1.limit, t1z.limit, tz0.limit, t0x.limit,
+                tx1.limit, t1x.limit, tx0.limit, txz.limit, tzx.limit,
             ],
         },
     }
@@ -133,7 +113,11 @@ fn with_x(timing: &LegTiming) -> LegTiming
 fn with_x_if(wanted: bool, timing: LegTiming) -> LegTiming
     ensures { leg_timing_seen result ≡ (if wanted then def.with_x (leg_timing_seen timing) else leg_timing_seen timing) }
 {
-    if wanted { with_x(&timing) } else { timing }
+    if wanted {
+        with_x(&timing.delays.at, &timing.limits.at)
+    } else {
+        timing
+    }
 }
 
 // What is given for each change between 0, 1 and z; where something is, those to and from x follow.
