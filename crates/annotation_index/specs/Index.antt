@@ -19,3 +19,7 @@ list_at index owner name = items_in (get_by (λ key. same_key owner name key.0 k
 abbrev pub one_if : Bool → ℕ → List ℕ
 one_if true item = item ∷ []
 one_if false item = []
+
+-- all names that items have are known
+pub record AreNamed (index : Index) : Type 0 where
+  pub each : Unit {0}

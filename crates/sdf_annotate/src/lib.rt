@@ -1,6 +1,8 @@
-//! What annotation of a circuit from an SDF file tells: the type of an entry that nothing matched.
+//! Annotation of a circuit from an SDF file.
 #![tactic(auto)]
 
+mod annotating;
 mod unmatched;
 
-pub use unmatched::Unmatched;
+pub use annotating::annotate;
+pub use unmatched::{AnnotError, Unmatched};

@@ -1,0 +1,59 @@
+// The places that an entry is for.
+ghost use Rattle.std.specs.Prelude.{◌≡◌, IfOk, OnOk, length};
+ghost use Rattle.sdf_meaning.specs.MeantSeen.{view_sdf};
+ghost use Rattle.sdf_tree.specs.Seen.{view_instance};
+ghost use Rattle.sg_circuit.specs.Seen.{circuit_seen};
+ghost use Rattle.annotation_model.specs.Finding.{is_found_check, is_found_spot};
+ghost use Rattle.annotation_model.specs.Listed.{IsListOf};
+ghost use Rattle.annotation_places.specs.Places.{ArePlaces};
+ghost use Rattle.annotation_scopes.specs.Cells.{AreMarked, AreScopesOf};
+ghost use Rattle.annotation_finder.specs.Finding.{AreClear, given_seen};
+
+use annotation_places::Places;
+use annotation_scopes::CellScopes;
+use sdf_tree::{Cell, Entry, Sdf};
+use sg_text::NoMemory;
+use std::alloc::Global;
+
+/// The legs and specify paths that an entry of a cell is for, by number, each once, in no order that is promised. There is a mark for each, which is unset before
+/// and afterwards. Takes time in proportion to what leads to the nets of the port that the entry names.
+pub fn find_spots(
+    alloc: Global,
+    places: &Places<'_>,
+    scopes: &CellScopes,
+    sdf: &Sdf<'_>,
+    cell: &Cell<'_>,
+    entry: &Entry<'_>,
+    marks: &mut [bool],
+) -> Result<Vec<u32>, NoMemory>
+    requires places { ArePlaces places.now }
+    requires marked { AreMarked (length places.now.parts.now.scopes.items) scopes.now }
+    requires scopes { AreScopesOf places.now sdf.now.divider cell.now.cell_type.now (view_instance cell.now.instance) scopes.now }
+    requires mark_of_each { length marks.old ≡ length places.now.spots.items }
+    requires clear { AreClear marks.old }
+    ensures found { IfOk result (λ v. IsListOf (is_found_spot (circuit_seen places.now.parts.now) (view_sdf sdf.now) (given_seen cell.now entry.now)) v.items) }
+    ensures clear { OnOk result (AreClear marks.new) }
+{
+    Err(NoMemory)
+}
+
+/// The timing checks that an entry of a cell is for, likewise.
+pub fn find_checks(
+    alloc: Global,
+    places: &Places<'_>,
+    scopes: &CellScopes,
+    sdf: &Sdf<'_>,
+    cell: &Cell<'_>,
+    entry: &Entry<'_>,
+    marks: &mut [bool],
+) -> Result<Vec<u32>, NoMemory>
+    requires places { ArePlaces places.now }
+    requires marked { AreMarked (length places.now.parts.now.scopes.items) scopes.now }
+    requires scopes { AreScopesOf places.now sdf.now.divider cell.now.cell_type.now (view_instance cell.now.instance) scopes.now }
+    requires mark_of_each { length marks.old ≡ length places.now.parts.now.checks.items }
+    requires clear { AreClear marks.old }
+    ensures found { IfOk result (λ v. IsListOf (is_found_check (circuit_seen places.now.parts.now) (view_sdf sdf.now) (given_seen cell.now entry.now)) v.items) }
+    ensures clear { OnOk result (AreClear marks.new) }
+{
+    Err(NoMemory)
+}

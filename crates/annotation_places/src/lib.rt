@@ -1,0 +1,8 @@
+//! A circuit's legs, specify paths, timing checks, scopes and variables, found by scopes, names and nets.
+#![tactic(auto)]
+
+mod nets;
+mod places;
+
+pub use nets::Role;
+pub use places::Places;
