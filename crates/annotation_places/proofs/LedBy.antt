@@ -1,24 +1,19 @@
 -- The numbers of what leads to a net are those of legs and paths.
-use Rattle.std.specs.Prelude.{◌≡◌, refl, ℕ, ◌+◌, ◌-◌, ◌<◌, ◌≤◌, All, List, [], ◌++◌, length, take, drop, slice_index_or}
-use Rattle.std.specs.List.{flat_map, range_with_len}
+use Rattle.std.specs.Prelude.{◌≡◌, ℕ, ◌+◌, ◌-◌, ◌<◌, ◌≤◌, All, List, [], ◌++◌, length, take, drop, slice_index_or}
+use Rattle.std.specs.List.{flat_map}
 use Rattle.std.proofs.Common.{ap, sym, ◌∙◌, arith, inl, inr}
 use Rattle.std.proofs.lemmas.Bool.{cases_lt}
 use Rattle.std.proofs.lemmas.List.{get_or_past, length-append, take-append-drop}
 use Rattle.std.proofs.lemmas.Grind.{flat_map-append}
-use Rattle.std.proofs.lemmas.List.FromFn.{get_or-range_with_len, length-range_with_len}
 use Rattle.sg_circuit.specs.Circuit.{Circuit, Element, element_at, net_at}
 use Rattle.sg_circuit.specs.Closed.{IsClosed, IfElement}
 use Rattle.sg_circuit.specs.declared.nets.Driver.{Driver}
 use Rattle.sg_circuit.specs.declared.nets.Driver.TheVariants as driver
-use Rattle.annotation_model.specs.Spots.{spots, spots_of}
+use Rattle.annotation_model.specs.Spots.{spots_of}
 use Rattle.annotation_spots.specs.Rows.{AreRows, AreFirsts, spots_before}
 use Rattle.annotation_spots.specs.declared.spots.Spot as code_spot
 use Rattle.annotation_places.specs.Places.{led_by}
-
-range_within : (a n m : ℕ) → a + n ≤ m → All (λ k. k < m) (range_with_len a n)
-range_within a n m h = λ k d l.
-    let e : slice_index_or (range_with_len a n) k d ≡ a + k = get_or-range_with_len a n k d (omega (arith, l, length-range_with_len a n)) in
-    omega (arith, h, l, length-range_with_len a n, e)
+use Rattle.annotation_places.proofs.Turns.{range_within}
 
 before_within : (es : List Element) (e : ℕ) → spots_before es e ≤ length (flat_map spots_of es)
 before_within es e =

@@ -1,8 +1,9 @@
 -- The nets that a name means, from the places of the variables that have it.
-use Rattle.std.specs.Prelude.{◌≡◌, refl, ℕ, ℤ, zero, suc, ◌+◌, ◌<◌, ◌&&◌, bytes_eq, Bool, true, false, List, [], ◌∷◌, ◌++◌, map, length, Option, if◌then◌else◌, slice_index_or}
+use Rattle.std.specs.Prelude.{◌≡◌, refl, ℕ, ℤ, zero, suc, ◌+◌, ◌<◌, ◌&&◌, bytes_eq, All, Bool, true, false, List, [], ◌∷◌, ◌++◌, map, length, Option, if◌then◌else◌, slice_index_or}
 use Rattle.std.specs.List.{filter, flat_map, range_with_len}
-use Rattle.std.proofs.Common.{ap, sym, ◌∙◌, add-one, cond}
-use Rattle.std.proofs.lemmas.List.{get_or-map}
+use Rattle.std.proofs.Common.{ap, sym, ◌∙◌, add-one, arith, cond, subst}
+use Rattle.std.proofs.lemmas.List.{get_or-map, length-map}
+use Rattle.std.proofs.lemmas.List.Elements.{All-filter}
 use Rattle.sg_circuit.specs.Circuit.{Variable, scope_at}
 use Rattle.sg_circuit.specs.Seen.{circuit_seen, scope_seen, variable_seen}
 use Rattle.sg_circuit.specs.declared.circuits.Parts.{Parts}
@@ -12,6 +13,7 @@ use Rattle.sg_circuit.specs.declared.scopes.Port.{Port}
 use Rattle.annotation_model.specs.Ports.{has, bits_of, nets_named}
 use Rattle.annotation_places.specs.Places.{no_variable, variables_of}
 use Rattle.annotation_places.specs.Nets.{meant_of, meant_at}
+use Rattle.annotation_places.proofs.Turns.{range_within}
 
 -- what a place gives, one further on in a longer list
 next : {A : Type 0} (f : Variable → A) (v : Variable) (vs : List Variable) (k : ℕ) → f (slice_index_or (v ∷ vs) (k + 1) no_variable) ≡ f (slice_index_or vs k no_variable)
@@ -25,7 +27,7 @@ shifted {A} test next_test f next_f t e a (suc n) = ap (λ b. flat_map next_f (c
   where
     by : (b : Bool) → flat_map next_f (filter next_test (range_with_len (a + 1 + 1) n)) ≡ flat_map f (filter test (range_with_len (a + 1) n))
         → flat_map next_f (cond b ((a + 1) ∷ filter next_test (range_with_len (a + 1 + 1) n)) (filter next_test (range_with_len (a + 1 + 1) n)))
-          ≡ flat_map f (cond b (a ∷ filter test (range_with_len (a + 1) n)) (filter test (range_with_len (a + 1) n)))
+        ≡ flat_map f (cond b (a ∷ filter test (range_with_len (a + 1) n)) (filter test (range_with_len (a + 1) n)))
     by true rest = ap (λ xs. xs ++ flat_map next_f (filter next_test (range_with_len (a + 1 + 1) n))) (e a) ∙ ap (λ ys. f a ++ ys) rest
     by false rest = rest
 
@@ -49,7 +51,7 @@ named_are kind bit name (v ∷ vs) = by (bytes_eq v.name name) (named_are kind b
 
     by : (b : Bool) → flat_map (given kind bit vs) (filter (is_named name vs) (range_with_len 0 (length vs))) ≡ nets_named kind vs name bit
         → flat_map (given kind bit all) (cond b (0 ∷ filter (is_named name all) (range_with_len 1 (length vs))) (filter (is_named name all) (range_with_len 1 (length vs))))
-          ≡ (if b && kind v.port then bits_of v bit else []) ++ nets_named kind vs name bit
+        ≡ (if b && kind v.port then bits_of v bit else []) ++ nets_named kind vs name bit
     by true e = ap (λ xs. meant_of kind bit v ++ xs) (rest ∙ e)
     by false e = rest ∙ e
 
@@ -66,11 +68,27 @@ tested kind bit vs place net v given test answer l e g t a = sym (t ∙ ap (has 
 scope_is : (parts : Parts) (scope : ℕ) (s : code_scope.Scope) → scope < length parts.scopes.items → s ≡ slice_index_or parts.scopes.items scope s → scope_seen s ≡ scope_at (circuit_seen parts) scope
 scope_is parts scope s l e = ap (λ t. scope_seen t) e ∙ sym (get_or-map (λ t. scope_seen t) parts.scopes.items scope s _ l)
 
--- the same of the variables of a scope, by the places that an index gives
+-- the variables of a scope, as the code has them
+variables_are : (parts : Parts) (scope : ℕ) (s : code_scope.Scope) (variables : List code_variable.Variable) → scope < length parts.scopes.items → s ≡ slice_index_or parts.scopes.items scope s
+    → variables ≡ s.variables.items → map (λ v. variable_seen v) variables ≡ (scope_at (circuit_seen parts) scope).variables
+variables_are parts scope s variables l e v = ap (map (λ v. variable_seen v)) v ∙ ap (λ t. t.variables) (scope_is parts scope s l e)
+
+-- the same of these, by the places that an index gives
 pub meant_in : (parts : Parts) (scope : ℕ) (kind : Port → Bool) (name : List ℕ) (bit : Option ℤ) (s : code_scope.Scope) (variables : List code_variable.Variable) (places : List ℕ)
     → scope < length parts.scopes.items → s ≡ slice_index_or parts.scopes.items scope s → variables ≡ s.variables.items → places ≡ variables_of (circuit_seen parts) scope name
     → flat_map (meant_at kind bit variables) places ≡ nets_named kind (scope_at (circuit_seen parts) scope).variables name bit
 meant_in parts scope kind name bit s variables places l e v p =
     let all : List Variable = (scope_at (circuit_seen parts) scope).variables in
-    let same : map (λ v. variable_seen v) variables ≡ all = ap (map (λ v. variable_seen v)) v ∙ ap (λ t. t.variables) (scope_is parts scope s l e) in
-    ap (flat_map (meant_at kind bit variables)) p ∙ ap (λ vs. flat_map (given kind bit vs) (filter (is_named name all) (range_with_len 0 (length all)))) same ∙ named_are kind bit name all
+    ap (flat_map (meant_at kind bit variables)) p
+    ∙ ap (λ vs. flat_map (given kind bit vs) (filter (is_named name all) (range_with_len 0 (length all)))) (variables_are parts scope s variables l e v)
+    ∙ named_are kind bit name all
+
+-- these places are among theirs
+pub places_within : (parts : Parts) (scope : ℕ) (name : List ℕ) (s : code_scope.Scope) (variables : List code_variable.Variable) (places : List ℕ)
+    → scope < length parts.scopes.items → s ≡ slice_index_or parts.scopes.items scope s → variables ≡ s.variables.items → places ≡ variables_of (circuit_seen parts) scope name
+    → All (λ place. place < length variables) places
+places_within parts scope name s variables places l e v p =
+    let all : List Variable = (scope_at (circuit_seen parts) scope).variables in
+    let count : length variables ≡ length all = sym (length-map variables (λ v. variable_seen v)) ∙ ap length (variables_are parts scope s variables l e v) in
+    subst (λ xs. All (λ place. place < length variables) xs) (sym p)
+    (All-filter (is_named name all) (λ place. place < length variables) (range_with_len 0 (length all)) (range_within 0 (length all) (length variables) (omega (arith, count))))

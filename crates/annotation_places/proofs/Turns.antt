@@ -1,8 +1,9 @@
 -- Loops that add lists one after another, or look through them.
-use Rattle.std.specs.Prelude.{◌≡◌, refl, ℕ, suc, ◌+◌, ◌-◌, ◌<◌, ◌≤◌, ◌==◌, ◌||◌, nat_eq, Bool, true, false, List, [], ◌∷◌, ◌++◌, length, drop, slice_index_or}
+use Rattle.std.specs.Prelude.{◌≡◌, refl, ℕ, suc, ◌+◌, ◌-◌, ◌<◌, ◌≤◌, ◌==◌, ◌||◌, nat_eq, All, Bool, true, false, List, [], ◌∷◌, ◌++◌, length, drop, slice_index_or}
 use Rattle.std.specs.List.{flat_map, list_any, range_with_len}
 use Rattle.std.proofs.Common.{ap, sym, ◌∙◌, arith, append_assoc}
 use Rattle.std.proofs.lemmas.List.{append-nil, drop_all, drop_more}
+use Rattle.std.proofs.lemmas.List.FromFn.{get_or-range_with_len, length-range_with_len}
 use Rattle.annotation_model.specs.Ports.{has}
 
 -- what one gives is there, and less is left
@@ -27,6 +28,12 @@ pub numbers_added : (k end : ℕ) (old total : List ℕ) → end ≤ k → old +
 numbers_added k end old total l h =
     let e : end - k ≡ 0 = omega arith in
     sym (append-nil old) ∙ ap (λ m. old ++ range_with_len k m) (sym e) ∙ h
+
+-- numbers from one on are below a bound
+pub range_within : (a n m : ℕ) → a + n ≤ m → All (λ k. k < m) (range_with_len a n)
+range_within a n m h = λ k d l.
+    let e : slice_index_or (range_with_len a n) k d ≡ a + k = get_or-range_with_len a n k d (omega (arith, l, length-range_with_len a n)) in
+    omega (arith, h, l, length-range_with_len a n, e)
 
 -- ---- whether a number is among them
 

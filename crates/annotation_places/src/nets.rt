@@ -65,13 +65,7 @@ fn add_meant(
 }
 
 // Whether a net is one of them.
-fn has_meant(
-    variables: &[Variable],
-    places: &[u32],
-    role: Role,
-    bit: Option<i64>,
-    net: u32,
-) -> bool
+fn has_meant(variables: &[Variable], places: &[u32], role: Role, bit: Option<i64>, net: u32) -> bool
     requires { All (λ place. place < length variables.now) places.now }
     ensures { result ≡ has net (flat_map (meant_at (role_seen role) bit variables.now) places.now) }
 {
@@ -98,7 +92,13 @@ impl Places<'_> {
         ensures { OnOk result (nets.new.items ≡ nets.old.items ++ nets_named (role_seen role) (scope_at (circuit_seen self.now.parts.now) scope).variables name.now bit) }
     {
         let variables = &self.parts.scopes[scope as usize].variables;
-        add_meant(variables, self.variables_named(scope, name), role, bit, nets)
+        add_meant(
+            variables,
+            self.variables_named(scope, name),
+            role,
+            bit,
+            nets,
+        )
     }
 
     /// Whether a net is one of these.

@@ -1,6 +1,6 @@
 -- Numbers of legs and paths alone lead to a net.
 use Rattle.sg_circuit.specs.Seen.{circuit_seen}
-use Rattle.annotation_places.proofs.LedBy.{led_within, has_numbers}
+use Rattle.annotation_places.proofs.LedBy.{led_within}
 use Rattle.annotation_places.proofs.places.Places.add_leading.Goals as goal
 
 pub returns-clause-within : goal.returns-clause-within
