@@ -13,3 +13,7 @@ given_seen cell entry = record { cell_type = cell.cell_type.now; instance = view
 -- no mark is set
 abbrev pub AreClear : List Bool → Type 0
 AreClear marks = (k : ℕ) → slice_index_or marks k false ≡ false
+
+-- whether a number is marked
+abbrev pub is_marked : List Bool → ℕ → Bool
+is_marked marks k = slice_index_or marks k false
