@@ -6,3 +6,4 @@ mod LegLaws
 mod MarkLaws
 mod PortLaws
 mod SearchLaws
+mod SpotLaws

@@ -1,6 +1,6 @@
 -- Marks that are unset.
 use Rattle.std.specs.Prelude.{◌≡◌, ◌≢◌, refl, ℕ, ◌+◌, ◌<◌, ◌≤◌, ◌==◌, ◌&&◌, ◌||◌, not, nat_lt, Bool, true, false, if◌then◌else◌, All, List, [], ◌∷◌, ◌++◌, length, take, slice_index_or, slice_set}
-use Rattle.std.proofs.Common.{ap, sym, ◌∙◌, arith, inl, inr}
+use Rattle.std.proofs.Common.{ap, sym, ◌∙◌, subst, arith, inl, inr}
 use Rattle.std.proofs.lemmas.Bool.{cases_eq}
 use Rattle.std.proofs.lemmas.Bool.Decides.{nat_tests}
 use Rattle.std.proofs.lemmas.List.{get_or-set_same, get_or-set_other, get_or_past, take_more, take_all}
@@ -9,7 +9,7 @@ use Rattle.annotation_model.specs.Listed.{occurrences}
 use Rattle.annotation_model.specs.Ports.{has}
 use Rattle.annotation_model.proofs.ListedLaws.{test_same, test_other, occurs_at, occurs_later, occurs_here}
 use Rattle.annotation_index.specs.Picking.{ArePicked}
-use Rattle.annotation_index.proofs.PickLaws.{has-append}
+use Rattle.annotation_index.proofs.PickLaws.{has-append, picked_none}
 
 -- the marks of a table without those of places
 abbrev pub AreUnset : (old : List Bool) → (places : List ℕ) → (new : List Bool) → Type 0
@@ -103,3 +103,13 @@ picked-unset test seen marks found new h unset k = unset k ∙ by (has k seen &&
         let one : occurrences k found ≡ 1 = h.each k ∙ ap (λ b. if b then 1 else 0) e in
         ap (λ b. slice_index_or marks k false && not b) (has-occurring k found (omega (arith, one))) ∙ and-false (slice_index_or marks k false)
     by false e = ap (λ b. b && not (has k found)) (h.marked k ∙ e)
+
+-- ---- from no mark on
+
+picked-from : (test : ℕ → Bool) (marks : List Bool) (found : List ℕ) → ((k : ℕ) → slice_index_or marks k false ≡ false) → found ≡ [] → ArePicked test [] marks found
+picked-from test marks found clear e = subst (λ ks. ArePicked test [] marks ks) (sym e) (picked_none test marks clear)
+
+-- what was picked, where a call tells what is so behind all that was seen before
+pub picked_of : (test : ℕ → Bool) (candidates first found : List ℕ) (old new : List Bool) → ((k : ℕ) → slice_index_or old k false ≡ false) → first ≡ []
+    → ((seen : List ℕ) → ArePicked test seen old first → ArePicked test (seen ++ candidates) new found) → ArePicked test candidates new found
+picked_of test candidates first found old new clear e h = h [] (picked-from test old first clear e)

@@ -65,7 +65,7 @@ events_fit c s t timing written = event_fits c s t.refer timing.refer written.re
 
 -- in a cell that is told by a test of scopes
 abbrev pub check_fits : Circuit → (ℕ → Bool) → CellCheck → SoughtTerminals → Checked → Bool
-check_fits c cell check t k = cell k.check.scope && events_fit c k.check.scope t k.timing k.written && is_given (limits_for check k.timing.kind)
+check_fits c cell check t k = cell k.check.scope && (events_fit c k.check.scope t k.timing k.written && is_given (limits_for check k.timing.kind))
 
 -- whether the one of a number does, where scopes are marked
 abbrev pub check_passes : Circuit → List Bool → CellCheck → SoughtTerminals → ℕ → Bool

@@ -1,5 +1,5 @@
 // Which timing checks are what an entry asks for.
-ghost use Rattle.std.specs.Prelude.{◌≡◌, ◌<◌, IfSome, length};
+ghost use Rattle.std.specs.Prelude.{◌≡◌, ◌<◌, ◌&&◌, IfSome, length};
 ghost use Rattle.sdf_meaning.specs.MeantSeen.{view_cell_check};
 ghost use Rattle.sg_circuit.specs.ChecksSeen.{AreWritten, text_at, written_seen};
 ghost use Rattle.sg_circuit.specs.Seen.{circuit_seen};
@@ -51,8 +51,16 @@ fn fit_events(
     requires written { AreWritten (length places.now.parts.now.conditions.items) written.now }
     ensures { result ≡ events_fit (circuit_seen places.now.parts.now) scope (terminals_seen terminals.now) timing.now (written_seen places.now.parts.now.conditions.items written.now) }
 {
-    terminals.refer.fits(places, scope, &timing.refer, written.refer)
-        && fits_datum(places, &terminals.datum, scope, &timing.datum, written.datum)
+    terminals
+        .refer
+        .fits(places, scope, &timing.refer, written.refer)
+        && fits_datum(
+            places,
+            &terminals.datum,
+            scope,
+            &timing.datum,
+            written.datum,
+        )
 }
 
 // Whether an entry's check gives a limit to a check of a kind.
@@ -61,6 +69,23 @@ fn gives_limit(check: &CellCheck<'_>, kind: CheckKind) -> bool
 {
     let (first, second) = limits_for(check, kind);
     first.is_some() || second.is_some()
+}
+
+// Whether a check of a scope, by what it looks for and how its conditions are spelled, is what is asked for.
+fn fits_check(
+    places: &Places<'_>,
+    check: &CellCheck<'_>,
+    terminals: &Terminals,
+    scope: u32,
+    timing: &CheckTiming,
+    written: &CheckConditions,
+) -> bool
+    requires places { ArePlaces places.now }
+    requires scope { scope < length places.now.parts.now.scopes.items }
+    requires written { AreWritten (length places.now.parts.now.conditions.items) written.now }
+    ensures { result ≡ (events_fit (circuit_seen places.now.parts.now) scope (terminals_seen terminals.now) timing.now (written_seen places.now.parts.now.conditions.items written.now) && is_given (matching.limits_for (view_cell_check check.now) timing.now.kind)) }
+{
+    fit_events(places, terminals, scope, timing, written) && gives_limit(check, timing.kind)
 }
 
 /// Whether a timing check is what an entry's check asks for in a cell.
@@ -84,8 +109,16 @@ impl Test for CheckTest<'_, '_, '_> {
         let check = &parts.checks[place as usize];
         let timing = &parts.check_timings[place as usize];
         let written = &parts.check_conditions[place as usize];
-        self.cell.marks[check.scope as usize]
-            && fit_events(self.places, self.terminals, check.scope, timing, written)
-            && gives_limit(self.check, timing.kind)
+        if !self.cell.marks[check.scope as usize] {
+            return false;
+        }
+        fits_check(
+            self.places,
+            self.check,
+            self.terminals,
+            check.scope,
+            timing,
+            written,
+        )
     }
 }

@@ -13,11 +13,10 @@ ghost use Rattle.annotation_finder.specs.Finding.{AreClear, given_seen};
 
 use crate::candidates::{check_candidates, spot_candidates};
 use crate::check_tests::CheckTest;
-use crate::marks::unset;
+use crate::marks::pick_each;
 use crate::sought::Sought;
 use crate::spot_tests::SpotTest;
 use crate::terminals::Terminals;
-use annotation_index::pick;
 use annotation_places::Places;
 use annotation_scopes::CellScopes;
 use sdf_tree::{Cell, CellCheck, Divider, Entry, EntryKind, Sdf};
@@ -50,10 +49,7 @@ pub fn find_spots(
         cell: scopes,
         sought: &sought,
     };
-    let mut found = Vec::new(alloc);
-    pick(&test, &candidates, marks, &mut found)?;
-    unset(marks, &found);
-    Ok(found)
+    pick_each(alloc, &test, &candidates, marks)
 }
 
 // The timing checks of a cell that an entry's check is for.
@@ -80,10 +76,7 @@ fn find_checks_for(
         check,
         terminals: &terminals,
     };
-    let mut found = Vec::new(alloc);
-    pick(&test, &candidates, marks, &mut found)?;
-    unset(marks, &found);
-    Ok(found)
+    pick_each(alloc, &test, &candidates, marks)
 }
 
 /// The timing checks that an entry of a cell is for, likewise.

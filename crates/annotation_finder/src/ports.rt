@@ -23,11 +23,7 @@ pub struct NamedPort {
 
 impl NamedPort {
     /// What an entry names. Takes memory.
-    pub fn of(
-        alloc: Global,
-        divider: Divider,
-        port: &Port<'_>,
-    ) -> Result<NamedPort, NoMemory>
+    pub fn of(alloc: Global, divider: Divider, port: &Port<'_>) -> Result<NamedPort, NoMemory>
         ensures { IfOk result (λ named_port. named_seen named_port ≡ named divider (view_port port.now)) }
     {
         let mut path = called_names(alloc, divider, port.path)?;

@@ -77,11 +77,7 @@ fn between(
     })
 }
 
-fn of_device(
-    alloc: Global,
-    divider: Divider,
-    output: &Option<Port<'_>>,
-) -> Result<Sought, NoMemory>
+fn of_device(alloc: Global, divider: Divider, output: &Option<Port<'_>>) -> Result<Sought, NoMemory>
     ensures { IfOk result (λ sought. sought_seen sought ≡ search.for_device divider (option_map view_port output.now)) }
 {
     match output {
@@ -90,11 +86,7 @@ fn of_device(
     }
 }
 
-fn between_ports(
-    alloc: Global,
-    divider: Divider,
-    ports: &PortPair<'_>,
-) -> Result<Sought, NoMemory>
+fn between_ports(alloc: Global, divider: Divider, ports: &PortPair<'_>) -> Result<Sought, NoMemory>
     ensures { IfOk result (λ sought. sought_seen sought ≡ search.between (named divider (view_port ports.now.from)) None (named divider (view_port ports.now.to)) always) }
 {
     let from = NamedPort::of(alloc, divider, &ports.from)?;

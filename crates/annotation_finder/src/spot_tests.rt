@@ -1,5 +1,5 @@
 // Which legs and paths are what an entry asks for.
-ghost use Rattle.std.specs.Prelude.{◌≡◌, ◌<◌, length};
+ghost use Rattle.std.specs.Prelude.{◌≡◌, ◌<◌, ◌&&◌, length};
 ghost use Rattle.sg_circuit.specs.PathsSeen.{IsIndexedCondition, path_seen};
 ghost use Rattle.sg_circuit.specs.Seen.{circuit_seen};
 ghost use Rattle.annotation_model.specs.Matching as matching;
@@ -52,6 +52,27 @@ fn fits_path(places: &Places<'_>, sought: &Sought, scope: u32, output: u32, path
         Sought::AllPaths => true,
         Sought::ToInput(_) | Sought::Connecting { .. } | Sought::Nothing => false,
     }
+}
+
+// Whether it is, and the scope is one of the cell's.
+fn fits_path_of(
+    places: &Places<'_>,
+    cell: &CellScopes,
+    sought: &Sought,
+    scope: u32,
+    output: u32,
+    path: &Path,
+) -> bool
+    requires places { ArePlaces places.now }
+    requires marked { AreMarked (length places.now.parts.now.scopes.items) cell.now }
+    requires scope { scope < length places.now.parts.now.scopes.items }
+    requires condition { IsIndexedCondition (length places.now.parts.now.conditions.items) path.now.condition }
+    ensures { result ≡ (is_marked cell.now.marks.items scope && path_fits (circuit_seen places.now.parts.now) (sought_seen sought.now) scope output (path_seen places.now.parts.now.conditions.items places.now.parts.now.leg_timings.items path.now)) }
+{
+    if !cell.marks[scope as usize] {
+        return false;
+    }
+    fits_path(places, sought, scope, output, path)
 }
 
 // Whether a leg from a net to another of a scope is asked for, and the scope below which that is named is one of the cell's.
@@ -112,8 +133,14 @@ impl SpotTest<'_, '_> {
             ),
             ElementKind::Path { paths, .. } => {
                 let path = &parts.paths_in(paths)[spot.path as usize];
-                self.cell.marks[element.scope as usize]
-                    && fits_path(self.places, self.sought, element.scope, element.output, path)
+                fits_path_of(
+                    self.places,
+                    self.cell,
+                    self.sought,
+                    element.scope,
+                    element.output,
+                    path,
+                )
             }
             _ => false,
         }

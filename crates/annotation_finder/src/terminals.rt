@@ -102,11 +102,7 @@ impl Terminals {
     }
 
     // Of a check of one.
-    fn of_one(
-        alloc: Global,
-        divider: Divider,
-        refer: &Terminal<'_>,
-    ) -> Result<Terminals, NoMemory>
+    fn of_one(alloc: Global, divider: Divider, refer: &Terminal<'_>) -> Result<Terminals, NoMemory>
         ensures { IfOk result (λ own. terminals_seen own ≡ terminals_with divider (view_terminal refer.now) None) }
     {
         let named_refer = NamedTerminal::of(alloc, divider, refer)?;
@@ -153,11 +149,7 @@ impl Terminals {
     }
 
     /// Of an entry's timing check. Takes memory.
-    pub fn of(
-        alloc: Global,
-        divider: Divider,
-        check: &CellCheck<'_>,
-    ) -> Result<Terminals, NoMemory>
+    pub fn of(alloc: Global, divider: Divider, check: &CellCheck<'_>) -> Result<Terminals, NoMemory>
         ensures { IfOk result (λ own. terminals_seen own ≡ terminals_for divider (view_cell_check check.now)) }
     {
         match check {

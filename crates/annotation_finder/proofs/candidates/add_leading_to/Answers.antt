@@ -24,6 +24,6 @@ returns c = record {
   items = gathered-all (lookups_of c.args.places.now).leading c.args.found.now.items c.deref-net-items.result.now c.loop-net.net-index c.loop-net.found.items c.loop-net-test.false
       c.loop-net.invariant.items
       ∙ ap (λ nets. c.args.found.now.items ++ flat_map (lookups_of c.args.places.now).leading nets) (named-first (λ name. nets_named (role_seen c.args.role) (scope_at (circuit_seen c.args.places.now.parts.now) c.args.scope).variables name c.args.port.now.bit)
-          c.deref-net-items.result.now c.add_nets.new.nets.items c.new-nets.result.items c.args.port.now.name.items c.deref.result.now c.deref-net-items.ensures.value c.in_ok-add_nets.ensures c.new-nets.ensures.items c.deref.ensures.value);
+      c.deref-net-items.result.now c.add_nets.new.nets.items c.new-nets.result.items c.args.port.now.name.items c.deref.result.now c.deref-net-items.ensures.value c.in_ok-add_nets.ensures c.new-nets.ensures.items c.deref.ensures.value);
   within = c.loop-net.invariant.within;
 }

@@ -26,7 +26,7 @@ returns-then-not-is_empty-clause-items c =
     c.new-found.ensures.items
     ∙ sym (nothing-of (λ s. flat_map (lookups_of c.args.places.now).referring (own_nets (circuit_seen c.args.places.now.parts.now) is_any s (named_seen c.args.port.now).names c.args.port.now.bit)) c.args.scopes.now
     (λ s. ap (flat_map (lookups_of c.args.places.now).referring)
-        (not_own (circuit_seen c.args.places.now.parts.now) is_any s c.args.port.now.name.items c.args.port.now.path.items c.args.port.now.bit c.args.port.now.path.len c.is_empty.result c.args.port.now.path.ok.0 c.is_empty.ensures c.if-not-is_empty.true)))
+    (not_own (circuit_seen c.args.places.now.parts.now) is_any s c.args.port.now.name.items c.args.port.now.path.items c.args.port.now.bit c.args.port.now.path.len c.is_empty.result c.args.port.now.path.ok.0 c.is_empty.ensures c.if-not-is_empty.true)))
 
 pub returns : goal.returns
 returns c = record {
@@ -35,6 +35,6 @@ returns c = record {
       ∙ same-of (λ s. flat_map (lookups_of c.args.places.now).referring (nets_named is_any (scope_at (circuit_seen c.args.places.now.parts.now) s).variables c.args.port.now.name.items c.args.port.now.bit))
       (λ s. flat_map (lookups_of c.args.places.now).referring (own_nets (circuit_seen c.args.places.now.parts.now) is_any s (named_seen c.args.port.now).names c.args.port.now.bit)) c.args.scopes.now
       (λ s. ap (flat_map (lookups_of c.args.places.now).referring)
-          (sym (is_own (circuit_seen c.args.places.now.parts.now) is_any s c.args.port.now.name.items c.args.port.now.path.items c.args.port.now.bit c.args.port.now.path.len c.is_empty.result c.args.port.now.path.ok.0 c.is_empty.ensures c.if-not-is_empty.false)));
+      (sym (is_own (circuit_seen c.args.places.now.parts.now) is_any s c.args.port.now.name.items c.args.port.now.path.items c.args.port.now.bit c.args.port.now.path.len c.is_empty.result c.args.port.now.path.ok.0 c.is_empty.ensures c.if-not-is_empty.false)));
   within = c.loop-scope.invariant.within;
 }

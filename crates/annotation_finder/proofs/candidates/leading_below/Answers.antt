@@ -18,5 +18,5 @@ returns-clause-items c = IfOk-weaker c.leading_to.result
     (λ (found : Vec ℕ). found.items ≡ flat_map (λ s. flat_map (lookups_of c.args.places.now).leading (nets_named is_input (scope_at (circuit_seen c.args.places.now.parts.now) s).variables c.args.port.now.name.items c.args.port.now.bit)) c.deref-2.result.now)
     (λ (found : Vec ℕ). found.items ≡ to_named (circuit_seen c.args.places.now.parts.now) (lookups_of c.args.places.now) (named_seen c.args.port.now).names c.args.port.now.bit c.args.scopes.now)
     (λ found e. e ∙ ap (flat_map (λ s. flat_map (lookups_of c.args.places.now).leading (nets_named is_input (scope_at (circuit_seen c.args.places.now.parts.now) s).variables c.args.port.now.name.items c.args.port.now.bit)))
-        (c.deref-2.ensures.value ∙ (c.in_ok-below.ensures.items ∙ scopes_named (lookups_of c.args.places.now) c.deref.result.now c.args.port.now.path.items c.args.scopes.now c.deref.ensures.value)))
+    (c.deref-2.ensures.value ∙ (c.in_ok-below.ensures.items ∙ scopes_named (lookups_of c.args.places.now) c.deref.result.now c.args.port.now.path.items c.args.scopes.now c.deref.ensures.value)))
     c.leading_to.ensures.items

@@ -18,12 +18,12 @@ returns-then-not-is_empty-clause-items c =
     c.new.ensures.items
     ∙ sym (nothing-of (λ s. flat_map (lookups_of c.args.places.now).leading (own_nets (circuit_seen c.args.places.now.parts.now) is_output s (named_seen c.args.port.now).names c.args.port.now.bit)) c.args.scopes.now
     (λ s. ap (flat_map (lookups_of c.args.places.now).leading)
-        (not_own (circuit_seen c.args.places.now.parts.now) is_output s c.args.port.now.name.items c.args.port.now.path.items c.args.port.now.bit c.args.port.now.path.len c.is_empty.result c.args.port.now.path.ok.0 c.is_empty.ensures c.if-not-is_empty.true)))
+    (not_own (circuit_seen c.args.places.now.parts.now) is_output s c.args.port.now.name.items c.args.port.now.path.items c.args.port.now.bit c.args.port.now.path.len c.is_empty.result c.args.port.now.path.ok.0 c.is_empty.ensures c.if-not-is_empty.true)))
 
 pub returns-clause-items : goal.returns-clause-items
 returns-clause-items c = IfOk-weaker c.leading_to.result (λ (found : Vec ℕ). found.items ≡ flat_map (λ s. flat_map (lookups_of c.args.places.now).leading (nets_named is_output (scope_at (circuit_seen c.args.places.now.parts.now) s).variables c.args.port.now.name.items c.args.port.now.bit)) c.args.scopes.now)
     (λ (found : Vec ℕ). found.items ≡ leading_to (circuit_seen c.args.places.now.parts.now) (lookups_of c.args.places.now) (named_seen c.args.port.now) c.args.scopes.now)
     (λ found e. e ∙ same-of (λ s. flat_map (lookups_of c.args.places.now).leading (nets_named is_output (scope_at (circuit_seen c.args.places.now.parts.now) s).variables c.args.port.now.name.items c.args.port.now.bit))
-      (λ s. flat_map (lookups_of c.args.places.now).leading (own_nets (circuit_seen c.args.places.now.parts.now) is_output s (named_seen c.args.port.now).names c.args.port.now.bit)) c.args.scopes.now
-      (λ s. ap (flat_map (lookups_of c.args.places.now).leading)
-          (sym (is_own (circuit_seen c.args.places.now.parts.now) is_output s c.args.port.now.name.items c.args.port.now.path.items c.args.port.now.bit c.args.port.now.path.len c.is_empty.result c.args.port.now.path.ok.0 c.is_empty.ensures c.if-not-is_empty.false)))) c.leading_to.ensures.items
+    (λ s. flat_map (lookups_of c.args.places.now).leading (own_nets (circuit_seen c.args.places.now.parts.now) is_output s (named_seen c.args.port.now).names c.args.port.now.bit)) c.args.scopes.now
+    (λ s. ap (flat_map (lookups_of c.args.places.now).leading)
+    (sym (is_own (circuit_seen c.args.places.now.parts.now) is_output s c.args.port.now.name.items c.args.port.now.path.items c.args.port.now.bit c.args.port.now.path.len c.is_empty.result c.args.port.now.path.ok.0 c.is_empty.ensures c.if-not-is_empty.false)))) c.leading_to.ensures.items

@@ -12,10 +12,10 @@ pub loop-scope-preserved : goal.loop-scope-preserved
 loop-scope-preserved c =
     let e = c.in_ok-extend_from_slice.ensures.items ∙ ap (λ ks. c.loop-scope.found.items ++ ks) c.standing.ensures.items in
     record {
-  items = gathered-more (lookups_of c.args.places.now).standing [] c.args.scopes.now c.loop-scope.scope-index 0
-      c.loop-scope.found.items c.extend_from_slice.new.self.items c.loop-scope-test.true c.loop-scope.invariant.items e;
-  within = all-more (λ k. k < length c.args.places.now.spots.items) c.loop-scope.found.items c.standing.result.now c.extend_from_slice.new.self.items c.in_ok-extend_from_slice.ensures.items c.loop-scope.invariant.within c.standing.ensures.within;
-}
+      items = gathered-more (lookups_of c.args.places.now).standing [] c.args.scopes.now c.loop-scope.scope-index 0
+          c.loop-scope.found.items c.extend_from_slice.new.self.items c.loop-scope-test.true c.loop-scope.invariant.items e;
+      within = all-more (λ k. k < length c.args.places.now.spots.items) c.loop-scope.found.items c.standing.result.now c.extend_from_slice.new.self.items c.in_ok-extend_from_slice.ensures.items c.loop-scope.invariant.within c.standing.ensures.within;
+    }
 
 pub returns : goal.returns
 returns c = record {
