@@ -31,6 +31,15 @@ pub gives_stop : {X Y A B : Type 0} {view : X → A} {whole : Y → B} {first : 
     → Gives view first (Err s) → Gives whole (Then first next) (Err s)
 gives_stop {X} {Y} {A} {B} {view} {whole} {first} {next} {s} h = record { outcome = stop_outcome view whole first next s h.outcome }
 
+stop_again : {X Y A : Type 0} (view : X → A) (whole : Y → A) (phase : Result A Refusal → Type 0) (s : code_stop.Stop) → IfOutcome view phase (Err s) → IfOutcome whole phase (Err s)
+stop_again view whole phase (stop.Refused r) h = h
+stop_again view whole phase stop.Failed h = tt
+stop_again view whole phase stop.NoMemory h = tt
+
+-- a phase that stops, stops so however its values are seen
+pub gives_again : {X Y A : Type 0} {view : X → A} {whole : Y → A} {phase : Result A Refusal → Type 0} {s : code_stop.Stop} → Gives view phase (Err s) → Gives whole phase (Err s)
+gives_again {X} {Y} {A} {view} {whole} {phase} {s} h = record { outcome = stop_again view whole phase s h.outcome }
+
 -- after a phase that gave a value, what the rest gives is what is composed of both
 pub gives_then : {X Y A B : Type 0} {view : X → A} {whole : Y → B} {first : Result A Refusal → Type 0} {next : A → Result B Refusal → Type 0} {x : X} {o : Result Y code_stop.Stop}
     → Gives view first (Ok x) → Gives whole (next (view x)) o → Gives whole (Then first next) o
@@ -57,7 +66,8 @@ failed_again X Y P Q stop.NoMemory f h = tt
 
 netlist_among : (c : Command) (before after : List (List ℕ)) (name : List ℕ) → c.netlists ≡ before ++ name ∷ after → Contains (names_in (Some c)) name
 netlist_among c before after name e =
-    Contains-append_left c.netlists (option_to_list c.sdf ++ c.stimulus ∷ c.vcd ∷ []) name (subst (λ ns. Contains ns name) (sym e) (Contains-append_right before (name ∷ after) name (0, omega arith, refl)))
+    Contains-append_left (c.netlists ++ option_to_list c.sdf) (c.stimulus ∷ c.vcd ∷ []) name
+    (Contains-append_left c.netlists (option_to_list c.sdf) name (subst (λ ns. Contains ns name) (sym e) (Contains-append_right before (name ∷ after) name (0, omega arith, refl))))
 
 -- a failure on a file of the netlist
 pub failed_at_netlist : (X Y : Type 0) (ws : List (List ℕ)) (old new : Option (List File)) (last : Option (List ℕ)) (c : Command) (s : code_stop.Stop)
@@ -72,11 +82,11 @@ failed_at_netlist X Y ws old new last c s e k h = failed_again X Y (FailsAtOne c
 
 sdf_among : (c : Command) (name : List ℕ) → c.sdf ≡ Some name → Contains (names_in (Some c)) name
 sdf_among c name e =
-    Contains-append_right c.netlists (option_to_list c.sdf ++ c.stimulus ∷ c.vcd ∷ []) name
-    (subst (λ o. Contains (option_to_list o ++ c.stimulus ∷ c.vcd ∷ []) name) (sym e) (0, lit< tt, refl))
+    Contains-append_left (c.netlists ++ option_to_list c.sdf) (c.stimulus ∷ c.vcd ∷ []) name
+    (Contains-append_right c.netlists (option_to_list c.sdf) name (subst (λ o. Contains (option_to_list o) name) (sym e) (0, lit< tt, refl)))
 
 last_among : (c : Command) (name : List ℕ) → Contains (c.stimulus ∷ c.vcd ∷ []) name → Contains (names_in (Some c)) name
-last_among c name h = Contains-append_right c.netlists (option_to_list c.sdf ++ c.stimulus ∷ c.vcd ∷ []) name (Contains-append_right (option_to_list c.sdf) (c.stimulus ∷ c.vcd ∷ []) name h)
+last_among c name h = Contains-append_right (c.netlists ++ option_to_list c.sdf) (c.stimulus ∷ c.vcd ∷ []) name h
 
 pub dump_among : (c : Command) (name : List ℕ) → name ≡ c.vcd → Contains (names_in (Some c)) name
 dump_among c name e = last_among c name (1, lit< tt, sym e)

@@ -10,10 +10,10 @@ use Rattle.sdf_read.proofs.OneOutcome.{reads_once}
 use Rattle.sdf_read.specs.Outcomes.{Fault}
 use Rattle.sdf_tree.specs.Meant.{Sdf}
 use Rattle.stim_read.proofs.OnceLaws as stimulus
-use Rattle.annotation_model.specs.Annotated.{too_large}
 use Rattle.run_words.specs.Words.{Command, command_of}
 use Rattle.signoff_top.specs.Answer.{Answer, IsAnswer, answer_of}
-use Rattle.signoff_top.specs.Phases.{Refusal, Then, stops, goes_on, Task, TaskOutcome, status_of_refusal}
+use Rattle.wave_out.specs.Report.{Unmatched}
+use Rattle.signoff_top.specs.Phases.{Annotated, Refusal, Then, stops, goes_on, Task, TaskOutcome, status_of_refusal}
 use Rattle.signoff_top.specs.Phases.{AnnotatedOutcome, AnnotationOutcome, CircuitOutcome, EntriesOutcome, InputOutcome, SdfOutcome, WordsOutcome, FileOutcome, FilesOutcome, NetlistOutcome, StimulusOutcome}
 
 -- two outcomes are one value, or two refusals of one status
@@ -76,11 +76,15 @@ sdf_agree name text (Err r) (Err s) h k = ap status_of_refusal h.2 ∙ sym (ap s
 none_or_some : {A : Type 0} (o : Option A) (x : A) → o ≡ None → o ≡ Some x → ⊥
 none_or_some o x e f = let k : None ≡ Some x = sym e ∙ f in cc
 
+annotated_once : (a b : Annotated) (circuit : Circuit) (unmatched : List Unmatched) → a.circuit ≡ circuit → a.unmatched ≡ unmatched → b.circuit ≡ circuit → b.unmatched ≡ unmatched → a ≡ b
+annotated_once a b circuit unmatched p q r s =
+    ap (λ (c : Circuit). record { circuit = c; unmatched = a.unmatched }) (p ∙ sym r) ∙ ap (λ (us : List Unmatched). record { circuit = b.circuit; unmatched = us }) (q ∙ sym s)
+
 annotation_agree : (name text : List ℕ) (file : Sdf) (corner : Corner) (circuit : Circuit) → AllAgree (AnnotationOutcome name text file corner circuit)
-annotation_agree name text file corner circuit (Ok a) (Ok b) h k = h.1 ∙ sym k.1
-annotation_agree name text file corner circuit (Ok a) (Err r) h k = none_or_some (too_large circuit file corner) k.0 h.0 k.1
-annotation_agree name text file corner circuit (Err r) (Ok a) h k = none_or_some (too_large circuit file corner) h.0 k.0 h.1
-annotation_agree name text file corner circuit (Err r) (Err s) h k = ap status_of_refusal h.2 ∙ sym (ap status_of_refusal k.2)
+annotation_agree name text file corner circuit (Ok a) (Ok b) h k = annotated_once a b _ _ h.circuit h.unmatched k.circuit k.unmatched
+annotation_agree name text file corner circuit (Ok a) (Err r) h k = none_or_some _ k.place h.fine k.stands
+annotation_agree name text file corner circuit (Err r) (Ok a) h k = none_or_some _ h.place k.fine h.stands
+annotation_agree name text file corner circuit (Err r) (Err s) h k = ap status_of_refusal h.told ∙ sym (ap status_of_refusal k.told)
 
 entries_agree : (name text : List ℕ) (corner : Corner) (circuit : Circuit) → AllAgree (EntriesOutcome name text corner circuit)
 entries_agree name text corner circuit =

@@ -113,15 +113,21 @@ pub record Annotated : Type 0 where
 abbrev pub unmatched_at : List ℕ → Place × List ℕ → Unmatched
 unmatched_at text told = record { line = line_of text told.0.byte; word = told.1 }
 
-abbrev pub annotated_by : List ℕ → Sdf → Corner → Circuit → Annotated
-annotated_by text file corner circuit =
-    record { circuit = annotation.annotated circuit file corner; unmatched = map (unmatched_at text) (annotation.unmatched circuit file) }
+-- the entries are applied with the values of this corner: none of them is too large
+pub record IsAnnotatedBy (text : List ℕ) (file : Sdf) (corner : Corner) (c : Circuit) (a : Annotated) : Type 0 where
+  pub fine : annotation.too_large c file corner ≡ None
+  pub circuit : a.circuit ≡ annotation.annotated c file corner
+  pub unmatched : a.unmatched ≡ map (unmatched_at text) (annotation.unmatched c file)
 
--- the entries are applied with the values of this corner, unless one of them is too large: the first is named then
+-- or the first of them that is too large is told
+pub record TellsTooLarge (name text : List ℕ) (file : Sdf) (corner : Corner) (c : Circuit) (r : Refusal) : Type 0 where
+  pub place : Place
+  pub stands : annotation.too_large c file corner ≡ Some place
+  pub told : r ≡ sdf name (line_of text place.byte) too_large_kind
+
 abbrev pub AnnotationOutcome : List ℕ → List ℕ → Sdf → Corner → Circuit → Result Annotated Refusal → Type 0
-AnnotationOutcome name text file corner circuit (Ok a) = (annotation.too_large circuit file corner ≡ None) × (a ≡ annotated_by text file corner circuit)
-AnnotationOutcome name text file corner circuit (Err r) =
-    (place : Place) × (annotation.too_large circuit file corner ≡ Some place) × (r ≡ sdf name (line_of text place.byte) too_large_kind)
+AnnotationOutcome name text file corner circuit (Ok a) = IsAnnotatedBy text file corner circuit a
+AnnotationOutcome name text file corner circuit (Err r) = TellsTooLarge name text file corner circuit r
 
 -- the kinds of a stimulus's faults as they are written
 abbrev pub stimulus_kind : StimKind → List ℕ

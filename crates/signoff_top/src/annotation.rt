@@ -5,8 +5,9 @@ ghost use Rattle.sg_io.specs.Faults.{Cause};
 ghost use Rattle.sg_io.specs.Files.{File};
 ghost use Rattle.run_words.specs.WordsSeen.{command_seen};
 ghost use Rattle.wave_out.specs.Reporting.{unmatched_seen};
-ghost use Rattle.signoff_top.specs.Phases.{AnnotatedOutcome, AnnotationOutcome, EntriesOutcome, SdfOutcome};
-ghost use Rattle.signoff_top.specs.Stops.{FailsAtGiven, Gives, IfFailed, NeverFails, SparesWords, end_of_phase};
+ghost use Rattle.wave_out.specs.Texts.{line_of};
+ghost use Rattle.signoff_top.specs.Phases.{AnnotatedOutcome, AnnotationOutcome, EntriesOutcome, SdfOutcome, sdf};
+ghost use Rattle.signoff_top.specs.Stops.{FailsAtGiven, Gives, IfFailed, NeverFails, SparesWords, end_of_phase, refusal_seen, sdf_fault_seen};
 ghost use Rattle.signoff_top.specs.Tasks.{annotated_seen};
 
 use crate::phases::file_phase;
@@ -29,12 +30,15 @@ pub struct Annotated {
     pub unmatched: Vec<Unmatched>,
 }
 
-fn sdf_refusal<'a>(name: &'a str, text: &[u8], fault: SdfFault, place: Place) -> Stop<'a> {
-    Stop::Refused(Refusal::Sdf {
+// A fault at a place of the file of this name and text.
+fn sdf_refusal<'a>(name: &'a str, text: &[u8], fault: SdfFault, place: Place) -> Refusal<'a>
+    ensures { refusal_seen result ≡ sdf name.now (line_of text.now place.byte) (sdf_fault_seen fault) }
+{
+    Refusal::Sdf {
         name,
         line: place.line_of(text),
         fault,
-    })
+    }
 }
 
 fn sdf_phase<'a, 't>(alloc: Global, name: &'a str, text: &'t [u8]) -> Result<Sdf<'t>, Stop<'a>>
@@ -45,8 +49,8 @@ fn sdf_phase<'a, 't>(alloc: Global, name: &'a str, text: &'t [u8]) -> Result<Sdf
     match read_sdf(alloc, text) {
         Ok(sdf) => Ok(sdf),
         Err(Refused::Fault { kind, place }) => {
-            let fault = SdfFault::Text(kind);
-            Err(sdf_refusal(name, text, fault, place))
+            let refusal = sdf_refusal(name, text, SdfFault::Text(kind), place);
+            Err(Stop::Refused(refusal))
         }
         Err(Refused::NoMemory) => Err(Stop::NoMemory),
     }
@@ -67,7 +71,8 @@ fn annotation_phase<'a>(
     match annotate(alloc, circuit, sdf, corner) {
         Ok(unmatched) => Ok(unmatched),
         Err(AnnotError::TooLarge { place }) => {
-            Err(sdf_refusal(name, text, SdfFault::TooLarge, place))
+            let refusal = sdf_refusal(name, text, SdfFault::TooLarge, place);
+            Err(Stop::Refused(refusal))
         }
         Err(AnnotError::NoMemory) => Err(Stop::NoMemory),
     }
