@@ -1,8 +1,8 @@
 -- The entries of a cell, and the cells of a file, one after another.
-use Rattle.std.specs.Prelude.{◌≡◌, refl, ℕ, ◌+◌, ◌<◌, List, [], ◌∷◌, ◌++◌, length, map, take, drop, slice_index_or}
+use Rattle.std.specs.Prelude.{◌≡◌, refl, ℕ, ◌+◌, ◌<◌, ◌≤◌, List, [], ◌∷◌, ◌++◌, length, map, take, drop, slice_index_or}
 use Rattle.std.specs.List.{flat_map}
 use Rattle.std.proofs.Common.{ap, sym, ◌∙◌, subst}
-use Rattle.std.proofs.lemmas.List.{append_assoc, append-nil, take_more, drop_more, take-append-drop, map-append}
+use Rattle.std.proofs.lemmas.List.{append_assoc, append-nil, take_more, drop_more, take-append-drop, take_all, map-append}
 use Rattle.sg_delay.specs.declared.corners.Corner.{Corner}
 use Rattle.sg_circuit.specs.Circuit.{Circuit}
 use Rattle.sdf_tree.specs.Meant.{Sdf}
@@ -48,3 +48,7 @@ module _ (c : Circuit) (sdf : Sdf) (corner : Corner) where
   pub stopped-front : (all front more rest : List Given) (a b : NewValues) (e : AnnotError) → all ≡ front ++ (more ++ rest) → CameTo c sdf corner front a b → StoppedAt c sdf corner more b e → StoppedAt c sdf corner all a e
   stopped-front all front more rest a b e is one two =
       subst (λ gs. StoppedAt c sdf corner gs a e) (sym is) (stopped-more c sdf corner front (more ++ rest) a b e one (stopped-before c sdf corner more rest b e two))
+
+  -- all of them
+  pub came-all : {X : Type 0} (seen : X → Given) (xs : List X) (i : ℕ) (a b : NewValues) → length xs ≤ i → CameTo c sdf corner (map (λ e. seen e) (take i xs)) a b → CameTo c sdf corner (map (λ e. seen e) xs) a b
+  came-all {X} seen xs i a b l came = subst (λ (ys : List X). CameTo c sdf corner (map (λ e. seen e) ys) a b) (take_all i xs l) came

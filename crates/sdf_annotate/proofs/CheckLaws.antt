@@ -1,13 +1,17 @@
 -- Timing checks by their numbers, and what entries give to them.
-use Rattle.std.specs.Prelude.{◌≡◌, refl, ℕ, ℤ, suc, zero, ◌<◌, ◌&&◌, nat_lt, Bool, true, false, cond, if◌then◌else◌, List, [], ◌∷◌, length, map, Option, slice_index_or}
+use Rattle.std.specs.Prelude.{◌≡◌, refl, ℕ, ℤ, suc, zero, ◌<◌, ◌&&◌, nat_lt, Bool, true, false, if◌then◌else◌, List, [], ◌∷◌, length, map, Option, slice_index_or}
 use Rattle.std.proofs.Common.{ap, sym, ◌∙◌, arith}
 use Rattle.sg_delay.specs.declared.corners.Corner.{Corner}
 use Rattle.sg_circuit.specs.Checks.{CheckConditions}
 use Rattle.sg_circuit.specs.Circuit.{Circuit}
 use Rattle.sg_circuit.specs.Closed.{IsClosed}
 use Rattle.sg_circuit.specs.declared.checks.Check.{Check}
+use Rattle.sg_circuit.specs.declared.checks.CheckKind.{CheckKind}
 use Rattle.sg_circuit.specs.declared.checks.CheckTiming.{CheckTiming}
-use Rattle.sdf_tree.specs.declared.words.Divider.{Divider}
+use Rattle.sdf_tree.specs.declared.tree.CellCheck as code_check
+use Rattle.sdf_tree.specs.declared.tree.EntryKind as code_kind
+use Rattle.sdf_tree.specs.declared.tree.EntryKind.TheVariants as variant
+use Rattle.sdf_meaning.specs.MeantSeen.{view_kind}
 use Rattle.sdf_tree.specs.Meant.{CellCheck, EntryKind, Triple, Sdf, io_path, device, port_delay, interconnect, path_pulse, a_check, skipped_entry}
 use Rattle.annotation_model.specs.Applied.{Grid, are_limits_large, with_limits}
 use Rattle.annotation_model.specs.Finding.{check_at, is_found_check, no_check}
@@ -16,9 +20,9 @@ use Rattle.annotation_model.specs.Listed.{occurrences, IsListOf, written}
 use Rattle.annotation_model.specs.Matching.{fits_check, given_by, limits_for, none_given}
 use Rattle.annotation_model.specs.Passes.{meets_large}
 use Rattle.annotation_model.specs.Scopes.{is_of_cell}
-use Rattle.annotation_model.specs.Spots.{Checked, all_checked, checked, given_to, grid, is_for_check, is_given, is_limit_large_at, limits_with}
+use Rattle.annotation_model.specs.Spots.{Checked, all_checked, checked, grid, is_for_check, is_given, is_limit_large_at, limits_with}
 use Rattle.sdf_annotate.specs.Seen.{check_with, is_check_large}
-use Rattle.sdf_annotate.proofs.PassSteps.{meets_listed, writes_listed}
+use Rattle.sdf_annotate.proofs.PassSteps.{meets_listed, nothing_large, nothing_written, writes_listed}
 
 -- ---- checks by their numbers
 
@@ -117,3 +121,43 @@ module _ (c : Circuit) (sdf : Sdf) (corner : Corner) (g : Given) (ks : List ℕ)
       (check_with c sdf corner g.entry.kind) (λ k ls. limits_with c sdf corner g (check_at c k) ls) [] ks xs
       (λ k l v. sym (large-same c sdf corner g k g.entry.kind v (given-listed k l)))
       (λ k l v. sym (with-same c sdf corner g k g.entry.kind v (given-listed k l)))
+
+-- ---- what the code knows of a check by its number
+
+module _ (c : Circuit) (sdf : Sdf) (corner : Corner) (closed : IsClosed c) (n : ℕ) (l : n < length c.checks) (check : CellCheck) (gr : Grid) (kind : CheckKind) (k : Check) (t : CheckTiming) (limits : List ℤ)
+    (in_scope : gr ≡ grid c sdf corner k.scope) (of_kind : kind ≡ t.kind) (k_is : k ≡ slice_index_or c.checks n k) (t_is : t ≡ slice_index_or c.check_timings n t) where
+  same-grid : gr ≡ grid c sdf corner (check_at c n).check.scope
+  same-grid = in_scope ∙ ap (λ s. grid c sdf corner s) (ap (λ (x : Check). x.scope) k_is ∙ sym (check-scope c closed n k l))
+
+  same-kind : kind ≡ (check_at c n).timing.kind
+  same-kind = of_kind ∙ (ap (λ (x : CheckTiming). x.kind) t_is ∙ sym (check-kind c closed n t l))
+
+  pub known-large : are_limits_large gr (limits_for check kind) ≡ is_check_large c sdf corner (a_check check) n limits
+  known-large = ap (λ h. are_limits_large h (limits_for check kind)) same-grid ∙ ap (λ x. are_limits_large (grid c sdf corner (check_at c n).check.scope) (limits_for check x)) same-kind
+
+  pub known-with : with_limits gr (limits_for check kind) limits ≡ check_with c sdf corner (a_check check) n limits
+  known-with = ap (λ h. with_limits h (limits_for check kind) limits) same-grid ∙ ap (λ x. with_limits (grid c sdf corner (check_at c n).check.scope) (limits_for check x) limits) same-kind
+
+-- ---- an entry that isn't of a timing check
+
+abbrev pub IsOther : code_kind.EntryKind → Type 0
+IsOther kind = (check : code_check.CellCheck) → kind ≡ variant.Check check → ⊥
+
+pub other-large : (c : Circuit) (sdf : Sdf) (corner : Corner) (kind : code_kind.EntryKind) (ks : List ℕ) (xs : List (List ℤ)) → IsOther kind
+    → meets_large (is_check_large c sdf corner (view_kind kind)) (check_with c sdf corner (view_kind kind)) [] ks xs ≡ false
+other-large c sdf corner (variant.IoPath p f t ds) ks xs h = nothing_large (λ k v. v) [] ks xs
+other-large c sdf corner (variant.Device o ds) ks xs h = nothing_large (λ k v. v) [] ks xs
+other-large c sdf corner (variant.Port p ds) ks xs h = nothing_large (λ k v. v) [] ks xs
+other-large c sdf corner (variant.Interconnect f t ds) ks xs h = nothing_large (λ k v. v) [] ks xs
+other-large c sdf corner (variant.PathPulse p o r e) ks xs h = nothing_large (λ k v. v) [] ks xs
+other-large c sdf corner (variant.Check k) ks xs h = absurd (h k refl)
+other-large c sdf corner (variant.Skipped s) ks xs h = nothing_large (λ k v. v) [] ks xs
+
+pub other-written : (c : Circuit) (sdf : Sdf) (corner : Corner) (kind : code_kind.EntryKind) (ks : List ℕ) (xs : List (List ℤ)) → IsOther kind → xs ≡ written (check_with c sdf corner (view_kind kind)) [] ks xs
+other-written c sdf corner (variant.IoPath p f t ds) ks xs h = sym (nothing_written [] ks xs)
+other-written c sdf corner (variant.Device o ds) ks xs h = sym (nothing_written [] ks xs)
+other-written c sdf corner (variant.Port p ds) ks xs h = sym (nothing_written [] ks xs)
+other-written c sdf corner (variant.Interconnect f t ds) ks xs h = sym (nothing_written [] ks xs)
+other-written c sdf corner (variant.PathPulse p o r e) ks xs h = sym (nothing_written [] ks xs)
+other-written c sdf corner (variant.Check k) ks xs h = absurd (h k refl)
+other-written c sdf corner (variant.Skipped s) ks xs h = sym (nothing_written [] ks xs)

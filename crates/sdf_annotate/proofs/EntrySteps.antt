@@ -1,5 +1,5 @@
 -- One entry more, as the code comes to it.
-use Rattle.std.specs.Prelude.{◌≡◌, refl, ℕ, suc, zero, ◌<◌, ◌==◌, ◌&&◌, ◌||◌, nat_lt, not, Bool, true, false, if◌then◌else◌, All, List, [], ◌∷◌, ◌++◌, length, slice_index_or, Result, Err, IfErr}
+use Rattle.std.specs.Prelude.{◌≡◌, refl, ℕ, ℤ, suc, ◌<◌, ◌==◌, ◌&&◌, ◌||◌, nat_lt, not, Bool, true, false, if◌then◌else◌, All, List, [], ◌∷◌, ◌++◌, length, slice_index_or, Result, Err, IfErr}
 use Rattle.std.specs.List.{list_any}
 use Rattle.std.proofs.Common.{ap, sym, ◌∙◌, subst, arith}
 use Rattle.std.proofs.lemmas.Bool.Decides.{nat_tests}
@@ -8,7 +8,7 @@ use Rattle.sg_text.specs.declared.places.Place.{Place}
 use Rattle.sg_delay.specs.declared.corners.Corner.{Corner}
 use Rattle.sg_circuit.specs.Circuit.{Circuit}
 use Rattle.sdf_tree.specs.Meant.{Sdf}
-use Rattle.annotation_model.specs.Annotated.{is_for_something, told_of, unmatched_in}
+use Rattle.annotation_model.specs.Annotated.{told_of, unmatched_in, word_of}
 use Rattle.annotation_model.specs.Finding.{check_at, is_found_check, is_found_spot, spot_at}
 use Rattle.annotation_model.specs.Given.{Given}
 use Rattle.annotation_model.specs.Listed.{occurrences, IsListOf, written}
@@ -26,10 +26,15 @@ use Rattle.sdf_annotate.specs.declared.unmatched.AnnotError.{AnnotError}
 use Rattle.sdf_annotate.specs.declared.unmatched.AnnotError.TheVariants.{TooLarge, NoMemory}
 use Rattle.sdf_annotate.specs.declared.values.NewValues.{NewValues}
 use Rattle.sdf_annotate.proofs.CheckLaws.{limits-met, limits-written}
+use Rattle.sdf_annotate.proofs.TableSteps.{Table}
 
 -- what an exit returns
 pub exit_by : {A : Type 0} (Holds : AnnotError → Type 0) (result : Result A AnnotError) (e : AnnotError) → ((x : AnnotError) × (result ≡ Err x) × (x ≡ e)) → Holds e → IfErr result Holds
 exit_by {A} Holds result e (x, r, s) h = subst (λ (a : Result A AnnotError). IfErr a Holds) (sym r) (subst Holds (sym s) h)
+
+pub told_by : {P Q : Type 0} → (P → Q) → (place : Place) (e : AnnotError) → Told P place e → Told Q place e
+told_by f place (TooLarge at) t = (f t.0, t.1)
+told_by f place NoMemory t = tt
 
 or-first : (a b : Bool) → a ≡ true → (a || b) ≡ true
 or-first a b e = ap (λ x. x || b) e
@@ -107,6 +112,41 @@ module _ (c : Circuit) (sdf : Sdf) (corner : Corner) (g : Given) (ks ls : List �
   stopped-checks NoMemory t = tt
   stopped-checks (TooLarge at) t = λ done h. subst (λ p. IsTooLarge c sdf corner done (g ∷ []) p) (sym t.1) (large-one c sdf corner done g (or-second (spots-any done) checks-any (sym (checks-are done h) ∙ t.0)))
 
+  -- the same of what was lent
+  pub stopped-lent_spots : (found : List ℕ) (table : Table) → found ≡ ks → table ≡ old.timings.items → (e : AnnotError)
+      → Told (meets_large (is_spot_large c sdf corner g.entry) (spot_with c sdf corner g.entry) [] found (timings_seen (spots c) table) ≡ true) g.entry.place e → StoppedAt c sdf corner (g ∷ []) old e
+  stopped-lent_spots found table f t e told =
+      stopped-spots e (told_by (λ h. ap (λ ts. meets_large (is_spot_large c sdf corner g.entry) (spot_with c sdf corner g.entry) [] ks (timings_seen (spots c) ts)) (sym t)
+      ∙ (ap (λ fs. meets_large (is_spot_large c sdf corner g.entry) (spot_with c sdf corner g.entry) [] fs (timings_seen (spots c) table)) (sym f) ∙ h)) g.entry.place e told)
+
+  pub stopped-lent_checks : (found : List ℕ) (limits : List (List ℤ)) → found ≡ ls → limits ≡ old.limits.items → (e : AnnotError)
+      → Told (meets_large (is_check_large c sdf corner g.entry.kind) (check_with c sdf corner g.entry.kind) [] found limits ≡ true) g.entry.place e → StoppedAt c sdf corner (g ∷ []) old e
+  stopped-lent_checks found limits f t e told =
+      stopped-checks e (told_by (λ h. ap (λ xs. meets_large (is_check_large c sdf corner g.entry.kind) (check_with c sdf corner g.entry.kind) [] ls xs) (sym t)
+      ∙ (ap (λ fs. meets_large (is_check_large c sdf corner g.entry.kind) (check_with c sdf corner g.entry.kind) [] fs limits) (sym f) ∙ h)) g.entry.place e told)
+
+  pub came-lent : (new : NewValues) (found : List ℕ) (table after : Table) (found_checks : List ℕ) (limits limits_after : List (List ℤ))
+      → found ≡ ks → table ≡ old.timings.items → found_checks ≡ ls → limits ≡ old.limits.items
+      → length after ≡ length table → length limits_after ≡ length limits → new.timings.items ≡ after → new.limits.items ≡ limits_after
+      → meets_large (is_spot_large c sdf corner g.entry) (spot_with c sdf corner g.entry) [] found (timings_seen (spots c) table) ≡ false
+      → meets_large (is_check_large c sdf corner g.entry.kind) (check_with c sdf corner g.entry.kind) [] found_checks limits ≡ false
+      → timings_seen (spots c) after ≡ written (spot_with c sdf corner g.entry) [] found (timings_seen (spots c) table)
+      → limits_after ≡ written (check_with c sdf corner g.entry.kind) [] found_checks limits
+      → (empty : Bool) → empty ≡ ((length ks == 0) && (length ls == 0))
+      → told_seen new.unmatched.items ≡ told_seen old.unmatched.items ++ noted (not empty) g.entry.place (word_of g.entry.kind)
+      → AreSized c old → CameTo c sdf corner (g ∷ []) old new
+  came-lent new found table after found_checks limits limits_after f t q r n m now_after now_limits a b e h empty is told sized =
+      came-one new
+      (ap (λ ts. meets_large (is_spot_large c sdf corner g.entry) (spot_with c sdf corner g.entry) [] ks (timings_seen (spots c) ts)) (sym t)
+      ∙ (ap (λ fs. meets_large (is_spot_large c sdf corner g.entry) (spot_with c sdf corner g.entry) [] fs (timings_seen (spots c) table)) (sym f) ∙ a))
+      (ap (λ xs. meets_large (is_check_large c sdf corner g.entry.kind) (check_with c sdf corner g.entry.kind) [] ls xs) (sym r)
+      ∙ (ap (λ fs. meets_large (is_check_large c sdf corner g.entry.kind) (check_with c sdf corner g.entry.kind) [] fs limits) (sym q) ∙ b))
+      (ap (timings_seen (spots c)) now_after ∙ (e ∙ (ap (λ fs. written (spot_with c sdf corner g.entry) [] fs (timings_seen (spots c) table)) f
+      ∙ ap (λ ts. written (spot_with c sdf corner g.entry) [] ks (timings_seen (spots c) ts)) t)))
+      (now_limits ∙ (h ∙ (ap (λ fs. written (check_with c sdf corner g.entry.kind) [] fs limits) q ∙ ap (λ xs. written (check_with c sdf corner g.entry.kind) [] ls xs) r)))
+      (not empty) empty refl is g.entry.place (word_of g.entry.kind) refl told
+      (record { timings = ap length now_after ∙ (n ∙ (ap length t ∙ sized.timings)); limits = ap length now_limits ∙ (m ∙ (ap length r ∙ sized.limits)) })
+
 -- ---- the places that an entry is for are there
 
 module _ (c : Circuit) (sdf : Sdf) (g : Given) where
@@ -133,6 +173,11 @@ module _ (c : Circuit) (sdf : Sdf) (g : Given) where
   checks-below ks is = λ i d l.
       let k : ℕ = slice_index_or ks i d in
       test-below k (length (all_checked c)) (is_for_check c sdf.divider g (check_at c k)) (counted (is_found_check c sdf g k) (occurrences k ks) (is.each k) (occurs_at ks i d l))
+
+-- in tables that were lent
+pub below-lent : {X : Type 0} (n : ℕ) (ks found : List ℕ) (table lent : List X) → found ≡ ks → lent ≡ table → length table ≡ n → All (λ k. k < n) ks → All (λ k. k < length lent) found
+below-lent n ks found table lent f t l h =
+    subst (λ (fs : List ℕ). All (λ k. k < length lent) fs) (sym f) (subst (λ m. All (λ k. k < m) ks) (sym (ap length t ∙ l)) h)
 
 -- ---- one list of entries behind another
 

@@ -1,5 +1,5 @@
 -- The rows that number legs and specify paths.
-use Rattle.std.specs.Prelude.{◌≡◌, refl, ℕ, suc, zero, ◌+◌, ◌<◌, List, [], ◌∷◌, length, map, None, slice_index_or}
+use Rattle.std.specs.Prelude.{◌≡◌, refl, ℕ, suc, zero, ◌<◌, List, [], ◌∷◌, length, map, None, slice_index_or}
 use Rattle.std.proofs.Common.{ap, sym, ◌∙◌, subst, arith}
 use Rattle.std.proofs.lemmas.List.Concat.{get_or-flat_map}
 use Rattle.sg_circuit.specs.Circuit.{Circuit, Element, Kind, Gate, Udp, Pass, Leg, Path, Late, element_at}
@@ -7,7 +7,7 @@ use Rattle.sg_circuit.specs.Closed.{IsClosed}
 use Rattle.sg_circuit.specs.Paths as specify
 use Rattle.annotation_model.specs.Finding.{no_spot, spot_at}
 use Rattle.annotation_model.specs.Spots.{path_spot, scope_of, spots_in, spots_of}
-use Rattle.annotation_spots.specs.Rows.{AreRows, IsIn, spot_of, spots_before}
+use Rattle.annotation_spots.specs.Rows.{AreRows, IsIn, spot_of}
 use Rattle.annotation_spots.specs.declared.spots.Spot as code_spot
 
 abbrev pub no_element : Element

@@ -1,5 +1,5 @@
 -- The tables of new timings and of limits, one place more.
-use Rattle.std.specs.Prelude.{◌≡◌, refl, ℕ, ℤ, suc, zero, ◌+◌, ◌<◌, Bool, true, false, List, [], ◌∷◌, length, Option, slice_index_or, slice_set}
+use Rattle.std.specs.Prelude.{◌≡◌, refl, ℕ, ℤ, suc, zero, ◌+◌, ◌<◌, true, false, List, [], ◌∷◌, length, Option, slice_index_or, slice_set}
 use Rattle.std.specs.Global.{Box}
 use Rattle.std.proofs.Common.{ap, sym, ◌∙◌, subst, arith}
 use Rattle.sg_delay.specs.declared.corners.Corner.{Corner}

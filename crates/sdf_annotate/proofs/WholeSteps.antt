@@ -1,10 +1,9 @@
 -- All cells of a file.
-use Rattle.std.specs.Prelude.{◌≡◌, refl, ℕ, ℤ, List, [], ◌∷◌, ◌++◌, map, length, take, Some, None, Option, replicate, suc, zero}
+use Rattle.std.specs.Prelude.{◌≡◌, refl, ℕ, List, [], ◌∷◌, ◌++◌, map, length, take, None, Option, replicate, suc, zero}
 use Rattle.std.specs.List.{flat_map}
 use Rattle.std.specs.Global.{Box}
 use Rattle.std.proofs.Common.{ap, sym, ◌∙◌, subst, arith}
 use Rattle.std.proofs.lemmas.List.{append-nil, length-map, take_all, take-append-le}
-use Rattle.sg_text.specs.declared.places.Place.{Place}
 use Rattle.sg_delay.specs.declared.corners.Corner.{Corner}
 use Rattle.sg_circuit.specs.Circuit.{Circuit}
 use Rattle.sg_circuit.specs.Closed.{IsClosed}
@@ -15,7 +14,7 @@ use Rattle.sdf_tree.specs.Seen.{view_instance}
 use Rattle.sdf_tree.specs.declared.tree.Cell as code_cell
 use Rattle.sdf_tree.specs.declared.tree.Entry as code_entry
 use Rattle.sdf_meaning.specs.MeantSeen.{view_meant, view_meant_cell}
-use Rattle.annotation_model.specs.Annotated.{first_too_large, too_large, unmatched, unmatched_in}
+use Rattle.annotation_model.specs.Annotated.{first_too_large, too_large, unmatched_in}
 use Rattle.annotation_model.specs.Given.{given, given_in}
 use Rattle.annotation_model.specs.Spots.{Checked, Spot, all_checked, spots, timings_of}
 use Rattle.annotation_finder.specs.Finding.{given_seen}

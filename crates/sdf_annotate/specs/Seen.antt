@@ -1,5 +1,5 @@
 -- Words of the code that annotates.
-use Rattle.std.specs.Prelude.{◌≡◌, ℕ, ℤ, Bool, true, false, List, [], ◌∷◌, ◌++◌, map}
+use Rattle.std.specs.Prelude.{◌≡◌, ℕ, ℤ, Bool, true, false, List, [], ◌∷◌, map}
 use Rattle.std.specs.List.{flat_map}
 use Rattle.sg_text.specs.declared.places.Place.{Place}
 use Rattle.sg_delay.specs.declared.corners.Corner.{Corner}

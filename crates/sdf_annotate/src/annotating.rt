@@ -33,13 +33,7 @@ fn new_values(alloc: Global, task: &Task<'_, '_, '_>) -> Result<NewValues, Annot
         limits: limits_of(alloc, &places.parts.check_timings)?,
         unmatched: Vec::new(alloc),
     };
-    annotate_cells(
-        alloc,
-        task,
-        &task.sdf.cells,
-        &mut search,
-        &mut values,
-    )?;
+    annotate_cells(alloc, task, &task.sdf.cells, &mut search, &mut values)?;
     Ok(values)
 }
 

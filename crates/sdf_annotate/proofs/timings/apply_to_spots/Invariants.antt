@@ -1,5 +1,5 @@
 -- The places that are left complete the pass.
-use Rattle.std.proofs.Common.{◌≡◌, [], length}
+use Rattle.std.proofs.Common.{[]}
 use Rattle.sdf_meaning.specs.MeantSeen.{view_meant, view_sdf}
 use Rattle.annotation_model.specs.Spots.{spots}
 use Rattle.annotation_setting.specs.Table.{timings_seen}
