@@ -29,7 +29,7 @@ past p a (suc n) j e = by (p a) (past p (a + 1) n j (omega (arith, e)))
   where
     by : (b : Bool) → filter p (range_with_len (a + 1) (suc n)) ≡ filter p (range_with_len (a + 1) n) ++ one_if (p j) j
         → cond b (a ∷ filter p (range_with_len (a + 1) (suc n))) (filter p (range_with_len (a + 1) (suc n)))
-            ≡ cond b (a ∷ filter p (range_with_len (a + 1) n)) (filter p (range_with_len (a + 1) n)) ++ one_if (p j) j
+        ≡ cond b (a ∷ filter p (range_with_len (a + 1) n)) (filter p (range_with_len (a + 1) n)) ++ one_if (p j) j
     by true f = ap (λ ks. a ∷ ks) f
     by false f = f
 
@@ -70,10 +70,10 @@ filter_if false q (x ∷ xs) = filter_if false q xs
 
 all_in : (n : ℕ) → All (λ k. k < n) (range_with_len 0 n)
 all_in n = All-from_get_or (λ k. k < n) (range_with_len 0 n) 0 (λ i l.
-  let long : length (range_with_len 0 n) ≡ n = length-range_with_len 0 n in
-  let m : i < n = omega (arith, l, long) in
-  let at : slice_index_or (range_with_len 0 n) i 0 ≡ 0 + i = get_or-range_with_len 0 n i 0 m in
-  omega (arith, at, m))
+    let long : length (range_with_len 0 n) ≡ n = length-range_with_len 0 n in
+    let m : i < n = omega (arith, l, long) in
+    let at : slice_index_or (range_with_len 0 n) i 0 ≡ 0 + i = get_or-range_with_len 0 n i 0 m in
+    omega (arith, at, m))
 
 -- ---- an index that grows
 

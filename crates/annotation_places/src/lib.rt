@@ -2,7 +2,10 @@
 #![tactic(auto)]
 
 mod nets;
+mod place_indexes;
 mod places;
+mod scope_indexes;
+mod variable_index;
 
 pub use nets::Role;
 pub use places::Places;
