@@ -2,3 +2,6 @@
 pub mod IndexLaws
 pub mod PlaceLaws
 pub mod StepLaws
+pub mod LedBy
+pub mod Meant
+pub mod Turns
