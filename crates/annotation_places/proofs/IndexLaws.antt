@@ -1,18 +1,17 @@
 -- An index that grows by a number at a time, and what it has in the end.
-use Rattle.std.specs.Prelude.{◌≡◌, ◌≢◌, refl, ℕ, zero, suc, ◌+◌, ◌<◌, ◌≤◌, ◌==◌, ◌&&◌, ◌||◌, nat_eq, nat_lt, bytes_eq, Bool, true, false, cond, if◌then◌else◌, All, List, [], ◌∷◌, ◌++◌, length, Option, Some, None, slice_index_or}
+use Rattle.std.specs.Prelude.{◌≡◌, ◌≢◌, refl, ℕ, zero, suc, ◌+◌, ◌<◌, ◌≤◌, ◌==◌, ◌&&◌, ◌||◌, nat_eq, nat_lt, bytes_eq, Bool, true, false, cond, if◌then◌else◌, All, List, [], ◌∷◌, ◌++◌, length, slice_index_or}
 use Rattle.std.specs.List.{filter, range_with_len}
 use Rattle.std.proofs.Common.{ap, sym, ◌∙◌, subst, arith, inl, inr}
-use Rattle.std.proofs.lemmas.Bool.{cases_eq, cases_Bool}
+use Rattle.std.proofs.lemmas.Bool.{cases_eq}
 use Rattle.std.proofs.lemmas.Bool.Decides.{nat_tests}
 use Rattle.std.proofs.lemmas.List.{append-nil, append_assoc}
 use Rattle.std.proofs.lemmas.List.Elements.{All-filter, All-from_get_or}
 use Rattle.std.proofs.lemmas.List.FromFn.{length-range_with_len, get_or-range_with_len}
-use Rattle.sg_circuit.specs.Circuit.{Circuit, Variable, scope_at}
+use Rattle.sg_circuit.specs.Circuit.{Circuit, scope_at}
 use Rattle.annotation_model.specs.Ports.{has}
-use Rattle.annotation_model.specs.Scopes.{is_scope}
-use Rattle.annotation_model.proofs.ListedLaws.{test_same, test_other}
+use Rattle.annotation_model.proofs.ListedLaws.{test_other}
 use Rattle.annotation_index.specs.declared.index.Index.{Index}
-use Rattle.annotation_index.specs.Index.{list_at, same_key, one_if, AreNamed}
+use Rattle.annotation_index.specs.Index.{list_at, one_if, AreNamed}
 use Rattle.annotation_index.proofs.SourceLaws.{has_range}
 use Rattle.annotation_places.specs.Places.{no_variable, variables_of}
 use Rattle.annotation_places.specs.Indexes.{HasMore, nothing, Holds, is_called, HoldsVariables}

@@ -1,6 +1,6 @@
 -- Indexes that hold what their keys say are indexes of the circuit.
-use Rattle.std.specs.Prelude.{◌≡◌, refl, ℕ, zero, suc, ◌+◌, ◌-◌, ◌<◌, ◌≤◌, ◌^◌, ◌&&◌, nat_eq, nat_lt, bytes_eq, Bool, true, false, cond, if◌then◌else◌, All, List, [], ◌∷◌, ◌++◌, length, map, take, Option, Some, None, slice_index_or}
-use Rattle.std.specs.List.{flat_map, range_with_len}
+use Rattle.std.specs.Prelude.{◌≡◌, refl, ℕ, zero, suc, ◌+◌, ◌-◌, ◌<◌, ◌≤◌, ◌^◌, ◌&&◌, nat_eq, nat_lt, bytes_eq, Bool, true, false, if◌then◌else◌, List, [], ◌∷◌, length, map, slice_index_or}
+use Rattle.std.specs.List.{range_with_len}
 use Rattle.std.specs.Cmp.Lexicographic.{bytes_decides}
 use Rattle.std.proofs.Common.{ap, sym, ◌∙◌, subst, arith}
 use Rattle.std.proofs.lemmas.Bool.Decides.{nat_tests}
@@ -10,7 +10,6 @@ use Rattle.sg_circuit.specs.Closed.{IsClosed}
 use Rattle.sg_circuit.specs.Seen.{circuit_seen, scope_seen, AreIndexed}
 use Rattle.sg_circuit.specs.Paths as specify
 use Rattle.sg_circuit.specs.Checks.{CheckConditions}
-use Rattle.sg_circuit.specs.declared.nets.Driver.{Driver}
 use Rattle.sg_circuit.specs.declared.nets.Driver.TheVariants as driver
 use Rattle.sg_circuit.specs.declared.checks.Check.{Check}
 use Rattle.sg_circuit.specs.declared.checks.CheckTiming.{CheckTiming}
@@ -18,15 +17,15 @@ use Rattle.annotation_model.specs.Ports.{has}
 use Rattle.annotation_model.specs.Scopes.{is_scope}
 use Rattle.annotation_model.specs.Spots.{path_spot, spots, spots_in, spots_of, scope_of, checked, all_checked}
 use Rattle.annotation_model.specs.Finding.{no_spot, no_check, spot_at, check_at}
-use Rattle.annotation_index.specs.Candidates.{output_of, Lookups, AreOf}
+use Rattle.annotation_index.specs.Candidates.{output_of}
 use Rattle.annotation_index.specs.declared.index.Index.{Index}
-use Rattle.annotation_index.specs.Index.{list_at, same_key, AreNamed}
+use Rattle.annotation_index.specs.Index.{list_at, same_key}
 use Rattle.annotation_index.proofs.SourceLaws.{has_range}
 use Rattle.annotation_spots.specs.declared.spots.Spot as code_spot
 use Rattle.annotation_spots.specs.Rows.{AreRows, AreFirsts, IsIn, spots_before}
 use Rattle.annotation_spots.proofs.RowLaws.{before-next, spot-of_row}
 use Rattle.annotation_places.specs.declared.places.Places as code_places
-use Rattle.annotation_places.specs.Places.{led_by, lookups_of, ArePlaces, variables_of}
+use Rattle.annotation_places.specs.Places.{led_by, ArePlaces, variables_of}
 use Rattle.annotation_places.specs.Indexes.{nothing, Holds, HoldsVariables, is_inside, is_of_module, stands_in, refers_to}
 use Rattle.annotation_places.proofs.IndexLaws.{has_key, has_no_key, all_below}
 
@@ -192,3 +191,13 @@ module _ (p : code_places.Places) (closed : IsClosed (circuit_seen p.parts.now))
 
       below : (s : ℕ) → s < length p.parts.now.scopes.items → nat_lt s (length p.parts.now.scopes.items) ≡ true
       below s l = grind (arith, nat_tests)
+
+-- the circuit is another name of what its parts stand for, and the rows were lent
+pub all_made : (p : code_places.Places) (circuit : Circuit) (lent : List code_spot.Spot) → circuit_seen p.parts.now ≡ circuit → IsClosed circuit → AreIndexed p.parts.now → AreRows circuit p.spots.items
+    → length p.spots.items < 2 ^ 32 → AreFirsts circuit p.firsts.items → Holds nothing p.inside (is_inside (circuit_seen p.parts.now)) (length p.parts.now.scopes.items)
+    → Holds nothing p.modules (is_of_module (circuit_seen p.parts.now)) (length p.parts.now.scopes.items) → lent ≡ p.spots.items
+    → Holds nothing p.standing (stands_in (circuit_seen p.parts.now)) (length lent) → Holds nothing p.referring (refers_to (circuit_seen p.parts.now)) (length p.parts.now.checks.items)
+    → HoldsVariables (circuit_seen p.parts.now) p.variables (length p.parts.now.scopes.items) → ArePlaces p
+all_made p circuit lent seen closed indexed rows few firsts inside modules same standing referring variables =
+    are_places p (subst (λ c. IsClosed c) (sym seen) closed) indexed (subst (λ c. AreRows c p.spots.items) (sym seen) rows) few (subst (λ c. AreFirsts c p.firsts.items) (sym seen) firsts) inside modules
+    (subst (λ xs. Holds nothing p.standing (stands_in (circuit_seen p.parts.now)) (length xs)) same standing) referring variables
