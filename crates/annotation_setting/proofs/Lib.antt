@@ -1,0 +1,3 @@
+-- The lemma files of this folder.
+mod ElementLaws
+mod SpotLaws
