@@ -1,3 +1,4 @@
 -- The lemma files of this folder.
 mod ElementLaws
+mod LimitLaws
 mod SpotLaws

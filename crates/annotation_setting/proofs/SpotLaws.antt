@@ -15,7 +15,7 @@ use Rattle.annotation_spots.specs.declared.spots.Spot as code_spot
 use Rattle.annotation_spots.proofs.CountLaws.{element-seen}
 use Rattle.annotation_setting.specs.Timings.{is_leg, with_spot}
 
-changed-same : {A : Type 0} (f g : A → A) (k : ℕ) (xs : List A) (d : A) → f (slice_index_or xs k d) ≡ g (slice_index_or xs k d) → changed_at f k xs ≡ changed_at g k xs
+pub changed-same : {A : Type 0} (f g : A → A) (k : ℕ) (xs : List A) (d : A) → f (slice_index_or xs k d) ≡ g (slice_index_or xs k d) → changed_at f k xs ≡ changed_at g k xs
 changed-same f g k [] d e = refl
 changed-same f g zero (x ∷ xs) d e = ap (λ y. y ∷ xs) e
 changed-same f g (suc k) (x ∷ xs) d e = ap (λ ys. x ∷ ys) (changed-same f g k xs d e)

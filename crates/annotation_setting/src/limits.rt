@@ -56,7 +56,7 @@ pub fn set_limits(opened: &mut OpenCircuit, limits: &[[i64; 2]])
     ensures set { opened.new.circuit ≡ with_all_limits limits.now opened.old.circuit }
     ensures two { All (λ t. length t.limits ≡ 2) (take (length limits.now) opened.old.circuit.check_timings) }
 {
-    for (check, limits) in limits.iter().enumerate() {
-        set_others(opened, check as u32, limits);
+    for (check, new) in limits.iter().enumerate() {
+        set_others(opened, check as u32, new);
     }
 }
