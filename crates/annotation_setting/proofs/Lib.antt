@@ -1,4 +1,6 @@
 -- The lemma files of this folder.
+mod AnnotatedLaws
 mod ElementLaws
 mod LimitLaws
+mod PartLaws
 mod SpotLaws
