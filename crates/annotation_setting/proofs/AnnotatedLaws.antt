@@ -1,16 +1,13 @@
 -- A circuit with the timings and limits after entries is the annotated one.
-use Rattle.std.specs.Prelude.{◌≡◌, ℕ, zero, suc, ◌+◌, ◌<◌, ◌≤◌, All, List, [], ◌∷◌, ◌++◌, length, map, take, drop, Option, Some, None, slice_index_or, refl, ℤ, min}
+use Rattle.std.specs.Prelude.{◌≡◌, ℕ, zero, suc, ◌+◌, ◌<◌, All, List, [], ◌∷◌, ◌++◌, length, map, take, drop, Option, Some, None, slice_index_or, refl, ℤ, min}
 use Rattle.std.specs.Global.{Box}
 use Rattle.std.specs.List.{flat_map}
-use Rattle.std.proofs.Common.{sym, ◌∙◌, ap, subst, arith}
+use Rattle.std.proofs.Common.{◌∙◌, ap, subst, arith}
 use Rattle.std.proofs.lemmas.List.{length-append, length-map, get_or_append_left, get_or-append-add, take_all}
-use Rattle.std.proofs.lemmas.List.Elements.{All-cons}
 use Rattle.sg_delay.specs.declared.corners.Corner.{Corner}
-use Rattle.sg_delay.specs.declared.limits.PulseStyle.{PulseStyle}
 use Rattle.sg_circuit.specs.Checks.{CheckConditions}
 use Rattle.sg_circuit.specs.Paths as specify
 use Rattle.sg_circuit.specs.Timings.{Timing}
-use Rattle.sg_circuit.specs.TimingsSeen.{leg_timing_seen}
 use Rattle.sg_circuit.specs.Circuit.{Circuit, Element, Kind, Gate, Udp, Pass, Leg, Path, Late}
 use Rattle.sg_circuit.specs.Closed.{IsClosed}
 use Rattle.sg_circuit.specs.declared.checks.Check.{Check}

@@ -1,15 +1,14 @@
 -- New timings of a table, at one place more.
-use Rattle.std.specs.Prelude.{◌≡◌, ◌≢◌, ◌⊎◌, ℕ, zero, suc, ◌+◌, ◌-◌, ◌<◌, ◌≤◌, List, [], ◌∷◌, ◌++◌, length, map, take, drop, is_some, Option, Some, None, slice_index_or, refl}
+use Rattle.std.specs.Prelude.{◌≡◌, ◌≢◌, ◌⊎◌, ℕ, zero, suc, ◌+◌, ◌-◌, ◌<◌, ◌≤◌, List, [], ◌∷◌, length, map, take, drop, is_some, Option, Some, None, slice_index_or, refl}
 use Rattle.std.specs.Global.{Box}
 use Rattle.std.specs.List.{filter, flat_map}
 use Rattle.std.proofs.Common.{sym, ◌∙◌, ap, subst, arith, inl, inr, add-one}
 use Rattle.std.proofs.lemmas.List.{length-append, length-map, get_or_default}
 use Rattle.sg_circuit.specs.Paths as specify
-use Rattle.sg_circuit.specs.Timings.{Timing}
 use Rattle.sg_circuit.specs.TimingsSeen.{leg_timing_seen}
-use Rattle.sg_circuit.specs.Circuit.{Circuit, Element, Kind, Gate, Udp, Pass, Leg, Path, Late, element_at}
+use Rattle.sg_circuit.specs.Circuit.{Circuit, Element, Kind, Gate, Udp, Pass, Leg, Path, Late}
 use Rattle.sg_circuit.specs.declared.elements.LegTiming.{LegTiming}
-use Rattle.circuit_open.specs.Open.{changed_at, with_kind}
+use Rattle.circuit_open.specs.Open.{changed_at}
 use Rattle.circuit_open.proofs.ChangeLaws.{both}
 use Rattle.annotation_model.specs.Spots.{path_spot, spots_in, spots_of}
 use Rattle.annotation_spots.specs.Rows.{spots_before, AreRows, IsIn}

@@ -3,4 +3,5 @@ mod AnnotatedLaws
 mod ElementLaws
 mod LimitLaws
 mod PartLaws
+mod SetLaws
 mod SpotLaws

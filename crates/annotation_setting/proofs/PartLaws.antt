@@ -1,13 +1,11 @@
 -- Limits after entries: there are two, and of a check that has one no entry changes the second.
 use Rattle.std.specs.Prelude.{◌≡◌, ℕ, ℤ, pos, ◌&&◌, Bool, true, false, if◌then◌else◌, List, [], ◌∷◌, length, Option, None, slice_index_or, refl}
 use Rattle.std.specs.List.{filter}
-use Rattle.std.proofs.Common.{sym, ◌∙◌, ap, subst, arith}
+use Rattle.std.proofs.Common.{sym, ◌∙◌, ap, arith}
 use Rattle.sg_delay.specs.declared.corners.Corner.{Corner}
 use Rattle.sg_circuit.specs.Checks.{CheckConditions}
 use Rattle.sg_circuit.specs.Circuit.{Circuit}
-use Rattle.sg_circuit.specs.Closed.{HasLimits}
 use Rattle.sg_circuit.specs.declared.checks.CheckKind.{CheckKind}
-use Rattle.sg_circuit.specs.declared.checks.CheckKind.TheVariants as kinds
 use Rattle.sg_circuit.specs.declared.checks.CheckTiming.{CheckTiming}
 use Rattle.sdf_tree.specs.declared.words.Divider.{Divider}
 use Rattle.sdf_tree.specs.Meant.{CellCheck, EntryKind, io_path, device, port_delay, interconnect, path_pulse, a_check, skipped_entry, Sdf, Triple}

@@ -1,6 +1,6 @@
 -- The timing of a leg, or of a path, by the kind of its element.
-use Rattle.std.specs.Prelude.{◌≡◌, ℕ, zero, suc, Bool, true, false, List, [], ◌∷◌, slice_index_or, refl}
-use Rattle.std.proofs.Common.{sym, ◌∙◌, ap, subst}
+use Rattle.std.specs.Prelude.{◌≡◌, ℕ, zero, suc, true, false, List, [], ◌∷◌, slice_index_or, refl}
+use Rattle.std.proofs.Common.{sym, ap, subst}
 use Rattle.sg_circuit.specs.Timings.{Timing}
 use Rattle.sg_circuit.specs.Circuit.{Circuit, Element, Kind, element_at}
 use Rattle.sg_circuit.specs.Seen.{circuit_seen, kind_seen}
@@ -9,7 +9,6 @@ use Rattle.sg_circuit.specs.declared.elements.Element as code_element
 use Rattle.sg_circuit.specs.declared.elements.ElementKind.{ElementKind}
 use Rattle.sg_circuit.specs.declared.elements.ElementKind.TheVariants as kind
 use Rattle.circuit_open.specs.Open.{changed_at, with_kind, with_leg, with_path}
-use Rattle.circuit_open.proofs.ChangeLaws.{both}
 use Rattle.annotation_spots.specs.Rows.{IsIn}
 use Rattle.annotation_spots.specs.declared.spots.Spot as code_spot
 use Rattle.annotation_spots.proofs.CountLaws.{element-seen}

@@ -1,5 +1,5 @@
 -- A circuit's legs and paths with new timings, where a table has some.
-use Rattle.std.specs.Prelude.{ℕ, zero, suc, ◌+◌, Bool, true, false, List, [], ◌∷◌, length, Option, Some, None, slice_index_or}
+use Rattle.std.specs.Prelude.{ℕ, suc, ◌+◌, Bool, true, false, List, [], ◌∷◌, length, Option, Some, None, slice_index_or}
 use Rattle.std.specs.Global.{Box}
 use Rattle.sg_circuit.specs.Paths as specify
 use Rattle.sg_circuit.specs.Timings.{Timing}
@@ -8,7 +8,7 @@ use Rattle.sg_circuit.specs.Circuit.{Circuit, Element, Kind, Leg, Path}
 use Rattle.sg_circuit.specs.declared.elements.LegTiming.{LegTiming}
 use Rattle.sg_circuit.specs.declared.elements.ElementKind.{ElementKind}
 use Rattle.sg_circuit.specs.declared.elements.ElementKind.TheVariants as kind
-use Rattle.circuit_open.specs.Open.{with_kind, with_leg, with_path}
+use Rattle.circuit_open.specs.Open.{with_kind, with_path}
 use Rattle.annotation_model.specs.Spots.{spots_of}
 use Rattle.annotation_spots.specs.declared.spots.Spot as code_spot
 

@@ -39,10 +39,7 @@ fn set_others(opened: &mut OpenCircuit, check: u32, limits: &[i64; 2])
     ensures set { opened.new ≡ record { circuit = with_limits_at check limits.now opened.old.circuit; room = opened.old.room } }
     ensures two { (d : TimingSeen) → length (slice_index_or opened.old.circuit.check_timings check d).limits ≡ 2 }
 {
-    if are_same(
-        &opened.parts().check_timings[check as usize].limits,
-        limits,
-    ) {
+    if are_same(&opened.parts().check_timings[check as usize].limits, limits) {
         return;
     }
     set_check(opened, check, limits);

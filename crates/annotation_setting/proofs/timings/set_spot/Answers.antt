@@ -2,7 +2,6 @@
 use Rattle.std.proofs.Common.{◌∙◌, ◌≡◌, ◌-◌, ap, false, true, rules}
 use Rattle.sg_circuit.specs.Circuit.{Circuit}
 use Rattle.sg_circuit.specs.TimingsSeen.{leg_timing_seen}
-use Rattle.circuit_open.specs.Open.{Open}
 use Rattle.annotation_setting.specs.Timings.{is_leg}
 use Rattle.annotation_setting.proofs.SpotLaws.{leg-set, path-set}
 use Rattle.annotation_setting.proofs.timings.set_spot.Goals as goal

@@ -1,7 +1,7 @@
 -- The timing of one row more.
-use Rattle.std.proofs.Common.{◌∙◌, ◌≡◌, ◌<◌, ap, arith, length, sym, take}
+use Rattle.std.proofs.Common.{◌∙◌, ◌≡◌, ap, arith, sym, take}
 use Rattle.circuit_open.specs.Open.{Open}
-use Rattle.annotation_setting.specs.Timings.{at, count_of, with_new}
+use Rattle.annotation_setting.specs.Timings.{at, with_new}
 use Rattle.annotation_setting.proofs.ElementLaws.{at-default, room-left, row-stays, set-more, with-none}
 use Rattle.annotation_setting.proofs.timings.set_timings.Goals as goal
 
