@@ -1,5 +1,6 @@
 -- An index by a number and a name: which items have it, as they were added.
-use Rattle.std.specs.Prelude.{ℕ, ◌&&◌, nat_eq, bytes_eq, Bool, true, false, List, [], ◌∷◌, Option, Some, None}
+use Rattle.std.specs.Prelude.{◌≡◌, ℕ, ◌&&◌, nat_eq, bytes_eq, Bool, true, false, List, [], ◌∷◌, Option, Some, None}
+use Rattle.std.specs.List.{list_any}
 use Rattle.std.specs.Global.{Vec}
 use Rattle.indexmap.specs.IndexMap.{get_by}
 use Rattle.annotation_index.specs.declared.index.Index.{Index}
@@ -20,6 +21,6 @@ abbrev pub one_if : Bool → ℕ → List ℕ
 one_if true item = item ∷ []
 one_if false item = []
 
--- all names that items have are known
+-- the names that items have are known
 pub record AreNamed (index : Index) : Type 0 where
-  pub each : Unit {0}
+  pub unknown : (owner : ℕ) (name : List ℕ) → list_any (λ known. bytes_eq name known.now) index.names.keys ≡ false → list_at index owner name ≡ []

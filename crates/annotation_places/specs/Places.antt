@@ -1,6 +1,6 @@
 -- What the code's indexes of a circuit give, and that they are right.
-use Rattle.std.specs.Prelude.{◌≡◌, ℕ, ◌<◌, ◌+◌, ◌-◌, ◌^◌, bytes_eq, Bool, All, List, [], ◌∷◌, length, Option, Some, None, slice_index_or}
-use Rattle.std.specs.List.{filter, flat_map, range_with_len}
+use Rattle.std.specs.Prelude.{◌≡◌, ℕ, ◌<◌, ◌+◌, ◌-◌, ◌^◌, bytes_eq, Bool, All, List, [], length, None, slice_index_or}
+use Rattle.std.specs.List.{filter, range_with_len}
 use Rattle.sg_circuit.specs.Circuit.{Circuit, Variable, net_at, scope_at}
 use Rattle.sg_circuit.specs.Closed.{IsClosed}
 use Rattle.sg_circuit.specs.Seen.{circuit_seen, AreIndexed}

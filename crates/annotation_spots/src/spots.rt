@@ -1,11 +1,36 @@
 // A leg or a specify path.
-ghost use Rattle.std.specs.Prelude.{◌≡◌};
+ghost use Rattle.std.specs.Prelude.{◌≡◌, ◌<◌, ◌≤◌, ◌+◌, length, slice_index_or};
+ghost use Rattle.sg_circuit.specs.PathsSeen.{spanned};
 ghost use Rattle.sg_circuit.specs.Seen.{AreIndexed, circuit_seen};
 ghost use Rattle.sg_circuit.specs.TimingsSeen.{leg_timing_seen};
+ghost use Rattle.sg_circuit.specs.declared.paths.Path.{Path as PathSeen};
 ghost use Rattle.annotation_model.specs.Spots.{scope_of, timings_of};
+ghost use Rattle.annotation_spots.specs.Counts.{count_of, IsTimingAt, IsWithin};
 ghost use Rattle.annotation_spots.specs.Rows.{IsIn, spot_of};
 
-use sg_circuit::{LegTiming, Parts};
+use sg_circuit::{ElementKind, LegTiming, Parts, Path, Span};
+
+// The place of a path's timing, by the path's place in a span.
+fn timing_in(paths: &[Path], span: Span, path: u32) -> usize
+    requires path { span.start + path < span.end }
+    requires within { span.end ≤ length paths.now }
+    ensures { (d : PathSeen) → result ≡ (slice_index_or (spanned paths.now span) path d).timing }
+{
+    paths[span.start as usize + path as usize].timing
+}
+
+// The place of the timing of a leg, or of a path of an element of a kind.
+fn timing_at(paths: &[Path], kind: ElementKind, path: u32) -> usize
+    requires path { path < count_of kind }
+    requires within { IsWithin paths.now kind }
+    ensures { IsTimingAt paths.now kind path result }
+{
+    match kind {
+        ElementKind::Leg { timing } => timing as usize,
+        ElementKind::Path { paths: span, .. } => timing_in(paths, span, path),
+        _ => 0,
+    }
+}
 
 /// A leg, or a specify path by its place among those to its element's output.
 #[derive(Clone, Copy, Debug, PartialEq, Eq)]
@@ -30,6 +55,7 @@ impl Spot {
         requires indexed { AreIndexed parts.now }
         ensures { leg_timing_seen result.now ≡ timings_of (spot_of (circuit_seen parts.now) self.now) }
     {
-        &parts.leg_timings[0]
+        let kind = parts.elements[self.element as usize].kind;
+        &parts.leg_timings[timing_at(&parts.paths, kind, self.path)]
     }
 }

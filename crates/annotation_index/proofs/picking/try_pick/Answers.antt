@@ -14,4 +14,4 @@ returns-then-not-passes g c = λ seen h. picked_off (g.T.Test.test c.args.test.n
 pub returns : goal.returns
 returns g c = λ seen h.
     subst (λ xs. ArePicked (g.T.Test.test c.args.test.now) (seen ++ c.args.place ∷ []) (slice_set c.args.marks.now c.args.place true) xs) (sym c.in_ok-push.ensures.items)
-    (picked_on (g.T.Test.test c.args.test.now) seen c.args.marks.now c.args.found.now.items c.args.place c.requires c.if-marks-place.false (sym c.passes.ensures ∙ c.if-not-passes.false) h)
+    (picked_on (g.T.Test.test c.args.test.now) seen c.args.marks.now c.args.found.now.items c.args.place c.requires.within c.if-marks-place.false (sym c.passes.ensures ∙ c.if-not-passes.false) h)

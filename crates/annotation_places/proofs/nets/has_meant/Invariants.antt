@@ -1,0 +1,12 @@
+-- The net is among what is left where it is among all.
+use Rattle.std.proofs.Common.{◌≡◌, drop}
+use Rattle.std.specs.List.{flat_map}
+use Rattle.annotation_model.specs.Ports.{has}
+use Rattle.annotation_places.specs.Places.{role_seen}
+use Rattle.annotation_places.specs.Nets.{meant_at}
+use Rattle.annotation_places.proofs.nets.has_meant.Given as goal
+
+abbrev pub invariant-loop-place : goal.invariant-loop-place
+invariant-loop-place l =
+    has l.net (flat_map (meant_at (role_seen l.role) l.bit l.variables) (drop l.place-index l.places))
+    ≡ has l.net (flat_map (meant_at (role_seen l.role) l.bit l.variables) l.places)
