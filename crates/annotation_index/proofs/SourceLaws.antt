@@ -48,7 +48,7 @@ none_in : (q : ℕ → Bool) (xs : List ℕ) → ((k : ℕ) → q k ≡ false) �
 none_in q [] h = refl
 none_in q (x ∷ xs) h = or-none (q x) (list_any q xs) (h x) (none_in q xs h)
 
-has_range : (a n k : ℕ) → a ≤ k → k < a + n → has k (range_with_len a n) ≡ true
+pub has_range : (a n k : ℕ) → a ≤ k → k < a + n → has k (range_with_len a n) ≡ true
 has_range a zero k l m = absurd (omega (arith, l, m))
 has_range a (suc n) k l m = by (a == k) refl (λ h. has_range (a + 1) n k h (omega (arith, m)))
   where

@@ -1,3 +1,4 @@
 -- The modules of this folder.
+pub mod Indexes
 pub mod Nets
 pub mod Places

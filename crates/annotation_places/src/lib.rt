@@ -5,7 +5,10 @@ mod bits;
 mod leading;
 mod lookups;
 mod nets;
+mod place_indexes;
 mod places;
+mod scope_indexes;
+mod variable_index;
 
 pub use nets::Role;
 pub use places::Places;

@@ -1,4 +1,4 @@
-// What is found by scopes, names and nets that are referred to.
+// What indexes give for scopes, names and nets.
 ghost use Rattle.std.specs.Prelude.{◌≡◌, ◌<◌, All, length};
 ghost use Rattle.sg_circuit.specs.Seen.{circuit_seen};
 ghost use Rattle.annotation_places.specs.Places.{ArePlaces, lookups_of, variables_of};

@@ -3,8 +3,9 @@ ghost use Rattle.std.specs.Prelude.{◌≡◌, IfOk};
 ghost use Rattle.sg_circuit.specs.Seen.{circuit_seen};
 ghost use Rattle.annotation_places.specs.Places.{ArePlaces};
 
+use crate::{place_indexes, scope_indexes, variable_index};
 use annotation_index::Index;
-use annotation_spots::Spot;
+use annotation_spots::{Numbering, Spot};
 use sg_circuit::{Circuit, Parts};
 use sg_text::NoMemory;
 use std::alloc::Global;
@@ -30,6 +31,22 @@ impl<'a> Places<'a> {
         ensures places { IfOk result (λ p. ArePlaces p) }
         ensures seen { IfOk result (λ p. circuit_seen p.parts.now ≡ circuit.now) }
     {
-        Err(NoMemory)
+        let parts = circuit.parts();
+        let Numbering { spots, firsts } = annotation_spots::number(alloc, circuit)?;
+        let inside = scope_indexes::instances(alloc, parts)?;
+        let modules = scope_indexes::modules(alloc, parts)?;
+        let standing = place_indexes::spots_by_scope(alloc, parts, &spots)?;
+        let referring = place_indexes::checks_by_reference(alloc, parts)?;
+        let variables = variable_index::variables(alloc, parts)?;
+        Ok(Places {
+            parts,
+            spots,
+            firsts,
+            inside,
+            modules,
+            standing,
+            referring,
+            variables,
+        })
     }
 }

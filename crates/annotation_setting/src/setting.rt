@@ -1,5 +1,5 @@
 // A circuit with new timings and limits.
-ghost use Rattle.std.specs.Prelude.{◌≡◌, ◌<◌, ◌^◌, All, IfSome, OnErr, OnOk, List, length, map, unsigned_abs};
+ghost use Rattle.std.specs.Prelude.{◌≡◌, ◌<◌, ◌^◌, All, IfErr, IfOk, IfSome, OnErr, OnOk, List, length, map, unsigned_abs};
 ghost use Rattle.sg_delay.specs.declared.corners.Corner.{Corner};
 ghost use Rattle.sg_circuit.specs.Closed.{AreTimings};
 ghost use Rattle.sg_circuit.specs.TimingsSeen.{leg_timing_seen};
@@ -11,10 +11,39 @@ ghost use Rattle.annotation_model.specs.Spots.{all_checked, limits_after, spot_a
 ghost use Rattle.annotation_spots.specs.Rows.{AreRows};
 ghost use Rattle.annotation_setting.specs.Table.{timings_seen};
 
+use crate::blank::blank;
+use crate::limits::set_limits;
+use crate::timings::{count_new, set_timings};
 use annotation_spots::Spot;
+use circuit_open::OpenCircuit;
 use sg_circuit::{Circuit, LegTiming};
 use sg_text::NoMemory;
 use std::alloc::Global;
+use std::mem;
+
+// The circuit with them; or, without memory, as it was.
+fn set_in(
+    circuit: Circuit,
+    rows: &[Spot],
+    timings: &[Option<Box<LegTiming>>],
+    limits: &[[i64; 2]],
+) -> Result<Circuit, Circuit>
+    requires rows { AreRows circuit rows.now }
+    requires timing_of_each { length timings.now ≡ length rows.now }
+    requires timings { All (λ t. IfSome t (λ b. AreTimings (leg_timing_seen b.value))) timings.now }
+    requires limits { All AreSmall limits.now }
+    ensures annotated { IfOk result (λ new. (sdf : Sdf) (corner : Corner) (gs : List Given)
+        → timings_seen (all_spots circuit) timings.now ≡ map (spot_after circuit sdf corner gs) (all_spots circuit)
+        → limits.now ≡ map (limits_after circuit sdf corner gs) (all_checked circuit)
+        → new ≡ annotated_by circuit sdf corner gs) }
+    ensures kept { IfErr result (λ back. back ≡ circuit) }
+{
+    let checks = limits.len().min(circuit.parts().check_timings.len());
+    let mut opened = OpenCircuit::reserve(circuit, count_new(timings))?;
+    set_timings(&mut opened, rows, timings);
+    set_limits(&mut opened, &limits[..checks]);
+    Ok(opened.close())
+}
 
 /// Sets the timings of legs and specify paths, in the order of the rows that number them, where there are new ones, and the limits of
 /// all timing checks. Without memory the circuit is as before. Takes memory in proportion to the new timings.
@@ -36,5 +65,14 @@ pub fn set_all(
         → circuit.new ≡ annotated_by circuit.old sdf corner gs) }
     ensures kept { OnErr result (circuit.new ≡ circuit.old) }
 {
-    Err(NoMemory)
+    match set_in(mem::replace(circuit, blank(alloc)), rows, timings, limits) {
+        Ok(new) => {
+            *circuit = new;
+            Ok(())
+        }
+        Err(back) => {
+            *circuit = back;
+            Err(NoMemory)
+        }
+    }
 }

@@ -68,7 +68,7 @@ pub row-within : (parts : Parts) (row : code_spot.Spot) → IsIn (circuit_seen p
 row-within parts row h = subst (λ n. row.element < n) (length-map parts.elements.items (element_seen parts)) h.element
 
 -- its element, as it is seen
-element-seen : (parts : Parts) (row : code_spot.Spot) (e : code_element.Element) → IsIn (circuit_seen parts) row → e ≡ slice_index_or parts.elements.items row.element e
+pub element-seen : (parts : Parts) (row : code_spot.Spot) (e : code_element.Element) → IsIn (circuit_seen parts) row → e ≡ slice_index_or parts.elements.items row.element e
     → element_at (circuit_seen parts) row.element ≡ element_seen parts e
 element-seen parts row e h is = get_or-map (element_seen parts) parts.elements.items row.element e _ (row-within parts row h) ∙ ap (element_seen parts) (sym is)
 

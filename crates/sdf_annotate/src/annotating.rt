@@ -1,13 +1,62 @@
 // A whole file.
 ghost use Rattle.std.specs.Prelude.{◌≡◌, IfErr, IfOk, OnErr};
 ghost use Rattle.sdf_meaning.specs.MeantSeen.{view_sdf};
+ghost use Rattle.annotation_places.specs.Places.{ArePlaces};
+ghost use Rattle.annotation_spots.specs.Rows.{AreRows};
+ghost use Rattle.sdf_annotate.specs.Seen.{circuit_of};
 ghost use Rattle.sdf_annotate.specs.Told.{IsAnnotated, IsTooLargeAt, told_seen};
+ghost use Rattle.sdf_annotate.specs.Whole.{AreAfter};
 
+use crate::entries::annotate_cells;
+use crate::search::Search;
+use crate::tasks::Task;
 use crate::unmatched::{AnnotError, Unmatched};
+use crate::values::{NewValues, limits_of, no_timings};
+use annotation_places::Places;
+use annotation_setting::set_all;
+use annotation_spots::Spot;
 use sdf_tree::Sdf;
 use sg_circuit::Circuit;
 use sg_delay::Corner;
 use std::alloc::Global;
+
+// The values of all places after a file.
+fn new_values(alloc: Global, task: &Task<'_, '_, '_>) -> Result<NewValues, AnnotError>
+    requires places { ArePlaces task.now.places.now }
+    ensures after { IfOk result (AreAfter (circuit_of task.now) (view_sdf task.now.sdf.now) task.now.corner) }
+    ensures told { IfErr result (IsTooLargeAt (circuit_of task.now) (view_sdf task.now.sdf.now) task.now.corner) }
+{
+    let places = task.places;
+    let mut search = Search::new(alloc, task)?;
+    let mut values = NewValues {
+        timings: no_timings(alloc, places.spots.len())?,
+        limits: limits_of(alloc, &places.parts.check_timings)?,
+        unmatched: Vec::new(alloc),
+    };
+    annotate_cells(alloc, task, &task.sdf.cells, &mut search, &mut values)?;
+    Ok(values)
+}
+
+// The same of a circuit, with the rows that number its legs and paths.
+fn numbered_values(
+    alloc: Global,
+    circuit: &Circuit,
+    sdf: &Sdf<'_>,
+    corner: Corner,
+) -> Result<(Vec<Spot>, NewValues), AnnotError>
+    ensures rows { IfOk result (λ r. AreRows circuit.now r.0.items) }
+    ensures after { IfOk result (λ r. AreAfter circuit.now (view_sdf sdf.now) corner r.1) }
+    ensures told { IfErr result (IsTooLargeAt circuit.now (view_sdf sdf.now) corner) }
+{
+    let places = Places::of(alloc, circuit)?;
+    let task = Task {
+        places: &places,
+        sdf,
+        corner,
+    };
+    let values = new_values(alloc, &task)?;
+    Ok((places.spots, values))
+}
 
 /// Applies the entries of an SDF file to a circuit's delays and limits, one after another in the order of the file, with the values of a
 /// corner (IEEE 1497-2001; IEEE 1364-2005, clause 16), and gives the entries that are for nothing, in that order. Values are in ticks
@@ -25,5 +74,7 @@ pub fn annotate(
     ensures told { IfErr result (IsTooLargeAt circuit.old (view_sdf sdf.now) corner) }
     ensures kept { OnErr result (circuit.new ≡ circuit.old) }
 {
-    Err(AnnotError::NoMemory)
+    let (rows, values) = numbered_values(alloc, circuit, sdf, corner)?;
+    set_all(alloc, circuit, &rows, &values.timings, &values.limits)?;
+    Ok(values.unmatched)
 }

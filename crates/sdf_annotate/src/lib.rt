@@ -2,7 +2,16 @@
 #![tactic(auto)]
 
 mod annotating;
+mod entries;
+mod limits;
+mod notes;
+mod scales;
+mod search;
+mod tasks;
+mod timings;
 mod unmatched;
+mod values;
+mod words;
 
 pub use annotating::annotate;
 pub use unmatched::{AnnotError, Unmatched};

@@ -1,0 +1,7 @@
+-- The lemma files of this folder.
+mod AnnotatedLaws
+mod ElementLaws
+mod LimitLaws
+mod PartLaws
+mod SetLaws
+mod SpotLaws

@@ -1,0 +1,10 @@
+-- The modules of this folder.
+pub mod BoundLaws
+pub mod CellSteps
+pub mod CheckLaws
+pub mod EntrySteps
+pub mod PassSteps
+pub mod RowLaws
+pub mod ScopeLaws
+pub mod TableSteps
+pub mod WholeSteps

@@ -1,0 +1,12 @@
+// What is to be annotated.
+use annotation_places::Places;
+use sdf_tree::Sdf;
+use sg_delay::Corner;
+
+/// The places of a circuit, the file whose entries are applied to them, and the corner whose values are taken.
+#[derive(Clone, Copy)]
+pub struct Task<'t, 'p, 's> {
+    pub places: &'t Places<'p>,
+    pub sdf: &'t Sdf<'s>,
+    pub corner: Corner,
+}
