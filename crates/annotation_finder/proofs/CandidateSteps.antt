@@ -2,8 +2,8 @@
 use Rattle.std.specs.Prelude.{◌≡◌, refl, ℕ, ◌+◌, ◌<◌, ◌≤◌, All, List, [], ◌∷◌, ◌++◌, length, take, reverse, slice_index_or}
 use Rattle.std.specs.Global.{Vec}
 use Rattle.std.specs.List.{flat_map}
-use Rattle.std.proofs.Common.{ap, sym, ◌∙◌, subst, arith}
-use Rattle.std.proofs.lemmas.List.{append_assoc, append-nil, take_more, take_all, flat_map_more, reverse-reverse}
+use Rattle.std.proofs.Common.{ap, sym, ◌∙◌, subst}
+use Rattle.std.proofs.lemmas.List.{append-nil, take_more, take_all, flat_map_more, reverse-reverse}
 use Rattle.std.proofs.lemmas.List.Elements.{All-append}
 use Rattle.annotation_index.specs.Candidates.{Lookups, descend}
 use Rattle.annotation_scopes.specs.Walks.{names_seen}

@@ -1,5 +1,5 @@
 -- Timing checks, and what is asked of them.
-use Rattle.std.specs.Prelude.{◌≡◌, refl, ℕ, zero, suc, ◌<◌, ◌&&◌, ◌||◌, nat_lt, Bool, true, false, if◌then◌else◌, List, [], ◌∷◌, length, map, slice_index_or, Option, Some, None, is_some}
+use Rattle.std.specs.Prelude.{◌≡◌, refl, ℕ, zero, suc, ◌<◌, ◌&&◌, nat_lt, Bool, true, false, if◌then◌else◌, List, [], ◌∷◌, length, map, slice_index_or, Option, Some, None}
 use Rattle.std.specs.Option.{option_map}
 use Rattle.std.proofs.Common.{ap, sym, ◌∙◌, subst, arith}
 use Rattle.std.proofs.lemmas.Bool.Decides.{nat_tests}
@@ -27,7 +27,7 @@ use Rattle.annotation_model.specs.Spots.{Checked, checked, all_checked, is_given
 use Rattle.annotation_model.specs.Finding.{no_check, check_at}
 use Rattle.annotation_finder.specs.Finding.{is_marked}
 use Rattle.annotation_finder.specs.Sought.{Named}
-use Rattle.annotation_finder.specs.Checks.{SoughtTerminal, SoughtTerminals, terminal_for, terminals_for, event_fits, datum_fits, events_fit, check_fits, check_passes}
+use Rattle.annotation_finder.specs.Checks.{SoughtTerminal, SoughtTerminals, terminal_for, terminals_for, datum_fits, events_fit, check_fits, check_passes}
 
 -- ---- the three tables of checks
 

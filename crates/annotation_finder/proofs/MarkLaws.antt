@@ -1,5 +1,5 @@
 -- Marks that are unset.
-use Rattle.std.specs.Prelude.{◌≡◌, ◌≢◌, refl, ℕ, ◌+◌, ◌<◌, ◌≤◌, ◌==◌, ◌&&◌, ◌||◌, not, nat_lt, Bool, true, false, if◌then◌else◌, All, List, [], ◌∷◌, ◌++◌, length, take, slice_index_or, slice_set}
+use Rattle.std.specs.Prelude.{◌≡◌, ◌≢◌, refl, ℕ, ◌+◌, ◌<◌, ◌≤◌, ◌&&◌, ◌||◌, not, nat_lt, Bool, true, false, if◌then◌else◌, All, List, [], ◌∷◌, ◌++◌, length, take, slice_index_or, slice_set}
 use Rattle.std.proofs.Common.{ap, sym, ◌∙◌, subst, arith, inl, inr}
 use Rattle.std.proofs.lemmas.Bool.{cases_eq}
 use Rattle.std.proofs.lemmas.Bool.Decides.{nat_tests}
@@ -7,7 +7,7 @@ use Rattle.std.proofs.lemmas.List.{get_or-set_same, get_or-set_other, get_or_pas
 use Rattle.std.proofs.lemmas.List.Elements.{All-from_get_or}
 use Rattle.annotation_model.specs.Listed.{occurrences}
 use Rattle.annotation_model.specs.Ports.{has}
-use Rattle.annotation_model.proofs.ListedLaws.{test_same, test_other, occurs_at, occurs_later, occurs_here}
+use Rattle.annotation_model.proofs.ListedLaws.{test_same, test_other, occurs_at, occurs_later}
 use Rattle.annotation_index.specs.Picking.{ArePicked}
 use Rattle.annotation_index.proofs.PickLaws.{has-append, picked_none}
 

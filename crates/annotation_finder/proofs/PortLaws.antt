@@ -1,17 +1,15 @@
 -- The names of ports.
-use Rattle.std.specs.Prelude.{◌≡◌, refl, ℕ, suc, ◌+◌, ◌<◌, ◌==◌, Bool, true, false, if◌then◌else◌, List, [], ◌∷◌, ◌++◌, map, reverse, length}
+use Rattle.std.specs.Prelude.{◌≡◌, refl, ℕ, suc, ◌<◌, ◌==◌, Bool, true, false, if◌then◌else◌, List, [], ◌∷◌, ◌++◌, map, reverse, length}
 use Rattle.std.specs.Global.{Vec}
-use Rattle.std.specs.List.{flat_map}
-use Rattle.std.specs.Option.{option_to_list}
-use Rattle.std.proofs.Common.{ap, sym, ◌∙◌, arith, ℤ, Option, Some, None}
+use Rattle.std.proofs.Common.{ap, sym, ◌∙◌, arith, ℤ, Option}
 use Rattle.std.proofs.lemmas.Bool.Decides.{nat_tests}
-use Rattle.std.proofs.lemmas.List.{length-map, length-append, length-reverse, map-append, reverse-append}
+use Rattle.std.proofs.lemmas.List.{length-map, length-reverse, map-append, reverse-append}
 use Rattle.sdf_lex.specs.declared.letters.Letter.{Letter}
 use Rattle.sdf_lex.specs.Names.{called, path_parts, parts_of, in_front, is_divider, letters_of}
 use Rattle.sdf_lex.specs.Words.{spelled}
 use Rattle.sg_circuit.specs.Circuit.{Circuit, scope_at}
 use Rattle.sg_circuit.specs.declared.scopes.Port.{Port}
-use Rattle.annotation_model.specs.Ports.{has, own_nets, nets_named}
+use Rattle.annotation_model.specs.Ports.{own_nets, nets_named}
 use Rattle.annotation_scopes.specs.Walks.{names_seen}
 use Rattle.annotation_finder.specs.Sought.{Named}
 

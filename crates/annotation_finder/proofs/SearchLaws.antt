@@ -4,15 +4,14 @@ use Rattle.std.proofs.Common.{ap, sym, ◌∙◌}
 use Rattle.sg_circuit.specs.Circuit.{Circuit, scope_at}
 use Rattle.sg_circuit.specs.Closed.{IsClosed}
 use Rattle.sg_circuit.specs.Paths as specify
-use Rattle.sg_circuit.specs.declared.scopes.Port.{Port as PortKind}
 use Rattle.sdf_tree.specs.declared.words.Divider.{Divider}
 use Rattle.sdf_tree.specs.declared.tree.Edge.{Edge}
-use Rattle.sdf_tree.specs.Written.{Port, PathCondition, always}
+use Rattle.sdf_tree.specs.Written.{Port, PathCondition}
 use Rattle.sdf_tree.specs.Meant.{EntryKind, io_path, device, port_delay, interconnect, path_pulse, a_check, skipped_entry}
 use Rattle.annotation_model.specs.Given.{Given}
 use Rattle.annotation_model.specs.Scopes.{names_back, climb, is_of_cell}
 use Rattle.annotation_model.specs.Ports.{has, is_input, nets_named}
-use Rattle.annotation_model.specs.Matching.{named_from, leads_below, leads_between, is_cell_scope, is_source, only, fits_path, is_for_path, fits_leg}
+use Rattle.annotation_model.specs.Matching.{named_from, leads_below, leads_between, is_cell_scope, is_source, only, fits_path, fits_leg}
 use Rattle.annotation_model.specs.Spots.{Spot, leg_spot, path_spot, scope_of, is_for_spot}
 use Rattle.annotation_index.specs.Candidates.{Lookups, spots_for, is_source_down}
 use Rattle.annotation_index.proofs.ScopeLaws.{climb-within}

@@ -1,15 +1,14 @@
 -- Legs and paths by their rows.
-use Rattle.std.specs.Prelude.{◌≡◌, refl, ℕ, ◌<◌, ◌≤◌, ◌&&◌, nat_lt, Bool, true, false, List, [], length, map, None, slice_index_or}
+use Rattle.std.specs.Prelude.{◌≡◌, ℕ, ◌<◌, ◌&&◌, nat_lt, Bool, true, List, [], length, None, slice_index_or}
 use Rattle.std.proofs.Common.{ap, sym, ◌∙◌, subst, arith}
 use Rattle.std.proofs.lemmas.Bool.Decides.{nat_tests}
 use Rattle.std.proofs.lemmas.List.{length-map, get_or-map}
 use Rattle.sg_delay.specs.declared.limits.PulseStyle.{PulseStyle}
-use Rattle.sg_circuit.specs.Circuit.{Circuit, Element, Kind, Leg, Path, Scope, element_at}
+use Rattle.sg_circuit.specs.Circuit.{Circuit, Element, element_at}
 use Rattle.sg_circuit.specs.Closed.{IsClosed}
 use Rattle.sg_circuit.specs.Paths as specify
-use Rattle.sg_circuit.specs.PathsSeen.{AreIndexedPaths, IsIndexedPath, path_seen, paths_seen, spanned}
+use Rattle.sg_circuit.specs.PathsSeen.{AreIndexedPaths, path_seen, paths_seen, spanned}
 use Rattle.sg_circuit.specs.Seen.{circuit_seen, element_seen, kind_seen, scope_seen, AreIndexed, IsIndexed}
-use Rattle.sg_circuit.specs.Timings.{Timing}
 use Rattle.sg_circuit.specs.TimingsSeen.{timings_at}
 use Rattle.sg_circuit.specs.declared.circuits.Parts.{Parts}
 use Rattle.sg_circuit.specs.declared.elements.Element as code_element
@@ -20,7 +19,7 @@ use Rattle.sg_circuit.specs.declared.paths.Span.{Span}
 use Rattle.sg_circuit.specs.declared.scopes.Scope as code_scope
 use Rattle.annotation_model.specs.Finding.{no_spot, spot_at}
 use Rattle.annotation_model.specs.Matching.{only}
-use Rattle.annotation_model.specs.Spots.{Spot, leg_spot, path_spot, spots}
+use Rattle.annotation_model.specs.Spots.{leg_spot, path_spot, spots}
 use Rattle.annotation_index.specs.Candidates.{Lookups}
 use Rattle.annotation_spots.specs.Rows.{AreRows, IsIn, spot_of}
 use Rattle.annotation_spots.specs.declared.spots.Spot as code_spot

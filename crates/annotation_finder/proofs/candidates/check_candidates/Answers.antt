@@ -1,5 +1,5 @@
 -- The checks of one scope more were found.
-use Rattle.std.proofs.Common.{[], ◌<◌, ◌∙◌, sym, ap, length, ℕ, List}
+use Rattle.std.proofs.Common.{[], ◌<◌, ◌∙◌, sym, ap, length}
 use Rattle.std.specs.List.{flat_map}
 use Rattle.std.proofs.lemmas.List.Elements.{All-nil, All-same}
 use Rattle.sg_circuit.specs.Circuit.{scope_at}

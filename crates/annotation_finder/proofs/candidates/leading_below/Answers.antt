@@ -1,5 +1,5 @@
 -- What leads to the port in the scopes to which its path leads.
-use Rattle.std.proofs.Common.{◌≡◌, ℕ, List, ◌∙◌, ap, reverse}
+use Rattle.std.proofs.Common.{◌≡◌, ℕ, ◌∙◌, ap}
 use Rattle.std.specs.Global.{Vec}
 use Rattle.std.specs.List.{flat_map}
 use Rattle.std.proofs.lemmas.Result.{IfOk-weaker}
@@ -8,7 +8,6 @@ use Rattle.sg_circuit.specs.Seen.{circuit_seen}
 use Rattle.annotation_index.specs.Candidates.{to_named}
 use Rattle.annotation_model.specs.Ports.{is_input, nets_named}
 use Rattle.annotation_places.specs.Places.{lookups_of}
-use Rattle.annotation_scopes.specs.Walks.{names_seen}
 use Rattle.annotation_finder.specs.Sought.{named_seen}
 use Rattle.annotation_finder.proofs.CandidateSteps.{scopes_named}
 use Rattle.annotation_finder.proofs.candidates.leading_below.Goals as goal

@@ -1,5 +1,5 @@
 -- What leads to the port of one scope more was found.
-use Rattle.std.proofs.Common.{[], ◌<◌, ◌∙◌, length, ℕ, List}
+use Rattle.std.proofs.Common.{[], ◌<◌, length}
 use Rattle.std.specs.List.{flat_map}
 use Rattle.std.proofs.lemmas.List.Elements.{All-nil, All-same}
 use Rattle.sg_circuit.specs.Circuit.{scope_at}

@@ -1,6 +1,6 @@
 -- It is found inside one of the scopes of the first name, or in none.
 use Rattle.std.proofs.Common.{◌∙◌, ◌-◌, ap, sym, length, take, drop}
-use Rattle.std.specs.List.{flat_map, list_any}
+use Rattle.std.specs.List.{list_any}
 use Rattle.sg_circuit.specs.Seen.{circuit_seen}
 use Rattle.annotation_index.specs.Candidates.{descend, is_source_at}
 use Rattle.annotation_places.specs.Places.{lookups_of}

@@ -1,5 +1,5 @@
 -- What was picked is marked, and then nothing is.
-use Rattle.std.proofs.Common.{ℕ, ◌<◌, length, subst}
+use Rattle.std.proofs.Common.{◌<◌, length, subst}
 use Rattle.std.proofs.lemmas.List.Elements.{All-same}
 use Rattle.annotation_finder.proofs.MarkLaws.{AreUnset, picked_of, picked-within, picked-unset}
 use Rattle.annotation_finder.proofs.marks.pick_each.Goals as goal

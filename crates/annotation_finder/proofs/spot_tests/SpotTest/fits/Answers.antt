@@ -1,11 +1,8 @@
 -- A leg or a path of the spot's element.
-use Rattle.std.proofs.Common.{◌∙◌, ap}
-use Rattle.sg_circuit.specs.Seen.{circuit_seen}
-use Rattle.annotation_model.specs.Matching.{only}
 use Rattle.annotation_places.specs.Places.{lookups_of}
 use Rattle.annotation_finder.specs.Finding.{is_marked}
 use Rattle.annotation_finder.specs.Sought.{sought_seen}
-use Rattle.annotation_finder.proofs.SpotLaws.{element_within, element_scope, leg_case, path_span, path_within, path_case}
+use Rattle.annotation_finder.proofs.SpotLaws.{path_case}
 use Rattle.annotation_finder.proofs.spot_tests.SpotTest.fits.Goals as goal
 
 pub returns-in-Path : goal.returns-in-Path
