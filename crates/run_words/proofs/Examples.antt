@@ -5,7 +5,7 @@ use Rattle.run_words.specs.Words.{command_of, default_corner, default_rounds, de
 
 -- `run --stim=s --vcd v -- -a.v`
 behind_the_end : command_of (codes "run" ∷ codes "--stim=s" ∷ codes "--vcd" ∷ codes "v" ∷ codes "--" ∷ codes "-a.v" ∷ [])
-    ≡ Some (record { netlists = codes "-a.v" ∷ []; stimulus = codes "s"; vcd = codes "v"; top = None; corner = default_corner; rounds = default_rounds; wheel = default_wheel })
+    ≡ Some (record { netlists = codes "-a.v" ∷ []; sdf = None; stimulus = codes "s"; vcd = codes "v"; top = None; corner = default_corner; rounds = default_rounds; wheel = default_wheel })
 behind_the_end = refl
 
 -- `run a.v --stim s b.v --vcd v c.v`
@@ -15,8 +15,13 @@ three_netlists = refl
 
 -- `run a.v --stim=-s --vcd v --corner max --rounds 0000007`
 value_with_a_dash : command_of (codes "run" ∷ codes "a.v" ∷ codes "--stim=-s" ∷ codes "--vcd" ∷ codes "v" ∷ codes "--corner" ∷ codes "max" ∷ codes "--rounds" ∷ codes "0000007" ∷ [])
-    ≡ Some (record { netlists = codes "a.v" ∷ []; stimulus = codes "-s"; vcd = codes "v"; top = None; corner = Max; rounds = 7; wheel = default_wheel })
+    ≡ Some (record { netlists = codes "a.v" ∷ []; sdf = None; stimulus = codes "-s"; vcd = codes "v"; top = None; corner = Max; rounds = 7; wheel = default_wheel })
 value_with_a_dash = refl
+
+-- `run a.v --sdf=d.sdf --vcd v --stim s`
+with_delays : names_in (command_of (codes "run" ∷ codes "a.v" ∷ codes "--sdf=d.sdf" ∷ codes "--vcd" ∷ codes "v" ∷ codes "--stim" ∷ codes "s" ∷ []))
+    ≡ codes "a.v" ∷ codes "d.sdf" ∷ codes "s" ∷ codes "v" ∷ []
+with_delays = refl
 
 -- no words; an option twice; no netlist; a wheel of 0; eight digits
 no_words : command_of [] ≡ None
@@ -33,6 +38,12 @@ wheel_of_none = refl
 
 eight_digits : command_of (codes "run" ∷ codes "a.v" ∷ codes "--stim" ∷ codes "s" ∷ codes "--vcd" ∷ codes "v" ∷ codes "--wheel" ∷ codes "00000008" ∷ []) ≡ None
 eight_digits = refl
+
+sdf_twice : command_of (codes "run" ∷ codes "a.v" ∷ codes "--stim" ∷ codes "s" ∷ codes "--vcd" ∷ codes "v" ∷ codes "--sdf" ∷ codes "d" ∷ codes "--sdf" ∷ codes "e" ∷ []) ≡ None
+sdf_twice = refl
+
+empty_sdf : command_of (codes "run" ∷ codes "a.v" ∷ codes "--stim" ∷ codes "s" ∷ codes "--vcd" ∷ codes "v" ∷ codes "--sdf=" ∷ []) ≡ None
+empty_sdf = refl
 
 -- `-` as a netlist; `-` as the next word's value; an empty value; a name cut short; `--` as a value
 dash_alone : command_of (codes "run" ∷ codes "-" ∷ codes "--stim" ∷ codes "s" ∷ codes "--vcd" ∷ codes "v" ∷ []) ≡ None

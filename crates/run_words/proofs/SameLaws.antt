@@ -40,16 +40,16 @@ corner-Decides Max Typ = (λ e. cc, λ e. cc)
 corner-Decides Max Max = (λ _. refl, λ _. refl)
 
 pub commands-Decide : (a b : code.Command) (r : Bool)
-    → r ≡ (pointwise same_text a.netlists.items b.netlists.items && (bytes_eq a.stimulus.now b.stimulus.now && (bytes_eq a.vcd.now b.vcd.now && (option_eq same_text a.top b.top
-    && (sameb the_type a.corner b.corner && (nat_eq a.rounds b.rounds && nat_eq a.wheel b.wheel))))))
+    → r ≡ (pointwise same_text a.netlists.items b.netlists.items && (option_eq same_text a.sdf b.sdf && (bytes_eq a.stimulus.now b.stimulus.now && (bytes_eq a.vcd.now b.vcd.now && (option_eq same_text a.top b.top
+    && (sameb the_type a.corner b.corner && (nat_eq a.rounds b.rounds && nat_eq a.wheel b.wheel)))))))
     → Decides r (command_seen a ≡ command_seen b)
 commands-Decide a b r e =
     let x = command_seen a in
     let y = command_seen b in
     let fields =
-    Decides-and _ _ (names-Decides a.netlists.items b.netlists.items) (Decides-and _ _ (bytes_eq-Decides a.stimulus.now b.stimulus.now) (Decides-and _ _ (bytes_eq-Decides a.vcd.now b.vcd.now)
-    (Decides-and _ _ (name-Decides a.top b.top) (Decides-and _ _ (corner-Decides a.corner b.corner) (Decides-and _ _ (Decides-eqb a.rounds b.rounds) (Decides-eqb a.wheel b.wheel)))))) in
+    Decides-and _ _ (names-Decides a.netlists.items b.netlists.items) (Decides-and _ _ (name-Decides a.sdf b.sdf) (Decides-and _ _ (bytes_eq-Decides a.stimulus.now b.stimulus.now) (Decides-and _ _ (bytes_eq-Decides a.vcd.now b.vcd.now)
+    (Decides-and _ _ (name-Decides a.top b.top) (Decides-and _ _ (corner-Decides a.corner b.corner) (Decides-and _ _ (Decides-eqb a.rounds b.rounds) (Decides-eqb a.wheel b.wheel))))))) in
     Decides-at r _ e (Decides-like _ (λ h. cc) (λ same. (
       ap (λ c. c.netlists) same,
-      (ap (λ c. c.stimulus) same, (ap (λ c. c.vcd) same, (ap (λ c. c.top) same, (ap (λ c. c.corner) same, (ap (λ c. c.rounds) same, ap (λ c. c.wheel) same))))),
+      (ap (λ c. c.sdf) same, (ap (λ c. c.stimulus) same, (ap (λ c. c.vcd) same, (ap (λ c. c.top) same, (ap (λ c. c.corner) same, (ap (λ c. c.rounds) same, ap (λ c. c.wheel) same)))))),
     )) fields)

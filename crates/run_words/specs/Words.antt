@@ -2,15 +2,17 @@
 use Rattle.std.specs.Prelude.{ℕ, List, [], ◌∷◌, ◌++◌, length, Bool, ◌&&◌, Option, Some, None, option_and_then, nat_le, codes, if◌then◌else◌}
 use Rattle.std.specs.Char.{is_ascii_digit}
 use Rattle.std.specs.List.{list_any, list_all, filter_map, slice_get}
+use Rattle.std.specs.Option.{option_to_list}
 use Rattle.std.specs.Str.Parse.{digits_value}
 use Rattle.sg_delay.specs.declared.corners.Corner.{Corner}
 use Rattle.sg_delay.specs.declared.corners.Corner.TheVariants.{Min, Typ, Max}
 use Rattle.run_words.specs.Arguments.{Argument, setting, netlist, is_text, arguments_of}
 
--- a run: the netlists' files in their order, the files of the stimulus and of the value change dump, the top module, the
--- corner of the delays, the bound on the rounds of one time, and the slots of the wheel
+-- a run: the netlists' files in their order, the SDF file, the files of the stimulus and of the value change dump, the top
+-- module, the corner of the delays, the bound on the rounds of one time, and the slots of the wheel
 pub record Command : Type 0 where
   pub netlists : List (List ℕ)
+  pub sdf : Option (List ℕ)
   pub stimulus : List ℕ
   pub vcd : List ℕ
   pub top : Option (List ℕ)
@@ -44,9 +46,9 @@ abbrev pub netlists_of : List Argument → List (List ℕ)
 netlists_of arguments = filter_map netlist_in arguments
 
 abbrev pub option_names : List (List ℕ)
-option_names = codes "stim" ∷ codes "vcd" ∷ codes "top" ∷ codes "corner" ∷ codes "rounds" ∷ codes "wheel" ∷ []
+option_names = codes "stim" ∷ codes "vcd" ∷ codes "sdf" ∷ codes "top" ∷ codes "corner" ∷ codes "rounds" ∷ codes "wheel" ∷ []
 
--- an option's name is one of the six, and no value and no netlist's name is empty
+-- an option's name is one of the seven, and no value and no netlist's name is empty
 abbrev pub is_known : Argument → Bool
 is_known (setting name value) = list_any (is_text name) option_names && nat_le 1 (length value)
 is_known (netlist name) = nat_le 1 (length name)
@@ -101,7 +103,7 @@ command_with netlists arguments = do
   corner ← read_or default_corner corner_of (value_of (codes "corner") arguments)
   rounds ← read_or default_rounds (number_up_to most_rounds) (value_of (codes "rounds") arguments)
   wheel ← read_or default_wheel (number_up_to most_wheel) (value_of (codes "wheel") arguments)
-  Some (record { netlists = netlists; stimulus = stimulus; vcd = vcd; top = value_of (codes "top") arguments; corner = corner; rounds = rounds; wheel = wheel })
+  Some (record { netlists = netlists; sdf = value_of (codes "sdf") arguments; stimulus = stimulus; vcd = vcd; top = value_of (codes "top") arguments; corner = corner; rounds = rounds; wheel = wheel })
 
 abbrev pub command_from : List Argument → Option Command
 command_from arguments = if are_sound arguments then command_with (netlists_of arguments) arguments else None
@@ -111,7 +113,7 @@ abbrev pub command_of : List (List ℕ) → Option Command
 command_of [] = None
 command_of (first ∷ words) = if is_text (codes "run") first then option_and_then command_from (arguments_of words) else None
 
--- the names of files in a command: the netlists, the stimulus, the dump
+-- the names of files in a command: the netlists, the SDF file where there is one, the stimulus, the dump
 abbrev pub names_in : Option Command → List (List ℕ)
 names_in None = []
-names_in (Some c) = c.netlists ++ c.stimulus ∷ c.vcd ∷ []
+names_in (Some c) = c.netlists ++ option_to_list c.sdf ++ c.stimulus ∷ c.vcd ∷ []

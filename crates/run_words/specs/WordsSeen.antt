@@ -6,6 +6,7 @@ use Rattle.run_words.specs.Words.{Command}
 abbrev pub command_seen : code.Command → Command
 command_seen c = record {
   netlists = map (λ name. name.now) c.netlists.items;
+  sdf = option_map (λ name. name.now) c.sdf;
   stimulus = c.stimulus.now;
   vcd = c.vcd.now;
   top = option_map (λ name. name.now) c.top;

@@ -28,6 +28,8 @@ const MOST_WHEEL: u32 = 1 << 20;
 pub struct Command<'a> {
     /// One or more, in their order.
     pub netlists: Vec<&'a str>,
+    /// The file of the delays and limits that are annotated.
+    pub sdf: Option<&'a str>,
     pub stimulus: &'a str,
     /// The file for the value change dump.
     pub vcd: &'a str,
@@ -69,6 +71,7 @@ fn command_with<'a>(netlists: Vec<&'a str>, arguments: &[Argument<'a>]) -> Optio
     let wheel = number_or(arguments, "wheel", MOST_WHEEL, DEFAULT_WHEEL)?;
     Some(Command {
         netlists,
+        sdf: value_of(arguments, "sdf"),
         stimulus,
         vcd,
         top: value_of(arguments, "top"),

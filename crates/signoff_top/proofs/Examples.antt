@@ -1,10 +1,13 @@
 -- Worked examples of refusals.
-use Rattle.std.specs.Prelude.{◌≡◌, ◌++◌, [], ◌∷◌, Err, codes, refl}
+use Rattle.std.specs.Prelude.{◌≡◌, ◌++◌, [], ◌∷◌, None, Ok, Err, codes, refl}
 use Rattle.std.specs.Fmt.{digits}
 use Rattle.netlist_read.specs.Kinds.{of_syntax}
+use Rattle.sdf_read.specs.declared.faults.SdfKind.TheVariants as delays
+use Rattle.sg_circuit.specs.Circuit.{Circuit}
+use Rattle.sg_delay.specs.declared.corners.Corner.{Corner}
 use Rattle.stim_read.specs.declared.kinds.StimKind.TheVariants as stim
 use Rattle.wave_out.specs.Texts.{line, line_of}
-use Rattle.signoff_top.specs.Phases.{FilesOutcome, goes_on, stops, missing, netlist, stimulus, refusal_line, refused_at, stimulus_kind}
+use Rattle.signoff_top.specs.Phases.{AnnotatedOutcome, FilesOutcome, goes_on, stops, missing, netlist, sdf, stimulus, refusal_line, refused_at, sdf_kind, stimulus_kind, too_large_kind}
 
 -- a line feed ends the line on which it stands
 breaks : line_of (codes "ab" ++ 10 ∷ codes "c") 2 ≡ 1
@@ -24,6 +27,18 @@ netlist_line = refl
 stimulus_line : refusal_line (stimulus (codes "t.st") 3 (stimulus_kind stim.NoEnd)) ≡ line (codes "stimulus refused: t.st:3: NoEnd")
 unfolding digits
 stimulus_line = refl
+
+sdf_line : refusal_line (sdf (codes "t.sdf") 7 (sdf_kind delays.LimitsCross)) ≡ line (codes "sdf refused: t.sdf:7: LimitsCross")
+unfolding digits
+sdf_line = refl
+
+too_large_line : refusal_line (sdf (codes "t.sdf") 10 too_large_kind) ≡ line (codes "sdf refused: t.sdf:10: TooLarge")
+unfolding digits
+too_large_line = refl
+
+-- without an SDF file the circuit is as it was, and nothing is unmatched
+without_sdf : (corner : Corner) (circuit : Circuit) → AnnotatedOutcome None corner [] circuit (Ok (record { circuit = circuit; unmatched = [] }))
+without_sdf corner circuit = refl
 
 -- the first file that isn't held is missing
 one_is_held : FilesOutcome (codes "a.v" ∷ codes "b.v" ∷ codes "c.v" ∷ []) (record { name = codes "a.v"; bytes = 32 ∷ [] } ∷ []) (Err (missing (codes "b.v")))

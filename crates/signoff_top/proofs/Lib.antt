@@ -2,6 +2,7 @@
 pub mod Putting
 pub mod Telling
 pub mod Composed
+pub mod Entries
 pub mod FilesRead
 pub mod WordsRead
 pub mod Worked

@@ -6,11 +6,15 @@ use Rattle.sg_io.specs.Files.{File, bytes_of}
 use Rattle.sg_circuit.specs.Circuit.{Circuit}
 use Rattle.sg_delay.specs.declared.corners.Corner.{Corner}
 use Rattle.netlist_read.proofs.ReadingLaws as netlist
+use Rattle.sdf_read.proofs.OneOutcome.{reads_once}
+use Rattle.sdf_read.specs.Outcomes.{Fault}
+use Rattle.sdf_tree.specs.Meant.{Sdf}
 use Rattle.stim_read.proofs.OnceLaws as stimulus
 use Rattle.run_words.specs.Words.{Command, command_of}
 use Rattle.signoff_top.specs.Answer.{Answer, IsAnswer, answer_of}
-use Rattle.signoff_top.specs.Phases.{Refusal, Then, stops, goes_on, Task, TaskOutcome, status_of_refusal}
-use Rattle.signoff_top.specs.Phases.{CircuitOutcome, InputOutcome, WordsOutcome, FileOutcome, FilesOutcome, NetlistOutcome, StimulusOutcome}
+use Rattle.wave_out.specs.Report.{Unmatched}
+use Rattle.signoff_top.specs.Phases.{Annotated, Refusal, Then, stops, goes_on, Task, TaskOutcome, status_of_refusal}
+use Rattle.signoff_top.specs.Phases.{AnnotatedOutcome, AnnotationOutcome, CircuitOutcome, EntriesOutcome, InputOutcome, SdfOutcome, WordsOutcome, FileOutcome, FilesOutcome, NetlistOutcome, StimulusOutcome}
 
 -- two outcomes are one value, or two refusals of one status
 abbrev Agree : {A : Type 0} → Result A Refusal → Result A Refusal → Type 0
@@ -57,6 +61,40 @@ netlist_agree names texts top corner (Ok c) (Err r) h k = netlist.read-is-faultl
 netlist_agree names texts top corner (Err r) (Ok c) h k = netlist.read-is-faultless texts top corner c k h.0 h.1 h.2
 netlist_agree names texts top corner (Err r) (Err s) h k = ap status_of_refusal h.3 ∙ sym (ap status_of_refusal k.3)
 
+ok_same : (file other : Sdf) → ◌≡◌ {A = Result Sdf Fault} (Ok file) (Ok other) → file ≡ other
+ok_same file other e = cc
+
+ok_or_fault : (file : Sdf) (fault : Fault) → ◌≡◌ {A = Result Sdf Fault} (Ok file) (Err fault) → ⊥
+ok_or_fault file fault e = cc
+
+sdf_agree : (name text : List ℕ) → AllAgree (SdfOutcome name text)
+sdf_agree name text (Ok file) (Ok other) h k = ok_same file other (reads_once text (Ok file) (Ok other) h k)
+sdf_agree name text (Ok file) (Err r) h k = ok_or_fault file k.0 (reads_once text (Ok file) (Err k.0) h k.1)
+sdf_agree name text (Err r) (Ok file) h k = ok_or_fault file h.0 (reads_once text (Ok file) (Err h.0) k h.1)
+sdf_agree name text (Err r) (Err s) h k = ap status_of_refusal h.2 ∙ sym (ap status_of_refusal k.2)
+
+none_or_some : {A : Type 0} (o : Option A) (x : A) → o ≡ None → o ≡ Some x → ⊥
+none_or_some o x e f = let k : None ≡ Some x = sym e ∙ f in cc
+
+annotated_once : (a b : Annotated) (circuit : Circuit) (unmatched : List Unmatched) → a.circuit ≡ circuit → a.unmatched ≡ unmatched → b.circuit ≡ circuit → b.unmatched ≡ unmatched → a ≡ b
+annotated_once a b circuit unmatched p q r s =
+    ap (λ (c : Circuit). record { circuit = c; unmatched = a.unmatched }) (p ∙ sym r) ∙ ap (λ (us : List Unmatched). record { circuit = b.circuit; unmatched = us }) (q ∙ sym s)
+
+annotation_agree : (name text : List ℕ) (file : Sdf) (corner : Corner) (circuit : Circuit) → AllAgree (AnnotationOutcome name text file corner circuit)
+annotation_agree name text file corner circuit (Ok a) (Ok b) h k = annotated_once a b _ _ h.circuit h.unmatched k.circuit k.unmatched
+annotation_agree name text file corner circuit (Ok a) (Err r) h k = none_or_some _ k.place h.fine k.stands
+annotation_agree name text file corner circuit (Err r) (Ok a) h k = none_or_some _ h.place k.fine h.stands
+annotation_agree name text file corner circuit (Err r) (Err s) h k = ap status_of_refusal h.told ∙ sym (ap status_of_refusal k.told)
+
+entries_agree : (name text : List ℕ) (corner : Corner) (circuit : Circuit) → AllAgree (EntriesOutcome name text corner circuit)
+entries_agree name text corner circuit =
+    then_agree (SdfOutcome name text) (λ file. AnnotationOutcome name text file corner circuit) (sdf_agree name text) (λ file. annotation_agree name text file corner circuit)
+
+annotated_agree : (sdf : Option (List ℕ)) (corner : Corner) (files : List File) (circuit : Circuit) → AllAgree (AnnotatedOutcome sdf corner files circuit)
+annotated_agree None corner files circuit o p h k = equal_agree o p (h ∙ sym k)
+annotated_agree (Some name) corner files circuit o p h k =
+    then_agree (FileOutcome name (bytes_of name files)) (λ text. EntriesOutcome name text corner circuit) (file_agree name (bytes_of name files)) (λ text. entries_agree name text corner circuit) o p h k
+
 stimulus_agree : (name text : List ℕ) (circuit : Circuit) → AllAgree (StimulusOutcome name text circuit)
 stimulus_agree name text circuit (Ok s) (Ok t) h k = stimulus.read-once text circuit s t h k
 stimulus_agree name text circuit (Ok s) (Err r) h k = stimulus.read-is-faultless text circuit s k.0 k.1 h k.2
@@ -75,7 +113,8 @@ pub task_agree : (ws : List (List ℕ)) (files : List File) (o p : Result Task R
 task_agree ws files =
     then_agree _ _ (words_agree (command_of ws)) (λ command.
     then_agree _ _ (circuit_agree command files) (λ circuit.
-    then_agree _ _ (input_agree command.stimulus files circuit) (λ input o p h k. equal_agree o p (h ∙ sym k))))
+    then_agree _ _ (annotated_agree command.sdf command.corner files circuit) (λ annotated.
+    then_agree _ _ (input_agree command.stimulus files annotated.circuit) (λ input o p h k. equal_agree o p (h ∙ sym k)))))
 
 status_agrees : (o p : Result Task Refusal) → Agree o p → (answer_of o).status ≡ (answer_of p).status
 status_agrees (Ok a) (Ok b) e = ap (λ t. (answer_of (Ok t)).status) e

@@ -13,8 +13,8 @@ use Rattle.wave_out.specs.Spent.{spent_seen}
 use Rattle.run_dump.specs.RunEnds.{violations_of}
 use Rattle.run_words.specs.Words.{Command, command_of, names_in}
 use Rattle.signoff_top.specs.Answer.{Answer, IsAnswer, FilesAfter, answer_of, dump_of, run_of, status_of_run, fault_line}
-use Rattle.signoff_top.specs.Phases.{Refusal, Task, TaskOutcome, WordsOutcome, CircuitOutcome, InputOutcome, Then, stops, goes_on, words, missing, netlist, stimulus, status_of_refusal, refusal_line}
-use Rattle.signoff_top.specs.Promises.{ShelfTold, IsRight, FitsWords, HasAnswer, FaultAt, at_netlist, at_stimulus, at_dump, NamesFaultAt, LeavesUnfinished, whole, till_fault, Outcome, answered, shelf_fault, sink_fault, no_memory, sink_want, IsExact, IsStatusOf, KeepsBut, KeepsByAnswer, KeepsByWords, IsUsage}
+use Rattle.signoff_top.specs.Phases.{Refusal, Task, TaskOutcome, WordsOutcome, AnnotatedOutcome, CircuitOutcome, InputOutcome, Then, stops, goes_on, words, missing, netlist, sdf, stimulus, status_of_refusal, refusal_line}
+use Rattle.signoff_top.specs.Promises.{ShelfTold, IsRight, FitsWords, HasAnswer, FaultAt, at_netlist, at_sdf, at_stimulus, at_dump, NamesFaultAt, LeavesUnfinished, whole, till_fault, Outcome, answered, shelf_fault, sink_fault, no_memory, sink_want, IsExact, IsStatusOf, KeepsBut, KeepsByAnswer, KeepsByWords, IsUsage}
 use Rattle.signoff_top.specs.Putting.{PutsAll, PutsLast}
 use Rattle.signoff_top.specs.Putting as putting
 use Rattle.signoff_top.specs.Status.{IsDecided, IsRunEnd, is_run_end}
@@ -57,6 +57,7 @@ refusal_decided : (r : Refusal) → IsDecided (status_of_refusal r)
 refusal_decided words = tt
 refusal_decided (missing name) = tt
 refusal_decided (netlist name n kind) = tt
+refusal_decided (sdf name n kind) = tt
 refusal_decided (stimulus name n kind) = tt
 
 run_fits : (o : Option Command) (P : Command → code_done.Done → Type 0) (done : code_done.Done) (spent : Option (ℕ × Option ℕ)) (violations : List Violation) (text : List ℕ) → StopWords o P (Ok done)
@@ -68,6 +69,7 @@ spares_fits : (r : code_refusal.Refusal) → SparesWords (stop.Refused r) → st
 spares_fits refusal.Words h = absurd h
 spares_fits (refusal.Missing name) h = λ e. let k : status.Missing ≡ status.Usage = e in cc
 spares_fits (refusal.Netlist name line kind) h = λ e. let k : status.Netlist ≡ status.Usage = e in cc
+spares_fits (refusal.Sdf name line fault) h = λ e. let k : status.Sdf ≡ status.Usage = e in cc
 spares_fits (refusal.Stimulus name line kind) h = λ e. let k : status.Stimulus ≡ status.Usage = e in cc
 
 refused_is : (r s : code_refusal.Refusal) → stop.Refused r ≡ stop.Refused s → r ≡ s
@@ -84,14 +86,14 @@ refusal_fits (Some c) P r h = spares_fits r h
 
 -- the end of a run is a right answer
 done_right : (ws : List (List ℕ)) (done : code_done.Done) (old new : List File) → WorkLeaves ws (Ok done) old new
-    → IsRight ws (status_of_run (spent_seen done.end.spent) (violations_of done.end)) (report_lines done.task.circuit [] (violations_of done.end) done.task.input.end (spent_seen done.end.spent)) old new
+    → IsRight ws (status_of_run (spent_seen done.end.spent) (violations_of done.end)) (report_lines done.task.circuit (task_seen done.task).unmatched (violations_of done.end) done.task.input.end (spent_seen done.end.spent)) old new
 done_right ws done old new (outcome, after, (spent, violations)) =
     let task : Task = task_seen done.task in
     record {
       answer = answer_of (Ok task);
       right = (Ok task, outcome, refl);
       status = ap (λ s. status_of_run s (violations_of done.end)) spent ∙ ap (status_of_run (run_of task).spent) violations;
-      report = ap (report_lines task.circuit [] (violations_of done.end) task.input.end) spent ∙ ap (λ vs. report_lines task.circuit [] vs task.input.end (run_of task).spent) violations;
+      report = ap (report_lines task.circuit task.unmatched (violations_of done.end) task.input.end) spent ∙ ap (λ vs. report_lines task.circuit task.unmatched vs task.input.end (run_of task).spent) violations;
       files = after;
     }
 
@@ -124,7 +126,7 @@ pub outcome : (ws : List (List ℕ)) (end : Result code_done.Done code_stop.Stop
     → StopWords (command_of ws) (λ c done. done.task.vcd.now ≡ c.vcd) end → TellsEnd shelf'.last end sink sink' how → Outcome ws shelf shelf' sink sink' how
 outcome ws (Ok done) how shelf shelf' sink sink' l c n w t =
     let planned = status_of_run (spent_seen done.end.spent) (violations_of done.end) in
-    let text = report_lines done.task.circuit [] (violations_of done.end) done.task.input.end (spent_seen done.end.spent) in
+    let text = report_lines done.task.circuit (task_seen done.task).unmatched (violations_of done.end) done.task.input.end (spent_seen done.end.spent) in
     told_case ws planned how text shelf shelf' sink sink' (record {
       decided = run_decided (spent_seen done.end.spent) (violations_of done.end);
       words = run_fits (command_of ws) (λ c done. done.task.vcd.now ≡ c.vcd) done (spent_seen done.end.spent) (violations_of done.end) text w;
@@ -169,7 +171,8 @@ task_names : (ws : List (List ℕ)) (files : List File) (p : Result Task Refusal
 task_names ws files =
     words_names (command_of ws) _ (λ c.
     then_names (CircuitOutcome c files) _ c (λ circuit.
-    then_names (InputOutcome c.stimulus files circuit) _ c (λ input p e. subst (Names c) (sym e) refl)))
+    then_names (AnnotatedOutcome c.sdf c.corner files circuit) _ c (λ annotated.
+    then_names (InputOutcome c.stimulus files annotated.circuit) _ c (λ input p e. subst (Names c) (sym e) refl))))
 
 -- where nothing changed, every file but one stays
 keeps_same : (made : Option File) (files : List File) → KeepsBut made files files
@@ -195,7 +198,8 @@ unfinished_by_words ws old new (inr (task, outcome, left)) = begun_by_words (com
 
 fault_unfinished : (ws : List (List ℕ)) (old new : List File) (name : List ℕ) → FaultAt ws old new name → LeavesUnfinished ws old new
 fault_unfinished ws old new _ (at_netlist c before name after texts e split read same) = inl same
-fault_unfinished ws old new _ (at_stimulus c circuit e o same) = inl same
+fault_unfinished ws old new _ (at_sdf c name circuit e is o same) = inl same
+fault_unfinished ws old new _ (at_stimulus c circuit annotated e o a same) = inl same
 fault_unfinished ws old new _ (at_dump task o left) = inr (task, o, left)
 
 fits_usage : (o : Option Command) (how : Status) (text : List ℕ) → FitsWords o how text → IsUsage o how

@@ -1,7 +1,7 @@
 -- What the putting of a report tells.
-use Rattle.std.proofs.Common.{◌≡◌, ◌∙◌, sym, subst, inl, inr, ℕ, true, false, List, []}
+use Rattle.std.proofs.Common.{◌≡◌, ◌∙◌, sym, ap, subst, inl, inr, ℕ, true, false, List, [], map}
 use Rattle.std.specs.Prelude.{Ok, Err}
-use Rattle.sg_io.specs.Put.{SinkTold, Puts}
+use Rattle.sg_io.specs.Put.{SinkTold}
 use Rattle.sg_io.specs.declared.outside.ShelfError.TheVariants as shelf
 use Rattle.signoff_top.specs.Answer.{report_fault_line, no_memory_line}
 use Rattle.signoff_top.specs.Promises.{whole, till_fault}
@@ -10,7 +10,14 @@ use Rattle.signoff_top.specs.Status.{is_run_end}
 use Rattle.signoff_top.specs.Work.{Tells, told, fault, want, no_memory}
 use Rattle.signoff_top.specs.declared.status.Status.{Status}
 use Rattle.signoff_top.specs.declared.status.Status.TheVariants as status
-use Rattle.wave_out.specs.Reporting.{PutsMade}
+use Rattle.sdf_annotate.specs.declared.unmatched.Unmatched as code_unmatched
+use Rattle.sg_circuit.specs.Circuit.{Circuit}
+use Rattle.time_checks.specs.Seen.{violation_seen}
+use Rattle.time_checks.specs.declared.violations.Violation as code_violation
+use Rattle.wave_out.specs.declared.report.ReportEnd.{ReportEnd}
+use Rattle.wave_out.specs.Report.{report_lines}
+use Rattle.wave_out.specs.Reporting.{PutsMade, unmatched_seen}
+use Rattle.wave_out.specs.Spent.{end_spent, end_time}
 use Rattle.signoff_top.proofs.Putting.{put_by}
 
 -- a text that was put, or for which there was no memory
@@ -30,3 +37,12 @@ tells_cut text planned old new e (inr h) = let f : Err shelf.Failed ≡ Err shel
 pub tells_want : (text : List ℕ) (planned : Status) (old cut new : SinkTold) → PutsMade text old cut (Err shelf.NoMemory) → PutsLast no_memory_line cut new → Tells text planned old new status.NoMemory
 tells_want text planned old cut new (inl h) l = want cut (put_by [] old cut (Err shelf.NoMemory) h) l
 tells_want text planned old cut new (inr h) l = no_memory (subst (λ s. PutsLast no_memory_line s new) h.1 l)
+
+-- the lines of what a report is lent
+pub lines_lent : (circuit : Circuit) (sdf sdf' : List ℕ) (us us' : List code_unmatched.Unmatched) (vs vs' : List code_violation.Violation) (end : ReportEnd) → sdf ≡ sdf' → us ≡ us' → vs ≡ vs'
+    → report_lines circuit (map (unmatched_seen sdf) us) (map (λ v. violation_seen v) vs) (end_time end) (end_spent end)
+    ≡ report_lines circuit (map (unmatched_seen sdf') us') (map (λ v. violation_seen v) vs') (end_time end) (end_spent end)
+lines_lent circuit sdf sdf' us us' vs vs' end p q r =
+    ap (λ (t : List ℕ). report_lines circuit (map (unmatched_seen t) us) (map (λ v. violation_seen v) vs) (end_time end) (end_spent end)) p
+    ∙ (ap (λ (xs : List code_unmatched.Unmatched). report_lines circuit (map (unmatched_seen sdf') xs) (map (λ v. violation_seen v) vs) (end_time end) (end_spent end)) q
+    ∙ ap (λ (xs : List code_violation.Violation). report_lines circuit (map (unmatched_seen sdf') us') (map (λ v. violation_seen v) xs) (end_time end) (end_spent end)) r)

@@ -1,6 +1,5 @@
 -- What the phases and the run leave is what the work leaves.
-use Rattle.std.proofs.Common.{◌≡◌, refl, sym, subst, inr, lit<, List, [], ◌∷◌, ℕ}
-use Rattle.std.proofs.lemmas.List.Elements.{Contains-append_right}
+use Rattle.std.proofs.Common.{◌≡◌, refl, subst, inr, List, ℕ}
 use Rattle.std.specs.Prelude.{Option, Some, None, Result, Ok, Err, Contains}
 use Rattle.sg_io.specs.Files.{File, BothTell}
 use Rattle.run_words.specs.Words.{Command, command_of, names_in}
@@ -14,6 +13,7 @@ use Rattle.signoff_top.specs.Work.{WorkLeaves}
 use Rattle.signoff_top.specs.declared.phases.Task as code_task
 use Rattle.signoff_top.specs.declared.stop.Stop as code_stop
 use Rattle.signoff_top.specs.declared.stop.Stop.TheVariants as stop
+use Rattle.signoff_top.proofs.Composed.{dump_among}
 
 -- what a phase gave, where the shelf tells
 abbrev GivesTask : List (List ℕ) → Option (List File) → Result code_task.Task code_stop.Stop → Type 0
@@ -35,9 +35,9 @@ want_leaves ws task old mid new g e h =
     from_task ws task old mid new (LeavesPrefix task.vcd.now (dump_of (task_seen task))) (WorkLeaves ws (Err stop.NoMemory)) g e h (λ x y outcome left. inr (task_seen task, outcome, left))
 
 -- the dump's name is one of the words
-dump_among : (o : Option Command) (task : code_task.Task) → StopWords o (λ c t. t.vcd.now ≡ c.vcd) (Ok task) → Contains (names_in o) task.vcd.now
-dump_among None task h = absurd h
-dump_among (Some c) task h = Contains-append_right c.netlists (c.stimulus ∷ c.vcd ∷ []) task.vcd.now (1, lit< tt, sym h)
+named_among : (o : Option Command) (task : code_task.Task) → StopWords o (λ c t. t.vcd.now ≡ c.vcd) (Ok task) → Contains (names_in o) task.vcd.now
+named_among None task h = absurd h
+named_among (Some c) task h = dump_among c task.vcd.now h
 
 -- a failure on the dump's file
 pub failed_at_dump : (ws : List (List ℕ)) (task : code_task.Task) (old mid new : Option (List File)) (last : Option (List ℕ)) → GivesTask ws old (Ok task) → mid ≡ old
@@ -45,6 +45,6 @@ pub failed_at_dump : (ws : List (List ℕ)) (task : code_task.Task) (old mid new
 failed_at_dump ws task old mid new last g e h w n = record {
   name = task.vcd.now;
   told = n;
-  among = dump_among (command_of ws) task w;
+  among = named_among (command_of ws) task w;
   place = from_task ws task old mid new (LeavesPrefix task.vcd.now (dump_of (task_seen task))) (λ before after. FaultAt ws before after task.vcd.now) g e h (λ x y outcome left. at_dump (task_seen task) outcome left);
 }

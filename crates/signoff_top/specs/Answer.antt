@@ -34,11 +34,11 @@ abbrev pub answer_of : Result Task Refusal → Answer
 answer_of (Ok task) = record {
   status = status_of_run (run_of task).spent (run_of task).run.violations;
   made = Some (record { name = task.vcd; bytes = dump_of task });
-  report = report_text task.circuit [] task.input.end (run_of task);
+  report = report_text task.circuit task.unmatched task.input.end (run_of task);
 }
 answer_of (Err r) = record { status = status_of_refusal r; made = None; report = refusal_line r }
 
--- the answer is right for these words and files
+-- the answer is right for these words and files: those of the netlist, the SDF file where one is named, and the stimulus
 abbrev pub IsAnswer : List (List ℕ) → List File → Answer → Type 0
 IsAnswer ws files answer = (outcome : Result Task Refusal) × TaskOutcome ws files outcome × (answer ≡ answer_of outcome)
 

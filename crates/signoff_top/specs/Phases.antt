@@ -1,15 +1,22 @@
 -- The answer to a command line, phase by phase. Each phase has its outcomes, over what the phases before it gave: a
 -- value for the phases after it, or a refusal, with which the work ends.
-use Rattle.std.specs.Prelude.{ℕ, ◌≡◌, ◌++◌, ◌+◌, ◌^◌, List, [], ◌∷◌, Option, Some, None, Result, Ok, Err, codes, decimal, slice_index_or, take}
+use Rattle.std.specs.Prelude.{ℕ, ◌≡◌, ◌++◌, ◌+◌, ◌^◌, List, [], ◌∷◌, Option, Some, None, Result, Ok, Err, codes, decimal, map, slice_index_or, take}
 use Rattle.sg_io.specs.Files.{File, bytes_of}
 use Rattle.sg_text.specs.declared.places.Place.{Place}
 use Rattle.sg_delay.specs.declared.corners.Corner.{Corner}
 use Rattle.sg_circuit.specs.Circuit.{Circuit}
 use Rattle.sg_stimulus.specs.Stimulus.{Stimulus}
+use Rattle.sdf_tree.specs.Meant.{Sdf}
+use Rattle.annotation_model.specs.Annotated as annotation
+use Rattle.wave_out.specs.Report.{Unmatched}
 use Rattle.wave_out.specs.Texts.{line, line_of}
 use Rattle.run_words.specs.Words.{Command, command_of}
 use Rattle.netlist_read.specs.Kinds.{Kind, kind_text}
 use Rattle.netlist_read.specs.Reading as netlist_text
+use Rattle.sdf_read.specs.Outcomes.{Fault}
+use Rattle.sdf_read.specs.Reads.{Reads}
+use Rattle.sdf_read.specs.declared.faults.SdfKind.{SdfKind}
+use Rattle.sdf_read.specs.declared.faults.SdfKind.TheVariants as delays
 use Rattle.stim_read.specs.Reading as stimulus_text
 use Rattle.stim_read.specs.declared.kinds.StimKind.{StimKind}
 use Rattle.stim_read.specs.declared.kinds.StimKind.TheVariants as stim
@@ -23,12 +30,14 @@ pub data Refusal : Type 0 where
   missing : List ℕ → Refusal
   -- the file's name, the line, and the kind as it is written
   netlist : List ℕ → ℕ → List ℕ → Refusal
+  sdf : List ℕ → ℕ → List ℕ → Refusal
   stimulus : List ℕ → ℕ → List ℕ → Refusal
 
 abbrev pub status_of_refusal : Refusal → Status
 status_of_refusal words = status.Usage
 status_of_refusal (missing name) = status.Missing
 status_of_refusal (netlist name n kind) = status.Netlist
+status_of_refusal (sdf name n kind) = status.Sdf
 status_of_refusal (stimulus name n kind) = status.Stimulus
 
 abbrev pub usage_line : List ℕ
@@ -42,6 +51,7 @@ abbrev pub refusal_line : Refusal → List ℕ
 refusal_line words = usage_line
 refusal_line (missing name) = line (codes "missing: " ++ name)
 refusal_line (netlist name n kind) = located_line (codes "netlist refused: ") name n kind
+refusal_line (sdf name n kind) = located_line (codes "sdf refused: ") name n kind
 refusal_line (stimulus name n kind) = located_line (codes "stimulus refused: ") name n kind
 
 -- a phase and then another, over what the first gave; a refusal of the first is that of both
@@ -76,6 +86,49 @@ abbrev pub NetlistOutcome : List (List ℕ) → List (List ℕ) → Option (List
 NetlistOutcome names texts top corner (Ok circuit) = netlist_text.IsRead texts top corner circuit
 NetlistOutcome names texts top corner (Err r) = (kind : Kind) × (place : Place) × netlist_text.FaultStands texts top corner kind place × (r ≡ refused_at names texts kind place)
 
+-- the kinds of an SDF file's faults as they are written
+abbrev pub sdf_kind : SdfKind → List ℕ
+sdf_kind delays.BadByte = codes "BadByte"
+sdf_kind delays.Syntax = codes "Syntax"
+sdf_kind delays.BadCount = codes "BadCount"
+sdf_kind delays.BadNumber = codes "BadNumber"
+sdf_kind delays.TooDeep = codes "TooDeep"
+sdf_kind delays.FileTooLarge = codes "FileTooLarge"
+sdf_kind delays.LimitsCross = codes "LimitsCross"
+
+-- and that of an entry that is too large for the circuit
+abbrev pub too_large_kind : List ℕ
+too_large_kind = codes "TooLarge"
+
+-- the SDF file's text is read in
+abbrev pub SdfOutcome : List ℕ → List ℕ → Result Sdf Refusal → Type 0
+SdfOutcome name text (Ok file) = Reads text (Ok file)
+SdfOutcome name text (Err r) = (fault : Fault) × Reads text (Err fault) × (r ≡ sdf name (line_of text fault.place.byte) (sdf_kind fault.kind))
+
+-- a circuit as its entries leave it, and those that are for nothing in it, by line and word
+pub record Annotated : Type 0 where
+  pub circuit : Circuit
+  pub unmatched : List Unmatched
+
+abbrev pub unmatched_at : List ℕ → Place × List ℕ → Unmatched
+unmatched_at text told = record { line = line_of text told.0.byte; word = told.1 }
+
+-- the entries are applied with the values of this corner: none of them is too large
+pub record IsAnnotatedBy (text : List ℕ) (file : Sdf) (corner : Corner) (c : Circuit) (a : Annotated) : Type 0 where
+  pub fine : annotation.too_large c file corner ≡ None
+  pub circuit : a.circuit ≡ annotation.annotated c file corner
+  pub unmatched : a.unmatched ≡ map (unmatched_at text) (annotation.unmatched c file)
+
+-- or the first of them that is too large is told
+pub record TellsTooLarge (name text : List ℕ) (file : Sdf) (corner : Corner) (c : Circuit) (r : Refusal) : Type 0 where
+  pub place : Place
+  pub stands : annotation.too_large c file corner ≡ Some place
+  pub told : r ≡ sdf name (line_of text place.byte) too_large_kind
+
+abbrev pub AnnotationOutcome : List ℕ → List ℕ → Sdf → Corner → Circuit → Result Annotated Refusal → Type 0
+AnnotationOutcome name text file corner circuit (Ok a) = IsAnnotatedBy text file corner circuit a
+AnnotationOutcome name text file corner circuit (Err r) = TellsTooLarge name text file corner circuit r
+
 -- the kinds of a stimulus's faults as they are written
 abbrev pub stimulus_kind : StimKind → List ℕ
 stimulus_kind stim.Syntax = codes "Syntax"
@@ -95,6 +148,7 @@ StimulusOutcome name text circuit (Err r) =
 -- what is run
 pub record Task : Type 0 where
   pub circuit : Circuit
+  pub unmatched : List Unmatched
   pub rounds : ℕ
   pub input : Stimulus
   pub vcd : List ℕ
@@ -103,15 +157,26 @@ pub record Task : Type 0 where
 abbrev pub CircuitOutcome : Command → List File → Result Circuit Refusal → Type 0
 CircuitOutcome command files = Then (FilesOutcome command.netlists files) (λ texts. NetlistOutcome command.netlists texts command.top command.corner)
 
+-- the text of an SDF file is read in, and its entries are applied
+abbrev pub EntriesOutcome : List ℕ → List ℕ → Corner → Circuit → Result Annotated Refusal → Type 0
+EntriesOutcome name text corner circuit = Then (SdfOutcome name text) (λ file. AnnotationOutcome name text file corner circuit)
+
+-- the SDF file of this name, where there is one; without it the circuit is as it was
+abbrev pub AnnotatedOutcome : Option (List ℕ) → Corner → List File → Circuit → Result Annotated Refusal → Type 0
+AnnotatedOutcome None corner files circuit outcome = outcome ≡ Ok (record { circuit = circuit; unmatched = [] })
+AnnotatedOutcome (Some name) corner files circuit outcome = Then (FileOutcome name (bytes_of name files)) (λ text. EntriesOutcome name text corner circuit) outcome
+
 -- the stimulus of this name
 abbrev pub InputOutcome : List ℕ → List File → Circuit → Result Stimulus Refusal → Type 0
 InputOutcome name files circuit = Then (FileOutcome name (bytes_of name files)) (λ text. StimulusOutcome name text circuit)
 
--- All phases up to the run, over the words and the files that are held. How many buckets the wheel of events has is no
+-- All phases up to the run, over the words and the files that are held: those of the netlist, of the delays where the words
+-- name an SDF file, and of the stimulus. How many buckets the wheel of events has is no
 -- part of it: the answer is the same.
 abbrev pub TaskOutcome : List (List ℕ) → List File → Result Task Refusal → Type 0
 TaskOutcome ws files =
     Then (WordsOutcome (command_of ws)) (λ command.
     Then (CircuitOutcome command files) (λ circuit.
-    Then (InputOutcome command.stimulus files circuit) (λ input outcome.
-    outcome ≡ Ok (record { circuit = circuit; rounds = command.rounds; input = input; vcd = command.vcd }))))
+    Then (AnnotatedOutcome command.sdf command.corner files circuit) (λ annotated.
+    Then (InputOutcome command.stimulus files annotated.circuit) (λ input outcome.
+    outcome ≡ Ok (record { circuit = annotated.circuit; unmatched = annotated.unmatched; rounds = command.rounds; input = input; vcd = command.vcd })))))

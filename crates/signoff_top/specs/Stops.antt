@@ -4,16 +4,23 @@ use Rattle.sg_io.specs.Files.{File}
 use Rattle.sg_io.specs.declared.outside.ShelfError.{ShelfError}
 use Rattle.sg_io.specs.declared.outside.ShelfError.TheVariants as shelf
 use Rattle.run_words.specs.Words.{Command}
-use Rattle.signoff_top.specs.Phases.{Refusal, FilesOutcome, words, missing, netlist, stimulus, stimulus_kind}
+use Rattle.signoff_top.specs.Phases.{Refusal, FilesOutcome, words, missing, netlist, sdf, sdf_kind, too_large_kind, stimulus, stimulus_kind}
 use Rattle.signoff_top.specs.declared.stop.Stop as code_stop
 use Rattle.signoff_top.specs.declared.stop.Stop.TheVariants as stop
+use Rattle.signoff_top.specs.declared.stop.SdfFault.{SdfFault}
+use Rattle.signoff_top.specs.declared.stop.SdfFault.TheVariants as sdf_fault
 use Rattle.signoff_top.specs.declared.stop.Refusal as code_refusal
 use Rattle.signoff_top.specs.declared.stop.Refusal.TheVariants as refusal
+
+abbrev pub sdf_fault_seen : SdfFault → List ℕ
+sdf_fault_seen (sdf_fault.Text kind) = sdf_kind kind
+sdf_fault_seen sdf_fault.TooLarge = too_large_kind
 
 abbrev pub refusal_seen : code_refusal.Refusal → Refusal
 refusal_seen refusal.Words = words
 refusal_seen (refusal.Missing name) = missing name.now
 refusal_seen (refusal.Netlist name line kind) = netlist name.now line kind.items
+refusal_seen (refusal.Sdf name line fault) = sdf name.now line (sdf_fault_seen fault)
 refusal_seen (refusal.Stimulus name line kind) = stimulus name.now line (stimulus_kind kind)
 
 -- the outcome that a phase returned, unless memory ran out or a call outside failed
@@ -57,11 +64,18 @@ pub record FailsAtOne (names : List (List ℕ)) (held : Option (List File)) (las
   pub told : last ≡ Some name
   pub read : (files : List File) → held ≡ Some files → (texts : List (List ℕ)) × FilesOutcome before files (Ok texts)
 
+-- the shelf names the file that was given in the last call that failed
+pub record FailsAtGiven (given last : Option (List ℕ)) : Type 0 where
+  pub name : List ℕ
+  pub is : given ≡ Some name
+  pub told : last ≡ Some name
+
 -- the words aren't refused
 abbrev pub SparesWords : code_stop.Stop → Type 0
 SparesWords (stop.Refused refusal.Words) = ⊥
 SparesWords (stop.Refused (refusal.Missing name)) = Unit {0}
 SparesWords (stop.Refused (refusal.Netlist name line kind)) = Unit {0}
+SparesWords (stop.Refused (refusal.Sdf name line fault)) = Unit {0}
 SparesWords (stop.Refused (refusal.Stimulus name line kind)) = Unit {0}
 SparesWords stop.Failed = Unit {0}
 SparesWords stop.NoMemory = Unit {0}

@@ -1,7 +1,13 @@
--- The program's tasks as the definition sees them.
+-- The program's tasks as the definition sees them, and annotated circuits.
+use Rattle.std.specs.Prelude.{map}
 use Rattle.sg_stimulus.specs.Seen.{stimulus_seen}
+use Rattle.wave_out.specs.Reporting.{unmatched_seen}
+use Rattle.signoff_top.specs.declared.annotation.Annotated as code_annotated
 use Rattle.signoff_top.specs.declared.phases.Task as code_task
-use Rattle.signoff_top.specs.Phases.{Task}
+use Rattle.signoff_top.specs.Phases.{Annotated, Task}
+
+abbrev pub annotated_seen : code_annotated.Annotated → Annotated
+annotated_seen a = record { circuit = a.circuit; unmatched = map (unmatched_seen a.sdf.items) a.unmatched.items }
 
 abbrev pub task_seen : code_task.Task → Task
-task_seen t = record { circuit = t.circuit; rounds = t.rounds; input = stimulus_seen t.input; vcd = t.vcd.now }
+task_seen t = record { circuit = t.circuit; unmatched = map (unmatched_seen t.sdf.items) t.unmatched.items; rounds = t.rounds; input = stimulus_seen t.input; vcd = t.vcd.now }

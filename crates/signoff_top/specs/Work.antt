@@ -42,5 +42,5 @@ TellsStop named stop.NoMemory old new how = (how ≡ status.NoMemory) × PutsLas
 -- how the end of the work was told
 abbrev pub TellsEnd : Option (List ℕ) → Result code_done.Done code_stop.Stop → SinkTold → SinkTold → Status → Type 0
 TellsEnd named (Ok done) old new how =
-    Tells (report_lines done.task.circuit [] (violations_of done.end) done.task.input.end (spent_seen done.end.spent)) (status_of_run (spent_seen done.end.spent) (violations_of done.end)) old new how
+    Tells (report_lines done.task.circuit (task_seen done.task).unmatched (violations_of done.end) done.task.input.end (spent_seen done.end.spent)) (status_of_run (spent_seen done.end.spent) (violations_of done.end)) old new how
 TellsEnd named (Err s) old new how = TellsStop named s old new how

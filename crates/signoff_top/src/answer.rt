@@ -13,8 +13,9 @@ use crate::work::work;
 use sg_io::{Shelf, Sink};
 use std::alloc::Global;
 
-/// Does what the words after the program's name ask for: reads the netlist and the stimulus from the shelf, simulates,
-/// writes the value change dump to the shelf, and puts the report to the sink. The status is the program's.
+/// Does what the words after the program's name ask for: reads the netlist from the shelf, annotates it with the delays and
+/// limits of the SDF file where one is named, reads the stimulus, simulates, writes the value change dump to the shelf, and
+/// puts the report to the sink. The status is the program's.
 pub fn top<S: Shelf, K: Sink>(
     alloc: Global,
     words: &[String],

@@ -1,6 +1,7 @@
 //! `top`: from the words of the command line to status, report and dump.
 #![tactic(auto)]
 
+mod annotation;
 mod answer;
 mod phases;
 mod report;

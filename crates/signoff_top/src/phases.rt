@@ -12,9 +12,11 @@ ghost use Rattle.signoff_top.specs.Promises.{NamesFaultAt};
 ghost use Rattle.signoff_top.specs.Stops.{FailsAtOne, Gives, IfFailed, NeverFails, SparesWords, StopWords, end_of_phase, refusal_seen};
 ghost use Rattle.signoff_top.specs.Tasks.{task_seen};
 
+use crate::annotation::annotation_of;
 use crate::stop::{Refusal, Stop};
 use netlist_read::{NetlistKind, read_netlist, write_kind};
 use run_words::{Command, read_words};
+use sdf_annotate::Unmatched;
 use sg_circuit::Circuit;
 use sg_delay::Corner;
 use sg_io::{ReadError, Shelf};
@@ -23,11 +25,13 @@ use sg_text::{NoMemory, Place, Refused};
 use std::alloc::Global;
 use stim_read::read_stim;
 
-/// What is run, with at most so many rounds a time, over an event wheel of so many buckets; and the name of the file that
-/// is made.
+/// What is run, with at most so many rounds a time, over an event wheel of so many buckets; the SDF file's bytes, and its
+/// entries that matched nothing, both empty where there is no such file; and the name of the file that is made.
 #[derive(Drop)]
 pub struct Task<'a> {
     pub circuit: Circuit,
+    pub sdf: Vec<u8>,
+    pub unmatched: Vec<Unmatched>,
     pub input: Stimulus,
     pub rounds: u32,
     pub wheel: u32,
@@ -51,7 +55,7 @@ fn words_phase<'a>(alloc: Global, words: &'a [String]) -> Result<Command<'a>, St
     }
 }
 
-fn file_phase<'a, S: Shelf>(
+pub fn file_phase<'a, S: Shelf>(
     alloc: Global,
     shelf: &mut S,
     name: &'a str,
@@ -222,7 +226,7 @@ fn input_of<'a, S: Shelf>(
     stimulus_phase(alloc, name, &text, circuit)
 }
 
-/// All phases up to the run: the words, the netlist, the stimulus.
+/// All phases up to the run: the words, the netlist, the SDF file, the stimulus.
 pub fn task_of<'a, S: Shelf>(
     alloc: Global,
     words: &'a [String],
@@ -239,9 +243,12 @@ pub fn task_of<'a, S: Shelf>(
 {
     let command = words_phase(alloc, words)?;
     let circuit = circuit_of(alloc, shelf, &command)?;
-    let input = input_of(alloc, shelf, command.stimulus, &circuit)?;
+    let annotated = annotation_of(alloc, shelf, &command, circuit)?;
+    let input = input_of(alloc, shelf, command.stimulus, &annotated.circuit)?;
     Ok(Task {
-        circuit,
+        circuit: annotated.circuit,
+        sdf: annotated.sdf,
+        unmatched: annotated.unmatched,
         input,
         rounds: command.rounds,
         wheel: command.wheel,

@@ -6,20 +6,21 @@ ghost use Rattle.sg_io.specs.Put.{SinkTold};
 ghost use Rattle.sg_model.specs.Machine.{Violation};
 ghost use Rattle.time_checks.specs.Seen.{violation_seen};
 ghost use Rattle.wave_out.specs.Report.{Unmatched, report_lines};
-ghost use Rattle.wave_out.specs.Reporting.{PutsMade};
+ghost use Rattle.wave_out.specs.Reporting.{PutsMade, unmatched_seen};
 ghost use Rattle.wave_out.specs.Spent.{end_spent, end_time, spent_seen};
 ghost use Rattle.wave_out.specs.Texts.{line};
 ghost use Rattle.signoff_top.specs.Answer.{fault_line, no_memory_line, status_of_run as end_status};
-ghost use Rattle.signoff_top.specs.Phases.{located_line, refusal_line, status_of_refusal, stimulus_kind};
+ghost use Rattle.signoff_top.specs.Phases.{located_line, refusal_line, sdf_kind, status_of_refusal, stimulus_kind};
 ghost use Rattle.signoff_top.specs.Putting.{PutsBy, PutsLast};
-ghost use Rattle.signoff_top.specs.Stops.{refusal_seen};
+ghost use Rattle.signoff_top.specs.Stops.{refusal_seen, sdf_fault_seen};
 ghost use Rattle.signoff_top.specs.Work.{Tells, TellsEnd, TellsStop};
 
 use crate::status::Status;
-use crate::stop::{Refusal, Stop};
+use crate::stop::{Refusal, SdfFault, Stop};
 use crate::work::Done;
 use itoa::Buffer;
 use run_dump::RunEnd;
+use sdf_read::SdfKind;
 use sg_io::{ShelfError, Sink};
 use std::alloc::{AllocError, Global};
 use stim_read::StimKind;
@@ -61,7 +62,30 @@ fn located_text(
     Ok(text)
 }
 
-fn kind_word(kind: StimKind) -> &'static str
+fn sdf_word(kind: SdfKind) -> &'static str
+    ensures { result.now ≡ sdf_kind kind }
+{
+    match kind {
+        SdfKind::BadByte => "BadByte",
+        SdfKind::Syntax => "Syntax",
+        SdfKind::BadCount => "BadCount",
+        SdfKind::BadNumber => "BadNumber",
+        SdfKind::TooDeep => "TooDeep",
+        SdfKind::FileTooLarge => "FileTooLarge",
+        SdfKind::LimitsCross => "LimitsCross",
+    }
+}
+
+fn sdf_fault_word(fault: SdfFault) -> &'static str
+    ensures { result.now ≡ sdf_fault_seen fault }
+{
+    match fault {
+        SdfFault::Text(kind) => sdf_word(kind),
+        SdfFault::TooLarge => "TooLarge",
+    }
+}
+
+fn stimulus_word(kind: StimKind) -> &'static str
     ensures { result.now ≡ stimulus_kind kind }
 {
     match kind {
@@ -84,12 +108,19 @@ fn refusal_text(alloc: Global, refusal: &Refusal<'_>) -> Result<Vec<u8>, AllocEr
         Refusal::Netlist { name, line, kind } => {
             located_text(alloc, "netlist refused: ", name, *line, kind)
         }
+        Refusal::Sdf { name, line, fault } => located_text(
+            alloc,
+            "sdf refused: ",
+            name,
+            *line,
+            sdf_fault_word(*fault).as_bytes(),
+        ),
         Refusal::Stimulus { name, line, kind } => located_text(
             alloc,
             "stimulus refused: ",
             name,
             *line,
-            kind_word(*kind).as_bytes(),
+            stimulus_word(*kind).as_bytes(),
         ),
     }
 }
@@ -101,6 +132,7 @@ fn status_of(refusal: &Refusal<'_>) -> Status
         Refusal::Words => Status::Usage,
         Refusal::Missing(_) => Status::Missing,
         Refusal::Netlist { .. } => Status::Netlist,
+        Refusal::Sdf { .. } => Status::Sdf,
         Refusal::Stimulus { .. } => Status::Stimulus,
     }
 }
@@ -191,16 +223,15 @@ fn status_of_run(end: &RunEnd) -> Status
     }
 }
 
-// Nothing is annotated yet, so no entry is unmatched.
 fn tell_run<K: Sink>(alloc: Global, done: &Done<'_>, report: &mut K) -> Status
-    ensures { Tells (report_lines done.now.task.circuit [] (map (λ v. violation_seen v) done.now.end.violations.items) done.now.task.input.end (spent_seen done.now.end.spent)) (end_status (spent_seen done.now.end.spent) (map (λ v. violation_seen v) done.now.end.violations.items)) (K.told report.old) (K.told report.new) result }
+    ensures { Tells (report_lines done.now.task.circuit (map (unmatched_seen done.now.task.sdf.items) done.now.task.unmatched.items) (map (λ v. violation_seen v) done.now.end.violations.items) done.now.task.input.end (spent_seen done.now.end.spent)) (end_status (spent_seen done.now.end.spent) (map (λ v. violation_seen v) done.now.end.violations.items)) (K.told report.old) (K.told report.new) result }
 {
     let planned = status_of_run(&done.end);
     let put = write_report(
         alloc,
         &done.task.circuit,
-        &[],
-        &[],
+        &done.task.sdf,
+        &done.task.unmatched,
         &done.end.violations,
         report_end(done.task.input.end, done.end.spent),
         report,

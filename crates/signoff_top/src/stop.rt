@@ -1,7 +1,15 @@
 // Why the work ends before its report.
+use sdf_read::SdfKind;
 use sg_text::NoMemory;
 use std::alloc::{AllocError, AllocFailed};
 use stim_read::StimKind;
+
+/// Why an SDF file is refused: a fault of its text, or an entry that is too large for the circuit.
+#[derive(Clone, Copy, Debug)]
+pub enum SdfFault {
+    Text(SdfKind),
+    TooLarge,
+}
 
 /// A refusal of the words or of a file, by name. The line of a fault is counted from 1; the kind of a netlist's fault is
 /// the text of it.
@@ -13,6 +21,11 @@ pub enum Refusal<'a> {
         name: &'a str,
         line: u64,
         kind: Vec<u8>,
+    },
+    Sdf {
+        name: &'a str,
+        line: u64,
+        fault: SdfFault,
     },
     Stimulus {
         name: &'a str,

@@ -5,6 +5,7 @@ pub mod ListLaws
 pub mod WalkLaws
 pub mod ScopeLaws
 pub mod PathLaws
+pub mod ReachedLines
 pub mod ReportLaws
 pub mod HeaderLaws
 pub mod BlockLaws

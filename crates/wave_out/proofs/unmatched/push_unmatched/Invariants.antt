@@ -1,8 +1,11 @@
+-- The lines of the entries so far; the line of the last of them is known.
 use Rattle.std.proofs.Common.{◌≡◌, ◌++◌, flat_map, map, take}
 use Rattle.wave_out.specs.Report.{unmatched_line}
-use Rattle.wave_out.specs.Reporting.{unmatched_seen}
+use Rattle.wave_out.specs.Reporting.{IsReached, unmatched_seen}
 use Rattle.wave_out.proofs.unmatched.push_unmatched.Given as goal
 
--- the lines of the entries so far
 abbrev pub invariant-loop-entry : goal.invariant-loop-entry
-invariant-loop-entry l = l.text.items ≡ l.fn.text.items ++ flat_map unmatched_line (map (unmatched_seen l.sdf) (take l.entry-index l.unmatched))
+invariant-loop-entry l = record {
+  text : l.text.items ≡ l.fn.text.items ++ flat_map unmatched_line (map (unmatched_seen l.sdf) (take l.entry-index l.unmatched));
+  reached : IsReached l.sdf l.reached;
+}
