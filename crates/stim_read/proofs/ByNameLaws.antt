@@ -1,18 +1,17 @@
 -- The place of the first input of a name: among one variable more, and what stands there.
-use Rattle.std.specs.Prelude.{ℕ, suc, ◌+◌, ◌<◌, ◌≤◌, ◌≡◌, ◌&&◌, Bool, true, false, List, [], ◌∷◌, ◌++◌, Option, Some, None, find, length, map, slice_get, slice_index_or, take, cond, is_some, nat_lt, IfSome, bytes_eq, refl, if◌then◌else◌}
+use Rattle.std.specs.Prelude.{ℕ, suc, ◌+◌, ◌<◌, ◌≤◌, ◌≡◌, Bool, true, false, List, [], ◌∷◌, ◌++◌, Option, Some, None, find, length, map, slice_get, slice_index_or, take, cond, is_some, nat_lt, IfSome, bytes_eq, refl, if◌then◌else◌}
 use Rattle.std.specs.Borrow.{Bor}
 use Rattle.std.specs.List.{position_from}
 use Rattle.std.specs.Option.{option_map, option_or, option_and_then, option_copied}
 use Rattle.std.proofs.Common.{sym, ◌∙◌, ap, arith}
 use Rattle.std.proofs.lemmas.Bool.{ltb-true, ltb-false}
-use Rattle.std.proofs.lemmas.Cmp.{nat_list_eq_equiv}
 use Rattle.std.proofs.lemmas.List.{map-append, take_more, take_all, length-map, length-take-le}
 use Rattle.std.proofs.lemmas.Option.{slice_get-map, slice_get_past, slice_get_read}
 use Rattle.std.proofs.lemmas.Slice.Eq.{bytes_eq-Decides}
 use Rattle.sg_circuit.specs.declared.scopes.Variable as code_variable
-use Rattle.sg_circuit.specs.Circuit.{Circuit, Variable, scope_at}
+use Rattle.sg_circuit.specs.Circuit.{Circuit, scope_at}
 use Rattle.sg_circuit.specs.Seen.{variable_seen}
-use Rattle.stim_read.specs.Inputs.{is_input, input_named}
+use Rattle.stim_read.specs.Inputs.{input_named}
 use Rattle.stim_read.specs.ByName.{is_input_of, one_more}
 
 -- ---- first places
