@@ -78,13 +78,13 @@ module _ (n : ℕ) where
   kind-within s inputs output (Pass constant) l = All-nil (λ x. scope_of x < n)
   kind-within s inputs output (Late delay) l = All-nil (λ x. scope_of x < n)
 
-  spots-within : (es : List Element) → All (λ e. e.scope < n) es → All (λ x. scope_of x < n) (flat_map spots_of es)
+  pub spots-within : (es : List Element) → All (λ e. e.scope < n) es → All (λ x. scope_of x < n) (flat_map spots_of es)
   spots-within [] h = All-nil (λ x. scope_of x < n)
   spots-within (e ∷ es) h =
       All-append (λ x. scope_of x < n) (spots_of e) (flat_map spots_of es) (kind-within e.scope e.inputs e.output e.kind (All-head (λ (x : Element). x.scope < n) e es h))
       (spots-within es (All-tail (λ (x : Element). x.scope < n) e es h))
 
-  checks-within : (ks : List Check) (ts : List CheckTiming) (ws : List CheckConditions) → All (λ k. k.scope < n) ks → All (λ (x : Checked). x.check.scope < n) (checked ks ts ws)
+  pub checks-within : (ks : List Check) (ts : List CheckTiming) (ws : List CheckConditions) → All (λ k. k.scope < n) ks → All (λ (x : Checked). x.check.scope < n) (checked ks ts ws)
   checks-within (k ∷ ks) (t ∷ ts) (w ∷ ws) h =
       All-cons (λ (x : Checked). x.check.scope < n) (record { check = k; timing = t; written = w }) (checked ks ts ws) (All-head (λ (x : Check). x.scope < n) k ks h)
       (checks-within ks ts ws (All-tail (λ (x : Check). x.scope < n) k ks h))

@@ -1,5 +1,5 @@
 // The limits of timing checks, set in a circuit that is open.
-ghost use Rattle.std.specs.Prelude.{◌≡◌, ◌<◌, ◌≤◌, ◌^◌, true, All, IsTrue, length, slice_index_or, take};
+ghost use Rattle.std.specs.Prelude.{◌≡◌, ◌<◌, ◌≤◌, ◌^◌, All, IsTrue, length, slice_index_or, take};
 ghost use Rattle.sg_circuit.specs.declared.checks.CheckTiming.{CheckTiming as TimingSeen};
 ghost use Rattle.annotation_model.specs.Laws.{AreSmall};
 ghost use Rattle.annotation_setting.specs.Limits.{has_two as has_two_limits, with_all_limits, with_limits_at};

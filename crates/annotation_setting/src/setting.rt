@@ -1,5 +1,5 @@
 // A circuit with new timings and limits.
-ghost use Rattle.std.specs.Prelude.{◌≡◌, ◌<◌, ◌^◌, All, IfErr, IfOk, IfSome, OnErr, OnOk, List, length, map, unsigned_abs};
+ghost use Rattle.std.specs.Prelude.{◌≡◌, All, IfErr, IfOk, IfSome, OnErr, OnOk, List, length, map};
 ghost use Rattle.sg_delay.specs.declared.corners.Corner.{Corner};
 ghost use Rattle.sg_circuit.specs.Closed.{AreTimings};
 ghost use Rattle.sg_circuit.specs.TimingsSeen.{leg_timing_seen};

@@ -1,5 +1,5 @@
 // All legs and specify paths of a circuit.
-ghost use Rattle.std.specs.Prelude.{◌≡◌, ◌<◌, ◌^◌, ◌≤◌, ◌+◌, ◌++◌, All, IfOk, OnOk, length, slice_index_or};
+ghost use Rattle.std.specs.Prelude.{◌≡◌, ◌<◌, ◌^◌, ◌++◌, All, IfOk, OnOk, length};
 ghost use Rattle.sg_circuit.specs.Pins.{starts_from};
 ghost use Rattle.annotation_spots.specs.Counts.{count_of, counts_of, rows_of, rows_from, IsOrdered};
 ghost use Rattle.annotation_spots.specs.Rows.{AreRows, AreFirsts};

@@ -21,6 +21,7 @@ use Rattle.annotation_model.specs.Matching.{fits_check, given_by, limits_for, no
 use Rattle.annotation_model.specs.Passes.{meets_large}
 use Rattle.annotation_model.specs.Scopes.{is_of_cell}
 use Rattle.annotation_model.specs.Spots.{Checked, all_checked, checked, grid, is_for_check, is_given, is_limit_large_at, limits_with}
+use Rattle.annotation_model.proofs.AnyLaws.{counted}
 use Rattle.sdf_annotate.specs.Seen.{check_with, is_check_large}
 use Rattle.sdf_annotate.proofs.PassSteps.{meets_listed, nothing_large, nothing_written, writes_listed}
 
@@ -97,10 +98,6 @@ module _ (c : Circuit) (sdf : Sdf) (corner : Corner) (g : Given) (n : ℕ) where
   large-same (interconnect f t ds) limits e = absurd cc
   large-same (path_pulse p o r x) limits e = absurd cc
   large-same (skipped_entry s) limits e = absurd cc
-
-counted : (b : Bool) (n : ℕ) → n ≡ (if b then 1 else 0) → 0 < n → b ≡ true
-counted true n e l = refl
-counted false n e l = absurd (omega (arith, e, l))
 
 and-right : (a b : Bool) → (a && b) ≡ true → b ≡ true
 and-right true b e = e

@@ -1,23 +1,21 @@
 -- One entry more, as the code comes to it.
-use Rattle.std.specs.Prelude.{◌≡◌, refl, ℕ, ℤ, suc, ◌<◌, ◌==◌, ◌&&◌, ◌||◌, nat_lt, not, Bool, true, false, if◌then◌else◌, All, List, [], ◌∷◌, ◌++◌, length, slice_index_or, Result, Err, IfErr}
+use Rattle.std.specs.Prelude.{◌≡◌, refl, ℕ, ℤ, suc, ◌==◌, ◌&&◌, ◌||◌, not, Bool, true, false, List, [], ◌∷◌, ◌++◌, length, Result, Err, IfErr}
 use Rattle.std.specs.List.{list_any}
 use Rattle.std.proofs.Common.{ap, sym, ◌∙◌, subst, arith}
 use Rattle.std.proofs.lemmas.Bool.Decides.{nat_tests}
-use Rattle.std.proofs.lemmas.List.{append_assoc, append-nil}
 use Rattle.sg_text.specs.declared.places.Place.{Place}
 use Rattle.sg_delay.specs.declared.corners.Corner.{Corner}
 use Rattle.sg_circuit.specs.Circuit.{Circuit}
 use Rattle.sdf_tree.specs.Meant.{Sdf}
-use Rattle.annotation_model.specs.Annotated.{told_of, unmatched_in, word_of}
+use Rattle.annotation_model.specs.Annotated.{told_of, word_of}
 use Rattle.annotation_model.specs.Finding.{check_at, is_found_check, is_found_spot, spot_at}
 use Rattle.annotation_model.specs.Given.{Given}
-use Rattle.annotation_model.specs.Listed.{occurrences, IsListOf, written}
+use Rattle.annotation_model.specs.Listed.{IsListOf, written}
 use Rattle.annotation_model.specs.Passes.{meets_large}
 use Rattle.annotation_model.specs.Progress.{IsTooLarge}
 use Rattle.annotation_model.specs.Spots.{all_checked, applied_at, is_for_check, is_for_spot, is_large_at, is_limit_large_at, limits_with, spot_after, spots}
 use Rattle.annotation_model.proofs.EntryLaws.{checks-large, checks-more, is_some_listed, something, spots-large, spots-more}
-use Rattle.annotation_model.proofs.ListedLaws.{occurs_at}
-use Rattle.annotation_model.proofs.ProgressLaws.{fine-more, fine-none, fine-one, large-before, large-more, large-one, told_if, unmatched-append, unmatched-more}
+use Rattle.annotation_model.proofs.ProgressLaws.{fine-one, large-one, told_if, unmatched-more}
 use Rattle.annotation_setting.specs.Table.{timings_seen}
 use Rattle.sdf_annotate.specs.Progress.{AreSized, CameTo, HasAll, StoppedAt}
 use Rattle.sdf_annotate.specs.Seen.{Told, check_with, is_check_large, is_spot_large, noted, spot_with}
@@ -146,63 +144,3 @@ module _ (c : Circuit) (sdf : Sdf) (corner : Corner) (g : Given) (ks ls : List �
       (now_limits ∙ (h ∙ (ap (λ fs. written (check_with c sdf corner g.entry.kind) [] fs limits) q ∙ ap (λ xs. written (check_with c sdf corner g.entry.kind) [] ls xs) r)))
       (not empty) empty refl is g.entry.place (word_of g.entry.kind) refl told
       (record { timings = ap length now_after ∙ (n ∙ (ap length t ∙ sized.timings)); limits = ap length now_limits ∙ (m ∙ (ap length r ∙ sized.limits)) })
-
--- ---- the places that an entry is for are there
-
-module _ (c : Circuit) (sdf : Sdf) (g : Given) where
-  test-below : (k n : ℕ) (b : Bool) → (nat_lt k n && b) ≡ true → k < n
-  test-below k n b e = below k n (nat_lt k n) refl (first (nat_lt k n) b e)
-    where
-      first : (x y : Bool) → (x && y) ≡ true → x ≡ true
-      first true y h = refl
-      first false y h = absurd cc
-
-      below : (k n : ℕ) (x : Bool) → nat_lt k n ≡ x → x ≡ true → k < n
-      below k n x e h = grind (arith, nat_tests)
-
-  counted : (b : Bool) (n : ℕ) → n ≡ (if b then 1 else 0) → 0 < n → b ≡ true
-  counted true n e l = refl
-  counted false n e l = absurd (omega (arith, e, l))
-
-  pub spots-below : (ks : List ℕ) → IsListOf (is_found_spot c sdf g) ks → All (λ k. k < length (spots c)) ks
-  spots-below ks is = λ i d l.
-      let k : ℕ = slice_index_or ks i d in
-      test-below k (length (spots c)) (is_for_spot c sdf.divider g (spot_at c k)) (counted (is_found_spot c sdf g k) (occurrences k ks) (is.each k) (occurs_at ks i d l))
-
-  pub checks-below : (ks : List ℕ) → IsListOf (is_found_check c sdf g) ks → All (λ k. k < length (all_checked c)) ks
-  checks-below ks is = λ i d l.
-      let k : ℕ = slice_index_or ks i d in
-      test-below k (length (all_checked c)) (is_for_check c sdf.divider g (check_at c k)) (counted (is_found_check c sdf g k) (occurrences k ks) (is.each k) (occurs_at ks i d l))
-
--- in tables that were lent
-pub below-lent : {X : Type 0} (n : ℕ) (ks found : List ℕ) (table lent : List X) → found ≡ ks → lent ≡ table → length table ≡ n → All (λ k. k < n) ks → All (λ k. k < length lent) found
-below-lent n ks found table lent f t l h =
-    subst (λ (fs : List ℕ). All (λ k. k < length lent) fs) (sym f) (subst (λ m. All (λ k. k < m) ks) (sym (ap length t ∙ l)) h)
-
--- ---- one list of entries behind another
-
-module _ (c : Circuit) (sdf : Sdf) (corner : Corner) where
-  pub came-none : (v : NewValues) → AreSized c v → CameTo c sdf corner [] v v
-  came-none v sized = record {
-    tables = λ done h. subst (λ gs. HasAll c sdf corner gs v) (sym (append-nil done)) h;
-    fine = λ done h. fine-none c sdf corner done;
-    told = sym (append-nil (told_seen v.unmatched.items));
-    sized = sized;
-  }
-
-  pub came-more : (xs ys : List Given) (a b d : NewValues) → CameTo c sdf corner xs a b → CameTo c sdf corner ys b d → CameTo c sdf corner (xs ++ ys) a d
-  came-more xs ys a b d one two = record {
-    tables = λ done h. subst (λ gs. HasAll c sdf corner gs d) (append_assoc done xs ys) (two.tables (done ++ xs) (one.tables done h));
-    fine = λ done h. fine-more c sdf corner done xs ys (one.fine done h) (two.fine (done ++ xs) (one.tables done h));
-    told = two.told ∙ (ap (λ us. us ++ unmatched_in c sdf ys) one.told ∙ (append_assoc (told_seen a.unmatched.items) (unmatched_in c sdf xs) (unmatched_in c sdf ys)
-        ∙ ap (λ us. told_seen a.unmatched.items ++ us) (sym (unmatched-append c sdf corner xs ys))));
-    sized = two.sized;
-  }
-
-  pub stopped-more : (xs ys : List Given) (a b : NewValues) (e : AnnotError) → CameTo c sdf corner xs a b → StoppedAt c sdf corner ys b e → StoppedAt c sdf corner (xs ++ ys) a e
-  stopped-more xs ys a b NoMemory one two = tt
-  stopped-more xs ys a b (TooLarge place) one two = λ done h. large-more c sdf corner done xs ys place (one.fine done h) (two (done ++ xs) (one.tables done h))
-
-  pub stopped-before : (xs ys : List Given) (a : NewValues) (e : AnnotError) → StoppedAt c sdf corner xs a e → StoppedAt c sdf corner (xs ++ ys) a e
-  stopped-before xs ys a NoMemory s = tt
-  stopped-before xs ys a (TooLarge place) s = λ done h. large-before c sdf corner done xs ys place (s done h)

@@ -3,6 +3,7 @@ pub mod BoundLaws
 pub mod CellSteps
 pub mod CheckLaws
 pub mod EntrySteps
+pub mod FoundPlaces
 pub mod PassSteps
 pub mod RowLaws
 pub mod ScopeLaws

@@ -29,7 +29,3 @@ module _ (parts : Parts) where
   -- a row's leg or path stands in one of them
   pub scope-of-row : (row : code_spot.Spot) (s : ℕ) → IsClosed (circuit_seen parts) → IsIn (circuit_seen parts) row → s ≡ scope_of (spot_of (circuit_seen parts) row) → s < length parts.scopes.items
   scope-of-row row s closed within e = subst (λ t. t < length parts.scopes.items) (sym e) (subst (λ n. scope_of (spot_of (circuit_seen parts) row) < n) scope-count (scope-within (circuit_seen parts) row closed within))
-
-  -- and so does a timing check
-  pub scope-within-count : (s : ℕ) → s < length (circuit_seen parts).scopes → s < length parts.scopes.items
-  scope-within-count s l = subst (λ n. s < n) scope-count l

@@ -1,12 +1,12 @@
--- The tables of new timings and of limits, one place more.
-use Rattle.std.specs.Prelude.{◌≡◌, refl, ℕ, ℤ, suc, zero, ◌+◌, ◌<◌, true, false, List, [], ◌∷◌, length, Option, slice_index_or, slice_set}
+-- The table of new timings, one place more.
+use Rattle.std.specs.Prelude.{◌≡◌, refl, ℕ, suc, zero, ◌+◌, ◌<◌, true, false, List, [], ◌∷◌, length, Option, slice_index_or, slice_set}
 use Rattle.std.specs.Global.{Box}
 use Rattle.std.proofs.Common.{ap, sym, ◌∙◌, subst, arith}
 use Rattle.sg_delay.specs.declared.corners.Corner.{Corner}
 use Rattle.sg_circuit.specs.Circuit.{Circuit}
 use Rattle.sg_circuit.specs.Timings.{Timing}
 use Rattle.sg_circuit.specs.declared.elements.LegTiming.{LegTiming}
-use Rattle.sdf_tree.specs.Meant.{Entry, EntryKind, Sdf}
+use Rattle.sdf_tree.specs.Meant.{Entry, Sdf}
 use Rattle.annotation_model.specs.Applied.{applied, is_too_large}
 use Rattle.annotation_model.specs.Finding.{no_spot, spot_at}
 use Rattle.annotation_model.specs.Passes.{meets_large}
@@ -14,7 +14,7 @@ use Rattle.annotation_model.specs.Spots.{Spot, grid, scope_of, spots}
 use Rattle.annotation_setting.specs.Table.{timings_or, timings_seen}
 use Rattle.annotation_spots.specs.Rows.{AreRows, spot_of}
 use Rattle.annotation_spots.specs.declared.spots.Spot as code_spot
-use Rattle.sdf_annotate.specs.Seen.{check_with, is_check_large, is_spot_large, spot_with}
+use Rattle.sdf_annotate.specs.Seen.{is_spot_large, spot_with}
 use Rattle.sdf_annotate.proofs.PassSteps.{Left, left_large, left_more}
 use Rattle.sdf_annotate.proofs.RowLaws.{row-is}
 
@@ -33,12 +33,6 @@ seen-set [] ts k t = refl
 seen-set (s ∷ ss) [] k t = refl
 seen-set (s ∷ ss) (u ∷ ts) zero t = refl
 seen-set (s ∷ ss) (u ∷ ts) (suc k) t = ap (λ xs. timings_or s u ∷ xs) (seen-set ss ts k t)
-
-pub seen-length : (ss : List Spot) (ts : Table) → length ts ≡ length ss → length (timings_seen ss ts) ≡ length ts
-seen-length [] [] e = refl
-seen-length [] (t ∷ ts) e = absurd (omega (arith, e))
-seen-length (s ∷ ss) [] e = refl
-seen-length (s ∷ ss) (t ∷ ts) e = ap suc (seen-length ss ts (omega (arith, e)))
 
 module _ (c : Circuit) (sdf : Sdf) (corner : Corner) (e : Entry) (rows : List code_spot.Spot) (are : AreRows c rows) (ks : List ℕ) (old : List (List Timing)) (i blank : ℕ) (now : Table) (as_many : length now ≡ length rows) (dr : code_spot.Spot) (d : Option (Box LegTiming)) (l : i < length ks) (m : slice_index_or ks i blank < length now) where
   abbrev pub k : ℕ
@@ -75,33 +69,4 @@ module _ (c : Circuit) (sdf : Sdf) (corner : Corner) (e : Entry) (rows : List co
   spot_large row r was w big left =
       left_large (is_spot_large c sdf corner e) (spot_with c sdf corner e) [] ks old i blank (timings_seen (spots c) now) l
       (ap (is_spot_large c sdf corner e k) (at ∙ ap (timings_or (spot_at c k)) (sym w)) ∙ subst (λ s. is_too_large (grid c sdf corner (scope_of s)) e (timings_or s was) ≡ true) (ap (spot_of c) r ∙ same) big)
-      left
-
-pub any-default : {A : Type 0} (xs : List A) (k : ℕ) (d e : A) → k < length xs → slice_index_or xs k d ≡ slice_index_or xs k e
-any-default [] k d e l = absurd (omega (arith, l))
-any-default (x ∷ xs) zero d e l = refl
-any-default (x ∷ xs) (suc k) d e l = any-default xs k d e (omega (arith, l))
-
-module _ (c : Circuit) (sdf : Sdf) (corner : Corner) (kind : EntryKind) (ks : List ℕ) (old : List (List ℤ)) (i blank : ℕ) (now : List (List ℤ)) (d : List ℤ) (l : i < length ks) (m : slice_index_or ks i blank < length now) where
-  -- likewise of the timing checks
-  pub check_more : (was made : List ℤ) → was ≡ slice_index_or now (slice_index_or ks i blank) d
-      → is_check_large c sdf corner kind (slice_index_or ks i blank) was ≡ false → made ≡ check_with c sdf corner kind (slice_index_or ks i blank) was
-      → (new : List (List ℤ)) → new ≡ slice_set now (slice_index_or ks i blank) made
-      → Left (is_check_large c sdf corner kind) (check_with c sdf corner kind) [] ks old i now
-      → Left (is_check_large c sdf corner kind) (check_with c sdf corner kind) [] ks old (i + 1) new
-  check_more was made w small large new n left =
-      left_more (is_check_large c sdf corner kind) (check_with c sdf corner kind) [] ks old i blank now new l
-      (ap (is_check_large c sdf corner kind (slice_index_or ks i blank)) at ∙ small)
-      (n ∙ ap (slice_set now (slice_index_or ks i blank)) (large ∙ ap (check_with c sdf corner kind (slice_index_or ks i blank)) (sym at)))
-      left
-    where
-      at : slice_index_or now (slice_index_or ks i blank) [] ≡ was
-      at = any-default now (slice_index_or ks i blank) [] d m ∙ sym w
-
-  pub check_large : (was : List ℤ) → was ≡ slice_index_or now (slice_index_or ks i blank) d → is_check_large c sdf corner kind (slice_index_or ks i blank) was ≡ true
-      → Left (is_check_large c sdf corner kind) (check_with c sdf corner kind) [] ks old i now
-      → meets_large (is_check_large c sdf corner kind) (check_with c sdf corner kind) [] ks old ≡ true
-  check_large was w big left =
-      left_large (is_check_large c sdf corner kind) (check_with c sdf corner kind) [] ks old i blank now l
-      (ap (is_check_large c sdf corner kind (slice_index_or ks i blank)) (any-default now (slice_index_or ks i blank) [] d m ∙ sym w) ∙ big)
       left

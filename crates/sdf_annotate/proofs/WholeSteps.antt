@@ -1,9 +1,9 @@
 -- All cells of a file.
-use Rattle.std.specs.Prelude.{◌≡◌, refl, ℕ, List, [], ◌∷◌, ◌++◌, map, length, take, None, Option, replicate, suc, zero}
+use Rattle.std.specs.Prelude.{◌≡◌, refl, ℕ, List, [], ◌∷◌, ◌++◌, map, length, None, Option, replicate, suc, zero}
 use Rattle.std.specs.List.{flat_map}
 use Rattle.std.specs.Global.{Box}
-use Rattle.std.proofs.Common.{ap, sym, ◌∙◌, subst, arith}
-use Rattle.std.proofs.lemmas.List.{append-nil, length-map, take_all, take-append-le}
+use Rattle.std.proofs.Common.{ap, sym, ◌∙◌, subst}
+use Rattle.std.proofs.lemmas.List.{append-nil, length-map}
 use Rattle.sg_delay.specs.declared.corners.Corner.{Corner}
 use Rattle.sg_circuit.specs.Circuit.{Circuit}
 use Rattle.sg_circuit.specs.Closed.{IsClosed}
@@ -83,7 +83,3 @@ module _ (c : Circuit) (sdf : Sdf) (corner : Corner) (closed : IsClosed c) (old 
     pub values-told : (e : AnnotError) → StoppedAt c sdf corner (given_of_all cells) old e → IsTooLargeAt c sdf corner e
     values-told NoMemory s = tt
     values-told (TooLarge place) s = ap (λ gs. first_too_large c sdf corner [] gs) (sym same ∙ sym (append-nil (given_of_all cells))) ∙ (s [] values-first).here []
-
--- a vector that was lent as a slice
-pub written_back : {X : Type 0} (n : ℕ) (new rest : List X) → n ≡ length new → take n (new ++ rest) ≡ new
-written_back n new rest e = take-append-le n new rest (omega (arith, e)) ∙ take_all n new (omega (arith, e))

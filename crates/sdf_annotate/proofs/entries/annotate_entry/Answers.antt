@@ -8,7 +8,8 @@ use Rattle.annotation_model.specs.Spots.{all_checked, spots}
 use Rattle.sdf_annotate.specs.Progress.{StoppedAt}
 use Rattle.sdf_annotate.specs.Seen.{circuit_of}
 use Rattle.sdf_annotate.proofs.CheckLaws.{check-count}
-use Rattle.sdf_annotate.proofs.EntrySteps.{below-lent, came-lent, checks-below, exit_by, spots-below, stopped-lent_checks, stopped-lent_spots}
+use Rattle.sdf_annotate.proofs.EntrySteps.{came-lent, exit_by, stopped-lent_checks, stopped-lent_spots}
+use Rattle.sdf_annotate.proofs.FoundPlaces.{below-lent, checks-below, spots-below}
 use Rattle.sdf_annotate.proofs.entries.annotate_entry.Goals as goal
 
 pub apply_to_spots-requires-clause-found : goal.apply_to_spots-requires-clause-found
