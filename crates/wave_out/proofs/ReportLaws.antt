@@ -1,5 +1,5 @@
 -- The text of a report from its lines.
-use Rattle.std.proofs.Common.{◌≡◌, ◌∙◌, ap, ℕ, List, [], ◌++◌, flat_map, length}
+use Rattle.std.proofs.Common.{◌≡◌, ◌∙◌, ap, ℕ, List, ◌++◌, flat_map, length}
 use Rattle.std.specs.Prelude.{Option}
 use Rattle.sg_model.specs.Machine.{Violation}
 use Rattle.sg_circuit.specs.Circuit.{Circuit}

@@ -1,4 +1,3 @@
-use Rattle.std.proofs.Common.{refl}
 use Rattle.wave_out.proofs.ReachedLines.{is_reached, line_of_byte}
 use Rattle.wave_out.proofs.unmatched.reach.Goals as goal
 

@@ -1,0 +1,3 @@
+-- The modules of this folder.
+mod Examples
+mod Texts
