@@ -1,8 +1,9 @@
 -- Tokens that the definition takes for the same are equal.
-use Rattle.std.proofs.Common.{◌≡◌, refl, sym, ap, ◌∙◌, subst, ℕ, ℤ, List, [], ◌∷◌, slice_index_or, Bool, true, false, arith}
+use Rattle.std.proofs.Common.{◌≡◌, refl, sym, ap, ◌∙◌, subst, ℕ, ℤ, List, [], ◌∷◌, slice_index_or, true, arith}
 use Rattle.std.specs.Prelude.{◌==◌, ◌&&◌, int_le, nat_le, pos, negsuc}
 use Rattle.std.specs.Bool.{Decides}
 use Rattle.std.specs.Cmp.{unsigned_Decides}
+use Rattle.std.proofs.lemmas.Bool.{and_parts}
 use Rattle.std.proofs.lemmas.Bool.Decides.{nat_tests}
 use Rattle.std.proofs.lemmas.Slice.Eq.{bytes_eq-Decides}
 use Rattle.sg_logic.specs.declared.values.Value.{Value}
@@ -13,10 +14,6 @@ use Rattle.cond_expr.specs.declared.tokens.Op.TheVariants as op
 use Rattle.cond_expr.specs.Token.{Tok}
 use Rattle.cond_expr.specs.declared.tokens.Tok.TheVariants as tok
 use Rattle.annotation_model.specs.Same.{op_number, token_eq, tokens_eq}
-
-both : (a b : Bool) → (a && b) ≡ true → (a ≡ true) × (b ≡ true)
-both true b e = (refl, e)
-both false b e = absurd cc
 
 -- ---- numbers, constants, operators
 
@@ -92,7 +89,7 @@ same_tokens [] [] e = refl
 same_tokens [] (y ∷ ys) e = absurd cc
 same_tokens (x ∷ xs) [] e = absurd cc
 same_tokens (x ∷ xs) (y ∷ ys) e =
-    let p = both (token_eq x y) (tokens_eq xs ys) e in
+    let p = and_parts (token_eq x y) (tokens_eq xs ys) e in
     ap (λ z. z ∷ xs) (same_token x y p.0) ∙ ap (λ zs. y ∷ zs) (same_tokens xs ys p.1)
 
 tokens_themselves : (xs : List Tok) → tokens_eq xs xs ≡ true

@@ -2,6 +2,7 @@
 use Rattle.std.specs.Prelude.{◌≡◌, refl, ℕ, zero, suc, ◌<◌, ◌&&◌, nat_lt, Bool, true, false, if◌then◌else◌, List, [], ◌∷◌, length, map, slice_index_or, Option, Some, None}
 use Rattle.std.specs.Option.{option_map}
 use Rattle.std.proofs.Common.{ap, sym, ◌∙◌, subst, arith}
+use Rattle.std.proofs.Math.Bool.{and_assoc}
 use Rattle.std.proofs.lemmas.Bool.Decides.{nat_tests}
 use Rattle.std.proofs.lemmas.List.{get_or-map, get_or_default, length-map}
 use Rattle.cond_expr.specs.Token.{Tok}
@@ -25,6 +26,7 @@ use Rattle.annotation_model.specs.Scopes.{is_of_cell}
 use Rattle.annotation_model.specs.Matching.{fits_event, fits_datum, fits_check, terminals_of, limits_for, given_by, none_given}
 use Rattle.annotation_model.specs.Spots.{Checked, checked, all_checked, is_given, is_for_check}
 use Rattle.annotation_model.specs.Finding.{no_check, check_at}
+use Rattle.annotation_places.proofs.PlaceLaws.{length-checked}
 use Rattle.annotation_finder.specs.Finding.{is_marked}
 use Rattle.annotation_finder.specs.Sought.{Named}
 use Rattle.annotation_finder.specs.Checks.{SoughtTerminal, SoughtTerminals, terminal_for, terminals_for, datum_fits, events_fit, check_fits, check_passes}
@@ -40,12 +42,6 @@ checked_at (x ∷ ks) [] ws i d k t w l m n = absurd (omega arith)
 checked_at (x ∷ ks) (y ∷ ts) [] i d k t w l m n = absurd (omega arith)
 checked_at (x ∷ ks) (y ∷ ts) (z ∷ ws) zero d k t w l m n = refl
 checked_at (x ∷ ks) (y ∷ ts) (z ∷ ws) (suc i) d k t w l m n = checked_at ks ts ws i d k t w (omega arith) (omega arith) (omega arith)
-
-pub length-checked : (ks : List Check) (ts : List CheckTiming) (ws : List CheckConditions) → length ts ≡ length ks → length ws ≡ length ks → length (checked ks ts ws) ≡ length ks
-length-checked [] ts ws m n = refl
-length-checked (x ∷ ks) [] ws m n = absurd (omega arith)
-length-checked (x ∷ ks) (y ∷ ts) [] m n = absurd (omega arith)
-length-checked (x ∷ ks) (y ∷ ts) (z ∷ ws) m n = ap suc (length-checked ks ts ws (omega arith) (omega arith))
 
 -- what the code's tables have at a place
 module _ (parts : Parts) (closed : IsClosed (circuit_seen parts)) (k : ℕ) (within : k < length parts.checks.items) where
@@ -129,16 +125,12 @@ given_if : (b : Bool) (limits : Option Triple × Option Triple) → is_given (if
 given_if true limits = refl
 given_if false limits = refl
 
-and_assoc : (a b d : Bool) → (a && (b && d)) ≡ ((a && b) && d)
-and_assoc true b d = refl
-and_assoc false b d = refl
-
 pub same_check : (c : Circuit) (divider : Divider) (g : Given) (check : CellCheck) (cell : ℕ → Bool) (k : Checked) → g.entry.kind ≡ a_check check
     → cell k.check.scope ≡ is_of_cell c divider g.cell_type g.instance k.check.scope → check_fits c cell check (terminals_for divider check) k ≡ is_for_check c divider g k
 same_check c divider g check cell k e of_cell =
     ap (λ b. b && (events_fit c k.check.scope (terminals_for divider check) k.timing k.written && is_given (limits_for check k.timing.kind))) of_cell
     ∙ (ap (λ b. is_of_cell c divider g.cell_type g.instance k.check.scope && (b && is_given (limits_for check k.timing.kind))) (same_events c divider check k.check.scope k.timing k.written)
-    ∙ (and_assoc (is_of_cell c divider g.cell_type g.instance k.check.scope) (fits_check c divider check k.check.scope k.timing k.written) (is_given (limits_for check k.timing.kind))
+    ∙ (sym (and_assoc (is_of_cell c divider g.cell_type g.instance k.check.scope) (fits_check c divider check k.check.scope k.timing k.written) (is_given (limits_for check k.timing.kind)))
     ∙ (sym (given_if (is_of_cell c divider g.cell_type g.instance k.check.scope && fits_check c divider check k.check.scope k.timing k.written) (limits_for check k.timing.kind))
     ∙ ap (λ kind. is_given (given_by c divider g kind k.check.scope k.timing k.written)) (sym e))))
 

@@ -1,6 +1,7 @@
 -- What was picked of the candidates is what the entry is for.
 use Rattle.std.specs.Prelude.{◌≡◌, refl, ℕ, ◌<◌, ◌&&◌, nat_lt, Bool, true, false, if◌then◌else◌, List, [], length, slice_index_or}
 use Rattle.std.proofs.Common.{ap, sym, ◌∙◌, subst, arith}
+use Rattle.std.proofs.Math.Bool.{and-false}
 use Rattle.std.proofs.lemmas.Bool.Decides.{nat_tests}
 use Rattle.std.proofs.lemmas.List.{length-map}
 use Rattle.sg_circuit.specs.Circuit.{Circuit}
@@ -87,14 +88,10 @@ module _ (c : Circuit) (sdf : Sdf) (g : Given) (l : Lookups) (closed : IsClosed 
 
 -- an entry of something else is for no timing check
 pub no_checks : (c : Circuit) (sdf : Sdf) (g : Given) → IsOther g.entry.kind → IsListOf (is_found_check c sdf g) []
-no_checks c sdf g h = record { each = λ k. sym (ap (λ b. counted (nat_lt k (length (all_checked c)) && b)) (other_check c sdf.divider g g.entry.kind (check_at c k) h) ∙ none (nat_lt k (length (all_checked c)))) }
+no_checks c sdf g h = record { each = λ k. sym (ap (λ b. counted (nat_lt k (length (all_checked c)) && b)) (other_check c sdf.divider g g.entry.kind (check_at c k) h) ∙ ap counted (and-false (nat_lt k (length (all_checked c))))) }
   where
     counted : Bool → ℕ
     counted b = if b then 1 else 0
-
-    none : (b : Bool) → counted (b && false) ≡ 0
-    none true = refl
-    none false = refl
 
 -- the scopes that the code has of a cell are the cell's
 pub of_cell_in : (places : code_places.Places) (sdf : Sdf) (g : Given) (scopes : code_scopes.CellScopes) → AreScopesOf places sdf.divider g.cell_type g.instance scopes

@@ -1,6 +1,7 @@
 -- Marks that are unset.
 use Rattle.std.specs.Prelude.{◌≡◌, ◌≢◌, refl, ℕ, ◌+◌, ◌<◌, ◌≤◌, ◌&&◌, ◌||◌, not, nat_lt, Bool, true, false, if◌then◌else◌, All, List, [], ◌∷◌, ◌++◌, length, take, slice_index_or, slice_set}
 use Rattle.std.proofs.Common.{ap, sym, ◌∙◌, subst, arith, inl, inr}
+use Rattle.std.proofs.Math.Bool.{and-true, and-false}
 use Rattle.std.proofs.lemmas.Bool.{cases_eq}
 use Rattle.std.proofs.lemmas.Bool.Decides.{nat_tests}
 use Rattle.std.proofs.lemmas.List.{get_or-set_same, get_or-set_other, get_or_past, take_more, take_all}
@@ -9,27 +10,11 @@ use Rattle.annotation_model.specs.Listed.{occurrences}
 use Rattle.annotation_model.specs.Ports.{has}
 use Rattle.annotation_model.proofs.ListedLaws.{test_same, test_other, occurs_at, occurs_later}
 use Rattle.annotation_index.specs.Picking.{ArePicked}
-use Rattle.annotation_index.proofs.PickLaws.{has-append, picked_none}
+use Rattle.annotation_index.proofs.PickLaws.{has_one, has_other, picked_none}
 
 -- the marks of a table without those of places
 abbrev pub AreUnset : (old : List Bool) → (places : List ℕ) → (new : List Bool) → Type 0
 AreUnset old places new = (k : ℕ) → slice_index_or new k false ≡ (slice_index_or old k false && not (has k places))
-
-and-true : (b : Bool) → (b && true) ≡ b
-and-true true = refl
-and-true false = refl
-
-and-false : (b : Bool) → (b && false) ≡ false
-and-false true = refl
-and-false false = refl
-
-or-true : (b : Bool) → (b || true) ≡ true
-or-true true = refl
-or-true false = refl
-
-or-false : (b : Bool) → (b || false) ≡ b
-or-false true = refl
-or-false false = refl
 
 pub unset-none : (marks : List Bool) → AreUnset marks [] marks
 unset-none marks k = sym (and-true (slice_index_or marks k false))
@@ -51,10 +36,10 @@ unset-more old new places i d l within h k = elim (cases_eq place k) [
     more = take_more places i d l
 
     last : place ≡ k → has k (take i places ++ place ∷ []) ≡ true
-    last e = has-append k (take i places) (place ∷ []) ∙ (ap (λ b. has k (take i places) || (b || false)) (test_same place k e) ∙ or-true (has k (take i places)))
+    last e = has_one k place (take i places) e
 
     other : place ≢ k → has k (take i places ++ place ∷ []) ≡ has k (take i places)
-    other e = has-append k (take i places) (place ∷ []) ∙ (ap (λ b. has k (take i places) || (b || false)) (test_other place k e) ∙ or-false (has k (take i places)))
+    other e = has_other k place (take i places) e
 
 pub unset-all : (old new : List Bool) (places : List ℕ) (i : ℕ) → length places ≤ i → AreUnset old (take i places) new → AreUnset old places new
 unset-all old new places i l h k = h k ∙ ap (λ ks. slice_index_or old k false && not (has k ks)) (take_all i places l)

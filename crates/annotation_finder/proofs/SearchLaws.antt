@@ -1,6 +1,7 @@
 -- What the code asks for is what the entry is for.
 use Rattle.std.specs.Prelude.{◌≡◌, refl, ℕ, ◌<◌, ◌&&◌, Bool, true, false, if◌then◌else◌, List, [], ◌∷◌, length, Option, Some, None, IfSome}
 use Rattle.std.proofs.Common.{ap, sym, ◌∙◌}
+use Rattle.std.proofs.Math.Bool.{and-true}
 use Rattle.sg_circuit.specs.Circuit.{Circuit, scope_at}
 use Rattle.sg_circuit.specs.Closed.{IsClosed}
 use Rattle.sg_circuit.specs.Paths as specify
@@ -34,10 +35,6 @@ same_candidates c divider l (port_delay port ds) scopes = refl
 same_candidates c divider l (interconnect from to ds) scopes = refl
 same_candidates c divider l (a_check check) scopes = refl
 same_candidates c divider l (skipped_entry skipped) scopes = refl
-
-and-true : (b : Bool) → (b && true) ≡ b
-and-true true = refl
-and-true false = refl
 
 module _ (c : Circuit) (divider : Divider) where
   -- paths

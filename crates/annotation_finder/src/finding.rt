@@ -12,10 +12,10 @@ ghost use Rattle.annotation_scopes.specs.Cells.{AreMarked, AreScopesOf};
 ghost use Rattle.annotation_finder.specs.Finding.{AreClear, given_seen};
 
 use crate::candidates::{check_candidates, spot_candidates};
-use crate::check_tests::CheckTest;
+use crate::checks::CheckTest;
 use crate::marks::pick_each;
 use crate::sought::Sought;
-use crate::spot_tests::SpotTest;
+use crate::spots::SpotTest;
 use crate::terminals::Terminals;
 use annotation_places::Places;
 use annotation_scopes::CellScopes;

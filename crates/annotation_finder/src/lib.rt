@@ -2,13 +2,13 @@
 #![tactic(auto)]
 
 mod candidates;
-mod check_tests;
+mod checks;
 mod finding;
 mod legs;
 mod marks;
 mod ports;
 mod sought;
-mod spot_tests;
+mod spots;
 mod terminals;
 
 pub use finding::{find_checks, find_spots};

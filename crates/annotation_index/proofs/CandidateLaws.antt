@@ -2,6 +2,8 @@
 use Rattle.std.specs.Prelude.{◌≡◌, refl, ℕ, ◌<◌, ◌==◌, ◌&&◌, ◌||◌, nat_lt, Bool, true, false, if◌then◌else◌, All, List, [], ◌∷◌, ◌++◌, map, reverse, length, Option, Some, None, IfSome}
 use Rattle.std.specs.List.{flat_map}
 use Rattle.std.proofs.Common.{ap, ◌∙◌, arith}
+use Rattle.std.proofs.Math.Bool.{or-true}
+use Rattle.std.proofs.lemmas.Bool.{and_parts}
 use Rattle.std.proofs.lemmas.Bool.Decides.{nat_tests}
 use Rattle.std.proofs.lemmas.List.{reverse-reverse}
 use Rattle.std.proofs.lemmas.List.Elements.{All-nil, All-cons, All-append, All-head, All-tail}
@@ -22,15 +24,12 @@ use Rattle.annotation_model.specs.Matching.{terminals_of, given_by, limits_for, 
 use Rattle.annotation_model.specs.Spots.{Spot, leg_spot, path_spot, spots, spots_in, spots_of, scope_of, is_for_spot, Checked, checked, all_checked, is_for_check, is_given}
 use Rattle.annotation_model.specs.Finding.{spot_at, check_at, is_found_spot, is_found_check}
 use Rattle.annotation_model.proofs.ListedLaws.{test_same}
+use Rattle.annotation_model.proofs.TableLaws.{below_if}
 use Rattle.annotation_index.specs.Picking.{HasEach}
 use Rattle.annotation_index.specs.Candidates.{output_of, Lookups, AreOf, descend, AreOfCell, to_output, to_named, spots_for, checks_for}
 use Rattle.annotation_index.proofs.ScopeLaws.{climb-within, descended}
 
 -- ---- lists
-
-or-true : (b : Bool) → (b || true) ≡ true
-or-true true = refl
-or-true false = refl
 
 has-left : (k : ℕ) (xs ys : List ℕ) → has k xs ≡ true → has k (xs ++ ys) ≡ true
 has-left k [] ys h = absurd cc
@@ -54,14 +53,6 @@ has-flat f (y ∷ ys) x k h e = by (y == x) refl h (λ g. has-flat f ys x k g e)
     by : (b : Bool) → (y == x) ≡ b → (b || has x ys) ≡ true → (has x ys ≡ true → has k (flat_map f ys) ≡ true) → has k (f y ++ flat_map f ys) ≡ true
     by true s g rec = has-left k (f y) (flat_map f ys) (ap (λ n. has k (f n)) (same_if y x s) ∙ e)
     by false s g rec = has-right k (f y) (flat_map f ys) (rec g)
-
-first : (a b : Bool) → (a && b) ≡ true → a ≡ true
-first true b e = refl
-first false b e = absurd cc
-
-second : (a b : Bool) → (a && b) ≡ true → b ≡ true
-second true b e = e
-second false b e = absurd cc
 
 -- ---- places stand in scopes of the circuit
 
@@ -108,14 +99,14 @@ module _ (c : Circuit) (sdf : Sdf) (g : Given) (l : Lookups) (closed : IsClosed 
       → fits_path c sdf.divider kind s output p ≡ true → has k (spots_for c sdf.divider l kind scopes) ≡ true
   path_in (io_path condition from to ds) s output p k in_cell leads stands e =
       leads_out to s output k in_cell
-      (second (has p.input (port_nets c sdf.divider is_input s from.port)) (has output (port_nets c sdf.divider is_output s to))
-      (first (leads_between c sdf.divider s from.port to output p) (fits_edge from.edge p.edge)
-      (first (leads_between c sdf.divider s from.port to output p && fits_edge from.edge p.edge) (fits_condition condition p.condition) e))) leads
+      (and_parts (has p.input (port_nets c sdf.divider is_input s from.port)) (has output (port_nets c sdf.divider is_output s to))
+      (and_parts (leads_between c sdf.divider s from.port to output p) (fits_edge from.edge p.edge)
+      (and_parts (leads_between c sdf.divider s from.port to output p && fits_edge from.edge p.edge) (fits_condition condition p.condition) e).0).0).1 leads
   path_in (device None ds) s output p k in_cell leads stands e = has-flat l.standing scopes s k in_cell stands
   path_in (device (Some port) ds) s output p k in_cell leads stands e = leads_out port s output k in_cell e leads
   path_in (path_pulse percent None r m) s output p k in_cell leads stands e = has-flat l.standing scopes s k in_cell stands
   path_in (path_pulse percent (Some ports) r m) s output p k in_cell leads stands e =
-      leads_out ports.1 s output k in_cell (second (has p.input (port_nets c sdf.divider is_input s ports.0)) (has output (port_nets c sdf.divider is_output s ports.1)) e) leads
+      leads_out ports.1 s output k in_cell (and_parts (has p.input (port_nets c sdf.divider is_input s ports.0)) (has output (port_nets c sdf.divider is_output s ports.1)) e).1 leads
   path_in (port_delay port ds) s output p k in_cell leads stands e = absurd cc
   path_in (interconnect from to ds) s output p k in_cell leads stands e = absurd cc
   path_in (a_check check) s output p k in_cell leads stands e = absurd cc
@@ -152,7 +143,7 @@ module _ (c : Circuit) (sdf : Sdf) (g : Given) (l : Lookups) (closed : IsClosed 
   leg_in (port_delay to ds) s inputs output k within leads e = named_in (names_back sdf.divider to.path) to s output k within leads e
   leg_in (interconnect from to ds) s inputs output k within leads e =
       named_in (names_back sdf.divider to.path) to s output k within leads
-      (first (is_cell_scope c sdf.divider g (leads_below c sdf.divider s output to)) (is_source c sdf.divider from (only inputs) (leads_below c sdf.divider s output to)) e)
+      (and_parts (is_cell_scope c sdf.divider g (leads_below c sdf.divider s output to)) (is_source c sdf.divider from (only inputs) (leads_below c sdf.divider s output to)) e).0
   leg_in (io_path condition from to ds) s inputs output k within leads e = absurd cc
   leg_in (device port ds) s inputs output k within leads e = absurd cc
   leg_in (path_pulse percent ports r m) s inputs output k within leads e = absurd cc
@@ -163,19 +154,16 @@ module _ (c : Circuit) (sdf : Sdf) (g : Given) (l : Lookups) (closed : IsClosed 
       → is_for_spot c sdf.divider g spot ≡ true → has k (spots_for c sdf.divider l g.entry.kind scopes) ≡ true
   spot_in k (leg_spot s inputs output timings) within leads stands e = leg_in g.entry.kind s inputs output k within leads e
   spot_in k (path_spot s output p) within leads stands e =
-      path_in g.entry.kind s output p k (has-scope s within (first (is_of_cell c sdf.divider g.cell_type g.instance s) (fits_path c sdf.divider g.entry.kind s output p) e)) leads stands
-      (second (is_of_cell c sdf.divider g.cell_type g.instance s) (fits_path c sdf.divider g.entry.kind s output p) e)
-
-  below : (k n : ℕ) → nat_lt k n ≡ true → k < n
-  below k n e = grind (arith, nat_tests)
+      path_in g.entry.kind s output p k (has-scope s within (and_parts (is_of_cell c sdf.divider g.cell_type g.instance s) (fits_path c sdf.divider g.entry.kind s output p) e).0) leads stands
+      (and_parts (is_of_cell c sdf.divider g.cell_type g.instance s) (fits_path c sdf.divider g.entry.kind s output p) e).1
 
   -- The candidates have each leg and each path that the entry is for.
   pub each_spot : HasEach (is_found_spot c sdf g) (spots_for c sdf.divider l g.entry.kind scopes)
   each_spot = record {
     each = λ k e.
-        let m : k < length (spots c) = below k (length (spots c)) (first (nat_lt k (length (spots c))) (is_for_spot c sdf.divider g (spot_at c k)) e) in
+        let m : k < length (spots c) = below_if k (length (spots c)) (and_parts (nat_lt k (length (spots c))) (is_for_spot c sdf.divider g (spot_at c k)) e).0 in
         spot_in k (spot_at c k) (spots-within (length c.scopes) c.elements closed.element_scopes k _ m) (of_circuit.by_net k m) (of_circuit.by_scope k m)
-        (second (nat_lt k (length (spots c))) (is_for_spot c sdf.divider g (spot_at c k)) e);
+        (and_parts (nat_lt k (length (spots c))) (is_for_spot c sdf.divider g (spot_at c k)) e).1;
   }
 
   -- ---- timing checks
@@ -188,9 +176,9 @@ module _ (c : Circuit) (sdf : Sdf) (g : Given) (l : Lookups) (closed : IsClosed 
       → is_given (given_by c sdf.divider g (a_check check) x.check.scope x.timing x.written) ≡ true → has k (checks_for c sdf.divider l (a_check check) scopes) ≡ true
   check_of check k x within r e =
       has-flat (λ s. flat_map l.referring (port_nets c sdf.divider is_any s (terminals_of check).0.port)) scopes x.check.scope k
-      (has-scope x.check.scope within (first cell_test check_test both))
+      (has-scope x.check.scope within (and_parts cell_test check_test both).0)
       (has-flat l.referring (port_nets c sdf.divider is_any x.check.scope (terminals_of check).0.port) x.timing.refer.net k
-      (first refers edge_test (first (refers && edge_test) words_test (first event_test datum_test (second cell_test check_test both)))) r)
+      (and_parts refers edge_test (and_parts (refers && edge_test) words_test (and_parts event_test datum_test (and_parts cell_test check_test both).1).0).0).0 r)
     where
       cell_test : Bool
       cell_test = is_of_cell c sdf.divider g.cell_type g.instance x.check.scope
@@ -230,7 +218,7 @@ module _ (c : Circuit) (sdf : Sdf) (g : Given) (l : Lookups) (closed : IsClosed 
   pub each_check : HasEach (is_found_check c sdf g) (checks_for c sdf.divider l g.entry.kind scopes)
   each_check = record {
     each = λ k e.
-        let m : k < length (all_checked c) = below k (length (all_checked c)) (first (nat_lt k (length (all_checked c))) (is_for_check c sdf.divider g (check_at c k)) e) in
+        let m : k < length (all_checked c) = below_if k (length (all_checked c)) (and_parts (nat_lt k (length (all_checked c))) (is_for_check c sdf.divider g (check_at c k)) e).0 in
         check_in g.entry.kind k (check_at c k) (checks-within (length c.scopes) c.checks c.check_timings c.check_conditions closed.check_scopes k _ m) (of_circuit.by_reference k m)
-        (second (nat_lt k (length (all_checked c))) (is_for_check c sdf.divider g (check_at c k)) e);
+        (and_parts (nat_lt k (length (all_checked c))) (is_for_check c sdf.divider g (check_at c k)) e).1;
   }

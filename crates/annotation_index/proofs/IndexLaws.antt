@@ -5,6 +5,7 @@ use Rattle.std.specs.Borrow.{Bor}
 use Rattle.std.specs.Global.{Vec}
 use Rattle.std.specs.Cmp.Lexicographic.{bytes_decides}
 use Rattle.std.proofs.Common.{ap, sym, ◌∙◌, arith}
+use Rattle.std.proofs.lemmas.Bool.{and_parts}
 use Rattle.std.proofs.lemmas.Bool.Decides.{nat_tests}
 use Rattle.std.proofs.lemmas.List.{append-nil}
 use Rattle.indexmap.specs.IndexMap.{get_by}
@@ -14,14 +15,6 @@ use Rattle.annotation_index.specs.Index.{AreNamed, items_in, list_at, one_if, sa
 -- a name as a key that borrows it
 abbrev pub key : List ℕ → Bor (List ℕ)
 key name = record { ref_ptr = (0, 0); now = name }
-
-left : (a b : Bool) → (a && b) ≡ true → a ≡ true
-left true b e = refl
-left false b e = absurd cc
-
-right : (a b : Bool) → (a && b) ≡ true → b ≡ true
-right true b e = e
-right false b e = absurd cc
 
 same_number : (a b : ℕ) → nat_eq a b ≡ true → a ≡ b
 same_number a b e = grind (arith, nat_tests)
@@ -39,8 +32,8 @@ added owner name item old mid new out list taken removed items inserted o n = by
 
     by : (b : Bool) → same_key owner name o n ≡ b → items_in (new (o, key n)) ≡ items_in (old (o, key n)) ++ one_if b item
     by true e =
-        let number : owner ≡ o = same_number owner o (left (nat_eq owner o) (bytes_eq name n) e) in
-        let bytes : name ≡ n = (bytes_decides name n).0 (right (nat_eq owner o) (bytes_eq name n) e) in
+        let number : owner ≡ o = same_number owner o (and_parts (nat_eq owner o) (bytes_eq name n) e).0 in
+        let bytes : name ≡ n = (bytes_decides name n).0 (and_parts (nat_eq owner o) (bytes_eq name n) e).1 in
         there true e ∙ (items ∙ ap (λ xs. xs ++ item ∷ []) (ap items_in taken ∙ (ap (λ x. items_in (old (x, key name))) number ∙ ap (λ xs. items_in (old (o, key xs))) bytes)))
     by false e = there false e ∙ sym (append-nil (items_in (old (o, key n))))
 

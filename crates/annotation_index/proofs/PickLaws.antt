@@ -1,16 +1,13 @@
 -- One candidate more, and what has been picked when all were seen.
 use Rattle.std.specs.Prelude.{◌≡◌, ◌≢◌, refl, ℕ, ◌+◌, ◌<◌, ◌≤◌, ◌==◌, ◌&&◌, ◌||◌, Bool, true, false, if◌then◌else◌, List, [], ◌∷◌, ◌++◌, length, take, slice_index_or, slice_set}
 use Rattle.std.proofs.Common.{ap, sym, ◌∙◌, subst, arith, inl, inr}
-use Rattle.std.proofs.lemmas.Bool.{cases_eq}
+use Rattle.std.proofs.Math.Bool.{or-false, or-true}
+use Rattle.std.proofs.lemmas.Bool.{cases_eq, and_parts, and_right}
 use Rattle.std.proofs.lemmas.List.{get_or-set_same, get_or-set_other, take_more, take_all, append_assoc, append-nil}
 use Rattle.annotation_model.specs.Listed.{occurrences, IsListOf}
 use Rattle.annotation_model.specs.Ports.{has}
 use Rattle.annotation_model.proofs.ListedLaws.{test_same, test_other, occurs_here, occurs_later, occurrences-append}
 use Rattle.annotation_index.specs.Picking.{ArePicked, HasEach}
-
-pub or-false : (b : Bool) → (b || false) ≡ b
-or-false true = refl
-or-false false = refl
 
 pub has-append : (k : ℕ) (xs ys : List ℕ) → has k (xs ++ ys) ≡ (has k xs || has k ys)
 has-append k [] ys = refl
@@ -20,14 +17,10 @@ has-append k (x ∷ xs) ys = by (x == k) (has-append k xs ys)
     by true e = refl
     by false e = e
 
-has_one : (k c : ℕ) (xs : List ℕ) → c ≡ k → has k (xs ++ c ∷ []) ≡ true
-has_one k c xs e = has-append k xs (c ∷ []) ∙ (ap (λ b. has k xs || (b || false)) (test_same c k e) ∙ or-last (has k xs))
-  where
-    or-last : (b : Bool) → (b || true) ≡ true
-    or-last true = refl
-    or-last false = refl
+pub has_one : (k c : ℕ) (xs : List ℕ) → c ≡ k → has k (xs ++ c ∷ []) ≡ true
+has_one k c xs e = has-append k xs (c ∷ []) ∙ (ap (λ b. has k xs || (b || false)) (test_same c k e) ∙ or-true (has k xs))
 
-has_other : (k c : ℕ) (xs : List ℕ) → c ≢ k → has k (xs ++ c ∷ []) ≡ has k xs
+pub has_other : (k c : ℕ) (xs : List ℕ) → c ≢ k → has k (xs ++ c ∷ []) ≡ has k xs
 has_other k c xs e = has-append k xs (c ∷ []) ∙ (ap (λ b. has k xs || (b || false)) (test_other c k e) ∙ or-false (has k xs))
 
 -- nothing was seen, nothing is marked or listed
@@ -78,21 +71,15 @@ picked_same test seen marks found c s h = record { marked = λ k. h.marked k ∙
       | inr e ↦ ap (λ b. b && test k) (sym (has_other k c seen e))
     ]
 
-and-right : (a b : Bool) → (a && b) ≡ true → (a && b) ≡ b
-and-right true b e = refl
-and-right false b e = absurd cc
-
-and-none : (a b : Bool) → b ≡ false → (a && b) ≡ b
-and-none true b e = refl
-and-none false b e = sym e
-
 pub picked_again : (test : ℕ → Bool) (seen : List ℕ) (marks : List Bool) (found : List ℕ) (c : ℕ) → slice_index_or marks c false ≡ true
     → ArePicked test seen marks found → ArePicked test (seen ++ c ∷ []) marks found
-picked_again test seen marks found c m h = picked_same test seen marks found c (and-right (has c seen) (test c) (sym (h.marked c) ∙ m)) h
+picked_again test seen marks found c m h =
+    let passes : (has c seen && test c) ≡ true = sym (h.marked c) ∙ m in
+    picked_same test seen marks found c (passes ∙ sym (and_parts (has c seen) (test c) passes).1) h
 
 pub picked_off : (test : ℕ → Bool) (seen : List ℕ) (marks : List Bool) (found : List ℕ) (c : ℕ) → test c ≡ false
     → ArePicked test seen marks found → ArePicked test (seen ++ c ∷ []) marks found
-picked_off test seen marks found c t h = picked_same test seen marks found c (and-none (has c seen) (test c) t) h
+picked_off test seen marks found c t h = picked_same test seen marks found c (and_right (has c seen) (test c) t ∙ sym t) h
 
 -- What was picked is exactly what passes, each once, where the candidates have each place that passes: looking up by an index gives the filter's places.
 pub picked_all : (test : ℕ → Bool) (seen : List ℕ) (marks : List Bool) (found : List ℕ) → HasEach test seen → ArePicked test seen marks found → IsListOf test found
@@ -100,7 +87,7 @@ picked_all test seen marks found has_each h = record { each = λ k. h.each k ∙
   where
     same : (k : ℕ) (b : Bool) → test k ≡ b → (has k seen && test k) ≡ test k
     same k true e = ap (λ b. b && test k) (has_each.each k e)
-    same k false e = and-none (has k seen) (test k) e
+    same k false e = and_right (has k seen) (test k) e ∙ sym e
 
 -- the candidates of a list, one after another
 pub picked_more : (test : ℕ → Bool) (seen xs : List ℕ) (i blank : ℕ) (marks : List Bool) (found : List ℕ) → i < length xs

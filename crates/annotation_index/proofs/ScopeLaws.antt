@@ -2,6 +2,7 @@
 use Rattle.std.specs.Prelude.{◌≡◌, refl, ℕ, ◌<◌, ◌==◌, ◌&&◌, ◌||◌, bytes_eq, Bool, true, false, if◌then◌else◌, List, [], ◌∷◌, ◌++◌, map, reverse, length, Option, Some, None, IfSome}
 use Rattle.std.specs.List.{flat_map}
 use Rattle.std.proofs.Common.{ap, sym, ◌∙◌, arith, inl, inr}
+use Rattle.std.proofs.Math.Bool.{or-false}
 use Rattle.std.proofs.lemmas.Bool.{cases_eq}
 use Rattle.std.proofs.lemmas.List.{reverse-append}
 use Rattle.sg_circuit.specs.Circuit.{Circuit, scope_at}
@@ -14,7 +15,7 @@ use Rattle.annotation_model.specs.Scopes.{climb, is_scope, is_of_cell}
 use Rattle.annotation_model.specs.Ports.{has}
 use Rattle.annotation_model.proofs.ListedLaws.{test_same, test_other}
 use Rattle.annotation_index.specs.Candidates.{Lookups, AreOf, descend, cell_scopes}
-use Rattle.annotation_index.proofs.PickLaws.{or-false, has-append}
+use Rattle.annotation_index.proofs.PickLaws.{has-append}
 
 pub test_back : (x k : ℕ) → (k == x) ≡ (x == k)
 test_back x k = elim (cases_eq x k) [ inl e ↦ test_same k x (sym e) ∙ sym (test_same x k e) | inr e ↦ test_other k x (λ q. e (sym q)) ∙ sym (test_other x k e) ]
@@ -37,12 +38,9 @@ has-by : (f : ℕ → List ℕ) (s : ℕ) (up : Option ℕ) → ((x : ℕ) → h
 has-by f s up h [] = has_if-none up
 has-by f s up h (x ∷ xs) = has-append s (f x) (flat_map f xs) ∙ (ap (λ b. b || has s (flat_map f xs)) (h x) ∙ (ap (λ b. is_scope x up || b) (has-by f s up h xs) ∙ has_if-more up x xs))
 
-and-none : (b : Bool) → (b && false) ≡ false
-and-none true = refl
-and-none false = refl
-
 module _ (c : Circuit) where
-  climb-none : (names : List (List ℕ)) → climb c names None ≡ None
+  -- from nowhere one climbs nowhere
+  pub climb-none : (names : List (List ℕ)) → climb c names None ≡ None
   climb-none [] = refl
   climb-none (n ∷ ns) = refl
 

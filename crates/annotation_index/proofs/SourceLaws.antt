@@ -2,6 +2,8 @@
 use Rattle.std.specs.Prelude.{◌≡◌, refl, ℕ, zero, suc, ◌+◌, ◌<◌, ◌≤◌, ◌==◌, ◌&&◌, ◌||◌, nat_lt, Bool, true, false, if◌then◌else◌, List, [], ◌∷◌, reverse, length, Option, Some, None, ℤ}
 use Rattle.std.specs.List.{list_any, range_with_len}
 use Rattle.std.proofs.Common.{ap, sym, ◌∙◌, arith}
+use Rattle.std.proofs.Math.Bool.{and-false, or-false, or-true}
+use Rattle.std.proofs.lemmas.Bool.{or_from}
 use Rattle.std.proofs.lemmas.Bool.Decides.{nat_tests}
 use Rattle.std.proofs.lemmas.List.{reverse-reverse, get_or_past}
 use Rattle.sg_circuit.specs.Circuit.{Circuit, Scope, scope_at}
@@ -10,15 +12,9 @@ use Rattle.sdf_tree.specs.Written.{Port}
 use Rattle.annotation_model.specs.Scopes.{names_back, climb, is_scope}
 use Rattle.annotation_model.specs.Ports.{has, is_input, is_output, nets_named}
 use Rattle.annotation_model.specs.Matching.{named_from, is_source}
+use Rattle.annotation_model.proofs.EntryLaws.{any-same}
 use Rattle.annotation_index.specs.Candidates.{Lookups, AreOf, descend, is_source_at, is_source_down}
 use Rattle.annotation_index.proofs.ScopeLaws.{descended}
-
-or-true : (b : Bool) → (b || true) ≡ true
-or-true true = refl
-or-true false = refl
-
-or-none : (a b : Bool) → a ≡ false → b ≡ false → (a || b) ≡ false
-or-none a b e f = ap (λ x. x || b) e ∙ f
 
 -- ---- lists
 
@@ -46,7 +42,7 @@ any_found q (x ∷ xs) e = by (q x) refl e (λ h. any_found q xs h)
 
 none_in : (q : ℕ → Bool) (xs : List ℕ) → ((k : ℕ) → q k ≡ false) → list_any q xs ≡ false
 none_in q [] h = refl
-none_in q (x ∷ xs) h = or-none (q x) (list_any q xs) (h x) (none_in q xs h)
+none_in q (x ∷ xs) h = or_from (q x) (list_any q xs) (h x) (none_in q xs h)
 
 pub has_range : (a n k : ℕ) → a ≤ k → k < a + n → has k (range_with_len a n) ≡ true
 has_range a zero k l m = absurd (omega (arith, l, m))
@@ -78,23 +74,15 @@ any_below n p xs within = by (list_any p xs) refl
         none : (k : ℕ) → (p k && has k xs) ≡ false
         none k = both k (p k) (has k xs) refl refl
 
-any_same : (p q : ℕ → Bool) (xs : List ℕ) → ((k : ℕ) → p k ≡ q k) → list_any p xs ≡ list_any q xs
-any_same p q [] h = refl
-any_same p q (x ∷ xs) h = ap (λ b. b || list_any p xs) (h x) ∙ ap (λ b. q x || b) (any_same p q xs h)
-
 -- ---- sources
 
 module _ (c : Circuit) (l : Lookups) (of_circuit : AreOf c l) where
   -- the scopes past the end have no port
   blank_past : (s : ℕ) → length c.scopes ≤ s → (name : List ℕ) (bit : Option ℤ) (net : ℕ) → is_source_at c name bit net s ≡ false
-  blank_past s past name bit net = ap at (get_or_past c.scopes s _ past) ∙ none (s == 0)
+  blank_past s past name bit net = ap at (get_or_past c.scopes s _ past) ∙ and-false (s == 0)
     where
       at : Scope → Bool
       at t = (t.is_leaf && has net (nets_named is_output t.variables name bit)) || ((s == 0) && has net (nets_named is_input t.variables name bit))
-
-      none : (b : Bool) → (b && false) ≡ false
-      none true = refl
-      none false = refl
 
   is_within : (name : List ℕ) (bit : Option ℤ) (net s : ℕ) → is_source_at c name bit net s ≡ true → s < length c.scopes
   is_within name bit net s e = by (nat_lt s (length c.scopes)) refl
@@ -119,11 +107,7 @@ module _ (c : Circuit) (l : Lookups) (of_circuit : AreOf c l) where
       by i true = refl
       by true false = refl
       by false false = refl
-  split true true false inn down = by down
-    where
-      by : (d : Bool) → (d || false) ≡ d
-      by true = refl
-      by false = refl
+  split true true false inn down = or-false down
   split true false true inn down = refl
   split true false false inn down = refl
   split false out true inn down = refl
@@ -140,11 +124,7 @@ module _ (c : Circuit) (l : Lookups) (of_circuit : AreOf c l) where
       test names s = ((scope_at c s).is_leaf && is_scope below (named_from c is_output s names net from)) || ((s == 0) && is_scope below (named_from c is_input s names net from))
 
       nowhere : (s : ℕ) → test [] s ≡ false
-      nowhere s = or-none ((scope_at c s).is_leaf && false) ((s == 0) && false) (none (scope_at c s).is_leaf) (none (s == 0))
-        where
-          none : (b : Bool) → (b && false) ≡ false
-          none true = refl
-          none false = refl
+      nowhere s = or_from ((scope_at c s).is_leaf && false) ((s == 0) && false) (and-false (scope_at c s).is_leaf) (and-false (s == 0))
 
       here : (name : List ℕ) (path : List (List ℕ)) (s : ℕ) → test (name ∷ path) s ≡ (is_source_at c name from.bit net s && has s (descend l.inside (reverse path) below))
       here name path s =
@@ -162,5 +142,5 @@ module _ (c : Circuit) (l : Lookups) (of_circuit : AreOf c l) where
       by : (names : List (List ℕ)) → list_any (test names) (range_with_len 0 (length c.scopes)) ≡ is_source_down c l names from.bit net below
       by [] = none_in (test []) (range_with_len 0 (length c.scopes)) nowhere
       by (name ∷ path) =
-          any_same (test (name ∷ path)) (λ s. is_source_at c name from.bit net s && has s (descend l.inside (reverse path) below)) (range_with_len 0 (length c.scopes)) (here name path)
+          any-same (test (name ∷ path)) (λ s. is_source_at c name from.bit net s && has s (descend l.inside (reverse path) below)) (range_with_len 0 (length c.scopes)) (here name path)
           ∙ any_below (length c.scopes) (is_source_at c name from.bit net) (descend l.inside (reverse path) below) (is_within name from.bit net)

@@ -1,19 +1,11 @@
 -- A test of some of a list's places, by the list of those that pass another.
-use Rattle.std.specs.Prelude.{◌≡◌, refl, ℕ, zero, suc, ◌+◌, ◌<◌, ◌==◌, ◌&&◌, ◌||◌, nat_lt, Bool, true, false, if◌then◌else◌, List, [], ◌∷◌, length, slice_index_or}
+use Rattle.std.specs.Prelude.{◌≡◌, refl, ℕ, zero, suc, ◌<◌, ◌&&◌, ◌||◌, nat_lt, Bool, true, false, if◌then◌else◌, List, [], ◌∷◌, length, slice_index_or}
 use Rattle.std.specs.List.{list_any}
 use Rattle.std.proofs.Common.{ap, sym, ◌∙◌, subst, arith, inl, inr}
-use Rattle.std.proofs.lemmas.Bool.{cases_eq, and_from, or_parts, or_right}
+use Rattle.std.proofs.lemmas.Bool.{cases_eq, and_from, or_parts, or_right, and_parts}
 use Rattle.annotation_model.specs.Listed.{occurrences, IsListOf}
-use Rattle.annotation_model.proofs.ListedLaws.{occurs_here, occurs_later}
+use Rattle.annotation_model.proofs.ListedLaws.{occurs_later, stands_here, stands_later}
 use Rattle.annotation_model.proofs.TableLaws.{is_below, below_if}
-
-pub and-left : (a b : Bool) → (a && b) ≡ true → a ≡ true
-and-left true b e = refl
-and-left false b e = absurd cc
-
-and-right : (a b : Bool) → (a && b) ≡ true → b ≡ true
-and-right true b e = e
-and-right false b e = absurd cc
 
 pub and-off : (a b : Bool) → a ≡ true → (a && b) ≡ false → b ≡ false
 and-off a b e f = sym (ap (λ c. c && b) e) ∙ f
@@ -33,13 +25,7 @@ any_here q k (x ∷ ks) l e = elim (cases_eq x k) [
 
 none_here : (q : ℕ → Bool) (ks : List ℕ) → ((k : ℕ) → 0 < occurrences k ks → q k ≡ false) → list_any q ks ≡ false
 none_here q [] h = refl
-none_here q (x ∷ ks) h = ap (λ b. b || list_any q ks) (h x here) ∙ none_here q ks (λ k l. h k (later k l))
-  where
-    here : 0 < occurrences x (x ∷ ks)
-    here = let e : occurrences x (x ∷ ks) ≡ occurrences x ks + 1 = occurs_here x x ks refl in omega (arith, e)
-
-    later : (k : ℕ) → 0 < occurrences k ks → 0 < occurrences k (x ∷ ks)
-    later k l = let f : (n a : ℕ) → 0 < a → 0 < n + a = (λ n a h. omega arith) in f (if x == k then 1 else 0) (occurrences k ks) l
+none_here q (x ∷ ks) h = ap (λ b. b || list_any q ks) (h x (stands_here x ks)) ∙ none_here q ks (λ k l. h k (stands_later k x ks l))
 
 module _ {X : Type 0} where
   -- a place at which a test passes
@@ -69,13 +55,13 @@ module _ {X : Type 0} where
       by true e =
           let f = passes_at (λ x. p x && q x) xs d e in
           let x : X = slice_index_or xs f.0 d in
-          let t : test f.0 ≡ true = and_from (nat_lt f.0 (length xs)) (p x) (is_below f.0 (length xs) f.1) (and-left (p x) (q x) f.2) in
+          let t : test f.0 ≡ true = and_from (nat_lt f.0 (length xs)) (p x) (is_below f.0 (length xs) f.1) (and_parts (p x) (q x) f.2).0 in
           let n : occurrences f.0 ks ≡ 1 = is.each f.0 ∙ ap (λ b. if b then 1 else 0) t in
-          any_here (λ k. q (slice_index_or xs k d)) f.0 ks (omega (arith, n)) (and-right (p x) (q x) f.2)
+          any_here (λ k. q (slice_index_or xs k d)) f.0 ks (omega (arith, n)) (and_parts (p x) (q x) f.2).1
       by false e = none_here (λ k. q (slice_index_or xs k d)) ks none
         where
           none : (k : ℕ) → 0 < occurrences k ks → q (slice_index_or xs k d) ≡ false
           none k l =
               let t : test k ≡ true = counted (test k) (occurrences k ks) (is.each k) l in
               let x : X = slice_index_or xs k d in
-              and-off (p x) (q x) (and-right (nat_lt k (length xs)) (p x) t) (fails_at (λ y. p y && q y) xs d k e (below_if k (length xs) (and-left (nat_lt k (length xs)) (p x) t)))
+              and-off (p x) (q x) (and_parts (nat_lt k (length xs)) (p x) t).1 (fails_at (λ y. p y && q y) xs d k e (below_if k (length xs) (and_parts (nat_lt k (length xs)) (p x) t).0))

@@ -2,6 +2,8 @@
 use Rattle.std.specs.Prelude.{◌≡◌, refl, ℕ, ℤ, suc, zero, ◌<◌, ◌&&◌, ◌||◌, nat_lt, Bool, true, false, List, [], ◌∷◌, ◌++◌, length, map, slice_index_or, slice_set}
 use Rattle.std.specs.List.{list_any}
 use Rattle.std.proofs.Common.{ap, ◌∙◌}
+use Rattle.std.proofs.Math.Bool.{and-true}
+use Rattle.std.proofs.lemmas.Bool.{and_parts}
 use Rattle.std.proofs.lemmas.List.{get_or-map}
 use Rattle.sg_delay.specs.declared.corners.Corner.{Corner}
 use Rattle.sg_circuit.specs.Circuit.{Circuit}
@@ -14,7 +16,7 @@ use Rattle.annotation_model.specs.Spots.{all_checked, is_for_check, limits_with,
 use Rattle.annotation_model.specs.Finding.{no_spot, no_check, spot_at, check_at, is_found_spot, is_found_check}
 use Rattle.annotation_model.specs.Annotated.{is_for_something}
 use Rattle.annotation_model.proofs.TableLaws.{table-more, below_if}
-use Rattle.annotation_model.proofs.AnyLaws.{any_listed, and-left, counted}
+use Rattle.annotation_model.proofs.AnyLaws.{any_listed, counted}
 use Rattle.annotation_model.proofs.PassLaws.{meets_once, listed_once, any_alike}
 
 -- past the end too
@@ -29,13 +31,9 @@ writes_alike f g d [] xs h = refl
 writes_alike f g d (k ∷ ks) xs h =
     ap (λ v. written f d ks (slice_set xs k v)) (h k (slice_index_or xs k d)) ∙ writes_alike f g d ks (slice_set xs k (g k (slice_index_or xs k d))) h
 
-any-same : {X : Type 0} (p q : X → Bool) (xs : List X) → ((x : X) → p x ≡ q x) → list_any p xs ≡ list_any q xs
+pub any-same : {X : Type 0} (p q : X → Bool) (xs : List X) → ((x : X) → p x ≡ q x) → list_any p xs ≡ list_any q xs
 any-same p q [] h = refl
 any-same p q (x ∷ xs) h = ap (λ b. b || list_any p xs) (h x) ∙ ap (λ b. q x || b) (any-same p q xs h)
-
-and-true : (b : Bool) → (b && true) ≡ b
-and-true true = refl
-and-true false = refl
 
 abbrev pub is_some_listed : List ℕ → Bool
 is_some_listed [] = false
@@ -50,7 +48,7 @@ module _ (c : Circuit) (sdf : Sdf) (corner : Corner) (done : List Given) (g : Gi
   pub spot-in : (ks : List ℕ) → IsListOf (is_found_spot c sdf g) ks → (k : ℕ) → 0 < occurrences k ks → k < length (spots c)
   spot-in ks is k l =
       let found : is_found_spot c sdf g k ≡ true = counted (is_found_spot c sdf g k) (occurrences k ks) (is.each k) l in
-      below_if k (length (spots c)) (and-left (nat_lt k (length (spots c))) (is_for_spot c sdf.divider g (spot_at c k)) found)
+      below_if k (length (spots c)) (and_parts (nat_lt k (length (spots c))) (is_for_spot c sdf.divider g (spot_at c k)) found).0
 
   pub spots-more : (ks : List ℕ) → IsListOf (is_found_spot c sdf g) ks
       → written (λ k ts. applied_at c sdf corner g (spot_at c k) ts) [] ks (map (spot_after c sdf corner done) (spots c)) ≡ map (spot_after c sdf corner (done ++ g ∷ [])) (spots c)

@@ -19,6 +19,12 @@ occurs_here x k xs e = ap (λ b. (if b then 1 else 0) + occurrences k xs) (test_
 pub occurs_later : (x k : ℕ) (xs : List ℕ) → x ≢ k → occurrences k (x ∷ xs) ≡ occurrences k xs
 occurs_later x k xs e = ap (λ b. (if b then 1 else 0) + occurrences k xs) (test_other x k e) ∙ zero-add (occurrences k xs)
 
+pub stands_here : (x : ℕ) (ks : List ℕ) → 0 < occurrences x (x ∷ ks)
+stands_here x ks = let e : occurrences x (x ∷ ks) ≡ occurrences x ks + 1 = occurs_here x x ks refl in omega (arith, e)
+
+pub stands_later : (k x : ℕ) (ks : List ℕ) → 0 < occurrences k ks → 0 < occurrences k (x ∷ ks)
+stands_later k x ks l = let f : (n a : ℕ) → 0 < a → 0 < n + a = (λ n a h. omega arith) in f (if x == k then 1 else 0) (occurrences k ks) l
+
 pub occurrences-append : (k : ℕ) (xs ys : List ℕ) → occurrences k (xs ++ ys) ≡ occurrences k xs + occurrences k ys
 occurrences-append k [] ys = sym (zero-add (occurrences k ys))
 occurrences-append k (x ∷ xs) ys =

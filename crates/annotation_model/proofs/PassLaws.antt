@@ -5,13 +5,7 @@ use Rattle.std.proofs.Common.{ap, ◌∙◌, subst, arith}
 use Rattle.std.proofs.lemmas.List.{get_or-set_other, drop_more}
 use Rattle.annotation_model.specs.Listed.{occurrences, IsListOf, written}
 use Rattle.annotation_model.specs.Passes.{meets_large}
-use Rattle.annotation_model.proofs.ListedLaws.{occurs_here}
-
-stands_here : (x : ℕ) (ks : List ℕ) → 0 < occurrences x (x ∷ ks)
-stands_here x ks = let e : occurrences x (x ∷ ks) ≡ occurrences x ks + 1 = occurs_here x x ks refl in omega (arith, e)
-
-stands_later : (k x : ℕ) (ks : List ℕ) → 0 < occurrences k ks → 0 < occurrences k (x ∷ ks)
-stands_later k x ks l = let f : (n a : ℕ) → 0 < a → 0 < n + a = (λ n a h. omega arith) in f (if x == k then 1 else 0) (occurrences k ks) l
+use Rattle.annotation_model.proofs.ListedLaws.{occurs_here, stands_here, stands_later}
 
 pub any_alike : (p q : ℕ → Bool) (ks : List ℕ) → ((j : ℕ) → 0 < occurrences j ks → p j ≡ q j) → list_any p ks ≡ list_any q ks
 any_alike p q [] h = refl

@@ -2,6 +2,7 @@
 use Rattle.std.specs.Prelude.{◌≡◌, ◌≢◌, refl, ℕ, zero, suc, ◌+◌, ◌<◌, ◌≤◌, ◌==◌, ◌&&◌, ◌||◌, nat_eq, nat_lt, bytes_eq, Bool, true, false, cond, if◌then◌else◌, All, List, [], ◌∷◌, ◌++◌, length, slice_index_or}
 use Rattle.std.specs.List.{filter, range_with_len}
 use Rattle.std.proofs.Common.{ap, sym, ◌∙◌, subst, arith, inl, inr}
+use Rattle.std.proofs.Math.Bool.{and-false}
 use Rattle.std.proofs.lemmas.Bool.{cases_eq}
 use Rattle.std.proofs.lemmas.Bool.Decides.{nat_tests}
 use Rattle.std.proofs.lemmas.List.{append-nil, append_assoc}
@@ -47,14 +48,10 @@ has_passed p (x ∷ xs) k = split (p x) ∙ by (p x) (x == k) (λ e. ap p (sym (
     split true = refl
     split false = refl
 
-    none : (b : Bool) → (b && false) ≡ false
-    none true = refl
-    none false = refl
-
     by : (b d : Bool) → (d ≡ true → p k ≡ b) → has k (filter p xs) ≡ (has k xs && p k) → cond b (d || has k (filter p xs)) (has k (filter p xs)) ≡ ((d || has k xs) && p k)
     by true true at rec = sym (at refl)
     by true false at rec = rec
-    by false true at rec = rec ∙ (ap (λ b. has k xs && b) (at refl) ∙ (none (has k xs) ∙ sym (at refl)))
+    by false true at rec = rec ∙ (ap (λ b. has k xs && b) (at refl) ∙ (and-false (has k xs) ∙ sym (at refl)))
     by false false at rec = rec
 
 none_past : (a n k : ℕ) → a + n ≤ k → has k (range_with_len a n) ≡ false

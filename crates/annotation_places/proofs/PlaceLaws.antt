@@ -3,6 +3,7 @@ use Rattle.std.specs.Prelude.{◌≡◌, refl, ℕ, zero, suc, ◌+◌, ◌-◌,
 use Rattle.std.specs.List.{range_with_len}
 use Rattle.std.specs.Cmp.Lexicographic.{bytes_decides}
 use Rattle.std.proofs.Common.{ap, sym, ◌∙◌, subst, arith}
+use Rattle.std.proofs.Math.Bool.{and-false}
 use Rattle.std.proofs.lemmas.Bool.Decides.{nat_tests}
 use Rattle.std.proofs.lemmas.List.{get_or_past, length-map}
 use Rattle.sg_circuit.specs.Circuit.{Circuit, Kind, Gate, Udp, Pass, Leg, Path, Late, Scope, net_at, element_at, scope_at}
@@ -28,10 +29,6 @@ use Rattle.annotation_places.specs.declared.places.Places as code_places
 use Rattle.annotation_places.specs.Places.{led_by, ArePlaces, variables_of}
 use Rattle.annotation_places.specs.Indexes.{nothing, Holds, HoldsVariables, is_inside, is_of_module, stands_in, refers_to}
 use Rattle.annotation_places.proofs.IndexLaws.{has_key, has_no_key, all_below}
-
-none : (b : Bool) → (b && false) ≡ false
-none true = refl
-none false = refl
 
 same_name : (name : List ℕ) → bytes_eq name name ≡ true
 same_name name = (bytes_decides name name).1 refl
@@ -61,7 +58,7 @@ module _ (c : Circuit) where
 
   -- a scope past the end stands nowhere
   past_inside : (s o : ℕ) (name : List ℕ) → length c.scopes ≤ s → is_inside c s o name ≡ false
-  past_inside s o name l = ap (λ (t : Scope). bytes_eq t.name name && is_scope o t.parent) (get_or_past c.scopes s _ l) ∙ none (bytes_eq [] name)
+  past_inside s o name l = ap (λ (t : Scope). bytes_eq t.name name && is_scope o t.parent) (get_or_past c.scopes s _ l) ∙ and-false (bytes_eq [] name)
 
   pub inside_of : (index : Index) → Holds nothing index (is_inside c) (length c.scopes)
       → (s p : ℕ) (name : List ℕ) → has s (list_at index p name) ≡ (bytes_eq (scope_at c s).name name && is_scope p (scope_at c s).parent)

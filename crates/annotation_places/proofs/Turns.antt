@@ -5,6 +5,7 @@ use Rattle.std.proofs.Common.{ap, sym, ◌∙◌, arith, append_assoc}
 use Rattle.std.proofs.lemmas.List.{append-nil, drop_all, drop_more}
 use Rattle.std.proofs.lemmas.List.FromFn.{get_or-range_with_len, length-range_with_len}
 use Rattle.annotation_model.specs.Ports.{has}
+use Rattle.annotation_index.proofs.PickLaws.{has-append}
 
 -- what one gives is there, and less is left
 pub added : (f : ℕ → List ℕ) (xs : List ℕ) (i d : ℕ) (old new total : List ℕ) → i < length xs → new ≡ old ++ f (slice_index_or xs i d)
@@ -41,17 +42,9 @@ pub has_any : (k : ℕ) (xs : List ℕ) → list_any (λ x. nat_eq x k) xs ≡ h
 has_any k [] = refl
 has_any k (x ∷ xs) = ap (λ b. (x == k) || b) (has_any k xs)
 
-has_of_two : (k : ℕ) (xs ys : List ℕ) → has k (xs ++ ys) ≡ (has k xs || has k ys)
-has_of_two k [] ys = refl
-has_of_two k (x ∷ xs) ys = by (x == k) (has_of_two k xs ys)
-  where
-    by : (b : Bool) → has k (xs ++ ys) ≡ (has k xs || has k ys) → (b || has k (xs ++ ys)) ≡ ((b || has k xs) || has k ys)
-    by true e = refl
-    by false e = e
-
 -- it is among what the next gives, or among what is left
 turn : (f : ℕ → List ℕ) (xs : List ℕ) (i d k : ℕ) → i < length xs → has k (flat_map f (drop i xs)) ≡ (has k (f (slice_index_or xs i d)) || has k (flat_map f (drop (i + 1) xs)))
-turn f xs i d k l = ap (λ ys. has k (flat_map f ys)) (drop_more xs i d l) ∙ has_of_two k (f (slice_index_or xs i d)) (flat_map f (drop (i + 1) xs))
+turn f xs i d k l = ap (λ ys. has k (flat_map f ys)) (drop_more xs i d l) ∙ has-append k (f (slice_index_or xs i d)) (flat_map f (drop (i + 1) xs))
 
 pub found : (f : ℕ → List ℕ) (xs : List ℕ) (i d k : ℕ) (total : Bool) → i < length xs → has k (f (slice_index_or xs i d)) ≡ true → has k (flat_map f (drop i xs)) ≡ total → true ≡ total
 found f xs i d k total l t h = sym (ap (λ b. b || has k (flat_map f (drop (i + 1) xs))) t) ∙ sym (turn f xs i d k l) ∙ h

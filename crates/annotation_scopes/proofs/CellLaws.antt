@@ -1,5 +1,5 @@
 -- Marks of scopes, and the scopes of a cell.
-use Rattle.std.specs.Prelude.{◌≡◌, ◌≢◌, refl, ℕ, ◌+◌, ◌<◌, ◌≤◌, ◌==◌, ◌||◌, Bool, true, false, if◌then◌else◌, List, [], ◌∷◌, length, take, slice_index_or, slice_set}
+use Rattle.std.specs.Prelude.{◌≡◌, ◌≢◌, ℕ, ◌+◌, ◌<◌, ◌≤◌, Bool, true, false, if◌then◌else◌, List, length, take, slice_index_or, slice_set}
 use Rattle.std.proofs.Common.{ap, sym, ◌∙◌, subst, inl, inr}
 use Rattle.std.proofs.lemmas.Bool.{cases_eq}
 use Rattle.std.proofs.lemmas.List.{get_or-set_same, get_or-set_other, length-map, take_more, take_all}
@@ -8,18 +8,13 @@ use Rattle.sdf_tree.specs.Written.{Instance}
 use Rattle.sg_circuit.specs.Seen.{circuit_seen, scope_seen}
 use Rattle.annotation_model.specs.Ports.{has}
 use Rattle.annotation_model.specs.Scopes.{is_of_cell}
-use Rattle.annotation_model.proofs.ListedLaws.{test_same, test_other}
 use Rattle.annotation_index.specs.Candidates.{cell_scopes}
-use Rattle.annotation_index.proofs.PickLaws.{or-false, has-append}
+use Rattle.annotation_index.proofs.PickLaws.{has_one, has_other}
 use Rattle.annotation_index.proofs.ScopeLaws.{of_cell}
 use Rattle.annotation_places.specs.declared.places.Places as code_places
 use Rattle.annotation_places.specs.Places.{ArePlaces, lookups_of}
 
 -- ---- marks
-
-or-true : (b : Bool) → (b || true) ≡ true
-or-true true = refl
-or-true false = refl
 
 -- the mark that a scope has, if some have a new one
 abbrev pub mark_of : (scopes : List ℕ) (mark old : Bool) → ℕ → Bool
@@ -36,14 +31,11 @@ module _ (old : List Bool) (scopes : List ℕ) (mark : Bool) where
     | inr e ↦ get_or-set_other marks (slice_index_or scopes i d) t mark false (λ q. e (sym q)) ∙ (h t ∙ ap (λ b. if b then mark else slice_index_or old t false) (sym (elsewhere e)))
   ]
     where
-      has_more : has t (take (i + 1) scopes) ≡ (has t (take i scopes) || ((slice_index_or scopes i d == t) || false))
-      has_more = ap (λ xs. has t xs) (take_more scopes i d l) ∙ has-append t (take i scopes) (slice_index_or scopes i d ∷ [])
-
       here : slice_index_or scopes i d ≡ t → has t (take (i + 1) scopes) ≡ true
-      here e = has_more ∙ (ap (λ b. has t (take i scopes) || (b || false)) (test_same (slice_index_or scopes i d) t e) ∙ or-true (has t (take i scopes)))
+      here e = ap (λ xs. has t xs) (take_more scopes i d l) ∙ has_one t (slice_index_or scopes i d) (take i scopes) e
 
       elsewhere : slice_index_or scopes i d ≢ t → has t (take (i + 1) scopes) ≡ has t (take i scopes)
-      elsewhere e = has_more ∙ (ap (λ b. has t (take i scopes) || (b || false)) (test_other (slice_index_or scopes i d) t e) ∙ or-false (has t (take i scopes)))
+      elsewhere e = ap (λ xs. has t xs) (take_more scopes i d l) ∙ has_other t (slice_index_or scopes i d) (take i scopes) e
 
   pub all_marked : (i : ℕ) (marks : List Bool) → length scopes ≤ i → AreSet i marks → (t : ℕ) → slice_index_or marks t false ≡ mark_of scopes mark (slice_index_or old t false) t
   all_marked i marks l h t = h t ∙ ap (λ xs. mark_of xs mark (slice_index_or old t false) t) (take_all i scopes l)

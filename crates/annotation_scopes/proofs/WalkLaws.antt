@@ -11,6 +11,7 @@ use Rattle.sg_circuit.specs.Seen.{circuit_seen, scope_seen}
 use Rattle.sg_circuit.specs.declared.circuits.Parts.{Parts}
 use Rattle.sg_circuit.specs.declared.scopes.Scope as code_scope
 use Rattle.annotation_index.specs.Candidates.{descend}
+use Rattle.annotation_index.proofs.ScopeLaws.{climb-none}
 use Rattle.annotation_model.specs.Scopes.{climb}
 use Rattle.annotation_scopes.specs.Walks.{names_seen}
 
@@ -81,16 +82,12 @@ last_name names rest name is =
     ∙ (ap (λ (ns : List (List ℕ)). reverse ns) (map-append (λ (v : Vec ℕ). v.items) rest (name ∷ [])) ∙ reverse-append (names_seen rest) (name.items ∷ []))
 
 module _ (c : Circuit) where
-  climb-none : (names : List (List ℕ)) → climb c names None ≡ None
-  climb-none [] = refl
-  climb-none (n ∷ ns) = refl
-
   one_first : (n : List ℕ) (ns : List (List ℕ)) (s : ℕ) → climb c (n ∷ ns) (Some s) ≡ climb c ns (climb c (n ∷ []) (Some s))
   one_first n ns s = by (bytes_eq (scope_at c s).name n)
     where
       by : (b : Bool) → (if b then climb c ns (scope_at c s).parent else None) ≡ climb c ns (if b then (scope_at c s).parent else None)
       by true = refl
-      by false = sym (climb-none ns)
+      by false = sym (climb-none c ns)
 
   -- by the last name that is left, and by the others
   pub one_up : (names rest : List (Vec ℕ)) (name : Vec ℕ) (text : List ℕ) (at : ℕ) (up meant : Option ℕ) → names ≡ rest ++ name ∷ [] → text ≡ name.items
@@ -101,7 +98,7 @@ module _ (c : Circuit) where
       ∙ (ap (λ (ns : List (List ℕ)). climb c ns (Some at)) (sym (last_name names rest name is)) ∙ so_far))
 
   pub stopped : (names : List (List ℕ)) (up meant : Option ℕ) → up ≡ None → climb c names up ≡ meant → None ≡ meant
-  stopped names up meant none so_far = sym (climb-none names) ∙ (ap (λ (o : Option ℕ). climb c names o) (sym none) ∙ so_far)
+  stopped names up meant none so_far = sym (climb-none c names) ∙ (ap (λ (o : Option ℕ). climb c names o) (sym none) ∙ so_far)
 
   pub all_up : (names : List (Vec ℕ)) (at : ℕ) (meant : Option ℕ) → length names ≡ 0 → climb c (reverse (names_seen names)) (Some at) ≡ meant → Some at ≡ meant
   all_up [] at meant l so_far = so_far

@@ -72,7 +72,8 @@ pub element-seen : (parts : Parts) (row : code_spot.Spot) (e : code_element.Elem
     → element_at (circuit_seen parts) row.element ≡ element_seen parts e
 element-seen parts row e h is = get_or-map (element_seen parts) parts.elements.items row.element e _ (row-within parts row h) ∙ ap (element_seen parts) (sym is)
 
-scope-in : (s : ℕ) (is : List ℕ) (o : ℕ) (k : Kind) (p : ℕ) → p < length (spots_in s is o k) → scope_of (slice_index_or (spots_in s is o k) p no_spot) ≡ s
+-- what an element is made of stands in its scope
+pub scope-in : (s : ℕ) (is : List ℕ) (o : ℕ) (k : Kind) (p : ℕ) → p < length (spots_in s is o k) → scope_of (slice_index_or (spots_in s is o k) p no_spot) ≡ s
 scope-in s is o (Gate gate delays) p l = absurd (omega arith)
 scope-in s is o (Udp primitive first delays) p l = absurd (omega arith)
 scope-in s is o (Pass constant) p l = absurd (omega arith)

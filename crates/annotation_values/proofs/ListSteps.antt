@@ -1,6 +1,7 @@
 -- One value of a list more.
 use Rattle.std.specs.Prelude.{◌≡◌, refl, ℕ, zero, suc, ◌+◌, ◌<◌, ◌||◌, Bool, true, false, Option, List, [], ◌∷◌, length, take, slice_index_or, slice_set}
 use Rattle.std.proofs.Common.{ap, sym, ◌∙◌, arith}
+use Rattle.std.proofs.Math.Bool.{or-false, or_assoc}
 use Rattle.sg_delay.specs.declared.limits.Limit.{Limit}
 use Rattle.sg_circuit.specs.Timings.{Timing}
 use Rattle.sg_circuit.specs.TimingsSeen.{timings_of}
@@ -21,14 +22,6 @@ module _ (increment : Bool) where
   each_more (c ∷ cs) (x ∷ ts) zero d t l m = refl
   each_more (c ∷ cs) (x ∷ ts) (suc i) d t l m = ap (λ ys. changed increment c x ∷ ys) (each_more cs ts i d t (omega arith) (omega arith))
 
-  or-assoc : (a b c : Bool) → (a || (b || c)) ≡ ((a || b) || c)
-  or-assoc true b c = refl
-  or-assoc false b c = refl
-
-  or-false : (a : Bool) → (a || false) ≡ a
-  or-false true = refl
-  or-false false = refl
-
   pub large_more : (cs : List (Option Change)) (ts : List Timing) (i : ℕ) (d : Option Change) (t : Timing) → i < length cs → i < length ts
       → is_each_large increment (take (suc i) cs) ts ≡ (is_each_large increment (take i cs) ts || is_change_large increment (slice_index_or cs i d) (slice_index_or ts i t))
   large_more [] ts i d t l m = absurd (omega arith)
@@ -36,7 +29,7 @@ module _ (increment : Bool) where
   large_more (c ∷ cs) (x ∷ ts) zero d t l m = or-false (is_change_large increment c x)
   large_more (c ∷ cs) (x ∷ ts) (suc i) d t l m =
       ap (λ b. is_change_large increment c x || b) (large_more cs ts i d t (omega arith) (omega arith))
-      ∙ or-assoc (is_change_large increment c x) (is_each_large increment (take i cs) ts) (is_change_large increment (slice_index_or cs i d) (slice_index_or ts i t))
+      ∙ sym (or_assoc (is_change_large increment c x) (is_each_large increment (take i cs) ts) (is_change_large increment (slice_index_or cs i d) (slice_index_or ts i t)))
 
   pub large_front : (cs : List (Option Change)) (ts : List Timing) (n : ℕ) → is_each_large increment (take n cs) ts ≡ true → is_each_large increment cs ts ≡ true
   large_front cs ts zero e = absurd cc

@@ -1,7 +1,8 @@
 -- So many percent of each delay, one transition after another.
-use Rattle.std.specs.Prelude.{◌≡◌, refl, ℕ, zero, suc, ◌<◌, ◌^◌, ◌||◌, not, nat_lt, Bool, true, false, take, List, [], ◌∷◌, length, Some, slice_index_or, slice_set}
+use Rattle.std.specs.Prelude.{◌≡◌, refl, ℕ, zero, suc, ◌<◌, ◌^◌, ◌||◌, not, nat_lt, Bool, false, take, List, [], ◌∷◌, length, Some, slice_index_or, slice_set}
 use Rattle.std.specs.List.{list_any}
 use Rattle.std.proofs.Common.{ap, arith}
+use Rattle.std.proofs.lemmas.Bool.{or_from, or_parts}
 use Rattle.sg_time.specs.Spelling.{Number}
 use Rattle.sg_delay.specs.declared.limits.Limit.{Limit}
 use Rattle.sg_circuit.specs.Timings.{Timing}
@@ -40,18 +41,7 @@ large_of l [] ls e = refl
 large_of l (d ∷ ds) [] e = absurd (omega arith)
 large_of l (d ∷ ds) (x ∷ ls) e = ap (λ b. is_large_of l d || b) (large_of l ds ls (omega arith))
 
-or_both : (a b : Bool) → a ≡ false → b ≡ false → (a || b) ≡ false
-or_both a b p q = cc
-
-or_left : (a b : Bool) → (a || b) ≡ false → a ≡ false
-or_left true b e = absurd cc
-or_left false b e = refl
-
-or_right : (a b : Bool) → (a || b) ≡ false → b ≡ false
-or_right true b e = absurd cc
-or_right false b e = e
-
 pub small_more : (p : ℕ → Bool) (ds : List ℕ) (i e : ℕ) → i < length ds → list_any p (take i ds) ≡ false → p (slice_index_or ds i e) ≡ false → list_any p (take (suc i) ds) ≡ false
 small_more p [] i e l h s = absurd (omega arith)
-small_more p (d ∷ ds) zero e l h s = or_both (p d) false s refl
-small_more p (d ∷ ds) (suc i) e l h s = or_both (p d) (list_any p (take (suc i) ds)) (or_left (p d) (list_any p (take i ds)) h) (small_more p ds i e (omega arith) (or_right (p d) (list_any p (take i ds)) h) s)
+small_more p (d ∷ ds) zero e l h s = or_from (p d) false s refl
+small_more p (d ∷ ds) (suc i) e l h s = or_from (p d) (list_any p (take (suc i) ds)) (or_parts (p d) (list_any p (take i ds)) h).0 (small_more p ds i e (omega arith) (or_parts (p d) (list_any p (take i ds)) h).1 s)

@@ -1,6 +1,7 @@
 -- Timing checks by their numbers, and what entries give to them.
 use Rattle.std.specs.Prelude.{◌≡◌, refl, ℕ, ℤ, suc, zero, ◌<◌, ◌&&◌, nat_lt, Bool, true, false, if◌then◌else◌, List, [], ◌∷◌, length, map, Option, slice_index_or}
 use Rattle.std.proofs.Common.{ap, sym, ◌∙◌, arith}
+use Rattle.std.proofs.lemmas.Bool.{and_parts}
 use Rattle.sg_delay.specs.declared.corners.Corner.{Corner}
 use Rattle.sg_circuit.specs.Checks.{CheckConditions}
 use Rattle.sg_circuit.specs.Circuit.{Circuit}
@@ -22,16 +23,11 @@ use Rattle.annotation_model.specs.Passes.{meets_large}
 use Rattle.annotation_model.specs.Scopes.{is_of_cell}
 use Rattle.annotation_model.specs.Spots.{Checked, all_checked, checked, grid, is_for_check, is_given, is_limit_large_at, limits_with}
 use Rattle.annotation_model.proofs.AnyLaws.{counted}
+use Rattle.annotation_places.proofs.PlaceLaws.{length-checked}
 use Rattle.sdf_annotate.specs.Seen.{check_with, is_check_large}
 use Rattle.sdf_annotate.proofs.PassSteps.{meets_listed, nothing_large, nothing_written, writes_listed}
 
 -- ---- checks by their numbers
-
-checked-count : (ks : List Check) (ts : List CheckTiming) (ws : List CheckConditions) → length ts ≡ length ks → length ws ≡ length ks → length (checked ks ts ws) ≡ length ks
-checked-count [] ts ws e f = refl
-checked-count (k ∷ ks) [] ws e f = absurd (omega (arith, e))
-checked-count (k ∷ ks) (t ∷ ts) [] e f = absurd (omega (arith, f))
-checked-count (k ∷ ks) (t ∷ ts) (w ∷ ws) e f = ap suc (checked-count ks ts ws (omega (arith, e)) (omega (arith, f)))
 
 checked-at : (ks : List Check) (ts : List CheckTiming) (ws : List CheckConditions) (k : ℕ) (d : Check) (t : CheckTiming) → length ts ≡ length ks → length ws ≡ length ks → k < length ks
     → ((slice_index_or (checked ks ts ws) k no_check).check ≡ slice_index_or ks k d) × ((slice_index_or (checked ks ts ws) k no_check).timing ≡ slice_index_or ts k t)
@@ -51,7 +47,7 @@ checked-limits (k ∷ ks) (t ∷ ts) (w ∷ ws) e f = ap (λ xs. t.limits ∷ xs
 
 module _ (c : Circuit) (closed : IsClosed c) where
   pub check-count : length (all_checked c) ≡ length c.checks
-  check-count = checked-count c.checks c.check_timings c.check_conditions closed.timing_of_each closed.conditions_of_each
+  check-count = length-checked c.checks c.check_timings c.check_conditions closed.timing_of_each closed.conditions_of_each
 
   pub check-scope : (k : ℕ) (d : Check) → k < length c.checks → (check_at c k).check.scope ≡ (slice_index_or c.checks k d).scope
   check-scope k d l = ap (λ (x : Check). x.scope) (checked-at c.checks c.check_timings c.check_conditions k d no_check.timing closed.timing_of_each closed.conditions_of_each l).0
@@ -99,13 +95,9 @@ module _ (c : Circuit) (sdf : Sdf) (corner : Corner) (g : Given) (n : ℕ) where
   large-same (path_pulse p o r x) limits e = absurd cc
   large-same (skipped_entry s) limits e = absurd cc
 
-and-right : (a b : Bool) → (a && b) ≡ true → b ≡ true
-and-right true b e = e
-and-right false b e = absurd cc
-
 module _ (c : Circuit) (sdf : Sdf) (corner : Corner) (g : Given) (ks : List ℕ) (is : IsListOf (is_found_check c sdf g) ks) where
   given-listed : (k : ℕ) → 0 < occurrences k ks → is_for_check c sdf.divider g (check_at c k) ≡ true
-  given-listed k l = and-right (nat_lt k (length (all_checked c))) (is_for_check c sdf.divider g (check_at c k)) (counted (is_found_check c sdf g k) (occurrences k ks) (is.each k) l)
+  given-listed k l = (and_parts (nat_lt k (length (all_checked c))) (is_for_check c sdf.divider g (check_at c k)) (counted (is_found_check c sdf g k) (occurrences k ks) (is.each k) l)).1
 
   -- a pass over the checks that an entry is for, by the entry's kind and by what it gives
   pub limits-written : (xs : List (List ℤ)) → written (check_with c sdf corner g.entry.kind) [] ks xs ≡ written (λ k ls. limits_with c sdf corner g (check_at c k) ls) [] ks xs

@@ -2,6 +2,7 @@
 use Rattle.std.specs.Prelude.{◌≡◌, refl, ℕ, ℤ, suc, ◌==◌, ◌&&◌, ◌||◌, not, Bool, true, false, List, [], ◌∷◌, ◌++◌, length, Result, Err, IfErr}
 use Rattle.std.specs.List.{list_any}
 use Rattle.std.proofs.Common.{ap, sym, ◌∙◌, subst, arith}
+use Rattle.std.proofs.lemmas.Bool.{or_from, or_left, or_right}
 use Rattle.std.proofs.lemmas.Bool.Decides.{nat_tests}
 use Rattle.sg_text.specs.declared.places.Place.{Place}
 use Rattle.sg_delay.specs.declared.corners.Corner.{Corner}
@@ -33,16 +34,6 @@ exit_by {A} Holds result e (x, r, s) h = subst (λ (a : Result A AnnotError). If
 pub told_by : {P Q : Type 0} → (P → Q) → (place : Place) (e : AnnotError) → Told P place e → Told Q place e
 told_by f place (TooLarge at) t = (f t.0, t.1)
 told_by f place NoMemory t = tt
-
-or-first : (a b : Bool) → a ≡ true → (a || b) ≡ true
-or-first a b e = ap (λ x. x || b) e
-
-or-second : (a b : Bool) → b ≡ true → (a || b) ≡ true
-or-second true b e = refl
-or-second false b e = e
-
-or-none : (a b : Bool) → a ≡ false → b ≡ false → (a || b) ≡ false
-or-none a b e f = ap (λ x. x || b) e ∙ f
 
 -- ---- whether an entry is for something
 
@@ -96,7 +87,7 @@ module _ (c : Circuit) (sdf : Sdf) (corner : Corner) (g : Given) (ks ls : List �
       each_check = f ∙ (limits-written c sdf corner g ls two old.limits.items
           ∙ (ap (λ xs. written (λ k ls. limits_with c sdf corner g (check_at c k) ls) [] ls xs) h.each_check ∙ checks-more c sdf corner done g ls two));
     };
-    fine = λ done h. fine-one c sdf corner done g (or-none (spots-any done) checks-any (sym (spots-are done h) ∙ a) (sym (checks-are done h) ∙ b));
+    fine = λ done h. fine-one c sdf corner done g (or_from (spots-any done) checks-any (sym (spots-are done h) ∙ a) (sym (checks-are done h) ∙ b));
     told = t ∙ ap (λ xs. told_seen old.unmatched.items ++ xs)
         (noted-is c sdf corner matched g place word w ∙ (ap (λ b. told_if c sdf corner b g) (m ∙ (ap not n ∙ (some-is ks ls ∙ something c sdf corner [] g ks ls one two))) ∙ sym (unmatched-more c sdf corner [] g)));
     sized = sized;
@@ -104,11 +95,11 @@ module _ (c : Circuit) (sdf : Sdf) (corner : Corner) (g : Given) (ks ls : List �
 
   pub stopped-spots : (e : AnnotError) → Told (meets-spots ≡ true) g.entry.place e → StoppedAt c sdf corner (g ∷ []) old e
   stopped-spots NoMemory t = tt
-  stopped-spots (TooLarge at) t = λ done h. subst (λ p. IsTooLarge c sdf corner done (g ∷ []) p) (sym t.1) (large-one c sdf corner done g (or-first (spots-any done) checks-any (sym (spots-are done h) ∙ t.0)))
+  stopped-spots (TooLarge at) t = λ done h. subst (λ p. IsTooLarge c sdf corner done (g ∷ []) p) (sym t.1) (large-one c sdf corner done g (or_left (spots-any done) checks-any (sym (spots-are done h) ∙ t.0)))
 
   pub stopped-checks : (e : AnnotError) → Told (meets-checks ≡ true) g.entry.place e → StoppedAt c sdf corner (g ∷ []) old e
   stopped-checks NoMemory t = tt
-  stopped-checks (TooLarge at) t = λ done h. subst (λ p. IsTooLarge c sdf corner done (g ∷ []) p) (sym t.1) (large-one c sdf corner done g (or-second (spots-any done) checks-any (sym (checks-are done h) ∙ t.0)))
+  stopped-checks (TooLarge at) t = λ done h. subst (λ p. IsTooLarge c sdf corner done (g ∷ []) p) (sym t.1) (large-one c sdf corner done g (or_right (spots-any done) checks-any (sym (checks-are done h) ∙ t.0)))
 
   -- the same of what was lent
   pub stopped-lent_spots : (found : List ℕ) (table : Table) → found ≡ ks → table ≡ old.timings.items → (e : AnnotError)

@@ -1,10 +1,10 @@
 -- A loop over places: what is left of them completes the pass.
-use Rattle.std.specs.Prelude.{◌≡◌, refl, ℕ, suc, zero, ◌+◌, ◌<◌, ◌≤◌, ◌==◌, ◌||◌, Bool, true, false, if◌then◌else◌, List, [], ◌∷◌, length, drop, slice_index_or, slice_set}
-use Rattle.std.proofs.Common.{ap, sym, ◌∙◌, arith}
+use Rattle.std.specs.Prelude.{◌≡◌, refl, ℕ, suc, zero, ◌+◌, ◌<◌, ◌≤◌, ◌||◌, Bool, true, false, List, [], ◌∷◌, length, drop, slice_index_or, slice_set}
+use Rattle.std.proofs.Common.{ap, sym, ◌∙◌}
 use Rattle.std.proofs.lemmas.List.{drop_all}
 use Rattle.annotation_model.specs.Listed.{occurrences, written}
 use Rattle.annotation_model.specs.Passes.{meets_large}
-use Rattle.annotation_model.proofs.ListedLaws.{occurs_here}
+use Rattle.annotation_model.proofs.ListedLaws.{stands_here, stands_later}
 use Rattle.annotation_model.proofs.PassLaws.{meets_step, writes_step}
 
 pub record Left {A : Type 0} (large : ℕ → A → Bool) (write : ℕ → A → A) (d : A) (ks : List ℕ) (old : List A) (i : ℕ) (now : List A) : Type 0 where
@@ -50,12 +50,6 @@ module _ {A : Type 0} (large : ℕ → A → Bool) (write : ℕ → A → A) (d 
   left_whole i now l left = ap (λ js. written write d js now) (sym (drop_all i ks l)) ∙ left.writes
 
 -- ---- passes that do the same at the places of their list
-
-stands_here : (x : ℕ) (ks : List ℕ) → 0 < occurrences x (x ∷ ks)
-stands_here x ks = let e : occurrences x (x ∷ ks) ≡ occurrences x ks + 1 = occurs_here x x ks refl in omega (arith, e)
-
-stands_later : (k x : ℕ) (ks : List ℕ) → 0 < occurrences k ks → 0 < occurrences k (x ∷ ks)
-stands_later k x ks l = let f : (n a : ℕ) → 0 < a → 0 < n + a = (λ n a h. omega arith) in f (if x == k then 1 else 0) (occurrences k ks) l
 
 pub writes_listed : {A : Type 0} (f g : ℕ → A → A) (d : A) (ks : List ℕ) (xs : List A) → ((k : ℕ) → 0 < occurrences k ks → (v : A) → f k v ≡ g k v) → written f d ks xs ≡ written g d ks xs
 writes_listed f g d [] xs h = refl

@@ -3,7 +3,7 @@ use Rattle.sg_circuit.specs.Seen.{circuit_seen}
 use Rattle.annotation_places.specs.Places.{lookups_of}
 use Rattle.annotation_finder.specs.Sought.{sought_seen}
 use Rattle.annotation_finder.proofs.SpotLaws.{row_passes}
-use Rattle.annotation_finder.proofs.spot_tests.SpotTestTest.passes.Goals as goal
+use Rattle.annotation_finder.proofs.spots.SpotTestTest.passes.Goals as goal
 
 pub returns : goal.returns
 returns c =

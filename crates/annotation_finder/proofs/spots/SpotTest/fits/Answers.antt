@@ -3,7 +3,7 @@ use Rattle.annotation_places.specs.Places.{lookups_of}
 use Rattle.annotation_finder.specs.Finding.{is_marked}
 use Rattle.annotation_finder.specs.Sought.{sought_seen}
 use Rattle.annotation_finder.proofs.SpotLaws.{path_case}
-use Rattle.annotation_finder.proofs.spot_tests.SpotTest.fits.Goals as goal
+use Rattle.annotation_finder.proofs.spots.SpotTest.fits.Goals as goal
 
 pub returns-in-Path : goal.returns-in-Path
 returns-in-Path c =

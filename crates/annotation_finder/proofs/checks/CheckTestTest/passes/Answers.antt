@@ -3,7 +3,7 @@ use Rattle.std.proofs.Common.{length}
 use Rattle.sdf_meaning.specs.MeantSeen.{view_cell_check}
 use Rattle.annotation_finder.specs.Checks.{terminals_seen}
 use Rattle.annotation_finder.proofs.CheckLaws.{check_scope, place_passes, unmarked, marked}
-use Rattle.annotation_finder.proofs.check_tests.CheckTestTest.passes.Goals as goal
+use Rattle.annotation_finder.proofs.checks.CheckTestTest.passes.Goals as goal
 
 pub returns-then-not-index : goal.returns-then-not-index
 returns-then-not-index c =
