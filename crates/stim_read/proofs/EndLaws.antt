@@ -130,3 +130,10 @@ reads text circuit scale items one two steps n short h all =
 pub applies : (text : List ℕ) (circuit : Circuit) (scale : Scale) (items one two : List code_stated.Stated) (steps : List Step) (n : ℕ) → IsReadOf text circuit scale items one two
     → IsAllRead circuit scale (map (λ s. stated_seen s) two) steps (Some n) → IsApplied circuit (record { steps = steps; end = n })
 applies text circuit scale items one two steps n h all = is-applied circuit (map (λ s. stated_seen s) two) steps n (all-read text circuit scale items one two steps (Some n) h all)
+
+-- what was found for the circuit of the inputs holds for the circuit
+pub fault-for : (one circuit : Circuit) (scale : Scale) (ss : List Stated) (r : Refused StimKind) → one ≡ circuit → RefusesOneOf (faults_behind one scale [] ss) r → RefusesOneOf (faults_behind circuit scale [] ss) r
+fault-for one circuit scale ss r e h = subst (λ c. RefusesOneOf (faults_behind c scale [] ss) r) e h
+
+pub read-for : (one circuit : Circuit) (scale : Scale) (ss : List Stated) (steps : List Step) (end found : Option ℕ) → one ≡ circuit → end ≡ found → IsAllRead one scale ss steps end → IsAllRead circuit scale ss steps found
+read-for one circuit scale ss steps end found e f h = subst (λ c. IsAllRead c scale ss steps found) e (subst (λ o. IsAllRead one scale ss steps o) f h)

@@ -10,7 +10,7 @@ pub mod StatementLaws
 pub mod TimeLaws
 pub mod InputLaws
 pub mod NumberLaws
-pub mod FoundLaws
+pub mod ByNameLaws
 pub mod LastLaws
 pub mod BitLaws
 pub mod FaultlessLaws

@@ -4,6 +4,7 @@ pub mod Sets
 pub mod Forms
 pub mod Times
 pub mod Inputs
+pub mod ByName
 pub mod Faults
 pub mod Reading
 pub mod Seen

@@ -10,8 +10,9 @@ ghost use Rattle.stim_read.specs.Seen.{set_seen};
 use crate::StimKind;
 use crate::inputs::nets_named;
 use crate::sets::SetText;
+use crate::top_inputs::Inputs;
 use indexmap::IndexSet;
-use sg_circuit::{Circuit, NetId};
+use sg_circuit::NetId;
 use sg_logic::Value;
 use sg_stimulus::Set;
 use sg_text::{NoMemory, Place, Refused};
@@ -63,16 +64,16 @@ fn add_bits(nets: &[NetId], digits: &[u8], bits: &mut Vec<Set>) -> Result<(), No
 
 // The nets that a set sets are added.
 fn add_set(
-    circuit: &Circuit,
+    inputs: &Inputs,
     byte: usize,
     set: &SetText,
     bits: &mut Vec<Set>,
 ) -> Result<(), Refused<StimKind>>
-    ensures faultless { OnOk result (set_faults circuit.now byte (set_seen set.now) ≡ []) }
-    ensures refused { IfErr result (RefusesOneOf (set_faults circuit.now byte (set_seen set.now))) }
-    ensures bits { OnOk result (map (λ c. bit_seen c) bits.new.items ≡ map (λ c. bit_seen c) bits.old.items ++ def.bits_set circuit.now (set_seen set.now)) }
+    ensures faultless { OnOk result (set_faults inputs.now.circuit.now byte (set_seen set.now) ≡ []) }
+    ensures refused { IfErr result (RefusesOneOf (set_faults inputs.now.circuit.now byte (set_seen set.now))) }
+    ensures bits { OnOk result (map (λ c. bit_seen c) bits.new.items ≡ map (λ c. bit_seen c) bits.old.items ++ def.bits_set inputs.now.circuit.now (set_seen set.now)) }
 {
-    let Some(nets) = nets_named(circuit, &set.target) else {
+    let Some(nets) = nets_named(inputs, &set.target) else {
         return Err(fault(StimKind::UnknownInput, byte));
     };
     if set.digits.len() != nets.len() {
@@ -84,18 +85,18 @@ fn add_set(
 
 fn all_bits(
     alloc: Global,
-    circuit: &Circuit,
+    inputs: &Inputs,
     byte: usize,
     sets: &[SetText],
 ) -> Result<Vec<Set>, Refused<StimKind>>
-    ensures faultless { OnOk result (flat_map (set_faults circuit.now byte) (map (λ s. set_seen s) sets.now) ≡ []) }
-    ensures refused { IfErr result (RefusesOneOf (flat_map (set_faults circuit.now byte) (map (λ s. set_seen s) sets.now))) }
-    ensures bits { IfOk result (λ bits. map (λ c. bit_seen c) bits.items ≡ flat_map (def.bits_set circuit.now) (map (λ s. set_seen s) sets.now)) }
+    ensures faultless { OnOk result (flat_map (set_faults inputs.now.circuit.now byte) (map (λ s. set_seen s) sets.now) ≡ []) }
+    ensures refused { IfErr result (RefusesOneOf (flat_map (set_faults inputs.now.circuit.now byte) (map (λ s. set_seen s) sets.now))) }
+    ensures bits { IfOk result (λ bits. map (λ c. bit_seen c) bits.items ≡ flat_map (def.bits_set inputs.now.circuit.now) (map (λ s. set_seen s) sets.now)) }
 {
     let mut bits = Vec::new(alloc);
     let mut rest = sets;
     while let [set, more @ ..] = rest {
-        add_set(circuit, byte, set, &mut bits)?;
+        add_set(inputs, byte, set, &mut bits)?;
         rest = more;
     }
     Ok(bits)
@@ -140,14 +141,14 @@ fn last_of_each(alloc: Global, bits: &[Set]) -> Result<Vec<Set>, NoMemory>
 /// The nets that the sets of the statement at a byte set, each once; or a fault of one of them.
 pub fn bits_of(
     alloc: Global,
-    circuit: &Circuit,
+    inputs: &Inputs,
     byte: usize,
     sets: &[SetText],
 ) -> Result<Vec<Set>, Refused<StimKind>>
-    ensures faultless { OnOk result (flat_map (set_faults circuit.now byte) (map (λ s. set_seen s) sets.now) ≡ []) }
-    ensures refused { IfErr result (RefusesOneOf (flat_map (set_faults circuit.now byte) (map (λ s. set_seen s) sets.now))) }
-    ensures bits { IfOk result (λ bits. map (λ c. bit_seen c) bits.items ≡ def.all_set circuit.now (map (λ s. set_seen s) sets.now)) }
+    ensures faultless { OnOk result (flat_map (set_faults inputs.now.circuit.now byte) (map (λ s. set_seen s) sets.now) ≡ []) }
+    ensures refused { IfErr result (RefusesOneOf (flat_map (set_faults inputs.now.circuit.now byte) (map (λ s. set_seen s) sets.now))) }
+    ensures bits { IfOk result (λ bits. map (λ c. bit_seen c) bits.items ≡ def.all_set inputs.now.circuit.now (map (λ s. set_seen s) sets.now)) }
 {
-    let bits = all_bits(alloc, circuit, byte, sets)?;
+    let bits = all_bits(alloc, inputs, byte, sets)?;
     Ok(last_of_each(alloc, &bits)?)
 }

@@ -11,6 +11,7 @@ mod sets;
 mod statements;
 mod steps;
 mod times;
+mod top_inputs;
 
 pub use kinds::StimKind;
 pub use reading::read_stim;

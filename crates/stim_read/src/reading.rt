@@ -13,6 +13,7 @@ use crate::forms::Form;
 use crate::statements::{Stated, all_stated};
 use crate::steps::read_all;
 use crate::times::Scale;
+use crate::top_inputs::Inputs;
 use sg_circuit::Circuit;
 use sg_stimulus::Stimulus;
 use sg_text::Refused;
@@ -55,7 +56,8 @@ fn scale_of(circuit: &Circuit, stated: &[Stated]) -> Scale
 }
 
 /// The stimulus that a text says for a circuit, with its times in ticks; or a fault that stands in the text, whose file has the
-/// number 0. Takes memory in proportion to the text.
+/// number 0. Takes memory in proportion to the text and the number
+/// of the top's inputs.
 pub fn read_stim(
     alloc: Global,
     bytes: &[u8],
@@ -69,7 +71,8 @@ pub fn read_stim(
         return Err(fault(StimKind::TooLarge, MOST_BYTES));
     }
     let stated = all_stated(alloc, bytes)?;
-    let read = read_all(alloc, circuit, scale_of(circuit, &stated), &stated)?;
+    let inputs = Inputs::of(alloc, circuit)?;
+    let read = read_all(alloc, &inputs, scale_of(circuit, &stated), &stated)?;
     match read.end {
         Some(end) => Ok(Stimulus {
             steps: read.steps,

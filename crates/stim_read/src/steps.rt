@@ -15,7 +15,7 @@ use crate::forms::Form;
 use crate::sets::SetText;
 use crate::statements::Stated;
 use crate::times::{Scale, ticks_of};
-use sg_circuit::Circuit;
+use crate::top_inputs::Inputs;
 use sg_stimulus::StimStep;
 use sg_text::{NoMemory, Refused};
 use sg_time::Decimal;
@@ -110,28 +110,28 @@ fn end_ticks(
 
 fn step_of(
     alloc: Global,
-    circuit: &Circuit,
+    inputs: &Inputs,
     ticks: u64,
     byte: usize,
     sets: &[SetText],
 ) -> Result<StimStep, Refused<StimKind>>
-    ensures { MatchResult result (λ step. (step_seen step ≡ record { time = ticks; sets = all_set circuit.now (map (λ s. set_seen s) sets.now) }) × (flat_map (def.set_faults circuit.now byte) (map (λ s. set_seen s) sets.now) ≡ []))
-        (RefusesOneOf (flat_map (def.set_faults circuit.now byte) (map (λ s. set_seen s) sets.now))) }
+    ensures { MatchResult result (λ step. (step_seen step ≡ record { time = ticks; sets = all_set inputs.now.circuit.now (map (λ s. set_seen s) sets.now) }) × (flat_map (def.set_faults inputs.now.circuit.now byte) (map (λ s. set_seen s) sets.now) ≡ []))
+        (RefusesOneOf (flat_map (def.set_faults inputs.now.circuit.now byte) (map (λ s. set_seen s) sets.now))) }
 {
-    let sets = bits_of(alloc, circuit, byte, sets)?;
+    let sets = bits_of(alloc, inputs, byte, sets)?;
     Ok(StimStep { time: ticks, sets })
 }
 
 fn meaning_of(
     alloc: Global,
-    circuit: &Circuit,
+    inputs: &Inputs,
     scale: Scale,
     state: State,
     stated: &Stated,
 ) -> Result<Meant, Refused<StimKind>>
     ensures { (before : List FormModel) → IsState (scale_seen scale) state before
-        → MatchResult result (λ m. IsMeant circuit.now (scale_seen scale) (form_seen stated.now.form) m × (def.faults_of circuit.now (scale_seen scale) before (stated_seen stated.now) ≡ []))
-        (RefusesOneOf (def.faults_of circuit.now (scale_seen scale) before (stated_seen stated.now))) }
+        → MatchResult result (λ m. IsMeant inputs.now.circuit.now (scale_seen scale) (form_seen stated.now.form) m × (def.faults_of inputs.now.circuit.now (scale_seen scale) before (stated_seen stated.now) ≡ []))
+        (RefusesOneOf (def.faults_of inputs.now.circuit.now (scale_seen scale) before (stated_seen stated.now))) }
 {
     let byte = stated.byte;
     match &stated.form {
@@ -146,7 +146,7 @@ fn meaning_of(
                 return Err(fault(StimKind::Syntax, byte));
             }
             let ticks = at_ticks(scale, byte, state.last, time)?;
-            let step = step_of(alloc, circuit, ticks, byte, sets)?;
+            let step = step_of(alloc, inputs, ticks, byte, sets)?;
             Ok(Meant::Step(step))
         }
         Form::End(time) => {
@@ -180,12 +180,12 @@ fn note(meant: Meant, steps: &mut Vec<StimStep>, state: &mut State) -> Result<()
 /// The steps of all statements, and the ticks of the end, if there is one; or a fault of a statement.
 pub fn read_all(
     alloc: Global,
-    circuit: &Circuit,
+    inputs: &Inputs,
     scale: Scale,
     stated: &[Stated],
 ) -> Result<Read, Refused<StimKind>>
-    ensures { MatchResult result (λ read. IsAllRead circuit.now (scale_seen scale) (map (λ s. stated_seen s) stated.now) (map (λ s. step_seen s) read.steps.items) read.end)
-        (RefusesOneOf (def.faults_behind circuit.now (scale_seen scale) [] (map (λ s. stated_seen s) stated.now))) }
+    ensures { MatchResult result (λ read. IsAllRead inputs.now.circuit.now (scale_seen scale) (map (λ s. stated_seen s) stated.now) (map (λ s. step_seen s) read.steps.items) read.end)
+        (RefusesOneOf (def.faults_behind inputs.now.circuit.now (scale_seen scale) [] (map (λ s. stated_seen s) stated.now))) }
 {
     let mut steps = Vec::new(alloc);
     let mut state = State {
@@ -195,7 +195,7 @@ pub fn read_all(
     };
     let mut rest = stated;
     while let [one, more @ ..] = rest {
-        let meant = meaning_of(alloc, circuit, scale, state, one)?;
+        let meant = meaning_of(alloc, inputs, scale, state, one)?;
         note(meant, &mut steps, &mut state)?;
         rest = more;
     }

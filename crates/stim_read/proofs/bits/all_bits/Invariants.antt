@@ -9,8 +9,8 @@ use Rattle.stim_read.proofs.bits.all_bits.Given as goal
 
 abbrev pub invariant-loop-rest : goal.invariant-loop-rest
 invariant-loop-rest l = record {
-  bits_are : flat_map (bits_set l.circuit) (map (λ s. set_seen s) l.sets) ≡ map (λ c. bit_seen c) l.bits.items ++ flat_map (bits_set l.circuit) (map (λ s. set_seen s) l.rest);
-  faults_are : flat_map (set_faults l.circuit l.byte) (map (λ s. set_seen s) l.sets) ≡ flat_map (set_faults l.circuit l.byte) (map (λ s. set_seen s) l.rest);
+  bits_are : flat_map (bits_set l.inputs.circuit.now) (map (λ s. set_seen s) l.sets) ≡ map (λ c. bit_seen c) l.bits.items ++ flat_map (bits_set l.inputs.circuit.now) (map (λ s. set_seen s) l.rest);
+  faults_are : flat_map (set_faults l.inputs.circuit.now l.byte) (map (λ s. set_seen s) l.sets) ≡ flat_map (set_faults l.inputs.circuit.now l.byte) (map (λ s. set_seen s) l.rest);
 }
 
 abbrev pub decreases-loop-rest : goal.decreases-loop-rest
