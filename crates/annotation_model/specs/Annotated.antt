@@ -1,5 +1,5 @@
 -- Annotation: what a circuit's delays and limits are after the entries of an SDF file, which entry is the first that is too large, and which
--- are for nothing (IEEE 1497-2001; IEEE 1364-2005, clause 16).
+-- are for nothing (IEEE 1497-2001; IEEE 1364-2005, clause 16). From the limits follow the delays of Lates (15.8).
 use Rattle.std.specs.Prelude.{ℕ, ◌&&◌, ◌||◌, not, Bool, true, false, List, [], ◌∷◌, ◌++◌, map, Option, Some, None, codes, if◌then◌else◌}
 use Rattle.std.specs.List.{list_any, filter}
 use Rattle.sg_text.specs.declared.places.Place.{Place}
@@ -33,7 +33,7 @@ abbrev pub annotated_check : Circuit → Sdf → Corner → List Given → Check
 annotated_check c sdf corner gs k =
     record { kind = k.timing.kind; refer = k.timing.refer; datum = k.timing.datum; limits = limits_after c sdf corner gs k; threshold = k.timing.threshold; late = k.timing.late }
 
--- the circuit after the entries of a list
+-- the circuit after the entries of a list, before its Lates are delayed anew
 abbrev pub annotated_by : Circuit → Sdf → Corner → List Given → Circuit
 annotated_by c sdf corner gs = record {
   tick = c.tick;

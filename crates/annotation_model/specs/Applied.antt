@@ -207,22 +207,30 @@ is_too_large g e ts = is_kind_large g e.increment e.kind ts
 
 -- ---- limits of timing checks (IEEE 1497-2001, timing check entries; IEEE 1364-2005, 16.2.2)
 
-abbrev pub limit_or : Option ℤ → ℤ → ℤ
-limit_or None old = old
-limit_or (Some limit) old = pos (above limit)
+-- What an entry may make of a check's limits: whether they may lie below 0, as those of setuphold and recrem may; and the weight of such a limit, which is one more than its scope has
+-- signals with delayed copies (IEEE 1364-2005, 15.8). Any other weighs once.
+pub record Bounds : Type 0 where
+  pub signed : Bool
+  pub weight : ℕ
+
+abbrev pub limit_or : (signed : Bool) → Option ℤ → ℤ → ℤ
+limit_or signed None old = old
+limit_or true (Some limit) old = limit
+limit_or false (Some limit) old = pos (above limit)
 
 abbrev pub chosen_if : Grid → Option Triple → Option ℤ
 chosen_if g None = None
 chosen_if g (Some t) = chosen g t
 
--- a limit that is given replaces the one before it, and becomes 0 where it lies below
-abbrev pub with_limits : Grid → Option Triple × Option Triple → List ℤ → List ℤ
-with_limits g l (first ∷ second ∷ rest) = limit_or (chosen_if g l.0) first ∷ limit_or (chosen_if g l.1) second ∷ []
-with_limits g l limits = limits
+-- a limit that is given replaces the one before it; one that may not lie below 0 becomes 0 there
+abbrev pub with_limits : Bounds → Grid → Option Triple × Option Triple → List ℤ → List ℤ
+with_limits b g l (first ∷ second ∷ rest) = limit_or b.signed (chosen_if g l.0) first ∷ limit_or b.signed (chosen_if g l.1) second ∷ []
+with_limits b g l limits = limits
 
-abbrev pub is_limit_large : Option ℤ → Bool
-is_limit_large None = false
-is_limit_large (Some limit) = is_large limit
+-- a limit whose size, as often as it weighs, is 2^60 ticks or more
+abbrev pub is_limit_large : (weight : ℕ) → Option ℤ → Bool
+is_limit_large weight None = false
+is_limit_large weight (Some limit) = not (nat_lt (unsigned_abs limit * weight) (2 ^ 60))
 
-abbrev pub are_limits_large : Grid → Option Triple × Option Triple → Bool
-are_limits_large g l = is_limit_large (chosen_if g l.0) || is_limit_large (chosen_if g l.1)
+abbrev pub are_limits_large : Bounds → Grid → Option Triple × Option Triple → Bool
+are_limits_large b g l = is_limit_large b.weight (chosen_if g l.0) || is_limit_large b.weight (chosen_if g l.1)

@@ -1,11 +1,12 @@
 -- The places of a circuit that entries may be for, in order, and their values after entries: legs and paths, with a timing for each of the twelve transitions, and
 -- timing checks, with the limits of their parts.
-use Rattle.std.specs.Prelude.{ℕ, ℤ, ◌||◌, Bool, List, [], ◌∷◌, map, Option, is_some}
+use Rattle.std.specs.Prelude.{ℕ, ℤ, ◌+◌, ◌||◌, Bool, true, false, List, [], ◌∷◌, length, map, Option, is_some}
 use Rattle.std.specs.List.{flat_map, filter}
 use Rattle.sg_delay.specs.declared.corners.Corner.{Corner}
 use Rattle.sg_circuit.specs.declared.checks.Check.{Check}
 use Rattle.sg_circuit.specs.declared.checks.CheckTiming.{CheckTiming}
 use Rattle.sg_circuit.specs.Checks.{CheckConditions}
+use Rattle.sg_circuit.specs.Signals.{takes_lates, signals}
 use Rattle.sg_circuit.specs.Timings.{Timing}
 use Rattle.sg_circuit.specs.Paths as specify
 use Rattle.sg_circuit.specs.Circuit.{Circuit, Element, Kind, Leg, Path, scope_at}
@@ -13,7 +14,7 @@ use Rattle.sdf_tree.specs.declared.words.Divider.{Divider}
 use Rattle.sdf_tree.specs.Meant.{Triple, Sdf}
 use Rattle.annotation_model.specs.Given.{Given}
 use Rattle.annotation_model.specs.Matching.{is_for_path, is_for_leg, given_to_check}
-use Rattle.annotation_model.specs.Applied.{Grid, applied, is_too_large, with_limits, are_limits_large}
+use Rattle.annotation_model.specs.Applied.{Grid, Bounds, applied, is_too_large, with_limits, are_limits_large}
 
 -- entries that are for a place, one after another (IEEE 1364-2005, 16.3)
 abbrev pub after : {V : Type 0} → (Given → V → V) → List Given → V → V
@@ -90,11 +91,18 @@ is_given l = is_some l.0 || is_some l.1
 abbrev pub is_for_check : Circuit → Divider → Given → Checked → Bool
 is_for_check c divider g k = is_given (given_to c divider g k)
 
+abbrev pub weight_of : Circuit → (signed : Bool) → (scope : ℕ) → ℕ
+weight_of c true s = length (signals c.checks c.check_timings s) + 1
+weight_of c false s = 1
+
+abbrev pub bounds : Circuit → Checked → Bounds
+bounds c k = record { signed = takes_lates k.timing.kind; weight = weight_of c (takes_lates k.timing.kind) k.check.scope }
+
 abbrev pub limits_with : Circuit → Sdf → Corner → Given → Checked → List ℤ → List ℤ
-limits_with c sdf corner g k limits = with_limits (grid c sdf corner k.check.scope) (given_to c sdf.divider g k) limits
+limits_with c sdf corner g k limits = with_limits (bounds c k) (grid c sdf corner k.check.scope) (given_to c sdf.divider g k) limits
 
 abbrev pub is_limit_large_at : Circuit → Sdf → Corner → Given → Checked → Bool
-is_limit_large_at c sdf corner g k = are_limits_large (grid c sdf corner k.check.scope) (given_to c sdf.divider g k)
+is_limit_large_at c sdf corner g k = are_limits_large (bounds c k) (grid c sdf corner k.check.scope) (given_to c sdf.divider g k)
 
 abbrev pub limits_after : Circuit → Sdf → Corner → List Given → Checked → List ℤ
 limits_after c sdf corner gs k = after (λ g. limits_with c sdf corner g k) (filter (λ g. is_for_check c sdf.divider g k) gs) k.timing.limits

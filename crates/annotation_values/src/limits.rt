@@ -138,10 +138,11 @@ pub fn apply_check(
     grid: Grid,
     check: &CellCheck<'_>,
     kind: CheckKind,
+    bounds: Bounds,
     limits: &[i64; 2],
 ) -> Result<[i64; 2], TooLarge>
-    ensures { TellsLimits (def.are_limits_large (grid_seen grid) (matching.limits_for (view_cell_check check.now) kind)) (def.with_limits (grid_seen grid) (matching.limits_for (view_cell_check check.now) kind) limits.now) result }
+    ensures { TellsLimits (def.are_limits_large (bounds_seen bounds) (grid_seen grid) (matching.limits_for (view_cell_check check.now) kind)) (def.with_limits (bounds_seen bounds) (grid_seen grid) (matching.limits_for (view_cell_check check.now) kind) limits.now) result }
 {
     let (first, second) = limits_for(check, kind);
-    with_limits(grid, &first, &second, limits)
+    with_limits(bounds, grid, &first, &second, limits)
 }

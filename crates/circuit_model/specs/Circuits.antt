@@ -1,4 +1,4 @@
--- The circuit of a netlist below a top.
+-- The circuit of a netlist below a top, before the Lates have their delays.
 use Rattle.std.specs.Prelude.{ℕ, List, [], Bool, if◌then◌else◌, length, map, zip}
 use Rattle.std.specs.List.{list_any}
 use Rattle.sg_circuit.specs.Circuit.{Circuit}

@@ -8,6 +8,7 @@ use Rattle.sg_text.specs.declared.refusals.Refused.{Refused}
 use Rattle.sg_text.specs.declared.refusals.Refused.TheVariants as refused
 use Rattle.udp_rows.specs.declared.faults.UdpKind.{UdpKind}
 use Rattle.vl_tree.specs.Tree.{Primitive, Module, Source}
+use Rattle.late_limits.specs.Adjusted.{IsAdjustedFrom}
 use Rattle.elab_model.specs.declared.kinds.ElabKind.{ElabKind}
 use Rattle.elab_model.specs.declared.kinds.ElabKind.TheVariants.{Udp}
 use Rattle.elab_model.specs.Tops.{top_of}
@@ -26,12 +27,12 @@ pub data FaultStands (source : Source) (name : Option (List ℕ)) (corner : Corn
 abbrev pub HasNoFault : Source → Option (List ℕ) → Corner → Type 0
 HasNoFault source name corner = (kind : ElabKind) (place : Place) → ¬ FaultStands source name corner kind place
 
--- there is no fault, and it is the circuit below the top
+-- there is no fault, and it is the circuit below the top, adjusted: its Lates have the least delays by which limits below 0 are met (15.8)
 pub record IsElaborated (source : Source) (name : Option (List ℕ)) (corner : Corner) (made : Circuit) : Type 0 where
   pub top : Module
   pub is_top : top_of source name ≡ Ok top
   pub no_fault : HasNoFault source name corner
-  pub is_circuit : made ≡ circuit source top corner
+  pub is_circuit : IsAdjustedFrom (circuit source top corner) made
 
 -- a refusal tells a fault that stands, or that there was no memory
 abbrev pub RefusalStands : Source → Option (List ℕ) → Corner → Refused ElabKind → Type 0

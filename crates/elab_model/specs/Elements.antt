@@ -1,7 +1,7 @@
 -- The elements of an instance, in text order.
 use Rattle.std.specs.Prelude.{ℕ, ◌-◌, List, [], ◌∷◌, ◌++◌, ◌==◌, Option, Some, None, bytes_eq, find, flat_map, map, zip, length, take, drop, replicate, if◌then◌else◌, ℤ}
 use Rattle.std.specs.List.{enumerate_from}
-use Rattle.sg_circuit.specs.Circuit.{Kind, Gate, Udp, Pass, Leg, Path}
+use Rattle.sg_circuit.specs.Circuit.{Kind, Gate, Udp, Pass, Leg, Path, Late}
 use Rattle.sg_delay.specs.declared.corners.Corner.{Corner}
 use Rattle.sg_delay.specs.declared.limits.PulseStyle.TheVariants.{OnEvent}
 use Rattle.sg_logic.specs.declared.gates.GateKind.{GateKind}
@@ -9,7 +9,7 @@ use Rattle.sg_logic.specs.declared.gates.GateKind.TheVariants.{Buf, Not}
 use Rattle.sg_logic.specs.declared.values.Value.{Value}
 use Rattle.sg_text.specs.declared.places.Place.{Place}
 use Rattle.vl_tree.specs.Tree.{Named, Expression, Delay, Instance as instance_text, Part, a_module, a_primitive, Source}
-use Rattle.elab_model.specs.Members.{Member, assignment, supply, gate, instance, path, members, connection_values}
+use Rattle.elab_model.specs.Members.{Member, assignment, supply, gate, instance, path, check, members, connection_values}
 use Rattle.elab_model.specs.Definitions.{definition_of}
 use Rattle.elab_model.specs.Ports.{port_list}
 use Rattle.elab_model.specs.Leaves.{whole}
@@ -20,6 +20,7 @@ use Rattle.elab_model.specs.Hierarchy.{Step, Instance, children, is_leaf}
 use Rattle.elab_model.specs.Connections.{bound_to, port_values}
 use Rattle.elab_model.specs.Homes.{Spot, bit, outside, terminal, home, home_of, is_input, has_leg}
 use Rattle.elab_model.specs.Ends.{first_ends, inner_spot, driven}
+use Rattle.elab_model.specs.Lates.{DelayedCopy, own_copies, copy_spot}
 use Rattle.elab_model.specs.Delays.{delays_of}
 use Rattle.elab_model.specs.Primitives.{table_of, initial_value}
 
@@ -151,6 +152,17 @@ path_kind = Path [] OnEvent
 abbrev pub path_at : Source → Instance → Place → NetBit → Component
 path_at source s at b = record { scope = s.step.number; place = at; inputs = inner_spot s b ∷ []; output = home_of source s b.name b.position; kind = path_kind }
 
+-- Lates: one for each delayed copy, at the timing check that is the first to ask for it; how late it is follows from the limits of all checks of the instance (15.8)
+
+abbrev pub late_at : Source → Instance → Place × DelayedCopy → Component
+late_at source s c = record {
+  scope = s.step.number;
+  place = c.0;
+  inputs = home_of source s c.1.signal.name c.1.signal.position ∷ [];
+  output = copy_spot source s c.1;
+  kind = Late 0;
+}
+
 -- Members, and all of an instance
 
 abbrev pub instance_elements : Source → Corner → ℤ → Instance → ℕ → Option Delay → instance_text → Option Part → List Component
@@ -169,6 +181,7 @@ member_elements source corner tick s (k, gate g d i) =
     terminal_elements source s i.place k (Gate g (delays_of corner tick s.step.definition d)) (output_bits s outputs i.terminals) (input_bits s outputs i.terminals)
 member_elements source corner tick s (k, instance n d i) = instance_elements source corner tick s k d i (definition_of source n.text)
 member_elements source corner tick s (k, path p) = map (path_at source s p.place) (first_ends s.step.definition (k, path p))
+member_elements source corner tick s (k, check c) = map (late_at source s) (own_copies s.step.definition (k, check c))
 
 abbrev pub elements_of : Source → Corner → ℤ → Instance → List Component
 elements_of source corner tick s = legs source s ++ flat_map (member_elements source corner tick s) (enumerate_from 0 (members s.step.definition))

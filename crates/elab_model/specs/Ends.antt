@@ -3,7 +3,7 @@
 use Rattle.std.specs.Prelude.{ℕ, List, [], ◌∷◌, Option, Some, None, filter, find, flat_map, map, take, if◌then◌else◌}
 use Rattle.std.specs.List.{enumerate_from, list_any}
 use Rattle.vl_tree.specs.Tree.{Module, Source}
-use Rattle.elab_model.specs.Members.{Member, assignment, supply, gate, instance, path, members}
+use Rattle.elab_model.specs.Members.{Member, assignment, supply, gate, instance, path, check, members}
 use Rattle.elab_model.specs.Names.{variables, variable}
 use Rattle.elab_model.specs.Terms.{NetBit, is_same_bit, path_pairs}
 use Rattle.elab_model.specs.Hierarchy.{Instance}
@@ -15,6 +15,7 @@ ends m (assignment j) = []
 ends m (supply n v) = []
 ends m (gate g d i) = []
 ends m (instance n d i) = []
+ends m (check c) = []
 ends m (path p) = filter (λ b. is_output (variable m b.name).port) (map (λ e. e.1) (path_pairs (variables m) p))
 
 -- those of all members

@@ -3,7 +3,7 @@ use Rattle.std.specs.Prelude.{ℕ, zero, suc, ◌+◌, List, [], ◌∷◌, Bool
 use Rattle.std.specs.List.{enumerate_from}
 use Rattle.sg_text.specs.declared.places.Place.{Place}
 use Rattle.vl_tree.specs.Tree.{Named, Connections, by_order, Instance as instance_text, Module, Source}
-use Rattle.elab_model.specs.Members.{Member, assignment, supply, gate, instance, path, members}
+use Rattle.elab_model.specs.Members.{Member, assignment, supply, gate, instance, path, check, members}
 use Rattle.elab_model.specs.Definitions.{module_of}
 
 -- an instance of a module in a module: what it is an instance of, and the number of the member that it is
@@ -24,6 +24,7 @@ child_of_member source k (supply n v) = None
 child_of_member source k (gate g d i) = None
 child_of_member source k (instance n d i) = child_of (module_of source n.text) k i
 child_of_member source k (path p) = None
+child_of_member source k (check c) = None
 
 -- the instances of modules in a module
 abbrev pub children_in : Source → Module → List Child

@@ -19,24 +19,35 @@ pub data Spot : Type 0 where
   terminal : (scope : ℕ) (member : ℕ) (input : ℕ) → Spot
   -- what is driven inside an instance in place of an output bit to which specify paths lead (14.1)
   inner : (scope : ℕ) (name : List ℕ) (position : ℕ) → Spot
+  -- a delayed copy, which no text names, of a bit of an instance (15.8)
+  late : (scope : ℕ) (name : List ℕ) (position : ℕ) → Spot
 
 abbrev pub is_same_spot : Spot → Spot → Bool
 is_same_spot (bit s n p) (bit t m q) = s == t && (bytes_eq n m && p == q)
 is_same_spot (outside s k n p) (outside t l m q) = s == t && (k == l && (bytes_eq n m && p == q))
 is_same_spot (terminal s k i) (terminal t l j) = s == t && (k == l && i == j)
 is_same_spot (inner s n p) (inner t m q) = s == t && (bytes_eq n m && p == q)
+is_same_spot (late s n p) (late t m q) = s == t && (bytes_eq n m && p == q)
 is_same_spot (bit s n p) (outside t l m q) = false
 is_same_spot (bit s n p) (terminal t l j) = false
 is_same_spot (bit s n p) (inner t m q) = false
+is_same_spot (bit s n p) (late t m q) = false
 is_same_spot (outside s k n p) (bit t m q) = false
 is_same_spot (outside s k n p) (terminal t l j) = false
 is_same_spot (outside s k n p) (inner t m q) = false
+is_same_spot (outside s k n p) (late t m q) = false
 is_same_spot (terminal s k i) (bit t m q) = false
 is_same_spot (terminal s k i) (outside t l m q) = false
 is_same_spot (terminal s k i) (inner t m q) = false
+is_same_spot (terminal s k i) (late t m q) = false
 is_same_spot (inner s n p) (bit t m q) = false
 is_same_spot (inner s n p) (outside t l m q) = false
 is_same_spot (inner s n p) (terminal t l j) = false
+is_same_spot (inner s n p) (late t m q) = false
+is_same_spot (late s n p) (bit t m q) = false
+is_same_spot (late s n p) (outside t l m q) = false
+is_same_spot (late s n p) (terminal t l j) = false
+is_same_spot (late s n p) (inner t m q) = false
 
 abbrev pub is_input : Port → Bool
 is_input port.Input = true

@@ -10,6 +10,7 @@ pub mod Hierarchy
 pub mod Connections
 pub mod Homes
 pub mod Ends
+pub mod Lates
 pub mod Delays
 pub mod Primitives
 pub mod Elements

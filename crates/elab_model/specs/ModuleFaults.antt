@@ -11,7 +11,7 @@ use Rattle.sg_logic.specs.declared.gates.GateKind.TheVariants.{Bufif0, Bufif1, N
 use Rattle.sg_text.specs.declared.places.Place.{Place}
 use Rattle.vl_tree.specs.Tree.{Named, Expression, Delay, Connections, by_order, by_name, Instance as instance_text, Part, a_module, a_primitive, Primitive, Module, Source}
 use Rattle.elab_model.specs.declared.kinds.ElabKind.TheVariants.{UnknownModule, UnknownName, BadTerminal, BadDelay}
-use Rattle.elab_model.specs.Members.{Member, assignment, supply, gate, instance, path, members, member_values, connection_values}
+use Rattle.elab_model.specs.Members.{Member, assignment, supply, gate, instance, path, check, members, member_values, connection_values}
 use Rattle.elab_model.specs.Definitions.{definition_of}
 use Rattle.elab_model.specs.Ports.{port_list, port_names}
 use Rattle.elab_model.specs.Names.{Variable, variables, variable, is_among}
@@ -80,6 +80,8 @@ member_faults source corner tick m vs (gate g d i) =
     ++ (terminal_faults vs (output_count g (length i.terminals)) i.terminals ++ delay_faults (most_delays g) corner tick m d)
 member_faults source corner tick m vs (instance n d i) = instance_faults corner tick m vs d i (definition_of source n.text)
 member_faults source corner tick m vs (path p) = []
+-- a delayed copy is one bit (15.8)
+member_faults source corner tick m vs (check c) = flat_map (width_faults vs 1) (member_values (check c))
 
 -- the names and the indices in a member, and the member itself
 abbrev pub all_member_faults : Source → Corner → ℤ → Module → Member → List Fault

@@ -6,7 +6,7 @@ use Rattle.sg_circuit.specs.Closed.{width_of}
 use Rattle.vl_tree.specs.Tree.{Named, PortDeclaration, Module}
 use Rattle.elab_model.specs.declared.kinds.ElabKind.TheVariants.{UnknownName, WidthMismatch, BadTerminal, TooMany}
 use Rattle.std.specs.Option.{option_map}
-use Rattle.elab_model.specs.Members.{Member, assignment, supply, gate, instance, path, members}
+use Rattle.elab_model.specs.Members.{Member, assignment, supply, gate, instance, path, check, members}
 use Rattle.elab_model.specs.Ports.{port_list, ports_of_head, ports_of_item, port_declarations, NetDeclaration, nets_of_item, net_declarations}
 use Rattle.elab_model.specs.Names.{bounds}
 use Rattle.elab_model.specs.Faults.{Fault, fault_if, missing, duplicates, all_of}
@@ -33,6 +33,7 @@ instance_name (supply n v) = None
 instance_name (gate g d i) = i.name
 instance_name (instance n d i) = i.name
 instance_name (path p) = None
+instance_name (check c) = None
 
 abbrev pub instance_names : Module → List Named
 instance_names m = filter_map instance_name (members m)

@@ -1,9 +1,9 @@
 -- The nets in order: by the outermost instance that has the net, its variables first, then nets that no variable names, in text order.
-use Rattle.std.specs.Prelude.{ℕ, List, [], ◌∷◌, ◌++◌, Bool, true, false, Option, Some, None, flat_map, length, map, if◌then◌else◌, ℤ}
+use Rattle.std.specs.Prelude.{ℕ, List, [], ◌∷◌, ◌++◌, Bool, true, false, Option, Some, None, filter, flat_map, length, map, if◌then◌else◌, ℤ}
 use Rattle.std.specs.List.{enumerate_from, position_from}
 use Rattle.std.specs.Option.{unwrap_or}
 use Rattle.vl_tree.specs.Tree.{Instance as instance_text, Part, a_module, a_primitive, Module, Source}
-use Rattle.elab_model.specs.Members.{Member, assignment, supply, gate, instance, path, members, connection_values}
+use Rattle.elab_model.specs.Members.{Member, assignment, supply, gate, instance, path, check, members, connection_values}
 use Rattle.elab_model.specs.Definitions.{definition_of}
 use Rattle.elab_model.specs.Ports.{port_list}
 use Rattle.elab_model.specs.Names.{Variable, variables, variable}
@@ -11,8 +11,9 @@ use Rattle.elab_model.specs.Bits.{Bit, net, constant, index_at, positions}
 use Rattle.elab_model.specs.Terms.{NetBit}
 use Rattle.elab_model.specs.Hierarchy.{Instance, instances}
 use Rattle.elab_model.specs.Connections.{port_values}
-use Rattle.elab_model.specs.Homes.{Spot, bit, outside, terminal, is_same_spot, has_leg, home_of}
+use Rattle.elab_model.specs.Homes.{Spot, bit, outside, terminal, late, is_same_spot, has_leg, home_of}
 use Rattle.elab_model.specs.Ends.{first_ends, inner_spot}
+use Rattle.elab_model.specs.Lates.{own_copies, is_unnamed}
 use Rattle.elab_model.specs.Elements.{expression_bits, output_bits, input_bits, output_count, child_at, bound_above}
 
 -- a net, with the instance that has it, and its name there
@@ -78,12 +79,20 @@ instance_nets source s k i (Some (a_primitive p)) = let es = connection_values i
 abbrev pub inner_net : Instance → NetBit → OwnNet
 inner_net s b = record { spot = inner_spot s b; scope = s.step.number; name = b.name; bit = index_at (variable s.step.definition b.name).range b.position }
 
+-- a delayed copy that no text names has the name of the bit that it copies
+abbrev pub late_net : Instance → NetBit → OwnNet
+late_net s b = record { spot = late s.step.number b.name b.position; scope = s.step.number; name = b.name; bit = index_at (variable s.step.definition b.name).range b.position }
+
+abbrev pub late_nets : Instance → ℕ × Member → List OwnNet
+late_nets s k = map (λ c. late_net s c.1.signal) (filter is_unnamed (own_copies s.step.definition k))
+
 abbrev pub member_nets : Source → Instance → ℕ × Member → List OwnNet
 member_nets source s (k, assignment j) = []
 member_nets source s (k, supply n v) = []
 member_nets source s (k, gate g d i) = let outputs = output_count g (length i.terminals) in terminal_nets s k (output_bits s outputs i.terminals) (input_bits s outputs i.terminals)
 member_nets source s (k, instance n d i) = instance_nets source s k i (definition_of source n.text)
 member_nets source s (k, path p) = map (inner_net s) (first_ends s.step.definition (k, path p))
+member_nets source s (k, check c) = late_nets s (k, check c)
 
 abbrev pub nets_of : Source → Instance → List OwnNet
 nets_of source s = variable_nets source s ++ flat_map (member_nets source s) (enumerate_from 0 (members s.step.definition))

@@ -8,7 +8,7 @@ use Rattle.elab_model.specs.declared.kinds.ElabKind.{ElabKind}
 use Rattle.elab_model.specs.declared.kinds.ElabKind.TheVariants.{UnknownName, BadTerminal}
 use Rattle.elab_model.specs.Definitions.{primitive_of}
 use Rattle.elab_model.specs.Hierarchy.{instances}
-use Rattle.elab_model.specs.Members.{Member, assignment, supply, gate, instance, path, members}
+use Rattle.elab_model.specs.Members.{Member, assignment, supply, gate, instance, path, check, members}
 use Rattle.elab_model.specs.Names.{is_among}
 use Rattle.elab_model.specs.Faults.{Fault, fault_if, texts_of, missing, duplicates, all_of}
 use Rattle.elab_model.specs.Primitives.{outputs, inputs, regs, is_sequential, input_count}
@@ -60,6 +60,7 @@ member_primitive source (supply n v) = None
 member_primitive source (gate g d i) = None
 member_primitive source (instance n d i) = primitive_of source n.text
 member_primitive source (path p) = None
+member_primitive source (check c) = None
 
 abbrev pub primitives : Source → Result Module ElabKind → List Primitive
 primitives source (Err k) = []

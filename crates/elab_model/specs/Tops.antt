@@ -4,7 +4,7 @@ use Rattle.std.specs.List.{list_any}
 use Rattle.vl_tree.specs.Tree.{Module, Source}
 use Rattle.elab_model.specs.declared.kinds.ElabKind.{ElabKind}
 use Rattle.elab_model.specs.declared.kinds.ElabKind.TheVariants.{NoTop, SeveralTops}
-use Rattle.elab_model.specs.Members.{Member, assignment, supply, gate, instance, path, members}
+use Rattle.elab_model.specs.Members.{Member, assignment, supply, gate, instance, path, check, members}
 use Rattle.elab_model.specs.Definitions.{as_module, module_of}
 
 abbrev pub modules : Source → List Module
@@ -16,6 +16,7 @@ is_instance_of n (supply m v) = false
 is_instance_of n (gate g d i) = false
 is_instance_of n (instance m d i) = bytes_eq n m.text
 is_instance_of n (path p) = false
+is_instance_of n (check c) = false
 
 -- whether any module has an instance of it, be it one that the top reaches or not
 abbrev pub has_instance : Source → List ℕ → Bool

@@ -28,10 +28,8 @@ pub enum ElabKind {
     TooDeep,
     /// More scopes, nets, elements, specify paths, timing checks or bits of a vector than there may be.
     TooMany,
-    /// A delay or a limit is too long, a gate or a primitive has more delays than its kind takes, an instance of a module has one, a specparam isn't there, or pulses are to be lost that are to become x.
+    /// A delay or a limit is too long, or a limit of a timing check that takes limits below 0 adds up to too much over its module's signals, a gate or a primitive has more delays than its kind takes, an instance of a module has one, a specparam isn't there, or pulses are to be lost that are to become x.
     BadDelay,
-    /// A limit of a timing check is below 0.
-    NegativeLimit,
     /// The table of a primitive has a fault.
     Udp(UdpKind),
 }

@@ -1,8 +1,8 @@
--- The words of the command line and the command that they ask for.
+-- The words of the command line and what they ask for.
 use Rattle.std.specs.Prelude.{ℕ, List, [], ◌∷◌, ◌++◌, length, Bool, ◌&&◌, Option, Some, None, option_and_then, nat_le, codes, if◌then◌else◌}
 use Rattle.std.specs.Char.{is_ascii_digit}
 use Rattle.std.specs.List.{list_any, list_all, filter_map, slice_get}
-use Rattle.std.specs.Option.{option_to_list}
+use Rattle.std.specs.Option.{option_map, option_or, option_to_list}
 use Rattle.std.specs.Str.Parse.{digits_value}
 use Rattle.sg_delay.specs.declared.corners.Corner.{Corner}
 use Rattle.sg_delay.specs.declared.corners.Corner.TheVariants.{Min, Typ, Max}
@@ -112,6 +112,30 @@ command_from arguments = if are_sound arguments then command_with (netlists_of a
 abbrev pub command_of : List (List ℕ) → Option Command
 command_of [] = None
 command_of (first ∷ words) = if is_text (codes "run") first then option_and_then command_from (arguments_of words) else None
+
+-- one to six decimal digits, of which the first may be zeros
+abbrev pub is_count : List ℕ → Bool
+is_count text = list_all is_ascii_digit text && nat_le 1 (length text) && nat_le (length text) 6
+
+abbrev pub most_stages : ℕ
+most_stages = 100000
+
+abbrev pub stages_of : List ℕ → Option ℕ
+stages_of text = if is_count text && nat_le 1 (digits_value 10 text) && nat_le (digits_value 10 text) most_stages then Some (digits_value 10 text) else None
+
+-- the number of stages of the words `gen` and a number: a generated case is run; none where they are refused
+abbrev pub case_of : List (List ℕ) → Option ℕ
+case_of (first ∷ text ∷ []) = if is_text (codes "gen") first then stages_of text else None
+case_of _ = None
+
+-- what words ask for
+pub data Asked : Type 0 where
+  a_run : Command → Asked
+  a_case : (stages : ℕ) → Asked
+
+-- none where they are refused
+abbrev pub asked_of : List (List ℕ) → Option Asked
+asked_of words = option_or (option_map a_run (command_of words)) (option_map a_case (case_of words))
 
 -- the names of files in a command: the netlists, the SDF file where there is one, the stimulus, the dump
 abbrev pub names_in : Option Command → List (List ℕ)

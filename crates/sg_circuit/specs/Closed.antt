@@ -1,5 +1,5 @@
 -- What is so of every circuit: its parts fit together.
-use Rattle.std.specs.Prelude.{◌≡◌, ◌↔◌, ℕ, ℤ, pos, ◌+◌, ◌<◌, ◌≤◌, ◌^◌, ◌≤ℤ◌, ◌-ℤ◌, nat_abs, unsigned_abs, All, List, [], ◌∷◌, length, Option, Some, None, IfSome, IsSome, slice_index_or}
+use Rattle.std.specs.Prelude.{◌≡◌, ◌↔◌, ℕ, ℤ, pos, ◌+◌, ◌<◌, ◌≤◌, ◌^◌, ◌≤ℤ◌, ◌-ℤ◌, nat_abs, unsigned_abs, true, All, List, [], ◌∷◌, length, Option, Some, None, IfSome, IsSome, slice_index_or}
 use Rattle.sg_logic.specs.Gate.{TakesInputs as GateTakes, most_delays}
 use Rattle.sg_circuit.specs.declared.nets.Driver.{Driver}
 use Rattle.sg_circuit.specs.declared.nets.Driver.TheVariants as driver
@@ -15,6 +15,7 @@ use Rattle.cond_expr.specs.Values.{AreBelow}
 use Rattle.sg_circuit.specs.Timings.{Timing}
 use Rattle.sg_circuit.specs.Paths as specify
 use Rattle.sg_circuit.specs.Circuit.{Circuit, Kind, Gate, Udp, Pass, Leg, Path, Late, net_at, element_at, scope_at}
+use Rattle.sg_circuit.specs.Signals.{takes_lates, AreShort}
 
 -- so many inputs an element of a kind has (IEEE 1364-2005, 6.1, 7.2, 7.3, 8.1)
 abbrev pub TakesInputs : Kind → ℕ → Type 0
@@ -130,11 +131,9 @@ pub record IsNotifier (c : Circuit) (n : ℕ) : Type 0 where
   pub within : n < length c.nets
   pub driven : (net_at c n).driver ≡ driver.Notifier
 
--- the checks that may see delayed signals (15.8)
+-- the checks that see delayed signals (15.8)
 abbrev pub TakesLates : CheckKind → Type 0
-TakesLates Setuphold = Unit {0}
-TakesLates Recrem = Unit {0}
-TakesLates _ = ⊥
+TakesLates kind = takes_lates kind ≡ true
 
 abbrev pub IsLate : Kind → Type 0
 IsLate (Late delay) = Unit {0}
@@ -148,12 +147,13 @@ pub record IsLateOf (c : Circuit) (net e : ℕ) : Type 0 where
 
 -- a check's two Lates copy the nets of its reference and of its data event
 pub record AreLatesOf (c : Circuit) (t : CheckTiming) (lates : List ℕ) : Type 0 where
-  pub takes : TakesLates t.kind
   pub refer : IsLateOf c t.refer.net (slice_index_or lates 0 0)
   pub datum : IfSome t.datum (λ d. IsLateOf c d.net (slice_index_or lates 1 0))
 
-abbrev pub HasLates : Circuit → CheckTiming → Type 0
-HasLates c t = IfSome t.late (λ lates. AreLatesOf c t lates)
+-- exactly the kinds that take limits below 0 have them
+pub record HasLates (c : Circuit) (t : CheckTiming) : Type 0 where
+  pub exact : IsSome t.late ↔ TakesLates t.kind
+  pub lates : IfSome t.late (λ lates. AreLatesOf c t lates)
 
 -- a limit that is taken as 0 is one of the two of a check that has Lates
 pub record IsZeroOf (c : Circuit) (z : Zero) : Type 0 where
@@ -195,4 +195,5 @@ pub record IsClosed (c : Circuit) : Type 0 where
   pub scales : All (λ s. c.tick ≤ℤ s.precision) c.scopes
   -- delayed signals are those of the checks, and limits are taken as 0 there alone (15.8)
   pub lates : All (HasLates c) c.check_timings
+  pub short : (scope : ℕ) → AreShort c.checks c.check_timings scope
   pub zeroed : All (IsZeroOf c) c.zeroed

@@ -2,6 +2,7 @@
 pub mod Checks
 pub mod ChecksSeen
 pub mod Circuit
+pub mod Signals
 pub mod Closed
 pub mod FanOut
 pub mod Seen

@@ -67,8 +67,8 @@ pub struct CheckTiming {
     pub limits: [i64; 2],
     /// In ticks; width alone has one.
     pub threshold: u64,
-    /// The elements of the kind Late that delay the reference and the data signal; only setuphold and recrem may have them (IEEE 1364-2005,
-    /// 15.8).
+    /// The elements of the kind Late that delay the reference and the data signal; setuphold and recrem have them, and no other kind
+    /// (IEEE 1364-2005, 15.8).
     pub late: Option<[u32; 2]>,
 }
 

@@ -1,13 +1,16 @@
 -- What the program answers: its status, the file that it makes, and the report.
-use Rattle.std.specs.Prelude.{ℕ, ◌≡◌, ◌++◌, List, [], ◌∷◌, Option, Some, None, Result, Ok, Err, codes}
+use Rattle.std.specs.Prelude.{ℕ, ◌≡◌, ◌++◌, List, [], ◌∷◌, length, Option, Some, None, Result, Ok, Err, codes, decimal}
 use Rattle.sg_io.specs.Files.{File, HasAfter}
 use Rattle.sg_model.specs.Machine.{Violation}
-use Rattle.sg_model.specs.Run.{Finished}
+use Rattle.sg_model.specs.Run.{Finished, last_change, lasts}
+use Rattle.sim_rounds.specs.Setting.{setting_of}
 use Rattle.sim_rounds.specs.Simulated.{run_of_circuit}
+use Rattle.sim_times.specs.Times.{count_shown}
+use Rattle.run_words.specs.Words.{case_of}
 use Rattle.wave_out.specs.Texts.{line}
 use Rattle.wave_out.specs.Vcd.{vcd_text}
-use Rattle.wave_out.specs.Report.{report_text}
-use Rattle.signoff_top.specs.Phases.{Refusal, Task, TaskOutcome, status_of_refusal, refusal_line}
+use Rattle.wave_out.specs.Report.{report_text, spent_line}
+use Rattle.signoff_top.specs.Phases.{Refusal, Task, TaskOutcome, CaseOutcome, status_of_refusal, refusal_line}
 use Rattle.signoff_top.specs.declared.status.Status.{Status}
 use Rattle.signoff_top.specs.declared.status.Status.TheVariants as status
 
@@ -38,9 +41,39 @@ answer_of (Ok task) = record {
 }
 answer_of (Err r) = record { status = status_of_refusal r; made = None; report = refusal_line r }
 
--- the answer is right for these words and files: those of the netlist, the SDF file where one is named, and the stimulus
+-- the last time that changes a net
+abbrev pub last_of : Task → ℕ
+last_of task = last_change (setting_of task.circuit task.input task.rounds).first.values (lasts (run_of task).run.snapshots)
+
+-- what is told of the run of a generated case: its stages, how many elements were evaluated, the last change, and how many limits were violated
+abbrev pub summary_lines : ℕ → Task → List ℕ
+summary_lines stages task =
+    line (codes "stages " ++ decimal stages)
+    ++ line (codes "evaluations " ++ decimal (count_shown (run_of task).evaluations))
+    ++ line (codes "last " ++ decimal (last_of task))
+    ++ line (codes "violations " ++ decimal (length (run_of task).run.violations))
+
+-- or of a time that was spent
+abbrev pub case_lines : ℕ → Task → Option (ℕ × Option ℕ) → List ℕ
+case_lines stages task None = summary_lines stages task
+case_lines stages task (Some spent) = spent_line task.circuit spent.0 spent.1
+
+-- no file is made
+abbrev pub case_answer : ℕ → Result Task Refusal → Answer
+case_answer stages (Ok task) = record {
+  status = status_of_run (run_of task).spent (run_of task).run.violations;
+  made = None;
+  report = case_lines stages task (run_of task).spent;
+}
+case_answer stages (Err r) = record { status = status_of_refusal r; made = None; report = refusal_line r }
+
+-- the answer is right for these words and files: those of the netlist, the SDF file where one is named, and the stimulus; a generated case has its own texts
+abbrev pub IsAnswerTo : Option ℕ → List (List ℕ) → List File → Answer → Type 0
+IsAnswerTo None ws files answer = (outcome : Result Task Refusal) × TaskOutcome ws files outcome × (answer ≡ answer_of outcome)
+IsAnswerTo (Some stages) ws files answer = (outcome : Result Task Refusal) × CaseOutcome stages outcome × (answer ≡ case_answer stages outcome)
+
 abbrev pub IsAnswer : List (List ℕ) → List File → Answer → Type 0
-IsAnswer ws files answer = (outcome : Result Task Refusal) × TaskOutcome ws files outcome × (answer ≡ answer_of outcome)
+IsAnswer ws files answer = IsAnswerTo (case_of ws) ws files answer
 
 -- the file that was made has its bytes afterwards, and all else stays
 abbrev pub FilesAfter : Option File → List File → List File → Type 0

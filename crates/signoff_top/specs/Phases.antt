@@ -8,9 +8,11 @@ use Rattle.sg_circuit.specs.Circuit.{Circuit}
 use Rattle.sg_stimulus.specs.Stimulus.{Stimulus}
 use Rattle.sdf_tree.specs.Meant.{Sdf}
 use Rattle.annotation_model.specs.Annotated as annotation
+use Rattle.late_limits.specs.Adjusted.{IsAdjustedFrom}
 use Rattle.wave_out.specs.Report.{Unmatched}
 use Rattle.wave_out.specs.Texts.{line, line_of}
-use Rattle.run_words.specs.Words.{Command, command_of}
+use Rattle.run_words.specs.Words.{Command, command_of, default_corner, default_rounds}
+use Rattle.gen_case.specs.Case.{netlist_of, sdf_of, stimulus_of}
 use Rattle.netlist_read.specs.Kinds.{Kind, kind_text}
 use Rattle.netlist_read.specs.Reading as netlist_text
 use Rattle.sdf_read.specs.Outcomes.{Fault}
@@ -113,10 +115,10 @@ pub record Annotated : Type 0 where
 abbrev pub unmatched_at : List ℕ → Place × List ℕ → Unmatched
 unmatched_at text told = record { line = line_of text told.0.byte; word = told.1 }
 
--- the entries are applied with the values of this corner: none of them is too large
+-- the entries are applied with the values of this corner: none of them is too large; the circuit is adjusted to its new limits
 pub record IsAnnotatedBy (text : List ℕ) (file : Sdf) (corner : Corner) (c : Circuit) (a : Annotated) : Type 0 where
   pub fine : annotation.too_large c file corner ≡ None
-  pub circuit : a.circuit ≡ annotation.annotated c file corner
+  pub circuit : IsAdjustedFrom (annotation.annotated c file corner) a.circuit
   pub unmatched : a.unmatched ≡ map (unmatched_at text) (annotation.unmatched c file)
 
 -- or the first of them that is too large is told
@@ -169,6 +171,23 @@ AnnotatedOutcome (Some name) corner files circuit outcome = Then (FileOutcome na
 -- the stimulus of this name
 abbrev pub InputOutcome : List ℕ → List File → Circuit → Result Stimulus Refusal → Type 0
 InputOutcome name files circuit = Then (FileOutcome name (bytes_of name files)) (λ text. StimulusOutcome name text circuit)
+
+-- The generated case of so many stages: its texts are read in, applied and read as files are, and no file is. Their names would tell where a fault is, if one stood.
+abbrev pub case_netlist : List ℕ
+case_netlist = codes "generated.v"
+
+abbrev pub case_sdf : List ℕ
+case_sdf = codes "generated.sdf"
+
+abbrev pub case_stimulus : List ℕ
+case_stimulus = codes "generated.st"
+
+abbrev pub CaseOutcome : ℕ → Result Task Refusal → Type 0
+CaseOutcome stages =
+    Then (NetlistOutcome (case_netlist ∷ []) (netlist_of stages ∷ []) None default_corner) (λ circuit.
+    Then (EntriesOutcome case_sdf (sdf_of stages) default_corner circuit) (λ annotated.
+    Then (StimulusOutcome case_stimulus (stimulus_of stages) annotated.circuit) (λ input outcome.
+    outcome ≡ Ok (record { circuit = annotated.circuit; unmatched = annotated.unmatched; rounds = default_rounds; input = input; vcd = [] }))))
 
 -- All phases up to the run, over the words and the files that are held: those of the netlist, of the delays where the words
 -- name an SDF file, and of the stimulus. How many buckets the wheel of events has is no

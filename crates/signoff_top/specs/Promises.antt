@@ -6,7 +6,7 @@ use Rattle.sg_io.specs.Files.{File, BothTell, bytes_of}
 use Rattle.sg_io.specs.Put.{SinkTold}
 use Rattle.sg_circuit.specs.Circuit.{Circuit}
 use Rattle.signoff_top.specs.Answer.{Answer, IsAnswer, FilesAfter, dump_of, fault_line, report_fault_line, no_memory_line}
-use Rattle.run_words.specs.Words.{Command, command_of, names_in}
+use Rattle.run_words.specs.Words.{Command, Asked, asked_of, command_of, names_in}
 use Rattle.signoff_top.specs.Phases.{Annotated, Task, TaskOutcome, AnnotatedOutcome, CircuitOutcome, FilesOutcome, usage_line}
 use Rattle.signoff_top.specs.Putting.{PutsAll, PutsTillFault, PutsTillWant, PutsLast}
 use Rattle.wave_out.specs.Files.{LeavesPrefix}
@@ -29,14 +29,14 @@ pub record IsRight (ws : List (List ℕ)) (how : Status) (text : List ℕ) (old 
   pub files : FilesAfter answer.made old new
 
 -- the words alone say whether the status is that of refused words, whose report is the usage line
-abbrev pub FitsWords : Option Command → Status → List ℕ → Type 0
+abbrev pub FitsWords : Option Asked → Status → List ℕ → Type 0
 FitsWords None how text = (how ≡ status.Usage) × (text ≡ usage_line)
-FitsWords (Some c) how text = how ≢ status.Usage
+FitsWords (Some asked) how text = how ≢ status.Usage
 
 -- the work on the shelf came to an answer: no call failed, and where the shelf tells its files the answer is right
 pub record HasAnswer (ws : List (List ℕ)) (how : Status) (text : List ℕ) (old new : ShelfTold) : Type 0 where
   pub decided : IsDecided how
-  pub words : FitsWords (command_of ws) how text
+  pub words : FitsWords (asked_of ws) how text
   pub faults : new.faults ≡ old.faults
   pub files : BothTell old.files new.files (IsRight ws how text)
 
@@ -112,7 +112,7 @@ abbrev pub KeepsByWords : Option Command → List File → List File → Type 0
 KeepsByWords None old new = new ≡ old
 KeepsByWords (Some c) old new = (q : List ℕ) → q ≢ c.vcd → bytes_of q new ≡ bytes_of q old
 
--- status 2 comes exactly where the words are no command, unless there was no memory
-abbrev pub IsUsage : Option Command → Status → Type 0
+-- status 2 comes exactly where the words are refused, unless there was no memory
+abbrev pub IsUsage : Option Asked → Status → Type 0
 IsUsage None how = (how ≡ status.Usage) ⊎ (how ≡ status.NoMemory)
-IsUsage (Some c) how = how ≢ status.Usage
+IsUsage (Some asked) how = how ≢ status.Usage

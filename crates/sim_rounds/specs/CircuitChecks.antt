@@ -8,6 +8,7 @@ use Rattle.sg_model.specs.Machine.{Snapshot}
 use Rattle.fan_round.specs.declared.work.WorkList.{WorkList}
 use Rattle.fan_round.specs.States.{IsIdle}
 use Rattle.fan_round.specs.Work.{AreMarked}
+use Rattle.time_checks.specs.Adjusted.{adjusted_checks}
 use Rattle.time_checks.specs.Checking.{Kept, LeadsTo, Stands, latest_at}
 use Rattle.time_checks.specs.Kept.{StandsFor}
 
@@ -33,7 +34,7 @@ pub record HaveSeen (kept : Kept) (touched : WorkList) (values : List Value) (sn
 -- they are those of a circuit, and have seen nothing
 pub record AreFirst (circuit : Circuit) (checks : List Check) (kept : Kept) (touched named : WorkList) : Type 0 where
   pub checks_are : checks ≡ circuit.checks
-  pub timings_are : kept.checks ≡ circuit.check_timings
+  pub timings_are : kept.checks ≡ adjusted_checks circuit
   pub last : length kept.last ≡ length circuit.nets
   pub unseen : kept.seen ≡ false
   pub each : (number : ℕ) → number < length kept.checks → StandsFor (latest_at kept.latest number) [] []

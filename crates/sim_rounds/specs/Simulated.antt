@@ -15,6 +15,7 @@ use Rattle.sg_circuit.specs.declared.nets.Driver.TheVariants as driver
 use Rattle.sg_circuit.specs.Circuit.{Circuit, Kind, Gate, Udp, Pass, Leg, Path, Late, element_at}
 use Rattle.sg_circuit.specs.Timings.{Timing, timing_between, limits_of}
 use Rattle.pulse_list.specs.Seen.{style_seen}
+use Rattle.time_checks.specs.Adjusted.{adjusted_checks}
 use Rattle.time_checks.specs.Violations.{violations}
 use Rattle.sim_rounds.specs.Notifiers.{notifiers_of}
 use Rattle.path_pick.specs.Choice.{picked}
@@ -74,7 +75,7 @@ machine_of circuit = record {
   outputs = map (λ e. e.output) circuit.elements;
   value = λ e before after state. value_of_kind (element_at circuit e).kind (values_at (element_at circuit e).inputs before) (values_at (element_at circuit e).inputs after) state;
   rule = λ e now after stamps from to. rule_of_kind (element_at circuit e).kind now after stamps from to;
-  violated = λ snapshots. violations circuit.check_timings snapshots;
+  violated = λ snapshots. violations (adjusted_checks circuit) snapshots;
   notifiers = λ found. notifiers_of circuit.checks (length circuit.nets) found;
 }
 

@@ -22,6 +22,7 @@ use Rattle.specify_model.specs.Conditions.{tokens, tree_of, bound_to, first_bit}
 use Rattle.specify_model.specs.Outputs.{measure}
 use Rattle.specify_model.specs.Paths.{edge_of}
 use Rattle.elab_model.specs.Terms.{NetBit, term_bits}
+use Rattle.elab_model.specs.Lates.{DelayedCopy}
 use Rattle.specify_model.specs.Values.{Measure, Values, value_of, amount_ticks}
 
 abbrev pub check_of_item : SpecifyItem → Option Check
@@ -89,19 +90,6 @@ notifier_of (two_limit_check p k r d l m n f g) = n
 notifier_of (width_check p r l t n) = n
 notifier_of (period_check p r l n) = n
 
--- the signals that carry delayed copies of reference and data (15.8)
-abbrev pub delayed_reference_of : Check → Option Named
-delayed_reference_of (one_limit_check p k r d l n) = None
-delayed_reference_of (two_limit_check p k r d l m n f g) = f
-delayed_reference_of (width_check p r l t n) = None
-delayed_reference_of (period_check p r l n) = None
-
-abbrev pub delayed_data_of : Check → Option Named
-delayed_data_of (one_limit_check p k r d l n) = None
-delayed_data_of (two_limit_check p k r d l m n f g) = g
-delayed_data_of (width_check p r l t n) = None
-delayed_data_of (period_check p r l n) = None
-
 -- ---- what they mean
 
 -- the events of a terminal: the bit, how the text names it, the changes of it that are events, and what enables them (15.1, 15.4, 15.6)
@@ -148,7 +136,21 @@ abbrev pub threshold_ticks : Measure → Values → Option Limit → ℕ
 threshold_ticks by values None = 0
 threshold_ticks by values (Some l) = size_ticks by values (corner_limit by.corner l)
 
--- a check: limits in ticks, in the order of the text; the reg that a violation toggles (15.5)
+-- the delayed copy that a check sees in place of a terminal's bit (15.8)
+abbrev pub name_bit : Named → NetBit
+name_bit n = record { name = n.text; position = 0 }
+
+abbrev pub copy_of : List Variable → Event → Option Named → DelayedCopy
+copy_of vs e n = record { signal = first_bit (term_bits vs e.term); named = option_map name_bit n }
+
+-- those of reference and data, where the check takes limits below 0
+abbrev pub check_copies : List Variable → Check → Option (DelayedCopy × DelayedCopy)
+check_copies vs (one_limit_check p k r d l n) = None
+check_copies vs (two_limit_check p k r d l m n f g) = Some (copy_of vs r f, copy_of vs d g)
+check_copies vs (width_check p r l t n) = None
+check_copies vs (period_check p r l n) = None
+
+-- a check: limits in ticks, in the order of the text; the reg that a violation toggles (15.5); the copies of signals that it sees
 pub record ModuleCheck : Type 0 where
   pub place : Place
   pub kind : CheckKind
@@ -157,6 +159,7 @@ pub record ModuleCheck : Type 0 where
   pub limits : List ℤ
   pub threshold : ℕ
   pub notifier : Option NetBit
+  pub copies : Option (DelayedCopy × DelayedCopy)
 
 -- a reg has one bit
 abbrev pub reg_bit : Named → NetBit
@@ -171,6 +174,7 @@ module_check by vs values c = record {
   limits = map (limit_ticks by values) (limits_in c);
   threshold = threshold_ticks by values (threshold_of c);
   notifier = option_map reg_bit (notifier_of c);
+  copies = check_copies vs c;
 }
 
 abbrev pub module_checks : Measure → List Variable → List SpecifyItem → List ModuleCheck

@@ -2,7 +2,7 @@
 use Rattle.std.specs.Prelude.{◌≡◌, ℕ, ◌<◌, ◌^◌, Bool, false, true, All, List, [], ◌∷◌, ◌++◌, length, map, None, slice_index_or}
 use Rattle.sg_logic.specs.declared.values.Value.{Value}
 use Rattle.sg_circuit.specs.declared.checks.CheckKind.TheVariants as kind
-use Rattle.sg_circuit.specs.declared.checks.CheckTiming.{CheckTiming}
+use Rattle.time_checks.specs.Adjusted.{AdjustedCheck}
 use Rattle.sg_circuit.specs.FanOut.{has, IsFanOut}
 use Rattle.sg_model.specs.Machine.{Snapshot, Violation}
 use Rattle.sg_model.specs.Round.{each_from}
@@ -17,8 +17,8 @@ use Rattle.time_checks.specs.Violations.{all_from, violations}
 use Rattle.time_checks.specs.Kept.{StandsFor, events_at, next_of, instant_of, found_at}
 
 -- the check of a number; past the end a blank
-abbrev pub check_at : List CheckTiming → ℕ → CheckTiming
-check_at checks number = slice_index_or checks number (record { kind = kind.Setup; refer = record { net = 0; edge = None; condition = None }; datum = None; limits = []; threshold = 0; late = None })
+abbrev pub check_at : List AdjustedCheck → ℕ → AdjustedCheck
+check_at checks number = slice_index_or checks number (record { kind = kind.Setup; refer = record { net = 0; edge = None; condition = None }; datum = None; limits = []; windows = []; threshold = 0; refer_delay = 0; datum_delay = 0 })
 
 -- nothing happened yet
 abbrev pub no_times : Latest
@@ -29,7 +29,7 @@ latest_at latest number = slice_index_or latest number no_times
 
 -- what a checker keeps: whether it saw a snapshot, the nets at the last, and the latest times of each check's events
 pub record Kept : Type 0 where
-  pub checks : List CheckTiming
+  pub checks : List AdjustedCheck
   pub seen : Bool
   pub last : List Value
   pub latest : List Latest
@@ -70,22 +70,22 @@ pub record Sees (before after : Kept) (time : ℕ) (changed : List ℕ) (values 
 -- Words of the code.
 
 -- the latest times of a check after a snapshot
-abbrev pub next_at : List CheckTiming → List Value → List Value → ℕ → ℕ → Latest → Latest
+abbrev pub next_at : List AdjustedCheck → List Value → List Value → ℕ → ℕ → Latest → Latest
 next_at checks last now time number latest = next_of time (events_at (check_at checks number) last now) latest
 
 -- the violations of a check at it
-abbrev pub found_in : List CheckTiming → List Value → List Value → ℕ → List Latest → ℕ → List Violation
+abbrev pub found_in : List AdjustedCheck → List Value → List Value → ℕ → List Latest → ℕ → List Violation
 found_in checks last now time latest number = found_at number (check_at checks number) (instant_of time (events_at (check_at checks number) last now) (latest_at latest number))
 
 -- violations were added, and latest times put, as a pass over all checks would, wherever the changed nets cover the changes
-pub record SeesChanges (checks : List CheckTiming) (changed : List ℕ) (last now : List Value) (time : ℕ) (latest latest' : List Latest) (old new : List Violation) : Type 0 where
+pub record SeesChanges (checks : List AdjustedCheck) (changed : List ℕ) (last now : List Value) (time : ℕ) (latest latest' : List Latest) (old new : List Violation) : Type 0 where
   pub found : List Violation
   pub added : new ≡ old ++ found
   pub whole : Covers last now changed → found ≡ all_from (λ number check. found_in checks last now time latest number) 0 checks
   pub kept : Covers last now changed → latest' ≡ each_from (next_at checks last now time) 0 latest
 
 -- the parts of a checker fit together
-pub record IsReady (checks : List CheckTiming) (nets : ℕ) (index : List (List ℕ)) (work : WorkList) (latest : List Latest) : Type 0 where
+pub record IsReady (checks : List AdjustedCheck) (nets : ℕ) (index : List (List ℕ)) (work : WorkList) (latest : List Latest) : Type 0 where
   pub within : All (λ c. IsCheckWithin c nets) checks
   pub few : length checks < 2 ^ 31
   pub indexed : IsFanOut (map (λ c. terminals c) checks) index

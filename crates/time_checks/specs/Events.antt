@@ -8,7 +8,7 @@ use Rattle.sg_logic.specs.Edges.{has_change}
 use Rattle.cond_expr.specs.Tree.{Cond}
 use Rattle.cond_expr.specs.Values.{enables}
 use Rattle.sg_circuit.specs.declared.checks.Event.{Event}
-use Rattle.sg_circuit.specs.declared.checks.CheckTiming.{CheckTiming}
+use Rattle.time_checks.specs.Adjusted.{AdjustedCheck}
 use Rattle.sg_model.specs.Values.{value_at}
 use Rattle.sg_model.specs.Machine.{Snapshot}
 use Rattle.time_checks.specs.Times.{grown}
@@ -56,7 +56,7 @@ datum_times None snapshots = []
 datum_times (Some event) snapshots = event_times event snapshots
 
 -- what a check sees at a snapshot that follows others
-abbrev pub moment : CheckTiming → Snapshot → List Snapshot → Moment
+abbrev pub moment : AdjustedCheck → Snapshot → List Snapshot → Moment
 moment check now older = record {
   time = now.time;
   refer = happens check.refer (now ∷ older);

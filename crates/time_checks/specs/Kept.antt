@@ -3,7 +3,7 @@ use Rattle.std.specs.Prelude.{◌≡◌, ℕ, ℤ, ◌-◌, nat_lt, nat_le, Bool
 use Rattle.std.specs.Option.{option_map}
 use Rattle.sg_logic.specs.declared.values.Value.{Value}
 use Rattle.sg_circuit.specs.declared.checks.Event.{Event}
-use Rattle.sg_circuit.specs.declared.checks.CheckTiming.{CheckTiming}
+use Rattle.time_checks.specs.Adjusted.{AdjustedCheck}
 use Rattle.sg_model.specs.Machine.{Violation}
 use Rattle.time_checks.specs.declared.events.Events.{Events}
 use Rattle.time_checks.specs.declared.latest.Latest.{Latest}
@@ -14,7 +14,7 @@ use Rattle.time_checks.specs.Parts.{parts_of}
 use Rattle.time_checks.specs.Times.{greatest, greatest_of}
 use Rattle.time_checks.specs.Windows.{Pair, where_true, since, exceeds, size}
 use Rattle.time_checks.specs.Events.{has_event, has_opposite}
-use Rattle.time_checks.specs.Violations.{all_from, listed, limit_at}
+use Rattle.time_checks.specs.Violations.{all_from, listed, limit_at, window_at}
 
 -- the greatest of those below a number, if there is one
 abbrev pub greatest_below : Option ℕ → List ℕ → Option ℕ
@@ -33,7 +33,7 @@ has_datum None last now = false
 has_datum (Some event) last now = has_event event last now
 
 -- what happens to a check between two snapshots
-abbrev pub events_at : CheckTiming → List Value → List Value → Events
+abbrev pub events_at : AdjustedCheck → List Value → List Value → Events
 events_at check last now = record { refer = has_event check.refer last now; datum = has_datum check.datum last now; back = has_opposite check.refer last now }
 
 -- the greatest time of a data event below this one
@@ -90,5 +90,5 @@ abbrev pub instant_of : ℕ → Events → Latest → Instant
 instant_of time events latest = record { time = time; events = events; before = latest; after = next_of time events latest }
 
 -- a check's violations at an instant
-abbrev pub found_at : ℕ → CheckTiming → Instant → List Violation
-found_at number check now = all_from (λ place part. listed number part (limit_at check place) (violated_kept part (limit_at check place) check.threshold now)) 0 (parts_of check.kind)
+abbrev pub found_at : ℕ → AdjustedCheck → Instant → List Violation
+found_at number check now = all_from (λ place part. listed number check part (limit_at check place) (violated_kept part (window_at check place) check.threshold now)) 0 (parts_of check.kind)

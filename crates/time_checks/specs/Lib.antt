@@ -1,4 +1,5 @@
 -- The modules of this folder.
+pub mod Adjusted
 pub mod Checking
 pub mod Events
 pub mod Falling
