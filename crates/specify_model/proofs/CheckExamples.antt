@@ -1,5 +1,5 @@
 -- Timing checks in small, worked, and those that are refused.
-use Rattle.std.specs.Prelude.{◌≡◌, ℕ, pos, List, [], ◌∷◌, Option, Some, None, true, false, refl, codes}
+use Rattle.std.specs.Prelude.{◌≡◌, ℕ, pos, negsuc, List, [], ◌∷◌, Option, Some, None, true, false, refl, codes}
 use Rattle.cond_expr.specs.declared.tokens.Tok.TheVariants as tok
 use Rattle.cond_expr.specs.Grammar.{operand_parts, atom_parts, level_parts, primary_parts}
 use Rattle.cond_expr.specs.Tree.{leaf}
@@ -11,11 +11,11 @@ use Rattle.sg_logic.specs.declared.edges.TheConstants.{POSEDGE, NEGEDGE}
 use Rattle.vl_tree.specs.declared.check_names.OneLimitCheck.TheVariants as one
 use Rattle.vl_tree.specs.declared.check_names.TwoLimitCheck.TheVariants as two
 use Rattle.vl_tree.specs.Tree.{Named, a_number, a_parameter, SignedAmount, one_limit, three_limits, EdgeWord, posedge, negedge, Term, Word, Event, Check, one_limit_check, two_limit_check, width_check, period_check}
-use Rattle.elab_model.specs.declared.kinds.ElabKind.TheVariants.{UnknownName, WidthMismatch, BadTerminal, BadDelay, NegativeLimit}
+use Rattle.elab_model.specs.declared.kinds.ElabKind.TheVariants.{UnknownName, WidthMismatch, BadTerminal, BadDelay}
 use Rattle.elab_model.specs.Faults.{Fault, fault}
 use Rattle.elab_model.specs.Names.{Variable}
-use Rattle.specify_model.specs.Checks.{ModuleCheck, module_check}
-use Rattle.specify_model.specs.CheckFaults.{check_faults}
+use Rattle.specify_model.specs.Checks.{ModuleCheck, check_copies, module_check}
+use Rattle.specify_model.specs.CheckFaults.{check_faults, weight_of}
 use Rattle.specify_model.specs.Values.{value_of}
 use Rattle.specify_model.proofs.Writing.{here, name, whole_number, for_corner, scalar, vector, bit, term, bit_term, word}
 
@@ -37,8 +37,12 @@ below_0 n at = record { negative = true; amount = a_number (here at) (whole_numb
 abbrev meant : Check → ModuleCheck
 meant c = module_check (for_corner Typ) flop (value_of []) c
 
+-- with so many signals of the module that have delayed copies
+abbrev refused_with : ℕ → Check → List Fault
+refused_with signals c = check_faults signals (for_corner Typ) flop (value_of []) c
+
 abbrev refused : Check → List Fault
-refused c = check_faults (for_corner Typ) flop (value_of []) c
+refused c = refused_with 2 c
 
 -- posedge ck; d
 abbrev clock : Event
@@ -61,6 +65,7 @@ setup_meant : meant a_setup ≡ record {
   limits = pos 2 ∷ [];
   threshold = 0;
   notifier = Some (bit (codes "n") 0);
+  copies = None;
 }
 unfolding operand_parts atom_parts level_parts primary_parts read_up_to
 setup_meant = refl
@@ -81,32 +86,54 @@ width_meant : meant a_width ≡ record {
   limits = pos 3 ∷ [];
   threshold = 1;
   notifier = None;
+  copies = None;
 }
 width_meant = refl
 
--- $setuphold (posedge ck, d, -2, 5); and with -0
+-- $setuphold (posedge ck, d, -2, 5);
 abbrev a_setuphold : SignedAmount → Check
 a_setuphold first = two_limit_check (here 10) two.SetupHold clock data_event (one_limit first) (one_limit (amount 5 34)) None None None
 
-negative_refused : refused (a_setuphold (below_0 2 33)) ≡ fault NegativeLimit (here 33) ∷ []
-negative_refused = refl
+negative_taken : refused (a_setuphold (below_0 2 33)) ≡ []
+negative_taken = refl
 
-negative_zero : refused (a_setuphold (below_0 0 33)) ≡ []
-negative_zero = refl
+negative_meant : (meant (a_setuphold (below_0 2 33))).limits ≡ negsuc 1 ∷ (pos 5 ∷ [])
+negative_meant = refl
 
--- -1:2:3, of which the corner takes the second
-another_corner : refused (two_limit_check (here 10) two.RecRem clock data_event (three_limits (below_0 1 33) (amount 2 34) (amount 3 35)) (one_limit (amount 5 36)) None None None) ≡ []
+-- of a limit below 0 each signal bears a part, so with 3 of them it is below 2^58 in size
+weight_of_setuphold : weight_of 3 kind.Setuphold ≡ 4
+weight_of_setuphold = refl
+
+weight_of_skew : weight_of 3 kind.Skew ≡ 1
+weight_of_skew = refl
+
+too_heavy : refused_with 3 (a_setuphold (below_0 288230376151711744 33)) ≡ fault BadDelay (here 33) ∷ []
+too_heavy = refl
+
+not_too_heavy : refused_with 3 (a_setuphold (below_0 288230376151711743 33)) ≡ []
+not_too_heavy = refl
+
+too_long_by_itself : refused_with 0 (a_setuphold (amount 1152921504606846976 33)) ≡ fault BadDelay (here 33) ∷ []
+too_long_by_itself = refl
+
+-- 2^60:2:3, of which the corner takes the second
+another_corner : refused (two_limit_check (here 10) two.RecRem clock data_event (three_limits (below_0 1152921504606846976 33) (amount 2 34) (amount 3 35)) (one_limit (amount 5 36)) None None None) ≡ []
 another_corner = refl
 
--- $setuphold (posedge ck, d, 2, 5, , , , dck, dd); and with the second alone
+-- $setuphold (posedge ck, d, 2, 5, , , , dck, dd); with the second alone; and a check that takes no limit below 0
 abbrev delayed_to : Option Named → Option Named → Check
 delayed_to f g = two_limit_check (here 10) two.SetupHold clock data_event (one_limit (amount 2 33)) (one_limit (amount 5 34)) None f g
 
-both_delayed : refused (delayed_to (Some (name (codes "dck") 38)) (Some (name (codes "dd") 39))) ≡ fault NegativeLimit (here 38) ∷ fault NegativeLimit (here 39) ∷ []
-both_delayed = refl
+both_copies : check_copies flop (delayed_to (Some (name (codes "dck") 38)) (Some (name (codes "dd") 39)))
+    ≡ Some (record { signal = bit (codes "ck") 0; named = Some (bit (codes "dck") 0) }, record { signal = bit (codes "d") 0; named = Some (bit (codes "dd") 0) })
+both_copies = refl
 
-data_delayed : refused (delayed_to None (Some (name (codes "dd") 39))) ≡ fault NegativeLimit (here 39) ∷ []
-data_delayed = refl
+data_named : check_copies flop (delayed_to None (Some (name (codes "dd") 39)))
+    ≡ Some (record { signal = bit (codes "ck") 0; named = None }, record { signal = bit (codes "d") 0; named = Some (bit (codes "dd") 0) })
+data_named = refl
+
+no_copies : check_copies flop a_setup ≡ None
+no_copies = refl
 
 -- t:2:3, without a specparam t
 unknown_parameter : refused (period_check (here 10) clock (three_limits (record { negative = false; amount = a_parameter (name (codes "t") 33) }) (amount 2 34) (amount 3 35)) None) ≡ fault BadDelay (here 33) ∷ []
