@@ -45,6 +45,7 @@ a_use = record {
   limits = pos 2 ∷ [];
   threshold = 0;
   notifier = Some 3;
+  lates = None;
 }
 
 over_nets : check_uses alone latch Typ ≡ a_use ∷ []
