@@ -1,20 +1,22 @@
 -- The nets are distinct: the tests of spots, and the nets of variables.
-use Rattle.std.specs.Prelude.{◌≡◌, ℕ, ◌==◌, List, [], ◌∷◌, Bool, true, false, ◌&&◌, ◌||◌, flat_map, refl, if◌then◌else◌, bytes_eq}
+use Rattle.std.specs.Prelude.{◌≡◌, ℕ, ◌==◌, List, [], ◌∷◌, Bool, true, false, ◌&&◌, filter, flat_map, map, refl, if◌then◌else◌, bytes_eq}
 use Rattle.std.specs.List.{AllByRecursion}
 use Rattle.std.specs.Bool.{one_answer}
-use Rattle.std.proofs.Common.{sym, ◌∙◌}
+use Rattle.std.proofs.Common.{sym, ◌∙◌, ap, subst}
 use Rattle.std.proofs.lemmas.Bool.{eq-eqb, eqb-true}
 use Rattle.std.proofs.lemmas.Slice.Eq.{bytes_eq-Decides}
 use Rattle.elab_laws.proofs.Ends.{AreOtherBits}
+use Rattle.elab_laws.proofs.Firsts.{firsts, firsts-apart}
 use Rattle.elab_laws.proofs.Lists.{In, all-in, all-flat, all-weaker, all-anyway, Pairwise, Cross, pairwise-flat, pairwise-map, range-apart}
 use Rattle.elab_model.specs.Bits.{index_at, positions}
 use Rattle.elab_model.specs.Ends.{first_ends}
 use Rattle.elab_model.specs.Hierarchy.{Instance}
-use Rattle.elab_model.specs.Homes.{Spot, bit, outside, terminal, inner, is_same_spot, home_of}
+use Rattle.elab_model.specs.Homes.{Spot, bit, outside, terminal, inner, late, is_same_spot, home_of}
+use Rattle.elab_model.specs.Lates.{own_copies, is_unnamed}
 use Rattle.elab_model.specs.Members.{Member}
 use Rattle.elab_model.specs.Names.{Variable, variable, variables, variable_names, is_among, first_of_each}
 use Rattle.elab_model.specs.Nets.{OwnNet, bit_net, variable_nets}
-use Rattle.elab_model.specs.Terms.{NetBit}
+use Rattle.elab_model.specs.Terms.{NetBit, is_same_bit}
 use Rattle.sg_circuit.specs.Closed.{width_of}
 use Rattle.vl_tree.specs.Tree.{Module, Source}
 
@@ -31,21 +33,28 @@ scope_of_spot (bit s n p) = s
 scope_of_spot (outside s k n p) = s
 scope_of_spot (terminal s k i) = s
 scope_of_spot (inner s n p) = s
+scope_of_spot (late s n p) = s
 
 abbrev pub at_bit : List ℕ → ℕ → NetBit
 at_bit n p = record { name = n; position = p }
+
+-- the bits of which a member is the first to ask for a copy that no text names
+abbrev pub late_bits : Module → ℕ × Member → List NetBit
+late_bits m x = map (λ c. c.1.signal) (filter is_unnamed (own_copies m x))
 
 abbrev pub IsOfPart : Module → ℕ × Member → Spot → Type 0
 IsOfPart m x (bit s n p) = ⊥
 IsOfPart m x (outside s l n p) = l ≡ x.0
 IsOfPart m x (terminal s l i) = l ≡ x.0
 IsOfPart m x (inner s n p) = In (at_bit n p) (first_ends m x)
+IsOfPart m x (late s n p) = In (at_bit n p) (late_bits m x)
 
 abbrev pub IsBit : Spot → Type 0
 IsBit (bit s n p) = Unit {0}
 IsBit (outside s l n p) = ⊥
 IsBit (terminal s l i) = ⊥
 IsBit (inner s n p) = ⊥
+IsBit (late s n p) = ⊥
 
 pub and-false : (a b : Bool) → b ≡ false → (a && b) ≡ false
 and-false true b e = e
@@ -56,6 +65,7 @@ scopes-tell (bit s n p) (bit t m q) e = rw e refl
 scopes-tell (outside s k n p) (outside t l m q) e = rw e refl
 scopes-tell (terminal s k i) (terminal t l j) e = rw e refl
 scopes-tell (inner s n p) (inner t m q) e = rw e refl
+scopes-tell (late s n p) (late t m q) e = rw e refl
 scopes-tell (bit s n p) (outside t l m q) e = refl
 scopes-tell (bit s n p) (terminal t l j) e = refl
 scopes-tell (bit s n p) (inner t m q) e = refl
@@ -68,10 +78,21 @@ scopes-tell (terminal s k i) (inner t m q) e = refl
 scopes-tell (inner s n p) (bit t m q) e = refl
 scopes-tell (inner s n p) (outside t l m q) e = refl
 scopes-tell (inner s n p) (terminal t l j) e = refl
+scopes-tell (bit s n p) (late t m q) e = refl
+scopes-tell (outside s k n p) (late t m q) e = refl
+scopes-tell (terminal s k i) (late t m q) e = refl
+scopes-tell (inner s n p) (late t m q) e = refl
+scopes-tell (late s n p) (bit t m q) e = refl
+scopes-tell (late s n p) (outside t l m q) e = refl
+scopes-tell (late s n p) (terminal t l j) e = refl
+scopes-tell (late s n p) (inner t m q) e = refl
 
--- two members, which are the first to lead to different bits
+-- two members, which are the first to lead to different bits, and to ask for copies of different bits
 abbrev pub AreOtherParts : Module → ℕ × Member → ℕ × Member → Type 0
-AreOtherParts d x y = ((x.0 == y.0) ≡ false) × Cross AreOtherBits (first_ends d x) (first_ends d y)
+AreOtherParts d x y = ((x.0 == y.0) ≡ false) × (Cross AreOtherBits (first_ends d x) (first_ends d y) × Cross AreOtherBits (late_bits d x) (late_bits d y))
+
+cross-tell : (b c : NetBit) (bs cs : List NetBit) → Cross AreOtherBits bs cs → In b bs → In c cs → is_same_bit b c ≡ false
+cross-tell b c bs cs h i j = all-in (AreOtherBits b) c cs (all-in (λ b. AllByRecursion (AreOtherBits b) cs) b bs h i) j
 
 pub parts-tell : (d : Module) (x y : ℕ × Member) (a b : Spot) → AreOtherParts d x y → IsOfPart d x a → IsOfPart d y b → is_same_spot a b ≡ false
 parts-tell d x y (bit s n p) b e h g = absurd h
@@ -81,23 +102,33 @@ parts-tell d x y (inner s n p) (bit t m q) e h g = absurd g
 parts-tell d x y (outside s k n p) (outside t l m q) e h g = rw (h, g, e.0) (and-false (s == t) false refl)
 parts-tell d x y (terminal s k i) (terminal t l j) e h g = rw (h, g, e.0) (and-false (s == t) false refl)
 parts-tell d x y (inner s n p) (inner t m q) e h g =
-    and-false (s == t) (bytes_eq n m && p == q)
-    (all-in (AreOtherBits (at_bit n p)) (at_bit m q) (first_ends d y) (all-in (λ c. AllByRecursion (AreOtherBits c) (first_ends d y)) (at_bit n p) (first_ends d x) e.1 h) g)
+    and-false (s == t) (bytes_eq n m && p == q) (cross-tell (at_bit n p) (at_bit m q) (first_ends d x) (first_ends d y) e.1.0 h g)
+parts-tell d x y (late s n p) (bit t m q) e h g = absurd g
+parts-tell d x y (late s n p) (late t m q) e h g =
+    and-false (s == t) (bytes_eq n m && p == q) (cross-tell (at_bit n p) (at_bit m q) (late_bits d x) (late_bits d y) e.1.1 h g)
 parts-tell d x y (outside s k n p) (terminal t l j) e h g = refl
 parts-tell d x y (outside s k n p) (inner t m q) e h g = refl
 parts-tell d x y (terminal s k i) (outside t l m q) e h g = refl
 parts-tell d x y (terminal s k i) (inner t m q) e h g = refl
 parts-tell d x y (inner s n p) (outside t l m q) e h g = refl
 parts-tell d x y (inner s n p) (terminal t l j) e h g = refl
+parts-tell d x y (outside s k n p) (late t m q) e h g = refl
+parts-tell d x y (terminal s k i) (late t m q) e h g = refl
+parts-tell d x y (inner s n p) (late t m q) e h g = refl
+parts-tell d x y (late s n p) (outside t l m q) e h g = refl
+parts-tell d x y (late s n p) (terminal t l j) e h g = refl
+parts-tell d x y (late s n p) (inner t m q) e h g = refl
 
 pub bits-tell : (d : Module) (x : ℕ × Member) (a b : Spot) → IsBit a → IsOfPart d x b → is_same_spot a b ≡ false
 bits-tell d x (bit s n p) (bit t m q) h g = absurd g
 bits-tell d x (bit s n p) (outside t l m q) h g = refl
 bits-tell d x (bit s n p) (terminal t l j) h g = refl
 bits-tell d x (bit s n p) (inner t m q) h g = refl
+bits-tell d x (bit s n p) (late t m q) h g = refl
 bits-tell d x (outside s l n p) b h g = absurd h
 bits-tell d x (terminal s l i) b h g = absurd h
 bits-tell d x (inner s n p) b h g = absurd h
+bits-tell d x (late s n p) b h g = absurd h
 
 -- which way round makes no difference
 pub bytes-either : (a b : List ℕ) → bytes_eq a b ≡ bytes_eq b a
@@ -114,6 +145,7 @@ spots-either (bit s n p) (bit t m q) = rw (numbers-either s t, bytes-either n m,
 spots-either (outside s k n p) (outside t l m q) = rw (numbers-either s t, numbers-either k l, bytes-either n m, numbers-either p q) refl
 spots-either (terminal s k i) (terminal t l j) = rw (numbers-either s t, numbers-either k l, numbers-either i j) refl
 spots-either (inner s n p) (inner t m q) = rw (numbers-either s t, bytes-either n m, numbers-either p q) refl
+spots-either (late s n p) (late t m q) = rw (numbers-either s t, bytes-either n m, numbers-either p q) refl
 spots-either (bit s n p) (outside t l m q) = refl
 spots-either (bit s n p) (terminal t l j) = refl
 spots-either (bit s n p) (inner t m q) = refl
@@ -126,6 +158,14 @@ spots-either (terminal s k i) (inner t m q) = refl
 spots-either (inner s n p) (bit t m q) = refl
 spots-either (inner s n p) (outside t l m q) = refl
 spots-either (inner s n p) (terminal t l j) = refl
+spots-either (bit s n p) (late t m q) = refl
+spots-either (outside s k n p) (late t m q) = refl
+spots-either (terminal s k i) (late t m q) = refl
+spots-either (inner s n p) (late t m q) = refl
+spots-either (late s n p) (bit t m q) = refl
+spots-either (late s n p) (outside t l m q) = refl
+spots-either (late s n p) (terminal t l j) = refl
+spots-either (late s n p) (inner t m q) = refl
 
 -- ---- the bits of variables
 
@@ -163,39 +203,14 @@ names-tell : (s : ℕ) (n m : List ℕ) → bytes_eq n m ≡ false → (a b : Ow
 names-tell s n m e a b (p, h) (q, g) = rw (h, g, e) (and-false (s == s) false refl)
 
 -- each name once
-pub first-new : (seen ns : List (List ℕ)) → AllByRecursion (λ n. is_among n seen ≡ false) (first_of_each seen ns)
-first-new seen [] = tt
-first-new seen (n ∷ ns) = by (is_among n seen) refl (first-new seen ns) (first-new (n ∷ seen) ns)
-  where
-    weaker : (m n : List ℕ) (seen : List (List ℕ)) → is_among m (n ∷ seen) ≡ false → is_among m seen ≡ false
-    weaker m n seen h = by (bytes_eq m n) (is_among m seen) h
-      where
-        by : (a b : Bool) → (a || b) ≡ false → b ≡ false
-        by true b h = cc
-        by false b h = h
-
-    by : (b : Bool) → is_among n seen ≡ b → AllByRecursion (λ n. is_among n seen ≡ false) (first_of_each seen ns)
-        → AllByRecursion (λ m. is_among m (n ∷ seen) ≡ false) (first_of_each (n ∷ seen) ns)
-        → AllByRecursion (λ n. is_among n seen ≡ false) (if b then first_of_each seen ns else n ∷ first_of_each (n ∷ seen) ns)
-    by true e h g = h
-    by false e h g = (e, all-weaker (λ m. is_among m (n ∷ seen) ≡ false) (λ m. is_among m seen ≡ false) (first_of_each (n ∷ seen) ns) (λ m k. weaker m n seen k) g)
-
 pub first-apart : (seen ns : List (List ℕ)) → Pairwise (λ n m. bytes_eq n m ≡ false) (first_of_each seen ns)
-first-apart seen [] = tt
-first-apart seen (n ∷ ns) = by (is_among n seen) (first-apart seen ns) (first-apart (n ∷ seen) ns) (first-new (n ∷ seen) ns)
+first-apart seen ns = subst (Pairwise (λ n m. bytes_eq n m ≡ false)) (sym (names-are seen ns)) (firsts-apart bytes_eq bytes_eq-Decides (λ n. n) seen ns)
   where
-    differs : (m n : List ℕ) (seen : List (List ℕ)) → is_among m (n ∷ seen) ≡ false → bytes_eq n m ≡ false
-    differs m n seen h = bytes-either n m ∙ by (bytes_eq m n) (is_among m seen) h
-      where
-        by : (a b : Bool) → (a || b) ≡ false → a ≡ false
-        by true b h = cc
-        by false b h = refl
-
-    by : (b : Bool) → Pairwise (λ n m. bytes_eq n m ≡ false) (first_of_each seen ns) → Pairwise (λ n m. bytes_eq n m ≡ false) (first_of_each (n ∷ seen) ns)
-        → AllByRecursion (λ m. is_among m (n ∷ seen) ≡ false) (first_of_each (n ∷ seen) ns)
-        → Pairwise (λ n m. bytes_eq n m ≡ false) (if b then first_of_each seen ns else n ∷ first_of_each (n ∷ seen) ns)
-    by true h g k = h
-    by false h g k = (all-weaker (λ m. is_among m (n ∷ seen) ≡ false) (λ m. bytes_eq n m ≡ false) (first_of_each (n ∷ seen) ns) (λ m e. differs m n seen e) k, g)
+    names-are : (seen ns : List (List ℕ)) → first_of_each seen ns ≡ firsts bytes_eq (λ n. n) seen ns
+    names-are seen [] = refl
+    names-are seen (n ∷ ns) =
+        ap (λ ms. if is_among n seen then ms else n ∷ first_of_each (n ∷ seen) ns) (names-are seen ns)
+        ∙ ap (λ ms. if is_among n seen then firsts bytes_eq (λ n. n) seen ns else n ∷ ms) (names-are (n ∷ seen) ns)
 
 pub variables-apart : (m : Module) → Pairwise (λ v w. bytes_eq v.name w.name ≡ false) (variables m)
 variables-apart m = pairwise-map (λ v w. bytes_eq v.name w.name ≡ false) (variable m) (variable_names m) (first-apart [] _)

@@ -6,7 +6,7 @@ use Rattle.std.proofs.Common.{subst}
 use Rattle.sg_delay.specs.declared.corners.Corner.{Corner}
 use Rattle.vl_tree.specs.Tree.{Part, a_module, a_primitive, Connections, Module, Source}
 use Rattle.elab_model.specs.declared.kinds.ElabKind.TheVariants.{BadTerminal}
-use Rattle.elab_model.specs.Members.{Member, assignment, supply, gate, instance, path, members, connection_values}
+use Rattle.elab_model.specs.Members.{Member, assignment, supply, gate, instance, path, check, members, connection_values}
 use Rattle.elab_model.specs.Definitions.{definition_of, as_module}
 use Rattle.elab_model.specs.Ports.{port_list}
 use Rattle.elab_model.specs.Names.{Variable, variables}
@@ -14,7 +14,7 @@ use Rattle.elab_model.specs.Hierarchy.{Step, Instance, Child, child_of, child_of
 use Rattle.elab_model.specs.Connections.{port_values}
 use Rattle.elab_model.specs.Delays.{tick_of}
 use Rattle.elab_model.specs.Faults.{fault_if}
-use Rattle.elab_model.specs.NameFaults.{twice_in_list, two_directions, two_nets, two_instances, no_port, no_direction, name_faults, two_ranges, too_wide, declaration_faults}
+use Rattle.elab_model.specs.NameFaults.{no_direction, declaration_faults}
 use Rattle.elab_model.specs.TerminalFaults.{expression_faults, is_missing}
 use Rattle.elab_model.specs.ModuleFaults.{connection_faults, delay_on_module, instance_faults, member_faults, all_member_faults, module_faults}
 use Rattle.elab_laws.specs.Laws.{AreSound}
@@ -22,7 +22,7 @@ use Rattle.elab_laws.proofs.Lists.{In, all-in, all-weaker}
 use Rattle.elab_laws.proofs.PartsApart.{AreOnce, children-above}
 use Rattle.elab_laws.proofs.NetsApart.{ConnectedOnce}
 use Rattle.elab_laws.proofs.Once.{all-kept}
-use Rattle.elab_laws.proofs.NoFaults.{back, front, flat-empty, all-second, child-there, connected-once_all}
+use Rattle.elab_laws.proofs.NoFaults.{back, front, flat-empty, all-second, child-there, has-ports, connected-once_all}
 use Rattle.elab_laws.proofs.Ports.{FitsPort, values-fit}
 use Rattle.elab_laws.proofs.PortConstants.{IsConnected}
 
@@ -37,17 +37,12 @@ members-sound source corner tick m h = flat-empty (all_member_faults source corn
 abbrev Fits : List Variable → Module → Connections → Type 0
 Fits vs m x = no_direction m ≡ [] → AllByRecursion (FitsPort vs m) (port_values x (port_list m))
 
--- a module without faults in its declarations has a direction for each port
-directions : (m : Module) → declaration_faults m ≡ [] → no_direction m ≡ []
-directions m h =
-    let each = flat-empty (λ fs. fs) (twice_in_list m ∷ two_directions m ∷ two_nets m ∷ two_instances m ∷ no_port m ∷ no_direction m ∷ []) (front (name_faults m) (two_ranges m ++ too_wide m) h) in
-    each.1.1.1.1.1.0
-
 part-fits : (source : Source) (corner : Corner) (tick : ℤ) (m : Module) (k : ℕ) (p : Member) → all_member_faults source corner tick m p ≡ [] → (y : Child) → child_of_member source k p ≡ Some y → Fits (variables m) y.definition y.connections
 part-fits source corner tick m k (assignment j) h y e = cc
 part-fits source corner tick m k (supply n v) h y e = cc
 part-fits source corner tick m k (gate g d i) h y e = cc
 part-fits source corner tick m k (path p) h y e = cc
+part-fits source corner tick m k (check t) h y e = cc
 part-fits source corner tick m k (instance n d i) h y e =
     by (definition_of source n.text) (back (flat_map (expression_faults (variables m)) (connection_values i.connections)) (member_faults source corner tick m (variables m) (instance n d i)) h) e
   where
@@ -90,7 +85,7 @@ is-connected source top corner sound s c there child =
     let once = all-in (ConnectedOnce source) s (instances source top) (connected-once_all source top corner sound) there in
     let among = child-there source levels_below_top (top_instance top) s c refl there child in
     let below = all-in (λ s. module_faults source corner tick s.step.definition ≡ []) c (instances source top) sound among in
-    let directed = directions c.step.definition (front (declaration_faults c.step.definition) _ below) in
+    let directed = (has-ports c.step.definition (front (declaration_faults c.step.definition) _ below)).directed in
     let fit = children-fit source corner tick s (members-sound source corner tick s.step.definition own) in
     record {
       there = there;

@@ -6,12 +6,12 @@ use Rattle.std.specs.Bool.{one_answer}
 use Rattle.std.proofs.Common.{sym, ◌∙◌, ap, arith, inl, inr, subst, append_assoc, length-append}
 use Rattle.std.proofs.lemmas.Bool.{eq-eqb, eqb-true}
 use Rattle.std.proofs.lemmas.Slice.Eq.{bytes_eq-Decides}
-use Rattle.elab_laws.proofs.Ends.{and-both}
+use Rattle.elab_laws.proofs.Firsts.{and-both}
 use Rattle.elab_laws.proofs.Lists.{In}
 use Rattle.elab_laws.proofs.Homes.{Owns, spot-same}
 use Rattle.elab_laws.proofs.Apart.{AreApart}
 use Rattle.elab_laws.proofs.NetsApart.{number-count}
-use Rattle.elab_model.specs.Homes.{Spot, bit, outside, terminal, inner, is_same_spot}
+use Rattle.elab_model.specs.Homes.{Spot, bit, outside, terminal, inner, late, is_same_spot}
 use Rattle.elab_model.specs.Nets.{OwnNet, number_of}
 
 pub spots-decide : (a b : Spot) → is_same_spot a b ≡ true → a ≡ b
@@ -45,6 +45,13 @@ spots-decide (inner s n p) (inner t m q) h =
     let f : n ≡ m = (bytes_eq-Decides n m).0 y.0 in
     let g : p ≡ q = eqb-true p q y.1 in
     λ i. inner (e i) (f i) (g i)
+spots-decide (late s n p) (late t m q) h =
+    let x = and-both (s == t) (bytes_eq n m && p == q) h in
+    let y = and-both (bytes_eq n m) (p == q) x.1 in
+    let e : s ≡ t = eqb-true s t x.0 in
+    let f : n ≡ m = (bytes_eq-Decides n m).0 y.0 in
+    let g : p ≡ q = eqb-true p q y.1 in
+    λ i. late (e i) (f i) (g i)
 spots-decide (bit s n p) (outside t l m q) h = cc
 spots-decide (bit s n p) (terminal t l j) h = cc
 spots-decide (bit s n p) (inner t m q) h = cc
@@ -57,6 +64,14 @@ spots-decide (terminal s k i) (inner t m q) h = cc
 spots-decide (inner s n p) (bit t m q) h = cc
 spots-decide (inner s n p) (outside t l m q) h = cc
 spots-decide (inner s n p) (terminal t l j) h = cc
+spots-decide (bit s n p) (late t m q) h = cc
+spots-decide (outside s k n p) (late t m q) h = cc
+spots-decide (terminal s k i) (late t m q) h = cc
+spots-decide (inner s n p) (late t m q) h = cc
+spots-decide (late s n p) (bit t m q) h = cc
+spots-decide (late s n p) (outside t l m q) h = cc
+spots-decide (late s n p) (terminal t l j) h = cc
+spots-decide (late s n p) (inner t m q) h = cc
 
 -- what stands at the number of a net
 pub record StandsAt (spot : Spot) (os : List OwnNet) (k : ℕ) : Type 0 where

@@ -11,7 +11,7 @@ use Rattle.elab_laws.proofs.Places.{HasBit}
 use Rattle.elab_laws.proofs.Chains.{home-stops, at_step, chain-there}
 use Rattle.elab_model.specs.Bits.{index_at, positions}
 use Rattle.elab_model.specs.Hierarchy.{Instance, instances}
-use Rattle.elab_model.specs.Homes.{Spot, bit, outside, terminal, inner, is_same_spot, home_of}
+use Rattle.elab_model.specs.Homes.{Spot, bit, outside, terminal, inner, late, is_same_spot, home_of}
 use Rattle.elab_model.specs.Names.{Variable, variables}
 use Rattle.elab_model.specs.Nets.{OwnNet, bit_net, variable_nets, nets_of, number_of, nets}
 use Rattle.sg_circuit.specs.Closed.{width_of}
@@ -23,6 +23,7 @@ spot-same (bit s n p) = rw (eq-eqb s s refl, (bytes_eq-Decides n n).1 refl, eq-e
 spot-same (outside s k n p) = rw (eq-eqb s s refl, eq-eqb k k refl, (bytes_eq-Decides n n).1 refl, eq-eqb p p refl) refl
 spot-same (terminal s k i) = rw (eq-eqb s s refl, eq-eqb k k refl, eq-eqb i i refl) refl
 spot-same (inner s n p) = rw (eq-eqb s s refl, (bytes_eq-Decides n n).1 refl, eq-eqb p p refl) refl
+spot-same (late s n p) = rw (eq-eqb s s refl, (bytes_eq-Decides n n).1 refl, eq-eqb p p refl) refl
 
 owned-there : (source : Source) (s : Instance) (v : Variable) (p : ℕ) → home_of source s v.name p ≡ bit s.step.number v.name p → Owns (bit s.step.number v.name p) (bit_net source s v p)
 owned-there source s v p e =

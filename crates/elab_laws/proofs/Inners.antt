@@ -4,7 +4,7 @@ use Rattle.std.specs.List.{enumerate_from}
 use Rattle.std.proofs.Common.{refl}
 use Rattle.elab_model.specs.Ends.{first_ends}
 use Rattle.elab_model.specs.Hierarchy.{Instance}
-use Rattle.elab_model.specs.Members.{Member, assignment, supply, gate, instance, path, members}
+use Rattle.elab_model.specs.Members.{Member, assignment, supply, gate, instance, path, check, members}
 use Rattle.elab_model.specs.Nets.{inner_net, member_nets}
 use Rattle.elab_model.specs.Terms.{NetBit}
 use Rattle.elab_laws.specs.NumberLaws.{InnersHaveNets}
@@ -17,6 +17,7 @@ in-path source s b (k, assignment j) h = absurd h
 in-path source s b (k, supply n v) h = absurd h
 in-path source s b (k, gate g d i) h = absurd h
 in-path source s b (k, instance n d i) h = absurd h
+in-path source s b (k, check t) h = absurd h
 in-path source s b (k, path p) h = in-map (inner_net s) b (first_ends s.step.definition (k, path p)) h
 
 pub inners-have_nets : InnersHaveNets

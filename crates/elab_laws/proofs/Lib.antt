@@ -1,6 +1,9 @@
 -- The modules of this folder.
 pub mod Lists
+pub mod Filters
+pub mod Firsts
 pub mod Ends
+pub mod Copies
 pub mod Numbers
 pub mod Widths
 pub mod Places
@@ -8,6 +11,7 @@ pub mod Chains
 pub mod Homes
 pub mod Apart
 pub mod PartsApart
+pub mod LateBits
 pub mod NetsApart
 pub mod Handed
 pub mod Drivers
@@ -16,12 +20,15 @@ pub mod NoFaults
 pub mod GivenBits
 pub mod Terminals
 pub mod EndBits
+pub mod CopyBits
 pub mod Outside
 pub mod Inners
 pub mod LegSources
 pub mod Stated
 pub mod HaveNets
 pub mod DrivenNets
+pub mod LateNets
+pub mod LatesInOrder
 pub mod Parents
 pub mod Legs
 pub mod Passes

@@ -8,7 +8,7 @@ use Rattle.sg_logic.specs.Gate.{most_delays}
 use Rattle.sg_logic.specs.declared.gates.GateKind.{GateKind}
 use Rattle.vl_tree.specs.Tree.{Part, a_module, a_primitive, Primitive, GateInstance, Instance as instance_text, Delay, Named, Module, Source}
 use Rattle.elab_model.specs.declared.kinds.ElabKind.TheVariants.{BadTerminal}
-use Rattle.elab_model.specs.Members.{Member, assignment, supply, gate, instance, path, members, connection_values}
+use Rattle.elab_model.specs.Members.{Member, assignment, supply, gate, instance, path, check, members, connection_values}
 use Rattle.elab_model.specs.Definitions.{definition_of}
 use Rattle.elab_model.specs.Names.{variables}
 use Rattle.elab_model.specs.Hierarchy.{Instance, children, instances}
@@ -29,6 +29,7 @@ use Rattle.elab_laws.proofs.HaveNets.{HaveNets, all-flat_from}
 use Rattle.elab_laws.proofs.Legs.{legs-have}
 use Rattle.elab_laws.proofs.Passes.{assignment-has, supply-has}
 use Rattle.elab_laws.proofs.DrivenNets.{paths-have}
+use Rattle.elab_laws.proofs.LateNets.{lates-have}
 use Rattle.elab_laws.proofs.ElementWidths.{no-fault}
 use Rattle.elab_laws.proofs.Gates.{AreTerminals, terminals-have, has-output}
 use Rattle.elab_laws.proofs.PortConstants.{child-has}
@@ -88,6 +89,7 @@ member-has source top corner sound s k (assignment j) there member h = assignmen
 member-has source top corner sound s k (supply n v) there member h = supply-has source top s n v there
 member-has source top corner sound s k (gate g d i) there member h = gate-has source top corner (tick_of source top) s k g d i there member h
 member-has source top corner sound s k (path p) there member h = paths-have source top s p.place (k, path p) there member
+member-has source top corner sound s k (check t) there member h = lates-have source top s (k, check t) there member
 member-has source top corner sound s k (instance n d i) there member h =
     let values = flat_map (expression_faults (variables s.step.definition)) (connection_values i.connections) in
     let own = member_faults source corner (tick_of source top) s.step.definition (variables s.step.definition) (instance n d i) in

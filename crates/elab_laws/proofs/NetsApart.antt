@@ -1,5 +1,5 @@
 -- The nets of constants at a leaf's inputs, of members and of instances are distinct; the number of a net is how many come before it.
-use Rattle.std.specs.Prelude.{◌≡◌, ℕ, ◌==◌, List, [], ◌∷◌, ◌++◌, Bool, true, false, Some, flat_map, slice_get, length, refl, if◌then◌else◌, bytes_eq}
+use Rattle.std.specs.Prelude.{◌≡◌, ℕ, ◌==◌, List, [], ◌∷◌, ◌++◌, Bool, true, false, Some, filter, flat_map, slice_get, length, refl, if◌then◌else◌, bytes_eq}
 use Rattle.std.specs.List.{AllByRecursion, enumerate_from}
 use Rattle.std.specs.Option.{option_and_then}
 use Rattle.std.proofs.Common.{sym, ◌∙◌, ap, inl, inr, subst}
@@ -11,9 +11,10 @@ use Rattle.elab_model.specs.Members.{connection_values}
 use Rattle.elab_model.specs.Nets.{instance_nets, terminal_nets}
 use Rattle.elab_laws.proofs.Ends.{AreOtherBits, first_bits-apart, path_ends-apart}
 use Rattle.elab_laws.proofs.Numbers.{AreOther, number-after, number, numbers-are-places}
-use Rattle.elab_laws.proofs.Lists.{In, all-in, all-append, all-flat, all-flat_in, all-from, all-map, all-weaker, all-anyway, Pairwise, Cross, pairwise-append, cross-by, pairwise-both, pairwise-flat, pairwise-map, pairwise-map_back, pairwise-pieces, pairwise-weaker, range-apart, enumerate-apart}
+use Rattle.elab_laws.proofs.LateBits.{late_bits-apart, late_bits-cross}
+use Rattle.elab_laws.proofs.Lists.{In, in-map, all-in, all-append, all-flat, all-flat_in, all-from, all-map, all-weaker, all-anyway, Pairwise, Cross, pairwise-append, cross-by, pairwise-both, pairwise-flat, pairwise-map, pairwise-map_back, pairwise-pieces, pairwise-weaker, range-apart, enumerate-apart}
 use Rattle.elab_laws.proofs.Homes.{spot-same}
-use Rattle.elab_laws.proofs.Apart.{Other, AreApart, scope_of_spot, IsOfPart, AreOtherParts, IsBit, and-false, scopes-tell, parts-tell, bits-tell, spots-either, IsBitAt, owned-bit, variable_nets-apart}
+use Rattle.elab_laws.proofs.Apart.{Other, AreApart, scope_of_spot, late_bits, IsOfPart, AreOtherParts, IsBit, and-false, scopes-tell, parts-tell, bits-tell, spots-either, IsBitAt, owned-bit, variable_nets-apart}
 use Rattle.elab_laws.proofs.PartsApart.{all-if, pairwise-if, places-are, children-above, child_at-one, child_at-all, gate_nets-apart, IsTerminal, terminal-is, AreOnce, IsOutside, IsUnbound, IsBound, outside-tell, bound-tell, both-false, unbound-apart, unbound-all}
 use Rattle.elab_model.specs.Bits.{Bit, net, constant, bits, positions}
 use Rattle.elab_model.specs.Connections.{connection_at, port_values}
@@ -21,9 +22,10 @@ use Rattle.elab_model.specs.Elements.{output_bits, input_bits, output_count, chi
 use Rattle.elab_model.specs.Ends.{ends, first_ends}
 use Rattle.elab_model.specs.Hierarchy.{Instance, instances, children, size, levels_below_top}
 use Rattle.elab_model.specs.Homes.{has_leg}
-use Rattle.elab_model.specs.Members.{Member, assignment, supply, gate, instance, path, members}
+use Rattle.elab_model.specs.Lates.{is_unnamed, own_copies}
+use Rattle.elab_model.specs.Members.{Member, assignment, supply, gate, instance, path, check, members}
 use Rattle.elab_model.specs.Names.{variable, variables}
-use Rattle.elab_model.specs.Nets.{OwnNet, bit_net, variable_nets, terminal_net, inner_net, is_unbound, unbound_nets, constant_net, constant_nets, member_nets, nets_of, number_of, nets}
+use Rattle.elab_model.specs.Nets.{OwnNet, bit_net, variable_nets, terminal_net, inner_net, late_net, is_unbound, unbound_nets, constant_net, constant_nets, member_nets, nets_of, number_of, nets}
 use Rattle.elab_model.specs.Ports.{port_list}
 use Rattle.elab_model.specs.Terms.{is_same_bit}
 use Rattle.vl_tree.specs.Tree.{Module, Expression, Source}
@@ -110,6 +112,12 @@ part-apart source s once (k, path p) =
     pairwise-map Other (inner_net s) es
     (pairwise-weaker AreOtherBits (λ b c. Other (inner_net s b) (inner_net s c)) es
     (λ b c e. and-false (s.step.number == s.step.number) (is_same_bit b c) e) (first_bits-apart _ (ends s.step.definition (path p))))
+part-apart source s once (k, check c) =
+    let cs = filter is_unnamed (own_copies s.step.definition (k, check c)) in
+    pairwise-map Other (λ c. late_net s c.1.signal) cs
+    (pairwise-weaker (λ c d. AreOtherBits c.1.signal d.1.signal) (λ c d. Other (late_net s c.1.signal) (late_net s d.1.signal)) cs
+    (λ c d e. and-false (s.step.number == s.step.number) (is_same_bit c.1.signal d.1.signal) e)
+    (pairwise-map_back AreOtherBits (λ c. c.1.signal) cs (late_bits-apart s.step.definition (k, check c))))
 part-apart source s once (k, instance n d i) = by (definition_of source n.text)
   where
     by : (o : Option Part) → AreApart (instance_nets source s k i o)
@@ -157,6 +165,10 @@ part-is source s (k, gate g d i) = let outputs = output_count g (length i.termin
 part-is source s (k, path p) =
     let es = first_ends s.step.definition (k, path p) in
     all-map (IsInPart s (k, path p)) (inner_net s) es (all-from (λ b. IsInPart s (k, path p) (inner_net s b)) es (λ b h. (refl, h)))
+part-is source s (k, check c) =
+    let cs = filter is_unnamed (own_copies s.step.definition (k, check c)) in
+    all-map (IsInPart s (k, check c)) (λ c. late_net s c.1.signal) cs
+    (all-from (λ d. IsInPart s (k, check c) (late_net s d.1.signal)) cs (λ d h. (refl, in-map (λ c. c.1.signal) d cs h)))
 part-is source s (k, instance n d i) = by (definition_of source n.text)
   where
     x : ℕ × Member
@@ -173,8 +185,11 @@ part-is source s (k, instance n d i) = by (definition_of source n.text)
 -- the members of a module are different parts
 parts-differ : (m : Module) → Pairwise (AreOtherParts m) (enumerate_from 0 (members m))
 parts-differ m =
-    pairwise-both (λ x y. (x.0 == y.0) ≡ false) (λ x y. Cross AreOtherBits (first_ends m x) (first_ends m y)) (enumerate_from 0 (members m))
-    (enumerate-apart 0 (members m)) (pairwise-pieces AreOtherBits (first_ends m) (enumerate_from 0 (members m)) (path_ends-apart m))
+    let xs = enumerate_from 0 (members m) in
+    pairwise-both (λ x y. (x.0 == y.0) ≡ false) (λ x y. Cross AreOtherBits (first_ends m x) (first_ends m y) × Cross AreOtherBits (late_bits m x) (late_bits m y)) xs
+    (enumerate-apart 0 (members m))
+    (pairwise-both (λ x y. Cross AreOtherBits (first_ends m x) (first_ends m y)) (λ x y. Cross AreOtherBits (late_bits m x) (late_bits m y)) xs
+    (pairwise-pieces AreOtherBits (first_ends m) xs (path_ends-apart m)) (late_bits-cross m))
 
 parts-apart : (source : Source) (s : Instance) → ConnectedOnce source s → AreApart (flat_map (member_nets source s) (enumerate_from 0 (members s.step.definition)))
 parts-apart source s once =

@@ -6,7 +6,7 @@ use Rattle.std.specs.Option.{option_and_then}
 use Rattle.vl_tree.specs.Tree.{Part, a_module, a_primitive}
 use Rattle.sg_text.specs.declared.places.Place.{Place}
 use Rattle.elab_model.specs.declared.kinds.ElabKind.TheVariants.{DuplicateName, BadTerminal}
-use Rattle.elab_model.specs.Members.{Member, assignment, supply, gate, instance, path, members, member_values}
+use Rattle.elab_model.specs.Members.{Member, assignment, supply, gate, instance, path, check, members, member_values}
 use Rattle.elab_model.specs.Definitions.{definition_of, as_module}
 use Rattle.elab_model.specs.Ports.{port_list}
 use Rattle.elab_model.specs.Names.{Variable, variables}
@@ -14,7 +14,7 @@ use Rattle.elab_model.specs.Hierarchy.{Step, Instance, Child, children_in, child
 use Rattle.elab_model.specs.Delays.{tick_of}
 use Rattle.elab_model.specs.Nets.{nets}
 use Rattle.elab_model.specs.Faults.{fault, fault_if, places_again, duplicates}
-use Rattle.elab_model.specs.NameFaults.{name_faults, declaration_faults, twice_in_list}
+use Rattle.elab_model.specs.NameFaults.{twice_in_list, two_directions, two_nets, two_instances, no_port, no_direction, name_faults, two_ranges, too_wide, declaration_faults}
 use Rattle.elab_model.specs.TerminalFaults.{expression_faults, is_missing}
 use Rattle.elab_model.specs.ModuleFaults.{connection_faults, delay_on_module, instance_faults, member_faults, all_member_faults, module_faults}
 use Rattle.elab_model.specs.HierarchyFaults.{instance_faults_below, self_instances}
@@ -69,8 +69,18 @@ abbrev pub NamesOnce : Connections → Type 0
 NamesOnce (by_order es) = Unit {0}
 NamesOnce (by_name cs) = places_again [] (map (λ c. c.port) cs) ≡ []
 
+-- what declarations without fault say of ports: none stands twice in the list, and each has a direction
+pub record HasPorts (m : Module) : Type 0 where
+  pub once : PortsOnce m
+  pub directed : no_direction m ≡ []
+
+pub has-ports : (m : Module) → declaration_faults m ≡ [] → HasPorts m
+has-ports m h =
+    let each = flat-empty (λ fs. fs) (twice_in_list m ∷ two_directions m ∷ two_nets m ∷ two_instances m ∷ no_port m ∷ no_direction m ∷ []) (front (name_faults m) (two_ranges m ++ too_wide m) h) in
+    record { once = map-empty (fault DuplicateName) (places_again [] (port_list m)) each.0; directed = each.1.1.1.1.1.0 }
+
 pub declared-once : (m : Module) → declaration_faults m ≡ [] → PortsOnce m
-declared-once m h = map-empty (fault DuplicateName) (places_again [] (port_list m)) (front (twice_in_list m) _ (front (name_faults m) _ h))
+declared-once m h = (has-ports m h).once
 
 pub connected-once : (vs : List Variable) (m : Module) (p : Place) (x : Connections) → connection_faults vs m p x ≡ [] → NamesOnce x
 connected-once vs m p (by_order es) h = tt
@@ -85,6 +95,7 @@ part-once source c tick m k (assignment j) h y e = cc
 part-once source c tick m k (supply n v) h y e = cc
 part-once source c tick m k (gate g d i) h y e = cc
 part-once source c tick m k (path p) h y e = cc
+part-once source c tick m k (check t) h y e = cc
 part-once source c tick m k (instance n d i) h y e = by (definition_of source n.text) h e
   where
     by : (o : Option Part) → instance_faults c tick m (variables m) d i o ≡ [] → child_of (option_and_then as_module o) k i ≡ Some y → NamesOnce y.connections

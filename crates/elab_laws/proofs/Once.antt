@@ -6,7 +6,7 @@ use Rattle.std.proofs.Common.{sym, ◌∙◌, ap, subst}
 use Rattle.std.proofs.lemmas.Slice.Eq.{bytes_eq-Decides}
 use Rattle.elab_laws.proofs.Lists.{all-weaker, Pairwise, pairwise-map_back}
 use Rattle.elab_laws.proofs.Apart.{bytes-either}
-use Rattle.elab_laws.proofs.Ends.{or-neither}
+use Rattle.elab_laws.proofs.Firsts.{or-neither}
 use Rattle.elab_laws.proofs.PartsApart.{AreOnce}
 use Rattle.elab_model.specs.Connections.{in_order, connection_at, port_values, with_port}
 use Rattle.elab_model.specs.Faults.{places_again}

@@ -6,7 +6,7 @@ use Rattle.std.proofs.Common.{sym, ◌∙◌, ap, arith, inl, inr, subst}
 use Rattle.std.proofs.lemmas.Bool.{eq-eqb}
 use Rattle.sg_circuit.specs.Closed.{width_of}
 use Rattle.vl_tree.specs.Tree.{Module, Source, Part, a_module, a_primitive}
-use Rattle.elab_model.specs.Members.{Member, assignment, supply, gate, instance, path, members}
+use Rattle.elab_model.specs.Members.{Member, assignment, supply, gate, instance, path, check, members}
 use Rattle.elab_model.specs.Definitions.{definition_of, as_module}
 use Rattle.elab_model.specs.Names.{Variable, variables}
 use Rattle.elab_model.specs.Bits.{positions}
@@ -59,6 +59,7 @@ member-is source s k (assignment j) i e = cc
 member-is source s k (supply n v) i e = cc
 member-is source s k (gate g d t) i e = cc
 member-is source s k (path p) i e = cc
+member-is source s k (check t) i e = cc
 member-is source s k (instance n d t) i e = by (definition_of source n.text) e
   where
     by : (o : Option Part) → child_of (option_and_then as_module o) k t ≡ Some i

@@ -6,7 +6,7 @@ use Rattle.std.proofs.lemmas.Bool.{eq-eqb, eqb-true}
 use Rattle.std.proofs.lemmas.Slice.Eq.{bytes_eq-Decides}
 use Rattle.elab_laws.proofs.Lists.{all-flat, all-flat_in, all-weaker, all-anyway, Pairwise, pairwise-flat, pairwise-map, pairwise-map_back, range-apart, enumerate-apart}
 use Rattle.elab_laws.proofs.Chains.{IsBelow, children-below}
-use Rattle.elab_laws.proofs.Ends.{and-both}
+use Rattle.elab_laws.proofs.Firsts.{and-both}
 use Rattle.elab_laws.proofs.Apart.{Other, AreApart, and-false, variables-apart}
 use Rattle.elab_model.specs.Bits.{Bit, net, constant, positions}
 use Rattle.elab_model.specs.Connections.{connection_at, port_values}
@@ -14,7 +14,7 @@ use Rattle.elab_model.specs.Definitions.{module_of}
 use Rattle.elab_model.specs.Elements.{child_at, bound_above}
 use Rattle.elab_model.specs.Hierarchy.{Step, Instance, Child, children_in, child_of_member, child_of, children, children_at, children_from, size}
 use Rattle.elab_model.specs.Homes.{outside, terminal, has_leg}
-use Rattle.elab_model.specs.Members.{Member, assignment, supply, gate, instance, path, members}
+use Rattle.elab_model.specs.Members.{Member, assignment, supply, gate, instance, path, check, members}
 use Rattle.elab_model.specs.Names.{Variable, variables}
 use Rattle.elab_model.specs.Nets.{OwnNet, terminal_net, terminal_nets, outside_net, is_unbound, unbound_net, unbound_nets}
 use Rattle.elab_model.specs.Ports.{port_list}
@@ -65,6 +65,7 @@ inner-at source (k, assignment j) = tt
 inner-at source (k, supply n v) = tt
 inner-at source (k, gate g d i) = tt
 inner-at source (k, path p) = tt
+inner-at source (k, check t) = tt
 inner-at source (k, instance n d i) = by (module_of source n.text)
   where
     by : (o : Option Module) → AllByRecursion (IsAt (k, instance n d i)) (option_items (child_of o k i))

@@ -5,3 +5,4 @@ pub mod Given
 pub mod Laws
 pub mod ElementLaws
 pub mod NumberLaws
+pub mod LateLaws

@@ -2,6 +2,7 @@
 #![tactic(auto)]
 
 ghost use Rattle.elab_laws.specs.ElementLaws.{DrivesHaveNets, ElementsHaveNets};
+ghost use Rattle.elab_laws.specs.LateLaws.{CopiesHaveNets, LatesAreInOrder};
 ghost use Rattle.elab_laws.specs.Laws.{BitsHaveNets, InstancesHavePlaces, NetsHavePlaces, NumbersAreHandedDown};
 ghost use Rattle.elab_laws.specs.NumberLaws.{DrivenIsNumbered, InnersHaveNets, MemberNetsHavePlaces, TerminalsAreNumbered};
 
@@ -53,4 +54,14 @@ pub fn inners_have_nets()
 /// Where no module has a fault, what is driven inside at a bit is found by the bit's number.
 pub fn driven_is_numbered()
     ensures { DrivenIsNumbered }
+{}
+
+/// The bit that a delayed copy of an instance copies is a net, and so is what the copy drives (IEEE 1364-2005, 15.8).
+pub fn copies_have_nets()
+    ensures { CopiesHaveNets }
+{}
+
+/// The elements that delay an instance's signals are one for each copy of its module, in the same order.
+pub fn lates_are_in_order()
+    ensures { LatesAreInOrder }
 {}
