@@ -21,14 +21,16 @@ use Rattle.vl_tree.specs.declared.modules.Module as code_module
 use Rattle.vl_tree.specs.declared.names.Name as code_name
 use Rattle.vl_tree.specs.declared.names.NetType.{NetType}
 use Rattle.vl_tree.specs.declared.names.Range.{Range}
-use Rattle.vl_tree.specs.Seen.{view_name, view_expression, view_delay, view_net_name, view_join, view_gate_instance, view_instance, view_item, view_module}
-use Rattle.vl_tree.specs.Tree.{Named, Expression, NetName, Join, SpecifyItem, specparams, a_path, pulse_style, a_check}
-use Rattle.elab_model.specs.Members.{assignment, supply, gate, instance, assignment_to, connection_values, member_of_item, members_of_item}
+use Rattle.vl_tree.specs.declared.specify.SpecifyBlock as code_block
+use Rattle.vl_tree.specs.declared.specify.SpecifyItem as code_specify_item
+use Rattle.vl_tree.specs.Seen.{view_name, view_expression, view_delay, view_net_name, view_join, view_gate_instance, view_instance, view_specify_item, view_item, view_module}
+use Rattle.vl_tree.specs.Tree.{Named, Expression, signal, NetName, Join, SpecifyItem, specparams, a_path, pulse_style, a_check}
+use Rattle.elab_model.specs.Members.{assignment, supply, gate, instance, check, assignment_to, listed, connection_values, member_of_item, members_of_item}
 use Rattle.elab_model.specs.Names.{variable_names, whole_names}
 use Rattle.elab_model.specs.Ports.{port_list, net_declarations}
 use Rattle.elab_declared.specs.declared.nets.NetDeclaration as code_declaration
 use Rattle.elab_declared.specs.Words.{view_net}
-use Rattle.elab_variables.specs.Naming.{key_texts, with_names, names_in, names_at_net, names_of_member, names_where}
+use Rattle.elab_variables.specs.Naming.{key_texts, with_names, names_in, names_at_net, names_listed, names_of_member, names_of_specify, names_where}
 use Rattle.elab_variables.proofs.WithNames.{with-none, with-both, all-new}
 
 of-nets : (ns : List NetName) → flat_map names_of_member (filter_map (λ n. assignment_to n.name n.value) ns) ≡ flat_map (λ n. names_at_net n.name.text n.value) ns
@@ -62,13 +64,33 @@ pub supplies-unnamed : (v : Value) (ns : List Named) → flat_map names_of_membe
 supplies-unnamed v [] = refl
 supplies-unnamed v (n ∷ ns) = supplies-unnamed v ns
 
--- paths name terms, which declare nothing
-pub paths-unnamed : (is : List SpecifyItem) → flat_map names_of_member (filter_map member_of_item is) ≡ []
-paths-unnamed [] = refl
-paths-unnamed (specparams p ps ∷ is) = paths-unnamed is
-paths-unnamed (a_path p ∷ is) = paths-unnamed is
-paths-unnamed (pulse_style p s ts ∷ is) = paths-unnamed is
-paths-unnamed (a_check c ∷ is) = paths-unnamed is
+-- ---- specify blocks
+
+of-specify : (is : List SpecifyItem) → flat_map names_of_member (filter_map member_of_item is) ≡ flat_map names_of_specify is
+of-specify [] = refl
+of-specify (specparams p ps ∷ is) = of-specify is
+of-specify (a_path p ∷ is) = of-specify is
+of-specify (pulse_style p s ts ∷ is) = of-specify is
+of-specify (a_check c ∷ is) = ap (λ ns. names_of_member (check c) ++ ns) (of-specify is)
+
+pub specify-named : (known after : List (List ℕ)) (x : code_item.Item) (b : code_block.SpecifyBlock) → x ≡ item.Specify b → (now : List code_specify_item.SpecifyItem) → now ≡ b.items.items
+    → after ≡ with_names known (flat_map (λ i. names_of_specify (view_specify_item i)) now) → after ≡ with_names known (flat_map names_of_member (members_of_item (view_item x)))
+specify-named known after x b is now same h =
+    as-item known after x (item.Specify b) (flat_map (λ i. names_of_specify (view_specify_item i)) now) is
+    (of-specify (map view_specify_item b.items.items) ∙ flat_map-map names_of_specify view_specify_item b.items.items ∙ ap (flat_map (λ i. names_of_specify (view_specify_item i))) (sym same)) h
+
+-- what has no name for a delayed copy
+pub none-given : {A : Type 0} (names : A → List (List ℕ)) (known : List (List ℕ)) (x v : A) → x ≡ v → names v ≡ [] → known ≡ with_names known (names x)
+none-given names known x v is e = with-none known ∙ ap (with_names known) (sym (ap names is ∙ e))
+
+pub some-given : {A : Type 0} (names : A → List (List ℕ)) (known after : List (List ℕ)) (x v : A) (ns : List (List ℕ)) → x ≡ v → names v ≡ ns → after ≡ with_names known ns → after ≡ with_names known (names x)
+some-given names known after x v ns is e h = h ∙ ap (with_names known) (sym (ap names is ∙ e))
+
+pub both-listed : (f g : Option Named) → flat_map names_in (map (λ n. signal n None) (listed f ++ listed g)) ≡ names_listed f ++ names_listed g
+both-listed None None = refl
+both-listed None (Some n) = refl
+both-listed (Some n) None = refl
+both-listed (Some n) (Some m) = refl
 
 pub nets-named : (known after : List (List ℕ)) (x : code_item.Item) (p : Place) (t : NetType) (r : Option Range) (ns : Vec code_net.NetName Global) → x ≡ item.Nets p t r ns
     → (now : List code_net.NetName) → now ≡ ns.items

@@ -1,9 +1,9 @@
 -- The names of variables, each once: what declares them, and what uses them whole.
 use Rattle.std.specs.Prelude.{ℕ, List, [], ◌∷◌, ◌++◌, Bool, if◌then◌else◌, Option, Some, None, map, flat_map}
 use Rattle.std.specs.Borrow.{Bor}
-use Rattle.vl_tree.specs.Tree.{Expression}
+use Rattle.vl_tree.specs.Tree.{Named, Expression, SpecifyItem, specparams, a_path, pulse_style, a_check}
 use Rattle.elab_model.specs.Leaves.{leaves}
-use Rattle.elab_model.specs.Members.{Member, member_values}
+use Rattle.elab_model.specs.Members.{Member, check, member_values}
 use Rattle.elab_model.specs.Names.{first_of_each, whole_name}
 
 abbrev pub key_texts : List (Bor (List ℕ)) → List (List ℕ)
@@ -28,6 +28,18 @@ names_at_net n (Some e) = n ∷ names_in e
 
 abbrev pub names_of_member : Member → List (List ℕ)
 names_of_member m = flat_map names_in (member_values m)
+
+-- a name that is given to a delayed copy, if one is
+abbrev pub names_listed : Option Named → List (List ℕ)
+names_listed None = []
+names_listed (Some n) = n.text ∷ []
+
+-- of what stands in a specify block, a timing check alone
+abbrev pub names_of_specify : SpecifyItem → List (List ℕ)
+names_of_specify (specparams p ps) = []
+names_of_specify (a_path p) = []
+names_of_specify (pulse_style p s ts) = []
+names_of_specify (a_check c) = names_of_member (check c)
 
 abbrev pub names_where : Bool → List (List ℕ) → List (List ℕ)
 names_where b names = if b then names else []

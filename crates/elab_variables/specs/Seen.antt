@@ -3,8 +3,8 @@ use Rattle.std.specs.Prelude.{ℕ, List, [], false, Option, None, option_map, sl
 use Rattle.std.specs.List.{position_from}
 use Rattle.sg_circuit.specs.declared.scopes.Port.TheVariants as port
 use Rattle.vl_tree.specs.Tree.{signal}
-use Rattle.vl_tree.specs.Seen.{view_name, view_expression, view_join, view_delay, view_gate_instance, view_instance, view_path}
-use Rattle.elab_model.specs.Members.{Member, assignment, supply, gate, instance, path}
+use Rattle.vl_tree.specs.Seen.{view_name, view_expression, view_join, view_delay, view_gate_instance, view_instance, view_path, view_check}
+use Rattle.elab_model.specs.Members.{Member, assignment, supply, gate, instance, path, check}
 use Rattle.elab_model.specs.Names.{Variable}
 use Rattle.elab_variables.specs.declared.member_list.Member as code_member
 use Rattle.elab_variables.specs.declared.member_list.Member.TheVariants as member
@@ -16,6 +16,7 @@ view_member (member.Supply n v) = supply (view_name n) v
 view_member (member.Gate g d i) = gate g (option_map view_delay d.now) (view_gate_instance i.now)
 view_member (member.Instance n d i) = instance (view_name n) (option_map view_delay d.now) (view_instance i.now)
 view_member (member.Path p) = path (view_path p.now)
+view_member (member.Check c) = check (view_check c.now)
 
 -- what stands at a place; past the end a blank
 abbrev pub variable_at : List Variable → ℕ → Variable

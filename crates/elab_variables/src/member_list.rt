@@ -9,8 +9,8 @@ use sg_logic::{GateKind, Value};
 use sg_text::NoMemory;
 use std::alloc::Global;
 use vl_tree::{
-    Delay, Expression, GateInstance, Instance, Item, Join, Module, Name, NetName, SpecifyItem,
-    SpecifyPath, Supply,
+    Check, Delay, Expression, GateInstance, Instance, Item, Join, Module, Name, NetName,
+    SpecifyItem, SpecifyPath, Supply,
 };
 
 /// A member of a module: what makes elements, or holds an instance.
@@ -42,6 +42,8 @@ pub enum Member<'t, 'a> {
     },
     /// A specify path (IEEE 1364-2005, 14.2).
     Path(&'t SpecifyPath<'a>),
+    /// A timing check (IEEE 1364-2005, 15.1).
+    Check(&'t Check<'a>),
 }
 
 /// The members of a module, in text order. Takes memory.
@@ -78,7 +80,7 @@ fn add_item<'t, 'a>(item: &'t Item<'a>, list: &mut Vec<Member<'t, 'a>>) -> Resul
         } => add_instances(*module, delay, instances, list),
         Item::Ports { .. } => Ok(()),
         Item::Registers { .. } => Ok(()),
-        Item::Specify(block) => add_paths(&block.items, list),
+        Item::Specify(block) => add_specify_items(&block.items, list),
     }
 }
 
@@ -176,26 +178,29 @@ fn add_instances<'t, 'a>(
     Ok(())
 }
 
-fn add_paths<'t, 'a>(
+fn add_specify_items<'t, 'a>(
     items: &'t [SpecifyItem<'a>],
     list: &mut Vec<Member<'t, 'a>>,
 ) -> Result<(), NoMemory>
     ensures { OnOk result (map view_member list.new.items ≡ map view_member list.old.items ++ filter_map def.member_of_item (map view_specify_item items.now)) }
 {
     for item in items {
-        add_path(item, list)?;
+        add_specify_item(item, list)?;
     }
     Ok(())
 }
 
-fn add_path<'t, 'a>(
+fn add_specify_item<'t, 'a>(
     item: &'t SpecifyItem<'a>,
     list: &mut Vec<Member<'t, 'a>>,
 ) -> Result<(), NoMemory>
     ensures { OnOk result (map view_member list.new.items ≡ map view_member list.old.items ++ option_to_list (def.member_of_item (view_specify_item item.now))) }
 {
-    if let SpecifyItem::Path(path) = item {
-        list.push(Member::Path(path))?;
+    match item {
+        SpecifyItem::Path(path) => list.push(Member::Path(path))?,
+        SpecifyItem::Check(check) => list.push(Member::Check(check))?,
+        SpecifyItem::Specparams { .. } => {}
+        SpecifyItem::PulseStyle { .. } => {}
     }
     Ok(())
 }

@@ -12,8 +12,8 @@ use indexmap::IndexSet;
 use sg_text::NoMemory;
 use std::alloc::Global;
 use vl_tree::{
-    Connections, Expression, GateInstance, Instance, Item, Join, Module, Name, NamedConnection,
-    NetName, Select,
+    Check, Connections, Expression, GateInstance, Instance, Item, Join, Module, Name,
+    NamedConnection, NetName, Select, SpecifyItem,
 };
 
 /// What names variables: it declares them, or uses them whole.
@@ -214,6 +214,62 @@ impl<'a> Naming<'a> for Instance<'a> {
     }
 }
 
+impl<'a> Naming<'a> for Option<Name<'a>> {
+    ghost use Rattle.std.specs.Prelude.{flat_map};
+    ghost use Rattle.std.specs.Option.{option_map};
+    ghost use Rattle.vl_tree.specs.Seen.{view_name};
+    ghost use Rattle.elab_variables.specs.Naming.{names_listed};
+
+    ghost names = { λ n. names_listed (option_map view_name n) };
+
+    fn add_to(&self, known: &mut IndexSet<&'a [u8]>) -> Result<(), NoMemory> {
+        match self {
+            Some(name) => add_name(name.text, known),
+            None => Ok(()),
+        }
+    }
+}
+
+impl<'a> Naming<'a> for Check<'a> {
+    ghost use Rattle.vl_tree.specs.Seen.{view_check};
+    ghost use Rattle.elab_model.specs.Members.{check};
+    ghost use Rattle.elab_variables.specs.Naming.{names_of_member};
+
+    ghost names = { λ c. names_of_member (check (view_check c)) };
+
+    fn add_to(&self, known: &mut IndexSet<&'a [u8]>) -> Result<(), NoMemory> {
+        match self {
+            Check::TwoLimits {
+                delayed_reference,
+                delayed_data,
+                ..
+            } => {
+                delayed_reference.add_to(known)?;
+                delayed_data.add_to(known)
+            }
+            Check::OneLimit { .. } => Ok(()),
+            Check::Width { .. } => Ok(()),
+            Check::Period { .. } => Ok(()),
+        }
+    }
+}
+
+impl<'a> Naming<'a> for SpecifyItem<'a> {
+    ghost use Rattle.vl_tree.specs.Seen.{view_specify_item};
+    ghost use Rattle.elab_variables.specs.Naming.{names_of_specify};
+
+    ghost names = { λ i. names_of_specify (view_specify_item i) };
+
+    fn add_to(&self, known: &mut IndexSet<&'a [u8]>) -> Result<(), NoMemory> {
+        match self {
+            SpecifyItem::Check(check) => check.add_to(known),
+            SpecifyItem::Specparams { .. } => Ok(()),
+            SpecifyItem::Path(_) => Ok(()),
+            SpecifyItem::PulseStyle { .. } => Ok(()),
+        }
+    }
+}
+
 impl<'a> Naming<'a> for Item<'a> {
     ghost use Rattle.std.specs.Prelude.{flat_map};
     ghost use Rattle.vl_tree.specs.Seen.{view_item};
@@ -231,7 +287,7 @@ impl<'a> Naming<'a> for Item<'a> {
             Item::Ports { .. } => Ok(()),
             Item::Supplies { .. } => Ok(()),
             Item::Registers { .. } => Ok(()),
-            Item::Specify(_) => Ok(()),
+            Item::Specify(block) => add_all(&block.items, known),
         }
     }
 }

@@ -1,9 +1,9 @@
 -- The names that each kind of item uses.
 use Rattle.std.proofs.lemmas.Result.{on_ok_weaker}
 use Rattle.elab_variables.specs.Naming.{key_texts}
-use Rattle.elab_variables.proofs.ItemNames.{nets-named, assigns-named, gates-named, instances-named, unnamed, supplies-unnamed, paths-unnamed}
+use Rattle.elab_variables.proofs.ItemNames.{nets-named, assigns-named, gates-named, instances-named, unnamed, specify-named, supplies-unnamed}
 use Rattle.std.proofs.Common.{refl, map}
-use Rattle.vl_tree.specs.Seen.{view_name, view_specify_item}
+use Rattle.vl_tree.specs.Seen.{view_name}
 use Rattle.elab_model.specs.Members.{supply_value}
 use Rattle.elab_variables.proofs.naming.ItemNaming.add_to.Goals as goal
 
@@ -37,4 +37,6 @@ pub returns-in-Registers : goal.returns-in-Registers
 returns-in-Registers c = unnamed (key_texts c.args.known.now.keys) c.args.self.now _ c.in-Registers.is refl
 
 pub returns-in-Specify : goal.returns-in-Specify
-returns-in-Specify c = unnamed (key_texts c.args.known.now.keys) c.args.self.now _ c.in-Specify.is (paths-unnamed (map view_specify_item c.in-Specify.field-0.items.items))
+returns-in-Specify c =
+    on_ok_weaker c.add_all-in-Specify.result (specify-named (key_texts c.args.known.now.keys) _ c.args.self.now c.in-Specify.block c.in-Specify.is c.deref-in-Specify.result.now
+    c.deref-in-Specify.ensures.value) c.add_all-in-Specify.ensures

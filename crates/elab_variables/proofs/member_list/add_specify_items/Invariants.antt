@@ -1,9 +1,9 @@
--- What is there, followed by the paths of what is left, is the whole.
+-- What is there, followed by the paths and the checks of what is left, is the whole.
 use Rattle.std.proofs.Common.{◌≡◌, ◌++◌, map, filter_map, drop}
 use Rattle.vl_tree.specs.Seen.{view_specify_item}
 use Rattle.elab_model.specs.Members.{member_of_item}
 use Rattle.elab_variables.specs.Seen.{view_member}
-use Rattle.elab_variables.proofs.member_list.add_paths.Given as goal
+use Rattle.elab_variables.proofs.member_list.add_specify_items.Given as goal
 
 abbrev pub invariant-loop-item : goal.invariant-loop-item
 invariant-loop-item l =
