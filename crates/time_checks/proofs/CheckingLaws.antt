@@ -7,7 +7,7 @@ use Rattle.sg_logic.specs.declared.values.Value.{Value}
 use Rattle.sg_logic.specs.declared.values.Value.TheVariants.{X}
 use Rattle.sg_logic.specs.Values.{is_same}
 use Rattle.sg_circuit.specs.declared.checks.Event.{Event}
-use Rattle.sg_circuit.specs.declared.checks.CheckTiming.{CheckTiming}
+use Rattle.time_checks.specs.Adjusted.{AdjustedCheck}
 use Rattle.sg_circuit.specs.FanOut.{has}
 use Rattle.sg_model.specs.Machine.{Snapshot, Violation}
 use Rattle.sg_model.specs.Values.{value_at}
@@ -81,7 +81,7 @@ followed last values changed many covers =
     at j false h true d = let no : false ≡ true = sym h ∙ covers.each j d in cc
 
 -- one check's violations
-one_found : (number : ℕ) (check : CheckTiming) (latest : Latest) (time : ℕ) (values : List Value) (last : Snapshot) (older : List Snapshot) → DontFall time (last ∷ older)
+one_found : (number : ℕ) (check : AdjustedCheck) (latest : Latest) (time : ℕ) (values : List Value) (last : Snapshot) (older : List Snapshot) → DontFall time (last ∷ older)
     → StandsFor latest (event_times check.refer (last ∷ older)) (datum_times check.datum (last ∷ older))
     → found_at number check (instant_of time (events_at check last.values values) latest) ≡ violations_at number check (moment check (record { time = time; values = values }) (last ∷ older))
 one_found number check latest time values last older f s =
@@ -90,7 +90,7 @@ one_found number check latest time values last older f s =
     ∙ ap (violations_at number check) (sym (moment-is check (record { time = time; values = values }) last older))
 
 -- one check's latest times
-one_stands : (check : CheckTiming) (latest : Latest) (time : ℕ) (values : List Value) (last : Snapshot) (older : List Snapshot) → DontFall time (last ∷ older)
+one_stands : (check : AdjustedCheck) (latest : Latest) (time : ℕ) (values : List Value) (last : Snapshot) (older : List Snapshot) → DontFall time (last ∷ older)
     → StandsFor latest (event_times check.refer (last ∷ older)) (datum_times check.datum (last ∷ older))
     → StandsFor (next_of time (events_at check last.values values) latest) (event_times check.refer (record { time = time; values = values } ∷ last ∷ older)) (datum_times check.datum (record { time = time; values = values } ∷ last ∷ older))
 one_stands check latest time values last older f s =
@@ -131,7 +131,7 @@ sees-next kept next time changed values latest old new seen each many e made = r
     stands : (last : Snapshot) (older : List Snapshot) → Stands kept (last ∷ older) → DontFall time (last ∷ older) → Covers kept.last values changed
         → (number : ℕ) → number < length kept.checks → StandsFor (latest_at latest number) (event_times (check_at kept.checks number).refer (now ∷ last ∷ older)) (datum_times (check_at kept.checks number).datum (now ∷ last ∷ older))
     stands last older s f covers number l =
-        let check : CheckTiming = check_at kept.checks number in
+        let check : AdjustedCheck = check_at kept.checks number in
         let here : latest_at latest number ≡ next_of time (events_at check last.values values) (latest_at kept.latest number) =
         ap (λ ls. latest_at ls number) (made.kept covers)
         ∙ (each_from-at (next_at kept.checks kept.last values time) 0 kept.latest number no_times no_times (subst (λ n. number < n) (sym each) l)
@@ -154,7 +154,7 @@ sees-next kept next time changed values latest old new seen each many e made = r
         )
 
 -- a new checker
-pub new-stands : (checks : List CheckTiming) (last : List Value) (latest : List Latest) (n : ℕ) → latest ≡ replicate n no_times → Stands (record { checks = checks; seen = false; last = last; latest = latest }) []
+pub new-stands : (checks : List AdjustedCheck) (last : List Value) (latest : List Latest) (n : ℕ) → latest ≡ replicate n no_times → Stands (record { checks = checks; seen = false; last = last; latest = latest }) []
 new-stands checks last latest n e = record {
   seen = refl;
   last = tt;

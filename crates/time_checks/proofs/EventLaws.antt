@@ -7,7 +7,7 @@ use Rattle.sg_logic.specs.declared.edges.Edge.{Edge}
 use Rattle.sg_logic.specs.Edges.{edge_changes, has_change, is_change}
 use Rattle.std.specs.List.{list_any, zip}
 use Rattle.sg_circuit.specs.declared.checks.Event.{Event}
-use Rattle.sg_circuit.specs.declared.checks.CheckTiming.{CheckTiming}
+use Rattle.time_checks.specs.Adjusted.{AdjustedCheck}
 use Rattle.sg_model.specs.Machine.{Snapshot}
 use Rattle.sg_model.specs.Values.{value_at}
 use Rattle.time_checks.specs.declared.events.Events.{Events}
@@ -86,7 +86,7 @@ moment_by time events rs ds = record {
   refer_before = rs;
 }
 
-pub moment-is : (check : CheckTiming) (now last : Snapshot) (older : List Snapshot)
+pub moment-is : (check : AdjustedCheck) (now last : Snapshot) (older : List Snapshot)
     → moment check now (last ∷ older) ≡ moment_by now.time (events_at check last.values now.values) (event_times check.refer (last ∷ older)) (datum_times check.datum (last ∷ older))
 moment-is check now last older =
     ap (λ b. with_datum b (datum_times check.datum (now ∷ last ∷ older))) (datum_happens-is check.datum now last older)

@@ -1,5 +1,5 @@
 -- Worked examples of timing checks, computed by the definitions.
-use Rattle.std.specs.Prelude.{◌≡◌, ℕ, pos, true, false, List, [], ◌∷◌, Option, Some, None, refl}
+use Rattle.std.specs.Prelude.{◌≡◌, ℕ, ℤ, pos, negsuc, true, false, List, [], ◌∷◌, Option, Some, None, refl}
 use Rattle.sg_logic.specs.declared.values.Value.{Value}
 use Rattle.sg_logic.specs.declared.values.Value.TheVariants.{Zero, One, X}
 use Rattle.cond_expr.specs.Tree.{Cond, leaf, constant, binary}
@@ -8,6 +8,7 @@ use Rattle.sg_circuit.specs.declared.checks.CheckKind.{CheckKind}
 use Rattle.sg_circuit.specs.declared.checks.CheckKind.TheVariants as check
 use Rattle.sg_circuit.specs.declared.checks.Event.{Event}
 use Rattle.sg_circuit.specs.declared.checks.CheckTiming.{CheckTiming}
+use Rattle.time_checks.specs.Adjusted.{AdjustedCheck, plain_check, window_of}
 use Rattle.sg_model.specs.Machine.{Snapshot, Violation}
 use Rattle.time_checks.specs.declared.violations.Part.{Part}
 use Rattle.time_checks.specs.declared.violations.Part.TheVariants.{Setup, Hold, Recovery, Removal, Width, Period, Skew}
@@ -24,11 +25,11 @@ rise condition = record { net = 0; edge = Some (record { has = true ∷ false �
 abbrev change : Event
 change = record { net = 1; edge = None; condition = None }
 
-abbrev of_kind : CheckKind → ℕ → ℕ → CheckTiming
-of_kind kind first second = record { kind = kind; refer = rise None; datum = Some change; limits = pos first ∷ pos second ∷ []; threshold = 0; late = None }
+abbrev of_kind : CheckKind → ℕ → ℕ → AdjustedCheck
+of_kind kind first second = plain_check (record { kind = kind; refer = rise None; datum = Some change; limits = pos first ∷ pos second ∷ []; threshold = 0; late = None })
 
-abbrev of_clock : CheckKind → ℕ → ℕ → CheckTiming
-of_clock kind limit threshold = record { kind = kind; refer = rise None; datum = None; limits = pos limit ∷ pos 0 ∷ []; threshold = threshold; late = None }
+abbrev of_clock : CheckKind → ℕ → ℕ → AdjustedCheck
+of_clock kind limit threshold = plain_check (record { kind = kind; refer = rise None; datum = None; limits = pos limit ∷ pos 0 ∷ []; threshold = threshold; late = None })
 
 -- the clock rises, and the data changes, at these times; in one snapshot; in two snapshots of one time
 abbrev data_then_clock : ℕ → ℕ → List Snapshot
@@ -183,8 +184,8 @@ skew_of_two : violations (of_kind check.Skew 10 0 ∷ []) (snap 111 One One ∷ 
 skew_of_two = refl
 
 -- a condition that is x enables by == and not by itself
-abbrev under : Cond ℕ → CheckTiming
-under condition = record { kind = check.Hold; refer = rise (Some condition); datum = Some change; limits = pos 3 ∷ pos 0 ∷ []; threshold = 0; late = None }
+abbrev under : Cond ℕ → AdjustedCheck
+under condition = plain_check (record { kind = check.Hold; refer = rise (Some condition); datum = Some change; limits = pos 3 ∷ pos 0 ∷ []; threshold = 0; late = None })
 
 enabled_by_equality : violations (under (binary Equal (leaf 2) (constant One)) ∷ []) (together 100) ≡ of Hold 100 100 3 ∷ []
 enabled_by_equality = refl
@@ -198,3 +199,50 @@ in_order = refl
 
 first_of_all : violations (of_kind check.Hold 3 0 ∷ []) (snap 0 One One ∷ []) ≡ []
 first_of_all = refl
+
+-- setup -2 and hold 5, of which the clock is seen 2 late: net 3 is the late clock; the windows are 0 and 3, and the clock's time is told as it was
+abbrev late_clock : AdjustedCheck
+late_clock = record {
+  kind = check.Setuphold;
+  refer = rise None;
+  datum = Some change;
+  limits = negsuc 1 ∷ pos 5 ∷ [];
+  windows = pos 0 ∷ pos 3 ∷ [];
+  threshold = 0;
+  refer_delay = 2;
+  datum_delay = 0;
+}
+
+abbrev timing_of : CheckKind → ℤ → ℤ → CheckTiming
+timing_of kind first second = record { kind = kind; refer = rise None; datum = Some change; limits = first ∷ second ∷ []; threshold = 0; late = None }
+
+setup_of_late_clock : window_of [] 0 (timing_of check.Setuphold (negsuc 1) (pos 5)) 2 0 (0, Setup) ≡ pos 0
+setup_of_late_clock = refl
+
+hold_of_late_clock : window_of [] 0 (timing_of check.Setuphold (negsuc 1) (pos 5)) 2 0 (1, Hold) ≡ pos 3
+hold_of_late_clock = refl
+
+-- of recrem the recovery is moved as a hold is, and the removal as a setup is
+recovery_is_a_hold : window_of [] 0 (timing_of check.Recrem (pos 5) (negsuc 1)) 2 0 (0, Recovery) ≡ pos 3
+recovery_is_a_hold = refl
+
+removal_is_a_setup : window_of [] 0 (timing_of check.Recrem (pos 5) (negsuc 1)) 2 0 (1, Removal) ≡ pos 0
+removal_is_a_setup = refl
+
+-- what is taken as 0 is moved from there
+zeroed_setup : window_of (record { check = 0; part = 0; value = negsuc 1 } ∷ []) 0 (timing_of check.Setuphold (negsuc 1) (pos 5)) 3 1 (0, Setup) ≡ pos 2
+zeroed_setup = refl
+
+-- the late clock rises at 102, and the data changes then or 2 later
+held_late_102 : violations (late_clock ∷ []) (clock_then_data 102 102) ≡ record { check = 0; part = 1; refer_time = 100; datum_time = 102; limit = pos 5 } ∷ []
+held_late_102 = refl
+
+held_late_104 : violations (late_clock ∷ []) (clock_then_data 102 104) ≡ record { check = 0; part = 1; refer_time = 100; datum_time = 104; limit = pos 5 } ∷ []
+held_late_104 = refl
+
+held_late_105 : violations (late_clock ∷ []) (clock_then_data 102 105) ≡ []
+held_late_105 = refl
+
+-- a time is told as 0 at the least
+told_at_0 : violations (late_clock ∷ []) (clock_then_data 1 1) ≡ record { check = 0; part = 1; refer_time = 0; datum_time = 1; limit = pos 5 } ∷ []
+told_at_0 = refl

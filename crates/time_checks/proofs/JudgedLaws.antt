@@ -5,7 +5,7 @@ use Rattle.std.proofs.Common.{sym, ◌∙◌, ap, append_assoc}
 use Rattle.std.proofs.lemmas.List.{append-nil}
 use Rattle.sg_model.specs.Machine.{Violation}
 use Rattle.time_checks.specs.declared.judging.Instant.{Instant}
-use Rattle.sg_circuit.specs.declared.checks.CheckTiming.{CheckTiming}
+use Rattle.time_checks.specs.Adjusted.{AdjustedCheck}
 use Rattle.time_checks.specs.declared.events.Events.{Events}
 use Rattle.time_checks.specs.declared.latest.Latest.{Latest}
 use Rattle.time_checks.specs.declared.violations.Part.{Part}
@@ -14,7 +14,7 @@ use Rattle.time_checks.specs.Parts.{parts_of}
 use Rattle.time_checks.specs.Falling.{Falls}
 use Rattle.time_checks.specs.Times.{grown}
 use Rattle.time_checks.specs.Windows.{setup, hold, size, violated}
-use Rattle.time_checks.specs.Violations.{all_from, listed, limit_at, violations_at}
+use Rattle.time_checks.specs.Violations.{all_from, listed, limit_at, window_at, violations_at}
 use Rattle.time_checks.specs.Kept.{StandsFor, datum_below, next_of, setup_kept, hold_kept, width_kept, skew_kept, violated_kept, instant_of, found_at}
 use Rattle.time_checks.proofs.KeptLaws.{setup-exact, hold-exact, next_time-exact}
 use Rattle.time_checks.proofs.EventLaws.{moment_by}
@@ -44,19 +44,19 @@ violated-exact part limit threshold time events latest rs ds f g s =
     at Skew set held = ap (skew_kept limit time events.datum) (next_time-exact events.refer time latest.refer rs f s.refer)
 
 -- all parts
-pub found-exact : (number : ℕ) (check : CheckTiming) (time : ℕ) (events : Events) (latest : Latest) (rs ds : List ℕ) → Falls time rs → Falls time ds → StandsFor latest rs ds
+pub found-exact : (number : ℕ) (check : AdjustedCheck) (time : ℕ) (events : Events) (latest : Latest) (rs ds : List ℕ) → Falls time rs → Falls time ds → StandsFor latest rs ds
     → found_at number check (instant_of time events latest) ≡ violations_at number check (moment_by time events rs ds)
 found-exact number check time events latest rs ds f g s =
-    all_from-same (λ place part. listed number part (limit_at check place) (violated_kept part (limit_at check place) check.threshold (instant_of time events latest)))
-    (λ place part. listed number part (limit_at check place) (violated part (limit_at check place) check.threshold (moment_by time events rs ds))) 0 (parts_of check.kind)
-    (λ place part. ap (listed number part (limit_at check place)) (violated-exact part (limit_at check place) check.threshold time events latest rs ds f g s))
+    all_from-same (λ place part. listed number check part (limit_at check place) (violated_kept part (window_at check place) check.threshold (instant_of time events latest)))
+    (λ place part. listed number check part (limit_at check place) (violated part (window_at check place) check.threshold (moment_by time events rs ds))) 0 (parts_of check.kind)
+    (λ place part. ap (listed number check part (limit_at check place)) (violated-exact part (window_at check place) check.threshold time events latest rs ds f g s))
 
 -- the violation of one part after that of the other
-pub judged_two : (number : ℕ) (check : CheckTiming) (now : Instant) (first second : Part) (o : Option Part) (old mid new : List Violation) → parts_of check.kind ≡ first ∷ option_to_list o → o ≡ Some second
-    → mid ≡ old ++ listed number first (limit_at check 0) (violated_kept first (limit_at check 0) check.threshold now)
-    → new ≡ mid ++ listed number second (limit_at check 1) (violated_kept second (limit_at check 1) check.threshold now) → new ≡ old ++ found_at number check now
+pub judged_two : (number : ℕ) (check : AdjustedCheck) (now : Instant) (first second : Part) (o : Option Part) (old mid new : List Violation) → parts_of check.kind ≡ first ∷ option_to_list o → o ≡ Some second
+    → mid ≡ old ++ listed number check first (limit_at check 0) (violated_kept first (window_at check 0) check.threshold now)
+    → new ≡ mid ++ listed number check second (limit_at check 1) (violated_kept second (window_at check 1) check.threshold now) → new ≡ old ++ found_at number check now
 judged_two number check now first second o old mid new p q h k =
-    let part : ℕ → Part → List Violation = λ place part. listed number part (limit_at check place) (violated_kept part (limit_at check place) check.threshold now) in
+    let part : ℕ → Part → List Violation = λ place part. listed number check part (limit_at check place) (violated_kept part (window_at check place) check.threshold now) in
     let all : found_at number check now ≡ part 0 first ++ (part 1 second ++ []) = ap (all_from part 0) (p ∙ ap (λ x. first ∷ option_to_list x) q) in
     k ∙ (ap (λ ys. ys ++ part 1 second) h
     ∙ (append_assoc old (part 0 first) (part 1 second) ∙ (ap (λ ys. old ++ (part 0 first ++ ys)) (sym (append-nil (part 1 second))) ∙ ap (λ ys. old ++ ys) (sym all))))

@@ -1,4 +1,5 @@
 pub mod ListLaws
+pub mod AdjustedLaws
 pub mod TimeLaws
 pub mod KeptLaws
 pub mod EventLaws

@@ -3,7 +3,7 @@ use Rattle.std.specs.Prelude.{◌≡◌, ℕ, ℤ, suc, Bool, false, List, [], �
 use Rattle.std.proofs.Common.{sym, ◌∙◌, ap, subst}
 use Rattle.sg_logic.specs.declared.values.Value.{Value}
 use Rattle.sg_circuit.specs.declared.checks.Event.{Event}
-use Rattle.sg_circuit.specs.declared.checks.CheckTiming.{CheckTiming}
+use Rattle.time_checks.specs.Adjusted.{AdjustedCheck}
 use Rattle.sg_model.specs.Machine.{Snapshot}
 use Rattle.time_checks.specs.declared.events.Events.{Events}
 use Rattle.time_checks.specs.declared.latest.Latest.{Latest}
@@ -13,7 +13,7 @@ use Rattle.time_checks.specs.Parts.{parts_of}
 use Rattle.time_checks.specs.Times.{grown}
 use Rattle.time_checks.specs.Windows.{Moment, Pair, where_true, later_of, violated}
 use Rattle.time_checks.specs.Events.{has_opposite, event_times, datum_happens, datum_times, moment}
-use Rattle.time_checks.specs.Violations.{all_from, listed, limit_at, violations_at, violations}
+use Rattle.time_checks.specs.Violations.{all_from, listed, limit_at, window_at, violations_at, violations}
 use Rattle.time_checks.specs.Kept.{StandsFor, has_datum, events_at, next_of}
 use Rattle.time_checks.specs.Quiet.{StaysSame, IsUntouched, again}
 use Rattle.time_checks.specs.Checking.{Kept, Stands, check_at, latest_at}
@@ -40,13 +40,13 @@ not_violated Width limit threshold m r d b = nothing m.back _ b
 not_violated Period limit threshold m r d b = nothing m.refer _ r
 not_violated Skew limit threshold m r d b = nothing m.datum _ d
 
-pub no_violations : (number : ℕ) (check : CheckTiming) (m : Moment) → m.refer ≡ false → m.datum ≡ false → m.back ≡ false → violations_at number check m ≡ []
+pub no_violations : (number : ℕ) (check : AdjustedCheck) (m : Moment) → m.refer ≡ false → m.datum ≡ false → m.back ≡ false → violations_at number check m ≡ []
 no_violations number check m r d b =
-    all_none (λ place part. listed number part (limit_at check place) (violated part (limit_at check place) check.threshold m)) 0 (parts_of check.kind)
-    (λ place part. ap (listed number part (limit_at check place)) (not_violated part (limit_at check place) check.threshold m r d b))
+    all_none (λ place part. listed number check part (limit_at check place) (violated part (window_at check place) check.threshold m)) 0 (parts_of check.kind)
+    (λ place part. ap (listed number check part (limit_at check place)) (not_violated part (window_at check place) check.threshold m r d b))
 
 -- the very first snapshot has no violations
-pub first-none : (checks : List CheckTiming) (first : Snapshot) → violations checks (first ∷ []) ≡ []
+pub first-none : (checks : List AdjustedCheck) (first : Snapshot) → violations checks (first ∷ []) ≡ []
 first-none checks first =
     all_none (λ number check. violations_at number check (moment check first [])) 0 checks (λ number check. no_violations number check (moment check first []) refl (no_datum check.datum) refl)
   where
@@ -59,22 +59,22 @@ no_datum : (datum : Option Event) (now last : Snapshot) (older : List Snapshot) 
 no_datum None now last older s = refl
 no_datum (Some event) now last older s = no_event event last.values now.values s
 
-pub untouched-none : (number : ℕ) (check : CheckTiming) (now last : Snapshot) (older : List Snapshot) → IsUntouched check last.values now.values → violations_at number check (moment check now (last ∷ older)) ≡ []
+pub untouched-none : (number : ℕ) (check : AdjustedCheck) (now last : Snapshot) (older : List Snapshot) → IsUntouched check last.values now.values → violations_at number check (moment check now (last ∷ older)) ≡ []
 untouched-none number check now last older u =
     no_violations number check (moment check now (last ∷ older)) (no_event check.refer last.values now.values u.refer) (no_datum check.datum now last older u.datum) (no_opposite check.refer last.values now.values u.refer)
 
-pub untouched-refer : (check : CheckTiming) (now last : Snapshot) (older : List Snapshot) → IsUntouched check last.values now.values → event_times check.refer (now ∷ last ∷ older) ≡ event_times check.refer (last ∷ older)
+pub untouched-refer : (check : AdjustedCheck) (now last : Snapshot) (older : List Snapshot) → IsUntouched check last.values now.values → event_times check.refer (now ∷ last ∷ older) ≡ event_times check.refer (last ∷ older)
 untouched-refer check now last older u = ap (λ b. grown b now.time (event_times check.refer (last ∷ older))) (no_event check.refer last.values now.values u.refer)
 
 same_datum : (datum : Option Event) (now last : Snapshot) (older : List Snapshot) → StaysSame datum last.values now.values → datum_times datum (now ∷ last ∷ older) ≡ datum_times datum (last ∷ older)
 same_datum None now last older s = refl
 same_datum (Some event) now last older s = ap (λ b. grown b now.time (event_times event (last ∷ older))) (no_event event last.values now.values s)
 
-pub untouched-datum : (check : CheckTiming) (now last : Snapshot) (older : List Snapshot) → IsUntouched check last.values now.values → datum_times check.datum (now ∷ last ∷ older) ≡ datum_times check.datum (last ∷ older)
+pub untouched-datum : (check : AdjustedCheck) (now last : Snapshot) (older : List Snapshot) → IsUntouched check last.values now.values → datum_times check.datum (now ∷ last ∷ older) ≡ datum_times check.datum (last ∷ older)
 untouched-datum check now last older u = same_datum check.datum now last older u.datum
 
 -- nothing happens to it
-pub untouched-events : (check : CheckTiming) (last now : List Value) → IsUntouched check last now → events_at check last now ≡ record { refer = false; datum = false; back = false }
+pub untouched-events : (check : AdjustedCheck) (last now : List Value) → IsUntouched check last now → events_at check last now ≡ record { refer = false; datum = false; back = false }
 untouched-events check last now u =
     ap (λ b. happening b (has_datum check.datum last now) (has_opposite check.refer last now)) (no_event check.refer last now u.refer)
     ∙ (ap (λ b. happening false b (has_opposite check.refer last now)) (no_datum_of check.datum u.datum) ∙ ap (happening false false) (no_opposite check.refer last now u.refer))
@@ -87,7 +87,7 @@ untouched-events check last now u =
     no_datum_of (Some event) s = no_event event last now s
 
 -- and its latest times stay
-pub untouched-latest : (check : CheckTiming) (time : ℕ) (last now : List Value) (latest : Latest) → IsUntouched check last now → next_of time (events_at check last now) latest ≡ latest
+pub untouched-latest : (check : AdjustedCheck) (time : ℕ) (last now : List Value) (latest : Latest) → IsUntouched check last now → next_of time (events_at check last now) latest ≡ latest
 untouched-latest check time last now latest u = ap (λ e. next_of time e latest) (untouched-events check last now u)
 
 -- the same nets once more
@@ -95,7 +95,7 @@ same_net : (datum : Option Event) (values : List Value) → StaysSame datum valu
 same_net None values = tt
 same_net (Some event) values = refl
 
-pub violations-again : (checks : List CheckTiming) (time : ℕ) (last : Snapshot) (older : List Snapshot) → violations checks (again time last ∷ last ∷ older) ≡ []
+pub violations-again : (checks : List AdjustedCheck) (time : ℕ) (last : Snapshot) (older : List Snapshot) → violations checks (again time last ∷ last ∷ older) ≡ []
 violations-again checks time last older =
     all_none (λ number check. violations_at number check (moment check (again time last) (last ∷ older))) 0 checks
     (λ number check. untouched-none number check (again time last) last older (record { refer = refl; datum = same_net check.datum last.values }))
@@ -105,7 +105,7 @@ stands-again kept time last older s = record {
   seen = s.seen;
   last = s.last;
   each = λ number l.
-      (let check : CheckTiming = check_at kept.checks number in
+      (let check : AdjustedCheck = check_at kept.checks number in
       let same : IsUntouched check last.values last.values = record { refer = refl; datum = same_net check.datum last.values } in
       subst (λ rs. StandsFor (latest_at kept.latest number) rs (datum_times check.datum (again time last ∷ last ∷ older))) (sym (untouched-refer check (again time last) last older same))
       (subst (λ ds. StandsFor (latest_at kept.latest number) (event_times check.refer (last ∷ older)) ds) (sym (untouched-datum check (again time last) last older same)) (s.each number l)));

@@ -10,7 +10,9 @@ use Rattle.std.proofs.lemmas.List.Sorted.{sum_by-IsPermutation, length_permutati
 use Rattle.sg_logic.specs.declared.values.Value.{Value}
 use Rattle.sg_logic.specs.Values.{is_same}
 use Rattle.sg_circuit.specs.declared.checks.Event.{Event}
-use Rattle.sg_circuit.specs.declared.checks.CheckTiming.{CheckTiming}
+use Rattle.time_checks.specs.declared.adjusted.AdjustedCheck as code
+use Rattle.time_checks.specs.Adjusted.{AdjustedCheck}
+use Rattle.time_checks.specs.AdjustedSeen.{adjusted_seen}
 use Rattle.sg_circuit.specs.FanOut.{has, readers_at, readers_from, IsFanOut}
 use Rattle.sg_model.specs.Values.{value_at}
 use Rattle.sg_model.proofs.PlacedLaws.{same-true}
@@ -48,7 +50,7 @@ not_false true e = refl
 not_false false e = cc
 
 -- so the nets of a check's terminals stay where it isn't marked
-unmarked_net : (checks : List CheckTiming) (index : List (List ℕ)) (changed : List ℕ) (last now : List Value) (e net : ℕ) → IsFanOut (map (λ c. terminals c) checks) index → e < length checks → net < length index
+unmarked_net : (checks : List AdjustedCheck) (index : List (List ℕ)) (changed : List ℕ) (last now : List Value) (e net : ℕ) → IsFanOut (map (λ c. terminals c) checks) index → e < length checks → net < length index
     → has net (terminals (check_at checks e)) ≡ true → Covers last now changed → mark_at (with_readers index changed (replicate (length checks) false)) e ≡ false → value_at last net ≡ value_at now net
 unmarked_net checks index changed last now e net is l inside h covers unmarked = at (differs last now net) refl
   where
@@ -75,14 +77,14 @@ untouched_datum : (datum : Option Event) (nets : ℕ) (last now : List Value) �
 untouched_datum None nets last now w h = tt
 untouched_datum (Some event) nets last now w h = h event.net w.net (or_left (event.net == event.net) false (test_same event.net event.net refl))
 
-untouched_by : (check : CheckTiming) (nets : ℕ) (last now : List Value) → IsCheckWithin check nets
+untouched_by : (check : AdjustedCheck) (nets : ℕ) (last now : List Value) → IsCheckWithin check nets
     → ((net : ℕ) → net < nets → has net (terminals check) ≡ true → value_at last net ≡ value_at now net) → IsUntouched check last now
 untouched_by check nets last now w h = record {
   refer = h check.refer.net w.refer.net (or_left (check.refer.net == check.refer.net) (has check.refer.net (datum_nets check.datum)) (test_same check.refer.net check.refer.net refl));
   datum = untouched_datum check.datum nets last now w.datum (λ net l g. h net l (or_right (check.refer.net == net) (has net (datum_nets check.datum)) g));
 }
 
-pub unmarked-untouched : (checks : List CheckTiming) (index : List (List ℕ)) (changed : List ℕ) (last now : List Value) (e : ℕ) → IsFanOut (map (λ c. terminals c) checks) index → All (λ c. IsCheckWithin c (length index)) checks
+pub unmarked-untouched : (checks : List AdjustedCheck) (index : List (List ℕ)) (changed : List ℕ) (last now : List Value) (e : ℕ) → IsFanOut (map (λ c. terminals c) checks) index → All (λ c. IsCheckWithin c (length index)) checks
     → e < length checks → Covers last now changed → mark_at (with_readers index changed (replicate (length checks) false)) e ≡ false → IsUntouched (check_at checks e) last now
 unmarked-untouched checks index changed last now e is within l covers unmarked =
     untouched_by (check_at checks e) (length index) last now (within e _ l) (λ net m h. unmarked_net checks index changed last now e net is l m h covers unmarked)
@@ -170,15 +172,15 @@ listed-all g i (x ∷ xs) (k ∷ ks) r a none =
     ]
 
 -- each terminal is at a net
-pub terminals-within : (checks : List CheckTiming) (nets : ℕ) → All (λ c. IsCheckWithin c nets) checks → All (λ c. All (λ n. n < nets) (terminals c)) checks
-terminals-within checks nets within i d l = at (slice_index_or checks i d) (within i d l)
+pub terminals-within : (checks : List code.AdjustedCheck) (nets : ℕ) → All (λ c. IsCheckWithin (adjusted_seen c) nets) checks → All (λ c. All (λ n. n < nets) (terminals (adjusted_seen c))) checks
+terminals-within checks nets within i d l = at (adjusted_seen (slice_index_or checks i d)) (within i d l)
   where
     datum : (o : Option Event) → IfSome o (λ event. IsEventWithin event nets) → All (λ n. n < nets) (datum_nets o)
     datum None w j e m = absurd (omega arith)
     datum (Some event) w zero e m = w.net
     datum (Some event) w (suc j) e m = absurd (omega arith)
 
-    at : (check : CheckTiming) → IsCheckWithin check nets → All (λ n. n < nets) (terminals check)
+    at : (check : AdjustedCheck) → IsCheckWithin check nets → All (λ n. n < nets) (terminals check)
     at check w zero e m = w.refer.net
     at check w (suc j) e m = datum check.datum w.datum j e (omega arith)
 

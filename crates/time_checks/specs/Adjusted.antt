@@ -1,5 +1,5 @@
 -- Timing checks as they look at a circuit: those that take limits below 0 see delayed copies of their signals, and limits that are moved by the delays (IEEE 1364-2005, 15.8).
-use Rattle.std.specs.Prelude.{ℕ, ◌==◌, ◌&&◌, ℤ, pos, ◌+ℤ◌, ◌-ℤ◌, Bool, List, [], ◌∷◌, map, Option, Some, None, slice_index_or, if◌then◌else◌}
+use Rattle.std.specs.Prelude.{ℕ, ◌==◌, ◌&&◌, ℤ, pos, ◌+ℤ◌, ◌-ℤ◌, Bool, List, map, Option, Some, None, slice_index_or, if◌then◌else◌}
 use Rattle.std.specs.List.{enumerate_from, list_any}
 use Rattle.std.specs.Option.{option_map}
 use Rattle.sg_circuit.specs.declared.checks.CheckKind.{CheckKind}

@@ -1,5 +1,6 @@
 -- The modules of this folder.
 pub mod Adjusted
+pub mod AdjustedSeen
 pub mod Checking
 pub mod Events
 pub mod Falling

@@ -1,16 +1,19 @@
 // The checker, which sees one snapshot after another.
 ghost use Rattle.std.specs.Prelude.{◌≡◌, ◌<◌, ◌^◌, [], All, IfOk, OnOk, List, length, map, take};
 ghost use Rattle.sg_model.specs.Machine.{Snapshot};
+ghost use Rattle.time_checks.specs.Adjusted.{adjusted_checks};
+ghost use Rattle.time_checks.specs.AdjustedSeen.{adjusted_seen, all_seen};
+ghost use Rattle.time_checks.specs.Within.{IsCheckWithin};
 ghost use Rattle.time_checks.specs.Checking.{Sees, Stands};
 ghost use Rattle.time_checks.specs.Seen.{violation_seen};
-ghost use Rattle.time_checks.specs.Within.{IsCheckWithin};
 
 use crate::Violation;
+use crate::adjusted::{AdjustedCheck, adjusted_checks};
 use crate::latest::{Latest, NONE};
 use crate::seeing::{follow, see_changes};
 use crate::touching::index_of;
 use fan_round::WorkList;
-use sg_circuit::{CheckTiming, FanOut, NetId};
+use sg_circuit::{Circuit, FanOut, NetId};
 use sg_logic::Value;
 use sg_text::NoMemory;
 use std::alloc::Global;
@@ -20,7 +23,7 @@ use std::marker::Model;
 /// check's events two or three times.
 #[derive(Drop)]
 pub struct Checker<'a> {
-    checks: &'a [CheckTiming],
+    checks: Vec<AdjustedCheck<'a>>,
     // the checks with a terminal on each net
     index: FanOut,
     work: WorkList,
@@ -34,35 +37,56 @@ impl<'a> Model for Checker<'a> {
     ghost use Rattle.std.specs.Coded.{codes, coded_ℕ};
     ghost use Rattle.std.specs.Prelude.{length};
     ghost use Rattle.cond_expr.specs.Codes.{coded_cond};
+    ghost use Rattle.time_checks.specs.AdjustedSeen.{all_seen};
     ghost use Rattle.time_checks.specs.Checking.{IsReady, Kept};
 
     ghost Value = { Kept };
 
     ghost coded = { Prim.hlevel (codes, coded_cond coded_ℕ) };
 
-    ghost view = { λ c. record { checks = c.checks.now; seen = c.seen; last = c.last.items; latest = c.latest.items } };
+    ghost view = { λ c. record { checks = all_seen c.checks.items; seen = c.seen; last = c.last.items; latest = c.latest.items } };
 
-    ghost invariant = { λ c. IsReady c.checks.now (length c.last.items) c.index c.work c.latest.items };
+    ghost invariant = { λ c. IsReady (all_seen c.checks.items) (length c.last.items) c.index c.work c.latest.items };
 }
 
 impl<'a> Checker<'a> {
-    /// A checker of these checks that has seen nothing, in a circuit of so many nets.
-    pub fn new(alloc: Global, nets: u32, checks: &'a [CheckTiming]) -> Result<Checker<'a>, NoMemory>
-        requires within { All (λ c. IsCheckWithin c nets) checks.now }
-        requires few { length checks.now < 2 ^ 31 }
-        ensures checks { IfOk result (λ checker. checker.checks ≡ checks.now) }
+    // A checker of these checks that has seen nothing, in a circuit of so many nets.
+    fn of_checks(
+        alloc: Global,
+        nets: u32,
+        checks: Vec<AdjustedCheck<'a>>,
+    ) -> Result<Checker<'a>, NoMemory>
+        requires within { All (λ c. IsCheckWithin (adjusted_seen c) nets) checks.items }
+        requires few { length checks.items < 2 ^ 31 }
+        ensures checks { IfOk result (λ checker. checker.checks ≡ all_seen checks.entry.items) }
         ensures nets { IfOk result (λ checker. length checker.last ≡ nets) }
         ensures empty { IfOk result (λ checker. Stands checker []) }
         ensures alone { IfOk result (λ checker. (snapshots : List Snapshot) → Stands checker snapshots → snapshots ≡ []) }
     {
+        let index = index_of(alloc, nets, &checks)?;
+        let work = WorkList::new(alloc, checks.len() as u32)?;
+        let last = vec![in alloc; Value::X; nets as usize]?;
+        let latest = vec![in alloc; NONE; checks.len()]?;
         Ok(Checker {
             checks,
-            index: index_of(alloc, nets, checks)?,
-            work: WorkList::new(alloc, checks.len() as u32)?,
-            last: vec![in alloc; Value::X; nets as usize]?,
-            latest: vec![in alloc; NONE; checks.len()]?,
+            index,
+            work,
+            last,
+            latest,
             seen: false,
         })
+    }
+
+    /// A checker of a circuit's checks that has seen nothing. Takes memory in proportion to its nets and checks.
+    pub fn new(alloc: Global, circuit: &'a Circuit) -> Result<Checker<'a>, NoMemory>
+        ensures checks { IfOk result (λ checker. checker.checks ≡ adjusted_checks circuit.now) }
+        ensures nets { IfOk result (λ checker. length checker.last ≡ length circuit.now.nets) }
+        ensures empty { IfOk result (λ checker. Stands checker []) }
+        ensures alone { IfOk result (λ checker. (snapshots : List Snapshot) → Stands checker snapshots → snapshots ≡ []) }
+    {
+        let nets = circuit.parts().nets.len() as u32;
+        let checks = adjusted_checks(alloc, circuit)?;
+        Checker::of_checks(alloc, nets, checks)
     }
 
     /// Sees a snapshot, and adds the violations that belong to it: in the order of the checks, and for each in the order of its
@@ -89,7 +113,7 @@ impl<'a> Checker<'a> {
             return Ok(());
         }
         see_changes(
-            self.checks,
+            &self.checks,
             &self.index,
             &mut self.work,
             changed,

@@ -2,12 +2,15 @@
 ghost use Rattle.std.specs.Prelude.{◌≡◌, ◌<◌, IfSome, length};
 ghost use Rattle.cond_expr.specs.Values.{AreBelow};
 ghost use Rattle.sg_model.specs.Values.{value_at};
+ghost use Rattle.std.specs.Option.{option_map};
+ghost use Rattle.time_checks.specs.AdjustedSeen.{adjusted_seen, event_at};
 ghost use Rattle.time_checks.specs.Events.{has_event, has_opposite, is_enabled, is_of_edge};
 ghost use Rattle.time_checks.specs.Kept.{events_at, has_datum};
 ghost use Rattle.time_checks.specs.Within.{IsEventWithin, IsCheckWithin};
 
+use crate::adjusted::AdjustedCheck;
 use cond_expr::{Bound, Nets};
-use sg_circuit::{CheckTiming, Event};
+use sg_circuit::{Event, NetId};
 use sg_logic::{Edge, Value, edge_matches};
 
 /// What happens: the reference event, the data event, and the opposite edge of the reference.
@@ -51,44 +54,45 @@ fn enables(condition: &Option<Bound>, values: &[Value]) -> bool
     }
 }
 
-fn happens(event: &Event, last: &[Value], values: &[Value]) -> bool
-    requires within { IsEventWithin event.now (length values.now) }
+fn happens(event: &Event, net: NetId, last: &[Value], values: &[Value]) -> bool
+    requires within { IsEventWithin (event_at net event.now) (length values.now) }
     requires as_many { length last.now ≡ length values.now }
-    ensures { result ≡ has_event event.now last.now values.now }
+    ensures { result ≡ has_event (event_at net event.now) last.now values.now }
 {
-    let net = event.net as usize;
+    let net = net as usize;
     is_change(event.edge, last[net], values[net]) && enables(&event.condition, values)
 }
 
-fn turns_back(event: &Event, last: &[Value], values: &[Value]) -> bool
-    requires within { event.now.net < length values.now }
+fn turns_back(event: &Event, net: NetId, last: &[Value], values: &[Value]) -> bool
+    requires within { net < length values.now }
     requires as_many { length last.now ≡ length values.now }
-    ensures { result ≡ has_opposite event.now last.now values.now }
+    ensures { result ≡ has_opposite (event_at net event.now) last.now values.now }
 {
-    let net = event.net as usize;
+    let net = net as usize;
     is_change(event.edge, values[net], last[net])
 }
 
-fn datum_happens(datum: &Option<Event>, last: &[Value], values: &[Value]) -> bool
-    requires within { IfSome datum.now (λ e. IsEventWithin e (length values.now)) }
+fn datum_happens(datum: &Option<Event>, net: NetId, last: &[Value], values: &[Value]) -> bool
+    requires within { IfSome (option_map (event_at net) datum.now) (λ e. IsEventWithin e (length values.now)) }
     requires as_many { length last.now ≡ length values.now }
-    ensures { result ≡ has_datum datum.now last.now values.now }
+    ensures { result ≡ has_datum (option_map (event_at net) datum.now) last.now values.now }
 {
     match datum {
-        Some(event) => happens(event, last, values),
+        Some(event) => happens(event, net, last, values),
         None => false,
     }
 }
 
 /// What happens to a check.
-pub fn events_of(check: &CheckTiming, last: &[Value], values: &[Value]) -> Events
-    requires within { IsCheckWithin check.now (length values.now) }
+pub fn events_of(check: &AdjustedCheck<'_>, last: &[Value], values: &[Value]) -> Events
+    requires within { IsCheckWithin (adjusted_seen check.now) (length values.now) }
     requires as_many { length last.now ≡ length values.now }
-    ensures { result ≡ events_at check.now last.now values.now }
+    ensures { result ≡ events_at (adjusted_seen check.now) last.now values.now }
 {
+    let timing = check.timing;
     Events {
-        refer: happens(&check.refer, last, values),
-        datum: datum_happens(&check.datum, last, values),
-        back: turns_back(&check.refer, last, values),
+        refer: happens(&timing.refer, check.refer, last, values),
+        datum: datum_happens(&timing.datum, check.datum, last, values),
+        back: turns_back(&timing.refer, check.refer, last, values),
     }
 }

@@ -1,12 +1,14 @@
 //! What timing checks are made on, and what they find.
 #![tactic(auto)]
 
+mod adjusted;
 mod changes;
 mod checker;
 mod events;
 mod judging;
 mod latest;
 mod laws;
+mod parts;
 mod seeing;
 mod touching;
 mod violations;

@@ -8,22 +8,24 @@ ghost use Rattle.fan_round.specs.Lists.{at_places};
 ghost use Rattle.fan_round.specs.Rounds.{IsOnce};
 ghost use Rattle.fan_round.specs.States.{IsIdle};
 ghost use Rattle.time_checks.specs.Checking.{found_in, latest_at, next_at, no_times, IsReady, SeesChanges};
+ghost use Rattle.time_checks.specs.AdjustedSeen.{adjusted_seen, all_seen};
 ghost use Rattle.time_checks.specs.Seen.{violation_seen, Continues};
 ghost use Rattle.time_checks.specs.Within.{IsCheckWithin};
 
 use crate::Violation;
+use crate::adjusted::AdjustedCheck;
 use crate::events::events_of;
 use crate::judging::{Instant, judge};
 use crate::latest::{Latest, after};
 use crate::touching::list_touched;
 use fan_round::{WorkList, clear_work};
-use sg_circuit::{CheckTiming, FanOut, NetId};
+use sg_circuit::{FanOut, NetId};
 use sg_logic::Value;
 use sg_text::NoMemory;
 
 // One check: its violations are added, and its latest times put.
 fn see_check(
-    checks: &[CheckTiming],
+    checks: &[AdjustedCheck<'_>],
     number: u32,
     last: &[Value],
     values: &[Value],
@@ -32,11 +34,11 @@ fn see_check(
     violations: &mut Vec<Violation>,
 ) -> Result<(), NoMemory>
     requires number { number < length checks.now }
-    requires within { All (λ c. IsCheckWithin c (length values.now)) checks.now }
+    requires within { All (λ c. IsCheckWithin (adjusted_seen c) (length values.now)) checks.now }
     requires as_many { length last.now ≡ length values.now }
     requires each_check { length latest.old ≡ length checks.now }
-    ensures latest { latest.new ≡ slice_set latest.old number (next_at checks.now last.now values.now time number (latest_at latest.old number)) }
-    ensures found { OnOk result (map (λ v. violation_seen v) violations.new.items ≡ map (λ v. violation_seen v) violations.old.items ++ found_in checks.now last.now values.now time latest.old number) }
+    ensures latest { latest.new ≡ slice_set latest.old number (next_at (all_seen checks.now) last.now values.now time number (latest_at latest.old number)) }
+    ensures found { OnOk result (map (λ v. violation_seen v) violations.new.items ≡ map (λ v. violation_seen v) violations.old.items ++ found_in (all_seen checks.now) last.now values.now time latest.old number) }
     ensures kept { Continues violations.old.items violations.new.items }
 {
     let check = &checks[number as usize];
@@ -55,7 +57,7 @@ fn see_check(
 
 // These checks, one after another.
 fn see_checks(
-    checks: &[CheckTiming],
+    checks: &[AdjustedCheck<'_>],
     work: &[u32],
     last: &[Value],
     values: &[Value],
@@ -65,11 +67,11 @@ fn see_checks(
 ) -> Result<(), NoMemory>
     requires work { All (λ k. k < length checks.now) work.now }
     requires once { IsOnce work.now }
-    requires within { All (λ c. IsCheckWithin c (length values.now)) checks.now }
+    requires within { All (λ c. IsCheckWithin (adjusted_seen c) (length values.now)) checks.now }
     requires as_many { length last.now ≡ length values.now }
     requires each_check { length latest.old ≡ length checks.now }
-    ensures latest { OnOk result (latest.new ≡ at_places (next_at checks.now last.now values.now time) no_times work.now latest.old) }
-    ensures found { OnOk result (map (λ v. violation_seen v) violations.new.items ≡ map (λ v. violation_seen v) violations.old.items ++ flat_map (found_in checks.now last.now values.now time latest.old) work.now) }
+    ensures latest { OnOk result (latest.new ≡ at_places (next_at (all_seen checks.now) last.now values.now time) no_times work.now latest.old) }
+    ensures found { OnOk result (map (λ v. violation_seen v) violations.new.items ≡ map (λ v. violation_seen v) violations.old.items ++ flat_map (found_in (all_seen checks.now) last.now values.now time latest.old) work.now) }
     ensures kept { Continues violations.old.items violations.new.items }
 {
     for number in work {
@@ -92,7 +94,7 @@ pub fn follow(last: &mut [Value], values: &[Value], changed: &[NetId])
 /// The checks see what changed between two snapshots: violations are added, and the latest times put. It takes time in proportion to the changed nets and to the checks with a terminal on one of them, and to
 /// putting these in order.
 pub fn see_changes(
-    checks: &[CheckTiming],
+    checks: &[AdjustedCheck<'_>],
     index: &FanOut,
     work: &mut WorkList,
     changed: &[NetId],
@@ -102,11 +104,11 @@ pub fn see_changes(
     latest: &mut [Latest],
     violations: &mut Vec<Violation>,
 ) -> Result<(), NoMemory>
-    requires ready { IsReady checks.now (length values.now) index.now work.old latest.old }
+    requires ready { IsReady (all_seen checks.now) (length values.now) index.now work.old latest.old }
     requires as_many { length last.now ≡ length values.now }
     requires nets { All (λ net. net < length values.now) changed.now }
     ensures idle { IsIdle work.new (length checks.now) }
-    ensures seen { OnOk result (SeesChanges checks.now changed.now last.now values.now time latest.old latest.new (map (λ v. violation_seen v) violations.old.items) (map (λ v. violation_seen v) violations.new.items)) }
+    ensures seen { OnOk result (SeesChanges (all_seen checks.now) changed.now last.now values.now time latest.old latest.new (map (λ v. violation_seen v) violations.old.items) (map (λ v. violation_seen v) violations.new.items)) }
     ensures kept { Continues violations.old.items violations.new.items }
 {
     list_touched(changed, index, work, checks.len());

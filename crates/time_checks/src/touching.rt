@@ -6,10 +6,12 @@ ghost use Rattle.sg_circuit.specs.FanOut.{IsFanOut};
 ghost use Rattle.sg_circuit.specs.Pins.{pins_from, pins_of};
 ghost use Rattle.fan_round.specs.States.{IsIdle};
 ghost use Rattle.fan_round.specs.Work.{with_readers, AreMarked, AreReaders};
+ghost use Rattle.time_checks.specs.AdjustedSeen.{adjusted_seen, all_seen};
 ghost use Rattle.time_checks.specs.Within.{terminals, IsCheckWithin};
 
+use crate::adjusted::AdjustedCheck;
 use fan_round::{WorkList, mark_all};
-use sg_circuit::{CheckTiming, FanOut, NetId, Pin, add_pins};
+use sg_circuit::{FanOut, NetId, Pin, add_pins};
 use sg_text::NoMemory;
 use std::alloc::Global;
 
@@ -18,18 +20,17 @@ fn add_terminals(
     pins: &mut Vec<Pin>,
     seen: &mut [u32],
     number: u32,
-    check: &CheckTiming,
+    check: &AdjustedCheck<'_>,
 ) -> Result<(), NoMemory>
-    requires within { IsCheckWithin check.now (length seen.old) }
+    requires within { IsCheckWithin (adjusted_seen check.now) (length seen.old) }
     requires number { number < 2 ^ 31 }
     requires fresh { All (λ s. s ≤ number) seen.old }
-    ensures pins { OnOk result (pins.new.items ≡ pins.old.items ++ pins_of number (terminals check.now)) }
+    ensures pins { OnOk result (pins.new.items ≡ pins.old.items ++ pins_of number (terminals (adjusted_seen check.now))) }
     ensures fresh { OnOk result (All (λ s. s ≤ number + 1) seen.new) }
 {
-    let refer = check.refer.net;
-    match &check.datum {
-        Some(datum) => add_pins(pins, seen, number, &[refer, datum.net]),
-        None => add_pins(pins, seen, number, &[refer]),
+    match check.timing.datum {
+        Some(_) => add_pins(pins, seen, number, &[check.refer, check.datum]),
+        None => add_pins(pins, seen, number, &[check.refer]),
     }
 }
 
@@ -37,13 +38,13 @@ fn add_terminals(
 fn add_all_terminals(
     pins: &mut Vec<Pin>,
     seen: &mut [u32],
-    checks: &[CheckTiming],
+    checks: &[AdjustedCheck<'_>],
 ) -> Result<(), NoMemory>
-    requires within { All (λ c. IsCheckWithin c (length seen.old)) checks.now }
+    requires within { All (λ c. IsCheckWithin (adjusted_seen c) (length seen.old)) checks.now }
     requires few { length checks.now < 2 ^ 31 }
     requires none { pins.old.items ≡ [] }
     requires fresh { seen.old ≡ replicate (length seen.old) 0 }
-    ensures { OnOk result (pins.new.items ≡ pins_from 0 (map (λ c. terminals c) checks.now)) }
+    ensures { OnOk result (pins.new.items ≡ pins_from 0 (map (λ c. terminals (adjusted_seen c)) checks.now)) }
 {
     for (number, check) in checks.iter().enumerate() {
         add_terminals(pins, seen, number as u32, check)?;
@@ -51,10 +52,14 @@ fn add_all_terminals(
     Ok(())
 }
 
-fn pins_of_checks(alloc: Global, nets: u32, checks: &[CheckTiming]) -> Result<Vec<Pin>, NoMemory>
-    requires within { All (λ c. IsCheckWithin c nets) checks.now }
+fn pins_of_checks(
+    alloc: Global,
+    nets: u32,
+    checks: &[AdjustedCheck<'_>],
+) -> Result<Vec<Pin>, NoMemory>
+    requires within { All (λ c. IsCheckWithin (adjusted_seen c) nets) checks.now }
     requires few { length checks.now < 2 ^ 31 }
-    ensures { IfOk result (λ pins. pins.items ≡ pins_from 0 (map (λ c. terminals c) checks.now)) }
+    ensures { IfOk result (λ pins. pins.items ≡ pins_from 0 (map (λ c. terminals (adjusted_seen c)) checks.now)) }
 {
     let mut seen = vec![in alloc; 0; nets as usize]?;
     let mut pins = Vec::new(alloc);
@@ -63,10 +68,10 @@ fn pins_of_checks(alloc: Global, nets: u32, checks: &[CheckTiming]) -> Result<Ve
 }
 
 /// The checks with a terminal on each of so many nets. It takes time and memory in proportion to both.
-pub fn index_of(alloc: Global, nets: u32, checks: &[CheckTiming]) -> Result<FanOut, NoMemory>
-    requires within { All (λ c. IsCheckWithin c nets) checks.now }
+pub fn index_of(alloc: Global, nets: u32, checks: &[AdjustedCheck<'_>]) -> Result<FanOut, NoMemory>
+    requires within { All (λ c. IsCheckWithin (adjusted_seen c) nets) checks.now }
     requires few { length checks.now < 2 ^ 31 }
-    ensures checks { IfOk result (λ index. IsFanOut (map (λ c. terminals c) checks.now) index) }
+    ensures checks { IfOk result (λ index. IsFanOut (map (λ c. terminals c) (all_seen checks.now)) index) }
     ensures nets { IfOk result (λ index. length index ≡ nets) }
 {
     let pins = pins_of_checks(alloc, nets, checks)?;

@@ -1,6 +1,9 @@
 use Rattle.std.proofs.Common.{◌≡◌, ◌∙◌, All, ap, sym, subst, arith, length, map, false, replicate}
 use Rattle.std.proofs.lemmas.List.{length-map, length-replicate, with_items_is}
-use Rattle.sg_circuit.specs.declared.checks.CheckTiming.{CheckTiming}
+use Rattle.sg_circuit.proofs.SeenLaws.{all-unmapped}
+use Rattle.time_checks.specs.Adjusted.{AdjustedCheck}
+use Rattle.time_checks.specs.AdjustedSeen.{adjusted_seen, all_seen}
+use Rattle.fan_round.specs.Work.{with_readers}
 use Rattle.fan_round.proofs.WorkLaws.{length-with_readers}
 use Rattle.fan_round.proofs.WorkIsExact.{are_readers}
 use Rattle.time_checks.specs.declared.violations.Violation.{Violation}
@@ -12,7 +15,7 @@ use Rattle.time_checks.proofs.seeing.see_changes.Goals as goal
 
 pub list_touched-requires-clause-readers : goal.list_touched-requires-clause-readers
 list_touched-requires-clause-readers c =
-    are_readers (map (λ (k : CheckTiming). terminals k) c.args.checks.now) c.args.index.now (length c.args.checks.now) c.requires.ready.indexed (length-map c.args.checks.now (λ (k : CheckTiming). terminals k))
+    are_readers (map (λ (k : AdjustedCheck). terminals k) (all_seen c.args.checks.now)) c.args.index.now (length c.args.checks.now) c.requires.ready.indexed (length-map (all_seen c.args.checks.now) (λ (k : AdjustedCheck). terminals k) ∙ length-map c.args.checks.now adjusted_seen)
 
 pub see_checks-seen-requires-clause-work : goal.see_checks-seen-requires-clause-work
 see_checks-seen-requires-clause-work c =
@@ -27,13 +30,16 @@ returns-clause-idle c =
     record {
       marks = with_items_is c.list_touched.new.work.marks c.clear_work.new.marks (c.clear_work.auto.marks ∙ c.deref_mut.ensures.len) ∙ (c.clear_work.ensures.marks ∙ ap (λ m. replicate m false) many);
       list = c.clear_work.ensures.work;
-      room = omega (arith, c.requires.ready.idle.room, c.list_touched.ensures.capacity, c.clear_work.ensures.capacity);
+      room = omega (arith, length-map c.args.checks.now adjusted_seen, c.requires.ready.idle.room, c.list_touched.ensures.capacity, c.clear_work.ensures.capacity);
     }
 
 pub returns-clause-seen : goal.returns-clause-seen
 returns-clause-seen c =
-    sees_changes_ok c.see_checks-seen.result c.args.checks.now c.args.index.now c.args.changed.now c.args.last.now c.args.values.now c.args.time c.args.latest.now c.see_checks-seen.new.latest
+    sees_changes_ok c.see_checks-seen.result (all_seen c.args.checks.now) c.args.index.now c.args.changed.now c.args.last.now c.args.values.now c.args.time c.args.latest.now c.see_checks-seen.new.latest
     (map (λ (v : Violation). violation_seen v) c.args.violations.now.items) (map (λ (v : Violation). violation_seen v) c.see_checks-seen.new.violations.items)
     c.list_touched.new.work.marks.items c.list_touched.new.work.list.items c.deref.result.now c.requires.ready.indexed
-    (subst (λ n. All (λ (k : CheckTiming). IsCheckWithin k n) c.args.checks.now) (sym c.requires.ready.each_net) c.requires.ready.within) c.requires.ready.each_check
-    c.list_touched.ensures.marks c.list_touched.ensures.marked c.list_touched.ensures.sorted c.deref.ensures.value c.see_checks-seen.ensures.latest c.see_checks-seen.ensures.found
+    (subst (λ n. All (λ (k : AdjustedCheck). IsCheckWithin k n) (all_seen c.args.checks.now)) (sym c.requires.ready.each_net) c.requires.ready.within) c.requires.ready.each_check
+    (c.list_touched.ensures.marks ∙ ap (λ n. with_readers c.args.index.now c.args.changed.now (replicate n false)) (sym (length-map c.args.checks.now adjusted_seen))) c.list_touched.ensures.marked c.list_touched.ensures.sorted c.deref.ensures.value c.see_checks-seen.ensures.latest c.see_checks-seen.ensures.found
+
+pub see_checks-seen-requires-clause-within : goal.see_checks-seen-requires-clause-within
+see_checks-seen-requires-clause-within c = all-unmapped (λ (k : AdjustedCheck). IsCheckWithin k (length c.args.values.now)) adjusted_seen c.args.checks.now c.requires.ready.within
