@@ -15,10 +15,10 @@ use Rattle.elab_model.specs.Numbered.{element_of, undriven}
 use Rattle.elab_model.specs.Scopes.{scope_of}
 use Rattle.circuit_model.specs.Circuits.{circuit, driving, driven_nets}
 use Rattle.circuit_model.specs.Driving.{driving_faults}
-use Rattle.circuit_model.specs.CheckUses.{check_of_use, check_uses, timing_of_use, written_of_use}
+use Rattle.circuit_model.specs.CheckUses.{CheckUse as Check_use, check_of_use, check_uses, timing_of_use, written_of_use}
 use Rattle.circuit_model.specs.PathUses.{circuit_elements, path_uses, with_paths}
 use Rattle.elab_laws.specs.Laws.{AreSound}
-use Rattle.elab_laws.proofs.Lists.{all-anyway, all-map, all-weaker}
+use Rattle.elab_laws.proofs.Lists.{all-map, all-weaker}
 use Rattle.elab_laws.proofs.NoFaults.{all-from, each-faultless}
 use Rattle.elab_laws.proofs.Precisions.{least-of_all}
 use Rattle.elab_closed.specs.Laws.{CircuitIsClosed}
@@ -28,6 +28,7 @@ use Rattle.elab_closed.proofs.Drivers.{driven-at, driven-count, driven-scopes, e
 use Rattle.elab_closed.proofs.Elements.{StandsIn, elements-stand}
 use Rattle.elab_closed.proofs.Outputs.{outputs-are}
 use Rattle.elab_closed.proofs.Scopes.{parents-below, net-scopes}
+use Rattle.elab_closed.proofs.Signals.{Weighs, nets_listed, scopes-short}
 use Rattle.elab_closed.proofs.Widths.{HasBitsBelow, have-widths, have-bits}
 
 few-of : (k n : ℕ) → k ≡ n → n ≤ count_limit → k < 2 ^ 31
@@ -59,10 +60,11 @@ circuit-is_closed source top corner h =
     let faultless : driving_faults d (length ns) ≡ [] = subst (λ k. driving_faults d k ≡ []) (sym as-listed) f.drivers in
     let uses = check_uses source top corner in
     let checks = map check_of_use uses in
-    let Fits = CheckFits net-count scope-count (IsToggled source top corner) in
+    let FitsIn : ℕ → ℕ → Check_use → Type 0 = λ net_count scope_count. CheckFits (circuit source top corner) (nets_listed source top) net_count scope_count (IsToggled source top corner) in
+    let Fits = FitsIn net-count scope-count in
     let checked : AllByRecursion Fits uses =
-    subst (λ k. AllByRecursion (CheckFits k scope-count (IsToggled source top corner)) uses) (sym as-nets)
-    (subst (λ k. AllByRecursion (CheckFits (length own) k (IsToggled source top corner)) uses) (sym as-instances) (checks-fit source top corner f.drivers f.checks)) in
+    subst (λ k. AllByRecursion (FitsIn k scope-count) uses) (sym as-nets)
+    (subst (λ k. AllByRecursion (FitsIn (length own) k) uses) (sym as-instances) (checks-fit source top corner f.drivers sound f.checks)) in
     record {
       few_nets = few-of net-count (length own) as-nets count.few_nets;
       few_elements = few-mapped (λ c. element_of own (with_paths (path_uses source top corner) c)) (elements source top corner) count.few_elements;
@@ -98,7 +100,8 @@ circuit-is_closed source top corner h =
           (all-map (λ s. tick_of source top ≤ℤ s.precision) scope ss
           (all-from (λ s. tick_of source top ≤ℤ precision_of s) ss (λ s there. least-of_all top.settings.scale.precision s ss there)));
       lates = All-from_recursion (HasLates (circuit source top corner)) (map timing_of_use uses)
-          (all-map (HasLates (circuit source top corner)) timing_of_use uses (all-anyway (λ u. HasLates (circuit source top corner) (timing_of_use u)) uses (λ u. tt)));
+          (all-map (HasLates (circuit source top corner)) timing_of_use uses (all-weaker Fits (λ u. HasLates (circuit source top corner) (timing_of_use u)) uses (λ u f. f.lates) checked));
+      short = scopes-short (nets_listed source top) uses (all-weaker Fits (Weighs (nets_listed source top)) uses (λ u f. f.weighs) checked);
       zeroed = All-nil (IsZeroOf (circuit source top corner));
     }
   where

@@ -1,5 +1,5 @@
 -- Each element is the driver of its output, and the driver of each net drives it.
-use Rattle.std.specs.Prelude.{◌≡◌, ℕ, zero, suc, ◌+◌, ◌<◌, ◌==◌, List, [], ◌∷◌, Bool, true, false, ◌||◌, Some, cond, filter, length, map, refl, slice_get, slice_index_or, zip}
+use Rattle.std.specs.Prelude.{◌≡◌, ℕ, zero, suc, ◌+◌, ◌<◌, ◌==◌, List, [], ◌∷◌, Bool, true, false, ◌||◌, Some, cond, length, map, refl, slice_get, slice_index_or, zip}
 use Rattle.std.specs.List.{AllByRecursion, enumerate_from, range_with_len}
 use Rattle.std.proofs.Common.{sym, ◌∙◌, ap, arith, inl, inr, subst}
 use Rattle.std.proofs.lemmas.Bool.{eq-eqb, eqb-true}
@@ -15,9 +15,10 @@ use Rattle.elab_model.specs.declared.kinds.ElabKind.TheVariants.{BadTerminal}
 use Rattle.elab_model.specs.Faults.{fault}
 use Rattle.circuit_model.specs.Circuits.{with_driver, driven_nets}
 use Rattle.circuit_model.specs.Driving.{Driving, NetDrive, by_stimulus, by_element, net_drives, drives_of, driver_of, driver_at, second_of, reg_faults, net_faults, faults_at, driving_faults}
+use Rattle.elab_laws.proofs.Filters.{in-filter}
 use Rattle.elab_laws.proofs.Lists.{In, in-right, in-map, in-range, all-append, all-in, all-get}
 use Rattle.elab_laws.proofs.NoFaults.{back, flat-empty, map-empty}
-use Rattle.elab_closed.proofs.Places.{place-of, mapped-get, in-enumerate}
+use Rattle.elab_closed.proofs.Places.{made-at, place-of, mapped-get, in-enumerate}
 
 -- ---- the nets, each with its driver
 
@@ -48,14 +49,6 @@ driven-at ns d k blank lt = let z : 0 + k ≡ k = omega arith in driver-there (d
 
 -- ---- each element is the driver of its output
 
-in-filter : {A : Type 0} (p : A → Bool) (x : A) (xs : List A) → In x xs → p x ≡ true → In x (filter p xs)
-in-filter p x [] h t = absurd h
-in-filter {A} p x (y ∷ xs) h t = by (p y) refl (λ k. in-filter p x xs k t)
-  where
-    by : (b : Bool) → p y ≡ b → (In x xs → In x (filter p xs)) → In x (cond b (y ∷ filter p xs) (filter p xs))
-    by true e rest = elim h [ inl g ↦ inl g | inr k ↦ inr (rest k) ]
-    by false e rest = elim h [ inl g ↦ (let c : true ≡ false = sym t ∙ ap p g ∙ e in cc) | inr k ↦ rest k ]
-
 -- a net without faults has one driver at most
 only-driver : (is_reg : Bool) (ds : List NetDrive) (d : NetDrive) → net_faults is_reg ds ≡ [] → In d ds → driver_of is_reg ds ≡ d.driver
 only-driver is_reg [] d h k = absurd k
@@ -73,17 +66,6 @@ element-drives d count e n p h at lt =
     let faultless : faults_at d n ≡ [] =
     all-in (λ k. faults_at d k ≡ []) n (range_with_len 0 count) (flat-empty (faults_at d) (range_with_len 0 count) h) (in-range n 0 count (omega arith) (omega arith)) in
     only-driver (has n d.regs) (drives_of (net_drives d) n) (by_element x) faultless (in-filter (λ d. d.net == n) (by_element x) (net_drives d) there (eq-eqb n n refl))
-
--- what one at a place of a mapped list is made of
-record MadeAt {A B : Type 0} (f : A → B) (xs : List A) (k : ℕ) (y : B) : Type 0 where
-  source : A
-  at : slice_get xs k ≡ Some source
-  made : f source ≡ y
-
-made-at : {A B : Type 0} (f : A → B) (xs : List A) (k : ℕ) (y : B) → slice_get (map f xs) k ≡ Some y → MadeAt f xs k y
-made-at f [] k y e = cc
-made-at f (x ∷ xs) zero y e = record { source = x; at = refl; made = cc }
-made-at f (x ∷ xs) (suc k) y e = let r = made-at f xs k y e in record { source = r.source; at = r.at; made = r.made }
 
 pub elements-named : (ns : List Net) (d : Driving) (es : List Element) → map (λ o. o.1) d.outputs ≡ map (λ e. e.output) es → driving_faults d (length ns) ≡ [] → AllByRecursion (λ e. e.output < length ns) es
     → (no_element : Element) (no_net : Net) (e : ℕ) → e < length es → (slice_index_or (driven_nets ns d) (slice_index_or es e no_element).output no_net).driver ≡ driver.Element e

@@ -18,14 +18,15 @@ use Rattle.elab_model.specs.Bits.{Bit, net, constant, positions, leaf_bits}
 use Rattle.elab_model.specs.Connections.{port_values}
 use Rattle.elab_model.specs.Definitions.{definition_of}
 use Rattle.elab_model.specs.Delays.{delays_of}
-use Rattle.elab_model.specs.Elements.{Component, expression_bits, leg_at, variable_legs, legs, pass_to, constant_pass, output_count, input_spot, output_bits, input_bits, output_element, path_at}
+use Rattle.elab_model.specs.Elements.{Component, expression_bits, leg_at, variable_legs, legs, pass_to, constant_pass, output_count, input_spot, output_bits, input_bits, output_element, path_at, late_at}
 use Rattle.elab_model.specs.Elements.{terminal_elements}
 use Rattle.elab_model.specs.Elements.{port_spot, port_elements, child_elements, child_at, instance_elements, member_elements, elements_of}
 use Rattle.elab_model.specs.Ends.{first_ends}
 use Rattle.elab_model.specs.Hierarchy.{Step, Instance, is_leaf}
 use Rattle.elab_model.specs.Homes.{Spot, bit, inner, terminal, is_input, is_same_spot, home, same_above}
+use Rattle.elab_model.specs.Lates.{DelayedCopy, own_copies}
 use Rattle.elab_model.specs.Leaves.{whole}
-use Rattle.elab_model.specs.Members.{Member, assignment, supply, gate, instance, path, members, connection_values}
+use Rattle.elab_model.specs.Members.{Member, assignment, supply, gate, instance, path, check, members, connection_values}
 use Rattle.elab_model.specs.ModuleFaults.{are_terminals, takes_terminals, primitive_instance_faults, instance_faults, member_faults, all_member_faults, module_faults}
 use Rattle.elab_model.specs.Names.{variables}
 use Rattle.elab_model.specs.Ports.{port_list}
@@ -57,7 +58,7 @@ pub record Fits (k : ℕ) (c : Component) : Type 0 where
 reads-nothing : ReadsInnerAlone []
 reads-nothing s n p e = cc
 
--- ---- legs, passes and paths
+-- ---- legs, passes, paths and Lates
 
 leg-fits : (source : Source) (s : Instance) (n : List ℕ) (p : ℕ) → Fits s.step.number (leg_at source s n p)
 leg-fits source s n p = record { scope = refl; takes = refl; delays = leg-delays; paths = λ n. tt; alone = λ s n p e. refl }
@@ -81,10 +82,13 @@ constant-fits s spot (constant at v) = (record { scope = refl; takes = refl; del
 path-fits : (source : Source) (s : Instance) (at : Place) (b : NetBit) → Fits s.step.number (path_at source s at b)
 path-fits source s at b = record { scope = refl; takes = refl; delays = All-from_recursion (λ p. AreTimings p.timings) [] tt; paths = λ n. All-from_recursion (IsPathOf n) [] tt; alone = λ s n p e. refl }
 
+late-fits : (source : Source) (s : Instance) (c : Place × DelayedCopy) → Fits s.step.number (late_at source s c)
+late-fits source s c = record { scope = refl; takes = refl; delays = omega arith; paths = λ n. tt; alone = λ s n p e. refl }
+
 -- ---- gates and primitives
 
 -- no bit's net is an inner one
-home-outer : (source : Source) (s : Step) (above : List Step) (n : List ℕ) (p t : ℕ) (m : List ℕ) (q : ℕ) → is_same_spot (inner t m q) (home source s above n p) ≡ false
+pub home-outer : (source : Source) (s : Step) (above : List Step) (n : List ℕ) (p t : ℕ) (m : List ℕ) (q : ℕ) → is_same_spot (inner t m q) (home source s above n p) ≡ false
 home-outer source s [] n p t m q = refl
 home-outer source s (parent ∷ above) n p t m q = by (same_above source s parent n p) (λ k i. home-outer source parent above k i t m q)
   where
@@ -211,6 +215,9 @@ member-fits source corner tick s (k, instance n d i) h = by (definition_of sourc
 member-fits source corner tick s (k, path p) h =
     let bs = first_ends s.step.definition (k, path p) in
     all-map (Fits s.step.number) (path_at source s p.place) bs (all-anyway (λ b. Fits s.step.number (path_at source s p.place b)) bs (path-fits source s p.place))
+member-fits source corner tick s (k, check t) h =
+    let cs = own_copies s.step.definition (k, check t) in
+    all-map (Fits s.step.number) (late_at source s) cs (all-anyway (λ c. Fits s.step.number (late_at source s c)) cs (late-fits source s))
 
 pub elements-fit : (source : Source) (corner : Corner) (tick : ℤ) (s : Instance) → module_faults source corner tick s.step.definition ≡ []
     → AllByRecursion (Fits s.step.number) (elements_of source corner tick s)

@@ -50,11 +50,23 @@ one-known vs [] e h k = cc
 one-known vs (net n p ∷ bs) e h k = k.0
 one-known vs (constant at v ∷ bs) e h k = absurd h.0
 
+one-only : (bs : List Bit) → length bs ≡ 1 → AllByRecursion IsVariableBit bs → filter_map net_bit bs ≡ first_bit (filter_map net_bit bs) ∷ []
+one-only [] e h = cc
+one-only (net n p ∷ []) e h = refl
+one-only (net n p ∷ b ∷ bs) e h = cc
+one-only (constant at v ∷ bs) e h = absurd h.0
+
+operand-width : (vs : List Variable) (t : Term) → operand_faults vs t ≡ [] → length (bits vs (expression_of t)) ≡ 1
+operand-width vs t h = let e = expression_of t in width-is vs 1 e (front (term_faults vs t) (width_faults vs 1 e) h) (back (term_faults vs t) (width_faults vs 1 e) h)
+
+term-nets : (vs : List Variable) (t : Term) → AllByRecursion IsVariableBit (bits vs (expression_of t))
+term-nets vs t = all-append IsVariableBit (leaf_bits vs (leaf_of t.name t.select)) [] (leaf-nets vs t.name t.select) tt
+
+pub operand-is_one : (vs : List Variable) (t : Term) → operand_faults vs t ≡ [] → term_bits vs t ≡ first_bit (term_bits vs t) ∷ []
+operand-is_one vs t h = one-only (bits vs (expression_of t)) (operand-width vs t h) (term-nets vs t)
+
 pub operand-known : (vs : List Variable) (t : Term) → operand_faults vs t ≡ [] → HasNetBit vs (first_bit (term_bits vs t))
-operand-known vs t h =
-    let e = expression_of t in
-    one-known vs (bits vs e) (width-is vs 1 e (front (term_faults vs t) (width_faults vs 1 e) h) (back (term_faults vs t) (width_faults vs 1 e) h))
-    (all-append IsVariableBit (leaf_bits vs (leaf_of t.name t.select)) [] (leaf-nets vs t.name t.select) tt) (bits-below vs e)
+operand-known vs t h = one-known vs (bits vs (expression_of t)) (operand-width vs t h) (term-nets vs t) (bits-below vs (expression_of t))
 
 -- where a name stands makes no difference
 abbrev term_at : List ℕ → Option Select → Place → Term

@@ -10,11 +10,15 @@ pub mod Operands
 pub mod PathTimings
 pub mod NamedPaths
 pub mod SoundChecks
+pub mod CheckMembers
+pub mod CheckCopies
 pub mod NamedChecks
 pub mod Named
 pub mod Fits
 pub mod Elements
 pub mod Outputs
 pub mod Drivers
+pub mod Lates
+pub mod Signals
 pub mod Checks
 pub mod Closed

@@ -1,37 +1,31 @@
 -- The bits that a module's paths name are bits of its variables, where its blocks have no fault.
-use Rattle.std.specs.Prelude.{◌≡◌, List, [], ◌∷◌, ◌++◌, Bool, true, false, filter, filter_map, flat_map, map, zip, ℤ, if◌then◌else◌}
+use Rattle.std.specs.Prelude.{◌≡◌, List, [], ◌∷◌, ◌++◌, Bool, true, false, filter, flat_map, map, zip, ℤ, if◌then◌else◌}
 use Rattle.std.specs.List.{AllByRecursion, list_any}
 use Rattle.sg_delay.specs.declared.corners.Corner.{Corner}
 use Rattle.vl_tree.specs.declared.paths.Arrow.{Arrow}
 use Rattle.vl_tree.specs.declared.paths.Arrow.TheVariants.{Parallel, Full}
 use Rattle.vl_tree.specs.Tree.{SpecifyPath, Term, Module}
-use Rattle.elab_model.specs.Bits.{Bit, net, constant, bits}
 use Rattle.elab_model.specs.Names.{Variable, variables}
-use Rattle.elab_model.specs.Terms.{NetBit, expression_of, is_same_bit, net_bit, pairs, path_pairs, term_bits, terms_bits}
+use Rattle.elab_model.specs.Terms.{NetBit, is_same_bit, pairs, path_pairs, terms_bits}
 use Rattle.specify_model.specs.Blocks.{parameters, pulses, specify_items, specify_paths, style_texts}
 use Rattle.specify_model.specs.Faults.{condition_faults, end_faults, list_faults, own_condition, path_faults, side_faults, source_faults, specify_faults}
 use Rattle.specify_model.specs.Outputs.{first_paths, measure, output_of, path_outputs, paths_to}
 use Rattle.specify_model.specs.Paths.{PathTo, module_paths, path_between, paths_of}
 use Rattle.specify_model.specs.PulseLimits.{Limits, limits_of}
 use Rattle.specify_model.specs.Values.{Measure, Values, value_of}
-use Rattle.elab_laws.proofs.EndBits.{HasNetBit}
-use Rattle.elab_laws.proofs.Lists.{all-flat, all-flat_in, all-map, all-weaker}
+use Rattle.elab_laws.proofs.EndBits.{HasNetBit, terms-below}
+use Rattle.elab_laws.proofs.Filters.{all-filter}
+use Rattle.elab_laws.proofs.Lists.{all-flat_in, all-map, all-weaker}
 use Rattle.elab_laws.proofs.NoFaults.{back, front}
-use Rattle.elab_laws.proofs.Places.{IsBitOf, bits-below}
 use Rattle.elab_closed.specs.NamedNets.{EachInOutput, EachInPath}
 use Rattle.elab_closed.proofs.Operands.{condition-known}
-use Rattle.elab_closed.proofs.PathTimings.{filtered, paths-sound}
+use Rattle.elab_closed.proofs.PathTimings.{paths-sound}
 
 module _ (vs : List Variable) (P : NetBit → Type 0) (known : (b : NetBit) → HasNetBit vs b → P b) where
   -- ---- one specify path
 
-  bits-known : (bs : List Bit) → AllByRecursion (IsBitOf vs) bs → AllByRecursion P (filter_map net_bit bs)
-  bits-known [] h = tt
-  bits-known (net n p ∷ bs) h = (known _ h.0, bits-known bs h.1)
-  bits-known (constant at v ∷ bs) h = bits-known bs h.1
-
   terms-known : (ts : List Term) → AllByRecursion P (terms_bits vs ts)
-  terms-known ts = all-flat P (term_bits vs) ts (λ t. bits-known (bits vs (expression_of t)) (bits-below vs (expression_of t)))
+  terms-known ts = all-weaker (HasNetBit vs) P (terms_bits vs ts) known (terms-below vs ts)
 
   abbrev AreKnown : NetBit × NetBit → Type 0
   AreKnown b = P b.0 × P b.1
@@ -73,7 +67,7 @@ module _ (vs : List Variable) (P : NetBit → Type 0) (known : (b : NetBit) → 
   kept : (b : NetBit) (ps : List PathTo) → AllByRecursion IsKnown ps → AllByRecursion (EachInPath P) (paths_to b ps)
   kept b ps h =
       let own = filter (λ p. is_same_bit b p.output) ps in
-      all-map (EachInPath P) (λ p. p.path) own (all-weaker IsKnown (λ p. EachInPath P p.path) own (λ p k. k.1) (filtered IsKnown (λ p. is_same_bit b p.output) ps h))
+      all-map (EachInPath P) (λ p. p.path) own (all-weaker IsKnown (λ p. EachInPath P p.path) own (λ p k. k.1) (all-filter IsKnown (λ p. is_same_bit b p.output) ps h))
 
 pub outputs-known : (corner : Corner) (tick : ℤ) (m : Module) (P : NetBit → Type 0) → ((b : NetBit) → HasNetBit (variables m) b → P b) → specify_faults corner tick m ≡ []
     → AllByRecursion (EachInOutput P) (path_outputs corner tick m)

@@ -26,6 +26,7 @@ use Rattle.specify_model.specs.Paths.{PathTo, timings_with, path_between, paths_
 use Rattle.specify_model.specs.PulseLimits.{limit_ticks, is_for_ends, is_for_others, last_of, limits_of}
 use Rattle.elab_model.specs.Terms.{NetBit, is_same_bit, path_pairs}
 use Rattle.specify_model.specs.Values.{Measure, Values, value_of, corner_amount, amount_ticks, delay_ticks, all_delays, expanded, twelve_delays}
+use Rattle.elab_laws.proofs.Filters.{all-filter}
 use Rattle.elab_laws.proofs.Lists.{all-anyway, all-flat_in, all-map, all-weaker}
 use Rattle.elab_laws.proofs.NoFaults.{front, back, flat-empty}
 use Rattle.elab_laws.proofs.ElementWidths.{no-fault}
@@ -125,14 +126,6 @@ last-holds : (P : Pulse → Type 0) (o : Option Pulse) (ps : List Pulse) → IfS
 last-holds P o [] h k = h
 last-holds P o (p ∷ ps) h k = last-holds P (Some p) ps k.0 k.1
 
-pub filtered : {A : Type 0} (P : A → Type 0) (t : A → Bool) (xs : List A) → AllByRecursion P xs → AllByRecursion P (filter t xs)
-filtered P t [] h = tt
-filtered P t (x ∷ xs) h = by (t x) (filtered P t xs h.1)
-  where
-    by : (b : Bool) → AllByRecursion P (filter t xs) → AllByRecursion P (cond b (x ∷ filter t xs) (filter t xs))
-    by true k = (h.0, k)
-    by false k = k
-
 found : (by : Measure) (a b : Option Pulse) → IfSome a (λ p. AreLimits (limit_ticks by p)) → IfSome b (λ p. AreLimits (limit_ticks by p)) → IfSome (option_map (limit_ticks by) (option_or a b)) AreLimits
 found by None None h k = tt
 found by None (Some p) h k = k
@@ -146,8 +139,8 @@ given-limits by vs ps h i o =
     (no-fault (are_bad_limits (limit_ticks by p)) BadDelay p.name.place (back (fault_if (has_no_ends vs p) UnknownName p.name.place) (fault_if (are_bad_limits (limit_ticks by p)) BadDelay p.name.place) e)))
     (flat-empty (pulse_faults by vs) ps h) in
     found by (last_of (is_for_ends vs i o) ps) (last_of is_for_others ps)
-    (last-holds (λ p. AreLimits (limit_ticks by p)) None (filter (is_for_ends vs i o) ps) tt (filtered (λ p. AreLimits (limit_ticks by p)) (is_for_ends vs i o) ps each))
-    (last-holds (λ p. AreLimits (limit_ticks by p)) None (filter is_for_others ps) tt (filtered (λ p. AreLimits (limit_ticks by p)) is_for_others ps each))
+    (last-holds (λ p. AreLimits (limit_ticks by p)) None (filter (is_for_ends vs i o) ps) tt (all-filter (λ p. AreLimits (limit_ticks by p)) (is_for_ends vs i o) ps each))
+    (last-holds (λ p. AreLimits (limit_ticks by p)) None (filter is_for_others ps) tt (all-filter (λ p. AreLimits (limit_ticks by p)) is_for_others ps each))
 
 -- ---- timings
 
@@ -201,7 +194,7 @@ path-timed by vs values ps p limits h =
     (λ b. timings-are (limits_of by vs ps b.0.name b.1.name) (twelve_delays by values p.delays) (given-limits by vs ps limits b.0.name b.1.name) (path-delays by values p.place p.delays e)))
 
 kept : (b : NetBit) (ps : List PathTo) → AllByRecursion IsTimed ps → AllByRecursion (λ p. AreTimings p.timings) (paths_to b ps)
-kept b ps h = all-map (λ p. AreTimings p.timings) (λ p. p.path) (filter (λ p. is_same_bit b p.output) ps) (filtered IsTimed (λ p. is_same_bit b p.output) ps h)
+kept b ps h = all-map (λ p. AreTimings p.timings) (λ p. p.path) (filter (λ p. is_same_bit b p.output) ps) (all-filter IsTimed (λ p. is_same_bit b p.output) ps h)
 
 -- all paths of an output of a module
 abbrev pub AreTimed : PathOutput → Type 0

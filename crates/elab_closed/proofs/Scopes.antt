@@ -1,5 +1,5 @@
 -- Instances stand after those that they lie in, and each net is of an instance.
-use Rattle.std.specs.Prelude.{◌≡◌, ℕ, ◌<◌, List, [], ◌∷◌, ◌++◌, if◌then◌else◌, IfSome, Option, Some, None, flat_map, length, map, refl, slice_get, slice_index_or}
+use Rattle.std.specs.Prelude.{◌≡◌, ℕ, ◌<◌, List, [], ◌∷◌, ◌++◌, if◌then◌else◌, IfSome, Option, Some, None, filter, flat_map, length, map, refl, slice_get, slice_index_or}
 use Rattle.std.specs.List.{AllByRecursion, enumerate_from, range_with_len}
 use Rattle.std.proofs.Common.{sym, ◌∙◌, ap, arith, subst}
 use Rattle.std.proofs.lemmas.List.{length-map}
@@ -12,9 +12,10 @@ use Rattle.elab_model.specs.Elements.{expression_bits, output_bits, input_bits, 
 use Rattle.elab_model.specs.Ends.{first_ends}
 use Rattle.elab_model.specs.Hierarchy.{Step, Instance, instances}
 use Rattle.elab_model.specs.Homes.{bit, is_same_spot, has_leg, home_of}
-use Rattle.elab_model.specs.Members.{Member, assignment, supply, gate, instance, path, members, connection_values}
+use Rattle.elab_model.specs.Lates.{own_copies, is_unnamed}
+use Rattle.elab_model.specs.Members.{Member, assignment, supply, gate, instance, path, check, members, connection_values}
 use Rattle.elab_model.specs.Names.{variable, variables}
-use Rattle.elab_model.specs.Nets.{OwnNet, bit_net, variable_nets, terminal_net, terminal_nets, outside_net, is_unbound, unbound_net}
+use Rattle.elab_model.specs.Nets.{OwnNet, bit_net, variable_nets, terminal_net, terminal_nets, outside_net, late_net, is_unbound, unbound_net}
 use Rattle.elab_model.specs.Nets.{inner_net, unbound_nets, constant_net, constant_nets, instance_nets, member_nets, nets_of, nets}
 use Rattle.elab_model.specs.Numbered.{undriven}
 use Rattle.elab_model.specs.Ports.{port_list}
@@ -102,6 +103,9 @@ member-of source s (k, instance n d i) = by (definition_of source n.text)
 member-of source s (k, path p) =
     let bs = first_ends s.step.definition (k, path p) in
     all-map (IsOf s.step.number) (inner_net s) bs (all-anyway (λ b. s.step.number ≡ s.step.number) bs (λ b. refl))
+member-of source s (k, check t) =
+    let cs = filter is_unnamed (own_copies s.step.definition (k, check t)) in
+    all-map (IsOf s.step.number) (λ c. late_net s c.1.signal) cs (all-anyway (λ c. s.step.number ≡ s.step.number) cs (λ c. refl))
 
 nets-of : (source : Source) (s : Instance) → AllByRecursion (IsOf s.step.number) (nets_of source s)
 nets-of source s =

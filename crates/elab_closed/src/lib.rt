@@ -14,7 +14,8 @@ pub fn paths_have_nets()
     ensures { PathsHaveNets }
 {}
 
-/// Where a netlist has no fault, each bit that a timing check of an instance names is a net.
+/// Where a netlist has no fault, each bit that a timing check of an instance names is a net, and so is what its delayed copies read
+/// and drive (IEEE 1364-2005, 15.8).
 pub fn checks_have_nets()
     ensures { ChecksHaveNets }
 {}
