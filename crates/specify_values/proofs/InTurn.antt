@@ -1,5 +1,5 @@
 -- Faults that are looked for one after another.
-use Rattle.std.specs.Prelude.{◌≡◌, ℕ, suc, ◌+◌, ◌<◌, ◌≤◌, List, [], ◌∷◌, ◌++◌, Bool, true, Result, Ok, Err, flat_map, length, map, slice_index_or, refl}
+use Rattle.std.specs.Prelude.{◌≡◌, ℕ, suc, ◌+◌, ◌<◌, ◌≤◌, List, [], ◌∷◌, ◌++◌, Bool, true, false, Result, Ok, Err, flat_map, length, map, slice_index_or, refl}
 use Rattle.std.proofs.Common.{sym, ◌∙◌, ap, arith, subst, drop, drop-cons}
 use Rattle.std.proofs.lemmas.List.{drop_all}
 use Rattle.sg_text.specs.declared.places.Place.{Place}
@@ -22,6 +22,14 @@ tells-second fs gs (Err r) e h = refused-right fs gs r h
 -- one fault where a test holds
 pub fault-told : (test : Bool) (k : ElabKind) (p : Place) → test ≡ true → RefusesOneOf (fault_if test k p) (refused.Fault k p)
 fault-told test k p e = subst (λ b. RefusesOneOf (fault_if b k p) (refused.Fault k p)) (sym e) (0, (omega arith, refl))
+
+-- none where it doesn't, and the other way round
+pub none-if : (test : Bool) (k : ElabKind) (p : Place) → test ≡ false → fault_if test k p ≡ []
+none-if test k p e = ap (λ b. fault_if b k p) e
+
+pub if-none : (test : Bool) (k : ElabKind) (p : Place) → fault_if test k p ≡ [] → test ≡ false
+if-none true k p e = cc
+if-none false k p e = refl
 
 -- ---- in a loop over a list that is seen by view: the faults of those that are left are those of all
 

@@ -5,4 +5,3 @@ pub mod Gathered
 pub mod InTurn
 pub mod ByName
 pub mod Latest
-pub mod Signed

@@ -1,5 +1,5 @@
 // Limits of timing checks in ticks.
-ghost use Rattle.std.specs.Prelude.{◌≡◌, ◌&&◌, ◌==◌, pos, false, not, IfOk, flat_map};
+ghost use Rattle.std.specs.Prelude.{◌≡◌, ◌+◌, ◌*◌, ◌<◌, ◌^◌, ◌-ℤ◌, pos, false, if◌then◌else◌, IfOk, flat_map};
 ghost use Rattle.vl_tree.specs.Seen.{view_limit, view_signed};
 ghost use Rattle.specify_model.specs.CheckFaults as faults;
 ghost use Rattle.specify_model.specs.Checks as def;
@@ -14,6 +14,8 @@ use elab_model::ElabKind;
 use sg_delay::Corner;
 use sg_text::Refused;
 use vl_tree::{Limit, SignedAmount};
+
+const LIMIT: u128 = 1 << 60;
 
 // Refuses a specparam that there isn't, in any part.
 fn check_parts_known(parameters: &Parameters, limit: &Limit) -> Result<(), Refused<ElabKind>>
@@ -41,46 +43,71 @@ fn corner_part<'a>(corner: Corner, limit: &Limit<'a>) -> SignedAmount<'a>
     }
 }
 
-// What is written is below 0.
-fn is_below_0(part: &SignedAmount, ticks: u64) -> bool
-    ensures { result ≡ (part.now.negative && not (ticks == 0)) }
+// A size comes to 2^60 ticks once each of so many signals bears it, and once besides.
+fn is_heavy(ticks: u64, signals: usize) -> bool
+    ensures { result ≡ is_too_long (ticks * (signals + 1)) }
 {
-    part.negative && ticks != 0
+    u128::from(ticks) * (signals as u128 + 1) >= LIMIT
 }
 
-// What is written behind the sign. Refuses 2^60 ticks and more (BadDelay), and a size below 0 (NegativeLimit), at the amount.
+// The size of a part. Refuses one that is too long (BadDelay, at the amount).
 fn part_ticks(
     by: Measure,
     parameters: &Parameters,
+    signals: usize,
     part: &SignedAmount,
 ) -> Result<u64, Refused<ElabKind>>
-    ensures ticks { IfOk result (λ n. pos n ≡ def.signed_ticks (measured by) (values_of parameters.now) (view_signed part.now)) }
     ensures size { IfOk result (λ n. n ≡ def.size_ticks (measured by) (values_of parameters.now) (view_signed part.now)) }
     ensures fits { IfOk result (λ n. is_too_long n ≡ false) }
-    ensures told { Tells (faults.part_faults (measured by) (values_of parameters.now) (view_signed part.now)) result }
+    ensures told { Tells (faults.heavy_faults (signals + 1) (measured by) (values_of parameters.now) (view_signed part.now)) result }
 {
     let ticks = amount_ticks(by, parameters, &part.amount)?;
-    if is_below_0(part, ticks) {
+    if is_heavy(ticks, signals) {
         return Err(Refused::Fault {
-            kind: ElabKind::NegativeLimit,
+            kind: ElabKind::BadDelay,
             place: place_of(&part.amount),
         });
     }
     Ok(ticks)
 }
 
-/// The limit of a timing check in ticks (IEEE 1364-2005, clause 15). Refuses a specparam that there isn't, in any of its parts, and of the corner's part 2^60 ticks and more (BadDelay) and
-/// what is below 0 (NegativeLimit), at the amount. Takes no memory.
+fn signed(negative: bool, ticks: u64) -> i64
+    requires { ticks < 2 ^ 60 }
+    ensures { result ≡ (if negative then (pos 0 -ℤ pos ticks) else pos ticks) }
+{
+    if negative {
+        -(ticks as i64)
+    } else {
+        ticks as i64
+    }
+}
+
+/// The limit of a timing check in ticks (IEEE 1364-2005, clause 15), which may lie below 0. Refuses a specparam that there isn't, in any of its parts, and of the corner's part what comes to
+/// 2^60 ticks and more where it is added up once, and once more for each of so many signals (BadDelay), at the amount. Takes no memory.
 pub fn limit_ticks(
     by: Measure,
     parameters: &Parameters,
+    signals: usize,
     limit: &Limit,
-) -> Result<u64, Refused<ElabKind>>
-    ensures ticks { IfOk result (λ n. pos n ≡ def.limit_ticks (measured by) (values_of parameters.now) (view_limit limit.now)) }
-    ensures size { IfOk result (λ n. n ≡ def.size_ticks (measured by) (values_of parameters.now) (def.corner_limit by.corner (view_limit limit.now))) }
-    ensures fits { IfOk result (λ n. is_too_long n ≡ false) }
-    ensures told { Tells (faults.limit_faults (measured by) (values_of parameters.now) (view_limit limit.now)) result }
+) -> Result<i64, Refused<ElabKind>>
+    ensures ticks { IfOk result (λ l. l ≡ def.limit_ticks (measured by) (values_of parameters.now) (view_limit limit.now)) }
+    ensures told { Tells (faults.limit_faults (signals + 1) (measured by) (values_of parameters.now) (view_limit limit.now)) result }
 {
     check_parts_known(parameters, limit)?;
-    part_ticks(by, parameters, &corner_part(by.corner, limit))
+    let part = corner_part(by.corner, limit);
+    let ticks = part_ticks(by, parameters, signals, &part)?;
+    Ok(signed(part.negative, ticks))
+}
+
+/// The threshold of a timing check in ticks, which has no sign (IEEE 1364-2005, 15.3.4). Refuses what `limit_ticks` does without signals. Takes no memory.
+pub fn threshold_ticks(
+    by: Measure,
+    parameters: &Parameters,
+    threshold: &Limit,
+) -> Result<u64, Refused<ElabKind>>
+    ensures ticks { IfOk result (λ n. n ≡ def.size_ticks (measured by) (values_of parameters.now) (def.corner_limit by.corner (view_limit threshold.now))) }
+    ensures told { Tells (faults.limit_faults 1 (measured by) (values_of parameters.now) (view_limit threshold.now)) result }
+{
+    check_parts_known(parameters, threshold)?;
+    part_ticks(by, parameters, 0, &corner_part(by.corner, threshold))
 }

@@ -12,7 +12,7 @@ mod parameters;
 mod pulses;
 mod ticks;
 
-pub use check_limits::limit_ticks;
+pub use check_limits::{limit_ticks, threshold_ticks};
 pub use delays::path_delays;
 pub use gathering::block_items;
 pub use items::{BlockItems, Parameter, Pulse, StyleText};
