@@ -1,6 +1,6 @@
 // A case: the files that are held, the calls that fail, and the words of a command line.
 use sg_io::{MemoryShelf, MemorySink};
-use signoff_top::top;
+use signoff_top::{Status, top};
 use std::alloc::Global;
 
 #[derive(Debug, Drop)]
@@ -16,7 +16,8 @@ struct Failing {
     taken: u64,
 }
 
-/// Files, words, the calls of the shelf and of the report that fail, and the name of the file that a run may make.
+/// Files, words, the calls of the shelf and of the report that fail, and the name of the file that a run may make; or that of a file
+/// of which each front is tried.
 #[derive(Debug, Drop)]
 pub struct Case {
     title: String,
@@ -25,6 +26,7 @@ pub struct Case {
     shelf_failing: Vec<Failing>,
     report_failing: Vec<Failing>,
     made: Option<String>,
+    cut: Option<String>,
 }
 
 fn failing_of(numbers: &str) -> anyhow::Result<Failing> {
@@ -54,6 +56,7 @@ impl Case {
             shelf_failing: Vec::new(alloc),
             report_failing: Vec::new(alloc),
             made: None,
+            cut: None,
         }
     }
 
@@ -74,6 +77,7 @@ impl Case {
             Some(("fail", numbers)) => self.shelf_failing.push(failing_of(numbers)?)?,
             Some(("fail_report", numbers)) => self.report_failing.push(failing_of(numbers)?)?,
             Some(("made", name)) => self.made = Some(String::from_str(alloc, name)?),
+            Some(("cut", name)) => self.cut = Some(String::from_str(alloc, name)?),
             Some(("words", words)) => {
                 for word in words.split(' ') {
                     self.words.push(String::from_str(alloc, word)?)?;
@@ -116,6 +120,41 @@ impl Case {
         Ok(report)
     }
 
+    // Whether a run has an answer where a file has its first bytes alone: a report of whole lines, and no fault or want of memory.
+    fn is_answered(&self, alloc: Global, name: &str, front: usize) -> anyhow::Result<bool> {
+        let mut shelf = MemoryShelf::new(alloc);
+        for file in &self.files {
+            let bytes = file.text.as_bytes();
+            let taken = if file.name == name {
+                front.min(bytes.len())
+            } else {
+                bytes.len()
+            };
+            shelf.hold(&file.name, &bytes[..taken])?;
+        }
+        let mut report = MemorySink::new(alloc);
+        let status = top(alloc, &self.words, &mut shelf, &mut report);
+        let is_told = matches!(report.bytes(), [.., b'\n']);
+        Ok(is_told && !matches!(status, Status::Fault | Status::NoMemory))
+    }
+
+    // Tries each front of a file, and adds of how many there was an answer.
+    fn show_fronts(&self, alloc: Global, name: &str, out: &mut String) -> anyhow::Result<()> {
+        for file in &self.files {
+            if file.name == name {
+                let fronts = file.text.len();
+                let mut answered = 0_u64;
+                for front in 0..fronts {
+                    if self.is_answered(alloc, name, front)? {
+                        answered = answered.saturating_add(1);
+                    }
+                }
+                writeln!(out, "{answered} of {fronts} fronts of {name} answered")?;
+            }
+        }
+        Ok(())
+    }
+
     /// Runs it, and adds what came to a text.
     pub fn show(&self, alloc: Global, out: &mut String) -> anyhow::Result<()> {
         if self.title.is_empty() {
@@ -123,6 +162,9 @@ impl Case {
         }
         let title = &self.title;
         writeln!(out, "case {title}")?;
+        if let Some(name) = &self.cut {
+            return self.show_fronts(alloc, name, out);
+        }
         let mut shelf = self.shelf(alloc)?;
         let mut report = self.report(alloc)?;
         let status = top(alloc, &self.words, &mut shelf, &mut report).code();
