@@ -1,7 +1,7 @@
 -- Worked examples of the words.
 use Rattle.std.proofs.Common.{◌≡◌, [], ◌∷◌, Some, None, codes, refl}
 use Rattle.sg_delay.specs.declared.corners.Corner.TheVariants.{Max}
-use Rattle.run_words.specs.Words.{command_of, default_corner, default_rounds, default_wheel, names_in}
+use Rattle.run_words.specs.Words.{a_case, asked_of, command_of, default_corner, default_rounds, default_wheel, names_in}
 
 -- `run --stim=s --vcd v -- -a.v`
 behind_the_end : command_of (codes "run" ∷ codes "--stim=s" ∷ codes "--vcd" ∷ codes "v" ∷ codes "--" ∷ codes "-a.v" ∷ [])
@@ -60,3 +60,29 @@ short_name = refl
 
 end_as_value : command_of (codes "run" ∷ codes "a.v" ∷ codes "--stim" ∷ codes "s" ∷ codes "--vcd" ∷ codes "--" ∷ codes "v" ∷ []) ≡ None
 end_as_value = refl
+
+-- `gen 000100`; a case of no stage, of one too many, and of seven digits; two numbers; `gen` alone
+a_hundred_stages : asked_of (codes "gen" ∷ codes "000100" ∷ []) ≡ Some (a_case 100)
+a_hundred_stages = refl
+
+most_of_all : asked_of (codes "gen" ∷ codes "100000" ∷ []) ≡ Some (a_case 100000)
+most_of_all = refl
+
+no_stage : asked_of (codes "gen" ∷ codes "0" ∷ []) ≡ None
+no_stage = refl
+
+one_too_many : asked_of (codes "gen" ∷ codes "100001" ∷ []) ≡ None
+one_too_many = refl
+
+seven_digits : asked_of (codes "gen" ∷ codes "0000100" ∷ []) ≡ None
+seven_digits = refl
+
+two_numbers : asked_of (codes "gen" ∷ codes "1" ∷ codes "2" ∷ []) ≡ None
+two_numbers = refl
+
+gen_alone : asked_of (codes "gen" ∷ []) ≡ None
+gen_alone = refl
+
+-- and `generate 1`
+another_word : asked_of (codes "generate" ∷ codes "1" ∷ []) ≡ None
+another_word = refl

@@ -6,7 +6,7 @@ use Rattle.std.proofs.lemmas.Bool.{leb-true}
 use Rattle.std.proofs.lemmas.Option.{same_Some}
 use Rattle.sg_delay.specs.declared.corners.Corner.{Corner}
 use Rattle.run_words.specs.Arguments.{Argument, is_text, arguments_of}
-use Rattle.run_words.specs.Words.{Command, value_of, netlists_of, option_names, is_known, is_single, are_sound, corner_of, is_number, number_up_to, default_corner, default_rounds, most_rounds, default_wheel, most_wheel, read_or, command_with, command_from, command_of}
+use Rattle.run_words.specs.Words.{Command, value_of, netlists_of, option_names, is_known, is_single, are_sound, corner_of, is_number, most_digits, number_up_to, default_corner, default_rounds, most_rounds, default_wheel, most_wheel, read_or, command_with, command_from, command_of}
 
 both : (a b : Bool) → (a && b) ≡ true → (a ≡ true) × (b ≡ true)
 both false b e = cc
@@ -23,24 +23,24 @@ then_some f (Some x) y e = (x, e)
 Within : ℕ → Option ℕ → Type 0
 Within most o = IfSome o (λ n. (1 ≤ n) × (n ≤ most))
 
-number_within : (most : ℕ) (text : List ℕ) → Within most (number_up_to most text)
+number_within : (digits most : ℕ) (text : List ℕ) → Within most (number_up_to digits most text)
 unfolding Within
-number_within most text =
+number_within digits most text =
     let n = digits_value 10 text in
-    let test = is_number text && nat_le 1 n && nat_le n most in
+    let test = is_number digits text && nat_le 1 n && nat_le n most in
     let by : (b : Bool) → test ≡ b → IfSome (cond b (Some n) None) (λ k. (1 ≤ k) × (k ≤ most)) =
     λ b. elim b as (λ v. test ≡ v → IfSome (cond v (Some n) None) (λ k. (1 ≤ k) × (k ≤ most))) [
       | true ↦ λ e.
-          let parts = both (is_number text && nat_le 1 n) (nat_le n most) e in
-          (leb-true 1 n (both (is_number text) (nat_le 1 n) parts.0).1, leb-true n most parts.1)
+          let parts = both (is_number digits text && nat_le 1 n) (nat_le n most) e in
+          (leb-true 1 n (both (is_number digits text) (nat_le 1 n) parts.0).1, leb-true n most parts.1)
       | false ↦ λ e. tt
     ] in
     by test refl
 
-read_within : (default most : ℕ) (value : Option (List ℕ)) → 1 ≤ default → default ≤ most → Within most (read_or default (number_up_to most) value)
+read_within : (default most : ℕ) (value : Option (List ℕ)) → 1 ≤ default → default ≤ most → Within most (read_or default (number_up_to most_digits most) value)
 unfolding Within
 read_within default most None low high = (low, high)
-read_within default most (Some text) low high = number_within most text
+read_within default most (Some text) low high = number_within most_digits most text
 
 IsWithin : List (List ℕ) → Command → Type 0
 IsWithin netlists c = (c.netlists ≡ netlists) × (1 ≤ c.rounds) × (1 ≤ c.wheel) × (c.wheel ≤ most_wheel)
@@ -64,7 +64,7 @@ from_arguments arguments c e =
     let parts = when_some (are_sound arguments) (command_with (netlists_of arguments) arguments) c e in
     let some = both (list_all is_known arguments && list_all (is_single arguments) option_names) (nat_le 1 (length (netlists_of arguments))) parts.0 in (
       built (value_of (codes "sdf") arguments) (value_of (codes "stim") arguments) (value_of (codes "vcd") arguments) (value_of (codes "top") arguments) (read_or default_corner corner_of (value_of (codes "corner") arguments))
-          (read_or default_rounds (number_up_to most_rounds) (value_of (codes "rounds") arguments)) (read_or default_wheel (number_up_to most_wheel) (value_of (codes "wheel") arguments)) (netlists_of arguments) c parts.1
+          (read_or default_rounds (number_up_to most_digits most_rounds) (value_of (codes "rounds") arguments)) (read_or default_wheel (number_up_to most_digits most_wheel) (value_of (codes "wheel") arguments)) (netlists_of arguments) c parts.1
           (read_within default_rounds most_rounds (value_of (codes "rounds") arguments) (omega arith) (omega arith)) (read_within default_wheel most_wheel (value_of (codes "wheel") arguments) (omega arith) (omega arith)),
       leb-true 1 (length (netlists_of arguments)) some.1,
     )

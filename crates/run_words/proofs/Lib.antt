@@ -1,5 +1,6 @@
 -- The modules of this folder.
 pub mod ArgumentLaws
+pub mod AskedLaws
 pub mod CommandLaws
 pub mod Examples
 pub mod FrontLaws

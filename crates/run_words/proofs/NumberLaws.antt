@@ -18,11 +18,11 @@ both true b e = (refl, e)
 not_refused : {E : Type 0} (text : List ℕ) (r : Result ℕ E) → r ≡ Ok (digits_value 10 text) → result_ok r ≡ None → ⊥
 not_refused text r given e = let ok : Some (digits_value 10 text) ≡ None = sym (ap result_ok given) ∙ e in cc
 
-pub is_read : {E : Type 0} (text : List ℕ) (r : Result ℕ E) → ParsesUnsigned 32 10 text r → is_number text ≡ true → result_ok r ≡ None → ⊥
-is_read text r h number none =
-    let parts = both (list_all is_ascii_digit text && nat_le 1 (length text)) (nat_le (length text) 7) number in
+pub is_read : {E : Type 0} (text : List ℕ) (r : Result ℕ E) → (digits : ℕ) → digits ≤ 9 → ParsesUnsigned 32 10 text r → is_number digits text ≡ true → result_ok r ≡ None → ⊥
+is_read text r digits most h number none =
+    let parts = both (list_all is_ascii_digit text && nat_le 1 (length text)) (nat_le (length text) digits) number in
     let front = both (list_all is_ascii_digit text) (nat_le 1 (length text)) parts.0 in
     let some : 1 ≤ length text = leb-true 1 (length text) front.1 in
-    let few : length text ≤ 7 = leb-true (length text) 7 parts.1 in
-    let short : digits_value 10 text < 10 ^ 7 = digits_value_short own text 7 front.0 few in
+    let few : length text ≤ 9 = omega (arith, most, leb-true (length text) digits parts.1) in
+    let short : digits_value 10 text < 10 ^ 9 = digits_value_short own text 9 front.0 few in
     not_refused text r (parse_gives own 32 text r h front.0 (omega arith) (omega arith)) none

@@ -66,14 +66,18 @@ corner_of text =
     if is_text (codes "min") text then Some Min
     else (if is_text (codes "typ") text then Some Typ else (if is_text (codes "max") text then Some Max else None))
 
--- one to seven decimal digits, of which the first may be zeros
-abbrev pub is_number : List ℕ → Bool
-is_number text = list_all is_ascii_digit text && nat_le 1 (length text) && nat_le (length text) 7
+-- decimal digits, from one to so many, of which the first may be zeros
+abbrev pub is_number : ℕ → List ℕ → Bool
+is_number digits text = list_all is_ascii_digit text && nat_le 1 (length text) && nat_le (length text) digits
 
--- a number from 1 to the most that it may be
-abbrev pub number_up_to : ℕ → List ℕ → Option ℕ
-number_up_to most text =
-    if is_number text && nat_le 1 (digits_value 10 text) && nat_le (digits_value 10 text) most then Some (digits_value 10 text) else None
+-- a number of so many digits at most, from 1 to the most that it may be
+abbrev pub number_up_to : (digits most : ℕ) → List ℕ → Option ℕ
+number_up_to digits most text =
+    if is_number digits text && nat_le 1 (digits_value 10 text) && nat_le (digits_value 10 text) most then Some (digits_value 10 text) else None
+
+-- the digits of a number that an option has
+abbrev pub most_digits : ℕ
+most_digits = 7
 
 abbrev pub default_corner : Corner
 default_corner = Typ
@@ -101,8 +105,8 @@ command_with netlists arguments = do
   stimulus ← value_of (codes "stim") arguments
   vcd ← value_of (codes "vcd") arguments
   corner ← read_or default_corner corner_of (value_of (codes "corner") arguments)
-  rounds ← read_or default_rounds (number_up_to most_rounds) (value_of (codes "rounds") arguments)
-  wheel ← read_or default_wheel (number_up_to most_wheel) (value_of (codes "wheel") arguments)
+  rounds ← read_or default_rounds (number_up_to most_digits most_rounds) (value_of (codes "rounds") arguments)
+  wheel ← read_or default_wheel (number_up_to most_digits most_wheel) (value_of (codes "wheel") arguments)
   Some (record { netlists = netlists; sdf = value_of (codes "sdf") arguments; stimulus = stimulus; vcd = vcd; top = value_of (codes "top") arguments; corner = corner; rounds = rounds; wheel = wheel })
 
 abbrev pub command_from : List Argument → Option Command
@@ -113,19 +117,12 @@ abbrev pub command_of : List (List ℕ) → Option Command
 command_of [] = None
 command_of (first ∷ words) = if is_text (codes "run") first then option_and_then command_from (arguments_of words) else None
 
--- one to six decimal digits, of which the first may be zeros
-abbrev pub is_count : List ℕ → Bool
-is_count text = list_all is_ascii_digit text && nat_le 1 (length text) && nat_le (length text) 6
-
 abbrev pub most_stages : ℕ
 most_stages = 100000
 
-abbrev pub stages_of : List ℕ → Option ℕ
-stages_of text = if is_count text && nat_le 1 (digits_value 10 text) && nat_le (digits_value 10 text) most_stages then Some (digits_value 10 text) else None
-
--- the number of stages of the words `gen` and a number: a generated case is run; none where they are refused
+-- the number of stages of the words `gen` and a number of six digits at most: a generated case is run; none where they are refused
 abbrev pub case_of : List (List ℕ) → Option ℕ
-case_of (first ∷ text ∷ []) = if is_text (codes "gen") first then stages_of text else None
+case_of (first ∷ text ∷ []) = if is_text (codes "gen") first then number_up_to 6 most_stages text else None
 case_of _ = None
 
 -- what words ask for

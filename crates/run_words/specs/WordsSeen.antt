@@ -1,7 +1,9 @@
 -- Joins `Words` to the code.
 use Rattle.std.specs.Prelude.{map, option_map}
 use Rattle.run_words.specs.declared.words.Command as code
-use Rattle.run_words.specs.Words.{Command}
+use Rattle.run_words.specs.declared.words.Asked as code_asked
+use Rattle.run_words.specs.declared.words.Asked.TheVariants as asked
+use Rattle.run_words.specs.Words.{Asked, a_run, a_case, Command}
 
 abbrev pub command_seen : code.Command → Command
 command_seen c = record {
@@ -14,3 +16,7 @@ command_seen c = record {
   rounds = c.rounds;
   wheel = c.wheel;
 }
+
+abbrev pub asked_seen : code_asked.Asked → Asked
+asked_seen (asked.Run c) = a_run (command_seen c)
+asked_seen (asked.Case stages) = a_case stages

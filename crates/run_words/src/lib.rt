@@ -1,4 +1,4 @@
-//! The words of the command line, read as a run's command, or refused.
+//! The words of the command line, read as what they ask for, or refused.
 #![tactic(auto)]
 
 mod arguments;
@@ -7,4 +7,4 @@ mod parser;
 mod rules;
 mod words;
 
-pub use words::{Command, read_words};
+pub use words::{Asked, Command, read_words};

@@ -1,10 +1,8 @@
 // Numbers as they are written.
-ghost use Rattle.std.specs.Prelude.{◌≡◌};
+ghost use Rattle.std.specs.Prelude.{◌≡◌, ◌≤◌};
 ghost use Rattle.std.specs.Char.{is_ascii_digit};
 ghost use Rattle.std.specs.List.{list_all};
 ghost use Rattle.run_words.specs.Words.{is_number, number_up_to};
-
-const MOST_DIGITS: usize = 7;
 
 fn are_digits(text: &str) -> bool
     ensures { result ≡ list_all is_ascii_digit text.now }
@@ -12,17 +10,18 @@ fn are_digits(text: &str) -> bool
     text.as_bytes().iter().all(|b| b.is_ascii_digit())
 }
 
-fn is_number(text: &str) -> bool
-    ensures { result ≡ is_number text.now }
+fn is_number(digits: usize, text: &str) -> bool
+    ensures { result ≡ is_number digits text.now }
 {
-    are_digits(text) && 1 <= text.len() && text.len() <= MOST_DIGITS
+    are_digits(text) && 1 <= text.len() && text.len() <= digits
 }
 
-/// The number of one to seven decimal digits, if it is from 1 to the most that it may be.
-pub fn number_up_to(most: u32, text: &str) -> Option<u32>
-    ensures { result ≡ number_up_to most text.now }
+/// The number of one to so many decimal digits, if it is from 1 to the most that it may be.
+pub fn number_up_to(digits: usize, most: u32, text: &str) -> Option<u32>
+    requires { digits ≤ 9 }
+    ensures { result ≡ number_up_to digits most text.now }
 {
-    if !is_number(text) {
+    if !is_number(digits, text) {
         return None;
     }
     let number = text.parse().ok()?;

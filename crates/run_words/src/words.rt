@@ -2,8 +2,8 @@
 ghost use Rattle.std.specs.Prelude.{◌≡◌, ◌↔◌, IsTrue, map, option_map, option_and_then, IfOk, codes, string_bytes};
 ghost use Rattle.run_words.specs.Arguments.{is_text, arguments_of};
 ghost use Rattle.run_words.specs.ArgumentsSeen.{argument_seen};
-ghost use Rattle.run_words.specs.Words.{value_of, corner_of, default_corner, command_with, command_from, command_of, number_up_to, read_or};
-ghost use Rattle.run_words.specs.WordsSeen.{command_seen};
+ghost use Rattle.run_words.specs.Words.{value_of, corner_of, default_corner, command_with, command_from, command_of, asked_of, case_of, most_digits, number_up_to, read_or};
+ghost use Rattle.run_words.specs.WordsSeen.{asked_seen, command_seen};
 
 use crate::arguments::{Argument, read_arguments};
 use crate::numbers::number_up_to;
@@ -15,6 +15,9 @@ use std::alloc::Global;
 
 const DEFAULT_CORNER: Corner = Corner::Typ;
 
+// Of a number that an option has.
+const MOST_DIGITS: usize = 7;
+
 const DEFAULT_ROUNDS: u32 = 10_000;
 
 const MOST_ROUNDS: u32 = 1_000_000;
@@ -22,6 +25,10 @@ const MOST_ROUNDS: u32 = 1_000_000;
 const DEFAULT_WHEEL: u32 = 4096;
 
 const MOST_WHEEL: u32 = 1 << 20;
+
+const MOST_STAGES: u32 = 100_000;
+
+const MOST_STAGE_DIGITS: usize = 6;
 
 /// A run. The files are named as the words name them.
 #[derive(Debug, Drop, PartialEq)]
@@ -42,6 +49,14 @@ pub struct Command<'a> {
     pub wheel: u32,
 }
 
+/// What the words ask for.
+#[derive(Debug, Drop)]
+pub enum Asked<'a> {
+    Run(Command<'a>),
+    /// The run of the generated case of so many stages, from 1 to 100000.
+    Case(u32),
+}
+
 fn corner_or_default(arguments: &[Argument<'_>]) -> Option<Corner>
     ensures { result ≡ read_or default_corner corner_of (value_of (codes "corner") (map argument_seen arguments.now)) }
 {
@@ -52,10 +67,10 @@ fn corner_or_default(arguments: &[Argument<'_>]) -> Option<Corner>
 }
 
 fn number_or(arguments: &[Argument<'_>], name: &str, most: u32, default: u32) -> Option<u32>
-    ensures { result ≡ read_or default (number_up_to most) (value_of name.now (map argument_seen arguments.now)) }
+    ensures { result ≡ read_or default (number_up_to most_digits most) (value_of name.now (map argument_seen arguments.now)) }
 {
     match value_of(arguments, name) {
-        Some(text) => number_up_to(most, text),
+        Some(text) => number_up_to(MOST_DIGITS, most, text),
         None => Some(default),
     }
 }
@@ -156,14 +171,46 @@ fn agreed<'a>(parsed: Option<Command<'a>>, ruled: Command<'a>) -> Command<'a>
     }
 }
 
-/// The command that the words of the command line ask for, or None where they are refused. The program's own name isn't
-/// among the words. Takes memory.
-pub fn read_words<'a>(alloc: Global, words: &'a [String]) -> Result<Option<Command<'a>>, NoMemory>
-    ensures command { IfOk result (λ c. option_map (λ x. command_seen x) c ≡ command_of (map (λ w. string_bytes w) words.now)) }
+// The command of the words, or None where they are none of a run.
+fn read_command<'a>(alloc: Global, words: &'a [String]) -> Result<Option<Command<'a>>, NoMemory>
+    ensures { IfOk result (λ c. option_map (λ x. command_seen x) c ≡ command_of (map (λ w. string_bytes w) words.now)) }
 {
     let Some(ruled) = command_by_rules(alloc, words)? else {
         return Ok(None);
     };
     let parsed = command_by_parser(alloc, words)?;
     Ok(Some(agreed(parsed, ruled)))
+}
+
+fn is_gen(word: &str) -> bool
+    ensures { result ≡ is_text (codes "gen") word.now }
+{
+    word == "gen"
+}
+
+// The stages of the words `gen` and a number.
+fn case_of(words: &[String]) -> Option<u32>
+    ensures { result ≡ case_of (map (λ w. string_bytes w) words.now) }
+{
+    let [first, stages] = words else {
+        return None;
+    };
+    if !is_gen(first.as_str()) {
+        return None;
+    }
+    number_up_to(MOST_STAGE_DIGITS, MOST_STAGES, stages.as_str())
+}
+
+/// What the words of the command line ask for, or None where they are refused. The program's own name isn't among the
+/// words. Takes memory.
+pub fn read_words<'a>(alloc: Global, words: &'a [String]) -> Result<Option<Asked<'a>>, NoMemory>
+    ensures asked { IfOk result (λ c. option_map (λ x. asked_seen x) c ≡ asked_of (map (λ w. string_bytes w) words.now)) }
+{
+    if let Some(command) = read_command(alloc, words)? {
+        return Ok(Some(Asked::Run(command)));
+    }
+    let Some(stages) = case_of(words) else {
+        return Ok(None);
+    };
+    Ok(Some(Asked::Case(stages)))
 }
