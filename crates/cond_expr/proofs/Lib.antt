@@ -1,6 +1,5 @@
 -- The modules of this folder.
 pub mod AnyDepth
-pub mod BegunLaws
 pub mod Below
 pub mod BindingExamples
 pub mod BindingLaws

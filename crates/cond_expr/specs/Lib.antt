@@ -1,6 +1,5 @@
 -- The modules of this folder.
 pub mod AllKinds
-pub mod Begun
 pub mod Binding
 pub mod Codes
 pub mod Condition
