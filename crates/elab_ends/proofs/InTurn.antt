@@ -19,7 +19,7 @@ use Rattle.elab_ends.specs.Ends.{AreEnds, ends_before}
 use Rattle.elab_ends.specs.Seen.{AreInRow, bits_seen}
 use Rattle.elab_ends.specs.Words.{AreFirst, HasAdded, HasSeen}
 
-flat-more : {A B : Type 0} (f : A → List B) (xs : List A) (k : ℕ) (d : A) → k < length xs → flat_map f (take (k + 1) xs) ≡ flat_map f (take k xs) ++ f (slice_index_or xs k d)
+pub flat-more : {A B : Type 0} (f : A → List B) (xs : List A) (k : ℕ) (d : A) → k < length xs → flat_map f (take (k + 1) xs) ≡ flat_map f (take k xs) ++ f (slice_index_or xs k d)
 flat-more f xs k d lt =
     ap (flat_map f) (take_more xs k d lt) ∙ flat_map-append f (take k xs) (slice_index_or xs k d ∷ []) ∙ ap (λ ys. flat_map f (take k xs) ++ ys) (append-nil (f (slice_index_or xs k d)))
 
@@ -33,6 +33,29 @@ within : (xs : List ℕ) (x i : ℕ) → i < length xs → slice_get (xs ++ x �
 within [] x i lt = absurd (omega (arith, lt))
 within (y ∷ xs) x zero lt = refl
 within (y ∷ xs) x (suc i) lt = within xs x i (omega (arith, lt))
+
+-- where one more begins
+pub starts-more : (before : ℕ → ℕ) (k : ℕ) (starts next : List ℕ) (n : ℕ) → length starts ≡ k → ((i : ℕ) → i < k → slice_get starts i ≡ Some (before i)) → n ≡ before k → next ≡ starts ++ n ∷ [] → (i : ℕ) → i < k + 1
+    → slice_get next i ≡ Some (before i)
+starts-more before k starts next n counted h count e i lt = by (eq-or-lt_of_le (omega (arith, lt)))
+  where
+    by : (i ≡ k) ⊎ (i < k) → slice_get next i ≡ Some (before i)
+    by (inl f) = ap (λ xs. slice_get xs i) e ∙ at-end starts n i (f ∙ sym counted) ∙ ap Some (count ∙ ap before (sym f))
+    by (inr l) = ap (λ xs. slice_get xs i) e ∙ within starts n i (subst (λ c. i < c) (sym counted) l) ∙ h i l
+
+pub counted-more : (k : ℕ) (starts next : List ℕ) (n : ℕ) → length starts ≡ k → next ≡ starts ++ n ∷ [] → length next ≡ k + 1
+counted-more k starts next n h e = ap length e ∙ length-append starts (n ∷ []) ∙ ap (λ c. c + 1) h
+
+-- a member of the code is the definition's
+pub record IsNext (m : Module) (k : ℕ) (x : Member) : Type 0 where
+  pub within : k < length (members m)
+  pub there : slice_index_or (members m) k x ≡ x
+
+pub is-next : (m : Module) (code : List code_member.Member) (k : ℕ) (x : code_member.Member) → map view_member code ≡ members m → k < length code → x ≡ slice_index_or code k x → IsNext m k (view_member x)
+is-next m code k x is lt at = record {
+  within = subst (λ c. k < c) (sym (length-map code view_member) ∙ ap length is) lt;
+  there = ap (λ ms. slice_index_or ms k (view_member x)) (sym is) ∙ get_or-map view_member code k x (view_member x) lt ∙ ap view_member (sym at);
+}
 
 module _ (m : Module) where
   pub first-none : (seen : List Bool) → seen ≡ replicate (length (all_bits (variables m))) false → AreFirst m 0 seen [] []
@@ -50,16 +73,6 @@ module _ (m : Module) where
   count-is : (k : ℕ) (seen : List Bool) (bits starts : List ℕ) → AreFirst m k seen bits starts → length bits ≡ ends_before m k
   count-is k seen bits starts h = sym (length-map bits _) ∙ ap length h.these
 
-  starts-more : (k : ℕ) (seen : List Bool) (bits starts next : List ℕ) (n : ℕ) → AreFirst m k seen bits starts → n ≡ length bits → next ≡ starts ++ n ∷ [] → (i : ℕ) → i < k + 1 → slice_get next i ≡ Some (ends_before m i)
-  starts-more k seen bits starts next n h count e i lt = by (eq-or-lt_of_le (omega (arith, lt)))
-    where
-      by : (i ≡ k) ⊎ (i < k) → slice_get next i ≡ Some (ends_before m i)
-      by (inl f) = ap (λ xs. slice_get xs i) e ∙ at-end starts n i (f ∙ sym h.counted) ∙ ap Some (count ∙ count-is k seen bits starts h ∙ ap (ends_before m) (sym f))
-      by (inr l) = ap (λ xs. slice_get xs i) e ∙ within starts n i (subst (λ c. i < c) (sym h.counted) l) ∙ h.before i l
-
-  counted-more : (k : ℕ) (starts next : List ℕ) (n : ℕ) → length starts ≡ k → next ≡ starts ++ n ∷ [] → length next ≡ k + 1
-  counted-more k starts next n h e = ap length e ∙ length-append starts (n ∷ []) ∙ ap (λ c. c + 1) h
-
   pub first-more : (k : ℕ) (x : Member) (seen marks : List Bool) (bits new starts next : List ℕ) (n : ℕ) → k < length (members m) → slice_index_or (members m) k x ≡ x → AreFirst m k seen bits starts
       → n ≡ length bits → next ≡ starts ++ n ∷ [] → HasAdded m (ends m x) (flat_map (ends m) (take k (members m))) marks bits new → AreFirst m (k + 1) marks new next
   first-more k x seen marks bits new starts next n lt is h count e added = record {
@@ -69,7 +82,7 @@ module _ (m : Module) where
         ∙ sym (flat-more (first_ends m) (enumerate_from 0 (members m)) k (0, x) (subst (λ n. k < n) (sym (length-enumerate_from 0 (members m))) lt)
         ∙ ap (λ y. flat_map (first_ends m) (take k (enumerate_from 0 (members m))) ++ first_ends m y) (get_or-enumerate_from 0 (members m) k (0, x) lt ∙ ap (λ y. (0 + k, y)) is ∙ ap (λ j. (j, x)) (omega arith)));
     counted = counted-more k starts next n h.counted e;
-    before = starts-more k seen bits starts next n h count e;
+    before = starts-more (ends_before m) k starts next n h.counted h.before (count ∙ count-is k seen bits starts h) e;
   }
 
   pub as-ends : (k : ℕ) (seen : List Bool) (bits starts : List ℕ) (made : PathEnds) (n : ℕ) → length (members m) ≡ k → AreFirst m k seen bits starts → AreInRow (variables m) bits
@@ -78,7 +91,7 @@ module _ (m : Module) where
     bits = ap (bits_seen (variables m)) same ∙ h.these ∙ ap (flat_map (first_ends m)) (take_all k (enumerate_from 0 (members m)) (omega (arith, length-enumerate_from 0 (members m), all)));
     in_row = subst (AreInRow (variables m)) (sym same) row;
     counted = counted-more k starts made.starts.items n h.counted e ∙ ap (λ c. c + 1) (sym all);
-    starts = λ i le. starts-more k seen bits starts made.starts.items n h count e i (omega (arith, le, all));
+    starts = λ i le. starts-more (ends_before m) k starts made.starts.items n h.counted h.before (count ∙ count-is k seen bits starts h) e i (omega (arith, le, all));
   }
 
   -- the next of the code's members
@@ -86,8 +99,8 @@ module _ (m : Module) where
       → x ≡ slice_index_or code k x → AreFirst m k seen bits starts → n ≡ length bits → next ≡ starts ++ n ∷ [] → HasAdded m (ends m (view_member x)) (flat_map (ends m) (take k (members m))) marks bits new
       → AreFirst m (k + 1) marks new next
   member-more code k x seen marks bits new starts next n is lt at h count e added =
-      first-more k (view_member x) seen marks bits new starts next n (subst (λ c. k < c) (sym (length-map code view_member) ∙ ap length is) lt)
-      (ap (λ ms. slice_index_or ms k (view_member x)) (sym is) ∙ get_or-map view_member code k x (view_member x) lt ∙ ap view_member (sym at)) h count e added
+      let next_one = is-next m code k x is lt at in
+      first-more k (view_member x) seen marks bits new starts next n next_one.within next_one.there h count e added
 
 -- marks that were lent stand for all
 pub lent : (len : ℕ) (marks seen : List Bool) → len ≡ length seen → length marks ≡ length seen → take len (marks ++ drop (length marks) seen) ≡ marks

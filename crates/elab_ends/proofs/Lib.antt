@@ -3,5 +3,6 @@ pub mod RowBits
 pub mod TermBits
 mod Leading
 mod Marking
-mod InTurn
+pub mod InTurn
+pub mod Spans
 mod Examples
