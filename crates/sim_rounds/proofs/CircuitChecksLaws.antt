@@ -1,13 +1,14 @@
 -- The timing checks of a circuit before time 0, and after a snapshot.
 use Rattle.std.specs.Prelude.{◌≡◌, ℕ, suc, ◌<◌, ◌^◌, false, All, IfSome, List, [], ◌∷◌, ◌++◌, drop, length, map, Option, Some, None, refl}
 use Rattle.std.proofs.Common.{sym, ◌∙◌, ap, subst, arith}
-use Rattle.std.proofs.lemmas.List.{length-replicate}
+use Rattle.std.specs.List.{enumerate_from}
+use Rattle.std.proofs.lemmas.List.{length-map, length-replicate}
+use Rattle.std.proofs.lemmas.List.FromFn.{length-enumerate_from}
 use Rattle.std.proofs.lemmas.List.Elements.{All-weaker}
 use Rattle.sg_circuit.specs.Circuit.{Circuit}
-use Rattle.sg_circuit.specs.Closed.{IsCheckTiming, IsClosed, IsEventOf, IsNotifier}
+use Rattle.sg_circuit.specs.Closed.{IsClosed, IsNotifier}
 use Rattle.sg_circuit.specs.Seen.{circuit_seen}
 use Rattle.sg_circuit.specs.declared.checks.Check.{Check}
-use Rattle.sg_circuit.specs.declared.checks.CheckTiming.{CheckTiming}
 use Rattle.sg_circuit.specs.declared.checks.Event.{Event}
 use Rattle.sg_circuit.specs.declared.circuits.Parts.{Parts}
 use Rattle.sg_model.specs.Machine.{Snapshot, Violation}
@@ -18,35 +19,9 @@ use Rattle.time_checks.specs.Checking.{Kept, Stands, check_at, latest_at}
 use Rattle.time_checks.specs.Events.{datum_times}
 use Rattle.time_checks.specs.Kept.{StandsFor}
 use Rattle.time_checks.specs.Violations.{violations}
-use Rattle.time_checks.specs.Within.{IsCheckWithin, IsEventWithin}
+use Rattle.time_checks.specs.Adjusted.{adjusted_check, adjusted_checks}
 use Rattle.sim_rounds.specs.CircuitChecks.{AreChecksOver, AreFirst, AreListed}
 use Rattle.sim_rounds.specs.Notifiers.{notifiers_of}
-
--- the nets of checks
-event_within : (nets : ℕ) (e : Event) → IsEventOf nets e → IsEventWithin e nets
-event_within nets e h = record { net = h.net; condition = h.condition }
-
-datum_within : (nets : ℕ) (o : Option Event) → IfSome o (λ e. IsEventOf nets e) → IfSome o (λ e. IsEventWithin e nets)
-datum_within nets None h = tt
-datum_within nets (Some e) h = event_within nets e h
-
-check_within : (nets : ℕ) (c : CheckTiming) → IsCheckTiming nets c → IsCheckWithin c nets
-check_within nets c h = record { refer = event_within nets c.refer h.refer; datum = datum_within nets c.datum h.datum }
-
-still_closed : (parts : Parts) (circuit : Circuit) → circuit_seen parts ≡ circuit → IsClosed circuit → IsClosed (circuit_seen parts)
-still_closed parts circuit seen closed = subst (λ c. IsClosed c) (sym seen) closed
-
-pub checks_within : (parts : Parts) (circuit : Circuit) (timings : List CheckTiming) (nets : ℕ) → circuit_seen parts ≡ circuit → IsClosed circuit → timings ≡ parts.check_timings.items → nets ≡ length parts.nets.items → All (λ c. IsCheckWithin c nets) timings
-checks_within parts circuit timings nets seen closed same many =
-    let h : IsClosed (circuit_seen parts) = still_closed parts circuit seen closed in
-    subst (λ ts. All (λ c. IsCheckWithin c nets) ts) (sym same)
-    (subst (λ n. All (λ c. IsCheckWithin c n) parts.check_timings.items) (sym many)
-    (All-weaker (λ (c : CheckTiming). IsCheckTiming (length parts.nets.items) c) (λ (c : CheckTiming). IsCheckWithin c (length parts.nets.items)) (λ c t. check_within (length parts.nets.items) c t) parts.check_timings.items h.check_timings))
-
-pub checks_few : (parts : Parts) (circuit : Circuit) (timings : List CheckTiming) → circuit_seen parts ≡ circuit → IsClosed circuit → timings ≡ parts.check_timings.items → length timings < 2 ^ 31
-checks_few parts circuit timings seen closed same =
-    let h : IsClosed (circuit_seen parts) = still_closed parts circuit seen closed in
-    subst (λ n. n < 2 ^ 31) (sym (ap length same ∙ h.timing_of_each)) h.few_checks
 
 -- the notifiers are nets
 net_of : (circuit : Circuit) (o : Option ℕ) → IfSome o (λ n. IsNotifier circuit n) → IfSome o (λ n. n < length circuit.nets)
@@ -72,13 +47,13 @@ no_data (Some e) = refl
 
 -- the checks of a circuit before time 0
 pub checks_first : (parts : Parts) (circuit : Circuit) (checks : List Check) (kept : Kept) (touched named : WorkList) (nets : ℕ) → circuit_seen parts ≡ circuit → nets ≡ length parts.nets.items → checks ≡ parts.checks.items
-    → kept.checks ≡ parts.check_timings.items → length kept.last ≡ nets → Stands kept [] → IsIdle touched nets → IsIdle named nets → AreFirst circuit checks kept touched named
+    → kept.checks ≡ adjusted_checks circuit → length kept.last ≡ length circuit.nets → Stands kept [] → IsIdle touched nets → IsIdle named nets → AreFirst circuit checks kept touched named
 checks_first parts circuit checks kept touched named nets seen many same timings last stands t n =
     let all : nets ≡ length circuit.nets = many ∙ ap (λ c. length c.nets) seen in
     record {
       checks_are = same ∙ ap (λ c. c.checks) seen;
-      timings_are = timings ∙ ap (λ c. c.check_timings) seen;
-      last = last ∙ all;
+      timings_are = timings;
+      last = last;
       unseen = stands.seen;
       each = λ number l. subst (λ ts. StandsFor (latest_at kept.latest number) [] ts) (no_data (check_at kept.checks number).datum) (stands.each number l);
       untouched = subst (IsIdle touched) all t;
@@ -95,7 +70,7 @@ first_stands circuit checks kept touched named h = record {
 pub first_over : (circuit : Circuit) (checks : List Check) (kept : Kept) (touched named : WorkList) → IsClosed circuit → AreFirst circuit checks kept touched named → AreChecksOver checks kept touched named (length circuit.nets)
 first_over circuit checks kept touched named closed h = record {
   last = h.last;
-  each_check = ap length h.timings_are ∙ (closed.timing_of_each ∙ sym (ap length h.checks_are));
+  each_check = ap length h.timings_are ∙ (length-map (enumerate_from 0 circuit.check_timings) (adjusted_check circuit) ∙ (length-enumerate_from 0 circuit.check_timings ∙ (closed.timing_of_each ∙ sym (ap length h.checks_are))));
   notifiers = subst (λ ks. All (λ k. IfSome k.notifier (λ m. m < length circuit.nets)) ks) (sym h.checks_are) (notifiers_within circuit closed);
   listed = idle_listed touched (length circuit.nets) h.untouched;
   idle = h.unnamed;

@@ -18,6 +18,7 @@ use Rattle.sg_circuit.specs.Circuit.{Circuit, Element, Kind, Gate, Udp, Pass, Le
 use Rattle.path_pick.proofs.LaterLaws.{picked_later}
 use Rattle.sg_circuit.specs.Closed.{IsClosed}
 use Rattle.sg_circuit.specs.declared.checks.Check.{Check}
+use Rattle.time_checks.specs.Adjusted.{adjusted_checks}
 use Rattle.time_checks.proofs.QuietLaws.{violations-again}
 use Rattle.sim_rounds.specs.Notifiers.{is_named, numbers_from}
 use Rattle.fan_round.specs.Rounds.{IsLater, time_of_rule}
@@ -25,7 +26,7 @@ use Rattle.sim_rounds.specs.Simulated.{machine_of, values_at, value_of_kind, rul
 
 pub lawful : (circuit : Circuit) → IsLawful (machine_of circuit)
 lawful circuit = record {
-  quiet = λ now last values older. violations-again circuit.check_timings now (record { time = last; values = values }) older;
+  quiet = λ now last values older. violations-again (adjusted_checks circuit) now (record { time = last; values = values }) older;
   unnamed = none_named circuit.checks 0 (length circuit.nets);
 }
   where

@@ -31,7 +31,7 @@ use Rattle.sim_times.specs.Steps.{CanApply}
 use Rattle.sim_rounds.specs.Fresh.{IsFresh, first_value_of}
 use Rattle.sim_times.specs.Runs.{start_of}
 use Rattle.sg_circuit.specs.declared.checks.Check.{Check}
-use Rattle.sg_circuit.specs.declared.checks.CheckTiming.{CheckTiming}
+use Rattle.time_checks.specs.Adjusted.{AdjustedCheck, adjusted_checks}
 use Rattle.time_checks.specs.Checking.{Kept}
 use Rattle.time_checks.specs.Violations.{violations}
 use Rattle.sim_times.specs.Checks.{AreFree}
@@ -111,7 +111,7 @@ fresh_ready circuit nets told work elements lists fan driven sets found stimulus
         };
         count = ap (λ c. length c.nets) h.circuit_of ∙ sym many;
         checks = record {
-          violated = ap {B = List Snapshot → List Violation} (λ (ts : List CheckTiming) ss. violations ts ss) (first.timings_are ∙ sym (ap (λ c. c.check_timings) h.circuit_of));
+          violated = ap {B = List Snapshot → List Violation} (λ (ks : List AdjustedCheck) ss. violations ks ss) (first.timings_are ∙ sym (ap (λ c. adjusted_checks c) h.circuit_of));
           notifiers = ap {B = List Violation → List ℕ} (λ (ks : List Check) vs. notifiers_of ks (length kept.last) vs) (first.checks_are ∙ sym (ap (λ c. c.checks) h.circuit_of))
               ∙ ap {B = List Violation → List ℕ} (λ (n : ℕ) vs. notifiers_of elements.circuit.checks n vs) (first.last ∙ sym (ap (λ c. length c.nets) h.circuit_of));
           free = λ vs. subst (λ os. AreFree os (length nets.values.items) (notifiers_of checks (length kept.last) vs)) (sym h.outputs)

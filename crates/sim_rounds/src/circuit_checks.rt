@@ -157,7 +157,7 @@ impl<'a> CircuitChecks<'a> {
     {
         let parts = circuit.parts();
         let nets = parts.nets.len() as u32;
-        let checker = Checker::new(alloc, nets, &parts.check_timings)?;
+        let checker = Checker::new(alloc, circuit)?;
         let touched = WorkList::new(alloc, nets)?;
         let named = WorkList::new(alloc, nets)?;
         Ok(CircuitChecks {
