@@ -1,14 +1,17 @@
 -- What a run leaves in the file of its dump, and what its end tells, is what the definition's run has.
-use Rattle.std.proofs.Common.{◌≡◌, ◌∙◌, sym, ap, refl, subst, ℕ, suc, List, [], ◌++◌, length, take, inl, inr, ◌≤◌, arith}
+use Rattle.std.proofs.Common.{◌≡◌, ◌∙◌, sym, ap, refl, subst, ℕ, suc, List, [], ◌++◌, length, take, inl, inr, ◌≤◌, ⊥, arith}
 use Rattle.std.proofs.lemmas.List.{append-nil, take_all}
 use Rattle.std.specs.Prelude.{Option, Some, None, Result, Ok, Err}
+use Rattle.sg_io.specs.Faults.{Rises, next_count}
 use Rattle.sg_io.specs.Files.{File, BothTell, HasAfter}
 use Rattle.sg_io.specs.declared.outside.ShelfError.{ShelfError}
 use Rattle.sg_io.specs.declared.outside.ShelfError.TheVariants as shelf
 use Rattle.sg_model.specs.Machine.{Violation}
 use Rattle.sg_model.specs.Time.{Run}
 use Rattle.sg_circuit.specs.Circuit.{Circuit}
-use Rattle.sim_times.specs.Runs.{Setting, AllCalls, CallsFor, CallsMade, HasEnded, HasEndedTimes, run_for, start_of}
+use Rattle.sim_times.specs.Runs.{Setting, AllCalls, CallsFor, CauseOfEnd, CallsMade, HasEnded, HasEndedTimes, run_for, start_of}
+use Rattle.sg_model.specs.Run.{last_change, lasts}
+use Rattle.sim_times.specs.Times.{count_shown}
 use Rattle.sim_times.specs.Watching.{AreTruthful, Call, Got, Broke}
 use Rattle.sim_times.specs.declared.runs.SimEnd.{SimEnd}
 use Rattle.sim_times.specs.declared.runs.SimEnd.TheVariants.{RoundsSpent, WatchFailed, NoMemory}
@@ -21,7 +24,7 @@ use Rattle.wave_out.specs.declared.report.Spent as code_spent
 use Rattle.wave_out.proofs.DumpLaws.{begun_run, spent_whole, whole_run}
 use Rattle.wave_out.proofs.FileLaws.{begins, begins_more, first-bytes, told_before}
 use Rattle.wave_out.proofs.RunLaws.{spent_run}
-use Rattle.run_dump.specs.RunEnds.{spent_in}
+use Rattle.run_dump.specs.RunEnds.{WatcherFails, spent_in}
 
 -- the text of the definition's run
 abbrev pub text_for : Circuit → Setting → List ℕ
@@ -154,16 +157,16 @@ module _ {S : Type 0} (files : S → Option (List File)) (name : List ℕ) (circ
       (subst (λ c. FileAs name (text_for c s) (files b) (spent_in end)) (same_circuit ∙ ap (λ x. x.circuit) made) renamed)
 
   -- the run came to an end, or it didn't
-  pub ends : (found : List Violation) (changed : ℕ) (end : Result (Unit {0}) SimEnd) (spent : Option code_spent.Spent) → w ≡ record { name = name; circuit = circuit; last = None } → BothTell old (files a) (HasAfter name (header circuit))
-      → w'.name ≡ w.name → w'.circuit ≡ w.circuit → KeepsOthers w.name (files a) (files b) → (taken : ℕ) × HasEnded (StandsFor files) (BreaksIn files) w w' a b s found changed taken end
+  pub ends : (found : List Violation) (changed counted : ℕ) (end : Result (Unit {0}) SimEnd) (spent : Option code_spent.Spent) → w ≡ record { name = name; circuit = circuit; last = None } → BothTell old (files a) (HasAfter name (header circuit))
+      → w'.name ≡ w.name → w'.circuit ≡ w.circuit → KeepsOthers w.name (files a) (files b) → (taken : ℕ) × (HasEnded (StandsFor files) (BreaksIn files) w w' a b s found changed taken end × (counted ≡ count_shown taken))
       → ◌≡◌ {A = Result (Option code_spent.Spent) ShelfError} (Ok spent) (spent_in end) → BothTell old (files b) (HasAfter name (text_for circuit s))
-  ends found changed end spent made begun same_name same_circuit others (taken, h) e =
+  ends found changed counted end spent made begun same_name same_circuit others (taken, h, count) e =
       subst (λ o. BothTell old (files b) (Leaves name (text_for circuit s) o)) (sym e) (run_leaves found changed taken end made begun same_name same_circuit others h)
 
-  pub stops : (found : List Violation) (changed : ℕ) (end : Result (Unit {0}) SimEnd) (why : ShelfError) → w ≡ record { name = name; circuit = circuit; last = None } → BothTell old (files a) (HasAfter name (header circuit))
-      → w'.name ≡ w.name → w'.circuit ≡ w.circuit → KeepsOthers w.name (files a) (files b) → (taken : ℕ) × HasEnded (StandsFor files) (BreaksIn files) w w' a b s found changed taken end
+  pub stops : (found : List Violation) (changed counted : ℕ) (end : Result (Unit {0}) SimEnd) (why : ShelfError) → w ≡ record { name = name; circuit = circuit; last = None } → BothTell old (files a) (HasAfter name (header circuit))
+      → w'.name ≡ w.name → w'.circuit ≡ w.circuit → KeepsOthers w.name (files a) (files b) → (taken : ℕ) × (HasEnded (StandsFor files) (BreaksIn files) w w' a b s found changed taken end × (counted ≡ count_shown taken))
       → ◌≡◌ {A = Result (Option code_spent.Spent) ShelfError} (Err why) (spent_in end) → BothTell old (files b) (LeavesPrefix name (text_for circuit s))
-  stops found changed end why made begun same_name same_circuit others (taken, h) e =
+  stops found changed counted end why made begun same_name same_circuit others (taken, h, count) e =
       subst (λ o. BothTell old (files b) (Leaves name (text_for circuit s) o)) (sym e) (run_leaves found changed taken end made begun same_name same_circuit others h)
 
 -- the times before a spent one are those of the whole run
@@ -173,21 +176,45 @@ spent_times s spent some =
     let same : spent.0 ≡ cut.times = omega (arith, cut.at) in
     ap (λ n. (run_for s n).run) same ∙ sym cut.is
 
--- what a run that came to an end found, and the time that was spent
-pub record Finds (s : Setting) (spent : Option code_spent.Spent) (found : List Violation) : Type 0 where
+-- what a run that came to an end found, its last change, its evaluations, and the time that was spent
+pub record Finds (s : Setting) (spent : Option code_spent.Spent) (found : List Violation) (changed taken : ℕ) : Type 0 where
   pub spent_is : spent_seen spent ≡ (run_for s (suc s.end)).spent
   pub found_is : found ≡ (run_for s (suc s.end)).run.violations
+  pub last_is : changed ≡ last_change s.first.values (lasts (run_for s (suc s.end)).run.snapshots)
+  pub taken_is : taken ≡ (run_for s (suc s.end)).evaluations
 
 run_finds : {W S : Type 0} (stands broken : W → S → List Call → Type 0) (w w' : W) (a b : S) (s : Setting) (found : List Violation) (changed taken : ℕ) (end : Result (Unit {0}) SimEnd) (spent : Option code_spent.Spent)
-    → HasEnded stands broken w w' a b s found changed taken end → ◌≡◌ {A = Result (Option code_spent.Spent) ShelfError} (Ok spent) (spent_in end) → Finds s spent found
-run_finds stands broken w w' a b s found changed taken (Ok u) spent (times, _, _) e =
-    let k : spent ≡ None = cc in record { spent_is = ap spent_seen k ∙ sym times.unspent; found_is = times.violations }
-run_finds stands broken w w' a b s found changed taken (Err (RoundsSpent time net)) spent (some, times, _, _) e =
+    → HasEnded stands broken w w' a b s found changed taken end → ◌≡◌ {A = Result (Option code_spent.Spent) ShelfError} (Ok spent) (spent_in end) → Finds s spent found changed taken
+run_finds stands broken w w' a b s found changed taken (Ok u) spent (times, taken-is, _) e =
+    let k : spent ≡ None = cc in record { spent_is = ap spent_seen k ∙ sym times.unspent; found_is = times.violations; last_is = times.last; taken_is = taken-is }
+run_finds stands broken w w' a b s found changed taken (Err (RoundsSpent time net)) spent (some, times, taken-is, _) e =
     let k : spent ≡ Some (record { time = time; net = net }) = cc in
-    record { spent_is = ap spent_seen k ∙ sym some; found_is = times.violations ∙ ap (λ (r : Run). r.violations) (spent_times s (time, Some net) some) }
+    record {
+      spent_is = ap spent_seen k ∙ sym some;
+      found_is = times.violations ∙ ap (λ (r : Run). r.violations) (spent_times s (time, Some net) some);
+      last_is = times.last ∙ ap (λ (r : Run). last_change s.first.values (lasts r.snapshots)) (spent_times s (time, Some net) some);
+      taken_is = taken-is;
+    }
 run_finds stands broken w w' a b s found changed taken (Err WatchFailed) spent h e = absurd (cc)
 run_finds stands broken w w' a b s found changed taken (Err NoMemory) spent h e = absurd (cc)
 
-pub finds : {W S : Type 0} (stands broken : W → S → List Call → Type 0) (w w' : W) (a b : S) (s : Setting) (found : List Violation) (changed : ℕ) (end : Result (Unit {0}) SimEnd) (spent : Option code_spent.Spent)
-    → (taken : ℕ) × HasEnded stands broken w w' a b s found changed taken end → ◌≡◌ {A = Result (Option code_spent.Spent) ShelfError} (Ok spent) (spent_in end) → Finds s spent found
-finds stands broken w w' a b s found changed end spent (taken, h) e = run_finds stands broken w w' a b s found changed taken end spent h e
+pub finds : {W S : Type 0} (stands broken : W → S → List Call → Type 0) (w w' : W) (a b : S) (s : Setting) (found : List Violation) (changed counted : ℕ) (end : Result (Unit {0}) SimEnd) (spent : Option code_spent.Spent)
+    → (taken : ℕ) × (HasEnded stands broken w w' a b s found changed taken end × (counted ≡ count_shown taken)) → ◌≡◌ {A = Result (Option code_spent.Spent) ShelfError} (Ok spent) (spent_in end)
+    → (taken : ℕ) × (Finds s spent found changed taken × (counted ≡ count_shown taken))
+finds stands broken w w' a b s found changed counted end spent (taken, h, count) e = (taken, run_finds stands broken w w' a b s found changed taken end spent h e, count)
+
+-- the same, of the evaluations as they were counted
+pub counts : (s : Setting) (spent : Option code_spent.Spent) (found : List Violation) (changed counted : ℕ) → (taken : ℕ) × (Finds s spent found changed taken × (counted ≡ count_shown taken))
+    → counted ≡ count_shown (run_for s (suc s.end)).evaluations
+counts s spent found changed counted (taken, h, count) = count ∙ ap count_shown h.taken_is
+
+-- what didn't rise from 0 didn't fail
+not_risen : (before now : ℕ) → before ≡ 0 → now ≡ before → Rises before now → ⊥
+not_risen before now zero same h =
+    let p : next_count 0 ≤ 0 = subst (λ k. next_count k ≤ k) zero (subst (λ k. next_count before ≤ k) same h.rose) in omega (arith, p)
+
+pub never_fails : (before now : ℕ) (end : Result (Unit {0}) SimEnd) → before ≡ 0 → now ≡ before → CauseOfEnd before now end → WatcherFails end → ⊥
+never_fails before now (Ok u) zero same h fails = fails
+never_fails before now (Err (RoundsSpent time net)) zero same h fails = fails
+never_fails before now (Err WatchFailed) zero same h fails = not_risen before now zero same h
+never_fails before now (Err NoMemory) zero same h fails = fails

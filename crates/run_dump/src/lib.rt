@@ -3,4 +3,4 @@
 
 mod run;
 
-pub use run::{RunEnd, run_and_dump};
+pub use run::{QuietEnd, RunEnd, run_and_dump, run_quietly};

@@ -1,25 +1,28 @@
 // A run, from the first time to its value change dump's last line.
-ghost use Rattle.std.specs.Prelude.{◌≡◌, ◌<◌, ◌≤◌, [], IfOk, length};
+ghost use Rattle.std.specs.Prelude.{◌≡◌, ◌<◌, ◌≤◌, [], IfOk, length, map};
 ghost use Rattle.sg_io.specs.Faults.{Cause, NamesFault};
 ghost use Rattle.sg_io.specs.Files.{BothTell};
 ghost use Rattle.sg_stimulus.specs.Applied.{IsApplied};
 ghost use Rattle.sg_stimulus.specs.Seen.{stimulus_seen};
+ghost use Rattle.sg_model.specs.Run.{last_change, lasts};
+ghost use Rattle.time_checks.specs.Seen.{violation_seen};
 ghost use Rattle.sim_times.specs.Runs.{CauseOfEnd, NamesFaultOfEnd};
+ghost use Rattle.sim_times.specs.Times.{count_shown};
 ghost use Rattle.sim_rounds.specs.Setting.{setting_of};
 ghost use Rattle.sim_rounds.specs.Simulated.{run_of_circuit};
 ghost use Rattle.wave_out.specs.Files.{Leaves};
 ghost use Rattle.wave_out.specs.Spent.{spent_seen};
 ghost use Rattle.wave_out.specs.Vcd.{vcd_text};
-ghost use Rattle.run_dump.specs.RunEnds.{HasSimulated, spent_in, violations_of};
+ghost use Rattle.run_dump.specs.RunEnds.{HasSimulated, IsSpent, spent_in, violations_of, WatcherFails};
 
 use event_wheel::Wheel;
 use sg_circuit::Circuit;
-use sg_io::{Shelf, ShelfError};
+use sg_io::{MemoryShelf, Shelf, ShelfError};
 use sg_steps::Steps;
 use sg_stimulus::Stimulus;
 use sg_text::NoMemory;
 use sim_rounds::{Finished, Sim};
-use sim_times::{SimEnd, Watch};
+use sim_times::{Quiet, SimEnd, Watch};
 use std::alloc::Global;
 use std::marker::Brand;
 use std::sync::ledger::{Blank, Ledger};
@@ -124,6 +127,67 @@ pub fn run_and_dump<S: Shelf>(
     let spent = spent_of(finished.end)?;
     Ok(RunEnd {
         violations: finished.tally.violations,
+        spent,
+    })
+}
+
+// The time that was spent in a run whose watcher can't fail.
+fn spent_unwatched(end: Result<(), SimEnd>) -> Result<Option<Spent>, NoMemory>
+    requires { WatcherFails end → ⊥ }
+    ensures { IfOk result (λ spent. IsSpent spent end) }
+{
+    match spent_of(end) {
+        Ok(spent) => Ok(spent),
+        Err(ShelfError::Failed | ShelfError::NoMemory) => Err(NoMemory),
+    }
+}
+
+/// What a run that nobody watches came to.
+#[derive(Debug, Drop)]
+pub struct QuietEnd {
+    pub violations: Vec<Violation>,
+    /// How many elements were evaluated, up to 2^64 - 1.
+    pub evaluations: u64,
+    /// The last time that changed a net, in ticks; 0 where none did.
+    pub last: u64,
+    pub spent: Option<Spent>,
+}
+
+/// Simulates a circuit under a stimulus, as `run_and_dump` does, and writes nothing.
+///
+/// `NoMemory` for want of memory.
+pub fn run_quietly(
+    alloc: Global,
+    circuit: &Circuit,
+    stimulus: &Stimulus,
+    bound: u32,
+    buckets: u32,
+) -> Result<QuietEnd, NoMemory>
+    requires bound { 0 < bound }
+    requires some { 1 ≤ buckets }
+    requires most { buckets ≤ 1048576 }
+    requires applied { IsApplied circuit.now (stimulus_seen stimulus.now) }
+    ensures spent { IfOk result (λ end. spent_seen end.spent ≡ (run_of_circuit circuit.now bound (stimulus_seen stimulus.now)).spent) }
+    ensures violations { IfOk result (λ end. map (λ v. violation_seen v) end.violations.items ≡ (run_of_circuit circuit.now bound (stimulus_seen stimulus.now)).run.violations) }
+    ensures evaluations { IfOk result (λ end. end.evaluations ≡ count_shown (run_of_circuit circuit.now bound (stimulus_seen stimulus.now)).evaluations) }
+    ensures last { IfOk result (λ end. end.last ≡ last_change (setting_of circuit.now (stimulus_seen stimulus.now) bound).first.values (lasts (run_of_circuit circuit.now bound (stimulus_seen stimulus.now)).run.snapshots)) }
+{
+    let mut shelf = MemoryShelf::new(alloc);
+    let finished = simulate::<MemoryShelf, Quiet, Brand>(
+        alloc,
+        circuit,
+        stimulus,
+        bound,
+        buckets,
+        &mut shelf,
+        &mut Quiet,
+        Blank::new(1),
+    )?;
+    let spent = spent_unwatched(finished.end)?;
+    Ok(QuietEnd {
+        violations: finished.tally.violations,
+        evaluations: finished.tally.evaluations,
+        last: finished.tally.last,
         spent,
     })
 }

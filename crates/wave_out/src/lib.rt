@@ -17,5 +17,5 @@ mod writer;
 mod zeroed;
 
 pub use laws::{calls_of_a_run_are_its_dump, nested_texts};
-pub use report::{ReportEnd, Spent, write_report};
+pub use report::{ReportEnd, Spent, spent_text, write_report};
 pub use writer::VcdWriter;

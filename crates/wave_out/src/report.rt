@@ -74,6 +74,21 @@ fn push_spent(
     Ok(())
 }
 
+/// The line of a time, in ticks, that needed more rounds than the bound, with the path of a net that went on changing in
+/// it. Takes memory.
+pub fn spent_text(
+    alloc: Global,
+    circuit: &Circuit,
+    time: u64,
+    net: NetId,
+) -> Result<Vec<u8>, AllocError>
+    ensures { IfOk result (λ text. text.items ≡ spent_line circuit.now time (Some net)) }
+{
+    let mut text = Vec::new(alloc);
+    push_spent(alloc, &mut text, circuit, time, net)?;
+    Ok(text)
+}
+
 // The last lines: the counts and the end, or the time that was spent and its net.
 fn push_last(
     alloc: Global,
