@@ -173,10 +173,10 @@ of_the_type_alone = refl
 pub untouched : odd_after (leg_spot 2 (0 ∷ []) 10 (flat 0)) ≡ replicate 12 0
 untouched = refl
 
--- a setup without an edge is for the first limit of a $setuphold, and a hold below 0 makes the second 0
+-- a setup without an edge is for the first limit of a $setuphold, and a hold for the second, below 0 too
 pub limits_of_checks :
     map (limits_after plain_flops odd Typ (given odd)) (all_checked plain_flops)
-    ≡ (pos 70 ∷ pos 0 ∷ []) ∷ (pos 100 ∷ pos 0 ∷ []) ∷ (pos 100 ∷ pos 50 ∷ []) ∷ (pos 100 ∷ pos 0 ∷ []) ∷ []
+    ≡ (pos 70 ∷ neg_ℤ (pos 2000) ∷ []) ∷ (pos 100 ∷ pos 0 ∷ []) ∷ (pos 100 ∷ pos 50 ∷ []) ∷ (pos 100 ∷ pos 0 ∷ []) ∷ []
 limits_of_checks = refl
 
 pub for_nothing :

@@ -6,6 +6,7 @@ pub mod EntryLaws
 pub mod FlopExamples
 pub mod KeptLaws
 pub mod KeptPlaces
+pub mod LimitExamples
 pub mod LimitLaws
 pub mod ListedLaws
 pub mod PassLaws

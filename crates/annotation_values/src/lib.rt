@@ -1,6 +1,7 @@
 //! What an entry of an SDF file makes of one path, leg or timing check, in ticks.
 #![tactic(auto)]
 
+mod bounds;
 mod changes;
 mod entries;
 mod grids;
@@ -10,6 +11,7 @@ mod pulses;
 mod spreading;
 mod values;
 
+pub use bounds::Bounds;
 pub use changes::{Transition, change_at, changed, set_transition, transition_at};
 pub use entries::apply_entry;
 pub use grids::Grid;

@@ -6,7 +6,7 @@ ghost use Rattle.sg_time.specs.Seen.{number as number_seen};
 ghost use Rattle.sg_time.specs.Ticks as times;
 ghost use Rattle.annotation_model.specs.Applied as def;
 ghost use Rattle.std.specs.Option.{option_map};
-ghost use Rattle.annotation_values.specs.Seen.{grid_seen, Tells};
+ghost use Rattle.annotation_values.specs.Seen.{grid_seen, is_value_large, Tells};
 
 use crate::grids::Grid;
 use sdf_tree::LimitPair;
@@ -30,7 +30,7 @@ pub fn ticks(grid: Grid, number: &Decimal) -> Result<i64, TooLarge>
 
 /// The value of a triple's corner in ticks, if it has one (IEEE 1497-2001, triples).
 pub fn chosen(grid: Grid, triple: &Triple) -> Result<Option<i64>, TooLarge>
-    ensures told { Tells (def.is_limit_large (def.chosen (grid_seen grid) (view_triple triple.now))) (def.chosen (grid_seen grid) (view_triple triple.now)) result }
+    ensures told { Tells (is_value_large (def.chosen (grid_seen grid) (view_triple triple.now))) (def.chosen (grid_seen grid) (view_triple triple.now)) result }
     ensures fits { IfOk result (λ o. IfSome o (λ t. unsigned_abs t < 2 ^ 60)) }
 {
     match triple.part(grid.corner) {
