@@ -1,5 +1,5 @@
 -- A circuit whose Lates have the least delays by which limits below 0 are met, and in which a limit is taken as 0 where none would do (IEEE 1364-2005, 15.8).
-use Rattle.std.specs.Prelude.{◌≡◌, ℕ, ◌<◌, Bool, List, [], ◌∷◌, None, flat_map, length, map, slice_index_or}
+use Rattle.std.specs.Prelude.{◌≡◌, ℕ, ◌<◌, List, [], ◌∷◌, None, flat_map, length, map, slice_index_or}
 use Rattle.std.specs.List.{range_with_len}
 use Rattle.sg_circuit.specs.declared.checks.Check.{Check}
 use Rattle.sg_circuit.specs.declared.checks.CheckKind.TheVariants as kind

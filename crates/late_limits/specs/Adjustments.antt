@@ -1,28 +1,36 @@
 -- What the signals of a circuit come to, before it is set.
-use Rattle.std.specs.Prelude.{◌≡◌, ℕ, ℤ, Bool, true, false, List, [], ◌∷◌, flat_map, length, map}
-use Rattle.std.specs.List.{enumerate_from}
+use Rattle.std.specs.Prelude.{◌≡◌, ℕ, ◌<◌, ◌^◌, ◌==◌, ◌&&◌, ℤ, Bool, true, false, All, List, [], ◌∷◌, filter, flat_map, length, map}
+use Rattle.std.specs.List.{enumerate_from, range_with_len}
 use Rattle.sg_circuit.specs.declared.checks.CheckTiming.{CheckTiming}
-use Rattle.sg_circuit.specs.declared.checks.Zero.{Zero}
 use Rattle.sg_circuit.specs.Circuit.{Circuit, Element, Kind, Late}
 use Rattle.neg_limits.specs.declared.pairs.Zeroed.{Zeroed}
 use Rattle.late_limits.specs.Adjusted.{AreAdjusted, late_delay, zeroes}
 use Rattle.late_limits.specs.declared.adjusting.Adjustment.{Adjustment}
+use Rattle.late_limits.specs.declared.adjusting.LateDelay.{LateDelay}
 
--- the Lates among elements by their numbers, in order, each with a delay
-abbrev pub with_number : ℕ × ℕ → Kind → List (ℕ × ℕ)
-with_number numbered (Late before) = numbered ∷ []
-with_number numbered other = []
+abbrev pub is_late : Kind → Bool
+is_late (Late delay) = true
+is_late _ = false
 
-abbrev pub delays_of : (Element → ℕ) → List Element → List (ℕ × ℕ)
-delays_of delay es = flat_map (λ e. with_number (e.0, delay e.1) e.1.kind) (enumerate_from 0 es)
+-- the Lates of a scope, by their numbers, in order
+abbrev pub is_late_of : ℕ → ℕ × Element → Bool
+is_late_of scope e = (e.1.scope == scope) && is_late e.1.kind
+
+abbrev pub lates_of : List Element → (scope : ℕ) → List (ℕ × Element)
+lates_of elements scope = filter (is_late_of scope) (enumerate_from 0 elements)
+
+-- each with its delay, scope after scope
+abbrev pub delays_of : Circuit → (delays : ℕ → List ℕ) → List LateDelay
+delays_of c delays = flat_map (λ scope. map (λ e. record { element = e.0; delay = late_delay c delays e.1 }) (lates_of c.elements scope)) (range_with_len 0 (length c.scopes))
 
 -- these are the delays of a circuit's Lates and the limits that are taken as 0
 pub record IsAdjustmentOf (c : Circuit) (a : Adjustment) : Type 0 where
   pub zeroed : ℕ → List Zeroed
   pub delays : ℕ → List ℕ
   pub are : AreAdjusted c.checks c.check_timings (length c.scopes) zeroed delays
-  pub delays_are : map (λ d. (d.element, d.delay)) a.delays.items ≡ delays_of (late_delay c delays) c.elements
+  pub delays_are : a.delays.items ≡ delays_of c delays
   pub zeroed_are : a.zeroed.items ≡ zeroes c zeroed
+  pub short : All (λ d. d.delay < 2 ^ 60) a.delays.items
 
 -- timing checks with other limits
 abbrev pub with_limits : List CheckTiming → List (List ℤ) → List CheckTiming
@@ -31,10 +39,6 @@ with_limits (t ∷ ts) [] = t ∷ ts
 with_limits (t ∷ ts) (l ∷ ls) = record t { limits = l } ∷ with_limits ts ls
 
 -- what stays of an element where a circuit is annotated
-abbrev pub is_late : Kind → Bool
-is_late (Late delay) = true
-is_late _ = false
-
 pub record IsSameElement (before after : Element) : Type 0 where
   pub scope : after.scope ≡ before.scope
   pub inputs : after.inputs ≡ before.inputs

@@ -1,6 +1,6 @@
 -- The timing checks of a scope that take limits below 0, as pairs of its signals (IEEE 1364-2005, 15.2.3, 15.2.6, 15.8).
-use Rattle.std.specs.Prelude.{ℕ, ◌==◌, ℤ, pos, Bool, true, false, List, map, Option, Some, None, slice_index_or, unwrap_or}
-use Rattle.std.specs.List.{position_from}
+use Rattle.std.specs.Prelude.{ℕ, ◌==◌, ℤ, pos, Bool, true, false, List, map, Option, Some, None, slice_index_or}
+use Rattle.std.specs.List.{position_or_len}
 use Rattle.sg_circuit.specs.declared.checks.Check.{Check}
 use Rattle.sg_circuit.specs.declared.checks.CheckKind.{CheckKind}
 use Rattle.sg_circuit.specs.declared.checks.CheckKind.TheVariants.{Recrem}
@@ -9,13 +9,13 @@ use Rattle.sg_circuit.specs.declared.checks.Event.{Event}
 use Rattle.sg_circuit.specs.Signals.{signals, windows}
 use Rattle.neg_limits.specs.declared.pairs.Pair.{Pair}
 
--- the number of a signal is its place among those of its scope
+-- the number of a signal is its place among those of its scope; of any other net it is how many they are
 abbrev pub signal_number : List ℕ → (net : ℕ) → ℕ
-signal_number ns net = unwrap_or (position_from (λ n. n == net) 0 ns) 0
+signal_number ns net = position_or_len (λ n. n == net) ns
 
-abbrev pub event_net : Option Event → ℕ
-event_net None = 0
-event_net (Some event) = event.net
+abbrev pub datum_number : List ℕ → Option Event → ℕ
+datum_number ns None = 0
+datum_number ns (Some event) = signal_number ns event.net
 
 -- Which limit of the check's text is that of a pair: of setuphold the setup comes first. Of recrem the removal stands for the setup and the recovery for the hold, since the clock takes the
 -- place of the data; the recovery comes first.
@@ -29,7 +29,7 @@ abbrev pub limit_of : CheckTiming → (hold : Bool) → ℤ
 limit_of t hold = slice_index_or t.limits (part_of t.kind hold) (pos 0)
 
 abbrev pub pair_of : List ℕ → CheckTiming → Pair
-pair_of ns t = record { refer = signal_number ns t.refer.net; datum = signal_number ns (event_net t.datum); setup = limit_of t false; hold = limit_of t true }
+pair_of ns t = record { refer = signal_number ns t.refer.net; datum = datum_number ns t.datum; setup = limit_of t false; hold = limit_of t true }
 
 -- those of a scope, in order of the checks
 abbrev pub pairs : List Check → List CheckTiming → (scope : ℕ) → List Pair

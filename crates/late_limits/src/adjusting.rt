@@ -1,11 +1,15 @@
 // What limits below 0 ask of a circuit.
-ghost use Rattle.std.specs.Prelude.{◌≡◌, ◌*◌, ℕ, IfOk, length, map};
+ghost use Rattle.std.specs.Prelude.{◌≡◌, ℕ, IfOk, length, map};
 ghost use Rattle.sg_circuit.specs.declared.checks.CheckTiming as timing_seen;
 ghost use Rattle.sg_circuit.specs.Circuit.{Circuit as CircuitSeen};
 ghost use Rattle.sg_circuit.specs.Signals.{AreShort};
 ghost use Rattle.late_limits.specs.Adjustments.{with_limits, IsAdjustmentOf, IsLike};
+ghost use Rattle.late_limits.specs.Found.{AreAllShort, AreAmong, AreFound};
 
-use sg_circuit::{CheckTiming, Circuit, Zero};
+use crate::groups::{lates_by_scope, windows_by_scope};
+use crate::scopes::adjust_scope;
+use crate::signals::Signals;
+use sg_circuit::{CheckTiming, Circuit, FanOut, Parts, Zero};
 use sg_text::NoMemory;
 use std::alloc::Global;
 
@@ -34,17 +38,48 @@ pub fn limits_of(alloc: Global, timings: &[CheckTiming]) -> Result<Vec<[i64; 2]>
     Ok(limits)
 }
 
-/// The least delays of a circuit's Lates by which no limit of its timing checks, with these limits in place of its own, is below 0 once it is moved by them; and the limits that are taken as 0
-/// in order that there are such delays (IEEE 1364-2005, 15.8). All of it scope by scope. Takes memory in proportion to the checks, elements and scopes.
-pub fn adjust(
+// Scope after scope.
+fn adjust_all(
     alloc: Global,
-    circuit: &Circuit,
+    parts: &Parts,
     limits: &[[i64; 2]],
+    windows: &FanOut,
+    lates: &FanOut,
+    scopes: u32,
 ) -> Result<Adjustment, NoMemory>
+    requires there { AreAmong (length parts.now.check_timings.items) windows.now }
+    requires lates { AreAmong (length parts.now.elements.items) lates.now }
+    requires each_check { length limits.now ≡ length parts.now.check_timings.items }
+    requires short { AreAllShort parts.now.check_timings.items limits.now windows.now }
+    requires scopes { length windows.now ≡ scopes }
+    requires as_many { length lates.now ≡ scopes }
+    ensures { IfOk result (λ found. AreFound parts.now.check_timings.items limits.now parts.now.elements.items windows.now lates.now scopes found) }
+{
+    let mut signals = Signals::new(alloc);
+    let mut found = Adjustment {
+        delays: Vec::new(alloc),
+        zeroed: Vec::new(alloc),
+    };
+    for scope in 0..scopes {
+        let checks = windows.of(scope);
+        let late = lates.of(scope);
+        adjust_scope(alloc, &mut signals, parts, limits, checks, late, &mut found)?;
+    }
+    Ok(found)
+}
+
+/// The least delays of a circuit's Lates by which no limit of its timing checks, with these limits in place of its own, is below 0 once it is moved by them; and the limits that are taken as 0
+/// in order that there are such delays (IEEE 1364-2005, 15.8). All of it scope by scope. Takes memory in proportion to the checks, elements and scopes, and to the greatest number of a signal's
+/// net.
+pub fn adjust(alloc: Global, circuit: &Circuit, limits: &[[i64; 2]]) -> Result<Adjustment, NoMemory>
     requires each_check { length limits.now ≡ length circuit.now.check_timings }
     requires short { (scope : ℕ) → AreShort circuit.now.checks (with_limits circuit.now.check_timings limits.now) scope }
     ensures { IfOk result (λ a. (made : CircuitSeen) → IsLike circuit.now limits.now made → IsAdjustmentOf made a) }
 {
-    let _ = (alloc, circuit, limits);
-    Err(NoMemory)
+    let parts = circuit.parts();
+    let scopes = parts.scopes.len() as u32;
+    let windows = windows_by_scope(alloc, &parts.checks, &parts.check_timings, scopes)?;
+    let lates = lates_by_scope(alloc, &parts.elements, scopes)?;
+    let found = adjust_all(alloc, parts, limits, &windows, &lates, scopes)?;
+    Ok(found)
 }

@@ -2,7 +2,13 @@
 #![tactic(auto)]
 
 mod adjusting;
+mod counts;
+mod groups;
+mod laws;
+mod pairs;
+mod scopes;
 mod signals;
 
 pub use adjusting::{Adjustment, LateDelay, adjust, limits_of};
-pub use signals::signal_counts;
+pub use counts::signal_counts;
+pub use laws::adjusted_is_one;
