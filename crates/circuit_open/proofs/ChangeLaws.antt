@@ -29,6 +29,18 @@ kept-at F f zero (x ∷ xs) e (suc i) d = refl
 kept-at F f (suc k) (x ∷ xs) e zero d = refl
 kept-at F f (suc k) (x ∷ xs) e (suc i) d = kept-at F f k xs (λ c l. e c (omega arith)) i d
 
+pub other-at : {A : Type 0} (f : A → A) (k : ℕ) (xs : List A) (i : ℕ) (d : A) → i ≢ k → slice_index_or (changed_at f k xs) i d ≡ slice_index_or xs i d
+other-at f k [] i d n = refl
+other-at f zero (x ∷ xs) zero d n = absurd (n refl)
+other-at f zero (x ∷ xs) (suc i) d n = refl
+other-at f (suc k) (x ∷ xs) zero d n = refl
+other-at f (suc k) (x ∷ xs) (suc i) d n = other-at f k xs i d (λ e. n (ap suc e))
+
+pub here-at : {A : Type 0} (f : A → A) (k : ℕ) (xs : List A) (d : A) → k < length xs → slice_index_or (changed_at f k xs) k d ≡ f (slice_index_or xs k d)
+here-at f k [] d l = absurd (omega arith)
+here-at f zero (x ∷ xs) d l = refl
+here-at f (suc k) (x ∷ xs) d l = here-at f k xs d (omega arith)
+
 pub stays-at : {A : Type 0} (P : A → Type 0) (f : A → A) → ((x : A) → P x → P (f x)) → (k : ℕ) (xs : List A) (i : ℕ) (d : A) → P (slice_index_or xs i d) → P (slice_index_or (changed_at f k xs) i d)
 stays-at P f g k [] i d h = h
 stays-at P f g zero (x ∷ xs) zero d h = g x h

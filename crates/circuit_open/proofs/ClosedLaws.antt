@@ -1,6 +1,7 @@
 -- A closed circuit stays one where an element's kind, a check's limit or the limits that are taken as 0 are changed.
-use Rattle.std.specs.Prelude.{◌≡◌, ℕ, zero, suc, ℤ, pos, ◌<◌, ◌≤◌, ◌^◌, All, List, [], ◌∷◌, Option, Some, None, IfSome, IsSome, length, slice_index_or, slice_set, unsigned_abs, refl}
-use Rattle.std.proofs.Common.{sym, ◌∙◌, ap, arith, subst}
+use Rattle.std.specs.Prelude.{◌≡◌, ◌≢◌, ◌⊎◌, ℕ, zero, suc, ℤ, pos, ◌+◌, ◌*◌, ◌<◌, ◌≤◌, ◌^◌, true, All, List, [], ◌∷◌, Option, Some, None, IfSome, IsSome, length, map, slice_index_or, slice_set, unsigned_abs, refl}
+use Rattle.std.proofs.Common.{sym, ◌∙◌, ap, arith, subst, inl, inr}
+use Rattle.std.proofs.lemmas.Bool.{cases_eq}
 use Rattle.std.proofs.lemmas.List.Elements.{All-set, All-weaker}
 use Rattle.sg_circuit.specs.declared.nets.Driver.{Driver}
 use Rattle.sg_circuit.specs.declared.nets.Driver.TheVariants as driver
@@ -13,8 +14,11 @@ use Rattle.sg_circuit.specs.Timings.{Timing}
 use Rattle.sg_circuit.specs.Paths as specify
 use Rattle.sg_circuit.specs.Circuit.{Circuit, Element, Kind, Gate, Udp, Pass, Leg, Path, Late, net_at, element_at}
 use Rattle.sg_circuit.specs.Closed.{limit_count, AreTimings, AreLatesOf, HasDelays, HasFewPaths, HasLates, HasLimits, IfElement, IsCheckTiming, IsClosed, IsLate, IsLateOf, IsNotifier, IsPathOf, IsZeroOf, NamesNets, TakesInputs}
-use Rattle.circuit_open.specs.Open.{changed_at, with_kind, with_leg, with_path, with_delay, with_limit, with_check_limit, with_zeroed}
-use Rattle.circuit_open.proofs.ChangeLaws.{length-changed, All-changed, All-changed-there, kept-at, stays-at}
+use Rattle.sg_circuit.specs.Signals.{signals, takes_lates, windows, AreShort, IsShort}
+use Rattle.late_limits.proofs.AlikeLaws.{signals-alike, windows-all, windows-at, without_limits}
+use Rattle.late_limits.specs.Adjusted.{late_kind}
+use Rattle.circuit_open.specs.Open.{changed_at, with_kind, with_leg, with_path, with_limit, with_check_limit, with_zeroed, IsLight}
+use Rattle.circuit_open.proofs.ChangeLaws.{length-changed, All-changed, All-changed-there, here-at, kept-at, other-at, stays-at}
 
 if_some : {A : Type 0} (o : Option A) (P Q : A → Type 0) → ((a : A) → P a → Q a) → IfSome o P → IfSome o Q
 if_some None P Q f h = tt
@@ -51,7 +55,7 @@ keeps-leg nets timings t = record {
   lates = leg-cases IsLate timings (λ before h. h);
 }
 
-late-cases : (P : Kind → Type 0) (delay : ℕ) → ((before : ℕ) → P (Late before) → P (Late delay)) → (k : Kind) → P k → P (with_delay delay k)
+late-cases : (P : Kind → Type 0) (delay : ℕ) → ((before : ℕ) → P (Late before) → P (Late delay)) → (k : Kind) → P k → P (late_kind delay k)
 late-cases P delay f (Gate kind delays) h = h
 late-cases P delay f (Udp primitive first delays) h = h
 late-cases P delay f (Pass constant) h = h
@@ -59,7 +63,7 @@ late-cases P delay f (Leg timings) h = h
 late-cases P delay f (Path paths style) h = h
 late-cases P delay f (Late before) h = f before h
 
-pub keeps-delay : (nets delay : ℕ) → delay < 2 ^ 60 → KeepsKind nets (with_delay delay)
+pub keeps-delay : (nets delay : ℕ) → delay < 2 ^ 60 → KeepsKind nets (late_kind delay)
 keeps-delay nets delay l = record {
   takes = λ k n. late-cases (λ q. TakesInputs q n) delay (λ before h. h) k;
   delays = late-cases HasDelays delay (λ before h. l);
@@ -98,7 +102,6 @@ late_of c g e keeps net l h =
 
 lates_of : (c : Circuit) (g : Kind → Kind) (e : ℕ) → KeepsKind (length c.nets) g → (t : CheckTiming) (lates : List ℕ) → AreLatesOf c t lates → AreLatesOf (with_kind g e c) t lates
 lates_of c g e keeps t lates h = record {
-  takes = h.takes;
   refer = late_of c g e keeps t.refer.net (slice_index_or lates 0 0) h.refer;
   datum = if_some t.datum (λ d. IsLateOf c d.net (slice_index_or lates 1 0)) (λ d. IsLateOf (with_kind g e c) d.net (slice_index_or lates 1 0)) (λ d. late_of c g e keeps d.net (slice_index_or lates 1 0)) h.datum;
 }
@@ -137,7 +140,9 @@ closed-kind c g e keeps h =
       notifiers = All-weaker (λ (k : Check). IfSome k.notifier (λ n. IsNotifier c n)) (λ (k : Check). IfSome k.notifier (λ n. IsNotifier (with_kind g e c) n))
           (λ k. if_some k.notifier (λ n. IsNotifier c n) (λ n. IsNotifier (with_kind g e c) n) (λ n d. record { within = d.within; driven = d.driven })) c.checks h.notifiers;
       scales = h.scales;
-      lates = All-weaker (HasLates c) (HasLates (with_kind g e c)) (λ t. if_some t.late (λ lates. AreLatesOf c t lates) (λ lates. AreLatesOf (with_kind g e c) t lates) (lates_of c g e keeps t)) c.check_timings h.lates;
+      lates = All-weaker (HasLates c) (HasLates (with_kind g e c))
+          (λ t l. record { exact = l.exact; lates = if_some t.late (λ lates. AreLatesOf c t lates) (λ lates. AreLatesOf (with_kind g e c) t lates) (lates_of c g e keeps t) l.lates }) c.check_timings h.lates;
+      short = h.short;
       zeroed = All-weaker (IsZeroOf c) (IsZeroOf (with_kind g e c)) (λ z d. record { check = d.check; late = d.late; part = d.part }) c.zeroed h.zeroed;
     }
 
@@ -147,16 +152,17 @@ late-limit c check part value net l h = record { within = h.within; kind = h.kin
 
 lates-limit : (c : Circuit) (check part : ℕ) (value : ℤ) (t : CheckTiming) (lates : List ℕ) → AreLatesOf c t lates → AreLatesOf (with_check_limit check part value c) t lates
 lates-limit c check part value t lates h = record {
-  takes = h.takes;
   refer = late-limit c check part value t.refer.net (slice_index_or lates 0 0) h.refer;
   datum = if_some t.datum (λ d. IsLateOf c d.net (slice_index_or lates 1 0)) (λ d. IsLateOf (with_check_limit check part value c) d.net (slice_index_or lates 1 0)) (λ d. late-limit c check part value d.net (slice_index_or lates 1 0)) h.datum;
 }
 
 has-lates-limit : (c : Circuit) (check part : ℕ) (value : ℤ) (t : CheckTiming) → HasLates c t → HasLates (with_check_limit check part value c) t
-has-lates-limit c check part value t = if_some t.late (λ lates. AreLatesOf c t lates) (λ lates. AreLatesOf (with_check_limit check part value c) t lates) (lates-limit c check part value t)
+has-lates-limit c check part value t h =
+    record { exact = h.exact; lates = if_some t.late (λ lates. AreLatesOf c t lates) (λ lates. AreLatesOf (with_check_limit check part value c) t lates) (lates-limit c check part value t) h.lates }
 
 limit-lates : (c : Circuit) (part : ℕ) (value : ℤ) (t : CheckTiming) → HasLates c t → HasLates c (with_limit part value t)
-limit-lates c part value t = if_some t.late (λ lates. AreLatesOf c t lates) (λ lates. AreLatesOf c (with_limit part value t) lates) (λ lates h. record { takes = h.takes; refer = h.refer; datum = h.datum })
+limit-lates c part value t h =
+    record { exact = h.exact; lates = if_some t.late (λ lates. AreLatesOf c t lates) (λ lates. AreLatesOf c (with_limit part value t) lates) (λ lates l. record { refer = l.refer; datum = l.datum }) h.lates }
 
 first_set : (limits : List ℤ) (part : ℕ) (value : ℤ) → part < 1 → slice_index_or limits 1 (pos 0) ≡ pos 0 → slice_index_or (slice_set limits part value) 1 (pos 0) ≡ pos 0
 first_set [] part value l h = h
@@ -209,9 +215,42 @@ zero-limit c check part value z h = record {
   part = h.part;
 }
 
-pub closed-limit : (c : Circuit) (check part : ℕ) (value : ℤ) → ((t : CheckTiming) → part < limit_count (slice_index_or c.check_timings check t).kind) → unsigned_abs value < 2 ^ 60 → IsClosed c
+-- a limit of one check is set: those of its scope are short still
+same-but-limit : (part check : ℕ) (value : ℤ) (ts : List CheckTiming) → map without_limits (changed_at (with_limit part value) check ts) ≡ map without_limits ts
+same-but-limit part check value [] = refl
+same-but-limit part zero value (t ∷ ts) = refl
+same-but-limit part (suc check) value (t ∷ ts) = ap (λ us. without_limits t ∷ us) (same-but-limit part check value ts)
+
+short-limit : (c : Circuit) (check part : ℕ) (value : ℤ) → IsLight c check value → length c.check_timings ≡ length c.checks → ((scope : ℕ) → AreShort c.checks c.check_timings scope)
+    → (scope : ℕ) → AreShort c.checks (changed_at (with_limit part value) check c.check_timings) scope
+short-limit c check part value light same short scope =
+    let change = with_limit part value in
+    let ts : List CheckTiming = changed_at change check c.check_timings in
+    let many : length ts ≡ length c.check_timings = length-changed change check c.check_timings in
+    let n : ℕ = length (signals c.checks c.check_timings scope) in
+    subst (λ ns. All (λ (w : ℕ × CheckTiming). IsShort (length ns) w.1) (windows c.checks ts scope)) (sym (signals-alike c.checks ts c.check_timings scope (same-but-limit part check value c.check_timings)))
+    (windows-all (IsShort n) scope 0 c.checks ts
+    (λ k d e l m o takes. by k d e (subst (λ b. k < b) many m) l o (ap takes_lates (sym (kept-at (λ (t : CheckTiming). t.kind) change check c.check_timings (λ x q. refl) k e)) ∙ takes) (cases_eq k check)))
+  where
+    by : (k : ℕ) (d : Check) (e : CheckTiming) → k < length c.check_timings → k < length c.checks → (slice_index_or c.checks k d).scope ≡ scope → takes_lates (slice_index_or c.check_timings k e).kind ≡ true → (k ≡ check) ⊎ (k ≢ check)
+        → IsShort (length (signals c.checks c.check_timings scope)) (slice_index_or (changed_at (with_limit part value) check c.check_timings) k e)
+    by k d e m l o takes (inl same) =
+        let n : ℕ = length (signals c.checks c.check_timings scope) in
+        let t : CheckTiming = slice_index_or c.check_timings k e in
+        let here : slice_index_or (changed_at (with_limit part value) check c.check_timings) k e ≡ with_limit part value t =
+        ap (λ i. slice_index_or (changed_at (with_limit part value) i c.check_timings) k e) (sym same) ∙ here-at (with_limit part value) k c.check_timings e m in
+        let old : IsShort n t = windows-at (IsShort n) scope 0 c.checks c.check_timings (short scope) k d e l m o takes in
+        let own : unsigned_abs value * (length (signals c.checks c.check_timings (slice_index_or c.checks k d).scope) + 1) < 2 ^ 60 =
+        subst (λ i. (u : CheckTiming) (q : Check) → takes_lates (slice_index_or c.check_timings i u).kind ≡ true → unsigned_abs value * (length (signals c.checks c.check_timings (slice_index_or c.checks i q).scope) + 1) < 2 ^ 60) (sym same) light e d takes in
+        subst (IsShort n) (sym here)
+        (All-set (λ (v : ℤ). unsigned_abs v * (n + 1) < 2 ^ 60) t.limits part value (subst (λ s. unsigned_abs value * (length (signals c.checks c.check_timings s) + 1) < 2 ^ 60) o own) old)
+    by k d e m l o takes (inr other) =
+        let n : ℕ = length (signals c.checks c.check_timings scope) in
+        subst (IsShort n) (sym (other-at (with_limit part value) check c.check_timings k e other)) (windows-at (IsShort n) scope 0 c.checks c.check_timings (short scope) k d e l m o takes)
+
+pub closed-limit : (c : Circuit) (check part : ℕ) (value : ℤ) → ((t : CheckTiming) → part < limit_count (slice_index_or c.check_timings check t).kind) → unsigned_abs value < 2 ^ 60 → IsLight c check value → IsClosed c
     → IsClosed (with_check_limit check part value c)
-closed-limit c check part value own short h =
+closed-limit c check part value own short light h =
     let change = with_limit part value in
     let many : length (changed_at change check c.check_timings) ≡ length c.check_timings = length-changed change check c.check_timings in
     record {
@@ -243,6 +282,7 @@ closed-limit c check part value own short h =
       scales = h.scales;
       lates = All-weaker (HasLates c) (HasLates (with_check_limit check part value c)) (has-lates-limit c check part value) (changed_at change check c.check_timings)
           (All-changed (HasLates c) change (limit-lates c part value) check c.check_timings h.lates);
+      short = short-limit c check part value light h.timing_of_each h.short;
       zeroed = All-weaker (IsZeroOf c) (IsZeroOf (with_check_limit check part value c)) (zero-limit c check part value) c.zeroed h.zeroed;
     }
 
@@ -252,7 +292,6 @@ late-zeroed c zeroed net l h = record { within = h.within; kind = h.kind; input 
 
 lates-zeroed : (c : Circuit) (zeroed : List Zero) (t : CheckTiming) (lates : List ℕ) → AreLatesOf c t lates → AreLatesOf (with_zeroed zeroed c) t lates
 lates-zeroed c zeroed t lates h = record {
-  takes = h.takes;
   refer = late-zeroed c zeroed t.refer.net (slice_index_or lates 0 0) h.refer;
   datum = if_some t.datum (λ d. IsLateOf c d.net (slice_index_or lates 1 0)) (λ d. IsLateOf (with_zeroed zeroed c) d.net (slice_index_or lates 1 0)) (λ d. late-zeroed c zeroed d.net (slice_index_or lates 1 0)) h.datum;
 }
@@ -285,6 +324,8 @@ closed-zeroed c zeroed zs h = record {
   notifiers = All-weaker (λ (k : Check). IfSome k.notifier (λ n. IsNotifier c n)) (λ (k : Check). IfSome k.notifier (λ n. IsNotifier (with_zeroed zeroed c) n))
       (λ k. if_some k.notifier (λ n. IsNotifier c n) (λ n. IsNotifier (with_zeroed zeroed c) n) (λ n d. record { within = d.within; driven = d.driven })) c.checks h.notifiers;
   scales = h.scales;
-  lates = All-weaker (HasLates c) (HasLates (with_zeroed zeroed c)) (λ t. if_some t.late (λ lates. AreLatesOf c t lates) (λ lates. AreLatesOf (with_zeroed zeroed c) t lates) (lates-zeroed c zeroed t)) c.check_timings h.lates;
+  lates = All-weaker (HasLates c) (HasLates (with_zeroed zeroed c))
+      (λ t l. record { exact = l.exact; lates = if_some t.late (λ lates. AreLatesOf c t lates) (λ lates. AreLatesOf (with_zeroed zeroed c) t lates) (lates-zeroed c zeroed t) l.lates }) c.check_timings h.lates;
+  short = h.short;
   zeroed = All-weaker (IsZeroOf c) (IsZeroOf (with_zeroed zeroed c)) (λ z d. record { check = d.check; late = d.late; part = d.part }) zeroed zs;
 }

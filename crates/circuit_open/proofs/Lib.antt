@@ -2,3 +2,4 @@
 pub mod ChangeLaws
 pub mod ClosedLaws
 pub mod OpenLaws
+pub mod AdjustLaws

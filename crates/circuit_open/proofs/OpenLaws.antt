@@ -17,7 +17,8 @@ use Rattle.sg_circuit.specs.Paths as specify
 use Rattle.sg_circuit.specs.Circuit.{Circuit, Element, Kind, Pass, Leg, Path, Late, element_at}
 use Rattle.sg_circuit.specs.Timings.{Timing}
 use Rattle.sg_circuit.specs.Closed.{limit_count, AreTimings, IsClosed, IsLate}
-use Rattle.circuit_open.specs.Open.{Open, changed_at, with_kind, with_leg, with_path, with_delay, with_limit, with_check_limit, place_in, HasPath, HasPathIn, IsLeg}
+use Rattle.late_limits.specs.Adjusted.{late_kind}
+use Rattle.circuit_open.specs.Open.{Open, changed_at, with_kind, with_leg, with_path, with_limit, with_check_limit, place_in, HasPath, HasPathIn, IsLeg, IsLight}
 use Rattle.sg_circuit.specs.PathsSeen.{condition_seen, path_seen, paths_seen, spanned, AreIndexedPaths, IsIndexedPath}
 use Rattle.sg_circuit.specs.Seen.{circuit_seen, element_seen, kind_seen, paths_of, AreApart, AreIndexed, IsIndexed}
 use Rattle.sg_circuit.specs.TimingsSeen.{leg_timing_seen, timings_at}
@@ -290,7 +291,7 @@ leg-was parts timings (kind.Leg timing) h = (refl, refl)
 leg-was parts timings (kind.Path span style) h = absurd h
 leg-was parts timings (kind.Late delay) h = absurd h
 
-pub late-was : (parts : Parts) (delay : ℕ) (k : ElementKind) → IsLate (kind_seen parts k) → (paths_of k ≡ None) × (with_delay delay (kind_seen parts k) ≡ Late delay)
+pub late-was : (parts : Parts) (delay : ℕ) (k : ElementKind) → IsLate (kind_seen parts k) → (paths_of k ≡ None) × (late_kind delay (kind_seen parts k) ≡ Late delay)
 late-was parts delay (kind.Gate gate delays) h = absurd h
 late-was parts delay (kind.Udp udp delays) h = absurd h
 late-was parts delay (kind.Pass constant) h = absurd h
@@ -359,13 +360,13 @@ kind-before P parts room before e d view l h =
 pub late-set : (parts : Parts) (elements : Vec code_element.Element) (room e delay : ℕ) (before : Open) → record { circuit = circuit_seen parts; room = room } ≡ before → e < length before.circuit.elements
     → IsLate (element_at before.circuit e).kind → delay < 2 ^ 60 → IsClosed (circuit_seen parts) → AreIndexed parts
     → elements.items ≡ changed_at (λ (x : code_element.Element). record x { kind = kind.Late delay }) e parts.elements.items
-    → IsSet before (grown parts parts.leg_timings parts.paths elements) room (with_kind (with_delay delay) e)
+    → IsSet before (grown parts parts.leg_timings parts.paths elements) room (with_kind (late_kind delay) e)
 late-set parts elements room e delay before view l late short closed h is =
     let was = λ (d : code_element.Element). late-was parts delay (slice_index_or parts.elements.items e d).kind (kind-before IsLate parts room before e d view l late) in
-    is-set parts (grown parts parts.leg_timings parts.paths elements) room before (with_delay delay) e view
-    (closed-kind (circuit_seen parts) (with_delay delay) e (keeps-delay (length parts.nets.items) delay short) closed)
+    is-set parts (grown parts parts.leg_timings parts.paths elements) room before (late_kind delay) e view
+    (closed-kind (circuit_seen parts) (late_kind delay) e (keeps-delay (length parts.nets.items) delay short) closed)
     (indexed-set parts parts.leg_timings elements e (kind.Late delay) (grows-none parts.leg_timings.items) h tt (λ d m. sym (was d).0) is)
-    (elements-set parts parts.leg_timings elements e (kind.Late delay) (with_delay delay) (grows-none parts.leg_timings.items) h (λ d m. sym (was d).1) is)
+    (elements-set parts parts.leg_timings elements e (kind.Late delay) (late_kind delay) (grows-none parts.leg_timings.items) h (λ d m. sym (was d).1) is)
 
 pub leg-set : (parts : Parts) (timings : Vec LegTiming) (elements : Vec code_element.Element) (room e place : ℕ) (t : LegTiming) (before : Open) → record { circuit = circuit_seen parts; room = room } ≡ before
     → e < length before.circuit.elements → IsLeg (element_at before.circuit e).kind → AreTimings (leg_timing_seen t) → IsClosed (circuit_seen parts) → AreIndexed parts
@@ -421,15 +422,15 @@ path-set parts timings paths room e path place d t before view l has fine closed
 
 -- a check's limit is set: the elements stay as they were
 pub limit-set : (parts : Parts) (timings : Vec CheckTiming) (check part : ℕ) (value : ℤ) → ((t : CheckTiming) → part < limit_count (slice_index_or parts.check_timings.items check t).kind) → unsigned_abs value < 2 ^ 60
-    → IsClosed (circuit_seen parts) → AreIndexed parts
+    → IsLight (circuit_seen parts) check value → IsClosed (circuit_seen parts) → AreIndexed parts
     → timings.items ≡ changed_at (with_limit part value) check parts.check_timings.items
     → IsClosed (circuit_seen (record parts { check_timings = timings })) × AreIndexed (record parts { check_timings = timings })
-limit-set parts timings check part value own short closed h is =
+limit-set parts timings check part value own short light closed h is =
     let after = record parts { check_timings = timings } in
     let seen : circuit_seen after ≡ with_check_limit check part value (circuit_seen parts) =
     ap (λ ts. record (circuit_seen parts) { elements = map (element_seen after) parts.elements.items; check_timings = ts }) is
     ∙ ap (λ es. record (with_check_limit check part value (circuit_seen parts)) { elements = es }) (map-same (element_seen parts) (element_seen after) parts.elements.items (λ i d l. same-element parts timings (slice_index_or parts.elements.items i d))) in (
-      subst IsClosed (sym seen) (closed-limit (circuit_seen parts) check part value own short closed),
+      subst IsClosed (sym seen) (closed-limit (circuit_seen parts) check part value own short light closed),
       record {
         named = All-weaker (λ (x : code_element.Element). IsIndexed parts x.kind) (λ (x : code_element.Element). IsIndexed after x.kind) (λ x. same-indexed parts timings x.kind) parts.elements.items h.named;
         few_udps = h.few_udps;

@@ -1,11 +1,13 @@
 -- A circuit that is open for annotation, and what a call changes in it.
-use Rattle.std.specs.Prelude.{ℕ, zero, suc, ℤ, ◌+◌, ◌<◌, List, [], ◌∷◌, length, slice_set}
+use Rattle.std.specs.Prelude.{◌≡◌, ℕ, zero, suc, ℤ, ◌+◌, ◌*◌, ◌<◌, ◌^◌, unsigned_abs, true, List, [], ◌∷◌, length, slice_index_or, slice_set}
+use Rattle.sg_circuit.specs.declared.checks.Check.{Check}
 use Rattle.sg_circuit.specs.declared.checks.CheckTiming.{CheckTiming}
 use Rattle.sg_circuit.specs.declared.checks.Zero.{Zero}
 use Rattle.sg_circuit.specs.declared.elements.ElementKind.{ElementKind}
 use Rattle.sg_circuit.specs.declared.elements.ElementKind.TheVariants as kind
 use Rattle.sg_circuit.specs.Timings.{Timing}
-use Rattle.sg_circuit.specs.Circuit.{Circuit, Element, Kind, Leg, Path, Late}
+use Rattle.sg_circuit.specs.Circuit.{Circuit, Element, Kind, Leg, Path}
+use Rattle.sg_circuit.specs.Signals.{signals, takes_lates}
 
 -- a circuit, with room for so many timings more
 pub record Open : Type 0 where
@@ -32,11 +34,6 @@ abbrev pub with_path : ℕ → List Timing → Kind → Kind
 with_path place timings (Path paths style) = Path (changed_at (λ p. record p { timings = timings }) place paths) style
 with_path place timings kind = kind
 
--- the delay of a Late (IEEE 1364-2005, 15.8)
-abbrev pub with_delay : ℕ → Kind → Kind
-with_delay delay (Late before) = Late delay
-with_delay delay kind = kind
-
 abbrev pub IsLeg : Kind → Type 0
 IsLeg (Leg timings) = Unit {0}
 IsLeg _ = ⊥
@@ -61,6 +58,11 @@ with_limit part value t = record t { limits = slice_set t.limits part value }
 
 abbrev pub with_check_limit : ℕ → ℕ → ℤ → Circuit → Circuit
 with_check_limit check part value c = record c { check_timings = changed_at (with_limit part value) check c.check_timings }
+
+-- where the check may have limits below 0, such limits of its scope add up to less than 2^60 ticks from signal to signal (IEEE 1364-2005, 15.8)
+abbrev pub IsLight : Circuit → (check : ℕ) → ℤ → Type 0
+IsLight c check value = (t : CheckTiming) (k : Check) → takes_lates (slice_index_or c.check_timings check t).kind ≡ true
+    → unsigned_abs value * (length (signals c.checks c.check_timings (slice_index_or c.checks check k).scope) + 1) < 2 ^ 60
 
 -- the limits of timing checks that are taken as 0 (IEEE 1364-2005, 15.8)
 abbrev pub with_zeroed : List Zero → Circuit → Circuit

@@ -6,13 +6,15 @@ ghost use Rattle.sg_circuit.specs.declared.elements.Element.{Element as ElementS
 ghost use Rattle.sg_circuit.specs.declared.paths.Path.{Path as PathSeen};
 ghost use Rattle.sg_circuit.specs.Circuit.{element_at};
 ghost use Rattle.sg_circuit.specs.Closed.{limit_count, AreTimings, IsLate, IsZeroOf};
-ghost use Rattle.circuit_open.specs.Open.{changed_at, with_check_limit, with_delay, with_kind, with_leg, with_limit, with_path, with_zeroed, place_in, HasPath, HasPathIn, IsLeg};
+ghost use Rattle.circuit_open.specs.Open.{changed_at, with_check_limit, with_kind, with_leg, with_limit, with_path, with_zeroed, place_in, HasPath, HasPathIn, IsLeg, IsLight};
 ghost use Rattle.sg_circuit.specs.Seen.{circuit_seen, AreIndexed};
 ghost use Rattle.sg_circuit.specs.TimingsSeen.{leg_timing_seen};
+ghost use Rattle.late_limits.specs.Adjusted.{late_kind, IsAdjustedFrom};
+ghost use Rattle.late_limits.specs.Adjustments.{IsAdjustmentOf};
 
+use late_limits::Adjustment;
 use sg_circuit::{CheckTiming, Circuit, Element, ElementKind, LegTiming, Parts, Path, Zero};
 use std::marker::Model;
-use std::mem;
 
 // Adds a timing to a table that has room for it, and tells its place.
 fn add_timing(timings: &mut Vec<LegTiming>, timing: LegTiming) -> u32
@@ -148,12 +150,23 @@ impl OpenCircuit {
         self.room -= 1;
     }
 
-    /// Sets the delay of a Late, in ticks.
-    pub fn set_late(&mut self, element: u32, delay: u64)
+    /// Sets a limit of a timing check, in ticks: the first of its text, or the second where its kind has two.
+    pub fn set_limit(&mut self, check: u32, part: usize, value: i64)
+        requires check { check < length self.old.circuit.check_timings }
+        requires part { (t : TimingSeen) → part < limit_count (slice_index_or self.old.circuit.check_timings check t).kind }
+        requires value { unsigned_abs value < 2 ^ 60 }
+        requires light { IsLight self.old.circuit check value }
+        ensures { self.new ≡ record { circuit = with_check_limit check part value self.old.circuit; room = self.old.room } }
+    {
+        change_limit(&mut self.parts.check_timings, check, part, value);
+    }
+
+    // Sets the delay of a Late, in ticks.
+    fn set_late(&mut self, element: u32, delay: u64)
         requires element { element < length self.old.circuit.elements }
         requires kind { IsLate (element_at self.old.circuit element).kind }
         requires delay { delay < 2 ^ 60 }
-        ensures { self.new ≡ record { circuit = with_kind (with_delay delay) element self.old.circuit; room = self.old.room } }
+        ensures { self.new ≡ record { circuit = with_kind (late_kind delay) element self.old.circuit; room = self.old.room } }
     {
         set_kind(
             &mut self.parts.elements,
@@ -162,23 +175,25 @@ impl OpenCircuit {
         );
     }
 
-    /// Sets a limit of a timing check, in ticks: the first of its text, or the second where its kind has two.
-    pub fn set_limit(&mut self, check: u32, part: usize, value: i64)
-        requires check { check < length self.old.circuit.check_timings }
-        requires part { (t : TimingSeen) → part < limit_count (slice_index_or self.old.circuit.check_timings check t).kind }
-        requires value { unsigned_abs value < 2 ^ 60 }
-        ensures { self.new ≡ record { circuit = with_check_limit check part value self.old.circuit; room = self.old.room } }
+    // Sets the limits that are taken as 0.
+    fn set_zeroed(&mut self, zeroed: Vec<Zero>)
+        requires { All (IsZeroOf self.old.circuit) zeroed.items }
+        ensures { self.new ≡ record { circuit = with_zeroed zeroed.items self.old.circuit; room = self.old.room } }
     {
-        change_limit(&mut self.parts.check_timings, check, part, value);
+        self.parts.zeroed = zeroed;
     }
 
-    /// Sets the limits that are taken as 0, and gives back those that were.
-    pub fn set_zeroed(&mut self, zeroed: Vec<Zero>) -> Vec<Zero>
-        requires { All (IsZeroOf self.old.circuit) zeroed.items }
-        ensures circuit { self.new ≡ record { circuit = with_zeroed zeroed.items self.old.circuit; room = self.old.room } }
-        ensures before { result.items ≡ self.old.circuit.zeroed }
+    /// Sets what limits below 0 ask of the circuit: the delays of its Lates, and the limits that are taken as 0 (IEEE 1364-2005, 15.8).
+    pub fn adjust(&mut self, found: Adjustment)
+        requires { IsAdjustmentOf self.old.circuit found }
+        ensures circuit { IsAdjustedFrom self.old.circuit self.new.circuit }
+        ensures room { self.new.room ≡ self.old.room }
     {
-        mem::replace(&mut self.parts.zeroed, zeroed)
+        let _ = &self.parts;
+        for late in &found.delays {
+            self.set_late(late.element, late.delay);
+        }
+        self.set_zeroed(found.zeroed);
     }
 
     /// Its parts as they stand.

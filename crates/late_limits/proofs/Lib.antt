@@ -5,6 +5,8 @@ pub mod PairLaws
 pub mod ScopeLaws
 pub mod RangeLaws
 pub mod WindowLaws
+pub mod AlikeLaws
 pub mod CountLaws
 pub mod FoundLaws
 pub mod OneLaws
+pub mod AdjustmentLaws

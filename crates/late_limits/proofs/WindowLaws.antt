@@ -96,7 +96,7 @@ all-short checks timings limits table e h short = record {
 }
 
 -- numbers of checks
-zip-few : (checks : List Check) (timings : List CheckTiming) → length (zip checks timings) ≤ length timings
+pub zip-few : (checks : List Check) (timings : List CheckTiming) → length (zip checks timings) ≤ length timings
 zip-few [] ts = omega arith
 zip-few (c ∷ cs) [] = omega arith
 zip-few (c ∷ cs) (t ∷ ts) = let h = zip-few cs ts in omega arith
