@@ -20,7 +20,7 @@ use Rattle.elab_ends.specs.Ends.{AreEnds, ends_before}
 use Rattle.elab_ends.specs.Seen.{bit_seen, bits_seen}
 use Rattle.elab_ends.specs.declared.ends.PathEnds.{PathEnds}
 use Rattle.elab_modules.specs.declared.prepared.Prepared.{Prepared}
-use Rattle.elab_nets.specs.Ends.{HasPath}
+use Rattle.elab_nets.specs.Members.{HasMember}
 use Rattle.elab_nets.specs.Own.{net_at}
 use Rattle.elab_nets.proofs.ConstantNets.{same-name}
 use Rattle.elab_nets.proofs.NumberedLists.{taken}
@@ -111,7 +111,7 @@ inner-nets vs s scope [] e n h = refl
 inner-nets vs s scope (i ∷ places) e n h =
     ap (λ o. o ∷ map (λ i. net_at scope (bit_at vs i)) places) (sym (same-name vs s scope i e n h.0)) ∙ ap (λ os. undriven (inner_net s (bit_seen vs i)) ∷ os) (inner-nets vs s scope places e n h.1)
 
-module _ (s : Instance) (prepared : Prepared) (scope k : ℕ) (p : SpecifyPath) (has : HasPath s prepared scope k p) (places : List ℕ)
+module _ (s : Instance) (prepared : Prepared) (scope k : ℕ) (p : SpecifyPath) (has : HasMember s prepared scope k (path p)) (places : List ℕ)
     (seen : bits_seen (variables s.step.definition) places ≡ first_ends s.step.definition (k, path p)) where
   pub end-count : length places ≡ length (first_ends s.step.definition (k, path p))
   end-count = sym (length-map places (bit_seen (variables s.step.definition))) ∙ ap length seen

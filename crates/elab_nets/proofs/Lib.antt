@@ -2,6 +2,7 @@
 pub mod Counts
 pub mod NumberedLists
 pub mod InnerNets
+pub mod LateNets
 pub mod PathTurns
 pub mod EndRows
 pub mod RowBits

@@ -22,6 +22,7 @@ use Rattle.elab_modules.specs.declared.library.Library.{Library}
 use Rattle.elab_modules.specs.declared.prepared.Prepared.{Prepared}
 use Rattle.elab_modules.specs.Ready.{IsPrepared}
 use Rattle.elab_laws.specs.NumberLaws.{nets_before}
+use Rattle.elab_nets.specs.Members.{HasMember}
 use Rattle.elab_nets.specs.Rows.{first_of_member}
 use Rattle.elab_nets.specs.Turns.{HasInnerRow, HasTurn, IsNext, IsSeenTo, AreThrough, AddsOutside, children_among, end_number, members_of}
 use Rattle.elab_model.specs.Numbered.{undriven}
@@ -147,3 +148,8 @@ member-at p m items k x prepared e lt is =
     let a : slice_get items k ≡ Some x = slice_get_read items (length items) k x refl lt is in
     let b : slice_get p.members.items k ≡ Some x = ap (λ xs. slice_get xs k) (sym e) ∙ a in
     ap (λ xs. slice_get xs k) (sym prepared.members) ∙ get-map view_member p.members.items k x b
+
+-- and a member of the definition in its place
+pub has-member : (s : Instance) (prepared : Prepared) (scope k : ℕ) (x y : Member) → x ≡ y → IsPrepared prepared s.step.definition → s.step.number ≡ scope → slice_get (members s.step.definition) k ≡ Some x
+    → HasMember s prepared scope k y
+has-member s prepared scope k x y is ready number there = record { ready = ready; number = number; there = there ∙ ap (λ z. Some z) is }

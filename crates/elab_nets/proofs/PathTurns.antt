@@ -1,5 +1,5 @@
 -- The nets of a member that is a specify path have the next numbers.
-use Rattle.std.specs.Prelude.{◌≡◌, ℕ, List, ◌∷◌, ◌++◌, Some, length, map, refl, slice_get}
+use Rattle.std.specs.Prelude.{◌≡◌, ℕ, List, ◌∷◌, ◌++◌, length, map, refl}
 use Rattle.std.specs.List.{range_with_len}
 use Rattle.std.proofs.Common.{sym, ◌∙◌, ap}
 use Rattle.std.proofs.lemmas.List.{length-map}
@@ -8,7 +8,7 @@ use Rattle.sg_delay.specs.declared.corners.Corner.{Corner}
 use Rattle.vl_tree.specs.Tree.{Module, Source, SpecifyPath}
 use Rattle.elab_model.specs.Ends.{first_ends}
 use Rattle.elab_model.specs.Hierarchy.{Instance, instances}
-use Rattle.elab_model.specs.Members.{Member, path, members}
+use Rattle.elab_model.specs.Members.{Member, path}
 use Rattle.elab_model.specs.Nets.{nets, number_of, inner_net, member_nets}
 use Rattle.elab_model.specs.Names.{Variable}
 use Rattle.elab_model.specs.Numbered.{undriven}
@@ -17,9 +17,6 @@ use Rattle.elab_laws.specs.Laws.{AreSound}
 use Rattle.elab_laws.specs.NumberLaws.{nets_before}
 use Rattle.elab_laws.proofs.InOrder.{member-nets_have_places}
 use Rattle.elab_modules.specs.declared.library.Library.{Library}
-use Rattle.elab_modules.specs.declared.prepared.Prepared.{Prepared}
-use Rattle.elab_modules.specs.Ready.{IsPrepared}
-use Rattle.elab_nets.specs.Ends.{HasPath}
 use Rattle.elab_nets.specs.Turns.{HasTurn, IsNext, IsSeenTo, end_number, members_of}
 use Rattle.elab_nets.specs.declared.rows.Rows.{Rows}
 use Rattle.elab_nets.proofs.ChildRows.{AreSame, lone-seen}
@@ -31,12 +28,6 @@ ends-numbered source top corner before after s front behind k p sound here split
     let bs = first_ends s.step.definition (k, path p) in
     sym (map-map (λ o. number_of (nets source top) o.spot) (inner_net s) bs) ∙ member-nets_have_places source top corner before after s front behind (k, path p) sound here split
     ∙ ap (range_with_len (nets_before source before s front)) (length-map bs (inner_net s))
-
--- an instance has a member that is a specify path
-pub has-path : (s : Instance) (prepared : Prepared) (scope k : ℕ) (p : SpecifyPath) (x : Member) → x ≡ path p → IsPrepared prepared s.step.definition → s.step.number ≡ scope
-    → slice_get (members s.step.definition) k ≡ Some x
-    → HasPath s prepared scope k p
-has-path s prepared scope k p x is ready number there = record { ready = ready; number = number; there = there ∙ ap (λ y. Some y) is }
 
 -- what is added to the ends
 ends-added : (source : Source) (top : Module) (corner : Corner) (before after : List Instance) (s : Instance) (k next : ℕ) (p : SpecifyPath) (old new : List ℕ) (count : ℕ) → AreSound source top corner

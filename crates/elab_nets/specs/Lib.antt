@@ -4,7 +4,9 @@ pub mod Own
 pub mod Outside
 pub mod TerminalBits
 pub mod Terminals
+pub mod Members
 pub mod Ends
+pub mod Copies
 pub mod Inputs
 pub mod Written
 pub mod Rows

@@ -12,7 +12,8 @@ ghost use Rattle.elab_model.specs.Names.{variables};
 ghost use Rattle.elab_model.specs.Nets.{member_nets};
 ghost use Rattle.elab_model.specs.Numbered.{undriven};
 ghost use Rattle.elab_numbering.specs.Refusals.{RefusesCount};
-ghost use Rattle.elab_nets.specs.Ends.{AreFirstEnds, HasPath};
+ghost use Rattle.elab_nets.specs.Ends.{AreFirstEnds};
+ghost use Rattle.elab_nets.specs.Members.{HasMember};
 ghost use Rattle.elab_nets.specs.Own.{net_at};
 
 use crate::bit_nets::push_bit_net;
@@ -80,11 +81,11 @@ pub fn add_ends(
 ) -> Result<(), Refused<ElabKind>>
     requires few { length nets.old.items ≤ 2 ^ 22 }
     ensures few { length nets.new.items ≤ 2 ^ 22 }
-    ensures ends { OnOk result ((s : def.Instance) (p : SpecifyPath) → HasPath s prepared.now scope member p
+    ensures ends { OnOk result ((s : def.Instance) (p : SpecifyPath) → HasMember s prepared.now scope member (path p)
         → ends.new.items ≡ ends.old.items ++ range_with_len (length nets.old.items) (length (def_ends.first_ends s.step.definition (member, path p)))) }
-    ensures nets { OnOk result ((source : Source) (s : def.Instance) (p : SpecifyPath) → HasPath s prepared.now scope member p
+    ensures nets { OnOk result ((source : Source) (s : def.Instance) (p : SpecifyPath) → HasMember s prepared.now scope member (path p)
         → nets.new.items ≡ nets.old.items ++ map undriven (member_nets source s (member, path p))) }
-    ensures refused { IfErr result (λ r. (source : Source) (s : def.Instance) (p : SpecifyPath) → HasPath s prepared.now scope member p
+    ensures refused { IfErr result (λ r. (source : Source) (s : def.Instance) (p : SpecifyPath) → HasMember s prepared.now scope member (path p)
         → RefusesCount (length nets.old.items + length (member_nets source s (member, path p))) r) }
 {
     let Some(places) = first_ends(&prepared.table, &prepared.ends, member) else {

@@ -2,6 +2,7 @@
 #![tactic(auto)]
 
 mod bit_nets;
+mod copies;
 mod ends;
 mod inputs;
 mod limit;

@@ -18,6 +18,7 @@ ghost use Rattle.elab_nets.specs.Turns.{HasTurn, IsNext, IsSeenTo};
 ghost use Rattle.elab_model.specs.Numbered.{undriven};
 
 use crate::Rows;
+use crate::copies::add_lates;
 use crate::ends::add_ends;
 use crate::member_bits::{TerminalBits, connection_bits, terminal_bits};
 use crate::outside::add_outside;
@@ -230,6 +231,10 @@ pub fn add_member(
                 &mut rows.ends,
                 &mut rows.nets,
             )?;
+            Ok(next)
+        }
+        Member::Check(_) => {
+            add_lates(alloc, prepared, number, index, &mut rows.nets)?;
             Ok(next)
         }
     }

@@ -1,8 +1,8 @@
--- Gates and instances have nets that no variable names; others have none.
+-- The nets of a member that no variable names are added, and the outer row of the child that it is.
 use Rattle.std.proofs.Common.{◌≡◌, ◌∙◌, ◌++◌, ◌+◌, ap, sym, map, length, subst, refl, append-nil, option_map}
 use Rattle.std.proofs.lemmas.Result.{err_from_is_err_and, IfOk-weaker, IfErr-weaker}
-use Rattle.vl_tree.specs.Seen.{view_delay, view_gate_instance, view_path}
-use Rattle.elab_model.specs.Members.{gate, path}
+use Rattle.vl_tree.specs.Seen.{view_check, view_delay, view_gate_instance, view_path}
+use Rattle.elab_model.specs.Members.{check, gate, path}
 use Rattle.elab_model.specs.Nets.{member_nets}
 use Rattle.elab_numbering.specs.Refusals.{RefusesCount}
 use Rattle.elab_variables.specs.Seen.{view_member}
@@ -11,7 +11,8 @@ use Rattle.elab_nets.specs.declared.rows.Rows.{Rows}
 use Rattle.elab_model.specs.Numbered.{undriven}
 use Rattle.elab_nets.proofs.Counts.{handed-on}
 use Rattle.elab_nets.proofs.ChildRows.{lone-seen, member-refused}
-use Rattle.elab_nets.proofs.PathTurns.{has-path, path-seen}
+use Rattle.elab_nets.proofs.MemberTurns.{has-member}
+use Rattle.elab_nets.proofs.PathTurns.{path-seen}
 use Rattle.elab_nets.proofs.PlainMembers.{is-plain}
 use Rattle.elab_nets.proofs.members.add_member.Goals as goal
 
@@ -81,7 +82,7 @@ returns-in_err-add_ends-in-Path-clause-refused c =
     (length c.args.rows.now.nets.items) at e
     (subst (λ x. RefusesCount (length c.args.rows.now.nets.items + length (member_nets c.args.definitions.now turn.s (c.args.index, x))) e) (sym (ap view_member c.in-Path.is))
     (c.in_err-add_ends-in-Path.ensures.refused c.args.definitions.now turn.s (view_path c.in-Path.field-0.now)
-    (has-path turn.s c.args.prepared.now c.args.number c.args.index (view_path c.in-Path.field-0.now) (view_member c.args.member) (ap view_member c.in-Path.is) prepared turn.number_is at.there))))
+    (has-member turn.s c.args.prepared.now c.args.number c.args.index (view_member c.args.member) (path (view_path c.in-Path.field-0.now)) (ap view_member c.in-Path.is) prepared turn.number_is at.there))))
 
 pub returns-in_ok-add_ends-in-Path-clause-seen : goal.returns-in_ok-add_ends-in-Path-clause-seen
 returns-in_ok-add_ends-in-Path-clause-seen c = λ top corner turn prepared at.
@@ -101,7 +102,41 @@ returns-in_ok-add_ends-in-Path-clause-seen c = λ top corner turn prepared at.
       end_starts = rows.end_starts;
       ends = c.add_ends.new.ends;
     } in
-    let has = has-path turn.s c.args.prepared.now c.args.number k p (view_member c.args.member) is prepared turn.number_is at.there in
+    let has = has-member turn.s c.args.prepared.now c.args.number k (view_member c.args.member) (path p) is prepared turn.number_is at.there in
     subst (λ x. (at : IsNext source turn.before turn.s (k, x) c.args.next (length rows.nets.items)) → IsSeenTo source top turn.s (k, x) at.levels c.args.next c.args.next at.behind rows new) (sym is)
     (path-seen source top corner c.args.library.now c.args.instances.now rows new c.args.prepared.now.table c.args.number turn k c.args.next p
     (c.in_ok-add_ends-in-Path.ensures.nets source turn.s p has) (c.in_ok-add_ends-in-Path.ensures.ends turn.s p has) refl refl (refl, (refl, (refl, (refl, refl))))) at
+
+pub returns-in_err-add_lates-in-Check-clause-refused : goal.returns-in_err-add_lates-in-Check-clause-refused
+returns-in_err-add_lates-in-Check-clause-refused c =
+    let e = c.in_err-add_lates-in-Check.field-0.0 in
+    handed-on c.from_residual-in_err-add_lates-in-Check.result _ e (err_from_is_err_and c.from_residual-in_err-add_lates-in-Check.result c.from_residual-in_err-add_lates-in-Check.ensures.1)
+    (λ top corner turn prepared at. member-refused c.args.definitions.now top corner c.args.library.now c.args.instances.now c.args.rows.now c.args.prepared.now.table c.args.number turn
+    (c.args.index, view_member c.args.member) c.args.next
+    (length c.args.rows.now.nets.items) at e
+    (subst (λ x. RefusesCount (length c.args.rows.now.nets.items + length (member_nets c.args.definitions.now turn.s (c.args.index, x))) e) (sym (ap view_member c.in-Check.is))
+    (c.in_err-add_lates-in-Check.ensures.refused c.args.definitions.now turn.s (view_check c.in-Check.field-0.now)
+    (has-member turn.s c.args.prepared.now c.args.number c.args.index (view_member c.args.member) (check (view_check c.in-Check.field-0.now)) (ap view_member c.in-Check.is) prepared turn.number_is at.there))))
+
+pub returns-in_ok-add_lates-in-Check-clause-seen : goal.returns-in_ok-add_lates-in-Check-clause-seen
+returns-in_ok-add_lates-in-Check-clause-seen c = λ top corner turn prepared at.
+    let source = c.args.definitions.now in
+    let rows = c.args.rows.now in
+    let k = c.args.index in
+    let x = view_check c.in-Check.field-0.now in
+    let is : view_member c.args.member ≡ check x = ap view_member c.in-Check.is in
+    let new : Rows = record {
+      nets = c.add_lates.new.nets;
+      starts = rows.starts;
+      inner = rows.inner;
+      outer_starts = rows.outer_starts;
+      outer = rows.outer;
+      member_starts = rows.member_starts;
+      firsts = rows.firsts;
+      end_starts = rows.end_starts;
+      ends = rows.ends;
+    } in
+    let has = has-member turn.s c.args.prepared.now c.args.number k (view_member c.args.member) (check x) is prepared turn.number_is at.there in
+    subst (λ y. IsSeenTo source top turn.s (k, y) at.levels c.args.next c.args.next at.behind rows new) (sym is)
+    (lone-seen source top turn.s (k, check x) at.levels c.args.next at.behind rows new refl
+    (c.in_ok-add_lates-in-Check.ensures.nets source turn.s x has) (sym (append-nil rows.ends.items)) refl refl (refl, (refl, (refl, (refl, refl)))))
