@@ -26,6 +26,12 @@ pub fn show_circuit(circuit: &Circuit, out: &mut String) -> anyhow::Result<()> {
         show_check(check, out)?;
         show_what_it_looks_for(parts, number, out)?;
     }
+    for zero in &parts.zeroed {
+        let check = zero.check;
+        let part = zero.part;
+        let value = zero.value;
+        writeln!(out, "zeroed {check} {part} {value}")?;
+    }
     for (number, scope) in parts.scopes.iter().enumerate() {
         write!(out, "scope {number} ")?;
         show_scope(scope, out)?;
@@ -173,7 +179,11 @@ fn show_timing(
         write!(out, " {limit}")?;
     }
     let threshold = timing.threshold;
-    writeln!(out, " threshold {threshold}")?;
+    write!(out, " threshold {threshold}")?;
+    if let Some([refer, datum]) = timing.late {
+        write!(out, " late {refer} {datum}")?;
+    }
+    writeln!(out, "")?;
     show_event(&timing.refer, written.refer, out)?;
     if let Some(event) = &timing.datum {
         show_event(event, written.datum, out)?;

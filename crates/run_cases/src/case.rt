@@ -125,7 +125,7 @@ impl Case {
         let mut shelf = MemoryShelf::new(alloc);
         for file in &self.files {
             let bytes = file.text.as_bytes();
-            let taken = if file.name == name {
+            let taken = if file.name.as_str() == name {
                 front.min(bytes.len())
             } else {
                 bytes.len()
@@ -141,7 +141,7 @@ impl Case {
     // Tries each front of a file, and adds of how many there was an answer.
     fn show_fronts(&self, alloc: Global, name: &str, out: &mut String) -> anyhow::Result<()> {
         for file in &self.files {
-            if file.name == name {
+            if file.name.as_str() == name {
                 let fronts = file.text.len();
                 let mut answered = 0_u64;
                 for front in 0..fronts {
