@@ -184,10 +184,11 @@ pub fn run_quietly(
         Blank::new(1),
     )?;
     let spent = spent_unwatched(finished.end)?;
+    let tally = finished.tally;
     Ok(QuietEnd {
-        violations: finished.tally.violations,
-        evaluations: finished.tally.evaluations,
-        last: finished.tally.last,
+        violations: tally.violations,
+        evaluations: tally.evaluations,
+        last: tally.last,
         spent,
     })
 }
