@@ -9,8 +9,7 @@ use Rattle.vl_tree.specs.Seen.{view_edge, view_event}
 use Rattle.elab_model.specs.declared.kinds.ElabKind.TheVariants.{BadTerminal}
 use Rattle.elab_model.specs.Faults.{fault_if, RefusesOneOf}
 use Rattle.specify_model.specs.CheckFaults.{wants_edge}
-use Rattle.specify_values.proofs.InTurn.{fault-told}
-use Rattle.specify_values.proofs.Signed.{none-if}
+use Rattle.specify_values.proofs.InTurn.{fault-told, none-if}
 
 none-seen : {A B : Type 0} (f : A → B) (o : Option A) → is_none (option_map f o) ≡ is_none o
 none-seen f None = refl

@@ -2,9 +2,11 @@
 pub mod OneBit
 pub mod Enabling
 pub mod RegBits
-pub mod FirstSignal
+pub mod LateCopies
+pub mod CopyPlaces
 pub mod Edges
 pub mod Seconds
 pub mod InOrder
 pub mod NextCheck
 pub mod Whole
+pub mod Asked

@@ -3,6 +3,8 @@ use Rattle.std.specs.Prelude.{◌≡◌, ℕ, suc, ◌<◌, List, [], ◌∷◌,
 use Rattle.std.proofs.Common.{sym, ◌∙◌, ap, arith, subst, append-nil}
 use Rattle.std.proofs.lemmas.Bool.{eqb-true}
 use Rattle.std.proofs.lemmas.List.{length-map}
+use Rattle.sg_circuit.specs.Closed.{width_of}
+use Rattle.sg_circuit.specs.declared.scopes.Range.{Range}
 use Rattle.vl_tree.specs.declared.expressions.Select.{Select}
 use Rattle.vl_tree.specs.declared.expressions.Select.TheVariants as select
 use Rattle.vl_tree.specs.Tree.{Named, Term}
@@ -15,10 +17,15 @@ use Rattle.elab_model.specs.Leaves.{leaf_of}
 use Rattle.elab_model.specs.Names.{Variable}
 use Rattle.specify_model.specs.Conditions.{first_bit}
 use Rattle.specify_model.specs.Faults.{term_faults, operand_faults}
-use Rattle.elab_model.specs.Terms.{net_bit, expression_of, term_bits}
+use Rattle.elab_model.specs.Terms.{NetBit, net_bit, expression_of, term_bits}
 use Rattle.elab_ends.specs.Seen.{bit_seen, bits_seen, AreInRow}
-use Rattle.specify_values.proofs.Signed.{if-none}
+use Rattle.specify_values.proofs.InTurn.{if-none}
 use Rattle.specify_paths.proofs.InOrder.{none-left, none-right}
+
+-- a variable has one at least
+pub has-bit : (r : Option Range) → 0 < width_of r
+has-bit None = omega arith
+has-bit (Some r) = omega arith
 
 -- ---- all bits of a term are bits of nets
 
@@ -50,28 +57,38 @@ bits-only vs t =
     let leaf = leaf_bits vs (leaf_of t.name t.select) in
     subst (λ bs. length (filter_map net_bit bs) ≡ length bs) (sym (append-nil leaf)) (leaf-only vs t.name t.select)
 
+-- ---- without a fault it is one bit
+
+module _ (vs : List Variable) (t : Term) (sound : operand_faults vs t ≡ []) where
+  one-wide : length (bits vs (expression_of t)) ≡ 1
+  one-wide =
+      let count = length (bits vs (expression_of t)) in
+      let wide = fault_if (is_empty (term_faults vs t) && not (count == 1)) WidthMismatch t.name.place in
+      let declared : term_faults vs t ≡ [] = none-left (term_faults vs t) wide sound in
+      let test : (is_empty (term_faults vs t) && not (count == 1)) ≡ false = if-none (is_empty (term_faults vs t) && not (count == 1)) WidthMismatch t.name.place (none-right (term_faults vs t) wide sound) in
+      let same : not (count == 1) ≡ false = sym (ap (λ fs. is_empty fs && not (count == 1)) declared) ∙ test in
+      eqb-true count 1 (not-false (count == 1) same)
+    where
+      not-false : (b : Bool) → not b ≡ false → b ≡ true
+      not-false true e = refl
+      not-false false e = cc
+
+  pub only-bit : term_bits vs t ≡ first_bit (term_bits vs t) ∷ []
+  only-bit = by (term_bits vs t) (bits-only vs t ∙ one-wide)
+    where
+      by : (bs : List NetBit) → length bs ≡ 1 → bs ≡ first_bit bs ∷ []
+      by [] e = absurd (omega (arith, e))
+      by (b ∷ []) e = refl
+      by (b ∷ c ∷ bs) e = absurd (omega (arith, e))
+
 -- ---- places that are the bits of one term
 
 module _ (vs : List Variable) (t : Term) (is : List ℕ) (seen : bits_seen vs is ≡ flat_map (term_bits vs) (t ∷ [])) where
   all-bits : bits_seen vs is ≡ term_bits vs t
   all-bits = seen ∙ append-nil (term_bits vs t)
 
-  as-many : length is ≡ length (bits vs (expression_of t))
-  as-many = sym (length-map is (bit_seen vs)) ∙ ap length all-bits ∙ bits-only vs t
-
-  -- without a fault it is one bit
   pub one : operand_faults vs t ≡ [] → length is ≡ 1
-  one h =
-      let count = length (bits vs (expression_of t)) in
-      let wide = fault_if (is_empty (term_faults vs t) && not (count == 1)) WidthMismatch t.name.place in
-      let sound : term_faults vs t ≡ [] = none-left (term_faults vs t) wide h in
-      let test : (is_empty (term_faults vs t) && not (count == 1)) ≡ false = if-none (is_empty (term_faults vs t) && not (count == 1)) WidthMismatch t.name.place (none-right (term_faults vs t) wide h) in
-      let same : not (count == 1) ≡ false = sym (ap (λ fs. is_empty fs && not (count == 1)) sound) ∙ test in
-      as-many ∙ eqb-true count 1 (not-false (count == 1) same)
-    where
-      not-false : (b : Bool) → not b ≡ false → b ≡ true
-      not-false true e = refl
-      not-false false e = cc
+  one h = sym (length-map is (bit_seen vs)) ∙ ap length (all-bits ∙ only-bit vs t h)
 
   pub first-is : (d : ℕ) → length is ≡ 1 → bit_seen vs (slice_index_or is 0 d) ≡ first_bit (term_bits vs t)
   first-is d one = by is one ∙ ap first_bit all-bits

@@ -1,8 +1,7 @@
 -- The bit of a reg is the first of its variable.
-use Rattle.std.specs.Prelude.{◌≡◌, ℕ, ◌+◌, ◌<◌, ◌≤◌, List, [], Bool, false, true, not, Option, Some, None, length, take, refl}
+use Rattle.std.specs.Prelude.{◌≡◌, ℕ, ◌+◌, ◌<◌, ◌≤◌, List, [], Bool, false, true, not, Some, None, length, take, refl}
 use Rattle.std.proofs.Common.{sym, ◌∙◌, ap, arith, subst}
 use Rattle.sg_circuit.specs.Closed.{width_of}
-use Rattle.sg_circuit.specs.declared.scopes.Range.{Range}
 use Rattle.sg_text.specs.declared.refusals.Refused.TheVariants as refused
 use Rattle.vl_tree.specs.Tree.{Named}
 use Rattle.elab_bits.specs.Seen.{bit_at}
@@ -18,10 +17,7 @@ use Rattle.specify_model.specs.CheckFaults.{found_notifier_faults}
 use Rattle.specify_model.specs.Checks.{reg_bit}
 use Rattle.elab_ends.specs.Seen.{bit_seen}
 use Rattle.specify_values.proofs.InTurn.{fault-told}
-
-has-bit : (r : Option Range) → 0 < width_of r
-has-bit None = omega arith
-has-bit (Some r) = omega arith
+use Rattle.specify_checks.proofs.OneBit.{has-bit}
 
 pub unknown-told : (vs : List Variable) (n : Named) → None ≡ place_named vs n.text → RefusesOneOf (found_notifier_faults n (variable_named vs n.text)) (refused.Fault UnknownName n.place)
 unknown-told vs n e = subst (λ o. RefusesOneOf (found_notifier_faults n o) (refused.Fault UnknownName n.place)) (sym (not-named vs n.text e)) (fault-told true UnknownName n.place refl)

@@ -1,10 +1,9 @@
 -- The parts of a timing check's text, as private functions hand them on.
-use Rattle.std.specs.Prelude.{◌≡◌, ◌∷◌, Option, Some, None, option_to_list}
+use Rattle.std.specs.Prelude.{◌≡◌, ◌∷◌, option_to_list}
 use Rattle.std.specs.Option.{option_map}
-use Rattle.sg_text.specs.declared.places.Place.{Place}
 use Rattle.vl_tree.specs.Seen.{view_event, view_limit, view_name}
-use Rattle.vl_tree.specs.Tree.{Check, Named}
-use Rattle.specify_model.specs.Checks.{place_of, kind_of, reference_of, data_of, limits_in, threshold_of, notifier_of, delayed_reference_of, delayed_data_of}
+use Rattle.vl_tree.specs.Tree.{Check}
+use Rattle.specify_model.specs.Checks.{place_of, kind_of, reference_of, data_of, limits_in, threshold_of, notifier_of}
 use Rattle.specify_checks.specs.declared.parts.Parts.{Parts}
 
 pub record ArePartsOf (c : Check) (p : Parts) : Type 0 where
@@ -15,10 +14,3 @@ pub record ArePartsOf (c : Check) (p : Parts) : Type 0 where
   pub limits_are : view_limit p.first ∷ option_to_list (option_map view_limit p.second) ≡ limits_in c
   pub threshold_is : option_map view_limit p.threshold ≡ threshold_of c
   pub notifier_is : option_map view_name p.notifier ≡ notifier_of c
-  pub delayed_reference_is : option_map view_name p.delayed_reference ≡ delayed_reference_of c
-  pub delayed_data_is : option_map view_name p.delayed_data ≡ delayed_data_of c
-
--- where the first of two signals is named
-abbrev pub first_signal : Option Named → Option Named → Option Place
-first_signal (Some n) other = Some n.place
-first_signal None other = option_map (λ n. n.place) other

@@ -2,10 +2,10 @@
 #![tactic(auto)]
 
 mod checks;
+mod copies;
 mod events;
 mod parts;
 mod regs;
-mod signals;
 
-pub use checks::{ModuleCheck, module_checks};
+pub use checks::{CheckLimits, ModuleCheck, module_checks};
 pub use events::ModuleEvent;

@@ -19,8 +19,6 @@ pub struct Parts<'t, 'a> {
     pub second: Option<Limit<'a>>,
     pub threshold: Option<Limit<'a>>,
     pub notifier: Option<Name<'a>>,
-    pub delayed_reference: Option<Name<'a>>,
-    pub delayed_data: Option<Name<'a>>,
 }
 
 fn one_limit_kind(check: OneLimitCheck) -> CheckKind
@@ -65,8 +63,6 @@ pub fn parts_of<'t, 'a>(check: &'t Check<'a>) -> Parts<'t, 'a>
             second: None,
             threshold: None,
             notifier: *notifier,
-            delayed_reference: None,
-            delayed_data: None,
         },
         Check::TwoLimits {
             place,
@@ -76,8 +72,7 @@ pub fn parts_of<'t, 'a>(check: &'t Check<'a>) -> Parts<'t, 'a>
             first,
             second,
             notifier,
-            delayed_reference,
-            delayed_data,
+            ..
         } => Parts {
             place: *place,
             kind: two_limit_kind(*check),
@@ -87,8 +82,6 @@ pub fn parts_of<'t, 'a>(check: &'t Check<'a>) -> Parts<'t, 'a>
             second: Some(*second),
             threshold: None,
             notifier: *notifier,
-            delayed_reference: *delayed_reference,
-            delayed_data: *delayed_data,
         },
         Check::Width {
             place,
@@ -105,8 +98,6 @@ pub fn parts_of<'t, 'a>(check: &'t Check<'a>) -> Parts<'t, 'a>
             second: None,
             threshold: *threshold,
             notifier: *notifier,
-            delayed_reference: None,
-            delayed_data: None,
         },
         Check::Period {
             place,
@@ -122,8 +113,6 @@ pub fn parts_of<'t, 'a>(check: &'t Check<'a>) -> Parts<'t, 'a>
             second: None,
             threshold: None,
             notifier: *notifier,
-            delayed_reference: None,
-            delayed_data: None,
         },
     }
 }

@@ -1,5 +1,5 @@
 // Limits of timing checks in ticks.
-ghost use Rattle.std.specs.Prelude.{◌≡◌, ◌+◌, ◌*◌, ◌<◌, ◌^◌, ◌-ℤ◌, pos, false, if◌then◌else◌, IfOk, flat_map};
+ghost use Rattle.std.specs.Prelude.{◌≡◌, ◌+◌, ◌*◌, ◌<◌, ◌^◌, ◌-ℤ◌, pos, false, if◌then◌else◌, IfOk, flat_map, unsigned_abs};
 ghost use Rattle.vl_tree.specs.Seen.{view_limit, view_signed};
 ghost use Rattle.specify_model.specs.CheckFaults as faults;
 ghost use Rattle.specify_model.specs.Checks as def;
@@ -73,7 +73,8 @@ fn part_ticks(
 
 fn signed(negative: bool, ticks: u64) -> i64
     requires { ticks < 2 ^ 60 }
-    ensures { result ≡ (if negative then (pos 0 -ℤ pos ticks) else pos ticks) }
+    ensures signed { result ≡ (if negative then (pos 0 -ℤ pos ticks) else pos ticks) }
+    ensures fits { unsigned_abs result < 2 ^ 60 }
 {
     if negative {
         -(ticks as i64)
@@ -91,6 +92,7 @@ pub fn limit_ticks(
     limit: &Limit,
 ) -> Result<i64, Refused<ElabKind>>
     ensures ticks { IfOk result (λ l. l ≡ def.limit_ticks (measured by) (values_of parameters.now) (view_limit limit.now)) }
+    ensures fits { IfOk result (λ l. unsigned_abs l < 2 ^ 60) }
     ensures told { Tells (faults.limit_faults (signals + 1) (measured by) (values_of parameters.now) (view_limit limit.now)) result }
 {
     check_parts_known(parameters, limit)?;
