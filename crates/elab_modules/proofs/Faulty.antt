@@ -10,7 +10,7 @@ use Rattle.elab_model.specs.declared.kinds.ElabKind.{ElabKind}
 use Rattle.elab_model.specs.declared.kinds.ElabKind.TheVariants.{BadTerminal}
 use Rattle.elab_model.specs.Definitions.{definition_of, as_primitive, primitive_of}
 use Rattle.elab_model.specs.Faults.{Fault, fault_if, RefusesOneOf}
-use Rattle.elab_model.specs.Members.{Member, assignment, supply, gate, instance, path, members, member_values, connection_values}
+use Rattle.elab_model.specs.Members.{Member, assignment, supply, gate, instance, path, check, members, member_values, connection_values}
 use Rattle.elab_model.specs.ModuleFaults.{are_terminals, instance_faults, member_faults, all_member_faults, module_faults}
 use Rattle.elab_model.specs.NameFaults.{declaration_faults}
 use Rattle.elab_model.specs.Names.{variables}
@@ -48,6 +48,7 @@ member-refused source corner tick m (assignment j) p r e h = cc
 member-refused source corner tick m (supply n v) p r e h = cc
 member-refused source corner tick m (gate g d i) p r e h = cc
 member-refused source corner tick m (path w) p r e h = cc
+member-refused source corner tick m (check w) p r e h = cc
 member-refused source corner tick m (instance n d i) p r e h =
     subst (λ o. RefusesOneOf (instance_faults corner tick m (variables m) d i o) r) (sym (primitive-defined (definition_of source n.text) p e)) (faults-inside corner tick m d i p r h)
 

@@ -6,6 +6,7 @@ pub mod JoinedFaults
 pub mod TerminalFaults
 pub mod Connected
 pub mod Entries
+pub mod DelayedFaults
 pub mod MemberFaults
 pub mod ReadyParts
 pub mod Replaced

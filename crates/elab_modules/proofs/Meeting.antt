@@ -19,7 +19,7 @@ use Rattle.vl_tree.specs.declared.names.Name.{Name}
 use Rattle.vl_tree.specs.Tree.{Module, Primitive, Part, Source, a_module, a_primitive}
 use Rattle.elab_model.specs.declared.kinds.ElabKind.{ElabKind}
 use Rattle.elab_model.specs.Definitions.{as_primitive}
-use Rattle.elab_model.specs.Members.{Member, assignment, supply, gate, instance, path}
+use Rattle.elab_model.specs.Members.{Member, assignment, supply, gate, instance, path, check}
 use Rattle.elab_model.specs.PrimitiveFaults.{member_primitive}
 use Rattle.elab_laws.proofs.Lists.{In, in-left, in-right, in-either, in-flat, all-weaker, all-append}
 use Rattle.elab_variables.specs.Seen.{view_member}
@@ -92,6 +92,7 @@ udp-kept source before after kept (assignment j) h = tt
 udp-kept source before after kept (supply n v) h = tt
 udp-kept source before after kept (gate g d i) h = tt
 udp-kept source before after kept (path p) h = tt
+udp-kept source before after kept (check c) h = tt
 udp-kept source before after kept (instance n d i) h = λ j p e at. kept j (h j p e at)
 
 udps-kept : (source : Source) (before after : Parts) → ((i : ℕ) → HasReady before i → HasReady after i) → (ms : List Member) → AllByRecursion (IsUdpReady source before) ms
@@ -137,6 +138,7 @@ names-none source parts (member.Supply n v) h = (tt, refl)
 names-none source parts (member.Gate g d i) h = (tt, refl)
 names-none source parts (member.Instance n d i) h = absurd (h n d i refl)
 names-none source parts (member.Path p) h = (tt, refl)
+names-none source parts (member.Check w) h = (tt, refl)
 
 pub stocked-other : (source : Source) (d x : code_member.Member) (before mid : Parts) (tables udps : List UdpUse) (ms : List code_member.Member) (k : ℕ) → k < length ms → x ≡ slice_index_or ms k d
     → IsOther x → Stocked source before mid tables udps (map view_member (take k ms)) → Stocked source before mid tables udps (map view_member (take (k + 1) ms))

@@ -1,5 +1,5 @@
 -- What is wrong with a member but its delay.
-use Rattle.std.specs.Prelude.{◌≡◌, ℕ, ◌<◌, List, [], ◌∷◌, ◌++◌, not, Option, Some, None, Result, Ok, Err, MatchResult, flat_map, length, slice_get, bytes_eq, refl, ℤ}
+use Rattle.std.specs.Prelude.{◌≡◌, ℕ, ◌<◌, List, [], ◌∷◌, ◌++◌, false, not, Option, Some, None, Result, Ok, Err, MatchResult, flat_map, length, slice_get, bytes_eq, refl, ℤ}
 use Rattle.std.specs.List.{position_from}
 use Rattle.std.proofs.Common.{sym, ◌∙◌, ap, arith, subst, append_assoc}
 use Rattle.std.proofs.lemmas.List.{append-nil}
@@ -8,28 +8,42 @@ use Rattle.sg_logic.specs.Gate.{most_delays}
 use Rattle.sg_logic.specs.declared.gates.GateKind.{GateKind}
 use Rattle.sg_text.specs.declared.refusals.Refused.{Refused}
 use Rattle.sg_text.specs.declared.refusals.Refused.TheVariants as refused
-use Rattle.vl_tree.specs.Tree.{Named, Delay, Connections, by_order, by_name, GateInstance, Instance as instance_text, Join, Module, a_module, a_primitive, Primitive, Source}
+use Rattle.vl_tree.specs.Tree.{Named, Expression, Delay, Connections, by_order, by_name, Check, GateInstance, Instance as instance_text, Join, Module, a_module, a_primitive, Primitive, Source}
 use Rattle.elab_model.specs.declared.kinds.ElabKind.{ElabKind}
 use Rattle.elab_model.specs.declared.kinds.ElabKind.TheVariants.{UnknownModule, BadTerminal}
 use Rattle.elab_model.specs.Definitions.{name_of, definition_of}
 use Rattle.elab_model.specs.Elements.{output_count}
 use Rattle.elab_model.specs.Faults.{Fault, fault, fault_if, RefusesOneOf}
-use Rattle.elab_model.specs.Members.{assignment, gate, instance, connection_values}
+use Rattle.elab_model.specs.Members.{assignment, gate, instance, check, connection_values, member_values}
 use Rattle.elab_model.specs.ModuleFaults.{are_terminals, takes_terminals, delay_on_module, connection_faults, instance_faults, all_member_faults}
 use Rattle.elab_model.specs.Names.{Variable, variables}
 use Rattle.elab_model.specs.PrimitiveFaults.{primitive_faults}
-use Rattle.elab_model.specs.TerminalFaults.{expression_faults, terminal_faults, delay_faults, is_missing}
+use Rattle.elab_model.specs.TerminalFaults.{expression_faults, width_faults, terminal_faults, delay_faults, is_missing}
 use Rattle.elab_laws.proofs.NoFaults.{front, back}
 use Rattle.elab_hierarchy.proofs.Found.{place-first, position-none}
 use Rattle.elab_declared.proofs.Refusals.{refused-left, refused-right}
 use Rattle.elab_modules.specs.Connecting.{gate_faults, fits_ports, primitive_terminal_faults, instance_of_module_faults}
-use Rattle.elab_modules.specs.Telling.{Tells, TellsButDelay, sides_faults}
+use Rattle.elab_modules.specs.Telling.{Tells, TellsButDelay, joined_faults, sides_faults}
+use Rattle.elab_modules.proofs.SameFaults.{same-as, same-each, same-parted, same-then, tells-same}
 
 -- ---- assignments and gates
 
 pub sides-tell : {A : Type 0} (source : Source) (m : Module) (vs : List Variable) (j : Join) (result : Result A (Refused ElabKind)) → vs ≡ variables m
     → Tells (sides_faults vs j.place j.left j.right) result → TellsButDelay source m (assignment j) result
 sides-tell source m vs j result e h corner tick = subst (λ ws. Tells (sides_faults ws j.place j.left j.right) result) e h
+
+-- the names of delayed copies
+pub check-tell : {A : Type 0} (source : Source) (m : Module) (vs : List Variable) (c : Check) (result : Result A (Refused ElabKind)) → vs ≡ variables m
+    → Tells (flat_map (joined_faults vs 1 false) (member_values (check c))) result → TellsButDelay source m (check c) result
+check-tell source m vs c result e h corner tick =
+    let es = member_values (check c) in
+    let names : Expression → List Fault = λ x. expression_faults (variables m) x in
+    let widths : Expression → List Fault = λ x. width_faults (variables m) 1 x in
+    tells-same (flat_map (λ x. names x ++ (widths x ++ [])) es) (flat_map names es ++ flat_map widths es) result
+    (same-then (flat_map (λ x. names x ++ (widths x ++ [])) es) (flat_map (λ x. names x ++ widths x) es) (flat_map names es ++ flat_map widths es)
+    (same-each (λ x. names x ++ (widths x ++ [])) (λ x. names x ++ widths x) es (λ x. same-as (names x ++ (widths x ++ [])) (names x ++ widths x) (ap (λ fs. names x ++ fs) (append-nil (widths x)))))
+    (same-parted names widths es))
+    (subst (λ ws. Tells (flat_map (joined_faults ws 1 false) es) result) e h)
 
 -- faults with more at the end
 but-last : {A : Type 0} (fs ds all : List Fault) (result : Result A (Refused ElabKind)) → all ≡ fs ++ ds → Tells fs result → MatchResult result (λ _. all ≡ ds) (RefusesOneOf all)

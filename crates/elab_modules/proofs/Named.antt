@@ -11,7 +11,7 @@ use Rattle.elab_model.specs.Definitions.{definition_of, as_module}
 use Rattle.elab_model.specs.Delays.{tick_of}
 use Rattle.elab_model.specs.Hierarchy.{Step, Instance, Child, child_of, child_of_member, children_in, children_from, children_at, children, instances, top_instance, levels_below_top, size}
 use Rattle.elab_model.specs.HierarchyFaults.{two_definitions}
-use Rattle.elab_model.specs.Members.{Member, assignment, supply, gate, instance, path, members}
+use Rattle.elab_model.specs.Members.{Member, assignment, supply, gate, instance, path, check, members}
 use Rattle.elab_laws.proofs.Lists.{In, all-in}
 use Rattle.elab_laws.proofs.NoFaults.{child-there, all-from}
 use Rattle.elab_variables.specs.Seen.{view_member}
@@ -125,6 +125,7 @@ member-named source top ps parts udps s (assignment a) h there inside udp = tt
 member-named source top ps parts udps s (supply n v) h there inside udp = tt
 member-named source top ps parts udps s (gate g d i) h there inside udp = tt
 member-named source top ps parts udps s (path p) h there inside udp = tt
+member-named source top ps parts udps s (check c) h there inside udp = tt
 member-named source top ps parts udps s (instance n d i) h there inside udp = λ j e. let f = place-first source n.text j e in by j e f.element f.there f.first
   where
     by : (j : ℕ) → place_of source n.text ≡ Some j → (q : Part) → slice_get source j ≡ Some q → definition_of source n.text ≡ Some q → HasReady parts j

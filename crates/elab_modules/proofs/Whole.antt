@@ -15,7 +15,7 @@ use Rattle.elab_model.specs.PrimitiveFaults.{member_primitive, primitives}
 use Rattle.elab_model.specs.Faults.{fault}
 use Rattle.elab_model.specs.Hierarchy.{Instance, instances}
 use Rattle.elab_model.specs.HierarchyFaults.{two_definitions}
-use Rattle.elab_model.specs.Members.{Member, assignment, supply, gate, instance, path, members}
+use Rattle.elab_model.specs.Members.{Member, assignment, supply, gate, instance, path, check, members}
 use Rattle.elab_model.specs.ModuleFaults.{all_member_faults, module_faults}
 use Rattle.elab_model.specs.UsedPrimitives.{first_uses, used}
 use Rattle.elab_laws.proofs.Lists.{In, in-flat, from-flat, all-in}
@@ -164,6 +164,7 @@ named-faultless source parts (assignment j) p all e h = cc
 named-faultless source parts (supply n v) p all e h = cc
 named-faultless source parts (gate g d i) p all e h = cc
 named-faultless source parts (path w) p all e h = cc
+named-faultless source parts (check w) p all e h = cc
 named-faultless source parts (instance n d i) p all e h =
     let d = place-defined source n.text p (primitive-defined (definition_of source n.text) p e) in
     faultless-at source parts d.0 p all d.2 (h d.0 d.1)

@@ -12,7 +12,7 @@ use Rattle.elab_model.specs.declared.kinds.ElabKind.{ElabKind}
 use Rattle.elab_model.specs.Definitions.{primitive_of}
 use Rattle.elab_model.specs.PrimitiveFaults.{member_primitive}
 use Rattle.elab_model.specs.Faults.{fault}
-use Rattle.elab_model.specs.Members.{Member, assignment, supply, gate, instance, path, members}
+use Rattle.elab_model.specs.Members.{Member, assignment, supply, gate, instance, path, check, members}
 use Rattle.elab_model.specs.ModuleFaults.{module_faults}
 use Rattle.elab_model.specs.UsedPrimitives.{first_uses, used}
 use Rattle.elab_laws.specs.Words.{In}
@@ -50,6 +50,7 @@ IsUdpReady source parts (supply n v) = Unit {0}
 IsUdpReady source parts (gate g d i) = Unit {0}
 IsUdpReady source parts (instance n d i) = IsNameReady source parts n.text
 IsUdpReady source parts (path p) = Unit {0}
+IsUdpReady source parts (check c) = Unit {0}
 
 -- the tables are those of the primitives that were met, in order of first use; these stand ready, and no others
 pub record AreFirst (source : Source) (parts : List (Option code_ready.Ready)) (udps : List UdpUse) (met : List Primitive) : Type 0 where

@@ -9,7 +9,7 @@ use Rattle.vl_tree.specs.Tree.{Named, Module, Source, a_primitive, Primitive}
 use Rattle.vl_tree.specs.Seen.{view_module, view_name}
 use Rattle.elab_model.specs.Definitions.{name_of}
 use Rattle.elab_model.specs.Delays.{delays_of}
-use Rattle.elab_model.specs.Members.{Member, assignment, supply, gate, instance, path, members}
+use Rattle.elab_model.specs.Members.{Member, assignment, supply, gate, instance, path, check, members}
 use Rattle.elab_model.specs.NameFaults.{declaration_faults}
 use Rattle.elab_model.specs.Names.{variables}
 use Rattle.elab_model.specs.Ports.{port_list}
@@ -17,6 +17,7 @@ use Rattle.elab_model.specs.Primitives.{table_of, initial_value}
 use Rattle.elab_variables.specs.Seen.{view_member}
 use Rattle.elab_hierarchy.specs.Tops.{StandsAt}
 use Rattle.elab_ends.specs.Ends.{AreEnds}
+use Rattle.elab_lates.specs.Copies.{AreCopies}
 use Rattle.elab_primitives.specs.Refusals.{IsFaultless}
 use Rattle.elab_modules.specs.declared.prepared.Prepared.{Prepared}
 use Rattle.elab_modules.specs.declared.library.Ready as code_ready
@@ -30,6 +31,7 @@ pub record IsPrepared (p : Prepared) (m : Module) : Type 0 where
   pub table : p.table ≡ variables m
   pub declared : declaration_faults m ≡ []
   pub ends : AreEnds m p.ends
+  pub copies : AreCopies m p.copies
 
 -- what is ready of the definition at a place
 abbrev pub IsReady : Source → ℕ → Option code_ready.Ready → Type 0
@@ -54,6 +56,7 @@ MemberReady source parts (supply n v) = Unit {0}
 MemberReady source parts (gate g d i) = Unit {0}
 MemberReady source parts (instance n d i) = NamesReady source parts n
 MemberReady source parts (path p) = Unit {0}
+MemberReady source parts (check c) = Unit {0}
 
 -- the table and the first state of each primitive that is ready
 pub record IsUdp (udps : List UdpUse) (k : ℕ) (p : Primitive) : Type 0 where
@@ -71,6 +74,7 @@ member_delays corner tick m (supply n v) = []
 member_delays corner tick m (gate g d i) = delays_of corner tick m d
 member_delays corner tick m (instance n d i) = delays_of corner tick m d
 member_delays corner tick m (path p) = []
+member_delays corner tick m (check c) = []
 
 -- each member's place in the table of delays
 pub record HasDelays (corner : Corner) (tick : ℤ) (m : Module) (table : List GateDelays) (places : List ℕ) : Type 0 where

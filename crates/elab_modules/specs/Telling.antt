@@ -11,7 +11,7 @@ use Rattle.sg_text.specs.declared.places.Place.{Place}
 use Rattle.vl_tree.specs.Tree.{Delay, Expression, Module, Source}
 use Rattle.elab_model.specs.declared.kinds.ElabKind.{ElabKind}
 use Rattle.elab_model.specs.Faults.{Fault, RefusesOneOf}
-use Rattle.elab_model.specs.Members.{Member, assignment, supply, gate, instance, path}
+use Rattle.elab_model.specs.Members.{Member, assignment, supply, gate, instance, path, check}
 use Rattle.elab_model.specs.ModuleFaults.{all_member_faults}
 use Rattle.elab_model.specs.Names.{Variable}
 use Rattle.elab_model.specs.TerminalFaults.{expression_faults, width_faults, constant_faults, assignment_faults, delay_faults}
@@ -46,6 +46,7 @@ delay_of (supply n v) = None
 delay_of (gate g d i) = d
 delay_of (instance n d i) = d
 delay_of (path p) = None
+delay_of (check c) = None
 
 abbrev pub most_of : Member → ℕ
 most_of (assignment j) = 0
@@ -53,6 +54,7 @@ most_of (supply n v) = 0
 most_of (gate g d i) = most_delays g
 most_of (instance n d i) = 2
 most_of (path p) = 0
+most_of (check c) = 0
 
 -- nothing is wrong with a member but perhaps its delay, or a fault is told
 abbrev pub TellsButDelay : {A : Type 0} → Source → Module → Member → Result A (Refused ElabKind) → Type 0

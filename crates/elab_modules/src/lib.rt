@@ -4,6 +4,7 @@
 mod assignments;
 mod checks;
 mod connections;
+mod delayed;
 mod delays;
 mod gates;
 mod instances;

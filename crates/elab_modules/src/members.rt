@@ -12,6 +12,7 @@ ghost use Rattle.elab_modules.specs.Telling.{Tells, TellsButDelay, GrowsBy, Stan
 ghost use Rattle.elab_model.specs.TerminalFaults.{delay_faults};
 
 use crate::assignments::{check_declared, check_sides};
+use crate::delayed::check_delayed;
 use crate::delays::{add_delays, add_entry, no_delays};
 use crate::gates::check_gate;
 use crate::instances::check_instance;
@@ -46,6 +47,7 @@ fn check_member(
         Member::Assignment(join) => check_sides(table, join.place, &join.left, &join.right, bits),
         Member::Supply { .. } => Ok(()),
         Member::Path(_) => Ok(()),
+        Member::Check(check) => check_delayed(table, check, bits),
         Member::Gate { kind, instance, .. } => check_gate(table, *kind, instance, bits),
         Member::Instance {
             definition,
@@ -85,6 +87,7 @@ fn add_member(
         Member::Assignment(_) => Ok(add_entry(none, gate_delays)?),
         Member::Supply { .. } => Ok(add_entry(none, gate_delays)?),
         Member::Path(_) => Ok(add_entry(none, gate_delays)?),
+        Member::Check(_) => Ok(add_entry(none, gate_delays)?),
         Member::Gate { kind, delay, .. } => {
             let most = kind.most_delays();
             add_delays(most, corner, tick, scale, delay, gate_delays)

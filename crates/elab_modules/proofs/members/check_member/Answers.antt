@@ -1,10 +1,10 @@
 -- A member of each kind.
 use Rattle.std.proofs.Common.{None, sym, subst, option_map}
-use Rattle.vl_tree.specs.Seen.{view_name, view_expression, view_join, view_delay, view_gate_instance}
+use Rattle.vl_tree.specs.Seen.{view_name, view_expression, view_join, view_delay, view_gate_instance, view_check}
 use Rattle.vl_tree.specs.Tree.{signal}
 use Rattle.elab_variables.specs.Seen.{view_member}
 use Rattle.elab_modules.specs.Telling.{TellsButDelay}
-use Rattle.elab_modules.proofs.MemberFaults.{sides-tell, gate-tell}
+use Rattle.elab_modules.proofs.MemberFaults.{sides-tell, gate-tell, check-tell}
 use Rattle.elab_modules.proofs.members.check_member.Goals as goal
 
 pub returns-in-Declared : goal.returns-in-Declared
@@ -24,6 +24,11 @@ returns-in-Gate c = λ m p.
     subst (λ x. TellsButDelay c.args.definitions.now m (view_member x) c.check_gate.result) (sym c.in-Gate.is)
     (gate-tell c.args.definitions.now m c.args.prepared.now.table c.in-Gate.kind (option_map view_delay c.in-Gate.delay.now) (view_gate_instance c.in-Gate.instance.now) c.check_gate.result
     p.table c.check_gate.ensures)
+
+pub returns-in-Check : goal.returns-in-Check
+returns-in-Check c = λ m p.
+    subst (λ x. TellsButDelay c.args.definitions.now m (view_member x) c.check_delayed.result) (sym c.in-Check.is)
+    (check-tell c.args.definitions.now m c.args.prepared.now.table (view_check c.in-Check.check.now) c.check_delayed.result p.table c.check_delayed.ensures)
 
 pub returns-in-Instance : goal.returns-in-Instance
 returns-in-Instance c = λ m p.

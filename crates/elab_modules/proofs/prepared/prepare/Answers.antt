@@ -12,4 +12,5 @@ returns-clause-prepared c = record {
   table = c.in_ok-table.ensures;
   declared = c.in_ok-check_declarations.ensures.faultless;
   ends = c.in_ok-ends.ensures (view_module c.args.definition.now) c.in_ok-table.ensures (ap (map view_member) c.deref.ensures.value ∙ c.in_ok-members.ensures);
+  copies = c.in_ok-copies.ensures (view_module c.args.definition.now) c.in_ok-table.ensures (ap (map view_member) c.deref-2.ensures.value ∙ c.in_ok-members.ensures);
 }
