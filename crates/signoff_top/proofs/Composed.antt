@@ -1,14 +1,14 @@
 -- How the outcomes of phases compose.
-use Rattle.std.proofs.Common.{refl, ◌≡◌, sym, ap, subst, lit<, arith, Result, ℕ, List, [], ◌∷◌, ◌++◌}
+use Rattle.std.proofs.Common.{refl, ◌≡◌, sym, subst, lit<, arith, Result, ℕ, List, [], ◌∷◌, ◌++◌}
 use Rattle.std.proofs.lemmas.List.Elements.{Contains-append_left, Contains-append_right}
 use Rattle.std.specs.Option.{option_to_list}
-use Rattle.std.specs.Prelude.{Ok, Err, Option, Some, None, Contains}
+use Rattle.std.specs.Prelude.{Ok, Err, Option, Some, Contains}
 use Rattle.sg_io.specs.Files.{File}
 use Rattle.sg_circuit.specs.Circuit.{Circuit}
 use Rattle.run_words.specs.Words.{Command, command_of, names_in}
 use Rattle.signoff_top.specs.Phases.{Annotated, Refusal, Then, stops, goes_on, AnnotatedOutcome, CircuitOutcome}
 use Rattle.signoff_top.specs.Promises.{FaultAt, at_netlist, at_sdf, at_stimulus, NamesFaultAt}
-use Rattle.signoff_top.specs.Stops.{FailsAtGiven, FailsAtOne, Gives, IfFailed, IfOutcome, refusal_seen, SparesWords, StopWords}
+use Rattle.signoff_top.specs.Stops.{FailsAtGiven, FailsAtOne, Gives, IfFailed, IfOutcome, refusal_seen}
 use Rattle.signoff_top.specs.declared.stop.Stop as code_stop
 use Rattle.signoff_top.specs.declared.stop.Stop.TheVariants as stop
 use Rattle.signoff_top.proofs.Putting.{both_same}
@@ -44,20 +44,6 @@ gives_again {X} {Y} {A} {view} {whole} {phase} {s} h = record { outcome = stop_a
 pub gives_then : {X Y A B : Type 0} {view : X → A} {whole : Y → B} {first : Result A Refusal → Type 0} {next : A → Result B Refusal → Type 0} {x : X} {o : Result Y code_stop.Stop}
     → Gives view first (Ok x) → Gives whole (next (view x)) o → Gives whole (Then first next) o
 gives_then {X} {Y} {A} {B} {view} {whole} {first} {next} {x} {o} h k = record { outcome = then_outcome whole first next (view x) o h.outcome k.outcome }
-
--- what the words gave is what they ask for
-pub words_command : {X : Type 0} (view : X → Command) (o : Option Command) (x : X) → StopWords o (λ c y. c ≡ view y) (Ok x) → o ≡ Some (view x)
-words_command view None x h = absurd h
-words_command view (Some c) x h = ap Some h
-
--- where they asked for something, a later stop isn't theirs, and what comes of it stands
-pub words_spared : {X Y : Type 0} (P : Command → X → Type 0) (Q : Command → Y → Type 0) (o : Option Command) (x : X) (s : code_stop.Stop) → StopWords o P (Ok x) → SparesWords s → StopWords o Q (Err s)
-words_spared P Q None x s h k = absurd h
-words_spared P Q (Some c) x s h k = k
-
-pub words_kept : {X Y : Type 0} (P : Command → X → Type 0) (Q : Command → Y → Type 0) (o : Option Command) (x : X) (y : Y) → StopWords o P (Ok x) → ((c : Command) → P c x → Q c y) → StopWords o Q (Ok y)
-words_kept P Q None x y h f = absurd h
-words_kept P Q (Some c) x y h f = f c h
 
 pub failed_again : (X Y : Type 0) (P Q : Type 0) (s : code_stop.Stop) → (P → Q) → IfFailed {X = X} P (Err s) → IfFailed {X = Y} Q (Err s)
 failed_again X Y P Q (stop.Refused r) f h = tt

@@ -7,6 +7,7 @@ use Rattle.sg_circuit.specs.Circuit.{Circuit}
 use Rattle.sg_delay.specs.declared.corners.Corner.{Corner}
 use Rattle.stim_read.specs.declared.kinds.StimKind.TheVariants as stim
 use Rattle.wave_out.specs.Texts.{line, line_of}
+use Rattle.signoff_top.specs.Answer.{summary_lines}
 use Rattle.signoff_top.specs.Phases.{AnnotatedOutcome, FilesOutcome, goes_on, stops, missing, netlist, sdf, stimulus, refusal_line, refused_at, sdf_kind, stimulus_kind, too_large_kind}
 
 -- a line feed ends the line on which it stands
@@ -35,6 +36,11 @@ sdf_line = refl
 too_large_line : refusal_line (sdf (codes "t.sdf") 10 too_large_kind) ≡ line (codes "sdf refused: t.sdf:10: TooLarge")
 unfolding digits
 too_large_line = refl
+
+-- what is told of a generated case of five stages
+case_summary : summary_lines 5 10 3300 0 ≡ line (codes "stages 5") ++ line (codes "evaluations 10") ++ line (codes "last 3300") ++ line (codes "violations 0")
+unfolding digits
+case_summary = refl
 
 -- without an SDF file the circuit is as it was, and nothing is unmatched
 without_sdf : (corner : Corner) (circuit : Circuit) → AnnotatedOutcome None corner [] circuit (Ok (record { circuit = circuit; unmatched = [] }))

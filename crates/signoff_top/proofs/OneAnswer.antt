@@ -1,19 +1,26 @@
 -- Right answers for the same words and files have one status and make one file. Their reports may differ, where several
 -- faults stand in one phase.
-use Rattle.std.proofs.Common.{◌≡◌, ◌∙◌, sym, ap, subst, refl, ℕ, List, [], ◌∷◌}
+use Rattle.std.proofs.Common.{◌≡◌, ◌∙◌, sym, ap, subst, refl, ℕ, ◌<◌, All, length, List, [], ◌∷◌}
+use Rattle.std.proofs.lemmas.List.Elements.{All-map}
 use Rattle.std.specs.Prelude.{Option, Some, None, Result, Ok, Err}
 use Rattle.sg_io.specs.Files.{File, bytes_of}
-use Rattle.sg_circuit.specs.Circuit.{Circuit}
+use Rattle.sg_circuit.specs.Circuit.{Circuit, Element}
+use Rattle.annotation_model.specs.Annotated.{annotated, annotated_element}
+use Rattle.annotation_model.specs.Given.{given}
+use Rattle.late_limits.specs.Adjusted.{IsAdjustedFrom}
+use Rattle.gen_case.specs.Case.{netlist_of, sdf_of, stimulus_of}
 use Rattle.sg_delay.specs.declared.corners.Corner.{Corner}
 use Rattle.netlist_read.proofs.ReadingLaws as netlist
 use Rattle.sdf_read.proofs.OneOutcome.{reads_once}
 use Rattle.sdf_read.specs.Outcomes.{Fault}
 use Rattle.sdf_tree.specs.Meant.{Sdf}
 use Rattle.stim_read.proofs.OnceLaws as stimulus
-use Rattle.run_words.specs.Words.{Command, command_of}
-use Rattle.signoff_top.specs.Answer.{Answer, IsAnswer, answer_of}
+use Rattle.run_words.specs.Words.{Command, case_of, command_of, default_corner}
+use Rattle.run_words.proofs.AskedLaws.{run_alone}
+use Rattle.signoff_top.specs.Answer.{Answer, IsAnswer, IsAnswerTo, answer_of, case_answer}
 use Rattle.wave_out.specs.Report.{Unmatched}
-use Rattle.signoff_top.specs.Phases.{Annotated, Refusal, Then, stops, goes_on, Task, TaskOutcome, status_of_refusal}
+use Rattle.signoff_top.specs.Phases.{Annotated, Refusal, Then, stops, goes_on, Task, CaseOutcome, CommandOutcome, TaskOutcome, case_netlist, case_sdf, case_stimulus, status_of_refusal, words}
+use Rattle.signoff_top.proofs.OnceLaws.{adjusted-once}
 use Rattle.signoff_top.specs.Phases.{AnnotatedOutcome, AnnotationOutcome, CircuitOutcome, EntriesOutcome, InputOutcome, SdfOutcome, WordsOutcome, FileOutcome, FilesOutcome, NetlistOutcome, StimulusOutcome}
 
 -- two outcomes are one value, or two refusals of one status
@@ -35,13 +42,14 @@ equal_agree {A} (Ok a) (Err r) e = let k : ◌≡◌ {A = Result A Refusal} (Ok 
 equal_agree {A} (Err r) (Ok a) e = let k : ◌≡◌ {A = Result A Refusal} (Err r) (Ok a) = e in cc
 equal_agree {A} (Err r) (Err s) e = let k : r ≡ s = err_is A r s e in ap status_of_refusal k
 
-then_agree : {A B : Type 0} (first : Result A Refusal → Type 0) (next : A → Result B Refusal → Type 0) → AllAgree first → ((a : A) → AllAgree (next a)) → AllAgree (Then first next)
+-- where what follows agrees after each value that comes first
+then_agree : {A B : Type 0} (first : Result A Refusal → Type 0) (next : A → Result B Refusal → Type 0) → AllAgree first → ((a : A) → first (Ok a) → AllAgree (next a)) → AllAgree (Then first next)
 then_agree first next f g _ _ (stops r h) (stops s k) = f (Err r) (Err s) h k
 then_agree first next f g _ _ (stops r h) (goes_on a o h' k) = absurd (f (Err r) (Ok a) h h')
 then_agree first next f g _ _ (goes_on a o h k) (stops r h') = absurd (f (Ok a) (Err r) h h')
-then_agree first next f g _ _ (goes_on a o h k) (goes_on b p h' k') = g b o p (subst (λ x. next x o) (f (Ok a) (Ok b) h h') k) k'
+then_agree first next f g _ _ (goes_on a o h k) (goes_on b p h' k') = g b h' o p (subst (λ x. next x o) (f (Ok a) (Ok b) h h') k) k'
 
-words_agree : (c : Option Command) → AllAgree (WordsOutcome c)
+words_agree : (c : Option Command) → AllAgree (WordsOutcome {A = Command} c)
 words_agree None o p h k = equal_agree o p (h ∙ sym k)
 words_agree (Some c) o p h k = equal_agree o p (h ∙ sym k)
 
@@ -52,8 +60,8 @@ file_agree name (Some bytes) o p h k = equal_agree o p (h ∙ sym k)
 files_agree : (names : List (List ℕ)) (files : List File) → AllAgree (FilesOutcome names files)
 files_agree [] files o p h k = equal_agree o p (h ∙ sym k)
 files_agree (n ∷ ns) files o p h k =
-    then_agree (FileOutcome n (bytes_of n files)) (λ text. Then (FilesOutcome ns files) (λ texts o. o ≡ Ok (text ∷ texts))) (file_agree n (bytes_of n files)) (λ text.
-    then_agree (FilesOutcome ns files) (λ texts o. o ≡ Ok (text ∷ texts)) (files_agree ns files) (λ texts x y e f. equal_agree x y (e ∙ sym f))) o p h k
+    then_agree (FileOutcome n (bytes_of n files)) (λ text. Then (FilesOutcome ns files) (λ texts o. o ≡ Ok (text ∷ texts))) (file_agree n (bytes_of n files)) (λ text _.
+    then_agree (FilesOutcome ns files) (λ texts o. o ≡ Ok (text ∷ texts)) (files_agree ns files) (λ texts _ x y e f. equal_agree x y (e ∙ sym f))) o p h k
 
 netlist_agree : (names texts : List (List ℕ)) (top : Option (List ℕ)) (corner : Corner) → AllAgree (NetlistOutcome names texts top corner)
 netlist_agree names texts top corner (Ok c) (Ok d) h k = netlist.read-once texts top corner c d h k
@@ -76,24 +84,32 @@ sdf_agree name text (Err r) (Err s) h k = ap status_of_refusal h.2 ∙ sym (ap s
 none_or_some : {A : Type 0} (o : Option A) (x : A) → o ≡ None → o ≡ Some x → ⊥
 none_or_some o x e f = let k : None ≡ Some x = sym e ∙ f in cc
 
-annotated_once : (a b : Annotated) (circuit : Circuit) (unmatched : List Unmatched) → a.circuit ≡ circuit → a.unmatched ≡ unmatched → b.circuit ≡ circuit → b.unmatched ≡ unmatched → a ≡ b
-annotated_once a b circuit unmatched p q r s =
-    ap (λ (c : Circuit). record { circuit = c; unmatched = a.unmatched }) (p ∙ sym r) ∙ ap (λ (us : List Unmatched). record { circuit = b.circuit; unmatched = us }) (q ∙ sym s)
+-- the scopes of a circuit's elements are there
+abbrev HasScopes : Circuit → Type 0
+HasScopes c = All (λ e. e.scope < length c.scopes) c.elements
 
-annotation_agree : (name text : List ℕ) (file : Sdf) (corner : Corner) (circuit : Circuit) → AllAgree (AnnotationOutcome name text file corner circuit)
-annotation_agree name text file corner circuit (Ok a) (Ok b) h k = annotated_once a b _ _ h.circuit h.unmatched k.circuit k.unmatched
-annotation_agree name text file corner circuit (Ok a) (Err r) h k = none_or_some _ k.place h.fine k.stands
-annotation_agree name text file corner circuit (Err r) (Ok a) h k = none_or_some _ h.place k.fine h.stands
-annotation_agree name text file corner circuit (Err r) (Err s) h k = ap status_of_refusal h.told ∙ sym (ap status_of_refusal k.told)
+annotated_once : (c : Circuit) (a b : Annotated) (unmatched : List Unmatched) → HasScopes c → IsAdjustedFrom c a.circuit → a.unmatched ≡ unmatched → IsAdjustedFrom c b.circuit → b.unmatched ≡ unmatched → a ≡ b
+annotated_once c a b unmatched scopes p q r s =
+    ap (λ (d : Circuit). record { circuit = d; unmatched = a.unmatched }) (adjusted-once c a.circuit b.circuit scopes p r) ∙ ap (λ (us : List Unmatched). record { circuit = b.circuit; unmatched = us }) (q ∙ sym s)
 
-entries_agree : (name text : List ℕ) (corner : Corner) (circuit : Circuit) → AllAgree (EntriesOutcome name text corner circuit)
-entries_agree name text corner circuit =
-    then_agree (SdfOutcome name text) (λ file. AnnotationOutcome name text file corner circuit) (sdf_agree name text) (λ file. annotation_agree name text file corner circuit)
+annotated_scopes : (c : Circuit) (file : Sdf) (corner : Corner) → HasScopes c → HasScopes (annotated c file corner)
+annotated_scopes c file corner h = All-map (λ (e : Element). e.scope < length c.scopes) (annotated_element c file corner (given file)) c.elements h
 
-annotated_agree : (sdf : Option (List ℕ)) (corner : Corner) (files : List File) (circuit : Circuit) → AllAgree (AnnotatedOutcome sdf corner files circuit)
-annotated_agree None corner files circuit o p h k = equal_agree o p (h ∙ sym k)
-annotated_agree (Some name) corner files circuit o p h k =
-    then_agree (FileOutcome name (bytes_of name files)) (λ text. EntriesOutcome name text corner circuit) (file_agree name (bytes_of name files)) (λ text. entries_agree name text corner circuit) o p h k
+annotation_agree : (name text : List ℕ) (file : Sdf) (corner : Corner) (circuit : Circuit) → HasScopes circuit → AllAgree (AnnotationOutcome name text file corner circuit)
+annotation_agree name text file corner circuit scopes (Ok a) (Ok b) h k =
+    annotated_once (annotated circuit file corner) a b _ (annotated_scopes circuit file corner scopes) h.circuit h.unmatched k.circuit k.unmatched
+annotation_agree name text file corner circuit scopes (Ok a) (Err r) h k = none_or_some _ k.place h.fine k.stands
+annotation_agree name text file corner circuit scopes (Err r) (Ok a) h k = none_or_some _ h.place k.fine h.stands
+annotation_agree name text file corner circuit scopes (Err r) (Err s) h k = ap status_of_refusal h.told ∙ sym (ap status_of_refusal k.told)
+
+entries_agree : (name text : List ℕ) (corner : Corner) (circuit : Circuit) → HasScopes circuit → AllAgree (EntriesOutcome name text corner circuit)
+entries_agree name text corner circuit scopes =
+    then_agree (SdfOutcome name text) (λ file. AnnotationOutcome name text file corner circuit) (sdf_agree name text) (λ file _. annotation_agree name text file corner circuit scopes)
+
+annotated_agree : (sdf : Option (List ℕ)) (corner : Corner) (files : List File) (circuit : Circuit) → HasScopes circuit → AllAgree (AnnotatedOutcome sdf corner files circuit)
+annotated_agree None corner files circuit scopes o p h k = equal_agree o p (h ∙ sym k)
+annotated_agree (Some name) corner files circuit scopes o p h k =
+    then_agree (FileOutcome name (bytes_of name files)) (λ text. EntriesOutcome name text corner circuit) (file_agree name (bytes_of name files)) (λ text _. entries_agree name text corner circuit scopes) o p h k
 
 stimulus_agree : (name text : List ℕ) (circuit : Circuit) → AllAgree (StimulusOutcome name text circuit)
 stimulus_agree name text circuit (Ok s) (Ok t) h k = stimulus.read-once text circuit s t h k
@@ -103,18 +119,33 @@ stimulus_agree name text circuit (Err r) (Err s) h k = ap status_of_refusal h.3 
 
 circuit_agree : (c : Command) (files : List File) → AllAgree (CircuitOutcome c files)
 circuit_agree c files =
-    then_agree (FilesOutcome c.netlists files) (λ texts. NetlistOutcome c.netlists texts c.top c.corner) (files_agree c.netlists files) (λ texts. netlist_agree c.netlists texts c.top c.corner)
+    then_agree (FilesOutcome c.netlists files) (λ texts. NetlistOutcome c.netlists texts c.top c.corner) (files_agree c.netlists files) (λ texts _. netlist_agree c.netlists texts c.top c.corner)
+
+netlist_scopes : (names texts : List (List ℕ)) (top : Option (List ℕ)) (corner : Corner) (circuit : Circuit) → NetlistOutcome names texts top corner (Ok circuit) → HasScopes circuit
+netlist_scopes names texts top corner circuit h = netlist.read-has-scopes texts top corner circuit h
+
+circuit_scopes : (c : Command) (files : List File) (circuit : Circuit) (o : Result Circuit Refusal) → o ≡ Ok circuit → CircuitOutcome c files o → HasScopes circuit
+circuit_scopes c files circuit _ e (stops r h) = let k : ◌≡◌ {A = Result Circuit Refusal} (Err r) (Ok circuit) = e in absurd (cc)
+circuit_scopes c files circuit _ e (goes_on texts o h k) = netlist_scopes c.netlists texts c.top c.corner circuit (subst (NetlistOutcome c.netlists texts c.top c.corner) e k)
 
 input_agree : (name : List ℕ) (files : List File) (circuit : Circuit) → AllAgree (InputOutcome name files circuit)
 input_agree name files circuit =
-    then_agree (FileOutcome name (bytes_of name files)) (λ text. StimulusOutcome name text circuit) (file_agree name (bytes_of name files)) (λ text. stimulus_agree name text circuit)
+    then_agree (FileOutcome name (bytes_of name files)) (λ text. StimulusOutcome name text circuit) (file_agree name (bytes_of name files)) (λ text _. stimulus_agree name text circuit)
+
+command_agree : (command : Command) (files : List File) → AllAgree (CommandOutcome command files)
+command_agree command files =
+    then_agree _ _ (circuit_agree command files) (λ circuit read.
+    then_agree _ _ (annotated_agree command.sdf command.corner files circuit (circuit_scopes command files circuit (Ok circuit) refl read)) (λ annotated _.
+    then_agree _ _ (input_agree command.stimulus files annotated.circuit) (λ input _ o p h k. equal_agree o p (h ∙ sym k))))
 
 pub task_agree : (ws : List (List ℕ)) (files : List File) (o p : Result Task Refusal) → TaskOutcome ws files o → TaskOutcome ws files p → Agree o p
-task_agree ws files =
-    then_agree _ _ (words_agree (command_of ws)) (λ command.
-    then_agree _ _ (circuit_agree command files) (λ circuit.
-    then_agree _ _ (annotated_agree command.sdf command.corner files circuit) (λ annotated.
-    then_agree _ _ (input_agree command.stimulus files annotated.circuit) (λ input o p h k. equal_agree o p (h ∙ sym k)))))
+task_agree ws files = then_agree _ _ (words_agree (command_of ws)) (λ command _. command_agree command files)
+
+case_agree : (stages : ℕ) (o p : Result Task Refusal) → CaseOutcome stages o → CaseOutcome stages p → Agree o p
+case_agree stages =
+    then_agree _ _ (netlist_agree (case_netlist ∷ []) (netlist_of stages ∷ []) None default_corner) (λ circuit read.
+    then_agree _ _ (entries_agree case_sdf (sdf_of stages) default_corner circuit (netlist_scopes (case_netlist ∷ []) (netlist_of stages ∷ []) None default_corner circuit read)) (λ annotated _.
+    then_agree _ _ (stimulus_agree case_stimulus (stimulus_of stages) annotated.circuit) (λ input _ o p h k. equal_agree o p (h ∙ sym k))))
 
 status_agrees : (o p : Result Task Refusal) → Agree o p → (answer_of o).status ≡ (answer_of p).status
 status_agrees (Ok a) (Ok b) e = ap (λ t. (answer_of (Ok t)).status) e
@@ -122,19 +153,53 @@ status_agrees (Ok a) (Err r) e = absurd e
 status_agrees (Err r) (Ok a) e = absurd e
 status_agrees (Err r) (Err s) e = e
 
+case_status_agrees : (stages : ℕ) (o p : Result Task Refusal) → Agree o p → (case_answer stages o).status ≡ (case_answer stages p).status
+case_status_agrees stages (Ok a) (Ok b) e = ap (λ t. (case_answer stages (Ok t)).status) e
+case_status_agrees stages (Ok a) (Err r) e = absurd e
+case_status_agrees stages (Err r) (Ok a) e = absurd e
+case_status_agrees stages (Err r) (Err s) e = e
+
 made_agrees : (o p : Result Task Refusal) → Agree o p → (answer_of o).made ≡ (answer_of p).made
 made_agrees (Ok a) (Ok b) e = ap (λ t. (answer_of (Ok t)).made) e
 made_agrees (Ok a) (Err r) e = absurd e
 made_agrees (Err r) (Ok a) e = absurd e
 made_agrees (Err r) (Err s) e = refl
 
-pub one_status : (ws : List (List ℕ)) (files : List File) (a b : Answer) → IsAnswer ws files a → IsAnswer ws files b → a.status ≡ b.status
-one_status ws files a b h k =
+pub nothing_made : (stages : ℕ) (o : Result Task Refusal) → (case_answer stages o).made ≡ None
+nothing_made stages (Ok task) = refl
+nothing_made stages (Err r) = refl
+
+one_status_to : (case : Option ℕ) (ws : List (List ℕ)) (files : List File) (a b : Answer) → IsAnswerTo case ws files a → IsAnswerTo case ws files b → a.status ≡ b.status
+one_status_to None ws files a b h k =
     ap (λ x. x.status) h.2 ∙ (status_agrees h.0 k.0 (task_agree ws files h.0 k.0 h.1 k.1) ∙ sym (ap (λ x. x.status) k.2))
+one_status_to (Some stages) ws files a b h k =
+    ap (λ x. x.status) h.2 ∙ (case_status_agrees stages h.0 k.0 (case_agree stages h.0 k.0 h.1 k.1) ∙ sym (ap (λ x. x.status) k.2))
+
+pub one_status : (ws : List (List ℕ)) (files : List File) (a b : Answer) → IsAnswer ws files a → IsAnswer ws files b → a.status ≡ b.status
+one_status ws files a b h k = one_status_to (case_of ws) ws files a b h k
+
+one_made_to : (case : Option ℕ) (ws : List (List ℕ)) (files : List File) (a b : Answer) → IsAnswerTo case ws files a → IsAnswerTo case ws files b → a.made ≡ b.made
+one_made_to None ws files a b h k =
+    ap (λ x. x.made) h.2 ∙ (made_agrees h.0 k.0 (task_agree ws files h.0 k.0 h.1 k.1) ∙ sym (ap (λ x. x.made) k.2))
+one_made_to (Some stages) ws files a b h k =
+    ap (λ x. x.made) h.2 ∙ (nothing_made stages h.0 ∙ sym (ap (λ x. x.made) k.2 ∙ nothing_made stages k.0))
 
 pub one_made : (ws : List (List ℕ)) (files : List File) (a b : Answer) → IsAnswer ws files a → IsAnswer ws files b → a.made ≡ b.made
-one_made ws files a b h k =
-    ap (λ x. x.made) h.2 ∙ (made_agrees h.0 k.0 (task_agree ws files h.0 k.0 h.1 k.1) ∙ sym (ap (λ x. x.made) k.2))
+one_made ws files a b h k = one_made_to (case_of ws) ws files a b h k
+
+-- words that have a task ask for no case
+asks_for : (o : Option Command) (next : Command → Result Task Refusal → Type 0) (task : Task) (p : Result Task Refusal) → p ≡ Ok task → Then (WordsOutcome o) next p → (c : Command) × (o ≡ Some c)
+asks_for o next task _ e (stops r h) = let k : ◌≡◌ {A = Result Task Refusal} (Err r) (Ok task) = e in absurd (cc)
+asks_for None next task _ e (goes_on c p h k) = absurd (let q : ◌≡◌ {A = Result Command Refusal} (Ok c) (Err words) = h in cc)
+asks_for (Some d) next task _ e (goes_on c p h k) = (d, refl)
+
+pub task_alone : (ws : List (List ℕ)) (files : List File) (task : Task) → TaskOutcome ws files (Ok task) → case_of ws ≡ None
+task_alone ws files task h =
+    let asked = asks_for (command_of ws) (λ command. CommandOutcome command files) task (Ok task) refl h in
+    run_alone ws asked.0 asked.1
+
+pub run_answers : (ws : List (List ℕ)) (files : List File) (task : Task) → TaskOutcome ws files (Ok task) → IsAnswer ws files (answer_of (Ok task))
+run_answers ws files task h = subst (λ q. IsAnswerTo q ws files (answer_of (Ok task))) (sym (task_alone ws files task h)) (Ok task, h, refl)
 
 same_run : (o : Result Task Refusal) (task : Task) (a : Answer) → Agree o (Ok task) → a ≡ answer_of o → a ≡ answer_of (Ok task)
 same_run (Ok t) task a same h = h ∙ ap (λ x. answer_of (Ok x)) same
@@ -142,4 +207,6 @@ same_run (Err r) task a same h = absurd same
 
 -- Where the files are accepted there is one right answer: that of the run.
 pub one_run : (ws : List (List ℕ)) (files : List File) (task : Task) (a : Answer) → TaskOutcome ws files (Ok task) → IsAnswer ws files a → a ≡ answer_of (Ok task)
-one_run ws files task a accepted h = same_run h.0 task a (task_agree ws files h.0 (Ok task) h.1 accepted) h.2
+one_run ws files task a accepted h =
+    let own : IsAnswerTo None ws files a = subst (λ q. IsAnswerTo q ws files a) (task_alone ws files task accepted) h in
+    same_run own.0 task a (task_agree ws files own.0 (Ok task) own.1 accepted) own.2

@@ -1,6 +1,7 @@
 -- From what the work left and what was told comes the case of the top call; from the case comes all else that it promises.
 use Rattle.std.proofs.Common.{◌≡◌, ◌≢◌, ◌∙◌, true, false, sym, ap, refl, subst, inl, inr, ℕ, List, [], ◌∷◌, ◌++◌, length, Contains, ◌≤◌, arith}
-use Rattle.std.proofs.lemmas.List.{take_all}
+use Rattle.std.proofs.lemmas.List.{length-map, take_all}
+use Rattle.std.specs.Option.{option_map, option_or}
 use Rattle.std.specs.Prelude.{Option, Some, None, Result, Ok, Err, unwrap_or}
 use Rattle.sg_io.specs.Files.{File, BothTell, HasAfter, bytes_of}
 use Rattle.sg_io.specs.Faults.{Cause, Rises, Rose}
@@ -11,16 +12,18 @@ use Rattle.wave_out.specs.Files.{LeavesPrefix}
 use Rattle.wave_out.specs.Report.{report_lines}
 use Rattle.wave_out.specs.Spent.{spent_seen}
 use Rattle.run_dump.specs.RunEnds.{violations_of}
-use Rattle.run_words.specs.Words.{Command, command_of, names_in}
-use Rattle.signoff_top.specs.Answer.{Answer, IsAnswer, FilesAfter, answer_of, dump_of, run_of, status_of_run, fault_line}
-use Rattle.signoff_top.specs.Phases.{Refusal, Task, TaskOutcome, WordsOutcome, AnnotatedOutcome, CircuitOutcome, InputOutcome, Then, stops, goes_on, words, missing, netlist, sdf, stimulus, status_of_refusal, refusal_line}
+use Rattle.run_words.specs.Words.{Command, Asked, a_run, a_case, asked_of, case_of, command_of, names_in}
+use Rattle.sim_times.specs.Times.{count_shown}
+use Rattle.time_checks.specs.Seen.{violation_seen}
+use Rattle.signoff_top.specs.Answer.{Answer, IsAnswer, IsAnswerTo, FilesAfter, answer_of, case_answer, case_lines, case_text, dump_of, last_of, run_of, status_of_run, fault_line}
+use Rattle.signoff_top.specs.Phases.{Refusal, Task, CaseOutcome, CommandOutcome, TaskOutcome, WordsOutcome, AnnotatedOutcome, CircuitOutcome, InputOutcome, Then, stops, goes_on, words, missing, netlist, sdf, stimulus, status_of_refusal, refusal_line}
 use Rattle.signoff_top.specs.Promises.{ShelfTold, IsRight, FitsWords, HasAnswer, FaultAt, at_netlist, at_sdf, at_stimulus, at_dump, NamesFaultAt, LeavesUnfinished, whole, till_fault, Outcome, answered, shelf_fault, sink_fault, no_memory, sink_want, IsExact, IsStatusOf, KeepsBut, KeepsByAnswer, KeepsByWords, IsUsage}
 use Rattle.signoff_top.specs.Putting.{PutsAll, PutsLast}
 use Rattle.signoff_top.specs.Putting as putting
 use Rattle.signoff_top.specs.Status.{IsDecided, IsRunEnd, is_run_end}
 use Rattle.signoff_top.specs.Stops.{refusal_seen, IfFailed, SparesWords, StopWords, end_of_phase}
 use Rattle.signoff_top.specs.Tasks.{task_seen}
-use Rattle.signoff_top.specs.Work.{WorkLeaves, Tells, TellsStop, TellsEnd}
+use Rattle.signoff_top.specs.Work.{CaseLeaves, IsQuietEnd, OutcomeOf, RunLeaves, WorkLeaves, Tells, TellsStop, TellsEnd, case_told, quiet_violations}
 use Rattle.signoff_top.specs.Work as telling
 use Rattle.signoff_top.specs.declared.status.Status.{Status}
 use Rattle.signoff_top.specs.declared.status.Status.TheVariants as status
@@ -29,18 +32,27 @@ use Rattle.signoff_top.specs.declared.stop.Stop.TheVariants as stop
 use Rattle.signoff_top.specs.declared.stop.Refusal as code_refusal
 use Rattle.signoff_top.specs.declared.stop.Refusal.TheVariants as refusal
 use Rattle.signoff_top.specs.declared.work.Done as code_done
-use Rattle.signoff_top.proofs.OneAnswer.{one_status, one_made}
+use Rattle.signoff_top.specs.declared.work.Done.TheVariants as done
+use Rattle.signoff_top.specs.declared.work.RunDone as code_run
+use Rattle.signoff_top.specs.declared.work.CaseDone as code_case
+use Rattle.signoff_top.proofs.OneAnswer.{nothing_made, one_status, one_made, run_answers}
 use Rattle.signoff_top.proofs.Putting.{both_map}
 
 -- what is made, is begun
 whole_begun : (name bytes : List ℕ) (old new : List File) → HasAfter name bytes old new → LeavesPrefix name bytes old new
 whole_begun name bytes old new h = record { this = inr (length bytes, h.this ∙ ap Some (sym (take_all (length bytes) bytes (omega arith)))); others = h.others }
 
+-- what a right answer leaves
+run_unfinished : (o : Result Task Refusal) (ws : List (List ℕ)) (a : Answer) (old new : List File) → TaskOutcome ws old o → a ≡ answer_of o → FilesAfter a.made old new → LeavesUnfinished ws old new
+run_unfinished (Ok task) ws a old new outcome is after = inr (task, outcome, whole_begun task.vcd (dump_of task) old new (subst (λ x. FilesAfter x.made old new) is after))
+run_unfinished (Err s) ws a old new outcome is after = inl (subst (λ x. FilesAfter x.made old new) is after)
+
+answer_unfinished : (case : Option ℕ) (ws : List (List ℕ)) (a : Answer) (old new : List File) → IsAnswerTo case ws old a → FilesAfter a.made old new → LeavesUnfinished ws old new
+answer_unfinished None ws a old new right after = run_unfinished right.0 ws a old new right.1 right.2 after
+answer_unfinished (Some stages) ws a old new right after = inl (subst (λ m. FilesAfter m old new) (ap (λ x. x.made) right.2 ∙ nothing_made stages right.0) after)
+
 right_unfinished : (ws : List (List ℕ)) (how : Status) (text : List ℕ) (old new : List File) → IsRight ws how text old new → LeavesUnfinished ws old new
-right_unfinished ws how text old new r = (elim r.right.0 as (λ o. TaskOutcome ws old o → r.answer ≡ answer_of o → LeavesUnfinished ws old new) [
-  | Ok task ↦ λ outcome is. inr (task, outcome, whole_begun task.vcd (dump_of task) old new (subst (λ a. FilesAfter a.made old new) is r.files))
-  | Err s ↦ λ outcome is. inl (subst (λ a. FilesAfter a.made old new) is r.files)
-]) r.right.1 r.right.2
+right_unfinished ws how text old new r = answer_unfinished (case_of ws) ws r.answer old new r.right r.files
 
 -- the status of a run, and of a refusal, is decided
 run_decided : (spent : Option (ℕ × Option ℕ)) (violations : List Violation) → IsDecided (status_of_run spent violations)
@@ -60,10 +72,10 @@ refusal_decided (netlist name n kind) = tt
 refusal_decided (sdf name n kind) = tt
 refusal_decided (stimulus name n kind) = tt
 
-run_fits : (o : Option Command) (P : Command → code_done.Done → Type 0) (done : code_done.Done) (spent : Option (ℕ × Option ℕ)) (violations : List Violation) (text : List ℕ) → StopWords o P (Ok done)
+run_fits : (o : Option Asked) (P : Asked → code_done.Done → Type 0) (d : code_done.Done) (spent : Option (ℕ × Option ℕ)) (violations : List Violation) (text : List ℕ) → StopWords o P (Ok d)
     → FitsWords o (status_of_run spent violations) text
-run_fits None P done spent violations text h = absurd h
-run_fits (Some c) P done spent violations text h = run_no_usage spent violations
+run_fits None P d spent violations text h = absurd h
+run_fits (Some asked) P d spent violations text h = run_no_usage spent violations
 
 spares_fits : (r : code_refusal.Refusal) → SparesWords (stop.Refused r) → status_of_refusal (refusal_seen r) ≢ status.Usage
 spares_fits refusal.Words h = absurd h
@@ -78,34 +90,62 @@ refused_is r s e = cc
 refused_no_want : (r : code_refusal.Refusal) → stop.Refused r ≡ stop.NoMemory → ⊥
 refused_no_want r h = cc
 
-refusal_fits : (o : Option Command) (P : Command → code_done.Done → Type 0) (r : code_refusal.Refusal) → StopWords o P (Err (stop.Refused r))
+refusal_fits : (o : Option Asked) (P : Asked → code_done.Done → Type 0) (r : code_refusal.Refusal) → StopWords o P (Err (stop.Refused r))
     → FitsWords o (status_of_refusal (refusal_seen r)) (refusal_line (refusal_seen r))
 refusal_fits None P r (inl h) = let e : r ≡ refusal.Words = refused_is r refusal.Words h in (ap (λ x. status_of_refusal (refusal_seen x)) e, ap (λ x. refusal_line (refusal_seen x)) e)
 refusal_fits None P r (inr h) = absurd (refused_no_want r h)
-refusal_fits (Some c) P r h = spares_fits r h
+refusal_fits (Some asked) P r h = spares_fits r h
 
 -- the end of a run is a right answer
-done_right : (ws : List (List ℕ)) (done : code_done.Done) (old new : List File) → WorkLeaves ws (Ok done) old new
-    → IsRight ws (status_of_run (spent_seen done.end.spent) (violations_of done.end)) (report_lines done.task.circuit (task_seen done.task).unmatched (violations_of done.end) done.task.input.end (spent_seen done.end.spent)) old new
-done_right ws done old new (outcome, after, (spent, violations)) =
-    let task : Task = task_seen done.task in
+run_right : (ws : List (List ℕ)) (d : code_run.RunDone) (old new : List File) → RunLeaves ws d old new
+    → IsRight ws (status_of_run (spent_seen d.end.spent) (violations_of d.end)) (report_lines d.task.circuit (task_seen d.task).unmatched (violations_of d.end) d.task.input.end (spent_seen d.end.spent)) old new
+run_right ws d old new (outcome, after, (spent, violations)) =
+    let task : Task = task_seen d.task in
     record {
       answer = answer_of (Ok task);
-      right = (Ok task, outcome, refl);
-      status = ap (λ s. status_of_run s (violations_of done.end)) spent ∙ ap (status_of_run (run_of task).spent) violations;
-      report = ap (report_lines task.circuit task.unmatched (violations_of done.end) task.input.end) spent ∙ ap (λ vs. report_lines task.circuit task.unmatched vs task.input.end (run_of task).spent) violations;
+      right = run_answers ws old task outcome;
+      status = ap (λ s. status_of_run s (violations_of d.end)) spent ∙ ap (status_of_run (run_of task).spent) violations;
+      report = ap (report_lines task.circuit task.unmatched (violations_of d.end) task.input.end) spent ∙ ap (λ vs. report_lines task.circuit task.unmatched vs task.input.end (run_of task).spent) violations;
       files = after;
     }
 
+-- words that ask for a case have its answer
+case_answers : (ws : List (List ℕ)) (stages : ℕ) (files : List File) (o : Result Task Refusal) → case_of ws ≡ Some stages → CaseOutcome stages o → IsAnswer ws files (case_answer stages o)
+case_answers ws stages files o e h = subst (λ q. IsAnswerTo q ws files (case_answer stages o)) (sym e) (o, h, refl)
+
+-- what was told is what the run of the case came to
+case_told_is : (task : Task) (d : code_case.CaseDone) → task ≡ task_seen d.task → IsQuietEnd task d.end → case_told d ≡ case_lines d.stages task
+case_told_is task d e q =
+    let count : length d.end.violations.items ≡ length (run_of task).run.violations = sym (length-map d.end.violations.items (λ v. violation_seen v)) ∙ ap length q.violations in
+    ap (λ n. case_text d.task.circuit d.stages n d.end.last (length d.end.violations.items) (spent_seen d.end.spent)) q.evaluations
+    ∙ (ap (λ n. case_text d.task.circuit d.stages (count_shown (run_of task).evaluations) n (length d.end.violations.items) (spent_seen d.end.spent)) q.last
+    ∙ (ap (λ n. case_text d.task.circuit d.stages (count_shown (run_of task).evaluations) (last_of task) n (spent_seen d.end.spent)) count
+    ∙ (ap (case_text d.task.circuit d.stages (count_shown (run_of task).evaluations) (last_of task) (length (run_of task).run.violations)) q.spent
+    ∙ ap (λ (t : Task). case_text t.circuit d.stages (count_shown (run_of task).evaluations) (last_of task) (length (run_of task).run.violations) (run_of task).spent) (sym e))))
+
+case_right : (ws : List (List ℕ)) (d : code_case.CaseDone) (old new : List File) → CaseLeaves ws d old new
+    → IsRight ws (status_of_run (spent_seen d.end.spent) (quiet_violations d.end)) (case_told d) old new
+case_right ws d old new (asked, outcome, q, same) =
+    let task : Task = task_seen d.task in
+    record {
+      answer = case_answer d.stages (Ok task);
+      right = case_answers ws d.stages old (Ok task) asked outcome;
+      status = ap (λ s. status_of_run s (quiet_violations d.end)) q.spent ∙ ap (status_of_run (run_of task).spent) q.violations;
+      report = case_told_is task d refl q;
+      files = same;
+    }
+
+-- and so is a refusal
+refused_to : (case : Option ℕ) (ws : List (List ℕ)) (r : Refusal) (old new : List File) → OutcomeOf case ws old (Err r) → new ≡ old
+    → (a : Answer) × IsAnswerTo case ws old a × (status_of_refusal r ≡ a.status) × (refusal_line r ≡ a.report) × FilesAfter a.made old new
+refused_to None ws r old new h same = (answer_of (Err r), (Err r, h, refl), refl, refl, same)
+refused_to (Some stages) ws r old new h same = (case_answer stages (Err r), (Err r, h, refl), refl, refl, same)
+
 refused_right : (ws : List (List ℕ)) (r : code_refusal.Refusal) (old new : List File) → WorkLeaves ws (Err (stop.Refused r)) old new
     → IsRight ws (status_of_refusal (refusal_seen r)) (refusal_line (refusal_seen r)) old new
-refused_right ws r old new h = record {
-  answer = answer_of (Err (refusal_seen r));
-  right = (Err (refusal_seen r), h.0, refl);
-  status = refl;
-  report = refl;
-  files = h.1;
-}
+refused_right ws r old new h =
+    let to = refused_to (case_of ws) ws (refusal_seen r) old new h.0 h.1 in
+    record { answer = to.0; right = to.1; status = to.2; report = to.3; files = to.4 }
 
 -- an answer, and how it was told
 told_case : (ws : List (List ℕ)) (planned how : Status) (text : List ℕ) (shelf shelf' : ShelfTold) (sink sink' : SinkTold)
@@ -123,22 +163,30 @@ failed_case ws how shelf shelf' sink sink' c n t =
 
 pub outcome : (ws : List (List ℕ)) (end : Result code_done.Done code_stop.Stop) (how : Status) (shelf shelf' : ShelfTold) (sink sink' : SinkTold)
     → BothTell shelf.files shelf'.files (WorkLeaves ws end) → Cause shelf.faults shelf'.faults (end_of_phase end) → IfFailed (NamesFaultAt ws shelf.files shelf'.files shelf'.last) end
-    → StopWords (command_of ws) (λ c done. done.task.vcd.now ≡ c.vcd) end → TellsEnd shelf'.last end sink sink' how → Outcome ws shelf shelf' sink sink' how
-outcome ws (Ok done) how shelf shelf' sink sink' l c n w t =
-    let planned = status_of_run (spent_seen done.end.spent) (violations_of done.end) in
-    let text = report_lines done.task.circuit (task_seen done.task).unmatched (violations_of done.end) done.task.input.end (spent_seen done.end.spent) in
+    → StopWords (asked_of ws) (λ _ _. Unit {0}) end → TellsEnd shelf'.last end sink sink' how → Outcome ws shelf shelf' sink sink' how
+outcome ws (Ok (done.Run d)) how shelf shelf' sink sink' l c n w t =
+    let planned = status_of_run (spent_seen d.end.spent) (violations_of d.end) in
+    let text = report_lines d.task.circuit (task_seen d.task).unmatched (violations_of d.end) d.task.input.end (spent_seen d.end.spent) in
     told_case ws planned how text shelf shelf' sink sink' (record {
-      decided = run_decided (spent_seen done.end.spent) (violations_of done.end);
-      words = run_fits (command_of ws) (λ c done. done.task.vcd.now ≡ c.vcd) done (spent_seen done.end.spent) (violations_of done.end) text w;
+      decided = run_decided (spent_seen d.end.spent) (violations_of d.end);
+      words = run_fits (asked_of ws) (λ _ _. Unit {0}) (done.Run d) (spent_seen d.end.spent) (violations_of d.end) text w;
       faults = c;
-      files = both_map (WorkLeaves ws (Ok done)) (IsRight ws planned text) shelf.files shelf'.files l (λ x y h. done_right ws done x y h);
+      files = both_map (RunLeaves ws d) (IsRight ws planned text) shelf.files shelf'.files l (λ x y h. run_right ws d x y h);
+    }) t
+outcome ws (Ok (done.Case d)) how shelf shelf' sink sink' l c n w t =
+    let planned = status_of_run (spent_seen d.end.spent) (quiet_violations d.end) in
+    told_case ws planned how (case_told d) shelf shelf' sink sink' (record {
+      decided = run_decided (spent_seen d.end.spent) (quiet_violations d.end);
+      words = run_fits (asked_of ws) (λ _ _. Unit {0}) (done.Case d) (spent_seen d.end.spent) (quiet_violations d.end) (case_told d) w;
+      faults = c;
+      files = both_map (CaseLeaves ws d) (IsRight ws planned (case_told d)) shelf.files shelf'.files l (λ x y h. case_right ws d x y h);
     }) t
 outcome ws (Err (stop.Refused r)) how shelf shelf' sink sink' l c n w t =
     let planned = status_of_refusal (refusal_seen r) in
     let text = refusal_line (refusal_seen r) in
     told_case ws planned how text shelf shelf' sink sink' (record {
       decided = refusal_decided (refusal_seen r);
-      words = refusal_fits (command_of ws) (λ c done. done.task.vcd.now ≡ c.vcd) r w;
+      words = refusal_fits (asked_of ws) (λ _ _. Unit {0}) r w;
       faults = c;
       files = both_map (WorkLeaves ws (Err (stop.Refused r))) (IsRight ws planned text) shelf.files shelf'.files l (λ x y h. refused_right ws r x y h);
     }) t
@@ -169,7 +217,7 @@ words_names (Some d) next f _ (goes_on c p h k) = let e : c ≡ d = (let q : ◌
 
 task_names : (ws : List (List ℕ)) (files : List File) (p : Result Task Refusal) → TaskOutcome ws files p → NamesIn (command_of ws) p
 task_names ws files =
-    words_names (command_of ws) _ (λ c.
+    words_names (command_of ws) (λ command. CommandOutcome command files) (λ c.
     then_names (CircuitOutcome c files) _ c (λ circuit.
     then_names (AnnotatedOutcome c.sdf c.corner files circuit) _ c (λ annotated.
     then_names (InputOutcome c.stimulus files annotated.circuit) _ c (λ input p e. subst (Names c) (sym e) refl))))
@@ -182,7 +230,7 @@ keeps_same (Some f) files = record { this = inl refl; others = λ q _. refl }
 unfinished_by_answer : (ws : List (List ℕ)) (old new : List File) → LeavesUnfinished ws old new → KeepsByAnswer ws old new
 unfinished_by_answer ws old new (inl same) = λ answer right. subst (KeepsBut answer.made old) (sym same) (keeps_same answer.made old)
 unfinished_by_answer ws old new (inr (task, outcome, left)) = λ answer right.
-    subst (λ m. KeepsBut m old new) (one_made ws old (answer_of (Ok task)) answer (Ok task, outcome, refl) right) left
+    subst (λ m. KeepsBut m old new) (one_made ws old (answer_of (Ok task)) answer (run_answers ws old task outcome) right) left
 
 same_by_words : (o : Option Command) (old new : List File) → new ≡ old → KeepsByWords o old new
 same_by_words None old new e = e
@@ -202,21 +250,21 @@ fault_unfinished ws old new _ (at_sdf c name circuit e is o same) = inl same
 fault_unfinished ws old new _ (at_stimulus c circuit annotated e o a same) = inl same
 fault_unfinished ws old new _ (at_dump task o left) = inr (task, o, left)
 
-fits_usage : (o : Option Command) (how : Status) (text : List ℕ) → FitsWords o how text → IsUsage o how
+fits_usage : (o : Option Asked) (how : Status) (text : List ℕ) → FitsWords o how text → IsUsage o how
 fits_usage None how text h = inl h.0
-fits_usage (Some c) how text h = h
+fits_usage (Some asked) how text h = h
 
-name_usage : (o : Option Command) (name : List ℕ) → Contains (names_in o) name → IsUsage o status.Fault
-name_usage None name (k, l, e) = absurd (omega arith)
-name_usage (Some c) name h = λ e. let k : status.Fault ≡ status.Usage = e in cc
+name_usage : (o : Option Command) (case : Option Asked) (name : List ℕ) → Contains (names_in o) name → IsUsage (option_or (option_map a_run o) case) status.Fault
+name_usage None case name (k, l, e) = absurd (omega arith)
+name_usage (Some c) case name h = λ e. let k : status.Fault ≡ status.Usage = e in cc
 
-end_usage : (o : Option Command) (how : Status) (text : List ℕ) → FitsWords o how text → IsRunEnd how → IsUsage o status.Fault
+end_usage : (o : Option Asked) (how : Status) (text : List ℕ) → FitsWords o how text → IsRunEnd how → IsUsage o status.Fault
 end_usage None how text h e = let k : false ≡ true = sym (ap is_run_end h.0) ∙ e in absurd (cc)
-end_usage (Some c) how text h e = λ k. let q : status.Fault ≡ status.Usage = k in cc
+end_usage (Some asked) how text h e = λ k. let q : status.Fault ≡ status.Usage = k in cc
 
-want_usage : (o : Option Command) → IsUsage o status.NoMemory
+want_usage : (o : Option Asked) → IsUsage o status.NoMemory
 want_usage None = inr refl
-want_usage (Some c) = λ e. let k : status.NoMemory ≡ status.Usage = e in cc
+want_usage (Some asked) = λ e. let k : status.NoMemory ≡ status.Usage = e in cc
 
 last_later : (text : List ℕ) (old new : SinkTold) → PutsLast text old new → old.faults ≤ new.faults
 last_later text old new (putting.whole p) = let e : new.faults ≡ old.faults = p.faults in omega arith
@@ -259,12 +307,12 @@ module _ (ws : List (List ℕ)) (shelf shelf' : ShelfTold) (sink sink' : SinkTol
   exact _ (no_memory c f l) files answer k right = inr (inr refl)
   exact _ (sink_want how text cut h w l) files answer k right = inr (inr refl)
 
-  pub usage : (how : Status) → Outcome ws shelf shelf' sink sink' how → IsUsage (command_of ws) how
-  usage _ (answered how text h r) = fits_usage (command_of ws) how text h.words
-  usage _ (shelf_fault c f l) = name_usage (command_of ws) f.name f.among
-  usage _ (sink_fault how text cut h e f l) = end_usage (command_of ws) how text h.words e
-  usage _ (no_memory c f l) = want_usage (command_of ws)
-  usage _ (sink_want how text cut h w l) = want_usage (command_of ws)
+  pub usage : (how : Status) → Outcome ws shelf shelf' sink sink' how → IsUsage (asked_of ws) how
+  usage _ (answered how text h r) = fits_usage (asked_of ws) how text h.words
+  usage _ (shelf_fault c f l) = name_usage (command_of ws) (option_map a_case (case_of ws)) f.name f.among
+  usage _ (sink_fault how text cut h e f l) = end_usage (asked_of ws) how text h.words e
+  usage _ (no_memory c f l) = want_usage (asked_of ws)
+  usage _ (sink_want how text cut h w l) = want_usage (asked_of ws)
 
   pub counted : (how : Status) → Outcome ws shelf shelf' sink sink' how → how ≢ status.Fault → shelf'.faults ≡ shelf.faults
   counted _ (answered how text h r) n = h.faults

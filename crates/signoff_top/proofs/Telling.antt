@@ -1,6 +1,8 @@
 -- What the putting of a report tells.
 use Rattle.std.proofs.Common.{◌≡◌, ◌∙◌, sym, ap, subst, inl, inr, ℕ, true, false, List, [], map}
-use Rattle.std.specs.Prelude.{Ok, Err}
+use Rattle.std.specs.Global.{Vec}
+use Rattle.std.specs.Prelude.{Result, Ok, Err, IfOk, IfErr}
+use Rattle.std.specs.declared.alloc.AllocError.{AllocError}
 use Rattle.sg_io.specs.Put.{SinkTold}
 use Rattle.sg_io.specs.declared.outside.ShelfError.TheVariants as shelf
 use Rattle.signoff_top.specs.Answer.{report_fault_line, no_memory_line}
@@ -37,6 +39,12 @@ tells_cut text planned old new e (inr h) = let f : Err shelf.Failed ≡ Err shel
 pub tells_want : (text : List ℕ) (planned : Status) (old cut new : SinkTold) → PutsMade text old cut (Err shelf.NoMemory) → PutsLast no_memory_line cut new → Tells text planned old new status.NoMemory
 tells_want text planned old cut new (inl h) l = want cut (put_by [] old cut (Err shelf.NoMemory) h) l
 tells_want text planned old cut new (inr h) l = no_memory (subst (λ s. PutsLast no_memory_line s new) h.1 l)
+
+-- a text that was made and put, or for which there was no memory
+pub made_tells : (made : Result (Vec ℕ) AllocError) (text : List ℕ) (given planned : Status) (old new : SinkTold) (how : Status) → IfOk made (λ v. v.items ≡ text) → given ≡ planned
+    → IfOk made (λ v. Tells v.items given old new how) → IfErr made (λ _. (t : List ℕ) → Tells t given old new how) → Tells text planned old new how
+made_tells (Ok v) text given planned old new how is e h k = subst (λ t. Tells t planned old new how) is (subst (λ s. Tells v.items s old new how) e h)
+made_tells (Err r) text given planned old new how is e h k = subst (λ s. Tells text s old new how) e (k text)
 
 -- the lines of what a report is lent
 pub lines_lent : (circuit : Circuit) (sdf sdf' : List ℕ) (us us' : List code_unmatched.Unmatched) (vs vs' : List code_violation.Violation) (end : ReportEnd) → sdf ≡ sdf' → us ≡ us' → vs ≡ vs'

@@ -1,6 +1,7 @@
 -- What the program answers: its status, the file that it makes, and the report.
 use Rattle.std.specs.Prelude.{ℕ, ◌≡◌, ◌++◌, List, [], ◌∷◌, length, Option, Some, None, Result, Ok, Err, codes, decimal}
 use Rattle.sg_io.specs.Files.{File, HasAfter}
+use Rattle.sg_circuit.specs.Circuit.{Circuit}
 use Rattle.sg_model.specs.Machine.{Violation}
 use Rattle.sg_model.specs.Run.{Finished, last_change, lasts}
 use Rattle.sim_rounds.specs.Setting.{setting_of}
@@ -46,24 +47,27 @@ abbrev pub last_of : Task → ℕ
 last_of task = last_change (setting_of task.circuit task.input task.rounds).first.values (lasts (run_of task).run.snapshots)
 
 -- what is told of the run of a generated case: its stages, how many elements were evaluated, the last change, and how many limits were violated
-abbrev pub summary_lines : ℕ → Task → List ℕ
-summary_lines stages task =
+abbrev pub summary_lines : (stages evaluations last violations : ℕ) → List ℕ
+summary_lines stages evaluations last violations =
     line (codes "stages " ++ decimal stages)
-    ++ line (codes "evaluations " ++ decimal (count_shown (run_of task).evaluations))
-    ++ line (codes "last " ++ decimal (last_of task))
-    ++ line (codes "violations " ++ decimal (length (run_of task).run.violations))
+    ++ line (codes "evaluations " ++ decimal evaluations)
+    ++ line (codes "last " ++ decimal last)
+    ++ line (codes "violations " ++ decimal violations)
 
 -- or of a time that was spent
-abbrev pub case_lines : ℕ → Task → Option (ℕ × Option ℕ) → List ℕ
-case_lines stages task None = summary_lines stages task
-case_lines stages task (Some spent) = spent_line task.circuit spent.0 spent.1
+abbrev pub case_text : Circuit → (stages evaluations last violations : ℕ) → Option (ℕ × Option ℕ) → List ℕ
+case_text circuit stages evaluations last violations None = summary_lines stages evaluations last violations
+case_text circuit stages evaluations last violations (Some spent) = spent_line circuit spent.0 spent.1
+
+abbrev pub case_lines : ℕ → Task → List ℕ
+case_lines stages task = case_text task.circuit stages (count_shown (run_of task).evaluations) (last_of task) (length (run_of task).run.violations) (run_of task).spent
 
 -- no file is made
 abbrev pub case_answer : ℕ → Result Task Refusal → Answer
 case_answer stages (Ok task) = record {
   status = status_of_run (run_of task).spent (run_of task).run.violations;
   made = None;
-  report = case_lines stages task (run_of task).spent;
+  report = case_lines stages task;
 }
 case_answer stages (Err r) = record { status = status_of_refusal r; made = None; report = refusal_line r }
 

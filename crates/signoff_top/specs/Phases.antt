@@ -62,9 +62,9 @@ pub data Then {A B : Type 0} (first : Result A Refusal → Type 0) (next : A →
   goes_on : (a : A) (o : Result B Refusal) → first (Ok a) → next a o → Then first next o
 
 -- the words
-abbrev pub WordsOutcome : Option Command → Result Command Refusal → Type 0
+abbrev pub WordsOutcome : {A : Type 0} → Option A → Result A Refusal → Type 0
 WordsOutcome None outcome = outcome ≡ Err words
-WordsOutcome (Some c) outcome = outcome ≡ Ok c
+WordsOutcome (Some asked) outcome = outcome ≡ Ok asked
 
 -- a file is read: the first bytes of it, up to the limit, which is one above what an input file may have
 abbrev pub read_limit : ℕ
@@ -189,13 +189,15 @@ CaseOutcome stages =
     Then (StimulusOutcome case_stimulus (stimulus_of stages) annotated.circuit) (λ input outcome.
     outcome ≡ Ok (record { circuit = annotated.circuit; unmatched = annotated.unmatched; rounds = default_rounds; input = input; vcd = [] }))))
 
--- All phases up to the run, over the words and the files that are held: those of the netlist, of the delays where the words
--- name an SDF file, and of the stimulus. How many buckets the wheel of events has is no
--- part of it: the answer is the same.
-abbrev pub TaskOutcome : List (List ℕ) → List File → Result Task Refusal → Type 0
-TaskOutcome ws files =
-    Then (WordsOutcome (command_of ws)) (λ command.
+-- All phases of a command up to its run, over the files that are held: those of the netlist, of the delays where the command
+-- names an SDF file, and of the stimulus. How many buckets the wheel of events has is no part of it: the answer is the same.
+abbrev pub CommandOutcome : Command → List File → Result Task Refusal → Type 0
+CommandOutcome command files =
     Then (CircuitOutcome command files) (λ circuit.
     Then (AnnotatedOutcome command.sdf command.corner files circuit) (λ annotated.
     Then (InputOutcome command.stimulus files annotated.circuit) (λ input outcome.
-    outcome ≡ Ok (record { circuit = annotated.circuit; unmatched = annotated.unmatched; rounds = command.rounds; input = input; vcd = command.vcd })))))
+    outcome ≡ Ok (record { circuit = annotated.circuit; unmatched = annotated.unmatched; rounds = command.rounds; input = input; vcd = command.vcd }))))
+
+-- and those of the words
+abbrev pub TaskOutcome : List (List ℕ) → List File → Result Task Refusal → Type 0
+TaskOutcome ws files = Then (WordsOutcome (command_of ws)) (λ command. CommandOutcome command files)

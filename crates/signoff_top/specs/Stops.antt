@@ -1,9 +1,10 @@
 -- What the program's phases return, beside the outcomes that the definition has.
-use Rattle.std.specs.Prelude.{ℕ, ◌≡◌, ◌⊎◌, ◌++◌, List, ◌∷◌, Option, Some, None, Result, Ok, Err}
+use Rattle.std.specs.Prelude.{ℕ, ◌≡◌, ◌≤◌, ◌<◌, ◌⊎◌, ◌++◌, List, ◌∷◌, length, Option, Some, None, Result, Ok, Err}
 use Rattle.sg_io.specs.Files.{File}
 use Rattle.sg_io.specs.declared.outside.ShelfError.{ShelfError}
 use Rattle.sg_io.specs.declared.outside.ShelfError.TheVariants as shelf
-use Rattle.run_words.specs.Words.{Command}
+use Rattle.run_words.specs.declared.words.Asked as code_asked
+use Rattle.run_words.specs.declared.words.Asked.TheVariants as asked
 use Rattle.signoff_top.specs.Phases.{Refusal, FilesOutcome, words, missing, netlist, sdf, sdf_kind, too_large_kind, stimulus, stimulus_kind}
 use Rattle.signoff_top.specs.declared.stop.Stop as code_stop
 use Rattle.signoff_top.specs.declared.stop.Stop.TheVariants as stop
@@ -80,9 +81,14 @@ SparesWords (stop.Refused (refusal.Stimulus name line kind)) = Unit {0}
 SparesWords stop.Failed = Unit {0}
 SparesWords stop.NoMemory = Unit {0}
 
+-- a command has a netlist, and its numbers are in their ranges
+abbrev pub IsReady : code_asked.Asked → Type 0
+IsReady (asked.Run c) = ((1 ≤ c.rounds) × (1 ≤ c.wheel) × (c.wheel ≤ 1048576)) × (0 < length c.netlists.items)
+IsReady (asked.Case stages) = Unit {0}
+
 -- the words alone say whether they are refused, unless there was no memory; of a value that comes they say P
-abbrev pub StopWords : {X : Type 0} → Option Command → (Command → X → Type 0) → Result X code_stop.Stop → Type 0
+abbrev pub StopWords : {A X : Type 0} → Option A → (A → X → Type 0) → Result X code_stop.Stop → Type 0
 StopWords None P (Ok x) = ⊥
 StopWords None P (Err s) = (s ≡ stop.Refused refusal.Words) ⊎ (s ≡ stop.NoMemory)
-StopWords (Some c) P (Ok x) = P c x
-StopWords (Some c) P (Err s) = SparesWords s
+StopWords (Some asked) P (Ok x) = P asked x
+StopWords (Some asked) P (Err s) = SparesWords s

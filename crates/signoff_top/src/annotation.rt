@@ -78,8 +78,8 @@ fn annotation_phase<'a>(
     }
 }
 
-// Reads a file's text in, and applies its entries to the circuit.
-fn apply_text<'a>(
+/// Reads an SDF text in, and applies its entries to the circuit. The name is that of its file.
+pub fn apply_text<'a>(
     alloc: Global,
     name: &'a str,
     text: &[u8],

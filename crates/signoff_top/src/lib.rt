@@ -3,10 +3,12 @@
 
 mod annotation;
 mod answer;
+mod generated;
 mod phases;
 mod report;
 mod status;
 mod stop;
+mod summary;
 mod system;
 mod work;
 

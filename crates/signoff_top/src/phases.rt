@@ -1,21 +1,21 @@
 // The phases up to the run, one call for each.
-ghost use Rattle.std.specs.Prelude.{◌≡◌, ◌≤◌, ◌<◌, List, Some, IfErr, IfOk, length, map, option_map, slice_index_or, string_bytes, []};
+ghost use Rattle.std.specs.Prelude.{◌≡◌, ◌≤◌, ◌<◌, ℕ, List, Some, IfErr, IfOk, length, map, option_map, slice_index_or, string_bytes, []};
 ghost use Rattle.sg_io.specs.Faults.{Cause};
 ghost use Rattle.sg_io.specs.Files.{File, bytes_of};
 ghost use Rattle.sg_stimulus.specs.Applied.{IsApplied};
 ghost use Rattle.sg_stimulus.specs.Seen.{stimulus_seen};
 ghost use Rattle.netlist_read.specs.Seen.{kind_seen};
-ghost use Rattle.run_words.specs.Words.{command_of};
-ghost use Rattle.run_words.specs.WordsSeen.{command_seen};
-ghost use Rattle.signoff_top.specs.Phases.{CircuitOutcome, FileOutcome, FilesOutcome, InputOutcome, NetlistOutcome, StimulusOutcome, TaskOutcome, WordsOutcome, refused_at};
+ghost use Rattle.run_words.specs.Words.{asked_of, command_of};
+ghost use Rattle.run_words.specs.WordsSeen.{asked_seen, command_seen};
+ghost use Rattle.signoff_top.specs.Phases.{CircuitOutcome, CommandOutcome, FileOutcome, FilesOutcome, InputOutcome, NetlistOutcome, StimulusOutcome, WordsOutcome, refused_at};
 ghost use Rattle.signoff_top.specs.Promises.{NamesFaultAt};
-ghost use Rattle.signoff_top.specs.Stops.{FailsAtOne, Gives, IfFailed, NeverFails, SparesWords, StopWords, end_of_phase, refusal_seen};
+ghost use Rattle.signoff_top.specs.Stops.{FailsAtOne, Gives, IfFailed, IsReady, NeverFails, SparesWords, StopWords, end_of_phase, refusal_seen};
 ghost use Rattle.signoff_top.specs.Tasks.{task_seen};
 
 use crate::annotation::annotation_of;
 use crate::stop::{Refusal, Stop};
 use netlist_read::{NetlistKind, read_netlist, write_kind};
-use run_words::{Command, read_words};
+use run_words::{Asked, Command, read_words};
 use sdf_annotate::Unmatched;
 use sg_circuit::Circuit;
 use sg_delay::Corner;
@@ -41,16 +41,16 @@ pub struct Task<'a> {
 // One byte more than an input file may have.
 const READ_LIMIT: u64 = (1 << 28) + 1;
 
-#[tactic(auto, using(crate::proofs::WordsRead::command_ranges, crate::proofs::WordsRead::command_some))]
-fn words_phase<'a>(alloc: Global, words: &'a [String]) -> Result<Command<'a>, Stop<'a>>
-    ensures gives { Gives (λ c. command_seen c) (WordsOutcome (command_of (map (λ w. string_bytes w) words.now))) result }
+/// What the words ask for.
+#[tactic(auto, using(crate::proofs::WordsRead::asked_ready))]
+pub fn words_phase<'a>(alloc: Global, words: &'a [String]) -> Result<Asked<'a>, Stop<'a>>
+    ensures gives { Gives (λ x. asked_seen x) (WordsOutcome (asked_of (map (λ w. string_bytes w) words.now))) result }
     ensures works { NeverFails result }
-    ensures words { StopWords (command_of (map (λ w. string_bytes w) words.now)) (λ c x. c ≡ command_seen x) result }
-    ensures ranges { IfOk result (λ c. (1 ≤ c.rounds) × (1 ≤ c.wheel) × (c.wheel ≤ 1048576)) }
-    ensures some { IfOk result (λ c. 0 < length c.netlists.items) }
+    ensures words { StopWords (asked_of (map (λ w. string_bytes w) words.now)) (λ asked x. asked ≡ asked_seen x) result }
+    ensures ready { IfOk result (λ x. IsReady x) }
 {
     match read_words(alloc, words)? {
-        Some(command) => Ok(command),
+        Some(asked) => Ok(asked),
         None => Err(Stop::Refused(Refusal::Words)),
     }
 }
@@ -140,8 +140,8 @@ fn top_bytes(top: Option<&str>) -> Option<&[u8]>
     }
 }
 
-// What the texts of the files of these names say.
-fn netlist_phase<'a>(
+/// What the texts of the files of these names say.
+pub fn netlist_phase<'a>(
     alloc: Global,
     names: &[&'a str],
     files: &[Vec<u8>],
@@ -163,7 +163,8 @@ fn netlist_phase<'a>(
     }
 }
 
-fn stimulus_phase<'a>(
+/// What the text of the file of this name says for a circuit.
+pub fn stimulus_phase<'a>(
     alloc: Global,
     name: &'a str,
     text: &[u8],
@@ -226,24 +227,27 @@ fn input_of<'a, S: Shelf>(
     stimulus_phase(alloc, name, &text, circuit)
 }
 
-/// All phases up to the run: the words, the netlist, the SDF file, the stimulus.
+/// All phases of a command up to its run: the netlist, the SDF file, the stimulus.
 pub fn task_of<'a, S: Shelf>(
     alloc: Global,
-    words: &'a [String],
+    command: &Command<'a>,
     shelf: &mut S,
 ) -> Result<Task<'a>, Stop<'a>>
+    requires ranges { (1 ≤ command.now.rounds) × (1 ≤ command.now.wheel) × (command.now.wheel ≤ 1048576) }
+    requires some { 0 < length command.now.netlists.items }
     ensures gives { (files : List File) → S.files shelf.old ≡ Some files
-        → Gives (λ t. task_seen t) (TaskOutcome (map (λ w. string_bytes w) words.now) files) result }
+        → Gives (λ t. task_seen t) (CommandOutcome (command_seen command.now) files) result }
     ensures applied { IfOk result (λ t. IsApplied t.circuit (stimulus_seen t.input)) }
     ensures ranges { IfOk result (λ t. (1 ≤ t.rounds) × (1 ≤ t.wheel) × (t.wheel ≤ 1048576)) }
     ensures held { S.files shelf.new ≡ S.files shelf.old }
     ensures cause { Cause (S.fault_count shelf.old) (S.fault_count shelf.new) (end_of_phase result) }
-    ensures named { IfFailed (NamesFaultAt (map (λ w. string_bytes w) words.now) (S.files shelf.old) (S.files shelf.new) (S.last_fault shelf.new)) result }
-    ensures words { StopWords (command_of (map (λ w. string_bytes w) words.now)) (λ c t. t.vcd.now ≡ c.vcd) result }
+    ensures named { (ws : List (List ℕ)) → command_of ws ≡ Some (command_seen command.now)
+        → IfFailed (NamesFaultAt ws (S.files shelf.old) (S.files shelf.new) (S.last_fault shelf.new)) result }
+    ensures words { IfErr result (λ s. SparesWords s) }
+    ensures vcd { IfOk result (λ t. t.vcd.now ≡ (command_seen command.now).vcd) }
 {
-    let command = words_phase(alloc, words)?;
-    let circuit = circuit_of(alloc, shelf, &command)?;
-    let annotated = annotation_of(alloc, shelf, &command, circuit)?;
+    let circuit = circuit_of(alloc, shelf, command)?;
+    let annotated = annotation_of(alloc, shelf, command, circuit)?;
     let input = input_of(alloc, shelf, command.stimulus, &annotated.circuit)?;
     Ok(Task {
         circuit: annotated.circuit,

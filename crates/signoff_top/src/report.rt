@@ -3,7 +3,7 @@ ghost use Rattle.std.specs.Prelude.{◌≡◌, ◌++◌, [], ℕ, List, IfOk, If
 ghost use Rattle.std.specs.Option.{option_copied};
 ghost use Rattle.sg_circuit.specs.Circuit.{Circuit};
 ghost use Rattle.sg_io.specs.Put.{SinkTold};
-ghost use Rattle.sg_model.specs.Machine.{Violation};
+ghost use Rattle.sg_model.specs.Machine.{Violation as ViolationSeen};
 ghost use Rattle.time_checks.specs.Seen.{violation_seen};
 ghost use Rattle.wave_out.specs.Report.{Unmatched, report_lines};
 ghost use Rattle.wave_out.specs.Reporting.{PutsMade, unmatched_seen};
@@ -13,17 +13,18 @@ ghost use Rattle.signoff_top.specs.Answer.{fault_line, no_memory_line, status_of
 ghost use Rattle.signoff_top.specs.Phases.{located_line, refusal_line, sdf_kind, status_of_refusal, stimulus_kind};
 ghost use Rattle.signoff_top.specs.Putting.{PutsBy, PutsLast};
 ghost use Rattle.signoff_top.specs.Stops.{refusal_seen, sdf_fault_seen};
-ghost use Rattle.signoff_top.specs.Work.{Tells, TellsEnd, TellsStop};
+ghost use Rattle.signoff_top.specs.Work.{Tells, TellsEnd, TellsStop, case_told, quiet_violations};
 
 use crate::status::Status;
 use crate::stop::{Refusal, SdfFault, Stop};
-use crate::work::Done;
+use crate::summary::case_text;
+use crate::work::{CaseDone, Done, RunDone};
 use itoa::Buffer;
-use run_dump::RunEnd;
 use sdf_read::SdfKind;
 use sg_io::{ShelfError, Sink};
 use std::alloc::{AllocError, Global};
 use stim_read::StimKind;
+use time_checks::Violation;
 use wave_out::{ReportEnd, Spent, write_report};
 
 const USAGE: &str =
@@ -205,7 +206,7 @@ fn put_made<K: Sink>(report: &mut K, planned: Status, made: Result<Vec<u8>, Allo
 // How a run ended, by the end of its stimulus and by the time that was spent, if there was one.
 #[tactic(auto, unfolding(wave_out::specs::Report::report_lines))]
 fn report_end(end: u64, spent: Option<Spent>) -> ReportEnd
-    ensures { (c : Circuit) (us : List Unmatched) (vs : List Violation) → report_lines c us vs (end_time result) (end_spent result) ≡ report_lines c us vs end (spent_seen spent) }
+    ensures { (c : Circuit) (us : List Unmatched) (vs : List ViolationSeen) → report_lines c us vs (end_time result) (end_spent result) ≡ report_lines c us vs end (spent_seen spent) }
 {
     match spent {
         Some(Spent { time, net }) => ReportEnd::Spent { time, net },
@@ -213,20 +214,20 @@ fn report_end(end: u64, spent: Option<Spent>) -> ReportEnd
     }
 }
 
-fn status_of_run(end: &RunEnd) -> Status
-    ensures { result ≡ end_status (spent_seen end.now.spent) (map (λ v. violation_seen v) end.now.violations.items) }
+fn status_of_run(spent: Option<Spent>, violations: &[Violation]) -> Status
+    ensures { result ≡ end_status (spent_seen spent) (map (λ v. violation_seen v) violations.now) }
 {
-    match end.spent {
+    match spent {
         Some(_) => Status::Rounds,
-        None if end.violations.is_empty() => Status::Clean,
+        None if violations.is_empty() => Status::Clean,
         None => Status::Violations,
     }
 }
 
-fn tell_run<K: Sink>(alloc: Global, done: &Done<'_>, report: &mut K) -> Status
+fn tell_run<K: Sink>(alloc: Global, done: &RunDone<'_>, report: &mut K) -> Status
     ensures { Tells (report_lines done.now.task.circuit (map (unmatched_seen done.now.task.sdf.items) done.now.task.unmatched.items) (map (λ v. violation_seen v) done.now.end.violations.items) done.now.task.input.end (spent_seen done.now.end.spent)) (end_status (spent_seen done.now.end.spent) (map (λ v. violation_seen v) done.now.end.violations.items)) (K.told report.old) (K.told report.new) result }
 {
-    let planned = status_of_run(&done.end);
+    let planned = status_of_run(done.end.spent, &done.end.violations);
     let put = write_report(
         alloc,
         &done.task.circuit,
@@ -237,6 +238,14 @@ fn tell_run<K: Sink>(alloc: Global, done: &Done<'_>, report: &mut K) -> Status
         report,
     );
     tell_put(report, planned, put)
+}
+
+fn tell_case<K: Sink>(alloc: Global, done: &CaseDone<'_>, report: &mut K) -> Status
+    ensures { Tells (case_told done.now) (end_status (spent_seen done.now.end.spent) (quiet_violations done.now.end)) (K.told report.old) (K.told report.new) result }
+{
+    let end = &done.end;
+    let planned = status_of_run(end.spent, &end.violations);
+    put_made(report, planned, case_text(alloc, done))
 }
 
 fn tell_stop<K: Sink>(
@@ -267,7 +276,8 @@ pub fn tell<K: Sink>(
     ensures { TellsEnd (option_copied failed.entry) end.now (K.told report.old) (K.told report.new) result }
 {
     match end {
-        Ok(done) => tell_run(alloc, done, report),
+        Ok(Done::Run(done)) => tell_run(alloc, done, report),
+        Ok(Done::Case(done)) => tell_case(alloc, done, report),
         Err(stop) => tell_stop(alloc, stop, failed, report),
     }
 }

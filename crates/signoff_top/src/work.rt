@@ -1,37 +1,59 @@
 // All that the program does with the shelf.
-ghost use Rattle.std.specs.Prelude.{◌≡◌, map, string_bytes};
+ghost use Rattle.std.specs.Prelude.{◌≡◌, ◌≤◌, ◌<◌, ℕ, List, Some, IfErr, length, map, string_bytes};
 ghost use Rattle.sg_io.specs.Faults.{Cause};
-ghost use Rattle.sg_io.specs.Files.{BothTell};
-ghost use Rattle.run_words.specs.Words.{command_of};
+ghost use Rattle.sg_io.specs.Files.{BothTell, File};
+ghost use Rattle.run_words.specs.Words.{asked_of, case_of, command_of};
+ghost use Rattle.run_words.specs.WordsSeen.{command_seen};
 ghost use Rattle.signoff_top.specs.Promises.{NamesFaultAt};
-ghost use Rattle.signoff_top.specs.Stops.{IfFailed, StopWords, end_of_phase};
+ghost use Rattle.signoff_top.specs.Stops.{IfFailed, NeverFails, SparesWords, StopWords, end_of_phase};
 ghost use Rattle.signoff_top.specs.Work.{WorkLeaves};
 
-use crate::phases::{Task, task_of};
+use crate::generated::case_task;
+use crate::phases::{Task, task_of, words_phase};
 use crate::stop::Stop;
-use run_dump::{RunEnd, run_and_dump};
+use run_dump::{QuietEnd, RunEnd, run_and_dump, run_quietly};
+use run_words::{Asked, Command};
 use sg_io::{Shelf, ShelfError};
 use std::alloc::Global;
 
-/// A task that was run, and what the run came to.
+/// A command's task that was run, and what the run came to.
 #[derive(Drop)]
-pub struct Done<'a> {
+pub struct RunDone<'a> {
     pub task: Task<'a>,
     pub end: RunEnd,
 }
 
-/// Reads what the words name, runs it, and writes the value change dump.
-pub fn work<'a, S: Shelf>(
+/// The task of a generated case of so many stages that was run, and what the run came to.
+#[derive(Drop)]
+pub struct CaseDone<'a> {
+    pub stages: u32,
+    pub task: Task<'a>,
+    pub end: QuietEnd,
+}
+
+/// What the words ask for, done.
+#[derive(Drop)]
+pub enum Done<'a> {
+    Run(RunDone<'a>),
+    Case(CaseDone<'a>),
+}
+
+// Reads what a command names, runs it, and writes the value change dump.
+fn run_command<'a, S: Shelf>(
     alloc: Global,
-    words: &'a [String],
+    command: &Command<'a>,
     shelf: &mut S,
 ) -> Result<Done<'a>, Stop<'a>>
-    ensures left { BothTell (S.files shelf.old) (S.files shelf.new) (WorkLeaves (map (λ w. string_bytes w) words.now) result) }
+    requires ranges { (1 ≤ command.now.rounds) × (1 ≤ command.now.wheel) × (command.now.wheel ≤ 1048576) }
+    requires some { 0 < length command.now.netlists.items }
+    ensures left { (ws : List (List ℕ)) → command_of ws ≡ Some (command_seen command.now)
+        → BothTell (S.files shelf.old) (S.files shelf.new) (WorkLeaves ws result) }
     ensures cause { Cause (S.fault_count shelf.old) (S.fault_count shelf.new) (end_of_phase result) }
-    ensures named { IfFailed (NamesFaultAt (map (λ w. string_bytes w) words.now) (S.files shelf.old) (S.files shelf.new) (S.last_fault shelf.new)) result }
-    ensures words { StopWords (command_of (map (λ w. string_bytes w) words.now)) (λ c done. done.task.vcd.now ≡ c.vcd) result }
+    ensures named { (ws : List (List ℕ)) → command_of ws ≡ Some (command_seen command.now)
+        → IfFailed (NamesFaultAt ws (S.files shelf.old) (S.files shelf.new) (S.last_fault shelf.new)) result }
+    ensures words { IfErr result (λ s. SparesWords s) }
 {
-    let task = task_of(alloc, words, shelf)?;
+    let task = task_of(alloc, command, shelf)?;
     match run_and_dump(
         alloc,
         &task.circuit,
@@ -41,8 +63,37 @@ pub fn work<'a, S: Shelf>(
         task.vcd,
         shelf,
     ) {
-        Ok(end) => Ok(Done { task, end }),
+        Ok(end) => Ok(Done::Run(RunDone { task, end })),
         Err(ShelfError::Failed) => Err(Stop::Failed),
         Err(ShelfError::NoMemory) => Err(Stop::NoMemory),
+    }
+}
+
+// Makes the generated case of so many stages, and runs it.
+fn run_case<'a>(alloc: Global, stages: u32) -> Result<Done<'a>, Stop<'a>>
+    ensures left { (ws : List (List ℕ)) (files : List File) → case_of ws ≡ Some stages → WorkLeaves ws result files files }
+    ensures works { NeverFails result }
+    ensures words { IfErr result (λ s. SparesWords s) }
+{
+    let task = case_task(alloc, stages)?;
+    let end = run_quietly(alloc, &task.circuit, &task.input, task.rounds, task.wheel)?;
+    Ok(Done::Case(CaseDone { stages, task, end }))
+}
+
+/// Does what the words ask for: reads what a command names, runs it, and writes the value change dump; or makes the
+/// generated case and runs it, for which the shelf isn't called.
+pub fn work<'a, S: Shelf>(
+    alloc: Global,
+    words: &'a [String],
+    shelf: &mut S,
+) -> Result<Done<'a>, Stop<'a>>
+    ensures left { BothTell (S.files shelf.old) (S.files shelf.new) (WorkLeaves (map (λ w. string_bytes w) words.now) result) }
+    ensures cause { Cause (S.fault_count shelf.old) (S.fault_count shelf.new) (end_of_phase result) }
+    ensures named { IfFailed (NamesFaultAt (map (λ w. string_bytes w) words.now) (S.files shelf.old) (S.files shelf.new) (S.last_fault shelf.new)) result }
+    ensures words { StopWords (asked_of (map (λ w. string_bytes w) words.now)) (λ _ _. Unit {0}) result }
+{
+    match words_phase(alloc, words)? {
+        Asked::Run(command) => run_command(alloc, &command, shelf),
+        Asked::Case(stages) => run_case(alloc, stages),
     }
 }
