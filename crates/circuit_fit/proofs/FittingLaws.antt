@@ -13,7 +13,7 @@ use Rattle.sg_circuit.specs.declared.scopes.Scope as code_scope
 use Rattle.sg_circuit.specs.declared.circuits.Parts.{Parts}
 use Rattle.sg_circuit.specs.Circuit.{Pass, Element, Scope, Variable, net_at, element_at, scope_at}
 use Rattle.sg_circuit.specs.Closed.{IsTiming, AreTimings, HasDelays, HasFewPaths, NamesNets, TakesInputs, IfElement, IsClosed, width_of}
-use Rattle.circuit_fit.specs.Fitting.{ScopesFit, DriversFit, PartsFit}
+use Rattle.circuit_fit.specs.Fitting.{ScopesFit, DriversFit, LimitsFit, PartsFit}
 use Rattle.sg_circuit.specs.TimingsSeen.{limit_seen, timings_of, leg_timing_seen}
 use Rattle.sg_circuit.specs.Seen.{circuit_seen, element_seen, scope_seen, variable_seen, AreIndexed}
 use Rattle.sg_circuit.specs.ChecksSeen.{written_seen}
@@ -127,8 +127,8 @@ variables_are P scopes h = All-map (λ (s : Scope). All P s.variables) (λ x. sc
 variables_were : (P : Variable → Type 0) (scopes : List code_scope.Scope) → All (λ (s : Scope). All P s.variables) (map (λ x. scope_seen x) scopes) → All (λ s. All (λ v. P (variable_seen v)) s.variables.items) scopes
 variables_were P scopes h = λ k d l. all-unmapped P (λ v. variable_seen v) (slice_index_or scopes k d).variables.items (all-unmapped (λ (s : Scope). All P s.variables) (λ x. scope_seen x) scopes h k d l)
 
-pub closed_of : (parts : Parts) → PartsFit parts → IsClosed (circuit_seen parts) × AreIndexed parts
-closed_of parts h =
+pub closed_of : (parts : Parts) → PartsFit parts → LimitsFit parts → IsClosed (circuit_seen parts) × AreIndexed parts
+closed_of parts h limits =
     let scopes : length (circuit_seen parts).scopes ≡ length parts.scopes.items = length-map parts.scopes.items (λ x. scope_seen x) in
     let elements : length (circuit_seen parts).elements ≡ length parts.elements.items = length-map parts.elements.items (element_seen parts) in (
       record {
@@ -159,6 +159,7 @@ closed_of parts h =
         notifiers = notifiers_are parts h.checks.notifiers;
         scales = All-map (λ (s : Scope). parts.tick.power ≤ℤ s.precision) (λ x. scope_seen x) parts.scopes.items h.variables.scales;
         lates = lates_are parts h.lates.lates;
+        short = limits.short;
         zeroed = zeroes_are parts h.lates.zeroed;
       },
       record { named = h.kinds.indexed; few_udps = h.few.udps; counts = h.kinds.counts; written = h.checks.written; apart = h.kinds.apart },
@@ -213,3 +214,7 @@ fit_of parts h i =
       };
       lates = record { lates = lates_were parts h.lates; zeroed = zeroes_were parts h.zeroed };
     }
+
+-- whether limits are short
+pub fits_by : (parts : Parts) (b : Bool) → PartsFit parts → (IsTrue b ↔ LimitsFit parts) → IsTrue b ↔ (IsClosed (circuit_seen parts) × AreIndexed parts)
+fits_by parts b h l = ((λ t. closed_of parts h (l.0 t)), (λ c. l.1 (record { short = c.0.short })))

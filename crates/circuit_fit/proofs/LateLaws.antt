@@ -1,5 +1,5 @@
 -- What is so of the delayed signals of the code's timing checks, said of the circuit that they stand for.
-use Rattle.std.specs.Prelude.{ℕ, ◌<◌, All, IfSome, List, [], None, length, map, slice_index_or}
+use Rattle.std.specs.Prelude.{ℕ, ◌<◌, All, List, [], None, length, map, slice_index_or}
 use Rattle.std.proofs.Common.{sym, ◌∙◌, ap, subst}
 use Rattle.std.proofs.lemmas.List.{length-map}
 use Rattle.std.proofs.lemmas.List.Elements.{All-weaker}
@@ -11,7 +11,7 @@ use Rattle.sg_circuit.specs.declared.elements.ElementKind.TheVariants as kind
 use Rattle.sg_circuit.specs.Circuit.{Element, Pass}
 use Rattle.sg_circuit.specs.Closed.{AreLatesOf, HasLates, IsLate, IsLateOf, IsZeroOf}
 use Rattle.sg_circuit.specs.Seen.{circuit_seen, element_seen, kind_seen}
-use Rattle.circuit_fit.specs.Fitting.{AreLatesAmong, IsLateAmong, IsLateKind, IsZeroAmong}
+use Rattle.circuit_fit.specs.Fitting.{AreLatesAmong, HasLatesAmong, IsLateAmong, IsLateKind, IsZeroAmong}
 use Rattle.circuit_fit.proofs.CheckLaws.{if_some}
 use Rattle.circuit_fit.proofs.MappedLaws.{mapped-at, at-mapped}
 
@@ -56,7 +56,6 @@ late_was parts net e h =
 
 both_are : (parts : Parts) (t : CheckTiming) (lates : List ℕ) → AreLatesAmong parts.elements.items t lates → AreLatesOf (circuit_seen parts) t lates
 both_are parts t lates h = record {
-  takes = h.takes;
   refer = late_is parts t.refer.net (slice_index_or lates 0 0) h.refer;
   datum = if_some t.datum (λ d. IsLateAmong parts.elements.items d.net (slice_index_or lates 1 0)) (λ d. IsLateOf (circuit_seen parts) d.net (slice_index_or lates 1 0))
       (λ d. late_is parts d.net (slice_index_or lates 1 0)) h.datum;
@@ -64,21 +63,24 @@ both_are parts t lates h = record {
 
 both_were : (parts : Parts) (t : CheckTiming) (lates : List ℕ) → AreLatesOf (circuit_seen parts) t lates → AreLatesAmong parts.elements.items t lates
 both_were parts t lates h = record {
-  takes = h.takes;
   refer = late_was parts t.refer.net (slice_index_or lates 0 0) h.refer;
   datum = if_some t.datum (λ d. IsLateOf (circuit_seen parts) d.net (slice_index_or lates 1 0)) (λ d. IsLateAmong parts.elements.items d.net (slice_index_or lates 1 0))
       (λ d. late_was parts d.net (slice_index_or lates 1 0)) h.datum;
 }
 
-pub lates_are : (parts : Parts) → All (λ t. IfSome t.late (λ lates. AreLatesAmong parts.elements.items t lates)) parts.check_timings.items → All (HasLates (circuit_seen parts)) parts.check_timings.items
-lates_are parts h =
-    All-weaker (λ (t : CheckTiming). IfSome t.late (λ lates. AreLatesAmong parts.elements.items t lates)) (HasLates (circuit_seen parts))
-    (λ t. if_some t.late (λ lates. AreLatesAmong parts.elements.items t lates) (λ lates. AreLatesOf (circuit_seen parts) t lates) (both_are parts t)) parts.check_timings.items h
+has_lates : (parts : Parts) (t : CheckTiming) → HasLatesAmong parts.elements.items t → HasLates (circuit_seen parts) t
+has_lates parts t h =
+    record { exact = h.exact; lates = if_some t.late (λ lates. AreLatesAmong parts.elements.items t lates) (λ lates. AreLatesOf (circuit_seen parts) t lates) (both_are parts t) h.lates }
 
-pub lates_were : (parts : Parts) → All (HasLates (circuit_seen parts)) parts.check_timings.items → All (λ t. IfSome t.late (λ lates. AreLatesAmong parts.elements.items t lates)) parts.check_timings.items
-lates_were parts h =
-    All-weaker (HasLates (circuit_seen parts)) (λ (t : CheckTiming). IfSome t.late (λ lates. AreLatesAmong parts.elements.items t lates))
-    (λ t. if_some t.late (λ lates. AreLatesOf (circuit_seen parts) t lates) (λ lates. AreLatesAmong parts.elements.items t lates) (both_were parts t)) parts.check_timings.items h
+had_lates : (parts : Parts) (t : CheckTiming) → HasLates (circuit_seen parts) t → HasLatesAmong parts.elements.items t
+had_lates parts t h =
+    record { exact = h.exact; lates = if_some t.late (λ lates. AreLatesOf (circuit_seen parts) t lates) (λ lates. AreLatesAmong parts.elements.items t lates) (both_were parts t) h.lates }
+
+pub lates_are : (parts : Parts) → All (HasLatesAmong parts.elements.items) parts.check_timings.items → All (HasLates (circuit_seen parts)) parts.check_timings.items
+lates_are parts h = All-weaker (HasLatesAmong parts.elements.items) (HasLates (circuit_seen parts)) (has_lates parts) parts.check_timings.items h
+
+pub lates_were : (parts : Parts) → All (HasLates (circuit_seen parts)) parts.check_timings.items → All (HasLatesAmong parts.elements.items) parts.check_timings.items
+lates_were parts h = All-weaker (HasLates (circuit_seen parts)) (HasLatesAmong parts.elements.items) (had_lates parts) parts.check_timings.items h
 
 pub zeroes_are : (parts : Parts) → All (IsZeroAmong parts.check_timings.items) parts.zeroed.items → All (IsZeroOf (circuit_seen parts)) parts.zeroed.items
 zeroes_are parts h =

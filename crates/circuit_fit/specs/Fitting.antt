@@ -1,5 +1,5 @@
 -- Words of the functions that look whether parts fit together: what is so of a closed circuit, said of the code's parts.
-use Rattle.std.specs.Prelude.{◌≡◌, ◌↔◌, ℕ, ◌<◌, ◌≤◌, ◌≤ℤ◌, ◌^◌, All, List, [], ◌∷◌, length, Option, Some, None, IfSome, IsSome, slice_index_or}
+use Rattle.std.specs.Prelude.{◌≡◌, ◌↔◌, ℕ, ◌<◌, ◌≤◌, ◌≤ℤ◌, ◌^◌, true, All, List, [], ◌∷◌, length, Option, Some, None, IfSome, IsSome, slice_index, slice_index_or}
 use Rattle.sg_circuit.specs.declared.nets.Net.{Net}
 use Rattle.sg_circuit.specs.declared.nets.Driver.TheVariants as driver
 use Rattle.sg_circuit.specs.declared.scopes.Scope.{Scope}
@@ -13,6 +13,7 @@ use Rattle.sg_circuit.specs.declared.elements.ElementKind.{ElementKind}
 use Rattle.sg_circuit.specs.declared.elements.ElementKind.TheVariants as kind
 use Rattle.sg_circuit.specs.declared.circuits.Parts.{Parts}
 use Rattle.sg_circuit.specs.Closed.{IfElement, TakesInputs, HasDelays, HasFewPaths, HasDatum, NamesNets, IsCheckTiming, TakesLates, width_of}
+use Rattle.sg_circuit.specs.Signals.{takes_lates, AreShort, IsShort}
 use Rattle.sg_circuit.specs.Seen.{kind_seen, paths_of, AreApart, IsIndexed}
 
 -- no list has too many parts
@@ -76,9 +77,13 @@ pub record IsLateAmong (elements : List Element) (net e : ℕ) : Type 0 where
 
 -- a check's two Lates, among the elements
 pub record AreLatesAmong (elements : List Element) (t : CheckTiming) (lates : List ℕ) : Type 0 where
-  pub takes : TakesLates t.kind
   pub refer : IsLateAmong elements t.refer.net (slice_index_or lates 0 0)
   pub datum : IfSome t.datum (λ d. IsLateAmong elements d.net (slice_index_or lates 1 0))
+
+-- exactly the kinds that take limits below 0 have them
+pub record HasLatesAmong (elements : List Element) (t : CheckTiming) : Type 0 where
+  pub exact : IsSome t.late ↔ TakesLates t.kind
+  pub lates : IfSome t.late (λ lates. AreLatesAmong elements t lates)
 
 -- a limit that is taken as 0
 pub record IsZeroAmong (timings : List CheckTiming) (z : Zero) : Type 0 where
@@ -87,7 +92,7 @@ pub record IsZeroAmong (timings : List CheckTiming) (z : Zero) : Type 0 where
   pub part : z.part < 2
 
 pub record LatesFit (parts : Parts) : Type 0 where
-  pub lates : All (λ t. IfSome t.late (λ lates. AreLatesAmong parts.elements.items t lates)) parts.check_timings.items
+  pub lates : All (HasLatesAmong parts.elements.items) parts.check_timings.items
   pub zeroed : All (IsZeroAmong parts.check_timings.items) parts.zeroed.items
 
 -- a net that the timing checks alone drive
@@ -103,7 +108,14 @@ pub record ChecksFit (parts : Parts) : Type 0 where
   pub notifiers : All (λ k. IfSome k.notifier (λ n. IsNotifierAmong parts.nets.items n)) parts.checks.items
   pub written : All (AreWritten (length parts.conditions.items)) parts.check_conditions.items
 
--- all of these
+-- limits that may lie below 0 add up to less than 2^60 ticks, where the scope of a number has so many signals
+pub record AreShortFor (checks : List Check) (timings : List CheckTiming) (counts : List ℕ) : Type 0 where
+  pub each : (k : ℕ) (d : Check) (e : CheckTiming) → k < length checks → takes_lates (slice_index_or timings k e).kind ≡ true → IsShort (slice_index counts (slice_index_or checks k d).scope) (slice_index_or timings k e)
+
+pub record LimitsFit (parts : Parts) : Type 0 where
+  pub short : (scope : ℕ) → AreShort parts.checks.items parts.check_timings.items scope
+
+-- all of these but the last
 pub record PartsFit (parts : Parts) : Type 0 where
   pub few : AreFew parts
   pub scopes : ScopesFit parts

@@ -1,26 +1,30 @@
 // Whether the parts of a circuit fit together.
-ghost use Rattle.std.specs.Prelude.{◌≡◌, ◌↔◌, ◌<◌, ◌≤◌, ◌≤ℤ◌, ◌^◌, ℕ, slice_index_or, All, IsTrue, IfSome, IsSome, length, take};
+ghost use Rattle.std.specs.Prelude.{◌≡◌, ◌↔◌, ◌<◌, ◌≤◌, ◌≤ℤ◌, ◌^◌, ℕ, slice_index_or, All, IsTrue, IfOk, IfSome, IsSome, length, take};
 ghost use Rattle.sg_logic.specs.Gate.{TakesInputs as GateTakes};
 ghost use Rattle.sg_circuit.specs.declared.nets.Driver.TheVariants as driver;
 ghost use Rattle.sg_circuit.specs.declared.scopes.Scope.{Scope as ScopeSeen};
 ghost use Rattle.sg_circuit.specs.declared.nets.Net.{Net as NetSeen};
 ghost use Rattle.sg_circuit.specs.declared.elements.Element.{Element as ElementSeen};
 ghost use Rattle.sg_circuit.specs.Closed.{IfElement, width_of, TakesInputs, HasDelays, HasFewPaths, HasDatum, AreGateDelays, NamesNets, IsClosed};
-ghost use Rattle.circuit_fit.specs.Fitting.{AreFew, DriversFit, KindsFit, NetsFit, PartsFit, ScopesFit, VariablesFit};
+ghost use Rattle.circuit_fit.specs.Fitting.{AreFew, DriversFit, KindsFit, LimitsFit, NetsFit, PartsFit, ScopesFit, VariablesFit};
 ghost use Rattle.sg_circuit.specs.Seen.{circuit_seen, kind_seen, gate_delays_seen, AreIndexed, IsIndexed};
 
 use crate::apart_fitting::are_apart;
 use crate::check_fitting::checks_fit;
 use crate::late_fitting::lates_fit;
+use crate::limit_fitting::are_short;
 use crate::path_fitting::{are_few_paths, are_indexed, path_delays_fit, path_nets_fit};
 use crate::timing_fitting::{are_few, timing_fits};
+use late_limits::signal_counts;
 use sg_circuit::{
     Check, CheckKind, Circuit, Driver, Element, ElementKind, Net, NetId, Parts, Scope, UdpUse,
     Variable,
 };
 use sg_delay::GateDelays;
 use sg_logic::GateKind;
+use sg_text::NoMemory;
 use sg_time::Unit;
+use std::alloc::Global;
 
 // Whether each net is of one of so many scopes.
 fn net_scopes(nets: &[Net], scopes: usize) -> bool
@@ -399,20 +403,31 @@ fn parts_fit(parts: &Parts) -> bool
         && lates_fit(parts)
 }
 
-/// Whether the parts fit together, so that `Circuit::close` takes them. It takes time in proportion to them.
-pub fn fit(parts: &Parts) -> bool
-    ensures { IsTrue result ↔ (IsClosed (circuit_seen parts.now) × AreIndexed parts.now) }
+fn limits_fit(alloc: Global, parts: &Parts) -> Result<bool, NoMemory>
+    requires { PartsFit parts.now }
+    ensures { IfOk result (λ fits. IsTrue fits ↔ LimitsFit parts.now) }
 {
-    parts_fit(parts)
+    let counts = signal_counts(alloc, parts)?;
+    Ok(are_short(&parts.checks, &parts.check_timings, &counts))
 }
 
-/// The circuit of these parts, or None where they don't fit together. It takes time in proportion to them.
-pub fn try_close(parts: Parts) -> Option<Circuit>
-    ensures fit { IsSome result ↔ (IsClosed (circuit_seen parts) × AreIndexed parts) }
-    ensures circuit { IfSome result (λ circuit. circuit ≡ circuit_seen parts) }
+/// Whether the parts fit together, so that `Circuit::close` takes them. It takes time in proportion to them, and memory to checks, scopes and nets.
+pub fn fit(alloc: Global, parts: &Parts) -> Result<bool, NoMemory>
+    ensures { IfOk result (λ fits. IsTrue fits ↔ (IsClosed (circuit_seen parts.now) × AreIndexed parts.now)) }
 {
-    if !fit(&parts) {
-        return None;
+    if !parts_fit(parts) {
+        return Ok(false);
     }
-    Some(Circuit::close(parts))
+    limits_fit(alloc, parts)
+}
+
+/// The circuit of these parts, or None where they don't fit together. It takes time in proportion to them, and memory to checks, scopes and nets.
+pub fn try_close(alloc: Global, parts: Parts) -> Result<Option<Circuit>, NoMemory>
+    ensures fit { IfOk result (λ circuit. IsSome circuit ↔ (IsClosed (circuit_seen parts) × AreIndexed parts)) }
+    ensures circuit { IfOk result (λ circuit. IfSome circuit (λ c. c ≡ circuit_seen parts)) }
+{
+    if !fit(alloc, &parts)? {
+        return Ok(None);
+    }
+    Ok(Some(Circuit::close(parts)))
 }

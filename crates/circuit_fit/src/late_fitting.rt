@@ -1,15 +1,9 @@
 // Whether the delayed signals of timing checks fit (IEEE 1364-2005, 15.8).
 ghost use Rattle.std.specs.Prelude.{◌≡◌, ◌↔◌, ◌<◌, ◌∷◌, [], All, IsTrue, IfSome, IsSome, length};
 ghost use Rattle.sg_circuit.specs.Closed.{TakesLates};
-ghost use Rattle.circuit_fit.specs.Fitting.{AreLatesAmong, IsCopyOf, IsLateAmong, IsLateKind, IsZeroAmong, LatesFit};
+ghost use Rattle.circuit_fit.specs.Fitting.{AreLatesAmong, HasLatesAmong, IsCopyOf, IsLateAmong, IsLateKind, IsZeroAmong, LatesFit};
 
 use sg_circuit::{CheckKind, CheckTiming, Element, ElementKind, Event, NetId, Parts, Zero};
-
-fn takes_lates(kind: CheckKind) -> bool
-    ensures { IsTrue result ↔ TakesLates kind }
-{
-    matches!(kind, CheckKind::Setuphold | CheckKind::Recrem)
-}
 
 fn is_late(kind: ElementKind) -> bool
     ensures { IsTrue result ↔ IsLateKind kind }
@@ -52,12 +46,11 @@ fn datum_is_late(elements: &[Element], datum: &Option<Event>, element: u32) -> b
 fn are_lates(elements: &[Element], timing: &CheckTiming, lates: &[u32; 2]) -> bool
     ensures { IsTrue result ↔ AreLatesAmong elements.now timing.now lates.now }
 {
-    takes_lates(timing.kind)
-        && is_late_of(elements, timing.refer.net, lates[0])
+    is_late_of(elements, timing.refer.net, lates[0])
         && datum_is_late(elements, &timing.datum, lates[1])
 }
 
-fn lates_of_check(elements: &[Element], timing: &CheckTiming) -> bool
+fn lates_fit_nets(elements: &[Element], timing: &CheckTiming) -> bool
     ensures { IsTrue result ↔ IfSome timing.now.late (λ lates. AreLatesAmong elements.now timing.now lates) }
 {
     match &timing.late {
@@ -66,8 +59,24 @@ fn lates_of_check(elements: &[Element], timing: &CheckTiming) -> bool
     }
 }
 
+// Whether exactly a check that takes limits below 0 has Lates.
+fn has_its_lates(timing: &CheckTiming) -> bool
+    ensures { IsTrue result ↔ (IsSome timing.now.late ↔ TakesLates timing.now.kind) }
+{
+    match timing.kind {
+        CheckKind::Setuphold | CheckKind::Recrem => timing.late.is_some(),
+        _ => timing.late.is_none(),
+    }
+}
+
+fn lates_of_check(elements: &[Element], timing: &CheckTiming) -> bool
+    ensures { IsTrue result ↔ HasLatesAmong elements.now timing.now }
+{
+    has_its_lates(timing) && lates_fit_nets(elements, timing)
+}
+
 fn lates_of_checks(elements: &[Element], timings: &[CheckTiming]) -> bool
-    ensures { IsTrue result ↔ All (λ t. IfSome t.late (λ lates. AreLatesAmong elements.now t lates)) timings.now }
+    ensures { IsTrue result ↔ All (HasLatesAmong elements.now) timings.now }
 {
     timings
         .iter()

@@ -105,7 +105,7 @@ fn readers(alloc: Global, circuit: &Circuit, net: u32) -> Result<Vec<u32>, NoMem
 
 #[test]
 fn parts_that_fit(rt: HostRuntime) -> Result<(), Fail> {
-    let circuit = try_close(nand(rt.alloc())?).ok_or("no fit")?;
+    let circuit = try_close(rt.alloc(), nand(rt.alloc())?)?.ok_or("no fit")?;
     assert_eq!(rt; circuit.parts().nets.len(), 2);
     assert_eq!(rt; circuit.parts().elements.len(), 1);
     assert_eq!(rt;
@@ -136,7 +136,7 @@ fn chain(alloc: Global) -> Result<Parts, NoMemory> {
 
 #[test]
 fn an_element_reads_a_net_once(rt: HostRuntime) -> Result<(), Fail> {
-    let circuit = try_close(chain(rt.alloc())?).ok_or("no fit")?;
+    let circuit = try_close(rt.alloc(), chain(rt.alloc())?)?.ok_or("no fit")?;
     assert_eq!(rt;
         readers(rt.alloc(), &circuit, 1)?.as_slice(),
         [1, 2].as_slice()
@@ -157,13 +157,13 @@ fn drivers_that_do_not_fit(rt: HostRuntime) -> Result<(), Fail> {
         constant: Some(Value::One),
     };
     two.elements.push(element(alloc, &[], 1, constant)?)?;
-    assert!(rt; !fit(&two));
+    assert!(rt; !fit(alloc, &two)?);
     let mut other = nand(alloc)?;
     other.nets.push(net(alloc, "z", Driver::Element(0))?)?;
-    assert!(rt; !fit(&other));
+    assert!(rt; !fit(alloc, &other)?);
     let mut far = nand(alloc)?;
     far.elements.push(element(alloc, &[], 2, constant)?)?;
-    assert!(rt; !fit(&far));
+    assert!(rt; !fit(alloc, &far)?);
     Ok(())
 }
 
@@ -190,7 +190,11 @@ fn inputs_by_kind(rt: HostRuntime) -> Result<(), Fail> {
         (0, pass, false),
         (1, pass, true),
     ] {
-        assert_eq!(rt; fit(&with(alloc, &[0, 0][..count], kind)?), fits, "{count}");
+        assert_eq!(rt;
+            fit(alloc, &with(alloc, &[0, 0][..count], kind)?)?,
+            fits,
+            "{count}"
+        );
     }
     Ok(())
 }
@@ -224,7 +228,7 @@ fn paths_in_their_table(rt: HostRuntime) -> Result<(), Fail> {
             condition: PathCondition::Always,
             timing,
         })?;
-        assert_eq!(rt; fit(&parts), fits, "{end} {input} {timing}");
+        assert_eq!(rt; fit(alloc, &parts)?, fits, "{end} {input} {timing}");
     }
     Ok(())
 }
@@ -233,9 +237,9 @@ fn paths_in_their_table(rt: HostRuntime) -> Result<(), Fail> {
 fn timings_in_their_table(rt: HostRuntime) -> Result<(), Fail> {
     let alloc = rt.alloc();
     let mut parts = with(alloc, &[1], ElementKind::Leg { timing: 0 })?;
-    assert!(rt; !fit(&parts));
+    assert!(rt; !fit(alloc, &parts)?);
     parts.leg_timings.push(SEVEN)?;
-    assert!(rt; fit(&parts));
+    assert!(rt; fit(alloc, &parts)?);
     Ok(())
 }
 
@@ -249,7 +253,7 @@ fn delays_by_kind(rt: HostRuntime) -> Result<(), Fail> {
             count: 3,
             at: [1, 2, 3],
         })?;
-        assert_eq!(rt; fit(&parts), fits);
+        assert_eq!(rt; fit(alloc, &parts)?, fits);
     }
     Ok(())
 }
@@ -288,7 +292,11 @@ fn with_paths(alloc: Global, start: u32, end: u32) -> Result<Parts, NoMemory> {
 fn paths_apart(rt: HostRuntime) -> Result<(), Fail> {
     let alloc = rt.alloc();
     for (start, end, fits) in [(1, 2, true), (0, 1, false)] {
-        assert_eq!(rt; fit(&with_paths(alloc, start, end)?), fits, "{start}");
+        assert_eq!(rt;
+            fit(alloc, &with_paths(alloc, start, end)?)?,
+            fits,
+            "{start}"
+        );
     }
     Ok(())
 }
@@ -297,7 +305,7 @@ fn paths_apart(rt: HostRuntime) -> Result<(), Fail> {
 fn no_scope_is_finer_than_the_tick(rt: HostRuntime) -> Result<(), Fail> {
     let mut parts = nand(rt.alloc())?;
     parts.tick = Unit { power: -11 };
-    assert!(rt; !fit(&parts));
+    assert!(rt; !fit(rt.alloc(), &parts)?);
     Ok(())
 }
 
@@ -347,7 +355,7 @@ fn add_check(alloc: Global, kind: CheckKind, parts: &mut Parts) -> Result<(), No
 }
 
 // A setuphold check of nets 0 and 1, whose Lates are elements 1 and 2.
-fn add_setuphold(alloc: Global, parts: &mut Parts) -> Result<(), NoMemory> {
+fn add_setuphold(alloc: Global, setup: i64, parts: &mut Parts) -> Result<(), NoMemory> {
     parts.checks.push(Check {
         scope: 0,
         kind: CheckKind::Setuphold,
@@ -360,7 +368,7 @@ fn add_setuphold(alloc: Global, parts: &mut Parts) -> Result<(), NoMemory> {
         kind: CheckKind::Setuphold,
         refer: rises(0),
         datum: Some(rises(1)),
-        limits: [-2, 5],
+        limits: [setup, 5],
         threshold: 0,
         late: Some([1, 2]),
     })?;
@@ -373,19 +381,19 @@ fn checks_by_kind(rt: HostRuntime) -> Result<(), Fail> {
     for (kind, fits) in [(CheckKind::Width, true), (CheckKind::Setup, false)] {
         let mut parts = nand(alloc)?;
         add_check(alloc, kind, &mut parts)?;
-        assert_eq!(rt; fit(&parts), fits);
+        assert_eq!(rt; fit(alloc, &parts)?, fits);
     }
     Ok(())
 }
 
-// A setuphold check with a Late of each event. The first is a copy of this net, and the second limit of the check of this number is
-// taken as 0.
-fn with_lates(alloc: Global, first: u32, check: u32) -> Result<Parts, NoMemory> {
+// A setuphold check with this limit, and a Late of each event. The first is a copy of this net, and the second limit of the check of
+// this number is taken as 0.
+fn with_lates(alloc: Global, first: u32, setup: i64, check: u32) -> Result<Parts, NoMemory> {
     let mut parts = with(alloc, &[first], ElementKind::Late { delay: 2 })?;
     parts.nets.push(net(alloc, "w", Driver::Element(2))?)?;
     let second = element(alloc, &[1], 3, ElementKind::Late { delay: 0 })?;
     parts.elements.push(second)?;
-    add_setuphold(alloc, &mut parts)?;
+    add_setuphold(alloc, setup, &mut parts)?;
     parts.zeroed.push(Zero {
         check,
         part: 1,
@@ -394,15 +402,21 @@ fn with_lates(alloc: Global, first: u32, check: u32) -> Result<Parts, NoMemory> 
     Ok(parts)
 }
 
+// Thrice this, for two signals, is the greatest size below 2^60.
+const THIRD: i64 = 384_307_168_202_282_325;
+
 #[test]
 fn lates_of_their_nets(rt: HostRuntime) -> Result<(), Fail> {
     let alloc = rt.alloc();
-    for (first, check, fits) in [(0, 0, true), (1, 0, false), (0, 1, false)] {
-        assert_eq!(rt;
-            fit(&with_lates(alloc, first, check)?),
-            fits,
-            "{first} {check}"
-        );
+    for (first, setup, check, fits) in [
+        (0, -2, 0, true),
+        (1, -2, 0, false),
+        (0, -2, 1, false),
+        (0, -THIRD, 0, true),
+        (0, -THIRD - 1, 0, false),
+    ] {
+        let parts = with_lates(alloc, first, setup, check)?;
+        assert_eq!(rt; fit(alloc, &parts)?, fits, "{first} {setup} {check}");
     }
     Ok(())
 }
@@ -421,7 +435,7 @@ fn variables_by_range(rt: HostRuntime) -> Result<(), Fail> {
         let mut scope = scope;
         scope.variables.push(bus)?;
         parts.scopes.push(scope)?;
-        assert_eq!(rt; fit(&parts), fits, "{left}");
+        assert_eq!(rt; fit(alloc, &parts)?, fits, "{left}");
     }
     Ok(())
 }

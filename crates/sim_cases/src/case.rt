@@ -179,7 +179,7 @@ impl Case<'_> {
         requires parts { blank.parts ≡ L.parts }
         requires some { 0 < blank.parts }
     {
-        let circuit = try_close(self.parts(alloc)?).context("no circuit")?;
+        let circuit = try_close(alloc, self.parts(alloc)?)?.context("no circuit")?;
         let stimulus = self.stimulus(alloc)?;
         if !stimulus.fits(&circuit) {
             anyhow::bail!("no stimulus of the circuit");

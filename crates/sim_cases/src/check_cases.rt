@@ -5,6 +5,7 @@ use crate::checks::{CheckFrom, EventFrom, Under};
 use sg_circuit::CheckKind::{
     self, Hold, Period, Recovery, Recrem, Removal, Setup, Setuphold, Skew, Width,
 };
+use sg_circuit::ElementKind;
 use sg_logic::Value::{self, One, X, Zero};
 use sg_logic::{Edge, GateKind, NEGEDGE, POSEDGE};
 use std::alloc::Global;
@@ -41,6 +42,7 @@ const fn between(kind: CheckKind, refer: EventFrom, datum: EventFrom, limit: i64
         datum: Some(datum),
         limits: [limit, 0],
         threshold: 0,
+        late: None,
         notifier: None,
     }
 }
@@ -61,7 +63,16 @@ const fn alone(kind: CheckKind, refer: EventFrom, limit: i64, threshold: u64) ->
         datum: None,
         limits: [limit, 0],
         threshold,
+        late: None,
         notifier: None,
+    }
+}
+
+// The elements of these numbers are Lates of its signals.
+const fn seeing(late: [u32; 2], check: CheckFrom) -> CheckFrom {
+    CheckFrom {
+        late: Some(late),
+        ..check
     }
 }
 
@@ -158,39 +169,41 @@ fn hold(alloc: Global, out: &mut String) -> anyhow::Result<()> {
 // Two parts each: setup 10 and hold 3, and recovery 3 and removal 10. At 100 the data is 10 before, outside; at 200 it is 9 before;
 // at 302 it is 2 behind the rise of 300, and at 403 3 behind that of 400, outside. At 500 the rise has data 9 before it and in its
 // own snapshot: both parts are violated at once, the first before the second. The notifier of the first check goes from x to 0
-// at 200, to 1 at 302, and once, to 0, at 500.
+// at 200, to 1 at 302, and once, to 0, at 500. The checks see their signals through two Lates without delay: both are evaluated in the
+// first round of time 0, and one for each of the 9 changes of the clock and the 6 of the data behind it: 17.
 fn both_parts(alloc: Global, out: &mut String) -> anyhow::Result<()> {
-    let checks = [
-        telling(2, of_data(Setuphold, 10, 3)),
-        of_data(Recrem, 3, 10),
-    ];
-    let sets: [(u64, &[Value]); 15] = [
-        (0, &[Zero, Zero]),
-        (90, &[Zero, One]),
-        (100, &[One, One]),
-        (150, &[Zero, One]),
-        (191, &[Zero, Zero]),
-        (200, &[One, Zero]),
-        (250, &[Zero, Zero]),
-        (300, &[One, Zero]),
-        (302, &[One, One]),
-        (350, &[Zero, One]),
-        (400, &[One, One]),
-        (403, &[One, Zero]),
-        (450, &[Zero, Zero]),
-        (491, &[Zero, One]),
-        (500, &[One, Zero]),
-    ];
-    show(
-        alloc,
-        out,
-        "setuphold 10 and 3, recrem 3 and 10",
-        &["c", "d", "n"],
-        2,
-        &checks,
-        &sets,
-        550,
-    )
+    let late = ElementKind::Late { delay: 0 };
+    let case = Case {
+        title: "setuphold 10 and 3, recrem 3 and 10",
+        names: &["c", "d", "late_c", "late_d", "n"],
+        inputs: 2,
+        elements: &[(late, &[0]), (late, &[1])],
+        timings: &[],
+        paths: &[],
+        checks: &[
+            telling(4, seeing([0, 1], of_data(Setuphold, 10, 3))),
+            seeing([0, 1], of_data(Recrem, 3, 10)),
+        ],
+        sets: &[
+            (0, &[Zero, Zero]),
+            (90, &[Zero, One]),
+            (100, &[One, One]),
+            (150, &[Zero, One]),
+            (191, &[Zero, Zero]),
+            (200, &[One, Zero]),
+            (250, &[Zero, Zero]),
+            (300, &[One, Zero]),
+            (302, &[One, One]),
+            (350, &[Zero, One]),
+            (400, &[One, One]),
+            (403, &[One, Zero]),
+            (450, &[Zero, Zero]),
+            (491, &[Zero, One]),
+            (500, &[One, Zero]),
+        ],
+        end: 550,
+    };
+    case.show(alloc, out)
 }
 
 // The clock is up for 1, 4, 5, 9 and 10: 10 is outside, and with a threshold of 4 so are 1 and 4. It is down for 99, 96, 95 and 91,

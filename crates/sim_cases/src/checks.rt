@@ -31,6 +31,8 @@ pub struct CheckFrom {
     pub datum: Option<EventFrom>,
     pub limits: [i64; 2],
     pub threshold: u64,
+    /// The numbers of the elements by which it sees its signals.
+    pub late: Option<[u32; 2]>,
     pub notifier: Option<u32>,
 }
 
@@ -154,7 +156,7 @@ impl Checks {
             datum: event,
             limits: from.limits,
             threshold: from.threshold,
-            late: None,
+            late: from.late,
         })?;
         self.written.push(CheckConditions {
             refer: refer.written,
