@@ -20,7 +20,7 @@ pub struct LateDelay {
     pub delay: u64,
 }
 
-/// What the signals of a circuit come to: the delays of its Lates, in order of the elements, and the limits that are taken as 0.
+/// What the signals of a circuit come to: the delays of its Lates, and the limits that are taken as 0, both scope by scope.
 #[derive(Debug, Drop)]
 pub struct Adjustment {
     pub delays: Vec<LateDelay>,
