@@ -9,7 +9,7 @@ use Rattle.elab_model.specs.declared.kinds.ElabKind.TheVariants.{SpecifyInHierar
 use Rattle.elab_model.specs.Definitions.{module_of}
 use Rattle.elab_model.specs.Faults.{fault, RefusesOneOf}
 use Rattle.elab_model.specs.Hierarchy.{Child, child_of, child_of_member, children_in, is_empty}
-use Rattle.elab_model.specs.Members.{Member, assignment, supply, gate, instance, path, members}
+use Rattle.elab_model.specs.Members.{Member, assignment, supply, gate, instance, path, check, members}
 use Rattle.specify_model.specs.Blocks.{block_of}
 use Rattle.specify_model.specs.Faults.{blocks_in_hierarchy}
 use Rattle.elab_declared.specs.Words.{first_of}
@@ -29,6 +29,7 @@ any-number source k (assignment j) = refl
 any-number source k (supply n v) = refl
 any-number source k (gate g d i) = refl
 any-number source k (path p) = refl
+any-number source k (check c) = refl
 any-number source k (instance n d i) = child-numbered (module_of source n.text) k i ∙ sym (child-numbered (module_of source n.text) 0 i)
 
 -- there is one, or the module has no child

@@ -7,7 +7,7 @@ use Rattle.vl_tree.specs.Tree.{Source}
 use Rattle.elab_model.specs.Elements.{Component}
 use Rattle.elab_model.specs.Ends.{path_ends, inner_spot}
 use Rattle.elab_model.specs.Hierarchy.{Instance}
-use Rattle.elab_model.specs.Homes.{Spot, bit, outside, terminal, inner, is_same_spot}
+use Rattle.elab_model.specs.Homes.{Spot, bit, outside, terminal, inner, late, is_same_spot}
 use Rattle.elab_model.specs.Nets.{OwnNet}
 use Rattle.elab_model.specs.Terms.{is_same_bit}
 use Rattle.specify_model.specs.Faults.{specify_faults}
@@ -28,6 +28,7 @@ IsInnerOf k (bit s n p) = ⊥
 IsInnerOf k (outside s m n p) = ⊥
 IsInnerOf k (terminal s m i) = ⊥
 IsInnerOf k (inner s n p) = s ≡ k
+IsInnerOf k (late s n p) = ⊥
 
 abbrev pub AreOtherSpots : Spot → Spot → Type 0
 AreOtherSpots a b = is_same_spot a b ≡ false
@@ -51,9 +52,11 @@ other-instance k l e (inner s n p) (inner t m q) h g =
 other-instance k l e (inner s n p) (bit t m q) h g = absurd g
 other-instance k l e (inner s n p) (outside t j m q) h g = absurd g
 other-instance k l e (inner s n p) (terminal t j i) h g = absurd g
+other-instance k l e (inner s n p) (late t m q) h g = absurd g
 other-instance k l e (bit s n p) b h g = absurd h
 other-instance k l e (outside s j n p) b h g = absurd h
 other-instance k l e (terminal s j i) b h g = absurd h
+other-instance k l e (late s n p) b h g = absurd h
 
 pub inners-apart : (ss : List Instance) (n : ℕ) → map (λ s. s.step.number) ss ≡ range_with_len 0 n → Pairwise AreOtherSpots (flat_map inner_spots ss)
 inners-apart ss n h =

@@ -12,12 +12,13 @@ use Rattle.elab_model.specs.Definitions.{definition_of}
 use Rattle.elab_model.specs.Delays.{delays_of}
 use Rattle.elab_model.specs.Elements.{Component, expression_bits, bound_above, leg_source, leg_at, variable_legs, legs, pass_to, passes, constant_pass}
 use Rattle.elab_model.specs.Elements.{output_count, input_spot, output_element, terminal_elements, output_bits, input_bits, port_spot, port_elements, child_elements, child_at}
-use Rattle.elab_model.specs.Elements.{path_kind, path_at, instance_elements, member_elements, elements_of}
+use Rattle.elab_model.specs.Elements.{path_kind, path_at, late_at, instance_elements, member_elements, elements_of}
 use Rattle.elab_model.specs.Ends.{first_ends, path_ends, inner_spot}
 use Rattle.elab_model.specs.Hierarchy.{Step, Instance, is_leaf}
-use Rattle.elab_model.specs.Homes.{Spot, bit, outside, terminal, inner, same_above, home, is_input}
+use Rattle.elab_model.specs.Homes.{Spot, bit, outside, terminal, inner, late, same_above, home, is_input}
+use Rattle.elab_model.specs.Lates.{DelayedCopy, own_copies}
 use Rattle.elab_model.specs.Leaves.{whole}
-use Rattle.elab_model.specs.Members.{Member, assignment, supply, gate, instance, path, members, connection_values}
+use Rattle.elab_model.specs.Members.{Member, assignment, supply, gate, instance, path, check, members, connection_values}
 use Rattle.elab_model.specs.Names.{Variable, variables}
 use Rattle.elab_model.specs.Ports.{port_list}
 use Rattle.elab_model.specs.Terms.{NetBit}
@@ -29,6 +30,7 @@ IsNoInner (bit s n p) = Unit {0}
 IsNoInner (outside s k n p) = Unit {0}
 IsNoInner (terminal s k i) = Unit {0}
 IsNoInner (inner s n p) = ⊥
+IsNoInner (late s n p) = Unit {0}
 
 abbrev pub IsNoPath : Kind → Type 0
 IsNoPath (Gate g ds) = Unit {0}
@@ -135,6 +137,13 @@ module _ (source : Source) (s : Instance) where
       let es = connection_values i.connections in
       terminals-plain i.place k _ (output_bits s 1 es) (input_bits s 1 es) tt
 
+  -- a Late reads a signal, whose net is never one that is driven inside
+  late-plain : (c : Place × DelayedCopy) → IsPlain (late_at source s c)
+  late-plain c = record { inputs = (home-outer source s.step s.above c.1.signal.name c.1.signal.position, tt); kind = tt }
+
+  lates-plain : (cs : List (Place × DelayedCopy)) → AllByRecursion IsPlain (map (late_at source s) cs)
+  lates-plain cs = all-map IsPlain (late_at source s) cs (all-anyway (λ c. IsPlain (late_at source s c)) cs late-plain)
+
   paths-read : (at : Place) (bs : List NetBit) → ReadInOrder (map (path_at source s at) bs) (map (inner_spot s) bs)
   paths-read at [] = refl
   paths-read at (b ∷ bs) = inr (inner_spot s b, map (inner_spot s) bs, refl, record { inputs = refl; kind = refl }, paths-read at bs)
@@ -154,6 +163,7 @@ module _ (source : Source) (s : Instance) where
   member-read corner tick (k, instance n d i) =
       read-plain (member_elements source corner tick s (k, instance n d i)) (instance-plain corner tick k d i (definition_of source n.text))
   member-read corner tick (k, path p) = paths-read p.place (first_ends s.step.definition (k, path p))
+  member-read corner tick (k, check c) = read-plain (map (late_at source s) (own_copies s.step.definition (k, check c))) (lates-plain (own_copies s.step.definition (k, check c)))
 
   pub elements-read : (corner : Corner) (tick : ℤ) → ReadInOrder (elements_of source corner tick s) (map (inner_spot s) (path_ends s.step.definition))
   elements-read corner tick =

@@ -21,3 +21,4 @@ pub mod InstanceUses
 pub mod OneByOne
 pub mod InstanceTurn
 pub mod WholeCircuit
+pub mod LatesSame
