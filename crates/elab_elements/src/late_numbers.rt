@@ -8,12 +8,7 @@ use sg_text::NoMemory;
 use std::alloc::Global;
 
 // Adds the number of an element under its scope, if it is a Late of one of so many.
-fn add_pin(
-    pins: &mut Vec<Pin>,
-    scopes: u32,
-    number: u32,
-    element: &Element,
-) -> Result<(), NoMemory>
+fn add_pin(pins: &mut Vec<Pin>, scopes: u32, number: u32, element: &Element) -> Result<(), NoMemory>
     ensures { OnOk result (pins.new.items ≡ pins.old.items ++ late_pin scopes (number, element.now)) }
 {
     if element.scope >= scopes {
