@@ -70,6 +70,7 @@ fn names_module(definitions: &Definitions, member: &Member) -> bool
         Member::Supply { .. } => false,
         Member::Gate { .. } => false,
         Member::Path(_) => false,
+        Member::Check(_) => false,
     }
 }
 

@@ -1,7 +1,7 @@
 -- Small cases, worked.
 use Rattle.std.proofs.Common.{◌≡◌, [], ◌∷◌, refl}
 use Rattle.std.specs.Prelude.{codes}
-use Rattle.elab_model.specs.declared.kinds.ElabKind.TheVariants.{Udp, NoTop, NegativeLimit}
+use Rattle.elab_model.specs.declared.kinds.ElabKind.TheVariants.{Udp, NoTop, BadDelay}
 use Rattle.udp_rows.specs.declared.faults.UdpKind.TheVariants.{TwoEdges}
 use Rattle.vl_lex.specs.declared.faults.LexKind.TheVariants.{BadByte}
 use Rattle.vl_specify.specs.declared.faults.SpecifyKind.TheVariants.{BadDelayCount}
@@ -21,7 +21,7 @@ a_word = refl
 pub a_block : kind_text (of_block BadDelayCount) ≡ codes "Specify BadDelayCount"
 a_block = refl
 
-pub a_limit : kind_text (of_meaning NegativeLimit) ≡ codes "NegativeLimit"
+pub a_limit : kind_text (of_meaning BadDelay) ≡ codes "BadDelay"
 a_limit = refl
 
 pub a_meaning : kind_text (of_meaning NoTop) ≡ codes "NoTop"

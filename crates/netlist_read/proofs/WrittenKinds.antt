@@ -20,7 +20,6 @@ meaning_written elab.BadTerminal = refl
 meaning_written elab.TooDeep = refl
 meaning_written elab.TooMany = refl
 meaning_written elab.BadDelay = refl
-meaning_written elab.NegativeLimit = refl
 meaning_written (elab.Udp kind) = refl
 
 pub written : (k : Kind) → head k ++ tail k ≡ kind_text k

@@ -68,7 +68,6 @@ meaning_name elab.BadTerminal = codes "BadTerminal"
 meaning_name elab.TooDeep = codes "TooDeep"
 meaning_name elab.TooMany = codes "TooMany"
 meaning_name elab.BadDelay = codes "BadDelay"
-meaning_name elab.NegativeLimit = codes "NegativeLimit"
 meaning_name (elab.Udp kind) = codes "Udp " ++ table_name kind
 
 -- a word that isn't supported stands behind the kind, and so does what is wrong with a specify block

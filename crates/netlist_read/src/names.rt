@@ -64,7 +64,6 @@ pub fn meaning_head(kind: ElabKind) -> &'static str
         ElabKind::TooDeep => "TooDeep",
         ElabKind::TooMany => "TooMany",
         ElabKind::BadDelay => "BadDelay",
-        ElabKind::NegativeLimit => "NegativeLimit",
         ElabKind::Udp(_) => "Udp ",
     }
 }

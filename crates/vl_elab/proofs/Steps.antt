@@ -87,31 +87,33 @@ module _ (source : Source) (top : Module) (corner : Corner) (tick : unit.Unit) (
   }
 
   -- when the checks of modules stand ready
-  pub checks-given : (conditions : List Condition) (modules : ReadyChecks) → HaveChecks source top corner conditions modules → standing.AreGiven source top corner ready modules conditions placed numbers
-  checks-given conditions modules have = record { are_placed = h.below.are_placed; few = h.below.few; is_ready = h.is_ready; have_rows = h.have_rows; have_checks = have }
+  pub checks-given : (conditions : List Condition) (modules : ReadyChecks) (lates : List (List ℕ)) → HaveChecks source top corner conditions modules → standing.HaveLates source top corner lates → standing.AreGiven source top corner ready modules conditions placed numbers lates
+  checks-given conditions modules lates have late = record { are_placed = h.below.are_placed; few = h.below.few; is_ready = h.is_ready; have_rows = h.have_rows; have_checks = have; have_lates = late }
 
 -- the elements, when their paths have been put in
 pub elements-of : (source : Source) (top : Module) (corner : Corner) (ready : Library) (modules : ModulePaths) (legs : LegTiming) (made : ElementTables) → made.timings.items ≡ modules.timings.items
     → made.conditions.items ≡ modules.conditions.items → HavePaths source top corner legs modules → HaveAllPaths source top corner ready modules made.paths.items made.placing
-    → HaveElements source top corner ready made
-elements-of source top corner ready modules legs made e f paths have = record {
+    → standing.HaveLates source top corner made.lates → HaveElements source top corner ready made
+elements-of source top corner ready modules legs made e f paths have late = record {
   modules = modules;
   have_paths = have;
   timings_are = e;
   conditions_grow = ([], f ∙ sym (append-nil modules.conditions.items));
+  lates = late;
   faultless = paths.faultless;
 }
 
 -- more conditions come behind
-pub elements-grow : (source : Source) (top : Module) (corner : Corner) (ready : Library) (old new : ElementTables) → new.placing ≡ old.placing → new.timings ≡ old.timings → new.paths ≡ old.paths
+pub elements-grow : (source : Source) (top : Module) (corner : Corner) (ready : Library) (old new : ElementTables) → new.placing ≡ old.placing → new.timings ≡ old.timings → new.paths ≡ old.paths → new.lates ≡ old.lates
     → ListGrows old.conditions.items new.conditions.items → HaveElements source top corner ready old → HaveElements source top corner ready new
-elements-grow source top corner ready old new e f g grow h =
+elements-grow source top corner ready old new e f g l grow h =
     let first = h.conditions_grow in
     record {
       modules = h.modules;
       have_paths = subst (λ p. HaveAllPaths source top corner ready h.modules new.paths.items p) (sym e) (subst (λ p. HaveAllPaths source top corner ready h.modules p.items old.placing) (sym g) h.have_paths);
       timings_are = ap (λ t. t.items) f ∙ h.timings_are;
       conditions_grow = (first.0 ++ grow.0, grow.1 ∙ ap (λ cs. cs ++ grow.0) first.1 ∙ append_assoc h.modules.conditions.items first.0 grow.0);
+      lates = subst (standing.HaveLates source top corner) (sym l) h.lates;
       faultless = h.faultless;
     }
 

@@ -1,6 +1,7 @@
 -- What elaboration below a top answers.
 use Rattle.std.specs.Prelude.{◌≡◌, ◌⊎◌, [], Ok}
 use Rattle.std.specs.List.{IsAmong}
+use Rattle.late_limits.specs.Adjusted.{IsAdjustedFrom}
 use Rattle.sg_circuit.specs.Circuit.{Circuit}
 use Rattle.sg_delay.specs.declared.corners.Corner.{Corner}
 use Rattle.sg_text.specs.declared.places.Place.{Place}
@@ -15,11 +16,11 @@ use Rattle.circuit_model.specs.Faults.{faults_below}
 use Rattle.elab_model.specs.PrimitiveFaults.{primitives, TableFault}
 use Rattle.elab_modules.specs.Reached.{IsOfReached}
 
--- there is no fault below the top, and it is the circuit
+-- there is no fault below the top, and it is the circuit, adjusted
 pub record IsBelow (source : Source) (top : Module) (corner : Corner) (made : Circuit) : Type 0 where
   pub faultless : faults_below source top corner ≡ []
   pub tables : (p : Primitive) (kind : UdpKind) (place : Place) → IsAmong (primitives source (Ok top)) p → ¬ TableFault p kind place
-  pub is_circuit : made ≡ circuit source top corner
+  pub is_circuit : IsAdjustedFrom (circuit source top corner) made
 
 -- one of the faults below the top is told, or one of a table, or there was no memory
 abbrev pub RefusesBelow : Source → Module → Corner → Refused ElabKind → Type 0

@@ -28,6 +28,7 @@ use Rattle.elab_elements.specs.declared.placing.Placing.{Placing}
 use Rattle.elab_paths.specs.AllPaths.{HaveAllPaths}
 use Rattle.elab_paths.specs.Shelving.{ListGrows}
 use Rattle.elab_paths.specs.declared.modules.ModulePaths.{ModulePaths}
+use Rattle.elab_checks.specs.Standing.{HaveLates}
 use Rattle.elab_checks.specs.Uses.{AreUses}
 use Rattle.elab_checks.specs.declared.uses.CheckTables.{CheckTables}
 use Rattle.vl_elab.specs.declared.elements.ElementTables.{ElementTables}
@@ -45,12 +46,13 @@ pub record HaveNets (source : Source) (top : Module) (corner : Corner) (tick : u
   pub is_ready : IsLibrary source corner top ready
   pub have_rows : HaveRows source top numbers
 
--- the elements with their paths; other conditions may come behind those of paths
+-- the elements with their paths, and which of them are the Lates of each instance; other conditions may come behind those of paths
 pub record HaveElements (source : Source) (top : Module) (corner : Corner) (ready : Library) (made : ElementTables) : Type 0 where
   pub modules : ModulePaths
   pub have_paths : HaveAllPaths source top corner ready modules made.paths.items made.placing
   pub timings_are : made.timings.items ≡ modules.timings.items
   pub conditions_grow : ListGrows modules.conditions.items made.conditions.items
+  pub lates : HaveLates source top corner made.lates
   pub faultless : path_faults source top corner ≡ []
 
 -- the instances, what they are of, their nets, and what each element drives

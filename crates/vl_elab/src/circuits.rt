@@ -9,6 +9,7 @@ ghost use Rattle.elab_hierarchy.specs.Tops.{StandsAt};
 ghost use Rattle.vl_elab.specs.Below.{IsBelow, RefusesBelow};
 ghost use Rattle.vl_elab.specs.Made.{AreBelow, IsWhole};
 
+use crate::adjusting::adjusted;
 use crate::checks::checks_below;
 use crate::driving::{drive, drivers_in};
 use crate::elements::{ElementTables, elements_below};
@@ -26,7 +27,7 @@ use std::alloc::Global;
 use vl_tree::Source;
 
 /// The circuit of a netlist below a top: the module of that name, or else the only one that is no cell and of which no module has an instance (IEEE 1364-2005, clauses 6 to 8,
-/// 12, 14 and 15). Delays are those of a corner. Refuses a netlist with a fault that `ElabKind` names, at the node that has it; of several faults any one is answered. Takes memory in
+/// 12, 14 and 15). Delays are those of a corner, and of signals that timing checks see delayed the least by which limits below 0 are met (15.8). Refuses a netlist with a fault that `ElabKind` names, at the node that has it; of several faults any one is answered. Takes memory in
 /// proportion to the netlist and to its circuit.
 pub fn elaborate(
     alloc: Global,
@@ -80,6 +81,7 @@ fn circuit_of<'t, 'a>(
         &library,
         instances,
         &rows,
+        &made.lates,
         &mut made.conditions,
     )?;
     let drivers = drivers_in(
@@ -92,10 +94,10 @@ fn circuit_of<'t, 'a>(
     )?;
     let scopes = scopes_of(alloc, definitions, &library, instances, &rows)?;
     let circuit = close(alloc, tick, library, rows, made, &drivers, checks, scopes);
-    Ok(circuit)
+    Ok(adjusted(alloc, circuit)?)
 }
 
-// The circuit of what has been made. No limit is taken as 0, since no signal is delayed.
+// The circuit of what has been made, before signals have their delays: so far no limit is taken as 0.
 fn close(
     alloc: Global,
     tick: Unit,

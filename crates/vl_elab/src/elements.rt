@@ -7,13 +7,13 @@ ghost use Rattle.vl_elab.specs.Below.{RefusesBelow};
 ghost use Rattle.vl_elab.specs.Made.{HaveElements, HaveNets, none_of_twelve};
 
 use cond_expr::Expr;
-use elab_elements::{Placing, elements_in};
+use elab_elements::{Placing, elements_in, lates_of};
 use elab_hierarchy::{Definitions, Placed};
 use elab_model::ElabKind;
 use elab_modules::Library;
 use elab_nets::Rows;
 use elab_paths::{add_paths, module_paths};
-use sg_circuit::{LegTiming, Path};
+use sg_circuit::{FanOut, LegTiming, Path};
 use sg_delay::{Corner, Delays12, Limit, Limits12};
 use sg_text::Refused;
 use sg_time::Unit;
@@ -26,6 +26,8 @@ pub struct ElementTables {
     pub timings: Vec<LegTiming>,
     pub conditions: Vec<Expr>,
     pub paths: Vec<Path>,
+    /// By instance, the numbers of the elements that delay signals for its timing checks (IEEE 1364-2005, 15.8).
+    pub lates: FanOut,
 }
 
 /// The elements of all instances, with their paths (IEEE 1364-2005, clauses 6 to 8 and 14). Refuses what `elements_in`, `module_paths` and `add_paths` do. Takes memory in proportion to the
@@ -45,6 +47,7 @@ pub fn elements_below(
     ensures refused { IfErr result (λ r. (m : Module) → HaveNets definitions.now m corner tick instances.now library.now rows.now → RefusesBelow definitions.now m corner r) }
 {
     let mut placing = elements_in(alloc, definitions, library, instances, rows)?;
+    let lates = lates_of(alloc, &placing.elements, instances.len() as u32)?;
     let modules = module_paths(
         alloc,
         corner,
@@ -60,6 +63,7 @@ pub fn elements_below(
         timings: modules.timings,
         conditions: modules.conditions,
         paths,
+        lates,
     })
 }
 

@@ -1,6 +1,7 @@
 //! `elaborate`: from the syntax tree of a netlist to its circuit.
 #![tactic(auto)]
 
+mod adjusting;
 mod checks;
 mod circuits;
 mod driving;

@@ -1,6 +1,7 @@
 -- Each step refuses a fault below the top, and what they make is the circuit.
 use Rattle.std.proofs.Common.{refl, sym, subst}
 use Rattle.std.proofs.lemmas.Result.{err_from_is_err_and}
+use Rattle.late_limits.specs.Adjusted.{IsAdjustedFrom}
 use Rattle.vl_elab.specs.Made.{AreDrivers}
 use Rattle.vl_elab.proofs.Below.{leaves, reached-refused, nets-refused, checks-refused, drivers-refused}
 use Rattle.vl_elab.proofs.Steps.{elements-grow, made-of, nets-of, whole-of}
@@ -52,7 +53,7 @@ checks_below-requires-clause-nets c =
     let ready = c.in_ok-library.ensures.library m b.are_placed b.tick_is in
     let rows = c.in_ok-rows.ensures.rows m c.args.corner b.are_placed ready b.shallow in
     let h = nets-of d m c.args.corner c.args.tick c.args.instances.now _ _ b ready rows in
-    (m, h)
+    (m, (h, (c.in_ok-made.ensures.elements m h).lates))
 
 pub checks_below-requires-clause-spelled : goal.checks_below-requires-clause-spelled
 checks_below-requires-clause-spelled c = c.in_ok-made.ensures.spelled
@@ -65,7 +66,7 @@ returns-in_err-checks-clause-refused c =
     let ready = c.in_ok-library.ensures.library m b.are_placed b.tick_is in
     let rows = c.in_ok-rows.ensures.rows m c.args.corner b.are_placed ready b.shallow in
     let h = nets-of d m c.args.corner c.args.tick c.args.instances.now _ _ b ready rows in
-    checks-refused d m c.args.corner c.in_err-checks.field-0.0 (c.in_err-checks.ensures.refused m h))
+    checks-refused d m c.args.corner c.in_err-checks.field-0.0 (c.in_err-checks.ensures.refused m h (c.in_ok-made.ensures.elements m h).lates))
 
 pub drivers_in-requires : goal.drivers_in-requires
 drivers_in-requires c =
@@ -100,9 +101,10 @@ close-circuit-requires c =
     let made = made-of d m c.args.corner c.args.tick c.args.instances.now _ _ h c.in_ok-made.made (c.in_ok-made.ensures.elements m h) in
     let drivers = subst (AreDrivers d m c.args.corner) (sym c.deref.ensures.value) (c.in_ok-drivers.ensures.drivers m c.args.corner made) in
     let scopes = c.in_ok-scopes.ensures m c.args.corner b.are_placed ready rows b.shallow in
-    let grown = elements-grow d m c.args.corner c.in_ok-library.library c.in_ok-made.made _ refl refl refl c.in_ok-checks.ensures.kept (c.in_ok-made.ensures.elements m h) in
-    let all = whole-of d m c.args.corner c.args.tick c.args.instances.now _ _ _ _ _ _ h grown (c.in_ok-checks.ensures.faultless m h) (c.in_ok-checks.ensures.uses m h)
-    c.in_ok-checks.ensures.few drivers scopes in
+    let lates = (c.in_ok-made.ensures.elements m h).lates in
+    let grown = elements-grow d m c.args.corner c.in_ok-library.library c.in_ok-made.made _ refl refl refl refl c.in_ok-checks.ensures.kept (c.in_ok-made.ensures.elements m h) in
+    let all = whole-of d m c.args.corner c.args.tick c.args.instances.now _ _ _ _ _ _ h grown (c.in_ok-checks.ensures.faultless m h lates)
+    (c.in_ok-checks.ensures.uses m h lates) c.in_ok-checks.ensures.few drivers scopes in
     (d, (m, (c.args.corner, all)))
 
 pub returns-clause-circuit : goal.returns-clause-circuit
@@ -114,7 +116,8 @@ returns-clause-circuit c m b =
     let made = made-of d m c.args.corner c.args.tick c.args.instances.now _ _ h c.in_ok-made.made (c.in_ok-made.ensures.elements m h) in
     let drivers = subst (AreDrivers d m c.args.corner) (sym c.deref.ensures.value) (c.in_ok-drivers.ensures.drivers m c.args.corner made) in
     let scopes = c.in_ok-scopes.ensures m c.args.corner b.are_placed ready rows b.shallow in
-    let grown = elements-grow d m c.args.corner c.in_ok-library.library c.in_ok-made.made _ refl refl refl c.in_ok-checks.ensures.kept (c.in_ok-made.ensures.elements m h) in
-    let all = whole-of d m c.args.corner c.args.tick c.args.instances.now _ _ _ _ _ _ h grown (c.in_ok-checks.ensures.faultless m h) (c.in_ok-checks.ensures.uses m h)
-    c.in_ok-checks.ensures.few drivers scopes in
-    record { faultless = all.faultless; tables = ready.tables; is_circuit = c.close-circuit.ensures d m c.args.corner all }
+    let lates = (c.in_ok-made.ensures.elements m h).lates in
+    let grown = elements-grow d m c.args.corner c.in_ok-library.library c.in_ok-made.made _ refl refl refl refl c.in_ok-checks.ensures.kept (c.in_ok-made.ensures.elements m h) in
+    let all = whole-of d m c.args.corner c.args.tick c.args.instances.now _ _ _ _ _ _ h grown (c.in_ok-checks.ensures.faultless m h lates)
+    (c.in_ok-checks.ensures.uses m h lates) c.in_ok-checks.ensures.few drivers scopes in
+    record { faultless = all.faultless; tables = ready.tables; is_circuit = subst (λ k. IsAdjustedFrom k c.in_ok-adjusted.field-0) (c.close-circuit.ensures d m c.args.corner all) c.in_ok-adjusted.ensures }
