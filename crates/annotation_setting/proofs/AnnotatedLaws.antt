@@ -1,27 +1,26 @@
 -- A circuit with the timings and limits after entries is the annotated one.
-use Rattle.std.specs.Prelude.{◌≡◌, ℕ, zero, suc, ◌+◌, ◌<◌, All, List, [], ◌∷◌, ◌++◌, length, map, take, drop, Option, Some, None, slice_index_or, refl, ℤ, min}
+use Rattle.std.specs.Prelude.{◌≡◌, ℕ, zero, suc, ◌+◌, ◌<◌, List, [], ◌∷◌, ◌++◌, length, map, drop, Option, Some, None, slice_index_or, refl, ℤ}
 use Rattle.std.specs.Global.{Box}
 use Rattle.std.specs.List.{flat_map}
-use Rattle.std.proofs.Common.{◌∙◌, ap, subst, arith}
-use Rattle.std.proofs.lemmas.List.{length-append, length-map, get_or_append_left, get_or-append-add, take_all}
+use Rattle.std.proofs.Common.{◌∙◌, ap, sym, subst, arith}
+use Rattle.std.proofs.lemmas.List.{length-append, length-map, get_or_append_left, get_or-append-add}
 use Rattle.sg_delay.specs.declared.corners.Corner.{Corner}
 use Rattle.sg_circuit.specs.Checks.{CheckConditions}
 use Rattle.sg_circuit.specs.Paths as specify
 use Rattle.sg_circuit.specs.Timings.{Timing}
 use Rattle.sg_circuit.specs.Circuit.{Circuit, Element, Kind, Gate, Udp, Pass, Leg, Path, Late}
-use Rattle.sg_circuit.specs.Closed.{IsClosed}
 use Rattle.sg_circuit.specs.declared.checks.Check.{Check}
 use Rattle.sg_circuit.specs.declared.checks.CheckTiming.{CheckTiming}
 use Rattle.sg_circuit.specs.declared.elements.LegTiming.{LegTiming}
+use Rattle.late_limits.specs.Adjustments as late
 use Rattle.circuit_open.proofs.ChangeLaws.{both}
 use Rattle.sdf_tree.specs.Meant.{Sdf}
 use Rattle.annotation_model.specs.Annotated.{annotated_by, annotated_check, annotated_element, annotated_kind, annotated_path}
 use Rattle.annotation_model.specs.Given.{Given}
 use Rattle.annotation_model.specs.Spots.{Checked, Spot, leg_spot, path_spot, all_checked, checked, limits_after, spot_after, spots, spots_in, spots_of, timings_of}
-use Rattle.annotation_setting.specs.Limits.{limited, with_all_limits, with_limits}
+use Rattle.annotation_setting.specs.Limits.{limited, with_all_limits}
 use Rattle.annotation_setting.specs.Table.{timings_or, timings_seen}
 use Rattle.annotation_setting.specs.Timings.{at, new_elements, new_kind, new_or, new_paths, with_timings}
-use Rattle.annotation_setting.proofs.PartLaws.{set-after}
 
 -- ---- timings
 
@@ -88,33 +87,22 @@ module _ (c : Circuit) (sdf : Sdf) (corner : Corner) (gs : List Given) where
 
   -- ---- limits
 
-  length-checked : (ks : List Check) (ts : List CheckTiming) (ws : List CheckConditions) → length ts ≡ length ks → length ws ≡ length ks → length (checked ks ts ws) ≡ length ts
-  length-checked [] [] ws n m = refl
-  length-checked [] (t ∷ ts) ws n m = absurd (omega arith)
-  length-checked (k ∷ ks) [] ws n m = absurd (omega arith)
-  length-checked (k ∷ ks) (t ∷ ts) [] n m = absurd (omega arith)
-  length-checked (k ∷ ks) (t ∷ ts) (w ∷ ws) n m = ap suc (length-checked ks ts ws (omega arith) (omega arith))
-
-  checks-annotated : (ks : List Check) (ts : List CheckTiming) (ws : List CheckConditions) → length ts ≡ length ks → length ws ≡ length ks → All (λ t. length t.limits ≡ 2) ts
-      → limited (map (limits_after c sdf corner gs) (checked ks ts ws)) ts ≡ map (annotated_check c sdf corner gs) (checked ks ts ws)
-  checks-annotated [] [] ws n m two = refl
-  checks-annotated [] (t ∷ ts) ws n m two = absurd (omega arith)
-  checks-annotated (k ∷ ks) [] ws n m two = absurd (omega arith)
-  checks-annotated (k ∷ ks) (t ∷ ts) [] n m two = absurd (omega arith)
-  checks-annotated (k ∷ ks) (t ∷ ts) (w ∷ ws) n m two =
-      let x : Checked = record { check = k; timing = t; written = w } in
-      both (with_limits (limits_after c sdf corner gs x) t) (annotated_check c sdf corner gs x) (limited (map (limits_after c sdf corner gs) (checked ks ts ws)) ts) (map (annotated_check c sdf corner gs) (checked ks ts ws))
-      (ap (λ (ls : List ℤ). record t { limits = ls }) (set-after c sdf corner gs x (two 0 t (omega arith)))) (checks-annotated ks ts ws (omega arith) (omega arith) (λ i d l. two (suc i) d (omega arith)))
+  checks-annotated : (ks : List Check) (ts : List CheckTiming) (ws : List CheckConditions) → length (checked ks ts ws) ≡ length ts
+      → late.with_limits ts (map (limits_after c sdf corner gs) (checked ks ts ws)) ≡ map (annotated_check c sdf corner gs) (checked ks ts ws)
+  checks-annotated [] [] ws n = refl
+  checks-annotated [] (t ∷ ts) ws n = absurd (omega arith)
+  checks-annotated (k ∷ ks) [] ws n = refl
+  checks-annotated (k ∷ ks) (t ∷ ts) [] n = absurd (omega arith)
+  checks-annotated (k ∷ ks) (t ∷ ts) (w ∷ ws) n =
+      let x : Checked = record { check = k; timing = t; written = w } in ap (λ us. annotated_check c sdf corner gs x ∷ us) (checks-annotated ks ts ws (omega arith))
 
   -- ---- both
 
-  pub all-annotated : (timings : List (Option (Box LegTiming))) (limits : List (List ℤ)) (n : ℕ) → IsClosed c → n ≡ min (length limits) (length c.check_timings) → All (λ t. length t.limits ≡ 2) (take n c.check_timings)
+  pub all-annotated : (timings : List (Option (Box LegTiming))) (limits : List (List ℤ)) → length limits ≡ length c.check_timings → limited limits c.check_timings ≡ late.with_limits c.check_timings limits
       → timings_seen (spots c) timings ≡ map (spot_after c sdf corner gs) (spots c) → limits ≡ map (limits_after c sdf corner gs) (all_checked c)
-      → with_all_limits (take n limits) (with_timings timings c) ≡ annotated_by c sdf corner gs
-  all-annotated timings limits n closed cut two times are =
-      let m : length (checked c.checks c.check_timings c.check_conditions) ≡ length c.check_timings = length-checked c.checks c.check_timings c.check_conditions closed.timing_of_each closed.conditions_of_each in
-      let k : length limits ≡ length c.check_timings = ap length are ∙ (length-map (all_checked c) (limits_after c sdf corner gs) ∙ m) in
-      let every : All (λ t. length t.limits ≡ 2) c.check_timings = subst (λ ts. All (λ t. length t.limits ≡ 2) ts) (take_all n c.check_timings (omega (arith, cut, k))) two in
-      ap (λ ls. with_all_limits ls (with_timings timings c)) (take_all n limits (omega (arith, cut, k)) ∙ are)
-      ∙ (ap (λ ts. record c { elements = new_elements (at timings) 0 c.elements; check_timings = ts }) (checks-annotated c.checks c.check_timings c.check_conditions closed.timing_of_each closed.conditions_of_each every)
-      ∙ ap (λ es. record c { elements = es; check_timings = map (annotated_check c sdf corner gs) (all_checked c) }) (elements-annotated (at timings) 0 c.elements (table-gives (spots c) timings (spot_after c sdf corner gs) times)))
+      → with_all_limits limits (with_timings timings c) ≡ annotated_by c sdf corner gs
+  all-annotated timings limits each set times are =
+      let n : length (all_checked c) ≡ length c.check_timings = sym (length-map (all_checked c) (limits_after c sdf corner gs)) ∙ (sym (ap length are) ∙ each) in
+      ap (λ ts. record c { elements = new_elements (at timings) 0 c.elements; check_timings = ts })
+      (set ∙ (ap (λ ls. late.with_limits c.check_timings ls) are ∙ checks-annotated c.checks c.check_timings c.check_conditions n))
+      ∙ ap (λ es. record c { elements = es; check_timings = map (annotated_check c sdf corner gs) (all_checked c) }) (elements-annotated (at timings) 0 c.elements (table-gives (spots c) timings (spot_after c sdf corner gs) times))

@@ -1,6 +1,7 @@
 -- The lemma files of this folder.
 mod AnnotatedLaws
 mod ElementLaws
+mod LikeLaws
 mod LimitLaws
 mod PartLaws
 mod SetLaws

@@ -1,14 +1,14 @@
 // The limits of timing checks, set in a circuit that is open.
-ghost use Rattle.std.specs.Prelude.{◌≡◌, ◌<◌, ◌≤◌, ◌^◌, All, IsTrue, length, slice_index_or, take};
+ghost use Rattle.std.specs.Prelude.{ℕ, ◌≡◌, ◌<◌, ◌^◌, [], All, IsTrue, length, slice_index_or};
+ghost use Rattle.sg_circuit.specs.Signals.{takes_lates};
 ghost use Rattle.sg_circuit.specs.declared.checks.CheckTiming.{CheckTiming as TimingSeen};
-ghost use Rattle.annotation_model.specs.Laws.{AreSmall};
-ghost use Rattle.annotation_setting.specs.Limits.{has_two as has_two_limits, with_all_limits, with_limits_at};
+ghost use Rattle.annotation_setting.specs.Limits.{with_all_limits, with_limits_at, AreSmallAt};
 
 use circuit_open::OpenCircuit;
 use sg_circuit::CheckKind;
 
 fn has_two(kind: CheckKind) -> bool
-    ensures { result ≡ has_two_limits kind }
+    ensures { result ≡ takes_lates kind }
 {
     matches!(kind, CheckKind::Setuphold | CheckKind::Recrem)
 }
@@ -22,7 +22,7 @@ fn are_same(one: &[i64; 2], other: &[i64; 2]) -> bool
 
 fn set_check(opened: &mut OpenCircuit, check: u32, limits: &[i64; 2])
     requires check { check < length opened.old.circuit.check_timings }
-    requires small { AreSmall limits.now }
+    requires small { AreSmallAt opened.old.circuit check limits.now }
     ensures { opened.new ≡ record { circuit = with_limits_at check limits.now opened.old.circuit; room = opened.old.room } }
 {
     let two = has_two(opened.parts().check_timings[check as usize].kind);
@@ -35,7 +35,7 @@ fn set_check(opened: &mut OpenCircuit, check: u32, limits: &[i64; 2])
 // The limits of a check, if they are others than it has.
 fn set_others(opened: &mut OpenCircuit, check: u32, limits: &[i64; 2])
     requires check { check < length opened.old.circuit.check_timings }
-    requires small { AreSmall limits.now }
+    requires small { AreSmallAt opened.old.circuit check limits.now }
     ensures set { opened.new ≡ record { circuit = with_limits_at check limits.now opened.old.circuit; room = opened.old.room } }
     ensures two { (d : TimingSeen) → length (slice_index_or opened.old.circuit.check_timings check d).limits ≡ 2 }
 {
@@ -45,13 +45,13 @@ fn set_others(opened: &mut OpenCircuit, check: u32, limits: &[i64; 2])
     set_check(opened, check, limits);
 }
 
-/// Sets the limits of the first timing checks.
+/// Sets the limits of all timing checks.
 pub fn set_limits(opened: &mut OpenCircuit, limits: &[[i64; 2]])
     requires few { length opened.old.circuit.check_timings < 2 ^ 31 }
-    requires within { length limits.now ≤ length opened.old.circuit.check_timings }
-    requires limits { All AreSmall limits.now }
+    requires each_check { length limits.now ≡ length opened.old.circuit.check_timings }
+    requires small { (check : ℕ) → check < length limits.now → AreSmallAt opened.old.circuit check (slice_index_or limits.now check []) }
     ensures set { opened.new.circuit ≡ with_all_limits limits.now opened.old.circuit }
-    ensures two { All (λ t. length t.limits ≡ 2) (take (length limits.now) opened.old.circuit.check_timings) }
+    ensures two { All (λ t. length t.limits ≡ 2) opened.old.circuit.check_timings }
 {
     for (check, new) in limits.iter().enumerate() {
         set_others(opened, check as u32, new);
