@@ -1,24 +1,21 @@
--- What annotation makes is within bounds.
-use Rattle.std.specs.Prelude.{◌≡◌, ℕ, ℤ, All, List, [], ◌∷◌, ◌++◌, length, map, None, Some, Option, IfSome}
+-- The timings that annotation makes are within bounds.
+use Rattle.std.specs.Prelude.{◌≡◌, ℕ, All, List, [], ◌∷◌, ◌++◌, length, map, None, Some, Option, IfSome}
 use Rattle.std.specs.List.{flat_map, AllByRecursion}
 use Rattle.std.specs.Global.{Box}
 use Rattle.std.proofs.Common.{ap, sym, subst, arith}
-use Rattle.std.proofs.lemmas.List.Elements.{All-from_recursion, All-map, recursion_from_All}
+use Rattle.std.proofs.lemmas.List.Elements.{All-from_recursion, recursion_from_All}
 use Rattle.sg_delay.specs.declared.corners.Corner.{Corner}
-use Rattle.sg_circuit.specs.Checks.{CheckConditions}
 use Rattle.sg_circuit.specs.Circuit.{Circuit, Element, Kind, Gate, Udp, Pass, Leg, Path, Late}
-use Rattle.sg_circuit.specs.Closed.{AreTimings, HasDelays, IsCheckTiming, IsClosed}
+use Rattle.sg_circuit.specs.Closed.{AreTimings, HasDelays, IsClosed}
 use Rattle.sg_circuit.specs.Paths as specify
 use Rattle.sg_circuit.specs.Timings.{Timing}
 use Rattle.sg_circuit.specs.TimingsSeen.{leg_timing_seen}
-use Rattle.sg_circuit.specs.declared.checks.Check.{Check}
-use Rattle.sg_circuit.specs.declared.checks.CheckTiming.{CheckTiming}
 use Rattle.sg_circuit.specs.declared.elements.LegTiming.{LegTiming}
 use Rattle.sdf_tree.specs.Meant.{Sdf}
 use Rattle.annotation_model.specs.Annotated.{too_large}
 use Rattle.annotation_model.specs.Given.{given}
-use Rattle.annotation_model.specs.Laws.{AreSmall, StayWithinBounds}
-use Rattle.annotation_model.specs.Spots.{Checked, Spot, all_checked, checked, limits_after, path_spot, spot_after, spots, spots_in, spots_of, timings_of}
+use Rattle.annotation_model.specs.Laws.{StayWithinBounds}
+use Rattle.annotation_model.specs.Spots.{Spot, path_spot, spot_after, spots, spots_in, spots_of, timings_of}
 use Rattle.annotation_model.proofs.KeptPlaces.{stay}
 use Rattle.annotation_setting.specs.Table.{timings_or, timings_seen}
 
@@ -46,12 +43,6 @@ kind-bounded s inputs output (Late t) h = tt
 spots-bounded : (es : List Element) → AllByRecursion (λ (e : Element). HasDelays e.kind) es → AllByRecursion IsBounded (flat_map spots_of es)
 spots-bounded [] h = tt
 spots-bounded (e ∷ es) h = both (spots_of e) (flat_map spots_of es) (kind-bounded e.scope e.inputs e.output e.kind h.0) (spots-bounded es h.1)
-
-checks-bounded : (n : ℕ) (ks : List Check) (ts : List CheckTiming) (ws : List CheckConditions) → AllByRecursion (IsCheckTiming n) ts → AllByRecursion (λ (k : Checked). AreSmall k.timing.limits) (checked ks ts ws)
-checks-bounded n [] ts ws h = tt
-checks-bounded n (k ∷ ks) [] ws h = tt
-checks-bounded n (k ∷ ks) (t ∷ ts) [] h = tt
-checks-bounded n (k ∷ ks) (t ∷ ts) (w ∷ ws) h = (h.0.limits, checks-bounded n ks ts ws h.1)
 
 -- ---- the tables
 
@@ -86,9 +77,3 @@ module _ (c : Circuit) (sdf : Sdf) (corner : Corner) (closed : IsClosed c) (fine
       All-from_recursion Fits ts (table-fits (spots c) ts (spot_after c sdf corner (given sdf)) l e
       (recursion_from_All (λ s. AreTimings (spot_after c sdf corner (given sdf) s)) (spots c)
       (bounds.spot (All-from_recursion IsBounded (spots c) (spots-bounded c.elements (recursion_from_All (λ (e : Element). HasDelays e.kind) c.elements closed.has_delays))))))
-
-  pub limits-fit : (limits : List (List ℤ)) → limits ≡ map (limits_after c sdf corner (given sdf)) (all_checked c) → All AreSmall limits
-  limits-fit limits e =
-      subst (λ (ls : List (List ℤ)). All AreSmall ls) (sym e) (All-map AreSmall (limits_after c sdf corner (given sdf)) (all_checked c)
-      (bounds.check (All-from_recursion (λ (k : Checked). AreSmall k.timing.limits) (all_checked c)
-      (checks-bounded (length c.nets) c.checks c.check_timings c.check_conditions (recursion_from_All (IsCheckTiming (length c.nets)) c.check_timings closed.check_timings)))))

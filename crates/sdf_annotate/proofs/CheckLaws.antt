@@ -6,6 +6,7 @@ use Rattle.sg_delay.specs.declared.corners.Corner.{Corner}
 use Rattle.sg_circuit.specs.Checks.{CheckConditions}
 use Rattle.sg_circuit.specs.Circuit.{Circuit}
 use Rattle.sg_circuit.specs.Closed.{IsClosed}
+use Rattle.sg_circuit.specs.Signals.{takes_lates}
 use Rattle.sg_circuit.specs.declared.checks.Check.{Check}
 use Rattle.sg_circuit.specs.declared.checks.CheckKind.{CheckKind}
 use Rattle.sg_circuit.specs.declared.checks.CheckTiming.{CheckTiming}
@@ -14,14 +15,14 @@ use Rattle.sdf_tree.specs.declared.tree.EntryKind as code_kind
 use Rattle.sdf_tree.specs.declared.tree.EntryKind.TheVariants as variant
 use Rattle.sdf_meaning.specs.MeantSeen.{view_kind}
 use Rattle.sdf_tree.specs.Meant.{CellCheck, EntryKind, Triple, Sdf, io_path, device, port_delay, interconnect, path_pulse, a_check, skipped_entry}
-use Rattle.annotation_model.specs.Applied.{Grid, are_limits_large, with_limits}
+use Rattle.annotation_model.specs.Applied.{Bounds, Grid, are_limits_large, with_limits}
 use Rattle.annotation_model.specs.Finding.{check_at, is_found_check, no_check}
 use Rattle.annotation_model.specs.Given.{Given}
 use Rattle.annotation_model.specs.Listed.{occurrences, IsListOf, written}
 use Rattle.annotation_model.specs.Matching.{fits_check, given_by, limits_for, none_given}
 use Rattle.annotation_model.specs.Passes.{meets_large}
 use Rattle.annotation_model.specs.Scopes.{is_of_cell}
-use Rattle.annotation_model.specs.Spots.{Checked, all_checked, checked, grid, is_for_check, is_given, is_limit_large_at, limits_with}
+use Rattle.annotation_model.specs.Spots.{Checked, all_checked, bounds, checked, grid, is_for_check, is_given, is_limit_large_at, limits_with, weight_of}
 use Rattle.annotation_model.proofs.AnyLaws.{counted}
 use Rattle.annotation_places.proofs.PlaceLaws.{length-checked}
 use Rattle.sdf_annotate.specs.Seen.{check_with, is_check_large}
@@ -52,8 +53,11 @@ module _ (c : Circuit) (closed : IsClosed c) where
   pub check-scope : (k : ℕ) (d : Check) → k < length c.checks → (check_at c k).check.scope ≡ (slice_index_or c.checks k d).scope
   check-scope k d l = ap (λ (x : Check). x.scope) (checked-at c.checks c.check_timings c.check_conditions k d no_check.timing closed.timing_of_each closed.conditions_of_each l).0
 
+  pub check-timing : (k : ℕ) (t : CheckTiming) → k < length c.checks → (check_at c k).timing ≡ slice_index_or c.check_timings k t
+  check-timing k t l = (checked-at c.checks c.check_timings c.check_conditions k no_check.check t closed.timing_of_each closed.conditions_of_each l).1
+
   pub check-kind : (k : ℕ) (t : CheckTiming) → k < length c.checks → (check_at c k).timing.kind ≡ (slice_index_or c.check_timings k t).kind
-  check-kind k t l = ap (λ (x : CheckTiming). x.kind) (checked-at c.checks c.check_timings c.check_conditions k no_check.check t closed.timing_of_each closed.conditions_of_each l).1
+  check-kind k t l = ap (λ (x : CheckTiming). x.kind) (check-timing k t l)
 
   pub check-limits : map (λ (t : CheckTiming). t.limits) c.check_timings ≡ map (λ (k : Checked). k.timing.limits) (all_checked c)
   check-limits = checked-limits c.checks c.check_timings c.check_conditions closed.timing_of_each closed.conditions_of_each
@@ -64,14 +68,17 @@ module _ (c : Circuit) (sdf : Sdf) (corner : Corner) (g : Given) (n : ℕ) where
   abbrev at_scope : Grid
   at_scope = grid c sdf corner (check_at c n).check.scope
 
+  abbrev at_bounds : Bounds
+  at_bounds = bounds c (check_at c n)
+
   abbrev given_kind : EntryKind → Option Triple × Option Triple
   given_kind kind = given_by c sdf.divider g kind (check_at c n).check.scope (check_at c n).timing (check_at c n).written
 
-  with-same : (kind : EntryKind) (limits : List ℤ) → is_given (given_kind kind) ≡ true → with_limits at_scope (given_kind kind) limits ≡ check_with c sdf corner kind n limits
+  with-same : (kind : EntryKind) (limits : List ℤ) → is_given (given_kind kind) ≡ true → with_limits at_bounds at_scope (given_kind kind) limits ≡ check_with c sdf corner kind n limits
   with-same (a_check check) limits e = by (is_of_cell c sdf.divider g.cell_type g.instance (check_at c n).check.scope && fits_check c sdf.divider check (check_at c n).check.scope (check_at c n).timing (check_at c n).written) e
     where
       by : (b : Bool) → is_given (if b then limits_for check (check_at c n).timing.kind else none_given) ≡ true
-          → with_limits at_scope (if b then limits_for check (check_at c n).timing.kind else none_given) limits ≡ with_limits at_scope (limits_for check (check_at c n).timing.kind) limits
+          → with_limits at_bounds at_scope (if b then limits_for check (check_at c n).timing.kind else none_given) limits ≡ with_limits at_bounds at_scope (limits_for check (check_at c n).timing.kind) limits
       by true e = refl
       by false e = absurd cc
   with-same (io_path p f t ds) limits e = absurd cc
@@ -81,11 +88,11 @@ module _ (c : Circuit) (sdf : Sdf) (corner : Corner) (g : Given) (n : ℕ) where
   with-same (path_pulse p o r x) limits e = absurd cc
   with-same (skipped_entry s) limits e = absurd cc
 
-  large-same : (kind : EntryKind) (limits : List ℤ) → is_given (given_kind kind) ≡ true → are_limits_large at_scope (given_kind kind) ≡ is_check_large c sdf corner kind n limits
+  large-same : (kind : EntryKind) (limits : List ℤ) → is_given (given_kind kind) ≡ true → are_limits_large at_bounds at_scope (given_kind kind) ≡ is_check_large c sdf corner kind n limits
   large-same (a_check check) limits e = by (is_of_cell c sdf.divider g.cell_type g.instance (check_at c n).check.scope && fits_check c sdf.divider check (check_at c n).check.scope (check_at c n).timing (check_at c n).written) e
     where
       by : (b : Bool) → is_given (if b then limits_for check (check_at c n).timing.kind else none_given) ≡ true
-          → are_limits_large at_scope (if b then limits_for check (check_at c n).timing.kind else none_given) ≡ are_limits_large at_scope (limits_for check (check_at c n).timing.kind)
+          → are_limits_large at_bounds at_scope (if b then limits_for check (check_at c n).timing.kind else none_given) ≡ are_limits_large at_bounds at_scope (limits_for check (check_at c n).timing.kind)
       by true e = refl
       by false e = absurd cc
   large-same (io_path p f t ds) limits e = absurd cc
@@ -113,19 +120,35 @@ module _ (c : Circuit) (sdf : Sdf) (corner : Corner) (g : Given) (ks : List ℕ)
 
 -- ---- what the code knows of a check by its number
 
-module _ (c : Circuit) (sdf : Sdf) (corner : Corner) (closed : IsClosed c) (n : ℕ) (l : n < length c.checks) (check : CellCheck) (gr : Grid) (kind : CheckKind) (k : Check) (t : CheckTiming) (limits : List ℤ)
-    (in_scope : gr ≡ grid c sdf corner k.scope) (of_kind : kind ≡ t.kind) (k_is : k ≡ slice_index_or c.checks n k) (t_is : t ≡ slice_index_or c.check_timings n t) where
+module _ (c : Circuit) (sdf : Sdf) (corner : Corner) (closed : IsClosed c) (n : ℕ) (l : n < length c.checks) (check : CellCheck) (b : Bounds) (gr : Grid) (kind : CheckKind) (k : Check) (t : CheckTiming) (limits : List ℤ)
+    (in_bounds : b ≡ record { signed = takes_lates kind; weight = weight_of c (takes_lates kind) k.scope }) (in_scope : gr ≡ grid c sdf corner k.scope) (of_kind : kind ≡ t.kind) (k_is : k ≡ slice_index_or c.checks n k)
+    (t_is : t ≡ slice_index_or c.check_timings n t) where
+  same-scope : k.scope ≡ (check_at c n).check.scope
+  same-scope = ap (λ (x : Check). x.scope) k_is ∙ sym (check-scope c closed n k l)
+
   same-grid : gr ≡ grid c sdf corner (check_at c n).check.scope
-  same-grid = in_scope ∙ ap (λ s. grid c sdf corner s) (ap (λ (x : Check). x.scope) k_is ∙ sym (check-scope c closed n k l))
+  same-grid = in_scope ∙ ap (λ s. grid c sdf corner s) same-scope
 
   same-kind : kind ≡ (check_at c n).timing.kind
   same-kind = of_kind ∙ (ap (λ (x : CheckTiming). x.kind) t_is ∙ sym (check-kind c closed n t l))
 
-  pub known-large : are_limits_large gr (limits_for check kind) ≡ is_check_large c sdf corner (a_check check) n limits
-  known-large = ap (λ h. are_limits_large h (limits_for check kind)) same-grid ∙ ap (λ x. are_limits_large (grid c sdf corner (check_at c n).check.scope) (limits_for check x)) same-kind
+  same-bounds : b ≡ bounds c (check_at c n)
+  same-bounds =
+      in_bounds
+      ∙ (ap (λ q. record { signed = takes_lates q; weight = weight_of c (takes_lates q) k.scope }) same-kind
+      ∙ ap (λ s. record { signed = takes_lates (check_at c n).timing.kind; weight = weight_of c (takes_lates (check_at c n).timing.kind) s }) same-scope)
 
-  pub known-with : with_limits gr (limits_for check kind) limits ≡ check_with c sdf corner (a_check check) n limits
-  known-with = ap (λ h. with_limits h (limits_for check kind) limits) same-grid ∙ ap (λ x. with_limits (grid c sdf corner (check_at c n).check.scope) (limits_for check x) limits) same-kind
+  pub known-large : are_limits_large b gr (limits_for check kind) ≡ is_check_large c sdf corner (a_check check) n limits
+  known-large =
+      ap (λ d. are_limits_large d gr (limits_for check kind)) same-bounds
+      ∙ (ap (λ h. are_limits_large (bounds c (check_at c n)) h (limits_for check kind)) same-grid
+      ∙ ap (λ x. are_limits_large (bounds c (check_at c n)) (grid c sdf corner (check_at c n).check.scope) (limits_for check x)) same-kind)
+
+  pub known-with : with_limits b gr (limits_for check kind) limits ≡ check_with c sdf corner (a_check check) n limits
+  known-with =
+      ap (λ d. with_limits d gr (limits_for check kind) limits) same-bounds
+      ∙ (ap (λ h. with_limits (bounds c (check_at c n)) h (limits_for check kind) limits) same-grid
+      ∙ ap (λ x. with_limits (bounds c (check_at c n)) (grid c sdf corner (check_at c n).check.scope) (limits_for check x) limits) same-kind)
 
 -- ---- an entry that isn't of a timing check
 

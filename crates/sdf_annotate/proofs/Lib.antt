@@ -4,6 +4,8 @@ pub mod CellSteps
 pub mod CheckLaws
 pub mod EntrySteps
 pub mod FoundPlaces
+pub mod KeptLimits
+pub mod LimitBounds
 pub mod PassSteps
 pub mod RowLaws
 pub mod ScopeLaws

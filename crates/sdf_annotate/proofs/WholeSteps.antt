@@ -26,8 +26,9 @@ use Rattle.sdf_annotate.specs.Whole.{AreAfter}
 use Rattle.sdf_annotate.specs.declared.unmatched.AnnotError.{AnnotError}
 use Rattle.sdf_annotate.specs.declared.unmatched.AnnotError.TheVariants.{TooLarge, NoMemory}
 use Rattle.sdf_annotate.specs.declared.values.NewValues.{NewValues}
-use Rattle.sdf_annotate.proofs.BoundLaws.{limits-fit, timings-fit}
+use Rattle.sdf_annotate.proofs.BoundLaws.{timings-fit}
 use Rattle.sdf_annotate.proofs.CheckLaws.{check-limits}
+use Rattle.sdf_annotate.proofs.LimitBounds.{limits-fit}
 
 entries-same : (cell : code_cell.Cell) (es : List code_entry.Entry) → map (λ e. given_seen cell e) es ≡ map (λ e. record { cell_type = cell.cell_type.now; instance = view_instance cell.instance; entry = e }) (map view_meant es)
 entries-same cell [] = refl
@@ -71,7 +72,7 @@ module _ (c : Circuit) (sdf : Sdf) (corner : Corner) (closed : IsClosed c) (old 
       told = came.told ∙ (ap (λ us. us ++ unmatched_in c sdf (given_of_all cells)) empty ∙ ap (unmatched_in c sdf) same);
       sized = came.sized;
       timings = timings-fit c sdf corner closed fine new.timings.items came.sized.timings has.each_spot;
-      limits = limits-fit c sdf corner closed fine new.limits.items has.each_check;
+      limits = limits-fit c closed sdf corner fine new.limits.items has.each_check;
     }
       where
         has : HasAll c sdf corner (given sdf) new

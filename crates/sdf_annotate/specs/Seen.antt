@@ -1,10 +1,11 @@
 -- Words of the code that annotates.
-use Rattle.std.specs.Prelude.{◌≡◌, ℕ, ℤ, Bool, true, false, List, [], ◌∷◌, map}
-use Rattle.std.specs.List.{flat_map}
+use Rattle.std.specs.Prelude.{◌≡◌, ℕ, ℤ, Bool, true, false, List, [], ◌∷◌, length, map}
+use Rattle.std.specs.List.{flat_map, range_with_len}
 use Rattle.sg_text.specs.declared.places.Place.{Place}
 use Rattle.sg_delay.specs.declared.corners.Corner.{Corner}
 use Rattle.sg_circuit.specs.Circuit.{Circuit}
 use Rattle.sg_circuit.specs.Seen.{circuit_seen}
+use Rattle.sg_circuit.specs.Signals.{signals}
 use Rattle.sg_circuit.specs.Timings.{Timing}
 use Rattle.sdf_tree.specs.Meant.{Entry, EntryKind, Sdf, a_check}
 use Rattle.sdf_tree.specs.declared.tree.Cell as code_cell
@@ -12,7 +13,7 @@ use Rattle.annotation_model.specs.Applied.{applied, are_limits_large, is_too_lar
 use Rattle.annotation_model.specs.Finding.{check_at, spot_at}
 use Rattle.annotation_model.specs.Given.{Given}
 use Rattle.annotation_model.specs.Matching.{limits_for}
-use Rattle.annotation_model.specs.Spots.{grid, scope_of}
+use Rattle.annotation_model.specs.Spots.{bounds, grid, scope_of}
 use Rattle.annotation_finder.specs.Finding.{given_seen}
 use Rattle.sdf_annotate.specs.declared.tasks.Task as code_task
 use Rattle.sdf_annotate.specs.declared.unmatched.AnnotError.{AnnotError}
@@ -20,6 +21,10 @@ use Rattle.sdf_annotate.specs.declared.unmatched.AnnotError.TheVariants.{TooLarg
 
 abbrev pub circuit_of : code_task.Task → Circuit
 circuit_of task = circuit_seen task.places.now.parts.now
+
+-- the task has the number of each scope's signals
+abbrev pub AreCounted : code_task.Task → Type 0
+AreCounted task = task.signals.now ≡ map (λ scope. length (signals (circuit_of task).checks (circuit_of task).check_timings scope)) (range_with_len 0 (length task.places.now.parts.now.scopes.items))
 
 -- what is too large is told of with its place
 abbrev pub Told : Type 0 → Place → AnnotError → Type 0
@@ -35,11 +40,11 @@ is_spot_large c sdf corner e k ts = is_too_large (grid c sdf corner (scope_of (s
 
 -- and of the limits of the timing check of a number
 abbrev pub check_with : Circuit → Sdf → Corner → EntryKind → ℕ → List ℤ → List ℤ
-check_with c sdf corner (a_check check) k limits = with_limits (grid c sdf corner (check_at c k).check.scope) (limits_for check (check_at c k).timing.kind) limits
+check_with c sdf corner (a_check check) k limits = with_limits (bounds c (check_at c k)) (grid c sdf corner (check_at c k).check.scope) (limits_for check (check_at c k).timing.kind) limits
 check_with c sdf corner _ k limits = limits
 
 abbrev pub is_check_large : Circuit → Sdf → Corner → EntryKind → ℕ → List ℤ → Bool
-is_check_large c sdf corner (a_check check) k limits = are_limits_large (grid c sdf corner (check_at c k).check.scope) (limits_for check (check_at c k).timing.kind)
+is_check_large c sdf corner (a_check check) k limits = are_limits_large (bounds c (check_at c k)) (grid c sdf corner (check_at c k).check.scope) (limits_for check (check_at c k).timing.kind)
 is_check_large c sdf corner _ k limits = false
 
 -- what is noted of an entry

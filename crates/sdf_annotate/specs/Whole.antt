@@ -7,8 +7,8 @@ use Rattle.sg_circuit.specs.TimingsSeen.{leg_timing_seen}
 use Rattle.sdf_tree.specs.Meant.{Sdf}
 use Rattle.annotation_model.specs.Annotated.{too_large, unmatched}
 use Rattle.annotation_model.specs.Given.{given}
-use Rattle.annotation_model.specs.Laws.{AreSmall}
 use Rattle.annotation_model.specs.Spots.{all_checked, limits_after, spot_after, spots}
+use Rattle.annotation_setting.specs.Limits.{AreLimitsOf}
 use Rattle.annotation_setting.specs.Table.{timings_seen}
 use Rattle.sdf_annotate.specs.Progress.{AreSized}
 use Rattle.sdf_annotate.specs.Told.{told_seen}
@@ -22,4 +22,4 @@ pub record AreAfter (c : Circuit) (sdf : Sdf) (corner : Corner) (v : NewValues) 
   pub told : told_seen v.unmatched.items ≡ unmatched c sdf
   pub sized : AreSized c v
   pub timings : All (λ t. IfSome t (λ b. AreTimings (leg_timing_seen b.value))) v.timings.items
-  pub limits : All AreSmall v.limits.items
+  pub limits : AreLimitsOf c v.limits.items

@@ -5,7 +5,7 @@ ghost use Rattle.annotation_finder.specs.Finding.{given_seen};
 ghost use Rattle.annotation_places.specs.Places.{ArePlaces};
 ghost use Rattle.sdf_annotate.specs.Progress.{AreSized, CameTo, StoppedAt};
 ghost use Rattle.sdf_annotate.specs.Search.{IsReady, IsReadyFor};
-ghost use Rattle.sdf_annotate.specs.Seen.{circuit_of, given_of, given_of_all};
+ghost use Rattle.sdf_annotate.specs.Seen.{AreCounted, circuit_of, given_of, given_of_all};
 
 use crate::limits::apply_to_checks;
 use crate::notes::note;
@@ -27,6 +27,7 @@ fn annotate_entry(
     values: &mut NewValues,
 ) -> Result<(), AnnotError>
     requires places { ArePlaces task.now.places.now }
+    requires signals { AreCounted task.now }
     requires ready { IsReadyFor task.now cell.now search.old }
     requires sized { AreSized (circuit_of task.now) values.old }
     ensures ready { OnOk result (IsReadyFor task.now cell.now search.new) }
@@ -50,6 +51,7 @@ fn annotate_entries(
     values: &mut NewValues,
 ) -> Result<(), AnnotError>
     requires places { ArePlaces task.now.places.now }
+    requires signals { AreCounted task.now }
     requires ready { IsReadyFor task.now cell.now search.old }
     requires sized { AreSized (circuit_of task.now) values.old }
     ensures ready { OnOk result (IsReadyFor task.now cell.now search.new) }
@@ -71,6 +73,7 @@ fn annotate_cell(
     values: &mut NewValues,
 ) -> Result<(), AnnotError>
     requires places { ArePlaces task.now.places.now }
+    requires signals { AreCounted task.now }
     requires ready { IsReady task.now search.old }
     requires sized { AreSized (circuit_of task.now) values.old }
     ensures ready { OnOk result (IsReady task.now search.new) }
@@ -90,6 +93,7 @@ pub fn annotate_cells(
     values: &mut NewValues,
 ) -> Result<(), AnnotError>
     requires places { ArePlaces task.now.places.now }
+    requires signals { AreCounted task.now }
     requires ready { IsReady task.now search.old }
     requires sized { AreSized (circuit_of task.now) values.old }
     ensures came { OnOk result (CameTo (circuit_of task.now) (view_sdf task.now.sdf.now) task.now.corner (given_of_all cells.now) values.old values.new) }

@@ -5,12 +5,12 @@ ghost use Rattle.sdf_tree.specs.Meant.{a_check};
 ghost use Rattle.annotation_model.specs.Listed.{written};
 ghost use Rattle.annotation_model.specs.Passes.{meets_large};
 ghost use Rattle.annotation_places.specs.Places.{ArePlaces};
-ghost use Rattle.sdf_annotate.specs.Seen.{Told, check_with, circuit_of, is_check_large};
+ghost use Rattle.sdf_annotate.specs.Seen.{AreCounted, Told, check_with, circuit_of, is_check_large};
 
 use crate::scales::grid_of;
 use crate::tasks::Task;
 use crate::unmatched::AnnotError;
-use annotation_values::apply_check;
+use annotation_values::{Bounds, apply_check};
 use sdf_tree::{CellCheck, Entry, EntryKind};
 use sg_text::Place;
 
@@ -23,15 +23,18 @@ fn apply_to_check(
     limits: &mut [i64; 2],
 ) -> Result<(), AnnotError>
     requires places { ArePlaces task.now.places.now }
+    requires signals { AreCounted task.now }
     requires number { number < length task.now.places.now.parts.now.checks.items }
     ensures fine { OnOk result (is_check_large (circuit_of task.now) (view_sdf task.now.sdf.now) task.now.corner (a_check (view_cell_check check.now)) number limits.old ≡ false) }
     ensures applied { OnOk result (limits.new ≡ check_with (circuit_of task.now) (view_sdf task.now.sdf.now) task.now.corner (a_check (view_cell_check check.now)) number limits.old) }
     ensures told { IfErr result (λ e. Told (is_check_large (circuit_of task.now) (view_sdf task.now.sdf.now) task.now.corner (a_check (view_cell_check check.now)) number limits.old ≡ true) place e) }
 {
     let parts = task.places.parts;
-    let grid = grid_of(task, parts.checks[number as usize].scope);
+    let scope = parts.checks[number as usize].scope;
+    let grid = grid_of(task, scope);
     let kind = parts.check_timings[number as usize].kind;
-    let Ok(new) = apply_check(grid, check, kind, limits) else {
+    let bounds = Bounds::of(kind, task.signals[scope as usize]);
+    let Ok(new) = apply_check(grid, check, kind, bounds, limits) else {
         return Err(AnnotError::TooLarge { place });
     };
     *limits = new;
@@ -47,6 +50,7 @@ fn apply_to_each(
     limits: &mut [[i64; 2]],
 ) -> Result<(), AnnotError>
     requires places { ArePlaces task.now.places.now }
+    requires signals { AreCounted task.now }
     requires limits_of_each { length limits.old ≡ length task.now.places.now.parts.now.checks.items }
     requires found { All (λ k. k < length limits.old) found.now }
     ensures fine { OnOk result (meets_large (is_check_large (circuit_of task.now) (view_sdf task.now.sdf.now) task.now.corner (a_check (view_cell_check check.now))) (check_with (circuit_of task.now) (view_sdf task.now.sdf.now) task.now.corner (a_check (view_cell_check check.now))) [] found.now limits.old ≡ false) }
@@ -67,6 +71,7 @@ pub fn apply_to_checks(
     limits: &mut [[i64; 2]],
 ) -> Result<(), AnnotError>
     requires places { ArePlaces task.now.places.now }
+    requires signals { AreCounted task.now }
     requires limits_of_each { length limits.old ≡ length task.now.places.now.parts.now.checks.items }
     requires found { All (λ k. k < length limits.old) found.now }
     ensures fine { OnOk result (meets_large (is_check_large (circuit_of task.now) (view_sdf task.now.sdf.now) task.now.corner (view_kind entry.now.kind)) (check_with (circuit_of task.now) (view_sdf task.now.sdf.now) task.now.corner (view_kind entry.now.kind)) [] found.now limits.old ≡ false) }

@@ -1,9 +1,8 @@
 // The values of a circuit's places while entries are applied.
-ghost use Rattle.std.specs.Prelude.{◌≡◌, IfOk, None, map, replicate};
-ghost use Rattle.sg_circuit.specs.declared.checks.CheckTiming.{CheckTiming};
+ghost use Rattle.std.specs.Prelude.{◌≡◌, IfOk, None, replicate};
 
 use crate::unmatched::Unmatched;
-use sg_circuit::{CheckTiming, LegTiming};
+use sg_circuit::LegTiming;
 use sg_text::NoMemory;
 use std::alloc::Global;
 
@@ -25,15 +24,4 @@ pub fn no_timings(alloc: Global, count: usize) -> Result<Vec<Option<Box<LegTimin
         timings.push(None)?;
     }
     Ok(timings)
-}
-
-/// The limits of timing checks as the circuit has them.
-pub fn limits_of(alloc: Global, timings: &[CheckTiming]) -> Result<Vec<[i64; 2]>, NoMemory>
-    ensures { IfOk result (λ v. v.items ≡ map (λ (t : CheckTiming). t.limits) timings.now) }
-{
-    let mut limits = Vec::with_capacity(alloc, timings.len())?;
-    for timing in timings {
-        limits.push(timing.limits)?;
-    }
-    Ok(limits)
 }

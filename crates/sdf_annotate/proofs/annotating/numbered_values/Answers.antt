@@ -1,11 +1,17 @@
--- The places are those of the circuit.
+-- The places are those of the circuit; want of memory says nothing.
 use Rattle.std.proofs.Common.{subst}
 use Rattle.std.proofs.lemmas.Result.{err_from_is_err_and}
 use Rattle.sg_circuit.specs.Circuit.{Circuit}
 use Rattle.sdf_meaning.specs.MeantSeen.{view_sdf}
 use Rattle.sdf_annotate.specs.Told.{IsTooLargeAt}
+use Rattle.sdf_annotate.specs.declared.unmatched.AnnotError.TheVariants.{NoMemory}
 use Rattle.sdf_annotate.proofs.EntrySteps.{exit_by}
 use Rattle.sdf_annotate.proofs.annotating.numbered_values.Goals as goal
+
+pub returns-in_err-signals-clause-told : goal.returns-in_err-signals-clause-told
+returns-in_err-signals-clause-told c =
+    exit_by (IsTooLargeAt c.args.circuit.now (view_sdf c.args.sdf.now) c.args.corner) c.from_residual-in_err-signals.result NoMemory
+    (err_from_is_err_and c.from_residual-in_err-signals.result c.from_residual-in_err-signals.ensures.1) tt
 
 pub returns-in_err-values-clause-told : goal.returns-in_err-values-clause-told
 returns-in_err-values-clause-told c =
