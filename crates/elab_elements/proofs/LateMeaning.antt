@@ -7,7 +7,6 @@ use Rattle.std.proofs.lemmas.List.Elements.{recursion_from_All}
 use Rattle.sg_circuit.specs.declared.elements.ElementKind.TheVariants as kind
 use Rattle.sg_circuit.specs.declared.elements.UdpUse.{UdpUse}
 use Rattle.sg_delay.specs.declared.gates.GateDelays.{GateDelays}
-use Rattle.sg_text.specs.declared.places.Place.{Place}
 use Rattle.sg_text.specs.declared.refusals.Refused.{Refused}
 use Rattle.vl_tree.specs.Tree.{Module, Source}
 use Rattle.elab_model.specs.declared.kinds.ElabKind.{ElabKind}
@@ -17,7 +16,7 @@ use Rattle.elab_model.specs.Lates.{is_unnamed, own_copies}
 use Rattle.elab_model.specs.Members.{Member, members}
 use Rattle.elab_model.specs.Names.{Variable, variables}
 use Rattle.elab_model.specs.Nets.{OwnNet, late_net, nets, number_of}
-use Rattle.elab_laws.specs.Handing.{all_bits, numbered}
+use Rattle.elab_laws.specs.Handing.{numbered}
 use Rattle.elab_laws.specs.NumberLaws.{numbers_in}
 use Rattle.elab_lates.specs.Copies.{AreCopies}
 use Rattle.elab_lates.specs.Seen.{placed_seen, AreCopiesInRow, IsCopyInRow, IsPlaceIn}

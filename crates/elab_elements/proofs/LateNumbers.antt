@@ -9,10 +9,9 @@ use Rattle.std.proofs.lemmas.List.Elements.{All-from_recursion}
 use Rattle.std.proofs.lemmas.List.FromFn.{get_or-enumerate_from, length-enumerate_from}
 use Rattle.sg_circuit.specs.declared.building.Pin.{Pin}
 use Rattle.sg_circuit.specs.declared.elements.Element.{Element}
-use Rattle.sg_circuit.specs.FanOut.{readers_at}
 use Rattle.sg_circuit.specs.Pins.{elements_on, HasPins}
 use Rattle.elab_laws.proofs.Lists.{all-flat}
-use Rattle.elab_elements.specs.Lates.{is_late, is_late_in, lates_in, HaveLates}
+use Rattle.elab_elements.specs.Lates.{is_late, is_late_in, HaveLates}
 use Rattle.elab_elements.specs.Words.{late_pin, late_pins}
 
 on-scope : (scopes scope : ℕ) → scope < scopes → (es : List (ℕ × Element)) → elements_on scope (flat_map (late_pin scopes) es) ≡ map (λ e. e.0) (filter (is_late_in scope) es)

@@ -1,5 +1,5 @@
 -- One Late more is put, and a refusal on the way is one of all.
-use Rattle.std.proofs.Common.{◌^◌, arith, flat_map, zip}
+use Rattle.std.proofs.Common.{arith, flat_map, zip}
 use Rattle.std.proofs.lemmas.Result.{err_from_is_err_and}
 use Rattle.elab_elements.specs.Puts.{RefusesPuts}
 use Rattle.elab_elements.specs.Words.{copy_numbers, late_puts}
