@@ -17,6 +17,8 @@ pub mod ReadHere
 pub mod InnerNets
 pub mod DrivenHere
 pub mod PathMeaning
+pub mod LateMeaning
+pub mod LateNumbers
 pub mod MemberLaws
 pub mod AllInstances
 pub mod NamedMember

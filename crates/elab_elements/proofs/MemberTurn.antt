@@ -8,14 +8,15 @@ use Rattle.sg_delay.specs.declared.corners.Corner.{Corner}
 use Rattle.sg_logic.specs.declared.gates.GateKind.{GateKind}
 use Rattle.sg_logic.specs.declared.values.Value.{Value}
 use Rattle.sg_text.specs.declared.places.Place.{Place}
-use Rattle.vl_tree.specs.Tree.{Named, Delay, Expression, signal, GateInstance, Join, SpecifyPath, Module, Source}
+use Rattle.vl_tree.specs.Tree.{Named, Delay, Expression, signal, GateInstance, Join, SpecifyPath, Check, Module, Source}
 use Rattle.elab_model.specs.Bits.{bits, constant, leaf_bits}
 use Rattle.elab_model.specs.Delays.{tick_of}
-use Rattle.elab_model.specs.Elements.{member_elements, output_count, pass_to, passes, path_at, terminal_elements}
+use Rattle.elab_model.specs.Elements.{member_elements, output_count, late_at, pass_to, passes, path_at, terminal_elements}
 use Rattle.elab_model.specs.Ends.{first_ends}
 use Rattle.elab_model.specs.Hierarchy.{Instance, instances}
+use Rattle.elab_model.specs.Lates.{own_copies}
 use Rattle.elab_model.specs.Leaves.{whole}
-use Rattle.elab_model.specs.Members.{Member, assignment, supply, gate, path}
+use Rattle.elab_model.specs.Members.{Member, assignment, supply, gate, path, check}
 use Rattle.elab_model.specs.Names.{Variable, variables}
 use Rattle.elab_model.specs.Nets.{nets}
 use Rattle.elab_hierarchy.specs.declared.instances.Placed.{Placed}
@@ -23,9 +24,9 @@ use Rattle.elab_modules.specs.declared.library.Library.{Library}
 use Rattle.elab_modules.specs.declared.prepared.Prepared.{Prepared}
 use Rattle.elab_modules.specs.Ready.{IsPrepared}
 use Rattle.elab_nets.specs.declared.rows.Rows.{Rows}
-use Rattle.elab_elements.specs.Adding.{HasTerminals, IsHere}
+use Rattle.elab_elements.specs.Adding.{HasDriven, HasTerminals, IsHere}
 use Rattle.elab_elements.specs.Next.{IsNext}
-use Rattle.elab_elements.specs.Standing.{HasPaths, IsMember}
+use Rattle.elab_elements.specs.Standing.{HasCopies, HasPaths, IsMember}
 use Rattle.elab_elements.specs.Terminals.{outputs_of, inputs_of}
 use Rattle.elab_elements.proofs.MemberLaws.{member-sound, gate-terminals}
 use Rattle.elab_elements.proofs.NextChild.{passes-by}
@@ -131,3 +132,22 @@ module _ (source : Source) (top : Module) (corner : Corner) (ps : List Placed) (
   has-paths prepared x ready same h =
       let r = row-is source top corner ps library rows number s h.at in
       record { before = r.0; place = r.1; has_row = r.2; here = subst (λ ws. IsHere (nets source top) source s number ws row) same h.here; is_prepared = ready; member = h.member }
+
+  pub check-same : (x : Member) (c : Check) → x ≡ check c → map (late_at source s) (own_copies s.step.definition (k, x)) ≡ member_elements source corner (tick_of source top) s (k, x)
+  check-same x c e = ap (λ y. map (late_at source s) (own_copies s.step.definition (k, y))) e ∙ ap (λ y. member_elements source corner (tick_of source top) s (k, y)) (sym e)
+
+  pub check-after : (x : Member) (c : Check) → x ≡ check c → IsMember source top corner ps library rows number vs row inside delays first next k x s → IsNext source s (k + 1) next
+  check-after x c e h = let own = as-member x (check c) e h in passes-by source s k next (check c) own.member refl own.is_next
+
+  pub has-copies : (prepared : Prepared) (x : Member) (c : Check) → x ≡ check c → IsPrepared prepared s.step.definition
+      → IsMember source top corner ps library rows number vs row inside delays first next k x s → HasCopies source top number prepared row inside first k x s
+  has-copies prepared x c e ready h =
+      let own = as-member x (check c) e h in
+      subst (λ y. HasCopies source top number prepared row inside first k y s) (sym e)
+      (record {
+        here = subst (λ ws. IsHere (nets source top) source s number ws row) h.here.numbers.table h.here;
+        drives = subst (λ ws. HasDriven (nets source top) source s ws inside) h.here.numbers.table h.drives;
+        is_prepared = ready;
+        member = own.member;
+        numbered = own.numbered;
+      })

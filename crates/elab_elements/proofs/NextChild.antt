@@ -9,7 +9,7 @@ use Rattle.vl_tree.specs.Tree.{Module, Source}
 use Rattle.elab_model.specs.Definitions.{module_of}
 use Rattle.elab_model.specs.Elements.{child_at}
 use Rattle.elab_model.specs.Hierarchy.{Step, Instance, Child, child_of, child_of_member, children_from, children_at, children, size, text_of}
-use Rattle.elab_model.specs.Members.{Member, assignment, supply, gate, instance, path, members}
+use Rattle.elab_model.specs.Members.{Member, assignment, supply, gate, instance, path, check, members}
 use Rattle.elab_laws.proofs.Lists.{In, in-right, all-append, all-weaker}
 use Rattle.elab_elements.specs.Next.{children_of, IsNext}
 
@@ -64,6 +64,7 @@ member-is source k (assignment j) c e = cc
 member-is source k (supply n v) c e = cc
 member-is source k (gate g d i) c e = cc
 member-is source k (path p) c e = cc
+member-is source k (check t) c e = cc
 member-is source k (instance n d i) c e = by (module_of source n.text) e
   where
     member_or : ℕ → Option Child → ℕ

@@ -29,14 +29,14 @@ kind_in delays udps (kind.Late d) = Late d
 abbrev pub element_in : List GateDelays → List UdpUse → code.Element → Element
 element_in delays udps e = record { scope = e.scope; inputs = e.inputs.items; output = e.output; kind = kind_in delays udps e.kind }
 
--- what a kind names stands in its table; the timing of all Legs is the first, a Path names no paths yet, and none is a Late
+-- what a kind names stands in its table; the timing of all Legs is the first, a Path names no paths yet, and no Late has its delay yet
 abbrev pub NamesPlaces : List GateDelays → List UdpUse → ElementKind → Type 0
 NamesPlaces delays udps (kind.Gate g d) = d < length delays
 NamesPlaces delays udps (kind.Udp u d) = (u < length udps) × (d < length delays)
 NamesPlaces delays udps (kind.Pass v) = Unit {0}
 NamesPlaces delays udps (kind.Leg t) = t ≡ 0
 NamesPlaces delays udps (kind.Path paths style) = Unit {0}
-NamesPlaces delays udps (kind.Late d) = ⊥
+NamesPlaces delays udps (kind.Late d) = d ≡ 0
 
 -- all elements are there, in order, where no Path has its paths yet
 pub record AreElements (source : Source) (top : Module) (corner : Corner) (delays : List GateDelays) (udps : List UdpUse) (made : Placing) : Type 0 where

@@ -10,7 +10,7 @@ use Rattle.elab_model.specs.Delays.{tick_of}
 use Rattle.elab_model.specs.Hierarchy.{Instance, instances}
 use Rattle.elab_model.specs.Members.{Member, members}
 use Rattle.elab_model.specs.Names.{Variable, variables}
-use Rattle.elab_model.specs.Nets.{nets, member_nets}
+use Rattle.elab_model.specs.Nets.{nets, member_nets, late_nets}
 use Rattle.elab_laws.specs.NumberLaws.{numbers_in}
 use Rattle.elab_ports.specs.Bound.{AreConnected}
 use Rattle.elab_hierarchy.specs.declared.instances.Placed.{Placed}
@@ -75,3 +75,11 @@ pub record HasPaths (source : Source) (top : Module) (numbers : Rows) (number : 
   pub here : IsHere (nets source top) source s number prepared.table row
   pub is_prepared : IsPrepared prepared s.step.definition
   pub member : slice_get (members s.step.definition) k ≡ Some x
+
+-- the member k of an instance, whose unnamed copies' nets have the numbers from `first` on
+pub record HasCopies (source : Source) (top : Module) (number : ℕ) (prepared : Prepared) (row inside : List ℕ) (first k : ℕ) (x : Member) (s : Instance) : Type 0 where
+  pub here : IsHere (nets source top) source s number (variables s.step.definition) row
+  pub drives : HasDriven (nets source top) source s (variables s.step.definition) inside
+  pub is_prepared : IsPrepared prepared s.step.definition
+  pub member : slice_get (members s.step.definition) k ≡ Some x
+  pub numbered : numbers_in (nets source top) (late_nets s (k, x)) ≡ range_with_len first (length (late_nets s (k, x)))

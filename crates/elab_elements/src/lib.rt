@@ -6,6 +6,8 @@ mod driven;
 mod elements;
 mod gates;
 mod instances;
+mod late_numbers;
+mod lates;
 mod legs;
 mod members;
 mod own_legs;
@@ -19,4 +21,5 @@ mod terminals;
 mod turns;
 
 pub use elements::elements_in;
+pub use late_numbers::lates_of;
 pub use placing::Placing;

@@ -17,6 +17,7 @@ ghost use Rattle.elab_elements.specs.Standing.{IsMember};
 
 use crate::Placing;
 use crate::children::add_child;
+use crate::lates::add_own_lates;
 use crate::members::{add_assignment, add_declared, add_gate, add_supply_net};
 use crate::paths::add_own_paths;
 use crate::primitives::add_primitive;
@@ -191,6 +192,10 @@ pub fn add_member(
         ),
         Member::Path(path) => {
             add_own_paths(rows, prepared, number, at, path.place, row, made)?;
+            Ok(next)
+        }
+        Member::Check(_) => {
+            add_own_lates(prepared, number, at, first, row, driven, made)?;
             Ok(next)
         }
     }

@@ -42,6 +42,7 @@ part_between-ends-requires-clause-end c =
     let n : c.len.result ≡ length c.args.prepared.now.ends.bits.items = omega (arith, c.len.ensures, c.args.prepared.now.ends.bits.ok.0) in
     (ends-part (nets c.requires.at.0 c.requires.at.1.0) c.args.prepared.now c.args.row.now c.end_row-all.result.now c.args.at c.requires.at.1.1.1.0 c.requires.at.1.1.0 c.index-start.result.now
     c.index-end.result.now
+    h.is_prepared
     (is-part c.requires.at.0 c.requires.at.1.0 c.args.rows.now c.args.number c.args.prepared.now c.args.row.now c.args.at c.requires.at.1.1.1.0 c.requires.at.1.1.0 c.index-start.result.now
     c.index-end.result.now h
     c.index-start.ensures c.index-end.ensures)

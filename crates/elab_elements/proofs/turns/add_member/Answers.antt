@@ -1,7 +1,7 @@
 -- The elements of the member that it is.
 use Rattle.std.proofs.Common.{◌+◌, ap, length, map, option_map, refl, subst, sym}
 use Rattle.std.proofs.lemmas.Result.{err_from_is_err_and, IfOk-weaker, on_ok_weaker}
-use Rattle.vl_tree.specs.Seen.{view_delay, view_expression, view_gate_instance, view_join, view_name, view_path}
+use Rattle.vl_tree.specs.Seen.{view_delay, view_expression, view_gate_instance, view_join, view_name, view_path, view_check}
 use Rattle.elab_laws.specs.Handing.{all_bits}
 use Rattle.elab_model.specs.Delays.{tick_of}
 use Rattle.elab_model.specs.Elements.{member_elements}
@@ -9,7 +9,7 @@ use Rattle.elab_model.specs.Nets.{nets}
 use Rattle.elab_numbering.specs.Refusals.{RefusesCount}
 use Rattle.elab_variables.specs.Seen.{view_member}
 use Rattle.elab_elements.specs.Adding.{Adds}
-use Rattle.elab_elements.proofs.MemberTurn.{as-member, assignment-same, assignment-after, declared-same, supply-same, supply-after, gate-listed, gate-fit, gate-after, path-same, path-after, has-paths}
+use Rattle.elab_elements.proofs.MemberTurn.{as-member, assignment-same, assignment-after, declared-same, supply-same, supply-after, gate-listed, gate-fit, gate-after, path-same, path-after, has-paths, check-same, check-after, has-copies}
 use Rattle.elab_elements.proofs.Putting.{exit-by, if_err-weaker}
 use Rattle.elab_elements.proofs.ReadHere.{row-count}
 use Rattle.elab_elements.proofs.turns.add_member.Goals as goal
@@ -179,3 +179,38 @@ returns-in_ok-add_own_paths-in-Path-clause-elements c = λ top corner s ready h.
 
 pub returns-in_ok-add_own_paths-in-Path-clause-next : goal.returns-in_ok-add_own_paths-in-Path-clause-next
 returns-in_ok-add_own_paths-in-Path-clause-next c = λ top corner s ready h. path-after c.args.definitions.now top corner c.args.instances.now c.args.library.now c.args.rows.now c.args.number c.args.prepared.now.table c.args.row.now c.args.driven.now c.args.delays c.args.first c.args.next c.args.at s (view_member c.args.member) (view_path c.in-Path.path.now) (ap view_member c.in-Path.is) h
+
+pub add_own_lates-requires-clause-at : goal.add_own_lates-requires-clause-at
+add_own_lates-requires-clause-at c = (
+  c.args.definitions.now,
+  (
+    c.requires.at.0,
+    (
+      c.requires.at.1.1.0,
+      (
+        view_member c.args.member,
+        has-copies c.args.definitions.now c.requires.at.0 c.requires.at.1.0 c.args.instances.now c.args.library.now c.args.rows.now c.args.number c.args.prepared.now.table c.args.row.now c.args.driven.now c.args.delays c.args.first c.args.next c.args.at c.requires.at.1.1.0
+            c.args.prepared.now (view_member c.args.member) (view_check c.in-Check.field-0.now) (ap view_member c.in-Check.is) c.requires.at.1.1.1.0 c.requires.at.1.1.1.1,
+      ),
+    ),
+  ),
+)
+
+pub returns-in_err-add_own_lates-in-Check-clause-refused : goal.returns-in_err-add_own_lates-in-Check-clause-refused
+returns-in_err-add_own_lates-in-Check-clause-refused c =
+    exit-by _ c.from_residual-in_err-add_own_lates-in-Check.result c.in_err-add_own_lates-in-Check.field-0.0
+    (err_from_is_err_and c.from_residual-in_err-add_own_lates-in-Check.result c.from_residual-in_err-add_own_lates-in-Check.ensures.1)
+    (λ top corner s ready h. subst (λ cs. RefusesCount (length c.args.made.now.elements.items + length cs) c.in_err-add_own_lates-in-Check.field-0.0)
+    (check-same c.args.definitions.now top corner c.args.instances.now c.args.library.now c.args.rows.now c.args.number c.args.prepared.now.table c.args.row.now c.args.driven.now c.args.delays c.args.first c.args.next c.args.at s (view_member c.args.member) (view_check c.in-Check.field-0.now) (ap view_member c.in-Check.is))
+    (c.in_err-add_own_lates-in-Check.ensures.refused c.args.definitions.now top s (view_member c.args.member)
+    (has-copies c.args.definitions.now top corner c.args.instances.now c.args.library.now c.args.rows.now c.args.number c.args.prepared.now.table c.args.row.now c.args.driven.now c.args.delays c.args.first c.args.next c.args.at s c.args.prepared.now (view_member c.args.member) (view_check c.in-Check.field-0.now) (ap view_member c.in-Check.is) ready h)))
+
+pub returns-in_ok-add_own_lates-in-Check-clause-elements : goal.returns-in_ok-add_own_lates-in-Check-clause-elements
+returns-in_ok-add_own_lates-in-Check-clause-elements c = λ top corner s ready h.
+    subst (Adds c.args.library.now.gate_delays.items c.args.library.now.udps.items (nets c.args.definitions.now top) c.args.made.now c.add_own_lates.new.made)
+    (check-same c.args.definitions.now top corner c.args.instances.now c.args.library.now c.args.rows.now c.args.number c.args.prepared.now.table c.args.row.now c.args.driven.now c.args.delays c.args.first c.args.next c.args.at s (view_member c.args.member) (view_check c.in-Check.field-0.now) (ap view_member c.in-Check.is))
+    (c.in_ok-add_own_lates-in-Check.ensures.elements c.args.library.now.gate_delays.items c.args.library.now.udps.items c.args.definitions.now top s (view_member c.args.member)
+    (has-copies c.args.definitions.now top corner c.args.instances.now c.args.library.now c.args.rows.now c.args.number c.args.prepared.now.table c.args.row.now c.args.driven.now c.args.delays c.args.first c.args.next c.args.at s c.args.prepared.now (view_member c.args.member) (view_check c.in-Check.field-0.now) (ap view_member c.in-Check.is) ready h))
+
+pub returns-in_ok-add_own_lates-in-Check-clause-next : goal.returns-in_ok-add_own_lates-in-Check-clause-next
+returns-in_ok-add_own_lates-in-Check-clause-next c = λ top corner s ready h. check-after c.args.definitions.now top corner c.args.instances.now c.args.library.now c.args.rows.now c.args.number c.args.prepared.now.table c.args.row.now c.args.driven.now c.args.delays c.args.first c.args.next c.args.at s (view_member c.args.member) (view_check c.in-Check.field-0.now) (ap view_member c.in-Check.is) h
