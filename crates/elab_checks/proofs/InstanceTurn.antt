@@ -1,6 +1,6 @@
 -- The turn of an instance: its checks come behind those before.
 use Rattle.std.specs.Prelude.{◌≡◌, ℕ, ◌+◌, ◌<◌, ◌≤◌, List, ◌++◌, Some, flat_map, length, slice_index_or, take}
-use Rattle.std.proofs.Common.{sym, subst}
+use Rattle.std.proofs.Common.{sym, ◌∙◌, subst}
 use Rattle.cond_expr.specs.Condition.{Condition}
 use Rattle.sg_circuit.specs.FanOut.{readers_at}
 use Rattle.sg_delay.specs.declared.corners.Corner.{Corner}
@@ -35,13 +35,13 @@ use Rattle.elab_checks.proofs.OneByOne.{uses_in, uses-next, uses-all, uses-refus
 module _ (source : Source) (top : Module) (corner : Corner) (library : Library) (modules : ReadyChecks) (conditions : List Condition) (placed : List Placed) (rows : Rows) (lates : List (List ℕ)) (i : ℕ) (p : Placed) (s : Instance)
     (h : IsStanding source top corner library modules conditions placed rows lates i p s) (q : Prepared) (prepared : IsPrepared q s.step.definition) (list : List ReadyCheck)
     (found : checks_at modules p.definition ≡ Some list) where
-  pub instance-uses : (row : List ℕ) (old new : CheckTables) (us : List def.CheckUse) → IsHere (nets source top) source s i q.table row
-      → ((all : List OwnNet) (source : Source) (s : Instance) (late : DelayedCopy → ℕ) (ds : List DelayedCopy) (us : List def.CheckUse) → IsHere all source s i q.table row → AreLates ds (readers_at lates i) late
+  pub instance-uses : (row own : List ℕ) → own ≡ readers_at lates i → (old new : CheckTables) (us : List def.CheckUse) → IsHere (nets source top) source s i q.table row
+      → ((all : List OwnNet) (source : Source) (s : Instance) (late : DelayedCopy → ℕ) (ds : List DelayedCopy) (us : List def.CheckUse) → IsHere all source s i q.table row → AreLates ds own late
       → AreUses conditions old us → AreUses conditions new (us ++ uses_in all source s i conditions q.table late ds list))
       → AreUses conditions old us → AreUses conditions new (us ++ def.check_uses_of (nets source top) (elements source top corner) source corner (tick_of source top) s)
-  instance-uses row old new us here f u =
+  instance-uses row own same old new us here f u =
       subst (λ xs. AreUses conditions new (us ++ xs)) (uses-are source top corner library modules conditions placed rows lates i p s h (nets source top) q list i prepared found here.number)
-      (f (nets source top) source s (def.late_number (elements source top corner) s) (copies_in s.step.definition) us here (own-lates source top corner library modules conditions placed rows lates i p s h) u)
+      (f (nets source top) source s (def.late_number (elements source top corner) s) (copies_in s.step.definition) us here (same ∙ own-lates source top corner library modules conditions placed rows lates i p s h) u)
 
   pub instance-refused : (old : CheckTables) (r : Refused ElabKind) → ((total : ℕ) → length old.checks.items + length list ≤ total → RefusesCount total r)
       → (total : ℕ) → length old.checks.items + length (def.check_uses_of (nets source top) (elements source top corner) source corner (tick_of source top) s) ≤ total → RefusesCount total r

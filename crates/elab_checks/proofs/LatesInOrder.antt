@@ -47,7 +47,7 @@ by-index f (c ∷ cs) (n ∷ row) long h =
 
 late-same : (kind : Kind) → is_late kind ≡ law.is_late kind
 late-same (Gate g d) = refl
-late-same (Udp u d) = refl
+late-same (Udp u v d) = refl
 late-same (Pass v) = refl
 late-same (Leg t) = refl
 late-same (Path ps style) = refl
@@ -55,7 +55,7 @@ late-same (Late d) = refl
 
 pub lates-in-order : (source : Source) (top : Module) (corner : Corner) (s : Instance) → In s (instances source top)
     → AreLates (copies_in s.step.definition) (lates_in (elements source top corner) s.step.number) (late_number (elements source top corner) s)
-lates-in-order source top corner s there = by-index (late_number es s) (copies_in m) row long (λ j lt. ap (λ o. slice_index_or row (unwrap_or o 0) 0) (place-own 0 j (module_copies m) (module_copies-apart m) (omega (arith, lt, as-many))))
+lates-in-order source top corner s there = by-index (late_number es s) (copies_in m) row long (λ j lt. ap (λ o. slice_index_or row (unwrap_or o 0) 0) (place-own 0 j (module_copies m) (module_copies-apart m) (omega (arith, lt, as-many)) ∙ ap (λ n. Some n) (let e : 0 + j ≡ j = omega arith in e)))
   where
     m : Module
     m = s.step.definition

@@ -22,11 +22,11 @@ use Rattle.circuit_model.specs.CheckUses.{EventUse, check_of_use, check_use, eve
 use Rattle.elab_laws.specs.Handing.{all_bits}
 use Rattle.elab_ends.specs.Seen.{bit_seen}
 use Rattle.specify_checks.specs.Copies.{both_at, copy_at}
-use Rattle.specify_checks.specs.Seen.{enabling_seen}
+use Rattle.specify_checks.specs.Seen.{enabling_seen, limits_seen}
 use Rattle.elab_paths.specs.Uses.{IsRow}
 use Rattle.elab_paths.proofs.AddedPaths.{net-in-row}
 use Rattle.elab_checks.specs.Ready.{check_ready, enabling_at, event_ready, IsReadyCheck, IsReadyEvent}
-use Rattle.elab_checks.specs.Uses.{second_ticks, terminal_ready, AreLates}
+use Rattle.elab_checks.specs.Uses.{terminal_ready, AreLates}
 use Rattle.elab_checks.specs.declared.shelving.ReadyCheck.{ReadyCheck}
 use Rattle.elab_checks.specs.declared.shelving.ReadyEvent.{ReadyEvent}
 use Rattle.elab_checks.proofs.BoundEvents.{bit-within}
@@ -54,19 +54,15 @@ module _ (vs : List Variable) (row : List ℕ) (net : NetBit → ℕ) (late : De
   datum-over None = refl
   datum-over (Some e) = refl
 
-  limits-are : (first : ℤ) (o : Option ℤ) → first ∷ second_ticks o ∷ [] ≡ two_limits (first ∷ option_to_list o)
-  limits-are first None = refl
-  limits-are first (Some n) = refl
-
-  pub check-timed : (scope : ℕ) (c : ReadyCheck) (refer : Event) (datum : Option Event) (l m : ℤ) (lates : Option (List ℕ)) → refer ≡ event_of_use (event_use net (event_ready conditions vs c.refer))
-      → datum ≡ option_map (λ e. event_of_use (event_use net (event_ready conditions vs e))) c.datum → l ≡ c.limits.first → m ≡ second_ticks c.limits.second
+  pub check-timed : (scope : ℕ) (c : ReadyCheck) (refer : Event) (datum : Option Event) (limits : List ℤ) (lates : Option (List ℕ)) → refer ≡ event_of_use (event_use net (event_ready conditions vs c.refer))
+      → datum ≡ option_map (λ e. event_of_use (event_use net (event_ready conditions vs e))) c.datum → limits ≡ two_limits (limits_seen c.limits)
       → lates ≡ option_map (λ two. late two.0 ∷ late two.1 ∷ []) (option_map (both_at cs) c.copies)
-      → ◌≡◌ {A = CheckTiming} (record { kind = c.kind; refer = refer; datum = datum; limits = l ∷ m ∷ []; threshold = c.threshold; late = lates }) (timing_of_use (check_use scope net late (check_ready conditions vs cs c)))
-  check-timed scope c refer datum l m lates e f g h k = λ i. record {
+      → ◌≡◌ {A = CheckTiming} (record { kind = c.kind; refer = refer; datum = datum; limits = limits; threshold = c.threshold; late = lates }) (timing_of_use (check_use scope net late (check_ready conditions vs cs c)))
+  check-timed scope c refer datum limits lates e f g k = λ i. record {
     kind = c.kind;
     refer = e i;
     datum = (f ∙ datum-over c.datum) i;
-    limits = (ap (λ x. x ∷ m ∷ []) g ∙ ap (λ x. c.limits.first ∷ x ∷ []) h ∙ limits-are c.limits.first c.limits.second) i;
+    limits = g i;
     threshold = c.threshold;
     late = k i;
   }

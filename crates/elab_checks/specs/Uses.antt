@@ -54,11 +54,6 @@ pub record IsUsableCheck (vs : List Variable) (conditions : List Condition) (cop
 abbrev pub terminal_ready : List Variable → ReadyEvent → Terminal
 terminal_ready vs e = record { name = (bit_seen vs e.bit).name; bit = e.index }
 
--- the second limit of a check; without one it is 0
-abbrev pub second_ticks : Option ℤ → ℤ
-second_ticks None = pos 0
-second_ticks (Some n) = n
-
 -- the elements that delay the copies of an instance's module, as a row and as a function
 abbrev pub AreLates : List DelayedCopy → List ℕ → (DelayedCopy → ℕ) → Type 0
 AreLates cs lates late = lates ≡ map late cs

@@ -20,9 +20,10 @@ ghost use Rattle.elab_elements.specs.Adding.{IsHere};
 ghost use Rattle.elab_model.specs.Terms.{NetBit};
 ghost use Rattle.elab_paths.specs.Uses.{IsRow};
 ghost use Rattle.specify_checks.specs.Copies.{both_at};
+ghost use Rattle.specify_checks.specs.Seen.{limits_seen};
 ghost use Rattle.elab_checks.specs.Ready.{check_ready, event_ready, IsReadyCheck};
 ghost use Rattle.elab_checks.specs.Standing.{AreGiven, IsStanding, checks_at};
-ghost use Rattle.elab_checks.specs.Uses.{enabled_over, second_ticks, terminal_ready, AddsCheck, AreLates, AreUses, IsBindable, IsUsableCheck, IsUsableEvent};
+ghost use Rattle.elab_checks.specs.Uses.{enabled_over, terminal_ready, AddsCheck, AreLates, AreUses, IsBindable, IsUsableCheck, IsUsableEvent};
 ghost use Rattle.elab_checks.specs.declared.shelving.ReadyCheck as ghost_check;
 
 use crate::modules::ReadyChecks;
@@ -36,6 +37,7 @@ use elab_paths::{Operands, check_count, row_of};
 use elab_variables::Table;
 use sg_circuit::{Check, CheckConditions, CheckTiming, Event, FanOut, NetId, Terminal};
 use sg_text::{NoMemory, Refused, Text};
+use specify_checks::CheckLimits;
 use std::alloc::Global;
 
 /// The timing checks of a circuit, by instance and then in text order (IEEE 1364-2005, clause 15): how a report names each, what it looks for, and how its conditions are spelled.
@@ -124,13 +126,10 @@ fn datum_of(
 }
 
 // A kind without a second limit has 0 in its place.
-fn second_limit(ticks: Option<i64>) -> i64
-    ensures { result ≡ second_ticks ticks }
+fn two_limits(limits: CheckLimits) -> [i64; 2]
+    ensures { result ≡ def.two_limits (limits_seen limits) }
 {
-    match ticks {
-        Some(ticks) => ticks,
-        None => 0,
-    }
+    [limits.first, limits.second.unwrap_or(0)]
 }
 
 // The elements that delay what a check sees.
@@ -159,7 +158,7 @@ fn timing_of(
         kind: check.kind,
         refer,
         datum,
-        limits: [check.limits.first, second_limit(check.limits.second)],
+        limits: two_limits(check.limits),
         threshold: check.threshold,
         late: lates_of(here.lates, check.copies),
     })

@@ -44,11 +44,9 @@ pub checks_of-requires-clause-is : goal.checks_of-requires-clause-is
 checks_of-requires-clause-is c =
     let there : c.index.result.now ≡ Some (ready.Module c.in-Some-Module.prepared) = search rules in (
       c.requires.stands.own,
-      (
-        is-prepared c.args.definitions.now c.args.tick.power c.args.library.now.parts.items c.args.place c.index.result.now c.in-Some-Module.prepared c.requires.stands.own
-            c.requires.stands c.index.ensures there c.requires.stands.stands,
-        c.requires.named c.requires.stands.own c.requires.stands.stands,
-      ),
+      is-prepared c.args.definitions.now c.args.tick.power c.args.library.now.parts.items c.args.place c.index.result.now c.in-Some-Module.prepared c.requires.stands.own
+          c.requires.stands c.index.ensures there c.requires.stands.stands,
+      c.requires.named c.requires.stands.own c.requires.stands.stands,
     )
 
 pub checks_of-requires-clause-fits : goal.checks_of-requires-clause-fits

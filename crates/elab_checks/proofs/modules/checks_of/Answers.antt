@@ -7,8 +7,8 @@ use Rattle.elab_modules.proofs.InTurn.{exit}
 use Rattle.elab_checks.proofs.OwnChecks.{checks-made, own-readable, own-refused, own-faultless}
 use Rattle.elab_checks.proofs.modules.checks_of.Goals as goal
 
-pub module_checks-checks-requires : goal.module_checks-checks-requires
-module_checks-checks-requires c = own-readable c.args.corner c.args.tick.power c.requires.is.0 c.args.prepared.now c.requires.is.1.0 c.requires.is.1.1
+pub module_checks-requires : goal.module_checks-requires
+module_checks-requires c = record { readable = own-readable c.args.corner c.args.tick.power c.requires.is.0 c.args.prepared.now c.requires.is.1 c.requires.is.2 }
 
 pub returns-in_err-checks-clause-told : goal.returns-in_err-checks-clause-told
 returns-in_err-checks-clause-told c = λ m p.

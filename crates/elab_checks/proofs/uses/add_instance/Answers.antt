@@ -1,9 +1,12 @@
 -- What stands ready of the instance.
+use Rattle.std.specs.Prelude.{All, length}
+use Rattle.std.proofs.Common.{ap, subst, sym}
 use Rattle.std.proofs.lemmas.Result.{on_ok_weaker}
 use Rattle.elab_model.specs.Nets.{nets}
 use Rattle.circuit_model.specs.PathUses.{bit_number}
 use Rattle.elab_elements.proofs.Putting.{if_err-weaker}
 use Rattle.elab_paths.proofs.UsesSoFar.{row-is}
+use Rattle.elab_checks.specs.Uses.{IsUsableCheck}
 use Rattle.elab_checks.proofs.InstanceChecks.{ready-found, prepared-is, row-within, here-is, lates-there, checks-found, checks-usable}
 use Rattle.elab_checks.proofs.InstanceTurn.{instance-uses, instance-refused}
 use Rattle.elab_checks.proofs.uses.add_instance.Goals as goal
@@ -34,7 +37,8 @@ pub add_checks-requires-clause-usable : goal.add_checks-requires-clause-usable
 add_checks-requires-clause-usable c =
     let h = c.requires.at.1.1.1.1.1 in
     let q = c.module_at-prepared.result.now in
-    checks-usable _ _ _ _ _ _ _ _ _ _ _ _ h q c.checks_at-checks.result.now (prepared-is _ _ _ _ _ _ _ _ _ _ _ _ h q c.module_at-prepared.ensures) c.checks_at-checks.ensures
+    subst (λ n. All (IsUsableCheck q.table c.args.conditions.now n) c.checks_at-checks.result.now) (sym (ap length c.of.ensures))
+    (checks-usable _ _ _ _ _ _ _ _ _ _ _ _ h q c.checks_at-checks.result.now (prepared-is _ _ _ _ _ _ _ _ _ _ _ _ h q c.module_at-prepared.ensures) c.checks_at-checks.ensures)
 
 pub of-requires : goal.of-requires
 of-requires c = lates-there _ _ _ _ _ _ _ _ _ _ _ _ c.requires.at.1.1.1.1.1
@@ -48,7 +52,7 @@ returns-clause-uses c =
     (λ added. λ source top corner list s us h u.
     let prepared = prepared-is source top corner c.args.library.now c.args.modules.now c.args.conditions.now list c.args.rows.now c.args.lates.now c.args.number c.args.placed.now s h q c.module_at-prepared.ensures in
     let here = here-is source top corner c.args.library.now c.args.modules.now c.args.conditions.now list c.args.rows.now c.args.lates.now c.args.number c.args.placed.now s h q c.bits.result row prepared c.bits.ensures c.row_of.ensures in
-    instance-uses source top corner c.args.library.now c.args.modules.now c.args.conditions.now list c.args.rows.now c.args.lates.now c.args.number c.args.placed.now s h q prepared checks c.checks_at-checks.ensures row c.args.made.now
+    instance-uses source top corner c.args.library.now c.args.modules.now c.args.conditions.now list c.args.rows.now c.args.lates.now c.args.number c.args.placed.now s h q prepared checks c.checks_at-checks.ensures row c.of.result.now c.of.ensures c.args.made.now
     c.add_checks.new.made us here added u)
     c.add_checks.ensures.uses
 
