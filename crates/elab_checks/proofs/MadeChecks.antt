@@ -1,5 +1,5 @@
 -- The three rows of a check of an instance.
-use Rattle.std.specs.Prelude.{◌≡◌, ℕ, zero, suc, ℤ, pos, ◌<◌, All, List, [], ◌∷◌, Option, Some, None, IfSome, length, map, option_to_list, slice_get, slice_index_or, refl}
+use Rattle.std.specs.Prelude.{◌≡◌, ℕ, zero, suc, ℤ, ◌<◌, All, List, [], ◌∷◌, Option, Some, None, IfSome, length, map, slice_get, slice_index_or, refl}
 use Rattle.std.specs.Option.{option_and_then, option_map}
 use Rattle.std.proofs.Common.{sym, ◌∙◌, ap, subst}
 use Rattle.std.proofs.lemmas.Option.{get_or_from_slice_get, slice_get-get_or, slice_get-map}

@@ -1,6 +1,6 @@
 -- What a module without a fault names for delayed copies is one bit each.
 use Rattle.std.specs.Prelude.{◌≡◌, ℤ, All, List, [], ◌∷◌, ◌++◌, None, flat_map, map, slice_index_or, refl}
-use Rattle.std.proofs.Common.{sym, ◌∙◌, ap, subst}
+use Rattle.std.proofs.Common.{◌∙◌, ap, subst}
 use Rattle.sg_delay.specs.declared.corners.Corner.{Corner}
 use Rattle.vl_tree.specs.Tree.{Named, signal, Check, Module, Source}
 use Rattle.elab_model.specs.Delays.{tick_of}
@@ -20,7 +20,7 @@ use Rattle.elab_hierarchy.specs.Tops.{StandsAt}
 use Rattle.elab_hierarchy.specs.declared.instances.Placed.{Placed}
 use Rattle.elab_modules.proofs.Among.{in-mapped}
 use Rattle.elab_modules.proofs.Named.{module-same, placed-in}
-use Rattle.specify_checks.specs.Copies.{name_term, AreNamed, HasNames}
+use Rattle.specify_checks.specs.Copies.{AreNamed, HasNames}
 use Rattle.specify_checks.proofs.Asked.{check-there}
 
 names-one_bit : (vs : List Variable) (ns : List Named) → flat_map (expression_faults vs) (map (λ n. signal n None) ns) ≡ [] → flat_map (width_faults vs 1) (map (λ n. signal n None) ns) ≡ [] → AreNamed vs ns

@@ -1,5 +1,5 @@
 -- The checks of a circuit, as they are added one after another.
-use Rattle.std.specs.Prelude.{◌≡◌, ℕ, ℤ, pos, ◌<◌, ◌∷◌, ◌++◌, All, List, [], Option, Some, None, IfSome, length, map, slice_get}
+use Rattle.std.specs.Prelude.{◌≡◌, ℕ, ◌<◌, ◌∷◌, ◌++◌, All, List, [], Option, Some, IfSome, length, map, slice_get}
 use Rattle.std.specs.Option.{option_and_then, option_map}
 use Rattle.cond_expr.specs.Condition.{Condition}
 use Rattle.cond_expr.specs.Token.{Tok}
