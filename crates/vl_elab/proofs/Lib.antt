@@ -7,4 +7,6 @@ pub mod Whole
 pub mod Below
 pub mod OneByOne
 pub mod Told
+pub mod OwnLimits
+pub mod GivenLates
 pub mod Steps

@@ -2,6 +2,7 @@
 use Rattle.std.proofs.Common.{refl}
 use Rattle.std.proofs.lemmas.Result.{err_from_is_err_and}
 use Rattle.vl_elab.proofs.Below.{leaves, elements-refused, many_paths-refused, paths-refused}
+use Rattle.vl_elab.proofs.GivenLates.{lates-given}
 use Rattle.vl_elab.proofs.Steps.{elements-of, given-of, read-of}
 use Rattle.vl_elab.proofs.elements.elements_below.Goals as goal
 
@@ -53,7 +54,7 @@ returns-clause-elements c = λ m h.
     let paths = c.in_ok-modules.ensures.paths m h.below.are_placed h.below.tick_is h.is_ready in
     let given = given-of d m c.args.corner c.args.tick c.args.instances.now c.args.library.now c.args.rows.now h _ _ _ elements c.no_delay.ensures paths in
     elements-of d m c.args.corner c.args.library.now c.in_ok-modules.modules _ _ refl refl paths (c.in_ok-paths.ensures.paths d m c.args.corner given)
-    (lates-are d m c.args.corner c.args.library.now c.args.instances.now _ c.in_ok-placing.placing c.in_ok-lates.lates h.below.are_placed elements c.in_ok-lates.ensures)
+    (lates-given d m c.args.corner c.args.library.now c.args.instances.now c.in_ok-placing.placing _ _ c.in_ok-lates.lates h.below.are_placed elements c.deref.ensures.value ? c.in_ok-lates.ensures)
 
 pub returns-clause-spelled : goal.returns-clause-spelled
 returns-clause-spelled c = let h = c.requires.nets.1 in (c.in_ok-modules.ensures.paths c.requires.nets.0 h.below.are_placed h.below.tick_is h.is_ready).read
