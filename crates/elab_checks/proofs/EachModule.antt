@@ -29,7 +29,7 @@ use Rattle.elab_modules.proofs.Meeting.{places_of}
 use Rattle.elab_modules.proofs.Named.{one-place, place-of, placed-in}
 use Rattle.elab_paths.specs.Shelving.{AreRead}
 use Rattle.elab_checks.specs.OfModules.{AreChecksOf, AreSoundChecks, AreReadySoFar, HasReady, IsOfPlace}
-use Rattle.elab_checks.specs.Ready.{check_ready, IsReadyOf, HasChecks, HaveChecks}
+use Rattle.elab_checks.specs.Ready.{check_ready, copies_in, IsReadyOf, HasChecks, HaveChecks}
 use Rattle.elab_checks.specs.declared.modules.ReadyChecks.{ReadyChecks}
 use Rattle.elab_checks.specs.declared.shelving.ReadyCheck.{ReadyCheck}
 use Rattle.elab_checks.proofs.SoFar.{Checks}
@@ -72,7 +72,7 @@ checks-at source corner tick top ps checks conditions s place h are inside at =
 is-ready : (source : Source) (top : Module) (corner : Corner) (m : Module) (conditions : List Condition) (list : List ReadyCheck) → AreChecksOf corner (tick_of source top) m conditions list
     → IsReadyOf source top corner conditions m list
 is-ready source top corner m conditions list h = record {
-  checks = ap (λ cs. map (check_ready cs (variables m)) list) (sym (append-nil conditions)) ∙ h.checks [];
+  checks = ap (λ cs. map (check_ready cs (variables m) (copies_in m)) list) (sym (append-nil conditions)) ∙ h.checks [];
   named = h.named;
 }
 

@@ -2,11 +2,15 @@
 use Rattle.std.specs.Prelude.{◌≡◌, ℕ, suc, ◌+◌, ◌<◌, ◌≤◌, All, List, [], ◌∷◌, Option, Some, drop, length, map, slice_get, slice_index_or, take, refl}
 use Rattle.std.proofs.Common.{sym, ◌∙◌, ap, arith, subst}
 use Rattle.std.proofs.lemmas.List.{length-map}
+use Rattle.std.proofs.lemmas.Option.{slice_get_within}
 use Rattle.cond_expr.specs.Condition.{Condition}
+use Rattle.sg_circuit.specs.FanOut.{readers_at}
 use Rattle.sg_delay.specs.declared.corners.Corner.{Corner}
 use Rattle.vl_tree.specs.Tree.{Module, Source}
 use Rattle.elab_model.specs.Delays.{tick_of}
+use Rattle.elab_model.specs.Drivers.{elements}
 use Rattle.elab_model.specs.Hierarchy.{Instance, instances}
+use Rattle.elab_model.specs.Lates.{DelayedCopy}
 use Rattle.elab_model.specs.Names.{variables}
 use Rattle.elab_model.specs.Nets.{OwnNet, nets}
 use Rattle.specify_model.specs.CheckFaults.{timing_check_faults}
@@ -26,22 +30,23 @@ use Rattle.elab_nets.specs.declared.rows.Rows.{Rows}
 use Rattle.elab_elements.specs.Adding.{IsHere}
 use Rattle.elab_elements.proofs.StandingAt.{at-place, at-split, instance-number, instance-ready}
 use Rattle.elab_paths.proofs.InstanceUses.{placed-own}
-use Rattle.elab_checks.specs.Ready.{check_ready, HasChecks, IsReadyOf}
+use Rattle.elab_checks.specs.Ready.{check_ready, copies_in, HasChecks, IsReadyOf}
 use Rattle.elab_checks.specs.Standing.{AreGiven, IsStanding, checks_at}
-use Rattle.elab_checks.specs.Uses.{IsUsableCheck}
+use Rattle.elab_checks.specs.Uses.{AreLates, IsUsableCheck}
 use Rattle.elab_checks.specs.declared.modules.ReadyChecks.{ReadyChecks}
 use Rattle.elab_checks.specs.declared.shelving.ReadyCheck.{ReadyCheck}
+use Rattle.elab_checks.proofs.LatesInOrder.{lates-in-order}
 use Rattle.elab_checks.proofs.SoundOperands.{usable}
 
-pub stands : (source : Source) (top : Module) (corner : Corner) (library : Library) (modules : ReadyChecks) (conditions : List Condition) (placed : List Placed) (rows : Rows) (i : ℕ) (p : Placed) → i < length placed
-    → p ≡ slice_index_or placed i p → AreGiven source top corner library modules conditions placed rows → (s : Instance) × IsStanding source top corner library modules conditions placed rows i p s
-stands source top corner library modules conditions placed rows i p lt e h =
+pub stands : (source : Source) (top : Module) (corner : Corner) (library : Library) (modules : ReadyChecks) (conditions : List Condition) (placed : List Placed) (rows : Rows) (lates : List (List ℕ)) (i : ℕ) (p : Placed) → i < length placed
+    → p ≡ slice_index_or placed i p → AreGiven source top corner library modules conditions placed rows lates → (s : Instance) × IsStanding source top corner library modules conditions placed rows lates i p s
+stands source top corner library modules conditions placed rows lates i p lt e h =
     let r = placed-own source placed (instances source top) i p lt e h.are_placed in
     let few = h.few in
     (r.0, record { given = h; there = r.1; is_placed = r.2; below = omega (arith, lt, few) })
 
-module _ (source : Source) (top : Module) (corner : Corner) (library : Library) (modules : ReadyChecks) (conditions : List Condition) (placed : List Placed) (rows : Rows) (i : ℕ) (p : Placed) (s : Instance)
-    (h : IsStanding source top corner library modules conditions placed rows i p s) where
+module _ (source : Source) (top : Module) (corner : Corner) (library : Library) (modules : ReadyChecks) (conditions : List Condition) (placed : List Placed) (rows : Rows) (lates : List (List ℕ)) (i : ℕ) (p : Placed) (s : Instance)
+    (h : IsStanding source top corner library modules conditions placed rows lates i p s) where
   is-there : In s (instances source top)
   is-there = at-place (instances source top) i s h.there
 
@@ -85,6 +90,16 @@ module _ (source : Source) (top : Module) (corner : Corner) (library : Library) 
         };
       }
 
+  -- ---- its Lates
+
+  pub own-lates : AreLates (copies_in s.step.definition) (readers_at lates i) (def.late_number (elements source top corner) s)
+  own-lates =
+      let within = slice_get_within (instances source top) i s h.there in
+      h.given.have_lates.each i within ∙ ap (def.lates_in (elements source top corner)) (sym (instance-number source top s i h.there)) ∙ lates-in-order source top corner s is-there
+
+  pub lates-there : i < length lates
+  lates-there = subst (λ n. i < n) (sym h.given.have_lates.count) (slice_get_within (instances source top) i s h.there)
+
   -- ---- its checks
 
   has-checks : HasChecks source top corner conditions modules s
@@ -105,25 +120,29 @@ module _ (source : Source) (top : Module) (corner : Corner) (library : Library) 
       let faults = λ (t : Instance). timing_check_faults corner (tick_of source top) t.step.definition in
       all-in (λ t. faults t ≡ []) s (instances source top) (flat-empty faults (instances source top) h.given.have_checks.faultless) is-there
 
-  pub checks-usable : (q : Prepared) (list : List ReadyCheck) → IsPrepared q s.step.definition → checks_at modules p.definition ≡ Some list → All (IsUsableCheck q.table conditions) list
+  pub checks-usable : (q : Prepared) (list : List ReadyCheck) → IsPrepared q s.step.definition → checks_at modules p.definition ≡ Some list → All (IsUsableCheck q.table conditions (length (readers_at lates i))) list
   checks-usable q list k e =
-      subst (λ vs. All (IsUsableCheck vs conditions) list) (sym k.table) (usable source top corner s.step.definition conditions list (checks-are list e) no-fault h.given.have_checks.read)
+      subst (λ n. All (IsUsableCheck q.table conditions n) list) (sym (ap length own-lates ∙ length-map (copies_in s.step.definition) (def.late_number (elements source top corner) s)))
+      (subst (λ vs. All (IsUsableCheck vs conditions (length (copies_in s.step.definition))) list) (sym k.table) (usable source top corner s.step.definition conditions list (checks-are list e) no-fault h.given.have_checks.read))
 
-  -- ---- over its nets
+  -- ---- over its nets and its Lates
+
+  abbrev own_late : DelayedCopy → ℕ
+  own_late = def.late_number (elements source top corner) s
 
   pub uses-are : (all : List OwnNet) (q : Prepared) (list : List ReadyCheck) (scope : ℕ) → IsPrepared q s.step.definition → checks_at modules p.definition ≡ Some list → s.step.number ≡ scope
-      → map (λ c. def.check_use scope (bit_number all source s) (check_ready conditions q.table c)) list ≡ def.check_uses_of all source corner (tick_of source top) s
+      → map (λ c. def.check_use scope (bit_number all source s) own_late (check_ready conditions q.table (copies_in s.step.definition) c)) list ≡ def.check_uses_of all (elements source top corner) source corner (tick_of source top) s
   uses-are all q list scope k e n =
-      ap (λ j. map (λ c. def.check_use j (bit_number all source s) (check_ready conditions q.table c)) list) (sym n)
-      ∙ ap (λ vs. map (λ c. def.check_use s.step.number (bit_number all source s) (check_ready conditions vs c)) list) k.table
-      ∙ twice (check_ready conditions (variables s.step.definition)) (def.check_use s.step.number (bit_number all source s)) list
-      ∙ ap (map (def.check_use s.step.number (bit_number all source s))) (checks-are list e).checks
+      ap (λ j. map (λ c. def.check_use j (bit_number all source s) own_late (check_ready conditions q.table (copies_in s.step.definition) c)) list) (sym n)
+      ∙ ap (λ vs. map (λ c. def.check_use s.step.number (bit_number all source s) own_late (check_ready conditions vs (copies_in s.step.definition) c)) list) k.table
+      ∙ twice (check_ready conditions (variables s.step.definition) (copies_in s.step.definition)) (def.check_use s.step.number (bit_number all source s) own_late) list
+      ∙ ap (map (def.check_use s.step.number (bit_number all source s) own_late)) (checks-are list e).checks
     where
       twice : {A B C : Type 0} (f : A → B) (g : B → C) (xs : List A) → map (λ x. g (f x)) xs ≡ map g (map f xs)
       twice f g [] = refl
       twice f g (x ∷ xs) = ap (λ ys. g (f x) ∷ ys) (twice f g xs)
 
   pub uses-count : (all : List OwnNet) (q : Prepared) (list : List ReadyCheck) → IsPrepared q s.step.definition → checks_at modules p.definition ≡ Some list
-      → length list ≡ length (def.check_uses_of all source corner (tick_of source top) s)
+      → length list ≡ length (def.check_uses_of all (elements source top corner) source corner (tick_of source top) s)
   uses-count all q list k e =
-      sym (length-map list (λ c. def.check_use s.step.number (bit_number all source s) (check_ready conditions q.table c))) ∙ ap length (uses-are all q list s.step.number k e refl)
+      sym (length-map list (λ c. def.check_use s.step.number (bit_number all source s) own_late (check_ready conditions q.table (copies_in s.step.definition) c))) ∙ ap length (uses-are all q list s.step.number k e refl)

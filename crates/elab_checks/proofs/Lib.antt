@@ -3,9 +3,11 @@ pub mod Shelved
 pub mod SoFar
 pub mod OwnChecks
 pub mod EachModule
+pub mod Names
 pub mod SoundOperands
 pub mod BoundEvents
 pub mod MadeChecks
+pub mod LatesInOrder
 pub mod InstanceChecks
 pub mod Counts
 pub mod OneByOne

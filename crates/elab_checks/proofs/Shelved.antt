@@ -1,12 +1,14 @@
 -- What stands in a table of conditions stays as the table grows.
-use Rattle.std.specs.Prelude.{◌≡◌, ℕ, pos, ◌<◌, ◌≤◌, All, List, [], ◌∷◌, ◌++◌, Option, Some, None, IfSome, length, map, option_to_list, slice_get, refl}
+use Rattle.std.specs.Prelude.{◌≡◌, ℕ, ◌<◌, ◌≤◌, All, List, [], ◌∷◌, ◌++◌, Option, Some, None, IfSome, length, map, slice_get, refl}
 use Rattle.std.specs.Option.{option_map}
 use Rattle.std.proofs.Common.{sym, ◌∙◌, ap, arith, subst, length-append}
 use Rattle.cond_expr.specs.Condition.{Condition}
 use Rattle.elab_laws.specs.Handing.{all_bits}
+use Rattle.elab_model.specs.Lates.{DelayedCopy}
 use Rattle.elab_model.specs.Names.{Variable}
 use Rattle.elab_ends.specs.Seen.{bit_seen}
-use Rattle.specify_checks.specs.Seen.{check_seen, enabling_seen, event_seen, IsFitting, IsSpelledCheck, IsSpelledEvent}
+use Rattle.specify_checks.specs.Copies.{both_at}
+use Rattle.specify_checks.specs.Seen.{check_seen, enabling_seen, event_seen, limits_seen, IsFitting, IsSpelledCheck, IsSpelledEvent}
 use Rattle.specify_checks.specs.declared.checks.ModuleCheck.{ModuleCheck}
 use Rattle.specify_checks.specs.declared.events.ModuleEvent.{ModuleEvent}
 use Rattle.elab_paths.specs.Shelving.{AreRead, ListGrows}
@@ -79,26 +81,25 @@ datum-named conditions vs (Some e) (Some r) h lt = event-named conditions vs e r
 -- the reference event's condition comes before the data event's
 pub check_made : (mid new : List Condition) (c : ModuleCheck) (refer : ReadyEvent) (datum : Option ReadyEvent) → ListGrows mid new → IsShelvedEvent mid c.refer refer → IsShelvedDatum new c.datum datum
     → IsShelvedCheck new c
-    (record { place = c.place; kind = c.kind; refer = refer; datum = datum; first = c.first; second = c.second; threshold = c.threshold; notifier = c.notifier })
+    (record { place = c.place; kind = c.kind; refer = refer; datum = datum; limits = c.limits; threshold = c.threshold; notifier = c.notifier; copies = c.copies })
 check_made mid new c refer datum grows h k =
     let stays = event-stays mid new grows c.refer refer h in
     record {
-      seen = λ more vs. λ i. record {
+      seen = λ more vs cs. λ i. record {
         place = c.place;
         kind = c.kind;
         refer = (stays.seen more vs) i;
         datum = (datum-seen new c.datum datum k more vs) i;
-        limits = map pos (c.first ∷ option_to_list c.second);
+        limits = limits_seen c.limits;
         threshold = c.threshold;
         notifier = option_map (bit_seen vs) c.notifier;
+        copies = option_map (both_at cs) c.copies;
       };
-      named = λ vs fit. record {
+      named = λ vs copies fit. record {
         refer_stands = event-named new vs c.refer refer stays fit.refer_in_row;
         datum_stands = datum-named new vs c.datum datum k fit.datum_in_row;
         notifier_in_row = fit.notifier_in_row;
-        first_fits = fit.first_fits;
-        second_fits = fit.second_fits;
-        threshold_fits = fit.threshold_fits;
+        copies_within = fit.copies_within;
       };
     }
 
@@ -114,20 +115,18 @@ datum-stays : (vs : List Variable) (m n : ℕ) (o : Option ReadyEvent) → m ≤
 datum-stays vs m n None le h = tt
 datum-stays vs m n (Some e) le h = record { in_row = h.in_row; written = below-stays m n e.condition le h.written }
 
-pub ready-stays : (vs : List Variable) (m n : ℕ) (r : ReadyCheck) → m ≤ n → IsReadyCheck vs m r → IsReadyCheck vs n r
-ready-stays vs m n r le h = record {
+pub ready-stays : (vs : List Variable) (m n copies : ℕ) (r : ReadyCheck) → m ≤ n → IsReadyCheck vs m copies r → IsReadyCheck vs n copies r
+ready-stays vs m n copies r le h = record {
   refer_stands = record { in_row = h.refer_stands.in_row; written = below-stays m n r.refer.condition le h.refer_stands.written };
   datum_stands = datum-stays vs m n r.datum le h.datum_stands;
   notifier_in_row = h.notifier_in_row;
-  first_fits = h.first_fits;
-  second_fits = h.second_fits;
-  threshold_fits = h.threshold_fits;
+  copies_within = h.copies_within;
 }
 
 pub check-stays : (old new : List Condition) → ListGrows old new → (c : ModuleCheck) (r : ReadyCheck) → IsShelvedCheck old c r → IsShelvedCheck new c r
 check-stays old new grows c r h = record {
-  seen = λ more vs. ap (λ cs. check_ready cs vs r) (grown-front old new more grows) ∙ h.seen (grows.0 ++ more) vs;
-  named = λ vs fit. ready-stays vs (length old) (length new) r (grown-longer old new grows) (h.named vs fit);
+  seen = λ more vs ds. ap (λ cs. check_ready cs vs ds r) (grown-front old new more grows) ∙ h.seen (grows.0 ++ more) vs ds;
+  named = λ vs copies fit. ready-stays vs (length old) (length new) copies r (grown-longer old new grows) (h.named vs copies fit);
 }
 
 -- one check more
@@ -143,10 +142,11 @@ pub read-more : (start old new : List Condition) (cs : List ModuleCheck) (c : Mo
     → All IsSpelledCheck (cs ++ c ∷ []) → AreRead start → AreRead new
 read-more start old new cs c one h all begun = let r = all-parted IsSpelledCheck cs c all in one r.1 (h r.0 begun)
 
-pub checks-ready : (conditions : List Condition) (cs : List ModuleCheck) (list : List ReadyCheck) → Each (IsShelvedCheck conditions) cs list → (vs : List Variable) (more : List Condition)
-    → map (check_ready (conditions ++ more) vs) list ≡ map (check_seen vs) cs
-checks-ready conditions cs list h vs more = each-same (IsShelvedCheck conditions) (check_ready (conditions ++ more) vs) (check_seen vs) cs list (λ c r k. k.seen more vs) h
+pub checks-ready : (conditions : List Condition) (cs : List ModuleCheck) (list : List ReadyCheck) → Each (IsShelvedCheck conditions) cs list → (vs : List Variable) (ds : List DelayedCopy) (more : List Condition)
+    → map (check_ready (conditions ++ more) vs ds) list ≡ map (check_seen vs ds) cs
+checks-ready conditions cs list h vs ds more = each-same (IsShelvedCheck conditions) (check_ready (conditions ++ more) vs ds) (check_seen vs ds) cs list (λ c r k. k.seen more vs ds) h
 
-pub checks-named : (conditions : List Condition) (cs : List ModuleCheck) (list : List ReadyCheck) → Each (IsShelvedCheck conditions) cs list → (vs : List Variable) → All (IsFitting vs) cs
-    → All (IsReadyCheck vs (length conditions)) list
-checks-named conditions cs list h vs fits = each-all (IsShelvedCheck conditions) (IsFitting vs) (IsReadyCheck vs (length conditions)) cs list (λ c r k fit. k.named vs fit) h fits
+pub checks-named : (conditions : List Condition) (cs : List ModuleCheck) (list : List ReadyCheck) → Each (IsShelvedCheck conditions) cs list → (vs : List Variable) (copies : ℕ) → All (IsFitting vs copies) cs
+    → All (IsReadyCheck vs (length conditions) copies) list
+checks-named conditions cs list h vs copies fits =
+    each-all (IsShelvedCheck conditions) (IsFitting vs copies) (IsReadyCheck vs (length conditions) copies) cs list (λ c r k fit. k.named vs copies fit) h fits

@@ -16,7 +16,7 @@ use Rattle.elab_modules.proofs.Replaced.{set-there, set-either, set-keeps}
 use Rattle.elab_paths.specs.Shelving.{ListGrows}
 use Rattle.elab_paths.proofs.OnShelves.{grown-front, grown-longer}
 use Rattle.elab_checks.specs.OfModules.{AreChecksOf, AreSoundChecks, AreReadySoFar, HasReady}
-use Rattle.elab_checks.specs.Ready.{check_ready, IsReadyCheck}
+use Rattle.elab_checks.specs.Ready.{check_ready, copies_in, IsReadyCheck}
 use Rattle.elab_checks.specs.declared.shelving.ReadyCheck.{ReadyCheck}
 use Rattle.elab_checks.proofs.Shelved.{ready-stays}
 
@@ -27,8 +27,9 @@ Checks = List (Option (Vec ReadyCheck))
 
 checks-stay : (corner : Corner) (tick : ℤ) (m : Module) (old new : List Condition) (list : List ReadyCheck) → ListGrows old new → AreChecksOf corner tick m old list → AreChecksOf corner tick m new list
 checks-stay corner tick m old new list grows h = record {
-  checks = λ more. ap (λ cs. map (check_ready cs (variables m)) list) (grown-front old new more grows) ∙ h.checks (grows.0 ++ more);
-  named = All-weaker (IsReadyCheck (variables m) (length old)) (IsReadyCheck (variables m) (length new)) (λ r k. ready-stays (variables m) (length old) (length new) r (grown-longer old new grows) k) list h.named;
+  checks = λ more. ap (λ cs. map (check_ready cs (variables m) (copies_in m)) list) (grown-front old new more grows) ∙ h.checks (grows.0 ++ more);
+  named = All-weaker (IsReadyCheck (variables m) (length old) (length (copies_in m))) (IsReadyCheck (variables m) (length new) (length (copies_in m)))
+      (λ r k. ready-stays (variables m) (length old) (length new) (length (copies_in m)) r (grown-longer old new grows) k) list h.named;
 }
 
 sound-stays : (corner : Corner) (tick : ℤ) (m : Module) (old new : List Condition) (list : List ReadyCheck) → ListGrows old new → AreSoundChecks corner tick m old list → AreSoundChecks corner tick m new list

@@ -15,10 +15,11 @@ use Rattle.vl_tree.specs.Tree.{Event, Word, Check, Module, Source}
 use Rattle.elab_model.specs.declared.kinds.ElabKind.TheVariants.{TooDeep}
 use Rattle.elab_model.specs.Delays.{tick_of}
 use Rattle.elab_model.specs.Faults.{fault_if}
+use Rattle.elab_model.specs.Lates.{DelayedCopy, signal_count}
 use Rattle.elab_model.specs.Names.{Variable, variables}
 use Rattle.specify_model.specs.Blocks.{parameters, specify_items}
-use Rattle.specify_model.specs.CheckFaults.{edge_faults, words_faults, event_condition_faults, event_faults, some_event_faults, limit_faults, threshold_faults, notifier_faults, signal_faults, check_faults, timing_check_faults}
-use Rattle.specify_model.specs.Checks.{ModuleEvent, ModuleCheck, check_texts, data_of, enabled_by, event_of, limits_in, module_check, notifier_of, reference_of, threshold_of, timing_checks}
+use Rattle.specify_model.specs.CheckFaults.{edge_faults, words_faults, event_condition_faults, event_faults, some_event_faults, limit_faults, threshold_faults, notifier_faults, weight_of, check_faults, timing_check_faults}
+use Rattle.specify_model.specs.Checks.{ModuleEvent, ModuleCheck, check_texts, data_of, enabled_by, event_of, limits_in, kind_of, module_check, notifier_of, reference_of, threshold_of, timing_checks}
 use Rattle.specify_model.specs.Conditions.{operands, tokens, tree_of}
 use Rattle.specify_model.specs.Faults.{condition_faults, first_place, operand_faults}
 use Rattle.specify_model.specs.Outputs.{measure}
@@ -30,7 +31,7 @@ use Rattle.specify_paths.specs.Seen.{IsRead}
 use Rattle.specify_checks.specs.Seen.{enabling_seen}
 use Rattle.elab_paths.specs.Uses.{AreSound}
 use Rattle.elab_paths.proofs.SoundConditions.{words-sound}
-use Rattle.elab_checks.specs.Ready.{check_ready, enabling_at, event_ready, IsReadyCheck, IsReadyEvent, IsReadyOf}
+use Rattle.elab_checks.specs.Ready.{check_ready, copies_in, enabling_at, event_ready, IsReadyCheck, IsReadyEvent, IsReadyOf}
 use Rattle.elab_checks.specs.Uses.{IsBindable, IsUsableCheck, IsUsableEvent}
 use Rattle.elab_checks.specs.declared.shelving.ReadyCheck.{ReadyCheck}
 use Rattle.elab_checks.specs.declared.shelving.ReadyEvent.{ReadyEvent}
@@ -62,11 +63,11 @@ datum-sound : (vs : List Variable) (o : Option Event) → some_event_faults vs o
 datum-sound vs None h = tt
 datum-sound vs (Some e) h = event-sound vs e h
 
-check-sound : (by : Measure) (vs : List Variable) (values : Values) (c : Check) → check_faults by vs values c ≡ [] → IsSoundCheck vs (module_check by vs values c)
-check-sound by vs values c h =
+check-sound : (signals : ℕ) (by : Measure) (vs : List Variable) (values : Values) (c : Check) → check_faults signals by vs values c ≡ [] → IsSoundCheck vs (module_check by vs values c)
+check-sound signals by vs values c h =
     let refers = event_faults vs (reference_of c) in
     let datums = some_event_faults vs (data_of c) in
-    let rest = flat_map (limit_faults by values) (limits_in c) ++ (threshold_faults by values (threshold_of c) ++ (notifier_faults vs (notifier_of c) ++ signal_faults c)) in
+    let rest = flat_map (limit_faults (weight_of signals (kind_of c)) by values) (limits_in c) ++ (threshold_faults by values (threshold_of c) ++ notifier_faults vs (notifier_of c)) in
     let own = back (edge_faults c) (refers ++ (datums ++ rest)) h in
     record { refer = event-sound vs (reference_of c) (front refers (datums ++ rest) own); datum = datum-sound vs (data_of c) (front datums rest (back refers (datums ++ rest) own)) }
 
@@ -77,7 +78,8 @@ checks-sound corner tick m h =
     let values = value_of (parameters (specify_items m)) in
     let texts = check_texts (specify_items m) in
     all-map (IsSoundCheck vs) (module_check by vs values) texts
-    (all-weaker (λ c. check_faults by vs values c ≡ []) (λ c. IsSoundCheck vs (module_check by vs values c)) texts (λ c e. check-sound by vs values c e) (flat-empty (check_faults by vs values) texts h))
+    (all-weaker (λ c. check_faults (signal_count m) by vs values c ≡ []) (λ c. IsSoundCheck vs (module_check by vs values c)) texts (λ c e. check-sound (signal_count m) by vs values c e)
+    (flat-empty (check_faults (signal_count m) by vs values) texts h))
 
 -- ---- what stands ready
 
@@ -97,15 +99,16 @@ module _ (vs : List Variable) (conditions : List Condition) (read : All (λ c. I
   datum-usable None h s = tt
   datum-usable (Some e) h s = event-usable e h s
 
-  check-usable : (c : ReadyCheck) → IsReadyCheck vs (length conditions) c → IsSoundCheck vs (check_ready conditions vs c) → IsUsableCheck vs conditions c
-  check-usable c h s = record { ready = h; refer = event-usable c.refer h.refer_stands s.refer; datum = datum-usable c.datum h.datum_stands s.datum }
+  check-usable : (cs : List DelayedCopy) (c : ReadyCheck) → IsReadyCheck vs (length conditions) (length cs) c → IsSoundCheck vs (check_ready conditions vs cs c) → IsUsableCheck vs conditions (length cs) c
+  check-usable cs c h s = record { ready = h; refer = event-usable c.refer h.refer_stands s.refer; datum = datum-usable c.datum h.datum_stands s.datum }
 
 -- each check that stands ready of a module without fault can be used
 pub usable : (source : Source) (top : Module) (corner : Corner) (m : Module) (conditions : List Condition) (list : List ReadyCheck) → IsReadyOf source top corner conditions m list
-    → timing_check_faults corner (tick_of source top) m ≡ [] → All (λ c. IsRead c.tokens c) conditions → All (IsUsableCheck (variables m) conditions) list
+    → timing_check_faults corner (tick_of source top) m ≡ [] → All (λ c. IsRead c.tokens c) conditions → All (IsUsableCheck (variables m) conditions (length (copies_in m))) list
 usable source top corner m conditions list h none read =
     let vs = variables m in
-    let sound : AllByRecursion (IsSoundCheck vs) (map (check_ready conditions vs) list) = subst (AllByRecursion (IsSoundCheck vs)) (sym h.checks) (checks-sound corner (tick_of source top) m none) in
-    let all : All (λ c. IsSoundCheck vs (check_ready conditions vs c)) list =
-    All-from_recursion (λ c. IsSoundCheck vs (check_ready conditions vs c)) list (all-map_back (IsSoundCheck vs) (check_ready conditions vs) list sound) in
-    λ k d lt. check-usable vs conditions read (slice_index_or list k d) (h.named k d lt) (all k d lt)
+    let cs = copies_in m in
+    let sound : AllByRecursion (IsSoundCheck vs) (map (check_ready conditions vs cs) list) = subst (AllByRecursion (IsSoundCheck vs)) (sym h.checks) (checks-sound corner (tick_of source top) m none) in
+    let all : All (λ c. IsSoundCheck vs (check_ready conditions vs cs c)) list =
+    All-from_recursion (λ c. IsSoundCheck vs (check_ready conditions vs cs c)) list (all-map_back (IsSoundCheck vs) (check_ready conditions vs cs) list sound) in
+    λ k d lt. check-usable vs conditions read cs (slice_index_or list k d) (h.named k d lt) (all k d lt)

@@ -12,13 +12,13 @@ use Rattle.specify_model.specs.CheckFaults.{timing_check_faults}
 use Rattle.specify_model.specs.Checks.{timing_checks}
 use Rattle.elab_laws.specs.Words.{In}
 use Rattle.elab_hierarchy.specs.Tops.{StandsAt}
-use Rattle.elab_checks.specs.Ready.{check_ready, IsReadyCheck}
+use Rattle.elab_checks.specs.Ready.{check_ready, copies_in, IsReadyCheck}
 use Rattle.elab_checks.specs.declared.shelving.ReadyCheck.{ReadyCheck}
 
 -- these are the checks of a module, whatever comes behind what stands in the table
 pub record AreChecksOf (corner : Corner) (tick : ℤ) (m : Module) (conditions : List Condition) (list : List ReadyCheck) : Type 0 where
-  pub checks : (more : List Condition) → map (check_ready (conditions ++ more) (variables m)) list ≡ timing_checks corner tick m
-  pub named : All (IsReadyCheck (variables m) (length conditions)) list
+  pub checks : (more : List Condition) → map (check_ready (conditions ++ more) (variables m) (copies_in m)) list ≡ timing_checks corner tick m
+  pub named : All (IsReadyCheck (variables m) (length conditions) (length (copies_in m))) list
 
 -- and none has a fault
 pub record AreSoundChecks (corner : Corner) (tick : ℤ) (m : Module) (conditions : List Condition) (list : List ReadyCheck) : Type 0 where

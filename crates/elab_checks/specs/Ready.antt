@@ -1,5 +1,5 @@
 -- The timing checks of modules made ready for instances, as the definitions see them.
-use Rattle.std.specs.Prelude.{◌≡◌, ℕ, pos, ◌<◌, false, All, List, [], ◌∷◌, Option, Some, IfSome, length, map, option_to_list, slice_get}
+use Rattle.std.specs.Prelude.{◌≡◌, ℕ, ◌<◌, All, List, [], Option, Some, IfSome, length, map, slice_get}
 use Rattle.std.specs.List.{AllByRecursion}
 use Rattle.std.specs.Option.{option_and_then, option_map}
 use Rattle.cond_expr.specs.Condition.{Condition}
@@ -9,16 +9,17 @@ use Rattle.sg_delay.specs.declared.corners.Corner.{Corner}
 use Rattle.vl_tree.specs.Tree.{Module, Source}
 use Rattle.elab_model.specs.Delays.{tick_of}
 use Rattle.elab_model.specs.Hierarchy.{Instance, instances}
+use Rattle.elab_model.specs.Lates.{DelayedCopy, module_copies}
 use Rattle.elab_model.specs.Names.{Variable, variables}
-use Rattle.specify_model.specs.Checks.{ModuleEvent, ModuleCheck, timing_checks}
 use Rattle.elab_model.specs.Terms.{NetBit}
+use Rattle.specify_model.specs.Checks.{ModuleEvent, ModuleCheck, timing_checks}
 use Rattle.circuit_model.specs.Faults.{check_faults}
 use Rattle.elab_laws.specs.Handing.{all_bits}
 use Rattle.elab_hierarchy.specs.Tops.{StandsAt}
-use Rattle.specify_values.specs.Seen.{is_too_long}
 use Rattle.elab_ends.specs.Seen.{bit_seen}
 use Rattle.specify_paths.specs.Seen.{IsRead}
-use Rattle.specify_checks.specs.Seen.{enabling_seen}
+use Rattle.specify_checks.specs.Copies.{both_at}
+use Rattle.specify_checks.specs.Seen.{enabling_seen, limits_seen}
 use Rattle.elab_checks.specs.declared.modules.ReadyChecks.{ReadyChecks}
 use Rattle.elab_checks.specs.declared.shelving.ReadyCheck.{ReadyCheck}
 use Rattle.elab_checks.specs.declared.shelving.ReadyEvent.{ReadyEvent}
@@ -30,15 +31,16 @@ enabling_at conditions vs i = option_map (enabling_seen vs) (slice_get condition
 abbrev pub event_ready : List Condition → List Variable → ReadyEvent → ModuleEvent
 event_ready conditions vs e = record { bit = bit_seen vs e.bit; index = e.index; edge = e.edge; condition = option_and_then (enabling_at conditions vs) e.condition }
 
-abbrev pub check_ready : List Condition → List Variable → ReadyCheck → ModuleCheck
-check_ready conditions vs c = record {
+abbrev pub check_ready : List Condition → List Variable → List DelayedCopy → ReadyCheck → ModuleCheck
+check_ready conditions vs cs c = record {
   place = c.place;
   kind = c.kind;
   refer = event_ready conditions vs c.refer;
   datum = option_map (event_ready conditions vs) c.datum;
-  limits = map pos (c.first ∷ option_to_list c.second);
+  limits = limits_seen c.limits;
   threshold = c.threshold;
   notifier = option_map (bit_seen vs) c.notifier;
+  copies = option_map (both_at cs) c.copies;
 }
 
 -- what an event names stands in the row of bits and in the table of conditions
@@ -49,19 +51,21 @@ pub record IsReadyEvent (vs : List Variable) (conditions : ℕ) (e : ReadyEvent)
   pub in_row : e.bit < length (all_bits vs)
   pub written : IsWritten conditions e
 
--- and so does what a check names; limits and threshold are below 2^60 ticks
-pub record IsReadyCheck (vs : List Variable) (conditions : ℕ) (c : ReadyCheck) : Type 0 where
+-- and so does what a check names, whose copies are among those of the module, which are so many
+pub record IsReadyCheck (vs : List Variable) (conditions copies : ℕ) (c : ReadyCheck) : Type 0 where
   pub refer_stands : IsReadyEvent vs conditions c.refer
   pub datum_stands : IfSome c.datum (IsReadyEvent vs conditions)
   pub notifier_in_row : IfSome c.notifier (λ i. i < length (all_bits vs))
-  pub first_fits : is_too_long c.first ≡ false
-  pub second_fits : IfSome c.second (λ n. is_too_long n ≡ false)
-  pub threshold_fits : is_too_long c.threshold ≡ false
+  pub copies_within : IfSome c.copies (λ places. All (λ p. p < copies) places)
+
+-- the copies of a module, without the places that ask for them
+abbrev pub copies_in : Module → List DelayedCopy
+copies_in m = map (λ c. c.1) (module_copies m)
 
 -- what stands ready of a module: its timing checks
 pub record IsReadyOf (source : Source) (top : Module) (corner : Corner) (conditions : List Condition) (m : Module) (list : List ReadyCheck) : Type 0 where
-  pub checks : map (check_ready conditions (variables m)) list ≡ timing_checks corner (tick_of source top) m
-  pub named : All (IsReadyCheck (variables m) (length conditions)) list
+  pub checks : map (check_ready conditions (variables m) (copies_in m)) list ≡ timing_checks corner (tick_of source top) m
+  pub named : All (IsReadyCheck (variables m) (length conditions) (length (copies_in m))) list
 
 -- of each instance, wherever its module stands
 abbrev pub HasChecks : Source → Module → Corner → List Condition → ReadyChecks → Instance → Type 0

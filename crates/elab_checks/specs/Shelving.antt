@@ -2,6 +2,7 @@
 use Rattle.std.specs.Prelude.{◌≡◌, ℕ, ◌<◌, List, ◌++◌, Option, Some, None, IfSome, length}
 use Rattle.std.specs.Option.{option_and_then, option_map}
 use Rattle.cond_expr.specs.Condition.{Condition}
+use Rattle.elab_model.specs.Lates.{DelayedCopy}
 use Rattle.elab_model.specs.Names.{Variable}
 use Rattle.specify_checks.specs.Seen.{check_seen, enabling_seen, event_seen, IsFitting}
 use Rattle.specify_checks.specs.declared.checks.ModuleCheck as code_check
@@ -29,5 +30,5 @@ IsShelvedDatum conditions (Some e) (Some r) = IsShelvedEvent conditions e r
 
 -- and those of a check
 pub record IsShelvedCheck (conditions : List Condition) (c : code_check.ModuleCheck) (r : ReadyCheck) : Type 0 where
-  pub seen : (more : List Condition) (vs : List Variable) → check_ready (conditions ++ more) vs r ≡ check_seen vs c
-  pub named : (vs : List Variable) → IsFitting vs c → IsReadyCheck vs (length conditions) r
+  pub seen : (more : List Condition) (vs : List Variable) (cs : List DelayedCopy) → check_ready (conditions ++ more) vs cs r ≡ check_seen vs cs c
+  pub named : (vs : List Variable) (copies : ℕ) → IsFitting vs copies c → IsReadyCheck vs (length conditions) copies r

@@ -1,5 +1,5 @@
 -- The checks of a circuit, as they are added one after another.
-use Rattle.std.specs.Prelude.{◌≡◌, ℕ, ℤ, pos, ◌<◌, ◌∷◌, ◌++◌, All, List, [], Option, Some, None, IfSome, length, map, slice_get}
+use Rattle.std.specs.Prelude.{◌≡◌, ℕ, ◌<◌, ◌∷◌, ◌++◌, All, List, [], Option, Some, IfSome, length, map, slice_get}
 use Rattle.std.specs.Option.{option_and_then, option_map}
 use Rattle.cond_expr.specs.Condition.{Condition}
 use Rattle.cond_expr.specs.Token.{Tok}
@@ -9,6 +9,7 @@ use Rattle.sg_circuit.specs.declared.checks.Check.{Check}
 use Rattle.sg_circuit.specs.declared.checks.CheckConditions.{CheckConditions}
 use Rattle.sg_circuit.specs.declared.checks.CheckTiming.{CheckTiming}
 use Rattle.sg_circuit.specs.declared.checks.Terminal.{Terminal}
+use Rattle.elab_model.specs.Lates.{DelayedCopy}
 use Rattle.elab_model.specs.Names.{Variable}
 use Rattle.elab_laws.specs.Handing.{all_bits}
 use Rattle.specify_model.specs.Conditions.{over}
@@ -44,8 +45,8 @@ pub record IsUsableEvent (vs : List Variable) (conditions : List Condition) (e :
   pub in_row : e.bit < length (all_bits vs)
   pub condition : IsBindable vs conditions e.condition
 
-pub record IsUsableCheck (vs : List Variable) (conditions : List Condition) (c : ReadyCheck) : Type 0 where
-  pub ready : IsReadyCheck vs (length conditions) c
+pub record IsUsableCheck (vs : List Variable) (conditions : List Condition) (copies : ℕ) (c : ReadyCheck) : Type 0 where
+  pub ready : IsReadyCheck vs (length conditions) copies c
   pub refer : IsUsableEvent vs conditions c.refer
   pub datum : IfSome c.datum (IsUsableEvent vs conditions)
 
@@ -53,20 +54,20 @@ pub record IsUsableCheck (vs : List Variable) (conditions : List Condition) (c :
 abbrev pub terminal_ready : List Variable → ReadyEvent → Terminal
 terminal_ready vs e = record { name = (bit_seen vs e.bit).name; bit = e.index }
 
--- the second limit of a check; without one it is 0
-abbrev pub second_ticks : Option ℕ → ℤ
-second_ticks None = pos 0
-second_ticks (Some n) = pos n
+-- the elements that delay the copies of an instance's module, as a row and as a function
+abbrev pub AreLates : List DelayedCopy → List ℕ → (DelayedCopy → ℕ) → Type 0
+AreLates cs lates late = lates ≡ map late cs
 
 -- one check more of an instance
-pub record AddsCheck (conditions : List Condition) (vs : List Variable) (row : List ℕ) (scope : ℕ) (c : ReadyCheck) (old new : CheckTables) : Type 0 where
+pub record AddsCheck (conditions : List Condition) (vs : List Variable) (row lates : List ℕ) (scope : ℕ) (c : ReadyCheck) (old new : CheckTables) : Type 0 where
   pub check : Check
   pub timing : CheckTiming
   pub spelled : CheckConditions
   pub checks_are : new.checks.items ≡ old.checks.items ++ check ∷ []
   pub timings_are : new.timings.items ≡ old.timings.items ++ timing ∷ []
   pub spelled_are : new.conditions.items ≡ old.conditions.items ++ spelled ∷ []
-  pub check_is : (net : NetBit → ℕ) → IsRow vs row net → check ≡ check_of_use (check_use scope net (check_ready conditions vs c))
-  pub timing_is : (net : NetBit → ℕ) → IsRow vs row net → timing ≡ timing_of_use (check_use scope net (check_ready conditions vs c))
-  pub spelled_is : (net : NetBit → ℕ) → written_seen conditions spelled ≡ written_of_use (check_use scope net (check_ready conditions vs c))
+  pub check_is : (net : NetBit → ℕ) (late : DelayedCopy → ℕ) (cs : List DelayedCopy) → IsRow vs row net → check ≡ check_of_use (check_use scope net late (check_ready conditions vs cs c))
+  pub timing_is : (net : NetBit → ℕ) (late : DelayedCopy → ℕ) (cs : List DelayedCopy) → IsRow vs row net → AreLates cs lates late
+      → timing ≡ timing_of_use (check_use scope net late (check_ready conditions vs cs c))
+  pub spelled_is : (net : NetBit → ℕ) (late : DelayedCopy → ℕ) (cs : List DelayedCopy) → written_seen conditions spelled ≡ written_of_use (check_use scope net late (check_ready conditions vs cs c))
   pub below : AreWritten (length conditions) spelled

@@ -5,6 +5,7 @@ ghost use Rattle.elab_model.specs.Delays.{tick_of};
 ghost use Rattle.elab_model.specs.Faults.{RefusesOneOf};
 ghost use Rattle.elab_model.specs.Hierarchy as def;
 ghost use Rattle.elab_model.specs.HierarchyFaults.{two_definitions};
+ghost use Rattle.elab_model.specs.Names.{variables};
 ghost use Rattle.specify_model.specs.CheckFaults.{timing_check_faults};
 ghost use Rattle.circuit_model.specs.Faults.{check_faults};
 ghost use Rattle.elab_hierarchy.specs.Placing.{ArePlaced};
@@ -12,6 +13,7 @@ ghost use Rattle.elab_hierarchy.specs.Tops.{StandsAt};
 ghost use Rattle.elab_modules.specs.Ready.{IsPrepared};
 ghost use Rattle.elab_modules.specs.Reached.{IsLibrary};
 ghost use Rattle.elab_modules.specs.Telling.{Tells};
+ghost use Rattle.specify_checks.specs.Copies.{HasNames};
 ghost use Rattle.elab_paths.specs.OfModules.{StandsReady};
 ghost use Rattle.elab_paths.specs.Shelving.{AreRead, ListGrows};
 ghost use Rattle.elab_checks.specs.Ready.{HaveChecks};
@@ -42,7 +44,7 @@ fn checks_of(
     prepared: &Prepared,
     conditions: &mut Vec<Expr>,
 ) -> Result<Vec<ReadyCheck>, Refused<ElabKind>>
-    requires is { (m : GhostModule) × IsPrepared prepared.now m }
+    requires is { (m : GhostModule) × IsPrepared prepared.now m × HasNames m (variables m) }
     requires fits { tick.power ≤ℤ prepared.now.definition.now.mark.scale.precision.power }
     ensures longer { OnOk result (ListGrows conditions.old.items conditions.new.items) }
     ensures read { OnOk result (AreRead conditions.old.items → AreRead conditions.new.items) }
@@ -54,7 +56,13 @@ fn checks_of(
         tick,
         scale: prepared.definition.mark.scale,
     };
-    let checks = module_checks(alloc, by, &prepared.table, prepared.definition)?;
+    let checks = module_checks(
+        alloc,
+        by,
+        &prepared.table,
+        &prepared.copies,
+        prepared.definition,
+    )?;
     Ok(shelve(alloc, checks, conditions)?)
 }
 
@@ -71,6 +79,7 @@ fn add_module(
 ) -> Result<(), Refused<ElabKind>>
     requires within { place < length definitions.now }
     requires stands { StandsReady definitions.now tick.power library.now.parts.items place }
+    requires named { (m : GhostModule) → StandsAt definitions.now place m → HasNames m (variables m) }
     requires ready { AreReadySoFar definitions.now corner tick.power checks.old conditions.old.items }
     ensures ready { OnOk result (AreReadySoFar definitions.now corner tick.power checks.new conditions.new.items) }
     ensures there { OnOk result (HasReady checks.new place) }
@@ -103,6 +112,7 @@ fn add_modules(
 ) -> Result<(), Refused<ElabKind>>
     requires within { All (λ p. p.definition < length definitions.now) instances.now }
     requires stand { All (λ p. StandsReady definitions.now tick.power library.now.parts.items p.definition) instances.now }
+    requires named { All (λ p. (m : GhostModule) → StandsAt definitions.now p.definition m → HasNames m (variables m)) instances.now }
     requires ready { AreReadySoFar definitions.now corner tick.power checks.old conditions.old.items }
     ensures ready { OnOk result (AreReadySoFar definitions.now corner tick.power checks.new conditions.new.items) }
     ensures there { OnOk result (All (λ p. HasReady checks.new p.definition) instances.now) }

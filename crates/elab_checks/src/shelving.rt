@@ -1,6 +1,7 @@
 // The checks of a module, with their conditions in a table.
-ghost use Rattle.std.specs.Prelude.{◌≡◌, ◌++◌, All, List, IfOk, IfSome, OnOk, length, map};
+ghost use Rattle.std.specs.Prelude.{◌≡◌, ◌++◌, ℕ, All, List, IfOk, IfSome, OnOk, length, map};
 ghost use Rattle.cond_expr.specs.Condition.{Condition};
+ghost use Rattle.elab_model.specs.Lates.{DelayedCopy};
 ghost use Rattle.elab_model.specs.Names.{Variable};
 ghost use Rattle.specify_paths.specs.Seen.{IsRead};
 ghost use Rattle.specify_checks.specs.Seen.{check_seen, IsFitting, IsSpelledCheck, IsSpelledEvent};
@@ -12,7 +13,7 @@ use cond_expr::Expr;
 use sg_circuit::CheckKind;
 use sg_logic::Edge;
 use sg_text::{NoMemory, Place};
-use specify_checks::{ModuleCheck, ModuleEvent};
+use specify_checks::{CheckLimits, ModuleCheck, ModuleEvent};
 use std::alloc::Global;
 
 /// The events of a terminal: its bit, a place in the row of bits of the module's table, the index that the text names, and the place of its condition in the table of conditions.
@@ -31,11 +32,12 @@ pub struct ReadyCheck {
     pub kind: CheckKind,
     pub refer: ReadyEvent,
     pub datum: Option<ReadyEvent>,
-    pub first: u64,
-    pub second: Option<u64>,
+    pub limits: CheckLimits,
     pub threshold: u64,
     /// The reg that a violation toggles, a place in the row of bits.
     pub notifier: Option<usize>,
+    /// The delayed copies that it sees, by their places among those of the module.
+    pub copies: Option<[usize; 2]>,
 }
 
 // The place of a condition in the table, once it is there.
@@ -100,10 +102,10 @@ fn shelve_check(check: ModuleCheck, conditions: &mut Vec<Expr>) -> Result<ReadyC
         kind: check.kind,
         refer,
         datum,
-        first: check.first,
-        second: check.second,
+        limits: check.limits,
         threshold: check.threshold,
         notifier: check.notifier,
+        copies: check.copies,
     })
 }
 
@@ -114,8 +116,8 @@ pub fn shelve(
     conditions: &mut Vec<Expr>,
 ) -> Result<Vec<ReadyCheck>, NoMemory>
     ensures kept { OnOk result (ListGrows conditions.old.items conditions.new.items) }
-    ensures checks { IfOk result (λ list. (vs : List Variable) (more : List Condition) → map (check_ready (conditions.new.items ++ more) vs) list.items ≡ map (check_seen vs) checks.items) }
-    ensures named { IfOk result (λ list. (vs : List Variable) → All (IsFitting vs) checks.items → All (IsReadyCheck vs (length conditions.new.items)) list.items) }
+    ensures checks { IfOk result (λ list. (vs : List Variable) (cs : List DelayedCopy) (more : List Condition) → map (check_ready (conditions.new.items ++ more) vs cs) list.items ≡ map (check_seen vs cs) checks.items) }
+    ensures named { IfOk result (λ list. (vs : List Variable) (copies : ℕ) → All (IsFitting vs copies) checks.items → All (IsReadyCheck vs (length conditions.new.items) copies) list.items) }
     ensures read { OnOk result (All IsSpelledCheck checks.items → AreRead conditions.old.items → AreRead conditions.new.items) }
 {
     let mut list = Vec::new(alloc);

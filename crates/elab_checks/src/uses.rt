@@ -1,12 +1,14 @@
 // The timing checks of instances, over nets.
-ghost use Rattle.std.specs.Prelude.{◌≡◌, ◌<◌, ◌≤◌, ◌+◌, ◌++◌, ◌^◌, ℕ, List, All, Some, pos, IfOk, IfErr, IfSome, OnOk, length, map, slice_get};
+ghost use Rattle.std.specs.Prelude.{◌≡◌, ◌<◌, ◌≤◌, ◌+◌, ◌∷◌, ◌++◌, ◌^◌, [], ℕ, List, All, Some, IfOk, IfErr, IfSome, OnOk, length, map, slice_get};
 ghost use Rattle.std.specs.Option.{option_and_then, option_map};
 ghost use Rattle.cond_expr.specs.Condition.{Condition};
 ghost use Rattle.sg_delay.specs.declared.corners.Corner as ghost_corner;
 ghost use Rattle.vl_tree.specs.Tree.{Module, Source};
 ghost use Rattle.elab_model.specs.Delays.{tick_of};
+ghost use Rattle.elab_model.specs.Drivers.{elements};
 ghost use Rattle.elab_model.specs.Faults.{RefusesOneOf};
 ghost use Rattle.elab_model.specs.Hierarchy.{Instance};
+ghost use Rattle.elab_model.specs.Lates.{DelayedCopy};
 ghost use Rattle.elab_model.specs.Nets.{OwnNet, nets};
 ghost use Rattle.circuit_model.specs.CheckUses as def;
 ghost use Rattle.circuit_model.specs.Faults.{over};
@@ -17,9 +19,11 @@ ghost use Rattle.elab_hierarchy.specs.declared.instances.Placed as ghost_placed;
 ghost use Rattle.elab_elements.specs.Adding.{IsHere};
 ghost use Rattle.elab_model.specs.Terms.{NetBit};
 ghost use Rattle.elab_paths.specs.Uses.{IsRow};
+ghost use Rattle.specify_checks.specs.Copies.{both_at};
+ghost use Rattle.specify_checks.specs.Seen.{limits_seen};
 ghost use Rattle.elab_checks.specs.Ready.{check_ready, event_ready, IsReadyCheck};
 ghost use Rattle.elab_checks.specs.Standing.{AreGiven, IsStanding, checks_at};
-ghost use Rattle.elab_checks.specs.Uses.{enabled_over, second_ticks, terminal_ready, AddsCheck, AreUses, IsBindable, IsUsableCheck, IsUsableEvent};
+ghost use Rattle.elab_checks.specs.Uses.{enabled_over, terminal_ready, AddsCheck, AreLates, AreUses, IsBindable, IsUsableCheck, IsUsableEvent};
 ghost use Rattle.elab_checks.specs.declared.shelving.ReadyCheck as ghost_check;
 
 use crate::modules::ReadyChecks;
@@ -31,8 +35,9 @@ use elab_modules::{Library, module_at};
 use elab_nets::Rows;
 use elab_paths::{Operands, check_count, row_of};
 use elab_variables::Table;
-use sg_circuit::{Check, CheckConditions, CheckTiming, Event, NetId, Terminal};
+use sg_circuit::{Check, CheckConditions, CheckTiming, Event, FanOut, NetId, Terminal};
 use sg_text::{NoMemory, Refused, Text};
+use specify_checks::CheckLimits;
 use std::alloc::Global;
 
 /// The timing checks of a circuit, by instance and then in text order (IEEE 1364-2005, clause 15): how a report names each, what it looks for, and how its conditions are spelled.
@@ -43,12 +48,13 @@ pub struct CheckTables {
     pub conditions: Vec<CheckConditions>,
 }
 
-// An instance: its number, the variables of its module, and the nets of their bits.
+// An instance: its number, the variables of its module, the nets of their bits, and the elements that delay the copies of the module's signals.
 #[derive(Clone, Copy)]
 struct Here<'m, 'a> {
     scope: u32,
     table: &'m Table<'a>,
     row: &'m [NetId],
+    lates: &'m [u32],
 }
 
 // The condition at a place of the table, over nets.
@@ -119,22 +125,20 @@ fn datum_of(
     }
 }
 
-// A limit as a circuit has it.
-fn limit_of(ticks: u64) -> i64
-    requires { ticks < 2 ^ 60 }
-    ensures { result ≡ pos ticks }
+// A kind without a second limit has 0 in its place.
+fn two_limits(limits: CheckLimits) -> [i64; 2]
+    ensures { result ≡ def.two_limits (limits_seen limits) }
 {
-    ticks as i64
+    [limits.first, limits.second.unwrap_or(0)]
 }
 
-fn second_limit(ticks: Option<u64>) -> i64
-    requires { IfSome ticks (λ n. n < 2 ^ 60) }
-    ensures { result ≡ second_ticks ticks }
+// The elements that delay what a check sees.
+fn lates_of(lates: &[u32], copies: Option<[usize; 2]>) -> Option<[u32; 2]>
+    requires { IfSome copies (λ places. All (λ p. p < length lates.now) places) }
+    ensures { (cs : List DelayedCopy) (late : DelayedCopy → ℕ) → AreLates cs lates.now late → result ≡ option_map (λ two. late two.0 ∷ late two.1 ∷ []) (option_map (both_at cs) copies) }
 {
-    match ticks {
-        Some(ticks) => limit_of(ticks),
-        None => 0,
-    }
+    let places = copies?;
+    Some([lates[places[0]], lates[places[1]]])
 }
 
 fn timing_of(
@@ -144,9 +148,9 @@ fn timing_of(
     check: &ReadyCheck,
 ) -> Result<CheckTiming, NoMemory>
     requires row { (net : NetBit → ℕ) × IsRow here.table.now here.row.now net }
-    requires usable { IsUsableCheck here.table.now conditions.now check.now }
-    ensures { IfOk result (λ t. (net : NetBit → ℕ) → IsRow here.entry.table.now here.entry.row.now net
-        → t ≡ def.timing_of_use (def.check_use here.entry.scope net (check_ready conditions.now here.entry.table.now check.now))) }
+    requires usable { IsUsableCheck here.table.now conditions.now (length here.lates.now) check.now }
+    ensures { IfOk result (λ t. (net : NetBit → ℕ) (late : DelayedCopy → ℕ) (cs : List DelayedCopy) → IsRow here.entry.table.now here.entry.row.now net → AreLates cs here.entry.lates.now late
+        → t ≡ def.timing_of_use (def.check_use here.entry.scope net late (check_ready conditions.now here.entry.table.now cs check.now))) }
 {
     let refer = event_of(alloc, here, conditions, check.refer)?;
     let datum = datum_of(alloc, here, conditions, check.datum)?;
@@ -154,9 +158,9 @@ fn timing_of(
         kind: check.kind,
         refer,
         datum,
-        limits: [limit_of(check.first), second_limit(check.second)],
+        limits: two_limits(check.limits),
         threshold: check.threshold,
-        late: None,
+        late: lates_of(here.lates, check.copies),
     })
 }
 
@@ -199,9 +203,9 @@ fn notifier_of(row: &[NetId], notifier: Option<usize>) -> Option<NetId>
 
 fn check_of(alloc: Global, here: Here, check: &ReadyCheck) -> Result<Check, NoMemory>
     requires row { (net : NetBit → ℕ) × IsRow here.table.now here.row.now net }
-    requires ready { (conditions : ℕ) × IsReadyCheck here.table.now conditions check.now }
-    ensures { IfOk result (λ k. (net : NetBit → ℕ) (conditions : List Condition) → IsRow here.entry.table.now here.entry.row.now net
-        → k ≡ def.check_of_use (def.check_use here.entry.scope net (check_ready conditions here.entry.table.now check.now))) }
+    requires ready { (conditions : ℕ) × ((copies : ℕ) × IsReadyCheck here.table.now conditions copies check.now) }
+    ensures { IfOk result (λ k. (net : NetBit → ℕ) (late : DelayedCopy → ℕ) (cs : List DelayedCopy) (conditions : List Condition) → IsRow here.entry.table.now here.entry.row.now net
+        → k ≡ def.check_of_use (def.check_use here.entry.scope net late (check_ready conditions here.entry.table.now cs check.now))) }
 {
     let refer = terminal_of(alloc, here.table, check.refer)?;
     let datum = datum_terminal(alloc, here.table, check.datum)?;
@@ -233,8 +237,8 @@ fn add_check(
     made: &mut CheckTables,
 ) -> Result<(), Refused<ElabKind>>
     requires row { (net : NetBit → ℕ) × IsRow here.table.now here.row.now net }
-    requires usable { IsUsableCheck here.table.now conditions.now check.now }
-    ensures added { OnOk result (AddsCheck conditions.now here.entry.table.now here.entry.row.now here.entry.scope check.now made.old made.new) }
+    requires usable { IsUsableCheck here.table.now conditions.now (length here.lates.now) check.now }
+    ensures added { OnOk result (AddsCheck conditions.now here.entry.table.now here.entry.row.now here.entry.lates.now here.entry.scope check.now made.old made.new) }
     ensures few { OnOk result (length made.new.checks.items ≤ 2 ^ 22) }
     ensures refused { IfErr result (λ r. (more : ℕ) → RefusesCount (length made.old.checks.items + 1 + more) r) }
 {
@@ -259,11 +263,11 @@ fn add_checks(
     made: &mut CheckTables,
 ) -> Result<(), Refused<ElabKind>>
     requires row { (net : NetBit → ℕ) × IsRow here.table.now here.row.now net }
-    requires usable { All (IsUsableCheck here.table.now conditions.now) checks.now }
+    requires usable { All (IsUsableCheck here.table.now conditions.now (length here.lates.now)) checks.now }
     requires few { length made.old.checks.items ≤ 2 ^ 22 }
-    ensures uses { OnOk result ((all : List OwnNet) (source : Source) (s : Instance) (us : List def.CheckUse) → IsHere all source s here.entry.scope here.entry.table.now here.entry.row.now
-        → AreUses conditions.now made.old us
-        → AreUses conditions.now made.new (us ++ map (λ k. def.check_use here.entry.scope (bit_number all source s) (check_ready conditions.now here.entry.table.now k)) checks.now)) }
+    ensures uses { OnOk result ((all : List OwnNet) (source : Source) (s : Instance) (late : DelayedCopy → ℕ) (cs : List DelayedCopy) (us : List def.CheckUse)
+        → IsHere all source s here.entry.scope here.entry.table.now here.entry.row.now → AreLates cs here.entry.lates.now late → AreUses conditions.now made.old us
+        → AreUses conditions.now made.new (us ++ map (λ k. def.check_use here.entry.scope (bit_number all source s) late (check_ready conditions.now here.entry.table.now cs k)) checks.now)) }
     ensures few { OnOk result (length made.new.checks.items ≤ 2 ^ 22) }
     ensures refused { IfErr result (λ r. (total : ℕ) → length made.old.checks.items + length checks.now ≤ total → RefusesCount total r) }
 {
@@ -290,33 +294,35 @@ fn add_instance(
     modules: &ReadyChecks,
     conditions: &[Expr],
     rows: &Rows,
+    lates: &FanOut,
     number: usize,
     placed: &Placed,
     made: &mut CheckTables,
 ) -> Result<(), Refused<ElabKind>>
     requires at { (source : Source) × ((top : Module) × ((corner : ghost_corner.Corner) × ((list : List ghost_placed.Placed) × ((s : Instance)
-        × IsStanding source top corner library.now modules.now conditions.now list rows.now number placed.now s)))) }
+        × IsStanding source top corner library.now modules.now conditions.now list rows.now lates.now number placed.now s)))) }
     requires few { length made.old.checks.items ≤ 2 ^ 22 }
     ensures uses { OnOk result ((source : Source) (top : Module) (corner : ghost_corner.Corner) (list : List ghost_placed.Placed) (s : Instance) (us : List def.CheckUse)
-        → IsStanding source top corner library.now modules.now conditions.now list rows.now number placed.now s
-        → AreUses conditions.now made.old us → AreUses conditions.now made.new (us ++ def.check_uses_of (nets source top) source corner (tick_of source top) s)) }
+        → IsStanding source top corner library.now modules.now conditions.now list rows.now lates.now number placed.now s
+        → AreUses conditions.now made.old us → AreUses conditions.now made.new (us ++ def.check_uses_of (nets source top) (elements source top corner) source corner (tick_of source top) s)) }
     ensures few { OnOk result (length made.new.checks.items ≤ 2 ^ 22) }
     ensures refused { IfErr result (λ r. (source : Source) (top : Module) (corner : ghost_corner.Corner) (list : List ghost_placed.Placed) (s : Instance)
-        → IsStanding source top corner library.now modules.now conditions.now list rows.now number placed.now s
-        → (total : ℕ) → length made.old.checks.items + length (def.check_uses_of (nets source top) source corner (tick_of source top) s) ≤ total → RefusesCount total r) }
+        → IsStanding source top corner library.now modules.now conditions.now list rows.now lates.now number placed.now s
+        → (total : ℕ) → length made.old.checks.items + length (def.check_uses_of (nets source top) (elements source top corner) source corner (tick_of source top) s) ≤ total → RefusesCount total r) }
 {
     let prepared = module_at(library, placed.definition);
     let here = Here {
         scope: number as u32,
         table: &prepared.table,
         row: row_of(rows, number, prepared.table.bits()),
+        lates: lates.of(number as u32),
     };
     let checks = checks_at(modules, placed.definition);
     add_checks(alloc, here, conditions, checks, made)
 }
 
-/// The timing checks of instances, by instance and then in text order (IEEE 1364-2005, clause 15), with the modules' checks, their conditions in the table, and the nets of the instances'
-/// bits. Refuses more than 2^22 (TooMany, at the first byte of the first file). Takes memory in proportion to the checks of all instances.
+/// The timing checks of instances, by instance and then in text order (IEEE 1364-2005, clause 15), with the modules' checks, their conditions in the table, the nets of the instances'
+/// bits, and the numbers of the elements that delay signals of each instance, in order (15.8). Refuses more than 2^22 (TooMany, at the first byte of the first file). Takes memory in proportion to the checks of all instances.
 pub fn circuit_checks(
     alloc: Global,
     library: &Library,
@@ -324,12 +330,13 @@ pub fn circuit_checks(
     conditions: &[Expr],
     instances: &[Placed],
     rows: &Rows,
+    lates: &FanOut,
 ) -> Result<CheckTables, Refused<ElabKind>>
-    requires given { (source : Source) × ((top : Module) × ((corner : ghost_corner.Corner) × AreGiven source top corner library.now modules.now conditions.now instances.now rows.now)) }
-    ensures uses { IfOk result (λ made. (source : Source) (top : Module) (corner : ghost_corner.Corner) → AreGiven source top corner library.now modules.now conditions.now instances.now rows.now
+    requires given { (source : Source) × ((top : Module) × ((corner : ghost_corner.Corner) × AreGiven source top corner library.now modules.now conditions.now instances.now rows.now lates.now)) }
+    ensures uses { IfOk result (λ made. (source : Source) (top : Module) (corner : ghost_corner.Corner) → AreGiven source top corner library.now modules.now conditions.now instances.now rows.now lates.now
         → AreUses conditions.now made (def.check_uses source top corner)) }
     ensures few { IfOk result (λ made. length made.checks.items ≤ 2 ^ 22) }
-    ensures refused { IfErr result (λ r. (source : Source) (top : Module) (corner : ghost_corner.Corner) → AreGiven source top corner library.now modules.now conditions.now instances.now rows.now
+    ensures refused { IfErr result (λ r. (source : Source) (top : Module) (corner : ghost_corner.Corner) → AreGiven source top corner library.now modules.now conditions.now instances.now rows.now lates.now
         → RefusesOneOf (over (length (def.check_uses source top corner))) r) }
 {
     let mut made = CheckTables {
@@ -339,7 +346,7 @@ pub fn circuit_checks(
     };
     for (number, placed) in instances.iter().enumerate() {
         add_instance(
-            alloc, library, modules, conditions, rows, number, placed, &mut made,
+            alloc, library, modules, conditions, rows, lates, number, placed, &mut made,
         )?;
     }
     Ok(made)

@@ -46,6 +46,7 @@ checks_of-requires-clause-is c =
       c.requires.stands.own,
       is-prepared c.args.definitions.now c.args.tick.power c.args.library.now.parts.items c.args.place c.index.result.now c.in-Some-Module.prepared c.requires.stands.own
           c.requires.stands c.index.ensures there c.requires.stands.stands,
+      c.requires.named c.requires.stands.own c.requires.stands.stands,
     )
 
 pub checks_of-requires-clause-fits : goal.checks_of-requires-clause-fits

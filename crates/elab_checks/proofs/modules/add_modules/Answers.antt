@@ -1,7 +1,11 @@
 -- One instance more.
 use Rattle.std.proofs.Common.{sym, subst}
 use Rattle.std.proofs.lemmas.Result.{err_from_is_err_and}
+use Rattle.vl_tree.specs.Tree.{Module}
+use Rattle.elab_model.specs.Names.{variables}
+use Rattle.elab_hierarchy.specs.Tops.{StandsAt}
 use Rattle.elab_hierarchy.proofs.Whole.{refuses}
+use Rattle.specify_checks.specs.Copies.{HasNames}
 use Rattle.elab_paths.specs.OfModules.{StandsReady}
 use Rattle.elab_paths.proofs.OnShelves.{grows-none, grows-then}
 use Rattle.elab_checks.proofs.EachModule.{one-refused}
@@ -15,6 +19,11 @@ pub add_module-requires-clause-stands : goal.add_module-requires-clause-stands
 add_module-requires-clause-stands c =
     subst (λ p. StandsReady c.args.definitions.now c.args.tick.power c.args.library.now.parts.items p.definition) (sym c.placed-item.is)
     (c.requires.stand c.loop-placed.placed-index c.placed-item.result c.loop-placed-test.true)
+
+pub add_module-requires-clause-named : goal.add_module-requires-clause-named
+add_module-requires-clause-named c =
+    subst (λ p. (m : Module) → StandsAt c.args.definitions.now p.definition m → HasNames m (variables m)) (sym c.placed-item.is)
+    (c.requires.named c.loop-placed.placed-index c.placed-item.result c.loop-placed-test.true)
 
 pub returns-in_err-add_module-clause-refused : goal.returns-in_err-add_module-clause-refused
 returns-in_err-add_module-clause-refused c =

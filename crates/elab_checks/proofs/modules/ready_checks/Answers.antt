@@ -7,6 +7,7 @@ use Rattle.elab_hierarchy.proofs.Whole.{refuses}
 use Rattle.elab_modules.proofs.Named.{places-within}
 use Rattle.elab_paths.proofs.EachModule.{all-ready}
 use Rattle.elab_checks.specs.OfModules.{AreReadySoFar}
+use Rattle.elab_checks.proofs.Names.{all-names}
 use Rattle.elab_checks.proofs.EachModule.{have-checks, checks-refused}
 use Rattle.elab_checks.proofs.SoFar.{ready-none}
 use Rattle.elab_checks.proofs.modules.ready_checks.Goals as goal
@@ -17,6 +18,9 @@ add_modules-requires-clause-within c = places-within c.args.definitions.now c.ar
 pub add_modules-requires-clause-stand : goal.add_modules-requires-clause-stand
 add_modules-requires-clause-stand c =
     all-ready c.args.definitions.now c.args.corner c.requires.read.0 c.args.instances.now c.args.library.now c.args.tick.power c.requires.read.1 c.requires.read.2 c.requires.read.3
+
+pub add_modules-requires-clause-named : goal.add_modules-requires-clause-named
+add_modules-requires-clause-named c = all-names c.args.definitions.now c.args.corner c.requires.read.0 c.args.instances.now c.requires.read.1 c.requires.read.3.sound
 
 pub add_modules-requires-clause-ready : goal.add_modules-requires-clause-ready
 add_modules-requires-clause-ready c =

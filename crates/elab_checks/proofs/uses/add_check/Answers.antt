@@ -8,7 +8,7 @@ use Rattle.elab_checks.proofs.MadeChecks.{check-spelled, check-written}
 use Rattle.elab_checks.proofs.uses.add_check.Goals as goal
 
 pub check_of-requires-clause-ready : goal.check_of-requires-clause-ready
-check_of-requires-clause-ready c = (length c.args.conditions.now, c.requires.usable.ready)
+check_of-requires-clause-ready c = (length c.args.conditions.now, (length c.args.here.lates.now, c.requires.usable.ready))
 
 pub returns-in_err-check_count-clause-refused : goal.returns-in_err-check_count-clause-refused
 returns-in_err-check_count-clause-refused c =
@@ -24,9 +24,11 @@ returns-clause-added c = record {
   checks_are = c.in_ok-push.ensures.items;
   timings_are = c.in_ok-push-2.ensures.items;
   spelled_are = c.in_ok-push-3.ensures.items;
-  check_is = λ net r. c.in_ok-own.ensures net c.args.conditions.now r;
+  check_is = λ net late cs r. c.in_ok-own.ensures net late cs c.args.conditions.now r;
   timing_is = c.in_ok-timing.ensures;
-  spelled_is = λ net. check-spelled c.args.here.table.now c.args.here.row.now net c.args.conditions.now c.args.here.scope c.args.check.now _ c.requires.usable.ready refl c.condition_in.ensures;
+  spelled_is = λ net late cs.
+      check-spelled c.args.here.table.now c.args.here.row.now net late cs c.args.conditions.now c.args.here.scope c.args.check.now _ (length c.args.here.lates.now) c.requires.usable.ready refl
+      c.condition_in.ensures;
   below = subst (λ d. AreWritten (length c.args.conditions.now) (record { refer = c.args.check.now.refer.condition; datum = d })) (sym c.condition_in.ensures)
-      (check-written c.args.here.table.now (length c.args.conditions.now) c.args.check.now c.requires.usable.ready);
+      (check-written c.args.here.table.now (length c.args.conditions.now) (length c.args.here.lates.now) c.args.check.now c.requires.usable.ready);
 }

@@ -19,15 +19,15 @@ within vs row net None r h = tt
 within vs row net (Some i) r h = bit-within vs row net i r h
 
 pub terminal_of-requires : goal.terminal_of-requires
-terminal_of-requires c = c.requires.ready.1.refer_stands.in_row
+terminal_of-requires c = c.requires.ready.1.1.refer_stands.in_row
 
 pub datum_terminal-requires : goal.datum_terminal-requires
-datum_terminal-requires c = in-row c.args.here.table.now c.requires.ready.0 c.args.check.now.datum c.requires.ready.1.datum_stands
+datum_terminal-requires c = in-row c.args.here.table.now c.requires.ready.0 c.args.check.now.datum c.requires.ready.1.1.datum_stands
 
 pub notifier_of-requires : goal.notifier_of-requires
-notifier_of-requires c = within c.args.here.table.now c.args.here.row.now c.requires.row.0 c.args.check.now.notifier c.requires.row.1 c.requires.ready.1.notifier_in_row
+notifier_of-requires c = within c.args.here.table.now c.args.here.row.now c.requires.row.0 c.args.check.now.notifier c.requires.row.1 c.requires.ready.1.1.notifier_in_row
 
 pub returns : goal.returns
-returns c = λ net conditions r.
-    check-named c.args.here.table.now c.args.here.row.now net conditions c.args.here.scope c.args.check.now c.in_ok-refer.refer c.in_ok-datum.datum c.notifier_of.result r c.requires.ready.1.notifier_in_row
+returns c = λ net late cs conditions r.
+    check-named c.args.here.table.now c.args.here.row.now net late cs conditions c.args.here.scope c.args.check.now c.in_ok-refer.refer c.in_ok-datum.datum c.notifier_of.result r c.requires.ready.1.1.notifier_in_row
     c.in_ok-refer.ensures c.in_ok-datum.ensures c.notifier_of.ensures
