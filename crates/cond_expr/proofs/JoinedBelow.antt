@@ -6,7 +6,8 @@ use Rattle.cond_expr.specs.declared.tree.Node.{Node}
 use Rattle.cond_expr.specs.declared.tree.Node.TheVariants.{Chain}
 use Rattle.cond_expr.specs.Tree.{Cond, binary, chain_of, view}
 use Rattle.cond_expr.specs.Values.{AreBelow}
-use Rattle.cond_expr.proofs.Views.{view_part, view_chain}
+use Rattle.cond_expr.specs.Begun.{view_part}
+use Rattle.cond_expr.proofs.Views.{view_chain}
 use Rattle.cond_expr.proofs.Chains.{front, front_more, front_all}
 use Rattle.cond_expr.proofs.Below.{part_below}
 

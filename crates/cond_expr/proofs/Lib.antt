@@ -1,5 +1,6 @@
 -- The modules of this folder.
 pub mod AnyDepth
+pub mod BegunLaws
 pub mod Below
 pub mod BindingExamples
 pub mod BindingLaws

@@ -1,5 +1,6 @@
 -- The modules of this folder.
 pub mod AllKinds
+pub mod Begun
 pub mod Binding
 pub mod Codes
 pub mod Condition

@@ -1,12 +1,14 @@
 //! Conditions of specify paths and timing checks: their tokens, their trees and their values.
 #![tactic(auto)]
 
+mod begun;
 mod binding;
 mod bound;
 mod conditions;
 mod copies;
 mod expr;
 mod faults;
+mod joining;
 mod laws;
 mod operators;
 mod reading;
