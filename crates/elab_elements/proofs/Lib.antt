@@ -18,7 +18,6 @@ pub mod InnerNets
 pub mod DrivenHere
 pub mod PathMeaning
 pub mod LateMeaning
-pub mod LateNumbers
 pub mod MemberLaws
 pub mod AllInstances
 pub mod NamedMember

@@ -3,7 +3,6 @@ pub mod Seen
 pub mod Adding
 pub mod Puts
 pub mod Terminals
-pub mod Lates
 pub mod Words
 pub mod Next
 pub mod Standing

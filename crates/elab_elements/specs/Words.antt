@@ -1,9 +1,7 @@
 -- What private functions of the crate add, from what the code has of an instance. No public contract cites it.
-use Rattle.std.specs.Prelude.{ℕ, suc, ◌+◌, ◌-◌, ◌==◌, false, List, [], ◌∷◌, ◌++◌, Bool, ◌&&◌, Option, Some, None, map, nat_lt, flat_map, find, option_map, take, zip, length, slice_get, slice_index_or, if◌then◌else◌}
-use Rattle.std.specs.List.{enumerate_from, range_with_len}
+use Rattle.std.specs.Prelude.{ℕ, suc, ◌+◌, ◌-◌, ◌==◌, false, List, [], ◌∷◌, ◌++◌, Bool, ◌&&◌, Option, Some, None, map, flat_map, find, option_map, take, zip, length, slice_get, slice_index_or, if◌then◌else◌}
+use Rattle.std.specs.List.{range_with_len}
 use Rattle.sg_circuit.specs.Closed.{width_of}
-use Rattle.sg_circuit.specs.declared.building.Pin.{Pin}
-use Rattle.sg_circuit.specs.declared.elements.Element.{Element}
 use Rattle.sg_circuit.specs.declared.elements.ElementKind.{ElementKind}
 use Rattle.sg_circuit.specs.declared.elements.ElementKind.TheVariants as kind
 use Rattle.sg_logic.specs.declared.values.Value.{Value}
@@ -23,7 +21,6 @@ use Rattle.elab_lates.specs.declared.copies.PlacedCopy.{PlacedCopy}
 use Rattle.elab_modules.specs.declared.library.Ready as code_ready
 use Rattle.elab_modules.specs.declared.library.Ready.TheVariants as ready
 use Rattle.elab_ports.specs.declared.constants.PortConstant as code_constant
-use Rattle.elab_elements.specs.Lates.{is_late}
 use Rattle.elab_elements.specs.Puts.{Put, put}
 
 -- the number at a place of a row
@@ -133,13 +130,6 @@ copy_numbers first inside cs = numbered first (map (λ c. named_in inside c.copy
 
 abbrev pub late_puts : ℕ → List ℕ → PlacedCopy × ℕ → List Put
 late_puts scope row c = put scope c.0.place (net_in row c.0.copy.signal ∷ []) c.1 (kind.Late 0) ∷ []
-
--- the numbers of those of the first so many scopes, each under its scope
-abbrev pub late_pin : (scopes : ℕ) → ℕ × Element → List Pin
-late_pin scopes e = if nat_lt e.1.scope scopes && is_late e.1.kind then record { net = e.1.scope; element = e.0 } ∷ [] else []
-
-abbrev pub late_pins : (scopes : ℕ) → List Element → List Pin
-late_pins scopes es = flat_map (late_pin scopes) (enumerate_from 0 es)
 
 -- ---- constants at ports
 

@@ -6,7 +6,6 @@ mod driven;
 mod elements;
 mod gates;
 mod instances;
-mod late_numbers;
 mod lates;
 mod legs;
 mod members;
@@ -21,5 +20,4 @@ mod terminals;
 mod turns;
 
 pub use elements::elements_in;
-pub use late_numbers::lates_of;
 pub use placing::Placing;

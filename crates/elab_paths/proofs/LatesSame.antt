@@ -14,8 +14,8 @@ use Rattle.elab_model.specs.Drivers.{elements}
 use Rattle.elab_model.specs.Elements.{Component}
 use Rattle.elab_model.specs.Nets.{nets}
 use Rattle.elab_model.specs.Numbered.{element_of}
+use Rattle.late_limits.specs.Found.{is_late_kind, late_numbers}
 use Rattle.circuit_model.specs.CheckUses as def
-use Rattle.elab_elements.specs.Lates.{is_late, lates_in}
 use Rattle.elab_elements.specs.Seen.{kind_in, element_in, AreElements}
 use Rattle.elab_elements.specs.declared.placing.Placing.{Placing}
 
@@ -43,9 +43,9 @@ mapped f test scope h [] = refl
 mapped f test scope h (x ∷ xs) = λ i. h x i ∷ mapped f test scope h xs i
 
 pub lates-same : (source : Source) (top : Module) (corner : Corner) (delays : List GateDelays) (udps : List UdpUse) (made : Placing) (scope : ℕ) → AreElements source top corner delays udps made
-    → lates_in made.elements.items scope ≡ def.lates_in (elements source top corner) scope
+    → late_numbers made.elements.items scope ≡ def.lates_in (elements source top corner) scope
 lates-same source top corner delays udps made scope h =
-    let own : code.Element → Bool = λ e. (e.scope == scope) && is_late e.kind in
+    let own : code.Element → Bool = λ e. (e.scope == scope) && is_late_kind e.kind in
     let meant : Component → Bool = λ c. (c.scope == scope) && def.is_late c.kind in
     numbers-by own 0 made.elements.items
     ∙ ap (places 0)
@@ -53,7 +53,7 @@ lates-same source top corner delays udps made scope h =
     ∙ sym (mapped (element_of (nets source top)) meant scope (λ c. refl) (elements source top corner)))
     ∙ sym (numbers-by meant 0 (elements source top corner))
   where
-    kinds : (k : ElementKind) → is_late k ≡ def.is_late (kind_in delays udps k)
+    kinds : (k : ElementKind) → is_late_kind k ≡ def.is_late (kind_in delays udps k)
     kinds (kind.Gate g d) = refl
     kinds (kind.Udp u d) = refl
     kinds (kind.Pass v) = refl

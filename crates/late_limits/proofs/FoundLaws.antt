@@ -15,9 +15,7 @@ use Rattle.sg_circuit.specs.declared.elements.ElementKind.TheVariants as kind
 use Rattle.sg_circuit.specs.Circuit.{Circuit, Element}
 use Rattle.sg_circuit.specs.FanOut.{readers_at}
 use Rattle.sg_circuit.specs.Seen.{circuit_seen, element_seen, kind_seen, scope_seen}
-use Rattle.sg_circuit.specs.Closed.{IsClosed}
 use Rattle.sg_circuit.specs.Signals.{signals, windows, AreShort}
-use Rattle.sg_circuit.proofs.SeenLaws.{all-unmapped}
 use Rattle.neg_limits.specs.declared.pairs.Zeroed.{Zeroed}
 use Rattle.neg_limits.specs.Pairs.{delay_at}
 use Rattle.neg_limits.specs.Zeroing.{IsAdjusted}
@@ -219,14 +217,6 @@ pub found-is : (parts : Parts) (limits : List (List ℤ)) (checks lates : List (
 found-is parts limits checks lates scopes found c seen w late e cn ln sn f made like = found-like parts limits checks lates scopes found made w late e cn ln sn f (subst (λ x. IsLike x limits made) (sym seen) like)
 
 -- what the tables tell
-pub elements-in : (parts : Parts) (c : Circuit) (seen : List code_element.Element) (scopes : ℕ) → circuit_seen parts ≡ c → IsClosed c → seen ≡ parts.elements.items → scopes ≡ length parts.scopes.items → All (λ e. e.scope < scopes) seen
-elements-in parts c seen scopes e closed f n =
-    let h : IsClosed (circuit_seen parts) = subst IsClosed (sym e) closed in
-    let all : All (λ (x : code_element.Element). x.scope < length (circuit_seen parts).scopes) parts.elements.items =
-    all-unmapped (λ (x : Element). x.scope < length (circuit_seen parts).scopes) (element_seen parts) parts.elements.items h.element_scopes in
-    let many : length (circuit_seen parts).scopes ≡ scopes = length-map parts.scopes.items (λ s. scope_seen s) ∙ sym n in
-    subst (λ xs. All (λ (x : code_element.Element). x.scope < scopes) xs) (sym f) (subst (λ m. All (λ (x : code_element.Element). x.scope < m) parts.elements.items) many all)
-
 pub lates-among : (elements : List code_element.Element) (table : List (List ℕ)) → AreLates elements table → AreAmong (length elements) table
 lates-among elements table h = record {
   each = λ scope l. subst (λ ks. All (λ k. k < length elements) ks) (sym (h.each scope l)) (numbers-below (is_code_late scope) 0 (length elements) elements (omega arith));

@@ -14,8 +14,8 @@ use Rattle.sg_circuit.specs.Pins.{elements_on, HasPins}
 use Rattle.sg_circuit.specs.Signals.{is_window, takes_lates}
 use Rattle.sg_circuit.proofs.PinLaws.{picked-append}
 use Rattle.sg_circuit.proofs.SeenLaws.{map-mapped}
-use Rattle.late_limits.specs.Found.{AreLates, AreWindows}
-use Rattle.late_limits.specs.Grouping.{check_scope, element_scope, is_among, is_late_element, pin_by, pins_by}
+use Rattle.late_limits.specs.Found.{is_late_kind, AreLates, AreWindows}
+use Rattle.late_limits.specs.Grouping.{check_scope, element_scope, is_among, is_late_among, pin_by, pins_by}
 
 -- the numbers under one key
 one-pin : (b t : Bool) (net k n : ℕ) → (net == k) ≡ b → elements_on k (if t then record { net = net; element = n } ∷ [] else []) ≡ (if b && t then n ∷ [] else [])
@@ -71,14 +71,18 @@ zip-read checks timings i check timing same l at bt =
 pub zip-past : (checks : List Check) (timings : List CheckTiming) (i : ℕ) → length checks ≤ i → length (zip checks timings) ≤ i
 zip-past checks timings i l = let long : length (zip checks timings) ≡ min (length checks) (length timings) = length-zip checks timings in omega arith
 
+and_true : (a b : Bool) → b ≡ true → (a && b) ≡ a
+and_true true b e = e
+and_true false b e = refl
+
+and_right : (a b : Bool) → (a && b) ≡ true → b ≡ true
+and_right true b e = e
+and_right false b e = absurd (cc)
+
 -- the checks that take limits below 0
 among-is : (scopes scope : ℕ) → scope < scopes → (w : Check × CheckTiming) → ((check_scope w == scope) && is_among scopes w) ≡ ((check_scope w == scope) && takes_lates w.1.kind)
 among-is scopes scope l w = by (check_scope w == scope) refl
   where
-    and_true : (a b : Bool) → b ≡ true → (a && b) ≡ a
-    and_true true b e = e
-    and_true false b e = refl
-
     by : (b : Bool) → (check_scope w == scope) ≡ b → (b && is_among scopes w) ≡ (b && takes_lates w.1.kind)
     by true e = and_true (takes_lates w.1.kind) (nat_lt w.0.scope scopes) (let same : w.0.scope ≡ scope = eqb-true w.0.scope scope e in lt-ltb w.0.scope scopes (omega arith))
     by false e = refl
@@ -86,10 +90,6 @@ among-is scopes scope l w = by (check_scope w == scope) refl
 among-within : (scopes : ℕ) (ws : List (Check × CheckTiming)) → All (λ w. is_among scopes w ≡ true → check_scope w < scopes) ws
 among-within scopes ws = λ i d l. within (slice_index_or ws i d)
   where
-    and_right : (a b : Bool) → (a && b) ≡ true → b ≡ true
-    and_right true b e = e
-    and_right false b e = absurd (cc)
-
     within : (w : Check × CheckTiming) → is_among scopes w ≡ true → check_scope w < scopes
     within w e = ltb-true w.0.scope scopes (and_right (takes_lates w.1.kind) (nat_lt w.0.scope scopes) e)
 
@@ -110,15 +110,29 @@ windows_are_ok checks timings scopes pins seen (Ok table) e f many h = windows-a
 windows_are_ok checks timings scopes pins seen (Err why) e f many h = tt
 
 -- Lates
-pub lates-within : (scopes : ℕ) (es : List code_element.Element) (pins seen : List Pin) → All (λ e. e.scope < scopes) es → pins ≡ pins_by element_scope is_late_element 0 es → seen ≡ pins → All (λ (p : Pin). p.net < scopes) seen
-lates-within scopes es pins seen h e f = subst (λ ps. All (λ (p : Pin). p.net < scopes) ps) (sym (f ∙ e)) (pins-within element_scope is_late_element scopes 0 es (λ i d l q. h i d l))
+late-among-is : (scopes scope : ℕ) → scope < scopes → (e : code_element.Element) → ((e.scope == scope) && is_late_among scopes e) ≡ ((e.scope == scope) && is_late_kind e.kind)
+late-among-is scopes scope l e = by (e.scope == scope) refl
+  where
+    by : (b : Bool) → (e.scope == scope) ≡ b → (b && is_late_among scopes e) ≡ (b && is_late_kind e.kind)
+    by true h = and_true (is_late_kind e.kind) (nat_lt e.scope scopes) (let same : e.scope ≡ scope = eqb-true e.scope scope h in lt-ltb e.scope scopes (omega arith))
+    by false h = refl
 
-lates-are : (es : List code_element.Element) (pins seen : List Pin) (table : List (List ℕ)) → pins ≡ pins_by element_scope is_late_element 0 es → seen ≡ pins → HasPins seen table → AreLates es table
-lates-are es pins seen table e f h = record {
-  each = λ scope l. h.each scope l ∙ (ap (elements_on scope) (f ∙ e) ∙ by-key element_scope is_late_element is_late_element scope 0 es (λ x. refl));
+late-among-within : (scopes : ℕ) (es : List code_element.Element) → All (λ e. is_late_among scopes e ≡ true → element_scope e < scopes) es
+late-among-within scopes es = λ i d l. within (slice_index_or es i d)
+  where
+    within : (e : code_element.Element) → is_late_among scopes e ≡ true → element_scope e < scopes
+    within e h = ltb-true e.scope scopes (and_right (is_late_kind e.kind) (nat_lt e.scope scopes) h)
+
+pub lates-within : (scopes : ℕ) (es : List code_element.Element) (pins seen : List Pin) → pins ≡ pins_by element_scope (is_late_among scopes) 0 es → seen ≡ pins → All (λ (p : Pin). p.net < scopes) seen
+lates-within scopes es pins seen e f = subst (λ ps. All (λ (p : Pin). p.net < scopes) ps) (sym (f ∙ e)) (pins-within element_scope (is_late_among scopes) scopes 0 es (late-among-within scopes es))
+
+lates-are : (es : List code_element.Element) (scopes : ℕ) (pins seen : List Pin) (table : List (List ℕ)) → pins ≡ pins_by element_scope (is_late_among scopes) 0 es → seen ≡ pins → length table ≡ scopes → HasPins seen table → AreLates es table
+lates-are es scopes pins seen table e f many h = record {
+  each = λ scope l. h.each scope l ∙ (ap (elements_on scope) (f ∙ e)
+      ∙ by-key element_scope (is_late_among scopes) (λ x. is_late_kind x.kind) scope 0 es (late-among-is scopes scope (subst (λ n. scope < n) many l)));
 }
 
-pub lates_are_ok : {E : Type 0} (es : List code_element.Element) (pins seen : List Pin) (r : Result (List (List ℕ)) E) → pins ≡ pins_by element_scope is_late_element 0 es → seen ≡ pins → IfOk r (λ table. HasPins seen table)
-    → IfOk r (λ table. AreLates es table)
-lates_are_ok es pins seen (Ok table) e f h = lates-are es pins seen table e f h
-lates_are_ok es pins seen (Err why) e f h = tt
+pub lates_are_ok : {E : Type 0} (es : List code_element.Element) (scopes : ℕ) (pins seen : List Pin) (r : Result (List (List ℕ)) E) → pins ≡ pins_by element_scope (is_late_among scopes) 0 es → seen ≡ pins → IfOk r (λ table. length table ≡ scopes)
+    → IfOk r (λ table. HasPins seen table) → IfOk r (λ table. AreLates es table)
+lates_are_ok es scopes pins seen (Ok table) e f many h = lates-are es scopes pins seen table e f many h
+lates_are_ok es scopes pins seen (Err why) e f many h = tt

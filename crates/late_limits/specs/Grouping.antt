@@ -22,9 +22,9 @@ check_scope w = w.0.scope
 abbrev pub is_among : ℕ → Check × CheckTiming → Bool
 is_among scopes w = takes_lates w.1.kind && nat_lt w.0.scope scopes
 
--- Lates
+-- Lates of so many scopes
 abbrev pub element_scope : code_element.Element → ℕ
 element_scope e = e.scope
 
-abbrev pub is_late_element : code_element.Element → Bool
-is_late_element e = is_late_kind e.kind
+abbrev pub is_late_among : ℕ → code_element.Element → Bool
+is_late_among scopes e = is_late_kind e.kind && nat_lt e.scope scopes

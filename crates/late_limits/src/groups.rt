@@ -1,8 +1,8 @@
 // What each scope has: timing checks that take limits below 0, and Lates.
-ghost use Rattle.std.specs.Prelude.{◌≡◌, ◌<◌, ◌^◌, ◌++◌, ◌↔◌, All, IfOk, IsTrue, OnOk, length, zip};
+ghost use Rattle.std.specs.Prelude.{◌≡◌, ◌<◌, ◌^◌, ◌++◌, ◌↔◌, IfOk, IsTrue, OnOk, length, zip};
 ghost use Rattle.sg_circuit.specs.Closed.{TakesLates};
 ghost use Rattle.late_limits.specs.Found.{AreLates, AreWindows};
-ghost use Rattle.late_limits.specs.Grouping.{check_scope, element_scope, is_among, is_late_element, pin_by, pins_by};
+ghost use Rattle.late_limits.specs.Grouping.{check_scope, element_scope, is_among, is_late_among, pin_by, pins_by};
 
 use sg_circuit::{Check, CheckKind, CheckTiming, Element, ElementKind, FanOut, Pin};
 use sg_text::NoMemory;
@@ -67,9 +67,17 @@ pub(crate) fn windows_by_scope(
     FanOut::of_pins(alloc, scopes, &pins)
 }
 
-fn add_late(pins: &mut Vec<Pin>, number: u32, element: &Element) -> Result<(), NoMemory>
-    ensures { OnOk result (pins.new.items ≡ pins.old.items ++ pin_by element_scope is_late_element number element.now) }
+fn add_late(
+    pins: &mut Vec<Pin>,
+    scopes: u32,
+    number: u32,
+    element: &Element,
+) -> Result<(), NoMemory>
+    ensures { OnOk result (pins.new.items ≡ pins.old.items ++ pin_by element_scope (is_late_among scopes) number element.now) }
 {
+    if element.scope >= scopes {
+        return Ok(());
+    }
     if let ElementKind::Late { .. } = element.kind {
         pins.push(Pin {
             net: element.scope,
@@ -79,28 +87,23 @@ fn add_late(pins: &mut Vec<Pin>, number: u32, element: &Element) -> Result<(), N
     Ok(())
 }
 
-fn lates(alloc: Global, elements: &[Element]) -> Result<Vec<Pin>, NoMemory>
+fn lates(alloc: Global, elements: &[Element], scopes: u32) -> Result<Vec<Pin>, NoMemory>
     requires { length elements.now < 2 ^ 31 }
-    ensures { IfOk result (λ pins. pins.items ≡ pins_by element_scope is_late_element 0 elements.now) }
+    ensures { IfOk result (λ pins. pins.items ≡ pins_by element_scope (is_late_among scopes) 0 elements.now) }
 {
     let mut pins = Vec::new(alloc);
     for (number, element) in elements.iter().enumerate() {
-        add_late(&mut pins, number as u32, element)?;
+        add_late(&mut pins, scopes, number as u32, element)?;
     }
     Ok(pins)
 }
 
-/// The Lates of each scope, by their numbers, in order.
-pub(crate) fn lates_by_scope(
-    alloc: Global,
-    elements: &[Element],
-    scopes: u32,
-) -> Result<FanOut, NoMemory>
-    requires scopes { All (λ e. e.scope < scopes) elements.now }
-    requires few { length elements.now < 2 ^ 31 }
+/// The Lates of each of the first so many scopes, by their numbers, in order. Takes time and memory in proportion to the elements and the scopes.
+pub fn lates_by_scope(alloc: Global, elements: &[Element], scopes: u32) -> Result<FanOut, NoMemory>
+    requires { length elements.now < 2 ^ 31 }
     ensures lates { IfOk result (λ table. AreLates elements.now table) }
     ensures scopes { IfOk result (λ table. length table ≡ scopes) }
 {
-    let pins = lates(alloc, elements)?;
+    let pins = lates(alloc, elements, scopes)?;
     FanOut::of_pins(alloc, scopes, &pins)
 }

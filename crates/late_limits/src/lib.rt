@@ -11,4 +11,5 @@ mod signals;
 
 pub use adjusting::{Adjustment, LateDelay, adjust, limits_of};
 pub use counts::signal_counts;
+pub use groups::lates_by_scope;
 pub use laws::adjusted_is_one;

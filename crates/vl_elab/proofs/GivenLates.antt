@@ -1,15 +1,14 @@
 -- The Lates of the instances, as the elements have them.
 use Rattle.std.specs.Prelude.{◌≡◌, ℕ, ◌<◌, List, length}
 use Rattle.std.proofs.Common.{◌∙◌, ap, subst, sym}
-use Rattle.sg_circuit.specs.FanOut.{readers_at}
 use Rattle.sg_circuit.specs.declared.elements.Element.{Element}
 use Rattle.sg_delay.specs.declared.corners.Corner.{Corner}
+use Rattle.late_limits.specs.Found.{late_numbers, AreLates}
 use Rattle.vl_tree.specs.Tree.{Module, Source}
 use Rattle.elab_model.specs.Hierarchy.{instances}
 use Rattle.elab_hierarchy.specs.Placing.{ArePlaced}
 use Rattle.elab_hierarchy.specs.declared.instances.Placed.{Placed}
 use Rattle.elab_modules.specs.declared.library.Library.{Library}
-use Rattle.elab_elements.specs.Lates as code
 use Rattle.elab_elements.specs.Seen.{AreElements}
 use Rattle.elab_elements.specs.declared.placing.Placing.{Placing}
 use Rattle.elab_elements.proofs.StandingAt.{placed-count}
@@ -18,12 +17,12 @@ use Rattle.elab_checks.specs.Standing.{HaveLates}
 
 pub lates-given : (source : Source) (top : Module) (corner : Corner) (ready : Library) (placed : List Placed) (made : Placing) (es : List Element) (count : ℕ) (lates : List (List ℕ))
     → ArePlaced source placed (instances source top) → AreElements source top corner ready.gate_delays.items ready.udps.items made → es ≡ made.elements.items → count ≡ length placed
-    → code.HaveLates es count lates → HaveLates source top corner lates
-lates-given source top corner ready placed made es count lates are elements same counted h =
-    let all : count ≡ length (instances source top) = counted ∙ placed-count source placed (instances source top) are in
+    → AreLates es lates → length lates ≡ count → HaveLates source top corner lates
+lates-given source top corner ready placed made es count lates are elements same counted h many =
+    let all : length lates ≡ length (instances source top) = many ∙ (counted ∙ placed-count source placed (instances source top) are) in
     record {
-      count = h.count ∙ all;
+      count = all;
       each = λ scope lt.
-          h.each scope (subst (λ n. scope < n) (sym all) lt) ∙ ap (λ xs. code.lates_in xs scope) same
+          h.each scope (subst (λ n. scope < n) (sym all) lt) ∙ ap (λ xs. late_numbers xs scope) same
           ∙ lates-same source top corner ready.gate_delays.items ready.udps.items made scope elements;
     }

@@ -7,12 +7,13 @@ ghost use Rattle.vl_elab.specs.Below.{RefusesBelow};
 ghost use Rattle.vl_elab.specs.Made.{HaveElements, HaveNets, none_of_twelve};
 
 use cond_expr::Expr;
-use elab_elements::{Placing, elements_in, lates_of};
+use elab_elements::{Placing, elements_in};
 use elab_hierarchy::{Definitions, Placed};
 use elab_model::ElabKind;
 use elab_modules::Library;
 use elab_nets::Rows;
 use elab_paths::{add_paths, module_paths};
+use late_limits::lates_by_scope;
 use sg_circuit::{FanOut, LegTiming, Path};
 use sg_delay::{Corner, Delays12, Limit, Limits12};
 use sg_text::Refused;
@@ -47,7 +48,7 @@ pub fn elements_below(
     ensures refused { IfErr result (λ r. (m : Module) → HaveNets definitions.now m corner tick instances.now library.now rows.now → RefusesBelow definitions.now m corner r) }
 {
     let mut placing = elements_in(alloc, definitions, library, instances, rows)?;
-    let lates = lates_of(alloc, &placing.elements, instances.len() as u32)?;
+    let lates = lates_by_scope(alloc, &placing.elements, instances.len() as u32)?;
     let modules = module_paths(
         alloc,
         corner,

@@ -1,13 +1,8 @@
 use Rattle.std.proofs.Common.{◌≡◌, length, subst, sym, arith}
 use Rattle.sg_circuit.specs.Circuit.{Circuit}
 use Rattle.late_limits.proofs.WindowLaws.{windows-among}
-use Rattle.late_limits.proofs.FoundLaws.{elements-in, found-is, lates-among, read-lates, read-windows, short-in}
+use Rattle.late_limits.proofs.FoundLaws.{found-is, lates-among, read-lates, read-windows, short-in}
 use Rattle.late_limits.proofs.adjusting.adjust.Goals as goal
-
-pub lates_by_scope-requires-clause-scopes : goal.lates_by_scope-requires-clause-scopes
-lates_by_scope-requires-clause-scopes c =
-    let parts = c.parts-parts.result.now in
-    elements-in parts c.args.circuit.now c.deref-3.result.now c.len-scopes.result c.parts-parts.ensures.seen c.parts-parts.ensures.closed c.deref-3.ensures.value (omega (arith, c.len-scopes.ensures, parts.scopes.ok.0))
 
 pub adjust_all-requires-clause-there : goal.adjust_all-requires-clause-there
 adjust_all-requires-clause-there c =
