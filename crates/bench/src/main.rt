@@ -6,6 +6,7 @@ mod netlists;
 mod parts;
 mod sdf_files;
 mod simulation;
+mod stimuli;
 mod texts;
 
 use crate::parts::tell;

@@ -32,6 +32,14 @@ pub enum Netlist {
     Flat,
     /// The same, in 289 modules under 17 others.
     Deep,
+    /// A cell whose pulse limit's name has as many `$` as its input's.
+    Pulses,
+    /// A cell with as many specify paths for a condition, and as many for none.
+    Ifnone,
+    /// Flip-flops with a hold limit below 0.
+    Negative,
+    /// A cell of so many inputs, with up to ten hold limits below 0 for each.
+    Signals,
 }
 
 const STAGE: &str =
@@ -118,6 +126,85 @@ fn deep(alloc: Global, count: u32) -> Result<String, AllocError> {
     Ok(text)
 }
 
+// A name's front, and so many dollars.
+fn dollars(alloc: Global, front: &str, count: u32) -> Result<String, AllocError> {
+    let mut text = String::from_str(alloc, front)?;
+    for _ in 0..count {
+        text.push('$')?;
+    }
+    Ok(text)
+}
+
+fn pulses(alloc: Global, count: u32) -> Result<String, AllocError> {
+    let input = dollars(alloc, "i", count)?;
+    let mut text = String::from_str(alloc, "`timescale 1ps/1ps\n")?;
+    writeln!(text, "module stage (input {input}, output o);")?;
+    writeln!(text, "  buf (o, {input});\n  specify")?;
+    writeln!(text, "    specparam PATHPULSE${input}$o = (1);")?;
+    writeln!(
+        text,
+        "    ({input} => o) = (2, 3);\n  endspecify\nendmodule"
+    )?;
+    text.push_str("module top (input n0);\n  stage u0 (n0, n1);\nendmodule\n")?;
+    Ok(text)
+}
+
+fn ifnone(alloc: Global, count: u32) -> Result<String, AllocError> {
+    let last = count.saturating_sub(1);
+    let mut text = String::from_str(alloc, "`timescale 1ps/1ps\n")?;
+    writeln!(text, "module wide (input [{last}:0] a, input b, output y);")?;
+    text.push_str("  buf (y, b);\n  specify\n    if (b) (a *> y) = (2, 3);\n")?;
+    text.push_str("    ifnone (a *> y) = (4, 5);\n  endspecify\nendmodule\n")?;
+    writeln!(text, "module top (input n0);\n  wire [{last}:0] w;")?;
+    for number in 0..count {
+        writeln!(text, "  buf (w[{number}], n0);")?;
+    }
+    text.push_str("  wide u0 (w, n0, n1);\nendmodule\n")?;
+    Ok(text)
+}
+
+fn negative(alloc: Global, count: u32) -> Result<String, AllocError> {
+    let mut text = String::from_str(alloc, "`timescale 1ps/1ps\n")?;
+    text.push_str("module cell (input d, ck, output q);\n  buf (q, d);\n")?;
+    text.push_str("  specify $setuphold (posedge ck, d, 5, -3); endspecify\nendmodule\n")?;
+    text.push_str("module top (input n0);\n")?;
+    for number in 0..count {
+        writeln!(text, "  cell u{number} (n0, n0, q{number});")?;
+    }
+    text.push_str("endmodule\n")?;
+    Ok(text)
+}
+
+// Each input is to be delayed by 3 ticks more than the one before it.
+fn add_holds(text: &mut String, count: u32) -> Result<(), AllocError> {
+    for data in 0..count {
+        for refer in data.saturating_sub(10)..data {
+            let setup = 7 * (data - refer);
+            let hold = 3 * (data - refer);
+            writeln!(
+                text,
+                "    $setuphold (posedge s{refer}, s{data}, {setup}, -{hold});"
+            )?;
+        }
+    }
+    Ok(())
+}
+
+fn signals(alloc: Global, count: u32) -> Result<String, AllocError> {
+    let mut text = String::from_str(alloc, "`timescale 1ps/1ps\nmodule cell (output y")?;
+    for number in 0..count {
+        write!(text, ", input s{number}")?;
+    }
+    text.push_str(");\n  buf (y, s0);\n  specify\n")?;
+    add_holds(&mut text, count)?;
+    text.push_str("  endspecify\nendmodule\nmodule top (input n0);\n  cell u0 (y")?;
+    for _ in 0..count {
+        text.push_str(", n0")?;
+    }
+    text.push_str(");\nendmodule\n")?;
+    Ok(text)
+}
+
 impl Netlist {
     pub fn of(name: &str) -> Option<Netlist> {
         match name {
@@ -130,6 +217,10 @@ impl Netlist {
             "cells" => Some(Netlist::Cells),
             "flat" => Some(Netlist::Flat),
             "deep" => Some(Netlist::Deep),
+            "pulses" => Some(Netlist::Pulses),
+            "ifnone" => Some(Netlist::Ifnone),
+            "negative" => Some(Netlist::Negative),
+            "signals" => Some(Netlist::Signals),
             _ => None,
         }
     }
@@ -188,6 +279,10 @@ impl Netlist {
             Netlist::Cells => cells(alloc, count),
             Netlist::Flat => flat(alloc, count),
             Netlist::Deep => deep(alloc, count),
+            Netlist::Pulses => pulses(alloc, count),
+            Netlist::Ifnone => ifnone(alloc, count),
+            Netlist::Negative => negative(alloc, count),
+            Netlist::Signals => signals(alloc, count),
             _ => self.inverters(alloc, count),
         }
     }

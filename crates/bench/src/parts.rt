@@ -2,6 +2,7 @@
 use crate::netlists::Netlist;
 use crate::sdf_files::sdf_file;
 use crate::simulation::tally;
+use crate::stimuli::Inputs;
 use crate::texts::Text;
 use anyhow::Context;
 use sdf_read::read_sdf;
@@ -9,6 +10,7 @@ use sg_circuit::Circuit;
 use sg_delay::Corner;
 use sg_text::Place;
 use std::alloc::Global;
+use stim_read::read_stim;
 use vl_elab::elaborate;
 use vl_lex::lex;
 use vl_parse::parse;
@@ -92,6 +94,20 @@ fn tell_run(
     Ok(())
 }
 
+fn tell_sets(alloc: Global, inputs: Inputs, size: u32, out: &mut String) -> anyhow::Result<()> {
+    let circuit = circuit_of(alloc, inputs.netlist(alloc, size)?)?;
+    let text = inputs.stimulus(alloc, size)?;
+    let Ok(stimulus) = read_stim(alloc, text.as_bytes(), &circuit) else {
+        anyhow::bail!("no stimulus");
+    };
+    let mut sets: usize = 0;
+    for step in &stimulus.steps {
+        sets = sets.saturating_add(step.sets.len());
+    }
+    write!(out, "{sets} sets")?;
+    Ok(())
+}
+
 /// Runs what a line names, and adds what it tells to a text.
 pub fn tell(alloc: Global, line: &str, out: &mut String) -> anyhow::Result<()> {
     let mut words = line.split(' ');
@@ -119,6 +135,10 @@ pub fn tell(alloc: Global, line: &str, out: &mut String) -> anyhow::Result<()> {
             out,
         ),
         "sdf" => tell_cells(alloc, size, out),
+        "stim" => {
+            let inputs = Inputs::of(shape).context("no such inputs")?;
+            tell_sets(alloc, inputs, size, out)
+        }
         "sim" => {
             let buckets: Option<u32> = match words.next() {
                 Some(number) => Some(number.parse()?),

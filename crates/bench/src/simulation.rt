@@ -65,6 +65,8 @@ fn simulate_over<L: Ledger, A: Agenda + Drop>(
 // at 20 and takes 5 ticks for two inverters. So of 100 it is 399 evaluations, and 20 + 50 * 5 = 270 at the end.
 // Of N side by side each of three changes wakes N: 3 N evaluations, and the last comes when the longest delay of a rise is over.
 // Of N with paths each stage is a leg, an inverter and a path: 12 N - 1 evaluations, at the times of a chain.
+// Of N paths for a condition and N for none, behind N + 1 legs, the first change evaluates all 2 N + 3 elements, then N legs, the cell's
+// buffer and its path; the two others N + 1, N + 1 and 1: 7 N + 11. The last begins at 20, and the path for none takes 5 ticks.
 fn simulate<L: Ledger>(
     alloc: Global,
     circuit: Circuit,
