@@ -1,8 +1,9 @@
 -- What is so of the code's timing checks, said of the circuit that they stand for.
-use Rattle.std.specs.Prelude.{◌≡◌, ◌↔◌, ℕ, Bool, IsTrue, All, IfSome, List, Option, Some, None, []}
+use Rattle.std.specs.Prelude.{◌≡◌, ◌↔◌, ℕ, Bool, IsTrue, All, IfSome, List, None, []}
 use Rattle.std.proofs.Common.{◌∙◌, ap, subst}
 use Rattle.std.proofs.lemmas.List.{get_or_default}
 use Rattle.std.proofs.lemmas.List.Elements.{All-weaker}
+use Rattle.std.proofs.lemmas.Option.{IfSome_then}
 use Rattle.sg_circuit.specs.declared.checks.Check.{Check}
 use Rattle.sg_circuit.specs.declared.checks.CheckTiming.{CheckTiming}
 use Rattle.sg_circuit.specs.declared.nets.Net.{Net}
@@ -15,10 +16,6 @@ use Rattle.sg_circuit.specs.Seen.{circuit_seen}
 -- a test of what all checks look for
 pub tests_timings : (nets nets' : ℕ) (xs ys : List CheckTiming) (b : Bool) → nets' ≡ nets → ys ≡ xs → (IsTrue b ↔ All (IsCheckTiming nets') ys) → IsTrue b ↔ All (IsCheckTiming nets) xs
 tests_timings nets nets' xs ys b m e h = subst (λ n. IsTrue b ↔ All (IsCheckTiming n) xs) m (subst (λ zs. IsTrue b ↔ All (IsCheckTiming nets') zs) e h)
-
-pub if_some : {A : Type 0} (o : Option A) (P Q : A → Type 0) → ((a : A) → P a → Q a) → IfSome o P → IfSome o Q
-if_some None P Q f h = tt
-if_some (Some a) P Q f h = f a h
 
 -- a notifier, among the nets of the code and among those of the circuit
 notifier_is : (parts : Parts) (n : ℕ) → IsNotifierAmong parts.nets.items n → IsNotifier (circuit_seen parts) n
@@ -33,9 +30,9 @@ notifier_was parts n h = record {
 pub notifiers_are : (parts : Parts) → All (λ k. IfSome k.notifier (λ n. IsNotifierAmong parts.nets.items n)) parts.checks.items → All (λ k. IfSome k.notifier (λ n. IsNotifier (circuit_seen parts) n)) parts.checks.items
 notifiers_are parts h =
     All-weaker (λ (k : Check). IfSome k.notifier (λ n. IsNotifierAmong parts.nets.items n)) (λ (k : Check). IfSome k.notifier (λ n. IsNotifier (circuit_seen parts) n))
-    (λ k f. if_some k.notifier (λ n. IsNotifierAmong parts.nets.items n) (λ n. IsNotifier (circuit_seen parts) n) (notifier_is parts) f) parts.checks.items h
+    (λ k f. IfSome_then k.notifier {P = IsNotifierAmong parts.nets.items} {Q = IsNotifier (circuit_seen parts)} f (notifier_is parts)) parts.checks.items h
 
 pub notifiers_were : (parts : Parts) → All (λ k. IfSome k.notifier (λ n. IsNotifier (circuit_seen parts) n)) parts.checks.items → All (λ k. IfSome k.notifier (λ n. IsNotifierAmong parts.nets.items n)) parts.checks.items
 notifiers_were parts h =
     All-weaker (λ (k : Check). IfSome k.notifier (λ n. IsNotifier (circuit_seen parts) n)) (λ (k : Check). IfSome k.notifier (λ n. IsNotifierAmong parts.nets.items n))
-    (λ k f. if_some k.notifier (λ n. IsNotifier (circuit_seen parts) n) (λ n. IsNotifierAmong parts.nets.items n) (notifier_was parts) f) parts.checks.items h
+    (λ k f. IfSome_then k.notifier {P = IsNotifier (circuit_seen parts)} {Q = IsNotifierAmong parts.nets.items} f (notifier_was parts)) parts.checks.items h

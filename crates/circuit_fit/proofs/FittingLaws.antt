@@ -13,13 +13,14 @@ use Rattle.sg_circuit.specs.declared.scopes.Scope as code_scope
 use Rattle.sg_circuit.specs.declared.circuits.Parts.{Parts}
 use Rattle.sg_circuit.specs.Circuit.{Pass, Element, Scope, Variable, net_at, element_at, scope_at}
 use Rattle.sg_circuit.specs.Closed.{IsTiming, AreTimings, HasDelays, HasFewPaths, NamesNets, TakesInputs, IfElement, IsClosed, width_of}
-use Rattle.circuit_fit.specs.Fitting.{ScopesFit, DriversFit, LimitsFit, PartsFit}
+use Rattle.circuit_fit.specs.Fitting.{ScopesFit, DriversFit, PartsFit}
+use Rattle.late_fit.specs.Fitting.{LimitsFit}
 use Rattle.sg_circuit.specs.TimingsSeen.{limit_seen, timings_of, leg_timing_seen}
 use Rattle.sg_circuit.specs.Seen.{circuit_seen, element_seen, scope_seen, variable_seen, AreIndexed}
 use Rattle.sg_circuit.specs.ChecksSeen.{written_seen}
 use Rattle.circuit_fit.proofs.CheckLaws.{notifiers_are, notifiers_were}
-use Rattle.circuit_fit.proofs.LateLaws.{lates_are, lates_were, zeroes_are, zeroes_were}
-use Rattle.circuit_fit.proofs.MappedLaws.{mapped-at, at-mapped}
+use Rattle.late_fit.proofs.LateLaws.{lates_are, lates_were, zeroes_are, zeroes_were}
+use Rattle.late_fit.proofs.MappedLaws.{mapped-at, at-mapped}
 use Rattle.sg_circuit.proofs.SeenLaws.{all-unmapped}
 use Rattle.sg_circuit.specs.declared.elements.LegTiming.{LegTiming}
 

@@ -2,7 +2,4 @@
 pub mod ApartLaws
 pub mod CheckLaws
 pub mod FittingLaws
-pub mod LateLaws
-pub mod LimitLaws
-pub mod MappedLaws
 pub mod PathLaws

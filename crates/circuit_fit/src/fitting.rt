@@ -6,16 +6,14 @@ ghost use Rattle.sg_circuit.specs.declared.scopes.Scope.{Scope as ScopeSeen};
 ghost use Rattle.sg_circuit.specs.declared.nets.Net.{Net as NetSeen};
 ghost use Rattle.sg_circuit.specs.declared.elements.Element.{Element as ElementSeen};
 ghost use Rattle.sg_circuit.specs.Closed.{IfElement, width_of, TakesInputs, HasDelays, HasFewPaths, HasDatum, AreGateDelays, NamesNets, IsClosed};
-ghost use Rattle.circuit_fit.specs.Fitting.{AreFew, DriversFit, KindsFit, LimitsFit, NetsFit, PartsFit, ScopesFit, VariablesFit};
+ghost use Rattle.circuit_fit.specs.Fitting.{AreFew, DriversFit, KindsFit, NetsFit, PartsFit, ScopesFit, VariablesFit};
 ghost use Rattle.sg_circuit.specs.Seen.{circuit_seen, kind_seen, gate_delays_seen, AreIndexed, IsIndexed};
 
 use crate::apart_fitting::are_apart;
 use crate::check_fitting::checks_fit;
-use crate::late_fitting::lates_fit;
-use crate::limit_fitting::are_short;
 use crate::path_fitting::{are_few_paths, are_indexed, path_delays_fit, path_nets_fit};
 use crate::timing_fitting::{are_few, timing_fits};
-use late_limits::signal_counts;
+use late_fit::{lates_fit, limits_fit};
 use sg_circuit::{
     Check, CheckKind, Circuit, Driver, Element, ElementKind, Net, NetId, Parts, Scope, UdpUse,
     Variable,
@@ -401,14 +399,6 @@ fn parts_fit(parts: &Parts) -> bool
         && variables_fit(parts)
         && checks_fit(parts)
         && lates_fit(parts)
-}
-
-fn limits_fit(alloc: Global, parts: &Parts) -> Result<bool, NoMemory>
-    requires { PartsFit parts.now }
-    ensures { IfOk result (λ fits. IsTrue fits ↔ LimitsFit parts.now) }
-{
-    let counts = signal_counts(alloc, parts)?;
-    Ok(are_short(&parts.checks, &parts.check_timings, &counts))
 }
 
 /// Whether the parts fit together, so that `Circuit::close` takes them. It takes time in proportion to them, and memory to checks, scopes and nets.

@@ -4,8 +4,6 @@
 mod apart_fitting;
 mod check_fitting;
 mod fitting;
-mod late_fitting;
-mod limit_fitting;
 mod path_fitting;
 mod timing_fitting;
 

@@ -2,7 +2,7 @@ use Rattle.std.proofs.Common.{◌↔◌, IsTrue, refl}
 use Rattle.std.proofs.lemmas.Result.{IfOk-weaker}
 use Rattle.sg_circuit.specs.Closed.{IsClosed}
 use Rattle.sg_circuit.specs.Seen.{circuit_seen, AreIndexed}
-use Rattle.circuit_fit.specs.Fitting.{LimitsFit}
+use Rattle.late_fit.specs.Fitting.{LimitsFit}
 use Rattle.circuit_fit.proofs.FittingLaws.{fit_of, fits_by}
 use Rattle.circuit_fit.proofs.fitting.fit.Goals as goal
 

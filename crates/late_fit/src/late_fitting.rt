@@ -1,7 +1,7 @@
 // Whether the delayed signals of timing checks fit (IEEE 1364-2005, 15.8).
 ghost use Rattle.std.specs.Prelude.{◌≡◌, ◌↔◌, ◌<◌, ◌∷◌, [], All, IsTrue, IfSome, IsSome, length};
 ghost use Rattle.sg_circuit.specs.Closed.{TakesLates};
-ghost use Rattle.circuit_fit.specs.Fitting.{AreLatesAmong, HasLatesAmong, IsCopyOf, IsLateAmong, IsLateKind, IsZeroAmong, LatesFit};
+ghost use Rattle.late_fit.specs.Fitting.{AreLatesAmong, HasLatesAmong, IsCopyOf, IsLateAmong, IsLateKind, IsZeroAmong, LatesFit};
 
 use sg_circuit::{CheckKind, CheckTiming, Element, ElementKind, Event, NetId, Parts, Zero};
 
@@ -98,7 +98,7 @@ fn zeroes_fit(timings: &[CheckTiming], zeroed: &[Zero]) -> bool
 }
 
 /// Whether the Lates of timing checks copy their nets, and limits are taken as 0 in checks with Lates alone.
-pub(crate) fn lates_fit(parts: &Parts) -> bool
+pub fn lates_fit(parts: &Parts) -> bool
     ensures { IsTrue result ↔ LatesFit parts.now }
 {
     lates_of_checks(&parts.elements, &parts.check_timings)

@@ -3,6 +3,7 @@ use Rattle.std.specs.Prelude.{ℕ, ◌<◌, All, List, [], None, length, map, sl
 use Rattle.std.proofs.Common.{sym, ◌∙◌, ap, subst}
 use Rattle.std.proofs.lemmas.List.{length-map}
 use Rattle.std.proofs.lemmas.List.Elements.{All-weaker}
+use Rattle.std.proofs.lemmas.Option.{IfSome_then}
 use Rattle.sg_circuit.specs.declared.checks.CheckTiming.{CheckTiming}
 use Rattle.sg_circuit.specs.declared.circuits.Parts.{Parts}
 use Rattle.sg_circuit.specs.declared.elements.Element as code_element
@@ -11,9 +12,8 @@ use Rattle.sg_circuit.specs.declared.elements.ElementKind.TheVariants as kind
 use Rattle.sg_circuit.specs.Circuit.{Element, Pass}
 use Rattle.sg_circuit.specs.Closed.{AreLatesOf, HasLates, IsLate, IsLateOf, IsZeroOf}
 use Rattle.sg_circuit.specs.Seen.{circuit_seen, element_seen, kind_seen}
-use Rattle.circuit_fit.specs.Fitting.{AreLatesAmong, HasLatesAmong, IsLateAmong, IsLateKind, IsZeroAmong}
-use Rattle.circuit_fit.proofs.CheckLaws.{if_some}
-use Rattle.circuit_fit.proofs.MappedLaws.{mapped-at, at-mapped}
+use Rattle.late_fit.specs.Fitting.{AreLatesAmong, HasLatesAmong, IsLateAmong, IsLateKind, IsZeroAmong}
+use Rattle.late_fit.proofs.MappedLaws.{mapped-at, at-mapped}
 
 kind_is_late : (parts : Parts) (k : ElementKind) → IsLateKind k → IsLate (kind_seen parts k)
 kind_is_late parts (kind.Gate gate delays) h = absurd h
@@ -57,24 +57,24 @@ late_was parts net e h =
 both_are : (parts : Parts) (t : CheckTiming) (lates : List ℕ) → AreLatesAmong parts.elements.items t lates → AreLatesOf (circuit_seen parts) t lates
 both_are parts t lates h = record {
   refer = late_is parts t.refer.net (slice_index_or lates 0 0) h.refer;
-  datum = if_some t.datum (λ d. IsLateAmong parts.elements.items d.net (slice_index_or lates 1 0)) (λ d. IsLateOf (circuit_seen parts) d.net (slice_index_or lates 1 0))
-      (λ d. late_is parts d.net (slice_index_or lates 1 0)) h.datum;
+  datum = IfSome_then t.datum {P = λ d. IsLateAmong parts.elements.items d.net (slice_index_or lates 1 0)} {Q = λ d. IsLateOf (circuit_seen parts) d.net (slice_index_or lates 1 0)}
+      h.datum (λ d. late_is parts d.net (slice_index_or lates 1 0));
 }
 
 both_were : (parts : Parts) (t : CheckTiming) (lates : List ℕ) → AreLatesOf (circuit_seen parts) t lates → AreLatesAmong parts.elements.items t lates
 both_were parts t lates h = record {
   refer = late_was parts t.refer.net (slice_index_or lates 0 0) h.refer;
-  datum = if_some t.datum (λ d. IsLateOf (circuit_seen parts) d.net (slice_index_or lates 1 0)) (λ d. IsLateAmong parts.elements.items d.net (slice_index_or lates 1 0))
-      (λ d. late_was parts d.net (slice_index_or lates 1 0)) h.datum;
+  datum = IfSome_then t.datum {P = λ d. IsLateOf (circuit_seen parts) d.net (slice_index_or lates 1 0)} {Q = λ d. IsLateAmong parts.elements.items d.net (slice_index_or lates 1 0)}
+      h.datum (λ d. late_was parts d.net (slice_index_or lates 1 0));
 }
 
 has_lates : (parts : Parts) (t : CheckTiming) → HasLatesAmong parts.elements.items t → HasLates (circuit_seen parts) t
 has_lates parts t h =
-    record { exact = h.exact; lates = if_some t.late (λ lates. AreLatesAmong parts.elements.items t lates) (λ lates. AreLatesOf (circuit_seen parts) t lates) (both_are parts t) h.lates }
+    record { exact = h.exact; lates = IfSome_then t.late {P = AreLatesAmong parts.elements.items t} {Q = AreLatesOf (circuit_seen parts) t} h.lates (both_are parts t) }
 
 had_lates : (parts : Parts) (t : CheckTiming) → HasLates (circuit_seen parts) t → HasLatesAmong parts.elements.items t
 had_lates parts t h =
-    record { exact = h.exact; lates = if_some t.late (λ lates. AreLatesOf (circuit_seen parts) t lates) (λ lates. AreLatesAmong parts.elements.items t lates) (both_were parts t) h.lates }
+    record { exact = h.exact; lates = IfSome_then t.late {P = AreLatesOf (circuit_seen parts) t} {Q = AreLatesAmong parts.elements.items t} h.lates (both_were parts t) }
 
 pub lates_are : (parts : Parts) → All (HasLatesAmong parts.elements.items) parts.check_timings.items → All (HasLates (circuit_seen parts)) parts.check_timings.items
 lates_are parts h = All-weaker (HasLatesAmong parts.elements.items) (HasLates (circuit_seen parts)) (has_lates parts) parts.check_timings.items h
