@@ -92,10 +92,12 @@ outer-other : (k : ℕ) (a b : Spot) → IsInnerOf k a → IsNoInner b → is_sa
 outer-other k (inner s n p) (bit t m q) h g = refl
 outer-other k (inner s n p) (outside t j m q) h g = refl
 outer-other k (inner s n p) (terminal t j i) h g = refl
+outer-other k (inner s n p) (late t m q) h g = refl
 outer-other k (inner s n p) (inner t m q) h g = absurd g
 outer-other k (bit s n p) b h g = absurd h
 outer-other k (outside s j n p) b h g = absurd h
 outer-other k (terminal s j i) b h g = absurd h
+outer-other k (late s n p) b h g = absurd h
 
 none-read : (k : ℕ) (spot : Spot) → IsInnerOf k spot → (inputs : List Spot) → AllByRecursion IsNoInner inputs → list_any (is_same_spot spot) inputs ≡ false
 none-read k spot own [] h = refl
