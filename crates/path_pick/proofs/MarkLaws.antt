@@ -1,6 +1,5 @@
 -- The flags of the inputs of paths, which are set and taken off again.
 use Rattle.std.specs.Prelude.{◌≡◌, ℕ, ◌==◌, Bool, true, false, not, ◌&&◌, ◌||◌, List, [], ◌∷◌, slice_index_or, refl}
-use Rattle.std.specs.List.{list_any}
 use Rattle.std.proofs.Common.{◌∙◌, ap}
 use Rattle.std.proofs.lemmas.Bool.{and_right}
 use Rattle.sg_logic.specs.declared.values.Value.{Value}
