@@ -5,3 +5,4 @@ mod Examples
 pub mod PassLaws
 pub mod PulseLaws
 pub mod LaterLaws
+pub mod MarkLaws

@@ -2,3 +2,4 @@
 pub mod Choice
 pub mod Within
 pub mod Pass
+pub mod Marks

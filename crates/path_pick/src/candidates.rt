@@ -1,7 +1,9 @@
 // The paths that may be taken, and which of two is better.
-ghost use Rattle.std.specs.Prelude.{◌≡◌, ◌<◌, List, All, IfSome, length};
+ghost use Rattle.std.specs.Prelude.{◌≡◌, ◌<◌, List, IfSome, length};
 ghost use Rattle.cond_expr.specs.Condition.{Condition};
 ghost use Rattle.sg_circuit.specs.PathsSeen.{path_seen, paths_seen};
+ghost use Rattle.sg_circuit.specs.declared.paths.Path.{Path as CodePath};
+ghost use Rattle.path_pick.specs.Marks.{AreMarked};
 ghost use Rattle.path_pick.specs.Pass.{better_of, candidate_seen, is_before, IsReady};
 ghost use Rattle.path_pick.specs.Within.{IsPathWithin};
 
@@ -19,23 +21,24 @@ pub struct Candidate {
     pub pulse: Pulse,
 }
 
-/// A path, if it may be taken.
+/// A path, if it may be taken among paths, of which those whose own condition holds have marked inputs.
 pub(crate) fn candidate_from<S: Stamps, N: Nets>(
-    paths: &[Path],
     path: &Path,
     timings: &[LegTiming],
     stamps: &S,
     nets: &N,
+    flags: &[bool],
     place: Option<usize>,
 ) -> Option<Candidate>
-    requires paths { All (λ p. IsPathWithin (length (N.values nets.now)) timings.now p) paths.now }
     requires path { IsPathWithin (length (N.values nets.now)) timings.now path.now }
     requires stamp { path.now.input < length (S.stamps stamps.now) }
+    requires flag { path.now.input < length flags.now }
     requires place { IfSome place (λ place. place < 12) }
-    ensures seen { (conditions : List Condition) → result ≡ candidate_seen (paths_seen conditions timings.now paths.now) (N.values nets.now) (S.stamps stamps.now) place (path_seen conditions timings.now path.now) }
+    ensures seen { (paths : List CodePath) (conditions : List Condition) → AreMarked paths (N.values nets.now) flags.now
+        → result ≡ candidate_seen (paths_seen conditions timings.now paths) (N.values nets.now) (S.stamps stamps.now) place (path_seen conditions timings.now path.now) }
     ensures ready { IfSome result IsReady }
 {
-    if !is_allowed(paths, path, nets) {
+    if !is_allowed(path, nets, flags) {
         return None;
     }
     let stamp = stamps.of(path.input);

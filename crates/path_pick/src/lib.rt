@@ -3,10 +3,12 @@
 
 mod candidates;
 mod conditions;
+mod marks;
 mod picking;
 mod pulses;
 mod stamps;
 
+pub use marks::Marks;
 pub use picking::{Picked, pick};
 pub use pulses::{Pulse, pulse_between};
 pub use stamps::Stamps;

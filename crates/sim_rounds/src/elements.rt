@@ -8,6 +8,7 @@ use crate::computing::{Inputs, compute};
 use crate::nets::NetsAfter;
 use crate::placing::place_value;
 use fan_round::{Elements, Stamp};
+use path_pick::Marks;
 use pulse_list::Agenda;
 use sg_circuit::{Circuit, Element, ElementKind, Parts, UdpUse};
 use sg_logic::Value;
@@ -26,6 +27,8 @@ pub struct CircuitElements<'a> {
     tables: Vec<Table>,
     states: Vec<Value>,
     inputs: Inputs,
+    // of the nets, for whoever picks a path
+    marks: Marks,
 }
 
 impl<'a> Model for CircuitElements<'a> {
@@ -37,12 +40,13 @@ impl<'a> Model for CircuitElements<'a> {
 
     ghost coded = { Prim.hlevel (codes, coded_cond coded_ℕ) };
 
+    ghost use Rattle.std.specs.Prelude.{◌≡◌, length};
     ghost use Rattle.sg_circuit.specs.Seen.{circuit_seen};
     ghost use Rattle.sim_rounds.specs.Evaluable.{AreEvaluable};
 
     ghost view = { λ g. record { circuit = circuit_seen g.parts.now; states = g.states.items } };
 
-    ghost invariant = { λ g. AreEvaluable g.parts.now g.tables.items g.states.items g.inputs };
+    ghost invariant = { λ g. AreEvaluable g.parts.now g.tables.items g.states.items g.inputs × (g.marks ≡ length g.parts.now.nets.items) };
 }
 
 // The value that an element computed last, before time 0.
@@ -96,7 +100,7 @@ fn compile(alloc: Global, udps: &[UdpUse]) -> Result<Vec<Table>, NoMemory>
 
 impl<'a> CircuitElements<'a> {
     /// The elements of a circuit as they are before time 0. It compiles the circuit's primitives, and takes memory in
-    /// proportion to their tables and to the number of elements.
+    /// proportion to their tables and to the numbers of elements and nets.
     pub fn new(alloc: Global, circuit: &'a Circuit) -> Result<CircuitElements<'a>, NoMemory>
         ensures { IfOk result (λ g. g ≡ record { circuit = circuit.now; states = (first_state circuit.now).states }) }
     {
@@ -106,11 +110,13 @@ impl<'a> CircuitElements<'a> {
         let width = widest(&parts.elements);
         let before = Vec::with_capacity(alloc, width)?;
         let after = Vec::with_capacity(alloc, width)?;
+        let marks = Marks::new(alloc, parts.nets.len())?;
         Ok(CircuitElements {
             parts,
             tables,
             states,
             inputs: Inputs { before, after },
+            marks,
         })
     }
 }
@@ -153,8 +159,9 @@ impl<'a, A: Agenda, L: Ledger> Elements<A, L> for CircuitElements<'a> {
         self.states[at] = value;
         let present = values[item.output as usize];
         let nets = NetsAfter { values, stamps };
+        let marks = &mut self.marks;
         place_value(
-            agenda, parts, element, item.kind, present, now, value, &nets,
+            agenda, parts, element, item.kind, present, now, value, &nets, marks,
         );
     }
 }

@@ -13,7 +13,7 @@ ghost use Rattle.path_pick.specs.Choice.{picked};
 ghost use Rattle.sim_rounds.specs.Simulated.{rule_of_kind, late_rule, leg_rule, path_rule};
 
 use cond_expr::Nets;
-use path_pick::{Stamps, pick, pulse_between};
+use path_pick::{Marks, Stamps, pick, pulse_between};
 use pulse_list::{Agenda, end_value, place, place_inertial};
 use sg_circuit::{ElementKind, LegTiming, Parts, Span};
 use sg_delay::{GateDelays, PulseStyle, gate_delay};
@@ -64,6 +64,7 @@ fn place_path<A: Agenda, N: Nets + Stamps>(
     paths: Span,
     style: PulseStyle,
     nets: &N,
+    marks: &mut Marks,
 )
     requires element { element < length (A.lists agenda.old) }
     requires room { 2 ≤ A.spare agenda.old }
@@ -73,14 +74,25 @@ fn place_path<A: Agenda, N: Nets + Stamps>(
     requires delays { All (λ p. AreTimings p.timings) (paths_seen parts.now.conditions.items parts.now.leg_timings.items (spanned parts.now.paths.items paths)) }
     requires paths { All (IsPathOf (length (N.values nets.now))) (paths_seen parts.now.conditions.items parts.now.leg_timings.items (spanned parts.now.paths.items paths)) }
     requires stamps { length (N.stamps nets.now) ≡ length (N.values nets.now) }
+    requires marks { marks.old ≡ length (N.stamps nets.now) }
     ensures lists { A.lists agenda.new ≡ with_list (A.lists agenda.old) element
         (placed_by (path_rule style (picked (paths_seen parts.now.conditions.items parts.now.leg_timings.items (spanned parts.now.paths.items paths)) (N.values nets.now) (N.stamps nets.now) now (last_value (list_at (A.lists agenda.old) element) present) value))
         (list_at (A.lists agenda.old) element) present now value) }
     ensures spare { A.spare agenda.old ≤ A.spare agenda.new + 2 }
+    ensures marks { marks.new ≡ marks.old }
 {
     let from = end_value(agenda, element, present);
     let paths = parts.paths_in(paths);
-    let picked = pick(paths, &parts.leg_timings, nets, nets, now, from, value);
+    let picked = pick(
+        paths,
+        &parts.leg_timings,
+        nets,
+        nets,
+        marks,
+        now,
+        from,
+        value,
+    );
     place(
         agenda,
         element,
@@ -147,6 +159,7 @@ pub fn place_value<A: Agenda, N: Nets + Stamps>(
     now: u64,
     value: Value,
     nets: &N,
+    marks: &mut Marks,
 )
     requires element { element < length (A.lists agenda.old) }
     requires room { 2 ≤ A.spare agenda.old }
@@ -157,9 +170,11 @@ pub fn place_value<A: Agenda, N: Nets + Stamps>(
     requires delays { HasDelays (kind_seen parts.now kind) }
     requires paths { NamesNets (length (N.values nets.now)) (kind_seen parts.now kind) }
     requires stamps { length (N.stamps nets.now) ≡ length (N.values nets.now) }
+    requires marks { marks.old ≡ length (N.stamps nets.now) }
     ensures lists { A.lists agenda.new ≡ with_list (A.lists agenda.old) element
         (placed_by (rule_of_kind (kind_seen parts.now kind) now (N.values nets.now) (N.stamps nets.now) (last_value (list_at (A.lists agenda.old) element) present) value) (list_at (A.lists agenda.old) element) present now value) }
     ensures spare { A.spare agenda.old ≤ A.spare agenda.new + 2 }
+    ensures marks { marks.new ≡ marks.old }
 {
     match kind {
         ElementKind::Gate { delays, .. } | ElementKind::Udp { delays, .. } => {
@@ -173,7 +188,7 @@ pub fn place_value<A: Agenda, N: Nets + Stamps>(
         }
         ElementKind::Path { paths, style } => {
             place_path(
-                agenda, parts, element, present, now, value, paths, style, nets,
+                agenda, parts, element, present, now, value, paths, style, nets, marks,
             );
         }
         ElementKind::Late { delay } => place_late(agenda, element, present, now, value, delay),

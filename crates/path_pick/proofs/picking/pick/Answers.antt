@@ -1,15 +1,14 @@
-use Rattle.path_pick.proofs.PassLaws.{best-more, best-all}
+use Rattle.std.specs.Vec.{with_items}
+use Rattle.std.proofs.Common.{◌≡◌, ◌∙◌, ap, sym, subst, false, slice_index_or}
+use Rattle.std.proofs.lemmas.List.{with_items_is}
+use Rattle.path_pick.specs.Marks.{AreMarked}
+use Rattle.path_pick.proofs.MarkLaws.{off_again}
 use Rattle.path_pick.proofs.picking.pick.Goals as goal
 
-pub loop-path-preserved : goal.loop-path-preserved
-loop-path-preserved g c = record {
-  best = λ conditions.
-      best-more conditions c.args.timings.now c.args.paths.now (g.N.Nets.values c.args.nets.now) (g.S.Stamps.stamps c.args.stamps.now) c.place_of-place.result c.loop-path.path-index c.path-item.result _
-      c.loop-path.best c.candidate_from.result c.better-best.result c.loop-path-test.true c.path-item.is (c.candidate_from.ensures.seen conditions) c.better-best.ensures.better (c.loop-path.invariant.best conditions);
-  ready = c.better-best.ensures.ready c.loop-path.invariant.ready c.candidate_from.ensures.ready;
-}
-
-pub returns-clause-picked : goal.returns-clause-picked
-returns-clause-picked g c = λ conditions.
-    best-all conditions c.args.timings.now c.args.paths.now (g.N.Nets.values c.args.nets.now) (g.S.Stamps.stamps c.args.stamps.now) c.place_of-place.result c.loop-path.path-index c.args.now c.args.from c.args.to
-    c.loop-path.best c.picked_by.result c.loop-path-test.false c.place_of-place.ensures.place c.picked_by.ensures.picked (c.loop-path.invariant.best conditions)
+pub invariant_of-marks : goal.invariant_of-marks
+invariant_of-marks g c =
+    let values = g.N.Nets.values c.args.nets.now in
+    let old = c.marks.inside.flags in
+    let marked : c.deref_mut-2.result.now ≡ c.mark_inputs.new.flags = c.deref_mut-2.ensures.value ∙ with_items_is old c.mark_inputs.new.flags (c.mark_inputs.auto.flags ∙ c.deref_mut.ensures.len) in
+    λ net. ap (λ fs. slice_index_or fs net false) (with_items_is (with_items old c.mark_inputs.new.flags) c.clear_inputs.new.flags (c.clear_inputs.auto.flags ∙ c.deref_mut-2.ensures.len))
+    ∙ off_again c.args.paths.now values c.deref_mut-2.result.now c.clear_inputs.new.flags (subst (λ fs. AreMarked c.args.paths.now values fs) (sym marked) c.mark_inputs.ensures) c.clear_inputs.ensures net

@@ -2,7 +2,7 @@ use Rattle.std.proofs.Common.{List, IfSome}
 use Rattle.cond_expr.specs.Condition.{Condition}
 use Rattle.path_pick.specs.Pass.{IsReady}
 use Rattle.path_pick.proofs.PassLaws.{IsBestUpTo}
-use Rattle.path_pick.proofs.picking.pick.Given as goal
+use Rattle.path_pick.proofs.picking.best_of.Given as goal
 
 abbrev pub invariant-loop-path : goal.invariant-loop-path
 invariant-loop-path g l = record {

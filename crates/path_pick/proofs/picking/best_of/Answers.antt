@@ -1,0 +1,16 @@
+use Rattle.std.proofs.Common.{refl}
+use Rattle.path_pick.proofs.PassLaws.{best-more, best-all}
+use Rattle.path_pick.proofs.picking.best_of.Goals as goal
+
+pub loop-path-preserved : goal.loop-path-preserved
+loop-path-preserved g c = record {
+  best = λ conditions.
+      best-more conditions c.args.timings.now c.args.paths.now (g.N.Nets.values c.args.nets.now) (g.S.Stamps.stamps c.args.stamps.now) c.place_of-place.result c.loop-path.path-index c.path-item.result _
+      c.loop-path.best c.candidate_from.result c.better-best.result c.loop-path-test.true c.path-item.is (c.candidate_from.ensures.seen c.args.paths.now conditions c.requires.marked) c.better-best.ensures.better (c.loop-path.invariant.best conditions);
+  ready = c.better-best.ensures.ready c.loop-path.invariant.ready c.candidate_from.ensures.ready;
+}
+
+pub returns-clause-picked : goal.returns-clause-picked
+returns-clause-picked g c = λ conditions now.
+    best-all conditions c.args.timings.now c.args.paths.now (g.N.Nets.values c.args.nets.now) (g.S.Stamps.stamps c.args.stamps.now) c.place_of-place.result c.loop-path.path-index now c.args.from c.args.to
+    c.loop-path.best _ c.loop-path-test.false c.place_of-place.ensures.place refl (c.loop-path.invariant.best conditions)
