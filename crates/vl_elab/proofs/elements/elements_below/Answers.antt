@@ -54,7 +54,7 @@ returns-clause-elements c = λ m h.
     let paths = c.in_ok-modules.ensures.paths m h.below.are_placed h.below.tick_is h.is_ready in
     let given = given-of d m c.args.corner c.args.tick c.args.instances.now c.args.library.now c.args.rows.now h _ _ _ elements c.no_delay.ensures paths in
     elements-of d m c.args.corner c.args.library.now c.in_ok-modules.modules _ _ refl refl paths (c.in_ok-paths.ensures.paths d m c.args.corner given)
-    (lates-given d m c.args.corner c.args.library.now c.args.instances.now c.in_ok-placing.placing _ _ c.in_ok-lates.lates h.below.are_placed elements c.deref.ensures.value ? c.in_ok-lates.ensures.lates c.in_ok-lates.ensures.scopes)
+    (lates-given d m c.args.corner c.args.library.now c.args.instances.now c.in_ok-placing.placing _ _ c.in_ok-lates.lates h.below.are_placed elements c.deref.ensures.value refl c.in_ok-lates.ensures.lates c.in_ok-lates.ensures.scopes)
 
 pub returns-clause-spelled : goal.returns-clause-spelled
 returns-clause-spelled c = let h = c.requires.nets.1 in (c.in_ok-modules.ensures.paths c.requires.nets.0 h.below.are_placed h.below.tick_is h.is_ready).read
