@@ -2,8 +2,9 @@
 use Rattle.std.proofs.Common.{◌≡◌, ◌∙◌, sym, ap, refl, subst, ℕ, suc, List, [], ◌++◌, length, take, inl, inr, ◌≤◌, ⊥, arith}
 use Rattle.std.proofs.lemmas.List.{append-nil, take_all}
 use Rattle.std.specs.Prelude.{Option, Some, None, Result, Ok, Err}
-use Rattle.sg_io.specs.Faults.{Rises, next_count}
+use Rattle.sg_io.specs.Faults.{FaultsTold, Rises, next_count}
 use Rattle.sg_io.specs.Files.{File, BothTell, HasAfter}
+use Rattle.sg_io.specs.Memory.{ShelfInMemory}
 use Rattle.sg_io.specs.declared.outside.ShelfError.{ShelfError}
 use Rattle.sg_io.specs.declared.outside.ShelfError.TheVariants as shelf
 use Rattle.sg_model.specs.Machine.{Violation}
@@ -213,8 +214,14 @@ not_risen : (before now : ℕ) → before ≡ 0 → now ≡ before → Rises bef
 not_risen before now zero same h =
     let p : next_count 0 ≤ 0 = subst (λ k. next_count k ≤ k) zero (subst (λ k. next_count before ≤ k) same h.rose) in omega (arith, p)
 
-pub never_fails : (before now : ℕ) (end : Result (Unit {0}) SimEnd) → before ≡ 0 → now ≡ before → CauseOfEnd before now end → WatcherFails end → ⊥
+never_fails : (before now : ℕ) (end : Result (Unit {0}) SimEnd) → before ≡ 0 → now ≡ before → CauseOfEnd before now end → WatcherFails end → ⊥
 never_fails before now (Ok u) zero same h fails = fails
 never_fails before now (Err (RoundsSpent time net)) zero same h fails = fails
 never_fails before now (Err WatchFailed) zero same h fails = not_risen before now zero same h
 never_fails before now (Err NoMemory) zero same h fails = fails
+
+-- so a shelf in memory that was new, and stayed as it was, saw no failure
+pub none_failed : (old now : ShelfInMemory) (end : Result (Unit {0}) SimEnd) → old.faults ≡ record { count = 0; last = None } → now ≡ old
+    → CauseOfEnd old.faults.count now.faults.count end → WatcherFails end → ⊥
+none_failed old now end made same cause =
+    never_fails old.faults.count now.faults.count end (ap (λ (f : FaultsTold). f.count) made) (ap (λ (s : ShelfInMemory). s.faults.count) same) cause
