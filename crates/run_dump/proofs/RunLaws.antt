@@ -1,5 +1,5 @@
 -- What a run leaves in the file of its dump, and what its end tells, is what the definition's run has.
-use Rattle.std.proofs.Common.{◌≡◌, ◌∙◌, sym, ap, refl, subst, ℕ, suc, List, [], ◌++◌, length, take, inl, inr, ◌≤◌, ⊥, arith}
+use Rattle.std.proofs.Common.{◌≡◌, ◌∙◌, sym, ap, refl, subst, ℕ, suc, List, [], ◌++◌, length, take, inl, inr, ◌≤◌, arith}
 use Rattle.std.proofs.lemmas.List.{append-nil, take_all}
 use Rattle.std.specs.Prelude.{Option, Some, None, Result, Ok, Err}
 use Rattle.sg_io.specs.Faults.{FaultsTold, Rises, next_count}
@@ -159,13 +159,13 @@ module _ {S : Type 0} (files : S → Option (List File)) (name : List ℕ) (circ
 
   -- the run came to an end, or it didn't
   pub ends : (found : List Violation) (changed counted : ℕ) (end : Result (Unit {0}) SimEnd) (spent : Option code_spent.Spent) → w ≡ record { name = name; circuit = circuit; last = None } → BothTell old (files a) (HasAfter name (header circuit))
-      → w'.name ≡ w.name → w'.circuit ≡ w.circuit → KeepsOthers w.name (files a) (files b) → (taken : ℕ) × (HasEnded (StandsFor files) (BreaksIn files) w w' a b s found changed taken end × (counted ≡ count_shown taken))
+      → w'.name ≡ w.name → w'.circuit ≡ w.circuit → KeepsOthers w.name (files a) (files b) → (taken : ℕ) × HasEnded (StandsFor files) (BreaksIn files) w w' a b s found changed taken end × (counted ≡ count_shown taken)
       → ◌≡◌ {A = Result (Option code_spent.Spent) ShelfError} (Ok spent) (spent_in end) → BothTell old (files b) (HasAfter name (text_for circuit s))
   ends found changed counted end spent made begun same_name same_circuit others (taken, h, count) e =
       subst (λ o. BothTell old (files b) (Leaves name (text_for circuit s) o)) (sym e) (run_leaves found changed taken end made begun same_name same_circuit others h)
 
   pub stops : (found : List Violation) (changed counted : ℕ) (end : Result (Unit {0}) SimEnd) (why : ShelfError) → w ≡ record { name = name; circuit = circuit; last = None } → BothTell old (files a) (HasAfter name (header circuit))
-      → w'.name ≡ w.name → w'.circuit ≡ w.circuit → KeepsOthers w.name (files a) (files b) → (taken : ℕ) × (HasEnded (StandsFor files) (BreaksIn files) w w' a b s found changed taken end × (counted ≡ count_shown taken))
+      → w'.name ≡ w.name → w'.circuit ≡ w.circuit → KeepsOthers w.name (files a) (files b) → (taken : ℕ) × HasEnded (StandsFor files) (BreaksIn files) w w' a b s found changed taken end × (counted ≡ count_shown taken)
       → ◌≡◌ {A = Result (Option code_spent.Spent) ShelfError} (Err why) (spent_in end) → BothTell old (files b) (LeavesPrefix name (text_for circuit s))
   stops found changed counted end why made begun same_name same_circuit others (taken, h, count) e =
       subst (λ o. BothTell old (files b) (Leaves name (text_for circuit s) o)) (sym e) (run_leaves found changed taken end made begun same_name same_circuit others h)
@@ -200,12 +200,12 @@ run_finds stands broken w w' a b s found changed taken (Err WatchFailed) spent h
 run_finds stands broken w w' a b s found changed taken (Err NoMemory) spent h e = absurd (cc)
 
 pub finds : {W S : Type 0} (stands broken : W → S → List Call → Type 0) (w w' : W) (a b : S) (s : Setting) (found : List Violation) (changed counted : ℕ) (end : Result (Unit {0}) SimEnd) (spent : Option code_spent.Spent)
-    → (taken : ℕ) × (HasEnded stands broken w w' a b s found changed taken end × (counted ≡ count_shown taken)) → ◌≡◌ {A = Result (Option code_spent.Spent) ShelfError} (Ok spent) (spent_in end)
-    → (taken : ℕ) × (Finds s spent found changed taken × (counted ≡ count_shown taken))
+    → (taken : ℕ) × HasEnded stands broken w w' a b s found changed taken end × (counted ≡ count_shown taken) → ◌≡◌ {A = Result (Option code_spent.Spent) ShelfError} (Ok spent) (spent_in end)
+    → (taken : ℕ) × Finds s spent found changed taken × (counted ≡ count_shown taken)
 finds stands broken w w' a b s found changed counted end spent (taken, h, count) e = (taken, run_finds stands broken w w' a b s found changed taken end spent h e, count)
 
 -- the same, of the evaluations as they were counted
-pub counts : (s : Setting) (spent : Option code_spent.Spent) (found : List Violation) (changed counted : ℕ) → (taken : ℕ) × (Finds s spent found changed taken × (counted ≡ count_shown taken))
+pub counts : (s : Setting) (spent : Option code_spent.Spent) (found : List Violation) (changed counted : ℕ) → (taken : ℕ) × Finds s spent found changed taken × (counted ≡ count_shown taken)
     → counted ≡ count_shown (run_for s (suc s.end)).evaluations
 counts s spent found changed counted (taken, h, count) = count ∙ ap count_shown h.taken_is
 

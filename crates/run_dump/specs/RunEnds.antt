@@ -16,7 +16,7 @@ use Rattle.run_dump.specs.declared.run.RunEnd as code_end
 -- the engine made a run, told it to its watcher, and counted what it evaluated; or there was no memory for the engine, and nothing was called
 abbrev pub HasSimulated : {W S E : Type 0} → (W → S → List Call → Type 0) → (W → S → List Call → Type 0) → W → W → S → S → Setting → Result code_finished.Finished E → Type 0
 HasSimulated stands broken w w' s s' setting (Ok f) =
-    (taken : ℕ) × (HasEnded stands broken w w' s s' setting (map (λ v. violation_seen v) f.tally.violations.items) f.tally.last taken f.end × (f.tally.evaluations ≡ count_shown taken))
+    (taken : ℕ) × HasEnded stands broken w w' s s' setting (map (λ v. violation_seen v) f.tally.violations.items) f.tally.last taken f.end × (f.tally.evaluations ≡ count_shown taken)
 HasSimulated stands broken w w' s s' setting (Err e) = (w' ≡ w) × (s' ≡ s)
 
 -- how a run ended, as it is answered: an end, with the time that was spent if there was one, or why there is none

@@ -36,7 +36,7 @@ returns-clause-file g c =
     c.in_ok-finished.ensures.ended c.in_ok-spent.ensures
 
 pub returns-clause-spent : goal.returns-clause-spent
-returns-clause-spent g c = (finds _ _ _ _ _ _ _ _ _ _ _ _ c.in_ok-finished.ensures.ended c.in_ok-spent.ensures).1.0.spent_is
+returns-clause-spent g c = (finds _ _ _ _ _ _ _ _ _ _ _ _ c.in_ok-finished.ensures.ended c.in_ok-spent.ensures).1.spent_is
 
 pub returns-clause-violations : goal.returns-clause-violations
-returns-clause-violations g c = (finds _ _ _ _ _ _ _ _ _ _ _ _ c.in_ok-finished.ensures.ended c.in_ok-spent.ensures).1.0.found_is
+returns-clause-violations g c = (finds _ _ _ _ _ _ _ _ _ _ _ _ c.in_ok-finished.ensures.ended c.in_ok-spent.ensures).1.found_is

@@ -2,4 +2,4 @@ use Rattle.run_dump.proofs.run.run_quietly.Given as goal
 
 -- the steps of the engine are counted in the blank's ledger
 abbrev pub ghosts-simulate : goal.ghosts-simulate
-ghosts-simulate g a = record { name = a.blank.name; parts = a.blank.parts }
+ghosts-simulate a = record { name = a.blank.name; parts = a.blank.parts }
