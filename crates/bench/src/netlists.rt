@@ -179,8 +179,9 @@ fn negative(alloc: Global, count: u32) -> Result<String, AllocError> {
 fn add_holds(text: &mut String, count: u32) -> Result<(), AllocError> {
     for data in 0..count {
         for refer in data.saturating_sub(10)..data {
-            let setup = 7 * (data - refer);
-            let hold = 3 * (data - refer);
+            let apart = u64::from(data - refer);
+            let setup = 7 * apart;
+            let hold = 3 * apart;
             writeln!(
                 text,
                 "    $setuphold (posedge s{refer}, s{data}, {setup}, -{hold});"

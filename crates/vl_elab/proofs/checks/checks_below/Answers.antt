@@ -12,7 +12,7 @@ use Rattle.vl_elab.proofs.Steps.{checks-given}
 use Rattle.vl_elab.proofs.checks.checks_below.Goals as goal
 
 pub ready_checks-requires-clause-read : goal.ready_checks-requires-clause-read
-ready_checks-requires-clause-read c = let h = c.requires.nets.1.0 in (c.requires.nets.0, h.below.are_placed, h.below.tick_is, h.is_ready)
+ready_checks-requires-clause-read c = let h = c.requires.nets.1 in (c.requires.nets.0, h.below.are_placed, h.below.tick_is, h.is_ready)
 
 pub returns-in_err-ready-clause-refused : goal.returns-in_err-ready-clause-refused
 returns-in_err-ready-clause-refused c =
@@ -23,8 +23,8 @@ returns-in_err-ready-clause-refused c =
 pub circuit_checks-requires : goal.circuit_checks-requires
 circuit_checks-requires c =
     let m = c.requires.nets.0 in
-    let h = c.requires.nets.1.0 in
-    let l = c.requires.nets.1.1 in
+    let h = c.requires.nets.1 in
+    let l = c.requires.nets.2 in
     let d = c.args.definitions.now in
     let checks = c.in_ok-ready.ensures.checks m h.below.are_placed h.below.tick_is h.is_ready in
     record {

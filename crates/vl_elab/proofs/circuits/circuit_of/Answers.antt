@@ -53,7 +53,7 @@ checks_below-requires-clause-nets c =
     let ready = c.in_ok-library.ensures.library m b.are_placed b.tick_is in
     let rows = c.in_ok-rows.ensures.rows m c.args.corner b.are_placed ready b.shallow in
     let h = nets-of d m c.args.corner c.args.tick c.args.instances.now _ _ b ready rows in
-    (m, (h, (c.in_ok-made.ensures.elements m h).lates))
+    (m, h, (c.in_ok-made.ensures.elements m h).lates)
 
 pub checks_below-requires-clause-spelled : goal.checks_below-requires-clause-spelled
 checks_below-requires-clause-spelled c = c.in_ok-made.ensures.spelled
