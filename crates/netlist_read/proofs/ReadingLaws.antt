@@ -1,8 +1,8 @@
 -- What is read has no fault, and is read in one way.
 use Rattle.std.proofs.Common.{◌≡◌, ℕ, List, refl, sym, ◌∙◌, ap, arith, subst}
 use Rattle.std.specs.List.{IsAmong}
-use Rattle.std.specs.Prelude.{◌<◌, All, [], ◌∷◌, Option, Result, Ok, Err, length, map}
-use Rattle.std.proofs.lemmas.List.Elements.{All-from_recursion, recursion_from_All}
+use Rattle.std.specs.Prelude.{◌<◌, All, [], ◌∷◌, Option, Result, Ok, Err, length}
+use Rattle.std.proofs.lemmas.List.Elements.{All-map}
 use Rattle.grammar.proofs.Laws.{one_value}
 use Rattle.sg_circuit.specs.Circuit.{Circuit, Element}
 use Rattle.sg_delay.specs.declared.corners.Corner.{Corner}
@@ -19,7 +19,6 @@ use Rattle.circuit_model.specs.Circuits.{circuit}
 use Rattle.circuit_model.specs.Elaboration.{in_list, IsElaborated}
 use Rattle.circuit_model.specs.Faults.{faults, faults_below, top_faults}
 use Rattle.elab_closed.proofs.Closed.{circuit-is_closed}
-use Rattle.elab_laws.proofs.Lists.{all-map}
 use Rattle.elab_laws.proofs.NoFaults.{back}
 use Rattle.elab_model.specs.declared.kinds.ElabKind.{ElabKind}
 use Rattle.elab_model.specs.Faults.{Fault}
@@ -94,9 +93,7 @@ read-is-faultless texts name corner c r kind place (in_meaning tokens tree k p h
 adjusted-has-scopes : (c made : Circuit) → IsAdjustedFrom c made → All (λ e. e.scope < length c.scopes) c.elements → All (λ e. e.scope < length made.scopes) made.elements
 adjusted-has-scopes c made a h =
     let Within : Element → Type 0 = λ e. e.scope < length c.scopes in
-    let late = late_element c a.delays in
-    subst (λ m. All (λ e. e.scope < length m.scopes) m.elements) (sym a.made_is)
-    (All-from_recursion Within (map late c.elements) (all-map Within late c.elements (recursion_from_All Within c.elements h)))
+    subst (λ m. All (λ e. e.scope < length m.scopes) m.elements) (sym a.made_is) (All-map Within (late_element c a.delays) c.elements h)
 
 pub read-has-scopes : (texts : List (List ℕ)) (name : Option (List ℕ)) (corner : Corner) (c : Circuit) → IsRead texts name corner c → All (λ e. e.scope < length c.scopes) c.elements
 read-has-scopes texts name corner c r =
