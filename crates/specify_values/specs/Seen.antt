@@ -1,8 +1,9 @@
 -- The code's values, as the definitions see them.
-use Rattle.std.specs.Prelude.{◌≡◌, ℕ, List, ◌++◌, Bool, filter_map, nat_le, Option, Some, None, map, bytes_eq, if◌then◌else◌, ◌&&◌, ◌==◌, ◌+◌, take, drop, slice_index_or}
+use Rattle.std.specs.Prelude.{◌≡◌, ℕ, List, ◌++◌, Bool, filter_map, nat_le, Option, Some, None, map, bytes_eq, nat_eq, if◌then◌else◌, ◌&&◌, ◌==◌, ◌+◌, length, take, drop, slice_index_or, true}
 use Rattle.std.specs.Borrow.{Bor}
 use Rattle.std.specs.Option.{option_map, option_or}
 use Rattle.indexmap.specs.IndexMap.{IndexMap, get_by}
+use Rattle.indexmap.specs.IndexSet.{IndexSet, contains_by}
 use Rattle.sg_delay.specs.declared.limits.Widths.{Widths}
 use Rattle.vl_token.specs.Seen.{timescale}
 use Rattle.vl_tree.specs.declared.checks.Check as code_check
@@ -14,7 +15,7 @@ use Rattle.elab_model.specs.Names.{Variable}
 use Rattle.elab_model.specs.TerminalFaults.{delay_limit}
 use Rattle.specify_model.specs.Blocks.{Parameter, parameter_of, parameters, Pulse, pulse_of, pulses, StyleText, specify_paths, style_texts}
 use Rattle.specify_model.specs.Checks.{check_texts}
-use Rattle.specify_model.specs.PulseLimits.{Limits, limit_ticks, dollar, are_ports, is_for_ends, is_for_others}
+use Rattle.specify_model.specs.PulseLimits.{Limits, limit_ticks, dollar, is_port, are_ports, is_for_ends, is_for_others}
 use Rattle.specify_model.specs.Values.{Measure, Values}
 use Rattle.specify_values.specs.declared.items.BlockItems.{BlockItems}
 use Rattle.specify_values.specs.declared.items.Parameter as code_parameter
@@ -57,6 +58,13 @@ ends_seen e = (e.0.now, e.1.now)
 -- a $ stands at a place of a text, with a port at either side
 abbrev pub is_divided : List Variable → List ℕ → ℕ → Bool
 is_divided vs text at = slice_index_or text at 0 == dollar && are_ports vs (take at text, drop (at + 1) text)
+
+abbrev pub has_length : {S : Type 0} → IndexSet ℕ S → ℕ → Bool
+has_length lengths n = contains_by (nat_eq n) lengths
+
+-- the name of each port has one of these lengths
+abbrev pub AreLengths : {S : Type 0} → List Variable → IndexSet ℕ S → Type 0
+AreLengths vs lengths = (n : List ℕ) → is_port vs n ≡ true → has_length lengths (length n) ≡ true
 
 abbrev pub widths_seen : Widths → ℕ × ℕ
 widths_seen w = (w.reject, w.error)

@@ -3,15 +3,15 @@ ghost use Rattle.std.specs.Prelude.{◌≡◌, IfOk, OnOk, flat_map, map};
 ghost use Rattle.std.specs.Option.{option_map};
 ghost use Rattle.specify_model.specs.Faults.{pulse_faults};
 ghost use Rattle.specify_model.specs.PulseLimits.{limits_of};
-ghost use Rattle.specify_values.specs.Seen.{IsAdded, view_pulse, measured, widths_seen, limits_seen};
+ghost use Rattle.specify_values.specs.Seen.{AreLengths, IsAdded, view_pulse, measured, widths_seen, limits_seen};
 ghost use Rattle.specify_values.specs.Telling.{Tells};
 
 use crate::items::Pulse;
 use crate::measures::Measure;
-use crate::pulses::{ends_text, named_ends, widths_of};
+use crate::pulses::{ends_text, named_ends, port_lengths, widths_of};
 use elab_model::ElabKind;
 use elab_variables::Table;
-use indexmap::IndexMap;
+use indexmap::{IndexMap, IndexSet};
 use sg_delay::Widths;
 use sg_text::Refused;
 use std::alloc::Global;
@@ -50,8 +50,9 @@ pub fn pulse_limits<'a>(
         named: IndexMap::new(alloc),
         others: None,
     };
+    let lengths = port_lengths(alloc, table)?;
     for pulse in list {
-        add_pulse(by, table, *pulse, &mut limits)?;
+        add_pulse(by, table, &lengths, *pulse, &mut limits)?;
     }
     Ok(limits)
 }
@@ -59,9 +60,11 @@ pub fn pulse_limits<'a>(
 fn add_pulse<'a>(
     by: Measure,
     table: &Table,
+    lengths: &IndexSet<usize>,
     pulse: Pulse<'a>,
     limits: &mut PulseLimits<'a>,
 ) -> Result<(), Refused<ElabKind>>
+    requires { AreLengths table.now lengths.now }
     ensures limits { OnOk result (IsAdded (measured by) table.now limits.old limits.new (view_pulse pulse.entry)) }
     ensures told { Tells (pulse_faults (measured by) table.now (view_pulse pulse.entry)) result }
 {
@@ -77,7 +80,7 @@ fn add_pulse<'a>(
         limits.others = Some(widths);
         return Ok(());
     }
-    let Some(ends) = named_ends(table, text) else {
+    let Some(ends) = named_ends(table, lengths, text) else {
         return Err(Refused::Fault {
             kind: ElabKind::UnknownName,
             place,
