@@ -1,8 +1,8 @@
 -- One pass keeps the best of the paths so far, and in the end it is the chosen one.
-use Rattle.std.specs.Prelude.{◌≡◌, ℕ, ◌+◌, ◌<◌, ◌≤◌, Bool, true, false, ◌&&◌, cond, List, [], ◌∷◌, ◌++◌, filter, take, length, position, slice_get, slice_index_or, refl}
+use Rattle.std.specs.Prelude.{◌≡◌, ◌⊎◌, ℕ, ◌+◌, ◌<◌, ◌≤◌, Bool, true, false, ◌&&◌, cond, List, [], ◌∷◌, ◌++◌, filter, take, length, position, slice_get, slice_index_or, refl}
 use Rattle.std.specs.declared.option.Option.{Option}
 use Rattle.std.specs.declared.option.Option.TheVariants.{Some, None}
-use Rattle.std.proofs.Common.{sym, ◌∙◌, ap, subst}
+use Rattle.std.proofs.Common.{sym, ◌∙◌, ap, subst, inl, inr}
 use Rattle.std.proofs.lemmas.List.{append-nil, map_more, take_all}
 use Rattle.std.proofs.lemmas.List.Elements.{filter-append}
 use Rattle.sg_logic.specs.declared.values.Value.{Value}
@@ -17,7 +17,7 @@ use Rattle.sg_circuit.specs.Timings.{timing_at}
 use Rattle.path_pick.specs.declared.candidates.Candidate.{Candidate}
 use Rattle.path_pick.specs.declared.picking.Picked.{Picked}
 use Rattle.path_pick.specs.Choice.{is_allowed, is_of_edge, stamp_at, input_time, allowed, on_edge, picked, picked_for}
-use Rattle.path_pick.specs.Pass.{is_taken, is_before, candidate_of, candidate_seen, better_of, picked_from}
+use Rattle.path_pick.specs.Pass.{is_taken, is_before, candidate_of, candidate_seen, edge_seen, improves, better_of, picked_from}
 use Rattle.path_pick.proofs.BestLaws.{IsFirstBest, first-best-one, first-best-stays, first-best-moves, first-best-is, late, quick}
 
 abbrev pub delay_at : Option ℕ → Path → ℕ
@@ -60,6 +60,41 @@ better-none : (best : Option Candidate) → better_of best None ≡ best
 better-none None = refl
 better-none (Some c) = refl
 
+-- a path whose edge isn't its input's change, one that goes before the best so far and is allowed, and one of which either doesn't hold
+seen-none : (best : Option Candidate) (c : Candidate) (allowed edge : Bool) → None ≡ cond edge (Some c) None → best ≡ better_of best (cond (allowed && edge) (Some c) None)
+seen-none best c allowed true h = cc
+seen-none best c true false h = sym (better-none best)
+seen-none best c false false h = sym (better-none best)
+
+better-new : (best : Option Candidate) (c : Candidate) → improves best c ≡ true → Some c ≡ better_of best (Some c)
+better-new None c h = refl
+better-new (Some kept) c h = sym (ap (λ b. cond b (Some c) (Some kept)) h)
+
+better-kept : (best : Option Candidate) (c : Candidate) → improves best c ≡ false → best ≡ better_of best (Some c)
+better-kept None c h = cc
+better-kept (Some kept) c h = sym (ap (λ b. cond b (Some c) (Some kept)) h)
+
+seen-new : (best : Option Candidate) (c new : Candidate) (allowed edge : Bool) → Some new ≡ cond edge (Some c) None → improves best new ≡ true → allowed ≡ true → Some new ≡ better_of best (cond (allowed && edge) (Some c) None)
+seen-new best c new allowed false h i a = cc
+seen-new best c new false true h i a = cc
+seen-new best c new true true h i a = h ∙ better-new best c (subst (λ (x : Candidate). improves best x ≡ true) (let e : new ≡ c = cc in e) i)
+
+seen-kept : (best : Option Candidate) (c new : Candidate) (allowed edge : Bool) → Some new ≡ cond edge (Some c) None → (improves best new ≡ false) ⊎ (allowed ≡ false) → best ≡ better_of best (cond (allowed && edge) (Some c) None)
+seen-kept best c new allowed false h i = cc
+seen-kept best c new false true h i = sym (better-none best)
+seen-kept best c new true true h (inl i) = better-kept best c (subst (λ (x : Candidate). improves best x ≡ false) (let e : new ≡ c = cc in e) i)
+seen-kept best c new true true h (inr a) = cc
+
+module _ (all : List Path) (values : List Value) (stamps : List (Option Stamp)) (place : Option ℕ) (best : Option Candidate) (p : Path) where
+  pub passes-none : None ≡ edge_seen stamps place p → best ≡ better_of best (candidate_seen all values stamps place p)
+  passes-none h = seen-none best (candidate_of stamps place p) (is_allowed all values p) (is_of_edge p.edge (stamp_at stamps p.input)) h
+
+  pub takes-new : (new : Candidate) → Some new ≡ edge_seen stamps place p → improves best new ≡ true → is_allowed all values p ≡ true → Some new ≡ better_of best (candidate_seen all values stamps place p)
+  takes-new new h i a = seen-new best (candidate_of stamps place p) new (is_allowed all values p) (is_of_edge p.edge (stamp_at stamps p.input)) h i a
+
+  pub keeps-best : (new : Candidate) → Some new ≡ edge_seen stamps place p → (improves best new ≡ false) ⊎ (is_allowed all values p ≡ false) → best ≡ better_of best (candidate_seen all values stamps place p)
+  keeps-best new h i = seen-kept best (candidate_of stamps place p) new (is_allowed all values p) (is_of_edge p.edge (stamp_at stamps p.input)) h i
+
 -- one more path
 seen-more : (all : List Path) (values : List Value) (stamps : List (Option Stamp)) (place : Option ℕ) (seen : List Path) (best : Option Candidate) (p : Path)
     → IsBest stamps place (filter (is_taken all values stamps) seen) best
@@ -74,14 +109,12 @@ seen-more all values stamps place seen best p h =
         (subst (λ b. IsBest stamps place (filter (is_taken all values stamps) seen) b) (sym (better-none best)) h)
 
 pub best-more : (conditions : List Condition) (timings : List LegTiming) (paths : List code.Path) (values : List Value) (stamps : List (Option Stamp)) (place : Option ℕ) (count : ℕ) (path d : code.Path)
-    (best other next : Option Candidate) → count < length paths → path ≡ slice_index_or paths count d
-    → other ≡ candidate_seen (paths_seen conditions timings paths) values stamps place (path_seen conditions timings path)
-    → next ≡ better_of best other
+    (best next : Option Candidate) → count < length paths → path ≡ slice_index_or paths count d
+    → next ≡ better_of best (candidate_seen (paths_seen conditions timings paths) values stamps place (path_seen conditions timings path))
     → IsBestUpTo conditions timings paths values stamps place count best → IsBestUpTo conditions timings paths values stamps place (count + 1) next
-best-more conditions timings paths values stamps place count path d best other next l is o n h =
+best-more conditions timings paths values stamps place count path d best next l is made h =
     let all : List Path = paths_seen conditions timings paths in
     let p : Path = path_seen conditions timings path in
-    let made : next ≡ better_of best (candidate_seen all values stamps place p) = n ∙ ap (better_of best) o in
     let more : paths_seen conditions timings (take (count + 1) paths) ≡ paths_seen conditions timings (take count paths) ++ p ∷ [] =
     map_more (path_seen conditions timings) paths count d l ∙ ap (λ x. paths_seen conditions timings (take count paths) ++ path_seen conditions timings x ∷ []) (sym is) in
     record {

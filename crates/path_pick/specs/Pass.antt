@@ -1,5 +1,5 @@
 -- Words of the functions that pass over the paths once.
-use Rattle.std.specs.Prelude.{ℕ, ◌+◌, ◌<◌, ◌≤◌, ◌^◌, ◌==◌, nat_lt, Bool, false, ◌&&◌, ◌||◌, if◌then◌else◌, List, max}
+use Rattle.std.specs.Prelude.{ℕ, ◌+◌, ◌<◌, ◌≤◌, ◌^◌, ◌==◌, nat_lt, Bool, true, false, ◌&&◌, ◌||◌, if◌then◌else◌, List, max}
 use Rattle.std.specs.List.{list_any}
 use Rattle.std.specs.declared.option.Option.{Option}
 use Rattle.std.specs.declared.option.Option.TheVariants.{Some, None}
@@ -38,12 +38,20 @@ candidate_of stamps place p = record { time = input_time stamps p; pulse = pulse
 abbrev pub candidate_seen : List Path → List Value → List (Option Stamp) → Option ℕ → Path → Option Candidate
 candidate_seen paths values stamps place p = if is_taken paths values stamps p then Some (candidate_of stamps place p) else None
 
+-- the same, whatever its condition
+abbrev pub edge_seen : List (Option Stamp) → Option ℕ → Path → Option Candidate
+edge_seen stamps place p = if is_of_edge p.edge (stamp_at stamps p.input) then Some (candidate_of stamps place p) else None
+
 -- by time and delay, whether one path goes before another
 abbrev pub beats : ℕ → ℕ → ℕ → ℕ → Bool
 beats time delay time' delay' = nat_lt time' time || ((time == time') && nat_lt delay delay')
 
 abbrev pub is_before : Candidate → Candidate → Bool
 is_before one other = beats one.time one.pulse.delay other.time other.pulse.delay
+
+abbrev pub improves : Option Candidate → Candidate → Bool
+improves None new = true
+improves (Some kept) new = is_before new kept
 
 abbrev pub better_of : Option Candidate → Option Candidate → Option Candidate
 better_of None other = other

@@ -2,8 +2,9 @@
 ghost use Rattle.std.specs.Prelude.{◌≡◌, ◌<◌, List, All, IfSome, length};
 ghost use Rattle.cond_expr.specs.Condition.{Condition};
 ghost use Rattle.sg_circuit.specs.PathsSeen.{path_seen, paths_seen};
-ghost use Rattle.path_pick.specs.Pass.{better_of, candidate_seen, is_before, IsReady};
-ghost use Rattle.path_pick.specs.Within.{IsPathWithin};
+ghost use Rattle.sg_circuit.specs.TimingsSeen.{timings_at};
+ghost use Rattle.path_pick.specs.Pass.{better_of, candidate_seen, edge_seen, improves, is_before, IsReady};
+ghost use Rattle.path_pick.specs.Within.{AreNear, IsPathWithin};
 
 use crate::Stamps;
 use crate::conditions::is_allowed;
@@ -19,25 +20,20 @@ pub struct Candidate {
     pub pulse: Pulse,
 }
 
-/// A path, if it may be taken.
-pub(crate) fn candidate_from<S: Stamps, N: Nets>(
-    paths: &[Path],
+// A path whose edge is the last change of its input. Whether its condition lets it be taken isn't looked at.
+fn candidate_of<S: Stamps>(
     path: &Path,
     timings: &[LegTiming],
     stamps: &S,
-    nets: &N,
     place: Option<usize>,
 ) -> Option<Candidate>
-    requires paths { All (λ p. IsPathWithin (length (N.values nets.now)) timings.now p) paths.now }
-    requires path { IsPathWithin (length (N.values nets.now)) timings.now path.now }
+    requires timing { path.now.timing < length timings.now }
+    requires near { AreNear (timings_at timings.now path.now.timing) }
     requires stamp { path.now.input < length (S.stamps stamps.now) }
     requires place { IfSome place (λ place. place < 12) }
-    ensures seen { (conditions : List Condition) → result ≡ candidate_seen (paths_seen conditions timings.now paths.now) (N.values nets.now) (S.stamps stamps.now) place (path_seen conditions timings.now path.now) }
+    ensures seen { (conditions : List Condition) → result ≡ edge_seen (S.stamps stamps.now) place (path_seen conditions timings.now path.now) }
     ensures ready { IfSome result IsReady }
 {
-    if !is_allowed(paths, path, nets) {
-        return None;
-    }
     let stamp = stamps.of(path.input);
     if !is_on_edge(path.edge, stamp) {
         return None;
@@ -56,15 +52,40 @@ fn goes_before(one: Candidate, other: Candidate) -> bool
     one.time > other.time || (one.time == other.time && one.pulse.delay < other.pulse.delay)
 }
 
-/// The better of two; the first, where neither goes before the other.
-pub(crate) fn better(best: Option<Candidate>, other: Option<Candidate>) -> Option<Candidate>
-    ensures better { result ≡ better_of best other }
-    ensures ready { IfSome best IsReady → IfSome other IsReady → IfSome result IsReady }
+// Whether one goes before the best so far.
+fn improves(best: Option<Candidate>, new: Candidate) -> bool
+    ensures { result ≡ improves best new }
 {
-    match (best, other) {
-        (None, _) => other,
-        (_, None) => best,
-        (Some(kept), Some(new)) if goes_before(new, kept) => other,
-        _ => best,
+    match best {
+        Some(kept) => goes_before(new, kept),
+        None => true,
+    }
+}
+
+/// The better of the best so far and a path, if it may be taken; the first, where neither goes before the other. Its
+/// condition, which for `ifnone` is a look at all paths, is looked at where the path would go before.
+pub(crate) fn better<S: Stamps, N: Nets>(
+    best: Option<Candidate>,
+    paths: &[Path],
+    path: &Path,
+    timings: &[LegTiming],
+    stamps: &S,
+    nets: &N,
+    place: Option<usize>,
+) -> Option<Candidate>
+    requires paths { All (λ p. IsPathWithin (length (N.values nets.now)) timings.now p) paths.now }
+    requires path { IsPathWithin (length (N.values nets.now)) timings.now path.now }
+    requires stamp { path.now.input < length (S.stamps stamps.now) }
+    requires place { IfSome place (λ place. place < 12) }
+    ensures better { (conditions : List Condition) → result ≡ better_of best (candidate_seen (paths_seen conditions timings.now paths.now) (N.values nets.now) (S.stamps stamps.now) place (path_seen conditions timings.now path.now)) }
+    ensures ready { IfSome best IsReady → IfSome result IsReady }
+{
+    let Some(new) = candidate_of(path, timings, stamps, place) else {
+        return best;
+    };
+    if improves(best, new) && is_allowed(paths, path, nets) {
+        Some(new)
+    } else {
+        best
     }
 }

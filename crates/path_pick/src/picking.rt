@@ -7,7 +7,7 @@ ghost use Rattle.path_pick.specs.Pass.{picked_from, IsReady};
 ghost use Rattle.path_pick.specs.Within.{IsPathWithin};
 
 use crate::Stamps;
-use crate::candidates::{Candidate, better, candidate_from};
+use crate::candidates::{Candidate, better};
 use crate::pulses::place_of;
 use cond_expr::Nets;
 use sg_circuit::{LegTiming, Path};
@@ -65,10 +65,7 @@ pub fn pick<S: Stamps, N: Nets>(
     let place = place_of(from, to);
     let mut best = None;
     for path in paths {
-        best = better(
-            best,
-            candidate_from(paths, path, timings, stamps, nets, place),
-        );
+        best = better(best, paths, path, timings, stamps, nets, place);
     }
     picked_by(best, now)
 }

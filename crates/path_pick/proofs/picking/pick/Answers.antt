@@ -5,8 +5,8 @@ pub loop-path-preserved : goal.loop-path-preserved
 loop-path-preserved g c = record {
   best = λ conditions.
       best-more conditions c.args.timings.now c.args.paths.now (g.N.Nets.values c.args.nets.now) (g.S.Stamps.stamps c.args.stamps.now) c.place_of-place.result c.loop-path.path-index c.path-item.result _
-      c.loop-path.best c.candidate_from.result c.better-best.result c.loop-path-test.true c.path-item.is (c.candidate_from.ensures.seen conditions) c.better-best.ensures.better (c.loop-path.invariant.best conditions);
-  ready = c.better-best.ensures.ready c.loop-path.invariant.ready c.candidate_from.ensures.ready;
+      c.loop-path.best c.better-best.result c.loop-path-test.true c.path-item.is (c.better-best.ensures.better conditions) (c.loop-path.invariant.best conditions);
+  ready = c.better-best.ensures.ready c.loop-path.invariant.ready;
 }
 
 pub returns-clause-picked : goal.returns-clause-picked
