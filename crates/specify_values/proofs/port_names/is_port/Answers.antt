@@ -2,7 +2,7 @@
 use Rattle.std.proofs.Common.{◌∙◌}
 use Rattle.elab_bits.proofs.NamedAt.{named-at}
 use Rattle.specify_values.proofs.Ports.{port-found, no-port}
-use Rattle.specify_values.proofs.pulses.is_port.Goals as goal
+use Rattle.specify_values.proofs.port_names.is_port.Goals as goal
 
 pub row-requires : goal.row-requires
 row-requires c = (named-at c.args.table.now c.args.name.now c.in-Some.place c.in-Some.ensures).below
