@@ -3,7 +3,7 @@ use Rattle.std.specs.Prelude.{◌≡◌, ℕ, ◌+◌, ◌<◌, ◌≤◌, ◌==
 use Rattle.std.specs.Borrow.{Bor}
 use Rattle.std.specs.List.{last_or}
 use Rattle.std.specs.Option.{option_map, option_or}
-use Rattle.std.proofs.Common.{sym, ◌∙◌, ap}
+use Rattle.std.proofs.Common.{sym, ◌∙◌, ap, arith}
 use Rattle.std.proofs.lemmas.Cmp.{nat_list_eq_equiv}
 use Rattle.std.proofs.lemmas.List.{map-append, take_more, take_all}
 use Rattle.std.proofs.Math.Path.{fun_ext}
@@ -69,6 +69,10 @@ all-pulses by vs xs i t le h =
     ap (λ x. option_or x (other_limit t)) (h.named a b) ∙ ap (option_or (option_map (limit_ticks by) (last_of (is_for_ends vs a b) (map view_pulse (take i xs))))) h.others
     ∙ or-mapped by (last_of (is_for_ends vs a b) (map view_pulse (take i xs))) (last_of is_for_others (map view_pulse (take i xs)))))
     ∙ ap (λ ys. limits_of by vs (map view_pulse ys)) (take_all i xs le)
+
+pub no-pulses : {A : Type 0} (xs : List A) (b : Bool) → b ≡ (length xs == 0) → b ≡ true → length xs ≤ 0
+no-pulses [] b h e = omega arith
+no-pulses (x ∷ xs) b h e = let f : false ≡ true = sym h ∙ e in absurd cc
 
 -- ---- one more in a table
 

@@ -6,3 +6,4 @@ pub mod Gathered
 pub mod InTurn
 pub mod ByName
 pub mod Latest
+pub mod PulseFaults

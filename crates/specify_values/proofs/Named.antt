@@ -1,5 +1,5 @@
 -- The names of ports as sets: one name after another, and where they stand in a text.
-use Rattle.std.specs.Prelude.{◌≡◌, ℕ, ◌+◌, ◌-◌, ◌<◌, ◌≤◌, ◌&&◌, ◌||◌, Bool, true, false, List, [], ◌∷◌, ◌++◌, Option, Some, None, bytes_eq, drop, find, length, reverse, slice_index_or, take, refl, if◌then◌else◌}
+use Rattle.std.specs.Prelude.{◌≡◌, ℕ, ◌+◌, ◌-◌, ◌<◌, ◌≤◌, ◌&&◌, ◌||◌, Bool, true, false, cond, List, [], ◌∷◌, ◌++◌, Some, bytes_eq, drop, find, length, reverse, slice_index_or, take, refl}
 use Rattle.std.specs.List.{list_any}
 use Rattle.std.proofs.Common.{sym, ◌∙◌, ap, arith, subst}
 use Rattle.std.proofs.Math.Bool.{or-true, and-false}
@@ -8,6 +8,7 @@ use Rattle.std.proofs.lemmas.List.Folds.{list_any-append}
 use Rattle.std.proofs.lemmas.Slice.Eq.{bytes_eq-Decides}
 use Rattle.name_trie.specs.Tree.{has, IsTree}
 use Rattle.elab_model.specs.Names.{Variable}
+use Rattle.elab_bits.proofs.InRow.{blank}
 use Rattle.elab_variables.specs.Seen.{variable_at}
 use Rattle.specify_model.specs.PulseLimits.{found_port, is_port}
 use Rattle.specify_values.specs.PortNames.{AddsIf, AreMarks, AreNames, AreTrees}
@@ -61,7 +62,7 @@ turned-round false false = refl
 one-more : (vs : List Variable) (i : ℕ) (name n : List ℕ) → i < length vs → name ≡ (variable_at vs i).name → ((is_port vs name && bytes_eq name n) || is_port_among vs i n) ≡ is_port_among vs (i + 1) n
 one-more vs i name n lt e =
     ap (λ m. (is_port vs m && bytes_eq m n) || is_port_among vs i n) e ∙ turned-round (is_port_named vs n (variable_at vs i)) (is_port_among vs i n)
-    ∙ sym (ap (list_any (is_port_named vs n)) (take_more vs i _ lt) ∙ list_any-append (is_port_named vs n) (take i vs) (variable_at vs i ∷ []))
+    ∙ sym (ap (list_any (is_port_named vs n)) (take_more vs i blank lt) ∙ list_any-append (is_port_named vs n) (take i vs) (variable_at vs i ∷ []))
 
 pub next-name : (vs : List Variable) (i : ℕ) (name : List ℕ) (old new : PortNames) → i < length vs → name ≡ (variable_at vs i).name → AreNames (is_port_among vs i) old → AddsIf (is_port vs name) name old new
     → AreNames (is_port_among vs (i + 1)) new
@@ -75,11 +76,12 @@ module _ (vs : List Variable) (n : List ℕ) where
 
   there : is_port vs n ≡ true → (ws : List Variable) → found_port (find (λ v. bytes_eq n v.name) ws) ≡ true → list_any (is_port_named vs n) ws ≡ true
   there h [] e = e
-  there h (v ∷ ws) e = by (bytes_eq n v.name) refl (there h ws)
+  there h (v ∷ ws) e = by (bytes_eq n v.name) refl e (there h ws)
     where
-      by : (b : Bool) → bytes_eq n v.name ≡ b → (found_port (find (λ v. bytes_eq n v.name) ws) ≡ true → list_any (is_port_named vs n) ws ≡ true) → list_any (is_port_named vs n) (v ∷ ws) ≡ true
-      by true s rest = ap (λ b. b || list_any (is_port_named vs n) ws) (at-name v s h)
-      by false s rest = let f : found_port (find (λ v. bytes_eq n v.name) ws) ≡ true = rw s at e in ap (λ b. is_port_named vs n v || b) (rest f) ∙ or-true (is_port_named vs n v)
+      by : (b : Bool) → bytes_eq n v.name ≡ b → found_port (cond b (Some v) (find (λ v. bytes_eq n v.name) ws)) ≡ true
+          → (found_port (find (λ v. bytes_eq n v.name) ws) ≡ true → list_any (is_port_named vs n) ws ≡ true) → list_any (is_port_named vs n) (v ∷ ws) ≡ true
+      by true s f rest = ap (λ b. b || list_any (is_port_named vs n) ws) (at-name v s h)
+      by false s f rest = ap (λ b. is_port_named vs n v || b) (rest f) ∙ or-true (is_port_named vs n v)
 
   absent : is_port vs n ≡ false → (ws : List Variable) → list_any (is_port_named vs n) ws ≡ false
   absent h [] = refl
