@@ -1,5 +1,6 @@
 -- One more is in the table, or refused.
 use Rattle.std.specs.Prelude.{None, flat_map, map, refl}
+use Rattle.std.proofs.Common.{rules}
 use Rattle.std.proofs.lemmas.Result.{err_from_is_err_and}
 use Rattle.specify_model.specs.Faults.{pulse_faults}
 use Rattle.specify_values.specs.Seen.{measured, view_pulse}
@@ -30,7 +31,7 @@ returns-clause-told c = none-left view_pulse (pulse_faults (measured c.args.by) 
 
 pub returns-then-is_empty-clause-limits : goal.returns-then-is_empty-clause-limits
 returns-then-is_empty-clause-limits c =
-    all-pulses (measured c.args.by) c.args.table.now c.args.list.now 0 (record { named = c.new.result; others = None }) (no-pulses c.args.list.now c.is_empty.result c.is_empty.ensures c.if-is_empty.true) ?
+    all-pulses (measured c.args.by) c.args.table.now c.args.list.now 0 (record { named = c.new.result; others = None }) (no-pulses c.args.list.now c.is_empty.result c.is_empty.ensures c.if-is_empty.true) (search rules)
 
 pub returns-then-is_empty-clause-told : goal.returns-then-is_empty-clause-told
 returns-then-is_empty-clause-told c =
