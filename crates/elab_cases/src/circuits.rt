@@ -180,7 +180,8 @@ fn show_timing(
     }
     let threshold = timing.threshold;
     write!(out, " threshold {threshold}")?;
-    if let Some([refer, datum]) = timing.late {
+    if let Some(lates) = timing.late {
+        let [refer, datum] = lates;
         write!(out, " late {refer} {datum}")?;
     }
     writeln!(out, "")?;
