@@ -1,6 +1,7 @@
 -- What is wrong with one pulse limit, by what its name says; and limits for all other paths.
-use Rattle.std.specs.Prelude.{◌≡◌, ℕ, ◌==◌, ◌&&◌, not, Bool, true, false, List, [], ◌∷◌, ◌++◌, Option, Some, None, find, length, refl, if◌then◌else◌}
-use Rattle.std.proofs.Common.{sym, ◌∙◌, ap}
+use Rattle.std.specs.Prelude.{◌≡◌, ℕ, suc, ◌==◌, ◌&&◌, not, Bool, true, false, List, [], ◌∷◌, ◌++◌, Option, Some, None, find, length, refl, if◌then◌else◌}
+use Rattle.std.proofs.Common.{sym, ◌∙◌, ap, arith}
+use Rattle.std.proofs.lemmas.Bool.{eqb-true}
 use Rattle.std.proofs.Math.Bool.{and-false}
 use Rattle.sg_delay.specs.declared.limits.Widths.{Widths}
 use Rattle.elab_model.specs.declared.kinds.ElabKind.TheVariants.{UnknownName, BadDelay}
@@ -17,7 +18,7 @@ use Rattle.specify_values.specs.declared.limits.PulseLimits.{PulseLimits}
 
 pub text-empty : (text : List ℕ) (b : Bool) → b ≡ (length text == 0) → b ≡ true → is_empty text ≡ true
 text-empty [] b h e = refl
-text-empty (x ∷ xs) b h e = let f : false ≡ true = sym h ∙ e in cc
+text-empty (x ∷ xs) b h e = let z : suc (length xs) ≡ 0 = eqb-true (suc (length xs)) 0 (sym h ∙ e) in absurd (omega arith)
 
 nothing-if : (text : List ℕ) → is_empty text ≡ true → text ≡ []
 nothing-if [] e = refl

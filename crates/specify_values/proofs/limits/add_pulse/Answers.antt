@@ -26,9 +26,9 @@ returns-clause-limits c = λ vs are.
     let p = view_pulse c.args.pulse in
     record {
       named =
-          named-added (measured c.args.by) vs p c.in-Some-named_ends.ends c.in-Some.widths
+          named-added (measured c.args.by) vs p c.in-Some-2.ends c.in-Some.widths
           (λ q. get_by (λ k. bytes_eq q.0.now k.0.now && bytes_eq q.1.now k.1.now) c.args.limits.now.named) (λ q. get_by (λ k. bytes_eq q.0.now k.0.now && bytes_eq q.1.now k.1.now) c.insert.new.self)
-          c.ends_text-text.result.now c.ends_text-text.ensures (ap (option_map ends_seen) (sym c.in-Some-named_ends.is) ∙ c.in_ok-named_ends.ensures vs are) c.in-Some.ensures.widths c.in_ok-insert.ensures.updates.0;
+          c.ends_text-text.result.now c.ends_text-text.ensures (ap (option_map ends_seen) (sym c.in-Some-2.is) ∙ c.in_ok-ends.ensures vs are) c.in-Some.ensures.widths c.in_ok-insert.ensures.updates.0;
       others = not-for_others (measured c.args.by) p c.ends_text-text.result.now c.args.limits.now c.ends_text-text.ensures (text-there c.ends_text-text.result.now c.is_empty.result c.is_empty.ensures c.if-is_empty.false);
     }
 
@@ -44,18 +44,18 @@ returns-then-is_empty-clause-told c = λ vs are.
     faultless (measured c.args.by) vs p
     (no-text-said vs p c.ends_text-text.result.now c.ends_text-text.ensures (text-empty c.ends_text-text.result.now c.is_empty.result c.is_empty.ensures c.if-is_empty.true)) c.in-Some.ensures.sound
 
-pub returns-in_default-named_ends-clause-told : goal.returns-in_default-named_ends-clause-told
-returns-in_default-named_ends-clause-told c = λ vs are.
+pub returns-in_default-2-clause-told : goal.returns-in_default-2-clause-told
+returns-in_default-2-clause-told c = λ vs are.
     let p = view_pulse c.args.pulse in
     refused-left (fault_if (has_no_ends vs p) UnknownName p.name.place) (fault_if (are_bad_limits (limit_ticks (measured c.args.by) p)) BadDelay p.name.place) (refused.Fault UnknownName p.name.place)
     (fault-told (has_no_ends vs p) UnknownName p.name.place
     (no-ends-said vs p c.ends_text-text.result.now c.ends_text-text.ensures (text-there c.ends_text-text.result.now c.is_empty.result c.is_empty.ensures c.if-is_empty.false)
-    (ap (option_map ends_seen) (sym c.in_default-named_ends.is) ∙ c.in_ok-named_ends.ensures vs are)))
+    (ap (option_map ends_seen) (sym c.in_default-2.is) ∙ c.in_ok-ends.ensures vs are)))
 
 pub returns-clause-told : goal.returns-clause-told
 returns-clause-told c = λ vs are.
     let p = view_pulse c.args.pulse in
     faultless (measured c.args.by) vs p
-    (ends-said vs p c.ends_text-text.result.now c.ends_text-text.ensures (ends_seen c.in-Some-named_ends.ends)
-    (ap (option_map ends_seen) (sym c.in-Some-named_ends.is) ∙ c.in_ok-named_ends.ensures vs are))
+    (ends-said vs p c.ends_text-text.result.now c.ends_text-text.ensures (ends_seen c.in-Some-2.ends)
+    (ap (option_map ends_seen) (sym c.in-Some-2.is) ∙ c.in_ok-ends.ensures vs are))
     c.in-Some.ensures.sound

@@ -10,8 +10,8 @@ use Rattle.specify_values.proofs.limits.pulse_limits.Goals as goal
 
 pub returns-in_err-add_pulse-clause-told : goal.returns-in_err-add_pulse-clause-told
 returns-in_err-add_pulse-clause-told c =
-    exit c.from_residual.result (flat_map (pulse_faults (measured c.args.by) c.args.table.now) (map view_pulse c.args.list.now)) c.in_err-add_pulse.field-0.0
-    (err_from_is_err_and c.from_residual.result c.from_residual.ensures.1)
+    exit c.from_residual-in_err-add_pulse.result (flat_map (pulse_faults (measured c.args.by) c.args.table.now) (map view_pulse c.args.list.now)) c.in_err-add_pulse.field-0.0
+    (err_from_is_err_and c.from_residual-in_err-add_pulse.result c.from_residual-in_err-add_pulse.ensures.1)
     (this-refused view_pulse (pulse_faults (measured c.args.by) c.args.table.now) c.args.list.now c.loop-pulse.pulse-index c.pulse-item.result c.in_err-add_pulse.field-0.0 c.loop-pulse-test.true
     c.pulse-item.is c.loop-pulse.invariant.1 (c.in_err-add_pulse.ensures.told c.args.table.now c.in_ok-names.ensures))
 
