@@ -1,9 +1,10 @@
 -- Limits of pulses: what the latest of several says, and a table after one more.
-use Rattle.std.specs.Prelude.{◌≡◌, ℕ, ◌+◌, ◌<◌, ◌≤◌, ◌==◌, ◌&&◌, List, [], ◌∷◌, ◌++◌, Bool, true, false, cond, Option, Some, None, bytes_eq, filter, find, length, map, slice_index_or, take, refl, if◌then◌else◌}
+use Rattle.std.specs.Prelude.{◌≡◌, ℕ, suc, ◌+◌, ◌<◌, ◌≤◌, ◌==◌, ◌&&◌, List, [], ◌∷◌, ◌++◌, Bool, true, false, cond, Option, Some, None, bytes_eq, filter, find, length, map, slice_index_or, take, refl, if◌then◌else◌}
 use Rattle.std.specs.Borrow.{Bor}
 use Rattle.std.specs.List.{last_or}
 use Rattle.std.specs.Option.{option_map, option_or}
-use Rattle.std.proofs.Common.{sym, ◌∙◌, ap}
+use Rattle.std.proofs.Common.{sym, ◌∙◌, ap, arith}
+use Rattle.std.proofs.lemmas.Bool.{eqb-true}
 use Rattle.std.proofs.lemmas.Cmp.{nat_list_eq_equiv}
 use Rattle.std.proofs.lemmas.List.{map-append, take_more, take_all}
 use Rattle.std.proofs.Math.Path.{fun_ext}
@@ -69,6 +70,10 @@ all-pulses by vs xs i t le h =
     ap (λ x. option_or x (other_limit t)) (h.named a b) ∙ ap (option_or (option_map (limit_ticks by) (last_of (is_for_ends vs a b) (map view_pulse (take i xs))))) h.others
     ∙ or-mapped by (last_of (is_for_ends vs a b) (map view_pulse (take i xs))) (last_of is_for_others (map view_pulse (take i xs)))))
     ∙ ap (λ ys. limits_of by vs (map view_pulse ys)) (take_all i xs le)
+
+pub no-pulses : {A : Type 0} (xs : List A) (b : Bool) → b ≡ (length xs == 0) → b ≡ true → length xs ≤ 0
+no-pulses [] b h e = omega arith
+no-pulses (x ∷ xs) b h e = let z : suc (length xs) ≡ 0 = eqb-true (suc (length xs)) 0 (sym h ∙ e) in omega arith
 
 -- ---- one more in a table
 

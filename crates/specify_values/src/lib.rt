@@ -9,6 +9,7 @@ mod items;
 mod limits;
 mod measures;
 mod parameters;
+mod port_names;
 mod pulses;
 mod ticks;
 

@@ -1,13 +1,16 @@
 // The limits of the pulses of paths.
-ghost use Rattle.std.specs.Prelude.{◌≡◌, IfOk, OnOk, flat_map, map};
+ghost use Rattle.std.specs.Prelude.{◌≡◌, IfOk, List, OnOk, flat_map, map};
 ghost use Rattle.std.specs.Option.{option_map};
+ghost use Rattle.elab_model.specs.Names.{Variable};
 ghost use Rattle.specify_model.specs.Faults.{pulse_faults};
-ghost use Rattle.specify_model.specs.PulseLimits.{limits_of};
+ghost use Rattle.specify_model.specs.PulseLimits.{is_port, limits_of};
+ghost use Rattle.specify_values.specs.PortNames.{AreNames};
 ghost use Rattle.specify_values.specs.Seen.{IsAdded, view_pulse, measured, widths_seen, limits_seen};
 ghost use Rattle.specify_values.specs.Telling.{Tells};
 
 use crate::items::Pulse;
 use crate::measures::Measure;
+use crate::port_names::{PortNames, names_of_ports};
 use crate::pulses::{ends_text, named_ends, widths_of};
 use elab_model::ElabKind;
 use elab_variables::Table;
@@ -36,7 +39,7 @@ impl<'a> PulseLimits<'a> {
 }
 
 /// Pulse limits by the ports that their names say (IEEE 1364-2005, 14.6.1). Refuses a name that says no two ports (UnknownName), limits of 2^60 ticks and more, and a reject limit above the
-/// error limit (BadDelay), each at the name. Takes memory in proportion to the list.
+/// error limit (BadDelay), each at the name. Takes memory in proportion to the list and to the names of the table, and time in proportion to the texts of both.
 pub fn pulse_limits<'a>(
     alloc: Global,
     by: Measure,
@@ -50,20 +53,25 @@ pub fn pulse_limits<'a>(
         named: IndexMap::new(alloc),
         others: None,
     };
+    if list.is_empty() {
+        return Ok(limits);
+    }
+    let names = names_of_ports(alloc, table)?;
     for pulse in list {
-        add_pulse(by, table, *pulse, &mut limits)?;
+        add_pulse(alloc, by, &names, *pulse, &mut limits)?;
     }
     Ok(limits)
 }
 
 fn add_pulse<'a>(
+    alloc: Global,
     by: Measure,
-    table: &Table,
+    names: &PortNames,
     pulse: Pulse<'a>,
     limits: &mut PulseLimits<'a>,
 ) -> Result<(), Refused<ElabKind>>
-    ensures limits { OnOk result (IsAdded (measured by) table.now limits.old limits.new (view_pulse pulse.entry)) }
-    ensures told { Tells (pulse_faults (measured by) table.now (view_pulse pulse.entry)) result }
+    ensures limits { OnOk result ((vs : List Variable) → AreNames (is_port vs) names.now → IsAdded (measured by) vs limits.old limits.new (view_pulse pulse.entry)) }
+    ensures told { (vs : List Variable) → AreNames (is_port vs) names.now → Tells (pulse_faults (measured by) vs (view_pulse pulse.entry)) result }
 {
     let place = pulse.name.place;
     let Some(widths) = widths_of(by, pulse) else {
@@ -77,7 +85,7 @@ fn add_pulse<'a>(
         limits.others = Some(widths);
         return Ok(());
     }
-    let Some(ends) = named_ends(table, text) else {
+    let Some(ends) = named_ends(alloc, names, text)? else {
         return Err(Refused::Fault {
             kind: ElabKind::UnknownName,
             place,

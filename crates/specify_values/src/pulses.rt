@@ -1,16 +1,19 @@
 // Specparams of pulse limits.
-ghost use Rattle.std.specs.Prelude.{◌≡◌, ◌<◌, true, false, length, IfSome, IfNone, find};
+ghost use Rattle.std.specs.Prelude.{◌≡◌, ◌<◌, List, true, false, length, IfOk, IfSome, IfNone, find};
 ghost use Rattle.std.specs.Option.{OnSome, option_map};
 ghost use Rattle.specify_model.specs.Faults.{are_bad_limits};
 ghost use Rattle.specify_model.specs.PulseLimits as limits;
+ghost use Rattle.elab_model.specs.Names.{Variable};
+ghost use Rattle.specify_values.specs.PortNames.{AreMarks, AreNames};
 ghost use Rattle.specify_values.specs.Seen.{ends_seen, is_divided, view_pulse, measured, widths_seen};
 
 use crate::items::Pulse;
 use crate::measures::Measure;
+use crate::port_names::{Marks, PortNames, marks_of};
 use crate::ticks::ticks;
-use elab_variables::Table;
-use sg_circuit::Port;
 use sg_delay::Widths;
+use sg_text::NoMemory;
+use std::alloc::Global;
 
 // How many bytes PATHPULSE$ has.
 const FRONT: usize = 10;
@@ -26,41 +29,42 @@ pub fn ends_text<'a>(pulse: Pulse<'a>) -> &'a [u8]
     }
 }
 
-fn is_outside(port: Port) -> bool
-    ensures { result ≡ limits.is_outside port }
-{
-    matches!(port, Port::Input | Port::Output)
-}
-
-fn is_port(table: &Table, name: &[u8]) -> bool
-    ensures { result ≡ limits.is_port table.now name.now }
-{
-    match table.find(name) {
-        Some(place) => is_outside(table.row(place).port),
-        None => false,
-    }
-}
-
 // Whether a $ stands at a place of a text, with a port at either side.
-fn divides(table: &Table, text: &[u8], at: usize) -> bool
-    requires { at < length text.now }
-    ensures { result ≡ is_divided table.now text.now at }
+fn divides(text: &[u8], marks: &Marks, at: usize) -> bool
+    requires at { at < length text.now }
+    requires before { length marks.now.before.items ≡ length text.now }
+    requires behind { length marks.now.behind.items ≡ length text.now }
+    ensures { (vs : List Variable) → AreMarks vs text.now marks.now.before.items marks.now.behind.items → result ≡ is_divided vs text.now at }
 {
-    text[at] == b'$' && is_port(table, &text[..at]) && is_port(table, &text[at + 1..])
+    text[at] == b'$' && marks.before[at] && marks.behind[text.len() - 1 - at]
 }
 
-/// The ports that a text says: what stands before and behind the first $ that has a port at either side.
-pub fn named_ends<'a>(table: &Table, text: &'a [u8]) -> Option<(&'a [u8], &'a [u8])>
-    ensures { option_map ends_seen result ≡ find (limits.are_ports table.now) (limits.cuts text.now) }
+// What stands before and behind the first $ that has a port at either side.
+fn divided<'a>(text: &'a [u8], marks: &Marks) -> Option<(&'a [u8], &'a [u8])>
+    requires before { length marks.now.before.items ≡ length text.now }
+    requires behind { length marks.now.behind.items ≡ length text.now }
+    ensures { (vs : List Variable) → AreMarks vs text.now marks.now.before.items marks.now.behind.items → option_map ends_seen result ≡ find (limits.are_ports vs) (limits.cuts text.now) }
 {
     let mut at: usize = 0;
     while at < text.len() {
-        if divides(table, text, at) {
+        if divides(text, marks, at) {
             return Some((&text[..at], &text[at + 1..]));
         }
         at += 1;
     }
     None
+}
+
+/// The ports that a text says: what stands before and behind the first $ that has a port at either side. Takes memory in proportion to the text.
+pub fn named_ends<'a>(
+    alloc: Global,
+    names: &PortNames,
+    text: &'a [u8],
+) -> Result<Option<(&'a [u8], &'a [u8])>, NoMemory>
+    ensures { IfOk result (λ ends. (vs : List Variable) → AreNames (limits.is_port vs) names.now → option_map ends_seen ends ≡ find (limits.are_ports vs) (limits.cuts text.now)) }
+{
+    let marks = marks_of(alloc, names, text)?;
+    Ok(divided(text, &marks))
 }
 
 /// The limits in ticks, reject and error; None where one is 2^60 or more, or reject is above error.
