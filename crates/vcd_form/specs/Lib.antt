@@ -1,0 +1,5 @@
+-- The modules of this folder, in reading order.
+pub mod Words
+pub mod Kinds
+pub mod Written
+pub mod Rules

@@ -1,0 +1,111 @@
+-- Which variables of a dump stand for inputs of the circuit (IEEE 1364-2005, 18.2.3.4, 18.2.3.6, 18.2.3.8).
+use Rattle.std.specs.Prelude.{ℕ, ◌==◌, ◌+◌, ◌&&◌, ◌||◌, not, Bool, true, false, List, [], ◌∷◌, ◌++◌, length, map, filter, filter_map, drop, take, reverse, nat_lt, bytes_eq, Option, Some, None, option_map, option_and_then, is_some, if◌then◌else◌}
+use Rattle.std.specs.List.{list_any, prefix_len}
+use Rattle.sg_circuit.specs.Circuit.{Circuit, Variable}
+use Rattle.vcd_form.specs.Kinds.{is_range_text}
+use Rattle.vcd_form.specs.Written.{Declaration, Section, declares, enters, leaves, remark, timescale}
+use Rattle.stim_read.specs.Inputs.{input_named, nets_of}
+
+-- a name without the `\` of an escaped one
+abbrev pub bare : List ℕ → List ℕ
+bare [] = []
+bare (b ∷ bs) = if b == 92 then bs else b ∷ bs
+
+-- the names of open scopes, the innermost first, joined by points
+abbrev pub path : List (List ℕ) → List ℕ
+path [] = []
+path (n ∷ []) = n
+path (n ∷ m ∷ ns) = path (m ∷ ns) ++ (46 ∷ n)
+
+-- the scopes that are open behind a section
+abbrev pub open_after : List (List ℕ) → Section → List (List ℕ)
+open_after open remark = open
+open_after open (timescale power) = open
+open_after open (enters name) = bare name ∷ open
+open_after open leaves = drop 1 open
+open_after open (declares d) = open
+
+-- each section, with the scopes that are open before it
+abbrev pub with_scopes : List (List ℕ) → List Section → List (List (List ℕ) × Section)
+with_scopes open [] = []
+with_scopes open (s ∷ ss) = (open, s) ∷ with_scopes (open_after open s) ss
+
+abbrev pub placed_sections : List Section → List (List (List ℕ) × Section)
+placed_sections ss = with_scopes [] ss
+
+-- whether some section opens a scope of a path
+abbrev pub opens : List ℕ → List (List ℕ) × Section → Bool
+opens scope (open, enters name) = bytes_eq (path (bare name ∷ open)) scope
+opens scope (open, _) = false
+
+abbrev pub has_scope : List ℕ → List Section → Bool
+has_scope scope ss = list_any (opens scope) (placed_sections ss)
+
+-- the declarations in scopes of that path
+abbrev pub declared_in : List ℕ → List (List ℕ) × Section → Option Declaration
+declared_in scope (open, declares d) = if bytes_eq (path open) scope && nat_lt 0 (length open) then Some d else None
+declared_in scope (open, _) = None
+
+abbrev pub own : List ℕ → List Section → List Declaration
+own scope ss = filter_map (declared_in scope) (placed_sections ss)
+
+-- all declarations
+abbrev pub declared : Section → Option Declaration
+declared (declares d) = Some d
+declared _ = None
+
+abbrev pub all_declared : List Section → List Declaration
+all_declared ss = filter_map declared ss
+
+-- ---- names
+
+-- a name, and its range as it is written
+abbrev pub Called : Type 0
+Called = List ℕ × Option (List ℕ)
+
+-- where a range stands at the end of a plain name: behind the first byte, from the last `[` on
+abbrev pub front_len : List ℕ → ℕ
+front_len text = last_bracket 0 0 text
+  where
+    last_bracket : ℕ → ℕ → List ℕ → ℕ
+    last_bracket found at [] = found
+    last_bracket found at (b ∷ bs) = last_bracket (if b == 91 then at else found) (at + 1) bs
+
+abbrev pub split_name : List ℕ → Called
+split_name text =
+    let n = front_len text in
+    if nat_lt 0 n && is_range_text (drop n text) then (take n text, Some (drop n text)) else (text, None)
+
+-- an escaped name, and one with a range apart, stand whole
+abbrev pub called_by : List ℕ → Option (List ℕ) → Called
+called_by name (Some range) = (bare name, Some range)
+called_by [] None = ([], None)
+called_by (b ∷ bs) None = if b == 92 then (bs, None) else split_name (b ∷ bs)
+
+abbrev pub called : Declaration → Called
+called d = called_by d.name d.range
+
+-- what is between the brackets, if it is one number
+abbrev pub inside : List ℕ → List ℕ
+inside range = reverse (drop 1 (reverse (drop 1 range)))
+
+abbrev pub has_colon : List ℕ → Bool
+has_colon text = list_any (λ b. b == 58) text
+
+abbrev pub index_of : Option (List ℕ) → Option (List ℕ)
+index_of None = None
+index_of (Some range) = if has_colon range then None else Some (inside range)
+
+-- ---- inputs
+
+-- The nets that a declaration of an input stands for, left first: all bits, or the one of the index. None where the width isn't theirs.
+abbrev pub of_width : ℕ → Option (List ℕ) → Option (List ℕ)
+of_width width None = None
+of_width width (Some nets) = if length nets == width then Some nets else None
+
+abbrev pub nets_at : Declaration → Variable → Option (List ℕ)
+nets_at d v = of_width d.width (nets_of (index_of (called d).1) v)
+
+-- the input that a declaration stands for, if there is one
+abbrev pub input_of : Circuit → Declaration → Option Variable
+input_of circuit d = input_named circuit (called d).0
