@@ -1,11 +1,11 @@
 -- Worked examples of the words.
 use Rattle.std.proofs.Common.{◌≡◌, [], ◌∷◌, Some, None, codes, refl}
 use Rattle.sg_delay.specs.declared.corners.Corner.TheVariants.{Max}
-use Rattle.run_words.specs.Words.{a_case, asked_of, command_of, default_corner, default_rounds, default_wheel, names_in}
+use Rattle.run_words.specs.Words.{a_case, a_stimulus, a_wave, asked_of, command_of, default_corner, default_rounds, default_wheel, names_in}
 
 -- `run --stim=s --vcd v -- -a.v`
 behind_the_end : command_of (codes "run" ∷ codes "--stim=s" ∷ codes "--vcd" ∷ codes "v" ∷ codes "--" ∷ codes "-a.v" ∷ [])
-    ≡ Some (record { netlists = codes "-a.v" ∷ []; sdf = None; stimulus = codes "s"; vcd = codes "v"; top = None; corner = default_corner; rounds = default_rounds; wheel = default_wheel })
+    ≡ Some (record { netlists = codes "-a.v" ∷ []; sdf = None; input = a_stimulus (codes "s"); vcd = codes "v"; top = None; corner = default_corner; rounds = default_rounds; wheel = default_wheel })
 behind_the_end = refl
 
 -- `run a.v --stim s b.v --vcd v c.v`
@@ -15,7 +15,7 @@ three_netlists = refl
 
 -- `run a.v --stim=-s --vcd v --corner max --rounds 0000007`
 value_with_a_dash : command_of (codes "run" ∷ codes "a.v" ∷ codes "--stim=-s" ∷ codes "--vcd" ∷ codes "v" ∷ codes "--corner" ∷ codes "max" ∷ codes "--rounds" ∷ codes "0000007" ∷ [])
-    ≡ Some (record { netlists = codes "a.v" ∷ []; sdf = None; stimulus = codes "-s"; vcd = codes "v"; top = None; corner = Max; rounds = 7; wheel = default_wheel })
+    ≡ Some (record { netlists = codes "a.v" ∷ []; sdf = None; input = a_stimulus (codes "-s"); vcd = codes "v"; top = None; corner = Max; rounds = 7; wheel = default_wheel })
 value_with_a_dash = refl
 
 -- `run a.v --sdf=d.sdf --vcd v --stim s`
@@ -60,6 +60,23 @@ short_name = refl
 
 end_as_value : command_of (codes "run" ∷ codes "a.v" ∷ codes "--stim" ∷ codes "s" ∷ codes "--vcd" ∷ codes "--" ∷ codes "v" ∷ []) ≡ None
 end_as_value = refl
+
+-- `run a.v --wave w --vcd v --scope tb.dut`, and without a scope; both files; neither; a scope with a stimulus
+with_a_wave : command_of (codes "run" ∷ codes "a.v" ∷ codes "--wave" ∷ codes "w" ∷ codes "--vcd" ∷ codes "v" ∷ codes "--scope" ∷ codes "tb.dut" ∷ [])
+    ≡ Some (record { netlists = codes "a.v" ∷ []; sdf = None; input = a_wave (codes "w") (Some (codes "tb.dut")); vcd = codes "v"; top = None; corner = default_corner; rounds = default_rounds; wheel = default_wheel })
+with_a_wave = refl
+
+without_a_scope : names_in (command_of (codes "run" ∷ codes "a.v" ∷ codes "--wave" ∷ codes "w" ∷ codes "--vcd" ∷ codes "v" ∷ [])) ≡ codes "a.v" ∷ codes "w" ∷ codes "v" ∷ []
+without_a_scope = refl
+
+stimulus_and_wave : command_of (codes "run" ∷ codes "a.v" ∷ codes "--wave" ∷ codes "w" ∷ codes "--stim" ∷ codes "s" ∷ codes "--vcd" ∷ codes "v" ∷ []) ≡ None
+stimulus_and_wave = refl
+
+neither_of_both : command_of (codes "run" ∷ codes "a.v" ∷ codes "--vcd" ∷ codes "v" ∷ []) ≡ None
+neither_of_both = refl
+
+scope_of_a_stimulus : command_of (codes "run" ∷ codes "a.v" ∷ codes "--stim" ∷ codes "s" ∷ codes "--vcd" ∷ codes "v" ∷ codes "--scope" ∷ codes "t" ∷ []) ≡ None
+scope_of_a_stimulus = refl
 
 -- `gen 000100`; a case of no stage, of one too many, and of seven digits; two numbers; `gen` alone
 a_hundred_stages : asked_of (codes "gen" ∷ codes "000100" ∷ []) ≡ Some (a_case 100)

@@ -6,7 +6,7 @@ use Rattle.std.proofs.lemmas.Bool.{leb-true}
 use Rattle.std.proofs.lemmas.Option.{same_Some}
 use Rattle.sg_delay.specs.declared.corners.Corner.{Corner}
 use Rattle.run_words.specs.Arguments.{Argument, is_text, arguments_of}
-use Rattle.run_words.specs.Words.{Command, value_of, netlists_of, option_names, is_known, is_single, are_sound, corner_of, is_number, most_digits, number_up_to, default_corner, default_rounds, most_rounds, default_wheel, most_wheel, read_or, command_with, command_from, command_of}
+use Rattle.run_words.specs.Words.{Command, Input, input_of, value_of, netlists_of, option_names, is_known, is_single, are_sound, corner_of, is_number, most_digits, number_up_to, default_corner, default_rounds, most_rounds, default_wheel, most_wheel, read_or, command_with, command_from, command_of}
 
 both : (a b : Bool) → (a && b) ≡ true → (a ≡ true) × (b ≡ true)
 both false b e = cc
@@ -45,25 +45,25 @@ read_within default most (Some text) low high = number_within most_digits most t
 IsWithin : List (List ℕ) → Command → Type 0
 IsWithin netlists c = (c.netlists ≡ netlists) × (1 ≤ c.rounds) × (1 ≤ c.wheel) × (c.wheel ≤ most_wheel)
 
-built : (sdf stimulus vcd top : Option (List ℕ)) (corner : Option Corner) (rounds wheel : Option ℕ) (netlists : List (List ℕ)) (c : Command)
-    → option_and_then (λ s. option_and_then (λ v. option_and_then (λ k. option_and_then (λ r. option_and_then (λ w.
-    Some (record { netlists = netlists; sdf = sdf; stimulus = s; vcd = v; top = top; corner = k; rounds = r; wheel = w })) wheel) rounds) corner) vcd) stimulus ≡ Some c
+built : (sdf vcd top : Option (List ℕ)) (input : Option Input) (corner : Option Corner) (rounds wheel : Option ℕ) (netlists : List (List ℕ)) (c : Command)
+    → option_and_then (λ i. option_and_then (λ v. option_and_then (λ k. option_and_then (λ r. option_and_then (λ w.
+    Some (record { netlists = netlists; sdf = sdf; input = i; vcd = v; top = top; corner = k; rounds = r; wheel = w })) wheel) rounds) corner) vcd) input ≡ Some c
     → Within most_rounds rounds → Within most_wheel wheel → IsWithin netlists c
 unfolding Within IsWithin
-built sdf None vcd top corner rounds wheel netlists c e hr hw = cc
-built sdf (Some s) None top corner rounds wheel netlists c e hr hw = cc
-built sdf (Some s) (Some v) top None rounds wheel netlists c e hr hw = cc
-built sdf (Some s) (Some v) top (Some k) None wheel netlists c e hr hw = cc
-built sdf (Some s) (Some v) top (Some k) (Some r) None netlists c e hr hw = cc
-built sdf (Some s) (Some v) top (Some k) (Some r) (Some w) netlists c e hr hw =
+built sdf vcd top None corner rounds wheel netlists c e hr hw = cc
+built sdf None top (Some i) corner rounds wheel netlists c e hr hw = cc
+built sdf (Some v) top (Some i) None rounds wheel netlists c e hr hw = cc
+built sdf (Some v) top (Some i) (Some k) None wheel netlists c e hr hw = cc
+built sdf (Some v) top (Some i) (Some k) (Some r) None netlists c e hr hw = cc
+built sdf (Some v) top (Some i) (Some k) (Some r) (Some w) netlists c e hr hw =
     let P : Command → Type 0 = λ x. (x.netlists ≡ netlists) × (1 ≤ x.rounds) × (1 ≤ x.wheel) × (x.wheel ≤ most_wheel) in
-    subst P (same_Some (record { netlists = netlists; sdf = sdf; stimulus = s; vcd = v; top = top; corner = k; rounds = r; wheel = w }) c e) (refl, hr.0, hw.0, hw.1)
+    subst P (same_Some (record { netlists = netlists; sdf = sdf; input = i; vcd = v; top = top; corner = k; rounds = r; wheel = w }) c e) (refl, hr.0, hw.0, hw.1)
 
 from_arguments : (arguments : List Argument) (c : Command) → command_from arguments ≡ Some c → IsWithin (netlists_of arguments) c × (1 ≤ length (netlists_of arguments))
 from_arguments arguments c e =
     let parts = when_some (are_sound arguments) (command_with (netlists_of arguments) arguments) c e in
     let some = both (list_all is_known arguments && list_all (is_single arguments) option_names) (nat_le 1 (length (netlists_of arguments))) parts.0 in (
-      built (value_of (codes "sdf") arguments) (value_of (codes "stim") arguments) (value_of (codes "vcd") arguments) (value_of (codes "top") arguments) (read_or default_corner corner_of (value_of (codes "corner") arguments))
+      built (value_of (codes "sdf") arguments) (value_of (codes "vcd") arguments) (value_of (codes "top") arguments) (input_of (value_of (codes "stim") arguments) (value_of (codes "wave") arguments) (value_of (codes "scope") arguments)) (read_or default_corner corner_of (value_of (codes "corner") arguments))
           (read_or default_rounds (number_up_to most_digits most_rounds) (value_of (codes "rounds") arguments)) (read_or default_wheel (number_up_to most_digits most_wheel) (value_of (codes "wheel") arguments)) (netlists_of arguments) c parts.1
           (read_within default_rounds most_rounds (value_of (codes "rounds") arguments) (omega arith) (omega arith)) (read_within default_wheel most_wheel (value_of (codes "wheel") arguments) (omega arith) (omega arith)),
       leb-true 1 (length (netlists_of arguments)) some.1,

@@ -8,12 +8,22 @@ use Rattle.sg_delay.specs.declared.corners.Corner.{Corner}
 use Rattle.sg_delay.specs.declared.corners.Corner.TheVariants.{Min, Typ, Max}
 use Rattle.run_words.specs.Arguments.{Argument, setting, netlist, is_text, arguments_of}
 
--- a run: the netlists' files in their order, the SDF file, the files of the stimulus and of the value change dump, the top
+-- What drives the inputs: the file of a stimulus; or that of a value change dump, of which the scope of a path is taken. Where
+-- there is no path, it is the top's name.
+pub data Input : Type 0 where
+  a_stimulus : (file : List ℕ) → Input
+  a_wave : (file : List ℕ) (scope : Option (List ℕ)) → Input
+
+abbrev pub file_of : Input → List ℕ
+file_of (a_stimulus file) = file
+file_of (a_wave file scope) = file
+
+-- a run: the netlists' files in their order, the SDF file, what drives the inputs, the file for the value change dump, the top
 -- module, the corner of the delays, the bound on the rounds of one time, and the slots of the wheel
 pub record Command : Type 0 where
   pub netlists : List (List ℕ)
   pub sdf : Option (List ℕ)
-  pub stimulus : List ℕ
+  pub input : Input
   pub vcd : List ℕ
   pub top : Option (List ℕ)
   pub corner : Corner
@@ -46,9 +56,9 @@ abbrev pub netlists_of : List Argument → List (List ℕ)
 netlists_of arguments = filter_map netlist_in arguments
 
 abbrev pub option_names : List (List ℕ)
-option_names = codes "stim" ∷ codes "vcd" ∷ codes "sdf" ∷ codes "top" ∷ codes "corner" ∷ codes "rounds" ∷ codes "wheel" ∷ []
+option_names = codes "stim" ∷ codes "wave" ∷ codes "scope" ∷ codes "vcd" ∷ codes "sdf" ∷ codes "top" ∷ codes "corner" ∷ codes "rounds" ∷ codes "wheel" ∷ []
 
--- an option's name is one of the seven, and no value and no netlist's name is empty
+-- an option's name is one of these, and no value and no netlist's name is empty
 abbrev pub is_known : Argument → Bool
 is_known (setting name value) = list_any (is_text name) option_names && nat_le 1 (length value)
 is_known (netlist name) = nat_le 1 (length name)
@@ -99,15 +109,23 @@ abbrev pub read_or : {A : Type 0} → A → (List ℕ → Option A) → Option (
 read_or default read None = Some default
 read_or default read (Some text) = read text
 
--- the command of sound arguments and their netlists: the stimulus and the dump are required
+-- exactly one of the two files is given, and a scope comes with a wave alone
+abbrev pub input_of : (stimulus wave scope : Option (List ℕ)) → Option Input
+input_of (Some file) None None = Some (a_stimulus file)
+input_of (Some file) None (Some scope) = None
+input_of (Some file) (Some other) scope = None
+input_of None (Some file) scope = Some (a_wave file scope)
+input_of None None scope = None
+
+-- the command of sound arguments and their netlists: what drives the inputs and the dump are required
 abbrev pub command_with : List (List ℕ) → List Argument → Option Command
 command_with netlists arguments = do
-  stimulus ← value_of (codes "stim") arguments
+  input ← input_of (value_of (codes "stim") arguments) (value_of (codes "wave") arguments) (value_of (codes "scope") arguments)
   vcd ← value_of (codes "vcd") arguments
   corner ← read_or default_corner corner_of (value_of (codes "corner") arguments)
   rounds ← read_or default_rounds (number_up_to most_digits most_rounds) (value_of (codes "rounds") arguments)
   wheel ← read_or default_wheel (number_up_to most_digits most_wheel) (value_of (codes "wheel") arguments)
-  Some (record { netlists = netlists; sdf = value_of (codes "sdf") arguments; stimulus = stimulus; vcd = vcd; top = value_of (codes "top") arguments; corner = corner; rounds = rounds; wheel = wheel })
+  Some (record { netlists = netlists; sdf = value_of (codes "sdf") arguments; input = input; vcd = vcd; top = value_of (codes "top") arguments; corner = corner; rounds = rounds; wheel = wheel })
 
 abbrev pub command_from : List Argument → Option Command
 command_from arguments = if are_sound arguments then command_with (netlists_of arguments) arguments else None
@@ -134,7 +152,7 @@ pub data Asked : Type 0 where
 abbrev pub asked_of : List (List ℕ) → Option Asked
 asked_of words = option_or (option_map a_run (command_of words)) (option_map a_case (case_of words))
 
--- the names of files in a command: the netlists, the SDF file where there is one, the stimulus, the dump
+-- the names of files in a command: the netlists, the SDF file where there is one, what drives the inputs, the dump
 abbrev pub names_in : Option Command → List (List ℕ)
 names_in None = []
-names_in (Some c) = c.netlists ++ option_to_list c.sdf ++ c.stimulus ∷ c.vcd ∷ []
+names_in (Some c) = c.netlists ++ option_to_list c.sdf ++ file_of c.input ∷ c.vcd ∷ []

@@ -1,15 +1,21 @@
 -- Joins `Words` to the code.
 use Rattle.std.specs.Prelude.{map, option_map}
 use Rattle.run_words.specs.declared.words.Command as code
+use Rattle.run_words.specs.declared.inputs.Input as code_input
+use Rattle.run_words.specs.declared.inputs.Input.TheVariants as input
 use Rattle.run_words.specs.declared.words.Asked as code_asked
 use Rattle.run_words.specs.declared.words.Asked.TheVariants as asked
-use Rattle.run_words.specs.Words.{Asked, a_run, a_case, Command}
+use Rattle.run_words.specs.Words.{Asked, a_run, a_case, a_stimulus, a_wave, Command, Input}
+
+abbrev pub input_seen : code_input.Input → Input
+input_seen (input.Stimulus file) = a_stimulus file.now
+input_seen (input.Wave file scope) = a_wave file.now (option_map (λ path. path.now) scope)
 
 abbrev pub command_seen : code.Command → Command
 command_seen c = record {
   netlists = map (λ name. name.now) c.netlists.items;
   sdf = option_map (λ name. name.now) c.sdf;
-  stimulus = c.stimulus.now;
+  input = input_seen c.input;
   vcd = c.vcd.now;
   top = option_map (λ name. name.now) c.top;
   corner = c.corner;

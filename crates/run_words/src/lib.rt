@@ -2,9 +2,11 @@
 #![tactic(auto)]
 
 mod arguments;
+mod inputs;
 mod numbers;
 mod parser;
 mod rules;
 mod words;
 
+pub use inputs::Input;
 pub use words::{Asked, Command, read_words};

@@ -11,7 +11,9 @@ use sg_text::NoMemory;
 use std::alloc::Global;
 
 /// In the order of the definition.
-pub const OPTIONS: [&str; 7] = ["stim", "vcd", "sdf", "top", "corner", "rounds", "wheel"];
+pub const OPTIONS: [&str; 9] = [
+    "stim", "wave", "scope", "vcd", "sdf", "top", "corner", "rounds", "wheel",
+];
 
 fn value_under<'a>(argument: &Argument<'a>, name: &str) -> Option<&'a str>
     ensures { option_map (λ value. value.now) result ≡ value_under name.now (argument_seen argument.now) }

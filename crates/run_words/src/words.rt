@@ -6,6 +6,7 @@ ghost use Rattle.run_words.specs.Words.{value_of, corner_of, default_corner, com
 ghost use Rattle.run_words.specs.WordsSeen.{asked_seen, command_seen};
 
 use crate::arguments::{Argument, read_arguments};
+use crate::inputs::{Input, input_of};
 use crate::numbers::number_up_to;
 use crate::parser::parse_arguments;
 use crate::rules::{are_sound, corner_of, netlists_of, value_of};
@@ -37,7 +38,7 @@ pub struct Command<'a> {
     pub netlists: Vec<&'a str>,
     /// The file of the delays and limits that are annotated.
     pub sdf: Option<&'a str>,
-    pub stimulus: &'a str,
+    pub input: Input<'a>,
     /// The file for the value change dump.
     pub vcd: &'a str,
     /// The name of the top module.
@@ -79,7 +80,7 @@ fn number_or(arguments: &[Argument<'_>], name: &str, most: u32, default: u32) ->
 fn command_with<'a>(netlists: Vec<&'a str>, arguments: &[Argument<'a>]) -> Option<Command<'a>>
     ensures { option_map (λ c. command_seen c) result ≡ command_with (map (λ n. n.now) netlists.entry.items) (map argument_seen arguments.now) }
 {
-    let stimulus = value_of(arguments, "stim")?;
+    let input = input_of(arguments)?;
     let vcd = value_of(arguments, "vcd")?;
     let corner = corner_or_default(arguments)?;
     let rounds = number_or(arguments, "rounds", MOST_ROUNDS, DEFAULT_ROUNDS)?;
@@ -87,7 +88,7 @@ fn command_with<'a>(netlists: Vec<&'a str>, arguments: &[Argument<'a>]) -> Optio
     Some(Command {
         netlists,
         sdf: value_of(arguments, "sdf"),
-        stimulus,
+        input,
         vcd,
         top: value_of(arguments, "top"),
         corner,

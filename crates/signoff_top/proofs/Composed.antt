@@ -5,7 +5,7 @@ use Rattle.std.specs.Option.{option_to_list}
 use Rattle.std.specs.Prelude.{Ok, Err, Option, Some, Contains}
 use Rattle.sg_io.specs.Files.{File}
 use Rattle.sg_circuit.specs.Circuit.{Circuit}
-use Rattle.run_words.specs.Words.{Command, command_of, names_in}
+use Rattle.run_words.specs.Words.{Command, command_of, file_of, names_in}
 use Rattle.signoff_top.specs.Phases.{Annotated, Refusal, Then, stops, goes_on, AnnotatedOutcome, CircuitOutcome}
 use Rattle.signoff_top.specs.Promises.{FaultAt, at_netlist, at_sdf, at_stimulus, NamesFaultAt}
 use Rattle.signoff_top.specs.Stops.{FailsAtGiven, FailsAtOne, Gives, IfFailed, IfOutcome, refusal_seen}
@@ -52,7 +52,7 @@ failed_again X Y P Q stop.NoMemory f h = tt
 
 netlist_among : (c : Command) (before after : List (List ℕ)) (name : List ℕ) → c.netlists ≡ before ++ name ∷ after → Contains (names_in (Some c)) name
 netlist_among c before after name e =
-    Contains-append_left (c.netlists ++ option_to_list c.sdf) (c.stimulus ∷ c.vcd ∷ []) name
+    Contains-append_left (c.netlists ++ option_to_list c.sdf) (file_of c.input ∷ c.vcd ∷ []) name
     (Contains-append_left c.netlists (option_to_list c.sdf) name (subst (λ ns. Contains ns name) (sym e) (Contains-append_right before (name ∷ after) name (0, omega arith, refl))))
 
 -- a failure on a file of the netlist
@@ -68,11 +68,11 @@ failed_at_netlist X Y ws old new last c s e k h = failed_again X Y (FailsAtOne c
 
 sdf_among : (c : Command) (name : List ℕ) → c.sdf ≡ Some name → Contains (names_in (Some c)) name
 sdf_among c name e =
-    Contains-append_left (c.netlists ++ option_to_list c.sdf) (c.stimulus ∷ c.vcd ∷ []) name
+    Contains-append_left (c.netlists ++ option_to_list c.sdf) (file_of c.input ∷ c.vcd ∷ []) name
     (Contains-append_right c.netlists (option_to_list c.sdf) name (subst (λ o. Contains (option_to_list o) name) (sym e) (0, lit< tt, refl)))
 
-last_among : (c : Command) (name : List ℕ) → Contains (c.stimulus ∷ c.vcd ∷ []) name → Contains (names_in (Some c)) name
-last_among c name h = Contains-append_right (c.netlists ++ option_to_list c.sdf) (c.stimulus ∷ c.vcd ∷ []) name h
+last_among : (c : Command) (name : List ℕ) → Contains (file_of c.input ∷ c.vcd ∷ []) name → Contains (names_in (Some c)) name
+last_among c name h = Contains-append_right (c.netlists ++ option_to_list c.sdf) (file_of c.input ∷ c.vcd ∷ []) name h
 
 pub dump_among : (c : Command) (name : List ℕ) → name ≡ c.vcd → Contains (names_in (Some c)) name
 dump_among c name e = last_among c name (1, lit< tt, sym e)
@@ -88,14 +88,14 @@ failed_at_sdf X Y ws old new last c circuit s e g k h = failed_again X Y (FailsA
   place = both_same (λ before after. FaultAt ws before after f.name) old new k (λ files is. at_sdf c f.name circuit e f.is (g files is).outcome refl);
 }) h
 
--- a failure on the stimulus's file
+-- a failure on the file of what drives the inputs
 pub failed_at_stimulus : (X Y : Type 0) (ws : List (List ℕ)) (old new : Option (List File)) (last : Option (List ℕ)) (c : Command) (circuit : Circuit) (annotated : Annotated) (s : code_stop.Stop)
     → command_of ws ≡ Some c → ((files : List File) → old ≡ Some files → CircuitOutcome c files (Ok circuit) × AnnotatedOutcome c.sdf c.corner files circuit (Ok annotated)) → new ≡ old
-    → IfFailed {X = X} (last ≡ Some c.stimulus) (Err s) → IfFailed {X = Y} (NamesFaultAt ws old new last) (Err s)
-failed_at_stimulus X Y ws old new last c circuit annotated s e g k h = failed_again X Y (last ≡ Some c.stimulus) (NamesFaultAt ws old new last) s (λ n. record {
-  name = c.stimulus;
+    → IfFailed {X = X} (last ≡ Some (file_of c.input)) (Err s) → IfFailed {X = Y} (NamesFaultAt ws old new last) (Err s)
+failed_at_stimulus X Y ws old new last c circuit annotated s e g k h = failed_again X Y (last ≡ Some (file_of c.input)) (NamesFaultAt ws old new last) s (λ n. record {
+  name = file_of c.input;
   told = n;
-  among = subst (λ o. Contains (names_in o) c.stimulus) (sym e) (last_among c c.stimulus (0, lit< tt, refl));
-  place = both_same (λ before after. FaultAt ws before after c.stimulus) old new k (λ files is.
+  among = subst (λ o. Contains (names_in o) (file_of c.input)) (sym e) (last_among c (file_of c.input) (0, lit< tt, refl));
+  place = both_same (λ before after. FaultAt ws before after (file_of c.input)) old new k (λ files is.
       (let accepted = g files is in at_stimulus c circuit annotated e accepted.0 accepted.1 refl));
 }) h

@@ -57,3 +57,4 @@ spares (refusal.Missing n) name line kind e = tt
 spares (refusal.Netlist n l k) name line kind e = tt
 spares (refusal.Sdf n l f) name line kind e = tt
 spares (refusal.Stimulus n l k) name line kind e = tt
+spares (refusal.Wave n l k) name line kind e = tt

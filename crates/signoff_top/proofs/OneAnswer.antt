@@ -15,13 +15,14 @@ use Rattle.sdf_read.proofs.OneOutcome.{reads_once}
 use Rattle.sdf_read.specs.Outcomes.{Fault}
 use Rattle.sdf_tree.specs.Meant.{Sdf}
 use Rattle.stim_read.proofs.OnceLaws as stimulus
-use Rattle.run_words.specs.Words.{Command, case_of, command_of, default_corner}
+use Rattle.vcd_stim.proofs.OnceLaws as wave
+use Rattle.run_words.specs.Words.{Command, Input, a_stimulus, a_wave, case_of, command_of, default_corner, file_of}
 use Rattle.run_words.proofs.AskedLaws.{run_alone}
 use Rattle.signoff_top.specs.Answer.{Answer, IsAnswer, IsAnswerTo, answer_of, case_answer}
 use Rattle.wave_out.specs.Report.{Unmatched}
 use Rattle.signoff_top.specs.Phases.{Annotated, Refusal, Then, stops, goes_on, Task, CaseOutcome, CommandOutcome, TaskOutcome, case_netlist, case_sdf, case_stimulus, status_of_refusal, words}
 use Rattle.signoff_top.proofs.OnceLaws.{adjusted-once}
-use Rattle.signoff_top.specs.Phases.{AnnotatedOutcome, AnnotationOutcome, CircuitOutcome, EntriesOutcome, InputOutcome, SdfOutcome, WordsOutcome, FileOutcome, FilesOutcome, NetlistOutcome, StimulusOutcome}
+use Rattle.signoff_top.specs.Phases.{AnnotatedOutcome, AnnotationOutcome, CircuitOutcome, EntriesOutcome, InputOutcome, SdfOutcome, WordsOutcome, FileOutcome, FilesOutcome, NetlistOutcome, StimulusOutcome, DrivingOutcome, WaveOutcome, scope_or_top}
 
 -- two outcomes are one value, or two refusals of one status
 abbrev Agree : {A : Type 0} → Result A Refusal → Result A Refusal → Type 0
@@ -128,15 +129,25 @@ circuit_scopes : (c : Command) (files : List File) (circuit : Circuit) (o : Resu
 circuit_scopes c files circuit _ e (stops r h) = let k : ◌≡◌ {A = Result Circuit Refusal} (Err r) (Ok circuit) = e in absurd (cc)
 circuit_scopes c files circuit _ e (goes_on texts o h k) = netlist_scopes c.netlists texts c.top c.corner circuit (subst (NetlistOutcome c.netlists texts c.top c.corner) e k)
 
-input_agree : (name : List ℕ) (files : List File) (circuit : Circuit) → AllAgree (InputOutcome name files circuit)
-input_agree name files circuit =
-    then_agree (FileOutcome name (bytes_of name files)) (λ text. StimulusOutcome name text circuit) (file_agree name (bytes_of name files)) (λ text _. stimulus_agree name text circuit)
+wave_agree : (name text : List ℕ) (circuit : Circuit) (scope : List ℕ) → AllAgree (WaveOutcome name text circuit scope)
+wave_agree name text circuit scope (Ok s) (Ok t) h k = wave.read-once text circuit scope s t h k
+wave_agree name text circuit scope (Ok s) (Err r) h k = h.no_fault k.0 k.1
+wave_agree name text circuit scope (Err r) (Ok s) h k = k.no_fault h.0 h.1
+wave_agree name text circuit scope (Err r) (Err s) h k = ap status_of_refusal h.2 ∙ sym (ap status_of_refusal k.2)
+
+driving_agree : (input : Input) (text : List ℕ) (circuit : Circuit) → AllAgree (DrivingOutcome input text circuit)
+driving_agree (a_stimulus file) text circuit o p h k = stimulus_agree file text circuit o p h k
+driving_agree (a_wave file scope) text circuit o p h k = wave_agree file text circuit (scope_or_top scope circuit) o p h k
+
+input_agree : (input : Input) (files : List File) (circuit : Circuit) → AllAgree (InputOutcome input files circuit)
+input_agree input files circuit =
+    then_agree (FileOutcome (file_of input) (bytes_of (file_of input) files)) (λ text. DrivingOutcome input text circuit) (file_agree (file_of input) (bytes_of (file_of input) files)) (λ text _. driving_agree input text circuit)
 
 command_agree : (command : Command) (files : List File) → AllAgree (CommandOutcome command files)
 command_agree command files =
     then_agree _ _ (circuit_agree command files) (λ circuit read.
     then_agree _ _ (annotated_agree command.sdf command.corner files circuit (circuit_scopes command files circuit (Ok circuit) refl read)) (λ annotated _.
-    then_agree _ _ (input_agree command.stimulus files annotated.circuit) (λ input _ o p h k. equal_agree o p (h ∙ sym k))))
+    then_agree _ _ (input_agree command.input files annotated.circuit) (λ input _ o p h k. equal_agree o p (h ∙ sym k))))
 
 pub task_agree : (ws : List (List ℕ)) (files : List File) (o p : Result Task Refusal) → TaskOutcome ws files o → TaskOutcome ws files p → Agree o p
 task_agree ws files = then_agree _ _ (words_agree (command_of ws)) (λ command _. command_agree command files)

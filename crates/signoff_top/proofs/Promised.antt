@@ -83,6 +83,7 @@ spares_fits (refusal.Missing name) h = λ e. let k : status.Missing ≡ status.U
 spares_fits (refusal.Netlist name line kind) h = λ e. let k : status.Netlist ≡ status.Usage = e in cc
 spares_fits (refusal.Sdf name line fault) h = λ e. let k : status.Sdf ≡ status.Usage = e in cc
 spares_fits (refusal.Stimulus name line kind) h = λ e. let k : status.Stimulus ≡ status.Usage = e in cc
+spares_fits (refusal.Wave name line kind) h = λ e. let k : status.Stimulus ≡ status.Usage = e in cc
 
 refused_is : (r s : code_refusal.Refusal) → stop.Refused r ≡ stop.Refused s → r ≡ s
 refused_is r s e = cc
@@ -220,7 +221,7 @@ task_names ws files =
     words_names (command_of ws) (λ command. CommandOutcome command files) (λ c.
     then_names (CircuitOutcome c files) _ c (λ circuit.
     then_names (AnnotatedOutcome c.sdf c.corner files circuit) _ c (λ annotated.
-    then_names (InputOutcome c.stimulus files annotated.circuit) _ c (λ input p e. subst (Names c) (sym e) refl))))
+    then_names (InputOutcome c.input files annotated.circuit) _ c (λ input p e. subst (Names c) (sym e) refl))))
 
 -- where nothing changed, every file but one stays
 keeps_same : (made : Option File) (files : List File) → KeepsBut made files files

@@ -4,14 +4,14 @@ use Rattle.std.specs.Prelude.{ℕ, ◌≡◌, ◌++◌, ◌+◌, ◌^◌, List, 
 use Rattle.sg_io.specs.Files.{File, bytes_of}
 use Rattle.sg_text.specs.declared.places.Place.{Place}
 use Rattle.sg_delay.specs.declared.corners.Corner.{Corner}
-use Rattle.sg_circuit.specs.Circuit.{Circuit}
+use Rattle.sg_circuit.specs.Circuit.{Circuit, scope_at}
 use Rattle.sg_stimulus.specs.Stimulus.{Stimulus}
 use Rattle.sdf_tree.specs.Meant.{Sdf}
 use Rattle.annotation_model.specs.Annotated as annotation
 use Rattle.late_limits.specs.Adjusted.{IsAdjustedFrom}
 use Rattle.wave_out.specs.Report.{Unmatched}
 use Rattle.wave_out.specs.Texts.{line, line_of}
-use Rattle.run_words.specs.Words.{Command, command_of, default_corner, default_rounds}
+use Rattle.run_words.specs.Words.{Command, Input, a_stimulus, a_wave, command_of, default_corner, default_rounds, file_of}
 use Rattle.gen_case.specs.Case.{netlist_of, sdf_of, stimulus_of}
 use Rattle.netlist_read.specs.Kinds.{Kind, kind_text}
 use Rattle.netlist_read.specs.Reading as netlist_text
@@ -22,6 +22,10 @@ use Rattle.sdf_read.specs.declared.faults.SdfKind.TheVariants as delays
 use Rattle.stim_read.specs.Reading as stimulus_text
 use Rattle.stim_read.specs.declared.kinds.StimKind.{StimKind}
 use Rattle.stim_read.specs.declared.kinds.StimKind.TheVariants as stim
+use Rattle.vcd_model.specs.Faults as wave
+use Rattle.vcd_model.specs.Reading as wave_text
+use Rattle.vcd_model.specs.declared.kinds.VcdKind.{VcdKind}
+use Rattle.vcd_model.specs.declared.kinds.VcdKind.TheVariants as vcd
 use Rattle.signoff_top.specs.declared.status.Status.{Status}
 use Rattle.signoff_top.specs.declared.status.Status.TheVariants as status
 
@@ -43,7 +47,7 @@ status_of_refusal (sdf name n kind) = status.Sdf
 status_of_refusal (stimulus name n kind) = status.Stimulus
 
 abbrev pub usage_line : List ℕ
-usage_line = line (codes "usage: signoff run NETLIST.. --stim F --vcd F [--sdf F] [--top NAME] [--corner min|typ|max] [--rounds N] [--wheel N] | signoff gen N")
+usage_line = line (codes "usage: signoff run NETLIST.. (--stim F | --wave F [--scope PATH]) --vcd F [--sdf F] [--top NAME] [--corner min|typ|max] [--rounds N] [--wheel N] | signoff gen N")
 
 -- what is refused: the file's name, the line and the kind, with colons between them
 abbrev pub located_line : List ℕ → List ℕ → ℕ → List ℕ → List ℕ
@@ -147,6 +151,32 @@ StimulusOutcome name text circuit (Ok s) = stimulus_text.IsRead text circuit s
 StimulusOutcome name text circuit (Err r) =
     (kind : StimKind) × (place : Place) × stimulus_text.FaultStands text circuit kind place × (r ≡ stimulus name (line_of text place.byte) (stimulus_kind kind))
 
+-- the kinds of the faults of a value change dump as they are written
+abbrev pub wave_kind : VcdKind → List ℕ
+wave_kind vcd.Syntax = codes "Syntax"
+wave_kind vcd.UnknownCode = codes "UnknownCode"
+wave_kind vcd.WidthMismatch = codes "WidthMismatch"
+wave_kind vcd.TimeFalls = codes "TimeFalls"
+wave_kind vcd.NotWholeTick = codes "NotWholeTick"
+wave_kind vcd.TooLarge = codes "TooLarge"
+wave_kind vcd.NoScope = codes "NoScope"
+
+-- the scope of a path; where none is given, that of the top's name
+abbrev pub scope_or_top : Option (List ℕ) → Circuit → List ℕ
+scope_or_top None circuit = (scope_at circuit 0).name
+scope_or_top (Some path) circuit = path
+
+-- the dump's text is read in
+abbrev pub WaveOutcome : List ℕ → List ℕ → Circuit → (scope : List ℕ) → Result Stimulus Refusal → Type 0
+WaveOutcome name text circuit scope (Ok s) = wave_text.IsRead text circuit scope s
+WaveOutcome name text circuit scope (Err r) =
+    (fault : wave.Fault) × wave_text.FaultStands text circuit scope fault × (r ≡ stimulus name (line_of text fault.place.byte) (wave_kind fault.kind))
+
+-- what drives the inputs, by the text of its file
+abbrev pub DrivingOutcome : Input → List ℕ → Circuit → Result Stimulus Refusal → Type 0
+DrivingOutcome (a_stimulus file) text circuit = StimulusOutcome file text circuit
+DrivingOutcome (a_wave file scope) text circuit = WaveOutcome file text circuit (scope_or_top scope circuit)
+
 -- what is run
 pub record Task : Type 0 where
   pub circuit : Circuit
@@ -168,9 +198,9 @@ abbrev pub AnnotatedOutcome : Option (List ℕ) → Corner → List File → Cir
 AnnotatedOutcome None corner files circuit outcome = outcome ≡ Ok (record { circuit = circuit; unmatched = [] })
 AnnotatedOutcome (Some name) corner files circuit outcome = Then (FileOutcome name (bytes_of name files)) (λ text. EntriesOutcome name text corner circuit) outcome
 
--- the stimulus of this name
-abbrev pub InputOutcome : List ℕ → List File → Circuit → Result Stimulus Refusal → Type 0
-InputOutcome name files circuit = Then (FileOutcome name (bytes_of name files)) (λ text. StimulusOutcome name text circuit)
+-- the file of what drives the inputs is read, and then its text
+abbrev pub InputOutcome : Input → List File → Circuit → Result Stimulus Refusal → Type 0
+InputOutcome input files circuit = Then (FileOutcome (file_of input) (bytes_of (file_of input) files)) (λ text. DrivingOutcome input text circuit)
 
 -- The generated case of so many stages: its texts are read in, applied and read as files are, and no file is. Their names would tell where a fault is, if one stood.
 abbrev pub case_netlist : List ℕ
@@ -195,7 +225,7 @@ abbrev pub CommandOutcome : Command → List File → Result Task Refusal → Ty
 CommandOutcome command files =
     Then (CircuitOutcome command files) (λ circuit.
     Then (AnnotatedOutcome command.sdf command.corner files circuit) (λ annotated.
-    Then (InputOutcome command.stimulus files annotated.circuit) (λ input outcome.
+    Then (InputOutcome command.input files annotated.circuit) (λ input outcome.
     outcome ≡ Ok (record { circuit = annotated.circuit; unmatched = annotated.unmatched; rounds = command.rounds; input = input; vcd = command.vcd }))))
 
 -- and those of the words

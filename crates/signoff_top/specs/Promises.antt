@@ -6,7 +6,7 @@ use Rattle.sg_io.specs.Files.{File, BothTell, bytes_of}
 use Rattle.sg_io.specs.Put.{SinkTold}
 use Rattle.sg_circuit.specs.Circuit.{Circuit}
 use Rattle.signoff_top.specs.Answer.{Answer, IsAnswer, FilesAfter, dump_of, fault_line, report_fault_line, no_memory_line}
-use Rattle.run_words.specs.Words.{Command, Asked, asked_of, command_of, names_in}
+use Rattle.run_words.specs.Words.{Command, Asked, asked_of, command_of, file_of, names_in}
 use Rattle.signoff_top.specs.Phases.{Annotated, Task, TaskOutcome, AnnotatedOutcome, CircuitOutcome, FilesOutcome, usage_line}
 use Rattle.signoff_top.specs.Putting.{PutsAll, PutsTillFault, PutsTillWant, PutsLast}
 use Rattle.wave_out.specs.Files.{LeavesPrefix}
@@ -41,14 +41,14 @@ pub record HasAnswer (ws : List (List ℕ)) (how : Status) (text : List ℕ) (ol
   pub files : BothTell old.files new.files (IsRight ws how text)
 
 -- A file in a call on which the work may fail, and what is left then: one of the netlist's, where the words are a command
--- and the files before it were read; the SDF file, where the netlist was accepted; the stimulus's, where its annotation was
+-- and the files before it were read; the SDF file, where the netlist was accepted; that of what drives the inputs, where its annotation was
 -- too; the dump's, where all phases up to the run gave a task.
 pub data FaultAt (ws : List (List ℕ)) (old new : List File) : List ℕ → Type 0 where
   at_netlist : (c : Command) (before : List (List ℕ)) (name : List ℕ) (after texts : List (List ℕ)) → command_of ws ≡ Some c → c.netlists ≡ before ++ name ∷ after → FilesOutcome before old (Ok texts)
       → new ≡ old → FaultAt ws old new name
   at_sdf : (c : Command) (name : List ℕ) (circuit : Circuit) → command_of ws ≡ Some c → c.sdf ≡ Some name → CircuitOutcome c old (Ok circuit) → new ≡ old → FaultAt ws old new name
   at_stimulus : (c : Command) (circuit : Circuit) (annotated : Annotated) → command_of ws ≡ Some c → CircuitOutcome c old (Ok circuit)
-      → AnnotatedOutcome c.sdf c.corner old circuit (Ok annotated) → new ≡ old → FaultAt ws old new c.stimulus
+      → AnnotatedOutcome c.sdf c.corner old circuit (Ok annotated) → new ≡ old → FaultAt ws old new (file_of c.input)
   at_dump : (task : Task) → TaskOutcome ws old (Ok task) → LeavesPrefix task.vcd (dump_of task) old new → FaultAt ws old new task.vcd
 
 -- the shelf names the file of the last call that failed: one of the words, to which the work had come

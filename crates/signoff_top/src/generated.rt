@@ -7,7 +7,8 @@ ghost use Rattle.signoff_top.specs.Stops.{Gives, NeverFails, SparesWords};
 ghost use Rattle.signoff_top.specs.Tasks.{task_seen};
 
 use crate::annotation::apply_text;
-use crate::phases::{Task, netlist_phase, stimulus_phase};
+use crate::inputs::stimulus_phase;
+use crate::phases::{Task, netlist_phase};
 use crate::stop::Stop;
 use gen_case::{GeneratedCase, gen_case};
 use sg_delay::Corner;

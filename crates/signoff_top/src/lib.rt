@@ -4,6 +4,7 @@
 mod annotation;
 mod answer;
 mod generated;
+mod inputs;
 mod phases;
 mod report;
 mod status;

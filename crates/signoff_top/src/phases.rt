@@ -7,12 +7,13 @@ ghost use Rattle.sg_stimulus.specs.Seen.{stimulus_seen};
 ghost use Rattle.netlist_read.specs.Seen.{kind_seen};
 ghost use Rattle.run_words.specs.Words.{asked_of, command_of};
 ghost use Rattle.run_words.specs.WordsSeen.{asked_seen, command_seen};
-ghost use Rattle.signoff_top.specs.Phases.{CircuitOutcome, CommandOutcome, FileOutcome, FilesOutcome, InputOutcome, NetlistOutcome, StimulusOutcome, WordsOutcome, refused_at};
+ghost use Rattle.signoff_top.specs.Phases.{CircuitOutcome, CommandOutcome, FileOutcome, FilesOutcome, NetlistOutcome, WordsOutcome, refused_at};
 ghost use Rattle.signoff_top.specs.Promises.{NamesFaultAt};
 ghost use Rattle.signoff_top.specs.Stops.{FailsAtOne, Gives, IfFailed, IsReady, NeverFails, SparesWords, StopWords, end_of_phase, refusal_seen};
 ghost use Rattle.signoff_top.specs.Tasks.{task_seen};
 
 use crate::annotation::annotation_of;
+use crate::inputs::input_of;
 use crate::stop::{Refusal, Stop};
 use netlist_read::{NetlistKind, read_netlist, write_kind};
 use run_words::{Asked, Command, read_words};
@@ -23,7 +24,6 @@ use sg_io::{ReadError, Shelf};
 use sg_stimulus::Stimulus;
 use sg_text::{NoMemory, Place, Refused};
 use std::alloc::Global;
-use stim_read::read_stim;
 
 /// What is run, with at most so many rounds a time, over an event wheel of so many buckets; the SDF file's bytes, and its
 /// entries that matched nothing, both empty where there is no such file; and the name of the file that is made.
@@ -163,28 +163,6 @@ pub fn netlist_phase<'a>(
     }
 }
 
-/// What the text of the file of this name says for a circuit.
-pub fn stimulus_phase<'a>(
-    alloc: Global,
-    name: &'a str,
-    text: &[u8],
-    circuit: &Circuit,
-) -> Result<Stimulus, Stop<'a>>
-    ensures gives { Gives (λ s. stimulus_seen s) (StimulusOutcome name.now text.now circuit.now) result }
-    ensures applied { IfOk result (λ s. IsApplied circuit.now (stimulus_seen s)) }
-    ensures works { NeverFails result }
-    ensures words { IfErr result (λ s. SparesWords s) }
-{
-    match read_stim(alloc, text, circuit) {
-        Ok(stimulus) => Ok(stimulus),
-        Err(Refused::Fault { kind, place }) => {
-            let line = place.line_of(text);
-            Err(Stop::Refused(Refusal::Stimulus { name, line, kind }))
-        }
-        Err(Refused::NoMemory) => Err(Stop::NoMemory),
-    }
-}
-
 // The netlist's files and their texts.
 fn circuit_of<'a, S: Shelf>(
     alloc: Global,
@@ -208,25 +186,6 @@ fn circuit_of<'a, S: Shelf>(
     )
 }
 
-// The stimulus's file and its text.
-fn input_of<'a, S: Shelf>(
-    alloc: Global,
-    shelf: &mut S,
-    name: &'a str,
-    circuit: &Circuit,
-) -> Result<Stimulus, Stop<'a>>
-    ensures gives { (files : List File) → S.files shelf.old ≡ Some files
-        → Gives (λ s. stimulus_seen s) (InputOutcome name.now files circuit.now) result }
-    ensures applied { IfOk result (λ s. IsApplied circuit.now (stimulus_seen s)) }
-    ensures held { S.files shelf.new ≡ S.files shelf.old }
-    ensures cause { Cause (S.fault_count shelf.old) (S.fault_count shelf.new) (end_of_phase result) }
-    ensures named { IfFailed (S.last_fault shelf.new ≡ Some name.now) result }
-    ensures words { IfErr result (λ s. SparesWords s) }
-{
-    let text = file_phase(alloc, shelf, name)?;
-    stimulus_phase(alloc, name, &text, circuit)
-}
-
 /// All phases of a command up to its run: the netlist, the SDF file, the stimulus.
 pub fn task_of<'a, S: Shelf>(
     alloc: Global,
@@ -248,7 +207,7 @@ pub fn task_of<'a, S: Shelf>(
 {
     let circuit = circuit_of(alloc, shelf, command)?;
     let annotated = annotation_of(alloc, shelf, command, circuit)?;
-    let input = input_of(alloc, shelf, command.stimulus, &annotated.circuit)?;
+    let input = input_of(alloc, shelf, command.input, &annotated.circuit)?;
     Ok(Task {
         circuit: annotated.circuit,
         sdf: annotated.sdf,

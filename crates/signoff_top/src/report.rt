@@ -1,5 +1,5 @@
 // The report.
-ghost use Rattle.std.specs.Prelude.{◌≡◌, ◌++◌, [], ℕ, List, IfOk, IfErr, map};
+ghost use Rattle.std.specs.Prelude.{◌≡◌, ◌++◌, [], ℕ, List, IfOk, IfErr, codes, map};
 ghost use Rattle.std.specs.Option.{option_copied};
 ghost use Rattle.sg_circuit.specs.Circuit.{Circuit};
 ghost use Rattle.sg_io.specs.Put.{SinkTold};
@@ -10,7 +10,7 @@ ghost use Rattle.wave_out.specs.Reporting.{PutsMade, unmatched_seen};
 ghost use Rattle.wave_out.specs.Spent.{end_spent, end_time, spent_seen};
 ghost use Rattle.wave_out.specs.Texts.{line};
 ghost use Rattle.signoff_top.specs.Answer.{fault_line, no_memory_line, status_of_run as end_status};
-ghost use Rattle.signoff_top.specs.Phases.{located_line, refusal_line, sdf_kind, status_of_refusal, stimulus_kind};
+ghost use Rattle.signoff_top.specs.Phases.{located_line, refusal_line, sdf_kind, status_of_refusal, stimulus_kind, wave_kind};
 ghost use Rattle.signoff_top.specs.Putting.{PutsBy, PutsLast};
 ghost use Rattle.signoff_top.specs.Stops.{refusal_seen, sdf_fault_seen};
 ghost use Rattle.signoff_top.specs.Work.{Tells, TellsEnd, TellsStop, case_told, quiet_violations};
@@ -25,10 +25,11 @@ use sg_io::{ShelfError, Sink};
 use std::alloc::{AllocError, Global};
 use stim_read::StimKind;
 use time_checks::Violation;
+use vcd_model::VcdKind;
 use wave_out::{ReportEnd, Spent, write_report};
 
 const USAGE: &str =
-    "usage: signoff run NETLIST.. --stim F --vcd F [--sdf F] [--top NAME] [--corner min|typ|max] [--rounds N] [--wheel N] | signoff gen N";
+    "usage: signoff run NETLIST.. (--stim F | --wave F [--scope PATH]) --vcd F [--sdf F] [--top NAME] [--corner min|typ|max] [--rounds N] [--wheel N] | signoff gen N";
 
 // A word and a name, on a line of their own.
 fn named_line(alloc: Global, before: &str, name: &str) -> Result<Vec<u8>, AllocError>
@@ -100,6 +101,31 @@ fn stimulus_word(kind: StimKind) -> &'static str
     }
 }
 
+fn wave_word(kind: VcdKind) -> &'static str
+    ensures { result.now ≡ wave_kind kind }
+{
+    match kind {
+        VcdKind::Syntax => "Syntax",
+        VcdKind::UnknownCode => "UnknownCode",
+        VcdKind::WidthMismatch => "WidthMismatch",
+        VcdKind::TimeFalls => "TimeFalls",
+        VcdKind::NotWholeTick => "NotWholeTick",
+        VcdKind::TooLarge => "TooLarge",
+        VcdKind::NoScope => "NoScope",
+    }
+}
+
+fn stimulus_text(
+    alloc: Global,
+    name: &str,
+    line: u64,
+    kind: &str,
+) -> Result<Vec<u8>, AllocError>
+    ensures { IfOk result (λ v. v.items ≡ located_line (codes "stimulus refused: ") name.now line kind.now) }
+{
+    located_text(alloc, "stimulus refused: ", name, line, kind.as_bytes())
+}
+
 fn refusal_text(alloc: Global, refusal: &Refusal<'_>) -> Result<Vec<u8>, AllocError>
     ensures { IfOk result (λ v. v.items ≡ refusal_line (refusal_seen refusal.now)) }
 {
@@ -116,13 +142,12 @@ fn refusal_text(alloc: Global, refusal: &Refusal<'_>) -> Result<Vec<u8>, AllocEr
             *line,
             sdf_fault_word(*fault).as_bytes(),
         ),
-        Refusal::Stimulus { name, line, kind } => located_text(
-            alloc,
-            "stimulus refused: ",
-            name,
-            *line,
-            stimulus_word(*kind).as_bytes(),
-        ),
+        Refusal::Stimulus { name, line, kind } => {
+            stimulus_text(alloc, name, *line, stimulus_word(*kind))
+        }
+        Refusal::Wave { name, line, kind } => {
+            stimulus_text(alloc, name, *line, wave_word(*kind))
+        }
     }
 }
 
@@ -134,7 +159,7 @@ fn status_of(refusal: &Refusal<'_>) -> Status
         Refusal::Missing(_) => Status::Missing,
         Refusal::Netlist { .. } => Status::Netlist,
         Refusal::Sdf { .. } => Status::Sdf,
-        Refusal::Stimulus { .. } => Status::Stimulus,
+        Refusal::Stimulus { .. } | Refusal::Wave { .. } => Status::Stimulus,
     }
 }
 

@@ -3,6 +3,7 @@ use sdf_read::SdfKind;
 use sg_text::NoMemory;
 use std::alloc::{AllocError, AllocFailed};
 use stim_read::StimKind;
+use vcd_model::VcdKind;
 
 /// Why an SDF file is refused: a fault of its text, or an entry that is too large for the circuit.
 #[derive(Clone, Copy, Debug)]
@@ -31,6 +32,11 @@ pub enum Refusal<'a> {
         name: &'a str,
         line: u64,
         kind: StimKind,
+    },
+    Wave {
+        name: &'a str,
+        line: u64,
+        kind: VcdKind,
     },
 }
 
