@@ -85,13 +85,13 @@ variable_section = named is_var no_kind variable_parts
 -- what came before: whether a timescale did, and how many scopes are open
 pub record Came : Type 0 where
   pub scaled : Bool
-  pub open : ℕ
+  pub depth : ℕ
 
 -- section = remark | timescale, at most once | scope | upscope, where a scope is open | variable
 unfoldable pub section_parts : Came → Grammar Section
 section_parts came =
     either (mapped (λ u. remark) (remark_of is_remark)) (either (only_if (not came.scaled) (mapped timescale timescale_section))
-    (either (mapped enters scope_section) (either (only_if (nat_lt 0 came.open) (mapped (λ u. leaves) upscope_section)) (mapped declares variable_section))))
+    (either (mapped enters scope_section) (either (only_if (nat_lt 0 came.depth) (mapped (λ u. leaves) upscope_section)) (mapped declares variable_section))))
 
 abbrev pub section_starts : Kind → Bool
 section_starts k = is_remark k || (is_timescale k || (is_scope k || (is_upscope k || is_var k)))
@@ -105,13 +105,13 @@ less (suc n) = n
 
 abbrev pub came_after : Came → Section → Came
 came_after c remark = c
-came_after c (timescale p) = record { scaled = true; open = c.open }
-came_after c (enters n) = record { scaled = c.scaled; open = suc c.open }
-came_after c leaves = record { scaled = c.scaled; open = less c.open }
+came_after c (timescale p) = record { scaled = true; depth = c.depth }
+came_after c (enters n) = record { scaled = c.scaled; depth = suc c.depth }
+came_after c leaves = record { scaled = c.scaled; depth = less c.depth }
 came_after c (declares d) = c
 
 abbrev pub came_first : Came
-came_first = record { scaled = false; open = 0 }
+came_first = record { scaled = false; depth = 0 }
 
 -- header = { section }
 abbrev pub header : Grammar (List Section)
