@@ -8,7 +8,7 @@ use Rattle.sg_circuit.specs.declared.nets.Net.{Net}
 use Rattle.sg_circuit.specs.declared.scopes.Port.TheVariants as port
 use Rattle.sg_circuit.specs.Circuit.{Circuit, Scope, Variable}
 use Rattle.sg_stimulus.specs.Stimulus.{Stimulus}
-use Rattle.vcd_form.specs.Rules.{dump, header_part, item_parts, power_parts, remark_parts, scope_parts, section_parts, timescale_parts, upscope_parts, variable_parts, body_parts}
+use Rattle.vcd_form.specs.Rules.{dump, body_parts, item_parts, power_parts, remark_parts, scope_parts, section_parts, timescale_parts, upscope_parts, variable_parts}
 use Rattle.vcd_form.specs.Words.{words, words_from}
 use Rattle.vcd_form.specs.Written.{Declaration, Front, Item, Section, declares, enters, instant, leaves, nothing, real, remark, timescale, value}
 use Rattle.vcd_model.specs.declared.kinds.VcdKind.TheVariants.{Syntax, UnknownCode, WidthMismatch, TimeFalls, NotWholeTick, TooLarge, NoScope}
@@ -80,6 +80,16 @@ no_scope_is_the_top = refl
 -- its text
 abbrev a_text : List ℕ
 a_text = codes "$timescale 1ns $end $scope module tb $end $scope module dut $end $var wire 1 ! a $end $upscope $end $upscope $end $enddefinitions $end #0 x! #10 1! #30"
+
+abbrev a_read : Front
+a_read = record {
+  sections = timescale (negsuc 8) ∷ enters (codes "tb") ∷ enters (codes "dut") ∷ declares (record { byte = 65; width = 1; code = codes "!"; name = codes "a"; range = None }) ∷ leaves ∷ leaves ∷ [];
+  body = Some (114, instant 135 (codes "0") ∷ value 138 138 (codes "x") (codes "!") ∷ instant 141 (codes "10") ∷ value 145 145 (codes "1") (codes "!") ∷ instant 148 (codes "30") ∷ []);
+}
+
+text_read : dump.read (words a_text) 0 ≡ Ok (a_read, 28)
+unfolding body_parts item_parts power_parts remark_parts scope_parts section_parts timescale_parts upscope_parts variable_parts words_from
+text_read = refl
 
 -- ---- a dump of a run, with its words without effect: read back it says the same
 
