@@ -1,7 +1,7 @@
 -- Faults of a dump that is a stimulus: each cause of refusal is the list of the places that have it.
-use Rattle.std.specs.Prelude.{ℕ, ◌^◌, ◌==◌, ◌&&◌, Bool, true, false, not, List, [], ◌∷◌, ◌++◌, length, filter, flat_map, nat_lt, Option, Some, None, is_some, if◌then◌else◌}
+use Rattle.std.specs.Prelude.{ℕ, ◌==◌, ◌&&◌, Bool, not, List, [], ◌∷◌, ◌++◌, length, filter, flat_map, nat_lt, Option, Some, None, is_some, if◌then◌else◌}
 use Rattle.std.specs.List.{list_any, prefix_len}
-use Rattle.std.specs.Prelude.{drop, filter_map}
+use Rattle.std.specs.Prelude.{drop}
 use Rattle.sg_text.specs.declared.places.Place.{Place}
 use Rattle.sg_time.specs.Spelling.{number_from}
 use Rattle.sg_circuit.specs.Circuit.{Circuit, Variable}
