@@ -1,6 +1,7 @@
 // The nets of inputs by the codes of the variables that stand for them.
 ghost use Rattle.std.specs.Prelude.{◌≡◌, List, ℕ, OnOk, IfOk, IfErr, MatchResult, option_map, option_and_then};
 ghost use Rattle.sg_circuit.specs.Seen.{variable_seen};
+ghost use Rattle.stim_read.specs.Inputs.{nets_of};
 ghost use Rattle.vcd_form.specs.Seen.{declaration_seen};
 ghost use Rattle.vcd_model.specs.Faults.{variable_faults};
 ghost use Rattle.vcd_model.specs.Inputs as def;
@@ -10,20 +11,22 @@ ghost use Rattle.vcd_stim.specs.Meant.{RefusesOneOf};
 use crate::faults::fault;
 use crate::names::{called, index_of};
 use indexmap::IndexMap;
-use sg_circuit::NetId;
+use sg_circuit::{NetId, Variable};
 use sg_text::{NoMemory, Refused};
 use std::alloc::Global;
 use stim_read::{Inputs, nets_of};
 use vcd_form::Declaration;
 use vcd_model::VcdKind;
 
-/// For each code that a variable has, the nets of each input in the scope that has it, left first.
-pub type Table<'t, 'c> = IndexMap<&'t [u8], Vec<&'c [NetId]>>;
-
-// Nets, if they are so many.
-fn of_width(width: u32, nets: &[NetId]) -> Option<&[NetId]>
-    ensures { option_map (λ nets. nets.now) result ≡ def.of_width width (Some nets.now) }
+// The nets of an input that a variable of a width stands for, left first.
+fn nets_at<'c>(
+    width: u32,
+    range: Option<&[u8]>,
+    variable: &'c Variable,
+) -> Option<&'c [NetId]>
+    ensures { option_map (λ nets. nets.now) result ≡ def.of_width width (nets_of (def.index_of (option_map (λ r. r.now) range.entry)) (variable_seen variable.now)) }
 {
+    let nets = nets_of(variable, index_of(range))?;
     if nets.len() == width as usize {
         return Some(nets);
     }
@@ -43,10 +46,10 @@ pub fn input_nets<'c>(
     let Some(variable) = inputs.named(name.name) else {
         return Ok(None);
     };
-    match nets_of(variable, index_of(name.range)) {
-        Some(nets) if nets.len() == declaration.width as usize => Ok(Some(nets)),
-        _ => Err(fault(VcdKind::WidthMismatch, declaration.byte)),
-    }
+    let Some(nets) = nets_at(declaration.width, name.range, variable) else {
+        return Err(fault(VcdKind::WidthMismatch, declaration.byte));
+    };
+    Ok(Some(nets))
 }
 
 /// A code has these nets too, if there are some.
