@@ -1,0 +1,9 @@
+-- The modules of this folder.
+pub mod Lists
+pub mod PutLaws
+pub mod StepLaws
+pub mod ValueLaws
+pub mod InputLaws
+pub mod StateLaws
+pub mod PathLaws
+pub mod IndexLaws
