@@ -1,5 +1,5 @@
 -- A name that is added: its bytes one after another, and the mark at its end.
-use Rattle.std.specs.Prelude.{◌≡◌, ℕ, ◌+◌, ◌<◌, ◌≤◌, ◌||◌, true, List, [], ◌∷◌, ◌++◌, Some, bytes_eq, length, reverse, slice_index_or, slice_set, take, refl}
+use Rattle.std.specs.Prelude.{◌≡◌, ℕ, ◌+◌, ◌<◌, ◌≤◌, ◌||◌, true, List, [], ◌∷◌, ◌++◌, Some, bytes_eq, length, slice_index_or, slice_set, take, refl}
 use Rattle.std.proofs.Common.{sym, ◌∙◌, ap, arith}
 use Rattle.std.proofs.lemmas.List.{length-reverse, take_all, take_more}
 use Rattle.name_trie.specs.Tree.{steps_of, follow, flag, has, IsTree, Steps}
