@@ -24,7 +24,13 @@ pub fn input_of<'a>(arguments: &[Argument<'a>]) -> Option<Input<'a>>
 {
     let scope = value_of(arguments, "scope");
     match (value_of(arguments, "stim"), value_of(arguments, "wave")) {
-        (Some(file), None) => { if scope.is_none() { Some(Input::Stimulus(file)) } else { None } }
+        (Some(file), None) => {
+            if scope.is_none() {
+                Some(Input::Stimulus(file))
+            } else {
+                None
+            }
+        }
         (None, Some(file)) => Some(Input::Wave { file, scope }),
         _ => None,
     }

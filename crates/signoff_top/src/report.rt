@@ -115,12 +115,7 @@ fn wave_word(kind: VcdKind) -> &'static str
     }
 }
 
-fn stimulus_text(
-    alloc: Global,
-    name: &str,
-    line: u64,
-    kind: &str,
-) -> Result<Vec<u8>, AllocError>
+fn stimulus_text(alloc: Global, name: &str, line: u64, kind: &str) -> Result<Vec<u8>, AllocError>
     ensures { IfOk result (λ v. v.items ≡ located_line (codes "stimulus refused: ") name.now line kind.now) }
 {
     located_text(alloc, "stimulus refused: ", name, line, kind.as_bytes())
