@@ -15,7 +15,7 @@ use Rattle.run_words.specs.contracts.inputs.InputPartialEq.TheImpl as input_eq
 use Rattle.run_words.specs.declared.inputs.Input.{Input}
 use Rattle.run_words.specs.declared.inputs.Input.TheVariants.{Stimulus, Wave}
 use Rattle.run_words.specs.declared.words.Command as code
-use Rattle.run_words.specs.Words.{a_stimulus, a_wave}
+use Rattle.run_words.specs.Words.{a_stimulus}
 use Rattle.run_words.specs.WordsSeen.{command_seen, input_seen}
 use denote.Enum.Bare.{sameb}
 
