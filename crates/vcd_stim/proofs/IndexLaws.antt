@@ -45,7 +45,7 @@ picks-more f [] y = by (f y)
     by (Some b) = refl
 picks-more f (x ∷ xs) y = by (f x) (picks-more f xs y)
   where
-    by : {B : Type 0} (o : Option B) {as bs cs : List B} → as ≡ bs ++ cs → cons_option o as ≡ cons_option o bs ++ cs
+    by : {B : Type 0} (o : Option B) {ps bs cs : List B} → ps ≡ bs ++ cs → cons_option o ps ≡ cons_option o bs ++ cs
     by None e = e
     by (Some b) e = ap (λ l. b ∷ l) e
 

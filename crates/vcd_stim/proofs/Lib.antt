@@ -7,3 +7,4 @@ pub mod InputLaws
 pub mod StateLaws
 pub mod PathLaws
 pub mod IndexLaws
+pub mod TimeLaws

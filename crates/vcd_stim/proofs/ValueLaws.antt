@@ -27,9 +27,9 @@ flat-apart : {A B : Type 0} (f : A → List B) (xs ys : List A) → flat_map f (
 flat-apart f [] ys = refl
 flat-apart f (x ∷ xs) ys = ap (λ l. f x ++ l) (flat-apart f xs ys) ∙ assoc (f x) (flat_map f xs) (flat_map f ys)
   where
-    assoc : {B : Type 0} (as bs cs : List B) → as ++ (bs ++ cs) ≡ (as ++ bs) ++ cs
+    assoc : {B : Type 0} (ps bs cs : List B) → ps ++ (bs ++ cs) ≡ (ps ++ bs) ++ cs
     assoc [] bs cs = refl
-    assoc (a ∷ as) bs cs = ap (λ l. a ∷ l) (assoc as bs cs)
+    assoc (p ∷ ps) bs cs = ap (λ l. p ∷ l) (assoc ps bs cs)
 
 -- ---- what one declaration is given
 

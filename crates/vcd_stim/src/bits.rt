@@ -75,7 +75,8 @@ fn put_value(nets: &[NetId], bits: &[u8], sets: &mut BTreeMap<NetId, Value>) -> 
 {
     let (left, right) = nets.split_at(nets.len() - bits.len());
     fill(left, filler(bits), sets)?;
-    put_bits(right, bits, sets)
+    put_bits(right, bits, sets)?;
+    Ok(())
 }
 
 fn put_to(

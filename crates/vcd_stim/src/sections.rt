@@ -37,7 +37,7 @@ pub fn unit_of(sections: &[Section]) -> i8
 }
 
 /// What is known behind some sections: how much of the path each open scope reads, and whether its scope was found.
-#[derive(Debug, Drop)]
+#[derive(Drop)]
 pub struct Walk {
     pub fronts: Vec<Option<usize>>,
     pub found: bool,
