@@ -8,3 +8,5 @@ pub mod StateLaws
 pub mod PathLaws
 pub mod IndexLaws
 pub mod TimeLaws
+pub mod DigitLaws
+pub mod Refusals

@@ -15,15 +15,15 @@ use Rattle.vcd_model.specs.Values.{bits_given, bits_of, given_to, is_of_code, Gi
 use Rattle.vcd_stim.specs.Index.{nets_coded, nets_meant}
 use Rattle.vcd_stim.specs.Steps.{nets_faults, nets_given, pairs}
 
-no-left : {A : Type 0} (xs ys : List A) → xs ++ ys ≡ [] → xs ≡ []
+pub no-left : {A : Type 0} (xs ys : List A) → xs ++ ys ≡ [] → xs ≡ []
 no-left [] ys h = refl
 no-left (x ∷ xs) ys h = absurd (cc)
 
-no-right : {A : Type 0} (xs ys : List A) → xs ++ ys ≡ [] → ys ≡ []
+pub no-right : {A : Type 0} (xs ys : List A) → xs ++ ys ≡ [] → ys ≡ []
 no-right [] ys h = h
 no-right (x ∷ xs) ys h = absurd (cc)
 
-flat-apart : {A B : Type 0} (f : A → List B) (xs ys : List A) → flat_map f (xs ++ ys) ≡ flat_map f xs ++ flat_map f ys
+pub flat-apart : {A B : Type 0} (f : A → List B) (xs ys : List A) → flat_map f (xs ++ ys) ≡ flat_map f xs ++ flat_map f ys
 flat-apart f [] ys = refl
 flat-apart f (x ∷ xs) ys = ap (λ l. f x ++ l) (flat-apart f xs ys) ∙ assoc (f x) (flat_map f xs) (flat_map f ys)
   where

@@ -1,5 +1,5 @@
 // The nets of inputs by the codes of the variables that stand for them.
-ghost use Rattle.std.specs.Prelude.{◌≡◌, List, ℕ, OnOk, IfOk, IfErr, MatchResult, option_map, option_and_then};
+ghost use Rattle.std.specs.Prelude.{◌≡◌, [], Some, List, ℕ, OnOk, MatchResult, option_map};
 ghost use Rattle.sg_circuit.specs.Seen.{variable_seen};
 ghost use Rattle.stim_read.specs.Inputs.{nets_of};
 ghost use Rattle.vcd_form.specs.Seen.{declaration_seen};
