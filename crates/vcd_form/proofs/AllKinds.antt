@@ -1,8 +1,8 @@
 -- The kinds of word in one list, whatever their text, so that what is checked of each holds of all.
-use Rattle.std.proofs.Common.{◌≡◌, ℕ, Bool, true, List, [], ◌∷◌, Some, refl}
+use Rattle.std.proofs.Common.{◌≡◌, ℕ, zero, suc, Bool, true, false, List, [], ◌∷◌, Some, refl}
 use Rattle.std.specs.Prelude.{◌&&◌, not, slice_get}
+use Rattle.std.proofs.lemmas.Bool.{and_parts}
 use Rattle.grammar.specs.Exact.{Apart, IsWithin}
-use Rattle.grammar.proofs.Finite as finite
 use Rattle.grammar.proofs.Finite.{every}
 use Rattle.vcd_form.specs.Kinds.{Kind, remark_kind, comment_kind, timescale_kind, scope_kind, upscope_kind, var_kind, definitions_kind, dump_kind, end_kind, time_kind, scalar_kind, vector_kind, real_kind, other_kind}
 
@@ -51,20 +51,35 @@ is_listed (vector_kind text) = refl
 is_listed (real_kind text) = refl
 is_listed (other_kind text) = refl
 
+holds_at : (p : Kind → Bool) (ks : List Kind) (n : ℕ) (k : Kind) → slice_get ks n ≡ Some k → every p ks ≡ true → p k ≡ true
+holds_at p [] n k e h = absurd cc
+holds_at p (j ∷ ks) zero k e h = let same : j ≡ k = cc in rw (← same) (and_parts (p j) (every p ks) h).0
+holds_at p (j ∷ ks) (suc n) k e h = holds_at p ks n k e (and_parts (p j) (every p ks) h).1
+
+not_both : (b c : Bool) → not (b && c) ≡ true → b ≡ true → c ≡ true → ⊥
+not_both true true h p q = cc
+not_both true false h p q = cc
+not_both false c h p q = cc
+
+implied : (b c : Bool) → (not (b && not c)) ≡ true → b ≡ true → c ≡ true
+implied true true h p = refl
+implied true false h p = absurd cc
+implied false c h p = absurd cc
+
 -- a test that each kind passes, whatever its text
 abbrev pub OfAll : (Kind → Bool) → Type 0
 OfAll p = (text : List ℕ) → every p (all_kinds text) ≡ true
 
 holds_of : (p : Kind → Bool) → OfAll p → (k : Kind) → p k ≡ true
-holds_of p h k = finite.holds_at p (all_kinds (text_of k)) (spot k) k (is_listed k) (h (text_of k))
+holds_of p h k = holds_at p (all_kinds (text_of k)) (spot k) k (is_listed k) (h (text_of k))
 
 -- no kind is of both: one of the two tests, and then the other where that says yes
 pub apart : (c d : Kind → Bool) → OfAll (λ k. not (c k && d k)) → Apart c d
-apart c d h k p q = finite.not_both_true (c k) (d k) (holds_of (λ j. not (c j && d j)) h k) p q
+apart c d h k p q = not_both (c k) (d k) (holds_of (λ j. not (c j && d j)) h k) p q
 
 pub apart_next : (c d : Kind → Bool) → OfAll (λ k. not (d k && c k)) → Apart c d
-apart_next c d h k p q = finite.not_both_true (d k) (c k) (holds_of (λ j. not (d j && c j)) h k) q p
+apart_next c d h k p q = not_both (d k) (c k) (holds_of (λ j. not (d j && c j)) h k) q p
 
 -- each kind of the one is of the other
 pub is_within : (c d : Kind → Bool) → OfAll (λ k. not (c k && not (d k))) → IsWithin c d
-is_within c d h k p = finite.implied (c k) (d k) (holds_of (λ j. not (c j && not (d j))) h k) p
+is_within c d h k p = implied (c k) (d k) (holds_of (λ j. not (c j && not (d j))) h k) p

@@ -55,7 +55,7 @@ unfolding remark_rest
 remark_rest-exact = made _ (before (laws.many-exact kind_of _ (the_mark is_any) refl (closed _)) (the_mark is_end) (apart _ _ (λ _. refl)))
 
 remark-exact : (is : Kind → Bool) → IsExact (remark_of is)
-unfolding remark_parts, remark_rest
+unfolding remark_parts remark_rest
 remark-exact is = called _ _ (behind (the_mark is) remark_rest-exact (closed _)) refl (same _) (is_within _ _ (λ _. refl))
 
 neither : (b c : Bool) → (not b && c) ≡ true → b ≡ true → ⊥
@@ -100,10 +100,10 @@ sections may left =
     (either (rule.mapped enters scope_section) (either (only_if left (rule.mapped (λ u. leaves) upscope_section)) (rule.mapped declares variable_section))))
 
 sections-exact : (may left : Bool) → IsExact (rule.named section_starts no_kind (sections may left))
-sections-exact true true = called _ _ (or (made _ (remark-exact is_remark)) (or (made _ timescale-exact) (or (made _ scope-exact) (or (made _ upscope-exact) (made _ variable-exact) refl refl (apart _ _ (λ _. refl))) refl refl (apart _ _ (λ _. refl))) refl refl (apart _ _ (λ _. refl))) refl refl (apart _ _ (λ _. refl))) refl (is_within _ _ (λ _. refl)) (is_within _ _ (λ _. refl))
-sections-exact true false = called _ _ (or (made _ (remark-exact is_remark)) (or (made _ timescale-exact) (or (made _ scope-exact) (or (laws.only_if-exact kind_of false _ (made _ upscope-exact)) (made _ variable-exact) refl refl (apart _ _ (λ _. refl))) refl refl (apart _ _ (λ _. refl))) refl refl (apart _ _ (λ _. refl))) refl refl (apart _ _ (λ _. refl))) refl (is_within _ _ (λ _. refl)) (is_within _ _ (λ _. refl))
-sections-exact false true = called _ _ (or (made _ (remark-exact is_remark)) (or (laws.only_if-exact kind_of false _ (made _ timescale-exact)) (or (made _ scope-exact) (or (made _ upscope-exact) (made _ variable-exact) refl refl (apart _ _ (λ _. refl))) refl refl (apart _ _ (λ _. refl))) refl refl (apart _ _ (λ _. refl))) refl refl (apart _ _ (λ _. refl))) refl (is_within _ _ (λ _. refl)) (is_within _ _ (λ _. refl))
-sections-exact false false = called _ _ (or (made _ (remark-exact is_remark)) (or (laws.only_if-exact kind_of false _ (made _ timescale-exact)) (or (made _ scope-exact) (or (laws.only_if-exact kind_of false _ (made _ upscope-exact)) (made _ variable-exact) refl refl (apart _ _ (λ _. refl))) refl refl (apart _ _ (λ _. refl))) refl refl (apart _ _ (λ _. refl))) refl refl (apart _ _ (λ _. refl))) refl (is_within _ _ (λ _. refl)) (is_within _ _ (λ _. refl))
+sections-exact true true = called _ _ (or (made _ (remark-exact is_remark)) (or (made timescale timescale-exact) (or (made _ scope-exact) (or (made (λ (u : Unit {0}). leaves) upscope-exact) (made _ variable-exact) refl refl (apart _ _ (λ _. refl))) refl refl (apart _ _ (λ _. refl))) refl refl (apart _ _ (λ _. refl))) refl refl (apart _ _ (λ _. refl))) refl (is_within _ _ (λ _. refl)) (is_within _ _ (λ _. refl))
+sections-exact true false = called _ _ (or (made _ (remark-exact is_remark)) (or (made timescale timescale-exact) (or (made _ scope-exact) (or (laws.only_if-exact kind_of false _ (made (λ (u : Unit {0}). leaves) upscope-exact)) (made _ variable-exact) refl refl (apart _ _ (λ _. refl))) refl refl (apart _ _ (λ _. refl))) refl refl (apart _ _ (λ _. refl))) refl refl (apart _ _ (λ _. refl))) refl (is_within _ _ (λ _. refl)) (is_within _ _ (λ _. refl))
+sections-exact false true = called _ _ (or (made _ (remark-exact is_remark)) (or (laws.only_if-exact kind_of false _ (made timescale timescale-exact)) (or (made _ scope-exact) (or (made (λ (u : Unit {0}). leaves) upscope-exact) (made _ variable-exact) refl refl (apart _ _ (λ _. refl))) refl refl (apart _ _ (λ _. refl))) refl refl (apart _ _ (λ _. refl))) refl refl (apart _ _ (λ _. refl))) refl (is_within _ _ (λ _. refl)) (is_within _ _ (λ _. refl))
+sections-exact false false = called _ _ (or (made _ (remark-exact is_remark)) (or (laws.only_if-exact kind_of false _ (made timescale timescale-exact)) (or (made _ scope-exact) (or (laws.only_if-exact kind_of false _ (made (λ (u : Unit {0}). leaves) upscope-exact)) (made _ variable-exact) refl refl (apart _ _ (λ _. refl))) refl refl (apart _ _ (λ _. refl))) refl refl (apart _ _ (λ _. refl))) refl refl (apart _ _ (λ _. refl))) refl (is_within _ _ (λ _. refl)) (is_within _ _ (λ _. refl))
 
 pub section-exact : (came : Came) → IsExact (section_of came)
 unfolding section_parts

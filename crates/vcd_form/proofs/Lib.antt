@@ -6,3 +6,4 @@ pub mod RangeLaws
 pub mod StepLaws
 pub mod AllKinds
 pub mod FormExact
+pub mod Whole
