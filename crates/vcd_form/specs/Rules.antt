@@ -30,7 +30,7 @@ either a b = rule.either kind_of a b
 -- ---- the header
 
 -- remark = ("$date" | "$version" | "$comment") { word } "$end"
-abbrev pub remark_rest : Grammar (Unit {0})
+unfoldable pub remark_rest : Grammar (Unit {0})
 remark_rest = mapped (λ x. tt) (rule.many kind_of (mark is_any) ◂ mark is_end)
 
 unfoldable pub remark_parts : (Kind → Bool) → Grammar (Unit {0})

@@ -30,6 +30,7 @@ fn came_after(came: Came, section: &Section<'_>) -> Came
 }
 
 // `$enddefinitions $end`, and its place.
+#[tactic(auto, unfolding(crate::specs::Rules::start_parts))]
 fn start_from(text: &[u8], at: usize) -> Result<(usize, usize), ReadFault>
     requires { IsBetween text.now at }
     ensures { StartAt text.now (read_at text.now at) result }

@@ -30,6 +30,7 @@ fn behind_first(bytes: &[u8]) -> &[u8]
 }
 
 // The item that begins with a word.
+#[tactic(auto, unfolding(crate::specs::Rules::item_parts, crate::specs::Rules::remark_parts))]
 fn item_from<'a>(text: &'a [u8], at: usize, word: Word<'a>, next: usize) -> Result<(Item<'a>, usize), usize>
     requires place { IsBetween text.now at }
     requires word { WordAt text.now (read_at text.now at) (Some (word, next)) }

@@ -37,17 +37,17 @@ any-more test (x ∷ xs) y = by (test x) (any-more test xs y)
     by true e = refl
     by false e = e
 
+one-more : {B : Type 0} (o : Option B) (ps bs cs : List B) → ps ≡ bs ++ cs → cons_option o ps ≡ cons_option o bs ++ cs
+one-more None ps bs cs e = e
+one-more (Some b) ps bs cs e = ap (λ l. b ∷ l) e
+
 picks-more : {A B : Type 0} (f : A → Option B) (xs : List A) (y : A) → filter_map f (xs ++ y ∷ []) ≡ filter_map f xs ++ option_to_list (f y)
 picks-more f [] y = by (f y)
   where
     by : {B : Type 0} (o : Option B) → cons_option o [] ≡ option_to_list o
     by None = refl
     by (Some b) = refl
-picks-more f (x ∷ xs) y = by (f x) (picks-more f xs y)
-  where
-    by : {B : Type 0} (o : Option B) {as bs cs : List B} → as ≡ bs ++ cs → cons_option o as ≡ cons_option o bs ++ cs
-    by None e = e
-    by (Some b) e = ap (λ l. b ∷ l) e
+picks-more f (x ∷ xs) y = one-more (f x) (filter_map f (xs ++ y ∷ [])) (filter_map f xs) (option_to_list (f y)) (picks-more f xs y)
 
 found-more : (scope : List ℕ) (ss : List Section) (s : Section) → has_scope scope (ss ++ s ∷ []) ≡ (has_scope scope ss || opens_at scope (scopes_behind [] ss) s)
 found-more scope ss s =

@@ -64,6 +64,6 @@ given-now circuit ds now (instant byte digits) = tt
 given-now circuit ds now (real byte code_byte code) = tt
 given-now circuit ds now (value byte code_byte bits code) = over (flat_map (given_to circuit bits) (filter (is_of_code code) ds))
   where
-    over : (cs : List (ℕ × Value)) → Each (λ g. g.time ≡ now) (map (λ c. record { time = now; net = c.0; value = c.1 }) cs)
+    over : (cs : List (ℕ × Value)) → Each (λ (g : Given). g.time ≡ now) (map (λ c. record { time = now; net = c.0; value = c.1 }) cs)
     over [] = tt
     over (c ∷ cs) = (refl, over cs)

@@ -7,3 +7,6 @@ pub mod InputLaws
 pub mod StateLaws
 pub mod PathLaws
 pub mod IndexLaws
+pub mod TimeLaws
+pub mod DigitLaws
+pub mod Refusals

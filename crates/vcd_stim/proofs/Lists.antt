@@ -18,14 +18,11 @@ each-weaker P Q k (x ∷ xs) h = (k x h.0, each-weaker P Q k xs h.1)
 
 pub each-filter : {A : Type 0} (P : A → Type 0) (test : A → Bool) (xs : List A) → Each P xs → Each P (filter test xs)
 each-filter P test [] h = tt
-each-filter P test (x ∷ xs) h = by (test x)
+each-filter P test (x ∷ xs) h = by (test x) (each-filter P test xs h.1)
   where
-    rest : Each P (filter test xs)
-    rest = each-filter P test xs h.1
-
-    by : (b : Bool) → Each P (cond b (x ∷ filter test xs) (filter test xs))
-    by true = (h.0, rest)
-    by false = rest
+    by : (b : Bool) → Each P (filter test xs) → Each P (cond b (x ∷ filter test xs) (filter test xs))
+    by true rest = (h.0, rest)
+    by false rest = rest
 
 pub filter-apart : {A : Type 0} (test : A → Bool) (xs ys : List A) → filter test (xs ++ ys) ≡ filter test xs ++ filter test ys
 filter-apart test [] ys = refl

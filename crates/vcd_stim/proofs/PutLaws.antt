@@ -1,14 +1,16 @@
 -- Values that are put to nets one after another: of each net the last one stays, in the order of the nets.
-use Rattle.std.specs.Prelude.{zero, suc, ℕ, ◌+◌, ◌-◌, ◌≡◌, ◌<◌, ◌≤◌, ◌==◌, ◌&&◌, nat_lt, nat_cmp, Bool, true, false, cond, List, [], ◌∷◌, ◌++◌, length, map, zip, take, drop, filter, filter_map, replicate, Option, Some, None, refl, if◌then◌else◌}
+use Rattle.std.specs.Prelude.{zero, suc, ℕ, ◌+◌, ◌-◌, ◌≡◌, ◌<◌, ◌≤◌, ◌==◌, ◌&&◌, nat_lt, Bool, true, false, cond, List, [], ◌∷◌, ◌++◌, length, map, zip, take, drop, filter, filter_map, replicate, Option, Some, None, refl, if◌then◌else◌}
 use Rattle.std.specs.Option.{option_map, option_or}
 use Rattle.std.specs.List.{cons_option, range_with_len}
 use Rattle.std.specs.BTreeMap.{insert_entry}
+use Rattle.std.specs.Ordering.{nat_cmp}
 use Rattle.std.proofs.Common.{inl, inr, sym, ◌∙◌, ap, arith}
 use Rattle.std.proofs.lemmas.Bool.{cases_lt, eq-eqb, ne_eqb, lt-ltb, le-ltb}
+use Rattle.std.proofs.lemmas.List.{length-map, length-take-le}
 use Rattle.sg_logic.specs.declared.values.Value.{Value}
 use Rattle.vcd_model.specs.Stimulus.{is_given, last, last_given}
-use Rattle.vcd_model.specs.Values.{Given}
-use Rattle.vcd_stim.specs.Steps.{pairs, put_all, Each}
+use Rattle.vcd_model.specs.Values.{filler, value_of, Given}
+use Rattle.vcd_stim.specs.Steps.{nets_given, pairs, put_all, Each}
 use Rattle.vcd_stim.proofs.Lists.{each-map}
 
 pub put-append : (es xs ys : List (ℕ × Value)) → put_all es (xs ++ ys) ≡ put_all (put_all es xs) ys
@@ -122,3 +124,16 @@ length-copies (suc k) v = ap suc (length-copies k v)
 pub zip-filled : (ns : List ℕ) (k : ℕ) (v : Value) (vs : List Value) → k ≤ length ns → zip ns (replicate k v ++ vs) ≡ zip (take k ns) (replicate k v) ++ zip (drop k ns) vs
 zip-filled ns k v vs h =
     zip-apart ns (replicate k v) vs (omega (arith, h, length-copies k v)) ∙ ap (λ m. zip (take m ns) (replicate k v) ++ zip (drop m ns) vs) (length-copies k v)
+
+pub put_value_is : (old mid new : List (ℕ × Value)) (nets left right bits : List ℕ) (f : Value) → length bits ≤ length nets → left ≡ take (length nets - length bits) nets → right ≡ drop (length nets - length bits) nets
+    → f ≡ filler (map value_of bits) → mid ≡ put_all old (zip left (replicate (length left) f)) → new ≡ put_all mid (zip right (map value_of bits)) → new ≡ put_all old (nets_given bits nets)
+put_value_is old mid new nets left right bits f few l r e m n =
+    let k : ℕ = length nets - length bits in
+    let many : length left ≡ k = ap length l ∙ length-take-le k nets (omega arith) in
+    n ∙ ap (λ es. put_all es (zip right (map value_of bits))) m ∙ sym (put-append old (zip left (replicate (length left) f)) (zip right (map value_of bits)))
+    ∙ ap (λ ns. put_all old (zip left (replicate (length left) f) ++ zip ns (map value_of bits))) r
+    ∙ ap (λ j. put_all old (zip left (replicate j f) ++ zip (drop k nets) (map value_of bits))) many
+    ∙ ap (λ ns. put_all old (zip ns (replicate k f) ++ zip (drop k nets) (map value_of bits))) l
+    ∙ ap (put_all old) (sym (zip-filled nets k f (map value_of bits) (omega arith)))
+    ∙ ap (λ v. put_all old (zip nets (replicate k v ++ map value_of bits))) e
+    ∙ ap (λ j. put_all old (zip nets (replicate (length nets - j) (filler (map value_of bits)) ++ map value_of bits))) (sym (length-map bits value_of))

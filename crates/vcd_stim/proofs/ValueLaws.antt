@@ -15,21 +15,21 @@ use Rattle.vcd_model.specs.Values.{bits_given, bits_of, given_to, is_of_code, Gi
 use Rattle.vcd_stim.specs.Index.{nets_coded, nets_meant}
 use Rattle.vcd_stim.specs.Steps.{nets_faults, nets_given, pairs}
 
-no-left : {A : Type 0} (xs ys : List A) → xs ++ ys ≡ [] → xs ≡ []
+pub no-left : {A : Type 0} (xs ys : List A) → xs ++ ys ≡ [] → xs ≡ []
 no-left [] ys h = refl
 no-left (x ∷ xs) ys h = absurd (cc)
 
-no-right : {A : Type 0} (xs ys : List A) → xs ++ ys ≡ [] → ys ≡ []
+pub no-right : {A : Type 0} (xs ys : List A) → xs ++ ys ≡ [] → ys ≡ []
 no-right [] ys h = h
 no-right (x ∷ xs) ys h = absurd (cc)
 
-flat-apart : {A B : Type 0} (f : A → List B) (xs ys : List A) → flat_map f (xs ++ ys) ≡ flat_map f xs ++ flat_map f ys
+pub flat-apart : {A B : Type 0} (f : A → List B) (xs ys : List A) → flat_map f (xs ++ ys) ≡ flat_map f xs ++ flat_map f ys
 flat-apart f [] ys = refl
 flat-apart f (x ∷ xs) ys = ap (λ l. f x ++ l) (flat-apart f xs ys) ∙ assoc (f x) (flat_map f xs) (flat_map f ys)
   where
-    assoc : {B : Type 0} (as bs cs : List B) → as ++ (bs ++ cs) ≡ (as ++ bs) ++ cs
+    assoc : {B : Type 0} (ps bs cs : List B) → ps ++ (bs ++ cs) ≡ (ps ++ bs) ++ cs
     assoc [] bs cs = refl
-    assoc (a ∷ as) bs cs = ap (λ l. a ∷ l) (assoc as bs cs)
+    assoc (p ∷ ps) bs cs = ap (λ l. p ∷ l) (assoc ps bs cs)
 
 -- ---- what one declaration is given
 

@@ -1,5 +1,6 @@
 -- The steps of a stimulus, of which the last is still open.
-use Rattle.std.specs.Prelude.{◌≡◌, ℕ, ◌<◌, List, [], ◌∷◌, ◌++◌, map, zip, length, flat_map, nat_lt, nat_cmp, Option}
+use Rattle.std.specs.Prelude.{◌≡◌, ℕ, ◌<◌, List, [], ◌∷◌, ◌++◌, map, zip, length, flat_map, nat_lt, Option}
+use Rattle.std.specs.Ordering.{nat_cmp}
 use Rattle.std.specs.BTreeMap.{insert_entry}
 use Rattle.sg_logic.specs.declared.values.Value.{Value}
 use Rattle.sg_stimulus.specs.Seen.{step_seen}

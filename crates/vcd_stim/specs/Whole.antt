@@ -1,6 +1,6 @@
 -- The items behind a header that are read, and why one stops the reading.
-use Rattle.std.specs.Prelude.{◌≡◌, ℕ, List, [], ◌∷◌, length, map, flat_map, Option, Some, None, Result, Ok, Err}
-use Rattle.std.specs.Vec.{Vec}
+use Rattle.std.specs.Prelude.{◌≡◌, ◌<◌, ℕ, List, [], ◌∷◌, length, map, flat_map, Option, Some, None, Result, Ok, Err}
+use Rattle.std.specs.Global.{Vec}
 use Rattle.std.specs.List.{IsAmong}
 use Rattle.grammar.specs.Language.{SpellsMany}
 use Rattle.sg_stimulus.specs.Stimulus.{Stimulus}
@@ -40,7 +40,7 @@ pub record IsAllRead (h : Header) (text : List ℕ) (n : ℕ) (s : Stimulus) : T
 
 -- behind some items a word fails, or a fault stands in them
 pub data StopsBy (h : Header) (text : List ℕ) (n : ℕ) (r : Refused VcdKind) : Type 0 where
-  stops_form : (items : List Item) (m e : ℕ) → AreItems text n items m → item.read (words text) m ≡ Err e → r ≡ told Syntax (byte_of text e) → StopsBy h text n r
+  stops_form : (items : List Item) (m e : ℕ) → AreItems text n items m → m < length (words text) → item.read (words text) m ≡ Err e → r ≡ told Syntax (byte_of text e) → StopsBy h text n r
   stops_fault : (items : List Item) (m : ℕ) → AreItems text n items m → RefusesOneOf (items_faults h items) r → StopsBy h text n r
 
 -- the time behind items
@@ -59,7 +59,7 @@ pub record IsReached (h : Header) (text : List ℕ) (n m : ℕ) (steps : Steps) 
 abbrev pub NextRead : List ℕ → (old new : ℕ) → Result (Option code_item.Item) (Refused VcdKind) → Type 0
 NextRead text old new (Ok None) = (old ≡ length (words text)) × (new ≡ old)
 NextRead text old new (Ok (Some i)) = item.read (words text) old ≡ Ok (item_seen i, new)
-NextRead text old new (Err r) = (n : ℕ) × (item.read (words text) old ≡ Err n) × (r ≡ told Syntax (byte_of text n))
+NextRead text old new (Err r) = (old < length (words text)) × (n : ℕ) × (item.read (words text) old ≡ Err n) × (r ≡ told Syntax (byte_of text n))
 
 -- the header, or the refusal of the failing word
 abbrev pub SectionsRead : List ℕ → (new : ℕ) → Result (Vec code_section.Section × ℕ) (Refused VcdKind) → Type 0

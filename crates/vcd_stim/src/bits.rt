@@ -1,7 +1,6 @@
 // What a value puts to the nets of inputs.
 ghost use Rattle.std.specs.Prelude.{◌≡◌, ◌≤◌, ◌++◌, [], OnOk, MatchResult, length, map, zip, replicate, flat_map};
 ghost use Rattle.vcd_model.specs.Values as def;
-ghost use Rattle.vcd_stim.specs.Index.{nets_in};
 ghost use Rattle.vcd_stim.specs.Meant.{RefusesOneOf};
 ghost use Rattle.vcd_stim.specs.Steps.{nets_faults, nets_given, put_all};
 
@@ -75,7 +74,8 @@ fn put_value(nets: &[NetId], bits: &[u8], sets: &mut BTreeMap<NetId, Value>) -> 
 {
     let (left, right) = nets.split_at(nets.len() - bits.len());
     fill(left, filler(bits), sets)?;
-    put_bits(right, bits, sets)
+    put_bits(right, bits, sets)?;
+    Ok(())
 }
 
 fn put_to(
@@ -98,16 +98,18 @@ fn put_to(
 /// The value at a byte is put to the nets of each variable.
 pub fn put_to_all(
     byte: usize,
-    list: &Vec<&[NetId]>,
+    list: &[&[NetId]],
     bits: &[u8],
     sets: &mut BTreeMap<NetId, Value>,
 ) -> Result<(), Refused<VcdKind>>
     ensures { MatchResult result
-        (λ u. (sets.new.entries ≡ put_all sets.old.entries (flat_map (nets_given bits.now) (nets_in list.now))) × (flat_map (nets_faults byte bits.now) (nets_in list.now) ≡ []))
-        (RefusesOneOf (flat_map (nets_faults byte bits.now) (nets_in list.now))) }
+        (λ u. (sets.new.entries ≡ put_all sets.old.entries (flat_map (nets_given bits.now) (map (λ n. n.now) list.now))) × (flat_map (nets_faults byte bits.now) (map (λ n. n.now) list.now) ≡ []))
+        (RefusesOneOf (flat_map (nets_faults byte bits.now) (map (λ n. n.now) list.now))) }
 {
-    for nets in list {
+    let mut rest = list;
+    while let [nets, more @ ..] = rest {
         put_to(byte, nets, bits, sets)?;
+        rest = more;
     }
     Ok(())
 }

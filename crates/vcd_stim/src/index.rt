@@ -1,5 +1,5 @@
 // The nets of inputs by the codes of the variables that stand for them.
-ghost use Rattle.std.specs.Prelude.{◌≡◌, List, ℕ, OnOk, IfOk, IfErr, MatchResult, option_map, option_and_then};
+ghost use Rattle.std.specs.Prelude.{◌≡◌, [], Some, List, ℕ, OnOk, MatchResult, option_map};
 ghost use Rattle.sg_circuit.specs.Seen.{variable_seen};
 ghost use Rattle.stim_read.specs.Inputs.{nets_of};
 ghost use Rattle.vcd_form.specs.Seen.{declaration_seen};
@@ -9,7 +9,7 @@ ghost use Rattle.vcd_stim.specs.Index.{listed, nets_meant, with_nets};
 ghost use Rattle.vcd_stim.specs.Meant.{RefusesOneOf};
 
 use crate::faults::fault;
-use crate::names::{called, index_of};
+use crate::names::{called_of, index_of};
 use indexmap::IndexMap;
 use sg_circuit::{NetId, Variable};
 use sg_text::{NoMemory, Refused};
@@ -42,7 +42,7 @@ pub fn input_nets<'c>(
         (λ nets. (option_map (λ n. n.now) nets ≡ nets_meant inputs.now.circuit.now (declaration_seen declaration.now)) × (variable_faults (declaration_seen declaration.now) (def.input_of inputs.now.circuit.now (declaration_seen declaration.now)) ≡ []))
         (RefusesOneOf (variable_faults (declaration_seen declaration.now) (def.input_of inputs.now.circuit.now (declaration_seen declaration.now)))) }
 {
-    let name = called(declaration);
+    let name = called_of(declaration);
     let Some(variable) = inputs.named(name.name) else {
         return Ok(None);
     };

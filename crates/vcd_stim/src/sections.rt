@@ -1,5 +1,5 @@
 // What a dump's header says of the inputs.
-ghost use Rattle.std.specs.Prelude.{◌≡◌, ◌∷◌, ◌++◌, ◌||◌, [], List, ℕ, MatchResult, OnOk, IfErr, map, negsuc, flat_map, not, true, option_map, None, if◌then◌else◌};
+ghost use Rattle.std.specs.Prelude.{◌≡◌, ◌∷◌, ◌++◌, ◌||◌, [], List, ℕ, MatchResult, OnOk, IfErr, map, negsuc, flat_map, not, true, option_map, option_to_list, None, if◌then◌else◌};
 ghost use Rattle.vcd_form.specs.Written as written;
 ghost use Rattle.vcd_form.specs.Seen.{declaration_seen, section_seen};
 ghost use Rattle.vcd_model.specs.Values.{first_or, powers};
@@ -24,20 +24,32 @@ use vcd_model::VcdKind;
 
 const NANOSECOND: i8 = -9;
 
+fn power_of(section: &Section) -> Option<i8>
+    ensures { option_to_list result ≡ powers (section_seen section.now) }
+{
+    match section {
+        Section::Timescale(power) => Some(*power),
+        Section::Remark => None,
+        Section::Enters(_) => None,
+        Section::Leaves => None,
+        Section::Declares(_) => None,
+    }
+}
+
 /// The power of ten of a second that the unit of times is.
 pub fn unit_of(sections: &[Section]) -> i8
     ensures { result ≡ first_or (negsuc 8) (flat_map powers (map section_seen sections.now)) }
 {
     for section in sections {
-        if let Section::Timescale(power) = section {
-            return *power;
+        if let Some(power) = power_of(section) {
+            return power;
         }
     }
     NANOSECOND
 }
 
 /// What is known behind some sections: how much of the path each open scope reads, and whether its scope was found.
-#[derive(Debug, Drop)]
+#[derive(Drop)]
 pub struct Walk {
     pub fronts: Vec<Option<usize>>,
     pub found: bool,

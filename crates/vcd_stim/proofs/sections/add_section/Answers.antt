@@ -1,0 +1,21 @@
+-- Each section keeps to what is known of those before.
+use Rattle.std.proofs.Common.{◌≡◌, ◌-◌, ◌∙◌, ap, arith, length, take}
+use Rattle.std.proofs.lemmas.Result.{err_from_is_err_and}
+use Rattle.vcd_form.specs.Seen.{declaration_seen}
+use Rattle.vcd_stim.proofs.IndexLaws.{known-enters, known-leaves, known-remark, known-timescale}
+use Rattle.vcd_stim.proofs.sections.add_section.Goals as goal
+
+pub returns-in_ok-enter-in-Enters : goal.returns-in_ok-enter-in-Enters
+returns-in_ok-enter-in-Enters c before k =
+    rw c.in-Enters.is (known-enters c.args.inputs.now.circuit.now c.args.scope.now before _ _ _ _ _ c.in-Enters.name.now k c.in_ok-enter-in-Enters.ensures.fronts c.in_ok-enter-in-Enters.ensures.found)
+
+pub returns-in-Leaves : goal.returns-in-Leaves
+returns-in-Leaves c before k =
+    let n : c.args.walk.now.fronts.len - 1 ≡ length c.args.walk.now.fronts.items - 1 = omega (arith, c.args.walk.now.fronts.ok.0) in
+    rw c.in-Leaves.is (known-leaves c.args.inputs.now.circuit.now c.args.scope.now before _ _ _ _ k (c.pop.ensures.rest ∙ ap (λ m. take m c.args.walk.now.fronts.items) n))
+
+pub returns-in-Remark : goal.returns-in-Remark
+returns-in-Remark c before k = rw c.in-Remark.is (known-remark c.args.inputs.now.circuit.now c.args.scope.now before _ _ _ k)
+
+pub returns-in-Timescale : goal.returns-in-Timescale
+returns-in-Timescale c before k = rw c.in-Timescale.is (known-timescale c.args.inputs.now.circuit.now c.args.scope.now before _ _ _ _ k)
