@@ -1,5 +1,6 @@
 -- The modules of this folder.
 pub mod Lists
+pub mod OnceLaws
 pub mod PutLaws
 pub mod StepLaws
 pub mod ValueLaws
