@@ -10,3 +10,6 @@ pub mod IndexLaws
 pub mod TimeLaws
 pub mod DigitLaws
 pub mod Refusals
+pub mod ItemLaws
+pub mod FaultLaws
+pub mod NoFaults
