@@ -13,3 +13,5 @@ pub mod Refusals
 pub mod ItemLaws
 pub mod FaultLaws
 pub mod NoFaults
+pub mod AppliedLaws
+pub mod CodeLaws

@@ -12,7 +12,7 @@ use Rattle.vcd_stim.specs.Steps.{pairs, put_all, step_of, Each, HasSteps}
 use Rattle.vcd_stim.specs.declared.steps.Steps.{Steps}
 use Rattle.vcd_stim.specs.declared.clock.Moment.{Moment}
 use Rattle.vcd_stim.proofs.Lists.{each-append, each-weaker}
-use Rattle.vcd_stim.proofs.PutLaws.{put-append}
+use Rattle.vcd_stim.proofs.PutLaws.{put_append}
 use Rattle.vcd_stim.proofs.StepLaws.{close-step}
 
 no-ticks : (scale : Scale) → 0 ≡ ticks scale 0
@@ -46,7 +46,7 @@ with-values scale n now gs vs old new h times m c o = record {
   past = h.past;
   present = each-append (λ g. g.time ≡ now) h.opened vs h.present times;
   moment = subst (λ x. IsMoment scale now x) (sym m) h.moment;
-  open_is = o ∙ ap (λ es. put_all es (pairs vs)) h.open_is ∙ sym (put-append [] (pairs h.opened) (pairs vs)) ∙ ap (put_all []) (sym (pairs-append h.opened vs));
+  open_is = o ∙ ap (λ es. put_all es (pairs vs)) h.open_is ∙ sym (put_append [] (pairs h.opened) (pairs vs)) ∙ ap (put_all []) (sym (pairs-append h.opened vs));
   closed_is = ap (λ v. map (λ x. step_seen x) v.items) c ∙ h.closed_is;
 }
 
