@@ -15,3 +15,4 @@ pub mod FaultLaws
 pub mod NoFaults
 pub mod AppliedLaws
 pub mod CodeLaws
+pub mod TableLaws
