@@ -1,6 +1,7 @@
 -- Steps are begun, put to, and closed at a later time.
 use Rattle.std.specs.Prelude.{ℕ, ◌+◌, ◌*◌, ◌/◌, ◌≡◌, ◌<◌, ◌≤◌, List, [], ◌∷◌, ◌++◌, map, refl}
-use Rattle.std.proofs.Common.{sym, ◌∙◌, ap, subst, arith}
+use Rattle.std.proofs.Common.{inl, inr, sym, ◌∙◌, ap, subst, arith}
+use Rattle.std.proofs.lemmas.Bool.{cases_lt}
 use Rattle.std.proofs.Math.Nat.{zero-div}
 use Rattle.std.proofs.lemmas.List.{append_assoc, append-nil, map-append}
 use Rattle.sg_stimulus.specs.Seen.{step_seen}
@@ -79,3 +80,17 @@ at-later scale n now later gs old new h few lt m o c = record {
   open_is = o;
   closed_is = c ∙ all-closed scale n now gs old h few;
 }
+
+-- a time comes that is the same, or a later one
+pub same-time : (scale : Scale) (n now later : ℕ) (gs : List Given) (s : Steps) (m : Moment) → HasSteps scale n gs now s → IsMoment scale later m → m.number ≡ s.moment.number → HasSteps scale n gs later s
+same-time scale n now later gs s m h k e = subst (λ t. HasSteps scale n gs t s) (sym h.moment.number_is ∙ sym e ∙ k.number_is) h
+
+pub new-time : (scale : Scale) (n now later : ℕ) (gs : List Given) (old new : Steps) → HasSteps scale n gs now old → Each (λ g. g.net < n) gs → IsMoment scale later new.moment → now ≤ later → (new.moment.number ≡ old.moment.number → ⊥)
+    → new.open_sets.entries ≡ [] → map (λ x. step_seen x) new.closed.items ≡ map (λ x. step_seen x) old.closed.items ++ step_of old.moment.ticks old.open_sets.entries → HasSteps scale n gs later new
+new-time scale n now later gs old new h few k le other o c = elim (cases_lt now later) [
+  | inl lt ↦ at-later scale n now later gs old new h few lt k o c
+  | inr ge ↦ absurd (other (k.number_is ∙ same ge ∙ sym h.moment.number_is))
+]
+  where
+    same : later ≤ now → later ≡ now
+    same ge = omega (arith, ge, le)
