@@ -31,11 +31,14 @@ without-zeros : (ds : List ℕ) → number_from 0 (drop (prefix_len is_zero ds) 
 without-zeros [] = refl
 without-zeros (d ∷ ds) = by (d == 48) refl (without-zeros ds)
   where
+    one-more : (n : ℕ) → 1 + n ≡ suc n
+    one-more n = omega arith
+
     same : d ≡ 48 → number_from 0 ds ≡ number_from (0 * 10 + (d - 48)) ds
     same e = ap (λ n. number_from n ds) (omega (arith, e))
 
-    by : (b : Bool) → (d == 48) ≡ b → number_from 0 (drop (prefix_len is_zero ds) ds) ≡ number_from 0 ds → number_from 0 (drop (cond b (suc (prefix_len is_zero ds)) 0) (d ∷ ds)) ≡ number_from 0 (d ∷ ds)
-    by true e ih = ih ∙ same (eqb-true d 48 e)
+    by : (b : Bool) → (d == 48) ≡ b → number_from 0 (drop (prefix_len is_zero ds) ds) ≡ number_from 0 ds → number_from 0 (drop (cond b (1 + prefix_len is_zero ds) 0) (d ∷ ds)) ≡ number_from 0 (d ∷ ds)
+    by true e ih = ap (λ n. number_from 0 (drop n (d ∷ ds))) (one-more (prefix_len is_zero ds)) ∙ ih ∙ same (eqb-true d 48 e)
     by false e ih = refl
 
 dropped-bytes : (n : ℕ) (ds : List ℕ) → AreBytes ds → AreBytes (drop n ds)

@@ -10,9 +10,13 @@ use Rattle.vcd_model.specs.Faults.{variable_faults, Fault}
 use Rattle.vcd_model.specs.Inputs.{all_declared, bare, declared, declared_at, has_scope, input_of, is_at, opens_at, own, scopes_after, with_scopes}
 use Rattle.vcd_model.specs.Values.{is_of_code}
 use Rattle.vcd_stim.specs.Index.{declared_faults, indexed, nets_coded, nets_meant, own_faults, scopes_behind, with_nets, IsKnown}
-use Rattle.vcd_stim.specs.Paths.{fronts, is_whole_front, last_front, next_front}
+use Rattle.sg_text.specs.declared.refusals.Refused.{Refused}
+use Rattle.vcd_model.specs.declared.kinds.VcdKind.{VcdKind}
+use Rattle.vcd_stim.specs.Meant.{RefusesOneOf}
+use Rattle.vcd_stim.specs.Paths.{fronts, is_whole_front, is_whole_last, last_front, next_front}
 use Rattle.vcd_stim.proofs.Lists.{filter-apart}
 use Rattle.vcd_stim.proofs.PathLaws.{opened-is, take-front, within-is}
+use Rattle.vcd_stim.proofs.Refusals.{refused-right}
 use Rattle.vcd_stim.proofs.ValueLaws.{flat-apart}
 
 -- ---- one section more
@@ -207,3 +211,22 @@ known-declares circuit scope ss read found old table d nets k n f t = record {
       ∙ ap (λ l. indexed circuit l (own scope ss ++ option_to_list (declared_at scope (scopes_behind [] ss) (declares d))) code) (sym (all-more ss (declares d)))
       ∙ ap (λ l. indexed circuit (all_declared (ss ++ declares d ∷ [])) l code) (sym (own-more scope ss (declares d)));
 }
+
+-- ---- all sections
+
+pub known-first : (circuit : Circuit) (scope : List ℕ) (table : List ℕ → Option (List (List ℕ))) → ((code : List ℕ) → table code ≡ None) → IsKnown circuit scope [] [] false table
+known-first circuit scope table none = record { fronts_are = refl; found_is = refl; faultless = refl; table_is = none }
+
+pub declares_is : (circuit : Circuit) (scope : List ℕ) (ss : List Section) (read seen : List (Option ℕ)) (found within : Bool) (old table : List ℕ → Option (List (List ℕ))) (d : Declaration) (nets : Option (List ℕ))
+    → IsKnown circuit scope ss read found old → seen ≡ read → within ≡ is_whole_last scope (last_front seen) → nets ≡ own_meant circuit within d → declared_faults circuit within d ≡ []
+    → ((code : List ℕ) → table code ≡ with_nets old d.code nets code) → IsKnown circuit scope (ss ++ declares d ∷ []) read found table
+declares_is circuit scope ss read seen found within old table d nets k s w n f t =
+    let is : within ≡ is_at scope (scopes_behind [] ss) = w ∙ ap (λ l. is_whole_last scope (last_front l)) (s ∙ k.fronts_are) ∙ within-is scope (scopes_behind [] ss) in
+    known-declares circuit scope ss read found old table d nets k (n ∙ ap (λ b. own_meant circuit b d) is) (ap (λ b. declared_faults circuit b d) (sym is) ∙ f) t
+
+pub declares_fails : (circuit : Circuit) (scope : List ℕ) (ss : List Section) (read seen : List (Option ℕ)) (found within : Bool) (old : List ℕ → Option (List (List ℕ))) (d : Declaration) (r : Refused VcdKind)
+    → IsKnown circuit scope ss read found old → seen ≡ read → within ≡ is_whole_last scope (last_front seen) → RefusesOneOf (declared_faults circuit within d) r → RefusesOneOf (own_faults circuit scope (ss ++ declares d ∷ [])) r
+declares_fails circuit scope ss read seen found within old d r k s w h =
+    let is : within ≡ is_at scope (scopes_behind [] ss) = w ∙ ap (λ l. is_whole_last scope (last_front l)) (s ∙ k.fronts_are) ∙ within-is scope (scopes_behind [] ss) in
+    subst (λ l. RefusesOneOf l r) (sym (declared-faults circuit scope ss d))
+    (refused-right (own_faults circuit scope ss) (declared_faults circuit (is_at scope (scopes_behind [] ss)) d) r (subst (λ b. RefusesOneOf (declared_faults circuit b d) r) is h))

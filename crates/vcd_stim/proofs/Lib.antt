@@ -11,3 +11,9 @@ pub mod IndexLaws
 pub mod TimeLaws
 pub mod DigitLaws
 pub mod Refusals
+pub mod ItemLaws
+pub mod FaultLaws
+pub mod NoFaults
+pub mod AppliedLaws
+pub mod CodeLaws
+pub mod TableLaws

@@ -13,9 +13,9 @@ use Rattle.vcd_model.specs.Values.{filler, value_of, Given}
 use Rattle.vcd_stim.specs.Steps.{nets_given, pairs, put_all, Each}
 use Rattle.vcd_stim.proofs.Lists.{each-map}
 
-pub put-append : (es xs ys : List (ℕ × Value)) → put_all es (xs ++ ys) ≡ put_all (put_all es xs) ys
-put-append es [] ys = refl
-put-append es (x ∷ xs) ys = put-append (insert_entry nat_cmp es x.0 x.1) xs ys
+pub put_append : (es xs ys : List (ℕ × Value)) → put_all es (xs ++ ys) ≡ put_all (put_all es xs) ys
+put_append es [] ys = refl
+put_append es (x ∷ xs) ys = put_append (insert_entry nat_cmp es x.0 x.1) xs ys
 
 -- ---- entries as a function of the net
 
@@ -130,7 +130,7 @@ pub put_value_is : (old mid new : List (ℕ × Value)) (nets left right bits : L
 put_value_is old mid new nets left right bits f few l r e m n =
     let k : ℕ = length nets - length bits in
     let many : length left ≡ k = ap length l ∙ length-take-le k nets (omega arith) in
-    n ∙ ap (λ es. put_all es (zip right (map value_of bits))) m ∙ sym (put-append old (zip left (replicate (length left) f)) (zip right (map value_of bits)))
+    n ∙ ap (λ es. put_all es (zip right (map value_of bits))) m ∙ sym (put_append old (zip left (replicate (length left) f)) (zip right (map value_of bits)))
     ∙ ap (λ ns. put_all old (zip left (replicate (length left) f) ++ zip ns (map value_of bits))) r
     ∙ ap (λ j. put_all old (zip left (replicate j f) ++ zip (drop k nets) (map value_of bits))) many
     ∙ ap (λ ns. put_all old (zip ns (replicate k f) ++ zip (drop k nets) (map value_of bits))) l

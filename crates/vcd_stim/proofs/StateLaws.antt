@@ -1,6 +1,7 @@
 -- Steps are begun, put to, and closed at a later time.
 use Rattle.std.specs.Prelude.{ℕ, ◌+◌, ◌*◌, ◌/◌, ◌≡◌, ◌<◌, ◌≤◌, List, [], ◌∷◌, ◌++◌, map, refl}
-use Rattle.std.proofs.Common.{sym, ◌∙◌, ap, subst, arith}
+use Rattle.std.proofs.Common.{inl, inr, sym, ◌∙◌, ap, subst, arith}
+use Rattle.std.proofs.lemmas.Bool.{cases_lt}
 use Rattle.std.proofs.Math.Nat.{zero-div}
 use Rattle.std.proofs.lemmas.List.{append_assoc, append-nil, map-append}
 use Rattle.sg_stimulus.specs.Seen.{step_seen}
@@ -12,7 +13,7 @@ use Rattle.vcd_stim.specs.Steps.{pairs, put_all, step_of, Each, HasSteps}
 use Rattle.vcd_stim.specs.declared.steps.Steps.{Steps}
 use Rattle.vcd_stim.specs.declared.clock.Moment.{Moment}
 use Rattle.vcd_stim.proofs.Lists.{each-append, each-weaker}
-use Rattle.vcd_stim.proofs.PutLaws.{put-append}
+use Rattle.vcd_stim.proofs.PutLaws.{put_append}
 use Rattle.vcd_stim.proofs.StepLaws.{close-step}
 
 no-ticks : (scale : Scale) → 0 ≡ ticks scale 0
@@ -46,7 +47,7 @@ with-values scale n now gs vs old new h times m c o = record {
   past = h.past;
   present = each-append (λ g. g.time ≡ now) h.opened vs h.present times;
   moment = subst (λ x. IsMoment scale now x) (sym m) h.moment;
-  open_is = o ∙ ap (λ es. put_all es (pairs vs)) h.open_is ∙ sym (put-append [] (pairs h.opened) (pairs vs)) ∙ ap (put_all []) (sym (pairs-append h.opened vs));
+  open_is = o ∙ ap (λ es. put_all es (pairs vs)) h.open_is ∙ sym (put_append [] (pairs h.opened) (pairs vs)) ∙ ap (put_all []) (sym (pairs-append h.opened vs));
   closed_is = ap (λ v. map (λ x. step_seen x) v.items) c ∙ h.closed_is;
 }
 
@@ -79,3 +80,17 @@ at-later scale n now later gs old new h few lt m o c = record {
   open_is = o;
   closed_is = c ∙ all-closed scale n now gs old h few;
 }
+
+-- a time comes that is the same, or a later one
+pub same-time : (scale : Scale) (n now later : ℕ) (gs : List Given) (s : Steps) (m : Moment) → HasSteps scale n gs now s → IsMoment scale later m → m.number ≡ s.moment.number → HasSteps scale n gs later s
+same-time scale n now later gs s m h k e = subst (λ t. HasSteps scale n gs t s) (sym h.moment.number_is ∙ sym e ∙ k.number_is) h
+
+pub new-time : (scale : Scale) (n now later : ℕ) (gs : List Given) (old new : Steps) → HasSteps scale n gs now old → Each (λ g. g.net < n) gs → IsMoment scale later new.moment → now ≤ later → (new.moment.number ≡ old.moment.number → ⊥)
+    → new.open_sets.entries ≡ [] → map (λ x. step_seen x) new.closed.items ≡ map (λ x. step_seen x) old.closed.items ++ step_of old.moment.ticks old.open_sets.entries → HasSteps scale n gs later new
+new-time scale n now later gs old new h few k le other o c = elim (cases_lt now later) [
+  | inl lt ↦ at-later scale n now later gs old new h few lt k o c
+  | inr ge ↦ absurd (other (k.number_is ∙ same ge ∙ sym h.moment.number_is))
+]
+  where
+    same : later ≤ now → later ≡ now
+    same ge = omega (arith, ge, le)

@@ -18,7 +18,7 @@ use Rattle.vcd_stim.specs.Meant.{IsMoment}
 use Rattle.vcd_stim.specs.Steps.{pairs, put_all, step_of, Each, HasSteps}
 use Rattle.vcd_stim.specs.declared.steps.Steps.{Steps}
 use Rattle.vcd_stim.proofs.Lists.{all-kept, each-append, each-filter, each-map, each-weaker, filter-apart, map-same, none-kept, picks-same}
-use Rattle.vcd_stim.proofs.PutLaws.{open-sets, put-append}
+use Rattle.vcd_stim.proofs.PutLaws.{open-sets, put_append}
 
 -- ---- each time once
 

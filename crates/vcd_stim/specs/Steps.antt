@@ -7,8 +7,8 @@ use Rattle.sg_stimulus.specs.Seen.{step_seen}
 use Rattle.sg_stimulus.specs.Stimulus.{Step}
 use Rattle.sg_time.specs.Spelling.{number_from}
 use Rattle.vcd_form.specs.Written.{Item, instant, nothing, real, value}
-use Rattle.vcd_model.specs.declared.kinds.VcdKind.TheVariants.{WidthMismatch}
-use Rattle.vcd_model.specs.Faults.{fault_if, variable_faults, Fault, Header}
+use Rattle.vcd_model.specs.declared.kinds.VcdKind.TheVariants.{Syntax, WidthMismatch}
+use Rattle.vcd_model.specs.Faults.{fault, fault_if, variable_faults, Fault, Header}
 use Rattle.vcd_model.specs.Inputs.{input_of}
 use Rattle.vcd_model.specs.Stimulus.{steps_of}
 use Rattle.vcd_model.specs.Values.{bits_of, Given, Scale}
@@ -27,6 +27,10 @@ nets_given bits nets = zip nets (bits_of (length nets) bits)
 
 abbrev pub nets_faults : ℕ → List ℕ → List ℕ → List Fault
 nets_faults byte bits nets = fault_if (nat_lt (length nets) (length bits)) WidthMismatch byte
+
+-- a real value of some inputs
+abbrev pub reals : ℕ → List (List ℕ) → List Fault
+reals byte list = flat_map (λ nets. fault Syntax byte ∷ []) list
 
 -- a step, if it sets a net
 abbrev pub step_of : ℕ → List (ℕ × Value) → List Step

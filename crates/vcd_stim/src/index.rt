@@ -1,11 +1,11 @@
 // The nets of inputs by the codes of the variables that stand for them.
-ghost use Rattle.std.specs.Prelude.{◌≡◌, [], Some, List, ℕ, OnOk, MatchResult, option_map};
+ghost use Rattle.std.specs.Prelude.{◌≡◌, ◌++◌, [], false, Some, List, ℕ, OnOk, MatchResult, bytes_eq, option_map, option_to_list, unwrap_or};
 ghost use Rattle.sg_circuit.specs.Seen.{variable_seen};
 ghost use Rattle.stim_read.specs.Inputs.{nets_of};
 ghost use Rattle.vcd_form.specs.Seen.{declaration_seen};
 ghost use Rattle.vcd_model.specs.Faults.{variable_faults};
 ghost use Rattle.vcd_model.specs.Inputs as def;
-ghost use Rattle.vcd_stim.specs.Index.{listed, nets_meant, with_nets};
+ghost use Rattle.vcd_stim.specs.Index.{listed, nets_in, nets_meant, with_nets};
 ghost use Rattle.vcd_stim.specs.Meant.{RefusesOneOf};
 
 use crate::faults::fault;
@@ -52,6 +52,34 @@ pub fn input_nets<'c>(
     Ok(Some(nets))
 }
 
+// The nets that a code has so far are taken out.
+fn taken<'t, 'c>(
+    alloc: Global,
+    code: &'t [u8],
+    table: &mut IndexMap<&'t [u8], Vec<&'c [NetId]>>,
+) -> Vec<&'c [NetId]>
+    ensures list { nets_in result ≡ unwrap_or (listed table.old code.now) [] }
+    ensures others { (c : List ℕ) → bytes_eq code.now c ≡ false → listed table.new c ≡ listed table.old c }
+{
+    match table.swap_remove(code) {
+        Some(list) => list,
+        None => Vec::new(alloc),
+    }
+}
+
+fn push_some<'c>(
+    nets: Option<&'c [NetId]>,
+    list: &mut Vec<&'c [NetId]>,
+) -> Result<(), NoMemory>
+    ensures { OnOk result (nets_in list.new ≡ nets_in list.old ++ option_to_list (option_map (λ n. n.now) nets.entry)) }
+{
+    let Some(nets) = nets else {
+        return Ok(());
+    };
+    list.push(nets)?;
+    Ok(())
+}
+
 /// A code has these nets too, if there are some.
 pub fn add_nets<'t, 'c>(
     alloc: Global,
@@ -61,13 +89,8 @@ pub fn add_nets<'t, 'c>(
 ) -> Result<(), NoMemory>
     ensures { OnOk result ((c : List ℕ) → listed table.new c ≡ with_nets (listed table.old) code.now (option_map (λ n. n.now) nets.entry) c) }
 {
-    let mut list = match table.swap_remove(code) {
-        Some(list) => list,
-        None => Vec::new(alloc),
-    };
-    if let Some(nets) = nets {
-        list.push(nets)?;
-    }
+    let mut list = taken(alloc, code, table);
+    push_some(nets, &mut list)?;
     table.insert(code, list)?;
     Ok(())
 }

@@ -1,5 +1,5 @@
 // Times and values behind the header, one after another.
-ghost use Rattle.std.specs.Prelude.{◌≡◌, ◌<◌, ◌++◌, [], ℕ, List, MatchResult, length};
+ghost use Rattle.std.specs.Prelude.{◌≡◌, ◌<◌, ◌++◌, [], ℕ, List, MatchResult, length, map};
 ghost use Rattle.sg_time.specs.Spelling.{number_from};
 ghost use Rattle.vcd_form.specs.Written.{real, value};
 ghost use Rattle.vcd_model.specs.Values as values;
@@ -8,7 +8,7 @@ ghost use Rattle.vcd_model.specs.Faults.{item_faults, time_faults, Header};
 ghost use Rattle.vcd_model.specs.Values.{given_by, Given};
 ghost use Rattle.vcd_stim.specs.Index.{listed};
 ghost use Rattle.vcd_stim.specs.Meant.{scale_seen, RefusesOneOf};
-ghost use Rattle.vcd_stim.specs.Steps.{time_behind, Each, HasSteps, IsTableOf};
+ghost use Rattle.vcd_stim.specs.Steps.{reals, time_behind, Each, HasSteps, IsTableOf};
 
 use crate::bits::put_to_all;
 use crate::clock::moment_of;
@@ -58,6 +58,16 @@ fn add_value(
     put_to_all(byte, list, bits, &mut steps.open_sets)
 }
 
+// No input has the real value at a byte.
+fn no_input(byte: usize, list: &[&[NetId]]) -> Result<(), Refused<VcdKind>>
+    ensures { MatchResult result (λ u. reals byte (map (λ n. n.now) list.now) ≡ []) (RefusesOneOf (reals byte (map (λ n. n.now) list.now))) }
+{
+    if list.is_empty() {
+        return Ok(());
+    }
+    Err(fault(VcdKind::Syntax, byte))
+}
+
 // A real value, of which no input may have the code.
 fn pass_real(
     table: &IndexMap<&[u8], Vec<&[NetId]>>,
@@ -71,10 +81,7 @@ fn pass_real(
     let Some(list) = table.get(code) else {
         return Err(fault(VcdKind::UnknownCode, code_byte));
     };
-    if !list.is_empty() {
-        return Err(fault(VcdKind::Syntax, byte));
-    }
-    Ok(())
+    no_input(byte, list)
 }
 
 /// What an item does, or a fault of it.

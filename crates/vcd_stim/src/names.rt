@@ -4,7 +4,7 @@ ghost use Rattle.vcd_form.specs.Seen.{declaration_seen};
 ghost use Rattle.vcd_model.specs.Inputs as def;
 ghost use Rattle.vcd_stim.specs.Meant.{called_seen};
 
-use vcd_form::{Declaration, is_range};
+use vcd_form::{Declaration, is_range_text};
 
 /// A name, and its range as it is written.
 #[derive(Clone, Copy, Debug)]
@@ -46,7 +46,7 @@ fn split_name(text: &[u8]) -> Called<'_>
     ensures { called_seen result ≡ def.split_name text.now }
 {
     let (name, range) = text.split_at(front_len(text));
-    if !name.is_empty() && is_range(range) {
+    if !name.is_empty() && is_range_text(range) {
         return Called {
             name,
             range: Some(range),

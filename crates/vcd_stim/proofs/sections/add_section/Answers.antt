@@ -2,7 +2,8 @@
 use Rattle.std.proofs.Common.{◌≡◌, ◌-◌, ◌∙◌, ap, arith, length, take}
 use Rattle.std.proofs.lemmas.Result.{err_from_is_err_and}
 use Rattle.vcd_form.specs.Seen.{declaration_seen}
-use Rattle.vcd_stim.proofs.IndexLaws.{known-enters, known-leaves, known-remark, known-timescale}
+use Rattle.vcd_stim.proofs.IndexLaws.{declares_fails, declares_is, known-enters, known-leaves, known-remark, known-timescale}
+use Rattle.vcd_stim.proofs.Refusals.{exit-match}
 use Rattle.vcd_stim.proofs.sections.add_section.Goals as goal
 
 pub returns-in_ok-enter-in-Enters : goal.returns-in_ok-enter-in-Enters
@@ -19,3 +20,15 @@ returns-in-Remark c before k = rw c.in-Remark.is (known-remark c.args.inputs.now
 
 pub returns-in-Timescale : goal.returns-in-Timescale
 returns-in-Timescale c before k = rw c.in-Timescale.is (known-timescale c.args.inputs.now.circuit.now c.args.scope.now before _ _ _ _ k)
+
+pub returns-in_ok-add_nets-in-Declares : goal.returns-in_ok-add_nets-in-Declares
+returns-in_ok-add_nets-in-Declares c before k =
+    rw c.in-Declares.is
+    (declares_is c.args.inputs.now.circuit.now c.args.scope.now before _ c.deref.result.now _ c.is_within.result _ _ (declaration_seen c.in-Declares.declaration) _ k c.deref.ensures.value c.is_within.ensures
+    c.in_ok-nets-in-Declares.ensures.0 c.in_ok-nets-in-Declares.ensures.1 c.in_ok-add_nets-in-Declares.ensures)
+
+pub returns-in_err-nets-in-Declares : goal.returns-in_err-nets-in-Declares
+returns-in_err-nets-in-Declares c before k =
+    rw c.in-Declares.is
+    (exit-match _ _ c.from_residual-in_err-nets-in-Declares.result c.in_err-nets-in-Declares.field-0.0 (err_from_is_err_and c.from_residual-in_err-nets-in-Declares.result c.from_residual-in_err-nets-in-Declares.ensures.1)
+    (declares_fails c.args.inputs.now.circuit.now c.args.scope.now before _ c.deref.result.now _ c.is_within.result _ (declaration_seen c.in-Declares.declaration) c.in_err-nets-in-Declares.field-0.0 k c.deref.ensures.value c.is_within.ensures c.in_err-nets-in-Declares.ensures))
