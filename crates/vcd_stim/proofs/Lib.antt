@@ -1,6 +1,7 @@
 -- The modules of this folder.
 pub mod Lists
 pub mod PutLaws
+pub mod PutRest
 pub mod StepLaws
 pub mod ValueLaws
 pub mod InputLaws
@@ -11,6 +12,7 @@ pub mod TimeLaws
 pub mod DigitLaws
 pub mod Refusals
 pub mod ItemLaws
+pub mod StepItems
 pub mod FaultLaws
 pub mod NoFaults
 pub mod AppliedLaws
