@@ -1,5 +1,5 @@
 -- A value is put to the nets of one variable more.
-use Rattle.std.specs.Prelude.{zero, suc, ℕ, ◌-◌, ◌≡◌, ◌≤◌, List, [], ◌∷◌, ◌++◌, length, map, take, drop, flat_map, slice_index_or, refl}
+use Rattle.std.specs.Prelude.{ℕ, ◌-◌, ◌≡◌, ◌≤◌, List, [], ◌∷◌, ◌++◌, length, map, take, drop, flat_map, slice_index_or, refl}
 use Rattle.std.specs.Borrow.{Bor}
 use Rattle.std.proofs.Common.{sym, ◌∙◌, ap, arith}
 use Rattle.sg_logic.specs.declared.values.Value.{Value}
