@@ -1,5 +1,5 @@
 -- What an item does by the table of codes.
-use Rattle.std.specs.Prelude.{ℕ, ◌+◌, ◌≡◌, ◌<◌, ◌==◌, Bool, true, false, List, [], ◌∷◌, ◌++◌, length, map, flat_map, filter, Option, Some, None, Result, Ok, Err, MatchResult, refl, if◌then◌else◌}
+use Rattle.std.specs.Prelude.{ℕ, ◌≡◌, ◌==◌, Bool, true, false, List, [], ◌∷◌, ◌++◌, length, map, flat_map, filter, Option, Some, None, Result, Ok, Err, MatchResult, refl, if◌then◌else◌}
 use Rattle.std.specs.List.{list_any}
 use Rattle.std.specs.Borrow.{Bor}
 use Rattle.std.proofs.Common.{sym, ◌∙◌, ap, subst, arith}
@@ -8,7 +8,7 @@ use Rattle.sg_text.specs.declared.refusals.Refused.{Refused}
 use Rattle.vcd_form.specs.Written.{real, value}
 use Rattle.vcd_model.specs.declared.kinds.VcdKind.{VcdKind}
 use Rattle.vcd_model.specs.declared.kinds.VcdKind.TheVariants.{Syntax}
-use Rattle.vcd_model.specs.Faults.{code_faults, fault, inputs_of, item_faults, length_faults, Fault, Header}
+use Rattle.vcd_model.specs.Faults.{code_faults, fault, inputs_of, item_faults, length_faults, Header}
 use Rattle.vcd_model.specs.Values.{given_by, given_to, is_of_code, Given, Scale}
 use Rattle.vcd_stim.specs.Index.{indexed, nets_coded}
 use Rattle.vcd_stim.specs.Meant.{told, RefusesOneOf}

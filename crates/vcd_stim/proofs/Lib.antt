@@ -2,6 +2,7 @@
 pub mod Lists
 pub mod OnceLaws
 pub mod PutLaws
+pub mod PutRest
 pub mod StepLaws
 pub mod ValueLaws
 pub mod InputLaws
@@ -12,6 +13,7 @@ pub mod TimeLaws
 pub mod DigitLaws
 pub mod Refusals
 pub mod ItemLaws
+pub mod StepItems
 pub mod FaultLaws
 pub mod NoFaults
 pub mod AppliedLaws

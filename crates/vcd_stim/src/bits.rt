@@ -96,7 +96,6 @@ fn put_to(
 }
 
 /// The value at a byte is put to the nets of each variable.
-#[tactic(auto, using(crate::proofs::PutLaws::put_append))]
 pub fn put_to_all(
     byte: usize,
     list: &[&[NetId]],

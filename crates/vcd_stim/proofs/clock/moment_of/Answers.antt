@@ -1,5 +1,4 @@
 -- A time that is no whole number of ticks, or too large, is told.
-use Rattle.std.proofs.Common.{sym}
 use Rattle.vcd_stim.specs.Meant.{scale_seen}
 use Rattle.vcd_stim.proofs.Refusals.{time-refused}
 use Rattle.vcd_stim.proofs.clock.moment_of.Goals as goal
