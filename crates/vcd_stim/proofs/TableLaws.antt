@@ -14,6 +14,10 @@ key n = record { ref_ptr = (0, 0); now = n }
 abbrev pub Entries : Type 0
 Entries = List ℕ → Option (Vec (Bor (List ℕ)))
 
+-- those of other codes stay, once a code's are taken out
+pub others-stay : (code : List ℕ) (old new : Entries) → ((c : List ℕ) → new c ≡ cond (bytes_eq code c) None (old c)) → (c : List ℕ) → bytes_eq code c ≡ false → option_map nets_in (new c) ≡ option_map nets_in (old c)
+others-stay code old new up c off = ap (option_map nets_in) (up c ∙ ap (λ b. cond b None (old c)) off)
+
 -- one code's nets are set
 pub put-nets : (code : List ℕ) (nets : Option (List ℕ)) (list : Vec (Bor (List ℕ))) (before between after : Entries) (start : List (List ℕ))
     → nets_in list ≡ start ++ option_to_list nets → start ≡ unwrap_or (option_map nets_in (before code)) [] → ((c : List ℕ) → bytes_eq code c ≡ false → option_map nets_in (between c) ≡ option_map nets_in (before c))
