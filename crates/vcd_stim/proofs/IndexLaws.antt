@@ -273,8 +273,8 @@ next-fails seen xs i d circuit scope more r lt h =
         ∙ sym (map-append seen (take (i + 1) xs) (drop (i + 1) xs)) ∙ ap (map seen) (take-append-drop (i + 1) xs)
 
 pub scope-missing : {A : Type 0} (seen : A → Section) (xs : List A) (i : ℕ) (circuit : Circuit) (scope : List ℕ) (read : List (Option ℕ)) (found : Bool) (table : List ℕ → Option (List (List ℕ))) (byte : ℕ)
-    → length xs ≤ i → IsKnown circuit scope (map seen (take i xs)) read found table → not found ≡ true
+    → length xs ≤ i → IsKnown circuit scope (map seen (take i xs)) read found table → found ≡ false
     → RefusesOneOf (own_faults circuit scope (map seen xs) ++ fault_if (not (has_scope scope (map seen xs))) NoScope byte) (told NoScope byte)
 scope-missing seen xs i circuit scope read found table byte le k off =
     refused-right (own_faults circuit scope (map seen xs)) (fault_if (not (has_scope scope (map seen xs))) NoScope byte) (told NoScope byte)
-    (test-refused (not (has_scope scope (map seen xs))) NoScope byte (ap not (sym (known-all seen xs i circuit scope read found table le k).found_is) ∙ off))
+    (test-refused (not (has_scope scope (map seen xs))) NoScope byte (ap not (sym (known-all seen xs i circuit scope read found table le k).found_is ∙ off)))

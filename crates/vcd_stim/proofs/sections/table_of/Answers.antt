@@ -1,8 +1,7 @@
 -- Each section keeps to what is known of those before; at their end the scope is found.
-use Rattle.std.proofs.Common.{◌∙◌, map, take, sym, ap, subst}
+use Rattle.std.proofs.Common.{map, take, sym, subst}
 use Rattle.std.proofs.lemmas.Result.{err_from_is_err_and}
 use Rattle.vcd_form.specs.Seen.{section_seen}
-use Rattle.vcd_model.specs.declared.kinds.VcdKind.TheVariants.{NoScope}
 use Rattle.vcd_stim.specs.Meant.{RefusesOneOf}
 use Rattle.vcd_stim.proofs.IndexLaws.{known-next, next-fails, scope-missing}
 use Rattle.vcd_stim.proofs.Refusals.{exit-match}
