@@ -1,11 +1,11 @@
 -- What is known of a header, one section more.
-use Rattle.std.specs.Prelude.{ℕ, ◌<◌, ◌≤◌, ◌+◌, ◌-◌, ◌≡◌, ◌==◌, ◌&&◌, ◌||◌, nat_lt, Bool, true, false, not, cond, List, [], ◌∷◌, ◌++◌, length, map, filter, filter_map, flat_map, take, drop, option_to_list, bytes_eq, Option, Some, None, unwrap_or, slice_index_or, refl, if◌then◌else◌}
+use Rattle.std.specs.Prelude.{ℕ, ◌<◌, ◌≤◌, ◌+◌, ◌-◌, ◌≡◌, ◌||◌, Bool, true, false, not, cond, List, [], ◌∷◌, ◌++◌, length, map, filter, filter_map, flat_map, take, drop, option_to_list, bytes_eq, Option, Some, None, unwrap_or, slice_index_or, refl, if◌then◌else◌}
 use Rattle.std.specs.List.{cons_option, list_any}
-use Rattle.std.proofs.Common.{inl, inr, sym, ◌∙◌, ap, subst, arith}
-use Rattle.std.proofs.lemmas.Bool.{cases_Bool, or_parts}
+use Rattle.std.proofs.Common.{sym, ◌∙◌, ap, subst}
+use Rattle.std.proofs.lemmas.Bool.{or_parts}
 use Rattle.std.proofs.lemmas.List.{append-nil, map-append, take_all, take_more, take-append-drop}
 use Rattle.std.proofs.lemmas.List.Elements.{filter_map-append}
-use Rattle.sg_circuit.specs.Circuit.{Circuit, Variable}
+use Rattle.sg_circuit.specs.Circuit.{Circuit}
 use Rattle.vcd_form.specs.Written.{Declaration, Section, declares, enters, leaves, remark, timescale}
 use Rattle.vcd_model.specs.Faults.{fault_if, variable_faults, Fault}
 use Rattle.vcd_model.specs.Inputs.{all_declared, bare, declared, declared_at, has_scope, input_of, is_at, opens_at, own, scopes_after, with_scopes}

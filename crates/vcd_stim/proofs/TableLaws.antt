@@ -1,5 +1,5 @@
 -- A table of codes, with more nets of one code.
-use Rattle.std.specs.Prelude.{ℕ, ◌≡◌, Bool, true, false, cond, List, [], ◌∷◌, ◌++◌, map, bytes_eq, option_to_list, Option, Some, None, unwrap_or, refl, if◌then◌else◌}
+use Rattle.std.specs.Prelude.{ℕ, ◌≡◌, Bool, true, false, cond, List, [], ◌++◌, bytes_eq, option_to_list, Option, Some, None, unwrap_or, refl, if◌then◌else◌}
 use Rattle.std.specs.Borrow.{Bor}
 use Rattle.std.specs.Global.{Vec}
 use Rattle.std.specs.Option.{option_map}
