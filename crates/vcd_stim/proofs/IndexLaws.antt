@@ -1,22 +1,24 @@
 -- What is known of a header, one section more.
-use Rattle.std.specs.Prelude.{ℕ, ◌+◌, ◌-◌, ◌≡◌, ◌==◌, ◌&&◌, ◌||◌, nat_lt, Bool, true, false, not, cond, List, [], ◌∷◌, ◌++◌, length, map, filter, filter_map, flat_map, take, drop, option_to_list, bytes_eq, Option, Some, None, unwrap_or, refl, if◌then◌else◌}
+use Rattle.std.specs.Prelude.{ℕ, ◌<◌, ◌≤◌, ◌+◌, ◌-◌, ◌≡◌, ◌||◌, Bool, true, false, not, cond, List, [], ◌∷◌, ◌++◌, length, map, filter, filter_map, flat_map, take, drop, option_to_list, bytes_eq, Option, Some, None, unwrap_or, slice_index_or, refl, if◌then◌else◌}
 use Rattle.std.specs.List.{cons_option, list_any}
-use Rattle.std.proofs.Common.{inl, inr, sym, ◌∙◌, ap, subst, arith}
-use Rattle.std.proofs.lemmas.Bool.{cases_Bool, or_parts}
-use Rattle.std.proofs.lemmas.List.{append-nil}
-use Rattle.sg_circuit.specs.Circuit.{Circuit, Variable}
+use Rattle.std.proofs.Common.{sym, ◌∙◌, ap, subst}
+use Rattle.std.proofs.lemmas.Bool.{or_parts}
+use Rattle.std.proofs.lemmas.List.{append-nil, map-append, take_all, take_more, take-append-drop}
+use Rattle.std.proofs.lemmas.List.Elements.{filter_map-append}
+use Rattle.sg_circuit.specs.Circuit.{Circuit}
 use Rattle.vcd_form.specs.Written.{Declaration, Section, declares, enters, leaves, remark, timescale}
-use Rattle.vcd_model.specs.Faults.{variable_faults, Fault}
+use Rattle.vcd_model.specs.Faults.{fault_if, variable_faults, Fault}
 use Rattle.vcd_model.specs.Inputs.{all_declared, bare, declared, declared_at, has_scope, input_of, is_at, opens_at, own, scopes_after, with_scopes}
 use Rattle.vcd_model.specs.Values.{is_of_code}
 use Rattle.vcd_stim.specs.Index.{declared_faults, indexed, nets_coded, nets_meant, own_faults, scopes_behind, with_nets, IsKnown}
 use Rattle.sg_text.specs.declared.refusals.Refused.{Refused}
 use Rattle.vcd_model.specs.declared.kinds.VcdKind.{VcdKind}
-use Rattle.vcd_stim.specs.Meant.{RefusesOneOf}
+use Rattle.vcd_model.specs.declared.kinds.VcdKind.TheVariants.{NoScope}
+use Rattle.vcd_stim.specs.Meant.{told, RefusesOneOf}
 use Rattle.vcd_stim.specs.Paths.{fronts, is_whole_front, is_whole_last, last_front, next_front}
 use Rattle.vcd_stim.proofs.Lists.{filter-apart}
 use Rattle.vcd_stim.proofs.PathLaws.{opened-is, take-front, within-is}
-use Rattle.vcd_stim.proofs.Refusals.{refused-right}
+use Rattle.vcd_stim.proofs.Refusals.{refused-left, refused-right, test-refused}
 use Rattle.vcd_stim.proofs.ValueLaws.{flat-apart}
 
 -- ---- one section more
@@ -25,9 +27,9 @@ scopes-more : (scopes : List (List ℕ)) (ss : List Section) (s : Section) → s
 scopes-more scopes [] s = refl
 scopes-more scopes (t ∷ ss) s = scopes-more (scopes_after scopes t) ss s
 
-sections-more : (scopes : List (List ℕ)) (ss : List Section) (s : Section) → with_scopes scopes (ss ++ s ∷ []) ≡ with_scopes scopes ss ++ (scopes_behind scopes ss, s) ∷ []
-sections-more scopes [] s = refl
-sections-more scopes (t ∷ ss) s = ap (λ l. (scopes, t) ∷ l) (sections-more (scopes_after scopes t) ss s)
+pub scopes-apart : (scopes : List (List ℕ)) (ts rest : List Section) → with_scopes scopes (ts ++ rest) ≡ with_scopes scopes ts ++ with_scopes (scopes_behind scopes ts) rest
+scopes-apart scopes [] rest = refl
+scopes-apart scopes (t ∷ ts) rest = ap (λ l. (scopes, t) ∷ l) (scopes-apart (scopes_after scopes t) ts rest)
 
 any-more : {A : Type 0} (test : A → Bool) (xs : List A) (y : A) → list_any test (xs ++ y ∷ []) ≡ (list_any test xs || test y)
 any-more test [] y = by (test y)
@@ -55,12 +57,12 @@ picks-more f (x ∷ xs) y = one-more (f x) (filter_map f (xs ++ y ∷ [])) (filt
 
 found-more : (scope : List ℕ) (ss : List Section) (s : Section) → has_scope scope (ss ++ s ∷ []) ≡ (has_scope scope ss || opens_at scope (scopes_behind [] ss) s)
 found-more scope ss s =
-    ap (list_any (λ (p : List (List ℕ) × Section). opens_at scope p.0 p.1)) (sections-more [] ss s)
+    ap (list_any (λ (p : List (List ℕ) × Section). opens_at scope p.0 p.1)) (scopes-apart [] ss (s ∷ []))
     ∙ any-more (λ (p : List (List ℕ) × Section). opens_at scope p.0 p.1) (with_scopes [] ss) (scopes_behind [] ss, s)
 
 own-more : (scope : List ℕ) (ss : List Section) (s : Section) → own scope (ss ++ s ∷ []) ≡ own scope ss ++ option_to_list (declared_at scope (scopes_behind [] ss) s)
 own-more scope ss s =
-    ap (filter_map (λ (p : List (List ℕ) × Section). declared_at scope p.0 p.1)) (sections-more [] ss s)
+    ap (filter_map (λ (p : List (List ℕ) × Section). declared_at scope p.0 p.1)) (scopes-apart [] ss (s ∷ []))
     ∙ picks-more (λ (p : List (List ℕ) × Section). declared_at scope p.0 p.1) (with_scopes [] ss) (scopes_behind [] ss, s)
 
 all-more : (ss : List Section) (s : Section) → all_declared (ss ++ s ∷ []) ≡ all_declared ss ++ option_to_list (declared s)
@@ -230,3 +232,49 @@ declares_fails circuit scope ss read seen found within old d r k s w h =
     let is : within ≡ is_at scope (scopes_behind [] ss) = w ∙ ap (λ l. is_whole_last scope (last_front l)) (s ∙ k.fronts_are) ∙ within-is scope (scopes_behind [] ss) in
     subst (λ l. RefusesOneOf l r) (sym (declared-faults circuit scope ss d))
     (refused-right (own_faults circuit scope ss) (declared_faults circuit (is_at scope (scopes_behind [] ss)) d) r (subst (λ b. RefusesOneOf (declared_faults circuit b d) r) is h))
+
+-- ---- sections in turn
+
+-- the faults of some sections stand in more of them
+first-faults : (circuit : Circuit) (scope : List ℕ) (ts rest : List Section) (r : Refused VcdKind) → RefusesOneOf (own_faults circuit scope ts) r → RefusesOneOf (own_faults circuit scope (ts ++ rest)) r
+first-faults circuit scope ts rest r h = subst (λ l. RefusesOneOf l r) (sym apart) (refused-left (own_faults circuit scope ts) _ r h)
+  where
+    found : List (List ℕ) × Section → Option Declaration
+    found p = declared_at scope p.0 p.1
+
+    behind : List Declaration
+    behind = filter_map found (with_scopes (scopes_behind [] ts) rest)
+
+    apart : own_faults circuit scope (ts ++ rest) ≡ own_faults circuit scope ts ++ flat_map (λ d. variable_faults d (input_of circuit d)) behind
+    apart =
+        ap (flat_map (λ d. variable_faults d (input_of circuit d))) (ap (filter_map found) (scopes-apart [] ts rest) ∙ filter_map-append found (with_scopes [] ts) (with_scopes (scopes_behind [] ts) rest))
+        ∙ flat-apart (λ d. variable_faults d (input_of circuit d)) (own scope ts) behind
+
+one-taken : {A : Type 0} (seen : A → Section) (xs : List A) (i : ℕ) (d : A) → i < length xs → map seen (take (i + 1) xs) ≡ map seen (take i xs) ++ seen (slice_index_or xs i d) ∷ []
+one-taken seen xs i d lt = ap (map seen) (take_more xs i d lt) ∙ map-append seen (take i xs) (slice_index_or xs i d ∷ [])
+
+pub known-next : {A : Type 0} (seen : A → Section) (xs : List A) (i : ℕ) (d : A) (circuit : Circuit) (scope : List ℕ) (read : List (Option ℕ)) (found : Bool) (table : List ℕ → Option (List (List ℕ)))
+    → i < length xs → IsKnown circuit scope (map seen (take i xs) ++ seen (slice_index_or xs i d) ∷ []) read found table → IsKnown circuit scope (map seen (take (i + 1) xs)) read found table
+known-next seen xs i d circuit scope read found table lt k = subst (λ l. IsKnown circuit scope l read found table) (sym (one-taken seen xs i d lt)) k
+
+pub known-all : {A : Type 0} (seen : A → Section) (xs : List A) (i : ℕ) (circuit : Circuit) (scope : List ℕ) (read : List (Option ℕ)) (found : Bool) (table : List ℕ → Option (List (List ℕ)))
+    → length xs ≤ i → IsKnown circuit scope (map seen (take i xs)) read found table → IsKnown circuit scope (map seen xs) read found table
+known-all seen xs i circuit scope read found table le k = subst (λ l. IsKnown circuit scope (map seen l) read found table) (take_all i xs le) k
+
+pub next-fails : {A : Type 0} (seen : A → Section) (xs : List A) (i : ℕ) (d : A) (circuit : Circuit) (scope : List ℕ) (more : List Fault) (r : Refused VcdKind)
+    → i < length xs → RefusesOneOf (own_faults circuit scope (map seen (take i xs) ++ seen (slice_index_or xs i d) ∷ [])) r → RefusesOneOf (own_faults circuit scope (map seen xs) ++ more) r
+next-fails seen xs i d circuit scope more r lt h =
+    refused-left (own_faults circuit scope (map seen xs)) more r
+    (subst (λ l. RefusesOneOf (own_faults circuit scope l) r) whole (first-faults circuit scope (map seen (take i xs) ++ seen (slice_index_or xs i d) ∷ []) (map seen (drop (i + 1) xs)) r h))
+  where
+    whole : (map seen (take i xs) ++ seen (slice_index_or xs i d) ∷ []) ++ map seen (drop (i + 1) xs) ≡ map seen xs
+    whole =
+        ap (λ l. l ++ map seen (drop (i + 1) xs)) (sym (one-taken seen xs i d lt))
+        ∙ sym (map-append seen (take (i + 1) xs) (drop (i + 1) xs)) ∙ ap (map seen) (take-append-drop (i + 1) xs)
+
+pub scope-missing : {A : Type 0} (seen : A → Section) (xs : List A) (i : ℕ) (circuit : Circuit) (scope : List ℕ) (read : List (Option ℕ)) (found : Bool) (table : List ℕ → Option (List (List ℕ))) (byte : ℕ)
+    → length xs ≤ i → IsKnown circuit scope (map seen (take i xs)) read found table → found ≡ false
+    → RefusesOneOf (own_faults circuit scope (map seen xs) ++ fault_if (not (has_scope scope (map seen xs))) NoScope byte) (told NoScope byte)
+scope-missing seen xs i circuit scope read found table byte le k off =
+    refused-right (own_faults circuit scope (map seen xs)) (fault_if (not (has_scope scope (map seen xs))) NoScope byte) (told NoScope byte)
+    (test-refused (not (has_scope scope (map seen xs))) NoScope byte (ap not (sym (known-all seen xs i circuit scope read found table le k).found_is ∙ off)))

@@ -1,5 +1,5 @@
 -- A table of codes, with more nets of one code.
-use Rattle.std.specs.Prelude.{ℕ, ◌≡◌, Bool, true, false, cond, List, [], ◌∷◌, ◌++◌, map, bytes_eq, option_to_list, Option, Some, None, unwrap_or, refl, if◌then◌else◌}
+use Rattle.std.specs.Prelude.{ℕ, ◌≡◌, Bool, true, false, cond, List, [], ◌++◌, bytes_eq, option_to_list, Option, Some, None, unwrap_or, refl, if◌then◌else◌}
 use Rattle.std.specs.Borrow.{Bor}
 use Rattle.std.specs.Global.{Vec}
 use Rattle.std.specs.Option.{option_map}
@@ -13,6 +13,10 @@ key n = record { ref_ptr = (0, 0); now = n }
 
 abbrev pub Entries : Type 0
 Entries = List ℕ → Option (Vec (Bor (List ℕ)))
+
+-- those of other codes stay, once a code's are taken out
+pub others-stay : (code : List ℕ) (old new : Entries) → ((c : List ℕ) → new c ≡ cond (bytes_eq code c) None (old c)) → (c : List ℕ) → bytes_eq code c ≡ false → option_map nets_in (new c) ≡ option_map nets_in (old c)
+others-stay code old new up c off = ap (option_map nets_in) (up c ∙ ap (λ b. cond b None (old c)) off)
 
 -- one code's nets are set
 pub put-nets : (code : List ℕ) (nets : Option (List ℕ)) (list : Vec (Bor (List ℕ))) (before between after : Entries) (start : List (List ℕ))

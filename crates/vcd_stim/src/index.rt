@@ -19,11 +19,7 @@ use vcd_form::Declaration;
 use vcd_model::VcdKind;
 
 // The nets of an input that a variable of a width stands for, left first.
-fn nets_at<'c>(
-    width: u32,
-    range: Option<&[u8]>,
-    variable: &'c Variable,
-) -> Option<&'c [NetId]>
+fn nets_at<'c>(width: u32, range: Option<&[u8]>, variable: &'c Variable) -> Option<&'c [NetId]>
     ensures { option_map (λ nets. nets.now) result ≡ def.of_width width (nets_of (def.index_of (option_map (λ r. r.now) range.entry)) (variable_seen variable.now)) }
 {
     let nets = nets_of(variable, index_of(range))?;
@@ -67,10 +63,7 @@ fn taken<'t, 'c>(
     }
 }
 
-fn push_some<'c>(
-    nets: Option<&'c [NetId]>,
-    list: &mut Vec<&'c [NetId]>,
-) -> Result<(), NoMemory>
+fn push_some<'c>(nets: Option<&'c [NetId]>, list: &mut Vec<&'c [NetId]>) -> Result<(), NoMemory>
     ensures { OnOk result (nets_in list.new ≡ nets_in list.old ++ option_to_list (option_map (λ n. n.now) nets.entry)) }
 {
     let Some(nets) = nets else {
