@@ -6,4 +6,5 @@ pub mod RangeLaws
 pub mod StepLaws
 pub mod AllKinds
 pub mod FormExact
+pub mod HeaderLaws
 pub mod Whole

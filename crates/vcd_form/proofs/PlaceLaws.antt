@@ -136,3 +136,13 @@ next_byte text at k between blanks = elim (cases_Bool (nat_lt 0 (size_at text (a
         let l : length (drop (at + k) text) ≡ 0 = ap length (d ∙ gone) in
         let le = prefix_len-le-length is_blank bs in
         omega (arith, length-drop (at + k) text, l, length-drop at text, le, is_byte text at k blanks, between.within)
+
+-- where no word is left, all are read
+past_all : (ws : List Word) (n : ℕ) → slice_get ws n ≡ None → length ws ≤ n
+past_all [] n h = omega arith
+past_all (w ∷ ws) zero h = absurd cc
+past_all (w ∷ ws) (suc n) h = omega (arith, past_all ws n h)
+
+pub all_read : (text : List ℕ) (at : ℕ) → slice_get (words text) (read_at text at) ≡ None → read_at text at ≡ length (words text)
+unfolding read_at
+all_read text at h = omega (arith, past_all (words text) (read_at text at) h)
