@@ -9,7 +9,7 @@ ghost use Rattle.vcd_form.specs.Words.{words};
 use crate::cursor::Words;
 use crate::kinds::{WordKind, kind_of};
 use crate::sections::remark_rest;
-use crate::steps::code_from;
+use crate::steps::placed_code_from;
 use crate::word::Word;
 use crate::words::{byte_from, word_from};
 use crate::written::Item;
@@ -50,12 +50,12 @@ fn item_from<'a>(text: &'a [u8], at: usize, word: Word<'a>, next: usize) -> Resu
             Ok((Item::Value { byte, code_byte: byte, bits, code }, next))
         }
         WordKind::Vector => {
-            let (code, behind) = code_from(text, next)?;
+            let (code, behind) = placed_code_from(text, next)?;
             let bits = behind_first(word.bytes);
             Ok((Item::Value { byte, code_byte: code.byte, bits, code: code.bytes }, behind))
         }
         WordKind::Real => {
-            let (code, behind) = code_from(text, next)?;
+            let (code, behind) = placed_code_from(text, next)?;
             Ok((Item::Real { byte, code_byte: code.byte, code: code.bytes }, behind))
         }
         _ => Err(at),

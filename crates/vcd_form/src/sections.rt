@@ -96,7 +96,7 @@ fn variable_rest<'a>(text: &'a [u8], byte: usize, at: usize) -> Result<(Declarat
     let (code, next) = code_from(text, next)?;
     let (name, next) = any_from(text, next)?;
     let (range, next) = range_rest(text, next)?;
-    Ok((Declaration { byte, width, code: code.bytes, name, range }, next))
+    Ok((Declaration { byte, width, code, name, range }, next))
 }
 
 // The section that begins with a word.
