@@ -108,3 +108,15 @@ section_fails text items came n (faults.At at) h so_far = (fails text items came
 pub start_stops : (text : List ℕ) (items : List Section) (came : Came) (n : ℕ) (e : ReadFault) → stands kind_of section_starts (words text) n ≡ false → StartAt text n (Err e) → left (words text) items came n ≡ header.read (words text) 0 → HeaderGoes text (Err e)
 start_stops text items came n faults.Memory none h so_far = tt
 start_stops text items came n (faults.At at) none h so_far = (start_fails text items came n (read_at text at) none h.0 so_far, h.1)
+
+pub variable_found : (text : List ℕ) (at next : ℕ) (w : Word) (came : Came) (d : Declaration) (behind : ℕ) → slice_get (words text) (read_at text at) ≡ Some w → read_at text next ≡ read_at text at + 1 → var_kind ≡ kind_of w
+    → (variable_behind w.byte).read (words text) (read_at text next) ≡ Ok (d, read_at text behind) → (section_of came).read (words text) (read_at text at) ≡ Ok (declares d, read_at text behind)
+variable_found text at next w came d behind stands step is h =
+    variable_is (words text) (read_at text at) w came stands (sym is)
+    ∙ (ap (λ (m : ℕ). (variable_behind w.byte).read (words text) m >>= declared) (sym step) ∙ ap (λ (r : Result (Declaration × ℕ) ℕ). r >>= declared) h)
+
+pub variable_fails : (text : List ℕ) (at next : ℕ) (w : Word) (came : Came) (e : ℕ) → slice_get (words text) (read_at text at) ≡ Some w → read_at text next ≡ read_at text at + 1 → var_kind ≡ kind_of w
+    → (variable_behind w.byte).read (words text) (read_at text next) ≡ Err e → (section_of came).read (words text) (read_at text at) ≡ Err e
+variable_fails text at next w came e stands step is h =
+    variable_is (words text) (read_at text at) w came stands (sym is)
+    ∙ (ap (λ (m : ℕ). (variable_behind w.byte).read (words text) m >>= declared) (sym step) ∙ ap (λ (r : Result (Declaration × ℕ) ℕ). r >>= declared) h)

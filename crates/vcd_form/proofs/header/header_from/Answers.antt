@@ -1,5 +1,5 @@
 -- One section more, and the end of the header.
-use Rattle.std.proofs.Common.{arith, ap, length, length-append}
+use Rattle.std.proofs.Common.{arith, ap, length, length-append, [], ◌∷◌}
 use Rattle.vcd_form.specs.Places.{read_at}
 use Rattle.vcd_form.specs.Seen.{came_seen}
 use Rattle.vcd_form.specs.Words.{words}
@@ -21,5 +21,5 @@ more-preserved c =
     record {
       completes = kept (words c.args.text.now) c.more.sections.items _ (came_seen c.more.came) _ (read_at c.args.text.now c.more.at) c.in-Some.section (read_at c.args.text.now c.in-Some.next) c.in_ok-push.ensures.items c.came_after-came.ensures.came step.0 step.1 c.more.invariant.completes;
       between = step.2;
-      few = omega (arith, c.came_after-came.ensures.few, c.more.invariant.few, ap length c.in_ok-push.ensures.items, length-append c.more.sections.items _);
+      few = omega (arith, c.came_after-came.ensures.few, c.more.invariant.few, ap length c.in_ok-push.ensures.items, length-append c.more.sections.items (c.in-Some.section ∷ []));
     }
