@@ -1,6 +1,6 @@
 -- The header, section after section.
 use Rattle.std.proofs.Common.{◌≡◌, ℕ, ◌+◌, ◌-◌, ◌<◌, true, false, List, [], ◌∷◌, ◌++◌, length, map, Result, Ok, Err, refl, sym, ap, ◌∙◌, subst}
-use Rattle.std.specs.Prelude.{Bool, Option, Some, not, nat_lt, slice_get}
+use Rattle.std.specs.Prelude.{Bool, Option, Some, None, not, nat_lt, slice_get}
 use Rattle.grammar.specs.Placed.{read_place}
 use Rattle.grammar.specs.Reading.{◌>>=◌}
 use Rattle.grammar.specs.Rule.{stands}
@@ -100,6 +100,9 @@ pub kept : (ws : List Word) (items after : List Section) (came then : Came) (n :
     → left ws items came n ≡ header.read ws 0 → left ws after then m ≡ header.read ws 0
 kept ws items after came then n x m e f does h so_far =
     ap (λ (xs : List Section). left ws xs then m) e ∙ (ap (λ (c : Came). left ws (items ++ x ∷ []) c m) f ∙ goes_on ws items came n x m does h so_far)
+
+pub none_stands : (text : List ℕ) (came : Came) (n : ℕ) (o : Option (Section × ℕ)) → o ≡ None → SectionAt text came n (Ok o) → stands kind_of section_starts (words text) n ≡ false
+none_stands text came n o e h = subst (λ (p : Option (Section × ℕ)). SectionAt text came n (Ok p)) e h
 
 pub section_fails : (text : List ℕ) (items : List Section) (came : Came) (n : ℕ) (e : ReadFault) → SectionAt text came n (Err e) → left (words text) items came n ≡ header.read (words text) 0 → HeaderGoes text (Err e)
 section_fails text items came n faults.Memory h so_far = tt
