@@ -8,3 +8,4 @@ pub mod AllKinds
 pub mod FormExact
 pub mod HeaderLaws
 pub mod Whole
+mod Examples
