@@ -1,5 +1,5 @@
 -- Worked examples of dumps.
-use Rattle.std.specs.Prelude.{◌≡◌, ℕ, [], ◌∷◌, ◌++◌, List, pos, negsuc, codes, refl, Some, None, Ok, Err}
+use Rattle.std.specs.Prelude.{◌≡◌, ℕ, [], ◌∷◌, ◌++◌, List, negsuc, codes, refl, Some, Ok, Err}
 use Rattle.grammar.specs.Rule.{read_all, read_up_to}
 use Rattle.grammar.specs.States.{read_by}
 use Rattle.vcd_form.specs.Rules.{dump, body_parts, item_parts, power_parts, remark_rest, remark_parts, scope_parts, section_parts, start_parts, timescale_parts, upscope_parts, variable_parts}

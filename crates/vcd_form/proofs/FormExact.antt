@@ -1,7 +1,6 @@
 -- The grammar of dumps is read exactly.
-use Rattle.std.proofs.Common.{◌≡◌, Bool, true, false, List, refl}
+use Rattle.std.proofs.Common.{◌≡◌, Bool, true, false, refl}
 use Rattle.std.specs.Prelude.{◌&&◌, not, nat_lt, is_some}
-use Rattle.std.proofs.lemmas.Bool.{and_parts}
 use Rattle.grammar.specs.Exact.{Exact, Apart, IsWithin}
 use Rattle.grammar.specs.Rule as rule
 use Rattle.grammar.specs.Rule.{◌∙∙◌, ◌▸◌, ◌◂◌, no_kind, only_if}
