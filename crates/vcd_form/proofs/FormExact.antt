@@ -1,7 +1,6 @@
 -- The grammar of dumps is read exactly.
-use Rattle.std.proofs.Common.{◌≡◌, Bool, true, false, List, refl}
+use Rattle.std.proofs.Common.{◌≡◌, Bool, true, false, refl}
 use Rattle.std.specs.Prelude.{◌&&◌, not, nat_lt, is_some}
-use Rattle.std.proofs.lemmas.Bool.{and_parts}
 use Rattle.grammar.specs.Exact.{Exact, Apart, IsWithin}
 use Rattle.grammar.specs.Rule as rule
 use Rattle.grammar.specs.Rule.{◌∙∙◌, ◌▸◌, ◌◂◌, no_kind, only_if}
@@ -94,7 +93,7 @@ variable-exact =
     called _ _ (made _ (with_place (behind (the_mark is_var) rest (closed _)) refl)) refl (same _) (is_within _ _ (λ _. refl))
 
 -- the sections, where a timescale may come or not, and a scope may be left or not
-abbrev sections : Bool → Bool → Grammar Section
+abbrev pub sections : Bool → Bool → Grammar Section
 sections may left =
     either (rule.mapped (λ u. remark) (remark_of is_remark)) (either (only_if may (rule.mapped timescale timescale_section))
     (either (rule.mapped enters scope_section) (either (only_if left (rule.mapped (λ u. leaves) upscope_section)) (rule.mapped declares variable_section))))

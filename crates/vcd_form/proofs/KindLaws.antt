@@ -1,9 +1,9 @@
 -- What is asked of a word's kind is asked of its text.
-use Rattle.std.proofs.Common.{◌≡◌, ℕ, Bool, true, false, List, [], ◌∷◌, refl, sym, ap, ◌∙◌, subst, inl, inr}
+use Rattle.std.proofs.Common.{◌≡◌, ℕ, Bool, true, false, List, [], ◌∷◌, refl, sym, ◌∙◌, subst, inl, inr}
 use Rattle.std.specs.Prelude.{◌&&◌, ◌||◌, ◌==◌, not, is_some, bytes_eq, codes, if◌then◌else◌}
 use Rattle.std.proofs.lemmas.Bool.{cases_Bool, eqb-true, or_cases}
 use Rattle.std.proofs.lemmas.Slice.Eq.{bytes_eq-Decides}
-use Rattle.vcd_form.specs.Kinds.{begins_keyword, kind_of_text, value_kind_of, is_end, is_any, is_code, is_code_text, is_range, is_range_text, ends_in_bracket, is_width, is_width_text, is_time_text, is_scalar_text, is_vector_text, is_real_text, is_scale, is_unit, is_joined, has_text, scale_power, unit_power, joined_power, Kind, remark_kind, comment_kind, timescale_kind, scope_kind, upscope_kind, var_kind, definitions_kind, dump_kind, end_kind, time_kind, scalar_kind, vector_kind, real_kind, other_kind}
+use Rattle.vcd_form.specs.Kinds.{begins_keyword, kind_of_text, value_kind_of, is_end, is_code, is_code_text, is_range, is_range_text, is_width, is_width_text, is_time_text, is_scalar_text, is_vector_text, is_real_text, is_scale, is_unit, is_joined, has_text, scale_power, unit_power, joined_power, Kind, remark_kind, comment_kind, timescale_kind, scope_kind, upscope_kind, var_kind, definitions_kind, dump_kind, end_kind, time_kind, scalar_kind, vector_kind, real_kind, other_kind}
 
 -- ---- what holds of each kind that a text may have
 

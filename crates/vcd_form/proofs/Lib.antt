@@ -6,4 +6,6 @@ pub mod RangeLaws
 pub mod StepLaws
 pub mod AllKinds
 pub mod FormExact
+pub mod HeaderLaws
 pub mod Whole
+mod Examples

@@ -1,6 +1,6 @@
 -- Places between words, and what is read up to them.
-use Rattle.std.proofs.Common.{◌≡◌, ℕ, zero, suc, ◌+◌, ◌-◌, ◌<◌, ◌≤◌, List, [], ◌∷◌, length, take, drop, refl, sym, ap, ◌∙◌, subst, arith, length-drop, nat_lt, inl, inr, ap₂}
-use Rattle.std.specs.Prelude.{not, Option, Some, None, slice_get}
+use Rattle.std.proofs.Common.{◌≡◌, ℕ, zero, suc, ◌+◌, ◌-◌, ◌<◌, ◌≤◌, List, [], ◌∷◌, length, take, drop, refl, sym, ap, ◌∙◌, arith, length-drop, nat_lt, inl, inr, ap₂}
+use Rattle.std.specs.Prelude.{not, Some, None, slice_get}
 use Rattle.std.specs.List.{prefix_len}
 use Rattle.std.proofs.lemmas.Bool.{cases_Bool, ltb-true, ltb-false}
 use Rattle.std.proofs.lemmas.List.{drop-drop, take_all}
@@ -70,9 +70,11 @@ read_word text at behind w b e within =
     let rest = b.left ∙ e in
     let l : length (left_at text at) ≡ suc (length (left_at text behind)) = ap length e in
     let more : read_at text behind ≡ read_at text at + 1 = omega (arith, fits text at b) in
-    let next : read_at text behind ≡ suc (read_at text at) = omega (arith, fits text at b) in
-    (slice_get-drop (words text) (read_at text at) w (left_at text behind) rest, more,
-     record { within = within; left = ap (λ n. drop n (words text)) next ∙ drop-more (words text) (read_at text at) w (left_at text behind) rest })
+    let next : read_at text behind ≡ suc (read_at text at) = omega (arith, fits text at b) in (
+      slice_get-drop (words text) (read_at text at) w (left_at text behind) rest,
+      more,
+      record { within = within; left = ap (λ n. drop n (words text)) next ∙ drop-more (words text) (read_at text at) w (left_at text behind) rest },
+    )
 
 pub read_first : (text : List ℕ) → read_at text 0 ≡ 0
 unfolding read_at
@@ -136,3 +138,13 @@ next_byte text at k between blanks = elim (cases_Bool (nat_lt 0 (size_at text (a
         let l : length (drop (at + k) text) ≡ 0 = ap length (d ∙ gone) in
         let le = prefix_len-le-length is_blank bs in
         omega (arith, length-drop (at + k) text, l, length-drop at text, le, is_byte text at k blanks, between.within)
+
+-- where no word is left, all are read
+past_all : (ws : List Word) (n : ℕ) → slice_get ws n ≡ None → length ws ≤ n
+past_all [] n h = omega arith
+past_all (w ∷ ws) zero h = absurd cc
+past_all (w ∷ ws) (suc n) h = omega (arith, past_all ws n h)
+
+pub all_read : (text : List ℕ) (at : ℕ) → slice_get (words text) (read_at text at) ≡ None → read_at text at ≡ length (words text)
+unfolding read_at
+all_read text at h = omega (arith, past_all (words text) (read_at text at) h)

@@ -1,5 +1,5 @@
 -- Ranges by their last byte, and the numbers of a few digits.
-use Rattle.std.proofs.Common.{◌≡◌, ◌≢◌, ℕ, ◌+◌, ◌*◌, ◌^◌, ◌<◌, ◌≤◌, true, false, List, [], ◌∷◌, ◌++◌, length, reverse, refl, sym, ap, ◌∙◌, arith, inl, inr}
+use Rattle.std.proofs.Common.{◌≡◌, ◌≢◌, ℕ, ◌+◌, ◌-◌, get_or, ◌*◌, ◌^◌, ◌<◌, ◌≤◌, true, false, List, [], ◌∷◌, ◌++◌, length, reverse, refl, sym, ap, ◌∙◌, arith, inl, inr}
 use Rattle.std.specs.Prelude.{◌&&◌, ◌==◌, nat_le, nat_lt}
 use Rattle.std.specs.Char.{is_ascii_digit}
 use Rattle.std.specs.List.{list_all}
@@ -7,7 +7,7 @@ use Rattle.std.proofs.Math.Nat.{pow-le-pow_right}
 use Rattle.std.proofs.lemmas.Bool.{and_parts, cases_Bool, eqb-true, leb-true}
 use Rattle.std.proofs.lemmas.List.{reverse-append, reverse-reverse}
 use Rattle.sg_time.specs.Spelling.{number_from}
-use Rattle.sg_time.proofs.Digits.{upper}
+use Rattle.sg_time.proofs.Digits.{le-number_from, upper}
 use Rattle.vcd_form.specs.Kinds.{are_digits, ends_in_bracket, is_inside}
 
 pub bracket_ends : (text front : List ℕ) → text ≡ front ++ 93 ∷ [] → is_inside front ≡ ends_in_bracket (reverse text)
@@ -35,3 +35,7 @@ few_are_small text h =
     let few = leb-true (length text) 9 parts.1 in
     let size : 10 ^ length text ≤ 10 ^ 9 = pow-le-pow_right (omega arith) few in
     omega (arith, upper 0 text digits, size)
+
+pub first_digit : (n : ℕ) (digits : List ℕ) → 1 ≤ length digits → n * 10 + (get_or digits 0 0 - 48) ≤ number_from n digits
+first_digit n [] some = absurd (omega arith)
+first_digit n (d ∷ ds) some = le-number_from (n * 10 + (d - 48)) ds

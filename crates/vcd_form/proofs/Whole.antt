@@ -1,17 +1,15 @@
 -- A dump read piece by piece: what its header and its items say of the whole text.
-use Rattle.std.proofs.Common.{◌≡◌, ℕ, suc, ◌+◌, ◌<◌, ◌≤◌, Bool, true, false, List, [], ◌∷◌, ◌++◌, length, Option, Some, None, Result, Ok, Err, refl, sym, ap, ◌∙◌, subst, arith, inl, inr, append_assoc}
-use Rattle.std.specs.Prelude.{◌⊎◌, ◌==◌, if◌then◌else◌, slice_get}
+use Rattle.std.proofs.Common.{◌≡◌, ℕ, suc, ◌+◌, ◌<◌, true, false, List, [], ◌∷◌, ◌++◌, length, Option, Some, None, Result, Ok, Err, refl, sym, ap, ◌∙◌, subst, arith, inl, inr}
+use Rattle.std.specs.Prelude.{◌==◌, if◌then◌else◌, slice_get}
 use Rattle.std.proofs.lemmas.Bool.{cases_Bool, both_ways, eqb-true}
-use Rattle.std.proofs.lemmas.List.{append-nil}
 use Rattle.std.proofs.lemmas.Option.{slice_get_past}
 use Rattle.grammar.specs.Exact.{Apart}
 use Rattle.grammar.specs.Language.{SpellsMany, SpellsOptional}
 use Rattle.grammar.specs.Reading.{◌>>=◌}
-use Rattle.grammar.specs.Reads.{FailsAt}
 use Rattle.grammar.specs.Rule.{◌∙∙◌, read_all, read_many, stands}
 use Rattle.grammar.specs.States.{SpellsBy}
 use Rattle.grammar.specs.declared.ReadFault.TheVariants as faults
-use Rattle.grammar.proofs.Extents.{starts_later, starts_so}
+use Rattle.grammar.proofs.Extents.{starts_so}
 use Rattle.grammar.proofs.Laws.{all_failed, from_again, one_from, one_value}
 use Rattle.grammar.proofs.Loops.{loop_ends, loop_fails, loop_goes_on}
 use Rattle.grammar.proofs.Results.{bind_err, bind_ok, pair_is}
@@ -21,7 +19,7 @@ use Rattle.vcd_form.specs.Rules.{body, body_parts, came_after, came_first, dump,
 use Rattle.vcd_form.specs.Words.{Word}
 use Rattle.vcd_form.specs.Written.{Front, Item, Section}
 use Rattle.vcd_form.proofs.AllKinds.{apart}
-use Rattle.vcd_form.proofs.FormExact.{begun-exact, dump-exact, header-exact, item-exact, section-exact, start-exact}
+use Rattle.vcd_form.proofs.FormExact.{begun-exact, dump-exact, item-exact, section-exact, start-exact}
 
 abbrev pub Begun : List Word → List Section → ℕ → ℕ → Type 0
 Begun ws ss b m = (header ∙∙ start).read ws 0 ≡ Ok ((ss, b), m)
@@ -101,7 +99,7 @@ read_begun ws ss b m h =
     let c = starts_same x.0.0 ss y.0.0 b y.0.1 m y.2 in
     let k = ends_same x.0.0 ss y.0.0 b y.0.1 m y.2 in
     let moved : (read_many kind_of item ws y.0.1 >>= finished ws x.0.0 y.0.0) ≡ (read_many kind_of item ws m >>= finished ws ss b) =
-      ap (λ (n : ℕ). read_many kind_of item ws n >>= finished ws x.0.0 y.0.0) k ∙ (ap (λ (t : List Section). read_many kind_of item ws m >>= finished ws t y.0.0) s ∙ ap (λ (d : ℕ). read_many kind_of item ws m >>= finished ws ss d) c)
+    ap (λ (n : ℕ). read_many kind_of item ws n >>= finished ws x.0.0 y.0.0) k ∙ (ap (λ (t : List Section). read_many kind_of item ws m >>= finished ws t y.0.0) s ∙ ap (λ (d : ℕ). read_many kind_of item ws m >>= finished ws ss d) c)
     in
     rw (x.1, y.1) (chain ws x.0.0 y.0.0 (read_many kind_of item ws y.0.1) ∙ moved)
 

@@ -1,5 +1,5 @@
 -- The words of a text from a place on, one after another.
-use Rattle.std.proofs.Common.{◌≡◌, ℕ, zero, suc, ◌+◌, ◌-◌, ◌<◌, ◌≤◌, Bool, true, false, List, [], ◌∷◌, length, take, drop, refl, sym, ap, ◌∙◌, subst, arith, inl, inr, nat_lt}
+use Rattle.std.proofs.Common.{◌≡◌, ℕ, suc, ◌+◌, ◌<◌, Bool, true, List, [], ◌∷◌, length, take, drop, refl, sym, ap, ◌∙◌, arith, inl, inr, nat_lt}
 use Rattle.std.specs.Prelude.{not, filter}
 use Rattle.std.specs.List.{prefix_len, slice_split, onto_first}
 use Rattle.std.proofs.lemmas.Bool.{cases_Bool, lt-ltb}
@@ -73,7 +73,7 @@ word_first bs start some =
     let n : length (take p bs) ≡ p = length-prefix_len is_inner bs in
     let has : nat_lt 0 (length (take p bs)) ≡ true = lt-ltb 0 (length (take p bs)) (omega arith) in
     let rest : kept (suc (start + length (take p bs))) (rows_behind (drop p bs)) ≡ words_from (start + p) (drop p bs) =
-      ap (λ m. kept (suc (start + m)) (rows_behind (drop p bs))) n ∙ rows_left (drop p bs) (start + p) (stops bs)
+    ap (λ m. kept (suc (start + m)) (rows_behind (drop p bs))) n ∙ rows_left (drop p bs) (start + p) (stops bs)
     in
     ap (kept start) (first_row bs) ∙ rw has (ap (λ (ws : List Word). record { byte = start; bytes = take p bs } ∷ ws) rest)
 

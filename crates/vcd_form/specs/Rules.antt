@@ -1,5 +1,5 @@
 -- The grammar of dumps (IEEE 1364-2005, 18.2.1 to 18.2.3).
-use Rattle.std.specs.Prelude.{ℕ, ℤ, zero, suc, pos, ◌+ℤ◌, Bool, true, false, ◌&&◌, ◌||◌, not, nat_lt, List, [], ◌∷◌, drop, take, Option, Some, None, unwrap_or}
+use Rattle.std.specs.Prelude.{ℕ, ℤ, zero, suc, pos, ◌+ℤ◌, Bool, true, false, ◌||◌, not, nat_lt, List, drop, take, Option, Some, unwrap_or}
 use Rattle.sg_time.specs.Spelling.{number_from}
 use Rattle.grammar.specs.Placed as places
 use Rattle.grammar.specs.Rule as rule

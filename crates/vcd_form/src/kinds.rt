@@ -201,7 +201,12 @@ pub fn begins_section(text: &[u8]) -> bool
 {
     matches!(
         kind_of(text),
-        WordKind::Remark | WordKind::Comment | WordKind::Timescale | WordKind::Scope | WordKind::Upscope | WordKind::Var
+        WordKind::Remark
+            | WordKind::Comment
+            | WordKind::Timescale
+            | WordKind::Scope
+            | WordKind::Upscope
+            | WordKind::Var
     )
 }
 

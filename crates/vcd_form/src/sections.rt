@@ -87,7 +87,11 @@ fn range_rest<'a>(text: &'a [u8], at: usize) -> Result<(Option<&'a [u8]>, usize)
 }
 
 // What stands behind a `$var` at a byte.
-fn variable_rest<'a>(text: &'a [u8], byte: usize, at: usize) -> Result<(Declaration<'a>, usize), usize>
+fn variable_rest<'a>(
+    text: &'a [u8],
+    byte: usize,
+    at: usize,
+) -> Result<(Declaration<'a>, usize), usize>
     requires { IsBetween text.now at }
     ensures { Goes text.now (λ y. declaration_seen y.0) (λ y. y.1) result ((rules.variable_behind byte).read (words text.now) (read_at text.now at)) }
 {
@@ -96,15 +100,27 @@ fn variable_rest<'a>(text: &'a [u8], byte: usize, at: usize) -> Result<(Declarat
     let (code, next) = code_from(text, next)?;
     let (name, next) = any_from(text, next)?;
     let (range, next) = range_rest(text, next)?;
-    Ok((Declaration { byte, width, code: code.bytes, name, range }, next))
+    Ok((
+        Declaration {
+            byte,
+            width,
+            code,
+            name,
+            range,
+        },
+        next,
+    ))
 }
 
 // The section that begins with a word.
-#[tactic(
-    auto,
-    unfolding(crate::specs::Rules::section_parts, crate::specs::Rules::remark_parts, crate::specs::Rules::timescale_parts, crate::specs::Rules::scope_parts, crate::specs::Rules::upscope_parts, crate::specs::Rules::variable_parts)
-)]
-fn section_from<'a>(text: &'a [u8], at: usize, came: Came, word: Word<'a>, next: usize) -> Result<(Section<'a>, usize), usize>
+#[tactic(auto, unfolding(crate::specs::Rules::section_parts, crate::specs::Rules::remark_parts, crate::specs::Rules::timescale_parts, crate::specs::Rules::scope_parts, crate::specs::Rules::upscope_parts, crate::specs::Rules::variable_parts))]
+fn section_from<'a>(
+    text: &'a [u8],
+    at: usize,
+    came: Came,
+    word: Word<'a>,
+    next: usize,
+) -> Result<(Section<'a>, usize), usize>
     requires place { IsBetween text.now at }
     requires word { WordAt text.now (read_at text.now at) (Some (word, next)) }
     ensures { Goes text.now (λ y. section_seen y.0) (λ y. y.1) result ((rules.section_of (came_seen came)).read (words text.now) (read_at text.now at)) }
@@ -135,7 +151,11 @@ fn section_from<'a>(text: &'a [u8], at: usize, came: Came, word: Word<'a>, next:
 }
 
 /// The next section, if one begins.
-pub fn section_at<'a>(text: &'a [u8], at: usize, came: Came) -> Result<Option<(Section<'a>, usize)>, ReadFault>
+pub fn section_at<'a>(
+    text: &'a [u8],
+    at: usize,
+    came: Came,
+) -> Result<Option<(Section<'a>, usize)>, ReadFault>
     requires { IsBetween text.now at }
     ensures { SectionAt text.now (came_seen came) (read_at text.now at) result }
 {

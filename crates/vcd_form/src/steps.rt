@@ -39,7 +39,21 @@ pub fn any_from<'a>(text: &'a [u8], at: usize) -> Result<(&'a [u8], usize), usiz
     Ok((word.bytes, next))
 }
 
-pub fn code_from<'a>(text: &'a [u8], at: usize) -> Result<(Word<'a>, usize), usize>
+pub fn code_from<'a>(text: &'a [u8], at: usize) -> Result<(&'a [u8], usize), usize>
+    requires { IsBetween text.now at }
+    ensures { Goes text.now (λ y. y.0.now) (λ y. y.1) result ((rules.text def.is_code).read (words text.now) (read_at text.now at)) }
+{
+    let Some((word, next)) = word_from(text, at) else {
+        return Err(at);
+    };
+    if !is_own_code(word.bytes) {
+        return Err(at);
+    }
+    Ok((word.bytes, next))
+}
+
+// A code with its place.
+pub fn placed_code_from<'a>(text: &'a [u8], at: usize) -> Result<(Word<'a>, usize), usize>
     requires { IsBetween text.now at }
     ensures { Goes text.now (λ y. (y.0.byte, y.0.bytes.now)) (λ y. y.1) result ((rules.placed (rules.text def.is_code)).read (words text.now) (read_at text.now at)) }
 {

@@ -1,6 +1,5 @@
 -- A remark, word by word.
 use Rattle.std.proofs.Common.{sym}
-use Rattle.vcd_form.specs.Seen.{word_seen}
 use Rattle.vcd_form.proofs.StepLaws.{remark_ends, remark_more, word_taken}
 use Rattle.vcd_form.proofs.sections.remark_rest.Goals as goal
 
