@@ -3,10 +3,10 @@ use Rattle.std.proofs.Common.{refl, ◌≡◌, sym, subst, lit<, arith, Result, 
 use Rattle.std.proofs.lemmas.List.Elements.{Contains-append_left, Contains-append_right}
 use Rattle.std.specs.Option.{option_to_list}
 use Rattle.std.specs.Prelude.{Ok, Err, Option, Some, Contains}
-use Rattle.sg_io.specs.Files.{File}
+use Rattle.sg_io.specs.Files.{File, bytes_of}
 use Rattle.sg_circuit.specs.Circuit.{Circuit}
 use Rattle.run_words.specs.Words.{Command, command_of, file_of, names_in}
-use Rattle.signoff_top.specs.Phases.{Annotated, Refusal, Then, stops, goes_on, AnnotatedOutcome, CircuitOutcome}
+use Rattle.signoff_top.specs.Phases.{Annotated, Refusal, Then, stops, goes_on, AnnotatedOutcome, CircuitOutcome, FileOutcome}
 use Rattle.signoff_top.specs.Promises.{FaultAt, at_netlist, at_sdf, at_stimulus, NamesFaultAt}
 use Rattle.signoff_top.specs.Stops.{FailsAtGiven, FailsAtOne, Gives, IfFailed, IfOutcome, refusal_seen}
 use Rattle.signoff_top.specs.declared.stop.Stop as code_stop
@@ -44,6 +44,11 @@ gives_again {X} {Y} {A} {view} {whole} {phase} {s} h = record { outcome = stop_a
 pub gives_then : {X Y A B : Type 0} {view : X → A} {whole : Y → B} {first : Result A Refusal → Type 0} {next : A → Result B Refusal → Type 0} {x : X} {o : Result Y code_stop.Stop}
     → Gives view first (Ok x) → Gives whole (next (view x)) o → Gives whole (Then first next) o
 gives_then {X} {Y} {A} {B} {view} {whole} {first} {next} {x} {o} h k = record { outcome = then_outcome whole first next (view x) o h.outcome k.outcome }
+
+-- a file that is read has this name too
+pub file_given : {X : Type 0} {view : X → List ℕ} {r : Result X code_stop.Stop} (name other : List ℕ) (files : List File) → name ≡ other
+    → Gives view (FileOutcome name (bytes_of name files)) r → Gives view (FileOutcome other (bytes_of other files)) r
+file_given {X} {view} {r} name other files e g = subst (λ n. Gives view (FileOutcome n (bytes_of n files)) r) e g
 
 pub failed_again : (X Y : Type 0) (P Q : Type 0) (s : code_stop.Stop) → (P → Q) → IfFailed {X = X} P (Err s) → IfFailed {X = Y} Q (Err s)
 failed_again X Y P Q (stop.Refused r) f h = tt
