@@ -12,7 +12,10 @@ pub mod DigitLaws
 pub mod Refusals
 pub mod ItemLaws
 pub mod FaultLaws
+pub mod ReadingLaws
 pub mod NoFaults
 pub mod AppliedLaws
+pub mod EndLaws
 pub mod CodeLaws
 pub mod TableLaws
+pub mod OnceLaws

@@ -91,7 +91,7 @@ pub fn read_vcd(
     alloc: Global,
     bytes: &[u8],
     circuit: &Circuit,
-    scope: &str,
+    scope: &[u8],
 ) -> Result<Stimulus, Refused<VcdKind>>
     ensures read { IfOk result (λ s. IsRead bytes.now circuit.now scope.now (stimulus_seen s)) }
     ensures refused { IfErr result (λ r. RefusalStands bytes.now circuit.now scope.now r) }
@@ -103,7 +103,7 @@ pub fn read_vcd(
     let mut words = Words::new(bytes);
     let (sections, definitions) = header_of(alloc, &mut words)?;
     let inputs = Inputs::of(alloc, circuit)?;
-    let table = table_of(alloc, &inputs, scope.as_bytes(), definitions, &sections)?;
+    let table = table_of(alloc, &inputs, scope, definitions, &sections)?;
     let scale = Scale {
         unit: unit_of(&sections),
         tick: circuit.parts().tick.power,
