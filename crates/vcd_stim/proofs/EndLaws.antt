@@ -1,6 +1,6 @@
 -- What the reading of the items says of the whole dump.
-use Rattle.std.specs.Prelude.{ℕ, ℤ, ◌≡◌, ◌≤◌, length, negsuc, true, List, [], map, flat_map, Result, Ok, Err, MatchResult, IfOk, IfErr, Option, not, ◌++◌, refl}
-use Rattle.std.proofs.Common.{sym, ◌∙◌, ap, subst}
+use Rattle.std.specs.Prelude.{ℕ, ◌≡◌, ◌≤◌, length, true, List, [], Result, Ok, Err, MatchResult, IfOk, IfErr, Option, not, ◌++◌}
+use Rattle.std.proofs.Common.{sym, subst}
 use Rattle.sg_circuit.specs.Circuit.{Circuit}
 use Rattle.sg_stimulus.specs.Applied.{IsApplied}
 use Rattle.sg_stimulus.specs.Seen.{stimulus_seen}
@@ -12,7 +12,7 @@ use Rattle.vcd_model.specs.declared.kinds.VcdKind.TheVariants.{NoScope}
 use Rattle.vcd_model.specs.Faults.{fault_if, header_of, Header}
 use Rattle.vcd_model.specs.Inputs.{all_declared, has_scope, own}
 use Rattle.vcd_model.specs.Reading.{most_bytes, IsRead, RefusalStands}
-use Rattle.vcd_model.specs.Values.{first_or, powers, scale_of, Scale}
+use Rattle.vcd_model.specs.Values.{scale_of, Scale}
 use Rattle.vcd_stim.specs.Index.{indexed, own_faults}
 use Rattle.vcd_stim.specs.Meant.{RefusesOneOf}
 use Rattle.vcd_stim.specs.Steps.{IsTableOf}
@@ -35,9 +35,6 @@ TableRefuses circuit scope ss b r = RefusesOneOf (own_faults circuit scope ss ++
 pub table-refused : (text : List ℕ) (of circuit : Circuit) (scope : List ℕ) (seen ss : List Section) (b m : ℕ) (r : Refused VcdKind) → of ≡ circuit → seen ≡ ss → HeaderIs text ss b m → TableRefuses of scope seen b r → RefusalStands text circuit scope r
 table-refused text of circuit scope seen ss b m r e f h k = table-stands text circuit scope ss b m r h (subst (λ x. TableRefuses circuit scope x b r) f (subst (λ x. TableRefuses x scope seen b r) e k))
 
-scale-is : (circuit : Circuit) (ss : List Section) (scale : Scale) → scale.unit ≡ first_or (negsuc 8) (flat_map powers ss) → scale.tick ≡ circuit.tick → scale_of circuit ss ≡ scale
-scale-is circuit ss scale u t = sym (ap (λ x. record { unit = x; tick = scale.tick }) u ∙ ap (λ x. record { unit = first_or (negsuc 8) (flat_map powers ss); tick = x }) t)
-
 -- what the reader of items gives
 abbrev pub Reads : List ℕ → ℕ → Scale → (List ℕ → Option (List (List ℕ))) → Result code_stimulus.Stimulus (Refused VcdKind) → Type 0
 Reads text m scale table result = (h : Header) → h.scale ≡ scale → IsTableOf h table → MatchResult result (λ s. IsAllRead h text m (stimulus_seen s)) (StopsBy h text m)
@@ -46,8 +43,8 @@ abbrev pub ItemsRead : List ℕ → Circuit → List ℕ → List Section → �
 ItemsRead text circuit scope ss m result = MatchResult result (λ s. IsAllRead (header_of circuit scope ss) text m (stimulus_seen s)) (StopsBy (header_of circuit scope ss) text m)
 
 pub items-read : (text : List ℕ) (circuit : Circuit) (scope : List ℕ) (ss : List Section) (m : ℕ) (scale : Scale) (table : List ℕ → Option (List (List ℕ))) (result : Result code_stimulus.Stimulus (Refused VcdKind)) → TableKnown circuit scope ss table
-    → scale.unit ≡ first_or (negsuc 8) (flat_map powers ss) → scale.tick ≡ circuit.tick → Reads text m scale table result → ItemsRead text circuit scope ss m result
-items-read text circuit scope ss m scale table result k u t reads = reads (header_of circuit scope ss) (scale-is circuit ss scale u t) (record { table_is = k.2; faultless = k.0 })
+    → scale ≡ scale_of circuit ss → Reads text m scale table result → ItemsRead text circuit scope ss m result
+items-read text circuit scope ss m scale table result k s reads = reads (header_of circuit scope ss) (sym s) (record { table_is = k.2; faultless = k.0 })
 
 pub read-is : (text : List ℕ) (circuit : Circuit) (scope : List ℕ) (ss : List Section) (b m : ℕ) (table : List ℕ → Option (List (List ℕ))) (result : Result code_stimulus.Stimulus (Refused VcdKind)) → length text ≤ most_bytes → HeaderIs text ss b m
     → TableKnown circuit scope ss table → ItemsRead text circuit scope ss m result → IfOk result (λ s. IsRead text circuit scope (stimulus_seen s))

@@ -1,13 +1,12 @@
 -- The whole dump is read.
 use Rattle.std.proofs.Common.{ap, subst, ◌∙◌, arith, map}
-use Rattle.std.specs.Prelude.{flat_map, negsuc}
 use Rattle.std.proofs.lemmas.Result.{err_from_is_err_and}
-use Rattle.sg_circuit.specs.Circuit.{Circuit}
 use Rattle.vcd_form.specs.Reading.{read_of}
 use Rattle.vcd_form.specs.Seen.{section_seen}
 use Rattle.vcd_model.specs.Reading.{RefusalStands}
-use Rattle.vcd_model.specs.Values.{first_or, powers}
+use Rattle.vcd_model.specs.Values.{scale_of}
 use Rattle.vcd_stim.specs.Index.{listed}
+use Rattle.vcd_stim.specs.Meant.{scale_seen}
 use Rattle.vcd_stim.specs.Whole.{SectionsRead}
 use Rattle.vcd_stim.proofs.EndLaws.{applied-is, items-read, known-for, read-is, refused-is, table-refused, ItemsRead, Reads, TableKnown}
 use Rattle.vcd_stim.proofs.FaultLaws.{too-long-stands, HeaderIs}
@@ -45,9 +44,9 @@ known c =
 items-are : (c : goal.After-drop-sections-2) → ItemsRead c.args.bytes.now c.args.circuit.now c.args.scope.now (map section_seen c.in_ok-sections.sections.items) (read_of c.header_of.new.words) c.read_items.result
 items-are c =
     items-read c.args.bytes.now c.args.circuit.now c.args.scope.now (map section_seen c.in_ok-sections.sections.items) (read_of c.header_of.new.words)
-    (record { unit = c.unit_of.result; tick = c.parts.result.now.tick.power }) (listed c.in_ok-table.table) c.read_items.result
-    (known c) (c.unit_of.ensures ∙ ap (λ l. first_or (negsuc 8) (flat_map powers (map section_seen l))) c.deref-2.ensures.value) (ap (λ (x : Circuit). x.tick) c.parts.ensures.seen)
-    (subst (λ x. Reads x (read_of c.header_of.new.words) (record { unit = c.unit_of.result; tick = c.parts.result.now.tick.power }) (listed c.in_ok-table.table) c.read_items.result)
+    (scale_seen c.scale_of.result) (listed c.in_ok-table.table) c.read_items.result
+    (known c) (c.scale_of.ensures ∙ ap (λ l. scale_of c.args.circuit.now (map section_seen l)) c.deref-2.ensures.value)
+    (subst (λ x. Reads x (read_of c.header_of.new.words) (scale_seen c.scale_of.result) (listed c.in_ok-table.table) c.read_items.result)
     (c.header_of.ensures.text ∙ c.new-words.ensures.text) c.read_items.ensures)
 
 pub returns-clause-read : goal.returns-clause-read
