@@ -10,7 +10,6 @@ use Rattle.vcd_stim.specs.Meant.{scale_seen}
 use Rattle.vcd_stim.specs.Whole.{SectionsRead}
 use Rattle.vcd_stim.proofs.EndLaws.{applied-is, items-read, known-for, read-is, refused-is, table-refused, ItemsRead, Reads, TableKnown}
 use Rattle.vcd_stim.proofs.FaultLaws.{too-long-stands, HeaderIs}
-use Rattle.vcd_stim.proofs.OnceLaws.{read-once}
 use Rattle.vcd_stim.proofs.ReadingLaws.{sections-stand}
 use Rattle.vcd_stim.proofs.Refusals.{exit-err}
 use Rattle.vcd_stim.proofs.reading.read_vcd.Goals as goal
@@ -44,9 +43,9 @@ known c =
 items-are : (c : goal.After-drop-sections-2) → ItemsRead c.args.bytes.now c.args.circuit.now c.args.scope.now (map section_seen c.in_ok-sections.sections.items) (read_of c.header_of.new.words) c.read_items.result
 items-are c =
     items-read c.args.bytes.now c.args.circuit.now c.args.scope.now (map section_seen c.in_ok-sections.sections.items) (read_of c.header_of.new.words)
-    (scale_seen c.scale_of.result) (listed c.in_ok-table.table) c.read_items.result
-    (known c) (c.scale_of.ensures ∙ ap (λ l. scale_of c.args.circuit.now (map section_seen l)) c.deref-2.ensures.value)
-    (subst (λ x. Reads x (read_of c.header_of.new.words) (scale_seen c.scale_of.result) (listed c.in_ok-table.table) c.read_items.result)
+    (scale_seen c.scale_of-scale.result) (listed c.in_ok-table.table) c.read_items.result
+    (known c) (c.scale_of-scale.ensures ∙ ap (λ l. scale_of c.args.circuit.now (map section_seen l)) c.deref-2.ensures.value)
+    (subst (λ x. Reads x (read_of c.header_of.new.words) (scale_seen c.scale_of-scale.result) (listed c.in_ok-table.table) c.read_items.result)
     (c.header_of.ensures.text ∙ c.new-words.ensures.text) c.read_items.ensures)
 
 pub returns-clause-read : goal.returns-clause-read
