@@ -1,10 +1,13 @@
 -- Items that are read, one more.
-use Rattle.std.specs.Prelude.{ℕ, ◌+◌, ◌≡◌, ◌<◌, List, [], ◌∷◌, ◌++◌, length, map, flat_map, true, Result, Ok, Err, refl}
-use Rattle.std.proofs.Common.{inl, inr, sym, ◌∙◌, ap, subst, arith}
+use Rattle.std.specs.Prelude.{ℕ, ◌+◌, ◌-◌, ◌≡◌, ◌<◌, List, [], ◌∷◌, ◌++◌, length, map, flat_map, Result, Ok, Err, refl}
+use Rattle.std.proofs.Common.{sym, ◌∙◌, ap, subst, arith}
 use Rattle.grammar.specs.Language.{SpellsMany}
+use Rattle.grammar.proofs.Extents.{starts_so}
+use Rattle.grammar.proofs.Loops.{many_advances}
 use Rattle.sg_circuit.specs.Circuit.{Circuit}
 use Rattle.sg_stimulus.specs.Applied.{IsInput}
 use Rattle.sg_stimulus.specs.Seen.{step_seen}
+use Rattle.vcd_form.specs.Kinds.{kind_of}
 use Rattle.vcd_form.specs.Rules.{item}
 use Rattle.vcd_form.specs.Words.{words}
 use Rattle.vcd_form.specs.Written.{Item, instant, nothing, real, value}
@@ -89,9 +92,8 @@ reached-last h text n m s r e closed c = record {
       ∙ ap (λ t. record { steps = steps_of h.scale (length h.circuit.nets) (given h.circuit h.own r.items); end = t }) (r.steps_are.moment.ticks_are ∙ ap (ticks h.scale) (sym (last-time 0 r.items)));
 }
 
--- each item takes a word
-pub item-goes-on : (text : List ℕ) (m k : ℕ) (i : Item) → item.read (words text) m ≡ Ok (i, k) → m < k
-item-goes-on text m k i e = elim (item-exact.moves (words text) m i k (item-exact.found (words text) m i k e).0) [ inl lt ↦ lt | inr same ↦ absurd (never same.1) ]
-  where
-    never : item.empty ≡ true → ⊥
-    never q = cc
+-- fewer words are left behind an item
+pub item-smaller : (old new : List ℕ) (m k : ℕ) (i : Item) → new ≡ old → item.read (words old) m ≡ Ok (i, k) → length (words new) - k < length (words old) - m
+item-smaller old new m k i same e =
+    let starts = starts_so kind_of item item-exact refl (words old) m i k (item-exact.found (words old) m i k e).0 in
+    subst (λ x. length (words x) - k < length (words old) - m) (sym same) (many_advances kind_of item item-exact refl (words old) (λ (j : Item). j) m i k starts.1 e)

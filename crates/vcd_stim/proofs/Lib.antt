@@ -15,7 +15,10 @@ pub mod Refusals
 pub mod ItemLaws
 pub mod StepItems
 pub mod FaultLaws
+pub mod ReadingLaws
 pub mod NoFaults
 pub mod AppliedLaws
+pub mod EndLaws
 pub mod CodeLaws
 pub mod TableLaws
+pub mod OnceLaws

@@ -59,7 +59,7 @@ front-faultless circuit scope ss b is o f i ts (Some body) k =
 among-none : (x : Fault) (l : List Fault) → l ≡ [] → IsAmong l x → ⊥
 among-none x l e a = none (subst (λ k. IsAmong k x) e a)
   where
-    none : IsAmong {A = Fault} [] x → ⊥
+    none : IsAmong [] x → ⊥
     none (i, (lt, q)) = omega (arith, lt)
 
 no-fault : (text : List ℕ) (circuit : Circuit) (scope : List ℕ) (ss : List Section) (b m : ℕ) (is : List Item) → length text ≤ most_bytes → HeaderIs text ss b m → AreItems text m is (length (words text))

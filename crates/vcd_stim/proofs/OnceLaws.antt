@@ -8,11 +8,11 @@ use Rattle.vcd_form.specs.Written.{Front, Item}
 use Rattle.vcd_model.specs.Reading.{IsRead}
 use Rattle.vcd_model.specs.Stimulus.{wave_stimulus}
 
-items_in : Option (ℕ × List Item) → List Item
+abbrev items_in : Option (ℕ × List Item) → List Item
 items_in None = []
 items_in (Some body) = body.1
 
-stimulus_in : Circuit → List ℕ → Front → Stimulus
+abbrev stimulus_in : Circuit → List ℕ → Front → Stimulus
 stimulus_in circuit scope f = wave_stimulus circuit scope f.sections (items_in f.body)
 
 pub read-once : (text : List ℕ) (circuit : Circuit) (scope : List ℕ) (one other : Stimulus) → IsRead text circuit scope one → IsRead text circuit scope other → one ≡ other

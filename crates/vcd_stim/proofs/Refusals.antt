@@ -41,6 +41,9 @@ test-refused test k byte e = rw e (head-refused k byte [])
 pub exit-match : {A : Type 0} (P : A → Type 0) (Q : Refused VcdKind → Type 0) (result : Result A (Refused VcdKind)) (e : Refused VcdKind) → ((x : Refused VcdKind) × (result ≡ Err x) × (x ≡ e)) → Q e → MatchResult result P Q
 exit-match P Q result e (x, r, s) h = subst (λ y. MatchResult y P Q) (sym r) (subst Q (sym s) h)
 
+pub exit-err : {A : Type 0} (Q : Refused VcdKind → Type 0) (result : Result A (Refused VcdKind)) (e : Refused VcdKind) → ((x : Refused VcdKind) × (result ≡ Err x) × (x ≡ e)) → Q e → IfErr result Q
+exit-err Q result e (x, r, s) h = subst (λ y. IfErr y Q) (sym r) (subst Q (sym s) h)
+
 -- a time that isn't a whole number of ticks, or is too large
 pub time-refused : (scale : Scale) (byte before number : ℕ) (digits : List ℕ) (kind : VcdKind) → number ≡ number_from 0 digits → Err kind ≡ time_ticks scale number → RefusesOneOf (time_faults scale byte before digits) (told kind byte)
 time-refused scale byte before number digits kind n e =

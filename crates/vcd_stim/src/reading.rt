@@ -8,6 +8,7 @@ ghost use Rattle.vcd_form.specs.Seen.{section_seen};
 ghost use Rattle.vcd_model.specs.Faults.{fault_if, Header};
 ghost use Rattle.vcd_model.specs.Inputs.{all_declared, has_scope, own};
 ghost use Rattle.vcd_model.specs.Reading.{IsRead, RefusalStands};
+ghost use Rattle.vcd_model.specs.Values as values;
 ghost use Rattle.vcd_model.specs.declared.kinds.VcdKind.TheVariants.{NoScope};
 ghost use Rattle.vcd_stim.specs.Index.{indexed, listed, own_faults};
 ghost use Rattle.vcd_stim.specs.Meant.{scale_seen, RefusesOneOf};
@@ -83,6 +84,16 @@ fn header_of<'t>(
     }
 }
 
+// The dump's unit and the circuit's tick.
+fn scale_of(circuit: &Circuit, sections: &[Section]) -> Scale
+    ensures { scale_seen result ≡ values.scale_of circuit.now (map section_seen sections.now) }
+{
+    Scale {
+        unit: unit_of(sections),
+        tick: circuit.parts().tick.power,
+    }
+}
+
 /// The stimulus that a value change dump is for a circuit: the variables of the scope with a path, the names of the scopes joined by
 /// points, that are named as inputs of the circuit's top stand for these inputs (IEEE 1364-2005, 18.2). Its times are in ticks. Or a
 /// fault that stands in the dump, whose file has the number 0. Takes memory in proportion to the header, the number of the top's
@@ -104,9 +115,6 @@ pub fn read_vcd(
     let (sections, definitions) = header_of(alloc, &mut words)?;
     let inputs = Inputs::of(alloc, circuit)?;
     let table = table_of(alloc, &inputs, scope, definitions, &sections)?;
-    let scale = Scale {
-        unit: unit_of(&sections),
-        tick: circuit.parts().tick.power,
-    };
+    let scale = scale_of(circuit, &sections);
     read_items(alloc, scale, &table, &mut words)
 }
