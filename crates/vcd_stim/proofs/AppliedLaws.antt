@@ -178,11 +178,10 @@ once-rises low (t ∷ ts) h =
 steps-rise : (scale : Scale) (high : ℕ) (step : ℕ → Step) → ((t : ℕ) → (step t).time ≡ ticks scale t) → (ts : List ℕ) → Rises ts → Each (IsTimeTo scale high) ts → StepsRise (map step ts)
 steps-rise scale high step is [] r f = tt
 steps-rise scale high step is (t ∷ []) r f = (tt, tt)
-steps-rise scale high step is (t ∷ u ∷ ts) r f =
-    (
-      subst (λ x. x < (step u).time) (sym (is t)) (subst (λ x. ticks scale t < x) (sym (is u)) (ticks-less scale t u f.0.0.0 f.1.0.0.0 r.0.0)),
-      steps-rise scale high step is (u ∷ ts) r.1 f.1,
-    )
+steps-rise scale high step is (t ∷ u ∷ ts) r f = (
+  subst (λ x. x < (step u).time) (sym (is t)) (subst (λ x. ticks scale t < x) (sym (is u)) (ticks-less scale t u f.0.0.0 f.1.0.0.0 r.0.0)),
+  steps-rise scale high step is (u ∷ ts) r.1 f.1,
+)
 
 -- ---- the sets of a step
 

@@ -21,4 +21,3 @@ pub mod AppliedLaws
 pub mod EndLaws
 pub mod CodeLaws
 pub mod TableLaws
-pub mod OnceLaws

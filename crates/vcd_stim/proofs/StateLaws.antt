@@ -74,7 +74,7 @@ at-later scale n now later gs old new h few lt m o c = record {
   opened = [];
   split = sym (append-nil gs);
   past = subst (λ l. Each (λ g. g.time < later) l) (sym h.split) (each-append (λ g. g.time < later) h.closed h.opened (each-weaker (λ g. g.time < now) (λ g. g.time < later) (λ g k. omega (arith, k, lt)) h.closed h.past)
-    (each-weaker (λ g. g.time ≡ now) (λ g. g.time < later) (λ g k. omega (arith, k, lt)) h.opened h.present));
+      (each-weaker (λ g. g.time ≡ now) (λ g. g.time < later) (λ g k. omega (arith, k, lt)) h.opened h.present));
   present = tt;
   moment = m;
   open_is = o;

@@ -99,7 +99,16 @@ pub fn add_item(
     match item {
         Item::Nothing => Ok(()),
         Item::Instant { byte, digits } => add_instant(alloc, scale, *byte, digits, steps),
-        Item::Value { byte, code_byte, bits, code } => add_value(table, *byte, *code_byte, bits, code, steps),
-        Item::Real { byte, code_byte, code } => pass_real(table, *byte, *code_byte, code),
+        Item::Value {
+            byte,
+            code_byte,
+            bits,
+            code,
+        } => add_value(table, *byte, *code_byte, bits, code, steps),
+        Item::Real {
+            byte,
+            code_byte,
+            code,
+        } => pass_real(table, *byte, *code_byte, code),
     }
 }

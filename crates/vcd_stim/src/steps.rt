@@ -41,10 +41,7 @@ impl Steps {
 }
 
 // All entries of a map, in the order of the nets.
-fn sets_of(
-    alloc: Global,
-    open_sets: &mut BTreeMap<NetId, Value>,
-) -> Result<Vec<Set>, NoMemory>
+fn sets_of(alloc: Global, open_sets: &mut BTreeMap<NetId, Value>) -> Result<Vec<Set>, NoMemory>
     ensures sets { IfOk result (λ sets. map (λ s. set_seen s) sets.items ≡ open_sets.old.entries) }
     ensures empty { OnOk result (open_sets.new.entries ≡ []) }
 {
