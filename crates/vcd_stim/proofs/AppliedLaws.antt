@@ -1,9 +1,9 @@
 -- A dump without faults is a stimulus that can be applied.
-use Rattle.std.specs.Prelude.{zero, suc, ℕ, ◌+◌, ◌*◌, ◌/◌, ◌%◌, ◌^◌, ◌≡◌, ◌≢◌, ◌<◌, ◌≤◌, ◌==◌, ◌&&◌, not, nat_le, nat_lt, Bool, true, false, cond, All, List, [], ◌∷◌, ◌++◌, length, map, filter, filter_map, flat_map, Option, Some, None, refl, if◌then◌else◌}
+use Rattle.std.specs.Prelude.{zero, suc, ℕ, ◌+◌, ◌*◌, ◌%◌, ◌^◌, ◌≡◌, ◌≢◌, ◌<◌, ◌≤◌, ◌==◌, not, nat_le, nat_lt, Bool, true, false, cond, All, List, [], ◌∷◌, ◌++◌, length, map, filter, filter_map, flat_map, Option, Some, None, refl}
 use Rattle.std.specs.Option.{option_map}
 use Rattle.std.specs.List.{cons_option, range_with_len}
 use Rattle.std.proofs.Common.{inl, inr, sym, ◌∙◌, ap, subst, arith}
-use Rattle.std.proofs.lemmas.Bool.{cases_Bool, cases_lt, and_parts, eqb-true, eqb-false, ltb-false, leb-false, lt-leb}
+use Rattle.std.proofs.lemmas.Bool.{cases_lt, and_parts, eqb-true, eqb-false, ltb-false, leb-false, lt-leb}
 use Rattle.std.proofs.Math.Nat.{zero-mod}
 use Rattle.std.proofs.lemmas.List.{map-append}
 use Rattle.std.proofs.lemmas.List.Elements.{All-nil, All-cons}
@@ -11,20 +11,20 @@ use Rattle.std.proofs.lemmas.Nat.{div-add-mod', mul-le, div_below}
 use Rattle.sg_time.proofs.ScalingLaws.{one_at_least}
 use Rattle.sg_logic.specs.declared.values.Value.{Value}
 use Rattle.sg_circuit.specs.Circuit.{Circuit}
-use Rattle.sg_stimulus.specs.Applied.{IsApplied, IsBefore, IsInput, SetsNot, SetsOnce, StepsRise}
-use Rattle.sg_stimulus.specs.Stimulus.{Step, Stimulus}
+use Rattle.sg_stimulus.specs.Applied.{IsApplied, IsInput, SetsOnce, StepsRise}
+use Rattle.sg_stimulus.specs.Stimulus.{Step}
 use Rattle.sg_time.specs.Spelling.{number_from}
 use Rattle.vcd_form.specs.Written.{Item, instant, nothing, real, value}
 use Rattle.vcd_model.specs.declared.kinds.VcdKind.{VcdKind}
 use Rattle.vcd_model.specs.declared.kinds.VcdKind.TheVariants.{NotWholeTick, TimeFalls, TooLarge}
-use Rattle.vcd_model.specs.Faults.{fault, fault_if, item_faults, many_digits, time_faults, Fault, Header}
-use Rattle.vcd_model.specs.Stimulus.{is_given, last, last_given, last_time, once, step_at, steps_of, time_of}
+use Rattle.vcd_model.specs.Faults.{fault_if, item_faults, many_digits, time_faults, Header}
+use Rattle.vcd_model.specs.Stimulus.{is_given, last, last_given, last_time, once, step_at, time_of}
 use Rattle.vcd_model.specs.Values.{denominator, given, given_by, is_too_large, is_whole, numerator, ticks, timed, Given, Scale}
-use Rattle.vcd_stim.specs.Steps.{time_behind, Each}
+use Rattle.vcd_stim.specs.Steps.{Each}
 use Rattle.vcd_stim.specs.Whole.{items_faults, stimulus_of, time_behind_all}
 use Rattle.vcd_stim.proofs.InputLaws.{all-inputs, given-now}
 use Rattle.vcd_stim.proofs.ItemLaws.{last-time}
-use Rattle.vcd_stim.proofs.Lists.{each-append, each-filter, each-map, each-weaker}
+use Rattle.vcd_stim.proofs.Lists.{each-filter, each-map, each-weaker}
 use Rattle.vcd_stim.proofs.ValueLaws.{no-left, no-right}
 
 all-of : {A : Type 0} (P : A → Type 0) (xs : List A) → Each P xs → All P xs

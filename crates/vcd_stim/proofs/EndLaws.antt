@@ -16,7 +16,7 @@ use Rattle.vcd_model.specs.Values.{scale_of, Scale}
 use Rattle.vcd_stim.specs.Index.{indexed, own_faults}
 use Rattle.vcd_stim.specs.Meant.{RefusesOneOf}
 use Rattle.vcd_stim.specs.Steps.{IsTableOf}
-use Rattle.vcd_stim.specs.Whole.{stimulus_of, IsAllRead, StopsBy}
+use Rattle.vcd_stim.specs.Whole.{IsAllRead, StopsBy}
 use Rattle.vcd_stim.proofs.AppliedLaws.{applies}
 use Rattle.vcd_stim.proofs.FaultLaws.{items-stand, table-stands, HeaderIs}
 use Rattle.vcd_stim.proofs.NoFaults.{is-read}

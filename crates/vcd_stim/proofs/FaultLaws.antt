@@ -1,25 +1,22 @@
 -- A fault that stands in a dump, and what is read where none does.
-use Rattle.std.specs.Prelude.{ℕ, ◌+◌, ◌≡◌, ◌<◌, ◌≤◌, ◌^◌, not, Bool, true, false, List, [], ◌∷◌, ◌++◌, length, map, flat_map, Option, Some, None, Ok, Err, refl, if◌then◌else◌}
-use Rattle.std.specs.List.{IsAmong}
-use Rattle.std.proofs.Common.{sym, ◌∙◌, ap, subst, arith}
+use Rattle.std.specs.Prelude.{ℕ, ◌≡◌, ◌<◌, not, List, [], ◌∷◌, ◌++◌, length, Some, Ok, Err, refl}
+use Rattle.std.proofs.Common.{sym, ap, subst}
 use Rattle.sg_circuit.specs.Circuit.{Circuit}
-use Rattle.sg_stimulus.specs.Stimulus.{Stimulus}
 use Rattle.sg_text.specs.declared.refusals.Refused.{Refused}
 use Rattle.sg_text.specs.declared.refusals.Refused.TheVariants as refused
-use Rattle.vcd_form.specs.Rules.{dump, front, item}
 use Rattle.vcd_form.specs.Reading.{header_read}
 use Rattle.vcd_form.specs.Words.{byte_of, words}
-use Rattle.vcd_form.specs.Written.{Front, Item, Section}
-use Rattle.vcd_form.proofs.Whole.{dump_spelled, front_spelled, fronts, header_fails, item_fails, IsFrontAs}
+use Rattle.vcd_form.specs.Written.{Item, Section}
+use Rattle.vcd_form.proofs.Whole.{front_spelled, header_fails, item_fails}
 use Rattle.vcd_model.specs.declared.kinds.VcdKind.{VcdKind}
 use Rattle.vcd_model.specs.declared.kinds.VcdKind.TheVariants.{Syntax, NoScope, TooLarge}
-use Rattle.vcd_model.specs.Faults.{body_faults, fault, fault_if, front_faults, header_of, item_faults, variable_faults, Fault, Header}
-use Rattle.vcd_model.specs.Inputs.{has_scope, input_of, own}
-use Rattle.vcd_model.specs.Reading.{most_bytes, too_long, of_form, of_front, FaultStands, IsRead, RefusalStands}
+use Rattle.vcd_model.specs.Faults.{fault_if, front_faults, header_of, Fault}
+use Rattle.vcd_model.specs.Inputs.{has_scope}
+use Rattle.vcd_model.specs.Reading.{most_bytes, too_long, of_form, of_front, RefusalStands}
 use Rattle.vcd_stim.specs.Index.{own_faults}
 use Rattle.vcd_stim.specs.Meant.{told, RefusesOneOf}
-use Rattle.vcd_stim.specs.Whole.{items_faults, stops_fault, stops_form, AreItems, IsAllRead, StopsBy}
-use Rattle.vcd_stim.proofs.Refusals.{refused-left, refused-right}
+use Rattle.vcd_stim.specs.Whole.{items_faults, stops_fault, stops_form, AreItems, StopsBy}
+use Rattle.vcd_stim.proofs.Refusals.{refused-right}
 
 abbrev pub HeaderIs : List ℕ → List Section → ℕ → ℕ → Type 0
 HeaderIs text ss b m = header_read text ≡ Ok ((ss, b), m)

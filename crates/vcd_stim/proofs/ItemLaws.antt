@@ -1,10 +1,8 @@
 -- Items that are read, one more.
-use Rattle.std.specs.Prelude.{ℕ, ◌+◌, ◌-◌, ◌≡◌, ◌<◌, List, [], ◌∷◌, ◌++◌, length, map, flat_map, Result, Ok, Err, refl}
-use Rattle.std.proofs.Common.{sym, ◌∙◌, ap, subst, arith}
-use Rattle.grammar.specs.Language.{SpellsMany}
+use Rattle.std.specs.Prelude.{ℕ, ◌-◌, ◌≡◌, ◌<◌, List, [], ◌∷◌, ◌++◌, length, map, flat_map, Ok, refl}
+use Rattle.std.proofs.Common.{sym, ◌∙◌, ap, subst}
 use Rattle.grammar.proofs.Extents.{starts_so}
 use Rattle.grammar.proofs.Loops.{many_advances}
-use Rattle.sg_circuit.specs.Circuit.{Circuit}
 use Rattle.sg_stimulus.specs.Applied.{IsInput}
 use Rattle.sg_stimulus.specs.Seen.{step_seen}
 use Rattle.vcd_form.specs.Kinds.{kind_of}
@@ -12,11 +10,11 @@ use Rattle.vcd_form.specs.Rules.{item}
 use Rattle.vcd_form.specs.Words.{words}
 use Rattle.vcd_form.specs.Written.{Item, instant, nothing, real, value}
 use Rattle.vcd_form.proofs.FormExact.{item-exact}
-use Rattle.vcd_model.specs.Faults.{item_faults, Fault, Header}
+use Rattle.vcd_model.specs.Faults.{item_faults, Header}
 use Rattle.vcd_model.specs.Stimulus.{last_time, steps_of, time_of}
-use Rattle.vcd_model.specs.Values.{given, given_by, ticks, timed, Given}
+use Rattle.vcd_model.specs.Values.{given, given_by, ticks, timed}
 use Rattle.vcd_stim.specs.Steps.{time_behind, step_of, Each, HasSteps}
-use Rattle.vcd_stim.specs.Whole.{items_faults, stimulus_of, time_behind_all, AreItems, IsAllRead, IsReached}
+use Rattle.vcd_stim.specs.Whole.{items_faults, time_behind_all, AreItems, IsAllRead, IsReached}
 use Rattle.vcd_stim.specs.declared.steps.Steps.{Steps}
 use Rattle.vcd_stim.proofs.InputLaws.{all-inputs}
 use Rattle.vcd_stim.proofs.Lists.{each-weaker}

@@ -1,14 +1,13 @@
 -- Where the reader found no fault none stands.
-use Rattle.std.specs.Prelude.{ℕ, ◌+◌, ◌≡◌, ◌<◌, ◌≤◌, ◌^◌, not, Bool, true, false, List, [], ◌∷◌, ◌++◌, length, map, filter_map, flat_map, Option, Some, None, Ok, Err, refl, if◌then◌else◌}
+use Rattle.std.specs.Prelude.{ℕ, ◌≡◌, ◌≤◌, not, true, List, [], ◌∷◌, ◌++◌, length, filter_map, flat_map, Option, Some, None, refl}
 use Rattle.std.specs.List.{IsAmong}
 use Rattle.std.proofs.Common.{sym, ◌∙◌, ap, subst, arith}
 use Rattle.std.proofs.lemmas.List.{append-nil}
 use Rattle.std.proofs.lemmas.List.Elements.{filter_map-append}
 use Rattle.sg_circuit.specs.Circuit.{Circuit}
 use Rattle.sg_stimulus.specs.Stimulus.{Stimulus}
-use Rattle.vcd_form.specs.Rules.{dump, front, item}
 use Rattle.vcd_form.specs.Words.{words}
-use Rattle.vcd_form.specs.Written.{Front, Item, Section, instant, nothing, real, value}
+use Rattle.vcd_form.specs.Written.{Item, Section, instant, nothing, real, value}
 use Rattle.vcd_form.proofs.Whole.{dump_spelled, fronts, IsFrontAs}
 use Rattle.vcd_model.specs.declared.kinds.VcdKind.TheVariants.{NoScope}
 use Rattle.vcd_model.specs.Faults.{body_faults, fault_if, front_faults, header_of, item_faults, variable_faults, Fault, Header}

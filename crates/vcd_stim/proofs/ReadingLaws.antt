@@ -1,12 +1,12 @@
 -- A step of the reading of items, and why it stops.
-use Rattle.std.specs.Prelude.{ℕ, ◌≡◌, ◌<◌, List, [], ◌∷◌, ◌++◌, length, map, Option, Some, None, Result, Ok, Err, MatchResult, OnOk, refl}
+use Rattle.std.specs.Prelude.{ℕ, ◌≡◌, ◌<◌, List, [], ◌∷◌, ◌++◌, length, Option, Some, None, Result, Ok, Err, MatchResult, refl}
 use Rattle.std.proofs.Common.{sym, ◌∙◌, ap, subst}
 use Rattle.std.specs.Global.{Vec}
 use Rattle.sg_circuit.specs.Circuit.{Circuit}
 use Rattle.sg_text.specs.declared.refusals.Refused.{Refused}
 use Rattle.sg_text.specs.declared.refusals.Refused.TheVariants as refused
 use Rattle.vcd_form.specs.Rules.{item}
-use Rattle.vcd_form.specs.Words.{byte_of, words}
+use Rattle.vcd_form.specs.Words.{words}
 use Rattle.vcd_form.specs.Seen.{item_seen}
 use Rattle.vcd_form.specs.declared.written.Item as code_item
 use Rattle.vcd_form.specs.declared.written.Section as code_section

@@ -1,17 +1,14 @@
 // The reader of dumps.
-ghost use Rattle.std.specs.Prelude.{◌≡◌, ◌++◌, ℕ, List, IfOk, IfErr, MatchResult, map, not, true};
+ghost use Rattle.std.specs.Prelude.{◌≡◌, IfOk, IfErr, MatchResult, map};
 ghost use Rattle.sg_stimulus.specs.Applied.{IsApplied};
 ghost use Rattle.sg_stimulus.specs.Seen.{stimulus_seen};
-ghost use Rattle.vcd_form.specs.Places.{read_at};
 ghost use Rattle.vcd_form.specs.Reading.{read_of};
 ghost use Rattle.vcd_form.specs.Seen.{section_seen};
-ghost use Rattle.vcd_model.specs.Faults.{fault_if, Header};
-ghost use Rattle.vcd_model.specs.Inputs.{all_declared, has_scope, own};
+ghost use Rattle.vcd_model.specs.Faults.{Header};
 ghost use Rattle.vcd_model.specs.Reading.{IsRead, RefusalStands};
 ghost use Rattle.vcd_model.specs.Values as values;
-ghost use Rattle.vcd_model.specs.declared.kinds.VcdKind.TheVariants.{NoScope};
-ghost use Rattle.vcd_stim.specs.Index.{indexed, listed, own_faults};
-ghost use Rattle.vcd_stim.specs.Meant.{scale_seen, RefusesOneOf};
+ghost use Rattle.vcd_stim.specs.Index.{listed};
+ghost use Rattle.vcd_stim.specs.Meant.{scale_seen};
 ghost use Rattle.vcd_stim.specs.Steps.{IsTableOf};
 ghost use Rattle.vcd_stim.specs.Whole.{IsAllRead, NextRead, SectionsRead, StopsBy};
 

@@ -1,11 +1,9 @@
 -- Items are read one after another.
-use Rattle.std.proofs.Common.{◌-◌, ◌<◌, ◌≡◌, sym, ap, subst, ◌∙◌, arith, refl, length}
+use Rattle.std.proofs.Common.{subst, ◌∙◌}
 use Rattle.std.proofs.lemmas.Result.{err_from_is_err_and}
 use Rattle.sg_text.specs.declared.refusals.Refused.TheVariants as refused
 use Rattle.vcd_form.specs.Reading.{read_of}
-use Rattle.vcd_form.specs.Rules.{item}
 use Rattle.vcd_form.specs.Seen.{item_seen}
-use Rattle.vcd_form.specs.Words.{words}
 use Rattle.vcd_stim.specs.Whole.{NextRead}
 use Rattle.vcd_stim.proofs.ItemLaws.{item-smaller, reached-last}
 use Rattle.vcd_stim.proofs.ReadingLaws.{adds-goes, adds-stops, form-stops, memory-stops, next-ends, next-is}
