@@ -1,0 +1,7 @@
+-- The modules of this folder.
+pub mod Hops
+pub mod Chains
+pub mod Settling
+pub mod Staying
+pub mod Links
+pub mod Orders

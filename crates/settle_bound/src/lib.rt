@@ -1,0 +1,12 @@
+//! How long after the last change of an input each net may still change, or a cycle of elements and timing checks.
+#![tactic(auto)]
+
+mod cycles;
+mod hops;
+mod links;
+mod orders;
+mod settling;
+
+pub use cycles::is_cycle;
+pub use hops::Hop;
+pub use settling::{Settled, settle};
