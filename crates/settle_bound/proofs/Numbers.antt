@@ -1,8 +1,11 @@
 -- Numbers in lists: whether they stand there, and where.
 use Rattle.std.specs.Prelude.{◌≡◌, ◌≢◌, ◌⊎◌, ℕ, zero, suc, ◌+◌, ◌<◌, ◌≤◌, ◌==◌, ◌||◌, Bool, true, false, if◌then◌else◌, All, AllPairs, List, [], ◌∷◌, ◌++◌, length, slice_index_or, refl}
-use Rattle.std.proofs.Common.{sym, ◌∙◌, ap, subst, arith, inl, inr}
-use Rattle.std.proofs.lemmas.Bool.{cases_eq}
+use Rattle.std.proofs.Common.{eqb, sym, ◌∙◌, ap, subst, arith, inl, inr}
+use Rattle.std.specs.List.{IsDistinct, list_any}
+use Rattle.std.proofs.lemmas.Bool.{cases_eq, or_cases}
 use Rattle.std.proofs.lemmas.Bool.Decides.{nat_tests}
+use Rattle.std.proofs.lemmas.List.Elements.{All-head, All-tail, recursion_from_All}
+use Rattle.std.proofs.lemmas.Map.Steps.{length-le_from_distinct_below}
 use Rattle.std.proofs.lemmas.List.Quantifiers.{all_pairs_push}
 use Rattle.sg_circuit.specs.FanOut.{has}
 use Rattle.sg_circuit.proofs.PinLaws.{has-append}
@@ -29,6 +32,34 @@ has-at (x ∷ xs) (suc i) d l = let k = slice_index_or xs i d in ap (λ b. (x ==
     or_true : (b : Bool) → (b || true) ≡ true
     or_true true = refl
     or_true false = refl
+
+-- and what stands in the list stands at a place
+pub has-found : (k : ℕ) (xs : List ℕ) → has k xs ≡ true → (i : ℕ) × (i < length xs) × (slice_index_or xs i 0 ≡ k)
+has-found k [] e = absurd (let f : false ≡ true = e in cc)
+has-found k (x ∷ xs) e = at (x == k) refl e (λ h. has-found k xs h)
+  where
+    at : (b : Bool) → (x == k) ≡ b → (b || has k xs) ≡ true → (has k xs ≡ true → (i : ℕ) × (i < length xs) × (slice_index_or xs i 0 ≡ k)) → (i : ℕ) × (i < suc (length xs)) × (slice_index_or (x ∷ xs) i 0 ≡ k)
+    at true t f rest = (0, omega arith, is_same x k t)
+    at false t f rest = let r = rest f in (suc r.0, (let l = r.1 in omega arith), r.2)
+
+-- different numbers below another are no more than that
+distinct-of : (xs : List ℕ) → AllPairs (λ m n. m ≢ n) xs → IsDistinct eqb xs
+unfolding IsDistinct
+distinct-of [] h = tt
+distinct-of (x ∷ xs) h = (
+  recursion_from_All (λ y. eqb x y ≡ false) xs (λ k d l. other x (slice_index_or xs k d) (h 0 (suc k) d (omega arith) (omega arith))),
+  distinct-of xs (λ i j d l m. h (suc i) (suc j) d (omega arith) (omega arith)),
+)
+
+any-below : (n q : ℕ) (xs : List ℕ) → All (λ k. k < n) xs → list_any (eqb q) xs ≡ true → q < n
+any-below n q [] h e = absurd (let f : false ≡ true = e in cc)
+any-below n q (x ∷ xs) h e = elim (or_cases (eqb q x) (list_any (eqb q) xs) e) [
+  | inl s ↦ (let same_one : q ≡ x = is_same q x s in let l : x < n = All-head (λ k. k < n) x xs h in omega arith)
+  | inr r ↦ any-below n q xs (All-tail (λ k. k < n) x xs h) r
+]
+
+pub few : (n : ℕ) (xs : List ℕ) → All (λ k. k < n) xs → AllPairs (λ i j. i ≢ j) xs → length xs ≤ n
+few n xs below once = length-le_from_distinct_below xs n (distinct-of xs once) (λ q e. any-below n q xs below e)
 
 -- one more number
 pub has-push : (k : ℕ) (xs : List ℕ) (y : ℕ) → has k (xs ++ y ∷ []) ≡ (has k xs || (y == k))

@@ -6,7 +6,7 @@ use Rattle.std.proofs.lemmas.List.{append-nil, length-set, length-take-le, get_o
 use Rattle.std.proofs.lemmas.List.Elements.{All-push}
 use Rattle.std.proofs.lemmas.List.Sums.{count_by_more_yes, count_by_more_no, sum_by-take-le}
 use Rattle.sg_circuit.specs.FanOut.{has}
-use Rattle.settle_bound.specs.declared.links.Link.{Link}
+use Rattle.settle_bound.specs.declared.ways.Link.{Link}
 use Rattle.settle_bound.specs.declared.orders.Order.{Order}
 use Rattle.settle_bound.specs.Links.{link_at}
 use Rattle.settle_bound.specs.Orders.{at, count_driving, AreReady, IsFrom, Released, TakesHop}
@@ -85,11 +85,11 @@ ready-one nets waits ready waits' ready' b l many some ew er h = by (at waits' b
         })
 
 -- of hops that go on, one more is among all
-pub enough-left : (links : List Link) (hops : List ℕ) (before : ℕ) (old mid : Order) (i d : ℕ) → i < length hops → Released links (take i hops) before old mid → ((net : ℕ) → count_driving links net hops ≤ at old.waits.items net)
-    → 0 < at mid.waits.items (link_at links (slice_index_or hops i d)).driven
-enough-left links hops before old mid i d l h enough =
+pub enough-left : (links : List Link) (hops : List ℕ) (before : ℕ) (old mid : Order) (i d : ℕ) → i < length hops → Released links (take i hops) before old mid → ((net : ℕ) → net < length old.waits.items → count_driving links net hops ≤ at old.waits.items net)
+    → (link_at links (slice_index_or hops i d)).driven < length old.waits.items → 0 < at mid.waits.items (link_at links (slice_index_or hops i d)).driven
+enough-left links hops before old mid i d l h enough inside =
     let net : ℕ = (link_at links (slice_index_or hops i d)).driven in
-    let all = enough net in
+    let all = enough net inside in
     let so_far = h.waits net in
     let more : count_driving links net (take (i + 1) hops) ≡ count_driving links net (take i hops) + 1 = count_by_more_yes (λ k. (link_at links k).driven == net) hops i d l (same net net refl) in
     let most : count_driving links net (take (i + 1) hops) ≤ count_driving links net hops = sum_by-take-le _ hops (i + 1) in

@@ -2,7 +2,9 @@
 use Rattle.std.specs.Prelude.{◌≡◌, ℕ, ◌+◌, ◌<◌, ◌^◌, ◌==◌, ◌&&◌, not, Bool, All, List, [], ◌∷◌, length, count_by, slice_index_or}
 use Rattle.sg_circuit.specs.declared.building.Pin.{Pin}
 use Rattle.sg_circuit.specs.FanOut.{has}
-use Rattle.settle_bound.specs.declared.links.Link.{Link}
+use Rattle.sg_circuit.specs.Pins.{HasPins}
+use Rattle.settle_bound.specs.declared.ways.Link.{Link}
+use Rattle.settle_bound.specs.declared.ways.Ways.{Ways}
 
 -- what stands at a place; past the end a blank
 abbrev pub link_at : List Link → ℕ → Link
@@ -26,6 +28,12 @@ pub record AreLinked (nets : ℕ) (links : List Link) (pins : List Pin) : Type 0
   pub hops : All (λ p. p.element < length links) pins
   pub few_nets : nets < 2 ^ 31
   pub few_pins : length pins < 2 ^ 32
+
+-- the parts of ways fit together
+pub record AreWays (w : Ways) : Type 0 where
+  pub linked : AreLinked w.nets w.links.items w.pins.items
+  pub readers : HasPins w.pins.items w.readers
+  pub readers_of_each : length w.readers ≡ w.nets
 
 -- on some way to a net hops have such a sum of weights
 pub data IsReached (links : List Link) (pins : List Pin) : ℕ → ℕ → Type 0 where

@@ -2,7 +2,8 @@
 use Rattle.std.specs.Prelude.{◌≡◌, ◌≢◌, ◌⊎◌, ◌↔◌, ℕ, suc, ◌+◌, ◌-◌, ◌*◌, max, ◌<◌, ◌≤◌, ◌^◌, ◌==◌, if◌then◌else◌, true, All, AllPairs, List, [], ◌∷◌, ◌++◌, length, count_by, slice_index_or, slice_set}
 use Rattle.sg_circuit.specs.declared.building.Pin.{Pin}
 use Rattle.sg_circuit.specs.FanOut.{has}
-use Rattle.settle_bound.specs.declared.links.Link.{Link}
+use Rattle.settle_bound.specs.declared.ways.Link.{Link}
+use Rattle.settle_bound.specs.declared.ways.Ways.{Ways}
 use Rattle.settle_bound.specs.declared.orders.Order.{Order}
 use Rattle.settle_bound.specs.Links.{link_at, pin_at, net_behind, weight_behind, IsReached, waits_of}
 
@@ -33,12 +34,17 @@ pub record AreBest (nets : ℕ) (links : List Link) (pins : List Pin) (bounds do
   pub small : (net : ℕ) → net < nets → at bounds net < (length done + 1) * 2 ^ 60
 
 pub record IsOrder (nets : ℕ) (links : List Link) (pins : List Pin) (order : Order) (done : List ℕ) : Type 0 where
+  pub done_ready : (net : ℕ) → has net done ≡ true → has net order.ready.items ≡ true
   pub bound_of_each : length order.bounds.items ≡ nets
   pub wait_of_each : length order.waits.items ≡ nets
   pub waits : (net : ℕ) → net < nets → at order.waits.items net ≡ waits_of links pins done net
   pub ready : AreReady nets order.waits.items order.ready.items
   pub in_order : IsInOrder links pins done
   pub best : AreBest nets links pins order.bounds.items done
+
+-- of some ways
+abbrev pub IsOrderOf : Ways → Order → List ℕ → Type 0
+IsOrderOf w order done = IsOrder w.nets w.links.items w.pins.items order done
 
 -- one hop to a net gives a bound, and the net waits for one pin fewer
 pub record TakesHop (link : Link) (before : ℕ) (old new : Order) : Type 0 where
@@ -68,3 +74,13 @@ pub record Released (links : List Link) (hops : List ℕ) (before : ℕ) (old ne
   pub behind : List ℕ
   pub added : new.ready.items ≡ old.ready.items ++ behind
   pub ready : AreReady (length old.waits.items) old.waits.items old.ready.items → AreReady (length old.waits.items) new.waits.items new.ready.items
+
+-- how many of some pins lead to each net
+pub record AreCounted (links : List Link) (pins : List Pin) (waits : List ℕ) : Type 0 where
+  pub each : (net : ℕ) → net < length waits → at waits net ≡ waits_of links pins [] net
+
+-- bounds by each of some hops alone
+pub record AreAlone (links all : List Link) (pins : List Pin) (bounds : List ℕ) : Type 0 where
+  pub given : (h : ℕ) → h < length links → (link_at links h).weight ≤ at bounds (link_at links h).driven
+  pub reached : (net : ℕ) → IsReached all pins net (at bounds net)
+  pub small : (net : ℕ) → at bounds net < 2 ^ 60

@@ -3,9 +3,9 @@
 
 mod cycles;
 mod hops;
-mod links;
 mod orders;
 mod settling;
+mod ways;
 
 pub use cycles::is_cycle;
 pub use hops::Hop;

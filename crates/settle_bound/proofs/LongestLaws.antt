@@ -1,0 +1,100 @@
+-- No rule places a value later than the longest delay of its element.
+use Rattle.std.specs.Prelude.{◌≡◌, ℕ, zero, suc, ◌+◌, ◌<◌, ◌≤◌, max, All, filter, slice_get, List, [], ◌∷◌, ◌++◌, length, map, flat_map, slice_index_or, Option, Some, None, refl}
+use Rattle.std.proofs.Common.{sym, ◌∙◌, ap, subst, arith}
+use Rattle.std.proofs.lemmas.List.Elements.{All-nil, All-cons, All-head, All-weaker, All-filter}
+use Rattle.sg_logic.specs.declared.values.Value.{Value}
+use Rattle.sg_logic.specs.declared.values.Value.TheVariants.{Zero, One, X, Z}
+use Rattle.sg_logic.specs.Transitions.{transitions, goes}
+use Rattle.sg_delay.specs.GateDelay.{of_two, of_three, delay_to}
+use Rattle.sg_model.specs.Machine.{Stamp}
+use Rattle.sg_circuit.specs.Circuit.{Kind, Gate, Udp, Pass, Leg, Path, Late}
+use Rattle.sg_circuit.specs.Paths as specify
+use Rattle.sg_circuit.specs.Timings.{Timing, timing_at, timing_between}
+use Rattle.path_pick.specs.Choice.{time_of, stamp_at, input_time, delay_of, is_allowed, allowed, is_of_edge, on_edge, latest, quickest, chosen, picked_for, picked}
+use Rattle.fan_round.specs.Rounds.{time_of_rule}
+use Rattle.sim_rounds.specs.Simulated.{rule_of_kind}
+use Rattle.settle_bound.specs.Hops.{longest, longest_delay}
+use Rattle.settle_bound.proofs.Deadlines.{IsStamped, AreStamped}
+
+longest-append : (xs ys : List ℕ) → longest (xs ++ ys) ≡ max (longest xs) (longest ys)
+longest-append [] ys = omega arith
+longest-append (x ∷ xs) ys = let h = longest-append xs ys in omega arith
+
+two-longest : (rise fall : ℕ) (to : Value) → of_two rise fall to ≤ max rise (max fall 0)
+two-longest rise fall One = omega arith
+two-longest rise fall Zero = omega arith
+two-longest rise fall X = omega arith
+two-longest rise fall Z = omega arith
+
+three-longest : (rise fall off rest : ℕ) (to : Value) → of_three rise fall off to ≤ max rise (max fall (max off rest))
+three-longest rise fall off rest One = omega arith
+three-longest rise fall off rest Zero = omega arith
+three-longest rise fall off rest X = omega arith
+three-longest rise fall off rest Z = omega arith
+
+gate-longest : (delays : List ℕ) (to : Value) → delay_to delays to ≤ longest delays
+gate-longest [] to = omega arith
+gate-longest (delay ∷ []) to = omega arith
+gate-longest (rise ∷ fall ∷ []) to = two-longest rise fall to
+gate-longest (rise ∷ fall ∷ off ∷ rest) to = three-longest rise fall off (longest rest) to
+
+-- of timings
+place-longest : (timings : List Timing) (place : ℕ) → (slice_index_or timings place (record { delay = 0; limits = None })).delay ≤ longest (map (λ t. t.delay) timings)
+place-longest [] place = omega arith
+place-longest (t ∷ ts) zero = omega arith
+place-longest (t ∷ ts) (suc place) = let h = place-longest ts place in omega arith
+
+timing-longest : (timings : List Timing) (place : Option ℕ) → (timing_at timings place).delay ≤ longest (map (λ t. t.delay) timings)
+timing-longest timings None = omega arith
+timing-longest timings (Some place) = place-longest timings place
+
+-- of paths
+abbrev all_delays : List specify.Path → List ℕ
+all_delays paths = flat_map (λ p. map (λ t. t.delay) p.timings) paths
+
+abbrev IsShorter : ℕ → specify.Path → Type 0
+IsShorter top p = longest (map (λ t. t.delay) p.timings) ≤ top
+
+paths-shorter : (paths : List specify.Path) → All (IsShorter (longest (all_delays paths))) paths
+paths-shorter [] = All-nil (IsShorter 0)
+paths-shorter (p ∷ ps) =
+    let both : longest (all_delays (p ∷ ps)) ≡ max (longest (map (λ t. t.delay) p.timings)) (longest (all_delays ps)) = longest-append (map (λ t. t.delay) p.timings) (all_delays ps) in
+    All-cons (IsShorter (longest (all_delays (p ∷ ps)))) p ps (omega arith)
+    (All-weaker (IsShorter (longest (all_delays ps))) (IsShorter (longest (all_delays (p ∷ ps)))) (λ q l. omega arith) ps (paths-shorter ps))
+
+abbrev IfShorter : ℕ → Option specify.Path → Type 0
+IfShorter top None = Unit {0}
+IfShorter top (Some p) = IsShorter top p
+
+first-shorter : (top : ℕ) (paths : List specify.Path) → All (IsShorter top) paths → IfShorter top (slice_get paths 0)
+first-shorter top [] h = tt
+first-shorter top (p ∷ ps) h = All-head (IsShorter top) p ps h
+
+chosen-shorter : (paths : List specify.Path) (values : List Value) (stamps : List (Option Stamp)) (from to : Value) → IfShorter (longest (all_delays paths)) (chosen paths values stamps from to)
+chosen-shorter paths values stamps from to =
+    let top : ℕ = longest (all_delays paths) in
+    first-shorter top (quickest from to (latest stamps (on_edge stamps (allowed values paths))))
+    (All-filter _ (IsShorter top) (latest stamps (on_edge stamps (allowed values paths)))
+    (All-filter _ (IsShorter top) (on_edge stamps (allowed values paths))
+    (All-filter _ (IsShorter top) (allowed values paths)
+    (All-filter _ (IsShorter top) paths (paths-shorter paths)))))
+
+stamped-time : (now : ℕ) (stamp : Option Stamp) → IsStamped now stamp → time_of stamp ≤ now
+stamped-time now None h = omega arith
+stamped-time now (Some stamp) h = h
+
+picked-soon : (now top : ℕ) (stamps : List (Option Stamp)) (from to : Value) (path : Option specify.Path) → AreStamped now stamps → IfShorter top path → (picked_for now stamps from to path).time ≤ now + top
+picked-soon now top stamps from to None s h = omega arith
+picked-soon now top stamps from to (Some p) s h =
+    let t : input_time stamps p ≤ now = stamped-time now (stamp_at stamps p.input) (s p.input) in
+    let d : delay_of from to p ≤ longest (map (λ x. x.delay) p.timings) = timing-longest p.timings _ in
+    let l : longest (map (λ x. x.delay) p.timings) ≤ top = h in
+    omega arith
+
+pub placed-soon : (kind : Kind) (now : ℕ) (values : List Value) (stamps : List (Option Stamp)) (from to : Value) → AreStamped now stamps → time_of_rule (rule_of_kind kind now values stamps from to) ≤ now + longest_delay kind
+placed-soon (Gate kind delays) now values stamps from to s = let l = gate-longest delays to in omega arith
+placed-soon (Udp primitive first delays) now values stamps from to s = let l = gate-longest delays to in omega arith
+placed-soon (Pass constant) now values stamps from to s = omega arith
+placed-soon (Leg timings) now values stamps from to s = let l : (timing_between timings from to).delay ≤ longest (map (λ t. t.delay) timings) = timing-longest timings _ in omega arith
+placed-soon (Path paths style) now values stamps from to s = picked-soon now (longest (all_delays paths)) stamps from to (chosen paths values stamps from to) s (chosen-shorter paths values stamps from to)
+placed-soon (Late delay) now values stamps from to s = omega arith
