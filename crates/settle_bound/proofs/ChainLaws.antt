@@ -61,11 +61,11 @@ potential-most c bound p net (h ∷ hops) chain =
     omega arith
 
 -- one hop more
-follow-push : (c : Circuit) (before : Hop) (hops : List Hop) (h : Hop) → Follow c before hops → Reads c (last_of before hops) h → Follow c before (hops ++ h ∷ [])
+pub follow-push : (c : Circuit) (before : Hop) (hops : List Hop) (h : Hop) → Follow c before hops → Reads c (last_of before hops) h → Follow c before (hops ++ h ∷ [])
 follow-push c before [] h f r = (r, tt)
 follow-push c before (g ∷ hops) h f r = (f.0, follow-push c g hops h f.1 r)
 
-last-push : (before : Hop) (hops : List Hop) (h : Hop) → last_of before (hops ++ h ∷ []) ≡ h
+pub last-push : (before : Hop) (hops : List Hop) (h : Hop) → last_of before (hops ++ h ∷ []) ≡ h
 last-push before [] h = refl
 last-push before (g ∷ hops) h = last-push g hops h
 

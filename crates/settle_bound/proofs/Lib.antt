@@ -10,3 +10,8 @@ pub mod RunTimes
 pub mod ChainLaws
 pub mod LongestLaws
 pub mod CircuitTimes
+pub mod TerminalLaws
+pub mod HopLaws
+pub mod LinkedLaws
+pub mod RingLaws
+pub mod SettleLaws

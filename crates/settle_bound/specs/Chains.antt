@@ -34,3 +34,10 @@ pub record IsBound (c : Circuit) (net bound : ℕ) : Type 0 where
 abbrev pub IsCycle : Circuit → List Hop → Type 0
 IsCycle c [] = ⊥
 IsCycle c (h ∷ hs) = All (IsHop c) (h ∷ hs) × Follow c (last_of h hs) (h ∷ hs) × AllPairs (λ one other. one ≢ other) (h ∷ hs)
+
+-- Words of the code.
+
+-- each hop differs from those behind it
+abbrev pub AreOnce : List Hop → Type 0
+AreOnce [] = Unit {0}
+AreOnce (h ∷ hs) = All (λ i. h ≢ i) hs × AreOnce hs

@@ -3,9 +3,13 @@
 
 mod cycles;
 mod hops;
+mod links;
 mod orders;
+mod rings;
 mod settling;
+mod terminals;
 mod ways;
+mod weights;
 
 pub use cycles::is_cycle;
 pub use hops::Hop;
