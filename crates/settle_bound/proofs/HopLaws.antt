@@ -79,27 +79,22 @@ last-is : (h last : Hop) (hops : List Hop) → Some last ≡ slice_get (h ∷ ho
 last-is h last hops e = last-got h last hops (length (h ∷ hops) - 1) (omega arith) e
 
 -- where hops don't follow one another they are no cycle
-pub cycle-not : (c c' : Circuit) (hops : List Hop) (last : Hop) (b : Bool) → c' ≡ c → Some last ≡ slice_get hops (length hops - 1) → IsTrue b ↔ Follow c' last hops → not b ≡ true → IsTrue false ↔ IsCycle c hops
+pub cycle-not : (c c' : Circuit) (hops : List Hop) (last : Hop) (b : Bool) → c' ≡ c → Some last ≡ slice_get hops (length hops - 1) → IsTrue b ↔ Follow c' last hops → b ≡ false → IsTrue false ↔ IsCycle c hops
 cycle-not c c' hops last b same at f t = (λ e. absurd (let g : false ≡ true = e in cc), λ cycle. absurd (by hops (subst (λ x. IsTrue b ↔ Follow x last hops) same f) at cycle))
   where
-    no : (d : Bool) → not d ≡ true → d ≡ true → ⊥
-    no true e g = cc
-    no false e g = cc
+    no : (d : Bool) → d ≡ false → d ≡ true → ⊥
+    no d e g = let f : false ≡ true = sym e ∙ g in cc
 
     by : (xs : List Hop) → IsTrue b ↔ Follow c last xs → Some last ≡ slice_get xs (length xs - 1) → IsCycle c xs → ⊥
     by [] g e cycle = cycle
     by (h ∷ hs) g e cycle = no b t (g.1 (subst (λ x. Follow c x (h ∷ hs)) (sym (last-is h last hs e)) cycle.1))
 
 -- where they do, and are hops, they are one if they differ
-pub cycle-is : (c c' : Circuit) (hops : List Hop) (last : Hop) (h f b : Bool) → c' ≡ c → Some last ≡ slice_get hops (length hops - 1) → IsTrue h ↔ All (IsHop c') hops → not h ≡ false → IsTrue f ↔ Follow c' last hops → not f ≡ false → IsTrue b ↔ AreOnce hops
+pub cycle-is : (c c' : Circuit) (hops : List Hop) (last : Hop) (h f b : Bool) → c' ≡ c → Some last ≡ slice_get hops (length hops - 1) → IsTrue h ↔ All (IsHop c') hops → h ≡ true → IsTrue f ↔ Follow c' last hops → f ≡ true → IsTrue b ↔ AreOnce hops
     → IsTrue b ↔ IsCycle c hops
 cycle-is c c' hops last h f b same at all t follow u once =
-    by hops at (subst (λ x. All (IsHop x) hops) same (all.0 (yes h t))) (subst (λ x. Follow x last hops) same (follow.0 (yes f u))) once
+    by hops at (subst (λ x. All (IsHop x) hops) same (all.0 t)) (subst (λ x. Follow x last hops) same (follow.0 u)) once
   where
-    yes : (d : Bool) → not d ≡ false → d ≡ true
-    yes true e = refl
-    yes false e = cc
-
     by : (xs : List Hop) → Some last ≡ slice_get xs (length xs - 1) → All (IsHop c) xs → Follow c last xs → IsTrue b ↔ AreOnce xs → IsTrue b ↔ IsCycle c xs
     by [] e a g o = absurd (let q : Some last ≡ None = e in cc)
     by (i ∷ is) e a g o = (

@@ -15,3 +15,4 @@ pub mod HopLaws
 pub mod LinkedLaws
 pub mod RingLaws
 pub mod SettleLaws
+mod Examples

@@ -1,17 +1,20 @@
 -- The ways of a closed circuit are its hops, by their numbers.
-use Rattle.std.specs.Prelude.{◌≡◌, ◌≢◌, ◌⊎◌, ◌↔◌, ℕ, zero, suc, ◌+◌, ◌-◌, ◌<◌, ◌≤◌, ◌^◌, nat_lt, Bool, true, false, if◌then◌else◌, All, Contains, IfSome, IsSome, is_some, List, [], ◌∷◌, ◌++◌, length, map, slice_index_or, Option, Some, None, pos, refl}
+use Rattle.std.specs.Prelude.{◌≡◌, ◌≢◌, ◌⊎◌, ◌↔◌, ℕ, zero, suc, ◌+◌, ◌-◌, ◌<◌, ◌≤◌, ◌^◌, nat_lt, Bool, true, false, if◌then◌else◌, All, Contains, IfSome, IsSome, is_some, List, [], ◌∷◌, ◌++◌, length, map, take, slice_index_or, Option, Some, None, refl}
 use Rattle.std.specs.Option.{option_map}
 use Rattle.std.proofs.Common.{sym, ◌∙◌, ap, subst, arith, inl, inr}
 use Rattle.std.proofs.lemmas.Bool.{cases_eq, cases_lt}
 use Rattle.std.proofs.lemmas.Bool.Decides.{nat_tests}
-use Rattle.std.proofs.lemmas.List.{length-map, length-append, get_or-map, get_or_default, get_or_append_left, get_or-append-add}
-use Rattle.std.proofs.lemmas.List.Elements.{All-nil, All-cons, All-map, All-append, All-weaker, All-contains}
+use Rattle.std.proofs.lemmas.List.{length-map, length-append, get_or-map, get_or_default, get_or_append_left, get_or-append-add, map_push, take_more}
+use Rattle.std.proofs.lemmas.List.Elements.{All-nil, All-cons, All-map, All-append, All-weaker, All-contains, Contains-get_or}
 use Rattle.sg_circuit.specs.declared.building.Pin.{Pin}
 use Rattle.sg_circuit.specs.declared.checks.Check as check_type
 use Rattle.sg_circuit.specs.declared.checks.CheckKind.TheVariants as kind
 use Rattle.sg_circuit.specs.declared.checks.CheckTiming.{CheckTiming}
 use Rattle.sg_circuit.specs.declared.checks.Event.{Event}
-use Rattle.sg_circuit.specs.Pins.{HasPins}
+use Rattle.sg_circuit.specs.Pins.{HasPins, pins_on}
+use Rattle.sg_circuit.specs.Seen.{circuit_seen, element_seen}
+use Rattle.sg_circuit.specs.declared.circuits.Parts.{Parts}
+use Rattle.sg_circuit.specs.declared.elements.Element as code_element
 use Rattle.sg_circuit.specs.Circuit as circuit
 use Rattle.sg_circuit.specs.Circuit.{Circuit, Pass, element_at}
 use Rattle.sg_circuit.specs.Closed.{IsClosed, IsNotifier, IsCheckTiming, IsEventOf, HasLates, AreLatesOf, IsLateOf, HasDelays}
@@ -252,3 +255,68 @@ links-fit c w closed of few = record {
     light i (inr q) l =
         let k : q.check < length c.checks = (let e = q.is in omega arith) in
         subst (λ (x : Link). x.weight < 2 ^ 60) (sym (ap (link_at w.links.items) q.is ∙ link-check c w of q.check k)) (omega arith)
+
+-- ---- links and pins are collected
+
+pub links-more : (parts : Parts) (i : ℕ) (item : code_element.Element) (links links' : List Link) (link : Link) → i < length parts.elements.items → item ≡ slice_index_or parts.elements.items i item → link ≡ element_link (element_seen parts item)
+    → links ≡ map element_link (take i (circuit_seen parts).elements) → links' ≡ links ++ link ∷ [] → links' ≡ map element_link (take (i + 1) (circuit_seen parts).elements)
+links-more parts i item links links' link l is made e e' =
+    let all : List circuit.Element = map (element_seen parts) parts.elements.items in
+    let m : i < length all = subst (λ n. i < n) (sym (length-map parts.elements.items (element_seen parts))) l in
+    let one : slice_index_or all i (element_seen parts item) ≡ element_seen parts item = get_or-map (element_seen parts) parts.elements.items i item (element_seen parts item) l ∙ ap (element_seen parts) (sym is) in
+    e' ∙ (ap (λ ls. ls ++ link ∷ []) e ∙ (ap (λ x. map element_link (take i all) ++ x ∷ []) (made ∙ ap element_link (sym one))
+    ∙ (sym (map_push element_link (take i all) (slice_index_or all i (element_seen parts item))) ∙ ap (map element_link) (sym (take_more all i (element_seen parts item) m)))))
+
+pub have-more : (c : Circuit) (count : ℕ) (pins : List Pin) (nets : List ℕ) → HavePins c count pins → reads_of c count ≡ nets → HavePins c (count + 1) (pins ++ pins_on count nets)
+have-more c count pins nets h e = record {
+  sound = λ i l. elim (cases_lt i (length pins)) [
+    | inl m ↦ (let s = h.sound i m in
+        let is : pin_at (pins ++ pins_on count nets) i ≡ pin_at pins i = get_or_append_left pins (pins_on count nets) (record { net = 0; element = 0 }) i m in
+        subst (λ (p : Pin). (p.element < count + 1) × Contains (reads_of c p.element) p.net) (sym is) ((let k : (pin_at pins i).element < count = s.0 in omega arith), s.1))
+    | inr m ↦ (let j : ℕ = i - length pins in
+        let sum : i ≡ length pins + j = omega arith in
+        let k : j < length nets = (let many : length (pins_on count nets) ≡ length nets = length-map nets (λ (n : ℕ). record { net = n; element = count }) in omega (arith, l, length-append pins (pins_on count nets))) in
+        let is : pin_at (pins ++ pins_on count nets) i ≡ record { net = slice_index_or nets j 0; element = count } =
+        ap (pin_at (pins ++ pins_on count nets)) sum ∙ (get_or-append-add pins (pins_on count nets) j (record { net = 0; element = 0 }) ∙ get_or-map (λ (n : ℕ). record { net = n; element = count }) nets j 0 (record { net = 0; element = 0 }) k) in
+        subst (λ (p : Pin). (p.element < count + 1) × Contains (reads_of c p.element) p.net) (sym is) (omega arith, subst (λ ns. Contains ns (slice_index_or nets j 0)) (sym e) (Contains-get_or nets j 0 k)))
+  ];
+  complete = λ number net l read. elim (cases_lt number count) [
+    | inl m ↦ (let p = h.complete number net m read in
+        (p.0, (let k : p.0 < length pins = p.1 in omega (arith, k, length-append pins (pins_on count nets))), get_or_append_left pins (pins_on count nets) (record { net = 0; element = 0 }) p.0 p.1 ∙ p.2))
+    | inr m ↦ (let same : number ≡ count = omega arith in
+        let read' : Contains nets net = subst (λ ns. Contains ns net) (ap (reads_of c) same ∙ e) read in
+        let here : slice_index_or nets read'.0 0 ≡ net = get_or_default nets read'.0 0 net read'.1 ∙ read'.2 in
+        (length pins + read'.0, (let k : read'.0 < length nets = read'.1 in let many : length (pins_on count nets) ≡ length nets = length-map nets (λ (n : ℕ). record { net = n; element = count }) in omega (arith, k, length-append pins (pins_on count nets))),
+        get_or-append-add pins (pins_on count nets) read'.0 (record { net = 0; element = 0 })
+        ∙ (get_or-map (λ (n : ℕ). record { net = n; element = count }) nets read'.0 0 (record { net = 0; element = 0 }) read'.1
+        ∙ (ap (λ n. record { net = n; element = count }) here ∙ ap (λ k. record { net = net; element = k }) (sym same)))))
+  ];
+}
+
+pub element-pins : (parts : Parts) (number : ℕ) (item : code_element.Element) (pins pins' : List Pin) → number < length parts.elements.items → item ≡ slice_index_or parts.elements.items number item → HavePins (circuit_seen parts) number pins
+    → pins' ≡ pins ++ pins_on number item.inputs.items → HavePins (circuit_seen parts) (number + 1) pins'
+element-pins parts number item pins pins' l is h e =
+    let m : number < length (circuit_seen parts).elements = subst (λ n. number < n) (sym (length-map parts.elements.items (element_seen parts))) l in
+    let one : element_at (circuit_seen parts) number ≡ element_seen parts item = get_or-map (element_seen parts) parts.elements.items number item (record { scope = 0; inputs = []; output = 0; kind = Pass None }) l ∙ ap (element_seen parts) (sym is) in
+    let reads : reads_of (circuit_seen parts) number ≡ item.inputs.items = reads-element (circuit_seen parts) number m ∙ ap (λ (x : circuit.Element). x.inputs) one in
+    subst (λ ps. HavePins (circuit_seen parts) (number + 1) ps) (sym e) (have-more (circuit_seen parts) number pins item.inputs.items h reads)
+
+pub check-pins : (c : Circuit) (elements check : ℕ) (pins pins' : List Pin) → HavePins c (elements + check) pins → pins' ≡ pins ++ pins_on (elements + check) (reads_of c (elements + check)) → HavePins c (elements + (check + 1)) pins'
+check-pins c elements check pins pins' h e =
+    let sum : elements + check + 1 ≡ elements + (check + 1) = omega arith in
+    subst (λ n. HavePins c n pins') sum (subst (λ ps. HavePins c (elements + check + 1) ps) (sym e) (have-more c (elements + check) pins (reads_of c (elements + check)) h refl))
+
+-- none is missing
+pub pins-all : (c : Circuit) (count top : ℕ) (pins : List Pin) → HavePins c count pins → count ≡ top → HavePins c top pins
+pins-all c count top pins h e = subst (λ n. HavePins c n pins) e h
+
+-- what was collected fits together
+pub ways-fit : (c c' : Circuit) (w : Ways) → c' ≡ c → IsClosed c → AreLinksOf c' w → length w.pins.items < 2 ^ 32 → (ps : List Pin) → ps ≡ w.pins.items → HasPins ps w.readers → length w.readers ≡ w.nets → AreWays w
+ways-fit c c' w same closed of few ps e readers each = record {
+  linked = links-fit c w closed (subst (λ x. AreLinksOf x w) same of) few;
+  readers = subst (λ xs. HasPins xs w.readers) e readers;
+  readers_of_each = each;
+}
+
+pub pins-fit : (c c' : Circuit) (w : Ways) → c' ≡ c → IsClosed c → AreLinksOf c' w → length w.pins.items < 2 ^ 32 → (ps : List Pin) → ps ≡ w.pins.items → All (λ (p : Pin). p.net < w.nets) ps
+pins-fit c c' w same closed of few ps e = subst (λ xs. All (λ (p : Pin). p.net < w.nets) xs) (sym e) (links-fit c w closed (subst (λ x. AreLinksOf x w) same of) few).read

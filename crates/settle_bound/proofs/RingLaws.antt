@@ -65,13 +65,13 @@ record IsCounted {A : Type 0} (test : A → Bool) (xs : List A) (d : A) : Type 0
 
 counted : {A : Type 0} (test : A → Bool) (xs : List A) (d : A) → 0 < count_by test xs → IsCounted test xs d
 counted test [] d l = absurd (let m : 0 < 0 = l in omega arith)
-counted test (x ∷ xs) d l = at (test x) refl (λ m. counted test xs d m)
+counted test (x ∷ xs) d l = at (test x) refl (λ m. counted test xs d m) l
   where
-    at : (b : Bool) → test x ≡ b → (0 < count_by test xs → IsCounted test xs d) → IsCounted test (x ∷ xs) d
-    at true e rest = record { place = 0; within = omega arith; passes = e }
-    at false e rest =
+    at : (b : Bool) → test x ≡ b → (0 < count_by test xs → IsCounted test xs d) → 0 < count_by test (x ∷ xs) → IsCounted test (x ∷ xs) d
+    at true e rest some = record { place = 0; within = omega arith; passes = e }
+    at false e rest some =
         let sum : count_by test (x ∷ xs) ≡ cond (test x) 1 0 + count_by test xs = sum_by-cons (λ y. cond (test y) 1 0) x xs in
-        let none : cond (test x) 1 0 ≡ 0 = ap (λ b. cond b 1 0) e in
+        let left : count_by test (x ∷ xs) ≡ 0 + count_by test xs = subst (λ b. count_by test (x ∷ xs) ≡ cond b 1 0 + count_by test xs) e sum in
         let r = rest (omega arith) in
         record { place = suc r.place; within = (let m = r.within in omega arith); passes = r.passes }
 
@@ -151,7 +151,7 @@ walks-more w waits back start net place hops hops' seen pin ways on h new at_pla
 pub unseen-fewer : (seen : List Bool) (net : ℕ) → net < length seen → slice_index_or seen net false ≡ false → count_by not (slice_set seen net true) < count_by not seen
 unseen-fewer seen net l e =
     let sum : count_by not (slice_set seen net true) + cond (not (slice_index_or seen net false)) 1 0 ≡ count_by not seen + cond (not true) 1 0 = sum_by-set (λ b. cond (not b) 1 0) seen net true false l in
-    let one : cond (not (slice_index_or seen net false)) 1 0 ≡ 1 = ap (λ b. cond (not b) 1 0) e in
+    let less : count_by not (slice_set seen net true) + 1 ≡ count_by not seen + 0 = subst (λ b. count_by not (slice_set seen net true) + cond (not b) 1 0 ≡ count_by not seen + 0) e sum in
     omega arith
 
 pub walks-end : (w : Ways) (waits : List ℕ) (start : ℕ) (walk : Walk) (seen : List Bool) → Walks w waits start walk.end walk.hops.items seen → slice_index_or seen walk.end false ≡ true → IsWalk w start walk
@@ -195,3 +195,31 @@ ring-cut w start walk first ring h l drives e =
         let many : length (drop first nets) ≡ length nets - first = length-drop first nets in
         let there : slice_index_or nets (first + i) d ≡ slice_index_or nets (first + j) d = sym (get_or-drop first nets i d) ∙ (ap (λ xs. slice_index_or xs i d) (sym cut_nets) ∙ (q ∙ (ap (λ xs. slice_index_or xs j d) cut_nets ∙ get_or-drop first nets j d))) in
         h.once (first + i) (first + j) d (omega arith) (omega arith) there
+
+-- ---- the same, of what the code has at hand
+
+pub wait-on-at : (w : Ways) (o : Order) (back waits waits' behind : List ℕ) → AreWays w → IsOrderOf w o o.ready.items → waits ≡ o.waits.items → AreBehind w waits (length w.pins.items) back → waits' ≡ o.waits.items → behind ≡ back → WaitOn w waits' behind
+wait-on-at w o back waits waits' behind ways h e are e' f =
+    subst (λ ws. WaitOn w ws behind) (sym e') (subst (λ b. WaitOn w o.waits.items b) (sym f) (wait-on w o back ways h (subst (λ ws. AreBehind w ws (length w.pins.items) back) e are)))
+
+leads-within : (w : Ways) → AreWays w → (from to : ℕ) (hops : List ℕ) → Leads w from hops to → (i : ℕ) → i < length hops → slice_index_or hops i 0 < length w.links.items
+leads-within w ways from to hops (stays n) i l = absurd (omega arith)
+leads-within w ways from to hops (goes_back g n end rest p r) zero l = subst (λ h. h < length w.links.items) p.hop_is (ways.linked.hops p.place (record { net = 0; element = 0 }) p.within)
+leads-within w ways from to hops (goes_back g n end rest p r) (suc i) l = leads-within w ways n end rest r i (omega arith)
+
+pub walk-within : (w : Ways) (start : ℕ) (walk : Walk) (links : List Link) (hops : List ℕ) → AreWays w → IsWalk w start walk → links ≡ w.links.items → hops ≡ walk.hops.items → (i : ℕ) → i < length hops → slice_index_or hops i 0 < length links
+walk-within w start walk links hops ways h e f =
+    subst (λ ls. (i : ℕ) → i < length hops → slice_index_or hops i 0 < length ls) (sym e) (subst (λ hs. (i : ℕ) → i < length hs → slice_index_or hs i 0 < length w.links.items) (sym f) (λ i l. leads-within w ways start walk.end walk.hops.items h.leads i l))
+
+pub ring-at : (w : Ways) (start : ℕ) (walk : Walk) (first : ℕ) (ring hops hops' : List ℕ) (links : List Link) → IsWalk w start walk → hops ≡ walk.hops.items → links ≡ w.links.items → first < length hops → (link_at links (slice_index_or hops first 0)).driven ≡ walk.end
+    → hops' ≡ walk.hops.items → ring ≡ drop first hops' → IsRing w ring
+ring-at w start walk first ring hops hops' links h e f l drives e' made =
+    ring-cut w start walk first ring h (subst (λ hs. first < length hs) e l) (sym (ap (λ hs. (link_at w.links.items (slice_index_or hs first 0)).driven) e) ∙ (sym (ap (λ ls. (link_at ls (slice_index_or hops first 0)).driven) f) ∙ drives)) (made ∙ ap (drop first) e')
+
+-- some hop drives a net that is driven
+pub drives-none : (links : List Link) (hops : List ℕ) (net place : ℕ) → length hops ≤ place → ((i : ℕ) → i < place → (link_at links (slice_index_or hops i 0)).driven ≢ net) → has net (nets_driven links hops) ≡ true → ⊥
+drives-none links hops net place l none e =
+    let f = has-found net (nets_driven links hops) e in
+    let many : length (nets_driven links hops) ≡ length hops = length-map hops (λ h. (link_at links h).driven) in
+    let m : f.0 < length hops = subst (λ n. f.0 < n) many f.1 in
+    none f.0 (omega arith) (sym (get_or-map (λ h. (link_at links h).driven) hops f.0 0 0 m) ∙ f.2)

@@ -151,32 +151,33 @@ back-follow c w of from to numbers (goes_back number net end rest pin leads) bef
 
 -- different hops, where they drive different nets
 back-once : (c : Circuit) (w : Ways) → AreLinksOf c w → (numbers : List ℕ) → AllPairs (λ m n. m ≢ n) (nets_driven w.links.items numbers) → ((i : ℕ) → i < length numbers → IsHopNumber c w (slice_index_or numbers i 0)) → AllPairs (λ one other. one ≢ other) (hops_back c numbers)
-back-once c w of numbers once is i j d l m same =
-    once k' k 0 (omega arith) (omega arith)
-    (get_or-map (λ h. (link_at w.links.items h).driven) numbers k' 0 0 (omega arith) ∙ (equal ∙ sym (get_or-map (λ h. (link_at w.links.items h).driven) numbers k 0 0 (omega arith))))
+back-once c w of numbers once is i j d l m same = at (subst (λ n. j < n) many m)
   where
     many : length (hops_back c numbers) ≡ length numbers
     many = length-map (reverse numbers) (hop_of (length c.elements)) ∙ length-reverse numbers
 
-    many' : length (nets_driven w.links.items numbers) ≡ length numbers
-    many' = length-map numbers (λ h. (link_at w.links.items h).driven)
-
-    k : ℕ
-    k = length numbers - 1 - i
-
-    k' : ℕ
-    k' = length numbers - 1 - j
-
     hop-at : (n : ℕ) → n < length numbers → slice_index_or (hops_back c numbers) n d ≡ hop_of (length c.elements) (slice_index_or numbers (length numbers - 1 - n) 0)
     hop-at n p = get_or-map (hop_of (length c.elements)) (reverse numbers) n 0 d (subst (λ x. n < x) (sym (length-reverse numbers)) p) ∙ ap (hop_of (length c.elements)) (get_or-reverse numbers n 0 p)
 
-    equal : (link_at w.links.items (slice_index_or numbers k' 0)).driven ≡ (link_at w.links.items (slice_index_or numbers k 0)).driven
-    equal =
-        let hops : hop_of (length c.elements) (slice_index_or numbers k' 0) ≡ hop_of (length c.elements) (slice_index_or numbers k 0) = sym (hop-at j (omega arith)) ∙ (sym same ∙ hop-at i (omega arith)) in
-        let a = (is k' (omega arith)).drives in
-        let b = (is k (omega arith)).drives in
-        let q : Some (link_at w.links.items (slice_index_or numbers k' 0)).driven ≡ Some (link_at w.links.items (slice_index_or numbers k 0)).driven = sym a ∙ (ap (net_driven c) hops ∙ b) in
+    net-at : (n : ℕ) → n < length numbers → slice_index_or (nets_driven w.links.items numbers) n 0 ≡ (link_at w.links.items (slice_index_or numbers n 0)).driven
+    net-at n p = get_or-map (λ h. (link_at w.links.items h).driven) numbers n 0 0 p
+
+    equal : (a b : ℕ) → a < length numbers → b < length numbers → hop_of (length c.elements) (slice_index_or numbers a 0) ≡ hop_of (length c.elements) (slice_index_or numbers b 0) → (link_at w.links.items (slice_index_or numbers a 0)).driven ≡ (link_at w.links.items (slice_index_or numbers b 0)).driven
+    equal a b p q hops =
+        let x = (is a p).drives in
+        let y = (is b q).drives in
+        let z : Some (link_at w.links.items (slice_index_or numbers a 0)).driven ≡ Some (link_at w.links.items (slice_index_or numbers b 0)).driven = sym x ∙ (ap (net_driven c) hops ∙ y) in
         cc
+
+    apart : (a b : ℕ) → a < b → b < length numbers → hop_of (length c.elements) (slice_index_or numbers a 0) ≡ hop_of (length c.elements) (slice_index_or numbers b 0) → ⊥
+    apart a b p q hops =
+        let many' : length (nets_driven w.links.items numbers) ≡ length numbers = length-map numbers (λ h. (link_at w.links.items h).driven) in
+        once a b 0 p (subst (λ n. b < n) (sym many') q) (net-at a (omega arith) ∙ (equal a b (omega arith) q hops ∙ sym (net-at b q)))
+
+    at : j < length numbers → ⊥
+    at p =
+        let less : i < j = l in
+        apart (length numbers - 1 - j) (length numbers - 1 - i) (omega arith) (omega arith) (sym (hop-at j p) ∙ (sym same ∙ hop-at i (omega arith)))
 
 -- each number of hops that lead back is that of a hop
 leads-hops : (c : Circuit) (w : Ways) → AreLinksOf c w → (from to : ℕ) (numbers : List ℕ) → Leads w from numbers to → (i : ℕ) → i < length numbers → IsHopNumber c w (slice_index_or numbers i 0)
@@ -236,3 +237,12 @@ back-more elements numbers place hops hops' hop l e h e' =
 
 pub back-all : (elements : ℕ) (numbers : List ℕ) (place : ℕ) (hops : List Hop) → length numbers ≤ place → hops ≡ map (hop_of elements) (take place (reverse numbers)) → hops ≡ map (hop_of elements) (reverse numbers)
 back-all elements numbers place hops l e = e ∙ ap (map (hop_of elements)) (take_all place (reverse numbers) (subst (λ n. n ≤ place) (sym (length-reverse numbers)) l))
+
+-- ---- the same, of what the code has at hand
+
+pub bounds-at : (c : Circuit) (w : Ways) (o : Order) (waits : List ℕ) → IsClosed c → AreLinksOf c w → IsOrderOf w o o.ready.items → waits ≡ o.waits.items → ((net : ℕ) → net < length waits → at waits net ≡ 0) → AreBounds c o.bounds.items
+bounds-at c w o waits closed of h e none = bounds-found c w o closed of h (subst (λ ws. (net : ℕ) → net < length ws → at ws net ≡ 0) e none)
+
+pub ring-cycle-at : (c : Circuit) (w : Ways) (numbers numbers' : List ℕ) (hops : List Hop) (elements : ℕ) → AreLinksOf c w → IsRing w numbers → numbers' ≡ numbers → elements ≡ length c.elements → hops ≡ map (hop_of elements) (reverse numbers') → IsCycle c hops
+ring-cycle-at c w numbers numbers' hops elements of ring e f made =
+    subst (IsCycle c) (sym (made ∙ (ap (λ n. map (hop_of n) (reverse numbers')) f ∙ ap (λ ns. map (hop_of (length c.elements)) (reverse ns)) e))) (ring-cycle c w numbers of ring)

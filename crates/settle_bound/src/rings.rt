@@ -1,5 +1,5 @@
 // A cycle, where nets wait for one another.
-ghost use Rattle.std.specs.Prelude.{ℕ, ◌≡◌, ◌<◌, ◌≤◌, ◌^◌, IfOk, length, slice_index_or};
+ghost use Rattle.std.specs.Prelude.{ℕ, ◌≡◌, ◌<◌, IfOk, length, slice_index_or, true};
 ghost use Rattle.sg_circuit.specs.FanOut.{has};
 ghost use Rattle.settle_bound.specs.Links.{link_at, AreWays};
 ghost use Rattle.settle_bound.specs.Orders.{at, IsOrderOf};

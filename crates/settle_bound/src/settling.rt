@@ -64,12 +64,14 @@ pub fn settle(alloc: Global, circuit: &Circuit) -> Result<Settled, NoMemory>
     ensures found { IfOk result (λ settled. Settles circuit.now settled) }
     ensures runs { IfOk result (λ settled. HoldsOfRuns circuit.now settled) }
 {
+    let elements = circuit.parts().elements.len() as u32;
     let ways = collect_ways(alloc, circuit)?;
     let order = order_nets(alloc, &ways)?;
-    let Some(start) = first_waiting(&order.waits) else {
-        return Ok(Settled::Bounds(order.bounds));
-    };
-    let ring = find_ring(alloc, &ways, &order, start)?;
-    let elements = circuit.parts().elements.len() as u32;
-    Ok(Settled::Cycle(hops_of(alloc, elements, &ring)?))
+    match first_waiting(&order.waits) {
+        None => Ok(Settled::Bounds(order.bounds)),
+        Some(start) => {
+            let ring = find_ring(alloc, &ways, &order, start)?;
+            Ok(Settled::Cycle(hops_of(alloc, elements, &ring)?))
+        }
+    }
 }
