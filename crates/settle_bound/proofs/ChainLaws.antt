@@ -1,18 +1,18 @@
 -- Chains of hops: what bounds them, and what extends them.
-use Rattle.std.specs.Prelude.{◌≡◌, ◌≢◌, ◌⊎◌, ℕ, zero, suc, ◌+◌, ◌<◌, ◌≤◌, Bool, true, false, All, Contains, IfSome, IsSome, List, [], ◌∷◌, ◌++◌, length, sum_by, slice_index_or, Option, Some, None, refl}
+use Rattle.std.specs.Prelude.{◌≡◌, ℕ, zero, suc, ◌+◌, ◌<◌, ◌≤◌, true, false, All, Contains, IfSome, IsSome, List, [], ◌∷◌, ◌++◌, length, slice_index_or, Option, Some, None, refl}
 use Rattle.std.proofs.Common.{sym, ◌∙◌, ap, subst, arith, inl, inr}
 use Rattle.std.proofs.lemmas.Bool.{cases_lt}
 use Rattle.std.proofs.lemmas.List.{get_or_past}
 use Rattle.std.proofs.lemmas.List.Elements.{All-nil, All-cons, All-head, All-tail, All-push}
 use Rattle.std.proofs.lemmas.List.Sums.{sum_by-cons, sum_by_push}
-use Rattle.sg_circuit.specs.Circuit.{Circuit, Element as CircuitElement, Pass, element_at}
+use Rattle.sg_circuit.specs.Circuit.{Circuit, Pass, element_at}
 use Rattle.sg_circuit.specs.Closed.{IsClosed, IsNotifier}
 use Rattle.sg_circuit.specs.declared.checks.Check as check_type
 use Rattle.sim_rounds.specs.Notifiers.{notifier_at}
 use Rattle.settle_bound.specs.declared.hops.Hop.{Hop}
 use Rattle.settle_bound.specs.declared.hops.Hop.TheVariants.{Element, Check}
 use Rattle.settle_bound.specs.Hops.{IsHop, nets_read, net_driven, weight, Reads}
-use Rattle.settle_bound.specs.Chains.{Follow, last_of, IsChain, total_weight, IsBound}
+use Rattle.settle_bound.specs.Chains.{Follow, last_of, IsChain, total_weight}
 use Rattle.settle_bound.specs.Settling.{AreBounds}
 
 -- numbers of nets that rise along each hop by its weight

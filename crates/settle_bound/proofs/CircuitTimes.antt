@@ -1,5 +1,5 @@
 -- The machine of a circuit meets the deadlines that bounds give, whatever the stimulus.
-use Rattle.std.specs.Prelude.{◌≡◌, ◌≢◌, ◌⊎◌, ℕ, ℤ, zero, suc, ◌+◌, ◌<◌, ◌≤◌, ◌==◌, ◌||◌, max, Bool, true, false, if◌then◌else◌, All, Contains, IsSome, is_some, List, [], ◌∷◌, ◌++◌, length, map, slice_index_or, Option, Some, None, refl}
+use Rattle.std.specs.Prelude.{◌≡◌, ◌≢◌, ◌⊎◌, ℕ, ℤ, zero, suc, ◌+◌, ◌<◌, ◌≤◌, ◌==◌, max, Bool, true, false, if◌then◌else◌, All, Contains, is_some, List, [], ◌∷◌, length, map, slice_index_or, Option, Some, None, refl}
 use Rattle.std.proofs.Common.{sym, ◌∙◌, ap, subst, arith, inl, inr, zero-add}
 use Rattle.std.specs.List.{enumerate_from}
 use Rattle.std.proofs.lemmas.Bool.{or_cases}
@@ -11,13 +11,13 @@ use Rattle.sg_logic.specs.declared.values.Value.{Value}
 use Rattle.sg_logic.specs.Values.{is_same}
 use Rattle.sg_model.specs.Values.{value_at}
 use Rattle.sg_model.specs.Agenda.{list_at}
-use Rattle.sg_model.specs.Machine.{Machine, State, Stamp, Snapshot, Violation, IsNoOutput}
+use Rattle.sg_model.specs.Machine.{Stamp, Snapshot, Violation}
 use Rattle.sg_model.proofs.PlacedLaws.{same-true, same-false}
 use Rattle.sg_circuit.specs.Circuit.{Circuit, Element as CircuitElement, Pass, element_at}
 use Rattle.sg_circuit.specs.Closed.{IsClosed}
 use Rattle.sg_circuit.specs.declared.checks.Check as check_type
 use Rattle.sg_circuit.specs.declared.checks.Event.{Event}
-use Rattle.sg_stimulus.specs.Stimulus.{Step, Stimulus, sets_at}
+use Rattle.sg_stimulus.specs.Stimulus.{Step, sets_at}
 use Rattle.time_checks.specs.Adjusted.{AdjustedCheck, adjusted_check, adjusted_checks}
 use Rattle.time_checks.specs.Checking.{check_at}
 use Rattle.time_checks.specs.Events.{moment}
@@ -29,14 +29,13 @@ use Rattle.time_checks.specs.declared.violations.Part.{Part}
 use Rattle.time_checks.specs.Within.{datum_nets, terminals}
 use Rattle.time_checks.proofs.QuietLaws.{first-none, untouched-none}
 use Rattle.sim_rounds.specs.Notifiers.{notifier_at, is_net, is_named, numbers_from, notifiers_of}
-use Rattle.sim_rounds.specs.Simulated.{machine_of, first_state, run_of_circuit}
+use Rattle.sim_rounds.specs.Simulated.{machine_of, first_state}
 use Rattle.sim_rounds.proofs.MachineLaws.{lawful, steady, one_driver, notifier_is_no_output, inputs_at, outputs_within, length-outputs}
-use Rattle.settle_bound.specs.declared.hops.Hop.{Hop}
 use Rattle.settle_bound.specs.declared.hops.Hop.TheVariants.{Element, Check}
-use Rattle.settle_bound.specs.Hops.{IsHop, nets_read, net_driven, weight, longest_delay}
+use Rattle.settle_bound.specs.Hops.{IsHop, longest_delay}
 use Rattle.settle_bound.specs.Settling.{AreBounds}
-use Rattle.settle_bound.specs.Staying.{time_of_sets, last_set, StaysAfter, StayAfter}
-use Rattle.settle_bound.proofs.Deadlines.{inputs_of, output_of, IsStamped, AreStamped, MeetsDeadlines, IsNoticed, IsMoved, AreMoved, IsOnTime}
+use Rattle.settle_bound.specs.Staying.{time_of_sets, last_set, StayAfter}
+use Rattle.settle_bound.proofs.Deadlines.{inputs_of, output_of, IsStamped, MeetsDeadlines, IsNoticed, AreMoved, IsOnTime}
 use Rattle.settle_bound.proofs.PendingTimes.{NoneAfter}
 use Rattle.settle_bound.proofs.RunTimes.{run-stays}
 use Rattle.settle_bound.proofs.ChainLaws.{IsPotential, bounds-rise, notifier-is}

@@ -1,6 +1,6 @@
 -- Two netlists worked out: one with a bound of 9, and one that is a cycle of one hop.
-use Rattle.std.specs.Prelude.{◌≡◌, ◌≢◌, ℕ, zero, suc, ◌+◌, ◌<◌, ◌≤◌, pos, All, AllPairs, Contains, List, [], ◌∷◌, length, slice_index_or, Some, None, refl}
-use Rattle.std.proofs.Common.{sym, ◌∙◌, ap, subst, arith}
+use Rattle.std.specs.Prelude.{◌≡◌, ℕ, zero, suc, ◌+◌, ◌<◌, ◌≤◌, pos, Contains, List, [], ◌∷◌, slice_index_or, Some, None, refl}
+use Rattle.std.proofs.Common.{subst, arith}
 use Rattle.std.proofs.lemmas.List.Elements.{All-nil, All-cons}
 use Rattle.sg_logic.specs.declared.gates.GateKind.TheVariants.{Buf, Nand}
 use Rattle.sg_delay.specs.declared.limits.PulseStyle.TheVariants.{OnEvent}
@@ -14,8 +14,8 @@ use Rattle.sg_circuit.specs.Timings.{Timing}
 use Rattle.settle_bound.specs.declared.hops.Hop.{Hop}
 use Rattle.settle_bound.specs.declared.hops.Hop.TheVariants.{Element, Check}
 use Rattle.settle_bound.specs.Hops.{IsHop, nets_read, net_driven, weight}
-use Rattle.settle_bound.specs.Chains.{Follow, IsChain, total_weight, IsBound, IsCycle}
-use Rattle.settle_bound.proofs.ChainLaws.{IsPotential, potential-most}
+use Rattle.settle_bound.specs.Chains.{IsChain, total_weight, IsBound, IsCycle}
+use Rattle.settle_bound.proofs.ChainLaws.{potential-most}
 
 abbrev net : Driver → Net
 net d = record { scope = 0; name = []; bit = None; driver = d }
@@ -31,19 +31,19 @@ after delay = record { delay = delay; limits = None }
 abbrev buffer : Circuit
 buffer =
     of (net (driver.Element 0) ∷ net driver.Stimulus ∷ net (driver.Element 1) ∷ []) (
-      record {
-        scope = 0;
-        inputs = 2 ∷ [];
-        output = 0;
-        kind = Path (record {
-          input = 1;
-          edge = None;
-          condition = specify.Always;
-          timings = after 7 ∷ after 9 ∷ after 7 ∷ after 7 ∷ after 9 ∷ after 9 ∷ after 7 ∷ after 7 ∷ after 9 ∷ after 9 ∷ after 9 ∷ after 7 ∷ [];
-        } ∷ []) OnEvent;
-      }
-      ∷ record { scope = 0; inputs = 1 ∷ []; output = 2; kind = Gate Buf [] }
-      ∷ [])
+    record {
+      scope = 0;
+      inputs = 2 ∷ [];
+      output = 0;
+      kind = Path (record {
+        input = 1;
+        edge = None;
+        condition = specify.Always;
+        timings = after 7 ∷ after 9 ∷ after 7 ∷ after 7 ∷ after 9 ∷ after 9 ∷ after 7 ∷ after 7 ∷ after 9 ∷ after 9 ∷ after 9 ∷ after 7 ∷ [];
+      } ∷ []) OnEvent;
+    }
+    ∷ record { scope = 0; inputs = 1 ∷ []; output = 2; kind = Gate Buf [] }
+    ∷ [])
 
 weighs_9 : weight buffer (Element 0) ≡ 9
 weighs_9 = refl

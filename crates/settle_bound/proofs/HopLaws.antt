@@ -1,6 +1,6 @@
 -- Whether hops are a cycle, test by test.
-use Rattle.std.specs.Prelude.{◌≡◌, ◌≢◌, ◌↔◌, ℕ, zero, suc, ◌+◌, ◌-◌, ◌<◌, ◌≤◌, Bool, true, false, All, AllPairs, Contains, IsTrue, List, [], ◌∷◌, length, drop, slice_get, slice_index_or, not, Option, Some, None, refl}
-use Rattle.std.proofs.Common.{sym, ◌∙◌, ap, subst, arith}
+use Rattle.std.specs.Prelude.{◌≡◌, ◌≢◌, ◌↔◌, ℕ, zero, suc, ◌+◌, ◌-◌, ◌<◌, ◌≤◌, Bool, true, false, All, AllPairs, Contains, IsTrue, List, [], ◌∷◌, length, drop, slice_get, slice_index_or, Option, Some, None}
+use Rattle.std.proofs.Common.{sym, ◌∙◌, subst, arith}
 use Rattle.std.proofs.lemmas.List.{drop_more, drop_all, get_or_default}
 use Rattle.sg_circuit.specs.Circuit.{Circuit}
 use Rattle.sg_circuit.specs.FanOut.{has}

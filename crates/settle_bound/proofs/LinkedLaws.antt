@@ -1,11 +1,11 @@
 -- The ways of a closed circuit are its hops, by their numbers.
-use Rattle.std.specs.Prelude.{◌≡◌, ◌≢◌, ◌⊎◌, ◌↔◌, ℕ, zero, suc, ◌+◌, ◌-◌, ◌<◌, ◌≤◌, ◌^◌, nat_lt, Bool, true, false, if◌then◌else◌, All, Contains, IfSome, IsSome, is_some, List, [], ◌∷◌, ◌++◌, length, map, take, slice_index_or, Option, Some, None, refl}
+use Rattle.std.specs.Prelude.{◌≡◌, ◌⊎◌, ℕ, ◌+◌, ◌-◌, ◌<◌, ◌^◌, nat_lt, true, false, if◌then◌else◌, All, Contains, IfSome, IsSome, List, [], ◌∷◌, ◌++◌, length, map, take, slice_index_or, Option, Some, None, refl}
 use Rattle.std.specs.Option.{option_map}
 use Rattle.std.proofs.Common.{sym, ◌∙◌, ap, subst, arith, inl, inr}
-use Rattle.std.proofs.lemmas.Bool.{cases_eq, cases_lt}
+use Rattle.std.proofs.lemmas.Bool.{cases_lt}
 use Rattle.std.proofs.lemmas.Bool.Decides.{nat_tests}
 use Rattle.std.proofs.lemmas.List.{length-map, length-append, get_or-map, get_or_default, get_or_append_left, get_or-append-add, map_push, take_more}
-use Rattle.std.proofs.lemmas.List.Elements.{All-nil, All-cons, All-map, All-append, All-weaker, All-contains, Contains-get_or}
+use Rattle.std.proofs.lemmas.List.Elements.{All-nil, All-cons, All-contains, Contains-get_or}
 use Rattle.sg_circuit.specs.declared.building.Pin.{Pin}
 use Rattle.sg_circuit.specs.declared.checks.Check as check_type
 use Rattle.sg_circuit.specs.declared.checks.CheckKind.TheVariants as kind
@@ -17,7 +17,7 @@ use Rattle.sg_circuit.specs.declared.circuits.Parts.{Parts}
 use Rattle.sg_circuit.specs.declared.elements.Element as code_element
 use Rattle.sg_circuit.specs.Circuit as circuit
 use Rattle.sg_circuit.specs.Circuit.{Circuit, Pass, element_at}
-use Rattle.sg_circuit.specs.Closed.{IsClosed, IsNotifier, IsCheckTiming, IsEventOf, HasLates, AreLatesOf, IsLateOf, HasDelays}
+use Rattle.sg_circuit.specs.Closed.{IsClosed, IsCheckTiming, IsEventOf, HasLates, AreLatesOf, IsLateOf}
 use Rattle.time_checks.specs.Adjusted.{AdjustedCheck, adjusted_checks, check_by, seen_at}
 use Rattle.time_checks.specs.Checking.{check_at}
 use Rattle.time_checks.specs.Within.{datum_nets, terminals}
@@ -26,10 +26,10 @@ use Rattle.settle_bound.specs.declared.hops.Hop.{Hop}
 use Rattle.settle_bound.specs.declared.hops.Hop.TheVariants.{Element, Check}
 use Rattle.settle_bound.specs.declared.ways.Link.{Link}
 use Rattle.settle_bound.specs.declared.ways.Ways.{Ways}
-use Rattle.settle_bound.specs.Hops.{IsHop, nets_read, net_driven, weight, longest_delay}
-use Rattle.settle_bound.specs.Links.{link_at, pin_at, net_behind, weight_behind, AreLinked, AreWays}
+use Rattle.settle_bound.specs.Hops.{IsHop, nets_read, net_driven, weight}
+use Rattle.settle_bound.specs.Links.{link_at, pin_at, AreLinked, AreWays}
 use Rattle.settle_bound.specs.Linked.{hop_of, where_named, reads_of_hop, reads_of, element_link, net_or_none, check_link, HavePins, AreLinksOf}
-use Rattle.settle_bound.proofs.ChainLaws.{driven-some, driven-within, notifier-is}
+use Rattle.settle_bound.proofs.ChainLaws.{driven-some, notifier-is}
 use Rattle.settle_bound.proofs.LongestLaws.{delay-below}
 use Rattle.settle_bound.proofs.TerminalLaws.{adjusted-at}
 
@@ -285,11 +285,13 @@ have-more c count pins nets h e = record {
         (p.0, (let k : p.0 < length pins = p.1 in omega (arith, k, length-append pins (pins_on count nets))), get_or_append_left pins (pins_on count nets) (record { net = 0; element = 0 }) p.0 p.1 ∙ p.2))
     | inr m ↦ (let same : number ≡ count = omega arith in
         let read' : Contains nets net = subst (λ ns. Contains ns net) (ap (reads_of c) same ∙ e) read in
-        let here : slice_index_or nets read'.0 0 ≡ net = get_or_default nets read'.0 0 net read'.1 ∙ read'.2 in
-        (length pins + read'.0, (let k : read'.0 < length nets = read'.1 in let many : length (pins_on count nets) ≡ length nets = length-map nets (λ (n : ℕ). record { net = n; element = count }) in omega (arith, k, length-append pins (pins_on count nets))),
-        get_or-append-add pins (pins_on count nets) read'.0 (record { net = 0; element = 0 })
-        ∙ (get_or-map (λ (n : ℕ). record { net = n; element = count }) nets read'.0 0 (record { net = 0; element = 0 }) read'.1
-        ∙ (ap (λ n. record { net = n; element = count }) here ∙ ap (λ k. record { net = net; element = k }) (sym same)))))
+        let here : slice_index_or nets read'.0 0 ≡ net = get_or_default nets read'.0 0 net read'.1 ∙ read'.2 in (
+          length pins + read'.0,
+          (let k : read'.0 < length nets = read'.1 in let many : length (pins_on count nets) ≡ length nets = length-map nets (λ (n : ℕ). record { net = n; element = count }) in omega (arith, k, length-append pins (pins_on count nets))),
+          get_or-append-add pins (pins_on count nets) read'.0 (record { net = 0; element = 0 })
+              ∙ (get_or-map (λ (n : ℕ). record { net = n; element = count }) nets read'.0 0 (record { net = 0; element = 0 }) read'.1
+              ∙ (ap (λ n. record { net = n; element = count }) here ∙ ap (λ k. record { net = net; element = k }) (sym same))),
+        ))
   ];
 }
 

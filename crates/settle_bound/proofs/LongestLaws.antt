@@ -1,12 +1,11 @@
 -- No rule places a value later than the longest delay of its element.
-use Rattle.std.specs.Prelude.{◌≡◌, ℕ, zero, suc, ◌+◌, ◌<◌, ◌≤◌, ◌^◌, max, All, filter, slice_get, List, [], ◌∷◌, ◌++◌, length, map, flat_map, take, slice_index_or, Option, Some, None, refl}
-use Rattle.std.proofs.Common.{sym, ◌∙◌, ap, subst, arith}
+use Rattle.std.specs.Prelude.{◌≡◌, ℕ, zero, suc, ◌+◌, ◌<◌, ◌≤◌, ◌^◌, max, All, slice_get, List, [], ◌∷◌, ◌++◌, length, map, flat_map, take, slice_index_or, Option, Some, None, refl}
+use Rattle.std.proofs.Common.{sym, ◌∙◌, ap, arith}
 use Rattle.std.proofs.lemmas.List.{append-nil, get_or-map, take_more, take_all}
 use Rattle.std.proofs.lemmas.List.Concat.{flat_map-append}
 use Rattle.std.proofs.lemmas.List.Elements.{All-nil, All-cons, All-head, All-tail, All-weaker, All-filter, All-map}
 use Rattle.sg_logic.specs.declared.values.Value.{Value}
 use Rattle.sg_logic.specs.declared.values.Value.TheVariants.{Zero, One, X, Z}
-use Rattle.sg_logic.specs.Transitions.{transitions, goes}
 use Rattle.sg_delay.specs.GateDelay.{of_two, of_three, delay_to}
 use Rattle.sg_delay.specs.declared.limits.Limit.{Limit}
 use Rattle.sg_model.specs.Machine.{Stamp}
@@ -19,7 +18,7 @@ use Rattle.cond_expr.specs.Condition.{Condition}
 use Rattle.sg_circuit.specs.Circuit.{Kind, Gate, Udp, Pass, Leg, Path, Late}
 use Rattle.sg_circuit.specs.Paths as specify
 use Rattle.sg_circuit.specs.Timings.{Timing, timing_at, timing_between}
-use Rattle.path_pick.specs.Choice.{time_of, stamp_at, input_time, delay_of, is_allowed, allowed, is_of_edge, on_edge, latest, quickest, chosen, picked_for, picked}
+use Rattle.path_pick.specs.Choice.{time_of, stamp_at, input_time, delay_of, allowed, on_edge, latest, quickest, chosen, picked_for}
 use Rattle.fan_round.specs.Rounds.{time_of_rule}
 use Rattle.sim_rounds.specs.Simulated.{rule_of_kind}
 use Rattle.settle_bound.specs.Hops.{longest, longest_delay}

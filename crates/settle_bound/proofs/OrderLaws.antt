@@ -1,19 +1,19 @@
 -- One net more is done: what its readers get.
-use Rattle.std.specs.Prelude.{◌≡◌, ◌≢◌, ◌⊎◌, ◌↔◌, ℕ, zero, suc, ◌+◌, ◌-◌, ◌*◌, ◌<◌, ◌≤◌, ◌^◌, ◌==◌, ◌&&◌, ◌||◌, not, cond, Bool, true, false, if◌then◌else◌, All, AllPairs, List, [], ◌∷◌, ◌++◌, length, take, count_by, slice_index_or, refl}
+use Rattle.std.specs.Prelude.{◌≡◌, ◌≢◌, ◌⊎◌, ℕ, zero, suc, ◌+◌, ◌*◌, ◌<◌, ◌≤◌, ◌^◌, ◌==◌, ◌&&◌, ◌||◌, not, cond, Bool, true, false, if◌then◌else◌, All, List, [], ◌∷◌, ◌++◌, length, take, slice_index_or, refl}
 use Rattle.std.proofs.Common.{sym, ◌∙◌, ap, subst, arith, inl, inr}
-use Rattle.std.proofs.lemmas.Bool.{cases_eq, cases_lt, or_cases}
-use Rattle.std.proofs.lemmas.List.{append-nil, length-append, length_push, length-take-le, get_or-take, get_or_default, get_or_read, take_more, take_all, take-append-le}
+use Rattle.std.proofs.lemmas.Bool.{cases_eq, or_cases}
+use Rattle.std.proofs.lemmas.List.{length-append, length_push, length-take-le, get_or-take, get_or_default, get_or_read, take_more, take_all, take-append-le}
 use Rattle.std.proofs.lemmas.List.Sums.{sum_by-cons, get_or-le-sum_by}
 use Rattle.sg_circuit.specs.declared.building.Pin.{Pin}
 use Rattle.sg_circuit.specs.FanOut.{has, readers_at}
-use Rattle.sg_circuit.specs.Pins.{elements_on, HasPins}
+use Rattle.sg_circuit.specs.Pins.{elements_on}
 use Rattle.sg_circuit.proofs.PinLaws.{has-append}
 use Rattle.settle_bound.specs.declared.ways.Link.{Link}
 use Rattle.settle_bound.specs.declared.ways.Ways.{Ways}
 use Rattle.settle_bound.specs.declared.orders.Order.{Order}
 use Rattle.settle_bound.specs.Links.{link_at, pin_at, net_behind, weight_behind, AreLinked, AreWays, IsReached, by_more, holds_up, waits_of}
-use Rattle.settle_bound.specs.Orders.{at, place_in, count_driving, AreReady, IsInOrder, AreBest, IsOrder, IsOrderOf, IsFrom, Released}
-use Rattle.settle_bound.proofs.Numbers.{same, other, is_same, is_other, few, has-at, has-found, has-push, has-push_same, has-push_other, place-within, place-most, place-append}
+use Rattle.settle_bound.specs.Orders.{at, place_in, count_driving, AreReady, IsOrder, IsOrderOf, IsFrom, Released}
+use Rattle.settle_bound.proofs.Numbers.{same, other, is_same, few, has-at, has-found, has-push, has-push_same, has-push_other, place-within, place-most, place-append}
 
 -- the weight of a test
 abbrev one_if : Bool → ℕ

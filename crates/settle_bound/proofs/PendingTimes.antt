@@ -1,13 +1,13 @@
 -- The times of pending transitions: no rule places one later than its own time or those that were pending.
-use Rattle.std.specs.Prelude.{◌≡◌, ℕ, ◌-◌, ◌<◌, ◌≤◌, ◌==◌, nat_lt, nat_le, Bool, true, false, if◌then◌else◌, List, [], ◌∷◌, ◌++◌, reverse, refl}
-use Rattle.std.proofs.Common.{sym, ◌∙◌, ap, subst, arith}
+use Rattle.std.specs.Prelude.{ℕ, ◌-◌, ◌≤◌, ◌==◌, nat_lt, nat_le, if◌then◌else◌, List, [], ◌∷◌, ◌++◌, reverse}
+use Rattle.std.proofs.Common.{sym, subst}
 use Rattle.std.proofs.lemmas.List.{reverse-append}
 use Rattle.sg_logic.specs.declared.values.Value.{Value}
 use Rattle.sg_logic.specs.declared.values.Value.TheVariants.{X}
 use Rattle.sg_logic.specs.Values.{is_same}
-use Rattle.sg_model.specs.Pending.{PulseStyle, OnEvent, OnDetect, value_of_first, put, error_pulse, placed_latest_first, pending_after, inertial_latest_first, inertial}
+use Rattle.sg_model.specs.Pending.{PulseStyle, OnEvent, OnDetect, value_of_first, put, error_pulse, placed_latest_first, inertial_latest_first}
 use Rattle.sg_model.specs.Machine.{Rule, Inertial, Pulse}
-use Rattle.sg_model.specs.Round.{without_due, is_due, placed_by}
+use Rattle.sg_model.specs.Round.{without_due, placed_by}
 use Rattle.sg_model.proofs.PlacedLaws.{if_fact}
 use Rattle.fan_round.specs.Rounds.{time_of_rule}
 

@@ -1,5 +1,5 @@
 -- Hops that are released one after another.
-use Rattle.std.specs.Prelude.{◌≡◌, ◌≢◌, ◌⊎◌, ◌↔◌, ℕ, zero, suc, ◌+◌, ◌-◌, ◌<◌, ◌≤◌, ◌==◌, max, Bool, true, false, if◌then◌else◌, All, AllPairs, List, [], ◌∷◌, ◌++◌, length, take, count_by, slice_index_or, slice_set, refl}
+use Rattle.std.specs.Prelude.{◌≡◌, ◌≢◌, ◌⊎◌, ℕ, ◌+◌, ◌-◌, ◌<◌, ◌≤◌, ◌==◌, max, Bool, true, false, if◌then◌else◌, List, [], ◌∷◌, ◌++◌, length, take, slice_index_or, slice_set, refl}
 use Rattle.std.proofs.Common.{sym, ◌∙◌, ap, subst, arith, inl, inr, append_assoc}
 use Rattle.std.proofs.lemmas.Bool.{cases_eq, cases_lt}
 use Rattle.std.proofs.lemmas.List.{append-nil, length-set, length-take-le, get_or-set_same, get_or-set_other, get_or-take, get_or_default}
@@ -65,7 +65,7 @@ ready-one nets waits ready waits' ready' b l many some ew er h = by (at waits' b
             | inl q ↦ (λ z. has-push_same net ready b (sym q), λ r. ap (at waits') q ∙ zero_now)
             | inr n ↦ (
               λ z. has-push_other net ready b (λ q. n (sym q)) ∙ (h.each net m).0 (sym (there net n) ∙ z),
-              λ r. there net n ∙ (h.each net m).1 (sym (has-push_other net ready b (λ q. n (sym q))) ∙ r)
+              λ r. there net n ∙ (h.each net m).1 (sym (has-push_other net ready b (λ q. n (sym q))) ∙ r),
             )
           ];
         })
@@ -78,7 +78,7 @@ ready-one nets waits ready waits' ready' b l many some ew er h = by (at waits' b
           each = λ net m. elim (cases_eq net b) [
             | inl q ↦ (
               λ z. absurd (more (ap (at waits') (sym q) ∙ z)),
-              λ r. absurd (let f : false ≡ true = sym absent ∙ (ap (λ n. has n ready) (sym q) ∙ r) in cc)
+              λ r. absurd (let f : false ≡ true = sym absent ∙ (ap (λ n. has n ready) (sym q) ∙ r) in cc),
             )
             | inr n ↦ (λ z. (h.each net m).0 (sym (there net n) ∙ z), λ r. there net n ∙ (h.each net m).1 r)
           ];

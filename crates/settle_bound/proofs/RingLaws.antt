@@ -1,8 +1,8 @@
 -- Walks from nets that wait to nets for which they wait, and rings.
-use Rattle.std.specs.Prelude.{◌≡◌, ◌≢◌, ◌⊎◌, ◌↔◌, ℕ, zero, suc, ◌+◌, ◌-◌, ◌<◌, ◌≤◌, ◌^◌, ◌==◌, ◌&&◌, ◌||◌, not, cond, Bool, true, false, if◌then◌else◌, All, AllPairs, List, [], ◌∷◌, ◌++◌, length, map, take, drop, replicate, reverse, count_by, slice_index_or, slice_set, Option, Some, None, refl}
+use Rattle.std.specs.Prelude.{◌≡◌, ◌≢◌, ◌⊎◌, ℕ, zero, suc, ◌+◌, ◌-◌, ◌<◌, ◌≤◌, ◌==◌, ◌&&◌, not, cond, Bool, true, false, AllPairs, List, [], ◌∷◌, ◌++◌, length, drop, replicate, count_by, slice_index_or, slice_set, refl}
 use Rattle.std.proofs.Common.{sym, ◌∙◌, ap, subst, arith, inl, inr}
-use Rattle.std.proofs.lemmas.Bool.{cases_eq, cases_lt}
-use Rattle.std.proofs.lemmas.List.{append-nil, map_push, length-map, length-drop, length-set, get_or-map, get_or_default, get_or_read, get_or-drop, get_or-replicate, get_or-set_same, get_or-set_other, drop-map, drop_more, length-replicate}
+use Rattle.std.proofs.lemmas.Bool.{cases_eq}
+use Rattle.std.proofs.lemmas.List.{map_push, length-map, length-drop, length-set, get_or-map, get_or_read, get_or-drop, get_or-replicate, get_or-set_same, get_or-set_other, drop-map, drop_more, length-replicate}
 use Rattle.std.proofs.lemmas.List.Sums.{sum_by-cons, sum_by-set}
 use Rattle.sg_circuit.specs.declared.building.Pin.{Pin}
 use Rattle.sg_circuit.specs.FanOut.{has}
@@ -10,10 +10,10 @@ use Rattle.settle_bound.specs.declared.ways.Link.{Link}
 use Rattle.settle_bound.specs.declared.ways.Ways.{Ways}
 use Rattle.settle_bound.specs.declared.orders.Order.{Order}
 use Rattle.settle_bound.specs.declared.rings.Walk.{Walk}
-use Rattle.settle_bound.specs.Links.{link_at, pin_at, net_behind, AreWays, holds_up, waits_of}
+use Rattle.settle_bound.specs.Links.{link_at, pin_at, net_behind, AreWays, holds_up}
 use Rattle.settle_bound.specs.Orders.{at, IsOrderOf}
 use Rattle.settle_bound.specs.Rings.{IsPinTo, AreBehind, WaitOn, nets_driven, HasPin, Leads, stays, goes_back, IsWalk, IsRing}
-use Rattle.settle_bound.proofs.Numbers.{same, other, is_same, is_other, has-at, has-found, has-none, has-push_same, has-push_other, once-push}
+use Rattle.settle_bound.proofs.Numbers.{is_same, has-found, has-push_same, has-push_other, once-push}
 
 -- ---- pins to nets that wait
 

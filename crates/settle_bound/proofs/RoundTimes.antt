@@ -1,5 +1,5 @@
 -- What a round changes, and when: no net later than its deadline, and what is then pending has none later.
-use Rattle.std.specs.Prelude.{◌≡◌, ◌≢◌, ◌⊎◌, ℕ, zero, suc, ◌+◌, ◌<◌, ◌≤◌, ◌==◌, Bool, true, false, if◌then◌else◌, All, Contains, List, [], ◌∷◌, ◌++◌, length, map, slice_index_or, slice_set, refl}
+use Rattle.std.specs.Prelude.{◌≡◌, ◌⊎◌, ℕ, suc, ◌+◌, ◌<◌, ◌≤◌, ◌==◌, Bool, true, false, if◌then◌else◌, All, Contains, List, [], ◌∷◌, ◌++◌, length, map, slice_index_or, slice_set, refl}
 use Rattle.std.proofs.Common.{sym, ◌∙◌, ap, subst, arith, inl, inr, zero-add}
 use Rattle.std.proofs.lemmas.Bool.{cases_eq, cases_lt}
 use Rattle.std.proofs.lemmas.Bool.Decides.{nat_tests}
@@ -12,13 +12,12 @@ use Rattle.sg_logic.specs.Values.{is_same}
 use Rattle.sg_model.specs.Values.{value_at}
 use Rattle.sg_model.specs.Agenda.{due, list_at}
 use Rattle.sg_model.specs.Pending.{last_value}
-use Rattle.sg_model.specs.Machine.{Machine, State, Stamp, Snapshot, IsNoOutput, AreOutputs}
+use Rattle.sg_model.specs.Machine.{Machine, State, Stamp}
 use Rattle.sg_model.specs.Round.{each_from, changed_by, due_change, due_changes, without_due, stamp_after, element_list, element_value, values_after, stamps_after, round}
-use Rattle.sg_model.specs.FanOut.{present_after, AgreeAt, IsSettled}
+use Rattle.sg_model.specs.FanOut.{present_after, AgreeAt}
 use Rattle.sg_model.proofs.PlacedLaws.{if_fact, same-true, same-false}
 use Rattle.sg_model.proofs.FanOutLaws.{settled-list}
 use Rattle.sg_model.proofs.RunSteps.{round-is}
-use Rattle.fan_round.specs.Rounds.{AreSettled}
 use Rattle.fan_round.proofs.ListLaws.{each_from-at, length-each_from}
 use Rattle.fan_round.proofs.NetLaws.{changed_append}
 use Rattle.fan_round.proofs.RoundLaws.{left_at, round_present, round_settles}

@@ -1,6 +1,6 @@
 -- A run in which all deadlines are met: no snapshot has a net changed after its deadline.
-use Rattle.std.specs.Prelude.{◌≡◌, ◌≢◌, ℕ, zero, suc, ◌+◌, ◌<◌, ◌≤◌, ◌==◌, ◌||◌, not, Bool, true, false, if◌then◌else◌, All, List, [], ◌∷◌, length, slice_index_or, refl}
-use Rattle.std.proofs.Common.{sym, ◌∙◌, ap, subst, arith, inl, inr}
+use Rattle.std.specs.Prelude.{◌≡◌, ◌≢◌, ℕ, zero, suc, ◌<◌, ◌≤◌, ◌==◌, ◌||◌, not, Bool, true, false, if◌then◌else◌, All, List, [], ◌∷◌, length, slice_index_or, refl}
+use Rattle.std.proofs.Common.{sym, ◌∙◌, subst, arith, inl, inr}
 use Rattle.std.proofs.lemmas.Bool.{cases_lt}
 use Rattle.std.proofs.lemmas.Bool.Decides.{nat_tests}
 use Rattle.std.proofs.lemmas.List.Elements.{All-head, All-tail, All-weaker}
@@ -12,9 +12,9 @@ use Rattle.sg_model.specs.Values.{value_at}
 use Rattle.sg_model.specs.Machine.{Machine, State, Stamp, Snapshot, IsNoOutput}
 use Rattle.sg_model.specs.Time.{Run, Ended, Whole, Spent, toggle, toggles, rounds, needs_round, with_round, with_snapshot, flips_of, is_empty, spent_net, time_of}
 use Rattle.sg_model.specs.Round.{any_due, round}
-use Rattle.sg_model.specs.Run.{Finished, times_from, go_on, run_of}
+use Rattle.sg_model.specs.Run.{times_from, go_on, run_of}
 use Rattle.settle_bound.specs.Staying.{StaysAfter}
-use Rattle.settle_bound.proofs.Deadlines.{output_of, IsStamped, AreStamped, MeetsDeadlines, IsNoticed, IsMoved, AreMoved, IsOnTime, AreCalm, AreSettledAll}
+use Rattle.settle_bound.proofs.Deadlines.{IsStamped, MeetsDeadlines, IsNoticed, IsMoved, AreMoved, IsOnTime, AreCalm, AreSettledAll}
 use Rattle.settle_bound.proofs.RoundTimes.{round-on_time, round-settled, round-values}
 
 -- the nets are as in the latest snapshot, but for those whose deadline isn't past

@@ -1,7 +1,7 @@
 -- What comes of the order of nets: their bounds, or a cycle.
-use Rattle.std.specs.Prelude.{◌≡◌, ◌≢◌, ◌⊎◌, ◌↔◌, ℕ, zero, suc, ◌+◌, ◌-◌, ◌<◌, ◌≤◌, All, AllPairs, Contains, List, [], ◌∷◌, ◌++◌, length, map, take, reverse, sum_by, slice_index_or, Option, Some, None, true, false, refl}
+use Rattle.std.specs.Prelude.{◌≡◌, ◌≢◌, ℕ, zero, suc, ◌+◌, ◌-◌, ◌<◌, ◌≤◌, All, AllPairs, List, [], ◌∷◌, ◌++◌, length, map, take, reverse, slice_index_or, Some, true, refl}
 use Rattle.std.proofs.Common.{sym, ◌∙◌, ap, subst, arith, inl, inr}
-use Rattle.std.proofs.lemmas.List.{length-map, length-reverse, length-take-le, map-append, map_push, reverse-append, get_or-map, get_or-reverse, get_or_default, take_more, take_all}
+use Rattle.std.proofs.lemmas.List.{length-map, length-reverse, map-append, map_push, reverse-append, get_or-map, get_or-reverse, take_more, take_all}
 use Rattle.std.proofs.lemmas.List.Elements.{All-nil, All-cons, All-head, All-tail, All-push}
 use Rattle.std.proofs.lemmas.List.Sums.{sum_by-cons}
 use Rattle.sg_circuit.specs.declared.building.Pin.{Pin}
@@ -9,19 +9,17 @@ use Rattle.sg_circuit.specs.FanOut.{has}
 use Rattle.sg_circuit.specs.Circuit.{Circuit}
 use Rattle.sg_circuit.specs.Closed.{IsClosed}
 use Rattle.settle_bound.specs.declared.hops.Hop.{Hop}
-use Rattle.settle_bound.specs.declared.ways.Link.{Link}
 use Rattle.settle_bound.specs.declared.ways.Ways.{Ways}
 use Rattle.settle_bound.specs.declared.orders.Order.{Order}
-use Rattle.settle_bound.specs.Hops.{IsHop, nets_read, net_driven, weight, Reads}
-use Rattle.settle_bound.specs.Chains.{Follow, last_of, IsChain, total_weight, IsBound, IsCycle}
+use Rattle.settle_bound.specs.Hops.{IsHop, net_driven, weight}
+use Rattle.settle_bound.specs.Chains.{Follow, last_of, IsChain, total_weight, IsCycle}
 use Rattle.settle_bound.specs.Settling.{AreBounds}
-use Rattle.settle_bound.specs.Links.{link_at, pin_at, net_behind, weight_behind, AreWays, IsReached, by_none, by_one, by_more}
+use Rattle.settle_bound.specs.Links.{link_at, pin_at, net_behind, weight_behind, IsReached, by_none, by_one, by_more}
 use Rattle.settle_bound.specs.Linked.{hop_of, AreLinksOf}
 use Rattle.settle_bound.specs.Orders.{at, place_in, IsOrderOf}
-use Rattle.settle_bound.specs.Rings.{nets_driven, HasPin, Leads, stays, goes_back, IsRing}
-use Rattle.settle_bound.proofs.Numbers.{place-within}
+use Rattle.settle_bound.specs.Rings.{nets_driven, Leads, stays, goes_back, IsRing}
 use Rattle.settle_bound.proofs.ChainLaws.{IsPotential, potential-most, chain-push, weight-push, driven-some, driven-within, follow-push, last-push}
-use Rattle.settle_bound.proofs.LinkedLaws.{number_of, hop-numbered, link-drives, link-weighs, length-links, IsHopNumber, number-or, IsReader, pin-reader, IsPinned, hop-pinned, read-within}
+use Rattle.settle_bound.proofs.LinkedLaws.{number_of, hop-numbered, link-drives, link-weighs, length-links, IsHopNumber, number-or, IsReader, pin-reader, hop-pinned, read-within}
 
 -- ---- bounds
 
@@ -35,10 +33,10 @@ chain-reached : (c : Circuit) (w : Ways) → AreLinksOf c w → (net sum : ℕ) 
 chain-reached c w of net sum (by_none n) = record { hops = []; chain = tt; weighs = refl }
 chain-reached c w of net sum (by_one h l) = elim (number-or c w of h (subst (λ n. h < n) (length-links c w of) l)) [
   | inl is ↦ (let hop : Hop = hop_of (length c.elements) h in record {
-      hops = hop ∷ [];
-      chain = (All-cons (IsHop c) hop [] is.hop (All-nil (IsHop c)), tt, is.drives);
-      weighs = sum_by-cons (weight c) hop [] ∙ (let e : weight c hop + 0 ≡ weight c hop = omega arith in e) ∙ sym is.weighs;
-    })
+    hops = hop ∷ [];
+    chain = (All-cons (IsHop c) hop [] is.hop (All-nil (IsHop c)), tt, is.drives);
+    weighs = sum_by-cons (weight c) hop [] ∙ (let e : weight c hop + 0 ≡ weight c hop = omega arith in e) ∙ sym is.weighs;
+  })
   | inr none ↦ record { hops = []; chain = tt; weighs = sym none }
 ]
 chain-reached c w of net sum (by_more i before l r) =

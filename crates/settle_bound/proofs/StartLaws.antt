@@ -1,8 +1,8 @@
 -- No net is done yet.
-use Rattle.std.specs.Prelude.{◌≡◌, ◌≢◌, ◌⊎◌, ◌↔◌, ℕ, zero, suc, ◌+◌, ◌*◌, ◌<◌, ◌≤◌, ◌^◌, ◌==◌, ◌&&◌, ◌||◌, max, not, Bool, true, false, if◌then◌else◌, All, AllPairs, List, [], ◌∷◌, ◌++◌, length, take, replicate, count_by, slice_index_or, slice_set, refl}
+use Rattle.std.specs.Prelude.{◌≡◌, ◌≢◌, ◌⊎◌, ℕ, zero, suc, ◌+◌, ◌<◌, ◌≤◌, ◌^◌, ◌==◌, ◌&&◌, max, not, Bool, true, false, if◌then◌else◌, All, List, [], ◌∷◌, ◌++◌, length, take, replicate, slice_index_or, slice_set, refl}
 use Rattle.std.proofs.Common.{sym, ◌∙◌, ap, subst, arith, inl, inr}
 use Rattle.std.proofs.lemmas.Bool.{cases_eq, cases_lt}
-use Rattle.std.proofs.lemmas.List.{append-nil, length-set, length-take-le, length-replicate, get_or-set_same, get_or-set_other, get_or-take, get_or_default, get_or_read, take_all}
+use Rattle.std.proofs.lemmas.List.{append-nil, length-set, length-take-le, get_or-set_same, get_or-set_other, get_or-take, get_or_default, get_or_read, take_all}
 use Rattle.std.proofs.lemmas.List.Elements.{All-nil, All-push, All-weaker}
 use Rattle.std.proofs.lemmas.List.Sums.{count_by_more_yes, count_by_more_no, count_by-le-length}
 use Rattle.sg_circuit.specs.declared.building.Pin.{Pin}
@@ -10,8 +10,8 @@ use Rattle.sg_circuit.specs.FanOut.{has}
 use Rattle.settle_bound.specs.declared.ways.Link.{Link}
 use Rattle.settle_bound.specs.declared.ways.Ways.{Ways}
 use Rattle.settle_bound.specs.declared.orders.Order.{Order}
-use Rattle.settle_bound.specs.Links.{link_at, pin_at, net_behind, AreLinked, AreWays, IsReached, by_none, by_one, holds_up, waits_of}
-use Rattle.settle_bound.specs.Orders.{at, AreAlone, AreCounted, AreReady, AreBest, IsOrder}
+use Rattle.settle_bound.specs.Links.{link_at, net_behind, AreWays, IsReached, by_none, by_one, holds_up, waits_of}
+use Rattle.settle_bound.specs.Orders.{at, AreAlone, AreCounted, AreReady, IsOrder}
 use Rattle.settle_bound.proofs.Numbers.{same, other, is_same, is_other, has-found, has-push_same, has-push_other, once-push}
 
 zeroes : (n k : ℕ) → at (replicate n 0) k ≡ 0
@@ -155,7 +155,7 @@ ready-more waits ready i h = by (at waits i == 0) refl
         | inl q ↦ (λ z. has-push_same net ready i (sym q), λ r. ap (at waits) q ∙ is_same (at waits i) 0 t)
         | inr n ↦ (
           λ z. has-push_other net ready i (λ q. n (sym q)) ∙ (h.each net (omega arith)).0 z,
-          λ r. (h.each net (omega arith)).1 (sym (has-push_other net ready i (λ q. n (sym q))) ∙ r)
+          λ r. (h.each net (omega arith)).1 (sym (has-push_other net ready i (λ q. n (sym q))) ∙ r),
         )
       ];
     }
@@ -165,7 +165,7 @@ ready-more waits ready i h = by (at waits i == 0) refl
       each = λ net l. elim (cases_eq net i) [
         | inl q ↦ (
           λ z. absurd (is_other (at waits i) 0 t (ap (at waits) (sym q) ∙ z)),
-          λ r. absurd (let f : false ≡ true = sym absent ∙ (ap (λ n. has n ready) (sym q) ∙ r) in cc)
+          λ r. absurd (let f : false ≡ true = sym absent ∙ (ap (λ n. has n ready) (sym q) ∙ r) in cc),
         )
         | inr n ↦ (λ z. (h.each net (omega arith)).0 z, λ r. (h.each net (omega arith)).1 r)
       ];

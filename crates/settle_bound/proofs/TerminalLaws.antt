@@ -1,9 +1,9 @@
 -- The nets at which timing checks see their events, read from the code's parts.
-use Rattle.std.specs.Prelude.{◌≡◌, ℕ, ◌+◌, ◌<◌, ◌==◌, ◌||◌, Bool, true, false, IfSome, List, [], ◌∷◌, length, map, slice_index_or, Option, Some, None, refl}
+use Rattle.std.specs.Prelude.{◌≡◌, ℕ, ◌<◌, ◌==◌, ◌||◌, Bool, true, false, IfSome, List, [], length, slice_index_or, Option, Some, None, refl}
 use Rattle.std.specs.List.{enumerate_from}
 use Rattle.std.specs.Option.{option_map}
-use Rattle.std.proofs.Common.{sym, ◌∙◌, ap, subst, arith, zero-add}
-use Rattle.std.proofs.lemmas.List.{get_or-map, get_or_default, length-map}
+use Rattle.std.proofs.Common.{sym, ◌∙◌, ap, subst, zero-add}
+use Rattle.std.proofs.lemmas.List.{get_or-map, length-map}
 use Rattle.std.proofs.lemmas.List.FromFn.{length-enumerate_from, get_or-enumerate_from}
 use Rattle.sg_circuit.specs.Circuit.{Circuit, Element, Pass, element_at}
 use Rattle.sg_circuit.specs.Closed.{IsClosed, AreLatesOf, IsLateOf, HasLates}
@@ -15,7 +15,7 @@ use Rattle.sg_circuit.specs.declared.elements.Element as code_element
 use Rattle.sg_circuit.specs.declared.circuits.Parts.{Parts}
 use Rattle.time_checks.specs.Adjusted.{AdjustedCheck, adjusted_check, adjusted_checks, check_by, seen_at}
 use Rattle.time_checks.specs.Checking.{check_at}
-use Rattle.time_checks.specs.Within.{datum_nets, terminals}
+use Rattle.time_checks.specs.Within.{datum_nets}
 
 -- the adjusted check of a number
 pub adjusted-at : (c : Circuit) (k : ℕ) (t : CheckTiming) → k < length c.check_timings → t ≡ slice_index_or c.check_timings k t → check_at (adjusted_checks c) k ≡ check_by c k t t.late

@@ -1,5 +1,5 @@
 -- Words of the functions that go from net to net: what hops drive, by their numbers, and pins, each of which says of a hop and a net that the one reads the other.
-use Rattle.std.specs.Prelude.{◌≡◌, ℕ, ◌+◌, ◌<◌, ◌^◌, ◌==◌, ◌&&◌, not, Bool, All, List, [], ◌∷◌, length, count_by, slice_index_or}
+use Rattle.std.specs.Prelude.{◌≡◌, ℕ, ◌+◌, ◌<◌, ◌^◌, ◌==◌, ◌&&◌, not, Bool, All, List, length, count_by, slice_index_or}
 use Rattle.sg_circuit.specs.declared.building.Pin.{Pin}
 use Rattle.sg_circuit.specs.FanOut.{has}
 use Rattle.sg_circuit.specs.Pins.{HasPins}

@@ -1,5 +1,5 @@
 -- Words of the functions that look for a cycle among nets that wait for one another.
-use Rattle.std.specs.Prelude.{◌≡◌, ◌≢◌, ◌↔◌, ℕ, ◌<◌, true, All, AllPairs, List, [], ◌∷◌, length, map, slice_index_or}
+use Rattle.std.specs.Prelude.{◌≡◌, ◌≢◌, ℕ, ◌<◌, true, AllPairs, List, [], ◌∷◌, length, map}
 use Rattle.sg_circuit.specs.declared.building.Pin.{Pin}
 use Rattle.sg_circuit.specs.FanOut.{has}
 use Rattle.settle_bound.specs.declared.ways.Link.{Link}

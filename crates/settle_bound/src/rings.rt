@@ -33,7 +33,13 @@ pub struct Walk {
 }
 
 // From a net that waits always to one for which it waits, till a net comes again.
-fn walk_back(alloc: Global, ways: &Ways, waits: &[u32], back: &[u32], start: u32) -> Result<Walk, NoMemory>
+fn walk_back(
+    alloc: Global,
+    ways: &Ways,
+    waits: &[u32],
+    back: &[u32],
+    start: u32,
+) -> Result<Walk, NoMemory>
     requires ways { AreWays ways.now }
     requires back { WaitOn ways.now waits.now back.now }
     requires each { length back.now ≡ ways.now.nets }
@@ -69,7 +75,12 @@ fn first_driving(links: &[Link], hops: &[u32], net: u32) -> usize
 }
 
 /// Hops, by their numbers, each of which reads the net that the next one drives, and the last that which the first drives.
-pub fn find_ring(alloc: Global, ways: &Ways, order: &Order, start: u32) -> Result<Vec<u32>, NoMemory>
+pub fn find_ring(
+    alloc: Global,
+    ways: &Ways,
+    order: &Order,
+    start: u32,
+) -> Result<Vec<u32>, NoMemory>
     requires ways { AreWays ways.now }
     requires order { IsOrderOf ways.now order.now order.now.ready.items }
     requires start { start < ways.now.nets }

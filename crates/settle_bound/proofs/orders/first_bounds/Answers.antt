@@ -1,4 +1,4 @@
-use Rattle.std.proofs.Common.{◌≡◌, length, ap, ◌∙◌}
+use Rattle.std.proofs.Common.{length, ap, ◌∙◌}
 use Rattle.std.proofs.lemmas.List.{length-replicate}
 use Rattle.settle_bound.proofs.StartLaws.{alone-none, bounds-step}
 use Rattle.settle_bound.proofs.orders.first_bounds.Goals as goal

@@ -1,4 +1,4 @@
-use Rattle.std.proofs.Common.{◌≡◌, ap, ◌∙◌}
+use Rattle.std.proofs.Common.{ap, ◌∙◌}
 use Rattle.settle_bound.proofs.StartLaws.{ready-yes, ready-not}
 use Rattle.settle_bound.proofs.orders.first_ready.Goals as goal
 use Rattle.settle_bound.proofs.orders.first_ready.Goals.{then-wait-eq0+in_ok-push, else-wait-eq0}

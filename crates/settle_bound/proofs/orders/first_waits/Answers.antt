@@ -1,4 +1,4 @@
-use Rattle.std.proofs.Common.{◌≡◌, ◌+◌, ◌<◌, ◌^◌, arith}
+use Rattle.std.proofs.Common.{arith}
 use Rattle.settle_bound.proofs.StartLaws.{waits-step}
 use Rattle.settle_bound.proofs.orders.first_waits.Goals as goal
 

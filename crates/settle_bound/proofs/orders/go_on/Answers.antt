@@ -1,4 +1,4 @@
-use Rattle.std.proofs.Common.{◌<◌, ◌≤◌, length, arith}
+use Rattle.std.proofs.Common.{◌<◌, length, arith}
 use Rattle.settle_bound.proofs.OrderLaws.{next-hops, next-enough, next-done, passed-all}
 use Rattle.settle_bound.proofs.orders.go_on.Goals as goal
 

@@ -1,4 +1,4 @@
-use Rattle.std.proofs.Common.{◌≡◌, ◌<◌, ◌≤◌, length, slice_index_or, subst, sym, arith}
+use Rattle.std.proofs.Common.{◌<◌, length, slice_index_or, subst, sym}
 use Rattle.settle_bound.specs.Links.{link_at}
 use Rattle.settle_bound.proofs.ReleaseLaws.{released-more, enough-left}
 use Rattle.settle_bound.proofs.orders.release.Goals as goal

@@ -2,7 +2,7 @@ use Rattle.std.proofs.Common.{◌<◌, length, map, sym, ap, ◌∙◌, subst}
 use Rattle.std.proofs.lemmas.List.{length-map}
 use Rattle.sg_circuit.specs.PathsSeen.{path_seen, paths_seen}
 use Rattle.settle_bound.specs.Hops.{longest}
-use Rattle.settle_bound.proofs.LongestLaws.{path-timings, paths-more, paths-all}
+use Rattle.settle_bound.proofs.LongestLaws.{path-timings, paths-more}
 use Rattle.settle_bound.proofs.weights.longest_of_paths.Goals as goal
 
 pub loop-path-preserved : goal.loop-path-preserved
