@@ -1,0 +1,3 @@
+-- The modules of this folder, in reading order.
+pub mod Alike
+pub mod ReadBack
