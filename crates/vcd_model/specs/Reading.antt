@@ -1,5 +1,5 @@
 -- What a dump says as a stimulus: its stimulus where no fault stands, and else a fault that stands.
-use Rattle.std.specs.Prelude.{◌≡◌, ℕ, suc, ◌^◌, ◌<◌, List, [], length, Option, Some, None, slice_get}
+use Rattle.std.specs.Prelude.{◌≡◌, ℕ, suc, ◌^◌, ◌<◌, List, [], length, Some}
 use Rattle.std.specs.List.{IsAmong}
 use Rattle.sg_circuit.specs.Circuit.{Circuit}
 use Rattle.sg_stimulus.specs.Stimulus.{Stimulus}
@@ -7,7 +7,7 @@ use Rattle.sg_text.specs.declared.places.Place.{Place}
 use Rattle.sg_text.specs.declared.refusals.Refused.{Refused}
 use Rattle.sg_text.specs.declared.refusals.Refused.TheVariants as refused
 use Rattle.vcd_form.specs.Rules.{dump, front}
-use Rattle.vcd_form.specs.Words.{Word, words}
+use Rattle.vcd_form.specs.Words.{byte_of, words}
 use Rattle.vcd_form.specs.Written.{Front, Item, Section}
 use Rattle.vcd_model.specs.declared.kinds.VcdKind.{VcdKind}
 use Rattle.vcd_model.specs.declared.kinds.VcdKind.TheVariants.{Syntax, TooLarge}
@@ -17,14 +17,6 @@ use Rattle.vcd_model.specs.Stimulus.{wave_stimulus}
 -- the most bytes of a file
 abbrev pub most_bytes : ℕ
 most_bytes = 2 ^ 28
-
--- the place of a word, or the end of the text
-abbrev pub byte_or : ℕ → Option Word → ℕ
-byte_or end None = end
-byte_or end (Some w) = w.byte
-
-abbrev pub byte_of : List ℕ → ℕ → ℕ
-byte_of text n = byte_or (length text) (slice_get (words text) n)
 
 pub data FaultStands (text : List ℕ) (circuit : Circuit) (scope : List ℕ) : Fault → Type 0 where
   too_long : most_bytes < length text → FaultStands text circuit scope (fault TooLarge most_bytes)

@@ -1,0 +1,80 @@
+// Items behind the header.
+ghost use Rattle.std.specs.Prelude.{◌≡◌, drop, take, Some};
+ghost use Rattle.vcd_form.specs.Places.{read_at, IsBetween};
+ghost use Rattle.vcd_form.specs.Reading.{read_of, Goes, ItemRead, WordAt};
+ghost use Rattle.vcd_form.specs.Rules as rules;
+ghost use Rattle.vcd_form.specs.Seen.{item_seen};
+ghost use Rattle.vcd_form.specs.Words.{words};
+
+use crate::cursor::Words;
+use crate::kinds::{WordKind, kind_of};
+use crate::sections::remark_rest;
+use crate::steps::code_from;
+use crate::word::Word;
+use crate::words::{byte_from, word_from};
+use crate::written::Item;
+
+fn head_of(bytes: &[u8]) -> &[u8]
+    ensures { result.now ≡ take 1 bytes.now }
+{
+    &bytes[..bytes.len().min(1)]
+}
+
+fn behind_first(bytes: &[u8]) -> &[u8]
+    ensures { result.now ≡ drop 1 bytes.now }
+{
+    match bytes {
+        [_, rest @ ..] => rest,
+        [] => bytes,
+    }
+}
+
+// The item that begins with a word.
+fn item_from<'a>(text: &'a [u8], at: usize, word: Word<'a>, next: usize) -> Result<(Item<'a>, usize), usize>
+    requires place { IsBetween text.now at }
+    requires word { WordAt text.now (read_at text.now at) (Some (word, next)) }
+    ensures { Goes text.now (λ y. item_seen y.0) (λ y. y.1) result (rules.item.read (words text.now) (read_at text.now at)) }
+{
+    let byte = word.byte;
+    match kind_of(word.bytes) {
+        WordKind::Time => Ok((Item::Instant { byte, digits: behind_first(word.bytes) }, next)),
+        WordKind::Comment => {
+            let behind = remark_rest(text, next)?;
+            Ok((Item::Nothing, behind))
+        }
+        WordKind::Dump | WordKind::End => Ok((Item::Nothing, next)),
+        WordKind::Scalar => {
+            let bits = head_of(word.bytes);
+            let code = behind_first(word.bytes);
+            Ok((Item::Value { byte, code_byte: byte, bits, code }, next))
+        }
+        WordKind::Vector => {
+            let (code, behind) = code_from(text, next)?;
+            let bits = behind_first(word.bytes);
+            Ok((Item::Value { byte, code_byte: code.byte, bits, code: code.bytes }, behind))
+        }
+        WordKind::Real => {
+            let (code, behind) = code_from(text, next)?;
+            Ok((Item::Real { byte, code_byte: code.byte, code: code.bytes }, behind))
+        }
+        _ => Err(at),
+    }
+}
+
+/// The next item behind the header, none at the end of the text; or the byte of the failing word, which is the text's length at its end.
+pub fn next_item<'a>(words: &mut Words<'a>) -> Result<Option<Item<'a>>, usize>
+    ensures text { words.new.text.now ≡ words.old.text.now }
+    ensures read { ItemRead words.old.text.now (read_of words.old) (read_of words.new) result }
+{
+    let text = words.text;
+    let Some((word, next)) = word_from(text, words.at) else {
+        return Ok(None);
+    };
+    match item_from(text, words.at, word, next) {
+        Ok((item, behind)) => {
+            words.at = behind;
+            Ok(Some(item))
+        }
+        Err(place) => Err(byte_from(text, place)),
+    }
+}
