@@ -74,7 +74,8 @@ fn bit_of<'c>(variable: &'c Variable, text: &[u8]) -> Option<&'c NetId>
     variable.bits.get(place)
 }
 
-fn nets_of<'c>(variable: &'c Variable, index: Option<&[u8]>) -> Option<&'c [NetId]>
+/// The nets of a variable, left first, or of its one bit of an index; none where it has no such bit.
+pub fn nets_of<'c>(variable: &'c Variable, index: Option<&[u8]>) -> Option<&'c [NetId]>
     ensures { option_map (λ nets. nets.now) result ≡ def.nets_of (option_map (λ i. i.now) index.entry) (variable_seen variable.now) }
 {
     match index {

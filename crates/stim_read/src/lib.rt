@@ -13,5 +13,7 @@ mod steps;
 mod times;
 mod top_inputs;
 
+pub use inputs::nets_of;
 pub use kinds::StimKind;
 pub use reading::read_stim;
+pub use top_inputs::Inputs;

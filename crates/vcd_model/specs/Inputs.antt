@@ -18,36 +18,40 @@ path (n ∷ []) = n
 path (n ∷ m ∷ ns) = path (m ∷ ns) ++ (46 ∷ n)
 
 -- the scopes that are open behind a section
-abbrev pub open_after : List (List ℕ) → Section → List (List ℕ)
-open_after open remark = open
-open_after open (timescale power) = open
-open_after open (enters name) = bare name ∷ open
-open_after open leaves = drop 1 open
-open_after open (declares d) = open
+abbrev pub scopes_after : List (List ℕ) → Section → List (List ℕ)
+scopes_after scopes remark = scopes
+scopes_after scopes (timescale power) = scopes
+scopes_after scopes (enters name) = bare name ∷ scopes
+scopes_after scopes leaves = drop 1 scopes
+scopes_after scopes (declares d) = scopes
 
 -- each section, with the scopes that are open before it
 abbrev pub with_scopes : List (List ℕ) → List Section → List (List (List ℕ) × Section)
-with_scopes open [] = []
-with_scopes open (s ∷ ss) = (open, s) ∷ with_scopes (open_after open s) ss
+with_scopes scopes [] = []
+with_scopes scopes (s ∷ ss) = (scopes, s) ∷ with_scopes (scopes_after scopes s) ss
 
 abbrev pub placed_sections : List Section → List (List (List ℕ) × Section)
 placed_sections ss = with_scopes [] ss
 
 -- whether some section opens a scope of a path
-abbrev pub opens : List ℕ → List (List ℕ) × Section → Bool
-opens scope (open, enters name) = bytes_eq (path (bare name ∷ open)) scope
-opens scope (open, _) = false
+abbrev pub opens_at : List ℕ → List (List ℕ) → Section → Bool
+opens_at scope scopes (enters name) = bytes_eq (path (bare name ∷ scopes)) scope
+opens_at scope scopes _ = false
 
 abbrev pub has_scope : List ℕ → List Section → Bool
-has_scope scope ss = list_any (opens scope) (placed_sections ss)
+has_scope scope ss = list_any (λ p. opens_at scope p.0 p.1) (placed_sections ss)
 
 -- the declarations in scopes of that path
-abbrev pub declared_in : List ℕ → List (List ℕ) × Section → Option Declaration
-declared_in scope (open, declares d) = if bytes_eq (path open) scope && nat_lt 0 (length open) then Some d else None
-declared_in scope (open, _) = None
+abbrev pub is_at : List ℕ → List (List ℕ) → Bool
+is_at scope [] = false
+is_at scope (n ∷ ns) = bytes_eq (path (n ∷ ns)) scope
+
+abbrev pub declared_at : List ℕ → List (List ℕ) → Section → Option Declaration
+declared_at scope scopes (declares d) = if is_at scope scopes then Some d else None
+declared_at scope scopes _ = None
 
 abbrev pub own : List ℕ → List Section → List Declaration
-own scope ss = filter_map (declared_in scope) (placed_sections ss)
+own scope ss = filter_map (λ p. declared_at scope p.0 p.1) (placed_sections ss)
 
 -- all declarations
 abbrev pub declared : Section → Option Declaration
