@@ -1,0 +1,5 @@
+-- The modules of this folder.
+pub mod Steps
+pub mod Items
+pub mod Body
+pub mod Waves
