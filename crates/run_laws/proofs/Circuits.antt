@@ -18,11 +18,11 @@ use Rattle.sg_stimulus.specs.Applied.{IsApplied, IsInput}
 use Rattle.sg_stimulus.specs.Stimulus.{Step, Stimulus, sets_at}
 use Rattle.sim_times.specs.Runs.{Setting, run_for, start_of}
 use Rattle.sim_times.proofs.RunLaws.{whole, times-append}
-use Rattle.sim_rounds.specs.Notifiers.{is_named, notifiers_of}
+use Rattle.sim_rounds.specs.Notifiers.{is_named, numbers_from}
 use Rattle.sim_rounds.specs.Setting.{setting_of}
 use Rattle.sim_rounds.specs.Simulated.{first_state, machine_of, run_of_circuit}
 use Rattle.sim_rounds.proofs.MachineLaws.{steady}
-use Rattle.sim_rounds.proofs.NotifierLaws.{numbers_all, named_notifier}
+use Rattle.sim_rounds.proofs.NotifierLaws.{named_notifier}
 use Rattle.run_laws.specs.Inputs.{AreSameRuns, Changes, HasDrivers, InputsMakeTheRun, TellInputs, TellsRun, nets_after}
 use Rattle.run_laws.proofs.Rounds.{like_self}
 use Rattle.run_laws.proofs.Sets.{IsFreeNet, alike_values, input_after, rounds_long, set_value}
@@ -34,6 +34,14 @@ not_among : (net : ℕ) (xs : List ℕ) → All (λ x. x ≢ net) xs → IsNoOut
 not_among net [] h = tt
 not_among net (x ∷ xs) h = (All-head (λ y. y ≢ net) x xs h, not_among net xs (All-tail (λ y. y ≢ net) x xs h))
 
+not_numbered : (net : ℕ) (test : ℕ → Bool) (k n : ℕ) → (test net ≡ true → ⊥) → IsNoOutput net (numbers_from test k n)
+not_numbered net test k zero h = tt
+not_numbered net test k (suc n) h = at (test k) refl (not_numbered net test (suc k) n h)
+  where
+    at : (b : Bool) → test k ≡ b → IsNoOutput net (numbers_from test (suc k) n) → IsNoOutput net (if b then (k ∷ numbers_from test (suc k) n) else numbers_from test (suc k) n)
+    at true e rest = ((λ same. h (ap test (sym same) ∙ e)), rest)
+    at false e rest = rest
+
 output_at : (circuit : Circuit) (e d : ℕ) → e < length circuit.elements → slice_index_or (map (λ (x : Element). x.output) circuit.elements) e d ≡ (element_at circuit e).output
 output_at circuit e d l = get_or-map (λ (x : Element). x.output) circuit.elements e (record { scope = 0; inputs = []; output = 0; kind = Pass None }) d l
 
@@ -43,11 +51,10 @@ input_is_free circuit has net input = record {
       (let l' : e < length circuit.elements = subst (λ n. e < n) (length-map circuit.elements (λ (x : Element). x.output)) l in
       let here : driver.Element e ≡ driver.Stimulus = sym (has.named e l') ∙ (ap (λ n. (net_at circuit n).driver) (sym (output_at circuit e d l') ∙ same) ∙ input.1) in
       cc));
-  notifier = λ found. not_among net (notifiers_of circuit.checks (length circuit.nets) found)
-      (numbers_all (λ n. n ≢ net) (is_named circuit.checks found) 0 (length circuit.nets) (λ n e same.
-          (let named : IsNotifier circuit n = named_notifier (IsNotifier circuit) circuit.checks found n has.notifiers e in
-          let here : driver.Notifier ≡ driver.Stimulus = sym named.driven ∙ (ap (λ k. (net_at circuit k).driver) same ∙ input.1) in
-          cc)));
+  notifier = λ found. not_numbered net (is_named circuit.checks found) 0 (length circuit.nets) (λ e.
+      (let named : IsNotifier circuit net = named_notifier (IsNotifier circuit) circuit.checks found net has.notifiers e in
+      let here : driver.Notifier ≡ driver.Stimulus = sym named.driven ∙ input.1 in
+      cc));
 }
 
 -- a stimulus that is applied sets inputs

@@ -3,3 +3,5 @@ pub mod Steps
 pub mod Items
 pub mod Body
 pub mod Waves
+pub mod Rows
+pub mod WordKinds
