@@ -17,4 +17,5 @@ mod written;
 pub use cursor::Words;
 pub use header::read_header;
 pub use items::next_item;
+pub use ranges::is_range;
 pub use written::{Declaration, Item, Section};

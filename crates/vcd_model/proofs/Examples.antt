@@ -1,21 +1,17 @@
 -- Worked examples of dumps that are stimuli, over a circuit with the inputs `a` and `v[3:0]` whose tick is 1 ps.
-use Rattle.std.specs.Prelude.{◌≡◌, ℕ, ℤ, pos, negsuc, true, false, List, [], ◌∷◌, ◌++◌, Option, Some, None, Ok, codes, length, refl}
-use Rattle.sg_logic.specs.declared.values.Value.{Value}
+use Rattle.std.specs.Prelude.{◌≡◌, ℕ, pos, negsuc, true, false, List, [], ◌∷◌, Option, Some, None, codes, length, refl}
 use Rattle.sg_logic.specs.declared.values.Value.TheVariants.{Zero, One, X, Z}
 use Rattle.sg_circuit.specs.declared.nets.Driver.{Driver}
 use Rattle.sg_circuit.specs.declared.nets.Driver.TheVariants as driver
 use Rattle.sg_circuit.specs.declared.nets.Net.{Net}
 use Rattle.sg_circuit.specs.declared.scopes.Port.TheVariants as port
 use Rattle.sg_circuit.specs.Circuit.{Circuit, Scope, Variable}
-use Rattle.sg_stimulus.specs.Stimulus.{Stimulus}
-use Rattle.vcd_form.specs.Rules.{dump, header_part, item_parts, power_parts, remark_parts, scope_parts, section_parts, timescale_parts, upscope_parts, variable_parts, body_parts}
-use Rattle.vcd_form.specs.Words.{words, words_from}
-use Rattle.vcd_form.specs.Written.{Declaration, Front, Item, Section, declares, enters, instant, leaves, nothing, real, remark, timescale, value}
-use Rattle.vcd_model.specs.declared.kinds.VcdKind.TheVariants.{Syntax, UnknownCode, WidthMismatch, TimeFalls, NotWholeTick, TooLarge, NoScope}
+use Rattle.vcd_form.specs.Written.{Declaration, Item, Section, declares, enters, instant, leaves, nothing, real, timescale, value}
+use Rattle.vcd_model.specs.declared.kinds.VcdKind.TheVariants.{Syntax, UnknownCode, WidthMismatch, TimeFalls, NotWholeTick, NoScope}
 use Rattle.vcd_model.specs.Inputs.{called, has_scope, own}
-use Rattle.vcd_model.specs.Values.{bits_of, is_whole, ticks}
+use Rattle.vcd_model.specs.Values.{bits_of}
 use Rattle.vcd_model.specs.Stimulus.{wave_stimulus}
-use Rattle.vcd_model.specs.Faults.{fault, front_faults, Fault}
+use Rattle.vcd_model.specs.Faults.{fault, front_faults}
 
 -- ---- a circuit
 
@@ -76,10 +72,6 @@ no_fault_stands = refl
 
 no_scope_is_the_top : front_faults circuit (codes "t") (record { sections = a_in_a_bench; body = Some (6, a_rises) }) ≡ fault NoScope 6 ∷ []
 no_scope_is_the_top = refl
-
--- its text
-abbrev a_text : List ℕ
-a_text = codes "$timescale 1ns $end $scope module tb $end $scope module dut $end $var wire 1 ! a $end $upscope $end $upscope $end $enddefinitions $end #0 x! #10 1! #30"
 
 -- ---- a dump of a run, with its words without effect: read back it says the same
 

@@ -1,7 +1,7 @@
 -- Faults of a dump that is a stimulus: each cause of refusal is the list of the places that have it.
-use Rattle.std.specs.Prelude.{ℕ, ◌^◌, ◌==◌, ◌&&◌, Bool, true, false, not, List, [], ◌∷◌, ◌++◌, length, filter, flat_map, nat_lt, Option, Some, None, is_some, if◌then◌else◌}
+use Rattle.std.specs.Prelude.{ℕ, ◌==◌, ◌&&◌, Bool, not, List, [], ◌∷◌, ◌++◌, length, filter, flat_map, nat_lt, Option, Some, None, is_some, if◌then◌else◌}
 use Rattle.std.specs.List.{list_any, prefix_len}
-use Rattle.std.specs.Prelude.{drop, filter_map}
+use Rattle.std.specs.Prelude.{drop}
 use Rattle.sg_text.specs.declared.places.Place.{Place}
 use Rattle.sg_time.specs.Spelling.{number_from}
 use Rattle.sg_circuit.specs.Circuit.{Circuit, Variable}
@@ -57,17 +57,17 @@ length_faults byte bits d = fault_if (nat_lt d.width (length bits)) WidthMismatc
 abbrev pub many_digits : List ℕ → Bool
 many_digits digits = nat_lt 19 (length (drop (prefix_len (λ b. b == 48) digits) digits))
 
-abbrev pub time_faults : Header → ℕ → ℕ → List ℕ → List Fault
-time_faults h byte before digits =
+abbrev pub time_faults : Scale → ℕ → (before : ℕ) → List ℕ → List Fault
+time_faults scale byte before digits =
     fault_if (many_digits digits) TooLarge byte
-    ++ (fault_if (is_too_large h.scale (number_from 0 digits)) TooLarge byte
-    ++ (fault_if (not (is_whole h.scale (number_from 0 digits))) NotWholeTick byte
+    ++ (fault_if (is_too_large scale (number_from 0 digits)) TooLarge byte
+    ++ (fault_if (not (is_whole scale (number_from 0 digits))) NotWholeTick byte
     ++ fault_if (nat_lt (number_from 0 digits) before) TimeFalls byte))
 
 -- Syntax: an input has a real value
 abbrev pub item_faults : Header → ℕ × Item → List Fault
 item_faults h (before, nothing) = []
-item_faults h (before, instant byte digits) = time_faults h byte before digits
+item_faults h (before, instant byte digits) = time_faults h.scale byte before digits
 item_faults h (before, value byte code_byte bits code) = code_faults h byte code_byte code ++ flat_map (length_faults byte bits) (inputs_of h code)
 item_faults h (before, real byte code_byte code) = code_faults h byte code_byte code ++ flat_map (λ d. fault Syntax byte ∷ []) (inputs_of h code)
 

@@ -1,6 +1,6 @@
 -- Which variables of a dump stand for inputs of the circuit (IEEE 1364-2005, 18.2.3.4, 18.2.3.6, 18.2.3.8).
-use Rattle.std.specs.Prelude.{ℕ, ◌==◌, ◌+◌, ◌&&◌, ◌||◌, not, Bool, true, false, List, [], ◌∷◌, ◌++◌, length, map, filter, filter_map, drop, take, reverse, nat_lt, bytes_eq, Option, Some, None, option_map, option_and_then, is_some, if◌then◌else◌}
-use Rattle.std.specs.List.{list_any, prefix_len}
+use Rattle.std.specs.Prelude.{ℕ, ◌==◌, ◌+◌, ◌&&◌, Bool, false, List, [], ◌∷◌, ◌++◌, length, filter_map, drop, take, reverse, nat_lt, bytes_eq, Option, Some, None, if◌then◌else◌}
+use Rattle.std.specs.List.{list_any}
 use Rattle.sg_circuit.specs.Circuit.{Circuit, Variable}
 use Rattle.vcd_form.specs.Kinds.{is_range_text}
 use Rattle.vcd_form.specs.Written.{Declaration, Section, declares, enters, leaves, remark, timescale}

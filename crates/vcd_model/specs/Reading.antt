@@ -1,9 +1,8 @@
 -- What a dump says as a stimulus: its stimulus where no fault stands, and else a fault that stands.
-use Rattle.std.specs.Prelude.{◌≡◌, ℕ, suc, ◌^◌, ◌<◌, List, [], length, Some}
+use Rattle.std.specs.Prelude.{◌≡◌, ℕ, suc, ◌^◌, ◌<◌, List, length, Some}
 use Rattle.std.specs.List.{IsAmong}
 use Rattle.sg_circuit.specs.Circuit.{Circuit}
 use Rattle.sg_stimulus.specs.Stimulus.{Stimulus}
-use Rattle.sg_text.specs.declared.places.Place.{Place}
 use Rattle.sg_text.specs.declared.refusals.Refused.{Refused}
 use Rattle.sg_text.specs.declared.refusals.Refused.TheVariants as refused
 use Rattle.vcd_form.specs.Rules.{dump, front}

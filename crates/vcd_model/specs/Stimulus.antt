@@ -1,5 +1,5 @@
 -- The stimulus that a dump is: a step for each time at which a bit of an input has a value, times rising; in it each such bit once, nets rising, with its last value at that time.
-use Rattle.std.specs.Prelude.{ℕ, ◌==◌, ◌&&◌, not, List, [], ◌∷◌, length, map, filter, filter_map, flat_map, Option, Some, None, option_map, if◌then◌else◌}
+use Rattle.std.specs.Prelude.{ℕ, ◌==◌, ◌&&◌, not, List, [], ◌∷◌, length, map, filter, filter_map, flat_map, Option, Some, None, option_map, Bool}
 use Rattle.std.specs.List.{range_with_len}
 use Rattle.sg_logic.specs.declared.values.Value.{Value}
 use Rattle.sg_time.specs.Spelling.{number_from}

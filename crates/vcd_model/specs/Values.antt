@@ -1,12 +1,12 @@
 -- The values that a dump gives to bits of inputs, and the times at which it does (IEEE 1364-2005, 18.2.1, 18.2.2).
-use Rattle.std.specs.Prelude.{ℕ, ℤ, pos, negsuc, ◌-ℤ◌, ◌-◌, ◌*◌, ◌/◌, ◌%◌, ◌^◌, ◌==◌, ◌||◌, Bool, nat_le, option_to_list, List, [], ◌∷◌, ◌++◌, length, map, zip, filter, flat_map, filter_map, replicate, bytes_eq, Option, Some, None, if◌then◌else◌}
+use Rattle.std.specs.Prelude.{ℕ, ℤ, negsuc, ◌-ℤ◌, ◌-◌, ◌*◌, ◌/◌, ◌%◌, ◌^◌, ◌==◌, ◌||◌, Bool, nat_le, option_to_list, List, [], ◌∷◌, ◌++◌, length, map, zip, filter, flat_map, replicate, bytes_eq, Option, Some, None, if◌then◌else◌}
 use Rattle.sg_logic.specs.declared.values.Value.{Value}
 use Rattle.sg_logic.specs.declared.values.Value.TheVariants.{Zero, One, X, Z}
 use Rattle.sg_time.specs.Spelling.{number_from}
 use Rattle.sg_time.specs.Ticks.{above, below}
 use Rattle.sg_circuit.specs.Circuit.{Circuit}
-use Rattle.vcd_form.specs.Written.{Declaration, Item, Section, declares, enters, instant, leaves, nothing, real, remark, timescale, value}
-use Rattle.vcd_model.specs.Inputs.{input_of, nets_at, own}
+use Rattle.vcd_form.specs.Written.{Declaration, Item, Section, instant, timescale, value}
+use Rattle.vcd_model.specs.Inputs.{input_of, nets_at}
 
 -- ---- times
 

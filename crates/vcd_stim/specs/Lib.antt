@@ -1,0 +1,5 @@
+-- The modules of this folder, in reading order.
+pub mod Meant
+pub mod Paths
+pub mod Index
+pub mod Steps

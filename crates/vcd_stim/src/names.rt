@@ -1,0 +1,102 @@
+// The names of variables, and their ranges.
+ghost use Rattle.std.specs.Prelude.{◌≡◌, ◌≤◌, length, option_map, option_and_then, option_to_list, MatchResult};
+ghost use Rattle.sg_circuit.specs.Seen.{variable_seen};
+ghost use Rattle.vcd_form.specs.Seen.{declaration_seen};
+ghost use Rattle.vcd_model.specs.Inputs as def;
+ghost use Rattle.vcd_stim.specs.Meant.{called_seen};
+
+use vcd_form::{Declaration, is_range};
+
+/// A name, and its range as it is written.
+#[derive(Clone, Copy, Debug)]
+pub struct Called<'t> {
+    pub name: &'t [u8],
+    pub range: Option<&'t [u8]>,
+}
+
+/// A name without the `\` of an escaped one.
+pub fn bare(name: &[u8]) -> &[u8]
+    ensures { result.now ≡ def.bare name.now }
+{
+    match name {
+        [b'\\', rest @ ..] => rest,
+        _ => name,
+    }
+}
+
+// Where the last `[` stands, or 0.
+fn front_len(text: &[u8]) -> usize
+    ensures value { result ≡ def.front_len text.now }
+    ensures within { result ≤ length text.now }
+{
+    let mut found: usize = 0;
+    for (index, b) in text.iter().enumerate() {
+        if *b == b'[' {
+            found = index;
+        }
+    }
+    found
+}
+
+// A range at the end of a plain name.
+fn split_name(text: &[u8]) -> Called<'_>
+    ensures { called_seen result ≡ def.split_name text.now }
+{
+    let (name, range) = text.split_at(front_len(text));
+    if !name.is_empty() && is_range(range) {
+        return Called {
+            name,
+            range: Some(range),
+        };
+    }
+    Called {
+        name: text,
+        range: None,
+    }
+}
+
+/// The name of a variable, and its range.
+pub fn called<'t>(declaration: &Declaration<'t>) -> Called<'t>
+    ensures { called_seen result ≡ def.called (declaration_seen declaration.now) }
+{
+    if let Some(range) = declaration.range {
+        return Called {
+            name: bare(declaration.name),
+            range: Some(range),
+        };
+    }
+    match declaration.name {
+        [b'\\', rest @ ..] => Called {
+            name: rest,
+            range: None,
+        },
+        _ => split_name(declaration.name),
+    }
+}
+
+// What is between the brackets.
+fn inside(range: &[u8]) -> &[u8]
+    ensures { result.now ≡ def.inside range.now }
+{
+    match range {
+        [_, inner @ .., _] => inner,
+        _ => &[],
+    }
+}
+
+fn has_colon(range: &[u8]) -> bool
+    ensures { result ≡ def.has_colon range.now }
+{
+    range.contains(&b':')
+}
+
+/// The index that a range is, if it is one.
+pub fn index_of(range: Option<&[u8]>) -> Option<&[u8]>
+    ensures { option_map (λ i. i.now) result ≡ def.index_of (option_map (λ r. r.now) range.entry) }
+{
+    let range = range?;
+    if has_colon(range) {
+        return None;
+    }
+    Some(inside(range))
+}
