@@ -167,11 +167,11 @@ right_bits circuit time values (n ∷ ns) h = ((refl, (All-head (λ m. IsInput c
 
 bit_given : (time net : ℕ) (values : List Value) (bits : List ℕ) → is_bit net bits ≡ true → list_any (is_given time net) (map (given_of time) (zip bits (values_at bits values))) ≡ true
 bit_given time net values [] h = absurd (let q : false ≡ true = h in cc)
-bit_given time net values (n ∷ ns) h = at (n == net) refl h
+bit_given time net values (n ∷ ns) h = at (n == net) refl h (λ f. bit_given time net values ns f)
   where
-    at : (b : Bool) → (n == net) ≡ b → (b || is_bit net ns) ≡ true → (((time == time) && (n == net)) || list_any (is_given time net) (map (given_of time) (zip ns (values_at ns values)))) ≡ true
-    at true e f = or_left ((time == time) && (n == net)) _ (and_from (time == time) (n == net) (eq-eqb time time refl) e)
-    at false e f = or_right ((time == time) && (n == net)) _ (bit_given time net values ns f)
+    at : (b : Bool) → (n == net) ≡ b → (b || is_bit net ns) ≡ true → (is_bit net ns ≡ true → list_any (is_given time net) (map (given_of time) (zip ns (values_at ns values))) ≡ true) → (((time == time) && (n == net)) || list_any (is_given time net) (map (given_of time) (zip ns (values_at ns values)))) ≡ true
+    at true e f rest = or_left ((time == time) && (n == net)) _ (and_from (time == time) (n == net) (eq-eqb time time refl) e)
+    at false e f rest = or_right ((time == time) && (n == net)) _ (rest f)
 
 item_given : (circuit : Circuit) (ds : List Declaration) (time : ℕ) (values : List Value) (k : ℕ) (v : Variable)
     → given_from circuit ds time (value_item values k v) ≡ map (given_of time) (bits_read circuit ds (map value_letter (values_at v.bits values)) (code k))
@@ -229,7 +229,7 @@ pub reader_given : (circuit : Circuit) (ds : List Declaration) (time net : ℕ) 
     → HasReader circuit ds net k vs → list_any (is_given time net) (given_from circuit ds time (numbered (some_item test values) k vs)) ≡ true
 reader_given circuit ds time net test values k [] shows h = absurd h
 reader_given circuit ds time net test values k (v ∷ vs) shows h =
-    ap (list_any (is_given time net)) (parted circuit ds time test values k v vs) ∙ (list_any-append (is_given time net) here rest ∙ at h)
+    ap (list_any (is_given time net)) (parted circuit ds time test values k v vs) ∙ (list_any-append (is_given time net) here rest ∙ at h (λ r. reader_given circuit ds time net test values (suc k) vs shows r))
   where
     here : List Given
     here = if test v then given_from circuit ds time (value_item values k v) else []
@@ -237,30 +237,30 @@ reader_given circuit ds time net test values k (v ∷ vs) shows h =
     rest : List Given
     rest = given_from circuit ds time (numbered (some_item test values) (suc k) vs)
 
-    at : (IsRead circuit ds k v × (is_bit net v.bits ≡ true)) ⊎ HasReader circuit ds net (suc k) vs → (list_any (is_given time net) here || list_any (is_given time net) rest) ≡ true
-    at (inl r) =
+    at : (IsRead circuit ds k v × (is_bit net v.bits ≡ true)) ⊎ HasReader circuit ds net (suc k) vs → (HasReader circuit ds net (suc k) vs → list_any (is_given time net) rest ≡ true) → (list_any (is_given time net) here || list_any (is_given time net) rest) ≡ true
+    at (inl r) later =
         or_left (list_any (is_given time net) here) (list_any (is_given time net) rest)
         (ap (λ b. list_any (is_given time net) (if b then given_from circuit ds time (value_item values k v) else [])) (shows v r.1)
         ∙ (ap (list_any (is_given time net)) (read_given circuit ds time values k v r.0) ∙ bit_given time net values v.bits r.1))
-    at (inr r) = or_right (list_any (is_given time net) here) (list_any (is_given time net) rest) (reader_given circuit ds time net test values (suc k) vs shows r)
+    at (inr r) later = or_right (list_any (is_given time net) here) (list_any (is_given time net) rest) (later r)
 
 -- a bit that differs shows its variable
 pub bit_differs : (old new : List Value) (net : ℕ) (bits : List ℕ) → is_same (value_at old net) (value_at new net) ≡ false → is_bit net bits ≡ true → any_differs old new bits ≡ true
 bit_differs old new net [] e h = absurd (let q : false ≡ true = h in cc)
-bit_differs old new net (n ∷ ns) e h = at (n == net) refl h
+bit_differs old new net (n ∷ ns) e h = at (n == net) refl h (λ g. bit_differs old new net ns e g)
   where
-    at : (b : Bool) → (n == net) ≡ b → (b || is_bit net ns) ≡ true → (not (is_same (value_at old n) (value_at new n)) || any_differs old new ns) ≡ true
-    at true f g = or_left (not (is_same (value_at old n) (value_at new n))) (any_differs old new ns) (ap (λ m. not (is_same (value_at old m) (value_at new m))) (eqb-true n net f) ∙ ap not e)
-    at false f g = or_right (not (is_same (value_at old n) (value_at new n))) (any_differs old new ns) (bit_differs old new net ns e g)
+    at : (b : Bool) → (n == net) ≡ b → (b || is_bit net ns) ≡ true → (is_bit net ns ≡ true → any_differs old new ns ≡ true) → (not (is_same (value_at old n) (value_at new n)) || any_differs old new ns) ≡ true
+    at true f g rest = or_left (not (is_same (value_at old n) (value_at new n))) (any_differs old new ns) (ap (λ m. not (is_same (value_at old m) (value_at new m))) (eqb-true n net f) ∙ ap not e)
+    at false f g rest = or_right (not (is_same (value_at old n) (value_at new n))) (any_differs old new ns) (rest g)
 
 -- and a variable of inputs that differs has an input that does
 pub find_change : (circuit : Circuit) (old new : List Value) (bits : List ℕ) → All (λ n. IsInput circuit n) bits → any_differs old new bits ≡ true → Changes circuit old new
 find_change circuit old new [] h e = absurd (let q : false ≡ true = e in cc)
-find_change circuit old new (n ∷ ns) h e = at (is_same (value_at old n) (value_at new n)) refl e
+find_change circuit old new (n ∷ ns) h e = at (is_same (value_at old n) (value_at new n)) refl e (λ g. find_change circuit old new ns (All-tail (λ m. IsInput circuit m) n ns h) g)
   where
-    at : (b : Bool) → is_same (value_at old n) (value_at new n) ≡ b → (not b || any_differs old new ns) ≡ true → Changes circuit old new
-    at true f g = find_change circuit old new ns (All-tail (λ m. IsInput circuit m) n ns h) g
-    at false f g = record {
+    at : (b : Bool) → is_same (value_at old n) (value_at new n) ≡ b → (not b || any_differs old new ns) ≡ true → (any_differs old new ns ≡ true → Changes circuit old new) → Changes circuit old new
+    at true f g rest = rest g
+    at false f g rest = record {
       net = n;
       input = All-head (λ m. IsInput circuit m) n ns h;
       differs = λ same. (let q : true ≡ false = sym (same-self (value_at old n) (value_at new n) (sym same)) ∙ f in cc);

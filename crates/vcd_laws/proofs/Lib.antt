@@ -5,3 +5,8 @@ pub mod Body
 pub mod Waves
 pub mod Rows
 pub mod WordKinds
+pub mod Stands
+pub mod Entries
+pub mod Reads
+pub mod Dumps
+pub mod Header

@@ -73,21 +73,21 @@ nothing_now (suc n) k gs time h =
 -- the times, each once
 any_kept : (t x : ℕ) (us : List ℕ) → (t == x) ≡ false → list_any (λ u. u == x) (filter (λ u. not (u == t)) us) ≡ list_any (λ u. u == x) us
 any_kept t x [] h = refl
-any_kept t x (u ∷ us) h = at (u == t) refl
+any_kept t x (u ∷ us) h = at (u == t) refl (any_kept t x us h)
   where
-    at : (b : Bool) → (u == t) ≡ b → list_any (λ v. v == x) (cond (not b) (u ∷ filter (λ v. not (v == t)) us) (filter (λ v. not (v == t)) us)) ≡ ((u == x) || list_any (λ v. v == x) us)
-    at true e =
+    at : (b : Bool) → (u == t) ≡ b → list_any (λ v. v == x) (filter (λ v. not (v == t)) us) ≡ list_any (λ v. v == x) us → list_any (λ v. v == x) (cond (not b) (u ∷ filter (λ v. not (v == t)) us) (filter (λ v. not (v == t)) us)) ≡ ((u == x) || list_any (λ v. v == x) us)
+    at true e rest =
         let other : (u == x) ≡ false = ap (λ v. v == x) (eqb-true u t e) ∙ h in
-        any_kept t x us h ∙ sym (ap (λ b. b || list_any (λ v. v == x) us) other)
-    at false e = ap (λ b. (u == x) || b) (any_kept t x us h)
+        rest ∙ sym (ap (λ b. b || list_any (λ v. v == x) us) other)
+    at false e rest = ap (λ b. (u == x) || b) rest
 
 any_once : (x : ℕ) (ts : List ℕ) → list_any (λ u. u == x) (once ts) ≡ list_any (λ u. u == x) ts
 any_once x [] = refl
-any_once x (t ∷ ts) = at (t == x) refl
+any_once x (t ∷ ts) = at (t == x) refl (any_once x ts)
   where
-    at : (b : Bool) → (t == x) ≡ b → (b || list_any (λ u. u == x) (filter (λ u. not (u == t)) (once ts))) ≡ (b || list_any (λ u. u == x) ts)
-    at true e = refl
-    at false e = any_kept t x (once ts) e ∙ any_once x ts
+    at : (b : Bool) → (t == x) ≡ b → list_any (λ u. u == x) (once ts) ≡ list_any (λ u. u == x) ts → (b || list_any (λ u. u == x) (filter (λ u. not (u == t)) (once ts))) ≡ (b || list_any (λ u. u == x) ts)
+    at true e rest = refl
+    at false e rest = any_kept t x (once ts) e ∙ rest
 
 any_time : (x : ℕ) (gs : List Given) → list_any (λ u. u == x) (map (λ (g : Given). g.time) gs) ≡ list_any (λ (g : Given). g.time == x) gs
 any_time x [] = refl
@@ -97,11 +97,11 @@ sets_of : (scale : Scale) (nets : ℕ) (gs : List Given) (ts : List ℕ) (time :
     → sets_at (map (step_at scale nets gs) ts) time ≡ sets_now nets gs time
 sets_of scale nets gs [] time same none = sym (nothing_now nets 0 gs time (none refl))
 sets_of scale nets gs (t ∷ ts) time same none =
-    ap (λ u. if u == time then sets_now nets gs t else sets_at (map (step_at scale nets gs) ts) time) (same t) ∙ at (t == time) refl
+    ap (λ u. if u == time then sets_now nets gs t else sets_at (map (step_at scale nets gs) ts) time) (same t) ∙ at (t == time) refl (λ e. sets_of scale nets gs ts time same (λ h. none (or_from (t == time) (list_any (λ u. u == time) ts) e h)))
   where
-    at : (b : Bool) → (t == time) ≡ b → (if b then sets_now nets gs t else sets_at (map (step_at scale nets gs) ts) time) ≡ sets_now nets gs time
-    at true e = ap (sets_now nets gs) (eqb-true t time e)
-    at false e = sets_of scale nets gs ts time same (λ h. none (or_from (t == time) (list_any (λ u. u == time) ts) e h))
+    at : (b : Bool) → (t == time) ≡ b → ((t == time) ≡ false → sets_at (map (step_at scale nets gs) ts) time ≡ sets_now nets gs time) → (if b then sets_now nets gs t else sets_at (map (step_at scale nets gs) ts) time) ≡ sets_now nets gs time
+    at true e rest = ap (sets_now nets gs) (eqb-true t time e)
+    at false e rest = rest e
 
 -- the steps at a time are the sets of that time
 pub steps_now : (scale : Scale) (nets : ℕ) (gs : List Given) (time : ℕ) → ((u : ℕ) → ticks scale u ≡ u) → sets_at (steps_of scale nets gs) time ≡ sets_now nets gs time
@@ -125,7 +125,7 @@ pair_of P net (Some v) c h e =
     some_same : (a b : ℕ × Value) → ◌≡◌ {A = Option (ℕ × Value)} (Some a) (Some b) → a ≡ b
     some_same a b k = cc
 
-last_is : (P : Value → Type 0) (gs : List Given) (time net : ℕ) (c : ℕ × Value) → AllByRecursion (λ (g : Given). is_given time net g ≡ true → P g.value) gs → last_given gs time net ≡ Some c → (c.0 ≡ net) × P c.1
+pub last_is : (P : Value → Type 0) (gs : List Given) (time net : ℕ) (c : ℕ × Value) → AllByRecursion (λ (g : Given). is_given time net g ≡ true → P g.value) gs → last_given gs time net ≡ Some c → (c.0 ≡ net) × P c.1
 last_is P gs time net c h e =
     pair_of P net (last (map (λ (g : Given). g.value) (filter (is_given time net) gs))) c (λ v k. last_all P (map (λ (g : Given). g.value) (filter (is_given time net) gs)) v (given_values P time net gs h) k) e
 
@@ -141,7 +141,7 @@ sets_all Q gs time k (suc n) h = at (last_given gs time k) refl (sets_all Q gs t
 -- each net that is given is set
 set_there : (gs : List Given) (time k nets net : ℕ) → k ≤ net → net < k + nets → list_any (is_given time net) gs ≡ true → list_any (λ (c : ℕ × Value). c.0 == net) (filter_map (last_given gs time) (range_with_len k nets)) ≡ true
 set_there gs time k zero net l m h = absurd (omega arith)
-set_there gs time k (suc n) net l m h = at (k == net) refl
+set_there gs time k (suc n) net l m h = at (k == net) refl (λ (other : k ≢ net). set_there gs time (k + 1) n net (omega arith) (omega arith) h)
   where
     rest : List (ℕ × Value)
     rest = filter_map (last_given gs time) (range_with_len (k + 1) n)
@@ -154,11 +154,9 @@ set_there gs time k (suc n) net l m h = at (k == net) refl
     here None e same = absurd (let q : false ≡ true = sym (ap (λ x. list_any (is_given time x) gs) (sym same) ∙ last_there time k gs e) ∙ h in cc)
     here (Some v) e same = or_left (k == net) (list_any (λ (x : ℕ × Value). x.0 == net) rest) (eq-eqb k net same)
 
-    at : (b : Bool) → (k == net) ≡ b → list_any (λ (c : ℕ × Value). c.0 == net) (cons_option (last_given gs time k) rest) ≡ true
-    at true e = here (last (map (λ (g : Given). g.value) (filter (is_given time k) gs))) refl (eqb-true k net e)
-    at false e =
-        let other : k ≢ net = eqb-false k net e in
-        skip (last_given gs time k) (set_there gs time (k + 1) n net (omega arith) (omega arith) h)
+    at : (b : Bool) → (k == net) ≡ b → (k ≢ net → list_any (λ (c : ℕ × Value). c.0 == net) rest ≡ true) → list_any (λ (c : ℕ × Value). c.0 == net) (cons_option (last_given gs time k) rest) ≡ true
+    at true e later = here (last (map (λ (g : Given). g.value) (filter (is_given time k) gs))) refl (eqb-true k net e)
+    at false e later = skip (last_given gs time k) (later (eqb-false k net e))
 
 at_time : (circuit : Circuit) (after : List Value) (time net : ℕ) (gs : List Given) → AllByRecursion (λ (g : Given). g.time ≡ time → IsInput circuit g.net × (g.value ≡ value_at after g.net)) gs
     → AllByRecursion (λ (g : Given). is_given time net g ≡ true → IsInput circuit net × (g.value ≡ value_at after net)) gs
@@ -243,7 +241,7 @@ sets_above gs time k nets = sets_all (λ (c : ℕ × Value). k ≤ c.0) gs time 
 
 pub sets_once : (gs : List Given) (time k nets : ℕ) → SetsOnce (filter_map (last_given gs time) (range_with_len k nets))
 sets_once gs time k zero = tt
-sets_once gs time k (suc n) = at (last_given gs time k) refl
+sets_once gs time k (suc n) = at (last_given gs time k) refl (sets_once gs time (k + 1) n)
   where
     rest : List (ℕ × Value)
     rest = filter_map (last_given gs time) (range_with_len (k + 1) n)
@@ -256,8 +254,8 @@ sets_once gs time k (suc n) = at (last_given gs time k) refl
     none_again time net [] = tt
     none_again time net (x ∷ xs) = ((λ e. tt), none_again time net xs)
 
-    at : (o : Option (ℕ × Value)) → last_given gs time k ≡ o → SetsOnce (cons_option o rest)
-    at None e = sets_once gs time (k + 1) n
-    at (Some c) e =
+    at : (o : Option (ℕ × Value)) → last_given gs time k ≡ o → SetsOnce rest → SetsOnce (cons_option o rest)
+    at None e later = later
+    at (Some c) e later =
         let r = last_is (λ v. Unit {0}) gs time k c (none_again time k gs) e in
-        (All-from_recursion (λ (x : ℕ × Value). x.0 ≢ c.0) rest (apart c.0 rest r.0 (sets_above gs time (k + 1) n)), sets_once gs time (k + 1) n)
+        (All-from_recursion (λ (x : ℕ × Value). x.0 ≢ c.0) rest (apart c.0 rest r.0 (sets_above gs time (k + 1) n)), later)
