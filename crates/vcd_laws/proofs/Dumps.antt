@@ -12,7 +12,7 @@ use Rattle.vcd_form.specs.Rules.{Came, body, body_parts, came_after, came_first,
 use Rattle.vcd_form.specs.Words.{Word}
 use Rattle.vcd_form.specs.Written.{Declaration, Front, Item, Section, declares, enters, leaves, remark, timescale}
 use Rattle.vcd_laws.proofs.Entries.{Entry, definitions_words, said, words_of}
-use Rattle.vcd_laws.proofs.Reads.{ReadsItem, ReadsSection, may_come, plain}
+use Rattle.vcd_laws.proofs.ReadLines.{ReadsItem, ReadsSection, may_come, plain}
 use Rattle.vcd_laws.proofs.Stands.{At, Stand, spell_both, spell_mapped, spell_mark, spell_placed, spell_right, stand_first, stand_rest}
 use Rattle.vcd_laws.proofs.Waves.{unplaced}
 

@@ -16,7 +16,7 @@ use Rattle.vcd_model.specs.Inputs.{bare, declared_at, has_scope, is_at, opens_at
 use Rattle.vcd_model.specs.Values.{powers}
 use Rattle.vcd_laws.proofs.Entries.{declared_as, declaration_entry, header_entries, said, visit_entries, Entry}
 use Rattle.vcd_laws.proofs.Items.{numbered}
-use Rattle.vcd_laws.proofs.Reads.{plain}
+use Rattle.vcd_laws.proofs.ReadLines.{plain}
 
 -- ---- declarations in scopes of a path, from open scopes on
 
@@ -42,9 +42,9 @@ own-append : (scope : List ℕ) (scopes : List (List ℕ)) (xs ys : List Section
 own-append scope scopes [] ys = refl
 own-append scope scopes (x ∷ xs) ys = ap (cons_option (declared_at scope scopes x)) (own-append scope (scopes_after scopes x) xs ys) ∙ at (declared_at scope scopes x) (own_from scope (scopes_after scopes x) xs) (own_from scope (stack_after (scopes_after scopes x) xs) ys)
   where
-    at : (o : Option Declaration) (as bs : List Declaration) → cons_option o (as ++ bs) ≡ cons_option o as ++ bs
-    at None as bs = refl
-    at (Some d) as bs = refl
+    at : (o : Option Declaration) (xs bs : List Declaration) → cons_option o (xs ++ bs) ≡ cons_option o xs ++ bs
+    at None xs bs = refl
+    at (Some d) xs bs = refl
 
 stack-append : (scopes : List (List ℕ)) (xs ys : List Section) → stack_after scopes (xs ++ ys) ≡ stack_after (stack_after scopes xs) ys
 stack-append scopes [] ys = refl
@@ -78,8 +78,8 @@ visits-append circuit k (Enters s ∷ xs) ys =
     ∙ (ap (λ t. enters (written_name (scope_at circuit s).name) ∷ t) (sym (append_assoc here (visit_sections circuit (k + length vars) xs) (visit_sections circuit (k + length vars + count_of circuit xs) ys)))
     ∙ ap (λ n. enters (written_name (scope_at circuit s).name) ∷ (here ++ visit_sections circuit (k + length vars) xs ++ visit_sections circuit n ys)) many)
   where
-    more : (n : ℕ) (as bs : List Variable) → n + length as + length bs ≡ n + length (as ++ bs)
-    more n as bs = (let q : length (as ++ bs) ≡ length as + length bs = length-append as bs in omega arith)
+    more : (n : ℕ) (xs bs : List Variable) → n + length xs + length bs ≡ n + length (xs ++ bs)
+    more n xs bs = (let q : length (xs ++ bs) ≡ length xs + length bs = length-append xs bs in omega arith)
 visits-append circuit k (Leaves ∷ xs) ys = ap (λ t. leaves ∷ t) (visits-append circuit k xs ys)
 
 -- ---- declarations under open scopes

@@ -7,6 +7,7 @@ pub mod Rows
 pub mod WordKinds
 pub mod Stands
 pub mod Entries
-pub mod Reads
+pub mod ReadLines
 pub mod Dumps
 pub mod Header
+pub mod Names

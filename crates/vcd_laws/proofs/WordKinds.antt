@@ -45,7 +45,7 @@ code_word text h e = keyword_kinds (λ k. is_code k ≡ true) text refl refl ref
 
 -- ---- a word that begins with no `$` is no keyword
 
-no_keyword : (b : ℕ) (bs rest : List ℕ) → b ≢ 36 → bytes_eq (b ∷ bs) (36 ∷ rest) ≡ false
+pub no_keyword : (b : ℕ) (bs rest : List ℕ) → b ≢ 36 → bytes_eq (b ∷ bs) (36 ∷ rest) ≡ false
 no_keyword b bs rest n = false_from_ne_true (bytes_eq (b ∷ bs) (36 ∷ rest)) (λ e. (let q : b ∷ bs ≡ 36 ∷ rest = (bytes_eq-Decides (b ∷ bs) (36 ∷ rest)).0 e in let h : b ≡ 36 = cc in n h))
 
 pub plain_word : (b : ℕ) (bs : List ℕ) → b ≢ 36 → kind_of_text (b ∷ bs) ≡ value_kind_of (b ∷ bs)

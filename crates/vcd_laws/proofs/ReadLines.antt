@@ -127,7 +127,7 @@ reads_upscope = record {
     spells = λ came may. inr (inr (inr (inl (spell_if (nat_lt 0 came.depth) (mapped (λ u. leaves) upscope_section) ws i (i + 2) leaves may
         (subst (λ m. (mapped (λ u. leaves) upscope_section).language.Spells ws i leaves m) (let q : i + 1 + 1 ≡ i + 2 = omega arith in q)
         (spell_mapped (λ u. leaves) upscope_section ws i (i + 1 + 1) tt
-        (spell_right (mark is_upscope) (mark is_end) ws i (i + 1) (i + 1 + 1) tt tt (spell_mark is_upscope ws i (codes "$upscope") h.0 refl) (spell_mark is_end ws (i + 1) (codes "$end") h.1.0 refl)))))));
+        (spell_right (mark is_upscope) (mark is_end) ws i (i + 1) (i + 1 + 1) tt tt (spell_mark is_upscope ws i (codes "$upscope") h.0 refl) (spell_mark is_end ws (i + 1) (codes "$end") h.1.0 refl))))))));
   };
 }
 
