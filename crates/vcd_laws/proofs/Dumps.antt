@@ -8,7 +8,7 @@ use Rattle.grammar.specs.Rule as rule
 use Rattle.grammar.specs.Rule.{◌∙∙◌, ◌▸◌, mapped}
 use Rattle.grammar.specs.States.{SpellsBy}
 use Rattle.vcd_form.specs.Kinds.{is_definitions, is_end, kind_of}
-use Rattle.vcd_form.specs.Rules.{Came, body, body_parts, came_after, came_first, dump, header, item, mark, section_of, start, start_parts}
+use Rattle.vcd_form.specs.Rules.{Came, body, body_parts, came_after, came_first, dump, header, item, mark, placed, section_of, start, start_parts}
 use Rattle.vcd_form.specs.Words.{Word}
 use Rattle.vcd_form.specs.Written.{Declaration, Front, Item, Section, declares, enters, leaves, remark, timescale}
 use Rattle.vcd_laws.proofs.Entries.{Entry, definitions_words, said, words_of}
@@ -89,7 +89,7 @@ pub record SpellsDump (ws : List Word) (ss : List Section) (xs : List Item) : Ty
 spell_start : (ws : List Word) (i : ℕ) (h : Stand ws i definitions_words) → start.language.Spells ws i h.0.0 (i + 2)
 unfolding start_parts
 spell_start ws i h =
-    spell_mapped (λ (x : ℕ × Unit {0}). x.0) _ ws i (i + 2) (h.0.0, tt)
+    spell_mapped (λ (x : ℕ × Unit {0}). x.0) (placed (mark is_definitions ▸ mark is_end)) ws i (i + 2) (h.0.0, tt)
     (spell_placed (mark is_definitions ▸ mark is_end) ws i (i + 2) tt (codes "$enddefinitions") h.0
     (subst (λ m. (mark is_definitions ▸ mark is_end).language.Spells ws i tt m) (let q : i + 1 + 1 ≡ i + 2 = omega arith in q)
     (spell_right (mark is_definitions) (mark is_end) ws i (i + 1) (i + 1 + 1) tt tt (spell_mark is_definitions ws i (codes "$enddefinitions") h.0 refl) (spell_mark is_end ws (i + 1) (codes "$end") h.1.0 refl))))

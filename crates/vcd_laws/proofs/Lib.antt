@@ -11,3 +11,5 @@ pub mod ReadLines
 pub mod Dumps
 pub mod Header
 pub mod Names
+pub mod Codes
+pub mod Own

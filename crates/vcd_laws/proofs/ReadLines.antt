@@ -3,7 +3,7 @@ use Rattle.std.specs.Prelude.{◌≡◌, ◌≢◌, ℕ, ℤ, pos, ◌-ℤ◌, �
 use Rattle.std.specs.List.{AllByRecursion, list_all}
 use Rattle.std.specs.Ordering.{int_eq}
 use Rattle.std.proofs.Common.{sym, ◌∙◌, ap, subst, arith, inl, inr}
-use Rattle.std.proofs.lemmas.Bool.{agree_below, agree_below_at, and_parts}
+use Rattle.std.proofs.lemmas.Bool.{agree_below_at, and_from, and_parts, lt-ltb}
 use Rattle.std.proofs.lemmas.Bool.Decides.{Decides-int_eq}
 use Rattle.grammar.specs.Language.{SpellsMany}
 use Rattle.grammar.specs.Rule as rule
@@ -59,7 +59,7 @@ reads_version = record {
         (spell_right (mark is_remark) remark_rest ws i (i + 1) (i + 1 + 2 + 1) tt tt (spell_mark is_remark ws i (codes "$version") h.0 refl)
         (spell_mapped (λ x. tt) (rule.many kind_of (mark is_any) ◂ mark is_end) ws (i + 1) (i + 1 + 2 + 1) (tt ∷ tt ∷ [])
         (spell_left (rule.many kind_of (mark is_any)) (mark is_end) ws (i + 1) (i + 1 + 2) (i + 1 + 2 + 1) (tt ∷ tt ∷ []) tt
-        (spell_marks is_any ws (i + 1) (codes "signoff" ∷ codes "1" ∷ []) (h.1.0, h.1.1.0, tt) (refl, refl, tt))
+        (spell_marks is_any ws (i + 1) (codes "signoff" ∷ codes "1" ∷ []) (h.1.0, (h.1.1.0, tt)) (refl, (refl, tt)))
         (spell_mark is_end ws (i + 1 + 2) (codes "$end") (subst (λ n. At ws n (codes "$end")) (let q : i + 1 + 1 + 1 ≡ i + 1 + 2 = omega arith in q) h.1.1.1.0) refl))))));
   };
 }
@@ -237,7 +237,7 @@ reads_vector v vs code c = record {
         (spell_mapped vector_of (placed (text is_vector) ∙∙ placed (text is_code)) ws i (i + 1 + 1) ((h.0.0, 98 ∷ map value_letter (v ∷ vs)), (h.1.0.0, code))
         (spell_both (placed (text is_vector)) (placed (text is_code)) ws i (i + 1) (i + 1 + 1) (h.0.0, 98 ∷ map value_letter (v ∷ vs)) (h.1.0.0, code)
         (spell_placed (text is_vector) ws i (i + 1) (98 ∷ map value_letter (v ∷ vs)) (98 ∷ map value_letter (v ∷ vs)) h.0
-        (spell_text is_vector ws i (98 ∷ map value_letter (v ∷ vs)) h.0 (ap is_vector (vector_word (map value_letter (v ∷ vs)) (letters_values (v ∷ vs))))))
+        (spell_text is_vector ws i (98 ∷ map value_letter (v ∷ vs)) h.0 (ap is_vector (vector_word (map value_letter (v ∷ vs)) (and_from (nat_lt 0 (length (map value_letter (v ∷ vs)))) (list_all is_value_byte (map value_letter (v ∷ vs))) (lt-ltb 0 (length (map value_letter (v ∷ vs))) (omega arith)) (letters_values (v ∷ vs)))))))
         (spell_placed (text is_code) ws (i + 1) (i + 1 + 1) code code h.1.0 (spell_text is_code ws (i + 1) code h.1.0 c)))))))));
   };
 }
