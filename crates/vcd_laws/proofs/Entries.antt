@@ -120,7 +120,7 @@ later_entries vs old s = time_entry s.time ∷ numbered (change_entry old s.valu
 
 -- ---- their texts are those of the dump
 
-text-append : {A : Type 0} (xs ys : List (Entry A)) → text_of (xs ++ ys) ≡ text_of xs ++ text_of ys
+pub text-append : {A : Type 0} (xs ys : List (Entry A)) → text_of (xs ++ ys) ≡ text_of xs ++ text_of ys
 text-append [] ys = refl
 text-append (x ∷ xs) ys = ap (λ t. row x.words ++ t) (text-append xs ys) ∙ sym (append_assoc (row x.words) (text_of xs) (text_of ys))
 
@@ -210,10 +210,10 @@ later_text vs old s = ap (λ t. time_line s.time ++ t) (numbered_text (change_li
 
 -- ---- and what they say are the items
 
-said-append : {A : Type 0} (xs ys : List (Entry A)) → said (xs ++ ys) ≡ said xs ++ said ys
+pub said-append : {A : Type 0} (xs ys : List (Entry A)) → said (xs ++ ys) ≡ said xs ++ said ys
 said-append xs ys = map-append (λ e. e.says) xs ys
 
-numbered_said : {A B : Type 0} (entries : ℕ → A → List (Entry B)) (says : ℕ → A → List B) (k : ℕ) (xs : List A) → ((n : ℕ) (x : A) → said (entries n x) ≡ says n x) → said (numbered entries k xs) ≡ numbered says k xs
+pub numbered_said : {A B : Type 0} (entries : ℕ → A → List (Entry B)) (says : ℕ → A → List B) (k : ℕ) (xs : List A) → ((n : ℕ) (x : A) → said (entries n x) ≡ says n x) → said (numbered entries k xs) ≡ numbered says k xs
 numbered_said entries says k [] h = refl
 numbered_said entries says k (x ∷ xs) h =
     said-append (entries k x) (numbered entries (suc k) xs) ∙ (ap (λ t. t ++ said (numbered entries (suc k) xs)) (h k x) ∙ ap (λ t. says k x ++ t) (numbered_said entries says (suc k) xs h))

@@ -38,7 +38,7 @@ abbrev pub stack_after : List (List ℕ) → List Section → List (List ℕ)
 stack_after scopes [] = scopes
 stack_after scopes (s ∷ ss) = stack_after (scopes_after scopes s) ss
 
-own-append : (scope : List ℕ) (scopes : List (List ℕ)) (xs ys : List Section) → own_from scope scopes (xs ++ ys) ≡ own_from scope scopes xs ++ own_from scope (stack_after scopes xs) ys
+pub own-append : (scope : List ℕ) (scopes : List (List ℕ)) (xs ys : List Section) → own_from scope scopes (xs ++ ys) ≡ own_from scope scopes xs ++ own_from scope (stack_after scopes xs) ys
 own-append scope scopes [] ys = refl
 own-append scope scopes (x ∷ xs) ys = ap (cons_option (declared_at scope scopes x)) (own-append scope (scopes_after scopes x) xs ys) ∙ at (declared_at scope scopes x) (own_from scope (scopes_after scopes x) xs) (own_from scope (stack_after (scopes_after scopes x) xs) ys)
   where
@@ -46,7 +46,7 @@ own-append scope scopes (x ∷ xs) ys = ap (cons_option (declared_at scope scope
     at None xs bs = refl
     at (Some d) xs bs = refl
 
-stack-append : (scopes : List (List ℕ)) (xs ys : List Section) → stack_after scopes (xs ++ ys) ≡ stack_after (stack_after scopes xs) ys
+pub stack-append : (scopes : List (List ℕ)) (xs ys : List Section) → stack_after scopes (xs ++ ys) ≡ stack_after (stack_after scopes xs) ys
 stack-append scopes [] ys = refl
 stack-append scopes (x ∷ xs) ys = stack-append (scopes_after scopes x) xs ys
 
@@ -68,7 +68,7 @@ visit_sections circuit k (Leaves ∷ rest) = leaves ∷ visit_sections circuit k
 abbrev pub count_of : Circuit → List Visit → ℕ
 count_of circuit vs = length (flat_map (variables_at circuit) vs)
 
-visits-append : (circuit : Circuit) (k : ℕ) (xs ys : List Visit) → visit_sections circuit k (xs ++ ys) ≡ visit_sections circuit k xs ++ visit_sections circuit (k + count_of circuit xs) ys
+pub visits-append : (circuit : Circuit) (k : ℕ) (xs ys : List Visit) → visit_sections circuit k (xs ++ ys) ≡ visit_sections circuit k xs ++ visit_sections circuit (k + count_of circuit xs) ys
 visits-append circuit k [] ys = ap (λ n. visit_sections circuit n ys) (let q : k ≡ k + 0 = omega arith in q)
 visits-append circuit k (Enters s ∷ xs) ys =
     let vars = (scope_at circuit s).variables in
@@ -84,16 +84,16 @@ visits-append circuit k (Leaves ∷ xs) ys = ap (λ t. leaves ∷ t) (visits-app
 
 -- ---- declarations under open scopes
 
-decls_stack : (scopes : List (List ℕ)) (k : ℕ) (vs : List Variable) → stack_after scopes (numbered section_one k vs) ≡ scopes
+pub decls_stack : (scopes : List (List ℕ)) (k : ℕ) (vs : List Variable) → stack_after scopes (numbered section_one k vs) ≡ scopes
 decls_stack scopes k [] = refl
 decls_stack scopes k (v ∷ vs) = decls_stack scopes (suc k) vs
 
-decls_none : (scope : List ℕ) (scopes : List (List ℕ)) (k : ℕ) (vs : List Variable) → is_at scope scopes ≡ false → own_from scope scopes (numbered section_one k vs) ≡ []
+pub decls_none : (scope : List ℕ) (scopes : List (List ℕ)) (k : ℕ) (vs : List Variable) → is_at scope scopes ≡ false → own_from scope scopes (numbered section_one k vs) ≡ []
 decls_none scope scopes k [] e = refl
 decls_none scope scopes k (v ∷ vs) e =
     ap (λ b. cons_option (if b then Some (declared_as k v) else None) (own_from scope scopes (numbered section_one (suc k) vs))) e ∙ decls_none scope scopes (suc k) vs e
 
-decls_all : (scope : List ℕ) (scopes : List (List ℕ)) (k : ℕ) (vs : List Variable) → is_at scope scopes ≡ true → own_from scope scopes (numbered section_one k vs) ≡ numbered declared_one k vs
+pub decls_all : (scope : List ℕ) (scopes : List (List ℕ)) (k : ℕ) (vs : List Variable) → is_at scope scopes ≡ true → own_from scope scopes (numbered section_one k vs) ≡ numbered declared_one k vs
 decls_all scope scopes k [] e = refl
 decls_all scope scopes k (v ∷ vs) e =
     ap (λ b. cons_option (if b then Some (declared_as k v) else None) (own_from scope scopes (numbered section_one (suc k) vs))) e

@@ -13,3 +13,5 @@ pub mod Header
 pub mod Names
 pub mod Codes
 pub mod Own
+pub mod Top
+pub mod Decimals
