@@ -15,3 +15,4 @@ pub mod Codes
 pub mod Own
 pub mod Top
 pub mod Decimals
+pub mod Readable
