@@ -16,3 +16,4 @@ pub mod Own
 pub mod Top
 pub mod Decimals
 pub mod Readable
+pub mod Fronts

@@ -201,7 +201,7 @@ long_word b bs h k = and_from (is_long (b ∷ bs)) (list_all (λ x. not (is_blan
 
 value_read : (k : ℕ) (vs : List Value) → k < most_variables → 0 < length vs → ItemRead (record { words = value_words (length vs == 1) (map value_letter vs) (code k); says = value 0 0 (map value_letter vs) (code k) })
 value_read k [] l some = absurd (omega arith)
-value_read k (v ∷ vs) l some = at (length (v ∷ vs) == 1) refl vs
+value_read k (v ∷ vs) l some = at (length (v ∷ vs) == 1) refl vs refl
   where
     c : is_word (code k) ≡ true
     c = code_is_word k
