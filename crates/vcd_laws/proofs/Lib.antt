@@ -17,3 +17,4 @@ pub mod Top
 pub mod Decimals
 pub mod Readable
 pub mod Fronts
+pub mod Faultless

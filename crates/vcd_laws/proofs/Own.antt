@@ -56,13 +56,13 @@ read_unplaced circuit (d ∷ ds) bits code = at (is_of_code code d) (read_unplac
 
 -- ---- which declaration has a code
 
-numbered-append : {A B : Type 0} (f : ℕ → A → List B) (k : ℕ) (xs ys : List A) → numbered f k (xs ++ ys) ≡ numbered f k xs ++ numbered f (k + length xs) ys
+pub numbered-append : {A B : Type 0} (f : ℕ → A → List B) (k : ℕ) (xs ys : List A) → numbered f k (xs ++ ys) ≡ numbered f k xs ++ numbered f (k + length xs) ys
 numbered-append f k [] ys = ap (λ n. numbered f n ys) (let q : k ≡ k + 0 = omega arith in q)
 numbered-append f k (x ∷ xs) ys =
     ap (λ t. f k x ++ t) (numbered-append f (suc k) xs ys)
     ∙ (sym (append_assoc (f k x) (numbered f (suc k) xs) (numbered f (suc k + length xs) ys)) ∙ ap (λ n. f k x ++ numbered f (suc k) xs ++ numbered f n ys) (let q : suc k + length xs ≡ k + suc (length xs) = omega arith in q))
 
-none_coded : (j k : ℕ) (vs : List Variable) → (k < j) ⊎ (j + length vs ≤ k) → filter (is_of_code (code k)) (numbered declared_one j vs) ≡ []
+pub none_coded : (j k : ℕ) (vs : List Variable) → (k < j) ⊎ (j + length vs ≤ k) → filter (is_of_code (code k)) (numbered declared_one j vs) ≡ []
 none_coded j k [] h = refl
 none_coded j k (v ∷ vs) h =
     ap (λ b. cond b (declared_as j v ∷ filter (is_of_code (code k)) (numbered declared_one (suc j) vs)) (filter (is_of_code (code k)) (numbered declared_one (suc j) vs))) (codes_apart j k (other h))
@@ -76,10 +76,10 @@ none_coded j k (v ∷ vs) h =
     later (inl l) = inl (omega arith)
     later (inr l) = inr (omega arith)
 
-code_itself : (k : ℕ) → bytes_eq (code k) (code k) ≡ true
+pub code_itself : (k : ℕ) → bytes_eq (code k) (code k) ≡ true
 code_itself k = (bytes_eq-Decides (code k) (code k)).1 refl
 
-one_coded : (vs before after : List Variable) (v : Variable) → vs ≡ before ++ v ∷ after → filter (is_of_code (code (length before))) (numbered declared_one 0 vs) ≡ declared_as (length before) v ∷ []
+pub one_coded : (vs before after : List Variable) (v : Variable) → vs ≡ before ++ v ∷ after → filter (is_of_code (code (length before))) (numbered declared_one 0 vs) ≡ declared_as (length before) v ∷ []
 one_coded vs before after v e =
     ap (λ xs. filter (is_of_code (code k)) (numbered declared_one 0 xs)) e
     ∙ (ap (filter (is_of_code (code k))) (numbered-append declared_one 0 before (v ∷ after))
