@@ -12,6 +12,7 @@ use Rattle.vcd_form.specs.Rules.{Came, body, body_parts, came_after, came_first,
 use Rattle.vcd_form.specs.Words.{Word}
 use Rattle.vcd_form.specs.Written.{Declaration, Front, Item, Section, declares, enters, leaves, remark, timescale}
 use Rattle.vcd_laws.proofs.Entries.{Entry, definitions_words, said, words_of}
+use Rattle.vcd_laws.proofs.Fronts.{IsWhole}
 use Rattle.vcd_laws.proofs.ReadLines.{ReadsItem, ReadsSection, may_come, plain}
 use Rattle.vcd_laws.proofs.Stands.{At, Stand, spell_both, spell_mapped, spell_mark, spell_placed, spell_right, stand_first, stand_rest}
 use Rattle.vcd_laws.proofs.Waves.{unplaced}
@@ -85,6 +86,7 @@ pub record SpellsDump (ws : List Word) (ss : List Section) (xs : List Item) : Ty
   pub items : List Item
   pub items_are : map unplaced items ≡ xs
   pub spells : dump.language.Spells ws 0 (record { sections = sections; body = Some (definitions, items) }) (length ws)
+  pub whole : IsWhole ws sections definitions items
 
 spell_start : (ws : List Word) (i : ℕ) (h : Stand ws i definitions_words) → start.language.Spells ws i h.0.0 (i + 2)
 unfolding start_parts
@@ -114,6 +116,7 @@ spell_dump hs bs ws are reads may reads' h =
       spells = spell_mapped (λ (x : List Section × (ℕ × List Item)). record { sections = x.0; body = Some x.1 }) (header ∙∙ body) ws 0 (length ws) (first.sections, (defs.0.0, rest.items))
           (spell_both header body ws 0 n (length ws) first.sections (defs.0.0, rest.items) (first.spells, refl)
           (spell_both start (rule.many kind_of item) ws n (n + 2) (length ws) defs.0.0 rest.items (spell_start ws n defs) (subst (SpellsMany item.language ws (n + 2) rest.items) last rest.spells)));
+      whole = record { at = n; behind = n + 2; sections = first.spells; start_there = spell_start ws n defs; items_there = subst (SpellsMany item.language ws (n + 2) rest.items) last rest.spells };
     }
   where
     bytes_many : (us : List Word) → length (map (λ (w : Word). w.bytes) us) ≡ length us

@@ -16,6 +16,7 @@ use Rattle.sg_circuit.specs.Circuit.{Circuit, Variable}
 use Rattle.wave_out.specs.Vcd.{any_variable_differs, code, value_letter, values_at}
 use Rattle.vcd_form.specs.Written.{Declaration, Item, instant, nothing, real, value}
 use Rattle.vcd_model.specs.declared.kinds.VcdKind.{VcdKind}
+use Rattle.vcd_model.specs.declared.kinds.VcdKind.TheVariants.{UnknownCode}
 use Rattle.vcd_model.specs.Faults.{Fault, Header, code_faults, fault, fault_if, inputs_of, item_faults, length_faults, many_digits}
 use Rattle.vcd_model.specs.Inputs.{input_of}
 use Rattle.vcd_model.specs.Values.{is_of_code, is_too_large, is_whole, timed, Scale}
@@ -88,7 +89,7 @@ clean_faults h now (instant b digits ∷ is) c =
     (clean_faults h (number_from 0 digits) is c.1)
 clean_faults h now (value b d bits code ∷ is) c =
     none_append (item_faults h (now, value b d bits code)) (flat_map (item_faults h) (timed now is))
-    (none_append (code_faults h b d code) (flat_map (length_faults b bits) (inputs_of h code)) (ap (λ t. if t then [] else fault _ d ∷ (fault _ b ∷ [])) c.0.0) (short_enough b bits (inputs_of h code) c.0.1))
+    (none_append (code_faults h b d code) (flat_map (length_faults b bits) (inputs_of h code)) (ap (λ t. if t then [] else fault UnknownCode d ∷ (fault UnknownCode b ∷ [])) c.0.0) (short_enough b bits (inputs_of h code) c.0.1))
     (clean_faults h now is c.1)
 clean_faults h now (real b d code ∷ is) c = absurd c
 

@@ -18,3 +18,5 @@ pub mod Decimals
 pub mod Readable
 pub mod Fronts
 pub mod Faultless
+pub mod Standing
+pub mod Snapshots
