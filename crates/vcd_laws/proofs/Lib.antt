@@ -20,3 +20,4 @@ pub mod Fronts
 pub mod Faultless
 pub mod Standing
 pub mod Snapshots
+pub mod Join
