@@ -1,5 +1,6 @@
 -- The dump of a run, read as a stimulus, makes the run again: of a circuit whose names, inputs and drivers are in order.
 use Rattle.std.specs.Prelude.{◌≡◌, ℕ, ℤ, pos, negsuc, ◌-ℤ◌, zero, suc, ◌+◌, ◌*◌, ◌^◌, ◌<◌, ◌≤◌, Bool, true, false, List, [], ◌∷◌, ◌++◌, length, map, filter_map, flat_map, codes, decimal, Option, Some, None, refl}
+use lib.IntN.{+ℤ_invr}
 use Rattle.std.specs.List.{AllByRecursion}
 use Rattle.std.proofs.Common.{sym, ◌∙◌, ap, subst, arith}
 use Rattle.std.proofs.lemmas.List.{append_assoc, length-append}
@@ -201,7 +202,7 @@ spelled_dump circuit order nets end f none are fits small = record {
     bits = all_to IsWritten (λ (v : Variable). 0 < length v.bits) (variables_of circuit) (λ v w. w.some) (all_variables circuit order.names (length circuit.scopes) 0 some)
 
     reads' : AllByRecursion ItemRead bs
-    reads' = body_read (variables_of circuit) end (lasts f.run.snapshots) (omega arith, bits) (omega arith) (subst (AllByRecursion (λ (s : Snapshot). s.time < 2 ^ 64)) (sym are) (small_times nets (suc end) end (omega arith) fits))
+    reads' = body_read (variables_of circuit) end (lasts f.run.snapshots) ((let q : length (variables_of circuit) ≤ most_variables = few in omega arith), bits) (omega arith) (subst (AllByRecursion (λ (s : Snapshot). s.time < 2 ^ 64)) (sym are) (small_times nets (suc end) end (omega arith) fits))
 
     spelled : Spelled (text_of hs ++ (row definitions_words ++ text_of bs)) (words_of hs ++ (definitions_words ++ words_of bs))
     spelled = spelled_append (text_of hs) (row definitions_words ++ text_of bs) (words_of hs) (definitions_words ++ words_of bs) (words_spelled hs (all_to LineRead (λ (e : Entry Section). are_words e.words ≡ true) hs (λ e r. r.words) reads))
@@ -213,7 +214,7 @@ spelled_dump circuit order nets end f none are fits small = record {
 -- ---- the law
 
 minus_self : (z : ℤ) → z -ℤ z ≡ pos 0
-minus_self z = ?
+minus_self z = +ℤ_invr z
 
 same_body : (vs : List Variable) (end : ℕ) (f g : Finished) → g.run.snapshots ≡ f.run.snapshots → g.spent ≡ f.spent → vcd_body vs end g ≡ vcd_body vs end f
 same_body vs end f g e s =

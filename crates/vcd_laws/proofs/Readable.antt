@@ -131,7 +131,7 @@ count-append : (circuit : Circuit) (xs ys : List Visit) → count_of circuit (xs
 count-append circuit xs ys = ap length (flat_map-append (variables_at circuit) xs ys) ∙ length-append (flat_map (variables_at circuit) xs) (flat_map (variables_at circuit) ys)
 
 -- the scopes in a scope are scopes
-children_within : (parent k n : ℕ) (ss : List Scope) → k + length ss ≤ n → AllByRecursion (λ c. c < n) (children_from parent k ss)
+pub children_within : (parent k n : ℕ) (ss : List Scope) → k + length ss ≤ n → AllByRecursion (λ c. c < n) (children_from parent k ss)
 children_within parent k n [] l = tt
 children_within parent k n (s ∷ ss) l = at (is_parent parent s.parent) (children_within parent (suc k) n ss (omega arith))
   where
