@@ -21,3 +21,5 @@ pub mod Faultless
 pub mod Standing
 pub mod Snapshots
 pub mod Join
+pub mod Shared
+pub mod Elaborated
