@@ -23,3 +23,6 @@ pub mod Snapshots
 pub mod Join
 pub mod Shared
 pub mod Elaborated
+pub mod Named
+pub mod Yields
+pub mod Trees
