@@ -26,3 +26,4 @@ pub mod Elaborated
 pub mod Named
 pub mod Yields
 pub mod Trees
+pub mod Declared

@@ -19,7 +19,7 @@ pub record IsScale (power : ℤ) : Type 0 where
 abbrev pub IsGoodMeaning : Meaning → Type 0
 IsGoodMeaning (module_word s) = IsScale s.scale.precision
 IsGoodMeaning (name_token text) = is_word text ≡ true
-IsGoodMeaning (number_token n whole) = n.digits < 10 ^ 18
+IsGoodMeaning (number_token n whole) = whole ≡ true → n.digits < 10 ^ 18
 IsGoodMeaning (word_token w) = Unit {0}
 IsGoodMeaning (left_out_token text) = Unit {0}
 IsGoodMeaning (system_token text) = Unit {0}

@@ -27,6 +27,9 @@ of_token ts good is i j t h = (good i t h.0, h.1)
 pub in_turn : {A B : Type 0} (ts : List Lexeme) (P : A → Type 0) (Q : B → Type 0) (a : Grammar A) (b : Grammar B) → Yields ts P a → Yields ts Q b → Yields ts (λ x. P x.0 × Q x.1) (a ∙∙ b)
 in_turn ts P Q a b f g i j x h = (f i h.0 x.0 h.1, g h.0 j x.1 h.2)
 
+pub of_second : {A B : Type 0} (ts : List Lexeme) (Q : B → Type 0) (a : Grammar A) (b : Grammar B) → Yields ts Q b → Yields ts (λ x. Q x.1) (a ∙∙ b)
+of_second ts Q a b g i j x h = g h.0 j x.1 h.2
+
 pub made_of : {A B : Type 0} (ts : List Lexeme) (P : B → Type 0) (f : A → B) (a : Grammar A) → Yields ts (λ x. P (f x)) a → Yields ts P (mapped f a)
 made_of ts P f a g i j y h = subst P h.1 (g i j h.0 h.2)
 
