@@ -92,7 +92,7 @@ nets_are m h = all-flat_in IsNamedDeclaration nets_of_item m.items (all-weaker I
 
 -- ---- ranges
 
-found_has : {A : Type 0} (P : A → Type 0) (test : A → Bool) (xs : List A) → AllByRecursion P xs → IfSome (find test xs) P
+pub found_has : {A : Type 0} (P : A → Type 0) (test : A → Bool) (xs : List A) → AllByRecursion P xs → IfSome (find test xs) P
 found_has P test [] h = tt
 found_has {A} P test (x ∷ xs) h = at (test x) (found_has P test xs h.1)
   where
@@ -127,7 +127,7 @@ no_width_fault s = at (nat_lt width_limit (width_of s.range)) refl
     at true t e = absurd cc
     at false t e = ltb-false width_limit (width_of s.range) t
 
-split_all : {A : Type 0} (P : A → Type 0) (xs ys : List A) → AllByRecursion P (xs ++ ys) → AllByRecursion P xs × AllByRecursion P ys
+pub split_all : {A : Type 0} (P : A → Type 0) (xs ys : List A) → AllByRecursion P (xs ++ ys) → AllByRecursion P xs × AllByRecursion P ys
 split_all P [] ys h = (tt, h)
 split_all P (x ∷ xs) ys h = (let r = split_all P xs ys h.1 in ((h.0, r.0), r.1))
 

@@ -27,3 +27,5 @@ pub mod Named
 pub mod Yields
 pub mod Trees
 pub mod Declared
+pub mod Hierarchy
+pub mod Ordered
