@@ -53,21 +53,29 @@ is_vector_text = begins_with (λ b. (b == 98) || (b == 66)) are_values
 abbrev pub is_real_text : List ℕ → Bool
 is_real_text = begins_with (λ b. (b == 114) || (b == 82)) (λ bs. true)
 
+abbrev pub begins_keyword : List ℕ → Bool
+begins_keyword = begins_with (λ b. b == 36) (λ bs. true)
+
 abbrev pub value_kind_of : List ℕ → Kind
 value_kind_of text =
     if is_time_text text then time_kind text else if is_scalar_text text then scalar_kind text
     else if is_vector_text text then vector_kind text else if is_real_text text then real_kind text
     else other_kind text
 
+abbrev pub is_dump_text : List ℕ → Bool
+is_dump_text text = bytes_eq text (codes "$dumpvars") || bytes_eq text (codes "$dumpall") || bytes_eq text (codes "$dumpon") || bytes_eq text (codes "$dumpoff")
+
+abbrev pub later_kind_of : List ℕ → Kind
+later_kind_of text =
+    if bytes_eq text (codes "$timescale") then timescale_kind else if bytes_eq text (codes "$comment") then comment_kind
+    else if bytes_eq text (codes "$date") || bytes_eq text (codes "$version") then remark_kind
+    else if is_dump_text text then dump_kind else value_kind_of text
+
 abbrev pub kind_of_text : List ℕ → Kind
 kind_of_text text =
     if bytes_eq text (codes "$end") then end_kind else if bytes_eq text (codes "$var") then var_kind
     else if bytes_eq text (codes "$scope") then scope_kind else if bytes_eq text (codes "$upscope") then upscope_kind
-    else if bytes_eq text (codes "$enddefinitions") then definitions_kind
-    else if bytes_eq text (codes "$timescale") then timescale_kind else if bytes_eq text (codes "$comment") then comment_kind
-    else if bytes_eq text (codes "$date") || bytes_eq text (codes "$version") then remark_kind
-    else if bytes_eq text (codes "$dumpvars") || bytes_eq text (codes "$dumpall") || bytes_eq text (codes "$dumpon") || bytes_eq text (codes "$dumpoff") then dump_kind
-    else value_kind_of text
+    else if bytes_eq text (codes "$enddefinitions") then definitions_kind else later_kind_of text
 
 abbrev pub kind_of : Word → Kind
 kind_of w = kind_of_text w.bytes

@@ -1,5 +1,5 @@
 -- What readers of a dump's text give.
-use Rattle.std.specs.Prelude.{◌≡◌, true, false, ℕ, ◌+◌, ◌<◌, List, [], map, length, Option, Some, None, Result, Ok, Err, slice_get}
+use Rattle.std.specs.Prelude.{◌≡◌, true, false, ℕ, ◌+◌, ◌<◌, List, map, length, Option, Some, None, Result, Ok, Err, slice_get}
 use Rattle.grammar.specs.Rule.{◌∙∙◌, stands}
 use Rattle.grammar.specs.declared.ReadFault.{ReadFault}
 use Rattle.grammar.specs.declared.ReadFault.TheVariants as faults
@@ -8,7 +8,6 @@ use Rattle.vcd_form.specs.Kinds.{kind_of}
 use Rattle.vcd_form.specs.Places.{read_at, IsBetween}
 use Rattle.vcd_form.specs.Rules.{header, item, section_of, section_starts, start, Came}
 use Rattle.vcd_form.specs.Seen.{item_seen, section_seen, word_seen}
-use Rattle.vcd_form.specs.Words as text_words
 use Rattle.vcd_form.specs.Words.{byte_of, words}
 use Rattle.vcd_form.specs.Written as written
 use Rattle.vcd_form.specs.declared.cursor.Words.{Words}

@@ -1,5 +1,5 @@
 -- The grammar of dumps (IEEE 1364-2005, 18.2.1 to 18.2.3).
-use Rattle.std.specs.Prelude.{ℕ, ℤ, zero, suc, pos, ◌+ℤ◌, Bool, true, false, ◌&&◌, ◌||◌, not, nat_lt, List, [], ◌∷◌, drop, take, Option, Some, None, unwrap_or}
+use Rattle.std.specs.Prelude.{ℕ, ℤ, zero, suc, pos, ◌+ℤ◌, Bool, true, false, ◌||◌, not, nat_lt, List, drop, take, Option, Some, unwrap_or}
 use Rattle.sg_time.specs.Spelling.{number_from}
 use Rattle.grammar.specs.Placed as places
 use Rattle.grammar.specs.Rule as rule
@@ -30,7 +30,7 @@ either a b = rule.either kind_of a b
 -- ---- the header
 
 -- remark = ("$date" | "$version" | "$comment") { word } "$end"
-abbrev pub remark_rest : Grammar (Unit {0})
+unfoldable pub remark_rest : Grammar (Unit {0})
 remark_rest = mapped (λ x. tt) (rule.many kind_of (mark is_any) ◂ mark is_end)
 
 unfoldable pub remark_parts : (Kind → Bool) → Grammar (Unit {0})

@@ -1,5 +1,5 @@
 -- The code's words, kinds, sections and items, as the definitions see them.
-use Rattle.std.specs.Prelude.{ℕ, List, Option, Some, None, option_map}
+use Rattle.std.specs.Prelude.{ℕ, List, option_map}
 use Rattle.vcd_form.specs.Kinds as kinds
 use Rattle.vcd_form.specs.Words as words
 use Rattle.vcd_form.specs.Rules as rules

@@ -12,6 +12,7 @@ pub struct Words<'a> {
 
 impl<'a> Words<'a> {
     /// The words of a text, of which none is read.
+    #[tactic(auto, using(crate::proofs::PlaceLaws::between_first, crate::proofs::PlaceLaws::read_first))]
     pub fn new(text: &'a [u8]) -> Self
         ensures text { result.text.now ≡ text.now }
         ensures none { read_at text.now result.at ≡ 0 }

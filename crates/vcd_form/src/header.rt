@@ -22,14 +22,24 @@ fn came_after(came: Came, section: &Section<'_>) -> Came
     ensures few { result.depth ≤ came.depth + 1 }
 {
     match section {
-        Section::Timescale(_) => Came { scaled: true, depth: came.depth },
-        Section::Enters(_) => Came { scaled: came.scaled, depth: came.depth + 1 },
-        Section::Leaves if came.depth > 0 => Came { scaled: came.scaled, depth: came.depth - 1 },
+        Section::Timescale(_) => Came {
+            scaled: true,
+            depth: came.depth,
+        },
+        Section::Enters(_) => Came {
+            scaled: came.scaled,
+            depth: came.depth + 1,
+        },
+        Section::Leaves if came.depth > 0 => Came {
+            scaled: came.scaled,
+            depth: came.depth - 1,
+        },
         _ => came,
     }
 }
 
 // `$enddefinitions $end`, and its place.
+#[tactic(auto, unfolding(crate::specs::Rules::start_parts))]
 fn start_from(text: &[u8], at: usize) -> Result<(usize, usize), ReadFault>
     requires { IsBetween text.now at }
     ensures { StartAt text.now (read_at text.now at) result }
@@ -47,11 +57,17 @@ fn start_from(text: &[u8], at: usize) -> Result<(usize, usize), ReadFault>
 }
 
 // The sections, the place of `$enddefinitions`, and the place behind it; or the place before the failing word.
-fn header_from<'a>(alloc: Global, text: &'a [u8]) -> Result<(Vec<Section<'a>>, usize, usize), ReadFault>
+fn header_from<'a>(
+    alloc: Global,
+    text: &'a [u8],
+) -> Result<(Vec<Section<'a>>, usize, usize), ReadFault>
     ensures { HeaderGoes text.now result }
 {
     let mut sections = Vec::new(alloc);
-    let mut came = Came { scaled: false, depth: 0 };
+    let mut came = Came {
+        scaled: false,
+        depth: 0,
+    };
     let mut at = 0;
     'more: while let Some((section, next)) = section_at(text, at, came)? {
         sections.push(section)?;
@@ -63,7 +79,10 @@ fn header_from<'a>(alloc: Global, text: &'a [u8]) -> Result<(Vec<Section<'a>>, u
 }
 
 /// The sections of the header and the place of `$enddefinitions`, or the byte of the failing word, which is the text's length at its end.
-pub fn read_header<'a>(alloc: Global, words: &mut Words<'a>) -> Result<(Vec<Section<'a>>, usize), ReadFault>
+pub fn read_header<'a>(
+    alloc: Global,
+    words: &mut Words<'a>,
+) -> Result<(Vec<Section<'a>>, usize), ReadFault>
     requires { read_of words.old ≡ 0 }
     ensures text { words.new.text.now ≡ words.old.text.now }
     ensures read { HeaderRead words.old.text.now (read_of words.new) result }

@@ -9,7 +9,7 @@ ghost use Rattle.vcd_form.specs.Words.{words};
 use crate::cursor::Words;
 use crate::kinds::{WordKind, kind_of};
 use crate::sections::remark_rest;
-use crate::steps::code_from;
+use crate::steps::placed_code_from;
 use crate::word::Word;
 use crate::words::{byte_from, word_from};
 use crate::written::Item;
@@ -30,14 +30,26 @@ fn behind_first(bytes: &[u8]) -> &[u8]
 }
 
 // The item that begins with a word.
-fn item_from<'a>(text: &'a [u8], at: usize, word: Word<'a>, next: usize) -> Result<(Item<'a>, usize), usize>
+#[tactic(auto, unfolding(crate::specs::Rules::item_parts, crate::specs::Rules::remark_parts))]
+fn item_from<'a>(
+    text: &'a [u8],
+    at: usize,
+    word: Word<'a>,
+    next: usize,
+) -> Result<(Item<'a>, usize), usize>
     requires place { IsBetween text.now at }
     requires word { WordAt text.now (read_at text.now at) (Some (word, next)) }
     ensures { Goes text.now (λ y. item_seen y.0) (λ y. y.1) result (rules.item.read (words text.now) (read_at text.now at)) }
 {
     let byte = word.byte;
     match kind_of(word.bytes) {
-        WordKind::Time => Ok((Item::Instant { byte, digits: behind_first(word.bytes) }, next)),
+        WordKind::Time => Ok((
+            Item::Instant {
+                byte,
+                digits: behind_first(word.bytes),
+            },
+            next,
+        )),
         WordKind::Comment => {
             let behind = remark_rest(text, next)?;
             Ok((Item::Nothing, behind))
@@ -46,16 +58,39 @@ fn item_from<'a>(text: &'a [u8], at: usize, word: Word<'a>, next: usize) -> Resu
         WordKind::Scalar => {
             let bits = head_of(word.bytes);
             let code = behind_first(word.bytes);
-            Ok((Item::Value { byte, code_byte: byte, bits, code }, next))
+            Ok((
+                Item::Value {
+                    byte,
+                    code_byte: byte,
+                    bits,
+                    code,
+                },
+                next,
+            ))
         }
         WordKind::Vector => {
-            let (code, behind) = code_from(text, next)?;
+            let (code, behind) = placed_code_from(text, next)?;
             let bits = behind_first(word.bytes);
-            Ok((Item::Value { byte, code_byte: code.byte, bits, code: code.bytes }, behind))
+            Ok((
+                Item::Value {
+                    byte,
+                    code_byte: code.byte,
+                    bits,
+                    code: code.bytes,
+                },
+                behind,
+            ))
         }
         WordKind::Real => {
-            let (code, behind) = code_from(text, next)?;
-            Ok((Item::Real { byte, code_byte: code.byte, code: code.bytes }, behind))
+            let (code, behind) = placed_code_from(text, next)?;
+            Ok((
+                Item::Real {
+                    byte,
+                    code_byte: code.byte,
+                    code: code.bytes,
+                },
+                behind,
+            ))
         }
         _ => Err(at),
     }

@@ -1,7 +1,5 @@
 // Ranges of `$var`, and its width.
-ghost use Rattle.std.specs.Prelude.{◌≡◌, ◌≤◌, ◌<◌, ◌^◌, ◌==◌, ◌&&◌, ◌+◌, not, length, true, false, drop, take, MatchOption, reverse};
-ghost use Rattle.std.specs.List.{prefix_len, list_all};
-ghost use Rattle.std.specs.Char.{is_ascii_digit};
+ghost use Rattle.std.specs.Prelude.{◌≡◌, ◌≢◌, ◌≤◌, ◌<◌, ◌^◌, ◌&&◌, ◌+◌, ◌++◌, ◌∷◌, [], List, ℕ, length, true, false, drop, take, reverse, MatchOption, nat_le};
 ghost use Rattle.sg_time.specs.Spelling.{number_from};
 ghost use Rattle.vcd_form.specs.Kinds as def;
 
@@ -30,15 +28,26 @@ fn cut(text: &[u8]) -> usize
     text.iter().take_while(|b| **b != b':').count()
 }
 
-// Whether there is a first `:`, with an int on both sides.
+fn left_of(text: &[u8]) -> &[u8]
+    ensures { result.now ≡ take (def.cut text.now) text.now }
+{
+    &text[..cut(text)]
+}
+
+// What stands behind the first `:`.
+fn right_of(text: &[u8]) -> &[u8]
+    ensures { result.now ≡ drop (def.cut text.now + 1) text.now }
+{
+    match &text[cut(text)..] {
+        [_, right @ ..] => right,
+        none => none,
+    }
+}
+
 fn are_two(text: &[u8]) -> bool
     ensures { result ≡ (def.is_int (take (def.cut text.now) text.now) && def.is_int (drop (def.cut text.now + 1) text.now)) }
 {
-    let (left, rest) = text.split_at(cut(text));
-    match rest {
-        [_, right @ ..] => is_int(left) && is_int(right),
-        [] => false,
-    }
+    is_int(left_of(text)) && is_int(right_of(text))
 }
 
 fn is_inside(text: &[u8]) -> bool
@@ -47,34 +56,69 @@ fn is_inside(text: &[u8]) -> bool
     is_int(text) || are_two(text)
 }
 
-/// Whether a word is a range.
-pub fn is_range(text: &[u8]) -> bool
-    ensures { result ≡ def.is_range_text text.now }
+// What stands before a `]` at the end.
+fn before_bracket(text: &[u8]) -> Option<&[u8]>
+    ensures { MatchOption result ((front : List ℕ) → text.now ≢ front ++ 93 ∷ []) (λ front. text.now ≡ front.now ++ 93 ∷ []) }
 {
     match text {
-        [b'[', inside @ .., b']'] => is_inside(inside),
-        _ => false,
+        [front @ .., b']'] => Some(front),
+        _ => None,
     }
 }
 
-// The number of a few digits.
+#[tactic(auto, using(crate::proofs::RangeLaws::bracket_ends, crate::proofs::RangeLaws::no_bracket))]
+fn ends_in_bracket(text: &[u8]) -> bool
+    ensures { result ≡ def.ends_in_bracket (reverse text.now) }
+{
+    match before_bracket(text) {
+        Some(front) => is_inside(front),
+        None => false,
+    }
+}
+
+fn is_range_text(text: &[u8]) -> bool
+    ensures { result ≡ def.is_range_text text.now }
+{
+    match text {
+        [first, rest @ ..] => *first == b'[' && ends_in_bracket(rest),
+        [] => false,
+    }
+}
+
+/// Whether a word is a range.
+#[tactic(auto, using(crate::proofs::KindLaws::range_is))]
+pub fn is_range(text: &[u8]) -> bool
+    ensures { result ≡ def.is_range (def.kind_of_text text.now) }
+{
+    is_range_text(text)
+}
+
+// The number that digits spell.
 fn number_of(digits: &[u8]) -> u32
-    requires digits { list_all is_ascii_digit digits.now ≡ true }
-    requires few { length digits.now ≤ 9 }
+    requires { number_from 0 digits.now < 2 ^ 32 }
     ensures { result ≡ number_from 0 digits.now }
 {
     let mut number: u32 = 0;
-    for digit in digits {
-        number = number * 10 + u32::from(*digit - b'0');
+    let mut rest = digits;
+    while let [digit, tail @ ..] = rest {
+        number = number * 10 + u32::from(digit.saturating_sub(b'0'));
+        rest = tail;
     }
     number
 }
 
-/// The width that a word is.
-pub fn width_of(text: &[u8]) -> Option<u32>
-    ensures { MatchOption result (def.is_width_text text.now ≡ false) (λ n. (def.is_width_text text.now ≡ true) × (n ≡ number_from 0 text.now)) }
+fn are_few_digits(text: &[u8]) -> bool
+    ensures { result ≡ (def.are_digits text.now && nat_le (length text.now) 9) }
 {
-    if !are_digits(text) || text.len() > 9 {
+    are_digits(text) && text.len() <= 9
+}
+
+/// The width that a word is.
+#[tactic(auto, using(crate::proofs::KindLaws::width_is, crate::proofs::RangeLaws::few_are_small))]
+pub fn width_of(text: &[u8]) -> Option<u32>
+    ensures { MatchOption result (def.is_width (def.kind_of_text text.now) ≡ false) (λ n. (def.is_width (def.kind_of_text text.now) ≡ true) × (n ≡ number_from 0 text.now)) }
+{
+    if !are_few_digits(text) {
         return None;
     }
     let width = number_of(text);

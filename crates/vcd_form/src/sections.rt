@@ -1,6 +1,5 @@
 // Sections of the header, from a place on.
-ghost use Rattle.std.specs.Prelude.{◌≤ℤ◌, pos, negsuc, Some, option_map, IfOk};
-ghost use Rattle.vcd_form.specs.Kinds as def;
+ghost use Rattle.std.specs.Prelude.{Some, option_map};
 ghost use Rattle.vcd_form.specs.Places.{read_at, IsBetween};
 ghost use Rattle.vcd_form.specs.Reading.{Goes, SectionAt, WordAt};
 ghost use Rattle.vcd_form.specs.Rules as rules;
@@ -10,14 +9,15 @@ ghost use Rattle.vcd_form.specs.Words.{words};
 use crate::came::Came;
 use crate::kinds::{WordKind, begins_section, is_end, kind_of};
 use crate::ranges::is_range;
-use crate::scales::{joined_power, scale_power, unit_power};
-use crate::steps::{any_from, code_from, end_from, width_from};
+use crate::scales::joined_of;
+use crate::steps::{any_from, code_from, end_from, scale_from, unit_from, width_from};
 use crate::word::Word;
 use crate::words::word_from;
 use crate::written::{Declaration, Section};
 use grammar::ReadFault;
 
 // The words up to `$end`.
+#[tactic(auto, using(crate::proofs::StepLaws::remark_fails))]
 pub fn remark_rest(text: &[u8], at: usize) -> Result<usize, usize>
     requires { IsBetween text.now at }
     ensures { Goes text.now (λ y. tt) (λ y. y) result (rules.remark_rest.read (words text.now) (read_at text.now at)) }
@@ -32,22 +32,8 @@ pub fn remark_rest(text: &[u8], at: usize) -> Result<usize, usize>
     Err(place)
 }
 
-fn unit_from(text: &[u8], at: usize) -> Result<(i8, usize), usize>
-    requires { IsBetween text.now at }
-    ensures read { Goes text.now (λ y. y.0) (λ y. y.1) result ((rules.number_of def.unit_power def.is_unit).read (words text.now) (read_at text.now at)) }
-    ensures least { IfOk result (λ y. negsuc 14 ≤ℤ y.0) }
-    ensures greatest { IfOk result (λ y. y.0 ≤ℤ pos 0) }
-{
-    let Some((word, next)) = word_from(text, at) else {
-        return Err(at);
-    };
-    match unit_power(word.bytes) {
-        Some(unit) => Ok((unit, next)),
-        None => Err(at),
-    }
-}
-
 // A number and a unit, joined or apart.
+#[tactic(auto, unfolding(crate::specs::Rules::power_parts))]
 fn power_from(text: &[u8], at: usize) -> Result<(i8, usize), usize>
     requires { IsBetween text.now at }
     ensures { Goes text.now (λ y. y.0) (λ y. y.1) result (rules.power.read (words text.now) (read_at text.now at)) }
@@ -55,14 +41,12 @@ fn power_from(text: &[u8], at: usize) -> Result<(i8, usize), usize>
     let Some((word, next)) = word_from(text, at) else {
         return Err(at);
     };
-    if let Some(scale) = scale_power(word.bytes) {
-        let (unit, behind) = unit_from(text, next)?;
-        return Ok((scale + unit, behind));
+    if let Some(power) = joined_of(word.bytes) {
+        return Ok((power, next));
     }
-    match joined_power(word.bytes) {
-        Some(power) => Ok((power, next)),
-        None => Err(at),
-    }
+    let (scale, next) = scale_from(text, at)?;
+    let (unit, behind) = unit_from(text, next)?;
+    Ok((scale + unit, behind))
 }
 
 fn timescale_rest(text: &[u8], at: usize) -> Result<(i8, usize), usize>
@@ -103,7 +87,11 @@ fn range_rest<'a>(text: &'a [u8], at: usize) -> Result<(Option<&'a [u8]>, usize)
 }
 
 // What stands behind a `$var` at a byte.
-fn variable_rest<'a>(text: &'a [u8], byte: usize, at: usize) -> Result<(Declaration<'a>, usize), usize>
+fn variable_rest<'a>(
+    text: &'a [u8],
+    byte: usize,
+    at: usize,
+) -> Result<(Declaration<'a>, usize), usize>
     requires { IsBetween text.now at }
     ensures { Goes text.now (λ y. declaration_seen y.0) (λ y. y.1) result ((rules.variable_behind byte).read (words text.now) (read_at text.now at)) }
 {
@@ -112,11 +100,27 @@ fn variable_rest<'a>(text: &'a [u8], byte: usize, at: usize) -> Result<(Declarat
     let (code, next) = code_from(text, next)?;
     let (name, next) = any_from(text, next)?;
     let (range, next) = range_rest(text, next)?;
-    Ok((Declaration { byte, width, code: code.bytes, name, range }, next))
+    Ok((
+        Declaration {
+            byte,
+            width,
+            code,
+            name,
+            range,
+        },
+        next,
+    ))
 }
 
 // The section that begins with a word.
-fn section_from<'a>(text: &'a [u8], at: usize, came: Came, word: Word<'a>, next: usize) -> Result<(Section<'a>, usize), usize>
+#[tactic(auto, unfolding(crate::specs::Rules::section_parts, crate::specs::Rules::remark_parts, crate::specs::Rules::timescale_parts, crate::specs::Rules::scope_parts, crate::specs::Rules::upscope_parts, crate::specs::Rules::variable_parts))]
+fn section_from<'a>(
+    text: &'a [u8],
+    at: usize,
+    came: Came,
+    word: Word<'a>,
+    next: usize,
+) -> Result<(Section<'a>, usize), usize>
     requires place { IsBetween text.now at }
     requires word { WordAt text.now (read_at text.now at) (Some (word, next)) }
     ensures { Goes text.now (λ y. section_seen y.0) (λ y. y.1) result ((rules.section_of (came_seen came)).read (words text.now) (read_at text.now at)) }
@@ -147,7 +151,11 @@ fn section_from<'a>(text: &'a [u8], at: usize, came: Came, word: Word<'a>, next:
 }
 
 /// The next section, if one begins.
-pub fn section_at<'a>(text: &'a [u8], at: usize, came: Came) -> Result<Option<(Section<'a>, usize)>, ReadFault>
+pub fn section_at<'a>(
+    text: &'a [u8],
+    at: usize,
+    came: Came,
+) -> Result<Option<(Section<'a>, usize)>, ReadFault>
     requires { IsBetween text.now at }
     ensures { SectionAt text.now (came_seen came) (read_at text.now at) result }
 {

@@ -1,7 +1,7 @@
 // The words of a text, one after another.
-ghost use Rattle.std.specs.Prelude.{◌≡◌, ◌==◌, ◌||◌, ◌≤◌, ◌+◌, length, not, drop};
+ghost use Rattle.std.specs.Prelude.{◌≡◌, ◌==◌, ◌||◌, ◌≤◌, length, not};
 ghost use Rattle.std.specs.List.{prefix_len};
-ghost use Rattle.vcd_form.specs.Words.{is_blank};
+ghost use Rattle.vcd_form.specs.Words.{byte_of, is_blank};
 ghost use Rattle.vcd_form.specs.Places.{read_at, IsBetween};
 ghost use Rattle.vcd_form.specs.Reading.{WordAt};
 
@@ -44,9 +44,10 @@ pub fn word_from<'a>(text: &'a [u8], at: usize) -> Option<(Word<'a>, usize)>
 }
 
 /// Where the word behind a place stands, or the end of the text.
+#[tactic(auto, using(crate::proofs::PlaceLaws::next_byte))]
 pub fn byte_from(text: &[u8], at: usize) -> usize
-    requires { at ≤ length text.now }
-    ensures { result ≡ at + prefix_len is_blank (drop at text.now) }
+    requires { IsBetween text.now at }
+    ensures { result ≡ byte_of text.now (read_at text.now at) }
 {
     at + blank_len(&text[at..])
 }

@@ -29,8 +29,20 @@ pub enum Section<'a> {
 pub enum Item<'a> {
     /// A comment, or a word without effect.
     Nothing,
-    Instant { byte: usize, digits: &'a [u8] },
+    Instant {
+        byte: usize,
+        digits: &'a [u8],
+    },
     /// A value, its place and that of its code.
-    Value { byte: usize, code_byte: usize, bits: &'a [u8], code: &'a [u8] },
-    Real { byte: usize, code_byte: usize, code: &'a [u8] },
+    Value {
+        byte: usize,
+        code_byte: usize,
+        bits: &'a [u8],
+        code: &'a [u8],
+    },
+    Real {
+        byte: usize,
+        code_byte: usize,
+        code: &'a [u8],
+    },
 }
