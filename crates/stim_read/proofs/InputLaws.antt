@@ -49,7 +49,7 @@ stimulated-is driver.Stimulus e = refl
 stimulated-is (driver.Element n) e = absurd (cc)
 stimulated-is driver.Notifier e = absurd (cc)
 
-input-net : (circuit : Circuit) (n : ℕ) → is_input_net circuit n ≡ true → IsInput circuit n
+pub input-net : (circuit : Circuit) (n : ℕ) → is_input_net circuit n ≡ true → IsInput circuit n
 input-net circuit n e =
     let p = and_parts (nat_lt n (length circuit.nets)) (is_stimulated (net_at circuit n).driver) e in
     (ltb-true n (length circuit.nets) p.0, stimulated-is (net_at circuit n).driver p.1)
@@ -91,7 +91,7 @@ nets-pass : (circuit : Circuit) (index : Option (List ℕ)) (v : Variable) (nets
 nets-pass circuit None v nets h e = let same : v.bits ≡ nets = cc in ap (list_all (is_input_net circuit)) (sym same) ∙ h
 nets-pass circuit (Some index) v nets h e = bit-passes (is_input_net circuit) v.bits nets (position_at v.range (index_value index)) h e
 
-found-pass : (circuit : Circuit) (name : List ℕ) (index : Option (List ℕ)) (found : Option Variable) (nets : List ℕ) → input_named circuit name ≡ found → option_and_then (nets_of index) found ≡ Some nets → list_all (is_input_net circuit) nets ≡ true
+pub found-pass : (circuit : Circuit) (name : List ℕ) (index : Option (List ℕ)) (found : Option Variable) (nets : List ℕ) → input_named circuit name ≡ found → option_and_then (nets_of index) found ≡ Some nets → list_all (is_input_net circuit) nets ≡ true
 found-pass circuit name index None nets e k = absurd (cc)
 found-pass circuit name index (Some v) nets e k = nets-pass circuit index v nets (and_parts (bytes_eq v.name name) (is_input circuit v) (find-passes (λ x. bytes_eq x.name name && is_input circuit x) (scope_at circuit 0).variables v e)).1 k
 

@@ -68,12 +68,12 @@ abbrev pub Called : Type 0
 Called = List ℕ × Option (List ℕ)
 
 -- where a range stands at the end of a plain name: behind the first byte, from the last `[` on
+abbrev pub last_bracket : ℕ → ℕ → List ℕ → ℕ
+last_bracket found at [] = found
+last_bracket found at (b ∷ bs) = last_bracket (if b == 91 then at else found) (at + 1) bs
+
 abbrev pub front_len : List ℕ → ℕ
 front_len text = last_bracket 0 0 text
-  where
-    last_bracket : ℕ → ℕ → List ℕ → ℕ
-    last_bracket found at [] = found
-    last_bracket found at (b ∷ bs) = last_bracket (if b == 91 then at else found) (at + 1) bs
 
 abbrev pub split_name : List ℕ → Called
 split_name text =

@@ -1,8 +1,8 @@
 -- The nets of inputs that a code stands for.
-use Rattle.std.specs.Prelude.{◌≡◌, ℕ, Bool, List, [], ◌∷◌, ◌++◌, map, filter, flat_map, reverse, bytes_eq, Option, Some, None, option_and_then, option_map, option_to_list, unwrap_or, if◌then◌else◌}
+use Rattle.std.specs.Prelude.{◌≡◌, ℕ, Bool, List, [], ◌∷◌, ◌++◌, map, filter, flat_map, bytes_eq, Option, Some, None, option_and_then, option_map, option_to_list, unwrap_or, if◌then◌else◌}
 use Rattle.std.specs.Borrow.{Bor}
 use Rattle.std.specs.List.{list_any}
-use Rattle.std.specs.Vec.{Vec}
+use Rattle.std.specs.Global.{Vec}
 use Rattle.indexmap.specs.IndexMap.{IndexMap, get_by}
 use Rattle.sg_circuit.specs.Circuit.{Circuit}
 use Rattle.vcd_form.specs.Written.{Declaration, Section}
@@ -34,6 +34,9 @@ listed table code = option_map nets_in (get_by (λ key. bytes_eq code key.now) t
 abbrev pub with_nets : (List ℕ → Option (List (List ℕ))) → List ℕ → Option (List ℕ) → List ℕ → Option (List (List ℕ))
 with_nets known code nets c = if bytes_eq code c then Some (unwrap_or (known c) [] ++ option_to_list nets) else known c
 
+abbrev pub declared_faults : Circuit → Bool → Declaration → List Fault
+declared_faults circuit is_own d = if is_own then variable_faults d (input_of circuit d) else []
+
 abbrev pub own_faults : Circuit → List ℕ → List Section → List Fault
 own_faults circuit scope ss = flat_map (λ d. variable_faults d (input_of circuit d)) (own scope ss)
 
@@ -44,7 +47,7 @@ scopes_behind scopes (s ∷ ss) = scopes_behind (scopes_after scopes s) ss
 
 -- what is known behind some sections, in which no fault stands
 pub record IsKnown (circuit : Circuit) (scope : List ℕ) (ss : List Section) (read : List (Option ℕ)) (found : Bool) (table : List ℕ → Option (List (List ℕ))) : Type 0 where
-  pub fronts_are : read ≡ reverse (fronts scope (scopes_behind [] ss))
+  pub fronts_are : read ≡ fronts scope (scopes_behind [] ss)
   pub found_is : found ≡ has_scope scope ss
   pub faultless : own_faults circuit scope ss ≡ []
   pub table_is : (code : List ℕ) → table code ≡ indexed circuit (all_declared ss) (own scope ss) code

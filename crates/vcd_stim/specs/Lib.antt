@@ -3,3 +3,4 @@ pub mod Meant
 pub mod Paths
 pub mod Index
 pub mod Steps
+pub mod Whole

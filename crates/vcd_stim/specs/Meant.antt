@@ -36,7 +36,7 @@ abbrev pub fraction_ticks : ℕ → ℕ → Result ℕ VcdKind
 fraction_ticks n d = if not ((n % d) == 0) then Err NotWholeTick else if nat_le (2 ^ 60 * d) n then Err TooLarge else Ok (n / d)
 
 abbrev pub time_ticks : Scale → ℕ → Result ℕ VcdKind
-time_ticks scale t = fraction_ticks (numerator scale t) (denominator scale t)
+time_ticks scale t = fraction_ticks (numerator scale t) (denominator scale)
 
 -- a time that is a whole number of ticks
 pub record IsMoment (scale : Scale) (t : ℕ) (m : Moment) : Type 0 where

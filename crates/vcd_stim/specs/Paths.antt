@@ -1,5 +1,5 @@
 -- How much of the path of a scope is read in open scopes.
-use Rattle.std.specs.Prelude.{ℕ, ◌+◌, ◌-◌, ◌==◌, nat_le, nat_eq, Bool, false, List, [], ◌∷◌, ◌++◌, drop, length, reverse, slice_get, Option, Some, None, option_and_then, if◌then◌else◌}
+use Rattle.std.specs.Prelude.{ℕ, ◌+◌, ◌-◌, ◌==◌, nat_le, nat_eq, Bool, false, List, [], ◌∷◌, ◌++◌, drop, length, slice_get, Option, Some, None, option_and_then, if◌then◌else◌}
 use Rattle.std.specs.List.{starts_with}
 use Rattle.vcd_model.specs.Inputs.{path}
 
@@ -15,14 +15,14 @@ abbrev pub next_front : List ℕ → Option (Option ℕ) → List ℕ → Option
 next_front scope None name = goes_on scope 0 name
 next_front scope (Some outer) name = inner_front scope name outer
 
--- of open scopes, the innermost first, how much of the path each reads
-abbrev pub fronts : List ℕ → List (List ℕ) → List (Option ℕ)
-fronts scope [] = []
-fronts scope (n ∷ ns) = next_front scope (slice_get (fronts scope ns) 0) n ∷ fronts scope ns
-
 -- the innermost stands last
 abbrev pub last_front : List (Option ℕ) → Option (Option ℕ)
 last_front fs = slice_get fs (length fs - 1)
+
+-- of open scopes, the outermost first, how much of the path each reads
+abbrev pub fronts : List ℕ → List (List ℕ) → List (Option ℕ)
+fronts scope [] = []
+fronts scope (n ∷ ns) = fronts scope ns ++ next_front scope (last_front (fronts scope ns)) n ∷ []
 
 abbrev pub is_whole_front : List ℕ → Option ℕ → Bool
 is_whole_front scope None = false

@@ -1,5 +1,5 @@
 // A time that a dump says, behind the one before.
-ghost use Rattle.std.specs.Prelude.{◌≡◌, MatchResult, length, nat_lt};
+ghost use Rattle.std.specs.Prelude.{◌≡◌, ◌<◌, ◌^◌, [], true, false, MatchOption, MatchResult, length, nat_lt};
 ghost use Rattle.sg_time.specs.Spelling.{number_from};
 ghost use Rattle.vcd_model.specs.Faults as def;
 ghost use Rattle.vcd_model.specs.Values.{ticks};

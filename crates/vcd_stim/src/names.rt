@@ -1,11 +1,10 @@
 // The names of variables, and their ranges.
-ghost use Rattle.std.specs.Prelude.{◌≡◌, ◌≤◌, length, option_map, option_and_then, option_to_list, MatchResult};
-ghost use Rattle.sg_circuit.specs.Seen.{variable_seen};
+ghost use Rattle.std.specs.Prelude.{◌≡◌, ◌≤◌, ◌==◌, if◌then◌else◌, length, option_map};
 ghost use Rattle.vcd_form.specs.Seen.{declaration_seen};
 ghost use Rattle.vcd_model.specs.Inputs as def;
 ghost use Rattle.vcd_stim.specs.Meant.{called_seen};
 
-use vcd_form::{Declaration, is_range};
+use vcd_form::{Declaration, is_range_text};
 
 /// A name, and its range as it is written.
 #[derive(Clone, Copy, Debug)]
@@ -24,6 +23,12 @@ pub fn bare(name: &[u8]) -> &[u8]
     }
 }
 
+fn bracket_at(byte: u8, index: usize, found: usize) -> usize
+    ensures { result ≡ (if byte == 91 then index else found) }
+{
+    if byte == b'[' { index } else { found }
+}
+
 // Where the last `[` stands, or 0.
 fn front_len(text: &[u8]) -> usize
     ensures value { result ≡ def.front_len text.now }
@@ -31,9 +36,7 @@ fn front_len(text: &[u8]) -> usize
 {
     let mut found: usize = 0;
     for (index, b) in text.iter().enumerate() {
-        if *b == b'[' {
-            found = index;
-        }
+        found = bracket_at(*b, index, found);
     }
     found
 }
@@ -43,7 +46,7 @@ fn split_name(text: &[u8]) -> Called<'_>
     ensures { called_seen result ≡ def.split_name text.now }
 {
     let (name, range) = text.split_at(front_len(text));
-    if !name.is_empty() && is_range(range) {
+    if !name.is_empty() && is_range_text(range) {
         return Called {
             name,
             range: Some(range),
@@ -56,7 +59,7 @@ fn split_name(text: &[u8]) -> Called<'_>
 }
 
 /// The name of a variable, and its range.
-pub fn called<'t>(declaration: &Declaration<'t>) -> Called<'t>
+pub fn called_of<'t>(declaration: &Declaration<'t>) -> Called<'t>
     ensures { called_seen result ≡ def.called (declaration_seen declaration.now) }
 {
     if let Some(range) = declaration.range {

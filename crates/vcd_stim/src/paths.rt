@@ -1,9 +1,6 @@
 // The path of a scope, one open scope after another.
-ghost use Rattle.std.specs.Prelude.{◌≡◌, ◌≤◌, ◌∷◌, ◌++◌, ℕ, List, IfOk, OnOk, reverse, drop, length};
-ghost use Rattle.vcd_model.specs.Inputs.{is_at, path};
-ghost use Rattle.vcd_stim.specs.Paths.{front_len, front_lens, goes_on, is_whole_front, is_whole_last, last_front, next_front};
-
-use sg_text::NoMemory;
+ghost use Rattle.std.specs.Prelude.{◌≡◌, Some};
+ghost use Rattle.vcd_stim.specs.Paths.{goes_on, is_whole_front, is_whole_last, last_front, next_front};
 
 // Where a front of a text ends once a piece more is read.
 fn goes_on(text: &[u8], at: usize, piece: &[u8]) -> Option<usize>
