@@ -79,8 +79,8 @@ none_among [] h = refl
 none_among (x ∷ xs) h = absurd (h x (0, (omega arith, refl)))
 
 none_below : (source : Source) (name : Option (List ℕ)) (corner : Corner) (top : Module) → top_of source name ≡ Ok top → HasNoFault source name corner → faults_below source top corner ≡ []
-none_below source name corner top is no =
-    ap (top_faults source corner) (sym is) ∙ back (two_definitions source) (top_faults source corner (top_of source name)) (none_among (faults source name corner) (λ f there. no f.kind f.place (in_list there)))
+none_below source name corner top is clean =
+    ap (top_faults source corner) (sym is) ∙ back (two_definitions source) (top_faults source corner (top_of source name)) (none_among (faults source name corner) (λ f there. clean f.kind f.place (in_list there)))
 
 pub ordered : (source : Source) (name : Option (List ℕ)) (corner : Corner) (made c : Circuit) → AllByRecursion IsNamedPart source → IsElaborated source name corner made → AreAlike c made → IsOrdered c
 ordered source name corner made c named is alike =

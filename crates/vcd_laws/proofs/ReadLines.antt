@@ -49,7 +49,7 @@ pub record ReadsSection (ps : List (List ℕ)) (s : Section) : Type 0 where
   pub each : (ws : List Word) (i : ℕ) → Stand ws i ps → SpellsSection ws i ps s
 
 pub reads_version : ReadsSection (codes "$version" ∷ codes "signoff" ∷ codes "1" ∷ codes "$end" ∷ []) remark
-unfolding section_parts remark_parts
+unfolding section_parts remark_parts remark_rest
 reads_version = record {
   each = λ ws i h. record {
     section = remark;
