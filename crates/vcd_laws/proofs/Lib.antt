@@ -29,3 +29,6 @@ pub mod Trees
 pub mod Declared
 pub mod Hierarchy
 pub mod Ordered
+pub mod Worded
+pub mod Meant
+pub mod Lexed
