@@ -5,6 +5,7 @@ ghost use Rattle.vcd_form.specs.Reading.{read_of, Goes, ItemRead, WordAt};
 ghost use Rattle.vcd_form.specs.Rules as rules;
 ghost use Rattle.vcd_form.specs.Seen.{item_seen};
 ghost use Rattle.vcd_form.specs.Words.{words};
+ghost use Rattle.vcd_form.specs.Written.{instant, value};
 
 use crate::cursor::Words;
 use crate::kinds::{WordKind, kind_of};
@@ -29,6 +30,47 @@ fn behind_first(bytes: &[u8]) -> &[u8]
     }
 }
 
+fn instant_of(word: Word<'_>) -> Item<'_>
+    ensures { item_seen result ≡ instant word.entry.byte (rules.behind_first word.entry.bytes.now) }
+{
+    Item::Instant {
+        byte: word.byte,
+        digits: behind_first(word.bytes),
+    }
+}
+
+fn scalar_of(word: Word<'_>) -> Item<'_>
+    ensures { item_seen result ≡ value word.entry.byte word.entry.byte (rules.head_of word.entry.bytes.now) (rules.behind_first word.entry.bytes.now) }
+{
+    Item::Value {
+        byte: word.byte,
+        code_byte: word.byte,
+        bits: head_of(word.bytes),
+        code: behind_first(word.bytes),
+    }
+}
+
+fn vector_of<'a>(word: Word<'a>, code: Word<'a>) -> Item<'a>
+    ensures { item_seen result ≡ rules.vector_of ((word.entry.byte, word.entry.bytes.now), (code.entry.byte, code.entry.bytes.now)) }
+{
+    Item::Value {
+        byte: word.byte,
+        code_byte: code.byte,
+        bits: behind_first(word.bytes),
+        code: code.bytes,
+    }
+}
+
+fn real_of<'a>(word: Word<'a>, code: Word<'a>) -> Item<'a>
+    ensures { item_seen result ≡ rules.real_of ((word.entry.byte, word.entry.bytes.now), (code.entry.byte, code.entry.bytes.now)) }
+{
+    Item::Real {
+        byte: word.byte,
+        code_byte: code.byte,
+        code: code.bytes,
+    }
+}
+
 // The item that begins with a word.
 #[tactic(auto, unfolding(crate::specs::Rules::item_parts, crate::specs::Rules::remark_parts))]
 fn item_from<'a>(
@@ -41,56 +83,21 @@ fn item_from<'a>(
     requires word { WordAt text.now (read_at text.now at) (Some (word, next)) }
     ensures { Goes text.now (λ y. item_seen y.0) (λ y. y.1) result (rules.item.read (words text.now) (read_at text.now at)) }
 {
-    let byte = word.byte;
     match kind_of(word.bytes) {
-        WordKind::Time => Ok((
-            Item::Instant {
-                byte,
-                digits: behind_first(word.bytes),
-            },
-            next,
-        )),
+        WordKind::Time => Ok((instant_of(word), next)),
         WordKind::Comment => {
             let behind = remark_rest(text, next)?;
             Ok((Item::Nothing, behind))
         }
         WordKind::Dump | WordKind::End => Ok((Item::Nothing, next)),
-        WordKind::Scalar => {
-            let bits = head_of(word.bytes);
-            let code = behind_first(word.bytes);
-            Ok((
-                Item::Value {
-                    byte,
-                    code_byte: byte,
-                    bits,
-                    code,
-                },
-                next,
-            ))
-        }
+        WordKind::Scalar => Ok((scalar_of(word), next)),
         WordKind::Vector => {
             let (code, behind) = placed_code_from(text, next)?;
-            let bits = behind_first(word.bytes);
-            Ok((
-                Item::Value {
-                    byte,
-                    code_byte: code.byte,
-                    bits,
-                    code: code.bytes,
-                },
-                behind,
-            ))
+            Ok((vector_of(word, code), behind))
         }
         WordKind::Real => {
             let (code, behind) = placed_code_from(text, next)?;
-            Ok((
-                Item::Real {
-                    byte,
-                    code_byte: code.byte,
-                    code: code.bytes,
-                },
-                behind,
-            ))
+            Ok((real_of(word, code), behind))
         }
         _ => Err(at),
     }
