@@ -1,0 +1,4 @@
+-- The modules of this folder, in reading order.
+pub mod Alike
+pub mod Again
+pub mod ReadBack
