@@ -275,7 +275,7 @@ lines_more : (vs : List Variable) (s : Snapshot) (d : Dump) (l : Lines) (i : Sho
 lines_more vs s d l i h =
     subst (λ old. AreAll (dump_with vs s (Some d)) (if any_variable_differs vs old s.values then Some (record { lines = l.lines ++ later_entries vs old s; time = s.time; values = s.values }) else Some l) (shown_with vs s (Some i))) (sym h.values.0)
     (subst (λ old. AreAll (dump_with vs s (Some d)) (if any_variable_differs vs d.values s.values then Some (record { lines = l.lines ++ later_entries vs d.values s; time = s.time; values = s.values }) else Some l)
-        (if any_variable_differs vs old s.values then Some (record { items = i.items ++ later_items vs old s; time = s.time; values = s.values }) else Some i)) (sym h.values.1) (at (any_variable_differs vs d.values s.values)))
+    (if any_variable_differs vs old s.values then Some (record { items = i.items ++ later_items vs old s; time = s.time; values = s.values }) else Some i)) (sym h.values.1) (at (any_variable_differs vs d.values s.values)))
   where
     at : (b : Bool) → AreAll (if b then Some (record { text = d.text ++ later_block vs d.values s; time = s.time; values = s.values }) else Some d)
         (if b then Some (record { lines = l.lines ++ later_entries vs d.values s; time = s.time; values = s.values }) else Some l)

@@ -261,8 +261,7 @@ longer xs x = (let q : length (xs ++ x ∷ []) ≡ length xs + 1 = length-append
 rest_known : (h : Header) (rest before vs : List Variable) → Declares h rest → tops h.circuit ++ rest ≡ before ++ vs → length (tops h.circuit) ≤ length before → EachKnown h (length before) vs
 rest_known h rest before [] d e l = tt
 rest_known h rest before (v ∷ vs) d e l =
-    let more : length (before ++ v ∷ []) ≡ suc (length before) = longer before v in
-    (
+    let more : length (before ++ v ∷ []) ≡ suc (length before) = longer before v in (
       known_at h rest before vs v d e (subst (AllByRecursion (λ (x : Declaration). nat_lt x.width (length v.bits) ≡ false)) (sym (none_coded 0 (length before) (tops h.circuit) (inr (omega arith)))) tt),
       subst (λ n. EachKnown h n vs) more (rest_known h rest (before ++ v ∷ []) vs d (e ∙ sym (append_assoc before (v ∷ []) vs)) (omega arith)),
     )
@@ -272,8 +271,7 @@ tops_known h rest before [] d e =
     let all : before ≡ tops h.circuit = sym (append-nil before) ∙ sym e in
     rest_known h rest before rest d (ap (λ xs. xs ++ rest) (sym all)) (subst (λ xs. length xs ≤ length before) all (omega arith))
 tops_known h rest before (v ∷ vs) d e =
-    let more : length (before ++ v ∷ []) ≡ suc (length before) = longer before v in
-    (
+    let more : length (before ++ v ∷ []) ≡ suc (length before) = longer before v in (
       known_at h rest before (vs ++ rest) v d (ap (λ xs. xs ++ rest) e ∙ append_assoc before (v ∷ vs) rest) (subst (AllByRecursion (λ (x : Declaration). nat_lt x.width (length v.bits) ≡ false)) (sym (one_coded (tops h.circuit) before vs v e)) (le-ltb (length v.bits) (length v.bits) (omega arith), tt)),
       subst (λ n. EachKnown h n (vs ++ rest)) more (tops_known h rest (before ++ v ∷ []) vs d (e ∙ sym (append_assoc before (v ∷ []) vs))),
     )

@@ -139,9 +139,11 @@ below_named source c tick levels each (s ∷ ss) h f =
 instances_named : (source : Source) → AllByRecursion IsNamedPart source → (c : Corner) (tick : ℤ) (levels : ℕ) (s : Instance) → IsNamedStep s → AllByRecursion (HasNone source c tick) (instances_from source levels s)
     → AllByRecursion IsNamedStep (instances_from source levels s)
 instances_named source named c tick zero s h f = (h, tt)
-instances_named source named c tick (suc levels) s h f =
-    (h, below_named source c tick levels (λ x. instances_named source named c tick levels x) (children_at source (suc levels) s)
-    (from_named source levels (s.step ∷ s.above) (suc s.step.number) (children_in source s.step.definition) (children_named source named c tick s.step.definition h.0 f.0)) f.1)
+instances_named source named c tick (suc levels) s h f = (
+  h,
+  below_named source c tick levels (λ x. instances_named source named c tick levels x) (children_at source (suc levels) s)
+      (from_named source levels (s.step ∷ s.above) (suc s.step.number) (children_in source s.step.definition) (children_named source named c tick s.step.definition h.0 f.0)) f.1,
+)
 
 -- ---- scopes
 
@@ -170,7 +172,7 @@ scope_written : (source : Source) (top : Module) (c : Corner) (tick : ℤ) (s : 
 scope_written source top c tick s h e = (
   h.1,
   all-map IsWritten (scope_variable (nets source top) source s) (variables s.step.definition)
-  (all-weaker IsDeclared (λ v. IsWritten (scope_variable (nets source top) source s v)) (variables s.step.definition) (variable_written source top s) (variables_are s.step.definition h.0 wide))
+      (all-weaker IsDeclared (λ v. IsWritten (scope_variable (nets source top) source s v)) (variables s.step.definition) (variable_written source top s) (variables_are s.step.definition h.0 wide)),
 )
   where
     declared : declaration_faults s.step.definition ≡ []

@@ -169,8 +169,7 @@ rest_passed circuit ds own k (v ∷ vs) l =
 each_from : (circuit : Circuit) (ds : List Declaration) → HasInputs circuit → AreOwn circuit ds → (before vs rest : List Variable) → tops circuit ≡ before ++ vs → EachRead circuit ds (length before) (vs ++ rest)
 each_from circuit ds has own before [] rest e = rest_passed circuit ds own (length before) rest (let q : length (tops circuit) ≡ length before = ap length (e ∙ append-nil before) in omega arith)
 each_from circuit ds has own before (v ∷ vs) rest e =
-    let more : length (before ++ v ∷ []) ≡ suc (length before) = longer before v in
-    (
+    let more : length (before ++ v ∷ []) ≡ suc (length before) = longer before v in (
       top_read circuit ds has own before vs v e,
       subst (λ n. EachRead circuit ds n (vs ++ rest)) more (each_from circuit ds has own (before ++ v ∷ []) vs rest (e ∙ sym (append_assoc before (v ∷ []) vs))),
     )

@@ -159,8 +159,7 @@ visits_read circuit h (suc turns) s k l m =
     let vars = (scope_at circuit s).variables in
     let inner = flat_map (visits_in turns circuit) (children_of circuit s) in
     let many : count_of circuit (Enters s ∷ (inner ++ Leaves ∷ [])) ≡ length vars + count_of circuit (inner ++ Leaves ∷ []) = length-append vars (flat_map (variables_at circuit) (inner ++ Leaves ∷ [])) in
-    let more : count_of circuit (inner ++ Leaves ∷ []) ≡ count_of circuit inner + 0 = count-append circuit inner (Leaves ∷ []) in
-    (
+    let more : count_of circuit (inner ++ Leaves ∷ []) ≡ count_of circuit inner + 0 = count-append circuit inner (Leaves ∷ []) in (
       scope_read (scope_at circuit s).name (h.scopes s l).0,
       all_append LineRead (numbered declaration_entry k vars) (visit_entries circuit (k + length vars) (inner ++ Leaves ∷ [])) (decls_read k vars (omega arith) (h.scopes s l).1)
           (subst (AllByRecursion LineRead) (sym (entries-append circuit (k + length vars) inner (Leaves ∷ [])))

@@ -119,7 +119,7 @@ inputs_shared a b h has = record {
     is_input_too : (net : ℕ) → IsInput a net → IsInput b net
     is_input_too net i = (
       subst (λ k. net < k) (ap length h.nets) i.0,
-      ap (λ (ns : List Net). (slice_index_or ns net (record { scope = 0; name = []; bit = None; driver = Nobody })).driver) (sym h.nets) ∙ i.1
+      ap (λ (ns : List Net). (slice_index_or ns net (record { scope = 0; name = []; bit = None; driver = Nobody })).driver) (sym h.nets) ∙ i.1,
     )
 
 -- ---- names and scopes

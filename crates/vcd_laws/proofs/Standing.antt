@@ -42,8 +42,7 @@ fine_moved circuit d h = at (input_of circuit d) h
 all_fine : (circuit : Circuit) → HasInputs circuit → (before vs : List Variable) → tops circuit ≡ before ++ vs → AllByRecursion (IsFine circuit) (numbered declared_one (length before) vs)
 all_fine circuit has before [] e = tt
 all_fine circuit has before (v ∷ vs) e =
-    let more : length (before ++ v ∷ []) ≡ suc (length before) = longer before v in
-    (
+    let more : length (before ++ v ∷ []) ≡ suc (length before) = longer before v in (
       ap (variable_faults (declared_as (length before) v)) (input_is circuit has before vs v (length before) e) ∙ at before,
       subst (λ n. AllByRecursion (IsFine circuit) (numbered declared_one n vs)) more (all_fine circuit has (before ++ v ∷ []) vs (e ∙ sym (append_assoc before (v ∷ []) vs))),
     )

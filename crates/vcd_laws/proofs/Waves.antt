@@ -178,8 +178,8 @@ makes circuit scope vs nets end ss items run fits = record {
     inputs_at : (time : ℕ) → All (λ (c : ℕ × Value). IsInput circuit c.0) (sets_now n gs time)
     inputs_at time = All-from_recursion (λ (c : ℕ × Value). IsInput circuit c.0) (sets_now n gs time)
         (sets_all (λ (c : ℕ × Value). IsInput circuit c.0) gs time 0 n (λ net c l e.
-            (let r = last_is (λ v. IsInput circuit net) gs time net c (inputs_of time net gs (subst (AllByRecursion (λ (g : Given). IsInput circuit g.net)) (sym gs_is) h.inputs)) e in
-            subst (IsInput circuit) (sym r.0) r.1)))
+        (let r = last_is (λ v. IsInput circuit net) gs time net c (inputs_of time net gs (subst (AllByRecursion (λ (g : Given). IsInput circuit g.net)) (sym gs_is) h.inputs)) e in
+        subst (IsInput circuit) (sym r.0) r.1)))
 
     none_set : (time : ℕ) → (list_any (λ (g : Given). g.time == time) gs ≡ false) ⊎ Changes circuit (nets time) (nets (suc time)) → (sets_at (wave_stimulus circuit scope ss items).steps time ≡ []) ⊎ Changes circuit (nets time) (nets (suc time))
     none_set time (inl none) = inl (steps_now scale n gs time same ∙ given_then gs time n none)
