@@ -19,4 +19,5 @@ pub use cursor::Words;
 pub use header::read_header;
 pub use items::next_item;
 pub use laws::one_dump;
+pub use ranges::is_range_text;
 pub use written::{Declaration, Item, Section};

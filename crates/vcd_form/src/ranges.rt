@@ -76,7 +76,8 @@ fn ends_in_bracket(text: &[u8]) -> bool
     }
 }
 
-fn is_range_text(text: &[u8]) -> bool
+/// Whether a text is a range.
+pub fn is_range_text(text: &[u8]) -> bool
     ensures { result ≡ def.is_range_text text.now }
 {
     match text {
