@@ -1,14 +1,14 @@
 -- A round at which nothing is due and nothing changes leaves a settled state as it is.
-use Rattle.std.specs.Prelude.{◌≡◌, ℕ, zero, suc, ◌<◌, ◌||◌, ◌==◌, Bool, true, false, if◌then◌else◌, List, [], ◌∷◌, ◌++◌, length, map, slice_index_or, Option, Some, None, refl}
-use Rattle.std.proofs.Common.{sym, ◌∙◌, ap, subst, arith, zero-add}
+use Rattle.std.specs.Prelude.{◌≡◌, ℕ, zero, suc, ◌<◌, ◌||◌, Bool, true, false, if◌then◌else◌, List, [], ◌∷◌, length, map, slice_index_or, Option, Some, None, refl}
+use Rattle.std.proofs.Common.{sym, ◌∙◌, ap, subst, zero-add}
 use Rattle.std.proofs.lemmas.List.{ext_get_or}
 use Rattle.sg_logic.specs.declared.values.Value.{Value}
 use Rattle.sg_logic.specs.declared.values.Value.TheVariants.{X}
 use Rattle.sg_model.specs.Values.{value_at}
 use Rattle.sg_model.specs.Agenda.{due, list_at}
 use Rattle.sg_model.specs.Machine.{Machine, State, Stamp}
-use Rattle.sg_model.specs.Round.{any_due, changed_by, due_change, due_changes, each_from, element_list, element_value, is_due, round, stamp_after, stamps_after, values_after, without_due}
-use Rattle.sg_model.specs.FanOut.{present_after, AgreeAt, IsSteady, IsSettled}
+use Rattle.sg_model.specs.Round.{any_due, due_change, due_changes, each_from, element_list, element_value, is_due, round, stamp_after, values_after, without_due}
+use Rattle.sg_model.specs.FanOut.{present_after, AgreeAt, IsSteady}
 use Rattle.sg_model.proofs.FanOutLaws.{settled-value, settled-list}
 use Rattle.sg_model.proofs.PlacingSteps.{same-self}
 use Rattle.sg_model.proofs.RunSteps.{round-is}
@@ -67,25 +67,25 @@ same_lists : (m : Machine) → IsSteady m → (now : ℕ) (values : List Value) 
 same_lists m steady now values stamps lists states settled none =
     ext_get_or [] (each_from (element_list m now values values stamps states) 0 lists) lists (length-each_from (element_list m now values values stamps states) 0 lists)
     (λ e l.
-        (let l' : e < length lists = subst (λ n. e < n) (length-each_from (element_list m now values values stamps states) 0 lists) l in
-        let list : List (ℕ × Value) = list_at lists e in
-        let none_here : is_due now list ≡ false = due_at now lists e none in
-        let again : element_list m now values values stamps states e (without_due now list) ≡ without_due now list =
-        settled-list m steady now e values values stamps states list (settled.each e l') (agree_self (slice_index_or m.inputs e []) values) (sym (present_stays now list (value_at values (slice_index_or m.outputs e 0)) none_here)) in
-        each_from-at (element_list m now values values stamps states) 0 lists e [] [] l'
-        ∙ (ap (λ n. element_list m now values values stamps states n list) (zero-add e)
-        ∙ (ap (element_list m now values values stamps states e) (sym (none_taken now list none_here)) ∙ (again ∙ none_taken now list none_here)))))
+    (let l' : e < length lists = subst (λ n. e < n) (length-each_from (element_list m now values values stamps states) 0 lists) l in
+    let list : List (ℕ × Value) = list_at lists e in
+    let none_here : is_due now list ≡ false = due_at now lists e none in
+    let again : element_list m now values values stamps states e (without_due now list) ≡ without_due now list =
+    settled-list m steady now e values values stamps states list (settled.each e l') (agree_self (slice_index_or m.inputs e []) values) (sym (present_stays now list (value_at values (slice_index_or m.outputs e 0)) none_here)) in
+    each_from-at (element_list m now values values stamps states) 0 lists e [] [] l'
+    ∙ (ap (λ n. element_list m now values values stamps states n list) (zero-add e)
+    ∙ (ap (element_list m now values values stamps states e) (sym (none_taken now list none_here)) ∙ (again ∙ none_taken now list none_here)))))
 
 same_states : (m : Machine) → IsSteady m → (values : List Value) (lists : List (List (ℕ × Value))) (states : List Value) → AreSettled m values lists states → length states ≡ length lists
     → each_from (element_value m values values) 0 states ≡ states
 same_states m steady values lists states settled many =
     ext_get_or X (each_from (element_value m values values) 0 states) states (length-each_from (element_value m values values) 0 states)
     (λ e l.
-        (let l' : e < length states = subst (λ n. e < n) (length-each_from (element_value m values values) 0 states) l in
-        let l2 : e < length lists = subst (λ n. e < n) many l' in
-        each_from-at (element_value m values values) 0 states e X X l'
-        ∙ (ap (λ n. element_value m values values n (value_at states e)) (zero-add e)
-        ∙ settled-value m steady e values values (list_at lists e) (value_at states e) (settled.each e l2) (agree_self (slice_index_or m.inputs e []) values))))
+    (let l' : e < length states = subst (λ n. e < n) (length-each_from (element_value m values values) 0 states) l in
+    let l2 : e < length lists = subst (λ n. e < n) many l' in
+    each_from-at (element_value m values values) 0 states e X X l'
+    ∙ (ap (λ n. element_value m values values n (value_at states e)) (zero-add e)
+    ∙ settled-value m steady e values values (list_at lists e) (value_at states e) (settled.each e l2) (agree_self (slice_index_or m.inputs e []) values))))
 
 pub idle_round : (m : Machine) → IsSteady m → (now : ℕ) (handed : List (ℕ × Value)) (s : State) → AreSettled m s.values s.lists s.states → length s.states ≡ length s.lists → any_due now s.lists ≡ false → values_after m now handed s ≡ s.values
     → round m now handed s ≡ s

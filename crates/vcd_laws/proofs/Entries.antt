@@ -1,7 +1,7 @@
 -- The lines of a dump's header and body: their words, and what they say.
-use Rattle.std.specs.Prelude.{◌≡◌, ℕ, ℤ, pos, ◌-ℤ◌, nat_abs, zero, suc, ◌+◌, ◌/◌, ◌%◌, ◌==◌, Bool, true, false, if◌then◌else◌, List, [], ◌∷◌, ◌++◌, length, map, flat_map, codes, decimal, Option, Some, None, refl}
+use Rattle.std.specs.Prelude.{◌≡◌, ℕ, pos, ◌-ℤ◌, nat_abs, suc, ◌+◌, ◌/◌, ◌%◌, ◌==◌, Bool, true, false, if◌then◌else◌, List, [], ◌∷◌, ◌++◌, length, map, flat_map, codes, decimal, Option, Some, None, refl}
 use Rattle.std.specs.Fmt.{signed_decimal}
-use Rattle.std.proofs.Common.{sym, ◌∙◌, ap, subst, arith}
+use Rattle.std.proofs.Common.{sym, ◌∙◌, ap, subst}
 use Rattle.std.proofs.lemmas.List.{append_assoc, append-nil, map-append}
 use Rattle.sg_logic.specs.declared.values.Value.{Value}
 use Rattle.sg_model.specs.Machine.{Snapshot}
@@ -275,7 +275,7 @@ lines_more : (vs : List Variable) (s : Snapshot) (d : Dump) (l : Lines) (i : Sho
 lines_more vs s d l i h =
     subst (λ old. AreAll (dump_with vs s (Some d)) (if any_variable_differs vs old s.values then Some (record { lines = l.lines ++ later_entries vs old s; time = s.time; values = s.values }) else Some l) (shown_with vs s (Some i))) (sym h.values.0)
     (subst (λ old. AreAll (dump_with vs s (Some d)) (if any_variable_differs vs d.values s.values then Some (record { lines = l.lines ++ later_entries vs d.values s; time = s.time; values = s.values }) else Some l)
-        (if any_variable_differs vs old s.values then Some (record { items = i.items ++ later_items vs old s; time = s.time; values = s.values }) else Some i)) (sym h.values.1) (at (any_variable_differs vs d.values s.values)))
+    (if any_variable_differs vs old s.values then Some (record { items = i.items ++ later_items vs old s; time = s.time; values = s.values }) else Some i)) (sym h.values.1) (at (any_variable_differs vs d.values s.values)))
   where
     at : (b : Bool) → AreAll (if b then Some (record { text = d.text ++ later_block vs d.values s; time = s.time; values = s.values }) else Some d)
         (if b then Some (record { lines = l.lines ++ later_entries vs d.values s; time = s.time; values = s.values }) else Some l)

@@ -1,8 +1,8 @@
 -- No fault stands in the items of a run's dump.
-use Rattle.std.specs.Prelude.{◌≡◌, ℕ, ℤ, pos, ◌-ℤ◌, zero, suc, ◌+◌, ◌*◌, ◌%◌, ◌^◌, ◌<◌, ◌≤◌, ◌==◌, ◌&&◌, ◌||◌, ◌⊎◌, not, nat_lt, nat_le, ◌-◌, Bool, true, false, cond, if◌then◌else◌, List, [], ◌∷◌, ◌++◌, length, map, filter, flat_map, decimal, drop, Option, Some, None, is_some, refl}
+use Rattle.std.specs.Prelude.{◌≡◌, ℕ, ℤ, pos, ◌-ℤ◌, zero, suc, ◌+◌, ◌*◌, ◌%◌, ◌^◌, ◌<◌, ◌≤◌, ◌==◌, ◌&&◌, ◌||◌, not, nat_lt, nat_le, ◌-◌, Bool, true, false, cond, if◌then◌else◌, List, [], ◌∷◌, ◌++◌, length, map, filter, flat_map, decimal, drop, Some, is_some, refl}
 use Rattle.std.specs.List.{AllByRecursion, list_any, prefix_len}
-use Rattle.std.proofs.Common.{sym, ◌∙◌, ap, subst, arith, inl, inr}
-use Rattle.std.proofs.lemmas.Bool.{and_parts, eq-eqb, le-ltb, lt-leb, not_from_true, or_left, or_right}
+use Rattle.std.proofs.Common.{sym, ◌∙◌, ap, subst, arith, inr}
+use Rattle.std.proofs.lemmas.Bool.{eq-eqb, le-ltb, lt-leb, not_from_true, or_left, or_right}
 use Rattle.std.proofs.lemmas.List.{append-nil, append_assoc, length-append, length-drop, length-map}
 use Rattle.std.proofs.lemmas.List.Folds.{list_any-append}
 use Rattle.std.proofs.lemmas.Fmt.{length-decimal-le}
@@ -12,18 +12,18 @@ use Rattle.sg_model.specs.Time.{any_differs}
 use Rattle.sg_model.specs.Values.{value_at}
 use Rattle.sg_time.specs.Spelling.{number_from}
 use Rattle.sg_time.specs.Ticks.{above, below}
-use Rattle.sg_circuit.specs.Circuit.{Circuit, Variable}
+use Rattle.sg_circuit.specs.Circuit.{Variable}
 use Rattle.wave_out.specs.Vcd.{any_variable_differs, code, value_letter, values_at}
 use Rattle.vcd_form.specs.Written.{Declaration, Item, instant, nothing, real, value}
 use Rattle.vcd_model.specs.declared.kinds.VcdKind.{VcdKind}
 use Rattle.vcd_model.specs.declared.kinds.VcdKind.TheVariants.{UnknownCode}
-use Rattle.vcd_model.specs.Faults.{Fault, Header, code_faults, fault, fault_if, inputs_of, item_faults, length_faults, many_digits}
+use Rattle.vcd_model.specs.Faults.{Header, code_faults, fault, fault_if, inputs_of, item_faults, length_faults, many_digits}
 use Rattle.vcd_model.specs.Inputs.{input_of}
 use Rattle.vcd_model.specs.Values.{is_of_code, is_too_large, is_whole, timed, Scale}
 use Rattle.vcd_laws.proofs.Body.{shots}
 use Rattle.vcd_laws.proofs.Entries.{declared_as}
 use Rattle.vcd_laws.proofs.Header.{declared_one}
-use Rattle.vcd_laws.proofs.Items.{Shown, change_item, end_items, ending_items, first_items, items_of, later_items, now_after, now_after-append, now_stays, numbered, shown, shown_with, some_item, value_item}
+use Rattle.vcd_laws.proofs.Items.{Shown, end_items, ending_items, first_items, items_of, later_items, now_after, now_after-append, now_stays, numbered, shown, shown_with, some_item, value_item}
 use Rattle.vcd_laws.proofs.Own.{code_itself, none_coded, numbered-append, one_coded, tops, unplaced_declaration}
 use Rattle.vcd_laws.proofs.Waves.{unplaced}
 
@@ -261,8 +261,7 @@ longer xs x = (let q : length (xs ++ x ∷ []) ≡ length xs + 1 = length-append
 rest_known : (h : Header) (rest before vs : List Variable) → Declares h rest → tops h.circuit ++ rest ≡ before ++ vs → length (tops h.circuit) ≤ length before → EachKnown h (length before) vs
 rest_known h rest before [] d e l = tt
 rest_known h rest before (v ∷ vs) d e l =
-    let more : length (before ++ v ∷ []) ≡ suc (length before) = longer before v in
-    (
+    let more : length (before ++ v ∷ []) ≡ suc (length before) = longer before v in (
       known_at h rest before vs v d e (subst (AllByRecursion (λ (x : Declaration). nat_lt x.width (length v.bits) ≡ false)) (sym (none_coded 0 (length before) (tops h.circuit) (inr (omega arith)))) tt),
       subst (λ n. EachKnown h n vs) more (rest_known h rest (before ++ v ∷ []) vs d (e ∙ sym (append_assoc before (v ∷ []) vs)) (omega arith)),
     )
@@ -272,8 +271,7 @@ tops_known h rest before [] d e =
     let all : before ≡ tops h.circuit = sym (append-nil before) ∙ sym e in
     rest_known h rest before rest d (ap (λ xs. xs ++ rest) (sym all)) (subst (λ xs. length xs ≤ length before) all (omega arith))
 tops_known h rest before (v ∷ vs) d e =
-    let more : length (before ++ v ∷ []) ≡ suc (length before) = longer before v in
-    (
+    let more : length (before ++ v ∷ []) ≡ suc (length before) = longer before v in (
       known_at h rest before (vs ++ rest) v d (ap (λ xs. xs ++ rest) e ∙ append_assoc before (v ∷ vs) rest) (subst (AllByRecursion (λ (x : Declaration). nat_lt x.width (length v.bits) ≡ false)) (sym (one_coded (tops h.circuit) before vs v e)) (le-ltb (length v.bits) (length v.bits) (omega arith), tt)),
       subst (λ n. EachKnown h n (vs ++ rest)) more (tops_known h rest (before ++ v ∷ []) vs d (e ∙ sym (append_assoc before (v ∷ []) vs))),
     )

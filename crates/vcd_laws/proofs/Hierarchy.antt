@@ -1,11 +1,11 @@
 -- All instances of a named netlist without faults have names, and so do their variables: the circuit has its names.
-use Rattle.std.specs.Prelude.{◌≡◌, ℕ, zero, suc, ◌+◌, ◌<◌, ◌≤◌, ◌^◌, ℤ, pos, Bool, true, false, IfSome, List, [], ◌∷◌, ◌++◌, bytes_eq, fold, length, map, flat_map, filter_map, int_le, if◌then◌else◌, slice_index_or, Option, Some, None, refl}
+use Rattle.std.specs.Prelude.{◌≡◌, ℕ, zero, suc, ◌+◌, ◌<◌, ◌≤◌, ◌^◌, ℤ, pos, Bool, true, false, IfSome, List, [], ◌∷◌, ◌++◌, bytes_eq, fold, length, map, flat_map, int_le, if◌then◌else◌, slice_index_or, Option, Some, None}
 use Rattle.std.specs.List.{AllByRecursion, enumerate_from}
 use Rattle.std.specs.Option.{option_and_then}
-use Rattle.std.proofs.Common.{sym, ◌∙◌, ap, subst, arith}
-use Rattle.std.proofs.lemmas.List.{get_or-map, length-map}
+use Rattle.std.proofs.Common.{sym, ◌∙◌, subst, arith}
+use Rattle.std.proofs.lemmas.List.{length-map}
 use Rattle.std.proofs.lemmas.List.FromFn.{length-range_with_len}
-use Rattle.sg_circuit.specs.Circuit.{Circuit, Scope, scope_at}
+use Rattle.sg_circuit.specs.Circuit.{Scope}
 use Rattle.sg_circuit.specs.Closed.{width_of}
 use Rattle.sg_circuit.specs.declared.scopes.Range.{Range}
 use Rattle.sg_text.specs.declared.places.Place.{Place}
@@ -13,9 +13,9 @@ use Rattle.sg_delay.specs.declared.corners.Corner.{Corner}
 use Rattle.vl_tree.specs.Tree.{Delay, Module, Named, Part, Source, a_module, a_primitive}
 use Rattle.vl_tree.specs.Tree as tree
 use Rattle.elab_model.specs.Bits.{positions}
-use Rattle.elab_model.specs.Definitions.{as_module, definition_of, module_of, name_of}
+use Rattle.elab_model.specs.Definitions.{as_module, definition_of, name_of}
 use Rattle.elab_model.specs.Delays.{lesser, precision_of, tick_of}
-use Rattle.elab_model.specs.Faults.{fault, fault_if}
+use Rattle.elab_model.specs.Faults.{fault_if}
 use Rattle.elab_model.specs.Hierarchy.{Child, Instance, Step, child_of, child_of_member, children_at, children_from, children_in, instances, instances_from, levels_below_top, size, text_of, top_instance}
 use Rattle.elab_model.specs.Homes.{home_of}
 use Rattle.elab_model.specs.Members.{Member, assignment, assignment_to, check, gate, instance, member_of_item, member_values, members, members_of_item, path, supply, supply_value}
@@ -139,9 +139,11 @@ below_named source c tick levels each (s ∷ ss) h f =
 instances_named : (source : Source) → AllByRecursion IsNamedPart source → (c : Corner) (tick : ℤ) (levels : ℕ) (s : Instance) → IsNamedStep s → AllByRecursion (HasNone source c tick) (instances_from source levels s)
     → AllByRecursion IsNamedStep (instances_from source levels s)
 instances_named source named c tick zero s h f = (h, tt)
-instances_named source named c tick (suc levels) s h f =
-    (h, below_named source c tick levels (λ x. instances_named source named c tick levels x) (children_at source (suc levels) s)
-    (from_named source levels (s.step ∷ s.above) (suc s.step.number) (children_in source s.step.definition) (children_named source named c tick s.step.definition h.0 f.0)) f.1)
+instances_named source named c tick (suc levels) s h f = (
+  h,
+  below_named source c tick levels (λ x. instances_named source named c tick levels x) (children_at source (suc levels) s)
+      (from_named source levels (s.step ∷ s.above) (suc s.step.number) (children_in source s.step.definition) (children_named source named c tick s.step.definition h.0 f.0)) f.1,
+)
 
 -- ---- scopes
 
@@ -170,7 +172,7 @@ scope_written : (source : Source) (top : Module) (c : Corner) (tick : ℤ) (s : 
 scope_written source top c tick s h e = (
   h.1,
   all-map IsWritten (scope_variable (nets source top) source s) (variables s.step.definition)
-  (all-weaker IsDeclared (λ v. IsWritten (scope_variable (nets source top) source s v)) (variables s.step.definition) (variable_written source top s) (variables_are s.step.definition h.0 wide))
+      (all-weaker IsDeclared (λ v. IsWritten (scope_variable (nets source top) source s v)) (variables s.step.definition) (variable_written source top s) (variables_are s.step.definition h.0 wide)),
 )
   where
     declared : declaration_faults s.step.definition ≡ []

@@ -1,14 +1,14 @@
 -- The steps of a dump's stimulus, by what the dump gives at each time.
-use Rattle.std.specs.Prelude.{◌≡◌, ◌≢◌, ℕ, zero, suc, ◌+◌, ◌<◌, ◌≤◌, ◌==◌, ◌&&◌, ◌||◌, ◌⊎◌, Bool, true, false, not, cond, if◌then◌else◌, All, List, [], ◌∷◌, length, map, filter, filter_map, Option, Some, None, option_map, refl}
+use Rattle.std.specs.Prelude.{◌≡◌, ◌≢◌, ℕ, zero, suc, ◌+◌, ◌<◌, ◌≤◌, ◌==◌, ◌&&◌, ◌||◌, ◌⊎◌, Bool, true, false, not, cond, if◌then◌else◌, List, [], ◌∷◌, length, map, filter, filter_map, Option, Some, None, option_map, refl}
 use Rattle.std.specs.List.{AllByRecursion, cons_option, list_any, range_with_len}
 use Rattle.std.proofs.Common.{sym, ◌∙◌, ap, subst, arith, inl, inr}
-use Rattle.std.proofs.lemmas.Bool.{and_parts, eq-eqb, eqb-true, eqb-false, ne_eqb, or_from, or_left, or_parts, or_right}
-use Rattle.std.proofs.lemmas.List.Elements.{All-cons, All-from_recursion, All-nil}
+use Rattle.std.proofs.lemmas.Bool.{and_parts, eq-eqb, eqb-true, eqb-false, or_from, or_left, or_parts, or_right}
+use Rattle.std.proofs.lemmas.List.Elements.{All-from_recursion}
 use Rattle.sg_logic.specs.declared.values.Value.{Value}
 use Rattle.sg_model.specs.Values.{value_at}
 use Rattle.sg_circuit.specs.Circuit.{Circuit}
-use Rattle.sg_stimulus.specs.Applied.{IsBefore, IsInput, SetsNot, SetsOnce, StepsRise}
-use Rattle.sg_stimulus.specs.Stimulus.{Step, sets_at}
+use Rattle.sg_stimulus.specs.Applied.{IsInput, SetsOnce, StepsRise}
+use Rattle.sg_stimulus.specs.Stimulus.{sets_at}
 use Rattle.run_laws.specs.Inputs.{IsSetBy, TellInputs}
 use Rattle.vcd_model.specs.Stimulus.{is_given, last, last_given, once, step_at, steps_of}
 use Rattle.vcd_model.specs.Values.{ticks, Given, Scale}
@@ -163,9 +163,9 @@ at_time : (circuit : Circuit) (after : List Value) (time net : ℕ) (gs : List G
 at_time circuit after time net [] h = tt
 at_time circuit after time net (g ∷ gs) h = (
   (λ e. (let b = and_parts (g.time == time) (g.net == net) e in
-  let same : g.net ≡ net = eqb-true g.net net b.1 in
-  let r = h.0 (eqb-true g.time time b.0) in
-  (subst (IsInput circuit) same r.0, r.1 ∙ ap (value_at after) same))),
+      let same : g.net ≡ net = eqb-true g.net net b.1 in
+      let r = h.0 (eqb-true g.time time b.0) in
+      (subst (IsInput circuit) same r.0, r.1 ∙ ap (value_at after) same))),
   at_time circuit after time net gs h.1,
 )
 
@@ -173,8 +173,8 @@ pub tells : (circuit : Circuit) (before after : List Value) (time : ℕ) (gs : L
 tells circuit before after time gs h = record {
   right = All-from_recursion (λ (c : ℕ × Value). IsInput circuit c.0 × (c.1 ≡ value_at after c.0)) (sets_now (length circuit.nets) gs time)
       (sets_all (λ (c : ℕ × Value). IsInput circuit c.0 × (c.1 ≡ value_at after c.0)) gs time 0 (length circuit.nets) (λ net c l e.
-          (let r = last_is (λ v. IsInput circuit net × (v ≡ value_at after net)) gs time net c (at_time circuit after time net gs h.right) e in
-          (subst (IsInput circuit) (sym r.0) r.1.0, r.1.1 ∙ ap (value_at after) (sym r.0)))));
+      (let r = last_is (λ v. IsInput circuit net × (v ≡ value_at after net)) gs time net c (at_time circuit after time net gs h.right) e in
+      (subst (IsInput circuit) (sym r.0) r.1.0, r.1.1 ∙ ap (value_at after) (sym r.0)))));
   each = λ net input. given_or_same net input (h.each net input);
 }
   where
