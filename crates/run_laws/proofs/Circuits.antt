@@ -1,5 +1,5 @@
 -- A stimulus that tells what a run makes of the inputs makes the run again.
-use Rattle.std.specs.Prelude.{◌≡◌, ◌≢◌, ℕ, zero, suc, ◌+◌, ◌<◌, ◌≤◌, ◌==◌, ◌⊎◌, Bool, true, false, if◌then◌else◌, All, IfSome, List, [], ◌∷◌, length, map, slice_index_or, None, refl}
+use Rattle.std.specs.Prelude.{◌≡◌, ◌≢◌, ℕ, zero, suc, ◌+◌, ◌<◌, ◌==◌, ◌⊎◌, Bool, true, false, if◌then◌else◌, All, List, [], ◌∷◌, length, map, slice_index_or, None, refl}
 use Rattle.std.proofs.Common.{sym, ◌∙◌, ap, subst, arith, inl, inr}
 use Rattle.std.proofs.lemmas.List.{length-map, get_or-map}
 use Rattle.std.proofs.lemmas.List.Elements.{All-head, All-nil, All-tail}
@@ -10,11 +10,10 @@ use Rattle.sg_model.specs.Round.{values_after}
 use Rattle.sg_model.specs.Time.{Run, Whole, time_of}
 use Rattle.sg_model.specs.Run.{times_from}
 use Rattle.sg_model.proofs.RunSteps.{times-none, times-whole}
-use Rattle.sg_circuit.specs.declared.nets.Driver.{Driver}
 use Rattle.sg_circuit.specs.declared.nets.Driver.TheVariants as driver
 use Rattle.sg_circuit.specs.Circuit.{Circuit, Element, Pass, net_at, element_at}
 use Rattle.sg_circuit.specs.Closed.{IsNotifier}
-use Rattle.sg_stimulus.specs.Applied.{IsApplied, IsInput}
+use Rattle.sg_stimulus.specs.Applied.{IsInput}
 use Rattle.sg_stimulus.specs.Stimulus.{Step, Stimulus, sets_at}
 use Rattle.sim_times.specs.Runs.{Setting, run_for, start_of}
 use Rattle.sim_times.proofs.RunLaws.{whole, times-append}
@@ -23,7 +22,7 @@ use Rattle.sim_rounds.specs.Setting.{setting_of}
 use Rattle.sim_rounds.specs.Simulated.{first_state, machine_of, run_of_circuit}
 use Rattle.sim_rounds.proofs.MachineLaws.{steady}
 use Rattle.sim_rounds.proofs.NotifierLaws.{named_notifier}
-use Rattle.run_laws.specs.Inputs.{AreSameRuns, Changes, HasDrivers, InputsMakeTheRun, TellInputs, TellsRun, nets_after}
+use Rattle.run_laws.specs.Inputs.{Changes, HasDrivers, InputsMakeTheRun, TellInputs, nets_after}
 use Rattle.run_laws.proofs.Rounds.{like_self}
 use Rattle.run_laws.proofs.Sets.{IsFreeNet, alike_values, input_after, rounds_long, set_value}
 use Rattle.run_laws.proofs.Times.{SetsAlike, SameEnd, times_again}

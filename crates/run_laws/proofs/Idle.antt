@@ -1,14 +1,14 @@
 -- A round at which nothing is due and nothing changes leaves a settled state as it is.
-use Rattle.std.specs.Prelude.{◌≡◌, ℕ, zero, suc, ◌<◌, ◌||◌, ◌==◌, Bool, true, false, if◌then◌else◌, List, [], ◌∷◌, ◌++◌, length, map, slice_index_or, Option, Some, None, refl}
-use Rattle.std.proofs.Common.{sym, ◌∙◌, ap, subst, arith, zero-add}
+use Rattle.std.specs.Prelude.{◌≡◌, ℕ, zero, suc, ◌<◌, ◌||◌, Bool, true, false, if◌then◌else◌, List, [], ◌∷◌, length, map, slice_index_or, Option, Some, None, refl}
+use Rattle.std.proofs.Common.{sym, ◌∙◌, ap, subst, zero-add}
 use Rattle.std.proofs.lemmas.List.{ext_get_or}
 use Rattle.sg_logic.specs.declared.values.Value.{Value}
 use Rattle.sg_logic.specs.declared.values.Value.TheVariants.{X}
 use Rattle.sg_model.specs.Values.{value_at}
 use Rattle.sg_model.specs.Agenda.{due, list_at}
 use Rattle.sg_model.specs.Machine.{Machine, State, Stamp}
-use Rattle.sg_model.specs.Round.{any_due, changed_by, due_change, due_changes, each_from, element_list, element_value, is_due, round, stamp_after, stamps_after, values_after, without_due}
-use Rattle.sg_model.specs.FanOut.{present_after, AgreeAt, IsSteady, IsSettled}
+use Rattle.sg_model.specs.Round.{any_due, due_change, due_changes, each_from, element_list, element_value, is_due, round, stamp_after, values_after, without_due}
+use Rattle.sg_model.specs.FanOut.{present_after, AgreeAt, IsSteady}
 use Rattle.sg_model.proofs.FanOutLaws.{settled-value, settled-list}
 use Rattle.sg_model.proofs.PlacingSteps.{same-self}
 use Rattle.sg_model.proofs.RunSteps.{round-is}

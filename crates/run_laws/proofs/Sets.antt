@@ -1,7 +1,7 @@
 -- What sets make of the nets of inputs, which nothing else changes.
-use Rattle.std.specs.Prelude.{◌≡◌, ℕ, zero, suc, ◌<◌, ◌==◌, ◌||◌, ◌⊎◌, Bool, true, false, if◌then◌else◌, All, List, [], ◌∷◌, ◌++◌, length, Option, Some, None, refl, slice_set}
+use Rattle.std.specs.Prelude.{◌≡◌, ℕ, ◌<◌, ◌==◌, ◌||◌, ◌⊎◌, Bool, true, false, if◌then◌else◌, All, List, [], ◌∷◌, ◌++◌, length, Some, None, refl, slice_set}
 use Rattle.std.specs.List.{list_any}
-use Rattle.std.proofs.Common.{sym, ◌∙◌, ap, subst, arith, inl, inr}
+use Rattle.std.proofs.Common.{sym, ◌∙◌, ap, subst, inl, inr}
 use Rattle.std.proofs.lemmas.Bool.{eqb-true, eqb-false, ne_eqb, or_from, or_parts}
 use Rattle.std.proofs.lemmas.List.{ext_get_or, length-set, get_or-set_same, get_or-set_other}
 use Rattle.std.proofs.lemmas.List.Elements.{All-head, All-tail}
@@ -10,8 +10,8 @@ use Rattle.sg_logic.specs.declared.values.Value.TheVariants.{Zero, One, X, Z}
 use Rattle.sg_model.specs.Values.{value_at}
 use Rattle.sg_model.specs.Agenda.{due}
 use Rattle.sg_model.specs.Machine.{Machine, State, IsNoOutput, Violation}
-use Rattle.sg_model.specs.Round.{changed_by, due_change, due_changes, round, values_after}
-use Rattle.sg_model.specs.Time.{Run, Whole, rounds, needs_round, with_round, with_snapshot, flips_of, is_empty, toggle, toggles}
+use Rattle.sg_model.specs.Round.{changed_by, due_change, due_changes, values_after}
+use Rattle.sg_model.specs.Time.{Run, Whole, rounds, needs_round, with_round, flips_of, toggle, toggles}
 use Rattle.sg_model.proofs.RunSteps.{round-is}
 use Rattle.fan_round.proofs.NetLaws.{changed_append}
 use Rattle.run_laws.proofs.Idle.{neither}

@@ -1,5 +1,5 @@
 -- The times of a run, one after another, under sets of nets that leave them alike.
-use Rattle.std.specs.Prelude.{◌≡◌, ℕ, zero, suc, ◌+◌, ◌<◌, ◌==◌, Bool, true, false, List, [], ◌∷◌, length, Some, None, refl}
+use Rattle.std.specs.Prelude.{◌≡◌, ℕ, zero, suc, ◌+◌, ◌<◌, ◌==◌, true, false, List, [], length, Some, None, refl}
 use Rattle.std.proofs.Common.{sym, ◌∙◌, ap, subst, arith}
 use Rattle.sg_logic.specs.declared.values.Value.{Value}
 use Rattle.sg_model.specs.Machine.{Machine}
@@ -9,7 +9,7 @@ use Rattle.sg_model.specs.Run.{Finished, times_from}
 use Rattle.sg_model.specs.FanOut.{IsSteady}
 use Rattle.sg_model.proofs.RunSteps.{times-none, times-whole, times-spent}
 use Rattle.fan_round.specs.Rounds.{AreSettled}
-use Rattle.run_laws.proofs.Rounds.{Again, HandsAlike, Like, Settled, first_again, rounds_settle}
+use Rattle.run_laws.proofs.Rounds.{Again, Like, Settled, first_again, rounds_settle}
 
 -- at each time that a run reaches, other sets leave the nets alike, and are none where its own are none
 pub record SetsAlike (m : Machine) (sets sets' : ℕ → List (ℕ × Value)) (bound end : ℕ) (Reached : ℕ → Run → Type 0) : Type 0 where

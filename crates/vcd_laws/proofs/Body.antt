@@ -1,8 +1,8 @@
 -- What the items of a run's dump give, time by time.
-use Rattle.std.specs.Prelude.{◌≡◌, ◌≢◌, ℕ, zero, suc, ◌<◌, ◌≤◌, ◌==◌, ◌||◌, ◌⊎◌, Bool, true, false, not, if◌then◌else◌, List, [], ◌∷◌, ◌++◌, map, decimal, Option, Some, None, refl}
+use Rattle.std.specs.Prelude.{◌≡◌, ◌≢◌, ℕ, zero, suc, ◌<◌, ◌≤◌, ◌==◌, ◌⊎◌, Bool, true, false, if◌then◌else◌, List, [], ◌∷◌, ◌++◌, map, decimal, Some, refl}
 use Rattle.std.specs.List.{AllByRecursion, list_any}
 use Rattle.std.proofs.Common.{sym, ◌∙◌, ap, subst, arith, inl, inr}
-use Rattle.std.proofs.lemmas.Bool.{cases_eq, ne_eqb, or_from, or_left, or_parts, or_right, not-false}
+use Rattle.std.proofs.lemmas.Bool.{cases_eq, ne_eqb, or_from, or_left, or_parts, or_right}
 use Rattle.std.proofs.lemmas.List.{append-nil}
 use Rattle.std.proofs.lemmas.List.Folds.{list_any-append}
 use Rattle.sg_logic.specs.declared.values.Value.{Value}
@@ -15,7 +15,7 @@ use Rattle.sg_time.specs.Spelling.{number_from}
 use Rattle.sg_circuit.specs.Circuit.{Circuit, Variable}
 use Rattle.sg_stimulus.specs.Applied.{IsInput}
 use Rattle.wave_out.specs.Vcd.{any_variable_differs}
-use Rattle.vcd_form.specs.Written.{Declaration, Item, nothing}
+use Rattle.vcd_form.specs.Written.{Declaration, nothing}
 use Rattle.vcd_model.specs.Stimulus.{is_given}
 use Rattle.vcd_model.specs.Values.{Given}
 use Rattle.run_laws.specs.Inputs.{Changes}

@@ -1,5 +1,5 @@
 -- Lines that are read one after another spell a dump.
-use Rattle.std.specs.Prelude.{◌≡◌, ℕ, zero, suc, ◌+◌, ◌&&◌, not, nat_lt, Bool, true, false, List, [], ◌∷◌, ◌++◌, length, map, flat_map, codes, Option, Some, None, refl}
+use Rattle.std.specs.Prelude.{◌≡◌, ℕ, suc, ◌+◌, true, List, [], ◌∷◌, ◌++◌, length, map, codes, Some, refl}
 use Rattle.std.specs.List.{AllByRecursion}
 use Rattle.std.proofs.Common.{sym, ◌∙◌, ap, subst, arith}
 use Rattle.std.proofs.lemmas.List.{length-append}
@@ -10,11 +10,11 @@ use Rattle.grammar.specs.States.{SpellsBy}
 use Rattle.vcd_form.specs.Kinds.{is_definitions, is_end, kind_of}
 use Rattle.vcd_form.specs.Rules.{Came, body, body_parts, came_after, came_first, dump, header, item, mark, placed, section_of, start, start_parts}
 use Rattle.vcd_form.specs.Words.{Word}
-use Rattle.vcd_form.specs.Written.{Declaration, Front, Item, Section, declares, enters, leaves, remark, timescale}
+use Rattle.vcd_form.specs.Written.{Item, Section, declares, enters, leaves, remark, timescale}
 use Rattle.vcd_laws.proofs.Entries.{Entry, definitions_words, said, words_of}
 use Rattle.vcd_laws.proofs.Fronts.{IsWhole}
 use Rattle.vcd_laws.proofs.ReadLines.{ReadsItem, ReadsSection, may_come, plain}
-use Rattle.vcd_laws.proofs.Stands.{At, Stand, spell_both, spell_mapped, spell_mark, spell_placed, spell_right, stand_first, stand_rest}
+use Rattle.vcd_laws.proofs.Stands.{Stand, spell_both, spell_mapped, spell_mark, spell_placed, spell_right, stand_first, stand_rest}
 use Rattle.vcd_laws.proofs.Waves.{unplaced}
 
 -- each section may come behind those before it

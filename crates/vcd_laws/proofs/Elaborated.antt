@@ -1,14 +1,12 @@
 -- The circuits of netlists without faults are ordered, names aside: the top's variables have names apart, and are what the stimulus drives.
-use Rattle.std.specs.Prelude.{◌≡◌, ℕ, zero, suc, ◌+◌, ◌<◌, ◌==◌, ◌||◌, ◌⊎◌, nat_lt, ℤ, pos, find, if◌then◌else◌, Bool, true, false, cond, List, [], ◌∷◌, ◌++◌, bytes_eq, length, map, filter, flat_map, slice_index_or, Option, Some, None, refl}
-use Rattle.std.specs.List.{AllByRecursion, list_all, list_any, enumerate_from}
+use Rattle.std.specs.Prelude.{◌≡◌, ℕ, zero, suc, ◌<◌, ◌==◌, ◌||◌, ◌⊎◌, nat_lt, pos, find, if◌then◌else◌, Bool, true, false, cond, List, [], ◌∷◌, ◌++◌, bytes_eq, length, map, filter, flat_map, slice_index_or, None, refl}
+use Rattle.std.specs.List.{list_all, list_any, enumerate_from}
 use Rattle.std.proofs.Common.{sym, ◌∙◌, ap, subst, arith, inl, inr}
 use Rattle.std.proofs.lemmas.Bool.{and_from, eq-eqb, eqb-true, lt-ltb}
 use Rattle.std.proofs.lemmas.List.{length-map}
 use Rattle.std.proofs.lemmas.Slice.Eq.{bytes_eq-Decides}
-use Rattle.sg_circuit.specs.declared.nets.Driver.{Driver}
 use Rattle.sg_circuit.specs.declared.nets.Driver.TheVariants as driver
-use Rattle.sg_circuit.specs.declared.nets.Net.{Net}
-use Rattle.sg_circuit.specs.Circuit.{Circuit, Scope, Variable as ScopeVariable, net_at, scope_at}
+use Rattle.sg_circuit.specs.Circuit.{Circuit, Scope, Variable as ScopeVariable, net_at}
 use Rattle.sg_circuit.specs.Closed.{width_of}
 use Rattle.sg_circuit.specs.FanOut.{has}
 use Rattle.sg_delay.specs.declared.corners.Corner.{Corner}
@@ -18,14 +16,14 @@ use Rattle.stim_read.specs.Inputs as read
 use Rattle.vl_tree.specs.Tree.{Module, Source}
 use Rattle.elab_model.specs.Bits.{positions}
 use Rattle.elab_model.specs.Drivers.{Drive, drive, input_drives, port_place, stimulus_drives, variable_drives}
-use Rattle.elab_model.specs.Hierarchy.{Instance, children_at, instances, instances_from, levels_below_top, top_instance}
+use Rattle.elab_model.specs.Hierarchy.{Instance, children_at, instances_from, levels_below_top, top_instance}
 use Rattle.elab_model.specs.Homes.{home_of, is_input}
 use Rattle.elab_model.specs.Names.{Variable, variables}
 use Rattle.elab_model.specs.Nets.{nets, number_of}
 use Rattle.elab_model.specs.Numbered.{undriven}
 use Rattle.elab_model.specs.Ports.{port_declarations}
 use Rattle.elab_model.specs.Scopes.{scope_of, scope_variable}
-use Rattle.circuit_model.specs.Circuits.{circuit, driven_nets, driving, input_at}
+use Rattle.circuit_model.specs.Circuits.{circuit, driving, input_at}
 use Rattle.circuit_model.specs.Driving.{Driving, NetDrive, by_element, by_stimulus, driver_at, driver_of, drives_of, net_drives}
 use Rattle.elab_laws.proofs.Apart.{variables-apart}
 use Rattle.elab_laws.proofs.Lists.{From, In, Pairwise, all-in, all-range, all-weaker, from-flat, in-either, in-flat, in-map, in-right, pairwise-map}

@@ -1,8 +1,8 @@
 -- No fault stands in the items of a run's dump.
-use Rattle.std.specs.Prelude.{◌≡◌, ℕ, ℤ, pos, ◌-ℤ◌, zero, suc, ◌+◌, ◌*◌, ◌%◌, ◌^◌, ◌<◌, ◌≤◌, ◌==◌, ◌&&◌, ◌||◌, ◌⊎◌, not, nat_lt, nat_le, ◌-◌, Bool, true, false, cond, if◌then◌else◌, List, [], ◌∷◌, ◌++◌, length, map, filter, flat_map, decimal, drop, Option, Some, None, is_some, refl}
+use Rattle.std.specs.Prelude.{◌≡◌, ℕ, ℤ, pos, ◌-ℤ◌, zero, suc, ◌+◌, ◌*◌, ◌%◌, ◌^◌, ◌<◌, ◌≤◌, ◌==◌, ◌&&◌, ◌||◌, not, nat_lt, nat_le, ◌-◌, Bool, true, false, cond, if◌then◌else◌, List, [], ◌∷◌, ◌++◌, length, map, filter, flat_map, decimal, drop, Some, is_some, refl}
 use Rattle.std.specs.List.{AllByRecursion, list_any, prefix_len}
-use Rattle.std.proofs.Common.{sym, ◌∙◌, ap, subst, arith, inl, inr}
-use Rattle.std.proofs.lemmas.Bool.{and_parts, eq-eqb, le-ltb, lt-leb, not_from_true, or_left, or_right}
+use Rattle.std.proofs.Common.{sym, ◌∙◌, ap, subst, arith, inr}
+use Rattle.std.proofs.lemmas.Bool.{eq-eqb, le-ltb, lt-leb, not_from_true, or_left, or_right}
 use Rattle.std.proofs.lemmas.List.{append-nil, append_assoc, length-append, length-drop, length-map}
 use Rattle.std.proofs.lemmas.List.Folds.{list_any-append}
 use Rattle.std.proofs.lemmas.Fmt.{length-decimal-le}
@@ -12,18 +12,18 @@ use Rattle.sg_model.specs.Time.{any_differs}
 use Rattle.sg_model.specs.Values.{value_at}
 use Rattle.sg_time.specs.Spelling.{number_from}
 use Rattle.sg_time.specs.Ticks.{above, below}
-use Rattle.sg_circuit.specs.Circuit.{Circuit, Variable}
+use Rattle.sg_circuit.specs.Circuit.{Variable}
 use Rattle.wave_out.specs.Vcd.{any_variable_differs, code, value_letter, values_at}
 use Rattle.vcd_form.specs.Written.{Declaration, Item, instant, nothing, real, value}
 use Rattle.vcd_model.specs.declared.kinds.VcdKind.{VcdKind}
 use Rattle.vcd_model.specs.declared.kinds.VcdKind.TheVariants.{UnknownCode}
-use Rattle.vcd_model.specs.Faults.{Fault, Header, code_faults, fault, fault_if, inputs_of, item_faults, length_faults, many_digits}
+use Rattle.vcd_model.specs.Faults.{Header, code_faults, fault, fault_if, inputs_of, item_faults, length_faults, many_digits}
 use Rattle.vcd_model.specs.Inputs.{input_of}
 use Rattle.vcd_model.specs.Values.{is_of_code, is_too_large, is_whole, timed, Scale}
 use Rattle.vcd_laws.proofs.Body.{shots}
 use Rattle.vcd_laws.proofs.Entries.{declared_as}
 use Rattle.vcd_laws.proofs.Header.{declared_one}
-use Rattle.vcd_laws.proofs.Items.{Shown, change_item, end_items, ending_items, first_items, items_of, later_items, now_after, now_after-append, now_stays, numbered, shown, shown_with, some_item, value_item}
+use Rattle.vcd_laws.proofs.Items.{Shown, end_items, ending_items, first_items, items_of, later_items, now_after, now_after-append, now_stays, numbered, shown, shown_with, some_item, value_item}
 use Rattle.vcd_laws.proofs.Own.{code_itself, none_coded, numbered-append, one_coded, tops, unplaced_declaration}
 use Rattle.vcd_laws.proofs.Waves.{unplaced}
 

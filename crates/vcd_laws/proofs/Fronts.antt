@@ -1,13 +1,13 @@
 -- What the words of a dump begin with is a front of the dump.
-use Rattle.std.specs.Prelude.{◌≡◌, ℕ, zero, suc, ◌+◌, ◌<◌, ◌⊎◌, Bool, true, false, List, [], ◌∷◌, ◌++◌, length, slice_get, Option, Some, None, Ok, Result, refl}
-use Rattle.std.proofs.Common.{sym, ◌∙◌, ap, subst, arith, inl, inr}
+use Rattle.std.specs.Prelude.{◌≡◌, ℕ, ◌⊎◌, true, false, List, [], ◌∷◌, ◌++◌, length, slice_get, Option, Some, None, Ok, Result, refl}
+use Rattle.std.proofs.Common.{sym, ◌∙◌, ap, subst, inl, inr}
 use Rattle.grammar.specs.Exact.{Exact}
 use Rattle.grammar.specs.Language.{SpellsMany, SpellsOptional}
-use Rattle.grammar.specs.Rule.{Rule, is_of, no_kind, stands}
+use Rattle.grammar.specs.Rule.{is_of, no_kind, stands}
 use Rattle.grammar.specs.States.{SpellsBy}
 use Rattle.grammar.proofs.Extents.{starts_so}
 use Rattle.vcd_form.specs.Kinds.{Kind, definitions_kind, is_definitions, kind_of}
-use Rattle.vcd_form.specs.Rules.{Came, Grammar, body, body_parts, came_after, came_first, front, header, item, item_starts, section_of, section_starts, start}
+use Rattle.vcd_form.specs.Rules.{Came, body, body_parts, came_after, came_first, front, item, item_starts, section_of, section_starts, start}
 use Rattle.vcd_form.specs.Words.{Word}
 use Rattle.vcd_form.specs.Written.{Front, Item, Section}
 

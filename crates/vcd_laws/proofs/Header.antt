@@ -1,22 +1,19 @@
 -- What the header of a written dump declares in the top's scope.
-use Rattle.std.specs.Prelude.{◌≡◌, ◌≢◌, ℕ, ℤ, zero, suc, ◌+◌, ◌<◌, ◌≤◌, ◌==◌, Bool, true, false, if◌then◌else◌, List, [], ◌∷◌, ◌++◌, length, map, filter_map, flat_map, drop, bytes_eq, Option, Some, None, refl}
-use Rattle.std.specs.List.{cons_option, list_any}
+use Rattle.std.specs.Prelude.{◌≡◌, ℕ, zero, suc, ◌+◌, ◌<◌, ◌≤◌, true, false, if◌then◌else◌, List, [], ◌∷◌, ◌++◌, length, filter_map, flat_map, bytes_eq, Option, Some, None, refl}
+use Rattle.std.specs.List.{cons_option}
 use Rattle.std.proofs.Common.{sym, ◌∙◌, ap, subst, arith}
-use Rattle.std.proofs.lemmas.Bool.{false_from_ne_true, or_left}
-use Rattle.std.proofs.lemmas.List.{append-nil, append_assoc, length-append}
-use Rattle.std.proofs.lemmas.List.Concat.{flat_map-append}
+use Rattle.std.proofs.lemmas.Bool.{false_from_ne_true}
+use Rattle.std.proofs.lemmas.List.{append_assoc, length-append}
 use Rattle.std.proofs.lemmas.Slice.Eq.{bytes_eq-Decides}
 use Rattle.sg_circuit.specs.Circuit.{Circuit, Variable, scope_at}
 use Rattle.wave_out.specs.declared.scopes.Visit.{Visit}
 use Rattle.wave_out.specs.declared.scopes.Visit.TheVariants.{Enters, Leaves}
-use Rattle.wave_out.specs.Scopes.{children_of, variables_at, variables_of, visits, visits_in}
+use Rattle.wave_out.specs.Scopes.{children_of, variables_at, visits_in}
 use Rattle.wave_out.specs.Texts.{written_name}
-use Rattle.vcd_form.specs.Written.{Declaration, Section, declares, enters, leaves, remark, timescale}
-use Rattle.vcd_model.specs.Inputs.{bare, declared_at, has_scope, is_at, opens_at, own, path, placed_sections, scopes_after, with_scopes}
-use Rattle.vcd_model.specs.Values.{powers}
-use Rattle.vcd_laws.proofs.Entries.{declared_as, declaration_entry, header_entries, said, visit_entries, Entry}
+use Rattle.vcd_form.specs.Written.{Declaration, Section, declares, enters, leaves}
+use Rattle.vcd_model.specs.Inputs.{bare, declared_at, is_at, own, path, scopes_after, with_scopes}
+use Rattle.vcd_laws.proofs.Entries.{declared_as}
 use Rattle.vcd_laws.proofs.Items.{numbered}
-use Rattle.vcd_laws.proofs.ReadLines.{plain}
 
 -- ---- declarations in scopes of a path, from open scopes on
 

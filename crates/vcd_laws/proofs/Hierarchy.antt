@@ -1,11 +1,11 @@
 -- All instances of a named netlist without faults have names, and so do their variables: the circuit has its names.
-use Rattle.std.specs.Prelude.{◌≡◌, ℕ, zero, suc, ◌+◌, ◌<◌, ◌≤◌, ◌^◌, ℤ, pos, Bool, true, false, IfSome, List, [], ◌∷◌, ◌++◌, bytes_eq, fold, length, map, flat_map, filter_map, int_le, if◌then◌else◌, slice_index_or, Option, Some, None, refl}
+use Rattle.std.specs.Prelude.{◌≡◌, ℕ, zero, suc, ◌+◌, ◌<◌, ◌≤◌, ◌^◌, ℤ, pos, Bool, true, false, IfSome, List, [], ◌∷◌, ◌++◌, bytes_eq, fold, length, map, flat_map, int_le, if◌then◌else◌, slice_index_or, Option, Some, None}
 use Rattle.std.specs.List.{AllByRecursion, enumerate_from}
 use Rattle.std.specs.Option.{option_and_then}
-use Rattle.std.proofs.Common.{sym, ◌∙◌, ap, subst, arith}
-use Rattle.std.proofs.lemmas.List.{get_or-map, length-map}
+use Rattle.std.proofs.Common.{sym, ◌∙◌, subst, arith}
+use Rattle.std.proofs.lemmas.List.{length-map}
 use Rattle.std.proofs.lemmas.List.FromFn.{length-range_with_len}
-use Rattle.sg_circuit.specs.Circuit.{Circuit, Scope, scope_at}
+use Rattle.sg_circuit.specs.Circuit.{Scope}
 use Rattle.sg_circuit.specs.Closed.{width_of}
 use Rattle.sg_circuit.specs.declared.scopes.Range.{Range}
 use Rattle.sg_text.specs.declared.places.Place.{Place}
@@ -13,9 +13,9 @@ use Rattle.sg_delay.specs.declared.corners.Corner.{Corner}
 use Rattle.vl_tree.specs.Tree.{Delay, Module, Named, Part, Source, a_module, a_primitive}
 use Rattle.vl_tree.specs.Tree as tree
 use Rattle.elab_model.specs.Bits.{positions}
-use Rattle.elab_model.specs.Definitions.{as_module, definition_of, module_of, name_of}
+use Rattle.elab_model.specs.Definitions.{as_module, definition_of, name_of}
 use Rattle.elab_model.specs.Delays.{lesser, precision_of, tick_of}
-use Rattle.elab_model.specs.Faults.{fault, fault_if}
+use Rattle.elab_model.specs.Faults.{fault_if}
 use Rattle.elab_model.specs.Hierarchy.{Child, Instance, Step, child_of, child_of_member, children_at, children_from, children_in, instances, instances_from, levels_below_top, size, text_of, top_instance}
 use Rattle.elab_model.specs.Homes.{home_of}
 use Rattle.elab_model.specs.Members.{Member, assignment, assignment_to, check, gate, instance, member_of_item, member_values, members, members_of_item, path, supply, supply_value}

@@ -1,5 +1,5 @@
 -- The items of a run's dump, without their places, and what they give to inputs.
-use Rattle.std.specs.Prelude.{◌≡◌, ◌≢◌, ℕ, zero, suc, ◌+◌, ◌<◌, ◌≤◌, ◌==◌, ◌&&◌, ◌||◌, ◌⊎◌, Bool, true, false, not, if◌then◌else◌, All, List, [], ◌∷◌, ◌++◌, ◌-◌, length, map, filter, flat_map, zip, replicate, decimal, Option, Some, None, refl}
+use Rattle.std.specs.Prelude.{◌≡◌, ℕ, suc, ◌==◌, ◌&&◌, ◌||◌, ◌⊎◌, Bool, true, false, not, if◌then◌else◌, All, List, [], ◌∷◌, ◌++◌, ◌-◌, length, map, filter, flat_map, zip, replicate, decimal, Option, Some, None, refl}
 use Rattle.std.specs.List.{AllByRecursion, list_any}
 use Rattle.std.proofs.Common.{sym, ◌∙◌, ap, subst, arith, inl, inr}
 use Rattle.std.proofs.lemmas.Bool.{and_from, eq-eqb, eqb-true, or_left, or_right}
@@ -13,7 +13,6 @@ use Rattle.sg_logic.specs.Values.{is_same}
 use Rattle.sg_model.specs.Values.{value_at}
 use Rattle.sg_model.specs.Machine.{Snapshot}
 use Rattle.sg_model.specs.Time.{any_differs}
-use Rattle.sg_model.proofs.PlacedLaws.{same-true}
 use Rattle.sg_model.proofs.PlacingSteps.{same-self}
 use Rattle.sg_time.specs.Spelling.{number_from}
 use Rattle.sg_circuit.specs.Circuit.{Circuit, Variable}
@@ -21,9 +20,8 @@ use Rattle.sg_stimulus.specs.Applied.{IsInput}
 use Rattle.wave_out.specs.Vcd.{any_variable_differs, code, value_letter, values_at}
 use Rattle.vcd_form.specs.Written.{Declaration, Item, instant, nothing, real, value}
 use Rattle.vcd_model.specs.Stimulus.{is_given}
-use Rattle.vcd_model.specs.Values.{bits_of, filler, given, given_by, given_to, is_of_code, timed, value_of, Given}
+use Rattle.vcd_model.specs.Values.{bits_of, filler, given_by, given_to, is_of_code, timed, value_of, Given}
 use Rattle.run_laws.specs.Inputs.{Changes}
-use Rattle.vcd_laws.proofs.Steps.{GivesAt, ClimbsFrom}
 
 -- ---- the items
 

@@ -1,5 +1,5 @@
 -- The dump of a run, read as a stimulus, makes the run again: of a circuit whose names, inputs and drivers are in order.
-use Rattle.std.specs.Prelude.{◌≡◌, ℕ, ℤ, pos, negsuc, ◌-ℤ◌, zero, suc, ◌+◌, ◌*◌, ◌^◌, ◌<◌, ◌≤◌, Bool, true, false, List, [], ◌∷◌, ◌++◌, length, map, filter_map, flat_map, codes, decimal, Option, Some, None, refl}
+use Rattle.std.specs.Prelude.{◌≡◌, ℕ, ℤ, pos, ◌-ℤ◌, zero, suc, ◌+◌, ◌*◌, ◌^◌, ◌<◌, ◌≤◌, true, List, [], ◌∷◌, ◌++◌, length, map, flat_map, codes, decimal, None, refl}
 use lib.IntN.{+ℤ_invr}
 use Rattle.std.specs.List.{AllByRecursion}
 use Rattle.std.proofs.Common.{sym, ◌∙◌, ap, subst, arith}
@@ -21,13 +21,13 @@ use Rattle.wave_out.specs.Texts.{written_name}
 use Rattle.wave_out.specs.Vcd.{code, dump, dump_text, ending, header, vcd_body, vcd_text}
 use Rattle.vcd_form.specs.Rules.{came_first}
 use Rattle.vcd_form.specs.Words.{words, Word}
-use Rattle.vcd_form.specs.Written.{Declaration, Item, Section, declares, enters, leaves, remark, timescale}
+use Rattle.vcd_form.specs.Written.{Item, Section, declares, enters, leaves, remark, timescale}
 use Rattle.vcd_model.specs.Faults.{Header, header_of}
 use Rattle.vcd_model.specs.Inputs.{all_declared, declared, own}
 use Rattle.vcd_model.specs.Reading.{IsRead, most_bytes}
 use Rattle.vcd_model.specs.Stimulus.{wave_stimulus}
 use Rattle.vcd_model.specs.Values.{scale_of}
-use Rattle.run_laws.specs.Inputs.{AreSameRuns, HasDrivers, TellsRun, nets_after}
+use Rattle.run_laws.specs.Inputs.{AreSameRuns, HasDrivers, nets_after}
 use Rattle.run_laws.proofs.Circuits.{same_runs}
 use Rattle.vcd_laws.specs.Again.{MakesAgain, dump_of}
 use Rattle.vcd_laws.proofs.Body.{shots}
@@ -45,8 +45,8 @@ use Rattle.vcd_laws.proofs.Rows.{Spelled, are_words, bytes_of_words, pieces, row
 use Rattle.vcd_laws.proofs.Snapshots.{lasts_are}
 use Rattle.vcd_laws.proofs.Standing.{IsFaultless, no_fault, own_fine}
 use Rattle.vcd_laws.proofs.Stands.{stand_all}
-use Rattle.vcd_laws.proofs.Top.{IsHeader, are_own, header_may, header_said, header_sections, scope_there, unit_is, variables_are}
-use Rattle.vcd_laws.proofs.Waves.{IsOfRun, Makes, makes, unplaced}
+use Rattle.vcd_laws.proofs.Top.{IsHeader, are_own, header_may, header_said, scope_there, unit_is, variables_are}
+use Rattle.vcd_laws.proofs.Waves.{IsOfRun, Makes, makes}
 
 -- ---- all variables of the header
 

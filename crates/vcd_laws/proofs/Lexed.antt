@@ -1,7 +1,7 @@
 -- The tokens of a netlist's files are good.
-use Rattle.std.specs.Prelude.{◌≡◌, ℕ, zero, suc, ◌+◌, ◌^◌, ◌==◌, ◌||◌, not, Bool, true, false, IfSome, List, [], ◌∷◌, ◌++◌, drop, length, take, Option, Some, None, Result, Ok, Err, slice_get, if◌then◌else◌, refl}
+use Rattle.std.specs.Prelude.{◌≡◌, ℕ, zero, suc, ◌+◌, ◌^◌, ◌==◌, ◌||◌, not, Bool, true, false, IfSome, List, [], ◌∷◌, drop, length, take, Option, Some, None, Result, Ok, Err, slice_get, if◌then◌else◌}
 use Rattle.std.specs.List.{AllByRecursion, prefix_len}
-use Rattle.std.proofs.Common.{sym, ◌∙◌, ap, subst, arith}
+use Rattle.std.proofs.Common.{sym, subst}
 use Rattle.sg_text.specs.Names.{is_name_byte}
 use Rattle.sg_text.specs.declared.places.Place.{Place}
 use Rattle.vl_pieces.specs.Bytes.{is_blank}
@@ -10,9 +10,9 @@ use Rattle.vl_pieces.specs.Modes.{Piece}
 use Rattle.vl_pieces.specs.declared.pieces.Class.{Class}
 use Rattle.vl_pieces.specs.declared.pieces.Class.TheVariants as class
 use Rattle.vl_token.specs.Tokens.{Lexeme}
-use Rattle.vl_lex.specs.Directives.{directive_of, implicit_from, is_conditional, name_of, opens_branch, or_bad_directive, outcome_of_branches, outcome_of_directive, scale_of, test_of, with_branch, with_branches, with_macro, with_next_text, without_branch, words_wanted}
+use Rattle.vl_lex.specs.Directives.{directive_of, implicit_from, is_conditional, name_of, or_bad_directive, outcome_of_branches, outcome_of_directive, scale_of, test_of, with_macro, with_next_text, without_branch, words_wanted}
 use Rattle.vl_lex.specs.Effects.{Effect, apply_or_wait, begins_arguments, begins_name, comes_to, define_effect, define_effect_behind, defines, effect, effect_at, effect_of, expands, fault_in, first_words, gap_outcome, is_define, is_use, line_effect, mode_at, place_at, stops, taken_piece, tick_effect, tokens_at, untaken_outcome, use_effect, with_word, word_effect}
-use Rattle.vl_lex.specs.Lexes.{Expands, IsRead, Leads, Lexes, LexesFrom, LexesUnless, Reads, Then, at_end, at_file_end, file_end, or_state, too_large}
+use Rattle.vl_lex.specs.Lexes.{Expands, Leads, Lexes, LexesFrom, LexesUnless, Reads, Then, at_end, at_file_end, file_end, or_state, too_large}
 use Rattle.vl_lex.specs.State.{Fault, Outcome, State, Waiting, Word, fault, first_state, is_looked_at, is_taken, waits}
 use Rattle.vl_lex.specs.declared.branches.Branch.{Branch}
 use Rattle.vl_lex.specs.declared.directives.Directive.{Directive}

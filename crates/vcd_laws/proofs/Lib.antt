@@ -32,3 +32,4 @@ pub mod Ordered
 pub mod Worded
 pub mod Meant
 pub mod Lexed
+pub mod Law

@@ -1,8 +1,8 @@
 -- Tokens of pieces are good: names are words, numbers are short, modules have scales.
-use Rattle.std.specs.Prelude.{◌≡◌, ◌<◌, ◌≤◌, ◌^◌, ◌*◌, ◌+◌, ℕ, ℤ, pos, negsuc, ◌-ℤ◌, int_lt, nat_lt, Bool, true, false, IfSome, codes, filter, List, [], ◌∷◌, ◌++◌, drop, length, Option, Some, None, unwrap_or, Result, Ok, Err, if◌then◌else◌, refl}
+use Rattle.std.specs.Prelude.{◌≡◌, ◌<◌, ◌≤◌, ◌^◌, ◌*◌, ◌+◌, ℕ, ℤ, pos, negsuc, ◌-ℤ◌, int_lt, nat_lt, Bool, true, false, IfSome, codes, List, [], ◌∷◌, ◌++◌, length, Option, Some, None, unwrap_or, Ok, Err, if◌then◌else◌, refl}
 use Rattle.std.specs.List.{AllByRecursion, list_all}
 use Rattle.std.specs.Char.{is_ascii_digit}
-use Rattle.std.proofs.Common.{sym, ◌∙◌, ap, subst, arith, inl, inr}
+use Rattle.std.proofs.Common.{subst, arith, inl, inr}
 use Rattle.std.proofs.Math.Nat.{pow-le-pow_right}
 use Rattle.std.proofs.lemmas.Bool.{cases_lt, lt-ltb}
 use Rattle.sg_logic.specs.declared.values.Value.{Value}
@@ -16,13 +16,13 @@ use Rattle.sg_time.specs.Reading.{parts_of, said_of}
 use Rattle.sg_time.specs.Spelling.{Spelling, digits_of, number_from, number_of, significant_digits}
 use Rattle.sg_time.specs.declared.decimal.TimeError.TheVariants as error
 use Rattle.vl_pieces.specs.Bytes.{same_bytes}
-use Rattle.vl_pieces.specs.Meanings.{cell_meaning, edge_value, meaning_of, name_meaning, number_meaning, pair_from, pair_meaning, sized_meaning, symbol_meaning, with_bits, word_meaning}
+use Rattle.vl_pieces.specs.Meanings.{cell_meaning, edge_value, meaning_of, number_meaning, pair_from, pair_meaning, sized_meaning, symbol_meaning, with_bits, word_meaning}
 use Rattle.vl_pieces.specs.Sized.{Sized, sized_of, width_of}
 use Rattle.vl_pieces.specs.declared.pieces.Class.{Class}
 use Rattle.vl_pieces.specs.declared.pieces.Class.TheVariants as class
 use Rattle.vl_token.specs.Constants.{own_bits}
 use Rattle.vl_token.specs.Symbols.{symbol_of}
-use Rattle.vl_token.specs.Tokens.{Lexeme, Meaning, Settings, Timescale}
+use Rattle.vl_token.specs.Tokens.{Meaning, Settings, Timescale}
 use Rattle.vl_token.specs.declared.symbols.Symbol.{Symbol}
 use Rattle.vl_lex.specs.Directives.{power_of, scale_from, scale_of, tens_of, unit_of}
 use Rattle.vl_lex.specs.Effects.{tokens_at}

@@ -1,9 +1,9 @@
 -- What names, ranges and scales are in trees of netlists: words without blanks, ends of few digits, powers of ten from 100 s down to 1 fs.
-use Rattle.std.specs.Prelude.{◌≡◌, ℕ, ℤ, pos, ◌-ℤ◌, ◌<◌, ◌^◌, Bool, true, IfSome, List, Option, Some, None}
+use Rattle.std.specs.Prelude.{◌≡◌, ℕ, ℤ, pos, ◌-ℤ◌, ◌<◌, ◌^◌, true, IfSome}
 use Rattle.std.specs.List.{AllByRecursion}
-use Rattle.vl_token.specs.Tokens.{Lexeme, Meaning, Settings, module_word, word_token, left_out_token, name_token, system_token, other_token, number_token, sized_token, unsized_token, pair_token, symbol_token, byte_token}
+use Rattle.vl_token.specs.Tokens.{Lexeme, Meaning, module_word, word_token, left_out_token, name_token, system_token, other_token, number_token, sized_token, unsized_token, pair_token, symbol_token, byte_token}
 use Rattle.vl_tree.specs.declared.names.Range.{Range}
-use Rattle.vl_tree.specs.Tree.{Check, Connections, Expression, Expressions, GateInstance, Head, HeadPort, Instance, Item, Join, Module, Named, NamedConnection, NetName, Part, PortDeclaration, Source, SpecifyBlock, SpecifyItem, a_check, a_module, a_path, a_primitive, assigns, by_name, by_order, concatenation, declared_port, gates, head_declarations, head_names, instances, named_port, nets, no_more, one_more, ports, pulse_style, registers, signal, sized, specify_block, specparams, supplies}
+use Rattle.vl_tree.specs.Tree.{Check, Connections, Expression, Expressions, GateInstance, Head, HeadPort, Instance, Item, Join, Module, Named, NamedConnection, NetName, Part, PortDeclaration, SpecifyItem, a_check, a_module, a_path, a_primitive, assigns, by_name, by_order, concatenation, declared_port, gates, head_declarations, head_names, instances, named_port, nets, no_more, one_more, ports, pulse_style, registers, signal, sized, specify_block, specparams, supplies}
 use Rattle.elab_model.specs.Members.{delayed_names}
 use Rattle.vcd_laws.proofs.Decimals.{IsShort}
 use Rattle.vcd_laws.proofs.Rows.{is_word}

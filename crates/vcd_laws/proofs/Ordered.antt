@@ -1,5 +1,5 @@
 -- A circuit that is elaborated, or alike, is ordered, where the tree is named.
-use Rattle.std.specs.Prelude.{◌≡◌, ℕ, Bool, true, false, ◌&&◌, not, if◌then◌else◌, IfSome, List, [], ◌∷◌, ◌++◌, bytes_eq, filter, filter_map, length, Option, Result, Some, None, Ok, Err, refl}
+use Rattle.std.specs.Prelude.{◌≡◌, ℕ, Bool, true, false, ◌&&◌, not, if◌then◌else◌, IfSome, List, [], ◌∷◌, bytes_eq, filter, length, Option, Result, Some, None, Ok, Err, refl}
 use Rattle.std.specs.List.{AllByRecursion, IsAmong}
 use Rattle.std.specs.Option.{option_and_then}
 use Rattle.std.proofs.Common.{sym, ◌∙◌, ap, subst, arith}
@@ -9,7 +9,6 @@ use Rattle.vl_token.specs.Tokens.{Lexeme}
 use Rattle.vl_tree.specs.Modules.{source}
 use Rattle.vl_tree.specs.Tree.{Module, Part, Source, a_module, a_primitive}
 use Rattle.elab_model.specs.Definitions.{as_module, definition_of, module_of, name_of}
-use Rattle.elab_model.specs.Faults.{Fault}
 use Rattle.elab_model.specs.HierarchyFaults.{two_definitions}
 use Rattle.elab_model.specs.Tops.{candidates, has_instance, modules, only_one, or_no_top, top_of}
 use Rattle.elab_model.specs.declared.kinds.ElabKind.{ElabKind}

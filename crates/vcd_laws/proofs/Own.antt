@@ -1,12 +1,11 @@
 -- How the variables of a run's dump are read: those of the top's inputs as such, all others not at all.
-use Rattle.std.specs.Prelude.{◌≡◌, ◌≢◌, ℕ, ℤ, zero, suc, ◌+◌, ◌<◌, ◌≤◌, ◌==◌, ◌&&◌, ◌⊎◌, nat_lt, Bool, true, false, cond, if◌then◌else◌, All, List, [], ◌∷◌, ◌++◌, length, map, filter, filter_map, flat_map, find, zip, bytes_eq, option_to_list, Option, Some, None, refl}
+use Rattle.std.specs.Prelude.{◌≡◌, ◌≢◌, ℕ, suc, ◌+◌, ◌<◌, ◌≤◌, ◌&&◌, ◌⊎◌, nat_lt, Bool, true, false, cond, if◌then◌else◌, All, List, [], ◌∷◌, ◌++◌, length, map, filter, flat_map, find, zip, bytes_eq, option_to_list, Some, None, refl}
 use Rattle.std.specs.List.{AllByRecursion, list_all}
 use Rattle.std.proofs.Common.{sym, ◌∙◌, ap, subst, arith, inl, inr}
 use Rattle.std.proofs.lemmas.Bool.{and_parts, eq-eqb, ltb-true}
 use Rattle.std.proofs.lemmas.List.{append-nil, append_assoc, length-append}
 use Rattle.std.proofs.lemmas.List.Elements.{All-cons, All-nil, filter-append}
 use Rattle.std.proofs.lemmas.Slice.Eq.{bytes_eq-Decides}
-use Rattle.sg_logic.specs.declared.values.Value.{Value}
 use Rattle.sg_circuit.specs.declared.nets.Driver.{Driver}
 use Rattle.sg_circuit.specs.declared.nets.Driver.TheVariants as driver
 use Rattle.sg_circuit.specs.Circuit.{Circuit, Variable, net_at, scope_at}
@@ -14,7 +13,7 @@ use Rattle.sg_stimulus.specs.Applied.{IsInput}
 use Rattle.stim_read.specs.Inputs.{input_named, is_input, is_input_net, is_stimulated, nets_of}
 use Rattle.wave_out.specs.Vcd.{code}
 use Rattle.vcd_form.specs.Written.{Declaration}
-use Rattle.vcd_model.specs.Inputs.{called, index_of, input_of, nets_at, of_width}
+use Rattle.vcd_model.specs.Inputs.{input_of, nets_at, of_width}
 use Rattle.vcd_model.specs.Values.{bits_given, bits_of, given_to, is_of_code}
 use Rattle.vcd_laws.proofs.Codes.{codes_apart}
 use Rattle.vcd_laws.proofs.Entries.{declared_as, range_said}

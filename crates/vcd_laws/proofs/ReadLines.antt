@@ -1,25 +1,23 @@
 -- Lines of a dump spell their sections and items.
-use Rattle.std.specs.Prelude.{◌≡◌, ◌≢◌, ℕ, ℤ, pos, ◌-ℤ◌, ◌+ℤ◌, nat_abs, zero, suc, ◌+◌, ◌<◌, ◌≤◌, ◌/◌, ◌%◌, ◌==◌, ◌&&◌, ◌||◌, not, nat_lt, Bool, true, false, if◌then◌else◌, List, [], ◌∷◌, ◌++◌, length, map, flat_map, codes, bytes_eq, Option, Some, None, refl}
-use Rattle.std.specs.List.{AllByRecursion, list_all}
+use Rattle.std.specs.Prelude.{◌≡◌, ◌≢◌, ℕ, ℤ, pos, ◌-ℤ◌, ◌+ℤ◌, suc, ◌+◌, ◌<◌, ◌/◌, ◌%◌, ◌&&◌, not, nat_lt, Bool, true, false, List, [], ◌∷◌, length, map, codes, bytes_eq, Option, Some, None, refl}
+use Rattle.std.specs.List.{list_all}
 use Rattle.std.specs.Ordering.{int_eq}
 use Rattle.std.proofs.Common.{sym, ◌∙◌, ap, subst, arith, inl, inr}
 use Rattle.std.proofs.lemmas.Bool.{agree_below_at, and_from, and_parts, lt-ltb}
 use Rattle.std.proofs.lemmas.Bool.Decides.{Decides-int_eq}
-use Rattle.grammar.specs.Language.{SpellsMany}
 use Rattle.grammar.specs.Rule as rule
 use Rattle.grammar.specs.Rule.{◌∙∙◌, ◌▸◌, ◌◂◌, mapped, only_if}
-use Rattle.grammar.specs.States.{SpellsBy}
 use Rattle.sg_time.specs.Spelling.{number_from}
 use Rattle.sg_logic.specs.declared.values.Value.{Value}
 use Rattle.sg_logic.specs.declared.values.Value.TheVariants.{Zero, One, X, Z}
 use Rattle.wave_out.specs.Vcd.{number_of, unit_of, value_letter}
-use Rattle.vcd_form.specs.Kinds.{Kind, is_any, is_code, is_code_text, is_definitions, is_end, is_idle, is_range, is_remark, is_scalar, is_scale, is_scope, is_time, is_timescale, is_time_text, is_unit, is_upscope, is_value_byte, is_var, is_vector, is_width, kind_of, kind_of_text, scalar_kind, scale_power, time_kind, unit_power, vector_kind}
-use Rattle.vcd_form.specs.Rules.{Came, Grammar, behind_first, came_after, declaration_of, head_of, item, item_parts, mark, number_of as number_word, placed, power, power_of, power_parts, range_rest, remark_of, remark_parts, remark_rest, scope_parts, scope_rest, scope_section, section_of, section_parts, start, start_parts, text, timescale_parts, timescale_rest, timescale_section, upscope_parts, upscope_section, variable_parts, variable_rest, variable_section, vector_of, width}
+use Rattle.vcd_form.specs.Kinds.{is_any, is_code, is_code_text, is_end, is_idle, is_range, is_remark, is_scalar, is_scale, is_scope, is_time, is_timescale, is_time_text, is_unit, is_upscope, is_value_byte, is_var, is_vector, is_width, kind_of, kind_of_text, scale_power, unit_power}
+use Rattle.vcd_form.specs.Rules.{Came, Grammar, behind_first, declaration_of, head_of, item, item_parts, mark, number_of as number_word, placed, power, power_of, power_parts, range_rest, remark_of, remark_parts, remark_rest, scope_parts, scope_rest, scope_section, section_of, section_parts, text, timescale_parts, timescale_rest, timescale_section, upscope_parts, upscope_section, variable_parts, variable_rest, variable_section, vector_of, width}
 use Rattle.vcd_form.specs.Words.{Word}
-use Rattle.vcd_form.specs.Written.{Declaration, Item, Section, declares, enters, instant, leaves, nothing, real, remark, timescale, value}
-use Rattle.vcd_laws.proofs.Stands.{At, Stand, spell_both, spell_left, spell_many_append, spell_mapped, spell_mark, spell_marks, spell_placed, spell_right, spell_text, spell_token, stand_first, stand_rest}
+use Rattle.vcd_form.specs.Written.{Item, Section, declares, enters, instant, leaves, nothing, remark, timescale, value}
+use Rattle.vcd_laws.proofs.Stands.{At, Stand, spell_both, spell_left, spell_mapped, spell_mark, spell_marks, spell_placed, spell_right, spell_text, spell_token}
 use Rattle.vcd_laws.proofs.Waves.{unplaced}
-use Rattle.vcd_laws.proofs.WordKinds.{any_word, code_word, range_word, scalar_word, text_word, time_word, vector_word}
+use Rattle.vcd_laws.proofs.WordKinds.{any_word, scalar_word, time_word, vector_word}
 
 -- ---- sections
 

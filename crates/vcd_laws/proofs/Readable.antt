@@ -14,16 +14,16 @@ use Rattle.sg_circuit.specs.declared.scopes.Range.{Range}
 use Rattle.sg_circuit.specs.Circuit.{Circuit, Scope, Variable, scope_at}
 use Rattle.wave_out.specs.declared.scopes.Visit.{Visit}
 use Rattle.wave_out.specs.declared.scopes.Visit.TheVariants.{Enters, Leaves}
-use Rattle.wave_out.specs.Scopes.{children_from, children_of, is_parent, variables_at, variables_of, visits, visits_in}
+use Rattle.wave_out.specs.Scopes.{children_from, children_of, is_parent, variables_at, variables_of, visits_in}
 use Rattle.wave_out.specs.Texts.{written_name}
-use Rattle.wave_out.specs.Vcd.{any_variable_differs, code, number_of, unit_of, value_letter, values_at}
+use Rattle.wave_out.specs.Vcd.{any_variable_differs, code, value_letter, values_at}
 use Rattle.sg_time.specs.Spelling.{number_from}
 use Rattle.vcd_form.specs.Kinds.{is_any, kind_of_text}
 use Rattle.vcd_form.specs.Written.{Item, Section, declares, timescale, value}
 use Rattle.vcd_form.specs.Words.{is_blank}
 use Rattle.vcd_laws.proofs.Codes.{code_is_text, code_is_word, code_not_end}
 use Rattle.vcd_laws.proofs.Decimals.{IsShort, decimal_number, decimal_word, range_is, range_is_word, time_is_word, time_text, width_word}
-use Rattle.vcd_laws.proofs.Entries.{Entry, Lines, change_entry, declaration_entry, declaration_words, declared_as, definitions_words, dump_entry, end_entry, end_lines, first_entries, header_entries, later_entries, leaves_entry, lines_in, lines_of, lines_with, range_said, range_word, range_words, scope_entry, scope_words, text_of, time_entry, timescale_entry, timescale_words, type_word, value_entry, value_words, version_entry, visit_entries, words_of}
+use Rattle.vcd_laws.proofs.Entries.{Entry, Lines, declaration_entry, declaration_words, declared_as, dump_entry, end_entry, end_lines, first_entries, header_entries, later_entries, leaves_entry, lines_in, lines_of, lines_with, range_said, range_word, range_words, scope_entry, text_of, time_entry, timescale_entry, timescale_words, type_word, value_entry, value_words, version_entry, visit_entries, words_of}
 use Rattle.vcd_laws.proofs.Header.{count_of}
 use Rattle.vcd_laws.proofs.Items.{all_append, numbered}
 use Rattle.vcd_laws.proofs.Names.{written_not_end, written_word}

@@ -1,21 +1,19 @@
 -- What circuits share that differ in delays and limits alone.
-use Rattle.std.specs.Prelude.{◌≡◌, ℕ, ℤ, pos, suc, ◌<◌, ◌&&◌, nat_lt, Bool, true, false, All, IfSome, List, [], ◌∷◌, length, map, slice_index_or, refl}
+use Rattle.std.specs.Prelude.{◌≡◌, ℕ, pos, ◌<◌, ◌&&◌, nat_lt, true, false, All, IfSome, List, [], ◌∷◌, length, map, slice_index_or, refl}
 use Rattle.std.specs.List.{AllByRecursion, list_all}
-use Rattle.std.proofs.Common.{sym, ◌∙◌, ap, subst, arith, inl, inr}
+use Rattle.std.proofs.Common.{sym, ◌∙◌, ap, subst, inl, inr}
 use Rattle.std.proofs.lemmas.List.{get_or-map, length-map}
 use Rattle.std.proofs.lemmas.List.Elements.{All-weaker}
-use Rattle.std.specs.Prelude.{◌⊎◌, ◌++◌, Option, Some, None}
-use Rattle.sg_circuit.specs.declared.checks.Check.{Check}
-use Rattle.sg_circuit.specs.declared.nets.Driver.TheVariants as driver
+use Rattle.std.specs.Prelude.{Option, Some, None}
 use Rattle.sg_circuit.specs.declared.nets.Driver.TheVariants.{Nobody}
 use Rattle.sg_circuit.specs.declared.nets.Net.{Net}
 use Rattle.sg_circuit.specs.Circuit.{Circuit, Element, Pass, Scope, Variable, element_at, net_at}
 use Rattle.sg_circuit.specs.Closed.{IsClosed, IsNotifier}
 use Rattle.sg_stimulus.specs.Applied.{IsInput}
 use Rattle.late_limits.specs.Adjusted.{IsAdjustedFrom, late_element}
-use Rattle.stim_read.specs.Inputs.{is_input, is_input_net, is_stimulated}
+use Rattle.stim_read.specs.Inputs.{is_input, is_stimulated}
 use Rattle.run_laws.specs.Inputs.{HasDrivers}
-use Rattle.vcd_laws.specs.Alike.{AreAlike, plain, plain_element}
+use Rattle.vcd_laws.specs.Alike.{AreAlike, plain_element}
 use Rattle.vcd_laws.proofs.Join.{IsOrdered}
 use Rattle.vcd_laws.proofs.Own.{HasInputs, IsCovered, tops}
 use Rattle.vcd_laws.proofs.Readable.{HasNames, IsWritten}

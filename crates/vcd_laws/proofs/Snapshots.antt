@@ -1,6 +1,6 @@
 -- The last snapshots of a whole run, by its nets after so many times.
-use Rattle.std.specs.Prelude.{◌≡◌, ℕ, zero, suc, ◌+◌, ◌<◌, ◌==◌, List, [], ◌∷◌, length, Some, None, refl}
-use Rattle.std.proofs.Common.{sym, ◌∙◌, ap, subst, arith}
+use Rattle.std.specs.Prelude.{◌≡◌, ℕ, zero, suc, ◌+◌, ◌==◌, List, ◌∷◌, length, Some, None, refl}
+use Rattle.std.proofs.Common.{sym, ◌∙◌, ap, arith}
 use Rattle.sg_logic.specs.declared.values.Value.{Value}
 use Rattle.sg_model.specs.Machine.{Machine, Snapshot}
 use Rattle.sg_model.specs.Time.{Run, Ended, Whole, Spent, time_of}
@@ -11,7 +11,7 @@ use Rattle.sg_circuit.specs.Circuit.{Circuit}
 use Rattle.sg_stimulus.specs.Stimulus.{Stimulus}
 use Rattle.sim_rounds.specs.Setting.{setting_of}
 use Rattle.sim_rounds.specs.Simulated.{run_of_circuit}
-use Rattle.sim_times.specs.Runs.{Setting, run_for, start_of}
+use Rattle.sim_times.specs.Runs.{Setting, start_of}
 use Rattle.run_laws.specs.Inputs.{nets_after}
 use Rattle.run_laws.proofs.Circuits.{Reached, nets_reached, reached_next, reached_start}
 use Rattle.vcd_laws.proofs.Body.{shots}

@@ -1,17 +1,17 @@
 -- No fault stands in a dump whose sections and items have none.
-use Rattle.std.specs.Prelude.{◌≡◌, ℕ, zero, suc, ◌+◌, ◌^◌, ◌<◌, ◌≤◌, not, Bool, true, false, if◌then◌else◌, List, [], ◌∷◌, ◌++◌, length, map, filter_map, flat_map, Option, Some, None, refl}
-use Rattle.std.specs.List.{AllByRecursion, IsAmong, cons_option}
+use Rattle.std.specs.Prelude.{◌≡◌, ℕ, suc, ◌+◌, ◌<◌, ◌≤◌, not, Bool, true, false, if◌then◌else◌, List, [], ◌∷◌, ◌++◌, length, map, flat_map, Option, Some, None, refl}
+use Rattle.std.specs.List.{AllByRecursion, IsAmong}
 use Rattle.std.proofs.Common.{sym, ◌∙◌, ap, subst, arith}
 use Rattle.std.proofs.lemmas.Bool.{not_from_true}
 use Rattle.std.proofs.lemmas.List.{append-nil, append_assoc, length-append}
 use Rattle.std.proofs.lemmas.List.Concat.{flat_map-append}
-use Rattle.sg_circuit.specs.Circuit.{Circuit, Variable, scope_at}
-use Rattle.vcd_form.specs.Rules.{dump, front}
+use Rattle.sg_circuit.specs.Circuit.{Circuit, Variable}
+use Rattle.vcd_form.specs.Rules.{dump}
 use Rattle.vcd_form.specs.Words.{words}
 use Rattle.vcd_form.specs.Written.{Declaration, Front, Item, Section}
 use Rattle.stim_read.specs.Inputs.{is_input}
 use Rattle.vcd_model.specs.declared.kinds.VcdKind.TheVariants.{NoScope}
-use Rattle.vcd_model.specs.Faults.{Fault, Header, body_faults, fault_if, front_faults, header_of, item_faults, variable_faults, width_faults}
+use Rattle.vcd_model.specs.Faults.{Fault, body_faults, fault_if, front_faults, header_of, item_faults, variable_faults, width_faults}
 use Rattle.vcd_model.specs.Inputs.{has_scope, input_of, nets_at, own}
 use Rattle.vcd_model.specs.Reading.{FaultStands, most_bytes, too_long, of_form, of_front}
 use Rattle.vcd_model.specs.Values.{timed}

@@ -1,13 +1,11 @@
 -- Words that stand from a place on, and what they spell by the ways of building a rule.
-use Rattle.std.specs.Prelude.{◌≡◌, ℕ, zero, suc, ◌+◌, Bool, true, false, List, [], ◌∷◌, ◌++◌, length, map, slice_get, Option, Some, None, refl}
+use Rattle.std.specs.Prelude.{◌≡◌, ℕ, suc, ◌+◌, Bool, true, List, [], ◌∷◌, ◌++◌, length, map, slice_get, Some, refl}
 use Rattle.std.specs.List.{AllByRecursion}
 use Rattle.std.proofs.Common.{◌∙◌, ap, subst, arith}
-use Rattle.std.proofs.lemmas.List.{append_assoc, append-nil}
+use Rattle.std.proofs.lemmas.List.{append_assoc}
 use Rattle.grammar.specs.Language.{Language, SpellsMany}
-use Rattle.grammar.specs.Rule as rule
 use Rattle.grammar.specs.Rule.{◌∙∙◌, ◌▸◌, ◌◂◌, mapped}
-use Rattle.grammar.specs.States.{SpellsBy}
-use Rattle.vcd_form.specs.Kinds.{Kind, kind_of, kind_of_text}
+use Rattle.vcd_form.specs.Kinds.{Kind, kind_of_text}
 use Rattle.vcd_form.specs.Rules.{Grammar, mark, placed, text, token}
 use Rattle.vcd_form.specs.Words.{Word}
 

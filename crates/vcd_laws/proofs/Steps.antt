@@ -1,14 +1,14 @@
 -- The steps of a dump's stimulus, by what the dump gives at each time.
-use Rattle.std.specs.Prelude.{◌≡◌, ◌≢◌, ℕ, zero, suc, ◌+◌, ◌<◌, ◌≤◌, ◌==◌, ◌&&◌, ◌||◌, ◌⊎◌, Bool, true, false, not, cond, if◌then◌else◌, All, List, [], ◌∷◌, length, map, filter, filter_map, Option, Some, None, option_map, refl}
+use Rattle.std.specs.Prelude.{◌≡◌, ◌≢◌, ℕ, zero, suc, ◌+◌, ◌<◌, ◌≤◌, ◌==◌, ◌&&◌, ◌||◌, ◌⊎◌, Bool, true, false, not, cond, if◌then◌else◌, List, [], ◌∷◌, length, map, filter, filter_map, Option, Some, None, option_map, refl}
 use Rattle.std.specs.List.{AllByRecursion, cons_option, list_any, range_with_len}
 use Rattle.std.proofs.Common.{sym, ◌∙◌, ap, subst, arith, inl, inr}
-use Rattle.std.proofs.lemmas.Bool.{and_parts, eq-eqb, eqb-true, eqb-false, ne_eqb, or_from, or_left, or_parts, or_right}
-use Rattle.std.proofs.lemmas.List.Elements.{All-cons, All-from_recursion, All-nil}
+use Rattle.std.proofs.lemmas.Bool.{and_parts, eq-eqb, eqb-true, eqb-false, or_from, or_left, or_parts, or_right}
+use Rattle.std.proofs.lemmas.List.Elements.{All-from_recursion}
 use Rattle.sg_logic.specs.declared.values.Value.{Value}
 use Rattle.sg_model.specs.Values.{value_at}
 use Rattle.sg_circuit.specs.Circuit.{Circuit}
-use Rattle.sg_stimulus.specs.Applied.{IsBefore, IsInput, SetsNot, SetsOnce, StepsRise}
-use Rattle.sg_stimulus.specs.Stimulus.{Step, sets_at}
+use Rattle.sg_stimulus.specs.Applied.{IsInput, SetsOnce, StepsRise}
+use Rattle.sg_stimulus.specs.Stimulus.{sets_at}
 use Rattle.run_laws.specs.Inputs.{IsSetBy, TellInputs}
 use Rattle.vcd_model.specs.Stimulus.{is_given, last, last_given, once, step_at, steps_of}
 use Rattle.vcd_model.specs.Values.{ticks, Given, Scale}

@@ -1,8 +1,8 @@
 -- The header of a run's dump, read: its unit is the tick, and the top's scope declares the top's variables.
-use Rattle.std.specs.Prelude.{◌≡◌, ℕ, ℤ, pos, ◌-ℤ◌, zero, suc, ◌+◌, ◌<◌, ◌≤◌, ◌==◌, ◌||◌, not, nat_lt, Bool, true, false, if◌then◌else◌, List, [], ◌∷◌, ◌++◌, length, map, flat_map, bytes_eq, Option, Some, None, refl}
+use Rattle.std.specs.Prelude.{◌≡◌, ℕ, zero, suc, ◌+◌, ◌≤◌, ◌||◌, nat_lt, Bool, true, false, if◌then◌else◌, List, [], ◌∷◌, ◌++◌, length, map, flat_map, bytes_eq, Some, None, refl}
 use Rattle.std.specs.List.{cons_option, list_any}
 use Rattle.std.proofs.Common.{sym, ◌∙◌, ap, subst, arith}
-use Rattle.std.proofs.lemmas.Bool.{lt-ltb, or_left, or_right}
+use Rattle.std.proofs.lemmas.Bool.{lt-ltb, or_left}
 use Rattle.std.proofs.lemmas.List.{append-nil, append_assoc}
 use Rattle.std.proofs.lemmas.Slice.Eq.{bytes_eq-Decides}
 use Rattle.sg_circuit.specs.Circuit.{Circuit, Variable, scope_at}
@@ -10,17 +10,17 @@ use Rattle.wave_out.specs.declared.scopes.Visit.{Visit}
 use Rattle.wave_out.specs.declared.scopes.Visit.TheVariants.{Enters, Leaves}
 use Rattle.wave_out.specs.Scopes.{children_of, variables_at, variables_of, visits, visits_in}
 use Rattle.wave_out.specs.Texts.{written_name}
-use Rattle.vcd_form.specs.Rules.{Came, came_after, came_first, less}
-use Rattle.vcd_form.specs.Written.{Declaration, Section, declares, enters, leaves, remark, timescale}
-use Rattle.vcd_model.specs.Inputs.{bare, declared_at, has_scope, is_at, opens_at, own, path, placed_sections, scopes_after, with_scopes}
+use Rattle.vcd_form.specs.Rules.{Came, came_after, came_first}
+use Rattle.vcd_form.specs.Written.{Section, declares, enters, leaves, remark, timescale}
+use Rattle.vcd_model.specs.Inputs.{bare, has_scope, is_at, opens_at, own, path, scopes_after, with_scopes}
 use Rattle.vcd_model.specs.Values.{first_or, powers, scale_of}
 use Rattle.vcd_laws.proofs.Dumps.{MayAll}
 use Rattle.vcd_laws.proofs.Entries.{declaration_entry, header_entries, numbered_said, said, said-append, visit_entries}
-use Rattle.vcd_laws.proofs.Header.{count_of, decls_all, decls_stack, declared_one, nested, nested_list, own-append, own_from, own_is, section_one, stack-append, stack_after, visit_sections, visits-append, Placed, Silent}
+use Rattle.vcd_laws.proofs.Header.{count_of, decls_all, decls_stack, declared_one, nested, nested_list, own-append, own_from, own_is, section_one, stack_after, visit_sections, visits-append, Placed, Silent}
 use Rattle.vcd_laws.proofs.Items.{numbered}
 use Rattle.vcd_laws.proofs.Names.{bare_written}
 use Rattle.vcd_laws.proofs.Own.{AreOwn, tops, unplaced_declaration}
-use Rattle.vcd_laws.proofs.ReadLines.{may_come, plain}
+use Rattle.vcd_laws.proofs.ReadLines.{plain}
 
 -- ---- what the lines say
 

@@ -1,7 +1,6 @@
 -- Trees that good tokens spell have good names, ranges and scales.
-use Rattle.std.specs.Prelude.{◌≡◌, ℕ, zero, suc, ℤ, pos, ◌<◌, ◌^◌, Bool, true, false, IfSome, List, [], ◌∷◌, ◌++◌, Option, Some, None, unwrap_or, refl}
+use Rattle.std.specs.Prelude.{◌≡◌, ℕ, zero, suc, ℤ, ◌<◌, ◌^◌, Bool, true, false, IfSome, List, [], ◌∷◌, ◌++◌, Option, Some, None, unwrap_or}
 use Rattle.std.specs.List.{AllByRecursion}
-use Rattle.std.proofs.Common.{sym, subst, inl, inr}
 use Rattle.sg_text.specs.declared.places.Place.{Place}
 use Rattle.sg_text.specs.declared.words.Keyword.TheVariants as keyword
 use Rattle.grammar.specs.Rule.{◌∙∙◌, ◌▸◌, ◌◂◌, followed, mapped, no_kind, nothing, one as one_of}
@@ -27,13 +26,13 @@ use Rattle.sg_logic.specs.declared.gates.GateKind.{GateKind}
 use Rattle.elab_model.specs.Members as members
 use Rattle.vl_tree.specs.Expressions.{delay, expression, expression_parts, expression_to, int, int_parts, max_braces, name, name_parts, names, names_parts, range, range_parts, select, signal_parts, signal_rule, signed, sized_parts, sized_rule, whole}
 use Rattle.vl_tree.specs.Items.{assign_item, assign_item_parts, block_item, block_item_parts, connections, connections_parts, direction, gate, gate_instance, gate_instance_parts, gate_item, gate_item_parts, instance, instance_item, instance_item_parts, instance_parts, item, item_parts, join, join_parts, named_connection, named_connection_parts, net_item, net_item_parts, net_name, net_name_parts, net_type, port_item, port_item_parts, register_item, register_item_parts, supply, supply_item, supply_item_parts}
-use Rattle.vl_tree.specs.Kinds.{Kind, bits_of, is_module, is_name, is_sized, is_symbol, is_whole, kind_of, kind_of_meaning, number_of, settings_of, text_of}
+use Rattle.vl_tree.specs.Kinds.{bits_of, is_module, is_name, is_sized, is_symbol, is_whole, kind_of, kind_of_meaning, number_of, settings_of, text_of}
 use Rattle.vl_tree.specs.Rules.{Grammar, either, listed, many, mark, optional, placed, word}
 use Rattle.vl_tree.specs.Tree.{Connections, Expression, Expressions, NamedConnection, Named, by_name, by_order, concatenation, expressions, signal, sized}
 use Rattle.vl_tree.specs.Tree as tree
 use Rattle.vl_tree.specs.declared.names.Range.{Range}
 use Rattle.vcd_laws.proofs.Decimals.{IsShort}
-use Rattle.vcd_laws.proofs.Named.{AreNamed, HasNamesIn, HaveNamesIn, IsGood, IsGoodMeaning, IsNamed, IsNamedCheck, IsNamedConnection, IsNamedGate, IsNamedHead, IsNamedHeadPort, IsNamedInstance, IsNamedItem, IsNamedJoin, IsNamedModule, IsNamedNet, IsNamedPart, IsNamedPort, IsNamedSpecify, IsScale, IsSpan}
+use Rattle.vcd_laws.proofs.Named.{AreNamed, HasNamesIn, HaveNamesIn, IsGoodMeaning, IsNamed, IsNamedCheck, IsNamedConnection, IsNamedGate, IsNamedHead, IsNamedHeadPort, IsNamedInstance, IsNamedItem, IsNamedJoin, IsNamedModule, IsNamedNet, IsNamedPart, IsNamedPort, IsNamedSpecify, IsScale, IsSpan}
 use Rattle.vcd_laws.proofs.Rows.{is_word}
 use Rattle.vcd_laws.proofs.Yields.{AreGood, Yields, any, before, behind, in_turn, made_of, of_either, of_listed, of_many, of_nothing, of_optional, of_options, of_rest, of_second, with_its_place}
 

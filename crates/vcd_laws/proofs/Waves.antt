@@ -1,5 +1,5 @@
 -- A dump that has the items of a run is a stimulus that tells what the run makes of the inputs.
-use Rattle.std.specs.Prelude.{◌≡◌, ◌≢◌, ℕ, ℤ, pos, zero, suc, ◌-ℤ◌, ◌<◌, ◌≤◌, ◌==◌, ◌*◌, ◌/◌, ◌^◌, ◌⊎◌, Bool, true, false, not, cond, if◌then◌else◌, All, List, [], ◌∷◌, ◌++◌, length, map, filter, flat_map, decimal, Option, Some, None, refl}
+use Rattle.std.specs.Prelude.{◌≡◌, ℕ, ℤ, pos, suc, ◌-ℤ◌, ◌<◌, ◌≤◌, ◌==◌, ◌*◌, ◌/◌, ◌^◌, ◌⊎◌, Bool, true, false, not, cond, if◌then◌else◌, All, List, [], ◌∷◌, ◌++◌, length, map, filter, flat_map, decimal, refl}
 use Rattle.std.specs.List.{AllByRecursion, list_any}
 use Rattle.std.proofs.Common.{sym, ◌∙◌, ap, subst, arith, inl, inr}
 use Rattle.std.proofs.lemmas.Bool.{and_parts, eqb-true}
@@ -10,11 +10,11 @@ use Rattle.sg_time.specs.Spelling.{number_from}
 use Rattle.sg_time.specs.Ticks.{above, below}
 use Rattle.sg_circuit.specs.Circuit.{Circuit, Variable}
 use Rattle.sg_stimulus.specs.Applied.{IsApplied, IsInput, SetsOnce}
-use Rattle.sg_stimulus.specs.Stimulus.{Step, Stimulus, sets_at}
+use Rattle.sg_stimulus.specs.Stimulus.{Step, sets_at}
 use Rattle.vcd_form.specs.Written.{Declaration, Item, Section, instant, nothing, real, value}
 use Rattle.vcd_model.specs.Inputs.{own}
-use Rattle.vcd_model.specs.Stimulus.{is_given, last_given, last_time, once, step_at, steps_of, time_of, wave_stimulus}
-use Rattle.vcd_model.specs.Values.{given, given_by, scale_of, ticks, timed, Given, Scale}
+use Rattle.vcd_model.specs.Stimulus.{is_given, last_time, once, step_at, steps_of, time_of, wave_stimulus}
+use Rattle.vcd_model.specs.Values.{given, given_by, scale_of, ticks, Given, Scale}
 use Rattle.run_laws.specs.Inputs.{Changes, TellInputs}
 use Rattle.vcd_laws.proofs.Body.{Showing, Upto, shots, showing}
 use Rattle.vcd_laws.proofs.Items.{EachRead, HasReader, Shown, end_items, ending_items, given_from, given_from-append, items_of, now_after, now_after-append, shown}

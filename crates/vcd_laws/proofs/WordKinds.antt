@@ -1,11 +1,10 @@
 -- The kinds of the words of a dump that is written.
-use Rattle.std.specs.Prelude.{◌≡◌, ◌≢◌, ℕ, zero, suc, ◌<◌, ◌==◌, ◌&&◌, ◌||◌, not, Bool, true, false, nat_lt, nat_le, List, [], ◌∷◌, ◌++◌, length, bytes_eq, codes, if◌then◌else◌, refl}
-use Rattle.std.specs.List.{list_all}
+use Rattle.std.specs.Prelude.{◌≡◌, ◌≢◌, ℕ, ◌==◌, ◌||◌, Bool, true, false, List, ◌∷◌, bytes_eq, codes, if◌then◌else◌, refl}
 use Rattle.std.proofs.Common.{sym, ◌∙◌, ap, subst, arith}
 use Rattle.std.proofs.lemmas.Bool.{and_left, false_from_ne_true, ne_eqb}
 use Rattle.std.proofs.lemmas.Slice.Eq.{bytes_eq-Decides}
 use Rattle.sg_model.proofs.Choices.{if_true, if_false}
-use Rattle.vcd_form.specs.Kinds.{Kind, begins_with, has_text, is_any, is_code, is_code_text, is_end, is_range, is_range_text, is_real_text, is_scalar_text, is_time_text, is_vector_text, kind_of_text, value_kind_of, other_kind, real_kind, scalar_kind, time_kind, vector_kind, end_kind, var_kind, scope_kind, upscope_kind, definitions_kind, timescale_kind, comment_kind, remark_kind, dump_kind}
+use Rattle.vcd_form.specs.Kinds.{Kind, has_text, is_any, is_code, is_code_text, is_range, is_range_text, is_real_text, is_scalar_text, is_time_text, is_vector_text, kind_of_text, value_kind_of, other_kind, real_kind, scalar_kind, time_kind, vector_kind, end_kind, var_kind, scope_kind, upscope_kind, definitions_kind, timescale_kind, comment_kind, remark_kind, dump_kind}
 
 -- ---- what is so of each kind that a text may have
 

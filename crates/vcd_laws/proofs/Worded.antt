@@ -1,17 +1,17 @@
 -- Names among the pieces of a netlist's text have bytes, and no blank.
-use Rattle.std.specs.Prelude.{◌≡◌, ℕ, ◌<◌, ◌==◌, ◌&&◌, ◌||◌, Bool, true, false, not, nat_eq, nat_lt, codes, IfSome, List, [], ◌∷◌, drop, length, take, Option, Some, None, is_some, if◌then◌else◌, refl}
+use Rattle.std.specs.Prelude.{◌≡◌, ℕ, ◌==◌, ◌&&◌, Bool, true, false, not, nat_eq, codes, IfSome, List, [], ◌∷◌, drop, length, take, Option, Some, None, is_some, if◌then◌else◌, refl}
 use Rattle.std.specs.List.{list_all}
 use Rattle.std.specs.Char.{is_ascii_digit}
 use lib.Pointwise.{pointwise}
-use Rattle.std.proofs.Common.{sym, ◌∙◌, ap, subst, arith, inl, inr}
-use Rattle.std.proofs.lemmas.Bool.{and_from, and_parts, cases_Bool, eqb-true, lt-ltb}
+use Rattle.std.proofs.Common.{sym, ap, subst, arith}
+use Rattle.std.proofs.lemmas.Bool.{and_from, and_parts, eqb-true, lt-ltb}
 use Rattle.sg_text.specs.Names.{is_name_byte}
 use Rattle.sg_time.specs.Reading.{parts_of}
 use Rattle.vl_pieces.specs.Bytes as netlist
 use Rattle.vl_pieces.specs.Bytes.{first_of, is_graphic, is_inline}
 use Rattle.vl_pieces.specs.Ends.{end_of, quote_end}
 use Rattle.vl_pieces.specs.Modes.{IsPiece, cell_from, cell_of, cell_or, class_in, edge_class, is_endtable, is_value_byte, line_class, table_class}
-use Rattle.vl_pieces.specs.Pieces.{apostrophe_class, begins_paren, class_from, class_of, digit_class, ended_or, ends_here, has_number, is_alone, is_symbol, is_unended, long_class, mark_class, paren_class, point_class, slash_class, tick_class, where_so}
+use Rattle.vl_pieces.specs.Pieces.{begins_paren, class_from, class_of, digit_class, ended_or, ends_here, has_number, is_alone, is_symbol, is_unended, long_class, paren_class, point_class, slash_class, tick_class, where_so}
 use Rattle.vl_pieces.specs.Sized.{sized_of}
 use Rattle.vl_pieces.specs.declared.bytes.First.{First}
 use Rattle.vl_pieces.specs.declared.bytes.First.TheVariants.{Blank, Letter, Backslash, Dollar, Quote, Tick, Apostrophe, Slash, Paren, Mark, Bad}

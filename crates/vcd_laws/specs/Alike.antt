@@ -1,5 +1,5 @@
 -- Circuits that differ in delays, limits and the limits that are taken as 0 alone (IEEE 1364-2005, 14.3, 15.2, 15.8, 16).
-use Rattle.std.specs.Prelude.{◌≡◌, ℕ, List, [], map}
+use Rattle.std.specs.Prelude.{◌≡◌, [], map}
 use Rattle.sg_circuit.specs.declared.checks.CheckTiming.{CheckTiming}
 use Rattle.sg_circuit.specs.Paths as specify
 use Rattle.sg_circuit.specs.Circuit.{Circuit, Element, Kind, Gate, Udp, Pass, Leg, Path, Late}
