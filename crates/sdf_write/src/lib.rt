@@ -1,0 +1,9 @@
+//! The delays and limits of a circuit as an SDF file, by which any tool gives them to its netlist.
+#![tactic(auto)]
+
+mod errors;
+mod parts;
+mod writing;
+
+pub use errors::WriteError;
+pub use writing::sdf_text;
