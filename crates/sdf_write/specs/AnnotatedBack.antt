@@ -6,7 +6,7 @@ use Rattle.sg_circuit.specs.Closed.{IsClosed}
 use Rattle.sg_circuit.specs.Signals.{takes_lates}
 use Rattle.sg_circuit.specs.Timings.{Timing, limits_of}
 use Rattle.sg_circuit.specs.Paths as specify
-use Rattle.sg_circuit.specs.Circuit.{Circuit, Kind, Leg, Path, Late}
+use Rattle.sg_circuit.specs.Circuit.{Circuit, Element, Kind, Leg, Path, Late}
 use Rattle.sdf_tree.specs.Meant.{Sdf, sdf_of}
 use Rattle.sdf_tree.specs.Written.{FilePart}
 use Rattle.annotation_model.specs.Annotated.{annotated, too_large, unmatched}
@@ -16,18 +16,23 @@ use Rattle.sdf_write.specs.Placeless.{placeless}
 
 -- ---- circuits that differ in delays and limits of paths and legs, check limits, delays of Lates and zeroed limits alone
 
+abbrev pub stripped_path : specify.Path → specify.Path
+stripped_path p = record p { timings = [] }
+
 abbrev pub stripped_kind : Kind → Kind
 stripped_kind (Leg timings) = Leg []
-stripped_kind (Path paths style) = Path (map (λ (p : specify.Path). record p { timings = [] }) paths) style
+stripped_kind (Path paths style) = Path (map stripped_path paths) style
 stripped_kind (Late delay) = Late 0
 stripped_kind other = other
 
+abbrev pub stripped_element : Element → Element
+stripped_element e = record e { kind = stripped_kind e.kind }
+
+abbrev pub stripped_check : CheckTiming → CheckTiming
+stripped_check t = record t { limits = [] }
+
 abbrev pub stripped : Circuit → Circuit
-stripped c = record c {
-  elements = map (λ e. record e { kind = stripped_kind e.kind }) c.elements;
-  check_timings = map (λ t. record t { limits = [] }) c.check_timings;
-  zeroed = [];
-}
+stripped c = record c { elements = map stripped_element c.elements; check_timings = map stripped_check c.check_timings; zeroed = [] }
 
 abbrev pub IsLike : Circuit → Circuit → Type 0
 IsLike c other = stripped other ≡ stripped c
@@ -37,13 +42,19 @@ IsLike c other = stripped other ≡ stripped c
 abbrev pub as_number : Timing → Timing
 as_number t = record { delay = t.delay; limits = Some (limits_of t) }
 
+abbrev pub path_in_numbers : specify.Path → specify.Path
+path_in_numbers p = record p { timings = map as_number p.timings }
+
 abbrev pub kind_in_numbers : Kind → Kind
 kind_in_numbers (Leg timings) = Leg (map as_number timings)
-kind_in_numbers (Path paths style) = Path (map (λ (p : specify.Path). record p { timings = map as_number p.timings }) paths) style
+kind_in_numbers (Path paths style) = Path (map path_in_numbers paths) style
 kind_in_numbers other = other
 
+abbrev pub element_in_numbers : Element → Element
+element_in_numbers e = record e { kind = kind_in_numbers e.kind }
+
 abbrev pub in_numbers : Circuit → Circuit
-in_numbers c = record c { elements = map (λ e. record e { kind = kind_in_numbers e.kind }) c.elements }
+in_numbers c = record c { elements = map element_in_numbers c.elements }
 
 -- ---- annotation
 

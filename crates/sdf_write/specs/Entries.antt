@@ -139,19 +139,24 @@ check_entry k p = record {
 abbrev pub checks_at : ℕ → Checked → List CheckEntry
 checks_at s k = if k.check.scope == s then map (check_entry k) (parts_of k.timing.kind k.timing.limits) else []
 
--- ---- order
+-- ---- the entries of a scope
 
--- those that ask for nothing, then those that ask for one thing, and so on; no key asks for more than four
-abbrev pub by_rank : {A : Type 0} → (A → ℕ) → List A → List A
-by_rank rank xs = flat_map (λ n. filter (λ x. rank x == n) xs) (0 ∷ 1 ∷ 2 ∷ 3 ∷ 4 ∷ [])
-
--- the entries of a scope: by element, and of one element in text order
+-- in text order: by element, or by check
 abbrev pub legs : Circuit → ℕ → List LegEntry
 legs c s = flat_map (legs_at s) (spots c)
 
-abbrev pub paths : Circuit → ℕ → List PathEntry
-paths c s = by_rank (λ (e : PathEntry). path_rank e.key) (flat_map (paths_at s) (spots c))
+abbrev pub path_entries : Circuit → ℕ → List PathEntry
+path_entries c s = flat_map (paths_at s) (spots c)
 
--- by check, and of one check in the order of its text
+abbrev pub check_entries : Circuit → ℕ → List CheckEntry
+check_entries c s = flat_map (checks_at s) (all_checked c)
+
+-- as they are written: those that ask for nothing, then those that ask for one thing, and so on; no key asks for more than four
+abbrev pub by_rank : {A : Type 0} → (A → ℕ) → List A → List A
+by_rank rank xs = flat_map (λ n. filter (λ x. rank x == n) xs) (0 ∷ 1 ∷ 2 ∷ 3 ∷ 4 ∷ [])
+
+abbrev pub paths : Circuit → ℕ → List PathEntry
+paths c s = by_rank (λ (e : PathEntry). path_rank e.key) (path_entries c s)
+
 abbrev pub checks : Circuit → ℕ → List CheckEntry
-checks c s = by_rank (λ (e : CheckEntry). check_rank e.key) (flat_map (checks_at s) (all_checked c))
+checks c s = by_rank (λ (e : CheckEntry). check_rank e.key) (check_entries c s)

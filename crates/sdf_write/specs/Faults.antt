@@ -16,7 +16,7 @@ use Rattle.sdf_write.specs.declared.errors.WriteError.{WriteError}
 use Rattle.sdf_write.specs.declared.errors.WriteError.TheVariants as error
 use Rattle.sdf_write.specs.declared.parts.Part.{Part}
 use Rattle.sdf_write.specs.declared.parts.Part.TheVariants as part
-use Rattle.sdf_write.specs.Entries.{Numbers, LegEntry, PathEntry, EventKey, CheckKey, CheckEntry, legs, paths, checks}
+use Rattle.sdf_write.specs.Entries.{Numbers, LegEntry, PathEntry, EventKey, CheckKey, CheckEntry, legs, path_entries, check_entries}
 use Rattle.sdf_write.specs.Text.{text}
 
 -- ---- Ambiguous: two entries are for the same, and give it different values
@@ -32,7 +32,7 @@ pub record Disagree {A K V : Type 0} (key : A → K) (value : A → V) (es : Lis
   pub differ : value one ≢ value other
 
 abbrev pub IsAmbiguous : Circuit → ℕ → Type 0
-IsAmbiguous c s = Disagree (λ (e : PathEntry). e.key) (λ (e : PathEntry). e.numbers) (paths c s) ⊎ Disagree (λ (e : CheckEntry). e.key) (λ (e : CheckEntry). e.limit) (checks c s)
+IsAmbiguous c s = Disagree (λ (e : PathEntry). e.key) (λ (e : PathEntry). e.numbers) (path_entries c s) ⊎ Disagree (λ (e : CheckEntry). e.key) (λ (e : CheckEntry). e.limit) (check_entries c s)
 
 -- ---- OffGrid: a time that is rounded where it is read, since it isn't a multiple of the precision (IEEE 1364-2005, 19.8)
 
@@ -43,7 +43,7 @@ sizes_of n = n.delay ∷ n.reject ∷ n.error ∷ []
 abbrev pub sizes : Circuit → ℕ → List ℕ
 sizes c s =
     flat_map (λ (e : LegEntry). flat_map sizes_of e.numbers) (legs c s)
-    ++ (flat_map (λ (e : PathEntry). flat_map sizes_of e.numbers) (paths c s) ++ map (λ (e : CheckEntry). unsigned_abs e.limit) (checks c s))
+    ++ (flat_map (λ (e : PathEntry). flat_map sizes_of e.numbers) (path_entries c s) ++ map (λ (e : CheckEntry). unsigned_abs e.limit) (check_entries c s))
 
 -- so many ticks a precision is
 abbrev pub precision_of : Circuit → ℕ → ℕ
@@ -77,8 +77,8 @@ datum_conditions (Some k) = event_conditions k.condition
 -- a scope's conditions
 abbrev pub conditions : Circuit → ℕ → List (List Tok)
 conditions c s =
-    flat_map (λ (e : PathEntry). path_conditions e.key.condition) (paths c s)
-    ++ flat_map (λ (e : CheckEntry). event_conditions e.key.refer.condition ++ datum_conditions e.key.datum) (checks c s)
+    flat_map (λ (e : PathEntry). path_conditions e.key.condition) (path_entries c s)
+    ++ flat_map (λ (e : CheckEntry). event_conditions e.key.refer.condition ++ datum_conditions e.key.datum) (check_entries c s)
 
 abbrev pub is_too_deep : Circuit → ℕ → Bool
 is_too_deep c s = list_any (λ ts. nat_lt 27 (depth_from 0 ts)) (conditions c s)
@@ -111,7 +111,7 @@ abbrev pub is_heavy : Circuit → ℕ → CheckEntry → Bool
 is_heavy c s e = nat_le (2 ^ 60) (unsigned_abs e.limit * (length (signals c.checks c.check_timings s) + 1)) && list_any (is_for_window s e.key) (all_checked c)
 
 abbrev pub is_too_long : Circuit → ℕ → Bool
-is_too_long c s = list_any (λ n. nat_le (10 ^ 18) n) (sizes c s) || list_any (is_heavy c s) (checks c s)
+is_too_long c s = list_any (λ n. nat_le (10 ^ 18) n) (sizes c s) || list_any (is_heavy c s) (check_entries c s)
 
 -- ---- TooLarge: a text of more than 2^28 bytes, which no reader takes; told of the top
 

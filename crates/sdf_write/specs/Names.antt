@@ -28,10 +28,10 @@ index_text None = []
 index_text (Some i) = codes "[" ++ (signed_decimal i ++ codes "]")
 
 -- names with the divider `/` between
-abbrev pub path_text : List (List ℕ) → List ℕ
-path_text [] = []
-path_text (n ∷ []) = name_text n
-path_text (n ∷ m ∷ more) = name_text n ++ (codes "/" ++ path_text (m ∷ more))
+abbrev pub names_text : List (List ℕ) → List ℕ
+names_text [] = []
+names_text (n ∷ []) = name_text n
+names_text (n ∷ m ∷ more) = name_text n ++ (codes "/" ++ names_text (m ∷ more))
 
 -- ---- nets
 

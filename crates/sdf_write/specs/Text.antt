@@ -1,5 +1,5 @@
 -- The text of a written SDF file (IEEE 1497-2001, annex A): it spells the tree, an entry a line.
-use Rattle.std.specs.Prelude.{ℕ, ◌/◌, ◌%◌, ◌==◌, ℤ, pos, ◌-ℤ◌, nat_abs, List, [], ◌∷◌, ◌++◌, length, map, Option, Some, None, codes, decimal, flat_map, if◌then◌else◌}
+use Rattle.std.specs.Prelude.{ℕ, ◌/◌, ◌%◌, ◌==◌, ℤ, pos, ◌-ℤ◌, nat_abs, List, [], ◌∷◌, ◌++◌, length, Option, Some, None, codes, decimal, flat_map, if◌then◌else◌}
 use Rattle.std.specs.Fmt.{signed_decimal}
 use Rattle.std.specs.List.{range_with_len}
 use Rattle.sg_logic.specs.declared.values.Value.{Value}
@@ -14,7 +14,7 @@ use Rattle.sdf_tree.specs.declared.tree.Edge.TheVariants.{Posedge}
 use Rattle.sdf_tree.specs.Written.{PathCondition, always, otherwise, if_words}
 use Rattle.sdf_write.specs.declared.parts.Part.{Part}
 use Rattle.sdf_write.specs.declared.parts.Part.TheVariants as part
-use Rattle.sdf_write.specs.Names.{name_text, index_text, path_text, BitName, name_of, names_to}
+use Rattle.sdf_write.specs.Names.{name_text, index_text, names_text, BitName, name_of, names_to}
 use Rattle.sdf_write.specs.Entries.{Numbers, LegEntry, PathEntry, EventKey, CheckEntry, legs, paths, checks}
 use Rattle.sdf_write.specs.Tree.{datum_of, cell_type_of}
 
@@ -100,13 +100,13 @@ leg_text vs e = codes "(PORT " ++ (port_text vs e.net ++ (flat_map delay_text e.
 abbrev pub io_path_text : List Variable → PathEntry → List ℕ
 io_path_text vs e = codes "(IOPATH " ++ (terminal_text e.key.edge (port_text vs e.key.input) ++ (codes " " ++ (port_text vs e.key.output ++ (flat_map delay_text e.numbers ++ codes ")"))))
 
-abbrev pub path_entry_text : PathCondition → (path : List ℕ) → List ℕ
-path_entry_text always path = path
-path_entry_text (if_words words) path = codes "(COND " ++ (words_text words ++ (codes " " ++ (path ++ codes ")")))
-path_entry_text otherwise path = codes "(CONDELSE " ++ (path ++ codes ")")
+abbrev pub under_condition : PathCondition → (path : List ℕ) → List ℕ
+under_condition always path = path
+under_condition (if_words words) path = conditional_text (Some words) path
+under_condition otherwise path = codes "(CONDELSE " ++ (path ++ codes ")")
 
-abbrev pub path_text_of : List Variable → PathEntry → List ℕ
-path_text_of vs e = path_entry_text e.key.condition (io_path_text vs e)
+abbrev pub path_text : List Variable → PathEntry → List ℕ
+path_text vs e = under_condition e.key.condition (io_path_text vs e)
 
 abbrev pub terminals_text : Part → (refer datum : List ℕ) → List ℕ
 terminals_text part.Setup refer datum = codes "(SETUP " ++ (datum ++ (codes " " ++ refer))
@@ -125,32 +125,29 @@ check_text vs e = terminals_text e.key.part (event_text vs e.key.refer) (event_t
 abbrev pub line : List ℕ → List ℕ
 line text = text ++ 10 ∷ []
 
--- the lines of some texts between a first and a last one, unless there are none
-abbrev pub block : (first last : List ℕ) → List (List ℕ) → List ℕ
-block first last [] = []
-block first last (t ∷ ts) = line first ++ (flat_map line (t ∷ ts) ++ line last)
+-- a text between two others, unless it is empty
+abbrev pub enclosed : (first last inner : List ℕ) → List ℕ
+enclosed first last [] = []
+enclosed first last (b ∷ bs) = first ++ ((b ∷ bs) ++ last)
 
-abbrev pub delay_texts : Circuit → ℕ → List (List ℕ)
-delay_texts c s = map (leg_text (scope_at c s).variables) (legs c s) ++ map (path_text_of (scope_at c s).variables) (paths c s)
+abbrev pub delay_lines : Circuit → ℕ → List ℕ
+delay_lines c s = flat_map (λ e. line (leg_text (scope_at c s).variables e)) (legs c s) ++ flat_map (λ e. line (path_text (scope_at c s).variables e)) (paths c s)
 
-abbrev pub check_texts : Circuit → ℕ → List (List ℕ)
-check_texts c s = map (check_text (scope_at c s).variables) (checks c s)
+abbrev pub check_lines : Circuit → ℕ → List ℕ
+check_lines c s = flat_map (λ e. line (check_text (scope_at c s).variables e)) (checks c s)
 
 abbrev pub parts_text : Circuit → ℕ → List ℕ
-parts_text c s = block (codes "(DELAY (ABSOLUTE") (codes "))") (delay_texts c s) ++ block (codes "(TIMINGCHECK") (codes ")") (check_texts c s)
+parts_text c s = enclosed (line (codes "(DELAY (ABSOLUTE")) (line (codes "))")) (delay_lines c s) ++ enclosed (line (codes "(TIMINGCHECK")) (line (codes ")")) (check_lines c s)
 
+-- the top has no names
 abbrev pub instance_text : List (List ℕ) → List ℕ
 instance_text [] = []
-instance_text (n ∷ ns) = codes " " ++ path_text (n ∷ ns)
+instance_text (n ∷ ns) = codes " " ++ names_text (n ∷ ns)
 
 abbrev pub cell_line : Circuit → ℕ → List ℕ
 cell_line c s = line (codes "(CELL (CELLTYPE \"" ++ (cell_type_of (scope_at c s).module_name ++ (codes "\") (INSTANCE" ++ (instance_text (names_to c s) ++ codes ")"))))
 
 -- the lines of a scope, unless it has nothing to write
-abbrev pub enclosed : (first last inner : List ℕ) → List ℕ
-enclosed first last [] = []
-enclosed first last (b ∷ bs) = first ++ ((b ∷ bs) ++ last)
-
 abbrev pub cell_text : Circuit → ℕ → List ℕ
 cell_text c s = enclosed (cell_line c s) (line (codes ")")) (parts_text c s)
 

@@ -12,7 +12,7 @@ use Rattle.sdf_tree.specs.declared.words.Divider.TheVariants.{Slash}
 use Rattle.sdf_tree.specs.Written.{Port, Terminal, Instance, the_top, the_path, Number, Value, Delay, io_path, port_delay, Entry, absolute, CheckBody, pair_check, single_check, Check, Part, delays, checks, Cell, text_head, divider_head, unit_head, FilePart, a_head, a_cell}
 use Rattle.sdf_write.specs.declared.parts.Part as code_part
 use Rattle.sdf_write.specs.declared.parts.Part.TheVariants as part
-use Rattle.sdf_write.specs.Names.{name_text, path_text, BitName, name_of, names_to}
+use Rattle.sdf_write.specs.Names.{name_text, names_text, BitName, name_of, names_to}
 use Rattle.sdf_write.specs.Entries as entries
 use Rattle.sdf_write.specs.Entries.{Numbers, LegEntry, PathEntry, EventKey, CheckKey, CheckEntry}
 
@@ -91,7 +91,7 @@ cell_type_of name = filter (λ b. not ((b == 34) || (b == 92))) name
 
 abbrev pub instance_of : List (List ℕ) → Instance
 instance_of [] = the_top
-instance_of (n ∷ ns) = the_path (path_text (n ∷ ns))
+instance_of (n ∷ ns) = the_path (names_text (n ∷ ns))
 
 -- the cell of a scope with something to write
 abbrev pub cells_of : Circuit → ℕ → List FilePart
