@@ -19,6 +19,8 @@ pub fn sdf_text(alloc: Global, circuit: &Circuit) -> Result<Vec<u8>, WriteError>
     ensures faultless { OnOk result (IsFaultless circuit.now) }
     // A fault that is told stands in its scope.
     ensures fault { IfErr result (FaultStands circuit.now) }
+    // Of a circuit whose names lead back, the text is read as its tree.
+    ensures read_back { IsNamed circuit.now → IfOk result (λ made. IsReadAs (tree circuit.now) made.items) }
     // And the tree gives the circuit its delays and limits back, whatever it has in their place.
     ensures given_back { IsNamed circuit.now → IsSettled circuit.now → IsFaultless circuit.now → IsGivenBack circuit.now }
 {
