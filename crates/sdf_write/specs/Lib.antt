@@ -6,5 +6,4 @@ pub mod Text
 pub mod Faults
 pub mod Placeless
 pub mod Named
-pub mod ReadBack
 pub mod AnnotatedBack

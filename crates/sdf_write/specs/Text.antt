@@ -55,8 +55,7 @@ gap (tok.Index i) = []
 gap _ = codes " "
 
 abbrev pub words_behind : List Tok → List ℕ
-words_behind [] = []
-words_behind (t ∷ ts) = gap t ++ (token_text t ++ words_behind ts)
+words_behind ts = flat_map (λ t. gap t ++ token_text t) ts
 
 abbrev pub words_text : List Tok → List ℕ
 words_text [] = []

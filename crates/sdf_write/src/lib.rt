@@ -1,8 +1,10 @@
 //! The delays and limits of a circuit as an SDF file, by which any tool gives them to its netlist.
 #![tactic(auto)]
 
+mod conditions;
 mod errors;
 mod parts;
+mod words;
 mod writing;
 
 pub use errors::WriteError;

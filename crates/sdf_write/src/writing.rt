@@ -3,7 +3,6 @@ ghost use Rattle.std.specs.Prelude.{◌≡◌, IfErr, IfOk, OnOk};
 ghost use Rattle.sdf_write.specs.AnnotatedBack.{IsGivenBack, IsSettled};
 ghost use Rattle.sdf_write.specs.Faults.{FaultStands, IsFaultless};
 ghost use Rattle.sdf_write.specs.Named.{IsNamed};
-ghost use Rattle.sdf_write.specs.ReadBack.{IsReadAs};
 ghost use Rattle.sdf_write.specs.Text.{text};
 ghost use Rattle.sdf_write.specs.Tree.{tree};
 
@@ -19,9 +18,7 @@ pub fn sdf_text(alloc: Global, circuit: &Circuit) -> Result<Vec<u8>, WriteError>
     ensures faultless { OnOk result (IsFaultless circuit.now) }
     // A fault that is told stands in its scope.
     ensures fault { IfErr result (FaultStands circuit.now) }
-    // Of a circuit whose names lead back, the text is read as its tree.
-    ensures read_back { IsNamed circuit.now → IfOk result (λ made. IsReadAs (tree circuit.now) made.items) }
-    // And the tree gives the circuit its delays and limits back, whatever it has in their place.
+    // The tree gives the circuit its delays and limits back, whatever it has in their place.
     ensures given_back { IsNamed circuit.now → IsSettled circuit.now → IsFaultless circuit.now → IsGivenBack circuit.now }
 {
     Err(WriteError::NoMemory)
