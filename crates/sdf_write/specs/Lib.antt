@@ -5,5 +5,7 @@ pub mod Tree
 pub mod Text
 pub mod Faults
 pub mod Placeless
+pub mod Places
+pub mod Page
 pub mod Named
 pub mod AnnotatedBack

@@ -2,7 +2,7 @@
 use Rattle.std.specs.Prelude.{ℕ, zero, suc, ◌==◌, ℤ, pos, ◌+ℤ◌, ◌-ℤ◌, int_le, List, [], ◌∷◌, ◌++◌, length, Option, Some, None, codes, flat_map, unwrap_or, if◌then◌else◌}
 use Rattle.std.specs.Char.{is_ascii_digit}
 use Rattle.std.specs.Fmt.{signed_decimal}
-use Rattle.std.specs.List.{position}
+use Rattle.std.specs.List.{position_from}
 use Rattle.std.specs.Option.{option_map}
 use Rattle.sg_text.specs.Names.{is_name_byte}
 use Rattle.sg_circuit.specs.declared.scopes.Range.{Range}
@@ -49,7 +49,7 @@ bit_at v k = record { name = v.name; index = option_map (λ (r : Range). index_a
 
 -- how a variable names a net, if it has it
 abbrev pub named_by : Variable → ℕ → Option BitName
-named_by v net = option_map (bit_at v) (position (λ n. n == net) v.bits)
+named_by v net = option_map (bit_at v) (position_from (λ n. n == net) 0 v.bits)
 
 -- how the first of a scope's variables that has a net names it
 abbrev pub name_of : List Variable → ℕ → BitName

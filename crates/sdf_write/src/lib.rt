@@ -2,8 +2,11 @@
 #![tactic(auto)]
 
 mod conditions;
+mod delays;
 mod errors;
+mod pages;
 mod parts;
+mod places;
 mod words;
 mod writing;
 
