@@ -1,5 +1,9 @@
 -- The modules of this folder.
 mod Examples
+mod CellLaws
+mod DelayLaws
+mod GroupLaws
+mod InstanceLaws
 mod NameLaws
 mod PageLaws
 mod PlaceLaws

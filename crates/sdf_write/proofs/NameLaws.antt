@@ -47,8 +47,8 @@ name_found (v ∷ vs) net start k j e = by (position_from (is net) 0 v.bits) ref
     by : (o : Option ℕ) → position_from (is net) 0 v.bits ≡ o → option_or (option_map (of start) o) (variables_place (start + 1) vs net) ≡ Some (k, j) → (variables_place (start + 1) vs net ≡ Some (k, j) → Found vs net (start + 1) k j)
         → Found (v ∷ vs) net start k j
     by (Some p) at f rec =
-        let first : start ≡ k = cc in
-        let second : p ≡ j = cc in
+        let first : start ≡ k = ap (λ (o : Option Place). (unwrap_or o (0, 0)).0) f in
+        let second : p ≡ j = ap (λ (o : Option Place). (unwrap_or o (0, 0)).1) f in
         let l : p < 0 + length v.bits = position-within (is net) 0 p v.bits at in record {
           i = 0;
           variable = v;

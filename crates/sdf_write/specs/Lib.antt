@@ -7,5 +7,7 @@ pub mod Faults
 pub mod Placeless
 pub mod Places
 pub mod Page
+pub mod Groups
+pub mod Instances
 pub mod Named
 pub mod AnnotatedBack

@@ -1,5 +1,5 @@
 // The entries of delays.
-ghost use Rattle.std.specs.Prelude.{◌≡◌, ◌++◌, ◌<◌, ℕ, List, OnOk, flat_map, length, map};
+ghost use Rattle.std.specs.Prelude.{◌≡◌, ◌++◌, ◌<◌, ◌≤◌, ℕ, List, OnOk, flat_map, length, map};
 ghost use Rattle.cond_expr.specs.Condition.{Condition};
 ghost use Rattle.sg_circuit.specs.declared.elements.LegTiming.{LegTiming as CodeTiming};
 ghost use Rattle.sg_circuit.specs.PathsSeen.{IsIndexedCondition, IsIndexedPath, condition_seen, path_seen};
@@ -149,8 +149,10 @@ pub fn push_path(
     push_end(text, &path.condition)
 }
 
-fn one_if(edge: Option<sdf_tree::Edge>) -> u32
-    ensures { result ≡ entries.one_if edge }
+/// Whether there is an edge, as a number.
+pub fn one_if(edge: Option<sdf_tree::Edge>) -> u32
+    ensures is { result ≡ entries.one_if edge }
+    ensures small { result ≤ 1 }
 {
     match edge {
         Some(_) => 1,
@@ -159,7 +161,8 @@ fn one_if(edge: Option<sdf_tree::Edge>) -> u32
 }
 
 fn condition_rank(condition: &PathCondition) -> u32
-    ensures { (conditions : List Condition) → result ≡ entries.condition_rank (condition_of (condition_seen conditions condition.now)) }
+    ensures is { (conditions : List Condition) → result ≡ entries.condition_rank (condition_of (condition_seen conditions condition.now)) }
+    ensures small { result ≤ 1 }
 {
     match condition {
         PathCondition::Always => 0,

@@ -1,9 +1,13 @@
 //! The delays and limits of a circuit as an SDF file, by which any tool gives them to its netlist.
 #![tactic(auto)]
 
+mod cells;
+mod checks;
 mod conditions;
 mod delays;
 mod errors;
+mod groups;
+mod instances;
 mod pages;
 mod parts;
 mod places;
