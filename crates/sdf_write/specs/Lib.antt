@@ -10,4 +10,5 @@ pub mod Page
 pub mod Groups
 pub mod Instances
 pub mod Named
+pub mod ReadBack
 pub mod AnnotatedBack

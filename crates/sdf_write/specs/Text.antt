@@ -167,8 +167,8 @@ text_below n = count_text (n % 3) ++ unit_text (n / 3)
 abbrev pub tick_text : ℤ → List ℕ
 tick_text power = text_below (nat_abs (pos 2 -ℤ power))
 
-abbrev pub head_line : Circuit → List ℕ
-head_line c = line (codes "(DELAYFILE (SDFVERSION \"3.0\") (DIVIDER /) (TIMESCALE " ++ (tick_text c.tick ++ codes ")"))
+abbrev pub head_line : (tick : ℤ) → List ℕ
+head_line tick = line (codes "(DELAYFILE (SDFVERSION \"3.0\") (DIVIDER /) (TIMESCALE " ++ (tick_text tick ++ codes ")"))
 
 unfoldable pub text : Circuit → List ℕ
-text c = head_line c ++ (flat_map (cell_text c) (range_with_len 0 (length c.scopes)) ++ line (codes ")"))
+text c = head_line c.tick ++ (flat_map (cell_text c) (range_with_len 0 (length c.scopes)) ++ line (codes ")"))

@@ -17,8 +17,8 @@ use sg_circuit::{LegTiming, NetId, Path, PathCondition};
 use sg_delay::Limit;
 use std::alloc::AllocError;
 
-// The limits of a transition's pulses, as numbers.
-fn limits_of(delay: u64, limit: Limit) -> (u64, u64)
+/// The limits of a transition's pulses, as numbers.
+pub fn limits_of(delay: u64, limit: Limit) -> (u64, u64)
     ensures { result ≡ limits_or delay (limit_seen limit) }
 {
     match limit {

@@ -2,11 +2,20 @@
 ghost use Rattle.std.specs.Prelude.{◌≡◌, ◌<◌, ◌^◌, ◌++◌, All, IfOk, OnOk, length};
 ghost use Rattle.late_limits.specs.Grouping.{element_scope, pin_by, pins_by};
 ghost use Rattle.sg_circuit.specs.Pins.{HasPins};
-ghost use Rattle.sdf_write.specs.Groups.{any_check, check_scope, is_delayed};
+ghost use Rattle.sg_circuit.specs.Closed.{IsClosed};
+ghost use Rattle.sg_circuit.specs.Seen.{circuit_seen};
+ghost use Rattle.sdf_write.specs.Groups.{AreGroups, any_check, check_scope, is_delayed};
 
-use sg_circuit::{Check, Element, ElementKind, FanOut, Pin};
+use sg_circuit::{Check, Element, ElementKind, FanOut, Parts, Pin};
 use sg_text::NoMemory;
 use std::alloc::Global;
+
+/// What each scope has, by its number.
+#[derive(Drop)]
+pub struct Groups {
+    pub elements: FanOut,
+    pub checks: FanOut,
+}
 
 fn add_element(pins: &mut Vec<Pin>, number: u32, element: &Element) -> Result<(), NoMemory>
     ensures { OnOk result (pins.new.items ≡ pins.old.items ++ pin_by element_scope is_delayed number element.now) }
@@ -69,4 +78,16 @@ pub fn checks_by_scope(alloc: Global, checks: &[Check], scopes: u32) -> Result<F
 {
     let pins = check_pins(alloc, checks)?;
     FanOut::of_pins(alloc, scopes, &pins)
+}
+
+/// What each scope of a circuit has. Takes time and memory in proportion to the circuit.
+pub fn groups_of(alloc: Global, parts: &Parts) -> Result<Groups, NoMemory>
+    requires { IsClosed (circuit_seen parts.now) }
+    ensures { IfOk result (AreGroups parts.now) }
+{
+    let scopes = parts.scopes.len() as u32;
+    Ok(Groups {
+        elements: elements_by_scope(alloc, &parts.elements, scopes)?,
+        checks: checks_by_scope(alloc, &parts.checks, scopes)?,
+    })
 }

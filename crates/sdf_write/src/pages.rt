@@ -15,6 +15,7 @@ use sg_logic::{NEGEDGE, POSEDGE};
 use std::alloc::AllocError;
 
 /// A scope of a circuit. The table has the places of all nets of the scope's variables.
+#[derive(Clone, Copy)]
 pub struct Page<'a> {
     pub parts: &'a Parts,
     pub scope: u32,

@@ -3,10 +3,14 @@ ghost use Rattle.std.specs.Prelude.{◌≡◌, IfErr, IfOk, OnOk};
 ghost use Rattle.sdf_write.specs.AnnotatedBack.{IsGivenBack, IsSettled};
 ghost use Rattle.sdf_write.specs.Faults.{FaultStands, IsFaultless};
 ghost use Rattle.sdf_write.specs.Named.{IsNamed};
+ghost use Rattle.sdf_write.specs.ReadBack.{IsReadAs};
 ghost use Rattle.sdf_write.specs.Text.{text};
 ghost use Rattle.sdf_write.specs.Tree.{tree};
 
 use crate::errors::WriteError;
+use crate::groups::groups_of;
+use crate::refusing::refuse;
+use crate::scopes::written;
 use sg_circuit::Circuit;
 use std::alloc::Global;
 
@@ -18,8 +22,13 @@ pub fn sdf_text(alloc: Global, circuit: &Circuit) -> Result<Vec<u8>, WriteError>
     ensures faultless { OnOk result (IsFaultless circuit.now) }
     // A fault that is told stands in its scope.
     ensures fault { IfErr result (FaultStands circuit.now) }
-    // The tree gives the circuit its delays and limits back, whatever it has in their place.
+    // Of a circuit whose names lead back, the text is read as its tree.
+    ensures read_back { IsNamed circuit.now → IfOk result (λ made. IsReadAs (tree circuit.now) made.items) }
+    // And the tree gives the circuit its delays and limits back, whatever it has in their place.
     ensures given_back { IsNamed circuit.now → IsSettled circuit.now → IsFaultless circuit.now → IsGivenBack circuit.now }
 {
-    Err(WriteError::NoMemory)
+    let parts = circuit.parts();
+    let groups = groups_of(alloc, parts)?;
+    refuse(alloc, parts, &groups)?;
+    written(alloc, parts, &groups)
 }
