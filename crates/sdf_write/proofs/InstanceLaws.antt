@@ -1,7 +1,10 @@
 -- The names that lead to a scope are those of the scopes that it stands in.
 use Rattle.std.proofs.Common.{◌≡◌, ℕ, zero, suc, ◌+◌, ◌<◌, ◌≤◌, List, [], ◌∷◌, ◌++◌, length, reverse, refl, sym, ◌∙◌, ap, subst, arith, append_assoc, append-nil}
-use Rattle.std.specs.Prelude.{map, Option, Some, None, IfSome}
-use Rattle.std.proofs.lemmas.List.{reverse-append, map-append}
+use Rattle.std.specs.Prelude.{All, map, Option, Some, None, IfSome, Result, Ok, Err, OnOk, is_ok, if◌then◌else◌}
+use Rattle.std.proofs.lemmas.List.{reverse-append, map-append, length-map}
+use Rattle.std.proofs.lemmas.List.Elements.{All-nil, All-cons, All-head, All-tail}
+use Rattle.sg_circuit.specs.declared.circuits.Parts.{Parts}
+use Rattle.sg_circuit.specs.Seen.{circuit_seen, scope_seen}
 use Rattle.sg_circuit.specs.Circuit.{Circuit, scope_at}
 use Rattle.sg_circuit.specs.Closed.{IsClosed}
 use Rattle.sdf_write.specs.Names.{name_text, names_text, below, names_in, names_to}
@@ -63,3 +66,42 @@ instance-marked c (s ∷ ss) = ap (λ x. 32 ∷ x) (names-marked c s ss)
 
 pub instance_is : (c : Circuit) (s : ℕ) → marked_names c 32 (reverse (chain c s)) ≡ instance_text (names_to c s)
 instance_is c s = sym (instance-marked c (reverse (chain c s))) ∙ ap instance_text (sym (names-chain c (length c.scopes) s))
+
+-- ---- as they are written
+
+pub long_scopes : (parts : Parts) (s : ℕ) → s < length parts.scopes.items → s < length (circuit_seen parts).scopes
+long_scopes parts s l = let n = length-map parts.scopes.items (λ x. scope_seen x) in omega (arith, n, l)
+
+pub all_front : {A : Type 0} (P : A → Type 0) (xs ys : List A) → All P (xs ++ ys) → All P xs
+all_front P [] ys h = All-nil P
+all_front P (x ∷ xs) ys h = All-cons P x xs (All-head P x (xs ++ ys) h) (all_front P xs ys (All-tail P x (xs ++ ys) h))
+
+-- one name more
+pub name_step : (c : Circuit) (mark next : ℕ) (left new text first second all name : List ℕ) → left ≡ new ++ next ∷ [] → first ≡ text ++ mark ∷ [] → second ≡ first ++ name_text name → name ≡ (scope_at c next).name
+    → text ++ marked_names c mark (reverse left) ≡ all → second ++ marked_names c 47 (reverse new) ≡ all
+name_step c mark next left new text first second all name popped a b is h =
+    let turned : reverse left ≡ next ∷ reverse new = ap reverse popped ∙ reverse-append new (next ∷ []) in
+    let rest = marked_names c 47 (reverse new) in
+    ap (λ t. t ++ rest) (b ∙ (ap (λ t. t ++ name_text name) a ∙ ap (λ n. (text ++ mark ∷ []) ++ name_text n) is))
+    ∙ (append_assoc (text ++ mark ∷ []) (name_text (scope_at c next).name) rest
+    ∙ (append_assoc text (mark ∷ []) (name_text (scope_at c next).name ++ rest)
+    ∙ (ap (λ ss. text ++ marked_names c mark ss) (sym turned) ∙ h)))
+
+-- five pieces, the last of two parts
+pub five_added : {E : Type 0} (r : Result Unit E) (text a t b i d e first second third fourth new : List ℕ) → first ≡ text ++ a → second ≡ first ++ t → third ≡ second ++ b → fourth ≡ third ++ i
+    → new ≡ (if is_ok r then fourth ++ (d ++ e) else fourth) → OnOk r (new ≡ text ++ ((a ++ (t ++ (b ++ (i ++ d)))) ++ e))
+five_added (Err x) text a t b i d e first second third fourth new p q u v w = tt
+five_added (Ok x) text a t b i d e first second third fourth new p q u v w =
+    w ∙ (ap (λ z. z ++ (d ++ e)) (v ∙ (ap (λ z. z ++ i) (u ∙ (ap (λ z. z ++ b) (q ∙ ap (λ z. z ++ t) p)))))
+    ∙ (append_assoc (((text ++ a) ++ t) ++ b) i (d ++ e)
+    ∙ (append_assoc ((text ++ a) ++ t) b (i ++ (d ++ e))
+    ∙ (append_assoc (text ++ a) t (b ++ (i ++ (d ++ e)))
+    ∙ (append_assoc text a (t ++ (b ++ (i ++ (d ++ e))))
+    ∙ ap (λ z. text ++ z)
+      (ap (λ z. a ++ (t ++ (b ++ z))) (sym (append_assoc i d e))
+      ∙ (ap (λ z. a ++ (t ++ z)) (sym (append_assoc b (i ++ d) e))
+      ∙ (ap (λ z. a ++ z) (sym (append_assoc t (b ++ (i ++ d)) e)) ∙ sym (append_assoc a (t ++ (b ++ (i ++ d))) e)))))))))
+
+pub last_is : {A : Type 0} (P : A → Type 0) (xs : List A) (x : A) → All P (xs ++ x ∷ []) → P x
+last_is P [] x h = All-head P x [] h
+last_is P (y ∷ ys) x h = last_is P ys x (All-tail P y (ys ++ x ∷ []) h)

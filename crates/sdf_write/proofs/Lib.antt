@@ -1,5 +1,6 @@
 -- The modules of this folder.
 mod Examples
+mod BlockLaws
 mod CellLaws
 mod DelayLaws
 mod GroupLaws
@@ -7,3 +8,4 @@ mod InstanceLaws
 mod NameLaws
 mod PageLaws
 mod PlaceLaws
+mod ScopeLaws
