@@ -18,17 +18,18 @@ use Rattle.sg_circuit.specs.declared.paths.Path as code_path
 use Rattle.sg_circuit.specs.Checks.{CheckConditions}
 use Rattle.sg_circuit.specs.ChecksSeen.{AreWritten, written_seen}
 use Rattle.sg_circuit.specs.Circuit.{Circuit, Element, element_at}
-use Rattle.sg_circuit.specs.Closed.{IsClosed, IsCheckTiming, IsEventOf, NamesNets}
+use Rattle.sg_circuit.specs.Closed.{IsClosed, IsCheckTiming, IsEventOf, NamesNets, IsPathOf as IsNetPath}
 use Rattle.sg_circuit.specs.Paths as specify
 use Rattle.sg_circuit.specs.PathsSeen.{path_seen, paths_seen, spanned}
-use Rattle.sg_circuit.specs.Seen.{circuit_seen, element_seen, AreIndexed, IsIndexed}
+use Rattle.sg_circuit.specs.Seen.{circuit_seen, element_seen, kind_seen, AreIndexed, IsIndexed}
+use Rattle.sg_circuit.proofs.SeenLaws.{all-unmapped}
 use Rattle.sg_circuit.specs.TimingsSeen.{leg_timing_seen, timings_at}
 use Rattle.annotation_model.specs.Spots.{Spot, path_spot, Checked, checked, all_checked, spots_of}
 use Rattle.sdf_write.specs.declared.pages.Page.{Page}
 use Rattle.sdf_write.specs.declared.parts.Part.TheVariants as part
-use Rattle.sdf_write.specs.Entries.{LegEntry, PathEntry, CheckEntry, numbers_of, legs_at, paths_at, checks_at, check_entry, check_rank, parts_of}
+use Rattle.sdf_write.specs.Entries.{LegEntry, PathEntry, CheckEntry, numbers_of, legs_at, paths_at, checks_at, check_entry, path_rank, check_rank, parts_of}
 use Rattle.sdf_write.specs.Groups.{AreElementsOf, AreChecksOf}
-use Rattle.sdf_write.specs.Page.{IsPage, IsElementOf, IsCheckOf, circuit_of, leg_line, path_line, check_line, lines_of_legs, leg_lines, leg_lines_at, has_path_rank, lines_of_paths, path_lines, path_lines_at, ranked_line, path_entry_of, has_check_rank, check_lines, check_lines_at, checked_at, key_of_part, entries_of_check}
+use Rattle.sdf_write.specs.Page.{IsPage, IsElementOf, IsPathOf, IsCheckOf, circuit_of, leg_line, path_line, check_line, lines_of_legs, leg_lines, leg_lines_at, has_path_rank, lines_of_paths, path_lines, path_lines_at, ranked_line, path_entry_of, has_check_rank, check_lines, check_lines_at, checked_at, key_of_part, entries_of_check}
 
 -- ---- legs
 
@@ -86,6 +87,24 @@ no-path-kind p rank e (kind.Late delay) h = refl
 
 pub no_path : (p : Page) (rank : ℕ) (e : code_element.Element) (text : List ℕ) → ((span : _) (style : _) → e.kind ≡ kind.Path span style → ⊥) → text ≡ text ++ path_lines p rank e
 no_path p rank e text h = sym (ap (λ x. text ++ x) (no-path-kind p rank e e.kind h) ∙ append-nil text)
+
+pub paths_added : (p : Page) (rank : ℕ) (e : code_element.Element) (ps : List code_path.Path) (span : _) (style : _) → IsElementOf p e → e.kind ≡ kind.Path span style → ps ≡ spanned p.parts.now.paths.items span
+    → flat_map (ranked_line p rank e.output) ps ≡ path_lines p rank e
+paths_added p rank e ps span style element is at = ap (flat_map (ranked_line p rank e.output)) at ∙ paths_are p rank e element.scope span style is
+
+pub paths_of_element : (p : Page) (e : code_element.Element) (ps : List code_path.Path) (span : _) (style : _) → IsElementOf p e → e.kind ≡ kind.Path span style → ps ≡ spanned p.parts.now.paths.items span → All (IsPathOf p) ps
+paths_of_element p e ps span style element is at =
+    let nets = all-unmapped (λ q. IsNetPath (length p.parts.now.nets.items) q) (path_seen p.parts.now.conditions.items p.parts.now.leg_timings.items) (spanned p.parts.now.paths.items span)
+        (subst (λ k. NamesNets (length p.parts.now.nets.items) (kind_seen p.parts.now k)) is element.nets) in
+    let indexed = subst (λ k. IsIndexed p.parts.now k) is element.indexed in
+    subst (λ xs. All (IsPathOf p) xs) (sym at) (λ k d l. record { input = (nets k d l).input; indexed = indexed.each k d l })
+
+pub not_ranked : (p : Page) (rank output : ℕ) (path : code_path.Path) (r : ℕ) (text : List ℕ) → r ≡ path_rank (path_entry_of p output path).key → (r ≡ rank → ⊥) → text ≡ text ++ ranked_line p rank output path
+not_ranked p rank output path r text is other =
+    sym (ap (λ b. text ++ cond b (path_line p (path_entry_of p output path)) []) (ne_eqb (path_rank (path_entry_of p output path).key) rank (λ e. other (is ∙ e))) ∙ append-nil text)
+
+pub is_ranked : (p : Page) (rank output : ℕ) (path : code_path.Path) (r : ℕ) → r ≡ path_rank (path_entry_of p output path).key → r ≡ rank → path_line p (path_entry_of p output path) ≡ ranked_line p rank output path
+is_ranked p rank output path r is same = sym (ap (λ b. cond b (path_line p (path_entry_of p output path)) []) (eq-eqb (path_rank (path_entry_of p output path).key) rank (sym is ∙ same)))
 
 -- ---- elements by their numbers
 
