@@ -1,7 +1,8 @@
 -- A text between two lines, or nothing where it is empty.
-use Rattle.std.proofs.Common.{◌≡◌, ℕ, ◌+◌, ◌<◌, ◌≤◌, List, [], ◌∷◌, ◌++◌, length, take, drop, refl, sym, ◌∙◌, ap, arith, append_assoc, append-nil, length-append}
-use Rattle.std.specs.Prelude.{Result, Ok, Err, OnOk}
-use Rattle.std.proofs.lemmas.List.{take-append-drop, take-take, take_at, drop_at, drop_all}
+use Rattle.std.proofs.Common.{◌≡◌, ℕ, ◌+◌, ◌<◌, ◌≤◌, List, [], ◌∷◌, ◌++◌, length, take, drop, refl, sym, ◌∙◌, ap, arith, append_assoc, append-nil, get_or, length-drop}
+use Rattle.std.specs.Prelude.{Result, Ok, Err, OnOk, is_ok, flat_map, if◌then◌else◌}
+use Rattle.std.proofs.lemmas.List.{take-append-drop, take-take, take_at, take_more, drop_at, drop_all}
+use Rattle.std.proofs.lemmas.Grind.{flat_map-append}
 use Rattle.sdf_write.specs.Text.{enclosed}
 
 enclosed-some : (first last inner : List ℕ) → 0 < length inner → enclosed first last inner ≡ first ++ (inner ++ last)
@@ -32,3 +33,14 @@ block_closed (Ok x) old first inside last text new start inner a b t h =
     let rest : drop inner text ≡ inside = ap (drop inner) t ∙ drop_at (old ++ first) inside inner (sym b) in
     h ∙ (ap (λ o. o ++ enclosed (drop start (take inner text)) last (drop inner text)) taken
     ∙ (ap (λ f. old ++ enclosed f last (drop inner text)) behind ∙ ap (λ i. old ++ enclosed first last i) rest))
+
+pub close_added : {E : Type 0} (r : Result Unit E) (old : List ℕ) (start inner : ℕ) (last new : List ℕ) → start ≤ inner → inner < length old → new ≡ (if is_ok r then old ++ last else old)
+    → OnOk r (new ≡ take start old ++ enclosed (drop start (take inner old)) last (drop inner old))
+close_added (Err e) old start inner last new l m h = tt
+close_added (Ok x) old start inner last new l m h = h ∙ close_some old start inner last l (let n = length-drop inner old in omega (arith, m, n))
+
+-- one item more of a list
+pub flat_step : (f : ℕ → List ℕ) (xs : List ℕ) (i : ℕ) (start text new : List ℕ) → i < length xs → text ≡ start ++ flat_map f (take i xs) → new ≡ text ++ f (get_or xs i 0) → new ≡ start ++ flat_map f (take (i + 1) xs)
+flat_step f xs i start text new l h more =
+    more ∙ (ap (λ t. t ++ f (get_or xs i 0)) h ∙ (append_assoc start (flat_map f (take i xs)) (f (get_or xs i 0))
+    ∙ ap (λ t. start ++ t) (sym (ap (flat_map f) (take_more xs i 0 l) ∙ (flat_map-append f (take i xs) (get_or xs i 0 ∷ []) ∙ ap (λ t. flat_map f (take i xs) ++ t) (append-nil (f (get_or xs i 0))))))))

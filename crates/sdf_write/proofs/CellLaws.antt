@@ -183,3 +183,10 @@ is_check_of p page i t w l at_t at_w =
     datum : (o : Option Event) → IfSome o (λ e. IsEventOf (length p.parts.now.nets.items) e) → IfSome o (λ e. e.net < length p.parts.now.nets.items)
     datum None h = tt
     datum (Some e) h = h.net
+
+pub not_check_rank : (p : Page) (rank : ℕ) (t : CheckTiming) (w : code_conditions.CheckConditions) (r : ℕ) (text : List ℕ) → r ≡ check_rank (key_of_part p t w part.Setup) → (r ≡ rank → ⊥) → text ≡ text ++ check_lines p rank t w
+not_check_rank p rank t w r text is other =
+    sym (ap (λ b. text ++ cond b (flat_map (check_line p) (entries_of_check p t w)) []) (ne_eqb (check_rank (key_of_part p t w part.Setup)) rank (λ e. other (is ∙ e))) ∙ append-nil text)
+
+pub is_check_rank : (p : Page) (rank : ℕ) (t : CheckTiming) (w : code_conditions.CheckConditions) (r : ℕ) → r ≡ check_rank (key_of_part p t w part.Setup) → r ≡ rank → flat_map (check_line p) (entries_of_check p t w) ≡ check_lines p rank t w
+is_check_rank p rank t w r is same = sym (ap (λ b. cond b (flat_map (check_line p) (entries_of_check p t w)) []) (eq-eqb (check_rank (key_of_part p t w part.Setup)) rank (sym is ∙ same)))
