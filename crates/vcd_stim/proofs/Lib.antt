@@ -21,3 +21,4 @@ pub mod AppliedLaws
 pub mod EndLaws
 pub mod CodeLaws
 pub mod TableLaws
+pub mod BackLaws

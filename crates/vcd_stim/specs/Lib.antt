@@ -4,3 +4,4 @@ pub mod Paths
 pub mod Index
 pub mod Steps
 pub mod Whole
+pub mod Back

@@ -1,6 +1,7 @@
 //! Reads a value change dump as the stimulus of a circuit (IEEE 1364-2005, 18.2).
 #![tactic(auto)]
 
+mod again;
 mod bits;
 mod clock;
 mod faults;
@@ -13,4 +14,4 @@ mod sections;
 mod steps;
 mod times;
 
-pub use reading::read_vcd;
+pub use again::read_vcd;

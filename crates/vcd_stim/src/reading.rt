@@ -91,11 +91,8 @@ fn scale_of(circuit: &Circuit, sections: &[Section]) -> Scale
     }
 }
 
-/// The stimulus that a value change dump is for a circuit: the variables of the scope with a path, the names of the scopes joined by
-/// points, that are named as inputs of the circuit's top stand for these inputs (IEEE 1364-2005, 18.2). Its times are in ticks. Or a
-/// fault that stands in the dump, whose file has the number 0. Takes memory in proportion to the header, the number of the top's
-/// inputs and the values of inputs.
-pub fn read_vcd(
+/// The stimulus of a dump, or a fault that stands in it.
+pub fn read_dump(
     alloc: Global,
     bytes: &[u8],
     circuit: &Circuit,

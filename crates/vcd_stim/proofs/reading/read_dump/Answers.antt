@@ -12,7 +12,7 @@ use Rattle.vcd_stim.proofs.EndLaws.{applied-is, items-read, known-for, read-is, 
 use Rattle.vcd_stim.proofs.FaultLaws.{too-long-stands, HeaderIs}
 use Rattle.vcd_stim.proofs.ReadingLaws.{sections-stand}
 use Rattle.vcd_stim.proofs.Refusals.{exit-err}
-use Rattle.vcd_stim.proofs.reading.read_vcd.Goals as goal
+use Rattle.vcd_stim.proofs.reading.read_dump.Goals as goal
 
 pub returns-then-bytes-gt-MOST_BYTES-clause-refused :
     goal.returns-then-bytes-gt-MOST_BYTES-clause-refused
