@@ -1,6 +1,6 @@
 -- A run's own dump is read as the stimulus that makes the run again.
-use Rattle.std.proofs.Common.{◌≡◌, ◌≤◌, ℕ, List, Result, Ok, Err, IfOk, IfErr, sym, subst, length}
-use Rattle.sg_circuit.specs.Circuit.{Circuit, scope_at}
+use Rattle.std.proofs.Common.{◌≤◌, ℕ, List, Result, Ok, Err, IfOk, IfErr, sym, subst, length}
+use Rattle.sg_circuit.specs.Circuit.{Circuit}
 use Rattle.sg_stimulus.specs.Seen.{stimulus_seen}
 use Rattle.sg_stimulus.specs.Stimulus.{Stimulus}
 use Rattle.sg_stimulus.specs.declared.steps.Stimulus as code

@@ -1,19 +1,17 @@
 -- What is given is given to inputs of the circuit.
-use Rattle.std.specs.Prelude.{zero, suc, ℕ, ◌≡◌, ◌<◌, ◌==◌, ◌&&◌, Bool, true, false, cond, List, [], ◌∷◌, ◌++◌, length, map, filter, flat_map, zip, option_to_list, Option, Some, None, refl, if◌then◌else◌}
-use Rattle.std.specs.Option.{option_and_then}
+use Rattle.std.specs.Prelude.{ℕ, ◌≡◌, ◌==◌, Bool, true, false, List, [], ◌∷◌, length, map, filter, flat_map, zip, option_to_list, Option, Some, None, refl, if◌then◌else◌}
 use Rattle.std.specs.List.{list_all}
-use Rattle.std.proofs.Common.{sym, ◌∙◌, ap}
 use Rattle.std.proofs.lemmas.Bool.{and_parts}
 use Rattle.sg_logic.specs.declared.values.Value.{Value}
 use Rattle.sg_circuit.specs.Circuit.{Circuit, Variable}
 use Rattle.sg_stimulus.specs.Applied.{IsInput}
-use Rattle.stim_read.specs.Inputs.{input_named, is_input_net, nets_of}
+use Rattle.stim_read.specs.Inputs.{is_input_net, nets_of}
 use Rattle.stim_read.proofs.InputLaws.{found-pass, input-net}
 use Rattle.vcd_form.specs.Written.{Declaration, Item, instant, nothing, real, value}
 use Rattle.vcd_model.specs.Inputs.{called, index_of, input_of, nets_at, of_width}
-use Rattle.vcd_model.specs.Values.{bits_given, bits_of, given, given_by, given_to, is_of_code, timed, Given}
+use Rattle.vcd_model.specs.Values.{bits_given, bits_of, given_by, given_to, is_of_code, Given}
 use Rattle.vcd_stim.specs.Steps.{Each}
-use Rattle.vcd_stim.proofs.Lists.{each-append, each-map, each-weaker}
+use Rattle.vcd_stim.proofs.Lists.{each-append, each-map}
 
 abbrev pub GivesInputs : Circuit → List Given → Type 0
 GivesInputs circuit gs = Each (λ g. IsInput circuit g.net) gs

@@ -1,5 +1,5 @@
 -- Values that are put to nets one after another: of each net the last one stays, in the order of the nets.
-use Rattle.std.specs.Prelude.{zero, suc, ℕ, ◌+◌, ◌-◌, ◌≡◌, ◌<◌, ◌≤◌, ◌==◌, ◌&&◌, nat_lt, Bool, true, false, cond, List, [], ◌∷◌, ◌++◌, length, map, zip, take, drop, filter, filter_map, replicate, Option, Some, None, refl, if◌then◌else◌}
+use Rattle.std.specs.Prelude.{zero, suc, ℕ, ◌+◌, ◌-◌, ◌≡◌, ◌<◌, ◌≤◌, ◌==◌, ◌&&◌, Bool, true, false, cond, List, [], ◌∷◌, ◌++◌, length, map, zip, take, drop, filter, filter_map, replicate, Option, Some, None, refl, if◌then◌else◌}
 use Rattle.std.specs.Option.{option_map, option_or}
 use Rattle.std.specs.List.{cons_option, range_with_len}
 use Rattle.std.specs.BTreeMap.{insert_entry}

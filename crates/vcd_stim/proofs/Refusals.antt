@@ -1,5 +1,5 @@
 -- One of several faults is refused.
-use Rattle.std.specs.Prelude.{ℕ, ◌+◌, ◌%◌, ◌/◌, ◌*◌, ◌^◌, ◌≡◌, ◌==◌, Bool, true, false, not, nat_le, nat_lt, List, [], ◌∷◌, ◌++◌, length, Result, Ok, Err, MatchResult, IfErr, refl, if◌then◌else◌}
+use Rattle.std.specs.Prelude.{ℕ, ◌+◌, ◌/◌, ◌*◌, ◌^◌, ◌≡◌, Bool, true, false, not, nat_le, nat_lt, List, [], ◌∷◌, ◌++◌, length, Result, Ok, Err, MatchResult, IfErr, refl, if◌then◌else◌}
 use Rattle.std.specs.List.{IsAmong}
 use Rattle.std.proofs.Common.{sym, ◌∙◌, ap, subst, arith, length-append}
 use Rattle.std.proofs.lemmas.List.{get_or_append_left, get_or-append-add}
@@ -10,7 +10,7 @@ use Rattle.vcd_model.specs.declared.kinds.VcdKind.{VcdKind}
 use Rattle.vcd_model.specs.declared.kinds.VcdKind.TheVariants.{NotWholeTick, TimeFalls, TooLarge}
 use Rattle.vcd_model.specs.Faults.{fault, fault_if, many_digits, time_faults, Fault}
 use Rattle.vcd_model.specs.Values.{denominator, is_too_large, is_whole, numerator, Scale}
-use Rattle.vcd_stim.specs.Meant.{fraction_ticks, time_ticks, told, RefusesOneOf}
+use Rattle.vcd_stim.specs.Meant.{time_ticks, told, RefusesOneOf}
 
 among-left : {A : Type 0} (xs ys : List A) (v : A) → IsAmong xs v → IsAmong (xs ++ ys) v
 among-left xs ys v (i, (lt, e)) =

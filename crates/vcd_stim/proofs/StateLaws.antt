@@ -1,11 +1,10 @@
 -- Steps are begun, put to, and closed at a later time.
-use Rattle.std.specs.Prelude.{ℕ, ◌+◌, ◌*◌, ◌/◌, ◌≡◌, ◌<◌, ◌≤◌, List, [], ◌∷◌, ◌++◌, map, refl}
+use Rattle.std.specs.Prelude.{ℕ, ◌+◌, ◌/◌, ◌≡◌, ◌<◌, ◌≤◌, List, [], ◌∷◌, ◌++◌, map, refl}
 use Rattle.std.proofs.Common.{inl, inr, sym, ◌∙◌, ap, subst, arith}
 use Rattle.std.proofs.lemmas.Bool.{cases_lt}
 use Rattle.std.proofs.Math.Nat.{zero-div}
 use Rattle.std.proofs.lemmas.List.{append_assoc, append-nil, map-append}
 use Rattle.sg_stimulus.specs.Seen.{step_seen}
-use Rattle.sg_stimulus.specs.Stimulus.{Step}
 use Rattle.vcd_model.specs.Stimulus.{steps_of}
 use Rattle.vcd_model.specs.Values.{denominator, numerator, ticks, Given, Scale}
 use Rattle.vcd_stim.specs.Meant.{IsMoment}

@@ -1,24 +1,21 @@
 -- Steps of given values, of which those of the last time are still open.
-use Rattle.std.specs.Prelude.{suc, ℕ, ◌≡◌, ◌<◌, ◌==◌, ◌&&◌, ◌||◌, not, Bool, true, false, cond, List, [], ◌∷◌, ◌++◌, length, map, filter, filter_map, Option, Some, None, refl}
+use Rattle.std.specs.Prelude.{ℕ, ◌≡◌, ◌<◌, ◌==◌, ◌&&◌, not, Bool, true, false, List, [], ◌∷◌, ◌++◌, map, filter, Option, refl}
 use Rattle.std.specs.Option.{option_map}
 use Rattle.std.specs.List.{range_with_len}
 use Rattle.std.specs.BTreeMap.{insert_entry}
 use Rattle.std.specs.Ordering.{match_ordering, nat_cmp}
 use Rattle.std.specs.declared.cmp.Ordering.{Ordering}
 use Rattle.std.specs.declared.cmp.Ordering.TheVariants.{Less, Equal, Greater}
-use Rattle.std.proofs.Common.{sym, ◌∙◌, ap, subst, arith}
-use Rattle.std.proofs.lemmas.Bool.{eq-eqb, ne_eqb, lt-ltb, le-ltb}
-use Rattle.std.proofs.lemmas.List.{map-append, append_assoc, append-nil}
+use Rattle.std.proofs.Common.{sym, ◌∙◌, ap, arith}
+use Rattle.std.proofs.lemmas.Bool.{eq-eqb, ne_eqb}
+use Rattle.std.proofs.lemmas.List.{map-append, append-nil}
 use Rattle.sg_logic.specs.declared.values.Value.{Value}
-use Rattle.sg_stimulus.specs.Seen.{step_seen}
 use Rattle.sg_stimulus.specs.Stimulus.{Step}
 use Rattle.vcd_model.specs.Stimulus.{is_given, last, last_given, once, step_at, steps_of}
 use Rattle.vcd_model.specs.Values.{ticks, Given, Scale}
-use Rattle.vcd_stim.specs.Meant.{IsMoment}
-use Rattle.vcd_stim.specs.Steps.{pairs, put_all, step_of, Each, HasSteps}
-use Rattle.vcd_stim.specs.declared.steps.Steps.{Steps}
-use Rattle.vcd_stim.proofs.Lists.{all-kept, each-append, each-filter, each-map, each-weaker, filter-apart, map-same, none-kept, picks-same}
-use Rattle.vcd_stim.proofs.PutLaws.{open-sets, put_append}
+use Rattle.vcd_stim.specs.Steps.{pairs, put_all, step_of, Each}
+use Rattle.vcd_stim.proofs.Lists.{all-kept, each-filter, each-map, each-weaker, filter-apart, map-same, none-kept, picks-same}
+use Rattle.vcd_stim.proofs.PutLaws.{open-sets}
 
 -- ---- each time once
 

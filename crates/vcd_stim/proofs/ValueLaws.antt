@@ -1,17 +1,15 @@
 -- What a value gives to the inputs of its code, by the table of codes.
-use Rattle.std.specs.Prelude.{ℕ, ◌+◌, ◌≡◌, ◌==◌, ◌&&◌, nat_lt, Bool, true, false, not, cond, List, [], ◌∷◌, ◌++◌, length, map, filter, flat_map, zip, option_to_list, bytes_eq, Option, Some, None, is_some, refl, if◌then◌else◌}
+use Rattle.std.specs.Prelude.{ℕ, ◌+◌, ◌≡◌, ◌==◌, ◌&&◌, nat_lt, Bool, true, false, cond, List, [], ◌∷◌, ◌++◌, length, map, filter, flat_map, option_to_list, Option, Some, None, is_some, refl, if◌then◌else◌}
 use Rattle.std.specs.Option.{option_and_then}
-use Rattle.std.specs.List.{list_any}
-use Rattle.std.proofs.Common.{sym, ◌∙◌, ap, arith}
+use Rattle.std.proofs.Common.{sym, ◌∙◌, ap}
 use Rattle.std.proofs.lemmas.Bool.{eqb-true}
-use Rattle.std.proofs.lemmas.List.{append-nil}
 use Rattle.sg_logic.specs.declared.values.Value.{Value}
 use Rattle.sg_circuit.specs.Circuit.{Circuit, Variable}
 use Rattle.vcd_form.specs.Written.{Declaration}
 use Rattle.vcd_model.specs.declared.kinds.VcdKind.TheVariants.{Syntax, WidthMismatch}
 use Rattle.vcd_model.specs.Faults.{fault, fault_if, inputs_of, length_faults, variable_faults, width_faults, Fault, Header}
 use Rattle.vcd_model.specs.Inputs.{input_of, nets_at, of_width}
-use Rattle.vcd_model.specs.Values.{bits_given, bits_of, given_to, is_of_code, Given}
+use Rattle.vcd_model.specs.Values.{bits_given, given_to, is_of_code, Given}
 use Rattle.vcd_stim.specs.Index.{nets_coded, nets_meant}
 use Rattle.vcd_stim.specs.Steps.{nets_faults, nets_given, pairs}
 

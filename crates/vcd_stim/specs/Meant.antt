@@ -1,5 +1,5 @@
 -- Joins the definitions to the reader: what it makes of a name, a time and a fault.
-use Rattle.std.specs.Prelude.{ℕ, ℤ, ◌≡◌, ◌*◌, ◌/◌, ◌%◌, ◌^◌, ◌==◌, ◌<◌, not, nat_le, List, Option, option_map, Result, Ok, Err, if◌then◌else◌}
+use Rattle.std.specs.Prelude.{ℕ, ◌≡◌, ◌*◌, ◌/◌, ◌%◌, ◌^◌, ◌==◌, not, nat_le, List, option_map, Result, Ok, Err, if◌then◌else◌}
 use Rattle.std.specs.List.{IsAmong}
 use Rattle.grammar.specs.declared.ReadFault.{ReadFault}
 use Rattle.grammar.specs.declared.ReadFault.TheVariants as read
@@ -9,7 +9,7 @@ use Rattle.vcd_model.specs.declared.kinds.VcdKind.{VcdKind}
 use Rattle.vcd_model.specs.declared.kinds.VcdKind.TheVariants.{Syntax, NotWholeTick, TooLarge}
 use Rattle.vcd_model.specs.Faults.{Fault}
 use Rattle.vcd_model.specs.Inputs.{Called}
-use Rattle.vcd_model.specs.Values.{denominator, numerator, ticks, is_whole, Scale}
+use Rattle.vcd_model.specs.Values.{denominator, numerator, ticks, Scale}
 use Rattle.vcd_stim.specs.declared.clock.Moment.{Moment}
 use Rattle.vcd_stim.specs.declared.names.Called as code_called
 use Rattle.vcd_stim.specs.declared.times.Scale as code_scale

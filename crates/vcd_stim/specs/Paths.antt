@@ -1,7 +1,6 @@
 -- How much of the path of a scope is read in open scopes.
 use Rattle.std.specs.Prelude.{ℕ, ◌+◌, ◌-◌, ◌==◌, nat_le, nat_eq, Bool, false, List, [], ◌∷◌, ◌++◌, drop, length, slice_get, Option, Some, None, option_and_then, if◌then◌else◌}
 use Rattle.std.specs.List.{starts_with}
-use Rattle.vcd_model.specs.Inputs.{path}
 
 -- where a front of a text ends once a piece more is read, if that stands there
 abbrev pub goes_on : List ℕ → ℕ → List ℕ → Option ℕ

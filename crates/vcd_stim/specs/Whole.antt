@@ -1,7 +1,6 @@
 -- The items behind a header that are read, and why one stops the reading.
 use Rattle.std.specs.Prelude.{◌≡◌, ◌<◌, ℕ, List, [], ◌∷◌, length, map, flat_map, Option, Some, None, Result, Ok, Err}
 use Rattle.std.specs.Global.{Vec}
-use Rattle.std.specs.List.{IsAmong}
 use Rattle.grammar.specs.Language.{SpellsMany}
 use Rattle.sg_stimulus.specs.Stimulus.{Stimulus}
 use Rattle.sg_text.specs.declared.refusals.Refused.{Refused}

@@ -17,5 +17,7 @@ mod writer;
 mod zeroed;
 
 pub use laws::{calls_of_a_run_are_its_dump, nested_texts};
+pub use paths::{push_net, push_path};
 pub use report::{ReportEnd, Spent, spent_text, write_report};
+pub use unmatched::push_unmatched;
 pub use writer::VcdWriter;
