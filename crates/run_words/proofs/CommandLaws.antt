@@ -1,8 +1,9 @@
--- The command of the words, from that of their arguments.
-use Rattle.std.proofs.Common.{◌≡◌, ℕ, ◌-◌, ◌≤◌, List, take, drop, map, length, slice_index_or, Bool, true, cond, sym, ap, ◌∙◌, Result, Ok, Err, Option, Some, None, option_map, option_and_then, codes, IfOk}
+-- What is asked for by words, from their arguments.
+use Rattle.std.proofs.Common.{◌≡◌, ℕ, ◌-◌, ◌≤◌, List, take, drop, map, length, slice_index_or, Bool, true, false, cond, sym, ap, ◌∙◌, Result, Ok, Err, Option, Some, None, option_map, IfOk}
 use Rattle.run_words.proofs.FrontLaws.{front_words}
-use Rattle.run_words.specs.Arguments.{Argument, is_text, arguments_of}
-use Rattle.run_words.specs.Words.{Command, are_sound, command_from, command_of, command_with, netlists_of}
+use Rattle.run_words.specs.declared.subcommands.Subcommand.{Subcommand}
+use Rattle.run_words.specs.Arguments.{Argument}
+use Rattle.run_words.specs.Words.{Asked, are_sound, asked_after, asked_by, asked_from, asked_with, netlists_of, options_of, subcommand_of}
 
 pub if_ok_same : {A E B : Type 0} (r : Result A E) (f : A → B) (x y : B) → IfOk r (λ c. f c ≡ x) → x ≡ y → IfOk r (λ c. f c ≡ y)
 if_ok_same (Ok c) f x y h e = h ∙ e
@@ -14,14 +15,18 @@ some_read seen read v arguments e is = ap (option_map seen) (sym is) ∙ e
 pub none_read : {V : Type 0} (seen : V → List Argument) (read : Option V) (arguments : Option (List Argument)) → option_map seen read ≡ arguments → read ≡ None → None ≡ arguments
 none_read seen read arguments e is = ap (option_map seen) (sym is) ∙ e
 
-pub run_first : {W : Type 0} (f : W → List ℕ) (words : List W) (word : W) (text : List ℕ) → 1 ≤ length words → word ≡ slice_index_or words 0 word → text ≡ f word → is_text (codes "run") text ≡ true
-    → option_and_then command_from (arguments_of (map f (take (length words - 1) (drop 1 words)))) ≡ command_of (map f words)
-run_first f words word text some is spelled run =
-    let rest = map f (take (length words - 1) (drop 1 words)) in
-    sym (ap command_of (front_words f words word text some is spelled) ∙ ap (λ b. cond b (option_and_then command_from (arguments_of rest)) None) run)
+pub subcommand_first : {W : Type 0} (f : W → List ℕ) (words : List W) (word : W) (text : List ℕ) → 1 ≤ length words → word ≡ slice_index_or words 0 word → text ≡ f word
+    → asked_after (map f (take (length words - 1) (drop 1 words))) (subcommand_of text) ≡ asked_by (map f words)
+subcommand_first f words word text some is spelled = sym (ap asked_by (front_words f words word text some is spelled))
 
--- the command of sound arguments
-pub sound_command : (arguments : List Argument) (netlists : List (List ℕ)) (found : Option Command) (sound : Bool) → sound ≡ are_sound arguments → sound ≡ true → netlists ≡ netlists_of arguments
-    → found ≡ command_with netlists arguments → found ≡ command_from arguments
-sound_command arguments netlists found sound s t n e =
-    e ∙ ap (λ ns. command_with ns arguments) n ∙ sym (ap (λ b. cond b (command_with (netlists_of arguments) arguments) None) (sym s ∙ t))
+-- what sound arguments ask for
+pub sound_asked : (subcommand : Subcommand) (options : List (List ℕ)) (arguments : List Argument) (netlists : List (List ℕ)) (found : Option Asked) (sound : Bool) → options ≡ options_of subcommand → sound ≡ are_sound options arguments
+    → sound ≡ true → netlists ≡ netlists_of arguments → found ≡ asked_with subcommand netlists arguments → found ≡ asked_from subcommand arguments
+sound_asked subcommand options arguments netlists found sound o s t n e =
+    e ∙ ap (λ ns. asked_with subcommand ns arguments) n
+    ∙ sym (ap (λ b. cond b (asked_with subcommand (netlists_of arguments) arguments) None) (ap (λ os. are_sound os arguments) (sym o) ∙ sym s ∙ t))
+
+-- what others ask for
+pub unsound_asked : (subcommand : Subcommand) (options : List (List ℕ)) (arguments : List Argument) (sound : Bool) → options ≡ options_of subcommand → sound ≡ are_sound options arguments → sound ≡ false
+    → None ≡ asked_from subcommand arguments
+unsound_asked subcommand options arguments sound o s t = sym (ap (λ b. cond b (asked_with subcommand (netlists_of arguments) arguments) None) (ap (λ os. are_sound os arguments) (sym o) ∙ sym s ∙ t))

@@ -1,81 +1,81 @@
 -- Worked examples of the words.
 use Rattle.std.proofs.Common.{◌≡◌, [], ◌∷◌, Some, None, codes, refl}
 use Rattle.sg_delay.specs.declared.corners.Corner.TheVariants.{Max}
-use Rattle.run_words.specs.Words.{a_case, a_stimulus, a_wave, asked_of, command_of, default_corner, default_rounds, default_wheel, names_in}
+use Rattle.run_words.specs.Words.{a_case, a_run, a_stimulus, a_wave, asked_of, default_corner, default_rounds, default_wheel, names_in, the_bounds}
 
 -- `run --stim=s --vcd v -- -a.v`
-behind_the_end : command_of (codes "run" ∷ codes "--stim=s" ∷ codes "--vcd" ∷ codes "v" ∷ codes "--" ∷ codes "-a.v" ∷ [])
-    ≡ Some (record { netlists = codes "-a.v" ∷ []; sdf = None; input = a_stimulus (codes "s"); vcd = codes "v"; top = None; corner = default_corner; rounds = default_rounds; wheel = default_wheel })
+behind_the_end : asked_of (codes "run" ∷ codes "--stim=s" ∷ codes "--vcd" ∷ codes "v" ∷ codes "--" ∷ codes "-a.v" ∷ [])
+    ≡ Some (a_run (record { design = record { netlists = codes "-a.v" ∷ []; sdf = None; top = None; corner = default_corner }; input = a_stimulus (codes "s"); vcd = codes "v"; rounds = default_rounds; wheel = default_wheel }))
 behind_the_end = refl
 
 -- `run a.v --stim s b.v --vcd v c.v`
-three_netlists : names_in (command_of (codes "run" ∷ codes "a.v" ∷ codes "--stim" ∷ codes "s" ∷ codes "b.v" ∷ codes "--vcd" ∷ codes "v" ∷ codes "c.v" ∷ []))
+three_netlists : names_in (asked_of (codes "run" ∷ codes "a.v" ∷ codes "--stim" ∷ codes "s" ∷ codes "b.v" ∷ codes "--vcd" ∷ codes "v" ∷ codes "c.v" ∷ []))
     ≡ codes "a.v" ∷ codes "b.v" ∷ codes "c.v" ∷ codes "s" ∷ codes "v" ∷ []
 three_netlists = refl
 
 -- `run a.v --stim=-s --vcd v --corner max --rounds 0000007`
-value_with_a_dash : command_of (codes "run" ∷ codes "a.v" ∷ codes "--stim=-s" ∷ codes "--vcd" ∷ codes "v" ∷ codes "--corner" ∷ codes "max" ∷ codes "--rounds" ∷ codes "0000007" ∷ [])
-    ≡ Some (record { netlists = codes "a.v" ∷ []; sdf = None; input = a_stimulus (codes "-s"); vcd = codes "v"; top = None; corner = Max; rounds = 7; wheel = default_wheel })
+value_with_a_dash : asked_of (codes "run" ∷ codes "a.v" ∷ codes "--stim=-s" ∷ codes "--vcd" ∷ codes "v" ∷ codes "--corner" ∷ codes "max" ∷ codes "--rounds" ∷ codes "0000007" ∷ [])
+    ≡ Some (a_run (record { design = record { netlists = codes "a.v" ∷ []; sdf = None; top = None; corner = Max }; input = a_stimulus (codes "-s"); vcd = codes "v"; rounds = 7; wheel = default_wheel }))
 value_with_a_dash = refl
 
 -- `run a.v --sdf=d.sdf --vcd v --stim s`
-with_delays : names_in (command_of (codes "run" ∷ codes "a.v" ∷ codes "--sdf=d.sdf" ∷ codes "--vcd" ∷ codes "v" ∷ codes "--stim" ∷ codes "s" ∷ []))
+with_delays : names_in (asked_of (codes "run" ∷ codes "a.v" ∷ codes "--sdf=d.sdf" ∷ codes "--vcd" ∷ codes "v" ∷ codes "--stim" ∷ codes "s" ∷ []))
     ≡ codes "a.v" ∷ codes "d.sdf" ∷ codes "s" ∷ codes "v" ∷ []
 with_delays = refl
 
 -- no words; an option twice; no netlist; a wheel of 0; eight digits
-no_words : command_of [] ≡ None
+no_words : asked_of [] ≡ None
 no_words = refl
 
-stimulus_twice : command_of (codes "run" ∷ codes "a.v" ∷ codes "--stim" ∷ codes "s" ∷ codes "--stim" ∷ codes "t" ∷ codes "--vcd" ∷ codes "v" ∷ []) ≡ None
+stimulus_twice : asked_of (codes "run" ∷ codes "a.v" ∷ codes "--stim" ∷ codes "s" ∷ codes "--stim" ∷ codes "t" ∷ codes "--vcd" ∷ codes "v" ∷ []) ≡ None
 stimulus_twice = refl
 
-no_netlist : command_of (codes "run" ∷ codes "--stim" ∷ codes "s" ∷ codes "--vcd" ∷ codes "v" ∷ []) ≡ None
+no_netlist : asked_of (codes "run" ∷ codes "--stim" ∷ codes "s" ∷ codes "--vcd" ∷ codes "v" ∷ []) ≡ None
 no_netlist = refl
 
-wheel_of_none : command_of (codes "run" ∷ codes "a.v" ∷ codes "--stim" ∷ codes "s" ∷ codes "--vcd" ∷ codes "v" ∷ codes "--wheel" ∷ codes "0" ∷ []) ≡ None
+wheel_of_none : asked_of (codes "run" ∷ codes "a.v" ∷ codes "--stim" ∷ codes "s" ∷ codes "--vcd" ∷ codes "v" ∷ codes "--wheel" ∷ codes "0" ∷ []) ≡ None
 wheel_of_none = refl
 
-eight_digits : command_of (codes "run" ∷ codes "a.v" ∷ codes "--stim" ∷ codes "s" ∷ codes "--vcd" ∷ codes "v" ∷ codes "--wheel" ∷ codes "00000008" ∷ []) ≡ None
+eight_digits : asked_of (codes "run" ∷ codes "a.v" ∷ codes "--stim" ∷ codes "s" ∷ codes "--vcd" ∷ codes "v" ∷ codes "--wheel" ∷ codes "00000008" ∷ []) ≡ None
 eight_digits = refl
 
-sdf_twice : command_of (codes "run" ∷ codes "a.v" ∷ codes "--stim" ∷ codes "s" ∷ codes "--vcd" ∷ codes "v" ∷ codes "--sdf" ∷ codes "d" ∷ codes "--sdf" ∷ codes "e" ∷ []) ≡ None
+sdf_twice : asked_of (codes "run" ∷ codes "a.v" ∷ codes "--stim" ∷ codes "s" ∷ codes "--vcd" ∷ codes "v" ∷ codes "--sdf" ∷ codes "d" ∷ codes "--sdf" ∷ codes "e" ∷ []) ≡ None
 sdf_twice = refl
 
-empty_sdf : command_of (codes "run" ∷ codes "a.v" ∷ codes "--stim" ∷ codes "s" ∷ codes "--vcd" ∷ codes "v" ∷ codes "--sdf=" ∷ []) ≡ None
+empty_sdf : asked_of (codes "run" ∷ codes "a.v" ∷ codes "--stim" ∷ codes "s" ∷ codes "--vcd" ∷ codes "v" ∷ codes "--sdf=" ∷ []) ≡ None
 empty_sdf = refl
 
 -- `-` as a netlist; `-` as the next word's value; an empty value; a name cut short; `--` as a value
-dash_alone : command_of (codes "run" ∷ codes "-" ∷ codes "--stim" ∷ codes "s" ∷ codes "--vcd" ∷ codes "v" ∷ []) ≡ None
+dash_alone : asked_of (codes "run" ∷ codes "-" ∷ codes "--stim" ∷ codes "s" ∷ codes "--vcd" ∷ codes "v" ∷ []) ≡ None
 dash_alone = refl
 
-dash_as_value : command_of (codes "run" ∷ codes "a.v" ∷ codes "--stim" ∷ codes "-" ∷ codes "--vcd" ∷ codes "v" ∷ []) ≡ None
+dash_as_value : asked_of (codes "run" ∷ codes "a.v" ∷ codes "--stim" ∷ codes "-" ∷ codes "--vcd" ∷ codes "v" ∷ []) ≡ None
 dash_as_value = refl
 
-empty_value : command_of (codes "run" ∷ codes "a.v" ∷ codes "--stim=" ∷ codes "--vcd" ∷ codes "v" ∷ []) ≡ None
+empty_value : asked_of (codes "run" ∷ codes "a.v" ∷ codes "--stim=" ∷ codes "--vcd" ∷ codes "v" ∷ []) ≡ None
 empty_value = refl
 
-short_name : command_of (codes "run" ∷ codes "a.v" ∷ codes "--sti" ∷ codes "s" ∷ codes "--vcd" ∷ codes "v" ∷ []) ≡ None
+short_name : asked_of (codes "run" ∷ codes "a.v" ∷ codes "--sti" ∷ codes "s" ∷ codes "--vcd" ∷ codes "v" ∷ []) ≡ None
 short_name = refl
 
-end_as_value : command_of (codes "run" ∷ codes "a.v" ∷ codes "--stim" ∷ codes "s" ∷ codes "--vcd" ∷ codes "--" ∷ codes "v" ∷ []) ≡ None
+end_as_value : asked_of (codes "run" ∷ codes "a.v" ∷ codes "--stim" ∷ codes "s" ∷ codes "--vcd" ∷ codes "--" ∷ codes "v" ∷ []) ≡ None
 end_as_value = refl
 
 -- `run a.v --wave w --vcd v --scope tb.dut`, and without a scope; both files; neither; a scope with a stimulus
-with_a_wave : command_of (codes "run" ∷ codes "a.v" ∷ codes "--wave" ∷ codes "w" ∷ codes "--vcd" ∷ codes "v" ∷ codes "--scope" ∷ codes "tb.dut" ∷ [])
-    ≡ Some (record { netlists = codes "a.v" ∷ []; sdf = None; input = a_wave (codes "w") (Some (codes "tb.dut")); vcd = codes "v"; top = None; corner = default_corner; rounds = default_rounds; wheel = default_wheel })
+with_a_wave : asked_of (codes "run" ∷ codes "a.v" ∷ codes "--wave" ∷ codes "w" ∷ codes "--vcd" ∷ codes "v" ∷ codes "--scope" ∷ codes "tb.dut" ∷ [])
+    ≡ Some (a_run (record { design = record { netlists = codes "a.v" ∷ []; sdf = None; top = None; corner = default_corner }; input = a_wave (codes "w") (Some (codes "tb.dut")); vcd = codes "v"; rounds = default_rounds; wheel = default_wheel }))
 with_a_wave = refl
 
-without_a_scope : names_in (command_of (codes "run" ∷ codes "a.v" ∷ codes "--wave" ∷ codes "w" ∷ codes "--vcd" ∷ codes "v" ∷ [])) ≡ codes "a.v" ∷ codes "w" ∷ codes "v" ∷ []
+without_a_scope : names_in (asked_of (codes "run" ∷ codes "a.v" ∷ codes "--wave" ∷ codes "w" ∷ codes "--vcd" ∷ codes "v" ∷ [])) ≡ codes "a.v" ∷ codes "w" ∷ codes "v" ∷ []
 without_a_scope = refl
 
-stimulus_and_wave : command_of (codes "run" ∷ codes "a.v" ∷ codes "--wave" ∷ codes "w" ∷ codes "--stim" ∷ codes "s" ∷ codes "--vcd" ∷ codes "v" ∷ []) ≡ None
+stimulus_and_wave : asked_of (codes "run" ∷ codes "a.v" ∷ codes "--wave" ∷ codes "w" ∷ codes "--stim" ∷ codes "s" ∷ codes "--vcd" ∷ codes "v" ∷ []) ≡ None
 stimulus_and_wave = refl
 
-neither_of_both : command_of (codes "run" ∷ codes "a.v" ∷ codes "--vcd" ∷ codes "v" ∷ []) ≡ None
+neither_of_both : asked_of (codes "run" ∷ codes "a.v" ∷ codes "--vcd" ∷ codes "v" ∷ []) ≡ None
 neither_of_both = refl
 
-scope_of_a_stimulus : command_of (codes "run" ∷ codes "a.v" ∷ codes "--stim" ∷ codes "s" ∷ codes "--vcd" ∷ codes "v" ∷ codes "--scope" ∷ codes "t" ∷ []) ≡ None
+scope_of_a_stimulus : asked_of (codes "run" ∷ codes "a.v" ∷ codes "--stim" ∷ codes "s" ∷ codes "--vcd" ∷ codes "v" ∷ codes "--scope" ∷ codes "t" ∷ []) ≡ None
 scope_of_a_stimulus = refl
 
 -- `gen 000100`; a case of no stage, of one too many, and of seven digits; two numbers; `gen` alone
@@ -103,3 +103,16 @@ gen_alone = refl
 -- and `generate 1`
 another_word : asked_of (codes "generate" ∷ codes "1" ∷ []) ≡ None
 another_word = refl
+
+-- `settle a.v --sdf d --corner max`; without a netlist; with an option of a run
+bounds_of_a_netlist : asked_of (codes "settle" ∷ codes "a.v" ∷ codes "--sdf" ∷ codes "d" ∷ codes "--corner" ∷ codes "max" ∷ []) ≡ Some (the_bounds (record { netlists = codes "a.v" ∷ []; sdf = Some (codes "d"); top = None; corner = Max }))
+bounds_of_a_netlist = refl
+
+bounds_of_nothing : asked_of (codes "settle" ∷ codes "--sdf" ∷ codes "d" ∷ []) ≡ None
+bounds_of_nothing = refl
+
+bounds_with_a_dump : asked_of (codes "settle" ∷ codes "a.v" ∷ codes "--vcd" ∷ codes "v" ∷ []) ≡ None
+bounds_with_a_dump = refl
+
+names_of_bounds : names_in (asked_of (codes "settle" ∷ codes "a.v" ∷ codes "b.v" ∷ codes "--sdf" ∷ codes "d" ∷ [])) ≡ codes "a.v" ∷ codes "b.v" ∷ codes "d" ∷ []
+names_of_bounds = refl

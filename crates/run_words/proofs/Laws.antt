@@ -1,12 +1,15 @@
--- What holds of each command that the words ask for.
-use Rattle.std.proofs.Common.{◌≡◌, ℕ, ◌≤◌, List, [], ◌∷◌, length, Bool, true, false, cond, ◌&&◌, refl, sym, subst, arith, Option, Some, None, option_and_then, IfSome, nat_le, codes}
+-- What holds of all that the words ask for.
+use Rattle.std.proofs.Common.{◌≡◌, ℕ, ◌≤◌, List, [], ◌∷◌, length, Bool, true, false, cond, ◌&&◌, refl, sym, ap, subst, arith, Option, Some, None, option_map, option_and_then, IfSome, nat_le, codes}
+use Rattle.std.specs.Option.{option_or}
 use Rattle.std.specs.Str.Parse.{digits_value}
 use Rattle.std.specs.List.{list_all}
 use Rattle.std.proofs.lemmas.Bool.{leb-true}
 use Rattle.std.proofs.lemmas.Option.{same_Some}
 use Rattle.sg_delay.specs.declared.corners.Corner.{Corner}
-use Rattle.run_words.specs.Arguments.{Argument, is_text, arguments_of}
-use Rattle.run_words.specs.Words.{Command, Input, input_of, value_of, netlists_of, option_names, is_known, is_single, are_sound, corner_of, is_number, most_digits, number_up_to, default_corner, default_rounds, most_rounds, default_wheel, most_wheel, read_or, command_with, command_from, command_of}
+use Rattle.run_words.specs.declared.subcommands.Subcommand.{Subcommand}
+use Rattle.run_words.specs.declared.subcommands.Subcommand.TheVariants.{Run, Settle}
+use Rattle.run_words.specs.Arguments.{Argument, arguments_of}
+use Rattle.run_words.specs.Words.{Asked, a_run, the_bounds, a_case, Command, Design, Input, input_of, value_of, netlists_of, options_of, is_known, is_single, are_sound, corner_of, is_number, most_digits, number_up_to, default_corner, default_rounds, most_rounds, default_wheel, most_wheel, read_or, design_with, command_with, asked_with, asked_from, subcommand_of, asked_by, case_of, asked_of}
 
 both : (a b : Bool) → (a && b) ≡ true → (a ≡ true) × (b ≡ true)
 both false b e = cc
@@ -42,54 +45,85 @@ unfolding Within
 read_within default most None low high = (low, high)
 read_within default most (Some text) low high = number_within most_digits most text
 
+-- a design has a netlist; a run has one, allows one round or more, and its wheel has 1 to 1048576 slots
+pub record IsRunFit (c : Command) : Type 0 where
+  pub netlists : 1 ≤ length c.design.netlists
+  pub rounds : 1 ≤ c.rounds
+  pub wheel : (1 ≤ c.wheel) × (c.wheel ≤ 1048576)
+
+pub IsFit : Asked → Type 0
+IsFit (a_run c) = IsRunFit c
+IsFit (the_bounds d) = 1 ≤ length d.netlists
+IsFit (a_case stages) = Unit {0}
+
+design_netlists : (netlists : List (List ℕ)) (arguments : List Argument) (d : Design) → design_with netlists arguments ≡ Some d → d.netlists ≡ netlists
+design_netlists netlists arguments d e = by (read_or default_corner corner_of (value_of (codes "corner") arguments)) e
+  where
+    made : Corner → Design
+    made k = record { netlists = netlists; sdf = value_of (codes "sdf") arguments; top = value_of (codes "top") arguments; corner = k }
+    by : (o : Option Corner) → option_and_then (λ k. Some (made k)) o ≡ Some d → d.netlists ≡ netlists
+    by None e = cc
+    by (Some k) e = ap (λ (x : Design). x.netlists) (sym (same_Some (made k) d e))
+
 IsWithin : List (List ℕ) → Command → Type 0
-IsWithin netlists c = (c.netlists ≡ netlists) × (1 ≤ c.rounds) × (1 ≤ c.wheel) × (c.wheel ≤ most_wheel)
+IsWithin netlists c = (c.design.netlists ≡ netlists) × (1 ≤ c.rounds) × (1 ≤ c.wheel) × (c.wheel ≤ most_wheel)
 
-built : (sdf vcd top : Option (List ℕ)) (input : Option Input) (corner : Option Corner) (rounds wheel : Option ℕ) (netlists : List (List ℕ)) (c : Command)
-    → option_and_then (λ i. option_and_then (λ v. option_and_then (λ k. option_and_then (λ r. option_and_then (λ w.
-    Some (record { netlists = netlists; sdf = sdf; input = i; vcd = v; top = top; corner = k; rounds = r; wheel = w })) wheel) rounds) corner) vcd) input ≡ Some c
-    → Within most_rounds rounds → Within most_wheel wheel → IsWithin netlists c
+built : (netlists : List (List ℕ)) (design : Option Design) (input : Option Input) (vcd : Option (List ℕ)) (rounds wheel : Option ℕ) (c : Command)
+    → option_and_then (λ d. option_and_then (λ i. option_and_then (λ v. option_and_then (λ r. option_and_then (λ w.
+    Some (record { design = d; input = i; vcd = v; rounds = r; wheel = w })) wheel) rounds) vcd) input) design ≡ Some c
+    → ((d : Design) → design ≡ Some d → d.netlists ≡ netlists) → Within most_rounds rounds → Within most_wheel wheel → IsWithin netlists c
 unfolding Within IsWithin
-built sdf vcd top None corner rounds wheel netlists c e hr hw = cc
-built sdf None top (Some i) corner rounds wheel netlists c e hr hw = cc
-built sdf (Some v) top (Some i) None rounds wheel netlists c e hr hw = cc
-built sdf (Some v) top (Some i) (Some k) None wheel netlists c e hr hw = cc
-built sdf (Some v) top (Some i) (Some k) (Some r) None netlists c e hr hw = cc
-built sdf (Some v) top (Some i) (Some k) (Some r) (Some w) netlists c e hr hw =
-    let P : Command → Type 0 = λ x. (x.netlists ≡ netlists) × (1 ≤ x.rounds) × (1 ≤ x.wheel) × (x.wheel ≤ most_wheel) in
-    subst P (same_Some (record { netlists = netlists; sdf = sdf; input = i; vcd = v; top = top; corner = k; rounds = r; wheel = w }) c e) (refl, hr.0, hw.0, hw.1)
+built netlists None input vcd rounds wheel c e hd hr hw = cc
+built netlists (Some d) None vcd rounds wheel c e hd hr hw = cc
+built netlists (Some d) (Some i) None rounds wheel c e hd hr hw = cc
+built netlists (Some d) (Some i) (Some v) None wheel c e hd hr hw = cc
+built netlists (Some d) (Some i) (Some v) (Some r) None c e hd hr hw = cc
+built netlists (Some d) (Some i) (Some v) (Some r) (Some w) c e hd hr hw =
+    let P : Command → Type 0 = λ x. (x.design.netlists ≡ netlists) × (1 ≤ x.rounds) × (1 ≤ x.wheel) × (x.wheel ≤ most_wheel) in
+    subst P (same_Some (record { design = d; input = i; vcd = v; rounds = r; wheel = w }) c e) (hd d refl, hr.0, hw.0, hw.1)
 
-from_arguments : (arguments : List Argument) (c : Command) → command_from arguments ≡ Some c → IsWithin (netlists_of arguments) c × (1 ≤ length (netlists_of arguments))
-from_arguments arguments c e =
-    let parts = when_some (are_sound arguments) (command_with (netlists_of arguments) arguments) c e in
-    let some = both (list_all is_known arguments && list_all (is_single arguments) option_names) (nat_le 1 (length (netlists_of arguments))) parts.0 in (
-      built (value_of (codes "sdf") arguments) (value_of (codes "vcd") arguments) (value_of (codes "top") arguments) (input_of (value_of (codes "stim") arguments) (value_of (codes "wave") arguments) (value_of (codes "scope") arguments)) (read_or default_corner corner_of (value_of (codes "corner") arguments))
-          (read_or default_rounds (number_up_to most_digits most_rounds) (value_of (codes "rounds") arguments)) (read_or default_wheel (number_up_to most_digits most_wheel) (value_of (codes "wheel") arguments)) (netlists_of arguments) c parts.1
-          (read_within default_rounds most_rounds (value_of (codes "rounds") arguments) (omega arith) (omega arith)) (read_within default_wheel most_wheel (value_of (codes "wheel") arguments) (omega arith) (omega arith)),
-      leb-true 1 (length (netlists_of arguments)) some.1,
-    )
+run_within : (netlists : List (List ℕ)) (arguments : List Argument) (c : Command) → command_with netlists arguments ≡ Some c → IsWithin netlists c
+run_within netlists arguments c e =
+    built netlists (design_with netlists arguments) (input_of (value_of (codes "stim") arguments) (value_of (codes "wave") arguments) (value_of (codes "scope") arguments)) (value_of (codes "vcd") arguments)
+    (read_or default_rounds (number_up_to most_digits most_rounds) (value_of (codes "rounds") arguments)) (read_or default_wheel (number_up_to most_digits most_wheel) (value_of (codes "wheel") arguments)) c e (design_netlists netlists arguments)
+    (read_within default_rounds most_rounds (value_of (codes "rounds") arguments) (omega arith) (omega arith)) (read_within default_wheel most_wheel (value_of (codes "wheel") arguments) (omega arith) (omega arith))
 
-of_words : (words : List (List ℕ)) (c : Command) → command_of words ≡ Some c → (netlists : List (List ℕ)) × IsWithin netlists c × (1 ≤ length netlists)
-of_words [] c e = cc
-of_words (first ∷ words) c e =
-    let run = when_some (is_text (codes "run") first) (option_and_then command_from (arguments_of words)) c e in
-    let found = then_some command_from (arguments_of words) c run.1 in
-    let within = from_arguments found.0 c found.1 in
-    (netlists_of found.0, within.0, within.1)
+mapped : {A B : Type 0} (f : A → B) (o : Option A) (b : B) → option_map f o ≡ Some b → (a : A) × (o ≡ Some a) × (f a ≡ b)
+mapped f None b e = cc
+mapped f (Some a) b e = (a, refl, same_Some (f a) b e)
 
--- a command allows one round or more
-pub rounds-positive : (words : List (List ℕ)) (c : Command) → command_of words ≡ Some c → 1 ≤ c.rounds
-unfolding IsWithin
-rounds-positive words c e = (of_words words c e).1.1
+with_fit : (subcommand : Subcommand) (netlists : List (List ℕ)) (arguments : List Argument) (asked : Asked) → 1 ≤ length netlists → asked_with subcommand netlists arguments ≡ Some asked → IsFit asked
+unfolding IsFit IsWithin
+with_fit Run netlists arguments asked some e =
+    let found = mapped a_run (command_with netlists arguments) asked e in
+    let within = run_within netlists arguments found.0 found.1 in
+    let fit : IsRunFit found.0 = record { netlists = subst (λ (ns : List (List ℕ)). 1 ≤ length ns) (sym within.0) some; rounds = within.1; wheel = (within.2, within.3) } in
+    subst IsFit found.2 fit
+with_fit Settle netlists arguments asked some e =
+    let found = mapped the_bounds (design_with netlists arguments) asked e in
+    let some : 1 ≤ length found.0.netlists = subst (λ (ns : List (List ℕ)). 1 ≤ length ns) (sym (design_netlists netlists arguments found.0 found.1)) some in
+    subst IsFit found.2 some
 
--- its wheel has 1 to 1048576 slots
-pub wheel-fits : (words : List (List ℕ)) (c : Command) → command_of words ≡ Some c → (1 ≤ c.wheel) × (c.wheel ≤ 1048576)
-unfolding IsWithin
-wheel-fits words c e = let within = (of_words words c e).1 in (within.2, within.3)
+from_fit : (subcommand : Subcommand) (arguments : List Argument) (asked : Asked) → asked_from subcommand arguments ≡ Some asked → IsFit asked
+from_fit subcommand arguments asked e =
+    let options = options_of subcommand in
+    let parts = when_some (are_sound options arguments) (asked_with subcommand (netlists_of arguments) arguments) asked e in
+    let some = both (list_all (is_known options) arguments && list_all (is_single arguments) options) (nat_le 1 (length (netlists_of arguments))) parts.0 in
+    with_fit subcommand (netlists_of arguments) arguments asked (leb-true 1 (length (netlists_of arguments)) some.1) parts.1
 
--- and it has a netlist
-pub netlists-some : (words : List (List ℕ)) (c : Command) → command_of words ≡ Some c → 1 ≤ length c.netlists
-unfolding IsWithin
-netlists-some words c e =
-    let found = of_words words c e in
-    let P : List (List ℕ) → Type 0 = λ ns. 1 ≤ length ns in subst P (sym found.1.0) found.2
+by_fit : (words : List (List ℕ)) (asked : Asked) → asked_by words ≡ Some asked → IsFit asked
+by_fit [] asked e = cc
+by_fit (first ∷ words) asked e =
+    let s = then_some (λ s. option_and_then (asked_from s) (arguments_of words)) (subcommand_of first) asked e in
+    let found = then_some (asked_from s.0) (arguments_of words) asked s.1 in
+    from_fit s.0 found.0 asked found.1
+
+or_fit : (o : Option Asked) (q : Option ℕ) (asked : Asked) → ((a : Asked) → o ≡ Some a → IsFit a) → option_or o (option_map a_case q) ≡ Some asked → IsFit asked
+unfolding IsFit
+or_fit (Some a) q asked h e = h asked e
+or_fit None (Some n) asked h e = subst IsFit (same_Some (a_case n) asked e) tt
+or_fit None None asked h e = cc
+
+-- what words ask for is fit to be done
+pub asked-fit : (words : List (List ℕ)) (asked : Asked) → asked_of words ≡ Some asked → IsFit asked
+asked-fit words asked e = or_fit (asked_by words) (case_of words) asked (by_fit words) e

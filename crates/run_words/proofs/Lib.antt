@@ -1,6 +1,5 @@
 -- The modules of this folder.
 pub mod ArgumentLaws
-pub mod AskedLaws
 pub mod CommandLaws
 pub mod Examples
 pub mod FrontLaws

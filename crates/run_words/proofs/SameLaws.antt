@@ -1,5 +1,5 @@
--- Two commands are the same where their fields are.
-use Rattle.std.proofs.Common.{◌≡◌, ℕ, List, map, Bool, ◌&&◌, nat_eq, refl, sym, ap, Bor, Option, Some, None, option_map}
+-- Two askings are the same where their parts are.
+use Rattle.std.proofs.Common.{◌≡◌, ℕ, List, map, Bool, refl, sym, ap, Bor, Option, Some, None, option_map}
 use Rattle.std.specs.Bool.{Decides}
 use Rattle.std.specs.Option.{option_eq}
 use Rattle.std.specs.Str.{bytes_eq}
@@ -14,9 +14,15 @@ use Rattle.sg_delay.specs.contracts.corners.Corner.{the_type}
 use Rattle.run_words.specs.contracts.inputs.InputPartialEq.TheImpl as input_eq
 use Rattle.run_words.specs.declared.inputs.Input.{Input}
 use Rattle.run_words.specs.declared.inputs.Input.TheVariants.{Stimulus, Wave}
-use Rattle.run_words.specs.declared.words.Command as code
-use Rattle.run_words.specs.Words.{a_stimulus}
-use Rattle.run_words.specs.WordsSeen.{command_seen, input_seen}
+use Rattle.run_words.specs.contracts.designs.DesignPartialEq.TheImpl as design_eq
+use Rattle.run_words.specs.declared.designs.Design.{Design}
+use Rattle.run_words.specs.contracts.words.CommandPartialEq.TheImpl as command_eq
+use Rattle.run_words.specs.declared.words.Command.{Command}
+use Rattle.run_words.specs.contracts.words.AskedPartialEq.TheImpl as asked_eq
+use Rattle.run_words.specs.declared.words.Asked.{Asked}
+use Rattle.run_words.specs.declared.words.Asked.TheVariants.{Run, Bounds, Case}
+use Rattle.run_words.specs.Words.{a_run, the_bounds, a_case, a_stimulus}
+use Rattle.run_words.specs.WordsSeen.{asked_seen, command_seen, design_seen, input_seen}
 use denote.Enum.Bare.{sameb}
 
 abbrev same_text : Bor (List ℕ) → Bor (List ℕ) → Bool
@@ -53,17 +59,36 @@ input-Decides (Stimulus x) (Wave f s) = (λ e. cc, λ e. cc)
 input-Decides (Wave f s) (Stimulus x) = (λ e. cc, λ e. cc)
 input-Decides (Wave f s) (Wave g t) = Decides-like _ (λ h. cc) (λ same. (cc, cc)) (Decides-and _ _ (bytes_eq-Decides f.now g.now) (name-Decides s t))
 
-pub commands-Decide : (a b : code.Command) (r : Bool)
-    → r ≡ (pointwise same_text a.netlists.items b.netlists.items && (option_eq same_text a.sdf b.sdf && (input_equal a.input b.input && (bytes_eq a.vcd.now b.vcd.now && (option_eq same_text a.top b.top
-    && (sameb the_type a.corner b.corner && (nat_eq a.rounds b.rounds && nat_eq a.wheel b.wheel)))))))
-    → Decides r (command_seen a ≡ command_seen b)
-commands-Decide a b r e =
-    let x = command_seen a in
-    let y = command_seen b in
-    let fields =
-    Decides-and _ _ (names-Decides a.netlists.items b.netlists.items) (Decides-and _ _ (name-Decides a.sdf b.sdf) (Decides-and _ _ (input-Decides a.input b.input) (Decides-and _ _ (bytes_eq-Decides a.vcd.now b.vcd.now)
-    (Decides-and _ _ (name-Decides a.top b.top) (Decides-and _ _ (corner-Decides a.corner b.corner) (Decides-and _ _ (Decides-eqb a.rounds b.rounds) (Decides-eqb a.wheel b.wheel))))))) in
-    Decides-at r _ e (Decides-like _ (λ h. cc) (λ same. (
-      ap (λ c. c.netlists) same,
-      (ap (λ c. c.sdf) same, (ap (λ c. c.input) same, (ap (λ c. c.vcd) same, (ap (λ c. c.top) same, (ap (λ c. c.corner) same, (ap (λ c. c.rounds) same, ap (λ c. c.wheel) same)))))),
-    )) fields)
+abbrev design_equal : Design → Design → Bool
+design_equal a b = design_eq.eq-value.it a b
+
+design-Decides : (a b : Design) → Decides (design_equal a b) (design_seen a ≡ design_seen b)
+design-Decides a b =
+    Decides-like _ (λ h. cc) (λ same. (ap (λ d. d.netlists) same, (ap (λ d. d.sdf) same, (ap (λ d. d.top) same, ap (λ d. d.corner) same))))
+    (Decides-and _ _ (names-Decides a.netlists.items b.netlists.items) (Decides-and _ _ (name-Decides a.sdf b.sdf) (Decides-and _ _ (name-Decides a.top b.top) (corner-Decides a.corner b.corner))))
+
+abbrev command_equal : Command → Command → Bool
+command_equal a b = command_eq.eq-value.it a b
+
+command-Decides : (a b : Command) → Decides (command_equal a b) (command_seen a ≡ command_seen b)
+command-Decides a b =
+    Decides-like _ (λ h. cc) (λ same. (ap (λ c. c.design) same, (ap (λ c. c.input) same, (ap (λ c. c.vcd) same, (ap (λ c. c.rounds) same, ap (λ c. c.wheel) same)))))
+    (Decides-and _ _ (design-Decides a.design b.design) (Decides-and _ _ (input-Decides a.input b.input) (Decides-and _ _ (bytes_eq-Decides a.vcd.now b.vcd.now)
+    (Decides-and _ _ (Decides-eqb a.rounds b.rounds) (Decides-eqb a.wheel b.wheel)))))
+
+abbrev asked_equal : Asked → Asked → Bool
+asked_equal a b = asked_eq.eq-value.it a b
+
+asked-Decides : (a b : Asked) → Decides (asked_equal a b) (asked_seen a ≡ asked_seen b)
+asked-Decides (Run c) (Run d) = let same = command-Decides c d in (λ e. ap a_run (same.0 e), λ h. same.1 cc)
+asked-Decides (Run c) (Bounds e) = (λ h. cc, λ h. cc)
+asked-Decides (Run c) (Case n) = (λ h. cc, λ h. cc)
+asked-Decides (Bounds d) (Run c) = (λ h. cc, λ h. cc)
+asked-Decides (Bounds d) (Bounds e) = let same = design-Decides d e in (λ h. ap the_bounds (same.0 h), λ h. same.1 cc)
+asked-Decides (Bounds d) (Case n) = (λ h. cc, λ h. cc)
+asked-Decides (Case m) (Run c) = (λ h. cc, λ h. cc)
+asked-Decides (Case m) (Bounds d) = (λ h. cc, λ h. cc)
+asked-Decides (Case m) (Case n) = let same = Decides-eqb m n in (λ e. ap a_case (same.0 e), λ h. same.1 cc)
+
+pub asked-Decide : (a b : Asked) (r : Bool) → r ≡ asked_equal a b → Decides r (asked_seen a ≡ asked_seen b)
+asked-Decide a b r e = Decides-at r _ e (asked-Decides a b)

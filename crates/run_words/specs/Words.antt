@@ -7,6 +7,8 @@ use Rattle.std.specs.Str.Parse.{digits_value}
 use Rattle.sg_delay.specs.declared.corners.Corner.{Corner}
 use Rattle.sg_delay.specs.declared.corners.Corner.TheVariants.{Min, Typ, Max}
 use Rattle.run_words.specs.Arguments.{Argument, setting, netlist, is_text, arguments_of}
+use Rattle.run_words.specs.declared.subcommands.Subcommand.{Subcommand}
+use Rattle.run_words.specs.declared.subcommands.Subcommand.TheVariants.{Run, Settle}
 
 -- What drives the inputs: the file of a stimulus; or that of a value change dump, of which the scope of a path is taken. Where
 -- there is no path, it is the top's name.
@@ -18,15 +20,18 @@ abbrev pub file_of : Input → List ℕ
 file_of (a_stimulus file) = file
 file_of (a_wave file scope) = file
 
--- a run: the netlists' files in their order, the SDF file, what drives the inputs, the file for the value change dump, the top
--- module, the corner of the delays, the bound on the rounds of one time, and the slots of the wheel
-pub record Command : Type 0 where
+-- a netlist and what is annotated to it: the netlists' files in their order, the SDF file, the top module, and the corner of the delays
+pub record Design : Type 0 where
   pub netlists : List (List ℕ)
   pub sdf : Option (List ℕ)
-  pub input : Input
-  pub vcd : List ℕ
   pub top : Option (List ℕ)
   pub corner : Corner
+
+-- a run: what drives the inputs, the file for the value change dump, the bound on the rounds of one time, and the slots of the wheel
+pub record Command : Type 0 where
+  pub design : Design
+  pub input : Input
+  pub vcd : List ℕ
   pub rounds : ℕ
   pub wheel : ℕ
 
@@ -55,21 +60,23 @@ netlist_in (netlist name) = Some name
 abbrev pub netlists_of : List Argument → List (List ℕ)
 netlists_of arguments = filter_map netlist_in arguments
 
-abbrev pub option_names : List (List ℕ)
-option_names = codes "stim" ∷ codes "wave" ∷ codes "scope" ∷ codes "vcd" ∷ codes "sdf" ∷ codes "top" ∷ codes "corner" ∷ codes "rounds" ∷ codes "wheel" ∷ []
+-- the options of a subcommand
+abbrev pub options_of : Subcommand → List (List ℕ)
+options_of Run = codes "stim" ∷ codes "wave" ∷ codes "scope" ∷ codes "vcd" ∷ codes "sdf" ∷ codes "top" ∷ codes "corner" ∷ codes "rounds" ∷ codes "wheel" ∷ []
+options_of Settle = codes "sdf" ∷ codes "top" ∷ codes "corner" ∷ []
 
 -- an option's name is one of these, and no value and no netlist's name is empty
-abbrev pub is_known : Argument → Bool
-is_known (setting name value) = list_any (is_text name) option_names && nat_le 1 (length value)
-is_known (netlist name) = nat_le 1 (length name)
+abbrev pub is_known : List (List ℕ) → Argument → Bool
+is_known options (setting name value) = list_any (is_text name) options && nat_le 1 (length value)
+is_known options (netlist name) = nat_le 1 (length name)
 
 -- an option comes at most once
 abbrev pub is_single : List Argument → List ℕ → Bool
 is_single arguments name = nat_le (length (values_of name arguments)) 1
 
 -- each argument is known, each option comes at most once, and there is a netlist
-abbrev pub are_sound : List Argument → Bool
-are_sound arguments = list_all is_known arguments && list_all (is_single arguments) option_names && nat_le 1 (length (netlists_of arguments))
+abbrev pub are_sound : List (List ℕ) → List Argument → Bool
+are_sound options arguments = list_all (is_known options) arguments && list_all (is_single arguments) options && nat_le 1 (length (netlists_of arguments))
 
 abbrev pub corner_of : List ℕ → Option Corner
 corner_of text =
@@ -117,23 +124,46 @@ input_of (Some file) (Some other) scope = None
 input_of None (Some file) scope = Some (a_wave file scope)
 input_of None None scope = None
 
--- the command of sound arguments and their netlists: what drives the inputs and the dump are required
+-- what is asked of by sound arguments and their netlists
+abbrev pub design_with : List (List ℕ) → List Argument → Option Design
+design_with netlists arguments = do
+  corner ← read_or default_corner corner_of (value_of (codes "corner") arguments)
+  Some (record { netlists = netlists; sdf = value_of (codes "sdf") arguments; top = value_of (codes "top") arguments; corner = corner })
+
+-- of a run what drives the inputs and the dump are required
 abbrev pub command_with : List (List ℕ) → List Argument → Option Command
 command_with netlists arguments = do
+  design ← design_with netlists arguments
   input ← input_of (value_of (codes "stim") arguments) (value_of (codes "wave") arguments) (value_of (codes "scope") arguments)
   vcd ← value_of (codes "vcd") arguments
-  corner ← read_or default_corner corner_of (value_of (codes "corner") arguments)
   rounds ← read_or default_rounds (number_up_to most_digits most_rounds) (value_of (codes "rounds") arguments)
   wheel ← read_or default_wheel (number_up_to most_digits most_wheel) (value_of (codes "wheel") arguments)
-  Some (record { netlists = netlists; sdf = value_of (codes "sdf") arguments; input = input; vcd = vcd; top = value_of (codes "top") arguments; corner = corner; rounds = rounds; wheel = wheel })
+  Some (record { design = design; input = input; vcd = vcd; rounds = rounds; wheel = wheel })
 
-abbrev pub command_from : List Argument → Option Command
-command_from arguments = if are_sound arguments then command_with (netlists_of arguments) arguments else None
+-- what words ask for: a run, the bounds of a design, or the run of a generated case
+pub data Asked : Type 0 where
+  a_run : Command → Asked
+  the_bounds : Design → Asked
+  a_case : (stages : ℕ) → Asked
 
--- the command of the words `run` and its arguments; none where they are refused
-abbrev pub command_of : List (List ℕ) → Option Command
-command_of [] = None
-command_of (first ∷ words) = if is_text (codes "run") first then option_and_then command_from (arguments_of words) else None
+abbrev pub asked_with : Subcommand → List (List ℕ) → List Argument → Option Asked
+asked_with Run netlists arguments = option_map a_run (command_with netlists arguments)
+asked_with Settle netlists arguments = option_map the_bounds (design_with netlists arguments)
+
+abbrev pub asked_from : Subcommand → List Argument → Option Asked
+asked_from subcommand arguments = if are_sound (options_of subcommand) arguments then asked_with subcommand (netlists_of arguments) arguments else None
+
+-- the subcommand of this name
+abbrev pub subcommand_of : List ℕ → Option Subcommand
+subcommand_of word = if is_text (codes "run") word then Some Run else (if is_text (codes "settle") word then Some Settle else None)
+
+abbrev pub asked_after : List (List ℕ) → Option Subcommand → Option Asked
+asked_after words subcommand = option_and_then (λ s. option_and_then (asked_from s) (arguments_of words)) subcommand
+
+-- by the name of a subcommand and the words behind it; none where they are refused
+abbrev pub asked_by : List (List ℕ) → Option Asked
+asked_by [] = None
+asked_by (first ∷ words) = asked_after words (subcommand_of first)
 
 abbrev pub most_stages : ℕ
 most_stages = 100000
@@ -143,16 +173,20 @@ abbrev pub case_of : List (List ℕ) → Option ℕ
 case_of (first ∷ text ∷ []) = if is_text (codes "gen") first then number_up_to 6 most_stages text else None
 case_of _ = None
 
--- what words ask for
-pub data Asked : Type 0 where
-  a_run : Command → Asked
-  a_case : (stages : ℕ) → Asked
-
 -- none where they are refused
 abbrev pub asked_of : List (List ℕ) → Option Asked
-asked_of words = option_or (option_map a_run (command_of words)) (option_map a_case (case_of words))
+asked_of words = option_or (asked_by words) (option_map a_case (case_of words))
 
--- the names of files in a command: the netlists, the SDF file where there is one, what drives the inputs, the dump
-abbrev pub names_in : Option Command → List (List ℕ)
+-- the names of files in a design: the netlists, and the SDF file where there is one
+abbrev pub design_names : Design → List (List ℕ)
+design_names d = d.netlists ++ option_to_list d.sdf
+
+-- the names of files in what is asked: those of the design; of a run also what drives the inputs, and the dump
+abbrev pub names_of : Asked → List (List ℕ)
+names_of (a_run c) = design_names c.design ++ file_of c.input ∷ c.vcd ∷ []
+names_of (the_bounds d) = design_names d
+names_of (a_case stages) = []
+
+abbrev pub names_in : Option Asked → List (List ℕ)
 names_in None = []
-names_in (Some c) = c.netlists ++ option_to_list c.sdf ++ file_of c.input ∷ c.vcd ∷ []
+names_in (Some asked) = names_of asked

@@ -1,28 +1,29 @@
 -- Joins `Words` to the code.
 use Rattle.std.specs.Prelude.{map, option_map}
+use Rattle.run_words.specs.declared.designs.Design as code_design
 use Rattle.run_words.specs.declared.words.Command as code
 use Rattle.run_words.specs.declared.inputs.Input as code_input
 use Rattle.run_words.specs.declared.inputs.Input.TheVariants as input
 use Rattle.run_words.specs.declared.words.Asked as code_asked
 use Rattle.run_words.specs.declared.words.Asked.TheVariants as asked
-use Rattle.run_words.specs.Words.{Asked, a_run, a_case, a_stimulus, a_wave, Command, Input}
+use Rattle.run_words.specs.Words.{Asked, a_run, the_bounds, a_case, a_stimulus, a_wave, Command, Design, Input}
 
 abbrev pub input_seen : code_input.Input → Input
 input_seen (input.Stimulus file) = a_stimulus file.now
 input_seen (input.Wave file scope) = a_wave file.now (option_map (λ path. path.now) scope)
 
-abbrev pub command_seen : code.Command → Command
-command_seen c = record {
-  netlists = map (λ name. name.now) c.netlists.items;
-  sdf = option_map (λ name. name.now) c.sdf;
-  input = input_seen c.input;
-  vcd = c.vcd.now;
-  top = option_map (λ name. name.now) c.top;
-  corner = c.corner;
-  rounds = c.rounds;
-  wheel = c.wheel;
+abbrev pub design_seen : code_design.Design → Design
+design_seen d = record {
+  netlists = map (λ name. name.now) d.netlists.items;
+  sdf = option_map (λ name. name.now) d.sdf;
+  top = option_map (λ name. name.now) d.top;
+  corner = d.corner;
 }
+
+abbrev pub command_seen : code.Command → Command
+command_seen c = record { design = design_seen c.design; input = input_seen c.input; vcd = c.vcd.now; rounds = c.rounds; wheel = c.wheel }
 
 abbrev pub asked_seen : code_asked.Asked → Asked
 asked_seen (asked.Run c) = a_run (command_seen c)
+asked_seen (asked.Bounds d) = the_bounds (design_seen d)
 asked_seen (asked.Case stages) = a_case stages

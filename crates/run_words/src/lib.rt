@@ -2,11 +2,14 @@
 #![tactic(auto)]
 
 mod arguments;
+mod designs;
 mod inputs;
 mod numbers;
 mod parser;
 mod rules;
+mod subcommands;
 mod words;
 
+pub use designs::Design;
 pub use inputs::Input;
 pub use words::{Asked, Command, read_words};

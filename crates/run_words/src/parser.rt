@@ -1,6 +1,5 @@
 // The words as the library of command lines splits them.
 use crate::arguments::Argument;
-use crate::rules::OPTIONS;
 use clap::error::ErrorKind;
 use clap::{Arg, ArgAction, ArgMatches};
 use sg_text::NoMemory;
@@ -8,12 +7,13 @@ use std::alloc::Global;
 
 const NETLISTS: &str = "netlists";
 
-// The options and the netlists, and no option of the library's own, as `--help`.
-fn parser<'a>(alloc: Global) -> Result<clap::Command<'a>, NoMemory> {
-    let mut parser = clap::Command::new(alloc, "run")
+// These options and the netlists, and no option of the library's own, as `--help`.
+fn parser<'a>(alloc: Global, options: &[&'a str]) -> Result<clap::Command<'a>, NoMemory> {
+    let mut parser = clap::Command::new(alloc, "signoff")
         .disable_help_flag(true)
         .disable_version_flag(true);
-    for name in OPTIONS {
+    for name in options {
+        let name = *name;
         let option = Arg::new(alloc, name).long(name).action(ArgAction::Set);
         parser = parser.arg(option)?;
     }
@@ -24,8 +24,12 @@ fn parser<'a>(alloc: Global) -> Result<clap::Command<'a>, NoMemory> {
 }
 
 // What the library finds in the words, of which the first is a name for it, or None where it refuses them.
-fn matches_of<'a>(alloc: Global, words: &'a [String]) -> Result<Option<ArgMatches<'a>>, NoMemory> {
-    match parser(alloc)?.try_get_matches_from(words) {
+fn matches_of<'a>(
+    alloc: Global,
+    options: &[&'a str],
+    words: &'a [String],
+) -> Result<Option<ArgMatches<'a>>, NoMemory> {
+    match parser(alloc, options)?.try_get_matches_from(words) {
         Ok(matches) => Ok(Some(matches)),
         Err(error) => {
             if error.kind() == ErrorKind::OutOfMemory {
@@ -40,8 +44,10 @@ fn matches_of<'a>(alloc: Global, words: &'a [String]) -> Result<Option<ArgMatche
 fn add_options<'a>(
     arguments: &mut Vec<Argument<'a>>,
     matches: &ArgMatches<'a>,
+    options: &[&'a str],
 ) -> Result<(), NoMemory> {
-    for name in OPTIONS {
+    for name in options {
+        let name = *name;
         if let Some(value) = matches.get_str(name) {
             arguments.push(Argument::Setting { name, value })?;
         }
@@ -61,17 +67,18 @@ fn add_netlists<'a>(
     Ok(())
 }
 
-/// The arguments that the library finds in `run` and the words behind it, or None where it refuses them: the options
-/// first, and then the netlists. Takes memory.
+/// The arguments that the library finds in the name of a subcommand and the words behind it, or None where it refuses them: the
+/// options first, which are of these, and then the netlists. Takes memory.
 pub fn parse_arguments<'a>(
     alloc: Global,
+    options: &[&'a str],
     words: &'a [String],
 ) -> Result<Option<Vec<Argument<'a>>>, NoMemory> {
-    let Some(matches) = matches_of(alloc, words)? else {
+    let Some(matches) = matches_of(alloc, options, words)? else {
         return Ok(None);
     };
     let mut arguments = Vec::new(alloc);
-    add_options(&mut arguments, &matches)?;
+    add_options(&mut arguments, &matches, options)?;
     add_netlists(&mut arguments, &matches)?;
     Ok(Some(arguments))
 }

@@ -3,17 +3,12 @@ ghost use Rattle.std.specs.Prelude.{◌≡◌, map, IfOk, option_map, is_some, c
 ghost use Rattle.std.specs.List.{list_any, list_all};
 ghost use Rattle.run_words.specs.Arguments.{is_text};
 ghost use Rattle.run_words.specs.ArgumentsSeen.{argument_seen};
-ghost use Rattle.run_words.specs.Words.{value_under, value_of, netlists_of, option_names, is_known, is_single, are_sound, corner_of};
+ghost use Rattle.run_words.specs.Words.{value_under, value_of, netlists_of, is_known, is_single, are_sound, corner_of};
 
 use crate::arguments::Argument;
 use sg_delay::Corner;
 use sg_text::NoMemory;
 use std::alloc::Global;
-
-/// In the order of the definition.
-pub const OPTIONS: [&str; 9] = [
-    "stim", "wave", "scope", "vcd", "sdf", "top", "corner", "rounds", "wheel",
-];
 
 fn value_under<'a>(argument: &Argument<'a>, name: &str) -> Option<&'a str>
     ensures { option_map (λ value. value.now) result ≡ value_under name.now (argument_seen argument.now) }
@@ -55,17 +50,17 @@ fn is_among(names: &[&str], name: &str) -> bool
     names.iter().any(|n| *n == name)
 }
 
-fn is_option(name: &str) -> bool
-    ensures { result ≡ list_any (is_text name.now) option_names }
+fn is_option(options: &[&str], name: &str) -> bool
+    ensures { result ≡ list_any (is_text name.now) (map (λ n. n.now) options.now) }
 {
-    is_among(&OPTIONS, name)
+    is_among(options, name)
 }
 
-fn is_known(argument: &Argument<'_>) -> bool
-    ensures { result ≡ is_known (argument_seen argument.now) }
+fn is_known(options: &[&str], argument: &Argument<'_>) -> bool
+    ensures { result ≡ is_known (map (λ n. n.now) options.now) (argument_seen argument.now) }
 {
     match argument {
-        Argument::Setting { name, value } => is_option(name) && 1 <= value.len(),
+        Argument::Setting { name, value } => is_option(options, name) && 1 <= value.len(),
         Argument::Netlist(name) => 1 <= name.len(),
     }
 }
@@ -98,19 +93,19 @@ fn are_single(arguments: &[Argument<'_>], names: &[&str]) -> bool
     names.iter().all(|name| is_single(arguments, name))
 }
 
-fn are_known(arguments: &[Argument<'_>]) -> bool
-    ensures { result ≡ list_all (λ a. is_known (argument_seen a)) arguments.now }
+fn are_known(options: &[&str], arguments: &[Argument<'_>]) -> bool
+    ensures { result ≡ list_all (λ a. is_known (map (λ n. n.now) options.now) (argument_seen a)) arguments.now }
 {
-    arguments.iter().all(|argument| is_known(argument))
+    arguments.iter().all(|argument| is_known(options, argument))
 }
 
 #[tactic(auto, using(crate::proofs::RuleLaws::all_seen_known))]
-/// Whether the arguments keep the rules, where these are the netlists among them.
-pub fn are_sound(arguments: &[Argument<'_>], netlists: &[&str]) -> bool
+/// Whether the arguments keep the rules of these options, where these are the netlists among them.
+pub fn are_sound(options: &[&str], arguments: &[Argument<'_>], netlists: &[&str]) -> bool
     requires { map (λ n. n.now) netlists.now ≡ netlists_of (map argument_seen arguments.now) }
-    ensures { result ≡ are_sound (map argument_seen arguments.now) }
+    ensures { result ≡ are_sound (map (λ n. n.now) options.now) (map argument_seen arguments.now) }
 {
-    are_known(arguments) && are_single(arguments, &OPTIONS) && 1 <= netlists.len()
+    are_known(options, arguments) && are_single(arguments, options) && 1 <= netlists.len()
 }
 
 /// The corner of this name.

@@ -2,19 +2,18 @@
 ghost use Rattle.std.specs.Prelude.{◌≡◌, ◌↔◌, IsTrue, map, option_map, option_and_then, IfOk, codes, string_bytes};
 ghost use Rattle.run_words.specs.Arguments.{is_text, arguments_of};
 ghost use Rattle.run_words.specs.ArgumentsSeen.{argument_seen};
-ghost use Rattle.run_words.specs.Words.{value_of, corner_of, default_corner, command_with, command_from, command_of, asked_of, case_of, most_digits, number_up_to, read_or};
+ghost use Rattle.run_words.specs.Words.{value_of, command_with, asked_with, asked_from, asked_after, asked_by, asked_of, case_of, most_digits, number_up_to, read_or};
 ghost use Rattle.run_words.specs.WordsSeen.{asked_seen, command_seen};
 
 use crate::arguments::{Argument, read_arguments};
+use crate::designs::{Design, design_with};
 use crate::inputs::{Input, input_of};
 use crate::numbers::number_up_to;
 use crate::parser::parse_arguments;
-use crate::rules::{are_sound, corner_of, netlists_of, value_of};
-use sg_delay::Corner;
+use crate::rules::{are_sound, netlists_of, value_of};
+use crate::subcommands::{Subcommand, options_of, subcommand_of};
 use sg_text::NoMemory;
 use std::alloc::Global;
-
-const DEFAULT_CORNER: Corner = Corner::Typ;
 
 // Of a number that an option has.
 const MOST_DIGITS: usize = 7;
@@ -34,16 +33,10 @@ const MOST_STAGE_DIGITS: usize = 6;
 /// A run. The files are named as the words name them.
 #[derive(Debug, Drop, PartialEq)]
 pub struct Command<'a> {
-    /// One or more, in their order.
-    pub netlists: Vec<&'a str>,
-    /// The file of the delays and limits that are annotated.
-    pub sdf: Option<&'a str>,
+    pub design: Design<'a>,
     pub input: Input<'a>,
     /// The file for the value change dump.
     pub vcd: &'a str,
-    /// The name of the top module.
-    pub top: Option<&'a str>,
-    pub corner: Corner,
     /// The most rounds that one time may take, from 1 to 1000000.
     pub rounds: u32,
     /// How many slots the wheel has, from 1 to 1048576.
@@ -51,20 +44,13 @@ pub struct Command<'a> {
 }
 
 /// What the words ask for.
-#[derive(Debug, Drop)]
+#[derive(Debug, Drop, PartialEq)]
 pub enum Asked<'a> {
     Run(Command<'a>),
+    /// The settle bounds of a design.
+    Bounds(Design<'a>),
     /// The run of the generated case of so many stages, from 1 to 100000.
     Case(u32),
-}
-
-fn corner_or_default(arguments: &[Argument<'_>]) -> Option<Corner>
-    ensures { result ≡ read_or default_corner corner_of (value_of (codes "corner") (map argument_seen arguments.now)) }
-{
-    match value_of(arguments, "corner") {
-        Some(text) => corner_of(text),
-        None => Some(DEFAULT_CORNER),
-    }
 }
 
 fn number_or(arguments: &[Argument<'_>], name: &str, most: u32, default: u32) -> Option<u32>
@@ -76,91 +62,89 @@ fn number_or(arguments: &[Argument<'_>], name: &str, most: u32, default: u32) ->
     }
 }
 
-// The command of sound arguments and their netlists.
+// The run of sound arguments and their netlists.
 fn command_with<'a>(netlists: Vec<&'a str>, arguments: &[Argument<'a>]) -> Option<Command<'a>>
     ensures { option_map (λ c. command_seen c) result ≡ command_with (map (λ n. n.now) netlists.entry.items) (map argument_seen arguments.now) }
 {
+    let design = design_with(netlists, arguments)?;
     let input = input_of(arguments)?;
     let vcd = value_of(arguments, "vcd")?;
-    let corner = corner_or_default(arguments)?;
     let rounds = number_or(arguments, "rounds", MOST_ROUNDS, DEFAULT_ROUNDS)?;
     let wheel = number_or(arguments, "wheel", MOST_WHEEL, DEFAULT_WHEEL)?;
     Some(Command {
-        netlists,
-        sdf: value_of(arguments, "sdf"),
+        design,
         input,
         vcd,
-        top: value_of(arguments, "top"),
-        corner,
         rounds,
         wheel,
     })
 }
 
-fn command_from<'a>(
-    alloc: Global,
+// What a subcommand asks for by sound arguments and their netlists.
+fn asked_with<'a>(
+    subcommand: Subcommand,
+    netlists: Vec<&'a str>,
     arguments: &[Argument<'a>],
-) -> Result<Option<Command<'a>>, NoMemory>
-    ensures { IfOk result (λ c. option_map (λ x. command_seen x) c ≡ command_from (map argument_seen arguments.now)) }
+) -> Option<Asked<'a>>
+    ensures { option_map (λ a. asked_seen a) result ≡ asked_with subcommand (map (λ n. n.now) netlists.entry.items) (map argument_seen arguments.now) }
+{
+    match subcommand {
+        Subcommand::Run => Some(Asked::Run(command_with(netlists, arguments)?)),
+        Subcommand::Settle => Some(Asked::Bounds(design_with(netlists, arguments)?)),
+    }
+}
+
+fn asked_from<'a>(
+    alloc: Global,
+    subcommand: Subcommand,
+    arguments: &[Argument<'a>],
+) -> Result<Option<Asked<'a>>, NoMemory>
+    ensures { IfOk result (λ a. option_map (λ x. asked_seen x) a ≡ asked_from subcommand (map argument_seen arguments.now)) }
 {
     let netlists = netlists_of(alloc, arguments)?;
-    if are_sound(arguments, &netlists) {
-        Ok(command_with(netlists, arguments))
+    if are_sound(options_of(subcommand), arguments, &netlists) {
+        Ok(asked_with(subcommand, netlists, arguments))
     } else {
         Ok(None)
     }
 }
 
-fn is_run(word: &str) -> bool
-    ensures { result ≡ is_text (codes "run") word.now }
-{
-    word == "run"
-}
-
-// The command of the words behind `run`.
-fn command_after<'a>(alloc: Global, words: &'a [String]) -> Result<Option<Command<'a>>, NoMemory>
-    ensures { IfOk result (λ c. option_map (λ x. command_seen x) c ≡ option_and_then command_from (arguments_of (map string_bytes words.now))) }
+// What a subcommand asks for by the words behind its name.
+fn asked_after<'a>(
+    alloc: Global,
+    subcommand: Subcommand,
+    words: &'a [String],
+) -> Result<Option<Asked<'a>>, NoMemory>
+    ensures { IfOk result (λ a. option_map (λ x. asked_seen x) a ≡ asked_after (map string_bytes words.now) (Some subcommand)) }
 {
     match read_arguments(alloc, words)? {
-        Some(arguments) => command_from(alloc, &arguments),
+        Some(arguments) => asked_from(alloc, subcommand, &arguments),
         None => Ok(None),
     }
 }
 
-// The command that the rules of the words give.
-fn command_by_rules<'a>(alloc: Global, words: &'a [String]) -> Result<Option<Command<'a>>, NoMemory>
-    ensures { IfOk result (λ c. option_map (λ x. command_seen x) c ≡ command_of (map (λ w. string_bytes w) words.now)) }
-{
-    let [first, rest @ ..] = words else {
-        return Ok(None);
-    };
-    if !is_run(first.as_str()) {
-        return Ok(None);
-    }
-    command_after(alloc, rest)
-}
-
-// The command of the same words as the library splits them.
-fn command_by_parser<'a>(
+// The same as the library splits the words, of which the first is a name for it.
+fn asked_by_parser<'a>(
     alloc: Global,
+    subcommand: Subcommand,
     words: &'a [String],
-) -> Result<Option<Command<'a>>, NoMemory> {
-    match parse_arguments(alloc, words)? {
-        Some(arguments) => command_from(alloc, &arguments),
+) -> Result<Option<Asked<'a>>, NoMemory> {
+    match parse_arguments(alloc, options_of(subcommand), words)? {
+        Some(arguments) => asked_from(alloc, subcommand, &arguments),
         None => Ok(None),
     }
 }
 
-// Whether two commands say the same.
-fn is_same(one: &Command<'_>, other: &Command<'_>) -> bool
-    ensures { IsTrue result ↔ (command_seen one.now ≡ command_seen other.now) }
+// Whether two ask for the same.
+fn is_same(one: &Asked<'_>, other: &Asked<'_>) -> bool
+    ensures { IsTrue result ↔ (asked_seen one.now ≡ asked_seen other.now) }
 {
     one == other
 }
 
-// The rules decide, since the library also takes `-` for the name of a file: its command is taken where it is theirs.
-fn agreed<'a>(parsed: Option<Command<'a>>, ruled: Command<'a>) -> Command<'a>
-    ensures { command_seen result ≡ command_seen ruled.entry }
+// The rules decide, since the library also takes `-` for the name of a file: what it finds is taken where it is theirs.
+fn agreed<'a>(parsed: Option<Asked<'a>>, ruled: Asked<'a>) -> Asked<'a>
+    ensures { asked_seen result ≡ asked_seen ruled.entry }
 {
     let Some(parsed) = parsed else {
         return ruled;
@@ -172,14 +156,20 @@ fn agreed<'a>(parsed: Option<Command<'a>>, ruled: Command<'a>) -> Command<'a>
     }
 }
 
-// The command of the words, or None where they are none of a run.
-fn read_command<'a>(alloc: Global, words: &'a [String]) -> Result<Option<Command<'a>>, NoMemory>
-    ensures { IfOk result (λ c. option_map (λ x. command_seen x) c ≡ command_of (map (λ w. string_bytes w) words.now)) }
+// What the name of a subcommand and the words behind it ask for, or None where they are refused.
+fn read_subcommand<'a>(alloc: Global, words: &'a [String]) -> Result<Option<Asked<'a>>, NoMemory>
+    ensures { IfOk result (λ a. option_map (λ x. asked_seen x) a ≡ asked_by (map (λ w. string_bytes w) words.now)) }
 {
-    let Some(ruled) = command_by_rules(alloc, words)? else {
+    let [first, rest @ ..] = words else {
         return Ok(None);
     };
-    let parsed = command_by_parser(alloc, words)?;
+    let Some(subcommand) = subcommand_of(first.as_str()) else {
+        return Ok(None);
+    };
+    let Some(ruled) = asked_after(alloc, subcommand, rest)? else {
+        return Ok(None);
+    };
+    let parsed = asked_by_parser(alloc, subcommand, words)?;
     Ok(Some(agreed(parsed, ruled)))
 }
 
@@ -207,8 +197,8 @@ fn case_of(words: &[String]) -> Option<u32>
 pub fn read_words<'a>(alloc: Global, words: &'a [String]) -> Result<Option<Asked<'a>>, NoMemory>
     ensures asked { IfOk result (λ c. option_map (λ x. asked_seen x) c ≡ asked_of (map (λ w. string_bytes w) words.now)) }
 {
-    if let Some(command) = read_command(alloc, words)? {
-        return Ok(Some(Asked::Run(command)));
+    if let Some(asked) = read_subcommand(alloc, words)? {
+        return Ok(Some(asked));
     }
     let Some(stages) = case_of(words) else {
         return Ok(None);
