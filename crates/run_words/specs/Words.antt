@@ -190,3 +190,19 @@ names_of (a_case stages) = []
 abbrev pub names_in : Option Asked → List (List ℕ)
 names_in None = []
 names_in (Some asked) = names_of asked
+
+-- the design of what is asked for, where files are read
+abbrev pub design_of : Asked → Option Design
+design_of (a_run c) = Some c.design
+design_of (the_bounds d) = Some d
+design_of (a_case stages) = None
+
+-- the file that is made
+abbrev pub made_of : Asked → Option (List ℕ)
+made_of (a_run c) = Some c.vcd
+made_of (the_bounds d) = None
+made_of (a_case stages) = None
+
+abbrev pub made_in : Option Asked → Option (List ℕ)
+made_in None = None
+made_in (Some asked) = made_of asked

@@ -36,8 +36,8 @@ fn has_notifier(parts: &Parts, check: usize) -> bool
     check < parts.checks.len() && parts.checks[check].notifier.is_some()
 }
 
-// The net that a hop drives.
-fn driven(parts: &Parts, hop: Hop) -> Option<NetId>
+/// The net that a hop drives.
+pub fn driven(parts: &Parts, hop: Hop) -> Option<NetId>
     requires { IsHop (circuit_seen parts.now) hop }
     ensures { result ≡ net_driven (circuit_seen parts.now) hop }
 {

@@ -12,5 +12,5 @@ mod ways;
 mod weights;
 
 pub use cycles::is_cycle;
-pub use hops::Hop;
+pub use hops::{Hop, driven};
 pub use settling::{Settled, settle};

@@ -5,8 +5,8 @@ use Rattle.std.specs.Option.{option_to_list}
 use Rattle.std.specs.Prelude.{Ok, Err, Option, Some, Contains}
 use Rattle.sg_io.specs.Files.{File, bytes_of}
 use Rattle.sg_circuit.specs.Circuit.{Circuit}
-use Rattle.run_words.specs.Words.{Command, command_of, file_of, names_in}
-use Rattle.signoff_top.specs.Phases.{Annotated, Refusal, Then, stops, goes_on, AnnotatedOutcome, CircuitOutcome, FileOutcome}
+use Rattle.run_words.specs.Words.{Asked, a_run, the_bounds, a_case, Command, Design, asked_of, design_names, design_of, file_of, names_in}
+use Rattle.signoff_top.specs.Phases.{Annotated, Refusal, Then, stops, goes_on, CircuitOutcome, DesignOutcome, FileOutcome}
 use Rattle.signoff_top.specs.Promises.{FaultAt, at_netlist, at_sdf, at_stimulus, NamesFaultAt}
 use Rattle.signoff_top.specs.Stops.{FailsAtGiven, FailsAtOne, Gives, IfFailed, IfOutcome, refusal_seen}
 use Rattle.signoff_top.specs.declared.stop.Stop as code_stop
@@ -55,52 +55,66 @@ failed_again X Y P Q (stop.Refused r) f h = tt
 failed_again X Y P Q stop.Failed f h = f h
 failed_again X Y P Q stop.NoMemory f h = tt
 
-netlist_among : (c : Command) (before after : List (List ℕ)) (name : List ℕ) → c.netlists ≡ before ++ name ∷ after → Contains (names_in (Some c)) name
-netlist_among c before after name e =
-    Contains-append_left (c.netlists ++ option_to_list c.sdf) (file_of c.input ∷ c.vcd ∷ []) name
-    (Contains-append_left c.netlists (option_to_list c.sdf) name (subst (λ ns. Contains ns name) (sym e) (Contains-append_right before (name ∷ after) name (0, omega arith, refl))))
+-- the files of a design are among those of what is asked
+designed : (asked : Asked) (d : Design) (name : List ℕ) → design_of asked ≡ Some d → Contains (design_names d) name → Contains (names_in (Some asked)) name
+designed (a_run c) d name e h =
+    let same : c.design ≡ d = cc in Contains-append_left (design_names c.design) (file_of c.input ∷ c.vcd ∷ []) name (subst (λ x. Contains (design_names x) name) (sym same) h)
+designed (the_bounds b) d name e h = let same : b ≡ d = cc in subst (λ x. Contains (design_names x) name) (sym same) h
+designed (a_case stages) d name e h = cc
+
+netlist_among : (d : Design) (before after : List (List ℕ)) (name : List ℕ) → d.netlists ≡ before ++ name ∷ after → Contains (design_names d) name
+netlist_among d before after name e =
+    Contains-append_left d.netlists (option_to_list d.sdf) name (subst (λ ns. Contains ns name) (sym e) (Contains-append_right before (name ∷ after) name (0, omega arith, refl)))
 
 -- a failure on a file of the netlist
-pub failed_at_netlist : (X Y : Type 0) (ws : List (List ℕ)) (old new : Option (List File)) (last : Option (List ℕ)) (c : Command) (s : code_stop.Stop)
-    → command_of ws ≡ Some c → new ≡ old → IfFailed {X = X} (FailsAtOne c.netlists old last) (Err s) → IfFailed {X = Y} (NamesFaultAt ws old new last) (Err s)
-failed_at_netlist X Y ws old new last c s e k h = failed_again X Y (FailsAtOne c.netlists old last) (NamesFaultAt ws old new last) s (λ f. record {
+pub failed_at_netlist : (X Y : Type 0) (ws : List (List ℕ)) (old new : Option (List File)) (last : Option (List ℕ)) (asked : Asked) (d : Design) (s : code_stop.Stop)
+    → asked_of ws ≡ Some asked → design_of asked ≡ Some d → new ≡ old → IfFailed {X = X} (FailsAtOne d.netlists old last) (Err s) → IfFailed {X = Y} (NamesFaultAt ws old new last) (Err s)
+failed_at_netlist X Y ws old new last asked d s e is k h = failed_again X Y (FailsAtOne d.netlists old last) (NamesFaultAt ws old new last) s (λ f. record {
   name = f.name;
   told = f.told;
-  among = subst (λ o. Contains (names_in o) f.name) (sym e) (netlist_among c f.before f.after f.name f.split);
-  place = both_same (λ before after. FaultAt ws before after f.name) old new k (λ files is.
-      (let texts = f.read files is in at_netlist c f.before f.name f.after texts.0 e f.split texts.1 refl));
+  among = subst (λ o. Contains (names_in o) f.name) (sym e) (designed asked d f.name is (netlist_among d f.before f.after f.name f.split));
+  place = both_same (λ before after. FaultAt ws before after f.name) old new k (λ files held.
+      (let texts = f.read files held in at_netlist asked d f.before f.name f.after texts.0 e is f.split texts.1 refl));
 }) h
 
-sdf_among : (c : Command) (name : List ℕ) → c.sdf ≡ Some name → Contains (names_in (Some c)) name
-sdf_among c name e =
-    Contains-append_left (c.netlists ++ option_to_list c.sdf) (file_of c.input ∷ c.vcd ∷ []) name
-    (Contains-append_right c.netlists (option_to_list c.sdf) name (subst (λ o. Contains (option_to_list o) name) (sym e) (0, lit< tt, refl)))
+sdf_among : (d : Design) (name : List ℕ) → d.sdf ≡ Some name → Contains (design_names d) name
+sdf_among d name e = Contains-append_right d.netlists (option_to_list d.sdf) name (subst (λ o. Contains (option_to_list o) name) (sym e) (0, lit< tt, refl))
 
-last_among : (c : Command) (name : List ℕ) → Contains (file_of c.input ∷ c.vcd ∷ []) name → Contains (names_in (Some c)) name
-last_among c name h = Contains-append_right (c.netlists ++ option_to_list c.sdf) (file_of c.input ∷ c.vcd ∷ []) name h
+last_among : (c : Command) (name : List ℕ) → Contains (file_of c.input ∷ c.vcd ∷ []) name → Contains (names_in (Some (a_run c))) name
+last_among c name h = Contains-append_right (design_names c.design) (file_of c.input ∷ c.vcd ∷ []) name h
 
-pub dump_among : (c : Command) (name : List ℕ) → name ≡ c.vcd → Contains (names_in (Some c)) name
+pub dump_among : (c : Command) (name : List ℕ) → name ≡ c.vcd → Contains (names_in (Some (a_run c))) name
 dump_among c name e = last_among c name (1, lit< tt, sym e)
 
 -- a failure on the SDF file
-pub failed_at_sdf : (X Y : Type 0) (ws : List (List ℕ)) (old new : Option (List File)) (last : Option (List ℕ)) (c : Command) (circuit : Circuit) (s : code_stop.Stop)
-    → command_of ws ≡ Some c → ((files : List File) → old ≡ Some files → Gives (λ (x : Circuit). x) (CircuitOutcome c files) (Ok circuit)) → new ≡ old
-    → IfFailed {X = X} (FailsAtGiven c.sdf last) (Err s) → IfFailed {X = Y} (NamesFaultAt ws old new last) (Err s)
-failed_at_sdf X Y ws old new last c circuit s e g k h = failed_again X Y (FailsAtGiven c.sdf last) (NamesFaultAt ws old new last) s (λ f. record {
+sdf_fault : (ws : List (List ℕ)) (old new : Option (List File)) (last : Option (List ℕ)) (asked : Asked) (d : Design) (circuit : Circuit)
+    → asked_of ws ≡ Some asked → design_of asked ≡ Some d → ((files : List File) → old ≡ Some files → Gives (λ (x : Circuit). x) (CircuitOutcome d files) (Ok circuit)) → new ≡ old
+    → FailsAtGiven d.sdf last → NamesFaultAt ws old new last
+sdf_fault ws old new last asked d circuit e is g k f = record {
   name = f.name;
   told = f.told;
-  among = subst (λ o. Contains (names_in o) f.name) (sym e) (sdf_among c f.name f.is);
-  place = both_same (λ before after. FaultAt ws before after f.name) old new k (λ files is. at_sdf c f.name circuit e f.is (g files is).outcome refl);
-}) h
+  among = subst (λ o. Contains (names_in o) f.name) (sym e) (designed asked d f.name is (sdf_among d f.name f.is));
+  place = both_same (λ before after. FaultAt ws before after f.name) old new k (λ files held. at_sdf asked d f.name circuit e is f.is (g files held).outcome refl);
+}
+
+failed_same : (X : Type 0) (P Q : Type 0) (r : Result X code_stop.Stop) → (P → Q) → IfFailed {X = X} P r → IfFailed {X = X} Q r
+failed_same X P Q (Ok x) f h = tt
+failed_same X P Q (Err (stop.Refused r)) f h = tt
+failed_same X P Q (Err stop.Failed) f h = f h
+failed_same X P Q (Err stop.NoMemory) f h = tt
+
+pub failed_at_sdf : (X : Type 0) (ws : List (List ℕ)) (old new : Option (List File)) (last : Option (List ℕ)) (asked : Asked) (d : Design) (circuit : Circuit) (r : Result X code_stop.Stop)
+    → asked_of ws ≡ Some asked → design_of asked ≡ Some d → ((files : List File) → old ≡ Some files → Gives (λ (x : Circuit). x) (CircuitOutcome d files) (Ok circuit)) → new ≡ old
+    → IfFailed {X = X} (FailsAtGiven d.sdf last) r → IfFailed {X = X} (NamesFaultAt ws old new last) r
+failed_at_sdf X ws old new last asked d circuit r e is g k h = failed_same X (FailsAtGiven d.sdf last) (NamesFaultAt ws old new last) r (sdf_fault ws old new last asked d circuit e is g k) h
 
 -- a failure on the file of what drives the inputs
-pub failed_at_stimulus : (X Y : Type 0) (ws : List (List ℕ)) (old new : Option (List File)) (last : Option (List ℕ)) (c : Command) (circuit : Circuit) (annotated : Annotated) (s : code_stop.Stop)
-    → command_of ws ≡ Some c → ((files : List File) → old ≡ Some files → CircuitOutcome c files (Ok circuit) × AnnotatedOutcome c.sdf c.corner files circuit (Ok annotated)) → new ≡ old
+pub failed_at_stimulus : (X Y : Type 0) (ws : List (List ℕ)) (old new : Option (List File)) (last : Option (List ℕ)) (c : Command) (annotated : Annotated) (s : code_stop.Stop)
+    → asked_of ws ≡ Some (a_run c) → ((files : List File) → old ≡ Some files → DesignOutcome c.design files (Ok annotated)) → new ≡ old
     → IfFailed {X = X} (last ≡ Some (file_of c.input)) (Err s) → IfFailed {X = Y} (NamesFaultAt ws old new last) (Err s)
-failed_at_stimulus X Y ws old new last c circuit annotated s e g k h = failed_again X Y (last ≡ Some (file_of c.input)) (NamesFaultAt ws old new last) s (λ n. record {
+failed_at_stimulus X Y ws old new last c annotated s e g k h = failed_again X Y (last ≡ Some (file_of c.input)) (NamesFaultAt ws old new last) s (λ n. record {
   name = file_of c.input;
   told = n;
   among = subst (λ o. Contains (names_in o) (file_of c.input)) (sym e) (last_among c (file_of c.input) (0, lit< tt, refl));
-  place = both_same (λ before after. FaultAt ws before after (file_of c.input)) old new k (λ files is.
-      (let accepted = g files is in at_stimulus c circuit annotated e accepted.0 accepted.1 refl));
+  place = both_same (λ before after. FaultAt ws before after (file_of c.input)) old new k (λ files held. at_stimulus c annotated e (g files held) refl);
 }) h

@@ -16,13 +16,12 @@ use Rattle.sdf_read.specs.Outcomes.{Fault}
 use Rattle.sdf_tree.specs.Meant.{Sdf}
 use Rattle.stim_read.proofs.OnceLaws as stimulus
 use Rattle.vcd_stim.proofs.OnceLaws as wave
-use Rattle.run_words.specs.Words.{Command, Input, a_stimulus, a_wave, case_of, command_of, default_corner, file_of}
-use Rattle.run_words.proofs.AskedLaws.{run_alone}
-use Rattle.signoff_top.specs.Answer.{Answer, IsAnswer, IsAnswerTo, answer_of, case_answer}
+use Rattle.run_words.specs.Words.{Asked, a_run, the_bounds, a_case, Command, Design, Input, a_stimulus, a_wave, asked_of, default_corner, file_of}
+use Rattle.signoff_top.specs.Answer.{Answer, IsAnswer, IsAnswerFor, IsAnswerTo, IsSettleAnswer, IsSettleAnswerOf, bounded, in_a_cycle, answer_of, case_answer}
 use Rattle.wave_out.specs.Report.{Unmatched}
-use Rattle.signoff_top.specs.Phases.{Annotated, Refusal, Then, stops, goes_on, Task, CaseOutcome, CommandOutcome, TaskOutcome, case_netlist, case_sdf, case_stimulus, status_of_refusal, words}
+use Rattle.signoff_top.specs.Phases.{Annotated, Refusal, Then, stops, goes_on, Task, CaseOutcome, CommandOutcome, case_netlist, case_sdf, case_stimulus, status_of_refusal}
 use Rattle.signoff_top.proofs.OnceLaws.{adjusted-once}
-use Rattle.signoff_top.specs.Phases.{AnnotatedOutcome, AnnotationOutcome, CircuitOutcome, EntriesOutcome, InputOutcome, SdfOutcome, WordsOutcome, FileOutcome, FilesOutcome, NetlistOutcome, StimulusOutcome, DrivingOutcome, WaveOutcome, scope_or_top}
+use Rattle.signoff_top.specs.Phases.{AnnotatedOutcome, AnnotationOutcome, CircuitOutcome, DesignOutcome, EntriesOutcome, InputOutcome, SdfOutcome, FileOutcome, FilesOutcome, NetlistOutcome, StimulusOutcome, DrivingOutcome, WaveOutcome, scope_or_top}
 
 -- two outcomes are one value, or two refusals of one status
 abbrev Agree : {A : Type 0} → Result A Refusal → Result A Refusal → Type 0
@@ -49,10 +48,6 @@ then_agree first next f g _ _ (stops r h) (stops s k) = f (Err r) (Err s) h k
 then_agree first next f g _ _ (stops r h) (goes_on a o h' k) = absurd (f (Err r) (Ok a) h h')
 then_agree first next f g _ _ (goes_on a o h k) (stops r h') = absurd (f (Ok a) (Err r) h h')
 then_agree first next f g _ _ (goes_on a o h k) (goes_on b p h' k') = g b h' o p (subst (λ x. next x o) (f (Ok a) (Ok b) h h') k) k'
-
-words_agree : (c : Option Command) → AllAgree (WordsOutcome {A = Command} c)
-words_agree None o p h k = equal_agree o p (h ∙ sym k)
-words_agree (Some c) o p h k = equal_agree o p (h ∙ sym k)
 
 file_agree : (name : List ℕ) (bytes : Option (List ℕ)) → AllAgree (FileOutcome name bytes)
 file_agree name None o p h k = equal_agree o p (h ∙ sym k)
@@ -118,16 +113,16 @@ stimulus_agree name text circuit (Ok s) (Err r) h k = stimulus.read-is-faultless
 stimulus_agree name text circuit (Err r) (Ok s) h k = stimulus.read-is-faultless text circuit s h.0 h.1 k h.2
 stimulus_agree name text circuit (Err r) (Err s) h k = ap status_of_refusal h.3 ∙ sym (ap status_of_refusal k.3)
 
-circuit_agree : (c : Command) (files : List File) → AllAgree (CircuitOutcome c files)
-circuit_agree c files =
-    then_agree (FilesOutcome c.netlists files) (λ texts. NetlistOutcome c.netlists texts c.top c.corner) (files_agree c.netlists files) (λ texts _. netlist_agree c.netlists texts c.top c.corner)
+circuit_agree : (d : Design) (files : List File) → AllAgree (CircuitOutcome d files)
+circuit_agree d files =
+    then_agree (FilesOutcome d.netlists files) (λ texts. NetlistOutcome d.netlists texts d.top d.corner) (files_agree d.netlists files) (λ texts _. netlist_agree d.netlists texts d.top d.corner)
 
 netlist_scopes : (names texts : List (List ℕ)) (top : Option (List ℕ)) (corner : Corner) (circuit : Circuit) → NetlistOutcome names texts top corner (Ok circuit) → HasScopes circuit
 netlist_scopes names texts top corner circuit h = netlist.read-has-scopes texts top corner circuit h
 
-circuit_scopes : (c : Command) (files : List File) (circuit : Circuit) (o : Result Circuit Refusal) → o ≡ Ok circuit → CircuitOutcome c files o → HasScopes circuit
-circuit_scopes c files circuit _ e (stops r h) = let k : ◌≡◌ {A = Result Circuit Refusal} (Err r) (Ok circuit) = e in absurd (cc)
-circuit_scopes c files circuit _ e (goes_on texts o h k) = netlist_scopes c.netlists texts c.top c.corner circuit (subst (NetlistOutcome c.netlists texts c.top c.corner) e k)
+circuit_scopes : (d : Design) (files : List File) (circuit : Circuit) (o : Result Circuit Refusal) → o ≡ Ok circuit → CircuitOutcome d files o → HasScopes circuit
+circuit_scopes d files circuit _ e (stops r h) = let k : ◌≡◌ {A = Result Circuit Refusal} (Err r) (Ok circuit) = e in absurd (cc)
+circuit_scopes d files circuit _ e (goes_on texts o h k) = netlist_scopes d.netlists texts d.top d.corner circuit (subst (NetlistOutcome d.netlists texts d.top d.corner) e k)
 
 wave_agree : (name text : List ℕ) (circuit : Circuit) (scope : List ℕ) → AllAgree (WaveOutcome name text circuit scope)
 wave_agree name text circuit scope (Ok s) (Ok t) h k = wave.read-once text circuit scope s t h k
@@ -143,14 +138,15 @@ input_agree : (input : Input) (files : List File) (circuit : Circuit) → AllAgr
 input_agree input files circuit =
     then_agree (FileOutcome (file_of input) (bytes_of (file_of input) files)) (λ text. DrivingOutcome input text circuit) (file_agree (file_of input) (bytes_of (file_of input) files)) (λ text _. driving_agree input text circuit)
 
+design_agree : (d : Design) (files : List File) → AllAgree (DesignOutcome d files)
+design_agree d files =
+    then_agree (CircuitOutcome d files) (λ circuit. AnnotatedOutcome d.sdf d.corner files circuit) (circuit_agree d files) (λ circuit read.
+    annotated_agree d.sdf d.corner files circuit (circuit_scopes d files circuit (Ok circuit) refl read))
+
 command_agree : (command : Command) (files : List File) → AllAgree (CommandOutcome command files)
 command_agree command files =
-    then_agree _ _ (circuit_agree command files) (λ circuit read.
-    then_agree _ _ (annotated_agree command.sdf command.corner files circuit (circuit_scopes command files circuit (Ok circuit) refl read)) (λ annotated _.
-    then_agree _ _ (input_agree command.input files annotated.circuit) (λ input _ o p h k. equal_agree o p (h ∙ sym k))))
-
-pub task_agree : (ws : List (List ℕ)) (files : List File) (o p : Result Task Refusal) → TaskOutcome ws files o → TaskOutcome ws files p → Agree o p
-task_agree ws files = then_agree _ _ (words_agree (command_of ws)) (λ command _. command_agree command files)
+    then_agree _ _ (design_agree command.design files) (λ annotated _.
+    then_agree _ _ (input_agree command.input files annotated.circuit) (λ input _ o p h k. equal_agree o p (h ∙ sym k)))
 
 case_agree : (stages : ℕ) (o p : Result Task Refusal) → CaseOutcome stages o → CaseOutcome stages p → Agree o p
 case_agree stages =
@@ -180,44 +176,61 @@ pub nothing_made : (stages : ℕ) (o : Result Task Refusal) → (case_answer sta
 nothing_made stages (Ok task) = refl
 nothing_made stages (Err r) = refl
 
-one_status_to : (case : Option ℕ) (ws : List (List ℕ)) (files : List File) (a b : Answer) → IsAnswerTo case ws files a → IsAnswerTo case ws files b → a.status ≡ b.status
-one_status_to None ws files a b h k =
-    ap (λ x. x.status) h.2 ∙ (status_agrees h.0 k.0 (task_agree ws files h.0 k.0 h.1 k.1) ∙ sym (ap (λ x. x.status) k.2))
-one_status_to (Some stages) ws files a b h k =
+-- of one circuit there are bounds, or there is a cycle
+settled_once : (c : Circuit) (a b : Answer) → IsSettleAnswer c a → IsSettleAnswer c b → a.status ≡ b.status
+settled_once c _ _ (bounded bounds h) (bounded others k) = refl
+settled_once c _ _ (bounded bounds h) (in_a_cycle hops k) = absurd (h.no_cycle hops k)
+settled_once c _ _ (in_a_cycle hops h) (bounded bounds k) = absurd (k.no_cycle hops h)
+settled_once c _ _ (in_a_cycle hops h) (in_a_cycle others k) = refl
+
+settle_status_agrees : (o p : Result Annotated Refusal) (a b : Answer) → Agree o p → IsSettleAnswerOf o a → IsSettleAnswerOf p b → a.status ≡ b.status
+settle_status_agrees (Ok x) (Ok y) a b e h k = settled_once x.circuit a b h (subst (λ (z : Annotated). IsSettleAnswer z.circuit b) (sym e) k)
+settle_status_agrees (Ok x) (Err r) a b e h k = absurd e
+settle_status_agrees (Err r) (Ok y) a b e h k = absurd e
+settle_status_agrees (Err r) (Err s) a b e h k = ap (λ x. x.status) h ∙ (e ∙ sym (ap (λ x. x.status) k))
+
+nothing_of : (c : Circuit) (a : Answer) → IsSettleAnswer c a → a.made ≡ None
+nothing_of c _ (bounded bounds h) = refl
+nothing_of c _ (in_a_cycle hops h) = refl
+
+pub nothing_settled : (o : Result Annotated Refusal) (a : Answer) → IsSettleAnswerOf o a → a.made ≡ None
+nothing_settled (Ok x) a h = nothing_of x.circuit a h
+nothing_settled (Err r) a h = ap (λ x. x.made) h
+
+one_status_for : (asked : Asked) (files : List File) (a b : Answer) → IsAnswerFor asked files a → IsAnswerFor asked files b → a.status ≡ b.status
+one_status_for (a_run c) files a b h k =
+    ap (λ x. x.status) h.2 ∙ (status_agrees h.0 k.0 (command_agree c files h.0 k.0 h.1 k.1) ∙ sym (ap (λ x. x.status) k.2))
+one_status_for (the_bounds d) files a b h k = settle_status_agrees h.0 k.0 a b (design_agree d files h.0 k.0 h.1 k.1) h.2 k.2
+one_status_for (a_case stages) files a b h k =
     ap (λ x. x.status) h.2 ∙ (case_status_agrees stages h.0 k.0 (case_agree stages h.0 k.0 h.1 k.1) ∙ sym (ap (λ x. x.status) k.2))
 
-pub one_status : (ws : List (List ℕ)) (files : List File) (a b : Answer) → IsAnswer ws files a → IsAnswer ws files b → a.status ≡ b.status
-one_status ws files a b h k = one_status_to (case_of ws) ws files a b h k
+one_status_to : (o : Option Asked) (files : List File) (a b : Answer) → IsAnswerTo o files a → IsAnswerTo o files b → a.status ≡ b.status
+one_status_to None files a b h k = ap (λ x. x.status) (h ∙ sym k)
+one_status_to (Some asked) files a b h k = one_status_for asked files a b h k
 
-one_made_to : (case : Option ℕ) (ws : List (List ℕ)) (files : List File) (a b : Answer) → IsAnswerTo case ws files a → IsAnswerTo case ws files b → a.made ≡ b.made
-one_made_to None ws files a b h k =
-    ap (λ x. x.made) h.2 ∙ (made_agrees h.0 k.0 (task_agree ws files h.0 k.0 h.1 k.1) ∙ sym (ap (λ x. x.made) k.2))
-one_made_to (Some stages) ws files a b h k =
+pub one_status : (ws : List (List ℕ)) (files : List File) (a b : Answer) → IsAnswer ws files a → IsAnswer ws files b → a.status ≡ b.status
+one_status ws files a b h k = one_status_to (asked_of ws) files a b h k
+
+one_made_for : (asked : Asked) (files : List File) (a b : Answer) → IsAnswerFor asked files a → IsAnswerFor asked files b → a.made ≡ b.made
+one_made_for (a_run c) files a b h k =
+    ap (λ x. x.made) h.2 ∙ (made_agrees h.0 k.0 (command_agree c files h.0 k.0 h.1 k.1) ∙ sym (ap (λ x. x.made) k.2))
+one_made_for (the_bounds d) files a b h k = nothing_settled h.0 a h.2 ∙ sym (nothing_settled k.0 b k.2)
+one_made_for (a_case stages) files a b h k =
     ap (λ x. x.made) h.2 ∙ (nothing_made stages h.0 ∙ sym (ap (λ x. x.made) k.2 ∙ nothing_made stages k.0))
 
+one_made_to : (o : Option Asked) (files : List File) (a b : Answer) → IsAnswerTo o files a → IsAnswerTo o files b → a.made ≡ b.made
+one_made_to None files a b h k = ap (λ x. x.made) (h ∙ sym k)
+one_made_to (Some asked) files a b h k = one_made_for asked files a b h k
+
 pub one_made : (ws : List (List ℕ)) (files : List File) (a b : Answer) → IsAnswer ws files a → IsAnswer ws files b → a.made ≡ b.made
-one_made ws files a b h k = one_made_to (case_of ws) ws files a b h k
-
--- words that have a task ask for no case
-asks_for : (o : Option Command) (next : Command → Result Task Refusal → Type 0) (task : Task) (p : Result Task Refusal) → p ≡ Ok task → Then (WordsOutcome o) next p → (c : Command) × (o ≡ Some c)
-asks_for o next task _ e (stops r h) = let k : ◌≡◌ {A = Result Task Refusal} (Err r) (Ok task) = e in absurd (cc)
-asks_for None next task _ e (goes_on c p h k) = absurd (let q : ◌≡◌ {A = Result Command Refusal} (Ok c) (Err words) = h in cc)
-asks_for (Some d) next task _ e (goes_on c p h k) = (d, refl)
-
-pub task_alone : (ws : List (List ℕ)) (files : List File) (task : Task) → TaskOutcome ws files (Ok task) → case_of ws ≡ None
-task_alone ws files task h =
-    let asked = asks_for (command_of ws) (λ command. CommandOutcome command files) task (Ok task) refl h in
-    run_alone ws asked.0 asked.1
-
-pub run_answers : (ws : List (List ℕ)) (files : List File) (task : Task) → TaskOutcome ws files (Ok task) → IsAnswer ws files (answer_of (Ok task))
-run_answers ws files task h = subst (λ q. IsAnswerTo q ws files (answer_of (Ok task))) (sym (task_alone ws files task h)) (Ok task, h, refl)
+one_made ws files a b h k = one_made_to (asked_of ws) files a b h k
 
 same_run : (o : Result Task Refusal) (task : Task) (a : Answer) → Agree o (Ok task) → a ≡ answer_of o → a ≡ answer_of (Ok task)
 same_run (Ok t) task a same h = h ∙ ap (λ x. answer_of (Ok x)) same
 same_run (Err r) task a same h = absurd same
 
--- Where the files are accepted there is one right answer: that of the run.
-pub one_run : (ws : List (List ℕ)) (files : List File) (task : Task) (a : Answer) → TaskOutcome ws files (Ok task) → IsAnswer ws files a → a ≡ answer_of (Ok task)
-one_run ws files task a accepted h =
-    let own : IsAnswerTo None ws files a = subst (λ q. IsAnswerTo q ws files a) (task_alone ws files task accepted) h in
-    same_run own.0 task a (task_agree ws files own.0 (Ok task) own.1 accepted) own.2
+-- Where the files of a run are accepted there is one right answer: that of the run.
+pub one_run : (ws : List (List ℕ)) (c : Command) (files : List File) (task : Task) (a : Answer) → asked_of ws ≡ Some (a_run c) → CommandOutcome c files (Ok task) → IsAnswer ws files a → a ≡ answer_of (Ok task)
+one_run ws c files task a e accepted h =
+    let own : IsAnswerFor (a_run c) files a = subst (λ q. IsAnswerTo q files a) e h in
+    same_run own.0 task a (command_agree c files own.0 (Ok task) own.1 accepted) own.2

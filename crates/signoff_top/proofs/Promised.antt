@@ -1,29 +1,24 @@
 -- From what the work left and what was told comes the case of the top call; from the case comes all else that it promises.
 use Rattle.std.proofs.Common.{◌≡◌, ◌≢◌, ◌∙◌, true, false, sym, ap, refl, subst, inl, inr, ℕ, List, [], ◌∷◌, ◌++◌, length, Contains, ◌≤◌, arith}
-use Rattle.std.proofs.lemmas.List.{length-map, take_all}
-use Rattle.std.specs.Option.{option_map, option_or}
-use Rattle.std.specs.Prelude.{Option, Some, None, Result, Ok, Err, unwrap_or}
+use Rattle.std.proofs.lemmas.List.{take_all}
+use Rattle.std.specs.Prelude.{Bool, Option, Some, None, Result, Ok, Err, unwrap_or}
 use Rattle.sg_io.specs.Files.{File, BothTell, HasAfter, bytes_of}
 use Rattle.sg_io.specs.Faults.{Cause, Rises, Rose}
 use Rattle.sg_io.specs.Put.{SinkTold}
 use Rattle.sg_io.proofs.Tell.{both_told}
 use Rattle.sg_model.specs.Machine.{Violation}
 use Rattle.wave_out.specs.Files.{LeavesPrefix}
-use Rattle.wave_out.specs.Report.{report_lines}
 use Rattle.wave_out.specs.Spent.{spent_seen}
 use Rattle.run_dump.specs.RunEnds.{violations_of}
-use Rattle.run_words.specs.Words.{Command, Asked, a_run, a_case, asked_of, case_of, command_of, names_in}
-use Rattle.sim_times.specs.Times.{count_shown}
-use Rattle.time_checks.specs.Seen.{violation_seen}
-use Rattle.signoff_top.specs.Answer.{Answer, IsAnswer, IsAnswerTo, FilesAfter, answer_of, case_answer, case_lines, case_text, dump_of, last_of, run_of, status_of_run, fault_line}
-use Rattle.signoff_top.specs.Phases.{Refusal, Task, CaseOutcome, CommandOutcome, TaskOutcome, WordsOutcome, AnnotatedOutcome, CircuitOutcome, InputOutcome, Then, stops, goes_on, words, missing, netlist, sdf, stimulus, status_of_refusal, refusal_line}
-use Rattle.signoff_top.specs.Promises.{ShelfTold, IsRight, FitsWords, HasAnswer, FaultAt, at_netlist, at_sdf, at_stimulus, at_dump, NamesFaultAt, LeavesUnfinished, whole, till_fault, Outcome, answered, shelf_fault, sink_fault, no_memory, sink_want, IsExact, IsStatusOf, KeepsBut, KeepsByAnswer, KeepsByWords, IsUsage}
+use Rattle.run_words.specs.Words.{Command, Asked, a_run, the_bounds, a_case, asked_of, made_in, made_of, names_in}
+use Rattle.signoff_top.specs.Answer.{Answer, IsAnswer, IsAnswerFor, IsAnswerTo, FilesAfter, answer_of, refusal_answer, status_of_run, fault_line}
+use Rattle.signoff_top.specs.Phases.{Refusal, Task, CommandOutcome, DesignOutcome, InputOutcome, Then, stops, goes_on, words, missing, netlist, sdf, stimulus, status_of_refusal, refusal_line}
+use Rattle.signoff_top.specs.Promises.{ShelfTold, IsRight, FitsWords, HasAnswer, FaultAt, at_netlist, at_sdf, at_stimulus, at_made, NamesFaultAt, LeavesUnfinished, whole, till_fault, Outcome, answered, shelf_fault, sink_fault, no_memory, sink_want, IsExact, IsStatusOf, KeepsBut, KeepsByAnswer, KeepsByWords, IsUsage}
 use Rattle.signoff_top.specs.Putting.{PutsAll, PutsLast}
 use Rattle.signoff_top.specs.Putting as putting
 use Rattle.signoff_top.specs.Status.{IsDecided, IsRunEnd, is_run_end}
 use Rattle.signoff_top.specs.Stops.{refusal_seen, IfFailed, SparesWords, StopWords, end_of_phase}
-use Rattle.signoff_top.specs.Tasks.{task_seen}
-use Rattle.signoff_top.specs.Work.{CaseLeaves, IsQuietEnd, OutcomeOf, RunLeaves, WorkLeaves, Tells, TellsStop, TellsEnd, case_told, quiet_violations}
+use Rattle.signoff_top.specs.Work.{WorkLeaves, Tells, TellsStop, TellsEnd, quiet_violations, settle_status, status_of_done, text_of_done}
 use Rattle.signoff_top.specs.Work as telling
 use Rattle.signoff_top.specs.declared.status.Status.{Status}
 use Rattle.signoff_top.specs.declared.status.Status.TheVariants as status
@@ -33,9 +28,7 @@ use Rattle.signoff_top.specs.declared.stop.Refusal as code_refusal
 use Rattle.signoff_top.specs.declared.stop.Refusal.TheVariants as refusal
 use Rattle.signoff_top.specs.declared.work.Done as code_done
 use Rattle.signoff_top.specs.declared.work.Done.TheVariants as done
-use Rattle.signoff_top.specs.declared.work.RunDone as code_run
-use Rattle.signoff_top.specs.declared.work.CaseDone as code_case
-use Rattle.signoff_top.proofs.OneAnswer.{nothing_made, one_status, one_made, run_answers}
+use Rattle.signoff_top.proofs.OneAnswer.{nothing_made, nothing_settled, one_status, one_made}
 use Rattle.signoff_top.proofs.Putting.{both_map}
 
 -- what is made, is begun
@@ -43,16 +36,12 @@ whole_begun : (name bytes : List ℕ) (old new : List File) → HasAfter name by
 whole_begun name bytes old new h = record { this = inr (length bytes, h.this ∙ ap Some (sym (take_all (length bytes) bytes (omega arith)))); others = h.others }
 
 -- what a right answer leaves
-run_unfinished : (o : Result Task Refusal) (ws : List (List ℕ)) (a : Answer) (old new : List File) → TaskOutcome ws old o → a ≡ answer_of o → FilesAfter a.made old new → LeavesUnfinished ws old new
-run_unfinished (Ok task) ws a old new outcome is after = inr (task, outcome, whole_begun task.vcd (dump_of task) old new (subst (λ x. FilesAfter x.made old new) is after))
-run_unfinished (Err s) ws a old new outcome is after = inl (subst (λ x. FilesAfter x.made old new) is after)
-
-answer_unfinished : (case : Option ℕ) (ws : List (List ℕ)) (a : Answer) (old new : List File) → IsAnswerTo case ws old a → FilesAfter a.made old new → LeavesUnfinished ws old new
-answer_unfinished None ws a old new right after = run_unfinished right.0 ws a old new right.1 right.2 after
-answer_unfinished (Some stages) ws a old new right after = inl (subst (λ m. FilesAfter m old new) (ap (λ x. x.made) right.2 ∙ nothing_made stages right.0) after)
+made_begun : (made : Option File) (old new : List File) → FilesAfter made old new → KeepsBut made old new
+made_begun None old new h = h
+made_begun (Some f) old new h = whole_begun f.name f.bytes old new h
 
 right_unfinished : (ws : List (List ℕ)) (how : Status) (text : List ℕ) (old new : List File) → IsRight ws how text old new → LeavesUnfinished ws old new
-right_unfinished ws how text old new r = answer_unfinished (case_of ws) ws r.answer old new r.right r.files
+right_unfinished ws how text old new r = inr (r.answer, r.right, made_begun r.answer.made old new r.files)
 
 -- the status of a run, and of a refusal, is decided
 run_decided : (spent : Option (ℕ × Option ℕ)) (violations : List Violation) → IsDecided (status_of_run spent violations)
@@ -65,6 +54,24 @@ run_no_usage None [] = λ e. let k : status.Clean ≡ status.Usage = e in cc
 run_no_usage None (v ∷ vs) = λ e. let k : status.Violations ≡ status.Usage = e in cc
 run_no_usage (Some s) violations = λ e. let k : status.Rounds ≡ status.Usage = e in cc
 
+settle_decided : (cyclic : Bool) → IsDecided (settle_status cyclic)
+settle_decided true = tt
+settle_decided false = tt
+
+settle_no_usage : (cyclic : Bool) → settle_status cyclic ≢ status.Usage
+settle_no_usage true = λ e. let k : status.Violations ≡ status.Usage = e in cc
+settle_no_usage false = λ e. let k : status.Clean ≡ status.Usage = e in cc
+
+done_decided : (d : code_done.Done) → IsDecided (status_of_done d)
+done_decided (done.Run d) = run_decided (spent_seen d.end.spent) (violations_of d.end)
+done_decided (done.Bounds d) = settle_decided d.cyclic
+done_decided (done.Case d) = run_decided (spent_seen d.end.spent) (quiet_violations d.end)
+
+done_no_usage : (d : code_done.Done) → status_of_done d ≢ status.Usage
+done_no_usage (done.Run d) = run_no_usage (spent_seen d.end.spent) (violations_of d.end)
+done_no_usage (done.Bounds d) = settle_no_usage d.cyclic
+done_no_usage (done.Case d) = run_no_usage (spent_seen d.end.spent) (quiet_violations d.end)
+
 refusal_decided : (r : Refusal) → IsDecided (status_of_refusal r)
 refusal_decided words = tt
 refusal_decided (missing name) = tt
@@ -72,10 +79,9 @@ refusal_decided (netlist name n kind) = tt
 refusal_decided (sdf name n kind) = tt
 refusal_decided (stimulus name n kind) = tt
 
-run_fits : (o : Option Asked) (P : Asked → code_done.Done → Type 0) (d : code_done.Done) (spent : Option (ℕ × Option ℕ)) (violations : List Violation) (text : List ℕ) → StopWords o P (Ok d)
-    → FitsWords o (status_of_run spent violations) text
-run_fits None P d spent violations text h = absurd h
-run_fits (Some asked) P d spent violations text h = run_no_usage spent violations
+done_fits : (o : Option Asked) (P : Asked → code_done.Done → Type 0) (d : code_done.Done) (text : List ℕ) → StopWords o P (Ok d) → FitsWords o (status_of_done d) text
+done_fits None P d text h = absurd h
+done_fits (Some asked) P d text h = done_no_usage d
 
 spares_fits : (r : code_refusal.Refusal) → SparesWords (stop.Refused r) → status_of_refusal (refusal_seen r) ≢ status.Usage
 spares_fits refusal.Words h = absurd h
@@ -97,56 +103,10 @@ refusal_fits None P r (inl h) = let e : r ≡ refusal.Words = refused_is r refus
 refusal_fits None P r (inr h) = absurd (refused_no_want r h)
 refusal_fits (Some asked) P r h = spares_fits r h
 
--- the end of a run is a right answer
-run_right : (ws : List (List ℕ)) (d : code_run.RunDone) (old new : List File) → RunLeaves ws d old new
-    → IsRight ws (status_of_run (spent_seen d.end.spent) (violations_of d.end)) (report_lines d.task.circuit (task_seen d.task).unmatched (violations_of d.end) d.task.input.end (spent_seen d.end.spent)) old new
-run_right ws d old new (outcome, after, (spent, violations)) =
-    let task : Task = task_seen d.task in
-    record {
-      answer = answer_of (Ok task);
-      right = run_answers ws old task outcome;
-      status = ap (λ s. status_of_run s (violations_of d.end)) spent ∙ ap (status_of_run (run_of task).spent) violations;
-      report = ap (report_lines task.circuit task.unmatched (violations_of d.end) task.input.end) spent ∙ ap (λ vs. report_lines task.circuit task.unmatched vs task.input.end (run_of task).spent) violations;
-      files = after;
-    }
-
--- words that ask for a case have its answer
-case_answers : (ws : List (List ℕ)) (stages : ℕ) (files : List File) (o : Result Task Refusal) → case_of ws ≡ Some stages → CaseOutcome stages o → IsAnswer ws files (case_answer stages o)
-case_answers ws stages files o e h = subst (λ q. IsAnswerTo q ws files (case_answer stages o)) (sym e) (o, h, refl)
-
--- what was told is what the run of the case came to
-case_told_is : (task : Task) (d : code_case.CaseDone) → task ≡ task_seen d.task → IsQuietEnd task d.end → case_told d ≡ case_lines d.stages task
-case_told_is task d e q =
-    let count : length d.end.violations.items ≡ length (run_of task).run.violations = sym (length-map d.end.violations.items (λ v. violation_seen v)) ∙ ap length q.violations in
-    ap (λ n. case_text d.task.circuit d.stages n d.end.last (length d.end.violations.items) (spent_seen d.end.spent)) q.evaluations
-    ∙ (ap (λ n. case_text d.task.circuit d.stages (count_shown (run_of task).evaluations) n (length d.end.violations.items) (spent_seen d.end.spent)) q.last
-    ∙ (ap (λ n. case_text d.task.circuit d.stages (count_shown (run_of task).evaluations) (last_of task) n (spent_seen d.end.spent)) count
-    ∙ (ap (case_text d.task.circuit d.stages (count_shown (run_of task).evaluations) (last_of task) (length (run_of task).run.violations)) q.spent
-    ∙ ap (λ (t : Task). case_text t.circuit d.stages (count_shown (run_of task).evaluations) (last_of task) (length (run_of task).run.violations) (run_of task).spent) (sym e))))
-
-case_right : (ws : List (List ℕ)) (d : code_case.CaseDone) (old new : List File) → CaseLeaves ws d old new
-    → IsRight ws (status_of_run (spent_seen d.end.spent) (quiet_violations d.end)) (case_told d) old new
-case_right ws d old new (asked, outcome, q, same) =
-    let task : Task = task_seen d.task in
-    record {
-      answer = case_answer d.stages (Ok task);
-      right = case_answers ws d.stages old (Ok task) asked outcome;
-      status = ap (λ s. status_of_run s (quiet_violations d.end)) q.spent ∙ ap (status_of_run (run_of task).spent) q.violations;
-      report = case_told_is task d refl q;
-      files = same;
-    }
-
--- and so is a refusal
-refused_to : (case : Option ℕ) (ws : List (List ℕ)) (r : Refusal) (old new : List File) → OutcomeOf case ws old (Err r) → new ≡ old
-    → (a : Answer) × IsAnswerTo case ws old a × (status_of_refusal r ≡ a.status) × (refusal_line r ≡ a.report) × FilesAfter a.made old new
-refused_to None ws r old new h same = (answer_of (Err r), (Err r, h, refl), refl, refl, same)
-refused_to (Some stages) ws r old new h same = (case_answer stages (Err r), (Err r, h, refl), refl, refl, same)
-
+-- a refusal is a right answer
 refused_right : (ws : List (List ℕ)) (r : code_refusal.Refusal) (old new : List File) → WorkLeaves ws (Err (stop.Refused r)) old new
     → IsRight ws (status_of_refusal (refusal_seen r)) (refusal_line (refusal_seen r)) old new
-refused_right ws r old new h =
-    let to = refused_to (case_of ws) ws (refusal_seen r) old new h.0 h.1 in
-    record { answer = to.0; right = to.1; status = to.2; report = to.3; files = to.4 }
+refused_right ws r old new h = record { answer = refusal_answer (refusal_seen r); right = h.0; status = refl; report = refl; files = h.1 }
 
 -- an answer, and how it was told
 told_case : (ws : List (List ℕ)) (planned how : Status) (text : List ℕ) (shelf shelf' : ShelfTold) (sink sink' : SinkTold)
@@ -165,22 +125,12 @@ failed_case ws how shelf shelf' sink sink' c n t =
 pub outcome : (ws : List (List ℕ)) (end : Result code_done.Done code_stop.Stop) (how : Status) (shelf shelf' : ShelfTold) (sink sink' : SinkTold)
     → BothTell shelf.files shelf'.files (WorkLeaves ws end) → Cause shelf.faults shelf'.faults (end_of_phase end) → IfFailed (NamesFaultAt ws shelf.files shelf'.files shelf'.last) end
     → StopWords (asked_of ws) (λ _ _. Unit {0}) end → TellsEnd shelf'.last end sink sink' how → Outcome ws shelf shelf' sink sink' how
-outcome ws (Ok (done.Run d)) how shelf shelf' sink sink' l c n w t =
-    let planned = status_of_run (spent_seen d.end.spent) (violations_of d.end) in
-    let text = report_lines d.task.circuit (task_seen d.task).unmatched (violations_of d.end) d.task.input.end (spent_seen d.end.spent) in
-    told_case ws planned how text shelf shelf' sink sink' (record {
-      decided = run_decided (spent_seen d.end.spent) (violations_of d.end);
-      words = run_fits (asked_of ws) (λ _ _. Unit {0}) (done.Run d) (spent_seen d.end.spent) (violations_of d.end) text w;
+outcome ws (Ok d) how shelf shelf' sink sink' l c n w t =
+    told_case ws (status_of_done d) how (text_of_done d) shelf shelf' sink sink' (record {
+      decided = done_decided d;
+      words = done_fits (asked_of ws) (λ _ _. Unit {0}) d (text_of_done d) w;
       faults = c;
-      files = both_map (RunLeaves ws d) (IsRight ws planned text) shelf.files shelf'.files l (λ x y h. run_right ws d x y h);
-    }) t
-outcome ws (Ok (done.Case d)) how shelf shelf' sink sink' l c n w t =
-    let planned = status_of_run (spent_seen d.end.spent) (quiet_violations d.end) in
-    told_case ws planned how (case_told d) shelf shelf' sink sink' (record {
-      decided = run_decided (spent_seen d.end.spent) (quiet_violations d.end);
-      words = run_fits (asked_of ws) (λ _ _. Unit {0}) (done.Case d) (spent_seen d.end.spent) (quiet_violations d.end) (case_told d) w;
-      faults = c;
-      files = both_map (CaseLeaves ws d) (IsRight ws planned (case_told d)) shelf.files shelf'.files l (λ x y h. case_right ws d x y h);
+      files = l;
     }) t
 outcome ws (Err (stop.Refused r)) how shelf shelf' sink sink' l c n w t =
     let planned = status_of_refusal (refusal_seen r) in
@@ -199,29 +149,37 @@ abbrev Names : Command → Result Task Refusal → Type 0
 Names c (Ok task) = task.vcd ≡ c.vcd
 Names c (Err r) = Unit {0}
 
-abbrev NamesIn : Option Command → Result Task Refusal → Type 0
-NamesIn None (Ok task) = ⊥
-NamesIn None (Err r) = Unit {0}
-NamesIn (Some c) o = Names c o
-
 then_names : {A : Type 0} (first : Result A Refusal → Type 0) (next : A → Result Task Refusal → Type 0) (c : Command) → ((a : A) (p : Result Task Refusal) → next a p → Names c p)
     → (p : Result Task Refusal) → Then first next p → Names c p
 then_names first next c f _ (stops r h) = tt
 then_names first next c f _ (goes_on a p h k) = f a p k
 
-words_names : (o : Option Command) (next : Command → Result Task Refusal → Type 0) → ((c : Command) (p : Result Task Refusal) → next c p → Names c p)
-    → (p : Result Task Refusal) → Then (WordsOutcome o) next p → NamesIn o p
-words_names None next f _ (stops r h) = tt
-words_names None next f _ (goes_on c p h k) = absurd (let e : ◌≡◌ {A = Result Command Refusal} (Ok c) (Err words) = h in cc)
-words_names (Some d) next f _ (stops r h) = tt
-words_names (Some d) next f _ (goes_on c p h k) = let e : c ≡ d = (let q : ◌≡◌ {A = Result Command Refusal} (Ok c) (Ok d) = h in cc) in subst (λ x. Names x p) e (f c p k)
+command_names : (c : Command) (files : List File) (p : Result Task Refusal) → CommandOutcome c files p → Names c p
+command_names c files =
+    then_names (DesignOutcome c.design files) _ c (λ annotated.
+    then_names (InputOutcome c.input files annotated.circuit) _ c (λ input p e. subst (Names c) (sym e) refl))
 
-task_names : (ws : List (List ℕ)) (files : List File) (p : Result Task Refusal) → TaskOutcome ws files p → NamesIn (command_of ws) p
-task_names ws files =
-    words_names (command_of ws) (λ command. CommandOutcome command files) (λ c.
-    then_names (CircuitOutcome c files) _ c (λ circuit.
-    then_names (AnnotatedOutcome c.sdf c.corner files circuit) _ c (λ annotated.
-    then_names (InputOutcome c.input files annotated.circuit) _ c (λ input p e. subst (Names c) (sym e) refl))))
+-- what is made, if anything is, has the name that is given
+abbrev IsMadeAs : Option (List ℕ) → Option File → Type 0
+IsMadeAs given None = Unit {0}
+IsMadeAs None (Some f) = ⊥
+IsMadeAs (Some name) (Some f) = f.name ≡ name
+
+none_made : (given : Option (List ℕ)) (made : Option File) → made ≡ None → IsMadeAs given made
+none_made given made e = subst (IsMadeAs given) (sym e) tt
+
+run_made : (c : Command) (p : Result Task Refusal) → Names c p → IsMadeAs (Some c.vcd) (answer_of p).made
+run_made c (Ok task) n = n
+run_made c (Err r) n = tt
+
+made_for : (asked : Asked) (files : List File) (a : Answer) → IsAnswerFor asked files a → IsMadeAs (made_of asked) a.made
+made_for (a_run c) files a (p, h, is) = subst (IsMadeAs (Some c.vcd)) (sym (ap (λ x. x.made) is)) (run_made c p (command_names c files p h))
+made_for (the_bounds d) files a (p, h, is) = none_made None a.made (nothing_settled p a is)
+made_for (a_case stages) files a (p, h, is) = none_made None a.made (ap (λ x. x.made) is ∙ nothing_made stages p)
+
+made_to : (o : Option Asked) (files : List File) (a : Answer) → IsAnswerTo o files a → IsMadeAs (made_in o) a.made
+made_to None files a is = none_made None a.made (ap (λ x. x.made) is)
+made_to (Some asked) files a h = made_for asked files a h
 
 -- where nothing changed, every file but one stays
 keeps_same : (made : Option File) (files : List File) → KeepsBut made files files
@@ -230,34 +188,34 @@ keeps_same (Some f) files = record { this = inl refl; others = λ q _. refl }
 
 unfinished_by_answer : (ws : List (List ℕ)) (old new : List File) → LeavesUnfinished ws old new → KeepsByAnswer ws old new
 unfinished_by_answer ws old new (inl same) = λ answer right. subst (KeepsBut answer.made old) (sym same) (keeps_same answer.made old)
-unfinished_by_answer ws old new (inr (task, outcome, left)) = λ answer right.
-    subst (λ m. KeepsBut m old new) (one_made ws old (answer_of (Ok task)) answer (run_answers ws old task outcome) right) left
+unfinished_by_answer ws old new (inr (begun, its, left)) = λ answer right. subst (λ m. KeepsBut m old new) (one_made ws old begun answer its right) left
 
-same_by_words : (o : Option Command) (old new : List File) → new ≡ old → KeepsByWords o old new
+same_by_words : (o : Option (List ℕ)) (old new : List File) → new ≡ old → KeepsByWords o old new
 same_by_words None old new e = e
-same_by_words (Some c) old new e = λ q n. ap (bytes_of q) e
+same_by_words (Some name) old new e = λ q n. ap (bytes_of q) e
 
-begun_by_words : (o : Option Command) (task : Task) (text : List ℕ) (old new : List File) → NamesIn o (Ok task) → LeavesPrefix task.vcd text old new → KeepsByWords o old new
-begun_by_words None task text old new n left = absurd n
-begun_by_words (Some c) task text old new n left = λ q other. left.others q (λ e. other (e ∙ n))
+begun_by_words : (o : Option (List ℕ)) (made : Option File) (old new : List File) → IsMadeAs o made → KeepsBut made old new → KeepsByWords o old new
+begun_by_words o None old new n same = same_by_words o old new same
+begun_by_words None (Some f) old new n left = absurd n
+begun_by_words (Some name) (Some f) old new n left = λ q other. left.others q (λ e. other (e ∙ n))
 
-unfinished_by_words : (ws : List (List ℕ)) (old new : List File) → LeavesUnfinished ws old new → KeepsByWords (command_of ws) old new
-unfinished_by_words ws old new (inl same) = same_by_words (command_of ws) old new same
-unfinished_by_words ws old new (inr (task, outcome, left)) = begun_by_words (command_of ws) task (dump_of task) old new (task_names ws old (Ok task) outcome) left
+unfinished_by_words : (ws : List (List ℕ)) (old new : List File) → LeavesUnfinished ws old new → KeepsByWords (made_in (asked_of ws)) old new
+unfinished_by_words ws old new (inl same) = same_by_words (made_in (asked_of ws)) old new same
+unfinished_by_words ws old new (inr (begun, its, left)) = begun_by_words (made_in (asked_of ws)) begun.made old new (made_to (asked_of ws) old begun its) left
 
 fault_unfinished : (ws : List (List ℕ)) (old new : List File) (name : List ℕ) → FaultAt ws old new name → LeavesUnfinished ws old new
-fault_unfinished ws old new _ (at_netlist c before name after texts e split read same) = inl same
-fault_unfinished ws old new _ (at_sdf c name circuit e is o same) = inl same
-fault_unfinished ws old new _ (at_stimulus c circuit annotated e o a same) = inl same
-fault_unfinished ws old new _ (at_dump task o left) = inr (task, o, left)
+fault_unfinished ws old new _ (at_netlist asked d before name after texts e is split read same) = inl same
+fault_unfinished ws old new _ (at_sdf asked d name circuit e is o c same) = inl same
+fault_unfinished ws old new _ (at_stimulus c annotated e o same) = inl same
+fault_unfinished ws old new _ (at_made answer made right e left) = inr (answer, right, subst (λ m. KeepsBut m old new) (sym e) left)
 
 fits_usage : (o : Option Asked) (how : Status) (text : List ℕ) → FitsWords o how text → IsUsage o how
 fits_usage None how text h = inl h.0
 fits_usage (Some asked) how text h = h
 
-name_usage : (o : Option Command) (case : Option Asked) (name : List ℕ) → Contains (names_in o) name → IsUsage (option_or (option_map a_run o) case) status.Fault
-name_usage None case name (k, l, e) = absurd (omega arith)
-name_usage (Some c) case name h = λ e. let k : status.Fault ≡ status.Usage = e in cc
+name_usage : (o : Option Asked) (name : List ℕ) → Contains (names_in o) name → IsUsage o status.Fault
+name_usage None name (k, l, e) = absurd (omega arith)
+name_usage (Some asked) name h = λ e. let k : status.Fault ≡ status.Usage = e in cc
 
 end_usage : (o : Option Asked) (how : Status) (text : List ℕ) → FitsWords o how text → IsRunEnd how → IsUsage o status.Fault
 end_usage None how text h e = let k : false ≡ true = sym (ap is_run_end h.0) ∙ e in absurd (cc)
@@ -290,8 +248,8 @@ module _ (ws : List (List ℕ)) (shelf shelf' : ShelfTold) (sink sink' : SinkTol
   pub kept : (how : Status) → Outcome ws shelf shelf' sink sink' how → BothTell shelf.files shelf'.files (KeepsByAnswer ws)
   kept how h = both_map (LeavesUnfinished ws) (KeepsByAnswer ws) shelf.files shelf'.files (unfinished how h) (λ x y u. unfinished_by_answer ws x y u)
 
-  pub others : (how : Status) → Outcome ws shelf shelf' sink sink' how → BothTell shelf.files shelf'.files (KeepsByWords (command_of ws))
-  others how h = both_map (LeavesUnfinished ws) (KeepsByWords (command_of ws)) shelf.files shelf'.files (unfinished how h) (λ x y u. unfinished_by_words ws x y u)
+  pub others : (how : Status) → Outcome ws shelf shelf' sink sink' how → BothTell shelf.files shelf'.files (KeepsByWords (made_in (asked_of ws)))
+  others how h = both_map (LeavesUnfinished ws) (KeepsByWords (made_in (asked_of ws))) shelf.files shelf'.files (unfinished how h) (λ x y u. unfinished_by_words ws x y u)
 
   pub answer : (how : Status) → Outcome ws shelf shelf' sink sink' how → IsDecided how → (text : List ℕ) × BothTell shelf.files shelf'.files (IsRight ws how text)
   answer _ (answered how text h r) d = (text, h.files)
@@ -310,7 +268,7 @@ module _ (ws : List (List ℕ)) (shelf shelf' : ShelfTold) (sink sink' : SinkTol
 
   pub usage : (how : Status) → Outcome ws shelf shelf' sink sink' how → IsUsage (asked_of ws) how
   usage _ (answered how text h r) = fits_usage (asked_of ws) how text h.words
-  usage _ (shelf_fault c f l) = name_usage (command_of ws) (option_map a_case (case_of ws)) f.name f.among
+  usage _ (shelf_fault c f l) = name_usage (asked_of ws) f.name f.among
   usage _ (sink_fault how text cut h e f l) = end_usage (asked_of ws) how text h.words e
   usage _ (no_memory c f l) = want_usage (asked_of ws)
   usage _ (sink_want how text cut h w l) = want_usage (asked_of ws)

@@ -7,11 +7,15 @@ use Rattle.sg_model.specs.Run.{Finished, last_change, lasts}
 use Rattle.sim_rounds.specs.Setting.{setting_of}
 use Rattle.sim_rounds.specs.Simulated.{run_of_circuit}
 use Rattle.sim_times.specs.Times.{count_shown}
-use Rattle.run_words.specs.Words.{case_of}
+use Rattle.run_words.specs.Words.{Asked, a_run, the_bounds, a_case, asked_of}
+use Rattle.settle_bound.specs.declared.hops.Hop.{Hop}
+use Rattle.settle_bound.specs.Chains.{IsCycle}
+use Rattle.settle_bound.specs.Settling.{AreBounds}
+use Rattle.settle_report.specs.Texts.{bounds_text, cycle_text}
 use Rattle.wave_out.specs.Texts.{line}
 use Rattle.wave_out.specs.Vcd.{vcd_text}
 use Rattle.wave_out.specs.Report.{report_text, spent_line}
-use Rattle.signoff_top.specs.Phases.{Refusal, Task, TaskOutcome, CaseOutcome, status_of_refusal, refusal_line}
+use Rattle.signoff_top.specs.Phases.{Annotated, Refusal, Task, CaseOutcome, CommandOutcome, DesignOutcome, status_of_refusal, refusal_line, words}
 use Rattle.signoff_top.specs.declared.status.Status.{Status}
 use Rattle.signoff_top.specs.declared.status.Status.TheVariants as status
 
@@ -19,6 +23,10 @@ pub record Answer : Type 0 where
   pub status : Status
   pub made : Option File
   pub report : List ℕ
+
+-- a refusal
+abbrev pub refusal_answer : Refusal → Answer
+refusal_answer r = record { status = status_of_refusal r; made = None; report = refusal_line r }
 
 -- the run of a task
 abbrev pub run_of : Task → Finished
@@ -40,7 +48,7 @@ answer_of (Ok task) = record {
   made = Some (record { name = task.vcd; bytes = dump_of task });
   report = report_text task.circuit task.unmatched task.input.end (run_of task);
 }
-answer_of (Err r) = record { status = status_of_refusal r; made = None; report = refusal_line r }
+answer_of (Err r) = refusal_answer r
 
 -- the last time that changes a net
 abbrev pub last_of : Task → ℕ
@@ -69,15 +77,36 @@ case_answer stages (Ok task) = record {
   made = None;
   report = case_lines stages task;
 }
-case_answer stages (Err r) = record { status = status_of_refusal r; made = None; report = refusal_line r }
+case_answer stages (Err r) = refusal_answer r
 
--- the answer is right for these words and files: those of the netlist, the SDF file where one is named, and the stimulus; a generated case has its own texts
-abbrev pub IsAnswerTo : Option ℕ → List (List ℕ) → List File → Answer → Type 0
-IsAnswerTo None ws files answer = (outcome : Result Task Refusal) × TaskOutcome ws files outcome × (answer ≡ answer_of outcome)
-IsAnswerTo (Some stages) ws files answer = (outcome : Result Task Refusal) × CaseOutcome stages outcome × (answer ≡ case_answer stages outcome)
+-- the bounds of a circuit's nets, and a cycle of it, as they are told
+abbrev pub bounds_answer : Circuit → List ℕ → Answer
+bounds_answer circuit bounds = record { status = status.Clean; made = None; report = bounds_text circuit bounds }
+
+abbrev pub cycle_answer : Circuit → List Hop → Answer
+cycle_answer circuit hops = record { status = status.Violations; made = None; report = cycle_text circuit hops }
+
+-- of each circuit there is one or the other; whichever cycle there is may be told
+pub data IsSettleAnswer (circuit : Circuit) : Answer → Type 0 where
+  bounded : (bounds : List ℕ) → AreBounds circuit bounds → IsSettleAnswer circuit (bounds_answer circuit bounds)
+  in_a_cycle : (hops : List Hop) → IsCycle circuit hops → IsSettleAnswer circuit (cycle_answer circuit hops)
+
+abbrev pub IsSettleAnswerOf : Result Annotated Refusal → Answer → Type 0
+IsSettleAnswerOf (Ok annotated) answer = IsSettleAnswer annotated.circuit answer
+IsSettleAnswerOf (Err r) answer = answer ≡ refusal_answer r
+
+-- the answer is right for what is asked and these files: of a run those of the design and of what drives the inputs, of bounds those of the design; a generated case has its own texts
+abbrev pub IsAnswerFor : Asked → List File → Answer → Type 0
+IsAnswerFor (a_run command) files answer = (outcome : Result Task Refusal) × CommandOutcome command files outcome × (answer ≡ answer_of outcome)
+IsAnswerFor (the_bounds design) files answer = (outcome : Result Annotated Refusal) × DesignOutcome design files outcome × IsSettleAnswerOf outcome answer
+IsAnswerFor (a_case stages) files answer = (outcome : Result Task Refusal) × CaseOutcome stages outcome × (answer ≡ case_answer stages outcome)
+
+abbrev pub IsAnswerTo : Option Asked → List File → Answer → Type 0
+IsAnswerTo None files answer = answer ≡ refusal_answer words
+IsAnswerTo (Some asked) files answer = IsAnswerFor asked files answer
 
 abbrev pub IsAnswer : List (List ℕ) → List File → Answer → Type 0
-IsAnswer ws files answer = IsAnswerTo (case_of ws) ws files answer
+IsAnswer ws files answer = IsAnswerTo (asked_of ws) files answer
 
 -- the file that was made has its bytes afterwards, and all else stays
 abbrev pub FilesAfter : Option File → List File → List File → Type 0

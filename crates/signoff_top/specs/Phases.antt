@@ -11,7 +11,7 @@ use Rattle.annotation_model.specs.Annotated as annotation
 use Rattle.late_limits.specs.Adjusted.{IsAdjustedFrom}
 use Rattle.wave_out.specs.Report.{Unmatched}
 use Rattle.wave_out.specs.Texts.{line, line_of}
-use Rattle.run_words.specs.Words.{Command, Input, a_stimulus, a_wave, command_of, default_corner, default_rounds, file_of}
+use Rattle.run_words.specs.Words.{Command, Design, Input, a_stimulus, a_wave, default_corner, default_rounds, file_of}
 use Rattle.gen_case.specs.Case.{netlist_of, sdf_of, stimulus_of}
 use Rattle.netlist_read.specs.Kinds.{Kind, kind_text}
 use Rattle.netlist_read.specs.Reading as netlist_text
@@ -47,7 +47,7 @@ status_of_refusal (sdf name n kind) = status.Sdf
 status_of_refusal (stimulus name n kind) = status.Stimulus
 
 abbrev pub usage_line : List ℕ
-usage_line = line (codes "usage: signoff run NETLIST.. (--stim F | --wave F [--scope PATH]) --vcd F [--sdf F] [--top NAME] [--corner min|typ|max] [--rounds N] [--wheel N] | signoff gen N")
+usage_line = line (codes "usage: signoff run NETLIST.. (--stim F | --wave F [--scope PATH]) --vcd F [--sdf F] [--top NAME] [--corner min|typ|max] [--rounds N] [--wheel N] | signoff settle NETLIST.. [--sdf F] [--top NAME] [--corner min|typ|max] | signoff gen N")
 
 -- what is refused: the file's name, the line and the kind, with colons between them
 abbrev pub located_line : List ℕ → List ℕ → ℕ → List ℕ → List ℕ
@@ -185,9 +185,9 @@ pub record Task : Type 0 where
   pub input : Stimulus
   pub vcd : List ℕ
 
--- the netlist of a command: its files are read, and then their texts
-abbrev pub CircuitOutcome : Command → List File → Result Circuit Refusal → Type 0
-CircuitOutcome command files = Then (FilesOutcome command.netlists files) (λ texts. NetlistOutcome command.netlists texts command.top command.corner)
+-- the netlist of a design: its files are read, and then their texts
+abbrev pub CircuitOutcome : Design → List File → Result Circuit Refusal → Type 0
+CircuitOutcome design files = Then (FilesOutcome design.netlists files) (λ texts. NetlistOutcome design.netlists texts design.top design.corner)
 
 -- the text of an SDF file is read in, and its entries are applied
 abbrev pub EntriesOutcome : List ℕ → List ℕ → Corner → Circuit → Result Annotated Refusal → Type 0
@@ -197,6 +197,10 @@ EntriesOutcome name text corner circuit = Then (SdfOutcome name text) (λ file. 
 abbrev pub AnnotatedOutcome : Option (List ℕ) → Corner → List File → Circuit → Result Annotated Refusal → Type 0
 AnnotatedOutcome None corner files circuit outcome = outcome ≡ Ok (record { circuit = circuit; unmatched = [] })
 AnnotatedOutcome (Some name) corner files circuit outcome = Then (FileOutcome name (bytes_of name files)) (λ text. EntriesOutcome name text corner circuit) outcome
+
+-- a design: its netlist, and the delays where it names an SDF file
+abbrev pub DesignOutcome : Design → List File → Result Annotated Refusal → Type 0
+DesignOutcome design files = Then (CircuitOutcome design files) (λ circuit. AnnotatedOutcome design.sdf design.corner files circuit)
 
 -- the file of what drives the inputs is read, and then its text
 abbrev pub InputOutcome : Input → List File → Circuit → Result Stimulus Refusal → Type 0
@@ -219,15 +223,10 @@ CaseOutcome stages =
     Then (StimulusOutcome case_stimulus (stimulus_of stages) annotated.circuit) (λ input outcome.
     outcome ≡ Ok (record { circuit = annotated.circuit; unmatched = annotated.unmatched; rounds = default_rounds; input = input; vcd = [] }))))
 
--- All phases of a command up to its run, over the files that are held: those of the netlist, of the delays where the command
--- names an SDF file, and of the stimulus. How many buckets the wheel of events has is no part of it: the answer is the same.
+-- All phases of a command up to its run, over the files that are held: those of its design, and that of what drives the inputs. How
+-- many buckets the wheel of events has is no part of it: the answer is the same.
 abbrev pub CommandOutcome : Command → List File → Result Task Refusal → Type 0
 CommandOutcome command files =
-    Then (CircuitOutcome command files) (λ circuit.
-    Then (AnnotatedOutcome command.sdf command.corner files circuit) (λ annotated.
+    Then (DesignOutcome command.design files) (λ annotated.
     Then (InputOutcome command.input files annotated.circuit) (λ input outcome.
-    outcome ≡ Ok (record { circuit = annotated.circuit; unmatched = annotated.unmatched; rounds = command.rounds; input = input; vcd = command.vcd }))))
-
--- and those of the words
-abbrev pub TaskOutcome : List (List ℕ) → List File → Result Task Refusal → Type 0
-TaskOutcome ws files = Then (WordsOutcome (command_of ws)) (λ command. CommandOutcome command files)
+    outcome ≡ Ok (record { circuit = annotated.circuit; unmatched = annotated.unmatched; rounds = command.rounds; input = input; vcd = command.vcd })))

@@ -5,9 +5,9 @@ use Rattle.sg_io.specs.Faults.{Rises}
 use Rattle.sg_io.specs.Files.{File, BothTell, bytes_of}
 use Rattle.sg_io.specs.Put.{SinkTold}
 use Rattle.sg_circuit.specs.Circuit.{Circuit}
-use Rattle.signoff_top.specs.Answer.{Answer, IsAnswer, FilesAfter, dump_of, fault_line, report_fault_line, no_memory_line}
-use Rattle.run_words.specs.Words.{Command, Asked, asked_of, command_of, file_of, names_in}
-use Rattle.signoff_top.specs.Phases.{Annotated, Task, TaskOutcome, AnnotatedOutcome, CircuitOutcome, FilesOutcome, usage_line}
+use Rattle.signoff_top.specs.Answer.{Answer, IsAnswer, FilesAfter, fault_line, report_fault_line, no_memory_line}
+use Rattle.run_words.specs.Words.{Command, Design, Asked, a_run, asked_of, design_of, file_of, names_in}
+use Rattle.signoff_top.specs.Phases.{Annotated, CircuitOutcome, DesignOutcome, FilesOutcome, usage_line}
 use Rattle.signoff_top.specs.Putting.{PutsAll, PutsTillFault, PutsTillWant, PutsLast}
 use Rattle.wave_out.specs.Files.{LeavesPrefix}
 use Rattle.signoff_top.specs.Status.{IsDecided, IsRunEnd}
@@ -40,27 +40,31 @@ pub record HasAnswer (ws : List (List ℕ)) (how : Status) (text : List ℕ) (ol
   pub faults : new.faults ≡ old.faults
   pub files : BothTell old.files new.files (IsRight ws how text)
 
--- A file in a call on which the work may fail, and what is left then: one of the netlist's, where the words are a command
--- and the files before it were read; the SDF file, where the netlist was accepted; that of what drives the inputs, where its annotation was
--- too; the dump's, where all phases up to the run gave a task.
+-- A file in a call on which the work may fail, and what is left then: one of the netlist's, where a design is asked of and the files
+-- before it were read; the SDF file, where the netlist was accepted; that of what drives the inputs, where the design was; that which
+-- a right answer makes.
 pub data FaultAt (ws : List (List ℕ)) (old new : List File) : List ℕ → Type 0 where
-  at_netlist : (c : Command) (before : List (List ℕ)) (name : List ℕ) (after texts : List (List ℕ)) → command_of ws ≡ Some c → c.netlists ≡ before ++ name ∷ after → FilesOutcome before old (Ok texts)
-      → new ≡ old → FaultAt ws old new name
-  at_sdf : (c : Command) (name : List ℕ) (circuit : Circuit) → command_of ws ≡ Some c → c.sdf ≡ Some name → CircuitOutcome c old (Ok circuit) → new ≡ old → FaultAt ws old new name
-  at_stimulus : (c : Command) (circuit : Circuit) (annotated : Annotated) → command_of ws ≡ Some c → CircuitOutcome c old (Ok circuit)
-      → AnnotatedOutcome c.sdf c.corner old circuit (Ok annotated) → new ≡ old → FaultAt ws old new (file_of c.input)
-  at_dump : (task : Task) → TaskOutcome ws old (Ok task) → LeavesPrefix task.vcd (dump_of task) old new → FaultAt ws old new task.vcd
+  at_netlist : (asked : Asked) (d : Design) (before : List (List ℕ)) (name : List ℕ) (after texts : List (List ℕ)) → asked_of ws ≡ Some asked → design_of asked ≡ Some d → d.netlists ≡ before ++ name ∷ after
+      → FilesOutcome before old (Ok texts) → new ≡ old → FaultAt ws old new name
+  at_sdf : (asked : Asked) (d : Design) (name : List ℕ) (circuit : Circuit) → asked_of ws ≡ Some asked → design_of asked ≡ Some d → d.sdf ≡ Some name → CircuitOutcome d old (Ok circuit) → new ≡ old → FaultAt ws old new name
+  at_stimulus : (c : Command) (annotated : Annotated) → asked_of ws ≡ Some (a_run c) → DesignOutcome c.design old (Ok annotated) → new ≡ old → FaultAt ws old new (file_of c.input)
+  at_made : (answer : Answer) (made : File) → IsAnswer ws old answer → answer.made ≡ Some made → LeavesPrefix made.name made.bytes old new → FaultAt ws old new made.name
 
 -- the shelf names the file of the last call that failed: one of the words, to which the work had come
 pub record NamesFaultAt (ws : List (List ℕ)) (old new : Option (List File)) (last : Option (List ℕ)) : Type 0 where
   pub name : List ℕ
   pub told : last ≡ Some name
-  pub among : Contains (names_in (command_of ws)) name
+  pub among : Contains (names_in (asked_of ws)) name
   pub place : BothTell old new (λ before after. FaultAt ws before after name)
 
--- all files are as before, or the dump of a task was begun
+-- the file that a right answer makes is as before, or holds the first bytes of what it makes; every other file stays
+abbrev pub KeepsBut : Option File → List File → List File → Type 0
+KeepsBut None old new = new ≡ old
+KeepsBut (Some f) old new = LeavesPrefix f.name f.bytes old new
+
+-- all files are as before, or that which a right answer makes was begun
 abbrev pub LeavesUnfinished : List (List ℕ) → List File → List File → Type 0
-LeavesUnfinished ws old new = (new ≡ old) ⊎ ((task : Task) × TaskOutcome ws old (Ok task) × LeavesPrefix task.vcd (dump_of task) old new)
+LeavesUnfinished ws old new = (new ≡ old) ⊎ ((answer : Answer) × IsAnswer ws old answer × KeepsBut answer.made old new)
 
 -- a report was put: all of it; or, but at the end of a run, its first bytes till a call failed
 pub data PutsReport (how : Status) (text : List ℕ) (old new : SinkTold) : Type 0 where
@@ -98,19 +102,14 @@ pub record IsExact (ws : List (List ℕ)) (how : Status) (files : List File) (he
 abbrev pub IsStatusOf : Answer → Status → Type 0
 IsStatusOf answer how = (how ≡ answer.status) ⊎ ((how ≡ status.Fault) ⊎ (how ≡ status.NoMemory))
 
--- the file that a right answer makes is as before, or holds the first bytes of what it makes; every other file stays
-abbrev pub KeepsBut : Option File → List File → List File → Type 0
-KeepsBut None old new = new ≡ old
-KeepsBut (Some f) old new = LeavesPrefix f.name f.bytes old new
-
 -- whatever right answer there is
 abbrev pub KeepsByAnswer : List (List ℕ) → List File → List File → Type 0
 KeepsByAnswer ws old new = (answer : Answer) → IsAnswer ws old answer → KeepsBut answer.made old new
 
--- by the words alone: every file stays but that which they name for the dump; without a command all do
-abbrev pub KeepsByWords : Option Command → List File → List File → Type 0
+-- by the words alone: every file stays but that which they name to be made; where they name none all do
+abbrev pub KeepsByWords : Option (List ℕ) → List File → List File → Type 0
 KeepsByWords None old new = new ≡ old
-KeepsByWords (Some c) old new = (q : List ℕ) → q ≢ c.vcd → bytes_of q new ≡ bytes_of q old
+KeepsByWords (Some made) old new = (q : List ℕ) → q ≢ made → bytes_of q new ≡ bytes_of q old
 
 -- status 2 comes exactly where the words are refused, unless there was no memory
 abbrev pub IsUsage : Option Asked → Status → Type 0

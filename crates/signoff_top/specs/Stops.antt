@@ -83,9 +83,10 @@ SparesWords (stop.Refused (refusal.Wave name line kind)) = Unit {0}
 SparesWords stop.Failed = Unit {0}
 SparesWords stop.NoMemory = Unit {0}
 
--- a command has a netlist, and its numbers are in their ranges
+-- a design has a netlist, and the numbers of a run are in their ranges
 abbrev pub IsReady : code_asked.Asked → Type 0
-IsReady (asked.Run c) = ((1 ≤ c.rounds) × (1 ≤ c.wheel) × (c.wheel ≤ 1048576)) × (0 < length c.netlists.items)
+IsReady (asked.Run c) = ((1 ≤ c.rounds) × (1 ≤ c.wheel) × (c.wheel ≤ 1048576)) × (0 < length c.design.netlists.items)
+IsReady (asked.Bounds d) = 0 < length d.netlists.items
 IsReady (asked.Case stages) = Unit {0}
 
 -- the words alone say whether they are refused, unless there was no memory; of a value that comes they say P

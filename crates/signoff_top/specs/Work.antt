@@ -1,18 +1,18 @@
 -- What joins the code of the work on the shelf, and of the telling to the sink, to the cases of the top call.
-use Rattle.std.specs.Prelude.{ℕ, ◌≡◌, List, [], length, map, Option, Some, None, Result, Ok, Err, unwrap_or}
-use Rattle.sg_io.specs.Files.{File, HasAfter}
+use Rattle.std.specs.Prelude.{ℕ, ◌≡◌, Bool, List, [], length, map, Option, None, Result, Ok, Err, unwrap_or, if◌then◌else◌}
+use Rattle.sg_io.specs.Files.{File}
 use Rattle.sg_io.specs.Put.{SinkTold}
+use Rattle.sg_circuit.specs.Circuit.{Circuit}
 use Rattle.sg_model.specs.Machine.{Violation}
 use Rattle.wave_out.specs.Report.{report_lines}
 use Rattle.wave_out.specs.Spent.{spent_seen}
 use Rattle.time_checks.specs.Seen.{violation_seen}
 use Rattle.run_dump.specs.RunEnds.{violations_of}
 use Rattle.run_dump.specs.declared.run.QuietEnd as code_quiet
-use Rattle.run_words.specs.Words.{case_of}
 use Rattle.sim_times.specs.Times.{count_shown}
-use Rattle.signoff_top.specs.Answer.{dump_of, run_of, last_of, case_text, status_of_run, fault_line, report_fault_line, no_memory_line}
-use Rattle.signoff_top.specs.Phases.{Refusal, Task, CaseOutcome, TaskOutcome, refusal_line, status_of_refusal}
-use Rattle.signoff_top.specs.Promises.{LeavesUnfinished, PutsReport}
+use Rattle.signoff_top.specs.Answer.{Answer, IsAnswer, IsSettleAnswer, refusal_answer, run_of, last_of, case_text, status_of_run, fault_line, report_fault_line, no_memory_line}
+use Rattle.signoff_top.specs.Phases.{Task, refusal_line, status_of_refusal}
+use Rattle.signoff_top.specs.Promises.{IsRight, LeavesUnfinished, PutsReport}
 use Rattle.signoff_top.specs.Putting.{PutsTillFault, PutsTillWant, PutsLast}
 use Rattle.signoff_top.specs.Status.{IsRunEnd}
 use Rattle.signoff_top.specs.Stops.{refusal_seen}
@@ -23,18 +23,8 @@ use Rattle.signoff_top.specs.declared.stop.Stop as code_stop
 use Rattle.signoff_top.specs.declared.stop.Stop.TheVariants as stop
 use Rattle.signoff_top.specs.declared.work.Done as code_done
 use Rattle.signoff_top.specs.declared.work.Done.TheVariants as done
-use Rattle.signoff_top.specs.declared.work.RunDone as code_run
 use Rattle.signoff_top.specs.declared.work.CaseDone as code_case
-
--- what the phases may come to, of a command or of a generated case
-abbrev pub OutcomeOf : Option ℕ → List (List ℕ) → List File → Result Task Refusal → Type 0
-OutcomeOf None ws files = TaskOutcome ws files
-OutcomeOf (Some stages) ws files = CaseOutcome stages
-
--- the run of a command: its dump is written, and it came to its end
-abbrev pub RunLeaves : List (List ℕ) → code_run.RunDone → List File → List File → Type 0
-RunLeaves ws d old new =
-    TaskOutcome ws old (Ok (task_seen d.task)) × HasAfter d.task.vcd.now (dump_of (task_seen d.task)) old new × ((spent_seen d.end.spent ≡ (run_of (task_seen d.task)).spent) × (violations_of d.end ≡ (run_of (task_seen d.task)).run.violations))
+use Rattle.signoff_top.specs.declared.bounds.BoundsDone as code_bounds
 
 -- the violations that a run found which nobody watched
 abbrev pub quiet_violations : code_quiet.QuietEnd → List Violation
@@ -47,15 +37,37 @@ pub record IsQuietEnd (task : Task) (end : code_quiet.QuietEnd) : Type 0 where
   pub evaluations : end.evaluations ≡ count_shown (run_of task).evaluations
   pub last : end.last ≡ last_of task
 
--- the run of a generated case: no file is touched
-abbrev pub CaseLeaves : List (List ℕ) → code_case.CaseDone → List File → List File → Type 0
-CaseLeaves ws d old new = (case_of ws ≡ Some d.stages) × CaseOutcome d.stages (Ok (task_seen d.task)) × IsQuietEnd (task_seen d.task) d.end × (new ≡ old)
+-- the text that is told of a generated case
+abbrev pub case_told : code_case.CaseDone → List ℕ
+case_told d = case_text d.task.circuit d.stages d.end.evaluations d.end.last (length d.end.violations.items) (spent_seen d.end.spent)
 
--- the files after the work; what a failure leaves is said with the name of its file
+-- the status of bounds, or of a cycle
+abbrev pub settle_status : (cyclic : Bool) → Status
+settle_status cyclic = if cyclic then status.Violations else status.Clean
+
+-- what was found of a circuit, as an answer
+pub record IsSettleDone (circuit : Circuit) (d : code_bounds.BoundsDone) : Type 0 where
+  pub answer : Answer
+  pub right : IsSettleAnswer circuit answer
+  pub status : settle_status d.cyclic ≡ answer.status
+  pub report : d.text.items ≡ answer.report
+  pub made : answer.made ≡ None
+
+-- the status of what was done, and what is told of it
+abbrev pub status_of_done : code_done.Done → Status
+status_of_done (done.Run d) = status_of_run (spent_seen d.end.spent) (violations_of d.end)
+status_of_done (done.Bounds d) = settle_status d.cyclic
+status_of_done (done.Case d) = status_of_run (spent_seen d.end.spent) (quiet_violations d.end)
+
+abbrev pub text_of_done : code_done.Done → List ℕ
+text_of_done (done.Run d) = report_lines d.task.circuit (task_seen d.task).unmatched (violations_of d.end) d.task.input.end (spent_seen d.end.spent)
+text_of_done (done.Bounds d) = d.text.items
+text_of_done (done.Case d) = case_told d
+
+-- what the work leaves: a right answer, or the files as they were; what a failure leaves is said with the name of its file
 abbrev pub WorkLeaves : List (List ℕ) → Result code_done.Done code_stop.Stop → List File → List File → Type 0
-WorkLeaves ws (Ok (done.Run d)) old new = RunLeaves ws d old new
-WorkLeaves ws (Ok (done.Case d)) old new = CaseLeaves ws d old new
-WorkLeaves ws (Err (stop.Refused r)) old new = OutcomeOf (case_of ws) ws old (Err (refusal_seen r)) × (new ≡ old)
+WorkLeaves ws (Ok d) old new = IsRight ws (status_of_done d) (text_of_done d) old new
+WorkLeaves ws (Err (stop.Refused r)) old new = IsAnswer ws old (refusal_answer (refusal_seen r)) × (new ≡ old)
 WorkLeaves ws (Err stop.Failed) old new = Unit {0}
 WorkLeaves ws (Err stop.NoMemory) old new = LeavesUnfinished ws old new
 
@@ -72,13 +84,7 @@ TellsStop named (stop.Refused r) old new how = Tells (refusal_line (refusal_seen
 TellsStop named stop.Failed old new how = (how ≡ status.Fault) × PutsLast (fault_line (unwrap_or named [])) old new
 TellsStop named stop.NoMemory old new how = (how ≡ status.NoMemory) × PutsLast no_memory_line old new
 
--- the text that is told of a generated case
-abbrev pub case_told : code_case.CaseDone → List ℕ
-case_told d = case_text d.task.circuit d.stages d.end.evaluations d.end.last (length d.end.violations.items) (spent_seen d.end.spent)
-
 -- how the end of the work was told
 abbrev pub TellsEnd : Option (List ℕ) → Result code_done.Done code_stop.Stop → SinkTold → SinkTold → Status → Type 0
-TellsEnd named (Ok (done.Run d)) old new how =
-    Tells (report_lines d.task.circuit (task_seen d.task).unmatched (violations_of d.end) d.task.input.end (spent_seen d.end.spent)) (status_of_run (spent_seen d.end.spent) (violations_of d.end)) old new how
-TellsEnd named (Ok (done.Case d)) old new how = Tells (case_told d) (status_of_run (spent_seen d.end.spent) (quiet_violations d.end)) old new how
+TellsEnd named (Ok d) old new how = Tells (text_of_done d) (status_of_done d) old new how
 TellsEnd named (Err s) old new how = TellsStop named s old new how

@@ -3,7 +3,7 @@ ghost use Rattle.std.specs.Prelude.{◌≡◌, List, Some, IfErr, map};
 ghost use Rattle.sdf_meaning.specs.MeantSeen.{view_sdf};
 ghost use Rattle.sg_io.specs.Faults.{Cause};
 ghost use Rattle.sg_io.specs.Files.{File};
-ghost use Rattle.run_words.specs.WordsSeen.{command_seen};
+ghost use Rattle.run_words.specs.WordsSeen.{design_seen};
 ghost use Rattle.wave_out.specs.Reporting.{unmatched_seen};
 ghost use Rattle.wave_out.specs.Texts.{line_of};
 ghost use Rattle.signoff_top.specs.Phases.{AnnotatedOutcome, AnnotationOutcome, EntriesOutcome, SdfOutcome, sdf};
@@ -12,7 +12,7 @@ ghost use Rattle.signoff_top.specs.Tasks.{annotated_seen};
 
 use crate::phases::file_phase;
 use crate::stop::{Refusal, SdfFault, Stop};
-use run_words::Command;
+use run_words::Design;
 use sdf_annotate::{AnnotError, Unmatched, annotate};
 use sdf_read::read_sdf;
 use sdf_tree::Sdf;
@@ -119,22 +119,22 @@ fn apply_file<'a, S: Shelf>(
     })
 }
 
-/// The circuit as the SDF file of a command leaves it. Without one it is as it was.
+/// The circuit as the SDF file of a design leaves it. Without one it is as it was.
 pub fn annotation_of<'a, S: Shelf>(
     alloc: Global,
     shelf: &mut S,
-    command: &Command<'a>,
+    design: &Design<'a>,
     circuit: Circuit,
 ) -> Result<Annotated, Stop<'a>>
     ensures gives { (files : List File) → S.files shelf.old ≡ Some files
-        → Gives (λ a. annotated_seen a) (AnnotatedOutcome (command_seen command.now).sdf command.now.corner files circuit) result }
+        → Gives (λ a. annotated_seen a) (AnnotatedOutcome (design_seen design.now).sdf design.now.corner files circuit) result }
     ensures held { S.files shelf.new ≡ S.files shelf.old }
     ensures cause { Cause (S.fault_count shelf.old) (S.fault_count shelf.new) (end_of_phase result) }
-    ensures named { IfFailed (FailsAtGiven (command_seen command.now).sdf (S.last_fault shelf.new)) result }
+    ensures named { IfFailed (FailsAtGiven (design_seen design.now).sdf (S.last_fault shelf.new)) result }
     ensures words { IfErr result (λ s. SparesWords s) }
 {
-    match command.sdf {
-        Some(name) => apply_file(alloc, shelf, name, command.corner, circuit),
+    match design.sdf {
+        Some(name) => apply_file(alloc, shelf, name, design.corner, circuit),
         None => Ok(Annotated {
             circuit,
             sdf: Vec::new(alloc),

@@ -2,7 +2,7 @@
 ghost use Rattle.std.specs.Prelude.{◌≡◌, ◌≢◌, ℕ, List, Some, map, string_bytes};
 ghost use Rattle.sg_io.specs.Files.{BothTell, File};
 ghost use Rattle.sg_io.specs.Faults.{Rose};
-ghost use Rattle.run_words.specs.Words.{asked_of, command_of};
+ghost use Rattle.run_words.specs.Words.{asked_of, made_in};
 ghost use Rattle.signoff_top.specs.Answer.{Answer, IsAnswer};
 ghost use Rattle.signoff_top.specs.Promises.{IsExact, IsRight, IsStatusOf, IsUsage, KeepsByAnswer, KeepsByWords, Outcome};
 ghost use Rattle.signoff_top.specs.Status.{IsDecided, IsRunEnd};
@@ -15,7 +15,8 @@ use std::alloc::Global;
 
 /// Does what the words after the program's name ask for: reads the netlist from the shelf, annotates it with the delays and
 /// limits of the SDF file where one is named, reads the stimulus, simulates, writes the value change dump to the shelf, and
-/// puts the report to the sink; or makes the generated case, simulates it, and puts its summary. The status is the program's.
+/// puts the report to the sink; or reads and annotates, and puts the settle bounds; or makes the generated case, simulates it, and puts
+/// its summary. The status is the program's.
 pub fn top<S: Shelf, K: Sink>(
     alloc: Global,
     words: &[String],
@@ -48,7 +49,7 @@ pub fn top<S: Shelf, K: Sink>(
 
     // Whatever comes, the files are as before, but for the one that is made, which has the first bytes of its text.
     ensures kept { BothTell (S.files shelf.old) (S.files shelf.new) (KeepsByAnswer (map (λ w. string_bytes w) words.now)) }
-    ensures others { BothTell (S.files shelf.old) (S.files shelf.new) (KeepsByWords (command_of (map (λ w. string_bytes w) words.now))) }
+    ensures others { BothTell (S.files shelf.old) (S.files shelf.new) (KeepsByWords (made_in (asked_of (map (λ w. string_bytes w) words.now))) }
 
     // No fault of the shelf is passed over, and none of the sink at the end of a run.
     ensures counted { result ≢ Status.Fault → S.fault_count shelf.new ≡ S.fault_count shelf.old }

@@ -3,6 +3,7 @@
 
 mod annotation;
 mod answer;
+mod bounds;
 mod generated;
 mod inputs;
 mod phases;

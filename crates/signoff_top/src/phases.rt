@@ -5,18 +5,18 @@ ghost use Rattle.sg_io.specs.Files.{File, bytes_of};
 ghost use Rattle.sg_stimulus.specs.Applied.{IsApplied};
 ghost use Rattle.sg_stimulus.specs.Seen.{stimulus_seen};
 ghost use Rattle.netlist_read.specs.Seen.{kind_seen};
-ghost use Rattle.run_words.specs.Words.{asked_of, command_of};
-ghost use Rattle.run_words.specs.WordsSeen.{asked_seen, command_seen};
-ghost use Rattle.signoff_top.specs.Phases.{CircuitOutcome, CommandOutcome, FileOutcome, FilesOutcome, NetlistOutcome, WordsOutcome, refused_at};
+ghost use Rattle.run_words.specs.Words.{Asked as Asking, a_run, asked_of, design_of};
+ghost use Rattle.run_words.specs.WordsSeen.{asked_seen, command_seen, design_seen};
+ghost use Rattle.signoff_top.specs.Phases.{CircuitOutcome, CommandOutcome, DesignOutcome, FileOutcome, FilesOutcome, NetlistOutcome, WordsOutcome, refused_at};
 ghost use Rattle.signoff_top.specs.Promises.{NamesFaultAt};
 ghost use Rattle.signoff_top.specs.Stops.{FailsAtOne, Gives, IfFailed, IsReady, NeverFails, SparesWords, StopWords, end_of_phase, refusal_seen};
-ghost use Rattle.signoff_top.specs.Tasks.{task_seen};
+ghost use Rattle.signoff_top.specs.Tasks.{annotated_seen, task_seen};
 
-use crate::annotation::annotation_of;
+use crate::annotation::{Annotated, annotation_of};
 use crate::inputs::input_of;
 use crate::stop::{Refusal, Stop};
 use netlist_read::{NetlistKind, read_netlist, write_kind};
-use run_words::{Asked, Command, read_words};
+use run_words::{Asked, Command, Design, read_words};
 use sdf_annotate::Unmatched;
 use sg_circuit::Circuit;
 use sg_delay::Corner;
@@ -167,46 +167,58 @@ pub fn netlist_phase<'a>(
 fn circuit_of<'a, S: Shelf>(
     alloc: Global,
     shelf: &mut S,
-    command: &Command<'a>,
+    design: &Design<'a>,
 ) -> Result<Circuit, Stop<'a>>
-    requires some { 0 < length command.now.netlists.items }
-    ensures gives { (files : List File) → S.files shelf.old ≡ Some files → Gives (λ c. c) (CircuitOutcome (command_seen command.now) files) result }
+    requires some { 0 < length design.now.netlists.items }
+    ensures gives { (files : List File) → S.files shelf.old ≡ Some files → Gives (λ c. c) (CircuitOutcome (design_seen design.now) files) result }
     ensures held { S.files shelf.new ≡ S.files shelf.old }
     ensures cause { Cause (S.fault_count shelf.old) (S.fault_count shelf.new) (end_of_phase result) }
-    ensures named { IfFailed (FailsAtOne (command_seen command.now).netlists (S.files shelf.old) (S.last_fault shelf.new)) result }
+    ensures named { IfFailed (FailsAtOne (design_seen design.now).netlists (S.files shelf.old) (S.last_fault shelf.new)) result }
     ensures words { IfErr result (λ s. SparesWords s) }
 {
-    let texts = files_phase(alloc, shelf, &command.netlists)?;
-    netlist_phase(
-        alloc,
-        &command.netlists,
-        &texts,
-        command.top,
-        command.corner,
-    )
+    let texts = files_phase(alloc, shelf, &design.netlists)?;
+    netlist_phase(alloc, &design.netlists, &texts, design.top, design.corner)
 }
 
-/// All phases of a command up to its run: the netlist, the SDF file, the stimulus.
+/// All phases of a design: the netlist, and the SDF file.
+pub fn annotated_of<'a, S: Shelf>(
+    alloc: Global,
+    design: &Design<'a>,
+    shelf: &mut S,
+) -> Result<Annotated, Stop<'a>>
+    requires some { 0 < length design.now.netlists.items }
+    ensures gives { (files : List File) → S.files shelf.old ≡ Some files
+        → Gives (λ a. annotated_seen a) (DesignOutcome (design_seen design.now) files) result }
+    ensures held { S.files shelf.new ≡ S.files shelf.old }
+    ensures cause { Cause (S.fault_count shelf.old) (S.fault_count shelf.new) (end_of_phase result) }
+    ensures named { (ws : List (List ℕ)) (asked : Asking) → asked_of ws ≡ Some asked → design_of asked ≡ Some (design_seen design.now)
+        → IfFailed (NamesFaultAt ws (S.files shelf.old) (S.files shelf.new) (S.last_fault shelf.new)) result }
+    ensures words { IfErr result (λ s. SparesWords s) }
+{
+    let circuit = circuit_of(alloc, shelf, design)?;
+    annotation_of(alloc, shelf, design, circuit)
+}
+
+/// All phases of a command up to its run: the design, and what drives the inputs.
 pub fn task_of<'a, S: Shelf>(
     alloc: Global,
     command: &Command<'a>,
     shelf: &mut S,
 ) -> Result<Task<'a>, Stop<'a>>
     requires ranges { (1 ≤ command.now.rounds) × (1 ≤ command.now.wheel) × (command.now.wheel ≤ 1048576) }
-    requires some { 0 < length command.now.netlists.items }
+    requires some { 0 < length command.now.design.netlists.items }
     ensures gives { (files : List File) → S.files shelf.old ≡ Some files
         → Gives (λ t. task_seen t) (CommandOutcome (command_seen command.now) files) result }
     ensures applied { IfOk result (λ t. IsApplied t.circuit (stimulus_seen t.input)) }
     ensures ranges { IfOk result (λ t. (1 ≤ t.rounds) × (1 ≤ t.wheel) × (t.wheel ≤ 1048576)) }
     ensures held { S.files shelf.new ≡ S.files shelf.old }
     ensures cause { Cause (S.fault_count shelf.old) (S.fault_count shelf.new) (end_of_phase result) }
-    ensures named { (ws : List (List ℕ)) → command_of ws ≡ Some (command_seen command.now)
+    ensures named { (ws : List (List ℕ)) → asked_of ws ≡ Some (a_run (command_seen command.now))
         → IfFailed (NamesFaultAt ws (S.files shelf.old) (S.files shelf.new) (S.last_fault shelf.new)) result }
     ensures words { IfErr result (λ s. SparesWords s) }
     ensures vcd { IfOk result (λ t. t.vcd.now ≡ (command_seen command.now).vcd) }
 {
-    let circuit = circuit_of(alloc, shelf, command)?;
-    let annotated = annotation_of(alloc, shelf, command, circuit)?;
+    let annotated = annotated_of(alloc, &command.design, shelf)?;
     let input = input_of(alloc, shelf, command.input, &annotated.circuit)?;
     Ok(Task {
         circuit: annotated.circuit,

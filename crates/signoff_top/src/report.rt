@@ -13,8 +13,9 @@ ghost use Rattle.signoff_top.specs.Answer.{fault_line, no_memory_line, status_of
 ghost use Rattle.signoff_top.specs.Phases.{located_line, refusal_line, sdf_kind, status_of_refusal, stimulus_kind, wave_kind};
 ghost use Rattle.signoff_top.specs.Putting.{PutsBy, PutsLast};
 ghost use Rattle.signoff_top.specs.Stops.{refusal_seen, sdf_fault_seen};
-ghost use Rattle.signoff_top.specs.Work.{Tells, TellsEnd, TellsStop, case_told, quiet_violations};
+ghost use Rattle.signoff_top.specs.Work.{Tells, TellsEnd, TellsStop, case_told, quiet_violations, settle_status};
 
+use crate::bounds::BoundsDone;
 use crate::status::Status;
 use crate::stop::{Refusal, SdfFault, Stop};
 use crate::summary::case_text;
@@ -29,7 +30,7 @@ use vcd_model::VcdKind;
 use wave_out::{ReportEnd, Spent, write_report};
 
 const USAGE: &str =
-    "usage: signoff run NETLIST.. (--stim F | --wave F [--scope PATH]) --vcd F [--sdf F] [--top NAME] [--corner min|typ|max] [--rounds N] [--wheel N] | signoff gen N";
+    "usage: signoff run NETLIST.. (--stim F | --wave F [--scope PATH]) --vcd F [--sdf F] [--top NAME] [--corner min|typ|max] [--rounds N] [--wheel N] | signoff settle NETLIST.. [--sdf F] [--top NAME] [--corner min|typ|max] | signoff gen N";
 
 // A word and a name, on a line of their own.
 fn named_line(alloc: Global, before: &str, name: &str) -> Result<Vec<u8>, AllocError>
@@ -260,6 +261,22 @@ fn tell_run<K: Sink>(alloc: Global, done: &RunDone<'_>, report: &mut K) -> Statu
     tell_put(report, planned, put)
 }
 
+fn settle_status(cyclic: bool) -> Status
+    ensures { result ≡ settle_status cyclic }
+{
+    if cyclic {
+        Status::Violations
+    } else {
+        Status::Clean
+    }
+}
+
+fn tell_bounds<K: Sink>(done: &BoundsDone, report: &mut K) -> Status
+    ensures { Tells done.now.text.items (settle_status done.now.cyclic) (K.told report.old) (K.told report.new) result }
+{
+    put_text(report, settle_status(done.cyclic), &done.text)
+}
+
 fn tell_case<K: Sink>(alloc: Global, done: &CaseDone<'_>, report: &mut K) -> Status
     ensures { Tells (case_told done.now) (end_status (spent_seen done.now.end.spent) (quiet_violations done.now.end)) (K.told report.old) (K.told report.new) result }
 {
@@ -297,6 +314,7 @@ pub fn tell<K: Sink>(
 {
     match end {
         Ok(Done::Run(done)) => tell_run(alloc, done, report),
+        Ok(Done::Bounds(done)) => tell_bounds(done, report),
         Ok(Done::Case(done)) => tell_case(alloc, done, report),
         Err(stop) => tell_stop(alloc, stop, failed, report),
     }

@@ -2,17 +2,18 @@
 ghost use Rattle.std.specs.Prelude.{◌≡◌, ◌≤◌, ◌<◌, ℕ, List, Some, IfErr, length, map, string_bytes};
 ghost use Rattle.sg_io.specs.Faults.{Cause};
 ghost use Rattle.sg_io.specs.Files.{BothTell, File};
-ghost use Rattle.run_words.specs.Words.{asked_of, case_of, command_of};
-ghost use Rattle.run_words.specs.WordsSeen.{command_seen};
+ghost use Rattle.run_words.specs.Words.{a_case, a_run, asked_of, the_bounds};
+ghost use Rattle.run_words.specs.WordsSeen.{command_seen, design_seen};
 ghost use Rattle.signoff_top.specs.Promises.{NamesFaultAt};
 ghost use Rattle.signoff_top.specs.Stops.{IfFailed, NeverFails, SparesWords, StopWords, end_of_phase};
 ghost use Rattle.signoff_top.specs.Work.{WorkLeaves};
 
+use crate::bounds::{BoundsDone, bounds_of};
 use crate::generated::case_task;
-use crate::phases::{Task, task_of, words_phase};
+use crate::phases::{Task, annotated_of, task_of, words_phase};
 use crate::stop::Stop;
 use run_dump::{QuietEnd, RunEnd, run_and_dump, run_quietly};
-use run_words::{Asked, Command};
+use run_words::{Asked, Command, Design};
 use sg_io::{Shelf, ShelfError};
 use std::alloc::Global;
 
@@ -35,6 +36,7 @@ pub struct CaseDone<'a> {
 #[derive(Drop)]
 pub enum Done<'a> {
     Run(RunDone<'a>),
+    Bounds(BoundsDone),
     Case(CaseDone<'a>),
 }
 
@@ -45,11 +47,11 @@ fn run_command<'a, S: Shelf>(
     shelf: &mut S,
 ) -> Result<Done<'a>, Stop<'a>>
     requires ranges { (1 ≤ command.now.rounds) × (1 ≤ command.now.wheel) × (command.now.wheel ≤ 1048576) }
-    requires some { 0 < length command.now.netlists.items }
-    ensures left { (ws : List (List ℕ)) → command_of ws ≡ Some (command_seen command.now)
+    requires some { 0 < length command.now.design.netlists.items }
+    ensures left { (ws : List (List ℕ)) → asked_of ws ≡ Some (a_run (command_seen command.now))
         → BothTell (S.files shelf.old) (S.files shelf.new) (WorkLeaves ws result) }
     ensures cause { Cause (S.fault_count shelf.old) (S.fault_count shelf.new) (end_of_phase result) }
-    ensures named { (ws : List (List ℕ)) → command_of ws ≡ Some (command_seen command.now)
+    ensures named { (ws : List (List ℕ)) → asked_of ws ≡ Some (a_run (command_seen command.now))
         → IfFailed (NamesFaultAt ws (S.files shelf.old) (S.files shelf.new) (S.last_fault shelf.new)) result }
     ensures words { IfErr result (λ s. SparesWords s) }
 {
@@ -69,9 +71,28 @@ fn run_command<'a, S: Shelf>(
     }
 }
 
+// Reads a design, and finds its settle bounds.
+fn find_bounds<'a, S: Shelf>(
+    alloc: Global,
+    design: &Design<'a>,
+    shelf: &mut S,
+) -> Result<Done<'a>, Stop<'a>>
+    requires some { 0 < length design.now.netlists.items }
+    ensures left { (ws : List (List ℕ)) → asked_of ws ≡ Some (the_bounds (design_seen design.now))
+        → BothTell (S.files shelf.old) (S.files shelf.new) (WorkLeaves ws result) }
+    ensures cause { Cause (S.fault_count shelf.old) (S.fault_count shelf.new) (end_of_phase result) }
+    ensures named { (ws : List (List ℕ)) → asked_of ws ≡ Some (the_bounds (design_seen design.now))
+        → IfFailed (NamesFaultAt ws (S.files shelf.old) (S.files shelf.new) (S.last_fault shelf.new)) result }
+    ensures words { IfErr result (λ s. SparesWords s) }
+{
+    let annotated = annotated_of(alloc, design, shelf)?;
+    let found = bounds_of(alloc, &annotated.circuit)?;
+    Ok(Done::Bounds(found))
+}
+
 // Makes the generated case of so many stages, and runs it.
 fn run_case<'a>(alloc: Global, stages: u32) -> Result<Done<'a>, Stop<'a>>
-    ensures left { (ws : List (List ℕ)) (files : List File) → case_of ws ≡ Some stages → WorkLeaves ws result files files }
+    ensures left { (ws : List (List ℕ)) (files : List File) → asked_of ws ≡ Some (a_case stages) → WorkLeaves ws result files files }
     ensures works { NeverFails result }
     ensures words { IfErr result (λ s. SparesWords s) }
 {
@@ -80,8 +101,8 @@ fn run_case<'a>(alloc: Global, stages: u32) -> Result<Done<'a>, Stop<'a>>
     Ok(Done::Case(CaseDone { stages, task, end }))
 }
 
-/// Does what the words ask for: reads what a command names, runs it, and writes the value change dump; or makes the
-/// generated case and runs it, for which the shelf isn't called.
+/// Does what the words ask for: reads what a command names, runs it, and writes the value change dump; or reads a design, and finds
+/// its settle bounds; or makes the generated case and runs it, for which the shelf isn't called.
 pub fn work<'a, S: Shelf>(
     alloc: Global,
     words: &'a [String],
@@ -94,6 +115,7 @@ pub fn work<'a, S: Shelf>(
 {
     match words_phase(alloc, words)? {
         Asked::Run(command) => run_command(alloc, &command, shelf),
+        Asked::Bounds(design) => find_bounds(alloc, &design, shelf),
         Asked::Case(stages) => run_case(alloc, stages),
     }
 }

@@ -1,58 +1,41 @@
 use Rattle.std.proofs.Common.{◌∙◌, refl}
 use Rattle.std.proofs.lemmas.Result.{err_from_is_err_and}
-use Rattle.sg_circuit.specs.Circuit.{Circuit}
 use Rattle.sg_stimulus.specs.declared.steps.Stimulus.{Stimulus}
+use Rattle.run_words.specs.Words.{a_run}
 use Rattle.run_words.specs.WordsSeen.{command_seen}
 use Rattle.signoff_top.specs.Tasks.{annotated_seen}
 use Rattle.signoff_top.specs.declared.annotation.Annotated.{Annotated}
 use Rattle.signoff_top.specs.declared.phases.Task.{Task}
-use Rattle.signoff_top.proofs.Composed.{gives_stop, gives_then, failed_at_netlist, failed_at_sdf, failed_at_stimulus}
+use Rattle.signoff_top.proofs.Composed.{gives_stop, gives_then, failed_again, failed_at_stimulus}
 use Rattle.signoff_top.proofs.phases.task_of.Goals as goal
-
-pub returns-in_err-circuit-clause-gives : goal.returns-in_err-circuit-clause-gives
-returns-in_err-circuit-clause-gives g c =
-    let p = err_from_is_err_and c.from_residual.result c.from_residual.ensures.1 in
-    λ files e. rw (p.1, p.2) (gives_stop (c.in_err-circuit.ensures.gives files e))
-
-pub returns-in_err-circuit-clause-named : goal.returns-in_err-circuit-clause-named
-returns-in_err-circuit-clause-named g c =
-    let p = err_from_is_err_and c.from_residual.result c.from_residual.ensures.1 in
-    λ ws e. rw (p.1, p.2)
-    (failed_at_netlist Circuit Task ws _ _ _ (command_seen c.args.command.now) c.in_err-circuit.field-0.0 e c.in_err-circuit.ensures.held c.in_err-circuit.ensures.named)
 
 pub returns-in_err-annotated-clause-gives : goal.returns-in_err-annotated-clause-gives
 returns-in_err-annotated-clause-gives g c =
-    let p = err_from_is_err_and c.from_residual-in_err-annotated.result c.from_residual-in_err-annotated.ensures.1 in
-    λ files e. rw (p.1, p.2)
-    (gives_then (c.in_ok-circuit.ensures.gives files e)
-    (gives_stop (c.in_err-annotated.ensures.gives files (c.in_ok-circuit.ensures.held ∙ e))))
+    let p = err_from_is_err_and c.from_residual.result c.from_residual.ensures.1 in
+    λ files e. rw (p.1, p.2) (gives_stop (c.in_err-annotated.ensures.gives files e))
 
 pub returns-in_err-annotated-clause-named : goal.returns-in_err-annotated-clause-named
 returns-in_err-annotated-clause-named g c =
-    let p = err_from_is_err_and c.from_residual-in_err-annotated.result c.from_residual-in_err-annotated.ensures.1 in
-    λ ws e. rw (p.1, p.2)
-    (failed_at_sdf Annotated Task ws _ _ _ (command_seen c.args.command.now) c.in_ok-circuit.circuit c.in_err-annotated.field-0.0 e
-    c.in_ok-circuit.ensures.gives (c.in_err-annotated.ensures.held ∙ c.in_ok-circuit.ensures.held) c.in_err-annotated.ensures.named)
+    let p = err_from_is_err_and c.from_residual.result c.from_residual.ensures.1 in
+    λ ws e. rw (p.1, p.2) (failed_again Annotated Task _ _ c.in_err-annotated.field-0.0 (λ x. x) (c.in_err-annotated.ensures.named ws (a_run (command_seen c.args.command.now)) e refl))
 
 pub returns-in_err-input-clause-gives : goal.returns-in_err-input-clause-gives
 returns-in_err-input-clause-gives g c =
     let p = err_from_is_err_and c.from_residual-in_err-input.result c.from_residual-in_err-input.ensures.1 in
     λ files e. rw (p.1, p.2)
-    (gives_then (c.in_ok-circuit.ensures.gives files e)
-    (gives_then (c.in_ok-annotated.ensures.gives files (c.in_ok-circuit.ensures.held ∙ e))
-    (gives_stop (c.in_err-input.ensures.gives files (c.in_ok-annotated.ensures.held ∙ (c.in_ok-circuit.ensures.held ∙ e))))))
+    (gives_then (c.in_ok-annotated.ensures.gives files e)
+    (gives_stop (c.in_err-input.ensures.gives files (c.in_ok-annotated.ensures.held ∙ e))))
 
 pub returns-in_err-input-clause-named : goal.returns-in_err-input-clause-named
 returns-in_err-input-clause-named g c =
     let p = err_from_is_err_and c.from_residual-in_err-input.result c.from_residual-in_err-input.ensures.1 in
     λ ws e. rw (p.1, p.2)
-    (failed_at_stimulus Stimulus Task ws _ _ _ (command_seen c.args.command.now) c.in_ok-circuit.circuit (annotated_seen c.in_ok-annotated.annotated) c.in_err-input.field-0.0 e
-    (λ files k. ((c.in_ok-circuit.ensures.gives files k).outcome, (c.in_ok-annotated.ensures.gives files (c.in_ok-circuit.ensures.held ∙ k)).outcome))
-    (c.in_err-input.ensures.held ∙ (c.in_ok-annotated.ensures.held ∙ c.in_ok-circuit.ensures.held)) c.in_err-input.ensures.named)
+    (failed_at_stimulus Stimulus Task ws _ _ _ (command_seen c.args.command.now) (annotated_seen c.in_ok-annotated.annotated) c.in_err-input.field-0.0 e
+    (λ files k. (c.in_ok-annotated.ensures.gives files k).outcome)
+    (c.in_err-input.ensures.held ∙ c.in_ok-annotated.ensures.held) c.in_err-input.ensures.named)
 
 pub returns-clause-gives : goal.returns-clause-gives
 returns-clause-gives g c = λ files e.
-    gives_then (c.in_ok-circuit.ensures.gives files e)
-    (gives_then (c.in_ok-annotated.ensures.gives files (c.in_ok-circuit.ensures.held ∙ e))
-    (gives_then (c.in_ok-input.ensures.gives files (c.in_ok-annotated.ensures.held ∙ (c.in_ok-circuit.ensures.held ∙ e)))
-    (record { outcome = refl })))
+    gives_then (c.in_ok-annotated.ensures.gives files e)
+    (gives_then (c.in_ok-input.ensures.gives files (c.in_ok-annotated.ensures.held ∙ e))
+    (record { outcome = refl }))

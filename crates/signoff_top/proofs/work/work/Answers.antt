@@ -1,10 +1,11 @@
 use Rattle.std.proofs.Common.{map, refl}
 use Rattle.std.specs.Prelude.{string_bytes}
 use Rattle.std.proofs.lemmas.Result.{err_from_is_err_and}
+use Rattle.run_words.specs.declared.words.Asked.TheVariants.{Run, Bounds, Case}
 use Rattle.signoff_top.specs.Work.{WorkLeaves}
 use Rattle.signoff_top.specs.declared.work.Done.{Done}
 use Rattle.signoff_top.proofs.Putting.{both_same}
-use Rattle.signoff_top.proofs.Worked.{asked_command, asked_stages, words_spared, words_stopped}
+use Rattle.signoff_top.proofs.Worked.{asked_is, words_spared, words_stopped}
 use Rattle.signoff_top.proofs.work.work.Goals as goal
 
 pub returns-in_err-command-clause-left : goal.returns-in_err-command-clause-left
@@ -13,14 +14,28 @@ returns-in_err-command-clause-left g c =
     rw (p.1, p.2) (words_stopped (map (λ w. string_bytes w) c.args.words.now) c.in_err-command.field-0.0 _ _ c.in_err-command.ensures.gives refl)
 
 pub returns-in-Run-clause-left : goal.returns-in-Run-clause-left
-returns-in-Run-clause-left g c = c.run_command.ensures.left (map (λ w. string_bytes w) c.args.words.now) (asked_command (map (λ w. string_bytes w) c.args.words.now) c.in_ok-command.field-0 c.in-Run.command c.in_ok-command.ensures.words c.in-Run.is)
+returns-in-Run-clause-left g c =
+    let ws = map (λ w. string_bytes w) c.args.words.now in c.run_command.ensures.left ws (asked_is ws c.in_ok-command.field-0 (Run c.in-Run.command) c.in_ok-command.ensures.words c.in-Run.is)
 
 pub returns-in-Run-clause-named : goal.returns-in-Run-clause-named
-returns-in-Run-clause-named g c = c.run_command.ensures.named (map (λ w. string_bytes w) c.args.words.now) (asked_command (map (λ w. string_bytes w) c.args.words.now) c.in_ok-command.field-0 c.in-Run.command c.in_ok-command.ensures.words c.in-Run.is)
+returns-in-Run-clause-named g c =
+    let ws = map (λ w. string_bytes w) c.args.words.now in c.run_command.ensures.named ws (asked_is ws c.in_ok-command.field-0 (Run c.in-Run.command) c.in_ok-command.ensures.words c.in-Run.is)
 
 pub returns-in-Run-clause-words : goal.returns-in-Run-clause-words
 returns-in-Run-clause-words g c = words_spared Done (map (λ w. string_bytes w) c.args.words.now) c.in_ok-command.field-0 c.run_command.result c.in_ok-command.ensures.words c.run_command.ensures.words
 
+pub returns-in-Bounds-clause-left : goal.returns-in-Bounds-clause-left
+returns-in-Bounds-clause-left g c =
+    let ws = map (λ w. string_bytes w) c.args.words.now in c.find_bounds.ensures.left ws (asked_is ws c.in_ok-command.field-0 (Bounds c.in-Bounds.design) c.in_ok-command.ensures.words c.in-Bounds.is)
+
+pub returns-in-Bounds-clause-named : goal.returns-in-Bounds-clause-named
+returns-in-Bounds-clause-named g c =
+    let ws = map (λ w. string_bytes w) c.args.words.now in c.find_bounds.ensures.named ws (asked_is ws c.in_ok-command.field-0 (Bounds c.in-Bounds.design) c.in_ok-command.ensures.words c.in-Bounds.is)
+
+pub returns-in-Bounds-clause-words : goal.returns-in-Bounds-clause-words
+returns-in-Bounds-clause-words g c = words_spared Done (map (λ w. string_bytes w) c.args.words.now) c.in_ok-command.field-0 c.find_bounds.result c.in_ok-command.ensures.words c.find_bounds.ensures.words
+
 pub returns-in-Case-clause-left : goal.returns-in-Case-clause-left
 returns-in-Case-clause-left g c =
-    both_same (WorkLeaves (map (λ w. string_bytes w) c.args.words.now) c.run_case.result) _ _ refl (λ files _. c.run_case.ensures.left (map (λ w. string_bytes w) c.args.words.now) files (asked_stages (map (λ w. string_bytes w) c.args.words.now) c.in_ok-command.field-0 c.in-Case.stages c.in_ok-command.ensures.words c.in-Case.is))
+    let ws = map (λ w. string_bytes w) c.args.words.now in
+    both_same (WorkLeaves ws c.run_case.result) _ _ refl (λ files _. c.run_case.ensures.left ws files (asked_is ws c.in_ok-command.field-0 (Case c.in-Case.stages) c.in_ok-command.ensures.words c.in-Case.is))
