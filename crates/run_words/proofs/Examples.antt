@@ -1,7 +1,7 @@
 -- Worked examples of the words.
 use Rattle.std.proofs.Common.{◌≡◌, [], ◌∷◌, Some, None, codes, refl}
 use Rattle.sg_delay.specs.declared.corners.Corner.TheVariants.{Max}
-use Rattle.run_words.specs.Words.{a_case, a_run, a_stimulus, a_wave, asked_of, default_corner, default_rounds, default_wheel, names_in, the_bounds}
+use Rattle.run_words.specs.Words.{a_case, a_run, a_stimulus, a_wave, asked_of, default_corner, default_rounds, default_wheel, names_in, a_writing, the_bounds}
 
 -- `run --stim=s --vcd v -- -a.v`
 behind_the_end : asked_of (codes "run" ∷ codes "--stim=s" ∷ codes "--vcd" ∷ codes "v" ∷ codes "--" ∷ codes "-a.v" ∷ [])
@@ -116,3 +116,13 @@ bounds_with_a_dump = refl
 
 names_of_bounds : names_in (asked_of (codes "settle" ∷ codes "a.v" ∷ codes "b.v" ∷ codes "--sdf" ∷ codes "d" ∷ [])) ≡ codes "a.v" ∷ codes "b.v" ∷ codes "d" ∷ []
 names_of_bounds = refl
+
+-- `annotate a.v --out o.sdf`; without the file for it
+a_file_of_delays : asked_of (codes "annotate" ∷ codes "a.v" ∷ codes "--out" ∷ codes "o.sdf" ∷ []) ≡ Some (a_writing (record { design = record { netlists = codes "a.v" ∷ []; sdf = None; top = None; corner = default_corner }; out = codes "o.sdf" }))
+a_file_of_delays = refl
+
+delays_for_no_file : asked_of (codes "annotate" ∷ codes "a.v" ∷ []) ≡ None
+delays_for_no_file = refl
+
+names_of_a_writing : names_in (asked_of (codes "annotate" ∷ codes "a.v" ∷ codes "--out" ∷ codes "o.sdf" ∷ codes "--sdf" ∷ codes "d" ∷ [])) ≡ codes "a.v" ∷ codes "d" ∷ codes "o.sdf" ∷ []
+names_of_a_writing = refl

@@ -1,5 +1,5 @@
 -- What holds of all that the words ask for.
-use Rattle.std.proofs.Common.{◌≡◌, ℕ, ◌≤◌, List, [], ◌∷◌, length, Bool, true, false, cond, ◌&&◌, refl, sym, ap, subst, arith, Option, Some, None, option_map, option_and_then, IfSome, nat_le, codes}
+use Rattle.std.proofs.Common.{◌≡◌, ℕ, ◌≤◌, List, [], ◌∷◌, length, Bool, true, false, cond, ◌&&◌, refl, sym, ap, ◌∙◌, subst, arith, Option, Some, None, option_map, option_and_then, IfSome, nat_le, codes}
 use Rattle.std.specs.Option.{option_or}
 use Rattle.std.specs.Str.Parse.{digits_value}
 use Rattle.std.specs.List.{list_all}
@@ -7,9 +7,9 @@ use Rattle.std.proofs.lemmas.Bool.{leb-true}
 use Rattle.std.proofs.lemmas.Option.{same_Some}
 use Rattle.sg_delay.specs.declared.corners.Corner.{Corner}
 use Rattle.run_words.specs.declared.subcommands.Subcommand.{Subcommand}
-use Rattle.run_words.specs.declared.subcommands.Subcommand.TheVariants.{Run, Settle}
+use Rattle.run_words.specs.declared.subcommands.Subcommand.TheVariants.{Run, Annotate, Settle}
 use Rattle.run_words.specs.Arguments.{Argument, arguments_of}
-use Rattle.run_words.specs.Words.{Asked, a_run, the_bounds, a_case, Command, Design, Input, input_of, value_of, netlists_of, options_of, is_known, is_single, are_sound, corner_of, is_number, most_digits, number_up_to, default_corner, default_rounds, most_rounds, default_wheel, most_wheel, read_or, design_with, command_with, asked_with, asked_from, subcommand_of, asked_by, case_of, asked_of}
+use Rattle.run_words.specs.Words.{Asked, a_run, a_writing, the_bounds, a_case, Command, Design, Input, Writing, input_of, value_of, netlists_of, options_of, is_known, is_single, are_sound, corner_of, is_number, most_digits, number_up_to, default_corner, default_rounds, most_rounds, default_wheel, most_wheel, read_or, design_with, command_with, writing_with, asked_with, asked_from, subcommand_of, asked_by, case_of, asked_of}
 
 both : (a b : Bool) → (a && b) ≡ true → (a ≡ true) × (b ≡ true)
 both false b e = cc
@@ -53,6 +53,7 @@ pub record IsRunFit (c : Command) : Type 0 where
 
 pub IsFit : Asked → Type 0
 IsFit (a_run c) = IsRunFit c
+IsFit (a_writing w) = 1 ≤ length w.design.netlists
 IsFit (the_bounds d) = 1 ≤ length d.netlists
 IsFit (a_case stages) = Unit {0}
 
@@ -88,6 +89,15 @@ run_within netlists arguments c e =
     (read_or default_rounds (number_up_to most_digits most_rounds) (value_of (codes "rounds") arguments)) (read_or default_wheel (number_up_to most_digits most_wheel) (value_of (codes "wheel") arguments)) c e (design_netlists netlists arguments)
     (read_within default_rounds most_rounds (value_of (codes "rounds") arguments) (omega arith) (omega arith)) (read_within default_wheel most_wheel (value_of (codes "wheel") arguments) (omega arith) (omega arith))
 
+writing_netlists : (netlists : List (List ℕ)) (arguments : List Argument) (w : Writing) → writing_with netlists arguments ≡ Some w → w.design.netlists ≡ netlists
+writing_netlists netlists arguments w e = by (design_with netlists arguments) (value_of (codes "out") arguments) e (design_netlists netlists arguments)
+  where
+    by : (o : Option Design) (out : Option (List ℕ)) → option_and_then (λ d. option_and_then (λ v. Some (record { design = d; out = v })) out) o ≡ Some w
+        → ((d : Design) → o ≡ Some d → d.netlists ≡ netlists) → w.design.netlists ≡ netlists
+    by None out e h = cc
+    by (Some d) None e h = cc
+    by (Some d) (Some v) e h = ap (λ (x : Writing). x.design.netlists) (sym (same_Some (record { design = d; out = v }) w e)) ∙ h d refl
+
 mapped : {A B : Type 0} (f : A → B) (o : Option A) (b : B) → option_map f o ≡ Some b → (a : A) × (o ≡ Some a) × (f a ≡ b)
 mapped f None b e = cc
 mapped f (Some a) b e = (a, refl, same_Some (f a) b e)
@@ -99,6 +109,10 @@ with_fit Run netlists arguments asked some e =
     let within = run_within netlists arguments found.0 found.1 in
     let fit : IsRunFit found.0 = record { netlists = subst (λ (ns : List (List ℕ)). 1 ≤ length ns) (sym within.0) some; rounds = within.1; wheel = (within.2, within.3) } in
     subst IsFit found.2 fit
+with_fit Annotate netlists arguments asked some e =
+    let found = mapped a_writing (writing_with netlists arguments) asked e in
+    let some : 1 ≤ length found.0.design.netlists = subst (λ (ns : List (List ℕ)). 1 ≤ length ns) (sym (writing_netlists netlists arguments found.0 found.1)) some in
+    subst IsFit found.2 some
 with_fit Settle netlists arguments asked some e =
     let found = mapped the_bounds (design_with netlists arguments) asked e in
     let some : 1 ≤ length found.0.netlists = subst (λ (ns : List (List ℕ)). 1 ≤ length ns) (sym (design_netlists netlists arguments found.0 found.1)) some in

@@ -16,13 +16,15 @@ use Rattle.run_words.specs.declared.inputs.Input.{Input}
 use Rattle.run_words.specs.declared.inputs.Input.TheVariants.{Stimulus, Wave}
 use Rattle.run_words.specs.contracts.designs.DesignPartialEq.TheImpl as design_eq
 use Rattle.run_words.specs.declared.designs.Design.{Design}
+use Rattle.run_words.specs.contracts.designs.WritingPartialEq.TheImpl as writing_eq
+use Rattle.run_words.specs.declared.designs.Writing as code_writing
 use Rattle.run_words.specs.contracts.words.CommandPartialEq.TheImpl as command_eq
 use Rattle.run_words.specs.declared.words.Command.{Command}
 use Rattle.run_words.specs.contracts.words.AskedPartialEq.TheImpl as asked_eq
 use Rattle.run_words.specs.declared.words.Asked.{Asked}
-use Rattle.run_words.specs.declared.words.Asked.TheVariants.{Run, Bounds, Case}
-use Rattle.run_words.specs.Words.{a_run, the_bounds, a_case, a_stimulus}
-use Rattle.run_words.specs.WordsSeen.{asked_seen, command_seen, design_seen, input_seen}
+use Rattle.run_words.specs.declared.words.Asked.TheVariants as code_asked
+use Rattle.run_words.specs.Words.{a_run, a_writing, the_bounds, a_case, a_stimulus}
+use Rattle.run_words.specs.WordsSeen.{asked_seen, command_seen, design_seen, input_seen, writing_seen}
 use denote.Enum.Bare.{sameb}
 
 abbrev same_text : Bor (List ℕ) → Bor (List ℕ) → Bool
@@ -76,19 +78,33 @@ command-Decides a b =
     (Decides-and _ _ (design-Decides a.design b.design) (Decides-and _ _ (input-Decides a.input b.input) (Decides-and _ _ (bytes_eq-Decides a.vcd.now b.vcd.now)
     (Decides-and _ _ (Decides-eqb a.rounds b.rounds) (Decides-eqb a.wheel b.wheel)))))
 
+abbrev writing_equal : code_writing.Writing → code_writing.Writing → Bool
+writing_equal a b = writing_eq.eq-value.it a b
+
+writing-Decides : (a b : code_writing.Writing) → Decides (writing_equal a b) (writing_seen a ≡ writing_seen b)
+writing-Decides a b =
+    Decides-like _ (λ h. cc) (λ same. (ap (λ w. w.design) same, ap (λ w. w.out) same)) (Decides-and _ _ (design-Decides a.design b.design) (bytes_eq-Decides a.out.now b.out.now))
+
 abbrev asked_equal : Asked → Asked → Bool
 asked_equal a b = asked_eq.eq-value.it a b
 
 asked-Decides : (a b : Asked) → Decides (asked_equal a b) (asked_seen a ≡ asked_seen b)
-asked-Decides (Run c) (Run d) = let same = command-Decides c d in (λ e. ap a_run (same.0 e), λ h. same.1 cc)
-asked-Decides (Run c) (Bounds e) = (λ h. cc, λ h. cc)
-asked-Decides (Run c) (Case n) = (λ h. cc, λ h. cc)
-asked-Decides (Bounds d) (Run c) = (λ h. cc, λ h. cc)
-asked-Decides (Bounds d) (Bounds e) = let same = design-Decides d e in (λ h. ap the_bounds (same.0 h), λ h. same.1 cc)
-asked-Decides (Bounds d) (Case n) = (λ h. cc, λ h. cc)
-asked-Decides (Case m) (Run c) = (λ h. cc, λ h. cc)
-asked-Decides (Case m) (Bounds d) = (λ h. cc, λ h. cc)
-asked-Decides (Case m) (Case n) = let same = Decides-eqb m n in (λ e. ap a_case (same.0 e), λ h. same.1 cc)
+asked-Decides (code_asked.Run c) (code_asked.Run d) = let same = command-Decides c d in (λ h. ap a_run (same.0 h), λ h. same.1 cc)
+asked-Decides (code_asked.Run c) (code_asked.Writing w) = (λ h. cc, λ h. cc)
+asked-Decides (code_asked.Run c) (code_asked.Bounds e) = (λ h. cc, λ h. cc)
+asked-Decides (code_asked.Run c) (code_asked.Case n) = (λ h. cc, λ h. cc)
+asked-Decides (code_asked.Writing v) (code_asked.Run d) = (λ h. cc, λ h. cc)
+asked-Decides (code_asked.Writing v) (code_asked.Writing w) = let same = writing-Decides v w in (λ h. ap a_writing (same.0 h), λ h. same.1 cc)
+asked-Decides (code_asked.Writing v) (code_asked.Bounds e) = (λ h. cc, λ h. cc)
+asked-Decides (code_asked.Writing v) (code_asked.Case n) = (λ h. cc, λ h. cc)
+asked-Decides (code_asked.Bounds d) (code_asked.Run d0) = (λ h. cc, λ h. cc)
+asked-Decides (code_asked.Bounds d) (code_asked.Writing w) = (λ h. cc, λ h. cc)
+asked-Decides (code_asked.Bounds d) (code_asked.Bounds e) = let same = design-Decides d e in (λ h. ap the_bounds (same.0 h), λ h. same.1 cc)
+asked-Decides (code_asked.Bounds d) (code_asked.Case n) = (λ h. cc, λ h. cc)
+asked-Decides (code_asked.Case m) (code_asked.Run d) = (λ h. cc, λ h. cc)
+asked-Decides (code_asked.Case m) (code_asked.Writing w) = (λ h. cc, λ h. cc)
+asked-Decides (code_asked.Case m) (code_asked.Bounds e) = (λ h. cc, λ h. cc)
+asked-Decides (code_asked.Case m) (code_asked.Case n) = let same = Decides-eqb m n in (λ h. ap a_case (same.0 h), λ h. same.1 cc)
 
 pub asked-Decide : (a b : Asked) (r : Bool) → r ≡ asked_equal a b → Decides r (asked_seen a ≡ asked_seen b)
 asked-Decide a b r e = Decides-at r _ e (asked-Decides a b)

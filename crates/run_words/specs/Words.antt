@@ -8,7 +8,7 @@ use Rattle.sg_delay.specs.declared.corners.Corner.{Corner}
 use Rattle.sg_delay.specs.declared.corners.Corner.TheVariants.{Min, Typ, Max}
 use Rattle.run_words.specs.Arguments.{Argument, setting, netlist, is_text, arguments_of}
 use Rattle.run_words.specs.declared.subcommands.Subcommand.{Subcommand}
-use Rattle.run_words.specs.declared.subcommands.Subcommand.TheVariants.{Run, Settle}
+use Rattle.run_words.specs.declared.subcommands.Subcommand.TheVariants.{Run, Annotate, Settle}
 
 -- What drives the inputs: the file of a stimulus; or that of a value change dump, of which the scope of a path is taken. Where
 -- there is no path, it is the top's name.
@@ -63,6 +63,7 @@ netlists_of arguments = filter_map netlist_in arguments
 -- the options of a subcommand
 abbrev pub options_of : Subcommand → List (List ℕ)
 options_of Run = codes "stim" ∷ codes "wave" ∷ codes "scope" ∷ codes "vcd" ∷ codes "sdf" ∷ codes "top" ∷ codes "corner" ∷ codes "rounds" ∷ codes "wheel" ∷ []
+options_of Annotate = codes "out" ∷ codes "sdf" ∷ codes "top" ∷ codes "corner" ∷ []
 options_of Settle = codes "sdf" ∷ codes "top" ∷ codes "corner" ∷ []
 
 -- an option's name is one of these, and no value and no netlist's name is empty
@@ -140,14 +141,27 @@ command_with netlists arguments = do
   wheel ← read_or default_wheel (number_up_to most_digits most_wheel) (value_of (codes "wheel") arguments)
   Some (record { design = design; input = input; vcd = vcd; rounds = rounds; wheel = wheel })
 
--- what words ask for: a run, the bounds of a design, or the run of a generated case
+-- a design whose delays are written, and the file for them, which is required
+pub record Writing : Type 0 where
+  pub design : Design
+  pub out : List ℕ
+
+abbrev pub writing_with : List (List ℕ) → List Argument → Option Writing
+writing_with netlists arguments = do
+  design ← design_with netlists arguments
+  out ← value_of (codes "out") arguments
+  Some (record { design = design; out = out })
+
+-- what words ask for: a run, the delays of a design as a file, the bounds of a design, or the run of a generated case
 pub data Asked : Type 0 where
   a_run : Command → Asked
+  a_writing : Writing → Asked
   the_bounds : Design → Asked
   a_case : (stages : ℕ) → Asked
 
 abbrev pub asked_with : Subcommand → List (List ℕ) → List Argument → Option Asked
 asked_with Run netlists arguments = option_map a_run (command_with netlists arguments)
+asked_with Annotate netlists arguments = option_map a_writing (writing_with netlists arguments)
 asked_with Settle netlists arguments = option_map the_bounds (design_with netlists arguments)
 
 abbrev pub asked_from : Subcommand → List Argument → Option Asked
@@ -155,7 +169,9 @@ asked_from subcommand arguments = if are_sound (options_of subcommand) arguments
 
 -- the subcommand of this name
 abbrev pub subcommand_of : List ℕ → Option Subcommand
-subcommand_of word = if is_text (codes "run") word then Some Run else (if is_text (codes "settle") word then Some Settle else None)
+subcommand_of word =
+    if is_text (codes "run") word then Some Run
+    else (if is_text (codes "annotate") word then Some Annotate else (if is_text (codes "settle") word then Some Settle else None))
 
 abbrev pub asked_after : List (List ℕ) → Option Subcommand → Option Asked
 asked_after words subcommand = option_and_then (λ s. option_and_then (asked_from s) (arguments_of words)) subcommand
@@ -181,9 +197,10 @@ asked_of words = option_or (asked_by words) (option_map a_case (case_of words))
 abbrev pub design_names : Design → List (List ℕ)
 design_names d = d.netlists ++ option_to_list d.sdf
 
--- the names of files in what is asked: those of the design; of a run also what drives the inputs, and the dump
+-- the names of files in what is asked: those of the design; of a run also what drives the inputs, and the dump; of a writing also the file that is written
 abbrev pub names_of : Asked → List (List ℕ)
 names_of (a_run c) = design_names c.design ++ file_of c.input ∷ c.vcd ∷ []
+names_of (a_writing w) = design_names w.design ++ w.out ∷ []
 names_of (the_bounds d) = design_names d
 names_of (a_case stages) = []
 
@@ -194,12 +211,14 @@ names_in (Some asked) = names_of asked
 -- the design of what is asked for, where files are read
 abbrev pub design_of : Asked → Option Design
 design_of (a_run c) = Some c.design
+design_of (a_writing w) = Some w.design
 design_of (the_bounds d) = Some d
 design_of (a_case stages) = None
 
 -- the file that is made
 abbrev pub made_of : Asked → Option (List ℕ)
 made_of (a_run c) = Some c.vcd
+made_of (a_writing w) = Some w.out
 made_of (the_bounds d) = None
 made_of (a_case stages) = None
 

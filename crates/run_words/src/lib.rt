@@ -10,6 +10,6 @@ mod rules;
 mod subcommands;
 mod words;
 
-pub use designs::Design;
+pub use designs::{Design, Writing};
 pub use inputs::Input;
 pub use words::{Asked, Command, read_words};

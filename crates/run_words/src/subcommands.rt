@@ -5,6 +5,7 @@ ghost use Rattle.run_words.specs.Words.{options_of, subcommand_of};
 #[derive(Clone, Copy, Debug, PartialEq)]
 pub enum Subcommand {
     Run,
+    Annotate,
     Settle,
 }
 
@@ -12,6 +13,8 @@ pub enum Subcommand {
 const RUN_OPTIONS: [&str; 9] = [
     "stim", "wave", "scope", "vcd", "sdf", "top", "corner", "rounds", "wheel",
 ];
+
+const ANNOTATE_OPTIONS: [&str; 4] = ["out", "sdf", "top", "corner"];
 
 const SETTLE_OPTIONS: [&str; 3] = ["sdf", "top", "corner"];
 
@@ -21,6 +24,7 @@ pub fn options_of(subcommand: Subcommand) -> &'static [&'static str]
 {
     match subcommand {
         Subcommand::Run => &RUN_OPTIONS,
+        Subcommand::Annotate => &ANNOTATE_OPTIONS,
         Subcommand::Settle => &SETTLE_OPTIONS,
     }
 }
@@ -31,6 +35,7 @@ pub fn subcommand_of(word: &str) -> Option<Subcommand>
 {
     match word {
         "run" => Some(Subcommand::Run),
+        "annotate" => Some(Subcommand::Annotate),
         "settle" => Some(Subcommand::Settle),
         _ => None,
     }

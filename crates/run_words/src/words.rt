@@ -6,7 +6,7 @@ ghost use Rattle.run_words.specs.Words.{value_of, command_with, asked_with, aske
 ghost use Rattle.run_words.specs.WordsSeen.{asked_seen, command_seen};
 
 use crate::arguments::{Argument, read_arguments};
-use crate::designs::{Design, design_with};
+use crate::designs::{Design, Writing, design_with, writing_with};
 use crate::inputs::{Input, input_of};
 use crate::numbers::number_up_to;
 use crate::parser::parse_arguments;
@@ -47,6 +47,8 @@ pub struct Command<'a> {
 #[derive(Debug, Drop, PartialEq)]
 pub enum Asked<'a> {
     Run(Command<'a>),
+    /// The delays of a design, as an SDF file.
+    Writing(Writing<'a>),
     /// The settle bounds of a design.
     Bounds(Design<'a>),
     /// The run of the generated case of so many stages, from 1 to 100000.
@@ -90,6 +92,7 @@ fn asked_with<'a>(
 {
     match subcommand {
         Subcommand::Run => Some(Asked::Run(command_with(netlists, arguments)?)),
+        Subcommand::Annotate => Some(Asked::Writing(writing_with(netlists, arguments)?)),
         Subcommand::Settle => Some(Asked::Bounds(design_with(netlists, arguments)?)),
     }
 }
