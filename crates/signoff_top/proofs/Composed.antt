@@ -5,7 +5,7 @@ use Rattle.std.specs.Option.{option_to_list}
 use Rattle.std.specs.Prelude.{Ok, Err, Option, Some, Contains}
 use Rattle.sg_io.specs.Files.{File, bytes_of}
 use Rattle.sg_circuit.specs.Circuit.{Circuit}
-use Rattle.run_words.specs.Words.{Asked, a_run, the_bounds, a_case, Command, Design, asked_of, design_names, design_of, file_of, names_in}
+use Rattle.run_words.specs.Words.{Asked, a_run, a_writing, the_bounds, a_case, Command, Design, Writing, asked_of, design_names, design_of, file_of, names_in}
 use Rattle.signoff_top.specs.Phases.{Annotated, Refusal, Then, stops, goes_on, CircuitOutcome, DesignOutcome, FileOutcome}
 use Rattle.signoff_top.specs.Promises.{FaultAt, at_netlist, at_sdf, at_stimulus, NamesFaultAt}
 use Rattle.signoff_top.specs.Stops.{FailsAtGiven, FailsAtOne, Gives, IfFailed, IfOutcome, refusal_seen}
@@ -59,6 +59,8 @@ failed_again X Y P Q stop.NoMemory f h = tt
 designed : (asked : Asked) (d : Design) (name : List ℕ) → design_of asked ≡ Some d → Contains (design_names d) name → Contains (names_in (Some asked)) name
 designed (a_run c) d name e h =
     let same : c.design ≡ d = cc in Contains-append_left (design_names c.design) (file_of c.input ∷ c.vcd ∷ []) name (subst (λ x. Contains (design_names x) name) (sym same) h)
+designed (a_writing w) d name e h =
+    let same : w.design ≡ d = cc in Contains-append_left (design_names w.design) (w.out ∷ []) name (subst (λ x. Contains (design_names x) name) (sym same) h)
 designed (the_bounds b) d name e h = let same : b ≡ d = cc in subst (λ x. Contains (design_names x) name) (sym same) h
 designed (a_case stages) d name e h = cc
 
@@ -85,6 +87,9 @@ last_among c name h = Contains-append_right (design_names c.design) (file_of c.i
 
 pub dump_among : (c : Command) (name : List ℕ) → name ≡ c.vcd → Contains (names_in (Some (a_run c))) name
 dump_among c name e = last_among c name (1, lit< tt, sym e)
+
+pub out_among : (w : Writing) → Contains (names_in (Some (a_writing w))) w.out
+out_among w = Contains-append_right (design_names w.design) (w.out ∷ []) w.out (0, lit< tt, refl)
 
 -- a failure on the SDF file
 sdf_fault : (ws : List (List ℕ)) (old new : Option (List File)) (last : Option (List ℕ)) (asked : Asked) (d : Design) (circuit : Circuit)

@@ -2,7 +2,7 @@
 -- faults stand in one phase.
 use Rattle.std.proofs.Common.{◌≡◌, ◌∙◌, sym, ap, subst, refl, ℕ, ◌<◌, All, length, List, [], ◌∷◌}
 use Rattle.std.proofs.lemmas.List.Elements.{All-map}
-use Rattle.std.specs.Prelude.{Option, Some, None, Result, Ok, Err}
+use Rattle.std.specs.Prelude.{true, false, Option, Some, None, Result, Ok, Err, codes}
 use Rattle.sg_io.specs.Files.{File, bytes_of}
 use Rattle.sg_circuit.specs.Circuit.{Circuit, Element}
 use Rattle.annotation_model.specs.Annotated.{annotated, annotated_element}
@@ -16,12 +16,16 @@ use Rattle.sdf_read.specs.Outcomes.{Fault}
 use Rattle.sdf_tree.specs.Meant.{Sdf}
 use Rattle.stim_read.proofs.OnceLaws as stimulus
 use Rattle.vcd_stim.proofs.OnceLaws as wave
-use Rattle.run_words.specs.Words.{Asked, a_run, the_bounds, a_case, Command, Design, Input, a_stimulus, a_wave, asked_of, default_corner, file_of}
-use Rattle.signoff_top.specs.Answer.{Answer, IsAnswer, IsAnswerFor, IsAnswerTo, IsSettleAnswer, IsSettleAnswerOf, bounded, in_a_cycle, answer_of, case_answer}
-use Rattle.wave_out.specs.Report.{Unmatched}
-use Rattle.signoff_top.specs.Phases.{Annotated, Refusal, Then, stops, goes_on, Task, CaseOutcome, CommandOutcome, case_netlist, case_sdf, case_stimulus, status_of_refusal}
+use Rattle.run_words.specs.Words.{Asked, a_run, a_writing, the_bounds, a_case, Command, Design, Writing, Input, a_stimulus, a_wave, asked_of, default_corner, file_of}
+use Rattle.signoff_top.specs.Answer.{Answer, IsAnswer, IsAnswerFor, IsAnswerTo, IsSettleAnswer, IsSettleAnswerOf, bounded, in_a_cycle, answer_of, case_answer, writing_answer}
+use Rattle.wave_out.specs.Report.{Unmatched, path_of}
+use Rattle.written_model.specs.Faults as written
+use Rattle.written_model.specs.declared.errors.WriteError.{WriteError}
+use Rattle.written_model.specs.declared.errors.WriteError.TheVariants as error
+use Rattle.signoff_top.specs.declared.status.Status.TheVariants as status
+use Rattle.signoff_top.specs.Phases.{Annotated, Refusal, Then, stops, goes_on, Task, CaseOutcome, CommandOutcome, case_netlist, case_sdf, case_stimulus, status_of_refusal, unwritten, unwritten_by, Written}
 use Rattle.signoff_top.proofs.OnceLaws.{adjusted-once}
-use Rattle.signoff_top.specs.Phases.{AnnotatedOutcome, AnnotationOutcome, CircuitOutcome, DesignOutcome, EntriesOutcome, InputOutcome, SdfOutcome, FileOutcome, FilesOutcome, NetlistOutcome, StimulusOutcome, DrivingOutcome, WaveOutcome, scope_or_top}
+use Rattle.signoff_top.specs.Phases.{AnnotatedOutcome, AnnotationOutcome, CircuitOutcome, DesignOutcome, EntriesOutcome, InputOutcome, SdfOutcome, FileOutcome, FilesOutcome, NetlistOutcome, StimulusOutcome, DrivingOutcome, TextOutcome, WaveOutcome, WritingOutcome, scope_or_top}
 
 -- two outcomes are one value, or two refusals of one status
 abbrev Agree : {A : Type 0} → Result A Refusal → Result A Refusal → Type 0
@@ -148,6 +152,34 @@ command_agree command files =
     then_agree _ _ (design_agree command.design files) (λ annotated _.
     then_agree _ _ (input_agree command.input files annotated.circuit) (λ input _ o p h k. equal_agree o p (h ∙ sym k)))
 
+-- a fault that stands is told, and then there is no text
+written_or_fault : (c : Circuit) (e : WriteError) (r : Refusal) → written.IsFaultless c → written.FaultStands c e → unwritten_by c e ≡ Some r → ⊥
+written_or_fault c (error.Ambiguous s) r h k told = h.scopes.unambiguous s k
+written_or_fault c (error.OffGrid s) r h k told = let no : true ≡ false = sym k ∙ h.scopes.on_grid s in cc
+written_or_fault c (error.TooDeep s) r h k told = let no : true ≡ false = sym k ∙ h.scopes.shallow s in cc
+written_or_fault c (error.TooLong s) r h k told = let no : true ≡ false = sym k ∙ h.scopes.short s in cc
+written_or_fault c (error.TooLarge s) r h k told = let no : true ≡ false = sym k.1 ∙ h.small in cc
+written_or_fault c error.NoMemory r h k told = cc
+
+unwritten_status : (c : Circuit) (e : WriteError) (r : Refusal) → unwritten_by c e ≡ Some r → status_of_refusal r ≡ status.Unwritable
+unwritten_status c (error.Ambiguous s) r told = let same : unwritten (codes "Ambiguous") (path_of c s) ≡ r = cc in sym (ap status_of_refusal same)
+unwritten_status c (error.OffGrid s) r told = let same : unwritten (codes "OffGrid") (path_of c s) ≡ r = cc in sym (ap status_of_refusal same)
+unwritten_status c (error.TooDeep s) r told = let same : unwritten (codes "TooDeep") (path_of c s) ≡ r = cc in sym (ap status_of_refusal same)
+unwritten_status c (error.TooLong s) r told = let same : unwritten (codes "TooLong") (path_of c s) ≡ r = cc in sym (ap status_of_refusal same)
+unwritten_status c (error.TooLarge s) r told = let same : unwritten (codes "TooLarge") (path_of c s) ≡ r = cc in sym (ap status_of_refusal same)
+unwritten_status c error.NoMemory r told = cc
+
+text_agree : (circuit : Circuit) → AllAgree (TextOutcome circuit)
+text_agree circuit (Ok a) (Ok b) h k = h.1 ∙ sym k.1
+text_agree circuit (Ok a) (Err r) h k = written_or_fault circuit k.0 r h.0 k.1 k.2
+text_agree circuit (Err r) (Ok a) h k = written_or_fault circuit h.0 r k.0 h.1 h.2
+text_agree circuit (Err r) (Err s) h k = unwritten_status circuit h.0 r h.2 ∙ sym (unwritten_status circuit k.0 s k.2)
+
+writing_agree : (w : Writing) (files : List File) → AllAgree (WritingOutcome w files)
+writing_agree w files =
+    then_agree _ _ (design_agree w.design files) (λ annotated _.
+    then_agree _ _ (text_agree annotated.circuit) (λ text _ o p h k. equal_agree o p (h ∙ sym k)))
+
 case_agree : (stages : ℕ) (o p : Result Task Refusal) → CaseOutcome stages o → CaseOutcome stages p → Agree o p
 case_agree stages =
     then_agree _ _ (netlist_agree (case_netlist ∷ []) (netlist_of stages ∷ []) None default_corner) (λ circuit read.
@@ -165,6 +197,18 @@ case_status_agrees stages (Ok a) (Ok b) e = ap (λ t. (case_answer stages (Ok t)
 case_status_agrees stages (Ok a) (Err r) e = absurd e
 case_status_agrees stages (Err r) (Ok a) e = absurd e
 case_status_agrees stages (Err r) (Err s) e = e
+
+written_status_agrees : (out : List ℕ) (o p : Result Written Refusal) → Agree o p → (writing_answer out o).status ≡ (writing_answer out p).status
+written_status_agrees out (Ok a) (Ok b) e = refl
+written_status_agrees out (Ok a) (Err r) e = absurd e
+written_status_agrees out (Err r) (Ok a) e = absurd e
+written_status_agrees out (Err r) (Err s) e = e
+
+written_made_agrees : (out : List ℕ) (o p : Result Written Refusal) → Agree o p → (writing_answer out o).made ≡ (writing_answer out p).made
+written_made_agrees out (Ok a) (Ok b) e = ap (λ w. (writing_answer out (Ok w)).made) e
+written_made_agrees out (Ok a) (Err r) e = absurd e
+written_made_agrees out (Err r) (Ok a) e = absurd e
+written_made_agrees out (Err r) (Err s) e = refl
 
 made_agrees : (o p : Result Task Refusal) → Agree o p → (answer_of o).made ≡ (answer_of p).made
 made_agrees (Ok a) (Ok b) e = ap (λ t. (answer_of (Ok t)).made) e
@@ -200,6 +244,8 @@ nothing_settled (Err r) a h = ap (λ x. x.made) h
 one_status_for : (asked : Asked) (files : List File) (a b : Answer) → IsAnswerFor asked files a → IsAnswerFor asked files b → a.status ≡ b.status
 one_status_for (a_run c) files a b h k =
     ap (λ x. x.status) h.2 ∙ (status_agrees h.0 k.0 (command_agree c files h.0 k.0 h.1 k.1) ∙ sym (ap (λ x. x.status) k.2))
+one_status_for (a_writing w) files a b h k =
+    ap (λ x. x.status) h.2 ∙ (written_status_agrees w.out h.0 k.0 (writing_agree w files h.0 k.0 h.1 k.1) ∙ sym (ap (λ x. x.status) k.2))
 one_status_for (the_bounds d) files a b h k = settle_status_agrees h.0 k.0 a b (design_agree d files h.0 k.0 h.1 k.1) h.2 k.2
 one_status_for (a_case stages) files a b h k =
     ap (λ x. x.status) h.2 ∙ (case_status_agrees stages h.0 k.0 (case_agree stages h.0 k.0 h.1 k.1) ∙ sym (ap (λ x. x.status) k.2))
@@ -214,6 +260,8 @@ one_status ws files a b h k = one_status_to (asked_of ws) files a b h k
 one_made_for : (asked : Asked) (files : List File) (a b : Answer) → IsAnswerFor asked files a → IsAnswerFor asked files b → a.made ≡ b.made
 one_made_for (a_run c) files a b h k =
     ap (λ x. x.made) h.2 ∙ (made_agrees h.0 k.0 (command_agree c files h.0 k.0 h.1 k.1) ∙ sym (ap (λ x. x.made) k.2))
+one_made_for (a_writing w) files a b h k =
+    ap (λ x. x.made) h.2 ∙ (written_made_agrees w.out h.0 k.0 (writing_agree w files h.0 k.0 h.1 k.1) ∙ sym (ap (λ x. x.made) k.2))
 one_made_for (the_bounds d) files a b h k = nothing_settled h.0 a h.2 ∙ sym (nothing_settled k.0 b k.2)
 one_made_for (a_case stages) files a b h k =
     ap (λ x. x.made) h.2 ∙ (nothing_made stages h.0 ∙ sym (ap (λ x. x.made) k.2 ∙ nothing_made stages k.0))

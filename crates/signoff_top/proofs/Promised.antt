@@ -10,9 +10,9 @@ use Rattle.sg_model.specs.Machine.{Violation}
 use Rattle.wave_out.specs.Files.{LeavesPrefix}
 use Rattle.wave_out.specs.Spent.{spent_seen}
 use Rattle.run_dump.specs.RunEnds.{violations_of}
-use Rattle.run_words.specs.Words.{Command, Asked, a_run, the_bounds, a_case, asked_of, made_in, made_of, names_in}
-use Rattle.signoff_top.specs.Answer.{Answer, IsAnswer, IsAnswerFor, IsAnswerTo, FilesAfter, answer_of, refusal_answer, status_of_run, fault_line}
-use Rattle.signoff_top.specs.Phases.{Refusal, Task, CommandOutcome, DesignOutcome, InputOutcome, Then, stops, goes_on, words, missing, netlist, sdf, stimulus, status_of_refusal, refusal_line}
+use Rattle.run_words.specs.Words.{Command, Asked, a_run, a_writing, the_bounds, a_case, asked_of, made_in, made_of, names_in, Writing}
+use Rattle.signoff_top.specs.Answer.{Answer, IsAnswer, IsAnswerFor, IsAnswerTo, FilesAfter, answer_of, refusal_answer, status_of_run, writing_answer, fault_line}
+use Rattle.signoff_top.specs.Phases.{Refusal, Task, CommandOutcome, DesignOutcome, InputOutcome, Then, stops, goes_on, words, missing, netlist, sdf, stimulus, unwritten, status_of_refusal, refusal_line, Written}
 use Rattle.signoff_top.specs.Promises.{ShelfTold, IsRight, FitsWords, HasAnswer, FaultAt, at_netlist, at_sdf, at_stimulus, at_made, NamesFaultAt, LeavesUnfinished, whole, till_fault, Outcome, answered, shelf_fault, sink_fault, no_memory, sink_want, IsExact, IsStatusOf, KeepsBut, KeepsByAnswer, KeepsByWords, IsUsage}
 use Rattle.signoff_top.specs.Putting.{PutsAll, PutsLast}
 use Rattle.signoff_top.specs.Putting as putting
@@ -64,11 +64,13 @@ settle_no_usage false = λ e. let k : status.Clean ≡ status.Usage = e in cc
 
 done_decided : (d : code_done.Done) → IsDecided (status_of_done d)
 done_decided (done.Run d) = run_decided (spent_seen d.end.spent) (violations_of d.end)
+done_decided (done.Writing d) = tt
 done_decided (done.Bounds d) = settle_decided d.cyclic
 done_decided (done.Case d) = run_decided (spent_seen d.end.spent) (quiet_violations d.end)
 
 done_no_usage : (d : code_done.Done) → status_of_done d ≢ status.Usage
 done_no_usage (done.Run d) = run_no_usage (spent_seen d.end.spent) (violations_of d.end)
+done_no_usage (done.Writing d) = λ e. let k : status.Clean ≡ status.Usage = e in cc
 done_no_usage (done.Bounds d) = settle_no_usage d.cyclic
 done_no_usage (done.Case d) = run_no_usage (spent_seen d.end.spent) (quiet_violations d.end)
 
@@ -78,6 +80,7 @@ refusal_decided (missing name) = tt
 refusal_decided (netlist name n kind) = tt
 refusal_decided (sdf name n kind) = tt
 refusal_decided (stimulus name n kind) = tt
+refusal_decided (unwritten kind path) = tt
 
 done_fits : (o : Option Asked) (P : Asked → code_done.Done → Type 0) (d : code_done.Done) (text : List ℕ) → StopWords o P (Ok d) → FitsWords o (status_of_done d) text
 done_fits None P d text h = absurd h
@@ -89,6 +92,7 @@ spares_fits (refusal.Missing name) h = λ e. let k : status.Missing ≡ status.U
 spares_fits (refusal.Netlist name line kind) h = λ e. let k : status.Netlist ≡ status.Usage = e in cc
 spares_fits (refusal.Sdf name line fault) h = λ e. let k : status.Sdf ≡ status.Usage = e in cc
 spares_fits (refusal.Stimulus name line kind) h = λ e. let k : status.Stimulus ≡ status.Usage = e in cc
+spares_fits (refusal.Unwritten kind path) h = λ e. let k : status.Unwritable ≡ status.Usage = e in cc
 spares_fits (refusal.Wave name line kind) h = λ e. let k : status.Stimulus ≡ status.Usage = e in cc
 
 refused_is : (r s : code_refusal.Refusal) → stop.Refused r ≡ stop.Refused s → r ≡ s
@@ -172,8 +176,13 @@ run_made : (c : Command) (p : Result Task Refusal) → Names c p → IsMadeAs (S
 run_made c (Ok task) n = n
 run_made c (Err r) n = tt
 
+writing_made : (w : Writing) (p : Result Written Refusal) → IsMadeAs (Some w.out) (writing_answer w.out p).made
+writing_made w (Ok x) = refl
+writing_made w (Err r) = tt
+
 made_for : (asked : Asked) (files : List File) (a : Answer) → IsAnswerFor asked files a → IsMadeAs (made_of asked) a.made
 made_for (a_run c) files a (p, h, is) = subst (IsMadeAs (Some c.vcd)) (sym (ap (λ x. x.made) is)) (run_made c p (command_names c files p h))
+made_for (a_writing w) files a (p, h, is) = subst (IsMadeAs (Some w.out)) (sym (ap (λ x. x.made) is)) (writing_made w p)
 made_for (the_bounds d) files a (p, h, is) = none_made None a.made (nothing_settled p a is)
 made_for (a_case stages) files a (p, h, is) = none_made None a.made (ap (λ x. x.made) is ∙ nothing_made stages p)
 

@@ -14,6 +14,9 @@ unfolding IsFit
 fit_ready (asked.Run c) h =
     let some : 1 ≤ length (map (λ n. n.now) c.design.netlists.items) = h.netlists in
     ((h.rounds, h.wheel.0, h.wheel.1), omega (arith, some, length-map c.design.netlists.items (λ n. n.now)))
+fit_ready (asked.Writing w) h =
+    let some : 1 ≤ length (map (λ n. n.now) w.design.netlists.items) = h in
+    omega (arith, some, length-map w.design.netlists.items (λ n. n.now))
 fit_ready (asked.Bounds d) h =
     let some : 1 ≤ length (map (λ n. n.now) d.netlists.items) = h in
     omega (arith, some, length-map d.netlists.items (λ n. n.now))

@@ -5,33 +5,66 @@ use Rattle.std.specs.Prelude.{Option, Some, None, Result, Ok, Err, IfErr, Contai
 use Rattle.sg_io.specs.Files.{File, BothTell, HasAfter}
 use Rattle.sim_times.specs.Times.{count_shown}
 use Rattle.time_checks.specs.Seen.{violation_seen}
-use Rattle.run_words.specs.Words.{Asked, a_run, the_bounds, a_case, Command, Design, asked_of, names_in}
+use Rattle.run_words.specs.Words.{Asked, a_run, a_writing, the_bounds, a_case, Command, Design, Writing, asked_of, names_in}
 use Rattle.run_words.specs.WordsSeen.{asked_seen}
 use Rattle.run_words.specs.declared.words.Asked as code_asked
 use Rattle.wave_out.specs.Files.{LeavesPrefix}
 use Rattle.wave_out.specs.Report.{report_lines}
 use Rattle.wave_out.specs.Spent.{spent_seen}
 use Rattle.run_dump.specs.RunEnds.{violations_of}
-use Rattle.signoff_top.specs.Answer.{Answer, FilesAfter, IsAnswer, IsAnswerTo, answer_of, case_answer, case_lines, case_text, dump_of, last_of, refusal_answer, run_of, status_of_run}
-use Rattle.signoff_top.specs.Phases.{Annotated, Refusal, Task, WordsOutcome, CommandOutcome, DesignOutcome, CaseOutcome, words}
-use Rattle.signoff_top.specs.Promises.{FaultAt, at_made, IsRight, NamesFaultAt}
+use Rattle.signoff_top.specs.Answer.{Answer, FilesAfter, IsAnswer, IsAnswerTo, answer_of, case_answer, case_lines, case_text, dump_of, last_of, refusal_answer, run_of, status_of_run, writing_answer, written_lines}
+use Rattle.signoff_top.specs.Phases.{Refusal, Task, WordsOutcome, CommandOutcome, DesignOutcome, CaseOutcome, Written, WritingOutcome, words}
+use Rattle.signoff_top.specs.Promises.{FaultAt, at_made, KeepsBut, NamesFaultAt}
 use Rattle.signoff_top.specs.Stops.{Gives, IfOutcome, SparesWords, StopWords, refusal_seen}
-use Rattle.signoff_top.specs.Tasks.{annotated_seen, task_seen}
+use Rattle.signoff_top.specs.Tasks.{annotated_seen, task_seen, written_seen}
 use Rattle.signoff_top.specs.Work.{IsQuietEnd, IsSettleDone, WorkLeaves, case_told, quiet_violations}
 use Rattle.signoff_top.specs.declared.annotation.Annotated as code_annotated
 use Rattle.signoff_top.specs.declared.bounds.BoundsDone as code_bounds
 use Rattle.signoff_top.specs.declared.phases.Task as code_task
+use Rattle.signoff_top.specs.declared.writing.Written as code_written
+use Rattle.signoff_top.specs.declared.writing.WritingDone as code_writing
 use Rattle.signoff_top.specs.declared.stop.Stop as code_stop
 use Rattle.signoff_top.specs.declared.stop.Stop.TheVariants as stop
 use Rattle.signoff_top.specs.declared.work.Done.TheVariants as done
 use Rattle.signoff_top.specs.declared.work.CaseDone as code_case
 use Rattle.signoff_top.specs.declared.work.RunDone as code_run
-use Rattle.signoff_top.proofs.Composed.{dump_among}
 use Rattle.signoff_top.proofs.Putting.{both_same}
 
 -- an answer for what the words ask
 asked_answers : (ws : List (List ℕ)) (asked : Asked) (files : List File) (a : Answer) → asked_of ws ≡ Some asked → IsAnswerTo (Some asked) files a → IsAnswer ws files a
 asked_answers ws asked files a e h = subst (λ q. IsAnswerTo q files a) (sym e) h
+
+-- a right answer, where the shelf tells
+pub Answers : List (List ℕ) → Answer → Option (List File) → Type 0
+Answers ws answer old = (files : List File) → old ≡ Some files → IsAnswer ws files answer
+
+-- a fact of what follows it, over what the shelf told before
+from_answer : (ws : List (List ℕ)) (answer : Answer) (old mid new : Option (List File)) (P Q : List File → List File → Type 0)
+    → Answers ws answer old → mid ≡ old → BothTell mid new P → ((x y : List File) → IsAnswer ws x answer → P x y → Q x y) → BothTell old new Q
+from_answer ws answer (Some x) mid (Some y) P Q g e h f = let k : BothTell (Some x) (Some y) P = subst (λ o. BothTell o (Some y) P) e h in f x y (g x refl) k
+from_answer ws answer (Some x) mid None P Q g e h f = let k : BothTell (Some x) None P = subst (λ o. BothTell o None P) e h in absurd k
+from_answer ws answer None mid (Some y) P Q g e h f = let k : BothTell None (Some y) P = subst (λ o. BothTell o (Some y) P) e h in absurd k
+from_answer ws answer None mid None P Q g e h f = tt
+
+-- want of memory, and a failure, while the file is made that the answer makes
+pub made_wants : (ws : List (List ℕ)) (answer : Answer) (made : File) (old mid new : Option (List File)) → Answers ws answer old → answer.made ≡ Some made → mid ≡ old
+    → BothTell mid new (LeavesPrefix made.name made.bytes) → BothTell old new (WorkLeaves ws (Err stop.NoMemory))
+made_wants ws answer made old mid new g is e h =
+    from_answer ws answer old mid new (LeavesPrefix made.name made.bytes) (WorkLeaves ws (Err stop.NoMemory)) g e h (λ x y right left. inr (answer, right, subst (λ m. KeepsBut m x y) (sym is) left))
+
+pub made_fails : (ws : List (List ℕ)) (answer : Answer) (made : File) (old mid new : Option (List File)) → Answers ws answer old → mid ≡ old
+    → BothTell mid new (LeavesPrefix made.name made.bytes) → BothTell old new (WorkLeaves ws (Err stop.Failed))
+made_fails ws answer made old mid new g e h =
+    from_answer ws answer old mid new (LeavesPrefix made.name made.bytes) (WorkLeaves ws (Err stop.Failed)) g e h (λ x y right left. tt)
+
+pub failed_at_made : (ws : List (List ℕ)) (asked : Asked) (answer : Answer) (made : File) (old mid new : Option (List File)) (last : Option (List ℕ)) → asked_of ws ≡ Some asked → Contains (names_in (Some asked)) made.name
+    → Answers ws answer old → answer.made ≡ Some made → mid ≡ old → BothTell mid new (LeavesPrefix made.name made.bytes) → last ≡ Some made.name → NamesFaultAt ws old new last
+failed_at_made ws asked answer made old mid new last a among g is e h n = record {
+  name = made.name;
+  told = n;
+  among = subst (λ o. Contains (names_in o) made.name) (sym a) among;
+  place = from_answer ws answer old mid new (LeavesPrefix made.name made.bytes) (λ before after. FaultAt ws before after made.name) g e h (λ x y right left. at_made answer made right is left);
+}
 
 -- ---- runs
 
@@ -52,33 +85,20 @@ stopped ws c stop.NoMemory files e h = inl refl
 pub command_stopped : (ws : List (List ℕ)) (c : Command) (s : code_stop.Stop) (old new : Option (List File)) → asked_of ws ≡ Some (a_run c) → GivesTask c old (Err s) → new ≡ old → BothTell old new (WorkLeaves ws (Err s))
 command_stopped ws c s old new e g k = both_same (WorkLeaves ws (Err s)) old new k (λ files is. stopped ws c s files e (g files is).outcome)
 
--- a fact of the run, over what the shelf told before the phases
-from_task : (ws : List (List ℕ)) (c : Command) (task : code_task.Task) (old mid new : Option (List File)) (P Q : List File → List File → Type 0)
-    → asked_of ws ≡ Some (a_run c) → GivesTask c old (Ok task) → mid ≡ old → BothTell mid new P → ((x y : List File) → IsAnswer ws x (answer_of (Ok (task_seen task))) → P x y → Q x y) → BothTell old new Q
-from_task ws c task (Some x) mid (Some y) P Q a g e h f =
-    let k : BothTell (Some x) (Some y) P = subst (λ o. BothTell o (Some y) P) e h in
-    f x y (run_answers ws c x (Ok (task_seen task)) a (g x refl).outcome) k
-from_task ws c task (Some x) mid None P Q a g e h f = let k : BothTell (Some x) None P = subst (λ o. BothTell o None P) e h in absurd k
-from_task ws c task None mid (Some y) P Q a g e h f = let k : BothTell None (Some y) P = subst (λ o. BothTell o (Some y) P) e h in absurd k
-from_task ws c task None mid None P Q a g e h f = tt
+pub run_gives : (ws : List (List ℕ)) (c : Command) (task : code_task.Task) (old : Option (List File)) → asked_of ws ≡ Some (a_run c) → GivesTask c old (Ok task) → Answers ws (answer_of (Ok (task_seen task))) old
+run_gives ws c task old a g = λ files is. run_answers ws c files (Ok (task_seen task)) a (g files is).outcome
 
-pub want_leaves : (ws : List (List ℕ)) (c : Command) (task : code_task.Task) (old mid new : Option (List File)) → asked_of ws ≡ Some (a_run c) → GivesTask c old (Ok task) → mid ≡ old
-    → BothTell mid new (LeavesPrefix task.vcd.now (dump_of (task_seen task))) → BothTell old new (WorkLeaves ws (Err stop.NoMemory))
-want_leaves ws c task old mid new a g e h =
-    from_task ws c task old mid new (LeavesPrefix task.vcd.now (dump_of (task_seen task))) (WorkLeaves ws (Err stop.NoMemory)) a g e h (λ x y right left. inr (answer_of (Ok (task_seen task)), right, left))
-
-pub failure_leaves : (ws : List (List ℕ)) (c : Command) (task : code_task.Task) (old mid new : Option (List File)) → asked_of ws ≡ Some (a_run c) → GivesTask c old (Ok task) → mid ≡ old
-    → BothTell mid new (LeavesPrefix task.vcd.now (dump_of (task_seen task))) → BothTell old new (WorkLeaves ws (Err stop.Failed))
-failure_leaves ws c task old mid new a g e h =
-    from_task ws c task old mid new (LeavesPrefix task.vcd.now (dump_of (task_seen task))) (WorkLeaves ws (Err stop.Failed)) a g e h (λ x y right left. tt)
+-- the dump of a task
+pub dump_file : code_task.Task → File
+dump_file task = record { name = task.vcd.now; bytes = dump_of (task_seen task) }
 
 -- the run came to its end
-pub run_leaves : (ws : List (List ℕ)) (c : Command) (d : code_run.RunDone) (old mid new : Option (List File)) → asked_of ws ≡ Some (a_run c) → GivesTask c old (Ok d.task) → mid ≡ old
+pub run_leaves : (ws : List (List ℕ)) (d : code_run.RunDone) (old mid new : Option (List File)) → Answers ws (answer_of (Ok (task_seen d.task))) old → mid ≡ old
     → BothTell mid new (HasAfter d.task.vcd.now (dump_of (task_seen d.task))) → spent_seen d.end.spent ≡ (run_of (task_seen d.task)).spent → violations_of d.end ≡ (run_of (task_seen d.task)).run.violations
     → BothTell old new (WorkLeaves ws (Ok (done.Run d)))
-run_leaves ws c d old mid new a g e h spent violations =
+run_leaves ws d old mid new g e h spent violations =
     let task : Task = task_seen d.task in
-    from_task ws c d.task old mid new (HasAfter d.task.vcd.now (dump_of (task_seen d.task))) (WorkLeaves ws (Ok (done.Run d))) a g e h (λ x y right after. record {
+    from_answer ws (answer_of (Ok task)) old mid new (HasAfter d.task.vcd.now (dump_of (task_seen d.task))) (WorkLeaves ws (Ok (done.Run d))) g e h (λ x y right after. record {
       answer = answer_of (Ok task);
       right = right;
       status = ap (λ s. status_of_run s (violations_of d.end)) spent ∙ ap (status_of_run (run_of task).spent) violations;
@@ -86,16 +106,42 @@ run_leaves ws c d old mid new a g e h spent violations =
       files = after;
     })
 
--- a failure on the dump's file
-pub failed_at_dump : (ws : List (List ℕ)) (c : Command) (task : code_task.Task) (old mid new : Option (List File)) (last : Option (List ℕ)) → asked_of ws ≡ Some (a_run c) → GivesTask c old (Ok task) → mid ≡ old
-    → BothTell mid new (LeavesPrefix task.vcd.now (dump_of (task_seen task))) → task.vcd.now ≡ c.vcd → last ≡ Some task.vcd.now → NamesFaultAt ws old new last
-failed_at_dump ws c task old mid new last a g e h w n = record {
-  name = task.vcd.now;
-  told = n;
-  among = subst (λ o. Contains (names_in o) task.vcd.now) (sym a) (dump_among c task.vcd.now w);
-  place = from_task ws c task old mid new (LeavesPrefix task.vcd.now (dump_of (task_seen task))) (λ before after. FaultAt ws before after task.vcd.now) a g e h
-      (λ x y right left. at_made (answer_of (Ok (task_seen task))) (record { name = task.vcd.now; bytes = dump_of (task_seen task) }) right refl left);
-}
+-- ---- writings
+
+-- what the phases of a writing gave, where the shelf tells
+abbrev GivesWritten : Writing → Option (List File) → Result code_written.Written code_stop.Stop → Type 0
+GivesWritten w old o = (files : List File) → old ≡ Some files → Gives (λ x. written_seen x) (WritingOutcome w files) o
+
+writing_answers : (ws : List (List ℕ)) (w : Writing) (files : List File) (p : Result Written Refusal) → asked_of ws ≡ Some (a_writing w) → WritingOutcome w files p → IsAnswer ws files (writing_answer w.out p)
+writing_answers ws w files p e h = asked_answers ws (a_writing w) files (writing_answer w.out p) e (p, h, refl)
+
+writing_stop : (ws : List (List ℕ)) (w : Writing) (s : code_stop.Stop) (files : List File) → asked_of ws ≡ Some (a_writing w) → IfOutcome {X = code_written.Written} (λ x. written_seen x) (WritingOutcome w files) (Err s)
+    → WorkLeaves ws (Err s) files files
+writing_stop ws w (stop.Refused r) files e h = (writing_answers ws w files (Err (refusal_seen r)) e h, refl)
+writing_stop ws w stop.Failed files e h = tt
+writing_stop ws w stop.NoMemory files e h = inl refl
+
+pub writing_stopped : (ws : List (List ℕ)) (w : Writing) (s : code_stop.Stop) (old new : Option (List File)) → asked_of ws ≡ Some (a_writing w) → GivesWritten w old (Err s) → new ≡ old → BothTell old new (WorkLeaves ws (Err s))
+writing_stopped ws w s old new e g k = both_same (WorkLeaves ws (Err s)) old new k (λ files is. writing_stop ws w s files e (g files is).outcome)
+
+pub writing_gives : (ws : List (List ℕ)) (w : Writing) (x : code_written.Written) (old : Option (List File)) → asked_of ws ≡ Some (a_writing w) → GivesWritten w old (Ok x) → Answers ws (writing_answer w.out (Ok (written_seen x))) old
+writing_gives ws w x old a g = λ files is. writing_answers ws w files (Ok (written_seen x)) a (g files is).outcome
+
+-- the file that is written
+pub written_file : (out : List ℕ) → code_written.Written → File
+written_file out x = record { name = out; bytes = x.text.items }
+
+-- it was written
+pub writing_leaves : (ws : List (List ℕ)) (w : Writing) (x : code_written.Written) (d : code_writing.WritingDone) (old mid new : Option (List File)) → Answers ws (writing_answer w.out (Ok (written_seen x))) old → mid ≡ old
+    → BothTell mid new (HasAfter w.out x.text.items) → d.report.items ≡ written_lines (written_seen x).unmatched → BothTell old new (WorkLeaves ws (Ok (done.Writing d)))
+writing_leaves ws w x d old mid new g e h told =
+    from_answer ws (writing_answer w.out (Ok (written_seen x))) old mid new (HasAfter w.out x.text.items) (WorkLeaves ws (Ok (done.Writing d))) g e h (λ y z right after. record {
+      answer = writing_answer w.out (Ok (written_seen x));
+      right = right;
+      status = refl;
+      report = told;
+      files = after;
+    })
 
 -- ---- bounds
 

@@ -1,5 +1,5 @@
 -- What the program answers: its status, the file that it makes, and the report.
-use Rattle.std.specs.Prelude.{ℕ, ◌≡◌, ◌++◌, List, [], ◌∷◌, length, Option, Some, None, Result, Ok, Err, codes, decimal}
+use Rattle.std.specs.Prelude.{ℕ, ◌≡◌, ◌++◌, List, [], ◌∷◌, length, Option, Some, None, Result, Ok, Err, codes, decimal, flat_map}
 use Rattle.sg_io.specs.Files.{File, HasAfter}
 use Rattle.sg_circuit.specs.Circuit.{Circuit}
 use Rattle.sg_model.specs.Machine.{Violation}
@@ -7,15 +7,15 @@ use Rattle.sg_model.specs.Run.{Finished, last_change, lasts}
 use Rattle.sim_rounds.specs.Setting.{setting_of}
 use Rattle.sim_rounds.specs.Simulated.{run_of_circuit}
 use Rattle.sim_times.specs.Times.{count_shown}
-use Rattle.run_words.specs.Words.{Asked, a_run, the_bounds, a_case, asked_of}
+use Rattle.run_words.specs.Words.{Asked, a_run, a_writing, the_bounds, a_case, asked_of}
 use Rattle.settle_bound.specs.declared.hops.Hop.{Hop}
 use Rattle.settle_bound.specs.Chains.{IsCycle}
 use Rattle.settle_bound.specs.Settling.{AreBounds}
 use Rattle.settle_report.specs.Texts.{bounds_text, cycle_text}
 use Rattle.wave_out.specs.Texts.{line}
 use Rattle.wave_out.specs.Vcd.{vcd_text}
-use Rattle.wave_out.specs.Report.{report_text, spent_line}
-use Rattle.signoff_top.specs.Phases.{Annotated, Refusal, Task, CaseOutcome, CommandOutcome, DesignOutcome, status_of_refusal, refusal_line, words}
+use Rattle.wave_out.specs.Report.{Unmatched, report_text, spent_line, unmatched_line}
+use Rattle.signoff_top.specs.Phases.{Annotated, Refusal, Task, CaseOutcome, CommandOutcome, DesignOutcome, Written, WritingOutcome, status_of_refusal, refusal_line, words}
 use Rattle.signoff_top.specs.declared.status.Status.{Status}
 use Rattle.signoff_top.specs.declared.status.Status.TheVariants as status
 
@@ -79,6 +79,14 @@ case_answer stages (Ok task) = record {
 }
 case_answer stages (Err r) = refusal_answer r
 
+-- what is told of delays that were written: the entries of the SDF file that were for nothing, and how many they are
+abbrev pub written_lines : List Unmatched → List ℕ
+written_lines unmatched = flat_map unmatched_line unmatched ++ line (codes "unannotated " ++ decimal (length unmatched))
+
+abbrev pub writing_answer : (out : List ℕ) → Result Written Refusal → Answer
+writing_answer out (Ok written) = record { status = status.Clean; made = Some (record { name = out; bytes = written.text }); report = written_lines written.unmatched }
+writing_answer out (Err r) = refusal_answer r
+
 -- the bounds of a circuit's nets, and a cycle of it, as they are told
 abbrev pub bounds_answer : Circuit → List ℕ → Answer
 bounds_answer circuit bounds = record { status = status.Clean; made = None; report = bounds_text circuit bounds }
@@ -95,9 +103,10 @@ abbrev pub IsSettleAnswerOf : Result Annotated Refusal → Answer → Type 0
 IsSettleAnswerOf (Ok annotated) answer = IsSettleAnswer annotated.circuit answer
 IsSettleAnswerOf (Err r) answer = answer ≡ refusal_answer r
 
--- the answer is right for what is asked and these files: of a run those of the design and of what drives the inputs, of bounds those of the design; a generated case has its own texts
+-- the answer is right for what is asked and these files: of a run those of the design and of what drives the inputs, of a writing and of bounds those of the design; a generated case has its own texts
 abbrev pub IsAnswerFor : Asked → List File → Answer → Type 0
 IsAnswerFor (a_run command) files answer = (outcome : Result Task Refusal) × CommandOutcome command files outcome × (answer ≡ answer_of outcome)
+IsAnswerFor (a_writing writing) files answer = (outcome : Result Written Refusal) × WritingOutcome writing files outcome × (answer ≡ writing_answer writing.out outcome)
 IsAnswerFor (the_bounds design) files answer = (outcome : Result Annotated Refusal) × DesignOutcome design files outcome × IsSettleAnswerOf outcome answer
 IsAnswerFor (a_case stages) files answer = (outcome : Result Task Refusal) × CaseOutcome stages outcome × (answer ≡ case_answer stages outcome)
 

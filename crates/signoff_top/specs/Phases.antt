@@ -9,9 +9,9 @@ use Rattle.sg_stimulus.specs.Stimulus.{Stimulus}
 use Rattle.sdf_tree.specs.Meant.{Sdf}
 use Rattle.annotation_model.specs.Annotated as annotation
 use Rattle.late_limits.specs.Adjusted.{IsAdjustedFrom}
-use Rattle.wave_out.specs.Report.{Unmatched}
+use Rattle.wave_out.specs.Report.{Unmatched, path_of}
 use Rattle.wave_out.specs.Texts.{line, line_of}
-use Rattle.run_words.specs.Words.{Command, Design, Input, a_stimulus, a_wave, default_corner, default_rounds, file_of}
+use Rattle.run_words.specs.Words.{Command, Design, Writing, Input, a_stimulus, a_wave, default_corner, default_rounds, file_of}
 use Rattle.gen_case.specs.Case.{netlist_of, sdf_of, stimulus_of}
 use Rattle.netlist_read.specs.Kinds.{Kind, kind_text}
 use Rattle.netlist_read.specs.Reading as netlist_text
@@ -26,6 +26,10 @@ use Rattle.vcd_model.specs.Faults as wave
 use Rattle.vcd_model.specs.Reading as wave_text
 use Rattle.vcd_model.specs.declared.kinds.VcdKind.{VcdKind}
 use Rattle.vcd_model.specs.declared.kinds.VcdKind.TheVariants as vcd
+use Rattle.written_model.specs.Faults as written
+use Rattle.written_model.specs.Text as written_text
+use Rattle.written_model.specs.declared.errors.WriteError.{WriteError}
+use Rattle.written_model.specs.declared.errors.WriteError.TheVariants as error
 use Rattle.signoff_top.specs.declared.status.Status.{Status}
 use Rattle.signoff_top.specs.declared.status.Status.TheVariants as status
 
@@ -38,6 +42,8 @@ pub data Refusal : Type 0 where
   netlist : List ℕ → ℕ → List ℕ → Refusal
   sdf : List ℕ → ℕ → List ℕ → Refusal
   stimulus : List ℕ → ℕ → List ℕ → Refusal
+  -- why delays can't be written, and the path of an instance in which that is so
+  unwritten : List ℕ → List ℕ → Refusal
 
 abbrev pub status_of_refusal : Refusal → Status
 status_of_refusal words = status.Usage
@@ -45,9 +51,10 @@ status_of_refusal (missing name) = status.Missing
 status_of_refusal (netlist name n kind) = status.Netlist
 status_of_refusal (sdf name n kind) = status.Sdf
 status_of_refusal (stimulus name n kind) = status.Stimulus
+status_of_refusal (unwritten kind path) = status.Unwritable
 
 abbrev pub usage_line : List ℕ
-usage_line = line (codes "usage: signoff run NETLIST.. (--stim F | --wave F [--scope PATH]) --vcd F [--sdf F] [--top NAME] [--corner min|typ|max] [--rounds N] [--wheel N] | signoff settle NETLIST.. [--sdf F] [--top NAME] [--corner min|typ|max] | signoff gen N")
+usage_line = line (codes "usage: signoff run NETLIST.. (--stim F | --wave F [--scope PATH]) --vcd F [--sdf F] [--top NAME] [--corner min|typ|max] [--rounds N] [--wheel N] | signoff annotate NETLIST.. --out F [--sdf F] [--top NAME] [--corner min|typ|max] | signoff settle NETLIST.. [--sdf F] [--top NAME] [--corner min|typ|max] | signoff gen N")
 
 -- what is refused: the file's name, the line and the kind, with colons between them
 abbrev pub located_line : List ℕ → List ℕ → ℕ → List ℕ → List ℕ
@@ -59,6 +66,7 @@ refusal_line (missing name) = line (codes "missing: " ++ name)
 refusal_line (netlist name n kind) = located_line (codes "netlist refused: ") name n kind
 refusal_line (sdf name n kind) = located_line (codes "sdf refused: ") name n kind
 refusal_line (stimulus name n kind) = located_line (codes "stimulus refused: ") name n kind
+refusal_line (unwritten kind path) = line (codes "not written: " ++ kind ++ codes " at " ++ path)
 
 -- a phase and then another, over what the first gave; a refusal of the first is that of both
 pub data Then {A B : Type 0} (first : Result A Refusal → Type 0) (next : A → Result B Refusal → Type 0) : Result B Refusal → Type 0 where
@@ -205,6 +213,31 @@ DesignOutcome design files = Then (CircuitOutcome design files) (λ circuit. Ann
 -- the file of what drives the inputs is read, and then its text
 abbrev pub InputOutcome : Input → List File → Circuit → Result Stimulus Refusal → Type 0
 InputOutcome input files circuit = Then (FileOutcome (file_of input) (bytes_of (file_of input) files)) (λ text. DrivingOutcome input text circuit)
+
+-- a fault of delays that are to be written, as it is told
+abbrev pub unwritten_by : Circuit → WriteError → Option Refusal
+unwritten_by c (error.Ambiguous s) = Some (unwritten (codes "Ambiguous") (path_of c s))
+unwritten_by c (error.OffGrid s) = Some (unwritten (codes "OffGrid") (path_of c s))
+unwritten_by c (error.TooDeep s) = Some (unwritten (codes "TooDeep") (path_of c s))
+unwritten_by c (error.TooLong s) = Some (unwritten (codes "TooLong") (path_of c s))
+unwritten_by c (error.TooLarge s) = Some (unwritten (codes "TooLarge") (path_of c s))
+unwritten_by c error.NoMemory = None
+
+-- the delays of a circuit are a text, or one of the faults that stand is told
+abbrev pub TextOutcome : Circuit → Result (List ℕ) Refusal → Type 0
+TextOutcome circuit (Ok text) = written.IsFaultless circuit × (text ≡ written_text.text circuit)
+TextOutcome circuit (Err r) = (fault : WriteError) × written.FaultStands circuit fault × (unwritten_by circuit fault ≡ Some r)
+
+-- what is written of a design, and the entries that were for nothing in it
+pub record Written : Type 0 where
+  pub unmatched : List Unmatched
+  pub text : List ℕ
+
+abbrev pub WritingOutcome : Writing → List File → Result Written Refusal → Type 0
+WritingOutcome writing files =
+    Then (DesignOutcome writing.design files) (λ annotated.
+    Then (TextOutcome annotated.circuit) (λ text outcome.
+    outcome ≡ Ok (record { unmatched = annotated.unmatched; text = text })))
 
 -- The generated case of so many stages: its texts are read in, applied and read as files are, and no file is. Their names would tell where a fault is, if one stood.
 abbrev pub case_netlist : List ℕ

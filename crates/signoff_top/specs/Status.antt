@@ -12,6 +12,7 @@ code_of status.Sdf = 4
 code_of status.Stimulus = 5
 code_of status.Fault = 6
 code_of status.Rounds = 7
+code_of status.Unwritable = 8
 code_of status.NoMemory = 9
 code_of status.Missing = 11
 

@@ -4,10 +4,14 @@ use Rattle.sg_stimulus.specs.Seen.{stimulus_seen}
 use Rattle.wave_out.specs.Reporting.{unmatched_seen}
 use Rattle.signoff_top.specs.declared.annotation.Annotated as code_annotated
 use Rattle.signoff_top.specs.declared.phases.Task as code_task
-use Rattle.signoff_top.specs.Phases.{Annotated, Task}
+use Rattle.signoff_top.specs.declared.writing.Written as code_written
+use Rattle.signoff_top.specs.Phases.{Annotated, Task, Written}
 
 abbrev pub annotated_seen : code_annotated.Annotated → Annotated
 annotated_seen a = record { circuit = a.circuit; unmatched = map (unmatched_seen a.sdf.items) a.unmatched.items }
 
 abbrev pub task_seen : code_task.Task → Task
 task_seen t = record { circuit = t.circuit; unmatched = map (unmatched_seen t.sdf.items) t.unmatched.items; rounds = t.rounds; input = stimulus_seen t.input; vcd = t.vcd.now }
+
+abbrev pub written_seen : code_written.Written → Written
+written_seen w = record { unmatched = (annotated_seen w.annotated).unmatched; text = w.text.items }

@@ -56,11 +56,13 @@ pub record IsSettleDone (circuit : Circuit) (d : code_bounds.BoundsDone) : Type 
 -- the status of what was done, and what is told of it
 abbrev pub status_of_done : code_done.Done → Status
 status_of_done (done.Run d) = status_of_run (spent_seen d.end.spent) (violations_of d.end)
+status_of_done (done.Writing d) = status.Clean
 status_of_done (done.Bounds d) = settle_status d.cyclic
 status_of_done (done.Case d) = status_of_run (spent_seen d.end.spent) (quiet_violations d.end)
 
 abbrev pub text_of_done : code_done.Done → List ℕ
 text_of_done (done.Run d) = report_lines d.task.circuit (task_seen d.task).unmatched (violations_of d.end) d.task.input.end (spent_seen d.end.spent)
+text_of_done (done.Writing d) = d.report.items
 text_of_done (done.Bounds d) = d.text.items
 text_of_done (done.Case d) = case_told d
 

@@ -13,6 +13,7 @@ mod stop;
 mod summary;
 mod system;
 mod work;
+mod writing;
 
 pub use answer::top;
 pub use status::Status;

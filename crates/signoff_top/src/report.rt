@@ -10,7 +10,7 @@ ghost use Rattle.wave_out.specs.Reporting.{PutsMade, unmatched_seen};
 ghost use Rattle.wave_out.specs.Spent.{end_spent, end_time, spent_seen};
 ghost use Rattle.wave_out.specs.Texts.{line};
 ghost use Rattle.signoff_top.specs.Answer.{fault_line, no_memory_line, status_of_run as end_status};
-ghost use Rattle.signoff_top.specs.Phases.{located_line, refusal_line, sdf_kind, status_of_refusal, stimulus_kind, wave_kind};
+ghost use Rattle.signoff_top.specs.Phases.{located_line, refusal_line, sdf_kind, status_of_refusal, stimulus_kind, unwritten, wave_kind};
 ghost use Rattle.signoff_top.specs.Putting.{PutsBy, PutsLast};
 ghost use Rattle.signoff_top.specs.Stops.{refusal_seen, sdf_fault_seen};
 ghost use Rattle.signoff_top.specs.Work.{Tells, TellsEnd, TellsStop, case_told, quiet_violations, settle_status};
@@ -20,6 +20,7 @@ use crate::status::Status;
 use crate::stop::{Refusal, SdfFault, Stop};
 use crate::summary::case_text;
 use crate::work::{CaseDone, Done, RunDone};
+use crate::writing::WritingDone;
 use itoa::Buffer;
 use sdf_read::SdfKind;
 use sg_io::{ShelfError, Sink};
@@ -30,7 +31,7 @@ use vcd_model::VcdKind;
 use wave_out::{ReportEnd, Spent, write_report};
 
 const USAGE: &str =
-    "usage: signoff run NETLIST.. (--stim F | --wave F [--scope PATH]) --vcd F [--sdf F] [--top NAME] [--corner min|typ|max] [--rounds N] [--wheel N] | signoff settle NETLIST.. [--sdf F] [--top NAME] [--corner min|typ|max] | signoff gen N";
+    "usage: signoff run NETLIST.. (--stim F | --wave F [--scope PATH]) --vcd F [--sdf F] [--top NAME] [--corner min|typ|max] [--rounds N] [--wheel N] | signoff annotate NETLIST.. --out F [--sdf F] [--top NAME] [--corner min|typ|max] | signoff settle NETLIST.. [--sdf F] [--top NAME] [--corner min|typ|max] | signoff gen N";
 
 // A word and a name, on a line of their own.
 fn named_line(alloc: Global, before: &str, name: &str) -> Result<Vec<u8>, AllocError>
@@ -122,6 +123,18 @@ fn stimulus_text(alloc: Global, name: &str, line: u64, kind: &str) -> Result<Vec
     located_text(alloc, "stimulus refused: ", name, line, kind.as_bytes())
 }
 
+fn unwritten_text(alloc: Global, kind: &str, path: &[u8]) -> Result<Vec<u8>, AllocError>
+    ensures { IfOk result (λ v. v.items ≡ refusal_line (unwritten kind.now path.now)) }
+{
+    let mut text = Vec::new(alloc);
+    text.extend_from_slice(b"not written: ")?;
+    text.extend_from_slice(kind.as_bytes())?;
+    text.extend_from_slice(b" at ")?;
+    text.extend_from_slice(path)?;
+    text.push(b'\n')?;
+    Ok(text)
+}
+
 fn refusal_text(alloc: Global, refusal: &Refusal<'_>) -> Result<Vec<u8>, AllocError>
     ensures { IfOk result (λ v. v.items ≡ refusal_line (refusal_seen refusal.now)) }
 {
@@ -144,6 +157,7 @@ fn refusal_text(alloc: Global, refusal: &Refusal<'_>) -> Result<Vec<u8>, AllocEr
         Refusal::Wave { name, line, kind } => {
             stimulus_text(alloc, name, *line, wave_word(*kind))
         }
+        Refusal::Unwritten { kind, path } => unwritten_text(alloc, kind, path),
     }
 }
 
@@ -156,6 +170,7 @@ fn status_of(refusal: &Refusal<'_>) -> Status
         Refusal::Netlist { .. } => Status::Netlist,
         Refusal::Sdf { .. } => Status::Sdf,
         Refusal::Stimulus { .. } | Refusal::Wave { .. } => Status::Stimulus,
+        Refusal::Unwritten { .. } => Status::Unwritable,
     }
 }
 
@@ -261,6 +276,12 @@ fn tell_run<K: Sink>(alloc: Global, done: &RunDone<'_>, report: &mut K) -> Statu
     tell_put(report, planned, put)
 }
 
+fn tell_writing<K: Sink>(done: &WritingDone, report: &mut K) -> Status
+    ensures { Tells done.now.report.items Status.Clean (K.told report.old) (K.told report.new) result }
+{
+    put_text(report, Status::Clean, &done.report)
+}
+
 fn settle_status(cyclic: bool) -> Status
     ensures { result ≡ settle_status cyclic }
 {
@@ -314,6 +335,7 @@ pub fn tell<K: Sink>(
 {
     match end {
         Ok(Done::Run(done)) => tell_run(alloc, done, report),
+        Ok(Done::Writing(done)) => tell_writing(done, report),
         Ok(Done::Bounds(done)) => tell_bounds(done, report),
         Ok(Done::Case(done)) => tell_case(alloc, done, report),
         Err(stop) => tell_stop(alloc, stop, failed, report),

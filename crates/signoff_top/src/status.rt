@@ -12,6 +12,7 @@ pub enum Status {
     Stimulus,
     Fault,
     Rounds,
+    Unwritable,
     NoMemory,
     Missing,
 }
@@ -30,6 +31,7 @@ impl Status {
             Status::Stimulus => 5,
             Status::Fault => 6,
             Status::Rounds => 7,
+            Status::Unwritable => 8,
             Status::NoMemory => 9,
             Status::Missing => 11,
         }

@@ -38,6 +38,11 @@ pub enum Refusal<'a> {
         line: u64,
         kind: VcdKind,
     },
+    /// Why delays can't be written, and the path of an instance in which that is so.
+    Unwritten {
+        kind: &'static str,
+        path: Vec<u8>,
+    },
 }
 
 /// A refusal, a call on the shelf that failed, or want of memory.

@@ -9,8 +9,8 @@ use itoa::Buffer;
 use std::alloc::{AllocError, Global};
 use wave_out::{Spent, spent_text};
 
-// A word and a number, on a line of their own.
-fn push_count(text: &mut Vec<u8>, word: &str, count: u64) -> Result<(), AllocError>
+/// Adds a word and a number, on a line of their own.
+pub fn push_count(text: &mut Vec<u8>, word: &str, count: u64) -> Result<(), AllocError>
     ensures { OnOk result (text.new.items ≡ text.old.items ++ line (word.now ++ decimal count)) }
 {
     let mut buffer = Buffer::new();

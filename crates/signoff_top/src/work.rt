@@ -2,8 +2,8 @@
 ghost use Rattle.std.specs.Prelude.{◌≡◌, ◌≤◌, ◌<◌, ℕ, List, Some, IfErr, length, map, string_bytes};
 ghost use Rattle.sg_io.specs.Faults.{Cause};
 ghost use Rattle.sg_io.specs.Files.{BothTell, File};
-ghost use Rattle.run_words.specs.Words.{a_case, a_run, asked_of, the_bounds};
-ghost use Rattle.run_words.specs.WordsSeen.{command_seen, design_seen};
+ghost use Rattle.run_words.specs.Words.{a_case, a_run, a_writing, asked_of, the_bounds};
+ghost use Rattle.run_words.specs.WordsSeen.{command_seen, design_seen, writing_seen};
 ghost use Rattle.signoff_top.specs.Promises.{NamesFaultAt};
 ghost use Rattle.signoff_top.specs.Stops.{IfFailed, NeverFails, SparesWords, StopWords, end_of_phase};
 ghost use Rattle.signoff_top.specs.Work.{WorkLeaves};
@@ -12,8 +12,9 @@ use crate::bounds::{BoundsDone, bounds_of};
 use crate::generated::case_task;
 use crate::phases::{Task, annotated_of, task_of, words_phase};
 use crate::stop::Stop;
+use crate::writing::{WritingDone, make_file, written_of, written_report};
 use run_dump::{QuietEnd, RunEnd, run_and_dump, run_quietly};
-use run_words::{Asked, Command, Design};
+use run_words::{Asked, Command, Design, Writing};
 use sg_io::{Shelf, ShelfError};
 use std::alloc::Global;
 
@@ -36,6 +37,7 @@ pub struct CaseDone<'a> {
 #[derive(Drop)]
 pub enum Done<'a> {
     Run(RunDone<'a>),
+    Writing(WritingDone),
     Bounds(BoundsDone),
     Case(CaseDone<'a>),
 }
@@ -71,6 +73,29 @@ fn run_command<'a, S: Shelf>(
     }
 }
 
+// Reads a design, and writes its delays to a file.
+fn write_delays<'a, S: Shelf>(
+    alloc: Global,
+    writing: &Writing<'a>,
+    shelf: &mut S,
+) -> Result<Done<'a>, Stop<'a>>
+    requires some { 0 < length writing.now.design.netlists.items }
+    ensures left { (ws : List (List ℕ)) → asked_of ws ≡ Some (a_writing (writing_seen writing.now))
+        → BothTell (S.files shelf.old) (S.files shelf.new) (WorkLeaves ws result) }
+    ensures cause { Cause (S.fault_count shelf.old) (S.fault_count shelf.new) (end_of_phase result) }
+    ensures named { (ws : List (List ℕ)) → asked_of ws ≡ Some (a_writing (writing_seen writing.now))
+        → IfFailed (NamesFaultAt ws (S.files shelf.old) (S.files shelf.new) (S.last_fault shelf.new)) result }
+    ensures words { IfErr result (λ s. SparesWords s) }
+{
+    let written = written_of(alloc, writing, shelf)?;
+    let report = written_report(alloc, &written.annotated)?;
+    match make_file(shelf, writing.out, &written.text) {
+        Ok(()) => Ok(Done::Writing(WritingDone { report })),
+        Err(ShelfError::Failed) => Err(Stop::Failed),
+        Err(ShelfError::NoMemory) => Err(Stop::NoMemory),
+    }
+}
+
 // Reads a design, and finds its settle bounds.
 fn find_bounds<'a, S: Shelf>(
     alloc: Global,
@@ -101,8 +126,8 @@ fn run_case<'a>(alloc: Global, stages: u32) -> Result<Done<'a>, Stop<'a>>
     Ok(Done::Case(CaseDone { stages, task, end }))
 }
 
-/// Does what the words ask for: reads what a command names, runs it, and writes the value change dump; or reads a design, and finds
-/// its settle bounds; or makes the generated case and runs it, for which the shelf isn't called.
+/// Does what the words ask for: reads what a command names, runs it, and writes the value change dump; or reads a design, and writes
+/// its delays, or finds its settle bounds; or makes the generated case and runs it, for which the shelf isn't called.
 pub fn work<'a, S: Shelf>(
     alloc: Global,
     words: &'a [String],
@@ -115,6 +140,7 @@ pub fn work<'a, S: Shelf>(
 {
     match words_phase(alloc, words)? {
         Asked::Run(command) => run_command(alloc, &command, shelf),
+        Asked::Writing(writing) => write_delays(alloc, &writing, shelf),
         Asked::Bounds(design) => find_bounds(alloc, &design, shelf),
         Asked::Case(stages) => run_case(alloc, stages),
     }

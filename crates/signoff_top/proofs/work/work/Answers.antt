@@ -1,7 +1,7 @@
 use Rattle.std.proofs.Common.{map, refl}
 use Rattle.std.specs.Prelude.{string_bytes}
 use Rattle.std.proofs.lemmas.Result.{err_from_is_err_and}
-use Rattle.run_words.specs.declared.words.Asked.TheVariants.{Run, Bounds, Case}
+use Rattle.run_words.specs.declared.words.Asked.TheVariants.{Run, Writing, Bounds, Case}
 use Rattle.signoff_top.specs.Work.{WorkLeaves}
 use Rattle.signoff_top.specs.declared.work.Done.{Done}
 use Rattle.signoff_top.proofs.Putting.{both_same}
@@ -23,6 +23,17 @@ returns-in-Run-clause-named g c =
 
 pub returns-in-Run-clause-words : goal.returns-in-Run-clause-words
 returns-in-Run-clause-words g c = words_spared Done (map (λ w. string_bytes w) c.args.words.now) c.in_ok-command.field-0 c.run_command.result c.in_ok-command.ensures.words c.run_command.ensures.words
+
+pub returns-in-Writing-clause-left : goal.returns-in-Writing-clause-left
+returns-in-Writing-clause-left g c =
+    let ws = map (λ w. string_bytes w) c.args.words.now in c.write_delays.ensures.left ws (asked_is ws c.in_ok-command.field-0 (Writing c.in-Writing.writing) c.in_ok-command.ensures.words c.in-Writing.is)
+
+pub returns-in-Writing-clause-named : goal.returns-in-Writing-clause-named
+returns-in-Writing-clause-named g c =
+    let ws = map (λ w. string_bytes w) c.args.words.now in c.write_delays.ensures.named ws (asked_is ws c.in_ok-command.field-0 (Writing c.in-Writing.writing) c.in_ok-command.ensures.words c.in-Writing.is)
+
+pub returns-in-Writing-clause-words : goal.returns-in-Writing-clause-words
+returns-in-Writing-clause-words g c = words_spared Done (map (λ w. string_bytes w) c.args.words.now) c.in_ok-command.field-0 c.write_delays.result c.in_ok-command.ensures.words c.write_delays.ensures.words
 
 pub returns-in-Bounds-clause-left : goal.returns-in-Bounds-clause-left
 returns-in-Bounds-clause-left g c =
