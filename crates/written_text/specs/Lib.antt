@@ -1,0 +1,4 @@
+-- The modules of this folder, in reading order.
+pub mod Places
+pub mod Page
+pub mod Instances
