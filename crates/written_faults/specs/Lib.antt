@@ -1,1 +1,3 @@
--- The modules of this folder, in reading order.
+-- The modules of this folder.
+pub mod Classes
+pub mod Sizes

@@ -1,4 +1,10 @@
 // The faults of a scope.
+ghost use Rattle.std.specs.Prelude.{IfErr, OnOk};
+ghost use Rattle.sg_circuit.specs.Closed.{IsClosed};
+ghost use Rattle.sg_circuit.specs.Seen.{AreIndexed, circuit_seen};
+ghost use Rattle.written_entries.specs.Groups.{AreGroups};
+ghost use Rattle.written_model.specs.Faults.{AreFaultless, FaultStands};
+
 use crate::ambiguities::{are_checks_ambiguous, are_paths_ambiguous};
 use crate::classes::classes_of;
 use crate::depths::{deep_conditions, has_deep};
@@ -110,11 +116,16 @@ fn refuse_scope(
 }
 
 /// Refuses a circuit that has a fault in a scope.
-pub fn refuse(alloc: Global, parts: &Parts, groups: &Groups) -> Result<(), WriteError> {
+pub fn refuse(alloc: Global, parts: &Parts, groups: &Groups) -> Result<(), WriteError>
+    requires closed { IsClosed (circuit_seen parts.now) }
+    requires indexed { AreIndexed parts.now }
+    requires groups { AreGroups parts.now groups.now }
+    ensures faultless { OnOk result (AreFaultless (circuit_seen parts.now)) }
+    ensures fault { IfErr result (FaultStands (circuit_seen parts.now)) }
+{
     let known = known_of(alloc, parts)?;
     for scope in 0..parts.scopes.len() as u32 {
-        let (elements, checks) = (groups.elements.of(scope), groups.checks.of(scope));
-        refuse_scope(alloc, parts, &known, elements, checks, scope)?;
+        refuse_scope(alloc, parts, groups, &known, scope)?;
     }
     Ok(())
 }

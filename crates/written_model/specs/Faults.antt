@@ -129,10 +129,14 @@ FaultStands c (error.TooLong s) = is_too_long c s ≡ true
 FaultStands c (error.TooLarge s) = (s ≡ 0) × (is_too_large c ≡ true)
 FaultStands c error.NoMemory = Unit {0}
 
--- none stands in any scope
-pub record IsFaultless (c : Circuit) : Type 0 where
+-- no scope has one of its own
+pub record AreFaultless (c : Circuit) : Type 0 where
   pub unambiguous : (s : ℕ) → IsAmbiguous c s → ⊥
   pub on_grid : (s : ℕ) → is_off_grid c s ≡ false
   pub shallow : (s : ℕ) → is_too_deep c s ≡ false
   pub short : (s : ℕ) → is_too_long c s ≡ false
+
+-- none stands
+pub record IsFaultless (c : Circuit) : Type 0 where
+  pub scopes : AreFaultless c
   pub small : is_too_large c ≡ false
