@@ -4,7 +4,8 @@ ghost use Rattle.std.specs.List.{range_with_len};
 ghost use Rattle.sg_circuit.specs.Closed.{IsClosed};
 ghost use Rattle.sg_circuit.specs.Seen.{AreIndexed, circuit_seen};
 ghost use Rattle.written_model.specs.Faults.{is_too_large};
-ghost use Rattle.written_entries.specs.Groups.{AreGroups, IsTooLongFor};
+ghost use Rattle.written_entries.specs.Groups.{AreGroups};
+ghost use Rattle.written_text.specs.Large.{IsTooLongFor};
 ghost use Rattle.written_model.specs.Text.{cell_text, head_line, text};
 
 use crate::cells::push_cell;
