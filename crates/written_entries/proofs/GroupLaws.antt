@@ -1,5 +1,5 @@
 -- What each scope has, by the numbers that are kept of it.
-use Rattle.std.proofs.Common.{◌≡◌, ℕ, zero, suc, ◌+◌, ◌<◌, ◌≤◌, Bool, true, false, List, [], ◌∷◌, ◌++◌, length, get_or, refl, sym, ◌∙◌, ap, subst, arith, append-nil}
+use Rattle.std.proofs.Common.{◌≡◌, ℕ, suc, ◌+◌, ◌<◌, ◌≤◌, Bool, true, false, List, [], ◌∷◌, ◌++◌, length, get_or, refl, sym, ◌∙◌, ap, subst, arith, append-nil}
 use Rattle.std.specs.Prelude.{◌==◌, ◌&&◌, All, cond, flat_map, if◌then◌else◌}
 use Rattle.std.proofs.lemmas.Bool.{eqb-true}
 use Rattle.std.proofs.lemmas.Grind.{flat_map-append}
@@ -48,6 +48,7 @@ module _ {A : Type 0} (key : A → ℕ) (test : A → Bool) (s : ℕ) where
     where
       here : key x ≡ s → P n
       here same = subst P (omega arith) (at 0 x (omega arith) refl same)
+
       by : (b t : Bool) → (key x == s) ≡ b → All P (if b && t then n ∷ [] else [])
       by true true e = All-cons P n [] (here (eqb-true (key x) s e)) (All-nil P)
       by true false e = All-nil P

@@ -95,7 +95,7 @@ paths_added p rank e ps span style element is at = ap (flat_map (ranked_line p r
 pub paths_of_element : (p : Page) (e : code_element.Element) (ps : List code_path.Path) (span : _) (style : _) → IsElementOf p e → e.kind ≡ kind.Path span style → ps ≡ spanned p.parts.now.paths.items span → All (IsPathOf p) ps
 paths_of_element p e ps span style element is at =
     let nets = all-unmapped (λ q. IsNetPath (length p.parts.now.nets.items) q) (path_seen p.parts.now.conditions.items p.parts.now.leg_timings.items) (spanned p.parts.now.paths.items span)
-        (subst (λ k. NamesNets (length p.parts.now.nets.items) (kind_seen p.parts.now k)) is element.nets) in
+    (subst (λ k. NamesNets (length p.parts.now.nets.items) (kind_seen p.parts.now k)) is element.nets) in
     let indexed = subst (λ k. IsIndexed p.parts.now k) is element.indexed in
     subst (λ xs. All (IsPathOf p) xs) (sym at) (λ k d l. record { input = (nets k d l).input; indexed = indexed.each k d l })
 
@@ -161,9 +161,9 @@ check_lines_is p page rank i t w l at_t at_w same =
     let few : i < length p.parts.now.check_conditions.items = (let n = page.closed.conditions_of_each in let m = length-map p.parts.now.check_conditions.items (written_seen p.parts.now.conditions.items) in omega (arith, n, m, l)) in
     let k : Check = get_or p.parts.now.checks.items i (checked_at c i).check in
     let seen : checked_at c i ≡ record { check = k; timing = t; written = W } =
-        checked-at c.checks c.check_timings c.check_conditions i (checked_at c i).check t W _ l page.closed.timing_of_each page.closed.conditions_of_each
-        ∙ (ap {B = Checked} (λ x. record { check = k; timing = x; written = get_or c.check_conditions i W }) (sym at_t)
-        ∙ ap {B = Checked} (λ x. record { check = k; timing = t; written = x }) (get_or-map (written_seen p.parts.now.conditions.items) p.parts.now.check_conditions.items i w W few ∙ ap (written_seen p.parts.now.conditions.items) (sym at_w))) in
+    checked-at c.checks c.check_timings c.check_conditions i (checked_at c i).check t W _ l page.closed.timing_of_each page.closed.conditions_of_each
+    ∙ (ap {B = Checked} (λ x. record { check = k; timing = x; written = get_or c.check_conditions i W }) (sym at_t)
+    ∙ ap {B = Checked} (λ x. record { check = k; timing = t; written = x }) (get_or-map (written_seen p.parts.now.conditions.items) p.parts.now.check_conditions.items i w W few ∙ ap (written_seen p.parts.now.conditions.items) (sym at_w))) in
     let K : Checked = record { check = k; timing = t; written = W } in
     sym (ap (λ x. flat_map (check_line p) (filter (has_check_rank rank) (checks_at p.scope x))) seen
     ∙ (ap (λ b. flat_map (check_line p) (filter (has_check_rank rank) (cond b (map (check_entry K) (parts_of t.kind t.limits)) []))) (eq-eqb k.scope p.scope (same _))

@@ -98,9 +98,9 @@ five_added (Ok x) text a t b i d e first second third fourth new p q u v w =
     ∙ (append_assoc (text ++ a) t (b ++ (i ++ (d ++ e)))
     ∙ (append_assoc text a (t ++ (b ++ (i ++ (d ++ e))))
     ∙ ap (λ z. text ++ z)
-      (ap (λ z. a ++ (t ++ (b ++ z))) (sym (append_assoc i d e))
-      ∙ (ap (λ z. a ++ (t ++ z)) (sym (append_assoc b (i ++ d) e))
-      ∙ (ap (λ z. a ++ z) (sym (append_assoc t (b ++ (i ++ d)) e)) ∙ sym (append_assoc a (t ++ (b ++ (i ++ d))) e)))))))))
+    (ap (λ z. a ++ (t ++ (b ++ z))) (sym (append_assoc i d e))
+    ∙ (ap (λ z. a ++ (t ++ z)) (sym (append_assoc b (i ++ d) e))
+    ∙ (ap (λ z. a ++ z) (sym (append_assoc t (b ++ (i ++ d)) e)) ∙ sym (append_assoc a (t ++ (b ++ (i ++ d))) e)))))))))
 
 pub last_is : {A : Type 0} (P : A → Type 0) (xs : List A) (x : A) → All P (xs ++ x ∷ []) → P x
 last_is P [] x h = All-head P x [] h

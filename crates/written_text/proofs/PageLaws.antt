@@ -41,8 +41,8 @@ module _ (p : Page) (page : IsPage p) (net k j : ℕ) (few : net < length p.part
   port_in V stands =
       let same : found.i ≡ k = omega (arith, found.at) in
       let is : found.variable ≡ variable_seen V =
-          found.stands ∙ (ap (λ i. get_or (variables_of p) i found.variable) same ∙ (ap (λ vs. get_or vs k found.variable) vars
-          ∙ (get_or-map (λ v. variable_seen v) S.variables.items k V found.variable port_within ∙ ap (λ v. variable_seen v) (sym stands)))) in
+      found.stands ∙ (ap (λ i. get_or (variables_of p) i found.variable) same ∙ (ap (λ vs. get_or vs k found.variable) vars
+      ∙ (get_or-map (λ v. variable_seen v) S.variables.items k V found.variable port_within ∙ ap (λ v. variable_seen v) (sym stands)))) in
       let scopes : p.scope < length (map (λ s. scope_seen s) p.parts.now.scopes.items) = (let n = length-map p.parts.now.scopes.items (λ s. scope_seen s) in omega (arith, n, page.scope)) in record {
         width = subst (λ (v : Variable). length v.bits ≡ width_of v.range) (sym found.stands ∙ is) (page.closed.widths p.scope _ scopes found.i found.variable found.within);
         bit = subst (λ v. j < length v.bits) is found.bit;

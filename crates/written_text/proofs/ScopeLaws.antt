@@ -1,10 +1,10 @@
 -- The lines of a scope, from the elements and the timing checks that it has.
 use Rattle.std.proofs.Common.{◌≡◌, ℕ, ◌+◌, ◌<◌, ◌≤◌, Bool, true, false, List, [], ◌∷◌, ◌++◌, length, get_or, refl, sym, ◌∙◌, ap, subst, arith, append-nil}
-use Rattle.std.specs.Prelude.{◌==◌, ◌&&◌, map, cond, flat_map, Option, Some, None, codes, if◌then◌else◌}
+use Rattle.std.specs.Prelude.{◌==◌, ◌&&◌, All, map, cond, flat_map, Option, Some, None, Result, OnOk, codes, if◌then◌else◌}
 use Rattle.std.specs.List.{filter}
-use Rattle.std.proofs.lemmas.Bool.{ne_eqb}
+use Rattle.std.proofs.lemmas.Bool.{eqb-true, ne_eqb}
 use Rattle.std.proofs.lemmas.Grind.{flat_map-append}
-use Rattle.std.proofs.lemmas.List.{get_or_default}
+use Rattle.std.proofs.lemmas.List.{get_or_default, length-map}
 use Rattle.std.proofs.lemmas.List.Elements.{filter-append}
 use Rattle.std.proofs.lemmas.List.Folds.{flat_map-map}
 use Rattle.late_limits.specs.Grouping.{element_scope, pins_by}
@@ -14,14 +14,17 @@ use Rattle.sg_circuit.specs.declared.circuits.Parts.{Parts}
 use Rattle.sg_circuit.specs.declared.elements.Element as code_element
 use Rattle.sg_circuit.specs.declared.elements.ElementKind.{ElementKind}
 use Rattle.sg_circuit.specs.declared.elements.ElementKind.TheVariants as kind
+use Rattle.sg_circuit.specs.declared.scopes.Scope as code_scope
+use Rattle.sg_circuit.specs.declared.scopes.Variable as code_variable
 use Rattle.sg_circuit.specs.Checks.{CheckConditions}
-use Rattle.sg_circuit.specs.Circuit.{Element}
+use Rattle.sg_circuit.specs.Circuit.{Element, Scope, Variable, scope_at}
 use Rattle.sg_circuit.specs.Closed.{IsClosed}
 use Rattle.sg_circuit.specs.FanOut.{readers_at}
 use Rattle.sg_circuit.specs.Paths as specify
 use Rattle.sg_circuit.specs.PathsSeen.{paths_seen, spanned}
 use Rattle.sg_circuit.specs.Pins.{elements_on}
-use Rattle.sg_circuit.specs.Seen.{circuit_seen, element_seen}
+use Rattle.sg_circuit.specs.Seen.{circuit_seen, element_seen, scope_seen, variable_seen}
+use Rattle.sg_circuit.proofs.SeenLaws.{all-unmapped}
 use Rattle.sg_circuit.specs.TimingsSeen.{timings_at}
 use Rattle.annotation_model.specs.Finding.{no_check}
 use Rattle.annotation_model.specs.Spots.{path_spot, Checked, checked, all_checked, spots, spots_of}
@@ -31,10 +34,11 @@ use Rattle.written_entries.specs.Groups.{AreGroups, any_check, check_scope, is_d
 use Rattle.written_entries.proofs.GroupLaws.{gathered_all}
 use Rattle.written_entries.proofs.NumberLaws.{element_numbers, check_numbers}
 use Rattle.written_model.specs.Entries.{PathEntry, PathKey, CheckEntry, legs, legs_at, numbers_of, path_key, paths_at, path_entries, path_rank, one_if, condition_rank, checks_at, check_entry, check_entries, parts_of}
-use Rattle.written_model.specs.Text.{delay_lines, check_lines, parts_text, enclosed, line}
+use Rattle.written_model.specs.Text.{delay_lines, check_lines, parts_text, cell_line, cell_text, enclosed, line}
 use Rattle.written_text.specs.declared.pages.Page.{Page}
 use Rattle.written_text.specs.Page.{circuit_of, leg_line, path_line, check_line, lines_of_legs, leg_lines, leg_lines_at, has_path_rank, lines_of_paths, path_lines, path_lines_at, has_check_rank, check_lines_at, checked_at, delay_lines_of, check_lines_of, parts_text_of}
 use Rattle.written_text.proofs.CellLaws.{leg_lines_is, path_lines_is}
+use Rattle.written_text.proofs.PageLaws.{scope_is}
 
 -- ---- flat_map of flat_map, of filter, and of what is the same at each item
 
@@ -161,7 +165,7 @@ module _ (p : Page) (closed : IsClosed (circuit_of p)) (g : Groups) (groups : Ar
       let F : Checked → List ℕ = λ w. flat_map (check_line p) (filter (has_check_rank rank) (checks_at p.scope w)) in
       ap (flat_map (check_lines_at p rank)) (check_numbers p.parts.now g groups p.scope within ∙ ap (elements_on p.scope) (pins-checked 0 c.checks c.check_timings c.check_conditions closed.timing_of_each closed.conditions_of_each))
       ∙ (gathered_all (λ (w : Checked). w.check.scope) (λ (w : Checked). true) p.scope (check_lines_at p rank) F ks (λ i x l at. ap F (get_or_default ks i no_check x l ∙ sym at))
-          (λ x h. ap (λ b. flat_map (check_line p) (filter (has_check_rank rank) (cond b (map (check_entry x) (parts_of x.timing.kind x.timing.limits)) []))) (and-true (x.check.scope == p.scope) h))
+      (λ x h. ap (λ b. flat_map (check_line p) (filter (has_check_rank rank) (cond b (map (check_entry x) (parts_of x.timing.kind x.timing.limits)) []))) (and-true (x.check.scope == p.scope) h))
       ∙ sym (ap (flat_map (check_line p)) (filter-flat (has_check_rank rank) (checks_at p.scope) ks) ∙ flat-flat (check_line p) (λ w. filter (has_check_rank rank) (checks_at p.scope w)) ks))
 
   all-check-lines-are : check_lines_of p (readers_at g.checks p.scope) ≡ check_lines (circuit_of p) p.scope
@@ -177,3 +181,36 @@ module _ (p : Page) (closed : IsClosed (circuit_of p)) (g : Groups) (groups : Ar
     where
       both : (a b c d x x' y y' : List ℕ) → x ≡ x' → y ≡ y' → enclosed a b x ++ enclosed c d y ≡ enclosed a b x' ++ enclosed c d y'
       both a b c d x x' y y' e f = ap (λ z. enclosed a b z ++ enclosed c d y) e ∙ ap (λ z. enclosed a b x' ++ enclosed c d z) f
+
+-- ---- the cell of a scope
+
+module _ (parts : Parts) (closed : IsClosed (circuit_seen parts)) (g : Groups) (groups : AreGroups parts g) (s : ℕ) (within : s < length parts.scopes.items) where
+  abbrev pub page : Page
+  page = record { parts = record { ref_ptr = (0, 0); now = parts }; scope = s; places = record { ref_ptr = (0, 0); now = [] } }
+
+  text-is : (elements checks : List ℕ) → elements ≡ readers_at g.elements s → checks ≡ readers_at g.checks s → parts_text_of page elements checks ≡ parts_text (circuit_seen parts) s
+  text-is elements checks e f =
+      ap (λ xs. parts_text_of page xs checks) e ∙ (ap (λ xs. parts_text_of page (readers_at g.elements s) xs) f ∙ parts_text_is page closed g groups within)
+
+  pub cell_added : {E : Type 0} (r : Result Unit E) (text elements checks new : List ℕ) → elements ≡ readers_at g.elements s → checks ≡ readers_at g.checks s
+      → OnOk r (new ≡ text ++ enclosed (cell_line (circuit_seen parts) s) (line (codes ")")) (parts_text_of page elements checks)) → OnOk r (new ≡ text ++ cell_text (circuit_seen parts) s)
+  cell_added r text elements checks new e f h = subst (λ t. OnOk r (new ≡ text ++ enclosed (cell_line (circuit_seen parts) s) (line (codes ")")) t)) (text-is elements checks e f) h
+
+  -- a scope without elements and timing checks has none
+  pub no_cell : (elements checks text : List ℕ) → elements ≡ readers_at g.elements s → checks ≡ readers_at g.checks s → (length elements == 0) ≡ true → (length checks == 0) ≡ true → text ≡ text ++ cell_text (circuit_seen parts) s
+  no_cell elements checks text e f none none' =
+      sym (ap (λ t. text ++ enclosed (cell_line (circuit_seen parts) s) (line (codes ")")) t) (sym (text-is [] [] (sym (length-zero elements none) ∙ e) (sym (length-zero checks none') ∙ f))) ∙ append-nil text)
+    where
+      length-zero : (xs : List ℕ) → (length xs == 0) ≡ true → xs ≡ []
+      length-zero [] h = refl
+      length-zero (x ∷ xs) h = absurd (let e : length (x ∷ xs) ≡ 0 = eqb-true (length (x ∷ xs)) 0 h in omega (arith, e))
+
+-- the nets of a scope's variables are nets of the circuit
+pub bits_within : (parts : Parts) → IsClosed (circuit_seen parts) → (s : ℕ) (S : code_scope.Scope) (vs : List code_variable.Variable) (nets : ℕ) → s < length parts.scopes.items → S ≡ get_or parts.scopes.items s S → vs ≡ S.variables.items → nets ≡ length parts.nets.items
+    → All (λ v. All (λ n. n < nets) v.bits.items) vs
+bits_within parts closed s S vs nets within at same many =
+    let long : s < length (circuit_seen parts).scopes = (let n = length-map parts.scopes.items (λ x. scope_seen x) in omega (arith, n, within)) in
+    let seen : scope_at (circuit_seen parts) s ≡ scope_seen S = scope_is parts s S within at in
+    let all : All (λ (v : Variable). All (λ n. n < length parts.nets.items) v.bits) (map (λ v. variable_seen v) S.variables.items) =
+    subst (λ (x : Scope). All (λ v. All (λ n. n < length parts.nets.items) v.bits) x.variables) seen (closed.bits s _ long) in
+    subst (λ xs. All (λ v. All (λ n. n < nets) v.bits.items) xs) (sym same) (subst (λ m. All (λ v. All (λ n. n < m) v.bits.items) S.variables.items) (sym many) (all-unmapped (λ (v : Variable). All (λ n. n < length parts.nets.items) v.bits) (λ v. variable_seen v) S.variables.items all))

@@ -13,10 +13,10 @@ use crate::pages::Page;
 use crate::places::{BitPlace, no_places, place_variables};
 use crate::words::push_tick;
 use sg_circuit::Parts;
-use written_entries::Groups;
-use written_model::WriteError;
 use sg_time::Unit;
 use std::alloc::{AllocError, Global};
+use written_entries::Groups;
+use written_model::WriteError;
 
 /// A reader takes no more bytes.
 const LARGEST: usize = 1 << 28;
