@@ -1,9 +1,8 @@
 -- The lines of elements and of timing checks.
-use Rattle.std.proofs.Common.{◌≡◌, ℕ, zero, suc, ◌+◌, ◌<◌, ◌≤◌, Bool, true, false, List, [], ◌∷◌, ◌++◌, length, get_or, refl, sym, ◌∙◌, ap, subst, arith, append-nil}
+use Rattle.std.proofs.Common.{◌≡◌, ℕ, zero, suc, ◌<◌, Bool, true, false, List, [], ◌∷◌, ◌++◌, length, get_or, refl, sym, ◌∙◌, ap, subst, arith, append-nil}
 use Rattle.std.specs.Prelude.{◌==◌, All, map, cond, flat_map, Option, Some, None, IfSome, if◌then◌else◌}
 use Rattle.std.specs.List.{filter}
 use Rattle.std.proofs.lemmas.Bool.{eq-eqb, ne_eqb}
-use Rattle.std.proofs.lemmas.Grind.{flat_map-append}
 use Rattle.std.proofs.lemmas.List.{get_or-map, length-map}
 use Rattle.sg_circuit.specs.declared.checks.Check.{Check}
 use Rattle.sg_circuit.specs.declared.checks.CheckConditions as code_conditions
@@ -17,18 +16,17 @@ use Rattle.sg_circuit.specs.declared.elements.LegTiming.{LegTiming}
 use Rattle.sg_circuit.specs.declared.paths.Path as code_path
 use Rattle.sg_circuit.specs.Checks.{CheckConditions}
 use Rattle.sg_circuit.specs.ChecksSeen.{AreWritten, written_seen}
-use Rattle.sg_circuit.specs.Circuit.{Circuit, Element, element_at}
-use Rattle.sg_circuit.specs.Closed.{IsClosed, IsCheckTiming, IsEventOf, NamesNets, IsPathOf as IsNetPath}
+use Rattle.sg_circuit.specs.Circuit.{element_at}
+use Rattle.sg_circuit.specs.Closed.{IsCheckTiming, IsEventOf, NamesNets, IsPathOf as IsNetPath}
 use Rattle.sg_circuit.specs.Paths as specify
 use Rattle.sg_circuit.specs.PathsSeen.{path_seen, paths_seen, spanned}
-use Rattle.sg_circuit.specs.Seen.{circuit_seen, element_seen, kind_seen, AreIndexed, IsIndexed}
+use Rattle.sg_circuit.specs.Seen.{circuit_seen, element_seen, kind_seen, IsIndexed}
 use Rattle.sg_circuit.proofs.SeenLaws.{all-unmapped}
 use Rattle.sg_circuit.specs.TimingsSeen.{leg_timing_seen, timings_at}
-use Rattle.annotation_model.specs.Spots.{Spot, path_spot, Checked, checked, all_checked, spots_of}
+use Rattle.annotation_model.specs.Spots.{path_spot, Checked, checked, spots_of}
 use Rattle.written_text.specs.declared.pages.Page.{Page}
 use Rattle.written_model.specs.declared.parts.Part.TheVariants as part
-use Rattle.written_model.specs.Entries.{LegEntry, PathEntry, CheckEntry, numbers_of, legs_at, paths_at, checks_at, check_entry, path_rank, check_rank, parts_of}
-use Rattle.written_entries.specs.Groups.{AreElementsOf, AreChecksOf}
+use Rattle.written_model.specs.Entries.{PathEntry, numbers_of, legs_at, paths_at, checks_at, check_entry, path_rank, check_rank, parts_of}
 use Rattle.written_text.specs.Page.{IsPage, IsElementOf, IsPathOf, IsCheckOf, circuit_of, leg_line, path_line, check_line, lines_of_legs, leg_lines, leg_lines_at, has_path_rank, lines_of_paths, path_lines, path_lines_at, ranked_line, path_entry_of, has_check_rank, check_lines, check_lines_at, checked_at, key_of_part, entries_of_check}
 
 -- ---- legs

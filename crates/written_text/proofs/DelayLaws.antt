@@ -1,6 +1,6 @@
 -- What is added for the transitions of a timing, and for a path with its condition.
 use Rattle.std.proofs.Common.{◌≡◌, ℕ, ◌+◌, ◌<◌, ◌≤◌, List, [], ◌∷◌, ◌++◌, length, take, get_or, refl, sym, ◌∙◌, ap, arith, append_assoc, append-nil}
-use Rattle.std.specs.Prelude.{map, flat_map, codes, zero, suc, Result, Ok, Err, OnOk}
+use Rattle.std.specs.Prelude.{map, flat_map, zero, suc, Result, Ok, Err, OnOk}
 use Rattle.std.proofs.lemmas.List.{take_more, take_all, map-append}
 use Rattle.std.proofs.lemmas.Grind.{flat_map-append}
 use Rattle.sg_delay.specs.declared.limits.Limit.{Limit}
@@ -9,7 +9,7 @@ use Rattle.sg_circuit.specs.TimingsSeen.{limit_seen, timings_of}
 use Rattle.sdf_tree.specs.Written.{PathCondition, always, otherwise, if_words}
 use Rattle.written_model.specs.Entries.{Numbers, numbers_of}
 use Rattle.written_text.specs.Page.{before_path, behind_path}
-use Rattle.written_model.specs.Text.{delay_text, line, words_text, under_condition}
+use Rattle.written_model.specs.Text.{delay_text, line, under_condition}
 
 timings-length : (ds : List ℕ) (ls : List Limit) → length ds ≡ length ls → length (timings_of ds ls) ≡ length ds
 timings-length [] ls e = refl

@@ -1,5 +1,5 @@
 -- Places of nets that are added to a table.
-use Rattle.std.proofs.Common.{◌≡◌, ◌≢◌, ℕ, ◌+◌, ◌<◌, ◌≤◌, Bool, true, false, List, [], ◌∷◌, length, drop, get_or, set, refl, sym, ◌∙◌, ap, arith}
+use Rattle.std.proofs.Common.{◌≡◌, ◌≢◌, ℕ, ◌+◌, ◌<◌, ◌≤◌, Bool, true, false, List, ◌∷◌, length, drop, get_or, set, refl, sym, ◌∙◌, ap, arith}
 use Rattle.std.specs.Prelude.{◌==◌, All, map, Option, Some, None, cond}
 use Rattle.std.specs.Option.{option_or}
 use Rattle.std.proofs.lemmas.Bool.{eqb-true, eqb-false, eq-eqb, ne_eqb}
@@ -8,7 +8,7 @@ use Rattle.sg_circuit.specs.declared.scopes.Variable as code_variable
 use Rattle.sg_circuit.specs.Seen.{variable_seen}
 use Rattle.sg_circuit.specs.Circuit.{Variable}
 use Rattle.written_text.specs.declared.places.BitPlace.{BitPlace}
-use Rattle.written_text.specs.Places.{Place, marked, place_at, place_if, place_if_at, bits_place, variables_place, HasMore, HasPlaces}
+use Rattle.written_text.specs.Places.{Place, marked, place_at, place_if, place_if_at, bits_place, variables_place, HasMore}
 
 abbrev pub blank : BitPlace
 blank = record { mark = 0; variable = 0; bit = 0 }

@@ -1,6 +1,6 @@
 -- The lines of a scope, from the elements and the timing checks that it has.
 use Rattle.std.proofs.Common.{◌≡◌, ℕ, ◌+◌, ◌<◌, ◌≤◌, Bool, true, false, List, [], ◌∷◌, ◌++◌, length, get_or, refl, sym, ◌∙◌, ap, subst, arith, append-nil}
-use Rattle.std.specs.Prelude.{◌==◌, ◌&&◌, All, map, cond, flat_map, Option, Some, None, Result, OnOk, codes, if◌then◌else◌}
+use Rattle.std.specs.Prelude.{◌==◌, ◌&&◌, All, map, cond, flat_map, Option, Some, None, Result, OnOk, codes}
 use Rattle.std.specs.List.{filter}
 use Rattle.std.proofs.lemmas.Bool.{eqb-true, ne_eqb}
 use Rattle.std.proofs.lemmas.Grind.{flat_map-append}
@@ -27,16 +27,16 @@ use Rattle.sg_circuit.specs.Seen.{circuit_seen, element_seen, scope_seen, variab
 use Rattle.sg_circuit.proofs.SeenLaws.{all-unmapped}
 use Rattle.sg_circuit.specs.TimingsSeen.{timings_at}
 use Rattle.annotation_model.specs.Finding.{no_check}
-use Rattle.annotation_model.specs.Spots.{path_spot, Checked, checked, all_checked, spots, spots_of}
+use Rattle.annotation_model.specs.Spots.{path_spot, Checked, checked, all_checked, spots_of}
 use Rattle.sdf_tree.specs.Written.{PathCondition, always, otherwise, if_words}
 use Rattle.written_entries.specs.declared.groups.Groups.{Groups}
 use Rattle.written_entries.specs.Groups.{AreGroups, any_check, check_scope, is_delayed, is_delayed_kind}
 use Rattle.written_entries.proofs.GroupLaws.{gathered_all}
 use Rattle.written_entries.proofs.NumberLaws.{element_numbers, check_numbers}
-use Rattle.written_model.specs.Entries.{PathEntry, PathKey, CheckEntry, legs, legs_at, numbers_of, path_key, paths_at, path_entries, path_rank, one_if, condition_rank, checks_at, check_entry, check_entries, parts_of}
+use Rattle.written_model.specs.Entries.{PathEntry, PathKey, legs, legs_at, numbers_of, path_key, paths_at, path_entries, path_rank, one_if, condition_rank, checks_at, check_entry, check_entries, parts_of}
 use Rattle.written_model.specs.Text.{delay_lines, check_lines, parts_text, cell_line, cell_text, enclosed, line}
 use Rattle.written_text.specs.declared.pages.Page.{Page}
-use Rattle.written_text.specs.Page.{circuit_of, leg_line, path_line, check_line, lines_of_legs, leg_lines, leg_lines_at, has_path_rank, lines_of_paths, path_lines, path_lines_at, has_check_rank, check_lines_at, checked_at, delay_lines_of, check_lines_of, parts_text_of}
+use Rattle.written_text.specs.Page.{circuit_of, leg_line, path_line, check_line, lines_of_legs, leg_lines, leg_lines_at, has_path_rank, lines_of_paths, path_lines, path_lines_at, has_check_rank, check_lines_at, delay_lines_of, check_lines_of, parts_text_of}
 use Rattle.written_text.proofs.CellLaws.{leg_lines_is, path_lines_is}
 use Rattle.written_text.proofs.PageLaws.{scope_is}
 

@@ -1,4 +1,4 @@
-use Rattle.std.proofs.Common.{◌≡◌, ◌++◌, ◌<◌, length, ap, sym, ◌∙◌, subst, arith}
+use Rattle.std.proofs.Common.{◌≡◌, ◌++◌, ◌<◌, length, subst, arith}
 use Rattle.std.specs.Prelude.{OnOk}
 use Rattle.written_text.proofs.PageLaws.{port_within, port_in, port_added, nothing_added}
 use Rattle.written_text.proofs.pages.push_port.Goals as goal

@@ -1,6 +1,4 @@
-use Rattle.std.proofs.Common.{◌≡◌, ◌++◌, ◌<◌, ◌∙◌, List, length, ap, sym, subst}
-use Rattle.std.specs.Prelude.{All, OnOk}
-use Rattle.sg_circuit.specs.Seen.{circuit_seen}
+use Rattle.std.proofs.Common.{length, sym, subst}
 use Rattle.written_entries.specs.Groups.{AreChecksOf, AreElementsOf}
 use Rattle.written_entries.proofs.NumberLaws.{elements_of_scope, checks_of_scope}
 use Rattle.written_text.proofs.ScopeLaws.{bits_within, cell_added}

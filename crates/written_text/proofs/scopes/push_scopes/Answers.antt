@@ -1,4 +1,4 @@
-use Rattle.std.proofs.Common.{◌++◌, ◌+◌, ◌-◌, ◌<◌, ◌≡◌, ℕ, List, length, refl, arith}
+use Rattle.std.proofs.Common.{◌++◌, ◌+◌, ◌-◌, ◌<◌, length, refl, arith}
 use Rattle.std.specs.Prelude.{◌^◌, flat_map}
 use Rattle.std.specs.List.{range_with_len}
 use Rattle.sg_circuit.specs.Seen.{circuit_seen}

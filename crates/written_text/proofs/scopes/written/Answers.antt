@@ -1,4 +1,4 @@
-use Rattle.std.proofs.Common.{◌++◌, ◌<◌, ◌≤◌, ◌≡◌, ◌∙◌, List, length, refl, subst, arith}
+use Rattle.std.proofs.Common.{◌<◌, length, refl, subst, arith}
 use Rattle.std.specs.Prelude.{◌^◌}
 use Rattle.std.proofs.lemmas.Result.{err_from_is_err_and}
 use Rattle.sg_circuit.specs.Seen.{circuit_seen}
