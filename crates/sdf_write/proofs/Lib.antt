@@ -1,2 +1,1 @@
 -- The modules of this folder.
-mod WritingLaws
