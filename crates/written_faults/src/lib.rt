@@ -1,0 +1,11 @@
+//! Why a circuit can't be written as an SDF file that gives it back: the faults of its scopes.
+#![tactic(auto)]
+
+mod ambiguities;
+mod classes;
+mod depths;
+mod refusing;
+mod sizes;
+mod weights;
+
+pub use refusing::refuse;
