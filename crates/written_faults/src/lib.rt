@@ -4,6 +4,7 @@
 mod ambiguities;
 mod classes;
 mod depths;
+mod precisions;
 mod refusing;
 mod sizes;
 mod weights;
