@@ -3,5 +3,5 @@
 
 mod writing;
 
-pub use written_model::WriteError;
 pub use writing::sdf_text;
+pub use written_model::WriteError;

@@ -1,5 +1,5 @@
 -- What each scope has, by the numbers that are kept of it.
-use Rattle.std.proofs.Common.{◌≡◌, ℕ, suc, ◌+◌, ◌<◌, ◌≤◌, Bool, true, false, List, [], ◌∷◌, ◌++◌, length, get_or, refl, sym, ◌∙◌, ap, subst, arith, append-nil}
+use Rattle.std.proofs.Common.{◌≡◌, ℕ, suc, ◌+◌, ◌<◌, Bool, true, false, List, [], ◌∷◌, ◌++◌, length, get_or, refl, sym, ◌∙◌, ap, subst, arith, append-nil}
 use Rattle.std.specs.Prelude.{◌==◌, ◌&&◌, All, cond, flat_map, if◌then◌else◌}
 use Rattle.std.proofs.lemmas.Bool.{eqb-true}
 use Rattle.std.proofs.lemmas.Grind.{flat_map-append}
@@ -78,10 +78,3 @@ module _ {A : Type 0} (key : A → ℕ) (test : A → Bool) (s : ℕ) (all : Lis
   pub grouped : {B : Type 0} (f : A → List B) (n : ℕ) (xs : List A) → ((i : ℕ) → i < length xs → get_or all (n + i) d ≡ get_or xs i d) → ((x : A) → ((key x == s) && test x) ≡ false → f x ≡ [])
       → flat_map (λ k. f (get_or all k d)) (elements_on s (pins_by key test n xs)) ≡ flat_map f xs
   grouped f n xs at none = gathered key test s (λ k. f (get_or all k d)) f n xs (λ i x l e. ap f (at i l ∙ (get_or_default xs i d x l ∙ sym e))) none
-
-  -- they are items of the scope
-  abbrev pub InScope : ℕ → Type 0
-  InScope k = (k < length all) × (key (get_or all k d) ≡ s)
-
-  in-scope : (n : ℕ) (xs : List A) → n + length xs ≤ length all → ((i : ℕ) → i < length xs → get_or all (n + i) d ≡ get_or xs i d) → All InScope (elements_on s (pins_by key test n xs))
-  in-scope n xs few at = all-gathered key test s InScope n xs (λ i x l e same. (omega (arith, few, l), ap key (at i l ∙ (get_or_default xs i d x l ∙ sym e)) ∙ same))
