@@ -1,4 +1,4 @@
--- Tests of some element of a list.
+-- Tests of some element of a list, and two tests, one after the other.
 use Rattle.std.proofs.Common.{◌≡◌, suc, Bool, true, false, All, List, [], ◌∷◌, map, refl, sym, ◌∙◌, ap, arith}
 use Rattle.std.specs.Prelude.{◌&&◌, ◌||◌, flat_map, if◌then◌else◌}
 use Rattle.std.specs.List.{list_any}
@@ -52,3 +52,12 @@ first_passes p q es xs ys b whole w e h t = by (list_any p xs) refl
 
 pub first_fails : {A B : Type 0} (p : A → Bool) (q : B → Bool) (es xs : List A) (ks ys : List B) (a b whole : Bool) → whole ≡ (list_any p xs || list_any q ys) → es ≡ xs → ks ≡ ys → a ≡ list_any p es → a ≡ false → b ≡ list_any q ks → b ≡ whole
 first_fails p q es xs ks ys a b whole w e f h t g = g ∙ ap (list_any q) f ∙ sym (w ∙ ap (λ c. c || list_any q ys) (sym (h ∙ ap (list_any p) e) ∙ t))
+
+-- one test, and another where it passes
+pub both_true : (a b p q whole : Bool) → whole ≡ (p && q) → a ≡ p → a ≡ true → b ≡ q → b ≡ whole
+both_true a b true q whole w e t f = f ∙ sym w
+both_true a b false q whole w e t f = absurd cc
+
+pub one_false : (a p q whole : Bool) → whole ≡ (p && q) → a ≡ p → a ≡ false → a ≡ whole
+one_false a true q whole w e t = absurd cc
+one_false a false q whole w e t = t ∙ sym w

@@ -5,6 +5,7 @@ use Rattle.std.specs.Cmp.{unsigned_Decides}
 use Rattle.std.specs.List.{list_any}
 use Rattle.std.specs.Option.{option_map}
 use Rattle.std.proofs.Math.Bool.{or-false}
+use Rattle.std.proofs.lemmas.Bool.Decides.{same_from_decides}
 use Rattle.cond_expr.specs.Condition.{Condition}
 use Rattle.cond_expr.specs.Token.{Tok}
 use Rattle.cond_expr.proofs.Cores.{one_core}
@@ -41,11 +42,6 @@ use Rattle.written_faults.proofs.ScopeLaws.{any_check_of, any_entry, timing_ther
 bare-bare : (ts : List Tok) → bare (bare ts) ≡ bare ts
 bare-bare ts = one_core (bare ts) (bare (bare ts)) (bare ts) (bare_is_core (bare ts)) (record { pairs = 0; is = refl; balanced = inl refl; bare = (bare_is_core ts).bare })
 
-alike : (a b : Bool) → (a ≡ true → b ≡ true) → (b ≡ true → a ≡ true) → a ≡ b
-alike true b f g = sym (f refl)
-alike false true f g = g refl
-alike false false f g = refl
-
 module _ (conditions : List Condition) (classes : List ℕ) (are : AreClasses conditions classes) where
   class-is : (wanted written : Option ℕ) → IfSome wanted (λ p. p < length conditions) → IfSome written (λ p. p < length conditions)
       → fits_words (option_map bare (text_at conditions wanted)) (text_at conditions written) ≡ fits_class classes wanted written
@@ -54,12 +50,12 @@ module _ (conditions : List Condition) (classes : List ℕ) (are : AreClasses co
   class-is (Some i) (Some j) l m =
       let one = written_at conditions i in
       let other = written_at conditions j in
+      let same = are.same i j l m in
       let test = tokens_eq-decides (bare other) (bare (bare one)) in
       let numbers = unsigned_Decides (slice_index_or classes i 0) (slice_index_or classes j 0) in
-      let same = are.same i j l m in
-      alike (same_condition other (bare one)) (slice_index_or classes i 0 == slice_index_or classes j 0)
-      (λ e. numbers.1 (same.1 (sym (test.0 e ∙ bare-bare one))))
-      (λ e. test.1 (sym (same.0 (numbers.0 e)) ∙ sym (bare-bare one)))
+      same_from_decides {P = bare other ≡ bare one} (same_condition other (bare one)) (slice_index_or classes i 0 == slice_index_or classes j 0)
+      (λ e. test.0 e ∙ bare-bare one, λ e. test.1 (e ∙ sym (bare-bare one)))
+      (λ e. sym (same.0 (numbers.0 e)), λ e. numbers.1 (same.1 (sym e)))
 
   event-is : (e other : Event) (wanted written : Option ℕ) → IfSome wanted (λ p. p < length conditions) → IfSome written (λ p. p < length conditions)
       → is_for_event (event_key e (text_at conditions wanted)) other (text_at conditions written) ≡ fits_event classes e wanted other written
@@ -81,16 +77,6 @@ module _ (conditions : List Condition) (classes : List ℕ) (are : AreClasses co
       ∙ (ap (λ ts. is_part_of part ts.kind && (is_for_event (event_key t.refer (text_at conditions wanted.refer)) ts.refer (text_at conditions written.refer) && is_for_datum (option_map (λ (e : Event). event_key e (text_at conditions wanted.datum)) t.datum) ts.datum (text_at conditions written.datum))) w_timing
       ∙ (ap (λ b. is_part_of part o.kind && (b && is_for_datum (option_map (λ (e : Event). event_key e (text_at conditions wanted.datum)) t.datum) o.datum (text_at conditions written.datum))) (event-is t.refer o.refer wanted.refer written.refer there.refer written_there.refer)
       ∙ ap (λ b. is_part_of part o.kind && (fits_event classes t.refer wanted.refer o.refer written.refer && b)) (datum-is t.datum o.datum wanted.datum written.datum there.datum written_there.datum)))))
-
--- ---- one test under another
-
-pub both_true : (a b p q whole : Bool) → whole ≡ (p && q) → a ≡ p → a ≡ true → b ≡ q → b ≡ whole
-both_true a b true q whole w e t f = f ∙ sym w
-both_true a b false q whole w e t f = absurd cc
-
-pub one_false : (a p q whole : Bool) → whole ≡ (p && q) → a ≡ p → a ≡ false → a ≡ whole
-one_false a true q whole w e t = absurd cc
-one_false a false q whole w e t = t ∙ sym w
 
 -- ---- the parts of a check
 

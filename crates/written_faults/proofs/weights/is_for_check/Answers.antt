@@ -3,8 +3,9 @@ use Rattle.sg_circuit.specs.Seen.{circuit_seen}
 use Rattle.sg_circuit.specs.declared.checks.CheckTiming.{CheckTiming}
 use Rattle.annotation_model.specs.Finding.{check_at}
 use Rattle.written_model.specs.Faults.{is_part_of}
+use Rattle.written_faults.proofs.AnyLaws.{both_true, one_false}
 use Rattle.written_faults.proofs.ScopeLaws.{timing_there, written_there, written_within}
-use Rattle.written_faults.proofs.WeightLaws.{both_true, for_is, one_false}
+use Rattle.written_faults.proofs.WeightLaws.{for_is}
 use Rattle.written_faults.proofs.weights.is_for_check.Goals as goal
 
 pub returns-then-is_part_of : goal.returns-then-is_part_of

@@ -3,8 +3,8 @@ use Rattle.sg_circuit.specs.Seen.{circuit_seen}
 use Rattle.sg_circuit.specs.declared.checks.CheckTiming.{CheckTiming}
 use Rattle.written_model.specs.Entries.{limit_at}
 use Rattle.written_faults.specs.Weights.{is_heavy_limit}
+use Rattle.written_faults.proofs.AnyLaws.{both_true, one_false}
 use Rattle.written_faults.proofs.ScopeLaws.{timing_there}
-use Rattle.written_faults.proofs.WeightLaws.{both_true, one_false}
 use Rattle.written_faults.proofs.weights.is_heavy_part.Goals as goal
 
 pub returns-then-is_heavy : goal.returns-then-is_heavy
