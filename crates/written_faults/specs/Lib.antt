@@ -1,3 +1,7 @@
 -- The modules of this folder.
+pub mod Ambiguities
 pub mod Classes
-pub mod Sizes
+pub mod Classing
+pub mod Codes
+pub mod Keys
+pub mod Reading

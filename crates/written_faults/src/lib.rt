@@ -3,9 +3,5 @@
 
 mod ambiguities;
 mod classes;
-mod depths;
-mod refusing;
-mod sizes;
-mod weights;
-
-pub use refusing::refuse;
+mod codes;
+mod keys;
