@@ -2,14 +2,19 @@
 ghost use Rattle.std.specs.Prelude.{◌≡◌, ◌<◌, ◌↔◌, ◌∷◌, [], All, IfOk, IsTrue, length, map};
 ghost use Rattle.sg_circuit.specs.PathsSeen.{IsIndexedPath};
 ghost use Rattle.sg_circuit.specs.ChecksSeen.{AreWritten};
-ghost use Rattle.sg_circuit.specs.Seen.{AreIndexed, IsIndexed};
+ghost use Rattle.sg_circuit.specs.Closed.{IsClosed};
+ghost use Rattle.sg_circuit.specs.Seen.{AreIndexed, IsIndexed, circuit_seen};
+ghost use Rattle.written_entries.specs.Groups.{AreGroups};
+ghost use Rattle.written_model.specs.Faults.{Disagree};
+ghost use Rattle.written_faults.specs.Classes.{AreClasses};
 ghost use Rattle.sg_circuit.specs.TimingsSeen.{leg_timing_seen, limit_seen, timings_of};
-ghost use Rattle.written_model.specs.Entries.{limit_at, numbers_of};
+ghost use Rattle.written_model.specs.Entries.{CheckEntry, PathEntry, check_entries, limit_at, numbers_of, path_entries};
 ghost use Rattle.written_faults.specs.Ambiguities.{IsSame, check_pairs, element_pairs, limit_in, numbers_in, pairs_of_checks, pairs_of_elements, path_pairs};
 ghost use Rattle.written_faults.specs.Reading.{Reads};
 
 use crate::keys::{PartCode, PathCode, event_codes, part_number, parts_of, path_code};
-use written_entries::limits_of;
+use std::alloc::Global;
+use written_entries::{Groups, limits_of};
 use indexmap::IndexMap;
 use sg_circuit::{CheckConditions, CheckTiming, Element, ElementKind, LegTiming, NetId, Parts, Path};
 use sg_delay::Limit;
@@ -130,6 +135,26 @@ fn add_elements<'a>(
     Ok(false)
 }
 
+/// Whether two specify paths of a scope have one key, and different delays or limits. Takes time and memory in proportion to them.
+pub fn are_paths_ambiguous(
+    alloc: Global,
+    parts: &Parts,
+    groups: &Groups,
+    classes: &[usize],
+    scope: u32,
+) -> Result<bool, NoMemory>
+    requires closed { IsClosed (circuit_seen parts.now) }
+    requires indexed { AreIndexed parts.now }
+    requires groups { AreGroups parts.now groups.now }
+    requires scope { scope < length parts.now.scopes.items }
+    requires classes { AreClasses parts.now.conditions.items classes.now }
+    ensures { IfOk result (λ b. IsTrue b ↔ Disagree (λ (e : PathEntry). e.key) (λ (e : PathEntry). e.numbers) (path_entries (circuit_seen parts.now) scope)) }
+{
+    let mut seen = IndexMap::new(alloc);
+    let ambiguous = add_elements(&mut seen, parts, classes, groups.elements.of(scope))?;
+    Ok(ambiguous)
+}
+
 // Whether a part has the key of one before, and another limit.
 fn add_part(
     seen: &mut IndexMap<PartCode, i64>,
@@ -188,4 +213,24 @@ fn add_checks(
         }
     }
     Ok(false)
+}
+
+/// Whether two parts of timing checks of a scope have one key, and different limits. Takes time and memory in proportion to them.
+pub fn are_checks_ambiguous(
+    alloc: Global,
+    parts: &Parts,
+    groups: &Groups,
+    classes: &[usize],
+    scope: u32,
+) -> Result<bool, NoMemory>
+    requires closed { IsClosed (circuit_seen parts.now) }
+    requires indexed { AreIndexed parts.now }
+    requires groups { AreGroups parts.now groups.now }
+    requires scope { scope < length parts.now.scopes.items }
+    requires classes { AreClasses parts.now.conditions.items classes.now }
+    ensures { IfOk result (λ b. IsTrue b ↔ Disagree (λ (e : CheckEntry). e.key) (λ (e : CheckEntry). e.limit) (check_entries (circuit_seen parts.now) scope)) }
+{
+    let mut seen = IndexMap::new(alloc);
+    let ambiguous = add_checks(&mut seen, parts, classes, groups.checks.of(scope))?;
+    Ok(ambiguous)
 }
