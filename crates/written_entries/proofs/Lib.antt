@@ -1,2 +1,3 @@
 -- The modules of this folder.
-mod GroupLaws
+pub mod GroupLaws
+pub mod NumberLaws

@@ -1,5 +1,5 @@
 -- Words of contracts: what each scope has.
-use Rattle.std.specs.Prelude.{◌≡◌, ℕ, ◌<◌, ◌^◌, Bool, true, false, All, List, length, slice_index_or}
+use Rattle.std.specs.Prelude.{◌≡◌, ℕ, ◌<◌, Bool, true, false, All, List, length, slice_index_or}
 use Rattle.sg_circuit.specs.declared.checks.Check.{Check}
 use Rattle.sg_circuit.specs.declared.circuits.Parts.{Parts}
 use Rattle.sg_circuit.specs.declared.elements.Element as code_element
@@ -8,8 +8,6 @@ use Rattle.sg_circuit.specs.declared.elements.ElementKind.TheVariants.{Leg, Path
 use Rattle.sg_circuit.specs.Pins.{HasPins}
 use Rattle.late_limits.specs.Grouping.{element_scope, pins_by}
 use Rattle.written_entries.specs.declared.groups.Groups.{Groups}
-use Rattle.written_model.specs.declared.errors.WriteError.{WriteError}
-use Rattle.written_model.specs.declared.errors.WriteError.TheVariants as error
 
 abbrev pub is_delayed_kind : ElementKind → Bool
 is_delayed_kind (Leg timing) = true
@@ -41,9 +39,3 @@ pub record AreGroups (parts : Parts) (g : Groups) : Type 0 where
   pub element_scopes : length g.elements ≡ length parts.scopes.items
   pub checks : HasPins (pins_by check_scope any_check 0 parts.checks.items) g.checks
   pub check_scopes : length g.checks ≡ length parts.scopes.items
-
--- a text is longer than a reader takes it; want of memory is free
-abbrev pub IsTooLongFor : List ℕ → WriteError → Type 0
-IsTooLongFor text (error.TooLarge s) = (s ≡ 0) × (2 ^ 28 < length text)
-IsTooLongFor text error.NoMemory = Unit {0}
-IsTooLongFor text _ = ⊥

@@ -2,8 +2,10 @@
 use Rattle.std.proofs.Common.{◌≡◌, refl, sym, ◌∙◌, ap, subst, ℕ, zero, suc, ◌+◌, ◌<◌, ◌≤◌, Bool, true, false, List, [], ◌∷◌, ◌++◌, length, take, drop, Option, Some, None, slice_get, slice_index_or, map, inl, inr, arith, append-nil, append_assoc}
 use Rattle.std.specs.Prelude.{◌≢◌, ◌⊎◌, ◌↔◌, IsTrue, cond, flat_map, not}
 use Rattle.std.specs.Option.{option_map}
+use Rattle.std.specs.Map.{lookup}
 use Rattle.std.proofs.lemmas.Grind.{flat_map-append}
 use Rattle.std.proofs.lemmas.List.{take-append-drop, take_all}
+use Rattle.indexmap.specs.IndexMap.{IndexMap, IsEmpty, get_by}
 use Rattle.written_model.specs.Faults.{Disagree}
 use Rattle.written_faults.specs.Reading.{Differ, AreRead, ComesTo, Reads}
 
@@ -124,6 +126,10 @@ module _ {K V : Type 0} where
 
   pub all-read : (pairs : List (K × V)) (old new : K → Option V) (b : Bool) → ((k : K) → old k ≡ None) → Reads pairs old new b → IsTrue b ↔ Differ pairs
   all-read pairs old new b none reads = comes-to b pairs new (reads [] (read-none old none))
+
+-- an empty table
+pub nothing-in : {K W S : Type 0} (test : K → Bool) (seen : IndexMap K W S) → IsEmpty seen → get_by test seen ≡ None
+nothing-in {K} {W} test seen e = ap {B = Option W} (λ (es : List (K × W)). lookup test es) e
 
 -- a table whose values stand for others
 pub mapped : {W V : Type 0} (f : W → V) (b : Bool) (w : W) (o : Option W) → option_map f (cond b (Some w) o) ≡ cond b (Some (f w)) (option_map f o)

@@ -4,4 +4,11 @@
 mod ambiguities;
 mod classes;
 mod codes;
+mod depths;
 mod keys;
+mod precisions;
+mod refusing;
+mod sizes;
+mod weights;
+
+pub use refusing::refuse;

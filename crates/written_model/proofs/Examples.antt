@@ -17,7 +17,7 @@ use Rattle.sg_circuit.specs.Circuit.{Circuit, Element, Variable, Leg, Path}
 use Rattle.annotation_model.proofs.Samples.{event, scalar, scope, two, timings, plain}
 use Rattle.sdf_tree.specs.Written.{always, the_top, io_path, absolute, delays, a_cell, a_head, text_head, divider_head, unit_head}
 use Rattle.sdf_tree.specs.declared.words.Divider.TheVariants.{Slash}
-use Rattle.written_model.specs.Names.{name_text, names_text, index_at, name_of}
+use Rattle.written_model.specs.Names.{name_text, names_text, index_at}
 use Rattle.written_model.specs.Entries.{Numbers}
 use Rattle.written_model.specs.Tree.{tree, nowhere, delay_of}
 use Rattle.written_model.specs.Text.{line, words_text, port_text, text}

@@ -1,5 +1,5 @@
 -- Why a circuit can't be written as an SDF file that gives it back. Each fault stands in a scope.
-use Rattle.std.specs.Prelude.{◌≡◌, ◌≢◌, ℕ, zero, suc, ◌+◌, ◌-◌, ◌*◌, ◌%◌, ◌^◌, ◌==◌, ◌&&◌, ◌||◌, not, max, nat_le, nat_lt, ◌-ℤ◌, unsigned_abs, ◌⊎◌, Bool, true, false, List, [], ◌∷◌, ◌++◌, length, map, Option, Some, None, flat_map, slice_get}
+use Rattle.std.specs.Prelude.{◌≡◌, ◌≢◌, ℕ, suc, ◌+◌, ◌-◌, ◌*◌, ◌%◌, ◌^◌, ◌==◌, ◌&&◌, ◌||◌, not, max, nat_le, nat_lt, ◌-ℤ◌, unsigned_abs, ◌⊎◌, Bool, true, false, List, [], ◌∷◌, ◌++◌, length, map, Option, Some, None, flat_map, slice_get}
 use Rattle.std.specs.List.{list_any}
 use Rattle.sg_time.specs.Ticks.{above}
 use Rattle.cond_expr.specs.declared.tokens.Tok.TheVariants as tok

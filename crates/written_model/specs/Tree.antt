@@ -9,7 +9,7 @@ use Rattle.sdf_tree.specs.declared.tree.Edge.{Edge}
 use Rattle.sdf_tree.specs.declared.tree.PairCheck.TheVariants as pair
 use Rattle.sdf_tree.specs.declared.tree.SingleCheck.TheVariants as single
 use Rattle.sdf_tree.specs.declared.words.Divider.TheVariants.{Slash}
-use Rattle.sdf_tree.specs.Written.{Port, Terminal, Instance, the_top, the_path, Number, Value, Delay, io_path, port_delay, Entry, absolute, CheckBody, pair_check, single_check, Check, Part, delays, checks, Cell, text_head, divider_head, unit_head, FilePart, a_head, a_cell}
+use Rattle.sdf_tree.specs.Written.{Port, Terminal, Instance, the_top, the_path, Number, Value, Delay, io_path, port_delay, Entry, absolute, CheckBody, pair_check, single_check, Check, Part, delays, checks, text_head, divider_head, unit_head, FilePart, a_head, a_cell}
 use Rattle.written_model.specs.declared.parts.Part as code_part
 use Rattle.written_model.specs.declared.parts.Part.TheVariants as part
 use Rattle.written_model.specs.Names.{name_text, names_text, BitName, name_of, names_to}

@@ -1,9 +1,8 @@
 -- The lines of elements and of timing checks.
-use Rattle.std.proofs.Common.{◌≡◌, ℕ, zero, suc, ◌+◌, ◌<◌, ◌≤◌, Bool, true, false, List, [], ◌∷◌, ◌++◌, length, get_or, refl, sym, ◌∙◌, ap, subst, arith, append-nil}
+use Rattle.std.proofs.Common.{◌≡◌, ℕ, zero, suc, ◌<◌, Bool, true, false, List, [], ◌∷◌, ◌++◌, length, get_or, refl, sym, ◌∙◌, ap, subst, arith, append-nil}
 use Rattle.std.specs.Prelude.{◌==◌, All, map, cond, flat_map, Option, Some, None, IfSome, if◌then◌else◌}
 use Rattle.std.specs.List.{filter}
 use Rattle.std.proofs.lemmas.Bool.{eq-eqb, ne_eqb}
-use Rattle.std.proofs.lemmas.Grind.{flat_map-append}
 use Rattle.std.proofs.lemmas.List.{get_or-map, length-map}
 use Rattle.sg_circuit.specs.declared.checks.Check.{Check}
 use Rattle.sg_circuit.specs.declared.checks.CheckConditions as code_conditions
@@ -17,18 +16,17 @@ use Rattle.sg_circuit.specs.declared.elements.LegTiming.{LegTiming}
 use Rattle.sg_circuit.specs.declared.paths.Path as code_path
 use Rattle.sg_circuit.specs.Checks.{CheckConditions}
 use Rattle.sg_circuit.specs.ChecksSeen.{AreWritten, written_seen}
-use Rattle.sg_circuit.specs.Circuit.{Circuit, Element, element_at}
-use Rattle.sg_circuit.specs.Closed.{IsClosed, IsCheckTiming, IsEventOf, NamesNets, IsPathOf as IsNetPath}
+use Rattle.sg_circuit.specs.Circuit.{element_at}
+use Rattle.sg_circuit.specs.Closed.{IsCheckTiming, IsEventOf, NamesNets, IsPathOf as IsNetPath}
 use Rattle.sg_circuit.specs.Paths as specify
 use Rattle.sg_circuit.specs.PathsSeen.{path_seen, paths_seen, spanned}
-use Rattle.sg_circuit.specs.Seen.{circuit_seen, element_seen, kind_seen, AreIndexed, IsIndexed}
+use Rattle.sg_circuit.specs.Seen.{circuit_seen, element_seen, kind_seen, IsIndexed}
 use Rattle.sg_circuit.proofs.SeenLaws.{all-unmapped}
 use Rattle.sg_circuit.specs.TimingsSeen.{leg_timing_seen, timings_at}
-use Rattle.annotation_model.specs.Spots.{Spot, path_spot, Checked, checked, all_checked, spots_of}
+use Rattle.annotation_model.specs.Spots.{path_spot, Checked, checked, spots_of}
 use Rattle.written_text.specs.declared.pages.Page.{Page}
 use Rattle.written_model.specs.declared.parts.Part.TheVariants as part
-use Rattle.written_model.specs.Entries.{LegEntry, PathEntry, CheckEntry, numbers_of, legs_at, paths_at, checks_at, check_entry, path_rank, check_rank, parts_of}
-use Rattle.written_entries.specs.Groups.{AreElementsOf, AreChecksOf}
+use Rattle.written_model.specs.Entries.{PathEntry, numbers_of, legs_at, paths_at, checks_at, check_entry, path_rank, check_rank, parts_of}
 use Rattle.written_text.specs.Page.{IsPage, IsElementOf, IsPathOf, IsCheckOf, circuit_of, leg_line, path_line, check_line, lines_of_legs, leg_lines, leg_lines_at, has_path_rank, lines_of_paths, path_lines, path_lines_at, ranked_line, path_entry_of, has_check_rank, check_lines, check_lines_at, checked_at, key_of_part, entries_of_check}
 
 -- ---- legs
@@ -95,7 +93,7 @@ paths_added p rank e ps span style element is at = ap (flat_map (ranked_line p r
 pub paths_of_element : (p : Page) (e : code_element.Element) (ps : List code_path.Path) (span : _) (style : _) → IsElementOf p e → e.kind ≡ kind.Path span style → ps ≡ spanned p.parts.now.paths.items span → All (IsPathOf p) ps
 paths_of_element p e ps span style element is at =
     let nets = all-unmapped (λ q. IsNetPath (length p.parts.now.nets.items) q) (path_seen p.parts.now.conditions.items p.parts.now.leg_timings.items) (spanned p.parts.now.paths.items span)
-        (subst (λ k. NamesNets (length p.parts.now.nets.items) (kind_seen p.parts.now k)) is element.nets) in
+    (subst (λ k. NamesNets (length p.parts.now.nets.items) (kind_seen p.parts.now k)) is element.nets) in
     let indexed = subst (λ k. IsIndexed p.parts.now k) is element.indexed in
     subst (λ xs. All (IsPathOf p) xs) (sym at) (λ k d l. record { input = (nets k d l).input; indexed = indexed.each k d l })
 
@@ -161,9 +159,9 @@ check_lines_is p page rank i t w l at_t at_w same =
     let few : i < length p.parts.now.check_conditions.items = (let n = page.closed.conditions_of_each in let m = length-map p.parts.now.check_conditions.items (written_seen p.parts.now.conditions.items) in omega (arith, n, m, l)) in
     let k : Check = get_or p.parts.now.checks.items i (checked_at c i).check in
     let seen : checked_at c i ≡ record { check = k; timing = t; written = W } =
-        checked-at c.checks c.check_timings c.check_conditions i (checked_at c i).check t W _ l page.closed.timing_of_each page.closed.conditions_of_each
-        ∙ (ap {B = Checked} (λ x. record { check = k; timing = x; written = get_or c.check_conditions i W }) (sym at_t)
-        ∙ ap {B = Checked} (λ x. record { check = k; timing = t; written = x }) (get_or-map (written_seen p.parts.now.conditions.items) p.parts.now.check_conditions.items i w W few ∙ ap (written_seen p.parts.now.conditions.items) (sym at_w))) in
+    checked-at c.checks c.check_timings c.check_conditions i (checked_at c i).check t W _ l page.closed.timing_of_each page.closed.conditions_of_each
+    ∙ (ap {B = Checked} (λ x. record { check = k; timing = x; written = get_or c.check_conditions i W }) (sym at_t)
+    ∙ ap {B = Checked} (λ x. record { check = k; timing = t; written = x }) (get_or-map (written_seen p.parts.now.conditions.items) p.parts.now.check_conditions.items i w W few ∙ ap (written_seen p.parts.now.conditions.items) (sym at_w))) in
     let K : Checked = record { check = k; timing = t; written = W } in
     sym (ap (λ x. flat_map (check_line p) (filter (has_check_rank rank) (checks_at p.scope x))) seen
     ∙ (ap (λ b. flat_map (check_line p) (filter (has_check_rank rank) (cond b (map (check_entry K) (parts_of t.kind t.limits)) []))) (eq-eqb k.scope p.scope (same _))

@@ -1,6 +1,6 @@
 -- What is added for the transitions of a timing, and for a path with its condition.
 use Rattle.std.proofs.Common.{◌≡◌, ℕ, ◌+◌, ◌<◌, ◌≤◌, List, [], ◌∷◌, ◌++◌, length, take, get_or, refl, sym, ◌∙◌, ap, arith, append_assoc, append-nil}
-use Rattle.std.specs.Prelude.{map, flat_map, codes, zero, suc, Result, Ok, Err, OnOk}
+use Rattle.std.specs.Prelude.{map, flat_map, zero, suc, Result, Ok, Err, OnOk}
 use Rattle.std.proofs.lemmas.List.{take_more, take_all, map-append}
 use Rattle.std.proofs.lemmas.Grind.{flat_map-append}
 use Rattle.sg_delay.specs.declared.limits.Limit.{Limit}
@@ -9,7 +9,7 @@ use Rattle.sg_circuit.specs.TimingsSeen.{limit_seen, timings_of}
 use Rattle.sdf_tree.specs.Written.{PathCondition, always, otherwise, if_words}
 use Rattle.written_model.specs.Entries.{Numbers, numbers_of}
 use Rattle.written_text.specs.Page.{before_path, behind_path}
-use Rattle.written_model.specs.Text.{delay_text, line, words_text, under_condition}
+use Rattle.written_model.specs.Text.{delay_text, line, under_condition}
 
 timings-length : (ds : List ℕ) (ls : List Limit) → length ds ≡ length ls → length (timings_of ds ls) ≡ length ds
 timings-length [] ls e = refl
@@ -31,11 +31,11 @@ each_more ds ls i l lim start text new m n k is h more =
     let long : length T ≡ length ds = timings-length ds ls (m ∙ sym n) in
     let here : get_or T i t ≡ t = timings-at ds ls i l t (omega (arith, k, m)) (omega (arith, k, n)) in
     let last : numbers_of t ≡ record { delay = get_or ds i 0; reject = lim.0; error = lim.1 } =
-        ap {B = Numbers} (λ (q : ℕ × ℕ). record { delay = get_or ds i 0; reject = q.0; error = q.1 }) (sym is) in
+    ap {B = Numbers} (λ (q : ℕ × ℕ). record { delay = get_or ds i 0; reject = q.0; error = q.1 }) (sym is) in
     let taken : take (i + 1) T ≡ take i T ++ t ∷ [] = take_more T i t (omega (arith, k, m, long)) ∙ ap (λ x. take i T ++ x ∷ []) here in
     let mapped : map numbers_of (take (i + 1) T) ≡ map numbers_of (take i T) ++ numbers_of t ∷ [] = ap (λ xs. map numbers_of xs) taken ∙ map-append numbers_of (take i T) (t ∷ []) in
     let flat : flat_map delay_text (map numbers_of (take (i + 1) T)) ≡ flat_map delay_text (map numbers_of (take i T)) ++ delay_text (numbers_of t) =
-        ap (λ xs. flat_map delay_text xs) mapped ∙ (flat_map-append delay_text (map numbers_of (take i T)) (numbers_of t ∷ []) ∙ ap (λ y. flat_map delay_text (map numbers_of (take i T)) ++ y) (append-nil (delay_text (numbers_of t)))) in
+    ap (λ xs. flat_map delay_text xs) mapped ∙ (flat_map-append delay_text (map numbers_of (take i T)) (numbers_of t ∷ []) ∙ ap (λ y. flat_map delay_text (map numbers_of (take i T)) ++ y) (append-nil (delay_text (numbers_of t)))) in
     more ∙ (ap (λ x. x ++ delay_text (record { delay = get_or ds i 0; reject = lim.0; error = lim.1 })) h
     ∙ (append_assoc start (flat_map delay_text (map numbers_of (take i T))) (delay_text (record { delay = get_or ds i 0; reject = lim.0; error = lim.1 }))
     ∙ ap (λ y. start ++ y) (ap (λ x. flat_map delay_text (map numbers_of (take i T)) ++ delay_text x) (sym last) ∙ sym flat)))

@@ -1,5 +1,5 @@
 -- The names that lead to a scope are those of the scopes that it stands in.
-use Rattle.std.proofs.Common.{◌≡◌, ℕ, zero, suc, ◌+◌, ◌<◌, ◌≤◌, List, [], ◌∷◌, ◌++◌, length, reverse, refl, sym, ◌∙◌, ap, subst, arith, append_assoc, append-nil}
+use Rattle.std.proofs.Common.{◌≡◌, ℕ, zero, suc, ◌<◌, List, [], ◌∷◌, ◌++◌, length, reverse, refl, sym, ◌∙◌, ap, subst, arith, append_assoc, append-nil}
 use Rattle.std.specs.Prelude.{All, map, Option, Some, None, IfSome, Result, Ok, Err, OnOk, is_ok, if◌then◌else◌}
 use Rattle.std.proofs.lemmas.List.{reverse-append, map-append, length-map}
 use Rattle.std.proofs.lemmas.List.Elements.{All-nil, All-cons, All-head, All-tail}
@@ -98,9 +98,9 @@ five_added (Ok x) text a t b i d e first second third fourth new p q u v w =
     ∙ (append_assoc (text ++ a) t (b ++ (i ++ (d ++ e)))
     ∙ (append_assoc text a (t ++ (b ++ (i ++ (d ++ e))))
     ∙ ap (λ z. text ++ z)
-      (ap (λ z. a ++ (t ++ (b ++ z))) (sym (append_assoc i d e))
-      ∙ (ap (λ z. a ++ (t ++ z)) (sym (append_assoc b (i ++ d) e))
-      ∙ (ap (λ z. a ++ z) (sym (append_assoc t (b ++ (i ++ d)) e)) ∙ sym (append_assoc a (t ++ (b ++ (i ++ d))) e)))))))))
+    (ap (λ z. a ++ (t ++ (b ++ z))) (sym (append_assoc i d e))
+    ∙ (ap (λ z. a ++ (t ++ z)) (sym (append_assoc b (i ++ d) e))
+    ∙ (ap (λ z. a ++ z) (sym (append_assoc t (b ++ (i ++ d)) e)) ∙ sym (append_assoc a (t ++ (b ++ (i ++ d))) e)))))))))
 
 pub last_is : {A : Type 0} (P : A → Type 0) (xs : List A) (x : A) → All P (xs ++ x ∷ []) → P x
 last_is P [] x h = All-head P x [] h

@@ -7,3 +7,4 @@ mod NameLaws
 mod PageLaws
 mod PlaceLaws
 mod ScopeLaws
+mod TextLaws

@@ -1,11 +1,11 @@
 -- The name of a net is that of its place.
-use Rattle.std.proofs.Common.{◌≡◌, ℕ, suc, ◌+◌, ◌<◌, ◌≤◌, Bool, true, false, List, [], ◌∷◌, length, get_or, refl, sym, ◌∙◌, ap, arith}
+use Rattle.std.proofs.Common.{◌≡◌, ℕ, suc, ◌+◌, ◌<◌, Bool, true, false, List, [], ◌∷◌, length, get_or, refl, sym, ◌∙◌, ap, arith}
 use Rattle.std.specs.Prelude.{◌==◌, Option, Some, None, unwrap_or, if◌then◌else◌}
 use Rattle.std.specs.List.{position_from}
 use Rattle.std.specs.Option.{option_map, option_or}
 use Rattle.sg_circuit.specs.Circuit.{Variable}
-use Rattle.written_model.specs.Names.{BitName, bit_at, named_by, name_of}
-use Rattle.written_text.specs.Places.{Place, place_if_at, bits_place, variables_place}
+use Rattle.written_model.specs.Names.{bit_at, name_of}
+use Rattle.written_text.specs.Places.{Place, bits_place, variables_place}
 
 abbrev is : ℕ → ℕ → Bool
 is net n = n == net

@@ -1,16 +1,16 @@
 -- What is so of the scope that is being written.
-use Rattle.std.proofs.Common.{◌≡◌, ℕ, ◌+◌, ◌<◌, ◌≤◌, List, [], ◌∷◌, ◌++◌, length, get_or, refl, sym, ◌∙◌, ap, subst, arith, append-nil}
-use Rattle.std.specs.Prelude.{All, map, Option, Some, None, pos}
+use Rattle.std.proofs.Common.{◌≡◌, ℕ, ◌+◌, ◌<◌, List, ◌++◌, length, get_or, sym, ◌∙◌, ap, subst, arith, append-nil}
+use Rattle.std.specs.Prelude.{map, Some, None}
 use Rattle.std.proofs.lemmas.List.{get_or-map, length-map}
 use Rattle.sg_circuit.specs.declared.circuits.Parts.{Parts}
 use Rattle.sg_circuit.specs.declared.scopes.Scope as code_scope
 use Rattle.sg_circuit.specs.declared.scopes.Variable as code_variable
-use Rattle.sg_circuit.specs.Circuit.{Circuit, Variable, scope_at}
+use Rattle.sg_circuit.specs.Circuit.{Variable, scope_at}
 use Rattle.sg_circuit.specs.Closed.{width_of}
 use Rattle.sg_circuit.specs.Seen.{circuit_seen, scope_seen, variable_seen}
 use Rattle.written_text.specs.declared.pages.Page.{Page}
 use Rattle.written_model.specs.Names.{bit_at, name_of}
-use Rattle.written_text.specs.Page.{IsPage, circuit_of, variables_of}
+use Rattle.written_text.specs.Page.{IsPage, variables_of}
 use Rattle.written_text.specs.Places.{place_at, variables_place}
 use Rattle.written_model.specs.Text.{bit_text, port_text}
 use Rattle.written_text.proofs.NameLaws.{Found, name_found, name_missing}
@@ -41,8 +41,8 @@ module _ (p : Page) (page : IsPage p) (net k j : ℕ) (few : net < length p.part
   port_in V stands =
       let same : found.i ≡ k = omega (arith, found.at) in
       let is : found.variable ≡ variable_seen V =
-          found.stands ∙ (ap (λ i. get_or (variables_of p) i found.variable) same ∙ (ap (λ vs. get_or vs k found.variable) vars
-          ∙ (get_or-map (λ v. variable_seen v) S.variables.items k V found.variable port_within ∙ ap (λ v. variable_seen v) (sym stands)))) in
+      found.stands ∙ (ap (λ i. get_or (variables_of p) i found.variable) same ∙ (ap (λ vs. get_or vs k found.variable) vars
+      ∙ (get_or-map (λ v. variable_seen v) S.variables.items k V found.variable port_within ∙ ap (λ v. variable_seen v) (sym stands)))) in
       let scopes : p.scope < length (map (λ s. scope_seen s) p.parts.now.scopes.items) = (let n = length-map p.parts.now.scopes.items (λ s. scope_seen s) in omega (arith, n, page.scope)) in record {
         width = subst (λ (v : Variable). length v.bits ≡ width_of v.range) (sym found.stands ∙ is) (page.closed.widths p.scope _ scopes found.i found.variable found.within);
         bit = subst (λ v. j < length v.bits) is found.bit;

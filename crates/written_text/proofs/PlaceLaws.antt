@@ -1,5 +1,5 @@
 -- Places of nets that are added to a table.
-use Rattle.std.proofs.Common.{◌≡◌, ◌≢◌, ℕ, ◌+◌, ◌<◌, ◌≤◌, Bool, true, false, List, [], ◌∷◌, length, drop, get_or, set, refl, sym, ◌∙◌, ap, arith}
+use Rattle.std.proofs.Common.{◌≡◌, ◌≢◌, ℕ, ◌+◌, ◌<◌, ◌≤◌, Bool, true, false, List, ◌∷◌, length, drop, get_or, set, refl, sym, ◌∙◌, ap, arith}
 use Rattle.std.specs.Prelude.{◌==◌, All, map, Option, Some, None, cond}
 use Rattle.std.specs.Option.{option_or}
 use Rattle.std.proofs.lemmas.Bool.{eqb-true, eqb-false, eq-eqb, ne_eqb}
@@ -8,7 +8,7 @@ use Rattle.sg_circuit.specs.declared.scopes.Variable as code_variable
 use Rattle.sg_circuit.specs.Seen.{variable_seen}
 use Rattle.sg_circuit.specs.Circuit.{Variable}
 use Rattle.written_text.specs.declared.places.BitPlace.{BitPlace}
-use Rattle.written_text.specs.Places.{Place, marked, place_at, place_if, place_if_at, bits_place, variables_place, HasMore, HasPlaces}
+use Rattle.written_text.specs.Places.{Place, marked, place_at, place_if, place_if_at, bits_place, variables_place, HasMore}
 
 abbrev pub blank : BitPlace
 blank = record { mark = 0; variable = 0; bit = 0 }
@@ -36,6 +36,7 @@ none_more table of mark variable bit e = record { each = λ net l. by net (of ==
   where
     held : (net : ℕ) → of ≡ net → place_at table mark net ≡ Some (place_of (get_or table of blank))
     held net same = ap (λ n. marked mark (get_or table n blank)) (sym same) ∙ marked_same mark (get_or table of blank) e
+
     by : (net : ℕ) (b : Bool) → (of == net) ≡ b → place_at table mark net ≡ option_or (place_at table mark net) (place_if b variable bit)
     by net true f = held net (eqb-true of net f) ∙ ap (λ o. option_or o (place_if true variable bit)) (sym (held net (eqb-true of net f)))
     by net false f = sym (or-none (place_at table mark net))
@@ -46,8 +47,10 @@ one_more table of p l free = record { each = λ net m. by net (of == net) refl }
   where
     was : (net : ℕ) → of ≡ net → place_at table p.mark net ≡ None
     was net same = ap (λ n. marked p.mark (get_or table n blank)) (sym same) ∙ marked_other p.mark (get_or table of blank) free
+
     is : (net : ℕ) → of ≡ net → place_at (set table of p) p.mark net ≡ Some (place_of p)
     is net same = ap (λ n. marked p.mark (get_or (set table of p) n blank)) (sym same) ∙ (ap (λ q. marked p.mark q) (get_or-set_same table of p blank l) ∙ marked_same p.mark p refl)
+
     by : (net : ℕ) (b : Bool) → (of == net) ≡ b → place_at (set table of p) p.mark net ≡ option_or (place_at table p.mark net) (place_if b p.variable p.bit)
     by net true e = is net (eqb-true of net e) ∙ ap (λ o. option_or o (Some (place_of p))) (sym (was net (eqb-true of net e)))
     by net false e =
@@ -90,4 +93,4 @@ none_yet table mark net h l = marked_other mark (get_or table net blank) (let m 
 
 pub seen_at : (vs : List code_variable.Variable) (k : ℕ) (v : code_variable.Variable) → k < length vs → v ≡ get_or vs k v
     → (k < length (map (λ w. variable_seen w) vs)) × (variable_seen v ≡ get_or (map (λ w. variable_seen w) vs) k (variable_seen v))
-seen_at vs k v l at = (let n : length (map (λ w. variable_seen w) vs) ≡ length vs = length-map (λ w. variable_seen w) vs in omega (arith, n, l), ap (λ w. variable_seen w) at ∙ sym (get_or-map (λ w. variable_seen w) vs k v (variable_seen v) l))
+seen_at vs k v l at = (let n : length (map (λ w. variable_seen w) vs) ≡ length vs = length-map vs (λ w. variable_seen w) in omega (arith, n, l), ap (λ w. variable_seen w) at ∙ sym (get_or-map (λ w. variable_seen w) vs k v (variable_seen v) l))

@@ -2,3 +2,4 @@
 pub mod Places
 pub mod Page
 pub mod Instances
+pub mod Large

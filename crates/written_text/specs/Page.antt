@@ -1,8 +1,7 @@
 -- Words of contracts: the scope of a circuit that is being written.
-use Rattle.std.specs.Prelude.{◌≡◌, ℕ, ℤ, ◌+◌, ◌<◌, ◌==◌, Bool, List, [], ◌∷◌, ◌++◌, length, map, Option, Some, None, IfSome, codes, flat_map, unwrap_or, if◌then◌else◌, slice_index_or}
+use Rattle.std.specs.Prelude.{◌≡◌, ℕ, ℤ, ◌+◌, ◌<◌, ◌==◌, Bool, List, [], ◌∷◌, ◌++◌, length, map, Option, IfSome, codes, flat_map, unwrap_or, if◌then◌else◌, slice_index_or}
 use Rattle.std.specs.List.{filter}
 use Rattle.std.specs.Option.{option_map}
-use Rattle.cond_expr.specs.Token.{Tok}
 use Rattle.sg_logic.specs.declared.edges.Edge as netlist
 use Rattle.sg_circuit.specs.declared.elements.Element as code_element
 use Rattle.sg_circuit.specs.declared.paths.Path as code_path

@@ -11,11 +11,7 @@ use crate::pages::Page;
 use sg_circuit::{CheckConditions, CheckTiming, Element, ElementKind, NetId, Path};
 use std::alloc::{AllocError, Global};
 
-fn push_leg_of(
-    text: &mut Vec<u8>,
-    page: &Page<'_>,
-    element: &Element,
-) -> Result<(), AllocError>
+fn push_leg_of(text: &mut Vec<u8>, page: &Page<'_>, element: &Element) -> Result<(), AllocError>
     requires page { IsPage page.now }
     requires element { IsElementOf page.now element.now }
     ensures { OnOk result (text.new.items ≡ text.old.items ++ leg_lines page.now element.now) }
@@ -154,7 +150,13 @@ fn push_checks_ranked(
     for number in checks {
         let number = *number as usize;
         let timing = &page.parts.check_timings[number];
-        push_check_if_ranked(text, page, timing, page.parts.check_conditions[number], rank)?;
+        push_check_if_ranked(
+            text,
+            page,
+            timing,
+            page.parts.check_conditions[number],
+            rank,
+        )?;
     }
     Ok(())
 }
@@ -186,11 +188,7 @@ fn close(text: &mut Vec<u8>, start: usize, inner: usize, last: &[u8]) -> Result<
 }
 
 // The block of delays.
-fn push_delay_block(
-    text: &mut Vec<u8>,
-    page: &Page<'_>,
-    elements: &[u32],
-) -> Result<(), AllocError>
+fn push_delay_block(text: &mut Vec<u8>, page: &Page<'_>, elements: &[u32]) -> Result<(), AllocError>
     requires page { IsPage page.now }
     requires elements { AreElementsOf page.now.parts.now.elements.items page.now.scope elements.now }
     ensures { OnOk result (text.new.items ≡ text.old.items ++ enclosed (line (codes "(DELAY (ABSOLUTE")) (line (codes "))")) (delay_lines_of page.now elements.now)) }
@@ -204,11 +202,7 @@ fn push_delay_block(
 }
 
 // The block of timing checks.
-fn push_check_block(
-    text: &mut Vec<u8>,
-    page: &Page<'_>,
-    checks: &[u32],
-) -> Result<(), AllocError>
+fn push_check_block(text: &mut Vec<u8>, page: &Page<'_>, checks: &[u32]) -> Result<(), AllocError>
     requires page { IsPage page.now }
     requires checks { AreChecksOf page.now.parts.now.checks.items page.now.scope checks.now }
     ensures { OnOk result (text.new.items ≡ text.old.items ++ enclosed (line (codes "(TIMINGCHECK")) (line (codes ")")) (check_lines_of page.now checks.now)) }

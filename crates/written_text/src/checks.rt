@@ -13,10 +13,10 @@ use crate::conditions::push_words;
 use crate::delays::one_if;
 use crate::pages::{Page, push_terminal};
 use crate::words::push_signed_value;
-use written_entries::{bare, edge_of};
-use written_model::Part;
 use sg_circuit::{CheckConditions, CheckKind, CheckTiming, Event};
 use std::alloc::AllocError;
+use written_entries::{bare, edge_of};
+use written_model::Part;
 
 // A terminal with its condition, by the place of that in the circuit's table.
 fn push_conditional(
@@ -236,7 +236,14 @@ pub fn push_check(
         CheckKind::Recovery => push_part(text, page, timing, written, Part::Recovery, 0),
         CheckKind::Removal => push_part(text, page, timing, written, Part::Removal, 0),
         CheckKind::Skew => push_part(text, page, timing, written, Part::Skew, 0),
-        CheckKind::Setuphold => push_two_parts(text, page, timing, written, Part::Setup, Part::Hold),
+        CheckKind::Setuphold => push_two_parts(
+            text,
+            page,
+            timing,
+            written,
+            Part::Setup,
+            Part::Hold,
+        ),
         CheckKind::Recrem => {
             push_two_parts(text, page, timing, written, Part::Recovery, Part::Removal)
         }

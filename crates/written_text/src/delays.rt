@@ -13,10 +13,10 @@ ghost use Rattle.written_model.specs.Text.{delay_text, io_path_text, leg_text, l
 use crate::conditions::push_words;
 use crate::pages::{Page, push_port, push_terminal};
 use crate::words::push_value;
-use written_entries::{bare, edge_of, limits_of};
 use sg_circuit::{LegTiming, NetId, Path, PathCondition};
 use sg_delay::Limit;
 use std::alloc::AllocError;
+use written_entries::{bare, edge_of, limits_of};
 
 fn push_delay(text: &mut Vec<u8>, delay: u64, limits: (u64, u64)) -> Result<(), AllocError>
     ensures { OnOk result (text.new.items ≡ text.old.items ++ delay_text (record { delay = delay; reject = limits.0; error = limits.1 })) }
@@ -32,11 +32,7 @@ fn push_delay(text: &mut Vec<u8>, delay: u64, limits: (u64, u64)) -> Result<(), 
 }
 
 // The delays and the limits of the transitions.
-fn push_each(
-    text: &mut Vec<u8>,
-    delays: &[u64; 12],
-    limits: &[Limit; 12],
-) -> Result<(), AllocError>
+fn push_each(text: &mut Vec<u8>, delays: &[u64; 12], limits: &[Limit; 12]) -> Result<(), AllocError>
     ensures { OnOk result (text.new.items ≡ text.old.items ++ flat_map delay_text (map numbers_of (timings_of delays.now limits.now))) }
 {
     for transition in 0..12 {

@@ -4,7 +4,8 @@ ghost use Rattle.std.specs.List.{range_with_len};
 ghost use Rattle.sg_circuit.specs.Closed.{IsClosed};
 ghost use Rattle.sg_circuit.specs.Seen.{AreIndexed, circuit_seen};
 ghost use Rattle.written_model.specs.Faults.{is_too_large};
-ghost use Rattle.written_entries.specs.Groups.{AreGroups, IsTooLongFor};
+ghost use Rattle.written_entries.specs.Groups.{AreGroups};
+ghost use Rattle.written_text.specs.Large.{IsTooLongFor};
 ghost use Rattle.written_model.specs.Text.{cell_text, head_line, text};
 
 use crate::cells::push_cell;
@@ -12,10 +13,10 @@ use crate::pages::Page;
 use crate::places::{BitPlace, no_places, place_variables};
 use crate::words::push_tick;
 use sg_circuit::Parts;
-use written_entries::Groups;
-use written_model::WriteError;
 use sg_time::Unit;
 use std::alloc::{AllocError, Global};
+use written_entries::Groups;
+use written_model::WriteError;
 
 /// A reader takes no more bytes.
 const LARGEST: usize = 1 << 28;

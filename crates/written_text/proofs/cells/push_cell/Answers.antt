@@ -1,4 +1,4 @@
-use Rattle.std.proofs.Common.{◌≡◌, ◌++◌, ◌∷◌, [], ◌∙◌, length, ap, arith, append_assoc}
+use Rattle.std.proofs.Common.{◌≡◌, ◌++◌, ◌∙◌, length, ap, arith, append_assoc}
 use Rattle.std.specs.Prelude.{codes}
 use Rattle.written_text.specs.Page.{circuit_of, check_lines_of, delay_lines_of, parts_text_of}
 use Rattle.written_model.specs.Text.{cell_line, enclosed, line}

@@ -1,4 +1,4 @@
-use Rattle.std.proofs.Common.{◌≡◌, ◌++◌, ◌∙◌, ◌∷◌, [], ap, sym}
+use Rattle.std.proofs.Common.{◌++◌, ◌∙◌, ◌∷◌, [], ap, sym}
 use Rattle.std.specs.Prelude.{codes}
 use Rattle.sg_circuit.specs.Circuit.{scope_at}
 use Rattle.sg_circuit.specs.Seen.{circuit_seen}

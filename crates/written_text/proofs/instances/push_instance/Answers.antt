@@ -1,4 +1,4 @@
-use Rattle.std.proofs.Common.{◌≡◌, ◌++◌, ◌<◌, ◌∙◌, ◌∷◌, [], ℕ, length, reverse, ap, subst, sym}
+use Rattle.std.proofs.Common.{◌++◌, ◌<◌, ◌∙◌, ◌∷◌, [], ℕ, length, reverse, ap, subst, sym}
 use Rattle.std.specs.Prelude.{All}
 use Rattle.sg_circuit.specs.Seen.{circuit_seen}
 use Rattle.written_text.specs.Instances.{marked_names}

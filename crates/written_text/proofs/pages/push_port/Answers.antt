@@ -1,4 +1,4 @@
-use Rattle.std.proofs.Common.{◌≡◌, ◌++◌, ◌<◌, length, ap, sym, ◌∙◌, subst, arith}
+use Rattle.std.proofs.Common.{◌≡◌, ◌++◌, ◌<◌, length, subst, arith}
 use Rattle.std.specs.Prelude.{OnOk}
 use Rattle.written_text.proofs.PageLaws.{port_within, port_in, port_added, nothing_added}
 use Rattle.written_text.proofs.pages.push_port.Goals as goal
@@ -6,7 +6,7 @@ use Rattle.written_text.proofs.pages.push_port.Goals as goal
 pub index-requires-in-Some : goal.index-requires-in-Some
 index-requires-in-Some c =
     let l : c.in-Some.variable < length c.index.result.now.variables.items =
-        port_within c.args.page.now c.requires.page c.args.net c.in-Some.variable c.in-Some.position c.requires.net c.index.result.now c.index.ensures c.in-Some.ensures in
+    port_within c.args.page.now c.requires.page c.args.net c.in-Some.variable c.in-Some.position c.requires.net c.index.result.now c.index.ensures c.in-Some.ensures in
     omega (arith, l, c.index.result.now.variables.ok.0)
 
 pub push_bit-requires-clause-width : goal.push_bit-requires-clause-width

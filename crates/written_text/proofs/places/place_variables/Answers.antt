@@ -1,4 +1,4 @@
-use Rattle.std.proofs.Common.{◌≡◌, ◌<◌, length, subst, arith}
+use Rattle.std.proofs.Common.{◌<◌, length, subst, arith}
 use Rattle.std.specs.Prelude.{map}
 use Rattle.sg_circuit.specs.Seen.{variable_seen}
 use Rattle.written_text.specs.Places.{HasMore, bits_place}
