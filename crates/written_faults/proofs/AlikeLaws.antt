@@ -1,8 +1,7 @@
 -- Codes are the same where keys are.
 use Rattle.std.proofs.Common.{◌≡◌, refl, sym, ◌∙◌, ap, ℕ, ◌<◌, Bool, true, false, List, [], ◌∷◌, length, Option, Some, None, slice_index_or, option_map}
-use Rattle.std.specs.Prelude.{◌==◌, ◌↔◌, ◌+◌, IfSome, if◌then◌else◌}
+use Rattle.std.specs.Prelude.{◌==◌, IfSome, if◌then◌else◌}
 use Rattle.cond_expr.specs.Condition.{Condition}
-use Rattle.cond_expr.specs.Token.{Tok}
 use Rattle.sg_logic.specs.declared.edges.Edge as netlist
 use Rattle.sg_logic.specs.declared.edges.TheConstants.{POSEDGE, NEGEDGE}
 use Rattle.sg_circuit.specs.declared.checks.CheckConditions as code_conditions
@@ -16,7 +15,7 @@ use Rattle.sg_circuit.specs.ChecksSeen.{AreWritten, text_at}
 use Rattle.sg_circuit.specs.PathsSeen.{written_at, condition_seen, path_seen, IsIndexedCondition, IsIndexedPath}
 use Rattle.sdf_tree.specs.declared.tree.Edge.{Edge}
 use Rattle.sdf_tree.specs.declared.tree.Edge.TheVariants.{Posedge, Negedge}
-use Rattle.sdf_tree.specs.Written.{PathCondition, always, otherwise, if_words}
+use Rattle.sdf_tree.specs.Written.{PathCondition, if_words}
 use Rattle.annotation_model.specs.Same.{bare, is_edge}
 use Rattle.written_model.specs.declared.parts.Part.{Part}
 use Rattle.written_model.specs.declared.parts.Part.TheVariants as part

@@ -1,14 +1,14 @@
 -- Tokens have the same code where they are the same.
-use Rattle.std.proofs.Common.{◌≡◌, refl, sym, ◌∙◌, ap, subst, ℕ, zero, suc, List, [], ◌∷◌, ◌++◌, length, slice_index_or, arith, ℤ, pos, negsuc, neg_ℤ, Bool, true, false}
+use Rattle.std.proofs.Common.{◌≡◌, refl, sym, ◌∙◌, ap, ℕ, suc, List, [], ◌∷◌, ◌++◌, length, slice_index_or, arith, ℤ, pos, negsuc, neg_ℤ, true, false}
 use Rattle.std.proofs.lemmas.Int.{ints}
-use Rattle.std.specs.Prelude.{◌==◌, if◌then◌else◌, unsigned_abs, int_lt, cond, flat_map}
+use Rattle.std.specs.Prelude.{◌==◌, if◌then◌else◌, unsigned_abs, int_lt}
 use Rattle.sg_logic.specs.declared.values.Value.{Value}
 use Rattle.sg_logic.specs.declared.values.Value.TheVariants.{Zero, One, X, Z}
 use Rattle.cond_expr.specs.declared.tokens.Op.{Op}
 use Rattle.cond_expr.specs.declared.tokens.Op.TheVariants as op
 use Rattle.cond_expr.specs.declared.tokens.Tok.TheVariants as tok
 use Rattle.cond_expr.specs.Token.{Tok}
-use Rattle.written_faults.specs.Codes.{value_number, operator_number, index_tag, word_code, token_tag, token_numbers, token_code, tokens_code}
+use Rattle.written_faults.specs.Codes.{value_number, operator_number, index_tag, word_code, token_tag, token_numbers, tokens_code}
 
 -- ---- words
 

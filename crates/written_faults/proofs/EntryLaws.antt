@@ -1,9 +1,9 @@
 -- The pairs that are read of a scope differ where its entries disagree.
-use Rattle.std.proofs.Common.{◌≡◌, refl, sym, ◌∙◌, ap, subst, ℕ, zero, suc, ◌+◌, ◌<◌, ℤ, Bool, true, false, List, [], ◌∷◌, ◌++◌, length, map, Option, Some, None, slice_get, slice_index_or, option_map, arith}
+use Rattle.std.proofs.Common.{◌≡◌, refl, sym, ◌∙◌, ap, subst, ℕ, zero, suc, ◌+◌, ◌<◌, ℤ, Bool, true, false, List, [], ◌∷◌, ◌++◌, length, map, Some, slice_get, slice_index_or, option_map, arith}
 use Rattle.std.specs.Prelude.{◌==◌, ◌&&◌, ◌↔◌, All, IsTrue, cond, flat_map, if◌then◌else◌}
 use Rattle.std.proofs.lemmas.Bool.{eq-eqb}
 use Rattle.std.proofs.lemmas.List.{length-map, map-append}
-use Rattle.std.proofs.lemmas.List.Elements.{All-append, All-cons, All-map, All-nil, All-head, All-tail}
+use Rattle.std.proofs.lemmas.List.Elements.{All-cons, All-map, All-nil, All-head, All-tail}
 use Rattle.std.proofs.lemmas.List.Folds.{flat_map-map}
 use Rattle.std.proofs.lemmas.Option.{slice_get_within, get_or_from_slice_get}
 use Rattle.cond_expr.specs.Condition.{Condition}
@@ -24,7 +24,7 @@ use Rattle.sg_circuit.specs.FanOut.{readers_at}
 use Rattle.sg_circuit.specs.PathsSeen.{path_seen, paths_seen, spanned, IsIndexedPath}
 use Rattle.sg_circuit.specs.Pins.{elements_on}
 use Rattle.sg_circuit.specs.Seen.{circuit_seen, element_seen, kind_seen, AreIndexed, IsIndexed}
-use Rattle.annotation_model.specs.Spots.{path_spot, Checked, checked, spots_in, spots_of}
+use Rattle.annotation_model.specs.Spots.{path_spot, checked, spots_in, spots_of}
 use Rattle.written_entries.specs.declared.groups.Groups.{Groups}
 use Rattle.written_entries.specs.Groups.{AreGroups, any_check, check_scope, is_delayed, is_delayed_kind}
 use Rattle.written_entries.proofs.NumberLaws.{element_numbers, check_numbers}
@@ -33,17 +33,13 @@ use Rattle.written_model.specs.Entries.{PathEntry, CheckEntry, Numbers, path_key
 use Rattle.written_model.specs.Faults.{Disagree}
 use Rattle.written_faults.specs.Ambiguities.{numbers_at, path_pair, path_pairs, kind_pairs, element_pairs, of_item, pairs_of_elements, check_pairs, pairs_of_check, pairs_of_checks}
 use Rattle.written_faults.specs.Classes.{AreClasses}
-use Rattle.written_faults.specs.Keys.{PathCode, PartCode, path_code, event_codes, part_code}
+use Rattle.written_faults.specs.Keys.{PathCode, PartCode, event_codes, part_code}
 use Rattle.written_faults.specs.Reading.{Differ}
 use Rattle.written_faults.proofs.AlikeLaws.{path_keys, path_codes, part_keys, part_codes}
-use Rattle.written_faults.proofs.GatherLaws.{flat-flat, flat-same, flat-mapped, gathered_items}
+use Rattle.written_faults.proofs.GatherLaws.{all-flat, flat-flat, flat-same, flat-mapped, gathered_items}
 use Rattle.written_faults.proofs.ReadingLaws.{disagree-alike, disagree-made, disagree-before}
 
 -- ---- lists
-
-all-flat : {A B : Type 0} (P : B → Type 0) (f : A → List B) (xs : List A) → All (λ x. All P (f x)) xs → All P (flat_map f xs)
-all-flat P f [] h = All-nil P
-all-flat P f (x ∷ xs) h = All-append P (f x) (flat_map f xs) (All-head (λ y. All P (f y)) x xs h) (all-flat P f xs (All-tail (λ y. All P (f y)) x xs h))
 
 all-at : {A : Type 0} (P : A → Type 0) (xs : List A) → All P xs → (i : ℕ) (x : A) → slice_get xs i ≡ Some x → P x
 all-at P xs h i x e = subst P (get_or_from_slice_get xs i x x e) (h i x (slice_get_within xs i x e))
@@ -53,13 +49,14 @@ differ-alike : {X K V L W E : Type 0} (Good : X → Type 0) (pair : X → K × V
     → ((x y : X) → Good x → Good y → (pair x).0 ≡ (pair y).0 → key (entry x) ≡ key (entry y)) → ((x y : X) → Good x → Good y → key (entry x) ≡ key (entry y) → (pair x).0 ≡ (pair y).0)
     → ((x y : X) → (pair x).1 ≡ (pair y).1 → value (entry x) ≡ value (entry y)) → ((x y : X) → value (entry x) ≡ value (entry y) → (pair x).1 ≡ (pair y).1)
     → Differ (map pair xs) ↔ Disagree key value (map entry xs)
-differ-alike {X} {K} {V} Good pair entry key value xs good keys codes values numbers =
-    (λ d. disagree-made entry key value xs
+differ-alike {X} {K} {V} Good pair entry key value xs good keys codes values numbers = (
+  λ d. disagree-made entry key value xs
       (disagree-alike Good (λ x. (pair x).0) (λ x. (pair x).1) (λ x. key (entry x)) (λ x. value (entry x)) xs (all-at Good xs good) keys (λ x y g f. numbers x y)
-        (disagree-before pair (λ (p : K × V). p.0) (λ (p : K × V). p.1) xs d)),
-    λ d. disagree-made pair (λ (p : K × V). p.0) (λ (p : K × V). p.1) xs
+      (disagree-before pair (λ (p : K × V). p.0) (λ (p : K × V). p.1) xs d)),
+  λ d. disagree-made pair (λ (p : K × V). p.0) (λ (p : K × V). p.1) xs
       (disagree-alike Good (λ x. key (entry x)) (λ x. value (entry x)) (λ x. (pair x).0) (λ x. (pair x).1) xs (all-at Good xs good) codes (λ x y g f. values x y)
-        (disagree-before entry key value xs d)))
+      (disagree-before entry key value xs d)),
+)
 
 -- ---- the specify paths of a scope
 
@@ -115,8 +112,8 @@ module _ (parts : Parts) (classes : List ℕ) (s : ℕ) where
   pairs-are numbers e =
       ap (pairs_of_elements parts classes) e
       ∙ (gathered_items element_scope is_delayed s parts.elements.items (element_pairs parts classes) (λ (x : code_element.Element). map step_pair (steps_of x))
-          (λ x same. pairs-of-kind x.output x.kind ∙ sym (ap (λ b. map step_pair (steps b x.output x.kind)) (eq-eqb x.scope s same)))
-          (λ x h. no-steps (x.scope == s) x.output x.kind h)
+      (λ x same. pairs-of-kind x.output x.kind ∙ sym (ap (λ b. map step_pair (steps b x.output x.kind)) (eq-eqb x.scope s same)))
+      (λ x h. no-steps (x.scope == s) x.output x.kind h)
       ∙ flat-mapped step_pair steps_of parts.elements.items)
 
   -- its entries are those of its paths
@@ -296,10 +293,10 @@ module _ (parts : Parts) (classes : List ℕ) (s : ℕ) (closed : IsClosed (circ
   check-pairs-are numbers e =
       ap (pairs_of_checks parts classes) (e ∙ ap (elements_on s) (pins-coded 0 parts.checks.items parts.check_timings.items parts.check_conditions.items closed.timing_of_each conditions-of-each))
       ∙ (flat-same (λ n. pairs_of_check classes (slice_get parts.check_timings.items n) (slice_get parts.check_conditions.items n)) (λ n. of_item (λ (w : Coded). check_pairs classes w.timing w.written) (slice_get all_coded n))
-          (elements_on s (pins_by coded_scope any_coded 0 all_coded)) (pairs-of-coded parts.conditions.items classes s parts.checks.items parts.check_timings.items parts.check_conditions.items closed.timing_of_each conditions-of-each)
+      (elements_on s (pins_by coded_scope any_coded 0 all_coded)) (pairs-of-coded parts.conditions.items classes s parts.checks.items parts.check_timings.items parts.check_conditions.items closed.timing_of_each conditions-of-each)
       ∙ (gathered_items coded_scope any_coded s all_coded (λ w. check_pairs classes w.timing w.written) (λ w. map (portion_pair parts.conditions.items classes s) (portions_of parts.conditions.items classes s w))
-          (λ w same. pairs-of-parts parts.conditions.items classes s w.timing w.written (parts_of w.timing.kind w.timing.limits) ∙ sym (ap (λ b. map (portion_pair parts.conditions.items classes s) (portions b w)) (eq-eqb w.check.scope s same)))
-          (λ w h. no-portions parts.conditions.items classes s (w.check.scope == s) w h)
+      (λ w same. pairs-of-parts parts.conditions.items classes s w.timing w.written (parts_of w.timing.kind w.timing.limits) ∙ sym (ap (λ b. map (portion_pair parts.conditions.items classes s) (portions b w)) (eq-eqb w.check.scope s same)))
+      (λ w h. no-portions parts.conditions.items classes s (w.check.scope == s) w h)
       ∙ flat-mapped (portion_pair parts.conditions.items classes s) (portions_of parts.conditions.items classes s) all_coded))
 
   module _ (indexed : AreIndexed parts) (are : AreClasses parts.conditions.items classes) where
@@ -307,7 +304,7 @@ module _ (parts : Parts) (classes : List ℕ) (s : ℕ) (closed : IsClosed (circ
     all-fine =
         all-flat (IsFine parts.conditions.items classes s) (portions_of parts.conditions.items classes s) all_coded
         (λ k d l. fine-portions parts.conditions.items classes s ((slice_index_or all_coded k d).check.scope == s) (slice_index_or all_coded k d)
-          (coded-written (AreWritten (length parts.conditions.items)) parts.checks.items parts.check_timings.items parts.check_conditions.items indexed.written k d l))
+        (coded-written (AreWritten (length parts.conditions.items)) parts.checks.items parts.check_timings.items parts.check_conditions.items indexed.written k d l))
 
     checks-alike : Differ (map (portion_pair parts.conditions.items classes s) all_portions) ↔ Disagree (λ (e : CheckEntry). e.key) (λ (e : CheckEntry). e.limit) (map (portion_entry parts.conditions.items classes s) all_portions)
     checks-alike =

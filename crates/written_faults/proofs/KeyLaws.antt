@@ -1,5 +1,5 @@
 -- Keys with numbers are compared exactly.
-use Rattle.std.proofs.Common.{◌≡◌, refl, sym, ◌∙◌, ap, ℕ, ℤ, FitsSigned, to_z, of_z, w64, Bool, true, false, Option, Some, None}
+use Rattle.std.proofs.Common.{◌≡◌, refl, sym, ◌∙◌, ap, ℤ, FitsSigned, to_z, of_z, w64, Bool, true, false, Option, Some, None}
 use Rattle.std.specs.Option.{option_eq}
 use Rattle.std.specs.Prelude.{◌&&◌, ◌↔◌, nat_eq, IsTrue}
 use Rattle.std.proofs.lemmas.Int.{to_z-of_z}

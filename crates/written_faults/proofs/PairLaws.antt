@@ -73,5 +73,5 @@ pub second_part : {E : Type 0} (r : Result Bool E) (classes : List ℕ) (t : Che
 second_part (Ok c) classes t w parts second number other events old middle new b are first last same some e before here =
     subst (λ qs. Reads qs old new c) (two_parts classes t w parts second number other events are first last same some)
     (reads-more (((number, events.0, events.1), limit_at t.limits 0) ∷ []) (((other, events.0, events.1), limit_at t.limits 1) ∷ []) old middle new c
-      (subst (λ d. Reads {K = PartCode} (((number, events.0, events.1), limit_at t.limits 0) ∷ []) old middle d) e before) here)
+    (subst (λ d. Reads {K = PartCode} (((number, events.0, events.1), limit_at t.limits 0) ∷ []) old middle d) e before) here)
 second_part (Err why) classes t w parts second number other events old middle new b are first last same some e before here = tt

@@ -1,10 +1,10 @@
 -- A circuit has no faults where its scopes have none.
-use Rattle.std.proofs.Common.{◌≡◌, refl, sym, ◌∙◌, ap, subst, ℕ, zero, suc, ◌+◌, ◌*◌, ◌<◌, ◌≤◌, ◌^◌, Bool, true, false, List, [], ◌∷◌, ◌++◌, length, map, Some, slice_get, slice_index_or, inl, inr, arith}
+use Rattle.std.proofs.Common.{◌≡◌, refl, sym, ◌∙◌, ap, subst, ℕ, zero, suc, ◌+◌, ◌<◌, ◌≤◌, ◌^◌, Bool, false, List, [], ◌∷◌, ◌++◌, length, map, Some, slice_get, slice_index_or, inl, inr, arith}
 use Rattle.std.specs.Prelude.{◌⊎◌, ◌==◌, ◌%◌, ◌-ℤ◌, ◌||◌, All, cond, flat_map, not, nat_le, nat_lt, unsigned_abs}
 use Rattle.std.specs.List.{list_any, range_with_len}
 use Rattle.std.proofs.lemmas.Bool.{cases_lt, ne_eqb}
 use Rattle.std.proofs.lemmas.List.{get_or-map, length-map}
-use Rattle.std.proofs.lemmas.List.Elements.{All-append, All-cons, All-map, All-nil, All-head, All-tail}
+use Rattle.std.proofs.lemmas.List.Elements.{All-cons, All-map, All-nil, All-head, All-tail}
 use Rattle.std.proofs.lemmas.List.FromFn.{get_or-range_with_len, length-range_with_len}
 use Rattle.cond_expr.specs.Token.{Tok}
 use Rattle.sg_time.specs.Ticks.{above}
@@ -13,15 +13,15 @@ use Rattle.sg_circuit.specs.declared.checks.CheckTiming.{CheckTiming}
 use Rattle.sg_circuit.specs.declared.circuits.Parts.{Parts}
 use Rattle.sg_circuit.specs.declared.scopes.Scope as code_scope
 use Rattle.sg_circuit.specs.Checks.{CheckConditions}
-use Rattle.sg_circuit.specs.Circuit.{Circuit, Element, Kind, Gate, Udp, Pass, Leg, Path, Late, scope_at}
+use Rattle.sg_circuit.specs.Circuit.{Circuit, Kind, Gate, Udp, Pass, Leg, Path, Late}
 use Rattle.sg_circuit.specs.Closed.{IsClosed}
-use Rattle.sg_circuit.specs.Paths as specify
 use Rattle.sg_circuit.specs.Seen.{circuit_seen, scope_seen}
 use Rattle.sg_circuit.specs.Signals.{signals}
 use Rattle.annotation_model.specs.Spots.{Spot, leg_spot, path_spot, Checked, checked, all_checked, scope_of, spots, spots_in, spots_of}
 use Rattle.written_model.specs.Entries.{LegEntry, PathEntry, CheckEntry, legs, legs_at, path_entries, paths_at, check_entries, checks_at, numbers_of, path_key, check_entry, parts_of}
-use Rattle.written_model.specs.Faults.{AreFaultless, Disagree, IsAmbiguous, is_off_grid, is_too_deep, is_too_long, is_heavy, precision_of, sizes, sizes_of, path_conditions, event_conditions, datum_conditions, depth_from}
+use Rattle.written_model.specs.Faults.{AreFaultless, Disagree, IsAmbiguous, is_off_grid, is_heavy, precision_of, sizes, sizes_of, path_conditions, event_conditions, datum_conditions, depth_from}
 use Rattle.written_faults.specs.Refusing.{IsFaultlessScope}
+use Rattle.written_faults.proofs.GatherLaws.{all-flat, flat-none}
 
 -- ---- precisions and counts of signals
 
@@ -61,14 +61,6 @@ next-scope c n before here s l = by (cases_lt s n)
     by (inr m) = subst (IsFaultlessScope c) (let e : n ≡ s = omega (arith, l, m) in e) here
 
 -- ---- beyond the scopes nothing has entries
-
-flat-none : {A B : Type 0} (f : A → List B) (xs : List A) → All (λ x. f x ≡ []) xs → flat_map f xs ≡ []
-flat-none f [] h = refl
-flat-none f (x ∷ xs) h = ap (λ ys. ys ++ flat_map f xs) (All-head (λ y. f y ≡ []) x xs h) ∙ flat-none f xs (All-tail (λ y. f y ≡ []) x xs h)
-
-all-flat : {A B : Type 0} (P : B → Type 0) (f : A → List B) (xs : List A) → All (λ x. All P (f x)) xs → All P (flat_map f xs)
-all-flat P f [] h = All-nil P
-all-flat P f (x ∷ xs) h = All-append P (f x) (flat_map f xs) (All-head (λ y. All P (f y)) x xs h) (all-flat P f xs (All-tail (λ y. All P (f y)) x xs h))
 
 module _ (s n : ℕ) (beyond : n ≤ s) where
   other : (m : ℕ) → m < n → (m == s) ≡ false

@@ -13,12 +13,14 @@ ghost use Rattle.written_faults.specs.Ambiguities.{IsSame, check_pairs, element_
 ghost use Rattle.written_faults.specs.Reading.{Reads};
 
 use crate::keys::{PartCode, PathCode, event_codes, part_number, parts_of, path_code};
-use std::alloc::Global;
-use written_entries::{Groups, limits_of};
 use indexmap::IndexMap;
-use sg_circuit::{CheckConditions, CheckTiming, Element, ElementKind, LegTiming, NetId, Parts, Path};
+use sg_circuit::{
+    CheckConditions, CheckTiming, Element, ElementKind, LegTiming, NetId, Parts, Path,
+};
 use sg_delay::Limit;
 use sg_text::NoMemory;
+use std::alloc::Global;
+use written_entries::{Groups, limits_of};
 
 fn are_same_at(delay: u64, limit: Limit, other_delay: u64, other_limit: Limit) -> bool
     ensures { IsTrue result ↔ IsSame delay (limit_seen limit) other_delay (limit_seen other_limit) }

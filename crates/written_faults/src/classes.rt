@@ -6,11 +6,11 @@ ghost use Rattle.written_faults.specs.Classing.{AreNumbered};
 ghost use Rattle.written_faults.specs.Codes.{tokens_code};
 
 use crate::codes::code_of;
-use written_entries::bare;
 use cond_expr::Expr;
 use indexmap::IndexSet;
 use sg_text::NoMemory;
 use std::alloc::Global;
+use written_entries::bare;
 
 fn class_code(alloc: Global, condition: &Expr) -> Result<Vec<u64>, NoMemory>
     ensures { IfOk result (λ code. code.items ≡ tokens_code (bare condition.now.tokens)) }

@@ -5,9 +5,9 @@ ghost use Rattle.sg_circuit.specs.ChecksSeen.{AreWritten};
 ghost use Rattle.written_model.specs.Entries.{edge_of, parts_of};
 ghost use Rattle.written_faults.specs.Keys.{condition_code, datum_code, edge_code, event_code, event_codes, part_number, parts_with, path_code, written_code};
 
-use written_entries::edge_of;
 use sdf_tree::Edge;
 use sg_circuit::{CheckConditions, CheckKind, CheckTiming, Event, NetId, Path, PathCondition};
+use written_entries::edge_of;
 use written_model::Part;
 
 /// A path's input and output, its edge, and its condition.
@@ -73,11 +73,7 @@ fn event_code(classes: &[usize], event: &Event, written: Option<usize>) -> Event
     )
 }
 
-fn datum_code(
-    classes: &[usize],
-    datum: &Option<Event>,
-    written: Option<usize>,
-) -> Option<EventCode>
+fn datum_code(classes: &[usize], datum: &Option<Event>, written: Option<usize>) -> Option<EventCode>
     requires { IfSome written (λ w. w < length classes.now) }
     ensures { result ≡ datum_code classes.now datum.now written }
 {

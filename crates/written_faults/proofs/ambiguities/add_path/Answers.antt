@@ -1,10 +1,6 @@
 -- The key was met, or it is new.
-use Rattle.std.proofs.Common.{sym, ◌∙◌, ap, map}
+use Rattle.std.proofs.Common.{sym, ◌∙◌, ap}
 use Rattle.std.specs.Option.{option_map}
-use Rattle.std.specs.Borrow.{Bor}
-use Rattle.sg_circuit.specs.declared.elements.LegTiming.{LegTiming}
-use Rattle.sg_circuit.specs.TimingsSeen.{leg_timing_seen}
-use Rattle.written_model.specs.Entries.{numbers_of}
 use Rattle.indexmap.specs.IndexMap.{get}
 use Rattle.written_faults.specs.Ambiguities.{numbers_in, numbers_of_timing}
 use Rattle.written_faults.specs.Keys.{path_eq}

@@ -1,5 +1,5 @@
 -- One path after another.
-use Rattle.std.proofs.Common.{[], ◌∷◌, ◌<◌, length, slice_index_or, subst, sym, map}
+use Rattle.std.proofs.Common.{[], ◌∷◌, ◌<◌, length, subst, sym, map}
 use Rattle.sg_circuit.specs.declared.paths.Path as code_path
 use Rattle.sg_circuit.specs.TimingsSeen.{leg_timing_seen}
 use Rattle.written_model.specs.Entries.{numbers_of}

@@ -1,5 +1,5 @@
 -- The pairs of the scope's timing checks are read.
-use Rattle.std.proofs.Common.{◌≡◌, ◌<◌, length, subst, sym, ◌∙◌, arith}
+use Rattle.std.proofs.Common.{◌≡◌, ◌<◌, length, subst, sym, ◌∙◌}
 use Rattle.std.specs.Prelude.{All}
 use Rattle.std.proofs.lemmas.List.{length-map}
 use Rattle.sg_circuit.specs.ChecksSeen.{written_seen}
@@ -29,4 +29,4 @@ returns c =
     let parts = c.args.parts.now in
     checks_disagree parts c.args.classes.now c.args.scope c.requires.closed c.requires.indexed c.requires.classes c.args.groups.now c.requires.groups c.requires.scope c.of.result.now c.of.ensures c.in_ok-ambiguous.ambiguous
     (all-read (pairs_of_checks parts c.args.classes.now c.of.result.now) (limit_in c.new-seen.result) (limit_in c.add_checks.new.seen) c.in_ok-ambiguous.ambiguous
-      (λ k. nothing-in (part_eq k) c.new-seen.result c.new-seen.ensures.empty) c.in_ok-ambiguous.ensures)
+    (λ k. nothing-in (part_eq k) c.new-seen.result c.new-seen.ensures.empty) c.in_ok-ambiguous.ensures)

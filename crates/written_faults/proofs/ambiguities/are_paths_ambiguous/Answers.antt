@@ -19,4 +19,4 @@ returns c =
     let parts = c.args.parts.now in
     paths_disagree parts c.args.classes.now c.args.scope c.requires.indexed c.requires.classes c.args.groups.now c.requires.groups c.requires.scope c.of.result.now c.of.ensures c.in_ok-ambiguous.ambiguous
     (all-read (pairs_of_elements parts c.args.classes.now c.of.result.now) (numbers_in c.new-seen.result) (numbers_in c.add_elements.new.seen) c.in_ok-ambiguous.ambiguous
-      (λ k. ap (option_map numbers_of_timing) (nothing-in (path_eq k) c.new-seen.result c.new-seen.ensures.empty)) c.in_ok-ambiguous.ensures)
+    (λ k. ap (option_map numbers_of_timing) (nothing-in (path_eq k) c.new-seen.result c.new-seen.ensures.empty)) c.in_ok-ambiguous.ensures)
