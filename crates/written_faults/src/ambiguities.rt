@@ -1,45 +1,32 @@
 // Entries for the same with different values.
-use written_entries::{edge_of, limits_of};
+ghost use Rattle.std.specs.Prelude.{◌≡◌, ◌<◌, ◌↔◌, ◌∷◌, [], All, IfOk, IsTrue, length, map};
+ghost use Rattle.sg_circuit.specs.PathsSeen.{IsIndexedPath};
+ghost use Rattle.sg_circuit.specs.ChecksSeen.{AreWritten};
+ghost use Rattle.sg_circuit.specs.Closed.{IsClosed};
+ghost use Rattle.sg_circuit.specs.Seen.{AreIndexed, IsIndexed, circuit_seen};
+ghost use Rattle.written_entries.specs.Groups.{AreGroups};
+ghost use Rattle.written_model.specs.Faults.{Disagree};
+ghost use Rattle.written_faults.specs.Classes.{AreClasses};
+ghost use Rattle.sg_circuit.specs.TimingsSeen.{leg_timing_seen, limit_seen, timings_of};
+ghost use Rattle.written_model.specs.Entries.{CheckEntry, PathEntry, check_entries, limit_at, numbers_of, path_entries};
+ghost use Rattle.written_faults.specs.Ambiguities.{IsSame, check_pairs, element_pairs, limit_in, numbers_in, pairs_of_checks, pairs_of_elements, path_pairs};
+ghost use Rattle.written_faults.specs.Reading.{Reads};
+
+use crate::keys::{PartCode, PathCode, event_codes, part_number, parts_of, path_code};
 use indexmap::IndexMap;
-use sdf_tree::Edge;
 use sg_circuit::{
-    CheckConditions, CheckKind, CheckTiming, Element, ElementKind, Event, LegTiming, Parts, Path,
-    PathCondition,
+    CheckConditions, CheckTiming, Element, ElementKind, LegTiming, NetId, Parts, Path,
 };
 use sg_delay::Limit;
 use sg_text::NoMemory;
 use std::alloc::Global;
+use written_entries::{Groups, limits_of};
 
-// The key of a path: input, output, edge and condition, by numbers.
-type PathCode = (u32, u32, u32, usize);
-
-// The key of an event: net, edge and condition; of a part of a check: the part, and its events.
-type EventCode = (u32, u32, usize);
-type PartCode = (u32, EventCode, EventCode);
-
-fn edge_code(edge: Option<sg_logic::Edge>) -> u32 {
-    match edge_of(edge) {
-        None => 0,
-        Some(Edge::Posedge) => 1,
-        Some(_) => 2,
-    }
-}
-
-fn condition_code(classes: &[usize], condition: &PathCondition) -> usize {
-    match condition {
-        PathCondition::Always => 0,
-        PathCondition::IfNone => 1,
-        PathCondition::If { written, .. } => classes[*written] + 2,
-    }
-}
-
-fn path_code(classes: &[usize], output: u32, path: &Path) -> PathCode {
-    (
-        path.input,
-        output,
-        edge_code(path.edge),
-        condition_code(classes, &path.condition),
-    )
+fn are_same_at(delay: u64, limit: Limit, other_delay: u64, other_limit: Limit) -> bool
+    ensures { IsTrue result ↔ IsSame delay (limit_seen limit) other_delay (limit_seen other_limit) }
+{
+    let (limits, others) = (limits_of(delay, limit), limits_of(other_delay, other_limit));
+    delay == other_delay && limits.0 == others.0 && limits.1 == others.1
 }
 
 fn are_same_each(
@@ -47,20 +34,25 @@ fn are_same_each(
     limits: &[Limit; 12],
     other_delays: &[u64; 12],
     other_limits: &[Limit; 12],
-) -> bool {
+) -> bool
+    ensures { IsTrue result ↔ (map numbers_of (timings_of delays.now limits.now) ≡ map numbers_of (timings_of other_delays.now other_limits.now)) }
+{
     for transition in 0..12 {
-        let (delay, other) = (delays[transition], other_delays[transition]);
-        if delay != other {
-            return false;
-        }
-        if limits_of(delay, limits[transition]) != limits_of(other, other_limits[transition]) {
+        if !are_same_at(
+            delays[transition],
+            limits[transition],
+            other_delays[transition],
+            other_limits[transition],
+        ) {
             return false;
         }
     }
     true
 }
 
-fn are_same(timing: &LegTiming, other: &LegTiming) -> bool {
+fn are_same(timing: &LegTiming, other: &LegTiming) -> bool
+    ensures { IsTrue result ↔ (map numbers_of (leg_timing_seen timing.now) ≡ map numbers_of (leg_timing_seen other.now)) }
+{
     are_same_each(
         &timing.delays.at,
         &timing.limits.at,
@@ -70,110 +62,114 @@ fn are_same(timing: &LegTiming, other: &LegTiming) -> bool {
 }
 
 // Whether a path has the key of one before, and other delays or limits.
-fn add_path(
-    seen: &mut IndexMap<PathCode, usize>,
-    timings: &[LegTiming],
+fn add_path<'a>(
+    seen: &mut IndexMap<PathCode, &'a LegTiming>,
     code: PathCode,
-    timing: usize,
-) -> Result<bool, NoMemory> {
-    if let Some(before) = seen.get(&code).copied() {
-        return Ok(before != timing && !are_same(&timings[before], &timings[timing]));
+    timing: &'a LegTiming,
+) -> Result<bool, NoMemory>
+    ensures { IfOk result (Reads ((code, map numbers_of (leg_timing_seen timing.now)) ∷ []) (numbers_in seen.old) (numbers_in seen.new)) }
+{
+    if let Some(before) = seen.get(&code) {
+        return Ok(!are_same(before, timing));
     }
     seen.insert(code, timing)?;
     Ok(false)
 }
 
-fn add_paths(
-    seen: &mut IndexMap<PathCode, usize>,
-    parts: &Parts,
+fn add_paths<'a>(
+    seen: &mut IndexMap<PathCode, &'a LegTiming>,
+    timings: &'a [LegTiming],
     classes: &[usize],
-    output: u32,
+    output: NetId,
     paths: &[Path],
-) -> Result<bool, NoMemory> {
+) -> Result<bool, NoMemory>
+    requires { All (IsIndexedPath (length classes.now) (length timings.now)) paths.now }
+    ensures { IfOk result (Reads (path_pairs timings.now classes.now output paths.now) (numbers_in seen.old) (numbers_in seen.new)) }
+{
     for path in paths {
         let code = path_code(classes, output, path);
-        if add_path(seen, &parts.leg_timings, code, path.timing)? {
+        if add_path(seen, code, &timings[path.timing])? {
             return Ok(true);
         }
     }
     Ok(false)
 }
 
-fn add_element(
-    seen: &mut IndexMap<PathCode, usize>,
-    parts: &Parts,
+fn add_element<'a>(
+    seen: &mut IndexMap<PathCode, &'a LegTiming>,
+    parts: &'a Parts,
     classes: &[usize],
     element: &Element,
-) -> Result<bool, NoMemory> {
+) -> Result<bool, NoMemory>
+    requires indexed { IsIndexed parts.now element.now.kind }
+    requires classes { length classes.now ≡ length parts.now.conditions.items }
+    ensures { IfOk result (Reads (element_pairs parts.now classes.now element.now) (numbers_in seen.old) (numbers_in seen.new)) }
+{
     match element.kind {
-        ElementKind::Path { paths, .. } => {
-            add_paths(seen, parts, classes, element.output, parts.paths_in(paths))
-        }
+        ElementKind::Path { paths, .. } => add_paths(
+            seen,
+            &parts.leg_timings,
+            classes,
+            element.output,
+            parts.paths_in(paths),
+        ),
         _ => Ok(false),
     }
 }
 
-/// Whether two paths of these elements have one key, and different delays or limits.
-pub fn are_paths_ambiguous(
-    alloc: Global,
-    parts: &Parts,
+fn add_elements<'a>(
+    seen: &mut IndexMap<PathCode, &'a LegTiming>,
+    parts: &'a Parts,
     classes: &[usize],
-    elements: &[u32],
-) -> Result<bool, NoMemory> {
-    let mut seen = IndexMap::new(alloc);
-    for number in elements {
+    numbers: &[u32],
+) -> Result<bool, NoMemory>
+    requires indexed { AreIndexed parts.now }
+    requires classes { length classes.now ≡ length parts.now.conditions.items }
+    requires within { All (λ n. n < length parts.now.elements.items) numbers.now }
+    ensures { IfOk result (Reads (pairs_of_elements parts.now classes.now numbers.now) (numbers_in seen.old) (numbers_in seen.new)) }
+{
+    for number in numbers {
         let element = &parts.elements[*number as usize];
-        if add_element(&mut seen, parts, classes, element)? {
+        if add_element(seen, parts, classes, element)? {
             return Ok(true);
         }
     }
     Ok(false)
 }
 
-fn written_code(classes: &[usize], written: Option<usize>) -> usize {
-    match written {
-        None => 0,
-        Some(place) => classes[place] + 1,
-    }
-}
-
-fn event_code(classes: &[usize], event: &Event, written: Option<usize>) -> EventCode {
-    (
-        event.net,
-        edge_code(event.edge),
-        written_code(classes, written),
-    )
-}
-
-// Without a data event the reference stands for it.
-fn datum_code(classes: &[usize], timing: &CheckTiming, written: CheckConditions) -> EventCode {
-    match &timing.datum {
-        Some(datum) => event_code(classes, datum, written.datum),
-        None => event_code(classes, &timing.refer, written.refer),
-    }
-}
-
-// The parts by numbers, which no two of them share.
-fn first_part(kind: CheckKind) -> u32 {
-    match kind {
-        CheckKind::Setup | CheckKind::Setuphold => 0,
-        CheckKind::Hold => 1,
-        CheckKind::Recovery | CheckKind::Recrem => 2,
-        CheckKind::Removal => 3,
-        CheckKind::Skew => 4,
-        CheckKind::Width => 5,
-        CheckKind::Period => 6,
-    }
+/// Whether two specify paths of a scope have one key, and different delays or limits. Takes time and memory in proportion to them.
+pub fn are_paths_ambiguous(
+    alloc: Global,
+    parts: &Parts,
+    groups: &Groups,
+    classes: &[usize],
+    scope: u32,
+) -> Result<bool, NoMemory>
+    requires closed { IsClosed (circuit_seen parts.now) }
+    requires indexed { AreIndexed parts.now }
+    requires groups { AreGroups parts.now groups.now }
+    requires scope { scope < length parts.now.scopes.items }
+    requires classes { AreClasses parts.now.conditions.items classes.now }
+    ensures { IfOk result (λ b. IsTrue b ↔ Disagree (λ (e : PathEntry). e.key) (λ (e : PathEntry). e.numbers) (path_entries (circuit_seen parts.now) scope)) }
+{
+    let mut seen = IndexMap::new(alloc);
+    let ambiguous = add_elements(&mut seen, parts, classes, groups.elements.of(scope))?;
+    Ok(ambiguous)
 }
 
 // Whether a part has the key of one before, and another limit.
 fn add_part(
     seen: &mut IndexMap<PartCode, i64>,
     code: PartCode,
-    limit: i64,
-) -> Result<bool, NoMemory> {
-    if let Some(before) = seen.get(&code).copied() {
-        return Ok(before != limit);
+    timing: &CheckTiming,
+    place: usize,
+) -> Result<bool, NoMemory>
+    requires { place < 2 }
+    ensures { IfOk result (Reads ((code, limit_at timing.now.limits place) ∷ []) (limit_in seen.old) (limit_in seen.new)) }
+{
+    let limit = timing.limits[place];
+    if let Some(before) = seen.get(&code) {
+        return Ok(*before != limit);
     }
     seen.insert(code, limit)?;
     Ok(false)
@@ -184,35 +180,59 @@ fn add_check(
     classes: &[usize],
     timing: &CheckTiming,
     written: CheckConditions,
-) -> Result<bool, NoMemory> {
-    let refer = event_code(classes, &timing.refer, written.refer);
-    let datum = datum_code(classes, timing, written);
-    let first = first_part(timing.kind);
-    if add_part(seen, (first, refer, datum), timing.limits[0])? {
+) -> Result<bool, NoMemory>
+    requires { AreWritten (length classes.now) written }
+    ensures { IfOk result (Reads (check_pairs classes.now timing.now written) (limit_in seen.old) (limit_in seen.new)) }
+{
+    let (refer, datum) = event_codes(classes, timing, written);
+    let (first, second) = parts_of(timing.kind);
+    if add_part(seen, (part_number(first), refer, datum), timing, 0)? {
         return Ok(true);
     }
-    match timing.kind {
-        CheckKind::Setuphold | CheckKind::Recrem => {
-            add_part(seen, (first + 1, refer, datum), timing.limits[1])
-        }
-        _ => Ok(false),
+    match second {
+        Some(second) => add_part(seen, (part_number(second), refer, datum), timing, 1),
+        None => Ok(false),
     }
 }
 
-/// Whether two parts of these timing checks have one key, and different limits.
-pub fn are_checks_ambiguous(
-    alloc: Global,
+fn add_checks(
+    seen: &mut IndexMap<PartCode, i64>,
     parts: &Parts,
     classes: &[usize],
-    checks: &[u32],
-) -> Result<bool, NoMemory> {
-    let mut seen = IndexMap::new(alloc);
-    for number in checks {
+    numbers: &[u32],
+) -> Result<bool, NoMemory>
+    requires indexed { AreIndexed parts.now }
+    requires classes { length classes.now ≡ length parts.now.conditions.items }
+    requires timings { All (λ n. n < length parts.now.check_timings.items) numbers.now }
+    requires conditions { All (λ n. n < length parts.now.check_conditions.items) numbers.now }
+    ensures { IfOk result (Reads (pairs_of_checks parts.now classes.now numbers.now) (limit_in seen.old) (limit_in seen.new)) }
+{
+    for number in numbers {
         let number = *number as usize;
         let timing = &parts.check_timings[number];
-        if add_check(&mut seen, classes, timing, parts.check_conditions[number])? {
+        if add_check(seen, classes, timing, parts.check_conditions[number])? {
             return Ok(true);
         }
     }
     Ok(false)
+}
+
+/// Whether two parts of timing checks of a scope have one key, and different limits. Takes time and memory in proportion to them.
+pub fn are_checks_ambiguous(
+    alloc: Global,
+    parts: &Parts,
+    groups: &Groups,
+    classes: &[usize],
+    scope: u32,
+) -> Result<bool, NoMemory>
+    requires closed { IsClosed (circuit_seen parts.now) }
+    requires indexed { AreIndexed parts.now }
+    requires groups { AreGroups parts.now groups.now }
+    requires scope { scope < length parts.now.scopes.items }
+    requires classes { AreClasses parts.now.conditions.items classes.now }
+    ensures { IfOk result (λ b. IsTrue b ↔ Disagree (λ (e : CheckEntry). e.key) (λ (e : CheckEntry). e.limit) (check_entries (circuit_seen parts.now) scope)) }
+{
+    let mut seen = IndexMap::new(alloc);
+    let ambiguous = add_checks(&mut seen, parts, classes, groups.checks.of(scope))?;
+    Ok(ambiguous)
 }

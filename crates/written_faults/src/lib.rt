@@ -3,7 +3,9 @@
 
 mod ambiguities;
 mod classes;
+mod codes;
 mod depths;
+mod keys;
 mod precisions;
 mod refusing;
 mod sizes;

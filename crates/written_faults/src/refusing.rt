@@ -1,50 +1,24 @@
 // The faults of a scope.
-ghost use Rattle.std.specs.Prelude.{IfErr, OnOk};
+ghost use Rattle.std.specs.Prelude.{◌≡◌, ◌<◌, ◌^◌, false, nat_le, IfErr, IfOk, OnOk, length};
+ghost use Rattle.std.specs.List.{list_any};
 ghost use Rattle.sg_circuit.specs.Closed.{IsClosed};
 ghost use Rattle.sg_circuit.specs.Seen.{AreIndexed, circuit_seen};
 ghost use Rattle.written_entries.specs.Groups.{AreGroups};
-ghost use Rattle.written_model.specs.Faults.{AreFaultless, FaultStands};
+ghost use Rattle.written_model.specs.Faults.{AreFaultless, FaultStands, IsAmbiguous, is_off_grid, sizes};
+ghost use Rattle.written_faults.specs.Classes.{AreClasses};
+ghost use Rattle.written_faults.specs.Refusing.{IsFaultlessScope, IsKnown};
 
 use crate::ambiguities::{are_checks_ambiguous, are_paths_ambiguous};
 use crate::classes::classes_of;
 use crate::depths::{deep_conditions, has_deep};
-use crate::sizes::sizes_of;
+use crate::precisions::ticks_of;
+use crate::sizes::{SizeFault, has_size};
 use crate::weights::has_heavy;
 use late_limits::signal_counts;
 use sg_circuit::Parts;
+use std::alloc::Global;
 use written_entries::Groups;
 use written_model::WriteError;
-use sg_time::Unit;
-use std::alloc::Global;
-
-/// A reader takes 18 digits.
-const LONGEST: u64 = 1_000_000_000_000_000_000;
-
-const POWERS: [u64; 18] = [
-    1,
-    10,
-    100,
-    1_000,
-    10_000,
-    100_000,
-    1_000_000,
-    10_000_000,
-    100_000_000,
-    1_000_000_000,
-    10_000_000_000,
-    100_000_000_000,
-    1_000_000_000_000,
-    10_000_000_000_000,
-    100_000_000_000_000,
-    1_000_000_000_000_000,
-    10_000_000_000_000_000,
-    100_000_000_000_000_000,
-];
-
-// So many ticks a precision is.
-fn ticks_of(precision: Unit, tick: Unit) -> u64 {
-    POWERS[(precision.power - tick.power) as usize]
-}
 
 /// What is known of all conditions and scopes.
 #[derive(Drop)]
@@ -54,27 +28,35 @@ struct Known {
     signals: Vec<u32>,
 }
 
-fn known_of(alloc: Global, parts: &Parts) -> Result<Known, WriteError> {
+fn known_of(alloc: Global, parts: &Parts) -> Result<Known, WriteError>
+    requires { IsClosed (circuit_seen parts.now) }
+    ensures known { IfOk result (IsKnown parts.now) }
+    ensures fault { IfErr result (FaultStands (circuit_seen parts.now)) }
+{
+    let classes = classes_of(alloc, &parts.conditions)?;
+    let deep = deep_conditions(alloc, &parts.conditions)?;
+    let signals = signal_counts(alloc, parts)?;
     Ok(Known {
-        classes: classes_of(alloc, &parts.conditions)?,
-        deep: deep_conditions(alloc, &parts.conditions)?,
-        signals: signal_counts(alloc, parts)?,
+        classes,
+        deep,
+        signals,
     })
 }
 
-fn refuse_sizes(
-    alloc: Global,
-    parts: &Parts,
-    elements: &[u32],
-    checks: &[u32],
-    scope: u32,
-) -> Result<(), WriteError> {
-    let sizes = sizes_of(alloc, parts, elements, checks)?;
+fn refuse_sizes(parts: &Parts, groups: &Groups, scope: u32) -> Result<(), WriteError>
+    requires closed { IsClosed (circuit_seen parts.now) }
+    requires indexed { AreIndexed parts.now }
+    requires groups { AreGroups parts.now groups.now }
+    requires scope { scope < length parts.now.scopes.items }
+    ensures on_grid { OnOk result (is_off_grid (circuit_seen parts.now) scope ≡ false) }
+    ensures short { OnOk result (list_any (λ n. nat_le (10 ^ 18) n) (sizes (circuit_seen parts.now) scope) ≡ false) }
+    ensures fault { IfErr result (FaultStands (circuit_seen parts.now)) }
+{
     let precision = ticks_of(parts.scopes[scope as usize].scale.precision, parts.tick);
-    if sizes.iter().any(|size| *size % precision != 0) {
+    if has_size(parts, groups, scope, SizeFault::OffGrid { precision }) {
         return Err(WriteError::OffGrid { scope });
     }
-    if sizes.iter().any(|size| *size >= LONGEST) {
+    if has_size(parts, groups, scope, SizeFault::TooLong) {
         return Err(WriteError::TooLong { scope });
     }
     Ok(())
@@ -83,15 +65,22 @@ fn refuse_sizes(
 fn refuse_keys(
     alloc: Global,
     parts: &Parts,
+    groups: &Groups,
     classes: &[usize],
-    elements: &[u32],
-    checks: &[u32],
     scope: u32,
-) -> Result<(), WriteError> {
-    if are_paths_ambiguous(alloc, parts, classes, elements)? {
+) -> Result<(), WriteError>
+    requires closed { IsClosed (circuit_seen parts.now) }
+    requires indexed { AreIndexed parts.now }
+    requires groups { AreGroups parts.now groups.now }
+    requires scope { scope < length parts.now.scopes.items }
+    requires classes { AreClasses parts.now.conditions.items classes.now }
+    ensures unambiguous { OnOk result (IsAmbiguous (circuit_seen parts.now) scope → ⊥) }
+    ensures fault { IfErr result (FaultStands (circuit_seen parts.now)) }
+{
+    if are_paths_ambiguous(alloc, parts, groups, classes, scope)? {
         return Err(WriteError::Ambiguous { scope });
     }
-    if are_checks_ambiguous(alloc, parts, classes, checks)? {
+    if are_checks_ambiguous(alloc, parts, groups, classes, scope)? {
         return Err(WriteError::Ambiguous { scope });
     }
     Ok(())
@@ -100,19 +89,27 @@ fn refuse_keys(
 fn refuse_scope(
     alloc: Global,
     parts: &Parts,
+    groups: &Groups,
     known: &Known,
-    elements: &[u32],
-    checks: &[u32],
     scope: u32,
-) -> Result<(), WriteError> {
-    refuse_sizes(alloc, parts, elements, checks, scope)?;
-    if has_deep(&known.deep, parts, elements, checks) {
+) -> Result<(), WriteError>
+    requires closed { IsClosed (circuit_seen parts.now) }
+    requires indexed { AreIndexed parts.now }
+    requires groups { AreGroups parts.now groups.now }
+    requires known { IsKnown parts.now known.now }
+    requires scope { scope < length parts.now.scopes.items }
+    ensures faultless { OnOk result (IsFaultlessScope (circuit_seen parts.now) scope) }
+    ensures fault { IfErr result (FaultStands (circuit_seen parts.now)) }
+{
+    refuse_sizes(parts, groups, scope)?;
+    if has_deep(&known.deep, parts, groups, scope) {
         return Err(WriteError::TooDeep { scope });
     }
-    if has_heavy(&known.classes, parts, checks, known.signals[scope as usize]) {
+    let signals = known.signals[scope as usize];
+    if has_heavy(&known.classes, parts, groups, signals, scope) {
         return Err(WriteError::TooLong { scope });
     }
-    refuse_keys(alloc, parts, &known.classes, elements, checks, scope)
+    refuse_keys(alloc, parts, groups, &known.classes, scope)
 }
 
 /// Refuses a circuit that has a fault in a scope.
