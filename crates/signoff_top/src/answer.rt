@@ -49,7 +49,7 @@ pub fn top<S: Shelf, K: Sink>(
 
     // Whatever comes, the files are as before, but for the one that is made, which has the first bytes of its text.
     ensures kept { BothTell (S.files shelf.old) (S.files shelf.new) (KeepsByAnswer (map (λ w. string_bytes w) words.now)) }
-    ensures others { BothTell (S.files shelf.old) (S.files shelf.new) (KeepsByWords (made_in (asked_of (map (λ w. string_bytes w) words.now))) }
+    ensures others { BothTell (S.files shelf.old) (S.files shelf.new) (KeepsByWords (made_in (asked_of (map (λ w. string_bytes w) words.now)))) }
 
     // No fault of the shelf is passed over, and none of the sink at the end of a run.
     ensures counted { result ≢ Status.Fault → S.fault_count shelf.new ≡ S.fault_count shelf.old }
