@@ -14,7 +14,7 @@ use Rattle.written_faults.specs.Classes.{AreClasses}
 use Rattle.written_faults.specs.Classing.{AreNumbered, class_codes}
 use Rattle.written_faults.specs.Codes.{tokens_code}
 use Rattle.written_faults.proofs.CodeLaws.{same_tokens}
-use Rattle.written_faults.proofs.ReadingLaws.{get-left}
+use Rattle.written_faults.proofs.PlaceLaws.{get-left}
 
 -- ---- keys that are kept once
 

@@ -1,13 +1,16 @@
 -- The modules of this folder.
 pub mod AlikeLaws
 pub mod AnyLaws
+pub mod CheckEntryLaws
 pub mod ClassLaws
 pub mod CodeLaws
 pub mod DepthLaws
-pub mod EntryLaws
+pub mod DisagreeLaws
 pub mod GatherLaws
 pub mod KeyLaws
 pub mod PairLaws
+pub mod PathEntryLaws
+pub mod PlaceLaws
 pub mod ReadingLaws
 pub mod RefusingLaws
 pub mod SameLaws

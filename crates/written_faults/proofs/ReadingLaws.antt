@@ -1,44 +1,14 @@
 -- Pairs read into a look-up: two differ exactly where a later one differs from the first with its key.
-use Rattle.std.proofs.Common.{◌≡◌, refl, sym, ◌∙◌, ap, subst, ℕ, zero, suc, ◌+◌, ◌<◌, ◌≤◌, Bool, true, false, List, [], ◌∷◌, ◌++◌, length, take, drop, Option, Some, None, slice_get, slice_index_or, map, inl, inr, arith, append-nil, append_assoc}
+use Rattle.std.proofs.Common.{◌≡◌, refl, sym, ◌∙◌, ap, subst, ℕ, zero, suc, ◌+◌, ◌<◌, ◌≤◌, Bool, true, false, List, [], ◌∷◌, ◌++◌, length, take, drop, Option, Some, None, slice_get, slice_index_or, inl, inr, arith, append-nil, append_assoc}
 use Rattle.std.specs.Prelude.{◌≢◌, ◌⊎◌, ◌↔◌, IsTrue, cond, flat_map, not}
 use Rattle.std.specs.Option.{option_map}
 use Rattle.std.specs.Map.{lookup}
 use Rattle.std.proofs.lemmas.Grind.{flat_map-append}
 use Rattle.std.proofs.lemmas.List.{take-append-drop, take_all}
 use Rattle.indexmap.specs.IndexMap.{IndexMap, IsEmpty, get_by}
-use Rattle.written_model.specs.Faults.{Disagree}
 use Rattle.written_faults.specs.Reading.{Differ, AreRead, ComesTo, Reads}
-
--- ---- places
-
-pub get-left : {A : Type 0} (xs ys : List A) (i : ℕ) (x : A) → slice_get xs i ≡ Some x → slice_get (xs ++ ys) i ≡ Some x
-get-left [] ys i x e = absurd cc
-get-left (y ∷ xs) ys zero x e = e
-get-left (y ∷ xs) ys (suc i) x e = get-left xs ys i x e
-
-pub get-last : {A : Type 0} (xs : List A) (x : A) → slice_get (xs ++ x ∷ []) (length xs) ≡ Some x
-get-last [] x = refl
-get-last (y ∷ xs) x = get-last xs x
-
-pub get-either : {A : Type 0} (xs : List A) (y : A) (i : ℕ) (x : A) → slice_get (xs ++ y ∷ []) i ≡ Some x → (slice_get xs i ≡ Some x) ⊎ (y ≡ x)
-get-either [] y zero x e = inr cc
-get-either [] y (suc i) x e = absurd cc
-get-either (z ∷ xs) y zero x e = inl e
-get-either (z ∷ xs) y (suc i) x e = get-either xs y i x e
-
--- ---- lists that disagree
-
-pub disagree-more : {A K V : Type 0} (key : A → K) (value : A → V) (xs ys : List A) → Disagree key value xs → Disagree key value (xs ++ ys)
-disagree-more key value xs ys d = record {
-  one = d.one;
-  other = d.other;
-  place = d.place;
-  other_place = d.other_place;
-  stands = get-left xs ys d.place d.one d.stands;
-  other_stands = get-left xs ys d.other_place d.other d.other_stands;
-  same = d.same;
-  differ = d.differ;
-}
+use Rattle.written_faults.proofs.PlaceLaws.{get-left, get-last, get-either}
+use Rattle.written_faults.proofs.DisagreeLaws.{disagree-more}
 
 -- ---- one pair more
 
@@ -167,58 +137,3 @@ module _ {A K V : Type 0} (pairs : A → List (K × V)) (xs : List A) (i : ℕ) 
 
 pub ends : {A K V : Type 0} (pairs : A → List (K × V)) (xs : List A) (i : ℕ) (old new : K → Option V) → length xs ≤ i → Reads (flat_map pairs (take i xs)) old new false → Reads (flat_map pairs xs) old new false
 ends pairs xs i old new l all = subst (λ ys. Reads (flat_map pairs ys) old new false) (take_all i xs l) all
-
--- ---- the same entries under other keys
-
--- keys and values are told apart alike, of items that are good
-pub disagree-alike : {A K L V W : Type 0} (Good : A → Type 0) (key : A → K) (value : A → V) (code : A → L) (number : A → W) (xs : List A) → ((i : ℕ) (x : A) → slice_get xs i ≡ Some x → Good x)
-    → ((x y : A) → Good x → Good y → key x ≡ key y → code x ≡ code y) → ((x y : A) → Good x → Good y → number x ≡ number y → value x ≡ value y) → Disagree key value xs → Disagree code number xs
-disagree-alike Good key value code number xs good keys values d =
-    let one = good d.place d.one d.stands in
-    let other = good d.other_place d.other d.other_stands in record {
-      one = d.one;
-      other = d.other;
-      place = d.place;
-      other_place = d.other_place;
-      stands = d.stands;
-      other_stands = d.other_stands;
-      same = keys d.one d.other one other d.same;
-      differ = λ e. d.differ (values d.one d.other one other e);
-    }
-
--- items that were made of others
-map-get : {A B : Type 0} (f : A → B) (xs : List A) (i : ℕ) (y : B) → slice_get (map f xs) i ≡ Some y → (x : A) × (slice_get xs i ≡ Some x) × (f x ≡ y)
-map-get f [] i y e = absurd cc
-map-get f (x ∷ xs) zero y e = (x, refl, cc)
-map-get f (x ∷ xs) (suc i) y e = map-get f xs i y e
-
-get-map : {A B : Type 0} (f : A → B) (xs : List A) (i : ℕ) (x : A) → slice_get xs i ≡ Some x → slice_get (map f xs) i ≡ Some (f x)
-get-map f [] i x e = absurd cc
-get-map f (y ∷ xs) zero x e = let same : y ≡ x = cc in ap (λ z. Some (f z)) same
-get-map f (y ∷ xs) (suc i) x e = get-map f xs i x e
-
-pub disagree-made : {A B K V : Type 0} (f : A → B) (key : B → K) (value : B → V) (xs : List A) → Disagree (λ x. key (f x)) (λ x. value (f x)) xs → Disagree key value (map f xs)
-disagree-made f key value xs d = record {
-  one = f d.one;
-  other = f d.other;
-  place = d.place;
-  other_place = d.other_place;
-  stands = get-map f xs d.place d.one d.stands;
-  other_stands = get-map f xs d.other_place d.other d.other_stands;
-  same = d.same;
-  differ = d.differ;
-}
-
-pub disagree-before : {A B K V : Type 0} (f : A → B) (key : B → K) (value : B → V) (xs : List A) → Disagree key value (map f xs) → Disagree (λ x. key (f x)) (λ x. value (f x)) xs
-disagree-before f key value xs d =
-    let one = map-get f xs d.place d.one d.stands in
-    let other = map-get f xs d.other_place d.other d.other_stands in record {
-      one = one.0;
-      other = other.0;
-      place = d.place;
-      other_place = d.other_place;
-      stands = one.1;
-      other_stands = other.1;
-      same = ap key one.2 ∙ (d.same ∙ sym (ap key other.2));
-      differ = λ e. d.differ (sym (ap value one.2) ∙ (e ∙ ap value other.2));
-    }

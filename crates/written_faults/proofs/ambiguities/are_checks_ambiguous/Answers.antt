@@ -7,7 +7,7 @@ use Rattle.sg_circuit.specs.FanOut.{readers_at}
 use Rattle.written_entries.proofs.NumberLaws.{checks_of_scope}
 use Rattle.written_faults.specs.Ambiguities.{limit_in, pairs_of_checks}
 use Rattle.written_faults.specs.Keys.{part_eq}
-use Rattle.written_faults.proofs.EntryLaws.{checks_disagree}
+use Rattle.written_faults.proofs.CheckEntryLaws.{checks_disagree}
 use Rattle.written_faults.proofs.ReadingLaws.{all-read, nothing-in}
 use Rattle.written_faults.proofs.ambiguities.are_checks_ambiguous.Goals as goal
 

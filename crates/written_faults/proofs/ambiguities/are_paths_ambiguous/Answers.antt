@@ -5,7 +5,7 @@ use Rattle.std.specs.Prelude.{All}
 use Rattle.written_entries.proofs.NumberLaws.{elements_of_scope}
 use Rattle.written_faults.specs.Ambiguities.{numbers_in, numbers_of_timing, pairs_of_elements}
 use Rattle.written_faults.specs.Keys.{path_eq}
-use Rattle.written_faults.proofs.EntryLaws.{paths_disagree}
+use Rattle.written_faults.proofs.PathEntryLaws.{paths_disagree}
 use Rattle.written_faults.proofs.ReadingLaws.{all-read, nothing-in}
 use Rattle.written_faults.proofs.ambiguities.are_paths_ambiguous.Goals as goal
 
