@@ -62,6 +62,7 @@ design_netlists netlists arguments d e = by (read_or default_corner corner_of (v
   where
     made : Corner → Design
     made k = record { netlists = netlists; sdf = value_of (codes "sdf") arguments; top = value_of (codes "top") arguments; corner = k }
+
     by : (o : Option Corner) → option_and_then (λ k. Some (made k)) o ≡ Some d → d.netlists ≡ netlists
     by None e = cc
     by (Some k) e = ap (λ (x : Design). x.netlists) (sym (same_Some (made k) d e))

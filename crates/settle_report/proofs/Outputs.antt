@@ -26,8 +26,10 @@ outputs_seen f (v ∷ vs) = by (is_output v.port) (outputs_seen f vs)
   where
     rest : List code_variable.Variable
     rest = filter (λ (w : code_variable.Variable). is_output w.port) vs
+
     made : code_variable.Variable → List ℕ
     made w = flat_map f w.bits.items
+
     by : (b : Bool) → flat_map made rest ≡ flat_map f (flat_map bits (seen vs)) → flat_map made (cond b (v ∷ rest) rest) ≡ flat_map f (flat_map bits (cond b (variable_seen v ∷ seen vs) (seen vs)))
     by true e = ap (λ t. made v ++ t) e ∙ sym (flat_map-append f v.bits.items (flat_map bits (seen vs)))
     by false e = e

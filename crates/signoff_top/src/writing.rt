@@ -118,11 +118,7 @@ pub fn written_report(alloc: Global, annotated: &Annotated) -> Result<Vec<u8>, A
 {
     let mut text = Vec::new(alloc);
     push_unmatched(&mut text, &annotated.sdf, &annotated.unmatched)?;
-    push_count(
-        &mut text,
-        "unannotated ",
-        annotated.unmatched.len() as u64,
-    )?;
+    push_count(&mut text, "unannotated ", annotated.unmatched.len() as u64)?;
     Ok(text)
 }
 
