@@ -51,7 +51,7 @@ pub record IsRunFit (c : Command) : Type 0 where
   pub rounds : 1 ≤ c.rounds
   pub wheel : (1 ≤ c.wheel) × (c.wheel ≤ 1048576)
 
-pub IsFit : Asked → Type 0
+abbrev pub IsFit : Asked → Type 0
 IsFit (a_run c) = IsRunFit c
 IsFit (a_writing w) = 1 ≤ length w.design.netlists
 IsFit (the_bounds d) = 1 ≤ length d.netlists
@@ -104,7 +104,7 @@ mapped f None b e = cc
 mapped f (Some a) b e = (a, refl, same_Some (f a) b e)
 
 with_fit : (subcommand : Subcommand) (netlists : List (List ℕ)) (arguments : List Argument) (asked : Asked) → 1 ≤ length netlists → asked_with subcommand netlists arguments ≡ Some asked → IsFit asked
-unfolding IsFit IsWithin
+unfolding IsWithin
 with_fit Run netlists arguments asked some e =
     let found = mapped a_run (command_with netlists arguments) asked e in
     let within = run_within netlists arguments found.0 found.1 in
@@ -134,7 +134,6 @@ by_fit (first ∷ words) asked e =
     from_fit s.0 found.0 asked found.1
 
 or_fit : (o : Option Asked) (q : Option ℕ) (asked : Asked) → ((a : Asked) → o ≡ Some a → IsFit a) → option_or o (option_map a_case q) ≡ Some asked → IsFit asked
-unfolding IsFit
 or_fit (Some a) q asked h e = h asked e
 or_fit None (Some n) asked h e = subst IsFit (same_Some (a_case n) asked e) tt
 or_fit None None asked h e = cc

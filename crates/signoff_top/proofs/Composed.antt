@@ -8,7 +8,7 @@ use Rattle.sg_circuit.specs.Circuit.{Circuit}
 use Rattle.run_words.specs.Words.{Asked, a_run, a_writing, the_bounds, a_case, Command, Design, Writing, asked_of, design_names, design_of, file_of, names_in}
 use Rattle.signoff_top.specs.Phases.{Annotated, Refusal, Then, stops, goes_on, CircuitOutcome, DesignOutcome, FileOutcome}
 use Rattle.signoff_top.specs.Promises.{FaultAt, at_netlist, at_sdf, at_stimulus, NamesFaultAt}
-use Rattle.signoff_top.specs.Stops.{FailsAtGiven, FailsAtOne, Gives, IfFailed, IfOutcome, refusal_seen}
+use Rattle.signoff_top.specs.Stops.{FailsAtGiven, FailsAtOne, Gives, IfFailed, IfOutcome, NeverFails, refusal_seen}
 use Rattle.signoff_top.specs.declared.stop.Stop as code_stop
 use Rattle.signoff_top.specs.declared.stop.Stop.TheVariants as stop
 use Rattle.signoff_top.proofs.Putting.{both_same}
@@ -54,6 +54,12 @@ pub failed_again : (X Y : Type 0) (P Q : Type 0) (s : code_stop.Stop) → (P →
 failed_again X Y P Q (stop.Refused r) f h = tt
 failed_again X Y P Q stop.Failed f h = f h
 failed_again X Y P Q stop.NoMemory f h = tt
+
+-- what calls nothing outside hasn't failed
+pub unfailed : (X Y : Type 0) (P : Type 0) (s : code_stop.Stop) → NeverFails {X = X} (Err s) → IfFailed {X = Y} P (Err s)
+unfailed X Y P (stop.Refused r) h = tt
+unfailed X Y P stop.Failed h = absurd h
+unfailed X Y P stop.NoMemory h = tt
 
 -- the files of a design are among those of what is asked
 designed : (asked : Asked) (d : Design) (name : List ℕ) → design_of asked ≡ Some d → Contains (design_names d) name → Contains (names_in (Some asked)) name

@@ -58,3 +58,4 @@ spares (refusal.Netlist n l k) name line kind e = tt
 spares (refusal.Sdf n l f) name line kind e = tt
 spares (refusal.Stimulus n l k) name line kind e = tt
 spares (refusal.Wave n l k) name line kind e = tt
+spares (refusal.Unwritten k p) name line kind e = tt

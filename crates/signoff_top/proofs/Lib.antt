@@ -12,3 +12,4 @@ pub mod OneAnswer
 pub mod ProgramWords
 pub mod Promised
 pub mod Examples
+pub mod Found

@@ -10,7 +10,6 @@ use Rattle.run_words.proofs.Laws.{IsFit, asked-fit}
 use Rattle.signoff_top.specs.Stops.{IsReady}
 
 fit_ready : (x : code_asked.Asked) → IsFit (asked_seen x) → IsReady x
-unfolding IsFit
 fit_ready (asked.Run c) h =
     let some : 1 ≤ length (map (λ n. n.now) c.design.netlists.items) = h.netlists in
     ((h.rounds, h.wheel.0, h.wheel.1), omega (arith, some, length-map c.design.netlists.items (λ n. n.now)))

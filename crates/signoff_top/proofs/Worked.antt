@@ -35,7 +35,7 @@ asked_answers : (ws : List (List ℕ)) (asked : Asked) (files : List File) (a : 
 asked_answers ws asked files a e h = subst (λ q. IsAnswerTo q files a) (sym e) h
 
 -- a right answer, where the shelf tells
-pub Answers : List (List ℕ) → Answer → Option (List File) → Type 0
+abbrev pub Answers : List (List ℕ) → Answer → Option (List File) → Type 0
 Answers ws answer old = (files : List File) → old ≡ Some files → IsAnswer ws files answer
 
 -- a fact of what follows it, over what the shelf told before

@@ -23,6 +23,11 @@ returns-in_err-found-clause-left g c =
     let p = err_from_is_err_and c.from_residual-in_err-found.result c.from_residual-in_err-found.ensures.1 in
     λ ws e. rw (p.1, p.2) (want_untouched ws _ _ c.in_ok-annotated.ensures.held)
 
+pub returns-in_err-found-clause-named : goal.returns-in_err-found-clause-named
+returns-in_err-found-clause-named g c =
+    let p = err_from_is_err_and c.from_residual-in_err-found.result c.from_residual-in_err-found.ensures.1 in
+    λ ws e. rw (p.1, p.2) tt
+
 pub returns-clause-left : goal.returns-clause-left
 returns-clause-left g c = λ ws e.
     bounds_leave ws (design_seen c.args.design.now) c.in_ok-annotated.annotated c.in_ok-found.found _ _ e c.in_ok-annotated.ensures.gives c.in_ok-annotated.ensures.held c.in_ok-found.ensures

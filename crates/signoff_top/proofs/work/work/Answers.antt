@@ -50,3 +50,6 @@ pub returns-in-Case-clause-left : goal.returns-in-Case-clause-left
 returns-in-Case-clause-left g c =
     let ws = map (λ w. string_bytes w) c.args.words.now in
     both_same (WorkLeaves ws c.run_case.result) _ _ refl (λ files _. c.run_case.ensures.left ws files (asked_is ws c.in_ok-command.field-0 (Case c.in-Case.stages) c.in_ok-command.ensures.words c.in-Case.is))
+
+pub returns-in-Case-clause-words : goal.returns-in-Case-clause-words
+returns-in-Case-clause-words g c = words_spared Done (map (λ w. string_bytes w) c.args.words.now) c.in_ok-command.field-0 c.run_case.result c.in_ok-command.ensures.words c.run_case.ensures.words
