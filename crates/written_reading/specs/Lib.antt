@@ -1,0 +1,4 @@
+-- The modules of this folder, in reading order.
+pub mod Placeless
+pub mod Named
+pub mod ReadBack
