@@ -2,3 +2,5 @@
 pub mod Placeless
 pub mod Named
 pub mod ReadBack
+pub mod Meanings
+pub mod Pieces
