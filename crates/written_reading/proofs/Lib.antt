@@ -1,1 +1,5 @@
 -- The modules of this folder.
+pub mod ByteClasses
+pub mod NumberTexts
+pub mod Letters
+pub mod SoundPieces
