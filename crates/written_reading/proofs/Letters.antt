@@ -160,7 +160,7 @@ first_safe b g = elim (cases_Bool (is_ascii_digit b)) [
   | inr n ↦ ap is_safe (first_other b n) ∙ letter_safe b g
 ]
 
-abbrev AreGood : List ℕ → Type 0
+abbrev pub AreGood : List ℕ → Type 0
 AreGood bs = AllByRecursion (λ b. is_good (class_of b) ≡ true) bs
 
 letters_safe : (bs : List ℕ) → AreGood bs → list_all is_safe (map letter bs) ≡ true

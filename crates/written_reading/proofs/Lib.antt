@@ -3,3 +3,5 @@ pub mod ByteClasses
 pub mod NumberTexts
 pub mod Letters
 pub mod SoundPieces
+pub mod Writable
+pub mod SoundEntries

@@ -70,7 +70,7 @@ sound_append after (p ∷ ps) qs h k =
     let e : spellings ps ++ (spellings qs ++ after) ≡ spellings (ps ++ qs) ++ after = sym (append_assoc (spellings ps) (spellings qs) after) ∙ ap (λ xs. xs ++ after) (sym (spellings-append ps qs)) in
     (h.0, subst (λ xs. MayPrecede p xs) e h.1, sound_append after ps qs h.2 k)
 
-abbrev is_keyword : List ℕ → Bool
+abbrev pub is_keyword : List ℕ → Bool
 is_keyword [] = false
 is_keyword (b ∷ bs) = list_all is_safe (plain_letters (b ∷ bs))
 
