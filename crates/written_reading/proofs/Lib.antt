@@ -5,3 +5,4 @@ pub mod Letters
 pub mod SoundPieces
 pub mod Writable
 pub mod SoundEntries
+pub mod SoundFile
