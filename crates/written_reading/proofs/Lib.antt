@@ -6,3 +6,5 @@ pub mod SoundPieces
 pub mod Writable
 pub mod SoundEntries
 pub mod SoundFile
+pub mod SpelledEntries
+pub mod SpelledFile
