@@ -35,10 +35,10 @@ letter_written b = elim (cases_Bool (is_name_byte b)) [
 ]
 
 -- a first letter is escaped where it is a digit, and else as the others
-first_digit : (b : ℕ) → is_ascii_digit b ≡ true → first_letter b ≡ Escaped b
+pub first_digit : (b : ℕ) → is_ascii_digit b ≡ true → first_letter b ≡ Escaped b
 first_digit b y = ap (λ t. if t then Escaped b else letter b) y
 
-first_other : (b : ℕ) → is_ascii_digit b ≡ false → first_letter b ≡ letter b
+pub first_other : (b : ℕ) → is_ascii_digit b ≡ false → first_letter b ≡ letter b
 first_other b n = ap (λ t. if t then Escaped b else letter b) n
 
 first_written : (b : ℕ) → written (first_letter b) ≡ first_escaped b

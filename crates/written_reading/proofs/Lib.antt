@@ -8,3 +8,6 @@ pub mod SoundEntries
 pub mod SoundFile
 pub mod SpelledEntries
 pub mod SpelledFile
+pub mod MeantPieces
+pub mod MeantEntries
+pub mod MeantFile

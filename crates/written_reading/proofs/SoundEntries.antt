@@ -75,7 +75,7 @@ edge_sound _ = negedge_sound
 
 -- ---- conditions
 
-front_index : (ts : List Tok) → AllByRecursion IsToken ts → IsSomeIndex (index_in_front ts)
+pub front_index : (ts : List Tok) → AllByRecursion IsToken ts → IsSomeIndex (index_in_front ts)
 front_index [] h = tt
 front_index (tok.Name name ∷ ts) h = tt
 front_index (tok.Index i ∷ ts) h = h.0
