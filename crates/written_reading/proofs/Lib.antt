@@ -11,3 +11,6 @@ pub mod SpelledFile
 pub mod MeantPieces
 pub mod MeantEntries
 pub mod MeantFile
+pub mod Lexed
+pub mod Clauses
+pub mod Indexes
