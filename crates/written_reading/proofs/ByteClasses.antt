@@ -4,7 +4,6 @@ use Rattle.std.specs.Prelude.{◌==◌, ◌||◌, Option, Some, None}
 use Rattle.std.specs.Char.{is_ascii_digit, is_ascii_alphabetic}
 use Rattle.std.proofs.lemmas.Bool.{eqb-true, ne_eqb, or_cases, or_from, or_left, or_right}
 use Rattle.sg_text.specs.Names.{is_name_byte}
-use Rattle.vl_pieces.specs.Bytes.{is_blank}
 use Rattle.sdf_lex.specs.declared.bytes.ByteClass.{ByteClass}
 use Rattle.sdf_lex.specs.declared.bytes.ByteClass.TheVariants as class
 use Rattle.sdf_lex.specs.declared.letters.Ends.{Ends}
@@ -22,7 +21,7 @@ abbrev pub is_plain : ByteClass → Bool
 is_plain class.Plain = true
 is_plain _ = false
 
-no_blank : (b : ℕ) → is_name_byte b ≡ true → is_blank b ≡ false
+no_blank : (b : ℕ) → is_name_byte b ≡ true → ((b == 32) || (b == 9) || (b == 10) || (b == 13) || (b == 12)) ≡ false
 no_blank b h =
     or_from ((b == 32) || (b == 9) || (b == 10) || (b == 13)) (b == 12)
     (or_from ((b == 32) || (b == 9) || (b == 10)) (b == 13)

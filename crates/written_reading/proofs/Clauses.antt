@@ -16,7 +16,7 @@ use Rattle.written_reading.specs.Meanings.{index_in_front}
 use Rattle.written_reading.specs.Named.{IsNameText, IsWord, IsWrittenCondition}
 use Rattle.written_reading.proofs.Writable.{IsNameOf, IsToken, IsFollowed, AreFollowed, IsClause}
 
-some_none : {A : Type 0} {x : A} → Some x ≡ None → ⊥
+pub some_none : {A : Type 0} {x : A} → Some x ≡ None → ⊥
 some_none e = cc
 
 -- ---- what the scan passes

@@ -93,7 +93,7 @@ range_index (Some r) k n a b w lt = index_small r k a b (subst (λ (m : ℕ). k 
 bit_is : (v : Variable) (k : ℕ) → IsVariableText v → IsWide v → k < length v.bits → IsBit (bit_at v k)
 bit_is v k h w lt = record { name = name_of_text v.name h.name; index = range_index v.range k (length v.bits) h.left h.right w lt }
 
-bit_found : (vs : List Variable) (net place : ℕ) (v : Variable) → AllByRecursion IsVariableText vs → AllByRecursion IsWide vs → slice_get vs place ≡ Some v → Contains v.bits net → IsPort vs net
+pub bit_found : (vs : List Variable) (net place : ℕ) (v : Variable) → AllByRecursion IsVariableText vs → AllByRecursion IsWide vs → slice_get vs place ≡ Some v → Contains v.bits net → IsPort vs net
 bit_found [] net place v h w s at = absurd (none place s)
   where
     none : (i : ℕ) → slice_get [] i ≡ Some v → ⊥

@@ -1,13 +1,18 @@
--- A written text is lexed as the tokens of its pieces.
+-- A written text is lexed as the tokens of its pieces, whose meanings are known.
 use Rattle.std.specs.Prelude.{◌≡◌, ℕ, ◌^◌, nat_lt, false, Option, None, List, [], length, Ok}
 use Rattle.std.proofs.Common.{refl, sym, ap}
 use Rattle.sdf_lex.specs.Lexes.{Outcome, Lexes, LexesFrom, bad_or}
 use Rattle.sdf_lex.specs.Pieces.{tokens}
 use Rattle.sdf_lex.specs.Tokens.{Lexeme}
 use Rattle.sg_circuit.specs.Circuit.{Circuit}
-use Rattle.written_model.specs.Faults.{is_too_large}
+use Rattle.written_model.specs.Faults.{is_too_large, IsFaultless}
 use Rattle.written_model.specs.Text.{text}
+use Rattle.written_reading.specs.Meanings.{meanings}
+use Rattle.written_reading.specs.Named.{IsNamed}
 use Rattle.written_reading.specs.Pieces.{pieces}
+use Rattle.written_reading.proofs.MeantFile.{tokens_mean}
+use Rattle.written_reading.proofs.MeantPieces.{means}
+use Rattle.written_reading.proofs.NamedEntries.{AreWide, writable}
 use Rattle.written_reading.proofs.SoundFile.{IsWritable, file_closed}
 use Rattle.written_reading.proofs.SoundPieces.{AreSound, sound_pieces, none_bad}
 use Rattle.written_reading.proofs.SpelledFile.{file_spelled}
@@ -19,3 +24,14 @@ pub text_lexed : (c : Circuit) → ((s : ℕ) → IsWritable c s) → is_too_lar
 text_lexed c h small =
     let sound = file_closed c h [] in
     small_file (text c) (Ok (tokens 0 (pieces c))) small (pieces c, (file_spelled c h, sound_pieces (pieces c) sound), ap (λ o. bad_or o (tokens 0 (pieces c))) (sym (none_bad 0 [] (pieces c) sound)))
+
+-- tokens that a text is lexed as, and what they mean
+pub record IsLexed (c : Circuit) : Type 0 where
+  pub tokens : List Lexeme
+  pub lexed : Lexes (text c) (Ok tokens)
+  pub mean : means tokens ≡ meanings c
+
+pub named_lexed : (c : Circuit) → IsNamed c → AreWide c → IsFaultless c → IsLexed c
+named_lexed c h w f =
+    let fit = writable c h w f.scopes in
+    record { tokens = tokens 0 (pieces c); lexed = text_lexed c fit f.small; mean = tokens_mean c 0 fit }

@@ -1,4 +1,4 @@
--- The modules of this folder.
+-- The modules of this folder, in reading order.
 pub mod ByteClasses
 pub mod NumberTexts
 pub mod Letters
@@ -11,6 +11,8 @@ pub mod SpelledFile
 pub mod MeantPieces
 pub mod MeantEntries
 pub mod MeantFile
-pub mod Lexed
+pub mod Lists
 pub mod Clauses
 pub mod Indexes
+pub mod NamedEntries
+pub mod Lexed
