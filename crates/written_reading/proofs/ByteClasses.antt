@@ -1,8 +1,8 @@
 -- The classes of the bytes of names and numbers, and of those behind words.
 use Rattle.std.proofs.Common.{◌≡◌, ℕ, List, [], ◌∷◌, Bool, true, false, refl, sym, ap, ◌∙◌, subst, inl, inr}
-use Rattle.std.specs.Prelude.{◌==◌, ◌||◌, Option, Some, None}
-use Rattle.std.specs.Char.{is_ascii_digit, is_ascii_alphabetic}
-use Rattle.std.proofs.lemmas.Bool.{eqb-true, ne_eqb, or_cases, or_from, or_left, or_right}
+use Rattle.std.specs.Prelude.{◌==◌, ◌||◌, Option, None}
+use Rattle.std.specs.Char.{is_ascii_digit}
+use Rattle.std.proofs.lemmas.Bool.{eqb-true, ne_eqb, or_cases, or_from, or_left}
 use Rattle.sg_text.specs.Names.{is_name_byte}
 use Rattle.sdf_lex.specs.declared.bytes.ByteClass.{ByteClass}
 use Rattle.sdf_lex.specs.declared.bytes.ByteClass.TheVariants as class

@@ -1,20 +1,20 @@
 -- In a condition an index stands right behind a name alone.
-use Rattle.std.specs.Prelude.{◌≡◌, ◌≢◌, ℕ, zero, suc, ◌+◌, ◌==◌, Bool, true, false, All, List, [], ◌∷◌, length, Option, Some, None, if◌then◌else◌}
+use Rattle.std.specs.Prelude.{◌≡◌, ◌≢◌, ℕ, zero, suc, ◌+◌, ◌==◌, Bool, true, false, List, [], ◌∷◌, Option, Some, None, if◌then◌else◌}
 use Rattle.std.specs.List.{AllByRecursion}
-use Rattle.std.proofs.Common.{refl, sym, ◌∙◌, subst}
+use Rattle.std.proofs.Common.{refl, subst}
 use Rattle.std.proofs.lemmas.List.Elements.{recursion_from_All}
 use Rattle.cond_expr.specs.declared.scan.Phase.{Phase}
 use Rattle.cond_expr.specs.declared.scan.Phase.TheVariants as phase
 use Rattle.cond_expr.specs.declared.tokens.Tok.TheVariants as tok
 use Rattle.cond_expr.specs.Grammar.{IsCondition}
-use Rattle.cond_expr.specs.Kinds.{kind_of, is_prefix, precedence}
-use Rattle.cond_expr.specs.ScanSteps.{Next, after_right, step}
+use Rattle.cond_expr.specs.Kinds.{is_prefix, precedence}
+use Rattle.cond_expr.specs.ScanSteps.{after_right}
 use Rattle.cond_expr.specs.Token.{Tok}
 use Rattle.cond_expr.proofs.AnyDepth.{verdict_is}
 use Rattle.cond_expr.proofs.Scanning.{scan, go_on}
 use Rattle.written_reading.specs.Meanings.{index_in_front}
 use Rattle.written_reading.specs.Named.{IsNameText, IsWord, IsWrittenCondition}
-use Rattle.written_reading.proofs.Writable.{IsNameOf, IsToken, IsFollowed, AreFollowed, IsClause}
+use Rattle.written_reading.proofs.Writable.{IsNameOf, IsToken, AreFollowed, IsClause}
 
 pub some_none : {A : Type 0} {x : A} → Some x ≡ None → ⊥
 some_none e = cc

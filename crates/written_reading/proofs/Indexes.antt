@@ -1,8 +1,8 @@
 -- A net's name is a variable's, with an index between the bounds.
-use Rattle.std.specs.Prelude.{◌≡◌, ◌≢◌, ℕ, zero, suc, ◌+◌, ◌^◌, ◌<◌, ◌==◌, ℤ, pos, negsuc, ◌+ℤ◌, ◌-ℤ◌, ◌≤ℤ◌, int_le, nat_abs, Bool, true, false, ◌⊎◌, Contains, IfSome, List, [], ◌∷◌, length, Option, Some, None, slice_get, unwrap_or, if◌then◌else◌}
+use Rattle.std.specs.Prelude.{◌≡◌, ℕ, zero, suc, ◌+◌, ◌^◌, ◌<◌, ◌==◌, ℤ, pos, negsuc, ◌+ℤ◌, ◌-ℤ◌, ◌≤ℤ◌, int_le, nat_abs, Bool, true, false, ◌⊎◌, Contains, IfSome, List, [], ◌∷◌, length, Option, Some, None, slice_get, unwrap_or, if◌then◌else◌}
 use Rattle.std.specs.List.{AllByRecursion, position_from}
 use Rattle.std.specs.Option.{option_map}
-use Rattle.std.proofs.Common.{refl, sym, ap, subst, ◌∙◌, arith, inl, inr}
+use Rattle.std.proofs.Common.{refl, sym, subst, arith, inl, inr}
 use Rattle.std.proofs.lemmas.Bool.{cases_Bool, eqb-false}
 use Rattle.std.proofs.lemmas.Int.{ints}
 use Rattle.std.proofs.lemmas.List.Elements.{All-from_recursion, All-contains}
@@ -10,8 +10,8 @@ use borrow.Author.Differences.{up, down}
 use Rattle.sg_circuit.specs.declared.scopes.Range.{Range}
 use Rattle.sg_circuit.specs.Circuit.{Variable}
 use Rattle.sg_circuit.specs.Closed.{width_of}
-use Rattle.written_model.specs.Names.{index_at, bit_at, named_by, name_of}
-use Rattle.written_reading.specs.Named.{IsIndex, IsVariableText, IsNetOf}
+use Rattle.written_model.specs.Names.{index_at, bit_at, name_of}
+use Rattle.written_reading.specs.Named.{IsIndex, IsVariableText}
 use Rattle.written_reading.proofs.Clauses.{name_of_text}
 use Rattle.written_reading.proofs.Letters.{IsSomeIndex}
 use Rattle.written_reading.proofs.Writable.{IsBit, IsPort}

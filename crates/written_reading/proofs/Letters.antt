@@ -1,6 +1,6 @@
 -- The letters of names, indexes and numbers: what they spell, and that they go on a word.
-use Rattle.std.proofs.Common.{◌≡◌, ℕ, suc, ◌+◌, ◌^◌, ◌<◌, ℤ, pos, negsuc, List, [], ◌∷◌, ◌++◌, length, map, Bool, true, false, refl, sym, ap, ◌∙◌, subst, arith, inl, inr}
-use Rattle.std.specs.Prelude.{◌≢◌, ◌==◌, ◌&&◌, ◌||◌, All, Option, Some, None, codes, decimal, flat_map, not, unsigned_abs, if◌then◌else◌}
+use Rattle.std.proofs.Common.{◌≡◌, ℕ, suc, ◌^◌, ◌<◌, ℤ, pos, negsuc, List, [], ◌∷◌, ◌++◌, length, map, Bool, true, false, refl, sym, ap, ◌∙◌, arith, inl, inr}
+use Rattle.std.specs.Prelude.{◌≢◌, ◌==◌, ◌&&◌, Option, Some, None, decimal, flat_map, if◌then◌else◌}
 use Rattle.std.specs.Char.{is_ascii_digit}
 use Rattle.std.specs.Fmt.{signed_decimal}
 use Rattle.std.specs.List.{list_all, AllByRecursion}
@@ -13,14 +13,14 @@ use Rattle.sdf_lex.specs.declared.bytes.ByteClass.TheVariants as class
 use Rattle.sdf_lex.specs.declared.letters.Letter.{Letter}
 use Rattle.sdf_lex.specs.declared.letters.Letter.TheVariants.{Plain, Escaped}
 use Rattle.sdf_lex.specs.declared.letters.Ends.{Ends}
-use Rattle.sdf_lex.specs.Bytes.{class_of, is_good, begins_number, begins_comment, is_number_start}
+use Rattle.sdf_lex.specs.Bytes.{class_of, is_good, begins_number, begins_comment}
 use Rattle.sdf_lex.specs.Words.{written, spelled, is_numeric, may_be, may_follow, with_last, Fits}
 use Rattle.sdf_lex.proofs.WordLaws.{spelled-append}
 use Rattle.written_model.specs.Names.{escaped, first_escaped, name_text, index_text, names_text}
-use Rattle.written_reading.specs.Named.{IsNameText, IsIndex}
+use Rattle.written_reading.specs.Named.{IsIndex}
 use Rattle.written_reading.specs.Pieces.{plain_letters, letter, first_letter, name_letters, index_letters, bit_letters, names_letters}
 use Rattle.written_reading.proofs.ByteClasses.{false_true, differs, is_plain, name_plain, digit_name, IsStopped, stopped_comment}
-use Rattle.written_reading.proofs.NumberTexts.{IsDecimal, is_decimal, some_digit}
+use Rattle.written_reading.proofs.NumberTexts.{is_decimal, some_digit}
 
 -- ---- what they spell
 
@@ -197,7 +197,7 @@ names_begin : (n : List ℕ) (more : List (List ℕ)) (after : List ℕ) → n �
 names_begin n [] after some = name_begins n after some
 names_begin n (m ∷ more) after some =
     let parts : spelled (names_letters (n ∷ m ∷ more)) ++ after ≡ spelled (name_letters n) ++ (spelled (Plain 47 ∷ names_letters (m ∷ more)) ++ after) =
-        ap (λ xs. xs ++ after) (spelled-append (name_letters n) (Plain 47 ∷ names_letters (m ∷ more))) ∙ append_assoc (spelled (name_letters n)) (spelled (Plain 47 ∷ names_letters (m ∷ more))) after in
+    ap (λ xs. xs ++ after) (spelled-append (name_letters n) (Plain 47 ∷ names_letters (m ∷ more))) ∙ append_assoc (spelled (name_letters n)) (spelled (Plain 47 ∷ names_letters (m ∷ more))) after in
     ap begins_comment parts ∙ name_begins n (spelled (Plain 47 ∷ names_letters (m ∷ more)) ++ after) some
 
 pub fits_names : (ends : Option Ends) (names : List (List ℕ)) (after : List ℕ) → AreNames names → Fits ends (names_letters names) after
@@ -206,7 +206,7 @@ fits_names ends [] after h = tt
 fits_names ends (n ∷ []) after h = fits_safe ends (name_letters n) after (name_safe n h.0.1)
 fits_names ends (n ∷ m ∷ more) after h =
     let behind : (e : Option Ends) → Fits e (Plain 47 ∷ names_letters (m ∷ more)) after =
-        λ e. (not_from_false (begins_comment (spelled (names_letters (m ∷ more)) ++ after)) (names_begin m more after h.1.0.0), fits_names (Some (with_last e (Plain 47))) (m ∷ more) after h.1) in
+    λ e. (not_from_false (begins_comment (spelled (names_letters (m ∷ more)) ++ after)) (names_begin m more after h.1.0.0), fits_names (Some (with_last e (Plain 47))) (m ∷ more) after h.1) in
     fits_front ends (name_letters n) (Plain 47 ∷ names_letters (m ∷ more)) after (name_safe n h.0.1) behind
 
 -- the divider alone

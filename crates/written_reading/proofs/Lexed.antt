@@ -1,6 +1,6 @@
 -- A written text is lexed as the tokens of its pieces, whose meanings are known.
-use Rattle.std.specs.Prelude.{◌≡◌, ℕ, ◌^◌, nat_lt, false, Option, None, List, [], length, Ok}
-use Rattle.std.proofs.Common.{refl, sym, ap}
+use Rattle.std.specs.Prelude.{◌≡◌, ℕ, ◌^◌, nat_lt, false, List, [], length, Ok}
+use Rattle.std.proofs.Common.{sym, ap}
 use Rattle.sdf_lex.specs.Lexes.{Outcome, Lexes, LexesFrom, bad_or}
 use Rattle.sdf_lex.specs.Pieces.{tokens}
 use Rattle.sdf_lex.specs.Tokens.{Lexeme}
@@ -14,7 +14,7 @@ use Rattle.written_reading.proofs.MeantFile.{tokens_mean}
 use Rattle.written_reading.proofs.MeantPieces.{means}
 use Rattle.written_reading.proofs.NamedEntries.{AreWide, writable}
 use Rattle.written_reading.proofs.SoundFile.{IsWritable, file_closed}
-use Rattle.written_reading.proofs.SoundPieces.{AreSound, sound_pieces, none_bad}
+use Rattle.written_reading.proofs.SoundPieces.{sound_pieces, none_bad}
 use Rattle.written_reading.proofs.SpelledFile.{file_spelled}
 
 small_file : (bytes : List ℕ) (o : Outcome) → nat_lt (2 ^ 28) (length bytes) ≡ false → LexesFrom [] 0 bytes o → Lexes bytes o

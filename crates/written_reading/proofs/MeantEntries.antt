@@ -1,9 +1,9 @@
 -- What the tokens of entries mean.
-use Rattle.std.proofs.Common.{◌≡◌, ℕ, ◌^◌, ◌<◌, ℤ, pos, List, [], ◌∷◌, ◌++◌, refl, sym, ap, ◌∙◌}
+use Rattle.std.proofs.Common.{◌≡◌, ℕ, ◌^◌, ◌<◌, pos, List, [], ◌∷◌, ◌++◌, refl, sym, ap, ◌∙◌}
 use Rattle.std.specs.Prelude.{Option, Some, None, codes, decimal, flat_map}
 use Rattle.std.specs.Fmt.{signed_decimal}
 use Rattle.std.specs.List.{AllByRecursion}
-use Rattle.std.proofs.lemmas.List.{append-nil, append_assoc}
+use Rattle.std.proofs.lemmas.List.{append-nil}
 use Rattle.sg_logic.specs.declared.values.Value.{Value}
 use Rattle.sg_logic.specs.declared.values.Value.TheVariants.{Zero, One, X, Z}
 use Rattle.cond_expr.specs.declared.tokens.Op.{Op}
@@ -20,13 +20,12 @@ use Rattle.sdf_tree.specs.Written.{PathCondition, always, otherwise, if_words}
 use Rattle.written_model.specs.declared.parts.Part.{Part}
 use Rattle.written_model.specs.declared.parts.Part.TheVariants as part
 use Rattle.written_model.specs.Entries.{Numbers, LegEntry, PathEntry, EventKey, CheckEntry}
-use Rattle.written_model.specs.Names.{BitName, name_of, name_text}
+use Rattle.written_model.specs.Names.{name_of, name_text}
 use Rattle.written_model.specs.Text.{value_letter, operator_text, edge_text}
 use Rattle.written_model.specs.Tree.{datum_of}
 use Rattle.written_reading.specs.Meanings as meanings
 use Rattle.written_reading.specs.Meanings.{index_in_front, name_meaning, words_meanings, select_meanings, port_meanings, terminal_meanings, conditional_meanings, event_meanings, value_meanings, delay_meanings, leg_meanings, io_path_meanings, path_meanings, terminals_meanings, check_meanings}
-use Rattle.written_reading.specs.Pieces.{bit_letters, word, blank, left, right, words_pieces, port_pieces, terminal_pieces, conditional_pieces, event_pieces, value_pieces, delay_pieces, leg_pieces, io_path_pieces, under_condition, path_pieces, two_terminals, terminals_pieces, check_pieces}
-use Rattle.written_reading.proofs.Letters.{IsSomeIndex}
+use Rattle.written_reading.specs.Pieces.{bit_letters, word, blank, right, words_pieces, port_pieces, terminal_pieces, conditional_pieces, event_pieces, value_pieces, delay_pieces, leg_pieces, io_path_pieces, under_condition, path_pieces, terminals_pieces, check_pieces}
 use Rattle.written_reading.proofs.MeantPieces.{meant, meant_joined, number_meant, bit_meant}
 use Rattle.written_reading.proofs.SoundEntries.{front_index}
 use Rattle.written_reading.proofs.Writable.{IsPort, IsToken, AreFollowed, IsClause, IsPathClause, IsEventClause, AreShort, IsLeg, IsPath, IsEvent, IsCheck}

@@ -3,12 +3,12 @@ use Rattle.std.proofs.Common.{◌≡◌, ℕ, ◌/◌, ◌%◌, ℤ, pos, List, 
 use Rattle.std.specs.Prelude.{◌==◌, ◌-ℤ◌, nat_abs, codes, flat_map, if◌then◌else◌}
 use Rattle.std.specs.List.{range_with_len}
 use Rattle.std.proofs.lemmas.List.{append-nil}
-use Rattle.sg_circuit.specs.Circuit.{Circuit, Variable, scope_at}
+use Rattle.sg_circuit.specs.Circuit.{Circuit, scope_at}
 use Rattle.sdf_lex.specs.Pieces.{Piece, word_piece, tokens}
 use Rattle.sdf_lex.specs.Tokens.{Meaning, word_token, text_token, left_token, right_token}
-use Rattle.written_model.specs.Entries.{LegEntry, PathEntry, CheckEntry, legs, paths, checks}
+use Rattle.written_model.specs.Entries.{legs, paths, checks}
 use Rattle.written_model.specs.Names.{names_to, names_text}
-use Rattle.written_model.specs.Text.{count_text, unit_text, text_below, tick_text}
+use Rattle.written_model.specs.Text.{text_below, tick_text}
 use Rattle.written_model.specs.Tree.{cell_type_of, delay_entries, check_entries, parts_of}
 use Rattle.written_reading.specs.Meanings as meanings
 use Rattle.written_reading.specs.Meanings.{around, leg_meanings, path_meanings, check_meanings, delays_meanings, checks_meanings, parts_meanings, instance_meanings, cell_head_meanings, cell_meanings, head_meanings}
@@ -92,7 +92,7 @@ tick_meant n = by (n % 3 == 0) (n % 3 == 1) (n / 3 == 0) (n / 3 == 1) (n / 3 == 
 first_meant : (tick : ℤ) → flat_map meant (head_pieces tick) ≡ head_meanings tick
 first_meant tick =
     ap (λ ys. left_token ∷ word_token (codes "DELAYFILE") ∷ left_token ∷ word_token (codes "SDFVERSION") ∷ text_token (codes "3.0") ∷ right_token ∷ left_token ∷ word_token (codes "DIVIDER") ∷ word_token (codes "/") ∷ right_token ∷ left_token
-        ∷ word_token (codes "TIMESCALE") ∷ ys)
+    ∷ word_token (codes "TIMESCALE") ∷ ys)
     (one_meant (word (tick_text tick)) (right ∷ line_end ∷ []) (word_token (tick_text tick)) (tick_meant (nat_abs (pos 2 -ℤ tick))) refl)
 
 file_meant : (c : Circuit) → ((s : ℕ) → IsWritable c s) → flat_map meant (pieces c) ≡ meanings.meanings c

@@ -1,9 +1,9 @@
 -- What the tokens of pieces mean, wherever they stand.
-use Rattle.std.proofs.Common.{◌≡◌, ℕ, suc, ◌+◌, ◌^◌, ◌<◌, ◌≤◌, ℤ, pos, negsuc, List, [], ◌∷◌, ◌++◌, length, map, take, drop, Bool, true, false, refl, sym, ap, ◌∙◌, arith, inl, inr}
+use Rattle.std.proofs.Common.{◌≡◌, ℕ, suc, ◌+◌, ◌^◌, ◌<◌, ◌≤◌, ℤ, pos, negsuc, List, [], ◌∷◌, ◌++◌, length, map, take, drop, Bool, true, false, refl, ap, ◌∙◌, arith, inl, inr}
 use Rattle.std.specs.Prelude.{◌==◌, ◌&&◌, not, nat_le, Option, Some, None, decimal, flat_map, neg_ℤ}
 use Rattle.std.specs.Char.{is_ascii_digit}
 use Rattle.std.specs.Fmt.{signed_decimal}
-use Rattle.std.specs.List.{list_all, prefix_len}
+use Rattle.std.specs.List.{list_all}
 use Rattle.std.specs.Option.{option_map}
 use Rattle.std.proofs.lemmas.Bool.{cases_Bool, and_from, and_parts, le-leb, not_from_false}
 use Rattle.std.proofs.lemmas.Grind.{flat_map-append}
@@ -12,10 +12,10 @@ use Rattle.std.proofs.lemmas.List.Folds.{list_all-append}
 use Rattle.sg_text.specs.Names.{is_name_byte}
 use Rattle.sg_time.specs.Spelling.{number_from}
 use Rattle.sdf_lex.specs.declared.letters.Letter.{Letter}
-use Rattle.sdf_lex.specs.declared.letters.Letter.TheVariants.{Plain, Escaped}
+use Rattle.sdf_lex.specs.declared.letters.Letter.TheVariants.{Plain}
 use Rattle.sdf_lex.specs.Pieces.{Piece, blank_piece, line_comment, block_comment, open_comment, word_piece, text_piece, open_text, symbol_piece, mark_piece, bad_piece, spelling, select_tokens, word_tokens, tokens_of, tokens}
-use Rattle.sdf_lex.specs.Tokens.{Meaning, Lexeme, word_token, selected_token, select_token}
-use Rattle.sdf_lex.specs.Words.{spelled, is_bracket, Cut, cut_with, last_cut, is_closing, is_sized, size_in, size_of, index_of}
+use Rattle.sdf_lex.specs.Tokens.{Meaning, Lexeme, word_token}
+use Rattle.sdf_lex.specs.Words.{spelled, is_bracket, Cut, cut_with, last_cut, is_sized, size_in, size_of, index_of}
 use Rattle.sdf_lex.proofs.EndLaws.{run_to}
 use Rattle.sdf_lex.proofs.WordLaws.{spelled-append}
 use Rattle.written_model.specs.Names.{name_text, index_text, names_text}

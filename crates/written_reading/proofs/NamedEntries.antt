@@ -1,30 +1,29 @@
 -- What is written of a circuit whose names lead back, and that has no fault, is of tokens of their own.
-use Rattle.std.specs.Prelude.{◌≡◌, ◌≢◌, ℕ, zero, suc, ◌+◌, ◌^◌, ◌<◌, ◌≤◌, ◌==◌, ◌||◌, ℤ, pos, nat_le, unsigned_abs, Bool, true, false, All, IfSome, List, [], ◌∷◌, ◌++◌, length, map, Option, Some, None, flat_map, unwrap_or, if◌then◌else◌}
+use Rattle.std.specs.Prelude.{◌≡◌, ℕ, zero, suc, ◌^◌, ◌<◌, ◌==◌, ℤ, pos, nat_le, unsigned_abs, Bool, true, false, All, IfSome, List, [], ◌∷◌, ◌++◌, length, map, Option, Some, None, flat_map, unwrap_or, if◌then◌else◌}
 use Rattle.std.specs.List.{AllByRecursion, list_any}
 use Rattle.std.specs.Option.{option_map}
-use Rattle.std.proofs.Common.{refl, sym, ap, subst, ◌∙◌, arith, inl, inr, get_or}
+use Rattle.std.proofs.Common.{refl, sym, ap, subst, ◌∙◌, arith, inl, inr}
 use Rattle.std.proofs.lemmas.Bool.{cases_lt, eqb-true, leb-false, or_parts}
 use Rattle.std.proofs.lemmas.List.{get_or_past}
 use Rattle.std.proofs.lemmas.List.Elements.{All-nil, recursion_from_All}
 use Rattle.cond_expr.specs.Token.{Tok}
-use Rattle.sg_circuit.specs.declared.checks.CheckKind.{CheckKind}
 use Rattle.sg_circuit.specs.declared.checks.Event.{Event}
 use Rattle.sg_circuit.specs.declared.scopes.Port.{Port}
-use Rattle.sg_circuit.specs.Circuit.{Circuit, Variable, Scope, scope_at}
+use Rattle.sg_circuit.specs.Circuit.{Circuit, Scope, scope_at}
 use Rattle.sdf_tree.specs.Written.{PathCondition, always, otherwise, if_words}
 use Rattle.annotation_model.specs.Spots.{Spot, leg_spot, path_spot, spots, Checked, all_checked}
 use Rattle.written_model.specs.declared.parts.Part.{Part}
-use Rattle.written_model.specs.Entries.{Numbers, numbers_of, LegEntry, PathEntry, EventKey, CheckKey, CheckEntry, path_rank, check_rank, legs_at, path_key, paths_at, parts_of, event_key, check_entry, checks_at, legs, path_entries, check_entries, paths, checks}
+use Rattle.written_model.specs.Entries.{Numbers, numbers_of, LegEntry, PathEntry, EventKey, CheckEntry, path_rank, check_rank, legs_at, path_key, paths_at, parts_of, event_key, check_entry, checks_at, legs, path_entries, check_entries}
 use Rattle.written_model.specs.Faults.{sizes_of, sizes, path_conditions, event_conditions, datum_conditions, conditions, is_heavy, is_too_long, AreFaultless}
-use Rattle.written_model.specs.Names.{below, names_in, names_to}
+use Rattle.written_model.specs.Names.{below, names_in}
 use Rattle.written_model.specs.Tree.{datum_of}
 use Rattle.written_reading.specs.Named.{IsNameText, IsWrittenCondition, IsVariableText, IsNetOf, IsNamedSpot, IsNamedCheck, IsNamed}
 use Rattle.written_reading.proofs.Clauses.{some_none, name_of_text, clause_is}
 use Rattle.written_reading.proofs.Indexes.{IsWide, bit_found}
 use Rattle.written_reading.proofs.Letters.{AreNames}
-use Rattle.written_reading.proofs.Lists.{all_joined, all_parted, all_if, all_weaker, all_both, all_mapped, all_unmapped, all_flat, all_unflat, none_any, all_ranked}
+use Rattle.written_reading.proofs.Lists.{all_joined, all_parted, all_if, all_weaker, all_both, all_unmapped, all_flat, all_unflat, none_any, all_ranked}
 use Rattle.written_reading.proofs.SoundFile.{IsWritable}
-use Rattle.written_reading.proofs.Writable.{IsPort, IsClause, IsPathClause, IsEventClause, AreShort, IsLeg, IsPath, IsEvent, IsCheck}
+use Rattle.written_reading.proofs.Writable.{IsPort, IsPathClause, IsEventClause, AreShort, IsLeg, IsPath, IsCheck}
 
 -- ---- sizes
 

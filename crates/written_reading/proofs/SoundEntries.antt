@@ -1,6 +1,6 @@
 -- The pieces of entries are the longest in their places.
-use Rattle.std.proofs.Common.{◌≡◌, ℕ, suc, ◌+◌, ◌^◌, ◌<◌, ℤ, pos, negsuc, List, [], ◌∷◌, ◌++◌, length, true, refl, subst, arith}
-use Rattle.std.specs.Prelude.{◌≢◌, Option, Some, None, codes, decimal, flat_map}
+use Rattle.std.proofs.Common.{ℕ, ◌^◌, ◌<◌, ℤ, pos, negsuc, List, [], ◌∷◌, ◌++◌, length, refl, arith}
+use Rattle.std.specs.Prelude.{Option, Some, None, codes, decimal, flat_map}
 use Rattle.std.specs.Fmt.{signed_decimal}
 use Rattle.std.specs.List.{AllByRecursion}
 use Rattle.sg_logic.specs.declared.values.Value.{Value}
@@ -17,17 +17,17 @@ use Rattle.sdf_tree.specs.Written.{PathCondition, always, otherwise, if_words}
 use Rattle.written_model.specs.declared.parts.Part.{Part}
 use Rattle.written_model.specs.declared.parts.Part.TheVariants as part
 use Rattle.written_model.specs.Entries.{Numbers, LegEntry, PathEntry, EventKey, CheckEntry}
-use Rattle.written_model.specs.Names.{BitName, name_of}
+use Rattle.written_model.specs.Names.{name_of}
 use Rattle.written_model.specs.Text.{value_letter, edge_text}
 use Rattle.written_model.specs.Tree.{datum_of}
 use Rattle.written_reading.specs.Meanings.{index_in_front}
 use Rattle.written_reading.specs.Named.{IsIndex}
-use Rattle.written_reading.specs.Pieces.{plain_letters, bit_letters, word, blank, left, right, token_pieces, words_pieces, port_pieces, terminal_pieces, conditional_pieces, event_pieces, value_pieces, delay_pieces, leg_pieces, io_path_pieces, under_condition, path_pieces, two_terminals, terminals_pieces, check_pieces}
+use Rattle.written_reading.specs.Pieces.{plain_letters, bit_letters, word, blank, left, right, words_pieces, port_pieces, terminal_pieces, conditional_pieces, event_pieces, value_pieces, delay_pieces, leg_pieces, io_path_pieces, under_condition, path_pieces, two_terminals, terminals_pieces, check_pieces}
 use Rattle.written_reading.proofs.ByteClasses.{IsStopped}
-use Rattle.written_reading.proofs.Letters.{AreGood, IsSomeIndex, fits_safe, fits_bit, fits_number, decimal_safe}
+use Rattle.written_reading.proofs.Letters.{IsSomeIndex, fits_safe, fits_bit, fits_number, decimal_safe}
 use Rattle.written_reading.proofs.NumberTexts.{some_digit}
-use Rattle.written_reading.proofs.SoundPieces.{IsSound, AreSound, is_keyword, keyword_sound, sound_append}
-use Rattle.written_reading.proofs.Writable.{IsNameOf, IsBit, IsPort, IsToken, IsClause, IsPathClause, IsEventClause, AreShort, IsLeg, IsPath, IsEvent, IsCheck}
+use Rattle.written_reading.proofs.SoundPieces.{IsSound, AreSound, keyword_sound, sound_append}
+use Rattle.written_reading.proofs.Writable.{IsNameOf, IsPort, IsToken, IsClause, IsPathClause, IsEventClause, AreShort, IsLeg, IsPath, IsEvent, IsCheck}
 
 -- sound wherever a word may end
 abbrev pub IsEnded : List Piece → Type 0
@@ -156,7 +156,7 @@ delays_stop (n ∷ ns) after = refl
 port_delays : (vs : List Variable) (net : ℕ) (ns : List Numbers) → IsPort vs net → AllByRecursion AreShort ns → IsClosed (port_pieces vs net ++ (flat_map delay_pieces ns ++ right ∷ []))
 port_delays vs net ns p h =
     λ after. sound_append after (port_pieces vs net) (flat_map delay_pieces ns ++ right ∷ []) (port_ended vs net p (spellings (flat_map delay_pieces ns ++ right ∷ []) ++ after) (delays_stop ns after))
-        (closed_append (flat_map delay_pieces ns) (right ∷ []) (delays_closed ns h) (λ a. (refl, tt, tt)) after)
+    (closed_append (flat_map delay_pieces ns) (right ∷ []) (delays_closed ns h) (λ a. (refl, tt, tt)) after)
 
 -- ---- entries
 
@@ -180,7 +180,7 @@ io_path_closed vs e h =
     let input = terminal_pieces e.key.edge (port_pieces vs e.key.input) in
     let output = port_pieces vs e.key.output ++ (flat_map delay_pieces e.numbers ++ right ∷ []) in
     λ after. opened (codes "IOPATH") (input ++ blank ∷ output) io_path_sound after
-        (blank_behind input output (terminal_ended e.key.edge (port_pieces vs e.key.input) (port_ended vs e.key.input h.input)) after (port_delays vs e.key.output e.numbers h.output h.numbers after))
+    (blank_behind input output (terminal_ended e.key.edge (port_pieces vs e.key.input) (port_ended vs e.key.input h.input)) after (port_delays vs e.key.output e.numbers h.output h.numbers after))
 
 under_condition_closed : (c : PathCondition) (ps : List Piece) → IsPathClause c → IsClosed ps → IsClosed (under_condition c ps)
 under_condition_closed always ps c h = h
@@ -210,4 +210,4 @@ check_closed vs e h =
     let refer = event_pieces vs e.key.refer in
     let datum = event_pieces vs (datum_of e.key) in
     λ after. blank_behind (terminals_pieces e.key.part refer datum) (value_pieces (signed_decimal e.limit) ++ right ∷ []) (terminals_ended e.key.part refer datum (event_ended vs e.key.refer h.refer) (event_ended vs (datum_of e.key) h.datum)) after
-        (blank_value (signed_decimal e.limit) (right ∷ []) (limit_sound e.limit h.limit) after (refl, tt, tt))
+    (blank_value (signed_decimal e.limit) (right ∷ []) (limit_sound e.limit h.limit) after (refl, tt, tt))

@@ -1,25 +1,22 @@
 -- The pieces of a file are the longest in their places.
-use Rattle.std.proofs.Common.{◌≡◌, ℕ, ◌+◌, ◌/◌, ◌%◌, ℤ, pos, List, [], ◌∷◌, ◌++◌, length, Bool, true, false, refl, sym, ap, ◌∙◌, subst, inl, inr}
-use Rattle.std.specs.Prelude.{◌==◌, ◌&&◌, ◌||◌, not, ◌-ℤ◌, nat_abs, Option, None, codes, filter, flat_map, if◌then◌else◌}
+use Rattle.std.proofs.Common.{◌≡◌, ℕ, ◌/◌, ◌%◌, ℤ, pos, List, [], ◌∷◌, ◌++◌, length, Bool, true, false, refl, inl, inr}
+use Rattle.std.specs.Prelude.{◌==◌, ◌||◌, not, ◌-ℤ◌, nat_abs, None, codes, flat_map, if◌then◌else◌}
 use Rattle.std.specs.List.{AllByRecursion, list_all, range_with_len}
-use Rattle.std.proofs.lemmas.Bool.{cases_Bool, and_from, and_parts, not_from_false, or_parts}
-use Rattle.std.proofs.lemmas.List.{map-append}
-use Rattle.std.proofs.lemmas.List.Folds.{list_all-append}
+use Rattle.std.proofs.lemmas.Bool.{cases_Bool, and_from}
 use Rattle.sdf_lex.specs.declared.letters.Letter.{Letter}
-use Rattle.sdf_lex.specs.declared.letters.Letter.TheVariants.{Plain, Escaped}
 use Rattle.sdf_lex.specs.Bytes.{class_of, is_unquoted}
-use Rattle.sdf_lex.specs.Pieces.{Piece, word_piece, text_piece, spellings}
+use Rattle.sdf_lex.specs.Pieces.{Piece, word_piece, spellings}
 use Rattle.sdf_lex.specs.Words.{Fits}
-use Rattle.sg_circuit.specs.Circuit.{Circuit, Variable, scope_at}
-use Rattle.written_model.specs.Entries.{LegEntry, PathEntry, CheckEntry, legs, paths, checks}
+use Rattle.sg_circuit.specs.Circuit.{Circuit, scope_at}
+use Rattle.written_model.specs.Entries.{legs, paths, checks}
 use Rattle.written_model.specs.Names.{names_to}
-use Rattle.written_model.specs.Text.{count_text, unit_text, text_below, tick_text}
+use Rattle.written_model.specs.Text.{unit_text, text_below}
 use Rattle.written_model.specs.Tree.{cell_type_of, delay_entries, check_entries, parts_of}
 use Rattle.written_reading.specs.Meanings.{around}
 use Rattle.written_reading.specs.Pieces.{plain_letters, names_letters, word, blank, line_end, left, right, leg_pieces, path_pieces, check_pieces, line, delays_pieces, checks_pieces, parts_pieces, instance_pieces, cell_head_pieces, cell_pieces, head_pieces, pieces}
 use Rattle.written_reading.proofs.ByteClasses.{IsStopped, false_true}
 use Rattle.written_reading.proofs.Letters.{is_safe, AreNames, fits_names, fits_slash}
-use Rattle.written_reading.proofs.SoundPieces.{IsSound, AreSound, keyword_sound, is_keyword, sound_append}
+use Rattle.written_reading.proofs.SoundPieces.{IsSound, keyword_sound}
 use Rattle.written_reading.proofs.SoundEntries.{IsClosed, closed_append, leg_closed, path_closed, check_closed}
 use Rattle.written_reading.proofs.Writable.{IsLeg, IsPath, IsCheck}
 
@@ -71,9 +68,9 @@ parts_closed c s h =
     (around (delay_entries c s) (left ∷ word (codes "DELAY") ∷ blank ∷ left ∷ word (codes "ABSOLUTE") ∷ line_end ∷ []) (right ∷ right ∷ line_end ∷ []) (delays_pieces c s))
     (around (check_entries c s) (left ∷ word (codes "TIMINGCHECK") ∷ line_end ∷ []) (right ∷ line_end ∷ []) (checks_pieces c s))
     (around_closed (delay_entries c s) (left ∷ word (codes "DELAY") ∷ blank ∷ left ∷ word (codes "ABSOLUTE") ∷ line_end ∷ []) (right ∷ right ∷ line_end ∷ []) (delays_pieces c s) delay_front
-        (λ after. (refl, tt, (refl, tt, (refl, tt, tt)))) (delays_closed c s h))
+    (λ after. (refl, tt, (refl, tt, (refl, tt, tt)))) (delays_closed c s h))
     (around_closed (check_entries c s) (left ∷ word (codes "TIMINGCHECK") ∷ line_end ∷ []) (right ∷ line_end ∷ []) (checks_pieces c s) check_front
-        (λ after. (refl, tt, (refl, tt, tt))) (checks_closed c s h))
+    (λ after. (refl, tt, (refl, tt, tt))) (checks_closed c s h))
 
 -- ---- cells
 
@@ -115,8 +112,39 @@ instance_stops (n ∷ ns) after = refl
 head_closed : (module_name : List ℕ) (names : List (List ℕ)) → AreNames names → IsClosed (cell_head_pieces module_name names)
 unfolding class_of
 head_closed module_name names h =
-    λ after. (refl, tt, (keyword_sound (codes "CELL") refl, refl, (refl, tt, (refl, tt, (keyword_sound (codes "CELLTYPE") refl, refl, (refl, tt, (unquoted module_name, tt, (refl, tt,
-        (refl, tt, (refl, tt, (keyword_sound (codes "INSTANCE") refl, instance_stops names after, instance_closed names h after)))))))))))
+    λ after. (
+      refl,
+      tt,
+      (
+        keyword_sound (codes "CELL") refl,
+        refl,
+        (
+          refl,
+          tt,
+          (
+            refl,
+            tt,
+            (
+              keyword_sound (codes "CELLTYPE") refl,
+              refl,
+              (
+                refl,
+                tt,
+                (
+                  unquoted module_name,
+                  tt,
+                  (
+                    refl,
+                    tt,
+                    (refl, tt, (refl, tt, (keyword_sound (codes "INSTANCE") refl, instance_stops names after, instance_closed names h after))),
+                  ),
+                ),
+              ),
+            ),
+          ),
+        ),
+      ),
+    )
 
 cell_closed : (c : Circuit) (s : ℕ) → IsWritable c s → IsClosed (cell_pieces c s)
 cell_closed c s h =
@@ -152,9 +180,63 @@ tick_sound n = by (n % 3 == 0) (n % 3 == 1) (unit_text (n / 3)) (unit_safe (n / 
 first_closed : (tick : ℤ) → IsClosed (head_pieces tick)
 unfolding class_of
 first_closed tick =
-    λ after. (refl, tt, (keyword_sound (codes "DELAYFILE") refl, refl, (refl, tt, (refl, tt, (keyword_sound (codes "SDFVERSION") refl, refl, (refl, tt, (refl, tt, (refl, tt,
-        (refl, tt, (refl, tt, (keyword_sound (codes "DIVIDER") refl, refl, (refl, tt, ((λ a s. fits_slash a s), refl, (refl, tt,
-        (refl, tt, (refl, tt, (keyword_sound (codes "TIMESCALE") refl, refl, (refl, tt, (tick_sound (nat_abs (pos 2 -ℤ tick)), refl, (refl, tt, (refl, tt, tt)))))))))))))))))))))
+    λ after. (
+      refl,
+      tt,
+      (
+        keyword_sound (codes "DELAYFILE") refl,
+        refl,
+        (
+          refl,
+          tt,
+          (
+            refl,
+            tt,
+            (
+              keyword_sound (codes "SDFVERSION") refl,
+              refl,
+              (
+                refl,
+                tt,
+                (
+                  refl,
+                  tt,
+                  (
+                    refl,
+                    tt,
+                    (
+                      refl,
+                      tt,
+                      (
+                        refl,
+                        tt,
+                        (
+                          keyword_sound (codes "DIVIDER") refl,
+                          refl,
+                          (
+                            refl,
+                            tt,
+                            (
+                              (λ a s. fits_slash a s),
+                              refl,
+                              (
+                                refl,
+                                tt,
+                                (refl, tt, (refl, tt, (keyword_sound (codes "TIMESCALE") refl, refl, (refl, tt, (tick_sound (nat_abs (pos 2 -ℤ tick)), refl, (refl, tt, (refl, tt, tt))))))),
+                              ),
+                            ),
+                          ),
+                        ),
+                      ),
+                    ),
+                  ),
+                ),
+              ),
+            ),
+          ),
+        ),
+      ),
+    )
 
 pub file_closed : (c : Circuit) → ((s : ℕ) → IsWritable c s) → IsClosed (pieces c)
 unfolding pieces

@@ -1,18 +1,17 @@
 -- Pieces that are the longest in their places, by what stands right behind each.
-use Rattle.std.proofs.Common.{◌≡◌, ℕ, ◌+◌, ◌<◌, List, [], ◌∷◌, ◌++◌, length, take, Bool, true, false, refl, sym, ap, ◌∙◌, subst, arith, inl, inr}
+use Rattle.std.proofs.Common.{◌≡◌, ℕ, ◌+◌, List, [], ◌∷◌, ◌++◌, length, take, Bool, true, false, refl, sym, ap, ◌∙◌, subst, arith, inl, inr}
 use Rattle.std.specs.Prelude.{◌==◌, ◌&&◌, ◌||◌, Option, Some, None, nat_le, nat_lt}
 use Rattle.std.specs.List.{list_all, prefix_len}
 use Rattle.std.proofs.lemmas.Bool.{and_from, eqb-true, le-leb, lt-ltb, or_cases}
 use Rattle.std.proofs.lemmas.List.{append-nil, append_assoc, append_cancel_left, length-append, take_at}
 use Rattle.cond_expr.specs.declared.tokens.Op.{Op}
 use Rattle.cond_expr.specs.declared.tokens.Op.TheVariants as op
-use Rattle.sdf_lex.specs.declared.bytes.ByteClass.{ByteClass}
 use Rattle.sdf_lex.specs.declared.bytes.ByteClass.TheVariants as class
 use Rattle.sdf_lex.specs.declared.letters.Letter.{Letter}
 use Rattle.sdf_lex.specs.declared.letters.Letter.TheVariants.{Plain, Escaped}
 use Rattle.sdf_lex.specs.declared.letters.Ends.{Ends}
 use Rattle.sdf_lex.specs.Bytes.{class_of, is_unquoted}
-use Rattle.sdf_lex.specs.Words.{written, spelled, with_last, Fits}
+use Rattle.sdf_lex.specs.Words.{spelled, with_last, Fits}
 use Rattle.sdf_lex.specs.Operators.{operator_rows, operator_of, is_operator}
 use Rattle.sdf_lex.specs.Pieces.{Piece, blank_piece, line_comment, block_comment, open_comment, word_piece, text_piece, open_text, symbol_piece, mark_piece, bad_piece, spelling, IsPiece, spellings, ArePieces, is_bad, first_bad}
 use Rattle.sdf_lex.specs.PieceBridge.{run_of, symbol_len, other_piece, word_or, first_piece}

@@ -1,5 +1,5 @@
 -- The pieces of entries spell their texts.
-use Rattle.std.proofs.Common.{◌≡◌, ℕ, ℤ, List, [], ◌∷◌, ◌++◌, refl, sym, ap, ◌∙◌, subst}
+use Rattle.std.proofs.Common.{◌≡◌, ℕ, ℤ, List, [], ◌∷◌, ◌++◌, refl, sym, ap, ◌∙◌}
 use Rattle.std.specs.Prelude.{◌≢◌, Option, Some, None, codes, decimal, flat_map}
 use Rattle.std.specs.Fmt.{signed_decimal}
 use Rattle.std.specs.List.{AllByRecursion}
@@ -7,22 +7,22 @@ use Rattle.std.proofs.lemmas.List.{append-nil, append_assoc}
 use Rattle.cond_expr.specs.declared.tokens.Tok.TheVariants as tok
 use Rattle.cond_expr.specs.Token.{Tok}
 use Rattle.sg_circuit.specs.Circuit.{Variable}
-use Rattle.sdf_lex.specs.Pieces.{Piece, word_piece, symbol_piece, spelling, spellings}
+use Rattle.sdf_lex.specs.Pieces.{Piece, spellings}
 use Rattle.sdf_lex.specs.Words.{spelled}
 use Rattle.sdf_tree.specs.declared.tree.Edge.{Edge}
 use Rattle.sdf_tree.specs.Written.{PathCondition, always, otherwise, if_words}
 use Rattle.written_model.specs.declared.parts.Part.{Part}
 use Rattle.written_model.specs.declared.parts.Part.TheVariants as part
 use Rattle.written_model.specs.Entries.{Numbers, LegEntry, PathEntry, EventKey, CheckEntry}
-use Rattle.written_model.specs.Names.{BitName, name_text, index_text, name_of}
+use Rattle.written_model.specs.Names.{name_text, index_text, name_of}
 use Rattle.written_model.specs.Text as text
 use Rattle.written_model.specs.Text.{value_letter, operator_text, token_text, words_behind, words_text, port_text, edge_text, terminal_text, conditional_text, event_text, value_text, delay_text, leg_text, io_path_text, path_text, terminals_text, check_text}
 use Rattle.written_model.specs.Tree.{datum_of}
 use Rattle.written_reading.specs.Meanings.{index_in_front}
-use Rattle.written_reading.specs.Pieces.{bit_letters, word, blank, left, right, words_pieces, port_pieces, terminal_pieces, conditional_pieces, event_pieces, value_pieces, delay_pieces, leg_pieces, io_path_pieces, under_condition, path_pieces, two_terminals, terminals_pieces, check_pieces}
+use Rattle.written_reading.specs.Pieces.{bit_letters, word, blank, right, words_pieces, port_pieces, terminal_pieces, conditional_pieces, event_pieces, value_pieces, delay_pieces, leg_pieces, io_path_pieces, under_condition, path_pieces, terminals_pieces, check_pieces}
 use Rattle.written_reading.proofs.Letters.{plain_spelled, bit_spelled}
 use Rattle.written_reading.proofs.SoundPieces.{spellings-append}
-use Rattle.written_reading.proofs.Writable.{IsFollowed, AreFollowed, IsClause, IsPathClause, IsEventClause, IsLeg, IsPath, IsEvent, IsCheck}
+use Rattle.written_reading.proofs.Writable.{AreFollowed, IsClause, IsPathClause, IsEventClause, IsEvent, IsCheck}
 
 pub joined : (ps qs : List Piece) {x y : List ℕ} → spellings ps ≡ x → spellings qs ≡ y → spellings (ps ++ qs) ≡ x ++ y
 joined ps qs {x} e f = spellings-append ps qs ∙ ap (λ xs. xs ++ spellings qs) e ∙ ap (λ ys. x ++ ys) f

@@ -1,14 +1,14 @@
 -- The pieces of a file spell its text.
-use Rattle.std.proofs.Common.{◌≡◌, ℕ, ◌+◌, ◌<◌, ℤ, List, [], ◌∷◌, ◌++◌, length, map, refl, sym, ap, ◌∙◌, arith}
+use Rattle.std.proofs.Common.{◌≡◌, ℕ, ◌<◌, ℤ, List, [], ◌∷◌, ◌++◌, length, map, refl, sym, ap, ◌∙◌, arith}
 use Rattle.std.specs.Prelude.{codes, flat_map}
-use Rattle.std.specs.List.{AllByRecursion, range_with_len}
+use Rattle.std.specs.List.{range_with_len}
 use Rattle.std.proofs.lemmas.List.{append-nil, append_assoc, length-append}
-use Rattle.sdf_lex.specs.Pieces.{Piece, word_piece, spellings}
+use Rattle.sdf_lex.specs.Pieces.{Piece, spellings}
 use Rattle.sdf_lex.specs.Words.{spelled}
-use Rattle.sdf_tree.specs.Written.{Entry, Check, absolute, delays, checks as checks_part}
-use Rattle.sg_circuit.specs.Circuit.{Circuit, Variable, scope_at}
-use Rattle.written_model.specs.Entries.{LegEntry, PathEntry, CheckEntry, legs, paths, checks}
-use Rattle.written_model.specs.Names.{names_text, names_to}
+use Rattle.sdf_tree.specs.Written.{absolute, delays, checks as checks_part}
+use Rattle.sg_circuit.specs.Circuit.{Circuit, scope_at}
+use Rattle.written_model.specs.Entries.{legs, paths, checks}
+use Rattle.written_model.specs.Names.{names_to}
 use Rattle.written_model.specs.Text as text
 use Rattle.written_model.specs.Text.{leg_text, path_text, check_text, enclosed, delay_lines, check_lines, parts_text, instance_text, cell_line, cell_text, tick_text, head_line}
 use Rattle.written_model.specs.Tree.{leg_entry, path_entry, check_of, unless_empty, delay_entries, check_entries, parts_of, cell_type_of}

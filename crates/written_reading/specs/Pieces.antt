@@ -15,7 +15,7 @@ use Rattle.sdf_tree.specs.Written.{PathCondition, always, otherwise, if_words}
 use Rattle.written_model.specs.declared.parts.Part.{Part}
 use Rattle.written_model.specs.declared.parts.Part.TheVariants as part
 use Rattle.written_model.specs.Entries.{Numbers, LegEntry, PathEntry, EventKey, CheckEntry, legs, paths, checks}
-use Rattle.written_model.specs.Names.{BitName, name_of, names_to}
+use Rattle.written_model.specs.Names.{name_of, names_to}
 use Rattle.written_model.specs.Text.{value_letter, operator_text, edge_text, tick_text}
 use Rattle.written_model.specs.Tree.{datum_of, cell_type_of, delay_entries, check_entries, parts_of}
 use Rattle.written_reading.specs.Meanings.{index_in_front, around}

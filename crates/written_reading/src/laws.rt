@@ -9,5 +9,4 @@ ghost use Rattle.written_reading.specs.ReadBack.{IsReadAs};
 /// Of a circuit whose names lead back, a text without a fault is read as its tree.
 pub fn text_is_read_back()
     ensures { (c : Circuit) → IsNamed c → IsFaultless c → IsReadAs (tree c) (text c) }
-{
-}
+{}
