@@ -1,1 +1,9 @@
--- The modules of this folder.
+-- The modules of this folder, in reading order.
+pub mod Spans
+pub mod Tells
+pub mod Decimals
+pub mod NameTexts
+pub mod ValueTokens
+pub mod PortTokens
+pub mod DelayTokens
+pub mod EntryTokens
