@@ -23,7 +23,7 @@ use Rattle.written_model.specs.Entries.{Numbers, LegEntry, PathEntry}
 use Rattle.written_model.specs.Names.{BitName, name_of}
 use Rattle.written_model.specs.Text.{edge_text}
 use Rattle.written_model.specs.Tree.{nowhere, port_of_name, delay_of, leg_entry, path_entry}
-use Rattle.written_reading.specs.Meanings.{words_meanings, bit_meanings, terminal_meanings, conditional_meanings, delay_meanings, leg_meanings, io_path_meanings, path_meanings}
+use Rattle.written_reading.specs.Meanings.{words_meanings, bit_meanings, terminal_meanings, conditional_meanings, delay_meanings, leg_meanings, io_path_meanings, under_condition, path_meanings}
 use Rattle.written_reading.specs.Named.{IsWrittenCondition}
 use Rattle.written_reading.specs.Placeless as placeless
 use Rattle.written_reading.proofs.DelayTokens.{AreShort, says_list, IsTail, tells_tail}
@@ -48,6 +48,9 @@ cond_else_word = refl
 
 -- ---- terminals
 
+abbrev pub edged_words : BitName → Edge → List Meaning
+edged_words n e = word_token (edge_text e) ∷ (bit_meanings n ++ right_token ∷ [])
+
 abbrev pub terminal : Option Edge → BitName → Terminal
 terminal edge n = record { condition = None; edge = edge; port = port_of_name n }
 
@@ -59,9 +62,9 @@ module _ (n : BitName) (some : n.name ≢ []) where
   edge_made e x p = ap (λ (y : Edge). let t : Terminal = record { condition = None; edge = Some y; port = x.1 } in t) p.0 ∙ ap (λ (q : Port). let t : Terminal = record { condition = None; edge = Some e; port = q } in t) p.1
 
   -- behind the parenthesis
-  pub tells_edged : (e : Edge) → IsWritten e → Tells (mapped edge_terminal (edge_word ∙∙ (port Slash ◂ mark is_right))).language (λ t. t ≡ terminal (Some e) n) (word_token (edge_text e) ∷ (bit_meanings n ++ right_token ∷ []))
+  pub tells_edged : (e : Edge) → IsWritten e → Tells (mapped edge_terminal (edge_word ∙∙ (port Slash ◂ mark is_right))).language (λ t. t ≡ terminal (Some e) n) (edged_words n e)
   tells_edged e w =
-      tells_image edge_terminal (edge_word ∙∙ (port Slash ◂ mark is_right)).language (λ x. (x.0 ≡ e) × (x.1 ≡ port_of_name n)) (λ t. t ≡ terminal (Some e) n) (word_token (edge_text e) ∷ (bit_meanings n ++ right_token ∷ []))
+      tells_image edge_terminal (edge_word ∙∙ (port Slash ◂ mark is_right)).language (λ x. (x.0 ≡ e) × (x.1 ≡ port_of_name n)) (λ t. t ≡ terminal (Some e) n) (edged_words n e)
       (tells_both edge_word.language (port Slash ◂ mark is_right).language (λ x. x ≡ e) (λ p. p ≡ port_of_name n) (word_token (edge_text e) ∷ []) (bit_meanings n ++ right_token ∷ []) (tells_edge e w)
       (tells_first (port Slash).language (mark is_right).language (λ p. p ≡ port_of_name n) (λ u. Unit {0}) (bit_meanings n) (right_token ∷ []) (tells_port n some) (tells_mark is_right right_token refl)))
       (edge_made e)
@@ -73,9 +76,9 @@ module _ (n : BitName) (some : n.name ≢ []) where
   unfolding spec_parts
   tells_spec None w = tells_left (mapped plain_terminal (port Slash)).language spec_edge.language (λ t. t ≡ terminal None n) (bit_meanings n) tells_plain
   tells_spec (Some e) w =
-      tells_right (mapped plain_terminal (port Slash)).language spec_edge.language (λ t. t ≡ terminal (Some e) n) (left_token ∷ word_token (edge_text e) ∷ (bit_meanings n ++ right_token ∷ []))
-      (tells_image edge_terminal (mark is_left ▸ (edge_word ∙∙ (port Slash ◂ mark is_right))).language (λ x. (x.0 ≡ e) × (x.1 ≡ port_of_name n)) (λ t. t ≡ terminal (Some e) n) (left_token ∷ word_token (edge_text e) ∷ (bit_meanings n ++ right_token ∷ []))
-      (tells_second (mark is_left).language (edge_word ∙∙ (port Slash ◂ mark is_right)).language (λ u. Unit {0}) (λ x. (x.0 ≡ e) × (x.1 ≡ port_of_name n)) (left_token ∷ []) (word_token (edge_text e) ∷ (bit_meanings n ++ right_token ∷ [])) (tells_mark is_left left_token refl)
+      tells_right (mapped plain_terminal (port Slash)).language spec_edge.language (λ t. t ≡ terminal (Some e) n) (left_token ∷ edged_words n e)
+      (tells_image edge_terminal (mark is_left ▸ (edge_word ∙∙ (port Slash ◂ mark is_right))).language (λ x. (x.0 ≡ e) × (x.1 ≡ port_of_name n)) (λ t. t ≡ terminal (Some e) n) (left_token ∷ edged_words n e)
+      (tells_second (mark is_left).language (edge_word ∙∙ (port Slash ◂ mark is_right)).language (λ u. Unit {0}) (λ x. (x.0 ≡ e) × (x.1 ≡ port_of_name n)) (left_token ∷ []) (edged_words n e) (tells_mark is_left left_token refl)
       (tells_both edge_word.language (port Slash ◂ mark is_right).language (λ x. x ≡ e) (λ p. p ≡ port_of_name n) (word_token (edge_text e) ∷ []) (bit_meanings n ++ right_token ∷ []) (tells_edge e w)
       (tells_first (port Slash).language (mark is_right).language (λ p. p ≡ port_of_name n) (λ u. Unit {0}) (bit_meanings n) (right_token ∷ []) (tells_port n some) (tells_mark is_right right_token refl))))
       (edge_made e))
@@ -194,7 +197,7 @@ module _ (made : Body) (ms : List Meaning) where
       (tells_first (body true Slash).language (mark is_right).language (λ b. placeless.body b ≡ made) (λ u. Unit {0}) ms (right_token ∷ []) t (tells_mark is_right right_token refl))))
       (λ x p. ap (λ (b : Body). let y : Entry = record { place = nowhere; body = b } in y) p)
 
-path_closed : (vs : List Variable) (e : PathEntry) (good : IsGoodPath vs e) (c : PathCondition) → left_token ∷ (body_meanings vs e good c ++ right_token ∷ []) ≡ Rattle.written_reading.specs.Meanings.under_condition c (io_path_meanings vs e)
+path_closed : (vs : List Variable) (e : PathEntry) (good : IsGoodPath vs e) (c : PathCondition) → left_token ∷ (body_meanings vs e good c ++ right_token ∷ []) ≡ under_condition c (io_path_meanings vs e)
 path_closed vs e good always = ap (λ (xs : List Meaning). left_token ∷ xs) (closed vs e good)
 path_closed vs e good (if_words ws) = ap (λ (xs : List Meaning). left_token ∷ word_token (codes "COND") ∷ xs) (append_assoc (words_meanings ws) (io_path_meanings vs e) (right_token ∷ []))
 path_closed vs e good otherwise = refl

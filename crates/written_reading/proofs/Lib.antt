@@ -7,3 +7,6 @@ pub mod ValueTokens
 pub mod PortTokens
 pub mod DelayTokens
 pub mod EntryTokens
+pub mod CheckTokens
+pub mod CellTokens
+pub mod FileTokens

@@ -3,6 +3,7 @@ use Rattle.std.specs.Prelude.{◌≡◌, ℕ, ◌+◌, Bool, true, List, [], ◌
 use Rattle.std.specs.List.{AllByRecursion}
 use Rattle.std.specs.Option.{option_map}
 use Rattle.std.proofs.Common.{refl, sym, ap, subst, ◌∙◌, inl, inr}
+use Rattle.std.proofs.lemmas.List.{map-append}
 use Rattle.grammar.specs.Language.{Language, image, sequence, choice, at_most_once, repetition, SpellsMany, one_token}
 use Rattle.grammar.specs.Placed.{with_place}
 use Rattle.sg_text.specs.declared.places.Place.{Place}
@@ -95,3 +96,23 @@ module _ {A : Type 0} (a : Over A) (P : A → Type 0) where
 
   pub tells_more : (Q : A → Type 0) (ms : List Meaning) → Tells a P ms → ((x : A) → P x → Q x) → Tells a Q ms
   tells_more Q ms t g ts i j s = let r = t ts i j s in (r.0, r.1, g r.0 r.2)
+
+-- ---- few parts, and more of them
+
+module _ {A B : Type 0} (a : Over A) (strip : A → B) where
+  pub says_none : Says (repetition a) (map strip) [] []
+  says_none ts i j s = ([], s, refl)
+
+  pub says_one : (b : B) (ms : List Meaning) → Says a strip b ms → Says (repetition a) (map strip) (b ∷ []) ms
+  says_one b ms t ts i j s = let r = t ts i j s in (r.0 ∷ [], (j, r.1, refl), ap (λ x. x ∷ []) r.2)
+
+  joined : (ts : List Lexeme) (i m j : ℕ) (xs ys : List A) → SpellsMany a ts i xs m → SpellsMany a ts m ys j → SpellsMany a ts i (xs ++ ys) j
+  joined ts i m j [] ys s t = subst (λ (k : ℕ). SpellsMany a ts k ys j) s t
+  joined ts i m j (x ∷ xs) ys s t = (s.0, s.1, joined ts s.0 m j xs ys s.2 t)
+
+  pub says_joined : (xs ys : List B) (ms ns : List Meaning) → Says (repetition a) (map strip) xs ms → Says (repetition a) (map strip) ys ns → Says (repetition a) (map strip) (xs ++ ys) (ms ++ ns)
+  says_joined xs ys ms ns t u ts i j s =
+      let d = split ts i ms ns j s in
+      let r = t ts i d.middle d.front in
+      let q = u ts d.middle j d.back in
+      (r.0 ++ q.0, joined ts i d.middle j r.0 q.0 r.1 q.1, map-append strip r.0 q.0 ∙ (ap (λ zs. zs ++ map strip q.0) r.2 ∙ ap (λ zs. xs ++ zs) q.2))
