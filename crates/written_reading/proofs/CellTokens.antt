@@ -161,7 +161,7 @@ pub record IsGoodScope (c : Circuit) (s : ℕ) : Type 0 where
   pub checks : AllByRecursion (IsGoodCheck (scope_at c s).variables) (entries.checks c s)
   pub names : AllByRecursion (λ n. n ≢ []) (names_to c s)
 
-each_of : {A : Type 0} (P Q : A → Type 0) → ((x : A) → P x → Q x) → (xs : List A) → AllByRecursion P xs → AllByRecursion Q xs
+pub each_of : {A : Type 0} (P Q : A → Type 0) → ((x : A) → P x → Q x) → (xs : List A) → AllByRecursion P xs → AllByRecursion Q xs
 each_of P Q f [] h = tt
 each_of P Q f (x ∷ xs) h = (f x h.0, each_of P Q f xs h.1)
 

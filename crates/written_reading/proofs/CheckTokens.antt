@@ -37,7 +37,7 @@ use Rattle.written_reading.specs.Named.{IsWrittenCondition}
 use Rattle.written_reading.specs.Placeless as placeless
 use Rattle.written_reading.proofs.Decimals.{signed_begins}
 use Rattle.written_reading.proofs.EntryTokens as entries
-use Rattle.written_reading.proofs.EntryTokens.{tells_plain, tells_edged, tells_spec, tells_cond}
+use Rattle.written_reading.proofs.EntryTokens.{IsGoodWords, tells_plain, tells_edged, tells_spec, tells_cond}
 use Rattle.written_reading.proofs.PortTokens.{IsWritten, tells_named}
 use Rattle.written_reading.proofs.Tells.{Tells, Says, tells_mark, tells_image, tells_placed, tells_left, tells_right, tells_both, tells_first, tells_second, tells_same}
 use Rattle.written_reading.proofs.ValueTokens.{says_value}
@@ -119,14 +119,14 @@ module _ (n : BitName) (some : n.name ≢ []) where
 pub record IsGoodEvent (vs : List Variable) (k : EventKey) : Type 0 where
   pub named : (name_of vs k.net).name ≢ []
   pub edge : IfSome k.edge IsWritten
-  pub condition : IfSome k.condition IsWrittenCondition
+  pub condition : IfSome k.condition IsGoodWords
 
 pub tells_event : (vs : List Variable) (k : EventKey) → IsGoodEvent vs k → Tells (terminal Slash).language (λ t. t ≡ event_terminal vs k) (event_meanings vs k)
 tells_event vs k good = by k.condition good.condition
   where
-    by : (c : Option (List Tok)) → IfSome c IsWrittenCondition → Tells (terminal Slash).language (λ t. t ≡ record { condition = c; edge = k.edge; port = port_of_name (name_of vs k.net) }) (conditional_meanings c (terminal_meanings k.edge (bit_meanings (name_of vs k.net))))
+    by : (c : Option (List Tok)) → IfSome c IsGoodWords → Tells (terminal Slash).language (λ t. t ≡ record { condition = c; edge = k.edge; port = port_of_name (name_of vs k.net) }) (conditional_meanings c (terminal_meanings k.edge (bit_meanings (name_of vs k.net))))
     by None h = tells_bare (name_of vs k.net) good.named k.edge good.edge
-    by (Some ws) h = tells_conditioned (name_of vs k.net) good.named k.edge good.edge ws h
+    by (Some ws) h = tells_conditioned (name_of vs k.net) good.named k.edge good.edge ws h.written
 
 -- ---- checks
 

@@ -1,5 +1,5 @@
 -- The tokens of the entries of delays.
-use Rattle.std.specs.Prelude.{◌≡◌, ◌≢◌, ℕ, All, IfSome, List, [], ◌∷◌, ◌++◌, map, length, flat_map, Option, Some, None, codes, true}
+use Rattle.std.specs.Prelude.{◌≡◌, ◌≢◌, ℕ, ◌≤◌, All, IfSome, List, [], ◌∷◌, ◌++◌, map, length, flat_map, Option, Some, None, codes, true}
 use Rattle.std.specs.List.{AllByRecursion}
 use Rattle.std.proofs.Common.{refl, sym, ap, subst, ◌∙◌}
 use Rattle.std.proofs.lemmas.List.{append_assoc}
@@ -20,6 +20,7 @@ use Rattle.sdf_tree.specs.Rules.{Grammar, mark, word, placed, either, optional}
 use Rattle.sdf_tree.specs.Values.{text, list, port, edge_word}
 use Rattle.sdf_tree.specs.Written.{Port, Terminal, PathCondition, always, otherwise, if_words, Delay, Body, io_path, port_delay, interconnect, device, net_delay, Entry}
 use Rattle.written_model.specs.Entries.{Numbers, LegEntry, PathEntry}
+use Rattle.written_model.specs.Faults.{depth_from}
 use Rattle.written_model.specs.Names.{BitName, name_of}
 use Rattle.written_model.specs.Text.{edge_text}
 use Rattle.written_model.specs.Tree.{nowhere, port_of_name, delay_of, leg_entry, path_entry}
@@ -83,6 +84,11 @@ module _ (n : BitName) (some : n.name ≢ []) where
       (tells_first (port Slash).language (mark is_right).language (λ p. p ≡ port_of_name n) (λ u. Unit {0}) (bit_meanings n) (right_token ∷ []) (tells_port n some) (tells_mark is_right right_token refl))))
       (edge_made e))
 
+-- a condition that isn't too deep
+pub record IsGoodWords (ws : List Tok) : Type 0 where
+  pub written : IsWrittenCondition ws
+  pub shallow : depth_from 0 ws ≤ 27
+
 pub tells_cond : (ws : List Tok) → IsWrittenCondition ws → Tells cond.language (λ xs. xs ≡ ws) (word_token (codes "COND") ∷ words_meanings ws)
 unfolding cond_parts
 tells_cond ws c =
@@ -94,7 +100,7 @@ tells_cond ws c =
 abbrev pub IsGoodCondition : PathCondition → Type 0
 IsGoodCondition always = Unit {0}
 IsGoodCondition otherwise = Unit {0}
-IsGoodCondition (if_words ws) = IsWrittenCondition ws
+IsGoodCondition (if_words ws) = IsGoodWords ws
 
 pub record IsGoodPath (vs : List Variable) (e : PathEntry) : Type 0 where
   pub input : (name_of vs e.key.input).name ≢ []
@@ -175,7 +181,7 @@ module _ (vs : List Variable) (e : PathEntry) (good : IsGoodPath vs e) where
       tells_right plain_body.language (either if_body (either else_body (net_body true Slash))).language (IsBody (if_words ws)) (body_meanings (if_words ws))
       (tells_left if_body.language (either else_body (net_body true Slash)).language (IsBody (if_words ws)) (body_meanings (if_words ws))
       (tells_image (λ (x : List Tok × Path). path_body (if_words x.0) x.1) (cond ∙∙ inner_path true Slash).language (λ x. (x.0 ≡ ws) × IsPath x.1) (IsBody (if_words ws)) (body_meanings (if_words ws))
-      (tells_both cond.language (inner_path true Slash).language (λ xs. xs ≡ ws) IsPath (word_token (codes "COND") ∷ words_meanings ws) (io_path_meanings vs e) (tells_cond ws h) tells_inner)
+      (tells_both cond.language (inner_path true Slash).language (λ xs. xs ≡ ws) IsPath (word_token (codes "COND") ∷ words_meanings ws) (io_path_meanings vs e) (tells_cond ws h.written) tells_inner)
       (λ x p. ap (λ (xs : List Tok). placeless.body (path_body (if_words xs) x.1)) p.0 ∙ body_is (if_words ws) x.1 p.1)))
   tells_body otherwise h =
       tells_right plain_body.language (either if_body (either else_body (net_body true Slash))).language (IsBody otherwise) (body_meanings otherwise)

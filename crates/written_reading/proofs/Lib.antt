@@ -10,3 +10,5 @@ pub mod EntryTokens
 pub mod CheckTokens
 pub mod CellTokens
 pub mod FileTokens
+pub mod Nesting
+pub mod FileNesting
