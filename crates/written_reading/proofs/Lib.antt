@@ -12,3 +12,5 @@ pub mod CellTokens
 pub mod FileTokens
 pub mod Nesting
 pub mod FileNesting
+pub mod Lists
+pub mod GoodScopes
