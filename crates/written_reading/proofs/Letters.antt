@@ -20,6 +20,7 @@ use Rattle.written_model.specs.Names.{escaped, first_escaped, name_text, index_t
 use Rattle.written_reading.specs.Named.{IsIndex}
 use Rattle.written_reading.specs.Pieces.{plain_letters, letter, first_letter, name_letters, index_letters, bit_letters, names_letters}
 use Rattle.written_reading.proofs.ByteClasses.{false_true, differs, is_plain, name_plain, digit_name, IsStopped, stopped_comment}
+use Rattle.written_reading.proofs.NameTexts.{name_spelled}
 use Rattle.written_reading.proofs.NumberTexts.{is_decimal, some_digit}
 
 -- ---- what they spell
@@ -28,12 +29,6 @@ pub plain_spelled : (bytes : List ℕ) → spelled (plain_letters bytes) ≡ byt
 plain_spelled [] = refl
 plain_spelled (b ∷ bs) = ap (λ xs. b ∷ xs) (plain_spelled bs)
 
-letter_written : (b : ℕ) → written (letter b) ≡ escaped b
-letter_written b = elim (cases_Bool (is_name_byte b)) [
-  | inl y ↦ rw y refl
-  | inr n ↦ rw n refl
-]
-
 -- a first letter is escaped where it is a digit, and else as the others
 pub first_digit : (b : ℕ) → is_ascii_digit b ≡ true → first_letter b ≡ Escaped b
 first_digit b y = ap (λ t. if t then Escaped b else letter b) y
@@ -41,31 +36,12 @@ first_digit b y = ap (λ t. if t then Escaped b else letter b) y
 pub first_other : (b : ℕ) → is_ascii_digit b ≡ false → first_letter b ≡ letter b
 first_other b n = ap (λ t. if t then Escaped b else letter b) n
 
-first_written : (b : ℕ) → written (first_letter b) ≡ first_escaped b
-first_written b = elim (cases_Bool (is_ascii_digit b)) [
-  | inl y ↦ ap written (first_digit b y) ∙ sym (ap (λ t. if t then 92 ∷ b ∷ [] else escaped b) y)
-  | inr n ↦ ap written (first_other b n) ∙ letter_written b ∙ sym (ap (λ t. if t then 92 ∷ b ∷ [] else escaped b) n)
-]
-
-letters_spelled : (bs : List ℕ) → spelled (map letter bs) ≡ flat_map escaped bs
-letters_spelled [] = refl
-letters_spelled (b ∷ bs) = rw (letter_written b, letters_spelled bs) refl
-
-pub name_spelled : (name : List ℕ) → spelled (name_letters name) ≡ name_text name
-name_spelled [] = refl
-name_spelled (b ∷ bs) = rw (first_written b, letters_spelled bs) refl
-
 pub index_spelled : (index : Option ℤ) → spelled (index_letters index) ≡ index_text index
 index_spelled None = refl
 index_spelled (Some i) = ap (λ xs. 91 ∷ xs) (spelled-append (plain_letters (signed_decimal i)) (Plain 93 ∷ []) ∙ ap (λ xs. xs ++ 93 ∷ []) (plain_spelled (signed_decimal i)))
 
 pub bit_spelled : (name : List ℕ) (index : Option ℤ) → spelled (bit_letters name index) ≡ name_text name ++ index_text index
 bit_spelled name index = spelled-append (name_letters name) (index_letters index) ∙ rw (name_spelled name, index_spelled index) refl
-
-pub names_spelled : (names : List (List ℕ)) → spelled (names_letters names) ≡ names_text names
-names_spelled [] = refl
-names_spelled (n ∷ []) = name_spelled n
-names_spelled (n ∷ m ∷ more) = spelled-append (name_letters n) (Plain 47 ∷ names_letters (m ∷ more)) ∙ rw (name_spelled n, names_spelled (m ∷ more)) refl
 
 -- ---- letters that go on each word
 

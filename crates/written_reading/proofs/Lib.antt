@@ -1,4 +1,19 @@
 -- The modules of this folder, in reading order.
+pub mod Lists
+pub mod Decimals
+pub mod NameTexts
+pub mod Spans
+pub mod Tells
+pub mod ValueTokens
+pub mod PortTokens
+pub mod DelayTokens
+pub mod EntryTokens
+pub mod CheckTokens
+pub mod CellTokens
+pub mod FileTokens
+pub mod Nesting
+pub mod FileNesting
+pub mod GoodScopes
 pub mod ByteClasses
 pub mod NumberTexts
 pub mod Letters
@@ -11,7 +26,6 @@ pub mod SpelledFile
 pub mod MeantPieces
 pub mod MeantEntries
 pub mod MeantFile
-pub mod Lists
 pub mod Clauses
 pub mod Indexes
 pub mod NamedEntries

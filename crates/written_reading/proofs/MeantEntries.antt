@@ -26,9 +26,10 @@ use Rattle.written_model.specs.Tree.{datum_of}
 use Rattle.written_reading.specs.Meanings as meanings
 use Rattle.written_reading.specs.Meanings.{index_in_front, name_meaning, words_meanings, select_meanings, port_meanings, terminal_meanings, conditional_meanings, event_meanings, value_meanings, delay_meanings, leg_meanings, io_path_meanings, path_meanings, terminals_meanings, check_meanings}
 use Rattle.written_reading.specs.Pieces.{bit_letters, word, blank, right, words_pieces, port_pieces, terminal_pieces, conditional_pieces, event_pieces, value_pieces, delay_pieces, leg_pieces, io_path_pieces, under_condition, path_pieces, terminals_pieces, check_pieces}
+use Rattle.written_reading.proofs.DelayTokens.{AreShort}
 use Rattle.written_reading.proofs.MeantPieces.{meant, meant_joined, number_meant, bit_meant}
 use Rattle.written_reading.proofs.SoundEntries.{front_index}
-use Rattle.written_reading.proofs.Writable.{IsPort, IsToken, AreFollowed, IsClause, IsPathClause, IsEventClause, AreShort, IsLeg, IsPath, IsEvent, IsCheck}
+use Rattle.written_reading.proofs.Writable.{IsPort, IsToken, AreFollowed, IsClause, IsPathClause, IsEventClause, IsLeg, IsPath, IsEvent, IsCheck}
 
 -- a piece of one token
 pub one_meant : (p : Piece) (ps : List Piece) (m : Meaning) {y : List Meaning} → meant p ≡ m ∷ [] → flat_map meant ps ≡ y → flat_map meant (p ∷ ps) ≡ m ∷ y

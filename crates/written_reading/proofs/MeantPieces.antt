@@ -23,7 +23,8 @@ use Rattle.written_reading.specs.Meanings.{name_meaning, select_meanings}
 use Rattle.written_reading.specs.Named.{IsIndex}
 use Rattle.written_reading.specs.Pieces.{plain_letters, letter, name_letters, index_letters, bit_letters, names_letters, word}
 use Rattle.written_reading.proofs.ByteClasses.{differs}
-use Rattle.written_reading.proofs.Letters.{plain_spelled, name_spelled, bit_spelled, names_spelled, first_digit, first_other, IsSomeIndex}
+use Rattle.written_reading.proofs.Letters.{plain_spelled, bit_spelled, first_digit, first_other, IsSomeIndex}
+use Rattle.written_reading.proofs.NameTexts.{name_spelled, names_spelled}
 use Rattle.written_reading.proofs.NumberTexts.{is_decimal, some_digit, few_digits}
 
 abbrev pub means : List Lexeme → List Meaning

@@ -18,12 +18,14 @@ use Rattle.written_model.specs.Faults.{sizes_of, sizes, path_conditions, event_c
 use Rattle.written_model.specs.Names.{below, names_in}
 use Rattle.written_model.specs.Tree.{datum_of}
 use Rattle.written_reading.specs.Named.{IsNameText, IsWrittenCondition, IsVariableText, IsNetOf, IsNamedSpot, IsNamedCheck, IsNamed}
+use Rattle.written_reading.proofs.DelayTokens.{AreShort}
+use Rattle.written_reading.proofs.CellTokens.{each_of}
 use Rattle.written_reading.proofs.Clauses.{some_none, name_of_text, clause_is}
 use Rattle.written_reading.proofs.Indexes.{IsWide, bit_found}
 use Rattle.written_reading.proofs.Letters.{AreNames}
-use Rattle.written_reading.proofs.Lists.{all_joined, all_parted, all_if, all_weaker, all_both, all_unmapped, all_flat, all_unflat, none_any, all_ranked}
+use Rattle.written_reading.proofs.Lists.{all_append, all_front, all_back, all_flat, all_pieces, all_mapped, all_by_rank, all_with, none_passes}
 use Rattle.written_reading.proofs.SoundFile.{IsWritable}
-use Rattle.written_reading.proofs.Writable.{IsPort, IsPathClause, IsEventClause, AreShort, IsLeg, IsPath, IsCheck}
+use Rattle.written_reading.proofs.Writable.{IsPort, IsPathClause, IsEventClause, IsLeg, IsPath, IsCheck}
 
 -- ---- sizes
 
@@ -33,10 +35,10 @@ IsSmall n = n < 10 ^ 18
 small_sizes : (c : Circuit) (s : ℕ) → is_too_long c s ≡ false → AllByRecursion IsSmall (sizes c s)
 small_sizes c s h =
     let none = (or_parts (list_any (λ n. nat_le (10 ^ 18) n) (sizes c s)) (list_any (is_heavy c s) (check_entries c s)) h).0 in
-    all_weaker (λ n. nat_le (10 ^ 18) n ≡ false) IsSmall (λ n e. leb-false (10 ^ 18) n e) (sizes c s) (none_any (λ n. nat_le (10 ^ 18) n) (sizes c s) none)
+    each_of (λ n. nat_le (10 ^ 18) n ≡ false) IsSmall (λ n e. leb-false (10 ^ 18) n e) (sizes c s) (none_passes (λ n. nat_le (10 ^ 18) n) (sizes c s) none)
 
 short_numbers : (ns : List Numbers) → AllByRecursion IsSmall (flat_map sizes_of ns) → AllByRecursion AreShort ns
-short_numbers ns h = all_weaker (λ n. AllByRecursion IsSmall (sizes_of n)) AreShort (λ n k. record { delay = k.0; reject = k.1.0; error = k.1.1.0 }) ns (all_unflat IsSmall sizes_of ns h)
+short_numbers ns h = each_of (λ n. AllByRecursion IsSmall (sizes_of n)) AreShort (λ n k. record { delay = k.0; reject = k.1.0; error = k.1.1.0 }) ns (all_pieces IsSmall sizes_of ns h)
 
 pub record HasSmall (c : Circuit) (s : ℕ) : Type 0 where
   pub legs : AllByRecursion (λ (e : LegEntry). AllByRecursion AreShort e.numbers) (legs c s)
@@ -48,12 +50,12 @@ has_small c s f =
     let ls = flat_map (λ (e : LegEntry). flat_map sizes_of e.numbers) (legs c s) in
     let ps = flat_map (λ (e : PathEntry). flat_map sizes_of e.numbers) (path_entries c s) in
     let ks = map (λ (e : CheckEntry). unsigned_abs e.limit) (check_entries c s) in
-    let one = all_parted IsSmall ls (ps ++ ks) (small_sizes c s (f.short s)) in
-    let two = all_parted IsSmall ps ks one.1 in
+    let all = small_sizes c s (f.short s) in
+    let later = all_back IsSmall ls (ps ++ ks) all in
     record {
-      legs = all_weaker (λ (e : LegEntry). AllByRecursion IsSmall (flat_map sizes_of e.numbers)) _ (λ e h. short_numbers e.numbers h) (legs c s) (all_unflat IsSmall (λ (e : LegEntry). flat_map sizes_of e.numbers) (legs c s) one.0);
-      paths = all_weaker (λ (e : PathEntry). AllByRecursion IsSmall (flat_map sizes_of e.numbers)) _ (λ e h. short_numbers e.numbers h) (path_entries c s) (all_unflat IsSmall (λ (e : PathEntry). flat_map sizes_of e.numbers) (path_entries c s) two.0);
-      checks = all_unmapped IsSmall (λ (e : CheckEntry). unsigned_abs e.limit) (check_entries c s) two.1;
+      legs = each_of (λ (e : LegEntry). AllByRecursion IsSmall (flat_map sizes_of e.numbers)) _ (λ e h. short_numbers e.numbers h) (legs c s) (all_pieces IsSmall (λ (e : LegEntry). flat_map sizes_of e.numbers) (legs c s) (all_front IsSmall ls (ps ++ ks) all));
+      paths = each_of (λ (e : PathEntry). AllByRecursion IsSmall (flat_map sizes_of e.numbers)) _ (λ e h. short_numbers e.numbers h) (path_entries c s) (all_pieces IsSmall (λ (e : PathEntry). flat_map sizes_of e.numbers) (path_entries c s) (all_front IsSmall ps ks later));
+      checks = all_mapped IsSmall (λ (e : CheckEntry). unsigned_abs e.limit) (check_entries c s) (all_back IsSmall ps ks later);
     }
 
 -- ---- scopes
@@ -90,9 +92,13 @@ names_are (suc turns) c s h = by (scope_at c s).parent refl (λ p. names_are tur
   where
     by : (o : Option ℕ) → (scope_at c s).parent ≡ o → ((p : ℕ) → AreNames (names_in turns c p)) → AreNames (below (names_in turns c) (scope_at c s).name o)
     by None e rest = tt
-    by (Some p) e rest = all_joined _ (names_in turns c p) ((scope_at c s).name ∷ []) (rest p) (name_of_text (scope_at c s).name (name_is c s p h e), tt)
+    by (Some p) e rest = all_append _ (names_in turns c p) ((scope_at c s).name ∷ []) (rest p) (name_of_text (scope_at c s).name (name_is c s p h e), tt)
 
 -- ---- ports of entries
+
+all_if : {A : Type 0} (P : A → Type 0) (b : Bool) (x : A) → (b ≡ true → P x) → AllByRecursion P (if b then x ∷ [] else [])
+all_if P true x h = (h refl, tt)
+all_if P false x h = tt
 
 abbrev HasLegPort : Circuit → ℕ → LegEntry → Type 0
 HasLegPort c s e = IsPort (scope_at c s).variables e.net
@@ -105,7 +111,7 @@ HasCheckPorts c s e = IsPort (scope_at c s).variables e.key.refer.net × IsPort 
 
 module _ (c : Circuit) (s : ℕ) (h : IsNamed c) (w : AreWide c) where
   leg_ports : AllByRecursion (HasLegPort c s) (legs c s)
-  leg_ports = all_flat (HasLegPort c s) (IsNamedSpot c) (legs_at s) each (spots c) (recursion_from_All (IsNamedSpot c) (spots c) h.spots)
+  leg_ports = all_flat (HasLegPort c s) (legs_at s) (spots c) (each_of (IsNamedSpot c) _ each (spots c) (recursion_from_All (IsNamedSpot c) (spots c) h.spots))
     where
       each : (spot : Spot) → IsNamedSpot c spot → AllByRecursion (HasLegPort c s) (legs_at s spot)
       each (leg_spot scope inputs output timings) n =
@@ -113,7 +119,7 @@ module _ (c : Circuit) (s : ℕ) (h : IsNamed c) (w : AreWide c) where
       each (path_spot scope output path) n = tt
 
   path_ports : AllByRecursion (HasPathPorts c s) (path_entries c s)
-  path_ports = all_flat (HasPathPorts c s) (IsNamedSpot c) (paths_at s) each (spots c) (recursion_from_All (IsNamedSpot c) (spots c) h.spots)
+  path_ports = all_flat (HasPathPorts c s) (paths_at s) (spots c) (each_of (IsNamedSpot c) _ each (spots c) (recursion_from_All (IsNamedSpot c) (spots c) h.spots))
     where
       each : (spot : Spot) → IsNamedSpot c spot → AllByRecursion (HasPathPorts c s) (paths_at s spot)
       each (leg_spot scope inputs output timings) n = tt
@@ -127,7 +133,7 @@ module _ (c : Circuit) (s : ℕ) (h : IsNamed c) (w : AreWide c) where
   datum_port k written refer (Some e) d r = d
 
   check_ports : AllByRecursion (HasCheckPorts c s) (check_entries c s)
-  check_ports = all_flat (HasCheckPorts c s) (IsNamedCheck c) (checks_at s) each (all_checked c) (recursion_from_All (IsNamedCheck c) (all_checked c) h.checks)
+  check_ports = all_flat (HasCheckPorts c s) (checks_at s) (all_checked c) (each_of (IsNamedCheck c) _ each (all_checked c) (recursion_from_All (IsNamedCheck c) (all_checked c) h.checks))
     where
       datum : (k : Checked) → IsNamedCheck c k → (o : Option Event) → k.timing.datum ≡ o → IfSome o (λ e. IsPort (scope_at c k.check.scope).variables e.net)
       datum k n None e = tt
@@ -165,10 +171,10 @@ pub has_conditions : (c : Circuit) (s : ℕ) → IsNamed c → HasConditions c s
 has_conditions c s h =
     let ps = flat_map (λ (e : PathEntry). path_conditions e.key.condition) (path_entries c s) in
     let ks = flat_map check_conditions (check_entries c s) in
-    let both = all_parted IsWrittenCondition ps ks (recursion_from_All IsWrittenCondition (conditions c s) (h.conditions s)) in
+    let all = recursion_from_All IsWrittenCondition (conditions c s) (h.conditions s) in
     record {
-      paths = all_unflat IsWrittenCondition (λ (e : PathEntry). path_conditions e.key.condition) (path_entries c s) both.0;
-      checks = all_unflat IsWrittenCondition check_conditions (check_entries c s) both.1;
+      paths = all_pieces IsWrittenCondition (λ (e : PathEntry). path_conditions e.key.condition) (path_entries c s) (all_front IsWrittenCondition ps ks all);
+      checks = all_pieces IsWrittenCondition check_conditions (check_entries c s) (all_back IsWrittenCondition ps ks all);
     }
 
 path_clause : (p : PathCondition) → Written (path_conditions p) → IsPathClause p
@@ -194,11 +200,11 @@ path_is c s e p n = record { input = p.0; output = p.1; condition = path_clause 
 
 check_is : (c : Circuit) (s : ℕ) (e : CheckEntry) → HasCheckPorts c s e → Written (check_conditions e) × IsSmall (unsigned_abs e.limit) → IsCheck (scope_at c s).variables e
 check_is c s e p n =
-    let both = all_parted IsWrittenCondition (event_conditions e.key.refer.condition) (datum_conditions e.key.datum) n.0 in
-    let refer = event_clause e.key.refer.condition both.0 in
+    let refer = event_clause e.key.refer.condition (all_front IsWrittenCondition (event_conditions e.key.refer.condition) (datum_conditions e.key.datum) n.0) in
+    let datum = all_back IsWrittenCondition (event_conditions e.key.refer.condition) (datum_conditions e.key.datum) n.0 in
     record {
       refer = record { port = p.0; condition = refer };
-      datum = record { port = p.1; condition = datum_clause e.key.refer e.key.datum refer both.1 };
+      datum = record { port = p.1; condition = datum_clause e.key.refer e.key.datum refer datum };
       limit = n.1;
     }
 
@@ -209,11 +215,11 @@ writable c h w f s =
     let vs = (scope_at c s).variables in
     record {
       names = names_are (length c.scopes) c s h;
-      legs = all_both (HasLegPort c s) (λ (e : LegEntry). AllByRecursion AreShort e.numbers) (IsLeg vs) (leg_is c s) (legs c s) (leg_ports c s h w) small.legs;
-      paths = all_ranked (IsPath vs) (λ (e : PathEntry). path_rank e.key) (path_entries c s)
-          (all_both (HasPathPorts c s) (λ (e : PathEntry). Written (path_conditions e.key.condition) × AllByRecursion AreShort e.numbers) (IsPath vs) (path_is c s) (path_entries c s) (path_ports c s h w)
-          (all_both (λ (e : PathEntry). Written (path_conditions e.key.condition)) (λ (e : PathEntry). AllByRecursion AreShort e.numbers) _ (λ e a b. (a, b)) (path_entries c s) written.paths small.paths));
-      checks = all_ranked (IsCheck vs) (λ (e : CheckEntry). check_rank e.key) (check_entries c s)
-          (all_both (HasCheckPorts c s) (λ (e : CheckEntry). Written (check_conditions e) × IsSmall (unsigned_abs e.limit)) (IsCheck vs) (check_is c s) (check_entries c s) (check_ports c s h w)
-          (all_both (λ (e : CheckEntry). Written (check_conditions e)) (λ (e : CheckEntry). IsSmall (unsigned_abs e.limit)) _ (λ e a b. (a, b)) (check_entries c s) written.checks small.checks));
+      legs = all_with (HasLegPort c s) (λ (e : LegEntry). AllByRecursion AreShort e.numbers) (IsLeg vs) (leg_is c s) (legs c s) (leg_ports c s h w) small.legs;
+      paths = all_by_rank (IsPath vs) (λ (e : PathEntry). path_rank e.key) (path_entries c s)
+          (all_with (HasPathPorts c s) (λ (e : PathEntry). Written (path_conditions e.key.condition) × AllByRecursion AreShort e.numbers) (IsPath vs) (path_is c s) (path_entries c s) (path_ports c s h w)
+          (all_with (λ (e : PathEntry). Written (path_conditions e.key.condition)) (λ (e : PathEntry). AllByRecursion AreShort e.numbers) _ (λ e a b. (a, b)) (path_entries c s) written.paths small.paths));
+      checks = all_by_rank (IsCheck vs) (λ (e : CheckEntry). check_rank e.key) (check_entries c s)
+          (all_with (HasCheckPorts c s) (λ (e : CheckEntry). Written (check_conditions e) × IsSmall (unsigned_abs e.limit)) (IsCheck vs) (check_is c s) (check_entries c s) (check_ports c s h w)
+          (all_with (λ (e : CheckEntry). Written (check_conditions e)) (λ (e : CheckEntry). IsSmall (unsigned_abs e.limit)) _ (λ e a b. (a, b)) (check_entries c s) written.checks small.checks));
     }

@@ -23,11 +23,12 @@ use Rattle.written_model.specs.Tree.{datum_of}
 use Rattle.written_reading.specs.Meanings.{index_in_front}
 use Rattle.written_reading.specs.Named.{IsIndex}
 use Rattle.written_reading.specs.Pieces.{plain_letters, bit_letters, word, blank, left, right, words_pieces, port_pieces, terminal_pieces, conditional_pieces, event_pieces, value_pieces, delay_pieces, leg_pieces, io_path_pieces, under_condition, path_pieces, two_terminals, terminals_pieces, check_pieces}
+use Rattle.written_reading.proofs.DelayTokens.{AreShort}
 use Rattle.written_reading.proofs.ByteClasses.{IsStopped}
 use Rattle.written_reading.proofs.Letters.{IsSomeIndex, fits_safe, fits_bit, fits_number, decimal_safe}
 use Rattle.written_reading.proofs.NumberTexts.{some_digit}
 use Rattle.written_reading.proofs.SoundPieces.{IsSound, AreSound, keyword_sound, sound_append}
-use Rattle.written_reading.proofs.Writable.{IsNameOf, IsPort, IsToken, IsClause, IsPathClause, IsEventClause, AreShort, IsLeg, IsPath, IsEvent, IsCheck}
+use Rattle.written_reading.proofs.Writable.{IsNameOf, IsPort, IsToken, IsClause, IsPathClause, IsEventClause, IsLeg, IsPath, IsEvent, IsCheck}
 
 -- sound wherever a word may end
 abbrev pub IsEnded : List Piece → Type 0

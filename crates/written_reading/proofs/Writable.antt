@@ -10,6 +10,7 @@ use Rattle.written_model.specs.Names.{BitName, name_of}
 use Rattle.written_model.specs.Tree.{datum_of}
 use Rattle.written_reading.specs.Meanings.{index_in_front}
 use Rattle.written_reading.specs.Named.{IsIndex}
+use Rattle.written_reading.proofs.DelayTokens.{AreShort}
 use Rattle.written_reading.proofs.Letters.{AreGood, IsSomeIndex}
 
 abbrev pub IsNameOf : List ℕ → Type 0
@@ -54,11 +55,6 @@ IsEventClause None = Unit {0}
 IsEventClause (Some words) = IsClause words
 
 -- ---- entries
-
-pub record AreShort (n : Numbers) : Type 0 where
-  pub delay : n.delay < 10 ^ 18
-  pub reject : n.reject < 10 ^ 18
-  pub error : n.error < 10 ^ 18
 
 pub record IsLeg (vs : List Variable) (e : LegEntry) : Type 0 where
   pub port : IsPort vs e.net
