@@ -30,3 +30,4 @@ pub mod Clauses
 pub mod Indexes
 pub mod NamedEntries
 pub mod Lexed
+pub mod WholeText
