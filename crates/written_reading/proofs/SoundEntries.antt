@@ -132,9 +132,6 @@ event_ended vs k h = conditional_ended k.condition (terminal_pieces k.edge (port
 
 -- ---- values and delays
 
-value_closed : (number : List ℕ) → IsSound (word number) → IsClosed (value_pieces number)
-value_closed number h = λ after. (refl, tt, (h, refl, (refl, tt, tt)))
-
 blank_value : (number : List ℕ) (ps : List Piece) → IsSound (word number) → (after : List ℕ) → AreSound after ps → AreSound after (value_pieces number ++ ps)
 blank_value number ps h after k = (refl, tt, (h, refl, (refl, tt, k)))
 

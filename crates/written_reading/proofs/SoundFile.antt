@@ -13,7 +13,7 @@ use Rattle.written_model.specs.Names.{names_to}
 use Rattle.written_model.specs.Text.{unit_text, text_below}
 use Rattle.written_model.specs.Tree.{cell_type_of, delay_entries, check_entries, parts_of}
 use Rattle.written_reading.specs.Meanings.{around}
-use Rattle.written_reading.specs.Pieces.{plain_letters, names_letters, word, blank, line_end, left, right, leg_pieces, path_pieces, check_pieces, line, delays_pieces, checks_pieces, parts_pieces, instance_pieces, cell_head_pieces, cell_pieces, head_pieces, pieces}
+use Rattle.written_reading.specs.Pieces.{plain_letters, names_letters, word, blank, line_end, left, right, leg_pieces, path_pieces, check_pieces, line, delays_pieces, checks_pieces, delay_front, check_front, parts_pieces, instance_pieces, cell_head_pieces, cell_pieces, head_pieces, pieces}
 use Rattle.written_reading.proofs.ByteClasses.{IsStopped, false_true}
 use Rattle.written_reading.proofs.Letters.{is_safe, AreNames, fits_names, fits_slash}
 use Rattle.written_reading.proofs.SoundPieces.{IsSound, keyword_sound}
@@ -54,22 +54,22 @@ checks_closed c s h =
     let vs = (scope_at c s).variables in
     all_closed (λ e. line (check_pieces vs e)) (IsCheck vs) (checks c s) (λ e k. line_closed (check_pieces vs e) (check_closed vs e k)) h.checks
 
-delay_front : IsClosed (left ∷ word (codes "DELAY") ∷ blank ∷ left ∷ word (codes "ABSOLUTE") ∷ line_end ∷ [])
+delay_front_closed : IsClosed delay_front
 unfolding class_of
-delay_front = λ after. (refl, tt, (keyword_sound (codes "DELAY") refl, refl, (refl, tt, (refl, tt, (keyword_sound (codes "ABSOLUTE") refl, refl, (refl, tt, tt))))))
+delay_front_closed = λ after. (refl, tt, (keyword_sound (codes "DELAY") refl, refl, (refl, tt, (refl, tt, (keyword_sound (codes "ABSOLUTE") refl, refl, (refl, tt, tt))))))
 
-check_front : IsClosed (left ∷ word (codes "TIMINGCHECK") ∷ line_end ∷ [])
+check_front_closed : IsClosed check_front
 unfolding class_of
-check_front = λ after. (refl, tt, (keyword_sound (codes "TIMINGCHECK") refl, refl, (refl, tt, tt)))
+check_front_closed = λ after. (refl, tt, (keyword_sound (codes "TIMINGCHECK") refl, refl, (refl, tt, tt)))
 
 parts_closed : (c : Circuit) (s : ℕ) → IsWritable c s → IsClosed (parts_pieces c s)
 parts_closed c s h =
     closed_append
-    (around (delay_entries c s) (left ∷ word (codes "DELAY") ∷ blank ∷ left ∷ word (codes "ABSOLUTE") ∷ line_end ∷ []) (right ∷ right ∷ line_end ∷ []) (delays_pieces c s))
-    (around (check_entries c s) (left ∷ word (codes "TIMINGCHECK") ∷ line_end ∷ []) (right ∷ line_end ∷ []) (checks_pieces c s))
-    (around_closed (delay_entries c s) (left ∷ word (codes "DELAY") ∷ blank ∷ left ∷ word (codes "ABSOLUTE") ∷ line_end ∷ []) (right ∷ right ∷ line_end ∷ []) (delays_pieces c s) delay_front
+    (around (delay_entries c s) delay_front (right ∷ right ∷ line_end ∷ []) (delays_pieces c s))
+    (around (check_entries c s) check_front (right ∷ line_end ∷ []) (checks_pieces c s))
+    (around_closed (delay_entries c s) delay_front (right ∷ right ∷ line_end ∷ []) (delays_pieces c s) delay_front_closed
     (λ after. (refl, tt, (refl, tt, (refl, tt, tt)))) (delays_closed c s h))
-    (around_closed (check_entries c s) (left ∷ word (codes "TIMINGCHECK") ∷ line_end ∷ []) (right ∷ line_end ∷ []) (checks_pieces c s) check_front
+    (around_closed (check_entries c s) check_front (right ∷ line_end ∷ []) (checks_pieces c s) check_front_closed
     (λ after. (refl, tt, (refl, tt, tt))) (checks_closed c s h))
 
 -- ---- cells

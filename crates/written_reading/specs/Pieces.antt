@@ -145,10 +145,14 @@ delays_pieces c s = flat_map (λ e. line (leg_pieces (scope_at c s).variables e)
 abbrev pub checks_pieces : Circuit → ℕ → List Piece
 checks_pieces c s = flat_map (λ e. line (check_pieces (scope_at c s).variables e)) (checks c s)
 
+abbrev pub delay_front : List Piece
+delay_front = left ∷ word (codes "DELAY") ∷ blank ∷ left ∷ word (codes "ABSOLUTE") ∷ line_end ∷ []
+
+abbrev pub check_front : List Piece
+check_front = left ∷ word (codes "TIMINGCHECK") ∷ line_end ∷ []
+
 abbrev pub parts_pieces : Circuit → ℕ → List Piece
-parts_pieces c s =
-    around (delay_entries c s) (left ∷ word (codes "DELAY") ∷ blank ∷ left ∷ word (codes "ABSOLUTE") ∷ line_end ∷ []) (right ∷ right ∷ line_end ∷ []) (delays_pieces c s)
-    ++ around (check_entries c s) (left ∷ word (codes "TIMINGCHECK") ∷ line_end ∷ []) (right ∷ line_end ∷ []) (checks_pieces c s)
+parts_pieces c s = around (delay_entries c s) delay_front (right ∷ right ∷ line_end ∷ []) (delays_pieces c s) ++ around (check_entries c s) check_front (right ∷ line_end ∷ []) (checks_pieces c s)
 
 abbrev pub instance_pieces : List (List ℕ) → List Piece
 instance_pieces [] = []
