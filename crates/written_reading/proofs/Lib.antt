@@ -14,3 +14,6 @@ pub mod Nesting
 pub mod FileNesting
 pub mod Lists
 pub mod GoodScopes
+pub mod NoFaults
+pub mod SoundTree
+pub mod TokensRead
