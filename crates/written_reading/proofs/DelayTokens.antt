@@ -61,6 +61,10 @@ pub record AreShort (n : Numbers) : Type 0 where
   pub reject : n.reject < 10 ^ 18
   pub error : n.error < 10 ^ 18
 
+-- what is lost is at most as long as what becomes x
+abbrev pub IsOrdered : Numbers → Type 0
+IsOrdered n = n.reject ≤ n.error
+
 small : (n : ℕ) → n < 10 ^ 18 → n < 2 ^ 64
 small n l = omega arith
 

@@ -27,7 +27,7 @@ use Rattle.written_model.specs.Tree.{nowhere, port_of_name, delay_of, leg_entry,
 use Rattle.written_reading.specs.Meanings.{words_meanings, bit_meanings, terminal_meanings, conditional_meanings, delay_meanings, leg_meanings, io_path_meanings, under_condition, path_meanings}
 use Rattle.written_reading.specs.Named.{IsWrittenCondition}
 use Rattle.written_reading.specs.Placeless as placeless
-use Rattle.written_reading.proofs.DelayTokens.{AreShort, says_list, IsTail, tells_tail}
+use Rattle.written_reading.proofs.DelayTokens.{AreShort, IsOrdered, says_list, IsTail, tells_tail}
 use Rattle.written_reading.proofs.PortTokens.{IsWritten, tells_word, tells_edge, tells_port, tells_condition}
 use Rattle.written_reading.proofs.Tells.{Tells, Says, tells_mark, tells_image, tells_placed, tells_none, tells_left, tells_right, tells_both, tells_first, tells_second, tells_same}
 
@@ -109,6 +109,7 @@ pub record IsGoodPath (vs : List Variable) (e : PathEntry) : Type 0 where
   pub condition : IsGoodCondition e.key.condition
   pub twelve : length e.numbers ≡ 12
   pub short : AllByRecursion AreShort e.numbers
+  pub ordered : AllByRecursion IsOrdered e.numbers
 
 module _ (vs : List Variable) (e : PathEntry) (good : IsGoodPath vs e) where
   abbrev input : List Meaning
@@ -219,6 +220,7 @@ pub record IsGoodLeg (vs : List Variable) (e : LegEntry) : Type 0 where
   pub named : (name_of vs e.net).name ≢ []
   pub twelve : length e.numbers ≡ 12
   pub short : AllByRecursion AreShort e.numbers
+  pub ordered : AllByRecursion IsOrdered e.numbers
 
 module _ (vs : List Variable) (e : LegEntry) (good : IsGoodLeg vs e) where
   abbrev net : List Meaning

@@ -201,7 +201,7 @@ module _ (c : Circuit) where
 
 -- ---- tokens of such meanings
 
-abbrev means : Lexeme → Meaning
+abbrev pub means : Lexeme → Meaning
 means t = t.meaning
 
 few_open : (d : ℕ) (ts : List Lexeme) (i : ℕ) (t : Lexeme) → slice_get ts i ≡ Some t → AreShallow d (map means ts) → read.depth_from d (take (suc i) ts) ≤ 32

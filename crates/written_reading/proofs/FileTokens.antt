@@ -1,5 +1,5 @@
 -- The tokens of a file.
-use Rattle.std.specs.Prelude.{◌≡◌, ℕ, ◌+◌, ◌<◌, ◌&&◌, ℤ, pos, negsuc, ◌+ℤ◌, ◌≤ℤ◌, Bool, true, false, List, [], ◌∷◌, ◌++◌, map, length, flat_map, Option, Some, None, codes}
+use Rattle.std.specs.Prelude.{◌≡◌, ℕ, ◌+◌, ◌<◌, ◌&&◌, ℤ, pos, negsuc, ◌+ℤ◌, Bool, true, false, List, [], ◌∷◌, ◌++◌, map, length, flat_map, Option, Some, None, codes}
 use Rattle.std.specs.List.{AllByRecursion, list_all, range_with_len}
 use Rattle.std.proofs.Common.{refl, sym, ap, subst, ◌∙◌, arith, int_eq}
 use Rattle.std.proofs.lemmas.Int.{ints}
@@ -26,6 +26,7 @@ use Rattle.written_model.specs.Names.{names_to}
 use Rattle.written_model.specs.Text.{tick_text}
 use Rattle.written_model.specs.Tree.{unless_empty, parts_of, cell_type_of, instance_of, cells_of, tree}
 use Rattle.written_reading.specs.Meanings.{around, parts_meanings, instance_meanings, cell_head_meanings, cell_meanings, head_meanings, meanings}
+use Rattle.written_reading.specs.Named.{IsTick}
 use Rattle.written_reading.specs.Placeless as placeless
 use Rattle.written_reading.proofs.CellTokens.{IsGoodScope, says_parts, tells_text, cell_words, says_cell}
 use Rattle.written_reading.proofs.PortTokens.{tells_word}
@@ -89,11 +90,6 @@ tells_divider =
     (tells_second (word keyword.Divider).language (token (λ t. divider_word t.meaning) is_divider).language (λ u. Unit {0}) (λ d. d ≡ Slash) (word_token (codes "DIVIDER") ∷ []) (word_token (codes "/") ∷ []) (tells_word keyword.Divider (codes "DIVIDER") divider_keyword)
     (tells_token (λ t. divider_word t.meaning) is_divider (λ d. d ≡ Slash) (word_token (codes "/")) refl (λ t e. ap divider_word e)))
     (λ d e. ap (λ (x : Divider). divider_head x) e)))
-
--- a unit that has a word: 100 s down to 1 fs
-pub record IsTick (tick : ℤ) : Type 0 where
-  pub least : negsuc 14 ≤ℤ tick
-  pub greatest : tick ≤ℤ pos 2
 
 is_own_unit : ℤ → Bool
 is_own_unit tick = is_joined (word_kind None (tick_text tick)) && int_eq (joined_word (word_token (tick_text tick))) tick

@@ -10,9 +10,9 @@ use Rattle.sg_logic.specs.declared.edges.Edge as netlist
 use Rattle.sg_logic.specs.declared.edges.TheConstants.{POSEDGE, NEGEDGE}
 use Rattle.sg_circuit.specs.declared.checks.Event.{Event}
 use Rattle.sg_circuit.specs.declared.scopes.Port.{Port}
-use Rattle.sg_circuit.specs.Closed.{IsClosed, AreTimings, HasDelays}
+use Rattle.sg_circuit.specs.Closed.{IsClosed, IsTiming, AreTimings, HasDelays}
 use Rattle.sg_circuit.specs.Paths as specify
-use Rattle.sg_circuit.specs.Timings.{Timing}
+use Rattle.sg_circuit.specs.Timings.{Timing, limits_or}
 use Rattle.sg_circuit.specs.Circuit.{Circuit, Element, Kind, Gate, Udp, Pass, Leg, Path, Late, Variable, Scope, scope_at}
 use Rattle.annotation_model.specs.Same.{bare, is_edge}
 use Rattle.annotation_model.specs.Spots.{Spot, leg_spot, path_spot, spots_in, spots_of, spots, timings_of, Checked, all_checked}
@@ -28,7 +28,7 @@ use Rattle.written_model.specs.Tree.{datum_of}
 use Rattle.written_reading.specs.Named.{IsNameText, IsWrittenCondition, IsVariableText, IsNetOf, IsNamedSpot, IsNamedCheck, IsNamed}
 use Rattle.written_reading.proofs.CellTokens.{IsGoodScope, each_of}
 use Rattle.written_reading.proofs.CheckTokens.{IsGoodEvent, IsGoodCheck}
-use Rattle.written_reading.proofs.DelayTokens.{AreShort}
+use Rattle.written_reading.proofs.DelayTokens.{AreShort, IsOrdered}
 use Rattle.written_reading.proofs.EntryTokens.{IsGoodWords, IsGoodCondition, IsGoodPath, IsGoodLeg}
 use Rattle.written_reading.proofs.Lists.{all_append, all_front, all_back, all_flat, all_pieces, all_map, all_mapped, all_by_rank, all_with, none_passes}
 use Rattle.written_reading.proofs.PortTokens.{IsWritten}
@@ -140,6 +140,13 @@ event_condition : (o : Option (List Tok)) → AllByRecursion IsGoodWords (event_
 event_condition None h = tt
 event_condition (Some ws) h = h.0
 
+limits_ordered : (delay : ℕ) (o : Option (ℕ × ℕ)) → IfSome o (λ l. l.0 ≤ l.1) → (limits_or delay o).0 ≤ (limits_or delay o).1
+limits_ordered delay None h = omega arith
+limits_ordered delay (Some l) h = h
+
+timing_ordered : (t : Timing) → IsTiming t → IsOrdered (numbers_of t)
+timing_ordered t h = limits_ordered t.delay t.limits h.ordered
+
 module _ (c : Circuit) (named : IsNamed c) (closed : IsClosed c) (clean : AreFaultless c) where
   -- ---- names
 
@@ -214,10 +221,13 @@ module _ (c : Circuit) (named : IsNamed c) (closed : IsClosed c) (clean : AreFau
     -- ---- legs
 
     abbrev LegStands : LegEntry → Type 0
-    LegStands e = HasName e.net × (length e.numbers ≡ 12)
+    LegStands e = HasName e.net × ((length e.numbers ≡ 12) × AllByRecursion IsOrdered e.numbers)
 
     twelve : (ts : List Timing) → AreTimings ts → length (map numbers_of ts) ≡ 12
     twelve ts h = length-map ts numbers_of ∙ h.0
+
+    ordered : (ts : List Timing) → AreTimings ts → AllByRecursion IsOrdered (map numbers_of ts)
+    ordered ts h = all_map IsOrdered numbers_of ts (each_of IsTiming (λ t. IsOrdered (numbers_of t)) timing_ordered ts (recursion_from_All IsTiming ts h.1))
 
     spot_legs : (spot : Spot) → IsNamedSpot c spot → IsTimed spot → AllByRecursion LegStands (legs_at s spot)
     spot_legs (path_spot scope output path) n t = tt
@@ -225,13 +235,13 @@ module _ (c : Circuit) (named : IsNamed c) (closed : IsClosed c) (clean : AreFau
       where
         by : (b : Bool) → (scope == s) ≡ b → AllByRecursion LegStands (if b then record { net = output; numbers = map numbers_of timings } ∷ [] else [])
         by false e = tt
-        by true e = ((has_name _ scope output (eqb-true scope s e) n, twelve timings t), tt)
+        by true e = ((has_name _ scope output (eqb-true scope s e) n, (twelve timings t, ordered timings t)), tt)
 
     legs_stand : AllByRecursion LegStands (entries.legs c s)
     legs_stand = all_flat LegStands (legs_at s) (spots c) (all_with (IsNamedSpot c) IsTimed _ spot_legs (spots c) (recursion_from_All (IsNamedSpot c) (spots c) named.spots) (spots_timed c closed))
 
     good_legs : AllByRecursion (IsGoodLeg vs) (entries.legs c s)
-    good_legs = all_with LegStands (λ (e : LegEntry). AllByRecursion IsFew (leg_sizes e)) (IsGoodLeg vs) (λ e h k. record { named = h.0; twelve = h.1; short = all_short e.numbers k }) (entries.legs c s) legs_stand short_legs
+    good_legs = all_with LegStands (λ (e : LegEntry). AllByRecursion IsFew (leg_sizes e)) (IsGoodLeg vs) (λ e h k. record { named = h.0; twelve = h.1.0; short = all_short e.numbers k; ordered = h.1.1 }) (entries.legs c s) legs_stand short_legs
 
     -- ---- paths
 
@@ -240,6 +250,7 @@ module _ (c : Circuit) (named : IsNamed c) (closed : IsClosed c) (clean : AreFau
       output : HasName e.key.output
       edge : IfSome e.key.edge IsWritten
       twelve : length e.numbers ≡ 12
+      ordered : AllByRecursion IsOrdered e.numbers
 
     spot_paths : (spot : Spot) → IsNamedSpot c spot → IsTimed spot → AllByRecursion PathStands (paths_at s spot)
     spot_paths (leg_spot scope inputs output timings) n t = tt
@@ -247,7 +258,7 @@ module _ (c : Circuit) (named : IsNamed c) (closed : IsClosed c) (clean : AreFau
       where
         by : (b : Bool) → (scope == s) ≡ b → AllByRecursion PathStands (if b then record { key = path_key output path; numbers = map numbers_of path.timings } ∷ [] else [])
         by false e = tt
-        by true e = (record { input = has_name _ scope path.input (eqb-true scope s e) n.0; output = has_name _ scope output (eqb-true scope s e) n.1; edge = edge_written path.edge; twelve = twelve path.timings t }, tt)
+        by true e = (record { input = has_name _ scope path.input (eqb-true scope s e) n.0; output = has_name _ scope output (eqb-true scope s e) n.1; edge = edge_written path.edge; twelve = twelve path.timings t; ordered = ordered path.timings t }, tt)
 
     paths_stand : AllByRecursion PathStands (path_entries c s)
     paths_stand = all_flat PathStands (paths_at s) (spots c) (all_with (IsNamedSpot c) IsTimed _ spot_paths (spots c) (recursion_from_All (IsNamedSpot c) (spots c) named.spots) (spots_timed c closed))
@@ -263,7 +274,7 @@ module _ (c : Circuit) (named : IsNamed c) (closed : IsClosed c) (clean : AreFau
     good_paths : AllByRecursion (IsGoodPath vs) (entries.paths c s)
     good_paths =
         all_by_rank (IsGoodPath vs) (λ (e : PathEntry). path_rank e.key) (path_entries c s)
-        (all_with PathStands PathSays (IsGoodPath vs) (λ e h k. record { input = h.input; output = h.output; edge = h.edge; condition = k.condition; twelve = h.twelve; short = k.short }) (path_entries c s) paths_stand paths_say)
+        (all_with PathStands PathSays (IsGoodPath vs) (λ e h k. record { input = h.input; output = h.output; edge = h.edge; condition = k.condition; twelve = h.twelve; short = k.short; ordered = h.ordered }) (path_entries c s) paths_stand paths_say)
 
     -- ---- checks
 

@@ -14,6 +14,9 @@ pub mod FileTokens
 pub mod Nesting
 pub mod FileNesting
 pub mod GoodScopes
+pub mod NoFaults
+pub mod SoundTree
+pub mod TokensRead
 pub mod ByteClasses
 pub mod NumberTexts
 pub mod Letters

@@ -1,5 +1,5 @@
 -- What names a circuit of a netlist has: all that is written of it stands behind names that lead back to it.
-use Rattle.std.specs.Prelude.{◌≡◌, ◌≢◌, ℕ, ◌<◌, ◌^◌, ℤ, unsigned_abs, true, ◌⊎◌, All, Contains, List, [], length, Option, Some, None, IfSome, IsSome, slice_get}
+use Rattle.std.specs.Prelude.{◌≡◌, ◌≢◌, ℕ, ◌<◌, ◌^◌, ℤ, pos, negsuc, ◌≤ℤ◌, unsigned_abs, true, ◌⊎◌, All, Contains, List, [], length, Option, Some, None, IfSome, IsSome, slice_get}
 use Rattle.cond_expr.specs.declared.tokens.Tok.TheVariants as tok
 use Rattle.cond_expr.specs.Grammar.{IsCondition}
 use Rattle.cond_expr.specs.Token.{Tok}
@@ -60,6 +60,11 @@ abbrev pub IsVariableOf : List Variable → ℕ → Type 0
 IsVariableOf = IsNetOf (λ p. Unit {0})
 
 -- ---- circuits
+
+-- a unit that has a word: 100 s down to 1 fs
+pub record IsTick (tick : ℤ) : Type 0 where
+  pub least : negsuc 14 ≤ℤ tick
+  pub greatest : tick ≤ℤ pos 2
 
 abbrev pub IsNamedSpot : Circuit → Spot → Type 0
 IsNamedSpot c (leg_spot s inputs output timings) = IsInputOf (scope_at c s).variables output
