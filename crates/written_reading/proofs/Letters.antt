@@ -1,6 +1,6 @@
 -- The letters of names, indexes and numbers: what they spell, and that they go on a word.
-use Rattle.std.proofs.Common.{◌≡◌, ℕ, suc, ◌^◌, ◌<◌, ℤ, pos, negsuc, List, [], ◌∷◌, ◌++◌, length, map, Bool, true, false, refl, sym, ap, ◌∙◌, arith, inl, inr}
-use Rattle.std.specs.Prelude.{◌≢◌, ◌==◌, ◌&&◌, Option, Some, None, decimal, flat_map, if◌then◌else◌}
+use Rattle.std.proofs.Common.{◌≡◌, ℕ, suc, ◌^◌, ◌<◌, ℤ, pos, negsuc, List, [], ◌∷◌, ◌++◌, length, map, Bool, true, false, refl, ap, ◌∙◌, arith, inl, inr}
+use Rattle.std.specs.Prelude.{◌≢◌, ◌==◌, ◌&&◌, Option, Some, None, decimal, if◌then◌else◌}
 use Rattle.std.specs.Char.{is_ascii_digit}
 use Rattle.std.specs.Fmt.{signed_decimal}
 use Rattle.std.specs.List.{list_all, AllByRecursion}
@@ -14,9 +14,9 @@ use Rattle.sdf_lex.specs.declared.letters.Letter.{Letter}
 use Rattle.sdf_lex.specs.declared.letters.Letter.TheVariants.{Plain, Escaped}
 use Rattle.sdf_lex.specs.declared.letters.Ends.{Ends}
 use Rattle.sdf_lex.specs.Bytes.{class_of, is_good, begins_number, begins_comment}
-use Rattle.sdf_lex.specs.Words.{written, spelled, is_numeric, may_be, may_follow, with_last, Fits}
+use Rattle.sdf_lex.specs.Words.{spelled, is_numeric, may_be, may_follow, with_last, Fits}
 use Rattle.sdf_lex.proofs.WordLaws.{spelled-append}
-use Rattle.written_model.specs.Names.{escaped, first_escaped, name_text, index_text, names_text}
+use Rattle.written_model.specs.Names.{name_text, index_text}
 use Rattle.written_reading.specs.Named.{IsIndex}
 use Rattle.written_reading.specs.Pieces.{plain_letters, letter, first_letter, name_letters, index_letters, bit_letters, names_letters}
 use Rattle.written_reading.proofs.ByteClasses.{false_true, differs, is_plain, name_plain, digit_name, IsStopped, stopped_comment}

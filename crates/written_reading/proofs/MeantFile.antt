@@ -12,7 +12,7 @@ use Rattle.written_model.specs.Text.{text_below, tick_text}
 use Rattle.written_model.specs.Tree.{cell_type_of, delay_entries, check_entries, parts_of}
 use Rattle.written_reading.specs.Meanings as meanings
 use Rattle.written_reading.specs.Meanings.{around, leg_meanings, path_meanings, check_meanings, delays_meanings, checks_meanings, parts_meanings, instance_meanings, cell_head_meanings, cell_meanings, head_meanings}
-use Rattle.written_reading.specs.Pieces.{names_letters, word, blank, line_end, left, right, leg_pieces, path_pieces, check_pieces, line, delays_pieces, checks_pieces, delay_front, check_front, parts_pieces, instance_pieces, cell_head_pieces, cell_pieces, head_pieces, pieces}
+use Rattle.written_reading.specs.Pieces.{names_letters, word, line_end, right, leg_pieces, path_pieces, check_pieces, line, delays_pieces, checks_pieces, delay_front, check_front, parts_pieces, instance_pieces, cell_head_pieces, cell_pieces, head_pieces, pieces}
 use Rattle.written_reading.proofs.MeantEntries.{one_meant, each_meant, leg_meant, path_meant, check_meant}
 use Rattle.written_reading.proofs.MeantPieces.{means, meant, means_tokens, meant_joined, names_meant}
 use Rattle.written_reading.proofs.SoundFile.{IsWritable}

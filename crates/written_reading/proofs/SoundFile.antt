@@ -13,7 +13,7 @@ use Rattle.written_model.specs.Names.{names_to}
 use Rattle.written_model.specs.Text.{unit_text, text_below}
 use Rattle.written_model.specs.Tree.{cell_type_of, delay_entries, check_entries, parts_of}
 use Rattle.written_reading.specs.Meanings.{around}
-use Rattle.written_reading.specs.Pieces.{plain_letters, names_letters, word, blank, line_end, left, right, leg_pieces, path_pieces, check_pieces, line, delays_pieces, checks_pieces, delay_front, check_front, parts_pieces, instance_pieces, cell_head_pieces, cell_pieces, head_pieces, pieces}
+use Rattle.written_reading.specs.Pieces.{plain_letters, names_letters, word, line_end, right, leg_pieces, path_pieces, check_pieces, line, delays_pieces, checks_pieces, delay_front, check_front, parts_pieces, instance_pieces, cell_head_pieces, cell_pieces, head_pieces, pieces}
 use Rattle.written_reading.proofs.ByteClasses.{IsStopped, false_true}
 use Rattle.written_reading.proofs.Letters.{is_safe, AreNames, fits_names, fits_slash}
 use Rattle.written_reading.proofs.SoundPieces.{IsSound, keyword_sound}

@@ -13,7 +13,7 @@ use Rattle.written_model.specs.Text as text
 use Rattle.written_model.specs.Text.{leg_text, path_text, check_text, enclosed, delay_lines, check_lines, parts_text, instance_text, cell_line, cell_text, tick_text, head_line}
 use Rattle.written_model.specs.Tree.{leg_entry, path_entry, check_of, unless_empty, delay_entries, check_entries, parts_of, cell_type_of}
 use Rattle.written_reading.specs.Meanings.{around}
-use Rattle.written_reading.specs.Pieces.{names_letters, word, blank, line_end, left, right, leg_pieces, path_pieces, check_pieces, line, delays_pieces, checks_pieces, delay_front, check_front, parts_pieces, instance_pieces, cell_head_pieces, cell_pieces, head_pieces, pieces}
+use Rattle.written_reading.specs.Pieces.{names_letters, line_end, right, leg_pieces, path_pieces, check_pieces, line, delays_pieces, checks_pieces, delay_front, check_front, parts_pieces, instance_pieces, cell_head_pieces, cell_pieces, head_pieces, pieces}
 use Rattle.written_reading.proofs.NameTexts.{names_spelled}
 use Rattle.written_reading.proofs.SoundFile.{IsWritable}
 use Rattle.written_reading.proofs.SpelledEntries.{joined, worded, each_spelled, leg_spelled, path_spelled, check_spelled}

@@ -1,11 +1,11 @@
 -- What is asked of names, conditions and numbers, so that they are tokens of their own.
-use Rattle.std.specs.Prelude.{◌≡◌, ◌≢◌, ℕ, ◌^◌, ◌<◌, List, [], ◌∷◌, Option, Some, None}
+use Rattle.std.specs.Prelude.{◌≡◌, ◌≢◌, ℕ, List, [], ◌∷◌, Option, Some, None}
 use Rattle.std.specs.List.{AllByRecursion}
 use Rattle.cond_expr.specs.declared.tokens.Tok.TheVariants as tok
 use Rattle.cond_expr.specs.Token.{Tok}
 use Rattle.sg_circuit.specs.Circuit.{Variable}
 use Rattle.sdf_tree.specs.Written.{PathCondition, always, otherwise, if_words}
-use Rattle.written_model.specs.Entries.{Numbers, LegEntry, PathEntry, EventKey, CheckEntry}
+use Rattle.written_model.specs.Entries.{LegEntry, PathEntry, EventKey, CheckEntry}
 use Rattle.written_model.specs.Names.{BitName, name_of}
 use Rattle.written_model.specs.Tree.{datum_of}
 use Rattle.written_reading.specs.Meanings.{index_in_front}
