@@ -1,5 +1,5 @@
 -- A net's name is a variable's, with an index between the bounds.
-use Rattle.std.specs.Prelude.{◌≡◌, ℕ, zero, suc, ◌+◌, ◌^◌, ◌<◌, ◌==◌, ℤ, pos, negsuc, ◌+ℤ◌, ◌-ℤ◌, ◌≤ℤ◌, int_le, nat_abs, Bool, true, false, ◌⊎◌, Contains, IfSome, List, [], ◌∷◌, length, Option, Some, None, slice_get, unwrap_or, if◌then◌else◌}
+use Rattle.std.specs.Prelude.{◌≡◌, ◌≢◌, ℕ, zero, suc, ◌+◌, ◌^◌, ◌<◌, ◌==◌, ℤ, pos, negsuc, ◌+ℤ◌, ◌-ℤ◌, ◌≤ℤ◌, int_le, nat_abs, Bool, true, false, ◌⊎◌, Contains, IfSome, List, [], ◌∷◌, length, Option, Some, None, slice_get, unwrap_or, if◌then◌else◌}
 use Rattle.std.specs.List.{AllByRecursion, position_from}
 use Rattle.std.specs.Option.{option_map}
 use Rattle.std.proofs.Common.{refl, sym, subst, arith, inl, inr}
@@ -72,17 +72,6 @@ position_within test k p (n ∷ ns) e = by (test n) e (position_within test (k +
     by true f rec = let g : k ≡ p = cc in omega (arith, g)
     by false f rec = let m : p < k + 1 + length ns = rec f in omega (arith, m)
 
-none_passes : (test : ℕ → Bool) (k : ℕ) (ns : List ℕ) → position_from test k ns ≡ None → AllByRecursion (λ n. test n ≡ false) ns
-none_passes test k [] e = tt
-none_passes test k (n ∷ ns) e = by (test n) refl e (none_passes test (k + 1) ns)
-  where
-    by : (b : Bool) → test n ≡ b → (if b then Some k else position_from test (k + 1) ns) ≡ None → (position_from test (k + 1) ns ≡ None → AllByRecursion (λ m. test m ≡ false) ns) → (test n ≡ false) × AllByRecursion (λ m. test m ≡ false) ns
-    by true t f rec = absurd (let g : Some k ≡ None = f in cc)
-    by false t f rec = (t, rec f)
-
-has_position : (k net : ℕ) (ns : List ℕ) → Contains ns net → position_from (λ n. n == net) k ns ≡ None → ⊥
-has_position k net ns at e = eqb-false net net (All-contains (λ (n : ℕ). (n == net) ≡ false) ns net (All-from_recursion (λ (n : ℕ). (n == net) ≡ false) ns (none_passes (λ n. n == net) k ns e)) at) refl
-
 abbrev pub IsWide : Variable → Type 0
 IsWide v = length v.bits ≡ width_of v.range
 
@@ -93,17 +82,14 @@ range_index (Some r) k n a b w lt = index_small r k a b (subst (λ (m : ℕ). k 
 bit_is : (v : Variable) (k : ℕ) → IsVariableText v → IsWide v → k < length v.bits → IsBit (bit_at v k)
 bit_is v k h w lt = record { name = name_of_text v.name h.name; index = range_index v.range k (length v.bits) h.left h.right w lt }
 
-pub bit_found : (vs : List Variable) (net place : ℕ) (v : Variable) → AllByRecursion IsVariableText vs → AllByRecursion IsWide vs → slice_get vs place ≡ Some v → Contains v.bits net → IsPort vs net
-bit_found [] net place v h w s at = absurd (none place s)
-  where
-    none : (i : ℕ) → slice_get [] i ≡ Some v → ⊥
-    none i e = cc
-bit_found (u ∷ us) net place v h w s at = by (position_from (λ n. n == net) 0 u.bits) refl place s (λ i t. bit_found us net i v h.1 w.1 t at)
+-- a net that has a name has a variable's
+pub port_is : (vs : List Variable) (net : ℕ) → AllByRecursion IsVariableText vs → AllByRecursion IsWide vs → (name_of vs net).name ≢ [] → IsPort vs net
+port_is [] net h w some = absurd (some refl)
+port_is (u ∷ us) net h w some = by (position_from (λ n. n == net) 0 u.bits) refl some (λ more. port_is us net h.1 w.1 more)
   where
     here : (n : ℕ) → position_from (λ m. m == net) 0 u.bits ≡ Some n → n < length u.bits
     here n e = let l : n < 0 + length u.bits = position_within (λ m. m == net) 0 n u.bits e in omega (arith, l)
 
-    by : (o : Option ℕ) → position_from (λ n. n == net) 0 u.bits ≡ o → (i : ℕ) → slice_get (u ∷ us) i ≡ Some v → ((j : ℕ) → slice_get us j ≡ Some v → IsPort us net) → IsPort (u ∷ us) net
-    by (Some n) e i t rest = subst (λ p. IsBit (unwrap_or (option_map (bit_at u) p) (name_of us net))) (sym e) (bit_is u n h.0 w.0 (here n e))
-    by None e zero t rest = let same : u ≡ v = cc in absurd (has_position 0 net u.bits (subst (λ x. Contains x.bits net) (sym same) at) e)
-    by None e (suc i) t rest = subst (λ p. IsBit (unwrap_or (option_map (bit_at u) p) (name_of us net))) (sym e) (rest i t)
+    by : (o : Option ℕ) → position_from (λ n. n == net) 0 u.bits ≡ o → (unwrap_or (option_map (bit_at u) o) (name_of us net)).name ≢ [] → ((name_of us net).name ≢ [] → IsPort us net) → IsBit (unwrap_or (option_map (bit_at u) o) (name_of us net))
+    by (Some n) e some rest = bit_is u n h.0 w.0 (here n e)
+    by None e some rest = rest some

@@ -5,6 +5,7 @@ use Rattle.sdf_lex.specs.Lexes.{Outcome, Lexes, LexesFrom, bad_or}
 use Rattle.sdf_lex.specs.Pieces.{tokens}
 use Rattle.sdf_lex.specs.Tokens.{Lexeme}
 use Rattle.sg_circuit.specs.Circuit.{Circuit}
+use Rattle.sg_circuit.specs.Closed.{IsClosed}
 use Rattle.written_model.specs.Faults.{is_too_large, IsFaultless}
 use Rattle.written_model.specs.Text.{text}
 use Rattle.written_reading.specs.Meanings.{meanings}
@@ -12,7 +13,7 @@ use Rattle.written_reading.specs.Named.{IsNamed}
 use Rattle.written_reading.specs.Pieces.{pieces}
 use Rattle.written_reading.proofs.MeantFile.{tokens_mean}
 use Rattle.written_reading.proofs.MeantPieces.{means}
-use Rattle.written_reading.proofs.NamedEntries.{AreWide, writable}
+use Rattle.written_reading.proofs.NamedEntries.{writable}
 use Rattle.written_reading.proofs.SoundFile.{IsWritable, file_closed}
 use Rattle.written_reading.proofs.SoundPieces.{sound_pieces, none_bad}
 use Rattle.written_reading.proofs.SpelledFile.{file_spelled}
@@ -31,7 +32,7 @@ pub record IsLexed (c : Circuit) : Type 0 where
   pub lexed : Lexes (text c) (Ok tokens)
   pub mean : means tokens ≡ meanings c
 
-pub named_lexed : (c : Circuit) → IsNamed c → AreWide c → IsFaultless c → IsLexed c
-named_lexed c h w f =
-    let fit = writable c h w f.scopes in
+pub named_lexed : (c : Circuit) → IsClosed c → IsNamed c → IsFaultless c → IsLexed c
+named_lexed c closed named f =
+    let fit = writable c closed named f.scopes in
     record { tokens = tokens 0 (pieces c); lexed = text_lexed c fit f.small; mean = tokens_mean c 0 fit }

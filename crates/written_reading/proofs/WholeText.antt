@@ -11,5 +11,5 @@ use Rattle.written_reading.proofs.TokensRead.{tokens_are_read, read_as}
 
 pub text_read_back : (c : Circuit) → IsClosed c → IsTick c.tick → IsNamed c → IsFaultless c → IsReadAs (tree c) (text c)
 text_read_back c closed tick named faultless =
-    let l = named_lexed c named closed.widths faultless in
+    let l = named_lexed c closed named faultless in
     read_as c (text c) l.tokens l.lexed (tokens_are_read c named closed tick faultless.scopes l.tokens l.mean)
