@@ -1,6 +1,5 @@
 -- What is written of a circuit whose names lead back, and that has no fault, is of tokens of their own.
-use Rattle.std.specs.Prelude.{◌≡◌, ◌≢◌, ℕ, zero, suc, ◌+◌, ◌<◌, pos, false, All, IfSome, List, [], ◌∷◌, ◌++◌, length, Option, Some, None}
-use Rattle.std.specs.List.{AllByRecursion}
+use Rattle.std.specs.Prelude.{◌≡◌, ◌≢◌, ℕ, zero, suc, pos, false, All, IfSome, List, [], ◌∷◌, length, Option, Some, None}
 use Rattle.std.proofs.Common.{refl, sym, ap, subst, ◌∙◌, arith, inl, inr}
 use Rattle.std.proofs.lemmas.Bool.{cases_lt}
 use Rattle.std.proofs.lemmas.List.{get_or_past}
@@ -14,7 +13,7 @@ use Rattle.written_model.specs.Faults.{AreFaultless}
 use Rattle.written_model.specs.Names.{name_of, below, names_in}
 use Rattle.written_model.specs.Tree.{datum_of}
 use Rattle.written_reading.specs.Named.{IsNameText, IsVariableText, IsNamed}
-use Rattle.written_reading.proofs.CellTokens.{IsGoodScope, each_of}
+use Rattle.written_reading.proofs.CellTokens.{each_of}
 use Rattle.written_reading.proofs.CheckTokens.{IsGoodEvent, IsGoodCheck}
 use Rattle.written_reading.proofs.Clauses.{some_none, name_of_text, clause_is}
 use Rattle.written_reading.proofs.EntryTokens.{IsGoodWords, IsGoodCondition, IsGoodLeg, IsGoodPath}
