@@ -1,12 +1,12 @@
 -- The tokens of cells.
 use Rattle.std.specs.Prelude.{◌≡◌, ◌≢◌, ℕ, true, List, [], ◌∷◌, ◌++◌, map, flat_map, Option, Some, None, codes}
 use Rattle.std.specs.List.{AllByRecursion}
-use Rattle.std.proofs.Common.{refl, sym, ap, ◌∙◌}
+use Rattle.std.proofs.Common.{refl, ap, ◌∙◌}
 use Rattle.std.proofs.lemmas.List.{append_assoc}
 use Rattle.grammar.specs.Rule.{◌∙∙◌, ◌▸◌, ◌◂◌, mapped}
 use Rattle.sg_text.specs.declared.places.Place.{Place}
 use Rattle.sg_circuit.specs.Circuit.{Circuit, Variable, scope_at}
-use Rattle.sdf_lex.specs.Tokens.{Meaning, Lexeme, word_token, text_token, left_token, right_token}
+use Rattle.sdf_lex.specs.Tokens.{Meaning, word_token, text_token, left_token, right_token}
 use Rattle.sdf_tree.specs.declared.keywords.Keyword.TheVariants as keyword
 use Rattle.sdf_tree.specs.declared.tree.Skipped.TheVariants as skipped
 use Rattle.sdf_tree.specs.declared.words.Divider.TheVariants.{Slash}
@@ -17,17 +17,17 @@ use Rattle.sdf_tree.specs.Keywords.{keyword_of}
 use Rattle.sdf_tree.specs.Kinds.{is_left, is_right, is_star, is_select, is_text, is_instance, skipped_part_of, names, text_of, word_text}
 use Rattle.sdf_tree.specs.Rules.{Grammar, token, mark, word, placed, either, optional, many}
 use Rattle.sdf_tree.specs.Values.{text_parts, text, balanced}
-use Rattle.sdf_tree.specs.Written.{Instance, the_top, all_of_type, the_path, Entry, Group, absolute, Check, Part, delays, checks, Cell}
+use Rattle.sdf_tree.specs.Written.{Instance, all_of_type, the_path, Entry, Group, absolute, Check, Part, delays, checks, Cell}
 use Rattle.written_model.specs.Entries as entries
 use Rattle.written_model.specs.Names.{names_text, names_to}
-use Rattle.written_model.specs.Tree.{leg_entry, path_entry, check_of, unless_empty, delay_entries, check_entries, parts_of, cell_type_of, instance_of}
+use Rattle.written_model.specs.Tree.{leg_entry, path_entry, check_of, unless_empty, delay_entries, check_entries, parts_of, instance_of}
 use Rattle.written_reading.specs.Meanings.{leg_meanings, path_meanings, check_meanings, around, delays_meanings, checks_meanings, parts_meanings, instance_meanings}
 use Rattle.written_reading.specs.Placeless as placeless
 use Rattle.written_reading.proofs.CheckTokens.{IsGoodCheck, says_check_entry}
 use Rattle.written_reading.proofs.EntryTokens.{IsGoodLeg, says_leg, IsGoodPath, says_path}
 use Rattle.written_reading.proofs.NameTexts.{names_are_path}
 use Rattle.written_reading.proofs.PortTokens.{tells_word}
-use Rattle.written_reading.proofs.Tells.{Tells, Says, tells_token, tells_mark, tells_image, tells_placed, tells_none, tells_some, tells_left, tells_right, tells_both, tells_first, tells_second, tells_same, tells_more, EachSays, says_many, says_none, says_one, says_joined}
+use Rattle.written_reading.proofs.Tells.{Tells, Says, tells_token, tells_mark, tells_image, tells_placed, tells_none, tells_some, tells_left, tells_right, tells_both, tells_first, tells_second, tells_same, tells_more, says_many, says_none, says_one, says_joined}
 
 delay_word : keyword_of (codes "DELAY") ≡ Some keyword.Delay
 unfolding keyword_of

@@ -1,5 +1,5 @@
 -- The tokens of timing checks.
-use Rattle.std.specs.Prelude.{◌≡◌, ◌≢◌, ℕ, ℤ, ◌<◌, ◌^◌, unsigned_abs, true, IfSome, List, [], ◌∷◌, ◌++◌, Option, Some, None, codes}
+use Rattle.std.specs.Prelude.{◌≡◌, ◌≢◌, ℕ, ◌<◌, ◌^◌, unsigned_abs, true, IfSome, List, [], ◌∷◌, ◌++◌, Option, Some, None, codes}
 use Rattle.std.specs.Fmt.{signed_decimal}
 use Rattle.std.proofs.Common.{refl, sym, ap, ◌∙◌}
 use Rattle.std.proofs.lemmas.List.{append_assoc}
@@ -7,7 +7,7 @@ use Rattle.grammar.specs.Rule.{◌∙∙◌, ◌▸◌, ◌◂◌, mapped}
 use Rattle.sg_text.specs.declared.places.Place.{Place}
 use Rattle.cond_expr.specs.Token.{Tok}
 use Rattle.sg_circuit.specs.Circuit.{Variable}
-use Rattle.sdf_lex.specs.Tokens.{Meaning, Lexeme, word_token, left_token, right_token}
+use Rattle.sdf_lex.specs.Tokens.{Meaning, word_token, left_token, right_token}
 use Rattle.sdf_tree.specs.declared.keywords.Keyword.{Keyword}
 use Rattle.sdf_tree.specs.declared.keywords.Keyword.TheVariants as keyword
 use Rattle.sdf_tree.specs.declared.tree.Edge.{Edge}
@@ -25,7 +25,7 @@ use Rattle.sdf_tree.specs.Kinds.{is_left, is_right, pair_of, window_of, single_o
 use Rattle.sdf_tree.specs.Rules.{Grammar, token, mark, placed, either}
 use Rattle.sdf_tree.specs.Values.{value, port, edge_word, balanced}
 use Rattle.sdf_tree.specs.Words.{begins_number}
-use Rattle.sdf_tree.specs.Written.{Port, Terminal, Value, CheckBody, pair_check, window_check, single_check, skipped_check, Check}
+use Rattle.sdf_tree.specs.Written.{Terminal, Value, CheckBody, pair_check, window_check, single_check, skipped_check, Check}
 use Rattle.written_model.specs.declared.parts.Part.{Part}
 use Rattle.written_model.specs.declared.parts.Part.TheVariants as part
 use Rattle.written_model.specs.Entries.{EventKey, CheckEntry}

@@ -1,5 +1,5 @@
 -- The tokens of lists of delays.
-use Rattle.std.specs.Prelude.{◌≡◌, ℕ, zero, suc, ◌+◌, ◌<◌, ◌≤◌, ◌^◌, ◌==◌, nat_lt, Bool, true, false, List, [], ◌∷◌, ◌++◌, map, length, decimal, flat_map, Option, Some, None}
+use Rattle.std.specs.Prelude.{◌≡◌, ℕ, suc, ◌+◌, ◌<◌, ◌≤◌, ◌^◌, ◌==◌, Bool, true, false, List, [], ◌∷◌, map, length, decimal, flat_map, Option}
 use Rattle.std.specs.List.{AllByRecursion, AllZip}
 use Rattle.std.proofs.Common.{refl, sym, ap, subst, ◌∙◌, arith}
 use Rattle.std.proofs.lemmas.Bool.{lt-ltb}
@@ -11,7 +11,7 @@ use Rattle.sdf_lex.specs.Tokens.{Meaning, Lexeme, left_token}
 use Rattle.sdf_tree.specs.declared.keywords.Keyword.TheVariants as keyword
 use Rattle.sdf_tree.specs.Entries.{TailPart, a_retain, a_delay, retains_of, delays_of, TailRest, retain_rest, value_rest, tail_part_of, tail_rest_parts, tail_part, count_after, tail_parts, tail}
 use Rattle.sdf_tree.specs.Kinds.{is_left, is_right}
-use Rattle.sdf_tree.specs.Rules.{Grammar, mark, word, placed}
+use Rattle.sdf_tree.specs.Rules.{mark, word, placed}
 use Rattle.sdf_tree.specs.Values.{delay_rest, delay, may_come, may_end, list_parts, list}
 use Rattle.sdf_tree.specs.Words.{begins_number}
 use Rattle.sdf_tree.specs.Written.{Value, Limits, Delay}
@@ -22,7 +22,7 @@ use Rattle.written_reading.specs.Placeless as placeless
 use Rattle.written_reading.proofs.Decimals.{decimal_begins}
 use Rattle.written_reading.proofs.Spans.{Spans, split}
 use Rattle.written_reading.proofs.Tells.{Over, Tells, Says, tells_mark, tells_image, tells_placed, tells_right, tells_second}
-use Rattle.written_reading.proofs.ValueTokens.{rest_meanings, with_limits, IsRest, tells_rest, delay_is, says_delay}
+use Rattle.written_reading.proofs.ValueTokens.{rest_meanings, IsRest, tells_rest, delay_is, says_delay}
 
 pub tells_guarded : {A : Type 0} (b : Bool) (a : Over A) (P : A → Type 0) (ms : List Meaning) → b ≡ true → Tells a P ms → Tells (guarded b a) P ms
 tells_guarded true a P ms e t = t

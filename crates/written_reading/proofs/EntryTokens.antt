@@ -1,14 +1,14 @@
 -- The tokens of the entries of delays.
-use Rattle.std.specs.Prelude.{◌≡◌, ◌≢◌, ℕ, ◌≤◌, All, IfSome, List, [], ◌∷◌, ◌++◌, map, length, flat_map, Option, Some, None, codes, true}
+use Rattle.std.specs.Prelude.{◌≡◌, ◌≢◌, ◌≤◌, IfSome, List, [], ◌∷◌, ◌++◌, map, length, flat_map, Option, Some, None, codes, true}
 use Rattle.std.specs.List.{AllByRecursion}
-use Rattle.std.proofs.Common.{refl, sym, ap, subst, ◌∙◌}
+use Rattle.std.proofs.Common.{refl, ap, ◌∙◌}
 use Rattle.std.proofs.lemmas.List.{append_assoc}
 use Rattle.std.proofs.lemmas.List.Elements.{recursion_from_All}
 use Rattle.grammar.specs.Rule.{◌∙∙◌, ◌▸◌, ◌◂◌, mapped}
 use Rattle.sg_text.specs.declared.places.Place.{Place}
 use Rattle.cond_expr.specs.Token.{Tok}
 use Rattle.sg_circuit.specs.Circuit.{Variable}
-use Rattle.sdf_lex.specs.Tokens.{Meaning, Lexeme, word_token, left_token, right_token}
+use Rattle.sdf_lex.specs.Tokens.{Meaning, word_token, left_token, right_token}
 use Rattle.sdf_tree.specs.declared.keywords.Keyword.TheVariants as keyword
 use Rattle.sdf_tree.specs.declared.tree.Edge.{Edge}
 use Rattle.sdf_tree.specs.declared.words.Divider.TheVariants.{Slash}
@@ -19,12 +19,12 @@ use Rattle.sdf_tree.specs.Kinds.{is_left, is_right}
 use Rattle.sdf_tree.specs.Rules.{Grammar, mark, word, placed, either, optional}
 use Rattle.sdf_tree.specs.Values.{text, list, port, edge_word}
 use Rattle.sdf_tree.specs.Written.{Port, Terminal, PathCondition, always, otherwise, if_words, Delay, Body, io_path, port_delay, interconnect, device, net_delay, Entry}
-use Rattle.written_model.specs.Entries.{Numbers, LegEntry, PathEntry}
+use Rattle.written_model.specs.Entries.{LegEntry, PathEntry}
 use Rattle.written_model.specs.Faults.{depth_from}
 use Rattle.written_model.specs.Names.{BitName, name_of}
 use Rattle.written_model.specs.Text.{edge_text}
 use Rattle.written_model.specs.Tree.{nowhere, port_of_name, delay_of, leg_entry, path_entry}
-use Rattle.written_reading.specs.Meanings.{words_meanings, bit_meanings, terminal_meanings, conditional_meanings, delay_meanings, leg_meanings, io_path_meanings, under_condition, path_meanings}
+use Rattle.written_reading.specs.Meanings.{words_meanings, bit_meanings, terminal_meanings, delay_meanings, leg_meanings, io_path_meanings, under_condition, path_meanings}
 use Rattle.written_reading.specs.Named.{IsWrittenCondition}
 use Rattle.written_reading.specs.Placeless as placeless
 use Rattle.written_reading.proofs.DelayTokens.{AreShort, IsOrdered, says_list, IsTail, tells_tail}

@@ -16,7 +16,7 @@ use Rattle.sdf_tree.specs.declared.keywords.Keyword.{Keyword}
 use Rattle.sdf_tree.specs.declared.keywords.Keyword.TheVariants as keyword
 use Rattle.sdf_tree.specs.declared.words.Divider.{Divider}
 use Rattle.sdf_tree.specs.declared.words.Divider.TheVariants.{Point, Slash}
-use Rattle.sdf_tree.specs.Files.{cell, unit_parts, time_unit, head_parts, head, FileState, divider_after, state_after_part, file_part_parts, file_part, first_state, file_parts_parts, file_body, file}
+use Rattle.sdf_tree.specs.Files.{cell, unit_parts, time_unit, head_parts, head, FileState, divider_after, state_after_part, file_part_parts, file_part, file_parts_parts, file_body, file}
 use Rattle.sdf_tree.specs.Keywords.{keyword_of}
 use Rattle.sdf_tree.specs.Kinds.{word_kind, is_left, is_right, is_word_that, is_text_word, is_value_word, is_divider, is_scale, is_unit, is_joined, divider_word, scale_word, unit_word, joined_word}
 use Rattle.sdf_tree.specs.Rules.{Grammar, token, mark, word, either, optional}
@@ -25,13 +25,13 @@ use Rattle.sdf_tree.specs.Written.{Part, Cell, Head, text_head, divider_head, un
 use Rattle.written_model.specs.Names.{names_to}
 use Rattle.written_model.specs.Text.{tick_text}
 use Rattle.written_model.specs.Tree.{unless_empty, parts_of, cell_type_of, instance_of, cells_of, tree}
-use Rattle.written_reading.specs.Meanings.{around, parts_meanings, instance_meanings, cell_head_meanings, cell_meanings, head_meanings, meanings}
+use Rattle.written_reading.specs.Meanings.{around, parts_meanings, instance_meanings, cell_head_meanings, cell_meanings, meanings}
 use Rattle.written_reading.specs.Named.{IsTick}
 use Rattle.written_reading.specs.Placeless as placeless
 use Rattle.written_reading.proofs.CellTokens.{IsGoodScope, says_parts, tells_text, cell_words, says_cell}
 use Rattle.written_reading.proofs.PortTokens.{tells_word}
 use Rattle.written_reading.proofs.Spans.{Spans, split}
-use Rattle.written_reading.proofs.Tells.{Tells, Says, tells_token, tells_mark, tells_image, tells_left, tells_right, tells_both, tells_first, tells_second, tells_same}
+use Rattle.written_reading.proofs.Tells.{Tells, Says, tells_token, tells_mark, tells_image, tells_left, tells_right, tells_first, tells_second, tells_same}
 
 file_word : keyword_of (codes "DELAYFILE") ≡ Some keyword.DelayFile
 unfolding keyword_of

@@ -1,7 +1,7 @@
 -- What is written of a circuit whose names lead back, and that has no fault, is good.
-use Rattle.std.specs.Prelude.{◌≡◌, ◌≢◌, ℕ, zero, suc, ◌+◌, ◌<◌, ◌≤◌, ◌^◌, ◌==◌, ◌⊎◌, nat_le, nat_lt, ℤ, pos, unsigned_abs, Bool, true, false, All, Contains, IfSome, IsSome, List, [], ◌∷◌, ◌++◌, map, length, flat_map, Option, Some, None, cond, option_map, unwrap_or, slice_get, slice_index_or, if◌then◌else◌}
-use Rattle.std.specs.List.{AllByRecursion, list_any, position_from, range_with_len}
-use Rattle.std.proofs.Common.{refl, sym, ap, subst, ◌∙◌, inl, inr, arith}
+use Rattle.std.specs.Prelude.{◌≡◌, ◌≢◌, ℕ, zero, suc, ◌+◌, ◌<◌, ◌≤◌, ◌^◌, ◌==◌, nat_le, nat_lt, ℤ, pos, unsigned_abs, Bool, true, false, All, Contains, IfSome, List, [], ◌∷◌, ◌++◌, map, length, flat_map, Option, Some, None, cond, option_map, unwrap_or, slice_get, slice_index_or, if◌then◌else◌}
+use Rattle.std.specs.List.{AllByRecursion, list_any, position_from}
+use Rattle.std.proofs.Common.{refl, sym, subst, ◌∙◌, inl, inr, arith}
 use Rattle.std.proofs.lemmas.Bool.{cases_lt, eq-eqb, eqb-true, le-leb, lt-ltb, or_parts}
 use Rattle.std.proofs.lemmas.List.{length-map}
 use Rattle.std.proofs.lemmas.List.Elements.{recursion_from_All}
@@ -14,18 +14,17 @@ use Rattle.sg_circuit.specs.Closed.{IsClosed, IsTiming, AreTimings, HasDelays}
 use Rattle.sg_circuit.specs.Paths as specify
 use Rattle.sg_circuit.specs.Timings.{Timing, limits_or}
 use Rattle.sg_circuit.specs.Circuit.{Circuit, Element, Kind, Gate, Udp, Pass, Leg, Path, Late, Variable, Scope, scope_at}
-use Rattle.annotation_model.specs.Same.{bare, is_edge}
+use Rattle.annotation_model.specs.Same.{is_edge}
 use Rattle.annotation_model.specs.Spots.{Spot, leg_spot, path_spot, spots_in, spots_of, spots, timings_of, Checked, all_checked}
-use Rattle.sdf_tree.specs.declared.tree.Edge.{Edge}
 use Rattle.sdf_tree.specs.declared.tree.Edge.TheVariants.{Posedge, Negedge}
 use Rattle.sdf_tree.specs.Written.{PathCondition, always, otherwise, if_words}
 use Rattle.written_model.specs.declared.parts.Part.{Part}
 use Rattle.written_model.specs.Entries as entries
 use Rattle.written_model.specs.Entries.{Numbers, numbers_of, edge_of, LegEntry, PathEntry, EventKey, CheckEntry, legs_at, path_key, paths_at, path_entries, event_key, check_entry, checks_at, check_entries, path_rank, check_rank}
-use Rattle.written_model.specs.Faults.{sizes_of, sizes, is_heavy, is_too_long, depth_from, path_conditions, event_conditions, datum_conditions, conditions, is_too_deep, AreFaultless}
-use Rattle.written_model.specs.Names.{bit_at, named_by, name_of, below, names_in, names_to}
+use Rattle.written_model.specs.Faults.{sizes_of, sizes, is_heavy, depth_from, path_conditions, event_conditions, datum_conditions, conditions, AreFaultless}
+use Rattle.written_model.specs.Names.{bit_at, name_of, below, names_in}
 use Rattle.written_model.specs.Tree.{datum_of}
-use Rattle.written_reading.specs.Named.{IsNameText, IsWrittenCondition, IsVariableText, IsNetOf, IsNamedSpot, IsNamedCheck, IsNamed}
+use Rattle.written_reading.specs.Named.{IsWrittenCondition, IsVariableText, IsNetOf, IsNamedSpot, IsNamedCheck, IsNamed}
 use Rattle.written_reading.proofs.CellTokens.{IsGoodScope, each_of}
 use Rattle.written_reading.proofs.CheckTokens.{IsGoodEvent, IsGoodCheck}
 use Rattle.written_reading.proofs.DelayTokens.{AreShort, IsOrdered}

@@ -1,12 +1,11 @@
 -- Written names are names, and lead to themselves.
-use Rattle.std.specs.Prelude.{◌≡◌, ◌≢◌, ℕ, ◌==◌, ◌&&◌, ◌||◌, not, nat_le, Bool, true, false, All, List, [], ◌∷◌, ◌++◌, map, flat_map, Option, Some, None, bytes_eq, codes, take, drop, if◌then◌else◌}
+use Rattle.std.specs.Prelude.{◌≡◌, ◌≢◌, ℕ, ◌==◌, ◌||◌, not, Bool, true, false, List, [], ◌∷◌, ◌++◌, map, flat_map, None, if◌then◌else◌}
 use Rattle.std.specs.Char.{is_ascii_digit}
-use Rattle.std.specs.List.{list_all, prefix_len, AllByRecursion}
-use Rattle.std.proofs.Common.{refl, sym, ap, subst, ◌∙◌, inl, inr}
+use Rattle.std.specs.List.{list_all, AllByRecursion}
+use Rattle.std.proofs.Common.{refl, sym, ap, ◌∙◌, inl, inr}
 use Rattle.std.proofs.lemmas.Bool.{and_from, and_parts, cases_Bool, eqb-true, false_from_ne_true, or_left}
 use Rattle.std.proofs.lemmas.List.{append-nil, append_assoc}
 use Rattle.sg_text.specs.Names.{is_name_byte}
-use Rattle.sg_logic.specs.declared.values.Value.{Value}
 use Rattle.sdf_lex.specs.declared.letters.Letter.{Letter}
 use Rattle.sdf_lex.specs.declared.letters.Letter.TheVariants.{Plain, Escaped}
 use Rattle.sdf_lex.specs.Names.{letters_of, called, is_name_letter, is_instance_letter, is_empty, is_name, is_instance_name, is_divider, in_front, parts_of, path_parts}

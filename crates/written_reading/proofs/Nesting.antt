@@ -1,35 +1,23 @@
 -- How deep the parentheses of a written file nest.
-use Rattle.std.specs.Prelude.{◌≡◌, ◌≢◌, ℕ, zero, suc, ◌+◌, ◌-◌, ◌<◌, ◌≤◌, ◌==◌, ◌⊎◌, ℤ, max, Bool, true, false, IfSome, List, [], ◌∷◌, ◌++◌, map, flat_map, take, length, decimal, Option, Some, None, codes, slice_get, if◌then◌else◌}
-use Rattle.std.specs.Fmt.{signed_decimal}
-use Rattle.std.specs.List.{AllByRecursion, range_with_len}
+use Rattle.std.specs.Prelude.{◌≡◌, ℕ, zero, suc, ◌+◌, ◌-◌, ◌≤◌, ◌==◌, ◌⊎◌, ℤ, Bool, true, false, List, [], ◌∷◌, ◌++◌, flat_map, Option, Some, None, if◌then◌else◌}
+use Rattle.std.specs.List.{AllByRecursion}
 use Rattle.std.proofs.Common.{refl, sym, ap, subst, ◌∙◌, inl, inr, arith}
 use Rattle.std.proofs.Math.Nat.{le-max_left, le-max_right}
 use Rattle.cond_expr.specs.declared.scan.Phase.{Phase}
 use Rattle.cond_expr.specs.declared.scan.Phase.TheVariants.{Operand, Name, Whole}
 use Rattle.cond_expr.specs.declared.tokens.Tok.TheVariants as tok
-use Rattle.cond_expr.specs.Grammar.{IsCondition, FirstFault}
+use Rattle.cond_expr.specs.Grammar.{IsCondition}
 use Rattle.cond_expr.specs.Kinds.{Kind, name_kind, index_kind, constant_kind, left_kind, right_kind, operator_kind, kind_of, is_left, is_right, is_prefix, precedence}
-use Rattle.cond_expr.specs.ScanSteps.{Next, after_whole, step}
+use Rattle.cond_expr.specs.ScanSteps.{Next, step}
 use Rattle.cond_expr.specs.Token.{Tok}
 use Rattle.cond_expr.proofs.AnyDepth.{verdict_is}
 use Rattle.cond_expr.proofs.Scanning.{scan, at_end, go_on}
-use Rattle.sg_circuit.specs.Circuit.{Circuit, Variable, scope_at}
-use Rattle.sdf_lex.specs.Tokens.{Meaning, Lexeme, word_token, selected_token, select_token, text_token, operator_token, left_token, right_token}
-use Rattle.sdf_read.specs.Depth.{depth_behind, Exceeds, NoneTooDeep}
-use Rattle.sdf_read.specs.Depth as read
-use Rattle.sdf_tree.specs.declared.tree.Edge.{Edge}
-use Rattle.sdf_tree.specs.Written.{PathCondition, always, otherwise, if_words}
-use Rattle.written_model.specs.declared.parts.Part.{Part}
-use Rattle.written_model.specs.declared.parts.Part.TheVariants as part
-use Rattle.written_model.specs.Entries.{Numbers, LegEntry, PathEntry, EventKey, CheckEntry, legs, paths, checks}
+use Rattle.sdf_lex.specs.Tokens.{Meaning, select_token, operator_token, left_token, right_token}
+use Rattle.sdf_read.specs.Depth.{depth_behind}
 use Rattle.written_model.specs.Faults.{depth_from}
-use Rattle.written_model.specs.Names.{BitName, name_text, name_of, names_to}
-use Rattle.written_model.specs.Text.{edge_text}
-use Rattle.written_model.specs.Tree.{datum_of, cell_type_of, delay_entries, check_entries, parts_of}
-use Rattle.written_reading.specs.Meanings.{index_in_front, name_meaning, token_meaning, words_meanings, select_meanings, bit_meanings, terminal_meanings, conditional_meanings, event_meanings, value_meanings, delay_meanings, leg_meanings, io_path_meanings, under_condition, path_meanings, terminals_meanings, check_meanings, around, delays_meanings, checks_meanings, parts_meanings, instance_meanings, cell_head_meanings, cell_meanings, head_meanings, meanings}
-use Rattle.written_reading.proofs.CellTokens.{IsGoodScope}
-use Rattle.written_reading.proofs.CheckTokens.{IsGoodEvent, IsGoodCheck}
-use Rattle.written_reading.proofs.EntryTokens.{IsGoodWords, IsGoodCondition, IsGoodPath}
+use Rattle.written_model.specs.Names.{name_text}
+use Rattle.written_reading.specs.Meanings.{index_in_front, name_meaning, token_meaning, words_meanings}
+use Rattle.written_reading.proofs.EntryTokens.{IsGoodWords}
 
 -- ---- tokens that open no parenthesis too many
 

@@ -1,18 +1,12 @@
 -- No number of a written file is bad, and no limits cross.
-use Rattle.std.specs.Prelude.{◌≡◌, ℕ, zero, suc, ◌+◌, ◌*◌, ◌<◌, ◌≤◌, ◌^◌, nat_lt, ◌||◌, ℤ, pos, unsigned_abs, Bool, true, false, List, [], ◌∷◌, ◌++◌, map, flat_map, length, decimal, Option, Some, None, Ok, option_map, cond}
-use Rattle.std.specs.Fmt.{signed_decimal}
-use Rattle.std.specs.List.{AllByRecursion, find, range_with_len}
-use Rattle.std.specs.Result.{is_err}
-use Rattle.std.proofs.Common.{refl, sym, ap, subst, ◌∙◌, arith}
-use Rattle.std.proofs.lemmas.Bool.{le-ltb}
-use Rattle.std.proofs.lemmas.List.{append-nil, map-append}
+use Rattle.std.specs.Prelude.{◌≡◌, ◌||◌, Bool, false, List, [], ◌∷◌, ◌++◌, map, flat_map, Option, Some, None, option_map}
+use Rattle.std.specs.List.{AllByRecursion, find}
+use Rattle.std.proofs.Common.{refl, sym, ap, subst, ◌∙◌}
+use Rattle.std.proofs.lemmas.List.{map-append}
 use Rattle.sg_text.specs.declared.places.Place.{Place}
-use Rattle.sg_time.specs.Spelling as time
-use Rattle.sg_circuit.specs.Circuit.{Circuit, Variable, scope_at}
 use Rattle.sdf_meaning.specs.FirstFaults.{bad_number, crossing}
-use Rattle.sdf_tree.specs.Faults.{listed, value_numbers, limits_numbers, delay_numbers, body_numbers, group_numbers, check_numbers, part_numbers, head_numbers, file_numbers, is_bad, is_less, is_below, crosses_at, Crossing, crosses, crossings_at, delay_crossings, body_crossings, group_crossings, part_crossings, file_crossings}
-use Rattle.sdf_tree.specs.Meant.{decimal_of, number_or_zero, number_of as read_number}
-use Rattle.sdf_tree.specs.Written.{Number, Value, Limits, Delay, Body, io_path, port_delay, interconnect, device, net_delay, Entry, Group, absolute, increment, path_pulse, CheckBody, pair_check, window_check, single_check, skipped_check, Check, Part, delays, checks, skipped_part, Cell, Head, text_head, divider_head, unit_head, value_head, FilePart, a_head, a_cell}
+use Rattle.sdf_tree.specs.Faults.{listed, value_numbers, limits_numbers, delay_numbers, body_numbers, group_numbers, check_numbers, part_numbers, head_numbers, file_numbers, is_bad, crosses_at, Crossing, crosses, crossings_at, delay_crossings, body_crossings, group_crossings, part_crossings, file_crossings}
+use Rattle.sdf_tree.specs.Written.{Number, Value, Limits, Delay, io_path, port_delay, interconnect, device, net_delay, Entry, absolute, increment, path_pulse, pair_check, window_check, single_check, skipped_check, Check, delays, checks, skipped_part, text_head, divider_head, unit_head, value_head, FilePart, a_head, a_cell}
 use Rattle.written_model.specs.Tree.{nowhere}
 use Rattle.written_reading.specs.Placeless as placeless
 

@@ -1,5 +1,5 @@
 -- The tokens of words of the language, of ports, edges and the words of conditions.
-use Rattle.std.specs.Prelude.{◌≡◌, ◌≢◌, ◌+◌, ℤ, is_some, unwrap_or, not, Bool, true, false, List, [], ◌∷◌, ◌++◌, map, Option, Some, None, codes}
+use Rattle.std.specs.Prelude.{◌≡◌, ◌≢◌, ◌+◌, ℤ, is_some, unwrap_or, not, Bool, true, false, List, [], ◌∷◌, ◌++◌, Option, Some, None, codes}
 use Rattle.std.specs.List.{AllByRecursion}
 use Rattle.std.proofs.Common.{ℕ, refl, sym, ap, subst, ◌∙◌}
 use Rattle.std.proofs.lemmas.Bool.{eq-eqb}
@@ -15,26 +15,26 @@ use Rattle.cond_expr.specs.Token.{Tok}
 use Rattle.cond_expr.specs.Vocabulary.{any_word, is_word as is_word_of}
 use Rattle.vl_token.specs.Constants.{low_bits}
 use Rattle.sdf_lex.specs.Tokens.{Meaning, Lexeme, word_token, selected_token, select_token, operator_token, left_token, right_token}
-use Rattle.sdf_lex.specs.Names.{called, is_name}
+use Rattle.sdf_lex.specs.Names.{is_name}
 use Rattle.sdf_tree.specs.declared.keywords.Keyword.{Keyword}
 use Rattle.sdf_tree.specs.declared.keywords.Keyword.TheVariants as keyword
 use Rattle.sdf_tree.specs.declared.tree.Edge.{Edge}
 use Rattle.sdf_tree.specs.declared.tree.Edge.TheVariants as edge
 use Rattle.sdf_tree.specs.declared.words.Divider.TheVariants.{Slash}
-use Rattle.sdf_tree.specs.Conditions.{word_class, class_of, word_tok, tok_of, index, vocabulary, condition_parts, condition}
+use Rattle.sdf_tree.specs.Conditions.{word_class, word_tok, tok_of, index, vocabulary, condition_parts, condition}
 use Rattle.sdf_tree.specs.Keywords.{keyword_of}
-use Rattle.sdf_tree.specs.Kinds.{Kind, word_kind, is_select, is_port, is_word, is_word_that, edge_of, named_by, names, port_path, select_of, kind_of, kind_of_meaning}
+use Rattle.sdf_tree.specs.Kinds.{word_kind, is_select, is_port, is_word, is_word_that, edge_of, named_by, names, port_path, select_of, kind_of, kind_of_meaning}
 use Rattle.sdf_tree.specs.Rules.{Grammar, token, word, optional}
-use Rattle.sdf_tree.specs.Values.{port_parts, port, is_edge, edge_parts, edge_word}
+use Rattle.sdf_tree.specs.Values.{port_parts, port, edge_parts, edge_word}
 use Rattle.sdf_tree.specs.Words.{constant_of}
 use Rattle.sdf_tree.specs.Written.{Port}
 use Rattle.written_model.specs.Names.{name_text, index_text, BitName}
 use Rattle.written_model.specs.Text.{value_letter, edge_text}
 use Rattle.written_model.specs.Tree.{port_of_name}
 use Rattle.written_reading.specs.Meanings.{index_in_front, name_meaning, select_meanings, token_meaning, words_meanings, bit_meanings}
-use Rattle.written_reading.specs.Named.{IsNameText, IsWord}
+use Rattle.written_reading.specs.Named.{IsWord}
 use Rattle.written_reading.proofs.NameTexts.{called_name, is_name_text, name_constant, name_is_port}
-use Rattle.written_reading.proofs.Tells.{Tells, Says, tells_token, tells_mark, tells_image, tells_none, tells_some, tells_left, tells_right, tells_both}
+use Rattle.written_reading.proofs.Tells.{Tells, tells_token, tells_mark, tells_image, tells_none, tells_some, tells_left, tells_right, tells_both}
 
 -- ---- words of the language
 

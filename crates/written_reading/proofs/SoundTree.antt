@@ -1,15 +1,15 @@
 -- The tree of a circuit has no bad number, and no limits that cross.
-use Rattle.std.specs.Prelude.{◌≡◌, ℕ, ◌+◌, ◌*◌, ◌<◌, ◌≤◌, ◌^◌, nat_lt, ◌||◌, ℤ, pos, unsigned_abs, Bool, true, false, List, [], ◌∷◌, ◌++◌, map, flat_map, length, decimal, Option, Some, None, Result, Ok}
+use Rattle.std.specs.Prelude.{◌≡◌, ℕ, ◌*◌, ◌<◌, ◌≤◌, ◌^◌, ◌||◌, pos, Bool, true, false, List, [], ◌∷◌, map, flat_map, length, decimal, Some}
 use Rattle.std.specs.Fmt.{signed_decimal}
 use Rattle.std.specs.List.{AllByRecursion, range_with_len}
 use Rattle.std.specs.Result.{is_err}
-use Rattle.std.proofs.Common.{refl, sym, ap, subst, ◌∙◌, arith}
+use Rattle.std.proofs.Common.{refl, ap, ◌∙◌, arith}
 use Rattle.std.proofs.lemmas.Bool.{le-ltb}
 use Rattle.sg_time.specs.Spelling as time
 use Rattle.sg_circuit.specs.Circuit.{Circuit, Variable, scope_at}
-use Rattle.sdf_tree.specs.Faults.{value_numbers, limits_numbers, delay_numbers, body_numbers, group_numbers, check_numbers, part_numbers, file_numbers, is_bad, is_less, is_below, crosses_at, Crossing, crosses, delay_crossings, body_crossings, group_crossings, part_crossings, file_crossings}
+use Rattle.sdf_tree.specs.Faults.{value_numbers, delay_numbers, body_numbers, check_numbers, part_numbers, file_numbers, is_bad, is_below, crosses_at, Crossing, crosses, delay_crossings, body_crossings, part_crossings, file_crossings}
 use Rattle.sdf_tree.specs.Meant.{decimal_of, number_or_zero, number_of as read_number}
-use Rattle.sdf_tree.specs.Written.{Number, Terminal, Value, Delay, Entry, Group, absolute, CheckBody, Check, Part, delays, checks, FilePart, a_head, a_cell}
+use Rattle.sdf_tree.specs.Written.{Number, Terminal, Entry, absolute, Check, Part, delays, checks, FilePart, a_cell}
 use Rattle.written_model.specs.declared.parts.Part as code_part
 use Rattle.written_model.specs.declared.parts.Part.TheVariants as part
 use Rattle.written_model.specs.Entries as entries

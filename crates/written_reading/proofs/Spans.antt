@@ -1,6 +1,6 @@
 -- Where tokens stand whose meanings are known.
 use Rattle.std.specs.Prelude.{◌≡◌, ℕ, ◌+◌, List, [], ◌∷◌, ◌++◌, Some, slice_get}
-use Rattle.std.proofs.Common.{refl, sym, subst}
+use Rattle.std.proofs.Common.{refl}
 use Rattle.sdf_lex.specs.Tokens.{Meaning, Lexeme}
 
 abbrev pub IsAt : List Lexeme → ℕ → Meaning → Type 0

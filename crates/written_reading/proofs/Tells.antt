@@ -1,16 +1,14 @@
 -- What tokens of known meanings tell by a rule, by how the rule is built.
-use Rattle.std.specs.Prelude.{◌≡◌, ℕ, ◌+◌, Bool, true, List, [], ◌∷◌, ◌++◌, map, flat_map, Option, Some, None, slice_get}
+use Rattle.std.specs.Prelude.{◌≡◌, ℕ, Bool, true, List, [], ◌∷◌, ◌++◌, map, flat_map, Option, Some, None}
 use Rattle.std.specs.List.{AllByRecursion}
-use Rattle.std.specs.Option.{option_map}
 use Rattle.std.proofs.Common.{refl, sym, ap, subst, ◌∙◌, inl, inr}
 use Rattle.std.proofs.lemmas.List.{map-append}
-use Rattle.grammar.specs.Language.{Language, image, sequence, choice, at_most_once, repetition, SpellsMany, one_token}
+use Rattle.grammar.specs.Language.{Language, image, sequence, choice, at_most_once, repetition, SpellsMany}
 use Rattle.grammar.specs.Placed.{with_place}
-use Rattle.sg_text.specs.declared.places.Place.{Place}
 use Rattle.sdf_lex.specs.Tokens.{Meaning, Lexeme}
-use Rattle.sdf_tree.specs.Kinds.{Kind, kind_of, kind_of_meaning}
-use Rattle.sdf_tree.specs.Rules.{Grammar, token, mark}
-use Rattle.written_reading.proofs.Spans.{IsAt, Spans, Split, split}
+use Rattle.sdf_tree.specs.Kinds.{Kind, kind_of_meaning}
+use Rattle.sdf_tree.specs.Rules.{token, mark}
+use Rattle.written_reading.proofs.Spans.{Spans, split}
 
 abbrev pub Over : Type 0 → Type 1
 Over A = Language Lexeme A

@@ -1,5 +1,5 @@
 -- The tokens of a written file are read as its tree.
-use Rattle.std.specs.Prelude.{◌≡◌, ℕ, suc, ◌+◌, true, List, [], ◌∷◌, map, length, Option, Some, None, Result, Ok, slice_get}
+use Rattle.std.specs.Prelude.{◌≡◌, ℕ, suc, ◌+◌, true, List, [], ◌∷◌, map, length, Option, Some, None, Ok, slice_get}
 use Rattle.std.specs.List.{flat_map, range_with_len}
 use Rattle.std.proofs.Common.{refl, sym, ap, subst, ◌∙◌, arith}
 use Rattle.sg_text.specs.declared.places.Place.{Place}
@@ -8,16 +8,16 @@ use Rattle.sg_circuit.specs.Circuit.{Circuit}
 use Rattle.grammar.proofs.Laws.{one_value}
 use Rattle.sdf_lex.specs.Lexes.{Lexes}
 use Rattle.sdf_lex.specs.Tokens.{Meaning, Lexeme}
-use Rattle.sdf_tree.specs.Faults.{file_numbers, file_crossings}
+use Rattle.sdf_tree.specs.Faults.{file_crossings}
 use Rattle.sdf_tree.specs.Files.{file}
 use Rattle.sdf_tree.specs.Kinds.{kind_of}
-use Rattle.sdf_tree.specs.Meant.{Sdf, sdf_of}
+use Rattle.sdf_tree.specs.Meant.{sdf_of}
 use Rattle.sdf_tree.specs.Written.{FilePart}
 use Rattle.sdf_tree.proofs.FilesExact.{file-exact}
-use Rattle.sdf_read.specs.Outcomes.{Fault, meaning_unless, meaning_of, Outcome, is_spelled}
+use Rattle.sdf_read.specs.Outcomes.{meaning_unless, meaning_of, Outcome, is_spelled}
 use Rattle.sdf_read.specs.Reads.{Reads, has_tokens, end_of}
 use Rattle.sdf_read.proofs.OneOutcome.{reads_once}
-use Rattle.sdf_meaning.specs.FirstFaults.{bad_number, crossing}
+use Rattle.sdf_meaning.specs.FirstFaults.{crossing}
 use Rattle.written_model.specs.Faults.{AreFaultless}
 use Rattle.written_model.specs.Tree.{tree}
 use Rattle.written_reading.specs.Meanings.{meanings}

@@ -1,21 +1,20 @@
 -- The tokens of values and of delays.
-use Rattle.std.specs.Prelude.{◌≡◌, Bool, true, List, [], ◌∷◌, ◌++◌, decimal, Option, Some, None}
+use Rattle.std.specs.Prelude.{◌≡◌, true, List, [], ◌∷◌, ◌++◌, Option, Some, None}
 use Rattle.std.specs.Option.{option_map}
-use Rattle.std.proofs.Common.{ℕ, refl, sym, ap, ◌∙◌}
+use Rattle.std.proofs.Common.{ℕ, refl, ap, ◌∙◌}
 use Rattle.grammar.specs.Rule.{◌∙∙◌, ◌▸◌, ◌◂◌, mapped}
 use Rattle.sg_text.specs.declared.places.Place.{Place}
-use Rattle.sdf_lex.specs.Tokens.{Meaning, Lexeme, word_token, left_token, right_token}
+use Rattle.sdf_lex.specs.Tokens.{Meaning, word_token, left_token, right_token}
 use Rattle.sdf_tree.specs.Kinds.{is_left, is_right, is_select, is_number, word_text}
-use Rattle.sdf_tree.specs.Rules.{Grammar, token, mark, optional, placed}
+use Rattle.sdf_tree.specs.Rules.{mark, optional, placed}
 use Rattle.sdf_tree.specs.Values.{number_word, number_parts, number, value_of, others, numbers_parts, numbers, value_or_none, value_parts, value, limits_of, delay_rest_parts, delay_rest, delay_parts, delay}
 use Rattle.sdf_tree.specs.Words.{begins_number}
-use Rattle.sdf_tree.specs.Written as written
 use Rattle.sdf_tree.specs.Written.{Number, Value, Limits, Delay}
 use Rattle.sdf_tree.proofs.NumberLaws.{number_word as number_kind}
 use Rattle.written_model.specs.Tree.{nowhere, number_of, lone}
 use Rattle.written_reading.specs.Meanings.{value_meanings}
 use Rattle.written_reading.specs.Placeless as placeless
-use Rattle.written_reading.proofs.Tells.{Tells, Says, tells_token, tells_mark, tells_image, tells_placed, tells_none, tells_some, tells_left, tells_right, tells_both, tells_first, tells_second}
+use Rattle.written_reading.proofs.Tells.{Tells, Says, tells_token, tells_mark, tells_image, tells_placed, tells_none, tells_some, tells_left, tells_both, tells_first, tells_second}
 
 module _ (text : List ℕ) (begins : begins_number text ≡ true) where
   pub says_number : Says number.language placeless.number (number_of text) (word_token text ∷ [])

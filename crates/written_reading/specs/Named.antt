@@ -1,11 +1,11 @@
 -- What names a circuit of a netlist has: all that is written of it stands behind names that lead back to it.
-use Rattle.std.specs.Prelude.{◌≡◌, ◌≢◌, ℕ, ◌<◌, ◌^◌, ℤ, pos, negsuc, ◌≤ℤ◌, unsigned_abs, true, ◌⊎◌, All, Contains, List, [], length, Option, Some, None, IfSome, IsSome, slice_get}
+use Rattle.std.specs.Prelude.{◌≡◌, ◌≢◌, ℕ, ◌<◌, ◌^◌, ℤ, pos, negsuc, ◌≤ℤ◌, unsigned_abs, true, All, Contains, List, [], length, Some, None, IfSome, IsSome, slice_get}
 use Rattle.cond_expr.specs.declared.tokens.Tok.TheVariants as tok
 use Rattle.cond_expr.specs.Grammar.{IsCondition}
 use Rattle.cond_expr.specs.Token.{Tok}
 use Rattle.sg_circuit.specs.declared.scopes.Port.{Port}
 use Rattle.sg_circuit.specs.declared.scopes.Port.TheVariants.{Input, Output}
-use Rattle.sg_circuit.specs.Circuit.{Circuit, Variable, Scope, scope_at}
+use Rattle.sg_circuit.specs.Circuit.{Circuit, Variable, scope_at}
 use Rattle.annotation_model.specs.Spots.{Spot, leg_spot, path_spot, spots, Checked, all_checked}
 use Rattle.sdf_lex.specs.Bytes.{class_of, is_good}
 use Rattle.written_model.specs.Faults.{conditions}

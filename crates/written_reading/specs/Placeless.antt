@@ -1,5 +1,5 @@
 -- Trees of SDF files without their places.
-use Rattle.std.specs.Prelude.{List, map, Option}
+use Rattle.std.specs.Prelude.{List, map}
 use Rattle.std.specs.Option.{option_map}
 use Rattle.sdf_tree.specs.Written.{Number, Value, Limits, Delay, Body, io_path, port_delay, interconnect, device, net_delay, Entry, Group, absolute, increment, path_pulse, CheckBody, pair_check, window_check, single_check, skipped_check, Check, Part, delays, checks, skipped_part, Cell, Head, text_head, divider_head, unit_head, value_head, FilePart, a_head, a_cell}
 use Rattle.written_model.specs.Tree.{nowhere}
