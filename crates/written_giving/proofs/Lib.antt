@@ -1,1 +1,10 @@
 -- The modules of this folder.
+pub mod MemberLaws
+pub mod StepLaws
+pub mod PlaceLaws
+pub mod TreeLaws
+pub mod LetterLaws
+pub mod ScopeLaws
+pub mod PortLaws
+pub mod TickLaws
+pub mod TimingLaws
