@@ -8,3 +8,8 @@ pub mod ScopeLaws
 pub mod PortLaws
 pub mod TickLaws
 pub mod TimingLaws
+pub mod KeyLaws
+pub mod MatchLaws
+pub mod AlikeLaws
+pub mod SpotLaws
+pub mod FaultLaws

@@ -1,8 +1,8 @@
 -- What is in a list.
 use Rattle.std.proofs.Common.{◌≡◌, zero, suc, ◌<◌, Bool, true, false, List, [], ◌∷◌, ◌++◌, length, refl, sym, ◌∙◌, ap, subst, arith, inl, inr}
-use Rattle.std.specs.Prelude.{ℕ, ◌+◌, ◌||◌, All, ◌⊎◌, map, cond, Option, Some, None, unwrap_or, slice_get, slice_index_or}
+use Rattle.std.specs.Prelude.{ℕ, ◌+◌, ◌||◌, All, Contains, ◌⊎◌, map, cond, Option, Some, None, unwrap_or, slice_get, slice_index_or}
 use Rattle.std.specs.List.{filter, flat_map, list_any, range_with_len}
-use Rattle.std.proofs.lemmas.Bool.{or_right}
+use Rattle.std.proofs.lemmas.Bool.{or_right, or_parts}
 
 abbrev pub Mem : {A : Type 0} → A → List A → Type 0
 Mem x [] = ⊥
@@ -84,6 +84,30 @@ module _ {A : Type 0} where
   pub none-any : (p : A → Bool) (xs : List A) → ((x : A) → Mem x xs → p x ≡ false) → list_any p xs ≡ false
   none-any p [] h = refl
   none-any p (y ∷ ys) h = ap (λ b. b || list_any p ys) (h y (inl refl)) ∙ none-any p ys (λ x m. h x (inr m))
+
+  pub any-none : (p : A → Bool) (xs : List A) (x : A) → list_any p xs ≡ false → Mem x xs → p x ≡ false
+  any-none p [] x e m = absurd m
+  any-none p (y ∷ ys) x e m =
+      let q = or_parts (p y) (list_any p ys) e in
+      elim m [
+        | inl f ↦ ap p f ∙ q.0
+        | inr n ↦ any-none p ys x q.1 n
+      ]
+
+  pub contained-in : (xs : List A) (x : A) → Contains xs x → Mem x xs
+  contained-in xs x h = by xs h.0 h.1 h.2
+    where
+      by : (ys : List A) (k : ℕ) → k < length ys → slice_index_or ys k x ≡ x → Mem x ys
+      by [] k l e = absurd (omega (arith, l))
+      by (y ∷ ys) zero l e = inl (sym e)
+      by (y ∷ ys) (suc k) l e = inr (by ys k (omega (arith, l)) e)
+
+  pub in-contained : (xs : List A) (x : A) → Mem x xs → Contains xs x
+  in-contained [] x m = absurd m
+  in-contained (y ∷ ys) x m = elim m [
+    | inl e ↦ (0, omega arith, sym e)
+    | inr n ↦ (let r = in-contained ys x n in (suc r.0, omega (arith, r.1), r.2))
+  ]
 
 module _ {A B : Type 0} where
   pub in-map : (f : A → B) (xs : List A) (y : B) → Mem y (map f xs) → (x : A) × Mem x xs × (y ≡ f x)

@@ -17,7 +17,7 @@ use Rattle.annotation_model.specs.Ports.{is_within, position_at, net_in, bits_of
 use Rattle.written_model.specs.Names.{BitName, index_at, bit_at, named_by, name_of}
 use Rattle.written_model.specs.Tree.{port_of}
 use Rattle.written_reading.specs.Named.{AreApart, IsNetOf}
-use Rattle.written_giving.proofs.MemberLaws.{Mem, stands-in, in-place, each-of-all}
+use Rattle.written_giving.proofs.MemberLaws.{Mem, stands-in, in-place, each-of-all, in-contained, contained-in}
 use Rattle.written_giving.proofs.LetterLaws.{name-back}
 
 -- ---- places among bits
@@ -181,27 +181,15 @@ names kind net (v ∷ vs) apart widths kinds w m n =
         not-named true f r = absurd (apart-first v vs apart r.variable r.among ((bytes_eq-Decides v.name (name_of vs net).name).0 f ∙ r.named))
         not-named false f r = refl
 
--- a port of a scope that has a net, of a kind that all that have the net are of
-pub port-net : (c : Circuit) (kind : PortKind → Bool) (Is : PortKind → Type 0) (s net : ℕ) → ((p : PortKind) → Is p → kind p ≡ true) → AreApart (scope_at c s).variables
-    → All (λ (v : Variable). length v.bits ≡ width_of v.range) (scope_at c s).variables → IsNetOf Is (scope_at c s).variables net → port_nets c Slash kind s (port_of (scope_at c s).variables net) ≡ net ∷ []
-port-net c kind Is s net kinds apart widths of =
-    let vs = (scope_at c s).variables in
+-- a net of a scope, of a kind that all that have it are of
+pub net-named : (kind : PortKind → Bool) (Is : PortKind → Type 0) (vs : List Variable) (net : ℕ) → ((p : PortKind) → Is p → kind p ≡ true) → AreApart vs → All (λ (v : Variable). length v.bits ≡ width_of v.range) vs
+    → IsNetOf Is vs net → nets_named kind vs (name_of vs net).name (name_of vs net).index ≡ net ∷ []
+net-named kind Is vs net kinds apart widths of =
     let h = names kind net vs apart (each-of-all (λ (v : Variable). length v.bits ≡ width_of v.range) vs widths)
-        (λ v m n. kinds v.port (each-of-all (λ (x : Variable). Contains x.bits net → Is x.port) vs of.each v m (contained v.bits net n)))
-        of.variable (stands-in vs of.place of.variable of.stands) (in-contained of.variable.bits net of.has) in
-    ap (λ ns. own_nets c kind s ns (name_of vs net).index) (name-back (name_of vs net).name) ∙ h.nets
-  where
-    contained : (xs : List ℕ) (x : ℕ) → Mem x xs → Contains xs x
-    contained [] x m = absurd m
-    contained (y ∷ ys) x m = elim m [
-      | inl e ↦ (0, omega arith, sym e)
-      | inr n ↦ (let r = contained ys x n in (suc r.0, omega (arith, r.1), r.2))
-    ]
+        (λ v m n. kinds v.port (each-of-all (λ (x : Variable). Contains x.bits net → Is x.port) vs of.each v m (in-contained v.bits net n)))
+        of.variable (stands-in vs of.place of.variable of.stands) (contained-in of.variable.bits net of.has) in h.nets
 
-    in-contained : (xs : List ℕ) (x : ℕ) → Contains xs x → Mem x xs
-    in-contained xs x h = by xs h.0 h.1 h.2
-      where
-        by : (ys : List ℕ) (k : ℕ) → k < length ys → slice_index_or ys k x ≡ x → Mem x ys
-        by [] k l e = absurd (omega (arith, l))
-        by (y ∷ ys) zero l e = inl (sym e)
-        by (y ∷ ys) (suc k) l e = inr (by ys k (omega (arith, l)) e)
+-- its port means it
+pub port-net : (c : Circuit) (kind : PortKind → Bool) (s net : ℕ) → nets_named kind (scope_at c s).variables (name_of (scope_at c s).variables net).name (name_of (scope_at c s).variables net).index ≡ net ∷ []
+    → port_nets c Slash kind s (port_of (scope_at c s).variables net) ≡ net ∷ []
+port-net c kind s net h = let n = name_of (scope_at c s).variables net in ap (λ ns. own_nets c kind s ns n.index) (name-back n.name) ∙ h
