@@ -13,3 +13,5 @@ pub mod MatchLaws
 pub mod AlikeLaws
 pub mod SpotLaws
 pub mod FaultLaws
+pub mod GivenLaws
+pub mod CheckLaws
