@@ -275,12 +275,12 @@ module _ (c : Circuit) (closed : IsClosed c) (named : IsNamed c) (s : ℕ) (with
   timing-of k m = each-of-all (IsCheckTiming (length c.nets)) c.check_timings closed.check_timings k.timing (check-among c k m).1
 
   -- the nets of an entry are of the scope, and its part has a data event where its key has one
-  record HasEvents (key : CheckKey) : Type 0 where
+  pub record HasEvents (key : CheckKey) : Type 0 where
     pub refer : IsVariableOf (scope_at c s).variables key.refer.net
     pub datum : IfSome key.datum (λ d. IsVariableOf (scope_at c s).variables d.net)
     pub two : has_two key.part ≡ is_some key.datum
 
-  has-events : (e : CheckEntry) → Mem e (check_entries c s) → HasEvents e.key
+  pub has-events : (e : CheckEntry) → Mem e (check_entries c s) → HasEvents e.key
   has-events e m =
       let i = check-entry c s e m in
       let k = i.of in

@@ -15,3 +15,4 @@ pub mod SpotLaws
 pub mod FaultLaws
 pub mod GivenLaws
 pub mod CheckLaws
+pub mod LimitLaws
