@@ -16,3 +16,4 @@ pub mod FaultLaws
 pub mod GivenLaws
 pub mod CheckLaws
 pub mod LimitLaws
+pub mod FromLaws
