@@ -95,7 +95,7 @@ module _ (c from : Circuit) (like : IsLike c from) (sdf : Sdf) (corner : Corner)
   tick-is : from.tick ≡ c.tick
   tick-is = ap (λ (x : Circuit). x.tick) like
 
-  elements-are : map stripped_element from.elements ≡ map stripped_element c.elements
+  pub elements-are : map stripped_element from.elements ≡ map stripped_element c.elements
   elements-are = ap (λ (x : Circuit). x.elements) like
 
   pub timings-are : map stripped_check from.check_timings ≡ map stripped_check c.check_timings
@@ -172,7 +172,7 @@ module _ (c from : Circuit) (like : IsLike c from) (sdf : Sdf) (corner : Corner)
       by true = ap (λ ns. length ns + 1) (ap (λ ks. signals ks from.check_timings k.check.scope) checks-are ∙ signals-alike c.checks from.check_timings c.check_timings k.check.scope without)
       by false = refl
 
-  abbrev limit_by : Checked → (Option Triple × Option Triple → Option Triple) → Given → ℤ → ℤ
+  abbrev pub limit_by : Checked → (Option Triple × Option Triple → Option Triple) → Given → ℤ → ℤ
   limit_by k pick g z = limit_or (takes_lates k.timing.kind) (chosen_if (scope_grid c corner k.check.scope) (pick (given_to c Slash g k))) z
 
   pub limits-after-are : (gs : List Given) (j k : Checked) (x y : ℤ) → bare_checked j ≡ bare_checked k → j.timing.limits ≡ x ∷ y ∷ []

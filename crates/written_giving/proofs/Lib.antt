@@ -17,3 +17,4 @@ pub mod GivenLaws
 pub mod CheckLaws
 pub mod LimitLaws
 pub mod FromLaws
+pub mod BackLaws

@@ -24,7 +24,7 @@ use Rattle.written_model.specs.Entries.{EventKey, CheckKey, LegEntry, PathEntry,
 use Rattle.written_model.specs.Faults.{AreFaultless, is_for_event, is_for_datum}
 use Rattle.written_model.specs.Tree.{event_terminal, datum_of}
 use Rattle.written_reading.specs.Named.{IsNamed}
-use Rattle.written_giving.proofs.CheckLaws.{cell_check, has_two, part-two, check-among, IsCheckEntry, check-entry, check-entry-in, fits_key, triple, check_cell, HasEvents, has-events, Gives, gives-check, gives-own}
+use Rattle.written_giving.proofs.CheckLaws.{cell_check, second_part, second-only, has_two, part-two, check-among, IsCheckEntry, check-entry, check-entry-in, fits_key, triple, check_cell, HasEvents, has-events, Gives, gives-check, gives-own}
 use Rattle.written_giving.proofs.FaultLaws.{one-check-value, size-read, check-size, scope_grid, scale}
 use Rattle.written_giving.proofs.GivenLaws.{IsGivenOf, a_leg, a_path, a_check, given-is, ranked-pieces}
 use Rattle.written_giving.proofs.KeyLaws.{edge-own, edge-fits, words-own, words-fits, option-rank, option-equal}
@@ -95,6 +95,25 @@ few-ranks k = by k.datum
     by : (d : Option EventKey) → event_rank k.refer + datum_rank d < 5
     by None = omega (arith, one k.refer.edge, one k.refer.condition)
     by (Some d) = omega (arith, one k.refer.edge, one k.refer.condition, one d.edge, one d.condition)
+
+-- a check with one limit is given no second
+pub no-second : (c : Circuit) (closed : IsClosed c) (named : IsNamed c) (k : Checked) → Mem k (all_checked c) → second_part k.timing.kind ≡ None → (r : ℕ) → r < length c.scopes → (g : Given) → IsGivenOf c r g → (given_to c Slash g k).1 ≡ None
+no-second c closed named k m e r within g (a_leg x n) = refl
+no-second c closed named k m e r within g (a_path x n) = refl
+no-second c closed named k m e r within g (a_check x n) = elim (gives-check c closed named r within x k n scope) [
+  | inl none ↦ ap (λ (l : Option Triple × Option Triple). l.1) none
+  | inr h ↦ ap (λ (l : Option Triple × Option Triple). l.1) h.given ∙ by (limits_for (check_cell c r x) k.timing.kind).1 refl
+]
+  where
+    scope : k.check.scope < length c.scopes
+    scope = each-of-all (λ (x : Check). x.scope < length c.scopes) c.checks closed.check_scopes k.check (check-among c k m).0
+
+    by : (o : Option Triple) → (limits_for (check_cell c r x) k.timing.kind).1 ≡ o → o ≡ None
+    by None f = refl
+    by (Some t) f =
+        let vs = (scope_at c r).variables in
+        let second = second-only (event_terminal vs x.key.refer) (event_terminal vs (datum_of x.key)) (triple x) x.key.part k.timing.kind (ap is_some f) in
+        absurd (let z : ◌≡◌ {A = Option Part} None (Some x.key.part) = sym e ∙ second in cc)
 
 -- ---- one part of a check
 
