@@ -1,6 +1,6 @@
 -- Circuits with the same scopes match entries alike, and places of entries don't matter.
-use Rattle.std.proofs.Common.{◌≡◌, Bool, true, false, List, [], ◌∷◌, refl, sym, ◌∙◌, ap}
-use Rattle.std.specs.Prelude.{ℕ, ℤ, pos, ◌==◌, ◌&&◌, ◌||◌, length, slice_index_or, Option, Some, None, bytes_eq, if◌then◌else◌}
+use Rattle.std.proofs.Common.{◌≡◌, Bool, true, false, List, [], ◌∷◌, refl, ◌∙◌, ap}
+use Rattle.std.specs.Prelude.{ℕ, pos, ◌==◌, ◌&&◌, ◌||◌, length, slice_index_or, Option, Some, None, bytes_eq, if◌then◌else◌}
 use Rattle.std.specs.List.{list_any, range_with_len}
 use Rattle.annotation_model.proofs.EntryLaws.{any-same}
 use Rattle.cond_expr.specs.Token.{Tok}
@@ -11,10 +11,10 @@ use Rattle.sg_circuit.specs.Checks.{CheckConditions}
 use Rattle.sg_circuit.specs.Circuit.{Circuit, Scope, scope_at}
 use Rattle.sg_circuit.specs.Paths as specify
 use Rattle.sdf_tree.specs.declared.words.Divider.{Divider}
-use Rattle.sdf_tree.specs.Written.{Instance, the_top, all_of_type, the_path, Port, Terminal, PathCondition}
-use Rattle.sdf_tree.specs.Meant.{Triple, DelayValue, CellCheck, EntryKind, io_path, device, port_delay, interconnect, path_pulse, a_check, skipped_entry}
+use Rattle.sdf_tree.specs.Written.{Instance, the_top, all_of_type, the_path, Port, Terminal}
+use Rattle.sdf_tree.specs.Meant.{CellCheck, EntryKind, io_path, device, port_delay, interconnect, path_pulse, a_check, skipped_entry}
 use Rattle.annotation_model.specs.Given.{Given}
-use Rattle.annotation_model.specs.Matching.{port_nets, fits_condition, fits_path, fits_leg, is_source, is_source_in, only, leads_between, is_for_path, is_for_leg, is_cell_scope, named_from, leads_below, fits_event, fits_datum, fits_check, terminals_of, limits_for, given_by, given_to_check, none_given}
+use Rattle.annotation_model.specs.Matching.{port_nets, fits_condition, fits_path, fits_leg, is_source, is_source_in, only, leads_between, is_for_path, is_cell_scope, named_from, leads_below, fits_event, fits_datum, fits_check, terminals_of, limits_for, given_by, none_given}
 use Rattle.annotation_model.specs.Ports.{has, is_input, is_output, is_any, nets_named, own_nets}
 use Rattle.annotation_model.specs.Same.{fits_edge, fits_words}
 use Rattle.annotation_model.specs.Scopes.{names_back, climb, is_scope, is_of_cell}

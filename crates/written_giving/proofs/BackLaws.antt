@@ -1,28 +1,23 @@
 -- Annotation with the entries of a circuit's tree gives the circuit back.
-use Rattle.std.proofs.Common.{◌≡◌, zero, suc, ◌<◌, ◌≤◌, Bool, true, false, List, [], ◌∷◌, ◌++◌, length, drop, refl, sym, ◌∙◌, ap, subst, arith, inl, inr}
-use Rattle.std.specs.Prelude.{ℕ, ℤ, pos, negsuc, ◌≤ℤ◌, ◌⊎◌, All, map, Option, Some, None, unwrap_or, slice_index_or}
+use Rattle.std.proofs.Common.{◌≡◌, suc, ◌<◌, Bool, true, false, List, [], ◌∷◌, length, drop, refl, sym, ◌∙◌, ap, subst, arith, inl, inr}
+use Rattle.std.specs.Prelude.{ℕ, ℤ, pos, negsuc, ◌≤ℤ◌, All, map, Option, Some, None, unwrap_or, slice_index_or}
 use Rattle.std.specs.List.{flat_map, range_with_len}
 use Rattle.std.proofs.lemmas.Int.{ints}
 use Rattle.std.proofs.lemmas.List.{length-map}
-use Rattle.sg_time.specs.Ticks.{above}
 use Rattle.sg_delay.specs.declared.corners.Corner.{Corner}
 use Rattle.sg_delay.specs.declared.limits.PulseStyle.{PulseStyle}
 use Rattle.sg_circuit.specs.declared.checks.Check.{Check}
-use Rattle.sg_circuit.specs.declared.checks.Event.{Event}
 use Rattle.sg_circuit.specs.declared.checks.CheckKind.{CheckKind}
 use Rattle.sg_circuit.specs.declared.checks.CheckKind.TheVariants as kind
 use Rattle.sg_circuit.specs.declared.checks.CheckTiming.{CheckTiming}
-use Rattle.sg_circuit.specs.declared.checks.Zero.{Zero}
-use Rattle.sg_circuit.specs.declared.nets.Net.{Net}
 use Rattle.sg_circuit.specs.Checks.{CheckConditions}
-use Rattle.sg_circuit.specs.Circuit.{Circuit, Element, Kind, Gate, Udp, Pass, Leg, Path, Late, Scope, UsedPrimitive}
+use Rattle.sg_circuit.specs.Circuit.{Circuit, Element, Kind, Gate, Udp, Pass, Leg, Path, Late}
 use Rattle.sg_circuit.specs.Closed.{IsClosed, IsCheckTiming, HasLimits}
 use Rattle.sg_circuit.specs.Paths as specify
 use Rattle.sg_circuit.specs.Signals.{takes_lates, signals}
 use Rattle.sg_circuit.specs.Timings.{Timing}
-use Rattle.neg_limits.specs.declared.pairs.Zeroed.{Zeroed}
 use Rattle.neg_limits.specs.Pairs.{delay_at}
-use Rattle.late_limits.specs.Adjusted.{AreAdjusted, IsAdjustedFrom, adjusted, copied, late_delay, late_element, late_kind, zeroes}
+use Rattle.late_limits.specs.Adjusted.{IsAdjustedFrom, adjusted, copied, late_delay, late_element, late_kind, zeroes}
 use Rattle.late_limits.specs.Pairs.{signal_number}
 use Rattle.late_limits.proofs.OneLaws.{adjusted-is-one}
 use Rattle.sdf_tree.specs.declared.words.Divider.TheVariants.{Slash}
@@ -30,14 +25,14 @@ use Rattle.sdf_tree.specs.Meant.{Triple, Sdf}
 use Rattle.annotation_model.specs.Annotated.{annotated_path, annotated_kind, annotated_element, annotated_check, annotated_by}
 use Rattle.annotation_model.specs.Applied.{limit_or, chosen_if}
 use Rattle.annotation_model.specs.Given.{Given}
-use Rattle.annotation_model.specs.Spots.{after, Spot, leg_spot, path_spot, spots_in, spots_of, spots, scope_of, timings_of, spot_after, Checked, checked, all_checked, given_to, limits_after}
+use Rattle.annotation_model.specs.Spots.{after, Spot, leg_spot, path_spot, spots_in, spots_of, spots, timings_of, spot_after, Checked, checked, all_checked, given_to, limits_after}
 use Rattle.written_model.specs.declared.parts.Part.{Part}
 use Rattle.written_model.specs.Entries.{limit_at}
 use Rattle.written_model.specs.Faults.{AreFaultless}
 use Rattle.written_reading.specs.Named.{IsNamed}
-use Rattle.written_giving.specs.AnnotatedBack.{stripped, stripped_path, stripped_kind, stripped_element, stripped_check, IsLike, as_number, path_in_numbers, kind_in_numbers, element_in_numbers, in_numbers, IsSettled}
+use Rattle.written_giving.specs.AnnotatedBack.{stripped_path, stripped_kind, stripped_element, stripped_check, IsLike, as_number, path_in_numbers, kind_in_numbers, element_in_numbers, in_numbers, IsSettled}
 use Rattle.written_giving.proofs.CheckLaws.{check-among, first_part, second_part, first-own, first-only, second-own, second-only, first-in, second-in}
-use Rattle.written_giving.proofs.FromLaws.{bare_checked, scopes-are, checks-are, conditions-are, timings-are, elements-are, spot-after-is, limits-after-are}
+use Rattle.written_giving.proofs.FromLaws.{bare_checked, checks-are, conditions-are, timings-are, elements-are, spot-after-is, limits-after-are}
 use Rattle.written_giving.proofs.GivenLaws.{step, spot-gives, given-is}
 use Rattle.written_giving.proofs.LimitLaws.{part-leads, no-second}
 use Rattle.written_giving.proofs.MemberLaws.{Mem, each-of-all, in-left, in-right, in-flat, in-range}
@@ -140,7 +135,7 @@ module _ (from : Circuit) (sdf : Sdf) (corner : Corner) (gs : List Given) where
             → ◌≡◌ {A = Element} (record { scope = s; inputs = is; output = o; kind = settled_kind (at s is) (annotated_kind from sdf corner gs s is o e.kind) }) (settled_element f)
         by s is o p q r kinds h =
             let g : GivesSpots f.scope f.inputs f.output e.kind f.kind =
-                λ x y m n. h x y (subst (λ t. Mem x (spots_in t is o e.kind)) (sym p) (subst (λ t. Mem x (spots_in f.scope t o e.kind)) (sym q) (subst (λ t. Mem x (spots_in f.scope f.inputs t e.kind)) (sym r) m))) n in
+            λ x y m n. h x y (subst (λ t. Mem x (spots_in t is o e.kind)) (sym p) (subst (λ t. Mem x (spots_in f.scope t o e.kind)) (sym q) (subst (λ t. Mem x (spots_in f.scope f.inputs t e.kind)) (sym r) m))) n in
             ap {B = Element} (λ t. record { scope = t; inputs = is; output = o; kind = settled_kind (at t is) (annotated_kind from sdf corner gs t is o e.kind) }) p
             ∙ (ap {B = Element} (λ t. record { scope = f.scope; inputs = t; output = o; kind = settled_kind (at f.scope t) (annotated_kind from sdf corner gs f.scope t o e.kind) }) q
             ∙ (ap {B = Element} (λ t. record { scope = f.scope; inputs = f.inputs; output = t; kind = settled_kind (at f.scope f.inputs) (annotated_kind from sdf corner gs f.scope f.inputs t e.kind) }) r

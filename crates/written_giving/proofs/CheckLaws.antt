@@ -1,10 +1,9 @@
 -- The timing checks of a circuit, their entries, and which checks these are for.
-use Rattle.std.proofs.Common.{◌≡◌, zero, suc, ◌<◌, ◌≤◌, Bool, true, false, List, [], ◌∷◌, ◌++◌, length, refl, sym, ◌∙◌, ap, subst, arith, inl, inr}
-use Rattle.std.specs.Prelude.{ℕ, ◌+◌, ◌==◌, ◌&&◌, ◌||◌, ◌↔◌, ◌⊎◌, ℤ, pos, All, map, Option, Some, None, IfSome, IsSome, is_some, unwrap_or, if◌then◌else◌}
+use Rattle.std.proofs.Common.{◌≡◌, ◌<◌, Bool, true, false, List, [], ◌∷◌, length, refl, sym, ◌∙◌, ap, subst, inl, inr}
+use Rattle.std.specs.Prelude.{ℕ, ◌==◌, ◌&&◌, ◌↔◌, ◌⊎◌, ℤ, map, Option, Some, None, IfSome, IsSome, is_some, unwrap_or, if◌then◌else◌}
 use Rattle.std.specs.Fmt.{signed_decimal}
-use Rattle.std.specs.List.{flat_map}
 use Rattle.std.specs.Option.{option_map}
-use Rattle.std.proofs.lemmas.Bool.{eqb-true, and_parts}
+use Rattle.std.proofs.lemmas.Bool.{eqb-true}
 use Rattle.late_limits.proofs.NumberLaws.{test_same}
 use Rattle.cond_expr.specs.Token.{Tok}
 use Rattle.sg_circuit.specs.declared.checks.Check.{Check}
@@ -15,14 +14,12 @@ use Rattle.sg_circuit.specs.declared.checks.Event.{Event}
 use Rattle.sg_circuit.specs.Checks.{CheckConditions}
 use Rattle.sg_circuit.specs.Circuit.{Circuit, scope_at}
 use Rattle.sg_circuit.specs.Closed.{IsClosed, HasDatum, IsCheckTiming}
-use Rattle.sdf_tree.specs.declared.tree.Edge.{Edge}
 use Rattle.sdf_tree.specs.declared.tree.PairCheck.TheVariants as pair
 use Rattle.sdf_tree.specs.declared.tree.SingleCheck.TheVariants as single
 use Rattle.sdf_tree.specs.declared.words.Divider.TheVariants.{Slash}
 use Rattle.sdf_tree.specs.Written as written
 use Rattle.sdf_tree.specs.Written.{Terminal}
 use Rattle.sdf_tree.specs.Meant.{Triple, triple_of, CellCheck, pair_check, single_check, a_check, kind_of_check}
-use Rattle.annotation_model.specs.Given.{Given}
 use Rattle.annotation_model.specs.Matching.{limits_for, terminals_of, fits_check, fits_datum, fits_event, given_by, none_given}
 use Rattle.annotation_model.specs.Scopes.{is_of_cell}
 use Rattle.annotation_model.specs.Spots.{Checked, checked, all_checked, given_to}

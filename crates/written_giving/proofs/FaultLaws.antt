@@ -1,7 +1,7 @@
 -- What a circuit without faults has: numbers that are read as they were, and one value for each key.
-use Rattle.std.proofs.Common.{◌≡◌, zero, suc, ◌<◌, ◌≤◌, Bool, true, false, List, [], ◌∷◌, ◌++◌, length, refl, sym, ◌∙◌, ap, subst, arith, inl, inr}
-use Rattle.std.specs.Prelude.{ℕ, ◌%◌, ◌^◌, ◌==◌, ◌||◌, not, nat_le, ℤ, pos, negsuc, ◌-ℤ◌, ◌≤ℤ◌, unsigned_abs, ◌⊎◌, All, map, Option, Some, None, IfSome}
-use Rattle.std.specs.List.{flat_map, list_any}
+use Rattle.std.proofs.Common.{◌≡◌, suc, ◌<◌, ◌≤◌, Bool, true, false, List, [], ◌∷◌, length, refl, sym, ◌∙◌, ap, subst, arith, inl, inr}
+use Rattle.std.specs.Prelude.{ℕ, ◌%◌, ◌^◌, ◌==◌, not, nat_le, ℤ, pos, negsuc, ◌-ℤ◌, ◌≤ℤ◌, unsigned_abs, ◌⊎◌, map, Option, Some, None, IfSome}
+use Rattle.std.specs.List.{flat_map}
 use Rattle.std.proofs.lemmas.Bool.{or_parts, leb-false, eqb-true, eqb-false}
 use Rattle.std.proofs.lemmas.List.{length-map}
 use Rattle.sg_time.specs.Ticks.{above}
@@ -10,7 +10,7 @@ use Rattle.sg_circuit.specs.Circuit.{Circuit, scope_at}
 use Rattle.sg_circuit.specs.Closed.{IsClosed, AreTimings, IsTiming}
 use Rattle.sg_circuit.specs.Timings.{Timing, limits_of, limits_or}
 use Rattle.annotation_model.specs.Applied.{Grid}
-use Rattle.annotation_model.specs.Spots.{leg_spot, path_spot, spots, timings_of}
+use Rattle.annotation_model.specs.Spots.{leg_spot, path_spot}
 use Rattle.written_model.specs.Entries.{Numbers, numbers_of, LegEntry, PathEntry, CheckEntry, legs, path_entries, check_entries}
 use Rattle.written_model.specs.Faults.{Disagree, sizes, sizes_of, precision_of, AreFaultless}
 use Rattle.written_giving.proofs.MemberLaws.{Mem, in-place, each-of-all, in-left, in-right, flat-in, map-in, in-map, any-none}

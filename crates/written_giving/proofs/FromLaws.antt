@@ -1,16 +1,14 @@
 -- A circuit that is like another has the same places, and what entries do there is the same.
-use Rattle.std.proofs.Common.{◌≡◌, zero, suc, ◌<◌, ◌≤◌, Bool, true, false, List, [], ◌∷◌, ◌++◌, length, drop, refl, sym, ◌∙◌, ap, subst, arith, inl, inr}
-use Rattle.std.specs.Prelude.{ℕ, ◌+◌, ◌||◌, ℤ, cond, map, Option, Some, None, is_some, if◌then◌else◌, slice_index_or}
-use Rattle.std.specs.List.{filter, flat_map, range_with_len}
+use Rattle.std.proofs.Common.{◌≡◌, suc, Bool, true, false, List, [], ◌∷◌, length, drop, refl, sym, ◌∙◌, ap, subst, arith}
+use Rattle.std.specs.Prelude.{ℕ, ◌+◌, ℤ, cond, map, Option, Some, None, is_some, if◌then◌else◌, slice_index_or}
+use Rattle.std.specs.List.{filter}
 use Rattle.std.proofs.lemmas.Bool.{or_parts}
 use Rattle.sg_delay.specs.declared.corners.Corner.{Corner}
 use Rattle.sg_circuit.specs.declared.checks.Check.{Check}
 use Rattle.sg_circuit.specs.declared.checks.CheckTiming.{CheckTiming}
 use Rattle.sg_circuit.specs.Checks.{CheckConditions}
-use Rattle.sg_circuit.specs.Circuit.{Circuit, Scope, Element, scope_at}
-use Rattle.sg_circuit.specs.Closed.{IsClosed}
+use Rattle.sg_circuit.specs.Circuit.{Circuit, Scope, scope_at}
 use Rattle.sg_circuit.specs.Signals.{takes_lates, signals}
-use Rattle.sg_circuit.specs.Timings.{Timing}
 use Rattle.late_limits.proofs.AlikeLaws.{without_limits, signals-alike}
 use Rattle.sdf_tree.specs.declared.words.Divider.{Divider}
 use Rattle.sdf_tree.specs.declared.words.Divider.TheVariants.{Slash}
@@ -18,8 +16,8 @@ use Rattle.sdf_tree.specs.Meant.{Triple, Sdf, EntryKind, io_path, device, port_d
 use Rattle.annotation_model.specs.Applied.{Grid, Bounds, applied, limit_or, chosen_if, with_limits}
 use Rattle.annotation_model.specs.Given.{Given}
 use Rattle.annotation_model.specs.Matching.{given_by}
-use Rattle.annotation_model.specs.Spots.{after, grid, Spot, spots, spots_of, scope_of, timings_of, is_for_spot, applied_at, spot_after, Checked, checked, all_checked, given_to, is_given, weight_of, bounds, limits_with, limits_after}
-use Rattle.written_giving.specs.AnnotatedBack.{stripped, stripped_element, stripped_check, IsLike}
+use Rattle.annotation_model.specs.Spots.{after, grid, Spot, spots, scope_of, timings_of, is_for_spot, applied_at, spot_after, Checked, checked, all_checked, given_to, is_given, weight_of, bounds, limits_with, limits_after}
+use Rattle.written_giving.specs.AnnotatedBack.{stripped_element, stripped_check, IsLike}
 use Rattle.written_giving.proofs.AlikeLaws as alike
 use Rattle.written_giving.proofs.FaultLaws.{scope_grid}
 use Rattle.written_giving.proofs.MemberLaws.{Mem, in-map, map-in}

@@ -1,8 +1,7 @@
 -- The entries of all scopes give each leg and each path its own timings.
-use Rattle.std.proofs.Common.{◌≡◌, zero, suc, ◌<◌, ◌≤◌, Bool, true, false, List, [], ◌∷◌, ◌++◌, length, refl, sym, ◌∙◌, ap, subst, arith, inl, inr}
+use Rattle.std.proofs.Common.{◌≡◌, ◌<◌, ◌≤◌, Bool, true, false, List, [], ◌∷◌, ◌++◌, length, refl, sym, ◌∙◌, ap, subst, arith, inl, inr}
 use Rattle.std.specs.Prelude.{ℕ, ◌+◌, ◌==◌, ◌&&◌, ◌⊎◌, map, Option, Some, None, if◌then◌else◌}
 use Rattle.std.specs.List.{filter, flat_map, range_with_len}
-use Rattle.std.proofs.lemmas.Bool.{cases_eq}
 use Rattle.std.proofs.lemmas.List.{length-map, map-append}
 use Rattle.sg_delay.specs.declared.corners.Corner.{Corner}
 use Rattle.sg_circuit.specs.Circuit.{Circuit, scope_at}
@@ -30,9 +29,9 @@ use Rattle.written_giving.specs.AnnotatedBack.{as_number}
 use Rattle.written_giving.proofs.FaultLaws.{one-path-value, scope_grid, scale, path-read, path-twelve, leg-read, leg-twelve}
 use Rattle.written_giving.proofs.KeyLaws.{edge-own, edge-fits, condition-own, condition-fits, option-rank, option-equal, words-rank, words-equal}
 use Rattle.written_giving.proofs.MatchLaws.{PathFits, leg-for, leg-own, path-for, path-own}
-use Rattle.written_giving.proofs.MemberLaws.{Mem, in-append, in-flat, in-map, map-in, in-filter, in-range, each-of-all}
-use Rattle.written_giving.proofs.SpotLaws.{spot-timings, spot-scope, one-leg, path_entry_of, leg_entry_of, IsPathEntry, path-entry, path-entry-in, IsLegEntry, leg-entry, leg-entry-in}
-use Rattle.written_giving.proofs.StepLaws.{stepped, Sets, Passes, Holds, Leads, Skips, Keeps, Stays, leads-behind, leads-before, keeps-skips, stays-skips, stays-both, skips-both, skips-each, leads-each, leads-range, leads-ranked}
+use Rattle.written_giving.proofs.MemberLaws.{Mem, in-append, in-flat, in-map, map-in, in-filter, each-of-all}
+use Rattle.written_giving.proofs.SpotLaws.{spot-timings, spot-scope, one-leg, path_entry_of, leg_entry_of, path-entry, path-entry-in, leg-entry, leg-entry-in}
+use Rattle.written_giving.proofs.StepLaws.{stepped, Sets, Passes, Holds, Leads, Skips, leads-behind, leads-before, keeps-skips, stays-skips, stays-both, skips-each, leads-each, leads-range, leads-ranked}
 use Rattle.written_giving.proofs.TimingLaws.{changes-give, said, said-number}
 use Rattle.written_giving.proofs.TreeLaws.{leg_given, path_given, check_given, given_of, delay_values}
 

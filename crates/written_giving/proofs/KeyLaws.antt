@@ -1,6 +1,6 @@
 -- What a key asks for: its own path or event has it, and of those for one the last asks for no less.
-use Rattle.std.proofs.Common.{◌≡◌, zero, suc, ◌<◌, ◌≤◌, Bool, true, false, List, [], ◌∷◌, length, refl, sym, ◌∙◌, ap, subst, arith, inl, inr}
-use Rattle.std.specs.Prelude.{ℕ, ◌+◌, ◌⊎◌, Option, Some, None, if◌then◌else◌}
+use Rattle.std.proofs.Common.{◌≡◌, ◌≤◌, Bool, true, false, List, [], ◌∷◌, refl, sym, ◌∙◌, ap, subst, arith, inl, inr}
+use Rattle.std.specs.Prelude.{◌⊎◌, Option, Some, None, if◌then◌else◌}
 use Rattle.std.specs.Option.{option_map}
 use Rattle.cond_expr.specs.Token.{Tok}
 use Rattle.cond_expr.specs.Same.{IsCore}
@@ -8,10 +8,8 @@ use Rattle.cond_expr.proofs.Cores.{one_core}
 use Rattle.sg_logic.specs.declared.edges.Edge as netlist
 use Rattle.sg_logic.specs.declared.edges.TheConstants.{POSEDGE, NEGEDGE}
 use Rattle.sg_circuit.specs.Paths as specify
-use Rattle.sdf_tree.specs.declared.tree.Edge.{Edge}
 use Rattle.sdf_tree.specs.declared.tree.Edge.TheVariants.{Posedge, Negedge}
 use Rattle.sdf_tree.specs.Written.{PathCondition, always, otherwise, if_words}
-use Rattle.annotation_model.specs.Same as same
 use Rattle.annotation_model.specs.Same.{bits_eq, is_edge, fits_edge, bare, same_condition, fits_words}
 use Rattle.annotation_model.specs.Matching.{fits_condition}
 use Rattle.annotation_conditions.proofs.SameLaws.{bare_is_core}

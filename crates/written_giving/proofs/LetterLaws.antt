@@ -1,15 +1,14 @@
 -- Names that are written are called what they were, alone and in paths.
-use Rattle.std.proofs.Common.{◌≡◌, Bool, true, false, List, [], ◌∷◌, ◌++◌, length, reverse, refl, sym, ◌∙◌, ap, append_assoc, append-nil, inl, inr}
-use Rattle.std.specs.Prelude.{ℕ, ◌==◌, ◌≢◌, map, codes, cond, if◌then◌else◌}
+use Rattle.std.proofs.Common.{◌≡◌, Bool, true, false, List, [], ◌∷◌, ◌++◌, reverse, refl, sym, ◌∙◌, ap, append_assoc, append-nil}
+use Rattle.std.specs.Prelude.{ℕ, ◌==◌, map, if◌then◌else◌}
 use Rattle.std.specs.Char.{is_ascii_digit}
 use Rattle.std.specs.List.{flat_map}
-use Rattle.std.proofs.lemmas.List.{map-append}
 use Rattle.sg_text.specs.Names.{is_name_byte}
 use Rattle.late_limits.proofs.NumberLaws.{test_other}
 use Rattle.sdf_lex.specs.declared.letters.Letter.{Letter}
 use Rattle.sdf_lex.specs.declared.letters.Letter.TheVariants.{Plain, Escaped}
 use Rattle.sdf_lex.specs.Words.{spelled, byte_of}
-use Rattle.sdf_lex.specs.Names.{letters_of, called, is_divider, in_front, parts_of, path_parts}
+use Rattle.sdf_lex.specs.Names.{letters_of, called, is_divider, in_front, parts_of}
 use Rattle.sdf_tree.specs.declared.words.Divider.TheVariants.{Slash}
 use Rattle.annotation_model.specs.Scopes.{names_back}
 use Rattle.written_model.specs.Names.{escaped, first_escaped, name_text, names_text}

@@ -18,3 +18,4 @@ pub mod CheckLaws
 pub mod LimitLaws
 pub mod FromLaws
 pub mod BackLaws
+pub mod SmallLaws

@@ -1,6 +1,6 @@
 -- The entries of all scopes give each part of a timing check its own limit.
-use Rattle.std.proofs.Common.{◌≡◌, zero, suc, ◌<◌, ◌≤◌, Bool, true, false, List, [], ◌∷◌, ◌++◌, length, refl, sym, ◌∙◌, ap, subst, arith, inl, inr}
-use Rattle.std.specs.Prelude.{ℕ, ◌+◌, ◌*◌, ◌^◌, ◌==◌, ◌&&◌, ◌⊎◌, not, nat_lt, ℤ, pos, ◌-ℤ◌, unsigned_abs, map, Option, Some, None, is_some, if◌then◌else◌}
+use Rattle.std.proofs.Common.{◌≡◌, ◌<◌, ◌≤◌, Bool, true, false, List, ◌++◌, length, refl, sym, ◌∙◌, ap, subst, arith, inl, inr}
+use Rattle.std.specs.Prelude.{ℕ, ◌+◌, ◌==◌, ◌&&◌, ◌⊎◌, ℤ, unsigned_abs, map, Option, Some, None, is_some}
 use Rattle.std.specs.List.{flat_map, range_with_len}
 use Rattle.std.specs.Option.{option_map}
 use Rattle.std.proofs.lemmas.Bool.{eqb-true, and_parts, and_from}
@@ -14,22 +14,22 @@ use Rattle.sg_circuit.specs.Closed.{IsClosed, IsCheckTiming}
 use Rattle.sdf_tree.specs.declared.words.Divider.TheVariants.{Slash}
 use Rattle.sdf_tree.specs.Written.{Terminal}
 use Rattle.sdf_tree.specs.Meant.{Triple}
-use Rattle.annotation_model.specs.Applied.{Grid, chosen, chosen_if, limit_or, is_limit_large}
+use Rattle.annotation_model.specs.Applied.{chosen_if, limit_or}
 use Rattle.annotation_model.specs.Given.{Given}
 use Rattle.annotation_model.specs.Matching.{limits_for, none_given}
 use Rattle.annotation_model.specs.Same.{bare, fits_edge, fits_words}
 use Rattle.annotation_model.specs.Spots.{after, Checked, all_checked, given_to}
 use Rattle.written_model.specs.declared.parts.Part.{Part}
-use Rattle.written_model.specs.Entries.{EventKey, CheckKey, LegEntry, PathEntry, CheckEntry, edge_of, one_if, event_key, event_rank, datum_rank, check_rank, check_entry, check_entries, parts_of, legs, paths, checks}
+use Rattle.written_model.specs.Entries.{EventKey, CheckKey, CheckEntry, edge_of, one_if, event_key, event_rank, datum_rank, check_rank, check_entry, check_entries, parts_of, legs, paths, checks}
 use Rattle.written_model.specs.Faults.{AreFaultless, is_for_event, is_for_datum}
 use Rattle.written_model.specs.Tree.{event_terminal, datum_of}
 use Rattle.written_reading.specs.Named.{IsNamed}
-use Rattle.written_giving.proofs.CheckLaws.{cell_check, second_part, second-only, has_two, part-two, check-among, IsCheckEntry, check-entry, check-entry-in, fits_key, triple, check_cell, HasEvents, has-events, Gives, gives-check, gives-own}
+use Rattle.written_giving.proofs.CheckLaws.{cell_check, second_part, second-only, has_two, part-two, check-among, check-entry, check-entry-in, fits_key, triple, check_cell, has-events, Gives, gives-check, gives-own}
 use Rattle.written_giving.proofs.FaultLaws.{one-check-value, size-read, check-size, scope_grid, scale}
 use Rattle.written_giving.proofs.GivenLaws.{IsGivenOf, a_leg, a_path, a_check, given-is, ranked-pieces}
 use Rattle.written_giving.proofs.KeyLaws.{edge-own, edge-fits, words-own, words-fits, option-rank, option-equal}
-use Rattle.written_giving.proofs.MemberLaws.{Mem, each-of-all, in-map}
-use Rattle.written_giving.proofs.StepLaws.{Sets, Passes, Holds, Leads, Skips, keeps-skips, stays-skips, skips-each, leads-behind, leads-range, leads-ranked}
+use Rattle.written_giving.proofs.MemberLaws.{Mem, each-of-all}
+use Rattle.written_giving.proofs.StepLaws.{Sets, Passes, Leads, Skips, stays-skips, skips-each, leads-behind, leads-range, leads-ranked}
 use Rattle.written_giving.proofs.TickLaws.{limit-same}
 use Rattle.written_giving.proofs.TreeLaws.{leg_given, path_given, check_given, given_of}
 

@@ -1,12 +1,11 @@
 -- Which places of a circuit the entries of a scope are for.
-use Rattle.std.proofs.Common.{◌≡◌, zero, suc, ◌<◌, Bool, true, false, List, [], ◌∷◌, length, refl, sym, ◌∙◌, ap, subst, arith, inl, inr}
+use Rattle.std.proofs.Common.{◌≡◌, ◌<◌, Bool, true, false, List, [], ◌∷◌, length, refl, sym, ◌∙◌, ap}
 use Rattle.std.specs.Prelude.{ℕ, ◌==◌, ◌&&◌, ◌||◌, All, Option, Some, None, if◌then◌else◌}
 use Rattle.std.proofs.Math.Bool.{or-false}
 use Rattle.std.proofs.lemmas.Bool.{eqb-true, and_parts, and_from}
 use Rattle.late_limits.proofs.NumberLaws.{test_same}
 use Rattle.cond_expr.specs.Token.{Tok}
 use Rattle.sg_circuit.specs.declared.checks.Event.{Event}
-use Rattle.sg_circuit.specs.declared.scopes.Port.{Port as PortKind}
 use Rattle.sg_circuit.specs.declared.scopes.Port.TheVariants.{Input, Output}
 use Rattle.sg_circuit.specs.Circuit.{Circuit, Variable, scope_at}
 use Rattle.sg_circuit.specs.Closed.{IsClosed, width_of}

@@ -1,6 +1,6 @@
 -- What is in a list.
 use Rattle.std.proofs.Common.{◌≡◌, zero, suc, ◌<◌, Bool, true, false, List, [], ◌∷◌, ◌++◌, length, refl, sym, ◌∙◌, ap, subst, arith, inl, inr}
-use Rattle.std.specs.Prelude.{ℕ, ◌+◌, ◌||◌, All, Contains, ◌⊎◌, map, cond, Option, Some, None, unwrap_or, slice_get, slice_index_or}
+use Rattle.std.specs.Prelude.{ℕ, ◌+◌, ◌||◌, All, Contains, ◌⊎◌, map, cond, Option, Some, unwrap_or, slice_get, slice_index_or}
 use Rattle.std.specs.List.{filter, flat_map, list_any, range_with_len}
 use Rattle.std.proofs.lemmas.Bool.{or_right, or_parts}
 

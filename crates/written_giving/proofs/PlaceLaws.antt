@@ -5,12 +5,11 @@ use Rattle.std.specs.List.{flat_map}
 use Rattle.std.specs.Option.{option_map}
 use Rattle.std.proofs.lemmas.List.{map-append}
 use Rattle.sg_time.specs.Spelling as time
-use Rattle.sdf_tree.specs.declared.words.Divider.{Divider}
 use Rattle.sdf_tree.specs.Written as written
-use Rattle.sdf_tree.specs.Meant.{number_of, Triple, triple_of, LimitPair, limits_from, limit_pair_of, DelayValue, delay_value_of, Entry, EntryKind, CellCheck, pair_check, window_check, single_check, io_path, port_delay, interconnect, device, a_check, skipped_entry, kind_of_body, entry_of, entries_of_group, kind_of_check, entry_of_check, entries_of_part, Cell, cell_of, units_in, dividers_in, cells_in, path_pulse}
+use Rattle.sdf_tree.specs.Meant.{number_of, Triple, triple_of, limits_from, limit_pair_of, DelayValue, delay_value_of, Entry, pair_check, window_check, single_check, io_path, port_delay, interconnect, device, a_check, kind_of_body, entry_of, entries_of_group, kind_of_check, entry_of_check, entries_of_part, cell_of, units_in, dividers_in, cells_in, path_pulse}
 use Rattle.annotation_model.specs.Given.{Given, given_in}
 use Rattle.written_model.specs.Tree.{nowhere}
-use Rattle.written_reading.specs.Placeless.{number, value, limits, delay, body, entry, group, check_body, check, part, cell, head, file_part, placeless}
+use Rattle.written_reading.specs.Placeless.{number, value, limits, delay, body, entry, group, check_body, check, part, cell, placeless}
 
 abbrev pub bare_entry : Entry → Entry
 bare_entry e = record { place = nowhere; increment = e.increment; kind = e.kind }

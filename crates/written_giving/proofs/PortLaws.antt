@@ -1,6 +1,6 @@
 -- The name of a net means that net alone.
-use Rattle.std.proofs.Common.{◌≡◌, zero, suc, ◌<◌, ◌≤◌, Bool, true, false, List, [], ◌∷◌, ◌++◌, length, refl, sym, ◌∙◌, ap, subst, arith, append-nil, inl, inr}
-use Rattle.std.specs.Prelude.{ℕ, ◌+◌, ◌-◌, ◌==◌, ◌&&◌, ◌||◌, ◌⊎◌, ℤ, pos, negsuc, ◌+ℤ◌, ◌-ℤ◌, nat_abs, int_le, cond, All, Contains, Option, Some, None, unwrap_or, bytes_eq, if◌then◌else◌, slice_get, slice_index_or}
+use Rattle.std.proofs.Common.{◌≡◌, zero, suc, ◌<◌, Bool, true, false, List, [], ◌∷◌, ◌++◌, length, refl, sym, ◌∙◌, ap, subst, arith, append-nil, inl, inr}
+use Rattle.std.specs.Prelude.{ℕ, ◌+◌, ◌==◌, ◌&&◌, ◌||◌, ◌⊎◌, ℤ, pos, negsuc, ◌+ℤ◌, ◌-ℤ◌, nat_abs, int_le, All, Contains, Option, Some, None, unwrap_or, bytes_eq, if◌then◌else◌, slice_get}
 use Rattle.std.specs.List.{position_from}
 use Rattle.std.specs.Option.{option_map}
 use Rattle.std.proofs.lemmas.Bool.{eqb-true, and_from, or_right}
@@ -13,8 +13,8 @@ use Rattle.sg_circuit.specs.Circuit.{Circuit, Variable, scope_at}
 use Rattle.sg_circuit.specs.Closed.{width_of}
 use Rattle.sdf_tree.specs.declared.words.Divider.TheVariants.{Slash}
 use Rattle.annotation_model.specs.Matching.{port_nets}
-use Rattle.annotation_model.specs.Ports.{is_within, position_at, net_in, bits_of, nets_named, own_nets}
-use Rattle.written_model.specs.Names.{BitName, index_at, bit_at, named_by, name_of}
+use Rattle.annotation_model.specs.Ports.{position_at, net_in, bits_of, nets_named, own_nets}
+use Rattle.written_model.specs.Names.{BitName, index_at, bit_at, name_of}
 use Rattle.written_model.specs.Tree.{port_of}
 use Rattle.written_reading.specs.Named.{AreApart, IsNetOf}
 use Rattle.written_giving.proofs.MemberLaws.{Mem, stands-in, in-place, each-of-all, in-contained, contained-in}
@@ -159,12 +159,12 @@ names kind net (v ∷ vs) apart widths kinds w m n =
         let named : name_of (v ∷ vs) net ≡ bit_at v p = ap (λ o. unwrap_or (option_map (bit_at v) o) (name_of vs net)) e in
         let place : p ≡ at.place = omega (arith, at.from) in
         let yes : (bytes_eq v.name v.name && kind v.port) ≡ true =
-            ap (λ b. b && kind v.port) ((bytes_eq-Decides v.name v.name).1 refl) ∙ kinds v (inl refl) (stands-in v.bits at.place net at.stands) in
+        ap (λ b. b && kind v.port) ((bytes_eq-Decides v.name v.name).1 refl) ∙ kinds v (inl refl) (stands-in v.bits at.place net at.stands) in
         let nets : nets_named kind (v ∷ vs) v.name (bit_at v p).index ≡ net ∷ [] =
-            ap (λ b. (if b then bits_of v (bit_at v p).index else []) ++ nets_named kind vs v.name (bit_at v p).index) yes
-            ∙ (ap (λ xs. bits_of v (bit_at v p).index ++ xs) (other-name kind vs v.name (bit_at v p).index (λ x k f. apart-first v vs apart x k (sym f)))
-            ∙ (append-nil (bits_of v (bit_at v p).index)
-            ∙ bit-back v p net (widths v (inl refl)) (subst (λ k. slice_get v.bits k ≡ Some net) (sym place) at.stands) (omega (arith, place, at.within)))) in
+        ap (λ b. (if b then bits_of v (bit_at v p).index else []) ++ nets_named kind vs v.name (bit_at v p).index) yes
+        ∙ (ap (λ xs. bits_of v (bit_at v p).index ++ xs) (other-name kind vs v.name (bit_at v p).index (λ x k f. apart-first v vs apart x k (sym f)))
+        ∙ (append-nil (bits_of v (bit_at v p).index)
+        ∙ bit-back v p net (widths v (inl refl)) (subst (λ k. slice_get v.bits k ≡ Some net) (sym place) at.stands) (omega (arith, place, at.within)))) in
         record { nets = subst first (sym named) nets; variable = v; among = inl refl; named = ap (λ (b : BitName). b.name) named }
     by None e rec =
         let named : name_of (v ∷ vs) net ≡ name_of vs net = ap (λ o. unwrap_or (option_map (bit_at v) o) (name_of vs net)) e in
@@ -186,8 +186,8 @@ pub net-named : (kind : PortKind → Bool) (Is : PortKind → Type 0) (vs : List
     → IsNetOf Is vs net → nets_named kind vs (name_of vs net).name (name_of vs net).index ≡ net ∷ []
 net-named kind Is vs net kinds apart widths of =
     let h = names kind net vs apart (each-of-all (λ (v : Variable). length v.bits ≡ width_of v.range) vs widths)
-        (λ v m n. kinds v.port (each-of-all (λ (x : Variable). Contains x.bits net → Is x.port) vs of.each v m (in-contained v.bits net n)))
-        of.variable (stands-in vs of.place of.variable of.stands) (contained-in of.variable.bits net of.has) in h.nets
+    (λ v m n. kinds v.port (each-of-all (λ (x : Variable). Contains x.bits net → Is x.port) vs of.each v m (in-contained v.bits net n)))
+    of.variable (stands-in vs of.place of.variable of.stands) (contained-in of.variable.bits net of.has) in h.nets
 
 -- its port means it
 pub port-net : (c : Circuit) (kind : PortKind → Bool) (s net : ℕ) → nets_named kind (scope_at c s).variables (name_of (scope_at c s).variables net).name (name_of (scope_at c s).variables net).index ≡ net ∷ []

@@ -1,6 +1,6 @@
 -- The legs and paths of a circuit, those of one that is like it, and their entries.
-use Rattle.std.proofs.Common.{◌≡◌, zero, suc, ◌<◌, ◌≤◌, Bool, true, false, List, [], ◌∷◌, ◌++◌, length, refl, sym, ◌∙◌, ap, subst, arith, inl, inr}
-use Rattle.std.specs.Prelude.{ℕ, ◌==◌, ◌&&◌, All, ◌⊎◌, map, Option, Some, None, if◌then◌else◌, slice_get, slice_index_or}
+use Rattle.std.proofs.Common.{◌≡◌, ◌<◌, Bool, true, false, List, [], ◌∷◌, ◌++◌, length, refl, sym, ◌∙◌, ap, subst, inl, inr}
+use Rattle.std.specs.Prelude.{ℕ, ◌==◌, ◌&&◌, map, Some, None, if◌then◌else◌}
 use Rattle.std.specs.List.{flat_map}
 use Rattle.std.proofs.lemmas.Bool.{eqb-true}
 use Rattle.std.proofs.lemmas.List.{map-append}
@@ -18,7 +18,7 @@ use Rattle.annotation_model.specs.Scopes.{is_of_cell}
 use Rattle.annotation_model.specs.Spots.{Spot, leg_spot, path_spot, spots_in, spots_of, spots, scope_of, timings_of, is_for_spot}
 use Rattle.sdf_tree.specs.declared.words.Divider.{Divider}
 use Rattle.sdf_tree.specs.Meant.{EntryKind, io_path, device, port_delay, interconnect, path_pulse, a_check, skipped_entry}
-use Rattle.written_model.specs.Entries.{Numbers, numbers_of, LegEntry, PathEntry, legs_at, legs, path_key, paths_at, path_entries}
+use Rattle.written_model.specs.Entries.{numbers_of, LegEntry, PathEntry, legs_at, legs, path_key, paths_at, path_entries}
 use Rattle.written_giving.specs.AnnotatedBack.{stripped_path, stripped_kind, stripped_element}
 use Rattle.written_giving.proofs.MemberLaws.{Mem, in-place, each-of-all, in-flat, flat-in, in-map}
 use Rattle.written_giving.proofs.PlaceLaws.{map-fused}

@@ -1,6 +1,6 @@
 -- Numbers that are written are read as they were, in ticks.
-use Rattle.std.proofs.Common.{◌≡◌, zero, suc, ◌<◌, ◌≤◌, Bool, true, false, List, [], ◌∷◌, ◌++◌, length, refl, sym, ◌∙◌, ap, subst, arith, append-nil, inl, inr}
-use Rattle.std.specs.Prelude.{ℕ, ◌+◌, ◌-◌, ◌*◌, ◌||◌, nat_le, ◌/◌, ◌%◌, ◌^◌, ◌==◌, ◌&&◌, nat_lt, cond, ℤ, pos, negsuc, neg_ℤ, ◌+ℤ◌, ◌-ℤ◌, ◌≤ℤ◌, unsigned_abs, filter, decimal, Option, Some, None, Result, Ok, Err, if◌then◌else◌}
+use Rattle.std.proofs.Common.{◌≡◌, suc, ◌<◌, ◌≤◌, Bool, true, false, List, [], ◌∷◌, ◌++◌, length, refl, sym, ◌∙◌, ap, subst, arith, append-nil, inl, inr}
+use Rattle.std.specs.Prelude.{ℕ, ◌+◌, ◌-◌, ◌*◌, ◌||◌, nat_le, ◌/◌, ◌%◌, ◌^◌, ◌==◌, nat_lt, cond, ℤ, pos, negsuc, ◌+ℤ◌, ◌-ℤ◌, ◌≤ℤ◌, unsigned_abs, filter, decimal, Some, None, Ok, Err, if◌then◌else◌}
 use Rattle.std.specs.Char.{is_ascii_digit}
 use Rattle.std.specs.Fmt.{signed_decimal}
 use Rattle.std.specs.List.{list_all}
@@ -11,10 +11,9 @@ use Rattle.std.proofs.lemmas.Int.{ints}
 use Rattle.std.proofs.lemmas.List.{length-append}
 use borrow.Author.Differences.{up, down}
 use Rattle.sg_time.specs.Reading.{parts_of, said_of}
-use Rattle.sg_time.specs.Spelling.{Sign, none, plus, minus, is_minus, sign_bytes, is_run_byte, IsRun, Spelling, IsSpelling, spelling_bytes, number_from, significant_digits, digits_of, Number, value_of}
-use Rattle.sg_time.specs.declared.decimal.TimeError.{TimeError}
+use Rattle.sg_time.specs.Spelling.{Sign, none, plus, minus, is_minus, sign_bytes, is_run_byte, IsRun, Spelling, IsSpelling, number_from, significant_digits, digits_of, Number}
 use Rattle.sg_time.specs.declared.decimal.TimeError.TheVariants as error
-use Rattle.sg_time.specs.Ticks.{above, below, nearest, nearest_product, tick_count, with_sign}
+use Rattle.sg_time.specs.Ticks.{above, below, nearest, tick_count, with_sign}
 use Rattle.sg_time.proofs.Digits.{number_from-append, few_digits}
 use Rattle.sg_time.proofs.Laws.{parts_again}
 use Rattle.sg_time.proofs.ScalingLaws.{nearest-near}

@@ -1,22 +1,21 @@
 -- What an entry with twelve delays makes of timings: those that it was written of, with limits as numbers.
-use Rattle.std.proofs.Common.{◌≡◌, zero, suc, ◌<◌, ◌≤◌, Bool, true, false, List, [], ◌∷◌, ◌++◌, length, refl, sym, ◌∙◌, ap, subst, arith, inl, inr}
-use Rattle.std.specs.Prelude.{ℕ, ◌^◌, ◌==◌, ◌||◌, not, nat_lt, max, is_some, decimal, map, ℤ, pos, ◌≤ℤ◌, IfSome, Option, Some, None, if◌then◌else◌}
+use Rattle.std.proofs.Common.{◌≡◌, ◌<◌, ◌≤◌, false, List, [], ◌∷◌, length, refl, sym, ◌∙◌, ap, arith, inl, inr}
+use Rattle.std.specs.Prelude.{ℕ, ◌^◌, ◌||◌, not, is_some, decimal, map, pos, ◌≤ℤ◌, Option, Some, None, if◌then◌else◌}
 use Rattle.std.specs.List.{list_any}
 use Rattle.std.proofs.Math.Nat.{max-eq_right}
 use Rattle.std.proofs.lemmas.Bool.{lt-ltb}
 use Rattle.std.proofs.lemmas.List.{length-map}
 use Rattle.late_limits.proofs.NumberLaws.{test_same}
 use Rattle.sg_delay.specs.Expansion.{six}
-use Rattle.sg_circuit.specs.Closed.{IsTiming}
-use Rattle.sg_circuit.specs.Timings.{Timing, limits_of}
-use Rattle.sdf_tree.specs.Meant.{DelayValue, delay_value_of, triple_of}
-use Rattle.annotation_model.specs.Applied.{Grid, Change, chosen, chosen_limits, both, change_with, change_of, changes_of, limits_from, sum_of, new_limits, changed, is_large, are_large, is_change_large, changed_each, is_each_large, spread, makes_x, with_changes, listed, with_x}
+use Rattle.sg_circuit.specs.Timings.{Timing}
+use Rattle.sdf_tree.specs.Meant.{delay_value_of, triple_of}
+use Rattle.annotation_model.specs.Applied.{Grid, Change, chosen, chosen_limits, both, change_with, change_of, changes_of, changed, is_large, changed_each, is_each_large, spread, makes_x, with_changes, listed, with_x}
 use Rattle.written_model.specs.Entries.{Numbers, numbers_of}
 use Rattle.written_model.specs.Tree.{delay_of, lone}
 use Rattle.written_giving.specs.AnnotatedBack.{as_number}
 use Rattle.written_giving.proofs.MemberLaws.{Mem}
 use Rattle.written_giving.proofs.PlaceLaws.{map-fused}
-use Rattle.written_giving.proofs.TickLaws.{IsOnGrid, OnGrid, size-same}
+use Rattle.written_giving.proofs.TickLaws.{OnGrid, size-same}
 use Rattle.written_giving.proofs.TreeLaws.{delay_values}
 
 -- the numbers of a timing are read as they were written

@@ -1,13 +1,13 @@
 -- The entries that the tree of a circuit gives, scope by scope.
-use Rattle.std.proofs.Common.{◌≡◌, Bool, true, false, List, [], ◌∷◌, ◌++◌, length, refl, sym, ◌∙◌, ap, append_assoc, append-nil}
-use Rattle.std.specs.Prelude.{ℕ, map, Option, Some, None}
+use Rattle.std.proofs.Common.{◌≡◌, false, List, [], ◌∷◌, ◌++◌, length, refl, sym, ◌∙◌, ap, append_assoc, append-nil}
+use Rattle.std.specs.Prelude.{ℕ, map, None}
 use Rattle.std.specs.List.{flat_map, range_with_len}
 use Rattle.std.proofs.lemmas.Grind.{flat_map-append}
 use Rattle.std.proofs.lemmas.List.{map-append}
 use Rattle.sg_circuit.specs.Circuit.{Circuit, Variable, scope_at}
 use Rattle.sdf_tree.specs.declared.words.Divider.TheVariants.{Slash}
 use Rattle.sdf_tree.specs.Written as written
-use Rattle.sdf_tree.specs.Meant.{DelayValue, Entry, EntryKind, kind_of_check, io_path, port_delay, entry_of, entries_of_part, entry_of_check, cells_in, units_in, dividers_in, delay_value_of}
+use Rattle.sdf_tree.specs.Meant.{DelayValue, Entry, EntryKind, kind_of_check, io_path, port_delay, entry_of, entry_of_check, cells_in, units_in, dividers_in, delay_value_of}
 use Rattle.annotation_model.specs.Given.{Given, given_in}
 use Rattle.written_model.specs.Names.{names_to}
 use Rattle.written_model.specs.Entries.{Numbers, LegEntry, PathEntry, CheckEntry, legs, paths, checks}

@@ -1,5 +1,5 @@
 -- That annotation with the tree of a circuit gives the circuit back.
-use Rattle.std.specs.Prelude.{◌≡◌, ℕ, ℤ, pos, ◌≤ℤ◌, All, List, [], length, map, Some, None, false}
+use Rattle.std.specs.Prelude.{◌≡◌, ℤ, pos, ◌≤ℤ◌, All, List, [], length, map, Some, None, false}
 use Rattle.sg_delay.specs.declared.corners.Corner.{Corner}
 use Rattle.sg_circuit.specs.declared.checks.CheckTiming.{CheckTiming}
 use Rattle.sg_circuit.specs.Closed.{IsClosed}
