@@ -63,6 +63,10 @@ decide-numbers a b = elim (decide-number a.delay b.delay) [
   ]
 ]
 
+abbrev is_pos : ℤ → Bool
+is_pos (pos n) = true
+is_pos (negsuc n) = false
+
 decide-int : (a b : ℤ) → Decided a b
 decide-int (pos a) (pos b) = elim (decide-number a b) [
   | inl e ↦ inl (ap pos e)
@@ -73,15 +77,7 @@ decide-int (negsuc a) (negsuc b) = elim (decide-number a b) [
   | inr g ↦ inr (λ h. let s : suc a ≡ suc b = ap unsigned_abs h in g (omega (arith, s)))
 ]
 decide-int (pos a) (negsuc b) = inr (λ h. let s : true ≡ false = ap is_pos h in absurd cc)
-  where
-    is_pos : ℤ → Bool
-    is_pos (pos n) = true
-    is_pos (negsuc n) = false
 decide-int (negsuc a) (pos b) = inr (λ h. let s : false ≡ true = ap is_pos h in absurd cc)
-  where
-    is_pos : ℤ → Bool
-    is_pos (pos n) = true
-    is_pos (negsuc n) = false
 
 -- what doesn't disagree is the same
 one-value : {A K V : Type 0} (key : A → K) (value : A → V) (es : List A) → ((a b : V) → Decided a b) → (Disagree key value es → ⊥) → (x y : A) → Mem x es → Mem y es → key x ≡ key y → value x ≡ value y

@@ -14,8 +14,12 @@ pub mod AlikeLaws
 pub mod SpotLaws
 pub mod FaultLaws
 pub mod GivenLaws
+pub mod LeadLaws
+pub mod PartLaws
 pub mod CheckLaws
 pub mod LimitLaws
 pub mod FromLaws
+pub mod PieceLaws
 pub mod BackLaws
 pub mod SmallLaws
+pub mod FileLaws

@@ -24,7 +24,8 @@ use Rattle.written_model.specs.Entries.{EventKey, CheckKey, CheckEntry, edge_of,
 use Rattle.written_model.specs.Faults.{AreFaultless, is_for_event, is_for_datum}
 use Rattle.written_model.specs.Tree.{event_terminal, datum_of}
 use Rattle.written_reading.specs.Named.{IsNamed}
-use Rattle.written_giving.proofs.CheckLaws.{cell_check, second_part, second-only, has_two, part-two, check-among, check-entry, check-entry-in, fits_key, triple, check_cell, has-events, Gives, gives-check, gives-own}
+use Rattle.written_giving.proofs.CheckLaws.{check-among, check-entry, check-entry-in, fits_key, triple, check_cell, has-events, Gives, gives-check, gives-own}
+use Rattle.written_giving.proofs.PartLaws.{cell_check, second_part, second-only, has_two, part-two}
 use Rattle.written_giving.proofs.FaultLaws.{one-check-value, size-read, check-size, scope_grid, scale}
 use Rattle.written_giving.proofs.GivenLaws.{IsGivenOf, a_leg, a_path, a_check, given-is, ranked-pieces}
 use Rattle.written_giving.proofs.KeyLaws.{edge-own, edge-fits, words-own, words-fits, option-rank, option-equal}

@@ -16,7 +16,7 @@ use Rattle.written_reading.specs.Placeless.{placeless}
 use Rattle.written_giving.specs.AnnotatedBack.{IsLike, IsSettled, Gives}
 use Rattle.written_giving.proofs.BackLaws.{given-back}
 use Rattle.written_giving.proofs.PlaceLaws.{unplaced, given-same, units-same, dividers-same}
-use Rattle.written_giving.proofs.SmallLaws.{all-small, all-matched}
+use Rattle.written_giving.proofs.FileLaws.{all-small, all-matched}
 use Rattle.written_giving.proofs.TreeLaws.{given_of, tree-given, tree-units, tree-dividers}
 use Rattle.written_giving.proofs.laws.tree_gives_back.Goals as goal
 
