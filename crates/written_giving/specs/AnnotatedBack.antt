@@ -1,5 +1,5 @@
 -- That annotation with the tree of a circuit gives the circuit back.
-use Rattle.std.specs.Prelude.{◌≡◌, ℕ, ℤ, pos, ◌≤ℤ◌, All, List, [], map, Some, None, false}
+use Rattle.std.specs.Prelude.{◌≡◌, ℤ, pos, ◌≤ℤ◌, All, List, [], length, map, Some, None, false}
 use Rattle.sg_delay.specs.declared.corners.Corner.{Corner}
 use Rattle.sg_circuit.specs.declared.checks.CheckTiming.{CheckTiming}
 use Rattle.sg_circuit.specs.Closed.{IsClosed}
@@ -28,8 +28,9 @@ stripped_kind other = other
 abbrev pub stripped_element : Element → Element
 stripped_element e = record e { kind = stripped_kind e.kind }
 
+-- as many limits stay
 abbrev pub stripped_check : CheckTiming → CheckTiming
-stripped_check t = record t { limits = [] }
+stripped_check t = record t { limits = map (λ (l : ℤ). pos 0) t.limits }
 
 abbrev pub stripped : Circuit → Circuit
 stripped c = record c { elements = map stripped_element c.elements; check_timings = map stripped_check c.check_timings; zeroed = [] }
@@ -58,9 +59,10 @@ in_numbers c = record c { elements = map element_in_numbers c.elements }
 
 -- ---- annotation
 
--- its Lates and zeroed limits follow from its limits, and no limits but those of setuphold and recrem lie below 0
+-- its Lates and zeroed limits follow from its limits, each check has two limits, and none but those of setuphold and recrem lie below 0
 pub record IsSettled (c : Circuit) : Type 0 where
   pub adjusted : IsAdjustedFrom c c
+  pub pairs : All (λ t. length t.limits ≡ 2) c.check_timings
   pub limits : All (λ t. takes_lates t.kind ≡ false → All (λ l. pos 0 ≤ℤ l) t.limits) c.check_timings
 
 -- Annotation of a circuit with a file has nothing too large and nothing unmatched, and gives a circuit, whatever the corner.

@@ -8,5 +8,4 @@ ghost use Rattle.written_giving.specs.AnnotatedBack.{IsGivenBack, IsSettled};
 /// The tree of a circuit gives it its delays and limits back, whatever stands in their place.
 pub fn tree_gives_back()
     ensures { (c : Circuit) → IsClosed c → IsNamed c → IsSettled c → IsFaultless c → IsGivenBack c }
-{
-}
+{}
