@@ -23,3 +23,4 @@ pub mod PieceLaws
 pub mod BackLaws
 pub mod SmallLaws
 pub mod FileLaws
+pub mod TreeBack
