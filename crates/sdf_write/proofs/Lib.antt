@@ -1,1 +1,2 @@
 -- The modules of this folder.
+mod BackLaws
