@@ -89,7 +89,7 @@ pub run_gives : (ws : List (List ℕ)) (c : Command) (task : code_task.Task) (ol
 run_gives ws c task old a g = λ files is. run_answers ws c files (Ok (task_seen task)) a (g files is).outcome
 
 -- the dump of a task
-pub dump_file : code_task.Task → File
+abbrev pub dump_file : code_task.Task → File
 dump_file task = record { name = task.vcd.now; bytes = dump_of (task_seen task) }
 
 -- the run came to its end
@@ -128,7 +128,7 @@ pub writing_gives : (ws : List (List ℕ)) (w : Writing) (x : code_written.Writt
 writing_gives ws w x old a g = λ files is. writing_answers ws w files (Ok (written_seen x)) a (g files is).outcome
 
 -- the file that is written
-pub written_file : (out : List ℕ) → code_written.Written → File
+abbrev pub written_file : (out : List ℕ) → code_written.Written → File
 written_file out x = record { name = out; bytes = x.text.items }
 
 -- it was written

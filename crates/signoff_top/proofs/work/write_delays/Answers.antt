@@ -26,20 +26,20 @@ returns-in_err-report-clause-left g c =
 pub returns-in-Ok-clause-left : goal.returns-in-Ok-clause-left
 returns-in-Ok-clause-left g c =
     λ ws e. writing_leaves ws (writing_seen c.args.writing.now) c.in_ok-written.written (record { report = c.in_ok-report.report }) _ _ _ (writing_gives ws (writing_seen c.args.writing.now) c.in_ok-written.written _ e c.in_ok-written.ensures.gives)
-    c.in_ok-written.ensures.held c.in-Ok.ensures.file c.in_ok-report.ensures
+    c.in_ok-written.ensures.held (rw c.deref.ensures.value at c.in-Ok.ensures.file) c.in_ok-report.ensures
 
 pub returns-in-Err-Failed-clause-left : goal.returns-in-Err-Failed-clause-left
 returns-in-Err-Failed-clause-left g c =
     λ ws e. made_fails ws _ (written_file (writing_seen c.args.writing.now).out c.in_ok-written.written) _ _ _ (writing_gives ws (writing_seen c.args.writing.now) c.in_ok-written.written _ e c.in_ok-written.ensures.gives)
-    c.in_ok-written.ensures.held c.in-Err-Failed.ensures.file
+    c.in_ok-written.ensures.held (rw c.deref.ensures.value at c.in-Err-Failed.ensures.file)
 
 pub returns-in-Err-Failed-clause-named : goal.returns-in-Err-Failed-clause-named
 returns-in-Err-Failed-clause-named g c =
     let named = rw c.in-Err-Failed.field-0-is at c.in-Err-Failed.ensures.named in
     λ ws e. failed_at_made ws (a_writing (writing_seen c.args.writing.now)) _ (written_file (writing_seen c.args.writing.now).out c.in_ok-written.written) _ _ _ _ e (out_among (writing_seen c.args.writing.now))
-    (writing_gives ws (writing_seen c.args.writing.now) c.in_ok-written.written _ e c.in_ok-written.ensures.gives) refl c.in_ok-written.ensures.held c.in-Err-Failed.ensures.file named
+    (writing_gives ws (writing_seen c.args.writing.now) c.in_ok-written.written _ e c.in_ok-written.ensures.gives) refl c.in_ok-written.ensures.held (rw c.deref.ensures.value at c.in-Err-Failed.ensures.file) named
 
 pub returns-clause-left : goal.returns-clause-left
 returns-clause-left g c =
     λ ws e. made_wants ws _ (written_file (writing_seen c.args.writing.now).out c.in_ok-written.written) _ _ _ (writing_gives ws (writing_seen c.args.writing.now) c.in_ok-written.written _ e c.in_ok-written.ensures.gives) refl
-    c.in_ok-written.ensures.held c.in-Err-NoMemory.ensures.file
+    c.in_ok-written.ensures.held (rw c.deref.ensures.value at c.in-Err-NoMemory.ensures.file)
