@@ -23,6 +23,11 @@ returns-in_err-report-clause-left g c =
     let p = err_from_is_err_and c.from_residual-in_err-report.result c.from_residual-in_err-report.ensures.1 in
     λ ws e. rw (p.1, p.2) (want_untouched ws _ _ c.in_ok-written.ensures.held)
 
+pub returns-in_err-report-clause-named : goal.returns-in_err-report-clause-named
+returns-in_err-report-clause-named g c =
+    let p = err_from_is_err_and c.from_residual-in_err-report.result c.from_residual-in_err-report.ensures.1 in
+    λ ws e. rw (p.1, p.2) tt
+
 pub returns-in-Ok-clause-left : goal.returns-in-Ok-clause-left
 returns-in-Ok-clause-left g c =
     λ ws e. writing_leaves ws (writing_seen c.args.writing.now) c.in_ok-written.written (record { report = c.in_ok-report.report }) _ _ _ (writing_gives ws (writing_seen c.args.writing.now) c.in_ok-written.written _ e c.in_ok-written.ensures.gives)
