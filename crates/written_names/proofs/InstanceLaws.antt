@@ -65,8 +65,11 @@ AreOthers c d = IfSome c.name (λ n. IsOther n d)
 
 all-others : (source : Source) (n : Named) (k : ℕ) (ps : List Member) → AllByRecursion (Differ n) (filter_map instance_name ps) → AllByRecursion (IsOther n) (filter_map (λ i. child_of_member source i.0 i.1) (enumerate_from k ps))
 all-others source n k [] h = tt
-all-others source n k (p ∷ ps) h = by (child_of_member source k p) refl
+all-others source n k (p ∷ ps) h = by (child_of_member source k p) refl (all-others source n (k + 1) ps (later (instance_name p) h))
   where
+    cs : List Child
+    cs = filter_map (λ i. child_of_member source i.0 i.1) (enumerate_from (k + 1) ps)
+
     named : (o : Option Named) → AllByRecursion (Differ n) (cons_option o (filter_map instance_name ps)) → IfSome o (Differ n)
     named None h = tt
     named (Some x) h = h.0
@@ -75,16 +78,13 @@ all-others source n k (p ∷ ps) h = by (child_of_member source k p) refl
     later None h = h
     later (Some x) h = h.1
 
-    rest : AllByRecursion (IsOther n) (filter_map (λ i. child_of_member source i.0 i.1) (enumerate_from (k + 1) ps))
-    rest = all-others source n (k + 1) ps (later (instance_name p) h)
-
-    by : (o : Option Child) → child_of_member source k p ≡ o → AllByRecursion (IsOther n) (cons_option o (filter_map (λ i. child_of_member source i.0 i.1) (enumerate_from (k + 1) ps)))
-    by None e = rest
-    by (Some y) e = (subst (λ o. IfSome o (Differ n)) (sym (same-name source k p y e)) (named (instance_name p) h), rest)
+    by : (o : Option Child) → child_of_member source k p ≡ o → AllByRecursion (IsOther n) cs → AllByRecursion (IsOther n) (cons_option o cs)
+    by None e rest = rest
+    by (Some y) e rest = (subst (λ o. IfSome o (Differ n)) (sym (same-name source k p y e)) (named (instance_name p) h), rest)
 
 others-apart : (source : Source) (k : ℕ) (ps : List Member) → Pairwise Differ (filter_map instance_name ps) → Pairwise AreOthers (filter_map (λ i. child_of_member source i.0 i.1) (enumerate_from k ps))
 others-apart source k [] h = tt
-others-apart source k (p ∷ ps) h = by (child_of_member source k p) refl
+others-apart source k (p ∷ ps) h = by (child_of_member source k p) refl (others-apart source (k + 1) ps (later (instance_name p) h))
   where
     cs : List Child
     cs = filter_map (λ i. child_of_member source i.0 i.1) (enumerate_from (k + 1) ps)
@@ -97,12 +97,9 @@ others-apart source k (p ∷ ps) h = by (child_of_member source k p) refl
     later None h = h
     later (Some x) h = h.1
 
-    rest : Pairwise AreOthers cs
-    rest = others-apart source (k + 1) ps (later (instance_name p) h)
-
-    by : (o : Option Child) → child_of_member source k p ≡ o → Pairwise AreOthers (cons_option o cs)
-    by None e = rest
-    by (Some y) e = (subst (λ o. AllByRecursion (λ d. IfSome o (λ n. IsOther n d)) cs) (sym (same-name source k p y e)) (named (instance_name p) h), rest)
+    by : (o : Option Child) → child_of_member source k p ≡ o → Pairwise AreOthers cs → Pairwise AreOthers (cons_option o cs)
+    by None e rest = rest
+    by (Some y) e rest = (subst (λ o. AllByRecursion (λ d. IfSome o (λ n. IsOther n d)) cs) (sym (same-name source k p y e)) (named (instance_name p) h), rest)
 
 pub children-others : (source : Source) (c : Corner) (tick : ℤ) (m : Module) → module_faults source c tick m ≡ [] → Pairwise AreOthers (children_in source m)
 children-others source c tick m h = others-apart source 0 (members m) (two-apart m (front (declaration_faults m) (flat_map (all_member_faults source c tick m) (members m)) h))
@@ -120,8 +117,8 @@ text-apart : (c d : Child) → HasName c → HasName d → AreOthers c d → byt
 text-apart c d h k e = by c.name d.name h k e
   where
     by : (o p : Option Named) → IsSome o → IsSome p → IfSome o (λ n. IfSome p (Differ n)) → bytes_eq (text_of o) (text_of p) ≡ false
-    by None p h k e = absurd h
-    by (Some n) None h k e = absurd k
+    by None p h k e = absurd cc
+    by (Some n) None h k e = absurd cc
     by (Some n) (Some m) h k e = e
 
 from-others : (source : Source) (levels : ℕ) (above : List Step) (c : Child) (x : Instance) (next : ℕ) (cs : List Child) → x.step.name ≡ text_of c.name → HasName c → AllByRecursion HasName cs → AllByRecursion (AreOthers c) cs
@@ -133,7 +130,7 @@ from-others source levels above c x next (d ∷ ds) e h k o =
 from-apart : (source : Source) (levels : ℕ) (above : List Step) (next : ℕ) (cs : List Child) → AllByRecursion HasName cs → Pairwise AreOthers cs → Pairwise AreNamedApart (children_from source levels above next cs)
 from-apart source levels above next [] h k = tt
 from-apart source levels above next (c ∷ cs) h k =
-    (from-others source levels above c _ (next + size source levels c.definition) cs refl h.0 h.1 k.0, from-apart source levels above (next + size source levels c.definition) cs h.1 k.1)
+    (from-others source levels above c (record { step = record { definition = c.definition; name = text_of c.name; place = c.place; member = c.member; connections = c.connections; number = next; levels = levels }; above = above }) (next + size source levels c.definition) cs refl h.0 h.1 k.0, from-apart source levels above (next + size source levels c.definition) cs h.1 k.1)
 
 at-apart : (source : Source) (levels : ℕ) (s : Instance) → AllByRecursion HasName (children_in source s.step.definition) → Pairwise AreOthers (children_in source s.step.definition) → Pairwise AreNamedApart (children_at source levels s)
 at-apart source zero s h k = tt
@@ -203,5 +200,5 @@ siblings-one source top corner faultless named x y h k e n = by (top-or-below so
 pub other-below : (source : Source) (top : Module) (x : Instance) → In x (instances source top) → 0 < number x → IsSome (parent_of x.above)
 other-below source top x h l = elim (top-or-below source top x h) [
   | inl e ↦ absurd (let q : number x ≡ 0 = ap number e in omega arith)
-  | inr p ↦ subst (λ o. IsSome o) (sym (ap parent_of p.above)) tt
+  | inr p ↦ subst (λ o. IsSome o) (sym (ap parent_of p.above)) refl
 ]

@@ -1,2 +1,12 @@
 -- The modules of this folder.
+pub mod GoodBytes
+pub mod NamedPieces
+pub mod NamedMeanings
+pub mod NamedTokens
 pub mod InstanceLaws
+pub mod DeclaredNames
+pub mod DeclaringTrees
+pub mod VariableNames
+pub mod InstanceNames
+pub mod NamedTops
+pub mod ScopeLaws

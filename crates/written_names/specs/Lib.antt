@@ -1,3 +1,2 @@
 -- The modules of this folder.
-pub mod Named
 pub mod NamedScopes

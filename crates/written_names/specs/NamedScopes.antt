@@ -1,7 +1,7 @@
 -- What the scopes of a circuit have, and their variables, where they are written.
 use Rattle.std.specs.Prelude.{◌≡◌, ℕ, ◌<◌, All, length, None, IsSome}
 use Rattle.sg_circuit.specs.Circuit.{Circuit, scope_at}
-use Rattle.written_names.specs.Named.{AreApart, IsNameText, IsTick, IsVariableText}
+use Rattle.written_reading.specs.Named.{AreApart, IsNameText, IsTick, IsVariableText}
 
 pub record HasNamedScopes (c : Circuit) : Type 0 where
   -- instances

@@ -1,6 +1,6 @@
 //! Circuits of netlists have names that lead back: proofs alone.
 #![tactic(auto)]
 
-mod laws;
+mod scopes;
 
-pub use laws::scopes_are_named;
+pub use scopes::scopes_are_named;
