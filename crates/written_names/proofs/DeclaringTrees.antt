@@ -1,5 +1,5 @@
 -- Trees that good tokens spell declare good names.
-use Rattle.std.specs.Prelude.{◌≡◌, ℕ, zero, suc, ℤ, ◌<◌, ◌^◌, Bool, true, false, IfSome, List, [], ◌∷◌, ◌++◌, Option, Some, None, slice_get, unwrap_or}
+use Rattle.std.specs.Prelude.{ℕ, zero, suc, Bool, true, false, IfSome, List, [], ◌∷◌, ◌++◌, Option, Some, None, unwrap_or}
 use Rattle.std.specs.List.{AllByRecursion}
 use Rattle.sg_text.specs.declared.places.Place.{Place}
 use Rattle.sg_text.specs.declared.words.Keyword.TheVariants as keyword
@@ -7,7 +7,7 @@ use Rattle.grammar.specs.Rule.{◌∙∙◌, ◌▸◌, ◌◂◌, followed, map
 use Rattle.grammar.specs.Stated.{separated_options}
 use Rattle.vl_token.specs.declared.symbols.Symbol.TheVariants.{AndAndAnd, Colon, Comma, LeftBrace, LeftBracket, LeftParen, Minus, Point, RightBrace, RightBracket, RightParen, Semicolon}
 use Rattle.vl_token.specs.declared.symbols.Symbol.TheVariants as symbol
-use Rattle.vl_token.specs.Tokens.{Lexeme, Meaning, Settings, byte_token, left_out_token, module_word, name_token, number_token, other_token, pair_token, sized_token, symbol_token, system_token, unsized_token, word_token}
+use Rattle.vl_token.specs.Tokens.{Lexeme, Settings}
 use Rattle.vl_tree.specs.Amounts.{limit, specparam}
 use Rattle.vl_tree.specs.Checks.{Delayed, arguments, arguments_of, arguments_parts, between, check, check_name, check_parts, delayed_signals, event, from_checktime, from_stamptime, last_arguments, spare, threshold_and_notifier, trailing, trailing_name}
 use Rattle.vl_tree.specs.Modules.{head, head_parts, head_port, head_port_parts, module_parts, module_rule, module_word as module_word_rule, part, part_parts, port_declaration, port_declaration_parts, port_list, port_list_parts, source}
@@ -24,17 +24,16 @@ use Rattle.vl_tree.specs.declared.names.Supply.{Supply}
 use Rattle.vl_tree.specs.declared.specify.PulseStyle.{PulseStyle}
 use Rattle.sg_logic.specs.declared.gates.GateKind.{GateKind}
 use Rattle.elab_model.specs.Members as members
-use Rattle.vl_tree.specs.Expressions.{delay, expression, expression_parts, expression_to, int, int_parts, max_braces, name, name_parts, names, names_parts, range, range_parts, select, signal_parts, signal_rule, signed, sized_parts, sized_rule, whole}
+use Rattle.vl_tree.specs.Expressions.{delay, expression, expression_parts, expression_to, max_braces, name, names, names_parts, range, select, signal_parts, signal_rule, sized_parts, sized_rule}
 use Rattle.vl_tree.specs.Items.{assign_item, assign_item_parts, block_item, block_item_parts, connections, connections_parts, direction, gate, gate_instance, gate_instance_parts, gate_item, gate_item_parts, instance, instance_item, instance_item_parts, instance_parts, item, item_parts, join, join_parts, named_connection, named_connection_parts, net_item, net_item_parts, net_name, net_name_parts, net_type, port_item, port_item_parts, register_item, register_item_parts, supply, supply_item, supply_item_parts}
-use Rattle.vl_tree.specs.Kinds.{bits_of, is_module, is_name, is_sized, is_symbol, is_whole, kind_of, kind_of_meaning, number_of, settings_of, text_of}
+use Rattle.vl_tree.specs.Kinds.{bits_of, is_sized, is_symbol, kind_of}
 use Rattle.vl_tree.specs.Rules.{Grammar, either, listed, many, mark, optional, placed, word}
 use Rattle.vl_tree.specs.Tree.{Connections, Expression, Expressions, NamedConnection, Named, by_name, by_order, concatenation, expressions, signal, sized}
 use Rattle.vl_tree.specs.Tree as tree
 use Rattle.vl_tree.specs.declared.names.Range.{Range}
-use Rattle.written_reading.specs.Named.{IsNameText}
 use Rattle.written_names.proofs.DeclaredNames.{AreNamed, HasNamesIn, HaveNamesIn, IsNamed, IsNamedCheck, IsNamedConnection, IsNamedGate, IsNamedHead, IsNamedHeadPort, IsNamedInstance, IsNamedItem, IsNamedJoin, IsNamedModule, IsNamedNet, IsNamedPart, IsNamedSpecify}
 use Rattle.written_names.proofs.WordLaws.{AreGood, name_is}
-use Rattle.vcd_laws.proofs.Yields.{Yields, any, before, behind, in_turn, made_of, of_either, of_listed, of_many, of_nothing, of_optional, of_options, of_rest, of_second, with_its_place}
+use Rattle.written_names.proofs.Yields.{Yields, any, before, behind, in_turn, made_of, of_either, of_listed, of_many, of_nothing, of_optional, of_options, of_rest, of_second, with_its_place}
 
 -- ---- names
 

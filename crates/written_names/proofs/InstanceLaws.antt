@@ -1,17 +1,15 @@
 -- Instances have names of their own among those of one instance, and all but the top lie in one.
-use Rattle.std.specs.Prelude.{◌≡◌, ◌⊎◌, ℕ, zero, suc, ◌+◌, ◌<◌, ℤ, Bool, true, false, IfSome, IsSome, List, [], ◌∷◌, ◌++◌, bytes_eq, filter_map, flat_map, length, map, Option, Some, None, slice_get, slice_index_or, refl}
+use Rattle.std.specs.Prelude.{◌≡◌, ◌⊎◌, ℕ, zero, suc, ◌+◌, ◌<◌, ℤ, true, false, IfSome, IsSome, List, [], ◌∷◌, ◌++◌, bytes_eq, filter_map, flat_map, Option, Some, None, slice_get, refl}
 use Rattle.std.specs.List.{AllByRecursion, cons_option, enumerate_from}
 use Rattle.std.specs.Option.{option_and_then}
 use Rattle.std.proofs.Common.{sym, ◌∙◌, ap, subst, arith, inl, inr}
-use Rattle.std.proofs.lemmas.List.{length-map}
 use Rattle.std.proofs.lemmas.Slice.Eq.{bytes_eq-Decides}
-use Rattle.sg_circuit.specs.Circuit.{Scope}
 use Rattle.sg_delay.specs.declared.corners.Corner.{Corner}
-use Rattle.vl_tree.specs.Tree.{Module, Named, Part, Source, a_module, a_primitive}
+use Rattle.vl_tree.specs.Tree.{Module, Named, Source}
 use Rattle.elab_model.specs.Definitions.{as_module, definition_of}
 use Rattle.elab_model.specs.Delays.{tick_of}
 use Rattle.elab_model.specs.Faults.{fault, places_again}
-use Rattle.elab_model.specs.Hierarchy.{Child, Instance, Step, child_of, child_of_member, children, children_at, children_from, children_in, instances, instances_from, levels_below_top, size, text_of, top_instance}
+use Rattle.elab_model.specs.Hierarchy.{Child, Instance, Step, child_of, child_of_member, children, children_at, children_from, children_in, instances, levels_below_top, size, text_of, top_instance}
 use Rattle.elab_model.specs.Members.{Member, assignment, check, gate, instance, members, path, supply}
 use Rattle.elab_model.specs.ModuleFaults.{all_member_faults, module_faults}
 use Rattle.elab_model.specs.NameFaults.{declaration_faults, instance_name, instance_names, name_faults, no_direction, no_port, too_wide, twice_in_list, two_directions, two_instances, two_nets, two_ranges}

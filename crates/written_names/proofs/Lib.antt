@@ -3,6 +3,8 @@ pub mod GoodBytes
 pub mod NamedPieces
 pub mod NamedMeanings
 pub mod NamedTokens
+pub mod Yields
+pub mod WordLaws
 pub mod InstanceLaws
 pub mod DeclaredNames
 pub mod DeclaringTrees

@@ -1,5 +1,5 @@
 -- The scopes of a circuit that is read have names that lead back, and so have their variables.
-use Rattle.std.specs.Prelude.{◌≡◌, ◌≢◌, ℕ, zero, suc, ◌+◌, ◌<◌, ◌≤◌, ◌^◌, ℤ, pos, negsuc, ◌-ℤ◌, ◌≤ℤ◌, int_le, ◌&&◌, Bool, true, false, All, IfSome, IsSome, List, [], ◌∷◌, bytes_eq, length, map, Option, Some, None, slice_get, slice_index_or, refl}
+use Rattle.std.specs.Prelude.{◌≡◌, ℕ, zero, suc, ◌<◌, ℤ, pos, negsuc, ◌-ℤ◌, ◌≤ℤ◌, int_le, ◌&&◌, Bool, true, false, All, IfSome, IsSome, List, [], ◌∷◌, bytes_eq, length, map, Option, Some, None, slice_get, slice_index_or, refl}
 use Rattle.std.specs.List.{AllByRecursion}
 use Rattle.std.proofs.Common.{sym, ◌∙◌, ap, subst, arith}
 use Rattle.std.proofs.lemmas.Bool.{agree_below_at, and_parts}
@@ -7,7 +7,7 @@ use Rattle.std.proofs.lemmas.Int.{ints}
 use Rattle.std.proofs.lemmas.List.{length-map}
 use Rattle.std.proofs.lemmas.List.Elements.{All-from_get_or, All-from_recursion}
 use Rattle.std.proofs.lemmas.Slice.Eq.{bytes_eq-Decides}
-use Rattle.sg_circuit.specs.Circuit.{Circuit, Scope, Variable, scope_at}
+use Rattle.sg_circuit.specs.Circuit.{Circuit, Scope, Variable}
 use Rattle.sg_circuit.specs.declared.scopes.Range.{Range}
 use Rattle.sg_delay.specs.declared.corners.Corner.{Corner}
 use Rattle.vl_tree.specs.Tree.{Module, Source}
@@ -15,7 +15,7 @@ use Rattle.elab_model.specs.Delays.{tick_of}
 use Rattle.elab_model.specs.Hierarchy.{Instance, children_in, instances, levels_below_top, top_instance}
 use Rattle.elab_model.specs.Names.{variables}
 use Rattle.elab_model.specs.Nets.{nets}
-use Rattle.elab_model.specs.Scopes.{parent_of, scope_of, scope_variable}
+use Rattle.elab_model.specs.Scopes.{scope_of, scope_variable}
 use Rattle.circuit_model.specs.Circuits.{circuit}
 use Rattle.elab_laws.proofs.Apart.{variables-apart}
 use Rattle.elab_laws.proofs.Lists.{In, Pairwise, all-from, all-get, all-in, all-map, all-weaker, pairwise-map}
@@ -34,7 +34,7 @@ use Rattle.written_reading.specs.Named.{AreApart, IsIndex, IsNameText, IsTick, I
 use Rattle.written_names.specs.NamedScopes.{HasNamedScopes}
 use Rattle.written_names.proofs.DeclaredNames.{IsNamedModule, IsNamedPart}
 use Rattle.written_names.proofs.DeclaringTrees.{source_is}
-use Rattle.written_names.proofs.InstanceLaws.{HasName, one-number, other-below, siblings-one}
+use Rattle.written_names.proofs.InstanceLaws.{HasName, other-below, siblings-one}
 use Rattle.written_names.proofs.InstanceNames.{IsNamedChild, IsNamedStep, children_named, instances_named}
 use Rattle.written_names.proofs.NamedTops.{IfTop, none_below, top_named}
 use Rattle.written_names.proofs.VariableNames.{variables_are}
@@ -42,7 +42,7 @@ use Rattle.written_names.proofs.WordLaws.{tokens_are_good}
 
 -- ---- units and indexes
 
-tick_table : ℕ → Bool
+abbrev tick_table : ℕ → Bool
 tick_table n = int_le (negsuc 14) (pos 2 -ℤ pos n) && int_le (pos 2 -ℤ pos n) (pos 2)
 
 yes : (a b : ℤ) → int_le a b ≡ true → a ≤ℤ b

@@ -1,23 +1,15 @@
 -- The variables of named modules have good names.
-use Rattle.std.specs.Prelude.{◌≡◌, ℕ, ◌≤◌, nat_lt, Bool, true, false, if◌then◌else◌, IfSome, List, [], ◌∷◌, ◌++◌, bytes_eq, find, map, flat_map, option_map, Option, Some, None, refl}
+use Rattle.std.specs.Prelude.{◌≡◌, ℕ, Bool, true, false, if◌then◌else◌, IfSome, List, [], ◌∷◌, ◌++◌, map, flat_map, Option, Some, None}
 use Rattle.std.specs.List.{AllByRecursion}
-use Rattle.std.proofs.Common.{sym, subst, arith}
-use Rattle.std.proofs.lemmas.Bool.{ltb-false}
+use Rattle.std.proofs.Common.{sym, subst}
 use Rattle.std.proofs.lemmas.List.Concat.{flat_map-append}
-use Rattle.sg_circuit.specs.declared.scopes.Range.{Range}
-use Rattle.sg_circuit.specs.Closed.{width_of}
-use Rattle.vl_tree.specs.declared.names.Range as written
 use Rattle.vl_tree.specs.Tree as tree
 use Rattle.vl_tree.specs.Tree.{Connections, Expression, Expressions, Head, HeadPort, Instance, Item, Module, Named, NetName, PortDeclaration, SpecifyItem, a_check, a_path, by_name, by_order, concatenation, declared_port, head_declarations, head_names, named_port, no_more, one_more, pulse_style, signal, sized, specparams}
-use Rattle.elab_model.specs.Faults.{Fault, fault, fault_if}
 use Rattle.elab_model.specs.Leaves.{leaves, leaves_of}
 use Rattle.elab_model.specs.Members.{Member, assignment, assignment_to, connection_values, delayed_names, gate, instance, member_of_item, member_values, members, members_of_item, supply, supply_value}
-use Rattle.elab_model.specs.NameFaults.{RangeText, net_range, port_range, range_texts, too_wide, width_limit}
-use Rattle.elab_model.specs.Names.{Variable, bounds, first_of_each, is_among, range_of, variable, variable_names, variables, whole_name, whole_names}
-use Rattle.elab_model.specs.Ports.{NetDeclaration, name_of_port, names_of_head, net_as, net_declarations, nets_of_item, port_as, port_declarations, port_list, port_names, ports_after, ports_of_head, ports_of_item}
-use Rattle.elab_model.specs.declared.kinds.ElabKind.TheVariants.{TooMany}
-use Rattle.elab_laws.proofs.Lists.{all-anyway, all-append, all-flat_in, all-map, all-map_back, all-weaker}
-use Rattle.elab_laws.proofs.NoFaults.{flat-empty}
+use Rattle.elab_model.specs.Names.{Variable, first_of_each, is_among, variable, variable_names, variables, whole_name, whole_names}
+use Rattle.elab_model.specs.Ports.{NetDeclaration, name_of_port, names_of_head, net_as, net_declarations, nets_of_item, port_list, port_names}
+use Rattle.elab_laws.proofs.Lists.{all-anyway, all-append, all-flat_in, all-map, all-weaker}
 use Rattle.elab_laws.proofs.Once.{all-kept}
 use Rattle.written_reading.specs.Named.{IsNameText}
 use Rattle.written_names.proofs.DeclaredNames.{AreNamed, HasNamesIn, HaveNamesIn, IsNamed, IsNamedConnection, IsNamedHead, IsNamedHeadPort, IsNamedInstance, IsNamedItem, IsNamedJoin, IsNamedModule, IsNamedNet, IsNamedSpecify}
