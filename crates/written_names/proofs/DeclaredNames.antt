@@ -1,9 +1,10 @@
 -- What declares variables and instances in trees of netlists has good names.
 use Rattle.std.specs.Prelude.{IfSome}
 use Rattle.std.specs.List.{AllByRecursion}
-use Rattle.vl_tree.specs.Tree.{Check, Connections, Expression, Expressions, GateInstance, Head, HeadPort, Instance, Item, Join, Module, Named, NamedConnection, NetName, Part, SpecifyItem, a_check, a_module, a_path, a_primitive, assigns, by_name, by_order, concatenation, declared_port, gates, head_declarations, head_names, instances, named_port, nets, no_more, one_more, ports, pulse_style, registers, signal, sized, specify_block, specparams, supplies}
+use Rattle.vl_tree.specs.Tree.{Check, Connections, Expression, Expressions, GateInstance, Head, HeadPort, Instance, Item, Join, Module, Named, NamedConnection, NetName, Part, SpecifyItem, a_check, a_path, assigns, by_name, by_order, concatenation, declared_port, gates, head_declarations, head_names, instances, named_port, nets, no_more, one_more, ports, pulse_style, registers, signal, sized, specify_block, specparams, supplies}
 use Rattle.elab_model.specs.Members.{delayed_names}
 use Rattle.written_reading.specs.Named.{IsNameText}
+use Rattle.written_names.proofs.DefinedModules.{OfPart}
 
 abbrev pub IsNamed : Named → Type 0
 IsNamed n = IsNameText n.text
@@ -70,5 +71,4 @@ pub record IsNamedModule (m : Module) : Type 0 where
   pub items : AllByRecursion IsNamedItem m.items
 
 abbrev pub IsNamedPart : Part → Type 0
-IsNamedPart (a_module m) = IsNamedModule m
-IsNamedPart (a_primitive p) = Unit {0}
+IsNamedPart = OfPart IsNamedModule

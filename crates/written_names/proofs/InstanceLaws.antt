@@ -159,7 +159,7 @@ top-or-below source top x h = has-parent source levels_below_top (top_instance t
 names-differ : (x y : List ℕ) → bytes_eq x y ≡ false → x ≡ y → ⊥
 names-differ x y h e = (let q : true ≡ false = sym ((bytes_eq-Decides x y).1 e) ∙ h in cc)
 
-pub siblings-one : (source : Source) (top : Module) (corner : Corner) → AllByRecursion (IsFaultless source top corner) (instances source top) → AllByRecursion (λ (s : Instance). AllByRecursion HasName (children_in source s.step.definition)) (instances source top)
+pub siblings-one : (source : Source) (top : Module) (corner : Corner) → AllByRecursion (IsFaultless source top corner) (instances source top) → ((s : Instance) → In s (instances source top) → AllByRecursion HasName (children_in source s.step.definition))
     → (x y : Instance) → In x (instances source top) → In y (instances source top) → parent_of x.above ≡ parent_of y.above → x.step.name ≡ y.step.name → x ≡ y
 siblings-one source top corner faultless named x y h k e n = by (top-or-below source top x h) (top-or-below source top y k)
   where
@@ -177,7 +177,7 @@ siblings-one source top corner faultless named x y h k e n = by (top-or-below so
 
         children-apart : Pairwise AreNamedApart (children source p.parent)
         children-apart =
-            at-apart source p.parent.step.levels p.parent (all-in (λ (s : Instance). AllByRecursion HasName (children_in source s.step.definition)) p.parent (instances source top) named p.there)
+            at-apart source p.parent.step.levels p.parent (named p.parent p.there)
             (children-others source corner (tick_of source top) p.parent.step.definition (all-in (IsFaultless source top corner) p.parent (instances source top) faultless p.there))
 
         apart : (x ≡ y) ⊎ (AreNamedApart x y ⊎ AreNamedApart y x) → x ≡ y

@@ -1,31 +1,31 @@
--- The instances of named trees without faults have good names.
-use Rattle.std.specs.Prelude.{◌≡◌, ℕ, zero, suc, ◌+◌, ℤ, IfSome, List, [], ◌∷◌, ◌++◌, bytes_eq, flat_map, Option, Some, None, refl}
+-- The instances of modules with good names, where no fault stands, have good names.
+use Rattle.std.specs.Prelude.{◌≡◌, ℕ, zero, suc, ◌+◌, ℤ, IfSome, IsSome, List, [], ◌∷◌, ◌++◌, flat_map, Option, Some, None, refl}
 use Rattle.std.specs.List.{AllByRecursion, enumerate_from}
 use Rattle.std.specs.Option.{option_and_then}
-use Rattle.std.proofs.Common.{subst}
+use Rattle.std.proofs.Common.{sym, subst, inl, inr}
 use Rattle.sg_delay.specs.declared.corners.Corner.{Corner}
 use Rattle.vl_tree.specs.Tree.{Module, Named, Part, Source, a_module, a_primitive}
 use Rattle.vl_tree.specs.Tree as tree
-use Rattle.elab_model.specs.Definitions.{as_module, definition_of, name_of}
+use Rattle.elab_model.specs.Definitions.{as_module, definition_of}
+use Rattle.elab_model.specs.Delays.{tick_of}
 use Rattle.elab_model.specs.Faults.{fault_if}
-use Rattle.elab_model.specs.Hierarchy.{Child, Instance, Step, child_of, child_of_member, children_at, children_from, children_in, instances_from, size, text_of}
+use Rattle.elab_model.specs.Hierarchy.{Child, Instance, Step, child_of, child_of_member, children, children_at, children_from, children_in, instances, levels_below_top, size, text_of, top_instance}
 use Rattle.elab_model.specs.Members.{Member, assignment, assignment_to, check, gate, instance, member_of_item, member_values, members, members_of_item, path, supply, supply_value}
 use Rattle.elab_model.specs.ModuleFaults.{all_member_faults, connection_faults, delay_on_module, instance_faults, member_faults, module_faults}
 use Rattle.elab_model.specs.NameFaults.{declaration_faults}
 use Rattle.elab_model.specs.Names.{variables}
 use Rattle.elab_model.specs.TerminalFaults.{expression_faults, is_missing}
 use Rattle.elab_model.specs.declared.kinds.ElabKind.TheVariants.{BadTerminal}
-use Rattle.elab_laws.proofs.Lists.{all-anyway, all-append, all-flat_in, all-map, all-weaker}
-use Rattle.elab_laws.proofs.NoFaults.{all-second, back, flat-empty, front}
+use Rattle.elab_laws.proofs.Lists.{In, all-anyway, all-flat_in, all-in, all-map, all-weaker}
+use Rattle.elab_laws.proofs.NoFaults.{IsFaultless, all-second, back, flat-empty, front}
 use Rattle.elab_laws.proofs.Once.{all-kept}
-use Rattle.vcd_laws.proofs.Declared.{found_has, split_all}
+use Rattle.elab_laws.proofs.Parents.{has-parent}
 use Rattle.written_reading.specs.Named.{IsNameText}
-use Rattle.written_names.proofs.DeclaredNames.{IsNamed, IsNamedInstance, IsNamedItem, IsNamedModule, IsNamedPart}
+use Rattle.written_names.proofs.DeclaredNames.{IsNamed, IsNamedInstance, IsNamedItem, IsNamedModule}
 use Rattle.written_names.proofs.InstanceLaws.{HasName}
 
--- a child has a name, and its module is named
+-- a child has a name, and it is good
 pub record IsNamedChild (c : Child) : Type 0 where
-  pub definition : IsNamedModule c.definition
   pub some : HasName c
   pub name : IsNameText (text_of c.name)
 
@@ -63,38 +63,38 @@ item_uses (tree.gates p g d is) h = all-map IsNamedUse (gate g d) is (all-anyway
 item_uses (tree.instances n d is) h = all-map IsNamedUse (instance n d) is (all-weaker IsNamedInstance (λ i. IfSome i.name IsNamed) is (λ i k. k.0) h)
 item_uses (tree.specify_block b) h = all-kept IsNamedUse member_of_item b.items (all-anyway (λ (i : tree.SpecifyItem). (y : Member) → member_of_item i ≡ Some y → IsNamedUse y) b.items specified)
 
-a_child : (x : Module) (k : ℕ) (i : tree.Instance) → IsNamedModule x → IfSome i.name IsNamed → fault_if (is_missing i.name) BadTerminal i.place ≡ [] → IsNamedChild (record { definition = x; member = k; place = i.place; name = i.name; connections = i.connections })
-a_child x k i h u e = by i.name u e
+named_child : (c : Child) → IfSome c.name IsNamed → fault_if (is_missing c.name) BadTerminal c.place ≡ [] → IsNamedChild c
+named_child c u e = record { some = (by c.name u e).0; name = (by c.name u e).1 }
   where
-    by : (o : Option Named) → IfSome o IsNamed → fault_if (is_missing o) BadTerminal i.place ≡ [] → IsNamedChild (record { definition = x; member = k; place = i.place; name = o; connections = i.connections })
+    by : (o : Option Named) → IfSome o IsNamed → fault_if (is_missing o) BadTerminal c.place ≡ [] → IsSome o × IsNameText (text_of o)
     by None u e = absurd cc
-    by (Some n) u e = record { definition = h; some = refl; name = u }
+    by (Some n) u e = (refl, u)
 
-named_child : (source : Source) → AllByRecursion IsNamedPart source → (c : Corner) (tick : ℤ) (m : Module) (k : ℕ) (p : Member) → IsNamedUse p → member_faults source c tick m (variables m) p ≡ []
-    → (y : Child) → child_of_member source k p ≡ Some y → IsNamedChild y
-named_child source named c tick m k (assignment j) u h y e = absurd cc
-named_child source named c tick m k (supply n v) u h y e = absurd cc
-named_child source named c tick m k (gate g d i) u h y e = absurd cc
-named_child source named c tick m k (path p) u h y e = absurd cc
-named_child source named c tick m k (check t) u h y e = absurd cc
-named_child source named c tick m k (instance n d i) u h y e = by (definition_of source n.text) (found_has IsNamedPart (λ x. bytes_eq n.text (name_of x).text) source named) h e
+child_of_use : (source : Source) (c : Corner) (tick : ℤ) (m : Module) (k : ℕ) (p : Member) → IsNamedUse p → member_faults source c tick m (variables m) p ≡ [] → (y : Child) → child_of_member source k p ≡ Some y → IsNamedChild y
+child_of_use source c tick m k (assignment j) u h y e = absurd cc
+child_of_use source c tick m k (supply n v) u h y e = absurd cc
+child_of_use source c tick m k (gate g d i) u h y e = absurd cc
+child_of_use source c tick m k (path p) u h y e = absurd cc
+child_of_use source c tick m k (check t) u h y e = absurd cc
+child_of_use source c tick m k (instance n d i) u h y e = by (definition_of source n.text) h e
   where
-    by : (o : Option Part) → IfSome o IsNamedPart → instance_faults c tick m (variables m) d i o ≡ [] → child_of (option_and_then as_module o) k i ≡ Some y → IsNamedChild y
-    by None q h e = absurd cc
-    by (Some (a_primitive p)) q h e = absurd cc
-    by (Some (a_module x)) q h e =
+    by : (o : Option Part) → instance_faults c tick m (variables m) d i o ≡ [] → child_of (option_and_then as_module o) k i ≡ Some y → IsNamedChild y
+    by None h e = absurd cc
+    by (Some (a_primitive p)) h e = absurd cc
+    by (Some (a_module x)) h e =
         subst (λ o. IfSome o IsNamedChild) e
-        (a_child x k i q u (front (fault_if (is_missing i.name) BadTerminal i.place) (delay_on_module d ++ connection_faults (variables m) x i.place i.connections) h))
+        (named_child (record { definition = x; member = k; place = i.place; name = i.name; connections = i.connections }) u
+        (front (fault_if (is_missing i.name) BadTerminal i.place) (delay_on_module d ++ connection_faults (variables m) x i.place i.connections) h))
 
 both : {A : Type 0} (P Q : A → Type 0) (xs : List A) → AllByRecursion P xs → AllByRecursion Q xs → AllByRecursion (λ x. P x × Q x) xs
 both P Q [] h k = tt
 both P Q (x ∷ xs) h k = ((h.0, k.0), both P Q xs h.1 k.1)
 
-pub children_named : (source : Source) → AllByRecursion IsNamedPart source → (c : Corner) (tick : ℤ) (m : Module) → IsNamedModule m → module_faults source c tick m ≡ [] → AllByRecursion IsNamedChild (children_in source m)
-children_named source named c tick m h e =
+children_named : (source : Source) (c : Corner) (tick : ℤ) (m : Module) → IsNamedModule m → module_faults source c tick m ≡ [] → AllByRecursion IsNamedChild (children_in source m)
+children_named source c tick m h e =
     all-kept IsNamedChild (λ p. child_of_member source p.0 p.1) (enumerate_from 0 (members m))
     (all-weaker (λ x. Plain x.1) (λ x. (y : Child) → child_of_member source x.0 x.1 ≡ Some y → IsNamedChild y) (enumerate_from 0 (members m))
-    (λ x q y g. named_child source named c tick m x.0 x.1 q.0 q.1 y g) (all-second Plain 0 (members m) (both IsNamedUse (λ p. member_faults source c tick m (variables m) p ≡ []) (members m) uses each)))
+    (λ x q y g. child_of_use source c tick m x.0 x.1 q.0 q.1 y g) (all-second Plain 0 (members m) (both IsNamedUse (λ p. member_faults source c tick m (variables m) p ≡ []) (members m) uses each)))
   where
     Plain : Member → Type 0
     Plain p = IsNamedUse p × (member_faults source c tick m (variables m) p ≡ [])
@@ -110,29 +110,28 @@ children_named source named c tick m h e =
 
 -- ---- all instances
 
-abbrev pub IsNamedStep : Instance → Type 0
-IsNamedStep s = IsNamedModule s.step.definition × IsNameText s.step.name
+abbrev HasGoodName : Instance → Type 0
+HasGoodName s = IsNameText s.step.name
 
-from_named : (source : Source) (levels : ℕ) (above : List Step) (next : ℕ) (cs : List Child) → AllByRecursion IsNamedChild cs → AllByRecursion IsNamedStep (children_from source levels above next cs)
+from_named : (source : Source) (levels : ℕ) (above : List Step) (next : ℕ) (cs : List Child) → AllByRecursion IsNamedChild cs → AllByRecursion HasGoodName (children_from source levels above next cs)
 from_named source levels above next [] h = tt
-from_named source levels above next (c ∷ cs) h = ((h.0.definition, h.0.name), from_named source levels above (next + size source levels c.definition) cs h.1)
+from_named source levels above next (c ∷ cs) h = (h.0.name, from_named source levels above (next + size source levels c.definition) cs h.1)
 
-abbrev pub HasNone : Source → Corner → ℤ → Instance → Type 0
-HasNone source c tick s = module_faults source c tick s.step.definition ≡ []
+at_named : (source : Source) (levels : ℕ) (s : Instance) → AllByRecursion IsNamedChild (children_in source s.step.definition) → AllByRecursion HasGoodName (children_at source levels s)
+at_named source zero s h = tt
+at_named source (suc levels) s h = from_named source levels (s.step ∷ s.above) (suc s.step.number) (children_in source s.step.definition) h
 
-below_named : (source : Source) (c : Corner) (tick : ℤ) (levels : ℕ)
-    → ((s : Instance) → IsNamedStep s → AllByRecursion (HasNone source c tick) (instances_from source levels s) → AllByRecursion IsNamedStep (instances_from source levels s))
-    → (ss : List Instance) → AllByRecursion IsNamedStep ss → AllByRecursion (HasNone source c tick) (flat_map (instances_from source levels) ss) → AllByRecursion IsNamedStep (flat_map (instances_from source levels) ss)
-below_named source c tick levels each [] h f = tt
-below_named source c tick levels each (s ∷ ss) h f =
-    let r = split_all (HasNone source c tick) (instances_from source levels s) (flat_map (instances_from source levels) ss) f in
-    all-append IsNamedStep (instances_from source levels s) (flat_map (instances_from source levels) ss) (each s h.0 r.0) (below_named source c tick levels each ss h.1 r.1)
+abbrev pub IsOfNamed : Instance → Type 0
+IsOfNamed s = IsNamedModule s.step.definition
 
-pub instances_named : (source : Source) → AllByRecursion IsNamedPart source → (c : Corner) (tick : ℤ) (levels : ℕ) (s : Instance) → IsNamedStep s → AllByRecursion (HasNone source c tick) (instances_from source levels s)
-    → AllByRecursion IsNamedStep (instances_from source levels s)
-instances_named source named c tick zero s h f = (h, tt)
-instances_named source named c tick (suc levels) s h f = (
-  h,
-  below_named source c tick levels (λ x. instances_named source named c tick levels x) (children_at source (suc levels) s)
-      (from_named source levels (s.step ∷ s.above) (suc s.step.number) (children_in source s.step.definition) (children_named source named c tick s.step.definition h.0 f.0)) f.1,
-)
+pub each_child_named : (source : Source) (top : Module) (corner : Corner) → AllByRecursion (IsFaultless source top corner) (instances source top) → AllByRecursion IsOfNamed (instances source top)
+    → (s : Instance) → In s (instances source top) → AllByRecursion IsNamedChild (children_in source s.step.definition)
+each_child_named source top corner faultless named s there =
+    children_named source corner (tick_of source top) s.step.definition (all-in IsOfNamed s (instances source top) named there) (all-in (IsFaultless source top corner) s (instances source top) faultless there)
+
+pub instance_named : (source : Source) (top : Module) (corner : Corner) → AllByRecursion (IsFaultless source top corner) (instances source top) → AllByRecursion IsOfNamed (instances source top)
+    → (x : Instance) → In x (instances source top) → IsNameText x.step.name
+instance_named source top corner faultless named x there = elim (has-parent source levels_below_top (top_instance top) x refl there) [
+  | inl e ↦ subst HasGoodName (sym e) (subst IsOfNamed e (all-in IsOfNamed x (instances source top) named there)).name
+  | inr p ↦ all-in HasGoodName x (children source p.parent) (at_named source p.parent.step.levels p.parent (each_child_named source top corner faultless named p.parent p.there)) p.child
+]

@@ -5,10 +5,11 @@ pub mod NamedMeanings
 pub mod NamedTokens
 pub mod Yields
 pub mod WordLaws
+pub mod DefinedModules
 pub mod InstanceLaws
 pub mod DeclaredNames
 pub mod DeclaringTrees
 pub mod VariableNames
 pub mod InstanceNames
-pub mod NamedTops
+pub mod NoFaultBelow
 pub mod ScopeLaws

@@ -11,7 +11,6 @@ use Rattle.sg_circuit.specs.Circuit.{Circuit, Scope, Variable}
 use Rattle.sg_circuit.specs.declared.scopes.Range.{Range}
 use Rattle.sg_delay.specs.declared.corners.Corner.{Corner}
 use Rattle.vl_tree.specs.Tree.{Module, Source}
-use Rattle.elab_model.specs.Delays.{tick_of}
 use Rattle.elab_model.specs.Hierarchy.{Instance, children_in, instances, levels_below_top, top_instance}
 use Rattle.elab_model.specs.Names.{variables}
 use Rattle.elab_model.specs.Nets.{nets}
@@ -33,10 +32,11 @@ use Rattle.vcd_laws.proofs.Shared.{Shares, adjusted_shares}
 use Rattle.written_reading.specs.Named.{AreApart, IsIndex, IsNameText, IsTick, IsVariableText}
 use Rattle.written_names.specs.NamedScopes.{HasNamedScopes}
 use Rattle.written_names.proofs.DeclaredNames.{IsNamedModule, IsNamedPart}
+use Rattle.written_names.proofs.DefinedModules.{instances_are, top_is}
 use Rattle.written_names.proofs.DeclaringTrees.{source_is}
 use Rattle.written_names.proofs.InstanceLaws.{HasName, other-below, siblings-one}
-use Rattle.written_names.proofs.InstanceNames.{IsNamedChild, IsNamedStep, children_named, instances_named}
-use Rattle.written_names.proofs.NamedTops.{IfTop, none_below, top_named}
+use Rattle.written_names.proofs.InstanceNames.{IsNamedChild, IsOfNamed, each_child_named, instance_named}
+use Rattle.written_names.proofs.NoFaultBelow.{none_below}
 use Rattle.written_names.proofs.VariableNames.{variables_are}
 use Rattle.written_names.proofs.WordLaws.{tokens_are_good}
 
@@ -139,14 +139,7 @@ top_made source top =
 
 record IsSound (source : Source) (top : Module) (corner : Corner) : Type 0 where
   faultless : AllByRecursion (IsFaultless source top corner) (instances source top)
-  steps : AllByRecursion IsNamedStep (instances source top)
-  named : AllByRecursion IsNamedPart source
-
-all_named : (source : Source) (top : Module) (corner : Corner) → IsSound source top corner → AllByRecursion (λ (s : Instance). AllByRecursion HasName (children_in source s.step.definition)) (instances source top)
-all_named source top corner h =
-    all-from (λ (s : Instance). AllByRecursion HasName (children_in source s.step.definition)) (instances source top)
-    (λ s there. all-weaker IsNamedChild HasName (children_in source s.step.definition) (λ c k. k.some)
-    (children_named source h.named corner (tick_of source top) s.step.definition (all-in IsNamedStep s (instances source top) h.steps there).0 (all-in (IsFaultless source top corner) s (instances source top) h.faultless there)))
+  named : AllByRecursion IsOfNamed (instances source top)
 
 scopes_named : (source : Source) (top : Module) (corner : Corner) → IsSound source top corner → (c : Circuit) → c.scopes ≡ map (scope_of (nets source top) source) (instances source top) → HasNames c → AreNamed (map (scope_of (nets source top) source) (instances source top))
 scopes_named source top corner h c same names = record {
@@ -154,15 +147,15 @@ scopes_named source top corner h c same names = record {
   others = λ s some l. let m = is_made source top s l in
       subst (λ (x : Scope). IsSome x.parent) (sym m.scope) (other-below source top m.instance m.there (subst (λ n. 0 < n) (sym m.number) some));
   scope_names = λ s some l. let m = is_made source top s l in
-      subst (λ (x : Scope). IsNameText x.name) (sym m.scope) (all-in IsNamedStep m.instance (instances source top) h.steps m.there).1;
+      subst (λ (x : Scope). IsNameText x.name) (sym m.scope) (instance_named source top corner h.faultless h.named m.instance m.there);
   siblings = λ s t l k parents same_names. let m = is_made source top s l in let n = is_made source top t k in
-      sym m.number ∙ (ap number (siblings-one source top corner h.faultless (all_named source top corner h) m.instance n.instance m.there n.there
+      sym m.number ∙ (ap number (siblings-one source top corner h.faultless (λ x there. all-weaker IsNamedChild HasName (children_in source x.step.definition) (λ c k. k.some) (each_child_named source top corner h.faultless h.named x there)) m.instance n.instance m.there n.there
       (sym (ap (λ (x : Scope). x.parent) m.scope) ∙ (parents ∙ ap (λ (x : Scope). x.parent) n.scope)) (sym (ap (λ (x : Scope). x.name) m.scope) ∙ (same_names ∙ ap (λ (x : Scope). x.name) n.scope))) ∙ n.number);
   variables = All-from_get_or (λ (x : Scope). All IsVariableText x.variables) ss blank (λ s l. let m = is_made source top s l in
       All-from_recursion IsVariableText (slice_index_or ss s blank).variables
       (texts_are (slice_index_or ss s blank).variables
       (subst (λ (x : Scope). AllByRecursion (λ (v : Variable). IsNameText v.name) x.variables) (sym m.scope)
-      (all-map (λ (v : Variable). IsNameText v.name) (scope_variable (nets source top) source m.instance) (variables m.instance.step.definition) (variables_are m.instance.step.definition (all-in IsNamedStep m.instance (instances source top) h.steps m.there).0)))
+      (all-map (λ (v : Variable). IsNameText v.name) (scope_variable (nets source top) source m.instance) (variables m.instance.step.definition) (variables_are m.instance.step.definition (all-in IsOfNamed m.instance (instances source top) h.named m.there))))
       (subst (λ (xs : List Scope). AllByRecursion IsWritten (slice_index_or xs s blank).variables) same (names.scopes s (subst (λ (xs : List Scope). s < length xs) (sym same) l)).1)));
   apart = All-from_get_or (λ (x : Scope). AreApart x.variables) ss blank (λ s l. let m = is_made source top s l in subst (λ (x : Scope). AreApart x.variables) (sym m.scope) (variables_apart source top m.instance));
 }
@@ -187,15 +180,8 @@ read-has_named_scopes texts name corner c r =
     parts : AllByRecursion IsNamedPart r.tree
     parts = source_is r.tokens (tokens_are_good texts r.tokens r.are_tokens) 0 (length r.tokens) r.tree r.are_tree
 
-    top : IsNamedModule r.is_elaborated.top
-    top = subst IfTop r.is_elaborated.is_top (top_named r.tree parts name)
-
-    faultless : AllByRecursion (IsFaultless r.tree r.is_elaborated.top corner) (instances r.tree r.is_elaborated.top)
-    faultless = each-faultless r.tree r.is_elaborated.top corner (faultless-parts r.tree r.is_elaborated.top corner (none_below r.tree name corner r.is_elaborated.top r.is_elaborated.is_top r.is_elaborated.no_fault)).plain
-
     sound : IsSound r.tree r.is_elaborated.top corner
     sound = record {
-      faultless = faultless;
-      steps = instances_named r.tree parts corner (tick_of r.tree r.is_elaborated.top) levels_below_top (top_instance r.is_elaborated.top) (top, top.name) faultless;
-      named = parts;
+      faultless = each-faultless r.tree r.is_elaborated.top corner (faultless-parts r.tree r.is_elaborated.top corner (none_below r.tree name corner c r.is_elaborated)).plain;
+      named = instances_are IsNamedModule r.tree parts r.is_elaborated.top (top_is IsNamedModule r.tree parts name r.is_elaborated.top r.is_elaborated.is_top);
     }
