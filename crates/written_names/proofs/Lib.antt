@@ -2,3 +2,9 @@
 pub mod OwnNets
 pub mod ScopeNets
 pub mod PathPorts
+pub mod Directions
+pub mod PathSpots
+pub mod ElementSpots
+pub mod WrittenSpots
+pub mod WrittenChecks
+pub mod Read

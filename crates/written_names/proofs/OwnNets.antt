@@ -3,8 +3,7 @@ use Rattle.std.specs.Prelude.{◌≡◌, ◌⊎◌, ℕ, ◌<◌, List, [], ◌�
 use Rattle.std.specs.List.{AllByRecursion}
 use Rattle.std.proofs.Common.{sym, ◌∙◌, ap, arith, inl, inr, subst}
 use Rattle.std.proofs.lemmas.Bool.{eq-eqb}
-use Rattle.sg_circuit.specs.declared.scopes.Port.{Port}
-use Rattle.sg_circuit.specs.declared.scopes.Port.TheVariants.{Input, Output, Inner}
+use Rattle.sg_circuit.specs.declared.scopes.Port.TheVariants.{Input, Output}
 use Rattle.vl_tree.specs.Tree.{Module, Source}
 use Rattle.elab_model.specs.Bits.{Bit, net, constant}
 use Rattle.elab_model.specs.Connections.{bound_to}

@@ -1,6 +1,5 @@
 -- The scope of an instance, and that its bits are nets of the scope's variables.
-use Rattle.std.specs.Prelude.{◌≡◌, ℕ, zero, suc, ◌+◌, ◌<◌, All, Contains, List, [], ◌∷◌, Some, length, map, slice_get, slice_index_or, refl}
-use Rattle.std.specs.List.{AllByRecursion}
+use Rattle.std.specs.Prelude.{◌≡◌, ℕ, zero, suc, ◌<◌, Contains, List, [], ◌∷◌, Some, length, map, slice_get, slice_index_or}
 use Rattle.std.proofs.Common.{sym, ◌∙◌, ap, arith, inl, inr, subst}
 use Rattle.std.proofs.lemmas.List.Elements.{All-from_recursion}
 use Rattle.sg_circuit.specs.Circuit.{Variable as ScopeVariable, scope_at}

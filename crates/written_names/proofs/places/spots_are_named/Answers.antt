@@ -1,7 +1,6 @@
-use Rattle.written_names.proofs.OwnNets.{output-alone}
-use Rattle.written_names.proofs.ScopeNets.{net-of}
-use Rattle.written_names.proofs.PathPorts.{outputs-led}
+-- The law is a lemma.
+use Rattle.written_names.proofs.Read.{read-spots}
 use Rattle.written_names.proofs.places.spots_are_named.Goals as goal
 
 pub returns : goal.returns
-returns c = ?
+returns c = read-spots
