@@ -8,3 +8,4 @@ pub mod ElementSpots
 pub mod WrittenSpots
 pub mod WrittenChecks
 pub mod Read
+pub mod AlikeWritten
