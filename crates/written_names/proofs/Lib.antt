@@ -13,3 +13,13 @@ pub mod VariableNames
 pub mod InstanceNames
 pub mod NoFaultBelow
 pub mod ScopeLaws
+pub mod OwnNets
+pub mod ScopeNets
+pub mod PathPorts
+pub mod Directions
+pub mod PathSpots
+pub mod ElementSpots
+pub mod WrittenSpots
+pub mod WrittenChecks
+pub mod Read
+pub mod AlikeWritten

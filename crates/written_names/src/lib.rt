@@ -4,3 +4,5 @@
 mod scopes;
 
 pub use scopes::scopes_are_named;
+mod places;
+pub use places::{checks_are_named, spots_are_named};
