@@ -1,0 +1,7 @@
+-- The modules of this folder.
+pub mod GoodBytes
+pub mod NamedPieces
+pub mod NamedMeanings
+pub mod NamedTokens
+pub mod Yields
+pub mod WordLaws

@@ -1,0 +1,6 @@
+//! Circuits of netlists have names that lead back: proofs alone.
+#![tactic(auto)]
+
+mod laws;
+
+pub use laws::netlist_is_settled;
