@@ -5,3 +5,7 @@ pub mod NamedMeanings
 pub mod NamedTokens
 pub mod Yields
 pub mod WordLaws
+pub mod BareConditions
+pub mod DefinedModules
+pub mod AdjustedAgain
+pub mod SpelledBlocks
