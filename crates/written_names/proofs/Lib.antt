@@ -9,3 +9,9 @@ pub mod BareConditions
 pub mod DefinedModules
 pub mod AdjustedAgain
 pub mod SpelledBlocks
+pub mod SpelledModules
+pub mod ReadModules
+pub mod CheckUseLaws
+pub mod SettledLaws
+pub mod PathUseLaws
+pub mod ConditionLaws

@@ -240,7 +240,7 @@ arguments_are ts good limited place (TwoLimits c) =
     made_of ts IsSpelledCheck (λ (x : tree.Event × (tree.Event × Limits)). tree.two_limit_check place c x.0 x.1.0 x.1.1.0 x.1.1.1.0 x.1.1.1.1.0 x.1.1.1.1.1.0 x.1.1.1.1.1.1) (event ∙∙ (mark Comma ▸ (event ∙∙ (mark Comma ▸ limits))))
     (λ i j x h. let r = then ts good (λ (y : tree.Event × Limits). IsSpelledEvent y.0 × Unit {0}) (event ∙∙ (mark Comma ▸ limits)) (then ts good (λ (y : Limits). Unit {0}) limits (any ts limits)) i j x h in (r.0, r.1.0))
   where
-    abbrev Limits : Type 0
+    Limits : Type 0
     Limits = tree.Limit × (tree.Limit × (Option Named × Delayed))
 
     limits : Grammar Limits
