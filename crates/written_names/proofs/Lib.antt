@@ -15,3 +15,4 @@ pub mod CheckUseLaws
 pub mod SettledLaws
 pub mod PathUseLaws
 pub mod ConditionLaws
+pub mod ReadConditions

@@ -3,4 +3,4 @@
 
 mod laws;
 
-pub use laws::netlist_is_settled;
+pub use laws::{netlist_has_conditions, netlist_is_settled};
