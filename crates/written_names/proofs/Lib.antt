@@ -23,3 +23,13 @@ pub mod WrittenSpots
 pub mod WrittenChecks
 pub mod Read
 pub mod AlikeWritten
+pub mod BareConditions
+pub mod AdjustedAgain
+pub mod SpelledBlocks
+pub mod SpelledModules
+pub mod ReadModules
+pub mod CheckUseLaws
+pub mod SettledLaws
+pub mod PathUseLaws
+pub mod ConditionLaws
+pub mod ReadConditions
