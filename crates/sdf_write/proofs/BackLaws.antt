@@ -9,15 +9,17 @@ use Rattle.written_model.specs.Faults.{IsFaultless}
 use Rattle.written_model.specs.Text.{text}
 use Rattle.written_model.specs.Tree.{tree}
 use Rattle.written_reading.proofs.WholeText.{text_read_back}
-use Rattle.written_reading.specs.Named.{IsNamed, IsTick}
+use Rattle.written_names.proofs.Whole.{named_of}
+use Rattle.written_names.specs.Netlists.{IsOfNetlist}
+use Rattle.written_reading.specs.Named.{IsTick}
 use Rattle.written_reading.specs.ReadBack.{IsReadAs}
 use Rattle.written_giving.proofs.TreeBack.{tree_back}
 use Rattle.written_giving.specs.AnnotatedBack.{IsGivenBack, IsSettled}
 
-pub read_as : (c : Circuit) (r : Result (Vec ℕ) WriteError) → IsClosed c → IsTick c.tick → OnOk r (IsFaultless c) → IfOk r (λ v. v.items ≡ text c) → IsNamed c → IfOk r (λ v. IsReadAs (tree c) v.items)
-read_as c (Ok v) closed tick faultless same named = subst (IsReadAs (tree c)) (sym same) (text_read_back c closed tick named faultless)
-read_as c (Err e) closed tick faultless same named = tt
+pub read_as : (c : Circuit) (r : Result (Vec ℕ) WriteError) → IsClosed c → IsTick c.tick → OnOk r (IsFaultless c) → IfOk r (λ v. v.items ≡ text c) → IsOfNetlist c → IfOk r (λ v. IsReadAs (tree c) v.items)
+read_as c (Ok v) closed tick faultless same of = subst (IsReadAs (tree c)) (sym same) (text_read_back c closed tick (named_of c of) faultless)
+read_as c (Err e) closed tick faultless same of = tt
 
-pub gives_back : (c : Circuit) (r : Result (Vec ℕ) WriteError) → IsClosed c → OnOk r (IsFaultless c) → IsNamed c → IsSettled c → OnOk r (IsGivenBack c)
-gives_back c (Ok v) closed faultless named settled = tree_back c closed named settled faultless
-gives_back c (Err e) closed faultless named settled = tt
+pub gives_back : (c : Circuit) (r : Result (Vec ℕ) WriteError) → IsClosed c → OnOk r (IsFaultless c) → IsOfNetlist c → IsSettled c → OnOk r (IsGivenBack c)
+gives_back c (Ok v) closed faultless of settled = tree_back c closed (named_of c of) settled faultless
+gives_back c (Err e) closed faultless of settled = tt

@@ -5,7 +5,8 @@ ghost use Rattle.written_giving.specs.AnnotatedBack.{IsGivenBack, IsSettled};
 ghost use Rattle.written_model.specs.Faults.{FaultStands, IsFaultless};
 ghost use Rattle.written_model.specs.Text.{text};
 ghost use Rattle.written_model.specs.Tree.{tree};
-ghost use Rattle.written_reading.specs.Named.{IsNamed, IsTick};
+ghost use Rattle.written_names.specs.Netlists.{IsOfNetlist};
+ghost use Rattle.written_reading.specs.Named.{IsTick};
 ghost use Rattle.written_reading.specs.ReadBack.{IsReadAs};
 
 use sg_circuit::Circuit;
@@ -36,10 +37,10 @@ pub fn sdf_text(alloc: Global, circuit: &Circuit) -> Result<Vec<u8>, WriteError>
     ensures faultless { OnOk result (IsFaultless circuit.now) }
     // A fault that is told stands in its scope.
     ensures fault { IfErr result (FaultStands circuit.now) }
-    // Of a circuit whose names lead back, the text is read as its tree.
-    ensures read_back { IsNamed circuit.now → IfOk result (λ made. IsReadAs (tree circuit.now) made.items) }
-    // And annotation with the tree gives its delays and limits back, whatever stands in their place.
-    ensures given_back { IsNamed circuit.now → IsSettled circuit.now → OnOk result (IsGivenBack circuit.now) }
+    // Of a netlist's circuit, whatever delays and limits it has, the text is read as its tree.
+    ensures read_back { IsOfNetlist circuit.now → IfOk result (λ made. IsReadAs (tree circuit.now) made.items) }
+    // And where its limits are settled, annotation with the tree gives them and its delays back, whatever stands in their place.
+    ensures given_back { IsOfNetlist circuit.now → IsSettled circuit.now → OnOk result (IsGivenBack circuit.now) }
 {
     text_of(alloc, circuit)
 }

@@ -1,2 +1,3 @@
--- The modules of this folder.
+-- The modules of this folder, in reading order.
+pub mod Netlists
 pub mod NamedScopes
