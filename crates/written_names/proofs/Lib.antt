@@ -1,4 +1,5 @@
 -- The modules of this folder, in reading order.
+pub mod NoFaultBelow
 pub mod OwnNets
 pub mod ScopeNets
 pub mod PathPorts
