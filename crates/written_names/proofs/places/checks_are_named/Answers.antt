@@ -1,6 +1,6 @@
 -- The law of the netlist's circuit, and that it stays.
 use Rattle.written_names.proofs.AlikeWritten.{checks-stay}
-use Rattle.written_names.proofs.Read.{read-checks}
+use Rattle.written_names.proofs.ReadCircuits.{read-checks}
 use Rattle.written_names.proofs.places.checks_are_named.Goals as goal
 
 pub returns : goal.returns

@@ -1,6 +1,6 @@
 -- The law of the netlist's circuit, and that it stays.
 use Rattle.written_names.proofs.AlikeWritten.{spots-stay}
-use Rattle.written_names.proofs.Read.{read-spots}
+use Rattle.written_names.proofs.ReadCircuits.{read-spots}
 use Rattle.written_names.proofs.places.spots_are_named.Goals as goal
 
 pub returns : goal.returns
