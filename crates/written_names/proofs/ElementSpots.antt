@@ -2,7 +2,7 @@
 use Rattle.std.specs.Prelude.{◌≡◌, ℕ, ◌<◌, ◌&&◌, ◌||◌, not, List, [], ◌∷◌, Bool, true, false, Option, Some, None, find, flat_map, if◌then◌else◌, length, map, refl, zip}
 use Rattle.std.specs.List.{AllByRecursion, enumerate_from, list_any}
 use Rattle.std.proofs.Common.{sym, ◌∙◌, ap, arith, subst}
-use Rattle.sg_circuit.specs.Circuit.{Kind, Gate, Udp, Pass, Leg, Path as a_path, Late, scope_at}
+use Rattle.sg_circuit.specs.Circuit.{Kind, Gate, Udp, Pass, Path as a_path, scope_at}
 use Rattle.sg_circuit.specs.Closed.{width_of}
 use Rattle.sg_delay.specs.declared.corners.Corner.{Corner}
 use Rattle.sg_text.specs.declared.places.Place.{Place}
@@ -13,7 +13,7 @@ use Rattle.elab_model.specs.Definitions.{definition_of}
 use Rattle.elab_model.specs.Delays.{delays_of, tick_of}
 use Rattle.elab_model.specs.Elements.{Component, bound_above, child_at, child_elements, constant_pass, elements_of, expression_bits, input_bits, input_spot, instance_elements, late_at, leg_at, leg_source, legs, member_elements, output_bits, output_count, output_element, pass_to, path_at, port_elements, port_spot, terminal_elements, variable_legs}
 use Rattle.elab_model.specs.Ends.{driven, first_ends, inner_spot}
-use Rattle.elab_model.specs.Hierarchy.{Instance, Step, has_no_child, instances, is_empty, is_leaf}
+use Rattle.elab_model.specs.Hierarchy.{Instance, has_no_child, instances, is_empty, is_leaf}
 use Rattle.elab_model.specs.Homes.{Spot, bit, has_leg, home_of, inner, is_input, is_same_spot, terminal}
 use Rattle.elab_model.specs.Lates.{DelayedCopy, own_copies}
 use Rattle.elab_model.specs.Leaves.{whole}
@@ -34,54 +34,11 @@ use Rattle.elab_laws.proofs.Firsts.{and-both}
 use Rattle.elab_laws.proofs.Legs.{leg-own, variable-is}
 use Rattle.elab_laws.proofs.Lists.{In, all-anyway, all-append, all-flat, all-flat_in, all-from, all-map, all-range, all-weaker, found-is}
 use Rattle.elab_laws.proofs.Stated.{found-own}
-use Rattle.elab_closed.proofs.Fits.{home-outer}
 use Rattle.annotation_model.specs.Spots.{Spot as Written, spots_in, spots_of}
 use Rattle.written_reading.specs.Named.{IsInputOf, IsNamedSpot}
+use Rattle.written_names.proofs.OuterReads.{IsOuter, IsPlain, ReadsNoInner, all-outer, outer-home, outer-input, outer-leg, plain-none}
 use Rattle.written_names.proofs.PathSpots.{IsSoundAt, input-named, led-named, use-of}
 use Rattle.written_names.proofs.ScopeNets.{same-instance, scope-there}
-
--- ---- what reads no inner net
-
-abbrev ReadsNoInner : List Spot → Type 0
-ReadsNoInner spots = (t : ℕ) (m : List ℕ) (q : ℕ) → list_any (is_same_spot (inner t m q)) spots ≡ false
-
-abbrev IsOuter : Spot → Type 0
-IsOuter spot = (t : ℕ) (m : List ℕ) (q : ℕ) → is_same_spot (inner t m q) spot ≡ false
-
-all-outer : (spots : List Spot) → AllByRecursion IsOuter spots → ReadsNoInner spots
-all-outer [] h t m q = refl
-all-outer (x ∷ xs) h t m q = ap (λ b. b || list_any (is_same_spot (inner t m q)) xs) (h.0 t m q) ∙ all-outer xs h.1 t m q
-
-outer-home : (source : Source) (s : Instance) (n : List ℕ) (p : ℕ) → IsOuter (home_of source s n p)
-outer-home source s n p t m q = home-outer source s.step s.above n p t m q
-
-outer-leg : (source : Source) (s : Step) (over : List Step) (n : List ℕ) (p : ℕ) (b : Option Bit) → IsOuter (leg_source source s over n p b)
-outer-leg source s [] n p b t m q = refl
-outer-leg source s (parent ∷ above) n p None t m q = refl
-outer-leg source s (parent ∷ above) n p (Some (constant at v)) t m q = refl
-outer-leg source s (parent ∷ above) n p (Some (net k i)) t m q = home-outer source parent above k i t m q
-
-outer-input : (source : Source) (s : Instance) (k : ℕ) (x : ℕ × Bit) → IsOuter (input_spot source s k x)
-outer-input source s k (i, net n p) t m q = outer-home source s n p t m q
-outer-input source s k (i, constant at v) t m q = refl
-
--- ---- kinds with no spots
-
-abbrev IsPlain : Kind → Type 0
-IsPlain (Gate kind delays) = Unit {0}
-IsPlain (Udp primitive first delays) = Unit {0}
-IsPlain (Pass value) = Unit {0}
-IsPlain (Leg timings) = ⊥
-IsPlain (a_path paths style) = ⊥
-IsPlain (Late delay) = Unit {0}
-
-plain-none : (P : Written → Type 0) (s : ℕ) (inputs : List ℕ) (output : ℕ) (k : Kind) → IsPlain k → AllByRecursion P (spots_in s inputs output k)
-plain-none P s inputs output (Gate kind delays) h = tt
-plain-none P s inputs output (Udp primitive first delays) h = tt
-plain-none P s inputs output (Pass value) h = tt
-plain-none P s inputs output (Leg timings) h = absurd h
-plain-none P s inputs output (a_path paths style) h = absurd h
-plain-none P s inputs output (Late delay) h = tt
 
 or-false : (b : Bool) → (b || false) ≡ true → b ≡ true
 or-false true h = refl

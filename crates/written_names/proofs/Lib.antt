@@ -18,10 +18,11 @@ pub mod ScopeNets
 pub mod PathPorts
 pub mod Directions
 pub mod PathSpots
+pub mod OuterReads
 pub mod ElementSpots
 pub mod WrittenSpots
 pub mod WrittenChecks
-pub mod Read
+pub mod ReadCircuits
 pub mod AlikeWritten
 pub mod BareConditions
 pub mod AdjustedAgain
