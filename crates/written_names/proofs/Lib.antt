@@ -34,3 +34,6 @@ pub mod SettledLaws
 pub mod PathUseLaws
 pub mod ConditionLaws
 pub mod ReadConditions
+pub mod LikeLaws
+pub mod AnnotatedSettled
+pub mod AnnotatedLike
