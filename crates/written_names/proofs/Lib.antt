@@ -37,3 +37,4 @@ pub mod ReadConditions
 pub mod LikeLaws
 pub mod AnnotatedSettled
 pub mod AnnotatedLike
+pub mod Whole

@@ -3,7 +3,7 @@ use Rattle.sg_circuit.specs.Circuit.{Circuit}
 use Rattle.written_reading.specs.Named.{IsNamed}
 use Rattle.written_names.specs.Netlists.{IsOfNetlist}
 use Rattle.written_names.proofs.LikeLaws.{like_named}
-use Rattle.written_names.proofs.Read.{read-checks, read-spots}
+use Rattle.written_names.proofs.ReadCircuits.{read-checks, read-spots}
 use Rattle.written_names.proofs.ReadConditions.{read_conditions}
 use Rattle.written_names.proofs.ScopeLaws.{read-has_named_scopes}
 

@@ -16,5 +16,4 @@ pub fn netlists_lead_back()
     ensures named { (c : Circuit) → IsOfNetlist c → IsNamed c }
     ensures settled { (texts : List (List ℕ)) (top : Option (List ℕ)) (corner : Corner) (c : Circuit) → IsRead texts top corner c → IsSettled c }
     ensures annotated { (from made : Circuit) (sdf : Sdf) (corner : Corner) → IsSettled from → IsAdjustedFrom (annotated from sdf corner) made → IsSettled made }
-{
-}
+{}
