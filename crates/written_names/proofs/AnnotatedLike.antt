@@ -1,5 +1,5 @@
 -- Annotation changes delays and limits alone.
-use Rattle.std.specs.Prelude.{◌≡◌, ℕ, suc, ℤ, pos, List, [], ◌∷◌, length, map}
+use Rattle.std.specs.Prelude.{◌≡◌, ℕ, ℤ, pos, List, [], ◌∷◌, length, map}
 use Rattle.std.specs.List.{AllByRecursion}
 use Rattle.std.proofs.Common.{refl, sym, ◌∙◌, ap, arith}
 use Rattle.sg_circuit.specs.Checks.{CheckConditions}
@@ -14,7 +14,7 @@ use Rattle.sdf_tree.specs.Meant.{Sdf}
 use Rattle.annotation_model.specs.Annotated.{annotated_by, annotated_check, annotated_element, annotated_kind, annotated_path}
 use Rattle.annotation_model.specs.Given.{Given}
 use Rattle.annotation_model.specs.Spots.{Checked, all_checked, checked, limits_after}
-use Rattle.late_limits.specs.Adjusted.{IsAdjustedFrom, adjusted, late_delay, late_element, late_kind}
+use Rattle.late_limits.specs.Adjusted.{IsAdjustedFrom, late_delay, late_element, late_kind}
 use Rattle.written_giving.specs.AnnotatedBack.{IsLike, IsSettled, stripped, stripped_check, stripped_element, stripped_kind, stripped_path}
 use Rattle.written_names.proofs.AnnotatedSettled.{IsFit, check_fit, own_fit, two_of}
 

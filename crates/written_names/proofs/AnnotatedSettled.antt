@@ -14,7 +14,7 @@ use Rattle.sdf_tree.specs.Meant.{Sdf, Triple}
 use Rattle.annotation_model.specs.Annotated.{annotated_by, annotated_check}
 use Rattle.annotation_model.specs.Applied.{Bounds, Grid, chosen_if, limit_or, with_limits}
 use Rattle.annotation_model.specs.Given.{Given}
-use Rattle.annotation_model.specs.Spots.{Checked, after, all_checked, bounds, checked, given_to, grid, is_for_check, limits_after, limits_with}
+use Rattle.annotation_model.specs.Spots.{Checked, after, all_checked, bounds, checked, given_to, grid, is_for_check, limits_with}
 use Rattle.late_limits.specs.Adjusted.{IsAdjustedFrom}
 use Rattle.elab_laws.proofs.Lists.{all-map, all-weaker}
 use Rattle.written_giving.specs.AnnotatedBack.{IsSettled}

@@ -6,7 +6,6 @@ use Rattle.std.proofs.lemmas.Bool.{eqb-true}
 use Rattle.std.proofs.lemmas.List.Elements.{All-from_recursion}
 use Rattle.cond_expr.specs.declared.scan.Phase.{Phase}
 use Rattle.cond_expr.specs.declared.scan.Phase.TheVariants.{Operand, Name, Whole}
-use Rattle.cond_expr.specs.declared.tokens.Op.{Op}
 use Rattle.cond_expr.specs.declared.tokens.Tok.TheVariants as tok
 use Rattle.cond_expr.specs.Grammar.{IsCondition}
 use Rattle.cond_expr.specs.Kinds.{is_prefix, precedence}

@@ -1,8 +1,8 @@
 -- The timing checks of instances have spelled conditions, and limits below 0 only where delayed copies may meet them.
-use Rattle.std.specs.Prelude.{◌≡◌, ℕ, ℤ, pos, ◌-ℤ◌, ◌≤ℤ◌, Bool, true, false, IfSome, List, [], ◌∷◌, Option, Some, None, map, if◌then◌else◌}
+use Rattle.std.specs.Prelude.{◌≡◌, ℕ, ℤ, pos, ◌-ℤ◌, ◌≤ℤ◌, Bool, true, false, IfSome, List, Option, Some, None, map, if◌then◌else◌}
 use Rattle.std.specs.List.{AllByRecursion}
 use Rattle.std.specs.Option.{option_map}
-use Rattle.std.proofs.Common.{refl, arith}
+use Rattle.std.proofs.Common.{arith}
 use Rattle.std.proofs.lemmas.Int.{ints}
 use Rattle.cond_expr.specs.Token.{Tok}
 use Rattle.cond_expr.specs.Tree.{Cond}
@@ -11,7 +11,6 @@ use Rattle.sg_delay.specs.declared.corners.Corner.{Corner}
 use Rattle.sg_delay.specs.declared.corners.Corner.TheVariants.{Min, Typ, Max}
 use Rattle.vl_tree.specs.Tree.{Check, Event, Limit, Module, SignedAmount, Source, Word, one_limit, one_limit_check, period_check, three_limits, two_limit_check, width_check}
 use Rattle.vl_tree.specs.declared.check_names.TwoLimitCheck.TheVariants as two
-use Rattle.vl_tree.specs.declared.check_names.OneLimitCheck.TheVariants as one
 use Rattle.elab_model.specs.Delays.{tick_of}
 use Rattle.elab_model.specs.Drivers.{elements}
 use Rattle.elab_model.specs.Hierarchy.{Instance, instances}

@@ -1,7 +1,6 @@
 -- What a circuit has that differs from another in delays and limits alone: its names, and two limits a check.
-use Rattle.std.specs.Prelude.{◌≡◌, ℕ, ℤ, pos, ◌<◌, ◌==◌, Bool, true, false, All, IfSome, IsSome, List, [], ◌∷◌, ◌++◌, length, map, Option, Some, None, if◌then◌else◌}
+use Rattle.std.specs.Prelude.{◌≡◌, ℕ, ℤ, pos, ◌<◌, ◌==◌, Bool, true, false, All, IfSome, IsSome, List, [], ◌∷◌, ◌++◌, length, map, None, if◌then◌else◌}
 use Rattle.std.specs.List.{AllByRecursion, flat_map}
-use Rattle.std.specs.Option.{option_map}
 use Rattle.std.proofs.Common.{refl, sym, ◌∙◌, ap, subst}
 use Rattle.std.proofs.lemmas.Grind.{flat_map-append}
 use Rattle.std.proofs.lemmas.List.{length-map}
@@ -9,7 +8,7 @@ use Rattle.std.proofs.lemmas.List.Elements.{All-from_recursion, All-weaker, recu
 use Rattle.std.proofs.lemmas.List.Folds.{flat_map-map}
 use Rattle.cond_expr.specs.Token.{Tok}
 use Rattle.sg_circuit.specs.Checks.{CheckConditions}
-use Rattle.sg_circuit.specs.Circuit.{Circuit, Variable, scope_at}
+use Rattle.sg_circuit.specs.Circuit.{Circuit, scope_at}
 use Rattle.sg_circuit.specs.declared.checks.Check.{Check}
 use Rattle.sg_circuit.specs.declared.checks.CheckKind.{CheckKind}
 use Rattle.sg_circuit.specs.declared.checks.CheckKind.TheVariants as kind
@@ -19,7 +18,7 @@ use Rattle.elab_laws.proofs.Lists.{all-map, all-map_back, all-weaker, flat-same}
 use Rattle.written_model.specs.Entries.{CheckEntry, PathEntry, check_entries, check_entry, checks_at, numbers_of, parts_of, path_entries, path_key, paths_at}
 use Rattle.written_model.specs.Faults.{conditions, datum_conditions, event_conditions, path_conditions}
 use Rattle.written_reading.specs.Named.{AreApart, IsNamed, IsNamedCheck, IsNamedSpot, IsNameText, IsVariableOf, IsVariableText, IsWrittenCondition}
-use Rattle.written_giving.specs.AnnotatedBack.{IsLike, stripped, stripped_check, stripped_element}
+use Rattle.written_giving.specs.AnnotatedBack.{IsLike, stripped_check}
 use Rattle.written_giving.proofs.FromLaws.{bare_checked, checked-alike}
 use Rattle.written_giving.proofs.SpotLaws.{bare_spot, spots-alike}
 

@@ -1,5 +1,5 @@
 -- Names among the pieces of a netlist's text have bytes, all good ones.
-use Rattle.std.specs.Prelude.{◌≡◌, ℕ, ◌==◌, ◌&&◌, Bool, true, false, not, nat_eq, codes, IfSome, List, [], ◌∷◌, drop, length, take, Option, Some, None, is_some, if◌then◌else◌, refl}
+use Rattle.std.specs.Prelude.{◌≡◌, ℕ, ◌==◌, ◌&&◌, Bool, true, false, nat_eq, codes, IfSome, List, [], ◌∷◌, drop, take, Option, Some, None, is_some, if◌then◌else◌, refl}
 use Rattle.std.specs.List.{list_all}
 use Rattle.std.specs.Char.{is_ascii_digit}
 use lib.Pointwise.{pointwise}

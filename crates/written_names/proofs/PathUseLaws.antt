@@ -1,7 +1,7 @@
 -- The paths of instances have spelled conditions.
-use Rattle.std.specs.Prelude.{◌≡◌, ◌<◌, ℕ, ℤ, Bool, true, false, IfSome, List, [], ◌∷◌, Option, Some, None, filter, find, map}
+use Rattle.std.specs.Prelude.{◌≡◌, ◌<◌, ℕ, ℤ, List, [], ◌∷◌, Option, Some, None, filter, find}
 use Rattle.std.specs.List.{AllByRecursion}
-use Rattle.std.proofs.Common.{refl, arith, subst}
+use Rattle.std.proofs.Common.{refl, arith}
 use Rattle.sg_circuit.specs.Circuit.{Element, Kind, Gate, Udp, Pass, Leg, Path, Late}
 use Rattle.sg_circuit.specs.Closed.{NamesNets}
 use Rattle.sg_circuit.specs.Paths as circuit
@@ -25,7 +25,7 @@ use Rattle.elab_model.specs.ModuleFaults.{module_faults}
 use Rattle.circuit_model.specs.PathUses.{PathUse, bit_number, circuit_elements, kind_by, path_use, path_uses, path_uses_of, reads, with_paths}
 use Rattle.elab_laws.specs.Laws.{AreSound}
 use Rattle.elab_laws.proofs.Filters.{all-filter}
-use Rattle.elab_laws.proofs.Lists.{all-anyway, all-flat_in, all-from, all-in, all-map, all-weaker, found-is}
+use Rattle.elab_laws.proofs.Lists.{all-anyway, all-flat_in, all-in, all-map, all-weaker, found-is}
 use Rattle.elab_closed.proofs.Fits.{Fits, elements-fit}
 use Rattle.written_names.proofs.BareConditions.{IsSpelled}
 use Rattle.written_names.proofs.SpelledBlocks.{IsSpelledCondition, IsSpelledPath}

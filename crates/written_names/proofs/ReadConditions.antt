@@ -1,20 +1,17 @@
 -- The conditions of a circuit that is read of a netlist.
-use Rattle.std.specs.Prelude.{◌≡◌, ◌<◌, ℕ, All, List, [], ◌∷◌, Option, Ok, map}
+use Rattle.std.specs.Prelude.{◌≡◌, ℕ, All, List, [], ◌∷◌, Option, map}
 use Rattle.std.specs.List.{AllByRecursion, IsAmong}
 use Rattle.std.proofs.Common.{refl, sym, ◌∙◌, ap, subst, arith}
-use Rattle.sg_circuit.specs.Checks.{CheckConditions}
-use Rattle.sg_circuit.specs.Circuit.{Circuit, Element, Kind, Gate, Udp, Pass, Leg, Path, Late}
+use Rattle.sg_circuit.specs.Circuit.{Circuit, Kind, Gate, Udp, Pass, Leg, Path, Late}
 use Rattle.sg_delay.specs.declared.corners.Corner.{Corner}
-use Rattle.vl_tree.specs.Tree.{Module, Source}
+use Rattle.vl_tree.specs.Tree.{Source}
 use Rattle.elab_model.specs.Faults.{Fault}
-use Rattle.elab_model.specs.Hierarchy.{instances}
 use Rattle.elab_model.specs.HierarchyFaults.{two_definitions}
 use Rattle.elab_model.specs.Tops.{top_of}
 use Rattle.circuit_model.specs.CheckUses.{check_uses, written_of_use}
 use Rattle.circuit_model.specs.Circuits.{circuit}
 use Rattle.circuit_model.specs.Elaboration.{IsElaborated, in_list}
 use Rattle.circuit_model.specs.Faults.{faults, faults_below, top_faults}
-use Rattle.circuit_model.specs.PathUses.{circuit_elements}
 use Rattle.elab_laws.specs.Laws.{AreSound}
 use Rattle.elab_laws.proofs.Lists.{all-map, all-weaker}
 use Rattle.elab_laws.proofs.NoFaults.{back, each-faultless}

@@ -1,5 +1,5 @@
 -- Conditions in trees that good tokens spell are conditions of good words, and limits have a sign only where they may lie below 0.
-use Rattle.std.specs.Prelude.{◌≡◌, ℕ, ℤ, Bool, true, false, IfSome, List, [], Option, Some, None, unwrap_or, map}
+use Rattle.std.specs.Prelude.{◌≡◌, ℤ, Bool, true, false, IfSome, List, Option, Some, None, unwrap_or}
 use Rattle.std.specs.List.{AllByRecursion}
 use Rattle.std.proofs.Common.{refl}
 use Rattle.sg_text.specs.declared.places.Place.{Place}
@@ -15,7 +15,7 @@ use Rattle.vl_tree.specs.Amounts.{amount, limit, limit_of, limit_parts, plain_li
 use Rattle.vl_tree.specs.Checks.{Delayed, arguments, arguments_of, arguments_parts, between, check, check_name, check_parts, event, event_parts, last_arguments, threshold_and_notifier, trailing_name}
 use Rattle.vl_tree.specs.Conditions.{condition, condition_parts, index, index_parts, tok_of, vocabulary, word_of, word_of_symbol}
 use Rattle.vl_tree.specs.Expressions.{int}
-use Rattle.vl_tree.specs.Kinds.{is_symbol, kind_of, kind_of_meaning}
+use Rattle.vl_tree.specs.Kinds.{is_symbol, kind_of}
 use Rattle.vl_tree.specs.Paths.{PathBody, check_edge, conditional, conditional_parts, path, path_body, path_parts, term, terms}
 use Rattle.vl_tree.specs.Primitives.{is_there}
 use Rattle.vl_tree.specs.Rules.{Grammar, either, listed, many, mark, optional, placed, word}

@@ -1,5 +1,5 @@
 -- The modules of a tree that good tokens spell have blocks with spelled conditions.
-use Rattle.std.specs.Prelude.{ℕ, true, List, [], ◌∷◌, Option, Some, None, filter_map, flat_map, ◌≡◌, IfSome}
+use Rattle.std.specs.Prelude.{true, List, Option, Some, flat_map, ◌≡◌, IfSome}
 use Rattle.std.specs.List.{AllByRecursion}
 use Rattle.std.proofs.Common.{subst}
 use Rattle.sg_logic.specs.declared.gates.GateKind.{GateKind}
@@ -27,7 +27,7 @@ use Rattle.elab_laws.proofs.Once.{all-kept}
 use Rattle.written_names.proofs.DefinedModules.{OfPart}
 use Rattle.written_names.proofs.SpelledBlocks.{IsSpelledCheck, IsSpelledPath, IsSpelledSpecify, block_is}
 use Rattle.written_names.proofs.WordLaws.{AreGood}
-use Rattle.written_names.proofs.Yields.{Yields, any, before, behind, made_of, of_either, of_many, of_second}
+use Rattle.written_names.proofs.Yields.{Yields, before, behind, made_of, of_either, of_many, of_second}
 
 abbrev IsSpelledItem : Item → Type 0
 IsSpelledItem i = AllByRecursion IsSpelledSpecify (items_of_item i)

@@ -1,8 +1,8 @@
 -- What the lexer takes for names and indexes is so in SDF files too: names are texts of names, and indexes are short.
-use Rattle.std.specs.Prelude.{◌≡◌, ℕ, zero, suc, ℤ, ◌<◌, ◌^◌, true, List, [], ◌∷◌, Option, Some, None, Ok, IfSome, slice_get}
+use Rattle.std.specs.Prelude.{◌≡◌, ℕ, zero, suc, ◌<◌, ◌^◌, true, List, [], ◌∷◌, Option, Some, None, Ok, IfSome, slice_get}
 use Rattle.std.specs.List.{AllByRecursion}
 use Rattle.std.proofs.Common.{subst}
-use Rattle.grammar.specs.Rule.{◌∙∙◌, mapped, one as one_of}
+use Rattle.grammar.specs.Rule.{◌∙∙◌, one as one_of}
 use Rattle.vl_lex.specs.Lexes.{Lexes}
 use Rattle.vl_token.specs.declared.symbols.Symbol.TheVariants.{Minus}
 use Rattle.vl_token.specs.Tokens.{Lexeme, Meaning, byte_token, left_out_token, module_word, name_token, number_token, other_token, pair_token, sized_token, symbol_token, system_token, unsized_token, word_token}
