@@ -16,7 +16,7 @@ use Rattle.fan_round.specs.Lists.{at_places}
 use Rattle.fan_round.specs.Nets.{differs}
 use Rattle.fan_round.proofs.ListLaws.{test_same, test_other, each_from-at, length-at_places, at_places-more}
 use Rattle.time_checks.specs.declared.events.Events.{Events}
-use Rattle.time_checks.specs.declared.latest.Latest.{Latest}
+use Rattle.time_checks.specs.declared.recent.Recent.{Recent}
 use Rattle.time_checks.specs.Falling.{DontFall}
 use Rattle.time_checks.specs.Times.{grown}
 use Rattle.time_checks.specs.Events.{event_times, datum_times, moment}
@@ -81,7 +81,7 @@ followed last values changed many covers =
     at j false h true d = let no : false ≡ true = sym h ∙ covers.each j d in cc
 
 -- one check's violations
-one_found : (number : ℕ) (check : AdjustedCheck) (latest : Latest) (time : ℕ) (values : List Value) (last : Snapshot) (older : List Snapshot) → DontFall time (last ∷ older)
+one_found : (number : ℕ) (check : AdjustedCheck) (latest : Recent) (time : ℕ) (values : List Value) (last : Snapshot) (older : List Snapshot) → DontFall time (last ∷ older)
     → StandsFor latest (event_times check.refer (last ∷ older)) (datum_times check.datum (last ∷ older))
     → found_at number check (instant_of time (events_at check last.values values) latest) ≡ violations_at number check (moment check (record { time = time; values = values }) (last ∷ older))
 one_found number check latest time values last older f s =
@@ -90,7 +90,7 @@ one_found number check latest time values last older f s =
     ∙ ap (violations_at number check) (sym (moment-is check (record { time = time; values = values }) last older))
 
 -- one check's latest times
-one_stands : (check : AdjustedCheck) (latest : Latest) (time : ℕ) (values : List Value) (last : Snapshot) (older : List Snapshot) → DontFall time (last ∷ older)
+one_stands : (check : AdjustedCheck) (latest : Recent) (time : ℕ) (values : List Value) (last : Snapshot) (older : List Snapshot) → DontFall time (last ∷ older)
     → StandsFor latest (event_times check.refer (last ∷ older)) (datum_times check.datum (last ∷ older))
     → StandsFor (next_of time (events_at check last.values values) latest) (event_times check.refer (record { time = time; values = values } ∷ last ∷ older)) (datum_times check.datum (record { time = time; values = values } ∷ last ∷ older))
 one_stands check latest time values last older f s =
@@ -120,7 +120,7 @@ sees-first kept next time changed values old none e = record { found = []; added
     at (last ∷ older) s f h = let no : false ≡ true = sym none ∙ s.seen in cc
 
 -- a later one
-pub sees-next : (kept next : Kept) (time : ℕ) (changed : List ℕ) (values : List Value) (latest : List Latest) (old new : List Violation) → kept.seen ≡ true → length kept.latest ≡ length kept.checks → length kept.last ≡ length values
+pub sees-next : (kept next : Kept) (time : ℕ) (changed : List ℕ) (values : List Value) (latest : List Recent) (old new : List Violation) → kept.seen ≡ true → length kept.latest ≡ length kept.checks → length kept.last ≡ length values
     → next ≡ record kept { last = at_places (λ net before. value_at values net) X changed kept.last; latest = latest }
     → SeesChanges kept.checks changed kept.last values time kept.latest latest old new → Sees kept next time changed values old new
 sees-next kept next time changed values latest old new seen each many e made = record { found = made.found; added = made.added; each = at }
@@ -154,7 +154,7 @@ sees-next kept next time changed values latest old new seen each many e made = r
         )
 
 -- a new checker
-pub new-stands : (checks : List AdjustedCheck) (last : List Value) (latest : List Latest) (n : ℕ) → latest ≡ replicate n no_times → Stands (record { checks = checks; seen = false; last = last; latest = latest }) []
+pub new-stands : (checks : List AdjustedCheck) (last : List Value) (latest : List Recent) (n : ℕ) → latest ≡ replicate n no_times → Stands (record { checks = checks; seen = false; last = last; latest = latest }) []
 new-stands checks last latest n e = record {
   seen = refl;
   last = tt;

@@ -6,7 +6,7 @@ use Rattle.sg_circuit.specs.declared.checks.Event.{Event}
 use Rattle.time_checks.specs.Adjusted.{AdjustedCheck}
 use Rattle.sg_model.specs.Machine.{Snapshot}
 use Rattle.time_checks.specs.declared.events.Events.{Events}
-use Rattle.time_checks.specs.declared.latest.Latest.{Latest}
+use Rattle.time_checks.specs.declared.recent.Recent.{Recent}
 use Rattle.time_checks.specs.declared.violations.Part.{Part}
 use Rattle.time_checks.specs.declared.violations.Part.TheVariants.{Setup, Hold, Recovery, Removal, Width, Period, Skew}
 use Rattle.time_checks.specs.Parts.{parts_of}
@@ -87,7 +87,7 @@ untouched-events check last now u =
     no_datum_of (Some event) s = no_event event last now s
 
 -- and its latest times stay
-pub untouched-latest : (check : AdjustedCheck) (time : ℕ) (last now : List Value) (latest : Latest) → IsUntouched check last now → next_of time (events_at check last now) latest ≡ latest
+pub untouched-latest : (check : AdjustedCheck) (time : ℕ) (last now : List Value) (latest : Recent) → IsUntouched check last now → next_of time (events_at check last now) latest ≡ latest
 untouched-latest check time last now latest u = ap (λ e. next_of time e latest) (untouched-events check last now u)
 
 -- the same nets once more

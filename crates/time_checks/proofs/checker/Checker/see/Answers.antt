@@ -6,7 +6,7 @@ use Rattle.sg_logic.specs.declared.values.Value.TheVariants.{X}
 use Rattle.sg_model.specs.Machine as model
 use Rattle.sg_model.specs.Values.{value_at}
 use Rattle.fan_round.specs.Lists.{at_places}
-use Rattle.time_checks.specs.declared.latest.Latest.{Latest}
+use Rattle.time_checks.specs.declared.recent.Recent.{Recent}
 use Rattle.time_checks.specs.declared.violations.Violation.{Violation}
 use Rattle.time_checks.specs.Seen.{violation_seen}
 use Rattle.time_checks.specs.AdjustedSeen.{all_seen}
@@ -47,5 +47,5 @@ returns-clause-seen c =
     (sees-next kept next c.args.now changed values c.see_changes.new.latest old new c.if-not-self.false c.self.invariant.each_check many
     (ap (λ vs. with_both kept vs next.latest) last ∙ ap (with_both kept (at_places (λ net before. value_at values net) X changed kept.last)) latest) made)
   where
-    with_both : Kept → List Value → List Latest → Kept
+    with_both : Kept → List Value → List Recent → Kept
     with_both k values latest = record k { last = values; latest = latest }
