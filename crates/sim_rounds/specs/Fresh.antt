@@ -15,6 +15,7 @@ use Rattle.sim_rounds.specs.Simulated.{first_state, machine_of}
 -- they are as the circuit is before time 0
 pub record IsFresh (circuit : Circuit) (nets : Nets) (last_told : Told) (work : WorkList) (parts : ElementsSeen) (pending : List (List (ℕ × Value))) (fan : List (List ℕ)) (driven : List ℕ) : Type 0 where
   pub circuit_of : parts.circuit ≡ circuit
+  pub earlier_of : parts.earlier ≡ []
   pub states : parts.states ≡ (first_state circuit).states
   pub values : nets.values.items ≡ (first_state circuit).values
   pub before : nets.before.items ≡ (first_state circuit).values
