@@ -6,6 +6,7 @@ pub mod Elements
 pub mod CircuitChecks
 pub mod Moments
 pub mod MomentsSeen
+pub mod MomentLaws
 pub mod Notifiers
 pub mod Fresh
 pub mod Setting

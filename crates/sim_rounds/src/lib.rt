@@ -16,7 +16,7 @@ mod stops;
 
 pub use elements::CircuitElements;
 pub use fitting::fits;
-pub use laws::circuit_is_lawful;
+pub use laws::{circuit_is_lawful, moments_of_runs_fit};
 pub use moments::{LastChange, Moment, Pending};
 pub use resumed::Resumed;
 pub use sim::{Finished, Sim, Tally};
