@@ -72,8 +72,8 @@ impl<'a, A: Agenda + Drop> Resumed<'a, A> {
         requires nets { length (W.circuit watcher.old).nets ≤ length self.circuit.now.nets }
         requires told { W.stands watcher.old shelf.old (told_of (moment_seen self.moment.now)) }
         requires stimulus { IsApplied self.circuit.now (stimulus_seen stimulus.now) }
-        ensures stopped { HasStopped W.stands W.broken watcher.old watcher.new shelf.old shelf.new self.entry.circuit.now self.entry.moment.now.latest.items (setting_since self.entry.circuit.now (stimulus_seen stimulus.now) rounds (moment_seen self.entry.moment.now))
-            (origin_at self.entry.circuit.now stimulus.now.end (moment_seen self.entry.moment.now)) until self.entry.moment.now.evaluations (steps.new - steps.old) result }
+        ensures stopped { HasStopped W.stands W.broken watcher.old watcher.new shelf.old shelf.new self.entry.circuit.now self.entry.moment.now.latest.items (setting_since self.entry.circuit.now (record (stimulus_seen stimulus.now) { end = until }) rounds (moment_seen self.entry.moment.now))
+            (origin_at self.entry.circuit.now until (moment_seen self.entry.moment.now)) until self.entry.moment.now.evaluations (steps.new - steps.old) result }
         ensures steps { steps.old ≤ steps.new }
         ensures cause { CauseOfEnd (S.fault_count shelf.old) (S.fault_count shelf.new) (end_of result) }
         ensures named { NamesFaultOfEnd (W.name watcher.old) (S.last_fault shelf.old) (S.last_fault shelf.new) (end_of result) }
