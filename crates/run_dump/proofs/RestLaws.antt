@@ -30,13 +30,6 @@ StandsForRest files = λ w s calls. HoldsRest w (files s) calls
 abbrev pub BreaksInRest : {S : Type 0} → (S → Option (List File)) → Writer → S → List Call → Type 0
 BreaksInRest files = λ w s calls. BeginsRest w (files s) calls
 
--- the engine's moment and circuit are those that it was given
-pub rest_given : {W S : Type 0} (stands broken : W → S → List Call → Type 0) (w w' : W) (a b : S) (circuit circuit' : Circuit) (stimulus : Stimulus) (bound : ℕ) (m m' : Moment) (found : List Violation) (changed taken : ℕ) (end : Result (Unit {0}) SimEnd) → circuit' ≡ circuit → m' ≡ m
-    → HasEndedFrom stands broken w w' a b (setting_since circuit' stimulus bound m') (origin_at circuit' stimulus.end m') found changed taken end → HasEndedFrom stands broken w w' a b (setting_since circuit stimulus bound m) (origin_at circuit stimulus.end m) found changed taken end
-rest_given stands broken w w' a b circuit circuit' stimulus bound m m' found changed taken end of at h =
-    subst (λ x. HasEndedFrom stands broken w w' a b (setting_since circuit stimulus bound x) (origin_at circuit stimulus.end x) found changed taken end) at
-    (subst (λ x. HasEndedFrom stands broken w w' a b (setting_since x stimulus bound m') (origin_at x stimulus.end m') found changed taken end) of h)
-
 -- a run goes on from a moment before the end
 goes_on : (circuit : Circuit) (stimulus : Stimulus) (bound : ℕ) (m : Moment) → m.time < stimulus.end → GoesOnFrom (setting_since circuit stimulus bound m) (origin_at circuit stimulus.end m) (snapshot_of m)
 goes_on circuit stimulus bound m before =

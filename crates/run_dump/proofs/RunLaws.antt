@@ -3,7 +3,7 @@ use Rattle.std.proofs.Common.{◌≡◌, ◌∙◌, sym, ap, refl, subst, ℕ, z
 use Rattle.std.proofs.lemmas.List.{append-nil}
 use Rattle.std.specs.Prelude.{Option, Some, None, Result, Ok, Err, IfOk}
 use Rattle.std.specs.Global.{Vec}
-use Rattle.sg_io.specs.Faults.{Cause, FaultsTold, NamesFault, Rises, next_count}
+use Rattle.sg_io.specs.Faults.{FaultsTold, Rises, next_count}
 use Rattle.sg_io.specs.Files.{File, BothTell, HasAfter}
 use Rattle.sg_io.specs.Memory.{ShelfInMemory}
 use Rattle.sg_io.specs.declared.outside.ShelfError.{ShelfError}
@@ -13,7 +13,7 @@ use Rattle.sg_model.specs.Time.{Run}
 use Rattle.sg_model.specs.Run.{Finished, last_change, lasts}
 use Rattle.time_checks.specs.Seen.{violation_seen}
 use Rattle.time_checks.specs.declared.violations.Violation as code_violation
-use Rattle.sim_times.specs.Runs.{Origin, Setting, AllCallsFrom, CallsFrom, CallsMadeFrom, CauseOfEnd, HasEnded, HasEndedFrom, HasEndedTimesFrom, HasStoppedFrom, NamesFaultOfEnd, origin_of, run_for, run_from, times_to}
+use Rattle.sim_times.specs.Runs.{Origin, Setting, AllCallsFrom, CallsFrom, CallsMadeFrom, CauseOfEnd, HasEnded, HasEndedFrom, HasEndedTimesFrom, HasStoppedFrom, origin_of, run_for, run_from, times_to}
 use Rattle.sim_times.specs.Times.{count_shown}
 use Rattle.sim_times.specs.Watching.{AreTruthful, Call, Got, Broke}
 use Rattle.sim_times.specs.declared.runs.SimEnd.{SimEnd}
@@ -34,8 +34,7 @@ use Rattle.run_dump.proofs.FileLaws.{FileAs, held_begins, leaves_own}
 module _ {W S : Type 0} (stands broken : W → S → List Call → Type 0) (w w' : W) (a b : S) (Right : List Call → Type 0) (text_of : List Call → List ℕ) (name text : List ℕ) (told : Option (List File))
     (held : (made : List Call) → Got stands w w' a b made → Right made → FileHolds name (text_of made) told) (cut : (made : List Call) → Broke stands broken w w' a b made → Right made → FileBegins name (text_of made) told) (s : Setting) (o : Origin)
     (spent : (spent : ℕ × Option ℕ) (made : List Call) → (run_from s o o.left).spent ≡ Some spent → CallsFrom s o (times_to o.from spent.0) made → Right made × (text_of made ≡ text))
-    (begun : (n : ℕ) (made : List Call) → n ≤ o.left → (run_from s o n).spent ≡ None → CallsFrom s o n made → Right made × ((rest : List ℕ) × (text ≡ text_of made ++ rest)))
-where
+    (begun : (n : ℕ) (made : List Call) → n ≤ o.left → (run_from s o n).spent ≡ None → CallsFrom s o n made → Right made × ((rest : List ℕ) × (text ≡ text_of made ++ rest))) where
   whole_held : (made : List Call) → Right made × (text_of made ≡ text) → Got stands w w' a b made → FileHolds name text told
   whole_held made h got = subst (λ t. FileHolds name t told) h.1 (held made got h.0)
 
@@ -114,19 +113,6 @@ module _ {S : Type 0} (files : S → Option (List File)) (name : List ℕ) (circ
       (file_after (StandsFor files) (BreaksIn files) w w' a b AreTruthful (text_after w'.circuit) w'.name (text_for w'.circuit s) (files b) (λ made got right. (got.each [] starts right).file) (λ made broke right. broke.each [] starts right) s (origin_of s)
       (spent_whole w'.circuit s) (begun_run w'.circuit s) (whole_run w'.circuit s) violations found changed taken end h)
 
--- why there is no answer, after a writer that told of no failure
-pub end_cause : (violations : Vec code_violation.Violation) (first before now : ℕ) (end : Result (Unit {0}) SimEnd) → before ≡ first → CauseOfEnd before now end → Cause first now (with_found violations (spent_in end))
-end_cause violations first before now (Ok u) same h = h ∙ same
-end_cause violations first before now (Err (RoundsSpent time net)) same h = h ∙ same
-end_cause violations first before now (Err WatchFailed) same h = subst (λ k. Rises k now) same h
-end_cause violations first before now (Err NoMemory) same h = h ∙ same
-
-pub end_named : (violations : Vec code_violation.Violation) (name own : List ℕ) (first before now : Option (List ℕ)) (end : Result (Unit {0}) SimEnd) → own ≡ name → before ≡ first → NamesFaultOfEnd own before now end → NamesFault name first now (with_found violations (spent_in end))
-end_named violations name own first before now (Ok u) is same h = h ∙ same
-end_named violations name own first before now (Err (RoundsSpent time net)) is same h = h ∙ same
-end_named violations name own first before now (Err WatchFailed) is same h = h ∙ ap Some is
-end_named violations name own first before now (Err NoMemory) is same h = h ∙ same
-
 -- the times before a spent one are those of the whole run
 times_before : (from many time : ℕ) → time ≡ from + many → times_to from time ≡ many
 times_before zero many time e = let is : time ≡ many = omega arith in is
@@ -187,14 +173,14 @@ counts s spent found changed counted (taken, h, count) = count ∙ ap count_show
 
 -- what didn't rise from 0 didn't fail
 not_risen : (before now : ℕ) → before ≡ 0 → now ≡ before → Rises before now → ⊥
-not_risen before now zero same h =
-    let p : next_count 0 ≤ 0 = subst (λ k. next_count k ≤ k) zero (subst (λ k. next_count before ≤ k) same h.rose) in omega (arith, p)
+not_risen before now start same h =
+    let p : next_count 0 ≤ 0 = subst (λ k. next_count k ≤ k) start (subst (λ k. next_count before ≤ k) same h.rose) in omega (arith, p)
 
 never_fails : (before now : ℕ) (end : Result (Unit {0}) SimEnd) → before ≡ 0 → now ≡ before → CauseOfEnd before now end → WatcherFails end → ⊥
-never_fails before now (Ok u) zero same h fails = fails
-never_fails before now (Err (RoundsSpent time net)) zero same h fails = fails
-never_fails before now (Err WatchFailed) zero same h fails = not_risen before now zero same h
-never_fails before now (Err NoMemory) zero same h fails = fails
+never_fails before now (Ok u) start same h fails = fails
+never_fails before now (Err (RoundsSpent time net)) start same h fails = fails
+never_fails before now (Err WatchFailed) start same h fails = not_risen before now start same h
+never_fails before now (Err NoMemory) start same h fails = fails
 
 -- so a shelf in memory that was new, and stayed as it was, saw no failure
 pub none_failed : (old now : ShelfInMemory) (end : Result (Unit {0}) SimEnd) → old.faults ≡ record { count = 0; last = None } → now ≡ old

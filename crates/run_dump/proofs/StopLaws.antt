@@ -1,18 +1,16 @@
 -- What a run that is stopped leaves in the file of its dump, and what it tells, is what the definition's run up to there has.
-use Rattle.std.proofs.Common.{◌≡◌, ◌∙◌, sym, ap, subst, ℕ, suc, ◌+◌, List, [], ◌++◌, map, arith, zero-add}
+use Rattle.std.proofs.Common.{◌≡◌, ◌∙◌, ap, refl, ℕ, suc, ◌+◌, List, [], ◌++◌, map, arith, zero-add}
 use Rattle.std.specs.Prelude.{Option, Some, None, Result, Ok, Err, IfOk}
 use Rattle.std.specs.Global.{Vec}
-use Rattle.sg_io.specs.Faults.{Cause, NamesFault, Rises}
 use Rattle.sg_io.specs.Files.{File, BothTell, HasAfter}
 use Rattle.sg_circuit.specs.Circuit.{Circuit}
 use Rattle.sg_model.specs.Machine.{Violation}
 use Rattle.sg_model.specs.Time.{Run}
-use Rattle.sg_model.specs.Run.{last_change, lasts}
+use Rattle.sg_model.specs.Run.{Finished, last_change, lasts}
 use Rattle.sg_stimulus.specs.Stimulus.{Stimulus}
 use Rattle.time_checks.specs.Seen.{violation_seen}
-use Rattle.time_checks.specs.declared.latest.Latest.{Latest}
 use Rattle.time_checks.specs.declared.violations.Violation as code_violation
-use Rattle.sim_times.specs.Runs.{Origin, Setting, CauseOfEnd, HasStoppedFrom, NamesFaultOfEnd, origin_of, run_for}
+use Rattle.sim_times.specs.Runs.{Setting, HasStoppedFrom, origin_of, run_for}
 use Rattle.sim_times.specs.Times.{count_shown}
 use Rattle.sim_times.specs.Watching.{AreTruthful, Call}
 use Rattle.sim_times.specs.declared.runs.SimEnd.{SimEnd}
@@ -20,11 +18,12 @@ use Rattle.sim_times.specs.declared.runs.SimEnd.TheVariants.{RoundsSpent, WatchF
 use Rattle.sim_rounds.specs.Moments.{moment_of, run_up_to}
 use Rattle.sim_rounds.specs.Setting.{setting_of}
 use Rattle.sim_rounds.specs.Simulated.{first_state}
-use Rattle.sim_rounds.specs.Stopping.{HasStopped, end_of}
+use Rattle.sim_rounds.specs.Stopping.{HasStopped}
 use Rattle.sim_rounds.specs.declared.stops.Until.{Until}
 use Rattle.sim_rounds.specs.declared.stops.Until.TheVariants.{Ended, Paused}
 use Rattle.wave_out.specs.Files.{KeepsOthers, Leaves}
-use Rattle.wave_out.specs.Vcd.{header, vcd_begun}
+use Rattle.wave_out.specs.Scopes.{variables_of}
+use Rattle.wave_out.specs.Vcd.{dump, dump_text, header, vcd_begun}
 use Rattle.wave_out.specs.Writing.{Holds, Writer, text_after}
 use Rattle.wave_out.proofs.DumpLaws.{spent_stop, stop_begun, stopped_run}
 use Rattle.run_dump.specs.RunEnds.{HasReached, spent_in, stop_in, with_spent}
@@ -68,13 +67,16 @@ module _ {W S : Type 0} (stands broken : W → S → List Call → Type 0) (w w'
   spent_violations violations changed (Err NoMemory) h = tt
 
   pub stop_violations : (run : Until) → Stops run → IfOk (stop_in run) (λ end. map (λ v. violation_seen v) end.violations.items ≡ (run_up_to circuit bound stimulus until).run.violations)
-  stop_violations (Paused moment tally) (h, _) = h.0.violations
+  stop_violations (Paused moment tally) (h, _, _, _) = h.0.violations
   stop_violations (Ended finished) (_, h, _) = spent_violations finished.tally.violations finished.tally.last finished.end h
+
+-- its text begins with the header
+pub begun_parts : (circuit : Circuit) (f : Finished) → vcd_begun circuit f ≡ header circuit ++ dump_text (dump (variables_of circuit) (lasts f.run.snapshots))
+begun_parts circuit f = refl
 
 -- A new writer wrote the header of a circuit's dump, and was told of a run up to a time.
 module _ {S : Type 0} (files : S → Option (List File)) (name : List ℕ) (circuit : Circuit) (w : Writer) (old : Option (List File)) (a : S) (is : w ≡ record { name = name; circuit = circuit; last = None }) (new : BothTell old (files a) (HasAfter name (header circuit)))
-    (stimulus : Stimulus) (bound until taken : ℕ) (w' : Writer) (b : S)
-where
+    (stimulus : Stimulus) (bound until taken : ℕ) (w' : Writer) (b : S) where
   file_stopped : (run : Until) → Stops (StandsFor files) (BreaksIn files) w w' a b circuit stimulus bound until taken run → FileAs w'.name (vcd_begun w'.circuit (run_up_to circuit bound stimulus until)) (files b) (stop_in run)
   file_stopped run h = at run h
     where
@@ -85,7 +87,7 @@ where
       begun = starts files name circuit w old a is new
 
       at : (run : Until) → Stops (StandsFor files) (BreaksIn files) w w' a b circuit stimulus bound until taken run → FileAs w'.name (vcd_begun w'.circuit (run_up_to circuit bound stimulus until)) (files b) (stop_in run)
-      at (Paused moment tally) (h, _) =
+      at (Paused moment tally) (h, _, _, _) =
           file_paused (StandsFor files) (BreaksIn files) w w' a b AreTruthful (text_after w'.circuit) w'.name (vcd_begun w'.circuit (run_for s (suc until))) (files b) (λ made got right. (got.each [] begun right).file) (λ made broke right. broke.each [] begun right) s (origin_of s)
           (spent_stop w'.circuit s (suc until)) (λ n made. stop_begun w'.circuit s n (suc until) made) (λ made. stopped_run w'.circuit s (suc until) made (omega arith)) (map (λ v. violation_seen v) tally.violations.items) tally.last taken h
       at (Ended finished) (_, h, _) =
@@ -96,24 +98,3 @@ where
       → BothTell old (files b) (Leaves name (vcd_begun circuit (run_up_to circuit bound stimulus until)) (stop_in run))
   dump_stopped run same_name same_circuit others h =
       leaves_own (λ c. vcd_begun c (run_up_to circuit bound stimulus until)) name (header circuit) circuit w w' old (files a) (files b) (stop_in run) (ap (λ (x : Writer). x.name) is) (ap (λ (x : Writer). x.circuit) is) new same_name same_circuit others (file_stopped run h)
-
--- why it came to nothing
-spent_cause : (violations : Vec code_violation.Violation) (first before now : ℕ) (end : Result (Unit {0}) SimEnd) → before ≡ first → CauseOfEnd before now end → Cause first now (with_spent violations (spent_in end))
-spent_cause violations first before now (Ok u) same h = h ∙ same
-spent_cause violations first before now (Err (RoundsSpent time net)) same h = h ∙ same
-spent_cause violations first before now (Err WatchFailed) same h = subst (λ k. Rises k now) same h
-spent_cause violations first before now (Err NoMemory) same h = h ∙ same
-
-pub stop_cause : (first before now : ℕ) (run : Until) → before ≡ first → CauseOfEnd before now (end_of run) → Cause first now (stop_in run)
-stop_cause first before now (Paused moment tally) same h = h ∙ same
-stop_cause first before now (Ended finished) same h = spent_cause finished.tally.violations first before now finished.end same h
-
-spent_named : (violations : Vec code_violation.Violation) (name own : List ℕ) (first before now : Option (List ℕ)) (end : Result (Unit {0}) SimEnd) → own ≡ name → before ≡ first → NamesFaultOfEnd own before now end → NamesFault name first now (with_spent violations (spent_in end))
-spent_named violations name own first before now (Ok u) is same h = h ∙ same
-spent_named violations name own first before now (Err (RoundsSpent time net)) is same h = h ∙ same
-spent_named violations name own first before now (Err WatchFailed) is same h = h ∙ ap Some is
-spent_named violations name own first before now (Err NoMemory) is same h = h ∙ same
-
-pub stop_named : (name own : List ℕ) (first before now : Option (List ℕ)) (run : Until) → own ≡ name → before ≡ first → NamesFaultOfEnd own before now (end_of run) → NamesFault name first now (stop_in run)
-stop_named name own first before now (Paused moment tally) is same h = h ∙ same
-stop_named name own first before now (Ended finished) is same h = spent_named finished.tally.violations name own first before now finished.end is same h
