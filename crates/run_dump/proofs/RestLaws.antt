@@ -1,13 +1,13 @@
 -- What the rest of a run from a moment on leaves in the file of its dump is what the definition's has.
-use Rattle.std.proofs.Common.{◌≡◌, ◌∙◌, sym, ap, refl, subst, ℕ, ◌<◌, List, [], ◌∷◌, ◌++◌}
-use Rattle.std.specs.Prelude.{Option, Some, None, Result, Ok, Err}
+use Rattle.std.proofs.Common.{◌≡◌, ap, refl, ℕ, ◌<◌, List, [], ◌++◌}
+use Rattle.std.specs.Prelude.{Option, Some, Result}
 use Rattle.std.specs.Global.{Vec}
 use Rattle.sg_io.specs.Files.{File, BothTell, HasAfter}
 use Rattle.sg_circuit.specs.Circuit.{Circuit}
 use Rattle.sg_model.specs.Machine.{Snapshot, Violation}
 use Rattle.sg_stimulus.specs.Stimulus.{Stimulus}
 use Rattle.time_checks.specs.declared.violations.Violation as code_violation
-use Rattle.sim_times.specs.Runs.{Origin, Setting, HasEndedFrom, IsOrigin, run_from}
+use Rattle.sim_times.specs.Runs.{Origin, Setting, HasEndedFrom}
 use Rattle.sim_times.specs.Times.{Kept}
 use Rattle.sim_times.specs.Watching.{Call}
 use Rattle.sim_times.specs.declared.runs.SimEnd.{SimEnd}

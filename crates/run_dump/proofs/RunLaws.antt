@@ -10,7 +10,7 @@ use Rattle.sg_io.specs.declared.outside.ShelfError.{ShelfError}
 use Rattle.sg_circuit.specs.Circuit.{Circuit}
 use Rattle.sg_model.specs.Machine.{Violation}
 use Rattle.sg_model.specs.Time.{Run}
-use Rattle.sg_model.specs.Run.{Finished, last_change, lasts}
+use Rattle.sg_model.specs.Run.{last_change, lasts}
 use Rattle.time_checks.specs.Seen.{violation_seen}
 use Rattle.time_checks.specs.declared.violations.Violation as code_violation
 use Rattle.sim_times.specs.Runs.{Origin, Setting, AllCallsFrom, CallsFrom, CallsMadeFrom, CauseOfEnd, HasEnded, HasEndedFrom, HasEndedTimesFrom, HasStoppedFrom, origin_of, run_for, run_from, times_to}
@@ -146,6 +146,7 @@ pub record Finds (s : Setting) (spent : Option code_spent.Spent) (found : List V
   pub found_is : found ≡ (run_for s (suc s.end)).run.violations
   pub last_is : changed ≡ last_change s.first.values (lasts (run_for s (suc s.end)).run.snapshots)
   pub taken_is : taken ≡ (run_for s (suc s.end)).evaluations
+
 run_finds : {W S : Type 0} (stands broken : W → S → List Call → Type 0) (w w' : W) (a b : S) (s : Setting) (found : List Violation) (changed taken : ℕ) (end : Result (Unit {0}) SimEnd) (spent : Option code_spent.Spent)
     → HasEnded stands broken w w' a b s found changed taken end → ◌≡◌ {A = Result (Option code_spent.Spent) ShelfError} (Ok spent) (spent_in end) → Finds s spent found changed taken
 run_finds stands broken w w' a b s found changed taken (Ok u) spent (times, taken-is, _) e =

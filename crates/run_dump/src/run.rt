@@ -38,11 +38,7 @@ pub struct RunEnd {
 }
 
 // A wheel of so many buckets for the elements of a circuit, with nothing pending.
-pub(super) fn wheel_for(
-    alloc: Global,
-    circuit: &Circuit,
-    buckets: u32,
-) -> Result<Wheel, NoMemory>
+pub(super) fn wheel_for(alloc: Global, circuit: &Circuit, buckets: u32) -> Result<Wheel, NoMemory>
     requires some { 1 ≤ buckets }
     requires most { buckets ≤ 1048576 }
     ensures { IfOk result (λ wheel. wheel.lists ≡ replicate (length circuit.now.elements) []) }

@@ -99,8 +99,8 @@ fn reached_by(run: Until) -> Result<StopEnd, ShelfError>
     }
 }
 
-/// Simulates a circuit under a stimulus as `run_and_dump` does, up to a time before the end, and writes the dump of the times up to there: the
-/// end has no line.
+/// Simulates a circuit under a stimulus as `run_and_dump` does, up to a time before the end, and writes the dump of the
+/// times up to there: the end has no line.
 ///
 /// The errors are those of `run_and_dump`.
 pub fn stop_and_dump<S: Shelf>(
@@ -177,8 +177,8 @@ fn simulate_rest<S: Shelf, W: Watch<S>, L: Ledger>(
     Ok(sim.run(stimulus, bound, shelf, watcher, &mut steps))
 }
 
-/// Simulates the rest of a run, from the time after a moment that fits the circuit on, and writes the rest of the dump: what is behind the
-/// dump of the times up to the moment. Violations are those of the rest alone.
+/// Simulates the rest of a run, from the time after a moment that fits the circuit on, and writes the rest of the dump:
+/// what is behind the dump of the times up to the moment. Violations are those of the rest alone.
 ///
 /// The errors are those of `run_and_dump`.
 pub fn resume_and_dump<S: Shelf>(
