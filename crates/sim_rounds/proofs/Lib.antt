@@ -9,7 +9,10 @@ pub mod PlacingLaws
 mod Examples
 pub mod DelayLaws
 pub mod ElementLaws
+pub mod RestoredLaws
+pub mod EngineLaws
 pub mod SimLaws
+pub mod ResumedLaws
 pub mod PendingTimes
 pub mod PendingInvariants
 pub mod StampInvariants
@@ -19,3 +22,8 @@ pub mod RunInvariants
 pub mod EventTimes
 pub mod MomentForms
 pub mod MomentsFit
+pub mod PendingLaws
+pub mod VerdictLaws
+pub mod FittingLaws
+pub mod SettlingLaws
+mod MomentExamples

@@ -39,7 +39,7 @@ use Rattle.sim_rounds.proofs.MachineLaws.{output_at, steady}
 use Rattle.sim_rounds.proofs.MomentForms.{lists_again, near_of, pending_drivers, pending_here, pending_near, states_again}
 use Rattle.sim_rounds.proofs.PendingTimes.{NoneAfter}
 use Rattle.sim_rounds.proofs.RunInvariants.{IsReached, times_reached}
-use Rattle.sim_rounds.proofs.SimLaws.{applied_can, same_state}
+use Rattle.sim_rounds.proofs.EngineLaws.{applied_can, same_state}
 use Rattle.sim_rounds.proofs.StateInvariants.{Stands, farthest}
 
 -- what stands past the end of the elements
