@@ -22,6 +22,8 @@ pub mod RunInvariants
 pub mod EventTimes
 pub mod MomentForms
 pub mod MomentsFit
+pub mod PausingLaws
+pub mod StoppingLaws
 pub mod PendingLaws
 pub mod VerdictLaws
 pub mod FittingLaws

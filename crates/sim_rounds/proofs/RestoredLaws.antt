@@ -74,11 +74,11 @@ last_states elements m values is =
     let blank : Element = record { scope = 0; inputs = []; output = 0; kind = Pass None } in
     ext_get_or X values (each_from (computed_last m) 0 elements) (many ∙ sym (length-each_from (computed_last m) 0 elements))
     (λ n l.
-        (let known : n < length elements = subst (λ k. n < k) many l in
-        let within : n < length outputs = subst (λ k. n < k) (sym (length-map elements (λ (e : Element). value_at m.nets e.output))) known in
-        ap (λ vs. value_at vs n) is ∙ (value_put m.pending outputs n within
-        ∙ (ap (last_value (pending_of n m.pending)) (get_or-map (λ (e : Element). value_at m.nets e.output) elements n blank X known)
-        ∙ (ap (λ k. computed_last m k (slice_index_or elements n blank)) (sym (zero-add n)) ∙ sym (each_from-at (computed_last m) 0 elements n blank X known))))))
+    (let known : n < length elements = subst (λ k. n < k) many l in
+    let within : n < length outputs = subst (λ k. n < k) (sym (length-map elements (λ (e : Element). value_at m.nets e.output))) known in
+    ap (λ vs. value_at vs n) is ∙ (value_put m.pending outputs n within
+    ∙ (ap (last_value (pending_of n m.pending)) (get_or-map (λ (e : Element). value_at m.nets e.output) elements n blank X known)
+    ∙ (ap (λ k. computed_last m k (slice_index_or elements n blank)) (sym (zero-add n)) ∙ sym (each_from-at (computed_last m) 0 elements n blank X known))))))
 
 pub restored_states : (circuit : Circuit) (m : Moment) (parts : Parts) (elements : List code_element.Element) (nets values : List Value) (items pending : List code_pending.Pending) → circuit_seen parts ≡ circuit → elements ≡ parts.elements.items → nets ≡ m.nets → pending ≡ items → m.pending ≡ map (λ p. pending_seen p) items
     → values ≡ with_values (map (λ p. pending_seen p) pending) (map (λ e. value_at nets e.output) elements) → values ≡ (state_of circuit m).states
@@ -170,7 +170,7 @@ restored_lists circuit m before lists elements many each =
     let blank : Element = record { scope = 0; inputs = []; output = 0; kind = Pass None } in
     ext_get_or [] lists (each_from of 0 circuit.elements) (many ∙ (elements ∙ sym (length-each_from of 0 circuit.elements)))
     (λ e l. (let known : e < length before = subst (λ n. e < n) many l in
-        each e known ∙ (ap (λ k. pending_of k m.pending) (sym (zero-add e)) ∙ sym (each_from-at of 0 circuit.elements e blank [] (subst (λ n. e < n) elements known)))))
+    each e known ∙ (ap (λ k. pending_of k m.pending) (sym (zero-add e)) ∙ sym (each_from-at of 0 circuit.elements e blank [] (subst (λ n. e < n) elements known)))))
 
 -- the stamps of a moment that fits are near
 near_stamp : (time bound : ℕ) (driver : Driver) (value : Value) (o : Option LastChange) → IsStampOf time driver value (change_seen o) → time < bound → IfSome o (λ c. c.time < bound)
@@ -180,8 +180,8 @@ near_stamp time bound driver value (Some c) h l = (let q : c.time ≤ time = h.0
 pub near_stamps : (circuit : Circuit) (m : code_moment.Moment) (bound : ℕ) → Fits circuit (moment_seen m) → m.time < bound → All (λ o. IfSome o (λ c. c.time < bound)) m.stamps.items
 near_stamps circuit m bound fits near =
     λ i d l. (let within : i < length circuit.nets = subst (λ n. i < n) (sym (length-map m.stamps.items change_seen) ∙ fits.stamps) l in
-        near_stamp m.time bound (net_at circuit i).driver (value_at m.nets.items i) (slice_index_or m.stamps.items i d)
-        (subst (λ o. IsStampOf m.time (net_at circuit i).driver (value_at m.nets.items i) o) (get_or-map change_seen m.stamps.items i d None l) (fits.stamped i within)) near)
+    near_stamp m.time bound (net_at circuit i).driver (value_at m.nets.items i) (slice_index_or m.stamps.items i d)
+    (subst (λ o. IsStampOf m.time (net_at circuit i).driver (value_at m.nets.items i) o) (get_or-map change_seen m.stamps.items i d None l) (fits.stamped i within)) near)
 
 pub stamp_of_each : (circuit : Circuit) (m : code_moment.Moment) → Fits circuit (moment_seen m) → length m.stamps.items ≡ length m.nets.items
 stamp_of_each circuit m fits = sym (length-map m.stamps.items change_seen) ∙ (fits.stamps ∙ sym fits.nets)

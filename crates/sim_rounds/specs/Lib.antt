@@ -14,4 +14,5 @@ pub mod Restored
 pub mod Setting
 pub mod Evaluable
 pub mod Stopping
+pub mod Pausing
 pub mod Fitting

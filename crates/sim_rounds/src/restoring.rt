@@ -33,10 +33,7 @@ fn stamp_of(change: Option<LastChange>) -> Option<Stamp>
 }
 
 // Those of all nets.
-fn stamps_of(
-    alloc: Global,
-    changes: &[Option<LastChange>],
-) -> Result<Vec<Option<Stamp>>, NoMemory>
+fn stamps_of(alloc: Global, changes: &[Option<LastChange>]) -> Result<Vec<Option<Stamp>>, NoMemory>
     requires { All (λ change. IfSome change (λ c. c.time < 2 ^ 60)) changes.now }
     ensures { IfOk result (λ v. map stamp_seen v.items ≡ map change_seen changes.now) }
 {
