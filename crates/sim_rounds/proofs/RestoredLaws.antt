@@ -1,13 +1,12 @@
 -- What a moment says of pending transitions and of the values that elements computed last, place by place.
-use Rattle.std.specs.Prelude.{◌≡◌, ◌≢◌, ◌⊎◌, ℕ, zero, suc, ◌+◌, ◌<◌, ◌≤◌, ◌^◌, ◌==◌, true, if◌then◌else◌, All, IfSome, List, [], ◌∷◌, ◌++◌, length, map, drop, replicate, reverse, slice_index_or, slice_set, Option, Some, None, refl}
+use Rattle.std.specs.Prelude.{◌≡◌, ◌≢◌, ◌⊎◌, ℕ, suc, ◌+◌, ◌<◌, ◌≤◌, if◌then◌else◌, All, IfSome, List, [], ◌∷◌, ◌++◌, length, map, drop, reverse, slice_index_or, slice_set, Option, Some, None, refl}
 use Rattle.std.proofs.Common.{sym, ◌∙◌, ap, subst, arith, inl, inr, zero-add}
 use Rattle.std.proofs.lemmas.Bool.{cases_eq}
 use Rattle.std.proofs.lemmas.List.{append_assoc, drop_more, ext_get_or, get_or-map, get_or-set_other, get_or-set_same, length-map, length-set, reverse-append}
 use Rattle.sg_logic.specs.declared.values.Value.{Value}
 use Rattle.sg_logic.specs.declared.values.Value.TheVariants.{X}
-use Rattle.sg_model.specs.Agenda.{list_at, with_list, Rises}
+use Rattle.sg_model.specs.Agenda.{list_at, Rises}
 use Rattle.sg_model.specs.Pending.{last_value, value_of_first, Follows, IsAbove}
-use Rattle.sg_model.specs.Machine.{Stamp}
 use Rattle.sg_model.specs.Round.{each_from}
 use Rattle.sg_model.specs.Values.{value_at}
 use Rattle.sg_circuit.specs.Circuit.{Circuit, Element, Pass, element_at, net_at}
@@ -59,12 +58,6 @@ value_put (p ∷ ps) values n l =
         ap (last_value (pending_of n ps)) (get_or-set_other values p.driver n p.value X (λ q. other (sym q)))
         ∙ ap (λ xs. last_value xs (value_at values n)) (sym (other_first n p ps other))
 
--- one transition more is gone over
-pub put_more : (items : List code_pending.Pending) (i : ℕ) (d : code_pending.Pending) (values start : List Value) → i < length items
-    → with_values (map (λ p. pending_seen p) (drop i items)) values ≡ with_values (map (λ p. pending_seen p) items) start
-    → with_values (map (λ p. pending_seen p) (drop (i + 1) items)) (slice_set values (slice_index_or items i d).driver (slice_index_or items i d).value) ≡ with_values (map (λ p. pending_seen p) items) start
-put_more items i d values start l h = sym (ap (λ xs. with_values (map (λ p. pending_seen p) xs) values) (drop_more items i d l)) ∙ h
-
 -- the values that elements computed last are those of the state
 last_states : (elements : List Element) (m : Moment) (values : List Value) → values ≡ with_values m.pending (map (λ e. value_at m.nets e.output) elements)
     → values ≡ each_from (computed_last m) 0 elements
@@ -93,47 +86,10 @@ restored_states circuit m parts elements nets values items pending seen same n p
 pub length-restored : (circuit : Circuit) (m : Moment) (values : List Value) → values ≡ (state_of circuit m).states → length values ≡ length circuit.elements
 length-restored circuit m values is = ap length is ∙ length-each_from (computed_last m) 0 circuit.elements
 
--- on the agenda what was put there and what is left come to what the moment has
-list_put : (lists : List (List (ℕ × Value))) (p : Pending) (rest : List Pending) (e : ℕ) → e < length lists
-    → list_at (with_list lists p.driver (list_at lists p.driver ++ (p.time, p.value) ∷ [])) e ++ pending_of e rest ≡ list_at lists e ++ pending_of e (p ∷ rest)
-list_put lists p rest e l = at (cases_eq p.driver e)
-  where
-    at : (p.driver ≡ e) ⊎ (p.driver ≢ e) → list_at (with_list lists p.driver (list_at lists p.driver ++ (p.time, p.value) ∷ [])) e ++ pending_of e rest ≡ list_at lists e ++ pending_of e (p ∷ rest)
-    at (inl same) =
-        ap (λ k. list_at (with_list lists k (list_at lists k ++ (p.time, p.value) ∷ [])) e ++ pending_of e rest) same
-        ∙ (ap (λ xs. xs ++ pending_of e rest) (get_or-set_same lists e (list_at lists e ++ (p.time, p.value) ∷ []) [] l)
-        ∙ (append_assoc (list_at lists e) ((p.time, p.value) ∷ []) (pending_of e rest) ∙ ap (λ xs. list_at lists e ++ xs) (sym (own_first e p rest same))))
-    at (inr other) =
-        ap (λ xs. xs ++ pending_of e rest) (get_or-set_other lists p.driver e (list_at lists p.driver ++ (p.time, p.value) ∷ []) [] (λ q. other (sym q)))
-        ∙ ap (λ xs. list_at lists e ++ xs) (sym (other_first e p rest other))
-
 -- how an agenda stands to the one before, once so many transitions were put on it
 pub record HasPut (items : List code_pending.Pending) (i : ℕ) (before lists : List (List (ℕ × Value))) : Type 0 where
   pub many : length lists ≡ length before
   pub each : (e : ℕ) → e < length before → list_at lists e ++ pending_of e (map (λ p. pending_seen p) (drop i items)) ≡ pending_of e (map (λ p. pending_seen p) items)
-
-pub none_at : (n d : ℕ) → list_at (replicate n []) d ≡ []
-none_at zero d = refl
-none_at (suc n) zero = refl
-none_at (suc n) (suc d) = none_at n d
-
-pub none_put : (items : List code_pending.Pending) (before lists : List (List (ℕ × Value))) → lists ≡ before → ((e : ℕ) → e < length before → list_at before e ≡ []) → HasPut items 0 before lists
-none_put items before lists same none = record {
-  many = ap length same;
-  each = λ e l. ap (λ xs. xs ++ pending_of e (map (λ p. pending_seen p) items)) (ap (λ ls. list_at ls e) same ∙ none e l);
-}
-
-pub one_more_put : (items : List code_pending.Pending) (i : ℕ) (d : code_pending.Pending) (before lists new : List (List (ℕ × Value))) → i < length items → HasPut items i before lists
-    → new ≡ with_list lists (slice_index_or items i d).driver (list_at lists (slice_index_or items i d).driver ++ ((slice_index_or items i d).time, (slice_index_or items i d).value) ∷ [])
-    → HasPut items (i + 1) before new
-one_more_put items i d before lists new l h is =
-    let p : Pending = pending_seen (slice_index_or items i d) in
-    let rest : List Pending = map (λ q. pending_seen q) (drop (i + 1) items) in
-    record {
-      many = ap length is ∙ (length-set lists p.driver (list_at lists p.driver ++ (p.time, p.value) ∷ []) ∙ h.many);
-      each = λ e k. ap (λ ls. list_at ls e ++ pending_of e rest) is ∙ (list_put lists p rest e (subst (λ n. e < n) (sym h.many) k)
-          ∙ (ap (λ xs. list_at lists e ++ pending_of e (map (λ q. pending_seen q) xs)) (sym (drop_more items i d l)) ∙ h.each e k));
-    }
 
 -- times rise behind the front of a list
 rises_behind : (xs ys : List (ℕ × Value)) → Rises (xs ++ ys) → Rises ys
@@ -182,9 +138,6 @@ near_stamps circuit m bound fits near =
     λ i d l. (let within : i < length circuit.nets = subst (λ n. i < n) (sym (length-map m.stamps.items change_seen) ∙ fits.stamps) l in
     near_stamp m.time bound (net_at circuit i).driver (value_at m.nets.items i) (slice_index_or m.stamps.items i d)
     (subst (λ o. IsStampOf m.time (net_at circuit i).driver (value_at m.nets.items i) o) (get_or-map change_seen m.stamps.items i d None l) (fits.stamped i within)) near)
-
-pub stamp_of_each : (circuit : Circuit) (m : code_moment.Moment) → Fits circuit (moment_seen m) → length m.stamps.items ≡ length m.nets.items
-stamp_of_each circuit m fits = sym (length-map m.stamps.items change_seen) ∙ (fits.stamps ∙ sym fits.nets)
 
 -- its drivers are elements, and their transitions rise
 pub drivers_within : (circuit : Circuit) (m : code_moment.Moment) (n : ℕ) → Fits circuit (moment_seen m) → n ≡ length circuit.elements → All (λ p. p.driver < n) m.pending.items
