@@ -10,7 +10,7 @@ use Rattle.sg_io.specs.declared.outside.ShelfError.TheVariants as shelf
 use Rattle.sg_model.specs.Machine.{Violation}
 use Rattle.sg_model.specs.Time.{Run}
 use Rattle.sg_circuit.specs.Circuit.{Circuit}
-use Rattle.sim_times.specs.Runs.{Setting, AllCalls, CallsFor, CauseOfEnd, CallsMade, HasEnded, HasEndedTimes, run_for, start_of}
+use Rattle.sim_times.specs.Runs.{Setting, AllCalls, CallsFor, CauseOfEnd, CallsMadeFrom, HasEnded, HasEndedTimes, run_for, start_of, origin_of}
 use Rattle.sg_model.specs.Run.{last_change, lasts}
 use Rattle.sim_times.specs.Times.{count_shown}
 use Rattle.sim_times.specs.Watching.{AreTruthful, Call, Got, Broke}
@@ -80,7 +80,7 @@ begun_file s w told n made l none are first =
 held_begins : (name text : List ℕ) (told : Option (List File)) → FileHolds name text told → FileBegins name text told
 held_begins name text told h = subst (λ t. FileBegins name t told) (append-nil text) (begins name text [] told h)
 
-made_file : (s : Setting) (w : Writer) (told : Option (List File)) (n : ℕ) (found : List Violation) (changed : ℕ) (made : List Call) → HasEndedTimes s n found changed → CallsMade s n made
+made_file : (s : Setting) (w : Writer) (told : Option (List File)) (n : ℕ) (found : List Violation) (changed : ℕ) (made : List Call) → HasEndedTimes s n found changed → CallsMadeFrom s (origin_of s) n made
     → (AreTruthful made → FileBegins w.name (text_after w.circuit made) told) → FileBegins w.name (text_for w.circuit s) told
 made_file s w told n found changed made times (inl are) first = begun_file s w told n made times.within times.unspent are first
 made_file s w told n found changed made times (inr (is, all)) first = whole_broken s w told made (subst (λ k. (run_for s k).spent ≡ None) is times.unspent) all first
