@@ -1,6 +1,5 @@
 // Where a run is stopped.
 ghost use Rattle.std.specs.Prelude.{◌≡◌, map, option_map, codes};
-ghost use Rattle.std.specs.Option.{option_map as option_mapped};
 ghost use Rattle.run_words.specs.ArgumentsSeen.{argument_seen};
 ghost use Rattle.run_words.specs.Words.{stop_of, value_of};
 ghost use Rattle.run_words.specs.WordsSeen.{stop_seen};

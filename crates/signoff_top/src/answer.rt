@@ -14,9 +14,9 @@ use sg_io::{Shelf, Sink};
 use std::alloc::Global;
 
 /// Does what the words after the program's name ask for: reads the netlist from the shelf, annotates it with the delays and
-/// limits of the SDF file where one is named, reads the stimulus, simulates, whole, up to a stop, which is saved, or from a save on, writes the value change dump to the shelf, and
-/// puts the report to the sink; or reads and annotates, and puts the settle bounds; or makes the generated case, simulates it, and puts
-/// its summary. The status is the program's.
+/// limits of the SDF file where one is named, reads the stimulus, simulates, whole, up to a stop, which is saved, or from a
+/// save on, writes the value change dump to the shelf, and puts the report to the sink; or reads and annotates, and puts the
+/// settle bounds; or makes the generated case, simulates it, and puts its summary. The status is the program's.
 pub fn top<S: Shelf, K: Sink>(
     alloc: Global,
     words: &[String],
