@@ -9,7 +9,7 @@ use Rattle.sg_delay.specs.declared.corners.Corner.{Corner}
 use Rattle.run_words.specs.declared.subcommands.Subcommand.{Subcommand}
 use Rattle.run_words.specs.declared.subcommands.Subcommand.TheVariants.{Run, Resume, Annotate, Settle}
 use Rattle.run_words.specs.Arguments.{Argument, arguments_of, is_text}
-use Rattle.run_words.specs.Words.{Asked, a_run, a_stop, a_rest, a_writing, the_bounds, a_case, Command, Design, Input, Stop, Writing, input_of, value_of, netlists_of, options_of, is_known, is_single, are_sound, corner_of, is_number, most_digits, number_up_to, default_corner, default_rounds, most_rounds, default_wheel, most_wheel, read_or, design_with, command_with, writing_with, stop_of, run_asked, run_with, rest_with, asked_with, asked_from, subcommand_of, asked_by, case_of, asked_of}
+use Rattle.run_words.specs.Words.{Asked, a_run, a_stop, a_rest, a_writing, the_bounds, a_case, Command, Design, Input, Stop, Writing, input_of, value_of, netlists_of, options_of, is_known, is_single, are_sound, corner_of, is_number, most_digits, number_up_to, default_corner, default_rounds, most_rounds, default_wheel, most_wheel, read_or, design_with, command_with, writing_with, stop_of, run_asked, asked_with, asked_from, subcommand_of, asked_by, case_of, asked_of}
 
 both : (a b : Bool) → (a && b) ≡ true → (a ≡ true) × (b ≡ true)
 both false b e = cc

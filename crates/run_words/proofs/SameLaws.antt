@@ -25,7 +25,7 @@ use Rattle.run_words.specs.declared.words.Command.{Command}
 use Rattle.run_words.specs.contracts.words.AskedPartialEq.TheImpl as asked_eq
 use Rattle.run_words.specs.declared.words.Asked.{Asked}
 use Rattle.run_words.specs.declared.words.Asked.TheVariants as code_asked
-use Rattle.run_words.specs.Words.{a_run, a_stop, a_rest, a_writing, the_bounds, a_case, a_stimulus}
+use Rattle.run_words.specs.Words.{a_run, a_writing, the_bounds, a_case, a_stimulus}
 use Rattle.run_words.specs.WordsSeen.{asked_seen, command_seen, design_seen, input_seen, stop_seen, writing_seen}
 use denote.Enum.Bare.{sameb}
 
