@@ -42,7 +42,7 @@ run_made c (Err r) n = tt
 
 saved_made : (c : Command) (task : Task) (s : Stop) (too_large : Bool) → task.vcd ≡ c.vcd → AreMadeAs (c.vcd ∷ s.save ∷ []) (saved_answer too_large task s).made
 saved_made c task s true n = (n, tt)
-saved_made c task s false n = (n, refl, tt)
+saved_made c task s false n = (n, (refl, tt))
 
 stopped_made : (c : Command) (task : Task) (s : Stop) (spent : Option (ℕ × Option ℕ)) → task.vcd ≡ c.vcd → AreMadeAs (c.vcd ∷ s.save ∷ []) (stopped_answer spent task s).made
 stopped_made c task s None n = saved_made c task s (nat_lt most_bytes (length (saved_of task s))) n

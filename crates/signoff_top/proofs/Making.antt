@@ -1,8 +1,8 @@
 -- Files that are made, one after another.
-use Rattle.std.proofs.Common.{◌≡◌, ◌≢◌, ◌∙◌, ap, subst, refl, inl, inr, ℕ, All, List, [], ◌∷◌, ◌++◌, length, arith}
+use Rattle.std.proofs.Common.{◌≡◌, ◌≢◌, ◌∙◌, sym, ap, subst, refl, inl, inr, ℕ, All, List, [], ◌∷◌, ◌++◌, length, arith}
 use Rattle.std.proofs.lemmas.List.{take_all}
 use Rattle.std.proofs.lemmas.List.Elements.{All-tail}
-use Rattle.std.specs.Prelude.{Some, sym}
+use Rattle.std.specs.Prelude.{Some}
 use Rattle.sg_io.specs.Files.{File, HasAfter, bytes_of}
 use Rattle.wave_out.specs.Files.{LeavesPrefix}
 use Rattle.signoff_top.specs.Answer.{FilesAfter}

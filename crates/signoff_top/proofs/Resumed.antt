@@ -1,5 +1,5 @@
 -- A run that goes on from the save of a stopped one: both dumps are that of the whole run, and so are the violations.
-use Rattle.std.proofs.Common.{◌≡◌, ◌∙◌, refl, sym, ap, subst, List, [], ◌∷◌, ◌++◌, ℕ, ◌<◌, ◌≤◌, All, drop, length, append_assoc, Bool, true, false}
+use Rattle.std.proofs.Common.{◌≡◌, ◌∙◌, refl, sym, ap, subst, List, [], ◌∷◌, ◌++◌, ℕ, ◌<◌, ◌≤◌, All, drop, length, append_assoc, Bool, true, false, arith}
 use Rattle.std.proofs.lemmas.Bool.{ltb-false}
 use Rattle.std.proofs.lemmas.List.{take_all}
 use Rattle.std.specs.Prelude.{Some, None, Ok, nat_lt}
@@ -55,30 +55,31 @@ dump_and_save task s file made false e is some = let same : begun_dump task s �
 within_limit : (n : ℕ) → n ≤ most_bytes → n ≤ save_limit
 within_limit n l = omega (arith, l)
 
--- Of a task, a stop before its end, and the moment then.
+-- the moment at a stop, and what goes on from it
+abbrev moment_at : Task → Stop → Moment
+moment_at task s = moment_after task.circuit s.time (stopped_of task s)
+
+abbrev rest_at : Task → Stop → Rest
+rest_at task s = record { task = task; moment = moment_at task s }
+
+-- Of a task, and a stop before its end.
 module _ (task : Task) (s : Stop) (closed : IsClosed task.circuit) (applied : IsApplied task.circuit task.input) (before : s.time < task.input.end) (unspent : (run_of task).spent ≡ None) where
-  abbrev moment : Moment
-  moment = moment_after task.circuit s.time (stopped_of task s)
-
-  abbrev rest : Rest
-  rest = record { task = task; moment = moment }
-
-  law : IsRest task.circuit task.rounds task.input s.time moment
+  law : IsRest task.circuit task.rounds task.input s.time (moment_at task s)
   law = rest_is_the_rest (record { violations = same-violations; latest = same-latest }) moments_fit task.circuit task.rounds task.input s.time closed applied before unspent
 
-  fits : Fits task.circuit moment
+  fits : Fits task.circuit (moment_at task s)
   fits = (moments_fit.of_runs task.circuit task.input task.rounds s.time (count_shown (stopped_of task s).evaluations) closed applied before law.stopped).fits
 
   -- the save is read as the moment
-  rest_read : (c : Command) (state : List ℕ) (files : List File) → CommandOutcome c files (Ok task) → bytes_of state files ≡ Some (saved_of task s) → length (saved_of task s) ≤ most_bytes → RestOutcome c state files (Ok rest)
+  rest_read : (c : Command) (state : List ℕ) (files : List File) → CommandOutcome c files (Ok task) → bytes_of state files ≡ Some (saved_of task s) → length (saved_of task s) ≤ most_bytes → RestOutcome c state files (Ok (rest_at task s))
   rest_read c state files accepted held small =
       let read : FileWithin save_limit state (bytes_of state files) (Ok (saved_of task s)) =
       subst (λ o. FileWithin save_limit state o (Ok (saved_of task s))) (sym held) (ap Ok (sym (take_all save_limit (saved_of task s) (within_limit (length (saved_of task s)) small)))) in
-      goes_on task (Ok rest) accepted (goes_on (saved_of task s) (Ok rest) read (goes_on moment (Ok rest) (record { small = small; text = refl; fits = fits; before = before }) refl))
+      goes_on task (Ok (rest_at task s)) accepted (goes_on (saved_of task s) (Ok (rest_at task s)) read (goes_on (moment_at task s) (Ok (rest_at task s)) (record { small = small; text = refl; fits = fits; before = before }) refl))
 
-  both_dumps : vcd_begun task.circuit (stopped_of task s) ++ rest_dump rest ≡ dump_of task
+  both_dumps : vcd_begun task.circuit (stopped_of task s) ++ rest_dump (rest_at task s) ≡ dump_of task
   both_dumps =
-      whole_dump task.circuit task.input.end (snapshot_of moment) law.later law.older (run_of task) (stopped_of task s) (rest_of rest) unspent law.unspent law.whole law.begun law.rest law.after law.before before
+      whole_dump task.circuit task.input.end (snapshot_of (moment_at task s)) law.later law.older (run_of task) (stopped_of task s) (rest_of (rest_at task s)) unspent law.unspent law.whole law.begun law.rest law.after law.before before
 
 -- a task of the same run, with other names for its files
 abbrev earlier_of : Task → List Unmatched → List ℕ → Task
@@ -92,9 +93,9 @@ makes_whole ws files c state task us vcd s file made answer asked accepted close
     let first = earlier_of task us vcd in
     let found = dump_and_save first s file made (nat_lt most_bytes (length (saved_of first s))) refl (sym (ap (λ a. a.made) (stop_reached first s before l.stopped)) ∙ is) some in
     record {
-      rest = rest task s;
-      answered = one_rest ws c state files (rest task s) answer asked (rest_read task s closed applied before unspent c state files accepted held found.1) right;
-      dumps = ap (λ f. f.bytes ++ rest_dump (rest task s)) found.0 ∙ both_dumps task s closed applied before unspent;
+      rest = rest_at task s;
+      answered = one_rest ws c state files (rest_at task s) answer asked (rest_read task s closed applied before unspent c state files accepted held found.1) right;
+      dumps = ap (λ f. f.bytes ++ rest_dump (rest_at task s)) found.0 ∙ both_dumps task s closed applied before unspent;
       violations = sym l.violations;
     }
 

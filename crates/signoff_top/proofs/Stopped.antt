@@ -70,6 +70,7 @@ pub made_later : (task : Task) (s : Stop) → s.time < task.input.end → List F
 made_later task s l = (stopped_first (stopped_of task s).spent task s).0
 
 pub dump_first : (task : Task) (s : Stop) (l : s.time < task.input.end) → (stop_answer s (Ok task)).made ≡ begun_dump task s ∷ made_later task s l
+unfolding made_later stopped_first
 dump_first task s l = ap (λ a. a.made) (stop_before task s l) ∙ (stopped_first (stopped_of task s).spent task s).1
 
 -- ---- stops
@@ -142,10 +143,10 @@ save_second d save text is =
 
 -- want of memory, and a failure, while it is made
 module _ (ws : List (List ℕ)) (d : code_stopped.StopDone) (save text : List ℕ) (old mid new : Option (List File)) (from : SavesFrom ws d save old mid) (is : IsSaved d save text) (left : BothTell mid new (LeavesPrefix save text)) where
-  answer : Answer
+  abbrev answer : Answer
   answer = stopped_answer None (task_seen d.task) (stop_of_done d save)
 
-  dump : List File
+  abbrev dump : List File
   dump = begun_dump (task_seen d.task) (stop_of_done d save) ∷ []
 
   pub saving_wants : BothTell old new (WorkLeaves ws (Err stop.NoMemory))
