@@ -182,20 +182,22 @@ fn end_stop<'a, S: Shelf>(
         → IfFailed (NamesFaultAt ws old (S.files shelf.new) (S.last_fault shelf.new)) result }
     ensures words { IfErr result (λ s. SparesWords s) }
 {
-    match end.reached {
+    let StopEnd {
+        violations,
+        reached,
+    } = end;
+    match reached {
         Reached::Stop(moment) => {
             let done = StopDone {
                 task,
                 time: stop.time,
-                violations: end.violations,
+                violations,
             };
             save_moment(alloc, done, stop.save, &moment, shelf)
         }
         Reached::Spent(spent) => {
-            let end = RunEnd {
-                violations: end.violations,
-                spent: Some(spent),
-            };
+            let spent = Some(spent);
+            let end = RunEnd { violations, spent };
             Ok(Done::Run(RunDone { task, end }))
         }
     }
