@@ -18,5 +18,5 @@ mod windows;
 pub use changes::Change;
 pub use checker::Checker;
 pub use latest::Latest;
-pub use laws::{earlier_events_count_by_their_latest, same_nets_stay, untouched_checks_stay};
+pub use laws::{same_nets_stay, untouched_checks_stay};
 pub use violations::{Part, Violation};
