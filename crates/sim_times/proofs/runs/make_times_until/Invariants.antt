@@ -1,7 +1,7 @@
 use Rattle.std.proofs.Common.{◌≡◌, ◌≤◌, ◌+◌, ◌-◌, length}
 use Rattle.sim_times.specs.Watching.{Got, HasTold}
 use Rattle.sim_times.proofs.RunLaws.{AllCameTo}
-use Rattle.sim_times.proofs.runs.make_times.Given as goal
+use Rattle.sim_times.proofs.runs.make_times_until.Given as goal
 
 abbrev pub invariant-loop-now : goal.invariant-loop-now
 invariant-loop-now g l =
@@ -11,10 +11,11 @@ invariant-loop-now g l =
     record {
       machine : t.machine l.times ≡ t.machine l.fn.times;
       sets : t.sets l.times ≡ t.sets l.fn.times;
-      came : AllCameTo (t.machine l.fn.times) (t.sets l.fn.times) l.bound l.end l.now (t.stands l.fn.times 0) (t.values l.fn.times) (t.stands l.times l.now) (t.kept l.times) (λ made. Got w.stands l.fn.watcher l.watcher l.fn.shelf l.shelf made) l.fn.steps l.steps;
+      came : AllCameTo (t.machine l.fn.times) (t.sets l.fn.times) l.bound l.from l.until l.now (t.stands l.fn.times l.from) (t.kept l.fn.times) (t.stands l.times l.now) (t.kept l.times) (λ made. Got w.stands l.fn.watcher l.watcher l.fn.shelf l.shelf made) l.fn.steps l.steps;
       ready : t.ready l.times l.now;
-      within : l.now ≤ l.end + 1;
+      within : l.now ≤ l.until + 1;
       steps : l.fn.steps ≤ l.steps;
+      latest : (t.kept l.times).latest ≡ (t.kept l.fn.times).latest;
       told : length (t.kept l.times).told ≡ length (t.values l.times);
       told_is : (t.kept l.times).told ≡ t.values l.times;
       calls : HasTold (w.stands l.watcher l.shelf) (t.values l.times);
@@ -28,4 +29,4 @@ invariant-loop-now g l =
     }
 
 abbrev pub decreases-loop-now : goal.decreases-loop-now
-decreases-loop-now g l = l.end + 1 - l.now
+decreases-loop-now g l = l.until + 1 - l.now
