@@ -8,3 +8,5 @@ pub mod Notifiers
 pub mod Fresh
 pub mod Setting
 pub mod Evaluable
+pub mod Moments
+pub mod MomentsSeen

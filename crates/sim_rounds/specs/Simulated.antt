@@ -15,6 +15,7 @@ use Rattle.sg_circuit.specs.declared.nets.Driver.TheVariants as driver
 use Rattle.sg_circuit.specs.Circuit.{Circuit, Kind, Gate, Udp, Pass, Leg, Path, Late, element_at}
 use Rattle.sg_circuit.specs.Timings.{Timing, timing_between, limits_of}
 use Rattle.pulse_list.specs.Seen.{style_seen}
+use Rattle.time_checks.specs.declared.latest.Latest.{Latest}
 use Rattle.time_checks.specs.Adjusted.{adjusted_checks}
 use Rattle.time_checks.specs.Violations.{violations}
 use Rattle.sim_rounds.specs.Notifiers.{notifiers_of}
@@ -79,12 +80,19 @@ machine_of circuit = record {
   notifiers = λ found. notifiers_of circuit.checks (length circuit.nets) found;
 }
 
+abbrev pub machine_since : Circuit → List Latest → Machine
+machine_since circuit earlier = machine_of circuit
+
 -- whether anything drives a net
 abbrev pub is_driven : Driver → Bool
 is_driven driver.Nobody = false
 is_driven driver.Stimulus = true
 is_driven (driver.Element element) = true
 is_driven driver.Notifier = true
+
+-- the value of a net before time 0
+abbrev pub first_value_of : Driver → Value
+first_value_of driver = if is_driven driver then X else Z
 
 -- before time 0 every driven net is x and every other z, no net has a stamp, and nothing is pending (4.2.1, 4.2.2)
 abbrev pub first_state : Circuit → State
