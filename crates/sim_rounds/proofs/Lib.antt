@@ -10,3 +10,7 @@ mod Examples
 pub mod DelayLaws
 pub mod ElementLaws
 pub mod SimLaws
+pub mod PendingLaws
+pub mod VerdictLaws
+pub mod FittingLaws
+pub mod SettlingLaws

@@ -10,3 +10,4 @@ pub mod Setting
 pub mod Evaluable
 pub mod Moments
 pub mod MomentsSeen
+pub mod Fitting

@@ -76,8 +76,8 @@ fn first_values(alloc: Global, parts: &Parts, elements: &[Element]) -> Result<Ve
     Ok(states)
 }
 
-// So many inputs the widest element has.
-fn widest(elements: &[Element]) -> usize
+/// So many inputs the widest element has.
+pub fn widest(elements: &[Element]) -> usize
     ensures { All (λ e. length e.inputs.items ≤ result) elements.now }
 {
     let mut width: usize = 0;
@@ -87,8 +87,8 @@ fn widest(elements: &[Element]) -> usize
     width
 }
 
-// The compiled tables of primitives.
-fn compile(alloc: Global, udps: &[UdpUse]) -> Result<Vec<Table>, NoMemory>
+/// The compiled tables of primitives.
+pub fn compile(alloc: Global, udps: &[UdpUse]) -> Result<Vec<Table>, NoMemory>
     ensures { IfOk result (λ v. AreTables udps.now v.items) }
 {
     let mut tables = Vec::with_capacity(alloc, udps.len())?;

@@ -9,6 +9,7 @@ mod laws;
 mod moments;
 mod nets;
 mod placing;
+mod settling;
 mod sim;
 
 pub use elements::CircuitElements;

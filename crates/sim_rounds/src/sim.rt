@@ -39,8 +39,8 @@ pub struct Finished {
     pub tally: Tally,
 }
 
-// The value of a net before time 0: of a driven one x, and of every other z.
-fn first_value(driver: Driver) -> Value
+/// The value of a net before time 0: of a driven one x, and of every other z.
+pub fn first_value(driver: Driver) -> Value
     ensures { result ≡ first_value_of driver }
 {
     match driver {
