@@ -14,3 +14,4 @@ pub mod PendingLaws
 pub mod VerdictLaws
 pub mod FittingLaws
 pub mod SettlingLaws
+mod MomentExamples
