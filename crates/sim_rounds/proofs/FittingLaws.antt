@@ -1,5 +1,5 @@
 -- The parts of what it is for a moment to fit a circuit, put together.
-use Rattle.std.specs.Prelude.{◌≡◌, ◌≢◌, ◌↔◌, ℕ, suc, ◌+◌, ◌<◌, ◌≤◌, ◌^◌, ◌==◌, All, Bool, true, false, IsTrue, List, [], ◌∷◌, Option, None, drop, length, map, slice_index_or, refl}
+use Rattle.std.specs.Prelude.{◌≡◌, ◌≢◌, ◌↔◌, ℕ, ◌+◌, ◌<◌, ◌≤◌, ◌^◌, ◌==◌, All, Bool, true, false, IsTrue, List, [], ◌∷◌, Option, drop, length, map, slice_index_or, refl}
 use Rattle.std.proofs.Common.{sym, ◌∙◌, ap, subst, arith}
 use Rattle.std.proofs.lemmas.Bool.{eqb-true}
 use Rattle.std.proofs.lemmas.List.{drop_all, drop_more, get_or_default, get_or-map, length-map, nil_from_length}
@@ -140,8 +140,7 @@ pub states_turn : (parts : Parts) (values states left more : List Value) (elemen
 states_turn parts values states left more elements i item c same l many is passed h =
     let v : Value = slice_index_or values i c in
     let rest : List Value = udp_states (drop (i + 1) (circuit_seen parts).elements) (drop (i + 1) values) in
-    let from : udp_states (drop i (circuit_seen parts).elements) (drop i values) ≡ with_state (is_primitive item.kind) v rest = states_from parts values elements i item c same l many is in
-    (
+    let from : udp_states (drop i (circuit_seen parts).elements) (drop i values) ≡ with_state (is_primitive item.kind) v rest = states_from parts values elements i item c same l many is in (
       λ e. state_in_front (is_primitive item.kind) v more rest (sym passed ∙ (h.0 e ∙ from)),
       λ e. h.1 (passed ∙ (ap (with_state (is_primitive item.kind) v) e ∙ sym from)),
     )

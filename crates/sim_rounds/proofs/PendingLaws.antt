@@ -1,14 +1,14 @@
 -- What drivers have pending, followed transition by transition.
 use Rattle.std.specs.Prelude.{◌≡◌, ◌≢◌, ◌⊎◌, ◌↔◌, ℕ, suc, ◌+◌, ◌<◌, ◌≤◌, ◌==◌, Bool, true, false, IsTrue, if◌then◌else◌, List, [], ◌∷◌, ◌++◌, drop, length, map, reverse, slice_index_or, slice_set, take, refl}
 use Rattle.std.proofs.Common.{sym, ◌∙◌, ap, subst, arith, rules, inl, inr}
-use Rattle.std.proofs.lemmas.Bool.{cases_eq, eq-eqb, ne_eqb, true≢false, false≢true}
+use Rattle.std.proofs.lemmas.Bool.{cases_eq, eq-eqb, ne_eqb}
 use Rattle.std.proofs.lemmas.List.{append-nil, append_assoc, drop_more, get_or_default, get_or-map, get_or-set_same, get_or-set_other, length-map, reverse-append, take-append-drop, take_all, take_more}
 use denote.Enum.Bare.{sameb, same_true, same_false}
 use Rattle.sg_logic.specs.contracts.values.Value.{the_type}
 use Rattle.sg_logic.specs.declared.values.Value.{Value}
 use Rattle.sg_logic.specs.declared.values.Value.TheVariants.{X}
 use Rattle.sg_model.specs.Values.{value_at}
-use Rattle.sg_model.specs.Pending.{last_value, value_of_first, Follows, IsAbove, IsPending}
+use Rattle.sg_model.specs.Pending.{last_value, value_of_first, Follows, IsPending}
 use Rattle.sim_rounds.specs.Moments.{Pending, pending_of}
 use Rattle.sim_rounds.specs.MomentsSeen.{pending_seen}
 use Rattle.sim_rounds.specs.declared.moments.Pending as code_pending

@@ -1,7 +1,6 @@
 -- What elements computed last and compute, from the nets as they are.
-use Rattle.std.specs.Prelude.{◌≡◌, ◌≢◌, ◌↔◌, ℕ, suc, ◌+◌, ◌<◌, ◌≤◌, ◌^◌, All, Bool, true, false, not, IsTrue, List, [], None, length, map, replicate, slice_index_or, refl}
+use Rattle.std.specs.Prelude.{◌≡◌, ◌↔◌, ℕ, suc, ◌<◌, ◌^◌, All, Bool, true, false, not, IsTrue, List, [], None, length, map, replicate, slice_index_or, refl}
 use Rattle.std.proofs.Common.{sym, ◌∙◌, ap, subst, arith, rules, zero-add}
-use Rattle.std.specs.Vec.{vec_capacity}
 use Rattle.std.proofs.lemmas.Bool.{not-true, not-false}
 use Rattle.std.proofs.lemmas.List.{ext_get_or, get_or_default, get_or-map, get_or-replicate, length-map}
 use Rattle.std.proofs.lemmas.List.Elements.{All-weaker}
@@ -11,7 +10,6 @@ use Rattle.sg_logic.specs.declared.values.Value.{Value}
 use Rattle.sg_logic.specs.declared.values.Value.TheVariants.{X, Zero}
 use Rattle.sg_model.specs.Values.{value_at}
 use Rattle.sg_model.specs.Pending.{last_value, IsPending}
-use Rattle.sg_model.specs.Round.{each_from}
 use Rattle.fan_round.proofs.ListLaws.{each_from-at, length-each_from}
 use Rattle.sg_circuit.specs.declared.elements.Element as code_element
 use Rattle.sg_circuit.specs.declared.circuits.Parts.{Parts}

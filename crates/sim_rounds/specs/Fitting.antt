@@ -20,10 +20,11 @@ pub record HasSizes (circuit : Circuit) (m : Moment) : Type 0 where
   pub checks : length m.latest ≡ length circuit.checks
   pub pending : All (λ p. (p.driver < length circuit.elements) × (p.time < 2 ^ 62)) m.pending
 
--- each net has a last change that is one of its value by a time
+-- the net at a place; past the end a blank
 abbrev pub net_in : List Net → ℕ → Net
 net_in nets n = slice_index_or nets n (record { scope = 0; name = []; bit = None; driver = Nobody })
 
+-- each net's last change is one of its value by a time
 abbrev pub AreStamped : ℕ → List Net → List Value → List (Option Stamp) → Type 0
 AreStamped time nets values stamps = (net : ℕ) → net < length nets → IsStampOf time (net_in nets net).driver (value_at values net) (stamp_at stamps net)
 

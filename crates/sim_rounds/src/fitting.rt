@@ -1,8 +1,7 @@
 // Whether a moment fits a circuit.
 ghost use Rattle.std.specs.Prelude.{◌≡◌, ◌<◌, ◌^◌, ◌↔◌, All, IfOk, IsTrue, length, map};
 ghost use Rattle.std.specs.Bool.{OnFalse, OnTrue};
-ghost use Rattle.sg_circuit.specs.Closed.{IsClosed};
-ghost use Rattle.sg_circuit.specs.Seen.{circuit_seen, AreIndexed};
+ghost use Rattle.sg_circuit.specs.Seen.{circuit_seen};
 ghost use Rattle.time_checks.specs.Falling.{AreBy, IsBy};
 ghost use Rattle.sim_rounds.specs.Fitting.{AreStamped, HasPast, HasSizes};
 ghost use Rattle.sim_rounds.specs.Moments.{Fits, IsStampOf};
@@ -50,12 +49,7 @@ fn is_stamp(time: u64, driver: Driver, value: Value, stamp: Option<LastChange>) 
 }
 
 // The same of all nets.
-fn are_stamped(
-    time: u64,
-    nets: &[Net],
-    values: &[Value],
-    stamps: &[Option<LastChange>],
-) -> bool
+fn are_stamped(time: u64, nets: &[Net], values: &[Value], stamps: &[Option<LastChange>]) -> bool
     requires values { length values.now ≡ length nets.now }
     requires stamps { length stamps.now ≡ length nets.now }
     ensures { IsTrue result ↔ AreStamped time nets.now values.now (map change_seen stamps.now) }
@@ -82,9 +76,7 @@ fn is_by(time: u64, event: Option<u64>) -> bool
 fn are_by(time: u64, latest: &[Latest]) -> bool
     ensures { IsTrue result ↔ All (λ l. IsBy time l.refer × IsBy time l.datum) latest.now }
 {
-    latest
-        .iter()
-        .all(|known| is_by(time, known.refer) && is_by(time, known.datum))
+    latest.iter().all(|known| is_by(time, known.refer) && is_by(time, known.datum))
 }
 
 // Whether nothing that happened is later than the moment, and the nets have the values of their last changes.

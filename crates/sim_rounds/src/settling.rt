@@ -114,7 +114,17 @@ fn agree<L: Ledger>(
     let mut steps = Steps::<L>::new(blank);
     for (number, item) in parts.elements.iter().enumerate() {
         let value = values[number];
-        if compute(parts, tables, item, value, nets, nets, &mut inputs, &mut steps) != value {
+        let computed = compute(
+            parts,
+            tables,
+            item,
+            value,
+            nets,
+            nets,
+            &mut inputs,
+            &mut steps,
+        );
+        if computed != value {
             return false;
         }
     }

@@ -17,5 +17,5 @@ pub returns-then-not-is_stamp : goal.returns-then-not-is_stamp
 returns-then-not-is_stamp c =
     refuted (AreStamped c.args.time c.args.nets.now c.args.values.now (map change_seen c.args.stamps.now))
     (λ all. fails c.is_stamp.result (IsStampOf c.args.time (net_in c.args.nets.now c.loop-index.index).driver (value_at c.args.values.now c.loop-index.index) (stamp_at (map change_seen c.args.stamps.now) c.loop-index.index))
-      (stamp_read c.is_stamp.result c.args.time c.args.nets.now c.args.values.now c.args.stamps.now c.loop-index.index c.index-nets-index.result Zero None c.loop-index-test.true c.requires.values c.requires.stamps c.index-nets-index.is c.is_stamp.ensures)
-      c.if-not-is_stamp.true (all c.loop-index.index c.loop-index-test.true))
+    (stamp_read c.is_stamp.result c.args.time c.args.nets.now c.args.values.now c.args.stamps.now c.loop-index.index c.index-nets-index.result Zero None c.loop-index-test.true c.requires.values c.requires.stamps c.index-nets-index.is c.is_stamp.ensures)
+    c.if-not-is_stamp.true (all c.loop-index.index c.loop-index-test.true))

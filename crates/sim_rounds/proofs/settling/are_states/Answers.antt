@@ -1,6 +1,3 @@
-use Rattle.std.proofs.Common.{◌≡◌, ◌∙◌, ap, subst, sym, length}
-use Rattle.std.proofs.lemmas.List.{get_or_default}
-use Rattle.sg_circuit.specs.declared.elements.Element as code_element
 use Rattle.sg_logic.specs.declared.values.Value.TheVariants.{Zero}
 use Rattle.sim_rounds.proofs.FittingLaws.{states_turn, states_differ, states_end, empty_when}
 use Rattle.sim_rounds.proofs.settling.are_states.Goals as goal

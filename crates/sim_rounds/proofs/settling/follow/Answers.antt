@@ -1,4 +1,4 @@
-use Rattle.std.proofs.Common.{◌≡◌, ◌∙◌, sym}
+use Rattle.std.proofs.Common.{◌∙◌, sym}
 use Rattle.sg_logic.specs.declared.values.Value.TheVariants.{Zero}
 use Rattle.sim_rounds.specs.declared.moments.Pending as code_pending
 use Rattle.sim_rounds.proofs.PendingLaws.{turn_reached, not_later, not_other, all_ordered, all_last}

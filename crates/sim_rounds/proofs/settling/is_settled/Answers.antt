@@ -3,12 +3,11 @@ use Rattle.std.proofs.Common.{◌≡◌, ◌∙◌, ◌↔◌, ℕ, IsTrue, ap, 
 use Rattle.std.proofs.lemmas.Bool.{OnTrue_at}
 use Rattle.std.proofs.lemmas.List.{with_items_is}
 use Rattle.std.proofs.lemmas.Result.{IfOk-weaker}
-use Rattle.sg_circuit.specs.Circuit.{Circuit, Element}
+use Rattle.sg_circuit.specs.Circuit.{Element}
 use Rattle.sg_circuit.specs.Seen.{circuit_seen}
 use Rattle.sg_logic.specs.declared.values.Value.{Value}
 use Rattle.sg_model.specs.Values.{value_at}
 use Rattle.sim_rounds.specs.Fitting.{AreLast, AreOrdered, HasStates, IsSettled}
-use Rattle.sim_rounds.specs.Moments.{Moment}
 use Rattle.sim_rounds.specs.MomentsSeen.{moment_seen, pending_seen}
 use Rattle.sim_rounds.proofs.SettlingLaws.{outputs_within, drivers_within, present_seen, length-present, unordered, settled_by}
 use Rattle.sim_rounds.proofs.settling.is_settled.Goals as goal
