@@ -131,7 +131,7 @@ fresh_ready circuit nets told work elements lists fan driven sets found stimulus
     )
 
 -- the state before time 0
-same_state : (a b : State) → a.values ≡ b.values → a.stamps ≡ b.stamps → a.lists ≡ b.lists → a.states ≡ b.states → a ≡ b
+pub same_state : (a b : State) → a.values ≡ b.values → a.stamps ≡ b.stamps → a.lists ≡ b.lists → a.states ≡ b.states → a ≡ b
 same_state a b v s l t =
     ap (λ x. record { values = x; stamps = a.stamps; lists = a.lists; states = a.states }) v
     ∙ (ap (λ x. record { values = b.values; stamps = x; lists = a.lists; states = a.states }) s
