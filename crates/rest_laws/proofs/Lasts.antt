@@ -34,19 +34,6 @@ pub lasts_split : (newer : List Snapshot) (last : Snapshot) (older : List Snapsh
 lasts_split [] last older after = refl
 lasts_split (s ∷ newer) last older after = ap (λ ss. s ∷ ss) (split_before s.time newer last older (All-head (IsAfter last.time) s newer after) (All-tail (IsAfter last.time) s newer after))
 
--- what each snapshot has each last one has
-pub all_before : (P : Snapshot → Type 0) (now : ℕ) (ss : List Snapshot) → All P ss → All P (lasts_before now ss)
-all_before P now [] h = h
-all_before P now (s ∷ ss) h = at (s.time == now) (all_before P now ss (All-tail P s ss h)) (all_before P s.time ss (All-tail P s ss h))
-  where
-    at : (b : Bool) → All P (lasts_before now ss) → All P (lasts_before s.time ss) → All P (if b then lasts_before now ss else s ∷ lasts_before s.time ss)
-    at true here there = here
-    at false here there = All-cons P s (lasts_before s.time ss) (All-head P s ss h) there
-
-pub all_lasts : (P : Snapshot → Type 0) (ss : List Snapshot) → All P ss → All P (lasts ss)
-all_lasts P [] h = h
-all_lasts P (s ∷ ss) h = All-cons P s (lasts_before s.time ss) (All-head P s ss h) (all_before P s.time ss (All-tail P s ss h))
-
 -- none is after the first
 pub up_to : (time : ℕ) (ss : List Snapshot) → DontFall time ss → All (IsUpTo time) ss
 up_to time [] falls = All-nil (IsUpTo time)

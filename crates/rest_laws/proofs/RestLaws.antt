@@ -16,8 +16,9 @@ use Rattle.sim_times.specs.Times.{count_shown}
 use Rattle.sim_rounds.specs.Simulated.{first_state, machine_of, machine_since, run_of_circuit}
 use Rattle.sim_rounds.specs.Moments.{Moment, moment_after, run_of_moment, run_up_to, snapshot_of, state_of}
 use Rattle.sim_rounds.specs.MomentLaws.{MomentsFit}
+use Rattle.sim_rounds.proofs.EventTimes.{all_before, all_lasts}
 use Rattle.rest_laws.specs.Rests.{RestIsTheRest}
-use Rattle.rest_laws.proofs.Lasts.{IsAfter, IsUpTo, all_before, all_lasts, lasts_split, up_to}
+use Rattle.rest_laws.proofs.Lasts.{IsAfter, IsUpTo, lasts_split, up_to}
 use Rattle.rest_laws.proofs.Splits.{HasCome, IsSplit, times_come, times_split}
 use Rattle.rest_laws.proofs.Alike.{AreAlike, FindsAlike, times_alike}
 
@@ -43,7 +44,7 @@ module _ (circuit : Circuit) (bound : ℕ) (stimulus : Stimulus) (until : ℕ) w
       let t : 0 + suc until ≡ suc until = omega arith in
       let start : Run = start_of (first_state circuit) in
       let s = times_split bound (machine_of circuit) (sets_at stimulus.steps) (suc until) (stimulus.end - until) 0 start
-          (subst (λ k. (times_from k bound (machine_of circuit) (sets_at stimulus.steps) 0 start).spent ≡ None) n unspent) in
+      (subst (λ k. (times_from k bound (machine_of circuit) (sets_at stimulus.steps) 0 start).spent ≡ None) n unspent) in
       record {
         unspent = s.unspent;
         is = ap (λ k. times_from k bound (machine_of circuit) (sets_at stimulus.steps) 0 start) n
@@ -80,7 +81,7 @@ rest_is_the_rest counts fit circuit bound stimulus until closed applied early un
     let whole = fit.of_runs circuit stimulus bound until (count_shown f.evaluations) closed applied early s.unspent in
     let l : until < suc until = omega arith in
     let ends = times_alike (machine_of circuit) (machine_since circuit m.latest).violated (snapshot_of m) come.older f.run.violations (finds_alike circuit bound stimulus until counts come) bound (sets_at stimulus.steps)
-        (stimulus.end - until) (suc until) f.run (run_of_moment circuit m) l (begun_alike circuit bound stimulus until come whole.state) (sym (ap (λ (g : Finished). g.spent) s.is) ∙ unspent) in
+    (stimulus.end - until) (suc until) f.run (run_of_moment circuit m) l (begun_alike circuit bound stimulus until come whole.state) (sym (ap (λ (g : Finished). g.spent) s.is) ∙ unspent) in
     record {
       stopped = s.unspent;
       unspent = ends.unspent;
