@@ -20,6 +20,7 @@ use Rattle.sg_circuit.specs.declared.elements.Element as code_element
 use Rattle.sg_circuit.specs.declared.elements.UdpUse.{UdpUse}
 use Rattle.sg_circuit.specs.declared.circuits.Parts.{Parts}
 use Rattle.udp_table.specs.declared.table.Table.{Table}
+use Rattle.time_checks.specs.declared.latest.Latest.{Latest}
 use Rattle.udp_table.specs.Cells.{IsTableOf, IsWhole}
 use Rattle.sg_circuit.proofs.SeenLaws.{all-unmapped, map-mapped}
 use Rattle.sim_rounds.specs.declared.computing.Inputs.{Inputs}
@@ -119,74 +120,83 @@ all_have_room circuit parts elements inputs width seen same most before after =
     (All-map (λ (x : Element). HasRoom inputs (length x.inputs)) (element_seen parts) parts.elements.items (subst (λ es. All (λ e. HasRoom inputs (length e.inputs.items)) es) same rooms))
 
 -- what the code of a circuit's elements holds stands for
-element_in : (seen : ElementsSeen) (parts : Parts) (tables : List Table) (states : List Value) (inputs : Inputs) (e : ℕ) (item : code_element.Element) → record { circuit = circuit_seen parts; states = states } ≡ seen → AreEvaluable parts tables states inputs
+element_in : (seen : ElementsSeen) (parts : Parts) (earlier : List Latest) (tables : List Table) (states : List Value) (inputs : Inputs) (e : ℕ) (item : code_element.Element) → record { circuit = circuit_seen parts; earlier = earlier; states = states } ≡ seen → AreEvaluable parts tables states inputs
     → e < length (machine_of seen.circuit).inputs → item ≡ slice_index_or parts.elements.items e item → IsElement seen.circuit parts e item
-element_in seen parts tables states inputs e item view h l is =
+element_in seen parts earlier tables states inputs e item view h l is =
     the_element seen.circuit parts e item (ap (λ (s : ElementsSeen). s.circuit) view) (subst (λ (s : ElementsSeen). IsClosed s.circuit) view h.closed) h.indexed l is
 
-pub inputs_in : (seen : ElementsSeen) (parts : Parts) (tables : List Table) (states : List Value) (inputs : Inputs) (e : ℕ) (item : code_element.Element) (values : List Value) → record { circuit = circuit_seen parts; states = states } ≡ seen → AreEvaluable parts tables states inputs
+pub inputs_in : (seen : ElementsSeen) (parts : Parts) (earlier : List Latest) (tables : List Table) (states : List Value) (inputs : Inputs) (e : ℕ) (item : code_element.Element) (values : List Value) → record { circuit = circuit_seen parts; earlier = earlier; states = states } ≡ seen → AreEvaluable parts tables states inputs
     → e < length (machine_of seen.circuit).inputs → item ≡ slice_index_or parts.elements.items e item → length values ≡ length seen.circuit.nets → All (λ n. n < length values) item.inputs.items
-inputs_in seen parts tables states inputs e item values view h l is many = inputs_among seen.circuit parts e item values (element_in seen parts tables states inputs e item view h l is) many
+inputs_in seen parts earlier tables states inputs e item values view h l is many = inputs_among seen.circuit parts e item values (element_in seen parts earlier tables states inputs e item view h l is) many
 
-pub output_in : (seen : ElementsSeen) (parts : Parts) (tables : List Table) (states : List Value) (inputs : Inputs) (e : ℕ) (item : code_element.Element) (values : List Value) → record { circuit = circuit_seen parts; states = states } ≡ seen → AreEvaluable parts tables states inputs
+pub output_in : (seen : ElementsSeen) (parts : Parts) (earlier : List Latest) (tables : List Table) (states : List Value) (inputs : Inputs) (e : ℕ) (item : code_element.Element) (values : List Value) → record { circuit = circuit_seen parts; earlier = earlier; states = states } ≡ seen → AreEvaluable parts tables states inputs
     → e < length (machine_of seen.circuit).inputs → item ≡ slice_index_or parts.elements.items e item → length values ≡ length seen.circuit.nets → item.output < length values
-output_in seen parts tables states inputs e item values view h l is many = subst (λ n. item.output < n) (sym many) (element_in seen parts tables states inputs e item view h l is).output
+output_in seen parts earlier tables states inputs e item values view h l is many = subst (λ n. item.output < n) (sym many) (element_in seen parts earlier tables states inputs e item view h l is).output
 
-pub room_in : (seen : ElementsSeen) (parts : Parts) (tables : List Table) (states : List Value) (inputs : Inputs) (e : ℕ) (item : code_element.Element) → record { circuit = circuit_seen parts; states = states } ≡ seen → AreEvaluable parts tables states inputs
+pub room_in : (seen : ElementsSeen) (parts : Parts) (earlier : List Latest) (tables : List Table) (states : List Value) (inputs : Inputs) (e : ℕ) (item : code_element.Element) → record { circuit = circuit_seen parts; earlier = earlier; states = states } ≡ seen → AreEvaluable parts tables states inputs
     → e < length (machine_of seen.circuit).inputs → item ≡ slice_index_or parts.elements.items e item → HasRoom inputs (length item.inputs.items)
-room_in seen parts tables states inputs e item view h l is =
-    has_room seen.circuit parts e item inputs (element_in seen parts tables states inputs e item view h l is)
+room_in seen parts earlier tables states inputs e item view h l is =
+    has_room seen.circuit parts e item inputs (element_in seen parts earlier tables states inputs e item view h l is)
     (subst (λ (s : ElementsSeen). All (λ (x : Element). HasRoom inputs (length x.inputs)) s.circuit.elements) view h.room)
 
-pub takes_in : (seen : ElementsSeen) (parts : Parts) (tables : List Table) (states : List Value) (inputs : Inputs) (e : ℕ) (item : code_element.Element) → record { circuit = circuit_seen parts; states = states } ≡ seen → AreEvaluable parts tables states inputs
+pub takes_in : (seen : ElementsSeen) (parts : Parts) (earlier : List Latest) (tables : List Table) (states : List Value) (inputs : Inputs) (e : ℕ) (item : code_element.Element) → record { circuit = circuit_seen parts; earlier = earlier; states = states } ≡ seen → AreEvaluable parts tables states inputs
     → e < length (machine_of seen.circuit).inputs → item ≡ slice_index_or parts.elements.items e item → TakesInputs (kind_seen parts item.kind) (length item.inputs.items)
-takes_in seen parts tables states inputs e item view h l is = (element_in seen parts tables states inputs e item view h l is).takes
+takes_in seen parts earlier tables states inputs e item view h l is = (element_in seen parts earlier tables states inputs e item view h l is).takes
 
-pub delays_in : (seen : ElementsSeen) (parts : Parts) (tables : List Table) (states : List Value) (inputs : Inputs) (e : ℕ) (item : code_element.Element) → record { circuit = circuit_seen parts; states = states } ≡ seen → AreEvaluable parts tables states inputs
+pub delays_in : (seen : ElementsSeen) (parts : Parts) (earlier : List Latest) (tables : List Table) (states : List Value) (inputs : Inputs) (e : ℕ) (item : code_element.Element) → record { circuit = circuit_seen parts; earlier = earlier; states = states } ≡ seen → AreEvaluable parts tables states inputs
     → e < length (machine_of seen.circuit).inputs → item ≡ slice_index_or parts.elements.items e item → HasDelays (kind_seen parts item.kind)
-delays_in seen parts tables states inputs e item view h l is = (element_in seen parts tables states inputs e item view h l is).delays
+delays_in seen parts earlier tables states inputs e item view h l is = (element_in seen parts earlier tables states inputs e item view h l is).delays
 
-pub paths_in : (seen : ElementsSeen) (parts : Parts) (tables : List Table) (states : List Value) (inputs : Inputs) (e : ℕ) (item : code_element.Element) (values : List Value) → record { circuit = circuit_seen parts; states = states } ≡ seen → AreEvaluable parts tables states inputs
+pub paths_in : (seen : ElementsSeen) (parts : Parts) (earlier : List Latest) (tables : List Table) (states : List Value) (inputs : Inputs) (e : ℕ) (item : code_element.Element) (values : List Value) → record { circuit = circuit_seen parts; earlier = earlier; states = states } ≡ seen → AreEvaluable parts tables states inputs
     → e < length (machine_of seen.circuit).inputs → item ≡ slice_index_or parts.elements.items e item → length values ≡ length seen.circuit.nets → NamesNets (length values) (kind_seen parts item.kind)
-paths_in seen parts tables states inputs e item values view h l is many = subst (λ n. NamesNets n (kind_seen parts item.kind)) (sym many) (element_in seen parts tables states inputs e item view h l is).paths
+paths_in seen parts earlier tables states inputs e item values view h l is many = subst (λ n. NamesNets n (kind_seen parts item.kind)) (sym many) (element_in seen parts earlier tables states inputs e item view h l is).paths
 
-pub value_in : (seen : ElementsSeen) (parts : Parts) (tables : List Table) (states : List Value) (inputs : Inputs) (e : ℕ) (item : code_element.Element) (before after : List Value) (state v : Value) → record { circuit = circuit_seen parts; states = states } ≡ seen → AreEvaluable parts tables states inputs
+pub value_in : (seen : ElementsSeen) (parts : Parts) (earlier : List Latest) (tables : List Table) (states : List Value) (inputs : Inputs) (e : ℕ) (item : code_element.Element) (before after : List Value) (state v : Value) → record { circuit = circuit_seen parts; earlier = earlier; states = states } ≡ seen → AreEvaluable parts tables states inputs
     → e < length (machine_of seen.circuit).inputs → item ≡ slice_index_or parts.elements.items e item → state ≡ slice_index_or states e state
     → v ≡ value_of_kind (kind_seen parts item.kind) (values_at item.inputs.items before) (values_at item.inputs.items after) state
     → v ≡ element_value (machine_of seen.circuit) before after e (value_at seen.states e)
-value_in seen parts tables states inputs e item before after state v view h l is read value =
-    computed seen.circuit parts e item before after states state v (element_in seen parts tables states inputs e item view h l is)
+value_in seen parts earlier tables states inputs e item before after state v view h l is read value =
+    computed seen.circuit parts e item before after states state v (element_in seen parts earlier tables states inputs e item view h l is)
     (subst (λ (s : ElementsSeen). length states ≡ length s.circuit.elements) view h.state_of_each) read value
     ∙ ap (λ (s : ElementsSeen). element_value (machine_of seen.circuit) before after e (value_at s.states e)) view
 
-pub list_in : (seen : ElementsSeen) (parts : Parts) (tables : List Table) (states : List Value) (inputs : Inputs) (e : ℕ) (item : code_element.Element) (now : ℕ) (before after : List Value) (stamps : List (Option Stamp)) (list : List (ℕ × Value)) (state v present d : Value)
-    → record { circuit = circuit_seen parts; states = states } ≡ seen → AreEvaluable parts tables states inputs
+pub list_in : (seen : ElementsSeen) (parts : Parts) (earlier : List Latest) (tables : List Table) (states : List Value) (inputs : Inputs) (e : ℕ) (item : code_element.Element) (now : ℕ) (before after : List Value) (stamps : List (Option Stamp)) (list : List (ℕ × Value)) (state v present d : Value)
+    → record { circuit = circuit_seen parts; earlier = earlier; states = states } ≡ seen → AreEvaluable parts tables states inputs
     → e < length (machine_of seen.circuit).inputs → item ≡ slice_index_or parts.elements.items e item → length after ≡ length seen.circuit.nets → state ≡ slice_index_or states e state
     → v ≡ value_of_kind (kind_seen parts item.kind) (values_at item.inputs.items before) (values_at item.inputs.items after) state → present ≡ slice_index_or after item.output d
     → placed_by (rule_of_kind (kind_seen parts item.kind) now after stamps (last_value list present) v) list present now v ≡ element_list (machine_of seen.circuit) now before after stamps seen.states e list
-list_in seen parts tables states inputs e item now before after stamps list state v present d view h l is many read value net =
-    placed_list seen.circuit parts e item now before after stamps seen.states list v present d (element_in seen parts tables states inputs e item view h l is) many
-    (value_in seen parts tables states inputs e item before after state v view h l is read value) net
+list_in seen parts earlier tables states inputs e item now before after stamps list state v present d view h l is many read value net =
+    placed_list seen.circuit parts e item now before after stamps seen.states list v present d (element_in seen parts earlier tables states inputs e item view h l is) many
+    (value_in seen parts earlier tables states inputs e item before after state v view h l is read value) net
 
--- before time 0
-pub evaluable_first : (circuit : Circuit) (parts : Parts) (tables : List Table) (elements others : List code_element.Element) (udps : List UdpUse) (states : List Value) (inputs : Inputs) (width : ℕ)
-    → circuit_seen parts ≡ circuit → IsClosed circuit → AreIndexed parts → udps ≡ parts.udps.items → AreTables udps tables
-    → elements ≡ parts.elements.items → states ≡ map (λ e. first_of_kind (kind_seen parts e.kind)) elements
-    → others ≡ parts.elements.items → All (λ e. length e.inputs.items ≤ width) others → width ≤ vec_capacity inputs.before → width ≤ vec_capacity inputs.after
+-- with whatever values were computed last
+pub evaluable_with : (circuit : Circuit) (parts : Parts) (tables : List Table) (elements : List code_element.Element) (udps : List UdpUse) (states : List Value) (inputs : Inputs) (width : ℕ)
+    → circuit_seen parts ≡ circuit → IsClosed circuit → AreIndexed parts → udps ≡ parts.udps.items → AreTables udps tables → length states ≡ length circuit.elements
+    → elements ≡ parts.elements.items → All (λ e. length e.inputs.items ≤ width) elements → width ≤ vec_capacity inputs.before → width ≤ vec_capacity inputs.after
     → AreEvaluable parts tables states inputs
-evaluable_first circuit parts tables elements others udps states inputs width seen closed indexed same_udps compiled same first same_too most before after = record {
+evaluable_with circuit parts tables elements udps states inputs width seen closed indexed same_udps compiled many same most before after = record {
   closed = subst (λ c. IsClosed c) (sym seen) closed;
   indexed = indexed;
   tables_are = subst (λ us. AreTables us tables) same_udps compiled;
-  state_of_each = length-first_states (circuit_seen parts) states (first_states (circuit_seen parts) parts elements states refl same first);
-  room = all_have_room (circuit_seen parts) parts others inputs width refl same_too most before after;
+  state_of_each = many ∙ ap (λ c. length c.elements) (sym seen);
+  room = all_have_room (circuit_seen parts) parts elements inputs width refl same most before after;
 }
 
-pub seen_first : (circuit : Circuit) (parts : Parts) (elements : List code_element.Element) (states : List Value) → circuit_seen parts ≡ circuit → elements ≡ parts.elements.items
-    → states ≡ map (λ e. first_of_kind (kind_seen parts e.kind)) elements → ◌≡◌ {A = ElementsSeen} (record { circuit = circuit_seen parts; states = states }) (record { circuit = circuit; states = (first_state circuit).states })
-seen_first circuit parts elements states seen same is =
-    let with : Circuit → List Value → ElementsSeen = λ c vs. record { circuit = c; states = vs } in
-    ap (λ c. with c states) seen ∙ ap (λ vs. with circuit vs) (first_states circuit parts elements states seen same is)
+pub with_states : (circuit : Circuit) (earlier : List Latest) (states states' : List Value) → states ≡ states' → ◌≡◌ {A = ElementsSeen} (record { circuit = circuit; earlier = earlier; states = states }) (record { circuit = circuit; earlier = earlier; states = states' })
+with_states circuit earlier states states' e =
+    let with : List Value → ElementsSeen = λ vs. record { circuit = circuit; earlier = earlier; states = vs } in
+    ap with e
+
+pub with_earlier : (circuit : Circuit) (earlier earlier' : List Latest) (states : List Value) → earlier ≡ earlier' → ◌≡◌ {A = ElementsSeen} (record { circuit = circuit; earlier = earlier; states = states }) (record { circuit = circuit; earlier = earlier'; states = states })
+with_earlier circuit earlier earlier' states e =
+    let with : List Latest → ElementsSeen = λ ls. record { circuit = circuit; earlier = ls; states = states } in
+    ap with e
+
+pub of_circuit_seen : (circuit : Circuit) (parts : Parts) (earlier : List Latest) (states : List Value) → circuit_seen parts ≡ circuit
+    → ◌≡◌ {A = ElementsSeen} (record { circuit = circuit_seen parts; earlier = earlier; states = states }) (record { circuit = circuit; earlier = earlier; states = states })
+of_circuit_seen circuit parts earlier states seen =
+    let with : Circuit → ElementsSeen = λ c. record { circuit = c; earlier = earlier; states = states } in
+    ap with seen
 
 -- one table more
 pub tables_more : (udps : List UdpUse) (i : ℕ) (u : UdpUse) (tables : List Table) (t : Table) → i < length udps → u ≡ slice_index_or udps i u → AreTables (take i udps) tables → IsWhole t → IsTableOf u.rows t → AreTables (take (i + 1) udps) (tables ++ t ∷ [])

@@ -9,4 +9,7 @@ pub mod PlacingLaws
 mod Examples
 pub mod DelayLaws
 pub mod ElementLaws
+pub mod RestoredLaws
+pub mod EngineLaws
 pub mod SimLaws
+pub mod ResumedLaws

@@ -18,21 +18,25 @@ use Rattle.sg_circuit.specs.Circuit.{Circuit, Element, Kind, Gate, Udp, Pass, Le
 use Rattle.path_pick.proofs.LaterLaws.{picked_later}
 use Rattle.sg_circuit.specs.Closed.{IsClosed}
 use Rattle.sg_circuit.specs.declared.checks.Check.{Check}
+use Rattle.time_checks.specs.declared.latest.Latest.{Latest}
 use Rattle.time_checks.specs.Adjusted.{adjusted_checks}
 use Rattle.time_checks.proofs.QuietLaws.{violations-again}
 use Rattle.sim_rounds.specs.Notifiers.{is_named, numbers_from}
 use Rattle.fan_round.specs.Rounds.{IsLater, time_of_rule}
-use Rattle.sim_rounds.specs.Simulated.{machine_of, values_at, value_of_kind, rule_of_kind}
+use Rattle.sim_rounds.specs.Simulated.{machine_of, machine_since, values_at, value_of_kind, rule_of_kind}
 
-pub lawful : (circuit : Circuit) → IsLawful (machine_of circuit)
-lawful circuit = record {
-  quiet = λ now last values older. violations-again (adjusted_checks circuit) now (record { time = last; values = values }) older;
+pub lawful_since : (circuit : Circuit) (earlier : List Latest) → IsLawful (machine_since circuit earlier)
+lawful_since circuit earlier = record {
+  quiet = λ now last values older. violations-again earlier (adjusted_checks circuit) now (record { time = last; values = values }) older;
   unnamed = none_named circuit.checks 0 (length circuit.nets);
 }
   where
     none_named : (checks : List Check) (k n : ℕ) → numbers_from (is_named checks []) k n ≡ []
     none_named checks k zero = refl
     none_named checks k (suc n) = none_named checks (suc k) n
+
+pub lawful : (circuit : Circuit) → IsLawful (machine_of circuit)
+lawful circuit = lawful_since circuit []
 
 -- the values that an element reads are the same
 pub read_same : (nets : List ℕ) (vs ws : List Value) → AgreeAt nets vs ws → values_at nets vs ≡ values_at nets ws
@@ -110,7 +114,7 @@ apart drives k (x ∷ xs) h = (
   apart drives (suc k) xs (λ e l. (let e' : k + suc e ≡ suc k + e = omega arith in h (suc e) (omega arith) ∙ ap (λ n. driver.Element n) e')),
 )
 
-output_at : (circuit : Circuit) (e : ℕ) → e < length circuit.elements → slice_index_or (map (λ (x : Element). x.output) circuit.elements) e 0 ≡ (element_at circuit e).output
+pub output_at : (circuit : Circuit) (e : ℕ) → e < length circuit.elements → slice_index_or (map (λ (x : Element). x.output) circuit.elements) e 0 ≡ (element_at circuit e).output
 output_at circuit e l = get_or-map (λ (x : Element). x.output) circuit.elements e (record { scope = 0; inputs = []; output = 0; kind = Pass None }) 0 l
 
 -- what is named by an element of a closed circuit

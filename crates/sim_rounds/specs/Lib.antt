@@ -8,7 +8,9 @@ pub mod Moments
 pub mod MomentsSeen
 pub mod MomentLaws
 pub mod Notifiers
-pub mod Fresh
+pub mod Engines
+pub mod MomentProps
+pub mod Restored
 pub mod Setting
 pub mod Evaluable
 pub mod Stopping

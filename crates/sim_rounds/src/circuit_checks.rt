@@ -1,5 +1,5 @@
 // The timing checks of a circuit, and the toggles of their notifiers.
-ghost use Rattle.std.specs.Prelude.{◌≡◌, ℕ, ◌||◌, ◌++◌, ◌<◌, ◌≤◌, [], All, IfOk, IfSome, OnOk, drop, false, length, map, replicate};
+ghost use Rattle.std.specs.Prelude.{◌≡◌, ℕ, ◌||◌, ◌++◌, ◌<◌, ◌≤◌, [], ◌∷◌, All, IfOk, IfSome, OnOk, drop, false, length, map, replicate};
 ghost use Rattle.std.specs.Vec.{vec_capacity};
 ghost use Rattle.fan_round.specs.States.{IsIdle};
 ghost use Rattle.fan_round.specs.Work.{AreMarked, mark_at};
@@ -7,9 +7,12 @@ ghost use Rattle.sg_model.specs.Time.{toggles as toggles_of};
 ghost use Rattle.sg_model.specs.Values.{value_at};
 ghost use Rattle.sg_stimulus.specs.Seen.{set_seen};
 ghost use Rattle.time_checks.specs.Seen.{violation_seen};
-ghost use Rattle.sim_rounds.specs.CircuitChecks.{AreFirst};
+ghost use Rattle.sim_rounds.specs.Engines.{AreChecksAt, AreChecksBy};
+ghost use Rattle.sim_rounds.specs.Moments.{Fits, snapshot_of};
+ghost use Rattle.sim_rounds.specs.MomentsSeen.{moment_seen};
 ghost use Rattle.sim_rounds.specs.Notifiers.{is_named, is_net, notifier_at, notifiers_of, toggle_to, toggled_value};
 
+use crate::moments::Moment;
 use fan_round::{WorkList, clear_work, mark_all};
 use sg_circuit::{Check, Circuit, NetId};
 use sg_logic::Value;
@@ -151,13 +154,16 @@ fn added(violations: &[Violation], before: usize) -> &[Violation]
 }
 
 impl<'a> CircuitChecks<'a> {
-    /// The checks of a circuit, which have seen nothing. Takes memory in proportion to the nets and the checks.
-    pub fn new(alloc: Global, circuit: &'a Circuit) -> Result<CircuitChecks<'a>, NoMemory>
-        ensures { IfOk result (λ c. AreFirst circuit.now c.checks.now c.checker c.touched c.named) }
+    // The checks of a circuit with their checker, where no net changed since its last snapshot.
+    fn of_checker(
+        alloc: Global,
+        circuit: &'a Circuit,
+        checker: Checker<'a>,
+    ) -> Result<CircuitChecks<'a>, NoMemory>
+        ensures { IfOk result (λ c. AreChecksBy circuit.now checker.entry c.checks.now c.checker c.touched c.named) }
     {
         let parts = circuit.parts();
         let nets = parts.nets.len() as u32;
-        let checker = Checker::new(alloc, circuit)?;
         let touched = WorkList::new(alloc, nets)?;
         let named = WorkList::new(alloc, nets)?;
         Ok(CircuitChecks {
@@ -166,6 +172,31 @@ impl<'a> CircuitChecks<'a> {
             touched,
             named,
         })
+    }
+
+    /// The checks of a circuit, which have seen nothing. Takes memory in proportion to the nets and the checks.
+    pub fn new(alloc: Global, circuit: &'a Circuit) -> Result<CircuitChecks<'a>, NoMemory>
+        ensures { IfOk result (λ c. AreChecksAt circuit.now [] [] c.checks.now c.checker c.touched c.named) }
+    {
+        let checker = Checker::new(alloc, circuit)?;
+        CircuitChecks::of_checker(alloc, circuit, checker)
+    }
+
+    /// The checks of a circuit after the time of a moment that fits it, whose nets they have seen. Takes as much memory as
+    /// `new`.
+    pub fn resume(
+        alloc: Global,
+        circuit: &'a Circuit,
+        moment: &'a Moment,
+    ) -> Result<CircuitChecks<'a>, NoMemory>
+        requires { Fits circuit.now (moment_seen moment.now) }
+        ensures { IfOk result (λ c. AreChecksAt circuit.now moment.now.latest.items (snapshot_of (moment_seen moment.now) ∷ []) c.checks.now c.checker c.touched c.named) }
+    {
+        let mut checker = Checker::resume(alloc, circuit, &moment.latest)?;
+        // the first snapshot that a checker sees has no violation
+        let mut none = Vec::new(alloc);
+        checker.see(moment.time, &[], &moment.nets, &mut none)?;
+        CircuitChecks::of_checker(alloc, circuit, checker)
     }
 }
 

@@ -1,12 +1,16 @@
 // The elements of a circuit, with what each computed last.
-ghost use Rattle.std.specs.Prelude.{◌≡◌, ◌≤◌, All, IfOk, length, map};
+ghost use Rattle.std.specs.Prelude.{◌≡◌, ◌≤◌, [], All, IfOk, length, map};
 ghost use Rattle.sg_circuit.specs.Seen.{kind_seen, IsIndexed};
 ghost use Rattle.sim_rounds.specs.Elements.{AreTables};
+ghost use Rattle.sim_rounds.specs.Moments.{Fits, state_of};
+ghost use Rattle.sim_rounds.specs.MomentsSeen.{moment_seen};
 ghost use Rattle.sim_rounds.specs.Simulated.{first_of_kind, first_state};
 
 use crate::computing::{Inputs, compute};
+use crate::moments::Moment;
 use crate::nets::NetsAfter;
 use crate::placing::place_value;
+use crate::restoring::last_values;
 use fan_round::{Elements, Stamp};
 use path_pick::Marks;
 use pulse_list::Agenda;
@@ -102,26 +106,54 @@ fn compile(alloc: Global, udps: &[UdpUse]) -> Result<Vec<Table>, NoMemory>
 }
 
 impl<'a> CircuitElements<'a> {
-    /// The elements of a circuit as they are before time 0. It compiles the circuit's primitives, and takes memory in
-    /// proportion to their tables and to the numbers of elements and nets.
-    pub fn new(alloc: Global, circuit: &'a Circuit) -> Result<CircuitElements<'a>, NoMemory>
-        ensures { IfOk result (λ g. g ≡ record { circuit = circuit.now; earlier = []; states = (first_state circuit.now).states }) }
+    // The elements of a circuit that computed these values last, where this was known of the events of its timing checks.
+    fn of_states(
+        alloc: Global,
+        circuit: &'a Circuit,
+        earlier: &'a [Latest],
+        states: Vec<Value>,
+    ) -> Result<CircuitElements<'a>, NoMemory>
+        requires { length states.items ≡ length circuit.now.elements }
+        ensures { IfOk result (λ g. g ≡ record { circuit = circuit.now; earlier = earlier.now; states = states.items }) }
     {
         let parts = circuit.parts();
         let tables = compile(alloc, &parts.udps)?;
-        let states = first_values(alloc, parts, &parts.elements)?;
         let width = widest(&parts.elements);
         let before = Vec::with_capacity(alloc, width)?;
         let after = Vec::with_capacity(alloc, width)?;
         let marks = Marks::new(alloc, parts.nets.len())?;
         Ok(CircuitElements {
             parts,
-            earlier: &[],
+            earlier,
             tables,
             states,
             inputs: Inputs { before, after },
             marks,
         })
+    }
+
+    /// The elements of a circuit as they are before time 0. It compiles the circuit's primitives, and takes memory in
+    /// proportion to their tables and to the numbers of elements and nets.
+    pub fn new(alloc: Global, circuit: &'a Circuit) -> Result<CircuitElements<'a>, NoMemory>
+        ensures { IfOk result (λ g. g ≡ record { circuit = circuit.now; earlier = []; states = (first_state circuit.now).states }) }
+    {
+        let parts = circuit.parts();
+        let states = first_values(alloc, parts, &parts.elements)?;
+        CircuitElements::of_states(alloc, circuit, &[], states)
+    }
+
+    /// The elements of a circuit as they are after the time of a moment that fits it. Takes as much memory as `new`.
+    pub fn resume(
+        alloc: Global,
+        circuit: &'a Circuit,
+        moment: &'a Moment,
+    ) -> Result<CircuitElements<'a>, NoMemory>
+        requires { Fits circuit.now (moment_seen moment.now) }
+        ensures { IfOk result (λ g. g ≡ record { circuit = circuit.now; earlier = moment.now.latest.items; states = (state_of circuit.now (moment_seen moment.now)).states }) }
+    {
+        let parts = circuit.parts();
+        let states = last_values(alloc, &parts.elements, &moment.nets, &moment.pending)?;
+        CircuitElements::of_states(alloc, circuit, &moment.latest, states)
     }
 }
 

@@ -4,12 +4,14 @@
 mod circuit_checks;
 mod computing;
 mod elements;
+mod engine;
 mod fitting;
 mod laws;
 mod moments;
 mod nets;
 mod pausing;
 mod placing;
+mod restoring;
 mod resumed;
 mod sim;
 mod stops;

@@ -1,17 +1,23 @@
 // A simulator that goes on from a moment.
-use crate::circuit_checks::CircuitChecks;
-use crate::elements::CircuitElements;
+ghost use Rattle.std.specs.Prelude.{[], ◌∷◌};
+ghost use Rattle.std.specs.Coded.{Coded-set, coded_ℕ};
+ghost use Rattle.std.proofs.Props.{props};
+ghost use Rattle.cond_expr.specs.Codes.{coded_cond};
+ghost use Rattle.sim_rounds.specs.Engines.{AreChecksAt, IsEngineAt};
+ghost use Rattle.sim_rounds.specs.MomentProps.{Fits-prop};
+ghost use Rattle.sim_rounds.specs.Moments.{Fits, snapshot_of, state_of};
+ghost use Rattle.sim_rounds.specs.MomentsSeen.{moment_seen};
+
+use crate::engine::Engine;
 use crate::moments::Moment;
-use crate::sim::Finished;
+use crate::sim::{Finished, recall_closed, tally_of};
 use crate::stops::Until;
-use fan_round::{Nets, WorkList};
 use pulse_list::Agenda;
-use sg_circuit::{Circuit, FanOut, NetId};
+use sg_circuit::Circuit;
 use sg_io::Shelf;
 use sg_steps::Steps;
 use sg_stimulus::Stimulus;
-use sim_times::{Told, Watch};
-use std::alloc::Global;
+use sim_times::{Watch, make_times};
 use std::sync::ledger::Ledger;
 
 /// A circuit after the time of a moment.
@@ -19,10 +25,21 @@ use std::sync::ledger::Ledger;
 pub struct Resumed<'a, A: Agenda> {
     pub(super) circuit: &'a Circuit,
     pub(super) moment: &'a Moment,
-    // and the parts as those of Sim, with a ghost field that says how they stand: IsAt circuit moment ..
+    pub(super) engine: Engine<'a, A>,
+    ghost fits: { Fits circuit.now (moment_seen moment.now) } by { Fits-prop circuit.now (moment_seen moment.now) },
+    ghost seen: { AreChecksAt circuit.now moment.now.latest.items (snapshot_of (moment_seen moment.now) ∷ []) engine.checks.checks.now engine.checks.checker engine.checks.touched engine.checks.named } by { Prim.hlevel (props, Coded-set (coded_cond coded_ℕ)) },
+    ghost at: { IsEngineAt circuit.now moment.now.latest.items (state_of circuit.now (moment_seen moment.now)) engine.nets engine.told engine.work engine.elements (A.lists engine.agenda) engine.fan engine.outputs.items },
 }
 
 impl<'a, A: Agenda + Drop> Resumed<'a, A> {
+    ghost use Rattle.std.specs.Prelude.{◌≡◌, ◌-◌, ◌<◌, ◌≤◌, length, map};
+    ghost use Rattle.sg_stimulus.specs.Applied.{IsApplied};
+    ghost use Rattle.sg_stimulus.specs.Seen.{stimulus_seen};
+    ghost use Rattle.time_checks.specs.Seen.{violation_seen};
+    ghost use Rattle.sim_times.specs.Runs.{CauseOfEnd, HasEndedFrom, NamesFaultOfEnd};
+    ghost use Rattle.sim_times.specs.Times.{count_shown};
+    ghost use Rattle.sim_rounds.specs.Stopping.{origin_at, setting_since, told_of};
+
     /// Makes the rest of the run of the circuit under a stimulus, from the tick after the moment on, to the stimulus's end or to a time that needs more
     /// rounds than so many, and tells the watcher: at each time whose nets differ from those of the time before, with
     /// exactly these nets, and at the end. Steps of the stimulus up to the moment are passed over, and no first round
@@ -52,7 +69,26 @@ impl<'a, A: Agenda + Drop> Resumed<'a, A> {
         ensures circuit { W.circuit watcher.new ≡ W.circuit watcher.old }
         ensures keeps { W.keeps watcher.old shelf.old shelf.new }
     {
-        todo
+        recall_closed(self.circuit);
+        let Resumed {
+            circuit: _,
+            moment,
+            engine,
+        } = self;
+        let mut simulation = engine.simulate(stimulus, moment.last);
+        let end = make_times(
+            &mut simulation,
+            moment.time + 1,
+            stimulus.end,
+            rounds,
+            shelf,
+            watcher,
+            steps,
+        );
+        Finished {
+            end,
+            tally: tally_of(simulation),
+        }
     }
 
     /// Makes the rest as `run` does, up to a time that isn't below the moment's nor the end, and then pauses it. The new

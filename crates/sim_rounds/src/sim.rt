@@ -1,16 +1,19 @@
 // The simulator of a circuit.
-ghost use Rattle.std.specs.Prelude.{◌≡◌, IfOk, map, take};
+ghost use Rattle.std.specs.Prelude.{◌≡◌, [], IfOk, map, take};
 ghost use Rattle.std.specs.Coded.{Coded-set, coded_ℕ};
 ghost use Rattle.std.proofs.Props.{props};
 ghost use Rattle.cond_expr.specs.Codes.{coded_cond};
 ghost use Rattle.time_checks.specs.Seen.{violation_seen};
-ghost use Rattle.sim_rounds.specs.CircuitChecks.{AreFirst};
-ghost use Rattle.sim_rounds.specs.Fresh.{IsFresh};
-ghost use Rattle.sim_rounds.specs.Simulated.{first_value_of};
+ghost use Rattle.sim_rounds.specs.Engines.{AreChecksAt, IsEngineAt};
+ghost use Rattle.sim_rounds.specs.Simulated.{first_state, first_value_of};
 ghost use Rattle.sg_circuit.specs.Closed.{IsClosed};
 
 use crate::circuit_checks::CircuitChecks;
 use crate::elements::CircuitElements;
+use crate::engine::Engine;
+use crate::moments::Moment;
+use crate::restoring::{add_pending, nets_of};
+use crate::resumed::Resumed;
 use fan_round::{Nets, WorkList};
 use pulse_list::Agenda;
 use sg_circuit::{Circuit, Driver, Element, FanOut, Net, NetId};
@@ -72,15 +75,15 @@ fn outputs_of(alloc: Global, elements: &[Element]) -> Result<Vec<NetId>, NoMemor
     )
 }
 
-// The parts of a circuit fit together.
-fn recall_closed(circuit: &Circuit)
+/// The parts of a circuit fit together.
+pub fn recall_closed(circuit: &Circuit)
     ensures { IsClosed circuit.now }
 {
     let _ = circuit.parts();
 }
 
-// What a simulation found in the times that ended.
-fn tally_of<A: Drop, E: Drop, C: Drop>(simulation: Simulation<'_, A, E, C>) -> Tally
+/// What a simulation found in the times that ended.
+pub fn tally_of<A: Drop, E: Drop, C: Drop>(simulation: Simulation<'_, A, E, C>) -> Tally
     ensures violations { map (λ v. violation_seen v) result.violations.items ≡ take simulation.entry.ended (map (λ v. violation_seen v) simulation.entry.violations.items) }
     ensures evaluations { result.evaluations ≡ simulation.entry.evaluations }
     ensures last { result.last ≡ simulation.entry.last }
@@ -114,24 +117,18 @@ fn tally_of<A: Drop, E: Drop, C: Drop>(simulation: Simulation<'_, A, E, C>) -> T
 #[derive(Drop)]
 pub struct Sim<'a, A: Agenda> {
     circuit: &'a Circuit,
-    alloc: Global,
-    nets: Nets,
-    told: Told,
-    work: WorkList,
-    elements: CircuitElements<'a>,
-    agenda: A,
-    fan: FanOut,
-    outputs: Vec<NetId>,
-    checks: CircuitChecks<'a>,
-    ghost first: { AreFirst circuit.now checks.checks.now checks.checker checks.touched checks.named } by { Prim.hlevel (props, Coded-set (coded_cond coded_ℕ)) },
-    ghost fresh: { IsFresh circuit.now nets told work elements (A.lists agenda) fan outputs.items },
+    engine: Engine<'a, A>,
+    ghost unseen: { AreChecksAt circuit.now [] [] engine.checks.checks.now engine.checks.checker engine.checks.touched engine.checks.named } by { Prim.hlevel (props, Coded-set (coded_cond coded_ℕ)) },
+    ghost fresh: { IsEngineAt circuit.now [] (first_state circuit.now) engine.nets engine.told engine.work engine.elements (A.lists engine.agenda) engine.fan engine.outputs.items },
 }
 
 impl<'a, A: Agenda + Drop> Sim<'a, A> {
-    ghost use Rattle.std.specs.Prelude.{◌≡◌, ◌-◌, ◌<◌, ◌≤◌, [], IfOk, length, map, replicate};
+    ghost use Rattle.std.specs.Prelude.{◌≡◌, ◌-◌, ◌<◌, ◌≤◌, ◌^◌, [], IfOk, length, map, replicate};
     ghost use Rattle.sg_stimulus.specs.Applied.{IsApplied};
     ghost use Rattle.sg_stimulus.specs.Seen.{stimulus_seen};
     ghost use Rattle.sim_times.specs.Runs.{CauseOfEnd, HasEnded, NamesFaultOfEnd};
+    ghost use Rattle.sim_rounds.specs.Moments.{Fits};
+    ghost use Rattle.sim_rounds.specs.MomentsSeen.{moment_seen};
     ghost use Rattle.sim_rounds.specs.Setting.{setting_of};
     ghost use Rattle.sim_times.specs.Times.{count_shown};
 
@@ -151,15 +148,17 @@ impl<'a, A: Agenda + Drop> Sim<'a, A> {
         let checks = CircuitChecks::new(alloc, circuit)?;
         Ok(Sim {
             circuit,
-            alloc,
-            nets,
-            told,
-            work,
-            elements,
-            agenda,
-            fan,
-            outputs,
-            checks,
+            engine: Engine {
+                alloc,
+                nets,
+                told,
+                work,
+                elements,
+                agenda,
+                fan,
+                outputs,
+                checks,
+            },
         })
     }
 
@@ -192,41 +191,23 @@ impl<'a, A: Agenda + Drop> Sim<'a, A> {
         ensures keeps { W.keeps watcher.old shelf.old shelf.new }
     {
         recall_closed(self.circuit);
-        let Sim {
-            circuit: _,
-            alloc,
-            nets,
-            told,
-            work,
-            elements,
-            agenda,
-            fan,
-            outputs,
-            checks,
-        } = self;
-        let mut simulation = Simulation {
-            nets,
-            told,
-            work,
-            elements,
-            agenda,
-            checks,
-            fan,
-            outputs,
-            stimulus,
-            handed: Vec::new(alloc),
-            violations: Vec::new(alloc),
-            ended: 0,
-            evaluations: 0,
-            changes: Vec::new(alloc),
-            last: 0,
-        };
-        let end = make_times(&mut simulation, 0, stimulus.end, rounds, shelf, watcher, steps);
+        let Sim { circuit: _, engine } = self;
+        let mut simulation = engine.simulate(stimulus, 0);
+        let end = make_times(
+            &mut simulation,
+            0,
+            stimulus.end,
+            rounds,
+            shelf,
+            watcher,
+            steps,
+        );
         Finished {
             end,
             tally: tally_of(simulation),
         }
     }
+
     /// Makes the run as `run` does, up to a time before the end, and then pauses it: the end isn't told.
     pub fn run_until<S: Shelf, W: Watch<S>, L: Ledger>(
         self,
@@ -267,6 +248,30 @@ impl<'a, A: Agenda + Drop> Sim<'a, A> {
         ensures circuit { IfOk result (λ sim. sim.circuit.now ≡ circuit.now) }
         ensures moment { IfOk result (λ sim. moment_seen sim.moment.now ≡ moment_seen moment.now) }
     {
-        todo
+        let parts = circuit.parts();
+        let mut agenda = agenda;
+        add_pending(&mut agenda, &moment.pending)?;
+        let nets = nets_of(alloc, moment)?;
+        let told = Told::new(alloc, &moment.nets)?;
+        let work = WorkList::new(alloc, parts.elements.len() as u32)?;
+        let elements = CircuitElements::resume(alloc, circuit, moment)?;
+        let fan = FanOut::build(alloc, circuit)?;
+        let outputs = outputs_of(alloc, &parts.elements)?;
+        let checks = CircuitChecks::resume(alloc, circuit, moment)?;
+        Ok(Resumed {
+            circuit,
+            moment,
+            engine: Engine {
+                alloc,
+                nets,
+                told,
+                work,
+                elements,
+                agenda,
+                fan,
+                outputs,
+                checks,
+            },
+        })
     }
 }

@@ -13,7 +13,7 @@ use Rattle.time_checks.specs.Checking.{Kept, Sees}
 use Rattle.time_checks.specs.Seen.{violation_seen}
 use Rattle.time_checks.proofs.TouchLaws.{listed-within}
 use Rattle.sim_rounds.specs.Notifiers.{notifiers_of}
-use Rattle.sim_rounds.proofs.CircuitChecksLaws.{checks_over, found_behind, notifiers_still, violated_still}
+use Rattle.sim_rounds.proofs.CircuitChecksLaws.{checks_over, found_behind, latest_still, notifiers_still, violated_still}
 use Rattle.sim_rounds.proofs.SeenLaws.{seen_by}
 use Rattle.sim_times.proofs.SimulationLaws.{begun_still}
 use Rattle.sim_rounds.proofs.circuit_checks.CircuitChecksChecks.see.Goals as goal
@@ -38,13 +38,19 @@ added-found-requires c =
     omega arith
 
 pub returns-in_err-see-clause-violated : goal.returns-in_err-see-clause-violated
-returns-in_err-see-clause-violated c = violated_still c.args.self.now.checker c.see.new.self c.see.ensures.checks
+returns-in_err-see-clause-violated c = violated_still c.args.self.now.checker c.see.new.self c.see.ensures.checks c.see.ensures.earlier
+
+pub returns-in_err-see-clause-latest : goal.returns-in_err-see-clause-latest
+returns-in_err-see-clause-latest c = latest_still c.args.self.now.checker c.see.new.self c.see.ensures.checks c.see.ensures.earlier
 
 pub returns-in_err-see-clause-notifiers : goal.returns-in_err-see-clause-notifiers
 returns-in_err-see-clause-notifiers c = notifiers_still c.args.self.now.checks.now c.args.self.now.checker c.see.new.self c.see.ensures.nets
 
 pub returns-clause-violated : goal.returns-clause-violated
-returns-clause-violated c = violated_still c.args.self.now.checker c.see.new.self c.see.ensures.checks
+returns-clause-violated c = violated_still c.args.self.now.checker c.see.new.self c.see.ensures.checks c.see.ensures.earlier
+
+pub returns-clause-latest : goal.returns-clause-latest
+returns-clause-latest c = latest_still c.args.self.now.checker c.see.new.self c.see.ensures.checks c.see.ensures.earlier
 
 pub returns-clause-notifiers : goal.returns-clause-notifiers
 returns-clause-notifiers c = notifiers_still c.args.self.now.checks.now c.args.self.now.checker c.see.new.self c.see.ensures.nets
@@ -77,6 +83,6 @@ returns-clause-seen c =
     let behind : part ≡ drop (length old) new = c.added-found.ensures ∙ (ap (λ vs. drop c.len-before.result vs) c.deref-2.ensures.value ∙ ap (λ k. drop k new) before) in
     let is : seen part ≡ sees.found = ap seen behind ∙ found_behind (λ v. violation_seen v) old new sees.found sees.added in
     on_ok_weaker c.toggle_notifiers.result
-    (λ handed. seen_by (λ vs. notifiers_of s.checks.now (length kept.last) vs) kept c.see.new.self s.touched touched c.args.now values old new part c.toggle_notifiers.new.toggles.items sees is
+    (λ handed. seen_by (λ vs. notifiers_of s.checks.now (length kept.last) vs) kept c.see.new.self s.touched touched c.args.now values old new part c.toggle_notifiers.new.toggles.items c.see.ensures.earlier sees is
     (handed ∙ ap (λ k. toggles_of (notifiers_of s.checks.now k (seen part)) values) (sym c.requires.over.last)))
     c.toggle_notifiers.ensures.toggles

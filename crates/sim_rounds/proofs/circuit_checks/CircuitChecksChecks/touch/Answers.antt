@@ -20,6 +20,7 @@ returns-clause-stands c = λ ss h.
     let marks : c.mark_all.new.marks ≡ with_marks c.args.changed.now old.marks.items = c.mark_all.ensures.marks ∙ ap (with_marks c.args.changed.now) c.deref_mut.ensures.value in
     let back : new.marks.items ≡ c.mark_all.new.marks = with_items_is old.marks c.mark_all.new.marks (ap length marks ∙ (length-with_marks c.args.changed.now old.marks.items ∙ sym old.marks.ok.0)) in
     record {
+      begun = h.begun;
       stands = h.stands;
       leads = touched_leads c.args.before.now c.args.values.now c.args.changed.now old new (length c.args.values.now) c.requires.changed c.requires.over.listed.marks
           (λ i d l. subst (λ n. slice_index_or c.args.changed.now i d < n) (sym c.requires.changed.as_many) (changed-within c.args.before.now c.args.values.now c.args.changed.now i d c.requires.changed l))

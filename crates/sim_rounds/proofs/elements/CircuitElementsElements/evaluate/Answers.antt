@@ -8,25 +8,25 @@ use Rattle.sim_rounds.proofs.ElementLaws.{inputs_in, output_in, room_in, takes_i
 use Rattle.sim_rounds.proofs.elements.CircuitElementsElements.evaluate.Goals as goal
 
 pub compute-value-requires-clause-before : goal.compute-value-requires-clause-before
-compute-value-requires-clause-before g c = inputs_in c.args.self.now c.self.inside.parts.now c.self.inside.tables.items c.self.inside.states.items c.self.inside.inputs c.args.element c.index-item.result.now c.args.before.now c.self.view_is c.self.invariant.0 c.requires.known c.index-item.ensures c.requires.before
+compute-value-requires-clause-before g c = inputs_in c.args.self.now c.self.inside.parts.now c.self.inside.earlier.now c.self.inside.tables.items c.self.inside.states.items c.self.inside.inputs c.args.element c.index-item.result.now c.args.before.now c.self.view_is c.self.invariant.0 c.requires.known c.index-item.ensures c.requires.before
 
 pub compute-value-requires-clause-after : goal.compute-value-requires-clause-after
-compute-value-requires-clause-after g c = inputs_in c.args.self.now c.self.inside.parts.now c.self.inside.tables.items c.self.inside.states.items c.self.inside.inputs c.args.element c.index-item.result.now c.args.values.now c.self.view_is c.self.invariant.0 c.requires.known c.index-item.ensures c.requires.values
+compute-value-requires-clause-after g c = inputs_in c.args.self.now c.self.inside.parts.now c.self.inside.earlier.now c.self.inside.tables.items c.self.inside.states.items c.self.inside.inputs c.args.element c.index-item.result.now c.args.values.now c.self.view_is c.self.invariant.0 c.requires.known c.index-item.ensures c.requires.values
 
 pub compute-value-requires-clause-room : goal.compute-value-requires-clause-room
-compute-value-requires-clause-room g c = room_in c.args.self.now c.self.inside.parts.now c.self.inside.tables.items c.self.inside.states.items c.self.inside.inputs c.args.element c.index-item.result.now c.self.view_is c.self.invariant.0 c.requires.known c.index-item.ensures
+compute-value-requires-clause-room g c = room_in c.args.self.now c.self.inside.parts.now c.self.inside.earlier.now c.self.inside.tables.items c.self.inside.states.items c.self.inside.inputs c.args.element c.index-item.result.now c.self.view_is c.self.invariant.0 c.requires.known c.index-item.ensures
 
 pub compute-value-requires-clause-takes : goal.compute-value-requires-clause-takes
-compute-value-requires-clause-takes g c = takes_in c.args.self.now c.self.inside.parts.now c.self.inside.tables.items c.self.inside.states.items c.self.inside.inputs c.args.element c.index-item.result.now c.self.view_is c.self.invariant.0 c.requires.known c.index-item.ensures
+compute-value-requires-clause-takes g c = takes_in c.args.self.now c.self.inside.parts.now c.self.inside.earlier.now c.self.inside.tables.items c.self.inside.states.items c.self.inside.inputs c.args.element c.index-item.result.now c.self.view_is c.self.invariant.0 c.requires.known c.index-item.ensures
 
 pub bounds-values-item : goal.bounds-values-item
-bounds-values-item g c = output_in c.args.self.now c.self.inside.parts.now c.self.inside.tables.items c.self.inside.states.items c.self.inside.inputs c.args.element c.index-item.result.now c.args.values.now c.self.view_is c.self.invariant.0 c.requires.known c.index-item.ensures c.requires.values
+bounds-values-item g c = output_in c.args.self.now c.self.inside.parts.now c.self.inside.earlier.now c.self.inside.tables.items c.self.inside.states.items c.self.inside.inputs c.args.element c.index-item.result.now c.args.values.now c.self.view_is c.self.invariant.0 c.requires.known c.index-item.ensures c.requires.values
 
 pub place_value-requires-clause-delays : goal.place_value-requires-clause-delays
-place_value-requires-clause-delays g c = delays_in c.args.self.now c.self.inside.parts.now c.self.inside.tables.items c.self.inside.states.items c.self.inside.inputs c.args.element c.index-item.result.now c.self.view_is c.self.invariant.0 c.requires.known c.index-item.ensures
+place_value-requires-clause-delays g c = delays_in c.args.self.now c.self.inside.parts.now c.self.inside.earlier.now c.self.inside.tables.items c.self.inside.states.items c.self.inside.inputs c.args.element c.index-item.result.now c.self.view_is c.self.invariant.0 c.requires.known c.index-item.ensures
 
 pub place_value-requires-clause-paths : goal.place_value-requires-clause-paths
-place_value-requires-clause-paths g c = paths_in c.args.self.now c.self.inside.parts.now c.self.inside.tables.items c.self.inside.states.items c.self.inside.inputs c.args.element c.index-item.result.now c.args.values.now c.self.view_is c.self.invariant.0 c.requires.known c.index-item.ensures c.requires.values
+place_value-requires-clause-paths g c = paths_in c.args.self.now c.self.inside.parts.now c.self.inside.earlier.now c.self.inside.tables.items c.self.inside.states.items c.self.inside.inputs c.args.element c.index-item.result.now c.args.values.now c.self.view_is c.self.invariant.0 c.requires.known c.index-item.ensures c.requires.values
 
 pub place_value-requires-clause-stamps : goal.place_value-requires-clause-stamps
 place_value-requires-clause-stamps g c = length-map c.args.stamps.now stamp_seen ∙ (c.requires.stamps ∙ sym c.requires.values)
@@ -39,5 +39,5 @@ pub returns-clause-lists : goal.returns-clause-lists
 returns-clause-lists g c =
     c.place_value.ensures.lists
     ∙ ap (λ list. with_list (g.A.Agenda.lists c.args.agenda.now) c.args.element list)
-    (list_in c.args.self.now c.self.inside.parts.now c.self.inside.tables.items c.self.inside.states.items c.self.inside.inputs c.args.element c.index-item.result.now c.args.now c.args.before.now c.args.values.now (map stamp_seen c.args.stamps.now) (list_at (g.A.Agenda.lists c.args.agenda.now) c.args.element) c.index-state.result.now c.compute-value.result _ Zero
+    (list_in c.args.self.now c.self.inside.parts.now c.self.inside.earlier.now c.self.inside.tables.items c.self.inside.states.items c.self.inside.inputs c.args.element c.index-item.result.now c.args.now c.args.before.now c.args.values.now (map stamp_seen c.args.stamps.now) (list_at (g.A.Agenda.lists c.args.agenda.now) c.args.element) c.index-state.result.now c.compute-value.result _ Zero
     c.self.view_is c.self.invariant.0 c.requires.known c.index-item.ensures c.requires.values c.index-state.ensures c.compute-value.ensures.value refl)

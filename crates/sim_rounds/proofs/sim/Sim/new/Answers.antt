@@ -1,5 +1,5 @@
 use Rattle.std.specs.Prelude.{◌≡◌, length, map}
-use Rattle.std.proofs.Common.{◌∙◌, sym, ap, subst}
+use Rattle.std.proofs.Common.{◌∙◌, sym, ap, subst, refl}
 use Rattle.sg_circuit.specs.Circuit.{Circuit}
 use Rattle.sg_circuit.specs.Seen.{circuit_seen, element_seen}
 use Rattle.sim_rounds.specs.Simulated.{first_value_of}
@@ -7,7 +7,7 @@ use Rattle.fan_round.specs.Nets.{stamp_seen}
 use Rattle.fan_round.specs.States.{IsIdle}
 use Rattle.sim_times.specs.Told.{IsTold}
 use Rattle.sim_rounds.specs.Simulated.{first_state}
-use Rattle.sim_rounds.proofs.SimLaws.{outputs_seen, no_stamps, count_seen}
+use Rattle.sim_rounds.proofs.SimLaws.{outputs_seen, no_lists, no_stamps, count_seen}
 use Rattle.sim_rounds.proofs.sim.Sim.new.Goals as goal
 
 pub invariant_of-result : goal.invariant_of-result
@@ -22,9 +22,10 @@ invariant_of-result g c =
     let stamps : length c.deref-2.result.now ≡ length circuit.nets = ap length (c.deref-2.ensures.value ∙ values) ∙ count_seen circuit.nets (λ n. first_value_of n.driver) in
     let many : c.len.result ≡ length circuit.elements = c.len.ensures ∙ (parts.elements.ok.0 ∙ (sym (count_seen parts.elements.items (element_seen parts)) ∙ ap (λ x. length x.elements) seen)) in
     record {
-      first = c.in_ok-checks.ensures;
+      unseen = c.in_ok-checks.ensures;
       fresh = record {
         circuit_of = ap (λ x. x.circuit) c.in_ok-elements.ensures;
+        earlier_of = ap (λ x. x.earlier) c.in_ok-elements.ensures;
         states = ap (λ x. x.states) c.in_ok-elements.ensures;
         values = nets;
         before = c.in_ok-nets.ensures.before ∙ (c.deref-2.ensures.value ∙ values);
@@ -33,7 +34,7 @@ invariant_of-result g c =
         told = subst (λ vs. IsTold c.in_ok-told.told vs) told c.in_ok-told.ensures.told;
         values_told = c.in_ok-told.ensures.values ∙ told;
         idle = subst (IsIdle c.in_ok-work.work) many c.in_ok-work.ensures;
-        lists = c.requires;
+        lists = c.requires ∙ no_lists (length circuit.elements) circuit.elements refl;
         fan_out = c.in_ok-fan.ensures.readers;
         each_net = c.in_ok-fan.ensures.nets;
         outputs = c.in_ok-outputs.ensures ∙ (ap (map (λ e. e.output)) c.deref-4.ensures.value ∙ (outputs_seen parts parts.elements.items ∙ ap (λ x. map (λ e. e.output) x.elements) seen));
