@@ -147,7 +147,8 @@ engine_ready all now circuit earlier state snapshots nets told work elements lis
 abbrev pub run_in : State → List Snapshot → Run
 run_in state snapshots = record { state = state; snapshots = snapshots; violations = []; before = state.values; evaluations = 0 }
 
-same_state : (a b : State) → a.values ≡ b.values → a.stamps ≡ b.stamps → a.lists ≡ b.lists → a.states ≡ b.states → a ≡ b
+-- states with the same parts are one
+pub same_state : (a b : State) → a.values ≡ b.values → a.stamps ≡ b.stamps → a.lists ≡ b.lists → a.states ≡ b.states → a ≡ b
 same_state a b v s l t =
     ap (λ x. record { values = x; stamps = a.stamps; lists = a.lists; states = a.states }) v
     ∙ (ap (λ x. record { values = b.values; stamps = x; lists = a.lists; states = a.states }) s

@@ -13,3 +13,12 @@ pub mod RestoredLaws
 pub mod EngineLaws
 pub mod SimLaws
 pub mod ResumedLaws
+pub mod PendingTimes
+pub mod PendingInvariants
+pub mod StampInvariants
+pub mod SoonLaws
+pub mod StateInvariants
+pub mod RunInvariants
+pub mod EventTimes
+pub mod MomentForms
+pub mod MomentsFit

@@ -1,5 +1,5 @@
 -- What is so of each moment that a run comes to.
-use Rattle.std.specs.Prelude.{◌≡◌, ℕ, suc, ◌-◌, ◌<◌, ◌≤◌, ◌^◌, [], None}
+use Rattle.std.specs.Prelude.{◌≡◌, ℕ, suc, ◌-◌, ◌<◌, ◌≤◌, [], None}
 use Rattle.sg_circuit.specs.Circuit.{Circuit}
 use Rattle.sg_circuit.specs.Closed.{IsClosed}
 use Rattle.sg_stimulus.specs.Stimulus.{Stimulus}
@@ -21,9 +21,9 @@ pub record MomentsFit : Type 0 where
   pub of_runs : (circuit : Circuit) (stimulus : Stimulus) (bound until evaluations : ℕ) → IsClosed circuit → IsApplied circuit stimulus → until < stimulus.end
       → (run_for (setting_of circuit stimulus bound) (suc until)).spent ≡ None
       → IsWhole circuit (run_for (setting_of circuit stimulus bound) (suc until)).run
-        (moment_of circuit [] until (run_for (setting_of circuit stimulus bound) (suc until)).run (last_change (first_state circuit).values (lasts (run_for (setting_of circuit stimulus bound) (suc until)).run.snapshots)) evaluations)
+      (moment_of circuit [] until (run_for (setting_of circuit stimulus bound) (suc until)).run (last_change (first_state circuit).values (lasts (run_for (setting_of circuit stimulus bound) (suc until)).run.snapshots)) evaluations)
   pub of_rests : (circuit : Circuit) (stimulus : Stimulus) (bound : ℕ) (m : Moment) (until evaluations : ℕ) → IsClosed circuit → IsApplied circuit stimulus → Fits circuit m → m.time ≤ until → until < stimulus.end
       → (run_from (setting_since circuit stimulus bound m) (origin_at circuit stimulus.end m) (until - m.time)).spent ≡ None
       → IsWhole circuit (run_from (setting_since circuit stimulus bound m) (origin_at circuit stimulus.end m) (until - m.time)).run
-        (moment_of circuit m.latest until (run_from (setting_since circuit stimulus bound m) (origin_at circuit stimulus.end m) (until - m.time)).run
-        (changed_since m.last (last_change m.nets (lasts (run_from (setting_since circuit stimulus bound m) (origin_at circuit stimulus.end m) (until - m.time)).run.snapshots))) evaluations)
+      (moment_of circuit m.latest until (run_from (setting_since circuit stimulus bound m) (origin_at circuit stimulus.end m) (until - m.time)).run
+      (changed_since m.last (last_change m.nets (lasts (run_from (setting_since circuit stimulus bound m) (origin_at circuit stimulus.end m) (until - m.time)).run.snapshots))) evaluations)

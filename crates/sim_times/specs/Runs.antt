@@ -1,5 +1,5 @@
 -- How an engine that stands for runs makes the times of a run and has them told, and what a run leaves by how it ended.
-use Rattle.std.specs.Prelude.{ℕ, zero, suc, ◌≡◌, ◌+◌, ◌-◌, ◌<◌, ◌≤◌, ◌⊎◌, List, [], ◌∷◌, ◌++◌, Option, Some, None, Result, Ok, Err, OnOk}
+use Rattle.std.specs.Prelude.{ℕ, zero, suc, ◌≡◌, ◌+◌, ◌-◌, ◌≤◌, ◌⊎◌, List, [], ◌∷◌, ◌++◌, Option, Some, None, Result, Ok, Err, OnOk}
 use Rattle.sg_logic.specs.declared.values.Value.{Value}
 use Rattle.sg_io.specs.Faults.{Rises}
 use Rattle.sg_io.specs.declared.outside.ShelfError.{ShelfError}
@@ -27,8 +27,9 @@ pub record Setting : Type 0 where
 abbrev pub start_of : State → Run
 start_of first = record { state = first; snapshots = []; violations = []; before = first.values; evaluations = 0 }
 
--- where a run goes on from: the first time that is still to be made, and how many there are from it to the end; the run up to there, of which no evaluation is counted; the calls by which it was told, the values
--- before the first of its snapshots, and the last time that changed a net before that
+-- where a run goes on from: the first time that is still to be made, and how many there are from it to the end; the run
+-- up to there, of which no evaluation is counted; the calls by which it was told, the values before the first of its
+-- snapshots, and the last time that changed a net before that
 pub record Origin : Type 0 where
   pub from : ℕ
   pub left : ℕ
@@ -134,12 +135,13 @@ abbrev pub HasBegun : ℕ → List Value → Run → Type 0
 HasBegun zero first r = (r.snapshots ≡ []) × (r.state.values ≡ first)
 HasBegun (suc now) first r = (seen : IsSeen r) × (seen.last ≤ now)
 
--- a run can go on from there, up to this end
+-- a run can go on from there, up to this end; before time 0 no net changed
 pub record IsOrigin (end : ℕ) (o : Origin) : Type 0 where
   pub left : o.from + o.left ≡ suc end
   pub begun : HasBegun o.from o.first o.run
   pub calls : AreCalls o.first (lasts o.run.snapshots) o.told
   pub uncounted : o.run.evaluations ≡ 0
+  pub unchanged : o.from ≡ 0 → o.last ≡ 0
 
 -- a failure of the watcher comes only where the count rose; any other end leaves it
 abbrev pub CauseOfEnd : ℕ → ℕ → Result (Unit {0}) SimEnd → Type 0

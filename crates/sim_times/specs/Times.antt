@@ -15,8 +15,8 @@ use Rattle.sim_times.specs.declared.times.TimeEnd.TheVariants.{Whole, Spent, NoM
 abbrev pub count_shown : ℕ → ℕ
 count_shown n = min n (2 ^ 64 - 1)
 
--- what the rounds of a time leave: the values that were told last, the latest events of each check up to some snapshots, the violations of the times that ended, the last
--- time at which a net changed, and the stimulus
+-- what the rounds of a time leave: the values that were told last, the latest events of each check up to some snapshots,
+-- the violations of the times that ended, the last time at which a net changed, and the stimulus
 pub record Kept : Type 0 where
   pub told : List Value
   pub latest : List Snapshot → List Latest

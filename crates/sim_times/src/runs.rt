@@ -203,8 +203,8 @@ fn tell_time<S: Shelf, W: Watch<S>>(
     tell(shelf, watcher, now, changed, values)
 }
 
-/// Makes the times from one to another, or up to a spent one, and tells the watcher, who was told of the nets as they are, or
-/// of nothing yet. Quiet times are skipped. No call tells the end.
+/// Makes the times from one to another, or up to a spent one, and tells the watcher, who was told of the nets as they
+/// are, or of nothing yet. Quiet times are skipped. No call tells the end.
 pub fn make_times_until<S: Shelf, W: Watch<S>, L: Ledger, T: Times<L>>(
     times: &mut T,
     from: u64,
@@ -234,6 +234,7 @@ pub fn make_times_until<S: Shelf, W: Watch<S>, L: Ledger, T: Times<L>>(
     ensures named { NamesFaultOfEnd (W.name watcher.old) (S.last_fault shelf.old) (S.last_fault shelf.new) result }
     ensures name { W.name watcher.new ≡ W.name watcher.old }
     ensures circuit { W.circuit watcher.new ≡ W.circuit watcher.old }
+    ensures kept_back { (a b : S) → W.keeps watcher.new a b → W.keeps watcher.old a b }
     ensures keeps { W.keeps watcher.old shelf.old shelf.new }
 {
     let mut now = from;
@@ -245,8 +246,8 @@ pub fn make_times_until<S: Shelf, W: Watch<S>, L: Ledger, T: Times<L>>(
     Ok(())
 }
 
-/// Makes the times from one to the end, or up to a spent one, and tells the watcher, who was told of the nets as they are, or
-/// of nothing yet; then it tells the end. Quiet times are skipped.
+/// Makes the times from one to the end, or up to a spent one, and tells the watcher, who was told of the nets as they
+/// are, or of nothing yet; then it tells the end. Quiet times are skipped.
 pub fn make_times<S: Shelf, W: Watch<S>, L: Ledger, T: Times<L>>(
     times: &mut T,
     from: u64,

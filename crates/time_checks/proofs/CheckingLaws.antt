@@ -1,5 +1,5 @@
 -- A checker that sees one more snapshot.
-use Rattle.std.specs.Prelude.{◌≡◌, ◌≢◌, ℕ, zero, suc, ◌+◌, ◌<◌, Bool, true, false, not, ◌==◌, ◌||◌, if◌then◌else◌, List, [], ◌∷◌, ◌++◌, length, slice_index_or, slice_set, take, Option, Some, None, refl}
+use Rattle.std.specs.Prelude.{◌≡◌, ◌≢◌, ℕ, suc, ◌+◌, ◌<◌, Bool, true, false, not, ◌==◌, ◌||◌, if◌then◌else◌, List, [], ◌∷◌, ◌++◌, length, slice_index_or, slice_set, take, Option, Some, None, refl}
 use Rattle.std.proofs.Common.{sym, ◌∙◌, ap, subst, arith, inl, inr, zero-add, add-zero}
 use Rattle.std.proofs.lemmas.Bool.{cases_eq}
 use Rattle.std.proofs.lemmas.List.{append-nil, length-set, get_or-set_same, get_or-set_other, ext_get_or, get_or_default}
@@ -19,18 +19,18 @@ use Rattle.time_checks.specs.declared.events.Events.{Events}
 use Rattle.time_checks.specs.declared.recent.Recent.{Recent}
 use Rattle.time_checks.specs.declared.latest.Latest.{Latest}
 use Rattle.time_checks.specs.Falling.{DontFallSince}
-use Rattle.time_checks.specs.Times.{grown, greatest}
-use Rattle.time_checks.specs.Events.{known, event_times_since, datum_times_since, moment_since, latest_since}
+use Rattle.time_checks.specs.Times.{grown}
+use Rattle.time_checks.specs.Events.{known, event_times_since, datum_times_since, moment_since}
 use Rattle.time_checks.specs.Violations.{all_from, earlier_at, violations_at, violations_since}
 use Rattle.time_checks.specs.Kept.{StandsFor, events_at, next_of, instant_of, found_at}
-use Rattle.time_checks.specs.Checking.{Kept, Stands, check_at, latest_at, no_times, recent_of, next_at, found_in, Covers, LeadsTo, Sees, SeesChanges}
+use Rattle.time_checks.specs.Checking.{Kept, Stands, check_at, latest_at, no_times, next_at, found_in, Covers, LeadsTo, Sees, SeesChanges}
 use Rattle.time_checks.proofs.EventLaws.{falls-event_times, falls-datum_times, datum_times-more, moment-is}
-use Rattle.time_checks.proofs.KeptLaws.{known-stands, next-stands}
+use Rattle.time_checks.proofs.KeptLaws.{next-stands}
 use Rattle.time_checks.proofs.JudgedLaws.{found-exact}
 use Rattle.time_checks.proofs.QuietLaws.{first-none}
 
 -- functions that agree at each place of a list
-all_from-agree : {A B : Type 0} (f g : ℕ → A → List B) (i : ℕ) (xs : List A) (d : A) → ((k : ℕ) → k < length xs → f (i + k) (slice_index_or xs k d) ≡ g (i + k) (slice_index_or xs k d)) → all_from f i xs ≡ all_from g i xs
+pub all_from-agree : {A B : Type 0} (f g : ℕ → A → List B) (i : ℕ) (xs : List A) (d : A) → ((k : ℕ) → k < length xs → f (i + k) (slice_index_or xs k d) ≡ g (i + k) (slice_index_or xs k d)) → all_from f i xs ≡ all_from g i xs
 all_from-agree f g i [] d h = refl
 all_from-agree f g i (x ∷ xs) d h =
     let first : f i x ≡ g i x = ap (λ n. f n x) (sym (add-zero i)) ∙ (h 0 (omega arith) ∙ ap (λ n. g n x) (add-zero i)) in
@@ -166,35 +166,6 @@ sees-next kept next time changed values latest old new seen each many e made = r
               ∙ ap (λ n. violations_at n (check_at kept.checks number) (moment_since (earlier_at kept.earlier n) (check_at kept.checks number) now (last ∷ older))) (sym number')))),
           subst (λ k. Stands k (now ∷ last ∷ older)) (sym e) (record { seen = seen; last = followed kept.last values changed many covers; each = stands last older s f covers }),
         )
-
--- a new checker
-pub new_stands : (checks : List AdjustedCheck) (earlier : List Latest) (last : List Value) (latest : List Recent) → ((number : ℕ) → number < length checks → latest_at latest number ≡ recent_of (earlier_at earlier number))
-    → Stands (record { checks = checks; earlier = earlier; seen = false; last = last; latest = latest }) []
-new_stands checks earlier last latest each = record {
-  seen = refl;
-  last = tt;
-  each = λ number l.
-      (let before : Latest = earlier_at earlier number in
-      subst (λ x. StandsFor x (known before.refer) (datum_times_since before.datum (check_at checks number).datum [])) (sym (each number l)) (at before (check_at checks number).datum));
-}
-  where
-    at : (before : Latest) (datum : Option Event) → StandsFor (recent_of before) (known before.refer) (datum_times_since before.datum datum [])
-    at before None = known-stands before
-    at before (Some event) = known-stands before
-
-pub new_alone : (kept : Kept) (snapshots : List Snapshot) → kept.seen ≡ false → Stands kept snapshots → snapshots ≡ []
-new_alone kept [] e s = refl
-new_alone kept (now ∷ older) e s = let no : false ≡ true = sym e ∙ s.seen in cc
-
--- the latest events of a check
-pub latest_stands : (kept : Kept) (number : ℕ) (latest : Latest) → number < length kept.checks → latest ≡ record { refer = (latest_at kept.latest number).refer; datum = (latest_at kept.latest number).datum }
-    → (snapshots : List Snapshot) → Stands kept snapshots → latest ≡ latest_since (earlier_at kept.earlier number) (check_at kept.checks number) snapshots
-latest_stands kept number latest l e snapshots s =
-    let each : StandsFor (latest_at kept.latest number) (refers kept.earlier number (check_at kept.checks number) snapshots) (data_times kept.earlier number (check_at kept.checks number) snapshots) = s.each number l in
-    e ∙ (ap (λ r. both r (latest_at kept.latest number).datum) each.refer ∙ ap (both (greatest (refers kept.earlier number (check_at kept.checks number) snapshots))) each.datum)
-  where
-    both : Option ℕ → Option ℕ → Latest
-    both refer datum = record { refer = refer; datum = datum }
 
 -- one net more is put
 pub put_more : (last mid values : List Value) (changed : List ℕ) (i blank : ℕ) (d : Value) → slice_index_or changed i blank < length values → i < length changed

@@ -1,5 +1,5 @@
 -- What is judged from the latest times alone is what the definitions say of all times.
-use Rattle.std.specs.Prelude.{◌≡◌, ℕ, ◌+◌, ◌-◌, ◌≤◌, nat_lt, nat_le, Bool, true, false, ◌&&◌, cond, if◌then◌else◌, List, [], ◌∷◌, refl}
+use Rattle.std.specs.Prelude.{◌≡◌, ℕ, ◌+◌, ◌-◌, ◌≤◌, nat_lt, nat_le, Bool, true, false, ◌&&◌, if◌then◌else◌, List, [], ◌∷◌, refl}
 use Rattle.std.specs.Option.{option_map}
 use Rattle.std.specs.List.{find}
 use Rattle.std.specs.declared.option.Option.{Option}
@@ -7,11 +7,8 @@ use Rattle.std.specs.declared.option.Option.TheVariants.{Some, None}
 use Rattle.std.proofs.Common.{sym, ◌∙◌, ap, subst, arith}
 use Rattle.std.proofs.lemmas.Bool.Decides.{nat_tests}
 use Rattle.time_checks.specs.declared.recent.Recent.{Recent}
-use Rattle.time_checks.specs.declared.latest.Latest.{Latest}
 use Rattle.time_checks.specs.Times.{grown, greatest, greatest_of}
 use Rattle.time_checks.specs.Falling.{Falls}
-use Rattle.time_checks.specs.Events.{known}
-use Rattle.time_checks.specs.Checking.{recent_of}
 use Rattle.time_checks.proofs.TimeLaws.{head_of, greatest-falls, greatest_of-falls, if_near, if_now, find-near, find-now, find-up_to, find-passes}
 use Rattle.time_checks.specs.Windows.{Pair, where_true, later_of, setup, hold}
 use Rattle.time_checks.specs.Kept.{greatest_below, StandsFor, datum_below, next_time, near, setup_kept, hold_kept, now_kept}
@@ -78,18 +75,6 @@ setup-exact limit time refer datum back latest rs ds older f s =
 pub next_time-exact : (happens : Bool) (time : ℕ) (before : Option ℕ) (ts : List ℕ) → Falls time ts → before ≡ greatest ts → next_time happens time before ≡ greatest (grown happens time ts)
 next_time-exact true time before ts f e = let l : time ≤ time = omega arith in sym (greatest-falls time (time ∷ ts) (l, f))
 next_time-exact false time before ts f e = e
-
--- what is known stands for itself
-greatest-known : (before : Option ℕ) → before ≡ greatest (known before)
-greatest-known None = refl
-greatest-known (Some t) = refl
-
-none-below : (before : Option ℕ) → None ≡ greatest_below (greatest (known before)) (known before)
-none-below None = refl
-none-below (Some t) = sym (ap (λ b. greatest (cond b (t ∷ []) [])) (irreflexive t))
-
-pub known-stands : (before : Latest) → StandsFor (recent_of before) (known before.refer) (known before.datum)
-known-stands before = record { refer = greatest-known before.refer; datum = greatest-known before.datum; earlier = none-below before.datum }
 
 -- what is kept goes on standing for the events
 pub next-stands : (time : ℕ) (refer datum : Bool) (latest next : Recent) (rs ds : List ℕ) → Falls time rs → Falls time ds → StandsFor latest rs ds

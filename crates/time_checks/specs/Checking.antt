@@ -55,7 +55,7 @@ pub record Stands (kept : Kept) (snapshots : List Snapshot) : Type 0 where
   pub last : IsLast snapshots kept.last
   pub each : (number : ℕ) → number < length kept.checks
       → StandsFor (latest_at kept.latest number) (event_times_since (earlier_at kept.earlier number).refer (check_at kept.checks number).refer snapshots)
-        (datum_times_since (earlier_at kept.earlier number).datum (check_at kept.checks number).datum snapshots)
+      (datum_times_since (earlier_at kept.earlier number).datum (check_at kept.checks number).datum snapshots)
 
 -- each net whose value differs is among these
 pub record Covers (last now : List Value) (changed : List ℕ) : Type 0 where

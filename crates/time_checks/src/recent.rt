@@ -36,11 +36,7 @@ fn recall(earlier: &[Latest], check: usize) -> Recent
 }
 
 /// What is kept of so many checks before anything was seen.
-pub fn recalled(
-    alloc: Global,
-    checks: usize,
-    earlier: &[Latest],
-) -> Result<Vec<Recent>, NoMemory>
+pub fn recalled(alloc: Global, checks: usize, earlier: &[Latest]) -> Result<Vec<Recent>, NoMemory>
     ensures many { IfOk result (λ v. length v.items ≡ checks) }
     ensures each { IfOk result (λ v. (check : ℕ) → check < checks → latest_at v.items check ≡ recent_of (earlier_at earlier.now check)) }
 {
