@@ -22,3 +22,5 @@ pub mod RunInvariants
 pub mod EventTimes
 pub mod MomentForms
 pub mod MomentsFit
+pub mod PausingLaws
+pub mod StoppingLaws

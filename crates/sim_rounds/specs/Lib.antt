@@ -14,3 +14,4 @@ pub mod Restored
 pub mod Setting
 pub mod Evaluable
 pub mod Stopping
+pub mod Pausing

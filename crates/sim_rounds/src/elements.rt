@@ -155,6 +155,13 @@ impl<'a> CircuitElements<'a> {
         let states = last_values(alloc, &parts.elements, &moment.nets, &moment.pending)?;
         CircuitElements::of_states(alloc, circuit, &moment.latest, states)
     }
+
+    /// The value that each computed last.
+    pub fn states(&self) -> &[Value]
+        ensures { result.now ≡ self.now.states }
+    {
+        &self.states
+    }
 }
 
 impl<'a, A: Agenda, L: Ledger> Elements<A, L> for CircuitElements<'a> {
