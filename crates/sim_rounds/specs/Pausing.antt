@@ -1,5 +1,5 @@
 -- What the code of a pause says.
-use Rattle.std.specs.Prelude.{◌≡◌, ℕ, ◌+◌, List, Result, Ok, Err, map}
+use Rattle.std.specs.Prelude.{◌≡◌, ℕ, ◌+◌, List, Result, Ok, Err, length, map}
 use Rattle.std.specs.declared.option.Option.{Option}
 use Rattle.std.specs.declared.option.Option.TheVariants.{Some, None}
 use Rattle.sg_logic.specs.declared.values.Value.{Value}
@@ -35,6 +35,12 @@ change_kept (Some s) = Some (record { time = s.time; before = s.before; after = 
 -- a transition that a driver has pending
 abbrev pub pending_by : ℕ → ℕ × Value → Pending
 pending_by driver p = record { driver = driver; time = p.0; value = p.1 }
+
+-- a simulation has a list and a state for each element of a circuit, and keeps events of each check
+pub record HasEach (circuit : Circuit) (lists : List (List (ℕ × Value))) (states : List Value) (checks : Kept) : Type 0 where
+  pub lists_are : length lists ≡ length circuit.elements
+  pub states_are : length states ≡ length circuit.elements
+  pub checks_are : length checks.checks ≡ length circuit.checks
 
 -- it is what each run has come to that the parts of a simulation stand for after a time, where this was known of events before
 pub record HasComeTo (circuit : Circuit) (nets : Nets) (lists : List (List (ℕ × Value))) (states : List Value) (checks : Kept) (touched : WorkList) (found : List code_violation.Violation) (counted ended last time evaluated : ℕ) (m : Moment) : Type 0 where

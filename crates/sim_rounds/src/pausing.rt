@@ -10,7 +10,7 @@ ghost use Rattle.time_checks.specs.Seen.{violation_seen};
 ghost use Rattle.time_checks.specs.Violations.{latest_events};
 ghost use Rattle.sim_rounds.specs.Moments.{is_udp, pending_in, udp_states};
 ghost use Rattle.sim_rounds.specs.MomentsSeen.{change_seen, moment_seen, pending_seen};
-ghost use Rattle.sim_rounds.specs.Pausing.{change_kept, pending_by, HasComeTo, IsPause};
+ghost use Rattle.sim_rounds.specs.Pausing.{change_kept, pending_by, HasComeTo, HasEach, IsPause};
 
 use crate::circuit_checks::CircuitChecks;
 use crate::elements::CircuitElements;
@@ -133,9 +133,7 @@ fn moment_after<A: Agenda>(
     time: u64,
     evaluated: u64,
 ) -> Result<Moment, NoMemory>
-    requires lists { length (A.lists simulation.old.agenda) ≡ length circuit.now.elements }
-    requires states { length simulation.old.elements.states ≡ length circuit.now.elements }
-    requires checks { length simulation.old.checks.checker.checks ≡ length circuit.now.checks }
+    requires { HasEach circuit.now (A.lists simulation.old.agenda) simulation.old.elements.states simulation.old.checks.checker }
     ensures moment { IfOk result (λ moment. HasComeTo circuit.now simulation.old.nets (A.lists simulation.old.agenda) simulation.old.elements.states simulation.old.checks.checker simulation.old.checks.touched
         simulation.old.violations.items simulation.old.evaluations simulation.old.ended simulation.old.last time evaluated (moment_seen moment)) }
     ensures violations { simulation.new.violations ≡ simulation.old.violations }
@@ -170,9 +168,7 @@ fn pause<A: Agenda + Drop>(
     time: u64,
     evaluated: u64,
 ) -> Until
-    requires lists { length (A.lists simulation.agenda) ≡ length circuit.now.elements }
-    requires states { length simulation.elements.states ≡ length circuit.now.elements }
-    requires checks { length simulation.checks.checker.checks ≡ length circuit.now.checks }
+    requires { HasEach circuit.now (A.lists simulation.agenda) simulation.elements.states simulation.checks.checker }
     ensures { IsPause (Ok tt) (take simulation.entry.ended (map (λ v. violation_seen v) simulation.entry.violations.items)) simulation.entry.evaluations simulation.entry.last
         (λ m. HasComeTo circuit.now simulation.entry.nets (A.lists simulation.entry.agenda) simulation.entry.elements.states simulation.entry.checks.checker simulation.entry.checks.touched
         simulation.entry.violations.items simulation.entry.evaluations simulation.entry.ended simulation.entry.last time evaluated m) result }
@@ -197,9 +193,7 @@ pub(super) fn stop<A: Agenda + Drop>(
     time: u64,
     evaluated: u64,
 ) -> Until
-    requires lists { OnOk made (length (A.lists simulation.agenda) ≡ length circuit.now.elements) }
-    requires states { OnOk made (length simulation.elements.states ≡ length circuit.now.elements) }
-    requires checks { OnOk made (length simulation.checks.checker.checks ≡ length circuit.now.checks) }
+    requires { OnOk made (HasEach circuit.now (A.lists simulation.agenda) simulation.elements.states simulation.checks.checker) }
     ensures { IsPause made (take simulation.entry.ended (map (λ v. violation_seen v) simulation.entry.violations.items)) simulation.entry.evaluations simulation.entry.last
         (λ m. HasComeTo circuit.now simulation.entry.nets (A.lists simulation.entry.agenda) simulation.entry.elements.states simulation.entry.checks.checker simulation.entry.checks.touched
         simulation.entry.violations.items simulation.entry.evaluations simulation.entry.ended simulation.entry.last time evaluated m) result }
