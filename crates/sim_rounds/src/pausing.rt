@@ -159,8 +159,8 @@ fn moment_after<A: Agenda>(
     })
 }
 
-/// Pauses a simulation of a circuit after a time, where so many elements were evaluated before it began. Without memory for the
-/// moment it ends.
+// Pauses a simulation of a circuit after a time, where so many elements were evaluated before it began. Without memory for the
+// moment it ends.
 fn pause<A: Agenda + Drop>(
     alloc: Global,
     circuit: &Circuit,
@@ -185,7 +185,7 @@ fn pause<A: Agenda + Drop>(
 }
 
 /// What is left of a simulation of a circuit by the way in which its times up to a stop were made: it is paused, or it ended.
-pub(super) fn stop<A: Agenda + Drop>(
+pub fn stop<A: Agenda + Drop>(
     alloc: Global,
     circuit: &Circuit,
     simulation: Simulation<'_, A, CircuitElements<'_>, CircuitChecks<'_>>,

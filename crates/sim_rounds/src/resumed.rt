@@ -9,7 +9,9 @@ ghost use Rattle.sim_rounds.specs.Moments.{Fits, snapshot_of, state_of};
 ghost use Rattle.sim_rounds.specs.MomentsSeen.{moment_seen};
 
 use crate::engine::Engine;
+use crate::laws::moments_of_runs_fit;
 use crate::moments::Moment;
+use crate::pausing::stop;
 use crate::sim::{Finished, recall_closed, tally_of};
 use crate::stops::Until;
 use pulse_list::Agenda;
@@ -17,7 +19,7 @@ use sg_circuit::Circuit;
 use sg_io::Shelf;
 use sg_steps::Steps;
 use sg_stimulus::Stimulus;
-use sim_times::{Watch, make_times};
+use sim_times::{Watch, make_times, make_times_until};
 use std::sync::ledger::Ledger;
 
 /// A circuit after the time of a moment.
@@ -38,7 +40,7 @@ impl<'a, A: Agenda + Drop> Resumed<'a, A> {
     ghost use Rattle.time_checks.specs.Seen.{violation_seen};
     ghost use Rattle.sim_times.specs.Runs.{CauseOfEnd, HasEndedFrom, NamesFaultOfEnd};
     ghost use Rattle.sim_times.specs.Times.{count_shown};
-    ghost use Rattle.sim_rounds.specs.Stopping.{origin_at, setting_since, told_of};
+    ghost use Rattle.sim_rounds.specs.Stopping.{HasStopped, end_of, origin_at, setting_since, told_of};
 
     /// Makes the rest of the run of the circuit under a stimulus, from the tick after the moment on, to the stimulus's end or to a time that needs more
     /// rounds than so many, and tells the watcher: at each time whose nets differ from those of the time before, with
@@ -117,6 +119,24 @@ impl<'a, A: Agenda + Drop> Resumed<'a, A> {
         ensures circuit { W.circuit watcher.new ≡ W.circuit watcher.old }
         ensures keeps { W.keeps watcher.old shelf.old shelf.new }
     {
-        todo
+        recall_closed(self.circuit);
+        moments_of_runs_fit();
+        let Resumed {
+            circuit,
+            moment,
+            engine,
+        } = self;
+        let alloc = engine.alloc;
+        let mut simulation = engine.simulate(stimulus, moment.last);
+        let made = make_times_until(
+            &mut simulation,
+            moment.time + 1,
+            until,
+            rounds,
+            shelf,
+            watcher,
+            steps,
+        );
+        stop(alloc, circuit, simulation, made, until, moment.evaluations)
     }
 }

@@ -11,9 +11,12 @@ ghost use Rattle.sg_circuit.specs.Closed.{IsClosed};
 use crate::circuit_checks::CircuitChecks;
 use crate::elements::CircuitElements;
 use crate::engine::Engine;
+use crate::laws::moments_of_runs_fit;
 use crate::moments::Moment;
+use crate::pausing::stop;
 use crate::restoring::{add_pending, nets_of};
 use crate::resumed::Resumed;
+use crate::stops::Until;
 use fan_round::{Nets, WorkList};
 use pulse_list::Agenda;
 use sg_circuit::{Circuit, Driver, Element, FanOut, Net, NetId};
@@ -22,7 +25,7 @@ use sg_logic::Value;
 use sg_steps::Steps;
 use sg_stimulus::Stimulus;
 use sg_text::NoMemory;
-use sim_times::{SimEnd, Simulation, Told, Watch, make_times};
+use sim_times::{SimEnd, Simulation, Told, Watch, make_times, make_times_until};
 use std::alloc::Global;
 use std::sync::ledger::Ledger;
 use time_checks::Violation;
@@ -126,10 +129,11 @@ impl<'a, A: Agenda + Drop> Sim<'a, A> {
     ghost use Rattle.std.specs.Prelude.{◌≡◌, ◌-◌, ◌<◌, ◌≤◌, ◌^◌, [], IfOk, length, map, replicate};
     ghost use Rattle.sg_stimulus.specs.Applied.{IsApplied};
     ghost use Rattle.sg_stimulus.specs.Seen.{stimulus_seen};
-    ghost use Rattle.sim_times.specs.Runs.{CauseOfEnd, HasEnded, NamesFaultOfEnd};
+    ghost use Rattle.sim_times.specs.Runs.{CauseOfEnd, HasEnded, NamesFaultOfEnd, origin_of};
     ghost use Rattle.sim_rounds.specs.Moments.{Fits};
     ghost use Rattle.sim_rounds.specs.MomentsSeen.{moment_seen};
     ghost use Rattle.sim_rounds.specs.Setting.{setting_of};
+    ghost use Rattle.sim_rounds.specs.Stopping.{HasStopped, end_of};
     ghost use Rattle.sim_times.specs.Times.{count_shown};
 
     /// A circuit before time 0, with an agenda on which nothing is pending. Takes memory in proportion to the circuit.
@@ -232,7 +236,21 @@ impl<'a, A: Agenda + Drop> Sim<'a, A> {
         ensures circuit { W.circuit watcher.new ≡ W.circuit watcher.old }
         ensures keeps { W.keeps watcher.old shelf.old shelf.new }
     {
-        todo
+        recall_closed(self.circuit);
+        moments_of_runs_fit();
+        let Sim { circuit, engine } = self;
+        let alloc = engine.alloc;
+        let mut simulation = engine.simulate(stimulus, 0);
+        let made = make_times_until(
+            &mut simulation,
+            0,
+            until,
+            rounds,
+            shelf,
+            watcher,
+            steps,
+        );
+        stop(alloc, circuit, simulation, made, until, 0)
     }
 
     /// A circuit after the time of a moment that fits it, with an agenda on which nothing is pending.
