@@ -1,36 +1,26 @@
-use Rattle.std.specs.Prelude.{◌-◌, ◌+◌, ◌≤◌, ◌<◌, ◌==◌, suc, List, [], ◌∷◌, length, map, take, None}
-use Rattle.std.proofs.Common.{◌≡◌, ℕ, true, ◌∙◌, sym, ap, subst, refl, arith}
-use Rattle.sg_logic.specs.declared.values.Value.{Value}
-use Rattle.sg_model.specs.Machine.{Machine, Snapshot, Violation}
+use Rattle.std.specs.Prelude.{◌-◌, ◌+◌, ◌≤◌, ◌<◌, ◌==◌, suc, [], ◌∷◌, length, None}
+use Rattle.std.proofs.Common.{◌≡◌, ℕ, ◌∙◌, sym, ap, subst, refl, arith}
 use Rattle.sg_model.specs.Run.{last_change, lasts}
-use Rattle.sg_model.specs.Time.{Run}
 use Rattle.sg_stimulus.specs.Applied.{IsApplied}
 use Rattle.sg_stimulus.specs.Seen.{stimulus_seen}
 use Rattle.sg_stimulus.specs.Stimulus.{Stimulus, sets_at}
 use Rattle.sg_circuit.specs.Circuit.{Circuit}
-use Rattle.time_checks.specs.declared.latest.Latest.{Latest}
-use Rattle.time_checks.specs.Adjusted.{adjusted_checks}
-use Rattle.time_checks.specs.Seen.{violation_seen}
 use Rattle.time_checks.specs.Violations.{latest_events}
-use Rattle.sim_times.specs.Runs.{IsOriginOf, Setting, changed_since, origin_of, run_from, times_to}
+use Rattle.sim_times.specs.Runs.{Setting, changed_since, run_from}
 use Rattle.sim_times.specs.Simulations.{kept_of, StandsBetween}
 use Rattle.sim_times.specs.Times.{Kept, count_shown}
 use Rattle.sim_rounds.specs.CircuitChecks.{HaveSeen}
 use Rattle.sim_rounds.specs.Engines.{AreChecksAt, IsEngineAt}
 use Rattle.sim_rounds.specs.Moments.{Fits, Moment, moment_of, snapshot_of, state_of}
 use Rattle.sim_rounds.specs.MomentsSeen.{moment_seen}
-use Rattle.sim_rounds.specs.Setting.{setting_of}
-use Rattle.sim_rounds.specs.Simulated.{first_state, machine_since}
+use Rattle.sim_rounds.specs.Simulated.{machine_since}
 use Rattle.sim_rounds.specs.Stopping.{origin_at, setting_since}
-use Rattle.sim_times.proofs.TruthLaws.{told_none}
-use Rattle.sim_rounds.proofs.EngineLaws.{CanGoOn, engine_ready, engine_stands}
+use Rattle.sim_rounds.proofs.EngineLaws.{engine_ready, engine_stands}
 use Rattle.sim_rounds.proofs.MachineLaws.{lawful_since}
 use Rattle.sim_rounds.proofs.ResumedLaws.{begins_after, can_resume, told_moment}
 use Rattle.sim_rounds.proofs.SeenLaws.{all_covered}
-use Rattle.sim_rounds.proofs.SimLaws.{begins_first, can_begin}
 use Rattle.sim_rounds.proofs.StoppingLaws.{has_each, left_off, same_events, same_machine, then_so}
 use Rattle.sim_rounds.proofs.resumed.Resumed.run_until.Goals as goal
-
 pub make_times_until-made-requires-clause-ready : goal.make_times_until-made-requires-clause-ready
 make_times_until-made-requires-clause-ready g c =
     let s = c.simulate-simulation.result in
@@ -40,10 +30,8 @@ make_times_until-made-requires-clause-ready g c =
     let h : IsEngineAt circuit m.latest (state_of circuit m) s.nets s.told s.work s.elements (g.A.Agenda.lists s.agenda) s.fan s.outputs.items = engine.engine circuit m.latest (state_of circuit m) c.args.self.at in
     let k : AreChecksAt circuit m.latest (snapshot_of m ∷ []) s.checks.checks.now s.checks.checker s.checks.touched s.checks.named = engine.checks circuit m.latest (snapshot_of m ∷ []) c.args.self.seen in
     let applied : IsApplied circuit (stimulus_seen s.stimulus.now) = subst (λ x. IsApplied circuit (stimulus_seen x)) (sym engine.stimulus) c.requires.stimulus in
-    let next : suc m.time ≡ m.time + 1 = omega arith in
-    let can : CanGoOn circuit (m.time + 1 == 0) (m.time + 1) (state_of circuit m) = subst (λ t. CanGoOn circuit (m.time + 1 == 0) t (state_of circuit m)) next (can_resume circuit m (m.time + 1 == 0) c.args.self.fits) in
     engine_ready (m.time + 1 == 0) (m.time + 1) circuit m.latest (state_of circuit m) (snapshot_of m ∷ []) s.nets s.told s.work s.elements (g.A.Agenda.lists s.agenda) s.fan s.outputs.items s.handed.items s.ended s.violations.items (stimulus_seen s.stimulus.now) s.checks.checks.now s.checks.checker s.checks.touched s.checks.named
-    c.recall_closed.ensures applied can k h engine.handed engine.ended
+    c.recall_closed.ensures applied (can_resume circuit m (m.time + 1 == 0) c.args.self.fits) k h engine.handed engine.ended
 
 pub make_times_until-made-requires-clause-law : goal.make_times_until-made-requires-clause-law
 make_times_until-made-requires-clause-law g c = lawful_since c.simulate-simulation.result.elements.circuit c.simulate-simulation.result.elements.earlier
@@ -101,8 +89,7 @@ returns-clause-stopped g c =
     let falls : m.time ≤ m.time + 1 = omega arith in
     let stood = engine_stands (m.time + 1) circuit m.latest (state_of circuit m) (snapshot_of m ∷ []) s.nets s.told s.work s.elements (g.A.Agenda.lists s.agenda) s.fan s.outputs.items s.violations.items s.evaluations s.ended s.checks.checks.now s.checks.checker s.checks.touched s.checks.named c.args.self.fits.latest (falls, tt) (all_covered m.nets s.checks.touched.list.items) k h engine.violations engine.evaluations engine.ended in
     let after : m.time < stimulus.end = omega (arith, c.requires.from, c.requires.until) in
-    let next : suc m.time ≡ m.time + 1 = omega arith in
-    let begins = subst (λ f. IsOriginOf f stimulus.end kept (origin_at circuit stimulus.end m)) next (begins_after circuit stimulus.end m kept after told last) in
+    let begins = begins_after circuit stimulus.end m kept after told last in
     let setting : Setting = setting_since circuit stimulus c.args.rounds m in
     let many : c.args.until - m.time ≡ suc c.args.until - suc m.time = omega arith in
     let law = c.moments_of_runs_fit.ensures.of_rests circuit stimulus c.args.rounds m c.args.until (count_shown (m.evaluations + taken)) c.recall_closed.ensures c.requires.stimulus c.args.self.fits c.requires.from c.requires.until in
