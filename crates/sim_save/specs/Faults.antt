@@ -33,9 +33,9 @@ AreChanges (v ∷ vs) [] = ⊥
 AreChanges (v ∷ vs) (None ∷ ss) = AreChanges vs ss
 AreChanges (v ∷ vs) (Some s ∷ ss) = (s.time < 2 ^ 64) × (s.after ≡ v) × AreChanges vs ss
 
-pub record AreNumbers (tick : ℤ) (elements : ℕ) (m : Moment) : Type 0 where
-  pub tick : IsPower tick
-  pub elements : elements < 2 ^ 32
+pub record AreNumbers (power : ℤ) (count : ℕ) (m : Moment) : Type 0 where
+  pub tick : IsPower power
+  pub elements : count < 2 ^ 32
   pub nets : length m.nets < 2 ^ 32
   pub udps : length m.udps < 2 ^ 32
   pub checks : length m.latest < 2 ^ 32
@@ -79,9 +79,9 @@ count_udps [] = 0
 count_udps (e ∷ es) = if is_udp e.kind then suc (count_udps es) else count_udps es
 
 -- tick and counts are the circuit's
-pub record IsOfCircuit (circuit : Circuit) (tick : ℤ) (elements : ℕ) (m : Moment) : Type 0 where
-  pub tick : tick ≡ circuit.tick
-  pub elements : elements ≡ length circuit.elements
+pub record IsOfCircuit (circuit : Circuit) (power : ℤ) (count : ℕ) (m : Moment) : Type 0 where
+  pub tick : power ≡ circuit.tick
+  pub elements : count ≡ length circuit.elements
   pub nets : length m.nets ≡ length circuit.nets
   pub udps : length m.udps ≡ count_udps circuit.elements
   pub checks : length m.latest ≡ length circuit.checks

@@ -2,9 +2,8 @@
 #![tactic(auto)]
 
 mod kinds;
-mod reading;
+mod words;
 mod writing;
 
 pub use kinds::{SaveError, SaveKind};
-pub use reading::read_save;
 pub use writing::save_text;

@@ -1,0 +1,140 @@
+-- Words and the texts that they begin.
+use Rattle.std.proofs.Common.{◌≡◌, ◌≢◌, ℕ, ℤ, pos, negsuc, suc, ◌+◌, ◌-◌, ◌<◌, ◌≤◌, Bool, true, false, cond, not, eqb, List, [], ◌∷◌, ◌++◌, length, take, drop, refl, sym, ◌∙◌, ap, subst, arith}
+use Rattle.std.specs.Prelude.{◌==◌, ◌||◌, ◌^◌, decimal, if◌then◌else◌}
+use Rattle.std.specs.Fmt.{signed_decimal}
+use Rattle.std.specs.Int.{IsInRange}
+use Rattle.std.specs.List.{position_or_len, prefix_len}
+use Rattle.std.specs.Str.Parse.{AllDigits, digits_value}
+use Rattle.std.specs.declared.option.Option.{Option}
+use Rattle.std.specs.declared.option.Option.TheVariants.{Some, None}
+use Rattle.std.proofs.lemmas.Bool.{ne_eqb, or_from, or_parts, cases_Bool, not_from_false, not_from_true, both_ways}
+use Rattle.std.proofs.lemmas.Fmt.{decimal_injective, digits_decimal, signed_decimal_injective}
+use Rattle.std.proofs.lemmas.Str.Parse.{digit_from_value, numerals_by_value, tells_digits}
+use Rattle.std.proofs.Math.Numerals.{one-add}
+use lib.Signed.{mag}
+use Rattle.sg_logic.specs.declared.values.Value.{Value}
+use Rattle.sg_logic.specs.declared.values.Value.TheVariants.{Zero, One, X, Z}
+use Rattle.wave_out.specs.Vcd.{value_letter}
+use Rattle.sim_save.specs.Breaks.{EndsWord, IsWord, is_break}
+use Rattle.sim_save.specs.Faults.{IsPower, IsTime}
+use Rattle.sim_save.specs.Lines.{event_word, letter, number, word}
+
+-- ---- what is a word
+
+digit_is_no_break : (d : ℕ) → IsInRange 48 57 d → is_break d ≡ false
+digit_is_no_break d h = or_from (d == 32) (d == 10) (ne_eqb d 32 (λ e. omega (arith, h.0, e))) (ne_eqb d 10 (λ e. omega (arith, h.0, e)))
+
+digits_are_word : (ds : List ℕ) → AllDigits 10 ds → IsWord ds
+digits_are_word [] h = tt
+digits_are_word (d ∷ ds) h = (digit_is_no_break d (digit_from_value d h.0), digits_are_word ds h.1)
+
+pub decimal_is_digits : (n : ℕ) → n < 2 ^ 64 → AllDigits 10 (decimal n)
+decimal_is_digits n h = digits_decimal (numerals_by_value (AllDigits 10) tells_digits) n h
+
+pub decimal_is_word : (n : ℕ) → n < 2 ^ 64 → IsWord (decimal n)
+decimal_is_word n h = digits_are_word (decimal n) (decimal_is_digits n h)
+
+pub signed_is_word : (z : ℤ) → IsPower z → IsWord (signed_decimal z)
+signed_is_word (pos n) h = decimal_is_word n (omega (arith, h))
+signed_is_word (negsuc n) h = (refl, decimal_is_word (suc n) (omega (arith, h)))
+
+pub letter_is_word : (v : Value) → IsWord (value_letter v ∷ [])
+letter_is_word Zero = (refl, tt)
+letter_is_word One = (refl, tt)
+letter_is_word X = (refl, tt)
+letter_is_word Z = (refl, tt)
+
+-- the time of an event without the blank before it
+abbrev pub event_text : Option ℕ → List ℕ
+event_text None = 45 ∷ []
+event_text (Some time) = decimal time
+
+pub event_is : (e : Option ℕ) → event_word e ≡ 32 ∷ event_text e
+event_is None = refl
+event_is (Some time) = refl
+
+pub event_is_word : (e : Option ℕ) → IsTime e → IsWord (event_text e)
+event_is_word None h = (refl, tt)
+event_is_word (Some time) h = decimal_is_word time h
+
+-- ---- where the first word of a text ends
+
+front_of : (b : ℕ) (bs : List ℕ) (test : Bool) → is_break b ≡ test → IsWord (take (position_or_len is_break bs) bs) → IsWord (take (cond (not test) (1 + position_or_len is_break bs) 0) (b ∷ bs))
+front_of b bs true e h = tt
+front_of b bs false e h = rw one-add (e, h)
+
+pub front_is_word : (text : List ℕ) → IsWord (take (position_or_len is_break text) text)
+front_is_word [] = tt
+front_is_word (b ∷ bs) = front_of b bs (is_break b) refl (front_is_word bs)
+
+behind_of : (b : ℕ) (bs : List ℕ) (test : Bool) → is_break b ≡ test → EndsWord (drop (position_or_len is_break bs) bs) → EndsWord (drop (cond (not test) (1 + position_or_len is_break bs) 0) (b ∷ bs))
+behind_of b bs true e h = e
+behind_of b bs false e h = rw one-add h
+
+pub behind_ends : (text : List ℕ) → EndsWord (drop (position_or_len is_break text) text)
+behind_ends [] = tt
+behind_ends (b ∷ bs) = behind_of b bs (is_break b) refl (behind_ends bs)
+
+-- ---- a word and what follows it are told by the text
+
+pub apart : (a b c d : List ℕ) → IsWord a → IsWord c → EndsWord b → EndsWord d → a ++ b ≡ c ++ d → (a ≡ c) × (b ≡ d)
+apart [] b [] d wa wc eb ed e = (refl, e)
+apart [] [] (c ∷ cs) d wa wc eb ed e = absurd (cc)
+apart [] (b ∷ bs) (c ∷ cs) d wa wc eb ed e = let same : b ≡ c = cc in absurd (both_ways (is_break c) wc.0 (ap is_break (sym same) ∙ eb))
+apart (a ∷ as') b [] [] wa wc eb ed e = absurd (cc)
+apart (a ∷ as') b [] (d ∷ ds) wa wc eb ed e = let same : a ≡ d = cc in absurd (both_ways (is_break a) wa.0 (ap is_break same ∙ ed))
+apart (a ∷ as') b (c ∷ cs) d wa wc eb ed e =
+    let rest : as' ++ b ≡ cs ++ d = cc in
+    let head : a ≡ c = cc in
+    let more = apart as' b cs d wa.1 wc.1 eb ed rest in
+    (ap (λ x. x ∷ as') head ∙ ap (λ xs. c ∷ xs) more.0, more.1)
+
+pub word_apart : (a b c d : List ℕ) → IsWord a → IsWord c → EndsWord b → EndsWord d → word a ++ b ≡ word c ++ d → (a ≡ c) × (b ≡ d)
+word_apart a b c d wa wc eb ed e = let inner : a ++ b ≡ c ++ d = cc in apart a b c d wa wc eb ed inner
+
+pub number_apart : (m n : ℕ) (b d : List ℕ) → m < 2 ^ 64 → n < 2 ^ 64 → EndsWord b → EndsWord d → number m ++ b ≡ number n ++ d → (m ≡ n) × (b ≡ d)
+number_apart m n b d hm hn eb ed e =
+    let parts = word_apart (decimal m) b (decimal n) d (decimal_is_word m hm) (decimal_is_word n hn) eb ed e in
+    (decimal_injective m n hm hn parts.0, parts.1)
+
+small_power : (z : ℤ) → IsPower z → mag z < 2 ^ 63
+small_power (pos n) h = omega (arith, h)
+small_power (negsuc n) h = omega (arith, h)
+
+pub power_apart : (y z : ℤ) (b d : List ℕ) → IsPower y → IsPower z → EndsWord b → EndsWord d → word (signed_decimal y) ++ b ≡ word (signed_decimal z) ++ d → (y ≡ z) × (b ≡ d)
+power_apart y z b d hy hz eb ed e =
+    let parts = word_apart (signed_decimal y) b (signed_decimal z) d (signed_is_word y hy) (signed_is_word z hz) eb ed e in
+    (signed_decimal_injective y z (small_power y hy) (small_power z hz) parts.0, parts.1)
+
+abbrev value_of : ℕ → Value
+value_of letter = if letter == 48 then Zero else if letter == 49 then One else if letter == 120 then X else Z
+
+value_is : (v : Value) → value_of (value_letter v) ≡ v
+value_is Zero = refl
+value_is One = refl
+value_is X = refl
+value_is Z = refl
+
+pub same_value : (v w : Value) → value_letter v ≡ value_letter w → v ≡ w
+same_value v w e = sym (value_is v) ∙ (ap value_of e ∙ value_is w)
+
+pub letter_apart : (v w : Value) (b d : List ℕ) → letter v ++ b ≡ letter w ++ d → (v ≡ w) × (b ≡ d)
+letter_apart v w b d e =
+    let same : value_letter v ≡ value_letter w = cc in
+    let rest : b ≡ d = cc in
+    (same_value v w same, rest)
+
+no_digits : AllDigits 10 (45 ∷ []) → ⊥
+no_digits h = let d = digit_from_value 45 h.0 in omega (arith, d.0)
+
+pub same_event : (e f : Option ℕ) → IsTime e → IsTime f → event_text e ≡ event_text f → e ≡ f
+same_event None None he hf same = refl
+same_event None (Some t) he hf same = absurd (no_digits (subst (AllDigits 10) (sym same) (decimal_is_digits t hf)))
+same_event (Some s) None he hf same = absurd (no_digits (subst (AllDigits 10) same (decimal_is_digits s he)))
+same_event (Some s) (Some t) he hf same = ap Some (decimal_injective s t he hf same)
+
+pub event_apart : (e f : Option ℕ) (b d : List ℕ) → IsTime e → IsTime f → EndsWord b → EndsWord d → event_word e ++ b ≡ event_word f ++ d → (e ≡ f) × (b ≡ d)
+event_apart e f b d he hf eb ed same =
+    let words : word (event_text e) ++ b ≡ word (event_text f) ++ d = ap (λ t. t ++ b) (sym (event_is e)) ∙ (same ∙ ap (λ t. t ++ d) (event_is f)) in
+    let parts = word_apart (event_text e) b (event_text f) d (event_is_word e he) (event_is_word f hf) eb ed words in
+    (same_event e f he hf parts.0, parts.1)
