@@ -2,3 +2,9 @@
 pub mod Exits
 pub mod PushLaws
 pub mod WordLaws
+pub mod LineLaws
+pub mod StepLaws
+pub mod MomentLaws
+pub mod BodyLaws
+pub mod SameLaws
+pub mod CutLaws

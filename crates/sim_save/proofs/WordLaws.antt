@@ -1,13 +1,13 @@
 -- Words and the texts that they begin.
-use Rattle.std.proofs.Common.{◌≡◌, ◌≢◌, ℕ, ℤ, pos, negsuc, suc, ◌+◌, ◌-◌, ◌<◌, ◌≤◌, Bool, true, false, cond, not, eqb, List, [], ◌∷◌, ◌++◌, length, take, drop, refl, sym, ◌∙◌, ap, subst, arith}
+use Rattle.std.proofs.Common.{◌≡◌, ℕ, ℤ, pos, negsuc, zero, suc, ◌+◌, ◌<◌, ◌≤◌, ◌/◌, ◌%◌, Bool, true, false, cond, not, eqb, List, [], ◌∷◌, ◌++◌, length, take, drop, refl, sym, ◌∙◌, ap, subst, arith}
 use Rattle.std.specs.Prelude.{◌==◌, ◌||◌, ◌^◌, decimal, if◌then◌else◌}
-use Rattle.std.specs.Fmt.{signed_decimal}
+use Rattle.std.specs.Fmt.{digit_glyph, digits, digits_onto, signed_decimal}
 use Rattle.std.specs.Int.{IsInRange}
-use Rattle.std.specs.List.{position_or_len, prefix_len}
-use Rattle.std.specs.Str.Parse.{AllDigits, digits_value}
+use Rattle.std.specs.List.{position_or_len}
+use Rattle.std.specs.Str.Parse.{AllDigits}
 use Rattle.std.specs.declared.option.Option.{Option}
 use Rattle.std.specs.declared.option.Option.TheVariants.{Some, None}
-use Rattle.std.proofs.lemmas.Bool.{ne_eqb, or_from, or_parts, cases_Bool, not_from_false, not_from_true, both_ways}
+use Rattle.std.proofs.lemmas.Bool.{both_ways, cond_both, lt-ltb, ne_eqb, or_from}
 use Rattle.std.proofs.lemmas.Fmt.{decimal_injective, digits_decimal, signed_decimal_injective}
 use Rattle.std.proofs.lemmas.Str.Parse.{digit_from_value, numerals_by_value, tells_digits}
 use Rattle.std.proofs.Math.Numerals.{one-add}
@@ -24,19 +24,26 @@ use Rattle.sim_save.specs.Lines.{event_word, letter, number, word}
 digit_is_no_break : (d : ℕ) → IsInRange 48 57 d → is_break d ≡ false
 digit_is_no_break d h = or_from (d == 32) (d == 10) (ne_eqb d 32 (λ e. omega (arith, h.0, e))) (ne_eqb d 10 (λ e. omega (arith, h.0, e)))
 
-digits_are_word : (ds : List ℕ) → AllDigits 10 ds → IsWord ds
-digits_are_word [] h = tt
-digits_are_word (d ∷ ds) h = (digit_is_no_break d (digit_from_value d h.0), digits_are_word ds h.1)
-
 pub decimal_is_digits : (n : ℕ) → n < 2 ^ 64 → AllDigits 10 (decimal n)
 decimal_is_digits n h = digits_decimal (numerals_by_value (AllDigits 10) tells_digits) n h
 
-pub decimal_is_word : (n : ℕ) → n < 2 ^ 64 → IsWord (decimal n)
-decimal_is_word n h = digits_are_word (decimal n) (decimal_is_digits n h)
+glyph_is_no_break : (d : ℕ) → d < 10 → is_break (digit_glyph false d) ≡ false
+glyph_is_no_break d h = subst (λ t. is_break (cond t (48 + d) (87 + d)) ≡ false) (sym (lt-ltb d 10 h)) (digit_is_no_break (48 + d) (omega arith, omega (arith, h)))
 
-pub signed_is_word : (z : ℤ) → IsPower z → IsWord (signed_decimal z)
-signed_is_word (pos n) h = decimal_is_word n (omega (arith, h))
-signed_is_word (negsuc n) h = (refl, decimal_is_word (suc n) (omega (arith, h)))
+digits_onto_word : (k n : ℕ) (acc : List ℕ) → IsWord acc → IsWord (digits_onto k 10 false n acc)
+digits_onto_word zero n acc h = h
+digits_onto_word (suc k) n acc h =
+    let more : IsWord (digit_glyph false (n % 10) ∷ acc) = (glyph_is_no_break (n % 10) (omega arith), h) in
+    let rest = digits_onto_word k (n / 10) (digit_glyph false (n % 10) ∷ acc) more in
+    cond_both (n / 10 == 0) (digit_glyph false (n % 10) ∷ acc) (digits_onto k 10 false (n / 10) (digit_glyph false (n % 10) ∷ acc)) IsWord (λ e. more) (λ e. rest)
+
+pub decimal_is_word : (n : ℕ) → IsWord (decimal n)
+unfolding digits
+decimal_is_word n = digits_onto_word 64 n [] tt
+
+pub signed_is_word : (z : ℤ) → IsWord (signed_decimal z)
+signed_is_word (pos n) = decimal_is_word n
+signed_is_word (negsuc n) = (refl, decimal_is_word (suc n))
 
 pub letter_is_word : (v : Value) → IsWord (value_letter v ∷ [])
 letter_is_word Zero = (refl, tt)
@@ -53,9 +60,14 @@ pub event_is : (e : Option ℕ) → event_word e ≡ 32 ∷ event_text e
 event_is None = refl
 event_is (Some time) = refl
 
-pub event_is_word : (e : Option ℕ) → IsTime e → IsWord (event_text e)
-event_is_word None h = (refl, tt)
-event_is_word (Some time) h = decimal_is_word time h
+pub event_is_word : (e : Option ℕ) → IsWord (event_text e)
+event_is_word None = (refl, tt)
+event_is_word (Some time) = decimal_is_word time
+
+-- a blank stands in front of it
+pub event_ends : (e : Option ℕ) (rest : List ℕ) → EndsWord (event_word e ++ rest)
+event_ends None rest = refl
+event_ends (Some time) rest = refl
 
 -- ---- where the first word of a text ends
 
@@ -94,7 +106,7 @@ word_apart a b c d wa wc eb ed e = let inner : a ++ b ≡ c ++ d = cc in apart a
 
 pub number_apart : (m n : ℕ) (b d : List ℕ) → m < 2 ^ 64 → n < 2 ^ 64 → EndsWord b → EndsWord d → number m ++ b ≡ number n ++ d → (m ≡ n) × (b ≡ d)
 number_apart m n b d hm hn eb ed e =
-    let parts = word_apart (decimal m) b (decimal n) d (decimal_is_word m hm) (decimal_is_word n hn) eb ed e in
+    let parts = word_apart (decimal m) b (decimal n) d (decimal_is_word m) (decimal_is_word n) eb ed e in
     (decimal_injective m n hm hn parts.0, parts.1)
 
 small_power : (z : ℤ) → IsPower z → mag z < 2 ^ 63
@@ -103,7 +115,7 @@ small_power (negsuc n) h = omega (arith, h)
 
 pub power_apart : (y z : ℤ) (b d : List ℕ) → IsPower y → IsPower z → EndsWord b → EndsWord d → word (signed_decimal y) ++ b ≡ word (signed_decimal z) ++ d → (y ≡ z) × (b ≡ d)
 power_apart y z b d hy hz eb ed e =
-    let parts = word_apart (signed_decimal y) b (signed_decimal z) d (signed_is_word y hy) (signed_is_word z hz) eb ed e in
+    let parts = word_apart (signed_decimal y) b (signed_decimal z) d (signed_is_word y) (signed_is_word z) eb ed e in
     (signed_decimal_injective y z (small_power y hy) (small_power z hz) parts.0, parts.1)
 
 abbrev value_of : ℕ → Value
@@ -136,5 +148,5 @@ same_event (Some s) (Some t) he hf same = ap Some (decimal_injective s t he hf s
 pub event_apart : (e f : Option ℕ) (b d : List ℕ) → IsTime e → IsTime f → EndsWord b → EndsWord d → event_word e ++ b ≡ event_word f ++ d → (e ≡ f) × (b ≡ d)
 event_apart e f b d he hf eb ed same =
     let words : word (event_text e) ++ b ≡ word (event_text f) ++ d = ap (λ t. t ++ b) (sym (event_is e)) ∙ (same ∙ ap (λ t. t ++ d) (event_is f)) in
-    let parts = word_apart (event_text e) b (event_text f) d (event_is_word e he) (event_is_word f hf) eb ed words in
+    let parts = word_apart (event_text e) b (event_text f) d (event_is_word e) (event_is_word f) eb ed words in
     (same_event e f he hf parts.0, parts.1)
