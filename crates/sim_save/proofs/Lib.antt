@@ -8,3 +8,6 @@ pub mod MomentLaws
 pub mod BodyLaws
 pub mod SameLaws
 pub mod CutLaws
+pub mod NumberLaws
+pub mod TakeLaws
+pub mod SectionLaws

@@ -12,11 +12,11 @@ use Rattle.time_checks.specs.declared.latest.Latest.{Latest}
 use Rattle.sim_rounds.specs.Moments.{Moment, Pending}
 use Rattle.wave_out.specs.Texts.{line}
 use Rattle.wave_out.specs.Vcd.{value_letter}
-use Rattle.sim_save.specs.Breaks.{IsWord, is_break}
+use Rattle.sim_save.specs.Breaks.{IsWord, event_text, is_break}
 use Rattle.sim_save.specs.Faults.{lines_in, with_byte}
 use Rattle.sim_save.specs.Lines.{change_words, check_line, end_line, event_word, head_line, joined, last_line, letter, net_line, net_lines, number, pending_line, save_lines, udp_line, word}
 use Rattle.sim_save.specs.Steps.{Counts, counters_line, counts_line}
-use Rattle.sim_save.proofs.WordLaws.{decimal_is_word, event_is, event_is_word, event_text, letter_is_word, signed_is_word}
+use Rattle.sim_save.proofs.WordLaws.{decimal_is_word, event_is, event_is_word, letter_is_word, signed_is_word}
 
 -- no LF
 abbrev pub NoFeed : List ℕ → Type 0

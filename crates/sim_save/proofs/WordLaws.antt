@@ -15,7 +15,7 @@ use lib.Signed.{mag}
 use Rattle.sg_logic.specs.declared.values.Value.{Value}
 use Rattle.sg_logic.specs.declared.values.Value.TheVariants.{Zero, One, X, Z}
 use Rattle.wave_out.specs.Vcd.{value_letter}
-use Rattle.sim_save.specs.Breaks.{EndsWord, IsWord, is_break}
+use Rattle.sim_save.specs.Breaks.{EndsWord, IsWord, event_text, is_break}
 use Rattle.sim_save.specs.Faults.{IsPower, IsTime}
 use Rattle.sim_save.specs.Lines.{event_word, letter, number, word}
 
@@ -50,11 +50,6 @@ letter_is_word Zero = (refl, tt)
 letter_is_word One = (refl, tt)
 letter_is_word X = (refl, tt)
 letter_is_word Z = (refl, tt)
-
--- the time of an event without the blank before it
-abbrev pub event_text : Option ℕ → List ℕ
-event_text None = 45 ∷ []
-event_text (Some time) = decimal time
 
 pub event_is : (e : Option ℕ) → event_word e ≡ 32 ∷ event_text e
 event_is None = refl

@@ -5,3 +5,5 @@ pub mod Faults
 pub mod Reading
 pub mod Breaks
 pub mod Steps
+pub mod Taking
+pub mod Sections

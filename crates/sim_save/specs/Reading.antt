@@ -1,5 +1,5 @@
 -- What the text of a saved moment is read as.
-use Rattle.std.specs.Prelude.{ℕ, ◌≡◌, ◌≢◌, ◌++◌, ◌<◌, ◌≤◌, List, [], ◌∷◌, ◌⊎◌, Result, Ok, Err, length, slice_set}
+use Rattle.std.specs.Prelude.{ℕ, ◌≡◌, ◌≢◌, ◌++◌, ◌<◌, ◌≤◌, ◌^◌, List, [], ◌∷◌, ◌⊎◌, Result, Ok, Err, length, slice_set}
 use Rattle.sg_text.specs.declared.places.Place.{Place}
 use Rattle.sg_text.specs.declared.refusals.Refused.{Refused}
 use Rattle.sg_text.specs.declared.refusals.Refused.TheVariants as refused
@@ -11,12 +11,13 @@ use Rattle.sim_save.specs.Lines.{save_text}
 use Rattle.sim_save.specs.Faults.{FaultStands, most_bytes}
 use Rattle.sim_save.specs.declared.kinds.SaveKind.{SaveKind}
 
--- it is the text of a moment that fits the circuit and is before the end
+-- it is the text of a moment that fits the circuit and is before the end, with a number of evaluations in 64 bits
 pub record IsRead (bytes : List ℕ) (circuit : Circuit) (end : ℕ) (m : Moment) : Type 0 where
   pub small : length bytes ≤ most_bytes
   pub text : bytes ≡ save_text circuit m
   pub fits : Fits circuit m
   pub before : m.time < end
+  pub evaluations : m.evaluations < 2 ^ 64
 
 -- the fault of a refusal is the first that stands
 abbrev pub RefusalStands : List ℕ → Circuit → ℕ → Refused SaveKind → Type 0

@@ -2,6 +2,10 @@
 #![tactic(auto)]
 
 mod kinds;
+mod lines;
+mod numbers;
+mod sections;
+mod taking;
 mod words;
 mod writing;
 
