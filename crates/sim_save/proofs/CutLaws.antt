@@ -80,7 +80,7 @@ bodies_that_begin tick elements m n x y e =
 
 -- ---- damage shows
 
-halves : (a b c d : List ℕ) → length a ≡ length c → a ++ b ≡ c ++ d → (a ≡ c) × (b ≡ d)
+pub halves : (a b c d : List ℕ) → length a ≡ length c → a ++ b ≡ c ++ d → (a ≡ c) × (b ≡ d)
 halves [] b [] d n e = (refl, e)
 halves [] b (c ∷ cs) d n e = absurd (omega (arith, n))
 halves (a ∷ as') b [] d n e = absurd (omega (arith, n))

@@ -245,10 +245,10 @@ pub record IsSaved (lines : List (List ℕ)) : Type 0 where
   pub numbers : AreNumbers tick elements moment
   pub is : save_lines tick elements moment ≡ lines
 
-counted : (time : ℕ) (tick : ℤ) (nets many elements udps many_udps checks many_checks : ℕ) → nets ≡ many → udps ≡ many_udps → checks ≡ many_checks
+pub counted : (time then : ℕ) (tick : ℤ) (nets many elements udps many_udps checks many_checks : ℕ) → time ≡ then → nets ≡ many → udps ≡ many_udps → checks ≡ many_checks
     → counts_line (record { time = time; tick = tick; nets = nets; elements = elements; udps = udps; checks = checks })
-    ≡ counts_line (record { time = time; tick = tick; nets = many; elements = elements; udps = many_udps; checks = many_checks })
-counted time tick nets many elements udps many_udps checks many_checks a b c = λ i. counts_line (record { time = time; tick = tick; nets = a i; elements = elements; udps = b i; checks = c i })
+    ≡ counts_line (record { time = then; tick = tick; nets = many; elements = elements; udps = many_udps; checks = many_checks })
+counted time then tick nets many elements udps many_udps checks many_checks t a b c = λ i. counts_line (record { time = t i; tick = tick; nets = a i; elements = elements; udps = b i; checks = c i })
 
 saved_behind : (text : List ℕ) (lines : List (List ℕ)) (h : IsHead text) → IsNetsOn h.counts.nets h.counts.udps h.counts.checks lines → IsSaved (text ∷ lines)
 saved_behind text lines h n =
@@ -263,7 +263,7 @@ saved_behind text lines h n =
     let ending = counters_line l.last l.evaluations ∷ end_line ∷ [] in
     let behind : nets ++ pending ++ udps ++ checks ++ ending ≡ lines = five nets pending udps checks ending ∙ sym (n.is ∙ ap (λ ls. nets ++ ls) (p.is ∙ ap (λ ls. pending ++ ls) l.is)) in
     let same : head_line c.tick c.elements m ≡ counts_line c =
-      counted c.time c.tick (length n.values) c.nets c.elements (length l.states) c.udps (length l.latest) c.checks n.many l.many_states l.many_latest in
+      counted c.time c.time c.tick (length n.values) c.nets c.elements (length l.states) c.udps (length l.latest) c.checks refl n.many l.many_states l.many_latest in
     record {
       tick = c.tick;
       elements = c.elements;

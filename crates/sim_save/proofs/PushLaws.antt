@@ -49,7 +49,7 @@ pending_on m = joined (map pending_line m.pending) ++ udps_on m
 abbrev pub nets_on : Moment → List ℕ
 nets_on m = joined (net_lines m.nets m.stamps) ++ pending_on m
 
-body_parts : (tick : ℤ) (elements : ℕ) (m : Moment) → head_line tick elements m ++ nets_on m ≡ body tick elements m
+pub body_parts : (tick : ℤ) (elements : ℕ) (m : Moment) → head_line tick elements m ++ nets_on m ≡ body tick elements m
 body_parts tick elements m =
     let n = net_lines m.nets m.stamps in
     let p = map pending_line m.pending in

@@ -167,28 +167,28 @@ leads_behind tick elements m h =
     let checks = leads_append (leads_checks m.latest (length m.latest) zero (omega arith) h.latest) last in
     leads_append (leads_udps m.udps (length m.udps) zero (length m.latest) (omega arith)) checks
 
-same_lines : (tick : ℤ) (elements : ℕ) (m n : Moment) → AreNumbers tick elements m → AreNumbers tick elements n → save_lines tick elements m ≡ save_lines tick elements n → m ≡ n
+same_lines : (tick power : ℤ) (elements count : ℕ) (m n : Moment) → AreNumbers tick elements m → AreNumbers power count n → save_lines tick elements m ≡ save_lines power count n → (tick ≡ power) × (elements ≡ count) × (m ≡ n)
 unfolding counts_of ending
-same_lines tick elements m n hm hn e =
+same_lines tick power elements count m n hm hn e =
     let udps = λ (k : Moment). map udp_line k.udps in
     let checks = λ (k : Moment). map check_line k.latest in
     let later = λ (k : Moment). udps k ++ (checks k ++ ending k) in
     let pending = λ (k : Moment). map pending_line k.pending ++ later k in
     let nets = λ (k : Moment). net_lines k.nets k.stamps ++ pending k in
     let right = λ (k : Moment). five (net_lines k.nets k.stamps) (map pending_line k.pending) (udps k) (checks k) (ending k) in
-    let head = counts_apart (counts_of tick elements m) (counts_of tick elements n) (fit_of tick elements m hm) (fit_of tick elements n hn) (head_of _ _ _ _ e) in
+    let head = counts_apart (counts_of tick elements m) (counts_of power count n) (fit_of tick elements m hm) (fit_of power count n hn) (head_of _ _ _ _ e) in
     let u : length m.udps ≡ length n.udps = ap (λ (c : Counts). c.udps) head in
     let k : length m.latest ≡ length n.latest = ap (λ (c : Counts). c.checks) head in
     let behind : nets m ≡ nets n = sym (right m) ∙ (tail_of _ _ _ _ e ∙ right n) in
     let a = nets_apart m.nets n.nets m.stamps n.stamps (pending m) (pending n) (ap (λ (c : Counts). c.nets) head) hm.changes hn.changes behind in
-    let other = subst (λ x. Leads (Udps x (length m.latest)) (later n) Nothing) (sym u) (subst (λ x. Leads (Udps (length n.udps) x) (later n) Nothing) (sym k) (leads_behind tick elements n hn)) in
+    let other = subst (λ x. Leads (Udps x (length m.latest)) (later n) Nothing) (sym u) (subst (λ x. Leads (Udps (length n.udps) x) (later n) Nothing) (sym k) (leads_behind power count n hn)) in
     let b = pending_apart m.pending n.pending (length m.udps) (length m.latest) (later m) (later n) hm.pending hn.pending (leads_behind tick elements m hm) other a.2 in
     let c = udps_apart m.udps n.udps (checks m ++ ending m) (checks n ++ ending n) u b.1 in
     let d = checks_apart m.latest n.latest (ending m) (ending n) k hm.latest hn.latest c.1 in
     let l = same_counters m.last n.last m.evaluations n.evaluations hm.last hn.last hm.evaluations hn.evaluations (head_of (last_line m) (last_line n) _ _ d.1) in
-    same_fields m n (ap (λ (c : Counts). c.time) head) a.0 a.1 b.0 c.0 d.0 l.0 l.1
+    (ap (λ (c : Counts). c.tick) head, ap (λ (c : Counts). c.elements) head, same_fields m n (ap (λ (c : Counts). c.time) head) a.0 a.1 b.0 c.0 d.0 l.0 l.1)
 
-pub same_body : (tick : ℤ) (elements : ℕ) (m n : Moment) → AreNumbers tick elements m → AreNumbers tick elements n → body tick elements m ≡ body tick elements n → m ≡ n
-same_body tick elements m n hm hn e =
-    let all = λ (k : Moment). lines_of_body tick elements k [] ∙ append-nil (save_lines tick elements k) in
-    same_lines tick elements m n hm hn (sym (all m) ∙ (ap (λ t. lines_in (t ++ [])) e ∙ all n))
+pub same_body : (tick power : ℤ) (elements count : ℕ) (m n : Moment) → AreNumbers tick elements m → AreNumbers power count n → body tick elements m ≡ body power count n → (tick ≡ power) × (elements ≡ count) × (m ≡ n)
+same_body tick power elements count m n hm hn e =
+    let all = λ (t : ℤ) (c : ℕ) (k : Moment). lines_of_body t c k [] ∙ append-nil (save_lines t c k) in
+    same_lines tick power elements count m n hm hn (sym (all tick elements m) ∙ (ap (λ t. lines_in (t ++ [])) e ∙ all power count n))

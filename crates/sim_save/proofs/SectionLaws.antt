@@ -1,24 +1,29 @@
 -- Lines read one after another, and where reading ends too early.
-use Rattle.std.proofs.Common.{◌≡◌, ℕ, zero, suc, ◌+◌, ◌-◌, ◌<◌, ◌≤◌, inl, inr, List, [], ◌∷◌, ◌++◌, length, map, refl, sym, ◌∙◌, ap, subst, arith}
-use Rattle.std.specs.Prelude.{All, ◌^◌}
+use Rattle.std.proofs.Common.{◌≡◌, ℕ, zero, suc, ◌+◌, ◌-◌, ◌<◌, ◌≤◌, false, inl, inr, List, [], ◌∷◌, ◌++◌, length, map, refl, sym, ◌∙◌, ap, subst, arith}
+use Rattle.std.specs.Prelude.{All, ◌==◌}
+use Rattle.std.proofs.lemmas.Bool.{eqb-false}
 use Rattle.std.specs.declared.option.Option.{Option}
 use Rattle.std.specs.declared.option.Option.TheVariants.{Some, None}
-use Rattle.std.proofs.lemmas.List.{append-nil, append_assoc, length-append, length-map, map_push}
+use Rattle.std.proofs.lemmas.List.{append-nil, append_assoc, length-append, length_push, map_push}
 use Rattle.std.proofs.lemmas.List.Concat.{flat_map-append}
 use Rattle.std.proofs.lemmas.List.Elements.{All-nil, All-push}
 use Rattle.sg_logic.specs.declared.values.Value.{Value}
 use Rattle.sg_model.specs.Machine.{Stamp}
 use Rattle.time_checks.specs.declared.latest.Latest.{Latest}
 use Rattle.sim_rounds.specs.Moments.{Pending}
-use Rattle.sim_rounds.specs.MomentsSeen.{change_seen, pending_seen}
+use Rattle.sim_rounds.specs.MomentsSeen.{change_seen, moment_seen, pending_seen}
+use Rattle.sim_rounds.specs.declared.moments.Moment as code_moment
 use Rattle.sim_rounds.specs.declared.moments.LastChange.{LastChange}
 use Rattle.sim_rounds.specs.declared.moments.Pending as code_pending
-use Rattle.sim_save.specs.Faults.{AreChanges}
-use Rattle.sim_save.specs.Lines.{check_line, end_line, joined, net_line, net_lines, pending_line, udp_line}
+use Rattle.sim_save.specs.Faults.{AreChanges, IsBodyOf}
+use Rattle.sim_save.specs.Lines.{check_line, end_line, head_line, joined, last_line, net_line, net_lines, pending_line, udp_line}
 use Rattle.sim_save.specs.Sections.{AreChecks, AreNets, AreTransitions, AreUdps}
-use Rattle.sim_save.specs.Steps.{End, EndsEarly, Head, IsChange, IsCheck, IsCounters, IsLatest, IsNet, IsPending, IsTransition, IsUdp, Leads, Need, Nets, Nothing, Takes, TakesLater, Udps, counters_line, more, none}
+use Rattle.sim_save.specs.Steps.{AreCounts, Counts, End, EndsEarly, Head, IsChange, IsCheck, IsCounters, IsHead, IsLatest, IsNet, IsPending, IsTransition, IsUdp, Leads, Need, Nets, Nothing, Stops, Takes, Udps, counters_line, counts_line, more, none}
+use Rattle.sim_save.specs.declared.kinds.Stop.{Stop}
+use Rattle.sim_save.specs.declared.kinds.Stop.TheVariants as stop
 use Rattle.sim_save.specs.Taking.{Is64, NoLine, NotBehind}
-use Rattle.sim_save.proofs.MomentLaws.{leads_checks, leads_counters, leads_end, leads_nets, leads_pending, leads_udps}
+use Rattle.sim_save.proofs.MomentLaws.{counted, leads_checks, leads_counters, leads_end, leads_nets, leads_pending, leads_udps}
+use Rattle.sim_save.proofs.PushLaws.{body_parts}
 use Rattle.sim_save.proofs.StepLaws.{leads_append, leads_nil, uncons}
 
 joined_push : (lines : List (List ℕ)) (line : List ℕ) → joined (lines ++ line ∷ []) ≡ joined lines ++ line
@@ -28,6 +33,12 @@ joined_push lines line = flat_map-append (λ (l : List ℕ). l) lines (line ∷ 
 pushed : (lines all : List (List ℕ)) (line text left behind : List ℕ) → text ≡ joined lines ++ left → left ≡ line ++ behind → all ≡ lines ++ line ∷ [] → text ≡ joined all ++ behind
 pushed lines all line text left behind e f g =
     e ∙ (ap (λ t. joined lines ++ t) f ∙ (sym (append_assoc (joined lines) line behind) ∙ (ap (λ t. t ++ behind) (sym (joined_push lines line)) ∙ ap (λ ls. joined ls ++ behind) (sym g))))
+
+pub one_more : {A : Type 0} (xs new : List A) (x : A) (count : ℕ) → new ≡ xs ++ x ∷ [] → length xs < count → length new ≤ count
+one_more xs new x count e less = let n = ap length e in let m = length_push xs x in omega (arith, n, m, less)
+
+pub not_empty : (text : List ℕ) → (length text == 0) ≡ false → text ≡ [] → ⊥
+not_empty text h e = eqb-false (length text) 0 h (ap length e)
 
 -- ---- nets
 
@@ -173,10 +184,6 @@ nothing_ends last evaluations text at_end behind h e some =
       many = refl;
     }
 
-pub ending_read : (last evaluations : ℕ) (text at_end behind : List ℕ) → Is64 last × Is64 evaluations × (text ≡ counters_line last evaluations ++ at_end) → at_end ≡ end_line ++ behind → behind ≡ [] → Is64 last × Is64 evaluations × (text ≡ counters_line last evaluations ++ end_line)
-ending_read last evaluations text at_end behind h e nothing =
-    (h.0, h.1, h.2 ∙ ap (λ t. counters_line last evaluations ++ t) (e ∙ (ap (λ t. end_line ++ t) nothing ∙ append-nil end_line)))
-
 -- ---- behind other lines
 
 pub ends_behind : (a b : Need) (lines : List (List ℕ)) (text rest : List ℕ) (left : ℕ) → Leads a lines b → text ≡ joined lines ++ rest → EndsEarly b rest left → EndsEarly a text left
@@ -215,3 +222,62 @@ later_ends udps checks (x ∷ xs) need text rest left no_transition is p ends ea
 
 pub no_transition_ends : (udps checks : ℕ) (text : List ℕ) (left : ℕ) → NoLine IsTransition text → EndsEarly (Udps udps checks) text left → EndsEarly (Nets zero udps checks) text left
 no_transition_ends udps checks text left h e = later_ends udps checks e.lines e.need text e.rest left h e.is e.leads e.ends e.early e.many
+
+-- ---- through the parts of a half
+
+pub through_head : (h : Counts) (half left : List ℕ) → AreCounts h × (half ≡ counts_line h ++ left) → (n : ℕ) → EndsEarly (Nets h.nets h.udps h.checks) left n → EndsEarly Head half n
+through_head h half left (fit, is) n e =
+    let head : IsHead (counts_line h) = record { counts = h; is = refl; fit = fit } in
+    ends_behind Head (Nets h.nets h.udps h.checks) (counts_line h ∷ []) half left n (more {a = Head} {b = Nets h.nets h.udps h.checks} (head, refl) none) (is ∙ ap (λ t. t ++ left) (sym (append-nil (counts_line h)))) e
+
+pub through_nets : (nets : List Value) (changes : List (Option LastChange)) (text left : List ℕ) (count udps checks : ℕ) → AreNets nets changes text left × (length nets ≡ count) → (n : ℕ) → EndsEarly (Nets zero udps checks) left n → EndsEarly (Nets count udps checks) text n
+through_nets nets changes text left count udps checks (h, many) n e =
+    let seen = map change_seen changes in
+    ends_behind (Nets count udps checks) (Nets zero udps checks) (net_lines nets seen) text left n (leads_nets nets seen count zero udps checks (omega (arith, many)) h.fit) h.is e
+
+pub through_pending : (pending : List code_pending.Pending) (text left : List ℕ) (udps checks : ℕ) → AreTransitions pending text left × NoLine IsTransition left → (n : ℕ) → EndsEarly (Udps udps checks) left n → EndsEarly (Nets zero udps checks) text n
+through_pending pending text left udps checks (h, no_more) n e =
+    let seen = map (λ p. pending_seen p) pending in
+    ends_behind (Nets zero udps checks) (Nets zero udps checks) (map pending_line seen) text left n (leads_pending seen udps checks h.fit) h.is (no_transition_ends udps checks left n no_more e)
+
+pub through_udps : (udps : List Value) (text left : List ℕ) (count checks : ℕ) → AreUdps udps text left × (length udps ≡ count) → (n : ℕ) → EndsEarly (Udps zero checks) left n → EndsEarly (Udps count checks) text n
+through_udps udps text left count checks (h, many) n e = ends_behind (Udps count checks) (Udps zero checks) (map udp_line udps) text left n (leads_udps udps count zero checks (omega (arith, many))) h.is e
+
+pub through_checks : (latest : List Latest) (text left : List ℕ) (count : ℕ) → AreChecks latest text left × (length latest ≡ count) → (n : ℕ) → EndsEarly (Udps zero zero) left n → EndsEarly (Udps zero count) text n
+through_checks latest text left count (h, many) n e = ends_behind (Udps zero count) (Udps zero zero) (map check_line latest) text left n (leads_checks latest count zero (omega (arith, many)) h.fit) h.is e
+
+-- want of memory stays so
+pub stops_through : (a b : Need) (text left : List ℕ) → ((n : ℕ) → EndsEarly b left n → EndsEarly a text n) → (e : Stop) → Stops b left e → Stops a text e
+stops_through a b text left through (stop.Line n) h = through n h
+stops_through a b text left through stop.NoMemory h = tt
+
+-- ---- a whole half
+
+pub body_read : (h : Counts) (m : code_moment.Moment) (half a b c d e : List ℕ) → AreCounts h × (half ≡ counts_line h ++ a) → AreNets m.nets.items m.stamps.items a b × (length m.nets.items ≡ h.nets) → AreTransitions m.pending.items b c × NoLine IsTransition c
+    → AreUdps m.udps.items c d × (length m.udps.items ≡ h.udps) → AreChecks m.latest.items d e × (length m.latest.items ≡ h.checks) → Is64 m.last × Is64 m.evaluations × (e ≡ counters_line m.last m.evaluations ++ end_line) → m.time ≡ h.time
+    → IsBodyOf half h.tick h.elements (moment_seen m)
+body_read h m half a b c d e head nets pending udps checks ending time =
+    let seen = moment_seen m in
+    let last : e ≡ last_line seen ++ end_line = ending.2 in
+    let from_checks : d ≡ joined (map check_line seen.latest) ++ (last_line seen ++ end_line) = checks.0.is ∙ ap (λ t. joined (map check_line seen.latest) ++ t) last in
+    let from_udps : c ≡ joined (map udp_line seen.udps) ++ (joined (map check_line seen.latest) ++ (last_line seen ++ end_line)) = udps.0.is ∙ ap (λ t. joined (map udp_line seen.udps) ++ t) from_checks in
+    let from_pending = pending.0.is ∙ ap (λ t. joined (map pending_line seen.pending) ++ t) from_udps in
+    let from_nets = nets.0.is ∙ ap (λ t. joined (net_lines seen.nets seen.stamps) ++ t) from_pending in
+    let same : counts_line h ≡ head_line h.tick h.elements seen =
+      counted h.time m.time h.tick h.nets (length seen.nets) h.elements h.udps (length seen.udps) h.checks (length seen.latest) (sym time) (sym nets.1) (sym udps.1) (sym checks.1) in
+    record {
+      text = head.1 ∙ (ap (λ t. t ++ a) same ∙ (ap (λ t. head_line h.tick h.elements seen ++ t) from_nets ∙ body_parts h.tick h.elements seen));
+      numbers = record {
+        tick = head.0.tick;
+        elements = head.0.elements;
+        nets = omega (arith, head.0.nets, nets.1);
+        udps = omega (arith, head.0.udps, udps.1);
+        checks = omega (arith, head.0.checks, checks.1);
+        time = omega (arith, head.0.time, time);
+        changes = nets.0.fit;
+        pending = pending.0.fit;
+        latest = checks.0.fit;
+        last = ending.0;
+        evaluations = ending.1;
+      };
+    }
