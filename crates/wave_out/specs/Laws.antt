@@ -1,10 +1,11 @@
 -- The law that joins the texts of calls to the text of a run.
-use Rattle.std.specs.Prelude.{ℕ, suc, ◌≡◌, ◌≤◌, ◌++◌, List, Option, Some, None}
-use Rattle.sg_circuit.specs.Circuit.{Circuit}
+use Rattle.std.specs.Prelude.{ℕ, suc, ◌≡◌, ◌<◌, ◌≤◌, ◌++◌, All, List, [], ◌∷◌, Option, Some, None, drop, length}
+use Rattle.sg_circuit.specs.Circuit.{Circuit, Variable}
+use Rattle.sg_model.specs.Machine.{Snapshot}
 use Rattle.sim_times.specs.Watching.{AreTruthful, Call}
 use Rattle.sim_times.specs.Runs.{Setting, AllCalls, CallsFor, run_for}
 use Rattle.wave_out.specs.Nested.{nested, nested_header, nested_calls, nested_dump}
-use Rattle.wave_out.specs.Vcd.{header, vcd_text}
+use Rattle.wave_out.specs.Vcd.{dump, dump_text, end_line, first_block, header, vcd_begun, vcd_text}
 use Rattle.wave_out.specs.Writing.{text_after}
 
 -- the calls of a whole run are truthful, and their text is that of the run
@@ -21,6 +22,17 @@ SpentRunIsWritten = (circuit : Circuit) (s : Setting) (spent : ℕ × Option ℕ
 abbrev pub FirstTimesAreWritten : Type 0
 FirstTimesAreWritten = (circuit : Circuit) (s : Setting) (n : ℕ) (made : List Call) → n ≤ suc s.end → (run_for s n).spent ≡ None → CallsFor s n made
     → AreTruthful made × ((rest : List ℕ) × (vcd_text circuit s.end (run_for s (suc s.end)) ≡ text_after circuit made ++ rest))
+
+-- the calls of a run that is stopped are truthful, and their text is that of the blocks so far
+abbrev pub StoppedRunIsWritten : Type 0
+StoppedRunIsWritten = (circuit : Circuit) (s : Setting) (n : ℕ) (made : List Call) → n ≤ suc s.end → (run_for s n).spent ≡ None → CallsFor s n made
+    → AreTruthful made × (text_after circuit made ≡ vcd_begun circuit (run_for s n))
+
+-- blocks up to a time depend on those before another by the values then alone: what is written of times up to a stop, and what is written of later ones from the last snapshot alone, are what is written of all
+abbrev pub RestMakesTheWhole : Type 0
+RestMakesTheWhole = (variables : List Variable) (end : ℕ) (later : List Snapshot) (last : Snapshot) (older : List Snapshot) → All (λ s. last.time < s.time) later → All (λ s. s.time ≤ last.time) older → last.time < end
+    → dump_text (dump variables (later ++ last ∷ older)) ++ end_line end (dump variables (later ++ last ∷ older))
+    ≡ dump_text (dump variables (last ∷ older)) ++ drop (length (first_block variables last)) (dump_text (dump variables (later ++ last ∷ [])) ++ end_line end (dump variables (later ++ last ∷ [])))
 
 -- the texts of the worked example
 abbrev pub NestedTexts : Type 0

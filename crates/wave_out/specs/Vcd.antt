@@ -1,5 +1,5 @@
 -- The text of a value change dump (IEEE 1364-2005, 18.2), with vector values written in all their bits, where the standard writes the shortest form.
-use Rattle.std.specs.Prelude.{ℕ, ℤ, pos, ◌-ℤ◌, nat_abs, zero, suc, ◌+◌, ◌-◌, ◌/◌, ◌%◌, ◌==◌, nat_lt, List, [], ◌∷◌, ◌++◌, Bool, Option, Some, None, length, map, codes, decimal, if◌then◌else◌}
+use Rattle.std.specs.Prelude.{ℕ, ℤ, pos, ◌-ℤ◌, nat_abs, zero, suc, ◌+◌, ◌-◌, ◌/◌, ◌%◌, ◌==◌, nat_lt, List, [], ◌∷◌, ◌++◌, Bool, Option, Some, None, length, map, codes, decimal, drop, if◌then◌else◌}
 use Rattle.std.specs.Fmt.{signed_decimal}
 use Rattle.std.specs.List.{list_any}
 use Rattle.sg_logic.specs.declared.values.Value.{Value}
@@ -149,3 +149,11 @@ vcd_body variables end finished =
 -- the whole text
 unfoldable pub vcd_text : Circuit → ℕ → Finished → List ℕ
 vcd_text circuit end finished = header circuit ++ vcd_body (variables_of circuit) end finished
+
+-- the text of a run that is stopped: the header, and the blocks of its times
+abbrev pub vcd_begun : Circuit → Finished → List ℕ
+vcd_begun circuit finished = header circuit ++ dump_text (dump (variables_of circuit) (lasts finished.run.snapshots))
+
+-- the text of a run that goes on from the snapshot of a time: what its text has behind the block of that
+abbrev pub vcd_rest : Circuit → ℕ → Snapshot → Finished → List ℕ
+vcd_rest circuit end last finished = drop (length (first_block (variables_of circuit) last)) (vcd_body (variables_of circuit) end finished)

@@ -1,11 +1,17 @@
 // Laws of dumps.
-ghost use Rattle.wave_out.specs.Laws.{FirstTimesAreWritten, NestedTexts, SpentRunIsWritten, WholeRunIsWritten};
+ghost use Rattle.wave_out.specs.Laws.{FirstTimesAreWritten, NestedTexts, RestMakesTheWhole, SpentRunIsWritten, StoppedRunIsWritten, WholeRunIsWritten};
 
 /// What is written after the calls of a run is the text of its value change dump.
 pub fn calls_of_a_run_are_its_dump()
     ensures whole { WholeRunIsWritten }
     ensures spent { SpentRunIsWritten }
     ensures begun { FirstTimesAreWritten }
+    ensures stopped { StoppedRunIsWritten }
+{}
+
+/// What is written up to a stop, and what is written from there on, is what is written of the whole run.
+pub fn the_rest_makes_the_whole()
+    ensures { RestMakesTheWhole }
 {}
 
 /// The texts of two scopes with a vector and a reg.

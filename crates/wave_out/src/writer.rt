@@ -1,5 +1,5 @@
 // The value change dump of a run, written to a file from time to time.
-ghost use Rattle.std.specs.Prelude.{◌≡◌, None, IfOk};
+ghost use Rattle.std.specs.Prelude.{◌≡◌, List, [], None, Some, IfOk};
 ghost use Rattle.sg_io.specs.Faults.{Cause, NamesFault};
 ghost use Rattle.sg_io.specs.Files.{BothTell};
 ghost use Rattle.wave_out.specs.Files.{Leaves};
@@ -28,6 +28,8 @@ pub struct VcdWriter<'a> {
     shown: Shown<'a>,
     // the time that was written last
     last: Option<u64>,
+    // if the file goes on from another, the time up to which that was written
+    from: Option<u64>,
 }
 
 impl<'a> Model for VcdWriter<'a> {
@@ -40,12 +42,15 @@ impl<'a> Model for VcdWriter<'a> {
 
     ghost coded = { Prim.hlevel (codes, coded_cond coded_ℕ) };
 
-    ghost view = { λ w. record { name = w.name.now; circuit = w.circuit.now; last = w.last } };
+    ghost view = { λ w. record { name = w.name.now; circuit = w.circuit.now; last = w.last; from = w.from } };
 
     ghost invariant = { λ w. IsShown w.circuit.now w.shown };
 }
 
 impl<'a> VcdWriter<'a> {
+    ghost use Rattle.sim_times.specs.Watching.{Call};
+    ghost use Rattle.wave_out.specs.Writing.{AreFirst, Holds};
+
     /// A writer that has written the header to a new file of this name, by one call to append. Without it the file is as
     /// before, or holds the first bytes of the header.
     pub fn new<S: Shelf>(
@@ -54,7 +59,7 @@ impl<'a> VcdWriter<'a> {
         name: &'a str,
         shelf: &mut S,
     ) -> Result<VcdWriter<'a>, ShelfError>
-        ensures writer { IfOk result (λ w. w ≡ record { name = name.now; circuit = circuit.now; last = None }) }
+        ensures writer { IfOk result (λ w. w ≡ record { name = name.now; circuit = circuit.now; last = None; from = None }) }
         ensures file { BothTell (S.files shelf.old) (S.files shelf.new) (Leaves name.now (header circuit.now) result) }
         ensures cause { Cause (S.fault_count shelf.old) (S.fault_count shelf.new) result }
         ensures named { NamesFault name.now (S.last_fault shelf.old) (S.last_fault shelf.new) result }
@@ -70,13 +75,42 @@ impl<'a> VcdWriter<'a> {
             name,
             shown,
             last: None,
+            from: None,
+        })
+    }
+
+    /// A writer of a new file of this name, which goes on from one that was written up to a time, in ticks, and so has no
+    /// header. It is told of later times alone. Without it the file is as before, or empty.
+    pub fn resume<S: Shelf>(
+        alloc: Global,
+        circuit: &'a Circuit,
+        name: &'a str,
+        shelf: &mut S,
+        time: u64,
+    ) -> Result<VcdWriter<'a>, ShelfError>
+        ensures writer { IfOk result (λ w. w ≡ record { name = name.now; circuit = circuit.now; last = Some time; from = Some time }) }
+        ensures file { BothTell (S.files shelf.old) (S.files shelf.new) (Leaves name.now [] result) }
+        ensures stands { IfOk result (λ w. (calls : List Call) → AreFirst time calls → Holds w (S.files shelf.new) calls) }
+        ensures cause { Cause (S.fault_count shelf.old) (S.fault_count shelf.new) result }
+        ensures named { NamesFault name.now (S.last_fault shelf.old) (S.last_fault shelf.new) result }
+    {
+        let order = visits_of(alloc, circuit)?;
+        let shown = shown_of(alloc, circuit, &order)?;
+        shelf.create(name)?;
+        Ok(VcdWriter {
+            alloc,
+            circuit,
+            name,
+            shown,
+            last: Some(time),
+            from: Some(time),
         })
     }
 }
 
 impl<S: Shelf> Watch<S> for VcdWriter<'_> {
-    ghost use Rattle.wave_out.specs.Files.{FileBegins, KeepsOthers, others_same, others_then};
-    ghost use Rattle.wave_out.specs.Writing.{Holds, text_after};
+    ghost use Rattle.wave_out.specs.Files.{KeepsOthers, others_same, others_then};
+    ghost use Rattle.wave_out.specs.Writing.{Begins, Holds};
 
     ghost name = { λ w. w.name };
 
@@ -84,7 +118,7 @@ impl<S: Shelf> Watch<S> for VcdWriter<'_> {
 
     ghost stands = { λ w s calls. Holds w (S.files s) calls };
 
-    ghost broken = { λ w s calls. FileBegins w.name (text_after w.circuit calls) (S.files s) };
+    ghost broken = { λ w s calls. Begins w (S.files s) calls };
 
     ghost keeps = { λ w a b. KeepsOthers w.name (S.files a) (S.files b) };
 
