@@ -41,7 +41,7 @@ differ_none old new (b ∷ bs) h =
     ap (λ v. v ∷ values_at bs old) (same_value old new b (no_first (differs old new b) (any_differs old new bs) h))
     ∙ ap (λ vs. value_at new b ∷ vs) (differ_none old new bs (no_second (differs old new b) (any_differs old new bs) h))
 
-any_same : (a b new : List Value) (bs : List ℕ) → values_at bs a ≡ values_at bs b → any_differs a new bs ≡ any_differs b new bs
+pub any_same : (a b new : List Value) (bs : List ℕ) → values_at bs a ≡ values_at bs b → any_differs a new bs ≡ any_differs b new bs
 any_same a b new [] h = refl
 any_same a b new (n ∷ ns) h =
     let one : value_at a n ≡ value_at b n = cc in
@@ -195,7 +195,7 @@ grows_later : (xs : List Variable) (c : Call) (changed : List NetChange) (d : Du
 grows_later xs c [] d = grows_end d c.time (time_line c.time) (d.time == c.time)
 grows_later xs c (n ∷ ns) d = grows_block d c.time c.values (later_block xs d.values (snapshot_of c)) (any_variable_differs xs d.values c.values)
 
-grows_call : (xs : List Variable) (c : Call) (o : Option Dump) → (rest : List ℕ) × (dump_text (with_call xs c o) ≡ dump_text o ++ rest)
+pub grows_call : (xs : List Variable) (c : Call) (o : Option Dump) → (rest : List ℕ) × (dump_text (with_call xs c o) ≡ dump_text o ++ rest)
 grows_call xs c None = (first_block xs (snapshot_of c), refl)
 grows_call xs c (Some d) = grows_later xs c c.changed d
 

@@ -22,7 +22,7 @@ use Rattle.sim_times.specs.Watching.{AreCalls, none_yet, at_zero, same_again, Ar
 use Rattle.sim_times.specs.Watching as watching
 use Rattle.sim_times.proofs.CallLaws.{changed_none}
 use Rattle.wave_out.specs.Scopes.{variables_of}
-use Rattle.wave_out.specs.Vcd.{Dump, any_variable_differs, dump, dump_text, dump_with, ending, end_line, header, later_block, first_block, vcd_body, vcd_text, time_line}
+use Rattle.wave_out.specs.Vcd.{Dump, any_variable_differs, dump, dump_text, dump_with, ending, end_line, header, later_block, first_block, vcd_begun, vcd_body, vcd_text, time_line}
 use Rattle.wave_out.specs.Writing.{dump_after, later, snapshot_of, text_after, with_call}
 use Rattle.wave_out.proofs.CallLaws.{Agree, agree_none, after-append, any_agree_none}
 
@@ -45,10 +45,10 @@ unfolding dump
 dump-more xs s older = refl
 
 -- what was written last agrees with the last snapshot
-record Shows (xs : List Variable) (d : Option Dump) (values : List Value) : Type 0 where
-  dump : Dump
-  is : d ≡ Some dump
-  agree : Agree xs dump.values values
+pub record Shows (xs : List Variable) (d : Option Dump) (values : List Value) : Type 0 where
+  pub dump : Dump
+  pub is : d ≡ Some dump
+  pub agree : Agree xs dump.values values
 
 shows_later : (xs : List Variable) (d : Dump) (s : Snapshot) (t : List ℕ) (b : Bool) → any_variable_differs xs d.values s.values ≡ b
     → Shows xs (if b then Some (record { text = t; time = s.time; values = s.values }) else Some d) s.values
@@ -59,7 +59,7 @@ shows_more : (xs : List Variable) (s : Snapshot) (o : Option Dump) → Shows xs 
 shows_more xs s None = record { dump = record { text = first_block xs s; time = s.time; values = s.values }; is = refl; agree = λ i x l. refl }
 shows_more xs s (Some d) = shows_later xs d s (d.text ++ later_block xs d.values s) (any_variable_differs xs d.values s.values) refl
 
-shows : (xs : List Variable) (s : Snapshot) (older : List Snapshot) → Shows xs (dump xs (s ∷ older)) s.values
+pub shows : (xs : List Variable) (s : Snapshot) (older : List Snapshot) → Shows xs (dump xs (s ∷ older)) s.values
 shows xs s older = subst (λ o. Shows xs o s.values) (sym (dump-more xs s older)) (shows_more xs s (dump xs older))
 
 -- a time with the values of the time before adds nothing
@@ -156,7 +156,7 @@ end_is xs end values o d is =
 no_change : (values : List Value) → AreDifferences values values []
 no_change values = record { nets = record { each = λ k. ap (λ b. if b then 1 else 0) (sym (ap not (same-self (value_at values k) (value_at values k) refl))) }; values = λ i d l. absurd (omega arith) }
 
-whole_calls : (circuit : Circuit) (n end : ℕ) (first : List Value) (f : Finished) (calls made : List Call) (seen : IsSeen f.run) → All (λ s. length s.values ≡ n) (lasts f.run.snapshots) → f.spent ≡ None
+pub whole_calls : (circuit : Circuit) (n end : ℕ) (first : List Value) (f : Finished) (calls made : List Call) (seen : IsSeen f.run) → All (λ s. length s.values ≡ n) (lasts f.run.snapshots) → f.spent ≡ None
     → AreCalls first (lasts f.run.snapshots) calls → made ≡ calls ++ end_call end f.run.state.values ∷ [] → AreTruthful made × (text_after circuit made ≡ vcd_text circuit end f)
 unfolding vcd_text
 whole_calls circuit n end first f calls made seen long none are all =
@@ -177,7 +177,7 @@ whole_calls circuit n end first f calls made seen long none are all =
           ∙ ap (λ o. dump_text (dump xs (lasts f.run.snapshots)) ++ ending end (dump xs (lasts f.run.snapshots)) o) (sym none)))),
     )
 
-spent_calls : (circuit : Circuit) (n end : ℕ) (first : List Value) (f : Finished) (spent : ℕ × Option ℕ) (calls : List Call) → All (λ s. length s.values ≡ n) (lasts f.run.snapshots) → f.spent ≡ Some spent
+pub spent_calls : (circuit : Circuit) (n end : ℕ) (first : List Value) (f : Finished) (spent : ℕ × Option ℕ) (calls : List Call) → All (λ s. length s.values ≡ n) (lasts f.run.snapshots) → f.spent ≡ Some spent
     → AreCalls first (lasts f.run.snapshots) calls → AreTruthful calls × (text_after circuit calls ≡ vcd_text circuit end f)
 unfolding vcd_text dump
 spent_calls circuit n end first f spent calls long some are = at (lasts f.run.snapshots) refl (told xs n first (lasts f.run.snapshots) calls long are)
@@ -239,7 +239,7 @@ unfolding dump
 text_told xs [] calls h = (subst AreTruthful (sym h) tt, ap (dump_after xs None) h)
 text_told xs (s ∷ older) calls h = (h.truth, h.text)
 
-begun_calls : (circuit : Circuit) (n end : ℕ) (first : List Value) (f : Finished) (seen : List Snapshot) (calls : List Call) → All (λ s. length s.values ≡ n) seen → Extends (lasts f.run.snapshots) seen → AreCalls first seen calls
+pub begun_calls : (circuit : Circuit) (n end : ℕ) (first : List Value) (f : Finished) (seen : List Snapshot) (calls : List Call) → All (λ s. length s.values ≡ n) seen → Extends (lasts f.run.snapshots) seen → AreCalls first seen calls
     → AreTruthful calls × ((rest : List ℕ) × (vcd_text circuit end f ≡ text_after circuit calls ++ rest))
 unfolding vcd_text
 begun_calls circuit n end first f seen calls long more are =
@@ -265,3 +265,10 @@ begun_run circuit s n made l none are =
     let more : Extends (lasts (run_for s (suc s.end)).run.snapshots) (lasts (run_for s n).run.snapshots) =
     subst (λ j. Extends (lasts (run_for s j).run.snapshots) (lasts (run_for s n).run.snapshots)) e (extends n k s.bound s.machine s.sets 0 (start_of s.first) tt none) in
     begun_calls circuit (length s.first.values) s.end s.first.values (run_for s (suc s.end)) (lasts (run_for s n).run.snapshots) made (run_long s n) more are
+
+pub stopped_run : (circuit : Circuit) (s : Setting) (n : ℕ) (made : List Call) → n ≤ suc s.end → (run_for s n).spent ≡ None → CallsFor s n made → AreTruthful made × (text_after circuit made ≡ vcd_begun circuit (run_for s n))
+stopped_run circuit s n made l none are =
+    let seen : List Snapshot = lasts (run_for s n).run.snapshots in
+    let xs = variables_of circuit in
+    let h = text_told xs seen made (told xs (length s.first.values) s.first.values seen made (run_long s n) are) in
+    (h.0, ap (λ o. header circuit ++ dump_text o) h.1)

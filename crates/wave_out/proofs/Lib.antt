@@ -14,7 +14,10 @@ pub mod ChangeLaws
 pub mod ShownLaws
 pub mod FileLaws
 pub mod CallLaws
+pub mod BehindLaws
 pub mod WriterLaws
 pub mod RunLaws
 pub mod DumpLaws
+pub mod RestLaws
+pub mod OnwardLaws
 pub mod Examples

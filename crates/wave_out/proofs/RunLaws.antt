@@ -1,14 +1,14 @@
 -- What is so of the snapshots of every run.
-use Rattle.std.proofs.Common.{◌≡◌, ◌∙◌, sym, ap, refl, subst, ℕ, zero, suc, ◌+◌, List, [], ◌∷◌, ◌++◌, length, arith}
+use Rattle.std.proofs.Common.{◌≡◌, ◌∙◌, sym, ap, refl, subst, ℕ, zero, suc, ◌+◌, List, [], ◌∷◌, ◌++◌, append_assoc, length, arith}
 use Rattle.std.proofs.lemmas.List.{length-set}
-use Rattle.std.proofs.lemmas.List.Elements.{All-cons, All-head, All-nil, All-tail}
-use Rattle.std.specs.Prelude.{◌==◌, Bool, true, false, if◌then◌else◌, All, Option, Some, None, slice_set}
+use Rattle.std.proofs.lemmas.List.Elements.{All-append, All-cons, All-head, All-nil, All-tail}
+use Rattle.std.specs.Prelude.{◌==◌, ◌≤◌, Bool, true, false, if◌then◌else◌, All, Option, Some, None, slice_set}
 use Rattle.sg_logic.specs.declared.values.Value.{Value}
 use Rattle.sg_model.specs.Machine.{Machine, Snapshot}
 use Rattle.sg_model.specs.Round.{changed_by, due_changes, round}
 use Rattle.sg_model.specs.Time.{Run, Ended, Whole, Spent, flips_of, is_empty, spent_net, needs_round, rounds, time_of, with_round, with_snapshot}
 use Rattle.sg_model.specs.Quiet.{IsSeen}
-use Rattle.sg_model.proofs.SnapshotLaws.{AreBefore, Extends, rounds-snapshots, time-before, times-extend}
+use Rattle.sg_model.proofs.SnapshotLaws.{AreBefore, Extends, rounds-snapshots, time-before, time-lasts, times-extend}
 use Rattle.sg_model.specs.Run.{Finished, go_on, lasts, lasts_before, times_from}
 
 -- so many nets, now and in each snapshot
@@ -92,7 +92,7 @@ seen_on : (e : Ended) (r : Run) (now : ℕ) (next : Run → Finished) → IfWhol
 seen_on (Whole x) r now next h f none = f x h none
 seen_on (Spent net evaluations) r now next h f none = absurd (cc)
 
-seen_times : (left bound : ℕ) (m : Machine) (sets : ℕ → List (ℕ × Value)) (now : ℕ) (r : Run) → IsSeen r → (times_from left bound m sets now r).spent ≡ None → IsSeen (times_from left bound m sets now r).run
+pub seen_times : (left bound : ℕ) (m : Machine) (sets : ℕ → List (ℕ × Value)) (now : ℕ) (r : Run) → IsSeen r → (times_from left bound m sets now r).spent ≡ None → IsSeen (times_from left bound m sets now r).run
 unfolding times_from
 seen_times zero bound m sets now r h none = h
 seen_times (suc left) bound m sets now r h none =
@@ -158,3 +158,30 @@ extends zero k bound m sets now r b none =
 extends (suc n) k bound m sets now r b none =
     subst (λ j. Extends (lasts (times_from j bound m sets now r).run.snapshots) (lasts (times_from (suc n) bound m sets now r).run.snapshots)) (let e : suc (n + k) ≡ suc n + k = omega arith in e)
     (extends_on n k bound m sets now r (time_of bound m sets now r) refl (λ x g h. extends n k bound m sets (suc now) x g h) none)
+
+-- times from one on add last snapshots from it on
+pub record ExtendsFrom (time : ℕ) (new old : List Snapshot) : Type 0 where
+  pub later : List Snapshot
+  pub is : new ≡ later ++ old
+  pub from : All (λ s. time ≤ s.time) later
+
+extends_later : (time left bound : ℕ) (m : Machine) (sets : ℕ → List (ℕ × Value)) (now : ℕ) (r : Run) (e : Ended) → time ≤ now → time_of bound m sets now r ≡ e → AreBefore r.snapshots now
+    → ((x : Run) → AreBefore x.snapshots (suc now) → ExtendsFrom time (lasts (times_from left bound m sets (suc now) x).run.snapshots) (lasts x.snapshots))
+    → ExtendsFrom time (lasts (go_on e r now (λ x. times_from left bound m sets (suc now) x)).run.snapshots) (lasts r.snapshots)
+extends_later time left bound m sets now r (Spent net evaluations) l whole b f = record { later = []; is = refl; from = All-nil (λ (s : Snapshot). time ≤ s.time) }
+extends_later time left bound m sets now r (Whole next) l whole b f =
+    let a = rounds-snapshots bound m now (now == 0) (sets now) r next whole in
+    let more = f next (time-before now (suc now) r next a (omega arith)) in
+    let s : Snapshot = record { time = now; values = next.state.values } in
+    record {
+      later = more.later ++ s ∷ [];
+      is = more.is ∙ (ap (λ ss. more.later ++ ss) (time-lasts now r next a b) ∙ sym (append_assoc more.later (s ∷ []) (lasts r.snapshots)));
+      from = All-append (λ (x : Snapshot). time ≤ x.time) more.later (s ∷ []) more.from (All-cons (λ (x : Snapshot). time ≤ x.time) s [] l (All-nil (λ (x : Snapshot). time ≤ x.time)));
+    }
+
+pub extends_from : (time left bound : ℕ) (m : Machine) (sets : ℕ → List (ℕ × Value)) (now : ℕ) (r : Run) → time ≤ now → AreBefore r.snapshots now
+    → ExtendsFrom time (lasts (times_from left bound m sets now r).run.snapshots) (lasts r.snapshots)
+unfolding times_from
+extends_from time zero bound m sets now r l b = record { later = []; is = refl; from = All-nil (λ (s : Snapshot). time ≤ s.time) }
+extends_from time (suc left) bound m sets now r l b =
+    extends_later time left bound m sets now r (time_of bound m sets now r) l refl b (λ x g. extends_from time left bound m sets (suc now) x (omega arith) g)

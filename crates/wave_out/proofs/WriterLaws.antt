@@ -1,65 +1,139 @@
 -- What a call of a writer leaves in its file.
-use Rattle.std.proofs.Common.{◌≡◌, ◌∙◌, sym, ap, subst, ℕ, List, [], ◌∷◌, ◌++◌, map, append_assoc}
+use Rattle.std.proofs.Common.{◌≡◌, ◌∙◌, sym, ap, subst, refl, ℕ, List, [], ◌∷◌, ◌++◌, map, append_assoc, inl, inr}
 use Rattle.std.proofs.lemmas.List.{append-nil}
-use Rattle.std.specs.Prelude.{Option, Some, None, Ok, Err}
-use Rattle.sg_io.specs.Files.{File, Appends}
+use Rattle.std.proofs.lemmas.List.Elements.{All-cons, All-head, All-nil, All-tail}
+use Rattle.std.specs.Prelude.{◌<◌, ◌⊎◌, All, Option, Some, None, Result, Ok, Err, OnErr, OnOk}
+use Rattle.sg_io.specs.Files.{File, Appends, BothTell, HasAfter}
 use Rattle.sg_io.specs.declared.outside.ShelfError.{ShelfError}
+use Rattle.sg_circuit.specs.Circuit.{Circuit}
 use Rattle.sim_times.specs.Watching.{AreTruthful, Call}
 use Rattle.wave_out.specs.Changes.{IsText}
 use Rattle.wave_out.specs.Files.{FileBegins, FileHolds}
 use Rattle.wave_out.specs.Scopes.{variables_of}
 use Rattle.wave_out.specs.Vcd.{dump_text, header}
-use Rattle.wave_out.specs.Writing.{Holds, Writer, dump_after, text_after, time_of}
+use Rattle.wave_out.specs.Writing.{AddsText, BeginsRest, Holds, HoldsRest, HoldsText, IsTextOf, LeavesText, Writer, dump_after, text_after, text_behind, time_of}
+use Rattle.wave_out.proofs.BehindLaws.{behind, behind-itself, behind_adds}
 use Rattle.wave_out.proofs.CallLaws.{Adds, added, grows, one_more, time_after}
-use Rattle.wave_out.proofs.FileLaws.{appended_err, appended_ok, begins}
+use Rattle.wave_out.proofs.FileLaws.{appended_err, appended_ok, begins, told_before}
 
--- the text of a call
-abbrev pub IsTextOf : Writer → Call → Option (List ℕ) → Type 0
-IsTextOf w c text = IsText w.last c.time (map (λ x. x.bits) (variables_of w.circuit)) c.changed c.values text
+-- one call more
+abbrev AddsCall : Writer → List Call → Call → Option (List ℕ) → Type 0
+AddsCall w calls c text = Adds (dump_after (variables_of w.circuit) None calls) (dump_after (variables_of w.circuit) None (calls ++ c ∷ [])) c.time text
 
-adds : (w : Writer) (told : Option (List File)) (calls : List Call) (c : Call) (text : Option (List ℕ)) → IsTextOf w c text → AreTruthful (calls ++ c ∷ []) → Holds w told calls
-    → Adds (dump_after (variables_of w.circuit) None calls) (dump_after (variables_of w.circuit) None (calls ++ c ∷ [])) c.time text
-adds w told calls c text is truth h = one_more (variables_of w.circuit) calls c text truth (subst (λ o. IsText o c.time (map (λ x. x.bits) (variables_of w.circuit)) c.changed c.values text) h.last is)
+adds : (w : Writer) (told : Option (List File)) (calls : List Call) (before : List ℕ) (c : Call) (text : Option (List ℕ)) → IsTextOf w c text → AreTruthful (calls ++ c ∷ []) → HoldsText w told calls before → AddsCall w calls c text
+adds w told calls before c text is truth h = one_more (variables_of w.circuit) calls c text truth (subst (λ o. IsText o c.time (map (λ x. x.bits) (variables_of w.circuit)) c.changed c.values text) h.last is)
 
-text_adds : (w : Writer) (told : Option (List File)) (calls : List Call) (c : Call) (text : Option (List ℕ)) → IsTextOf w c text → AreTruthful (calls ++ c ∷ []) → Holds w told calls
-    → text_after w.circuit (calls ++ c ∷ []) ≡ text_after w.circuit calls ++ added text
-text_adds w told calls c text is truth h =
-    ap (λ t. header w.circuit ++ t) (adds w told calls c text is truth h).text_is
-    ∙ sym (append_assoc (header w.circuit) (dump_text (dump_after (variables_of w.circuit) None calls)) (added text))
+text_adds : (w : Writer) (calls : List Call) (c : Call) (text : Option (List ℕ)) → AddsCall w calls c text → text_after w.circuit (calls ++ c ∷ []) ≡ text_after w.circuit calls ++ added text
+text_adds w calls c text a = ap (λ t. header w.circuit ++ t) a.text_is ∙ sym (append_assoc (header w.circuit) (dump_text (dump_after (variables_of w.circuit) None calls)) (added text))
 
-time_adds : (w : Writer) (told : Option (List File)) (calls : List Call) (c : Call) (text : Option (List ℕ)) → IsTextOf w c text → AreTruthful (calls ++ c ∷ []) → Holds w told calls
-    → time_after c.time text w.last ≡ time_of (dump_after (variables_of w.circuit) None (calls ++ c ∷ []))
-time_adds w told calls c text is truth h = ap (time_after c.time text) h.last ∙ sym (adds w told calls c text is truth h).time_is
+-- what is held is so by what was added
+by_text : (P : Writer → Option (List File) → Type 0) (text : Option (List ℕ)) (time : ℕ) (w w' : Writer) (old new : Option (List File)) → AddsText text time w w' old new
+    → (text ≡ None → P w old) → ((t : List ℕ) → text ≡ Some t → Appends w.name t old new (Ok tt) → P (record w { last = Some time }) new) → P w' new
+by_text P None time w w' old new a none some = subst (λ v. P v new) (sym a.0) (subst (λ o. P w o) (sym a.1) (none refl))
+by_text P (Some t) time w w' old new a none some = subst (λ v. P v new) (sym a.0) (some t refl a.1)
 
 -- a call that adds nothing
-pub adds_none : (w : Writer) (told : Option (List File)) (calls : List Call) (c : Call) (text : Option (List ℕ)) → text ≡ None → IsTextOf w c text → Holds w told calls → AreTruthful (calls ++ c ∷ [])
-    → Holds w told (calls ++ c ∷ [])
-adds_none w told calls c text none is h truth =
-    let e : text_after w.circuit calls ≡ text_after w.circuit (calls ++ c ∷ []) = sym (text_adds w told calls c text is truth h ∙ (ap (λ o. text_after w.circuit calls ++ added o) none ∙ append-nil (text_after w.circuit calls))) in record {
-      file = subst (λ t. FileHolds w.name t told) e h.file;
-      last = sym (ap (λ o. time_after c.time o w.last) none) ∙ time_adds w told calls c text is truth h;
-    }
+stays : (w : Writer) (told : Option (List File)) (calls : List Call) (c : Call) (before after : List ℕ) (text : Option (List ℕ)) → text ≡ None → AddsCall w calls c text → after ≡ before ++ added text → HoldsText w told calls before
+    → HoldsText w told (calls ++ c ∷ []) after
+stays w told calls c before after text none a e h = record {
+  file = subst (λ t. FileHolds w.name t told) (sym (e ∙ (ap (λ o. before ++ added o) none ∙ append-nil before))) h.file;
+  last = sym (ap (λ o. time_after c.time o w.last) none) ∙ (ap (time_after c.time text) h.last ∙ sym a.time_is);
+}
 
 -- a call that adds a text
-pub adds_some : (w : Writer) (old new : Option (List File)) (calls : List Call) (c : Call) (text : Option (List ℕ)) (t : List ℕ) → text ≡ Some t → IsTextOf w c text → Appends w.name t old new (Ok tt) → Holds w old calls
-    → AreTruthful (calls ++ c ∷ []) → Holds (record w { last = Some c.time }) new (calls ++ c ∷ [])
-adds_some w old new calls c text t some is a h truth =
-    let e : text_after w.circuit calls ++ t ≡ text_after w.circuit (calls ++ c ∷ []) = sym (text_adds w old calls c text is truth h ∙ ap (λ o. text_after w.circuit calls ++ added o) some) in record {
-      file = subst (λ u. FileHolds w.name u new) e (appended_ok w.name (text_after w.circuit calls) t old new h.file a);
-      last = sym (ap (λ o. time_after c.time o w.last) some) ∙ time_adds w old calls c text is truth h;
-    }
+takes : (w : Writer) (old new : Option (List File)) (calls : List Call) (c : Call) (before after t : List ℕ) (text : Option (List ℕ)) → text ≡ Some t → AddsCall w calls c text → after ≡ before ++ added text → HoldsText w old calls before
+    → Appends w.name t old new (Ok tt) → HoldsText (record w { last = Some c.time }) new (calls ++ c ∷ []) after
+takes w old new calls c before after t text some a e h put = record {
+  file = subst (λ u. FileHolds w.name u new) (sym (e ∙ ap (λ o. before ++ added o) some)) (appended_ok w.name before t old new h.file put);
+  last = sym (ap (λ o. time_after c.time o w.last) some) ∙ (ap (time_after c.time text) h.last ∙ sym a.time_is);
+}
 
--- a call whose text isn't added whole
-pub breaks_off : (w : Writer) (old new : Option (List File)) (calls : List Call) (c : Call) (text : Option (List ℕ)) (t : List ℕ) (e : ShelfError) → text ≡ Some t → IsTextOf w c text → Appends w.name t old new (Err e) → Holds w old calls
-    → AreTruthful (calls ++ c ∷ []) → FileBegins w.name (text_after w.circuit (calls ++ c ∷ [])) new
-breaks_off w old new calls c text t e some is a h truth =
-    subst (λ u. FileBegins w.name u new) (sym (text_adds w old calls c text is truth h ∙ ap (λ o. text_after w.circuit calls ++ added o) some))
-    (appended_err w.name (text_after w.circuit calls) t e old new h.file a)
+-- a call whose text isn't made, or isn't added whole
+part_before : (w : Writer) (told : Option (List File)) (before after rest : List ℕ) → after ≡ before ++ rest → FileHolds w.name before told → FileBegins w.name after told
+part_before w told before after rest e h = subst (λ u. FileBegins w.name u told) (sym e) (begins w.name before rest told h)
 
--- a call whose text isn't made
-pub breaks_before : (w : Writer) (told : Option (List File)) (calls : List Call) (c : Call) → Holds w told calls → AreTruthful (calls ++ c ∷ []) → FileBegins w.name (text_after w.circuit (calls ++ c ∷ [])) told
-breaks_before w told calls c h truth =
-    let g = grows (variables_of w.circuit) calls c in
-    subst (λ u. FileBegins w.name u told)
-    (append_assoc (header w.circuit) (dump_text (dump_after (variables_of w.circuit) None calls)) g.0 ∙ ap (λ t. header w.circuit ++ t) (sym g.1))
-    (begins w.name (text_after w.circuit calls) g.0 told h.file)
+text_grows : (circuit : Circuit) (calls : List Call) (c : Call) → (rest : List ℕ) × (text_after circuit (calls ++ c ∷ []) ≡ text_after circuit calls ++ rest)
+text_grows circuit calls c =
+    let g = grows (variables_of circuit) calls c in
+    (g.0, ap (λ t. header circuit ++ t) g.1 ∙ sym (append_assoc (header circuit) (dump_text (dump_after (variables_of circuit) None calls)) g.0))
+
+-- the writer of a whole dump
+whole_ok : (c : Call) (w w' : Writer) (old new : Option (List File)) (text : Option (List ℕ)) → IsTextOf w c text → AddsText text c.time w w' old new → (calls : List Call) → Holds w old calls → AreTruthful (calls ++ c ∷ [])
+    → Holds w' new (calls ++ c ∷ [])
+whole_ok c w w' old new text is put calls h truth =
+    let a = adds w old calls (text_after w.circuit calls) c text is truth h in
+    let e = text_adds w calls c text a in
+    by_text (λ v o. Holds v o (calls ++ c ∷ [])) text c.time w w' old new put
+    (λ none. stays w old calls c (text_after w.circuit calls) (text_after w.circuit (calls ++ c ∷ [])) text none a e h)
+    (λ t some put. takes w old new calls c (text_after w.circuit calls) (text_after w.circuit (calls ++ c ∷ [])) t text some a e h put)
+
+whole_err : (c : Call) (w : Writer) (old new : Option (List File)) (error : ShelfError) → (new ≡ old) ⊎ ((t : List ℕ) × IsTextOf w c (Some t) × Appends w.name t old new (Err error)) → (calls : List Call) → Holds w old calls → AreTruthful (calls ++ c ∷ [])
+    → FileBegins w.name (text_after w.circuit (calls ++ c ∷ [])) new
+whole_err c w old new error (inl same) calls h truth =
+    let g = text_grows w.circuit calls c in
+    subst (λ o. FileBegins w.name (text_after w.circuit (calls ++ c ∷ [])) o) (sym same) (part_before w old (text_after w.circuit calls) (text_after w.circuit (calls ++ c ∷ [])) g.0 g.1 h.file)
+whole_err c w old new error (inr put) calls h truth =
+    let a = adds w old calls (text_after w.circuit calls) c (Some put.0) put.1 truth h in
+    subst (λ u. FileBegins w.name u new) (sym (text_adds w calls c (Some put.0) a)) (appended_err w.name (text_after w.circuit calls) put.0 error old new h.file put.2)
+
+pub whole_holds : (c : Call) (w w' : Writer) (old new : Option (List File)) (result : Result Unit ShelfError) → LeavesText c w w' old new result
+    → OnOk result ((calls : List Call) → Holds w old calls → AreTruthful (calls ++ c ∷ []) → Holds w' new (calls ++ c ∷ []))
+whole_holds c w w' old new (Ok u) h = whole_ok c w w' old new h.0 h.1 h.2
+whole_holds c w w' old new (Err e) h = tt
+
+pub whole_begins : (c : Call) (w w' : Writer) (old new : Option (List File)) (result : Result Unit ShelfError) → LeavesText c w w' old new result
+    → OnErr result ((calls : List Call) → Holds w old calls → AreTruthful (calls ++ c ∷ []) → FileBegins w'.name (text_after w'.circuit (calls ++ c ∷ [])) new)
+whole_begins c w w' old new (Ok u) h = tt
+whole_begins c w w' old new (Err e) h = λ calls held truth. subst (λ v. FileBegins v.name (text_after v.circuit (calls ++ c ∷ [])) new) (sym h.0) (whole_err c w old new e h.1 calls held truth)
+
+-- the writer of one that goes on
+front-later : (P : Call → Type 0) (xs : List Call) (c : Call) → All P (xs ++ c ∷ []) → All P xs
+front-later P [] c h = All-nil P
+front-later P (x ∷ xs) c h = All-cons P x xs (All-head P x (xs ++ c ∷ []) h) (front-later P xs c (All-tail P x (xs ++ c ∷ []) h))
+
+rest_ok : (c : Call) (w w' : Writer) (old new : Option (List File)) (text : Option (List ℕ)) → IsTextOf w c text → AddsText text c.time w w' old new → (calls : List Call) → HoldsRest w old calls → AreTruthful (calls ++ c ∷ [])
+    → HoldsRest w' new (calls ++ c ∷ [])
+rest_ok c w w' old new text is put [] h truth = absurd h
+rest_ok c w w' old new text is put (first ∷ later) h truth = λ after. (
+    let before = text_behind w.circuit (first ∷ []) (first ∷ later) in
+    let now = text_behind w.circuit (first ∷ []) (first ∷ later ++ c ∷ []) in
+    let held = h (front-later (λ x. first.time < x.time) later c after) in
+    let a = adds w old (first ∷ later) before c text is truth held in
+    let e : now ≡ before ++ added text = behind_adds w.circuit first later c (added text) (text_adds w (first ∷ later) c text a) in
+    by_text (λ v o. HoldsText v o (first ∷ later ++ c ∷ []) (text_behind v.circuit (first ∷ []) (first ∷ later ++ c ∷ []))) text c.time w w' old new put
+    (λ none. stays w old (first ∷ later) c before now text none a e held)
+    (λ t some put. takes w old new (first ∷ later) c before now t text some a e held put))
+
+rest_err : (c : Call) (w : Writer) (old new : Option (List File)) (error : ShelfError) → (new ≡ old) ⊎ ((t : List ℕ) × IsTextOf w c (Some t) × Appends w.name t old new (Err error)) → (calls : List Call) → HoldsRest w old calls
+    → AreTruthful (calls ++ c ∷ []) → BeginsRest w new (calls ++ c ∷ [])
+rest_err c w old new error put [] h truth = absurd h
+rest_err c w old new error (inl same) (first ∷ later) h truth = λ after. (
+    let g = text_grows w.circuit (first ∷ later) c in
+    let held = h (front-later (λ x. first.time < x.time) later c after) in
+    subst (λ o. FileBegins w.name (text_behind w.circuit (first ∷ []) (first ∷ later ++ c ∷ [])) o) (sym same)
+    (part_before w old (text_behind w.circuit (first ∷ []) (first ∷ later)) (text_behind w.circuit (first ∷ []) (first ∷ later ++ c ∷ [])) g.0 (behind_adds w.circuit first later c g.0 g.1) held.file))
+rest_err c w old new error (inr put) (first ∷ later) h truth = λ after. (
+    let before = text_behind w.circuit (first ∷ []) (first ∷ later) in
+    let held = h (front-later (λ x. first.time < x.time) later c after) in
+    let a = adds w old (first ∷ later) before c (Some put.0) put.1 truth held in
+    subst (λ u. FileBegins w.name u new) (sym (behind_adds w.circuit first later c put.0 (text_adds w (first ∷ later) c (Some put.0) a))) (appended_err w.name before put.0 error old new held.file put.2))
+
+pub rest_holds : (c : Call) (w w' : Writer) (old new : Option (List File)) (result : Result Unit ShelfError) → LeavesText c w w' old new result
+    → OnOk result ((calls : List Call) → HoldsRest w old calls → AreTruthful (calls ++ c ∷ []) → HoldsRest w' new (calls ++ c ∷ []))
+rest_holds c w w' old new (Ok u) h = rest_ok c w w' old new h.0 h.1 h.2
+rest_holds c w w' old new (Err e) h = tt
+
+pub rest_begins : (c : Call) (w w' : Writer) (old new : Option (List File)) (result : Result Unit ShelfError) → LeavesText c w w' old new result
+    → OnErr result ((calls : List Call) → HoldsRest w old calls → AreTruthful (calls ++ c ∷ []) → BeginsRest w' new (calls ++ c ∷ []))
+rest_begins c w w' old new (Ok u) h = tt
+rest_begins c w w' old new (Err e) h = λ calls held truth. subst (λ v. BeginsRest v new (calls ++ c ∷ [])) (sym h.0) (rest_err c w old new e h.1 calls held truth)
+
+-- a new file has what comes behind the first call, before there is more
+pub rest_begun : (name : List ℕ) (circuit : Circuit) (time : ℕ) (old new : Option (List File)) (first : Call) → BothTell old new (HasAfter name []) → first.time ≡ time
+    → HoldsRest (record { name = name; circuit = circuit; last = Some time }) new (first ∷ [])
+rest_begun name circuit time old new first made at = λ none. record {
+  file = λ files e.
+      let told = told_before (HasAfter name []) old new files made e in
+      told.2.this ∙ ap Some (sym (behind-itself circuit first));
+  last = ap Some (sym at);
+}

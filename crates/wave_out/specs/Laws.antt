@@ -2,11 +2,12 @@
 use Rattle.std.specs.Prelude.{ℕ, suc, ◌≡◌, ◌<◌, ◌≤◌, ◌++◌, All, List, [], ◌∷◌, Option, Some, None, drop, length}
 use Rattle.sg_circuit.specs.Circuit.{Circuit, Variable}
 use Rattle.sg_model.specs.Machine.{Snapshot}
-use Rattle.sim_times.specs.Watching.{AreTruthful, Call}
+use Rattle.sim_times.specs.Watching.{AreTruthful, Call, end_call}
 use Rattle.sim_times.specs.Runs.{Setting, AllCalls, CallsFor, run_for}
+use Rattle.wave_out.specs.Origins.{Origin, AllCallsFrom, CallsFrom, IsOrigin, run_from, times_to}
 use Rattle.wave_out.specs.Nested.{nested, nested_header, nested_calls, nested_dump}
-use Rattle.wave_out.specs.Vcd.{dump, dump_text, end_line, first_block, header, vcd_begun, vcd_text}
-use Rattle.wave_out.specs.Writing.{text_after}
+use Rattle.wave_out.specs.Vcd.{dump, dump_text, end_line, first_block, header, vcd_begun, vcd_rest, vcd_text}
+use Rattle.wave_out.specs.Writing.{text_after, text_behind}
 
 -- the calls of a whole run are truthful, and their text is that of the run
 abbrev pub WholeRunIsWritten : Type 0
@@ -33,6 +34,32 @@ abbrev pub RestMakesTheWhole : Type 0
 RestMakesTheWhole = (variables : List Variable) (end : ℕ) (later : List Snapshot) (last : Snapshot) (older : List Snapshot) → All (λ s. last.time < s.time) later → All (λ s. s.time ≤ last.time) older → last.time < end
     → dump_text (dump variables (later ++ last ∷ older)) ++ end_line end (dump variables (later ++ last ∷ older))
     ≡ dump_text (dump variables (last ∷ older)) ++ drop (length (first_block variables last)) (dump_text (dump variables (later ++ last ∷ [])) ++ end_line end (dump variables (later ++ last ∷ [])))
+
+-- a run that goes on from a snapshot before the end, and was told of that alone
+pub record GoesOnFrom (s : Setting) (o : Origin) (last : Snapshot) : Type 0 where
+  pub origin : IsOrigin s.end o
+  pub snapshots : o.run.snapshots ≡ last ∷ []
+  pub told : o.told ≡ end_call last.time last.values ∷ []
+  pub first : o.first ≡ last.values
+  pub earlier : last.time < s.end
+
+-- calls that go on truthfully from those that were told, and are all later than the snapshot
+pub record CallsGoOn (o : Origin) (last : Snapshot) (made : List Call) : Type 0 where
+  pub truthful : AreTruthful (o.told ++ made)
+  pub later : All (λ c. last.time < c.time) made
+
+-- what is written after the calls of a run that goes on is the rest of the run's text: of a whole run, of one that is spent, and, of the next times, the beginning of it
+abbrev pub WholeRestIsWritten : Type 0
+WholeRestIsWritten = (circuit : Circuit) (s : Setting) (o : Origin) (last : Snapshot) (made : List Call) → GoesOnFrom s o last → (run_from s o o.left).spent ≡ None → AllCallsFrom s o made
+    → CallsGoOn o last made × (text_behind circuit o.told (o.told ++ made) ≡ vcd_rest circuit s.end last (run_from s o o.left))
+
+abbrev pub SpentRestIsWritten : Type 0
+SpentRestIsWritten = (circuit : Circuit) (s : Setting) (o : Origin) (last : Snapshot) (spent : ℕ × Option ℕ) (made : List Call) → GoesOnFrom s o last → (run_from s o o.left).spent ≡ Some spent → CallsFrom s o (times_to o.from spent.0) made
+    → CallsGoOn o last made × (text_behind circuit o.told (o.told ++ made) ≡ vcd_rest circuit s.end last (run_from s o o.left))
+
+abbrev pub NextTimesAreWritten : Type 0
+NextTimesAreWritten = (circuit : Circuit) (s : Setting) (o : Origin) (last : Snapshot) (n : ℕ) (made : List Call) → GoesOnFrom s o last → n ≤ o.left → (run_from s o n).spent ≡ None → CallsFrom s o n made
+    → CallsGoOn o last made × ((rest : List ℕ) × (vcd_rest circuit s.end last (run_from s o o.left) ≡ text_behind circuit o.told (o.told ++ made) ++ rest))
 
 -- the texts of the worked example
 abbrev pub NestedTexts : Type 0

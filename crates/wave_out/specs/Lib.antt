@@ -13,4 +13,5 @@ pub mod Files
 pub mod Shown
 pub mod Writing
 pub mod Nested
+pub mod Origins
 pub mod Laws

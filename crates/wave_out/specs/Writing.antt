@@ -1,10 +1,11 @@
 -- What a writer of a value change dump keeps, and what its file holds after the calls that it got.
-use Rattle.std.specs.Prelude.{ℕ, ◌≡◌, ◌≢◌, ◌<◌, ◌≤◌, ◌==◌, ◌++◌, All, List, [], ◌∷◌, Option, Some, None, drop, length, max, if◌then◌else◌}
-use Rattle.std.specs.Option.{option_map}
-use Rattle.sg_io.specs.Files.{File}
+use Rattle.std.specs.Prelude.{ℕ, ◌≡◌, ◌⊎◌, ◌<◌, ◌==◌, ◌++◌, All, List, [], ◌∷◌, Option, Some, None, Result, Ok, Err, drop, length, map, if◌then◌else◌}
+use Rattle.sg_io.specs.Files.{Appends, File}
+use Rattle.sg_io.specs.declared.outside.ShelfError.{ShelfError}
 use Rattle.sg_model.specs.Machine.{Snapshot}
 use Rattle.sg_circuit.specs.Circuit.{Circuit, Variable}
 use Rattle.sim_times.specs.Watching.{Call, NetChange}
+use Rattle.wave_out.specs.Changes.{IsText}
 use Rattle.wave_out.specs.Files.{FileBegins, FileHolds}
 use Rattle.wave_out.specs.Scopes.{variables_of}
 use Rattle.wave_out.specs.Vcd.{Dump, dump_text, dump_with, header, time_line}
@@ -40,49 +41,45 @@ abbrev pub time_of : Option Dump → Option ℕ
 time_of None = None
 time_of (Some d) = Some d.time
 
--- a writer: the name of its file, the circuit, the time that it wrote last, if any, and, if its file goes on from another, the time up to which that was written
+-- a writer: the name of its file, the circuit, and the time that it wrote last, if any
 pub record Writer : Type 0 where
   pub name : List ℕ
   pub circuit : Circuit
   pub last : Option ℕ
-  pub from : Option ℕ
 
--- the file holds the text of these calls, and the writer keeps its last time
-pub record HoldsWhole (w : Writer) (told : Option (List File)) (calls : List Call) : Type 0 where
-  pub file : FileHolds w.name (text_after w.circuit calls) told
+-- the text of a call
+abbrev pub IsTextOf : Writer → Call → Option (List ℕ) → Type 0
+IsTextOf w c text = IsText w.last c.time (map (λ x. x.bits) (variables_of w.circuit)) c.changed c.values text
+
+-- what adding a text leaves, if there is one
+abbrev pub AddsText : Option (List ℕ) → ℕ → Writer → Writer → Option (List File) → Option (List File) → Type 0
+AddsText None time w w' old new = (w' ≡ w) × (new ≡ old)
+AddsText (Some t) time w w' old new = (w' ≡ record w { last = Some time }) × Appends w.name t old new (Ok tt)
+
+-- what a call leaves: its text was added, or it wasn't made, or not added whole
+abbrev pub LeavesText : Call → Writer → Writer → Option (List File) → Option (List File) → Result Unit ShelfError → Type 0
+LeavesText c w w' old new (Ok u) = (text : Option (List ℕ)) × IsTextOf w c text × AddsText text c.time w w' old new
+LeavesText c w w' old new (Err e) = (w' ≡ w) × ((new ≡ old) ⊎ ((t : List ℕ) × IsTextOf w c (Some t) × Appends w.name t old new (Err e)))
+
+-- the file holds a text, and the writer keeps the last time of these calls
+pub record HoldsText (w : Writer) (told : Option (List File)) (calls : List Call) (text : List ℕ) : Type 0 where
+  pub file : FileHolds w.name text told
   pub last : w.last ≡ time_of (dump_after (variables_of w.circuit) None calls)
 
--- calls up to a time, none of which is the end
-abbrev pub AreFirst : ℕ → List Call → Type 0
-AreFirst time [] = ⊥
-AreFirst time (c ∷ cs) = (c.time ≤ time) × All (λ d. (d.time ≤ time) × (d.changed ≢ [])) cs
-
--- calls split at a time: those up to it, of which there is one at least, and those after it
-pub record Splits (time : ℕ) (calls first later : List Call) : Type 0 where
-  pub is : calls ≡ first ++ later
-  pub first_are : AreFirst time first
-  pub later_are : All (λ c. time < c.time) later
+-- it is the text of these calls
+abbrev pub Holds : Writer → Option (List File) → List Call → Type 0
+Holds w told calls = HoldsText w told calls (text_after w.circuit calls)
 
 -- what the text of some calls has behind that of the first of them
 abbrev pub text_behind : Circuit → List Call → List Call → List ℕ
 text_behind circuit first calls = drop (length (text_after circuit first)) (text_after circuit calls)
 
--- of each list of calls that splits at the time, the file holds what their text has behind that of the first of them
-pub record HoldsRest (w : Writer) (time : ℕ) (told : Option (List File)) (calls : List Call) : Type 0 where
-  pub file : (first later : List Call) → Splits time calls first later → FileHolds w.name (text_behind w.circuit first calls) told
-  pub last : (first later : List Call) → Splits time calls first later → w.last ≡ option_map (max time) (time_of (dump_after (variables_of w.circuit) None calls))
+-- a writer that goes on has, of calls that are all later than the first of them, what their text has behind that of the first; it was told no list without one
+abbrev pub HoldsRest : Writer → Option (List File) → List Call → Type 0
+HoldsRest w told [] = ⊥
+HoldsRest w told (first ∷ later) = All (λ c. first.time < c.time) later → HoldsText w told (first ∷ later) (text_behind w.circuit (first ∷ []) (first ∷ later))
 
-abbrev pub HoldsFrom : Option ℕ → Writer → Option (List File) → List Call → Type 0
-HoldsFrom None w told calls = HoldsWhole w told calls
-HoldsFrom (Some time) w told calls = HoldsRest w time told calls
-
-abbrev pub Holds : Writer → Option (List File) → List Call → Type 0
-Holds w told calls = HoldsFrom w.from w told calls
-
--- the file holds the first bytes of that text
-abbrev pub BeginsFrom : Option ℕ → Writer → Option (List File) → List Call → Type 0
-BeginsFrom None w told calls = FileBegins w.name (text_after w.circuit calls) told
-BeginsFrom (Some time) w told calls = (first later : List Call) → Splits time calls first later → FileBegins w.name (text_behind w.circuit first calls) told
-
-abbrev pub Begins : Writer → Option (List File) → List Call → Type 0
-Begins w told calls = BeginsFrom w.from w told calls
+-- the file holds the first bytes of that
+abbrev pub BeginsRest : Writer → Option (List File) → List Call → Type 0
+BeginsRest w told [] = ⊥
+BeginsRest w told (first ∷ later) = All (λ c. first.time < c.time) later → FileBegins w.name (text_behind w.circuit (first ∷ []) (first ∷ later)) told

@@ -1,5 +1,5 @@
 // Laws of dumps.
-ghost use Rattle.wave_out.specs.Laws.{FirstTimesAreWritten, NestedTexts, RestMakesTheWhole, SpentRunIsWritten, StoppedRunIsWritten, WholeRunIsWritten};
+ghost use Rattle.wave_out.specs.Laws.{FirstTimesAreWritten, NestedTexts, NextTimesAreWritten, RestMakesTheWhole, SpentRestIsWritten, SpentRunIsWritten, StoppedRunIsWritten, WholeRestIsWritten, WholeRunIsWritten};
 
 /// What is written after the calls of a run is the text of its value change dump.
 pub fn calls_of_a_run_are_its_dump()
@@ -7,6 +7,13 @@ pub fn calls_of_a_run_are_its_dump()
     ensures spent { SpentRunIsWritten }
     ensures begun { FirstTimesAreWritten }
     ensures stopped { StoppedRunIsWritten }
+{}
+
+/// What is written after the calls of a run that goes on is the rest of its value change dump.
+pub fn calls_of_a_rest_are_its_dump()
+    ensures whole { WholeRestIsWritten }
+    ensures spent { SpentRestIsWritten }
+    ensures begun { NextTimesAreWritten }
 {}
 
 /// What is written up to a stop, and what is written from there on, is what is written of the whole run.

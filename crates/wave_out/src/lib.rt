@@ -16,8 +16,11 @@ mod words;
 mod writer;
 mod zeroed;
 
-pub use laws::{calls_of_a_run_are_its_dump, nested_texts, the_rest_makes_the_whole};
+pub use laws::{
+    calls_of_a_rest_are_its_dump, calls_of_a_run_are_its_dump, nested_texts,
+    the_rest_makes_the_whole,
+};
 pub use paths::{push_net, push_path};
 pub use report::{ReportEnd, Spent, spent_text, write_report};
 pub use unmatched::push_unmatched;
-pub use writer::VcdWriter;
+pub use writer::{RestWriter, VcdWriter};

@@ -1,4 +1,4 @@
-use Rattle.wave_out.proofs.DumpLaws.{whole_run, spent_whole, begun_run}
+use Rattle.wave_out.proofs.DumpLaws.{whole_run, spent_whole, begun_run, stopped_run}
 use Rattle.wave_out.proofs.laws.calls_of_a_run_are_its_dump.Goals as goal
 
 pub returns-clause-whole : goal.returns-clause-whole
@@ -9,3 +9,6 @@ returns-clause-spent c = spent_whole
 
 pub returns-clause-begun : goal.returns-clause-begun
 returns-clause-begun c = begun_run
+
+pub returns-clause-stopped : goal.returns-clause-stopped
+returns-clause-stopped c = stopped_run
