@@ -266,9 +266,41 @@ begun_run circuit s n made l none are =
     subst (λ j. Extends (lasts (run_for s j).run.snapshots) (lasts (run_for s n).run.snapshots)) e (extends n k s.bound s.machine s.sets 0 (start_of s.first) tt none) in
     begun_calls circuit (length s.first.values) s.end s.first.values (run_for s (suc s.end)) (lasts (run_for s n).run.snapshots) made (run_long s n) more are
 
-pub stopped_run : (circuit : Circuit) (s : Setting) (n : ℕ) (made : List Call) → n ≤ suc s.end → (run_for s n).spent ≡ None → CallsFor s n made → AreTruthful made × (text_after circuit made ≡ vcd_begun circuit (run_for s n))
-stopped_run circuit s n made l none are =
+-- the calls of a run that is stopped
+stop_calls : (circuit : Circuit) (s : Setting) (n : ℕ) (made : List Call) → CallsFor s n made → AreTruthful made × (text_after circuit made ≡ vcd_begun circuit (run_for s n))
+stop_calls circuit s n made are =
     let seen : List Snapshot = lasts (run_for s n).run.snapshots in
     let xs = variables_of circuit in
     let h = text_told xs seen made (told xs (length s.first.values) s.first.values seen made (run_long s n) are) in
     (h.0, ap (λ o. header circuit ++ dump_text o) h.1)
+
+pub stopped_run : (circuit : Circuit) (s : Setting) (n : ℕ) (made : List Call) → n ≤ suc s.end → (run_for s n).spent ≡ None → CallsFor s n made → AreTruthful made × (text_after circuit made ≡ vcd_begun circuit (run_for s n))
+stopped_run circuit s n made l none are = stop_calls circuit s n made are
+
+pub spent_stop : (circuit : Circuit) (s : Setting) (n : ℕ) (spent : ℕ × Option ℕ) (made : List Call) → (run_for s n).spent ≡ Some spent → CallsFor s spent.0 made → AreTruthful made × (text_after circuit made ≡ vcd_begun circuit (run_for s n))
+spent_stop circuit s n spent made some are =
+    let cut = spent_run n s.bound s.machine s.sets 0 (start_of s.first) spent some in
+    let same : spent.0 ≡ cut.times = omega (arith, cut.at) in
+    let run : (run_for s spent.0).run ≡ (run_for s n).run = ap (λ k. (run_for s k).run) same ∙ sym cut.is in
+    let h = stop_calls circuit s spent.0 made are in
+    (h.0, h.1 ∙ ap (λ (r : Run). header circuit ++ dump_text (dump (variables_of circuit) (lasts r.snapshots))) run)
+
+pub stop_begun : (circuit : Circuit) (s : Setting) (n k : ℕ) (made : List Call) → n ≤ k → (run_for s n).spent ≡ None → CallsFor s n made
+    → AreTruthful made × ((rest : List ℕ) × (vcd_begun circuit (run_for s k) ≡ text_after circuit made ++ rest))
+stop_begun circuit s n k made l none are =
+    let j : ℕ = k - n in
+    let e : n + j ≡ k = omega arith in
+    let seen : List Snapshot = lasts (run_for s n).run.snapshots in
+    let xs = variables_of circuit in
+    let more : Extends (lasts (run_for s k).run.snapshots) seen = subst (λ i. Extends (lasts (run_for s i).run.snapshots) seen) e (extends n j s.bound s.machine s.sets 0 (start_of s.first) tt none) in
+    let grown = dump-adds xs more.later seen in
+    let h = stop_calls circuit s n made are in (
+      h.0,
+      (
+        grown.0,
+        ap (λ ss. header circuit ++ dump_text (dump xs ss)) more.is
+            ∙ (ap (λ t. header circuit ++ t) grown.1
+            ∙ (sym (append_assoc (header circuit) (dump_text (dump xs seen)) grown.0)
+            ∙ ap (λ t. t ++ grown.0) (sym h.1))),
+      ),
+    )

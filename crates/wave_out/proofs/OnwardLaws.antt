@@ -154,8 +154,8 @@ whole_rest circuit s o last made g none all =
 
 -- one that is spent
 times_made : (from times time : ℕ) → time ≡ from + times → times_to from time ≡ times
-times_made zero times time e = e
-times_made (suc from) times time e = omega (arith, e)
+times_made zero times time e = let same : time ≡ times = omega (arith, e) in same
+times_made (suc from) times time e = let same : time - suc from ≡ times = omega (arith, e) in same
 
 pub spent_rest : (circuit : Circuit) (s : Setting) (o : Origin) (last : Snapshot) (spent : ℕ × Option ℕ) (made : List Call) → GoesOnFrom s o last → (run_from s o o.left).spent ≡ Some spent → CallsFrom s o (times_to o.from spent.0) made
     → CallsGoOn o last made × (text_behind circuit o.told (o.told ++ made) ≡ vcd_rest circuit s.end last (run_from s o o.left))

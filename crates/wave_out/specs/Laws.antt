@@ -29,6 +29,15 @@ abbrev pub StoppedRunIsWritten : Type 0
 StoppedRunIsWritten = (circuit : Circuit) (s : Setting) (n : ℕ) (made : List Call) → n ≤ suc s.end → (run_for s n).spent ≡ None → CallsFor s n made
     → AreTruthful made × (text_after circuit made ≡ vcd_begun circuit (run_for s n))
 
+-- so are those of one that is spent before, and what is written after the calls of its first times is the beginning of its text
+abbrev pub SpentStopIsWritten : Type 0
+SpentStopIsWritten = (circuit : Circuit) (s : Setting) (n : ℕ) (spent : ℕ × Option ℕ) (made : List Call) → (run_for s n).spent ≡ Some spent → CallsFor s spent.0 made
+    → AreTruthful made × (text_after circuit made ≡ vcd_begun circuit (run_for s n))
+
+abbrev pub FirstTimesOfStopAreWritten : Type 0
+FirstTimesOfStopAreWritten = (circuit : Circuit) (s : Setting) (n k : ℕ) (made : List Call) → n ≤ k → (run_for s n).spent ≡ None → CallsFor s n made
+    → AreTruthful made × ((rest : List ℕ) × (vcd_begun circuit (run_for s k) ≡ text_after circuit made ++ rest))
+
 -- blocks up to a time depend on those before another by the values then alone: what is written of times up to a stop, and what is written of later ones from the last snapshot alone, are what is written of all
 abbrev pub RestMakesTheWhole : Type 0
 RestMakesTheWhole = (variables : List Variable) (end : ℕ) (later : List Snapshot) (last : Snapshot) (older : List Snapshot) → All (λ s. last.time < s.time) later → All (λ s. s.time ≤ last.time) older → last.time < end

@@ -1,5 +1,5 @@
 // Laws of dumps.
-ghost use Rattle.wave_out.specs.Laws.{FirstTimesAreWritten, NestedTexts, NextTimesAreWritten, RestMakesTheWhole, SpentRestIsWritten, SpentRunIsWritten, StoppedRunIsWritten, WholeRestIsWritten, WholeRunIsWritten};
+ghost use Rattle.wave_out.specs.Laws.{FirstTimesAreWritten, FirstTimesOfStopAreWritten, NestedTexts, NextTimesAreWritten, RestMakesTheWhole, SpentRestIsWritten, SpentRunIsWritten, SpentStopIsWritten, StoppedRunIsWritten, WholeRestIsWritten, WholeRunIsWritten};
 
 /// What is written after the calls of a run is the text of its value change dump.
 pub fn calls_of_a_run_are_its_dump()
@@ -7,6 +7,8 @@ pub fn calls_of_a_run_are_its_dump()
     ensures spent { SpentRunIsWritten }
     ensures begun { FirstTimesAreWritten }
     ensures stopped { StoppedRunIsWritten }
+    ensures stop_spent { SpentStopIsWritten }
+    ensures stop_begun { FirstTimesOfStopAreWritten }
 {}
 
 /// What is written after the calls of a run that goes on is the rest of its value change dump.
