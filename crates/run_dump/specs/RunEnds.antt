@@ -11,6 +11,12 @@ use Rattle.sim_times.specs.declared.runs.SimEnd.TheVariants.{RoundsSpent, WatchF
 use Rattle.sim_rounds.specs.declared.sim.Finished as code_finished
 use Rattle.time_checks.specs.Seen.{violation_seen}
 use Rattle.wave_out.specs.declared.report.Spent as code_spent
+use Rattle.sg_circuit.specs.Circuit.{Circuit}
+use Rattle.sg_model.specs.Run.{Finished}
+use Rattle.sim_rounds.specs.Moments.{Fits, moment_after}
+use Rattle.sim_rounds.specs.MomentsSeen.{moment_seen}
+use Rattle.run_dump.specs.declared.stops.Reached as code_reached
+use Rattle.run_dump.specs.declared.stops.Reached.TheVariants as reached
 use Rattle.run_dump.specs.declared.run.RunEnd as code_end
 
 -- the engine made a run, told it to its watcher, and counted what it evaluated; or there was no memory for the engine, and nothing was called
@@ -38,3 +44,9 @@ WatcherFails _ = ⊥
 -- a run came to an end, with this time spent, if one was
 abbrev pub IsSpent : Option code_spent.Spent → Result (Unit {0}) SimEnd → Type 0
 IsSpent spent end = ◌≡◌ {A = Result (Option code_spent.Spent) ShelfError} (Ok spent) (spent_in end)
+
+-- how far a run came that was to be stopped after a time: to a moment that is its own and fits the circuit, where no time was spent; or to the spent one
+abbrev pub HasReached : Circuit → Finished → (until : ℕ) → code_reached.Reached → Type 0
+HasReached circuit run until (reached.Stop moment) =
+    (run.spent ≡ None) × (moment_seen moment ≡ moment_after circuit until run) × Fits circuit (moment_seen moment)
+HasReached circuit run until (reached.Spent s) = run.spent ≡ Some (s.time, Some s.net)

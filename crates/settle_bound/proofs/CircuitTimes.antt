@@ -20,7 +20,7 @@ use Rattle.sg_circuit.specs.declared.checks.Event.{Event}
 use Rattle.sg_stimulus.specs.Stimulus.{Step, sets_at}
 use Rattle.time_checks.specs.Adjusted.{AdjustedCheck, adjusted_check, adjusted_checks}
 use Rattle.time_checks.specs.Checking.{check_at}
-use Rattle.time_checks.specs.Events.{moment}
+use Rattle.time_checks.specs.Events.{moment, no_events}
 use Rattle.time_checks.specs.Quiet.{IsUntouched, StaysSame}
 use Rattle.time_checks.specs.Parts.{parts_of}
 use Rattle.time_checks.specs.Violations.{all_from, listed, limit_at, window_at, violations_at, violations}
@@ -94,7 +94,7 @@ violations-seen checks now last older =
   where
     one : (k : ℕ) (d : AdjustedCheck) → k < length checks → IsUntouched (slice_index_or checks k d) last.values now.values ⊎ IsTouched (slice_index_or checks k d) last.values now.values
         → All (IsSeen checks last.values now.values) (violations_at k (slice_index_or checks k d) (moment (slice_index_or checks k d) now (last ∷ older)))
-    one k d l (inl u) = subst (λ vs. All (IsSeen checks last.values now.values) vs) (sym (untouched-none k (slice_index_or checks k d) now last older u)) (All-nil (IsSeen checks last.values now.values))
+    one k d l (inl u) = subst (λ vs. All (IsSeen checks last.values now.values) vs) (sym (untouched-none no_events k (slice_index_or checks k d) now last older u)) (All-nil (IsSeen checks last.values now.values))
     one k d l (inr t) =
         All-weaker (λ v. v.check ≡ k) (IsSeen checks last.values now.values)
         (λ v e. (let is : check_at checks v.check ≡ slice_index_or checks k d = ap (check_at checks) e ∙ get_or_default checks k _ d l in record {
@@ -174,7 +174,7 @@ circuit-meets c closed bound p last = record {
       omega arith);
   noticed = λ now before older.
       numbers-each (IsNoticed (machine_of c) (λ n. last + bound n) before now) (is_named c.checks (violations (adjusted_checks c) (now ∷ before ∷ older))) 0 (length c.nets) (λ net e. noticed-net c closed bound p last now before older net e);
-  unnoticed = λ now. ap (λ found. notifiers_of c.checks (length c.nets) found) (first-none (adjusted_checks c) now) ∙ (lawful c).unnamed;
+  unnoticed = λ now. ap (λ found. notifiers_of c.checks (length c.nets) found) (first-none [] (adjusted_checks c) now) ∙ (lawful c).unnamed;
 }
 
 -- what the stimulus sets is set by the last set's time

@@ -4,14 +4,16 @@ use Rattle.sg_io.specs.Files.{File}
 use Rattle.sg_io.specs.Put.{SinkTold}
 use Rattle.sg_circuit.specs.Circuit.{Circuit}
 use Rattle.sg_model.specs.Machine.{Violation}
-use Rattle.wave_out.specs.Report.{report_lines}
+use Rattle.sim_save.specs.declared.kinds.SaveKind.TheVariants as saved_kind
+use Rattle.signoff_top.specs.declared.work.StopDone as code_stopped
+use Rattle.wave_out.specs.Report.{report_lines, stopped_lines}
 use Rattle.wave_out.specs.Spent.{spent_seen}
 use Rattle.time_checks.specs.Seen.{violation_seen}
 use Rattle.run_dump.specs.RunEnds.{violations_of}
 use Rattle.run_dump.specs.declared.run.QuietEnd as code_quiet
 use Rattle.sim_times.specs.Times.{count_shown}
 use Rattle.signoff_top.specs.Answer.{Answer, IsAnswer, IsSettleAnswer, refusal_answer, run_of, last_of, case_text, status_of_run, fault_line, report_fault_line, no_memory_line}
-use Rattle.signoff_top.specs.Phases.{Task, refusal_line, status_of_refusal}
+use Rattle.signoff_top.specs.Phases.{Task, refusal_line, save, save_kind, status_of_refusal}
 use Rattle.signoff_top.specs.Promises.{IsRight, LeavesUnfinished, PutsReport}
 use Rattle.signoff_top.specs.Putting.{PutsTillFault, PutsTillWant, PutsLast}
 use Rattle.signoff_top.specs.Status.{IsRunEnd}
@@ -51,17 +53,25 @@ pub record IsSettleDone (circuit : Circuit) (d : code_bounds.BoundsDone) : Type 
   pub right : IsSettleAnswer circuit answer
   pub status : settle_status d.cyclic ≡ answer.status
   pub report : d.text.items ≡ answer.report
-  pub made : answer.made ≡ None
+  pub made : answer.made ≡ []
+
+-- the violations that were found up to a stop
+abbrev pub stop_violations : code_stopped.StopDone → List Violation
+stop_violations d = map (λ v. violation_seen v) d.violations.items
 
 -- the status of what was done, and what is told of it
 abbrev pub status_of_done : code_done.Done → Status
 status_of_done (done.Run d) = status_of_run (spent_seen d.end.spent) (violations_of d.end)
+status_of_done (done.Stop d) = status_of_run None (stop_violations d)
+status_of_done (done.Unsaved d) = status.Save
 status_of_done (done.Writing d) = status.Clean
 status_of_done (done.Bounds d) = settle_status d.cyclic
 status_of_done (done.Case d) = status_of_run (spent_seen d.end.spent) (quiet_violations d.end)
 
 abbrev pub text_of_done : code_done.Done → List ℕ
 text_of_done (done.Run d) = report_lines d.task.circuit (task_seen d.task).unmatched (violations_of d.end) d.task.input.end (spent_seen d.end.spent)
+text_of_done (done.Stop d) = stopped_lines d.task.circuit (task_seen d.task).unmatched (stop_violations d) d.time
+text_of_done (done.Unsaved d) = refusal_line (save d.save.now 1 (save_kind saved_kind.TooLarge))
 text_of_done (done.Writing d) = d.report.items
 text_of_done (done.Bounds d) = d.text.items
 text_of_done (done.Case d) = case_told d

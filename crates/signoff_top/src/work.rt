@@ -2,8 +2,8 @@
 ghost use Rattle.std.specs.Prelude.{◌≡◌, ◌≤◌, ◌<◌, ℕ, List, Some, IfErr, length, map, string_bytes};
 ghost use Rattle.sg_io.specs.Faults.{Cause};
 ghost use Rattle.sg_io.specs.Files.{BothTell, File};
-ghost use Rattle.run_words.specs.Words.{a_case, a_run, a_writing, asked_of, the_bounds};
-ghost use Rattle.run_words.specs.WordsSeen.{command_seen, design_seen, writing_seen};
+ghost use Rattle.run_words.specs.Words.{Asked as Asking, a_case, a_rest, a_run, a_stop, a_writing, asked_of, names_in, the_bounds};
+ghost use Rattle.run_words.specs.WordsSeen.{command_seen, design_seen, stop_seen, writing_seen};
 ghost use Rattle.signoff_top.specs.Promises.{NamesFaultAt};
 ghost use Rattle.signoff_top.specs.Stops.{IfFailed, NeverFails, SparesWords, StopWords, end_of_phase};
 ghost use Rattle.signoff_top.specs.Work.{WorkLeaves};
@@ -12,17 +12,35 @@ use crate::bounds::{BoundsDone, bounds_of};
 use crate::generated::case_task;
 use crate::phases::{Task, annotated_of, task_of, words_phase};
 use crate::stop::Stop;
+use crate::stopping::{Rest, rest_of};
 use crate::writing::{WritingDone, make_file, written_of, written_report};
-use run_dump::{QuietEnd, RunEnd, run_and_dump, run_quietly};
+use run_dump::{QuietEnd, Reached, RunEnd, resume_and_dump, run_and_dump, run_quietly, stop_and_dump};
 use run_words::{Asked, Command, Design, Writing};
 use sg_io::{Shelf, ShelfError};
+use sim_rounds::Moment;
+use sim_save::{SaveError, save_text};
 use std::alloc::Global;
+use time_checks::Violation;
 
 /// A command's task that was run, and what the run came to.
 #[derive(Drop)]
 pub struct RunDone<'a> {
     pub task: Task<'a>,
     pub end: RunEnd,
+}
+
+/// A command's task that was run up to its stop, in ticks, and saved; and the violations that were found.
+#[derive(Drop)]
+pub struct StopDone<'a> {
+    pub task: Task<'a>,
+    pub time: u64,
+    pub violations: Vec<Violation>,
+}
+
+/// A run that was stopped, and whose save would have been too large for this file.
+#[derive(Drop)]
+pub struct UnsavedDone<'a> {
+    pub save: &'a str,
 }
 
 /// The task of a generated case of so many stages that was run, and what the run came to.
@@ -36,10 +54,42 @@ pub struct CaseDone<'a> {
 /// What the words ask for, done.
 #[derive(Drop)]
 pub enum Done<'a> {
+    /// A run that was whole, or in which a time was spent, or the rest of one.
     Run(RunDone<'a>),
+    Stop(StopDone<'a>),
+    Unsaved(UnsavedDone<'a>),
     Writing(WritingDone),
     Bounds(BoundsDone),
     Case(CaseDone<'a>),
+}
+
+// Runs a task, and writes the value change dump.
+fn run_task<'a, S: Shelf>(
+    alloc: Global,
+    task: Task<'a>,
+    shelf: &mut S,
+) -> Result<Done<'a>, Stop<'a>>
+    requires applied { IsApplied task.circuit (stimulus_seen task.input) }
+    requires ranges { (1 ≤ task.rounds) × (1 ≤ task.wheel) × (task.wheel ≤ 1048576) }
+    ensures left { (ws : List (List ℕ)) (old : Option (List File)) → Answers ws (answer_of (Ok (task_seen task.entry))) old → S.files shelf.old ≡ old → BothTell old (S.files shelf.new) (WorkLeaves ws result) }
+    ensures cause { Cause (S.fault_count shelf.old) (S.fault_count shelf.new) (end_of_phase result) }
+    ensures named { (ws : List (List ℕ)) (asked : Asking) (old : Option (List File)) → asked_of ws ≡ Some asked → Contains (names_in (Some asked)) task.entry.vcd.now → Answers ws (answer_of (Ok (task_seen task.entry))) old → S.files shelf.old ≡ old
+        → IfFailed (NamesFaultAt ws old (S.files shelf.new) (S.last_fault shelf.new)) result }
+    ensures words { IfErr result (λ s. SparesWords s) }
+{
+    match run_and_dump(
+        alloc,
+        &task.circuit,
+        &task.input,
+        task.rounds,
+        task.wheel,
+        task.vcd,
+        shelf,
+    ) {
+        Ok(end) => Ok(Done::Run(RunDone { task, end })),
+        Err(ShelfError::Failed) => Err(Stop::Failed),
+        Err(ShelfError::NoMemory) => Err(Stop::NoMemory),
+    }
 }
 
 // Reads what a command names, runs it, and writes the value change dump.
@@ -58,10 +108,114 @@ fn run_command<'a, S: Shelf>(
     ensures words { IfErr result (λ s. SparesWords s) }
 {
     let task = task_of(alloc, command, shelf)?;
-    match run_and_dump(
+    run_task(alloc, task, shelf)
+}
+
+// Saves a moment of a task that was stopped, whose dump was made.
+fn save_moment<'a, S: Shelf>(
+    alloc: Global,
+    task: Task<'a>,
+    stop: run_words::Stop<'a>,
+    violations: Vec<Violation>,
+    moment: &Moment,
+    shelf: &mut S,
+) -> Result<Done<'a>, Stop<'a>>
+{
+    let text = match save_text(alloc, &task.circuit, moment) {
+        Ok(text) => text,
+        Err(SaveError::TooLarge) => return Ok(Done::Unsaved(UnsavedDone { save: stop.save })),
+        Err(SaveError::NoMemory) => return Err(Stop::NoMemory),
+    };
+    match make_file(shelf, stop.save, &text) {
+        Ok(()) => Ok(Done::Stop(StopDone {
+            task,
+            time: stop.time,
+            violations,
+        })),
+        Err(ShelfError::Failed) => Err(Stop::Failed),
+        Err(ShelfError::NoMemory) => Err(Stop::NoMemory),
+    }
+}
+
+// Runs a task up to its stop, which is before its end, writes the dump, and saves what it came to.
+fn stop_task<'a, S: Shelf>(
+    alloc: Global,
+    task: Task<'a>,
+    stop: run_words::Stop<'a>,
+    shelf: &mut S,
+) -> Result<Done<'a>, Stop<'a>>
+{
+    let end = match stop_and_dump(
         alloc,
         &task.circuit,
         &task.input,
+        stop.time,
+        task.rounds,
+        task.wheel,
+        task.vcd,
+        shelf,
+    ) {
+        Ok(end) => end,
+        Err(ShelfError::Failed) => return Err(Stop::Failed),
+        Err(ShelfError::NoMemory) => return Err(Stop::NoMemory),
+    };
+    let violations = end.violations;
+    match end.reached {
+        Reached::Stop(moment) => save_moment(alloc, task, stop, violations, &moment, shelf),
+        Reached::Spent(spent) => {
+            let spent = Some(spent);
+            let end = RunEnd { violations, spent };
+            Ok(Done::Run(RunDone { task, end }))
+        }
+    }
+}
+
+// Reads what a command names, and runs it up to its stop, or whole where that isn't before the end.
+fn run_stopped<'a, S: Shelf>(
+    alloc: Global,
+    command: &Command<'a>,
+    stop: run_words::Stop<'a>,
+    shelf: &mut S,
+) -> Result<Done<'a>, Stop<'a>>
+    requires ranges { (1 ≤ command.now.rounds) × (1 ≤ command.now.wheel) × (command.now.wheel ≤ 1048576) }
+    requires some { 0 < length command.now.design.netlists.items }
+    ensures left { (ws : List (List ℕ)) → asked_of ws ≡ Some (a_stop (command_seen command.now) (stop_seen stop.entry))
+        → BothTell (S.files shelf.old) (S.files shelf.new) (WorkLeaves ws result) }
+    ensures cause { Cause (S.fault_count shelf.old) (S.fault_count shelf.new) (end_of_phase result) }
+    ensures named { (ws : List (List ℕ)) → asked_of ws ≡ Some (a_stop (command_seen command.now) (stop_seen stop.entry))
+        → IfFailed (NamesFaultAt ws (S.files shelf.old) (S.files shelf.new) (S.last_fault shelf.new)) result }
+    ensures words { IfErr result (λ s. SparesWords s) }
+{
+    let task = task_of(alloc, command, shelf)?;
+    if stop.time < task.input.end {
+        stop_task(alloc, task, stop, shelf)
+    } else {
+        run_task(alloc, task, shelf)
+    }
+}
+
+// Reads what a command names and the moment that was saved, runs the rest, and writes the rest of the dump.
+fn run_rest<'a, S: Shelf>(
+    alloc: Global,
+    command: &Command<'a>,
+    state: &'a str,
+    shelf: &mut S,
+) -> Result<Done<'a>, Stop<'a>>
+    requires ranges { (1 ≤ command.now.rounds) × (1 ≤ command.now.wheel) × (command.now.wheel ≤ 1048576) }
+    requires some { 0 < length command.now.design.netlists.items }
+    ensures left { (ws : List (List ℕ)) → asked_of ws ≡ Some (a_rest (command_seen command.now) state.now)
+        → BothTell (S.files shelf.old) (S.files shelf.new) (WorkLeaves ws result) }
+    ensures cause { Cause (S.fault_count shelf.old) (S.fault_count shelf.new) (end_of_phase result) }
+    ensures named { (ws : List (List ℕ)) → asked_of ws ≡ Some (a_rest (command_seen command.now) state.now)
+        → IfFailed (NamesFaultAt ws (S.files shelf.old) (S.files shelf.new) (S.last_fault shelf.new)) result }
+    ensures words { IfErr result (λ s. SparesWords s) }
+{
+    let Rest { task, moment } = rest_of(alloc, command, state, shelf)?;
+    match resume_and_dump(
+        alloc,
+        &task.circuit,
+        &task.input,
+        &moment,
         task.rounds,
         task.wheel,
         task.vcd,
@@ -126,7 +280,7 @@ fn run_case<'a>(alloc: Global, stages: u32) -> Result<Done<'a>, Stop<'a>>
     Ok(Done::Case(CaseDone { stages, task, end }))
 }
 
-/// Does what the words ask for: reads what a command names, runs it, and writes the value change dump; or reads a design, and writes
+/// Does what the words ask for: reads what a command names, runs it, whole, up to a stop or from a saved moment on, and writes the value change dump, and at a stop the save; or reads a design, and writes
 /// its delays, or finds its settle bounds; or makes the generated case and runs it, for which the shelf isn't called.
 pub fn work<'a, S: Shelf>(
     alloc: Global,
@@ -140,6 +294,8 @@ pub fn work<'a, S: Shelf>(
 {
     match words_phase(alloc, words)? {
         Asked::Run(command) => run_command(alloc, &command, shelf),
+        Asked::Stop(command, stop) => run_stopped(alloc, &command, stop, shelf),
+        Asked::Rest(command, state) => run_rest(alloc, &command, state, shelf),
         Asked::Writing(writing) => write_delays(alloc, &writing, shelf),
         Asked::Bounds(design) => find_bounds(alloc, &design, shelf),
         Asked::Case(stages) => run_case(alloc, stages),

@@ -10,3 +10,12 @@ mod Examples
 pub mod DelayLaws
 pub mod ElementLaws
 pub mod SimLaws
+pub mod PendingTimes
+pub mod PendingInvariants
+pub mod StampInvariants
+pub mod SoonLaws
+pub mod StateInvariants
+pub mod RunInvariants
+pub mod EventTimes
+pub mod MomentForms
+pub mod MomentsFit

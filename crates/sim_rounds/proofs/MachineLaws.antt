@@ -110,7 +110,7 @@ apart drives k (x ∷ xs) h = (
   apart drives (suc k) xs (λ e l. (let e' : k + suc e ≡ suc k + e = omega arith in h (suc e) (omega arith) ∙ ap (λ n. driver.Element n) e')),
 )
 
-output_at : (circuit : Circuit) (e : ℕ) → e < length circuit.elements → slice_index_or (map (λ (x : Element). x.output) circuit.elements) e 0 ≡ (element_at circuit e).output
+pub output_at : (circuit : Circuit) (e : ℕ) → e < length circuit.elements → slice_index_or (map (λ (x : Element). x.output) circuit.elements) e 0 ≡ (element_at circuit e).output
 output_at circuit e l = get_or-map (λ (x : Element). x.output) circuit.elements e (record { scope = 0; inputs = []; output = 0; kind = Pass None }) 0 l
 
 -- what is named by an element of a closed circuit

@@ -25,10 +25,10 @@ use Rattle.fan_round.specs.declared.work.WorkList.{WorkList}
 use Rattle.fan_round.specs.Nets.{stamp_seen}
 use Rattle.fan_round.specs.Rounds.{AreHanded, ArePending}
 use Rattle.fan_round.specs.States.{state_seen, IsIdle, IsOfCircuit}
-use Rattle.sim_rounds.specs.Simulated.{first_state, machine_of}
+use Rattle.sim_rounds.specs.Simulated.{first_state, first_value_of, machine_of}
 use Rattle.sim_times.specs.Simulations.{IsReadyAt, StandsBetween}
 use Rattle.sim_times.specs.Steps.{CanApply}
-use Rattle.sim_rounds.specs.Fresh.{IsFresh, first_value_of}
+use Rattle.sim_rounds.specs.Fresh.{IsFresh}
 use Rattle.sim_times.specs.Runs.{start_of}
 use Rattle.sg_circuit.specs.declared.checks.Check.{Check}
 use Rattle.time_checks.specs.Adjusted.{AdjustedCheck, adjusted_checks}
@@ -131,7 +131,7 @@ fresh_ready circuit nets told work elements lists fan driven sets found stimulus
     )
 
 -- the state before time 0
-same_state : (a b : State) → a.values ≡ b.values → a.stamps ≡ b.stamps → a.lists ≡ b.lists → a.states ≡ b.states → a ≡ b
+pub same_state : (a b : State) → a.values ≡ b.values → a.stamps ≡ b.stamps → a.lists ≡ b.lists → a.states ≡ b.states → a ≡ b
 same_state a b v s l t =
     ap (λ x. record { values = x; stamps = a.stamps; lists = a.lists; states = a.states }) v
     ∙ (ap (λ x. record { values = b.values; stamps = x; lists = a.lists; states = a.states }) s

@@ -8,6 +8,7 @@ use Rattle.sg_circuit.specs.declared.elements.Element as code_element
 use Rattle.sg_circuit.specs.declared.elements.UdpUse.{UdpUse}
 use Rattle.sg_circuit.specs.declared.circuits.Parts.{Parts}
 use Rattle.udp_table.specs.declared.table.Table.{Table}
+use Rattle.time_checks.specs.declared.latest.Latest.{Latest}
 use Rattle.udp_table.specs.Cells.{IsTableOf, IsWhole}
 
 -- the element of a number, among the parts of a circuit
@@ -26,7 +27,8 @@ pub record AreTables (udps : List UdpUse) (tables : List Table) : Type 0 where
   pub count : length tables ≡ length udps
   pub each : (i : ℕ) (d : Table) (u : UdpUse) → i < length udps → IsWhole (slice_index_or tables i d) × IsTableOf (slice_index_or udps i u).rows (slice_index_or tables i d)
 
--- the elements of a circuit, and the value that each computed last
+-- the elements of a circuit, and the value that each computed last; what was known of the events of its timing checks before its run
 pub record ElementsSeen : Type 0 where
   pub circuit : Circuit
+  pub earlier : List Latest
   pub states : List Value

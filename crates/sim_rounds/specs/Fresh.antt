@@ -1,8 +1,6 @@
 -- The parts of a simulator before time 0.
-use Rattle.std.specs.Prelude.{◌≡◌, ℕ, if◌then◌else◌, List, [], length, map, replicate}
+use Rattle.std.specs.Prelude.{◌≡◌, ℕ, List, [], length, map, replicate}
 use Rattle.sg_logic.specs.declared.values.Value.{Value}
-use Rattle.sg_logic.specs.declared.values.Value.TheVariants.{X, Z}
-use Rattle.sg_circuit.specs.declared.nets.Driver.{Driver}
 use Rattle.sg_circuit.specs.Circuit.{Circuit}
 use Rattle.sg_circuit.specs.FanOut.{IsFanOut}
 use Rattle.sim_rounds.specs.Elements.{ElementsSeen}
@@ -12,15 +10,12 @@ use Rattle.fan_round.specs.declared.work.WorkList.{WorkList}
 use Rattle.fan_round.specs.Nets.{stamp_seen, AreNets}
 use Rattle.fan_round.specs.States.{IsIdle}
 use Rattle.sim_times.specs.Told.{IsTold}
-use Rattle.sim_rounds.specs.Simulated.{first_state, is_driven, machine_of}
-
--- the value of a net before time 0
-abbrev pub first_value_of : Driver → Value
-first_value_of driver = if is_driven driver then X else Z
+use Rattle.sim_rounds.specs.Simulated.{first_state, machine_of}
 
 -- they are as the circuit is before time 0
 pub record IsFresh (circuit : Circuit) (nets : Nets) (last_told : Told) (work : WorkList) (parts : ElementsSeen) (pending : List (List (ℕ × Value))) (fan : List (List ℕ)) (driven : List ℕ) : Type 0 where
   pub circuit_of : parts.circuit ≡ circuit
+  pub earlier_of : parts.earlier ≡ []
   pub states : parts.states ≡ (first_state circuit).states
   pub values : nets.values.items ≡ (first_state circuit).values
   pub before : nets.before.items ≡ (first_state circuit).values

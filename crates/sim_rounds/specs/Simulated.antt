@@ -16,7 +16,8 @@ use Rattle.sg_circuit.specs.Circuit.{Circuit, Kind, Gate, Udp, Pass, Leg, Path, 
 use Rattle.sg_circuit.specs.Timings.{Timing, timing_between, limits_of}
 use Rattle.pulse_list.specs.Seen.{style_seen}
 use Rattle.time_checks.specs.Adjusted.{adjusted_checks}
-use Rattle.time_checks.specs.Violations.{violations}
+use Rattle.time_checks.specs.declared.latest.Latest.{Latest}
+use Rattle.time_checks.specs.Violations.{violations_since}
 use Rattle.sim_rounds.specs.Notifiers.{notifiers_of}
 use Rattle.path_pick.specs.Choice.{picked}
 use Rattle.path_pick.specs.declared.picking.Picked.{Picked}
@@ -68,16 +69,19 @@ first_of_kind (Leg timings) = X
 first_of_kind (Path paths style) = X
 first_of_kind (Late delay) = X
 
--- the machine of a circuit; each of its reg nets that a violated check names as its notifier toggles (15.5)
-abbrev pub machine_of : Circuit → Machine
-machine_of circuit = record {
+-- the machine of a circuit, where this is known of the events of its checks before any snapshot; each of its reg nets that a violated check names as its notifier toggles (15.5)
+abbrev pub machine_since : Circuit → List Latest → Machine
+machine_since circuit earlier = record {
   inputs = map (λ e. e.inputs) circuit.elements;
   outputs = map (λ e. e.output) circuit.elements;
   value = λ e before after state. value_of_kind (element_at circuit e).kind (values_at (element_at circuit e).inputs before) (values_at (element_at circuit e).inputs after) state;
   rule = λ e now after stamps from to. rule_of_kind (element_at circuit e).kind now after stamps from to;
-  violated = λ snapshots. violations (adjusted_checks circuit) snapshots;
+  violated = λ snapshots. violations_since earlier (adjusted_checks circuit) snapshots;
   notifiers = λ found. notifiers_of circuit.checks (length circuit.nets) found;
 }
+
+abbrev pub machine_of : Circuit → Machine
+machine_of circuit = machine_since circuit []
 
 -- whether anything drives a net
 abbrev pub is_driven : Driver → Bool
@@ -86,10 +90,14 @@ is_driven driver.Stimulus = true
 is_driven (driver.Element element) = true
 is_driven driver.Notifier = true
 
+-- the value of a net before time 0
+abbrev pub first_value_of : Driver → Value
+first_value_of driver = if is_driven driver then X else Z
+
 -- before time 0 every driven net is x and every other z, no net has a stamp, and nothing is pending (4.2.1, 4.2.2)
 abbrev pub first_state : Circuit → State
 first_state circuit = record {
-  values = map (λ net. if is_driven net.driver then X else Z) circuit.nets;
+  values = map (λ net. first_value_of net.driver) circuit.nets;
   stamps = map (λ net. None) circuit.nets;
   lists = map (λ e. []) circuit.elements;
   states = map (λ e. first_of_kind e.kind) circuit.elements;

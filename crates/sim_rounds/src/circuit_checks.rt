@@ -171,20 +171,22 @@ impl<'a> CircuitChecks<'a> {
 
 impl Checks for CircuitChecks<'_> {
     ghost use Rattle.std.specs.Prelude.{length};
-    ghost use Rattle.time_checks.specs.Violations.{violations};
+    ghost use Rattle.time_checks.specs.Violations.{latest_events, violations_since};
     ghost use Rattle.time_checks.proofs.QuietLaws.{stands-again};
     ghost use Rattle.sim_rounds.specs.CircuitChecks.{AreChecksOver, HaveSeen};
     ghost use Rattle.sim_rounds.specs.Notifiers.{notifiers_of};
 
-    ghost violated = { λ c ss. violations c.checker.checks ss };
+    ghost violated = { λ c ss. violations_since c.checker.earlier c.checker.checks ss };
 
     ghost notifiers = { λ c vs. notifiers_of c.checks.now (length c.checker.last) vs };
+
+    ghost latest = { λ c ss. latest_events c.checker.earlier c.checker.checks ss };
 
     ghost over = { λ c nets. AreChecksOver c.checks.now c.checker c.touched c.named nets };
 
     ghost stands = { λ c now ss. HaveSeen c.checker c.touched now ss };
 
-    ghost skips = { λ c t last values now older h. record { stands = stands-again c.checker t (record { time = last; values = values }) older h.stands; leads = h.leads } };
+    ghost skips = { λ c t last values now older h. record { begun = h.begun; stands = stands-again c.checker t (record { time = last; values = values }) older h.stands; leads = h.leads } };
 
     fn touch(&mut self, changed: &[NetId], before: &[Value], values: &[Value]) {
         let _ = before;

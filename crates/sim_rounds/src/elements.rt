@@ -17,12 +17,15 @@ use sg_text::NoMemory;
 use std::alloc::Global;
 use std::marker::Model;
 use std::sync::ledger::Ledger;
+use time_checks::Latest;
 use udp_table::Table;
 
 /// The elements of a circuit, with the value that each computed last.
 #[derive(Drop)]
 pub struct CircuitElements<'a> {
     parts: &'a Parts,
+    // what is known of the events of its timing checks before its run
+    earlier: &'a [Latest],
     // the compiled table of each primitive
     tables: Vec<Table>,
     states: Vec<Value>,
@@ -44,7 +47,7 @@ impl<'a> Model for CircuitElements<'a> {
     ghost use Rattle.sg_circuit.specs.Seen.{circuit_seen};
     ghost use Rattle.sim_rounds.specs.Evaluable.{AreEvaluable};
 
-    ghost view = { λ g. record { circuit = circuit_seen g.parts.now; states = g.states.items } };
+    ghost view = { λ g. record { circuit = circuit_seen g.parts.now; earlier = g.earlier.now; states = g.states.items } };
 
     ghost invariant = { λ g. AreEvaluable g.parts.now g.tables.items g.states.items g.inputs × (g.marks ≡ length g.parts.now.nets.items) };
 }
@@ -102,7 +105,7 @@ impl<'a> CircuitElements<'a> {
     /// The elements of a circuit as they are before time 0. It compiles the circuit's primitives, and takes memory in
     /// proportion to their tables and to the numbers of elements and nets.
     pub fn new(alloc: Global, circuit: &'a Circuit) -> Result<CircuitElements<'a>, NoMemory>
-        ensures { IfOk result (λ g. g ≡ record { circuit = circuit.now; states = (first_state circuit.now).states }) }
+        ensures { IfOk result (λ g. g ≡ record { circuit = circuit.now; earlier = []; states = (first_state circuit.now).states }) }
     {
         let parts = circuit.parts();
         let tables = compile(alloc, &parts.udps)?;
@@ -113,6 +116,7 @@ impl<'a> CircuitElements<'a> {
         let marks = Marks::new(alloc, parts.nets.len())?;
         Ok(CircuitElements {
             parts,
+            earlier: &[],
             tables,
             states,
             inputs: Inputs { before, after },
@@ -123,9 +127,9 @@ impl<'a> CircuitElements<'a> {
 
 impl<'a, A: Agenda, L: Ledger> Elements<A, L> for CircuitElements<'a> {
     ghost use Rattle.std.specs.Prelude.{length};
-    ghost use Rattle.sim_rounds.specs.Simulated.{machine_of};
+    ghost use Rattle.sim_rounds.specs.Simulated.{machine_since};
 
-    ghost machine = { λ g. machine_of g.circuit };
+    ghost machine = { λ g. machine_since g.circuit g.earlier };
 
     ghost states = { λ g. g.states };
 

@@ -4,11 +4,20 @@
 mod circuit_checks;
 mod computing;
 mod elements;
+mod fitting;
 mod laws;
+mod moments;
 mod nets;
+mod pausing;
 mod placing;
+mod resumed;
 mod sim;
+mod stops;
 
 pub use elements::CircuitElements;
-pub use laws::circuit_is_lawful;
+pub use fitting::fits;
+pub use laws::{circuit_is_lawful, moments_of_runs_fit};
+pub use moments::{LastChange, Moment, Pending};
+pub use resumed::Resumed;
 pub use sim::{Finished, Sim, Tally};
+pub use stops::Until;

@@ -5,7 +5,8 @@ ghost use Rattle.std.proofs.Props.{props};
 ghost use Rattle.cond_expr.specs.Codes.{coded_cond};
 ghost use Rattle.time_checks.specs.Seen.{violation_seen};
 ghost use Rattle.sim_rounds.specs.CircuitChecks.{AreFirst};
-ghost use Rattle.sim_rounds.specs.Fresh.{IsFresh, first_value_of};
+ghost use Rattle.sim_rounds.specs.Fresh.{IsFresh};
+ghost use Rattle.sim_rounds.specs.Simulated.{first_value_of};
 ghost use Rattle.sg_circuit.specs.Closed.{IsClosed};
 
 use crate::circuit_checks::CircuitChecks;
@@ -220,10 +221,52 @@ impl<'a, A: Agenda + Drop> Sim<'a, A> {
             changes: Vec::new(alloc),
             last: 0,
         };
-        let end = make_times(&mut simulation, stimulus.end, rounds, shelf, watcher, steps);
+        let end = make_times(&mut simulation, 0, stimulus.end, rounds, shelf, watcher, steps);
         Finished {
             end,
             tally: tally_of(simulation),
         }
+    }
+    /// Makes the run as `run` does, up to a time before the end, and then pauses it: the end isn't told.
+    pub fn run_until<S: Shelf, W: Watch<S>, L: Ledger>(
+        self,
+        stimulus: &Stimulus,
+        until: u64,
+        rounds: u32,
+        shelf: &mut S,
+        watcher: &mut W,
+        steps: &mut Steps<L>,
+    ) -> Until
+        requires rounds { 0 < rounds }
+        requires until { until < stimulus.now.end }
+        requires nets { length (W.circuit watcher.old).nets ≤ length self.circuit.now.nets }
+        requires none_told { W.stands watcher.old shelf.old [] }
+        requires stimulus { IsApplied self.circuit.now (stimulus_seen stimulus.now) }
+        ensures stopped { HasStopped W.stands W.broken watcher.old watcher.new shelf.old shelf.new self.entry.circuit.now [] (setting_of self.entry.circuit.now (stimulus_seen stimulus.now) rounds)
+            (origin_of (setting_of self.entry.circuit.now (stimulus_seen stimulus.now) rounds)) until 0 (steps.new - steps.old) result }
+        ensures steps { steps.old ≤ steps.new }
+        ensures cause { CauseOfEnd (S.fault_count shelf.old) (S.fault_count shelf.new) (end_of result) }
+        ensures named { NamesFaultOfEnd (W.name watcher.old) (S.last_fault shelf.old) (S.last_fault shelf.new) (end_of result) }
+        ensures name { W.name watcher.new ≡ W.name watcher.old }
+        ensures circuit { W.circuit watcher.new ≡ W.circuit watcher.old }
+        ensures keeps { W.keeps watcher.old shelf.old shelf.new }
+    {
+        todo
+    }
+
+    /// A circuit after the time of a moment that fits it, with an agenda on which nothing is pending.
+    pub fn resume(
+        alloc: Global,
+        circuit: &'a Circuit,
+        agenda: A,
+        moment: &'a Moment,
+    ) -> Result<Resumed<'a, A>, NoMemory>
+        requires agenda { A.lists agenda ≡ replicate (length circuit.now.elements) [] }
+        requires fits { Fits circuit.now (moment_seen moment.now) }
+        requires near { moment.now.time < 2 ^ 60 }
+        ensures circuit { IfOk result (λ sim. sim.circuit.now ≡ circuit.now) }
+        ensures moment { IfOk result (λ sim. moment_seen sim.moment.now ≡ moment_seen moment.now) }
+    {
+        todo
     }
 }

@@ -1,5 +1,5 @@
 -- The calls of the times of a run, one time after another.
-use Rattle.std.specs.Prelude.{◌≡◌, ℕ, zero, suc, ◌+◌, ◌<◌, ◌&&◌, Bool, true, false, not, if◌then◌else◌, List, [], ◌∷◌, ◌++◌, length, map, refl}
+use Rattle.std.specs.Prelude.{◌≡◌, ℕ, zero, suc, ◌+◌, ◌<◌, ◌≤◌, ◌&&◌, Bool, true, false, not, if◌then◌else◌, List, [], ◌∷◌, ◌++◌, length, map, refl}
 use Rattle.std.proofs.Common.{sym, ◌∙◌, ap, subst, arith}
 use Rattle.std.proofs.lemmas.List.{append-nil, append_assoc}
 use Rattle.sg_logic.specs.declared.values.Value.{Value}
@@ -16,7 +16,7 @@ use Rattle.time_checks.specs.declared.changes.Change.{Change}
 use Rattle.fan_round.specs.Lists.{occurrences}
 use Rattle.fan_round.specs.Nets.{differs}
 use Rattle.sim_times.specs.Watching.{Call, AreCalls, none_yet, at_zero, same_again, one_more, AreDifferences, AreTruthful, AreTruthfulAfter, IsCall, Got, Broke, net_change, call_of}
-use Rattle.sim_times.specs.Runs.{calls_at, last_after}
+use Rattle.sim_times.specs.Runs.{HasBegun, calls_at, changed_since, last_after}
 use Rattle.fan_round.proofs.ListLaws.{occurs_here}
 
 both : (a b : Bool) → (a && b) ≡ true → (a ≡ true) × (b ≡ true)
@@ -74,10 +74,12 @@ changed_some before after c cs h = at (are_same after before) refl
     at true e = absurd (let k : true ≡ false = sym here ∙ none-same before after e c.net in cc)
     at false e = refl
 
--- a run before a time: before time 0 it has its first values and no snapshot, and later the last snapshot is that of the nets as they are
-abbrev pub SeenAt : List Value → ℕ → Run → Type 0
-SeenAt first zero r = (r.snapshots ≡ []) × (r.state.values ≡ first)
-SeenAt first (suc now) r = IsSeen r
+-- no snapshot is as late as the next time
+pub begun_before : (now : ℕ) (first : List Value) (r : Run) → HasBegun now first r → AreBefore r.snapshots now
+begun_before zero first r h = subst (λ ss. AreBefore ss 0) (sym h.0) tt
+begun_before (suc now) first r h =
+    let l : h.0.last ≤ now = h.1 in
+    subst (λ ss. AreBefore ss (suc now)) (sym h.0.is) (omega arith)
 
 none_calls : (first : List Value) (ss : List Snapshot) (calls : List Call) → AreCalls first ss calls → ss ≡ [] → calls ≡ []
 none_calls first ss calls none_yet e = refl
@@ -86,30 +88,30 @@ none_calls first ss all (same_again s t older calls f h) e = absurd (let k : s �
 none_calls first ss all (one_more s t older calls call f h i) e = absurd (let k : s ∷ t ∷ older ≡ [] = e in cc)
 
 -- the calls after one time more
-pub calls_more : (first told values : List Value) (now : ℕ) (r next : Run) (made : List Call) (changed : List Change) → AddsSnapshots now r next → AreBefore r.snapshots now → SeenAt first now r → told ≡ r.state.values → values ≡ next.state.values
+pub calls_more : (first told values : List Value) (now : ℕ) (r next : Run) (made : List Call) (changed : List Change) → AddsSnapshots now r next → HasBegun now first r → told ≡ r.state.values → values ≡ next.state.values
     → length values ≡ length told → AreDifferences told values (map net_change changed) → AreCalls first (lasts r.snapshots) made → AreCalls first (lasts next.snapshots) (made ++ calls_at now changed values)
-calls_more first told values zero r next made changed adds before seen e v l h are =
-    let none : made ≡ [] = none_calls first (lasts r.snapshots) made are (ap lasts seen.0) in
+calls_more first told values zero r next made changed adds begun e v l h are =
+    let none : made ≡ [] = none_calls first (lasts r.snapshots) made are (ap lasts begun.0) in
     let s : Snapshot = record { time = 0; values = next.state.values } in
-    let ss : lasts next.snapshots ≡ s ∷ [] = time-lasts 0 r next adds before ∙ ap (λ xs. s ∷ lasts xs) seen.0 in
-    let call : IsCall first s (call_of 0 changed values) = record { time = refl; values = v; changed = subst (λ t. AreDifferences t next.state.values (map net_change changed)) (e ∙ seen.1) (subst (λ t. AreDifferences told t (map net_change changed)) v h) } in
+    let ss : lasts next.snapshots ≡ s ∷ [] = time-lasts 0 r next adds (begun_before 0 first r begun) ∙ ap (λ xs. s ∷ lasts xs) begun.0 in
+    let call : IsCall first s (call_of 0 changed values) = record { time = refl; values = v; changed = subst (λ t. AreDifferences t next.state.values (map net_change changed)) (e ∙ begun.1) (subst (λ t. AreDifferences told t (map net_change changed)) v h) } in
     subst (λ xs. AreCalls first xs (made ++ call_of 0 changed values ∷ [])) (sym ss) (subst (λ cs. AreCalls first (s ∷ []) (cs ++ call_of 0 changed values ∷ [])) (sym none) (at_zero s (call_of 0 changed values) call))
-calls_more first told values (suc now) r next made changed adds before seen e v l h are = at changed h
+calls_more first told values (suc now) r next made changed adds begun e v l h are = at changed h
   where
     t : Snapshot
-    t = record { time = seen.last; values = r.state.values }
+    t = record { time = begun.0.last; values = r.state.values }
 
     older : List Snapshot
-    older = lasts_before seen.last seen.older
+    older = lasts_before begun.0.last begun.0.older
 
     was : lasts r.snapshots ≡ t ∷ older
-    was = ap lasts seen.is
+    was = ap lasts begun.0.is
 
     s : Snapshot
     s = record { time = suc now; values = next.state.values }
 
     ss : lasts next.snapshots ≡ s ∷ t ∷ older
-    ss = time-lasts (suc now) r next adds before ∙ ap (λ xs. s ∷ xs) was
+    ss = time-lasts (suc now) r next adds (begun_before (suc now) first r begun) ∙ ap (λ xs. s ∷ xs) was
 
     old : AreCalls first (t ∷ older) made
     old = subst (λ xs. AreCalls first xs made) was are
@@ -124,56 +126,62 @@ calls_more first told values (suc now) r next made changed adds before seen e v 
         subst (λ xs. AreCalls first xs (made ++ call_of (suc now) (c ∷ cs) values ∷ [])) (sym ss) (one_more s t older made (call_of (suc now) (c ∷ cs) values) other old call)
 
 -- the last time that differs, after one time more
-pub last_more : (first told values : List Value) (now : ℕ) (r next : Run) (changed : List Change) (last : ℕ) → AddsSnapshots now r next → AreBefore r.snapshots now → SeenAt first now r → told ≡ r.state.values → values ≡ next.state.values
-    → length values ≡ length told → AreDifferences told values (map net_change changed) → last ≡ last_change first (lasts r.snapshots) → last_after now changed last ≡ last_change first (lasts next.snapshots)
-last_more first told values zero r next changed last adds before seen e v l h is =
+pub last_more : (first told values : List Value) (now : ℕ) (r next : Run) (changed : List Change) → AddsSnapshots now r next → HasBegun now first r → told ≡ r.state.values → values ≡ next.state.values
+    → length values ≡ length told → AreDifferences told values (map net_change changed) → last_after now changed (last_change first (lasts r.snapshots)) ≡ last_change first (lasts next.snapshots)
+last_more first told values zero r next changed adds begun e v l h =
     let s : Snapshot = record { time = 0; values = next.state.values } in
-    let ss : lasts next.snapshots ≡ s ∷ [] = time-lasts 0 r next adds before ∙ ap (λ xs. s ∷ lasts xs) seen.0 in
-    let none : last ≡ 0 = is ∙ ap (λ xs. last_change first (lasts xs)) seen.0 in
-    at changed none ∙ (sym (zero_both (are_same next.state.values first)) ∙ ap (last_change first) (sym ss))
+    let ss : lasts next.snapshots ≡ s ∷ [] = time-lasts 0 r next adds (begun_before 0 first r begun) ∙ ap (λ xs. s ∷ lasts xs) begun.0 in
+    at changed (last_change first (lasts r.snapshots)) (ap (λ xs. last_change first (lasts xs)) begun.0) ∙ (sym (zero_both (are_same next.state.values first)) ∙ ap (last_change first) (sym ss))
   where
-    at : (changed : List Change) → last ≡ 0 → last_after 0 changed last ≡ 0
-    at [] n = n
-    at (c ∷ cs) n = refl
+    at : (changed : List Change) (last : ℕ) → last ≡ 0 → last_after 0 changed last ≡ 0
+    at [] last n = n
+    at (c ∷ cs) last n = refl
 
     zero_both : (b : Bool) → ◌≡◌ {A = ℕ} (if b then 0 else 0) 0
     zero_both true = refl
     zero_both false = refl
-last_more first told values (suc now) r next changed last adds before seen e v l h is = at changed h
+last_more first told values (suc now) r next changed adds begun e v l h = at changed h
   where
     t : Snapshot
-    t = record { time = seen.last; values = r.state.values }
+    t = record { time = begun.0.last; values = r.state.values }
 
     older : List Snapshot
-    older = lasts_before seen.last seen.older
+    older = lasts_before begun.0.last begun.0.older
 
     was : lasts r.snapshots ≡ t ∷ older
-    was = ap lasts seen.is
+    was = ap lasts begun.0.is
 
     s : Snapshot
     s = record { time = suc now; values = next.state.values }
 
     ss : lasts next.snapshots ≡ s ∷ t ∷ older
-    ss = time-lasts (suc now) r next adds before ∙ ap (λ xs. s ∷ xs) was
+    ss = time-lasts (suc now) r next adds (begun_before (suc now) first r begun) ∙ ap (λ xs. s ∷ xs) was
 
-    at : (changed : List Change) → AreDifferences told values (map net_change changed) → last_after (suc now) changed last ≡ last_change first (lasts next.snapshots)
+    at : (changed : List Change) → AreDifferences told values (map net_change changed) → last_after (suc now) changed (last_change first (lasts r.snapshots)) ≡ last_change first (lasts next.snapshots)
     at [] h =
         let same : are_same next.state.values r.state.values ≡ true = ap (λ x. are_same x r.state.values) (sym v) ∙ (ap (λ x. are_same values x) (sym e) ∙ changed_none told values l h) in
         let late : last_change first (s ∷ t ∷ older) ≡ last_change first (t ∷ older) = ap (λ b. if b then last_change first (t ∷ older) else suc now) same in
-        is ∙ (ap (last_change first) was ∙ (sym late ∙ ap (last_change first) (sym ss)))
+        ap (last_change first) was ∙ (sym late ∙ ap (last_change first) (sym ss))
     at (c ∷ cs) h =
         let other : are_same next.state.values r.state.values ≡ false = ap (λ x. are_same x r.state.values) (sym v) ∙ (ap (λ x. are_same values x) (sym e) ∙ changed_some told values c cs h) in
         let late : last_change first (s ∷ t ∷ older) ≡ suc now = ap (λ b. if b then last_change first (t ∷ older) else suc now) other in
         sym late ∙ ap (last_change first) (sym ss)
+
+-- and after an earlier one
+pub since_after : (now earlier : ℕ) (changed : List Change) (last : ℕ) → (now ≡ 0 → earlier ≡ 0) → last_after now changed (changed_since earlier last) ≡ changed_since earlier (last_after now changed last)
+since_after now earlier [] last none = refl
+since_after zero earlier (c ∷ cs) last none = ap (λ n. changed_since n 0) (sym (none refl))
+since_after (suc now) zero (c ∷ cs) last none = refl
+since_after (suc now) (suc earlier) (c ∷ cs) last none = refl
 
 -- skipped times have no call and are no change
 pub calls_kept : (first : List Value) (made : List Call) (k : ℕ) (m : Machine) (now : ℕ) (r : Run) (seen : IsSeen r) → seen.last < now → AreCalls first (lasts r.snapshots) made → AreCalls first (lasts (with_copies k m now r).snapshots) made
 calls_kept first made k m now r seen l h =
     copies-kept (λ ss. AreCalls first ss made) (λ t last values older h. same_again (record { time = t; values = values }) (record { time = last; values = values }) older made (same-self_all values) h) k m now r seen l h
 
-pub last_kept : (first : List Value) (last : ℕ) (k : ℕ) (m : Machine) (now : ℕ) (r : Run) (seen : IsSeen r) → seen.last < now → last ≡ last_change first (lasts r.snapshots) → last ≡ last_change first (lasts (with_copies k m now r).snapshots)
-last_kept first last k m now r seen l h =
-    copies-kept (λ ss. last ≡ last_change first ss) (λ t time values older h. h ∙ sym (ap (λ b. if b then last_change first (record { time = time; values = values } ∷ older) else t) (same-self_all values))) k m now r seen l h
+pub last_kept : (first : List Value) (k : ℕ) (m : Machine) (now : ℕ) (r : Run) (seen : IsSeen r) → seen.last < now → last_change first (lasts r.snapshots) ≡ last_change first (lasts (with_copies k m now r).snapshots)
+last_kept first k m now r seen l =
+    copies-kept (λ ss. last_change first (lasts r.snapshots) ≡ last_change first ss) (λ t time values older h. h ∙ sym (ap (λ b. if b then last_change first (record { time = time; values = values } ∷ older) else t) (same-self_all values))) k m now r seen l refl
 
 -- calls that are truthful with more behind them are so without
 after-front : (before : List Value) (calls more : List Call) → AreTruthfulAfter before (calls ++ more) → AreTruthfulAfter before calls

@@ -14,6 +14,7 @@ use Rattle.sg_model.specs.Time.{toggles as toggles_of, is_empty}
 use Rattle.sg_stimulus.specs.declared.steps.Set.{Set}
 use Rattle.sg_stimulus.specs.Seen.{set_seen}
 use Rattle.sg_stimulus.specs.Stimulus.{Stimulus}
+use Rattle.time_checks.specs.declared.latest.Latest.{Latest}
 use Rattle.time_checks.specs.declared.violations.Violation as code_violation
 use Rattle.time_checks.specs.Seen.{violation_seen}
 use Rattle.pulse_list.proofs.EarliestLaws.{none_below-reverse}
@@ -94,8 +95,11 @@ take_still f ended n old new e l k = at ended n new l k ∙ ap (λ xs. take ende
     at (suc a) (suc b) [] p q = absurd (omega arith)
     at (suc a) (suc b) (x ∷ xs) p q = ap (λ ys. f x ∷ ys) (at a b xs (omega arith) (omega arith))
 
-pub kept_still : (told : Told) (ended : ℕ) (old new : List code_violation.Violation) (changed : ℕ) (applied : Stimulus) → take (length old) new ≡ old → ended ≤ length old → kept_of told ended new changed applied ≡ kept_of told ended old changed applied
-kept_still told ended old new changed applied e l = ap (λ vs. record { told = told.values.items; violations = vs; last = changed; stimulus = applied }) (take_still (λ v. violation_seen v) ended (length old) old new e l (begun_still old new e))
+pub kept_still : (told : Told) (latest latest' : List Snapshot → List Latest) (ended : ℕ) (old new : List code_violation.Violation) (changed : ℕ) (applied : Stimulus) → latest' ≡ latest → take (length old) new ≡ old → ended ≤ length old
+    → kept_of told latest' ended new changed applied ≡ kept_of told latest ended old changed applied
+kept_still told latest latest' ended old new changed applied same e l =
+    ap (λ f. kept_of told f ended new changed applied) same
+    ∙ ap (λ vs. record { told = told.values.items; latest = latest; violations = vs; last = changed; stimulus = applied }) (take_still (λ v. violation_seen v) ended (length old) old new e l (begun_still old new e))
 
 -- toggles change a net
 pub toggles_state_move : (m : Machine) (fan : List (List ℕ)) (driven : List ℕ) (s : State) (found_by : List Snapshot → List Violation) (toggled_by : List Violation → List ℕ) (stands after : List Snapshot → Type 0) (now : ℕ) (seen : List Value) (old new : List code_violation.Violation) (sets : List Set) (none : Bool)

@@ -7,6 +7,7 @@ use Rattle.sg_stimulus.specs.declared.steps.Set.{Set}
 use Rattle.sg_stimulus.specs.Seen.{set_seen}
 use Rattle.sg_stimulus.specs.Stimulus.{Stimulus}
 use Rattle.time_checks.specs.declared.violations.Violation as code_violation
+use Rattle.time_checks.specs.declared.latest.Latest.{Latest}
 use Rattle.time_checks.specs.Falling.{DontFall}
 use Rattle.time_checks.specs.Seen.{violation_seen}
 use Rattle.fan_round.specs.declared.nets.Nets.{Nets}
@@ -19,8 +20,8 @@ use Rattle.sim_times.specs.Checks.{AreFree}
 use Rattle.sim_times.specs.Times.{Kept, count_shown}
 
 -- what a simulation keeps of the times that ended
-abbrev pub kept_of : Told → ℕ → List code_violation.Violation → ℕ → Stimulus → Kept
-kept_of told ended found changed applied = record { told = told.values.items; violations = take ended (map (λ v. violation_seen v) found); last = changed; stimulus = applied }
+abbrev pub kept_of : Told → (List Snapshot → List Latest) → ℕ → List code_violation.Violation → ℕ → Stimulus → Kept
+kept_of told latest ended found changed applied = record { told = told.values.items; latest = latest; violations = take ended (map (λ v. violation_seen v) found); last = changed; stimulus = applied }
 
 -- at a time that no snapshot is later than: the nets, what is pending, what was computed, what the checks have seen, the violations and the count are those of the run
 pub record StandsFor (nets : Nets) (lists : List (List (ℕ × Value))) (states : List Value) (seen : List Snapshot → Type 0) (found : List code_violation.Violation) (counted now : ℕ) (r : Run) : Type 0 where

@@ -8,6 +8,7 @@ use Rattle.sg_model.specs.Time.{Run, with_snapshot}
 use Rattle.sg_model.specs.Quiet.{IsLawful, IsSeen, with_copies}
 use Rattle.sg_model.proofs.SkipLaws.{copies-state, copies-before, copies-evaluations, copies-violations}
 use Rattle.time_checks.specs.declared.violations.Violation as code_violation
+use Rattle.time_checks.specs.declared.latest.Latest.{Latest}
 use Rattle.time_checks.specs.Falling.{DontFall}
 use Rattle.time_checks.specs.Seen.{violation_seen}
 use Rattle.sg_stimulus.specs.Stimulus.{Stimulus}
@@ -56,7 +57,7 @@ stands_skipped m law nets lists states seen found counted ended k n r s skip h =
 pub shows_values : (nets : Nets) (lists : List (List (ℕ × Value))) (states : List Value) (seen : List Snapshot → Type 0) (found : List code_violation.Violation) (counted ended now : ℕ) (r : Run) → StandsBetween nets lists states seen found counted ended now r → nets.values.items ≡ r.state.values
 shows_values nets lists states seen found counted ended now r h = sym (ap (λ x. x.values) h.run.state)
 
-pub holds_violations : (nets : Nets) (lists : List (List (ℕ × Value))) (states : List Value) (seen : List Snapshot → Type 0) (found : List code_violation.Violation) (counted ended : ℕ) (told : Told) (changed : ℕ) (applied : Stimulus) (now : ℕ) (r : Run) → StandsBetween nets lists states seen found counted ended now r
-    → (kept_of told ended found changed applied).violations ≡ r.violations
-holds_violations nets lists states seen found counted ended told changed applied now r h =
+pub holds_violations : (nets : Nets) (lists : List (List (ℕ × Value))) (states : List Value) (seen : List Snapshot → Type 0) (found : List code_violation.Violation) (counted ended : ℕ) (told : Told) (latest : List Snapshot → List Latest) (changed : ℕ) (applied : Stimulus) (now : ℕ) (r : Run) → StandsBetween nets lists states seen found counted ended now r
+    → (kept_of told latest ended found changed applied).violations ≡ r.violations
+holds_violations nets lists states seen found counted ended told latest changed applied now r h =
     take_all ended (map (λ v. violation_seen v) found) (subst (λ n. n ≤ ended) (sym (length-map found (λ v. violation_seen v))) h.whole) ∙ sym h.run.violations

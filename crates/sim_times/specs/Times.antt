@@ -2,7 +2,8 @@
 use Rattle.std.specs.Prelude.{ℕ, suc, ◌≡◌, ◌+◌, ◌-◌, ◌^◌, ◌≤◌, min, Bool, true, false, List, [], Some}
 use Rattle.sg_logic.specs.declared.values.Value.{Value}
 use Rattle.sg_stimulus.specs.Stimulus.{Stimulus}
-use Rattle.sg_model.specs.Machine.{Machine, Violation}
+use Rattle.sg_model.specs.Machine.{Machine, Snapshot, Violation}
+use Rattle.time_checks.specs.declared.latest.Latest.{Latest}
 use Rattle.sg_model.specs.Time as model
 use Rattle.sg_model.specs.Time.{Run, Ended, rounds, needs_round, with_round, with_snapshot, flips_of, is_empty, spent_net}
 use Rattle.sim_times.specs.declared.times.Turn.TheVariants as turn
@@ -14,10 +15,11 @@ use Rattle.sim_times.specs.declared.times.TimeEnd.TheVariants.{Whole, Spent, NoM
 abbrev pub count_shown : ℕ → ℕ
 count_shown n = min n (2 ^ 64 - 1)
 
--- what the rounds of a time leave: the values that were told last, the violations of the times that ended, the last
--- time at which a net changed, and the stimulus
+-- what the rounds of a time leave: the values that were told last, the latest events of each check up to some snapshots,
+-- the violations of the times that ended, the last time at which a net changed, and the stimulus
 pub record Kept : Type 0 where
   pub told : List Value
+  pub latest : List Snapshot → List Latest
   pub violations : List Violation
   pub last : ℕ
   pub stimulus : Stimulus

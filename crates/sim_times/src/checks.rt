@@ -4,6 +4,7 @@ ghost use Rattle.fan_round.specs.Nets.{AreChanged};
 ghost use Rattle.sg_logic.specs.declared.values.Value.{Value as NetValue};
 ghost use Rattle.sg_model.specs.Machine.{Snapshot, Violation as CheckViolation};
 ghost use Rattle.sim_times.specs.Checks.{HasSeen};
+ghost use Rattle.time_checks.specs.declared.latest.Latest.{Latest};
 
 use sg_circuit::NetId;
 use sg_logic::Value;
@@ -19,6 +20,9 @@ pub trait Checks {
     /// The nets that violations toggle.
     ghost notifiers: { Self → List CheckViolation → List ℕ };
 
+    /// The latest events of each check up to the last of some snapshots.
+    ghost latest: { Self → List Snapshot → List Latest };
+
     /// It is for so many nets.
     ghost over: { Self → ℕ → Type 0 };
 
@@ -31,6 +35,7 @@ pub trait Checks {
         requires changed { AreChanged before.now values.now changed.now }
         ensures violated { violated self.new ≡ violated self.old }
         ensures notifiers { notifiers self.new ≡ notifiers self.old }
+        ensures latest { latest self.new ≡ latest self.old }
         ensures over { over self.new (length values.now) }
         ensures stands { (ss : List Snapshot) → stands self.old before.now ss → stands self.new values.now ss };
 
@@ -46,6 +51,7 @@ pub trait Checks {
         requires empty { toggles.old.items ≡ [] }
         ensures violated { violated self.new ≡ violated self.old }
         ensures notifiers { notifiers self.new ≡ notifiers self.old }
+        ensures latest { latest self.new ≡ latest self.old }
         ensures over { OnOk result (over self.new (length values.now)) }
         ensures seen { OnOk result (HasSeen (violated self.old) (notifiers self.old) (stands self.old values.now) (stands self.new values.now) now values.now violations.old.items violations.new.items toggles.new.items) }
         ensures kept { take (length violations.old.items) violations.new.items ≡ violations.old.items };

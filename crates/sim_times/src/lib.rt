@@ -13,7 +13,7 @@ mod told;
 mod watch;
 
 pub use checks::Checks;
-pub use runs::{SimEnd, Times, make_times};
+pub use runs::{SimEnd, Times, make_times, make_times_until};
 pub use simulation::Simulation;
 pub use times::{Rounds, TimeEnd, Turn};
 pub use told::Told;

@@ -1,13 +1,13 @@
 // The times of a run, one after another, told to a watcher.
-ghost use Rattle.std.specs.Prelude.{◌≡◌, ℕ, ◌+◌, ◌-◌, ◌^◌, ◌<◌, ◌≤◌, All, List, [], ◌∷◌, OnErr, OnOk, length, map};
+ghost use Rattle.std.specs.Prelude.{◌≡◌, ℕ, ◌+◌, ◌-◌, ◌^◌, ◌<◌, ◌≤◌, All, List, ◌∷◌, [], OnErr, OnOk, length, map};
 ghost use Rattle.sg_logic.specs.declared.values.Value.{Value as NetValue};
 ghost use Rattle.sg_model.specs.Machine.{Machine};
 ghost use Rattle.sg_model.specs.Time.{Run};
 ghost use Rattle.sg_model.specs.Quiet.{IsLawful, IsQuiet, IsSeen, with_copies};
 ghost use Rattle.time_checks.specs.declared.changes.Change.{Change as NetChanged};
 ghost use Rattle.sim_times.specs.Times.{Kept, count_shown};
-ghost use Rattle.sim_times.specs.Runs.{CauseOfEnd, IsEndOfCall, IsEndOfTime, IsKeptAfter, NamesFaultOfEnd, RunMade, TimeMade, calls_at, end_of_call};
-ghost use Rattle.sim_times.specs.Watching.{AreDifferences, AreNextCalls, Broke, Got, IsNextCall, call_of, net_change};
+ghost use Rattle.sim_times.specs.Runs.{CauseOfEnd, IsEndOfCall, IsEndOfTime, IsKeptAfter, NamesFaultOfEnd, RunMade, StopMade, TimeMade, calls_at, end_of_call};
+ghost use Rattle.sim_times.specs.Watching.{AreDifferences, AreNextCalls, Broke, Got, HasTold, IsNextCall, call_of, net_change};
 
 use crate::watch::Watch;
 use cond_expr::Nets;
@@ -203,25 +203,69 @@ fn tell_time<S: Shelf, W: Watch<S>>(
     tell(shelf, watcher, now, changed, values)
 }
 
-/// Makes all times from 0 to the end, or up to a spent one, and tells the watcher, who was told nothing yet. Quiet times
-/// are skipped.
+/// Makes the times from one to another, or up to a spent one, and tells the watcher, who was told of the nets as they
+/// are, or of nothing yet. Quiet times are skipped. No call tells the end.
+pub fn make_times_until<S: Shelf, W: Watch<S>, L: Ledger, T: Times<L>>(
+    times: &mut T,
+    from: u64,
+    until: u64,
+    bound: u32,
+    shelf: &mut S,
+    watcher: &mut W,
+    steps: &mut Steps<L>,
+) -> Result<(), SimEnd>
+    requires ready { T.ready times.old from }
+    requires from { from ≤ until + 1 }
+    requires until { until < 2 ^ 60 }
+    requires bound { 0 < bound }
+    requires law { IsLawful (T.machine times.old) }
+    requires told { (T.kept times.old).told ≡ T.values times.old }
+    requires nets { length (W.circuit watcher.old).nets ≤ length (T.values times.old) }
+    requires before { HasTold (W.stands watcher.old shelf.old) (T.values times.old) }
+    ensures machine { T.machine times.new ≡ T.machine times.old }
+    ensures latest { (T.kept times.new).latest ≡ (T.kept times.old).latest }
+    ensures made { StopMade (T.machine times.old) (T.sets times.old) bound from until (T.stands times.old from) (T.stands times.new (until + 1)) (T.kept times.old) W.stands W.broken watcher.old watcher.new shelf.old shelf.new (T.kept times.new) (T.counted times.new) (steps.new - steps.old) result }
+    ensures ready { OnOk result (T.ready times.new (until + 1)) }
+    ensures values { OnOk result ((T.kept times.new).told ≡ T.values times.new) }
+    ensures many { OnOk result (length (T.values times.new) ≡ length (T.values times.old)) }
+    ensures calls { OnOk result (HasTold (W.stands watcher.new shelf.new) (T.values times.new)) }
+    ensures steps { steps.old ≤ steps.new }
+    ensures cause { CauseOfEnd (S.fault_count shelf.old) (S.fault_count shelf.new) result }
+    ensures named { NamesFaultOfEnd (W.name watcher.old) (S.last_fault shelf.old) (S.last_fault shelf.new) result }
+    ensures name { W.name watcher.new ≡ W.name watcher.old }
+    ensures circuit { W.circuit watcher.new ≡ W.circuit watcher.old }
+    ensures kept_back { (a b : S) → W.keeps watcher.new a b → W.keeps watcher.old a b }
+    ensures keeps { W.keeps watcher.old shelf.old shelf.new }
+{
+    let mut now = from;
+    while now <= until {
+        times.make(now, bound, steps)?;
+        tell_time(shelf, watcher, now, times.changes(), times.values())?;
+        now = times.next(now, until);
+    }
+    Ok(())
+}
+
+/// Makes the times from one to the end, or up to a spent one, and tells the watcher, who was told of the nets as they
+/// are, or of nothing yet; then it tells the end. Quiet times are skipped.
 pub fn make_times<S: Shelf, W: Watch<S>, L: Ledger, T: Times<L>>(
     times: &mut T,
+    from: u64,
     end: u64,
     bound: u32,
     shelf: &mut S,
     watcher: &mut W,
     steps: &mut Steps<L>,
 ) -> Result<(), SimEnd>
-    requires ready { T.ready times.old 0 }
+    requires ready { T.ready times.old from }
+    requires from { from ≤ end + 1 }
     requires end { end < 2 ^ 60 }
     requires bound { 0 < bound }
     requires law { IsLawful (T.machine times.old) }
     requires told { (T.kept times.old).told ≡ T.values times.old }
-    requires last { (T.kept times.old).last ≡ 0 }
     requires nets { length (W.circuit watcher.old).nets ≤ length (T.values times.old) }
-    requires none_told { W.stands watcher.old shelf.old [] }
-    ensures ended { RunMade (T.machine times.old) (T.sets times.old) bound end (T.stands times.old 0) (T.values times.old) W.stands W.broken watcher.old watcher.new shelf.old shelf.new (T.kept times.new) (T.counted times.new) (steps.new - steps.old) result }
+    requires before { HasTold (W.stands watcher.old shelf.old) (T.values times.old) }
+    ensures ended { RunMade (T.machine times.old) (T.sets times.old) bound from end (T.stands times.old from) (T.kept times.old) W.stands W.broken watcher.old watcher.new shelf.old shelf.new (T.kept times.new) (T.counted times.new) (steps.new - steps.old) result }
     ensures steps { steps.old ≤ steps.new }
     ensures cause { CauseOfEnd (S.fault_count shelf.old) (S.fault_count shelf.new) result }
     ensures named { NamesFaultOfEnd (W.name watcher.old) (S.last_fault shelf.old) (S.last_fault shelf.new) result }
@@ -229,11 +273,6 @@ pub fn make_times<S: Shelf, W: Watch<S>, L: Ledger, T: Times<L>>(
     ensures circuit { W.circuit watcher.new ≡ W.circuit watcher.old }
     ensures keeps { W.keeps watcher.old shelf.old shelf.new }
 {
-    let mut now = 0;
-    while now <= end {
-        times.make(now, bound, steps)?;
-        tell_time(shelf, watcher, now, times.changes(), times.values())?;
-        now = times.next(now, end);
-    }
+    make_times_until(times, from, end, bound, shelf, watcher, steps)?;
     tell(shelf, watcher, end, &[], times.values())
 }

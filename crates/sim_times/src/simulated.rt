@@ -34,7 +34,7 @@ impl<L: Ledger, A: Agenda + Drop, E: Elements<A, L>, C: Checks> Times<L>
 
     ghost counted = { λ s. s.evaluations };
 
-    ghost kept = { λ s. kept_of s.told s.ended s.violations.items s.last (stimulus_seen s.stimulus.now) };
+    ghost kept = { λ s. kept_of s.told (C.latest s.checks) s.ended s.violations.items s.last (stimulus_seen s.stimulus.now) };
 
     ghost values = { λ s. s.nets.values.items };
 
@@ -44,7 +44,7 @@ impl<L: Ledger, A: Agenda + Drop, E: Elements<A, L>, C: Checks> Times<L>
 
     ghost shows = { λ s n r h. shows_values s.nets (A.lists s.agenda) (E.states s.elements) (C.stands s.checks s.nets.values.items) s.violations.items s.evaluations s.ended n r h };
 
-    ghost holds = { λ s n r h. holds_violations s.nets (A.lists s.agenda) (E.states s.elements) (C.stands s.checks s.nets.values.items) s.violations.items s.evaluations s.ended s.told s.last (stimulus_seen s.stimulus.now) n r h };
+    ghost holds = { λ s n r h. holds_violations s.nets (A.lists s.agenda) (E.states s.elements) (C.stands s.checks s.nets.values.items) s.violations.items s.evaluations s.ended s.told (C.latest s.checks) s.last (stimulus_seen s.stimulus.now) n r h };
 
     ghost counts = { λ s n r h. h.run.evaluations };
 

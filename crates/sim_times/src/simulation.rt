@@ -59,7 +59,7 @@ impl<L: Ledger, A: Agenda + Drop, E: Elements<A, L>, C: Checks> Rounds<L>
 
     ghost moves = { λ s now. Moves (E.machine s.elements) now (map (λ c. set_seen c) s.handed.items) (state_seen s.nets (A.lists s.agenda) (E.states s.elements)) };
 
-    ghost kept = { λ s. kept_of s.told s.ended s.violations.items s.last (stimulus_seen s.stimulus.now) };
+    ghost kept = { λ s. kept_of s.told (C.latest s.checks) s.ended s.violations.items s.last (stimulus_seen s.stimulus.now) };
 
     ghost counts = { λ s n r h. h.evaluations };
 

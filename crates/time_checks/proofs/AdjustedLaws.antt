@@ -24,7 +24,7 @@ use Rattle.sg_circuit.specs.FanOut.{IsFanOut}
 use Rattle.fan_round.specs.declared.work.WorkList.{WorkList}
 use Rattle.fan_round.specs.States.{IsIdle}
 use Rattle.fan_round.proofs.ListLaws.{test_same, test_other}
-use Rattle.time_checks.specs.declared.latest.Latest.{Latest}
+use Rattle.time_checks.specs.declared.recent.Recent.{Recent}
 use Rattle.time_checks.specs.Checking.{IsReady}
 use Rattle.time_checks.specs.declared.adjusted.AdjustedCheck as code
 use Rattle.time_checks.specs.Adjusted.{AdjustedCheck, adjusted_check, adjusted_checks, check_by, is_zeroed, seen_at}
@@ -168,7 +168,7 @@ new-few c checks closed e =
     subst (λ n. n < 2 ^ 31) (sym many) closed.few_checks
 
 -- the parts of a new checker fit together
-pub ready : (checks seen : List code.AdjustedCheck) (nets count : ℕ) (last : List Value) (index : List (List ℕ)) (work : WorkList) (latest : List Latest) → All (λ k. IsCheckWithin (adjusted_seen k) nets) checks → length checks < 2 ^ 31
+pub ready : (checks seen : List code.AdjustedCheck) (nets count : ℕ) (last : List Value) (index : List (List ℕ)) (work : WorkList) (latest : List Recent) → All (λ k. IsCheckWithin (adjusted_seen k) nets) checks → length checks < 2 ^ 31
     → length last ≡ nets → seen ≡ checks → IsFanOut (map (λ c. terminals c) (all_seen seen)) index → length index ≡ nets → count ≡ length checks → IsIdle work count → length latest ≡ count
     → IsReady (all_seen checks) (length last) index work latest
 ready checks seen nets count last index work latest within few nets-are is fan each many idle kept =

@@ -13,7 +13,7 @@ use Rattle.sg_model.specs.Machine.{Snapshot, Violation}
 use Rattle.time_checks.specs.declared.violations.Part.{Part}
 use Rattle.time_checks.specs.declared.violations.Part.TheVariants.{Setup, Hold, Recovery, Removal, Width, Period, Skew}
 use Rattle.time_checks.specs.Parts.{part_number}
-use Rattle.time_checks.specs.Violations.{violations}
+use Rattle.time_checks.specs.Violations.{violations, violations_since}
 
 -- net 0 is the clock, net 1 the data, net 2 a signal of a condition
 abbrev snap : ℕ → Value → Value → Snapshot
@@ -70,6 +70,13 @@ setup_together = refl
 -- of two data events the later one is told
 setup_of_two : violations (of_kind check.Setup 10 0 ∷ []) (snap 100 One Zero ∷ snap 97 Zero Zero ∷ snap 93 Zero One ∷ snap 0 Zero Zero ∷ []) ≡ of Setup 100 97 10 ∷ []
 setup_of_two = refl
+
+-- a data event that is known from before the snapshots counts as one among them
+setup_known_95 : violations_since (record { refer = None; datum = Some 95 } ∷ []) (of_kind check.Setup 10 0 ∷ []) (snap 100 One Zero ∷ snap 95 Zero Zero ∷ []) ≡ of Setup 100 95 10 ∷ []
+setup_known_95 = refl
+
+setup_known_90 : violations_since (record { refer = None; datum = Some 90 } ∷ []) (of_kind check.Setup 10 0 ∷ []) (snap 100 One Zero ∷ snap 95 Zero Zero ∷ []) ≡ []
+setup_known_90 = refl
 
 -- removal likewise
 removal_90 : violations (of_kind check.Removal 10 0 ∷ []) (data_then_clock 90 100) ≡ []

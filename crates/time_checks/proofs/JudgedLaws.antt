@@ -7,7 +7,7 @@ use Rattle.sg_model.specs.Machine.{Violation}
 use Rattle.time_checks.specs.declared.judging.Instant.{Instant}
 use Rattle.time_checks.specs.Adjusted.{AdjustedCheck}
 use Rattle.time_checks.specs.declared.events.Events.{Events}
-use Rattle.time_checks.specs.declared.latest.Latest.{Latest}
+use Rattle.time_checks.specs.declared.recent.Recent.{Recent}
 use Rattle.time_checks.specs.declared.violations.Part.{Part}
 use Rattle.time_checks.specs.declared.violations.Part.TheVariants.{Setup, Hold, Recovery, Removal, Width, Period, Skew}
 use Rattle.time_checks.specs.Parts.{parts_of}
@@ -25,7 +25,7 @@ all_from-same f g i [] h = refl
 all_from-same f g i (x ∷ xs) h = ap (λ ys. ys ++ all_from f (suc i) xs) (h i x) ∙ ap (λ ys. g i x ++ ys) (all_from-same f g (suc i) xs h)
 
 -- a part
-pub violated-exact : (part : Part) (limit : ℤ) (threshold time : ℕ) (events : Events) (latest : Latest) (rs ds : List ℕ) → Falls time rs → Falls time ds → StandsFor latest rs ds
+pub violated-exact : (part : Part) (limit : ℤ) (threshold time : ℕ) (events : Events) (latest : Recent) (rs ds : List ℕ) → Falls time rs → Falls time ds → StandsFor latest rs ds
     → violated_kept part limit threshold (instant_of time events latest) ≡ violated part limit threshold (moment_by time events rs ds)
 violated-exact part limit threshold time events latest rs ds f g s =
     at part (setup-exact (size limit) time events.refer events.datum events.back latest rs ds (grown events.refer time rs) g s)
@@ -44,7 +44,7 @@ violated-exact part limit threshold time events latest rs ds f g s =
     at Skew set held = ap (skew_kept limit time events.datum) (next_time-exact events.refer time latest.refer rs f s.refer)
 
 -- all parts
-pub found-exact : (number : ℕ) (check : AdjustedCheck) (time : ℕ) (events : Events) (latest : Latest) (rs ds : List ℕ) → Falls time rs → Falls time ds → StandsFor latest rs ds
+pub found-exact : (number : ℕ) (check : AdjustedCheck) (time : ℕ) (events : Events) (latest : Recent) (rs ds : List ℕ) → Falls time rs → Falls time ds → StandsFor latest rs ds
     → found_at number check (instant_of time events latest) ≡ violations_at number check (moment_by time events rs ds)
 found-exact number check time events latest rs ds f g s =
     all_from-same (λ place part. listed number check part (limit_at check place) (violated_kept part (window_at check place) check.threshold (instant_of time events latest)))

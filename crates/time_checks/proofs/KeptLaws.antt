@@ -6,7 +6,7 @@ use Rattle.std.specs.declared.option.Option.{Option}
 use Rattle.std.specs.declared.option.Option.TheVariants.{Some, None}
 use Rattle.std.proofs.Common.{sym, ◌∙◌, ap, subst, arith}
 use Rattle.std.proofs.lemmas.Bool.Decides.{nat_tests}
-use Rattle.time_checks.specs.declared.latest.Latest.{Latest}
+use Rattle.time_checks.specs.declared.recent.Recent.{Recent}
 use Rattle.time_checks.specs.Times.{grown, greatest, greatest_of}
 use Rattle.time_checks.specs.Falling.{Falls}
 use Rattle.time_checks.proofs.TimeLaws.{head_of, greatest-falls, greatest_of-falls, if_near, if_now, find-near, find-now, find-up_to, find-passes}
@@ -39,7 +39,7 @@ below_le : (t time : ℕ) → nat_lt t time ≡ true → t ≤ time
 below_le t time e = grind (arith, nat_tests)
 
 -- the greatest time of a data event below now
-pub datum_below-exact : (time : ℕ) (latest : Latest) (rs ds : List ℕ) → Falls time ds → StandsFor latest rs ds
+pub datum_below-exact : (time : ℕ) (latest : Recent) (rs ds : List ℕ) → Falls time ds → StandsFor latest rs ds
     → datum_below latest.datum latest.earlier time ≡ find (λ t. nat_lt t time) ds
 datum_below-exact time latest rs [] f s = rw s.datum refl
 datum_below-exact time latest rs (d ∷ ds) f s =
@@ -58,7 +58,7 @@ datum_below-exact time latest rs (d ∷ ds) f s =
         ap (λ b. if b then Some d else latest.earlier) e ∙ q'
 
 -- setup and removal
-pub setup-exact : (limit time : ℕ) (refer datum back : Bool) (latest : Latest) (rs ds older : List ℕ) → Falls time ds → StandsFor latest rs ds
+pub setup-exact : (limit time : ℕ) (refer datum back : Bool) (latest : Recent) (rs ds older : List ℕ) → Falls time ds → StandsFor latest rs ds
     → setup_kept limit time refer (datum_below latest.datum latest.earlier time)
     ≡ setup limit (record { time = time; refer = refer; datum = datum; back = back; refer_times = older; datum_times = grown datum time ds; refer_before = rs })
 setup-exact limit time refer datum back latest rs ds older f s =
@@ -77,7 +77,7 @@ next_time-exact true time before ts f e = let l : time ≤ time = omega arith in
 next_time-exact false time before ts f e = e
 
 -- what is kept goes on standing for the events
-pub next-stands : (time : ℕ) (refer datum : Bool) (latest next : Latest) (rs ds : List ℕ) → Falls time rs → Falls time ds → StandsFor latest rs ds
+pub next-stands : (time : ℕ) (refer datum : Bool) (latest next : Recent) (rs ds : List ℕ) → Falls time rs → Falls time ds → StandsFor latest rs ds
     → next.refer ≡ next_time refer time latest.refer → next.datum ≡ next_time datum time latest.datum
     → next.earlier ≡ (if datum then datum_below latest.datum latest.earlier time else latest.earlier)
     → StandsFor next (grown refer time rs) (grown datum time ds)

@@ -8,4 +8,5 @@ pub mod QuietLaws
 pub mod TouchLaws
 pub mod SeeingLaws
 pub mod CheckingLaws
+pub mod LaterLaws
 pub mod Examples

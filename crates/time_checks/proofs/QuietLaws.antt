@@ -6,14 +6,15 @@ use Rattle.sg_circuit.specs.declared.checks.Event.{Event}
 use Rattle.time_checks.specs.Adjusted.{AdjustedCheck}
 use Rattle.sg_model.specs.Machine.{Snapshot}
 use Rattle.time_checks.specs.declared.events.Events.{Events}
-use Rattle.time_checks.specs.declared.latest.Latest.{Latest}
+use Rattle.time_checks.specs.declared.recent.Recent.{Recent}
 use Rattle.time_checks.specs.declared.violations.Part.{Part}
 use Rattle.time_checks.specs.declared.violations.Part.TheVariants.{Setup, Hold, Recovery, Removal, Width, Period, Skew}
 use Rattle.time_checks.specs.Parts.{parts_of}
 use Rattle.time_checks.specs.Times.{grown}
 use Rattle.time_checks.specs.Windows.{Moment, Pair, where_true, later_of, violated}
-use Rattle.time_checks.specs.Events.{has_opposite, event_times, datum_happens, datum_times, moment}
-use Rattle.time_checks.specs.Violations.{all_from, listed, limit_at, window_at, violations_at, violations}
+use Rattle.time_checks.specs.declared.latest.Latest.{Latest}
+use Rattle.time_checks.specs.Events.{has_opposite, event_times_since, datum_happens, datum_times_since, moment_since}
+use Rattle.time_checks.specs.Violations.{all_from, earlier_at, listed, limit_at, window_at, violations_at, violations_since}
 use Rattle.time_checks.specs.Kept.{StandsFor, has_datum, events_at, next_of}
 use Rattle.time_checks.specs.Quiet.{StaysSame, IsUntouched, again}
 use Rattle.time_checks.specs.Checking.{Kept, Stands, check_at, latest_at}
@@ -46,9 +47,10 @@ no_violations number check m r d b =
     (λ place part. ap (listed number check part (limit_at check place)) (not_violated part (window_at check place) check.threshold m r d b))
 
 -- the very first snapshot has no violations
-pub first-none : (checks : List AdjustedCheck) (first : Snapshot) → violations checks (first ∷ []) ≡ []
-first-none checks first =
-    all_none (λ number check. violations_at number check (moment check first [])) 0 checks (λ number check. no_violations number check (moment check first []) refl (no_datum check.datum) refl)
+pub first-none : (earlier : List Latest) (checks : List AdjustedCheck) (first : Snapshot) → violations_since earlier checks (first ∷ []) ≡ []
+first-none earlier checks first =
+    all_none (λ number check. violations_at number check (moment_since (earlier_at earlier number) check first [])) 0 checks
+    (λ number check. no_violations number check (moment_since (earlier_at earlier number) check first []) refl (no_datum check.datum) refl)
   where
     no_datum : (datum : Option Event) → datum_happens datum (first ∷ []) ≡ false
     no_datum None = refl
@@ -59,19 +61,23 @@ no_datum : (datum : Option Event) (now last : Snapshot) (older : List Snapshot) 
 no_datum None now last older s = refl
 no_datum (Some event) now last older s = no_event event last.values now.values s
 
-pub untouched-none : (number : ℕ) (check : AdjustedCheck) (now last : Snapshot) (older : List Snapshot) → IsUntouched check last.values now.values → violations_at number check (moment check now (last ∷ older)) ≡ []
-untouched-none number check now last older u =
-    no_violations number check (moment check now (last ∷ older)) (no_event check.refer last.values now.values u.refer) (no_datum check.datum now last older u.datum) (no_opposite check.refer last.values now.values u.refer)
+pub untouched-none : (before : Latest) (number : ℕ) (check : AdjustedCheck) (now last : Snapshot) (older : List Snapshot) → IsUntouched check last.values now.values
+    → violations_at number check (moment_since before check now (last ∷ older)) ≡ []
+untouched-none before number check now last older u =
+    no_violations number check (moment_since before check now (last ∷ older)) (no_event check.refer last.values now.values u.refer) (no_datum check.datum now last older u.datum) (no_opposite check.refer last.values now.values u.refer)
 
-pub untouched-refer : (check : AdjustedCheck) (now last : Snapshot) (older : List Snapshot) → IsUntouched check last.values now.values → event_times check.refer (now ∷ last ∷ older) ≡ event_times check.refer (last ∷ older)
-untouched-refer check now last older u = ap (λ b. grown b now.time (event_times check.refer (last ∷ older))) (no_event check.refer last.values now.values u.refer)
+pub untouched-refer : (before : Option ℕ) (check : AdjustedCheck) (now last : Snapshot) (older : List Snapshot) → IsUntouched check last.values now.values
+    → event_times_since before check.refer (now ∷ last ∷ older) ≡ event_times_since before check.refer (last ∷ older)
+untouched-refer before check now last older u = ap (λ b. grown b now.time (event_times_since before check.refer (last ∷ older))) (no_event check.refer last.values now.values u.refer)
 
-same_datum : (datum : Option Event) (now last : Snapshot) (older : List Snapshot) → StaysSame datum last.values now.values → datum_times datum (now ∷ last ∷ older) ≡ datum_times datum (last ∷ older)
-same_datum None now last older s = refl
-same_datum (Some event) now last older s = ap (λ b. grown b now.time (event_times event (last ∷ older))) (no_event event last.values now.values s)
+same_datum : (before : Option ℕ) (datum : Option Event) (now last : Snapshot) (older : List Snapshot) → StaysSame datum last.values now.values
+    → datum_times_since before datum (now ∷ last ∷ older) ≡ datum_times_since before datum (last ∷ older)
+same_datum before None now last older s = refl
+same_datum before (Some event) now last older s = ap (λ b. grown b now.time (event_times_since before event (last ∷ older))) (no_event event last.values now.values s)
 
-pub untouched-datum : (check : AdjustedCheck) (now last : Snapshot) (older : List Snapshot) → IsUntouched check last.values now.values → datum_times check.datum (now ∷ last ∷ older) ≡ datum_times check.datum (last ∷ older)
-untouched-datum check now last older u = same_datum check.datum now last older u.datum
+pub untouched-datum : (before : Option ℕ) (check : AdjustedCheck) (now last : Snapshot) (older : List Snapshot) → IsUntouched check last.values now.values
+    → datum_times_since before check.datum (now ∷ last ∷ older) ≡ datum_times_since before check.datum (last ∷ older)
+untouched-datum before check now last older u = same_datum before check.datum now last older u.datum
 
 -- nothing happens to it
 pub untouched-events : (check : AdjustedCheck) (last now : List Value) → IsUntouched check last now → events_at check last now ≡ record { refer = false; datum = false; back = false }
@@ -87,7 +93,7 @@ untouched-events check last now u =
     no_datum_of (Some event) s = no_event event last now s
 
 -- and its latest times stay
-pub untouched-latest : (check : AdjustedCheck) (time : ℕ) (last now : List Value) (latest : Latest) → IsUntouched check last now → next_of time (events_at check last now) latest ≡ latest
+pub untouched-latest : (check : AdjustedCheck) (time : ℕ) (last now : List Value) (latest : Recent) → IsUntouched check last now → next_of time (events_at check last now) latest ≡ latest
 untouched-latest check time last now latest u = ap (λ e. next_of time e latest) (untouched-events check last now u)
 
 -- the same nets once more
@@ -95,10 +101,10 @@ same_net : (datum : Option Event) (values : List Value) → StaysSame datum valu
 same_net None values = tt
 same_net (Some event) values = refl
 
-pub violations-again : (checks : List AdjustedCheck) (time : ℕ) (last : Snapshot) (older : List Snapshot) → violations checks (again time last ∷ last ∷ older) ≡ []
-violations-again checks time last older =
-    all_none (λ number check. violations_at number check (moment check (again time last) (last ∷ older))) 0 checks
-    (λ number check. untouched-none number check (again time last) last older (record { refer = refl; datum = same_net check.datum last.values }))
+pub violations-again : (earlier : List Latest) (checks : List AdjustedCheck) (time : ℕ) (last : Snapshot) (older : List Snapshot) → violations_since earlier checks (again time last ∷ last ∷ older) ≡ []
+violations-again earlier checks time last older =
+    all_none (λ number check. violations_at number check (moment_since (earlier_at earlier number) check (again time last) (last ∷ older))) 0 checks
+    (λ number check. untouched-none (earlier_at earlier number) number check (again time last) last older (record { refer = refl; datum = same_net check.datum last.values }))
 
 pub stands-again : (kept : Kept) (time : ℕ) (last : Snapshot) (older : List Snapshot) → Stands kept (last ∷ older) → Stands kept (again time last ∷ last ∷ older)
 stands-again kept time last older s = record {
@@ -106,7 +112,8 @@ stands-again kept time last older s = record {
   last = s.last;
   each = λ number l.
       (let check : AdjustedCheck = check_at kept.checks number in
+      let before : Latest = earlier_at kept.earlier number in
       let same : IsUntouched check last.values last.values = record { refer = refl; datum = same_net check.datum last.values } in
-      subst (λ rs. StandsFor (latest_at kept.latest number) rs (datum_times check.datum (again time last ∷ last ∷ older))) (sym (untouched-refer check (again time last) last older same))
-      (subst (λ ds. StandsFor (latest_at kept.latest number) (event_times check.refer (last ∷ older)) ds) (sym (untouched-datum check (again time last) last older same)) (s.each number l)));
+      subst (λ rs. StandsFor (latest_at kept.latest number) rs (datum_times_since before.datum check.datum (again time last ∷ last ∷ older))) (sym (untouched-refer before.refer check (again time last) last older same))
+      (subst (λ ds. StandsFor (latest_at kept.latest number) (event_times_since before.refer check.refer (last ∷ older)) ds) (sym (untouched-datum before.datum check (again time last) last older same)) (s.each number l)));
 }

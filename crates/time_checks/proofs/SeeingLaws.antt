@@ -15,7 +15,7 @@ use Rattle.fan_round.specs.Work.{mark_at, AreMarked, with_readers}
 use Rattle.fan_round.proofs.ListLaws.{at_places-more, at_places-other, at_places-each}
 use Rattle.fan_round.proofs.EvaluationLaws.{not_before}
 use Rattle.fan_round.proofs.WorkLaws.{marked-within, length-with_readers}
-use Rattle.time_checks.specs.declared.latest.Latest.{Latest}
+use Rattle.time_checks.specs.declared.recent.Recent.{Recent}
 use Rattle.time_checks.specs.declared.violations.Part.{Part}
 use Rattle.time_checks.specs.declared.violations.Part.TheVariants.{Setup, Hold, Recovery, Removal, Width, Period, Skew}
 use Rattle.time_checks.specs.Parts.{parts_of}
@@ -29,7 +29,7 @@ use Rattle.time_checks.proofs.QuietLaws.{all_none, untouched-latest, untouched-e
 use Rattle.time_checks.proofs.TouchLaws.{unmarked-untouched, unlisted-unmarked, marked-once, rises, listed-all}
 
 -- one check more
-pub found_more : (checks : List AdjustedCheck) (last now : List Value) (time : ℕ) (work : List ℕ) (i blank : ℕ) (latest between : List Latest) (start mid new : List Violation) → IsOnce work → i < length work
+pub found_more : (checks : List AdjustedCheck) (last now : List Value) (time : ℕ) (work : List ℕ) (i blank : ℕ) (latest between : List Recent) (start mid new : List Violation) → IsOnce work → i < length work
     → between ≡ at_places (next_at checks last now time) no_times (take i work) latest
     → mid ≡ start ++ flat_map (found_in checks last now time latest) (take i work)
     → new ≡ mid ++ found_in checks last now time between (slice_index_or work i blank)
@@ -44,7 +44,7 @@ found_more checks last now time work i blank latest between start mid new once l
     ap (flat_map h) (take_more work i blank l) ∙ (flat_map-append h (take i work) (k ∷ []) ∙ ap (λ ys. flat_map h (take i work) ++ ys) (append-nil (h k))) in
     g ∙ (ap (λ ys. mid ++ ys) here ∙ (ap (λ ys. ys ++ h k) f ∙ (append_assoc start (flat_map h (take i work)) (h k) ∙ ap (λ ys. start ++ ys) (sym more))))
 
-pub latest_more : (checks : List AdjustedCheck) (last now : List Value) (time : ℕ) (work : List ℕ) (i blank : ℕ) (latest between new : List Latest) → i < length work
+pub latest_more : (checks : List AdjustedCheck) (last now : List Value) (time : ℕ) (work : List ℕ) (i blank : ℕ) (latest between new : List Recent) → i < length work
     → between ≡ at_places (next_at checks last now time) no_times (take i work) latest
     → new ≡ slice_set between (slice_index_or work i blank) (next_at checks last now time (slice_index_or work i blank) (latest_at between (slice_index_or work i blank)))
     → new ≡ at_places (next_at checks last now time) no_times (take (i + 1) work) latest
@@ -56,7 +56,7 @@ latest_more checks last now time work i blank latest between new l e g =
 nothing : (b : Bool) (pair : Option Pair) → b ≡ false → where_true b pair ≡ None
 nothing b pair e = ap (λ c. where_true c pair) e
 
-not_found : (part : Part) (limit : ℤ) (threshold time : ℕ) (latest : Latest) → violated_kept part limit threshold (instant_of time (record { refer = false; datum = false; back = false }) latest) ≡ None
+not_found : (part : Part) (limit : ℤ) (threshold time : ℕ) (latest : Recent) → violated_kept part limit threshold (instant_of time (record { refer = false; datum = false; back = false }) latest) ≡ None
 not_found Setup limit threshold time latest = refl
 not_found Hold limit threshold time latest = refl
 not_found Recovery limit threshold time latest = refl
@@ -65,14 +65,14 @@ not_found Width limit threshold time latest = refl
 not_found Period limit threshold time latest = refl
 not_found Skew limit threshold time latest = refl
 
-found-none : (number time : ℕ) (check : AdjustedCheck) (last now : List Value) (latest : Latest) → IsUntouched check last now → found_at number check (instant_of time (events_at check last now) latest) ≡ []
+found-none : (number time : ℕ) (check : AdjustedCheck) (last now : List Value) (latest : Recent) → IsUntouched check last now → found_at number check (instant_of time (events_at check last now) latest) ≡ []
 found-none number time check last now latest u =
     ap (λ e. found_at number check (instant_of time e latest)) (untouched-events check last now u)
     ∙ all_none (λ place part. listed number check part (limit_at check place) (violated_kept part (window_at check place) check.threshold (instant_of time (record { refer = false; datum = false; back = false }) latest))) 0 (parts_of check.kind)
     (λ place part. ap (listed number check part (limit_at check place)) (not_found part (window_at check place) check.threshold time latest))
 
 -- what the listed checks found and put is what all would
-pub sees_changes : (checks : List AdjustedCheck) (index : List (List ℕ)) (changed : List ℕ) (last now : List Value) (time : ℕ) (latest latest' : List Latest) (old new : List Violation) (marks : List Bool) (work : List ℕ)
+pub sees_changes : (checks : List AdjustedCheck) (index : List (List ℕ)) (changed : List ℕ) (last now : List Value) (time : ℕ) (latest latest' : List Recent) (old new : List Violation) (marks : List Bool) (work : List ℕ)
     → IsFanOut (map (λ c. terminals c) checks) index → All (λ c. IsCheckWithin c (length index)) checks → length latest ≡ length checks
     → marks ≡ with_readers index changed (replicate (length checks) false) → length marks ≡ length checks → AreMarked marks work → IsNonDecreasing work
     → latest' ≡ at_places (next_at checks last now time) no_times work latest → new ≡ old ++ flat_map (found_in checks last now time latest) work
@@ -96,7 +96,7 @@ sees_changes checks index changed last now time latest latest' old new marks wor
     below a d m = let b : slice_index_or work a d < length marks = marked-within marks work a d are m in omega arith
 
 -- and no more is said of a call that was refused
-pub sees_changes_ok : {A E : Type 0} (r : Result A E) (checks : List AdjustedCheck) (index : List (List ℕ)) (changed : List ℕ) (last now : List Value) (time : ℕ) (latest latest' : List Latest) (old new : List Violation) (marks : List Bool) (work seen : List ℕ)
+pub sees_changes_ok : {A E : Type 0} (r : Result A E) (checks : List AdjustedCheck) (index : List (List ℕ)) (changed : List ℕ) (last now : List Value) (time : ℕ) (latest latest' : List Recent) (old new : List Violation) (marks : List Bool) (work seen : List ℕ)
     → IsFanOut (map (λ c. terminals c) checks) index → All (λ c. IsCheckWithin c (length index)) checks → length latest ≡ length checks
     → marks ≡ with_readers index changed (replicate (length checks) false) → AreMarked marks work → IsNonDecreasing work → seen ≡ work
     → OnOk r (latest' ≡ at_places (next_at checks last now time) no_times seen latest) → OnOk r (new ≡ old ++ flat_map (found_in checks last now time latest) seen)

@@ -11,7 +11,8 @@ use Rattle.sg_circuit.specs.declared.checks.Event.{Event}
 use Rattle.time_checks.specs.Adjusted.{AdjustedCheck}
 use Rattle.sg_model.specs.Values.{value_at}
 use Rattle.sg_model.specs.Machine.{Snapshot}
-use Rattle.time_checks.specs.Times.{grown}
+use Rattle.time_checks.specs.declared.latest.Latest.{Latest}
+use Rattle.time_checks.specs.Times.{grown, greatest}
 use Rattle.time_checks.specs.Windows.{Moment}
 
 -- whether a change of value is of the edge; without an edge every change is
@@ -41,28 +42,53 @@ at_latest test (now ∷ (last ∷ older)) = test last.values now.values
 abbrev pub happens : Event → List Snapshot → Bool
 happens event snapshots = at_latest (has_event event) snapshots
 
--- the times of all events of a terminal, the latest first
+-- what is known of the events before some snapshots: the latest of them, if there was one
+abbrev pub known : Option ℕ → List ℕ
+known None = []
+known (Some time) = time ∷ []
+
+-- the times of all events of a terminal, the latest first: those between the snapshots, and what is known of those before
+abbrev pub event_times_since : Option ℕ → Event → List Snapshot → List ℕ
+event_times_since earlier event [] = known earlier
+event_times_since earlier event (now ∷ older) = grown (happens event (now ∷ older)) now.time (event_times_since earlier event older)
+
 abbrev pub event_times : Event → List Snapshot → List ℕ
-event_times event [] = []
-event_times event (now ∷ older) = grown (happens event (now ∷ older)) now.time (event_times event older)
+event_times event snapshots = event_times_since None event snapshots
 
 -- a terminal that isn't there has no events
 abbrev pub datum_happens : Option Event → List Snapshot → Bool
 datum_happens None snapshots = false
 datum_happens (Some event) snapshots = happens event snapshots
 
-abbrev pub datum_times : Option Event → List Snapshot → List ℕ
-datum_times None snapshots = []
-datum_times (Some event) snapshots = event_times event snapshots
+abbrev pub datum_times_since : Option ℕ → Option Event → List Snapshot → List ℕ
+datum_times_since earlier None snapshots = known earlier
+datum_times_since earlier (Some event) snapshots = event_times_since earlier event snapshots
 
--- what a check sees at a snapshot that follows others
-abbrev pub moment : AdjustedCheck → Snapshot → List Snapshot → Moment
-moment check now older = record {
+abbrev pub datum_times : Option Event → List Snapshot → List ℕ
+datum_times event snapshots = datum_times_since None event snapshots
+
+-- what a check sees at a snapshot that follows others, where this is known of its events before them
+abbrev pub moment_since : Latest → AdjustedCheck → Snapshot → List Snapshot → Moment
+moment_since earlier check now older = record {
   time = now.time;
   refer = happens check.refer (now ∷ older);
   datum = datum_happens check.datum (now ∷ older);
   back = at_latest (has_opposite check.refer) (now ∷ older);
-  refer_times = event_times check.refer (now ∷ older);
-  datum_times = datum_times check.datum (now ∷ older);
-  refer_before = event_times check.refer older;
+  refer_times = event_times_since earlier.refer check.refer (now ∷ older);
+  datum_times = datum_times_since earlier.datum check.datum (now ∷ older);
+  refer_before = event_times_since earlier.refer check.refer older;
+}
+
+-- nothing happened before them
+abbrev pub no_events : Latest
+no_events = record { refer = None; datum = None }
+
+abbrev pub moment : AdjustedCheck → Snapshot → List Snapshot → Moment
+moment check now older = moment_since no_events check now older
+
+-- the latest events of a check up to a snapshot
+abbrev pub latest_since : Latest → AdjustedCheck → List Snapshot → Latest
+latest_since earlier check snapshots = record {
+  refer = greatest (event_times_since earlier.refer check.refer snapshots);
+  datum = greatest (datum_times_since earlier.datum check.datum snapshots);
 }

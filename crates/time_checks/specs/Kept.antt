@@ -6,7 +6,7 @@ use Rattle.sg_circuit.specs.declared.checks.Event.{Event}
 use Rattle.time_checks.specs.Adjusted.{AdjustedCheck}
 use Rattle.sg_model.specs.Machine.{Violation}
 use Rattle.time_checks.specs.declared.events.Events.{Events}
-use Rattle.time_checks.specs.declared.latest.Latest.{Latest}
+use Rattle.time_checks.specs.declared.recent.Recent.{Recent}
 use Rattle.time_checks.specs.declared.judging.Instant.{Instant}
 use Rattle.time_checks.specs.declared.violations.Part.{Part}
 use Rattle.time_checks.specs.declared.violations.Part.TheVariants.{Setup, Hold, Recovery, Removal, Width, Period, Skew}
@@ -22,7 +22,7 @@ greatest_below None ts = None
 greatest_below (Some d) ts = greatest_of (λ t. nat_lt t d) ts
 
 -- the greatest time of a reference event and of a data event, and the greatest time of a data event below that
-pub record StandsFor (latest : Latest) (refer_times datum_times : List ℕ) : Type 0 where
+pub record StandsFor (latest : Recent) (refer_times datum_times : List ℕ) : Type 0 where
   pub refer : latest.refer ≡ greatest refer_times
   pub datum : latest.datum ≡ greatest datum_times
   pub earlier : latest.earlier ≡ greatest_below (greatest datum_times) datum_times
@@ -45,7 +45,7 @@ abbrev pub next_time : Bool → ℕ → Option ℕ → Option ℕ
 next_time happens time before = if happens then Some time else before
 
 -- the latest times after a snapshot
-abbrev pub next_of : ℕ → Events → Latest → Latest
+abbrev pub next_of : ℕ → Events → Recent → Recent
 next_of time events latest = record {
   refer = next_time events.refer time latest.refer;
   datum = next_time events.datum time latest.datum;
@@ -86,7 +86,7 @@ violated_kept Period limit threshold now = width_kept (size limit) 0 now.time no
 violated_kept Skew limit threshold now = skew_kept limit now.time now.events.datum now.after.refer
 
 -- an instant of a check, by its latest times before
-abbrev pub instant_of : ℕ → Events → Latest → Instant
+abbrev pub instant_of : ℕ → Events → Recent → Instant
 instant_of time events latest = record { time = time; events = events; before = latest; after = next_of time events latest }
 
 -- a check's violations at an instant

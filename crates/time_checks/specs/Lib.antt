@@ -5,6 +5,7 @@ pub mod Checking
 pub mod Events
 pub mod Falling
 pub mod Kept
+pub mod Later
 pub mod Parts
 pub mod Quiet
 pub mod Seen

@@ -7,7 +7,8 @@ use Rattle.sg_model.specs.Machine.{Snapshot}
 use Rattle.sg_model.specs.Values.{value_at}
 use Rattle.time_checks.specs.Checking.{Kept, Stands}
 use Rattle.time_checks.specs.Events.{event_times, datum_times, moment}
-use Rattle.time_checks.specs.Violations.{violations_at, violations}
+use Rattle.time_checks.specs.declared.latest.Latest.{Latest}
+use Rattle.time_checks.specs.Violations.{violations_at, violations_since}
 
 -- a terminal's net stays, where there is such a terminal
 abbrev pub StaysSame : Option Event → List Value → List Value → Type 0
@@ -31,5 +32,5 @@ again time last = record { time = time; values = last.values }
 
 -- such a snapshot has no violation, and leaves what a checker stands for
 pub record SameNetsStay : Type 0 where
-  pub violate_nothing : (checks : List AdjustedCheck) (time : ℕ) (last : Snapshot) (older : List Snapshot) → violations checks (again time last ∷ last ∷ older) ≡ []
+  pub violate_nothing : (earlier : List Latest) (checks : List AdjustedCheck) (time : ℕ) (last : Snapshot) (older : List Snapshot) → violations_since earlier checks (again time last ∷ last ∷ older) ≡ []
   pub stands : (kept : Kept) (time : ℕ) (last : Snapshot) (older : List Snapshot) → Stands kept (last ∷ older) → Stands kept (again time last ∷ last ∷ older)

@@ -7,8 +7,8 @@ ghost use Rattle.time_checks.specs.Violations.{limit_at, listed, window_at};
 
 use crate::adjusted::AdjustedCheck;
 use crate::events::Events;
-use crate::latest::{Latest, below};
 use crate::parts::parts;
+use crate::recent::{Recent, below};
 use crate::windows::{Pair, hold_times, setup_times, size_of, skew_times, width_times};
 use crate::{Part, Violation};
 use sg_text::NoMemory;
@@ -18,8 +18,8 @@ use sg_text::NoMemory;
 pub struct Instant {
     pub time: u64,
     pub events: Events,
-    pub before: Latest,
-    pub after: Latest,
+    pub before: Recent,
+    pub after: Recent,
 }
 
 // The events by which a part is violated, if it is.

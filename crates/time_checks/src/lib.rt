@@ -9,6 +9,7 @@ mod judging;
 mod latest;
 mod laws;
 mod parts;
+mod recent;
 mod seeing;
 mod touching;
 mod violations;
@@ -16,5 +17,6 @@ mod windows;
 
 pub use changes::Change;
 pub use checker::Checker;
-pub use laws::{same_nets_stay, untouched_checks_stay};
+pub use latest::Latest;
+pub use laws::{earlier_events_count_by_their_latest, same_nets_stay, untouched_checks_stay};
 pub use violations::{Part, Violation};

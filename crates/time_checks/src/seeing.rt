@@ -16,7 +16,7 @@ use crate::Violation;
 use crate::adjusted::AdjustedCheck;
 use crate::events::events_of;
 use crate::judging::{Instant, judge};
-use crate::latest::{Latest, after};
+use crate::recent::{Recent, after};
 use crate::touching::list_touched;
 use fan_round::{WorkList, clear_work};
 use sg_circuit::{FanOut, NetId};
@@ -30,7 +30,7 @@ fn see_check(
     last: &[Value],
     values: &[Value],
     time: u64,
-    latest: &mut [Latest],
+    latest: &mut [Recent],
     violations: &mut Vec<Violation>,
 ) -> Result<(), NoMemory>
     requires number { number < length checks.now }
@@ -62,7 +62,7 @@ fn see_checks(
     last: &[Value],
     values: &[Value],
     time: u64,
-    latest: &mut [Latest],
+    latest: &mut [Recent],
     violations: &mut Vec<Violation>,
 ) -> Result<(), NoMemory>
     requires work { All (λ k. k < length checks.now) work.now }
@@ -101,7 +101,7 @@ pub fn see_changes(
     last: &[Value],
     values: &[Value],
     time: u64,
-    latest: &mut [Latest],
+    latest: &mut [Recent],
     violations: &mut Vec<Violation>,
 ) -> Result<(), NoMemory>
     requires ready { IsReady (all_seen checks.now) (length values.now) index.now work.old latest.old }

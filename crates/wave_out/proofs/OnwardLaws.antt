@@ -11,11 +11,10 @@ use Rattle.sg_model.specs.Run.{Finished, lasts}
 use Rattle.sg_model.specs.Quiet.{IsSeen}
 use Rattle.sg_model.proofs.SnapshotLaws.{AreBefore, Extends}
 use Rattle.sg_circuit.specs.Circuit.{Circuit}
-use Rattle.sim_times.specs.Runs.{Setting}
+use Rattle.sim_times.specs.Runs.{Origin, Setting, AllCallsFrom, CallsFrom, HasBegun, run_from, times_to}
 use Rattle.sim_times.specs.Watching.{AreCalls, none_yet, at_zero, same_again, AreTruthful, Call, end_call}
 use Rattle.sim_times.specs.Watching as watching
 use Rattle.wave_out.specs.Laws.{CallsGoOn, GoesOnFrom}
-use Rattle.wave_out.specs.Origins.{Origin, AllCallsFrom, CallsFrom, HasBegun, run_from, times_to}
 use Rattle.wave_out.specs.Scopes.{variables_of}
 use Rattle.wave_out.specs.Vcd.{first_block, header, vcd_body, vcd_rest, vcd_text}
 use Rattle.wave_out.specs.Writing.{text_after, text_behind}

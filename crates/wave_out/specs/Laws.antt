@@ -3,8 +3,7 @@ use Rattle.std.specs.Prelude.{ℕ, suc, ◌≡◌, ◌<◌, ◌≤◌, ◌++◌,
 use Rattle.sg_circuit.specs.Circuit.{Circuit, Variable}
 use Rattle.sg_model.specs.Machine.{Snapshot}
 use Rattle.sim_times.specs.Watching.{AreTruthful, Call, end_call}
-use Rattle.sim_times.specs.Runs.{Setting, AllCalls, CallsFor, run_for}
-use Rattle.wave_out.specs.Origins.{Origin, AllCallsFrom, CallsFrom, IsOrigin, run_from, times_to}
+use Rattle.sim_times.specs.Runs.{Origin, Setting, AllCalls, AllCallsFrom, CallsFor, CallsFrom, IsOrigin, run_for, run_from, times_to}
 use Rattle.wave_out.specs.Nested.{nested, nested_header, nested_calls, nested_dump}
 use Rattle.wave_out.specs.Vcd.{dump, dump_text, end_line, first_block, header, vcd_begun, vcd_rest, vcd_text}
 use Rattle.wave_out.specs.Writing.{text_after, text_behind}

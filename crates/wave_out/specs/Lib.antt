@@ -13,5 +13,4 @@ pub mod Files
 pub mod Shown
 pub mod Writing
 pub mod Nested
-pub mod Origins
 pub mod Laws

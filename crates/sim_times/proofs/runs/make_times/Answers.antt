@@ -1,149 +1,45 @@
-use Rattle.std.specs.Prelude.{Ok, Err, OnOk, OnErr, [], ◌∷◌}
-use Rattle.std.proofs.Common.{◌≡◌, ℕ, ◌+◌, ◌-◌, refl, sym, ◌∙◌, ap, subst, arith, rules, length}
+use Rattle.std.specs.Prelude.{Err, OnOk, OnErr, [], ◌∷◌}
+use Rattle.std.proofs.Common.{◌≡◌, ◌+◌, ◌-◌, sym, ◌∙◌, ap, subst}
 use Rattle.std.proofs.lemmas.Result.{err_from_is_err_and}
-use Rattle.sg_model.specs.Machine.{Machine}
-use Rattle.sg_model.specs.Quiet.{IsLawful, IsQuiet, with_copies}
-use Rattle.sim_times.specs.Watching.{AreNextCalls, Got, Broke, HasTold, IsNextCall, call_of, end_call}
-use Rattle.sim_times.specs.Runs.{RunMade, TimeMade, calls_at}
+use Rattle.sim_times.specs.Watching.{Got, Broke, IsNextCall, call_of, end_call}
+use Rattle.sim_times.specs.Runs.{RunMade}
 use Rattle.sim_times.specs.declared.runs.SimEnd.{SimEnd}
-use Rattle.sim_times.proofs.CallLaws.{got_start, got_more}
-use Rattle.sim_times.proofs.TruthLaws.{next_calls, next_end, told_more, told_none}
-use Rattle.sim_times.proofs.RunLaws.{AllCame, AllCameTo, came_start, came_time, came_next, made_same}
-use Rattle.sim_times.proofs.EndLaws.{stopped_in_time, stopped_in_call, all_told, call_ends}
+use Rattle.sim_times.proofs.TruthLaws.{next_end}
+use Rattle.sim_times.proofs.EndLaws.{all_told, call_ends, stopped_before}
 use Rattle.sim_times.proofs.runs.make_times.Goals as goal
 
-pub loop-now-init : goal.loop-now-init
-loop-now-init g c =
+pub returns-in_err-make_times_until-clause-ended : goal.returns-in_err-make_times_until-clause-ended
+returns-in_err-make_times_until-clause-ended g c =
     let t = g.T.Times in
     let w = g.W.Watch in
-    let times = c.args.times.now in
-    record {
-      machine = refl;
-      sets = refl;
-      came = came_start (t.machine times) (t.sets times) c.args.bound c.args.end (t.stands times 0) (t.values times) (t.kept times) (λ made. Got w.stands c.args.watcher.now c.args.watcher.now c.args.shelf.now c.args.shelf.now made) c.args.steps.now c.requires.told c.requires.last
-          (got_start w.stands c.args.watcher.now c.args.shelf.now);
-      ready = c.requires.ready;
-      within = omega arith;
-      steps = omega arith;
-      told = ap length c.requires.told;
-      told_is = c.requires.told;
-      calls = told_none (w.stands c.args.watcher.now c.args.shelf.now) (t.values times) c.requires.none_told;
-      nets = refl;
-      name = refl;
-      circuit = refl;
-      count = refl;
-      fault = refl;
-      keeps = g.met.W.Watch.keeps_same c.args.watcher.now c.args.shelf.now;
-      same = λ a b h. h;
-    }
-
-pub returns-in_err-make-clause-ended : goal.returns-in_err-make-clause-ended
-returns-in_err-make-clause-ended g c =
-    let t = g.T.Times in
-    let w = g.W.Watch in
+    let old = c.args.times.now in
+    let new = c.make_times_until.new.times in
     let p = err_from_is_err_and c.from_residual.result c.from_residual.ensures.1 in
-    let e : SimEnd = c.in_err-make.field-0.0 in
+    let e : SimEnd = c.in_err-make_times_until.field-0.0 in
     let is : c.from_residual.result ≡ Err e = p.1 ∙ ap Err p.2 in
-    let m : Machine = t.machine c.args.times.now in
-    let sets = t.sets c.args.times.now in
-    let made : TimeMade m sets c.args.bound c.loop-now.now (t.stands c.loop-now.times c.loop-now.now) (t.stands c.make.new.self (c.loop-now.now + 1)) (t.counted c.make.new.self) c.loop-now.steps c.make.new.steps (Err e) =
-    made_same _ _ _ _ c.args.bound c.loop-now.now (t.stands c.loop-now.times c.loop-now.now) (t.stands c.make.new.self (c.loop-now.now + 1)) (t.counted c.make.new.self) c.loop-now.steps c.make.new.steps (Err e) c.loop-now.invariant.machine c.loop-now.invariant.sets c.in_err-make.ensures.made in
-    subst (λ r. RunMade m sets c.args.bound c.args.end (t.stands c.args.times.now 0) (t.values c.args.times.now) w.stands w.broken c.args.watcher.now c.loop-now.watcher c.args.shelf.now c.loop-now.shelf (t.kept c.make.new.self) (t.counted c.make.new.self) (c.make.new.steps - c.args.steps.now) r) (sym is)
-    (stopped_in_time m sets c.args.bound c.args.end c.loop-now.now (t.stands c.args.times.now 0) (t.values c.args.times.now) (t.stands c.loop-now.times c.loop-now.now) (t.stands c.make.new.self (c.loop-now.now + 1)) (t.kept c.loop-now.times) (t.kept c.make.new.self) w.stands w.broken
-    c.args.watcher.now c.loop-now.watcher c.args.shelf.now c.loop-now.shelf (t.counted c.make.new.self) c.args.steps.now c.loop-now.steps c.make.new.steps e c.loop-now-test.true c.loop-now.invariant.came made (g.met.T.Times.holds c.loop-now.times c.loop-now.now) c.in_err-make.ensures.ended)
-
-pub tell_time-requires-clause-next : goal.tell_time-requires-clause-next
-tell_time-requires-clause-next g c =
-    let t = g.T.Times in
-    let stands = g.W.Watch.stands c.loop-now.watcher c.loop-now.shelf in
-    let new = c.make.new.self in
-    subst (λ vs. AreNextCalls stands (calls_at c.loop-now.now c.changes.result.now vs)) (sym c.values.ensures)
-    (subst (λ cs. AreNextCalls stands (calls_at c.loop-now.now cs (t.values new))) (sym c.changes.ensures)
-    (next_calls stands (t.kept c.loop-now.times).told (t.values new) c.loop-now.now (t.changes new) (subst (HasTold stands) (sym c.loop-now.invariant.told_is) c.loop-now.invariant.calls) c.in_ok-make.ensures.changed))
+    subst (λ r. RunMade (t.machine old) (t.sets old) c.args.bound c.args.from c.args.end (t.stands old c.args.from) (t.kept old) w.stands w.broken c.args.watcher.now c.make_times_until.new.watcher c.args.shelf.now c.make_times_until.new.shelf (t.kept new) (t.counted new) (c.make_times_until.new.steps - c.args.steps.now) r) (sym is)
+    (stopped_before (t.machine old) (t.sets old) c.args.bound c.args.from c.args.end (t.stands old c.args.from) (t.stands new (c.args.end + 1)) (t.kept old) w.stands w.broken c.args.watcher.now c.make_times_until.new.watcher c.args.shelf.now c.make_times_until.new.shelf
+    (t.kept new) (t.counted new) (c.make_times_until.new.steps - c.args.steps.now) e c.in_err-make_times_until.ensures.made)
 
 pub tell-requires-clause-next : goal.tell-requires-clause-next
 tell-requires-clause-next g c =
-    let stands = g.W.Watch.stands c.loop-now.watcher c.loop-now.shelf in
-    subst (λ vs. IsNextCall stands (call_of c.args.end [] vs)) (sym c.values-2.ensures) (next_end stands (g.T.Times.values c.loop-now.times) c.args.end c.loop-now.invariant.calls)
-
-pub returns-in_err-tell_time-clause-ended : goal.returns-in_err-tell_time-clause-ended
-returns-in_err-tell_time-clause-ended g c =
-    let t = g.T.Times in
-    let w = g.W.Watch in
-    let p = err_from_is_err_and c.from_residual-in_err-tell_time.result c.from_residual-in_err-tell_time.ensures.1 in
-    let e : SimEnd = c.in_err-tell_time.field-0.0 in
-    let is : c.from_residual-in_err-tell_time.result ≡ Err e = p.1 ∙ ap Err p.2 in
-    let m : Machine = t.machine c.args.times.now in
-    let sets = t.sets c.args.times.now in
-    let now : ℕ = c.loop-now.now in
-    let new = c.make.new.self in
-    let made : TimeMade m sets c.args.bound now (t.stands c.loop-now.times c.loop-now.now) (t.stands new (now + 1)) (t.counted new) c.loop-now.steps c.make.new.steps (Ok c.in_ok-make.field-0) =
-    made_same _ _ _ _ c.args.bound now (t.stands c.loop-now.times c.loop-now.now) (t.stands new (now + 1)) (t.counted new) c.loop-now.steps c.make.new.steps (Ok c.in_ok-make.field-0) c.loop-now.invariant.machine c.loop-now.invariant.sets c.in_ok-make.ensures.made in
-    let came : AllCame m sets c.args.bound c.args.end now (t.stands c.args.times.now 0) (t.values c.args.times.now) (t.stands new (now + 1)) (t.kept new) (λ made. Got w.stands c.args.watcher.now c.loop-now.watcher c.args.shelf.now c.loop-now.shelf made) (calls_at now (t.changes new) (t.values new)) c.args.steps.now c.make.new.steps =
-    came_time m sets c.args.bound c.args.end now (t.stands c.args.times.now 0) (t.values c.args.times.now) (t.stands c.loop-now.times c.loop-now.now) (t.stands new (now + 1)) (t.kept c.loop-now.times) (t.kept new) (λ made. Got w.stands c.args.watcher.now c.loop-now.watcher c.args.shelf.now c.loop-now.shelf made)
-    (t.counted new) c.args.steps.now c.loop-now.steps c.make.new.steps c.in_ok-make.field-0 (t.changes new) (t.values new) c.loop-now.invariant.came made (g.met.T.Times.shows new (now + 1)) (c.in_ok-make.ensures.nets ∙ sym c.loop-now.invariant.told) c.in_ok-make.ensures.changed c.in_ok-make.ensures.kept in
-    let broke : Broke w.stands w.broken c.loop-now.watcher c.tell_time.new.watcher c.loop-now.shelf c.tell_time.new.shelf (calls_at now (t.changes new) (t.values new)) =
-    subst (λ vs. Broke w.stands w.broken c.loop-now.watcher c.tell_time.new.watcher c.loop-now.shelf c.tell_time.new.shelf (calls_at now (t.changes new) vs)) c.values.ensures
-    (subst (λ cs. Broke w.stands w.broken c.loop-now.watcher c.tell_time.new.watcher c.loop-now.shelf c.tell_time.new.shelf (calls_at now cs c.values.result.now)) c.changes.ensures c.in_err-tell_time.ensures.err) in
-    subst (λ r. RunMade m sets c.args.bound c.args.end (t.stands c.args.times.now 0) (t.values c.args.times.now) w.stands w.broken c.args.watcher.now c.tell_time.new.watcher c.args.shelf.now c.tell_time.new.shelf (t.kept new) (t.counted new) (c.make.new.steps - c.args.steps.now) r) (sym is)
-    (stopped_in_call m sets c.args.bound c.args.end now (t.stands c.args.times.now 0) (t.values c.args.times.now) (t.stands new (now + 1)) (t.kept new) w.stands w.broken c.args.watcher.now c.loop-now.watcher c.tell_time.new.watcher c.args.shelf.now c.loop-now.shelf c.tell_time.new.shelf
-    (calls_at now (t.changes new) (t.values new)) (t.counted new) c.args.steps.now c.make.new.steps e c.loop-now-test.true came c.in_err-tell_time.ensures.call broke (g.met.T.Times.holds new (now + 1)) (g.met.T.Times.counts new (now + 1)))
-
-pub loop-now-preserved : goal.loop-now-preserved
-loop-now-preserved g c =
-    let t = g.T.Times in
-    let w = g.W.Watch in
-    let m : Machine = t.machine c.args.times.now in
-    let sets = t.sets c.args.times.now in
-    let now : ℕ = c.loop-now.now in
-    let new = c.make.new.self in
-    let made : TimeMade m sets c.args.bound now (t.stands c.loop-now.times c.loop-now.now) (t.stands new (now + 1)) (t.counted new) c.loop-now.steps c.make.new.steps (Ok c.in_ok-make.field-0) =
-    made_same _ _ _ _ c.args.bound now (t.stands c.loop-now.times c.loop-now.now) (t.stands new (now + 1)) (t.counted new) c.loop-now.steps c.make.new.steps (Ok c.in_ok-make.field-0) c.loop-now.invariant.machine c.loop-now.invariant.sets c.in_ok-make.ensures.made in
-    let came : AllCame m sets c.args.bound c.args.end now (t.stands c.args.times.now 0) (t.values c.args.times.now) (t.stands new (now + 1)) (t.kept new) (λ made. Got w.stands c.args.watcher.now c.loop-now.watcher c.args.shelf.now c.loop-now.shelf made) (calls_at now (t.changes new) (t.values new)) c.args.steps.now c.make.new.steps =
-    came_time m sets c.args.bound c.args.end now (t.stands c.args.times.now 0) (t.values c.args.times.now) (t.stands c.loop-now.times c.loop-now.now) (t.stands new (now + 1)) (t.kept c.loop-now.times) (t.kept new) (λ made. Got w.stands c.args.watcher.now c.loop-now.watcher c.args.shelf.now c.loop-now.shelf made)
-    (t.counted new) c.args.steps.now c.loop-now.steps c.make.new.steps c.in_ok-make.field-0 (t.changes new) (t.values new) c.loop-now.invariant.came made (g.met.T.Times.shows new (now + 1)) (c.in_ok-make.ensures.nets ∙ sym c.loop-now.invariant.told) c.in_ok-make.ensures.changed c.in_ok-make.ensures.kept in
-    let got : Got w.stands c.loop-now.watcher c.tell_time.new.watcher c.loop-now.shelf c.tell_time.new.shelf (calls_at now (t.changes new) (t.values new)) =
-    subst (λ vs. Got w.stands c.loop-now.watcher c.tell_time.new.watcher c.loop-now.shelf c.tell_time.new.shelf (calls_at now (t.changes new) vs)) c.values.ensures
-    (subst (λ cs. Got w.stands c.loop-now.watcher c.tell_time.new.watcher c.loop-now.shelf c.tell_time.new.shelf (calls_at now cs c.values.result.now)) c.changes.ensures c.in_ok-tell_time.ensures.ok) in
-    let same : t.machine new ≡ m = c.in_ok-make.ensures.machine ∙ c.loop-now.invariant.machine in
-    let same_sets : t.sets new ≡ sets = c.in_ok-make.ensures.sets ∙ c.loop-now.invariant.sets in
-    let nets : length (t.values new) ≡ length (t.values c.args.times.now) = c.in_ok-make.ensures.nets ∙ c.loop-now.invariant.nets in
-    record {
-      machine = c.next-now.ensures.machine ∙ same;
-      sets = c.next-now.ensures.sets ∙ same_sets;
-      came = subst (λ k. AllCameTo m sets c.args.bound c.args.end c.next-now.result (t.stands c.args.times.now 0) (t.values c.args.times.now) (t.stands c.next-now.new.self c.next-now.result) k (λ made. Got w.stands c.args.watcher.now c.tell_time.new.watcher c.args.shelf.now c.tell_time.new.shelf made) c.args.steps.now c.make.new.steps) (sym c.next-now.ensures.kept)
-          (came_next m c.requires.law sets c.args.bound c.args.end now c.next-now.result (t.stands c.args.times.now 0) (t.values c.args.times.now) (t.stands new (now + 1)) (t.stands c.next-now.new.self c.next-now.result) (t.kept new)
-          (λ made. Got w.stands c.args.watcher.now c.loop-now.watcher c.args.shelf.now c.loop-now.shelf made) (λ made. Got w.stands c.args.watcher.now c.tell_time.new.watcher c.args.shelf.now c.tell_time.new.shelf made) (calls_at now (t.changes new) (t.values new)) c.args.steps.now c.make.new.steps
-          c.next-now.ensures.later came (λ made h. got_more w.stands c.args.watcher.now c.loop-now.watcher c.tell_time.new.watcher c.args.shelf.now c.loop-now.shelf c.tell_time.new.shelf made (calls_at now (t.changes new) (t.values new)) h got)
-          (λ x u h lo hi. subst (λ y. IsQuiet y x u) same_sets (c.next-now.ensures.quiet x u h lo hi))
-          (λ k x at seen h. (let to : now + 1 + k ≡ c.next-now.result = omega (arith, at) in
-          subst (λ n. t.stands c.next-now.new.self n (with_copies k m (now + 1) x)) to
-          (c.next-now.ensures.stands (now + 1 + k) (with_copies k m (now + 1) x) (subst (λ y. t.stands new (now + 1 + k) (with_copies k y (now + 1) x)) same (g.met.T.Times.skips new k (now + 1) x (subst IsLawful (sym same) c.requires.law) seen h))))));
-      ready = c.next-now.ensures.ready;
-      within = c.next-now.ensures.within;
-      steps = search rules;
-      told = ap (λ k. length k.told) c.next-now.ensures.kept ∙ (ap length c.in_ok-make.ensures.kept.told ∙ ap length (sym c.next-now.ensures.values));
-      told_is = ap (λ k. k.told) c.next-now.ensures.kept ∙ (c.in_ok-make.ensures.kept.told ∙ sym c.next-now.ensures.values);
-      calls = subst (HasTold (w.stands c.tell_time.new.watcher c.tell_time.new.shelf)) (sym c.next-now.ensures.values)
-          (told_more (w.stands c.loop-now.watcher c.loop-now.shelf) (w.stands c.tell_time.new.watcher c.tell_time.new.shelf) (t.kept c.loop-now.times).told (t.values new) now (t.changes new)
-          (subst (HasTold (w.stands c.loop-now.watcher c.loop-now.shelf)) (sym c.loop-now.invariant.told_is) c.loop-now.invariant.calls) c.in_ok-make.ensures.changed (c.in_ok-make.ensures.nets ∙ sym c.loop-now.invariant.told) got.each);
-      nets = ap length c.next-now.ensures.values ∙ nets;
-      name = search rules;
-      circuit = search rules;
-      count = search rules;
-      fault = search rules;
-      keeps = g.met.W.Watch.keeps_on c.args.watcher.now c.args.shelf.now c.loop-now.shelf c.tell_time.new.shelf c.loop-now.invariant.keeps (c.loop-now.invariant.same c.loop-now.shelf c.tell_time.new.shelf c.in_ok-tell_time.ensures.keeps);
-      same = λ a b h. c.loop-now.invariant.same a b (c.in_ok-tell_time.ensures.kept_back a b h);
-    }
+    let stands = g.W.Watch.stands c.make_times_until.new.watcher c.make_times_until.new.shelf in
+    subst (λ vs. IsNextCall stands (call_of c.args.end [] vs)) (sym c.values.ensures) (next_end stands (g.T.Times.values c.make_times_until.new.times) c.args.end c.in_ok-make_times_until.ensures.calls)
 
 pub returns-clause-ended : goal.returns-clause-ended
 returns-clause-ended g c =
     let t = g.T.Times in
     let w = g.W.Watch in
-    let times = c.loop-now.times in
-    all_told (t.machine c.args.times.now) (t.sets c.args.times.now) c.args.bound c.args.end c.loop-now.now (t.stands c.args.times.now 0) (t.values c.args.times.now) (t.stands times c.loop-now.now) (t.kept times) w.stands w.broken c.args.watcher.now c.loop-now.watcher c.tell.new.watcher
-    c.args.shelf.now c.loop-now.shelf c.tell.new.shelf (t.values times) (t.counted times) c.args.steps.now c.loop-now.steps c.tell.result c.loop-now-test.false c.loop-now.invariant.within c.loop-now.invariant.came (g.met.T.Times.shows times c.loop-now.now)
-    c.tell.ensures.call (call_ends w.stands w.broken c.loop-now.watcher c.tell.new.watcher c.loop-now.shelf c.tell.new.shelf (end_call c.args.end (t.values times) ∷ []) c.tell.result
-    (subst (λ vs. OnOk c.tell.result (Got w.stands c.loop-now.watcher c.tell.new.watcher c.loop-now.shelf c.tell.new.shelf (end_call c.args.end vs ∷ []))) c.values-2.ensures c.tell.ensures.ok)
-    (subst (λ vs. OnErr c.tell.result (Broke w.stands w.broken c.loop-now.watcher c.tell.new.watcher c.loop-now.shelf c.tell.new.shelf (end_call c.args.end vs ∷ []))) c.values-2.ensures c.tell.ensures.err))
-    (g.met.T.Times.holds times c.loop-now.now) (g.met.T.Times.counts times c.loop-now.now)
+    let old = c.args.times.now in
+    let mid = c.make_times_until.new in
+    let call = end_call c.args.end (t.values mid.times) ∷ [] in
+    all_told (t.machine old) (t.sets old) c.args.bound c.args.from c.args.end (t.stands old c.args.from) (t.stands mid.times (c.args.end + 1)) (t.kept old) w.stands w.broken c.args.watcher.now mid.watcher c.tell.new.watcher
+    c.args.shelf.now mid.shelf c.tell.new.shelf (t.values mid.times) (t.kept mid.times) (t.counted mid.times) (mid.steps - c.args.steps.now) c.in_ok-make_times_until.field-0 c.tell.result c.in_ok-make_times_until.ensures.made (g.met.T.Times.shows mid.times (c.args.end + 1))
+    c.tell.ensures.call (call_ends w.stands w.broken mid.watcher c.tell.new.watcher mid.shelf c.tell.new.shelf call c.tell.result
+    (subst (λ vs. OnOk c.tell.result (Got w.stands mid.watcher c.tell.new.watcher mid.shelf c.tell.new.shelf (end_call c.args.end vs ∷ []))) c.values.ensures c.tell.ensures.ok)
+    (subst (λ vs. OnErr c.tell.result (Broke w.stands w.broken mid.watcher c.tell.new.watcher mid.shelf c.tell.new.shelf (end_call c.args.end vs ∷ []))) c.values.ensures c.tell.ensures.err))
+
+pub returns-clause-keeps : goal.returns-clause-keeps
+returns-clause-keeps g c =
+    let mid = c.make_times_until.new in
+    g.met.W.Watch.keeps_on c.args.watcher.now c.args.shelf.now mid.shelf c.tell.new.shelf c.make_times_until.ensures.keeps (c.make_times_until.ensures.kept_back mid.shelf c.tell.new.shelf c.tell.ensures.keeps)

@@ -1,4 +1,4 @@
-use Rattle.std.specs.Prelude.{ℕ, ◌<◌, ◌≤◌, length}
+use Rattle.std.specs.Prelude.{◌<◌, ◌≤◌, length}
 use Rattle.std.proofs.Common.{sym, refl, arith}
 use Rattle.sim_times.proofs.SimulationLaws.{no_items}
 use Rattle.sim_times.proofs.StepLaws.{set_nothing_more, some_items}

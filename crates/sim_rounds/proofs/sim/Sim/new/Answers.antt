@@ -2,7 +2,7 @@ use Rattle.std.specs.Prelude.{◌≡◌, length, map}
 use Rattle.std.proofs.Common.{◌∙◌, sym, ap, subst}
 use Rattle.sg_circuit.specs.Circuit.{Circuit}
 use Rattle.sg_circuit.specs.Seen.{circuit_seen, element_seen}
-use Rattle.sim_rounds.specs.Fresh.{first_value_of}
+use Rattle.sim_rounds.specs.Simulated.{first_value_of}
 use Rattle.fan_round.specs.Nets.{stamp_seen}
 use Rattle.fan_round.specs.States.{IsIdle}
 use Rattle.sim_times.specs.Told.{IsTold}

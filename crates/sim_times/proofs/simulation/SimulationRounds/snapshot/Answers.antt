@@ -8,7 +8,9 @@ use Rattle.sim_times.proofs.SimulationLaws.{none_handed, kept_still, snapshot_st
 use Rattle.sim_times.proofs.simulation.SimulationRounds.snapshot.Goals as goal
 
 pub returns-in_err-see-clause-kept : goal.returns-in_err-see-clause-kept
-returns-in_err-see-clause-kept g c = kept_still c.args.self.now.told c.args.self.now.ended c.args.self.now.violations.items c.see.new.violations.items c.args.self.now.last (stimulus_seen c.args.self.now.stimulus.now) c.see.ensures.kept c.requires.0.begun
+returns-in_err-see-clause-kept g c =
+    let s = c.args.self.now in
+    kept_still s.told (g.C.Checks.latest s.checks) (g.C.Checks.latest c.see.new.self) s.ended s.violations.items c.see.new.violations.items s.last (stimulus_seen s.stimulus.now) c.see.ensures.latest c.see.ensures.kept c.requires.0.begun
 
 pub returns-clause-moves : goal.returns-clause-moves
 returns-clause-moves g c =

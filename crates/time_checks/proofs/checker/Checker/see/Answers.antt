@@ -6,7 +6,7 @@ use Rattle.sg_logic.specs.declared.values.Value.TheVariants.{X}
 use Rattle.sg_model.specs.Machine as model
 use Rattle.sg_model.specs.Values.{value_at}
 use Rattle.fan_round.specs.Lists.{at_places}
-use Rattle.time_checks.specs.declared.latest.Latest.{Latest}
+use Rattle.time_checks.specs.declared.recent.Recent.{Recent}
 use Rattle.time_checks.specs.declared.violations.Violation.{Violation}
 use Rattle.time_checks.specs.Seen.{violation_seen}
 use Rattle.time_checks.specs.AdjustedSeen.{all_seen}
@@ -16,8 +16,8 @@ use Rattle.time_checks.proofs.checker.Checker.see.Goals as goal
 
 pub returns-then-not-self-clause-seen : goal.returns-then-not-self-clause-seen
 returns-then-not-self-clause-seen c =
-    let kept : Kept = record { checks = all_seen c.self.inside.checks.items; seen = c.self.inside.seen; last = c.self.inside.last.items; latest = c.self.inside.latest.items } in
-    let next : Kept = record { checks = all_seen c.self.inside.checks.items; seen = true; last = c.copy_from_slice.new.self.items; latest = c.self.inside.latest.items } in
+    let kept : Kept = record { checks = all_seen c.self.inside.checks.items; earlier = c.self.inside.earlier.now; seen = c.self.inside.seen; last = c.self.inside.last.items; latest = c.self.inside.latest.items } in
+    let next : Kept = record { checks = all_seen c.self.inside.checks.items; earlier = c.self.inside.earlier.now; seen = true; last = c.copy_from_slice.new.self.items; latest = c.self.inside.latest.items } in
     let old : List model.Violation = map (λ (v : Violation). violation_seen v) c.args.violations.now.items in
     let is : kept ≡ c.args.self.now = c.self.view_is in
     subst (λ (k : Kept). Sees k next c.args.now c.args.changed.now c.args.values.now old old) is
@@ -28,8 +28,8 @@ returns-then-not-self-clause-seen c =
 
 pub returns-clause-seen : goal.returns-clause-seen
 returns-clause-seen c =
-    let kept : Kept = record { checks = all_seen c.self.inside.checks.items; seen = c.self.inside.seen; last = c.self.inside.last.items; latest = c.self.inside.latest.items } in
-    let next : Kept = record { checks = all_seen c.self.inside.checks.items; seen = c.self.inside.seen; last = (with_items c.self.inside.last c.follow.new.last).items; latest = (with_items c.self.inside.latest c.see_changes.new.latest).items } in
+    let kept : Kept = record { checks = all_seen c.self.inside.checks.items; earlier = c.self.inside.earlier.now; seen = c.self.inside.seen; last = c.self.inside.last.items; latest = c.self.inside.latest.items } in
+    let next : Kept = record { checks = all_seen c.self.inside.checks.items; earlier = c.self.inside.earlier.now; seen = c.self.inside.seen; last = (with_items c.self.inside.last c.follow.new.last).items; latest = (with_items c.self.inside.latest c.see_changes.new.latest).items } in
     let changed : List ℕ = c.args.changed.now in
     let values : List Value = c.args.values.now in
     let old : List model.Violation = map (λ (v : Violation). violation_seen v) c.args.violations.now.items in
@@ -47,5 +47,5 @@ returns-clause-seen c =
     (sees-next kept next c.args.now changed values c.see_changes.new.latest old new c.if-not-self.false c.self.invariant.each_check many
     (ap (λ vs. with_both kept vs next.latest) last ∙ ap (with_both kept (at_places (λ net before. value_at values net) X changed kept.last)) latest) made)
   where
-    with_both : Kept → List Value → List Latest → Kept
+    with_both : Kept → List Value → List Recent → Kept
     with_both k values latest = record k { last = values; latest = latest }

@@ -1,0 +1,25 @@
+// Why a moment isn't saved, and why a text isn't read as one.
+
+/// Why a moment isn't saved: its text would have more than 2^30 bytes, or there was no memory for it.
+#[derive(Clone, Copy, Debug, PartialEq, Eq)]
+pub enum SaveError {
+    TooLarge,
+    NoMemory,
+}
+
+/// What is wrong with a saved moment; the first of these that is so. The place is byte 0, but for the first and the third.
+#[derive(Clone, Copy, Debug, PartialEq, Eq)]
+pub enum SaveKind {
+    /// The text has more than 2^30 bytes; the place is byte 2^30.
+    TooLarge,
+    /// Its halves differ.
+    Damaged,
+    /// A half is no moment: the place is the first line that doesn't go on with one, or the end of the half.
+    Syntax,
+    /// The tick, or the number of nets, elements, elements of primitives or timing checks, is another than the circuit's.
+    OtherCircuit,
+    /// The moment doesn't fit the circuit.
+    BadMoment,
+    /// The time isn't before the end of the stimulus.
+    PastEnd,
+}
