@@ -40,6 +40,3 @@ behind_adds circuit first later c text adds =
     let b = behind circuit first later in
     behind_of circuit (first ∷ []) (first ∷ later ++ c ∷ []) (b.rest ++ text) (adds ∙ (ap (λ t. t ++ text) b.whole ∙ append_assoc (text_after circuit (first ∷ [])) b.rest text))
     ∙ ap (λ t. t ++ text) (sym b.is)
-
-pub behind-itself : (circuit : Circuit) (first : Call) → text_behind circuit (first ∷ []) (first ∷ []) ≡ []
-behind-itself circuit first = behind_of circuit (first ∷ []) (first ∷ []) [] (sym (append-nil (text_after circuit (first ∷ []))))

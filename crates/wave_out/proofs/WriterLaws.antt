@@ -3,7 +3,7 @@ use Rattle.std.proofs.Common.{◌≡◌, ◌∙◌, sym, ap, subst, refl, ℕ, L
 use Rattle.std.proofs.lemmas.List.{append-nil}
 use Rattle.std.proofs.lemmas.List.Elements.{All-cons, All-head, All-nil, All-tail}
 use Rattle.std.specs.Prelude.{◌<◌, ◌⊎◌, All, Option, Some, None, Result, Ok, Err, OnErr, OnOk}
-use Rattle.sg_io.specs.Files.{File, Appends, BothTell, HasAfter}
+use Rattle.sg_io.specs.Files.{File, Appends}
 use Rattle.sg_io.specs.declared.outside.ShelfError.{ShelfError}
 use Rattle.sg_circuit.specs.Circuit.{Circuit}
 use Rattle.sim_times.specs.Watching.{AreTruthful, Call}
@@ -11,10 +11,10 @@ use Rattle.wave_out.specs.Changes.{IsText}
 use Rattle.wave_out.specs.Files.{FileBegins, FileHolds}
 use Rattle.wave_out.specs.Scopes.{variables_of}
 use Rattle.wave_out.specs.Vcd.{dump_text, header}
-use Rattle.wave_out.specs.Writing.{AddsText, BeginsRest, Holds, HoldsRest, HoldsText, IsTextOf, LeavesText, Writer, dump_after, text_after, text_behind, time_of}
-use Rattle.wave_out.proofs.BehindLaws.{behind, behind-itself, behind_adds}
+use Rattle.wave_out.specs.Writing.{AddsText, BeginsRest, BreaksOff, Holds, HoldsRest, HoldsText, IsTextOf, LeavesText, Writer, dump_after, text_after, text_behind, time_of}
+use Rattle.wave_out.proofs.BehindLaws.{behind_adds}
 use Rattle.wave_out.proofs.CallLaws.{Adds, added, grows, one_more, time_after}
-use Rattle.wave_out.proofs.FileLaws.{appended_err, appended_ok, begins, told_before}
+use Rattle.wave_out.proofs.FileLaws.{appended_err, appended_ok, begins}
 
 -- one call more
 abbrev AddsCall : Writer → List Call → Call → Option (List ℕ) → Type 0
@@ -57,6 +57,16 @@ text_grows circuit calls c =
     let g = grows (variables_of circuit) calls c in
     (g.0, ap (λ t. header circuit ++ t) g.1 ∙ sym (append_assoc (header circuit) (dump_text (dump_after (variables_of circuit) None calls)) g.0))
 
+-- a text that was added, or only in part
+pub puts_whole : (c : Call) (w before w' : Writer) (old new : Option (List File)) (text : Option (List ℕ)) (t : List ℕ) → w ≡ before → text ≡ Some t → IsTextOf w c text → Appends w.name t old new (Ok tt) → w' ≡ record w { last = Some c.time }
+    → LeavesText c before w' old new (Ok tt)
+puts_whole c w before w' old new text t e some is put same = subst (λ v. LeavesText c v w' old new (Ok tt)) e (Some t, subst (IsTextOf w c) some is, (same, put))
+
+pub puts_part : (c : Call) (w before w' : Writer) (old new : Option (List File)) (text : Option (List ℕ)) (t : List ℕ) (error told : ShelfError) → w ≡ before → text ≡ Some t → IsTextOf w c text → Appends w.name t old new (Err error) → w' ≡ w
+    → LeavesText c before w' old new (Err told)
+puts_part c w before w' old new text t error told e some is put same =
+    subst (λ v. LeavesText c v w' old new (Err told)) e (same, inr (record { text = t; is = subst (IsTextOf w c) some is; error = error; put = put }))
+
 -- the writer of a whole dump
 whole_ok : (c : Call) (w w' : Writer) (old new : Option (List File)) (text : Option (List ℕ)) → IsTextOf w c text → AddsText text c.time w w' old new → (calls : List Call) → Holds w old calls → AreTruthful (calls ++ c ∷ [])
     → Holds w' new (calls ++ c ∷ [])
@@ -67,14 +77,14 @@ whole_ok c w w' old new text is put calls h truth =
     (λ none. stays w old calls c (text_after w.circuit calls) (text_after w.circuit (calls ++ c ∷ [])) text none a e h)
     (λ t some put. takes w old new calls c (text_after w.circuit calls) (text_after w.circuit (calls ++ c ∷ [])) t text some a e h put)
 
-whole_err : (c : Call) (w : Writer) (old new : Option (List File)) (error : ShelfError) → (new ≡ old) ⊎ ((t : List ℕ) × IsTextOf w c (Some t) × Appends w.name t old new (Err error)) → (calls : List Call) → Holds w old calls → AreTruthful (calls ++ c ∷ [])
+whole_err : (c : Call) (w : Writer) (old new : Option (List File)) → (new ≡ old) ⊎ BreaksOff c w old new → (calls : List Call) → Holds w old calls → AreTruthful (calls ++ c ∷ [])
     → FileBegins w.name (text_after w.circuit (calls ++ c ∷ [])) new
-whole_err c w old new error (inl same) calls h truth =
+whole_err c w old new (inl same) calls h truth =
     let g = text_grows w.circuit calls c in
     subst (λ o. FileBegins w.name (text_after w.circuit (calls ++ c ∷ [])) o) (sym same) (part_before w old (text_after w.circuit calls) (text_after w.circuit (calls ++ c ∷ [])) g.0 g.1 h.file)
-whole_err c w old new error (inr put) calls h truth =
-    let a = adds w old calls (text_after w.circuit calls) c (Some put.0) put.1 truth h in
-    subst (λ u. FileBegins w.name u new) (sym (text_adds w calls c (Some put.0) a)) (appended_err w.name (text_after w.circuit calls) put.0 error old new h.file put.2)
+whole_err c w old new (inr put) calls h truth =
+    let a = adds w old calls (text_after w.circuit calls) c (Some put.text) put.is truth h in
+    subst (λ u. FileBegins w.name u new) (sym (text_adds w calls c (Some put.text) a)) (appended_err w.name (text_after w.circuit calls) put.text put.error old new h.file put.put)
 
 pub whole_holds : (c : Call) (w w' : Writer) (old new : Option (List File)) (result : Result Unit ShelfError) → LeavesText c w w' old new result
     → OnOk result ((calls : List Call) → Holds w old calls → AreTruthful (calls ++ c ∷ []) → Holds w' new (calls ++ c ∷ []))
@@ -84,7 +94,7 @@ whole_holds c w w' old new (Err e) h = tt
 pub whole_begins : (c : Call) (w w' : Writer) (old new : Option (List File)) (result : Result Unit ShelfError) → LeavesText c w w' old new result
     → OnErr result ((calls : List Call) → Holds w old calls → AreTruthful (calls ++ c ∷ []) → FileBegins w'.name (text_after w'.circuit (calls ++ c ∷ [])) new)
 whole_begins c w w' old new (Ok u) h = tt
-whole_begins c w w' old new (Err e) h = λ calls held truth. subst (λ v. FileBegins v.name (text_after v.circuit (calls ++ c ∷ [])) new) (sym h.0) (whole_err c w old new e h.1 calls held truth)
+whole_begins c w w' old new (Err e) h = λ calls held truth. subst (λ v. FileBegins v.name (text_after v.circuit (calls ++ c ∷ [])) new) (sym h.0) (whole_err c w old new h.1 calls held truth)
 
 -- the writer of one that goes on
 front-later : (P : Call → Type 0) (xs : List Call) (c : Call) → All P (xs ++ c ∷ []) → All P xs
@@ -104,19 +114,19 @@ rest_ok c w w' old new text is put (first ∷ later) h truth = λ after. (
     (λ none. stays w old (first ∷ later) c before now text none a e held)
     (λ t some put. takes w old new (first ∷ later) c before now t text some a e held put))
 
-rest_err : (c : Call) (w : Writer) (old new : Option (List File)) (error : ShelfError) → (new ≡ old) ⊎ ((t : List ℕ) × IsTextOf w c (Some t) × Appends w.name t old new (Err error)) → (calls : List Call) → HoldsRest w old calls
+rest_err : (c : Call) (w : Writer) (old new : Option (List File)) → (new ≡ old) ⊎ BreaksOff c w old new → (calls : List Call) → HoldsRest w old calls
     → AreTruthful (calls ++ c ∷ []) → BeginsRest w new (calls ++ c ∷ [])
-rest_err c w old new error put [] h truth = absurd h
-rest_err c w old new error (inl same) (first ∷ later) h truth = λ after. (
+rest_err c w old new put [] h truth = absurd h
+rest_err c w old new (inl same) (first ∷ later) h truth = λ after. (
     let g = text_grows w.circuit (first ∷ later) c in
     let held = h (front-later (λ x. first.time < x.time) later c after) in
     subst (λ o. FileBegins w.name (text_behind w.circuit (first ∷ []) (first ∷ later ++ c ∷ [])) o) (sym same)
     (part_before w old (text_behind w.circuit (first ∷ []) (first ∷ later)) (text_behind w.circuit (first ∷ []) (first ∷ later ++ c ∷ [])) g.0 (behind_adds w.circuit first later c g.0 g.1) held.file))
-rest_err c w old new error (inr put) (first ∷ later) h truth = λ after. (
+rest_err c w old new (inr put) (first ∷ later) h truth = λ after. (
     let before = text_behind w.circuit (first ∷ []) (first ∷ later) in
     let held = h (front-later (λ x. first.time < x.time) later c after) in
-    let a = adds w old (first ∷ later) before c (Some put.0) put.1 truth held in
-    subst (λ u. FileBegins w.name u new) (sym (behind_adds w.circuit first later c put.0 (text_adds w (first ∷ later) c (Some put.0) a))) (appended_err w.name before put.0 error old new held.file put.2))
+    let a = adds w old (first ∷ later) before c (Some put.text) put.is truth held in
+    subst (λ u. FileBegins w.name u new) (sym (behind_adds w.circuit first later c put.text (text_adds w (first ∷ later) c (Some put.text) a))) (appended_err w.name before put.text put.error old new held.file put.put))
 
 pub rest_holds : (c : Call) (w w' : Writer) (old new : Option (List File)) (result : Result Unit ShelfError) → LeavesText c w w' old new result
     → OnOk result ((calls : List Call) → HoldsRest w old calls → AreTruthful (calls ++ c ∷ []) → HoldsRest w' new (calls ++ c ∷ []))
@@ -126,14 +136,4 @@ rest_holds c w w' old new (Err e) h = tt
 pub rest_begins : (c : Call) (w w' : Writer) (old new : Option (List File)) (result : Result Unit ShelfError) → LeavesText c w w' old new result
     → OnErr result ((calls : List Call) → HoldsRest w old calls → AreTruthful (calls ++ c ∷ []) → BeginsRest w' new (calls ++ c ∷ []))
 rest_begins c w w' old new (Ok u) h = tt
-rest_begins c w w' old new (Err e) h = λ calls held truth. subst (λ v. BeginsRest v new (calls ++ c ∷ [])) (sym h.0) (rest_err c w old new e h.1 calls held truth)
-
--- a new file has what comes behind the first call, before there is more
-pub rest_begun : (name : List ℕ) (circuit : Circuit) (time : ℕ) (old new : Option (List File)) (first : Call) → BothTell old new (HasAfter name []) → first.time ≡ time
-    → HoldsRest (record { name = name; circuit = circuit; last = Some time }) new (first ∷ [])
-rest_begun name circuit time old new first made at = λ none. record {
-  file = λ files e.
-      let told = told_before (HasAfter name []) old new files made e in
-      told.2.this ∙ ap Some (sym (behind-itself circuit first));
-  last = ap Some (sym at);
-}
+rest_begins c w w' old new (Err e) h = λ calls held truth. subst (λ v. BeginsRest v new (calls ++ c ∷ [])) (sym h.0) (rest_err c w old new h.1 calls held truth)

@@ -56,10 +56,17 @@ abbrev pub AddsText : Option (List ℕ) → ℕ → Writer → Writer → Option
 AddsText None time w w' old new = (w' ≡ w) × (new ≡ old)
 AddsText (Some t) time w w' old new = (w' ≡ record w { last = Some time }) × Appends w.name t old new (Ok tt)
 
+-- the text of a call wasn't added whole
+pub record BreaksOff (c : Call) (w : Writer) (old new : Option (List File)) : Type 0 where
+  pub text : List ℕ
+  pub is : IsTextOf w c (Some text)
+  pub error : ShelfError
+  pub put : Appends w.name text old new (Err error)
+
 -- what a call leaves: its text was added, or it wasn't made, or not added whole
 abbrev pub LeavesText : Call → Writer → Writer → Option (List File) → Option (List File) → Result Unit ShelfError → Type 0
 LeavesText c w w' old new (Ok u) = (text : Option (List ℕ)) × IsTextOf w c text × AddsText text c.time w w' old new
-LeavesText c w w' old new (Err e) = (w' ≡ w) × ((new ≡ old) ⊎ ((t : List ℕ) × IsTextOf w c (Some t) × Appends w.name t old new (Err e)))
+LeavesText c w w' old new (Err e) = (w' ≡ w) × ((new ≡ old) ⊎ BreaksOff c w old new)
 
 -- the file holds a text, and the writer keeps the last time of these calls
 pub record HoldsText (w : Writer) (told : Option (List File)) (calls : List Call) (text : List ℕ) : Type 0 where
