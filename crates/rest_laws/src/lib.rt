@@ -1,5 +1,6 @@
 //! The law that a run that goes on from a saved moment is the rest of the whole run.
 #![tactic(auto)]
+
 ghost use Rattle.rest_laws.specs.Rests.{RestIsTheRest};
 
 /// What a run has come to after a time, and nothing else of it, decides the rest: stopped there and gone on with, it finds what the whole run finds.

@@ -60,13 +60,13 @@ pub latest_by : (time : ℕ) (earlier : List Latest) (checks : List AdjustedChec
 latest_by time earlier checks snapshots h seen = latest_from time 0 earlier checks snapshots h seen
 
 -- what is so of all snapshots is so of the last ones
-all_before : (P : Snapshot → Type 0) (now : ℕ) (ss : List Snapshot) → All P ss → All P (lasts_before now ss)
+pub all_before : (P : Snapshot → Type 0) (now : ℕ) (ss : List Snapshot) → All P ss → All P (lasts_before now ss)
 all_before P now [] h = All-nil P
 all_before P now (s ∷ ss) h =
     if_fact (All P) (s.time == now) (lasts_before now ss) (s ∷ lasts_before s.time ss) (λ _. all_before P now ss (All-tail P s ss h))
     (λ _. All-cons P s (lasts_before s.time ss) (All-head P s ss h) (all_before P s.time ss (All-tail P s ss h)))
 
-all_lasts : (P : Snapshot → Type 0) (ss : List Snapshot) → All P ss → All P (lasts ss)
+pub all_lasts : (P : Snapshot → Type 0) (ss : List Snapshot) → All P ss → All P (lasts ss)
 all_lasts P [] h = All-nil P
 all_lasts P (s ∷ ss) h = All-cons P s (lasts_before s.time ss) (All-head P s ss h) (all_before P s.time ss (All-tail P s ss h))
 

@@ -8,7 +8,8 @@ use Rattle.sg_model.specs.Pending.{last_value, IsPending}
 use Rattle.sg_model.specs.Machine.{Snapshot, Stamp, State}
 use Rattle.sg_model.specs.Round.{each_from}
 use Rattle.sg_model.specs.Time.{Run}
-use Rattle.sg_model.specs.Run.{Finished, times_from}
+use Rattle.sg_model.specs.Run.{Finished, last_change, lasts, times_from}
+use Rattle.sim_times.specs.Times.{count_shown}
 use Rattle.sg_stimulus.specs.Stimulus.{Stimulus, sets_at}
 use Rattle.sg_circuit.specs.declared.nets.Driver.{Driver}
 use Rattle.sg_circuit.specs.Circuit.{Circuit, Element, Kind, Udp, element_at, net_at}
@@ -16,7 +17,7 @@ use Rattle.time_checks.specs.declared.latest.Latest.{Latest}
 use Rattle.time_checks.specs.Adjusted.{adjusted_checks}
 use Rattle.time_checks.specs.Falling.{AreBy}
 use Rattle.time_checks.specs.Violations.{latest_events}
-use Rattle.sim_rounds.specs.Simulated.{first_value_of, machine_of, machine_since}
+use Rattle.sim_rounds.specs.Simulated.{first_state, first_value_of, machine_of, machine_since, run_of_circuit}
 
 -- a transition that a driver has pending
 pub record Pending : Type 0 where
@@ -120,3 +121,11 @@ run_of_moment circuit m = record { state = state_of circuit m; snapshots = snaps
 -- the rest of the run of a circuit under a stimulus, from the time after a moment on
 abbrev pub run_since : Circuit → (bound : ℕ) → Stimulus → Moment → Finished
 run_since circuit bound stimulus m = times_from (stimulus.end - m.time) bound (machine_since circuit m.latest) (sets_at stimulus.steps) (suc m.time) (run_of_moment circuit m)
+
+-- the run of a circuit up to a time
+abbrev pub run_up_to : Circuit → (bound : ℕ) → Stimulus → (until : ℕ) → Finished
+run_up_to circuit bound stimulus until = run_of_circuit circuit bound (record stimulus { end = until })
+
+-- what a run from time 0 has come to after a time: with its last change, and its evaluations as far as a counter of 64 bits goes
+abbrev pub moment_after : Circuit → (time : ℕ) → Finished → Moment
+moment_after circuit time f = moment_of circuit [] time f.run (last_change (first_state circuit).values (lasts f.run.snapshots)) (count_shown f.evaluations)

@@ -13,8 +13,8 @@ use Rattle.sg_model.proofs.SkipLaws.{quiet_times, copies-state, copies-evaluatio
 use Rattle.sg_model.proofs.SnapshotLaws.{AddsSnapshots, rounds-snapshots}
 use Rattle.time_checks.specs.declared.changes.Change.{Change}
 use Rattle.sim_times.specs.Times.{Kept, evaluations_of}
-use Rattle.sim_times.specs.Watching.{Call, AreCalls, AreDifferences, net_change}
-use Rattle.sim_times.specs.Runs.{HasBegun, IsKeptAfter, IsOriginOf, Origin, Setting, TimeMade, calls_at, changed_since, last_after, run_from}
+use Rattle.sim_times.specs.Watching.{Call, AreCalls, none_yet, AreDifferences, net_change}
+use Rattle.sim_times.specs.Runs.{HasBegun, IsKeptAfter, IsOriginOf, Origin, Setting, TimeMade, calls_at, changed_since, last_after, origin_of, run_from}
 use Rattle.sim_times.specs.declared.runs.SimEnd.{SimEnd}
 use Rattle.sim_times.proofs.TimeLaws.{rounds-evaluations}
 use Rattle.sim_times.proofs.CallLaws.{calls_kept, calls_more, last_kept, last_more, since_after}
@@ -106,6 +106,15 @@ pub record AllCameTo (m : Machine) (sets : ℕ → List (ℕ × Value)) (bound f
 
 pub record AllCame (m : Machine) (sets : ℕ → List (ℕ × Value)) (bound from until now : ℕ) (stood : Run → Type 0) (before : Kept) (stands : Run → Type 0) (kept : Kept) (got : List Call → Type 0) (untold : List Call) (steps steps' : ℕ) : Type 0 where
   pub each : (first : State) (end : ℕ) (o : Origin) → until ≤ end → IsOriginOf from end before o → stood o.run → Came (setting_of m sets bound end first) o now stands kept got untold steps steps'
+
+-- before time 0
+pub first_origin : (s : Setting) (kept : Kept) → kept.told ≡ s.first.values → kept.last ≡ 0 → IsOriginOf 0 s.end kept (origin_of s)
+first_origin s kept told last = record {
+  is = record { left = omega arith; begun = (refl, refl); calls = none_yet; uncounted = refl; unchanged = λ e. refl };
+  at = refl;
+  told = told;
+  last = last;
+}
 
 pub came_start : (m : Machine) (sets : ℕ → List (ℕ × Value)) (bound from until : ℕ) (stands : Run → Type 0) (kept : Kept) (got : List Call → Type 0) (steps : ℕ) → got [] → AllCameTo m sets bound from until from stands kept stands kept got steps steps
 came_start m sets bound from until stands kept got steps g = record {

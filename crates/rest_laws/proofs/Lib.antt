@@ -1,0 +1,5 @@
+-- The modules of this folder.
+mod Lasts
+mod Splits
+mod Alike
+mod RestLaws
