@@ -1,4 +1,4 @@
--- The law that joins the texts of calls to the text of a run.
+-- The laws that join the texts of calls to the text of a run.
 use Rattle.std.specs.Prelude.{ℕ, suc, ◌≡◌, ◌<◌, ◌≤◌, ◌++◌, All, List, [], ◌∷◌, Option, Some, None, drop, length}
 use Rattle.sg_circuit.specs.Circuit.{Circuit, Variable}
 use Rattle.sg_model.specs.Machine.{Snapshot}
