@@ -62,10 +62,10 @@ pub puts_whole : (c : Call) (w before w' : Writer) (old new : Option (List File)
     → LeavesText c before w' old new (Ok tt)
 puts_whole c w before w' old new text t e some is put same = subst (λ v. LeavesText c v w' old new (Ok tt)) e (Some t, subst (IsTextOf w c) some is, (same, put))
 
-pub puts_part : (c : Call) (w before w' : Writer) (old new : Option (List File)) (text : Option (List ℕ)) (t : List ℕ) (error told : ShelfError) → w ≡ before → text ≡ Some t → IsTextOf w c text → Appends w.name t old new (Err error) → w' ≡ w
-    → LeavesText c before w' old new (Err told)
-puts_part c w before w' old new text t error told e some is put same =
-    subst (λ v. LeavesText c v w' old new (Err told)) e (same, inr (record { text = t; is = subst (IsTextOf w c) some is; error = error; put = put }))
+pub puts_part : (c : Call) (w before w' : Writer) (old new : Option (List File)) (text : Option (List ℕ)) (t : List ℕ) (error : ShelfError) → w ≡ before → text ≡ Some t → IsTextOf w c text → Appends w.name t old new (Err error) → w' ≡ w
+    → (w' ≡ before) × ((new ≡ old) ⊎ BreaksOff c before old new)
+puts_part c w before w' old new text t error e some is put same =
+    subst (λ v. (w' ≡ v) × ((new ≡ old) ⊎ BreaksOff c v old new)) e (same, inr (record { text = t; is = subst (IsTextOf w c) some is; error = error; put = put }))
 
 -- the writer of a whole dump
 whole_ok : (c : Call) (w w' : Writer) (old new : Option (List File)) (text : Option (List ℕ)) → IsTextOf w c text → AddsText text c.time w w' old new → (calls : List Call) → Holds w old calls → AreTruthful (calls ++ c ∷ [])

@@ -11,7 +11,7 @@ returns-in_err-append-clause-text g c =
     let call = call_of c.args.time c.args.changed.now (g.N.Nets.values c.args.nets.now) in
     let old = g.S.Shelf.files c.args.shelf.now in
     rw (err_from_is_err_and c.from_residual-in_err-append.result c.from_residual-in_err-append.ensures.1).1
-    (puts_part call w c.args.self.now _ old _ _ c.deref.result.now _ _ c.self.view_is (ap (option_map (λ (v : Vec ℕ Global). v.items)) c.in-Some.is ∙ ap Some (sym c.deref.ensures.value)) c.in_ok-text.ensures.text c.in_err-append.ensures.held refl)
+    (puts_part call w c.args.self.now _ old _ _ c.deref.result.now _ c.self.view_is (ap (option_map (λ (v : Vec ℕ Global). v.items)) c.in-Some.is ∙ ap Some (sym c.deref.ensures.value)) c.in_ok-text.ensures.text c.in_err-append.ensures.held refl)
 
 pub returns-clause-text : goal.returns-clause-text
 returns-clause-text g c =
