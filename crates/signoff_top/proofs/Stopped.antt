@@ -79,6 +79,9 @@ pub stop_gives : (ws : List (List ℕ)) (c : Command) (s : Stop) (task : code_ta
     → Answers ws (stop_answer s (Ok (task_seen task))) old
 stop_gives ws c s task old a g = λ files is. asked_answers ws (a_stop c s) files (stop_answer s (Ok (task_seen task))) a (Ok (task_seen task), (g files is).outcome, refl)
 
+pub dump_made : (dump : File) (old start mid : Option (List File)) → start ≡ old → BothTell start mid (HasAfter dump.name dump.bytes) → BothTell old mid (FilesAfter (dump ∷ []))
+dump_made dump old start mid e h = subst (λ o. BothTell o mid (FilesAfter (dump ∷ []))) e h
+
 -- where the dump was made, what follows from the answer
 after_dump : (ws : List (List ℕ)) (answer : Answer) (dump : File) (old mid : Option (List File)) (Q : List File → List File → Type 0) → Answers ws answer old → BothTell old mid (FilesAfter (dump ∷ []))
     → ((x z : List File) → IsAnswer ws x answer → HasAfter dump.name dump.bytes x z → Q x z) → BothTell old mid Q

@@ -1,4 +1,5 @@
-use Rattle.std.proofs.Common.{refl}
+use Rattle.std.proofs.Common.{refl, sym}
+use Rattle.std.specs.Prelude.{Some}
 use Rattle.run_words.specs.WordsSeen.{stop_seen}
 use Rattle.signoff_top.specs.Answer.{begun_dump, stopped_of}
 use Rattle.signoff_top.specs.Tasks.{task_seen}
@@ -6,8 +7,8 @@ use Rattle.signoff_top.proofs.Stopped.{answers_are, stop_reached, stop_spent}
 use Rattle.signoff_top.proofs.Worked.{run_leaves}
 use Rattle.signoff_top.proofs.work.end_stop.Goals as goal
 
-pub requires-save_moment-in-Stop : goal.requires-save_moment-in-Stop
-requires-save_moment-in-Stop g c =
+pub save_moment-requires : goal.save_moment-requires
+save_moment-requires g c =
     let reached = rw c.in-Stop.is at c.requires.reached in record { fits = reached.2; moment = reached.1; violations = c.requires.violations }
 
 pub returns-in-Stop-clause-left : goal.returns-in-Stop-clause-left
@@ -31,4 +32,4 @@ returns-in-Spent-clause-left g c =
     let reached = rw c.in-Spent.is at c.requires.reached in
     let task = task_seen c.args.task in
     let stop = stop_seen c.args.stop in
-    λ ws old h made. run_leaves ws _ (stopped_of task stop) (begun_dump task stop).bytes old old _ (answers_are ws _ _ old (stop_spent task stop _ c.requires.before reached) h) refl made (sym reached) c.requires.violations
+    λ ws old h made. run_leaves ws (record { task = c.args.task; end = record { violations = c.args.end.violations; spent = Some c.in-Spent.spent } }) (stopped_of task stop) (begun_dump task stop).bytes old old _ (answers_are ws _ _ old (stop_spent task stop _ c.requires.before reached) h) refl made (sym reached) c.requires.violations

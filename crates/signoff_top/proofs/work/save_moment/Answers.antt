@@ -2,8 +2,8 @@ use Rattle.sim_rounds.specs.MomentsSeen.{moment_seen}
 use Rattle.signoff_top.proofs.Stopped.{save_wants, text_saved, too_large_saved, unsaved_leaves}
 use Rattle.signoff_top.proofs.work.save_moment.Goals as goal
 
-pub requires-write_save-in-Ok : goal.requires-write_save-in-Ok
-requires-write_save-in-Ok g c = text_saved c.args.done c.args.save.now (moment_seen c.args.moment.now) c.in-Ok.text.items c.deref.result.now c.requires c.in-Ok.ensures.text c.in-Ok.ensures.small c.deref.ensures.value
+pub write_save-requires : goal.write_save-requires
+write_save-requires g c = text_saved c.args.done c.args.save.now (moment_seen c.args.moment.now) c.in-Ok.text.items c.deref.result.now c.requires c.in-Ok.ensures.text c.in-Ok.ensures.small c.deref.ensures.value
 
 pub returns-in-Err-TooLarge-clause-left : goal.returns-in-Err-TooLarge-clause-left
 returns-in-Err-TooLarge-clause-left g c = λ ws old from.

@@ -1,19 +1,18 @@
-use Rattle.std.proofs.Common.{[], ◌∷◌, subst}
-use Rattle.sg_io.specs.Files.{BothTell}
+use Rattle.std.proofs.Common.{[]}
 use Rattle.run_words.specs.WordsSeen.{stop_seen}
-use Rattle.signoff_top.specs.Answer.{FilesAfter, begun_dump}
+use Rattle.signoff_top.specs.Answer.{begun_dump}
 use Rattle.signoff_top.specs.Tasks.{task_seen}
-use Rattle.signoff_top.proofs.Stopped.{dump_first, made_later}
+use Rattle.signoff_top.proofs.Stopped.{dump_first, dump_made, made_later}
 use Rattle.signoff_top.proofs.Worked.{failed_at_made, made_fails, made_wants, none_yet}
 use Rattle.signoff_top.proofs.work.stop_task.Goals as goal
 
 pub returns-in-Ok-clause-left : goal.returns-in-Ok-clause-left
 returns-in-Ok-clause-left g c = λ ws old h k.
-    c.end_stop.ensures.left ws old h (subst (λ o. BothTell o _ (FilesAfter (begun_dump (task_seen c.args.task) (stop_seen c.args.stop) ∷ []))) k c.in-Ok.ensures.file)
+    c.end_stop.ensures.left ws old h (dump_made (begun_dump (task_seen c.args.task) (stop_seen c.args.stop)) old _ _ k c.in-Ok.ensures.file)
 
 pub returns-in-Ok-clause-named : goal.returns-in-Ok-clause-named
 returns-in-Ok-clause-named g c = λ ws asked old e dump save h k.
-    c.end_stop.ensures.named ws asked old e save h (subst (λ o. BothTell o _ (FilesAfter (begun_dump (task_seen c.args.task) (stop_seen c.args.stop) ∷ []))) k c.in-Ok.ensures.file)
+    c.end_stop.ensures.named ws asked old e save h (dump_made (begun_dump (task_seen c.args.task) (stop_seen c.args.stop)) old _ _ k c.in-Ok.ensures.file)
 
 pub returns-in-Err-Failed-clause-left : goal.returns-in-Err-Failed-clause-left
 returns-in-Err-Failed-clause-left g c =
