@@ -1,10 +1,10 @@
 -- Texts that are no body of any moment.
-use Rattle.std.proofs.Common.{◌≡◌, ℕ, ℤ, ◌+◌, ◌-◌, ◌<◌, ◌≤◌, List, [], ◌∷◌, ◌++◌, length, refl, sym, ◌∙◌, ap, subst, arith}
-use Rattle.std.proofs.lemmas.List.{append-nil, append_assoc, length-append}
+use Rattle.std.proofs.Common.{◌≡◌, ℕ, ℤ, ◌-◌, List, [], ◌∷◌, ◌++◌, length, refl, sym, ◌∙◌, ap, subst, arith}
+use Rattle.std.proofs.lemmas.List.{append-nil, length-append}
 use Rattle.sim_rounds.specs.Moments.{Moment}
-use Rattle.sim_save.specs.Faults.{AreNumbers, BeginBody, IsBodyOf, IsNoBody, at_end, at_line, lines_in}
+use Rattle.sim_save.specs.Faults.{BeginBody, IsNoBody, at_end, at_line, lines_in}
 use Rattle.sim_save.specs.Lines.{body, joined, save_lines}
-use Rattle.sim_save.specs.Steps.{EndsEarly, Head, Leads, Need, Nothing, Takes}
+use Rattle.sim_save.specs.Steps.{EndsEarly, Head, Leads, Nothing, Takes}
 use Rattle.sim_save.proofs.LineLaws.{FirstLine, first_line, lines_of_joined, saved_are_lines}
 use Rattle.sim_save.proofs.MomentLaws.{begins, leads_begun, leads_moment}
 use Rattle.sim_save.proofs.StepLaws.{leads_lines, leads_one, leads_split, uncons}
@@ -19,7 +19,7 @@ no_more half left e none =
     let lines = e.lines in
     let whole : half ≡ joined lines = e.is ∙ (ap (λ t. joined lines ++ t) none ∙ append-nil (joined lines)) in
     let all : lines_in half ≡ lines =
-      ap lines_in (whole ∙ sym (append-nil (joined lines))) ∙ (lines_of_joined lines [] (leads_lines lines e.leads) ∙ append-nil lines) in
+    ap lines_in (whole ∙ sym (append-nil (joined lines))) ∙ (lines_of_joined lines [] (leads_lines lines e.leads) ∙ append-nil lines) in
     let size : length half ≡ length half - left = let n : length e.rest ≡ 0 = ap length none in omega (arith, e.many, n) in
     subst (IsNoBody half) size
     (at_end (subst BeginBody (sym all) (begins lines e.need e.leads))
@@ -32,7 +32,7 @@ bad_line : (half : List ℕ) (left : ℕ) (e : EndsEarly Head half left) → Fir
 bad_line half left e f =
     let lines = e.lines in
     let all : lines_in half ≡ lines ++ f.first ∷ f.after =
-      ap lines_in e.is ∙ (lines_of_joined lines e.rest (leads_lines lines e.leads) ∙ ap (λ ls. lines ++ ls) f.lines) in
+    ap lines_in e.is ∙ (lines_of_joined lines e.rest (leads_lines lines e.leads) ∙ ap (λ ls. lines ++ ls) f.lines) in
     let size : length (joined lines) ≡ length half - left = let n = ap length e.is in let m = length-append (joined lines) e.rest in omega (arith, e.many, n, m) in
     subst (IsNoBody half) size
     (at_line lines f.first f.after all (begins lines e.need e.leads)

@@ -1,5 +1,5 @@
 -- A text that was changed or cut is no text of a moment.
-use Rattle.std.proofs.Common.{◌≡◌, ◌≢◌, ℕ, ℤ, zero, suc, ◌+◌, ◌-◌, ◌<◌, ◌≤◌, inl, inr, List, [], ◌∷◌, ◌++◌, length, map, set, refl, sym, ◌∙◌, ap, subst, arith}
+use Rattle.std.proofs.Common.{◌≡◌, ℕ, ℤ, ◌-◌, inl, inr, List, [], ◌∷◌, ◌++◌, length, map, set, refl, sym, ◌∙◌, ap, arith}
 use Rattle.std.specs.Prelude.{slice_set}
 use Rattle.std.specs.declared.option.Option.{Option}
 use Rattle.std.proofs.lemmas.Bool.{cases_lt}
@@ -8,7 +8,7 @@ use Rattle.sg_logic.specs.declared.values.Value.{Value}
 use Rattle.sg_model.specs.Machine.{Stamp}
 use Rattle.sim_rounds.specs.Moments.{Moment}
 use Rattle.sim_save.specs.Faults.{lines_in}
-use Rattle.sim_save.specs.Lines.{body, check_line, end_line, head_line, joined, last_line, net_line, net_lines, pending_line, save_lines, udp_line}
+use Rattle.sim_save.specs.Lines.{body, check_line, end_line, head_line, joined, last_line, net_lines, pending_line, save_lines, udp_line}
 use Rattle.sim_save.specs.Reading.{IsDamaged, changed, cut}
 use Rattle.sim_save.proofs.BodyLaws.{lines_of_body}
 
@@ -72,10 +72,10 @@ up_to_end (l ∷ ls) (m ∷ ms) x y h k e =
 pub bodies_that_begin : (tick : ℤ) (elements : ℕ) (m n : Moment) (x y : List ℕ) → body tick elements m ++ x ≡ body tick elements n ++ y → body tick elements m ≡ body tick elements n
 bodies_that_begin tick elements m n x y e =
     let whole : front_lines tick elements m ++ end_line ∷ lines_in x ≡ front_lines tick elements n ++ end_line ∷ lines_in y =
-      sym (lines_of_body tick elements m x ∙ front_and_end tick elements m (lines_in x)) ∙ (ap lines_in e ∙ (lines_of_body tick elements n y ∙ front_and_end tick elements n (lines_in y))) in
+    sym (lines_of_body tick elements m x ∙ front_and_end tick elements m (lines_in x)) ∙ (ap lines_in e ∙ (lines_of_body tick elements n y ∙ front_and_end tick elements n (lines_in y))) in
     let fronts = up_to_end (front_lines tick elements m) (front_lines tick elements n) (lines_in x) (lines_in y) (no_end_front tick elements m) (no_end_front tick elements n) whole in
     let lines : save_lines tick elements m ≡ save_lines tick elements n =
-      sym (append-nil (save_lines tick elements m)) ∙ (front_and_end tick elements m [] ∙ (ap (λ ls. ls ++ end_line ∷ []) fronts ∙ (sym (front_and_end tick elements n []) ∙ append-nil (save_lines tick elements n)))) in
+    sym (append-nil (save_lines tick elements m)) ∙ (front_and_end tick elements m [] ∙ (ap (λ ls. ls ++ end_line ∷ []) fronts ∙ (sym (front_and_end tick elements n []) ∙ append-nil (save_lines tick elements n)))) in
     ap joined lines
 
 -- ---- damage shows
@@ -99,14 +99,14 @@ changed_once b d at byte e =
     let third = length-append d d in
     let size : length b ≡ length d = omega (arith, sizes, first, second, third) in
     elim (cases_lt at (length b)) [
-      inl l ↦
-        let cut_there : set b at byte ++ b ≡ d ++ d = sym (set-append_left b b at byte l) ∙ e in
-        let ends : (set b at byte ≡ d) × (b ≡ d) = halves (set b at byte) b d d (length-set b at byte ∙ size) cut_there in
-        set-append_left b b at byte l ∙ ap (λ t. t ++ b) (ends.0 ∙ sym ends.1)
-    | inr l ↦
-        let cut_there : b ++ set b (at - length b) byte ≡ d ++ d = sym (set-append_right b b (length b) at byte refl l) ∙ e in
-        let ends : (b ≡ d) × (set b (at - length b) byte ≡ d) = halves b (set b (at - length b) byte) d d size cut_there in
-        set-append_right b b (length b) at byte refl l ∙ ap (λ t. b ++ t) (ends.1 ∙ sym ends.0)
+      | inl l ↦
+          let cut_there : set b at byte ++ b ≡ d ++ d = sym (set-append_left b b at byte l) ∙ e in
+          let ends : (set b at byte ≡ d) × (b ≡ d) = halves (set b at byte) b d d (length-set b at byte ∙ size) cut_there in
+          set-append_left b b at byte l ∙ ap (λ t. t ++ b) (ends.0 ∙ sym ends.1)
+      | inr l ↦
+          let cut_there : b ++ set b (at - length b) byte ≡ d ++ d = sym (set-append_right b b (length b) at byte refl l) ∙ e in
+          let ends : (b ≡ d) × (set b (at - length b) byte ≡ d) = halves b (set b (at - length b) byte) d d size cut_there in
+          set-append_right b b (length b) at byte refl l ∙ ap (λ t. b ++ t) (ends.1 ∙ sym ends.0)
     ]
 
 pub no_text : (tick : ℤ) (elements : ℕ) (m n : Moment) (bytes : List ℕ) → IsDamaged (body tick elements m ++ body tick elements m) bytes → bytes ≡ body tick elements n ++ body tick elements n → ⊥

@@ -11,3 +11,4 @@ pub mod CutLaws
 pub mod NumberLaws
 pub mod TakeLaws
 pub mod SectionLaws
+pub mod ReadLaws

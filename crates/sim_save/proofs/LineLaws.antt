@@ -1,6 +1,6 @@
 -- The lines of a text.
-use Rattle.std.proofs.Common.{◌≡◌, ℕ, ℤ, ◌<◌, Bool, true, false, inl, inr, length, List, [], ◌∷◌, ◌++◌, map, refl, sym, ◌∙◌, ap, subst, arith}
-use Rattle.std.specs.Prelude.{◌==◌, ◌||◌, codes, decimal, if◌then◌else◌}
+use Rattle.std.proofs.Common.{◌≡◌, ℕ, ℤ, true, false, inl, inr, length, List, [], ◌∷◌, ◌++◌, map, refl, sym, ◌∙◌, ap, subst}
+use Rattle.std.specs.Prelude.{◌==◌, codes, decimal, if◌then◌else◌}
 use Rattle.std.specs.Fmt.{signed_decimal}
 use Rattle.std.specs.declared.option.Option.{Option}
 use Rattle.std.specs.declared.option.Option.TheVariants.{Some, None}
@@ -10,11 +10,10 @@ use Rattle.sg_logic.specs.declared.values.Value.{Value}
 use Rattle.sg_model.specs.Machine.{Stamp}
 use Rattle.time_checks.specs.declared.latest.Latest.{Latest}
 use Rattle.sim_rounds.specs.Moments.{Moment, Pending}
-use Rattle.wave_out.specs.Texts.{line}
 use Rattle.wave_out.specs.Vcd.{value_letter}
-use Rattle.sim_save.specs.Breaks.{IsWord, event_text, is_break}
+use Rattle.sim_save.specs.Breaks.{IsWord, event_text}
 use Rattle.sim_save.specs.Faults.{lines_in, with_byte}
-use Rattle.sim_save.specs.Lines.{change_words, check_line, end_line, event_word, head_line, joined, last_line, letter, net_line, net_lines, number, pending_line, save_lines, udp_line, word}
+use Rattle.sim_save.specs.Lines.{change_words, check_line, end_line, event_word, joined, last_line, letter, net_line, net_lines, number, pending_line, save_lines, udp_line, word}
 use Rattle.sim_save.specs.Steps.{Counts, counters_line, counts_line}
 use Rattle.sim_save.proofs.WordLaws.{decimal_is_word, event_is, event_is_word, letter_is_word, signed_is_word}
 

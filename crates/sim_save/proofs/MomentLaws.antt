@@ -1,5 +1,5 @@
 -- The lines of a moment, and the moments whose lines begin so.
-use Rattle.std.proofs.Common.{◌≡◌, ℕ, ℤ, pos, zero, suc, ◌+◌, ◌<◌, ◌⊎◌, inl, inr, List, [], ◌∷◌, ◌++◌, length, map, refl, sym, ◌∙◌, ap, subst, arith, lit<}
+use Rattle.std.proofs.Common.{◌≡◌, ℕ, ℤ, pos, zero, suc, ◌+◌, ◌<◌, inl, inr, List, [], ◌∷◌, ◌++◌, length, map, refl, sym, ◌∙◌, ap, subst, arith}
 use Rattle.std.specs.Prelude.{◌^◌, All}
 use Rattle.std.specs.declared.option.Option.{Option}
 use Rattle.std.specs.declared.option.Option.TheVariants.{Some, None}
@@ -12,7 +12,7 @@ use Rattle.time_checks.specs.declared.latest.Latest.{Latest}
 use Rattle.sim_rounds.specs.Moments.{Moment, Pending}
 use Rattle.sim_save.specs.Faults.{AreChanges, AreNumbers, BeginBody}
 use Rattle.sim_save.specs.Lines.{check_line, end_line, head_line, last_line, net_line, net_lines, pending_line, save_lines, udp_line}
-use Rattle.sim_save.specs.Steps.{AreCounts, Counts, End, Head, IsChange, IsCheck, IsCounters, IsHead, IsLatest, IsNet, IsPending, IsTransition, IsUdp, Leads, Need, Nets, Nothing, Takes, TakesLater, Udps, counters_line, counts_line, more, none}
+use Rattle.sim_save.specs.Steps.{AreCounts, Counts, End, Head, IsChange, IsCheck, IsCounters, IsHead, IsLatest, IsNet, IsPending, IsTransition, IsUdp, Leads, Need, Nets, Nothing, Udps, counters_line, counts_line, more, none}
 use Rattle.sim_save.proofs.StepLaws.{leads_append, leads_nil, leads_split, uncons}
 
 -- ---- a moment's lines lead from its head to nothing
@@ -208,8 +208,8 @@ pending_of [] udps checks p = let e : Nets zero udps checks ≡ Nothing = leads_
 pending_of (x ∷ xs) udps checks p =
     let u = uncons p in
     elim u.1 [
-      inl t ↦ pending_more udps checks x xs t.0 (pending_of xs udps checks (subst (λ n. Leads n xs Nothing) t.1 u.2))
-    | inr t ↦ later_alone udps checks (x ∷ xs) (later_of (x ∷ xs) udps checks (more {a = Udps udps checks} {b = u.0} t u.2))
+      | inl t ↦ pending_more udps checks x xs t.0 (pending_of xs udps checks (subst (λ n. Leads n xs Nothing) t.1 u.2))
+      | inr t ↦ later_alone udps checks (x ∷ xs) (later_of (x ∷ xs) udps checks (more {a = Udps udps checks} {b = u.0} t u.2))
     ]
 
 -- the lines behind a head
@@ -263,7 +263,7 @@ saved_behind text lines h n =
     let ending = counters_line l.last l.evaluations ∷ end_line ∷ [] in
     let behind : nets ++ pending ++ udps ++ checks ++ ending ≡ lines = five nets pending udps checks ending ∙ sym (n.is ∙ ap (λ ls. nets ++ ls) (p.is ∙ ap (λ ls. pending ++ ls) l.is)) in
     let same : head_line c.tick c.elements m ≡ counts_line c =
-      counted c.time c.time c.tick (length n.values) c.nets c.elements (length l.states) c.udps (length l.latest) c.checks refl n.many l.many_states l.many_latest in
+    counted c.time c.time c.tick (length n.values) c.nets c.elements (length l.states) c.udps (length l.latest) c.checks refl n.many l.many_states l.many_latest in
     record {
       tick = c.tick;
       elements = c.elements;

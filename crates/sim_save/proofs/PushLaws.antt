@@ -1,12 +1,11 @@
 -- Lines pushed one after another.
-use Rattle.std.proofs.Common.{◌≡◌, ℕ, ◌+◌, ◌<◌, ◌≤◌, List, [], ◌∷◌, ◌++◌, length, map, get_or, drop, refl, sym, ◌∙◌, ap, arith}
+use Rattle.std.proofs.Common.{◌≡◌, ℕ, ◌<◌, ◌≤◌, List, [], ◌∷◌, ◌++◌, length, map, sym, ◌∙◌, ap, arith}
 use Rattle.std.specs.Prelude.{ℤ, ◌-◌, ◌^◌}
 use Rattle.std.specs.List.{slice_range}
 use Rattle.std.specs.declared.option.Option.{Option}
 use Rattle.std.proofs.lemmas.List.{append-nil, append_assoc, length-append, length-take}
 use Rattle.std.proofs.lemmas.List.Concat.{flat_map-append}
 use Rattle.sg_logic.specs.declared.values.Value.{Value}
-use Rattle.sg_circuit.specs.Circuit.{Circuit}
 use Rattle.sim_rounds.specs.declared.moments.LastChange.{LastChange}
 use Rattle.sim_rounds.specs.Moments.{Moment}
 use Rattle.sim_rounds.specs.MomentsSeen.{change_seen, moment_seen, pending_seen}
@@ -15,7 +14,7 @@ use Rattle.sim_rounds.specs.declared.moments.Pending as code_pending
 use Rattle.time_checks.specs.declared.latest.Latest.{Latest}
 use Rattle.sim_save.specs.Faults.{most_bytes}
 use Rattle.sim_save.specs.Large.{IsTooLarge}
-use Rattle.sim_save.specs.Lines.{body, check_line, end_line, head_line, joined, last_line, net_line, net_lines, pending_line, save_text, udp_line}
+use Rattle.sim_save.specs.Lines.{body, check_line, end_line, head_line, joined, last_line, net_lines, pending_line, udp_line}
 use Rattle.sim_save.specs.declared.kinds.SaveError.{SaveError}
 use Rattle.sim_save.specs.declared.kinds.SaveError.TheVariants as error
 

@@ -1,5 +1,5 @@
 -- A moment is told by its text.
-use Rattle.std.proofs.Common.{◌≡◌, ℕ, ℤ, zero, suc, ◌<◌, List, [], ◌∷◌, ◌++◌, length, map, refl, sym, ◌∙◌, ap, subst, arith}
+use Rattle.std.proofs.Common.{◌≡◌, ℕ, ℤ, zero, ◌<◌, List, [], ◌∷◌, ◌++◌, length, map, refl, sym, ◌∙◌, ap, subst, arith}
 use Rattle.std.specs.Prelude.{◌^◌, All, codes}
 use Rattle.std.specs.declared.option.Option.{Option}
 use Rattle.std.specs.declared.option.Option.TheVariants.{Some, None}
@@ -9,10 +9,9 @@ use Rattle.sg_logic.specs.declared.values.Value.{Value}
 use Rattle.sg_model.specs.Machine.{Stamp}
 use Rattle.time_checks.specs.declared.latest.Latest.{Latest}
 use Rattle.sim_rounds.specs.Moments.{Moment, Pending}
-use Rattle.sim_save.specs.Breaks.{EndsWord}
 use Rattle.sim_save.specs.Faults.{AreChanges, AreNumbers, lines_in}
-use Rattle.sim_save.specs.Lines.{body, change_words, check_line, end_line, event_word, joined, last_line, letter, net_line, net_lines, number, pending_line, save_lines, udp_line}
-use Rattle.sim_save.specs.Steps.{AreCounts, Counts, IsChange, IsLatest, IsPending, IsTransition, Leads, Need, Nothing, Udps, counters_line, counts_line}
+use Rattle.sim_save.specs.Lines.{body, change_words, check_line, end_line, event_word, last_line, letter, net_line, net_lines, number, pending_line, save_lines, udp_line}
+use Rattle.sim_save.specs.Steps.{AreCounts, Counts, IsChange, IsLatest, IsPending, IsTransition, Leads, Nothing, Udps, counters_line}
 use Rattle.sim_save.proofs.BodyLaws.{lines_of_body}
 use Rattle.sim_save.proofs.MomentLaws.{change_of, five, leads_checks, leads_counters, leads_end, leads_udps}
 use Rattle.sim_save.proofs.StepLaws.{counts_apart, leads_append, no_transition_later, uncons}

@@ -68,7 +68,7 @@ net_more nets new changes later v s text left behind h k e f =
     let seen : map change_seen later ≡ cs ++ change_seen s ∷ [] = ap (map change_seen) f ∙ map_push change_seen changes s in
     let fit = subst (λ vs. AreChanges vs (map change_seen later)) (sym e) (subst (λ ts. AreChanges (nets ++ v ∷ []) ts) (sym seen) (changes_push nets cs v (change_seen s) h.fit k.0)) in
     let same : net_lines new (map change_seen later) ≡ net_lines nets cs ++ net_line v (change_seen s) ∷ [] =
-      ap (λ vs. net_lines vs (map change_seen later)) e ∙ (ap (λ ts. net_lines (nets ++ v ∷ []) ts) seen ∙ net_lines_push nets cs v (change_seen s) h.fit) in
+    ap (λ vs. net_lines vs (map change_seen later)) e ∙ (ap (λ ts. net_lines (nets ++ v ∷ []) ts) seen ∙ net_lines_push nets cs v (change_seen s) h.fit) in
     record { fit = fit; is = pushed (net_lines nets cs) (net_lines new (map change_seen later)) (net_line v (change_seen s)) text left behind h.is k.1 same }
 
 pub net_ends : (nets : List Value) (changes : List (Option LastChange)) (text left : List ℕ) (count udps checks : ℕ) → AreNets nets changes text left → length nets < count → NoLine IsNet left → EndsEarly (Nets count udps checks) text (length left)
@@ -223,6 +223,9 @@ later_ends udps checks (x ∷ xs) need text rest left no_transition is p ends ea
 pub no_transition_ends : (udps checks : ℕ) (text : List ℕ) (left : ℕ) → NoLine IsTransition text → EndsEarly (Udps udps checks) text left → EndsEarly (Nets zero udps checks) text left
 no_transition_ends udps checks text left h e = later_ends udps checks e.lines e.need text e.rest left h e.is e.leads e.ends e.early e.many
 
+pub head_ends : (half : List ℕ) → NoLine IsHead half → EndsEarly Head half (length half)
+head_ends half h = record { lines = []; need = Head; rest = half; is = refl; leads = none; ends = λ line behind b e t. h line behind e t.0; early = λ e n. absurd (cc); many = refl }
+
 -- ---- through the parts of a half
 
 pub through_head : (h : Counts) (half left : List ℕ) → AreCounts h × (half ≡ counts_line h ++ left) → (n : ℕ) → EndsEarly (Nets h.nets h.udps h.checks) left n → EndsEarly Head half n
@@ -264,7 +267,7 @@ body_read h m half a b c d e head nets pending udps checks ending time =
     let from_pending = pending.0.is ∙ ap (λ t. joined (map pending_line seen.pending) ++ t) from_udps in
     let from_nets = nets.0.is ∙ ap (λ t. joined (net_lines seen.nets seen.stamps) ++ t) from_pending in
     let same : counts_line h ≡ head_line h.tick h.elements seen =
-      counted h.time m.time h.tick h.nets (length seen.nets) h.elements h.udps (length seen.udps) h.checks (length seen.latest) (sym time) (sym nets.1) (sym udps.1) (sym checks.1) in
+    counted h.time m.time h.tick h.nets (length seen.nets) h.elements h.udps (length seen.udps) h.checks (length seen.latest) (sym time) (sym nets.1) (sym udps.1) (sym checks.1) in
     record {
       text = head.1 ∙ (ap (λ t. t ++ a) same ∙ (ap (λ t. head_line h.tick h.elements seen ++ t) from_nets ∙ body_parts h.tick h.elements seen));
       numbers = record {

@@ -1,13 +1,10 @@
 -- Lines that follow one another.
-use Rattle.std.proofs.Common.{◌≡◌, ℕ, ℤ, zero, suc, ◌<◌, ◌⊎◌, inl, inr, List, [], ◌∷◌, ◌++◌, length, refl, sym, ◌∙◌, ap, subst, arith}
+use Rattle.std.proofs.Common.{◌≡◌, ℕ, zero, suc, inl, inr, List, [], ◌∷◌, ◌++◌, refl, sym, ◌∙◌, ap, subst, arith}
 use Rattle.std.specs.Prelude.{codes}
 use Rattle.std.specs.Fmt.{signed_decimal}
-use Rattle.std.specs.declared.option.Option.{Option}
-use Rattle.std.specs.declared.option.Option.TheVariants.{Some, None}
 use Rattle.std.proofs.lemmas.List.{append_assoc, append_cancel_left}
-use Rattle.sim_save.specs.Breaks.{EndsWord}
-use Rattle.sim_save.specs.Lines.{check_line, end_line, event_word, net_line, number, pending_line, udp_line, word}
-use Rattle.sim_save.specs.Steps.{AreCounts, Counts, End, Head, IsCheck, IsCounters, IsHead, IsNet, IsTransition, IsUdp, Leads, Need, Nets, Nothing, Takes, TakesLater, Udps, counters_line, counts_line, more, none}
+use Rattle.sim_save.specs.Lines.{number, word}
+use Rattle.sim_save.specs.Steps.{AreCounts, Counts, End, Head, IsTransition, Leads, Need, Nets, Nothing, Takes, TakesLater, Udps, counts_line, more, none}
 use Rattle.sim_save.proofs.LineLaws.{AreLines, IsLine, check_is_line, counters_is_line, counts_is_line, end_is_line, net_is_line, pending_is_line, udp_is_line}
 use Rattle.sim_save.proofs.WordLaws.{number_apart, power_apart}
 

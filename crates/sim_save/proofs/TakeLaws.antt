@@ -1,12 +1,11 @@
 -- What is taken from a text, and what can't be.
-use Rattle.std.proofs.Common.{◌≡◌, ℕ, ℤ, ◌+◌, ◌<◌, ◌≤◌, List, [], ◌∷◌, ◌++◌, length, take, drop, refl, sym, ◌∙◌, ap, subst, arith}
+use Rattle.std.proofs.Common.{◌≡◌, ℕ, ℤ, List, [], ◌∷◌, ◌++◌, take, drop, refl, sym, ◌∙◌, ap, subst, arith}
 use Rattle.std.specs.Prelude.{codes, decimal}
 use Rattle.std.specs.Fmt.{signed_decimal}
 use Rattle.std.specs.List.{position_or_len}
 use Rattle.std.specs.declared.option.Option.{Option}
 use Rattle.std.specs.declared.option.Option.TheVariants.{Some, None}
 use Rattle.std.proofs.lemmas.List.{append_assoc, append_cancel_left, take-append-drop}
-use Rattle.std.proofs.lemmas.List.Sums.{prefix_len-le-length}
 use Rattle.sg_logic.specs.declared.values.Value.{Value}
 use Rattle.sg_model.specs.Machine.{Stamp}
 use Rattle.time_checks.specs.declared.latest.Latest.{Latest}
@@ -137,8 +136,10 @@ no_sizes_end text n a e b u c k d t s r v h n' e' u' k' more hn he hu hk same =
     h more (count_next c k d v k' (10 ∷ more) hk refl o)
 
 pub sizes_taken : (text : List ℕ) (n : ℕ) (a : List ℕ) (e : ℕ) (b : List ℕ) (u : ℕ) (c : List ℕ) (k : ℕ) (d rest : List ℕ) → IsTaken Is32 number text n a → IsTaken Is32 number a e b → IsTaken Is32 number b u c → IsTaken Is32 number c k d → d ≡ (10 ∷ []) ++ rest → (Is32 n × Is32 e × Is32 u × Is32 k) × (text ≡ sizes_text n e u k rest)
-sizes_taken text n a e b u c k d rest t s r v h = ((t.0, s.0, r.0, v.0),
-    t.1 ∙ ap (λ w. number n ++ w) (s.1 ∙ ap (λ w. number e ++ w) (r.1 ∙ ap (λ w. number u ++ w) (v.1 ∙ ap (λ w. number k ++ w) h))))
+sizes_taken text n a e b u c k d rest t s r v h = (
+  (t.0, s.0, r.0, v.0),
+  t.1 ∙ ap (λ w. number n ++ w) (s.1 ∙ ap (λ w. number e ++ w) (r.1 ∙ ap (λ w. number u ++ w) (v.1 ∙ ap (λ w. number k ++ w) h))),
+)
 
 -- ---- a head
 
@@ -174,7 +175,7 @@ pub head_taken : (h : Counts) (text a b c rest : List ℕ) → Is32 h.nets → I
     → c ≡ sizes_text h.nets h.elements h.udps h.checks rest → AreCounts h × (text ≡ counts_line h ++ rest)
 head_taken h text a b c rest hn he hu hk f s r e = (
   record { time = s.0; tick = r.0; nets = hn; elements = he; udps = hu; checks = hk },
-  f ∙ (ap (λ w. codes "save" ++ w) (s.1 ∙ ap (λ w. number h.time ++ w) (r.1 ∙ ap (λ w. word (signed_decimal h.tick) ++ w) e)) ∙ sym (counts_right h rest))
+  f ∙ (ap (λ w. codes "save" ++ w) (s.1 ∙ ap (λ w. number h.time ++ w) (r.1 ∙ ap (λ w. word (signed_decimal h.tick) ++ w) e)) ∙ sym (counts_right h rest)),
 )
 
 -- ---- a net
@@ -265,7 +266,7 @@ no_pending_end text a d b n c v g f t s r h line more e k =
 pub pending_taken : (p : Pending) (text a b c g rest : List ℕ) → text ≡ codes "p" ++ a → IsTaken Is32 number a p.driver b → IsTaken Is64 number b p.time c → IsTaken (λ w. Unit {0}) letter c p.value g → g ≡ (10 ∷ []) ++ rest → IsPending p × (text ≡ pending_line p ++ rest)
 pending_taken p text a b c g rest f t s r h = (
   (t.0, s.0),
-  f ∙ (ap (λ w. codes "p" ++ w) (t.1 ∙ ap (λ w. number p.driver ++ w) (s.1 ∙ ap (λ w. number p.time ++ w) (r.1 ∙ ap (λ w. letter p.value ++ w) h))) ∙ sym (three_on (codes "p") (number p.driver) (number p.time) (letter p.value) rest))
+  f ∙ (ap (λ w. codes "p" ++ w) (t.1 ∙ ap (λ w. number p.driver ++ w) (s.1 ∙ ap (λ w. number p.time ++ w) (r.1 ∙ ap (λ w. letter p.value ++ w) h))) ∙ sym (three_on (codes "p") (number p.driver) (number p.time) (letter p.value) rest)),
 )
 
 -- ---- a primitive's state
@@ -311,7 +312,7 @@ no_check_end text a r b d c f t s h line more e k = h more (event_next b d c s k
 pub check_taken : (l : Latest) (text a b c rest : List ℕ) → text ≡ codes "c" ++ a → IsTaken IsTime event_word a l.refer b → IsTaken IsTime event_word b l.datum c → c ≡ (10 ∷ []) ++ rest → IsLatest l × (text ≡ check_line l ++ rest)
 check_taken l text a b c rest f t s h = (
   (t.0, s.0),
-  f ∙ (ap (λ w. codes "c" ++ w) (t.1 ∙ ap (λ w. event_word l.refer ++ w) (s.1 ∙ ap (λ w. event_word l.datum ++ w) h)) ∙ sym (two_on (codes "c") (event_word l.refer) (event_word l.datum) rest))
+  f ∙ (ap (λ w. codes "c" ++ w) (t.1 ∙ ap (λ w. event_word l.refer ++ w) (s.1 ∙ ap (λ w. event_word l.datum ++ w) h)) ∙ sym (two_on (codes "c") (event_word l.refer) (event_word l.datum) rest)),
 )
 
 -- ---- the counters
@@ -341,5 +342,5 @@ pub counters_taken : (l n : ℕ) (text a b c rest : List ℕ) → text ≡ codes
 counters_taken l n text a b c rest f t s h = (
   t.0,
   s.0,
-  f ∙ (ap (λ w. codes "l" ++ w) (t.1 ∙ ap (λ w. number l ++ w) (s.1 ∙ ap (λ w. number n ++ w) h)) ∙ sym (two_on (codes "l") (number l) (number n) rest))
+  f ∙ (ap (λ w. codes "l" ++ w) (t.1 ∙ ap (λ w. number l ++ w) (s.1 ∙ ap (λ w. number n ++ w) h)) ∙ sym (two_on (codes "l") (number l) (number n) rest)),
 )

@@ -3,10 +3,8 @@ use Rattle.std.specs.Prelude.{ℕ, ℤ, suc, pos, negsuc, ◌≡◌, ◌++◌, �
 use Rattle.std.specs.declared.option.Option.{Option}
 use Rattle.std.specs.declared.option.Option.TheVariants.{Some, None}
 use Rattle.sg_logic.specs.declared.values.Value.{Value}
-use Rattle.sg_text.specs.declared.places.Place.{Place}
 use Rattle.sg_model.specs.Machine.{Stamp}
 use Rattle.sg_circuit.specs.Circuit.{Circuit, Element}
-use Rattle.time_checks.specs.declared.latest.Latest.{Latest}
 use Rattle.sim_rounds.specs.Moments.{Fits, Moment, is_udp}
 use Rattle.sim_save.specs.Lines.{body, joined, save_lines}
 use Rattle.sim_save.specs.declared.kinds.SaveKind.{SaveKind}

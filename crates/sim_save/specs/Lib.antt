@@ -7,3 +7,4 @@ pub mod Breaks
 pub mod Steps
 pub mod Taking
 pub mod Sections
+pub mod Refusing

@@ -1,6 +1,5 @@
 -- What the text of a saved moment is read as.
-use Rattle.std.specs.Prelude.{ℕ, ◌≡◌, ◌≢◌, ◌++◌, ◌<◌, ◌≤◌, ◌^◌, List, [], ◌∷◌, ◌⊎◌, Result, Ok, Err, length, slice_set}
-use Rattle.sg_text.specs.declared.places.Place.{Place}
+use Rattle.std.specs.Prelude.{ℕ, ◌≡◌, ◌≢◌, ◌++◌, ◌<◌, ◌≤◌, ◌^◌, List, ◌∷◌, Result, Ok, Err, length, slice_set}
 use Rattle.sg_text.specs.declared.refusals.Refused.{Refused}
 use Rattle.sg_text.specs.declared.refusals.Refused.TheVariants as refused
 use Rattle.sg_circuit.specs.Circuit.{Circuit}

@@ -1,7 +1,6 @@
 -- What is taken from the front of a text, and that nothing of a kind stands there.
-use Rattle.std.specs.Prelude.{ℕ, ℤ, ◌≡◌, ◌++◌, ◌<◌, ◌^◌, List, [], ◌∷◌}
+use Rattle.std.specs.Prelude.{ℕ, ◌≡◌, ◌++◌, ◌<◌, ◌^◌, List}
 use Rattle.sim_save.specs.Breaks.{EndsWord}
-use Rattle.sim_save.specs.Lines.{number}
 use Rattle.sim_save.specs.Steps.{Counts}
 use Rattle.sim_save.specs.declared.lines.Head.{Head}
 use Rattle.sim_save.specs.declared.lines.Sizes.{Sizes}

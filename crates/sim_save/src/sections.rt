@@ -45,10 +45,7 @@ pub fn read_nets<'a>(
 }
 
 /// The lines of pending transitions, as many as there are.
-pub fn read_pending<'a>(
-    pending: &mut Vec<Pending>,
-    text: &'a [u8],
-) -> Result<&'a [u8], AllocError>
+pub fn read_pending<'a>(pending: &mut Vec<Pending>, text: &'a [u8]) -> Result<&'a [u8], AllocError>
     requires { pending.old.items ≡ [] }
     ensures { IfOk result (λ left. AreTransitions pending.new.items text.now left.now × NoLine IsTransition left.now) }
 {
@@ -61,11 +58,7 @@ pub fn read_pending<'a>(
 }
 
 /// The lines of so many primitives' states.
-pub fn read_udps<'a>(
-    udps: &mut Vec<Value>,
-    text: &'a [u8],
-    count: u32,
-) -> Result<&'a [u8], Stop>
+pub fn read_udps<'a>(udps: &mut Vec<Value>, text: &'a [u8], count: u32) -> Result<&'a [u8], Stop>
     requires { udps.old.items ≡ [] }
     ensures read { IfOk result (λ left. AreUdps udps.new.items text.now left.now × (length udps.new.items ≡ count)) }
     ensures stops { (checks : ℕ) → IfErr result (λ e. Stops (Udps count checks) text.now e) }

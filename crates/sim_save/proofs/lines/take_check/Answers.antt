@@ -3,7 +3,7 @@ use Rattle.sim_save.proofs.TakeLaws.{check_taken, no_check, no_check_datum, no_c
 use Rattle.sim_save.proofs.lines.take_check.Goals as goal
 
 pub returns-in_err-at_refer : goal.returns-in_err-at_refer
-returns-in_err-at_refer c = rw c.from_residual.ensures (no_check c.args.text.now   c.in_err-at_refer.ensures)
+returns-in_err-at_refer c = rw c.from_residual.ensures (no_check c.args.text.now c.in_err-at_refer.ensures)
 
 pub returns-in_err-refer : goal.returns-in_err-refer
 returns-in_err-refer c = rw c.from_residual-in_err-refer.ensures (no_check_refer c.args.text.now c.in_ok-at_refer.at_refer.now c.in_ok-at_refer.ensures c.in_err-refer.ensures)

@@ -3,7 +3,7 @@ use Rattle.sim_save.proofs.TakeLaws.{counters_taken, no_counters, no_counters_en
 use Rattle.sim_save.proofs.lines.take_counters.Goals as goal
 
 pub returns-in_err-at_last : goal.returns-in_err-at_last
-returns-in_err-at_last c = rw c.from_residual.ensures (no_counters c.args.text.now   c.in_err-at_last.ensures)
+returns-in_err-at_last c = rw c.from_residual.ensures (no_counters c.args.text.now c.in_err-at_last.ensures)
 
 pub returns-in_err-last : goal.returns-in_err-last
 returns-in_err-last c = rw c.from_residual-in_err-last.ensures (no_counters_last c.args.text.now c.in_ok-at_last.at_last.now c.in_ok-at_last.ensures c.in_err-last.ensures)

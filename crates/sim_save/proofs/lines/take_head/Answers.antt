@@ -7,7 +7,7 @@ use Rattle.sim_save.proofs.TakeLaws.{head_taken, no_head, no_head_sizes, no_head
 use Rattle.sim_save.proofs.lines.take_head.Goals as goal
 
 pub returns-in_err-at_time : goal.returns-in_err-at_time
-returns-in_err-at_time c = rw c.from_residual.ensures (no_head c.args.text.now   c.in_err-at_time.ensures)
+returns-in_err-at_time c = rw c.from_residual.ensures (no_head c.args.text.now c.in_err-at_time.ensures)
 
 pub returns-in_err-time : goal.returns-in_err-time
 returns-in_err-time c = rw c.from_residual-in_err-time.ensures (no_head_time c.args.text.now c.in_ok-at_time.at_time.now c.in_ok-at_time.ensures c.in_err-time.ensures)

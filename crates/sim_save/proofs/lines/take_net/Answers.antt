@@ -4,7 +4,7 @@ use Rattle.sim_save.proofs.TakeLaws.{net_taken, no_net, no_net_change, no_net_va
 use Rattle.sim_save.proofs.lines.take_net.Goals as goal
 
 pub returns-in_err-at_value : goal.returns-in_err-at_value
-returns-in_err-at_value c = rw c.from_residual.ensures (no_net c.args.text.now   c.in_err-at_value.ensures)
+returns-in_err-at_value c = rw c.from_residual.ensures (no_net c.args.text.now c.in_err-at_value.ensures)
 
 pub returns-in_err-value : goal.returns-in_err-value
 returns-in_err-value c = rw c.from_residual-in_err-value.ensures (no_net_value c.args.text.now c.in_ok-at_value.at_value.now c.in_ok-at_value.ensures c.in_err-value.ensures)

@@ -4,7 +4,7 @@ use Rattle.sim_save.proofs.TakeLaws.{no_pending, no_pending_driver, no_pending_e
 use Rattle.sim_save.proofs.lines.take_pending.Goals as goal
 
 pub returns-in_err-at_driver : goal.returns-in_err-at_driver
-returns-in_err-at_driver c = rw c.from_residual.ensures (no_pending c.args.text.now   c.in_err-at_driver.ensures)
+returns-in_err-at_driver c = rw c.from_residual.ensures (no_pending c.args.text.now c.in_err-at_driver.ensures)
 
 pub returns-in_err-driver : goal.returns-in_err-driver
 returns-in_err-driver c = rw c.from_residual-in_err-driver.ensures (no_pending_driver c.args.text.now c.in_ok-at_driver.at_driver.now c.in_ok-at_driver.ensures c.in_err-driver.ensures)

@@ -3,7 +3,7 @@ use Rattle.sim_save.proofs.TakeLaws.{no_checks, no_elements, no_nets, no_sizes_e
 use Rattle.sim_save.proofs.lines.take_sizes.Goals as goal
 
 pub returns-in_err-nets : goal.returns-in_err-nets
-returns-in_err-nets c = rw c.from_residual.ensures (no_nets c.args.text.now   c.in_err-nets.ensures)
+returns-in_err-nets c = rw c.from_residual.ensures (no_nets c.args.text.now c.in_err-nets.ensures)
 
 pub returns-in_err-elements : goal.returns-in_err-elements
 returns-in_err-elements c = rw c.from_residual-in_err-elements.ensures (no_elements c.args.text.now c.in_ok-nets.nets c.in_ok-nets.at_elements.now c.in_ok-nets.ensures c.in_err-elements.ensures)

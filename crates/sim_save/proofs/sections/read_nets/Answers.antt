@@ -15,7 +15,7 @@ loop-left-preserved c =
     let less : length c.loop-left.nets.items < c.args.count = omega (arith, c.loop-left-test.true, c.len.ensures, c.loop-left.nets.ok.0) in
     record {
       so_far = net_more c.loop-left.nets.items c.push.new.self.items c.loop-left.changes.items c.push-in-loop-left.new.self.items c.in-Some.value c.in-Some.change c.args.text.now c.loop-left.left.now c.in-Some.behind.now
-        c.loop-left.invariant.so_far c.in-Some.ensures c.in_ok-push.ensures.items c.in_ok-push-2.ensures.items;
+          c.loop-left.invariant.so_far c.in-Some.ensures c.in_ok-push.ensures.items c.in_ok-push-2.ensures.items;
       within = one_more c.loop-left.nets.items c.push.new.self.items c.in-Some.value c.args.count c.in_ok-push.ensures.items less;
     }
 

@@ -1,5 +1,5 @@
 -- What is pushed is a body from its front.
-use Rattle.std.proofs.Common.{◌++◌, map, refl, subst, sym, ap, ◌∙◌, of_z, to_z, w8}
+use Rattle.std.proofs.Common.{◌++◌, map, refl, subst, ◌∙◌, of_z, to_z, w8}
 use Rattle.std.proofs.lemmas.Int.{to_z-of_z}
 use Rattle.std.proofs.lemmas.Result.{err_from_is_err_and}
 use Rattle.sim_rounds.specs.MomentsSeen.{change_seen, moment_seen, pending_seen}
