@@ -12,7 +12,9 @@ pub mod Stopped
 pub mod OnceLaws
 pub mod Agreeing
 pub mod OneAnswer
+pub mod Outcomes
 pub mod MadeNames
+pub mod Ticks
 pub mod ProgramWords
 pub mod Promised
 pub mod Resumed

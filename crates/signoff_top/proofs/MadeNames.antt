@@ -5,38 +5,30 @@ use Rattle.sg_io.specs.Files.{File, bytes_of}
 use Rattle.sim_save.specs.Faults.{most_bytes}
 use Rattle.run_words.specs.Words.{Command, Asked, a_run, a_stop, a_rest, a_writing, the_bounds, a_case, made_in, made_of, Stop, Writing}
 use Rattle.signoff_top.specs.Answer.{Answer, IsAnswerFor, IsAnswerTo, answer_of, rest_answer, saved_answer, saved_of, stop_answer, stopped_answer, stopped_of, writing_answer}
-use Rattle.signoff_top.specs.Phases.{Refusal, Rest, Task, CommandOutcome, DesignOutcome, FileWithin, InputOutcome, RestOutcome, SaveOutcome, Then, stops, goes_on, words, save_limit, Written}
+use Rattle.signoff_top.specs.Phases.{Refusal, Rest, Task, CommandOutcome, DesignOutcome, FileWithin, InputOutcome, RestOutcome, SaveOutcome, words, save_limit, Written}
 use Rattle.signoff_top.proofs.OneAnswer.{nothing_made, nothing_settled}
 use Rattle.signoff_top.proofs.Making.{AreMadeAs, none_made}
+use Rattle.signoff_top.proofs.Outcomes.{OfValue, then_value}
 
--- the name of the dump that a task makes is that of the words
-abbrev Names : Command → Result Task Refusal → Type 0
-Names c (Ok task) = task.vcd ≡ c.vcd
-Names c (Err r) = Unit {0}
+-- the name of the dump that a task makes, or the rest of one, is that of the words
+abbrev Names : Command → Task → Type 0
+Names c task = task.vcd ≡ c.vcd
 
--- what is so of each refusal, and of what follows each value that comes first
-then_all : {A B : Type 0} (P : Result B Refusal → Type 0) (first : Result A Refusal → Type 0) (next : A → Result B Refusal → Type 0) → ((r : Refusal) → P (Err r)) → ((a : A) → first (Ok a) → (p : Result B Refusal) → next a p → P p)
-    → (p : Result B Refusal) → Then first next p → P p
-then_all P first next e f _ (stops r h) = e r
-then_all P first next e f _ (goes_on a p h k) = f a h p k
+abbrev RestNames : Command → Rest → Type 0
+RestNames c rest = rest.task.vcd ≡ c.vcd
 
-command_names : (c : Command) (files : List File) (p : Result Task Refusal) → CommandOutcome c files p → Names c p
+command_names : (c : Command) (files : List File) (p : Result Task Refusal) → CommandOutcome c files p → OfValue (Names c) p
 command_names c files =
-    then_all (Names c) (DesignOutcome c.design files) _ (λ r. tt) (λ annotated _.
-    then_all (Names c) (InputOutcome c.input files annotated.circuit) _ (λ r. tt) (λ input _ p e. subst (Names c) (sym e) refl))
+    then_value (Names c) (DesignOutcome c.design files) _ (λ annotated _.
+    then_value (Names c) (InputOutcome c.input files annotated.circuit) _ (λ input _ p e. subst (OfValue (Names c)) (sym e) refl))
 
--- so is that of the dump of the rest of one
-abbrev RestNames : Command → Result Rest Refusal → Type 0
-RestNames c (Ok rest) = rest.task.vcd ≡ c.vcd
-RestNames c (Err r) = Unit {0}
-
-rest_names : (c : Command) (state : List ℕ) (files : List File) (p : Result Rest Refusal) → RestOutcome c state files p → RestNames c p
+rest_names : (c : Command) (state : List ℕ) (files : List File) (p : Result Rest Refusal) → RestOutcome c state files p → OfValue (RestNames c) p
 rest_names c state files =
-    then_all (RestNames c) (CommandOutcome c files) _ (λ r. tt) (λ task run.
-    then_all (RestNames c) (FileWithin save_limit state (bytes_of state files)) _ (λ r. tt) (λ text _.
-    then_all (RestNames c) (SaveOutcome state text task.circuit task.input.end) _ (λ r. tt) (λ moment _ p e. subst (RestNames c) (sym e) (command_names c files (Ok task) run))))
+    then_value (RestNames c) (CommandOutcome c files) _ (λ task run.
+    then_value (RestNames c) (FileWithin save_limit state (bytes_of state files)) _ (λ text _.
+    then_value (RestNames c) (SaveOutcome state text task.circuit task.input.end) _ (λ moment _ p e. subst (OfValue (RestNames c)) (sym e) (command_names c files (Ok task) run))))
 
-run_made : (c : Command) (p : Result Task Refusal) → Names c p → AreMadeAs (c.vcd ∷ []) (answer_of p).made
+run_made : (c : Command) (p : Result Task Refusal) → OfValue (Names c) p → AreMadeAs (c.vcd ∷ []) (answer_of p).made
 run_made c (Ok task) n = (n, tt)
 run_made c (Err r) n = tt
 
@@ -48,7 +40,7 @@ stopped_made : (c : Command) (task : Task) (s : Stop) (spent : Option (ℕ × Op
 stopped_made c task s None n = saved_made c task s (nat_lt most_bytes (length (saved_of task s))) n
 stopped_made c task s (Some spent) n = (n, tt)
 
-stop_made : (c : Command) (s : Stop) (p : Result Task Refusal) → Names c p → AreMadeAs (c.vcd ∷ s.save ∷ []) (stop_answer s p).made
+stop_made : (c : Command) (s : Stop) (p : Result Task Refusal) → OfValue (Names c) p → AreMadeAs (c.vcd ∷ s.save ∷ []) (stop_answer s p).made
 stop_made c s (Err r) n = tt
 stop_made c s (Ok task) n = by (nat_lt s.time task.input.end)
   where
@@ -56,7 +48,7 @@ stop_made c s (Ok task) n = by (nat_lt s.time task.input.end)
     by true = stopped_made c task s (stopped_of task s).spent n
     by false = (n, tt)
 
-rest_made : (c : Command) (p : Result Rest Refusal) → RestNames c p → AreMadeAs (c.vcd ∷ []) (rest_answer p).made
+rest_made : (c : Command) (p : Result Rest Refusal) → OfValue (RestNames c) p → AreMadeAs (c.vcd ∷ []) (rest_answer p).made
 rest_made c (Ok rest) n = (n, tt)
 rest_made c (Err r) n = tt
 

@@ -1,5 +1,5 @@
 -- A run that goes on from the save of a stopped one: both dumps are that of the whole run, and so are the violations.
-use Rattle.std.proofs.Common.{◌≡◌, ◌∙◌, refl, sym, ap, subst, List, [], ◌∷◌, ◌++◌, ℕ, ◌<◌, ◌≤◌, All, drop, length, append_assoc, Bool, true, false, arith}
+use Rattle.std.proofs.Common.{◌≡◌, ◌∙◌, refl, sym, ap, subst, List, [], ◌∷◌, ◌++◌, ℕ, ◌<◌, ◌≤◌, ◌^◌, All, drop, length, append_assoc, Bool, true, false, arith}
 use Rattle.std.proofs.lemmas.Bool.{ltb-false}
 use Rattle.std.proofs.lemmas.List.{take_all}
 use Rattle.std.specs.Prelude.{Some, None, Ok, nat_lt}
@@ -13,7 +13,9 @@ use Rattle.sim_times.specs.Times.{count_shown}
 use Rattle.time_checks.proofs.LaterLaws.{same-violations, same-latest}
 use Rattle.sim_rounds.proofs.MomentsFit.{moments_fit}
 use Rattle.sim_rounds.specs.Moments.{Fits, Moment, moment_after, snapshot_of}
-use Rattle.sim_save.specs.Faults.{most_bytes}
+use Rattle.sim_save.proofs.ReadLaws.{is_power, numbers_of}
+use Rattle.sim_save.specs.Faults.{AreNumbers, most_bytes}
+use Rattle.written_reading.specs.Named.{IsTick}
 use Rattle.run_words.specs.Words.{a_rest, Command, Stop, asked_of}
 use Rattle.wave_out.specs.Scopes.{variables_of}
 use Rattle.wave_out.specs.Vcd.{dump, dump_text, end_line, ending, first_block, header, vcd_begun, vcd_body, vcd_rest, vcd_text}
@@ -26,6 +28,7 @@ use Rattle.signoff_top.specs.Phases.{CommandOutcome, FileWithin, Rest, RestOutco
 use Rattle.signoff_top.specs.Promises.{MakesWhole, ResumesWhole}
 use Rattle.signoff_top.proofs.OneAnswer.{one_rest}
 use Rattle.signoff_top.proofs.Stopped.{stop_reached}
+use Rattle.signoff_top.proofs.Ticks.{command_tick}
 
 -- The dumps of a run up to a stop and of its rest are the dump of the whole.
 pub whole_dump : (circuit : Circuit) (end : ℕ) (last : Snapshot) (later older : List Snapshot) (whole begun rest : Finished) → whole.spent ≡ None → rest.spent ≡ None → lasts whole.run.snapshots ≡ later ++ last ∷ older
@@ -70,12 +73,18 @@ module _ (task : Task) (s : Stop) (closed : IsClosed task.circuit) (applied : Is
   fits : Fits task.circuit (moment_at task s)
   fits = (moments_fit.of_runs task.circuit task.input task.rounds s.time (count_shown (stopped_of task s).evaluations) closed applied before law.stopped).fits
 
+  numbers : IsTick task.circuit.tick → AreNumbers task.circuit.tick (length task.circuit.elements) (moment_at task s)
+  numbers tick =
+      let shown : count_shown (stopped_of task s).evaluations < 2 ^ 64 = omega arith in
+      let time : s.time < 2 ^ 64 = omega (arith, before, applied.fits) in
+      numbers_of task.circuit (moment_at task s) closed (is_power task.circuit.tick tick.least tick.greatest) fits time shown
+
   -- the save is read as the moment
   rest_read : (c : Command) (state : List ℕ) (files : List File) → CommandOutcome c files (Ok task) → bytes_of state files ≡ Some (saved_of task s) → length (saved_of task s) ≤ most_bytes → RestOutcome c state files (Ok (rest_at task s))
   rest_read c state files accepted held small =
       let read : FileWithin save_limit state (bytes_of state files) (Ok (saved_of task s)) =
       subst (λ o. FileWithin save_limit state o (Ok (saved_of task s))) (sym held) (ap Ok (sym (take_all save_limit (saved_of task s) (within_limit (length (saved_of task s)) small)))) in
-      goes_on task (Ok (rest_at task s)) accepted (goes_on (saved_of task s) (Ok (rest_at task s)) read (goes_on (moment_at task s) (Ok (rest_at task s)) (record { small = small; text = refl; fits = fits; before = before }) refl))
+      goes_on task (Ok (rest_at task s)) accepted (goes_on (saved_of task s) (Ok (rest_at task s)) read (goes_on (moment_at task s) (Ok (rest_at task s)) (record { small = small; text = refl; fits = fits; before = before; numbers = numbers (command_tick c files (Ok task) accepted) }) refl))
 
   both_dumps : vcd_begun task.circuit (stopped_of task s) ++ rest_dump (rest_at task s) ≡ dump_of task
   both_dumps =
