@@ -58,4 +58,5 @@ spares (refusal.Netlist n l k) name line kind e = tt
 spares (refusal.Sdf n l f) name line kind e = tt
 spares (refusal.Stimulus n l k) name line kind e = tt
 spares (refusal.Wave n l k) name line kind e = tt
+spares (refusal.Save n l k) name line kind e = tt
 spares (refusal.Unwritten k p) name line kind e = tt

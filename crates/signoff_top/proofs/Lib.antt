@@ -6,10 +6,17 @@ pub mod Entries
 pub mod FilesRead
 pub mod WordsRead
 pub mod CaseLaws
+pub mod Making
 pub mod Worked
+pub mod Stopped
 pub mod OnceLaws
+pub mod Agreeing
 pub mod OneAnswer
+pub mod Outcomes
+pub mod MadeNames
+pub mod Ticks
 pub mod ProgramWords
 pub mod Promised
+pub mod Resumed
 pub mod Examples
 pub mod Found

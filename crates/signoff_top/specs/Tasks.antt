@@ -5,7 +5,9 @@ use Rattle.wave_out.specs.Reporting.{unmatched_seen}
 use Rattle.signoff_top.specs.declared.annotation.Annotated as code_annotated
 use Rattle.signoff_top.specs.declared.phases.Task as code_task
 use Rattle.signoff_top.specs.declared.writing.Written as code_written
-use Rattle.signoff_top.specs.Phases.{Annotated, Task, Written}
+use Rattle.sim_rounds.specs.MomentsSeen.{moment_seen}
+use Rattle.signoff_top.specs.declared.stopping.Rest as code_rest
+use Rattle.signoff_top.specs.Phases.{Annotated, Rest, Task, Written}
 
 abbrev pub annotated_seen : code_annotated.Annotated → Annotated
 annotated_seen a = record { circuit = a.circuit; unmatched = map (unmatched_seen a.sdf.items) a.unmatched.items }
@@ -15,3 +17,6 @@ task_seen t = record { circuit = t.circuit; unmatched = map (unmatched_seen t.sd
 
 abbrev pub written_seen : code_written.Written → Written
 written_seen w = record { unmatched = (annotated_seen w.annotated).unmatched; text = w.text.items }
+
+abbrev pub rest_seen : code_rest.Rest → Rest
+rest_seen r = record { task = task_seen r.task; moment = moment_seen r.moment }

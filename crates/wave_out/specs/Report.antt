@@ -107,6 +107,11 @@ abbrev pub summary : ℕ → ℕ → ℕ → List ℕ
 summary violations unmatched end =
     line (codes "violations " ++ decimal violations) ++ line (codes "unannotated " ++ decimal unmatched) ++ line (codes "end " ++ decimal end)
 
+-- and of one that was stopped
+abbrev pub stopped_summary : ℕ → ℕ → ℕ → List ℕ
+stopped_summary violations unmatched time =
+    line (codes "violations " ++ decimal violations) ++ line (codes "unannotated " ++ decimal unmatched) ++ line (codes "stopped " ++ decimal time)
+
 -- the line of a time that was spent at a net
 abbrev pub named_net : Circuit → Option ℕ → List ℕ
 named_net circuit None = []
@@ -120,6 +125,10 @@ abbrev pub last_lines : Circuit → ℕ → ℕ → ℕ → Option (ℕ × Optio
 last_lines circuit violations unmatched end None = summary violations unmatched end
 last_lines circuit violations unmatched end (Some spent) = spent_line circuit spent.0 spent.1
 
+-- what comes before the last lines
+abbrev pub found_lines : Circuit → List Unmatched → List Violation → List ℕ
+found_lines circuit unmatched violations = flat_map unmatched_line unmatched ++ flat_map (zeroed_line circuit) circuit.zeroed ++ flat_map (violation_line circuit) violations
+
 -- the whole text, from what a run comes to
 unfoldable pub report_lines : Circuit → List Unmatched → List Violation → ℕ → Option (ℕ × Option ℕ) → List ℕ
 report_lines circuit unmatched violations end spent =
@@ -128,3 +137,8 @@ report_lines circuit unmatched violations end spent =
 
 abbrev pub report_text : Circuit → List Unmatched → ℕ → Finished → List ℕ
 report_text circuit unmatched end finished = report_lines circuit unmatched finished.run.violations end finished.spent
+
+-- the whole text of a run that was stopped after a time
+unfoldable pub stopped_lines : Circuit → List Unmatched → List Violation → ℕ → List ℕ
+stopped_lines circuit unmatched violations time =
+    found_lines circuit unmatched violations ++ stopped_summary (length violations) (length unmatched) time

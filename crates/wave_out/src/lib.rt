@@ -21,6 +21,6 @@ pub use laws::{
     the_rest_makes_the_whole,
 };
 pub use paths::{push_net, push_path};
-pub use report::{ReportEnd, Spent, spent_text, write_report};
+pub use report::{ReportEnd, Spent, spent_text, write_report, write_stopped};
 pub use unmatched::push_unmatched;
 pub use writer::{RestWriter, VcdWriter};

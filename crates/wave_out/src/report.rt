@@ -1,7 +1,7 @@
 // The report.
 ghost use Rattle.std.specs.Prelude.{◌≡◌, ◌++◌, Some, IfOk, OnOk, decimal, map};
 ghost use Rattle.time_checks.specs.Seen.{violation_seen};
-ghost use Rattle.wave_out.specs.Report.{last_lines, report_lines, spent_line, summary};
+ghost use Rattle.wave_out.specs.Report.{found_lines, last_lines, report_lines, spent_line, stopped_lines, stopped_summary, summary};
 ghost use Rattle.wave_out.specs.Reporting.{PutsMade, unmatched_seen};
 ghost use Rattle.wave_out.specs.Spent.{end_spent, end_time};
 ghost use Rattle.wave_out.specs.Texts.{line};
@@ -56,6 +56,20 @@ fn push_summary(
     push_count(text, "end ", end)
 }
 
+// Those of a run that was stopped.
+fn push_stopped(
+    text: &mut Vec<u8>,
+    violations: u64,
+    unmatched: u64,
+    time: u64,
+) -> Result<(), AllocError>
+    ensures { OnOk result (text.new.items ≡ text.old.items ++ stopped_summary violations unmatched time) }
+{
+    push_count(text, "violations ", violations)?;
+    push_count(text, "unannotated ", unmatched)?;
+    push_count(text, "stopped ", time)
+}
+
 // The time that was spent, and its net.
 fn push_spent(
     alloc: Global,
@@ -106,6 +120,22 @@ fn push_last(
     }
 }
 
+// What comes before the last lines.
+fn push_found(
+    alloc: Global,
+    text: &mut Vec<u8>,
+    circuit: &Circuit,
+    sdf: &[u8],
+    unmatched: &[Unmatched],
+    violations: &[Violation],
+) -> Result<(), AllocError>
+    ensures { OnOk result (text.new.items ≡ text.old.items ++ found_lines circuit.now (map (unmatched_seen sdf.now) unmatched.now) (map (λ v. violation_seen v) violations.now)) }
+{
+    push_unmatched(text, sdf, unmatched)?;
+    push_zeroed(alloc, text, circuit, &circuit.parts().zeroed)?;
+    push_violations(alloc, text, circuit, violations)
+}
+
 // The text of a report.
 fn report_of(
     alloc: Global,
@@ -118,9 +148,7 @@ fn report_of(
     ensures { IfOk result (λ text. text.items ≡ report_lines circuit.now (map (unmatched_seen sdf.now) unmatched.now) (map (λ v. violation_seen v) violations.now) (end_time end) (end_spent end)) }
 {
     let mut text = Vec::new(alloc);
-    push_unmatched(&mut text, sdf, unmatched)?;
-    push_zeroed(alloc, &mut text, circuit, &circuit.parts().zeroed)?;
-    push_violations(alloc, &mut text, circuit, violations)?;
+    push_found(alloc, &mut text, circuit, sdf, unmatched, violations)?;
     push_last(
         alloc,
         &mut text,
@@ -150,5 +178,43 @@ pub fn write_report<K: Sink>(
     ensures { PutsMade (report_lines circuit.now (map (unmatched_seen sdf.now) unmatched.now) (map (λ v. violation_seen v) violations.now) (end_time end) (end_spent end)) (K.told sink.old) (K.told sink.new) result }
 {
     let text = report_of(alloc, circuit, sdf, unmatched, violations, end)?;
+    sink.put(&text)
+}
+
+// The text of the report of a run that was stopped.
+fn stopped_of(
+    alloc: Global,
+    circuit: &Circuit,
+    sdf: &[u8],
+    unmatched: &[Unmatched],
+    violations: &[Violation],
+    time: u64,
+) -> Result<Vec<u8>, AllocError>
+    ensures { IfOk result (λ text. text.items ≡ stopped_lines circuit.now (map (unmatched_seen sdf.now) unmatched.now) (map (λ v. violation_seen v) violations.now) time) }
+{
+    let mut text = Vec::new(alloc);
+    push_found(alloc, &mut text, circuit, sdf, unmatched, violations)?;
+    push_stopped(
+        &mut text,
+        violations.len() as u64,
+        unmatched.len() as u64,
+        time,
+    )?;
+    Ok(text)
+}
+
+/// Puts the report of a run that was stopped after a time, in ticks: as `write_report`, with that time in place of the end.
+pub fn write_stopped<K: Sink>(
+    alloc: Global,
+    circuit: &Circuit,
+    sdf: &[u8],
+    unmatched: &[Unmatched],
+    violations: &[Violation],
+    time: u64,
+    sink: &mut K,
+) -> Result<(), ShelfError>
+    ensures { PutsMade (stopped_lines circuit.now (map (unmatched_seen sdf.now) unmatched.now) (map (λ v. violation_seen v) violations.now) time) (K.told sink.old) (K.told sink.new) result }
+{
+    let text = stopped_of(alloc, circuit, sdf, unmatched, violations, time)?;
     sink.put(&text)
 }

@@ -1,6 +1,7 @@
 use Rattle.std.proofs.Common.{subst}
 use Rattle.signoff_top.specs.Work.{TellsEnd}
 use Rattle.signoff_top.proofs.Promised.{outcome, headline, answer, exact, usage, kept, others, counted, run_end}
+use Rattle.signoff_top.proofs.Resumed.{resumes_whole}
 use Rattle.signoff_top.proofs.answer.top.Goals as goal
 
 pub returns-clause-outcome : goal.returns-clause-outcome
@@ -31,3 +32,6 @@ returns-clause-counted g c = counted _ _ _ _ _ _ (returns-clause-outcome g c)
 
 pub returns-clause-run_end : goal.returns-clause-run_end
 returns-clause-run_end g c = run_end _ _ _ _ _ _ (returns-clause-outcome g c)
+
+pub returns-clause-resumed : goal.returns-clause-resumed
+returns-clause-resumed g c = λ files _. resumes_whole _ files

@@ -1,7 +1,7 @@
 use Rattle.std.proofs.Common.{map, refl}
 use Rattle.std.specs.Prelude.{string_bytes}
 use Rattle.std.proofs.lemmas.Result.{err_from_is_err_and}
-use Rattle.run_words.specs.declared.words.Asked.TheVariants.{Run, Writing, Bounds, Case}
+use Rattle.run_words.specs.declared.words.Asked.TheVariants.{Run, Stop, Rest, Writing, Bounds, Case}
 use Rattle.signoff_top.specs.Work.{WorkLeaves}
 use Rattle.signoff_top.specs.declared.work.Done.{Done}
 use Rattle.signoff_top.proofs.Putting.{both_same}
@@ -23,6 +23,28 @@ returns-in-Run-clause-named g c =
 
 pub returns-in-Run-clause-words : goal.returns-in-Run-clause-words
 returns-in-Run-clause-words g c = words_spared Done (map (λ w. string_bytes w) c.args.words.now) c.in_ok-command.field-0 c.run_command.result c.in_ok-command.ensures.words c.run_command.ensures.words
+
+pub returns-in-Stop-clause-left : goal.returns-in-Stop-clause-left
+returns-in-Stop-clause-left g c =
+    let ws = map (λ w. string_bytes w) c.args.words.now in c.run_stopped.ensures.left ws (asked_is ws c.in_ok-command.field-0 (Stop c.in-Stop.command c.in-Stop.stop) c.in_ok-command.ensures.words c.in-Stop.is)
+
+pub returns-in-Stop-clause-named : goal.returns-in-Stop-clause-named
+returns-in-Stop-clause-named g c =
+    let ws = map (λ w. string_bytes w) c.args.words.now in c.run_stopped.ensures.named ws (asked_is ws c.in_ok-command.field-0 (Stop c.in-Stop.command c.in-Stop.stop) c.in_ok-command.ensures.words c.in-Stop.is)
+
+pub returns-in-Stop-clause-words : goal.returns-in-Stop-clause-words
+returns-in-Stop-clause-words g c = words_spared Done (map (λ w. string_bytes w) c.args.words.now) c.in_ok-command.field-0 c.run_stopped.result c.in_ok-command.ensures.words c.run_stopped.ensures.words
+
+pub returns-in-Rest-clause-left : goal.returns-in-Rest-clause-left
+returns-in-Rest-clause-left g c =
+    let ws = map (λ w. string_bytes w) c.args.words.now in c.run_rest.ensures.left ws (asked_is ws c.in_ok-command.field-0 (Rest c.in-Rest.command c.in-Rest.state) c.in_ok-command.ensures.words c.in-Rest.is)
+
+pub returns-in-Rest-clause-named : goal.returns-in-Rest-clause-named
+returns-in-Rest-clause-named g c =
+    let ws = map (λ w. string_bytes w) c.args.words.now in c.run_rest.ensures.named ws (asked_is ws c.in_ok-command.field-0 (Rest c.in-Rest.command c.in-Rest.state) c.in_ok-command.ensures.words c.in-Rest.is)
+
+pub returns-in-Rest-clause-words : goal.returns-in-Rest-clause-words
+returns-in-Rest-clause-words g c = words_spared Done (map (λ w. string_bytes w) c.args.words.now) c.in_ok-command.field-0 c.run_rest.result c.in_ok-command.ensures.words c.run_rest.ensures.words
 
 pub returns-in-Writing-clause-left : goal.returns-in-Writing-clause-left
 returns-in-Writing-clause-left g c =

@@ -1,5 +1,5 @@
 use Rattle.std.specs.Prelude.{◌-◌, ◌+◌, ◌≤◌, ◌==◌, List, [], ◌∷◌, length, map, take}
-use Rattle.std.proofs.Common.{◌≡◌, ℕ, true, ◌∙◌, sym, ap, subst, refl, arith}
+use Rattle.std.proofs.Common.{◌≡◌, ℕ, ◌∙◌, sym, ap, subst, arith}
 use Rattle.sg_logic.specs.declared.values.Value.{Value}
 use Rattle.sg_model.specs.Machine.{Machine, Violation}
 use Rattle.sg_stimulus.specs.Applied.{IsApplied}
@@ -9,7 +9,7 @@ use Rattle.sg_circuit.specs.Circuit.{Circuit}
 use Rattle.time_checks.specs.declared.latest.Latest.{Latest}
 use Rattle.time_checks.specs.Seen.{violation_seen}
 use Rattle.time_checks.specs.Violations.{latest_events}
-use Rattle.sim_times.specs.Runs.{HasEndedFrom, origin_of}
+use Rattle.sim_times.specs.Runs.{HasEndedFrom}
 use Rattle.sim_times.specs.Simulations.{kept_of}
 use Rattle.sim_times.specs.Times.{Kept}
 use Rattle.sim_rounds.specs.Engines.{AreChecksAt, IsEngineAt}

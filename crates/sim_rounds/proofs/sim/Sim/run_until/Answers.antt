@@ -1,32 +1,19 @@
-use Rattle.std.specs.Prelude.{◌-◌, ◌+◌, ◌≤◌, ◌<◌, ◌==◌, suc, List, [], ◌∷◌, length, map, take, None}
+use Rattle.std.specs.Prelude.{◌-◌, ◌+◌, ◌≤◌, [], length}
 use Rattle.std.proofs.Common.{◌≡◌, ℕ, true, ◌∙◌, sym, ap, subst, refl, arith}
-use Rattle.sg_logic.specs.declared.values.Value.{Value}
-use Rattle.sg_model.specs.Machine.{Machine, Snapshot, Violation}
-use Rattle.sg_model.specs.Run.{last_change, lasts}
-use Rattle.sg_model.specs.Time.{Run}
 use Rattle.sg_stimulus.specs.Applied.{IsApplied}
 use Rattle.sg_stimulus.specs.Seen.{stimulus_seen}
 use Rattle.sg_stimulus.specs.Stimulus.{Stimulus, sets_at}
 use Rattle.sg_circuit.specs.Circuit.{Circuit}
-use Rattle.time_checks.specs.declared.latest.Latest.{Latest}
-use Rattle.time_checks.specs.Adjusted.{adjusted_checks}
-use Rattle.time_checks.specs.Seen.{violation_seen}
 use Rattle.time_checks.specs.Violations.{latest_events}
-use Rattle.sim_times.specs.Runs.{IsOriginOf, Setting, changed_since, origin_of, run_from, times_to}
+use Rattle.sim_times.specs.Runs.{origin_of}
 use Rattle.sim_times.specs.Simulations.{kept_of, StandsBetween}
 use Rattle.sim_times.specs.Times.{Kept, count_shown}
 use Rattle.sim_rounds.specs.CircuitChecks.{HaveSeen}
 use Rattle.sim_rounds.specs.Engines.{AreChecksAt, IsEngineAt}
-use Rattle.sim_rounds.specs.Moments.{Fits, Moment, moment_of, snapshot_of, state_of}
-use Rattle.sim_rounds.specs.MomentsSeen.{moment_seen}
 use Rattle.sim_rounds.specs.Setting.{setting_of}
 use Rattle.sim_rounds.specs.Simulated.{first_state, machine_since}
-use Rattle.sim_rounds.specs.Stopping.{origin_at, setting_since}
-use Rattle.sim_times.proofs.TruthLaws.{told_none}
 use Rattle.sim_rounds.proofs.EngineLaws.{engine_ready, engine_stands}
 use Rattle.sim_rounds.proofs.MachineLaws.{lawful_since}
-use Rattle.sim_rounds.proofs.ResumedLaws.{begins_after, can_resume, told_moment}
-use Rattle.sim_rounds.proofs.SeenLaws.{all_covered}
 use Rattle.sim_rounds.proofs.SimLaws.{begins_first, can_begin}
 use Rattle.sim_rounds.proofs.StoppingLaws.{has_each, left_off, same_events, same_machine, then_so}
 use Rattle.sim_rounds.proofs.sim.Sim.run_until.Goals as goal
