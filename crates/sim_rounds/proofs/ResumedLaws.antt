@@ -86,7 +86,7 @@ since_none zero = refl
 since_none (suc last) = refl
 
 -- the run goes on after the moment
-pub begins_after : (circuit : Circuit) (end : ℕ) (m : Moment) (kept : Kept) → m.time < end → kept.told ≡ m.nets → kept.last ≡ m.last → IsOriginOf (m.time + 1) end kept (origin_at circuit end m)
+pub begins_after : (circuit : Circuit) (end : ℕ) (m : Moment) (kept : Kept) → m.time ≤ end → kept.told ≡ m.nets → kept.last ≡ m.last → IsOriginOf (m.time + 1) end kept (origin_at circuit end m)
 begins_after circuit end m kept before told last = record {
   is = record {
     left = let e : suc m.time + (end - m.time) ≡ suc end = omega arith in e;

@@ -89,15 +89,15 @@ returns-clause-stopped g c =
     let last : kept.last ≡ m.last = engine.last in
     let falls : m.time ≤ m.time + 1 = omega arith in
     let stood = engine_stands (m.time + 1) circuit m.latest (state_of circuit m) (snapshot_of m ∷ []) s.nets s.told s.work s.elements (g.A.Agenda.lists s.agenda) s.fan s.outputs.items s.violations.items s.evaluations s.ended s.checks.checks.now s.checks.checker s.checks.touched s.checks.named c.args.self.fits.latest (falls, tt) (all_covered m.nets s.checks.touched.list.items) k h engine.violations engine.evaluations engine.ended in
-    let after : m.time < stimulus.end = omega (arith, c.requires.from, c.requires.until) in
-    let begins = begins_after circuit stimulus.end m kept after told last in
+    let begins = begins_after circuit c.args.until m kept c.requires.from told last in
+    let within : c.args.until ≤ c.args.until = omega arith in
     let setting : Setting = setting_since circuit stimulus c.args.rounds m in
     let many : c.args.until - m.time ≡ suc c.args.until - suc m.time = omega arith in
     let law = c.moments_of_runs_fit.ensures.of_rests circuit stimulus c.args.rounds m c.args.until (count_shown (m.evaluations + taken)) c.recall_closed.ensures c.requires.stimulus c.args.self.fits c.requires.from c.requires.until in
-    let F : ℕ → Type 0 = λ x. Fits circuit (moment_of circuit m.latest c.args.until (run_from setting (origin_at circuit stimulus.end m) x).run (changed_since m.last (last_change m.nets (lasts (run_from setting (origin_at circuit stimulus.end m) x).run.snapshots))) (count_shown (m.evaluations + taken))) in
+    let F : ℕ → Type 0 = λ x. Fits circuit (moment_of circuit m.latest c.args.until (run_from setting (origin_at circuit c.args.until m) x).run (changed_since m.last (last_change m.nets (lasts (run_from setting (origin_at circuit c.args.until m) x).run.snapshots))) (count_shown (m.evaluations + taken))) in
     let w = g.W.Watch in
-    left_off w.stands w.broken c.args.watcher.now made.new.watcher c.args.shelf.now made.new.shelf circuit m.latest (machine_since s.elements.circuit s.elements.earlier) (sets_at stimulus.steps) (sets_at (stimulus_seen s.stimulus.now).steps) c.args.rounds (m.time + 1) c.args.until stimulus.end m.evaluations taken (state_of circuit m) (origin_at circuit stimulus.end m)
+    left_off w.stands w.broken c.args.watcher.now made.new.watcher c.args.shelf.now made.new.shelf circuit m.latest (machine_since s.elements.circuit s.elements.earlier) (sets_at stimulus.steps) (sets_at (stimulus_seen s.stimulus.now).steps) c.args.rounds (m.time + 1) c.args.until c.args.until m.evaluations taken (state_of circuit m) (origin_at circuit c.args.until m)
     (λ r. StandsBetween s.nets (g.A.Agenda.lists s.agenda) s.elements.states (HaveSeen s.checks.checker s.checks.touched s.nets.values.items) s.violations.items s.evaluations s.ended (m.time + 1) r) kept _
     n.nets (g.A.Agenda.lists n.agenda) n.elements.states n.checks.checker n.checks.touched n.violations.items n.evaluations n.ended n.last made.result c.stop.result
-    (same_machine circuit s.elements.circuit m.latest s.elements.earlier (machine_since s.elements.circuit s.elements.earlier) refl h.circuit_of h.earlier_of) (ap (λ x. sets_at (stimulus_seen x).steps) engine.stimulus) (omega (arith, c.requires.until)) begins stood made.ensures.made refl refl
-    (same_events circuit m.latest s.checks.checker.earlier n.checks.checker.earlier s.checks.checker.checks n.checks.checker.checks made.ensures.latest k.timings_are k.earlier) (λ unspent. subst F many (law (subst (λ x. (run_from setting (origin_at circuit stimulus.end m) x).spent ≡ None) (sym many) unspent)).fits) c.stop.ensures
+    (same_machine circuit s.elements.circuit m.latest s.elements.earlier (machine_since s.elements.circuit s.elements.earlier) refl h.circuit_of h.earlier_of) (ap (λ x. sets_at (stimulus_seen x).steps) engine.stimulus) within begins stood made.ensures.made refl refl
+    (same_events circuit m.latest s.checks.checker.earlier n.checks.checker.earlier s.checks.checker.checks n.checks.checker.checks made.ensures.latest k.timings_are k.earlier) (λ unspent. subst F many (law (subst (λ x. (run_from setting (origin_at circuit c.args.until m) x).spent ≡ None) (sym many) unspent)).fits) c.stop.ensures

@@ -73,11 +73,12 @@ returns-clause-stopped g c =
     let told : kept.told ≡ (first_state circuit).values = h.values_told ∙ h.values in
     let last : kept.last ≡ 0 = engine.last in
     let stood = engine_stands 0 circuit [] (first_state circuit) [] s.nets s.told s.work s.elements (g.A.Agenda.lists s.agenda) s.fan s.outputs.items s.violations.items s.evaluations s.ended s.checks.checks.now s.checks.checker s.checks.touched s.checks.named refl tt tt k h engine.violations engine.evaluations engine.ended in
-    let begins = begins_first circuit stimulus c.args.rounds kept told last in
+    let begins = begins_first circuit (record stimulus { end = c.args.until }) c.args.rounds kept told last in
+    let within : c.args.until ≤ c.args.until = omega arith in
     let law = c.moments_of_runs_fit.ensures.of_runs circuit stimulus c.args.rounds c.args.until (count_shown (0 + taken)) c.recall_closed.ensures c.requires.stimulus c.requires.until in
     let w = g.W.Watch in
-    left_off w.stands w.broken c.args.watcher.now made.new.watcher c.args.shelf.now made.new.shelf circuit [] (machine_since s.elements.circuit s.elements.earlier) (sets_at stimulus.steps) (sets_at (stimulus_seen s.stimulus.now).steps) c.args.rounds 0 c.args.until stimulus.end 0 taken (first_state circuit) (origin_of (setting_of circuit stimulus c.args.rounds))
+    left_off w.stands w.broken c.args.watcher.now made.new.watcher c.args.shelf.now made.new.shelf circuit [] (machine_since s.elements.circuit s.elements.earlier) (sets_at stimulus.steps) (sets_at (stimulus_seen s.stimulus.now).steps) c.args.rounds 0 c.args.until c.args.until 0 taken (first_state circuit) (origin_of (setting_of circuit (record stimulus { end = c.args.until }) c.args.rounds))
     (λ r. StandsBetween s.nets (g.A.Agenda.lists s.agenda) s.elements.states (HaveSeen s.checks.checker s.checks.touched s.nets.values.items) s.violations.items s.evaluations s.ended 0 r) kept _
     n.nets (g.A.Agenda.lists n.agenda) n.elements.states n.checks.checker n.checks.touched n.violations.items n.evaluations n.ended n.last made.result c.stop.result
-    (same_machine circuit s.elements.circuit [] s.elements.earlier (machine_since s.elements.circuit s.elements.earlier) refl h.circuit_of h.earlier_of) (ap (λ x. sets_at (stimulus_seen x).steps) engine.stimulus) (omega (arith, c.requires.until)) begins stood made.ensures.made refl refl
+    (same_machine circuit s.elements.circuit [] s.elements.earlier (machine_since s.elements.circuit s.elements.earlier) refl h.circuit_of h.earlier_of) (ap (λ x. sets_at (stimulus_seen x).steps) engine.stimulus) within begins stood made.ensures.made refl refl
     (same_events circuit [] s.checks.checker.earlier n.checks.checker.earlier s.checks.checker.checks n.checks.checker.checks made.ensures.latest k.timings_are k.earlier) (λ unspent. (law unspent).fits) c.stop.ensures
