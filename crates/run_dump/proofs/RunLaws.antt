@@ -20,10 +20,10 @@ use Rattle.sim_times.specs.declared.runs.SimEnd.{SimEnd}
 use Rattle.sim_times.specs.declared.runs.SimEnd.TheVariants.{RoundsSpent, WatchFailed, NoMemory}
 use Rattle.wave_out.specs.Files.{FileBegins, FileHolds, KeepsOthers, Leaves}
 use Rattle.wave_out.specs.Scopes.{variables_of}
-use Rattle.wave_out.specs.Spent.{spent_seen}
+use Rattle.run_report.specs.Spent.{spent_seen}
 use Rattle.wave_out.specs.Vcd.{header, vcd_body, vcd_text}
 use Rattle.wave_out.specs.Writing.{Holds, Writer, text_after}
-use Rattle.wave_out.specs.declared.report.Spent as code_spent
+use Rattle.run_report.specs.declared.report.Spent as code_spent
 use Rattle.wave_out.proofs.DumpLaws.{begun_run, spent_whole, whole_run}
 use Rattle.wave_out.proofs.FileLaws.{begins_more, told_before}
 use Rattle.wave_out.proofs.RunLaws.{spent_run}

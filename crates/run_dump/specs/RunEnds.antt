@@ -19,7 +19,7 @@ use Rattle.sim_rounds.specs.Stopping.{HasStopped}
 use Rattle.sim_rounds.specs.declared.sim.Finished as code_finished
 use Rattle.sim_rounds.specs.declared.stops.Until.{Until}
 use Rattle.sim_rounds.specs.declared.stops.Until.TheVariants.{Ended, Paused}
-use Rattle.wave_out.specs.declared.report.Spent as code_spent
+use Rattle.run_report.specs.declared.report.Spent as code_spent
 use Rattle.run_dump.specs.declared.run.RunEnd as code_end
 use Rattle.run_dump.specs.declared.stops.StopEnd as code_stop
 use Rattle.run_dump.specs.declared.stops.Reached as code_reached

@@ -11,11 +11,12 @@ ghost use Rattle.sim_times.specs.Times.{count_shown};
 ghost use Rattle.sim_rounds.specs.Setting.{setting_of};
 ghost use Rattle.sim_rounds.specs.Simulated.{run_of_circuit};
 ghost use Rattle.wave_out.specs.Files.{Leaves};
-ghost use Rattle.wave_out.specs.Spent.{spent_seen};
+ghost use Rattle.run_report.specs.Spent.{spent_seen};
 ghost use Rattle.wave_out.specs.Vcd.{vcd_text};
 ghost use Rattle.run_dump.specs.RunEnds.{HasSimulated, IsSpent, end_in, spent_in, violations_of, WatcherFails};
 
 use event_wheel::Wheel;
+use run_report::Spent;
 use sg_circuit::Circuit;
 use sg_io::{MemoryShelf, Shelf, ShelfError};
 use sg_steps::Steps;
@@ -27,7 +28,7 @@ use std::alloc::Global;
 use std::marker::Brand;
 use std::sync::ledger::{Blank, Ledger};
 use time_checks::Violation;
-use wave_out::{Spent, VcdWriter};
+use wave_out::VcdWriter;
 
 /// What a run came to: the violations of the times that ended, and the time that needed more rounds than the bound, if
 /// there was one.

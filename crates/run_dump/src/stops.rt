@@ -11,11 +11,12 @@ ghost use Rattle.sim_rounds.specs.MomentsSeen.{moment_seen};
 ghost use Rattle.sim_rounds.specs.Setting.{setting_of};
 ghost use Rattle.sim_rounds.specs.Stopping.{end_of as end_until, origin_at, setting_since, told_of};
 ghost use Rattle.wave_out.specs.Files.{Leaves};
-ghost use Rattle.wave_out.specs.Spent.{spent_seen};
+ghost use Rattle.run_report.specs.Spent.{spent_seen};
 ghost use Rattle.wave_out.specs.Vcd.{vcd_begun, vcd_rest};
 ghost use Rattle.run_dump.specs.RunEnds.{HasReached, HasSimulatedFrom, HasSimulatedUntil, stop_in, violations_of};
 
 use crate::run::{RunEnd, end_of, spent_of, wheel_for};
+use run_report::Spent;
 use sg_circuit::Circuit;
 use sg_io::{Shelf, ShelfError};
 use sg_steps::Steps;
@@ -27,7 +28,7 @@ use std::alloc::Global;
 use std::marker::Brand;
 use std::sync::ledger::{Blank, Ledger};
 use time_checks::Violation;
-use wave_out::{RestWriter, Spent, VcdWriter};
+use wave_out::{RestWriter, VcdWriter};
 
 /// How far a run came that was to be stopped.
 #[derive(Debug, Drop)]

@@ -17,7 +17,7 @@ use Rattle.stim_read.proofs.OnceLaws as stimulus
 use Rattle.vcd_stim.proofs.OnceLaws as wave
 use Rattle.sim_save.proofs.OnceLaws as saved
 use Rattle.run_words.specs.Words.{Command, Design, Writing, Input, a_stimulus, a_wave, default_corner, file_of}
-use Rattle.wave_out.specs.Report.{Unmatched, path_of}
+use Rattle.run_report.specs.Report.{Unmatched, path_of}
 use Rattle.written_model.specs.Faults as written
 use Rattle.written_model.specs.declared.errors.WriteError.{WriteError}
 use Rattle.written_model.specs.declared.errors.WriteError.TheVariants as error

@@ -7,7 +7,8 @@ use Rattle.sg_circuit.specs.Circuit.{Circuit}
 use Rattle.sg_delay.specs.declared.corners.Corner.{Corner}
 use Rattle.sim_save.specs.declared.kinds.SaveKind.TheVariants as saved
 use Rattle.stim_read.specs.declared.kinds.StimKind.TheVariants as stim
-use Rattle.wave_out.specs.Texts.{line, line_of}
+use Rattle.wave_out.specs.Texts.{line}
+use Rattle.run_report.specs.Texts.{line_of}
 use Rattle.signoff_top.specs.Answer.{summary_lines}
 use Rattle.signoff_top.specs.Phases.{AnnotatedOutcome, FilesOutcome, goes_on, stops, missing, netlist, save, sdf, stimulus, refusal_line, refused_at, save_kind, sdf_kind, stimulus_kind, too_large_kind}
 

@@ -6,7 +6,7 @@ use Rattle.sg_io.specs.Faults.{Cause, Rises, Rose}
 use Rattle.sg_io.specs.Put.{SinkTold}
 use Rattle.sg_io.proofs.Tell.{both_told}
 use Rattle.sg_model.specs.Machine.{Violation}
-use Rattle.wave_out.specs.Spent.{spent_seen}
+use Rattle.run_report.specs.Spent.{spent_seen}
 use Rattle.run_dump.specs.RunEnds.{violations_of}
 use Rattle.run_words.specs.Words.{Asked, asked_of, made_in, names_in}
 use Rattle.signoff_top.specs.Answer.{Answer, IsAnswer, refusal_answer, status_of_run, fault_line}

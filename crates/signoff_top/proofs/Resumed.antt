@@ -20,7 +20,7 @@ use Rattle.run_words.specs.Words.{a_rest, Command, Stop, asked_of}
 use Rattle.wave_out.specs.Scopes.{variables_of}
 use Rattle.wave_out.specs.Vcd.{dump, dump_text, end_line, ending, first_block, header, vcd_begun, vcd_body, vcd_rest, vcd_text}
 use Rattle.wave_out.proofs.RestLaws.{rest_makes_whole}
-use Rattle.wave_out.specs.Report.{Unmatched}
+use Rattle.run_report.specs.Report.{Unmatched}
 use Rattle.rest_laws.proofs.RestLaws.{rest_is_the_rest}
 use Rattle.rest_laws.specs.Rests.{IsRest}
 use Rattle.signoff_top.specs.Answer.{Answer, IsAnswer, begun_dump, dump_of, rest_dump, rest_of, run_of, saved_answer, saved_of, stop_answer, stopped_of}

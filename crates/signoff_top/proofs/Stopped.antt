@@ -8,7 +8,7 @@ use Rattle.sim_save.specs.Faults.{most_bytes}
 use Rattle.sim_save.specs.Lines.{save_text}
 use Rattle.run_words.specs.Words.{Asked, a_rest, a_stop, Command, Stop, asked_of, names_in}
 use Rattle.wave_out.specs.Files.{LeavesPrefix}
-use Rattle.wave_out.specs.Report.{stopped_lines}
+use Rattle.run_report.specs.Report.{stopped_lines}
 use Rattle.signoff_top.specs.Answer.{Answer, FilesAfter, IsAnswer, answer_of, begun_dump, refusal_answer, rest_answer, rest_dump, saved_answer, saved_of, status_of_run, stop_answer, stopped_answer, stopped_of}
 use Rattle.signoff_top.specs.Phases.{RestOutcome, Task}
 use Rattle.signoff_top.specs.Promises.{KeepsBut, NamesFaultAt}

@@ -16,10 +16,10 @@ use Rattle.sdf_annotate.specs.declared.unmatched.Unmatched as code_unmatched
 use Rattle.sg_circuit.specs.Circuit.{Circuit}
 use Rattle.time_checks.specs.Seen.{violation_seen}
 use Rattle.time_checks.specs.declared.violations.Violation as code_violation
-use Rattle.wave_out.specs.declared.report.ReportEnd.{ReportEnd}
-use Rattle.wave_out.specs.Report.{report_lines, stopped_lines}
-use Rattle.wave_out.specs.Reporting.{PutsMade, unmatched_seen}
-use Rattle.wave_out.specs.Spent.{end_spent, end_time}
+use Rattle.run_report.specs.declared.report.ReportEnd.{ReportEnd}
+use Rattle.run_report.specs.Report.{report_lines, stopped_lines}
+use Rattle.run_report.specs.Reporting.{PutsMade, unmatched_seen}
+use Rattle.run_report.specs.Spent.{end_spent, end_time}
 use Rattle.signoff_top.proofs.Putting.{put_by}
 
 -- a text that was put, or for which there was no memory

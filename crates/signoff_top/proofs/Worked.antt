@@ -10,8 +10,8 @@ use Rattle.run_words.specs.Words.{Asked, a_run, a_stop, a_rest, a_writing, the_b
 use Rattle.run_words.specs.WordsSeen.{asked_seen}
 use Rattle.run_words.specs.declared.words.Asked as code_asked
 use Rattle.wave_out.specs.Files.{LeavesPrefix}
-use Rattle.wave_out.specs.Report.{report_lines, report_text}
-use Rattle.wave_out.specs.Spent.{spent_seen}
+use Rattle.run_report.specs.Report.{report_lines, report_text}
+use Rattle.run_report.specs.Spent.{spent_seen}
 use Rattle.run_dump.specs.RunEnds.{violations_of}
 use Rattle.signoff_top.specs.Answer.{Answer, FilesAfter, IsAnswer, IsAnswerFor, IsAnswerTo, answer_of, case_answer, case_lines, case_text, dump_of, last_of, refusal_answer, run_of, status_of_run, writing_answer, written_lines}
 use Rattle.signoff_top.specs.Phases.{Refusal, Task, WordsOutcome, CommandOutcome, DesignOutcome, CaseOutcome, Written, WritingOutcome, stops, words}

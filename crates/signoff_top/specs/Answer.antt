@@ -18,7 +18,7 @@ use Rattle.settle_bound.specs.Settling.{AreBounds}
 use Rattle.settle_report.specs.Texts.{bounds_text, cycle_text}
 use Rattle.wave_out.specs.Texts.{line}
 use Rattle.wave_out.specs.Vcd.{vcd_begun, vcd_rest, vcd_text}
-use Rattle.wave_out.specs.Report.{Unmatched, report_text, spent_line, stopped_lines, unmatched_line}
+use Rattle.run_report.specs.Report.{Unmatched, report_text, spent_line, stopped_lines, unmatched_line}
 use Rattle.signoff_top.specs.Phases.{Annotated, Refusal, Rest, Task, CaseOutcome, CommandOutcome, DesignOutcome, RestOutcome, Written, WritingOutcome, status_of_refusal, refusal_line, save, save_kind, words}
 use Rattle.signoff_top.specs.declared.status.Status.{Status}
 use Rattle.signoff_top.specs.declared.status.Status.TheVariants as status

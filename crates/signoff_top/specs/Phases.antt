@@ -9,8 +9,9 @@ use Rattle.sg_stimulus.specs.Stimulus.{Stimulus}
 use Rattle.sdf_tree.specs.Meant.{Sdf}
 use Rattle.annotation_model.specs.Annotated as annotation
 use Rattle.late_limits.specs.Adjusted.{IsAdjustedFrom}
-use Rattle.wave_out.specs.Report.{Unmatched, path_of}
-use Rattle.wave_out.specs.Texts.{line, line_of}
+use Rattle.run_report.specs.Report.{Unmatched, path_of}
+use Rattle.wave_out.specs.Texts.{line}
+use Rattle.run_report.specs.Texts.{line_of}
 use Rattle.run_words.specs.Words.{Command, Design, Writing, Input, a_stimulus, a_wave, default_corner, default_rounds, file_of}
 use Rattle.gen_case.specs.Case.{netlist_of, sdf_of, stimulus_of}
 use Rattle.netlist_read.specs.Kinds.{Kind, kind_text}

@@ -1,7 +1,7 @@
 -- The program's tasks as the definition sees them, and annotated circuits.
 use Rattle.std.specs.Prelude.{map}
 use Rattle.sg_stimulus.specs.Seen.{stimulus_seen}
-use Rattle.wave_out.specs.Reporting.{unmatched_seen}
+use Rattle.run_report.specs.Reporting.{unmatched_seen}
 use Rattle.signoff_top.specs.declared.annotation.Annotated as code_annotated
 use Rattle.signoff_top.specs.declared.phases.Task as code_task
 use Rattle.signoff_top.specs.declared.writing.Written as code_written

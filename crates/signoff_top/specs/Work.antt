@@ -9,8 +9,8 @@ use Rattle.sim_save.specs.Faults.{most_bytes}
 use Rattle.sim_save.specs.declared.kinds.SaveKind.TheVariants as saved_kind
 use Rattle.run_words.specs.Words.{Stop}
 use Rattle.signoff_top.specs.declared.work.StopDone as code_stopped
-use Rattle.wave_out.specs.Report.{report_lines, stopped_lines}
-use Rattle.wave_out.specs.Spent.{spent_seen}
+use Rattle.run_report.specs.Report.{report_lines, stopped_lines}
+use Rattle.run_report.specs.Spent.{spent_seen}
 use Rattle.time_checks.specs.Seen.{violation_seen}
 use Rattle.run_dump.specs.RunEnds.{violations_of}
 use Rattle.run_dump.specs.declared.run.QuietEnd as code_quiet

@@ -5,9 +5,9 @@ ghost use Rattle.sg_circuit.specs.Circuit.{Circuit};
 ghost use Rattle.sg_io.specs.Put.{SinkTold};
 ghost use Rattle.sg_model.specs.Machine.{Violation as ViolationSeen};
 ghost use Rattle.time_checks.specs.Seen.{violation_seen};
-ghost use Rattle.wave_out.specs.Report.{Unmatched, report_lines, stopped_lines};
-ghost use Rattle.wave_out.specs.Reporting.{PutsMade, unmatched_seen};
-ghost use Rattle.wave_out.specs.Spent.{end_spent, end_time, spent_seen};
+ghost use Rattle.run_report.specs.Report.{Unmatched, report_lines, stopped_lines};
+ghost use Rattle.run_report.specs.Reporting.{PutsMade, unmatched_seen};
+ghost use Rattle.run_report.specs.Spent.{end_spent, end_time, spent_seen};
 ghost use Rattle.wave_out.specs.Texts.{line};
 ghost use Rattle.signoff_top.specs.Answer.{fault_line, no_memory_line, status_of_run as end_status};
 ghost use Rattle.signoff_top.specs.Phases.{located_line, refusal_line, save, save_kind, sdf_kind, status_of_refusal, stimulus_kind, unwritten, wave_kind};
@@ -22,6 +22,7 @@ use crate::summary::case_text;
 use crate::work::{CaseDone, Done, RunDone, StopDone, UnsavedDone};
 use crate::writing::WritingDone;
 use itoa::Buffer;
+use run_report::{ReportEnd, Spent, write_report, write_stopped};
 use sdf_read::SdfKind;
 use sg_io::{ShelfError, Sink};
 use sim_save::SaveKind;
@@ -29,7 +30,6 @@ use std::alloc::{AllocError, Global};
 use stim_read::StimKind;
 use time_checks::Violation;
 use vcd_model::VcdKind;
-use wave_out::{ReportEnd, Spent, write_report, write_stopped};
 
 const USAGE: &str =
     "usage: signoff run NETLIST.. (--stim F | --wave F [--scope PATH]) --vcd F [--stop T --save F] [--sdf F] [--top NAME] [--corner min|typ|max] [--rounds N] [--wheel N] | signoff resume NETLIST.. --state F (--stim F | --wave F [--scope PATH]) --vcd F [--sdf F] [--top NAME] [--corner min|typ|max] [--rounds N] [--wheel N] | signoff annotate NETLIST.. --out F [--sdf F] [--top NAME] [--corner min|typ|max] | signoff settle NETLIST.. [--sdf F] [--top NAME] [--corner min|typ|max] | signoff gen N";
@@ -273,7 +273,7 @@ fn put_made<K: Sink>(report: &mut K, planned: Status, made: Result<Vec<u8>, Allo
 }
 
 // How a run ended, by the end of its stimulus and by the time that was spent, if there was one.
-#[tactic(auto, unfolding(wave_out::specs::Report::report_lines))]
+#[tactic(auto, unfolding(run_report::specs::Report::report_lines))]
 fn report_end(end: u64, spent: Option<Spent>) -> ReportEnd
     ensures { (c : Circuit) (us : List Unmatched) (vs : List ViolationSeen) → report_lines c us vs (end_time result) (end_spent result) ≡ report_lines c us vs end (spent_seen spent) }
 {
