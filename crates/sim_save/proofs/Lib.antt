@@ -12,5 +12,6 @@ pub mod CutLaws
 pub mod NumberLaws
 pub mod TakeLaws
 pub mod SectionLaws
+pub mod OnceLaws
 pub mod ReadLaws
 mod Examples

@@ -32,29 +32,19 @@ use Rattle.sim_rounds.specs.MomentsSeen.{moment_seen}
 use Rattle.sim_rounds.specs.declared.moments.Moment as code_moment
 use Rattle.sim_save.specs.Faults.{AreChanges, AreNumbers, FaultStands, IsBodyOf, IsNoBody, IsOfCircuit, IsPower, IsTime, at_end, at_line, bad, count_udps, damaged, lines_in, most_bytes, other, past, syntax, too_large}
 use Rattle.sim_save.specs.Lines.{body, joined, save_lines, save_text}
-use Rattle.sim_save.specs.Reading.{GivesBack, IsDamaged, IsRead, IsRefused, RefusalStands}
+use Rattle.sim_save.specs.Reading.{GivesBack, IsDamaged, IsRead, IsRefused, IsTextOf, RefusalStands}
 use Rattle.sim_save.specs.Refusing.{RefusesHalf, is_udp_kind}
 use Rattle.sim_save.specs.Steps.{EndsEarly, Head, IsChange, IsLatest}
 use Rattle.sim_save.specs.declared.kinds.SaveKind.{SaveKind}
 use Rattle.sim_save.specs.declared.kinds.SaveKind.TheVariants as save
-use Rattle.sim_save.proofs.BodyLaws.{lines_of_body}
 use Rattle.sim_save.proofs.CutLaws.{halves, no_text}
 use Rattle.sim_save.proofs.MomentLaws.{changes_cons}
-use Rattle.sim_save.proofs.SameLaws.{same_body}
+use Rattle.sim_save.proofs.OnceLaws.{of_circuit, read-is-faultless, read-once, udps_most}
 
 -- ---- a half
 
 pub left_within : (half : List ℕ) (left : ℕ) → EndsEarly Head half left → left ≤ length half
 left_within half left e = let n = ap length e.is in let m = length-append (joined e.lines) e.rest in omega (arith, n, m, e.many)
-
--- a text is twice one half alone
-pub one_half : (a b : List ℕ) → a ++ a ≡ b ++ b → a ≡ b
-one_half a b e =
-    let sizes = ap length e in
-    let first = length-append a a in
-    let second = length-append b b in
-    let size : length a ≡ length b = omega (arith, sizes, first, second) in
-    (halves a a b b size e).0
 
 -- an even text whose halves differ is twice nothing, and an odd one is
 pub no_half : (bytes first second : List ℕ) → bytes ≡ first ++ second → length first ≡ length bytes / 2 → (first ≡ second → ⊥) → (half : List ℕ) → bytes ≡ half ++ half → ⊥
@@ -132,7 +122,8 @@ pub is_read : (bytes half : List ℕ) (circuit : Circuit) (end : ℕ) (tick : �
     → IsRead bytes circuit end m
 is_read bytes half circuit end tick elements m small twice b same fit before =
     let one : half ≡ body circuit.tick (length circuit.elements) m = b.text ∙ (ap (λ t. body t elements m) same.tick ∙ ap (λ n. body circuit.tick n m) same.elements) in
-    record { small = small; text = twice ∙ ap (λ h. h ++ h) one; fits = fit; before = before; evaluations = b.numbers.evaluations }
+    let numbers : AreNumbers circuit.tick (length circuit.elements) m = subst (λ n. AreNumbers circuit.tick n m) same.elements (subst (λ t. AreNumbers t elements m) same.tick b.numbers) in
+    record { small = small; text = twice ∙ ap (λ h. h ++ h) one; fits = fit; before = before; numbers = numbers }
 
 -- ---- a text that isn't read
 
@@ -145,38 +136,6 @@ half_stands bytes half circuit end (refused.Fault kind place) small twice h =
 half_stands bytes half circuit end refused.NoMemory small twice h = tt
 
 -- ---- the numbers of a moment that fits a circuit
-
-states_length : {A : Type 0} (f : ℕ → A → Value) (k : ℕ) (xs : List A) → length (each_from f k xs) ≡ length xs
-states_length f k [] = refl
-states_length f k (x ∷ xs) = ap suc (states_length f (suc k) xs)
-
-udps_by : (test : Bool) (v : Value) (vs : List Value) (n : ℕ) → length vs ≡ n → length (if test then (v ∷ vs) else vs) ≡ (if test then suc n else n)
-udps_by true v vs n e = ap suc e
-udps_by false v vs n e = e
-
-most_by : (test : Bool) (n m : ℕ) → n ≤ m → (if test then suc n else n) ≤ suc m
-most_by true n m l = omega (arith, l)
-most_by false n m l = omega (arith, l)
-
-udps_of : (elements : List Element) (states : List Value) → length states ≡ length elements → length (udp_states elements states) ≡ count_udps elements
-udps_of [] states e = refl
-udps_of (x ∷ xs) [] e = absurd (omega (arith, e))
-udps_of (x ∷ xs) (v ∷ vs) e = let rest = udps_of xs vs (omega (arith, e)) in udps_by (is_udp x.kind) v (udp_states xs vs) (count_udps xs) rest
-
-udps_most : (elements : List Element) → count_udps elements ≤ length elements
-udps_most [] = omega arith
-udps_most (x ∷ xs) = let rest = udps_most xs in most_by (is_udp x.kind) (count_udps xs) (length xs) rest
-
-pub of_circuit : (circuit : Circuit) (m : Moment) → Fits circuit m → IsOfCircuit circuit circuit.tick (length circuit.elements) m
-of_circuit circuit m fit =
-    let states = each_from (computed_last m) 0 circuit.elements in
-    record {
-      tick = refl;
-      elements = refl;
-      nets = fit.nets;
-      udps = ap length fit.udps ∙ udps_of circuit.elements states (states_length (computed_last m) 0 circuit.elements);
-      checks = fit.checks;
-    }
 
 changes_from : (vs : List Value) (ss : List (Option Stamp)) → length vs ≡ length ss → ((i : ℕ) → i < length vs → IsChange (value_at vs i) (stamp_at ss i)) → AreChanges vs ss
 changes_from [] [] e h = tt
@@ -222,48 +181,15 @@ numbers_of circuit m closed power fit time evaluations =
 
 -- ---- the moment of a text is given back
 
-pub numbers_read : (bytes : List ℕ) (circuit : Circuit) (end : ℕ) (m : Moment) → IsClosed circuit → IsPower circuit.tick → end < 2 ^ 64 → IsRead bytes circuit end m → AreNumbers circuit.tick (length circuit.elements) m
-numbers_read bytes circuit end m closed power few h = numbers_of circuit m closed power h.fits (omega (arith, few, h.before)) h.evaluations
-
--- its half is the body of no other moment
-same_half : (bytes half : List ℕ) (circuit : Circuit) (end : ℕ) (m : Moment) (tick : ℤ) (elements : ℕ) (o : Moment) → AreNumbers circuit.tick (length circuit.elements) m → IsRead bytes circuit end m → bytes ≡ half ++ half → IsBodyOf half tick elements o
-    → (tick ≡ circuit.tick) × (elements ≡ length circuit.elements) × (o ≡ m)
-same_half bytes half circuit end m tick elements o n h twice b =
-    same_body tick circuit.tick elements (length circuit.elements) o m b.numbers n (sym b.text ∙ one_half half (body circuit.tick (length circuit.elements) m) (sym twice ∙ h.text))
-
--- and is a body
-no_syntax : (half : List ℕ) (circuit : Circuit) (m : Moment) (byte : ℕ) → AreNumbers circuit.tick (length circuit.elements) m → half ≡ body circuit.tick (length circuit.elements) m → IsNoBody half byte → ⊥
-no_syntax half circuit m byte n e (at_line before line after lines begun stop) =
-    let t = circuit.tick in
-    let k = length circuit.elements in
-    let all : lines_in half ≡ save_lines t k m = ap lines_in (e ∙ sym (append-nil (body t k m))) ∙ (lines_of_body t k m [] ∙ append-nil (save_lines t k m)) in
-    stop (record { tick = t; elements = k; moment = m; numbers = n; rest = after; is = sym all ∙ (lines ∙ sym (append_assoc before (line ∷ []) after)) })
-no_syntax half circuit m byte n e (at_end begun none) = none circuit.tick (length circuit.elements) m (record { text = e; numbers = n })
-
--- of the text of a moment no fault stands
-no_fault : (bytes : List ℕ) (circuit : Circuit) (end : ℕ) (m : Moment) (kind : SaveKind) (byte : ℕ) → AreNumbers circuit.tick (length circuit.elements) m → IsRead bytes circuit end m → FaultStands bytes circuit end kind byte → ⊥
-no_fault bytes circuit end m save.TooLarge byte n h (too_large l) = omega (arith, l, h.small)
-no_fault bytes circuit end m save.Damaged byte n h (damaged l differ) = differ (body circuit.tick (length circuit.elements) m) h.text
-no_fault bytes circuit end m save.Syntax byte n h (syntax l half same place none) = no_syntax half circuit m byte n (one_half half (body circuit.tick (length circuit.elements) m) (sym same ∙ h.text)) none
-no_fault bytes circuit end m save.OtherCircuit byte n h (other l half same_halves tick elements o b differ) =
-    let same = same_half bytes half circuit end m tick elements o n h same_halves b in
-    differ (subst (λ t. IsOfCircuit circuit t elements o) (sym same.0) (subst (λ k. IsOfCircuit circuit circuit.tick k o) (sym same.1) (subst (λ p. IsOfCircuit circuit circuit.tick (length circuit.elements) p) (sym same.2) (of_circuit circuit m h.fits))))
-no_fault bytes circuit end m save.BadMoment byte n h (bad l half same_halves tick elements o b k unfit) =
-    let same = same_half bytes half circuit end m tick elements o n h same_halves b in
-    unfit (subst (λ p. Fits circuit p) (sym same.2) h.fits)
-no_fault bytes circuit end m save.PastEnd byte n h (past l half same_halves tick elements o b k fit late) =
-    let same = same_half bytes half circuit end m tick elements o n h same_halves b in
-    let time : o.time ≡ m.time = ap (λ (p : Moment). p.time) same.2 in
-    omega (arith, late, h.before, time)
+-- in a circuit that is made each number of a moment that fits is in its type
+pub is_read_as : (bytes : List ℕ) (circuit : Circuit) (end : ℕ) (m : Moment) → IsClosed circuit → IsPower circuit.tick → end < 2 ^ 64 → IsTextOf bytes circuit end m → IsRead bytes circuit end m
+is_read_as bytes circuit end m closed power few h =
+    record { small = h.small; text = h.text; fits = h.fits; before = h.before; numbers = numbers_of circuit m closed power h.fits (omega (arith, few, h.before)) h.evaluations }
 
 pub gives_back : (bytes : List ℕ) (circuit : Circuit) (end : ℕ) (m : Moment) (r : Result code_moment.Moment (Refused SaveKind)) → IsClosed circuit → IsPower circuit.tick → end < 2 ^ 64
-    → MatchResult r (λ read. IsRead bytes circuit end (moment_seen read)) (λ e. RefusalStands bytes circuit end e) → IsRead bytes circuit end m → GivesBack m r
-gives_back bytes circuit end m (Ok read) closed power few h k =
-    let first = numbers_read bytes circuit end (moment_seen read) closed power few h in
-    let second = numbers_read bytes circuit end m closed power few k in
-    let count = length circuit.elements in
-    (same_body circuit.tick circuit.tick count count (moment_seen read) m first second (one_half (body circuit.tick count (moment_seen read)) (body circuit.tick count m) (sym h.text ∙ k.text))).2
-gives_back bytes circuit end m (Err (refused.Fault kind place)) closed power few h k = no_fault bytes circuit end m kind place.byte (numbers_read bytes circuit end m closed power few k) k h.0
+    → MatchResult r (λ read. IsRead bytes circuit end (moment_seen read)) (λ e. RefusalStands bytes circuit end e) → IsTextOf bytes circuit end m → GivesBack m r
+gives_back bytes circuit end m (Ok read) closed power few h k = read-once bytes circuit end (moment_seen read) m h (is_read_as bytes circuit end m closed power few k)
+gives_back bytes circuit end m (Err (refused.Fault kind place)) closed power few h k = read-is-faultless bytes circuit end m kind place.byte (is_read_as bytes circuit end m closed power few k) h.0
 gives_back bytes circuit end m (Err refused.NoMemory) closed power few h k = tt
 
 pub refuses_damage : (bytes : List ℕ) (circuit : Circuit) (end : ℕ) (m : Moment) (r : Result code_moment.Moment (Refused SaveKind))

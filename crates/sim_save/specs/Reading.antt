@@ -7,16 +7,24 @@ use Rattle.sim_rounds.specs.Moments.{Fits, Moment}
 use Rattle.sim_rounds.specs.MomentsSeen.{moment_seen}
 use Rattle.sim_rounds.specs.declared.moments.Moment as code_moment
 use Rattle.sim_save.specs.Lines.{save_text}
-use Rattle.sim_save.specs.Faults.{FaultStands, most_bytes}
+use Rattle.sim_save.specs.Faults.{AreNumbers, FaultStands, most_bytes}
 use Rattle.sim_save.specs.declared.kinds.SaveKind.{SaveKind}
 
 -- it is the text of a moment that fits the circuit and is before the end, with a number of evaluations in 64 bits
-pub record IsRead (bytes : List ℕ) (circuit : Circuit) (end : ℕ) (m : Moment) : Type 0 where
+pub record IsTextOf (bytes : List ℕ) (circuit : Circuit) (end : ℕ) (m : Moment) : Type 0 where
   pub small : length bytes ≤ most_bytes
   pub text : bytes ≡ save_text circuit m
   pub fits : Fits circuit m
   pub before : m.time < end
   pub evaluations : m.evaluations < 2 ^ 64
+
+-- and each of its numbers is in its type, as in every circuit that is made
+pub record IsRead (bytes : List ℕ) (circuit : Circuit) (end : ℕ) (m : Moment) : Type 0 where
+  pub small : length bytes ≤ most_bytes
+  pub text : bytes ≡ save_text circuit m
+  pub fits : Fits circuit m
+  pub before : m.time < end
+  pub numbers : AreNumbers circuit.tick (length circuit.elements) m
 
 -- the fault of a refusal is the first that stands
 abbrev pub RefusalStands : List ℕ → Circuit → ℕ → Refused SaveKind → Type 0

@@ -7,7 +7,7 @@ ghost use Rattle.sim_rounds.specs.Moments.{Fits, Moment as NetMoment};
 ghost use Rattle.sim_rounds.specs.MomentsSeen.{moment_seen};
 ghost use Rattle.sim_save.specs.Faults.{IsBodyOf, IsOfCircuit};
 ghost use Rattle.sim_save.specs.Lines.{save_text as text_of};
-ghost use Rattle.sim_save.specs.Reading.{GivesBack, IsDamaged, IsRead, IsRefused, RefusalStands};
+ghost use Rattle.sim_save.specs.Reading.{GivesBack, IsDamaged, IsRead, IsRefused, IsTextOf, RefusalStands};
 ghost use Rattle.sim_save.specs.Refusing.{RefusesHalf, is_udp_kind};
 ghost use Rattle.sim_save.specs.Steps.{Head, Stops};
 
@@ -132,7 +132,7 @@ pub fn read_save(
     ensures read { IfOk result (λ m. IsRead bytes.now circuit.now end (moment_seen m)) }
     ensures refused { IfErr result (λ r. RefusalStands bytes.now circuit.now end r) }
     // The text of a moment gives it back; a damaged text gives none.
-    ensures given_back { (m : NetMoment) → IsRead bytes.now circuit.now end m → GivesBack m result }
+    ensures given_back { (m : NetMoment) → IsTextOf bytes.now circuit.now end m → GivesBack m result }
     ensures damaged { (m : NetMoment) → Fits circuit.now m → IsDamaged (text_of circuit.now m) bytes.now → IsRefused result }
 {
     read_text(alloc, bytes, circuit, circuit.parts(), end)
