@@ -131,12 +131,7 @@ fn save_word(kind: SaveKind) -> &'static str
     }
 }
 
-fn save_refusal(
-    alloc: Global,
-    name: &str,
-    line: u64,
-    kind: SaveKind,
-) -> Result<Vec<u8>, AllocError>
+fn save_refusal(alloc: Global, name: &str, line: u64, kind: SaveKind) -> Result<Vec<u8>, AllocError>
     ensures { IfOk result (λ v. v.items ≡ refusal_line (save name.now line (save_kind kind))) }
 {
     located_text(

@@ -1,4 +1,4 @@
-use Rattle.std.specs.Prelude.{◌-◌, ◌+◌, ◌≤◌, ◌<◌, ◌==◌, suc, [], ◌∷◌, length, None}
+use Rattle.std.specs.Prelude.{◌-◌, ◌+◌, ◌≤◌, ◌==◌, suc, [], ◌∷◌, length, None}
 use Rattle.std.proofs.Common.{◌≡◌, ℕ, ◌∙◌, sym, ap, subst, refl, arith}
 use Rattle.sg_model.specs.Run.{last_change, lasts}
 use Rattle.sg_stimulus.specs.Applied.{IsApplied}
