@@ -1,7 +1,9 @@
 use Rattle.std.proofs.Common.{subst}
+use Rattle.signoff_top.specs.Tasks.{IsSound}
 use Rattle.signoff_top.specs.Work.{TellsEnd}
 use Rattle.signoff_top.proofs.Promised.{outcome, headline, answer, exact, usage, kept, others, counted, run_end}
 use Rattle.signoff_top.proofs.Resumed.{resumes_whole}
+use Rattle.signoff_top.proofs.Sound.{decided_sound}
 use Rattle.signoff_top.proofs.answer.top.Goals as goal
 
 pub returns-clause-outcome : goal.returns-clause-outcome
@@ -34,4 +36,7 @@ pub returns-clause-run_end : goal.returns-clause-run_end
 returns-clause-run_end g c = run_end _ _ _ _ _ _ (returns-clause-outcome g c)
 
 pub returns-clause-resumed : goal.returns-clause-resumed
-returns-clause-resumed g c = λ files _. resumes_whole _ files
+returns-clause-resumed g c = λ decided files e.
+    resumes_whole _ files (λ d state task asked k.
+    decided_sound (IsSound task) _ c.work-end.result _ _ c.tell.result (c.work-end.ensures.sound files d state task e asked k)
+    (subst (λ n. TellsEnd n c.work-end.result (g.K.Sink.told c.args.report.now) (g.K.Sink.told c.tell.new.report) c.tell.result) c.failed.ensures.last c.tell.ensures) decided)
