@@ -32,21 +32,21 @@ cut_again X Y P stop.Failed h = tt
 cut_again X Y P stop.NoMemory h = tt
 
 -- a command that is accepted isn't refused
-pub accepted : {X : Type 0} (P : Type 0) (c : Command) (files : List File) (task : Task) (s : code_stop.Stop) → Gives (λ t. task_seen t) (CommandOutcome c files) (Err s) → CommandOutcome c files (Ok task) → UnlessCut {X = X} P (Err s)
-accepted P c files task (stop.Refused r) h k = absurd (command_agree c files (Ok task) (Err (refusal_seen r)) k h.outcome)
-accepted P c files task stop.Failed h k = tt
-accepted P c files task stop.NoMemory h k = tt
+pub accepted : (X : Type 0) (P : Type 0) (c : Command) (files : List File) (task : Task) (s : code_stop.Stop) → Gives (λ t. task_seen t) (CommandOutcome c files) (Err s) → CommandOutcome c files (Ok task) → UnlessCut {X = X} P (Err s)
+accepted X P c files task (stop.Refused r) h k = absurd (command_agree c files (Ok task) (Err (refusal_seen r)) k h.outcome)
+accepted X P c files task stop.Failed h k = tt
+accepted X P c files task stop.NoMemory h k = tt
 
 -- the task that was read is the one that is accepted
 pub sound : (c : Command) (files : List File) (task : Task) (t : code_task.Task) → Gives (λ x. task_seen x) (CommandOutcome c files) (Ok t) → CommandOutcome c files (Ok task) → IsClosed t.circuit → IsApplied t.circuit (stimulus_seen t.input) → IsSound task
 sound c files task t h k closed applied = subst IsSound (command_agree c files (Ok (task_seen t)) (Ok task) h.outcome k) (closed, applied)
 
 -- words that ask for the rest of a run aren't refused
-pub not_refused : {X Y : Type 0} (view : X → Asked) (P : Type 0) (asked : Option Asked) (a : Asked) (s : code_stop.Stop) → asked ≡ Some a → Gives view (WordsOutcome asked) (Err s) → UnlessCut {X = Y} P (Err s)
-not_refused view P None a s e h = let k : ◌≡◌ {A = Option Asked} None (Some a) = e in absurd (cc)
-not_refused view P (Some b) a (stop.Refused r) e h = let k : ◌≡◌ {A = Result Asked Refusal} (Err (refusal_seen r)) (Ok b) = h.outcome in absurd (cc)
-not_refused view P (Some b) a stop.Failed e h = tt
-not_refused view P (Some b) a stop.NoMemory e h = tt
+pub not_refused : {X : Type 0} (Y : Type 0) (view : X → Asked) (P : Type 0) (asked : Option Asked) (a : Asked) (s : code_stop.Stop) → asked ≡ Some a → Gives view (WordsOutcome asked) (Err s) → UnlessCut {X = Y} P (Err s)
+not_refused Y view P None a s e h = let k : ◌≡◌ {A = Option Asked} None (Some a) = e in absurd (cc)
+not_refused Y view P (Some b) a (stop.Refused r) e h = let k : ◌≡◌ {A = Result Asked Refusal} (Err (refusal_seen r)) (Ok b) = h.outcome in absurd (cc)
+not_refused Y view P (Some b) a stop.Failed e h = tt
+not_refused Y view P (Some b) a stop.NoMemory e h = tt
 
 some-injective : (a b : Asked) → ◌≡◌ {A = Option Asked} (Some a) (Some b) → a ≡ b
 some-injective a b e = cc

@@ -63,7 +63,7 @@ returns-clause-before g c = c.in_ok-moment.ensures.gives.outcome.before
 pub returns-in_err-task-clause-sound : goal.returns-in_err-task-clause-sound
 returns-in_err-task-clause-sound g c =
     let p = err_from_is_err_and c.from_residual.result c.from_residual.ensures.1 in
-    λ files task e k. rw (p.1, p.2) (accepted {X = Rest} (IsSound task) (command_seen c.args.command.now) files task c.in_err-task.field-0.0 (c.in_err-task.ensures.gives files e) k)
+    λ files task e k. rw (p.1, p.2) (accepted Rest (IsSound task) (command_seen c.args.command.now) files task c.in_err-task.field-0.0 (c.in_err-task.ensures.gives files e) k)
 
 pub returns-in_err-text-clause-sound : goal.returns-in_err-text-clause-sound
 returns-in_err-text-clause-sound g c = λ files task e k.

@@ -84,7 +84,7 @@ returns-in-Case-clause-words g c = words_spared Done (map (λ w. string_bytes w)
 pub returns-in_err-command-clause-sound : goal.returns-in_err-command-clause-sound
 returns-in_err-command-clause-sound g c =
     let p = err_from_is_err_and c.from_residual.result c.from_residual.ensures.1 in
-    λ files d state task e asked k. rw (p.1, p.2) (not_refused {Y = Done} (λ x. asked_seen x) (IsSound task) _ (a_rest d state) c.in_err-command.field-0.0 asked c.in_err-command.ensures.gives)
+    λ files d state task e asked k. rw (p.1, p.2) (not_refused Done (λ x. asked_seen x) (IsSound task) _ (a_rest d state) c.in_err-command.field-0.0 asked c.in_err-command.ensures.gives)
 
 pub returns-in-Run-clause-sound : goal.returns-in-Run-clause-sound
 returns-in-Run-clause-sound g c =
