@@ -20,3 +20,4 @@ pub mod Promised
 pub mod Resumed
 pub mod Examples
 pub mod Found
+pub mod Sound

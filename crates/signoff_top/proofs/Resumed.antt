@@ -26,6 +26,7 @@ use Rattle.rest_laws.specs.Rests.{IsRest}
 use Rattle.signoff_top.specs.Answer.{Answer, IsAnswer, begun_dump, dump_of, rest_dump, rest_of, run_of, saved_answer, saved_of, stop_answer, stopped_of}
 use Rattle.signoff_top.specs.Phases.{CommandOutcome, FileWithin, Rest, RestOutcome, Task, goes_on, save_limit}
 use Rattle.signoff_top.specs.Promises.{MakesWhole, ResumesWhole}
+use Rattle.signoff_top.specs.Tasks.{IsSound}
 use Rattle.signoff_top.proofs.OneAnswer.{one_rest}
 use Rattle.signoff_top.proofs.Stopped.{stop_reached}
 use Rattle.signoff_top.proofs.Ticks.{command_tick}
@@ -108,8 +109,9 @@ makes_whole ws files c state task us vcd s file made answer asked accepted close
       violations = sym l.violations;
     }
 
-pub resumes_whole : (ws : List (List ℕ)) (files : List File) → ResumesWhole ws files
-resumes_whole ws files c state task file asked accepted closed applied unspent from answer right =
+pub resumes_whole : (ws : List (List ℕ)) (files : List File) → ((c : Command) (state : List ℕ) (task : Task) → asked_of ws ≡ Some (a_rest c state) → CommandOutcome c files (Ok task) → IsSound task) → ResumesWhole ws files
+resumes_whole ws files sound c state task file asked accepted unspent from answer right =
+    let made : IsSound task = sound c state task asked accepted in
     let first = from.first in
     let s = from.stop in
     let same : first ≡ earlier_of task first.unmatched first.vcd =
@@ -117,5 +119,5 @@ resumes_whole ws files c state task file asked accepted closed applied unspent f
     ∙ (ap (λ n. record { circuit = task.circuit; unmatched = first.unmatched; rounds = n; input = first.input; vcd = first.vcd }) from.rounds
     ∙ ap (λ i. record { circuit = task.circuit; unmatched = first.unmatched; rounds = task.rounds; input = i; vcd = first.vcd }) from.input) in
     subst (λ t. MakesWhole task file (stopped_of t s).run.violations answer) (sym same)
-    (makes_whole ws files c state task first.unmatched first.vcd s file from.made answer asked accepted closed applied unspent from.before
+    (makes_whole ws files c state task first.unmatched first.vcd s file from.made answer asked accepted made.0 made.1 unspent from.before
     (subst (λ t. (stop_answer s (Ok t)).made ≡ file ∷ from.made) same from.answer) from.was_saved (subst (λ t. bytes_of state files ≡ Some (saved_of t s)) same from.save) right)

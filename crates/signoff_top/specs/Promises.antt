@@ -5,8 +5,6 @@ use Rattle.sg_io.specs.Faults.{Rises}
 use Rattle.sg_io.specs.Files.{File, BothTell, HasAfter, bytes_of}
 use Rattle.sg_io.specs.Put.{SinkTold}
 use Rattle.sg_circuit.specs.Circuit.{Circuit}
-use Rattle.sg_circuit.specs.Closed.{IsClosed}
-use Rattle.sg_stimulus.specs.Applied.{IsApplied}
 use Rattle.sg_model.specs.Machine.{Violation}
 use Rattle.signoff_top.specs.Answer.{Answer, IsAnswer, FilesAfter, dump_of, fault_line, no_memory_line, report_fault_line, rest_answer, rest_dump, rest_of, run_of, saved_of, stop_answer, stopped_of}
 use Rattle.run_words.specs.Words.{Asked, Command, Design, Stop, a_rest, asked_of, command_of, design_of, file_of, names_in}
@@ -147,5 +145,5 @@ pub record MakesWhole (task : Task) (dump : File) (earlier : List Violation) (an
 
 -- where the whole run isn't spent
 abbrev pub ResumesWhole : List (List ℕ) → List File → Type 0
-ResumesWhole ws files = (c : Command) (state : List ℕ) (task : Task) (dump : File) → asked_of ws ≡ Some (a_rest c state) → CommandOutcome c files (Ok task) → IsClosed task.circuit → IsApplied task.circuit task.input → (run_of task).spent ≡ None
+ResumesWhole ws files = (c : Command) (state : List ℕ) (task : Task) (dump : File) → asked_of ws ≡ Some (a_rest c state) → CommandOutcome c files (Ok task) → (run_of task).spent ≡ None
     → (from : GoesOnFrom files c state task dump) → (answer : Answer) → IsAnswer ws files answer → MakesWhole task dump (stopped_of from.first from.stop).run.violations answer

@@ -60,6 +60,13 @@ IfFailed P (Err (stop.Refused r)) = Unit {0}
 IfFailed P (Err stop.Failed) = P
 IfFailed P (Err stop.NoMemory) = Unit {0}
 
+-- unless a call outside failed, or memory ran out
+abbrev pub UnlessCut : {X : Type 0} → Type 0 → Result X code_stop.Stop → Type 0
+UnlessCut P (Ok x) = P
+UnlessCut P (Err (stop.Refused r)) = P
+UnlessCut P (Err stop.Failed) = Unit {0}
+UnlessCut P (Err stop.NoMemory) = Unit {0}
+
 -- the shelf names one of these files in the last call that failed; where it tells its files, those before were read
 pub record FailsAtOne (names : List (List ℕ)) (held : Option (List File)) (last : Option (List ℕ)) : Type 0 where
   pub before : List (List ℕ)

@@ -54,7 +54,7 @@ pub fn top<S: Shelf, K: Sink>(
 
     // A run that goes on from a save: the dump and the violations of the stopped run, and those that are made now, are those of
     // the whole run.
-    ensures resumed { (files : List File) → S.files shelf.old ≡ Some files → ResumesWhole (map (λ w. string_bytes w) words.now) files }
+    ensures resumed { IsDecided result → (files : List File) → S.files shelf.old ≡ Some files → ResumesWhole (map (λ w. string_bytes w) words.now) files }
 
     // No fault of the shelf is passed over, and none of the sink at the end of a run.
     ensures counted { result ≢ Status.Fault → S.fault_count shelf.new ≡ S.fault_count shelf.old }

@@ -1,17 +1,18 @@
 // Runs that are stopped and saved, and runs that go on from a save.
-ghost use Rattle.std.specs.Prelude.{◌≡◌, ◌≤◌, ◌<◌, ℕ, List, Some, IfErr, IfOk, length, map};
+ghost use Rattle.std.specs.Prelude.{◌≡◌, ◌≤◌, ◌<◌, ℕ, List, Ok, Some, IfErr, IfOk, length, map};
 ghost use Rattle.sg_io.specs.Faults.{Cause};
 ghost use Rattle.sg_io.specs.Files.{File};
+ghost use Rattle.sg_circuit.specs.Closed.{IsClosed};
 ghost use Rattle.sg_stimulus.specs.Applied.{IsApplied};
 ghost use Rattle.sg_stimulus.specs.Seen.{stimulus_seen};
 ghost use Rattle.sim_rounds.specs.Moments.{Fits};
 ghost use Rattle.sim_rounds.specs.MomentsSeen.{moment_seen};
 ghost use Rattle.run_words.specs.Words.{a_rest, asked_of};
 ghost use Rattle.run_words.specs.WordsSeen.{command_seen};
-ghost use Rattle.signoff_top.specs.Phases.{RestOutcome, SaveOutcome};
+ghost use Rattle.signoff_top.specs.Phases.{CommandOutcome, RestOutcome, SaveOutcome, Task as TheTask};
 ghost use Rattle.signoff_top.specs.Promises.{NamesFaultAt};
-ghost use Rattle.signoff_top.specs.Stops.{Gives, IfFailed, NeverFails, SparesWords, end_of_phase};
-ghost use Rattle.signoff_top.specs.Tasks.{rest_seen};
+ghost use Rattle.signoff_top.specs.Stops.{Gives, IfFailed, NeverFails, SparesWords, UnlessCut, end_of_phase};
+ghost use Rattle.signoff_top.specs.Tasks.{IsSound, rest_seen};
 
 use crate::phases::{Task, file_within, task_of};
 use crate::stop::{Refusal, Stop};
@@ -55,6 +56,13 @@ fn save_phase<'a>(
     }
 }
 
+// The parts of a circuit fit together.
+fn recall_closed(circuit: &Circuit)
+    ensures { IsClosed circuit.now }
+{
+    let _ = circuit.parts();
+}
+
 /// All phases of the rest of a run up to it: those of the run, and the saved moment.
 pub fn rest_of<'a, S: Shelf>(
     alloc: Global,
@@ -66,6 +74,7 @@ pub fn rest_of<'a, S: Shelf>(
     requires some { 0 < length command.now.design.netlists.items }
     ensures gives { (files : List File) → S.files shelf.old ≡ Some files
         → Gives (λ r. rest_seen r) (RestOutcome (command_seen command.now) state.now files) result }
+    ensures sound { (files : List File) (task : TheTask) → S.files shelf.old ≡ Some files → CommandOutcome (command_seen command.now) files (Ok task) → UnlessCut (IsSound task) result }
     ensures applied { IfOk result (λ r. IsApplied r.task.circuit (stimulus_seen r.task.input)) }
     ensures ranges { IfOk result (λ r. (1 ≤ r.task.rounds) × (1 ≤ r.task.wheel) × (r.task.wheel ≤ 1048576)) }
     ensures fits { IfOk result (λ r. Fits r.task.circuit (moment_seen r.moment)) }
@@ -78,6 +87,7 @@ pub fn rest_of<'a, S: Shelf>(
     ensures vcd { IfOk result (λ r. r.task.vcd.now ≡ (command_seen command.now).vcd) }
 {
     let task = task_of(alloc, command, shelf)?;
+    recall_closed(&task.circuit);
     let text = file_within(alloc, shelf, state, SAVE_LIMIT)?;
     let moment = save_phase(alloc, state, &text, &task.circuit, task.input.end)?;
     Ok(Rest { task, moment })

@@ -4,10 +4,11 @@ use Rattle.std.specs.Global.{Vec}
 use Rattle.sim_rounds.specs.declared.moments.Moment.{Moment}
 use Rattle.run_words.specs.Words.{a_rest}
 use Rattle.run_words.specs.WordsSeen.{command_seen}
-use Rattle.signoff_top.specs.Tasks.{task_seen}
+use Rattle.signoff_top.specs.Tasks.{IsSound, task_seen}
 use Rattle.signoff_top.specs.declared.phases.Task.{Task}
 use Rattle.signoff_top.specs.declared.stopping.Rest.{Rest}
 use Rattle.signoff_top.proofs.Composed.{failed_again, failed_at_state, gives_stop, gives_then, unfailed}
+use Rattle.signoff_top.proofs.Sound.{accepted, sound, uncut}
 use Rattle.signoff_top.proofs.stopping.rest_of.Goals as goal
 
 pub returns-in_err-task-clause-gives : goal.returns-in_err-task-clause-gives
@@ -58,3 +59,20 @@ returns-clause-fits g c = c.in_ok-moment.ensures.gives.outcome.fits
 
 pub returns-clause-before : goal.returns-clause-before
 returns-clause-before g c = c.in_ok-moment.ensures.gives.outcome.before
+
+pub returns-in_err-task-clause-sound : goal.returns-in_err-task-clause-sound
+returns-in_err-task-clause-sound g c =
+    let p = err_from_is_err_and c.from_residual.result c.from_residual.ensures.1 in
+    λ files task e k. rw (p.1, p.2) (accepted Rest (IsSound task) (command_seen c.args.command.now) files task c.in_err-task.field-0.0 (c.in_err-task.ensures.gives files e) k)
+
+pub returns-in_err-text-clause-sound : goal.returns-in_err-text-clause-sound
+returns-in_err-text-clause-sound g c = λ files task e k.
+    uncut (IsSound task) c.from_residual-in_err-text.result (sound (command_seen c.args.command.now) files task c.in_ok-task.task (c.in_ok-task.ensures.gives files e) k c.recall_closed.ensures c.in_ok-task.ensures.applied)
+
+pub returns-in_err-moment-clause-sound : goal.returns-in_err-moment-clause-sound
+returns-in_err-moment-clause-sound g c = λ files task e k.
+    uncut (IsSound task) c.from_residual-in_err-moment.result (sound (command_seen c.args.command.now) files task c.in_ok-task.task (c.in_ok-task.ensures.gives files e) k c.recall_closed.ensures c.in_ok-task.ensures.applied)
+
+pub returns-clause-sound : goal.returns-clause-sound
+returns-clause-sound g c = λ files task e k.
+    sound (command_seen c.args.command.now) files task c.in_ok-task.task (c.in_ok-task.ensures.gives files e) k c.recall_closed.ensures c.in_ok-task.ensures.applied
