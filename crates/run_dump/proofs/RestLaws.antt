@@ -1,5 +1,5 @@
 -- What the rest of a run from a moment on leaves in the file of its dump is what the definition's has.
-use Rattle.std.proofs.Common.{◌≡◌, ap, refl, ℕ, ◌<◌, List, [], ◌++◌}
+use Rattle.std.proofs.Common.{◌≡◌, ap, refl, ℕ, ◌<◌, List, [], ◌++◌, arith}
 use Rattle.std.specs.Prelude.{Option, Some, Result}
 use Rattle.std.specs.Global.{Vec}
 use Rattle.sg_io.specs.Files.{File, BothTell, HasAfter}
@@ -34,7 +34,7 @@ BreaksInRest files = λ w s calls. BeginsRest w (files s) calls
 goes_on : (circuit : Circuit) (stimulus : Stimulus) (bound : ℕ) (m : Moment) → m.time < stimulus.end → GoesOnFrom (setting_since circuit stimulus bound m) (origin_at circuit stimulus.end m) (snapshot_of m)
 goes_on circuit stimulus bound m before =
     let kept : Kept = record { told = m.nets; latest = λ ss. []; violations = []; last = m.last; stimulus = stimulus } in
-    record { origin = (begins_after circuit stimulus.end m kept before refl refl).is; snapshots = refl; told = refl; first = refl; earlier = before }
+    record { origin = (begins_after circuit stimulus.end m kept (omega (arith, before)) refl refl).is; snapshots = refl; told = refl; first = refl; earlier = before }
 
 -- A new writer of a rest was told of the rest of a run.
 module _ {S : Type 0} (files : S → Option (List File)) (name : List ℕ) (circuit : Circuit) (stimulus : Stimulus) (bound : ℕ) (m : Moment) (before : m.time < stimulus.end) where

@@ -1,12 +1,19 @@
-use Rattle.std.proofs.Common.{refl}
+use Rattle.std.proofs.Common.{[], refl}
 use Rattle.std.specs.Prelude.{map}
+use Rattle.std.proofs.lemmas.Result.{err_from_is_err_and}
 use Rattle.sg_stimulus.specs.Seen.{stimulus_seen}
 use Rattle.sim_times.specs.Watching.{end_call}
 use Rattle.sim_rounds.specs.MomentsSeen.{moment_seen}
 use Rattle.time_checks.specs.Seen.{violation_seen}
+use Rattle.run_dump.proofs.FileLaws.{leaves_head}
 use Rattle.run_dump.proofs.RestLaws.{rest_left}
 use Rattle.run_dump.proofs.RunLaws.{end_spent, end_violations}
 use Rattle.run_dump.proofs.stops.resume_and_dump.Goals as goal
+
+pub returns-in_err-finished-clause-file : goal.returns-in_err-finished-clause-file
+returns-in_err-finished-clause-file g c =
+    rw (err_from_is_err_and c.from_residual-in_err-finished.result c.from_residual-in_err-finished.ensures.1).1
+    (leaves_head g.S.Shelf.files c.args.name.now [] _ _ _ c.new.new.shelf c.simulate_rest.new.shelf refl c.in_ok-writer.ensures.file c.in_err-finished.ensures.ended.1)
 
 pub returns-clause-spent : goal.returns-clause-spent
 returns-clause-spent g c = rw c.end_of.ensures (end_spent _ _ _ _ _ _ _ _ c.in_ok-finished.finished.tally.violations _ _ _ c.in_ok-finished.ensures.ended.1)
