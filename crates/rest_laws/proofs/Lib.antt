@@ -2,4 +2,4 @@
 mod Lasts
 mod Splits
 mod Alike
-mod RestLaws
+pub mod RestLaws

@@ -1,5 +1,5 @@
 // A run, from the first time to its value change dump's last line.
-ghost use Rattle.std.specs.Prelude.{◌≡◌, ◌<◌, ◌≤◌, [], IfOk, length, map};
+ghost use Rattle.std.specs.Prelude.{◌≡◌, ◌<◌, ◌≤◌, [], IfOk, length, map, replicate};
 ghost use Rattle.sg_io.specs.Faults.{Cause, NamesFault};
 ghost use Rattle.sg_io.specs.Files.{BothTell};
 ghost use Rattle.sg_stimulus.specs.Applied.{IsApplied};
@@ -11,11 +11,12 @@ ghost use Rattle.sim_times.specs.Times.{count_shown};
 ghost use Rattle.sim_rounds.specs.Setting.{setting_of};
 ghost use Rattle.sim_rounds.specs.Simulated.{run_of_circuit};
 ghost use Rattle.wave_out.specs.Files.{Leaves};
-ghost use Rattle.wave_out.specs.Spent.{spent_seen};
+ghost use Rattle.run_report.specs.Spent.{spent_seen};
 ghost use Rattle.wave_out.specs.Vcd.{vcd_text};
-ghost use Rattle.run_dump.specs.RunEnds.{HasSimulated, IsSpent, spent_in, violations_of, WatcherFails};
+ghost use Rattle.run_dump.specs.RunEnds.{HasSimulated, IsSpent, end_in, spent_in, violations_of, WatcherFails};
 
 use event_wheel::Wheel;
+use run_report::Spent;
 use sg_circuit::Circuit;
 use sg_io::{MemoryShelf, Shelf, ShelfError};
 use sg_steps::Steps;
@@ -27,7 +28,7 @@ use std::alloc::Global;
 use std::marker::Brand;
 use std::sync::ledger::{Blank, Ledger};
 use time_checks::Violation;
-use wave_out::{Spent, VcdWriter};
+use wave_out::VcdWriter;
 
 /// What a run came to: the violations of the times that ended, and the time that needed more rounds than the bound, if
 /// there was one.
@@ -35,6 +36,15 @@ use wave_out::{Spent, VcdWriter};
 pub struct RunEnd {
     pub violations: Vec<Violation>,
     pub spent: Option<Spent>,
+}
+
+// A wheel of so many buckets for the elements of a circuit, with nothing pending.
+pub(super) fn wheel_for(alloc: Global, circuit: &Circuit, buckets: u32) -> Result<Wheel, NoMemory>
+    requires some { 1 ≤ buckets }
+    requires most { buckets ≤ 1048576 }
+    ensures { IfOk result (λ wheel. wheel.lists ≡ replicate (length circuit.now.elements) []) }
+{
+    Wheel::new(alloc, buckets, circuit.parts().elements.len() as u32)
 }
 
 // The run of a circuit, told to a watcher. Without memory for the simulator nothing is called.
@@ -64,14 +74,14 @@ fn simulate<S: Shelf, W: Watch<S>, L: Ledger>(
     ensures circuit { W.circuit watcher.new ≡ W.circuit watcher.old }
     ensures keeps { IfOk result (λ _. W.keeps watcher.old shelf.old shelf.new) }
 {
-    let agenda = Wheel::new(alloc, buckets, circuit.parts().elements.len() as u32)?;
+    let agenda = wheel_for(alloc, circuit, buckets)?;
     let sim = Sim::new(alloc, circuit, agenda)?;
     let mut steps = Steps::<L>::new(blank);
     Ok(sim.run(stimulus, bound, shelf, watcher, &mut steps))
 }
 
 // The time that was spent, if the run came to an end.
-fn spent_of(end: Result<(), SimEnd>) -> Result<Option<Spent>, ShelfError>
+pub(super) fn spent_of(end: Result<(), SimEnd>) -> Result<Option<Spent>, ShelfError>
     ensures { result ≡ spent_in end }
 {
     match end {
@@ -80,6 +90,17 @@ fn spent_of(end: Result<(), SimEnd>) -> Result<Option<Spent>, ShelfError>
         Err(SimEnd::WatchFailed) => Err(ShelfError::Failed),
         Err(SimEnd::NoMemory) => Err(ShelfError::NoMemory),
     }
+}
+
+// What a run came to that was dumped.
+pub(super) fn end_of(finished: Finished) -> Result<RunEnd, ShelfError>
+    ensures { result ≡ end_in finished }
+{
+    let spent = spent_of(finished.end)?;
+    Ok(RunEnd {
+        violations: finished.tally.violations,
+        spent,
+    })
 }
 
 /// Simulates a circuit under a stimulus, with at most `bound` rounds a time, and writes the file `name`. The answer
@@ -124,11 +145,7 @@ pub fn run_and_dump<S: Shelf>(
         &mut writer,
         Blank::new(1),
     )?;
-    let spent = spent_of(finished.end)?;
-    Ok(RunEnd {
-        violations: finished.tally.violations,
-        spent,
-    })
+    end_of(finished)
 }
 
 // The time that was spent in a run whose watcher can't fail.

@@ -8,7 +8,7 @@ use std::process::ExitCode;
 use std::test::Fail;
 
 const USAGE: &str =
-    "usage: signoff run NETLIST.. (--stim F | --wave F [--scope PATH]) --vcd F [--sdf F] [--top NAME] [--corner min|typ|max] [--rounds N] [--wheel N] | signoff annotate NETLIST.. --out F [--sdf F] [--top NAME] [--corner min|typ|max] | signoff settle NETLIST.. [--sdf F] [--top NAME] [--corner min|typ|max] | signoff gen N\n";
+    "usage: signoff run NETLIST.. (--stim F | --wave F [--scope PATH]) --vcd F [--stop T --save F] [--sdf F] [--top NAME] [--corner min|typ|max] [--rounds N] [--wheel N] | signoff resume NETLIST.. --state F (--stim F | --wave F [--scope PATH]) --vcd F [--sdf F] [--top NAME] [--corner min|typ|max] [--rounds N] [--wheel N] | signoff annotate NETLIST.. --out F [--sdf F] [--top NAME] [--corner min|typ|max] | signoff settle NETLIST.. [--sdf F] [--top NAME] [--corner min|typ|max] | signoff gen N\n";
 
 fn words_of(alloc: Global, words: &[&str]) -> Result<Vec<String>, AllocError> {
     let mut all = Vec::new(alloc);

@@ -1,7 +1,7 @@
 -- Worked examples of the words.
 use Rattle.std.proofs.Common.{◌≡◌, [], ◌∷◌, Some, None, codes, refl}
 use Rattle.sg_delay.specs.declared.corners.Corner.TheVariants.{Max}
-use Rattle.run_words.specs.Words.{a_case, a_run, a_stimulus, a_wave, asked_of, default_corner, default_rounds, default_wheel, names_in, a_writing, the_bounds}
+use Rattle.run_words.specs.Words.{a_case, a_rest, a_run, a_stop, a_stimulus, a_wave, asked_of, default_corner, default_rounds, default_wheel, names_in, a_writing, the_bounds}
 
 -- `run --stim=s --vcd v -- -a.v`
 behind_the_end : asked_of (codes "run" ∷ codes "--stim=s" ∷ codes "--vcd" ∷ codes "v" ∷ codes "--" ∷ codes "-a.v" ∷ [])
@@ -126,3 +126,42 @@ delays_for_no_file = refl
 
 names_of_a_writing : names_in (asked_of (codes "annotate" ∷ codes "a.v" ∷ codes "--out" ∷ codes "o.sdf" ∷ codes "--sdf" ∷ codes "d" ∷ [])) ≡ codes "a.v" ∷ codes "d" ∷ codes "o.sdf" ∷ []
 names_of_a_writing = refl
+
+-- `run a.v --stim s --vcd v --stop 5000 --save f`, and its names; each of both options alone; a save that is the dump
+a_stopped_run : asked_of (codes "run" ∷ codes "a.v" ∷ codes "--stim" ∷ codes "s" ∷ codes "--vcd" ∷ codes "v" ∷ codes "--stop" ∷ codes "5000" ∷ codes "--save" ∷ codes "f" ∷ [])
+    ≡ Some (a_stop (record { design = record { netlists = codes "a.v" ∷ []; sdf = None; top = None; corner = default_corner }; input = a_stimulus (codes "s"); vcd = codes "v"; rounds = default_rounds; wheel = default_wheel }) (record { time = 5000; save = codes "f" }))
+a_stopped_run = refl
+
+names_of_a_stop : names_in (asked_of (codes "run" ∷ codes "a.v" ∷ codes "--stim" ∷ codes "s" ∷ codes "--vcd" ∷ codes "v" ∷ codes "--stop" ∷ codes "5000" ∷ codes "--save" ∷ codes "f" ∷ [])) ≡ codes "a.v" ∷ codes "s" ∷ codes "v" ∷ codes "f" ∷ []
+names_of_a_stop = refl
+
+stop_without_a_save : asked_of (codes "run" ∷ codes "a.v" ∷ codes "--stim" ∷ codes "s" ∷ codes "--vcd" ∷ codes "v" ∷ codes "--stop" ∷ codes "5000" ∷ []) ≡ None
+stop_without_a_save = refl
+
+save_without_a_stop : asked_of (codes "run" ∷ codes "a.v" ∷ codes "--stim" ∷ codes "s" ∷ codes "--vcd" ∷ codes "v" ∷ codes "--save" ∷ codes "f" ∷ []) ≡ None
+save_without_a_stop = refl
+
+saved_in_the_dump : asked_of (codes "run" ∷ codes "a.v" ∷ codes "--stim" ∷ codes "s" ∷ codes "--vcd" ∷ codes "v" ∷ codes "--stop" ∷ codes "5000" ∷ codes "--save" ∷ codes "v" ∷ []) ≡ None
+saved_in_the_dump = refl
+
+-- a time of nineteen digits, and one of eighteen zeros
+nineteen_digits : asked_of (codes "run" ∷ codes "a.v" ∷ codes "--stim" ∷ codes "s" ∷ codes "--vcd" ∷ codes "v" ∷ codes "--stop" ∷ codes "1234567890123456789" ∷ codes "--save" ∷ codes "f" ∷ []) ≡ None
+nineteen_digits = refl
+
+eighteen_zeros : asked_of (codes "run" ∷ codes "a.v" ∷ codes "--stim" ∷ codes "s" ∷ codes "--vcd" ∷ codes "v" ∷ codes "--stop" ∷ codes "000000000000000000" ∷ codes "--save" ∷ codes "f" ∷ [])
+    ≡ Some (a_stop (record { design = record { netlists = codes "a.v" ∷ []; sdf = None; top = None; corner = default_corner }; input = a_stimulus (codes "s"); vcd = codes "v"; rounds = default_rounds; wheel = default_wheel }) (record { time = 0; save = codes "f" }))
+eighteen_zeros = refl
+
+-- `resume a.v --state s --stim t --vcd v`, and its names; without a state; with a stop
+the_rest : asked_of (codes "resume" ∷ codes "a.v" ∷ codes "--state" ∷ codes "s" ∷ codes "--stim" ∷ codes "t" ∷ codes "--vcd" ∷ codes "v" ∷ [])
+    ≡ Some (a_rest (record { design = record { netlists = codes "a.v" ∷ []; sdf = None; top = None; corner = default_corner }; input = a_stimulus (codes "t"); vcd = codes "v"; rounds = default_rounds; wheel = default_wheel }) (codes "s"))
+the_rest = refl
+
+names_of_a_rest : names_in (asked_of (codes "resume" ∷ codes "a.v" ∷ codes "--state" ∷ codes "s" ∷ codes "--stim" ∷ codes "t" ∷ codes "--vcd" ∷ codes "v" ∷ [])) ≡ codes "a.v" ∷ codes "t" ∷ codes "s" ∷ codes "v" ∷ []
+names_of_a_rest = refl
+
+rest_of_no_state : asked_of (codes "resume" ∷ codes "a.v" ∷ codes "--stim" ∷ codes "t" ∷ codes "--vcd" ∷ codes "v" ∷ []) ≡ None
+rest_of_no_state = refl
+
+rest_with_a_stop : asked_of (codes "resume" ∷ codes "a.v" ∷ codes "--state" ∷ codes "s" ∷ codes "--stim" ∷ codes "t" ∷ codes "--vcd" ∷ codes "v" ∷ codes "--stop" ∷ codes "5000" ∷ codes "--save" ∷ codes "f" ∷ []) ≡ None
+rest_with_a_stop = refl

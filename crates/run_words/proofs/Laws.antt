@@ -7,9 +7,9 @@ use Rattle.std.proofs.lemmas.Bool.{leb-true}
 use Rattle.std.proofs.lemmas.Option.{same_Some}
 use Rattle.sg_delay.specs.declared.corners.Corner.{Corner}
 use Rattle.run_words.specs.declared.subcommands.Subcommand.{Subcommand}
-use Rattle.run_words.specs.declared.subcommands.Subcommand.TheVariants.{Run, Annotate, Settle}
-use Rattle.run_words.specs.Arguments.{Argument, arguments_of}
-use Rattle.run_words.specs.Words.{Asked, a_run, a_writing, the_bounds, a_case, Command, Design, Input, Writing, input_of, value_of, netlists_of, options_of, is_known, is_single, are_sound, corner_of, is_number, most_digits, number_up_to, default_corner, default_rounds, most_rounds, default_wheel, most_wheel, read_or, design_with, command_with, writing_with, asked_with, asked_from, subcommand_of, asked_by, case_of, asked_of}
+use Rattle.run_words.specs.declared.subcommands.Subcommand.TheVariants.{Run, Resume, Annotate, Settle}
+use Rattle.run_words.specs.Arguments.{Argument, arguments_of, is_text}
+use Rattle.run_words.specs.Words.{Asked, a_run, a_stop, a_rest, a_writing, the_bounds, a_case, Command, Design, Input, Stop, Writing, input_of, value_of, netlists_of, options_of, is_known, is_single, are_sound, corner_of, is_number, most_digits, number_up_to, default_corner, default_rounds, most_rounds, default_wheel, most_wheel, read_or, design_with, command_with, writing_with, stop_of, run_asked, asked_with, asked_from, subcommand_of, asked_by, case_of, asked_of}
 
 both : (a b : Bool) → (a && b) ≡ true → (a ≡ true) × (b ≡ true)
 both false b e = cc
@@ -19,9 +19,9 @@ when_some : {A : Type 0} (b : Bool) (x : Option A) (y : A) → cond b x None ≡
 when_some false x y e = cc
 when_some true x y e = (refl, e)
 
-then_some : {A B : Type 0} (f : A → Option B) (o : Option A) (y : B) → option_and_then f o ≡ Some y → (x : A) × (f x ≡ Some y)
+then_some : {A B : Type 0} (f : A → Option B) (o : Option A) (y : B) → option_and_then f o ≡ Some y → (x : A) × (o ≡ Some x) × (f x ≡ Some y)
 then_some f None y e = cc
-then_some f (Some x) y e = (x, e)
+then_some f (Some x) y e = (x, refl, e)
 
 Within : ℕ → Option ℕ → Type 0
 Within most o = IfSome o (λ n. (1 ≤ n) × (n ≤ most))
@@ -53,6 +53,8 @@ pub record IsRunFit (c : Command) : Type 0 where
 
 abbrev pub IsFit : Asked → Type 0
 IsFit (a_run c) = IsRunFit c
+IsFit (a_stop c stop) = IsRunFit c
+IsFit (a_rest c state) = IsRunFit c
 IsFit (a_writing w) = 1 ≤ length w.design.netlists
 IsFit (the_bounds d) = 1 ≤ length d.netlists
 IsFit (a_case stages) = Unit {0}
@@ -103,13 +105,32 @@ mapped : {A B : Type 0} (f : A → B) (o : Option A) (b : B) → option_map f o 
 mapped f None b e = cc
 mapped f (Some a) b e = (a, refl, same_Some (f a) b e)
 
-with_fit : (subcommand : Subcommand) (netlists : List (List ℕ)) (arguments : List Argument) (asked : Asked) → 1 ≤ length netlists → asked_with subcommand netlists arguments ≡ Some asked → IsFit asked
+-- the command of a run, its stop or its rest
+command_fit : (netlists : List (List ℕ)) (arguments : List Argument) (c : Command) → 1 ≤ length netlists → command_with netlists arguments ≡ Some c → IsRunFit c
 unfolding IsWithin
+command_fit netlists arguments c some e =
+    let within = run_within netlists arguments c e in
+    record { netlists = subst (λ (ns : List (List ℕ)). 1 ≤ length ns) (sym within.0) some; rounds = within.1; wheel = (within.2, within.3) }
+
+stop_fit : (c : Command) (stop : Option Stop) (asked : Asked) → IsRunFit c → run_asked c stop ≡ Some asked → IsFit asked
+stop_fit c None asked fit e = subst IsFit (same_Some (a_run c) asked e) fit
+stop_fit c (Some stop) asked fit e = by (is_text stop.save c.vcd) e
+  where
+    by : (same : Bool) → cond same None (Some (a_stop c stop)) ≡ Some asked → IsFit asked
+    by true e = cc
+    by false e = subst IsFit (same_Some (a_stop c stop) asked e) fit
+
+with_fit : (subcommand : Subcommand) (netlists : List (List ℕ)) (arguments : List Argument) (asked : Asked) → 1 ≤ length netlists → asked_with subcommand netlists arguments ≡ Some asked → IsFit asked
 with_fit Run netlists arguments asked some e =
-    let found = mapped a_run (command_with netlists arguments) asked e in
-    let within = run_within netlists arguments found.0 found.1 in
-    let fit : IsRunFit found.0 = record { netlists = subst (λ (ns : List (List ℕ)). 1 ≤ length ns) (sym within.0) some; rounds = within.1; wheel = (within.2, within.3) } in
-    subst IsFit found.2 fit
+    let stop = stop_of (value_of (codes "stop") arguments) (value_of (codes "save") arguments) in
+    let found = then_some (λ c. option_and_then (run_asked c) stop) (command_with netlists arguments) asked e in
+    let stopped = then_some (run_asked found.0) stop asked found.2 in
+    stop_fit found.0 stopped.0 asked (command_fit netlists arguments found.0 some found.1) stopped.2
+with_fit Resume netlists arguments asked some e =
+    let state = value_of (codes "state") arguments in
+    let found = then_some (λ c. option_and_then (λ s. Some (a_rest c s)) state) (command_with netlists arguments) asked e in
+    let given = then_some (λ s. Some (a_rest found.0 s)) state asked found.2 in
+    subst IsFit (same_Some (a_rest found.0 given.0) asked given.2) (command_fit netlists arguments found.0 some found.1)
 with_fit Annotate netlists arguments asked some e =
     let found = mapped a_writing (writing_with netlists arguments) asked e in
     let some : 1 ≤ length found.0.design.netlists = subst (λ (ns : List (List ℕ)). 1 ≤ length ns) (sym (writing_netlists netlists arguments found.0 found.1)) some in
@@ -130,8 +151,8 @@ by_fit : (words : List (List ℕ)) (asked : Asked) → asked_by words ≡ Some a
 by_fit [] asked e = cc
 by_fit (first ∷ words) asked e =
     let s = then_some (λ s. option_and_then (asked_from s) (arguments_of words)) (subcommand_of first) asked e in
-    let found = then_some (asked_from s.0) (arguments_of words) asked s.1 in
-    from_fit s.0 found.0 asked found.1
+    let found = then_some (asked_from s.0) (arguments_of words) asked s.2 in
+    from_fit s.0 found.0 asked found.2
 
 or_fit : (o : Option Asked) (q : Option ℕ) (asked : Asked) → ((a : Asked) → o ≡ Some a → IsFit a) → option_or o (option_map a_case q) ≡ Some asked → IsFit asked
 or_fit (Some a) q asked h e = h asked e

@@ -18,13 +18,15 @@ use Rattle.run_words.specs.contracts.designs.DesignPartialEq.TheImpl as design_e
 use Rattle.run_words.specs.declared.designs.Design.{Design}
 use Rattle.run_words.specs.contracts.designs.WritingPartialEq.TheImpl as writing_eq
 use Rattle.run_words.specs.declared.designs.Writing as code_writing
+use Rattle.run_words.specs.contracts.stops.StopPartialEq.TheImpl as stop_eq
+use Rattle.run_words.specs.declared.stops.Stop as code_stop
 use Rattle.run_words.specs.contracts.words.CommandPartialEq.TheImpl as command_eq
 use Rattle.run_words.specs.declared.words.Command.{Command}
 use Rattle.run_words.specs.contracts.words.AskedPartialEq.TheImpl as asked_eq
 use Rattle.run_words.specs.declared.words.Asked.{Asked}
 use Rattle.run_words.specs.declared.words.Asked.TheVariants as code_asked
 use Rattle.run_words.specs.Words.{a_run, a_writing, the_bounds, a_case, a_stimulus}
-use Rattle.run_words.specs.WordsSeen.{asked_seen, command_seen, design_seen, input_seen, writing_seen}
+use Rattle.run_words.specs.WordsSeen.{asked_seen, command_seen, design_seen, input_seen, stop_seen, writing_seen}
 use denote.Enum.Bare.{sameb}
 
 abbrev same_text : Bor (List ℕ) → Bor (List ℕ) → Bool
@@ -85,23 +87,49 @@ writing-Decides : (a b : code_writing.Writing) → Decides (writing_equal a b) (
 writing-Decides a b =
     Decides-like _ (λ h. cc) (λ same. (ap (λ w. w.design) same, ap (λ w. w.out) same)) (Decides-and _ _ (design-Decides a.design b.design) (bytes_eq-Decides a.out.now b.out.now))
 
+abbrev stop_equal : code_stop.Stop → code_stop.Stop → Bool
+stop_equal a b = stop_eq.eq-value.it a b
+
+stop-Decides : (a b : code_stop.Stop) → Decides (stop_equal a b) (stop_seen a ≡ stop_seen b)
+stop-Decides a b = Decides-like _ (λ h. cc) (λ same. (ap (λ s. s.time) same, ap (λ s. s.save) same)) (Decides-and _ _ (Decides-eqb a.time b.time) (bytes_eq-Decides a.save.now b.save.now))
+
 abbrev asked_equal : Asked → Asked → Bool
 asked_equal a b = asked_eq.eq-value.it a b
 
 asked-Decides : (a b : Asked) → Decides (asked_equal a b) (asked_seen a ≡ asked_seen b)
 asked-Decides (code_asked.Run c) (code_asked.Run d) = let same = command-Decides c d in (λ h. ap a_run (same.0 h), λ h. same.1 cc)
+asked-Decides (code_asked.Run c) (code_asked.Stop d t) = (λ h. cc, λ h. cc)
+asked-Decides (code_asked.Run c) (code_asked.Rest d t) = (λ h. cc, λ h. cc)
 asked-Decides (code_asked.Run c) (code_asked.Writing w) = (λ h. cc, λ h. cc)
 asked-Decides (code_asked.Run c) (code_asked.Bounds e) = (λ h. cc, λ h. cc)
 asked-Decides (code_asked.Run c) (code_asked.Case n) = (λ h. cc, λ h. cc)
+asked-Decides (code_asked.Stop c s) (code_asked.Run d) = (λ h. cc, λ h. cc)
+asked-Decides (code_asked.Stop c s) (code_asked.Stop d t) = Decides-like _ (λ h. cc) (λ same. (cc, cc)) (Decides-and _ _ (command-Decides c d) (stop-Decides s t))
+asked-Decides (code_asked.Stop c s) (code_asked.Rest d t) = (λ h. cc, λ h. cc)
+asked-Decides (code_asked.Stop c s) (code_asked.Writing w) = (λ h. cc, λ h. cc)
+asked-Decides (code_asked.Stop c s) (code_asked.Bounds e) = (λ h. cc, λ h. cc)
+asked-Decides (code_asked.Stop c s) (code_asked.Case n) = (λ h. cc, λ h. cc)
+asked-Decides (code_asked.Rest c s) (code_asked.Run d) = (λ h. cc, λ h. cc)
+asked-Decides (code_asked.Rest c s) (code_asked.Stop d t) = (λ h. cc, λ h. cc)
+asked-Decides (code_asked.Rest c s) (code_asked.Rest d t) = Decides-like _ (λ h. cc) (λ same. (cc, cc)) (Decides-and _ _ (command-Decides c d) (bytes_eq-Decides s.now t.now))
+asked-Decides (code_asked.Rest c s) (code_asked.Writing w) = (λ h. cc, λ h. cc)
+asked-Decides (code_asked.Rest c s) (code_asked.Bounds e) = (λ h. cc, λ h. cc)
+asked-Decides (code_asked.Rest c s) (code_asked.Case n) = (λ h. cc, λ h. cc)
 asked-Decides (code_asked.Writing v) (code_asked.Run d) = (λ h. cc, λ h. cc)
+asked-Decides (code_asked.Writing v) (code_asked.Stop d t) = (λ h. cc, λ h. cc)
+asked-Decides (code_asked.Writing v) (code_asked.Rest d t) = (λ h. cc, λ h. cc)
 asked-Decides (code_asked.Writing v) (code_asked.Writing w) = let same = writing-Decides v w in (λ h. ap a_writing (same.0 h), λ h. same.1 cc)
 asked-Decides (code_asked.Writing v) (code_asked.Bounds e) = (λ h. cc, λ h. cc)
 asked-Decides (code_asked.Writing v) (code_asked.Case n) = (λ h. cc, λ h. cc)
 asked-Decides (code_asked.Bounds d) (code_asked.Run d0) = (λ h. cc, λ h. cc)
+asked-Decides (code_asked.Bounds d) (code_asked.Stop d0 t0) = (λ h. cc, λ h. cc)
+asked-Decides (code_asked.Bounds d) (code_asked.Rest d0 t0) = (λ h. cc, λ h. cc)
 asked-Decides (code_asked.Bounds d) (code_asked.Writing w) = (λ h. cc, λ h. cc)
 asked-Decides (code_asked.Bounds d) (code_asked.Bounds e) = let same = design-Decides d e in (λ h. ap the_bounds (same.0 h), λ h. same.1 cc)
 asked-Decides (code_asked.Bounds d) (code_asked.Case n) = (λ h. cc, λ h. cc)
 asked-Decides (code_asked.Case m) (code_asked.Run d) = (λ h. cc, λ h. cc)
+asked-Decides (code_asked.Case m) (code_asked.Stop d t) = (λ h. cc, λ h. cc)
+asked-Decides (code_asked.Case m) (code_asked.Rest d t) = (λ h. cc, λ h. cc)
 asked-Decides (code_asked.Case m) (code_asked.Writing w) = (λ h. cc, λ h. cc)
 asked-Decides (code_asked.Case m) (code_asked.Bounds e) = (λ h. cc, λ h. cc)
 asked-Decides (code_asked.Case m) (code_asked.Case n) = let same = Decides-eqb m n in (λ h. ap a_case (same.0 h), λ h. same.1 cc)

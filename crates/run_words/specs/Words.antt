@@ -8,7 +8,7 @@ use Rattle.sg_delay.specs.declared.corners.Corner.{Corner}
 use Rattle.sg_delay.specs.declared.corners.Corner.TheVariants.{Min, Typ, Max}
 use Rattle.run_words.specs.Arguments.{Argument, setting, netlist, is_text, arguments_of}
 use Rattle.run_words.specs.declared.subcommands.Subcommand.{Subcommand}
-use Rattle.run_words.specs.declared.subcommands.Subcommand.TheVariants.{Run, Annotate, Settle}
+use Rattle.run_words.specs.declared.subcommands.Subcommand.TheVariants.{Run, Resume, Annotate, Settle}
 
 -- What drives the inputs: the file of a stimulus; or that of a value change dump, of which the scope of a path is taken. Where
 -- there is no path, it is the top's name.
@@ -34,6 +34,11 @@ pub record Command : Type 0 where
   pub vcd : List ℕ
   pub rounds : ℕ
   pub wheel : ℕ
+
+-- a run is stopped after a time, in ticks, and saved in a file
+pub record Stop : Type 0 where
+  pub time : ℕ
+  pub save : List ℕ
 
 infixl 10 ◌>>=◌
 abbrev pub ◌>>=◌ : {A B : Type 0} → Option A → (A → Option B) → Option B
@@ -62,7 +67,8 @@ netlists_of arguments = filter_map netlist_in arguments
 
 -- the options of a subcommand
 abbrev pub options_of : Subcommand → List (List ℕ)
-options_of Run = codes "stim" ∷ codes "wave" ∷ codes "scope" ∷ codes "vcd" ∷ codes "sdf" ∷ codes "top" ∷ codes "corner" ∷ codes "rounds" ∷ codes "wheel" ∷ []
+options_of Run = codes "stim" ∷ codes "wave" ∷ codes "scope" ∷ codes "vcd" ∷ codes "stop" ∷ codes "save" ∷ codes "sdf" ∷ codes "top" ∷ codes "corner" ∷ codes "rounds" ∷ codes "wheel" ∷ []
+options_of Resume = codes "state" ∷ codes "stim" ∷ codes "wave" ∷ codes "scope" ∷ codes "vcd" ∷ codes "sdf" ∷ codes "top" ∷ codes "corner" ∷ codes "rounds" ∷ codes "wheel" ∷ []
 options_of Annotate = codes "out" ∷ codes "sdf" ∷ codes "top" ∷ codes "corner" ∷ []
 options_of Settle = codes "sdf" ∷ codes "top" ∷ codes "corner" ∷ []
 
@@ -92,6 +98,14 @@ is_number digits text = list_all is_ascii_digit text && nat_le 1 (length text) &
 abbrev pub number_up_to : (digits most : ℕ) → List ℕ → Option ℕ
 number_up_to digits most text =
     if is_number digits text && nat_le 1 (digits_value 10 text) && nat_le (digits_value 10 text) most then Some (digits_value 10 text) else None
+
+-- a time of so many digits at most, in ticks
+abbrev pub time_within : (digits : ℕ) → List ℕ → Option ℕ
+time_within digits text = if is_number digits text then Some (digits_value 10 text) else None
+
+-- the digits of the time of a stop
+abbrev pub most_time_digits : ℕ
+most_time_digits = 18
 
 -- the digits of a number that an option has
 abbrev pub most_digits : ℕ
@@ -125,6 +139,13 @@ input_of (Some file) (Some other) scope = None
 input_of None (Some file) scope = Some (a_wave file scope)
 input_of None None scope = None
 
+-- a time and a file, or neither
+abbrev pub stop_of : (stop save : Option (List ℕ)) → Option (Option Stop)
+stop_of None None = Some None
+stop_of (Some text) (Some file) = option_map (λ time. Some (record { time = time; save = file })) (time_within most_time_digits text)
+stop_of None (Some file) = None
+stop_of (Some text) None = None
+
 -- what is asked of by sound arguments and their netlists
 abbrev pub design_with : List (List ℕ) → List Argument → Option Design
 design_with netlists arguments = do
@@ -152,15 +173,36 @@ writing_with netlists arguments = do
   out ← value_of (codes "out") arguments
   Some (record { design = design; out = out })
 
--- what words ask for: a run, the delays of a design as a file, the bounds of a design, or the run of a generated case
+-- what words ask for: a run; a run that is stopped; the rest of a run, from the moment in a file on; the delays of a design as a file; the bounds of a design; or the run of a generated case
 pub data Asked : Type 0 where
   a_run : Command → Asked
+  a_stop : Command → Stop → Asked
+  a_rest : Command → (state : List ℕ) → Asked
   a_writing : Writing → Asked
   the_bounds : Design → Asked
   a_case : (stages : ℕ) → Asked
 
+-- a run, whole or stopped: the file of the save is another than that of the dump
+abbrev pub run_asked : Command → Option Stop → Option Asked
+run_asked command None = Some (a_run command)
+run_asked command (Some stop) = if is_text stop.save command.vcd then None else Some (a_stop command stop)
+
+abbrev pub run_with : List (List ℕ) → List Argument → Option Asked
+run_with netlists arguments = do
+  command ← command_with netlists arguments
+  stop ← stop_of (value_of (codes "stop") arguments) (value_of (codes "save") arguments)
+  run_asked command stop
+
+-- the rest of a run, of which the moment's file is required
+abbrev pub rest_with : List (List ℕ) → List Argument → Option Asked
+rest_with netlists arguments = do
+  command ← command_with netlists arguments
+  state ← value_of (codes "state") arguments
+  Some (a_rest command state)
+
 abbrev pub asked_with : Subcommand → List (List ℕ) → List Argument → Option Asked
-asked_with Run netlists arguments = option_map a_run (command_with netlists arguments)
+asked_with Run netlists arguments = run_with netlists arguments
+asked_with Resume netlists arguments = rest_with netlists arguments
 asked_with Annotate netlists arguments = option_map a_writing (writing_with netlists arguments)
 asked_with Settle netlists arguments = option_map the_bounds (design_with netlists arguments)
 
@@ -171,7 +213,8 @@ asked_from subcommand arguments = if are_sound (options_of subcommand) arguments
 abbrev pub subcommand_of : List ℕ → Option Subcommand
 subcommand_of word =
     if is_text (codes "run") word then Some Run
-    else (if is_text (codes "annotate") word then Some Annotate else (if is_text (codes "settle") word then Some Settle else None))
+    else (if is_text (codes "resume") word then Some Resume
+    else (if is_text (codes "annotate") word then Some Annotate else (if is_text (codes "settle") word then Some Settle else None)))
 
 abbrev pub asked_after : List (List ℕ) → Option Subcommand → Option Asked
 asked_after words subcommand = option_and_then (λ s. option_and_then (asked_from s) (arguments_of words)) subcommand
@@ -197,9 +240,11 @@ asked_of words = option_or (asked_by words) (option_map a_case (case_of words))
 abbrev pub design_names : Design → List (List ℕ)
 design_names d = d.netlists ++ option_to_list d.sdf
 
--- the names of files in what is asked: those of the design; of a run also what drives the inputs, and the dump; of a writing also the file that is written
+-- the names of files in what is asked: those of the design; of a run also what drives the inputs, the save and the dump; of a writing also the file that is written
 abbrev pub names_of : Asked → List (List ℕ)
 names_of (a_run c) = design_names c.design ++ file_of c.input ∷ c.vcd ∷ []
+names_of (a_stop c stop) = design_names c.design ++ file_of c.input ∷ c.vcd ∷ stop.save ∷ []
+names_of (a_rest c state) = design_names c.design ++ file_of c.input ∷ state ∷ c.vcd ∷ []
 names_of (a_writing w) = design_names w.design ++ w.out ∷ []
 names_of (the_bounds d) = design_names d
 names_of (a_case stages) = []
@@ -211,17 +256,30 @@ names_in (Some asked) = names_of asked
 -- the design of what is asked for, where files are read
 abbrev pub design_of : Asked → Option Design
 design_of (a_run c) = Some c.design
+design_of (a_stop c stop) = Some c.design
+design_of (a_rest c state) = Some c.design
 design_of (a_writing w) = Some w.design
 design_of (the_bounds d) = Some d
 design_of (a_case stages) = None
 
--- the file that is made
-abbrev pub made_of : Asked → Option (List ℕ)
-made_of (a_run c) = Some c.vcd
-made_of (a_writing w) = Some w.out
-made_of (the_bounds d) = None
-made_of (a_case stages) = None
+-- the run of what is asked for, where one is asked for
+abbrev pub command_of : Asked → Option Command
+command_of (a_run c) = Some c
+command_of (a_stop c stop) = Some c
+command_of (a_rest c state) = Some c
+command_of (a_writing w) = None
+command_of (the_bounds d) = None
+command_of (a_case stages) = None
 
-abbrev pub made_in : Option Asked → Option (List ℕ)
-made_in None = None
+-- the files that may be made, in their order
+abbrev pub made_of : Asked → List (List ℕ)
+made_of (a_run c) = c.vcd ∷ []
+made_of (a_stop c stop) = c.vcd ∷ stop.save ∷ []
+made_of (a_rest c state) = c.vcd ∷ []
+made_of (a_writing w) = w.out ∷ []
+made_of (the_bounds d) = []
+made_of (a_case stages) = []
+
+abbrev pub made_in : Option Asked → List (List ℕ)
+made_in None = []
 made_in (Some asked) = made_of asked

@@ -7,7 +7,8 @@ use Rattle.run_words.specs.declared.inputs.Input as code_input
 use Rattle.run_words.specs.declared.inputs.Input.TheVariants as input
 use Rattle.run_words.specs.declared.words.Asked as code_asked
 use Rattle.run_words.specs.declared.words.Asked.TheVariants as asked
-use Rattle.run_words.specs.Words.{Asked, a_run, a_writing, the_bounds, a_case, a_stimulus, a_wave, Command, Design, Input, Writing}
+use Rattle.run_words.specs.declared.stops.Stop as code_stop
+use Rattle.run_words.specs.Words.{Asked, a_run, a_stop, a_rest, a_writing, the_bounds, a_case, a_stimulus, a_wave, Command, Design, Input, Stop, Writing}
 
 abbrev pub input_seen : code_input.Input → Input
 input_seen (input.Stimulus file) = a_stimulus file.now
@@ -24,11 +25,16 @@ design_seen d = record {
 abbrev pub command_seen : code.Command → Command
 command_seen c = record { design = design_seen c.design; input = input_seen c.input; vcd = c.vcd.now; rounds = c.rounds; wheel = c.wheel }
 
+abbrev pub stop_seen : code_stop.Stop → Stop
+stop_seen s = record { time = s.time; save = s.save.now }
+
 abbrev pub writing_seen : code_writing.Writing → Writing
 writing_seen w = record { design = design_seen w.design; out = w.out.now }
 
 abbrev pub asked_seen : code_asked.Asked → Asked
 asked_seen (asked.Run c) = a_run (command_seen c)
+asked_seen (asked.Stop c s) = a_stop (command_seen c) (stop_seen s)
+asked_seen (asked.Rest c state) = a_rest (command_seen c) state.now
 asked_seen (asked.Writing w) = a_writing (writing_seen w)
 asked_seen (asked.Bounds d) = the_bounds (design_seen d)
 asked_seen (asked.Case stages) = a_case stages

@@ -7,9 +7,11 @@ mod inputs;
 mod numbers;
 mod parser;
 mod rules;
+mod stops;
 mod subcommands;
 mod words;
 
 pub use designs::{Design, Writing};
 pub use inputs::Input;
+pub use stops::Stop;
 pub use words::{Asked, Command, read_words};

@@ -2,7 +2,7 @@
 ghost use Rattle.std.specs.Prelude.{◌≡◌, ◌≤◌};
 ghost use Rattle.std.specs.Char.{is_ascii_digit};
 ghost use Rattle.std.specs.List.{list_all};
-ghost use Rattle.run_words.specs.Words.{is_number, number_up_to};
+ghost use Rattle.run_words.specs.Words.{is_number, number_up_to, time_within};
 
 fn are_digits(text: &str) -> bool
     ensures { result ≡ list_all is_ascii_digit text.now }
@@ -26,4 +26,15 @@ pub fn number_up_to(digits: usize, most: u32, text: &str) -> Option<u32>
     }
     let number = text.parse().ok()?;
     (1 <= number && number <= most).then_some(number)
+}
+
+/// The time of one to so many decimal digits, in ticks.
+pub fn time_within(digits: usize, text: &str) -> Option<u64>
+    requires { digits ≤ 18 }
+    ensures { result ≡ time_within digits text.now }
+{
+    if !is_number(digits, text) {
+        return None;
+    }
+    text.parse().ok()
 }

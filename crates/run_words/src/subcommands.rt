@@ -5,13 +5,18 @@ ghost use Rattle.run_words.specs.Words.{options_of, subcommand_of};
 #[derive(Clone, Copy, Debug, PartialEq)]
 pub enum Subcommand {
     Run,
+    Resume,
     Annotate,
     Settle,
 }
 
 // In the order of the definition.
-const RUN_OPTIONS: [&str; 9] = [
-    "stim", "wave", "scope", "vcd", "sdf", "top", "corner", "rounds", "wheel",
+const RUN_OPTIONS: [&str; 11] = [
+    "stim", "wave", "scope", "vcd", "stop", "save", "sdf", "top", "corner", "rounds", "wheel",
+];
+
+const RESUME_OPTIONS: [&str; 10] = [
+    "state", "stim", "wave", "scope", "vcd", "sdf", "top", "corner", "rounds", "wheel",
 ];
 
 const ANNOTATE_OPTIONS: [&str; 4] = ["out", "sdf", "top", "corner"];
@@ -24,6 +29,7 @@ pub fn options_of(subcommand: Subcommand) -> &'static [&'static str]
 {
     match subcommand {
         Subcommand::Run => &RUN_OPTIONS,
+        Subcommand::Resume => &RESUME_OPTIONS,
         Subcommand::Annotate => &ANNOTATE_OPTIONS,
         Subcommand::Settle => &SETTLE_OPTIONS,
     }
@@ -35,6 +41,7 @@ pub fn subcommand_of(word: &str) -> Option<Subcommand>
 {
     match word {
         "run" => Some(Subcommand::Run),
+        "resume" => Some(Subcommand::Resume),
         "annotate" => Some(Subcommand::Annotate),
         "settle" => Some(Subcommand::Settle),
         _ => None,

@@ -2,8 +2,8 @@
 ghost use Rattle.std.specs.Prelude.{◌≡◌, ◌↔◌, IsTrue, map, option_map, option_and_then, IfOk, codes, string_bytes};
 ghost use Rattle.run_words.specs.Arguments.{is_text, arguments_of};
 ghost use Rattle.run_words.specs.ArgumentsSeen.{argument_seen};
-ghost use Rattle.run_words.specs.Words.{value_of, command_with, asked_with, asked_from, asked_after, asked_by, asked_of, case_of, most_digits, number_up_to, read_or};
-ghost use Rattle.run_words.specs.WordsSeen.{asked_seen, command_seen};
+ghost use Rattle.run_words.specs.Words.{value_of, command_with, asked_with, asked_from, asked_after, asked_by, asked_of, case_of, most_digits, number_up_to, read_or, rest_with, run_asked, run_with};
+ghost use Rattle.run_words.specs.WordsSeen.{asked_seen, command_seen, stop_seen};
 
 use crate::arguments::{Argument, read_arguments};
 use crate::designs::{Design, Writing, design_with, writing_with};
@@ -11,6 +11,7 @@ use crate::inputs::{Input, input_of};
 use crate::numbers::number_up_to;
 use crate::parser::parse_arguments;
 use crate::rules::{are_sound, netlists_of, value_of};
+use crate::stops::{Stop, stop_of};
 use crate::subcommands::{Subcommand, options_of, subcommand_of};
 use sg_text::NoMemory;
 use std::alloc::Global;
@@ -47,6 +48,10 @@ pub struct Command<'a> {
 #[derive(Debug, Drop, PartialEq)]
 pub enum Asked<'a> {
     Run(Command<'a>),
+    /// A run that is stopped and saved.
+    Stop(Command<'a>, Stop<'a>),
+    /// The rest of a run, from the moment that is saved in a file on.
+    Rest(Command<'a>, &'a str),
     /// The delays of a design, as an SDF file.
     Writing(Writing<'a>),
     /// The settle bounds of a design.
@@ -82,6 +87,33 @@ fn command_with<'a>(netlists: Vec<&'a str>, arguments: &[Argument<'a>]) -> Optio
     })
 }
 
+// The file of the save is another than that of the dump.
+fn run_asked<'a>(command: Command<'a>, stop: Option<Stop<'a>>) -> Option<Asked<'a>>
+    ensures { option_map (λ a. asked_seen a) result ≡ run_asked (command_seen command.entry) (option_map (λ s. stop_seen s) stop.entry) }
+{
+    match stop {
+        None => Some(Asked::Run(command)),
+        Some(stop) if stop.save == command.vcd => None,
+        Some(stop) => Some(Asked::Stop(command, stop)),
+    }
+}
+
+fn run_with<'a>(netlists: Vec<&'a str>, arguments: &[Argument<'a>]) -> Option<Asked<'a>>
+    ensures { option_map (λ a. asked_seen a) result ≡ run_with (map (λ n. n.now) netlists.entry.items) (map argument_seen arguments.now) }
+{
+    let command = command_with(netlists, arguments)?;
+    let stop = stop_of(arguments)?;
+    run_asked(command, stop)
+}
+
+fn rest_with<'a>(netlists: Vec<&'a str>, arguments: &[Argument<'a>]) -> Option<Asked<'a>>
+    ensures { option_map (λ a. asked_seen a) result ≡ rest_with (map (λ n. n.now) netlists.entry.items) (map argument_seen arguments.now) }
+{
+    let command = command_with(netlists, arguments)?;
+    let state = value_of(arguments, "state")?;
+    Some(Asked::Rest(command, state))
+}
+
 // What a subcommand asks for by sound arguments and their netlists.
 fn asked_with<'a>(
     subcommand: Subcommand,
@@ -91,7 +123,8 @@ fn asked_with<'a>(
     ensures { option_map (λ a. asked_seen a) result ≡ asked_with subcommand (map (λ n. n.now) netlists.entry.items) (map argument_seen arguments.now) }
 {
     match subcommand {
-        Subcommand::Run => Some(Asked::Run(command_with(netlists, arguments)?)),
+        Subcommand::Run => run_with(netlists, arguments),
+        Subcommand::Resume => rest_with(netlists, arguments),
         Subcommand::Annotate => Some(Asked::Writing(writing_with(netlists, arguments)?)),
         Subcommand::Settle => Some(Asked::Bounds(design_with(netlists, arguments)?)),
     }

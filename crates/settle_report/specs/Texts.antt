@@ -6,7 +6,7 @@ use Rattle.sg_circuit.specs.declared.scopes.Port.TheVariants.{Output}
 use Rattle.sg_circuit.specs.Circuit.{Circuit, Variable, scope_at}
 use Rattle.settle_bound.specs.Hops.{net_driven}
 use Rattle.settle_bound.specs.declared.hops.Hop.{Hop}
-use Rattle.wave_out.specs.Report.{named_net, net_text}
+use Rattle.run_report.specs.Report.{named_net, net_text}
 use Rattle.wave_out.specs.Texts.{line}
 
 abbrev pub is_output : Port → Bool

@@ -7,9 +7,9 @@ ghost use Rattle.wave_out.specs.Texts.{line};
 ghost use Rattle.settle_report.specs.Texts.{bound_line, bounds_text, greatest, is_output};
 
 use itoa::Buffer;
+use run_report::push_net;
 use sg_circuit::{Circuit, NetId, Port, Variable};
 use std::alloc::{AllocError, Global};
-use wave_out::push_net;
 
 // A bound, and the end of its line.
 fn push_number(text: &mut Vec<u8>, number: u128) -> Result<(), AllocError>

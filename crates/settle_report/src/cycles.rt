@@ -2,15 +2,15 @@
 ghost use Rattle.std.specs.Prelude.{◌≡◌, ◌++◌, All, IfOk, OnOk, codes, decimal, flat_map, length};
 ghost use Rattle.settle_bound.specs.Chains.{IsCycle};
 ghost use Rattle.settle_bound.specs.Hops.{IsHop, net_driven};
-ghost use Rattle.wave_out.specs.Report.{named_net};
+ghost use Rattle.run_report.specs.Report.{named_net};
 ghost use Rattle.wave_out.specs.Texts.{line};
 ghost use Rattle.settle_report.specs.Texts.{cycle_text, through_line};
 
 use itoa::Buffer;
+use run_report::push_net;
 use settle_bound::{Hop, driven};
 use sg_circuit::{Circuit, NetId};
 use std::alloc::{AllocError, Global};
-use wave_out::push_net;
 
 fn push_named(
     alloc: Global,

@@ -9,9 +9,9 @@ use Rattle.sdf_tree.specs.Meant.{Sdf}
 use Rattle.sdf_annotate.specs.Told.{IsAnnotated, told_seen}
 use Rattle.sdf_annotate.specs.declared.unmatched.Unmatched as code_unmatched
 use Rattle.annotation_model.specs.Annotated.{too_large}
-use Rattle.wave_out.specs.Report.{Unmatched}
-use Rattle.wave_out.specs.Reporting.{unmatched_seen}
-use Rattle.wave_out.specs.Texts.{line_of}
+use Rattle.run_report.specs.Report.{Unmatched}
+use Rattle.run_report.specs.Reporting.{unmatched_seen}
+use Rattle.run_report.specs.Texts.{line_of}
 use Rattle.sdf_meaning.specs.MeantSeen.{view_sdf}
 use Rattle.sdf_tree.specs.declared.tree.Sdf as code_sdf
 use Rattle.sdf_read.specs.Outcomes.{refused}
@@ -58,4 +58,5 @@ spares (refusal.Netlist n l k) name line kind e = tt
 spares (refusal.Sdf n l f) name line kind e = tt
 spares (refusal.Stimulus n l k) name line kind e = tt
 spares (refusal.Wave n l k) name line kind e = tt
+spares (refusal.Save n l k) name line kind e = tt
 spares (refusal.Unwritten k p) name line kind e = tt

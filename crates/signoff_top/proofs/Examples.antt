@@ -5,10 +5,12 @@ use Rattle.netlist_read.specs.Kinds.{of_syntax}
 use Rattle.sdf_read.specs.declared.faults.SdfKind.TheVariants as delays
 use Rattle.sg_circuit.specs.Circuit.{Circuit}
 use Rattle.sg_delay.specs.declared.corners.Corner.{Corner}
+use Rattle.sim_save.specs.declared.kinds.SaveKind.TheVariants as saved
 use Rattle.stim_read.specs.declared.kinds.StimKind.TheVariants as stim
-use Rattle.wave_out.specs.Texts.{line, line_of}
+use Rattle.wave_out.specs.Texts.{line}
+use Rattle.run_report.specs.Texts.{line_of}
 use Rattle.signoff_top.specs.Answer.{summary_lines}
-use Rattle.signoff_top.specs.Phases.{AnnotatedOutcome, FilesOutcome, goes_on, stops, missing, netlist, sdf, stimulus, refusal_line, refused_at, sdf_kind, stimulus_kind, too_large_kind}
+use Rattle.signoff_top.specs.Phases.{AnnotatedOutcome, FilesOutcome, goes_on, stops, missing, netlist, save, sdf, stimulus, refusal_line, refused_at, save_kind, sdf_kind, stimulus_kind, too_large_kind}
 
 -- a line feed ends the line on which it stands
 breaks : line_of (codes "ab" ++ 10 ∷ codes "c") 2 ≡ 1
@@ -36,6 +38,10 @@ sdf_line = refl
 too_large_line : refusal_line (sdf (codes "t.sdf") 10 too_large_kind) ≡ line (codes "sdf refused: t.sdf:10: TooLarge")
 unfolding digits
 too_large_line = refl
+
+save_line : refusal_line (save (codes "f") 1 (save_kind saved.TooLarge)) ≡ line (codes "save refused: f:1: TooLarge")
+unfolding digits
+save_line = refl
 
 -- what is told of a generated case of five stages
 case_summary : summary_lines 5 10 3300 0 ≡ line (codes "stages 5") ++ line (codes "evaluations 10") ++ line (codes "last 3300") ++ line (codes "violations 0")

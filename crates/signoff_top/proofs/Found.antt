@@ -10,8 +10,8 @@ use Rattle.settle_bound.specs.declared.settling.Settled.{Settled}
 use Rattle.settle_bound.specs.declared.settling.Settled.TheVariants.{Bounds, Cycle}
 use Rattle.settle_bound.specs.Settling.{Settles}
 use Rattle.settle_report.specs.Texts.{bounds_text, cycle_text}
-use Rattle.wave_out.specs.Report.{Unmatched, unmatched_line}
-use Rattle.wave_out.specs.Reporting.{unmatched_seen}
+use Rattle.run_report.specs.Report.{Unmatched, unmatched_line}
+use Rattle.run_report.specs.Reporting.{unmatched_seen}
 use Rattle.wave_out.specs.Texts.{line}
 use Rattle.signoff_top.specs.Answer.{bounded, in_a_cycle, bounds_answer, cycle_answer, written_lines}
 use Rattle.signoff_top.specs.Work.{IsSettleDone, settle_status}

@@ -1,24 +1,22 @@
 -- From what the work left and what was told comes the case of the top call; from the case comes all else that it promises.
-use Rattle.std.proofs.Common.{◌≡◌, ◌≢◌, ◌∙◌, true, false, sym, ap, refl, subst, inl, inr, ℕ, List, [], ◌∷◌, ◌++◌, length, Contains, ◌≤◌, arith}
-use Rattle.std.proofs.lemmas.List.{take_all}
+use Rattle.std.proofs.Common.{◌≡◌, ◌≢◌, ◌∙◌, true, false, sym, ap, refl, subst, inl, inr, ℕ, List, [], ◌∷◌, ◌++◌, Contains, ◌≤◌, arith}
 use Rattle.std.specs.Prelude.{Bool, Option, Some, None, Result, Ok, Err, unwrap_or}
-use Rattle.sg_io.specs.Files.{File, BothTell, HasAfter, bytes_of}
+use Rattle.sg_io.specs.Files.{File, BothTell}
 use Rattle.sg_io.specs.Faults.{Cause, Rises, Rose}
 use Rattle.sg_io.specs.Put.{SinkTold}
 use Rattle.sg_io.proofs.Tell.{both_told}
 use Rattle.sg_model.specs.Machine.{Violation}
-use Rattle.wave_out.specs.Files.{LeavesPrefix}
-use Rattle.wave_out.specs.Spent.{spent_seen}
+use Rattle.run_report.specs.Spent.{spent_seen}
 use Rattle.run_dump.specs.RunEnds.{violations_of}
-use Rattle.run_words.specs.Words.{Command, Asked, a_run, a_writing, the_bounds, a_case, asked_of, made_in, made_of, names_in, Writing}
-use Rattle.signoff_top.specs.Answer.{Answer, IsAnswer, IsAnswerFor, IsAnswerTo, FilesAfter, answer_of, refusal_answer, status_of_run, writing_answer, fault_line}
-use Rattle.signoff_top.specs.Phases.{Refusal, Task, CommandOutcome, DesignOutcome, InputOutcome, Then, stops, goes_on, words, missing, netlist, sdf, stimulus, unwritten, status_of_refusal, refusal_line, Written}
-use Rattle.signoff_top.specs.Promises.{ShelfTold, IsRight, FitsWords, HasAnswer, FaultAt, at_netlist, at_sdf, at_stimulus, at_made, NamesFaultAt, LeavesUnfinished, whole, till_fault, Outcome, answered, shelf_fault, sink_fault, no_memory, sink_want, IsExact, IsStatusOf, KeepsBut, KeepsByAnswer, KeepsByWords, IsUsage}
+use Rattle.run_words.specs.Words.{Asked, asked_of, made_in, names_in}
+use Rattle.signoff_top.specs.Answer.{Answer, IsAnswer, refusal_answer, status_of_run, fault_line}
+use Rattle.signoff_top.specs.Phases.{Refusal, words, missing, netlist, save, sdf, stimulus, unwritten, status_of_refusal, refusal_line}
+use Rattle.signoff_top.specs.Promises.{ShelfTold, IsRight, FitsWords, HasAnswer, FaultAt, at_netlist, at_sdf, at_stimulus, at_state, at_made, NamesFaultAt, LeavesUnfinished, whole, till_fault, Outcome, answered, shelf_fault, sink_fault, no_memory, sink_want, IsExact, IsStatusOf, KeepsBut, KeepsByAnswer, KeepsByWords, IsUsage}
 use Rattle.signoff_top.specs.Putting.{PutsAll, PutsLast}
 use Rattle.signoff_top.specs.Putting as putting
 use Rattle.signoff_top.specs.Status.{IsDecided, IsRunEnd, is_run_end}
 use Rattle.signoff_top.specs.Stops.{refusal_seen, IfFailed, SparesWords, StopWords, end_of_phase}
-use Rattle.signoff_top.specs.Work.{WorkLeaves, Tells, TellsStop, TellsEnd, quiet_violations, settle_status, status_of_done, text_of_done}
+use Rattle.signoff_top.specs.Work.{WorkLeaves, Tells, TellsStop, TellsEnd, quiet_violations, settle_status, status_of_done, stop_violations, text_of_done}
 use Rattle.signoff_top.specs.Work as telling
 use Rattle.signoff_top.specs.declared.status.Status.{Status}
 use Rattle.signoff_top.specs.declared.status.Status.TheVariants as status
@@ -28,17 +26,10 @@ use Rattle.signoff_top.specs.declared.stop.Refusal as code_refusal
 use Rattle.signoff_top.specs.declared.stop.Refusal.TheVariants as refusal
 use Rattle.signoff_top.specs.declared.work.Done as code_done
 use Rattle.signoff_top.specs.declared.work.Done.TheVariants as done
-use Rattle.signoff_top.proofs.OneAnswer.{nothing_made, nothing_settled, one_status, one_made}
+use Rattle.signoff_top.proofs.OneAnswer.{one_status, one_made}
+use Rattle.signoff_top.proofs.MadeNames.{made_to}
+use Rattle.signoff_top.proofs.Making.{begun_after, begun_by_words, keeps_same, made_begun, same_by_words}
 use Rattle.signoff_top.proofs.Putting.{both_map}
-
--- what is made, is begun
-whole_begun : (name bytes : List ℕ) (old new : List File) → HasAfter name bytes old new → LeavesPrefix name bytes old new
-whole_begun name bytes old new h = record { this = inr (length bytes, h.this ∙ ap Some (sym (take_all (length bytes) bytes (omega arith)))); others = h.others }
-
--- what a right answer leaves
-made_begun : (made : Option File) (old new : List File) → FilesAfter made old new → KeepsBut made old new
-made_begun None old new h = h
-made_begun (Some f) old new h = whole_begun f.name f.bytes old new h
 
 right_unfinished : (ws : List (List ℕ)) (how : Status) (text : List ℕ) (old new : List File) → IsRight ws how text old new → LeavesUnfinished ws old new
 right_unfinished ws how text old new r = inr (r.answer, r.right, made_begun r.answer.made old new r.files)
@@ -64,12 +55,16 @@ settle_no_usage false = λ e. let k : status.Clean ≡ status.Usage = e in cc
 
 done_decided : (d : code_done.Done) → IsDecided (status_of_done d)
 done_decided (done.Run d) = run_decided (spent_seen d.end.spent) (violations_of d.end)
+done_decided (done.Stop d) = run_decided None (stop_violations d)
+done_decided (done.Unsaved d) = tt
 done_decided (done.Writing d) = tt
 done_decided (done.Bounds d) = settle_decided d.cyclic
 done_decided (done.Case d) = run_decided (spent_seen d.end.spent) (quiet_violations d.end)
 
 done_no_usage : (d : code_done.Done) → status_of_done d ≢ status.Usage
 done_no_usage (done.Run d) = run_no_usage (spent_seen d.end.spent) (violations_of d.end)
+done_no_usage (done.Stop d) = run_no_usage None (stop_violations d)
+done_no_usage (done.Unsaved d) = λ e. let k : status.Save ≡ status.Usage = e in cc
 done_no_usage (done.Writing d) = λ e. let k : status.Clean ≡ status.Usage = e in cc
 done_no_usage (done.Bounds d) = settle_no_usage d.cyclic
 done_no_usage (done.Case d) = run_no_usage (spent_seen d.end.spent) (quiet_violations d.end)
@@ -80,6 +75,7 @@ refusal_decided (missing name) = tt
 refusal_decided (netlist name n kind) = tt
 refusal_decided (sdf name n kind) = tt
 refusal_decided (stimulus name n kind) = tt
+refusal_decided (save name n kind) = tt
 refusal_decided (unwritten kind path) = tt
 
 done_fits : (o : Option Asked) (P : Asked → code_done.Done → Type 0) (d : code_done.Done) (text : List ℕ) → StopWords o P (Ok d) → FitsWords o (status_of_done d) text
@@ -92,6 +88,7 @@ spares_fits (refusal.Missing name) h = λ e. let k : status.Missing ≡ status.U
 spares_fits (refusal.Netlist name line kind) h = λ e. let k : status.Netlist ≡ status.Usage = e in cc
 spares_fits (refusal.Sdf name line fault) h = λ e. let k : status.Sdf ≡ status.Usage = e in cc
 spares_fits (refusal.Stimulus name line kind) h = λ e. let k : status.Stimulus ≡ status.Usage = e in cc
+spares_fits (refusal.Save name line kind) h = λ e. let k : status.Save ≡ status.Usage = e in cc
 spares_fits (refusal.Unwritten kind path) h = λ e. let k : status.Unwritable ≡ status.Usage = e in cc
 spares_fits (refusal.Wave name line kind) h = λ e. let k : status.Stimulus ≡ status.Usage = e in cc
 
@@ -148,65 +145,9 @@ outcome ws (Err (stop.Refused r)) how shelf shelf' sink sink' l c n w t =
 outcome ws (Err stop.Failed) how shelf shelf' sink sink' l c n w t = failed_case ws how shelf shelf' sink sink' c n t
 outcome ws (Err stop.NoMemory) how shelf shelf' sink sink' l c n w t = subst (Outcome ws shelf shelf' sink sink') (sym t.0) (no_memory c l t.1)
 
--- the name of the dump that a task makes is that of the words
-abbrev Names : Command → Result Task Refusal → Type 0
-Names c (Ok task) = task.vcd ≡ c.vcd
-Names c (Err r) = Unit {0}
-
-then_names : {A : Type 0} (first : Result A Refusal → Type 0) (next : A → Result Task Refusal → Type 0) (c : Command) → ((a : A) (p : Result Task Refusal) → next a p → Names c p)
-    → (p : Result Task Refusal) → Then first next p → Names c p
-then_names first next c f _ (stops r h) = tt
-then_names first next c f _ (goes_on a p h k) = f a p k
-
-command_names : (c : Command) (files : List File) (p : Result Task Refusal) → CommandOutcome c files p → Names c p
-command_names c files =
-    then_names (DesignOutcome c.design files) _ c (λ annotated.
-    then_names (InputOutcome c.input files annotated.circuit) _ c (λ input p e. subst (Names c) (sym e) refl))
-
--- what is made, if anything is, has the name that is given
-abbrev IsMadeAs : Option (List ℕ) → Option File → Type 0
-IsMadeAs given None = Unit {0}
-IsMadeAs None (Some f) = ⊥
-IsMadeAs (Some name) (Some f) = f.name ≡ name
-
-none_made : (given : Option (List ℕ)) (made : Option File) → made ≡ None → IsMadeAs given made
-none_made given made e = subst (IsMadeAs given) (sym e) tt
-
-run_made : (c : Command) (p : Result Task Refusal) → Names c p → IsMadeAs (Some c.vcd) (answer_of p).made
-run_made c (Ok task) n = n
-run_made c (Err r) n = tt
-
-writing_made : (w : Writing) (p : Result Written Refusal) → IsMadeAs (Some w.out) (writing_answer w.out p).made
-writing_made w (Ok x) = refl
-writing_made w (Err r) = tt
-
-made_for : (asked : Asked) (files : List File) (a : Answer) → IsAnswerFor asked files a → IsMadeAs (made_of asked) a.made
-made_for (a_run c) files a (p, h, is) = subst (IsMadeAs (Some c.vcd)) (sym (ap (λ x. x.made) is)) (run_made c p (command_names c files p h))
-made_for (a_writing w) files a (p, h, is) = subst (IsMadeAs (Some w.out)) (sym (ap (λ x. x.made) is)) (writing_made w p)
-made_for (the_bounds d) files a (p, h, is) = none_made None a.made (nothing_settled p a is)
-made_for (a_case stages) files a (p, h, is) = none_made None a.made (ap (λ x. x.made) is ∙ nothing_made stages p)
-
-made_to : (o : Option Asked) (files : List File) (a : Answer) → IsAnswerTo o files a → IsMadeAs (made_in o) a.made
-made_to None files a is = none_made None a.made (ap (λ x. x.made) is)
-made_to (Some asked) files a h = made_for asked files a h
-
--- where nothing changed, every file but one stays
-keeps_same : (made : Option File) (files : List File) → KeepsBut made files files
-keeps_same None files = refl
-keeps_same (Some f) files = record { this = inl refl; others = λ q _. refl }
-
 unfinished_by_answer : (ws : List (List ℕ)) (old new : List File) → LeavesUnfinished ws old new → KeepsByAnswer ws old new
 unfinished_by_answer ws old new (inl same) = λ answer right. subst (KeepsBut answer.made old) (sym same) (keeps_same answer.made old)
 unfinished_by_answer ws old new (inr (begun, its, left)) = λ answer right. subst (λ m. KeepsBut m old new) (one_made ws old begun answer its right) left
-
-same_by_words : (o : Option (List ℕ)) (old new : List File) → new ≡ old → KeepsByWords o old new
-same_by_words None old new e = e
-same_by_words (Some name) old new e = λ q n. ap (bytes_of q) e
-
-begun_by_words : (o : Option (List ℕ)) (made : Option File) (old new : List File) → IsMadeAs o made → KeepsBut made old new → KeepsByWords o old new
-begun_by_words o None old new n same = same_by_words o old new same
-begun_by_words None (Some f) old new n left = absurd n
-begun_by_words (Some name) (Some f) old new n left = λ q other. left.others q (λ e. other (e ∙ n))
 
 unfinished_by_words : (ws : List (List ℕ)) (old new : List File) → LeavesUnfinished ws old new → KeepsByWords (made_in (asked_of ws)) old new
 unfinished_by_words ws old new (inl same) = same_by_words (made_in (asked_of ws)) old new same
@@ -215,8 +156,9 @@ unfinished_by_words ws old new (inr (begun, its, left)) = begun_by_words (made_i
 fault_unfinished : (ws : List (List ℕ)) (old new : List File) (name : List ℕ) → FaultAt ws old new name → LeavesUnfinished ws old new
 fault_unfinished ws old new _ (at_netlist asked d before name after texts e is split read same) = inl same
 fault_unfinished ws old new _ (at_sdf asked d name circuit e is o c same) = inl same
-fault_unfinished ws old new _ (at_stimulus c annotated e o same) = inl same
-fault_unfinished ws old new _ (at_made answer made right e left) = inr (answer, right, subst (λ m. KeepsBut m old new) (sym e) left)
+fault_unfinished ws old new _ (at_stimulus asked c annotated e is o same) = inl same
+fault_unfinished ws old new _ (at_state c state task e o same) = inl same
+fault_unfinished ws old new _ (at_made answer before made after mid right e were left) = inr (answer, right, subst (λ m. KeepsBut m old new) (sym e) (begun_after before made after old mid new were left))
 
 fits_usage : (o : Option Asked) (how : Status) (text : List ℕ) → FitsWords o how text → IsUsage o how
 fits_usage None how text h = inl h.0

@@ -9,8 +9,9 @@ use Rattle.sg_stimulus.specs.Stimulus.{Stimulus}
 use Rattle.sdf_tree.specs.Meant.{Sdf}
 use Rattle.annotation_model.specs.Annotated as annotation
 use Rattle.late_limits.specs.Adjusted.{IsAdjustedFrom}
-use Rattle.wave_out.specs.Report.{Unmatched, path_of}
-use Rattle.wave_out.specs.Texts.{line, line_of}
+use Rattle.run_report.specs.Report.{Unmatched, path_of}
+use Rattle.wave_out.specs.Texts.{line}
+use Rattle.run_report.specs.Texts.{line_of}
 use Rattle.run_words.specs.Words.{Command, Design, Writing, Input, a_stimulus, a_wave, default_corner, default_rounds, file_of}
 use Rattle.gen_case.specs.Case.{netlist_of, sdf_of, stimulus_of}
 use Rattle.netlist_read.specs.Kinds.{Kind, kind_text}
@@ -26,6 +27,11 @@ use Rattle.vcd_model.specs.Faults as wave
 use Rattle.vcd_model.specs.Reading as wave_text
 use Rattle.vcd_model.specs.declared.kinds.VcdKind.{VcdKind}
 use Rattle.vcd_model.specs.declared.kinds.VcdKind.TheVariants as vcd
+use Rattle.sim_rounds.specs.Moments.{Moment}
+use Rattle.sim_save.specs.Faults as saved
+use Rattle.sim_save.specs.Reading as saved_text
+use Rattle.sim_save.specs.declared.kinds.SaveKind.{SaveKind}
+use Rattle.sim_save.specs.declared.kinds.SaveKind.TheVariants as saved_kind
 use Rattle.written_model.specs.Faults as written
 use Rattle.written_model.specs.Text as written_text
 use Rattle.written_model.specs.declared.errors.WriteError.{WriteError}
@@ -42,6 +48,7 @@ pub data Refusal : Type 0 where
   netlist : List ℕ → ℕ → List ℕ → Refusal
   sdf : List ℕ → ℕ → List ℕ → Refusal
   stimulus : List ℕ → ℕ → List ℕ → Refusal
+  save : List ℕ → ℕ → List ℕ → Refusal
   -- why delays can't be written, and the path of an instance in which that is so
   unwritten : List ℕ → List ℕ → Refusal
 
@@ -51,10 +58,11 @@ status_of_refusal (missing name) = status.Missing
 status_of_refusal (netlist name n kind) = status.Netlist
 status_of_refusal (sdf name n kind) = status.Sdf
 status_of_refusal (stimulus name n kind) = status.Stimulus
+status_of_refusal (save name n kind) = status.Save
 status_of_refusal (unwritten kind path) = status.Unwritable
 
 abbrev pub usage_line : List ℕ
-usage_line = line (codes "usage: signoff run NETLIST.. (--stim F | --wave F [--scope PATH]) --vcd F [--sdf F] [--top NAME] [--corner min|typ|max] [--rounds N] [--wheel N] | signoff annotate NETLIST.. --out F [--sdf F] [--top NAME] [--corner min|typ|max] | signoff settle NETLIST.. [--sdf F] [--top NAME] [--corner min|typ|max] | signoff gen N")
+usage_line = line (codes "usage: signoff run NETLIST.. (--stim F | --wave F [--scope PATH]) --vcd F [--stop T --save F] [--sdf F] [--top NAME] [--corner min|typ|max] [--rounds N] [--wheel N] | signoff resume NETLIST.. --state F (--stim F | --wave F [--scope PATH]) --vcd F [--sdf F] [--top NAME] [--corner min|typ|max] [--rounds N] [--wheel N] | signoff annotate NETLIST.. --out F [--sdf F] [--top NAME] [--corner min|typ|max] | signoff settle NETLIST.. [--sdf F] [--top NAME] [--corner min|typ|max] | signoff gen N")
 
 -- what is refused: the file's name, the line and the kind, with colons between them
 abbrev pub located_line : List ℕ → List ℕ → ℕ → List ℕ → List ℕ
@@ -66,6 +74,7 @@ refusal_line (missing name) = line (codes "missing: " ++ name)
 refusal_line (netlist name n kind) = located_line (codes "netlist refused: ") name n kind
 refusal_line (sdf name n kind) = located_line (codes "sdf refused: ") name n kind
 refusal_line (stimulus name n kind) = located_line (codes "stimulus refused: ") name n kind
+refusal_line (save name n kind) = located_line (codes "save refused: ") name n kind
 refusal_line (unwritten kind path) = line (codes "not written: " ++ kind ++ codes " at " ++ path)
 
 -- a phase and then another, over what the first gave; a refusal of the first is that of both
@@ -82,9 +91,12 @@ WordsOutcome (Some asked) outcome = outcome ≡ Ok asked
 abbrev pub read_limit : ℕ
 read_limit = 2 ^ 28 + 1
 
+abbrev pub FileWithin : (limit : ℕ) → List ℕ → Option (List ℕ) → Result (List ℕ) Refusal → Type 0
+FileWithin limit name None outcome = outcome ≡ Err (missing name)
+FileWithin limit name (Some bytes) outcome = outcome ≡ Ok (take limit bytes)
+
 abbrev pub FileOutcome : List ℕ → Option (List ℕ) → Result (List ℕ) Refusal → Type 0
-FileOutcome name None outcome = outcome ≡ Err (missing name)
-FileOutcome name (Some bytes) outcome = outcome ≡ Ok (take read_limit bytes)
+FileOutcome name bytes outcome = FileWithin read_limit name bytes outcome
 
 -- the files of some names are read in order; the first that isn't held is missing
 abbrev pub FilesOutcome : List (List ℕ) → List File → Result (List (List ℕ)) Refusal → Type 0
@@ -263,3 +275,35 @@ CommandOutcome command files =
     Then (DesignOutcome command.design files) (λ annotated.
     Then (InputOutcome command.input files annotated.circuit) (λ input outcome.
     outcome ≡ Ok (record { circuit = annotated.circuit; unmatched = annotated.unmatched; rounds = command.rounds; input = input; vcd = command.vcd })))
+
+-- the kinds of the faults of a saved moment as they are written
+abbrev pub save_kind : SaveKind → List ℕ
+save_kind saved_kind.TooLarge = codes "TooLarge"
+save_kind saved_kind.Damaged = codes "Damaged"
+save_kind saved_kind.Syntax = codes "Syntax"
+save_kind saved_kind.OtherCircuit = codes "OtherCircuit"
+save_kind saved_kind.BadMoment = codes "BadMoment"
+save_kind saved_kind.PastEnd = codes "PastEnd"
+
+-- the text of a saved moment is read in, for a circuit and a run with this end
+abbrev pub SaveOutcome : List ℕ → List ℕ → Circuit → (end : ℕ) → Result Moment Refusal → Type 0
+SaveOutcome name text circuit end (Ok m) = saved_text.IsRead text circuit end m
+SaveOutcome name text circuit end (Err r) =
+    (kind : SaveKind) × (byte : ℕ) × saved.FaultStands text circuit end kind byte × (r ≡ save name (line_of text byte) (save_kind kind))
+
+-- one byte above what a saved moment may have
+abbrev pub save_limit : ℕ
+save_limit = 2 ^ 30 + 1
+
+-- the rest of a run: its task, and the moment from which it goes on
+pub record Rest : Type 0 where
+  pub task : Task
+  pub moment : Moment
+
+-- all phases of the rest of a run: those of a run, and then the saved moment
+abbrev pub RestOutcome : Command → (state : List ℕ) → List File → Result Rest Refusal → Type 0
+RestOutcome command state files =
+    Then (CommandOutcome command files) (λ task.
+    Then (FileWithin save_limit state (bytes_of state files)) (λ text.
+    Then (SaveOutcome state text task.circuit task.input.end) (λ moment outcome.
+    outcome ≡ Ok (record { task = task; moment = moment }))))

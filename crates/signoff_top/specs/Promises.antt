@@ -1,13 +1,14 @@
 -- What the top call promises: one distinction of cases over all that the shelf and the sink tell before and after it,
 -- and words for what follows from it.
-use Rattle.std.specs.Prelude.{ℕ, ◌≡◌, ◌≢◌, ◌⊎◌, ◌++◌, List, [], ◌∷◌, Option, Some, None, Ok, Contains}
+use Rattle.std.specs.Prelude.{ℕ, ◌≡◌, ◌≢◌, ◌<◌, ◌⊎◌, ◌++◌, All, List, [], ◌∷◌, Option, Some, None, Ok, Contains}
 use Rattle.sg_io.specs.Faults.{Rises}
-use Rattle.sg_io.specs.Files.{File, BothTell, bytes_of}
+use Rattle.sg_io.specs.Files.{File, BothTell, HasAfter, bytes_of}
 use Rattle.sg_io.specs.Put.{SinkTold}
 use Rattle.sg_circuit.specs.Circuit.{Circuit}
-use Rattle.signoff_top.specs.Answer.{Answer, IsAnswer, FilesAfter, fault_line, report_fault_line, no_memory_line}
-use Rattle.run_words.specs.Words.{Command, Design, Asked, a_run, asked_of, design_of, file_of, names_in}
-use Rattle.signoff_top.specs.Phases.{Annotated, CircuitOutcome, DesignOutcome, FilesOutcome, usage_line}
+use Rattle.sg_model.specs.Machine.{Violation}
+use Rattle.signoff_top.specs.Answer.{Answer, IsAnswer, FilesAfter, dump_of, fault_line, no_memory_line, report_fault_line, rest_answer, rest_dump, rest_of, run_of, saved_of, stop_answer, stopped_of}
+use Rattle.run_words.specs.Words.{Asked, Command, Design, Stop, a_rest, asked_of, command_of, design_of, file_of, names_in}
+use Rattle.signoff_top.specs.Phases.{Annotated, Rest, Task, CircuitOutcome, CommandOutcome, DesignOutcome, FilesOutcome, usage_line}
 use Rattle.signoff_top.specs.Putting.{PutsAll, PutsTillFault, PutsTillWant, PutsLast}
 use Rattle.wave_out.specs.Files.{LeavesPrefix}
 use Rattle.signoff_top.specs.Status.{IsDecided, IsRunEnd}
@@ -41,14 +42,16 @@ pub record HasAnswer (ws : List (List ℕ)) (how : Status) (text : List ℕ) (ol
   pub files : BothTell old.files new.files (IsRight ws how text)
 
 -- A file in a call on which the work may fail, and what is left then: one of the netlist's, where a design is asked of and the files
--- before it were read; the SDF file, where the netlist was accepted; that of what drives the inputs, where the design was; that which
--- a right answer makes.
+-- before it were read; the SDF file, where the netlist was accepted; that of what drives the inputs, where the design was; that of a
+-- saved moment, where the run was; one that a right answer makes, where those before it were made.
 pub data FaultAt (ws : List (List ℕ)) (old new : List File) : List ℕ → Type 0 where
   at_netlist : (asked : Asked) (d : Design) (before : List (List ℕ)) (name : List ℕ) (after texts : List (List ℕ)) → asked_of ws ≡ Some asked → design_of asked ≡ Some d → d.netlists ≡ before ++ name ∷ after
       → FilesOutcome before old (Ok texts) → new ≡ old → FaultAt ws old new name
   at_sdf : (asked : Asked) (d : Design) (name : List ℕ) (circuit : Circuit) → asked_of ws ≡ Some asked → design_of asked ≡ Some d → d.sdf ≡ Some name → CircuitOutcome d old (Ok circuit) → new ≡ old → FaultAt ws old new name
-  at_stimulus : (c : Command) (annotated : Annotated) → asked_of ws ≡ Some (a_run c) → DesignOutcome c.design old (Ok annotated) → new ≡ old → FaultAt ws old new (file_of c.input)
-  at_made : (answer : Answer) (made : File) → IsAnswer ws old answer → answer.made ≡ Some made → LeavesPrefix made.name made.bytes old new → FaultAt ws old new made.name
+  at_stimulus : (asked : Asked) (c : Command) (annotated : Annotated) → asked_of ws ≡ Some asked → command_of asked ≡ Some c → DesignOutcome c.design old (Ok annotated) → new ≡ old → FaultAt ws old new (file_of c.input)
+  at_state : (c : Command) (state : List ℕ) (task : Task) → asked_of ws ≡ Some (a_rest c state) → CommandOutcome c old (Ok task) → new ≡ old → FaultAt ws old new state
+  at_made : (answer : Answer) (before : List File) (made : File) (after : List File) (mid : List File) → IsAnswer ws old answer → answer.made ≡ before ++ made ∷ after → FilesAfter before old mid
+      → LeavesPrefix made.name made.bytes mid new → FaultAt ws old new made.name
 
 -- the shelf names the file of the last call that failed: one of the words, to which the work had come
 pub record NamesFaultAt (ws : List (List ℕ)) (old new : Option (List File)) (last : Option (List ℕ)) : Type 0 where
@@ -57,12 +60,13 @@ pub record NamesFaultAt (ws : List (List ℕ)) (old new : Option (List File)) (l
   pub among : Contains (names_in (asked_of ws)) name
   pub place : BothTell old new (λ before after. FaultAt ws before after name)
 
--- the file that a right answer makes is as before, or holds the first bytes of what it makes; every other file stays
-abbrev pub KeepsBut : Option File → List File → List File → Type 0
-KeepsBut None old new = new ≡ old
-KeepsBut (Some f) old new = LeavesPrefix f.name f.bytes old new
+-- of the files that a right answer makes, the first ones were made, and the next is as before, or holds the first bytes of what it is to hold; every other file stays
+abbrev pub KeepsBut : List File → List File → List File → Type 0
+KeepsBut [] old new = new ≡ old
+KeepsBut (f ∷ []) old new = LeavesPrefix f.name f.bytes old new
+KeepsBut (f ∷ g ∷ more) old new = LeavesPrefix f.name f.bytes old new ⊎ ((mid : List File) × HasAfter f.name f.bytes old mid × KeepsBut (g ∷ more) mid new)
 
--- all files are as before, or that which a right answer makes was begun
+-- all files are as before, or those which a right answer makes were begun
 abbrev pub LeavesUnfinished : List (List ℕ) → List File → List File → Type 0
 LeavesUnfinished ws old new = (new ≡ old) ⊎ ((answer : Answer) × IsAnswer ws old answer × KeepsBut answer.made old new)
 
@@ -106,12 +110,40 @@ IsStatusOf answer how = (how ≡ answer.status) ⊎ ((how ≡ status.Fault) ⊎ 
 abbrev pub KeepsByAnswer : List (List ℕ) → List File → List File → Type 0
 KeepsByAnswer ws old new = (answer : Answer) → IsAnswer ws old answer → KeepsBut answer.made old new
 
--- by the words alone: every file stays but that which they name to be made; where they name none all do
-abbrev pub KeepsByWords : Option (List ℕ) → List File → List File → Type 0
-KeepsByWords None old new = new ≡ old
-KeepsByWords (Some made) old new = (q : List ℕ) → q ≢ made → bytes_of q new ≡ bytes_of q old
+-- by the words alone: every file stays but those which they name to be made; where they name none all do
+abbrev pub KeepsByWords : List (List ℕ) → List File → List File → Type 0
+KeepsByWords [] old new = new ≡ old
+KeepsByWords (made ∷ more) old new = (q : List ℕ) → All (λ m. q ≢ m) (made ∷ more) → bytes_of q new ≡ bytes_of q old
 
 -- status 2 comes exactly where the words are refused, unless there was no memory
 abbrev pub IsUsage : Option Asked → Status → Type 0
 IsUsage None how = (how ≡ status.Usage) ⊎ (how ≡ status.NoMemory)
 IsUsage (Some asked) how = how ≢ status.Usage
+
+-- A run that goes on from the save of an earlier call: over other files, whose words stopped a run of the same circuit under the same stimulus, with the same bound, before its end; it came to its stop, and made a dump and a save.
+pub record GoesOnFrom (files : List File) (c : Command) (state : List ℕ) (task : Task) (dump : File) : Type 0 where
+  pub earlier : List File
+  pub command : Command
+  pub stop : Stop
+  pub first : Task
+  pub accepted : CommandOutcome command earlier (Ok first)
+  pub circuit : first.circuit ≡ task.circuit
+  pub input : first.input ≡ task.input
+  pub rounds : first.rounds ≡ task.rounds
+  pub before : stop.time < task.input.end
+  pub made : List File
+  pub answer : (stop_answer stop (Ok first)).made ≡ dump ∷ made
+  pub save : bytes_of state files ≡ Some (saved_of first stop)
+  pub was_saved : made ≢ []
+
+-- the dump of that call and the one that is made now are the dump of the whole run, and its violations those of that call and those that are found now
+pub record MakesWhole (task : Task) (dump : File) (earlier : List Violation) (answer : Answer) : Type 0 where
+  pub rest : Rest
+  pub answered : answer ≡ rest_answer (Ok rest)
+  pub dumps : dump.bytes ++ rest_dump rest ≡ dump_of task
+  pub violations : earlier ++ (rest_of rest).run.violations ≡ (run_of task).run.violations
+
+-- where the whole run isn't spent
+abbrev pub ResumesWhole : List (List ℕ) → List File → Type 0
+ResumesWhole ws files = (c : Command) (state : List ℕ) (task : Task) (dump : File) → asked_of ws ≡ Some (a_rest c state) → CommandOutcome c files (Ok task) → (run_of task).spent ≡ None
+    → (from : GoesOnFrom files c state task dump) → (answer : Answer) → IsAnswer ws files answer → MakesWhole task dump (stopped_of from.first from.stop).run.violations answer

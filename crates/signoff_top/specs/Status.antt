@@ -14,6 +14,7 @@ code_of status.Fault = 6
 code_of status.Rounds = 7
 code_of status.Unwritable = 8
 code_of status.NoMemory = 9
+code_of status.Save = 10
 code_of status.Missing = 11
 
 -- the run came to its end

@@ -3,9 +3,10 @@ use Rattle.std.specs.Prelude.{ℕ, ◌≡◌, ◌≤◌, ◌<◌, ◌⊎◌, ◌
 use Rattle.sg_io.specs.Files.{File}
 use Rattle.sg_io.specs.declared.outside.ShelfError.{ShelfError}
 use Rattle.sg_io.specs.declared.outside.ShelfError.TheVariants as shelf
+use Rattle.run_words.specs.declared.words.Command as code_command
 use Rattle.run_words.specs.declared.words.Asked as code_asked
 use Rattle.run_words.specs.declared.words.Asked.TheVariants as asked
-use Rattle.signoff_top.specs.Phases.{Refusal, FilesOutcome, words, missing, netlist, sdf, sdf_kind, too_large_kind, stimulus, stimulus_kind, unwritten, wave_kind}
+use Rattle.signoff_top.specs.Phases.{Refusal, FilesOutcome, words, missing, netlist, sdf, sdf_kind, too_large_kind, save, save_kind, stimulus, stimulus_kind, unwritten, wave_kind}
 use Rattle.signoff_top.specs.declared.stop.Stop as code_stop
 use Rattle.signoff_top.specs.declared.stop.Stop.TheVariants as stop
 use Rattle.signoff_top.specs.declared.stop.SdfFault.{SdfFault}
@@ -24,6 +25,7 @@ refusal_seen (refusal.Netlist name line kind) = netlist name.now line kind.items
 refusal_seen (refusal.Sdf name line fault) = sdf name.now line (sdf_fault_seen fault)
 refusal_seen (refusal.Stimulus name line kind) = stimulus name.now line (stimulus_kind kind)
 refusal_seen (refusal.Wave name line kind) = stimulus name.now line (wave_kind kind)
+refusal_seen (refusal.Save name line kind) = save name.now line (save_kind kind)
 refusal_seen (refusal.Unwritten kind path) = unwritten kind.now path.items
 
 -- the outcome that a phase returned, unless memory ran out or a call outside failed
@@ -58,6 +60,13 @@ IfFailed P (Err (stop.Refused r)) = Unit {0}
 IfFailed P (Err stop.Failed) = P
 IfFailed P (Err stop.NoMemory) = Unit {0}
 
+-- unless a call outside failed, or memory ran out
+abbrev pub UnlessCut : {X : Type 0} → Type 0 → Result X code_stop.Stop → Type 0
+UnlessCut P (Ok x) = P
+UnlessCut P (Err (stop.Refused r)) = P
+UnlessCut P (Err stop.Failed) = Unit {0}
+UnlessCut P (Err stop.NoMemory) = Unit {0}
+
 -- the shelf names one of these files in the last call that failed; where it tells its files, those before were read
 pub record FailsAtOne (names : List (List ℕ)) (held : Option (List File)) (last : Option (List ℕ)) : Type 0 where
   pub before : List (List ℕ)
@@ -81,13 +90,19 @@ SparesWords (stop.Refused (refusal.Netlist name line kind)) = Unit {0}
 SparesWords (stop.Refused (refusal.Sdf name line fault)) = Unit {0}
 SparesWords (stop.Refused (refusal.Stimulus name line kind)) = Unit {0}
 SparesWords (stop.Refused (refusal.Wave name line kind)) = Unit {0}
+SparesWords (stop.Refused (refusal.Save name line kind)) = Unit {0}
 SparesWords (stop.Refused (refusal.Unwritten kind path)) = Unit {0}
 SparesWords stop.Failed = Unit {0}
 SparesWords stop.NoMemory = Unit {0}
 
 -- a design has a netlist, and the numbers of a run are in their ranges
+abbrev pub IsRunReady : code_command.Command → Type 0
+IsRunReady c = ((1 ≤ c.rounds) × (1 ≤ c.wheel) × (c.wheel ≤ 1048576)) × (0 < length c.design.netlists.items)
+
 abbrev pub IsReady : code_asked.Asked → Type 0
-IsReady (asked.Run c) = ((1 ≤ c.rounds) × (1 ≤ c.wheel) × (c.wheel ≤ 1048576)) × (0 < length c.design.netlists.items)
+IsReady (asked.Run c) = IsRunReady c
+IsReady (asked.Stop c s) = IsRunReady c
+IsReady (asked.Rest c state) = IsRunReady c
 IsReady (asked.Writing w) = 0 < length w.design.netlists.items
 IsReady (asked.Bounds d) = 0 < length d.netlists.items
 IsReady (asked.Case stages) = Unit {0}

@@ -4,7 +4,7 @@ ghost use Rattle.sg_io.specs.Files.{BothTell, File};
 ghost use Rattle.sg_io.specs.Faults.{Rose};
 ghost use Rattle.run_words.specs.Words.{asked_of, made_in};
 ghost use Rattle.signoff_top.specs.Answer.{Answer, IsAnswer};
-ghost use Rattle.signoff_top.specs.Promises.{IsExact, IsRight, IsStatusOf, IsUsage, KeepsByAnswer, KeepsByWords, Outcome};
+ghost use Rattle.signoff_top.specs.Promises.{IsExact, IsRight, IsStatusOf, IsUsage, KeepsByAnswer, KeepsByWords, Outcome, ResumesWhole};
 ghost use Rattle.signoff_top.specs.Status.{IsDecided, IsRunEnd};
 
 use crate::report::tell;
@@ -14,9 +14,9 @@ use sg_io::{Shelf, Sink};
 use std::alloc::Global;
 
 /// Does what the words after the program's name ask for: reads the netlist from the shelf, annotates it with the delays and
-/// limits of the SDF file where one is named, reads the stimulus, simulates, writes the value change dump to the shelf, and
-/// puts the report to the sink; or reads and annotates, and puts the settle bounds; or makes the generated case, simulates it, and puts
-/// its summary. The status is the program's.
+/// limits of the SDF file where one is named, reads the stimulus, simulates, whole, up to a stop, which is saved, or from a
+/// save on, writes the value change dump to the shelf, and puts the report to the sink; or reads and annotates, and puts the
+/// settle bounds; or makes the generated case, simulates it, and puts its summary. The status is the program's.
 pub fn top<S: Shelf, K: Sink>(
     alloc: Global,
     words: &[String],
@@ -47,9 +47,14 @@ pub fn top<S: Shelf, K: Sink>(
     // Refused words are told by the words alone.
     ensures usage { IsUsage (asked_of (map (λ w. string_bytes w) words.now)) result }
 
-    // Whatever comes, the files are as before, but for the one that is made, which has the first bytes of its text.
+    // Whatever comes, the files are as before, but for those that are made, of which the last that was begun has the first bytes
+    // of its text.
     ensures kept { BothTell (S.files shelf.old) (S.files shelf.new) (KeepsByAnswer (map (λ w. string_bytes w) words.now)) }
     ensures others { BothTell (S.files shelf.old) (S.files shelf.new) (KeepsByWords (made_in (asked_of (map (λ w. string_bytes w) words.now)))) }
+
+    // A run that goes on from a save: the dump and the violations of the stopped run, and those that are made now, are those of
+    // the whole run.
+    ensures resumed { IsDecided result → (files : List File) → S.files shelf.old ≡ Some files → ResumesWhole (map (λ w. string_bytes w) words.now) files }
 
     // No fault of the shelf is passed over, and none of the sink at the end of a run.
     ensures counted { result ≢ Status.Fault → S.fault_count shelf.new ≡ S.fault_count shelf.old }

@@ -10,6 +10,7 @@ mod phases;
 mod report;
 mod status;
 mod stop;
+mod stopping;
 mod summary;
 mod system;
 mod work;

@@ -5,9 +5,9 @@ ghost use Rattle.sg_io.specs.Files.{File, bytes_of};
 ghost use Rattle.sg_stimulus.specs.Applied.{IsApplied};
 ghost use Rattle.sg_stimulus.specs.Seen.{stimulus_seen};
 ghost use Rattle.netlist_read.specs.Seen.{kind_seen};
-ghost use Rattle.run_words.specs.Words.{Asked as Asking, a_run, asked_of, design_of};
+ghost use Rattle.run_words.specs.Words.{Asked as Asking, asked_of, command_of, design_of};
 ghost use Rattle.run_words.specs.WordsSeen.{asked_seen, command_seen, design_seen};
-ghost use Rattle.signoff_top.specs.Phases.{CircuitOutcome, CommandOutcome, DesignOutcome, FileOutcome, FilesOutcome, NetlistOutcome, WordsOutcome, refused_at};
+ghost use Rattle.signoff_top.specs.Phases.{CircuitOutcome, CommandOutcome, DesignOutcome, FileOutcome, FileWithin, FilesOutcome, NetlistOutcome, WordsOutcome, refused_at};
 ghost use Rattle.signoff_top.specs.Promises.{NamesFaultAt};
 ghost use Rattle.signoff_top.specs.Stops.{FailsAtOne, Gives, IfFailed, IsReady, NeverFails, SparesWords, StopWords, end_of_phase, refusal_seen};
 ghost use Rattle.signoff_top.specs.Tasks.{annotated_seen, task_seen};
@@ -55,6 +55,29 @@ pub fn words_phase<'a>(alloc: Global, words: &'a [String]) -> Result<Asked<'a>, 
     }
 }
 
+/// The first bytes of the file of this name, up to a limit.
+pub fn file_within<'a, S: Shelf>(
+    alloc: Global,
+    shelf: &mut S,
+    name: &'a str,
+    limit: u64,
+) -> Result<Vec<u8>, Stop<'a>>
+    ensures gives { (files : List File) → S.files shelf.old ≡ Some files
+        → Gives (λ v. v.items) (FileWithin limit name.now (bytes_of name.now files)) result }
+    ensures held { S.files shelf.new ≡ S.files shelf.old }
+    ensures cause { Cause (S.fault_count shelf.old) (S.fault_count shelf.new) (end_of_phase result) }
+    ensures named { IfFailed (S.last_fault shelf.new ≡ Some name.now) result }
+    ensures words { IfErr result (λ s. SparesWords s) }
+{
+    match shelf.read(alloc, name, limit) {
+        Ok(bytes) => Ok(bytes),
+        Err(ReadError::Missing) => Err(Stop::Refused(Refusal::Missing(name))),
+        Err(ReadError::Failed) => Err(Stop::Failed),
+        Err(ReadError::NoMemory) => Err(Stop::NoMemory),
+    }
+}
+
+/// An input file.
 pub fn file_phase<'a, S: Shelf>(
     alloc: Global,
     shelf: &mut S,
@@ -67,12 +90,7 @@ pub fn file_phase<'a, S: Shelf>(
     ensures named { IfFailed (S.last_fault shelf.new ≡ Some name.now) result }
     ensures words { IfErr result (λ s. SparesWords s) }
 {
-    match shelf.read(alloc, name, READ_LIMIT) {
-        Ok(bytes) => Ok(bytes),
-        Err(ReadError::Missing) => Err(Stop::Refused(Refusal::Missing(name))),
-        Err(ReadError::Failed) => Err(Stop::Failed),
-        Err(ReadError::NoMemory) => Err(Stop::NoMemory),
-    }
+    file_within(alloc, shelf, name, READ_LIMIT)
 }
 
 // The files of these names, in order.
@@ -213,7 +231,7 @@ pub fn task_of<'a, S: Shelf>(
     ensures ranges { IfOk result (λ t. (1 ≤ t.rounds) × (1 ≤ t.wheel) × (t.wheel ≤ 1048576)) }
     ensures held { S.files shelf.new ≡ S.files shelf.old }
     ensures cause { Cause (S.fault_count shelf.old) (S.fault_count shelf.new) (end_of_phase result) }
-    ensures named { (ws : List (List ℕ)) → asked_of ws ≡ Some (a_run (command_seen command.now))
+    ensures named { (ws : List (List ℕ)) (asked : Asking) → asked_of ws ≡ Some asked → command_of asked ≡ Some (command_seen command.now)
         → IfFailed (NamesFaultAt ws (S.files shelf.old) (S.files shelf.new) (S.last_fault shelf.new)) result }
     ensures words { IfErr result (λ s. SparesWords s) }
     ensures vcd { IfOk result (λ t. t.vcd.now ≡ (command_seen command.now).vcd) }

@@ -1,16 +1,16 @@
 // The report.
-ghost use Rattle.std.specs.Prelude.{◌≡◌, ◌++◌, [], ℕ, List, IfOk, IfErr, codes, map};
+ghost use Rattle.std.specs.Prelude.{◌≡◌, ◌++◌, [], ℕ, List, IfOk, IfErr, None, codes, map};
 ghost use Rattle.std.specs.Option.{option_copied};
 ghost use Rattle.sg_circuit.specs.Circuit.{Circuit};
 ghost use Rattle.sg_io.specs.Put.{SinkTold};
 ghost use Rattle.sg_model.specs.Machine.{Violation as ViolationSeen};
 ghost use Rattle.time_checks.specs.Seen.{violation_seen};
-ghost use Rattle.wave_out.specs.Report.{Unmatched, report_lines};
-ghost use Rattle.wave_out.specs.Reporting.{PutsMade, unmatched_seen};
-ghost use Rattle.wave_out.specs.Spent.{end_spent, end_time, spent_seen};
+ghost use Rattle.run_report.specs.Report.{Unmatched, report_lines, stopped_lines};
+ghost use Rattle.run_report.specs.Reporting.{PutsMade, unmatched_seen};
+ghost use Rattle.run_report.specs.Spent.{end_spent, end_time, spent_seen};
 ghost use Rattle.wave_out.specs.Texts.{line};
 ghost use Rattle.signoff_top.specs.Answer.{fault_line, no_memory_line, status_of_run as end_status};
-ghost use Rattle.signoff_top.specs.Phases.{located_line, refusal_line, sdf_kind, status_of_refusal, stimulus_kind, unwritten, wave_kind};
+ghost use Rattle.signoff_top.specs.Phases.{located_line, refusal_line, save, save_kind, sdf_kind, status_of_refusal, stimulus_kind, unwritten, wave_kind};
 ghost use Rattle.signoff_top.specs.Putting.{PutsBy, PutsLast};
 ghost use Rattle.signoff_top.specs.Stops.{refusal_seen, sdf_fault_seen};
 ghost use Rattle.signoff_top.specs.Work.{Tells, TellsEnd, TellsStop, case_told, quiet_violations, settle_status};
@@ -19,19 +19,20 @@ use crate::bounds::BoundsDone;
 use crate::status::Status;
 use crate::stop::{Refusal, SdfFault, Stop};
 use crate::summary::case_text;
-use crate::work::{CaseDone, Done, RunDone};
+use crate::work::{CaseDone, Done, RunDone, StopDone, UnsavedDone};
 use crate::writing::WritingDone;
 use itoa::Buffer;
+use run_report::{ReportEnd, Spent, write_report, write_stopped};
 use sdf_read::SdfKind;
 use sg_io::{ShelfError, Sink};
+use sim_save::SaveKind;
 use std::alloc::{AllocError, Global};
 use stim_read::StimKind;
 use time_checks::Violation;
 use vcd_model::VcdKind;
-use wave_out::{ReportEnd, Spent, write_report};
 
 const USAGE: &str =
-    "usage: signoff run NETLIST.. (--stim F | --wave F [--scope PATH]) --vcd F [--sdf F] [--top NAME] [--corner min|typ|max] [--rounds N] [--wheel N] | signoff annotate NETLIST.. --out F [--sdf F] [--top NAME] [--corner min|typ|max] | signoff settle NETLIST.. [--sdf F] [--top NAME] [--corner min|typ|max] | signoff gen N";
+    "usage: signoff run NETLIST.. (--stim F | --wave F [--scope PATH]) --vcd F [--stop T --save F] [--sdf F] [--top NAME] [--corner min|typ|max] [--rounds N] [--wheel N] | signoff resume NETLIST.. --state F (--stim F | --wave F [--scope PATH]) --vcd F [--sdf F] [--top NAME] [--corner min|typ|max] [--rounds N] [--wheel N] | signoff annotate NETLIST.. --out F [--sdf F] [--top NAME] [--corner min|typ|max] | signoff settle NETLIST.. [--sdf F] [--top NAME] [--corner min|typ|max] | signoff gen N";
 
 // A word and a name, on a line of their own.
 fn named_line(alloc: Global, before: &str, name: &str) -> Result<Vec<u8>, AllocError>
@@ -117,6 +118,31 @@ fn wave_word(kind: VcdKind) -> &'static str
     }
 }
 
+fn save_word(kind: SaveKind) -> &'static str
+    ensures { result.now ≡ save_kind kind }
+{
+    match kind {
+        SaveKind::TooLarge => "TooLarge",
+        SaveKind::Damaged => "Damaged",
+        SaveKind::Syntax => "Syntax",
+        SaveKind::OtherCircuit => "OtherCircuit",
+        SaveKind::BadMoment => "BadMoment",
+        SaveKind::PastEnd => "PastEnd",
+    }
+}
+
+fn save_refusal(alloc: Global, name: &str, line: u64, kind: SaveKind) -> Result<Vec<u8>, AllocError>
+    ensures { IfOk result (λ v. v.items ≡ refusal_line (save name.now line (save_kind kind))) }
+{
+    located_text(
+        alloc,
+        "save refused: ",
+        name,
+        line,
+        save_word(kind).as_bytes(),
+    )
+}
+
 fn stimulus_text(alloc: Global, name: &str, line: u64, kind: &str) -> Result<Vec<u8>, AllocError>
     ensures { IfOk result (λ v. v.items ≡ located_line (codes "stimulus refused: ") name.now line kind.now) }
 {
@@ -157,6 +183,7 @@ fn refusal_text(alloc: Global, refusal: &Refusal<'_>) -> Result<Vec<u8>, AllocEr
         Refusal::Wave { name, line, kind } => {
             stimulus_text(alloc, name, *line, wave_word(*kind))
         }
+        Refusal::Save { name, line, kind } => save_refusal(alloc, name, *line, *kind),
         Refusal::Unwritten { kind, path } => unwritten_text(alloc, kind, path),
     }
 }
@@ -170,6 +197,7 @@ fn status_of(refusal: &Refusal<'_>) -> Status
         Refusal::Netlist { .. } => Status::Netlist,
         Refusal::Sdf { .. } => Status::Sdf,
         Refusal::Stimulus { .. } | Refusal::Wave { .. } => Status::Stimulus,
+        Refusal::Save { .. } => Status::Save,
         Refusal::Unwritten { .. } => Status::Unwritable,
     }
 }
@@ -240,7 +268,7 @@ fn put_made<K: Sink>(report: &mut K, planned: Status, made: Result<Vec<u8>, Allo
 }
 
 // How a run ended, by the end of its stimulus and by the time that was spent, if there was one.
-#[tactic(auto, unfolding(wave_out::specs::Report::report_lines))]
+#[tactic(auto, unfolding(run_report::specs::Report::report_lines))]
 fn report_end(end: u64, spent: Option<Spent>) -> ReportEnd
     ensures { (c : Circuit) (us : List Unmatched) (vs : List ViolationSeen) → report_lines c us vs (end_time result) (end_spent result) ≡ report_lines c us vs end (spent_seen spent) }
 {
@@ -274,6 +302,32 @@ fn tell_run<K: Sink>(alloc: Global, done: &RunDone<'_>, report: &mut K) -> Statu
         report,
     );
     tell_put(report, planned, put)
+}
+
+fn tell_stopped<K: Sink>(alloc: Global, done: &StopDone<'_>, report: &mut K) -> Status
+    ensures { Tells (stopped_lines done.now.task.circuit (map (unmatched_seen done.now.task.sdf.items) done.now.task.unmatched.items) (map (λ v. violation_seen v) done.now.violations.items) done.now.time) (end_status None (map (λ v. violation_seen v) done.now.violations.items)) (K.told report.old) (K.told report.new) result }
+{
+    let planned = status_of_run(None, &done.violations);
+    let put = write_stopped(
+        alloc,
+        &done.task.circuit,
+        &done.task.sdf,
+        &done.task.unmatched,
+        &done.violations,
+        done.time,
+        report,
+    );
+    tell_put(report, planned, put)
+}
+
+fn tell_unsaved<K: Sink>(alloc: Global, done: &UnsavedDone<'_>, report: &mut K) -> Status
+    ensures { Tells (refusal_line (save done.now.save.now 1 (save_kind SaveKind.TooLarge))) Status.Save (K.told report.old) (K.told report.new) result }
+{
+    put_made(
+        report,
+        Status::Save,
+        save_refusal(alloc, done.save, 1, SaveKind::TooLarge),
+    )
 }
 
 fn tell_writing<K: Sink>(done: &WritingDone, report: &mut K) -> Status
@@ -335,6 +389,8 @@ pub fn tell<K: Sink>(
 {
     match end {
         Ok(Done::Run(done)) => tell_run(alloc, done, report),
+        Ok(Done::Stop(done)) => tell_stopped(alloc, done, report),
+        Ok(Done::Unsaved(done)) => tell_unsaved(alloc, done, report),
         Ok(Done::Writing(done)) => tell_writing(done, report),
         Ok(Done::Bounds(done)) => tell_bounds(done, report),
         Ok(Done::Case(done)) => tell_case(alloc, done, report),

@@ -14,6 +14,7 @@ pub enum Status {
     Rounds,
     Unwritable,
     NoMemory,
+    Save,
     Missing,
 }
 
@@ -33,6 +34,7 @@ impl Status {
             Status::Rounds => 7,
             Status::Unwritable => 8,
             Status::NoMemory => 9,
+            Status::Save => 10,
             Status::Missing => 11,
         }
     }

@@ -1,6 +1,7 @@
 // Why the work ends before its report.
 use sdf_read::SdfKind;
 use sg_text::NoMemory;
+use sim_save::SaveKind;
 use std::alloc::{AllocError, AllocFailed};
 use stim_read::StimKind;
 use vcd_model::VcdKind;
@@ -37,6 +38,11 @@ pub enum Refusal<'a> {
         name: &'a str,
         line: u64,
         kind: VcdKind,
+    },
+    Save {
+        name: &'a str,
+        line: u64,
+        kind: SaveKind,
     },
     /// Why delays can't be written, and the path of an instance in which that is so.
     Unwritten {

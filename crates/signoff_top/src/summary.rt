@@ -6,8 +6,8 @@ ghost use Rattle.signoff_top.specs.Work.{case_told};
 
 use crate::work::CaseDone;
 use itoa::Buffer;
+use run_report::{Spent, spent_text};
 use std::alloc::{AllocError, Global};
-use wave_out::{Spent, spent_text};
 
 /// Adds a word and a number, on a line of their own.
 pub fn push_count(text: &mut Vec<u8>, word: &str, count: u64) -> Result<(), AllocError>

@@ -7,8 +7,8 @@ ghost use Rattle.sg_circuit.specs.Circuit.{Circuit as Seen};
 ghost use Rattle.run_words.specs.Words.{a_writing, asked_of};
 ghost use Rattle.run_words.specs.WordsSeen.{writing_seen};
 ghost use Rattle.wave_out.specs.Files.{Leaves};
-ghost use Rattle.wave_out.specs.Report.{path_of};
-ghost use Rattle.wave_out.specs.Reporting.{unmatched_seen};
+ghost use Rattle.run_report.specs.Report.{path_of};
+ghost use Rattle.run_report.specs.Reporting.{unmatched_seen};
 ghost use Rattle.written_model.specs.Faults.{FaultStands};
 ghost use Rattle.signoff_top.specs.Answer.{written_lines};
 ghost use Rattle.signoff_top.specs.Phases.{TextOutcome, WritingOutcome, unwritten, unwritten_by};
@@ -20,12 +20,12 @@ use crate::annotation::Annotated;
 use crate::phases::annotated_of;
 use crate::stop::{Refusal, Stop};
 use crate::summary::push_count;
+use run_report::{push_path, push_unmatched};
 use run_words::Writing;
 use sdf_write::{WriteError, sdf_text};
 use sg_circuit::Circuit;
 use sg_io::{Shelf, ShelfError};
 use std::alloc::{AllocError, Global};
-use wave_out::{push_path, push_unmatched};
 
 /// What is written of a design.
 #[derive(Drop)]

@@ -1,5 +1,5 @@
 -- The timing checks of a circuit before time 0, and after a snapshot.
-use Rattle.std.specs.Prelude.{◌≡◌, ℕ, suc, ◌<◌, ◌^◌, false, All, IfSome, List, [], ◌∷◌, ◌++◌, drop, length, map, Option, Some, None, refl}
+use Rattle.std.specs.Prelude.{◌≡◌, ℕ, suc, ◌<◌, false, All, IfSome, List, [], ◌∷◌, ◌++◌, drop, length, map, Option, Some, None, refl}
 use Rattle.std.proofs.Common.{sym, ◌∙◌, ap, subst, arith}
 use Rattle.std.specs.List.{enumerate_from}
 use Rattle.std.proofs.lemmas.List.{length-map, length-replicate}

@@ -1,5 +1,5 @@
 -- The moment that a simulation has come to.
-use Rattle.std.specs.Prelude.{◌≡◌, ℕ, zero, suc, ◌+◌, ◌-◌, ◌^◌, ◌<◌, ◌≤◌, min, true, false, if◌then◌else◌, List, [], ◌∷◌, ◌++◌, length, map, reverse, take, drop, slice_index_or, refl, Some, None}
+use Rattle.std.specs.Prelude.{◌≡◌, ℕ, suc, ◌+◌, ◌-◌, ◌^◌, ◌<◌, ◌≤◌, min, true, false, if◌then◌else◌, List, [], ◌∷◌, ◌++◌, length, map, reverse, take, drop, slice_index_or, refl, Some, None}
 use Rattle.std.specs.declared.option.Option.{Option}
 use Rattle.std.proofs.Common.{sym, ◌∙◌, ap, arith, append_assoc, append-nil}
 use Rattle.std.proofs.lemmas.List.{drop_all, drop_more, get_or-take, reverse-append, reverse-reverse, length-reverse, take-take, take-set-le}
@@ -7,7 +7,7 @@ use Rattle.std.proofs.lemmas.Option.{same_Some, none-some}
 use Rattle.sg_logic.specs.declared.values.Value.{Value}
 use Rattle.sg_logic.specs.declared.values.Value.TheVariants.{X}
 use Rattle.sg_model.specs.Agenda.{list_at, with_list}
-use Rattle.sg_model.specs.Machine.{Snapshot, State}
+use Rattle.sg_model.specs.Machine.{Snapshot}
 use Rattle.sg_model.specs.Pending.{first_of, last_of, rest_of, without_last}
 use Rattle.sg_model.specs.Round.{each_from}
 use Rattle.sg_circuit.specs.declared.elements.Element as code_element

@@ -1,5 +1,5 @@
 -- What a moment says of pending transitions and of the values that elements computed last, place by place.
-use Rattle.std.specs.Prelude.{◌≡◌, ◌≢◌, ◌⊎◌, ℕ, zero, suc, ◌+◌, ◌<◌, ◌≤◌, ◌^◌, ◌==◌, true, if◌then◌else◌, All, IfSome, List, [], ◌∷◌, ◌++◌, length, map, drop, replicate, reverse, slice_index_or, slice_set, Option, Some, None, refl}
+use Rattle.std.specs.Prelude.{◌≡◌, ◌≢◌, ◌⊎◌, ℕ, zero, suc, ◌+◌, ◌<◌, ◌≤◌, if◌then◌else◌, All, IfSome, List, [], ◌∷◌, ◌++◌, length, map, drop, replicate, reverse, slice_index_or, slice_set, Option, Some, None, refl}
 use Rattle.std.proofs.Common.{sym, ◌∙◌, ap, subst, arith, inl, inr, zero-add}
 use Rattle.std.proofs.lemmas.Bool.{cases_eq}
 use Rattle.std.proofs.lemmas.List.{append_assoc, drop_more, ext_get_or, get_or-map, get_or-set_other, get_or-set_same, length-map, length-set, reverse-append}
@@ -7,7 +7,6 @@ use Rattle.sg_logic.specs.declared.values.Value.{Value}
 use Rattle.sg_logic.specs.declared.values.Value.TheVariants.{X}
 use Rattle.sg_model.specs.Agenda.{list_at, with_list, Rises}
 use Rattle.sg_model.specs.Pending.{last_value, value_of_first, Follows, IsAbove}
-use Rattle.sg_model.specs.Machine.{Stamp}
 use Rattle.sg_model.specs.Round.{each_from}
 use Rattle.sg_model.specs.Values.{value_at}
 use Rattle.sg_circuit.specs.Circuit.{Circuit, Element, Pass, element_at, net_at}

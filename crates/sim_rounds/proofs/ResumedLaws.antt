@@ -1,24 +1,21 @@
 -- A run goes on from a moment that fits its circuit.
-use Rattle.std.specs.Prelude.{◌≡◌, ℕ, zero, suc, ◌+◌, ◌-◌, ◌<◌, ◌≤◌, Bool, false, if◌then◌else◌, All, List, [], ◌∷◌, length, map, slice_index_or, None, refl}
+use Rattle.std.specs.Prelude.{◌≡◌, ℕ, zero, suc, ◌+◌, ◌-◌, ◌<◌, ◌≤◌, Bool, if◌then◌else◌, List, [], ◌∷◌, length, slice_index_or, None, refl}
 use Rattle.std.proofs.Common.{sym, ◌∙◌, ap, subst, arith, zero-add}
 use Rattle.std.proofs.lemmas.List.Elements.{All-nil}
 use Rattle.sg_logic.specs.declared.values.Value.{Value}
 use Rattle.sg_logic.specs.declared.values.Value.TheVariants.{X}
 use Rattle.sg_model.specs.Agenda.{list_at}
 use Rattle.sg_model.specs.FanOut.{IsSettled}
-use Rattle.sg_model.specs.Machine.{State}
 use Rattle.sg_model.specs.Pending.{last_value, IsPending}
-use Rattle.sg_model.specs.Quiet.{IsSeen}
-use Rattle.sg_model.specs.Values.{are_same, value_at}
+use Rattle.sg_model.specs.Values.{value_at}
 use Rattle.sg_circuit.specs.Circuit.{Circuit, Element, Pass, element_at}
-use Rattle.fan_round.specs.Nets.{differs}
 use Rattle.fan_round.specs.Rounds.{ArePending, AreSettled}
 use Rattle.fan_round.proofs.ListLaws.{each_from-at, length-each_from}
 use Rattle.sim_times.specs.Runs.{IsOriginOf, changed_since}
 use Rattle.sim_times.specs.Times.{Kept}
 use Rattle.sim_times.specs.Watching.{AreCalls, AreDifferences, Call, HasTold, NetChange, at_zero, end_call}
 use Rattle.sim_times.proofs.CallLaws.{same-self_all}
-use Rattle.sim_rounds.specs.Moments.{Fits, Moment, computed_last, pending_of, run_of_moment, snapshot_of, state_of}
+use Rattle.sim_rounds.specs.Moments.{Fits, Moment, computed_last, pending_of, snapshot_of, state_of}
 use Rattle.sim_rounds.specs.Simulated.{machine_of}
 use Rattle.sim_rounds.specs.Stopping.{origin_at, told_of}
 use Rattle.sim_rounds.proofs.EngineLaws.{CanGoOn}
@@ -89,7 +86,7 @@ since_none zero = refl
 since_none (suc last) = refl
 
 -- the run goes on after the moment
-pub begins_after : (circuit : Circuit) (end : ℕ) (m : Moment) (kept : Kept) → m.time < end → kept.told ≡ m.nets → kept.last ≡ m.last → IsOriginOf (m.time + 1) end kept (origin_at circuit end m)
+pub begins_after : (circuit : Circuit) (end : ℕ) (m : Moment) (kept : Kept) → m.time ≤ end → kept.told ≡ m.nets → kept.last ≡ m.last → IsOriginOf (m.time + 1) end kept (origin_at circuit end m)
 begins_after circuit end m kept before told last = record {
   is = record {
     left = let e : suc m.time + (end - m.time) ≡ suc end = omega arith in e;

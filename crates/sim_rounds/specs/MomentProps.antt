@@ -1,6 +1,6 @@
 -- That a moment fits a circuit has one proof at most.
-use Rattle.std.specs.Prelude.{ℕ, List, [], ◌∷◌, reverse, Option, Some, None}
-use Rattle.std.specs.Coded.{Coded, Coded-set, codes, coded_ℕ, le_prop}
+use Rattle.std.specs.Prelude.{ℕ, List, [], ◌∷◌, Option, Some, None}
+use Rattle.std.specs.Coded.{Coded, Coded-set, codes}
 use Rattle.std.proofs.Props.{props}
 use Rattle.sg_logic.specs.declared.values.Value.{Value}
 use Rattle.sg_model.specs.Pending.{Follows, IsAbove}

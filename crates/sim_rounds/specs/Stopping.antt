@@ -1,6 +1,5 @@
 -- What a run leaves that is stopped after a time, and where a run goes on from a moment.
 use Rattle.std.specs.Prelude.{◌≡◌, ℕ, suc, ◌+◌, ◌-◌, List, [], ◌∷◌, Result, Ok, Err, map}
-use Rattle.sg_logic.specs.declared.values.Value.{Value}
 use Rattle.sg_circuit.specs.Circuit.{Circuit}
 use Rattle.sg_stimulus.specs.Stimulus.{Stimulus, sets_at}
 use Rattle.time_checks.specs.declared.latest.Latest.{Latest}
@@ -9,7 +8,6 @@ use Rattle.sim_times.specs.Runs.{HasStoppedFrom, Origin, Setting, run_from, time
 use Rattle.sim_times.specs.Times.{count_shown}
 use Rattle.sim_times.specs.Watching.{Call, end_call}
 use Rattle.sim_times.specs.declared.runs.SimEnd.{SimEnd}
-use Rattle.sim_rounds.specs.declared.sim.Finished as code_finished
 use Rattle.sim_rounds.specs.declared.stops.Until.{Until}
 use Rattle.sim_rounds.specs.declared.stops.Until.TheVariants.{Ended, Paused}
 use Rattle.sim_rounds.specs.Moments.{Fits, Moment, moment_of, run_of_moment, state_of}

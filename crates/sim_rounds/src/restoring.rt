@@ -20,15 +20,11 @@ fn stamp_of(change: Option<LastChange>) -> Option<Stamp>
     requires { IfSome change (λ c. c.time < 2 ^ 60) }
     ensures { stamp_seen result ≡ change_seen change }
 {
-    let LastChange {
-        time,
-        before,
-        after,
-    } = change?;
+    let change = change?;
     Some(Stamp {
-        time,
-        before,
-        after,
+        time: change.time,
+        before: change.before,
+        after: change.after,
     })
 }
 

@@ -9,14 +9,17 @@ ghost use Rattle.sim_rounds.specs.Moments.{Fits, snapshot_of, state_of};
 ghost use Rattle.sim_rounds.specs.MomentsSeen.{moment_seen};
 
 use crate::engine::Engine;
+use crate::laws::moments_of_runs_fit;
 use crate::moments::Moment;
+use crate::pausing::stop;
 use crate::sim::{Finished, recall_closed, tally_of};
+use crate::stops::Until;
 use pulse_list::Agenda;
 use sg_circuit::Circuit;
 use sg_io::Shelf;
 use sg_steps::Steps;
 use sg_stimulus::Stimulus;
-use sim_times::{Watch, make_times};
+use sim_times::{Watch, make_times, make_times_until};
 use std::sync::ledger::Ledger;
 
 /// A circuit after the time of a moment.
@@ -37,7 +40,7 @@ impl<'a, A: Agenda + Drop> Resumed<'a, A> {
     ghost use Rattle.time_checks.specs.Seen.{violation_seen};
     ghost use Rattle.sim_times.specs.Runs.{CauseOfEnd, HasEndedFrom, NamesFaultOfEnd};
     ghost use Rattle.sim_times.specs.Times.{count_shown};
-    ghost use Rattle.sim_rounds.specs.Stopping.{origin_at, setting_since, told_of};
+    ghost use Rattle.sim_rounds.specs.Stopping.{HasStopped, end_of, origin_at, setting_since, told_of};
 
     /// Makes the rest of the run of the circuit under a stimulus, from the tick after the moment on, to the stimulus's end or to a time that needs more
     /// rounds than so many, and tells the watcher: at each time whose nets differ from those of the time before, with
@@ -88,5 +91,52 @@ impl<'a, A: Agenda + Drop> Resumed<'a, A> {
             end,
             tally: tally_of(simulation),
         }
+    }
+
+    /// Makes the rest as `run` does, up to a time that isn't below the moment's nor the end, and then pauses it. The new
+    /// moment counts evaluations on from the old one.
+    pub fn run_until<S: Shelf, W: Watch<S>, L: Ledger>(
+        self,
+        stimulus: &Stimulus,
+        until: u64,
+        rounds: u32,
+        shelf: &mut S,
+        watcher: &mut W,
+        steps: &mut Steps<L>,
+    ) -> Until
+        requires rounds { 0 < rounds }
+        requires from { self.moment.now.time ≤ until }
+        requires until { until < stimulus.now.end }
+        requires nets { length (W.circuit watcher.old).nets ≤ length self.circuit.now.nets }
+        requires told { W.stands watcher.old shelf.old (told_of (moment_seen self.moment.now)) }
+        requires stimulus { IsApplied self.circuit.now (stimulus_seen stimulus.now) }
+        ensures stopped { HasStopped W.stands W.broken watcher.old watcher.new shelf.old shelf.new self.entry.circuit.now self.entry.moment.now.latest.items (setting_since self.entry.circuit.now (record (stimulus_seen stimulus.now) { end = until }) rounds (moment_seen self.entry.moment.now))
+            (origin_at self.entry.circuit.now until (moment_seen self.entry.moment.now)) until self.entry.moment.now.evaluations (steps.new - steps.old) result }
+        ensures steps { steps.old ≤ steps.new }
+        ensures cause { CauseOfEnd (S.fault_count shelf.old) (S.fault_count shelf.new) (end_of result) }
+        ensures named { NamesFaultOfEnd (W.name watcher.old) (S.last_fault shelf.old) (S.last_fault shelf.new) (end_of result) }
+        ensures name { W.name watcher.new ≡ W.name watcher.old }
+        ensures circuit { W.circuit watcher.new ≡ W.circuit watcher.old }
+        ensures keeps { W.keeps watcher.old shelf.old shelf.new }
+    {
+        recall_closed(self.circuit);
+        moments_of_runs_fit();
+        let Resumed {
+            circuit,
+            moment,
+            engine,
+        } = self;
+        let alloc = engine.alloc;
+        let mut simulation = engine.simulate(stimulus, moment.last);
+        let made = make_times_until(
+            &mut simulation,
+            moment.time + 1,
+            until,
+            rounds,
+            shelf,
+            watcher,
+            steps,
+        );
+        stop(alloc, circuit, simulation, made, until, moment.evaluations)
     }
 }

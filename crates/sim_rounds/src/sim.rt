@@ -227,8 +227,8 @@ impl<'a, A: Agenda + Drop> Sim<'a, A> {
         requires nets { length (W.circuit watcher.old).nets ≤ length self.circuit.now.nets }
         requires none_told { W.stands watcher.old shelf.old [] }
         requires stimulus { IsApplied self.circuit.now (stimulus_seen stimulus.now) }
-        ensures stopped { HasStopped W.stands W.broken watcher.old watcher.new shelf.old shelf.new self.entry.circuit.now [] (setting_of self.entry.circuit.now (stimulus_seen stimulus.now) rounds)
-            (origin_of (setting_of self.entry.circuit.now (stimulus_seen stimulus.now) rounds)) until 0 (steps.new - steps.old) result }
+        ensures stopped { HasStopped W.stands W.broken watcher.old watcher.new shelf.old shelf.new self.entry.circuit.now [] (setting_of self.entry.circuit.now (record (stimulus_seen stimulus.now) { end = until }) rounds)
+            (origin_of (setting_of self.entry.circuit.now (record (stimulus_seen stimulus.now) { end = until }) rounds)) until 0 (steps.new - steps.old) result }
         ensures steps { steps.old ≤ steps.new }
         ensures cause { CauseOfEnd (S.fault_count shelf.old) (S.fault_count shelf.new) (end_of result) }
         ensures named { NamesFaultOfEnd (W.name watcher.old) (S.last_fault shelf.old) (S.last_fault shelf.new) (end_of result) }

@@ -4,9 +4,6 @@ pub mod TextLaws
 pub mod ListLaws
 pub mod WalkLaws
 pub mod ScopeLaws
-pub mod PathLaws
-pub mod ReachedLines
-pub mod ReportLaws
 pub mod HeaderLaws
 pub mod BlockLaws
 pub mod SortedLaws

@@ -12,7 +12,7 @@ use Rattle.sg_circuit.specs.Circuit.{Variable}
 use Rattle.wave_out.specs.Texts.{by_number}
 use Rattle.wave_out.specs.Vcd.{Dump, any_variable_differs, change_line, dump, dump_text, dump_with, end_line, first_block, later_block, time_line, value_line, values_at}
 use Rattle.wave_out.proofs.CallLaws.{Agree, any_same}
-use Rattle.wave_out.proofs.DumpLaws.{dump-more, shows}
+use Rattle.wave_out.proofs.DumpLaws.{shows}
 
 -- variables that agree differ from others alike
 any_alike : (xs : List Variable) (a b new : List Value) → Agree xs a b → any_variable_differs xs a new ≡ any_variable_differs xs b new

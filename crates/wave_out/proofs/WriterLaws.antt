@@ -11,7 +11,7 @@ use Rattle.wave_out.specs.Changes.{IsText}
 use Rattle.wave_out.specs.Files.{FileBegins, FileHolds}
 use Rattle.wave_out.specs.Scopes.{variables_of}
 use Rattle.wave_out.specs.Vcd.{dump_text, header}
-use Rattle.wave_out.specs.Writing.{AddsText, BeginsRest, BreaksOff, Holds, HoldsRest, HoldsText, IsTextOf, LeavesText, Writer, dump_after, text_after, text_behind, time_of}
+use Rattle.wave_out.specs.Writing.{AddsText, BeginsRest, BreaksOff, Holds, HoldsRest, HoldsText, IsTextOf, LeavesText, Writer, dump_after, text_after, text_behind}
 use Rattle.wave_out.proofs.BehindLaws.{behind_adds}
 use Rattle.wave_out.proofs.CallLaws.{Adds, added, grows, one_more, time_after}
 use Rattle.wave_out.proofs.FileLaws.{appended_err, appended_ok, begins}

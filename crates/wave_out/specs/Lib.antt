@@ -2,10 +2,6 @@
 pub mod Texts
 pub mod Scopes
 pub mod Vcd
-pub mod Report
-pub mod Reporting
-pub mod Spent
-pub mod Above
 pub mod Walk
 pub mod Lines
 pub mod Changes

@@ -1,9 +1,9 @@
-// Words of the dump and of the report: names, numbers, codes and ticks.
+// Words of the dump: names, numbers, codes and ticks.
 ghost use Rattle.std.specs.Prelude.{◌≡◌, ◌++◌, ◌∷◌, ◌&&◌, ◌<◌, not, decimal, OnOk};
 ghost use Rattle.std.specs.Fmt.{signed_decimal};
 ghost use Rattle.sg_text.specs.Names.{is_simple};
 ghost use Rattle.sg_text.specs.Words.{is_reserved_word};
-ghost use Rattle.wave_out.specs.Texts.{written_name, bit_text};
+ghost use Rattle.wave_out.specs.Texts.{written_name};
 ghost use Rattle.wave_out.specs.Vcd.{code, number_of, unit_of, text_below, tick_text, range_text};
 
 use itoa::Buffer;
@@ -125,25 +125,6 @@ pub fn push_range(text: &mut Vec<u8>, range: Option<Range>) -> Result<(), AllocE
 {
     match range {
         Some(range) => push_indices(text, range),
-        None => Ok(()),
-    }
-}
-
-fn push_index(text: &mut Vec<u8>, bit: i64) -> Result<(), AllocError>
-    ensures { OnOk result (text.new.items ≡ text.old.items ++ bit_text (Some bit)) }
-{
-    text.push(b'[')?;
-    push_signed(text, bit)?;
-    text.push(b']')?;
-    Ok(())
-}
-
-/// Adds the index of a bit, if there is one.
-pub fn push_bit(text: &mut Vec<u8>, bit: Option<i64>) -> Result<(), AllocError>
-    ensures { OnOk result (text.new.items ≡ text.old.items ++ bit_text bit) }
-{
-    match bit {
-        Some(bit) => push_index(text, bit),
         None => Ok(()),
     }
 }

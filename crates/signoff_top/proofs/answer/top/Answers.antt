@@ -1,6 +1,10 @@
-use Rattle.std.proofs.Common.{subst}
+use Rattle.std.proofs.Common.{map, subst}
+use Rattle.std.specs.Prelude.{string_bytes}
+use Rattle.signoff_top.specs.Tasks.{IsSound}
 use Rattle.signoff_top.specs.Work.{TellsEnd}
 use Rattle.signoff_top.proofs.Promised.{outcome, headline, answer, exact, usage, kept, others, counted, run_end}
+use Rattle.signoff_top.proofs.Resumed.{resumes_whole}
+use Rattle.signoff_top.proofs.Sound.{decided_sound}
 use Rattle.signoff_top.proofs.answer.top.Goals as goal
 
 pub returns-clause-outcome : goal.returns-clause-outcome
@@ -31,3 +35,12 @@ returns-clause-counted g c = counted _ _ _ _ _ _ (returns-clause-outcome g c)
 
 pub returns-clause-run_end : goal.returns-clause-run_end
 returns-clause-run_end g c = run_end _ _ _ _ _ _ (returns-clause-outcome g c)
+
+pub returns-clause-resumed : goal.returns-clause-resumed
+returns-clause-resumed g c =
+    let ws = map (λ w. string_bytes w) c.args.words.now in
+    let last = g.S.Shelf.last_fault c.work-end.new.shelf in
+    let old = g.K.Sink.told c.args.report.now in
+    let new = g.K.Sink.told c.tell.new.report in
+    λ decided files e. resumes_whole ws files (λ d state task asked k.
+    decided_sound (IsSound task) last c.work-end.result old new c.tell.result (c.work-end.ensures.sound files d state task e asked k) (subst (λ n. TellsEnd n c.work-end.result old new c.tell.result) c.failed.ensures.last c.tell.ensures) decided)

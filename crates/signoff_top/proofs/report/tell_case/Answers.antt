@@ -1,6 +1,6 @@
 use Rattle.std.proofs.Common.{◌∙◌, ap, map}
 use Rattle.time_checks.specs.Seen.{violation_seen}
-use Rattle.wave_out.specs.Spent.{spent_seen}
+use Rattle.run_report.specs.Spent.{spent_seen}
 use Rattle.signoff_top.specs.Answer.{status_of_run}
 use Rattle.signoff_top.specs.Work.{case_told}
 use Rattle.signoff_top.proofs.Telling.{made_tells}

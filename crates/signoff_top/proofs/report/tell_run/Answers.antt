@@ -1,8 +1,8 @@
 use Rattle.std.proofs.Common.{◌∙◌, ap, map, subst}
 use Rattle.time_checks.specs.Seen.{violation_seen}
-use Rattle.wave_out.specs.Report.{report_lines}
-use Rattle.wave_out.specs.Reporting.{PutsMade, unmatched_seen}
-use Rattle.wave_out.specs.Spent.{spent_seen}
+use Rattle.run_report.specs.Report.{report_lines}
+use Rattle.run_report.specs.Reporting.{PutsMade, unmatched_seen}
+use Rattle.run_report.specs.Spent.{spent_seen}
 use Rattle.signoff_top.specs.Answer.{status_of_run}
 use Rattle.signoff_top.specs.Work.{Tells}
 use Rattle.signoff_top.proofs.Telling.{lines_lent}

@@ -1,11 +1,11 @@
 use Rattle.std.proofs.lemmas.Result.{err_from_is_err_and}
-use Rattle.std.proofs.Common.{refl}
+use Rattle.std.proofs.Common.{[], refl}
 use Rattle.run_words.specs.Words.{a_writing}
 use Rattle.run_words.specs.WordsSeen.{writing_seen}
 use Rattle.signoff_top.specs.declared.work.Done.{Done}
 use Rattle.signoff_top.specs.declared.writing.Written.{Written}
 use Rattle.signoff_top.proofs.Composed.{failed_again, out_among}
-use Rattle.signoff_top.proofs.Worked.{failed_at_made, made_fails, made_wants, want_untouched, writing_gives, writing_leaves, writing_stopped, written_file}
+use Rattle.signoff_top.proofs.Worked.{failed_at_made, made_fails, made_wants, none_yet, want_untouched, writing_gives, writing_leaves, writing_stopped, written_file}
 use Rattle.signoff_top.proofs.work.write_delays.Goals as goal
 
 pub returns-in_err-written-clause-left : goal.returns-in_err-written-clause-left
@@ -35,16 +35,16 @@ returns-in-Ok-clause-left g c =
 
 pub returns-in-Err-Failed-clause-left : goal.returns-in-Err-Failed-clause-left
 returns-in-Err-Failed-clause-left g c =
-    λ ws e. made_fails ws _ (written_file (writing_seen c.args.writing.now).out c.in_ok-written.written) _ _ _ (writing_gives ws (writing_seen c.args.writing.now) c.in_ok-written.written _ e c.in_ok-written.ensures.gives)
-    c.in_ok-written.ensures.held (rw c.deref.ensures.value at c.in-Err-Failed.ensures.file)
+    λ ws e. made_fails ws _ [] (written_file (writing_seen c.args.writing.now).out c.in_ok-written.written) [] _ _ _ (writing_gives ws (writing_seen c.args.writing.now) c.in_ok-written.written _ e c.in_ok-written.ensures.gives) refl
+    (none_yet _ _ c.in_ok-written.ensures.held) (rw c.deref.ensures.value at c.in-Err-Failed.ensures.file)
 
 pub returns-in-Err-Failed-clause-named : goal.returns-in-Err-Failed-clause-named
 returns-in-Err-Failed-clause-named g c =
     let named = rw c.in-Err-Failed.field-0-is at c.in-Err-Failed.ensures.named in
-    λ ws e. failed_at_made ws (a_writing (writing_seen c.args.writing.now)) _ (written_file (writing_seen c.args.writing.now).out c.in_ok-written.written) _ _ _ _ e (out_among (writing_seen c.args.writing.now))
-    (writing_gives ws (writing_seen c.args.writing.now) c.in_ok-written.written _ e c.in_ok-written.ensures.gives) refl c.in_ok-written.ensures.held (rw c.deref.ensures.value at c.in-Err-Failed.ensures.file) named
+    λ ws e. failed_at_made ws _ [] (written_file (writing_seen c.args.writing.now).out c.in_ok-written.written) [] _ _ _ (writing_gives ws (writing_seen c.args.writing.now) c.in_ok-written.written _ e c.in_ok-written.ensures.gives) refl
+    (none_yet _ _ c.in_ok-written.ensures.held) (rw c.deref.ensures.value at c.in-Err-Failed.ensures.file) (a_writing (writing_seen c.args.writing.now)) _ e (out_among (writing_seen c.args.writing.now)) named
 
 pub returns-clause-left : goal.returns-clause-left
 returns-clause-left g c =
-    λ ws e. made_wants ws _ (written_file (writing_seen c.args.writing.now).out c.in_ok-written.written) _ _ _ (writing_gives ws (writing_seen c.args.writing.now) c.in_ok-written.written _ e c.in_ok-written.ensures.gives) refl
-    c.in_ok-written.ensures.held (rw c.deref.ensures.value at c.in-Err-NoMemory.ensures.file)
+    λ ws e. made_wants ws _ [] (written_file (writing_seen c.args.writing.now).out c.in_ok-written.written) [] _ _ _ (writing_gives ws (writing_seen c.args.writing.now) c.in_ok-written.written _ e c.in_ok-written.ensures.gives) refl
+    (none_yet _ _ c.in_ok-written.ensures.held) (rw c.deref.ensures.value at c.in-Err-NoMemory.ensures.file)

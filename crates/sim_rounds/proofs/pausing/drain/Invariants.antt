@@ -1,4 +1,4 @@
-use Rattle.std.proofs.Common.{◌≡◌, ◌<◌, ◌++◌, length, map, reverse, take}
+use Rattle.std.proofs.Common.{◌≡◌, ◌++◌, length, map, reverse, take}
 use Rattle.sg_model.specs.Agenda.{list_at}
 use Rattle.sim_rounds.specs.Pausing.{pending_by}
 use Rattle.sim_rounds.specs.MomentsSeen.{pending_seen}

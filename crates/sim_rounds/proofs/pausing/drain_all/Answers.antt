@@ -1,4 +1,4 @@
-use Rattle.std.proofs.Common.{◌∙◌, map, arith, ℕ, ◌-◌}
+use Rattle.std.proofs.Common.{◌∙◌, map, arith, ◌-◌}
 use Rattle.sim_rounds.specs.MomentsSeen.{pending_seen}
 use Rattle.sim_rounds.proofs.PausingLaws.{all_drained_more}
 use Rattle.sim_rounds.proofs.pausing.drain_all.Goals as goal

@@ -1,4 +1,4 @@
-use Rattle.std.proofs.Common.{◌≡◌, ◌<◌, arith, length}
+use Rattle.std.proofs.Common.{arith}
 use Rattle.time_checks.specs.Events.{latest_since}
 use Rattle.time_checks.specs.Violations.{earlier_at, latest_events}
 use Rattle.sim_rounds.proofs.PausingLaws.{each_more, each_whole}

@@ -1,5 +1,5 @@
 use Rattle.std.specs.Prelude.{◌-◌, ◌+◌, ◌≤◌, ◌==◌, List, [], ◌∷◌, length, map, take}
-use Rattle.std.proofs.Common.{◌≡◌, ℕ, true, ◌∙◌, sym, ap, subst, refl, arith}
+use Rattle.std.proofs.Common.{◌≡◌, ℕ, ◌∙◌, sym, ap, subst, arith}
 use Rattle.sg_logic.specs.declared.values.Value.{Value}
 use Rattle.sg_model.specs.Machine.{Machine, Violation}
 use Rattle.sg_stimulus.specs.Applied.{IsApplied}
@@ -9,7 +9,7 @@ use Rattle.sg_circuit.specs.Circuit.{Circuit}
 use Rattle.time_checks.specs.declared.latest.Latest.{Latest}
 use Rattle.time_checks.specs.Seen.{violation_seen}
 use Rattle.time_checks.specs.Violations.{latest_events}
-use Rattle.sim_times.specs.Runs.{HasEndedFrom, origin_of}
+use Rattle.sim_times.specs.Runs.{HasEndedFrom}
 use Rattle.sim_times.specs.Simulations.{kept_of}
 use Rattle.sim_times.specs.Times.{Kept}
 use Rattle.sim_rounds.specs.Engines.{AreChecksAt, IsEngineAt}
@@ -70,7 +70,7 @@ returns-clause-ended g c =
     let last : kept.last ≡ m.last = engine.last in
     let falls : m.time ≤ m.time + 1 = omega arith in
     let stood = engine_stands (m.time + 1) circuit m.latest (state_of circuit m) (snapshot_of m ∷ []) s.nets s.told s.work s.elements (g.A.Agenda.lists s.agenda) s.fan s.outputs.items s.violations.items s.evaluations s.ended s.checks.checks.now s.checks.checker s.checks.touched s.checks.named c.args.self.fits.latest (falls, tt) (all_covered m.nets s.checks.touched.list.items) k h engine.violations engine.evaluations engine.ended in
-    let begins = begins_after circuit stimulus.end m kept c.requires.end told last in
+    let begins = begins_after circuit stimulus.end m kept (omega (arith, c.requires.end)) told last in
     let w = g.W.Watch in
     let made = c.make_times-end.new in
     let machine : machine_since s.elements.circuit s.elements.earlier ≡ machine_since circuit m.latest = ap (λ x. machine_since x s.elements.earlier) h.circuit_of ∙ ap (λ (ls : List Latest). machine_since circuit ls) h.earlier_of in
@@ -97,5 +97,5 @@ returns-clause-evaluations g c =
     let last : kept.last ≡ m.last = engine.last in
     let falls : m.time ≤ m.time + 1 = omega arith in
     let stood = engine_stands (m.time + 1) circuit m.latest (state_of circuit m) (snapshot_of m ∷ []) s.nets s.told s.work s.elements (g.A.Agenda.lists s.agenda) s.fan s.outputs.items s.violations.items s.evaluations s.ended s.checks.checks.now s.checks.checker s.checks.touched s.checks.named c.args.self.fits.latest (falls, tt) (all_covered m.nets s.checks.touched.list.items) k h engine.violations engine.evaluations engine.ended in
-    let begins = begins_after circuit stimulus.end m kept c.requires.end told last in
+    let begins = begins_after circuit stimulus.end m kept (omega (arith, c.requires.end)) told last in
     c.tally_of.ensures.evaluations ∙ c.make_times-end.ensures.ended.shown (origin_at circuit stimulus.end m) begins stood

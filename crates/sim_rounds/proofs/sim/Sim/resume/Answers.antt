@@ -1,5 +1,5 @@
 use Rattle.std.specs.Prelude.{◌^◌, All, length, map, reverse}
-use Rattle.std.proofs.Common.{◌≡◌, ◌<◌, ℕ, [], ◌∙◌, sym, ap, subst}
+use Rattle.std.proofs.Common.{◌≡◌, ◌<◌, [], ◌∙◌, sym, ap, subst}
 use Rattle.std.proofs.lemmas.List.{length-replicate}
 use Rattle.sg_circuit.specs.Circuit.{Circuit}
 use Rattle.sg_circuit.specs.Seen.{circuit_seen, element_seen}

@@ -1,5 +1,5 @@
-use Rattle.std.specs.Prelude.{◌-◌, ◌+◌, ◌≤◌, ◌==◌, List, [], ◌∷◌, length, map, take}
-use Rattle.std.proofs.Common.{◌≡◌, ℕ, true, ◌∙◌, sym, ap, subst, refl, arith}
+use Rattle.std.specs.Prelude.{◌-◌, ◌≤◌, List, [], length, map, take}
+use Rattle.std.proofs.Common.{◌≡◌, ℕ, true, ◌∙◌, sym, ap, subst, refl}
 use Rattle.sg_logic.specs.declared.values.Value.{Value}
 use Rattle.sg_model.specs.Machine.{Machine, Violation}
 use Rattle.sg_stimulus.specs.Applied.{IsApplied}

@@ -1,32 +1,19 @@
-use Rattle.std.specs.Prelude.{◌-◌, ◌+◌, ◌≤◌, ◌<◌, ◌==◌, suc, List, [], ◌∷◌, length, map, take, None}
+use Rattle.std.specs.Prelude.{◌-◌, ◌+◌, ◌≤◌, [], length}
 use Rattle.std.proofs.Common.{◌≡◌, ℕ, true, ◌∙◌, sym, ap, subst, refl, arith}
-use Rattle.sg_logic.specs.declared.values.Value.{Value}
-use Rattle.sg_model.specs.Machine.{Machine, Snapshot, Violation}
-use Rattle.sg_model.specs.Run.{last_change, lasts}
-use Rattle.sg_model.specs.Time.{Run}
 use Rattle.sg_stimulus.specs.Applied.{IsApplied}
 use Rattle.sg_stimulus.specs.Seen.{stimulus_seen}
 use Rattle.sg_stimulus.specs.Stimulus.{Stimulus, sets_at}
 use Rattle.sg_circuit.specs.Circuit.{Circuit}
-use Rattle.time_checks.specs.declared.latest.Latest.{Latest}
-use Rattle.time_checks.specs.Adjusted.{adjusted_checks}
-use Rattle.time_checks.specs.Seen.{violation_seen}
 use Rattle.time_checks.specs.Violations.{latest_events}
-use Rattle.sim_times.specs.Runs.{IsOriginOf, Setting, changed_since, origin_of, run_from, times_to}
+use Rattle.sim_times.specs.Runs.{origin_of}
 use Rattle.sim_times.specs.Simulations.{kept_of, StandsBetween}
 use Rattle.sim_times.specs.Times.{Kept, count_shown}
 use Rattle.sim_rounds.specs.CircuitChecks.{HaveSeen}
 use Rattle.sim_rounds.specs.Engines.{AreChecksAt, IsEngineAt}
-use Rattle.sim_rounds.specs.Moments.{Fits, Moment, moment_of, snapshot_of, state_of}
-use Rattle.sim_rounds.specs.MomentsSeen.{moment_seen}
 use Rattle.sim_rounds.specs.Setting.{setting_of}
 use Rattle.sim_rounds.specs.Simulated.{first_state, machine_since}
-use Rattle.sim_rounds.specs.Stopping.{origin_at, setting_since}
-use Rattle.sim_times.proofs.TruthLaws.{told_none}
 use Rattle.sim_rounds.proofs.EngineLaws.{engine_ready, engine_stands}
 use Rattle.sim_rounds.proofs.MachineLaws.{lawful_since}
-use Rattle.sim_rounds.proofs.ResumedLaws.{begins_after, can_resume, told_moment}
-use Rattle.sim_rounds.proofs.SeenLaws.{all_covered}
 use Rattle.sim_rounds.proofs.SimLaws.{begins_first, can_begin}
 use Rattle.sim_rounds.proofs.StoppingLaws.{has_each, left_off, same_events, same_machine, then_so}
 use Rattle.sim_rounds.proofs.sim.Sim.run_until.Goals as goal
@@ -86,11 +73,12 @@ returns-clause-stopped g c =
     let told : kept.told ≡ (first_state circuit).values = h.values_told ∙ h.values in
     let last : kept.last ≡ 0 = engine.last in
     let stood = engine_stands 0 circuit [] (first_state circuit) [] s.nets s.told s.work s.elements (g.A.Agenda.lists s.agenda) s.fan s.outputs.items s.violations.items s.evaluations s.ended s.checks.checks.now s.checks.checker s.checks.touched s.checks.named refl tt tt k h engine.violations engine.evaluations engine.ended in
-    let begins = begins_first circuit stimulus c.args.rounds kept told last in
+    let begins = begins_first circuit (record stimulus { end = c.args.until }) c.args.rounds kept told last in
+    let within : c.args.until ≤ c.args.until = omega arith in
     let law = c.moments_of_runs_fit.ensures.of_runs circuit stimulus c.args.rounds c.args.until (count_shown (0 + taken)) c.recall_closed.ensures c.requires.stimulus c.requires.until in
     let w = g.W.Watch in
-    left_off w.stands w.broken c.args.watcher.now made.new.watcher c.args.shelf.now made.new.shelf circuit [] (machine_since s.elements.circuit s.elements.earlier) (sets_at stimulus.steps) (sets_at (stimulus_seen s.stimulus.now).steps) c.args.rounds 0 c.args.until stimulus.end 0 taken (first_state circuit) (origin_of (setting_of circuit stimulus c.args.rounds))
+    left_off w.stands w.broken c.args.watcher.now made.new.watcher c.args.shelf.now made.new.shelf circuit [] (machine_since s.elements.circuit s.elements.earlier) (sets_at stimulus.steps) (sets_at (stimulus_seen s.stimulus.now).steps) c.args.rounds 0 c.args.until c.args.until 0 taken (first_state circuit) (origin_of (setting_of circuit (record stimulus { end = c.args.until }) c.args.rounds))
     (λ r. StandsBetween s.nets (g.A.Agenda.lists s.agenda) s.elements.states (HaveSeen s.checks.checker s.checks.touched s.nets.values.items) s.violations.items s.evaluations s.ended 0 r) kept _
     n.nets (g.A.Agenda.lists n.agenda) n.elements.states n.checks.checker n.checks.touched n.violations.items n.evaluations n.ended n.last made.result c.stop.result
-    (same_machine circuit s.elements.circuit [] s.elements.earlier (machine_since s.elements.circuit s.elements.earlier) refl h.circuit_of h.earlier_of) (ap (λ x. sets_at (stimulus_seen x).steps) engine.stimulus) (omega (arith, c.requires.until)) begins stood made.ensures.made refl refl
+    (same_machine circuit s.elements.circuit [] s.elements.earlier (machine_since s.elements.circuit s.elements.earlier) refl h.circuit_of h.earlier_of) (ap (λ x. sets_at (stimulus_seen x).steps) engine.stimulus) within begins stood made.ensures.made refl refl
     (same_events circuit [] s.checks.checker.earlier n.checks.checker.earlier s.checks.checker.checks n.checks.checker.checks made.ensures.latest k.timings_are k.earlier) (λ unspent. (law unspent).fits) c.stop.ensures

@@ -1,0 +1,19 @@
+-- One check more.
+use Rattle.std.proofs.Common.{◌<◌, length, subst, sym, zero, arith}
+use Rattle.sim_save.specs.Steps.{Stops, Udps}
+use Rattle.sim_save.proofs.SectionLaws.{check_ends, check_more, one_more}
+use Rattle.sim_save.proofs.sections.read_checks.Goals as goal
+
+pub loop-left-preserved : goal.loop-left-preserved
+loop-left-preserved c =
+    let less : length c.loop-left.latest.items < c.args.count = omega (arith, c.loop-left-test.true, c.len.ensures, c.loop-left.latest.ok.0) in
+    record {
+      so_far = check_more c.loop-left.latest.items c.push.new.self.items c.in-Some.known c.args.text.now c.loop-left.left.now c.in-Some.behind.now c.loop-left.invariant.so_far c.in-Some.ensures c.in_ok-push.ensures.items;
+      within = one_more c.loop-left.latest.items c.push.new.self.items c.in-Some.known c.args.count c.in_ok-push.ensures.items less;
+    }
+
+pub returns-in_default-clause-stops : goal.returns-in_default-clause-stops
+returns-in_default-clause-stops c =
+    let less : length c.loop-left.latest.items < c.args.count = omega (arith, c.loop-left-test.true, c.len.ensures, c.loop-left.latest.ok.0) in
+    subst (Stops (Udps zero c.args.count) c.args.text.now) (sym c.stop_at.ensures)
+    (check_ends c.loop-left.latest.items c.args.text.now c.loop-left.left.now c.args.count c.loop-left.invariant.so_far less c.in_default.ensures)
