@@ -1,8 +1,9 @@
 -- The tree of the least times.
 use Rattle.std.proofs.Common.{◌≡◌, ◌≢◌, ℕ, zero, suc, ◌+◌, ◌-◌, ◌*◌, ◌/◌, ◌%◌, ◌<◌, ◌≤◌, List, [], ◌∷◌, ◌⊎◌, length, refl, sym, ◌∙◌, ap, subst, arith, inl, inr, IsSome, true, false, if◌then◌else◌, replicate}
-use Rattle.std.specs.Prelude.{slice_index_or, slice_set, min, IfSome, IfNone}
+use Rattle.std.specs.Option.{option_eq}
+use Rattle.std.specs.Prelude.{slice_index_or, slice_set, min, nat_eq, IfSome, IfNone}
 use Rattle.std.proofs.Math.Nat.{min-eq_left, min-eq_right}
-use Rattle.std.proofs.lemmas.Bool.{cases_eq, cases_lt}
+use Rattle.std.proofs.lemmas.Bool.{cases_eq, cases_lt, eqb-true}
 use Rattle.std.proofs.lemmas.List.{get_or-set_same, get_or-set_other, length-set, get_or-replicate, get_or_past, length-replicate}
 use Rattle.std.specs.declared.option.Option.{Option}
 use Rattle.std.specs.declared.option.Option.TheVariants.{Some, None}
@@ -142,6 +143,27 @@ set_end old tree n bucket time place h l =
       here = h.here;
       others = h.others;
     }
+
+-- the place above is right already, and with it all
+pub set_kept : (old tree : List (Option ℕ)) (n bucket : ℕ) (time : Option ℕ) (place up : ℕ) (t : Option ℕ) → IsSetUpto old tree n bucket time place → up ≡ place / 2 → t ≡ time_below tree up → true ≡ option_eq nat_eq (time_at tree up) t → HasSet old tree n bucket time
+set_kept old tree n bucket time place up t h e below is =
+    record {
+      tree = record {
+        twice = h.twice;
+        each = λ p a b. elim (cases_eq p up) [
+          | inl same ↦ ap (time_at tree) same ∙ (same_time (time_at tree up) t is ∙ (below ∙ ap (time_below tree) (sym same)))
+          | inr other ↦ (let o : p ≢ place / 2 = (λ x. other (x ∙ sym e)) in h.each p a b o)
+        ];
+      };
+      here = h.here;
+      others = h.others;
+    }
+  where
+    same_time : (a b : Option ℕ) → true ≡ option_eq nat_eq a b → a ≡ b
+    same_time None None e = refl
+    same_time (Some a) (Some b) e = ap Some (eqb-true a b (sym e))
+    same_time None (Some b) e = cc
+    same_time (Some a) None e = cc
 
 -- a bucket's time was noted
 pub firsts_set : (m : Store) (buckets : List Ends) (old tree : List (Option ℕ)) (bucket : ℕ) (first before time : Option ℕ) → AreOtherFirsts m buckets old bucket before → HasSet old tree (length buckets) bucket time → first ≡ (slice_index_or buckets bucket no_ends).first → time ≡ time_of m first → AreFirsts m buckets tree

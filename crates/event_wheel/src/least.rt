@@ -1,5 +1,5 @@
 // The least time of all, by a tree over the first times of buckets. Place 1 has it, and what is below place p stands at
-// 2p and 2p + 1. With n buckets the time of bucket b stands at n + b, so a bucket that changes changes log2(2n) places.
+// 2p and 2p + 1. With n buckets the time of bucket b stands at n + b, so a bucket that changes changes log2(2n) places at most.
 ghost use Rattle.std.specs.Prelude.{◌≡◌, ◌+◌, ◌<◌, ◌≤◌, length, IsSome};
 ghost use Rattle.std.specs.Option.{ForSome};
 ghost use Rattle.event_wheel.specs.Slots.{node_at};
@@ -22,17 +22,24 @@ fn lesser(one: Option<u64>, other: Option<u64>) -> Option<u64>
     }
 }
 
-// Sets the time of one of so many buckets, and what stands above it.
+// Sets the time of one of so many buckets, and what stands above it. Above a place that stays, everything does.
 fn set_time(tree: &mut [Option<u64>], buckets: usize, bucket: usize, time: Option<u64>)
     requires tree { IsTree tree.old buckets }
     requires bucket { bucket < buckets }
     ensures { HasSet tree.old tree.new buckets bucket time }
 {
     let mut place = buckets + bucket;
+    if tree[place] == time {
+        return;
+    }
     tree[place] = time;
     while place > 1 {
         place /= 2;
-        tree[place] = lesser(tree[2 * place], tree[2 * place + 1]);
+        let least = lesser(tree[2 * place], tree[2 * place + 1]);
+        if tree[place] == least {
+            return;
+        }
+        tree[place] = least;
     }
 }
 
