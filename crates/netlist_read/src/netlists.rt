@@ -118,5 +118,7 @@ pub fn read_netlist<'a>(
     }
     let tokens = read_tokens(alloc, files)?;
     let source = read_tree(alloc, &tokens, end_of(files))?;
+    // (they take more than the tree, which is all that the circuit needs)
+    drop(tokens);
     read_circuit(alloc, &source, top, corner)
 }
