@@ -20,7 +20,7 @@ pub fn variables_in(alloc: Global, here: &Here) -> Result<Vec<Variable>, NoMemor
     ensures { IfOk result (λ list. (all : List OwnNet) (source : Source) (s : Instance) → IsHere all source s here.now
         → map (λ v. variable_seen v) list.items ≡ map (scope_variable all source s) (def.variables s.step.definition)) }
 {
-    let mut list = Vec::new(alloc);
+    let mut list = Vec::with_capacity(alloc, here.prepared.table.len())?;
     for place in 0..here.prepared.table.len() {
         list.push(variable_in(alloc, here, place)?)?;
     }
