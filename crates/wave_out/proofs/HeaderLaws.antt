@@ -53,11 +53,9 @@ visits_known parts circuit order seen closed same =
     (subst (λ o. All (λ v. IsVisit (length circuit.scopes) v) o) (sym same) (are_visits circuit closed))
 
 -- the bits of a scope's variables
-pub entered_bits : {E : Type 0} (parts : Parts) (s : ℕ) (scope : code_scope.Scope) (vs : List code_variable.Variable) (r : Result Unit E) (new old : List (List ℕ)) → s < length parts.scopes.items → scope ≡ get_or parts.scopes.items s scope
-    → vs ≡ scope.variables.items → OnOk r (new ≡ old ++ map (λ v. v.bits.items) vs) → OnOk r (new ≡ old ++ map (λ x. x.bits) (variables_at (circuit_seen parts) (Enters s)))
-entered_bits parts s scope vs (Ok u) new old l e same h =
-    h ∙ ap (λ bs. old ++ bs)
-    (ap (λ ws. map (λ v. v.bits.items) ws) same
+pub entered_bits : (parts : Parts) (s : ℕ) (scope : code_scope.Scope) (vs : List code_variable.Variable) → s < length parts.scopes.items → scope ≡ get_or parts.scopes.items s scope
+    → vs ≡ scope.variables.items → map (λ v. v.bits.items) vs ≡ map (λ x. x.bits) (variables_at (circuit_seen parts) (Enters s))
+entered_bits parts s scope vs l e same =
+    ap (λ ws. map (λ v. v.bits.items) ws) same
     ∙ (sym (map-mapped (λ x. x.bits) (λ v. variable_seen v) scope.variables.items)
-    ∙ ap (λ (x : Scope). map (λ y. y.bits) x.variables) (sym (scope_is parts s scope l e))))
-entered_bits parts s scope vs (Err why) new old l e same h = h
+    ∙ ap (λ (x : Scope). map (λ y. y.bits) x.variables) (sym (scope_is parts s scope l e)))

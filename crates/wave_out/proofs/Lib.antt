@@ -8,6 +8,7 @@ pub mod HeaderLaws
 pub mod BlockLaws
 pub mod SortedLaws
 pub mod ChangeLaws
+pub mod BitLaws
 pub mod ShownLaws
 pub mod FileLaws
 pub mod CallLaws

@@ -1,12 +1,11 @@
 -- What a writer keeps of its circuit.
-use Rattle.std.proofs.Common.{Bor, ◌≡◌, ◌∙◌, sym, ap, subst, ℕ, ◌<◌, List, length, get_or, map}
+use Rattle.std.proofs.Common.{◌≡◌, ◌∙◌, sym, ap, subst, ℕ, ◌<◌, List, length, get_or, map}
 use Rattle.std.proofs.lemmas.List.Elements.{All-nil, All-map}
 use Rattle.std.specs.Prelude.{All}
 use Rattle.sg_circuit.specs.declared.circuits.Parts.{Parts}
 use Rattle.sg_circuit.specs.Circuit.{Circuit, Variable}
 use Rattle.sg_circuit.specs.Closed.{IsClosed}
 use Rattle.sg_circuit.specs.Seen.{circuit_seen}
-use Rattle.sg_circuit.proofs.SeenLaws.{all-unmapped}
 use Rattle.wave_out.specs.declared.scopes.Visit.{Visit}
 use Rattle.wave_out.specs.declared.scopes.Visit.TheVariants.{Enters, Leaves}
 use Rattle.wave_out.specs.Scopes.{variables_at, variables_of, visits}
@@ -25,14 +24,8 @@ entered_nets c h Leaves l = All-nil (HasNets c)
 variables_nets : (c : Circuit) → IsClosed c → All (HasNets c) (variables_of c)
 variables_nets c h = All-flat_map (HasNets c) (variables_at c) (visits c) (λ i d l. entered_nets c h (get_or (visits c) i d) (are_visits c h i d l))
 
-pub bits_within : (c : Circuit) (bs : List (Bor (List ℕ))) → IsClosed c → map (λ b. b.now) bs ≡ map (λ x. x.bits) (variables_of c) → All (λ (b : Bor (List ℕ)). All (λ n. n < length c.nets) b.now) bs
-bits_within c bs h e =
-    all-unmapped (λ ns. All (λ n. n < length c.nets) ns) (λ (b : Bor (List ℕ)). b.now) bs
-    (subst (λ xs. All (λ ns. All (λ n. n < length c.nets) ns) xs) (sym e) (All-map (λ ns. All (λ n. n < length c.nets) ns) (λ x. x.bits) (variables_of c) (variables_nets c h)))
-
-pub bits_below : (c : Circuit) (bs seen : List (Bor (List ℕ))) (n : ℕ) → IsClosed c → map (λ b. b.now) bs ≡ map (λ x. x.bits) (variables_of c) → seen ≡ bs → n ≡ length c.nets
-    → All (λ (b : Bor (List ℕ)). All (λ k. k < n) b.now) seen
-bits_below c bs seen n h e same many = subst (λ xs. All (λ (b : Bor (List ℕ)). All (λ k. k < n) b.now) xs) (sym same) (subst (λ m. All (λ (b : Bor (List ℕ)). All (λ k. k < m) b.now) bs) (sym many) (bits_within c bs h e))
+pub bits_within : (c : Circuit) (bs : List (List ℕ)) → IsClosed c → bs ≡ map (λ x. x.bits) (variables_of c) → All (λ b. All (λ n. n < length c.nets) b) bs
+bits_within c bs h e = subst (λ xs. All (λ b. All (λ n. n < length c.nets) b) xs) (sym e) (All-map (λ b. All (λ n. n < length c.nets) b) (λ x. x.bits) (variables_of c) (variables_nets c h))
 
 pub nets_many : (parts : Parts) (circuit : Circuit) (n : ℕ) → circuit_seen parts ≡ circuit → n ≡ length parts.nets.items → n ≡ length circuit.nets
 nets_many parts circuit n seen e = e ∙ ap (λ c. length c.nets) seen

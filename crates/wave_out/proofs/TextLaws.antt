@@ -32,19 +32,19 @@ pub line_end : (text : List ℕ) → line (text ++ codes " $end") ≡ text ++ co
 line_end text = append_assoc text (codes " $end") (10 ∷ [])
 
 -- a text that the texts of the things from the i-th on complete, which are numbered from j, is so after one more
-pub numbered_step : {A : Type 0} (f : ℕ → A → List ℕ) (text whole : List ℕ) (xs : List A) (i j j' : ℕ) (d : A) → i < length xs → j' ≡ suc j
-    → text ++ by_number f j (drop i xs) ≡ whole → (text ++ f j (get_or xs i d)) ++ by_number f j' (drop (i + 1) xs) ≡ whole
-numbered_step f text whole xs i j j' d l n e =
-    append_assoc text (f j (get_or xs i d)) (by_number f j' (drop (i + 1) xs))
+pub numbered_step : {A : Type 0} (f : ℕ → A → List ℕ) (text more whole : List ℕ) (xs : List A) (i j j' : ℕ) (x d : A) → i < length xs → j' ≡ suc j → x ≡ get_or xs i d
+    → more ≡ text ++ f j x → text ++ by_number f j (drop i xs) ≡ whole → more ++ by_number f j' (drop (i + 1) xs) ≡ whole
+numbered_step f text more whole xs i j j' x d l n is line e =
+    ap (λ t. t ++ by_number f j' (drop (i + 1) xs)) (line ∙ ap (λ y. text ++ f j y) is)
+    ∙ (append_assoc text (f j (get_or xs i d)) (by_number f j' (drop (i + 1) xs))
     ∙ (ap (λ m. text ++ (f j (get_or xs i d) ++ by_number f m (drop (i + 1) xs))) n
-    ∙ (ap (λ ys. text ++ by_number f j ys) (sym (drop_more xs i d l)) ∙ e))
+    ∙ (ap (λ ys. text ++ by_number f j ys) (sym (drop_more xs i d l)) ∙ e)))
 
--- the same with the text after the line, and with things that are seen otherwise in the code
+-- the same of things that are seen otherwise in the code
 pub numbered_next : {A C : Type 0} (f : ℕ → A → List ℕ) (g : C → A) (text more whole : List ℕ) (xs : List C) (i j j' : ℕ) (x : C) → i < length xs → j' ≡ suc j → x ≡ get_or xs i x
     → more ≡ text ++ f j (g x) → text ++ by_number f j (drop i (map g xs)) ≡ whole → more ++ by_number f j' (drop (i + 1) (map g xs)) ≡ whole
 numbered_next f g text more whole xs i j j' x l n is line e =
-    ap (λ t. t ++ by_number f j' (drop (i + 1) (map g xs))) (line ∙ ap (λ y. text ++ f j y) (ap g is ∙ sym (get_or-map g xs i x (g x) l)))
-    ∙ numbered_step f text whole (map g xs) i j j' (g x) (simp length-map l) n e
+    numbered_step f text more whole (map g xs) i j j' (g x) (g x) (simp length-map l) n (ap g is ∙ sym (get_or-map g xs i x (g x) l)) line e
 
 -- the lines of the things up to the i-th, and that one's
 pub line_more : {A B : Type 0} (f : B → List ℕ) (g : A → B) (start text more : List ℕ) (xs : List A) (i : ℕ) (x : A) → i < length xs → x ≡ get_or xs i x

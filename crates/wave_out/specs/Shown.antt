@@ -6,10 +6,11 @@ use Rattle.fan_round.specs.States.{IsIdle}
 use Rattle.wave_out.specs.Scopes.{variables_of}
 use Rattle.wave_out.specs.declared.shown.Shown.{Shown}
 
--- the bits of each variable, the variables that have each net, and an idle list of variables
+-- how many variables there are, the bits of each, the variables that have each net, and an idle list of variables
 pub record IsShown (circuit : Circuit) (s : Shown) : Type 0 where
-  pub bits : map (λ b. b.now) s.variables.items ≡ map (λ x. x.bits) (variables_of circuit)
-  pub within : All (λ b. All (λ n. n < length circuit.nets) b.now) s.variables.items
-  pub index : IsFanOut (map (λ b. b.now) s.variables.items) s.index
+  pub count : s.count ≡ length s.variables
+  pub bits : s.variables ≡ map (λ x. x.bits) (variables_of circuit)
+  pub within : All (λ b. All (λ n. n < length circuit.nets) b) s.variables
+  pub index : IsFanOut s.variables s.index
   pub nets : length s.index ≡ length circuit.nets
-  pub idle : IsIdle s.work (length s.variables.items)
+  pub idle : IsIdle s.work (length s.variables)

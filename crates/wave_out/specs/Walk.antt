@@ -1,8 +1,9 @@
 -- Words of the functions that go through the scopes of a circuit with a list of what is still to be visited, the next one last.
-use Rattle.std.specs.Prelude.{◌≡◌, ℕ, suc, ◌-◌, ◌<◌, All, List, [], ◌∷◌, ◌++◌, Option, Some, None, length, map, reverse}
+use Rattle.std.specs.Prelude.{◌≡◌, ℕ, suc, ◌-◌, ◌<◌, All, List, [], ◌∷◌, ◌++◌, Option, Some, None, length, map, reverse, slice_index_or}
 use Rattle.sg_circuit.specs.declared.building.Pin.{Pin}
 use Rattle.sg_circuit.specs.Circuit.{Circuit, Scope}
 use Rattle.sg_circuit.specs.FanOut.{readers_at}
+use Rattle.sg_circuit.specs.Pins.{elements_on}
 use Rattle.wave_out.specs.declared.scopes.Visit.{Visit}
 use Rattle.wave_out.specs.declared.scopes.Visit.TheVariants.{Enters, Leaves}
 use Rattle.wave_out.specs.Scopes.{children_of, visits_in, visits}
@@ -46,3 +47,13 @@ left_visits circuit (v ∷ vs) = left_visits circuit vs ++ whole_visit circuit v
 pub record GoesOn (circuit : Circuit) (made pending : List Visit) : Type 0 where
   pub known : All (λ v. IsVisit (length circuit.scopes) v) pending
   pub is : made ++ left_visits circuit pending ≡ visits circuit
+
+-- the nets of a variable's bits stand under its number
+abbrev pub bit_pins : ℕ → List ℕ → List Pin
+bit_pins k bits = map (λ n. record { net = k; element = n }) bits
+
+-- so they do of so many variables, each one's in their order
+pub record HasBits (bits : List (List ℕ)) (count : ℕ) (pins : List Pin) : Type 0 where
+  pub many : length bits ≡ count
+  pub within : All (λ p. p.net < count) pins
+  pub each : (k : ℕ) → elements_on k pins ≡ slice_index_or bits k []

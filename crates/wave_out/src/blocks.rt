@@ -6,7 +6,7 @@ ghost use Rattle.wave_out.specs.Vcd.{code, time_line, value_letter, value_text, 
 
 use crate::words::{push_code, push_number};
 use cond_expr::Nets;
-use sg_circuit::NetId;
+use sg_circuit::{FanOut, NetId};
 use sg_logic::Value;
 use std::alloc::{AllocError, Global};
 
@@ -66,7 +66,7 @@ fn push_bits<N: Nets>(text: &mut Vec<u8>, bits: &[NetId], nets: &N) -> Result<()
 // The value of the k-th variable.
 fn push_value<N: Nets>(
     text: &mut Vec<u8>,
-    k: usize,
+    k: u32,
     bits: &[NetId],
     nets: &N,
 ) -> Result<(), AllocError>
@@ -74,21 +74,24 @@ fn push_value<N: Nets>(
     ensures { OnOk result (text.new.items ≡ text.old.items ++ bits_line (N.values nets.now) k bits.now) }
 {
     push_bits(text, bits, nets)?;
-    push_code(text, k)?;
+    push_code(text, k as usize)?;
     text.push(b'\n')?;
     Ok(())
 }
 
+// The values of all variables, which are so many.
 fn push_values<N: Nets>(
     text: &mut Vec<u8>,
-    variables: &[&[NetId]],
+    count: u32,
+    variables: &FanOut,
     nets: &N,
 ) -> Result<(), AllocError>
-    requires { All (λ bits. All (λ n. n < length (N.values nets.now)) bits.now) variables.now }
-    ensures { OnOk result (text.new.items ≡ text.old.items ++ by_number (bits_line (N.values nets.now)) 0 (map (λ b. b.now) variables.now)) }
+    requires variables { All (λ bits. All (λ n. n < length (N.values nets.now)) bits) variables.now }
+    requires count { count ≡ length variables.now }
+    ensures { OnOk result (text.new.items ≡ text.old.items ++ by_number (bits_line (N.values nets.now)) 0 variables.now) }
 {
-    for (k, bits) in variables.iter().enumerate() {
-        push_value(text, k, bits, nets)?;
+    for k in 0..count {
+        push_value(text, k, variables.of(k), nets)?;
     }
     Ok(())
 }
@@ -96,34 +99,36 @@ fn push_values<N: Nets>(
 // The values of these variables.
 fn push_some<N: Nets>(
     text: &mut Vec<u8>,
-    variables: &[&[NetId]],
+    variables: &FanOut,
     work: &[u32],
     nets: &N,
 ) -> Result<(), AllocError>
-    requires variables { All (λ bits. All (λ n. n < length (N.values nets.now)) bits.now) variables.now }
+    requires variables { All (λ bits. All (λ n. n < length (N.values nets.now)) bits) variables.now }
     requires work { All (λ k. k < length variables.now) work.now }
-    ensures { OnOk result (text.new.items ≡ text.old.items ++ lines_of (map (λ b. b.now) variables.now) work.now (N.values nets.now)) }
+    ensures { OnOk result (text.new.items ≡ text.old.items ++ lines_of variables.now work.now (N.values nets.now)) }
 {
     for k in work {
-        push_value(text, *k as usize, variables[*k as usize], nets)?;
+        push_value(text, *k, variables.of(*k), nets)?;
     }
     Ok(())
 }
 
-/// The first block: the values of all variables, which have these bits.
+/// The first block: the values of all variables, which are so many and have these bits.
 pub fn first_block_of<N: Nets>(
     alloc: Global,
     time: u64,
-    variables: &[&[NetId]],
+    count: u32,
+    variables: &FanOut,
     nets: &N,
 ) -> Result<Vec<u8>, AllocError>
-    requires { All (λ bits. All (λ n. n < length (N.values nets.now)) bits.now) variables.now }
-    ensures { IfOk result (λ v. v.items ≡ first_text time (map (λ b. b.now) variables.now) (N.values nets.now)) }
+    requires variables { All (λ bits. All (λ n. n < length (N.values nets.now)) bits) variables.now }
+    requires count { count ≡ length variables.now }
+    ensures { IfOk result (λ v. v.items ≡ first_text time variables.now (N.values nets.now)) }
 {
     let mut text = Vec::new(alloc);
     push_time(&mut text, time)?;
     text.extend_from_slice(b"$dumpvars\n")?;
-    push_values(&mut text, variables, nets)?;
+    push_values(&mut text, count, variables, nets)?;
     text.extend_from_slice(b"$end\n")?;
     Ok(text)
 }
@@ -132,15 +137,16 @@ pub fn first_block_of<N: Nets>(
 pub fn later_block_of<N: Nets>(
     alloc: Global,
     time: u64,
-    variables: &[&[NetId]],
+    variables: &FanOut,
     work: &[u32],
     nets: &N,
 ) -> Result<Vec<u8>, AllocError>
-    requires variables { All (λ bits. All (λ n. n < length (N.values nets.now)) bits.now) variables.now }
+    requires variables { All (λ bits. All (λ n. n < length (N.values nets.now)) bits) variables.now }
     requires work { All (λ k. k < length variables.now) work.now }
-    ensures { IfOk result (λ v. v.items ≡ later_text time (map (λ b. b.now) variables.now) work.now (N.values nets.now)) }
+    ensures { IfOk result (λ v. v.items ≡ later_text time variables.now work.now (N.values nets.now)) }
 {
-    let mut text = Vec::new(alloc);
+    // room for the time, and for the line of each variable with one bit
+    let mut text = Vec::with_capacity(alloc, work.len().saturating_mul(8).saturating_add(24))?;
     push_time(&mut text, time)?;
     push_some(&mut text, variables, work, nets)?;
     Ok(text)

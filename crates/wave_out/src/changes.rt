@@ -39,13 +39,13 @@ fn nets_of(alloc: Global, count: u32, changed: &[Change]) -> Result<Vec<u32>, Al
 fn sorted_block<N: Nets>(
     alloc: Global,
     time: u64,
-    variables: &[&[NetId]],
+    variables: &FanOut,
     work: &mut Vec<u32>,
     nets: &N,
 ) -> Result<Option<Vec<u8>>, AllocError>
-    requires variables { All (λ bits. All (λ n. n < length (N.values nets.now)) bits.now) variables.now }
+    requires variables { All (λ bits. All (λ n. n < length (N.values nets.now)) bits) variables.now }
     requires work { All (λ k. k < length variables.now) work.old.items }
-    ensures block { IfOk result (λ block. option_map (λ v. v.items) block ≡ work_text time (map (λ b. b.now) variables.now) (N.values nets.now) work.new.items) }
+    ensures block { IfOk result (λ block. option_map (λ v. v.items) block ≡ work_text time variables.now (N.values nets.now) work.new.items) }
     ensures sorted { IsNonDecreasing work.new.items }
     ensures moved { IsPermutation work.old.items work.new.items }
     ensures capacity { vec_capacity work.old ≤ vec_capacity work.new }
@@ -62,19 +62,19 @@ fn sorted_block<N: Nets>(
 pub fn block_of<N: Nets>(
     alloc: Global,
     time: u64,
-    variables: &[&[NetId]],
+    variables: &FanOut,
     count: u32,
     index: &FanOut,
     work: &mut WorkList,
     changed: &[Change],
     nets: &N,
 ) -> Result<Option<Vec<u8>>, AllocError>
-    requires variables { All (λ bits. All (λ n. n < count) bits.now) variables.now }
-    requires index { IsFanOut (map (λ b. b.now) variables.now) index.now }
+    requires variables { All (λ bits. All (λ n. n < count) bits) variables.now }
+    requires index { IsFanOut variables.now index.now }
     requires count { length index.now ≡ count }
     requires values { count ≤ length (N.values nets.now) }
     requires idle { IsIdle work.old (length variables.now) }
-    ensures block { IfOk result (λ block. IsBlock time (map (λ b. b.now) variables.now) (map net_change changed.now) (N.values nets.now) (option_map (λ v. v.items) block)) }
+    ensures block { IfOk result (λ block. IsBlock time variables.now (map net_change changed.now) (N.values nets.now) (option_map (λ v. v.items) block)) }
     ensures idle { IsIdle work.new (length variables.now) }
 {
     let touched = nets_of(alloc, count, changed)?;

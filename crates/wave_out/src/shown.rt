@@ -12,16 +12,18 @@ use crate::scopes::Visit;
 use crate::variables::{bits_of, index_of};
 use cond_expr::Nets;
 use fan_round::WorkList;
-use sg_circuit::{Circuit, FanOut, NetId};
+use sg_circuit::{Circuit, FanOut};
 use sg_text::NoMemory;
 use std::alloc::{AllocError, Global};
 use time_checks::Change;
 
 /// The variables in the order of the header.
 #[derive(Drop)]
-pub struct Shown<'a> {
+pub struct Shown {
+    /// How many there are.
+    pub count: u32,
     /// The nets of each one's bits.
-    pub variables: Vec<&'a [NetId]>,
+    pub variables: FanOut,
     /// The variables that have each net.
     pub index: FanOut,
     /// The variables that changed in a call, while it is served.
@@ -30,22 +32,19 @@ pub struct Shown<'a> {
 
 /// The variables of a circuit whose scopes are visited so.
 ///
-/// `NoMemory` where there is no memory for it, or where there are 2^31 variables.
-pub fn shown_of<'a>(
-    alloc: Global,
-    circuit: &'a Circuit,
-    order: &[Visit],
-) -> Result<Shown<'a>, NoMemory>
+/// `NoMemory` where there is no memory for it, or where there are 2^31 variables or 2^32 bits.
+pub fn shown_of(alloc: Global, circuit: &Circuit, order: &[Visit]) -> Result<Shown, NoMemory>
     requires { order.now ≡ visits circuit.now }
     ensures { IfOk result (λ s. IsShown circuit.now s) }
 {
-    let variables = bits_of(alloc, circuit, order)?;
-    if variables.len() >= 1 << 31 {
+    let (count, variables) = bits_of(alloc, circuit, order)?;
+    if count >= 1 << 31 {
         return Err(NoMemory);
     }
-    let index = index_of(alloc, circuit.parts().nets.len() as u32, &variables)?;
-    let work = WorkList::new(alloc, variables.len() as u32)?;
+    let index = index_of(alloc, circuit.parts().nets.len() as u32, count, &variables)?;
+    let work = WorkList::new(alloc, count)?;
     Ok(Shown {
+        count,
         variables,
         index,
         work,
@@ -68,7 +67,7 @@ fn end_of(alloc: Global, last: u64, time: u64) -> Result<Option<Vec<u8>>, AllocE
 fn changes_of<N: Nets>(
     alloc: Global,
     circuit: &Circuit,
-    shown: &mut Shown<'_>,
+    shown: &mut Shown,
     time: u64,
     changed: &[Change],
     nets: &N,
@@ -95,7 +94,7 @@ fn changes_of<N: Nets>(
 fn later_of<N: Nets>(
     alloc: Global,
     circuit: &Circuit,
-    shown: &mut Shown<'_>,
+    shown: &mut Shown,
     last: u64,
     time: u64,
     changed: &[Change],
@@ -116,7 +115,7 @@ fn later_of<N: Nets>(
 pub fn text_of<N: Nets>(
     alloc: Global,
     circuit: &Circuit,
-    shown: &mut Shown<'_>,
+    shown: &mut Shown,
     last: Option<u64>,
     time: u64,
     changed: &[Change],
@@ -129,6 +128,6 @@ pub fn text_of<N: Nets>(
 {
     match last {
         Some(last) => later_of(alloc, circuit, shown, last, time, changed, nets),
-        None => Ok(Some(first_block_of(alloc, time, &shown.variables, nets)?)),
+        None => Ok(Some(first_block_of(alloc, time, shown.count, &shown.variables, nets)?)),
     }
 }

@@ -25,7 +25,7 @@ pub struct VcdWriter<'a> {
     alloc: Global,
     circuit: &'a Circuit,
     name: &'a str,
-    shown: Shown<'a>,
+    shown: Shown,
     // the time that was written last
     last: Option<u64>,
 }

@@ -1,6 +1,4 @@
-use Rattle.std.proofs.Common.{Bor, List, ℕ, ◌<◌, All, ◌∙◌, sym, length, map, refl, Vec, Global}
-use Rattle.std.proofs.lemmas.List.{length-map}
-use Rattle.std.proofs.lemmas.List.Elements.{All-map}
+use Rattle.std.proofs.Common.{ℕ, ◌∙◌, sym, length, refl, Vec, Global}
 use Rattle.sg_circuit.proofs.FanLaws.{written_back}
 use Rattle.fan_round.proofs.WorkIsExact.{are_readers, as_many_marks}
 use Rattle.wave_out.proofs.SortedLaws.{marks-moved}
@@ -12,8 +10,8 @@ list_work-requires-clause-nets g c = known_within c.args.count (length c.args.in
 
 pub list_work-requires-clause-readers : goal.list_work-requires-clause-readers
 list_work-requires-clause-readers g c =
-    are_readers (map (λ (b : Bor (List ℕ)). b.now) c.args.variables.now) c.args.index.now (length c.deref_mut.result.now) c.requires.index
-    (length-map c.args.variables.now (λ (b : Bor (List ℕ)). b.now) ∙ as_many_marks c.deref_mut.result.now c.args.work.now.marks.items (length c.args.variables.now) (length c.args.variables.now) c.deref_mut.ensures.value c.requires.idle.marks refl)
+    are_readers c.args.variables.now c.args.index.now (length c.deref_mut.result.now) c.requires.index
+    (as_many_marks c.deref_mut.result.now c.args.work.now.marks.items (length c.args.variables.now) (length c.args.variables.now) c.deref_mut.ensures.value c.requires.idle.marks refl)
 
 pub sorted_block-made-requires-clause-work : goal.sorted_block-made-requires-clause-work
 sorted_block-made-requires-clause-work g c =
@@ -27,8 +25,8 @@ clear_work-requires g c = marks-moved c.list_work.new.marks c.deref_mut-2.result
 
 pub returns-clause-block : goal.returns-clause-block
 returns-clause-block g c =
-    is_block (λ (v : Vec ℕ Global). v.items) c.args.time c.args.count (length c.deref_mut.result.now) (map (λ (b : Bor (List ℕ)). b.now) c.args.variables.now) c.args.index.now c.args.changed.now c.deref.result.now c.list_work.new.work.items c.sorted_block-made.new.work.items
+    is_block (λ (v : Vec ℕ Global). v.items) c.args.time c.args.count (length c.deref_mut.result.now) c.args.variables.now c.args.index.now c.args.changed.now c.deref.result.now c.list_work.new.work.items c.sorted_block-made.new.work.items
     (g.N.Nets.values c.args.nets.now) c.sorted_block-made.result
-    (All-map (λ bs. All (λ b. b < c.args.count) bs) (λ (b : Bor (List ℕ)). b.now) c.args.variables.now c.requires.variables) c.requires.index
-    (length-map c.args.variables.now (λ (b : Bor (List ℕ)). b.now) ∙ as_many_marks c.deref_mut.result.now c.args.work.now.marks.items (length c.args.variables.now) (length c.args.variables.now) c.deref_mut.ensures.value c.requires.idle.marks refl)
+    c.requires.variables c.requires.index
+    (as_many_marks c.deref_mut.result.now c.args.work.now.marks.items (length c.args.variables.now) (length c.args.variables.now) c.deref_mut.ensures.value c.requires.idle.marks refl)
     (c.deref.ensures.value ∙ c.in_ok-touched.ensures) c.list_work.ensures.work c.sorted_block-made.ensures.moved c.sorted_block-made.ensures.sorted c.sorted_block-made.ensures.block
