@@ -276,6 +276,9 @@ pub others_at : (m : Store) (buckets buckets' : List Ends) (tree tree' : List (O
 others_at m buckets buckets' tree tree' i i' before eb et ei h =
     subst (λ bs. AreOtherFirsts m bs tree' i' before) (sym eb) (subst (λ ts. AreOtherFirsts m buckets ts i' before) (sym et) (subst (λ j. AreOtherFirsts m buckets tree j before) (sym ei) h))
 
+pub others_from : (m : Store) (buckets : List Ends) (tree : List (Option ℕ)) (i : ℕ) (link before : Option ℕ) → link ≡ before → AreOtherFirsts m buckets tree i before → AreOtherFirsts m buckets tree i link
+others_from m buckets tree i link before e h = subst (λ (b : Option ℕ). AreOtherFirsts m buckets tree i b) (sym e) h
+
 -- no time, of no node
 pub firsts_none : (held : Held) (n : ℕ) (buckets : List Ends) (tree : List (Option ℕ)) (e : Ends) → e ≡ no_ends → buckets ≡ replicate n e → tree ≡ replicate (2 * n) None → AreFirsts (node_at held) buckets tree
 firsts_none held n buckets tree e ee eb et =

@@ -7,7 +7,7 @@ use Rattle.std.specs.declared.option.Option.{Option}
 use Rattle.std.specs.declared.option.Option.TheVariants.{Some, None}
 use Rattle.event_wheel.specs.declared.nodes.Node.{Node}
 use Rattle.event_wheel.specs.Slots.{Held, node_at, Puts, link_of, with_link}
-use Rattle.event_wheel.specs.Links.{Store, is_key, slot_with_link, Becomes, store_with_link, store_without, store_with}
+use Rattle.event_wheel.specs.Links.{Store, is_key, slot_with_link, slot_with_links, Becomes, store_with_link, store_without, store_with, store_after_putting}
 use Rattle.event_wheel.specs.Families.{IsHome, pair_of}
 
 pub some_node : (slot : Option Node) → IsSome slot → (n : Node) × (slot ≡ Some n)
@@ -105,3 +105,23 @@ linked-added m at side to k node j d =
       | inr other ↦ (let t : (j == k) ≡ false = grind (arith, nat_tests) in
           ap (λ c. if c then Some node else slot_with_link at side to j (m j)) t ∙ sym (ap (λ c. slot_with_link at side to j (if c then Some node else m j)) t))
     ]
+
+-- a node that was put in, and then linked to by its neighbours on both sides
+pub puts-with : (old new : Held) (k : ℕ) (node : Node) → Puts old new k (Some node) → (j : ℕ) → node_at new j ≡ store_with (node_at old) k node j
+puts-with old new k node h j =
+    elim (cases_eq j k) [
+      | inl same ↦ ap (node_at new) same ∙ (h.changed ∙ sym (ap (store_with (node_at old) k node) same ∙ added-key (node_at old) k node))
+      | inr other ↦ h.others j other ∙ sym (added-other (node_at old) k node j other)
+    ]
+
+pub put-between : (m m0 m1 m2 : Store) (k : ℕ) (node : Node) (b a p n link : Option ℕ) → ((j : ℕ) → m0 j ≡ store_with m k node j) → Becomes m0 m1 (slot_with_links b a 0 link link) → Becomes m1 m2 (slot_with_links p n 2 link link)
+    → b ≡ link_of node 0 → a ≡ link_of node 1 → p ≡ link_of node 2 → n ≡ link_of node 3 → link ≡ Some k → (j : ℕ) → m2 j ≡ store_after_putting m k node j
+put-between m m0 m1 m2 k node b a p n link h0 h1 h2 eb ea ep en el j =
+    let made : Option ℕ → Option ℕ → Option ℕ → Option ℕ → Option ℕ → Option Node = (λ p n b a l. slot_with_links p n 2 l l j (slot_with_links b a 0 l l j (store_with m k node j))) in
+    h2.each j
+    ∙ (ap (slot_with_links p n 2 link link j) (h1.each j ∙ ap (slot_with_links b a 0 link link j) (h0 j))
+    ∙ (ap (λ (l : Option ℕ). made p n b a l) el
+    ∙ (ap (λ (l : Option ℕ). made l n b a (Some k)) ep
+    ∙ (ap (λ (l : Option ℕ). made (link_of node 2) l b a (Some k)) en
+    ∙ (ap (λ (l : Option ℕ). made (link_of node 2) (link_of node 3) l a (Some k)) eb
+    ∙ ap (λ (l : Option ℕ). made (link_of node 2) (link_of node 3) (link_of node 0) l (Some k)) ea)))))

@@ -1,4 +1,5 @@
 -- The modules of this folder.
+pub mod Link
 pub mod Slots
 pub mod Keys
 pub mod Wheel

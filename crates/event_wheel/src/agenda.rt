@@ -48,7 +48,7 @@ fn has_any(wheel: &Wheel, driver: u32) -> bool
     ensures yes { OnTrue result (0 < length (list_at wheel.now.lists driver)) }
     ensures no { OnFalse result (list_at wheel.now.lists driver ≡ []) }
 {
-    wheel.chains.drivers[driver as usize].last.is_some()
+    wheel.chains.drivers[driver as usize].last.key().is_some()
 }
 
 fn clear_from<L: Ledger>(wheel: &mut Wheel, driver: u32, blank: Blank)
@@ -75,7 +75,7 @@ fn last_from<L: Ledger>(wheel: &Wheel, driver: u32, blank: Blank) -> Option<(u64
     ensures rising { Rises (reverse (list_at wheel.now.lists driver)) }
 {
     let mut steps = Steps::<L>::new(blank);
-    match wheel.chains.drivers[driver as usize].last {
+    match wheel.chains.drivers[driver as usize].last.key() {
         Some(key) => {
             let node = wheel.chains.nodes.read(key, &mut steps);
             Some((node.time, node.value))
@@ -96,7 +96,7 @@ fn take_due_from<L: Ledger>(wheel: &mut Wheel, now: u64, blank: Blank) -> Option
 {
     let mut steps = Steps::<L>::new(blank);
     let bucket = bucket_of(&wheel.chains.buckets, now);
-    let Some(key) = wheel.chains.buckets[bucket].first else {
+    let Some(key) = wheel.chains.buckets[bucket].first.key() else {
         return None;
     };
     if wheel.chains.nodes.read(key, &mut steps).time != now {

@@ -8,6 +8,7 @@ ghost use Rattle.event_wheel.specs.Kept.{AreChained, HasPut, HasTaken, table_of}
 ghost use Rattle.event_wheel.specs.Least.{AreFirsts};
 
 use crate::least::note_first;
+use crate::link::Link;
 use crate::links::{put_in, take_out};
 use crate::nodes::{Node, Nodes};
 use crate::places::{bucket_of, has_time, place_of};
@@ -16,14 +17,17 @@ use sg_logic::Value;
 use sg_steps::Steps;
 use sg_text::NoMemory;
 use std::alloc::Global;
+use std::mem::size_of;
 use std::sync::ledger::Ledger;
 
 /// The keys of a chain's ends.
 #[derive(Clone, Copy, Debug)]
 pub struct Ends {
-    pub first: Option<usize>,
-    pub last: Option<usize>,
+    pub first: Link,
+    pub last: Link,
 }
+
+const _: () = prove!(size_of::<Ends>() == 16);
 
 impl Ends {
     /// No chain.
@@ -32,18 +36,18 @@ impl Ends {
         ensures last { result.last ≡ None }
     {
         Ends {
-            first: None,
-            last: None,
+            first: Link::none(),
+            last: Link::none(),
         }
     }
 
     /// Between `before` and `after`, whatever stood there, the chain now begins with `first` and ends with `last`.
     fn join(
         &mut self,
-        before: Option<usize>,
-        after: Option<usize>,
-        first: Option<usize>,
-        last: Option<usize>,
+        before: Link,
+        after: Link,
+        first: Link,
+        last: Link,
     )
         ensures { self.new ≡ ends_between self.old before after first last }
     {
@@ -58,16 +62,16 @@ impl Ends {
 
 // A key that is known, after this one was taken from between two others.
 fn known_without(
-    near: Option<usize>,
+    near: Link,
     key: usize,
-    before: Option<usize>,
-    after: Option<usize>,
-) -> Option<usize>
+    before: Link,
+    after: Link,
+) -> Link
     ensures { result ≡ known_without near key before after }
 {
-    match near {
-        Some(near) if near == key => before.or(after),
-        other => other,
+    match near.key() {
+        Some(known) if known == key => before.or(after),
+        _ => near,
     }
 }
 
@@ -78,7 +82,7 @@ pub struct Chains {
     pub buckets: Vec<Ends>,
     pub drivers: Vec<Ends>,
     // the node of each bucket that was put in last, or one that stood beside it
-    pub near: Vec<Option<usize>>,
+    pub near: Vec<Link>,
     pub runs: Runs,
     // the tree of the least times
     pub firsts: Vec<Option<u64>>,
@@ -97,7 +101,7 @@ impl Chains {
             nodes: Nodes::new(alloc),
             buckets: vec![in alloc; Ends::none(); buckets as usize]?,
             drivers: vec![in alloc; Ends::none(); drivers as usize]?,
-            near: vec![in alloc; None; buckets as usize]?,
+            near: vec![in alloc; Link::none(); buckets as usize]?,
             runs: Runs::new(alloc),
             firsts: vec![in alloc; None; 2 * buckets as usize]?,
         })
@@ -119,17 +123,19 @@ impl Chains {
         let (before, after) = place_of(&self.nodes, &self.runs, first, near, time, steps);
         let joins = has_time(&self.nodes, before, time, steps);
         let last = self.drivers[driver as usize].last;
+        let none = Link::none();
         let node = Node {
             driver,
             time,
             value,
-            links: [before, after, last, None],
+            links: [before, after, last, none],
         };
         let key = put_in(&mut self.nodes, node, steps);
-        self.buckets[bucket].join(before, after, Some(key), Some(key));
-        self.drivers[driver as usize].join(last, None, Some(key), Some(key));
-        self.near[bucket] = Some(key);
-        self.runs.put(key, if joins { before } else { None });
+        let link = Link::to(key);
+        self.buckets[bucket].join(before, after, link, link);
+        self.drivers[driver as usize].join(last, none, link, link);
+        self.near[bucket] = link;
+        self.runs.put(link, if joins { before } else { none });
         note_first(
             &mut self.firsts,
             &self.nodes,
@@ -151,18 +157,21 @@ impl Chains {
         ensures steps { steps.new ≤ steps.old + 6 }
     {
         let node = take_out(&mut self.nodes, key, steps);
-        let links = node.links;
+        let before = node.link(0);
+        let after = node.link(1);
+        let previous = node.link(2);
+        let next = node.link(3);
         let bucket = bucket_of(&self.buckets, node.time);
-        self.buckets[bucket].join(links[0], links[1], links[1], links[0]);
-        self.drivers[node.driver as usize].join(links[2], links[3], links[3], links[2]);
-        self.near[bucket] = known_without(self.near[bucket], key, links[0], links[1]);
-        self.runs.take(key, links[0], links[1]);
+        self.buckets[bucket].join(before, after, after, before);
+        self.drivers[node.driver as usize].join(previous, next, next, previous);
+        self.near[bucket] = known_without(self.near[bucket], key, before, after);
+        self.runs.take(key, before, after);
         note_first(
             &mut self.firsts,
             &self.nodes,
             &self.buckets,
             bucket,
-            links[0],
+            before,
             steps,
         );
         node

@@ -7,6 +7,7 @@ ghost use Rattle.event_wheel.specs.Kept.{AreBuckets};
 ghost use Rattle.event_wheel.specs.Least.{lesser_of, time_of, IsTree, HasSet, AreFirsts, AreOtherFirsts};
 
 use crate::chains::Ends;
+use crate::link::Link;
 use crate::nodes::Nodes;
 use sg_steps::Steps;
 use std::sync::ledger::Ledger;
@@ -44,12 +45,12 @@ fn set_time(tree: &mut [Option<u64>], buckets: usize, bucket: usize, time: Optio
 }
 
 // The time of the node at a key, if there is one.
-fn time_of<L: Ledger>(nodes: &Nodes, key: Option<usize>, steps: &mut Steps<L>) -> Option<u64>
+fn time_of<L: Ledger>(nodes: &Nodes, key: Link, steps: &mut Steps<L>) -> Option<u64>
     requires { ForSome key (λ k. IsSome (node_at nodes.now k)) }
     ensures time { result ≡ time_of (node_at nodes.now) key }
     ensures steps { steps.new ≤ steps.old + 1 }
 {
-    match key {
+    match key.key() {
         Some(key) => Some(nodes.read(key, steps).time),
         None => None,
     }
@@ -61,7 +62,7 @@ pub fn note_first<L: Ledger>(
     nodes: &Nodes,
     buckets: &[Ends],
     bucket: usize,
-    before: Option<usize>,
+    before: Link,
     steps: &mut Steps<L>,
 )
     requires bucket { bucket < length buckets.now }

@@ -4,11 +4,13 @@
 mod agenda;
 mod chains;
 mod least;
+mod link;
 mod links;
 mod nodes;
 mod places;
 mod runs;
 mod wheel;
 
+pub use link::Link;
 pub use nodes::{Node, Nodes};
 pub use wheel::Wheel;

@@ -1,9 +1,10 @@
 // Nodes come into chains and go out of them.
-ghost use Rattle.std.specs.Prelude.{◌≡◌, ℕ, ◌+◌, ◌<◌, ◌≤◌, IsSome};
+ghost use Rattle.std.specs.Prelude.{◌≡◌, ℕ, ◌+◌, ◌-◌, ◌^◌, ◌<◌, ◌≤◌, IsSome};
 ghost use Rattle.std.specs.Option.{ForSome};
 ghost use Rattle.event_wheel.specs.Slots.{node_at};
 ghost use Rattle.event_wheel.specs.Links.{slot_with_link, slot_with_links, store_after_putting, store_after_taking, Becomes, AreNeighbours, HasNeighbours};
 
+use crate::link::Link;
 use crate::nodes::{Node, Nodes};
 use sg_steps::Steps;
 use std::sync::ledger::Ledger;
@@ -11,9 +12,9 @@ use std::sync::ledger::Ledger;
 // Sets a link of the node at a key, if there is one.
 fn link_some<L: Ledger>(
     nodes: &mut Nodes,
-    at: Option<usize>,
+    at: Link,
     side: u32,
-    to: Option<usize>,
+    to: Link,
     steps: &mut Steps<L>,
 )
     requires at { ForSome at (λ key. IsSome (node_at nodes.old key)) }
@@ -22,7 +23,7 @@ fn link_some<L: Ledger>(
     ensures room { nodes.new.room ≡ nodes.old.room }
     ensures steps { steps.new ≤ steps.old + 1 }
 {
-    if let Some(key) = at {
+    if let Some(key) = at.key() {
         nodes.link(key, side, to, steps);
     }
 }
@@ -31,11 +32,11 @@ fn link_some<L: Ledger>(
 // on the next one.
 fn relink<L: Ledger>(
     nodes: &mut Nodes,
-    before: Option<usize>,
-    after: Option<usize>,
+    before: Link,
+    after: Link,
     back: u32,
-    next: Option<usize>,
-    previous: Option<usize>,
+    next: Link,
+    previous: Link,
     steps: &mut Steps<L>,
 )
     requires before { ForSome before (λ key. IsSome (node_at nodes.old key)) }
@@ -69,13 +70,15 @@ pub fn take_out<L: Ledger>(nodes: &mut Nodes, key: usize, steps: &mut Steps<L>) 
 pub fn put_in<L: Ledger>(nodes: &mut Nodes, node: Node, steps: &mut Steps<L>) -> usize
     requires room { 0 < nodes.old.room }
     requires neighbours { AreNeighbours (node_at nodes.old) node.links }
+    ensures below { result < 2 ^ 64 - 1 }
     ensures vacant { node_at nodes.old result ≡ None }
     ensures nodes { (k : ℕ) → node_at nodes.new k ≡ store_after_putting (node_at nodes.old) result node k }
     ensures room { nodes.new.room + 1 ≡ nodes.old.room }
 {
-    let key = nodes.add(node, steps);
     let links = node.links;
-    relink(nodes, links[0], links[1], 0, Some(key), Some(key), steps);
-    relink(nodes, links[2], links[3], 2, Some(key), Some(key), steps);
+    let key = nodes.add(node, steps);
+    let link = Link::to(key);
+    relink(nodes, links[0], links[1], 0, link, link, steps);
+    relink(nodes, links[2], links[3], 2, link, link, steps);
     key
 }

@@ -1,15 +1,17 @@
 // The store of nodes.
-ghost use Rattle.std.specs.Prelude.{◌≡◌, ℕ, ◌+◌, ◌<◌, ◌≤◌, [], IsSome, OnOk};
+ghost use Rattle.std.specs.Prelude.{◌≡◌, ℕ, ◌+◌, ◌-◌, ◌^◌, ◌<◌, ◌≤◌, [], IsSome, OnOk};
 ghost use Rattle.std.specs.Bool.{OnTrue, OnFalse};
-ghost use Rattle.event_wheel.specs.Slots.{node_at, Puts, with_link};
+ghost use Rattle.event_wheel.specs.Slots.{node_at, Puts, link_of, with_link};
 ghost use Rattle.event_wheel.specs.declared.nodes.Node.{Node as NodeShown};
 
+use crate::link::Link;
 use sg_logic::Value;
 use sg_steps::Steps;
 use sg_text::NoMemory;
 use slab::Slab;
 use std::alloc::Global;
 use std::marker::Model;
+use std::mem::size_of;
 use std::sync::ledger::Ledger;
 
 /// A pending transition. Its links are the keys of its neighbours: before and after it in its bucket, then before and
@@ -17,9 +19,21 @@ use std::sync::ledger::Ledger;
 #[derive(Clone, Copy, Debug)]
 pub struct Node {
     pub driver: u32,
-    pub time: u64,
     pub value: Value,
-    pub links: [Option<usize>; 4],
+    pub time: u64,
+    pub links: [Link; 4],
+}
+
+const _: () = prove!(size_of::<Node>() == 48);
+
+impl Node {
+    /// One of its four links.
+    pub fn link(&self, side: u32) -> Link
+        requires { side < 4 }
+        ensures { result ≡ link_of self.now side }
+    {
+        self.links[side as usize]
+    }
 }
 
 /// Nodes under keys. Each call but `new`, `reserve`, `is_empty` and `keys` touches the one node that it names, and takes one
@@ -96,7 +110,7 @@ impl Nodes {
         &mut self,
         key: usize,
         side: u32,
-        to: Option<usize>,
+        to: Link,
         steps: &mut Steps<L>,
     )
         requires key { IsSome (node_at self.old key) }
@@ -113,13 +127,17 @@ impl Nodes {
     /// Stores a node, in room that was reserved, and answers its key, which had none.
     pub fn add<L: Ledger>(&mut self, node: Node, steps: &mut Steps<L>) -> usize
         requires { 0 < self.old.room }
+        ensures below { result < 2 ^ 64 - 1 }
         ensures vacant { node_at self.old result ≡ None }
         ensures node { Puts self.old self.new result (Some node) }
         ensures room { self.new.room + 1 ≡ self.old.room }
         ensures steps { steps.new ≡ steps.old + 1 }
     {
         steps.tick();
-        self.slab.insert_reserved(node)
+        let key = self.slab.insert_reserved(node);
+        // the key is below this, which is a usize
+        let _ = self.slab.capacity();
+        key
     }
 
     /// Takes the node at a key that has one out of the store.

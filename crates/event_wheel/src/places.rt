@@ -1,20 +1,21 @@
 // Looking along the chains of buckets, in which times don't fall.
-ghost use Rattle.std.specs.Prelude.{◌≡◌, ℕ, ◌<◌, ◌%◌, List, length};
+ghost use Rattle.std.specs.Prelude.{◌≡◌, ℕ, ◌<◌, ◌%◌, List, Some, length};
 ghost use Rattle.std.specs.Bool.{OnTrue};
 ghost use Rattle.event_wheel.specs.Slots.{node_at};
 ghost use Rattle.event_wheel.specs.Places.{IsBucketChain, IsEarlier, IsPlace, IsLater, IsBeyond};
 
 use crate::chains::Ends;
+use crate::link::Link;
 use crate::nodes::{Node, Nodes};
 use crate::runs::Runs;
 use sg_steps::Steps;
 use std::sync::ledger::Ledger;
 
 // Whether what stands at a key, if anything, is later.
-fn is_later<L: Ledger>(nodes: &Nodes, key: Option<usize>, time: u64, steps: &mut Steps<L>) -> bool
+fn is_later<L: Ledger>(nodes: &Nodes, key: Link, time: u64, steps: &mut Steps<L>) -> bool
     ensures { OnTrue result (IsLater (node_at nodes.now) key time) }
 {
-    let Some(key) = key else {
+    let Some(key) = key.key() else {
         return true;
     };
     match nodes.get(key, steps) {
@@ -23,29 +24,30 @@ fn is_later<L: Ledger>(nodes: &Nodes, key: Option<usize>, time: u64, steps: &mut
     }
 }
 
-// Behind a node, or behind the run of equal times that it begins: the last node, and what comes after it.
+// Behind the node at a key, or behind the run of equal times that it begins: the last node, and what comes after it.
 fn beyond<L: Ledger>(
     nodes: &Nodes,
     runs: &Runs,
-    key: usize,
+    at: Link,
     node: Node,
     steps: &mut Steps<L>,
-) -> (Option<usize>, Option<usize>)
-    ensures { IsBeyond (node_at nodes.now) key node result.0 result.1 }
+) -> (Link, Link)
+    ensures { (key : ℕ) → at ≡ Some key → IsBeyond (node_at nodes.now) key node result.0 result.1 }
 {
-    let Some(end) = runs.last_of(key) else {
-        return (Some(key), node.links[1]);
+    let end = runs.last_of(at);
+    let Some(key) = end.key() else {
+        return (at, node.links[1]);
     };
-    let Some(last) = nodes.get(end, steps) else {
-        return (Some(key), node.links[1]);
+    let Some(last) = nodes.get(key, steps) else {
+        return (at, node.links[1]);
     };
     if last.time != node.time {
-        return (Some(key), node.links[1]);
+        return (at, node.links[1]);
     }
     if !is_later(nodes, last.links[1], node.time, steps) {
-        return (Some(key), node.links[1]);
+        return (at, node.links[1]);
     }
-    (Some(end), last.links[1])
+    (end, last.links[1])
 }
 
 // Two neighbours in a bucket's chain, up to which no time is later than this: behind the node that is near, or else at the
@@ -53,22 +55,22 @@ fn beyond<L: Ledger>(
 fn start_of<L: Ledger>(
     nodes: &Nodes,
     runs: &Runs,
-    first: Option<usize>,
-    near: Option<usize>,
+    first: Link,
+    near: Link,
     time: u64,
     steps: &mut Steps<L>,
-) -> (Option<usize>, Option<usize>)
+) -> (Link, Link)
     requires { (keys : List ℕ) × IsBucketChain (node_at nodes.now) keys near first }
     ensures { (keys : List ℕ) → IsBucketChain (node_at nodes.now) keys near first → IsEarlier (node_at nodes.now) keys time result.0 result.1 }
 {
-    let Some(key) = near else {
-        return (None, first);
+    let Some(key) = near.key() else {
+        return (Link::none(), first);
     };
     let node = nodes.read(key, steps);
     if time < node.time {
-        return (None, first);
+        return (Link::none(), first);
     }
-    beyond(nodes, runs, key, node, steps)
+    beyond(nodes, runs, near, node, steps)
 }
 
 /// Between which nodes of a bucket's chain, which begins with `first`, a time is put: behind all that are as early. The
@@ -77,21 +79,21 @@ fn start_of<L: Ledger>(
 pub fn place_of<L: Ledger>(
     nodes: &Nodes,
     runs: &Runs,
-    first: Option<usize>,
-    near: Option<usize>,
+    first: Link,
+    near: Link,
     time: u64,
     steps: &mut Steps<L>,
-) -> (Option<usize>, Option<usize>)
+) -> (Link, Link)
     requires { (keys : List ℕ) × IsBucketChain (node_at nodes.now) keys near first }
     ensures { (keys : List ℕ) → IsBucketChain (node_at nodes.now) keys near first → IsPlace (node_at nodes.now) keys time result.0 result.1 }
 {
     let (mut before, mut after) = start_of(nodes, runs, first, near, time, steps);
-    while let Some(key) = after {
+    while let Some(key) = after.key() {
         let node = nodes.read(key, steps);
         if time < node.time {
             return (before, after);
         }
-        let next = beyond(nodes, runs, key, node, steps);
+        let next = beyond(nodes, runs, after, node, steps);
         before = next.0;
         after = next.1;
     }
@@ -101,11 +103,11 @@ pub fn place_of<L: Ledger>(
 /// Whether the node at a key, if there is one, has this time.
 pub fn has_time<L: Ledger>(
     nodes: &Nodes,
-    key: Option<usize>,
+    key: Link,
     time: u64,
     steps: &mut Steps<L>,
 ) -> bool {
-    let Some(key) = key else {
+    let Some(key) = key.key() else {
         return false;
     };
     match nodes.get(key, steps) {

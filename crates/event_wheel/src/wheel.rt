@@ -74,7 +74,7 @@ impl Wheel {
         requires { bucket < self.now.buckets }
         ensures { IsBucket self.now.nodes self.now.buckets bucket result }
     {
-        self.chains.buckets[bucket as usize].first
+        self.chains.buckets[bucket as usize].first.key()
     }
 
     /// Drops the latest transition of `driver`, which has one, in six steps at most.
@@ -86,7 +86,7 @@ impl Wheel {
         ensures buckets { self.new.buckets ≡ self.old.buckets }
         ensures steps { steps.new ≤ steps.old + 6 }
     {
-        if let Some(key) = self.chains.drivers[driver as usize].last {
+        if let Some(key) = self.chains.drivers[driver as usize].last.key() {
             self.chains.take(key, steps);
         }
     }

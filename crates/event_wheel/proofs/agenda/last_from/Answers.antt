@@ -17,7 +17,7 @@ read-node-requires g c =
     let D = c.wheel.inside.chains.drivers.items in
     let R = c.wheel.invariant.chained.by_driver in
     let within = driver_in held c.wheel.inside.chains.buckets.items D c.args.wheel.now c.args.driver c.wheel.view_is c.requires.driver in
-    let last = sym (ap (λ (x : Ends). x.last) (read_ends D c.args.driver c.index.result.now within c.index.ensures)) ∙ c.in-Some.is in
+    let last = sym (ap (λ (x : Ends). x.last) (read_ends D c.args.driver c.index.result.now within c.index.ensures)) ∙ (sym c.key.ensures ∙ c.in-Some.is) in
     let s = last_is held D R.chains c.args.driver c.in-Some.key R.indexed within last in
     is_some-of (node_at held c.in-Some.key) s.0 s.1
 
@@ -27,7 +27,7 @@ returns-in-Some-clause-last g c =
     let D = c.wheel.inside.chains.drivers.items in
     let R = c.wheel.invariant.chained.by_driver in
     let within = driver_in held c.wheel.inside.chains.buckets.items D c.args.wheel.now c.args.driver c.wheel.view_is c.requires.driver in
-    let last = sym (ap (λ (x : Ends). x.last) (read_ends D c.args.driver c.index.result.now within c.index.ensures)) ∙ c.in-Some.is in
+    let last = sym (ap (λ (x : Ends). x.last) (read_ends D c.args.driver c.index.result.now within c.index.ensures)) ∙ (sym c.key.ensures ∙ c.in-Some.is) in
     subst (λ (v : WheelView). Some (c.read-node.result.time, c.read-node.result.value) ≡ last_of (list_at v.lists c.args.driver)) c.wheel.view_is
     (sym (last_some held D R.chains c.args.driver c.in-Some.key c.read-node.result R.indexed within last c.read-node.ensures.node))
 
@@ -45,7 +45,7 @@ returns-clause-last g c =
     let D = c.wheel.inside.chains.drivers.items in
     let R = c.wheel.invariant.chained.by_driver in
     let within = driver_in held c.wheel.inside.chains.buckets.items D c.args.wheel.now c.args.driver c.wheel.view_is c.requires.driver in
-    let last = sym (ap (λ (x : Ends). x.last) (read_ends D c.args.driver c.index.result.now within c.index.ensures)) ∙ c.in-None.is in
+    let last = sym (ap (λ (x : Ends). x.last) (read_ends D c.args.driver c.index.result.now within c.index.ensures)) ∙ (sym c.key.ensures ∙ c.in-None.is) in
     subst (λ (v : WheelView). None ≡ last_of (list_at v.lists c.args.driver)) c.wheel.view_is
     (sym (last_nothing held D R.chains c.args.driver R.indexed within last))
 

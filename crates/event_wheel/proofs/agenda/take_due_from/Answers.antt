@@ -21,7 +21,7 @@ returns-in_default-clause-none g c =
     let within : c.bucket_of-bucket.result < length B = omega arith in (
       nothing_due held B c.wheel.inside.chains.drivers.items c.wheel.inside.chains.near.items c.args.wheel.now c.args.now c.bucket_of-bucket.result c.index.result.now.first c.wheel.invariant.chained c.wheel.view_is c.requires.below bucket
           (ap (λ (x : Ends). x.first) (read_ends B c.bucket_of-bucket.result c.index.result.now within c.index.ensures))
-          (unmet_none (node_at held) c.index.result.now.first c.args.now c.in_default.is),
+          (unmet_none (node_at held) c.index.result.now.first c.args.now (sym c.key.ensures ∙ c.in_default.is)),
       refl,
     )
 
@@ -34,7 +34,7 @@ read-requires g c =
     let inside : c.args.now % length B < length B = omega arith in
     let within : c.bucket_of-bucket.result < length B = omega arith in
     first_held (node_at held) B c.bucket_of-bucket.result c.index.result.now.first c.wheel.invariant.chained.by_time within
-    (ap (λ (x : Ends). x.first) (read_ends B c.bucket_of-bucket.result c.index.result.now within c.index.ensures)) c.in-Some.key c.in-Some.is
+    (ap (λ (x : Ends). x.first) (read_ends B c.bucket_of-bucket.result c.index.result.now within c.index.ensures)) c.in-Some.key (sym c.key.ensures ∙ c.in-Some.is)
 
 pub returns-then-read-now-clause-none : goal.returns-then-read-now-clause-none
 returns-then-read-now-clause-none g c =
@@ -47,7 +47,7 @@ returns-then-read-now-clause-none g c =
     let other : c.read.result.time ≢ c.args.now = c.if-read-now.true in (
       nothing_due held B c.wheel.inside.chains.drivers.items c.wheel.inside.chains.near.items c.args.wheel.now c.args.now c.bucket_of-bucket.result c.index.result.now.first c.wheel.invariant.chained c.wheel.view_is c.requires.below bucket
           (ap (λ (x : Ends). x.first) (read_ends B c.bucket_of-bucket.result c.index.result.now within c.index.ensures))
-          (unmet_other (node_at held) c.index.result.now.first c.in-Some.key c.args.now c.read.result c.in-Some.is c.read.ensures.node other),
+          (unmet_other (node_at held) c.index.result.now.first c.in-Some.key c.args.now c.read.result (sym c.key.ensures ∙ c.in-Some.is) c.read.ensures.node other),
       refl,
     )
 

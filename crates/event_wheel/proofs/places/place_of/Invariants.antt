@@ -5,8 +5,8 @@ use Rattle.event_wheel.specs.Chains.{walk}
 use Rattle.event_wheel.proofs.PlaceLaws.{IsPassing}
 use Rattle.event_wheel.proofs.places.place_of.Given as goal
 
-abbrev pub invariant-loop-after : goal.invariant-loop-after
-invariant-loop-after g l = IsPassing (node_at l.nodes) l.fn.near l.fn.first l.time l.before l.after
+abbrev pub invariant-loop-key : goal.invariant-loop-key
+invariant-loop-key g l = IsPassing (node_at l.nodes) l.fn.near l.fn.first l.time l.before l.after
 
-abbrev pub decreases-loop-after : goal.decreases-loop-after
-decreases-loop-after g l = length (walk (length l.nodes.slots) (node_at l.nodes) 1 l.after)
+abbrev pub decreases-loop-key : goal.decreases-loop-key
+decreases-loop-key g l = length (walk (length l.nodes.slots) (node_at l.nodes) 1 l.after)
