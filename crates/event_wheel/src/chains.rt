@@ -42,13 +42,7 @@ impl Ends {
     }
 
     /// Between `before` and `after`, whatever stood there, the chain now begins with `first` and ends with `last`.
-    fn join(
-        &mut self,
-        before: Link,
-        after: Link,
-        first: Link,
-        last: Link,
-    )
+    fn join(&mut self, before: Link, after: Link, first: Link, last: Link)
         ensures { self.new ≡ ends_between self.old before after first last }
     {
         if before.is_none() {
@@ -61,12 +55,7 @@ impl Ends {
 }
 
 // A key that is known, after this one was taken from between two others.
-fn known_without(
-    near: Link,
-    key: usize,
-    before: Link,
-    after: Link,
-) -> Link
+fn known_without(near: Link, key: usize, before: Link, after: Link) -> Link
     ensures { result ≡ known_without near key before after }
 {
     match near.key() {

@@ -10,13 +10,7 @@ use sg_steps::Steps;
 use std::sync::ledger::Ledger;
 
 // Sets a link of the node at a key, if there is one.
-fn link_some<L: Ledger>(
-    nodes: &mut Nodes,
-    at: Link,
-    side: u32,
-    to: Link,
-    steps: &mut Steps<L>,
-)
+fn link_some<L: Ledger>(nodes: &mut Nodes, at: Link, side: u32, to: Link, steps: &mut Steps<L>)
     requires at { ForSome at (λ key. IsSome (node_at nodes.old key)) }
     requires side { side < 4 }
     ensures nodes { Becomes (node_at nodes.old) (node_at nodes.new) (slot_with_link at side to) }

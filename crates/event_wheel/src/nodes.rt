@@ -106,13 +106,7 @@ impl Nodes {
     }
 
     /// Sets one of the four links of the node at a key that has one.
-    pub fn link<L: Ledger>(
-        &mut self,
-        key: usize,
-        side: u32,
-        to: Link,
-        steps: &mut Steps<L>,
-    )
+    pub fn link<L: Ledger>(&mut self, key: usize, side: u32, to: Link, steps: &mut Steps<L>)
         requires key { IsSome (node_at self.old key) }
         requires side { side < 4 }
         ensures node { (node : NodeShown) → node_at self.old key ≡ Some node → Puts self.old self.new key (Some (with_link node side to)) }

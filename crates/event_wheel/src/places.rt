@@ -101,12 +101,7 @@ pub fn place_of<L: Ledger>(
 }
 
 /// Whether the node at a key, if there is one, has this time.
-pub fn has_time<L: Ledger>(
-    nodes: &Nodes,
-    key: Link,
-    time: u64,
-    steps: &mut Steps<L>,
-) -> bool {
+pub fn has_time<L: Ledger>(nodes: &Nodes, key: Link, time: u64, steps: &mut Steps<L>) -> bool {
     let Some(key) = key.key() else {
         return false;
     };
