@@ -276,6 +276,7 @@ pub others_at : (m : Store) (buckets buckets' : List Ends) (tree tree' : List (O
 others_at m buckets buckets' tree tree' i i' before eb et ei h =
     subst (λ bs. AreOtherFirsts m bs tree' i' before) (sym eb) (subst (λ ts. AreOtherFirsts m buckets ts i' before) (sym et) (subst (λ j. AreOtherFirsts m buckets tree j before) (sym ei) h))
 
+-- where the link before that place is what its node says
 pub others_from : (m : Store) (buckets : List Ends) (tree : List (Option ℕ)) (i : ℕ) (link before : Option ℕ) → link ≡ before → AreOtherFirsts m buckets tree i before → AreOtherFirsts m buckets tree i link
 others_from m buckets tree i link before e h = subst (λ (b : Option ℕ). AreOtherFirsts m buckets tree i b) (sym e) h
 

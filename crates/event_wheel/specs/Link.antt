@@ -17,7 +17,7 @@ abbrev pub number_of : Option ℕ → ℕ
 number_of None = no_key
 number_of (Some key) = key
 
--- each number stands for something else
+-- a number is got back from what it stands for
 pub number_of-key_of : (n : ℕ) → number_of (key_of n) ≡ n
 number_of-key_of n = by (n == no_key) refl
   where
