@@ -9,7 +9,7 @@ use Rattle.std.proofs.lemmas.List.FromFn.{length-map-range_with_len, get_or-map-
 use Rattle.sg_circuit.specs.Closed.{width_of}
 use Rattle.sg_circuit.specs.declared.scopes.Port.TheVariants as port
 use Rattle.elab_model.specs.Names.{Variable}
-use Rattle.elab_laws.specs.Handing.{variable_bits, all_bits}
+use Rattle.elab_variables.specs.Handing.{variable_bits, all_bits}
 use Rattle.elab_variables.specs.Seen.{variable_at}
 
 -- what stands past the end

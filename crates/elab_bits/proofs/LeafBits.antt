@@ -9,9 +9,9 @@ use Rattle.vl_tree.specs.declared.expressions.Select.{Select}
 use Rattle.elab_model.specs.Bits.{net, leaf_bits, whole_bits, part_bits, positions_between}
 use Rattle.elab_model.specs.Leaves.{whole, part}
 use Rattle.elab_model.specs.Names.{Variable}
-use Rattle.elab_laws.proofs.Lists.{all-range}
-use Rattle.elab_laws.proofs.Places.{between-below}
-use Rattle.elab_laws.specs.Handing.{all_bits}
+use Rattle.elab_variables.proofs.Lists.{all-range}
+use Rattle.elab_variables.proofs.Places.{between-below}
+use Rattle.elab_variables.specs.Handing.{all_bits}
 use Rattle.elab_variables.specs.Seen.{variable_at, place_named}
 use Rattle.elab_bits.specs.declared.bits.Bit as code_bit
 use Rattle.elab_bits.specs.Seen.{view_bit, bit_at}

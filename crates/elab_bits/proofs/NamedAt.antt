@@ -5,7 +5,7 @@ use Rattle.std.proofs.Common.{sym, ◌∙◌, arith, subst}
 use Rattle.std.proofs.lemmas.Slice.Eq.{bytes_eq-Decides}
 use Rattle.elab_model.specs.Names.{Variable}
 use Rattle.elab_model.specs.Bits.{variable_named}
-use Rattle.elab_laws.proofs.Lists.{found-is}
+use Rattle.elab_variables.proofs.Lists.{found-is}
 use Rattle.elab_variables.specs.Seen.{variable_at, place_named}
 use Rattle.elab_bits.proofs.InRow.{blank}
 

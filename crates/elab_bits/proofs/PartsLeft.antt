@@ -16,7 +16,7 @@ use Rattle.elab_model.specs.Bits.{Bit, constant, bits}
 use Rattle.elab_model.specs.Faults.{RefusesOneOf}
 use Rattle.elab_model.specs.Names.{Variable}
 use Rattle.elab_model.specs.TerminalFaults.{expression_faults}
-use Rattle.elab_declared.proofs.Refusals.{refused-left}
+use Rattle.elab_variables.proofs.Refusals.{refused-left}
 use Rattle.elab_bits.specs.declared.bits.Bit as code_bit
 use Rattle.elab_bits.specs.declared.bits.Bit.TheVariants as bit
 use Rattle.elab_bits.specs.Seen.{view_bit}

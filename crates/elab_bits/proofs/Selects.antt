@@ -9,7 +9,7 @@ use Rattle.vl_tree.specs.declared.expressions.Select.{Select}
 use Rattle.vl_tree.specs.declared.expressions.Select.TheVariants as select
 use Rattle.elab_model.specs.Bits.{net, position_at, positions_between, bits_between, select_bits}
 use Rattle.elab_model.specs.TerminalFaults.{is_missing, has_index}
-use Rattle.elab_laws.proofs.Places.{position-below}
+use Rattle.elab_variables.proofs.Places.{position-below}
 use Rattle.elab_bits.specs.Words.{both, ends}
 
 -- from left to right, and from right to left

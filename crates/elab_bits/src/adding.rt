@@ -4,7 +4,7 @@ ghost use Rattle.std.specs.List.{range_with_len};
 ghost use Rattle.vl_token.specs.Constants.{sized_bits};
 ghost use Rattle.elab_model.specs.Names.{Variable};
 ghost use Rattle.elab_model.specs.Bits.{positions_between};
-ghost use Rattle.elab_laws.specs.Handing.{all_bits};
+ghost use Rattle.elab_variables.specs.Handing.{all_bits};
 ghost use Rattle.elab_bits.specs.Seen.{IsInRow};
 ghost use Rattle.elab_bits.specs.Words.{net_from};
 ghost use Rattle.elab_bits.specs.declared.bits.Bit.TheVariants as bit;

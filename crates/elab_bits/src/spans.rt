@@ -1,7 +1,7 @@
 // Where the bits of a variable stand in the row.
 ghost use Rattle.std.specs.Prelude.{◌≡◌, ◌+◌, ◌^◌, ◌<◌, length, take};
 ghost use Rattle.sg_circuit.specs.Closed.{width_of};
-ghost use Rattle.elab_laws.specs.Handing.{all_bits};
+ghost use Rattle.elab_variables.specs.Handing.{all_bits};
 ghost use Rattle.elab_variables.specs.Seen.{variable_at};
 
 use elab_variables::Table;

@@ -23,10 +23,10 @@ use Rattle.elab_laws.proofs.NoFaults.{all-from}
 use Rattle.elab_hierarchy.specs.declared.instances.Placed.{Placed}
 use Rattle.elab_hierarchy.specs.Placing.{ArePlaced}
 use Rattle.elab_hierarchy.specs.Tops.{StandsAt}
-use Rattle.elab_modules.proofs.Among.{in-mapped}
-use Rattle.elab_modules.proofs.Faulty.{refused-flat}
-use Rattle.elab_modules.proofs.Meeting.{places_of}
-use Rattle.elab_modules.proofs.Named.{one-place, place-of, placed-in}
+use Rattle.elab_paths.proofs.AmongOfModules.{in-mapped}
+use Rattle.elab_paths.proofs.FaultyOfModules.{refused-flat}
+use Rattle.elab_paths.proofs.Meeting.{places_of}
+use Rattle.elab_paths.proofs.NamedOfModules.{one-place, place-of, placed-in}
 use Rattle.elab_paths.specs.Shelving.{AreRead}
 use Rattle.elab_checks.specs.OfModules.{AreChecksOf, AreSoundChecks, AreReadySoFar, HasReady, IsOfPlace}
 use Rattle.elab_checks.specs.Ready.{check_ready, copies_in, IsReadyOf, HasChecks, HaveChecks}

@@ -20,15 +20,15 @@ use Rattle.elab_laws.specs.Handing.{all_bits, number_at}
 use Rattle.elab_laws.proofs.Lists.{In, all-in}
 use Rattle.elab_laws.proofs.NoFaults.{flat-empty}
 use Rattle.elab_hierarchy.specs.declared.instances.Placed.{Placed}
-use Rattle.elab_modules.specs.Ready.{IsPrepared}
-use Rattle.elab_modules.specs.declared.library.Library.{Library}
-use Rattle.elab_modules.specs.declared.library.Ready as code_ready
-use Rattle.elab_modules.specs.declared.library.Ready.TheVariants as ready
-use Rattle.elab_modules.specs.declared.prepared.Prepared.{Prepared}
-use Rattle.elab_nets.specs.Rows.{part_of, HasRow}
-use Rattle.elab_nets.specs.declared.rows.Rows.{Rows}
-use Rattle.elab_elements.specs.Adding.{IsHere}
-use Rattle.elab_elements.proofs.StandingAt.{at-place, at-split, instance-number, instance-ready}
+use Rattle.elab_paths.specs.ReadyOfModules.{IsPrepared}
+use Rattle.elab_paths.specs.Library.{Library}
+use Rattle.elab_paths.specs.ReadyType as code_ready
+use Rattle.elab_paths.specs.ReadyType.TheVariants as ready
+use Rattle.elab_paths.specs.Prepared.{Prepared}
+use Rattle.elab_paths.specs.Rows.{part_of, HasRow}
+use Rattle.elab_paths.specs.RowsType.{Rows}
+use Rattle.elab_paths.specs.Adding.{IsHere}
+use Rattle.elab_paths.proofs.StandingAt.{at-place, at-split, instance-number, instance-ready}
 use Rattle.elab_paths.proofs.InstanceUses.{placed-own}
 use Rattle.elab_checks.specs.Ready.{check_ready, copies_in, HasChecks, IsReadyOf}
 use Rattle.elab_checks.specs.Standing.{AreGiven, IsStanding, checks_at}

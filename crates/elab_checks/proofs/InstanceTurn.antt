@@ -17,12 +17,12 @@ use Rattle.circuit_model.specs.CheckUses as def
 use Rattle.circuit_model.specs.Faults.{over}
 use Rattle.elab_numbering.specs.Refusals.{RefusesCount}
 use Rattle.elab_hierarchy.specs.declared.instances.Placed.{Placed}
-use Rattle.elab_modules.specs.Ready.{IsPrepared}
-use Rattle.elab_modules.specs.declared.library.Library.{Library}
-use Rattle.elab_modules.specs.declared.prepared.Prepared.{Prepared}
-use Rattle.elab_nets.specs.declared.rows.Rows.{Rows}
-use Rattle.elab_elements.specs.Adding.{IsHere}
-use Rattle.elab_elements.proofs.StandingAt.{placed-count}
+use Rattle.elab_paths.specs.ReadyOfModules.{IsPrepared}
+use Rattle.elab_paths.specs.Library.{Library}
+use Rattle.elab_paths.specs.Prepared.{Prepared}
+use Rattle.elab_paths.specs.RowsType.{Rows}
+use Rattle.elab_paths.specs.Adding.{IsHere}
+use Rattle.elab_paths.proofs.StandingAt.{placed-count}
 use Rattle.elab_checks.specs.Ready.{copies_in}
 use Rattle.elab_checks.specs.Standing.{AreGiven, IsStanding, checks_at}
 use Rattle.elab_checks.specs.Uses.{AreLates, AreUses}

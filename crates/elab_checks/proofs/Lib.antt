@@ -12,3 +12,5 @@ pub mod InstanceChecks
 pub mod Counts
 pub mod OneByOne
 pub mod InstanceTurn
+pub use Rattle.elab_paths.proofs.StandingAt
+pub use Rattle.elab_paths.proofs.LatesSame

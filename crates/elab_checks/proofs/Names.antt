@@ -18,8 +18,8 @@ use Rattle.elab_laws.proofs.NoFaults.{front, back, flat-empty}
 use Rattle.elab_hierarchy.specs.Placing.{ArePlaced}
 use Rattle.elab_hierarchy.specs.Tops.{StandsAt}
 use Rattle.elab_hierarchy.specs.declared.instances.Placed.{Placed}
-use Rattle.elab_modules.proofs.Among.{in-mapped}
-use Rattle.elab_modules.proofs.Named.{module-same, placed-in}
+use Rattle.elab_paths.proofs.AmongOfModules.{in-mapped}
+use Rattle.elab_paths.proofs.NamedOfModules.{module-same, placed-in}
 use Rattle.specify_checks.specs.Copies.{AreNamed, HasNames}
 use Rattle.specify_checks.proofs.Asked.{check-there}
 

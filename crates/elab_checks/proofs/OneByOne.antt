@@ -18,7 +18,7 @@ use Rattle.circuit_model.specs.CheckUses as def
 use Rattle.circuit_model.specs.Faults.{over}
 use Rattle.circuit_model.specs.PathUses.{bit_number}
 use Rattle.elab_numbering.specs.Refusals.{RefusesCount}
-use Rattle.elab_elements.specs.Adding.{IsHere}
+use Rattle.elab_paths.specs.Adding.{IsHere}
 use Rattle.elab_paths.specs.Uses.{IsRow}
 use Rattle.elab_paths.proofs.InstanceUses.{flat-more, flat-within}
 use Rattle.elab_paths.proofs.UsesSoFar.{row-is}

@@ -19,8 +19,8 @@ use Rattle.specify_checks.specs.Copies.{copies_seen, HasNames, IsReadable, IsRea
 use Rattle.specify_checks.proofs.CopyPlaces.{seen-copies}
 use Rattle.specify_checks.specs.Seen.{check_seen, IsFitting}
 use Rattle.specify_checks.specs.declared.checks.ModuleCheck.{ModuleCheck}
-use Rattle.elab_modules.specs.Ready.{IsPrepared}
-use Rattle.elab_modules.specs.declared.prepared.Prepared.{Prepared}
+use Rattle.elab_paths.specs.ReadyOfModules.{IsPrepared}
+use Rattle.elab_paths.specs.Prepared.{Prepared}
 use Rattle.vl_tree.specs.Seen.{view_module}
 use Rattle.elab_checks.specs.OfModules.{AreChecksOf}
 use Rattle.elab_checks.specs.Ready.{check_ready, copies_in, IsReadyCheck}

@@ -12,7 +12,7 @@ use Rattle.vl_tree.specs.Tree.{Module, Source, a_module}
 use Rattle.elab_model.specs.Names.{variables}
 use Rattle.elab_hierarchy.specs.declared.instances.Placed.{Placed}
 use Rattle.elab_hierarchy.specs.Tops.{StandsAt}
-use Rattle.elab_modules.proofs.Replaced.{set-there, set-either, set-keeps}
+use Rattle.elab_paths.proofs.Replaced.{set-there, set-either, set-keeps}
 use Rattle.elab_paths.specs.Shelving.{ListGrows}
 use Rattle.elab_paths.proofs.OnShelves.{grown-front, grown-longer}
 use Rattle.elab_checks.specs.OfModules.{AreChecksOf, AreSoundChecks, AreReadySoFar, HasReady}

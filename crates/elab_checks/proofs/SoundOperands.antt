@@ -27,7 +27,7 @@ use Rattle.elab_model.specs.Terms.{NetBit}
 use Rattle.specify_model.specs.Values.{Measure, Values, value_of}
 use Rattle.elab_laws.proofs.Lists.{all-map, all-map_back, all-weaker}
 use Rattle.elab_laws.proofs.NoFaults.{front, back, flat-empty}
-use Rattle.specify_paths.specs.Seen.{IsRead}
+use Rattle.specify_checks.specs.SeenOfPaths.{IsRead}
 use Rattle.specify_checks.specs.Seen.{enabling_seen}
 use Rattle.elab_paths.specs.Uses.{AreSound}
 use Rattle.elab_paths.proofs.SoundConditions.{words-sound}

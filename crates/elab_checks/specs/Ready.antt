@@ -17,7 +17,7 @@ use Rattle.circuit_model.specs.Faults.{check_faults}
 use Rattle.elab_laws.specs.Handing.{all_bits}
 use Rattle.elab_hierarchy.specs.Tops.{StandsAt}
 use Rattle.elab_ends.specs.Seen.{bit_seen}
-use Rattle.specify_paths.specs.Seen.{IsRead}
+use Rattle.specify_checks.specs.SeenOfPaths.{IsRead}
 use Rattle.specify_checks.specs.Copies.{both_at}
 use Rattle.specify_checks.specs.Seen.{enabling_seen, limits_seen}
 use Rattle.elab_checks.specs.declared.modules.ReadyChecks.{ReadyChecks}

@@ -11,10 +11,10 @@ use Rattle.elab_model.specs.HierarchyFaults.{count_limit}
 use Rattle.circuit_model.specs.CheckUses.{lates_in}
 use Rattle.elab_hierarchy.specs.Placing.{IsPlaced, ArePlaced}
 use Rattle.elab_hierarchy.specs.declared.instances.Placed.{Placed}
-use Rattle.elab_modules.specs.Reached.{IsLibrary}
-use Rattle.elab_modules.specs.declared.library.Library.{Library}
-use Rattle.elab_nets.specs.Rows.{HaveRows}
-use Rattle.elab_nets.specs.declared.rows.Rows.{Rows}
+use Rattle.elab_paths.specs.Reached.{IsLibrary}
+use Rattle.elab_paths.specs.Library.{Library}
+use Rattle.elab_paths.specs.Rows.{HaveRows}
+use Rattle.elab_paths.specs.RowsType.{Rows}
 use Rattle.elab_checks.specs.Ready.{HaveChecks}
 use Rattle.elab_checks.specs.declared.modules.ReadyChecks.{ReadyChecks}
 use Rattle.elab_checks.specs.declared.shelving.ReadyCheck.{ReadyCheck}

@@ -10,9 +10,9 @@ ghost use Rattle.specify_model.specs.CheckFaults.{timing_check_faults};
 ghost use Rattle.circuit_model.specs.Faults.{check_faults};
 ghost use Rattle.elab_hierarchy.specs.Placing.{ArePlaced};
 ghost use Rattle.elab_hierarchy.specs.Tops.{StandsAt};
-ghost use Rattle.elab_modules.specs.Ready.{IsPrepared};
-ghost use Rattle.elab_modules.specs.Reached.{IsLibrary};
-ghost use Rattle.elab_modules.specs.Telling.{Tells};
+ghost use Rattle.elab_paths.specs.ReadyOfModules.{IsPrepared};
+ghost use Rattle.elab_paths.specs.Reached.{IsLibrary};
+ghost use Rattle.elab_paths.specs.Telling.{Tells};
 ghost use Rattle.specify_checks.specs.Copies.{HasNames};
 ghost use Rattle.elab_paths.specs.OfModules.{StandsReady};
 ghost use Rattle.elab_paths.specs.Shelving.{AreRead, ListGrows};
@@ -23,12 +23,11 @@ use crate::shelving::{ReadyCheck, shelve};
 use cond_expr::Expr;
 use elab_hierarchy::{Definitions, Placed};
 use elab_model::ElabKind;
-use elab_modules::{Library, Prepared, Ready};
+use elab_paths::{Library, Prepared, Ready};
 use sg_delay::Corner;
 use sg_text::{NoMemory, Refused};
 use sg_time::Unit;
-use specify_checks::module_checks;
-use specify_values::Measure;
+use specify_checks::{Measure, module_checks};
 use std::alloc::Global;
 
 /// The timing checks of the modules that a top reaches, once a module: by the place of the definition, those of the module there, where an instance is one of it.

@@ -3,7 +3,7 @@ ghost use Rattle.std.specs.Prelude.{◌≡◌, ◌++◌, ℕ, All, List, IfOk, I
 ghost use Rattle.cond_expr.specs.Condition.{Condition};
 ghost use Rattle.elab_model.specs.Lates.{DelayedCopy};
 ghost use Rattle.elab_model.specs.Names.{Variable};
-ghost use Rattle.specify_paths.specs.Seen.{IsRead};
+ghost use Rattle.specify_checks.specs.SeenOfPaths.{IsRead};
 ghost use Rattle.specify_checks.specs.Seen.{check_seen, IsFitting, IsSpelledCheck, IsSpelledEvent};
 ghost use Rattle.elab_paths.specs.Shelving.{AreRead, ListGrows};
 ghost use Rattle.elab_checks.specs.Ready.{check_ready, IsReadyCheck};

@@ -20,7 +20,7 @@ use Rattle.elab_model.specs.Hierarchy.{instances, top_instance}
 use Rattle.elab_model.specs.Nets.{OwnNet, nets}
 use Rattle.elab_numbering.specs.Refusals.{RefusesCount}
 use Rattle.elab_hierarchy.specs.declared.instances.Placed.{Placed}
-use Rattle.elab_modules.specs.declared.library.Library.{Library}
+use Rattle.elab_nets.specs.Library.{Library}
 use Rattle.elab_nets.specs.declared.rows.Rows.{Rows}
 use Rattle.elab_elements.specs.declared.placing.Placing.{Placing}
 use Rattle.elab_elements.specs.Adding.{Adds}

@@ -20,9 +20,9 @@ use Rattle.elab_laws.specs.NumberLaws.{end_numbers, driven_number}
 use Rattle.elab_laws.proofs.DrivenNumbers.{driven-is_numbered}
 use Rattle.elab_laws.proofs.Lists.{In, all-from, all-in, all-flat_in, all-map, all-range, all-weaker}
 use Rattle.elab_hierarchy.specs.declared.instances.Placed.{Placed}
-use Rattle.elab_modules.specs.declared.library.Library.{Library}
-use Rattle.elab_modules.specs.declared.prepared.Prepared.{Prepared}
-use Rattle.elab_modules.specs.Ready.{IsPrepared}
+use Rattle.elab_nets.specs.Library.{Library}
+use Rattle.elab_nets.specs.Prepared.{Prepared}
+use Rattle.elab_nets.specs.ReadyOfModules.{IsPrepared}
 use Rattle.elab_ends.specs.Ends.{AreEnds}
 use Rattle.elab_ends.specs.Seen.{bit_seen, bits_seen}
 use Rattle.elab_ends.specs.declared.ends.PathEnds.{PathEnds}

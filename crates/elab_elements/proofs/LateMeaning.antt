@@ -18,10 +18,10 @@ use Rattle.elab_model.specs.Names.{Variable, variables}
 use Rattle.elab_model.specs.Nets.{OwnNet, late_net, nets, number_of}
 use Rattle.elab_laws.specs.Handing.{numbered}
 use Rattle.elab_laws.specs.NumberLaws.{numbers_in}
-use Rattle.elab_lates.specs.Copies.{AreCopies}
-use Rattle.elab_lates.specs.Seen.{placed_seen, AreCopiesInRow, IsCopyInRow, IsPlaceIn}
-use Rattle.elab_lates.specs.declared.copies.PlacedCopy.{PlacedCopy}
-use Rattle.elab_modules.specs.declared.prepared.Prepared.{Prepared}
+use Rattle.elab_nets.specs.CopiesOfLates.{AreCopies}
+use Rattle.elab_nets.specs.SeenOfLates.{placed_seen, AreCopiesInRow, IsCopyInRow, IsPlaceIn}
+use Rattle.elab_nets.specs.PlacedCopy.{PlacedCopy}
+use Rattle.elab_nets.specs.Prepared.{Prepared}
 use Rattle.elab_elements.specs.declared.placing.Placing.{Placing}
 use Rattle.elab_elements.specs.Adding.{IsHere, HasDriven}
 use Rattle.elab_elements.specs.Puts.{Put, Puts, RefusesPuts}

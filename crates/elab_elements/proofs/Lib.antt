@@ -23,3 +23,11 @@ pub mod AllInstances
 pub mod NamedMember
 pub mod MemberTurn
 pub mod MembersSoFar
+pub use Rattle.elab_nets.proofs.AmongOfModules
+pub use Rattle.elab_nets.proofs.FaultyOfModules
+pub use Rattle.elab_nets.proofs.Meeting
+pub use Rattle.elab_nets.proofs.NamedOfModules
+pub use Rattle.elab_nets.proofs.Stocking
+pub use Rattle.elab_nets.proofs.Replaced
+pub use Rattle.elab_nets.proofs.InTurn
+pub use Rattle.elab_nets.proofs.RowParts

@@ -20,9 +20,9 @@ use Rattle.elab_model.specs.Members.{Member, assignment, supply, gate, path, che
 use Rattle.elab_model.specs.Names.{Variable, variables}
 use Rattle.elab_model.specs.Nets.{nets}
 use Rattle.elab_hierarchy.specs.declared.instances.Placed.{Placed}
-use Rattle.elab_modules.specs.declared.library.Library.{Library}
-use Rattle.elab_modules.specs.declared.prepared.Prepared.{Prepared}
-use Rattle.elab_modules.specs.Ready.{IsPrepared}
+use Rattle.elab_nets.specs.Library.{Library}
+use Rattle.elab_nets.specs.Prepared.{Prepared}
+use Rattle.elab_nets.specs.ReadyOfModules.{IsPrepared}
 use Rattle.elab_nets.specs.declared.rows.Rows.{Rows}
 use Rattle.elab_elements.specs.Adding.{HasDriven, HasTerminals, IsHere}
 use Rattle.elab_elements.specs.Next.{IsNext}

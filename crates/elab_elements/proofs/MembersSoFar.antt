@@ -23,11 +23,11 @@ use Rattle.elab_numbering.specs.Refusals.{RefusesCount}
 use Rattle.elab_laws.specs.Handing.{all_bits}
 use Rattle.elab_laws.proofs.Lists.{In, all-in, all-get}
 use Rattle.elab_hierarchy.specs.declared.instances.Placed.{Placed}
-use Rattle.elab_modules.specs.declared.library.Library.{Library}
-use Rattle.elab_modules.specs.declared.library.Ready.TheVariants as ready
-use Rattle.elab_modules.specs.declared.prepared.Prepared.{Prepared}
-use Rattle.elab_modules.specs.Reached.{IsReached, IsReadyAt}
-use Rattle.elab_modules.specs.Ready.{member_delays}
+use Rattle.elab_nets.specs.Library.{Library}
+use Rattle.elab_nets.specs.Ready.TheVariants as ready
+use Rattle.elab_nets.specs.Prepared.{Prepared}
+use Rattle.elab_nets.specs.Reached.{IsReached, IsReadyAt}
+use Rattle.elab_nets.specs.ReadyOfModules.{member_delays}
 use Rattle.elab_variables.specs.declared.member_list.Member as code_member
 use Rattle.elab_variables.specs.Seen.{view_member}
 use Rattle.elab_nets.specs.declared.rows.Rows.{Rows}

@@ -22,11 +22,11 @@ use Rattle.elab_model.specs.Nets.{nets}
 use Rattle.elab_laws.proofs.Lists.{In, all-in, all-get}
 use Rattle.elab_ports.specs.Bound.{AreConnected}
 use Rattle.elab_hierarchy.specs.declared.instances.Placed.{Placed}
-use Rattle.elab_modules.specs.declared.library.Library.{Library}
-use Rattle.elab_modules.specs.declared.library.Ready as code_ready
-use Rattle.elab_modules.specs.declared.library.Ready.TheVariants as ready
-use Rattle.elab_modules.specs.Reached.{IsReached}
-use Rattle.elab_modules.specs.Ready.{HasReady, IsUdp, MemberReady}
+use Rattle.elab_nets.specs.Library.{Library}
+use Rattle.elab_nets.specs.Ready as code_ready
+use Rattle.elab_nets.specs.Ready.TheVariants as ready
+use Rattle.elab_nets.specs.Reached.{IsReached}
+use Rattle.elab_nets.specs.ReadyOfModules.{HasReady, IsUdp, MemberReady}
 use Rattle.elab_nets.specs.declared.rows.Rows.{Rows}
 use Rattle.elab_nets.proofs.Children.{child-in}
 use Rattle.elab_nets.proofs.Defined.{found-none, is-defined}

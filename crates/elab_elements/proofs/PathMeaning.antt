@@ -21,8 +21,8 @@ use Rattle.elab_model.specs.Terms.{NetBit}
 use Rattle.elab_laws.specs.Handing.{all_bits, number_at}
 use Rattle.elab_ends.proofs.Spans.{is-within, is-part as part-is}
 use Rattle.elab_ends.specs.Seen.{bit_seen, bits_seen}
-use Rattle.elab_modules.specs.Ready.{IsPrepared}
-use Rattle.elab_modules.specs.declared.prepared.Prepared.{Prepared}
+use Rattle.elab_nets.specs.ReadyOfModules.{IsPrepared}
+use Rattle.elab_nets.specs.Prepared.{Prepared}
 use Rattle.elab_nets.specs.declared.rows.Rows.{Rows}
 use Rattle.elab_elements.specs.Adding.{IsHere}
 use Rattle.elab_elements.specs.Standing.{HasPaths}

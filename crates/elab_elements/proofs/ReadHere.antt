@@ -28,11 +28,11 @@ use Rattle.elab_ports.specs.declared.constants.PortConstant as code_constant
 use Rattle.vl_tree.specs.Seen.{view_name, view_connections}
 use Rattle.vl_tree.specs.declared.names.Name.{Name}
 use Rattle.vl_tree.specs.declared.items.Instance as code_text
-use Rattle.elab_modules.specs.declared.library.Library.{Library}
-use Rattle.elab_modules.specs.declared.library.Ready as code_ready
-use Rattle.elab_modules.specs.declared.library.Ready.TheVariants as ready
-use Rattle.elab_modules.specs.declared.prepared.Prepared.{Prepared}
-use Rattle.elab_modules.specs.Ready.{IsPrepared}
+use Rattle.elab_nets.specs.Library.{Library}
+use Rattle.elab_nets.specs.Ready as code_ready
+use Rattle.elab_nets.specs.Ready.TheVariants as ready
+use Rattle.elab_nets.specs.Prepared.{Prepared}
+use Rattle.elab_nets.specs.ReadyOfModules.{IsPrepared}
 use Rattle.elab_nets.specs.declared.rows.Rows.{Rows}
 use Rattle.elab_hierarchy.proofs.FaultlessTree.{no-children_at_limit}
 use Rattle.elab_nets.specs.Outside.{outer_number}

@@ -10,12 +10,12 @@ use Rattle.elab_laws.proofs.Stated.{instances-have_places}
 use Rattle.elab_hierarchy.specs.declared.instances.Placed.{Placed}
 use Rattle.elab_hierarchy.specs.Placing.{IsPlaced, ArePlaced}
 use Rattle.elab_hierarchy.specs.Tops.{StandsAt}
-use Rattle.elab_modules.specs.declared.library.Library.{Library}
-use Rattle.elab_modules.specs.declared.library.Ready as code_ready
-use Rattle.elab_modules.specs.declared.library.Ready.TheVariants as ready
-use Rattle.elab_modules.specs.declared.prepared.Prepared.{Prepared}
-use Rattle.elab_modules.specs.Ready.{AreReady, HasReady, IsPrepared}
-use Rattle.elab_modules.specs.Reached.{IsReached, IsLibrary}
+use Rattle.elab_nets.specs.Library.{Library}
+use Rattle.elab_nets.specs.Ready as code_ready
+use Rattle.elab_nets.specs.Ready.TheVariants as ready
+use Rattle.elab_nets.specs.Prepared.{Prepared}
+use Rattle.elab_nets.specs.ReadyOfModules.{AreReady, HasReady, IsPrepared}
+use Rattle.elab_nets.specs.Reached.{IsReached, IsLibrary}
 
 -- ---- places in a list
 

@@ -15,11 +15,11 @@ use Rattle.elab_laws.specs.NumberLaws.{numbers_in}
 use Rattle.elab_ports.specs.Bound.{AreConnected}
 use Rattle.elab_hierarchy.specs.declared.instances.Placed.{Placed}
 use Rattle.elab_hierarchy.specs.Placing.{ArePlaced, tree_faults}
-use Rattle.elab_modules.specs.declared.library.Library.{Library}
+use Rattle.elab_nets.specs.Library.{Library}
 use Rattle.elab_hierarchy.specs.Tops.{StandsAt}
-use Rattle.elab_modules.specs.Reached.{IsLibrary}
-use Rattle.elab_modules.specs.Ready.{IsPrepared, member_delays}
-use Rattle.elab_modules.specs.declared.prepared.Prepared.{Prepared}
+use Rattle.elab_nets.specs.Reached.{IsLibrary}
+use Rattle.elab_nets.specs.ReadyOfModules.{IsPrepared, member_delays}
+use Rattle.elab_nets.specs.Prepared.{Prepared}
 use Rattle.elab_nets.specs.declared.rows.Rows.{Rows}
 use Rattle.elab_nets.specs.Rows.{HasRow, HaveRows}
 use Rattle.elab_elements.specs.Adding.{IsConnectedOnce, IsHere, HasDriven}

@@ -16,10 +16,10 @@ use Rattle.elab_variables.specs.Seen.{variable_at}
 use Rattle.elab_bits.specs.declared.bits.Bit as code_bit
 use Rattle.elab_bits.specs.declared.bits.Bit.TheVariants as bit
 use Rattle.elab_bits.specs.Seen.{bit_at}
-use Rattle.elab_lates.specs.declared.copies.DelayedCopy.{DelayedCopy}
-use Rattle.elab_lates.specs.declared.copies.PlacedCopy.{PlacedCopy}
-use Rattle.elab_modules.specs.declared.library.Ready as code_ready
-use Rattle.elab_modules.specs.declared.library.Ready.TheVariants as ready
+use Rattle.elab_nets.specs.DelayedCopy.{DelayedCopy}
+use Rattle.elab_nets.specs.PlacedCopy.{PlacedCopy}
+use Rattle.elab_nets.specs.Ready as code_ready
+use Rattle.elab_nets.specs.Ready.TheVariants as ready
 use Rattle.elab_ports.specs.declared.constants.PortConstant as code_constant
 use Rattle.elab_elements.specs.Puts.{Put, put}
 

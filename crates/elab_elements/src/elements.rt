@@ -12,8 +12,7 @@ use crate::instances::add_instance;
 use crate::terminals::Terminals;
 use elab_hierarchy::{Definitions, Placed};
 use elab_model::ElabKind;
-use elab_modules::Library;
-use elab_nets::Rows;
+use elab_nets::{Library, Rows};
 use sg_text::Refused;
 use std::alloc::Global;
 

@@ -4,7 +4,7 @@ ghost use Rattle.sg_circuit.specs.declared.elements.UdpUse as ghost_udps;
 ghost use Rattle.sg_delay.specs.declared.gates.GateDelays as ghost_delays;
 ghost use Rattle.vl_tree.specs.Tree.{Module, Source as GhostSource};
 ghost use Rattle.elab_laws.specs.Handing.{all_bits};
-ghost use Rattle.elab_lates.specs.Seen.{AreCopiesInRow, IsCopyInRow, IsPlaceIn};
+ghost use Rattle.elab_nets.specs.SeenOfLates.{AreCopiesInRow, IsCopyInRow, IsPlaceIn};
 ghost use Rattle.elab_model.specs.Elements as def_elements;
 ghost use Rattle.elab_model.specs.Hierarchy as def;
 ghost use Rattle.elab_model.specs.Lates.{own_copies};
@@ -19,9 +19,8 @@ ghost use Rattle.elab_elements.specs.Words.{copy_numbers, late_puts, named_in, n
 
 use crate::Placing;
 use crate::placing::add_element;
-use elab_lates::{DelayedCopy, PlacedCopy};
 use elab_model::ElabKind;
-use elab_modules::Prepared;
+use elab_nets::{DelayedCopy, PlacedCopy, Prepared};
 use sg_circuit::{ElementKind, NetId};
 use sg_text::Refused;
 

@@ -19,5 +19,6 @@ mod reading;
 mod terminals;
 mod turns;
 
+pub use elab_nets::{Library, Prepared, Ready, Rows, library_of, module_at, rows_of};
 pub use elements::elements_in;
 pub use placing::Placing;

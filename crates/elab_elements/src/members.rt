@@ -22,7 +22,7 @@ use crate::passes::{add_passes, add_supply};
 use crate::terminals::{Terminals, add_terminals};
 use elab_bits::{add_bits, add_variable};
 use elab_model::ElabKind;
-use elab_modules::output_count;
+use elab_nets::output_count;
 use elab_variables::Table;
 use sg_circuit::{ElementKind, NetId};
 use sg_logic::{GateKind, Value};

@@ -8,7 +8,7 @@ ghost use Rattle.elab_model.specs.Nets.{nets};
 ghost use Rattle.elab_numbering.specs.Refusals.{RefusesCount};
 ghost use Rattle.elab_elements.specs.Adding.{Adds};
 ghost use Rattle.elab_hierarchy.specs.Placing.{IsPlaced};
-ghost use Rattle.elab_modules.specs.Ready.{IsPrepared};
+ghost use Rattle.elab_nets.specs.ReadyOfModules.{IsPrepared};
 ghost use Rattle.elab_elements.specs.Standing.{IsAt};
 ghost use Rattle.elab_elements.specs.Words.{is_alone};
 
@@ -17,8 +17,7 @@ use crate::legs::add_legs;
 use crate::reading::{inner_row, outer_row, placed_at};
 use elab_hierarchy::Placed;
 use elab_model::ElabKind;
-use elab_modules::{Library, Prepared, module_at};
-use elab_nets::Rows;
+use elab_nets::{Library, Prepared, Rows, module_at};
 use sg_text::{Place, Refused};
 
 // Whether an instance isn't the top, and no instance is in it.

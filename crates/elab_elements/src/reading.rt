@@ -4,8 +4,7 @@ ghost use Rattle.elab_nets.specs.Rows.{part_of};
 ghost use Rattle.elab_elements.specs.Words.{primitive_in, primitive_at};
 
 use elab_hierarchy::Placed;
-use elab_modules::{Library, Ready};
-use elab_nets::Rows;
+use elab_nets::{Library, Ready, Rows};
 use sg_circuit::NetId;
 
 /// The instance of a number.

@@ -1,10 +1,10 @@
 -- Ticks: what a tick is, and the delays of gates in ticks (IEEE 1364-2005, 19.8, 7.14).
 use Rattle.std.specs.Prelude.{ℕ, List, Option, Some, None, [], map, fold, if◌then◌else◌, ℤ, int_le}
-use Rattle.sg_delay.specs.declared.corners.Corner.{Corner}
-use Rattle.sg_delay.specs.declared.corners.Corner.TheVariants.{Min, Typ, Max}
+use Rattle.sg_circuit.specs.Corner.{Corner}
+use Rattle.sg_circuit.specs.Corner.TheVariants.{Min, Typ, Max}
 use Rattle.sg_time.specs.Spelling.{Number}
 use Rattle.sg_time.specs.Ticks.{tick_count}
-use Rattle.vl_token.specs.Tokens.{Timescale}
+use Rattle.vl_tree.specs.Tokens.{Timescale}
 use Rattle.vl_tree.specs.Tree.{MinTypMax, one_number, three_numbers, Delay, Module, Source}
 use Rattle.elab_model.specs.Hierarchy.{Instance, instances}
 

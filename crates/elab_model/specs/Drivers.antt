@@ -2,7 +2,7 @@
 use Rattle.std.specs.Prelude.{List, [], Option, Some, None, map, find, flat_map, bytes_eq, if◌then◌else◌}
 use Rattle.sg_circuit.specs.declared.nets.Driver.{Driver}
 use Rattle.sg_circuit.specs.declared.nets.Driver.TheVariants.{Stimulus, Notifier}
-use Rattle.sg_delay.specs.declared.corners.Corner.{Corner}
+use Rattle.sg_circuit.specs.Corner.{Corner}
 use Rattle.sg_text.specs.declared.places.Place.{Place}
 use Rattle.vl_tree.specs.Tree.{PortDeclaration, Module, Source}
 use Rattle.elab_model.specs.Ports.{port_declarations, NetDeclaration, net_declarations}

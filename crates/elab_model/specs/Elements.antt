@@ -2,8 +2,8 @@
 use Rattle.std.specs.Prelude.{ℕ, ◌-◌, List, [], ◌∷◌, ◌++◌, ◌==◌, Option, Some, None, bytes_eq, find, flat_map, map, zip, length, take, drop, replicate, if◌then◌else◌, ℤ}
 use Rattle.std.specs.List.{enumerate_from}
 use Rattle.sg_circuit.specs.Circuit.{Kind, Gate, Udp, Pass, Leg, Path, Late}
-use Rattle.sg_delay.specs.declared.corners.Corner.{Corner}
-use Rattle.sg_delay.specs.declared.limits.PulseStyle.TheVariants.{OnEvent}
+use Rattle.sg_circuit.specs.Corner.{Corner}
+use Rattle.sg_circuit.specs.PulseStyle.TheVariants.{OnEvent}
 use Rattle.sg_logic.specs.declared.gates.GateKind.{GateKind}
 use Rattle.sg_logic.specs.declared.gates.GateKind.TheVariants.{Buf, Not}
 use Rattle.sg_logic.specs.declared.values.Value.{Value}

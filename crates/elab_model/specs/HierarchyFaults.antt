@@ -1,7 +1,7 @@
 -- Faults of the hierarchy below a top, and the counts that it may have.
 use Rattle.std.specs.Prelude.{ℕ, List, [], ◌∷◌, ◌++◌, Bool, false, ◌||◌, ◌==◌, ◌^◌, map, flat_map, bytes_eq, if◌then◌else◌}
 use Rattle.std.specs.List.{list_any}
-use Rattle.sg_delay.specs.declared.corners.Corner.{Corner}
+use Rattle.sg_circuit.specs.Corner.{Corner}
 use Rattle.sg_text.specs.declared.places.Place.{Place}
 use Rattle.vl_tree.specs.Tree.{Module, Source}
 use Rattle.elab_model.specs.declared.kinds.ElabKind.TheVariants.{SelfInstance, TooDeep, TooMany}

@@ -4,7 +4,7 @@ use Rattle.std.specs.List.{list_any}
 use Rattle.sg_circuit.specs.Closed.{width_of}
 use Rattle.sg_circuit.specs.declared.scopes.Port.{Port}
 use Rattle.sg_circuit.specs.declared.scopes.Port.TheVariants as port
-use Rattle.sg_delay.specs.declared.corners.Corner.{Corner}
+use Rattle.sg_circuit.specs.Corner.{Corner}
 use Rattle.sg_logic.specs.Gate.{most_delays}
 use Rattle.sg_logic.specs.declared.gates.GateKind.{GateKind}
 use Rattle.sg_logic.specs.declared.gates.GateKind.TheVariants.{Bufif0, Bufif1, Notif0, Notif1}

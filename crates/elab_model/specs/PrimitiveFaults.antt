@@ -1,8 +1,8 @@
 -- Faults of a user-defined primitive's declarations, and those of its table (IEEE 1364-2005, 8.1); the primitives that a top reaches.
 use Rattle.std.specs.Prelude.{List, [], ◌∷◌, ◌++◌, Bool, not, Option, Some, None, Result, Ok, Err, filter_map, flat_map}
 use Rattle.sg_text.specs.declared.places.Place.{Place}
-use Rattle.udp_rows.specs.declared.faults.UdpKind.{UdpKind}
-use Rattle.udp_rows.specs.Faults as rows
+use Rattle.vl_tree.specs.UdpKind.{UdpKind}
+use Rattle.vl_tree.specs.Faults as rows
 use Rattle.vl_tree.specs.Tree.{Named, Primitive, Initial, Module, Source}
 use Rattle.elab_model.specs.declared.kinds.ElabKind.{ElabKind}
 use Rattle.elab_model.specs.declared.kinds.ElabKind.TheVariants.{UnknownName, BadTerminal}

@@ -2,7 +2,7 @@
 use Rattle.std.specs.Prelude.{ℕ, ◌-◌, List, [], ◌∷◌, Bool, true, false, not, Option, Some, None, length, flat_map}
 use Rattle.sg_logic.specs.declared.values.Value.{Value}
 use Rattle.sg_logic.specs.declared.values.Value.TheVariants.{X}
-use Rattle.udp_rows.specs.Meaning.{Primitive as table}
+use Rattle.vl_tree.specs.Meaning.{Primitive as table}
 use Rattle.vl_tree.specs.Tree.{Named, Primitive, PrimitiveDeclaration, output_port, output_register, input_ports, Initial}
 use Rattle.elab_model.specs.Hierarchy.{is_empty}
 

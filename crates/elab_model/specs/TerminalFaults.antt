@@ -2,7 +2,7 @@
 use Rattle.std.specs.Prelude.{ℕ, List, [], ◌∷◌, ◌++◌, Bool, true, false, ◌&&◌, ◌||◌, not, ◌==◌, nat_lt, nat_le, ◌^◌, Option, Some, None, length, flat_map, take, ℤ}
 use Rattle.std.specs.List.{list_any}
 use Rattle.sg_circuit.specs.declared.scopes.Range.{Range}
-use Rattle.sg_delay.specs.declared.corners.Corner.{Corner}
+use Rattle.sg_circuit.specs.Corner.{Corner}
 use Rattle.vl_tree.specs.declared.expressions.Select.{Select}
 use Rattle.vl_tree.specs.declared.expressions.Select.TheVariants as select
 use Rattle.vl_tree.specs.Tree.{Named, Expression, Delay, Join, Module}

@@ -3,11 +3,11 @@ ghost use Rattle.std.specs.Prelude.{◌≡◌, ◌≤ℤ◌, true, false, nat_le
 ghost use Rattle.std.specs.Option.{OnSome};
 ghost use Rattle.sg_time.specs.Seen.{number};
 ghost use Rattle.vl_tree.specs.Seen.{view_mtm};
-ghost use Rattle.vl_token.specs.Seen.{timescale};
+ghost use Rattle.vl_tree.specs.SeenOfToken.{timescale};
 ghost use Rattle.elab_model.specs.Delays.{corner_part, ticks_of};
 ghost use Rattle.elab_model.specs.TerminalFaults.{delay_limit};
 
-use sg_delay::Corner;
+use sg_circuit::Corner;
 use sg_time::{Decimal, Scale, Unit};
 use vl_tree::MinTypMax;
 

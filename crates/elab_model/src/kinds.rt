@@ -1,5 +1,5 @@
 // Why a netlist is refused that its grammar takes.
-use udp_rows::UdpKind;
+use vl_tree::UdpKind;
 
 /// Why the tree of a netlist has no circuit (IEEE 1364-2005, clauses 6 to 8, 12, 14 and 15).
 #[derive(Clone, Copy, Debug, PartialEq, Eq)]

@@ -17,6 +17,7 @@ mod readied;
 mod stock;
 mod terminals;
 
+pub use elab_lates::{DelayedCopy, PlacedCopy};
 pub use gates::output_count;
 pub use library::{Library, Ready, library_of};
 pub use members::check_members;

@@ -16,8 +16,8 @@ use Rattle.elab_model.specs.Numbered.{undriven}
 use Rattle.elab_laws.specs.Handing.{all_bits}
 use Rattle.elab_bits.specs.Seen.{bit_at}
 use Rattle.elab_ends.specs.Seen.{bit_seen}
-use Rattle.elab_lates.specs.Seen.{AreCopiesInRow, IsCopyInRow, placed_seen}
-use Rattle.elab_lates.specs.declared.copies.PlacedCopy.{PlacedCopy}
+use Rattle.elab_modules.specs.SeenOfLates.{AreCopiesInRow, IsCopyInRow, placed_seen}
+use Rattle.elab_modules.specs.PlacedCopy.{PlacedCopy}
 use Rattle.elab_modules.specs.declared.prepared.Prepared.{Prepared}
 use Rattle.elab_modules.specs.Ready.{IsPrepared}
 use Rattle.elab_nets.specs.Copies.{copy_nets, own_unless}

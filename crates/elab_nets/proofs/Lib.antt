@@ -35,3 +35,11 @@ pub mod Texts
 pub mod LentRows
 pub mod MadePlaces
 pub mod OutsideClauses
+pub use Rattle.elab_modules.proofs.FoundModules
+pub use Rattle.elab_modules.proofs.Among as AmongOfModules
+pub use Rattle.elab_modules.proofs.Faulty as FaultyOfModules
+pub use Rattle.elab_modules.proofs.Meeting
+pub use Rattle.elab_modules.proofs.Named as NamedOfModules
+pub use Rattle.elab_modules.proofs.Stocking
+pub use Rattle.elab_modules.proofs.Replaced
+pub use Rattle.elab_modules.proofs.InTurn

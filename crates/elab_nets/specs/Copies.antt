@@ -2,7 +2,7 @@
 use Rattle.std.specs.Prelude.{ℕ, List, [], ◌∷◌, Option, None, Some}
 use Rattle.sg_circuit.specs.declared.nets.Net.{Net}
 use Rattle.elab_bits.specs.Seen.{bit_at}
-use Rattle.elab_lates.specs.declared.copies.DelayedCopy.{DelayedCopy}
+use Rattle.elab_modules.specs.DelayedCopy.{DelayedCopy}
 use Rattle.elab_model.specs.Names.{Variable}
 use Rattle.elab_nets.specs.Own.{net_at}
 

@@ -11,9 +11,8 @@ ghost use Rattle.elab_nets.specs.Copies.{copy_nets};
 ghost use Rattle.elab_nets.specs.Members.{HasMember};
 
 use crate::bit_nets::push_bit_net;
-use elab_lates::{DelayedCopy, PlacedCopy};
 use elab_model::ElabKind;
-use elab_modules::Prepared;
+use elab_modules::{DelayedCopy, PlacedCopy, Prepared};
 use elab_variables::Table;
 use sg_circuit::Net;
 use sg_text::Refused;

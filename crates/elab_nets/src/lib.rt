@@ -16,4 +16,8 @@ mod terminals;
 mod turns;
 mod writing;
 
+pub use elab_modules::{
+    DelayedCopy, Library, PlacedCopy, Prepared, Ready, find_module, library_of, module_at,
+    output_count,
+};
 pub use rows::{Rows, rows_of};

@@ -23,17 +23,17 @@ use Rattle.elab_laws.proofs.NoFaults.{all-from}
 use Rattle.elab_hierarchy.specs.declared.instances.Placed.{Placed}
 use Rattle.elab_hierarchy.specs.Placing.{ArePlaced}
 use Rattle.elab_hierarchy.specs.Tops.{StandsAt}
-use Rattle.elab_modules.specs.declared.library.Library.{Library}
-use Rattle.elab_modules.specs.declared.library.Ready as code_ready
-use Rattle.elab_modules.specs.declared.library.Ready.TheVariants as ready
-use Rattle.elab_modules.specs.Reached.{IsReached, IsLibrary}
-use Rattle.elab_modules.specs.Ready.{IsPrepared, AreReady, HasReady}
-use Rattle.elab_modules.proofs.Among.{in-mapped}
-use Rattle.elab_modules.proofs.Faulty.{refused-flat}
-use Rattle.elab_modules.proofs.Meeting.{places_of}
-use Rattle.elab_modules.proofs.Named.{module-same, one-place, place-of, placed-in}
+use Rattle.elab_elements.specs.Library.{Library}
+use Rattle.elab_elements.specs.Ready as code_ready
+use Rattle.elab_elements.specs.Ready.TheVariants as ready
+use Rattle.elab_elements.specs.Reached.{IsReached, IsLibrary}
+use Rattle.elab_elements.specs.ReadyOfModules.{IsPrepared, AreReady, HasReady}
+use Rattle.elab_elements.proofs.AmongOfModules.{in-mapped}
+use Rattle.elab_elements.proofs.FaultyOfModules.{refused-flat}
+use Rattle.elab_elements.proofs.Meeting.{places_of}
+use Rattle.elab_elements.proofs.NamedOfModules.{module-same, one-place, place-of, placed-in}
 use Rattle.elab_laws.proofs.Precisions.{least-of_all}
-use Rattle.elab_modules.proofs.Stocking.{Parts, no-module}
+use Rattle.elab_elements.proofs.Stocking.{Parts, no-module}
 use Rattle.elab_paths.specs.Ready.{output_ready, IsReadyOutput, IsReadyOf, HasPaths, HavePaths}
 use Rattle.elab_paths.specs.Shelving.{IsLonger, AreRead}
 use Rattle.elab_paths.specs.OfModules.{StandsReady, AreOutputsOf, AreSoundOutputs, AreReadySoFar, HasOutputs, IsOfPlace}

@@ -16,11 +16,11 @@ use Rattle.circuit_model.specs.PathUses as def
 use Rattle.elab_laws.specs.Handing.{all_bits}
 use Rattle.elab_numbering.specs.Refusals.{RefusesCount}
 use Rattle.elab_hierarchy.specs.declared.instances.Placed.{Placed}
-use Rattle.elab_modules.specs.Ready.{IsPrepared}
-use Rattle.elab_modules.specs.declared.library.Library.{Library}
-use Rattle.elab_modules.specs.declared.prepared.Prepared.{Prepared}
-use Rattle.elab_nets.specs.declared.rows.Rows.{Rows}
-use Rattle.elab_nets.specs.Numbers.{HasNumbers}
+use Rattle.elab_elements.specs.ReadyOfModules.{IsPrepared}
+use Rattle.elab_elements.specs.Library.{Library}
+use Rattle.elab_elements.specs.Prepared.{Prepared}
+use Rattle.elab_elements.specs.RowsType.{Rows}
+use Rattle.elab_elements.specs.Numbers.{HasNumbers}
 use Rattle.elab_elements.proofs.StandingAt.{placed-count}
 use Rattle.elab_paths.specs.Ready.{IsReadyOutput}
 use Rattle.elab_paths.specs.Standing.{AreStanding, IsStanding, outputs_at}

@@ -21,14 +21,14 @@ use Rattle.elab_laws.proofs.Lists.{In, all-in, all-weaker}
 use Rattle.elab_laws.proofs.NoFaults.{back, flat-empty}
 use Rattle.elab_hierarchy.specs.Placing.{IsPlaced, ArePlaced}
 use Rattle.elab_hierarchy.specs.declared.instances.Placed.{Placed}
-use Rattle.elab_modules.specs.Ready.{IsPrepared}
-use Rattle.elab_modules.specs.declared.library.Library.{Library}
-use Rattle.elab_modules.specs.declared.library.Ready as code_ready
-use Rattle.elab_modules.specs.declared.library.Ready.TheVariants as ready
-use Rattle.elab_modules.specs.declared.prepared.Prepared.{Prepared}
-use Rattle.elab_nets.specs.Rows.{part_of, HasRow}
-use Rattle.elab_nets.specs.declared.rows.Rows.{Rows}
-use Rattle.elab_nets.specs.Numbers.{HasNumbers}
+use Rattle.elab_elements.specs.ReadyOfModules.{IsPrepared}
+use Rattle.elab_elements.specs.Library.{Library}
+use Rattle.elab_elements.specs.Ready as code_ready
+use Rattle.elab_elements.specs.Ready.TheVariants as ready
+use Rattle.elab_elements.specs.Prepared.{Prepared}
+use Rattle.elab_elements.specs.Rows.{part_of, HasRow}
+use Rattle.elab_elements.specs.RowsType.{Rows}
+use Rattle.elab_elements.specs.Numbers.{HasNumbers}
 use Rattle.elab_elements.proofs.StandingAt.{at-place, at-split, instance-ready}
 use Rattle.elab_paths.specs.Ready.{path_ready, output_ready, IsReadyOutput, IsReadyOf, HasPaths}
 use Rattle.elab_paths.specs.Standing.{AreStanding, IsStanding, outputs_at}

@@ -22,3 +22,11 @@ pub mod OneByOne
 pub mod InstanceTurn
 pub mod WholeCircuit
 pub mod LatesSame
+pub use Rattle.elab_elements.proofs.AmongOfModules
+pub use Rattle.elab_elements.proofs.FaultyOfModules
+pub use Rattle.elab_elements.proofs.Meeting
+pub use Rattle.elab_elements.proofs.NamedOfModules
+pub use Rattle.elab_elements.proofs.Replaced
+pub use Rattle.elab_elements.proofs.InTurn
+pub use Rattle.elab_elements.proofs.StandingAt
+pub use Rattle.elab_elements.proofs.Putting

@@ -16,7 +16,7 @@ use Rattle.circuit_model.specs.PathUses as def
 use Rattle.elab_model.specs.Terms.{NetBit}
 use Rattle.elab_laws.specs.Handing.{all_bits}
 use Rattle.elab_numbering.specs.Refusals.{RefusesCount}
-use Rattle.elab_nets.specs.Numbers.{HasNumbers}
+use Rattle.elab_elements.specs.Numbers.{HasNumbers}
 use Rattle.elab_paths.specs.Ready.{output_ready, IsReadyOutput}
 use Rattle.elab_paths.specs.Uses.{IsRow, AddsUse, AreUses}
 use Rattle.elab_paths.specs.declared.shelving.ReadyOutput.{ReadyOutput}

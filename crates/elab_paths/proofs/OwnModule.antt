@@ -4,12 +4,12 @@ use Rattle.std.proofs.Common.{◌∙◌, subst}
 use Rattle.std.proofs.lemmas.Option.{get_or_from_slice_get, slice_get_within}
 use Rattle.vl_tree.specs.Tree.{Module, Source}
 use Rattle.elab_hierarchy.specs.Tops.{StandsAt}
-use Rattle.elab_modules.specs.declared.library.Ready as code_ready
-use Rattle.elab_modules.specs.declared.library.Ready.TheVariants as ready
-use Rattle.elab_modules.specs.declared.prepared.Prepared.{Prepared}
-use Rattle.elab_modules.specs.Ready.{IsPrepared}
-use Rattle.elab_modules.proofs.Named.{module-same}
-use Rattle.elab_modules.proofs.Stocking.{Parts}
+use Rattle.elab_elements.specs.Ready as code_ready
+use Rattle.elab_elements.specs.Ready.TheVariants as ready
+use Rattle.elab_elements.specs.Prepared.{Prepared}
+use Rattle.elab_elements.specs.ReadyOfModules.{IsPrepared}
+use Rattle.elab_elements.proofs.NamedOfModules.{module-same}
+use Rattle.elab_elements.proofs.Stocking.{Parts}
 use Rattle.elab_paths.specs.OfModules.{StandsReady}
 
 -- what was found is a module

@@ -12,7 +12,7 @@ use Rattle.elab_model.specs.Names.{variables}
 use Rattle.elab_laws.specs.Handing.{all_bits}
 use Rattle.elab_hierarchy.specs.declared.instances.Placed.{Placed}
 use Rattle.elab_hierarchy.specs.Tops.{StandsAt}
-use Rattle.elab_modules.proofs.Replaced.{set-there, set-either, set-keeps}
+use Rattle.elab_elements.proofs.Replaced.{set-there, set-either, set-keeps}
 use Rattle.elab_paths.specs.Ready.{output_ready, IsReadyOutput}
 use Rattle.elab_paths.specs.Shelving.{IsLonger, ListGrows}
 use Rattle.elab_paths.specs.OfModules.{AreOutputsOf, AreSoundOutputs, AreReadySoFar, HasOutputs}

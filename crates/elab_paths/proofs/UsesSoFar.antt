@@ -18,8 +18,8 @@ use Rattle.specify_model.specs.Paths.{circuit_path}
 use Rattle.circuit_model.specs.PathUses as def
 use Rattle.elab_laws.specs.Handing.{all_bits}
 use Rattle.elab_laws.proofs.Lists.{all-append, all-weaker}
-use Rattle.elab_nets.proofs.RowParts.{part-grown, part-behind}
-use Rattle.elab_nets.specs.Numbers.{HasNumbers}
+use Rattle.elab_elements.proofs.RowParts.{part-grown, part-behind}
+use Rattle.elab_elements.specs.Numbers.{HasNumbers}
 use Rattle.elab_paths.specs.Ready.{path_ready, output_ready, IsReadyPath, IsReadyOutput}
 use Rattle.elab_paths.specs.Uses.{IsRow, AddsUse, AreBeside, AreUses}
 use Rattle.elab_paths.specs.declared.shelving.ReadyOutput.{ReadyOutput}

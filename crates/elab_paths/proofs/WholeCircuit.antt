@@ -20,8 +20,8 @@ use Rattle.circuit_model.specs.PathUses as def
 use Rattle.elab_laws.proofs.Lists.{Pairwise, all-anyway, all-map_back, pairwise-map_back}
 use Rattle.elab_laws.proofs.Numbers.{numbers-are-places}
 use Rattle.elab_hierarchy.specs.declared.instances.Placed.{Placed}
-use Rattle.elab_modules.specs.declared.library.Library.{Library}
-use Rattle.elab_nets.specs.declared.rows.Rows.{Rows}
+use Rattle.elab_elements.specs.Library.{Library}
+use Rattle.elab_elements.specs.RowsType.{Rows}
 use Rattle.elab_elements.specs.Seen.{element_in}
 use Rattle.elab_elements.specs.declared.placing.Placing.{Placing}
 use Rattle.elab_paths.specs.AllPaths.{AreGiven, HaveAllPaths, Tables, tables_of, element_with, NamesTables}

@@ -24,10 +24,10 @@ use Rattle.circuit_model.specs.Faults.{path_count}
 use Rattle.circuit_model.specs.PathUses.{circuit_elements}
 use Rattle.elab_hierarchy.specs.Placing.{ArePlaced}
 use Rattle.elab_hierarchy.specs.declared.instances.Placed.{Placed}
-use Rattle.elab_modules.specs.Reached.{IsLibrary}
-use Rattle.elab_modules.specs.declared.library.Library.{Library}
-use Rattle.elab_nets.specs.Rows.{HaveRows}
-use Rattle.elab_nets.specs.declared.rows.Rows.{Rows}
+use Rattle.elab_elements.specs.Reached.{IsLibrary}
+use Rattle.elab_elements.specs.Library.{Library}
+use Rattle.elab_elements.specs.Rows.{HaveRows}
+use Rattle.elab_elements.specs.RowsType.{Rows}
 use Rattle.elab_elements.specs.Seen.{AreElements}
 use Rattle.elab_elements.specs.declared.placing.Placing.{Placing}
 use Rattle.elab_paths.specs.Ready.{HavePaths}

@@ -16,10 +16,10 @@ use Rattle.circuit_model.specs.Faults.{module_path_faults}
 use Rattle.elab_laws.specs.Handing.{all_bits}
 use Rattle.elab_laws.specs.Words.{In}
 use Rattle.elab_hierarchy.specs.Tops.{StandsAt}
-use Rattle.elab_modules.specs.declared.library.Ready.{Ready}
-use Rattle.elab_modules.specs.declared.prepared.Prepared.{Prepared}
-use Rattle.elab_modules.specs.Ready.{IsPrepared}
-use Rattle.elab_modules.specs.Reaching.{IsModuleAt}
+use Rattle.elab_elements.specs.Ready.{Ready}
+use Rattle.elab_elements.specs.Prepared.{Prepared}
+use Rattle.elab_elements.specs.ReadyOfModules.{IsPrepared}
+use Rattle.elab_elements.specs.Reaching.{IsModuleAt}
 use Rattle.elab_paths.specs.Ready.{output_ready, IsReadyOutput}
 use Rattle.elab_paths.specs.declared.shelving.ReadyOutput.{ReadyOutput}
 use Rattle.elab_paths.specs.declared.shelving.Shelves.{Shelves}

@@ -8,10 +8,10 @@ use Rattle.elab_model.specs.Hierarchy.{Instance, instances}
 use Rattle.elab_model.specs.HierarchyFaults.{count_limit}
 use Rattle.elab_hierarchy.specs.Placing.{IsPlaced, ArePlaced}
 use Rattle.elab_hierarchy.specs.declared.instances.Placed.{Placed}
-use Rattle.elab_modules.specs.Reached.{IsLibrary}
-use Rattle.elab_modules.specs.declared.library.Library.{Library}
-use Rattle.elab_nets.specs.Rows.{HaveRows}
-use Rattle.elab_nets.specs.declared.rows.Rows.{Rows}
+use Rattle.elab_elements.specs.Reached.{IsLibrary}
+use Rattle.elab_elements.specs.Library.{Library}
+use Rattle.elab_elements.specs.Rows.{HaveRows}
+use Rattle.elab_elements.specs.RowsType.{Rows}
 use Rattle.elab_paths.specs.Ready.{HavePaths}
 use Rattle.elab_paths.specs.declared.modules.ModulePaths.{ModulePaths}
 use Rattle.elab_paths.specs.declared.shelving.ReadyOutput.{ReadyOutput}

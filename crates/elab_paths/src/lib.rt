@@ -10,6 +10,9 @@ mod shelving;
 mod uses;
 
 pub use adding::{add_paths, row_of};
+pub use elab_elements::{
+    Library, Placing, Prepared, Ready, Rows, elements_in, library_of, module_at, rows_of,
+};
 pub use limit::check_count;
 pub use modules::{ModulePaths, module_paths};
 pub use operands::Operands;

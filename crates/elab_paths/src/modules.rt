@@ -14,9 +14,9 @@ ghost use Rattle.elab_declared.specs.Words.{first_of};
 ghost use Rattle.elab_variables.specs.Seen.{view_member};
 ghost use Rattle.elab_hierarchy.specs.Placing.{ArePlaced};
 ghost use Rattle.elab_hierarchy.specs.Tops.{StandsAt};
-ghost use Rattle.elab_modules.specs.Ready.{IsPrepared};
-ghost use Rattle.elab_modules.specs.Reached.{IsLibrary};
-ghost use Rattle.elab_modules.specs.Telling.{Tells};
+ghost use Rattle.elab_elements.specs.ReadyOfModules.{IsPrepared};
+ghost use Rattle.elab_elements.specs.Reached.{IsLibrary};
+ghost use Rattle.elab_elements.specs.Telling.{Tells};
 ghost use Rattle.circuit_model.specs.Faults.{module_path_faults, path_faults};
 ghost use Rattle.elab_paths.specs.Ready.{HavePaths};
 ghost use Rattle.elab_paths.specs.Shelving.{IsLonger, AreRead};
@@ -24,16 +24,15 @@ ghost use Rattle.elab_paths.specs.OfModules.{is_child, StandsReady, AreOutputsOf
 
 use crate::shelving::{ReadyOutput, Shelves, shelve};
 use cond_expr::Expr;
+use elab_elements::{Library, Prepared, Ready};
 use elab_hierarchy::{Definitions, Placed};
 use elab_model::ElabKind;
-use elab_modules::{Library, Prepared, Ready};
 use elab_variables::Member;
 use sg_circuit::LegTiming;
 use sg_delay::Corner;
 use sg_text::{NoMemory, Place, Refused};
 use sg_time::Unit;
-use specify_paths::path_outputs;
-use specify_values::Measure;
+use specify_paths::{Measure, path_outputs};
 use std::alloc::Global;
 use vl_tree::Item;
 

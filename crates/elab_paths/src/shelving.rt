@@ -7,7 +7,7 @@ ghost use Rattle.sg_circuit.specs.TimingsSeen.{limit_seen, leg_timing_seen};
 ghost use Rattle.elab_model.specs.Names.{Variable};
 ghost use Rattle.elab_laws.specs.Handing.{all_bits};
 ghost use Rattle.specify_model.specs.Paths.{timings_with};
-ghost use Rattle.specify_values.specs.Seen.{widths_seen};
+ghost use Rattle.specify_paths.specs.SeenOfValues.{widths_seen};
 ghost use Rattle.specify_paths.specs.Seen.{outputs_seen, IsInRow};
 ghost use Rattle.specify_paths.specs.Spelled.{IsSpelled};
 ghost use Rattle.elab_paths.specs.Ready.{output_ready, IsReadyOutput};

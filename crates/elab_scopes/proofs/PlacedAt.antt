@@ -8,7 +8,7 @@ use Rattle.elab_model.specs.Hierarchy.{Instance, instances_from, top_instance, l
 use Rattle.elab_model.specs.Nets.{OwnNet}
 use Rattle.elab_hierarchy.specs.declared.instances.Placed.{Placed}
 use Rattle.elab_hierarchy.specs.Placing.{IsPlaced, ArePlaced}
-use Rattle.elab_modules.specs.declared.library.Library.{Library}
+use Rattle.elab_nets.specs.Library.{Library}
 use Rattle.elab_nets.specs.declared.rows.Rows.{Rows}
 use Rattle.elab_scopes.specs.Here.{AreRead, Stands}
 

@@ -17,12 +17,12 @@ use Rattle.elab_laws.proofs.Stated.{instances-have_places}
 use Rattle.elab_hierarchy.specs.declared.instances.Placed.{Placed}
 use Rattle.elab_hierarchy.specs.Placing.{tree_faults}
 use Rattle.elab_hierarchy.proofs.FaultlessTree.{none-past_limit}
-use Rattle.elab_modules.specs.declared.library.Library.{Library}
-use Rattle.elab_modules.specs.declared.prepared.Prepared.{Prepared}
-use Rattle.elab_modules.specs.Finding.{module_at}
-use Rattle.elab_modules.specs.Ready.{IsPrepared}
-use Rattle.elab_modules.specs.Reached.{IsReached}
-use Rattle.elab_modules.proofs.FoundModules.{is-found, is-prepared}
+use Rattle.elab_nets.specs.Library.{Library}
+use Rattle.elab_nets.specs.Prepared.{Prepared}
+use Rattle.elab_nets.specs.Finding.{module_at}
+use Rattle.elab_nets.specs.ReadyOfModules.{IsPrepared}
+use Rattle.elab_nets.specs.Reached.{IsReached}
+use Rattle.elab_nets.proofs.FoundModules.{is-found, is-prepared}
 use Rattle.elab_nets.specs.declared.rows.Rows.{Rows}
 use Rattle.elab_nets.specs.Rows.{part_of}
 use Rattle.elab_scopes.specs.declared.here.Here.{Here}

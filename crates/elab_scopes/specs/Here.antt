@@ -8,9 +8,9 @@ use Rattle.elab_model.specs.Nets.{OwnNet, nets}
 use Rattle.elab_laws.specs.Handing.{all_bits, number_at}
 use Rattle.elab_hierarchy.specs.declared.instances.Placed.{Placed}
 use Rattle.elab_hierarchy.specs.Placing.{IsPlaced}
-use Rattle.elab_modules.specs.declared.library.Library.{Library}
-use Rattle.elab_modules.specs.Ready.{IsPrepared}
-use Rattle.elab_modules.specs.Reached.{IsLibrary}
+use Rattle.elab_nets.specs.Library.{Library}
+use Rattle.elab_nets.specs.ReadyOfModules.{IsPrepared}
+use Rattle.elab_nets.specs.Reached.{IsLibrary}
 use Rattle.elab_nets.specs.declared.rows.Rows.{Rows}
 use Rattle.elab_nets.specs.Rows.{HaveRows}
 use Rattle.elab_scopes.specs.declared.here.Here.{Here}

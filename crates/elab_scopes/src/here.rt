@@ -8,8 +8,7 @@ ghost use Rattle.elab_nets.specs.Rows.{part_of};
 ghost use Rattle.elab_scopes.specs.Here.{Stands, StandsHere};
 
 use elab_hierarchy::Placed;
-use elab_modules::{Library, Prepared, find_module};
-use elab_nets::Rows;
+use elab_nets::{Library, Prepared, Rows, find_module};
 use sg_circuit::NetId;
 
 /// The module of an instance, and the net of each of its bits.

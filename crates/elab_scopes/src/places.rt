@@ -5,11 +5,11 @@ ghost use Rattle.vl_tree.specs.Seen.{view_port_declaration};
 ghost use Rattle.vl_tree.specs.Tree.{Module};
 ghost use Rattle.elab_model.specs.Names.{Variable, variables};
 ghost use Rattle.elab_variables.specs.Seen.{place_named};
-ghost use Rattle.elab_modules.specs.Ready.{IsPrepared};
+ghost use Rattle.elab_nets.specs.ReadyOfModules.{IsPrepared};
 ghost use Rattle.elab_scopes.specs.Driven.{declared_place, place_in};
 
 use elab_declared::port_declarations;
-use elab_modules::Prepared;
+use elab_nets::Prepared;
 use elab_variables::Table;
 use sg_text::{NoMemory, Place};
 use std::alloc::Global;

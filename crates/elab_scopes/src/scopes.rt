@@ -8,15 +8,14 @@ ghost use Rattle.elab_model.specs.HierarchyFaults.{past_limit};
 ghost use Rattle.elab_model.specs.Nets.{OwnNet, nets};
 ghost use Rattle.elab_model.specs.Scopes.{scope_of};
 ghost use Rattle.elab_hierarchy.specs.Placing.{ArePlaced, tree_faults};
-ghost use Rattle.elab_modules.specs.Reached.{IsLibrary};
+ghost use Rattle.elab_nets.specs.Reached.{IsLibrary};
 ghost use Rattle.elab_nets.specs.Rows.{HaveRows};
 ghost use Rattle.elab_scopes.specs.Here.{Stands};
 
 use crate::here::here_at;
 use crate::scope::scope_in;
 use elab_hierarchy::{Definitions, Placed};
-use elab_modules::Library;
-use elab_nets::Rows;
+use elab_nets::{Library, Rows};
 use sg_circuit::Scope;
 use sg_text::NoMemory;
 use std::alloc::Global;

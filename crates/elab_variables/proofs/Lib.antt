@@ -9,3 +9,6 @@ pub mod TableSeen
 pub mod Telling
 pub mod UsedNames
 pub mod WithNames
+pub use Rattle.elab_declared.proofs.Refusals
+pub use Rattle.elab_laws.proofs.Lists
+pub use Rattle.elab_laws.proofs.Places

@@ -3,3 +3,4 @@ pub mod Naming
 pub mod Rows
 pub mod Seen
 pub mod Tables
+pub use Rattle.elab_laws.specs.Handing

@@ -1,2 +1,3 @@
 -- The modules of this folder.
 mod BackLaws
+pub use Rattle.written_names.proofs.ScopeLaws

@@ -13,3 +13,5 @@ pub mod Paths
 pub mod PathsSeen
 pub mod Timings
 pub mod TimingsSeen
+pub use Rattle.sg_delay.specs.declared.corners.Corner
+pub use Rattle.sg_delay.specs.declared.limits.PulseStyle

@@ -18,3 +18,4 @@ pub use fan_out::FanOut;
 pub use nets::{Driver, Net, NetId};
 pub use paths::{Path, PathCondition, Span};
 pub use scopes::{Port, Range, Scope, Variable};
+pub use sg_delay::Corner;

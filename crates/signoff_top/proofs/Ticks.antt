@@ -6,7 +6,7 @@ use Rattle.sg_circuit.specs.Circuit.{Circuit}
 use Rattle.sg_delay.specs.declared.corners.Corner.{Corner}
 use Rattle.sdf_tree.specs.Meant.{Sdf}
 use Rattle.run_words.specs.Words.{Command, Design}
-use Rattle.written_names.proofs.ScopeLaws.{read-has_named_scopes}
+use Rattle.sdf_write.proofs.ScopeLaws.{read-has_named_scopes}
 use Rattle.written_reading.specs.Named.{IsTick}
 use Rattle.signoff_top.specs.Phases.{Annotated, Refusal, Task, AnnotatedOutcome, AnnotationOutcome, CircuitOutcome, CommandOutcome, DesignOutcome, EntriesOutcome, FileOutcome, FilesOutcome, InputOutcome, NetlistOutcome, SdfOutcome}
 use Rattle.signoff_top.proofs.Outcomes.{OfValue, then_value}

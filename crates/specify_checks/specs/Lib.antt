@@ -2,3 +2,4 @@
 pub mod Parts
 pub mod Copies
 pub mod Seen
+pub use Rattle.specify_paths.specs.Seen as SeenOfPaths

@@ -9,3 +9,4 @@ mod regs;
 
 pub use checks::{CheckLimits, ModuleCheck, module_checks};
 pub use events::ModuleEvent;
+pub use specify_values::Measure;

@@ -14,5 +14,6 @@ pub use conditions::condition_of;
 pub use grouping::PathOutput;
 pub use outputs::{PathOutputs, path_outputs};
 pub use pairs::ModulePath;
+pub use specify_values::Measure;
 pub use statements::{ModuleCondition, Statement, option_edge};
 pub use terms::check_operand;

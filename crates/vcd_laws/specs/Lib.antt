@@ -2,3 +2,4 @@
 pub mod Alike
 pub mod Again
 pub mod ReadBack
+pub use Rattle.netlist_read.specs.Reading

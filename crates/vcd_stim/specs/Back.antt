@@ -9,7 +9,7 @@ use Rattle.sg_stimulus.specs.declared.steps.Stimulus as code
 use Rattle.sg_text.specs.declared.refusals.Refused.{Refused}
 use Rattle.sg_text.specs.declared.refusals.Refused.TheVariants as refused
 use Rattle.sim_rounds.specs.Simulated.{run_of_circuit}
-use Rattle.netlist_read.specs.Reading as netlist
+use Rattle.vcd_laws.specs.Reading as netlist
 use Rattle.vcd_model.specs.Reading.{most_bytes}
 use Rattle.vcd_model.specs.declared.kinds.VcdKind.{VcdKind}
 use Rattle.vcd_laws.specs.Again.{MakesAgain, dump_of}

@@ -23,7 +23,7 @@ use Rattle.elab_numbering.specs.Refusals.{RefusesCount}
 use Rattle.elab_laws.proofs.Lists.{In, in-either, in-left, in-right}
 use Rattle.elab_hierarchy.specs.Placing.{tree_faults}
 use Rattle.elab_hierarchy.specs.Tops.{RefusesTop}
-use Rattle.elab_modules.specs.Reached.{RefusesReached}
+use Rattle.elab_checks.specs.Reached.{RefusesReached}
 use Rattle.vl_elab.specs.Below.{IsBelow, RefusesBelow}
 use Rattle.vl_elab.proofs.Among.{among-in, in-among}
 use Rattle.vl_elab.proofs.Standing.{of-tree, of-reached, of-paths, of-checks, of-nets, of-elements, of-many_paths, of-many_checks, of-drivers}

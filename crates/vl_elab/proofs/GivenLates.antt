@@ -9,11 +9,11 @@ use Rattle.elab_model.specs.Hierarchy.{instances}
 use Rattle.elab_model.specs.HierarchyFaults.{count_limit}
 use Rattle.elab_hierarchy.specs.Placing.{ArePlaced}
 use Rattle.elab_hierarchy.specs.declared.instances.Placed.{Placed}
-use Rattle.elab_modules.specs.declared.library.Library.{Library}
-use Rattle.elab_elements.specs.Seen.{AreElements}
-use Rattle.elab_elements.specs.declared.placing.Placing.{Placing}
-use Rattle.elab_elements.proofs.StandingAt.{placed-count}
-use Rattle.elab_paths.proofs.LatesSame.{lates-same}
+use Rattle.elab_checks.specs.Library.{Library}
+use Rattle.elab_checks.specs.SeenOfElements.{AreElements}
+use Rattle.elab_checks.specs.Placing.{Placing}
+use Rattle.elab_checks.proofs.StandingAt.{placed-count}
+use Rattle.elab_checks.proofs.LatesSame.{lates-same}
 use Rattle.elab_checks.specs.Standing.{HaveLates}
 
 pub lates-given : (source : Source) (top : Module) (corner : Corner) (ready : Library) (placed : List Placed) (made : Placing) (es : List Element) (lates : List (List ℕ))

@@ -16,7 +16,7 @@ use Rattle.sg_circuit.specs.declared.elements.LegTiming.{LegTiming}
 use Rattle.sg_circuit.specs.declared.paths.Path as code_path
 use Rattle.sg_circuit.specs.declared.paths.PathCondition as code_condition
 use Rattle.sg_circuit.specs.declared.paths.PathCondition.TheVariants as code_kind
-use Rattle.elab_paths.specs.AllPaths.{Tables, kind_with, element_with, NamesTables}
+use Rattle.elab_checks.specs.AllPaths.{Tables, kind_with, element_with, NamesTables}
 
 -- ---- conditions by their places
 

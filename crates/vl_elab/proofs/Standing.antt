@@ -16,7 +16,7 @@ use Rattle.elab_model.specs.Nets.{nets}
 use Rattle.circuit_model.specs.CheckUses.{check_uses}
 use Rattle.circuit_model.specs.Faults.{path_faults, path_count, check_faults, over, too_many, driver_faults, faults_below}
 use Rattle.elab_hierarchy.specs.Placing.{tree_faults}
-use Rattle.elab_modules.specs.Reached.{reached_faults}
+use Rattle.elab_checks.specs.Reached.{reached_faults}
 use Rattle.elab_laws.proofs.Lists.{In, in-left, in-right, in-either}
 use Rattle.vl_elab.proofs.Among.{among-in, in-among, in-wider}
 

@@ -21,17 +21,17 @@ use Rattle.circuit_model.specs.CheckUses.{check_of_use, check_uses}
 use Rattle.circuit_model.specs.Faults.{check_faults}
 use Rattle.elab_hierarchy.specs.Placing.{ArePlaced, tree_faults}
 use Rattle.elab_hierarchy.specs.declared.instances.Placed.{Placed}
-use Rattle.elab_modules.specs.Reached.{IsLibrary}
-use Rattle.elab_modules.specs.declared.library.Library.{Library}
-use Rattle.elab_nets.specs.Rows.{HaveRows}
-use Rattle.elab_nets.specs.declared.rows.Rows.{Rows}
-use Rattle.elab_elements.specs.Seen.{AreElements}
-use Rattle.elab_elements.specs.Standing.{AreRead}
-use Rattle.elab_elements.specs.declared.placing.Placing.{Placing}
-use Rattle.elab_paths.specs.AllPaths.{AreGiven, HaveAllPaths}
-use Rattle.elab_paths.specs.Ready.{HavePaths}
-use Rattle.elab_paths.specs.Shelving.{ListGrows}
-use Rattle.elab_paths.specs.declared.modules.ModulePaths.{ModulePaths}
+use Rattle.elab_checks.specs.Reached.{IsLibrary}
+use Rattle.elab_checks.specs.Library.{Library}
+use Rattle.elab_checks.specs.Rows.{HaveRows}
+use Rattle.elab_checks.specs.RowsType.{Rows}
+use Rattle.elab_checks.specs.SeenOfElements.{AreElements}
+use Rattle.elab_checks.specs.StandingOfElements.{AreRead}
+use Rattle.elab_checks.specs.Placing.{Placing}
+use Rattle.elab_checks.specs.AllPaths.{AreGiven, HaveAllPaths}
+use Rattle.elab_checks.specs.ReadyOfPaths.{HavePaths}
+use Rattle.elab_checks.specs.ShelvingOfPaths.{ListGrows}
+use Rattle.elab_checks.specs.ModulePaths.{ModulePaths}
 use Rattle.elab_checks.specs.Ready.{HaveChecks}
 use Rattle.elab_checks.specs.Standing as standing
 use Rattle.elab_checks.specs.Uses.{AreUses}

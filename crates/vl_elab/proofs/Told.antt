@@ -22,9 +22,9 @@ use Rattle.elab_laws.proofs.Members.{elements-have_nets}
 use Rattle.elab_closed.proofs.Outputs.{driving-outputs}
 use Rattle.elab_drivers.specs.Tables.{driving_of}
 use Rattle.elab_hierarchy.specs.declared.instances.Placed.{Placed}
-use Rattle.elab_modules.specs.declared.library.Library.{Library}
-use Rattle.elab_nets.specs.declared.rows.Rows.{Rows}
-use Rattle.elab_elements.specs.declared.placing.Placing.{Placing}
+use Rattle.elab_checks.specs.Library.{Library}
+use Rattle.elab_checks.specs.RowsType.{Rows}
+use Rattle.elab_checks.specs.Placing.{Placing}
 use Rattle.elab_scopes.specs.Driven.{AreNumbers, AreDriven}
 use Rattle.elab_scopes.specs.declared.driven.DrivenNets.{DrivenNets}
 use Rattle.vl_elab.specs.Made.{AreMade}

@@ -28,9 +28,9 @@ use Rattle.circuit_model.specs.Circuits.{driving, with_driver, driven_nets, circ
 use Rattle.circuit_model.specs.Driving.{Driving, driver_at, drivers}
 use Rattle.circuit_model.specs.PathUses.{circuit_elements}
 use Rattle.elab_closed.proofs.Closed.{circuit-is_closed}
-use Rattle.elab_modules.specs.declared.library.Library.{Library}
-use Rattle.elab_nets.specs.declared.rows.Rows.{Rows}
-use Rattle.elab_paths.specs.AllPaths.{Tables, tables_of, kind_with, element_with, NamesTables}
+use Rattle.elab_checks.specs.Library.{Library}
+use Rattle.elab_checks.specs.RowsType.{Rows}
+use Rattle.elab_checks.specs.AllPaths.{Tables, tables_of, kind_with, element_with, NamesTables}
 use Rattle.elab_checks.specs.declared.uses.CheckTables.{CheckTables}
 use Rattle.vl_elab.specs.Made.{IsWhole, driven_by}
 use Rattle.vl_elab.specs.declared.elements.ElementTables.{ElementTables}

@@ -14,7 +14,7 @@ use Rattle.circuit_model.specs.Circuits.{circuit}
 use Rattle.elab_model.specs.Faults.{fault}
 use Rattle.circuit_model.specs.Faults.{faults_below}
 use Rattle.elab_model.specs.PrimitiveFaults.{primitives, TableFault}
-use Rattle.elab_modules.specs.Reached.{IsOfReached}
+use Rattle.elab_checks.specs.Reached.{IsOfReached}
 
 -- there is no fault below the top, and it is the circuit, adjusted
 pub record IsBelow (source : Source) (top : Module) (corner : Corner) (made : Circuit) : Type 0 where

@@ -20,14 +20,14 @@ use Rattle.circuit_model.specs.Faults.{path_faults, faults_below}
 use Rattle.elab_drivers.specs.Tables.{HasDrivers}
 use Rattle.elab_hierarchy.specs.Placing.{ArePlaced, tree_faults}
 use Rattle.elab_hierarchy.specs.declared.instances.Placed.{Placed}
-use Rattle.elab_modules.specs.Reached.{IsLibrary}
-use Rattle.elab_modules.specs.declared.library.Library.{Library}
-use Rattle.elab_nets.specs.Rows.{HaveRows}
-use Rattle.elab_nets.specs.declared.rows.Rows.{Rows}
-use Rattle.elab_elements.specs.declared.placing.Placing.{Placing}
-use Rattle.elab_paths.specs.AllPaths.{HaveAllPaths}
-use Rattle.elab_paths.specs.Shelving.{ListGrows}
-use Rattle.elab_paths.specs.declared.modules.ModulePaths.{ModulePaths}
+use Rattle.elab_checks.specs.Reached.{IsLibrary}
+use Rattle.elab_checks.specs.Library.{Library}
+use Rattle.elab_checks.specs.Rows.{HaveRows}
+use Rattle.elab_checks.specs.RowsType.{Rows}
+use Rattle.elab_checks.specs.Placing.{Placing}
+use Rattle.elab_checks.specs.AllPaths.{HaveAllPaths}
+use Rattle.elab_checks.specs.ShelvingOfPaths.{ListGrows}
+use Rattle.elab_checks.specs.ModulePaths.{ModulePaths}
 use Rattle.elab_checks.specs.Standing.{HaveLates}
 use Rattle.elab_checks.specs.Uses.{AreUses}
 use Rattle.elab_checks.specs.declared.uses.CheckTables.{CheckTables}

@@ -6,12 +6,10 @@ ghost use Rattle.circuit_model.specs.Faults.{driver_faults};
 ghost use Rattle.sg_delay.specs.declared.corners.Corner as ghost_corner;
 ghost use Rattle.vl_elab.specs.Made.{AreMade, AreDrivers, driven_by};
 
+use elab_checks::{Library, Placing, Rows};
 use elab_drivers::drivers;
-use elab_elements::Placing;
 use elab_hierarchy::{Definitions, Placed};
 use elab_model::ElabKind;
-use elab_modules::Library;
-use elab_nets::Rows;
 use elab_scopes::{input_nets, reg_nets};
 use sg_circuit::{Driver, Net};
 use sg_text::Refused;

@@ -2,17 +2,14 @@
 ghost use Rattle.std.specs.Prelude.{◌≡◌, IfOk, IfErr};
 ghost use Rattle.sg_circuit.specs.TimingsSeen.{leg_timing_seen};
 ghost use Rattle.vl_tree.specs.Tree.{Module};
-ghost use Rattle.elab_paths.specs.Shelving.{AreRead};
+ghost use Rattle.elab_checks.specs.ShelvingOfPaths.{AreRead};
 ghost use Rattle.vl_elab.specs.Below.{RefusesBelow};
 ghost use Rattle.vl_elab.specs.Made.{HaveElements, HaveNets, none_of_twelve};
 
 use cond_expr::Expr;
-use elab_elements::{Placing, elements_in};
+use elab_checks::{Library, Placing, Rows, add_paths, elements_in, module_paths};
 use elab_hierarchy::{Definitions, Placed};
 use elab_model::ElabKind;
-use elab_modules::Library;
-use elab_nets::Rows;
-use elab_paths::{add_paths, module_paths};
 use late_limits::lates_by_scope;
 use sg_circuit::{FanOut, LegTiming, Path};
 use sg_delay::{Corner, Delays12, Limit, Limits12};

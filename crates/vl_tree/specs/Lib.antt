@@ -14,3 +14,8 @@ pub mod Checks
 pub mod Specify
 pub mod Primitives
 pub mod Modules
+pub use Rattle.vl_token.specs.Seen as SeenOfToken
+pub use Rattle.vl_token.specs.Tokens
+pub use Rattle.udp_rows.specs.declared.faults.UdpKind
+pub use Rattle.udp_rows.specs.Faults
+pub use Rattle.udp_rows.specs.Meaning

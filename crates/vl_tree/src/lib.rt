@@ -26,3 +26,4 @@ pub use specify::{
     Amount, Amounts, Limit, PulseStyle, SignedAmount, SpecifyBlock, SpecifyItem, Specparam, Term,
     Word,
 };
+pub use udp_rows::UdpKind;

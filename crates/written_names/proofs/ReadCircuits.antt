@@ -2,7 +2,7 @@
 use Rattle.std.specs.Prelude.{ℕ, List, All, Option}
 use Rattle.sg_circuit.specs.Circuit.{Circuit}
 use Rattle.sg_delay.specs.declared.corners.Corner.{Corner}
-use Rattle.netlist_read.specs.Reading.{IsRead}
+use Rattle.vcd_laws.specs.Reading.{IsRead}
 use Rattle.annotation_model.specs.Spots.{all_checked, spots}
 use Rattle.written_reading.specs.Named.{IsNamedCheck, IsNamedSpot}
 use Rattle.written_names.proofs.NoFaultBelow.{none_below}

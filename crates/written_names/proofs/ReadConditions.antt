@@ -17,7 +17,7 @@ use Rattle.elab_laws.proofs.Lists.{all-map, all-weaker}
 use Rattle.elab_laws.proofs.NoFaults.{back, each-faultless}
 use Rattle.elab_closed.proofs.Counts.{faultless-parts}
 use Rattle.late_limits.specs.Adjusted.{IsAdjustedFrom, late_delay, late_element, late_kind}
-use Rattle.netlist_read.specs.Reading.{IsRead}
+use Rattle.vcd_laws.specs.Reading.{IsRead}
 use Rattle.written_model.specs.Faults.{conditions}
 use Rattle.written_reading.specs.Named.{IsWrittenCondition}
 use Rattle.written_names.proofs.CheckUseLaws.{IsGoodUse, uses_are_good}

@@ -4,7 +4,7 @@ use Rattle.std.specs.List.{AllByRecursion}
 use Rattle.sg_circuit.specs.Circuit.{Circuit}
 use Rattle.sg_delay.specs.declared.corners.Corner.{Corner}
 use Rattle.elab_model.specs.Hierarchy.{instances}
-use Rattle.netlist_read.specs.Reading.{IsRead}
+use Rattle.vcd_laws.specs.Reading.{IsRead}
 use Rattle.written_names.proofs.DefinedModules.{OfPart, instances_are, top_is}
 use Rattle.written_names.proofs.SpelledModules.{IsSpelledModule, source_is}
 use Rattle.written_names.proofs.WordLaws.{tokens_are_good}

@@ -23,7 +23,7 @@ use Rattle.elab_laws.proofs.Numbers.{number}
 use Rattle.elab_laws.proofs.Stated.{instances-have_places}
 use Rattle.elab_closed.proofs.Counts.{faultless-parts}
 use Rattle.elab_closed.proofs.Places.{counted-at, in-place, mapped-at, place-of}
-use Rattle.netlist_read.specs.Reading.{IsRead}
+use Rattle.vcd_laws.specs.Reading.{IsRead}
 use Rattle.vcd_laws.proofs.Decimals.{IsShort}
 use Rattle.vcd_laws.proofs.Lexed.{good_tokens}
 use Rattle.vcd_laws.proofs.Ordered.{ordered_tree}

@@ -11,7 +11,7 @@ use Rattle.circuit_model.specs.CheckUses.{CheckUse as Check_use, check_uses, tim
 use Rattle.circuit_model.specs.Circuits.{circuit}
 use Rattle.late_limits.specs.Adjusted.{IsAdjustedFrom}
 use Rattle.elab_laws.proofs.Lists.{all-anyway, all-map, all-weaker}
-use Rattle.netlist_read.specs.Reading.{IsRead}
+use Rattle.vcd_laws.specs.Reading.{IsRead}
 use Rattle.written_giving.specs.AnnotatedBack.{IsSettled}
 use Rattle.written_names.proofs.AdjustedAgain.{own_adjusted}
 use Rattle.written_names.proofs.CheckUseLaws.{IsAboveZero, IsGoodUse, above, uses_are_good}

@@ -2,7 +2,7 @@
 use Rattle.std.specs.Prelude.{ℕ, List, Option}
 use Rattle.sg_circuit.specs.Circuit.{Circuit}
 use Rattle.sg_delay.specs.declared.corners.Corner.{Corner}
-use Rattle.netlist_read.specs.Reading.{IsRead}
+use Rattle.vcd_laws.specs.Reading.{IsRead}
 use Rattle.written_giving.specs.AnnotatedBack.{IsLike}
 
 pub record IsOfNetlist (c : Circuit) : Type 0 where

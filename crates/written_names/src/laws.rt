@@ -5,7 +5,7 @@ ghost use Rattle.sg_delay.specs.declared.corners.Corner.{Corner};
 ghost use Rattle.sdf_tree.specs.Meant.{Sdf};
 ghost use Rattle.annotation_model.specs.Annotated.{annotated};
 ghost use Rattle.late_limits.specs.Adjusted.{IsAdjustedFrom};
-ghost use Rattle.netlist_read.specs.Reading.{IsRead};
+ghost use Rattle.vcd_laws.specs.Reading.{IsRead};
 ghost use Rattle.written_giving.specs.AnnotatedBack.{IsSettled};
 ghost use Rattle.written_names.specs.Netlists.{IsOfNetlist};
 ghost use Rattle.written_reading.specs.Named.{IsNamed};

@@ -2,7 +2,7 @@
 use Rattle.std.proofs.Common.{◌≡◌, ◌++◌, ◌+◌, ◌-◌, ◌≤◌, All, List, length, map}
 use Rattle.std.specs.List.{range_with_len}
 use Rattle.elab_model.specs.Names.{Variable}
-use Rattle.elab_laws.specs.Handing.{all_bits}
+use Rattle.elab_variables.specs.Handing.{all_bits}
 use Rattle.elab_bits.specs.Seen.{IsInRow}
 use Rattle.elab_bits.specs.Words.{net_from}
 use Rattle.elab_bits.proofs.adding.add_forth.Given as goal

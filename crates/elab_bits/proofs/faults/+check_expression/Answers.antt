@@ -2,7 +2,7 @@
 use Rattle.std.proofs.lemmas.Result.{err_from_is_err_and}
 use Rattle.vl_tree.specs.Seen.{view_expression}
 use Rattle.elab_model.specs.TerminalFaults.{expression_faults}
-use Rattle.elab_declared.proofs.Refusals.{exit}
+use Rattle.elab_variables.proofs.Refusals.{exit}
 use Rattle.elab_bits.proofs.PartsLeft.{part-refused, all-faultless}
 use Rattle.elab_bits.proofs.faults.+check_expression.Goals as goal
 

@@ -1,7 +1,7 @@
 -- The checks of a module, or a fault of it.
 use Rattle.std.proofs.lemmas.Result.{err_from_is_err_and}
 use Rattle.specify_model.specs.CheckFaults.{timing_check_faults}
-use Rattle.elab_modules.proofs.InTurn.{exit}
+use Rattle.elab_paths.proofs.InTurn.{exit}
 use Rattle.elab_checks.proofs.OwnChecks.{checks-made, own-readable, own-refused, own-faultless}
 use Rattle.elab_checks.proofs.modules.checks_of.Goals as goal
 

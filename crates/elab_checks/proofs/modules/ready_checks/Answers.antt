@@ -4,7 +4,7 @@ use Rattle.std.proofs.Common.{◌∙◌, sym, ap}
 use Rattle.std.proofs.lemmas.List.{with_items_is}
 use Rattle.std.proofs.lemmas.Result.{err_from_is_err_and}
 use Rattle.elab_hierarchy.proofs.Whole.{refuses}
-use Rattle.elab_modules.proofs.Named.{places-within}
+use Rattle.elab_paths.proofs.NamedOfModules.{places-within}
 use Rattle.elab_paths.proofs.EachModule.{all-ready}
 use Rattle.elab_checks.specs.OfModules.{AreReadySoFar}
 use Rattle.elab_checks.proofs.Names.{all-names}

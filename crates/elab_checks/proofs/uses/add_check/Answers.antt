@@ -3,7 +3,7 @@ use Rattle.std.proofs.Common.{◌≡◌, ◌+◌, arith, length, refl, sym, subs
 use Rattle.std.proofs.lemmas.Result.{err_from_is_err_and}
 use Rattle.sg_circuit.specs.ChecksSeen.{AreWritten}
 use Rattle.elab_numbering.specs.Refusals.{RefusesCount}
-use Rattle.elab_elements.proofs.Putting.{exit-by}
+use Rattle.elab_paths.proofs.Putting.{exit-by}
 use Rattle.elab_checks.proofs.MadeChecks.{check-spelled, check-written}
 use Rattle.elab_checks.proofs.uses.add_check.Goals as goal
 

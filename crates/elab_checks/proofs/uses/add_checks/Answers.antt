@@ -1,6 +1,6 @@
 -- One check more, or too many.
 use Rattle.std.proofs.lemmas.Result.{err_from_is_err_and}
-use Rattle.elab_elements.proofs.Putting.{exit-by}
+use Rattle.elab_paths.proofs.Putting.{exit-by}
 use Rattle.elab_checks.proofs.OneByOne.{added-none, added-more, added-all, added-refused}
 use Rattle.elab_checks.proofs.uses.add_checks.Goals as goal
 

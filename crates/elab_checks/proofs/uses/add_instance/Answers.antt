@@ -4,7 +4,7 @@ use Rattle.std.proofs.Common.{ap, subst, sym}
 use Rattle.std.proofs.lemmas.Result.{on_ok_weaker}
 use Rattle.elab_model.specs.Nets.{nets}
 use Rattle.circuit_model.specs.PathUses.{bit_number}
-use Rattle.elab_elements.proofs.Putting.{if_err-weaker}
+use Rattle.elab_paths.proofs.Putting.{if_err-weaker}
 use Rattle.elab_paths.proofs.UsesSoFar.{row-is}
 use Rattle.elab_checks.specs.Uses.{IsUsableCheck}
 use Rattle.elab_checks.proofs.InstanceChecks.{ready-found, prepared-is, row-within, here-is, lates-there, checks-found, checks-usable}

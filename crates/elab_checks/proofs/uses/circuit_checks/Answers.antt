@@ -1,6 +1,6 @@
 -- One instance more.
 use Rattle.std.proofs.lemmas.Result.{err_from_is_err_and}
-use Rattle.elab_elements.proofs.Putting.{exit-by}
+use Rattle.elab_paths.proofs.Putting.{exit-by}
 use Rattle.elab_checks.proofs.InstanceChecks.{stands}
 use Rattle.elab_checks.proofs.InstanceTurn.{next-uses, next-refused, all-uses}
 use Rattle.elab_checks.proofs.uses.circuit_checks.Goals as goal

@@ -2,7 +2,7 @@
 use Rattle.std.proofs.Common.{List}
 use Rattle.std.proofs.lemmas.Result.{err_from_is_err_and}
 use Rattle.sg_circuit.specs.declared.nets.Net.{Net}
-use Rattle.elab_lates.specs.declared.copies.PlacedCopy.{PlacedCopy}
+use Rattle.elab_modules.specs.PlacedCopy.{PlacedCopy}
 use Rattle.elab_nets.specs.Copies.{copy_nets}
 use Rattle.elab_nets.proofs.ChildRows.{refuses-more}
 use Rattle.elab_nets.proofs.Counts.{handed-on}

@@ -3,7 +3,7 @@ use Rattle.std.specs.Prelude.{◌≡◌, ◌<◌, Some, length}
 use Rattle.std.proofs.Common.{rules, arith}
 use Rattle.std.proofs.lemmas.Result.{err_from_is_err_and}
 use Rattle.elab_hierarchy.proofs.Whole.{refuses}
-use Rattle.elab_modules.specs.declared.library.Ready.TheVariants as ready
+use Rattle.elab_elements.specs.Ready.TheVariants as ready
 use Rattle.elab_paths.proofs.OwnModule.{found-module, no-primitive, not-none, ready-within, is-prepared, has-fits}
 use Rattle.elab_paths.proofs.SoFar.{longer-none, some-there, place-within, ready-more, put-there, put-stays}
 use Rattle.elab_paths.proofs.modules.add_module.Goals as goal

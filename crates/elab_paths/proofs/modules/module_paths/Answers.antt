@@ -5,7 +5,7 @@ use Rattle.std.proofs.lemmas.List.{with_items_is}
 use Rattle.std.proofs.lemmas.List.Elements.{All-nil}
 use Rattle.std.proofs.lemmas.Result.{err_from_is_err_and}
 use Rattle.elab_hierarchy.proofs.Whole.{refuses}
-use Rattle.elab_modules.proofs.Named.{places-within}
+use Rattle.elab_elements.proofs.NamedOfModules.{places-within}
 use Rattle.specify_paths.specs.Seen.{IsRead}
 use Rattle.elab_paths.specs.Shelving.{AreRead}
 use Rattle.elab_paths.specs.OfModules.{AreReadySoFar}

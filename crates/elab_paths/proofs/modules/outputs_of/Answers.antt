@@ -2,7 +2,7 @@
 use Rattle.std.proofs.lemmas.Result.{err_from_is_err_and}
 use Rattle.vl_tree.specs.Seen.{view_module}
 use Rattle.circuit_model.specs.Faults.{module_path_faults}
-use Rattle.elab_modules.proofs.InTurn.{exit}
+use Rattle.elab_elements.proofs.InTurn.{exit}
 use Rattle.elab_paths.proofs.OwnPaths.{outputs-made, beside-refused, own-refused}
 use Rattle.elab_paths.proofs.modules.outputs_of.Goals as goal
 

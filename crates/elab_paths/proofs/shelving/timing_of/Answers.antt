@@ -1,7 +1,7 @@
 -- Twelve delays, all with the same limits.
 use Rattle.std.proofs.Common.{arith}
 use Rattle.std.specs.Option.{option_map}
-use Rattle.specify_values.specs.Seen.{widths_seen}
+use Rattle.specify_paths.specs.SeenOfValues.{widths_seen}
 use Rattle.elab_paths.proofs.OnShelves.{timings-alike}
 use Rattle.elab_paths.proofs.shelving.timing_of.Goals as goal
 
