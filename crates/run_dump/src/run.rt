@@ -42,7 +42,8 @@ pub struct RunEnd {
 pub(super) fn wheel_for(alloc: Global, circuit: &Circuit, buckets: u32) -> Result<Wheel, NoMemory>
     requires some { 1 ≤ buckets }
     requires most { buckets ≤ 1048576 }
-    ensures { IfOk result (λ wheel. wheel.lists ≡ replicate (length circuit.now.elements) []) }
+    ensures lists { IfOk result (λ wheel. wheel.lists ≡ replicate (length circuit.now.elements) []) }
+    ensures buckets { IfOk result (λ wheel. wheel.buckets ≡ buckets) }
 {
     Wheel::new(alloc, buckets, circuit.parts().elements.len() as u32)
 }

@@ -1,4 +1,4 @@
-//! How long after the last change of an input each net may still change, or a cycle of elements and timing checks.
+//! How long after a stimulus's last set each net may still change, or a cycle of elements and timing checks.
 #![tactic(auto)]
 
 mod cycles;

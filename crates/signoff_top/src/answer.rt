@@ -23,8 +23,8 @@ pub fn top<S: Shelf, K: Sink>(
     shelf: &mut S,
     report: &mut K,
 ) -> Status
-    // If no memory is refused and no read or write fails, the status, the files and the report are exactly those of the
-    // definition.
+    // Where want of memory isn't told and neither count of faults rose, the status, the files and the report are exactly those
+    // of the definition.
     ensures headline { (files : List File) (held : List ℕ) → S.files shelf.old ≡ Some files → (K.told report.old).contents ≡ Some held
         → result ≢ Status.NoMemory
         → (Rose (S.fault_count shelf.old) (S.fault_count shelf.new) → ⊥)

@@ -1,5 +1,5 @@
 // The value change dump of a run, written to a file from time to time.
-ghost use Rattle.std.specs.Prelude.{◌≡◌, ◌≤◌, ◌∷◌, [], None, Some, IfOk, length};
+ghost use Rattle.std.specs.Prelude.{◌≡◌, ◌≤◌, ◌∷◌, [], None, Some, IfOk, OnErr, length};
 ghost use Rattle.sg_io.specs.Faults.{Cause, NamesFault};
 ghost use Rattle.sg_io.specs.Files.{BothTell};
 ghost use Rattle.wave_out.specs.Files.{Leaves};
@@ -135,8 +135,8 @@ impl<'a> RestWriter<'a> {
     ghost use Rattle.wave_out.specs.Writing.{HoldsRest};
 
     /// A writer that has made a new file of this name, for what comes after a time, in ticks, up to which another file was
-    /// written. Its first call, which tells of that time, was made to the writer of that one. Without it the file is as
-    /// before.
+    /// written. Its first call, which tells of that time, was made to the writer of that one. After a refusal the files are
+    /// as before.
     pub fn new<S: Shelf>(
         alloc: Global,
         circuit: &'a Circuit,
@@ -146,6 +146,7 @@ impl<'a> RestWriter<'a> {
     ) -> Result<RestWriter<'a>, ShelfError>
         ensures writer { IfOk result (λ w. w ≡ record { name = name.now; circuit = circuit.now; last = Some time }) }
         ensures file { BothTell (S.files shelf.old) (S.files shelf.new) (Leaves name.now [] result) }
+        ensures refused { OnErr result (S.files shelf.new ≡ S.files shelf.old) }
         ensures stands { IfOk result (λ w. (first : Call) → first.time ≡ time → HoldsRest w (S.files shelf.new) (first ∷ [])) }
         ensures cause { Cause (S.fault_count shelf.old) (S.fault_count shelf.new) result }
         ensures named { NamesFault name.now (S.last_fault shelf.old) (S.last_fault shelf.new) result }
