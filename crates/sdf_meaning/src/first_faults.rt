@@ -4,7 +4,7 @@ ghost use Rattle.std.specs.List.{flat_map};
 ghost use Rattle.std.specs.Option.{option_map};
 ghost use Rattle.sdf_tree.specs.Faults as faults;
 ghost use Rattle.sdf_tree.specs.Faults.{Crossing};
-ghost use Rattle.sdf_tree.specs.Seen.{view_delay, view_file, view_limits, view_number, view_value};
+ghost use Rattle.sdf_tree.specs.Seen.{view_boxed, view_delay, view_file, view_limits, view_number, view_value};
 ghost use Rattle.sdf_tree.specs.Written.{Number};
 ghost use Rattle.sdf_meaning.specs.FirstFaults.{bad_number, crosses_within, crossing};
 
@@ -54,14 +54,14 @@ fn bad_in_optional(value: Option<WrittenValue<'_>>) -> Option<Place>
 }
 
 #[tactic(auto, using(crate::proofs::FirstFaults::bad_behind))]
-fn bad_in_limits(limits: WrittenLimits<'_>) -> Option<Place>
-    ensures { result ≡ bad_number (faults.limits_numbers (view_limits limits.entry)) }
+fn bad_in_limits(limits: &WrittenLimits<'_>) -> Option<Place>
+    ensures { result ≡ bad_number (faults.limits_numbers (view_limits limits.now)) }
 {
     bad_in_value(limits.reject).or(bad_in_optional(limits.error))
 }
 
-fn bad_in_optional_limits(limits: Option<WrittenLimits<'_>>) -> Option<Place>
-    ensures { result ≡ bad_number (flat_map faults.limits_numbers (faults.listed (option_map view_limits limits.entry))) }
+fn bad_in_optional_limits(limits: &Option<Box<WrittenLimits<'_>>>) -> Option<Place>
+    ensures { result ≡ bad_number (flat_map faults.limits_numbers (faults.listed (option_map view_boxed limits.now))) }
 {
     match limits {
         Some(limits) => bad_in_limits(limits),
@@ -107,7 +107,7 @@ fn crossing_at(
 fn crossing_in_delay(delay: &WrittenDelay<'_>) -> Option<Place>
     ensures { result ≡ crossing (faults.delay_crossings (view_delay delay.now)) }
 {
-    match delay.limits {
+    match &delay.limits {
         Some(limits) => crossing_at(delay.place, limits.reject, limits.error),
         None => None,
     }
@@ -171,7 +171,7 @@ impl<'a> Valued for WrittenDelay<'a> {
 
     #[tactic(auto, using(crate::proofs::FirstFaults::bad_behind))]
     fn bad_place(&self) -> Option<Place> {
-        bad_in_value(self.delay).or(bad_in_optional_limits(self.limits))
+        bad_in_value(self.delay).or(bad_in_optional_limits(&self.limits))
     }
 
     fn crossing_place(&self) -> Option<Place> {

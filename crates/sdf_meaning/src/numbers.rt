@@ -71,8 +71,8 @@ pub fn optional_triple(value: Option<WrittenValue<'_>>) -> Option<Triple>
 }
 
 // A single limit is both.
-fn limit_pair_of(limits: WrittenLimits<'_>) -> LimitPair
-    ensures { view_limit_pair result ≡ meant.limit_pair_of (view_limits limits.entry) }
+fn limit_pair_of(limits: &WrittenLimits<'_>) -> LimitPair
+    ensures { view_limit_pair result ≡ meant.limit_pair_of (view_limits limits.now) }
 {
     let reject = triple_of(limits.reject);
     match limits.error {
@@ -87,10 +87,10 @@ fn limit_pair_of(limits: WrittenLimits<'_>) -> LimitPair
     }
 }
 
-fn delay_value_of(delay: WrittenDelay<'_>) -> DelayValue
-    ensures { view_delay_value result ≡ meant.delay_value_of (view_delay delay.entry) }
+fn delay_value_of(delay: &WrittenDelay<'_>) -> DelayValue
+    ensures { view_delay_value result ≡ meant.delay_value_of (view_delay delay.now) }
 {
-    let limits = match delay.limits {
+    let limits = match &delay.limits {
         Some(limits) => Some(limit_pair_of(limits)),
         None => None,
     };
@@ -106,7 +106,7 @@ pub fn delay_values(alloc: Global, delays: &[WrittenDelay<'_>]) -> Result<Vec<De
 {
     let mut values = Vec::with_capacity(alloc, delays.len())?;
     for delay in delays {
-        values.push(delay_value_of(*delay))?;
+        values.push(delay_value_of(delay))?;
     }
     Ok(values)
 }

@@ -69,7 +69,7 @@ fn tail_part<'a>(
         let _ = place_at(tokens, at)?;
         return Ok((TailPart::Retain(delays), next));
     }
-    let ((delay, limits), next) = delay_rest(tokens, next)?;
+    let ((delay, limits), next) = delay_rest(alloc, tokens, next)?;
     let place = place_at(tokens, at)?;
     Ok((
         TailPart::Delay(WrittenDelay {
@@ -87,7 +87,7 @@ fn put_part<'a>(tail: &mut TailDelays<'a>, part: TailPart<'a>) -> Result<(), Rea
     ensures memory { IfErr result (λ fault. fault ≡ faults.Memory) }
 {
     match part {
-        TailPart::Retain(delays) => tail.retains.extend_from_slice(&delays)?,
+        TailPart::Retain(mut delays) => tail.retains.append(&mut delays)?,
         TailPart::Delay(delay) => tail.delays.push(delay)?,
     }
     Ok(())

@@ -45,13 +45,14 @@ fn delay_comes(tokens: &[Token<'_>], at: usize, limited: bool, count: usize) -> 
 
 /// Reads a delay onto the end of a list. Answers the position behind.
 fn add_delay<'a>(
+    alloc: Global,
     delays: &mut Vec<WrittenDelay<'a>>,
     tokens: &[Token<'a>],
     at: usize,
 ) -> Result<usize, ReadFault>
     ensures { IsAdded (map lexeme tokens.now) at delays.old.items delays.new.items result }
 {
-    let (delay, next) = delay(tokens, at)?;
+    let (delay, next) = delay(alloc, tokens, at)?;
     delays.push(delay)?;
     Ok(next)
 }
@@ -69,7 +70,7 @@ pub fn list<'a>(
     let mut delays = Vec::new(alloc);
     let mut next = at;
     'more: while delay_comes(tokens, next, limited, delays.len()) {
-        next = add_delay(&mut delays, tokens, next)?;
+        next = add_delay(alloc, &mut delays, tokens, next)?;
     }
     if !may_end(limited, delays.len()) {
         return Err(ReadFault::At(next));

@@ -7,7 +7,7 @@ ghost use Rattle.sdf_lex.specs.Seen.{lexeme};
 ghost use Rattle.sdf_tree.specs.Kinds as kinds;
 ghost use Rattle.sdf_tree.specs.Kinds.{kind_of};
 ghost use Rattle.sdf_tree.specs.Rules as rules;
-ghost use Rattle.sdf_tree.specs.Seen.{view_delay, view_limits, view_number, view_value};
+ghost use Rattle.sdf_tree.specs.Seen.{view_boxed, view_delay, view_number, view_value};
 ghost use Rattle.sdf_tree.specs.Values as values;
 ghost use Rattle.sdf_terms.specs.Tokens.{found};
 
@@ -15,6 +15,7 @@ use crate::tokens::{colon, is_colon, is_left, is_select, left, place_at, right, 
 use grammar::ReadFault;
 use sdf_lex::{Lexeme, Token};
 use sdf_tree::{WrittenDelay, WrittenLimits, WrittenNumber, WrittenValue, begins_number};
+use std::alloc::Global;
 
 const NO_VALUE: WrittenValue<'static> = WrittenValue {
     min: None,
@@ -177,17 +178,19 @@ pub fn optional_value<'a>(
 /// `value value [ value ] ")" | [ numbers ] ")"`, behind a parenthesis
 #[tactic(auto, unfolding(sdf_tree::specs::Values::delay_rest_parts))]
 pub fn delay_rest<'a>(
+    alloc: Global,
     tokens: &[Token<'a>],
     at: usize,
-) -> Result<((WrittenValue<'a>, Option<WrittenLimits<'a>>), usize), ReadFault>
-    ensures { Gives (λ x. ((view_value x.0.0, option_map view_limits x.0.1), x.1)) result (values.delay_rest.read (map lexeme tokens.now) at) }
+) -> Result<((WrittenValue<'a>, Option<Box<WrittenLimits<'a>>>), usize), ReadFault>
+    ensures { Gives (λ x. ((view_value x.0.0, option_map view_boxed x.0.1), x.1)) result (values.delay_rest.read (map lexeme tokens.now) at) }
 {
     if is_left(tokens, at) {
         let (delay, next) = value(tokens, at)?;
         let (reject, next) = value(tokens, next)?;
         let (error, next) = optional_value(tokens, next)?;
         let next = right(tokens, next)?;
-        return Ok(((delay, Some(WrittenLimits { reject, error })), next));
+        let limits = Box::new(alloc, WrittenLimits { reject, error })?;
+        return Ok(((delay, Some(limits)), next));
     }
     let (found, next) = optional_numbers(tokens, at)?;
     let next = right(tokens, next)?;
@@ -199,11 +202,15 @@ pub fn delay_rest<'a>(
 
 /// `"(" value value [ value ] ")" | value`
 #[tactic(auto, unfolding(sdf_tree::specs::Values::delay_parts))]
-pub fn delay<'a>(tokens: &[Token<'a>], at: usize) -> Result<(WrittenDelay<'a>, usize), ReadFault>
+pub fn delay<'a>(
+    alloc: Global,
+    tokens: &[Token<'a>],
+    at: usize,
+) -> Result<(WrittenDelay<'a>, usize), ReadFault>
     ensures { Gives (λ x. (view_delay x.0, x.1)) result (values.delay.read (map lexeme tokens.now) at) }
 {
     let next = left(tokens, at)?;
-    let ((delay, limits), next) = delay_rest(tokens, next)?;
+    let ((delay, limits), next) = delay_rest(alloc, tokens, next)?;
     let place = place_at(tokens, at)?;
     Ok((
         WrittenDelay {

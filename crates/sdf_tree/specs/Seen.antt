@@ -1,6 +1,7 @@
 -- The code's trees of files as they are written, as the definitions see them.
 use Rattle.std.specs.Prelude.{List, ℕ, map, option_map}
 use Rattle.std.specs.Borrow.{Bor}
+use Rattle.std.specs.Global.{Box}
 use Rattle.cond_expr.specs.Token.{Tok, map_name}
 use Rattle.cond_expr.specs.declared.tokens.Tok as over
 use Rattle.sdf_lex.specs.Names.{called}
@@ -70,8 +71,12 @@ view_value v = record { min = option_map view_number v.min; typ = option_map vie
 abbrev pub view_limits : code_limits.WrittenLimits → Limits
 view_limits l = record { reject = view_value l.reject; error = option_map view_value l.error }
 
+-- limits that stand apart
+abbrev pub view_boxed : Box code_limits.WrittenLimits → Limits
+view_boxed b = view_limits b.value
+
 abbrev pub view_delay : code_delay.WrittenDelay → Delay
-view_delay d = record { place = d.place; delay = view_value d.delay; limits = option_map view_limits d.limits }
+view_delay d = record { place = d.place; delay = view_value d.delay; limits = option_map view_boxed d.limits }
 
 -- ---- entries
 

@@ -6,6 +6,7 @@ use crate::{
 };
 use sg_text::Place;
 use sg_time::Unit;
+use std::mem::size_of;
 
 /// A word where a number stands.
 #[derive(Clone, Copy, Debug)]
@@ -30,12 +31,15 @@ pub struct WrittenLimits<'a> {
 }
 
 /// `value | "(" value value [ value ] ")"`: a delay, and limits of pulses perhaps. The place is that of its first parenthesis.
-#[derive(Clone, Copy, Debug)]
+#[derive(Debug, Drop)]
 pub struct WrittenDelay<'a> {
     pub place: Place,
     pub delay: WrittenValue<'a>,
-    pub limits: Option<WrittenLimits<'a>>,
+    pub limits: Option<Box<WrittenLimits<'a>>>,
 }
+
+// A large file has millions of them, and hardly one has limits: those stand apart, so that a delay holds no room for them.
+const _: () = prove!(size_of::<WrittenDelay<'static>>() == 152);
 
 /// What stands in an entry of `ABSOLUTE` and `INCREMENT`.
 #[derive(Debug, Drop)]
