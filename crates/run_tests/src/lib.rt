@@ -5,5 +5,3 @@
 mod files;
 #[cfg(test)]
 mod texts;
-#[cfg(test)]
-mod words;

@@ -1,73 +1,52 @@
-// A small circuit, what is applied to its inputs, and its run.
+// A netlist, what is applied to its inputs, and its run.
 ghost use Rattle.std.specs.Prelude.{◌≡◌, ◌<◌};
 
-use crate::checks::{CheckFrom, Checks};
 use crate::lines::Lines;
-use crate::paths::{PathFrom, Paths};
-use anyhow::Context;
-use circuit_fit::try_close;
 use pulse_list::PlainAgenda;
-use sg_circuit::{Driver, Element, ElementKind, LegTiming, Net, Parts, Scope};
-use sg_delay::GateDelays;
+use sg_circuit::Circuit;
+use sg_delay::Corner;
 use sg_io::MemoryShelf;
-use sg_logic::Value;
 use sg_steps::Steps;
-use sg_stimulus::{Set, StimStep, Stimulus};
-use sg_text::{NoMemory, Text};
-use sg_time::{Scale, Unit};
+use sg_text::Place;
 use sim_rounds::{Finished, Sim};
 use sim_times::SimEnd;
-use smallvec::SmallVec;
-use std::alloc::{AllocError, Global};
+use std::alloc::Global;
 use std::marker::Brand;
 use std::sync::ledger::{Blank, Ledger};
+use stim_read::read_stim;
 use time_checks::{Part, Violation};
-
-const NS: Unit = Unit { power: -9 };
-
-const SCALE: Scale = Scale {
-    unit: NS,
-    precision: NS,
-};
+use vl_elab::elaborate;
+use vl_lex::lex;
+use vl_parse::parse;
 
 /// No time needs more rounds than these, where it ends.
 const ROUNDS: u32 = 10;
 
-/// A circuit, and what is applied to it.
-#[derive(Drop)]
-pub struct Case<'a> {
-    pub title: &'a str,
-    /// The names of the nets: of the inputs, of what each element drives, and of the notifiers.
-    pub names: &'a [&'a str],
-    pub inputs: u32,
-    /// Each with the nets that it reads.
-    pub elements: &'a [(ElementKind, &'a [u32])],
-    pub timings: &'a [LegTiming],
-    pub paths: &'a [PathFrom],
-    pub checks: &'a [CheckFrom],
-    /// The values of the inputs, by time.
-    pub sets: &'a [(u64, &'a [Value])],
-    pub end: u64,
+/// A netlist, and its stimulus.
+#[derive(Debug, Drop)]
+pub struct Case {
+    title: String,
+    netlist: String,
+    stimulus: String,
+    is_read: bool,
 }
 
-fn net(alloc: Global, name: &str, driver: Driver) -> Result<Net, NoMemory> {
-    Ok(Net {
-        scope: 0,
-        name: Text::copy(alloc, name.as_bytes())?,
-        bit: None,
-        driver,
-    })
-}
-
-fn top(alloc: Global) -> Result<Scope, NoMemory> {
-    Ok(Scope {
-        parent: None,
-        name: Text::copy(alloc, b"t")?,
-        module: Text::copy(alloc, b"t")?,
-        scale: SCALE,
-        leaf: false,
-        variables: Vec::new(alloc),
-    })
+fn circuit_of(alloc: Global, text: &str) -> anyhow::Result<Circuit> {
+    let mut bytes = Vec::new(alloc);
+    bytes.extend_from_slice(text.as_bytes())?;
+    let files = [bytes];
+    let tokens = lex(alloc, &files)?;
+    let end = Place {
+        file: 0,
+        byte: text.len() as u64,
+    };
+    let Ok(source) = parse(alloc, &tokens, end) else {
+        anyhow::bail!("no netlist");
+    };
+    match elaborate(alloc, &source, None, Corner::Typ) {
+        Ok(circuit) => Ok(circuit),
+        Err(_) => anyhow::bail!("no circuit"),
+    }
 }
 
 fn part_name(part: Part) -> &'static str {
@@ -98,98 +77,71 @@ fn show_violations(out: &mut String, violations: &[Violation]) -> anyhow::Result
     Ok(())
 }
 
-impl Case<'_> {
-    fn driver(&self, number: u32) -> Driver {
-        match number.checked_sub(self.inputs) {
-            None => Driver::Stimulus,
-            Some(element) if (element as usize) < self.elements.len() => Driver::Element(element),
-            Some(_) => Driver::Notifier,
+// A line where the run ended before its end.
+fn show_end(out: &mut String, end: Result<(), SimEnd>) -> anyhow::Result<()> {
+    match end {
+        Ok(()) => Ok(()),
+        Err(SimEnd::RoundsSpent { time, net }) => {
+            writeln!(out, "rounds spent at {time} on {net}")?;
+            Ok(())
+        }
+        Err(SimEnd::WatchFailed | SimEnd::NoMemory) => anyhow::bail!("no end"),
+    }
+}
+
+impl Case {
+    /// Of nothing.
+    pub fn new(alloc: Global) -> Case {
+        Case {
+            title: String::new(alloc),
+            netlist: String::new(alloc),
+            stimulus: String::new(alloc),
+            is_read: false,
         }
     }
 
-    fn nets(&self, alloc: Global) -> Result<Vec<Net>, NoMemory> {
-        let mut nets = Vec::new(alloc);
-        for (name, number) in self.names.iter().zip(0..u32::MAX) {
-            nets.push(net(alloc, name, self.driver(number))?)?;
-        }
-        Ok(nets)
+    /// Of a title.
+    pub fn of(alloc: Global, title: &str) -> anyhow::Result<Case> {
+        let mut case = Case::new(alloc);
+        case.title.push_str(title)?;
+        Ok(case)
     }
 
-    fn elements(&self, alloc: Global) -> Result<Vec<Element>, NoMemory> {
-        let mut elements = Vec::new(alloc);
-        for ((kind, inputs), output) in self.elements.iter().zip(self.inputs..u32::MAX) {
-            elements.push(Element {
-                scope: 0,
-                inputs: SmallVec::from_slice(alloc, inputs)?,
-                output,
-                kind: *kind,
-            })?;
+    /// Adds a line of its netlist, or of its stimulus where the netlist is read.
+    pub fn add(&mut self, line: &str) -> anyhow::Result<()> {
+        if line == "stimulus" {
+            self.is_read = true;
+        } else if self.is_read {
+            writeln!(self.stimulus, "{line}")?;
+        } else {
+            writeln!(self.netlist, "{line}")?;
         }
-        Ok(elements)
-    }
-
-    // Gates have no delay, or rise in 1 tick and fall in 2.
-    fn parts(&self, alloc: Global) -> anyhow::Result<Parts> {
-        let mut made = Paths::of(alloc, self.paths)?;
-        let checks = Checks::of(alloc, self.names, self.checks, &mut made.conditions)?;
-        Ok(Parts {
-            tick: NS,
-            nets: self.nets(alloc)?,
-            elements: self.elements(alloc)?,
-            gate_delays: vec![in alloc;
-                GateDelays {
-                    count: 0,
-                    at: [0, 0, 0]
-                },
-                GateDelays {
-                    count: 2,
-                    at: [1, 2, 0]
-                },
-            ]?,
-            leg_timings: Vec::from_slice(alloc, self.timings)?,
-            paths: made.paths,
-            conditions: made.conditions,
-            udps: Vec::new(alloc),
-            checks: checks.checks,
-            check_timings: checks.timings,
-            check_conditions: checks.written,
-            scopes: vec![in alloc; top(alloc)?]?,
-            zeroed: Vec::new(alloc),
-        })
-    }
-
-    fn stimulus(&self, alloc: Global) -> Result<Stimulus, AllocError> {
-        let mut steps = Vec::new(alloc);
-        for (time, values) in self.sets {
-            let mut sets = Vec::new(alloc);
-            for (value, net) in values.iter().zip(0..u32::MAX) {
-                sets.push(Set { net, value: *value })?;
-            }
-            steps.push(StimStep { time: *time, sets })?;
-        }
-        Ok(Stimulus {
-            steps,
-            end: self.end,
-        })
+        Ok(())
     }
 
     // Its run, and the lines of the calls.
-    fn run<L: Ledger>(&self, alloc: Global, blank: Blank) -> anyhow::Result<(Finished, String)>
+    fn run<L: Ledger>(
+        &self,
+        alloc: Global,
+        circuit: &Circuit,
+        blank: Blank,
+    ) -> anyhow::Result<(Finished, String)>
         requires name { blank.name ≡ L.name }
         requires parts { blank.parts ≡ L.parts }
         requires some { 0 < blank.parts }
     {
-        let circuit = try_close(alloc, self.parts(alloc)?)?.context("no circuit")?;
-        let stimulus = self.stimulus(alloc)?;
-        if !stimulus.fits(&circuit) {
+        let Ok(stimulus) = read_stim(alloc, self.stimulus.as_bytes(), circuit) else {
+            anyhow::bail!("no stimulus");
+        };
+        if !stimulus.fits(circuit) {
             anyhow::bail!("no stimulus of the circuit");
         }
         let agenda = PlainAgenda::new(alloc, circuit.parts().elements.len() as u32)?;
-        let sim = Sim::new(alloc, &circuit, agenda)?;
+        let sim = Sim::new(alloc, circuit, agenda)?;
         let mut steps = Steps::<L>::new(blank);
         let mut shelf = MemoryShelf::new(alloc);
         let mut lines = Lines {
-            names: self.names,
+            nets: &circuit.parts().nets,
             text: String::new(alloc),
         };
         let finished = sim.run(&stimulus, ROUNDS, &mut shelf, &mut lines, &mut steps);
@@ -198,27 +150,18 @@ impl Case<'_> {
 
     /// Adds the lines of its run to a text.
     pub fn show(&self, alloc: Global, out: &mut String) -> anyhow::Result<()> {
-        let (finished, text) = self.run::<Brand>(alloc, Blank::new(1))?;
-        let title = self.title;
+        if self.title.is_empty() {
+            return Ok(());
+        }
+        let circuit = circuit_of(alloc, &self.netlist)?;
+        let (finished, text) = self.run::<Brand>(alloc, &circuit, Blank::new(1))?;
+        let title = &self.title;
         let evaluations = finished.tally.evaluations;
         let last = finished.tally.last;
         write!(out, "{title}\n{text}")?;
         show_violations(out, &finished.tally.violations)?;
-        self.show_end(out, finished.end)?;
+        show_end(out, finished.end)?;
         write!(out, "evaluations {evaluations}, last {last}\n\n")?;
         Ok(())
-    }
-
-    // A line where the run ended before its end.
-    fn show_end(&self, out: &mut String, end: Result<(), SimEnd>) -> anyhow::Result<()> {
-        match end {
-            Ok(()) => Ok(()),
-            Err(SimEnd::RoundsSpent { time, net }) => {
-                let name = *self.names.get(net as usize).context("no net")?;
-                writeln!(out, "rounds spent at {time} on {name}")?;
-                Ok(())
-            }
-            Err(SimEnd::WatchFailed | SimEnd::NoMemory) => anyhow::bail!("no end"),
-        }
     }
 }

@@ -1,15 +1,16 @@
 // A watcher that writes a line for each call.
 use cond_expr::Nets;
+use sg_circuit::Net;
 use sg_io::{Shelf, ShelfError};
 use sg_logic::Value;
 use sim_times::Watch;
 use std::alloc::AllocError;
 use time_checks::Change;
 
-/// The lines of the calls so far. Nets are shown in the order of their names here.
+/// The lines of the calls so far. Nets are shown in order, each by its number and its name.
 #[derive(Drop)]
 pub struct Lines<'a> {
-    pub names: &'a [&'a str],
+    pub nets: &'a [Net],
     pub text: String,
 }
 
@@ -25,12 +26,12 @@ fn letter(value: Value) -> &'static str {
 impl Lines<'_> {
     fn tell(&mut self, time: u64, changed: &[Change]) -> Result<(), AllocError> {
         write!(self.text, "{time}")?;
-        for (number, name) in self.names.iter().enumerate() {
+        for (number, net) in self.nets.iter().enumerate() {
             if let Some(change) = changed.iter().find(|c| c.net as usize == number) {
-                let name = *name;
+                let name = std::str::from_utf8(net.name.bytes()).unwrap_or("?");
                 let from = letter(change.from);
                 let to = letter(change.to);
-                write!(self.text, " {name}:{from}{to}")?;
+                write!(self.text, " {number}.{name}:{from}{to}")?;
             }
         }
         self.text.push('\n')

@@ -1,5 +1,0 @@
-//! Circuits whose parts fit together, and some whose parts don't.
-#![tactic(auto)]
-
-#[cfg(test)]
-mod circuits;
