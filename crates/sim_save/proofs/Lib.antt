@@ -11,6 +11,7 @@ pub mod SameLaws
 pub mod CutLaws
 pub mod NumberLaws
 pub mod TakeLaws
+pub mod RoomLaws
 pub mod SectionLaws
 pub mod OnceLaws
 pub mod ReadLaws

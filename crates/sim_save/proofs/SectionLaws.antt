@@ -24,6 +24,7 @@ use Rattle.sim_save.specs.declared.kinds.Stop.TheVariants as stop
 use Rattle.sim_save.specs.Taking.{Is64, NoLine, NotBehind}
 use Rattle.sim_save.proofs.MomentLaws.{counted, leads_checks, leads_counters, leads_end, leads_nets, leads_pending, leads_udps}
 use Rattle.sim_save.proofs.PushLaws.{body_parts}
+use Rattle.sim_save.proofs.RoomLaws.{no_transition_runs_out, runs_behind}
 use Rattle.sim_save.proofs.StepLaws.{leads_append, leads_nil, uncons}
 
 joined_push : (lines : List (List ℕ)) (line : List ℕ) → joined (lines ++ line ∷ []) ≡ joined lines ++ line
@@ -226,33 +227,36 @@ no_transition_ends udps checks text left h e = later_ends udps checks e.lines e.
 pub head_ends : (half : List ℕ) → NoLine IsHead half → EndsEarly Head half (length half)
 head_ends half h = record { lines = []; need = Head; rest = half; is = refl; leads = none; ends = λ line behind b e t. h line behind e t.0; early = λ e n. absurd (cc); many = refl }
 
+pub stops_behind : (a b : Need) (lines : List (List ℕ)) (text rest : List ℕ) → Leads a lines b → text ≡ joined lines ++ rest → (e : Stop) → Stops b rest e → Stops a text e
+stops_behind a b lines text rest p e (stop.Line left) h = ends_behind a b lines text rest left p e h
+stops_behind a b lines text rest p e stop.NoMemory h = runs_behind a b lines text rest p e h
+
+no_transition_stops : (udps checks : ℕ) (text : List ℕ) → NoLine IsTransition text → (e : Stop) → Stops (Udps udps checks) text e → Stops (Nets zero udps checks) text e
+no_transition_stops udps checks text no_more (stop.Line left) h = no_transition_ends udps checks text left no_more h
+no_transition_stops udps checks text no_more stop.NoMemory h = no_transition_runs_out udps checks text h
+
 -- ---- through the parts of a half
 
-pub through_head : (h : Counts) (half left : List ℕ) → AreCounts h × (half ≡ counts_line h ++ left) → (n : ℕ) → EndsEarly (Nets h.nets h.udps h.checks) left n → EndsEarly Head half n
-through_head h half left (fit, is) n e =
+pub through_head : (h : Counts) (half left : List ℕ) → AreCounts h × (half ≡ counts_line h ++ left) → (e : Stop) → Stops (Nets h.nets h.udps h.checks) left e → Stops Head half e
+through_head h half left (fit, is) e s =
     let head : IsHead (counts_line h) = record { counts = h; is = refl; fit = fit } in
-    ends_behind Head (Nets h.nets h.udps h.checks) (counts_line h ∷ []) half left n (more {a = Head} {b = Nets h.nets h.udps h.checks} (head, refl) none) (is ∙ ap (λ t. t ++ left) (sym (append-nil (counts_line h)))) e
+    stops_behind Head (Nets h.nets h.udps h.checks) (counts_line h ∷ []) half left (more {a = Head} {b = Nets h.nets h.udps h.checks} (head, refl) none) (is ∙ ap (λ t. t ++ left) (sym (append-nil (counts_line h)))) e s
 
-pub through_nets : (nets : List Value) (changes : List (Option LastChange)) (text left : List ℕ) (count udps checks : ℕ) → AreNets nets changes text left × (length nets ≡ count) → (n : ℕ) → EndsEarly (Nets zero udps checks) left n → EndsEarly (Nets count udps checks) text n
-through_nets nets changes text left count udps checks (h, many) n e =
+pub through_nets : (nets : List Value) (changes : List (Option LastChange)) (text left : List ℕ) (count udps checks : ℕ) → AreNets nets changes text left × (length nets ≡ count) → (e : Stop) → Stops (Nets zero udps checks) left e → Stops (Nets count udps checks) text e
+through_nets nets changes text left count udps checks (h, many) e s =
     let seen = map change_seen changes in
-    ends_behind (Nets count udps checks) (Nets zero udps checks) (net_lines nets seen) text left n (leads_nets nets seen count zero udps checks (omega (arith, many)) h.fit) h.is e
+    stops_behind (Nets count udps checks) (Nets zero udps checks) (net_lines nets seen) text left (leads_nets nets seen count zero udps checks (omega (arith, many)) h.fit) h.is e s
 
-pub through_pending : (pending : List code_pending.Pending) (text left : List ℕ) (udps checks : ℕ) → AreTransitions pending text left × NoLine IsTransition left → (n : ℕ) → EndsEarly (Udps udps checks) left n → EndsEarly (Nets zero udps checks) text n
-through_pending pending text left udps checks (h, no_more) n e =
+pub through_pending : (pending : List code_pending.Pending) (text left : List ℕ) (udps checks : ℕ) → AreTransitions pending text left × NoLine IsTransition left → (e : Stop) → Stops (Udps udps checks) left e → Stops (Nets zero udps checks) text e
+through_pending pending text left udps checks (h, no_more) e s =
     let seen = map (λ p. pending_seen p) pending in
-    ends_behind (Nets zero udps checks) (Nets zero udps checks) (map pending_line seen) text left n (leads_pending seen udps checks h.fit) h.is (no_transition_ends udps checks left n no_more e)
+    stops_behind (Nets zero udps checks) (Nets zero udps checks) (map pending_line seen) text left (leads_pending seen udps checks h.fit) h.is e (no_transition_stops udps checks left no_more e s)
 
-pub through_udps : (udps : List Value) (text left : List ℕ) (count checks : ℕ) → AreUdps udps text left × (length udps ≡ count) → (n : ℕ) → EndsEarly (Udps zero checks) left n → EndsEarly (Udps count checks) text n
-through_udps udps text left count checks (h, many) n e = ends_behind (Udps count checks) (Udps zero checks) (map udp_line udps) text left n (leads_udps udps count zero checks (omega (arith, many))) h.is e
+pub through_udps : (udps : List Value) (text left : List ℕ) (count checks : ℕ) → AreUdps udps text left × (length udps ≡ count) → (e : Stop) → Stops (Udps zero checks) left e → Stops (Udps count checks) text e
+through_udps udps text left count checks (h, many) e s = stops_behind (Udps count checks) (Udps zero checks) (map udp_line udps) text left (leads_udps udps count zero checks (omega (arith, many))) h.is e s
 
-pub through_checks : (latest : List Latest) (text left : List ℕ) (count : ℕ) → AreChecks latest text left × (length latest ≡ count) → (n : ℕ) → EndsEarly (Udps zero zero) left n → EndsEarly (Udps zero count) text n
-through_checks latest text left count (h, many) n e = ends_behind (Udps zero count) (Udps zero zero) (map check_line latest) text left n (leads_checks latest count zero (omega (arith, many)) h.fit) h.is e
-
--- want of memory stays so
-pub stops_through : (a b : Need) (text left : List ℕ) → ((n : ℕ) → EndsEarly b left n → EndsEarly a text n) → (e : Stop) → Stops b left e → Stops a text e
-stops_through a b text left through (stop.Line n) h = through n h
-stops_through a b text left through stop.NoMemory h = tt
+pub through_checks : (latest : List Latest) (text left : List ℕ) (count : ℕ) → AreChecks latest text left × (length latest ≡ count) → (e : Stop) → Stops (Udps zero zero) left e → Stops (Udps zero count) text e
+through_checks latest text left count (h, many) e s = stops_behind (Udps zero count) (Udps zero zero) (map check_line latest) text left (leads_checks latest count zero (omega (arith, many)) h.fit) h.is e s
 
 -- ---- a whole half
 

@@ -1,5 +1,5 @@
 -- How the lines of a body follow one another.
-use Rattle.std.specs.Prelude.{ℕ, ℤ, zero, suc, ◌≡◌, ◌++◌, ◌<◌, ◌^◌, ◌⊎◌, List, [], ◌∷◌, codes, length}
+use Rattle.std.specs.Prelude.{ℕ, ℤ, zero, suc, ◌≡◌, ◌≢◌, ◌++◌, ◌<◌, ◌^◌, ◌⊎◌, List, [], ◌∷◌, codes, length}
 use Rattle.std.specs.Fmt.{signed_decimal}
 use Rattle.std.specs.declared.option.Option.{Option}
 use Rattle.std.specs.declared.option.Option.TheVariants.{Some, None}
@@ -122,7 +122,18 @@ pub record EndsEarly (a : Need) (text : List ℕ) (left : ℕ) : Type 0 where
   pub early : need ≡ Nothing → rest ≡ [] → ⊥
   pub many : left ≡ length rest
 
--- want of memory is free
+-- memory runs out: behind a line that may come and isn't the head, so that no head asks for room by its numbers alone
+pub record RunsOut (a : Need) (text : List ℕ) : Type 0 where
+  pub lines : List (List ℕ)
+  pub need : Need
+  pub last : List ℕ
+  pub next : Need
+  pub rest : List ℕ
+  pub is : text ≡ joined lines ++ last ++ rest
+  pub leads : Leads a lines need
+  pub takes : Takes need last next
+  pub not_head : need ≢ Head
+
 abbrev pub Stops : Need → List ℕ → Stop → Type 0
 Stops a text (stop.Line left) = EndsEarly a text left
-Stops a text stop.NoMemory = Unit {0}
+Stops a text stop.NoMemory = RunsOut a text

@@ -8,7 +8,7 @@ ghost use Rattle.sim_rounds.specs.MomentsSeen.{moment_seen};
 ghost use Rattle.sim_save.specs.Faults.{IsBodyOf, IsOfCircuit};
 ghost use Rattle.sim_save.specs.Lines.{save_text as text_of};
 ghost use Rattle.sim_save.specs.Reading.{GivesBack, IsDamaged, IsRead, IsRefused, IsTextOf, RefusalStands};
-ghost use Rattle.sim_save.specs.Refusing.{RefusesHalf, is_udp_kind};
+ghost use Rattle.sim_save.specs.Refusing.{RefusesHalf, Wants, is_udp_kind};
 ghost use Rattle.sim_save.specs.Steps.{Head, Stops};
 
 use crate::bodies::{Saved, read_body};
@@ -101,6 +101,7 @@ fn read_text(
     requires { circuit_seen parts.now ≡ circuit.now }
     ensures read { IfOk result (λ m. IsRead bytes.now circuit.now end (moment_seen m)) }
     ensures refused { IfErr result (λ r. RefusalStands bytes.now circuit.now end r) }
+    ensures wanting { IfErr result (λ r. Wants bytes.now r) }
 {
     if bytes.len() > MOST_BYTES {
         return Err(fault(SaveKind::TooLarge, MOST_BYTES));
@@ -131,6 +132,8 @@ pub fn read_save(
 ) -> Result<Moment, Refused<SaveKind>>
     ensures read { IfOk result (λ m. IsRead bytes.now circuit.now end (moment_seen m)) }
     ensures refused { IfErr result (λ r. RefusalStands bytes.now circuit.now end r) }
+    // No memory is wanted before the line behind the head was read.
+    ensures wanting { IfErr result (λ r. Wants bytes.now r) }
     // The text of a moment gives it back; a damaged text gives none.
     ensures given_back { (m : NetMoment) → IsTextOf bytes.now circuit.now end m → GivesBack m result }
     ensures damaged { (m : NetMoment) → Fits circuit.now m → IsDamaged (text_of circuit.now m) bytes.now → IsRefused result }

@@ -2,7 +2,7 @@
 ghost use Rattle.std.specs.Prelude.{◌≡◌, ◌++◌, ℕ, zero, [], IfErr, IfOk, length};
 ghost use Rattle.sim_save.specs.Lines.{end_line};
 ghost use Rattle.sim_save.specs.Sections.{AreChecks, AreNets, AreTransitions, AreUdps};
-ghost use Rattle.sim_save.specs.Steps.{IsTransition, Nets, Stops, Udps, counters_line};
+ghost use Rattle.sim_save.specs.Steps.{IsTransition, Nets, RunsOut, Stops, Udps, counters_line};
 ghost use Rattle.sim_save.specs.Taking.{Is64, NoLine};
 ghost use Rattle.sim_save.specs.declared.kinds.Stop.TheVariants as stop;
 
@@ -47,7 +47,8 @@ pub fn read_nets<'a>(
 /// The lines of pending transitions, as many as there are.
 pub fn read_pending<'a>(pending: &mut Vec<Pending>, text: &'a [u8]) -> Result<&'a [u8], AllocError>
     requires { pending.old.items ≡ [] }
-    ensures { IfOk result (λ left. AreTransitions pending.new.items text.now left.now × NoLine IsTransition left.now) }
+    ensures read { IfOk result (λ left. AreTransitions pending.new.items text.now left.now × NoLine IsTransition left.now) }
+    ensures wants { (udps checks : ℕ) → IfErr result (λ _. RunsOut (Nets zero udps checks) text.now) }
 {
     let mut left = text;
     while let Some((transition, behind)) = take_pending(left) {

@@ -2,11 +2,11 @@
 use Rattle.std.proofs.Common.{◌≡◌, ◌∙◌, sym, ap, subst, refl, ℕ, ◌+◌, List, [], ◌++◌, length, take, drop, append_assoc, inr}
 use Rattle.std.proofs.lemmas.List.{take-append-drop}
 use Rattle.std.proofs.Math.Seq.{take-append_seam, take-append-add}
-use Rattle.std.specs.Prelude.{Option, Some, None, Ok, Err, unwrap_or}
+use Rattle.std.specs.Prelude.{Option, Some, None, Result, Ok, Err, unwrap_or}
 use Rattle.sg_io.specs.Files.{File, Appended, Appends, BothTell, Creates, bytes_of}
 use Rattle.sg_io.specs.declared.outside.ShelfError.{ShelfError}
 use Rattle.sg_io.specs.declared.outside.ShelfError.TheVariants as shelf
-use Rattle.wave_out.specs.Files.{FileBegins, FileHolds, LeavesPrefix}
+use Rattle.wave_out.specs.Files.{FileBegins, FileHolds, LeavesPrefix, LeavesWanting}
 
 -- who tells afterwards told before
 pub told_before : {A : Type 0} (P : A → A → Type 0) (old new : Option A) (y : A) → BothTell old new P → new ≡ Some y → (x : A) × (old ≡ Some x) × P x y
@@ -59,3 +59,18 @@ begun name text whole e None None (Some z) same h k = absurd k
 begun name text whole e None (Some y) c same h k = absurd h
 begun name text whole e (Some x) None c same h k = absurd h
 begun name text whole e (Some x) (Some y) None same h k = absurd k
+
+-- want of memory, where the file was made: it is empty
+begun_left : (X : Type 0) (name text : List ℕ) (e : ShelfError) (a b c : Option (List File)) → Creates name a b (Ok tt) → Appends name text b c (Err e) → BothTell a c (LeavesWanting {X = X} name (Err e))
+begun_left X name text shelf.Failed (Some x) (Some y) (Some z) h k = tt
+begun_left X name text shelf.NoMemory (Some x) (Some y) (Some z) h k = inr (record { this = ap (bytes_of name) k ∙ h.this; others = λ q other. ap (bytes_of q) k ∙ h.others q other })
+begun_left X name text e None None None h k = tt
+begun_left X name text e None None (Some z) h k = absurd k
+begun_left X name text e None (Some y) c h k = absurd h
+begun_left X name text e (Some x) None c h k = absurd h
+begun_left X name text e (Some x) (Some y) None h k = absurd k
+
+pub begun_wanting : (X : Type 0) (name text : List ℕ) (result : Result X ShelfError) (e : ShelfError) (a b c : Option (List File)) → ((x : ShelfError) × (result ≡ Err x) × (x ≡ e)) → Creates name a b (Ok tt) → Appends name text b c (Err e)
+    → BothTell a c (LeavesWanting name result)
+begun_wanting X name text result e a b c (x, r, s) h k =
+    subst (λ y. BothTell a c (LeavesWanting name y)) (sym r) (subst (λ y. BothTell a c (LeavesWanting {X = X} name (Err y))) (sym s) (begun_left X name text e a b c h k))

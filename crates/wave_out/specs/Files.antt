@@ -1,8 +1,9 @@
 -- What calls on a shelf leave in the file of a name, and in the others.
-use Rattle.std.specs.Prelude.{ℕ, ◌≡◌, ◌≢◌, ◌⊎◌, List, Option, Some, None, Result, Ok, Err, take, refl}
+use Rattle.std.specs.Prelude.{ℕ, ◌≡◌, ◌≢◌, ◌⊎◌, List, [], Option, Some, None, Result, Ok, Err, take, refl}
 use Rattle.std.proofs.Common.{◌∙◌}
 use Rattle.sg_io.specs.Files.{File, HasAfter, bytes_of, BothTell}
 use Rattle.sg_io.specs.declared.outside.ShelfError.{ShelfError}
+use Rattle.sg_io.specs.declared.outside.ShelfError.TheVariants as shelf
 
 -- every file but that of this name reads as before
 abbrev pub OthersStay : List ℕ → List File → List File → Type 0
@@ -27,6 +28,16 @@ pub record LeavesPrefix (name text : List ℕ) (old new : List File) : Type 0 wh
 abbrev pub Leaves : {X : Type 0} → List ℕ → List ℕ → Result X ShelfError → List File → List File → Type 0
 Leaves name text (Ok _) old new = HasAfter name text old new
 Leaves name text (Err _) old new = LeavesPrefix name text old new
+
+-- nothing happened, or the file of this name was made, and is empty
+abbrev pub IsBegun : List ℕ → List File → List File → Type 0
+IsBegun name old new = (new ≡ old) ⊎ HasAfter name [] old new
+
+-- what want of memory may leave
+abbrev pub LeavesWanting : {X : Type 0} → List ℕ → Result X ShelfError → List File → List File → Type 0
+LeavesWanting name (Ok _) old new = Unit {0}
+LeavesWanting name (Err shelf.Failed) old new = Unit {0}
+LeavesWanting name (Err shelf.NoMemory) old new = IsBegun name old new
 
 -- the other files stay where nothing happens, and through several calls
 pub others_same : (name : List ℕ) (told : Option (List File)) → KeepsOthers name told told

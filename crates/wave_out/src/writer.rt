@@ -2,7 +2,7 @@
 ghost use Rattle.std.specs.Prelude.{◌≡◌, ◌≤◌, ◌∷◌, [], None, Some, IfOk, OnErr, length};
 ghost use Rattle.sg_io.specs.Faults.{Cause, NamesFault};
 ghost use Rattle.sg_io.specs.Files.{BothTell};
-ghost use Rattle.wave_out.specs.Files.{Leaves};
+ghost use Rattle.wave_out.specs.Files.{Leaves, LeavesWanting};
 ghost use Rattle.wave_out.specs.Vcd.{header};
 
 use crate::header::header_of;
@@ -51,7 +51,7 @@ impl<'a> VcdWriter<'a> {
     ghost use Rattle.wave_out.specs.Writing.{LeavesText};
 
     /// A writer that has written the header to a new file of this name, by one call to append. Without it the file is as
-    /// before, or holds the first bytes of the header.
+    /// before, or holds the first bytes of the header; for want of memory it is as before, or empty.
     pub fn new<S: Shelf>(
         alloc: Global,
         circuit: &'a Circuit,
@@ -60,6 +60,7 @@ impl<'a> VcdWriter<'a> {
     ) -> Result<VcdWriter<'a>, ShelfError>
         ensures writer { IfOk result (λ w. w ≡ record { name = name.now; circuit = circuit.now; last = None }) }
         ensures file { BothTell (S.files shelf.old) (S.files shelf.new) (Leaves name.now (header circuit.now) result) }
+        ensures wanting { BothTell (S.files shelf.old) (S.files shelf.new) (LeavesWanting name.now result) }
         ensures cause { Cause (S.fault_count shelf.old) (S.fault_count shelf.new) result }
         ensures named { NamesFault name.now (S.last_fault shelf.old) (S.last_fault shelf.new) result }
     {

@@ -15,3 +15,6 @@ pub returns-in-Line : goal.returns-in-Line
 returns-in-Line c =
     let h = subst (Stops Head c.args.half.now) c.in-Line.is c.requires in
     subst (RefusesHalf c.args.half.now) (sym c.fault.ensures) (refl, refl, no_body c.args.half.now c.in-Line.left h)
+
+pub returns-in-NoMemory : goal.returns-in-NoMemory
+returns-in-NoMemory c = subst (Stops Head c.args.half.now) c.in-NoMemory.is c.requires

@@ -1,6 +1,10 @@
 -- One check more.
 use Rattle.std.proofs.Common.{◌<◌, length, subst, sym, zero, arith}
+use Rattle.std.proofs.lemmas.Result.{err_from_is_err_and}
 use Rattle.sim_save.specs.Steps.{Stops, Udps}
+use Rattle.sim_save.specs.declared.kinds.Stop.TheVariants as stop
+use Rattle.sim_save.proofs.Exits.{exit_by}
+use Rattle.sim_save.proofs.RoomLaws.{check_runs_out}
 use Rattle.sim_save.proofs.SectionLaws.{check_ends, check_more, one_more}
 use Rattle.sim_save.proofs.sections.read_checks.Goals as goal
 
@@ -17,3 +21,9 @@ returns-in_default-clause-stops c =
     let less : length c.loop-left.latest.items < c.args.count = omega (arith, c.loop-left-test.true, c.len.ensures, c.loop-left.latest.ok.0) in
     subst (Stops (Udps zero c.args.count) c.args.text.now) (sym c.stop_at.ensures)
     (check_ends c.loop-left.latest.items c.args.text.now c.loop-left.left.now c.args.count c.loop-left.invariant.so_far less c.in_default.ensures)
+
+pub returns-in_err-push-clause-stops : goal.returns-in_err-push-clause-stops
+returns-in_err-push-clause-stops c =
+    let less : length c.loop-left.latest.items < c.args.count = omega (arith, c.loop-left-test.true, c.len.ensures, c.loop-left.latest.ok.0) in
+    exit_by (Stops (Udps zero c.args.count) c.args.text.now) c.from_residual.result stop.NoMemory (err_from_is_err_and c.from_residual.result c.from_residual.ensures.1)
+    (check_runs_out c.loop-left.latest.items c.in-Some.known c.args.text.now c.loop-left.left.now c.in-Some.behind.now c.args.count c.loop-left.invariant.so_far less c.in-Some.ensures)
