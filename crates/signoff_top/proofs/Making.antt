@@ -2,11 +2,14 @@
 use Rattle.std.proofs.Common.{◌≡◌, ◌≢◌, ◌∙◌, sym, ap, subst, refl, inl, inr, ℕ, All, List, [], ◌∷◌, ◌++◌, length, arith}
 use Rattle.std.proofs.lemmas.List.{take_all}
 use Rattle.std.proofs.lemmas.List.Elements.{All-tail}
-use Rattle.std.specs.Prelude.{Some}
-use Rattle.sg_io.specs.Files.{File, HasAfter, bytes_of}
-use Rattle.wave_out.specs.Files.{LeavesPrefix}
+use Rattle.std.specs.Prelude.{Option, Some, Result, Ok, Err}
+use Rattle.sg_io.specs.Files.{File, Appended, BothTell, Created, HasAfter, bytes_of}
+use Rattle.sg_io.specs.declared.outside.ShelfError.{ShelfError}
+use Rattle.sg_io.specs.declared.outside.ShelfError.TheVariants as shelf
+use Rattle.wave_out.specs.Files.{IsBegun, LeavesPrefix, LeavesWanting}
 use Rattle.signoff_top.specs.Answer.{FilesAfter}
 use Rattle.signoff_top.specs.Promises.{KeepsBut, KeepsByWords}
+use Rattle.signoff_top.proofs.Putting.{both_map, both_then}
 
 -- what is made, is begun
 whole_begun : (name bytes : List ℕ) (old new : List File) → HasAfter name bytes old new → LeavesPrefix name bytes old new
@@ -64,3 +67,16 @@ pub begun_by_words : (names : List (List ℕ)) (made old new : List File) → Ar
 begun_by_words [] [] old new n same = same
 begun_by_words [] (f ∷ more) old new n left = absurd n
 begun_by_words (m ∷ names) made old new n left = λ q other. others_stay (m ∷ names) made old new n left q other
+
+-- what want of memory leaves of one file, where it wasn't created
+pub not_created : (name : List ℕ) (e : ShelfError) (old new : Option (List File)) → BothTell old new (Created name (Err e)) → BothTell old new (LeavesWanting {X = Unit {0}} name (Err e))
+not_created name shelf.Failed old new h = both_map (Created name (Err shelf.Failed)) (λ x y. Unit {0}) old new h (λ x y same. tt)
+not_created name shelf.NoMemory old new h = both_map (Created name (Err shelf.NoMemory)) (IsBegun name) old new h (λ x y same. inl same)
+
+-- where it was, and the text wasn't added, or was
+pub not_added : (name text : List ℕ) (e : ShelfError) (old mid new : Option (List File)) → BothTell old mid (Created name (Ok tt)) → BothTell mid new (Appended name text (Err e)) → BothTell old new (LeavesWanting {X = Unit {0}} name (Err e))
+not_added name text shelf.Failed old mid new h k = both_then (HasAfter name []) (Appended name text (Err shelf.Failed)) (λ x z. Unit {0}) old mid new h k (λ x y z p q. tt)
+not_added name text shelf.NoMemory old mid new h k = both_then (HasAfter name []) (Appended name text (Err shelf.NoMemory)) (IsBegun name) old mid new h k (λ x y z p same. inr (subst (HasAfter name [] x) (sym same) p))
+
+pub added : (name text : List ℕ) (old mid new : Option (List File)) → BothTell old mid (Created name (Ok tt)) → BothTell mid new (Appended name text (Ok tt)) → BothTell old new (LeavesWanting {X = Unit {0}} name (Ok tt))
+added name text old mid new h k = both_then (HasAfter name []) (Appended name text (Ok tt)) (λ x z. Unit {0}) old mid new h k (λ x y z p q. tt)

@@ -6,9 +6,10 @@ use Rattle.sg_io.specs.Faults.{Cause, Rises, Rose}
 use Rattle.sg_io.specs.Put.{SinkTold}
 use Rattle.sg_io.proofs.Tell.{both_told}
 use Rattle.sg_model.specs.Machine.{Violation}
+use Rattle.wave_out.specs.Files.{IsBegun}
 use Rattle.run_report.specs.Spent.{spent_seen}
 use Rattle.run_dump.specs.RunEnds.{violations_of}
-use Rattle.run_words.specs.Words.{Asked, asked_of, made_in, names_in}
+use Rattle.run_words.specs.Words.{Asked, Writing, a_writing, asked_of, made_in, names_in}
 use Rattle.signoff_top.specs.Answer.{Answer, IsAnswer, refusal_answer, status_of_run, fault_line}
 use Rattle.signoff_top.specs.Phases.{Refusal, words, missing, netlist, save, sdf, stimulus, unwritten, status_of_refusal, refusal_line}
 use Rattle.signoff_top.specs.Promises.{ShelfTold, IsRight, FitsWords, HasAnswer, FaultAt, at_netlist, at_sdf, at_stimulus, at_state, at_made, NamesFaultAt, LeavesUnfinished, whole, till_fault, Outcome, answered, shelf_fault, sink_fault, no_memory, sink_want, IsExact, IsStatusOf, KeepsBut, KeepsByAnswer, KeepsByWords, IsUsage}
@@ -16,7 +17,7 @@ use Rattle.signoff_top.specs.Putting.{PutsAll, PutsLast}
 use Rattle.signoff_top.specs.Putting as putting
 use Rattle.signoff_top.specs.Status.{IsDecided, IsRunEnd, is_run_end}
 use Rattle.signoff_top.specs.Stops.{refusal_seen, IfFailed, SparesWords, StopWords, end_of_phase}
-use Rattle.signoff_top.specs.Work.{WorkLeaves, Tells, TellsStop, TellsEnd, quiet_violations, settle_status, status_of_done, stop_violations, text_of_done}
+use Rattle.signoff_top.specs.Work.{LeavesDelays, WorkLeaves, Tells, TellsDone, TellsMade, TellsStop, TellsEnd, quiet_violations, settle_status, status_of_done, stop_violations, text_of_done}
 use Rattle.signoff_top.specs.Work as telling
 use Rattle.signoff_top.specs.declared.status.Status.{Status}
 use Rattle.signoff_top.specs.declared.status.Status.TheVariants as status
@@ -109,14 +110,34 @@ refused_right : (ws : List (List ℕ)) (r : code_refusal.Refusal) (old new : Lis
     → IsRight ws (status_of_refusal (refusal_seen r)) (refusal_line (refusal_seen r)) old new
 refused_right ws r old new h = record { answer = refusal_answer (refusal_seen r); right = h.0; status = refl; report = refl; files = h.1 }
 
--- an answer, and how it was told
+-- an answer, and how its report was told, which there was memory for
+made_case : (ws : List (List ℕ)) (planned how : Status) (text : List ℕ) (shelf shelf' : ShelfTold) (sink sink' : SinkTold)
+    → HasAnswer ws planned text shelf shelf' → TellsMade text planned sink sink' how → Outcome ws shelf shelf' sink sink' how
+made_case ws planned _ text shelf shelf' sink sink' h (telling.told r) = answered planned text h r
+made_case ws planned _ text shelf shelf' sink sink' h (telling.fault cut e f l) = sink_fault planned text cut h e f l
+made_case ws planned _ text shelf shelf' sink sink' h (telling.want cut w l) = sink_want planned text cut h w l
+
+-- where a file of delays is asked for, it wasn't begun, or nothing was written to it
+abbrev BeginsDelays : List (List ℕ) → ShelfTold → ShelfTold → Type 0
+BeginsDelays ws shelf shelf' = (w : Writing) → asked_of ws ≡ Some (a_writing w) → BothTell shelf.files shelf'.files (IsBegun w.out)
+
+-- the same where there may have been none
 told_case : (ws : List (List ℕ)) (planned how : Status) (text : List ℕ) (shelf shelf' : ShelfTold) (sink sink' : SinkTold)
-    → HasAnswer ws planned text shelf shelf' → Tells text planned sink sink' how → Outcome ws shelf shelf' sink sink' how
-told_case ws planned _ text shelf shelf' sink sink' h (telling.told r) = answered planned text h r
-told_case ws planned _ text shelf shelf' sink sink' h (telling.fault cut e f l) = sink_fault planned text cut h e f l
-told_case ws planned _ text shelf shelf' sink sink' h (telling.want cut w l) = sink_want planned text cut h w l
-told_case ws planned _ text shelf shelf' sink sink' h (telling.no_memory l) =
-    no_memory h.faults (both_map (IsRight ws planned text) (LeavesUnfinished ws) shelf.files shelf'.files h.files (λ x y r. right_unfinished ws planned text x y r)) l
+    → HasAnswer ws planned text shelf shelf' → BeginsDelays ws shelf shelf' → Tells text planned sink sink' how → Outcome ws shelf shelf' sink sink' how
+told_case ws planned _ text shelf shelf' sink sink' h b (telling.made how t) = made_case ws planned how text shelf shelf' sink sink' h t
+told_case ws planned _ text shelf shelf' sink sink' h b (telling.no_memory l) =
+    no_memory h.faults (both_map (IsRight ws planned text) (LeavesUnfinished ws) shelf.files shelf'.files h.files (λ x y r. right_unfinished ws planned text x y r)) b l
+
+-- what was done, and how it was told
+module _ (ws : List (List ℕ)) (how : Status) (shelf shelf' : ShelfTold) (sink sink' : SinkTold) where
+  pub done_case : (d : code_done.Done) → HasAnswer ws (status_of_done d) (text_of_done d) shelf shelf' → ((w : Writing) → asked_of ws ≡ Some (a_writing w) → LeavesDelays w.out (Ok d) shelf.files shelf'.files)
+      → TellsDone d sink sink' how → Outcome ws shelf shelf' sink sink' how
+  done_case (done.Run d) h b t = told_case ws _ how _ shelf shelf' sink sink' h (λ w e. absurd (b w e)) t
+  done_case (done.Stop d) h b t = told_case ws _ how _ shelf shelf' sink sink' h (λ w e. absurd (b w e)) t
+  done_case (done.Unsaved d) h b t = told_case ws _ how _ shelf shelf' sink sink' h (λ w e. absurd (b w e)) t
+  done_case (done.Writing d) h b t = made_case ws _ how _ shelf shelf' sink sink' h t
+  done_case (done.Bounds d) h b t = told_case ws _ how _ shelf shelf' sink sink' h (λ w e. absurd (b w e)) t
+  done_case (done.Case d) h b t = told_case ws _ how _ shelf shelf' sink sink' h (λ w e. absurd (b w e)) t
 
 failed_case : (ws : List (List ℕ)) (how : Status) (shelf shelf' : ShelfTold) (sink sink' : SinkTold)
     → Rises shelf.faults shelf'.faults → NamesFaultAt ws shelf.files shelf'.files shelf'.last → TellsStop shelf'.last stop.Failed sink sink' how → Outcome ws shelf shelf' sink sink' how
@@ -125,15 +146,16 @@ failed_case ws how shelf shelf' sink sink' c n t =
 
 pub outcome : (ws : List (List ℕ)) (end : Result code_done.Done code_stop.Stop) (how : Status) (shelf shelf' : ShelfTold) (sink sink' : SinkTold)
     → BothTell shelf.files shelf'.files (WorkLeaves ws end) → Cause shelf.faults shelf'.faults (end_of_phase end) → IfFailed (NamesFaultAt ws shelf.files shelf'.files shelf'.last) end
-    → StopWords (asked_of ws) (λ _ _. Unit {0}) end → TellsEnd shelf'.last end sink sink' how → Outcome ws shelf shelf' sink sink' how
-outcome ws (Ok d) how shelf shelf' sink sink' l c n w t =
-    told_case ws (status_of_done d) how (text_of_done d) shelf shelf' sink sink' (record {
+    → StopWords (asked_of ws) (λ _ _. Unit {0}) end → ((w : Writing) → asked_of ws ≡ Some (a_writing w) → LeavesDelays w.out end shelf.files shelf'.files) → TellsEnd shelf'.last end sink sink' how
+    → Outcome ws shelf shelf' sink sink' how
+outcome ws (Ok d) how shelf shelf' sink sink' l c n w b t =
+    done_case ws how shelf shelf' sink sink' d (record {
       decided = done_decided d;
       words = done_fits (asked_of ws) (λ _ _. Unit {0}) d (text_of_done d) w;
       faults = c;
       files = l;
-    }) t
-outcome ws (Err (stop.Refused r)) how shelf shelf' sink sink' l c n w t =
+    }) b t
+outcome ws (Err (stop.Refused r)) how shelf shelf' sink sink' l c n w b t =
     let planned = status_of_refusal (refusal_seen r) in
     let text = refusal_line (refusal_seen r) in
     told_case ws planned how text shelf shelf' sink sink' (record {
@@ -141,9 +163,9 @@ outcome ws (Err (stop.Refused r)) how shelf shelf' sink sink' l c n w t =
       words = refusal_fits (asked_of ws) (λ _ _. Unit {0}) r w;
       faults = c;
       files = both_map (WorkLeaves ws (Err (stop.Refused r))) (IsRight ws planned text) shelf.files shelf'.files l (λ x y h. refused_right ws r x y h);
-    }) t
-outcome ws (Err stop.Failed) how shelf shelf' sink sink' l c n w t = failed_case ws how shelf shelf' sink sink' c n t
-outcome ws (Err stop.NoMemory) how shelf shelf' sink sink' l c n w t = subst (Outcome ws shelf shelf' sink sink') (sym t.0) (no_memory c l t.1)
+    }) (λ v e. both_map (WorkLeaves ws (Err (stop.Refused r))) (IsBegun v.out) shelf.files shelf'.files l (λ x y h. inl h.1)) t
+outcome ws (Err stop.Failed) how shelf shelf' sink sink' l c n w b t = failed_case ws how shelf shelf' sink sink' c n t
+outcome ws (Err stop.NoMemory) how shelf shelf' sink sink' l c n w b t = subst (Outcome ws shelf shelf' sink sink') (sym t.0) (no_memory c l b t.1)
 
 unfinished_by_answer : (ws : List (List ℕ)) (old new : List File) → LeavesUnfinished ws old new → KeepsByAnswer ws old new
 unfinished_by_answer ws old new (inl same) = λ answer right. subst (KeepsBut answer.made old) (sym same) (keeps_same answer.made old)
@@ -193,7 +215,7 @@ module _ (ws : List (List ℕ)) (shelf shelf' : ShelfTold) (sink sink' : SinkTol
   unfinished _ (answered how text h r) = both_map (IsRight ws how text) (LeavesUnfinished ws) shelf.files shelf'.files h.files (λ x y q. right_unfinished ws how text x y q)
   unfinished _ (shelf_fault c f l) = both_map (λ x y. FaultAt ws x y f.name) (LeavesUnfinished ws) shelf.files shelf'.files f.place (λ x y q. fault_unfinished ws x y f.name q)
   unfinished _ (sink_fault how text cut h e f l) = both_map (IsRight ws how text) (LeavesUnfinished ws) shelf.files shelf'.files h.files (λ x y q. right_unfinished ws how text x y q)
-  unfinished _ (no_memory c f l) = f
+  unfinished _ (no_memory c f b l) = f
   unfinished _ (sink_want how text cut h w l) = both_map (IsRight ws how text) (LeavesUnfinished ws) shelf.files shelf'.files h.files (λ x y q. right_unfinished ws how text x y q)
 
   pub kept : (how : Status) → Outcome ws shelf shelf' sink sink' how → BothTell shelf.files shelf'.files (KeepsByAnswer ws)
@@ -206,7 +228,7 @@ module _ (ws : List (List ℕ)) (shelf shelf' : ShelfTold) (sink sink' : SinkTol
   answer _ (answered how text h r) d = (text, h.files)
   answer _ (shelf_fault c f l) d = absurd d
   answer _ (sink_fault how text cut h e f l) d = absurd d
-  answer _ (no_memory c f l) d = absurd d
+  answer _ (no_memory c f b l) d = absurd d
   answer _ (sink_want how text cut h w l) d = absurd d
 
   pub exact : (how : Status) → Outcome ws shelf shelf' sink sink' how → (files : List File) (answer : Answer) → shelf.files ≡ Some files → IsAnswer ws files answer → IsStatusOf answer how
@@ -214,21 +236,21 @@ module _ (ws : List (List ℕ)) (shelf shelf' : ShelfTold) (sink sink' : SinkTol
       let b = both_told (IsRight ws how text) shelf.files shelf'.files files h.files k in inl (b.2.status ∙ one_status ws files b.2.answer answer b.2.right right)
   exact _ (shelf_fault c f l) files answer k right = inr (inl refl)
   exact _ (sink_fault how text cut h e f l) files answer k right = inr (inl refl)
-  exact _ (no_memory c f l) files answer k right = inr (inr refl)
+  exact _ (no_memory c f b l) files answer k right = inr (inr refl)
   exact _ (sink_want how text cut h w l) files answer k right = inr (inr refl)
 
   pub usage : (how : Status) → Outcome ws shelf shelf' sink sink' how → IsUsage (asked_of ws) how
   usage _ (answered how text h r) = fits_usage (asked_of ws) how text h.words
   usage _ (shelf_fault c f l) = name_usage (asked_of ws) f.name f.among
   usage _ (sink_fault how text cut h e f l) = end_usage (asked_of ws) how text h.words e
-  usage _ (no_memory c f l) = want_usage (asked_of ws)
+  usage _ (no_memory c f b l) = want_usage (asked_of ws)
   usage _ (sink_want how text cut h w l) = want_usage (asked_of ws)
 
   pub counted : (how : Status) → Outcome ws shelf shelf' sink sink' how → how ≢ status.Fault → shelf'.faults ≡ shelf.faults
   counted _ (answered how text h r) n = h.faults
   counted _ (shelf_fault c f l) n = absurd (n refl)
   counted _ (sink_fault how text cut h e f l) n = h.faults
-  counted _ (no_memory c f l) n = c
+  counted _ (no_memory c f b l) n = c
   counted _ (sink_want how text cut h w l) n = h.faults
 
   pub run_end : (how : Status) → Outcome ws shelf shelf' sink sink' how → IsRunEnd how → sink'.faults ≡ sink.faults
@@ -236,7 +258,7 @@ module _ (ws : List (List ℕ)) (shelf shelf' : ShelfTold) (sink sink' : SinkTol
   run_end _ (answered how text h (till_fault n p)) e = absurd (n e)
   run_end _ (shelf_fault c f l) e = absurd (no_run_end status.Fault refl e)
   run_end _ (sink_fault how text cut h k f l) e = absurd (no_run_end status.Fault refl e)
-  run_end _ (no_memory c f l) e = absurd (no_run_end status.NoMemory refl e)
+  run_end _ (no_memory c f b l) e = absurd (no_run_end status.NoMemory refl e)
   run_end _ (sink_want how text cut h w l) e = absurd (no_run_end status.NoMemory refl e)
 
   right_exact : (how : Status) (text : List ℕ) (files : List File) (held : List ℕ) → BothTell shelf.files shelf'.files (IsRight ws how text) → PutsAll text sink sink'
@@ -261,5 +283,5 @@ module _ (ws : List (List ℕ)) (shelf shelf' : ShelfTold) (sink sink' : SinkTol
   headline _ (answered how text h (till_fault n p)) files held e k m a b = absurd (b p.faults.rose)
   headline _ (shelf_fault c f l) files held e k m a b = absurd (a c.rose)
   headline _ (sink_fault how text cut h r f l) files held e k m a b = absurd (b (rose_on sink.faults cut.faults sink'.faults f.faults (last_later _ cut sink' l)))
-  headline _ (no_memory c f l) files held e k m a b = absurd (m refl)
+  headline _ (no_memory c f u l) files held e k m a b = absurd (m refl)
   headline _ (sink_want how text cut h w l) files held e k m a b = absurd (m refl)

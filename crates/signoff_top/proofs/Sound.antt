@@ -6,7 +6,7 @@ use Rattle.sg_io.specs.Put.{SinkTold}
 use Rattle.sg_circuit.specs.Closed.{IsClosed}
 use Rattle.sg_stimulus.specs.Applied.{IsApplied}
 use Rattle.sg_stimulus.specs.Seen.{stimulus_seen}
-use Rattle.run_words.specs.Words.{Asked, Command, a_rest}
+use Rattle.run_words.specs.Words.{Asked, Command, Writing, a_rest, a_writing}
 use Rattle.signoff_top.specs.Phases.{CommandOutcome, Refusal, Task, WordsOutcome}
 use Rattle.signoff_top.specs.Status.{IsDecided}
 use Rattle.signoff_top.specs.Stops.{Gives, UnlessCut, refusal_seen}
@@ -60,6 +60,9 @@ other_asked P asked a b e k differ = absurd (differ (one_asked asked a b e k))
 
 pub asked_rest : (c d : Command) (state other : List ℕ) → a_rest c state ≡ a_rest d other → (c ≡ d) × (state ≡ other)
 asked_rest c d state other e = (cc, cc)
+
+pub asked_writing : (v w : Writing) → a_writing v ≡ a_writing w → v ≡ w
+asked_writing v w e = cc
 
 -- where the status is decided the work wasn't cut
 pub decided_sound : (P : Type 0) (named : Option (List ℕ)) (end : Result code_done.Done code_stop.Stop) (old new : SinkTold) (how : Status) → UnlessCut P end → TellsEnd named end old new how → IsDecided how → P

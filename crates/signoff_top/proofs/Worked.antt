@@ -9,7 +9,7 @@ use Rattle.time_checks.specs.Seen.{violation_seen}
 use Rattle.run_words.specs.Words.{Asked, a_run, a_stop, a_rest, a_writing, the_bounds, a_case, Command, Design, Writing, asked_of, command_of, names_in}
 use Rattle.run_words.specs.WordsSeen.{asked_seen}
 use Rattle.run_words.specs.declared.words.Asked as code_asked
-use Rattle.wave_out.specs.Files.{LeavesPrefix}
+use Rattle.wave_out.specs.Files.{IsBegun, LeavesPrefix}
 use Rattle.run_report.specs.Report.{report_lines, report_text}
 use Rattle.run_report.specs.Spent.{spent_seen}
 use Rattle.run_dump.specs.RunEnds.{violations_of}
@@ -18,7 +18,7 @@ use Rattle.signoff_top.specs.Phases.{Refusal, Task, WordsOutcome, CommandOutcome
 use Rattle.signoff_top.specs.Promises.{FaultAt, at_made, KeepsBut, NamesFaultAt}
 use Rattle.signoff_top.specs.Stops.{Gives, IfOutcome, SparesWords, StopWords, refusal_seen}
 use Rattle.signoff_top.specs.Tasks.{annotated_seen, task_seen, written_seen}
-use Rattle.signoff_top.specs.Work.{Answers, IsQuietEnd, IsSettleDone, WorkLeaves, case_told, quiet_violations}
+use Rattle.signoff_top.specs.Work.{Answers, IsQuietEnd, IsSettleDone, LeavesDelays, WorkLeaves, case_told, quiet_violations}
 use Rattle.signoff_top.specs.declared.annotation.Annotated as code_annotated
 use Rattle.signoff_top.specs.declared.bounds.BoundsDone as code_bounds
 use Rattle.signoff_top.specs.declared.phases.Task as code_task
@@ -160,6 +160,16 @@ writing_leaves ws w x d old mid new g e h told =
       report = told;
       files = subst (λ fs. HasAfter w.out x.text.items fs u) same after;
     })
+
+-- its phases stopped
+pub delays_stopped : (out : List ℕ) (s : code_stop.Stop) (old new : Option (List File)) → new ≡ old → LeavesDelays out (Err s) old new
+delays_stopped out (stop.Refused r) old new e = tt
+delays_stopped out stop.Failed old new e = tt
+delays_stopped out stop.NoMemory old new e = both_same (IsBegun out) old new e (λ files _. inl refl)
+
+-- or there was no memory while its file was made
+pub delays_begun : (out : List ℕ) (old mid new : Option (List File)) → mid ≡ old → BothTell mid new (IsBegun out) → LeavesDelays out (Err stop.NoMemory) old new
+delays_begun out old mid new e h = subst (λ files. BothTell files new (IsBegun out)) e h
 
 -- ---- bounds
 

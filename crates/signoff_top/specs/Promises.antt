@@ -7,10 +7,10 @@ use Rattle.sg_io.specs.Put.{SinkTold}
 use Rattle.sg_circuit.specs.Circuit.{Circuit}
 use Rattle.sg_model.specs.Machine.{Violation}
 use Rattle.signoff_top.specs.Answer.{Answer, IsAnswer, FilesAfter, dump_of, fault_line, no_memory_line, report_fault_line, rest_answer, rest_dump, rest_of, run_of, saved_of, stop_answer, stopped_of}
-use Rattle.run_words.specs.Words.{Asked, Command, Design, Stop, a_rest, asked_of, command_of, design_of, file_of, names_in}
+use Rattle.run_words.specs.Words.{Asked, Command, Design, Stop, Writing, a_rest, a_writing, asked_of, command_of, design_of, file_of, names_in}
 use Rattle.signoff_top.specs.Phases.{Annotated, Rest, Task, CircuitOutcome, CommandOutcome, DesignOutcome, FilesOutcome, usage_line}
 use Rattle.signoff_top.specs.Putting.{PutsAll, PutsTillFault, PutsTillWant, PutsLast}
-use Rattle.wave_out.specs.Files.{LeavesPrefix}
+use Rattle.wave_out.specs.Files.{IsBegun, LeavesPrefix}
 use Rattle.signoff_top.specs.Status.{IsDecided, IsRunEnd}
 use Rattle.signoff_top.specs.declared.status.Status.{Status}
 use Rattle.signoff_top.specs.declared.status.Status.TheVariants as status
@@ -85,8 +85,9 @@ pub data Outcome (ws : List (List ℕ)) (shelf shelf' : ShelfTold) (sink sink' :
   -- the answer is the end of a run, and a call of the sink failed: the first bytes of the report, then the line of that
   sink_fault : (how : Status) (text : List ℕ) (cut : SinkTold) → HasAnswer ws how text shelf shelf' → IsRunEnd how
       → PutsTillFault text sink cut → PutsLast report_fault_line cut sink' → Outcome ws shelf shelf' sink sink' status.Fault
-  -- there was no memory, for the work or for the report's text: its line
-  no_memory : shelf'.faults ≡ shelf.faults → BothTell shelf.files shelf'.files (LeavesUnfinished ws) → PutsLast no_memory_line sink sink'
+  -- there was no memory, for the work or for the report's text: its line; a file of delays wasn't begun, or nothing was written to it
+  no_memory : shelf'.faults ≡ shelf.faults → BothTell shelf.files shelf'.files (LeavesUnfinished ws)
+      → ((w : Writing) → asked_of ws ≡ Some (a_writing w) → BothTell shelf.files shelf'.files (IsBegun w.out)) → PutsLast no_memory_line sink sink'
       → Outcome ws shelf shelf' sink sink' status.NoMemory
   -- there is an answer, and the sink found no memory for its report: the line of that
   sink_want : (how : Status) (text : List ℕ) (cut : SinkTold) → HasAnswer ws how text shelf shelf'

@@ -9,6 +9,7 @@ use Rattle.sim_save.specs.Faults.{most_bytes}
 use Rattle.sim_save.specs.declared.kinds.SaveKind.TheVariants as saved_kind
 use Rattle.run_words.specs.Words.{Stop}
 use Rattle.signoff_top.specs.declared.work.StopDone as code_stopped
+use Rattle.wave_out.specs.Files.{IsBegun}
 use Rattle.run_report.specs.Report.{report_lines, stopped_lines}
 use Rattle.run_report.specs.Spent.{spent_seen}
 use Rattle.time_checks.specs.Seen.{violation_seen}
@@ -111,11 +112,27 @@ WorkLeaves ws (Err (stop.Refused r)) old new = IsAnswer ws old (refusal_answer (
 WorkLeaves ws (Err stop.Failed) old new = Unit {0}
 WorkLeaves ws (Err stop.NoMemory) old new = LeavesUnfinished ws old new
 
--- A text was to be put, with a status: it was; or the sink failed, or found no memory; or there was none for the text.
+-- where a file of delays is asked for, that is what was done; and for want of memory it wasn't begun, or nothing was written to it
+abbrev pub LeavesDelays : List ℕ → Result code_done.Done code_stop.Stop → Option (List File) → Option (List File) → Type 0
+LeavesDelays out (Ok (done.Run d)) old new = ⊥
+LeavesDelays out (Ok (done.Stop d)) old new = ⊥
+LeavesDelays out (Ok (done.Unsaved d)) old new = ⊥
+LeavesDelays out (Ok (done.Writing d)) old new = Unit {0}
+LeavesDelays out (Ok (done.Bounds d)) old new = ⊥
+LeavesDelays out (Ok (done.Case d)) old new = ⊥
+LeavesDelays out (Err (stop.Refused r)) old new = Unit {0}
+LeavesDelays out (Err stop.Failed) old new = Unit {0}
+LeavesDelays out (Err stop.NoMemory) old new = BothTell old new (IsBegun out)
+
+-- A text that there was memory for was to be put, with a status: it was; or the sink failed, or found no memory.
+pub data TellsMade (text : List ℕ) (planned : Status) (old new : SinkTold) : Status → Type 0 where
+  told : PutsReport planned text old new → TellsMade text planned old new planned
+  fault : (cut : SinkTold) → IsRunEnd planned → PutsTillFault text old cut → PutsLast report_fault_line cut new → TellsMade text planned old new status.Fault
+  want : (cut : SinkTold) → PutsTillWant [] old cut → PutsLast no_memory_line cut new → TellsMade text planned old new status.NoMemory
+
+-- the same of any text; or there was no memory for it
 pub data Tells (text : List ℕ) (planned : Status) (old new : SinkTold) : Status → Type 0 where
-  told : PutsReport planned text old new → Tells text planned old new planned
-  fault : (cut : SinkTold) → IsRunEnd planned → PutsTillFault text old cut → PutsLast report_fault_line cut new → Tells text planned old new status.Fault
-  want : (cut : SinkTold) → PutsTillWant [] old cut → PutsLast no_memory_line cut new → Tells text planned old new status.NoMemory
+  made : (how : Status) → TellsMade text planned old new how → Tells text planned old new how
   no_memory : PutsLast no_memory_line old new → Tells text planned old new status.NoMemory
 
 -- how it was told why the work ended before its report, where the shelf names this file
@@ -124,7 +141,16 @@ TellsStop named (stop.Refused r) old new how = Tells (refusal_line (refusal_seen
 TellsStop named stop.Failed old new how = (how ≡ status.Fault) × PutsLast (fault_line (unwrap_or named [])) old new
 TellsStop named stop.NoMemory old new how = (how ≡ status.NoMemory) × PutsLast no_memory_line old new
 
+-- how it was told what was done: the report of a writing was made before its file
+abbrev pub TellsDone : code_done.Done → SinkTold → SinkTold → Status → Type 0
+TellsDone (done.Run d) old new how = Tells (text_of_done (done.Run d)) (status_of_done (done.Run d)) old new how
+TellsDone (done.Stop d) old new how = Tells (text_of_done (done.Stop d)) (status_of_done (done.Stop d)) old new how
+TellsDone (done.Unsaved d) old new how = Tells (text_of_done (done.Unsaved d)) (status_of_done (done.Unsaved d)) old new how
+TellsDone (done.Writing d) old new how = TellsMade (text_of_done (done.Writing d)) (status_of_done (done.Writing d)) old new how
+TellsDone (done.Bounds d) old new how = Tells (text_of_done (done.Bounds d)) (status_of_done (done.Bounds d)) old new how
+TellsDone (done.Case d) old new how = Tells (text_of_done (done.Case d)) (status_of_done (done.Case d)) old new how
+
 -- how the end of the work was told
 abbrev pub TellsEnd : Option (List ℕ) → Result code_done.Done code_stop.Stop → SinkTold → SinkTold → Status → Type 0
-TellsEnd named (Ok d) old new how = Tells (text_of_done d) (status_of_done d) old new how
+TellsEnd named (Ok d) old new how = TellsDone d old new how
 TellsEnd named (Err s) old new how = TellsStop named s old new how

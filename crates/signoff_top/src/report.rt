@@ -2,7 +2,7 @@
 ghost use Rattle.std.specs.Prelude.{◌≡◌, ◌++◌, [], ℕ, List, IfOk, IfErr, None, codes, map};
 ghost use Rattle.std.specs.Option.{option_copied};
 ghost use Rattle.sg_circuit.specs.Circuit.{Circuit};
-ghost use Rattle.sg_io.specs.Put.{SinkTold};
+ghost use Rattle.sg_io.specs.Put.{Puts, SinkTold};
 ghost use Rattle.sg_model.specs.Machine.{Violation as ViolationSeen};
 ghost use Rattle.time_checks.specs.Seen.{violation_seen};
 ghost use Rattle.run_report.specs.Report.{Unmatched, report_lines, stopped_lines};
@@ -13,7 +13,7 @@ ghost use Rattle.signoff_top.specs.Answer.{fault_line, no_memory_line, status_of
 ghost use Rattle.signoff_top.specs.Phases.{located_line, refusal_line, save, save_kind, sdf_kind, status_of_refusal, stimulus_kind, unwritten, wave_kind};
 ghost use Rattle.signoff_top.specs.Putting.{PutsBy, PutsLast};
 ghost use Rattle.signoff_top.specs.Stops.{refusal_seen, sdf_fault_seen};
-ghost use Rattle.signoff_top.specs.Work.{Tells, TellsEnd, TellsStop, case_told, quiet_violations, settle_status};
+ghost use Rattle.signoff_top.specs.Work.{Tells, TellsEnd, TellsMade, TellsStop, case_told, quiet_violations, settle_status};
 
 use crate::bounds::BoundsDone;
 use crate::status::Status;
@@ -32,7 +32,7 @@ use time_checks::Violation;
 use vcd_model::VcdKind;
 
 const USAGE: &str =
-    "usage: signoff run NETLIST.. (--stim F | --wave F [--scope PATH]) --vcd F [--stop T --save F] [--sdf F] [--top NAME] [--corner min|typ|max] [--rounds N] [--wheel N] | signoff resume NETLIST.. --state F (--stim F | --wave F [--scope PATH]) --vcd F [--sdf F] [--top NAME] [--corner min|typ|max] [--rounds N] [--wheel N] | signoff annotate NETLIST.. --out F [--sdf F] [--top NAME] [--corner min|typ|max] | signoff settle NETLIST.. [--sdf F] [--top NAME] [--corner min|typ|max] | signoff gen N";
+    "usage: signoff run NETLIST.. (--stim F | --wave F [--scope PATH]) --vcd F [--stop T --save F] [--sdf F] [--top NAME] [--corner min|typ|max] [--rounds N] [--wheel N] | signoff gen N | signoff annotate NETLIST.. --out F [--sdf F] [--top NAME] [--corner min|typ|max] | signoff settle NETLIST.. [--sdf F] [--top NAME] [--corner min|typ|max] | signoff resume NETLIST.. --state F (--stim F | --wave F [--scope PATH]) --vcd F [--sdf F] [--top NAME] [--corner min|typ|max] [--rounds N] [--wheel N]";
 
 // A word and a name, on a line of their own.
 fn named_line(alloc: Global, before: &str, name: &str) -> Result<Vec<u8>, AllocError>
@@ -230,7 +230,8 @@ pub fn tell_no_memory<K: Sink>(report: &mut K) -> Status
 
 // A failing sink turns the end of a run into a fault, which it is told too, and leaves every other status.
 fn tell_error<K: Sink>(report: &mut K, planned: Status, error: ShelfError) -> Status
-    ensures { (text : List ℕ) (before : SinkTold) → PutsMade text before (K.told report.old) (Err error) → Tells text planned before (K.told report.new) result }
+    ensures put { (text : List ℕ) (before : SinkTold) → Puts text before (K.told report.old) (Err error) → TellsMade text planned before (K.told report.new) result }
+    ensures made { (text : List ℕ) (before : SinkTold) → PutsMade text before (K.told report.old) (Err error) → Tells text planned before (K.told report.new) result }
 {
     match error {
         ShelfError::Failed if planned.is_run_end() => tell_fault(report, "report"),
@@ -241,7 +242,8 @@ fn tell_error<K: Sink>(report: &mut K, planned: Status, error: ShelfError) -> St
 
 // How it ends where a text was put so, whichever it was.
 fn tell_put<K: Sink>(report: &mut K, planned: Status, put: Result<(), ShelfError>) -> Status
-    ensures { (text : List ℕ) (before : SinkTold) → PutsMade text before (K.told report.old) put → Tells text planned before (K.told report.new) result }
+    ensures put { (text : List ℕ) (before : SinkTold) → Puts text before (K.told report.old) put → TellsMade text planned before (K.told report.new) result }
+    ensures made { (text : List ℕ) (before : SinkTold) → PutsMade text before (K.told report.old) put → Tells text planned before (K.told report.new) result }
 {
     match put {
         Ok(()) => planned,
@@ -250,7 +252,8 @@ fn tell_put<K: Sink>(report: &mut K, planned: Status, put: Result<(), ShelfError
 }
 
 fn put_text<K: Sink>(report: &mut K, planned: Status, text: &[u8]) -> Status
-    ensures { Tells text.now planned (K.told report.old) (K.told report.new) result }
+    ensures put { TellsMade text.now planned (K.told report.old) (K.told report.new) result }
+    ensures made { Tells text.now planned (K.told report.old) (K.told report.new) result }
 {
     let put = report.put(text);
     tell_put(report, planned, put)
@@ -331,7 +334,7 @@ fn tell_unsaved<K: Sink>(alloc: Global, done: &UnsavedDone<'_>, report: &mut K) 
 }
 
 fn tell_writing<K: Sink>(done: &WritingDone, report: &mut K) -> Status
-    ensures { Tells done.now.report.items Status.Clean (K.told report.old) (K.told report.new) result }
+    ensures { TellsMade done.now.report.items Status.Clean (K.told report.old) (K.told report.new) result }
 {
     put_text(report, Status::Clean, &done.report)
 }

@@ -7,14 +7,14 @@ ghost use Rattle.sg_stimulus.specs.Seen.{stimulus_seen};
 ghost use Rattle.time_checks.specs.Seen.{violation_seen};
 ghost use Rattle.sim_rounds.specs.MomentsSeen.{moment_seen};
 ghost use Rattle.run_dump.specs.RunEnds.{HasReached};
-ghost use Rattle.run_words.specs.Words.{Asked as Asking, Command as TheCommand, a_case, a_rest, a_run, a_stop, a_writing, asked_of, names_in, the_bounds};
+ghost use Rattle.run_words.specs.Words.{Asked as Asking, Command as TheCommand, Writing as TheWriting, a_case, a_rest, a_run, a_stop, a_writing, asked_of, names_in, the_bounds};
 ghost use Rattle.run_words.specs.WordsSeen.{command_seen, design_seen, stop_seen, writing_seen};
 ghost use Rattle.signoff_top.specs.Answer.{FilesAfter, answer_of, begun_dump, stop_answer, stopped_of};
 ghost use Rattle.signoff_top.specs.Phases.{CommandOutcome, Task as TheTask};
 ghost use Rattle.signoff_top.specs.Promises.{NamesFaultAt};
 ghost use Rattle.signoff_top.specs.Stops.{IfFailed, NeverFails, SparesWords, StopWords, UnlessCut, end_of_phase};
 ghost use Rattle.signoff_top.specs.Tasks.{IsSound, task_seen};
-ghost use Rattle.signoff_top.specs.Work.{Answers, HasStopped, IsSaved, SavesFrom, WorkLeaves};
+ghost use Rattle.signoff_top.specs.Work.{Answers, HasStopped, IsSaved, LeavesDelays, SavesFrom, WorkLeaves};
 
 use crate::bounds::{BoundsDone, bounds_of};
 use crate::generated::case_task;
@@ -306,6 +306,7 @@ fn write_delays<'a, S: Shelf>(
     requires some { 0 < length writing.now.design.netlists.items }
     ensures left { (ws : List (List ℕ)) → asked_of ws ≡ Some (a_writing (writing_seen writing.now))
         → BothTell (S.files shelf.old) (S.files shelf.new) (WorkLeaves ws result) }
+    ensures begun { LeavesDelays (writing_seen writing.now).out result (S.files shelf.old) (S.files shelf.new) }
     ensures cause { Cause (S.fault_count shelf.old) (S.fault_count shelf.new) (end_of_phase result) }
     ensures named { (ws : List (List ℕ)) → asked_of ws ≡ Some (a_writing (writing_seen writing.now))
         → IfFailed (NamesFaultAt ws (S.files shelf.old) (S.files shelf.new) (S.last_fault shelf.new)) result }
@@ -359,6 +360,7 @@ pub fn work<'a, S: Shelf>(
     shelf: &mut S,
 ) -> Result<Done<'a>, Stop<'a>>
     ensures left { BothTell (S.files shelf.old) (S.files shelf.new) (WorkLeaves (map (λ w. string_bytes w) words.now) result) }
+    ensures begun { (w : TheWriting) → asked_of (map (λ w. string_bytes w) words.now) ≡ Some (a_writing w) → LeavesDelays w.out result (S.files shelf.old) (S.files shelf.new) }
     ensures sound { (files : List File) (c : TheCommand) (state : List ℕ) (task : TheTask) → S.files shelf.old ≡ Some files → asked_of (map (λ w. string_bytes w) words.now) ≡ Some (a_rest c state) → CommandOutcome c files (Ok task) → UnlessCut (IsSound task) result }
     ensures cause { Cause (S.fault_count shelf.old) (S.fault_count shelf.new) (end_of_phase result) }
     ensures named { IfFailed (NamesFaultAt (map (λ w. string_bytes w) words.now) (S.files shelf.old) (S.files shelf.new) (S.last_fault shelf.new)) result }

@@ -6,7 +6,7 @@ ghost use Rattle.sg_io.specs.Files.{BothTell, File};
 ghost use Rattle.sg_circuit.specs.Circuit.{Circuit as Seen};
 ghost use Rattle.run_words.specs.Words.{a_writing, asked_of};
 ghost use Rattle.run_words.specs.WordsSeen.{writing_seen};
-ghost use Rattle.wave_out.specs.Files.{Leaves};
+ghost use Rattle.wave_out.specs.Files.{Leaves, LeavesWanting};
 ghost use Rattle.run_report.specs.Report.{path_of};
 ghost use Rattle.run_report.specs.Reporting.{unmatched_seen};
 ghost use Rattle.written_model.specs.Faults.{FaultStands};
@@ -125,6 +125,7 @@ pub fn written_report(alloc: Global, annotated: &Annotated) -> Result<Vec<u8>, A
 /// Makes a file of this text.
 pub fn make_file<S: Shelf>(shelf: &mut S, name: &str, text: &[u8]) -> Result<(), ShelfError>
     ensures file { BothTell (S.files shelf.old) (S.files shelf.new) (Leaves name.now text.now result) }
+    ensures begun { BothTell (S.files shelf.old) (S.files shelf.new) (LeavesWanting name.now result) }
     ensures cause { Cause (S.fault_count shelf.old) (S.fault_count shelf.new) result }
     ensures named { NamesFault name.now (S.last_fault shelf.old) (S.last_fault shelf.new) result }
 {

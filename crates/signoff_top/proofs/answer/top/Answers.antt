@@ -9,7 +9,7 @@ use Rattle.signoff_top.proofs.answer.top.Goals as goal
 
 pub returns-clause-outcome : goal.returns-clause-outcome
 returns-clause-outcome g c =
-    outcome _ c.work-end.result c.tell.result _ _ _ _ c.work-end.ensures.left c.work-end.ensures.cause c.work-end.ensures.named c.work-end.ensures.words
+    outcome _ c.work-end.result c.tell.result _ _ _ _ c.work-end.ensures.left c.work-end.ensures.cause c.work-end.ensures.named c.work-end.ensures.words c.work-end.ensures.begun
     (subst (λ n. TellsEnd n c.work-end.result (g.K.Sink.told c.args.report.now) (g.K.Sink.told c.tell.new.report) c.tell.result) c.failed.ensures.last c.tell.ensures)
 
 pub returns-clause-headline : goal.returns-clause-headline

@@ -18,7 +18,7 @@ returns g c =
     let before = g.K.Sink.told c.args.report.now in
     subst (λ planned. Tells text planned before (g.K.Sink.told c.tell_put.new.report) c.tell_put.result)
     (c.status_of_run-planned.ensures ∙ ap (λ vs. status_of_run None (map (λ v. violation_seen v) vs)) c.deref.ensures.value)
-    (c.tell_put.ensures text before
+    (c.tell_put.ensures.made text before
     (subst (λ t. PutsMade t before (g.K.Sink.told c.write_stopped-put.new.sink) c.write_stopped-put.result)
     (stopped_lent circuit _ _ _ _ _ _ done.time c.deref-2.ensures.value c.deref-3.ensures.value c.deref-4.ensures.value)
     c.write_stopped-put.ensures))
