@@ -1,0 +1,4 @@
+-- The modules of this folder.
+pub mod Rules
+pub mod Changes
+pub mod Report

@@ -1,0 +1,13 @@
+//! From the files of a netlist to changes with which they are taken, or the places that no change helps.
+#![tactic(auto)]
+
+mod changing;
+mod checking;
+mod faults;
+mod fitting;
+mod looking;
+mod reading;
+mod refusing;
+
+pub use faults::{FitError, Unfit};
+pub use fitting::fit_netlist;

@@ -1,0 +1,102 @@
+// Places that aren't taken, as they are told.
+ghost use Rattle.std.specs.Prelude.{◌<◌, IfOk, length};
+ghost use Rattle.fit_netlist.specs.Fitted.{Tells};
+
+use crate::faults::{FitError, Unfit};
+use netlist_read::{NetlistKind, write_kind};
+use sg_text::{NoMemory, Place};
+use std::alloc::Global;
+use vl_parse::ParseKind;
+
+pub fn syntax_kind(kind: ParseKind<'_>) -> NetlistKind<'_> {
+    match kind {
+        ParseKind::Syntax => NetlistKind::Syntax,
+        ParseKind::Unsupported(word) => NetlistKind::Unsupported(word),
+        ParseKind::Specify(kind) => NetlistKind::Specify(kind),
+    }
+}
+
+/// The place behind the last byte of the last file.
+pub fn end_of(files: &[Vec<u8>]) -> Place {
+    let before = files.len().saturating_sub(1);
+    let byte = match files.last() {
+        Some(text) => text.len() as u64,
+        None => 0,
+    };
+    Place {
+        file: u32::try_from(before).unwrap_or(u32::MAX),
+        byte,
+    }
+}
+
+pub fn line_of(files: &[Vec<u8>], place: Place) -> u64 {
+    match files.get(place.file as usize) {
+        Some(text) => place.line_of(text),
+        None => 1,
+    }
+}
+
+/// A place as it is told, in the part of a name.
+pub fn unfit(
+    alloc: Global,
+    files: &[Vec<u8>],
+    kind: &NetlistKind<'_>,
+    place: Place,
+    part: &[u8],
+) -> Result<Unfit, NoMemory> {
+    let kind = write_kind(alloc, kind)?;
+    let part = Vec::from_slice(alloc, part)?;
+    Ok(Unfit {
+        file: place.file,
+        line: line_of(files, place),
+        kind,
+        part,
+    })
+}
+
+fn only(alloc: Global, unfit: Unfit) -> Result<Vec<Unfit>, NoMemory>
+    ensures { IfOk result (λ list. 0 < length list.items) }
+{
+    let mut list = Vec::new(alloc);
+    list.push(unfit)?;
+    Ok(list)
+}
+
+fn refuse_one(alloc: Global, unfit: Unfit) -> FitError
+    ensures { Tells result }
+{
+    match only(alloc, unfit) {
+        Ok(list) => FitError::Unfit(list),
+        Err(NoMemory) => FitError::NoMemory,
+    }
+}
+
+/// The refusal of one place, which is in no part.
+pub fn refuse(alloc: Global, files: &[Vec<u8>], kind: &NetlistKind<'_>, place: Place) -> FitError
+    ensures { Tells result }
+{
+    match unfit(alloc, files, kind, place, b"") {
+        Ok(unfit) => refuse_one(alloc, unfit),
+        Err(NoMemory) => FitError::NoMemory,
+    }
+}
+
+/// The refusal of changes that left out what is used.
+pub fn refuse_unreached(alloc: Global) -> FitError
+    ensures { Tells result }
+{
+    match unreached(alloc) {
+        Ok(unfit) => refuse_one(alloc, unfit),
+        Err(NoMemory) => FitError::NoMemory,
+    }
+}
+
+fn unreached(alloc: Global) -> Result<Unfit, NoMemory> {
+    let kind = Vec::from_slice(alloc, b"Unreached")?;
+    Ok(Unfit {
+        file: 0,
+        line: 1,
+        kind,
+        part: Vec::new(alloc),
+    })
+}

@@ -1,0 +1,5 @@
+-- The modules of this folder.
+pub mod Parts
+pub mod Trees
+pub mod Below
+pub mod Checked
