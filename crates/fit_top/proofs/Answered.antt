@@ -1,0 +1,56 @@
+-- The answer for the texts of a netlist and of SDF files, and for the files that are held.
+use Rattle.std.proofs.Common.{◌≡◌, sym, subst, refl, ℕ, List, [], ◌∷◌, flat_map, length, arith}
+use Rattle.std.specs.Prelude.{true, false, Result, Ok, Err, IfOk}
+use Rattle.sg_io.specs.Files.{File}
+use Rattle.fit_words.specs.Words.{Asked}
+use Rattle.fit_changes.specs.Changes.{ChangedText}
+use Rattle.fit_netlist.specs.declared.faults.Unfit as code_unfit
+use Rattle.fit_top.specs.Answer.{Answer, IsAnswerFor, IsFitted, IsTextAnswer, IsUnfit, Meeting, Meets, TellAllSdf, changed_answer, files_of, has_faults, has_files, is_right, is_unfit, meets_one, misses_netlist, misses_sdf, missing_line, refusal, texts_of, unfit_line, usage_line}
+use Rattle.fit_top.specs.declared.status.Status.TheVariants as status
+
+-- ---- by the texts
+
+module _ {X : Type 0} (seen : X → Answer) (asked : Asked) (sdf : List File) where
+  -- all that `fit_netlist` promises of changes
+  pub fitted_by : {E : Type 0} (r : Result X E) (texts : List (List ℕ)) (files : List ChangedText) → IsFitted asked.top texts files
+      → IfOk r (λ a. (ts : List (List ℕ)) → IsFitted asked.top ts files → IsTextAnswer asked ts sdf (seen a)) → IfOk r (λ a. IsTextAnswer asked texts sdf (seen a))
+  fitted_by (Ok a) texts files f h = h texts f
+  fitted_by (Err e) texts files f h = h
+
+  -- no SDF file has a fault
+  pub changed_by : {E : Type 0} (r : Result X E) (files : List ChangedText) (told : List ℕ) → TellAllSdf sdf told → told ≡ [] → IfOk r (λ a. seen a ≡ changed_answer asked files sdf)
+      → IfOk r (λ a. (ts : List (List ℕ)) → IsFitted asked.top ts files → IsTextAnswer asked ts sdf (seen a))
+  changed_by (Ok a) files told t e h = λ ts f. subst (IsTextAnswer asked ts sdf) (sym h) (is_right files f (subst (TellAllSdf sdf) e t))
+  changed_by (Err r) files told t e h = h
+
+  -- or one has
+  pub faulty_by : (a : X) (files : List ChangedText) (told : List ℕ) → TellAllSdf sdf told → (told ≡ [] → ⊥) → seen a ≡ refusal status.Sdf told
+      → (ts : List (List ℕ)) → IsFitted asked.top ts files → IsTextAnswer asked ts sdf (seen a)
+  faulty_by a files [] t some e ts f = absurd (some refl)
+  faulty_by a files (b ∷ told) t some e ts f = subst (IsTextAnswer asked ts sdf) (sym e) (has_faults files b told f t)
+
+  pub unfit_by : (a : X) (texts : List (List ℕ)) (places : List code_unfit.Unfit) → IsUnfit texts places → seen a ≡ refusal status.Netlist (flat_map (unfit_line asked.netlists) places)
+      → IsTextAnswer asked texts sdf (seen a)
+  unfit_by a texts places u e = subst (IsTextAnswer asked texts sdf) (sym e) (is_unfit places u)
+
+pub no_bytes : (told : List ℕ) → length told ≡ 0 → told ≡ []
+no_bytes [] e = refl
+no_bytes (b ∷ told) e = absurd (omega arith)
+
+-- ---- by the files
+
+module _ {X : Type 0} (seen : X → Answer) (asked : Asked) (meeting : Meeting) (held : List File) where
+  pub texts_by : {E : Type 0} (r : Result X E) (netlists sdf : List File) (texts : List (List ℕ)) → Meets meeting asked false → files_of asked.netlists held ≡ Ok netlists → files_of asked.sdf held ≡ Ok sdf
+      → texts ≡ texts_of netlists → IfOk r (λ a. IsTextAnswer asked texts sdf (seen a)) → IfOk r (λ a. IsAnswerFor asked meeting held (seen a))
+  texts_by (Ok a) netlists sdf texts m n s t h = has_files netlists sdf (seen a) m n s (subst (λ ts. IsTextAnswer asked ts sdf (seen a)) t h)
+  texts_by (Err e) netlists sdf texts m n s t h = h
+
+  pub sdf_missed : (a : X) (name : List ℕ) (netlists : List File) → Meets meeting asked false → files_of asked.netlists held ≡ Ok netlists → files_of asked.sdf held ≡ Err name
+      → seen a ≡ refusal status.Missing (missing_line name) → IsAnswerFor asked meeting held (seen a)
+  sdf_missed a name netlists m n s e = subst (IsAnswerFor asked meeting held) (sym e) (misses_sdf name netlists m n s)
+
+  pub netlist_missed : (a : X) (name : List ℕ) → Meets meeting asked false → files_of asked.netlists held ≡ Err name → seen a ≡ refusal status.Missing (missing_line name) → IsAnswerFor asked meeting held (seen a)
+  netlist_missed a name m n e = subst (IsAnswerFor asked meeting held) (sym e) (misses_netlist name m n)
+
+  pub one_met : (a : X) → Meets meeting asked true → seen a ≡ refusal status.Usage usage_line → IsAnswerFor asked meeting held (seen a)
+  one_met a m e = subst (IsAnswerFor asked meeting held) (sym e) (meets_one m)

@@ -1,0 +1,14 @@
+-- The modules of this folder.
+pub mod Answered
+pub mod Kept
+pub mod MadeNames
+pub mod MakingLaws
+pub mod Meetings
+pub mod Pairs
+pub mod ProgramWords
+pub mod Promised
+pub mod Putting
+pub mod Reading
+pub mod Telling
+pub mod ToldLaws
+pub mod Worked

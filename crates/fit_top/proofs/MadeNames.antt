@@ -1,0 +1,92 @@
+-- The files that an answer makes are those that the words name, or none.
+use Rattle.std.proofs.Common.{◌≡◌, ◌∙◌, sym, ap, subst, refl, inl, inr, ℕ, ◌⊎◌, List, [], ◌∷◌, ◌++◌, length, map, Bool, true, false, cond}
+use Rattle.std.proofs.lemmas.List.{length-map, map-append}
+use Rattle.std.proofs.lemmas.Slice.Zip.{firsts-zip}
+use Rattle.std.specs.Prelude.{Option, Some, None, Result, Ok, Err, zip, ◌&&◌}
+use Rattle.sg_io.specs.Files.{File, bytes_of}
+use Rattle.fit_words.specs.Words.{Asked, made_name, made_of}
+use Rattle.fit_changes.specs.Changes.{ChangedText}
+use Rattle.fit_changes.specs.Report.{are_told}
+use Rattle.fit_netlist.specs.Fitted.{read}
+use Rattle.fit_top.specs.Answer.{Answer, IsAnswerFor, IsTextAnswer, Meeting, changed_answer, files_of, first_told, fitted_answer, has_faults, has_files, is_right, is_unfit, made_files, made_of_netlist, made_of_sdf, meets_one, misses_netlist, misses_sdf, refusal, texts_of, with_file}
+use Rattle.fit_top.specs.Names.{IsNoneOf, IsOneOf}
+use Rattle.fit_top.specs.declared.status.Status.TheVariants as status
+
+abbrev names_of : List File → List (List ℕ)
+names_of files = map (λ f. f.name) files
+
+pub map_twice : {A B C : Type 0} (g : B → C) (f : A → B) (xs : List A) → map g (map f xs) ≡ map (λ x. g (f x)) xs
+map_twice g f [] = refl
+map_twice g f (x ∷ xs) = ap (λ l. g (f x) ∷ l) (map_twice g f xs)
+
+one_read : (name : List ℕ) (names : List (List ℕ)) (held : Option (List ℕ)) (more : Result (List File) (List ℕ)) (files : List File)
+    → ((fs : List File) → more ≡ Ok fs → names_of fs ≡ names) → with_file name held more ≡ Ok files → names_of files ≡ name ∷ names
+one_read name names None more files f e = cc
+one_read name names (Some bytes) (Err m) files f e = cc
+one_read name names (Some bytes) (Ok fs) files f e =
+    let P : Result (List File) (List ℕ) → Type 0 = λ r. elim r as (λ _. Type 0) [ Ok x ↦ names_of x ≡ name ∷ names | Err m ↦ Unit {0} ] in
+    subst P e (ap (λ l. name ∷ l) (f fs refl))
+
+-- the names of files that were read
+pub read_names : (names : List (List ℕ)) (held files : List File) → files_of names held ≡ Ok files → names_of files ≡ names
+read_names [] held files e =
+    let P : Result (List File) (List ℕ) → Type 0 = λ r. elim r as (λ _. Type 0) [ Ok x ↦ names_of x ≡ [] | Err m ↦ Unit {0} ] in
+    subst P e refl
+read_names (n ∷ ns) held files e = one_read n ns (bytes_of n held) (files_of ns held) files (λ fs h. read_names ns held fs h) e
+
+module _ (asked : Asked) (files : List ChangedText) (sdf : List File) where
+  of_netlists : length files ≡ length asked.netlists → names_of (map (made_of_netlist asked.out) (zip asked.netlists files)) ≡ map (made_name asked.out) asked.netlists
+  of_netlists l =
+      map_twice (λ (f : File). f.name) (made_of_netlist asked.out) (zip asked.netlists files)
+      ∙ sym (map_twice (made_name asked.out) (λ (p : List ℕ × ChangedText). p.0) (zip asked.netlists files))
+      ∙ ap (map (made_name asked.out)) (firsts-zip asked.netlists files l)
+
+  of_sdf : names_of sdf ≡ asked.sdf → names_of (map (made_of_sdf asked.out) sdf) ≡ map (made_name asked.out) asked.sdf
+  of_sdf e =
+      map_twice (λ (f : File). f.name) (made_of_sdf asked.out) sdf
+      ∙ sym (map_twice (made_name asked.out) (λ (f : File). f.name) sdf)
+      ∙ ap (map (made_name asked.out)) e
+
+  pub made_names : length files ≡ length asked.netlists → names_of sdf ≡ asked.sdf → names_of (made_files asked files sdf) ≡ made_of asked
+  made_names l e =
+      map-append (λ (f : File). f.name) (map (made_of_netlist asked.out) (zip asked.netlists files)) (map (made_of_sdf asked.out) sdf)
+      ∙ ap (λ ns. ns ++ names_of (map (made_of_sdf asked.out) sdf)) (of_netlists l)
+      ∙ ap (λ ns. map (made_name asked.out) asked.netlists ++ ns) (of_sdf e)
+      ∙ sym (map-append (made_name asked.out) asked.netlists asked.sdf)
+
+  -- none, or these
+  abbrev pub AreMade : Answer → Type 0
+  AreMade answer = (answer.made ≡ []) ⊎ (names_of answer.made ≡ made_of asked)
+
+  pub changed_made : length files ≡ length asked.netlists → names_of sdf ≡ asked.sdf → AreMade (changed_answer asked files sdf)
+  changed_made l e = by (asked.is_strict && are_told files)
+    where
+      by : (b : Bool) → AreMade (cond b (refusal status.Told (first_told (zip asked.netlists files))) (fitted_answer asked files sdf))
+      by true = inl refl
+      by false = inr (made_names l e)
+
+same_length : (asked : Asked) (files : List ChangedText) (netlists held : List File) → read files ≡ texts_of netlists → files_of asked.netlists held ≡ Ok netlists → length files ≡ length asked.netlists
+same_length asked files netlists held e f =
+    sym (length-map files (λ (t : ChangedText). t.text)) ∙ ap length e ∙ length-map netlists (λ (n : File). n.bytes)
+    ∙ sym (length-map netlists (λ (n : File). n.name)) ∙ ap length (read_names asked.netlists held netlists f)
+
+text_made : (asked : Asked) (netlists sdf held : List File) (answer : Answer) → files_of asked.netlists held ≡ Ok netlists → files_of asked.sdf held ≡ Ok sdf → IsTextAnswer asked (texts_of netlists) sdf answer
+    → (answer.made ≡ []) ⊎ (names_of answer.made ≡ made_of asked)
+text_made asked netlists sdf held _ n s (is_unfit places u) = inl refl
+text_made asked netlists sdf held _ n s (has_faults files b told f t) = inl refl
+text_made asked netlists sdf held _ n s (is_right files f t) = changed_made asked files sdf (same_length asked files netlists held f.are_read n) (read_names asked.sdf held sdf s)
+
+pub answer_made : (asked : Asked) (meeting : Meeting) (held : List File) (answer : Answer) → IsAnswerFor asked meeting held answer → (answer.made ≡ []) ⊎ (names_of answer.made ≡ made_of asked)
+answer_made asked meeting held _ (meets_one m) = inl refl
+answer_made asked meeting held _ (misses_netlist name m n) = inl refl
+answer_made asked meeting held _ (misses_sdf name netlists m n s) = inl refl
+answer_made asked meeting held _ (has_files netlists sdf answer m n s t) = text_made asked netlists sdf held answer n s t
+
+-- a name that is none of those that the words name is none of these, and one of these is one of those
+pub none_made_by : (asked : Asked) (made : List File) → (made ≡ []) ⊎ (names_of made ≡ made_of asked) → (q : List ℕ) → IsNoneOf (made_of asked) q → IsNoneOf (names_of made) q
+none_made_by asked made (inl e) q h = subst (λ fs. IsNoneOf (names_of fs) q) (sym e) tt
+none_made_by asked made (inr e) q h = subst (λ ns. IsNoneOf ns q) (sym e) h
+
+pub one_made_by : (asked : Asked) (made : List File) → (made ≡ []) ⊎ (names_of made ≡ made_of asked) → (q : List ℕ) → IsOneOf (names_of made) q → IsOneOf (made_of asked) q
+one_made_by asked made (inl e) q h = absurd (subst (λ fs. IsOneOf (names_of fs) q) e h)
+one_made_by asked made (inr e) q h = subst (λ ns. IsOneOf ns q) e h

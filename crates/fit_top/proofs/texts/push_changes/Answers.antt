@@ -1,0 +1,32 @@
+-- One file more.
+use Rattle.std.proofs.Common.{◌∙◌, sym, ap, rules, [], ◌∷◌, ◌++◌, drop, length}
+use Rattle.std.proofs.lemmas.Slice.Zip.{zip_turn, zip_end}
+use Rattle.std.specs.Prelude.{zip}
+use Rattle.fit_top.specs.Answer.{changes_lines}
+use Rattle.fit_top.proofs.Pairs.{pair_last, pair_step, zip_seen}
+use Rattle.fit_top.proofs.ToldLaws.{lines_last, lines_step}
+use Rattle.fit_top.proofs.texts.push_changes.Goals as goal
+
+pub loop-name-preserved : goal.loop-name-preserved
+loop-name-preserved c = record {
+  steps = (tt, tt);
+  ends = tt;
+  left = lines_step (zip c.args.names.now c.args.list.now) (drop (length c.loop-name.yielded) (zip c.args.names.now c.args.list.now)) (drop (length (c.loop-name.yielded ++ (c.in-Some.name, c.in-Some.changes) ∷ [])) (zip c.args.names.now c.args.list.now)) (c.in-Some.name.now, c.in-Some.changes.now) c.args.text.now.items c.loop-name.text.items c.push_lines.new.text.items
+      (pair_step c.args.names.now c.args.list.now c.loop-name.yielded (c.in-Some.name, c.in-Some.changes)
+      (zip_turn c.args.names.now c.args.list.now c.loop-name.yielded c.into_iter-name-iterator.result c.loop-name.name-iterator c.next.new.self c.next.result
+      (search (rules, c.zip-name-items.ensures.first, c.iter.ensures.rest, c.into_iter-name-iterator.ensures.into_iter_gives))
+      (search (rules, c.zip-name-items.ensures.second, c.iter.ensures.rest, c.into_iter-name-iterator.ensures.into_iter_gives))
+      c.loop-name.yielded_by (c.in-Some.name, c.in-Some.changes) c.in-Some.is c.next.ensures.steps))
+      c.in_ok-push_lines.ensures c.loop-name.invariant.left;
+}
+
+pub returns : goal.returns
+returns c =
+    lines_last (zip c.args.names.now c.args.list.now) (drop (length c.loop-name.yielded) (zip c.args.names.now c.args.list.now)) c.args.text.now.items c.loop-name.text.items
+    (pair_last c.args.names.now c.args.list.now c.loop-name.yielded
+    (zip_end c.args.names.now c.args.list.now c.loop-name.yielded c.into_iter-name-iterator.result c.loop-name.name-iterator c.next.new.self c.next.result
+    (search (rules, c.zip-name-items.ensures.first, c.iter.ensures.rest, c.into_iter-name-iterator.ensures.into_iter_gives))
+    (search (rules, c.zip-name-items.ensures.second, c.iter.ensures.rest, c.into_iter-name-iterator.ensures.into_iter_gives))
+    c.loop-name.yielded_by c.in-None.is c.next.ensures.steps))
+    c.loop-name.invariant.left
+    ∙ ap (λ ps. c.args.text.now.items ++ changes_lines ps) (sym (zip_seen (λ n. n.now) c.args.names.now c.args.list.now))

@@ -1,0 +1,198 @@
+-- What the program answers: its status, the files that it makes, and the report.
+use Rattle.std.specs.Prelude.{ℕ, ◌≡◌, ◌<◌, ◌+◌, ◌^◌, ◌++◌, ◌&&◌, List, [], ◌∷◌, Bool, true, false, Option, Some, None, Result, Ok, Err, codes, decimal, flat_map, if◌then◌else◌, length, map, slice_index_or, take, zip}
+use Rattle.std.specs.List.{list_any}
+use Rattle.sg_io.specs.Files.{File, bytes_of}
+use Rattle.sdf_tree.specs.Meant.{Sdf}
+use Rattle.sdf_read.specs.Outcomes.{Fault}
+use Rattle.sdf_read.specs.Reads.{Reads}
+use Rattle.sdf_read.specs.declared.faults.SdfKind.{SdfKind}
+use Rattle.sdf_read.specs.declared.faults.SdfKind.TheVariants as delays
+use Rattle.fit_words.specs.Words.{Asked, inputs_of, made_name, made_of}
+use Rattle.fit_changes.specs.Changes.{ChangedText, changed}
+use Rattle.fit_changes.specs.Report.{are_told, counts_text, line_of, lines_of, told_line}
+use Rattle.fit_netlist.specs.Accepted.{IsAccepted}
+use Rattle.fit_netlist.specs.Fitted.{AreUnchanged, Keeps, read, written}
+use Rattle.fit_netlist.specs.declared.faults.Unfit as code
+use Rattle.fit_top.specs.declared.status.Status.{Status}
+use Rattle.fit_top.specs.declared.status.Status.TheVariants as status
+
+pub record Answer : Type 0 where
+  pub status : Status
+  pub made : List File
+  pub report : List ℕ
+
+-- ---- lines
+
+abbrev pub line : List ℕ → List ℕ
+line text = text ++ 10 ∷ []
+
+abbrev pub usage_line : List ℕ
+usage_line = line (codes "usage: fit NETLIST.. --out FOLDER [--sdf FILE].. [--top NAME] [--strict]")
+
+abbrev pub missing_line : List ℕ → List ℕ
+missing_line name = line (codes "missing: " ++ name)
+
+abbrev pub fault_line : List ℕ → List ℕ
+fault_line name = line (codes "fault: " ++ name)
+
+abbrev pub report_fault_line : List ℕ
+report_fault_line = fault_line (codes "report")
+
+abbrev pub no_memory_line : List ℕ
+no_memory_line = line (codes "no memory")
+
+-- a line of a file, and what is there
+abbrev pub place_text : (name : List ℕ) (number : ℕ) (kind : List ℕ) → List ℕ
+place_text name number kind = name ++ codes ":" ++ decimal number ++ codes ": " ++ kind
+
+-- the module or primitive in which it is, if it is in one
+abbrev pub part_text : List ℕ → List ℕ
+part_text [] = []
+part_text (b ∷ bs) = codes " in " ++ b ∷ bs
+
+-- a place that isn't taken, of files with these names
+abbrev pub unfit_line : List (List ℕ) → code.Unfit → List ℕ
+unfit_line names place = line (place_text (slice_index_or names place.file []) place.line place.kind.items ++ part_text place.part.items)
+
+-- the kinds of an SDF file's faults as they are written
+abbrev pub sdf_kind : SdfKind → List ℕ
+sdf_kind delays.BadByte = codes "BadByte"
+sdf_kind delays.Syntax = codes "Syntax"
+sdf_kind delays.BadCount = codes "BadCount"
+sdf_kind delays.BadNumber = codes "BadNumber"
+sdf_kind delays.TooDeep = codes "TooDeep"
+sdf_kind delays.FileTooLarge = codes "FileTooLarge"
+sdf_kind delays.LimitsCross = codes "LimitsCross"
+
+-- ---- files that are read
+
+-- one byte above what a file may have
+abbrev pub read_limit : ℕ
+read_limit = 2 ^ 28 + 1
+
+-- one file more, unless it isn't held
+abbrev pub with_file : (name : List ℕ) → Option (List ℕ) → Result (List File) (List ℕ) → Result (List File) (List ℕ)
+with_file name None more = Err name
+with_file name (Some bytes) (Ok files) = Ok (record { name = name; bytes = take read_limit bytes } ∷ files)
+with_file name (Some bytes) (Err missing) = Err missing
+
+-- the files of these names, or the first name of which none is held
+abbrev pub files_of : (names : List (List ℕ)) → (held : List File) → Result (List File) (List ℕ)
+files_of [] held = Ok []
+files_of (n ∷ ns) held = with_file n (bytes_of n held) (files_of ns held)
+
+abbrev pub texts_of : List File → List (List ℕ)
+texts_of files = map (λ f. f.bytes) files
+
+-- ---- the netlist
+
+-- a netlist is fitted by changes of its files: all that `fit_netlist` promises of them
+pub record IsFitted (top : Option (List ℕ)) (texts : List (List ℕ)) (files : List ChangedText) : Type 0 where
+  pub are_read : read files ≡ texts
+  pub accepted : IsAccepted (written files)
+  pub unchanged : IsAccepted texts → AreUnchanged files
+  pub kept : Keeps top files
+
+-- or it isn't, and these places are told: there are some, and the netlist isn't taken as it stands
+pub record IsUnfit (texts : List (List ℕ)) (places : List code.Unfit) : Type 0 where
+  pub some : 0 < length places
+  pub refused : IsAccepted texts → ⊥
+
+-- ---- SDF files
+
+-- the line of a fault in an SDF file
+abbrev pub fault_line_of : (name text : List ℕ) → Fault → List ℕ
+fault_line_of name text fault = line (place_text name (line_of text fault.place.byte) (sdf_kind fault.kind))
+
+-- what is told of an SDF file: nothing, where it is read in; or its fault
+pub data TellsSdf (name text : List ℕ) : List ℕ → Type 0 where
+  is_read : (sdf : Sdf) → Reads text (Ok sdf) → TellsSdf name text []
+  is_faulty : (fault : Fault) → Reads text (Err fault) → TellsSdf name text (fault_line_of name text fault)
+
+-- of several
+abbrev pub TellAllSdf : List File → List ℕ → Type 0
+TellAllSdf [] told = told ≡ []
+TellAllSdf (f ∷ fs) told = (own : List ℕ) × (more : List ℕ) × TellsSdf f.name f.bytes own × TellAllSdf fs more × (told ≡ own ++ more)
+
+-- ---- the report of changes
+
+abbrev pub changes_lines : List (List ℕ × ChangedText) → List ℕ
+changes_lines files = flat_map (λ f. lines_of f.0 f.1) files
+
+abbrev pub report_text : (names : List (List ℕ)) → List ChangedText → List ℕ
+report_text names files = changes_lines (zip names files) ++ counts_text files
+
+-- a text, or another where it is empty
+abbrev pub text_or : List ℕ → List ℕ → List ℕ
+text_or [] other = other
+text_or (b ∷ bs) other = b ∷ bs
+
+-- the first line of it by which values or violations may change
+abbrev pub first_told : List (List ℕ × ChangedText) → List ℕ
+first_told [] = []
+first_told (f ∷ fs) = text_or (told_line f.0 f.1) (first_told fs)
+
+-- ---- the answer
+
+abbrev pub refusal : Status → List ℕ → Answer
+refusal how text = record { status = how; made = []; report = text }
+
+-- a file that is made of one of the netlist, and one that is made of an SDF file
+abbrev pub made_of_netlist : (out : List ℕ) → List ℕ × ChangedText → File
+made_of_netlist out f = record { name = made_name out f.0; bytes = changed f.1.text f.1.changes }
+
+abbrev pub made_of_sdf : (out : List ℕ) → File → File
+made_of_sdf out f = record { name = made_name out f.name; bytes = f.bytes }
+
+abbrev pub made_files : Asked → List ChangedText → (sdf : List File) → List File
+made_files asked files sdf = map (made_of_netlist asked.out) (zip asked.netlists files) ++ map (made_of_sdf asked.out) sdf
+
+abbrev pub status_of : List ChangedText → Status
+status_of files = if are_told files then status.Told else status.Same
+
+abbrev pub fitted_answer : Asked → List ChangedText → (sdf : List File) → Answer
+fitted_answer asked files sdf = record {
+  status = status_of files;
+  made = made_files asked files sdf;
+  report = report_text asked.netlists files;
+}
+
+-- where nothing is to be written that is told
+abbrev pub changed_answer : Asked → List ChangedText → (sdf : List File) → Answer
+changed_answer asked files sdf =
+    if asked.is_strict && are_told files then refusal status.Told (first_told (zip asked.netlists files)) else fitted_answer asked files sdf
+
+-- an answer for the texts of a netlist and of SDF files
+pub data IsTextAnswer (asked : Asked) (texts : List (List ℕ)) (sdf : List File) : Answer → Type 0 where
+  -- the netlist has places that aren't taken
+  is_unfit : (places : List code.Unfit) → IsUnfit texts places → IsTextAnswer asked texts sdf (refusal status.Netlist (flat_map (unfit_line asked.netlists) places))
+  -- the netlist is fitted, and an SDF file has a fault
+  has_faults : (files : List ChangedText) (b : ℕ) (told : List ℕ) → IsFitted asked.top texts files → TellAllSdf sdf (b ∷ told) → IsTextAnswer asked texts sdf (refusal status.Sdf (b ∷ told))
+  -- all are right
+  is_right : (files : List ChangedText) → IsFitted asked.top texts files → TellAllSdf sdf [] → IsTextAnswer asked texts sdf (changed_answer asked files sdf)
+
+-- whether two names reach one file, where that is told
+abbrev pub Meeting : Type 0
+Meeting = Option (List ℕ → List ℕ → Bool)
+
+-- whether a file that is made is one that is read
+abbrev pub meets : (List ℕ → List ℕ → Bool) → Asked → Bool
+meets is_one asked = list_any (λ m. list_any (is_one m) (inputs_of asked)) (made_of asked)
+
+-- where it isn't told, it may be so or not
+abbrev pub Meets : Meeting → Asked → Bool → Type 0
+Meets meeting asked met = (is_one : List ℕ → List ℕ → Bool) → meeting ≡ Some is_one → met ≡ meets is_one asked
+
+-- an answer to what is asked, over the files that are held
+pub data IsAnswerFor (asked : Asked) (meeting : Meeting) (held : List File) : Answer → Type 0 where
+  meets_one : Meets meeting asked true → IsAnswerFor asked meeting held (refusal status.Usage usage_line)
+  misses_netlist : (name : List ℕ) → Meets meeting asked false → files_of asked.netlists held ≡ Err name → IsAnswerFor asked meeting held (refusal status.Missing (missing_line name))
+  misses_sdf : (name : List ℕ) (netlists : List File) → Meets meeting asked false → files_of asked.netlists held ≡ Ok netlists → files_of asked.sdf held ≡ Err name
+      → IsAnswerFor asked meeting held (refusal status.Missing (missing_line name))
+  has_files : (netlists sdf : List File) (answer : Answer) → Meets meeting asked false → files_of asked.netlists held ≡ Ok netlists → files_of asked.sdf held ≡ Ok sdf
+      → IsTextAnswer asked (texts_of netlists) sdf answer → IsAnswerFor asked meeting held answer
+
+-- or the words are refused
+abbrev pub IsAnswerTo : Option Asked → Meeting → List File → Answer → Type 0
+IsAnswerTo None meeting files answer = answer ≡ refusal status.Usage usage_line
+IsAnswerTo (Some asked) meeting files answer = IsAnswerFor asked meeting files answer

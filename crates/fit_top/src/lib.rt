@@ -1,0 +1,19 @@
+//! `top`: from the words of `fit`'s command line to status, report and files.
+#![tactic(auto)]
+
+mod answer;
+mod answers;
+mod folders;
+mod inputs;
+mod lines;
+mod making;
+mod report;
+mod status;
+mod stop;
+mod system;
+mod texts;
+
+pub use answer::top;
+pub use folders::{FileFolders, Folders, MemoryFolders};
+pub use status::Status;
+pub use system::program;

@@ -1,0 +1,137 @@
+// The files that are made.
+ghost use Rattle.std.specs.Prelude.{◌≡◌, ◌++◌, List, IfOk, OnOk, map, zip};
+ghost use Rattle.sg_io.specs.Faults.{Cause, NamesFault};
+ghost use Rattle.sg_io.specs.Files.{BothTell};
+ghost use Rattle.fit_top.specs.Answer.{made_of_netlist, made_of_sdf};
+ghost use Rattle.fit_top.specs.Making.{Leaves, LeavesAll};
+ghost use Rattle.fit_top.specs.Stops.{FailsAmong, IfFolder, NeverFails, NeverFolder, end_of, folder_end};
+ghost use Rattle.fit_top.specs.Work.{input_seen, made_seen};
+
+use crate::folders::Folders;
+use crate::inputs::Input;
+use crate::stop::Stop;
+use fit_changes::Changes;
+use fit_words::made_name;
+use sg_io::{Shelf, ShelfError};
+use sg_text::NoMemory;
+use std::alloc::Global;
+
+/// A file that is made.
+#[derive(Drop)]
+pub struct Made {
+    pub name: String,
+    pub text: Vec<u8>,
+}
+
+/// Adds the files that are made of a netlist's, of these names, in a folder.
+pub fn add_netlists(
+    alloc: Global,
+    folder: &str,
+    names: &[&str],
+    list: &[Changes<'_>],
+    made: &mut Vec<Made>,
+) -> Result<(), NoMemory>
+    ensures { OnOk result (map made_seen made.new.items ≡ map made_seen made.old.items ++ map (made_of_netlist folder.now) (zip (map (λ n. n.now) names.now) list.now)) }
+{
+    for (name, changes) in names.iter().zip(list) {
+        let text = changes.changed(alloc)?;
+        let name = made_name(alloc, folder, name)?;
+        made.push(Made { name, text })?;
+    }
+    Ok(())
+}
+
+fn add_each(
+    alloc: Global,
+    folder: &str,
+    inputs: Vec<Input<'_>>,
+    made: &mut Vec<Made>,
+) -> Result<(), NoMemory>
+    ensures { OnOk result (map made_seen made.new.items ≡ map made_seen made.old.items ++ map (λ i. made_of_sdf folder.now (input_seen i)) inputs.entry.items) }
+{
+    for input in inputs {
+        let name = made_name(alloc, folder, input.name)?;
+        made.push(Made {
+            name,
+            text: input.text,
+        })?;
+    }
+    Ok(())
+}
+
+/// Adds the files that are made of SDF files in a folder.
+pub fn add_sdf(
+    alloc: Global,
+    folder: &str,
+    inputs: Vec<Input<'_>>,
+    made: &mut Vec<Made>,
+) -> Result<(), NoMemory>
+    ensures { OnOk result (map made_seen made.new.items ≡ map made_seen made.old.items ++ map (made_of_sdf folder.now) (map input_seen inputs.entry.items)) }
+{
+    add_each(alloc, folder, inputs, made)
+}
+
+// Makes a file of this text.
+fn make_text<S: Shelf>(shelf: &mut S, name: &str, text: &[u8]) -> Result<(), ShelfError>
+    ensures file { BothTell (S.files shelf.old) (S.files shelf.new) (Leaves name.now text.now result) }
+    ensures cause { Cause (S.fault_count shelf.old) (S.fault_count shelf.new) result }
+    ensures named { NamesFault name.now (S.last_fault shelf.old) (S.last_fault shelf.new) result }
+{
+    shelf.create(name)?;
+    shelf.append(name, text)?;
+    Ok(())
+}
+
+fn make_file<S: Shelf>(shelf: &mut S, file: &Made) -> Result<(), ShelfError>
+    ensures file { BothTell (S.files shelf.old) (S.files shelf.new) (Leaves (made_seen file.now).name (made_seen file.now).bytes result) }
+    ensures cause { Cause (S.fault_count shelf.old) (S.fault_count shelf.new) result }
+    ensures named { NamesFault (made_seen file.now).name (S.last_fault shelf.old) (S.last_fault shelf.new) result }
+{
+    make_text(shelf, &file.name, &file.text)
+}
+
+// Makes files, one after another.
+fn make_files<'a, S: Shelf>(shelf: &mut S, made: &[Made]) -> Result<(), Stop<'a>>
+    ensures files { BothTell (S.files shelf.old) (S.files shelf.new) (LeavesAll (map made_seen made.now) result) }
+    ensures cause { Cause (S.fault_count shelf.old) (S.fault_count shelf.new) (end_of result) }
+    ensures named { FailsAmong (S.last_fault shelf.new) (map (λ f. f.name) (map made_seen made.now)) result }
+    ensures folders { NeverFolder result }
+{
+    for file in made {
+        make_file(shelf, file)?;
+    }
+    Ok(())
+}
+
+fn make_folder<'a, F: Folders>(folders: &mut F, name: &'a str) -> Result<(), Stop<'a>>
+    ensures cause { Cause (F.fault_count folders.old) (F.fault_count folders.new) (folder_end result) }
+    ensures named { IfFolder (λ n. n ≡ name.now) result }
+    ensures never { NeverFails result }
+{
+    match folders.make(name) {
+        Ok(()) => Ok(()),
+        Err(ShelfError::Failed) => Err(Stop::Folder(name)),
+        Err(ShelfError::NoMemory) => Err(Stop::NoMemory),
+    }
+}
+
+/// Makes the folder and then the files, if there are any.
+pub fn make_all<'a, S: Shelf, F: Folders>(
+    shelf: &mut S,
+    folders: &mut F,
+    folder: &'a str,
+    made: &[Made],
+) -> Result<(), Stop<'a>>
+    ensures files { BothTell (S.files shelf.old) (S.files shelf.new) (LeavesAll (map made_seen made.now) result) }
+    ensures held { IfFolder (λ _. S.files shelf.new ≡ S.files shelf.old) result }
+    ensures cause { Cause (S.fault_count shelf.old) (S.fault_count shelf.new) (end_of result) }
+    ensures folders { Cause (F.fault_count folders.old) (F.fault_count folders.new) (folder_end result) }
+    ensures named { FailsAmong (S.last_fault shelf.new) (map (λ f. f.name) (map made_seen made.now)) result }
+    ensures folder { IfFolder (λ n. n ≡ folder.now) result }
+{
+    if made.len() == 0 {
+        return Ok(());
+    }
+    make_folder(folders, folder)?;
+    make_files(shelf, made)
+}

@@ -1,0 +1,110 @@
+-- The words of the command line and what they ask for.
+use Rattle.std.specs.Prelude.{ℕ, List, [], ◌∷◌, ◌++◌, length, map, Bool, true, ◌&&◌, not, Option, Some, None, option_and_then, nat_le, codes, if◌then◌else◌}
+use Rattle.std.specs.List.{filter_map, list_any, list_all, slice_get}
+use Rattle.fit_words.specs.Arguments.{Argument, setting, strict, netlist, is_text, arguments_of}
+use Rattle.fit_words.specs.Paths.{are_distinct, has_last, is_folder_of, last_of, name_in}
+
+-- The netlists' files in their order, the folder for what is made of them, the SDF files in theirs, and the top module; and whether
+-- nothing is to be written where something would be told.
+pub record Asked : Type 0 where
+  pub netlists : List (List ℕ)
+  pub out : List ℕ
+  pub sdf : List (List ℕ)
+  pub top : Option (List ℕ)
+  pub is_strict : Bool
+
+infixl 10 ◌>>=◌
+abbrev pub ◌>>=◌ : {A B : Type 0} → Option A → (A → Option B) → Option B
+known >>= next = option_and_then next known
+
+-- the value that an argument gives to the option of a name
+abbrev pub value_under : List ℕ → Argument → Option (List ℕ)
+value_under name (setting own value) = if is_text name own then Some value else None
+value_under name strict = None
+value_under name (netlist _) = None
+
+-- all values of the option of a name, in their order
+abbrev pub values_of : List ℕ → List Argument → List (List ℕ)
+values_of name arguments = filter_map (value_under name) arguments
+
+-- the value of an option that comes at most once
+abbrev pub value_of : List ℕ → List Argument → Option (List ℕ)
+value_of name arguments = slice_get (values_of name arguments) 0
+
+abbrev pub netlist_in : Argument → Option (List ℕ)
+netlist_in (setting _ _) = None
+netlist_in strict = None
+netlist_in (netlist name) = Some name
+
+-- the names of netlists, in their order
+abbrev pub netlists_of : List Argument → List (List ℕ)
+netlists_of arguments = filter_map netlist_in arguments
+
+abbrev pub strict_in : Argument → Option (List ℕ)
+strict_in (setting _ _) = None
+strict_in strict = Some []
+strict_in (netlist _) = None
+
+-- how often `--strict` comes
+abbrev pub count_strict : List Argument → ℕ
+count_strict arguments = length (filter_map strict_in arguments)
+
+-- the options that have a value
+abbrev pub options : List (List ℕ)
+options = codes "out" ∷ codes "sdf" ∷ codes "top" ∷ []
+
+-- an option's name is one of these, and no value and no netlist's name is empty
+abbrev pub is_known : Argument → Bool
+is_known (setting name value) = list_any (is_text name) options && nat_le 1 (length value)
+is_known strict = true
+is_known (netlist name) = nat_le 1 (length name)
+
+-- an option comes at most once
+abbrev pub is_single : List Argument → List ℕ → Bool
+is_single arguments name = nat_le (length (values_of name arguments)) 1
+
+-- each argument is known, each option but `--sdf` comes at most once, and there is a netlist
+abbrev pub are_sound : List Argument → Bool
+are_sound arguments =
+    list_all is_known arguments && is_single arguments (codes "out") && is_single arguments (codes "top") && nat_le (count_strict arguments) 1 && nat_le 1 (length (netlists_of arguments))
+
+-- what is asked for by sound arguments, of which the folder is required
+abbrev pub asked_with : List Argument → Option Asked
+asked_with arguments = do
+  out ← value_of (codes "out") arguments
+  Some (record {
+    netlists = netlists_of arguments;
+    out = out;
+    sdf = values_of (codes "sdf") arguments;
+    top = value_of (codes "top") arguments;
+    is_strict = nat_le 1 (count_strict arguments);
+  })
+
+-- the files that are read, in their order
+abbrev pub inputs_of : Asked → List (List ℕ)
+inputs_of asked = asked.netlists ++ asked.sdf
+
+-- Each file that is read has a last part of its name, and no two have the same; none of them lies in the folder.
+abbrev pub are_apart : (out : List ℕ) (inputs : List (List ℕ)) → Bool
+are_apart out inputs = list_all has_last inputs && are_distinct (map last_of inputs) && list_all (λ i. not (is_folder_of out i)) inputs
+
+abbrev pub asked_from : List Argument → Option Asked
+asked_from arguments = if are_sound arguments then asked_with arguments else None
+
+abbrev pub asked_apart : Asked → Option Asked
+asked_apart asked = if are_apart asked.out (inputs_of asked) then Some asked else None
+
+-- none where they are refused
+abbrev pub asked_of : List (List ℕ) → Option Asked
+asked_of words = do
+  arguments ← arguments_of words
+  asked ← asked_from arguments
+  asked_apart asked
+
+-- the file that is made of one that is read: that of its last part in the folder
+abbrev pub made_name : (out input : List ℕ) → List ℕ
+made_name out input = name_in out (last_of input)
+
+-- the files that are made, in their order
+abbrev pub made_of : Asked → List (List ℕ)
+made_of asked = map (made_name asked.out) (inputs_of asked)

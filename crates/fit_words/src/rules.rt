@@ -1,0 +1,160 @@
+// The rules on the arguments as a whole.
+ghost use Rattle.std.specs.Prelude.{◌≡◌, map, IfOk, option_map, is_some, count_by};
+ghost use Rattle.std.specs.List.{list_any, list_all};
+ghost use Rattle.fit_words.specs.Arguments.{is_text};
+ghost use Rattle.fit_words.specs.ArgumentsSeen.{argument_seen};
+ghost use Rattle.fit_words.specs.Words.{value_under, value_of, values_of, netlists_of, count_strict, options, is_known, is_single, are_sound, strict_in};
+
+use crate::arguments::Argument;
+use sg_text::NoMemory;
+use std::alloc::Global;
+
+// The options that have a value, in the order of the definition.
+pub const OPTIONS: [&str; 3] = ["out", "sdf", "top"];
+
+fn value_under<'a>(argument: &Argument<'a>, name: &str) -> Option<&'a str>
+    ensures { option_map (λ value. value.now) result ≡ value_under name.now (argument_seen argument.now) }
+{
+    match argument {
+        Argument::Setting { name: own, value } => { if *own == name { Some(value) } else { None } }
+        Argument::Strict => None,
+        Argument::Netlist(_) => None,
+    }
+}
+
+/// The first value of an option.
+pub fn value_of<'a>(arguments: &[Argument<'a>], name: &str) -> Option<&'a str>
+    ensures { option_map (λ value. value.now) result ≡ value_of name.now (map argument_seen arguments.now) }
+{
+    for argument in arguments {
+        if let Some(value) = value_under(argument, name) {
+            return Some(value);
+        }
+    }
+    None
+}
+
+/// All values of an option. Takes memory.
+pub fn values_of<'a>(
+    alloc: Global,
+    arguments: &[Argument<'a>],
+    name: &str,
+) -> Result<Vec<&'a str>, NoMemory>
+    ensures { IfOk result (λ values. map (λ value. value.now) values.items ≡ values_of name.now (map argument_seen arguments.now)) }
+{
+    let mut values = Vec::new(alloc);
+    for argument in arguments {
+        if let Some(value) = value_under(argument, name) {
+            values.push(value)?;
+        }
+    }
+    Ok(values)
+}
+
+/// The names of the netlists. Takes memory.
+pub fn netlists_of<'a>(alloc: Global, arguments: &[Argument<'a>]) -> Result<Vec<&'a str>, NoMemory>
+    ensures { IfOk result (λ names. map (λ name. name.now) names.items ≡ netlists_of (map argument_seen arguments.now)) }
+{
+    let mut names = Vec::new(alloc);
+    for argument in arguments {
+        if let Argument::Netlist(name) = argument {
+            names.push(*name)?;
+        }
+    }
+    Ok(names)
+}
+
+fn is_strict(argument: &Argument<'_>) -> bool
+    ensures { result ≡ is_some (strict_in (argument_seen argument.now)) }
+{
+    matches!(argument, Argument::Strict)
+}
+
+fn strict_count(arguments: &[Argument<'_>]) -> usize
+    ensures { result ≡ count_by (λ a. is_some (strict_in (argument_seen a))) arguments.now }
+{
+    arguments
+        .iter()
+        .filter(|argument| is_strict(argument))
+        .count()
+}
+
+/// How often `--strict` comes.
+pub fn count_strict(arguments: &[Argument<'_>]) -> usize
+    ensures { result ≡ count_strict (map argument_seen arguments.now) }
+{
+    strict_count(arguments)
+}
+
+fn is_among(names: &[&str], name: &str) -> bool
+    ensures { result ≡ list_any (λ n. is_text name.now n.now) names.now }
+{
+    names.iter().any(|n| *n == name)
+}
+
+fn is_one_of(names: &[&str], name: &str) -> bool
+    ensures { result ≡ list_any (is_text name.now) (map (λ n. n.now) names.now) }
+{
+    is_among(names, name)
+}
+
+fn is_option(name: &str) -> bool
+    ensures { result ≡ list_any (is_text name.now) options }
+{
+    is_one_of(&OPTIONS, name)
+}
+
+fn is_known(argument: &Argument<'_>) -> bool
+    ensures { result ≡ is_known (argument_seen argument.now) }
+{
+    match argument {
+        Argument::Setting { name, value } => is_option(name) && 1 <= value.len(),
+        Argument::Strict => true,
+        Argument::Netlist(name) => 1 <= name.len(),
+    }
+}
+
+fn is_under(argument: &Argument<'_>, name: &str) -> bool
+    ensures { result ≡ is_some (value_under name.now (argument_seen argument.now)) }
+{
+    value_under(argument, name).is_some()
+}
+
+fn count_under(arguments: &[Argument<'_>], name: &str) -> usize
+    ensures { result ≡ count_by (λ a. is_some (value_under name.now (argument_seen a))) arguments.now }
+{
+    arguments
+        .iter()
+        .filter(|argument| is_under(argument, name))
+        .count()
+}
+
+fn is_single(arguments: &[Argument<'_>], name: &str) -> bool
+    ensures { result ≡ is_single (map argument_seen arguments.now) name.now }
+{
+    count_under(arguments, name) <= 1
+}
+
+fn each_known(arguments: &[Argument<'_>]) -> bool
+    ensures { result ≡ list_all (λ a. is_known (argument_seen a)) arguments.now }
+{
+    arguments.iter().all(|argument| is_known(argument))
+}
+
+fn are_known(arguments: &[Argument<'_>]) -> bool
+    ensures { result ≡ list_all is_known (map argument_seen arguments.now) }
+{
+    each_known(arguments)
+}
+
+/// Whether the arguments keep the rules, where these are the netlists among them.
+pub fn are_sound(arguments: &[Argument<'_>], netlists: &[&str]) -> bool
+    requires { map (λ n. n.now) netlists.now ≡ netlists_of (map argument_seen arguments.now) }
+    ensures { result ≡ are_sound (map argument_seen arguments.now) }
+{
+    are_known(arguments)
+        && is_single(arguments, "out")
+        && is_single(arguments, "top")
+        && count_strict(arguments) <= 1
+        && 1 <= netlists.len()
+}
