@@ -6,13 +6,16 @@ program counts as missing.
 import hashlib
 import os
 import re
+import shutil
 import signal
 import subprocess
 import sys
+import tempfile
 from pathlib import Path
 
 ROOT = Path(__file__).resolve().parent.parent
-NAME = "signoff"
+# The program: `./signoff` where nothing else is said.
+NAME = os.environ.get("SIGNOFF_PROGRAM", "signoff")
 OUT = ROOT / "crates" / NAME / "out"
 PROVED = OUT / NAME
 UNPROVED = OUT / "unproved" / NAME
@@ -29,7 +32,7 @@ def hand_on(text):
 
 
 def tell(text):
-    hand_on(f"signoff: {text}\n")
+    hand_on(f"{NAME}: {text}\n")
 
 
 def crates():
@@ -136,10 +139,13 @@ def crate_of(rtlib):
 
 
 def is_right_on_the_example(program):
-    """Returns whether a program that was just made prints what it should."""
-    words = ["run", "data/t.v", "--stim", "data/t.st", "--vcd", str(program.with_name("out.vcd"))]
-    try:
-        ran = subprocess.run([str(program), *words], cwd=OUT.parent, stdin=subprocess.DEVNULL, capture_output=True)
-    except OSError:
-        return False
-    return ran.returncode == 0 and ran.stdout == (OUT.parent / "stdout").read_bytes()
+    """Returns whether a program that was just made prints what it should, of the words and the data of its crate."""
+    crate = OUT.parent
+    with tempfile.TemporaryDirectory() as room:
+        shutil.copytree(crate / "data", f"{room}/data")
+        try:
+            ran = subprocess.run([str(program), *(crate / "args").read_text().splitlines()], cwd=f"{room}/data", stdin=subprocess.DEVNULL, capture_output=True)
+        except OSError:
+            return False
+        status = int((crate / "status").read_text()) if (crate / "status").is_file() else 0
+        return ran.returncode == status and ran.stdout == (crate / "stdout").read_bytes()
