@@ -17,12 +17,22 @@ ROOT = Path(__file__).resolve().parent.parent
 # The program: `./signoff` where nothing else is said.
 NAME = os.environ.get("SIGNOFF_PROGRAM", "signoff")
 OUT = ROOT / "crates" / NAME / "out"
-PROVED = OUT / NAME
 UNPROVED = OUT / "unproved" / NAME
 # What `tools/listed` printed when a program was last chosen, below a line that says which.
 KEPT = OUT / "start"
 PARTS = ("src", "specs", "proofs")
 ENDS = (".rt", ".antt")
+
+
+def proved(name=NAME):
+    """Returns where the proved program is put."""
+    return ROOT / "crates" / name / "out" / name
+
+
+def all_of_them():
+    """Returns the names of the programs that a launcher at the top starts, `signoff` first."""
+    found = sorted(it.parent.parent.name for it in ROOT.glob("crates/*/src/main.rt"))
+    return sorted((it for it in found if (ROOT / it).is_file()), key=lambda it: it != "signoff")
 
 
 def hand_on(text):
@@ -35,11 +45,11 @@ def tell(text):
     hand_on(f"{NAME}: {text}\n")
 
 
-def crates():
+def crates(program=NAME):
     """Returns the program's crate and those below it, each with its words of crates.txt."""
     rows = [it.partition("#")[0].partition(":") for it in (ROOT / "crates.txt").read_text().splitlines()]
     said = {head.split()[0]: (head.split()[1:], uses.replace(",", " ").split()) for head, _, uses in rows if head.strip()}
-    found, ahead = {}, [NAME]
+    found, ahead = {}, [program]
     while ahead:
         name = ahead.pop()
         if name in said and name not in found:
@@ -66,10 +76,10 @@ def look_at(name):
     return [(it, it.stat().st_size, it.stat().st_mtime_ns, it.stat().st_ctime_ns) for it in files_of(name)]
 
 
-def sum_of_sources():
+def sum_of_sources(program=NAME):
     """Returns a sum over all that the program is made of: times of files say nothing here."""
     total = hashlib.sha256()
-    for name, said in sorted(crates().items()):
+    for name, said in sorted(crates(program).items()):
         sums = [(str(it.relative_to(ROOT)), sum_of(it)) for it in files_of(name)]
         total.update(repr((name, said, sums)).encode())
     return total.hexdigest()
@@ -132,15 +142,15 @@ def at_signals(action):
             signal.signal(it, action)
 
 
-def crate_of(rtlib):
-    """Returns the program's crate, which knows those below it."""
-    folder = str(ROOT / "crates" / NAME)
-    return rtlib.Crate(folder, rtlib.root_above(folder), {})
+def crate_of(rtlib, name=NAME, known=None):
+    """Returns the program's crate, which knows those below it; those that are known already are the same objects."""
+    folder = str(ROOT / "crates" / name)
+    return rtlib.Crate(folder, rtlib.root_above(folder), {} if known is None else known)
 
 
-def is_right_on_the_example(program):
+def is_right_on_the_example(program, name=NAME):
     """Returns whether a program that was just made prints what it should, of the words and the data of its crate."""
-    crate = OUT.parent
+    crate = ROOT / "crates" / name
     with tempfile.TemporaryDirectory() as room:
         shutil.copytree(crate / "data", f"{room}/data")
         try:
