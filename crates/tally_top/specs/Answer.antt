@@ -1,0 +1,91 @@
+-- What the program answers: its status and the report.
+use Rattle.std.specs.Prelude.{ℕ, ◌≡◌, ◌-◌, ◌^◌, ◌==◌, List, [], ◌∷◌, ◌++◌, length, take, map, option_map, unwrap_or, Option, Some, None, Ok, Err, codes, decimal, if◌then◌else◌}
+use Rattle.sg_io.specs.Files.{File, bytes_of}
+use Rattle.tally_top.specs.Words.{Asked}
+use Rattle.tally_top.specs.declared.status.Status.{Status}
+use Rattle.tally_top.specs.declared.status.Status.TheVariants as status
+use Rattle.tally_violations.specs.Figures.{figures_text}
+use Rattle.tally_violations.specs.Groups.{IsInOrder}
+use Rattle.tally_violations.specs.Left.{left_by}
+use Rattle.tally_violations.specs.Seen.{violation_seen, waiver_seen}
+use Rattle.tally_violations.specs.Violations.{violations}
+use Rattle.tally_violations.specs.Waivers.{waivers}
+use Rattle.tally_violations.specs.declared.violations.Violation.{Violation}
+use Rattle.tally_violations.specs.declared.waivers.Waiver.{Waiver}
+
+pub record Answer : Type 0 where
+  pub status : Status
+  pub report : List ℕ
+
+-- ---- lines
+
+abbrev pub line : List ℕ → List ℕ
+line text = text ++ 10 ∷ []
+
+abbrev pub usage_line : List ℕ
+usage_line = line (codes "usage: tally violations REPORT [--waive FILE]")
+
+abbrev pub missing_line : List ℕ → List ℕ
+missing_line name = line (codes "missing: " ++ name)
+
+abbrev pub fault_line : List ℕ → List ℕ
+fault_line name = line (codes "fault: " ++ name)
+
+abbrev pub report_fault_line : List ℕ
+report_fault_line = fault_line (codes "report")
+
+abbrev pub no_memory_line : List ℕ
+no_memory_line = line (codes "no memory")
+
+-- a line of a file that has no form
+abbrev pub refused_line : (what name : List ℕ) → (number : ℕ) → List ℕ
+refused_line what name number = line (what ++ codes " refused: " ++ name ++ codes ":" ++ decimal number ++ codes ": Syntax")
+
+-- ---- files that are read
+
+unfoldable pub read_limit : ℕ
+read_limit = 2 ^ 64 - 1
+
+abbrev pub text_of : (name : List ℕ) → (held : List File) → Option (List ℕ)
+text_of name held = option_map (take read_limit) (bytes_of name held)
+
+-- where no waivers are named, there are none
+abbrev pub waive_text : (name : Option (List ℕ)) → (held : List File) → Option (List ℕ)
+waive_text None held = Some []
+waive_text (Some name) held = text_of name held
+
+-- ---- the answer
+
+abbrev pub told : Status → List ℕ → Answer
+told how text = record { status = how; report = text }
+
+abbrev pub status_of : List Violation → Status
+status_of [] = status.Clear
+status_of (v ∷ vs) = status.Left
+
+-- The figures of violations: what waivers leave of them, in order. The report has their groups, and the status says whether one is left.
+pub record AreFigured (name : List ℕ) (all : List Violation) (ws : List Waiver) (answer : Answer) : Type 0 where
+  pub ordered : List Violation
+  pub in_order : IsInOrder (left_by ws all) ordered
+  pub is : answer ≡ told (status_of ordered) (figures_text name all ws ordered)
+
+-- the same by the text of the waivers, in a file of this name
+pub data IsWaived (name : List ℕ) (all : List Violation) (waive : List ℕ) (answer : Answer) : Type 0 where
+  waivers_refused : (number : ℕ) → waivers waive ≡ Err number → answer ≡ told status.Refused (refused_line (codes "waivers") name number) → IsWaived name all waive answer
+  figured : (ws : List Waiver) → waivers waive ≡ Ok (map (λ w. waiver_seen w) ws) → AreFigured name all ws answer → IsWaived name all waive answer
+
+-- an answer for the texts of the report and the waivers
+pub data IsTextAnswer (asked : Asked) (report waive : List ℕ) (answer : Answer) : Type 0 where
+  report_refused : (number : ℕ) → violations report ≡ Err number → answer ≡ told status.Refused (refused_line (codes "report") asked.report number) → IsTextAnswer asked report waive answer
+  waived : (all : List Violation) → violations report ≡ Ok (map (λ v. violation_seen v) all) → IsWaived (unwrap_or asked.waive []) all waive answer → IsTextAnswer asked report waive answer
+
+-- an answer over the files that are held
+pub data IsAnswerFor (asked : Asked) (held : List File) (answer : Answer) : Type 0 where
+  misses_report : text_of asked.report held ≡ None → answer ≡ told status.Missing (missing_line asked.report) → IsAnswerFor asked held answer
+  misses_waivers : waive_text asked.waive held ≡ None → answer ≡ told status.Missing (missing_line (unwrap_or asked.waive [])) → IsAnswerFor asked held answer
+  has_texts : (report waive : List ℕ) → text_of asked.report held ≡ Some report → waive_text asked.waive held ≡ Some waive → IsTextAnswer asked report waive answer → IsAnswerFor asked held answer
+
+-- or the words are refused
+abbrev pub IsAnswerTo : Option Asked → List File → Answer → Type 0
+IsAnswerTo None held answer = answer ≡ told status.Usage usage_line
+IsAnswerTo (Some asked) held answer = IsAnswerFor asked held answer

@@ -1,0 +1,9 @@
+-- The modules of this folder, in reading order.
+pub mod Words
+pub mod Status
+pub mod Answer
+pub mod Names
+pub mod Putting
+pub mod Promises
+pub mod Program
+pub mod Seen

@@ -1,0 +1,81 @@
+// The program round its top call: what it makes of the system's words, and the number with which it ends.
+ghost use Rattle.std.specs.Prelude.{◌≡◌, ◌↔◌, IfOk, IsTrue, drop};
+ghost use Rattle.std.specs.IoError.{error_kind};
+ghost use Rattle.std.specs.Process.{exit_status};
+ghost use Rattle.std.specs.Vec.Iter.{into_iter_items};
+ghost use Rattle.tally_top.specs.Status.{code_of};
+ghost use Rattle.tally_top.specs.Program.{Ends, WordsOf};
+
+use crate::answer::top;
+use crate::report::tell_no_memory;
+use crate::status::Status;
+use sg_io::{Shelf, Sink};
+use std::alloc::{AllocError, Global};
+use std::env::Args;
+use std::io::{self, ErrorKind};
+use std::process::ExitCode;
+
+fn is_want(error: &io::Error) -> bool
+    ensures { IsTrue result ↔ (error_kind error.now ≡ ErrorKind.OutOfMemory) }
+{
+    error.kind() == ErrorKind::OutOfMemory
+}
+
+// The words that are left after the first.
+fn without_first(alloc: Global, args: Args) -> Result<Vec<String>, AllocError>
+    ensures { IfOk result (λ words. words.items ≡ drop 1 (into_iter_items args)) }
+{
+    let mut left = args;
+    let _ = left.next();
+    let mut words = Vec::new(alloc);
+    for word in left {
+        words.push(word)?;
+    }
+    Ok(words)
+}
+
+// The words after the program's name. Words of which one isn't text are none.
+fn words_of(alloc: Global, args: io::Result<Args>) -> Result<Vec<String>, AllocError>
+    ensures { WordsOf args result }
+{
+    match args {
+        Ok(args) => without_first(alloc, args),
+        Err(error) if is_want(&error) => Err(AllocError),
+        Err(_) => Ok(Vec::new(alloc)),
+    }
+}
+
+// The status by which the top call ends on these words.
+fn status_of<S: Shelf, K: Sink>(
+    alloc: Global,
+    args: io::Result<Args>,
+    shelf: &mut S,
+    report: &mut K,
+) -> Status
+    ensures { Ends args
+        (record { files = S.files shelf.old; faults = S.fault_count shelf.old; last = S.last_fault shelf.old })
+        (record { files = S.files shelf.new; faults = S.fault_count shelf.new; last = S.last_fault shelf.new })
+        (K.told report.old) (K.told report.new) result }
+{
+    match words_of(alloc, args) {
+        Ok(words) => top(alloc, &words, shelf, report),
+        Err(_) => tell_no_memory(report),
+    }
+}
+
+/// Does what the system's words ask for, over this shelf and this sink: what the top call does on the words after the
+/// program's name, and the program ends with the number of its status. Where one of the words isn't text there are none.
+/// Where there was no memory for them, that is told, the status is that of want of memory, and the shelf isn't called.
+pub fn program<S: Shelf, K: Sink>(
+    alloc: Global,
+    args: io::Result<Args>,
+    shelf: &mut S,
+    report: &mut K,
+) -> ExitCode
+    ensures { (how : Status) × (exit_status result ≡ code_of how) × Ends args
+        (record { files = S.files shelf.old; faults = S.fault_count shelf.old; last = S.last_fault shelf.old })
+        (record { files = S.files shelf.new; faults = S.fault_count shelf.new; last = S.last_fault shelf.new })
+        (K.told report.old) (K.told report.new) how }
+{
+    ExitCode::from(status_of(alloc, args, shelf, report).code())
+}
