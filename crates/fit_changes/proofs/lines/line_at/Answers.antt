@@ -1,7 +1,7 @@
 -- The lines between two bytes are added.
 use Rattle.std.proofs.Common.{arith}
-use Rattle.fit_changes.proofs.ReportLaws.{line-later}
-use Rattle.fit_changes.proofs.report.line_at.Goals as goal
+use Rattle.fit_changes.proofs.LineLaws.{line-later}
+use Rattle.fit_changes.proofs.lines.line_at.Goals as goal
 
 pub returns : goal.returns
 returns c =
