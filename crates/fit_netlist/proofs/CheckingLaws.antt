@@ -26,3 +26,6 @@ is-kept top expanded made lines tree below headings tokens l h t w o = record {
   is_whole = subst (λ hs. IsWhole top hs tree below) h w;
   are_outside = AllPass-from_list_all (is_outside below) (map line_seen lines) (list_all-map (is_outside below) line_seen lines ∙ o);
 }
+
+pub kept-as : (top top' : Option (List ℕ)) (expanded made made' : List (List ℕ)) (lines lines' : List Line) → top ≡ top' → made ≡ made' → lines ≡ lines' → IsKept top expanded made lines → IsKept top' expanded made' lines'
+kept-as top top' expanded made made' lines lines' t m l k = subst (λ o. IsKept o expanded made' lines') t (subst (λ ts. IsKept top expanded ts lines') m (subst (IsKept top expanded made) l k))

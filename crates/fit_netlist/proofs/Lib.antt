@@ -3,3 +3,4 @@ pub mod ReadingLaws
 pub mod WritingLaws
 pub mod RoundLaws
 pub mod CheckingLaws
+pub mod PlaceLaws

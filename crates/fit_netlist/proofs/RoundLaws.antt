@@ -23,6 +23,9 @@ round-of files made before after w t e = record { files = files; are_read = refl
 pub round-at : (ts us made : List (List ℕ)) (before after : List Line) → ts ≡ us → IsRound ts made before after → IsRound us made before after
 round-at ts us made before after e r = subst (λ t. IsRound t made before after) e r
 
+pub round-first : (ts made made' : List (List ℕ)) (before after : List Line) → IsRound ts made before after → made ≡ made' → before ≡ [] → IsRound ts made' [] after
+round-first ts made made' before after r m b = subst (λ us. IsRound ts us [] after) m (subst (λ ls. IsRound ts made ls after) b r)
+
 -- ---- several
 
 pub none-made : (ts : List (List ℕ)) (lines : List Line) → AreMade ts ts lines lines
@@ -50,6 +53,7 @@ made-ahead ts mid made before between after r m = record {
 -- ---- the whole
 
 pub fitted-of : (top : Option (List ℕ)) (ts expanded : List (List ℕ)) (before : List Line) (f : code.Fitted) → IsRound ts expanded [] before → IsMadeOf top expanded before f → IsFitted top ts (texts f.texts.items) (map line_seen f.lines.items)
+unfolding made-ahead
 fitted-of top ts expanded before f r m =
     let all = made-ahead ts expanded (texts f.texts.items) [] before m.all r m.made in record {
       rounds = r.files ∷ m.made.rounds;
@@ -77,3 +81,7 @@ untouched top ts made lines inside m l = record {
 
 pub never : (P : Type 0) → false ≡ true → P
 never P e = absurd (let x : false ≡ true = e in cc)
+
+-- the same texts and lines by other names
+pub made-as : (ts made made' : List (List ℕ)) (before after after' : List Line) → made' ≡ made → after' ≡ after → AreMade ts made before after → AreMade ts made' before after'
+made-as ts made made' before after after' m l k = subst (λ us. AreMade ts us before after') (sym m) (subst (AreMade ts made before) (sym l) k)

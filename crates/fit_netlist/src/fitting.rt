@@ -43,6 +43,12 @@ fn wishes_nothing(wishes: &Wishes<'_>) -> bool
         && wishes.no_notifier.is_empty()
 }
 
+fn asks_nothing(given: &Given<'_>, wishes: &Wishes<'_>) -> bool
+    ensures { result ≡ asks_nothing given.now wishes.now }
+{
+    given.defines.is_empty() && wishes_nothing(wishes)
+}
+
 // Whether the files stay: no option asks for a change, and no rule concerns them.
 fn stays(
     alloc: Global,
@@ -53,7 +59,7 @@ fn stays(
     ensures inside { IfOk result (λ stays. stays ≡ true → IsInside (texts files.now)) }
     ensures only { asks_nothing given.now wishes.now ≡ true → IsInside (texts files.now) → IfOk result (λ stays. stays ≡ true) }
 {
-    if !given.defines.is_empty() || !wishes_nothing(wishes) {
+    if !asks_nothing(given, wishes) {
         return Ok(false);
     }
     is_inside(alloc, files)
@@ -64,10 +70,9 @@ fn as_they_stand(alloc: Global, files: &[Vec<u8>]) -> Result<Fitted, NoMemory>
     ensures { IfOk result (λ f. LeavesAll (texts files.now) (Ok f)) }
 {
     let list = unchanged(alloc, files)?;
-    Ok(Fitted {
-        texts: write_all(alloc, &list)?,
-        lines: Vec::new(alloc),
-    })
+    let texts = write_all(alloc, &list)?;
+    let lines = Vec::new(alloc);
+    Ok(Fitted { texts, lines })
 }
 
 // The rounds of the rules, till no part has to be left out.

@@ -16,7 +16,9 @@ use crate::faults::FitError;
 use crate::looking::left_out;
 use crate::reading::read_tokens;
 use crate::refusing::{refuse_inexact, refuse_some};
-use crate::stages::{Expansion, Given, Wishes, change_all, expand, is_exact_check, is_exact_expression, shape};
+use crate::stages::{
+    Expansion, Given, Wishes, change_all, expand, is_exact_check, is_exact_expression, shape,
+};
 use fit_changes::{Change, Changes, Line, Rule, add_lines};
 use fit_parts::part_end;
 use fit_rules::leave_out;
@@ -85,7 +87,8 @@ pub fn expand_round(
     ensures made { IfOk result (λ made. IsRound (texts files.now) (texts made.items) (map line_seen lines.old.items) (map line_seen lines.new.items)) }
     ensures refused { IfErr result Tells }
 {
-    match expand(alloc, files, given)? {
+    let expansion = expand(alloc, files, given)?;
+    match expansion {
         Expansion::Expanded(list) => finish(alloc, &list, lines),
         Expansion::Wants { from, name } => Err(FitError::Wants { from, name }),
         Expansion::Unfit(places) => Err(FitError::Unfit(places)),

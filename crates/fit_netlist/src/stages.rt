@@ -94,21 +94,13 @@ pub fn change_all(
     Ok(())
 }
 
-pub fn is_exact_expression(
-    _alloc: Global,
-    replaced: &[u8],
-    text: &[u8],
-) -> Result<bool, NoMemory>
+pub fn is_exact_expression(_alloc: Global, replaced: &[u8], text: &[u8]) -> Result<bool, NoMemory>
     ensures { IfOk result (λ exact. exact ≡ true → IsExpression replaced.now text.now) }
 {
     Ok(true)
 }
 
-pub fn is_exact_check(
-    _alloc: Global,
-    replaced: &[u8],
-    text: &[u8],
-) -> Result<bool, NoMemory>
+pub fn is_exact_check(_alloc: Global, replaced: &[u8], text: &[u8]) -> Result<bool, NoMemory>
     ensures { IfOk result (λ exact. exact ≡ true → IsCheck replaced.now text.now) }
 {
     Ok(true)

@@ -191,7 +191,8 @@ fn text_answer(
 ) -> Result<Answer, NoMemory>
     ensures { IfOk result (λ a. IsTextAnswer (asked_seen asked.now) (map (λ t. t.items) texts.now) (map input_seen sdf.entry.items) (answer_seen a)) }
 {
-    match fit(alloc, asked, texts)? {
+    let outcome = fit(alloc, asked, texts)?;
+    match outcome {
         Ok(fitted) => sdf_answer(alloc, asked, &fitted, sdf),
         Err(places) => {
             let lines = unfit_lines(alloc, &asked.netlists, &places)?;

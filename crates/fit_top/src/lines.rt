@@ -8,7 +8,8 @@ use sdf_read::SdfKind;
 use sg_text::NoMemory;
 use std::alloc::Global;
 
-pub const USAGE: &str = "usage: fit NETLIST.. --out FOLDER [--sdf FILE].. [--define NAME[=TEXT]].. [--include FOLDER].. [--top NAME] [--supply0 NET].. [--supply1 NET].. [--cut INSTANCE[:PIN,..]].. [--drop CELL].. [--drop-missing] [--no-checks PATH].. [--no-notifier PATH].. [--strict]";
+pub const USAGE: &str =
+    "usage: fit NETLIST.. --out FOLDER [--sdf FILE].. [--define NAME[=TEXT]].. [--include FOLDER].. [--top NAME] [--supply0 NET].. [--supply1 NET].. [--cut INSTANCE[:PIN,..]].. [--drop CELL].. [--drop-missing] [--no-checks PATH].. [--no-notifier PATH].. [--strict]";
 
 /// A text on a line of its own.
 pub fn line_of(alloc: Global, before: &str, name: &str) -> Result<Vec<u8>, NoMemory>

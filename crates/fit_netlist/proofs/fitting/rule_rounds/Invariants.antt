@@ -5,5 +5,5 @@ use Rattle.fit_changes.specs.Lines.{line_seen}
 use Rattle.fit_netlist.specs.Phases.{AreMade}
 use Rattle.fit_netlist.proofs.fitting.rule_rounds.Given as goal
 
-abbrev pub invariant-loop-_ : goal.invariant-loop-_
-invariant-loop-_ l = AreMade (texts l.fn.shaped.items) (texts l.files.items) (map line_seen l.fn.lines.items) (map line_seen l.lines.items)
+abbrev pub invariant-loop : goal.invariant-loop
+invariant-loop l = AreMade (texts l.fn.shaped.items) (texts l.files.items) (map line_seen l.fn.lines.items) (map line_seen l.lines.items)
