@@ -8,6 +8,9 @@ mod fitting;
 mod looking;
 mod reading;
 mod refusing;
+mod rounds;
+mod stages;
 
-pub use faults::{FitError, Unfit};
-pub use fitting::fit_netlist;
+pub use faults::FitError;
+pub use fitting::{Fitted, fit_netlist};
+pub use stages::{Found, Given, Included, Wishes};

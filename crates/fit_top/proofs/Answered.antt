@@ -3,35 +3,37 @@ use Rattle.std.proofs.Common.{◌≡◌, sym, subst, refl, ℕ, List, [], ◌∷
 use Rattle.std.specs.Prelude.{true, false, Result, Ok, Err, IfOk}
 use Rattle.sg_io.specs.Files.{File}
 use Rattle.fit_words.specs.Words.{Asked}
-use Rattle.fit_changes.specs.Changes.{ChangedText}
-use Rattle.fit_netlist.specs.declared.faults.Unfit as code_unfit
-use Rattle.fit_top.specs.Answer.{Answer, IsAnswerFor, IsFitted, IsTextAnswer, IsUnfit, Meeting, Meets, TellAllSdf, changed_answer, files_of, has_faults, has_files, is_right, is_unfit, meets_one, misses_netlist, misses_sdf, missing_line, refusal, texts_of, unfit_line, usage_line}
+use Rattle.vl_lex.specs.Seen.{texts}
+use Rattle.fit_changes.specs.Lines.{Line, line_seen}
+use Rattle.fit_changes.specs.declared.unfit.Unfit as code_unfit
+use Rattle.fit_netlist.specs.declared.fitting.Fitted as code_fitted
+use Rattle.fit_top.specs.Answer.{Answer, IsAnswerFor, IsFittedFor, IsTextAnswer, IsUnfit, Meeting, Meets, TellAllSdf, changed_answer, files_of, has_faults, has_files, is_right, is_unfit, meets_one, misses_netlist, misses_sdf, missing_line, refusal, texts_of, unfit_line, usage_line}
 use Rattle.fit_top.specs.declared.status.Status.TheVariants as status
 
 -- ---- by the texts
 
 module _ {X : Type 0} (seen : X → Answer) (asked : Asked) (sdf : List File) where
-  -- all that `fit_netlist` promises of changes
-  pub fitted_by : {E : Type 0} (r : Result X E) (texts : List (List ℕ)) (files : List ChangedText) → IsFitted asked.top texts files
-      → IfOk r (λ a. (ts : List (List ℕ)) → IsFitted asked.top ts files → IsTextAnswer asked ts sdf (seen a)) → IfOk r (λ a. IsTextAnswer asked texts sdf (seen a))
-  fitted_by (Ok a) texts files f h = h texts f
-  fitted_by (Err e) texts files f h = h
+  -- all that is promised of a netlist that is fitted
+  pub fitted_by : {E : Type 0} (r : Result X E) (read made : List (List ℕ)) (lines : List Line) → IsFittedFor asked read made lines
+      → IfOk r (λ a. (ts : List (List ℕ)) → IsFittedFor asked ts made lines → IsTextAnswer asked ts sdf (seen a)) → IfOk r (λ a. IsTextAnswer asked read sdf (seen a))
+  fitted_by (Ok a) read made lines f h = h read f
+  fitted_by (Err e) read made lines f h = h
 
   -- no SDF file has a fault
-  pub changed_by : {E : Type 0} (r : Result X E) (files : List ChangedText) (told : List ℕ) → TellAllSdf sdf told → told ≡ [] → IfOk r (λ a. seen a ≡ changed_answer asked files sdf)
-      → IfOk r (λ a. (ts : List (List ℕ)) → IsFitted asked.top ts files → IsTextAnswer asked ts sdf (seen a))
-  changed_by (Ok a) files told t e h = λ ts f. subst (IsTextAnswer asked ts sdf) (sym h) (is_right files f (subst (TellAllSdf sdf) e t))
-  changed_by (Err r) files told t e h = h
+  pub changed_by : {E : Type 0} (r : Result X E) (made : List (List ℕ)) (lines : List Line) (told : List ℕ) → TellAllSdf sdf told → told ≡ [] → IfOk r (λ a. seen a ≡ changed_answer asked made lines sdf)
+      → IfOk r (λ a. (ts : List (List ℕ)) → IsFittedFor asked ts made lines → IsTextAnswer asked ts sdf (seen a))
+  changed_by (Ok a) made lines told t e h = λ ts f. subst (IsTextAnswer asked ts sdf) (sym h) (is_right made lines f (subst (TellAllSdf sdf) e t))
+  changed_by (Err r) made lines told t e h = h
 
   -- or one has
-  pub faulty_by : (a : X) (files : List ChangedText) (told : List ℕ) → TellAllSdf sdf told → (told ≡ [] → ⊥) → seen a ≡ refusal status.Sdf told
-      → (ts : List (List ℕ)) → IsFitted asked.top ts files → IsTextAnswer asked ts sdf (seen a)
-  faulty_by a files [] t some e ts f = absurd (some refl)
-  faulty_by a files (b ∷ told) t some e ts f = subst (IsTextAnswer asked ts sdf) (sym e) (has_faults files b told f t)
+  pub faulty_by : (a : X) (made : List (List ℕ)) (lines : List Line) (told : List ℕ) → TellAllSdf sdf told → (told ≡ [] → ⊥) → seen a ≡ refusal status.Sdf told
+      → (ts : List (List ℕ)) → IsFittedFor asked ts made lines → IsTextAnswer asked ts sdf (seen a)
+  faulty_by a made lines [] t some e ts f = absurd (some refl)
+  faulty_by a made lines (b ∷ told) t some e ts f = subst (IsTextAnswer asked ts sdf) (sym e) (has_faults made lines b told f t)
 
-  pub unfit_by : (a : X) (texts : List (List ℕ)) (places : List code_unfit.Unfit) → IsUnfit texts places → seen a ≡ refusal status.Netlist (flat_map (unfit_line asked.netlists) places)
-      → IsTextAnswer asked texts sdf (seen a)
-  unfit_by a texts places u e = subst (IsTextAnswer asked texts sdf) (sym e) (is_unfit places u)
+  pub unfit_by : (a : X) (read : List (List ℕ)) (places : List code_unfit.Unfit) → IsUnfit asked read places → seen a ≡ refusal status.Netlist (flat_map (unfit_line asked.netlists) places)
+      → IsTextAnswer asked read sdf (seen a)
+  unfit_by a read places u e = subst (IsTextAnswer asked read sdf) (sym e) (is_unfit places u)
 
 pub no_bytes : (told : List ℕ) → length told ≡ 0 → told ≡ []
 no_bytes [] e = refl
