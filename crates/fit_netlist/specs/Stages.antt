@@ -1,16 +1,8 @@
--- What is wished beside the netlist, and what the stages answer.
+-- What is wished beside the netlist.
 use Rattle.std.specs.Prelude.{◌≡◌, ◌==◌, ◌<◌, ◌&&◌, ℕ, Bool, not, List, length}
 use Rattle.fit_changes.specs.Rounds.{read}
-use Rattle.fit_netlist.specs.declared.stages.Expansion.{Expansion}
-use Rattle.fit_netlist.specs.declared.stages.Expansion.TheVariants as expansion
-use Rattle.fit_netlist.specs.declared.stages.Given as given
-use Rattle.fit_netlist.specs.declared.stages.Wishes as wishes
-
--- the changes are of these texts, and a refusal names some places
-abbrev pub ReadsFiles : List (List ℕ) → Expansion → Type 0
-ReadsFiles texts (expansion.Expanded list) = read list.items ≡ texts
-ReadsFiles texts (expansion.Wants from name) = Unit {0}
-ReadsFiles texts (expansion.Unfit places) = 0 < length places.items
+use Rattle.fit_items.specs.declared.wishes.Wishes as wishes
+use Rattle.fit_text.specs.declared.given.Given as given
 
 -- no change is wished
 abbrev pub wishes_nothing : wishes.Wishes → Bool

@@ -13,10 +13,11 @@ use crate::faults::FitError;
 use crate::reading::read_tokens;
 use crate::refusing::bytes_of;
 use crate::rounds::{expand_round, rule_round, shape_round};
-use crate::stages::{Given, Wishes};
 use fit_changes::{Line, sort_lines};
 use fit_inside::is_inside;
+use fit_items::Wishes;
 use fit_parts::headings;
+use fit_text::Given;
 use sg_text::NoMemory;
 use std::alloc::Global;
 

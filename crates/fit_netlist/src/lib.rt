@@ -9,8 +9,6 @@ mod looking;
 mod reading;
 mod refusing;
 mod rounds;
-mod stages;
 
 pub use faults::FitError;
 pub use fitting::{Fitted, fit_netlist};
-pub use stages::{Found, Given, Included, Wishes};

@@ -8,8 +8,8 @@ use Rattle.fit_changes.specs.Lines.{line_seen}
 use Rattle.fit_netlist.specs.Fitted.{IsFitted, LeavesAll}
 use Rattle.fit_netlist.specs.Stages.{asks_nothing}
 use Rattle.fit_netlist.specs.declared.fitting.Fitted as code
-use Rattle.fit_netlist.specs.declared.stages.Given as given
-use Rattle.fit_netlist.specs.declared.stages.Wishes as wishes
+use Rattle.fit_text.specs.declared.given.Given as given
+use Rattle.fit_items.specs.declared.wishes.Wishes as wishes
 use Rattle.fit_inside.specs.Inside.{IsInside}
 use Rattle.fit_top.specs.Answer.{IsFittedFor, IsUntouched, asks_nothing as asks_for_nothing}
 

@@ -19,7 +19,9 @@ use crate::status::Status;
 use crate::stop::Stop;
 use crate::texts::{report_text, sdf_lines, told_text};
 use fit_changes::{Line, Unfit, are_told};
-use fit_netlist::{FitError, Fitted, Given, Wishes, fit_netlist};
+use fit_items::Wishes;
+use fit_netlist::{FitError, Fitted, fit_netlist};
+use fit_text::Given;
 use fit_words::{Asked, inputs_of, made_name};
 use sg_io::Shelf;
 use sg_text::NoMemory;
@@ -154,7 +156,7 @@ fn wishes<'w>(asked: &'w Asked<'w>) -> Wishes<'w>
 fn missing_include(alloc: Global, name: &[u8]) -> Result<Vec<Unfit>, NoMemory>
     ensures { IfOk result (λ places. 0 < length places.items) }
 {
-    let mut kind = Vec::from_slice(alloc, b"MissingInclude ")?;
+    let mut kind = Vec::from_slice(alloc, b"Unsupported include ")?;
     kind.extend_from_slice(name)?;
     let mut places = Vec::new(alloc);
     places.push(Unfit {
