@@ -1,5 +1,5 @@
 -- What was looked at, joined.
-use Rattle.std.specs.Prelude.{◌≡◌, ℕ, Bool, true, List, Option, Ok, All, map}
+use Rattle.std.specs.Prelude.{◌≡◌, ℕ, Bool, true, List, Option, Ok, map}
 use Rattle.std.specs.List.{list_all}
 use Rattle.std.proofs.Common.{◌∙◌, subst}
 use Rattle.std.proofs.lemmas.List.Folds.{list_all-map}

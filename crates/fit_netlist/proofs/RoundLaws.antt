@@ -1,8 +1,7 @@
 -- Rounds, one after another.
-use Rattle.std.specs.Prelude.{◌≡◌, ℕ, true, false, List, Option, [], ◌∷◌, ◌++◌, All, length, map, refl}
+use Rattle.std.specs.Prelude.{◌≡◌, ℕ, true, false, List, Option, [], ◌∷◌, ◌++◌, map, refl}
 use Rattle.std.proofs.Common.{◌∙◌, ap, append_assoc, arith, inl, inr, subst, sym}
-use Rattle.std.proofs.lemmas.List.{append-nil, map-append}
-use Rattle.std.specs.List.Sorted.{IsPermutation}
+use Rattle.std.proofs.lemmas.List.{append-nil}
 use Rattle.std.proofs.lemmas.List.Sorted.{IsPermutation-refl}
 use Rattle.std.proofs.lemmas.List.Elements.{All-cons, All-append}
 use Rattle.vl_lex.specs.Seen.{texts}

@@ -3,7 +3,6 @@ use Rattle.std.specs.Prelude.{map, option_map}
 use Rattle.std.proofs.Common.{◌∙◌, sym}
 use Rattle.vl_lex.specs.Seen.{texts}
 use Rattle.vl_tree.specs.Seen.{view_source}
-use Rattle.fit_changes.specs.Lines.{line_seen}
 use Rattle.fit_parts.specs.Below.{holds}
 use Rattle.fit_parts.specs.Parts.{heading_seen}
 use Rattle.fit_netlist.proofs.CheckingLaws.{is-kept}

@@ -1,5 +1,4 @@
 -- The changes are exact, and they are told.
-use Rattle.std.proofs.Common.{◌∙◌}
 use Rattle.fit_netlist.proofs.RoundLaws.{round-of}
 use Rattle.fit_netlist.proofs.rounds.finish.Goals as goal
 
