@@ -1,13 +1,13 @@
 -- The answer for the texts of a netlist and of SDF files, and for the files that are held.
-use Rattle.std.proofs.Common.{◌≡◌, sym, subst, refl, ℕ, List, [], ◌∷◌, flat_map, length, arith}
-use Rattle.std.specs.Prelude.{true, false, Result, Ok, Err, IfOk}
+use Rattle.std.proofs.Common.{◌≡◌, ◌∙◌, ap, sym, subst, refl, ℕ, List, [], ◌∷◌, ◌++◌, flat_map, length, map, arith}
+use Rattle.std.specs.Prelude.{true, false, Result, Ok, Err, IfOk, zip}
 use Rattle.sg_io.specs.Files.{File}
 use Rattle.fit_words.specs.Words.{Asked}
 use Rattle.vl_lex.specs.Seen.{texts}
-use Rattle.fit_changes.specs.Lines.{Line, line_seen}
+use Rattle.fit_changes.specs.Lines.{Line}
 use Rattle.fit_changes.specs.declared.unfit.Unfit as code_unfit
-use Rattle.fit_netlist.specs.declared.fitting.Fitted as code_fitted
-use Rattle.fit_top.specs.Answer.{Answer, IsAnswerFor, IsFittedFor, IsTextAnswer, IsUnfit, Meeting, Meets, TellAllSdf, changed_answer, files_of, has_faults, has_files, is_right, is_unfit, meets_one, misses_netlist, misses_sdf, missing_line, refusal, texts_of, unfit_line, usage_line}
+use Rattle.fit_top.specs.Answer.{Answer, IsAnswerFor, IsFittedFor, IsTextAnswer, IsUnfit, Meeting, Meets, TellAllSdf, changed_answer, files_of, fitted_answer, made_files, made_of_netlist, made_of_sdf, report_text, status_of, has_faults, has_files, is_right, is_unfit, meets_one, misses_netlist, misses_sdf, missing_line, refusal, texts_of, unfit_line, usage_line}
+use Rattle.fit_top.specs.declared.status.Status.{Status}
 use Rattle.fit_top.specs.declared.status.Status.TheVariants as status
 
 -- ---- by the texts
@@ -56,3 +56,17 @@ module _ {X : Type 0} (seen : X → Answer) (asked : Asked) (meeting : Meeting) 
 
   pub one_met : (a : X) → Meets meeting asked true → seen a ≡ refusal status.Usage usage_line → IsAnswerFor asked meeting held (seen a)
   one_met a m e = subst (IsAnswerFor asked meeting held) (sym e) (meets_one m)
+
+-- ---- the answer for a netlist that is fitted, by its parts
+
+pub fitted_with : (asked : Asked) (made : List (List ℕ)) (lines : List Line) (sdf : List File) (how : Status) (files : List File) (report : List ℕ) → how ≡ status_of lines → files ≡ made_files asked made sdf
+    → report ≡ report_text asked.netlists lines → record { status = how; made = files; report = report } ≡ fitted_answer asked made lines sdf
+fitted_with asked made lines sdf how files report h f r = λ i. record { status = h i; made = f i; report = r i }
+
+pub made_with : (out : List ℕ) (none more all : List File) (names names' : List (List ℕ)) (made made' : List (List ℕ)) (sdf : List File) → none ≡ [] → more ≡ none ++ map (made_of_netlist out) (zip names made) → names ≡ names' → made ≡ made'
+    → all ≡ more ++ map (made_of_sdf out) sdf → all ≡ map (made_of_netlist out) (zip names' made') ++ map (made_of_sdf out) sdf
+made_with out none more all names names' made made' sdf n m e f a =
+    a ∙ ap (λ fs. fs ++ map (made_of_sdf out) sdf) (m ∙ ap (λ fs. fs ++ map (made_of_netlist out) (zip names made)) n ∙ ap (λ ns. map (made_of_netlist out) (zip ns made)) e ∙ ap (λ ts. map (made_of_netlist out) (zip names' ts)) f)
+
+pub told_with : (names names' : List (List ℕ)) (lines lines' : List Line) (text : List ℕ) → text ≡ report_text names lines → names ≡ names' → lines ≡ lines' → text ≡ report_text names' lines'
+told_with names names' lines lines' text t n l = t ∙ ap (λ ns. report_text ns lines) n ∙ ap (report_text names') l

@@ -1,5 +1,5 @@
 -- All that is promised of a netlist's fitting.
-use Rattle.std.proofs.Common.{◌∙◌, map}
+use Rattle.std.proofs.Common.{map}
 use Rattle.fit_words.specs.WordsSeen.{asked_seen}
 use Rattle.fit_top.proofs.Asking.{asks-same, fitted-for}
 use Rattle.fit_top.proofs.answers.fit.Goals as goal

@@ -13,10 +13,10 @@ returns-in-Ok c =
     fitted_by answer_seen (asked_seen c.args.asked.now) (map input_seen c.args.sdf.items) c.sdf_answer.result (map (λ t. t.items) c.args.texts.now) (texts c.in-Ok.fitted.texts.items) (map line_seen c.in-Ok.fitted.lines.items)
     (subst (IsFit (asked_seen c.args.asked.now) (map (λ t. t.items) c.args.texts.now)) c.in-Ok.is c.in_ok-outcome.ensures) c.sdf_answer.ensures
 
-pub returns-in-Err : goal.returns-in-Err
-returns-in-Err c =
+pub returns-in_ok-lines-in-Err : goal.returns-in_ok-lines-in-Err
+returns-in_ok-lines-in-Err c =
     unfit_by answer_seen (asked_seen c.args.asked.now) (map input_seen c.args.sdf.items) c.refusal.result (map (λ t. t.items) c.args.texts.now) c.in-Err.places.items
     (subst (IsFit (asked_seen c.args.asked.now) (map (λ t. t.items) c.args.texts.now)) c.in-Err.is c.in_ok-outcome.ensures)
     (c.refusal.ensures ∙ ap (refusal status.Netlist) (c.in_ok-lines-in-Err.ensures
-    ∙ ap (λ l. flat_map (unfit_line (map (λ n. n.now) l)) c.deref-in-Err-2.result.now) c.deref-in-Err.ensures.value
-    ∙ ap (flat_map (unfit_line (map (λ n. n.now) c.args.asked.now.netlists.items))) c.deref-in-Err-2.ensures.value))
+    ∙ ap (λ l. flat_map (unfit_line (map (λ n. n.now) l)) c.deref-in-Err.result.now) c.deref.ensures.value
+    ∙ ap (flat_map (unfit_line (map (λ n. n.now) c.args.asked.now.netlists.items))) c.deref-in-Err.ensures.value))

@@ -22,7 +22,7 @@ loop-name-preserved c = record {
       (search (rules, c.zip-name-items.ensures.second, c.iter.ensures.rest, c.into_iter-name-iterator.ensures.into_iter_gives))
       c.loop-name.yielded_by (c.in-Some.name, c.in-Some.written) c.in-Some.is c.next.ensures.steps))
       (ap (map made_seen) c.in_ok-push.ensures.items ∙ map-append made_seen c.loop-name.made.items (_ ∷ [])
-      ∙ ap (λ f. map made_seen c.loop-name.made.items ++ f ∷ []) (same_file _ _ _ _ c.in_ok-name.ensures (c.in_ok-text.ensures ∙ c.deref.ensures.value)))
+      ∙ ap (λ f. map made_seen c.loop-name.made.items ++ f ∷ []) (same_file _ _ _ _ c.in_ok-name.ensures (c.in_ok-text.ensures.items ∙ c.deref.ensures.value)))
       c.loop-name.invariant.left;
 }
 
