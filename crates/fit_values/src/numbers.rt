@@ -202,6 +202,10 @@ impl Number {
     /// The quotient, of whole numbers without what stands behind its point.
     pub fn over(self, other: Number) -> Option<Number> {
         let kind = kind_of_both(self.kind, other.kind)?;
+        // What is below 0 counts as 2^32 more where the other has no sign (5.5.1).
+        if kind == NumberKind::Unsigned && self.top < 0 {
+            return None;
+        }
         if kind != NumberKind::Real {
             return fraction(self.top.checked_div(other.top)?, 1, kind);
         }
