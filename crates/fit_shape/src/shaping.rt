@@ -212,6 +212,26 @@ fn changed_parts(alloc: Global, plan: &Plan) -> Result<IndexSet<usize>, NoMemory
     Ok(numbers)
 }
 
+// Adds the changes of a part.
+fn write_unit(
+    alloc: Global,
+    plan: &Plan,
+    library: &Library<'_, '_>,
+    number: usize,
+    list: &mut [Changes<'_>],
+) -> Result<(), NoMemory>
+    ensures { map (λ f. f.text) list.new ≡ map (λ f. f.text) list.old }
+{
+    let Some(unit) = library.units.get(number) else {
+        return Ok(());
+    };
+    let Some(module) = unit.module() else {
+        return Ok(());
+    };
+    let edits = edits_of(alloc, plan, number, unit, module, list)?;
+    add_edits(list, edits)
+}
+
 // Adds the changes of all parts.
 fn write_plan(
     alloc: Global,
@@ -222,13 +242,9 @@ fn write_plan(
     ensures { map (λ f. f.text) list.new ≡ map (λ f. f.text) list.old }
 {
     let numbers = changed_parts(alloc, plan)?;
-    for (number, unit) in library.units.iter().enumerate() {
-        let Some(module) = unit.module() else {
-            continue;
-        };
+    for number in 0..library.units.len() {
         if numbers.contains(&number) {
-            let edits = edits_of(alloc, plan, number, unit, module, list)?;
-            add_edits(list, edits)?;
+            write_unit(alloc, plan, library, number, list)?;
         }
     }
     Ok(())
