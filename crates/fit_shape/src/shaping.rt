@@ -11,7 +11,7 @@ use fit_library::{
 };
 use fit_wrappers::{Cuts, Moved, add_cut, add_dropped, add_flattened};
 use indexmap::{IndexMap, IndexSet};
-use sg_text::{NoMemory, Place};
+use sg_text::NoMemory;
 use std::alloc::Global;
 use vl_token::Token;
 
@@ -250,7 +250,15 @@ fn write_plan(
     Ok(())
 }
 
-// A wish that can't be met, at the top.
+// The line of a token, from 1.
+fn line_of(files: &[Changes<'_>], token: &Token<'_>) -> u64 {
+    match files.get(token.place.file as usize) {
+        Some(file) => token.place.line_of(file.text()),
+        None => 1,
+    }
+}
+
+// A wish that can't be met, at the top, or at the first line where there is none.
 fn unfit_at(
     alloc: Global,
     plan: &Plan,
@@ -258,24 +266,23 @@ fn unfit_at(
     files: &[Changes<'_>],
     kind: &[u8],
 ) -> Result<Unfit, NoMemory> {
-    let mut place = Place { file: 0, byte: 0 };
-    let mut name: &[u8] = b"";
-    if let Some(unit) = plan.top.and_then(|top| library.units.get(top)) {
-        name = unit.name;
-        if let Some(token) = unit.part.first() {
-            place = token.place;
-        }
+    let kind = Vec::from_slice(alloc, kind)?;
+    let top = plan.top.and_then(|top| library.units.get(top));
+    let first = top.and_then(|unit| unit.part.first());
+    match (top, first) {
+        (Some(unit), Some(token)) => Ok(Unfit {
+            file: token.place.file,
+            line: line_of(files, token),
+            kind,
+            part: Vec::from_slice(alloc, unit.name)?,
+        }),
+        _ => Ok(Unfit {
+            file: 0,
+            line: 1,
+            kind,
+            part: Vec::new(alloc),
+        }),
     }
-    let line = match files.get(place.file as usize) {
-        Some(file) => place.line_of(file.text()),
-        None => 1,
-    };
-    Ok(Unfit {
-        file: place.file,
-        line,
-        kind: Vec::from_slice(alloc, kind)?,
-        part: Vec::from_slice(alloc, name)?,
-    })
 }
 
 // The wishes that can't be met.

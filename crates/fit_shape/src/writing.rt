@@ -408,17 +408,3 @@ fn told_inputs(alloc: Global, inputs: &IndexMap<Vec<u8>, Input>) -> Result<Vec<u
     }
     Ok(what)
 }
-
-/// Whether a part has changes.
-pub fn is_changed(number: usize, unit: &Unit<'_, '_>, fates: &Fates) -> bool {
-    let Some(module) = unit.module() else {
-        return false;
-    };
-    module.items.iter().enumerate().any(|(place, item)| {
-        statement_of(item).is_some_and(|statement| {
-            (0..statement.instances.len()).any(|instance| fates
-                .get(&one_instance(number, place, instance))
-                .is_some())
-        })
-    })
-}
