@@ -1,5 +1,6 @@
 -- The modules of this folder.
 pub mod Answered
+pub mod IncludingLaws
 pub mod Kept
 pub mod MadeNames
 pub mod MakingLaws
@@ -12,3 +13,4 @@ pub mod Reading
 pub mod Telling
 pub mod ToldLaws
 pub mod Worked
+pub mod Asking

@@ -1,23 +1,27 @@
 // The answer to what is asked.
-ghost use Rattle.std.specs.Prelude.{◌≡◌, ℕ, Bool, List, IfOk, Ok, Some, false, map, option_map, string_bytes};
+ghost use Rattle.std.specs.Prelude.{◌≡◌, ℕ, Bool, List, IfOk, Ok, Some, false, map, string_bytes};
 ghost use Rattle.std.specs.List.{list_any};
 ghost use Rattle.sg_io.specs.Faults.{Cause};
 ghost use Rattle.sg_io.specs.Files.{File};
-ghost use Rattle.fit_words.specs.Words.{inputs_of, made_name};
+ghost use Rattle.fit_words.specs.Words.{made_name};
 ghost use Rattle.fit_words.specs.WordsSeen.{asked_seen};
-ghost use Rattle.fit_top.specs.Answer.{IsAnswerFor, IsFitted, IsTextAnswer, Meeting, Meets, TellAllSdf, changed_answer, files_of, fitted_answer, missing_line, refusal, status_of, usage_line};
-ghost use Rattle.fit_top.specs.Stops.{FailsAmong, NeverFolder, end_of};
+ghost use Rattle.vl_lex.specs.Seen.{texts};
+ghost use Rattle.fit_changes.specs.Lines.{line_seen};
+ghost use Rattle.fit_top.specs.Answer.{IsAnswerFor, IsFittedFor, IsTextAnswer, Meeting, Meets, TellAllSdf, changed_answer, files_of, fitted_answer, missing_line, refusal, status_of, usage_line};
+ghost use Rattle.fit_top.specs.Including.{FailsReading};
+ghost use Rattle.fit_top.specs.Stops.{NeverFolder, end_of};
 ghost use Rattle.fit_top.specs.Work.{answer_seen, input_seen};
 
 use crate::folders::Folders;
+use crate::including::fit;
 use crate::inputs::{Input, read_files, texts_of};
 use crate::lines::{USAGE, line_of, unfit_lines};
 use crate::making::{Made, add_netlists, add_sdf};
 use crate::status::Status;
 use crate::stop::Stop;
 use crate::texts::{report_text, sdf_lines, told_text};
-use fit_changes::{Changes, is_told};
-use fit_netlist::{FitError, fit_netlist};
+use fit_changes::{Line, are_told};
+use fit_netlist::Fitted;
 use fit_words::{Asked, inputs_of, made_name};
 use sg_io::Shelf;
 use sg_text::NoMemory;
@@ -57,10 +61,10 @@ fn missing_answer(alloc: Global, name: &str) -> Result<Answer, NoMemory>
     Ok(refusal(alloc, Status::Missing, line))
 }
 
-fn status_of(list: &[Changes<'_>]) -> Status
-    ensures { result ≡ status_of list.now }
+fn status_of(lines: &[Line]) -> Status
+    ensures { result ≡ status_of (map line_seen lines.now) }
 {
-    if is_told(list) {
+    if are_told(lines) {
         Status::Told
     } else {
         Status::Same
@@ -70,17 +74,17 @@ fn status_of(list: &[Changes<'_>]) -> Status
 fn fitted_answer(
     alloc: Global,
     asked: &Asked<'_>,
-    list: &[Changes<'_>],
+    fitted: &Fitted,
     sdf: Vec<Input<'_>>,
 ) -> Result<Answer, NoMemory>
-    ensures { IfOk result (λ a. answer_seen a ≡ fitted_answer (asked_seen asked.now) list.now (map input_seen sdf.entry.items)) }
+    ensures { IfOk result (λ a. answer_seen a ≡ fitted_answer (asked_seen asked.now) (texts fitted.now.texts.items) (map line_seen fitted.now.lines.items) (map input_seen sdf.entry.items)) }
 {
-    let report = report_text(alloc, &asked.netlists, list)?;
+    let report = report_text(alloc, &asked.netlists, &fitted.lines)?;
     let mut made = Vec::new(alloc);
-    add_netlists(alloc, asked.out, &asked.netlists, list, &mut made)?;
+    add_netlists(alloc, asked.out, &asked.netlists, &fitted.texts, &mut made)?;
     add_sdf(alloc, asked.out, sdf, &mut made)?;
     Ok(Answer {
-        status: status_of(list),
+        status: status_of(&fitted.lines),
         made,
         report,
     })
@@ -89,60 +93,57 @@ fn fitted_answer(
 fn changed_answer(
     alloc: Global,
     asked: &Asked<'_>,
-    list: &[Changes<'_>],
+    fitted: &Fitted,
     sdf: Vec<Input<'_>>,
 ) -> Result<Answer, NoMemory>
-    ensures { IfOk result (λ a. answer_seen a ≡ changed_answer (asked_seen asked.now) list.now (map input_seen sdf.entry.items)) }
+    ensures { IfOk result (λ a. answer_seen a ≡ changed_answer (asked_seen asked.now) (texts fitted.now.texts.items) (map line_seen fitted.now.lines.items) (map input_seen sdf.entry.items)) }
 {
-    if asked.is_strict && is_told(list) {
-        let line = told_text(alloc, &asked.netlists, list)?;
+    if asked.is_strict && are_told(&fitted.lines) {
+        let line = told_text(alloc, &asked.netlists, &fitted.lines)?;
         return Ok(refusal(alloc, Status::Told, line));
     }
-    fitted_answer(alloc, asked, list, sdf)
+    fitted_answer(alloc, asked, fitted, sdf)
 }
 
-// The answer for a netlist that is fitted by these changes.
+// The answer for a netlist that is fitted.
 fn sdf_answer(
     alloc: Global,
     asked: &Asked<'_>,
-    list: &[Changes<'_>],
+    fitted: &Fitted,
     sdf: Vec<Input<'_>>,
 ) -> Result<Answer, NoMemory>
-    ensures { IfOk result (λ a. (texts : List (List ℕ)) → IsFitted (asked_seen asked.now).top texts list.now → IsTextAnswer (asked_seen asked.now) texts (map input_seen sdf.entry.items) (answer_seen a)) }
+    ensures { IfOk result (λ a. (read : List (List ℕ)) → IsFittedFor (asked_seen asked.now) read (texts fitted.now.texts.items) (map line_seen fitted.now.lines.items)
+        → IsTextAnswer (asked_seen asked.now) read (map input_seen sdf.entry.items) (answer_seen a)) }
 {
     let faults = sdf_lines(alloc, &sdf)?;
     if faults.len() == 0 {
-        changed_answer(alloc, asked, list, sdf)
+        changed_answer(alloc, asked, fitted, sdf)
     } else {
         Ok(refusal(alloc, Status::Sdf, faults))
     }
 }
 
-fn bytes_of(top: Option<&str>) -> Option<&[u8]>
-    ensures { option_map (λ n. n.now) result ≡ option_map (λ n. n.now) top.entry }
-{
-    match top {
-        Some(name) => Some(name.as_bytes()),
-        None => None,
-    }
-}
-
 // The answer for the texts of a netlist and of SDF files.
-fn text_answer(
+fn text_answer<'a, S: Shelf>(
     alloc: Global,
     asked: &Asked<'_>,
     texts: &[Vec<u8>],
     sdf: Vec<Input<'_>>,
-) -> Result<Answer, NoMemory>
-    ensures { IfOk result (λ a. IsTextAnswer (asked_seen asked.now) (map (λ t. t.items) texts.now) (map input_seen sdf.entry.items) (answer_seen a)) }
+    shelf: &mut S,
+) -> Result<Answer, Stop<'a>>
+    ensures right { IfOk result (λ a. IsTextAnswer (asked_seen asked.now) (map (λ t. t.items) texts.now) (map input_seen sdf.entry.items) (answer_seen a)) }
+    ensures held { S.files shelf.new ≡ S.files shelf.old }
+    ensures cause { Cause (S.fault_count shelf.old) (S.fault_count shelf.new) (end_of result) }
+    ensures named { FailsReading (asked_seen asked.now) (S.last_fault shelf.new) result }
+    ensures folders { NeverFolder result }
 {
-    match fit_netlist(alloc, texts, bytes_of(asked.top)) {
-        Ok(list) => sdf_answer(alloc, asked, &list, sdf),
-        Err(FitError::Unfit(places)) => {
+    let outcome = fit(alloc, asked, texts, shelf)?;
+    match outcome {
+        Ok(fitted) => Ok(sdf_answer(alloc, asked, &fitted, sdf)?),
+        Err(places) => {
             let lines = unfit_lines(alloc, &asked.netlists, &places)?;
             Ok(refusal(alloc, Status::Netlist, lines))
         }
-        Err(FitError::NoMemory) => Err(NoMemory),
     }
 }
 
@@ -158,13 +159,13 @@ fn answer_with<'a, S: Shelf>(
         → IfOk result (λ a. IsAnswerFor (asked_seen asked.now) meeting held (answer_seen a)) }
     ensures held { S.files shelf.new ≡ S.files shelf.old }
     ensures cause { Cause (S.fault_count shelf.old) (S.fault_count shelf.new) (end_of result) }
-    ensures named { FailsAmong (S.last_fault shelf.new) (inputs_of (asked_seen asked.now)) result }
+    ensures named { FailsReading (asked_seen asked.now) (S.last_fault shelf.new) result }
     ensures folders { NeverFolder result }
 {
     match read_files(alloc, shelf, &asked.sdf)? {
         Ok(sdf) => {
             let texts = texts_of(alloc, netlists)?;
-            Ok(text_answer(alloc, asked, &texts, sdf)?)
+            text_answer(alloc, asked, &texts, sdf, shelf)
         }
         Err(name) => Ok(missing_answer(alloc, name)?),
     }
@@ -180,7 +181,7 @@ fn answer_apart<'a, S: Shelf>(
         → IfOk result (λ a. IsAnswerFor (asked_seen asked.now) meeting held (answer_seen a)) }
     ensures held { S.files shelf.new ≡ S.files shelf.old }
     ensures cause { Cause (S.fault_count shelf.old) (S.fault_count shelf.new) (end_of result) }
-    ensures named { FailsAmong (S.last_fault shelf.new) (inputs_of (asked_seen asked.now)) result }
+    ensures named { FailsReading (asked_seen asked.now) (S.last_fault shelf.new) result }
     ensures folders { NeverFolder result }
 {
     match read_files(alloc, shelf, &asked.netlists)? {
@@ -244,7 +245,7 @@ pub fn answer_for<'a, S: Shelf, F: Folders>(
         → IfOk result (λ a. IsAnswerFor (asked_seen asked.now) (F.meeting folders.now) held (answer_seen a)) }
     ensures held { S.files shelf.new ≡ S.files shelf.old }
     ensures cause { Cause (S.fault_count shelf.old) (S.fault_count shelf.new) (end_of result) }
-    ensures named { FailsAmong (S.last_fault shelf.new) (inputs_of (asked_seen asked.now)) result }
+    ensures named { FailsReading (asked_seen asked.now) (S.last_fault shelf.new) result }
     ensures folders { NeverFolder result }
 {
     if meets(alloc, asked, folders)? {
