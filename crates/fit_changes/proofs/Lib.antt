@@ -1,4 +1,5 @@
 -- The modules of this folder.
 pub mod ChangeLaws
-pub mod ReportLaws
+pub mod LineLaws
+pub mod RoundLaws
 pub mod Examples

@@ -2,9 +2,13 @@
 #![tactic(auto)]
 
 mod changes;
+mod lines;
 mod report;
 mod rules;
+mod unfit;
 
 pub use changes::{Change, Changes};
-pub use report::{is_told, push_counts, push_lines, push_told};
+pub use lines::{Line, add_lines, sort_lines};
+pub use report::{are_told, push_counts, push_lines, push_told};
 pub use rules::Rule;
+pub use unfit::Unfit;

@@ -1,14 +1,14 @@
 // The report of changes.
-ghost use Rattle.std.specs.Prelude.{◌≡◌, ◌≤◌, ◌+◌, ◌++◌, IfOk, OnOk, codes, count_by, decimal, flat_map, length, map};
+ghost use Rattle.std.specs.Prelude.{◌≡◌, ◌++◌, [], OnOk, codes, count_by, decimal, flat_map, map, slice_index_or};
 ghost use Rattle.std.specs.List.{find, list_any};
-ghost use Rattle.fit_changes.specs.Changes.{AreInOrder, change_seen};
-ghost use Rattle.fit_changes.specs.Report.{all_changes, are_told, change_line, count_line, counts_text, is_by, is_told_text, kept_text, line_if, line_of, lines_of, part_text, place_text, rule_line, rule_text, tells, told_line};
-ghost use Rattle.fit_changes.specs.Rules.{is_told, rule_number};
+ghost use Rattle.fit_changes.specs.Lines.{line_seen};
+ghost use Rattle.fit_changes.specs.Report.{are_told, count_line, counts_text, first_told, is_by, kept_text, line_if, line_text, lines_text, part_text, place_text, rule_line, rule_text, tells};
+ghost use Rattle.fit_changes.specs.Rules.{is_told, rules};
 
-use crate::changes::feeds;
-use crate::{Change, Changes, Rule};
+use crate::rules::RULES;
+use crate::{Line, Rule};
 use itoa::Buffer;
-use sg_text::{NoMemory, Place};
+use sg_text::NoMemory;
 
 fn push_number(text: &mut Vec<u8>, number: u64) -> Result<(), NoMemory>
     ensures { OnOk result (text.new.items ≡ text.old.items ++ decimal number) }
@@ -18,10 +18,19 @@ fn push_number(text: &mut Vec<u8>, number: u64) -> Result<(), NoMemory>
     Ok(())
 }
 
-fn push_place(text: &mut Vec<u8>, file: &[u8], line: u64) -> Result<(), NoMemory>
+fn name_of<'a>(names: &[&'a str], file: usize) -> &'a str
+    ensures { result.now ≡ slice_index_or (map (λ n. n.now) names.now) file [] }
+{
+    match names.get(file) {
+        Some(name) => name,
+        None => "",
+    }
+}
+
+fn push_place(text: &mut Vec<u8>, file: &str, line: u64) -> Result<(), NoMemory>
     ensures { OnOk result (text.new.items ≡ text.old.items ++ place_text file.now line) }
 {
-    text.extend_from_slice(file)?;
+    text.extend_from_slice(file.as_bytes())?;
     text.push(b':')?;
     push_number(text, line)?;
     text.extend_from_slice(b": ")?;
@@ -53,139 +62,62 @@ fn push_rule(text: &mut Vec<u8>, rule: Rule) -> Result<(), NoMemory>
     Ok(())
 }
 
-// The line of a change that stands on a line of its file.
-fn push_line(text: &mut Vec<u8>, file: &[u8], line: u64, change: &Change) -> Result<(), NoMemory>
-    ensures { OnOk result (text.new.items ≡ text.old.items ++ change_line file.now line (change_seen change.now)) }
+fn push_line(text: &mut Vec<u8>, names: &[&str], line: &Line) -> Result<(), NoMemory>
+    ensures { OnOk result (text.new.items ≡ text.old.items ++ line_text (map (λ n. n.now) names.now) (line_seen line.now)) }
 {
-    push_place(text, file, line)?;
-    push_part(text, &change.part)?;
-    push_rule(text, change.rule)?;
-    text.extend_from_slice(&change.what)?;
+    push_place(text, name_of(names, line.file), line.number)?;
+    push_part(text, &line.part)?;
+    push_rule(text, line.rule)?;
+    text.extend_from_slice(&line.what)?;
     text.push(b'\n')?;
     Ok(())
 }
 
-// The line of a byte, from that of an earlier one.
-fn line_at(source: &[u8], from: usize, line: u64, byte: usize) -> u64
-    requires line { line ≡ line_of source.now from }
-    requires order { (from ≤ byte) × (byte ≤ length source.now) }
-    ensures { result ≡ line_of source.now byte }
+/// Adds lines, of files with these names.
+pub fn push_lines(text: &mut Vec<u8>, names: &[&str], lines: &[Line]) -> Result<(), NoMemory>
+    ensures { OnOk result (text.new.items ≡ text.old.items ++ lines_text (map (λ n. n.now) names.now) (map line_seen lines.now)) }
 {
-    line + feeds(&source[from..byte]) as u64
-}
-
-fn push_all(
-    text: &mut Vec<u8>,
-    file: &[u8],
-    source: &[u8],
-    changes: &[Change],
-) -> Result<(), NoMemory>
-    requires { AreInOrder 0 source.now (map change_seen changes.now) }
-    ensures { OnOk result (text.new.items ≡ text.old.items ++ flat_map (λ c. change_line file.now (line_of source.now c.byte) c) (map change_seen changes.now)) }
-{
-    let mut from = 0;
-    let mut line = 1;
-    for change in changes {
-        let at = line_at(source, from, line, change.byte);
-        push_line(text, file, at, change)?;
-        let end = change.byte + change.size;
-        line = line_at(source, change.byte, at, end);
-        from = end;
+    for line in lines {
+        push_line(text, names, line)?;
     }
     Ok(())
 }
 
-/// Adds the lines of a file's changes.
-pub fn push_lines(text: &mut Vec<u8>, file: &str, changes: &Changes<'_>) -> Result<(), NoMemory>
-    ensures { OnOk result (text.new.items ≡ text.old.items ++ lines_of file.now changes.now) }
+/// Adds the first of the lines by which values or violations may change, if there is one.
+pub fn push_told(text: &mut Vec<u8>, names: &[&str], lines: &[Line]) -> Result<(), NoMemory>
+    ensures { OnOk result (text.new.items ≡ text.old.items ++ first_told (map (λ n. n.now) names.now) (map line_seen lines.now)) }
 {
-    push_all(text, file.as_bytes(), changes.text(), changes.changes())
-}
-
-fn push_first(
-    text: &mut Vec<u8>,
-    file: &[u8],
-    source: &[u8],
-    changes: &[Change],
-) -> Result<(), NoMemory>
-    ensures { OnOk result (text.new.items ≡ text.old.items ++ line_if file.now source.now (find tells (map change_seen changes.now))) }
-{
-    for change in changes {
-        if change.rule.is_told() {
-            let place = Place {
-                file: 0,
-                byte: change.byte as u64,
-            };
-            let line = place.line_of(source);
-            return push_line(text, file, line, change);
+    for line in lines {
+        if line.rule.is_told() {
+            return push_line(text, names, line);
         }
     }
     Ok(())
 }
 
-/// Adds the line of a file's first change by which values or violations may change, if there is one.
-pub fn push_told(text: &mut Vec<u8>, file: &str, changes: &Changes<'_>) -> Result<(), NoMemory>
-    ensures { OnOk result (text.new.items ≡ text.old.items ++ told_line file.now changes.now) }
+fn tell_any(lines: &[Line]) -> bool
+    ensures { result ≡ list_any (λ l. is_told l.rule) lines.now }
 {
-    push_first(text, file.as_bytes(), changes.text(), changes.changes())
+    lines.iter().any(|line| line.rule.is_told())
 }
 
-fn tells_any(changes: &[Change]) -> bool
-    ensures { result ≡ list_any (λ c. is_told c.rule) changes.now }
+/// Whether values or violations may change by one of the changes.
+pub fn are_told(lines: &[Line]) -> bool
+    ensures { result ≡ are_told (map line_seen lines.now) }
 {
-    changes.iter().any(|change| change.rule.is_told())
+    tell_any(lines)
 }
 
-fn is_told_text(file: &Changes<'_>) -> bool
-    ensures { result ≡ is_told_text file.now }
+fn is_by(line: &Line, rule: Rule) -> bool
+    ensures { result ≡ is_by rule (line_seen line.now) }
 {
-    tells_any(file.changes())
+    line.rule.number() == rule.number()
 }
 
-/// Whether values or violations may change by a change of one of the files.
-pub fn is_told(files: &[Changes<'_>]) -> bool
-    ensures { result ≡ are_told files.now }
+fn count_of(rule: Rule, lines: &[Line]) -> usize
+    ensures { result ≡ count_by (is_by rule) (map line_seen lines.now) }
 {
-    files.iter().any(|file| is_told_text(file))
-}
-
-fn is_by(change: &Change, rule: Rule) -> bool
-    ensures { result ≡ is_by rule (change_seen change.now) }
-{
-    change.rule.number() == rule.number()
-}
-
-fn count_in(rule: Rule, changes: &[Change]) -> usize
-    ensures { result ≡ count_by (λ c. is_by rule (change_seen c)) changes.now }
-{
-    changes.iter().filter(|change| is_by(change, rule)).count()
-}
-
-// How many changes by a rule the files have.
-fn count_of(rule: Rule, files: &[Changes<'_>]) -> Result<usize, NoMemory>
-    ensures { IfOk result (λ count. count ≡ count_by (is_by rule) (all_changes files.now)) }
-{
-    let mut count: usize = 0;
-    for file in files {
-        let Some(more) = count.checked_add(count_in(rule, file.changes())) else {
-            return Err(NoMemory);
-        };
-        count = more;
-    }
-    Ok(count)
-}
-
-fn count_all(files: &[Changes<'_>]) -> Result<usize, NoMemory>
-    ensures { IfOk result (λ count. count ≡ length (all_changes files.now)) }
-{
-    let mut count: usize = 0;
-    for file in files {
-        let Some(more) = count.checked_add(file.len()) else {
-            return Err(NoMemory);
-        };
-        count = more;
-    }
-    Ok(count)
+    lines.iter().filter(|line| is_by(line, rule)).count()
 }
 
 fn push_some(text: &mut Vec<u8>, word: &str, count: usize) -> Result<(), NoMemory>
@@ -198,24 +130,29 @@ fn push_some(text: &mut Vec<u8>, word: &str, count: usize) -> Result<(), NoMemor
     Ok(())
 }
 
-fn push_count(text: &mut Vec<u8>, rule: Rule, files: &[Changes<'_>]) -> Result<(), NoMemory>
-    ensures { OnOk result (text.new.items ≡ text.old.items ++ rule_line (all_changes files.now) rule) }
+fn push_count(text: &mut Vec<u8>, rule: Rule, lines: &[Line]) -> Result<(), NoMemory>
+    ensures { OnOk result (text.new.items ≡ text.old.items ++ rule_line (map line_seen lines.now) rule) }
 {
-    let count = count_of(rule, files)?;
+    let count = count_of(rule, lines);
     if count == 0 {
         return Ok(());
     }
     push_some(text, rule.word(), count)
 }
 
-/// Adds how many changes of all files there are, by each rule that occurs and in all. `NoMemory` too where there are
-/// 2^64 of them.
-pub fn push_counts(text: &mut Vec<u8>, files: &[Changes<'_>]) -> Result<(), NoMemory>
-    ensures { OnOk result (text.new.items ≡ text.old.items ++ counts_text files.now) }
+fn push_each(text: &mut Vec<u8>, rules: &[Rule], lines: &[Line]) -> Result<(), NoMemory>
+    ensures { OnOk result (text.new.items ≡ text.old.items ++ flat_map (rule_line (map line_seen lines.now)) rules.now) }
 {
-    push_count(text, Rule::NegativeLimit, files)?;
-    push_count(text, Rule::Constant, files)?;
-    push_count(text, Rule::Unused, files)?;
-    let count = count_all(files)?;
-    push_some(text, "changes", count)
+    for rule in rules {
+        push_count(text, *rule, lines)?;
+    }
+    Ok(())
+}
+
+/// Adds how many changes there are, by each rule that occurs and in all.
+pub fn push_counts(text: &mut Vec<u8>, lines: &[Line]) -> Result<(), NoMemory>
+    ensures { OnOk result (text.new.items ≡ text.old.items ++ counts_text (map line_seen lines.now)) }
+{
+    push_each(text, &RULES, lines)?;
+    push_some(text, "changes", lines.len())
 }

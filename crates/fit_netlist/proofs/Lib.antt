@@ -1,5 +1,6 @@
 -- The modules of this folder.
 pub mod ReadingLaws
 pub mod WritingLaws
+pub mod RoundLaws
 pub mod CheckingLaws
-pub mod JoiningLaws
+pub mod PlaceLaws

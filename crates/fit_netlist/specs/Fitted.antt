@@ -1,64 +1,61 @@
 -- What it is that a netlist is fitted.
-use Rattle.std.specs.Prelude.{◌≡◌, ◌<◌, ◌⊎◌, ℕ, Bool, true, false, List, [], Option, Result, Ok, Err, All, length, map, not, ◌&&◌}
-use Rattle.std.specs.Global.{Vec}
+use Rattle.std.specs.Prelude.{◌≡◌, ◌<◌, ◌⊎◌, ℕ, Bool, true, false, List, [], Option, Result, Ok, Err, All, length, map, not, take, ◌&&◌}
 use Rattle.vl_lex.specs.Lexes.{Lexes}
+use Rattle.vl_lex.specs.Seen.{texts}
 use Rattle.vl_token.specs.Tokens.{Lexeme}
 use Rattle.vl_tree.specs.Tree.{Source}
-use Rattle.fit_changes.specs.Changes.{Change, ChangedText, changed}
+use Rattle.fit_changes.specs.Changes.{ChangedText}
+use Rattle.fit_changes.specs.Lines.{AreSorted, Line, line_seen}
+use Rattle.fit_changes.specs.Rounds.{AreRounds, lines_by, written_by}
 use Rattle.fit_changes.specs.declared.rules.Rule.{Rule}
-use Rattle.fit_changes.specs.declared.rules.Rule.TheVariants.{NegativeLimit, Constant, Unused}
+use Rattle.fit_changes.specs.declared.rules.Rule.TheVariants as rule
 use Rattle.fit_parts.specs.Below.{IsWhole}
 use Rattle.fit_parts.specs.Parts.{headings_of}
-use Rattle.fit_netlist.specs.Accepted.{IsTreeOf}
+use Rattle.fit_inside.specs.Inside.{IsAccepted, IsTreeOf}
+use Rattle.fit_netlist.specs.Exact.{AreExact}
 use Rattle.fit_netlist.specs.declared.faults.FitError.{FitError}
 use Rattle.fit_netlist.specs.declared.faults.FitError.TheVariants as fault
-
--- the texts of files, as they were read and as they are written
-abbrev pub read : List ChangedText → List (List ℕ)
-read files = map (λ f. f.text) files
-
-abbrev pub written : List ChangedText → List (List ℕ)
-written files = map (λ f. changed f.text f.changes) files
-
--- nothing is changed
-abbrev pub AreUnchanged : List ChangedText → Type 0
-AreUnchanged files = All (λ f. f.changes ≡ []) files
+use Rattle.fit_netlist.specs.declared.fitting.Fitted as code
 
 abbrev pub is_unused : Rule → Bool
-is_unused NegativeLimit = false
-is_unused Constant = false
-is_unused Unused = true
+is_unused rule.Unused = true
+is_unused _ = false
 
--- a change that leaves a part out names one that a set doesn't hold
-abbrev pub is_outside : (List ℕ → Bool) → Change → Bool
-is_outside below c = not (is_unused c.rule && below c.part)
+-- a line that tells that a part is left out names one that a set doesn't hold
+abbrev pub is_outside : (List ℕ → Bool) → Line → Bool
+is_outside below l = not (is_unused l.rule && below l.part)
 
--- All that is below the top of what is written stays: there is a set of names that holds it, no part with a name of the set is missing in what
--- is written, and none is told to be left out.
-pub record IsKept (top : Option (List ℕ)) (files : List ChangedText) : Type 0 where
+-- All that is below the top of what is written stays: there is a set of names that holds it, no part of the expanded texts with a name of the
+-- set is missing in what is written, and none is told to be left out.
+pub record IsKept (top : Option (List ℕ)) (expanded made : List (List ℕ)) (lines : List Line) : Type 0 where
   pub tokens : List Lexeme
   pub tree : Source
   pub below : List ℕ → Bool
-  pub are_tokens : Lexes (read files) (Ok tokens)
-  pub is_tree : IsTreeOf (written files) tree
+  pub are_tokens : Lexes expanded (Ok tokens)
+  pub is_tree : IsTreeOf made tree
   pub is_whole : IsWhole top (headings_of tokens) tree below
-  pub are_outside : All (λ f. All (λ c. is_outside below c ≡ true) f.changes) files
+  pub are_outside : All (λ l. is_outside below l ≡ true) lines
 
--- where something is changed
-abbrev pub Keeps : Option (List ℕ) → List ChangedText → Type 0
-Keeps top files = AreUnchanged files ⊎ IsKept top files
+-- A netlist is fitted by rounds of changes: the first expands macros and included files, each further one changes what the one before it
+-- made. What is written is taken, each change is told on its line, and all that is below the top stays.
+pub record IsFitted (top : Option (List ℕ)) (texts made : List (List ℕ)) (lines : List Line) : Type 0 where
+  pub rounds : List (List ChangedText)
+  pub are_rounds : AreRounds texts rounds
+  pub are_written : made ≡ written_by texts rounds
+  pub are_told : AreSorted (lines_by rounds) lines
+  pub are_exact : All AreExact rounds
+  pub is_accepted : IsAccepted made
+  pub is_kept : (rounds ≡ []) ⊎ IsKept top (written_by texts (take 1 rounds)) made lines
 
--- a refusal names some places, or there was no memory
+-- a refusal names some places; or the text of an included file is wanted, or there was no memory
 abbrev pub Tells : FitError → Type 0
 Tells (fault.Unfit places) = 0 < length places.items
+Tells (fault.Wants from name) = Unit {0}
 Tells fault.NoMemory = Unit {0}
 
--- texts as they were read, without changes
-abbrev pub as_read : List (List ℕ) → List ChangedText
-as_read texts = map (λ t. record { text = t; changes = [] }) texts
-
 -- nothing is changed, unless there was no memory
-abbrev pub LeavesAll : Result (Vec ChangedText) FitError → Type 0
-LeavesAll (Ok files) = AreUnchanged files.items
-LeavesAll (Err (fault.Unfit places)) = ⊥
-LeavesAll (Err fault.NoMemory) = Unit {0}
+abbrev pub LeavesAll : List (List ℕ) → Result code.Fitted FitError → Type 0
+LeavesAll before (Ok f) = (texts f.texts.items ≡ before) × (map line_seen f.lines.items ≡ [])
+LeavesAll before (Err (fault.Unfit places)) = ⊥
+LeavesAll before (Err (fault.Wants from name)) = ⊥
+LeavesAll before (Err fault.NoMemory) = Unit {0}

@@ -1,4 +1,5 @@
 -- The modules of this folder.
-pub mod Accepted
+pub mod Exact
 pub mod Fitted
 pub mod Phases
+pub mod Stages

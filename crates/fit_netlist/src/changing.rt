@@ -1,14 +1,12 @@
-// Changes of files, part by part.
-ghost use Rattle.std.specs.Prelude.{◌≡◌, IfOk, map};
+// Texts without changes, and with them.
+ghost use Rattle.std.specs.Prelude.{◌≡◌, IfOk};
 ghost use Rattle.vl_lex.specs.Seen.{texts};
-ghost use Rattle.fit_netlist.specs.Fitted.{as_read, read, written};
+ghost use Rattle.fit_changes.specs.Rounds.{written};
+ghost use Rattle.fit_netlist.specs.Phases.{as_read};
 
 use fit_changes::Changes;
-use fit_parts::part_end;
-use fit_rules::{change_part, leave_out};
 use sg_text::NoMemory;
 use std::alloc::Global;
-use vl_token::Token;
 
 /// The files without changes.
 pub fn unchanged<'a>(alloc: Global, files: &'a [Vec<u8>]) -> Result<Vec<Changes<'a>>, NoMemory>
@@ -30,59 +28,4 @@ pub fn write_all(alloc: Global, list: &[Changes<'_>]) -> Result<Vec<Vec<u8>>, No
         made.push(changes.changed(alloc)?)?;
     }
     Ok(made)
-}
-
-/// The changes that the rules ask for.
-pub fn change_all(
-    alloc: Global,
-    tokens: &[Token<'_>],
-    list: &mut [Changes<'_>],
-) -> Result<(), NoMemory>
-    ensures { read list.new ≡ read list.old }
-{
-    let mut at = 0;
-    while at < tokens.len() {
-        let end = part_end(tokens, at);
-        change_part(alloc, &tokens[at..end], list)?;
-        at = end;
-    }
-    Ok(())
-}
-
-fn change_or_leave(
-    alloc: Global,
-    part: &[Token<'_>],
-    why: &Option<Vec<u8>>,
-    list: &mut [Changes<'_>],
-) -> Result<(), NoMemory>
-    ensures { read list.new ≡ read list.old }
-{
-    match why {
-        Some(why) => {
-            leave_out(alloc, part, why, list)?;
-            Ok(())
-        }
-        None => change_part(alloc, part, list),
-    }
-}
-
-/// Leaves out the parts for which there is a reason, and changes the others as the rules ask for.
-pub fn change_or_leave_all(
-    alloc: Global,
-    tokens: &[Token<'_>],
-    whys: &[Option<Vec<u8>>],
-    list: &mut [Changes<'_>],
-) -> Result<(), NoMemory>
-    ensures { read list.new ≡ read list.old }
-{
-    let mut at = 0;
-    for why in whys {
-        if at >= tokens.len() {
-            break;
-        }
-        let end = part_end(tokens, at);
-        change_or_leave(alloc, &tokens[at..end], why, list)?;
-        at = end;
-    }
-    Ok(())
 }

@@ -1,25 +1,15 @@
 // Why a netlist can't be fitted.
+use fit_changes::Unfit;
 use sg_text::NoMemory;
 use std::alloc::{AllocError, AllocFailed};
-
-/// A place of a netlist that isn't taken.
-#[derive(Debug, Drop)]
-pub struct Unfit {
-    /// The number of the file in the list, from 0.
-    pub file: u32,
-    /// The line, from 1.
-    pub line: u64,
-    /// Why, as `write_kind` of `netlist_read` writes it.
-    pub kind: Vec<u8>,
-    /// The name of the module or primitive; empty where there is none.
-    pub part: Vec<u8>,
-}
 
 /// Why a netlist can't be fitted.
 #[derive(Debug, Drop)]
 pub enum FitError {
     /// These places aren't taken, and no rule helps.
     Unfit(Vec<Unfit>),
+    /// The text of a file is wanted that another one includes by this name.
+    Wants { from: Vec<u8>, name: Vec<u8> },
     NoMemory,
 }
 

@@ -1,118 +1,148 @@
 // Changes by which a netlist is taken.
-ghost use Rattle.std.specs.Prelude.{◌≡◌, ◌⊎◌, IfErr, IfOk, Ok, map, option_map};
-ghost use Rattle.vl_lex.specs.Lexes.{Lexes};
+ghost use Rattle.std.specs.Prelude.{◌≡◌, true, IfErr, IfOk, Ok, map, option_map};
 ghost use Rattle.vl_lex.specs.Seen.{texts};
-ghost use Rattle.vl_token.specs.Seen.{lexeme};
-ghost use Rattle.fit_netlist.specs.Accepted.{IsAccepted};
-ghost use Rattle.fit_netlist.specs.Fitted.{IsKept, Keeps, LeavesAll, Tells, read, written};
+ghost use Rattle.fit_changes.specs.Lines.{line_seen};
+ghost use Rattle.fit_inside.specs.Inside.{IsInside};
+ghost use Rattle.fit_netlist.specs.Fitted.{IsFitted, LeavesAll, Tells};
+ghost use Rattle.fit_netlist.specs.Phases.{AreMade, IsMadeOf};
+ghost use Rattle.fit_netlist.specs.Stages.{asks_nothing, wishes_nothing};
 
-use crate::changing::{change_all, change_or_leave_all, unchanged};
+use crate::changing::{unchanged, write_all};
 use crate::checking::check;
 use crate::faults::FitError;
-use crate::looking::left_out;
-use crate::reading::{is_taken, read_tokens};
-use fit_changes::Changes;
+use crate::reading::read_tokens;
+use crate::refusing::bytes_of;
+use crate::rounds::{expand_round, rule_round, shape_round};
+use fit_changes::{Line, sort_lines};
+use fit_inside::is_inside;
+use fit_items::Wishes;
 use fit_parts::headings;
+use fit_text::Given;
 use sg_text::NoMemory;
 use std::alloc::Global;
-use vl_token::Token;
 
-// The changes that the rules ask for.
-fn ruled<'a>(
-    alloc: Global,
-    files: &'a [Vec<u8>],
-    tokens: &[Token<'a>],
-) -> Result<Vec<Changes<'a>>, NoMemory>
-    ensures { IfOk result (λ list. read list.items ≡ texts files.now) }
-{
-    let mut list = unchanged(alloc, files)?;
-    change_all(alloc, tokens, &mut list)?;
-    Ok(list)
+/// A netlist as it is to be written: the texts of its files, and a line for each change of them, in the order of files
+/// and lines.
+#[derive(Drop)]
+pub struct Fitted {
+    pub texts: Vec<Vec<u8>>,
+    pub lines: Vec<Line>,
 }
 
-// Those, but for parts that are left out.
-fn without<'a>(
-    alloc: Global,
-    files: &'a [Vec<u8>],
-    whys: &[Option<Vec<u8>>],
-) -> Result<Vec<Changes<'a>>, FitError>
-    ensures same { IfOk result (λ list. read list.items ≡ texts files.now) }
-    ensures refused { IfErr result Tells }
+// How often parts are left out: each time others may have lost what they need.
+const TURNS: usize = 4;
+
+fn wishes_nothing(wishes: &Wishes<'_>) -> bool
+    ensures { result ≡ wishes_nothing wishes.now }
 {
-    let tokens = read_tokens(alloc, files)?;
-    let mut list = unchanged(alloc, files)?;
-    change_or_leave_all(alloc, &tokens, whys, &mut list)?;
-    Ok(list)
+    wishes.supply0.is_empty()
+        && wishes.supply1.is_empty()
+        && wishes.cut.is_empty()
+        && wishes.drop.is_empty()
+        && !wishes.drop_missing
+        && wishes.no_checks.is_empty()
+        && wishes.no_notifier.is_empty()
 }
 
-fn is_any_left(whys: &[Option<Vec<u8>>]) -> bool {
-    whys.iter().any(|why| why.is_some())
+fn asks_nothing(given: &Given<'_>, wishes: &Wishes<'_>) -> bool
+    ensures { result ≡ asks_nothing given.now wishes.now }
+{
+    given.defines.is_empty() && wishes_nothing(wishes)
 }
 
-// The rules' changes, or those without the parts that are left out.
-fn changes<'a>(
+// Whether the files stay: no option asks for a change, and no rule concerns them.
+fn stays(
     alloc: Global,
-    files: &'a [Vec<u8>],
-    ruled: Vec<Changes<'a>>,
-    top: Option<&[u8]>,
-) -> Result<Vec<Changes<'a>>, FitError>
-    requires { read ruled.items ≡ texts files.now }
-    ensures same { IfOk result (λ list. read list.items ≡ texts files.now) }
-    ensures refused { IfErr result Tells }
+    files: &[Vec<u8>],
+    given: &Given<'_>,
+    wishes: &Wishes<'_>,
+) -> Result<bool, NoMemory>
+    ensures inside { IfOk result (λ stays. stays ≡ true → IsInside (texts files.now)) }
+    ensures only { asks_nothing given.now wishes.now ≡ true → IsInside (texts files.now) → IfOk result (λ stays. stays ≡ true) }
 {
-    let whys = left_out(alloc, &ruled, top)?;
-    if !is_any_left(&whys) {
-        return Ok(ruled);
+    if !asks_nothing(given, wishes) {
+        return Ok(false);
     }
-    drop(ruled);
-    without(alloc, files, &whys)
+    is_inside(alloc, files)
 }
 
-// Changes of files that aren't taken as they stand, and have these tokens.
-fn fit_tokens<'a>(
+// The files as they stand.
+fn as_they_stand(alloc: Global, files: &[Vec<u8>]) -> Result<Fitted, NoMemory>
+    ensures { IfOk result (λ f. LeavesAll (texts files.now) (Ok f)) }
+{
+    let list = unchanged(alloc, files)?;
+    let texts = write_all(alloc, &list)?;
+    let lines = Vec::new(alloc);
+    Ok(Fitted { texts, lines })
+}
+
+// The rounds of the rules, till no part has to be left out.
+fn rule_rounds(
     alloc: Global,
-    files: &'a [Vec<u8>],
-    tokens: Vec<Token<'a>>,
-    top: Option<&[u8]>,
-) -> Result<Vec<Changes<'a>>, FitError>
-    requires { Lexes (texts files.now) (Ok (map lexeme tokens.items)) }
-    ensures same { IfOk result (λ list. read list.items ≡ texts files.now) }
-    ensures accepted { IfOk result (λ list. IsAccepted (written list.items)) }
-    ensures kept { IfOk result (λ list. IsKept (option_map (λ n. n.now) top.entry) list.items) }
+    shaped: Vec<Vec<u8>>,
+    wishes: &Wishes<'_>,
+    lines: &mut Vec<Line>,
+) -> Result<Vec<Vec<u8>>, FitError>
+    ensures made { IfOk result (λ made. AreMade (texts shaped.items) (texts made.items) (map line_seen lines.old.items) (map line_seen lines.new.items)) }
     ensures refused { IfErr result Tells }
 {
-    let headings = headings(alloc, &tokens)?;
-    let ruled = ruled(alloc, files, &tokens)?;
-    drop(tokens);
-    let list = changes(alloc, files, ruled, top)?;
-    check(alloc, &list, &headings, top)?;
-    Ok(list)
+    let mut files = shaped;
+    for _ in 0..TURNS {
+        let (is_last, made) = rule_round(alloc, &files, wishes, lines)?;
+        files = made;
+        if is_last {
+            break;
+        }
+    }
+    Ok(files)
 }
 
-/// Changes of the files of a netlist, which are read one after another, with which they are taken: they have tokens, and these spell modules and
-/// primitives. Files that are taken as they stand have no changes. What isn't below the top may be left out: below the one of a name, or else
-/// below the only module that may be the top; where none may be, or several, nothing is left out. Refused are all parts below the top that aren't
-/// taken with the changes that the rules ask for, each with its place, in order, or the one fault of the text. Takes time and memory in
-/// proportion to the texts.
-pub fn fit_netlist<'a>(
+// The rounds behind the first, and the check of what they make.
+fn fit_expanded(
     alloc: Global,
-    files: &'a [Vec<u8>],
-    top: Option<&[u8]>,
-) -> Result<Vec<Changes<'a>>, FitError>
-    // They are changes of the files,
-    ensures texts { IfOk result (λ list. read list.items ≡ texts files.now) }
-    // which are taken with them;
-    ensures accepted { IfOk result (λ list. IsAccepted (written list.items)) }
-    // there are none where the files are taken as they stand,
-    ensures unchanged { IsAccepted (texts files.now) → LeavesAll result }
-    // and all that is below the top stays.
-    ensures kept { IfOk result (λ list. Keeps (option_map (λ n. n.now) top.entry) list.items) }
+    expanded: &[Vec<u8>],
+    wishes: &Wishes<'_>,
+    lines: Vec<Line>,
+) -> Result<Fitted, FitError>
+    ensures made { IfOk result (λ f. IsMadeOf (option_map (λ n. n.now) wishes.now.top) (texts expanded.now) (map line_seen lines.items) f) }
+    ensures refused { IfErr result Tells }
+{
+    let mut lines = lines;
+    let tokens = read_tokens(alloc, expanded)?;
+    let headings = headings(alloc, &tokens)?;
+    let shaped = shape_round(alloc, expanded, &tokens, wishes, &mut lines)?;
+    drop(tokens);
+    let texts = rule_rounds(alloc, shaped, wishes, &mut lines)?;
+    sort_lines(&mut lines)?;
+    check(alloc, &texts, &lines, &headings, bytes_of(wishes.top))?;
+    Ok(Fitted { texts, lines })
+}
+
+/// Changes of the files of a netlist, which are read one after another, with which they are taken: they have tokens, and
+/// these spell modules and primitives. They are made in rounds: macros and included files are expanded; cells are
+/// flattened, and what the wishes name is cut out or dropped; statements are rewritten; and what isn't below the top and
+/// isn't taken is left out. Below it is what is below the one of a name, or else below the only module that may be the
+/// top; where none may be, or several, nothing is left out. Refused are all parts below the top that aren't taken with
+/// the changes that the rules ask for, each with its place, in order, or the places that another round tells, or the one
+/// fault of the text. Takes time and memory in proportion to the texts.
+pub fn fit_netlist(
+    alloc: Global,
+    files: &[Vec<u8>],
+    given: &Given<'_>,
+    wishes: &Wishes<'_>,
+) -> Result<Fitted, FitError>
+    // What is written is made of what was read by rounds of changes, of which each has its line; it is taken, and all
+    // that is below the top stays.
+    ensures fitted { IfOk result (λ f. IsFitted (option_map (λ n. n.now) wishes.now.top) (texts files.now) (texts f.texts.items) (map line_seen f.lines.items)) }
+    // Nothing is changed where no rule concerns the files, and no option asks for a change.
+    ensures unchanged { asks_nothing given.now wishes.now ≡ true → IsInside (texts files.now) → LeavesAll (texts files.now) result }
     // A refusal names a place.
     ensures refused { IfErr result Tells }
 {
-    let tokens = read_tokens(alloc, files)?;
-    if is_taken(alloc, files, &tokens)? {
-        return Ok(unchanged(alloc, files)?);
+    if stays(alloc, files, given, wishes)? {
+        return Ok(as_they_stand(alloc, files)?);
     }
-    fit_tokens(alloc, files, tokens, top)
+    let mut lines = Vec::new(alloc);
+    let expanded = expand_round(alloc, files, given, &mut lines)?;
+    fit_expanded(alloc, &expanded, wishes, lines)
 }

@@ -8,6 +8,7 @@ mod fitting;
 mod looking;
 mod reading;
 mod refusing;
+mod rounds;
 
-pub use faults::{FitError, Unfit};
-pub use fitting::fit_netlist;
+pub use faults::FitError;
+pub use fitting::{Fitted, fit_netlist};

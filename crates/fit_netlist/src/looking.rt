@@ -3,10 +3,11 @@ ghost use Rattle.std.specs.Prelude.{IfErr};
 ghost use Rattle.fit_netlist.specs.Fitted.{Tells};
 
 use crate::changing::write_all;
-use crate::faults::{FitError, Unfit};
+use crate::faults::FitError;
 use crate::reading::read_tokens;
-use crate::refusing::{end_of, line_of, syntax_kind, unfit};
-use fit_changes::Changes;
+use crate::refusing::{bytes_of, line_of, refuse_some, syntax_kind, unfit};
+use fit_changes::{Changes, Unfit};
+use fit_inside::end_of;
 use fit_parts::{Below, Web, heading_of, headings, part_end};
 use itoa::Buffer;
 use netlist_read::{NetlistKind, write_kind};
@@ -118,16 +119,6 @@ fn reached(
     Ok(list)
 }
 
-fn refuse_all(list: Vec<Unfit>) -> Result<(), FitError>
-    ensures refused { IfErr result Tells }
-{
-    if list.is_empty() {
-        Ok(())
-    } else {
-        Err(FitError::Unfit(list))
-    }
-}
-
 // `left out: KIND on line N`
 fn why(alloc: Global, texts: &[Vec<u8>], fault: &Fault<'_>) -> Result<Vec<u8>, NoMemory> {
     let mut text = Vec::from_slice(alloc, b"left out: ")?;
@@ -159,7 +150,7 @@ fn whys(
 pub fn left_out(
     alloc: Global,
     list: &[Changes<'_>],
-    top: Option<&[u8]>,
+    top: Option<&str>,
 ) -> Result<Vec<Option<Vec<u8>>>, FitError>
     ensures refused { IfErr result Tells }
 {
@@ -169,8 +160,8 @@ pub fn left_out(
     let faults = look_at_all(alloc, &tokens, end_of(&texts), &mut web)?;
     let read = headings(alloc, &tokens)?;
     drop(tokens);
-    let top = web.top(&read, top)?;
+    let top = web.top(&read, bytes_of(top))?;
     let below = web.below(top)?;
-    refuse_all(reached(alloc, &texts, &faults, &below)?)?;
+    refuse_some(reached(alloc, &texts, &faults, &below)?)?;
     Ok(whys(alloc, &texts, &faults)?)
 }

@@ -1,18 +1,18 @@
 // Texts into tokens, and tokens into trees.
-ghost use Rattle.std.specs.Prelude.{◌≡◌, List, true, IfOk, IfErr, Ok, map};
+ghost use Rattle.std.specs.Prelude.{IfOk, IfErr, Ok, map};
 ghost use Rattle.vl_lex.specs.Lexes.{Lexes};
 ghost use Rattle.vl_lex.specs.Seen.{texts};
 ghost use Rattle.vl_token.specs.Seen.{lexeme};
-ghost use Rattle.vl_token.specs.Tokens.{Lexeme};
 ghost use Rattle.vl_tree.specs.Seen.{view_source};
-ghost use Rattle.fit_netlist.specs.Accepted.{IsTreeOf};
+ghost use Rattle.fit_inside.specs.Inside.{IsTreeOf};
 ghost use Rattle.fit_netlist.specs.Fitted.{Tells};
-ghost use Rattle.fit_netlist.specs.Phases.{AreTokens, AreTree, IsTaken};
+ghost use Rattle.fit_netlist.specs.Phases.{AreTree};
 
 use crate::faults::FitError;
-use crate::refusing::{end_of, refuse, syntax_kind};
+use crate::refusing::{refuse, syntax_kind};
+use fit_inside::end_of;
 use netlist_read::NetlistKind;
-use sg_text::{NoMemory, Refused};
+use sg_text::Refused;
 use std::alloc::Global;
 use vl_lex::lex;
 use vl_parse::parse;
@@ -21,7 +21,6 @@ use vl_tree::Source;
 
 pub fn read_tokens(alloc: Global, files: &[Vec<u8>]) -> Result<Vec<Token<'_>>, FitError>
     ensures read { IfOk result (λ tokens. Lexes (texts files.now) (Ok (map lexeme tokens.items))) }
-    ensures only { (tokens : List Lexeme) → Lexes (texts files.now) (Ok tokens) → AreTokens tokens result }
     ensures refused { IfErr result Tells }
 {
     match lex(alloc, files) {
@@ -58,16 +57,4 @@ pub fn read_files<'a>(alloc: Global, files: &'a [Vec<u8>]) -> Result<Source<'a>,
 {
     let tokens = read_tokens(alloc, files)?;
     read_tree(alloc, files, &tokens)
-}
-
-/// Whether all tokens of files spell a tree. Takes memory for the tree.
-pub fn is_taken(alloc: Global, files: &[Vec<u8>], tokens: &[Token<'_>]) -> Result<bool, NoMemory>
-    ensures taken { IfOk result (λ taken. taken ≡ true → IsTaken (map lexeme tokens.now)) }
-    ensures only { IsTaken (map lexeme tokens.now) → IfOk result (λ taken. taken ≡ true) }
-{
-    match parse(alloc, tokens, end_of(files)) {
-        Ok(_) => Ok(true),
-        Err(Refused::Fault { .. }) => Ok(false),
-        Err(Refused::NoMemory) => Err(NoMemory),
-    }
 }

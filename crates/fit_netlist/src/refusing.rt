@@ -1,8 +1,9 @@
 // Places that aren't taken, as they are told.
-ghost use Rattle.std.specs.Prelude.{◌<◌, IfOk, length};
+ghost use Rattle.std.specs.Prelude.{◌≡◌, ◌<◌, IfErr, IfOk, length, option_map};
 ghost use Rattle.fit_netlist.specs.Fitted.{Tells};
 
-use crate::faults::{FitError, Unfit};
+use crate::faults::FitError;
+use fit_changes::Unfit;
 use netlist_read::{NetlistKind, write_kind};
 use sg_text::{NoMemory, Place};
 use std::alloc::Global;
@@ -16,16 +17,13 @@ pub fn syntax_kind(kind: ParseKind<'_>) -> NetlistKind<'_> {
     }
 }
 
-/// The place behind the last byte of the last file.
-pub fn end_of(files: &[Vec<u8>]) -> Place {
-    let before = files.len().saturating_sub(1);
-    let byte = match files.last() {
-        Some(text) => text.len() as u64,
-        None => 0,
-    };
-    Place {
-        file: u32::try_from(before).unwrap_or(u32::MAX),
-        byte,
+/// The bytes of a name.
+pub fn bytes_of(name: Option<&str>) -> Option<&[u8]>
+    ensures { option_map (λ n. n.now) result ≡ option_map (λ n. n.now) name.entry }
+{
+    match name {
+        Some(name) => Some(name.as_bytes()),
+        None => None,
     }
 }
 
@@ -81,22 +79,46 @@ pub fn refuse(alloc: Global, files: &[Vec<u8>], kind: &NetlistKind<'_>, place: P
     }
 }
 
-/// The refusal of changes that left out what is used.
-pub fn refuse_unreached(alloc: Global) -> FitError
+/// Refuses places, if there are some.
+pub fn refuse_some(list: Vec<Unfit>) -> Result<(), FitError>
+    ensures { IfErr result Tells }
+{
+    if list.is_empty() {
+        Ok(())
+    } else {
+        Err(FitError::Unfit(list))
+    }
+}
+
+fn at_start(alloc: Global, word: &[u8]) -> Result<Unfit, NoMemory> {
+    Ok(Unfit {
+        file: 0,
+        line: 1,
+        kind: Vec::from_slice(alloc, word)?,
+        part: Vec::new(alloc),
+    })
+}
+
+// The refusal of changes as a whole.
+fn refuse_changes(alloc: Global, word: &[u8]) -> FitError
     ensures { Tells result }
 {
-    match unreached(alloc) {
+    match at_start(alloc, word) {
         Ok(unfit) => refuse_one(alloc, unfit),
         Err(NoMemory) => FitError::NoMemory,
     }
 }
 
-fn unreached(alloc: Global) -> Result<Unfit, NoMemory> {
-    let kind = Vec::from_slice(alloc, b"Unreached")?;
-    Ok(Unfit {
-        file: 0,
-        line: 1,
-        kind,
-        part: Vec::new(alloc),
-    })
+/// The refusal of changes that left out what is used.
+pub fn refuse_unreached(alloc: Global) -> FitError
+    ensures { Tells result }
+{
+    refuse_changes(alloc, b"Unreached")
+}
+
+/// The refusal of changes of which one isn't what its rule says.
+pub fn refuse_inexact(alloc: Global) -> FitError
+    ensures { Tells result }
+{
+    refuse_changes(alloc, b"Inexact")
 }

@@ -1,8 +1,8 @@
 // What is left of a part that is left out: its line feeds and its directives.
 ghost use Rattle.std.specs.Prelude.{ℕ, ◌<◌, ◌≤◌, length};
 
-use crate::spans::{Span, joined, piece_of};
 use fit_changes::Changes;
+use fit_items::{Span, joined, piece_of};
 use sg_text::NoMemory;
 use std::alloc::Global;
 use vl_pieces::{Class, Mode, first_piece, is_among};

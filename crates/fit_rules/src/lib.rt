@@ -1,14 +1,13 @@
 //! The rules by which the parts of a netlist are changed into what is taken.
 #![tactic(auto)]
 
-mod constants;
-mod cursor;
-mod edits;
+mod covering;
+mod editing;
+mod ends;
+mod ifnone;
 mod leaving;
-mod limits;
+mod merging;
 mod parts;
-mod scanning;
-mod signs;
-mod spans;
+mod statements;
 
-pub use parts::{change_part, leave_out};
+pub use parts::{change_all, leave_out};

@@ -1,80 +1,98 @@
-// The changes that the rules ask for in a part of a netlist.
+// The changes that the rules ask for in a netlist.
 ghost use Rattle.std.specs.Prelude.{◌≡◌, map};
 
-use crate::constants::{constant_edit, side_edit};
-use crate::cursor::{Item, Role};
-use crate::edits::{Edit, edit_of};
 use crate::leaving::{left_of, whole_span};
-use crate::limits::{limit_edit, use_edit, value_edit};
-use crate::scanning::items_of;
-use crate::signs::part_name;
-use crate::spans::text_of;
+use crate::merging::add_all;
+use crate::statements::module_edits;
+use fit_cells::{Cells, cells_of};
 use fit_changes::{Changes, Rule};
+use fit_items::{Edit, Wishes, edit_of, nets_of, part_name, read_module, text_of};
+use fit_nets::Supplies;
+use fit_parts::part_end;
+use fit_values::View;
 use sg_text::NoMemory;
 use std::alloc::Global;
 use vl_token::Token;
 
-// The change of a value, if a rule asks for one.
-fn edit_for(
-    alloc: Global,
-    part: &[Token<'_>],
-    items: &[Item],
-    item: Item,
-    files: &[Changes<'_>],
-) -> Result<Option<Edit>, NoMemory> {
-    let name = part_name(part);
-    match item.role {
-        Role::Terminal => constant_edit(alloc, part, name, item, files),
-        Role::Side => side_edit(alloc, part, name, items, item, files),
-        Role::Param => value_edit(alloc, part, name, items, item, files),
-        Role::Limit => limit_edit(alloc, part, name, item, files),
-        Role::SignedLimit => use_edit(alloc, part, name, items, item, files),
-        Role::Range => Ok(None),
+// Whether ports of the top are to be supplies.
+fn wishes_supplies(wishes: &Wishes<'_>) -> bool {
+    !wishes.supply0.is_empty() || !wishes.supply1.is_empty()
+}
+
+// Whether a name is that of the top: the one that is named, or else the only one that may be it.
+fn is_top(name: &[u8], only: Option<&[u8]>, wishes: &Wishes<'_>) -> bool {
+    match (wishes.top, only) {
+        (Some(top), _) => top.as_bytes() == name,
+        (None, Some(top)) => top == name,
+        (None, None) => false,
     }
 }
 
-// The changes of a part, in the order of its tokens.
+// The supplies among the ports of a module.
+fn supplies_of<'w>(is_top: bool, wishes: &Wishes<'w>) -> Supplies<'w> {
+    Supplies {
+        zeros: if is_top { wishes.supply0 } else { &[] },
+        ones: if is_top { wishes.supply1 } else { &[] },
+    }
+}
+
+fn part_edits<'a>(
+    alloc: Global,
+    part: &[Token<'a>],
+    cells: &Cells<'a>,
+    supplies: Supplies<'_>,
+    files: &[Changes<'_>],
+    edits: &mut Vec<Edit>,
+) -> Result<(), NoMemory> {
+    let Some(module) = read_module(alloc, part)? else {
+        return Ok(());
+    };
+    let view = View {
+        alloc,
+        part,
+        module: &module,
+        files,
+    };
+    let nets = nets_of(alloc, part, &module)?;
+    module_edits(&view, cells, &nets, supplies, edits)
+}
+
 fn edits_of(
     alloc: Global,
-    part: &[Token<'_>],
+    tokens: &[Token<'_>],
+    wishes: &Wishes<'_>,
     files: &[Changes<'_>],
 ) -> Result<Vec<Edit>, NoMemory> {
-    let items = items_of(alloc, part)?;
+    let cells = cells_of(alloc, tokens)?;
+    let only = if wishes_supplies(wishes) {
+        cells.only_top()
+    } else {
+        None
+    };
     let mut edits = Vec::new(alloc);
-    for item in &items {
-        if let Some(edit) = edit_for(alloc, part, &items, *item, files)? {
-            edits.push(edit)?;
-        }
+    let mut at = 0;
+    while at < tokens.len() {
+        let end = part_end(tokens, at);
+        let part = &tokens[at..end];
+        let supplies = supplies_of(is_top(part_name(part), only, wishes), wishes);
+        part_edits(alloc, part, &cells, supplies, files, &mut edits)?;
+        at = end;
     }
     Ok(edits)
 }
 
-// Adds a change to those of its file. Answers whether it was in order there.
-fn add_edit(files: &mut [Changes<'_>], edit: Edit) -> Result<bool, NoMemory>
-    ensures { map (λ f. f.text) files.new ≡ map (λ f. f.text) files.old }
-{
-    let Edit { file, change } = edit;
-    let at = file as usize;
-    if at >= files.len() {
-        return Ok(false);
-    }
-    files[at].add(change)
-}
-
-/// Adds the changes that the rules ask for in a part of a netlist to those of its files. Takes memory.
-pub fn change_part(
+/// Adds the changes that the rules ask for in a netlist, with these tokens, to those of its files, which have none yet.
+/// Takes time and memory in proportion to the tokens.
+pub fn change_all(
     alloc: Global,
-    part: &[Token<'_>],
+    tokens: &[Token<'_>],
     files: &mut [Changes<'_>],
+    wishes: &Wishes<'_>,
 ) -> Result<(), NoMemory>
     ensures { map (λ f. f.text) files.new ≡ map (λ f. f.text) files.old }
 {
-    let mut edits = edits_of(alloc, part, files)?;
-    edits.reverse();
-    while let Some(edit) = edits.pop() {
-        add_edit(files, edit)?;
-    }
-    Ok(())
+    let edits = edits_of(alloc, tokens, wishes, files)?;
+    add_all(alloc, edits, files)
 }
 
 // The change that leaves out a part, if it stands in one file.
@@ -93,6 +111,18 @@ fn leaving_edit(
     let left = left_of(alloc, text)?;
     let what = Vec::from_slice(alloc, why)?;
     Ok(Some(edit_of(alloc, span, &left, Rule::Unused, part_name(part), what)?))
+}
+
+// Adds a change to those of its file. Answers whether it was in order there.
+fn add_edit(files: &mut [Changes<'_>], edit: Edit) -> Result<bool, NoMemory>
+    ensures { map (λ f. f.text) files.new ≡ map (λ f. f.text) files.old }
+{
+    let Edit { file, change } = edit;
+    let at = file as usize;
+    if at >= files.len() {
+        return Ok(false);
+    }
+    files[at].add(change)
 }
 
 /// Adds one change that leaves out a part, and tells why; its line feeds and directives stay. A part that stands in

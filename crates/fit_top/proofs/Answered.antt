@@ -1,37 +1,39 @@
 -- The answer for the texts of a netlist and of SDF files, and for the files that are held.
-use Rattle.std.proofs.Common.{◌≡◌, sym, subst, refl, ℕ, List, [], ◌∷◌, flat_map, length, arith}
-use Rattle.std.specs.Prelude.{true, false, Result, Ok, Err, IfOk}
+use Rattle.std.proofs.Common.{◌≡◌, ◌∙◌, ap, sym, subst, refl, ℕ, List, [], ◌∷◌, ◌++◌, flat_map, length, map, arith}
+use Rattle.std.specs.Prelude.{true, false, Result, Ok, Err, IfOk, zip}
 use Rattle.sg_io.specs.Files.{File}
 use Rattle.fit_words.specs.Words.{Asked}
-use Rattle.fit_changes.specs.Changes.{ChangedText}
-use Rattle.fit_netlist.specs.declared.faults.Unfit as code_unfit
-use Rattle.fit_top.specs.Answer.{Answer, IsAnswerFor, IsFitted, IsTextAnswer, IsUnfit, Meeting, Meets, TellAllSdf, changed_answer, files_of, has_faults, has_files, is_right, is_unfit, meets_one, misses_netlist, misses_sdf, missing_line, refusal, texts_of, unfit_line, usage_line}
+use Rattle.vl_lex.specs.Seen.{texts}
+use Rattle.fit_changes.specs.Lines.{Line}
+use Rattle.fit_changes.specs.declared.unfit.Unfit as code_unfit
+use Rattle.fit_top.specs.Answer.{Answer, IsAnswerFor, IsFittedFor, IsTextAnswer, IsUnfit, Meeting, Meets, TellAllSdf, changed_answer, files_of, fitted_answer, made_files, made_of_netlist, made_of_sdf, report_text, status_of, has_faults, has_files, is_right, is_unfit, meets_one, misses_netlist, misses_sdf, missing_line, refusal, texts_of, unfit_line, usage_line}
+use Rattle.fit_top.specs.declared.status.Status.{Status}
 use Rattle.fit_top.specs.declared.status.Status.TheVariants as status
 
 -- ---- by the texts
 
 module _ {X : Type 0} (seen : X → Answer) (asked : Asked) (sdf : List File) where
-  -- all that `fit_netlist` promises of changes
-  pub fitted_by : {E : Type 0} (r : Result X E) (texts : List (List ℕ)) (files : List ChangedText) → IsFitted asked.top texts files
-      → IfOk r (λ a. (ts : List (List ℕ)) → IsFitted asked.top ts files → IsTextAnswer asked ts sdf (seen a)) → IfOk r (λ a. IsTextAnswer asked texts sdf (seen a))
-  fitted_by (Ok a) texts files f h = h texts f
-  fitted_by (Err e) texts files f h = h
+  -- all that is promised of a netlist that is fitted
+  pub fitted_by : {E : Type 0} (r : Result X E) (read made : List (List ℕ)) (lines : List Line) → IsFittedFor asked read made lines
+      → IfOk r (λ a. (ts : List (List ℕ)) → IsFittedFor asked ts made lines → IsTextAnswer asked ts sdf (seen a)) → IfOk r (λ a. IsTextAnswer asked read sdf (seen a))
+  fitted_by (Ok a) read made lines f h = h read f
+  fitted_by (Err e) read made lines f h = h
 
   -- no SDF file has a fault
-  pub changed_by : {E : Type 0} (r : Result X E) (files : List ChangedText) (told : List ℕ) → TellAllSdf sdf told → told ≡ [] → IfOk r (λ a. seen a ≡ changed_answer asked files sdf)
-      → IfOk r (λ a. (ts : List (List ℕ)) → IsFitted asked.top ts files → IsTextAnswer asked ts sdf (seen a))
-  changed_by (Ok a) files told t e h = λ ts f. subst (IsTextAnswer asked ts sdf) (sym h) (is_right files f (subst (TellAllSdf sdf) e t))
-  changed_by (Err r) files told t e h = h
+  pub changed_by : {E : Type 0} (r : Result X E) (made : List (List ℕ)) (lines : List Line) (told : List ℕ) → TellAllSdf sdf told → told ≡ [] → IfOk r (λ a. seen a ≡ changed_answer asked made lines sdf)
+      → IfOk r (λ a. (ts : List (List ℕ)) → IsFittedFor asked ts made lines → IsTextAnswer asked ts sdf (seen a))
+  changed_by (Ok a) made lines told t e h = λ ts f. subst (IsTextAnswer asked ts sdf) (sym h) (is_right made lines f (subst (TellAllSdf sdf) e t))
+  changed_by (Err r) made lines told t e h = h
 
   -- or one has
-  pub faulty_by : (a : X) (files : List ChangedText) (told : List ℕ) → TellAllSdf sdf told → (told ≡ [] → ⊥) → seen a ≡ refusal status.Sdf told
-      → (ts : List (List ℕ)) → IsFitted asked.top ts files → IsTextAnswer asked ts sdf (seen a)
-  faulty_by a files [] t some e ts f = absurd (some refl)
-  faulty_by a files (b ∷ told) t some e ts f = subst (IsTextAnswer asked ts sdf) (sym e) (has_faults files b told f t)
+  pub faulty_by : (a : X) (made : List (List ℕ)) (lines : List Line) (told : List ℕ) → TellAllSdf sdf told → (told ≡ [] → ⊥) → seen a ≡ refusal status.Sdf told
+      → (ts : List (List ℕ)) → IsFittedFor asked ts made lines → IsTextAnswer asked ts sdf (seen a)
+  faulty_by a made lines [] t some e ts f = absurd (some refl)
+  faulty_by a made lines (b ∷ told) t some e ts f = subst (IsTextAnswer asked ts sdf) (sym e) (has_faults made lines b told f t)
 
-  pub unfit_by : (a : X) (texts : List (List ℕ)) (places : List code_unfit.Unfit) → IsUnfit texts places → seen a ≡ refusal status.Netlist (flat_map (unfit_line asked.netlists) places)
-      → IsTextAnswer asked texts sdf (seen a)
-  unfit_by a texts places u e = subst (IsTextAnswer asked texts sdf) (sym e) (is_unfit places u)
+  pub unfit_by : (a : X) (read : List (List ℕ)) (places : List code_unfit.Unfit) → IsUnfit asked read places → seen a ≡ refusal status.Netlist (flat_map (unfit_line asked.netlists) places)
+      → IsTextAnswer asked read sdf (seen a)
+  unfit_by a read places u e = subst (IsTextAnswer asked read sdf) (sym e) (is_unfit places u)
 
 pub no_bytes : (told : List ℕ) → length told ≡ 0 → told ≡ []
 no_bytes [] e = refl
@@ -54,3 +56,17 @@ module _ {X : Type 0} (seen : X → Answer) (asked : Asked) (meeting : Meeting) 
 
   pub one_met : (a : X) → Meets meeting asked true → seen a ≡ refusal status.Usage usage_line → IsAnswerFor asked meeting held (seen a)
   one_met a m e = subst (IsAnswerFor asked meeting held) (sym e) (meets_one m)
+
+-- ---- the answer for a netlist that is fitted, by its parts
+
+pub fitted_with : (asked : Asked) (made : List (List ℕ)) (lines : List Line) (sdf : List File) (how : Status) (files : List File) (report : List ℕ) → how ≡ status_of lines → files ≡ made_files asked made sdf
+    → report ≡ report_text asked.netlists lines → record { status = how; made = files; report = report } ≡ fitted_answer asked made lines sdf
+fitted_with asked made lines sdf how files report h f r = λ i. record { status = h i; made = f i; report = r i }
+
+pub made_with : (out : List ℕ) (none more all : List File) (names names' : List (List ℕ)) (made made' : List (List ℕ)) (sdf : List File) → none ≡ [] → more ≡ none ++ map (made_of_netlist out) (zip names made) → names ≡ names' → made ≡ made'
+    → all ≡ more ++ map (made_of_sdf out) sdf → all ≡ map (made_of_netlist out) (zip names' made') ++ map (made_of_sdf out) sdf
+made_with out none more all names names' made made' sdf n m e f a =
+    a ∙ ap (λ fs. fs ++ map (made_of_sdf out) sdf) (m ∙ ap (λ fs. fs ++ map (made_of_netlist out) (zip names made)) n ∙ ap (λ ns. map (made_of_netlist out) (zip ns made)) e ∙ ap (λ ts. map (made_of_netlist out) (zip names' ts)) f)
+
+pub told_with : (names names' : List (List ℕ)) (lines lines' : List Line) (text : List ℕ) → text ≡ report_text names lines → names ≡ names' → lines ≡ lines' → text ≡ report_text names' lines'
+told_with names names' lines lines' text t n l = t ∙ ap (λ ns. report_text ns lines) n ∙ ap (report_text names') l

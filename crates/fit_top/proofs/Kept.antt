@@ -1,12 +1,12 @@
 -- What follows from the case of the top call.
 use Rattle.std.proofs.Common.{◌≡◌, ◌≢◌, ap, subst, refl, ℕ, List, [], Bool, true, false, cond}
-use Rattle.std.specs.Prelude.{Option, Some, None, ◌&&◌, zip}
+use Rattle.std.specs.Prelude.{Option, Some, None, ◌&&◌}
 use Rattle.sg_io.specs.Files.{File, BothTell, bytes_of}
 use Rattle.sg_io.specs.Put.{SinkTold}
 use Rattle.fit_words.specs.Words.{Asked}
-use Rattle.fit_changes.specs.Changes.{ChangedText}
-use Rattle.fit_changes.specs.Report.{are_told}
-use Rattle.fit_top.specs.Answer.{Answer, IsAnswerFor, IsAnswerTo, IsTextAnswer, Meeting, changed_answer, first_told, fitted_answer, has_faults, has_files, is_right, is_unfit, meets_one, misses_netlist, misses_sdf, refusal}
+use Rattle.fit_changes.specs.Lines.{Line}
+use Rattle.fit_changes.specs.Report.{are_told, first_told}
+use Rattle.fit_top.specs.Answer.{Answer, IsAnswerFor, IsAnswerTo, IsTextAnswer, Meeting, changed_answer, fitted_answer, has_faults, has_files, is_right, is_unfit, meets_one, misses_netlist, misses_sdf, refusal}
 use Rattle.fit_top.specs.Promises.{FilesAfter, IsRight, OthersStay, Outcome, ShelfTold, answered, folder_fault, made_in, no_memory, shelf_fault, sink_fault, sink_want}
 use Rattle.fit_top.specs.Status.{IsRefusal}
 use Rattle.fit_top.specs.declared.status.Status.{Status}
@@ -23,19 +23,19 @@ right_others None meeting how text old new r q none = same_others [] old new (su
 right_others (Some asked) meeting how text old new r q none = others_after r.answer.made old new r.files q (none_made_by asked r.answer.made (answer_made asked meeting old r.answer r.right) q none)
 
 -- an answer whose status is that of a refusal makes nothing
-changed_refusal : (asked : Asked) (files : List ChangedText) (sdf : List File) → IsRefusal (changed_answer asked files sdf).status → (changed_answer asked files sdf).made ≡ []
-changed_refusal asked files sdf r = by (asked.is_strict && are_told files) (are_told files) r
+changed_refusal : (asked : Asked) (made : List (List ℕ)) (lines : List Line) (sdf : List File) → IsRefusal (changed_answer asked made lines sdf).status → (changed_answer asked made lines sdf).made ≡ []
+changed_refusal asked made lines sdf r = by (asked.is_strict && are_told lines) (are_told lines) r
   where
-    by : (b told : Bool) → IsRefusal (cond b (refusal status.Told (first_told (zip asked.netlists files))) (record (fitted_answer asked files sdf) { status = cond told status.Told status.Same })).status
-        → (cond b (refusal status.Told (first_told (zip asked.netlists files))) (record (fitted_answer asked files sdf) { status = cond told status.Told status.Same })).made ≡ []
+    by : (b told : Bool) → IsRefusal (cond b (refusal status.Told (first_told asked.netlists lines)) (record (fitted_answer asked made lines sdf) { status = cond told status.Told status.Same })).status
+        → (cond b (refusal status.Told (first_told asked.netlists lines)) (record (fitted_answer asked made lines sdf) { status = cond told status.Told status.Same })).made ≡ []
     by true told h = refl
     by false true h = absurd h
     by false false h = absurd h
 
 text_refusal : (asked : Asked) (texts : List (List ℕ)) (sdf : List File) (answer : Answer) → IsTextAnswer asked texts sdf answer → IsRefusal answer.status → answer.made ≡ []
 text_refusal asked texts sdf _ (is_unfit places u) r = refl
-text_refusal asked texts sdf _ (has_faults files b told f t) r = refl
-text_refusal asked texts sdf _ (is_right files f t) r = changed_refusal asked files sdf r
+text_refusal asked texts sdf _ (has_faults made lines b told f t) r = refl
+text_refusal asked texts sdf _ (is_right made lines f t) r = changed_refusal asked made lines sdf r
 
 refusal_made : (asked : Asked) (meeting : Meeting) (held : List File) (answer : Answer) → IsAnswerFor asked meeting held answer → IsRefusal answer.status → answer.made ≡ []
 refusal_made asked meeting held _ (meets_one m) r = refl

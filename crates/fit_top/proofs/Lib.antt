@@ -12,3 +12,4 @@ pub mod Reading
 pub mod Telling
 pub mod ToldLaws
 pub mod Worked
+pub mod Asking

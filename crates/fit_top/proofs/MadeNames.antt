@@ -5,10 +5,11 @@ use Rattle.std.proofs.lemmas.Slice.Zip.{firsts-zip}
 use Rattle.std.specs.Prelude.{Option, Some, None, Result, Ok, Err, zip, ◌&&◌}
 use Rattle.sg_io.specs.Files.{File, bytes_of}
 use Rattle.fit_words.specs.Words.{Asked, made_name, made_of}
-use Rattle.fit_changes.specs.Changes.{ChangedText}
-use Rattle.fit_changes.specs.Report.{are_told}
-use Rattle.fit_netlist.specs.Fitted.{read}
-use Rattle.fit_top.specs.Answer.{Answer, IsAnswerFor, IsTextAnswer, Meeting, changed_answer, files_of, first_told, fitted_answer, has_faults, has_files, is_right, is_unfit, made_files, made_of_netlist, made_of_sdf, meets_one, misses_netlist, misses_sdf, refusal, texts_of, with_file}
+use Rattle.fit_changes.specs.Changes.{ChangedText, changed}
+use Rattle.fit_changes.specs.Lines.{Line}
+use Rattle.fit_changes.specs.Report.{are_told, first_told}
+use Rattle.fit_changes.specs.Rounds.{AreRounds, written, written_by}
+use Rattle.fit_top.specs.Answer.{Answer, IsAnswerFor, IsFittedFor, IsTextAnswer, Meeting, changed_answer, files_of, fitted_answer, has_faults, has_files, is_right, is_unfit, made_files, made_of_netlist, made_of_sdf, meets_one, misses_netlist, misses_sdf, refusal, texts_of, with_file}
 use Rattle.fit_top.specs.Names.{IsNoneOf, IsOneOf}
 use Rattle.fit_top.specs.declared.status.Status.TheVariants as status
 
@@ -34,12 +35,12 @@ read_names [] held files e =
     subst P e refl
 read_names (n ∷ ns) held files e = one_read n ns (bytes_of n held) (files_of ns held) files (λ fs h. read_names ns held fs h) e
 
-module _ (asked : Asked) (files : List ChangedText) (sdf : List File) where
-  of_netlists : length files ≡ length asked.netlists → names_of (map (made_of_netlist asked.out) (zip asked.netlists files)) ≡ map (made_name asked.out) asked.netlists
+module _ (asked : Asked) (made : List (List ℕ)) (lines : List Line) (sdf : List File) where
+  of_netlists : length made ≡ length asked.netlists → names_of (map (made_of_netlist asked.out) (zip asked.netlists made)) ≡ map (made_name asked.out) asked.netlists
   of_netlists l =
-      map_twice (λ (f : File). f.name) (made_of_netlist asked.out) (zip asked.netlists files)
-      ∙ sym (map_twice (made_name asked.out) (λ (p : List ℕ × ChangedText). p.0) (zip asked.netlists files))
-      ∙ ap (map (made_name asked.out)) (firsts-zip asked.netlists files l)
+      map_twice (λ (f : File). f.name) (made_of_netlist asked.out) (zip asked.netlists made)
+      ∙ sym (map_twice (made_name asked.out) (λ (p : List ℕ × List ℕ). p.0) (zip asked.netlists made))
+      ∙ ap (map (made_name asked.out)) (firsts-zip asked.netlists made l)
 
   of_sdf : names_of sdf ≡ asked.sdf → names_of (map (made_of_sdf asked.out) sdf) ≡ map (made_name asked.out) asked.sdf
   of_sdf e =
@@ -47,9 +48,9 @@ module _ (asked : Asked) (files : List ChangedText) (sdf : List File) where
       ∙ sym (map_twice (made_name asked.out) (λ (f : File). f.name) sdf)
       ∙ ap (map (made_name asked.out)) e
 
-  pub made_names : length files ≡ length asked.netlists → names_of sdf ≡ asked.sdf → names_of (made_files asked files sdf) ≡ made_of asked
+  pub made_names : length made ≡ length asked.netlists → names_of sdf ≡ asked.sdf → names_of (made_files asked made sdf) ≡ made_of asked
   made_names l e =
-      map-append (λ (f : File). f.name) (map (made_of_netlist asked.out) (zip asked.netlists files)) (map (made_of_sdf asked.out) sdf)
+      map-append (λ (f : File). f.name) (map (made_of_netlist asked.out) (zip asked.netlists made)) (map (made_of_sdf asked.out) sdf)
       ∙ ap (λ ns. ns ++ names_of (map (made_of_sdf asked.out) sdf)) (of_netlists l)
       ∙ ap (λ ns. map (made_name asked.out) asked.netlists ++ ns) (of_sdf e)
       ∙ sym (map-append (made_name asked.out) asked.netlists asked.sdf)
@@ -58,23 +59,29 @@ module _ (asked : Asked) (files : List ChangedText) (sdf : List File) where
   abbrev pub AreMade : Answer → Type 0
   AreMade answer = (answer.made ≡ []) ⊎ (names_of answer.made ≡ made_of asked)
 
-  pub changed_made : length files ≡ length asked.netlists → names_of sdf ≡ asked.sdf → AreMade (changed_answer asked files sdf)
-  changed_made l e = by (asked.is_strict && are_told files)
+  pub changed_made : length made ≡ length asked.netlists → names_of sdf ≡ asked.sdf → AreMade (changed_answer asked made lines sdf)
+  changed_made l e = by (asked.is_strict && are_told lines)
     where
-      by : (b : Bool) → AreMade (cond b (refusal status.Told (first_told (zip asked.netlists files))) (fitted_answer asked files sdf))
+      by : (b : Bool) → AreMade (cond b (refusal status.Told (first_told asked.netlists lines)) (fitted_answer asked made lines sdf))
       by true = inl refl
       by false = inr (made_names l e)
 
-same_length : (asked : Asked) (files : List ChangedText) (netlists held : List File) → read files ≡ texts_of netlists → files_of asked.netlists held ≡ Ok netlists → length files ≡ length asked.netlists
-same_length asked files netlists held e f =
-    sym (length-map files (λ (t : ChangedText). t.text)) ∙ ap length e ∙ length-map netlists (λ (n : File). n.bytes)
+-- rounds of changes leave as many texts as there are
+as_many : (ts : List (List ℕ)) (rounds : List (List ChangedText)) → AreRounds ts rounds → length (written_by ts rounds) ≡ length ts
+as_many ts [] r = refl
+as_many ts (files ∷ rounds) r =
+    as_many (written files) rounds r.1 ∙ length-map files (λ (t : ChangedText). changed t.text t.changes) ∙ sym (length-map files (λ (t : ChangedText). t.text)) ∙ ap length r.0
+
+same_length : (asked : Asked) (made : List (List ℕ)) (lines : List Line) (netlists held : List File) → IsFittedFor asked (texts_of netlists) made lines → files_of asked.netlists held ≡ Ok netlists → length made ≡ length asked.netlists
+same_length asked made lines netlists held e f =
+    ap length e.fitted.are_written ∙ as_many (texts_of netlists) e.fitted.rounds e.fitted.are_rounds ∙ length-map netlists (λ (n : File). n.bytes)
     ∙ sym (length-map netlists (λ (n : File). n.name)) ∙ ap length (read_names asked.netlists held netlists f)
 
 text_made : (asked : Asked) (netlists sdf held : List File) (answer : Answer) → files_of asked.netlists held ≡ Ok netlists → files_of asked.sdf held ≡ Ok sdf → IsTextAnswer asked (texts_of netlists) sdf answer
     → (answer.made ≡ []) ⊎ (names_of answer.made ≡ made_of asked)
 text_made asked netlists sdf held _ n s (is_unfit places u) = inl refl
-text_made asked netlists sdf held _ n s (has_faults files b told f t) = inl refl
-text_made asked netlists sdf held _ n s (is_right files f t) = changed_made asked files sdf (same_length asked files netlists held f.are_read n) (read_names asked.sdf held sdf s)
+text_made asked netlists sdf held _ n s (has_faults made lines b told f t) = inl refl
+text_made asked netlists sdf held _ n s (is_right made lines f t) = changed_made asked made lines sdf (same_length asked made lines netlists held f n) (read_names asked.sdf held sdf s)
 
 pub answer_made : (asked : Asked) (meeting : Meeting) (held : List File) (answer : Answer) → IsAnswerFor asked meeting held answer → (answer.made ≡ []) ⊎ (names_of answer.made ≡ made_of asked)
 answer_made asked meeting held _ (meets_one m) = inl refl

@@ -28,8 +28,8 @@ module _ {A B : Type 0} (ks : List A) (vs : List B) where
       let l : length (zip ks vs) ≡ min (length ks) (length vs) = length-zip ks vs in
       drop_all (length xs) (zip ks vs) (omega arith)
 
--- the firsts seen otherwise
-pub zip_seen : {A B C : Type 0} (f : A → C) (ks : List A) (vs : List B) → zip (map f ks) vs ≡ map (λ p. (f p.0, p.1)) (zip ks vs)
-zip_seen f [] vs = refl
-zip_seen f (k ∷ ks) [] = refl
-zip_seen f (k ∷ ks) (v ∷ vs) = ap (λ l. (f k, v) ∷ l) (zip_seen f ks vs)
+-- both seen otherwise
+pub zip_seen : {A B C D : Type 0} (f : A → C) (g : B → D) (ks : List A) (vs : List B) → zip (map f ks) (map g vs) ≡ map (λ p. (f p.0, g p.1)) (zip ks vs)
+zip_seen f g [] vs = refl
+zip_seen f g (k ∷ ks) [] = refl
+zip_seen f g (k ∷ ks) (v ∷ vs) = ap (λ l. (f k, g v) ∷ l) (zip_seen f g ks vs)

@@ -1,16 +1,16 @@
--- What is told of SDF files, and the lines of changes.
-use Rattle.std.proofs.Common.{◌≡◌, ◌∙◌, sym, ap, subst, refl, arith, ℕ, ◌+◌, ◌<◌, ◌≤◌, List, [], ◌∷◌, ◌++◌, length, map, drop, append_assoc}
+-- What is told of SDF files, and the files that are made.
+use Rattle.std.proofs.Common.{◌≡◌, ◌∙◌, sym, ap, subst, refl, ℕ, ◌+◌, ◌<◌, ◌≤◌, List, [], ◌∷◌, ◌++◌, length, map, drop, append_assoc}
 use Rattle.std.proofs.lemmas.List.{append-nil, drop_all, drop_more}
 use Rattle.std.specs.Borrow.{Bor}
+use Rattle.std.specs.Global.{Vec}
 use Rattle.std.specs.Prelude.{Result, Ok, Err, OnOk, slice_index_or}
 use Rattle.sg_io.specs.Files.{File}
 use Rattle.sg_text.specs.declared.places.Place.{Place}
 use Rattle.sdf_tree.specs.Meant.{Sdf}
 use Rattle.sdf_read.specs.Reads.{Reads}
 use Rattle.sdf_read.specs.declared.faults.SdfKind.{SdfKind}
-use Rattle.fit_changes.specs.Changes.{ChangedText}
-use Rattle.fit_changes.specs.Report.{line_of, lines_of, told_line}
-use Rattle.fit_top.specs.Answer.{TellAllSdf, TellsSdf, changes_lines, first_told, is_faulty, is_read, line, place_text, sdf_kind, text_or}
+use Rattle.fit_changes.specs.Lines.{line_of}
+use Rattle.fit_top.specs.Answer.{TellAllSdf, TellsSdf, is_faulty, is_read, line, place_text, sdf_kind}
 use Rattle.fit_top.specs.Texts.{AddsTold}
 
 pub tells_read : (name text old : List ℕ) (sdf : Sdf) → Reads text (Ok sdf) → AddsTold (TellsSdf name text) old old
@@ -40,56 +40,23 @@ pub all_told : {X : Type 0} (seen : X → File) (xs : List X) (i : ℕ) (text : 
 all_told seen xs i text l h =
     subst (TellAllSdf (map seen xs)) (append-nil text) (h [] (subst (λ fs. TellAllSdf (map seen fs) []) (sym (drop_all i xs l)) refl))
 
--- ---- the loops over changes, with the names of files as the code has them
+-- ---- the loop over files that are made, with their names and texts as the code has them
 
 abbrev pub Named : Type 0
-Named = Bor (List ℕ) × ChangedText
+Named = Bor (List ℕ) × Vec ℕ
 
-abbrev pub named : Named → List ℕ × ChangedText
-named p = (p.0.now, p.1)
-
-pub lines_step : (all left rest : List Named) (p : Named) (start text new : List ℕ) → left ≡ p ∷ rest → new ≡ text ++ lines_of p.0.now p.1
-    → start ++ changes_lines (map named all) ≡ text ++ changes_lines (map named left) → start ++ changes_lines (map named all) ≡ new ++ changes_lines (map named rest)
-lines_step all left rest p start text new e n h =
-    h ∙ ap (λ ps. text ++ changes_lines (map named ps)) e ∙ sym (append_assoc text (lines_of p.0.now p.1) (changes_lines (map named rest))) ∙ ap (λ t. t ++ changes_lines (map named rest)) (sym n)
-
-pub lines_last : (all left : List Named) (start text : List ℕ) → left ≡ [] → start ++ changes_lines (map named all) ≡ text ++ changes_lines (map named left) → text ≡ start ++ changes_lines (map named all)
-lines_last all left start text e h = sym (h ∙ ap (λ ps. text ++ changes_lines (map named ps)) e ∙ append-nil text)
-
-or_again : (a b c : List ℕ) → text_or (text_or a b) c ≡ text_or a (text_or b c)
-or_again [] b c = refl
-or_again (x ∷ a) b c = refl
-
-pub told_step : (all left rest : List Named) (p : Named) (text new : List ℕ) → left ≡ p ∷ rest → new ≡ text_or text (told_line p.0.now p.1)
-    → first_told (map named all) ≡ text_or text (first_told (map named left)) → first_told (map named all) ≡ text_or new (first_told (map named rest))
-told_step all left rest p text new e n h =
-    h ∙ ap (λ ps. text_or text (first_told (map named ps))) e ∙ sym (or_again text (told_line p.0.now p.1) (first_told (map named rest))) ∙ ap (λ t. text_or t (first_told (map named rest))) (sym n)
-
--- the line of one more
-pub or_some : (text other : List ℕ) → 1 ≤ length text → text ≡ text_or text other
-or_some [] other some = absurd (omega arith)
-or_some (b ∷ text) other some = refl
-
-pub or_empty : (text other new : List ℕ) → length text ≤ 0 → new ≡ text ++ other → new ≡ text_or text other
-or_empty [] other new none e = e
-or_empty (b ∷ text) other new none e = absurd (omega arith)
-
-or_none : (text : List ℕ) → text_or text [] ≡ text
-or_none [] = refl
-or_none (x ∷ text) = refl
-
-pub told_last : (all left : List Named) (text : List ℕ) → left ≡ [] → first_told (map named all) ≡ text_or text (first_told (map named left)) → text ≡ first_told (map named all)
-told_last all left text e h = sym (h ∙ ap (λ ps. text_or text (first_told (map named ps))) e ∙ or_none text)
+abbrev pub named : Named → List ℕ × List ℕ
+named p = (p.0.now, p.1.items)
 
 made_more : {A : Type 0} (done rest whole new : List A) (a : A) → new ≡ done ++ a ∷ [] → whole ≡ done ++ a ∷ rest → whole ≡ new ++ rest
 made_more done rest whole new a n h = h ∙ sym (append_assoc done (a ∷ []) rest) ∙ ap (λ l. l ++ rest) (sym n)
 
-pub made_step : (f : List ℕ × ChangedText → File) (all left rest : List Named) (p : Named) (start done new : List File) → left ≡ p ∷ rest → new ≡ done ++ f (named p) ∷ []
+pub made_step : (f : List ℕ × List ℕ → File) (all left rest : List Named) (p : Named) (start done new : List File) → left ≡ p ∷ rest → new ≡ done ++ f (named p) ∷ []
     → start ++ map f (map named all) ≡ done ++ map f (map named left) → start ++ map f (map named all) ≡ new ++ map f (map named rest)
 made_step f all left rest p start done new e n h =
     made_more done (map f (map named rest)) (start ++ map f (map named all)) new (f (named p)) n (h ∙ ap (λ ps. done ++ map f (map named ps)) e)
 
-pub made_last : (f : List ℕ × ChangedText → File) (all left : List Named) (start done : List File) → left ≡ [] → start ++ map f (map named all) ≡ done ++ map f (map named left) → done ≡ start ++ map f (map named all)
+pub made_last : (f : List ℕ × List ℕ → File) (all left : List Named) (start done : List File) → left ≡ [] → start ++ map f (map named all) ≡ done ++ map f (map named left) → done ≡ start ++ map f (map named all)
 made_last f all left start done e h = sym (h ∙ ap (λ ps. done ++ map f (map named ps)) e ∙ append-nil done)
 
 abbrev file : List ℕ → List ℕ → File

@@ -1,5 +1,5 @@
 -- What the program answers: its status, the files that it makes, and the report.
-use Rattle.std.specs.Prelude.{ℕ, ◌≡◌, ◌<◌, ◌+◌, ◌^◌, ◌++◌, ◌&&◌, List, [], ◌∷◌, Bool, true, false, Option, Some, None, Result, Ok, Err, codes, decimal, flat_map, if◌then◌else◌, length, map, slice_index_or, take, zip}
+use Rattle.std.specs.Prelude.{ℕ, ◌≡◌, ◌==◌, not, ◌<◌, ◌+◌, ◌^◌, ◌++◌, ◌&&◌, List, [], ◌∷◌, Bool, true, false, Option, Some, None, Result, Ok, Err, codes, decimal, flat_map, if◌then◌else◌, length, map, slice_index_or, take, zip}
 use Rattle.std.specs.List.{list_any}
 use Rattle.sg_io.specs.Files.{File, bytes_of}
 use Rattle.sdf_tree.specs.Meant.{Sdf}
@@ -8,11 +8,11 @@ use Rattle.sdf_read.specs.Reads.{Reads}
 use Rattle.sdf_read.specs.declared.faults.SdfKind.{SdfKind}
 use Rattle.sdf_read.specs.declared.faults.SdfKind.TheVariants as delays
 use Rattle.fit_words.specs.Words.{Asked, inputs_of, made_name, made_of}
-use Rattle.fit_changes.specs.Changes.{ChangedText, changed}
-use Rattle.fit_changes.specs.Report.{are_told, counts_text, line_of, lines_of, told_line}
-use Rattle.fit_netlist.specs.Accepted.{IsAccepted}
-use Rattle.fit_netlist.specs.Fitted.{AreUnchanged, Keeps, read, written}
-use Rattle.fit_netlist.specs.declared.faults.Unfit as code
+use Rattle.fit_changes.specs.Lines.{Line, line_of}
+use Rattle.fit_changes.specs.Report.{are_told, counts_text, first_told, lines_text}
+use Rattle.fit_changes.specs.declared.unfit.Unfit as code
+use Rattle.fit_inside.specs.Inside.{IsInside}
+use Rattle.fit_netlist.specs.Fitted.{IsFitted}
 use Rattle.fit_top.specs.declared.status.Status.{Status}
 use Rattle.fit_top.specs.declared.status.Status.TheVariants as status
 
@@ -27,7 +27,7 @@ abbrev pub line : List ℕ → List ℕ
 line text = text ++ 10 ∷ []
 
 abbrev pub usage_line : List ℕ
-usage_line = line (codes "usage: fit NETLIST.. --out FOLDER [--sdf FILE].. [--top NAME] [--strict]")
+usage_line = line (codes "usage: fit NETLIST.. --out FOLDER [--sdf FILE].. [--define NAME[=TEXT]].. [--include FOLDER].. [--top NAME] [--supply0 NET].. [--supply1 NET].. [--cut INSTANCE[:PIN,..]].. [--drop CELL].. [--drop-missing] [--no-checks PATH].. [--no-notifier PATH].. [--strict]")
 
 abbrev pub missing_line : List ℕ → List ℕ
 missing_line name = line (codes "missing: " ++ name)
@@ -86,17 +86,26 @@ texts_of files = map (λ f. f.bytes) files
 
 -- ---- the netlist
 
--- a netlist is fitted by changes of its files: all that `fit_netlist` promises of them
-pub record IsFitted (top : Option (List ℕ)) (texts : List (List ℕ)) (files : List ChangedText) : Type 0 where
-  pub are_read : read files ≡ texts
-  pub accepted : IsAccepted (written files)
-  pub unchanged : IsAccepted texts → AreUnchanged files
-  pub kept : Keeps top files
+-- no option asks for a change
+abbrev pub asks_nothing : Asked → Bool
+asks_nothing asked =
+    length asked.defines == 0 && (length asked.supply0 == 0 && (length asked.supply1 == 0 && (length asked.cut == 0 && (length asked.dropped == 0
+    && (not asked.drop_missing && (length asked.no_checks == 0 && length asked.no_notifier == 0))))))
 
--- or it isn't, and these places are told: there are some, and the netlist isn't taken as it stands
-pub record IsUnfit (texts : List (List ℕ)) (places : List code.Unfit) : Type 0 where
+-- no rule concerns a netlist, and no option asks for a change of it
+pub record IsUntouched (asked : Asked) (texts : List (List ℕ)) : Type 0 where
+  pub nothing : asks_nothing asked ≡ true
+  pub inside : IsInside texts
+
+-- A netlist is fitted: these texts are written, and these lines told. Where no rule concerns it, and no option asks for a change, it stays.
+pub record IsFittedFor (asked : Asked) (texts made : List (List ℕ)) (lines : List Line) : Type 0 where
+  pub fitted : IsFitted asked.top texts made lines
+  pub unchanged : IsUntouched asked texts → (made ≡ texts) × (lines ≡ [])
+
+-- or it isn't, and these places are told: there are some, and a rule concerns it, or an option asks for a change
+pub record IsUnfit (asked : Asked) (texts : List (List ℕ)) (places : List code.Unfit) : Type 0 where
   pub some : 0 < length places
-  pub refused : IsAccepted texts → ⊥
+  pub refused : IsUntouched asked texts → ⊥
 
 -- ---- SDF files
 
@@ -116,21 +125,8 @@ TellAllSdf (f ∷ fs) told = (own : List ℕ) × (more : List ℕ) × TellsSdf f
 
 -- ---- the report of changes
 
-abbrev pub changes_lines : List (List ℕ × ChangedText) → List ℕ
-changes_lines files = flat_map (λ f. lines_of f.0 f.1) files
-
-abbrev pub report_text : (names : List (List ℕ)) → List ChangedText → List ℕ
-report_text names files = changes_lines (zip names files) ++ counts_text files
-
--- a text, or another where it is empty
-abbrev pub text_or : List ℕ → List ℕ → List ℕ
-text_or [] other = other
-text_or (b ∷ bs) other = b ∷ bs
-
--- the first line of it by which values or violations may change
-abbrev pub first_told : List (List ℕ × ChangedText) → List ℕ
-first_told [] = []
-first_told (f ∷ fs) = text_or (told_line f.0 f.1) (first_told fs)
+abbrev pub report_text : (names : List (List ℕ)) → List Line → List ℕ
+report_text names lines = lines_text names lines ++ counts_text lines
 
 -- ---- the answer
 
@@ -138,38 +134,38 @@ abbrev pub refusal : Status → List ℕ → Answer
 refusal how text = record { status = how; made = []; report = text }
 
 -- a file that is made of one of the netlist, and one that is made of an SDF file
-abbrev pub made_of_netlist : (out : List ℕ) → List ℕ × ChangedText → File
-made_of_netlist out f = record { name = made_name out f.0; bytes = changed f.1.text f.1.changes }
+abbrev pub made_of_netlist : (out : List ℕ) → List ℕ × List ℕ → File
+made_of_netlist out f = record { name = made_name out f.0; bytes = f.1 }
 
 abbrev pub made_of_sdf : (out : List ℕ) → File → File
 made_of_sdf out f = record { name = made_name out f.name; bytes = f.bytes }
 
-abbrev pub made_files : Asked → List ChangedText → (sdf : List File) → List File
-made_files asked files sdf = map (made_of_netlist asked.out) (zip asked.netlists files) ++ map (made_of_sdf asked.out) sdf
+abbrev pub made_files : Asked → (made : List (List ℕ)) → (sdf : List File) → List File
+made_files asked made sdf = map (made_of_netlist asked.out) (zip asked.netlists made) ++ map (made_of_sdf asked.out) sdf
 
-abbrev pub status_of : List ChangedText → Status
-status_of files = if are_told files then status.Told else status.Same
+abbrev pub status_of : List Line → Status
+status_of lines = if are_told lines then status.Told else status.Same
 
-abbrev pub fitted_answer : Asked → List ChangedText → (sdf : List File) → Answer
-fitted_answer asked files sdf = record {
-  status = status_of files;
-  made = made_files asked files sdf;
-  report = report_text asked.netlists files;
+abbrev pub fitted_answer : Asked → (made : List (List ℕ)) → List Line → (sdf : List File) → Answer
+fitted_answer asked made lines sdf = record {
+  status = status_of lines;
+  made = made_files asked made sdf;
+  report = report_text asked.netlists lines;
 }
 
 -- where nothing is to be written that is told
-abbrev pub changed_answer : Asked → List ChangedText → (sdf : List File) → Answer
-changed_answer asked files sdf =
-    if asked.is_strict && are_told files then refusal status.Told (first_told (zip asked.netlists files)) else fitted_answer asked files sdf
+abbrev pub changed_answer : Asked → (made : List (List ℕ)) → List Line → (sdf : List File) → Answer
+changed_answer asked made lines sdf =
+    if asked.is_strict && are_told lines then refusal status.Told (first_told asked.netlists lines) else fitted_answer asked made lines sdf
 
 -- an answer for the texts of a netlist and of SDF files
 pub data IsTextAnswer (asked : Asked) (texts : List (List ℕ)) (sdf : List File) : Answer → Type 0 where
   -- the netlist has places that aren't taken
-  is_unfit : (places : List code.Unfit) → IsUnfit texts places → IsTextAnswer asked texts sdf (refusal status.Netlist (flat_map (unfit_line asked.netlists) places))
+  is_unfit : (places : List code.Unfit) → IsUnfit asked texts places → IsTextAnswer asked texts sdf (refusal status.Netlist (flat_map (unfit_line asked.netlists) places))
   -- the netlist is fitted, and an SDF file has a fault
-  has_faults : (files : List ChangedText) (b : ℕ) (told : List ℕ) → IsFitted asked.top texts files → TellAllSdf sdf (b ∷ told) → IsTextAnswer asked texts sdf (refusal status.Sdf (b ∷ told))
+  has_faults : (made : List (List ℕ)) (lines : List Line) (b : ℕ) (told : List ℕ) → IsFittedFor asked texts made lines → TellAllSdf sdf (b ∷ told) → IsTextAnswer asked texts sdf (refusal status.Sdf (b ∷ told))
   -- all are right
-  is_right : (files : List ChangedText) → IsFitted asked.top texts files → TellAllSdf sdf [] → IsTextAnswer asked texts sdf (changed_answer asked files sdf)
+  is_right : (made : List (List ℕ)) (lines : List Line) → IsFittedFor asked texts made lines → TellAllSdf sdf [] → IsTextAnswer asked texts sdf (changed_answer asked made lines sdf)
 
 -- whether two names reach one file, where that is told
 abbrev pub Meeting : Type 0

@@ -4,8 +4,12 @@ use Rattle.std.specs.Global.{Vec}
 use Rattle.std.specs.Borrow.{Bor}
 use Rattle.sg_io.specs.Files.{File}
 use Rattle.sg_io.specs.Put.{SinkTold}
+use Rattle.vl_lex.specs.Seen.{texts}
+use Rattle.fit_changes.specs.Lines.{line_seen}
+use Rattle.fit_changes.specs.declared.unfit.Unfit as code_unfit
+use Rattle.fit_netlist.specs.declared.fitting.Fitted as code_fitted
 use Rattle.fit_words.specs.Words.{Asked}
-use Rattle.fit_top.specs.Answer.{Answer, Meeting, read_limit, report_fault_line, no_memory_line, fault_line}
+use Rattle.fit_top.specs.Answer.{Answer, IsFittedFor, IsUnfit, Meeting, read_limit, report_fault_line, no_memory_line, fault_line}
 use Rattle.fit_top.specs.Names.{IsOneOf}
 use Rattle.fit_top.specs.Promises.{IsRight, OthersStay, PutsReport, made_in, names_in}
 use Rattle.fit_top.specs.Putting.{PutsTillFault, PutsTillWant, PutsLast}
@@ -38,6 +42,12 @@ files_seen (Err name) = Err name.now
 
 abbrev pub GivesFiles : {X : Type 0} → Result (List File) (List ℕ) → Result (Result (Vec code_input.Input) (Bor (List ℕ))) X → Type 0
 GivesFiles files result = IfOk result (λ r. files_seen r ≡ files)
+
+-- ---- the netlist
+
+abbrev pub IsFit : Asked → List (List ℕ) → Result code_fitted.Fitted (Vec code_unfit.Unfit) → Type 0
+IsFit asked read (Ok f) = IsFittedFor asked read (texts f.texts.items) (map line_seen f.lines.items)
+IsFit asked read (Err places) = IsUnfit asked read places.items
 
 -- ---- answers
 

@@ -1,13 +1,15 @@
 // The answer to what is asked.
-ghost use Rattle.std.specs.Prelude.{◌≡◌, ℕ, Bool, List, IfOk, Ok, Some, false, map, option_map, string_bytes};
+ghost use Rattle.std.specs.Prelude.{◌≡◌, ◌<◌, ℕ, Bool, List, IfOk, length, Ok, Some, false, map, option_map, string_bytes};
 ghost use Rattle.std.specs.List.{list_any};
 ghost use Rattle.sg_io.specs.Faults.{Cause};
 ghost use Rattle.sg_io.specs.Files.{File};
 ghost use Rattle.fit_words.specs.Words.{inputs_of, made_name};
 ghost use Rattle.fit_words.specs.WordsSeen.{asked_seen};
-ghost use Rattle.fit_top.specs.Answer.{IsAnswerFor, IsFitted, IsTextAnswer, Meeting, Meets, TellAllSdf, changed_answer, files_of, fitted_answer, missing_line, refusal, status_of, usage_line};
+ghost use Rattle.vl_lex.specs.Seen.{texts};
+ghost use Rattle.fit_changes.specs.Lines.{line_seen};
+ghost use Rattle.fit_top.specs.Answer.{IsAnswerFor, IsFittedFor, IsTextAnswer, Meeting, Meets, TellAllSdf, changed_answer, files_of, fitted_answer, missing_line, refusal, status_of, usage_line};
 ghost use Rattle.fit_top.specs.Stops.{FailsAmong, NeverFolder, end_of};
-ghost use Rattle.fit_top.specs.Work.{answer_seen, input_seen};
+ghost use Rattle.fit_top.specs.Work.{IsFit, answer_seen, input_seen};
 
 use crate::folders::Folders;
 use crate::inputs::{Input, read_files, texts_of};
@@ -16,8 +18,10 @@ use crate::making::{Made, add_netlists, add_sdf};
 use crate::status::Status;
 use crate::stop::Stop;
 use crate::texts::{report_text, sdf_lines, told_text};
-use fit_changes::{Changes, is_told};
-use fit_netlist::{FitError, fit_netlist};
+use fit_changes::{Line, Unfit, are_told};
+use fit_items::Wishes;
+use fit_netlist::{FitError, Fitted, fit_netlist};
+use fit_text::Given;
 use fit_words::{Asked, inputs_of, made_name};
 use sg_io::Shelf;
 use sg_text::NoMemory;
@@ -57,10 +61,10 @@ fn missing_answer(alloc: Global, name: &str) -> Result<Answer, NoMemory>
     Ok(refusal(alloc, Status::Missing, line))
 }
 
-fn status_of(list: &[Changes<'_>]) -> Status
-    ensures { result ≡ status_of list.now }
+fn status_of(lines: &[Line]) -> Status
+    ensures { result ≡ status_of (map line_seen lines.now) }
 {
-    if is_told(list) {
+    if are_told(lines) {
         Status::Told
     } else {
         Status::Same
@@ -70,17 +74,17 @@ fn status_of(list: &[Changes<'_>]) -> Status
 fn fitted_answer(
     alloc: Global,
     asked: &Asked<'_>,
-    list: &[Changes<'_>],
+    fitted: &Fitted,
     sdf: Vec<Input<'_>>,
 ) -> Result<Answer, NoMemory>
-    ensures { IfOk result (λ a. answer_seen a ≡ fitted_answer (asked_seen asked.now) list.now (map input_seen sdf.entry.items)) }
+    ensures { IfOk result (λ a. answer_seen a ≡ fitted_answer (asked_seen asked.now) (texts fitted.now.texts.items) (map line_seen fitted.now.lines.items) (map input_seen sdf.entry.items)) }
 {
-    let report = report_text(alloc, &asked.netlists, list)?;
+    let report = report_text(alloc, &asked.netlists, &fitted.lines)?;
     let mut made = Vec::new(alloc);
-    add_netlists(alloc, asked.out, &asked.netlists, list, &mut made)?;
+    add_netlists(alloc, asked.out, &asked.netlists, &fitted.texts, &mut made)?;
     add_sdf(alloc, asked.out, sdf, &mut made)?;
     Ok(Answer {
-        status: status_of(list),
+        status: status_of(&fitted.lines),
         made,
         report,
     })
@@ -89,41 +93,94 @@ fn fitted_answer(
 fn changed_answer(
     alloc: Global,
     asked: &Asked<'_>,
-    list: &[Changes<'_>],
+    fitted: &Fitted,
     sdf: Vec<Input<'_>>,
 ) -> Result<Answer, NoMemory>
-    ensures { IfOk result (λ a. answer_seen a ≡ changed_answer (asked_seen asked.now) list.now (map input_seen sdf.entry.items)) }
+    ensures { IfOk result (λ a. answer_seen a ≡ changed_answer (asked_seen asked.now) (texts fitted.now.texts.items) (map line_seen fitted.now.lines.items) (map input_seen sdf.entry.items)) }
 {
-    if asked.is_strict && is_told(list) {
-        let line = told_text(alloc, &asked.netlists, list)?;
+    if asked.is_strict && are_told(&fitted.lines) {
+        let line = told_text(alloc, &asked.netlists, &fitted.lines)?;
         return Ok(refusal(alloc, Status::Told, line));
     }
-    fitted_answer(alloc, asked, list, sdf)
+    fitted_answer(alloc, asked, fitted, sdf)
 }
 
-// The answer for a netlist that is fitted by these changes.
+// The answer for a netlist that is fitted.
 fn sdf_answer(
     alloc: Global,
     asked: &Asked<'_>,
-    list: &[Changes<'_>],
+    fitted: &Fitted,
     sdf: Vec<Input<'_>>,
 ) -> Result<Answer, NoMemory>
-    ensures { IfOk result (λ a. (texts : List (List ℕ)) → IsFitted (asked_seen asked.now).top texts list.now → IsTextAnswer (asked_seen asked.now) texts (map input_seen sdf.entry.items) (answer_seen a)) }
+    ensures { IfOk result (λ a. (read : List (List ℕ)) → IsFittedFor (asked_seen asked.now) read (texts fitted.now.texts.items) (map line_seen fitted.now.lines.items)
+        → IsTextAnswer (asked_seen asked.now) read (map input_seen sdf.entry.items) (answer_seen a)) }
 {
     let faults = sdf_lines(alloc, &sdf)?;
     if faults.len() == 0 {
-        changed_answer(alloc, asked, list, sdf)
+        changed_answer(alloc, asked, fitted, sdf)
     } else {
         Ok(refusal(alloc, Status::Sdf, faults))
     }
 }
 
-fn bytes_of(top: Option<&str>) -> Option<&[u8]>
-    ensures { option_map (λ n. n.now) result ≡ option_map (λ n. n.now) top.entry }
+// What the words give and wish.
+fn given<'g>(asked: &'g Asked<'g>) -> Given<'g>
+    ensures { length result.defines.now ≡ length (asked_seen asked.now).defines }
 {
-    match top {
-        Some(name) => Some(name.as_bytes()),
-        None => None,
+    Given {
+        names: &asked.netlists,
+        defines: &asked.defines,
+        included: &[],
+    }
+}
+
+fn wishes<'w>(asked: &'w Asked<'w>) -> Wishes<'w>
+    ensures top { option_map (λ n. n.now) result.top ≡ (asked_seen asked.now).top }
+    ensures supplies { (length result.supply0.now ≡ length (asked_seen asked.now).supply0) × (length result.supply1.now ≡ length (asked_seen asked.now).supply1) }
+    ensures dropped { (length result.cut.now ≡ length (asked_seen asked.now).cut) × (length result.drop.now ≡ length (asked_seen asked.now).dropped) × (result.drop_missing ≡ asked.now.drop_missing) }
+    ensures checks { (length result.no_checks.now ≡ length (asked_seen asked.now).no_checks) × (length result.no_notifier.now ≡ length (asked_seen asked.now).no_notifier) }
+{
+    Wishes {
+        top: asked.top,
+        supply0: &asked.supply0,
+        supply1: &asked.supply1,
+        cut: &asked.cut,
+        drop: &asked.dropped,
+        drop_missing: asked.drop_missing,
+        no_checks: &asked.no_checks,
+        no_notifier: &asked.no_notifier,
+    }
+}
+
+// The place of an included file that isn't there.
+fn missing_include(alloc: Global, name: &[u8]) -> Result<Vec<Unfit>, NoMemory>
+    ensures { IfOk result (λ places. 0 < length places.items) }
+{
+    let mut kind = Vec::from_slice(alloc, b"Unsupported include ")?;
+    kind.extend_from_slice(name)?;
+    let mut places = Vec::new(alloc);
+    places.push(Unfit {
+        file: 0,
+        line: 1,
+        kind,
+        part: Vec::new(alloc),
+    })?;
+    Ok(places)
+}
+
+// The netlist as it is to be written, or the places that aren't taken.
+fn fit(
+    alloc: Global,
+    asked: &Asked<'_>,
+    texts: &[Vec<u8>],
+) -> Result<Result<Fitted, Vec<Unfit>>, NoMemory>
+    ensures { IfOk result (IsFit (asked_seen asked.now) (map (λ t. t.items) texts.now)) }
+{
+    match fit_netlist(alloc, texts, &given(asked), &wishes(asked)) {
+        Ok(fitted) => Ok(Ok(fitted)),
+        Err(FitError::Unfit(places)) => Ok(Err(places)),
+        Err(FitError::Wants { name, .. }) => Ok(Err(missing_include(alloc, &name)?)),
+        Err(FitError::NoMemory) => Err(NoMemory),
     }
 }
 
@@ -136,13 +193,13 @@ fn text_answer(
 ) -> Result<Answer, NoMemory>
     ensures { IfOk result (λ a. IsTextAnswer (asked_seen asked.now) (map (λ t. t.items) texts.now) (map input_seen sdf.entry.items) (answer_seen a)) }
 {
-    match fit_netlist(alloc, texts, bytes_of(asked.top)) {
-        Ok(list) => sdf_answer(alloc, asked, &list, sdf),
-        Err(FitError::Unfit(places)) => {
+    let outcome = fit(alloc, asked, texts)?;
+    match outcome {
+        Ok(fitted) => sdf_answer(alloc, asked, &fitted, sdf),
+        Err(places) => {
             let lines = unfit_lines(alloc, &asked.netlists, &places)?;
             Ok(refusal(alloc, Status::Netlist, lines))
         }
-        Err(FitError::NoMemory) => Err(NoMemory),
     }
 }
 

@@ -2,13 +2,14 @@
 ghost use Rattle.std.specs.Prelude.{◌≡◌, ◌++◌, IfOk, OnOk, codes, flat_map, map, slice_index_or, []};
 ghost use Rattle.fit_top.specs.Answer.{line, missing_line, part_text, place_text, sdf_kind, unfit_line};
 
-use fit_netlist::Unfit;
+use fit_changes::Unfit;
 use itoa::Buffer;
 use sdf_read::SdfKind;
 use sg_text::NoMemory;
 use std::alloc::Global;
 
-pub const USAGE: &str = "usage: fit NETLIST.. --out FOLDER [--sdf FILE].. [--top NAME] [--strict]";
+pub const USAGE: &str =
+    "usage: fit NETLIST.. --out FOLDER [--sdf FILE].. [--define NAME[=TEXT]].. [--include FOLDER].. [--top NAME] [--supply0 NET].. [--supply1 NET].. [--cut INSTANCE[:PIN,..]].. [--drop CELL].. [--drop-missing] [--no-checks PATH].. [--no-notifier PATH].. [--strict]";
 
 /// A text on a line of its own.
 pub fn line_of(alloc: Global, before: &str, name: &str) -> Result<Vec<u8>, NoMemory>

@@ -10,7 +10,6 @@ ghost use Rattle.fit_top.specs.Work.{input_seen, made_seen};
 use crate::folders::Folders;
 use crate::inputs::Input;
 use crate::stop::Stop;
-use fit_changes::Changes;
 use fit_words::made_name;
 use sg_io::{Shelf, ShelfError};
 use sg_text::NoMemory;
@@ -28,13 +27,13 @@ pub fn add_netlists(
     alloc: Global,
     folder: &str,
     names: &[&str],
-    list: &[Changes<'_>],
+    texts: &[Vec<u8>],
     made: &mut Vec<Made>,
 ) -> Result<(), NoMemory>
-    ensures { OnOk result (map made_seen made.new.items ≡ map made_seen made.old.items ++ map (made_of_netlist folder.now) (zip (map (λ n. n.now) names.now) list.now)) }
+    ensures { OnOk result (map made_seen made.new.items ≡ map made_seen made.old.items ++ map (made_of_netlist folder.now) (zip (map (λ n. n.now) names.now) (map (λ t. t.items) texts.now))) }
 {
-    for (name, changes) in names.iter().zip(list) {
-        let text = changes.changed(alloc)?;
+    for (name, written) in names.iter().zip(texts) {
+        let text = Vec::from_slice(alloc, written)?;
         let name = made_name(alloc, folder, name)?;
         made.push(Made { name, text })?;
     }

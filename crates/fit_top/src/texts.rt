@@ -1,13 +1,14 @@
 // The texts of netlists and of SDF files, and what is told of them.
-ghost use Rattle.std.specs.Prelude.{◌≡◌, ◌++◌, IfOk, OnOk, map, zip};
-ghost use Rattle.fit_top.specs.Answer.{TellAllSdf, TellsSdf, changes_lines, first_told, report_text, text_or};
-ghost use Rattle.fit_changes.specs.Report.{told_line};
+ghost use Rattle.std.specs.Prelude.{◌≡◌, IfOk, OnOk, map};
+ghost use Rattle.fit_changes.specs.Lines.{line_seen};
+ghost use Rattle.fit_changes.specs.Report.{first_told};
+ghost use Rattle.fit_top.specs.Answer.{TellAllSdf, TellsSdf, report_text};
 ghost use Rattle.fit_top.specs.Texts.{AddsTold};
 ghost use Rattle.fit_top.specs.Work.{input_seen};
 
 use crate::inputs::Input;
 use crate::lines::push_fault;
-use fit_changes::{Changes, push_counts, push_lines, push_told};
+use fit_changes::{Line, push_counts, push_lines, push_told};
 use sdf_read::read_sdf;
 use sg_text::{NoMemory, Refused};
 use std::alloc::Global;
@@ -36,43 +37,21 @@ pub fn sdf_lines(alloc: Global, inputs: &[Input<'_>]) -> Result<Vec<u8>, NoMemor
     Ok(text)
 }
 
-// The lines of all changes, of files of these names.
-fn push_changes(text: &mut Vec<u8>, names: &[&str], list: &[Changes<'_>]) -> Result<(), NoMemory>
-    ensures { OnOk result (text.new.items ≡ text.old.items ++ changes_lines (zip (map (λ n. n.now) names.now) list.now)) }
-{
-    for (name, changes) in names.iter().zip(list) {
-        push_lines(text, name, changes)?;
-    }
-    Ok(())
-}
-
-/// The report of changes.
-pub fn report_text(alloc: Global, names: &[&str], list: &[Changes<'_>]) -> Result<Vec<u8>, NoMemory>
-    ensures { IfOk result (λ text. text.items ≡ report_text (map (λ n. n.now) names.now) list.now) }
+/// The report of changes, in files of these names.
+pub fn report_text(alloc: Global, names: &[&str], lines: &[Line]) -> Result<Vec<u8>, NoMemory>
+    ensures { IfOk result (λ text. text.items ≡ report_text (map (λ n. n.now) names.now) (map line_seen lines.now)) }
 {
     let mut text = Vec::new(alloc);
-    push_changes(&mut text, names, list)?;
-    push_counts(&mut text, list)?;
+    push_lines(&mut text, names, lines)?;
+    push_counts(&mut text, lines)?;
     Ok(text)
 }
 
-// Adds the line of a file's first change by which values or violations may change, unless there is a line.
-fn push_first(text: &mut Vec<u8>, name: &str, changes: &Changes<'_>) -> Result<(), NoMemory>
-    ensures { OnOk result (text.new.items ≡ text_or text.old.items (told_line name.now changes.now)) }
-{
-    if text.len() > 0 {
-        return Ok(());
-    }
-    push_told(text, name, changes)
-}
-
 /// The first line of the report by which values or violations may change, if there is one.
-pub fn told_text(alloc: Global, names: &[&str], list: &[Changes<'_>]) -> Result<Vec<u8>, NoMemory>
-    ensures { IfOk result (λ text. text.items ≡ first_told (zip (map (λ n. n.now) names.now) list.now)) }
+pub fn told_text(alloc: Global, names: &[&str], lines: &[Line]) -> Result<Vec<u8>, NoMemory>
+    ensures { IfOk result (λ text. text.items ≡ first_told (map (λ n. n.now) names.now) (map line_seen lines.now)) }
 {
     let mut text = Vec::new(alloc);
-    for (name, changes) in names.iter().zip(list) {
-        push_first(&mut text, name, changes)?;
-    }
+    push_told(&mut text, names, lines)?;
     Ok(text)
 }

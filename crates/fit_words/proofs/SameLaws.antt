@@ -37,9 +37,9 @@ bool-Decides false false = (λ _. refl, λ _. refl)
 
 asked-Decides : (a b : code.Asked) → Decides (asked_equal a b) (asked_seen a ≡ asked_seen b)
 asked-Decides a b =
-    Decides-like _ (λ h. cc) (λ same. (ap (λ x. x.netlists) same, (ap (λ x. x.out) same, (ap (λ x. x.sdf) same, (ap (λ x. x.top) same, ap (λ x. x.is_strict) same)))))
+    Decides-like _ (λ h. cc) (λ same. (ap (λ x. x.netlists) same, (ap (λ x. x.out) same, (ap (λ x. x.sdf) same, (ap (λ x. x.top) same, (ap (λ x. x.defines) same, (ap (λ x. x.includes) same, (ap (λ x. x.supply0) same, (ap (λ x. x.supply1) same, (ap (λ x. x.cut) same, (ap (λ x. x.dropped) same, (ap (λ x. x.drop_missing) same, (ap (λ x. x.no_checks) same, (ap (λ x. x.no_notifier) same, ap (λ x. x.is_strict) same))))))))))))))
     (Decides-and _ _ (names-Decides a.netlists.items b.netlists.items) (Decides-and _ _ (bytes_eq-Decides a.out.now b.out.now) (Decides-and _ _ (names-Decides a.sdf.items b.sdf.items)
-    (Decides-and _ _ (name-Decides a.top b.top) (bool-Decides a.is_strict b.is_strict)))))
+    (Decides-and _ _ (name-Decides a.top b.top) (Decides-and _ _ (names-Decides a.defines.items b.defines.items) (Decides-and _ _ (names-Decides a.includes.items b.includes.items) (Decides-and _ _ (names-Decides a.supply0.items b.supply0.items) (Decides-and _ _ (names-Decides a.supply1.items b.supply1.items) (Decides-and _ _ (names-Decides a.cut.items b.cut.items) (Decides-and _ _ (names-Decides a.dropped.items b.dropped.items) (Decides-and _ _ (bool-Decides a.drop_missing b.drop_missing) (Decides-and _ _ (names-Decides a.no_checks.items b.no_checks.items) (Decides-and _ _ (names-Decides a.no_notifier.items b.no_notifier.items) (bool-Decides a.is_strict b.is_strict))))))))))))))
 
 pub asked-Decide : (a b : code.Asked) (r : Bool) → r ≡ asked_equal a b → Decides r (asked_seen a ≡ asked_seen b)
 asked-Decide a b r e = Decides-at r _ e (asked-Decides a b)

@@ -1,12 +1,12 @@
 -- The words behind the program's name as arguments.
 use lib.Pointwise.{pointwise}
 use Rattle.std.specs.Prelude.{ℕ, ◌+◌, List, [], ◌∷◌, ◌++◌, take, drop, map, Bool, not, ◌&&◌, ◌==◌, Option, Some, None, option_map, option_and_then, is_none, position, nat_eq, codes, if◌then◌else◌}
-use Rattle.std.specs.List.{starts_with, before_first, after_first}
+use Rattle.std.specs.List.{list_any, starts_with, before_first, after_first}
 
--- an option's name, without its dashes, and its value; the option that has none; or the name of a netlist
+-- an option's name, without its dashes, and its value; an option that has none, with its dashes; or the name of a netlist
 pub data Argument : Type 0 where
   setting : List ℕ → List ℕ → Argument
-  strict : Argument
+  flag : List ℕ → Argument
   netlist : List ℕ → Argument
 
 abbrev pub is_text : List ℕ → List ℕ → Bool
@@ -19,20 +19,23 @@ begins word front = starts_with nat_eq word front
 abbrev pub parts_of : List ℕ → Option (List ℕ × List ℕ)
 parts_of option = option_map (λ at. (take at option, drop (at + 1) option)) (position (λ b. b == 61) option)
 
--- the option that has no value
-abbrev pub is_strict : List ℕ → Bool
-is_strict word = is_text (codes "--strict") word
+-- the options that have no value
+abbrev pub flags : List (List ℕ)
+flags = codes "--drop-missing" ∷ codes "--strict" ∷ []
 
--- an argument in one word: `--strict`, `--name=value`, or the name of a netlist, which doesn't begin with `-`
+abbrev pub is_flag : List ℕ → Bool
+is_flag word = list_any (is_text word) flags
+
+-- an argument in one word: an option without a value, `--name=value`, or the name of a netlist, which doesn't begin with `-`
 abbrev pub argument_of : List ℕ → Option Argument
 argument_of word =
-    if is_strict word then Some strict
+    if is_flag word then Some (flag word)
     else (if begins word (codes "--") then option_map (λ p. setting p.0 p.1) (parts_of (drop 2 word))
     else (if begins word (codes "-") then None else Some (netlist word)))
 
 -- the word `--name`, whose value is the next word
 abbrev pub is_name : List ℕ → Bool
-is_name word = begins word (codes "--") && is_none (parts_of (drop 2 word)) && not (is_strict word)
+is_name word = begins word (codes "--") && is_none (parts_of (drop 2 word)) && not (is_flag word)
 
 -- an argument in two words: `--name` and a value, which doesn't begin with `-`
 abbrev pub argument_in_two : List ℕ → List ℕ → Option Argument

@@ -1,16 +1,27 @@
 -- The words of the command line and what they ask for.
-use Rattle.std.specs.Prelude.{ℕ, List, [], ◌∷◌, ◌++◌, length, map, Bool, true, ◌&&◌, not, Option, Some, None, option_and_then, nat_le, codes, if◌then◌else◌}
+use Rattle.std.specs.Prelude.{ℕ, List, [], ◌∷◌, ◌++◌, length, map, Bool, true, false, ◌&&◌, count_by, not, Option, Some, None, option_and_then, nat_le, codes, if◌then◌else◌}
 use Rattle.std.specs.List.{filter_map, list_any, list_all, slice_get}
-use Rattle.fit_words.specs.Arguments.{Argument, setting, strict, netlist, is_text, arguments_of}
+use Rattle.fit_words.specs.Arguments.{Argument, setting, flag, netlist, is_text, arguments_of}
 use Rattle.fit_words.specs.Paths.{are_distinct, has_last, is_folder_of, last_of, name_in}
 
--- The netlists' files in their order, the folder for what is made of them, the SDF files in theirs, and the top module; and whether
--- nothing is to be written where something would be told.
+-- The netlists' files in their order, the folder for what is made of them, the SDF files in theirs, and the top module; macros that are
+-- defined before the files, and folders of files that they include; ports of the top that are supplies of 0 and of 1; instances of the top
+-- that are cut out, cells whose instances go, and whether those of modules without a text go; instances without checks, and those without
+-- notifiers; and whether nothing is to be written where something would be told.
 pub record Asked : Type 0 where
   pub netlists : List (List ℕ)
   pub out : List ℕ
   pub sdf : List (List ℕ)
   pub top : Option (List ℕ)
+  pub defines : List (List ℕ)
+  pub includes : List (List ℕ)
+  pub supply0 : List (List ℕ)
+  pub supply1 : List (List ℕ)
+  pub cut : List (List ℕ)
+  pub dropped : List (List ℕ)
+  pub drop_missing : Bool
+  pub no_checks : List (List ℕ)
+  pub no_notifier : List (List ℕ)
   pub is_strict : Bool
 
 infixl 10 ◌>>=◌
@@ -20,7 +31,7 @@ known >>= next = option_and_then next known
 -- the value that an argument gives to the option of a name
 abbrev pub value_under : List ℕ → Argument → Option (List ℕ)
 value_under name (setting own value) = if is_text name own then Some value else None
-value_under name strict = None
+value_under name (flag _) = None
 value_under name (netlist _) = None
 
 -- all values of the option of a name, in their order
@@ -33,40 +44,44 @@ value_of name arguments = slice_get (values_of name arguments) 0
 
 abbrev pub netlist_in : Argument → Option (List ℕ)
 netlist_in (setting _ _) = None
-netlist_in strict = None
+netlist_in (flag _) = None
 netlist_in (netlist name) = Some name
 
 -- the names of netlists, in their order
 abbrev pub netlists_of : List Argument → List (List ℕ)
 netlists_of arguments = filter_map netlist_in arguments
 
-abbrev pub strict_in : Argument → Option (List ℕ)
-strict_in (setting _ _) = None
-strict_in strict = Some []
-strict_in (netlist _) = None
+-- whether an argument is the option without a value that this word is
+abbrev pub is_this : List ℕ → Argument → Bool
+is_this word (setting _ _) = false
+is_this word (flag own) = is_text word own
+is_this word (netlist _) = false
 
--- how often `--strict` comes
-abbrev pub count_strict : List Argument → ℕ
-count_strict arguments = length (filter_map strict_in arguments)
+-- how often it comes
+abbrev pub count_flag : List ℕ → List Argument → ℕ
+count_flag word arguments = count_by (is_this word) arguments
 
 -- the options that have a value
 abbrev pub options : List (List ℕ)
-options = codes "out" ∷ codes "sdf" ∷ codes "top" ∷ []
+options =
+    codes "out" ∷ codes "sdf" ∷ codes "top" ∷ codes "define" ∷ codes "include" ∷ codes "supply0" ∷ codes "supply1"
+    ∷ codes "cut" ∷ codes "drop" ∷ codes "no-checks" ∷ codes "no-notifier" ∷ []
 
 -- an option's name is one of these, and no value and no netlist's name is empty
 abbrev pub is_known : Argument → Bool
 is_known (setting name value) = list_any (is_text name) options && nat_le 1 (length value)
-is_known strict = true
+is_known (flag _) = true
 is_known (netlist name) = nat_le 1 (length name)
 
 -- an option comes at most once
 abbrev pub is_single : List Argument → List ℕ → Bool
 is_single arguments name = nat_le (length (values_of name arguments)) 1
 
--- each argument is known, each option but `--sdf` comes at most once, and there is a netlist
+-- each argument is known, `--out`, `--top` and each option without a value come at most once, and there is a netlist
 abbrev pub are_sound : List Argument → Bool
 are_sound arguments =
-    list_all is_known arguments && is_single arguments (codes "out") && is_single arguments (codes "top") && nat_le (count_strict arguments) 1 && nat_le 1 (length (netlists_of arguments))
+    list_all is_known arguments && is_single arguments (codes "out") && is_single arguments (codes "top")
+    && nat_le (count_flag (codes "--drop-missing") arguments) 1 && nat_le (count_flag (codes "--strict") arguments) 1 && nat_le 1 (length (netlists_of arguments))
 
 -- what is asked for by sound arguments, of which the folder is required
 abbrev pub asked_with : List Argument → Option Asked
@@ -77,7 +92,16 @@ asked_with arguments = do
     out = out;
     sdf = values_of (codes "sdf") arguments;
     top = value_of (codes "top") arguments;
-    is_strict = nat_le 1 (count_strict arguments);
+    defines = values_of (codes "define") arguments;
+    includes = values_of (codes "include") arguments;
+    supply0 = values_of (codes "supply0") arguments;
+    supply1 = values_of (codes "supply1") arguments;
+    cut = values_of (codes "cut") arguments;
+    dropped = values_of (codes "drop") arguments;
+    drop_missing = nat_le 1 (count_flag (codes "--drop-missing") arguments);
+    no_checks = values_of (codes "no-checks") arguments;
+    no_notifier = values_of (codes "no-notifier") arguments;
+    is_strict = nat_le 1 (count_flag (codes "--strict") arguments);
   })
 
 -- the files that are read, in their order

@@ -1,9 +1,10 @@
 // The words as arguments.
 ghost use Rattle.std.specs.Prelude.{◌≡◌, ◌≤◌, ◌∷◌, ◌++◌, drop, length, map, position, option_map, IfOk, OnOk, MatchOption, codes, string_bytes, if◌then◌else◌, Some, None};
 ghost use Rattle.std.specs.List.{position_or_len, before_first, after_first};
-ghost use Rattle.fit_words.specs.Arguments.{netlist, begins, parts_of, arguments_before, arguments_of, is_end, is_strict};
+ghost use Rattle.fit_words.specs.Arguments.{netlist, begins, parts_of, arguments_before, arguments_of, is_end, is_flag};
 ghost use Rattle.fit_words.specs.ArgumentsSeen.{argument_seen, ComesFirst};
 
+use crate::rules::{FLAGS, is_one_of};
 use sg_text::NoMemory;
 use std::alloc::Global;
 
@@ -12,8 +13,8 @@ use std::alloc::Global;
 pub enum Argument<'a> {
     /// An option's name, without its dashes, and its value.
     Setting { name: &'a str, value: &'a str },
-    /// The option that has no value.
-    Strict,
+    /// An option that has no value, with its dashes.
+    Flag(&'a str),
     /// The name of a netlist's file.
     Netlist(&'a str),
 }
@@ -24,10 +25,10 @@ fn begins_with_dash(word: &str) -> bool
     word.starts_with("-")
 }
 
-fn is_strict(word: &str) -> bool
-    ensures { result ≡ is_strict word.now }
+fn is_flag(word: &str) -> bool
+    ensures { result ≡ is_flag word.now }
 {
-    word == "--strict"
+    is_one_of(&FLAGS, word)
 }
 
 // What follows the two dashes of an option.
@@ -48,8 +49,8 @@ fn cut_at_equals(option: &str) -> Option<(&str, &str)>
 fn first_argument<'a>(word: &'a str, rest: &'a [String]) -> Option<(Argument<'a>, &'a [String])>
     ensures { MatchOption result (arguments_before (word.now ∷ map string_bytes rest.now) ≡ None) (λ x. ComesFirst (argument_seen x.0) (map string_bytes x.1.now) (word.now ∷ map string_bytes rest.now)) }
 {
-    if is_strict(word) {
-        return Some((Argument::Strict, rest));
+    if is_flag(word) {
+        return Some((Argument::Flag(word), rest));
     }
     let Some(option) = after_dashes(word) else {
         if begins_with_dash(word) {

@@ -8,6 +8,8 @@ use std::alloc::Global;
 
 const NETLISTS: &str = "netlists";
 
+const DROP_MISSING: &str = "drop-missing";
+
 const STRICT: &str = "strict";
 
 // These options and the netlists, and no option of the library's own, as `--help`. The words begin with no name of a program.
@@ -21,10 +23,10 @@ fn parser<'a>(alloc: Global) -> Result<clap::Command<'a>, NoMemory> {
         let option = Arg::new(alloc, name).long(name).action(ArgAction::Append);
         parser = parser.arg(option)?;
     }
-    let strict = Arg::new(alloc, STRICT)
-        .long(STRICT)
-        .action(ArgAction::SetTrue);
-    parser = parser.arg(strict)?;
+    for name in [DROP_MISSING, STRICT] {
+        let flag = Arg::new(alloc, name).long(name).action(ArgAction::SetTrue);
+        parser = parser.arg(flag)?;
+    }
     let netlists = Arg::new(alloc, NETLISTS)
         .num_args(1..)
         .action(ArgAction::Append);
@@ -65,8 +67,11 @@ fn add_options<'a>(
     for name in &OPTIONS {
         add_settings(arguments, matches, *name)?;
     }
+    if matches.get_flag(DROP_MISSING) {
+        arguments.push(Argument::Flag("--drop-missing"))?;
+    }
     if matches.get_flag(STRICT) {
-        arguments.push(Argument::Strict)?;
+        arguments.push(Argument::Flag("--strict"))?;
     }
     Ok(())
 }

@@ -3,21 +3,35 @@ ghost use Rattle.std.specs.Prelude.{◌≡◌, map, IfOk, option_map, is_some, c
 ghost use Rattle.std.specs.List.{list_any, list_all};
 ghost use Rattle.fit_words.specs.Arguments.{is_text};
 ghost use Rattle.fit_words.specs.ArgumentsSeen.{argument_seen};
-ghost use Rattle.fit_words.specs.Words.{value_under, value_of, values_of, netlists_of, count_strict, options, is_known, is_single, are_sound, strict_in};
+ghost use Rattle.fit_words.specs.Words.{value_under, value_of, values_of, netlists_of, count_flag, options, is_known, is_single, are_sound, is_this};
 
 use crate::arguments::Argument;
 use sg_text::NoMemory;
 use std::alloc::Global;
 
-// The options that have a value, in the order of the definition.
-pub const OPTIONS: [&str; 3] = ["out", "sdf", "top"];
+// The options that have a value, and those that have none, in the order of the definitions.
+pub const OPTIONS: [&str; 11] = [
+    "out",
+    "sdf",
+    "top",
+    "define",
+    "include",
+    "supply0",
+    "supply1",
+    "cut",
+    "drop",
+    "no-checks",
+    "no-notifier",
+];
+
+pub const FLAGS: [&str; 2] = ["--drop-missing", "--strict"];
 
 fn value_under<'a>(argument: &Argument<'a>, name: &str) -> Option<&'a str>
     ensures { option_map (λ value. value.now) result ≡ value_under name.now (argument_seen argument.now) }
 {
     match argument {
         Argument::Setting { name: own, value } => { if *own == name { Some(value) } else { None } }
-        Argument::Strict => None,
+        Argument::Flag(_) => None,
         Argument::Netlist(_) => None,
     }
 }
@@ -64,26 +78,23 @@ pub fn netlists_of<'a>(alloc: Global, arguments: &[Argument<'a>]) -> Result<Vec<
     Ok(names)
 }
 
-fn is_strict(argument: &Argument<'_>) -> bool
-    ensures { result ≡ is_some (strict_in (argument_seen argument.now)) }
+fn is_this(argument: &Argument<'_>, word: &str) -> bool
+    ensures { result ≡ is_this word.now (argument_seen argument.now) }
 {
-    matches!(argument, Argument::Strict)
+    match argument {
+        Argument::Flag(own) => *own == word,
+        Argument::Setting { .. } | Argument::Netlist(_) => false,
+    }
 }
 
-fn strict_count(arguments: &[Argument<'_>]) -> usize
-    ensures { result ≡ count_by (λ a. is_some (strict_in (argument_seen a))) arguments.now }
+/// How often an option without a value comes.
+pub fn count_flag(arguments: &[Argument<'_>], word: &str) -> usize
+    ensures { result ≡ count_flag word.now (map argument_seen arguments.now) }
 {
     arguments
         .iter()
-        .filter(|argument| is_strict(argument))
+        .filter(|argument| is_this(argument, word))
         .count()
-}
-
-/// How often `--strict` comes.
-pub fn count_strict(arguments: &[Argument<'_>]) -> usize
-    ensures { result ≡ count_strict (map argument_seen arguments.now) }
-{
-    strict_count(arguments)
 }
 
 fn is_among(names: &[&str], name: &str) -> bool
@@ -92,7 +103,7 @@ fn is_among(names: &[&str], name: &str) -> bool
     names.iter().any(|n| *n == name)
 }
 
-fn is_one_of(names: &[&str], name: &str) -> bool
+pub fn is_one_of(names: &[&str], name: &str) -> bool
     ensures { result ≡ list_any (is_text name.now) (map (λ n. n.now) names.now) }
 {
     is_among(names, name)
@@ -109,7 +120,7 @@ fn is_known(argument: &Argument<'_>) -> bool
 {
     match argument {
         Argument::Setting { name, value } => is_option(name) && 1 <= value.len(),
-        Argument::Strict => true,
+        Argument::Flag(_) => true,
         Argument::Netlist(name) => 1 <= name.len(),
     }
 }
@@ -155,6 +166,7 @@ pub fn are_sound(arguments: &[Argument<'_>], netlists: &[&str]) -> bool
     are_known(arguments)
         && is_single(arguments, "out")
         && is_single(arguments, "top")
-        && count_strict(arguments) <= 1
+        && count_flag(arguments, "--drop-missing") <= 1
+        && count_flag(arguments, "--strict") <= 1
         && 1 <= netlists.len()
 }

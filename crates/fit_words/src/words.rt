@@ -8,7 +8,7 @@ ghost use Rattle.fit_words.specs.WordsSeen.{asked_seen};
 use crate::arguments::{Argument, read_arguments};
 use crate::parser::parse_arguments;
 use crate::paths::are_apart;
-use crate::rules::{are_sound, count_strict, netlists_of, value_of, values_of};
+use crate::rules::{are_sound, count_flag, netlists_of, value_of, values_of};
 use sg_text::NoMemory;
 use std::alloc::Global;
 
@@ -23,6 +23,22 @@ pub struct Asked<'a> {
     pub sdf: Vec<&'a str>,
     /// The name of the top module.
     pub top: Option<&'a str>,
+    /// Macros that are defined before the first file, as `NAME` or `NAME=TEXT`.
+    pub defines: Vec<&'a str>,
+    /// The folders in which included files are looked for, in their order.
+    pub includes: Vec<&'a str>,
+    /// Ports of the top that are supplies of 0, and of 1.
+    pub supply0: Vec<&'a str>,
+    pub supply1: Vec<&'a str>,
+    /// Instances of the top that are cut out, as `INSTANCE` or `INSTANCE:PIN,..`.
+    pub cut: Vec<&'a str>,
+    /// Cells whose instances go.
+    pub dropped: Vec<&'a str>,
+    /// Whether instances of modules without a text go that have supplies alone.
+    pub drop_missing: bool,
+    /// Instances below the top without checks, and those whose checks name no notifier.
+    pub no_checks: Vec<&'a str>,
+    pub no_notifier: Vec<&'a str>,
     /// Whether nothing is to be written where something would be told.
     pub is_strict: bool,
 }
@@ -48,13 +64,21 @@ fn asked_with<'a>(
     let Some(out) = value_of(arguments, "out") else {
         return Ok(None);
     };
-    let sdf = values_of(alloc, arguments, "sdf")?;
     Ok(Some(Asked {
         netlists,
         out,
-        sdf,
+        sdf: values_of(alloc, arguments, "sdf")?,
         top: value_of(arguments, "top"),
-        is_strict: 1 <= count_strict(arguments),
+        defines: values_of(alloc, arguments, "define")?,
+        includes: values_of(alloc, arguments, "include")?,
+        supply0: values_of(alloc, arguments, "supply0")?,
+        supply1: values_of(alloc, arguments, "supply1")?,
+        cut: values_of(alloc, arguments, "cut")?,
+        dropped: values_of(alloc, arguments, "drop")?,
+        drop_missing: 1 <= count_flag(arguments, "--drop-missing"),
+        no_checks: values_of(alloc, arguments, "no-checks")?,
+        no_notifier: values_of(alloc, arguments, "no-notifier")?,
+        is_strict: 1 <= count_flag(arguments, "--strict"),
     }))
 }
 

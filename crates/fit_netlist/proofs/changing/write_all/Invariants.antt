@@ -1,7 +1,7 @@
 -- The texts so far.
 use Rattle.std.proofs.Common.{◌≡◌, take}
 use Rattle.vl_lex.specs.Seen.{texts}
-use Rattle.fit_netlist.specs.Fitted.{written}
+use Rattle.fit_changes.specs.Rounds.{written}
 use Rattle.fit_netlist.proofs.changing.write_all.Given as goal
 
 abbrev pub invariant-loop-changes : goal.invariant-loop-changes

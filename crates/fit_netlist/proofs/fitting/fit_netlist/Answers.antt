@@ -1,23 +1,25 @@
--- The files are taken as they stand.
-use Rattle.std.specs.Prelude.{map}
-use Rattle.std.proofs.Common.{◌∙◌, ap, inl}
+-- The files stay, or rounds change them.
+use Rattle.std.specs.Prelude.{map, option_map}
+use Rattle.std.proofs.Common.{◌∙◌, ap, sym}
+use Rattle.std.proofs.lemmas.Result.{IfOk-weaker}
 use Rattle.vl_lex.specs.Seen.{texts}
-use Rattle.vl_token.specs.Seen.{lexeme}
-use Rattle.fit_netlist.specs.Fitted.{read}
-use Rattle.fit_netlist.proofs.JoiningLaws.{leaves-unchanged, taken-as-read}
-use Rattle.fit_netlist.proofs.WritingLaws.{read-as-read}
+use Rattle.fit_changes.specs.Lines.{line_seen}
+use Rattle.fit_netlist.proofs.RoundLaws.{fitted-of, never, round-first, untouched}
 use Rattle.fit_netlist.proofs.fitting.fit_netlist.Goals as goal
 
-pub returns-then-branch-clause-texts : goal.returns-then-branch-clause-texts
-returns-then-branch-clause-texts c = ap read c.in_ok-unchanged.ensures ∙ read-as-read (texts c.args.files.now)
+pub returns-then-branch-clause-fitted : goal.returns-then-branch-clause-fitted
+returns-then-branch-clause-fitted c =
+    untouched (option_map (λ n. n.now) c.args.wishes.now.top) (texts c.args.files.now) _ _ (c.in_ok-stays.ensures.inside c.if-branch.true) c.in_ok-as_they_stand.ensures.0 c.in_ok-as_they_stand.ensures.1
 
-pub returns-then-branch-clause-accepted : goal.returns-then-branch-clause-accepted
-returns-then-branch-clause-accepted c =
-    taken-as-read (texts c.args.files.now) c.in_ok-unchanged.field-0.items (map lexeme c.in_ok-tokens.tokens.items) (map lexeme c.deref.result.now) c.in_ok-unchanged.ensures
-    (ap (map lexeme) c.deref.ensures.value) c.in_ok-tokens.ensures.read (c.in_ok-is_taken.ensures.taken c.if-branch.true)
+pub returns-clause-fitted : goal.returns-clause-fitted
+returns-clause-fitted c =
+    IfOk-weaker c.fit_expanded.result _ _
+    (λ f m. fitted-of (option_map (λ n. n.now) c.args.wishes.now.top) (texts c.args.files.now) (texts c.deref.result.now) _ f
+    (round-first _ _ _ _ _ c.in_ok-expanded.ensures.made (ap texts (sym c.deref.ensures.value)) (ap (map line_seen) c.new-lines.ensures.items)) m)
+    c.fit_expanded.ensures.made
 
-pub returns-then-branch-clause-unchanged : goal.returns-then-branch-clause-unchanged
-returns-then-branch-clause-unchanged c = λ _. leaves-unchanged (texts c.args.files.now) c.in_ok-unchanged.field-0.items c.in_ok-unchanged.ensures
+pub returns-clause-unchanged : goal.returns-clause-unchanged
+returns-clause-unchanged c = λ a i. never _ (sym c.if-branch.false ∙ c.in_ok-stays.ensures.only a i)
 
-pub returns-then-branch-clause-kept : goal.returns-then-branch-clause-kept
-returns-then-branch-clause-kept c = inl (leaves-unchanged (texts c.args.files.now) c.in_ok-unchanged.field-0.items c.in_ok-unchanged.ensures)
+pub returns-in_err-expanded-clause-unchanged : goal.returns-in_err-expanded-clause-unchanged
+returns-in_err-expanded-clause-unchanged c = λ a i. never _ (sym c.if-branch.false ∙ c.in_ok-stays.ensures.only a i)

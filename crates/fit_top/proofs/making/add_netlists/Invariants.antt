@@ -10,6 +10,6 @@ abbrev pub invariant-loop-name : goal.invariant-loop-name
 invariant-loop-name l = record {
   steps : (goal.iterator-loop-name).can_next l.name-iterator;
   ends : (goal.iterator-loop-name).is_finite l.name-iterator;
-  left : map made_seen l.initial.made.items ++ map (made_of_netlist l.folder) (map named (zip l.names l.list))
-      ≡ map made_seen l.made.items ++ map (made_of_netlist l.folder) (map named (drop (length l.yielded) (zip l.names l.list)));
+  left : map made_seen l.initial.made.items ++ map (made_of_netlist l.folder) (map named (zip l.names l.texts))
+      ≡ map made_seen l.made.items ++ map (made_of_netlist l.folder) (map named (drop (length l.yielded) (zip l.names l.texts)));
 }

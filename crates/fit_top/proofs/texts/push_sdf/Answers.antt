@@ -1,5 +1,5 @@
 use Rattle.std.proofs.Common.{◌∙◌, ap}
-use Rattle.fit_changes.specs.Report.{line_of}
+use Rattle.fit_changes.specs.Lines.{line_of}
 use Rattle.fit_top.proofs.ToldLaws.{fault_told, tells_read}
 use Rattle.fit_top.proofs.texts.push_sdf.Goals as goal
 

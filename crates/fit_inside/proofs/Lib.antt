@@ -1,0 +1,4 @@
+-- The modules of this folder.
+pub mod NameLaws
+pub mod FlatLaws
+pub mod InsideLaws

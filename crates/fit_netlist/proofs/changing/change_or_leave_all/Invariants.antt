@@ -1,7 +1,0 @@
--- The texts stay.
-use Rattle.std.proofs.Common.{◌≡◌}
-use Rattle.fit_netlist.specs.Fitted.{read}
-use Rattle.fit_netlist.proofs.changing.change_or_leave_all.Given as goal
-
-abbrev pub invariant-loop-why : goal.invariant-loop-why
-invariant-loop-why l = read l.list ≡ read l.initial.list

@@ -1,0 +1,18 @@
+-- Changes whose rule would say what the new text is to be: no rule makes one yet.
+use Rattle.std.specs.Prelude.{ℕ, List, All}
+use Rattle.fit_changes.specs.Changes.{Change, ChangedText, replaced}
+use Rattle.fit_changes.specs.declared.rules.Rule.{Rule}
+use Rattle.fit_changes.specs.declared.rules.Rule.TheVariants as rule
+
+abbrev pub IsExactBy : Rule → (old new : List ℕ) → Type 0
+IsExactBy rule.Expression old new = ⊥
+IsExactBy rule.Select old new = ⊥
+IsExactBy rule.StampCondition old new = ⊥
+IsExactBy rule.SplitCheck old new = ⊥
+IsExactBy _ old new = Unit {0}
+
+abbrev pub IsExact : List ℕ → Change → Type 0
+IsExact text c = IsExactBy c.rule (replaced text c) c.text
+
+abbrev pub AreExact : List ChangedText → Type 0
+AreExact files = All (λ f. All (IsExact f.text) f.changes) files

@@ -1,0 +1,485 @@
+// What a module holds, in the place of an instance of it.
+use fit_items::{Direction, Instance, Run, name_at, tokens_of};
+use fit_library::{BlockStatement, Flat, Port, Scope, Source, Taken, Word, WordKind, push_fixed};
+use indexmap::IndexMap;
+use itoa::Buffer;
+use sg_text::NoMemory;
+use std::alloc::Global;
+use vl_token::{Mark, TokenKind};
+
+/// The words and the statements of a specify block that stand for an instance.
+#[derive(Drop)]
+pub struct Inlined {
+    pub words: Vec<Word>,
+    pub parts: Vec<BlockStatement>,
+    pub starts: Vec<Vec<u8>>,
+    pub ends: Vec<Vec<u8>>,
+}
+
+/// The module that takes in what another holds.
+#[derive(Clone, Copy)]
+pub struct Host<'s, 't, 'a> {
+    pub source: Source<'s, 't, 'a>,
+    pub scope: &'s Scope<'a>,
+    pub mark: Mark,
+}
+
+// What stands for a name: another name, or a constant.
+#[derive(Drop)]
+struct Stand {
+    text: Vec<u8>,
+    kind: WordKind,
+}
+
+// What stands for the names of the module that is put in place, and the statements that connect it.
+#[derive(Drop)]
+struct Binding {
+    stands: IndexMap<Vec<u8>, Stand>,
+    words: Vec<Word>,
+}
+
+// The tokens to which a port is connected: none where it is open; None where they aren't told by its place or name.
+fn value_of(
+    host: Host<'_, '_, '_>,
+    instance: &Instance,
+    place: usize,
+    port: &Port<'_>,
+) -> Option<Run> {
+    let is_named = instance.connections.iter().any(|one| one.port.is_some());
+    if !is_named {
+        return instance.connections.get(place).map(|one| one.value);
+    }
+    let found = instance.connections.iter().find(|one| match one.port {
+        Some(at) => name_at(host.source.part, at) == Some(port.name),
+        None => false,
+    });
+    found.map(|one| one.value)
+}
+
+// Whether each connection is one of a port.
+fn are_connections(host: Host<'_, '_, '_>, instance: &Instance, flat: &Flat<'_>) -> bool {
+    if instance.connections.len() > flat.ports.len() {
+        return false;
+    }
+    instance.connections.iter().all(|one| match one.port {
+        Some(at) => {
+            let name = name_at(host.source.part, at);
+            flat.ports.iter().any(|port| Some(port.name) == name)
+        }
+        None => true,
+    })
+}
+
+// The net that is the whole of a value, and as wide as a port.
+fn whole_net<'a>(host: Host<'_, '_, 'a>, value: Run, port: &Port<'_>) -> Option<&'a [u8]> {
+    let [token] = tokens_of(host.source.part, value) else {
+        return None;
+    };
+    let TokenKind::Name(name) = token.kind else {
+        return None;
+    };
+    let range = if host.scope.nets.declares(name) {
+        host.scope.nets.get(name)?
+    } else {
+        None
+    };
+    if range == port.range {
+        Some(name)
+    } else {
+        None
+    }
+}
+
+// Whether a value is a constant of one bit, for a port of one.
+fn is_bit(host: Host<'_, '_, '_>, value: Run, port: &Port<'_>) -> bool {
+    match tokens_of(host.source.part, value) {
+        [token] => match token.kind {
+            TokenKind::Sized(constant) => constant.width == 1 && port.range.is_none(),
+            _ => false,
+        },
+        _ => false,
+    }
+}
+
+fn names_it(words: &[Word], name: &[u8]) -> bool {
+    words.iter().any(|word| word.as_name() == Some(name))
+}
+
+// Whether a specify block speaks of a name.
+fn is_specified(parts: &[BlockStatement], name: &[u8]) -> bool {
+    parts.iter().any(|part| match part {
+        BlockStatement::Path(words) | BlockStatement::Other(words) => names_it(words, name),
+        BlockStatement::Check { arguments, .. } => arguments
+            .iter()
+            .any(|words| names_it(words, name)),
+    })
+}
+
+// Whether limits of pulses are among them, whose names are those of ports (IEEE 1364-2005, 14.6.1).
+fn has_pulses(parts: &[BlockStatement]) -> bool {
+    parts.iter().any(|part| match part {
+        BlockStatement::Other(words) => words
+            .iter()
+            .any(|word| word.text.starts_with(b"PATHPULSE$")),
+        BlockStatement::Path(_) | BlockStatement::Check { .. } => false,
+    })
+}
+
+// The name of a net in the place of an instance: its own where that is free, else with the instance's before it.
+fn name_for(
+    alloc: Global,
+    taken: &mut Taken,
+    instance: &[u8],
+    name: &[u8],
+) -> Result<Option<Vec<u8>>, NoMemory> {
+    if taken.take(alloc, name)? {
+        return Ok(Some(Vec::from_slice(alloc, name)?));
+    }
+    let mut longer = Vec::from_slice(alloc, instance)?;
+    longer.push(b'$')?;
+    longer.extend_from_slice(name)?;
+    if taken.take(alloc, &longer)? {
+        Ok(Some(longer))
+    } else {
+        Ok(None)
+    }
+}
+
+fn push_number(words: &mut Vec<Word>, alloc: Global, number: i64) -> Result<(), NoMemory> {
+    let mut buffer = Buffer::new();
+    words.push(Word::fixed(alloc, buffer.format(number).as_bytes(), false)?)?;
+    Ok(())
+}
+
+fn push_range(
+    alloc: Global,
+    words: &mut Vec<Word>,
+    range: Option<(i64, i64)>,
+) -> Result<(), NoMemory> {
+    let Some((left, right)) = range else {
+        return Ok(());
+    };
+    push_fixed(alloc, words, "[", true)?;
+    push_number(words, alloc, left)?;
+    push_fixed(alloc, words, ":", false)?;
+    push_number(words, alloc, right)?;
+    push_fixed(alloc, words, "]", false)
+}
+
+// `wire [range] name;`
+fn push_wire(
+    alloc: Global,
+    words: &mut Vec<Word>,
+    name: &[u8],
+    range: Option<(i64, i64)>,
+) -> Result<(), NoMemory> {
+    push_fixed(alloc, words, "wire", true)?;
+    push_range(alloc, words, range)?;
+    words.push(Word::name(alloc, name, true)?)?;
+    push_fixed(alloc, words, ";", false)
+}
+
+// The assignment between a port's new net and what the port is connected to.
+fn push_assign(
+    alloc: Global,
+    host: Host<'_, '_, '_>,
+    words: &mut Vec<Word>,
+    port: &Port<'_>,
+    name: &[u8],
+    value: Run,
+) -> Result<(), NoMemory> {
+    push_fixed(alloc, words, "assign", true)?;
+    if port.direction == Direction::Output {
+        host.source.push_run(alloc, words, value)?;
+        push_fixed(alloc, words, "=", true)?;
+        words.push(Word::name(alloc, name, true)?)?;
+    } else {
+        words.push(Word::name(alloc, name, true)?)?;
+        push_fixed(alloc, words, "=", true)?;
+        host.source.push_run(alloc, words, value)?;
+    }
+    push_fixed(alloc, words, ";", false)
+}
+
+impl Binding {
+    fn stand(
+        &mut self,
+        alloc: Global,
+        name: &[u8],
+        text: Vec<u8>,
+        kind: WordKind,
+    ) -> Result<(), NoMemory> {
+        let key = Vec::from_slice(alloc, name)?;
+        self.stands.insert(key, Stand { text, kind })?;
+        Ok(())
+    }
+
+    // A new net for a port, connected if the port is. Answers whether that can be.
+    fn bind_new(
+        &mut self,
+        alloc: Global,
+        host: Host<'_, '_, '_>,
+        port: &Port<'_>,
+        name: Vec<u8>,
+        value: Option<Run>,
+    ) -> Result<bool, NoMemory> {
+        push_wire(alloc, &mut self.words, &name, port.range)?;
+        if let Some(value) = value {
+            if port.direction == Direction::Inout {
+                return Ok(false);
+            }
+            push_assign(alloc, host, &mut self.words, port, &name, value)?;
+        }
+        self.stand(alloc, port.name, name, WordKind::Name)?;
+        Ok(true)
+    }
+
+    // What stands for a name: of a net of its own, where nothing does yet.
+    fn stand_for(
+        &mut self,
+        alloc: Global,
+        taken: &mut Taken,
+        instance: &[u8],
+        word: &Word,
+    ) -> Result<Option<Word>, NoMemory> {
+        let Some(name) = word.as_name() else {
+            return Ok(Some(word.copy(alloc)?));
+        };
+        if !self.stands.contains_key(name) {
+            let Some(own) = name_for(alloc, taken, instance, name)? else {
+                return Ok(None);
+            };
+            self.stand(alloc, name, own, WordKind::Name)?;
+        }
+        match self.stands.get(name) {
+            Some(stand) => Ok(Some(Word {
+                text: Vec::from_slice(alloc, &stand.text)?,
+                kind: stand.kind,
+                apart: word.apart,
+            })),
+            None => Ok(None),
+        }
+    }
+}
+
+/// One instance that is put in place.
+#[derive(Drop)]
+struct Placing<'p, 's, 't, 'a> {
+    alloc: Global,
+    host: Host<'s, 't, 'a>,
+    flat: &'p Flat<'a>,
+    instance: &'p Instance,
+    name: &'a [u8],
+}
+
+impl Placing<'_, '_, '_, '_> {
+    // Binds a port. Answers whether that can be.
+    fn bind(
+        &self,
+        taken: &mut Taken,
+        binding: &mut Binding,
+        place: usize,
+        port: &Port<'_>,
+    ) -> Result<bool, NoMemory> {
+        let value = value_of(self.host, self.instance, place, port).filter(|run| !run.is_empty());
+        if let Some(run) = value {
+            if let Some(net) = whole_net(self.host, run, port) {
+                let text = Vec::from_slice(self.alloc, net)?;
+                binding.stand(self.alloc, port.name, text, WordKind::Name)?;
+                return Ok(true);
+            }
+            if is_bit(self.host, run, port) && !is_specified(&self.flat.parts, port.name) {
+                return self.bind_constant(binding, port, run);
+            }
+        }
+        match name_for(self.alloc, taken, self.name, port.name)? {
+            Some(name) => binding.bind_new(self.alloc, self.host, port, name, value),
+            None => Ok(false),
+        }
+    }
+
+    fn bind_constant(
+        &self,
+        binding: &mut Binding,
+        port: &Port<'_>,
+        value: Run,
+    ) -> Result<bool, NoMemory> {
+        let mut words = self.host.source.words_of(self.alloc, value)?;
+        match words.pop() {
+            Some(Word { text, kind, .. }) => {
+                binding.stand(self.alloc, port.name, text, kind)?;
+                Ok(true)
+            }
+            None => Ok(false),
+        }
+    }
+
+    // Binds all ports.
+    fn bind_all(&self, taken: &mut Taken) -> Result<Option<Binding>, NoMemory> {
+        let mut binding = Binding {
+            stands: IndexMap::new(self.alloc),
+            words: Vec::new(self.alloc),
+        };
+        for (place, port) in self.flat.ports.iter().enumerate() {
+            if !self.bind(taken, &mut binding, place, port)? {
+                return Ok(None);
+            }
+        }
+        Ok(Some(binding))
+    }
+
+    // Whether each port stands for a net of its own name.
+    fn keeps_names(&self, binding: &Binding) -> bool {
+        self.flat.ports.iter().all(|port| {
+            binding
+                .stands
+                .get(port.name)
+                .is_some_and(|stand| stand.text.as_slice() == port.name)
+        })
+    }
+
+    fn renamed(
+        &self,
+        taken: &mut Taken,
+        binding: &mut Binding,
+        words: &[Word],
+    ) -> Result<Option<Vec<Word>>, NoMemory> {
+        let mut made = Vec::new(self.alloc);
+        for word in words {
+            let Some(word) = binding.stand_for(self.alloc, taken, self.name, word)? else {
+                return Ok(None);
+            };
+            made.push(word)?;
+        }
+        Ok(Some(made))
+    }
+
+    fn renamed_part(
+        &self,
+        taken: &mut Taken,
+        binding: &mut Binding,
+        part: &BlockStatement,
+    ) -> Result<Option<BlockStatement>, NoMemory> {
+        match part {
+            BlockStatement::Path(words) => {
+                let words = self.renamed(taken, binding, words)?;
+                Ok(words.map(|words| BlockStatement::Path(words)))
+            }
+            BlockStatement::Other(words) => {
+                let words = self.renamed(taken, binding, words)?;
+                Ok(words.map(|words| BlockStatement::Other(words)))
+            }
+            BlockStatement::Check { word, arguments } => {
+                let mut list = Vec::new(self.alloc);
+                for argument in arguments {
+                    let Some(words) = self.renamed(taken, binding, argument)? else {
+                        return Ok(None);
+                    };
+                    list.push(words)?;
+                }
+                Ok(Some(BlockStatement::Check {
+                    word: word.copy(self.alloc)?,
+                    arguments: list,
+                }))
+            }
+        }
+    }
+
+    fn renamed_parts(
+        &self,
+        taken: &mut Taken,
+        binding: &mut Binding,
+    ) -> Result<Option<Vec<BlockStatement>>, NoMemory> {
+        let mut parts = Vec::new(self.alloc);
+        for part in &self.flat.parts {
+            let Some(part) = self.renamed_part(taken, binding, part)? else {
+                return Ok(None);
+            };
+            parts.push(part)?;
+        }
+        Ok(Some(parts))
+    }
+
+    // The ports of the host at the ends of paths, if all are that: inputs where the paths start, outputs where they end.
+    fn terminals(
+        &self,
+        binding: &Binding,
+        names: &[Vec<u8>],
+        direction: Direction,
+    ) -> Result<Option<Vec<Vec<u8>>>, NoMemory> {
+        let mut list = Vec::new(self.alloc);
+        for name in names {
+            let Some(stand) = binding.stands.get(name.as_slice()) else {
+                return Ok(None);
+            };
+            match self.host.scope.direction_of(&stand.text) {
+                Some(own) if own == direction || own == Direction::Inout => {
+                    list.push(Vec::from_slice(self.alloc, &stand.text)?)?
+                }
+                _ => return Ok(None),
+            }
+        }
+        Ok(Some(list))
+    }
+
+    fn place(&self, taken: &mut Taken) -> Result<Option<Inlined>, NoMemory> {
+        let Some(mut binding) = self.bind_all(taken)? else {
+            return Ok(None);
+        };
+        if has_pulses(&self.flat.parts) && !self.keeps_names(&binding) {
+            return Ok(None);
+        }
+        let Some(starts) = self.terminals(&binding, &self.flat.starts, Direction::Input)? else {
+            return Ok(None);
+        };
+        let Some(ends) = self.terminals(&binding, &self.flat.ends, Direction::Output)? else {
+            return Ok(None);
+        };
+        let Some(parts) = self.renamed_parts(taken, &mut binding)? else {
+            return Ok(None);
+        };
+        let Some(held) = self.renamed(taken, &mut binding, &self.flat.words)? else {
+            return Ok(None);
+        };
+        let Binding { words, .. } = binding;
+        let mut words = words;
+        for word in held {
+            words.push(word)?;
+        }
+        Ok(Some(Inlined {
+            words,
+            parts,
+            starts,
+            ends,
+        }))
+    }
+}
+
+/// What a module holds in the place of an instance without values for its parameters, if it can stand there: each name that is
+/// connected to a whole net or a bit is that, the others are nets of their own. Takes memory.
+pub fn inline(
+    alloc: Global,
+    host: Host<'_, '_, '_>,
+    taken: &mut Taken,
+    flat: &Flat<'_>,
+    instance: &Instance,
+) -> Result<Option<Inlined>, NoMemory> {
+    let Some(name) = instance.name.and_then(|at| name_at(host.source.part, at)) else {
+        return Ok(None);
+    };
+    let is_same = flat.mark.scale == host.mark.scale
+        && (host.mark.implicit || !flat.mark.implicit)
+        && instance.range.is_empty()
+        && are_connections(host, instance, flat);
+    if !is_same {
+        return Ok(None);
+    }
+    let placing = Placing {
+        alloc,
+        host,
+        flat,
+        instance,
+        name,
+    };
+    placing.place(taken)
+}
