@@ -1,0 +1,12 @@
+-- What is left says what all does.
+use Rattle.std.specs.Prelude.{◌≡◌, length}
+use Rattle.std.specs.List.{list_any}
+use Rattle.fit_checks.specs.Written.{is_equality}
+use Rattle.fit_checks.specs.WrittenSeen.{tokens_seen}
+use Rattle.fit_checks.proofs.making.has_equality.Given as goal
+
+abbrev pub invariant-loop-left : goal.invariant-loop-left
+invariant-loop-left l = list_any is_equality (tokens_seen l.left) ≡ list_any is_equality (tokens_seen l.run)
+
+abbrev pub decreases-loop-left : goal.decreases-loop-left
+decreases-loop-left l = length l.left
