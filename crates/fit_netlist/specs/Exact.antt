@@ -1,14 +1,14 @@
--- Changes whose rule would say what the new text is to be: no rule makes one yet.
+-- Changes of which is said what the new text is to be.
 use Rattle.std.specs.Prelude.{ℕ, List, All}
 use Rattle.fit_changes.specs.Changes.{Change, ChangedText, replaced}
+use Rattle.fit_checks.specs.Forms as forms
 use Rattle.fit_changes.specs.declared.rules.Rule.{Rule}
 use Rattle.fit_changes.specs.declared.rules.Rule.TheVariants as rule
 
+-- A check with conditions of its time stamp and its time check gives way to checks that have the same violations.
 abbrev pub IsExactBy : Rule → (old new : List ℕ) → Type 0
-IsExactBy rule.Expression old new = ⊥
-IsExactBy rule.Select old new = ⊥
-IsExactBy rule.StampCondition old new = ⊥
-IsExactBy rule.SplitCheck old new = ⊥
+IsExactBy rule.StampCondition old new = forms.IsExact old new
+IsExactBy rule.SplitCheck old new = forms.IsExact old new
 IsExactBy _ old new = Unit {0}
 
 abbrev pub IsExact : List ℕ → Change → Type 0

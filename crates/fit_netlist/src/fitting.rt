@@ -29,8 +29,9 @@ pub struct Fitted {
     pub lines: Vec<Line>,
 }
 
-// How often parts are left out: each time others may have lost what they need.
-const TURNS: usize = 4;
+// How many rounds of the rules there are: each time a part is left out others may have lost what they need, and what one
+// round makes may be what the next one changes.
+const TURNS: usize = 8;
 
 fn wishes_nothing(wishes: &Wishes<'_>) -> bool
     ensures { result ≡ wishes_nothing wishes.now }
@@ -76,7 +77,7 @@ fn as_they_stand(alloc: Global, files: &[Vec<u8>]) -> Result<Fitted, NoMemory>
     Ok(Fitted { texts, lines })
 }
 
-// The rounds of the rules, till no part has to be left out.
+// The rounds of the rules, till they ask for no more and no part has to be left out.
 fn rule_rounds(
     alloc: Global,
     shaped: Vec<Vec<u8>>,

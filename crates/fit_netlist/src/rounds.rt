@@ -17,8 +17,9 @@ use crate::looking::left_out;
 use crate::reading::read_tokens;
 use crate::refusing::{refuse_inexact, refuse_some};
 use fit_changes::{Change, Changes, Line, Rule, add_lines};
+use fit_checks::is_exact;
 use fit_items::Wishes;
-use fit_parts::part_end;
+use fit_parts::{headings, part_end};
 use fit_rules::{change_all, leave_out};
 use fit_shape::shape;
 use fit_text::{Expansion, Given, expand};
@@ -27,11 +28,11 @@ use std::alloc::Global;
 use vl_token::Token;
 
 // Whether a change is what its rule's definition says that it is to be.
-fn is_exact_by(_alloc: Global, rule: Rule, old: &[u8], new: &[u8]) -> Result<bool, NoMemory>
+fn is_exact_by(alloc: Global, rule: Rule, old: &[u8], new: &[u8]) -> Result<bool, NoMemory>
     ensures { IfOk result (λ exact. exact ≡ true → IsExactBy rule old.now new.now) }
 {
     match rule {
-        Rule::Expression | Rule::Select | Rule::StampCondition | Rule::SplitCheck => Ok(false),
+        Rule::StampCondition | Rule::SplitCheck => is_exact(alloc, old, new),
         _ => Ok(true),
     }
 }
@@ -110,6 +111,17 @@ pub fn shape_round(
     finish(alloc, &list, lines)
 }
 
+// The reasons for the parts that a netlist has itself, without those that were put in front of it.
+fn own<'w>(
+    alloc: Global,
+    tokens: &[Token<'_>],
+    whys: &'w [Option<Vec<u8>>],
+) -> Result<&'w [Option<Vec<u8>>], NoMemory> {
+    let count = headings(alloc, tokens)?.len();
+    let front = whys.len().saturating_sub(count);
+    Ok(&whys[front..])
+}
+
 fn leave_all(
     alloc: Global,
     tokens: &[Token<'_>],
@@ -119,7 +131,7 @@ fn leave_all(
     ensures { read list.new ≡ read list.old }
 {
     let mut at = 0;
-    for why in whys {
+    for why in own(alloc, tokens, whys)? {
         if at >= tokens.len() {
             break;
         }
@@ -148,18 +160,19 @@ fn leave_round(
     finish(alloc, &list, lines)
 }
 
+// The changes of the rules, and whether these are all.
 fn ruled<'a>(
     alloc: Global,
     files: &'a [Vec<u8>],
     wishes: &Wishes<'_>,
-) -> Result<Vec<Changes<'a>>, FitError>
-    ensures read { IfOk result (λ list. read list.items ≡ texts files.now) }
+) -> Result<(Vec<Changes<'a>>, bool), FitError>
+    ensures read { IfOk result (λ r. read r.0.items ≡ texts files.now) }
     ensures refused { IfErr result Tells }
 {
     let tokens = read_tokens(alloc, files)?;
     let mut list = unchanged(alloc, files)?;
-    change_all(alloc, &tokens, &mut list, wishes)?;
-    Ok(list)
+    let are_all = change_all(alloc, &tokens, &mut list, wishes)?;
+    Ok((list, are_all))
 }
 
 fn is_any_left(whys: &[Option<Vec<u8>>]) -> bool {
@@ -167,7 +180,7 @@ fn is_any_left(whys: &[Option<Vec<u8>>]) -> bool {
 }
 
 /// The round of the rules, statement by statement; or, where parts aren't taken with it that the top doesn't reach, the one
-/// that leaves these out. Answers whether it is the first.
+/// that leaves these out. Answers whether it is the last.
 pub fn rule_round(
     alloc: Global,
     files: &[Vec<u8>],
@@ -177,7 +190,10 @@ pub fn rule_round(
     ensures made { IfOk result (λ r. IsRound (texts files.now) (texts r.1.items) (map line_seen lines.old.items) (map line_seen lines.new.items)) }
     ensures refused { IfErr result Tells }
 {
-    let list = ruled(alloc, files, wishes)?;
+    let (list, are_all) = ruled(alloc, files, wishes)?;
+    if !are_all {
+        return Ok((false, finish(alloc, &list, lines)?));
+    }
     let whys = left_out(alloc, &list, wishes.top)?;
     if is_any_left(&whys) {
         drop(list);

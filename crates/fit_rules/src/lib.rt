@@ -4,6 +4,7 @@
 mod covering;
 mod editing;
 mod ends;
+mod exact;
 mod ifnone;
 mod leaving;
 mod merging;

@@ -1,8 +1,5 @@
 // Changes in the order of files and bytes; of two that overlap, the one that was asked for first.
-ghost use Rattle.std.specs.Prelude.{◌≡◌, map};
-
-use fit_changes::Changes;
-use fit_items::{Edit, add_edits};
+use fit_items::Edit;
 use sg_text::NoMemory;
 use std::alloc::Global;
 
@@ -64,9 +61,7 @@ fn without_overlaps(alloc: Global, sorted: Vec<Ranked>) -> Result<Vec<Edit>, NoM
     Ok(list)
 }
 
-/// Adds changes to those of their files. Takes memory.
-pub fn add_all(alloc: Global, edits: Vec<Edit>, files: &mut [Changes<'_>]) -> Result<(), NoMemory>
-    ensures { map (λ f. f.text) files.new ≡ map (λ f. f.text) files.old }
-{
-    add_edits(files, without_overlaps(alloc, sorted(alloc, edits)?)?)
+/// Changes in the order of files and bytes, but for those that overlap one that was asked for before. Takes memory.
+pub fn in_order(alloc: Global, edits: Vec<Edit>) -> Result<Vec<Edit>, NoMemory> {
+    without_overlaps(alloc, sorted(alloc, edits)?)
 }

@@ -2,11 +2,16 @@
 ghost use Rattle.std.specs.Prelude.{◌≡◌, map};
 
 use crate::leaving::{left_of, whole_span};
-use crate::merging::add_all;
+use crate::exact::exact_of;
+use crate::merging::in_order;
 use crate::statements::module_edits;
 use fit_cells::{Cells, cells_of};
 use fit_changes::{Changes, Rule};
-use fit_items::{Edit, Wishes, edit_of, nets_of, part_name, read_module, text_of};
+use fit_conditions::condition_edits;
+use fit_expressions::{expression_edits, primitives_for};
+use fit_items::{
+    Edit, Span, Wishes, add_edits, edit_of, nets_of, part_name, read_module, text_of,
+};
 use fit_nets::Supplies;
 use fit_parts::part_end;
 use fit_values::View;
@@ -54,7 +59,10 @@ fn part_edits<'a>(
         files,
     };
     let nets = nets_of(alloc, part, &module)?;
-    module_edits(&view, cells, &nets, supplies, edits)
+    module_edits(&view, cells, &nets, supplies, edits)?;
+    edits.append(&mut condition_edits(alloc, part, &module, files)?)?;
+    edits.append(&mut expression_edits(alloc, part, &module, &nets, files)?)?;
+    Ok(())
 }
 
 fn edits_of(
@@ -81,18 +89,48 @@ fn edits_of(
     Ok(edits)
 }
 
+// The edit that puts the primitives of others before all files, if these use some.
+fn primitive_edit(alloc: Global, edits: &[Edit]) -> Result<Option<Edit>, NoMemory> {
+    let text = primitives_for(alloc, edits)?;
+    if text.is_empty() {
+        return Ok(None);
+    }
+    let front = Span {
+        file: 0,
+        byte: 0,
+        end: 0,
+    };
+    let what = Vec::from_slice(alloc, b"primitives of the gates")?;
+    Ok(Some(edit_of(alloc, front, &text, Rule::Expression, b"", what)?))
+}
+
+// Whether what is changed can't show what another turn would ask for: no edit was in the way of another, and no constant
+// was worked out, on which the width of a net may depend.
+fn are_all(asked: usize, edits: &[Edit]) -> bool {
+    edits.len() == asked && !edits.iter().any(|edit| matches!(edit.change.rule, Rule::Arithmetic))
+}
+
 /// Adds the changes that the rules ask for in a netlist, with these tokens, to those of its files, which have none yet.
-/// Takes time and memory in proportion to the tokens.
+/// Answers whether these are all; otherwise the rules may ask for more in what is made. Takes time and memory in
+/// proportion to the tokens.
 pub fn change_all(
     alloc: Global,
     tokens: &[Token<'_>],
     files: &mut [Changes<'_>],
     wishes: &Wishes<'_>,
-) -> Result<(), NoMemory>
+) -> Result<bool, NoMemory>
     ensures { map (λ f. f.text) files.new ≡ map (λ f. f.text) files.old }
 {
-    let edits = edits_of(alloc, tokens, wishes, files)?;
-    add_all(alloc, edits, files)
+    let asked = edits_of(alloc, tokens, wishes, files)?;
+    let count = asked.len();
+    let edits = in_order(alloc, asked)?;
+    let are_all = are_all(count, &edits);
+    let mut made = exact_of(alloc, edits, files)?;
+    if let Some(edit) = primitive_edit(alloc, &made)? {
+        made.insert(0, edit)?;
+    }
+    add_edits(files, made)?;
+    Ok(are_all)
 }
 
 // The change that leaves out a part, if it stands in one file.
