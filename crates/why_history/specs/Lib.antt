@@ -1,3 +1,0 @@
--- The modules of this folder.
-pub mod Events
-pub mod Ends
