@@ -90,8 +90,12 @@ fn edits_of(
 }
 
 // The edit that puts the primitives of others before all files, if these use some.
-fn primitive_edit(alloc: Global, edits: &[Edit]) -> Result<Option<Edit>, NoMemory> {
-    let text = primitives_for(alloc, edits)?;
+fn primitive_edit(
+    alloc: Global,
+    tokens: &[Token<'_>],
+    edits: &[Edit],
+) -> Result<Option<Edit>, NoMemory> {
+    let text = primitives_for(alloc, tokens, edits)?;
     if text.is_empty() {
         return Ok(None);
     }
@@ -126,7 +130,7 @@ pub fn change_all(
     let edits = in_order(alloc, asked)?;
     let are_all = are_all(count, &edits);
     let mut made = exact_of(alloc, edits, files)?;
-    if let Some(edit) = primitive_edit(alloc, &made)? {
+    if let Some(edit) = primitive_edit(alloc, tokens, &made)? {
         made.insert(0, edit)?;
     }
     add_edits(files, made)?;

@@ -46,6 +46,16 @@ fn show_text(out: &mut String, bytes: &[u8]) -> anyhow::Result<()> {
     Ok(())
 }
 
+// Runs the program. What its clauses say isn't looked at here.
+fn status_of(
+    alloc: Global,
+    words: &[String],
+    shelf: &mut MemoryShelf,
+    report: &mut MemorySink,
+) -> Status {
+    top(alloc, words, shelf, report)
+}
+
 impl Case {
     /// Without title, files and words.
     pub fn new(alloc: Global) -> Case {
@@ -133,7 +143,7 @@ impl Case {
             shelf.hold(&file.name, &bytes[..taken])?;
         }
         let mut report = MemorySink::new(alloc);
-        let status = top(alloc, &self.words, &mut shelf, &mut report);
+        let status = status_of(alloc, &self.words, &mut shelf, &mut report);
         let is_told = matches!(report.bytes(), [.., b'\n']);
         Ok(is_told && !matches!(status, Status::Fault | Status::NoMemory))
     }
@@ -167,7 +177,7 @@ impl Case {
         }
         let mut shelf = self.shelf(alloc)?;
         let mut report = self.report(alloc)?;
-        let status = top(alloc, &self.words, &mut shelf, &mut report).code();
+        let status = status_of(alloc, &self.words, &mut shelf, &mut report).code();
         writeln!(out, "status {status}")?;
         show_text(out, report.bytes())?;
         if let Some(name) = &self.made {
