@@ -52,9 +52,11 @@ fn pair_of(alloc: Global, names: &str) -> anyhow::Result<Pair> {
     })
 }
 
-// A text, with a mark behind it where it doesn't end with a line.
+// A text with ␍ for carriage returns, and a mark behind it where it doesn't end with a line.
 fn show_text(out: &mut String, bytes: &[u8]) -> anyhow::Result<()> {
-    out.push_str(std::str::from_utf8(bytes).unwrap_or("?"))?;
+    for character in std::str::from_utf8(bytes).unwrap_or("?").chars() {
+        out.push(if character == '\r' { '␍' } else { character })?;
+    }
     if !matches!(bytes, [] | [.., b'\n']) {
         out.push_str("‖\n")?;
     }
