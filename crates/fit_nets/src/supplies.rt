@@ -70,8 +70,20 @@ pub fn push_range(view: &View<'_, '_, '_>, text: &mut Vec<u8>, range: Run) -> Re
     Ok(())
 }
 
+fn is_port(view: &View<'_, '_, '_>, name: &[u8]) -> bool {
+    view.module
+        .head
+        .iter()
+        .any(|port| is_named(view, port.name, name))
+}
+
+fn is_named(view: &View<'_, '_, '_>, at: usize, name: &[u8]) -> bool {
+    name_at(view.part, at).is_some_and(|own| own == name)
+}
+
+// Whether a name is that of a port that is to be a supply: one that has become a supply is no port any more.
 fn is_supply(view: &View<'_, '_, '_>, supplies: &Supplies<'_>, at: usize) -> bool {
-    name_at(view.part, at).is_some_and(|name| supplies.holds(name))
+    name_at(view.part, at).is_some_and(|name| supplies.holds(name) && is_port(view, name))
 }
 
 // Asks that the names of a list go that are supplies, and answers whether any stays.
@@ -213,8 +225,8 @@ fn declarations(
 ) -> Result<Vec<u8>, NoMemory> {
     let mut text = Vec::new(view.alloc);
     for at in names {
-        let name = name_at(view.part, *at).unwrap_or(b"");
-        if supplies.holds(name) {
+        if is_supply(view, supplies, *at) {
+            let name = name_at(view.part, *at).unwrap_or(b"");
             supplies.push(view, &mut text, range, name)?;
         }
     }

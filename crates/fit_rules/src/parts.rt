@@ -108,10 +108,14 @@ fn primitive_edit(
     Ok(Some(edit_of(alloc, front, &text, Rule::Expression, b"", what)?))
 }
 
-// Whether what is changed can't show what another turn would ask for: no edit was in the way of another, and no constant
-// was worked out, on which the width of a net may depend.
+// Whether a change may let the rules ask for more: the width of a net, or a limit of a check, may stand there only now.
+fn shows_more(edit: &Edit) -> bool {
+    matches!(edit.change.rule, Rule::Arithmetic | Rule::NegativeLimit)
+}
+
+// Whether no edit was in the way of another, and none shows what more the rules ask for.
 fn are_all(asked: usize, edits: &[Edit]) -> bool {
-    edits.len() == asked && !edits.iter().any(|edit| matches!(edit.change.rule, Rule::Arithmetic))
+    edits.len() == asked && !edits.iter().any(|edit| shows_more(edit))
 }
 
 /// Adds the changes that the rules ask for in a netlist, with these tokens, to those of its files, which have none yet.
