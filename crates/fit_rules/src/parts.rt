@@ -1,17 +1,15 @@
 // The changes that the rules ask for in a netlist.
 ghost use Rattle.std.specs.Prelude.{◌≡◌, map};
 
-use crate::leaving::{left_of, whole_span};
 use crate::exact::exact_of;
+use crate::leaving::{left_of, whole_span};
 use crate::merging::in_order;
 use crate::statements::module_edits;
 use fit_cells::{Cells, cells_of};
 use fit_changes::{Changes, Rule};
 use fit_conditions::condition_edits;
 use fit_expressions::{expression_edits, primitives_for};
-use fit_items::{
-    Edit, Span, Wishes, add_edits, edit_of, nets_of, part_name, read_module, text_of,
-};
+use fit_items::{Edit, Span, Wishes, add_edits, edit_of, nets_of, part_name, read_module, text_of};
 use fit_nets::Supplies;
 use fit_parts::part_end;
 use fit_values::View;
