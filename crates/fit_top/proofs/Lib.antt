@@ -1,5 +1,6 @@
 -- The modules of this folder.
 pub mod Answered
+pub mod IncludingLaws
 pub mod Kept
 pub mod MadeNames
 pub mod MakingLaws

@@ -6,8 +6,7 @@ use Rattle.sg_io.specs.Files.{BothTell}
 use Rattle.sg_io.specs.Put.{SinkTold}
 use Rattle.fit_words.specs.Words.{Asked}
 use Rattle.fit_top.specs.Answer.{Meeting, fault_line}
-use Rattle.fit_top.specs.Names.{IsOneOf}
-use Rattle.fit_top.specs.Promises.{HasAnswer, IsFolderOf, OthersStay, Outcome, ShelfTold, answered, folder_fault, made_in, names_in, no_memory, shelf_fault, sink_fault, sink_want}
+use Rattle.fit_top.specs.Promises.{HasAnswer, IsFolderOf, IsReached, OthersStay, Outcome, ShelfTold, answered, folder_fault, made_in, no_memory, shelf_fault, sink_fault, sink_want}
 use Rattle.fit_top.specs.Putting.{PutsLast}
 use Rattle.fit_top.specs.Stops.{IfFailed, IfFolder, end_of, folder_end}
 use Rattle.fit_top.specs.Work.{IsNamed, Tells, TellsEnd, WorkLeaves}
@@ -43,7 +42,7 @@ outcome asked meeting (Err stop.Failed) how shelf shelf' folders folders' sink s
       rises = c;
       folders = d;
       told = n.is_last;
-      files = with_old (OthersStay (made_in asked)) (IsOneOf (names_in asked) n.name) shelf.files shelf'.files l n.among;
+      files = with_old (OthersStay (made_in asked)) (IsReached asked n.name) shelf.files shelf'.files l n.among;
     }) (subst (λ o. PutsLast (fault_line (unwrap_or o [])) sink sink') n.is_last t.1))
 outcome asked meeting (Err (stop.Folder name)) how shelf shelf' folders folders' sink sink' l c d f n t =
     subst (Outcome asked meeting shelf shelf' folders folders' sink sink') (sym t.0) (folder_fault name.now (record { folder = f; rises = d; faults = c; files = l }) t.1)

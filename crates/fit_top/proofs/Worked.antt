@@ -1,9 +1,10 @@
 -- What the work leaves, from the answer and from the making of its files.
-use Rattle.std.proofs.Common.{◌≡◌, ◌∙◌, sym, subst, refl, ℕ, List, map}
+use Rattle.std.proofs.Common.{◌≡◌, ◌∙◌, sym, subst, refl, inl, ℕ, List, map}
 use Rattle.std.specs.Prelude.{Option, Some, None, Ok, Err}
 use Rattle.sg_io.specs.Files.{File, BothTell}
 use Rattle.fit_words.specs.Words.{Asked, inputs_of, made_of}
 use Rattle.fit_top.specs.Answer.{Answer, IsAnswerFor, Meeting, refusal, usage_line}
+use Rattle.fit_top.specs.Including.{FailsReading}
 use Rattle.fit_top.specs.Promises.{FilesAfter, IsRight, OthersStay}
 use Rattle.fit_top.specs.Stops.{FailsAmong, IfFailed, IfFolder}
 use Rattle.fit_top.specs.Work.{IsNamed, WorkLeaves}
@@ -13,7 +14,8 @@ use Rattle.fit_top.specs.declared.stop.Stop.{Stop}
 use Rattle.fit_top.specs.declared.stop.Stop.TheVariants as stop
 use Rattle.fit_top.proofs.MadeNames.{answer_made, none_made_by, one_made_by}
 use Rattle.fit_top.proofs.Putting.{both_same}
-use Rattle.fit_top.proofs.Reading.{one_behind, one_front}
+use Rattle.fit_top.proofs.IncludingLaws.{reached_by}
+use Rattle.fit_top.proofs.Reading.{one_behind}
 
 -- what both tell, where the first is known
 both_from : (P Q : List File → List File → Type 0) (a mid b : Option (List File)) → mid ≡ a → BothTell mid b P → ((x : List File) → a ≡ Some x → (y : List File) → P x y → Q x y) → BothTell a b Q
@@ -27,8 +29,8 @@ both_from P Q a mid b e h f = by a b (subst (λ o. BothTell o b P) e h) f
 
 module _ (asked : Asked) (meeting : Meeting) where
   -- a call to read failed
-  pub read_named : (X Y : Type 0) (old : Option (List File)) (last : Option (List ℕ)) (s : Stop) → FailsAmong {X = X} last (inputs_of asked) (Err s) → IfFailed {X = Y} (IsNamed (Some asked) old last) (Err s)
-  read_named X Y old last stop.Failed h = record { name = h.name; is_last = h.told; among = λ files e. one_front h.name (inputs_of asked) (made_of asked) h.among }
+  pub read_named : (X Y : Type 0) (old : Option (List File)) (last : Option (List ℕ)) (s : Stop) → FailsReading {X = X} asked last (Err s) → IfFailed {X = Y} (IsNamed (Some asked) old last) (Err s)
+  read_named X Y old last stop.Failed h = record { name = h.name; is_last = h.told; among = λ files e. reached_by asked h.name h.reached }
   read_named X Y old last (stop.Folder n) h = tt
   read_named X Y old last stop.NoMemory h = tt
 
@@ -38,7 +40,7 @@ module _ (asked : Asked) (meeting : Meeting) where
     make_named X Y last stop.Failed h = record {
       name = h.name;
       is_last = h.told;
-      among = λ held e. one_behind h.name (inputs_of asked) (made_of asked) (one_made_by asked answer.made (answer_made asked meeting held answer (right held e)) h.name h.among);
+      among = λ held e. inl (one_behind h.name (inputs_of asked) (made_of asked) (one_made_by asked answer.made (answer_made asked meeting held answer (right held e)) h.name h.among));
     }
     make_named X Y last (stop.Folder n) h = tt
     make_named X Y last stop.NoMemory h = tt

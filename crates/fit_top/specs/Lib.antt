@@ -1,6 +1,7 @@
 -- The modules of this folder.
 pub mod Answer
 pub mod Folders
+pub mod Including
 pub mod Making
 pub mod Names
 pub mod Program

@@ -1,11 +1,11 @@
 -- What the top call promises: one distinction of cases over all that the shelf, the folders and the sink tell before and after it.
-use Rattle.std.specs.Prelude.{ℕ, ◌≡◌, ◌++◌, List, [], ◌∷◌, Option, Some, None}
+use Rattle.std.specs.Prelude.{ℕ, ◌≡◌, ◌++◌, ◌⊎◌, List, [], ◌∷◌, Option, Some, None}
 use Rattle.sg_io.specs.Faults.{Rises}
 use Rattle.sg_io.specs.Files.{File, BothTell, HasAfter, bytes_of}
 use Rattle.sg_io.specs.Put.{SinkTold}
 use Rattle.fit_words.specs.Words.{Asked, inputs_of, made_of}
 use Rattle.fit_top.specs.Answer.{Answer, IsAnswerTo, Meeting, fault_line, no_memory_line, report_fault_line}
-use Rattle.fit_top.specs.Names.{IsNoneOf, IsOneOf}
+use Rattle.fit_top.specs.Names.{IsNoneOf, IsOneOf, IsSought}
 use Rattle.fit_top.specs.Putting.{PutsAll, PutsTillFault, PutsTillWant, PutsLast}
 use Rattle.fit_top.specs.Status.{IsReport}
 use Rattle.fit_top.specs.declared.status.Status.{Status}
@@ -43,6 +43,11 @@ abbrev pub names_in : Option Asked → List (List ℕ)
 names_in None = []
 names_in (Some asked) = inputs_of asked ++ made_of asked
 
+-- the words name it, or it is sought since one that they name includes it
+abbrev pub IsReached : Option Asked → List ℕ → Type 0
+IsReached None name = ⊥
+IsReached (Some asked) name = IsOneOf (names_in (Some asked)) name ⊎ IsSought asked name
+
 -- the folder that the words name
 abbrev pub IsFolderOf : Option Asked → List ℕ → Type 0
 IsFolderOf None name = ⊥
@@ -54,12 +59,12 @@ pub record HasAnswer (asked : Option Asked) (meeting : Meeting) (how : Status) (
   pub faults : new.faults ≡ old.faults
   pub folders : calls' ≡ calls
 
--- a call of the shelf failed, on this file; where the shelf tells its files, it is one that the words name, and none is another but those that they make
+-- a call of the shelf failed, on this file; where the shelf tells its files, it is one that the words name or that is sought, and none is another but those that they make
 pub record FailsShelf (asked : Option Asked) (old new : ShelfTold) (calls calls' : ℕ) (name : List ℕ) : Type 0 where
   pub rises : Rises old.faults new.faults
   pub folders : calls' ≡ calls
   pub told : new.last ≡ Some name
-  pub files : BothTell old.files new.files (λ before after. IsOneOf (names_in asked) name × OthersStay (made_in asked) before after)
+  pub files : BothTell old.files new.files (λ before after. IsReached asked name × OthersStay (made_in asked) before after)
 
 -- the folder couldn't be made, and no file is another
 pub record FailsFolder (asked : Option Asked) (old new : ShelfTold) (calls calls' : ℕ) (name : List ℕ) : Type 0 where

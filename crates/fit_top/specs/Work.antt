@@ -9,13 +9,14 @@ use Rattle.fit_changes.specs.Lines.{line_seen}
 use Rattle.fit_changes.specs.declared.unfit.Unfit as code_unfit
 use Rattle.fit_netlist.specs.declared.fitting.Fitted as code_fitted
 use Rattle.fit_words.specs.Words.{Asked}
-use Rattle.fit_top.specs.Answer.{Answer, IsFittedFor, IsUnfit, Meeting, read_limit, report_fault_line, no_memory_line, fault_line}
-use Rattle.fit_top.specs.Names.{IsOneOf}
-use Rattle.fit_top.specs.Promises.{IsRight, OthersStay, PutsReport, made_in, names_in}
+use Rattle.fit_top.specs.Answer.{Answer, IsFittedFor, IsUnfit, IsUntouched, Meeting, read_limit, report_fault_line, no_memory_line, fault_line}
+use Rattle.fit_top.specs.Promises.{IsReached, IsRight, OthersStay, PutsReport, made_in}
 use Rattle.fit_top.specs.Putting.{PutsTillFault, PutsTillWant, PutsLast}
 use Rattle.fit_top.specs.Status.{IsReport}
 use Rattle.fit_top.specs.declared.status.Status.{Status}
 use Rattle.fit_top.specs.declared.status.Status.TheVariants as status
+use Rattle.fit_top.specs.declared.fitting.Attempt.{Attempt}
+use Rattle.fit_top.specs.declared.fitting.Attempt.TheVariants as attempt
 use Rattle.fit_top.specs.declared.stop.Stop.{Stop}
 use Rattle.fit_top.specs.declared.stop.Stop.TheVariants as stop
 use Rattle.fit_top.specs.declared.inputs.Input as code_input
@@ -49,6 +50,12 @@ abbrev pub IsFit : Asked → List (List ℕ) → Result code_fitted.Fitted (Vec 
 IsFit asked read (Ok f) = IsFittedFor asked read (texts f.texts.items) (map line_seen f.lines.items)
 IsFit asked read (Err places) = IsUnfit asked read places.items
 
+-- and what comes of it where files may still be wanted: then it isn't one that stays
+abbrev pub IsAttempt : Asked → List (List ℕ) → Attempt → Type 0
+IsAttempt asked read (attempt.Fitted f) = IsFit asked read (Ok f)
+IsAttempt asked read (attempt.Unfit places) = IsFit asked read (Err places)
+IsAttempt asked read (attempt.Wants from name) = IsUntouched asked read → ⊥
+
 -- ---- answers
 
 abbrev pub made_seen : code_made.Made → File
@@ -74,11 +81,11 @@ WorkLeaves asked meeting (Err stop.Failed) old new = OthersStay (made_in asked) 
 WorkLeaves asked meeting (Err (stop.Folder name)) old new = new ≡ old
 WorkLeaves asked meeting (Err stop.NoMemory) old new = OthersStay (made_in asked) old new
 
--- the shelf names a file in the last call that failed; where it tells its files, it is one that the words name
+-- the shelf names a file in the last call that failed; where it tells its files, it is one that the words name or that is sought
 pub record IsNamed (asked : Option Asked) (held : Option (List File)) (last : Option (List ℕ)) : Type 0 where
   pub name : List ℕ
   pub is_last : last ≡ Some name
-  pub among : (files : List File) → held ≡ Some files → IsOneOf (names_in asked) name
+  pub among : (files : List File) → held ≡ Some files → IsReached asked name
 
 -- how the end of the work was told, where the shelf names this file in the last call that failed
 abbrev pub TellsEnd : Option (List ℕ) → Result code_end.Told Stop → SinkTold → SinkTold → Status → Type 0

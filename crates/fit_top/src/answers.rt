@@ -1,27 +1,27 @@
 // The answer to what is asked.
-ghost use Rattle.std.specs.Prelude.{◌≡◌, ◌<◌, ℕ, Bool, List, IfOk, length, Ok, Some, false, map, option_map, string_bytes};
+ghost use Rattle.std.specs.Prelude.{◌≡◌, ℕ, Bool, List, IfOk, Ok, Some, false, map, string_bytes};
 ghost use Rattle.std.specs.List.{list_any};
 ghost use Rattle.sg_io.specs.Faults.{Cause};
 ghost use Rattle.sg_io.specs.Files.{File};
-ghost use Rattle.fit_words.specs.Words.{inputs_of, made_name};
+ghost use Rattle.fit_words.specs.Words.{made_name};
 ghost use Rattle.fit_words.specs.WordsSeen.{asked_seen};
 ghost use Rattle.vl_lex.specs.Seen.{texts};
 ghost use Rattle.fit_changes.specs.Lines.{line_seen};
 ghost use Rattle.fit_top.specs.Answer.{IsAnswerFor, IsFittedFor, IsTextAnswer, Meeting, Meets, TellAllSdf, changed_answer, files_of, fitted_answer, missing_line, refusal, status_of, usage_line};
-ghost use Rattle.fit_top.specs.Stops.{FailsAmong, NeverFolder, end_of};
-ghost use Rattle.fit_top.specs.Work.{IsFit, answer_seen, input_seen};
+ghost use Rattle.fit_top.specs.Including.{FailsReading};
+ghost use Rattle.fit_top.specs.Stops.{NeverFolder, end_of};
+ghost use Rattle.fit_top.specs.Work.{answer_seen, input_seen};
 
 use crate::folders::Folders;
+use crate::including::fit;
 use crate::inputs::{Input, read_files, texts_of};
 use crate::lines::{USAGE, line_of, unfit_lines};
 use crate::making::{Made, add_netlists, add_sdf};
 use crate::status::Status;
 use crate::stop::Stop;
 use crate::texts::{report_text, sdf_lines, told_text};
-use fit_changes::{Line, Unfit, are_told};
-use fit_items::Wishes;
-use fit_netlist::{FitError, Fitted, fit_netlist};
-use fit_text::Given;
+use fit_changes::{Line, are_told};
+use fit_netlist::Fitted;
 use fit_words::{Asked, inputs_of, made_name};
 use sg_io::Shelf;
 use sg_text::NoMemory;
@@ -123,79 +123,23 @@ fn sdf_answer(
     }
 }
 
-// What the words give and wish.
-fn given<'g>(asked: &'g Asked<'g>) -> Given<'g>
-    ensures { length result.defines.now ≡ length (asked_seen asked.now).defines }
-{
-    Given {
-        names: &asked.netlists,
-        defines: &asked.defines,
-        included: &[],
-    }
-}
-
-fn wishes<'w>(asked: &'w Asked<'w>) -> Wishes<'w>
-    ensures top { option_map (λ n. n.now) result.top ≡ (asked_seen asked.now).top }
-    ensures supplies { (length result.supply0.now ≡ length (asked_seen asked.now).supply0) × (length result.supply1.now ≡ length (asked_seen asked.now).supply1) }
-    ensures dropped { (length result.cut.now ≡ length (asked_seen asked.now).cut) × (length result.drop.now ≡ length (asked_seen asked.now).dropped) × (result.drop_missing ≡ asked.now.drop_missing) }
-    ensures checks { (length result.no_checks.now ≡ length (asked_seen asked.now).no_checks) × (length result.no_notifier.now ≡ length (asked_seen asked.now).no_notifier) }
-{
-    Wishes {
-        top: asked.top,
-        supply0: &asked.supply0,
-        supply1: &asked.supply1,
-        cut: &asked.cut,
-        drop: &asked.dropped,
-        drop_missing: asked.drop_missing,
-        no_checks: &asked.no_checks,
-        no_notifier: &asked.no_notifier,
-    }
-}
-
-// The place of an included file that isn't there.
-fn missing_include(alloc: Global, name: &[u8]) -> Result<Vec<Unfit>, NoMemory>
-    ensures { IfOk result (λ places. 0 < length places.items) }
-{
-    let mut kind = Vec::from_slice(alloc, b"Unsupported include ")?;
-    kind.extend_from_slice(name)?;
-    let mut places = Vec::new(alloc);
-    places.push(Unfit {
-        file: 0,
-        line: 1,
-        kind,
-        part: Vec::new(alloc),
-    })?;
-    Ok(places)
-}
-
-// The netlist as it is to be written, or the places that aren't taken.
-fn fit(
-    alloc: Global,
-    asked: &Asked<'_>,
-    texts: &[Vec<u8>],
-) -> Result<Result<Fitted, Vec<Unfit>>, NoMemory>
-    ensures { IfOk result (IsFit (asked_seen asked.now) (map (λ t. t.items) texts.now)) }
-{
-    match fit_netlist(alloc, texts, &given(asked), &wishes(asked)) {
-        Ok(fitted) => Ok(Ok(fitted)),
-        Err(FitError::Unfit(places)) => Ok(Err(places)),
-        Err(FitError::Wants { name, .. }) => Ok(Err(missing_include(alloc, &name)?)),
-        Err(FitError::NoMemory) => Err(NoMemory),
-    }
-}
-
 // The answer for the texts of a netlist and of SDF files.
-fn text_answer(
+fn text_answer<'a, S: Shelf>(
     alloc: Global,
     asked: &Asked<'_>,
     texts: &[Vec<u8>],
     sdf: Vec<Input<'_>>,
-) -> Result<Answer, NoMemory>
-    ensures { IfOk result (λ a. IsTextAnswer (asked_seen asked.now) (map (λ t. t.items) texts.now) (map input_seen sdf.entry.items) (answer_seen a)) }
+    shelf: &mut S,
+) -> Result<Answer, Stop<'a>>
+    ensures right { IfOk result (λ a. IsTextAnswer (asked_seen asked.now) (map (λ t. t.items) texts.now) (map input_seen sdf.entry.items) (answer_seen a)) }
+    ensures held { S.files shelf.new ≡ S.files shelf.old }
+    ensures cause { Cause (S.fault_count shelf.old) (S.fault_count shelf.new) (end_of result) }
+    ensures named { FailsReading (asked_seen asked.now) (S.last_fault shelf.new) result }
+    ensures folders { NeverFolder result }
 {
-    let outcome = fit(alloc, asked, texts)?;
+    let outcome = fit(alloc, asked, texts, shelf)?;
     match outcome {
-        Ok(fitted) => sdf_answer(alloc, asked, &fitted, sdf),
+        Ok(fitted) => Ok(sdf_answer(alloc, asked, &fitted, sdf)?),
         Err(places) => {
             let lines = unfit_lines(alloc, &asked.netlists, &places)?;
             Ok(refusal(alloc, Status::Netlist, lines))
@@ -215,13 +159,13 @@ fn answer_with<'a, S: Shelf>(
         → IfOk result (λ a. IsAnswerFor (asked_seen asked.now) meeting held (answer_seen a)) }
     ensures held { S.files shelf.new ≡ S.files shelf.old }
     ensures cause { Cause (S.fault_count shelf.old) (S.fault_count shelf.new) (end_of result) }
-    ensures named { FailsAmong (S.last_fault shelf.new) (inputs_of (asked_seen asked.now)) result }
+    ensures named { FailsReading (asked_seen asked.now) (S.last_fault shelf.new) result }
     ensures folders { NeverFolder result }
 {
     match read_files(alloc, shelf, &asked.sdf)? {
         Ok(sdf) => {
             let texts = texts_of(alloc, netlists)?;
-            Ok(text_answer(alloc, asked, &texts, sdf)?)
+            text_answer(alloc, asked, &texts, sdf, shelf)
         }
         Err(name) => Ok(missing_answer(alloc, name)?),
     }
@@ -237,7 +181,7 @@ fn answer_apart<'a, S: Shelf>(
         → IfOk result (λ a. IsAnswerFor (asked_seen asked.now) meeting held (answer_seen a)) }
     ensures held { S.files shelf.new ≡ S.files shelf.old }
     ensures cause { Cause (S.fault_count shelf.old) (S.fault_count shelf.new) (end_of result) }
-    ensures named { FailsAmong (S.last_fault shelf.new) (inputs_of (asked_seen asked.now)) result }
+    ensures named { FailsReading (asked_seen asked.now) (S.last_fault shelf.new) result }
     ensures folders { NeverFolder result }
 {
     match read_files(alloc, shelf, &asked.netlists)? {
@@ -301,7 +245,7 @@ pub fn answer_for<'a, S: Shelf, F: Folders>(
         → IfOk result (λ a. IsAnswerFor (asked_seen asked.now) (F.meeting folders.now) held (answer_seen a)) }
     ensures held { S.files shelf.new ≡ S.files shelf.old }
     ensures cause { Cause (S.fault_count shelf.old) (S.fault_count shelf.new) (end_of result) }
-    ensures named { FailsAmong (S.last_fault shelf.new) (inputs_of (asked_seen asked.now)) result }
+    ensures named { FailsReading (asked_seen asked.now) (S.last_fault shelf.new) result }
     ensures folders { NeverFolder result }
 {
     if meets(alloc, asked, folders)? {

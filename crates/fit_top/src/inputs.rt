@@ -21,11 +21,11 @@ pub struct Input<'a> {
     pub text: Vec<u8>,
 }
 
-// The text of a file, or that there is none of its name.
-fn read_text<'a, S: Shelf>(
+/// The text of a file, or that there is none of its name.
+pub fn read_text<'a, S: Shelf>(
     alloc: Global,
     shelf: &mut S,
-    name: &'a str,
+    name: &str,
 ) -> Result<Option<Vec<u8>>, Stop<'a>>
     ensures gives { (files : List File) → S.files shelf.old ≡ Some files → GivesText (bytes_of name.now files) result }
     ensures held { S.files shelf.new ≡ S.files shelf.old }

@@ -3,7 +3,9 @@
 
 mod answer;
 mod answers;
+mod fitting;
 mod folders;
+mod including;
 mod inputs;
 mod lines;
 mod making;

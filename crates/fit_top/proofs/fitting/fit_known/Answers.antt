@@ -2,7 +2,7 @@
 use Rattle.std.proofs.Common.{map}
 use Rattle.fit_words.specs.WordsSeen.{asked_seen}
 use Rattle.fit_top.proofs.Asking.{asks-same, fitted-for}
-use Rattle.fit_top.proofs.answers.fit.Goals as goal
+use Rattle.fit_top.proofs.fitting.fit_known.Goals as goal
 
 pub returns-in-Ok : goal.returns-in-Ok
 returns-in-Ok c =
