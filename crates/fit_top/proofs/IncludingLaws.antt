@@ -23,9 +23,9 @@ use Rattle.fit_top.proofs.Reading.{one_front, one_named}
 pub one_of_names : (file : List ℕ) (names : List (Bor (List ℕ))) → list_any (λ n. bytes_eq n.now file) names ≡ true → IsOneOf (map (λ n. n.now) names) file
 one_of_names file [] e = cc
 one_of_names file (n ∷ ns) e = elim (or_cases (bytes_eq n.now file) (list_any (λ m. bytes_eq m.now file) ns) e) [
-    | inl h ↦ inl (sym ((bytes_decides n.now file).0 h))
-    | inr h ↦ inr (one_of_names file ns h)
-  ]
+  | inl h ↦ inl (sym ((bytes_decides n.now file).0 h))
+  | inr h ↦ inr (one_of_names file ns h)
+]
 
 pub source_netlist : (asked : Asked) (file : List ℕ) (names given : List (Bor (List ℕ))) → given ≡ names → list_any (λ n. bytes_eq n.now file) given ≡ true → map (λ n. n.now) names ≡ asked.netlists → IsSource asked file
 source_netlist asked file names given g e n = inl (subst (λ ns. IsOneOf ns file) (ap (map (λ (m : Bor (List ℕ)). m.now)) g ∙ n) (one_of_names file given e))

@@ -207,9 +207,7 @@ fn include<'a, S: Shelf>(
 }
 
 fn is_included(included: &[Included], from: &[u8], name: &[u8]) -> bool {
-    included
-        .iter()
-        .any(|one| one.from.as_slice() == from && one.name.as_slice() == name)
+    included.iter().any(|one| one.from.as_slice() == from && one.name.as_slice() == name)
 }
 
 // What comes of a netlist where no more files are read.
