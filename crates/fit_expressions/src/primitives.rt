@@ -1,7 +1,8 @@
 // The primitives that gates are made of.
-use fit_items::Edit;
-use sg_text::NoMemory;
+use fit_items::{Edit, is_name};
+use sg_text::{Keyword, NoMemory};
 use std::alloc::Global;
+use vl_token::{Token, TokenKind};
 
 /// A primitive: its name as an instance begins with it, and its text.
 struct Primitive {
@@ -61,12 +62,37 @@ fn is_used(edits: &[Edit], word: &[u8]) -> bool {
     edits.iter().any(|edit| has_word(&edit.change.text, word))
 }
 
-/// The texts of the primitives that edits use, with a blank behind each; empty where they use none. They are to stand before
-/// the first byte of the first file. Takes memory.
-pub fn primitives_for(alloc: Global, edits: &[Edit]) -> Result<Vec<u8>, NoMemory> {
+fn begins_part(token: &Token<'_>) -> bool {
+    match token.kind {
+        TokenKind::Module(_) | TokenKind::Word(Keyword::Primitive) => true,
+        _ => false,
+    }
+}
+
+// Whether a module or primitive has a name.
+fn is_there(tokens: &[Token<'_>], name: &[u8]) -> bool {
+    let mut is_begun = false;
+    for token in tokens {
+        if is_begun && is_name(token, name) {
+            return true;
+        }
+        is_begun = begins_part(token);
+    }
+    false
+}
+
+/// The texts of the primitives that edits use and that are no modules or primitives of the netlist, with a blank behind each;
+/// empty where there are none. The tokens are those of all files. The texts are to stand before the first byte of the first file.
+/// Takes memory.
+pub fn primitives_for(
+    alloc: Global,
+    tokens: &[Token<'_>],
+    edits: &[Edit],
+) -> Result<Vec<u8>, NoMemory> {
     let mut text = Vec::new(alloc);
     for primitive in &PRIMITIVES {
-        if is_used(edits, primitive.word.as_bytes()) {
+        let word = primitive.word.as_bytes();
+        if is_used(edits, word) && !is_there(tokens, word) {
             text.extend_from_slice(primitive.text.as_bytes())?;
         }
     }
