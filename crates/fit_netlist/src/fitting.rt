@@ -12,16 +12,14 @@ use crate::checking::check;
 use crate::faults::FitError;
 use crate::reading::read_tokens;
 use crate::refusing::bytes_of;
-use crate::rounds::{expand_round, rule_round, shape_round, without};
+use crate::rounds::{expand_round, rule_round, shape_round};
 use fit_changes::{Line, sort_lines};
 use fit_inside::is_inside;
 use fit_items::Wishes;
 use fit_parts::headings;
-use fit_shape::given_way;
 use fit_text::Given;
 use sg_text::NoMemory;
 use std::alloc::Global;
-use vl_token::Token;
 
 /// A netlist as it is to be written: the texts of its files, and a line for each change of them, in the order of files
 /// and lines.
@@ -79,32 +77,17 @@ fn as_they_stand(alloc: Global, files: &[Vec<u8>]) -> Result<Fitted, NoMemory>
     Ok(Fitted { texts, lines })
 }
 
-// For each part of the shaped texts why it is left out, if it is: its instances gave way.
-fn gave_way(
-    alloc: Global,
-    tokens: &[Token<'_>],
-    shaped: &[Vec<u8>],
-    wishes: &Wishes<'_>,
-) -> Result<Vec<Option<Vec<u8>>>, FitError>
-    ensures refused { IfErr result Tells }
-{
-    let made = read_tokens(alloc, shaped)?;
-    Ok(given_way(alloc, tokens, &made, wishes)?)
-}
-
-// The round that leaves out parts whose instances gave way, and those of the rules, till they ask for no more and no part has
-// to be left out.
+// The rounds of the rules, till they ask for no more and no part has to be left out.
 fn rule_rounds(
     alloc: Global,
     shaped: Vec<Vec<u8>>,
-    whys: &[Option<Vec<u8>>],
     wishes: &Wishes<'_>,
     lines: &mut Vec<Line>,
 ) -> Result<Vec<Vec<u8>>, FitError>
     ensures made { IfOk result (λ made. AreMade (texts shaped.items) (texts made.items) (map line_seen lines.old.items) (map line_seen lines.new.items)) }
     ensures refused { IfErr result Tells }
 {
-    let mut files = without(alloc, shaped, whys, lines)?;
+    let mut files = shaped;
     for _ in 0..TURNS {
         let (is_last, made) = rule_round(alloc, &files, wishes, lines)?;
         files = made;
@@ -128,15 +111,9 @@ fn fit_expanded(
     let mut lines = lines;
     let tokens = read_tokens(alloc, expanded)?;
     let headings = headings(alloc, &tokens)?;
-    let told = lines.len();
     let shaped = shape_round(alloc, expanded, &tokens, wishes, &mut lines)?;
-    let whys = if lines.len() > told {
-        gave_way(alloc, &tokens, &shaped, wishes)?
-    } else {
-        Vec::new(alloc)
-    };
     drop(tokens);
-    let texts = rule_rounds(alloc, shaped, &whys, wishes, &mut lines)?;
+    let texts = rule_rounds(alloc, shaped, wishes, &mut lines)?;
     sort_lines(&mut lines)?;
     check(alloc, &texts, &lines, &headings, bytes_of(wishes.top))?;
     Ok(Fitted { texts, lines })

@@ -9,7 +9,7 @@ ghost use Rattle.fit_changes.specs.Lines.{line_seen, lines_from};
 ghost use Rattle.fit_changes.specs.Rounds.{read, written};
 ghost use Rattle.fit_netlist.specs.Exact.{AreExact, IsExact, IsExactBy};
 ghost use Rattle.fit_netlist.specs.Fitted.{Tells};
-ghost use Rattle.fit_netlist.specs.Phases.{AreMade, IsRound};
+ghost use Rattle.fit_netlist.specs.Phases.{IsRound};
 
 use crate::changing::{unchanged, write_all};
 use crate::faults::FitError;
@@ -158,22 +158,6 @@ fn leave_round(
     let mut list = unchanged(alloc, files)?;
     leave_all(alloc, &tokens, whys, &mut list)?;
     finish(alloc, &list, lines)
-}
-
-/// The round that leaves out parts whose instances gave way, if there are any.
-pub fn without(
-    alloc: Global,
-    files: Vec<Vec<u8>>,
-    whys: &[Option<Vec<u8>>],
-    lines: &mut Vec<Line>,
-) -> Result<Vec<Vec<u8>>, FitError>
-    ensures made { IfOk result (λ made. AreMade (texts files.items) (texts made.items) (map line_seen lines.old.items) (map line_seen lines.new.items)) }
-    ensures refused { IfErr result Tells }
-{
-    if !is_any_left(whys) {
-        return Ok(files);
-    }
-    leave_round(alloc, &files, whys, lines)
 }
 
 // The changes of the rules, and whether these are all.

@@ -1,12 +1,10 @@
 //! The shape of a netlist: instances that go, are cut out, give way to what their modules hold, or are of copies of their cells.
 #![tactic(auto)]
 
-mod giving;
 mod globs;
 mod shaping;
 mod twins;
 mod walking;
 mod writing;
 
-pub use giving::given_way;
 pub use shaping::shape;

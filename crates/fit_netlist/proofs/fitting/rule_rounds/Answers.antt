@@ -8,7 +8,7 @@ use Rattle.fit_netlist.proofs.fitting.rule_rounds.Goals.{else-loop-test, then-lo
 use Rattle.fit_netlist.proofs.fitting.rule_rounds.Goals as goal
 
 pub loop-init : goal.loop-init
-loop-init c = c.in_ok-files.ensures.made
+loop-init c = none-made _ _
 
 pub loop-preserved : goal.loop-preserved
 loop-preserved c = made-more _ _ _ _ _ _ c.loop.invariant (round-at _ _ _ _ _ (ap texts c.deref.ensures.value) c.in_ok-is_last.ensures.made)
