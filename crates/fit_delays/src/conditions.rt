@@ -2,12 +2,15 @@
 use crate::groups::slice;
 use crate::meanings::meaning_of;
 use crate::spelling::{push_integer, push_name};
-use cond_expr::{Op, Tok};
-use sdf_lex::{Lexeme, Token, before_select, called};
+use cond_expr::{Op, Phase, Tok, after, ended};
+use sdf_lex::{Lexeme, Token, before_select, called, is_name};
 use sdf_tree::constant_of;
 use sg_logic::Value;
 use sg_text::NoMemory;
 use std::alloc::Global;
+
+// No file has so many parentheses.
+const MOST_OPEN: u64 = 1 << 32;
 
 /// A condition: its words without parentheses round the whole in one spelling, which two conditions share if their words are the same;
 /// and a text that they share if they hold for the same values of their nets, as far as operators of one bit are rewritten.
@@ -120,26 +123,18 @@ fn spelled(alloc: Global, toks: &[Tok<Vec<u8>>]) -> Result<Vec<u8>, NoMemory> {
     Ok(text)
 }
 
-// Whether each parenthesis that opens is closed, and none closes first.
-fn is_balanced(toks: &[Tok<Vec<u8>>]) -> bool {
+// How many pairs of parentheses enclose all: the least depth at which another word stands.
+fn enclosing_pairs(toks: &[Tok<Vec<u8>>]) -> usize {
     let mut open: usize = 0;
+    let mut least = usize::MAX;
     for tok in toks {
         match tok {
             Tok::Left => open = open.saturating_add(1),
-            Tok::Right if open == 0 => return false,
             Tok::Right => open = open.saturating_sub(1),
-            _ => {}
+            _ => least = least.min(open),
         }
     }
-    open == 0
-}
-
-// Whether parentheses stand round the whole.
-fn is_enclosed(toks: &[Tok<Vec<u8>>]) -> bool {
-    match (toks.first(), toks.last()) {
-        (Some(Tok::Left), Some(Tok::Right)) => is_balanced(without_ends(toks, 1)),
-        _ => false,
-    }
+    least
 }
 
 // Without so many words at each end.
@@ -152,48 +147,62 @@ fn without_ends(toks: &[Tok<Vec<u8>>], size: usize) -> &[Tok<Vec<u8>>] {
     }
 }
 
-// Without the pairs of parentheses that enclose all.
-fn bare(toks: &[Tok<Vec<u8>>]) -> &[Tok<Vec<u8>>] {
-    for size in 0..toks.len() {
-        let rest = without_ends(toks, size);
-        if !is_enclosed(rest) {
-            return rest;
-        }
-    }
-    toks
-}
-
-/// The condition of these words. Takes memory.
+/// The condition of these words, which are one. Takes memory.
 pub fn condition_of(alloc: Global, toks: &[Tok<Vec<u8>>]) -> Result<Condition, NoMemory> {
     Ok(Condition {
-        spelled: spelled(alloc, bare(toks))?,
+        spelled: spelled(alloc, without_ends(toks, enclosing_pairs(toks)))?,
         meant: meaning_of(alloc, toks)?,
     })
 }
 
+// A name as it is called, if a word is one.
+fn name_tok(alloc: Global, word: &[u8]) -> Result<Option<Tok<Vec<u8>>>, NoMemory> {
+    if !is_name(word) {
+        return Ok(None);
+    }
+    Ok(Some(Tok::Name(called(alloc, word)?)))
+}
+
 // A word of a file: a constant, or else a name.
-fn word_tok(alloc: Global, word: &[u8]) -> Result<Tok<Vec<u8>>, NoMemory> {
+fn word_tok(alloc: Global, word: &[u8]) -> Result<Option<Tok<Vec<u8>>>, NoMemory> {
     match constant_of(alloc, word)? {
-        Some(value) => Ok(Tok::Const(value)),
-        None => Ok(Tok::Name(called(alloc, word)?)),
+        Some(value) => Ok(Some(Tok::Const(value))),
+        None => name_tok(alloc, word),
     }
 }
 
 fn tok_of(alloc: Global, token: &Token<'_>) -> Result<Option<Tok<Vec<u8>>>, NoMemory> {
-    Ok(match token.lexeme {
-        Lexeme::Word(word) => Some(word_tok(alloc, word)?),
-        Lexeme::Selected { size, whole } => {
-            Some(Tok::Name(called(alloc, before_select(whole, size))?))
-        }
-        Lexeme::Select(n) => Some(Tok::Index(n)),
-        Lexeme::Operator(op) => Some(Tok::Op(op)),
-        Lexeme::Left => Some(Tok::Left),
-        Lexeme::Right => Some(Tok::Right),
-        _ => None,
-    })
+    match token.lexeme {
+        Lexeme::Word(word) => word_tok(alloc, word),
+        Lexeme::Selected { size, whole } => name_tok(alloc, before_select(whole, size)),
+        Lexeme::Select(n) => Ok(Some(Tok::Index(n))),
+        Lexeme::Operator(op) => Ok(Some(Tok::Op(op))),
+        Lexeme::Left => Ok(Some(Tok::Left)),
+        Lexeme::Right => Ok(Some(Tok::Right)),
+        _ => Ok(None),
+    }
 }
 
-/// The condition that some tokens spell, if each may stand in one. Takes memory.
+// Whether words are a condition, by the grammar of those that are taken.
+fn is_condition(toks: &[Tok<Vec<u8>>]) -> bool {
+    let mut open: u64 = 0;
+    let mut phase = Phase::Operand;
+    for tok in toks {
+        if open >= MOST_OPEN {
+            return false;
+        }
+        match after(open, phase, tok) {
+            Some((behind, next)) => {
+                open = behind;
+                phase = next;
+            }
+            None => return false,
+        }
+    }
+    ended(open, phase)
+}
+
+/// The condition that some tokens spell, if they spell one. Takes memory.
 pub fn written_condition(
     alloc: Global,
     tokens: &[Token<'_>],
@@ -205,7 +214,7 @@ pub fn written_condition(
         };
         toks.push(tok)?;
     }
-    if toks.is_empty() {
+    if !is_condition(&toks) {
         return Ok(None);
     }
     Ok(Some(condition_of(alloc, &toks)?))

@@ -95,11 +95,12 @@ fn is_among(one: Option<&[u8]>, list: [Option<&[u8]>; 2]) -> bool {
     one.is_none() || one == first || one == second
 }
 
-// Whether the terms have the conditions of the events, whichever has which.
+// Whether the terms have the only condition of the events, whichever has it.
 fn have_same(terms: [Option<&[u8]>; 2], events: [Option<&[u8]>; 2]) -> bool {
     let [first, second] = terms;
     let [refer, datum] = events;
-    is_among(first, events)
+    (refer.is_none() || datum.is_none())
+        && is_among(first, events)
         && is_among(second, events)
         && is_among(refer, terms)
         && is_among(datum, terms)

@@ -5,15 +5,31 @@ use fit_delays::{Bits, Draft, Port, Term};
 use sg_text::NoMemory;
 use std::alloc::Global;
 
-// No vector is wider.
-const WIDEST: u64 = 65536;
+// No entry gives way to more.
+const MOST: u64 = 65536;
 
 /// Whether a port has several bits, as `d[3:0]`.
 pub fn is_bus(port: Port<'_>) -> bool {
     match port.bits {
-        Bits::Some { left, right } => left.abs_diff(right) < WIDEST,
+        Bits::Some { .. } => true,
         _ => false,
     }
+}
+
+fn width_of(port: Port<'_>) -> u64 {
+    match port.bits {
+        Bits::Some { left, right } => left.abs_diff(right).saturating_add(1),
+        _ => 1,
+    }
+}
+
+// How many entries there are for an entry with one for each bit of its ports.
+fn count_of(draft: &Draft<'_, '_>) -> u64 {
+    let mut count: u64 = 1;
+    for term in &draft.terms {
+        count = count.saturating_mul(width_of(term.port));
+    }
+    count
 }
 
 fn with_bit<'a>(alloc: Global, term: &Term<'a>, index: i64) -> Result<Term<'a>, NoMemory> {
@@ -85,13 +101,13 @@ fn has_bus(drafts: &[Draft<'_, '_>]) -> bool {
         .any(|draft| draft.terms.iter().any(|term| is_bus(term.port)))
 }
 
-/// The entries with one for each bit of their ports. Takes memory for them.
+/// The entries with one for each bit of their ports, if there aren't too many. Takes memory for them.
 pub fn bit_by_bit<'t, 'a>(
     alloc: Global,
     drafts: Vec<Draft<'t, 'a>>,
     notes: &mut Vec<Note>,
 ) -> Result<Vec<Draft<'t, 'a>>, NoMemory> {
-    if !has_bus(&drafts) {
+    if !has_bus(&drafts) || drafts.iter().any(|draft| count_of(draft) > MOST) {
         return Ok(drafts);
     }
     let list = spread(alloc, drafts, 0)?;

@@ -1,5 +1,6 @@
 // Entries, each by itself.
 use crate::buses::{bit_by_bit, is_bus};
+use crate::halves::limit_by_limit;
 use crate::notes::{Note, add_note};
 use crate::places::{Scope, Settled, settle};
 use crate::stamps::unstamped;
@@ -94,7 +95,8 @@ fn widen_edges(
     Ok(())
 }
 
-fn note_exponent(
+/// Notes that zeros in front of exponents go, if there are any.
+pub fn note_exponent(
     alloc: Global,
     group: &[Token<'_>],
     notes: &mut Vec<Note>,
@@ -143,7 +145,8 @@ pub fn work_of<'t, 'a>(
     if drafts.is_empty() {
         return Ok(None);
     }
-    let mut drafts = bit_by_bit(alloc, drafts, &mut notes)?;
+    let drafts = bit_by_bit(alloc, drafts, &mut notes)?;
+    let mut drafts = limit_by_limit(alloc, scope, drafts, &mut notes)?;
     let mut settled = Vec::new(alloc);
     for draft in drafts.iter_mut() {
         settled.push(settle(alloc, scope, draft, &mut notes)?)?;

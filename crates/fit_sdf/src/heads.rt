@@ -1,8 +1,9 @@
-// Heads without a text (IEEE 1497-2001, the header).
-use crate::changing::{Pen, feeds_of};
+// Heads without a text, and those with numbers (IEEE 1497-2001, the header).
+use crate::changing::{Pen, feeds_of, span_of};
+use crate::entries::note_exponent;
 use crate::notes::{Note, add_note};
 use fit_changes::Rule;
-use fit_delays::{end_of, keyword_of};
+use fit_delays::{end_of, keyword_of, push_tokens};
 use sdf_lex::{Lexeme, Token};
 use sdf_tree::Keyword;
 use sg_text::NoMemory;
@@ -50,14 +51,27 @@ fn may_be_quoted(bytes: &[u8]) -> bool {
     !bytes.iter().any(|b| *b == b'"' || *b == b'\n')
 }
 
-/// Quotes what stands in a head that wants a text.
-pub fn fit_head(pen: &mut Pen<'_>, group: &[Token<'_>]) -> Result<(), NoMemory> {
-    let (Some(word), [_, name, .., last]) = (keyword_of(group), group) else {
+// Writes a head with numbers anew, where one has a long exponent.
+fn fit_numbers(pen: &mut Pen<'_>, group: &[Token<'_>]) -> Result<(), NoMemory> {
+    let mut notes: Vec<Note> = Vec::new(pen.alloc);
+    note_exponent(pen.alloc, group, &mut notes)?;
+    let Some((from, end)) = span_of(group) else {
+        return Ok(());
+    };
+    let mut made = Vec::new(pen.alloc);
+    push_tokens(&mut made, group)?;
+    made.extend_from_slice(&feeds_of(pen.alloc, pen.text, from, end)?)?;
+    pen.change(from, end, made, notes, b"")
+}
+
+// Quotes what stands in a head, if it isn't a text.
+fn quote(pen: &mut Pen<'_>, group: &[Token<'_>]) -> Result<(), NoMemory> {
+    let [_, name, .., last] = group else {
         return Ok(());
     };
     let tokens = inside(group);
     let bytes = bytes_of(pen.text, tokens);
-    if !is_text_word(word) || is_text(tokens) || !may_be_quoted(bytes) {
+    if is_text(tokens) || !may_be_quoted(bytes) {
         return Ok(());
     }
     let from = end_of(name);
@@ -74,4 +88,13 @@ pub fn fit_head(pen: &mut Pen<'_>, group: &[Token<'_>]) -> Result<(), NoMemory> 
         &[b"a text stands between quotes"],
     )?;
     pen.change(from, end, made, notes, b"")
+}
+
+/// Quotes what stands in a head that wants a text, and shortens exponents in one that has numbers.
+pub fn fit_head(pen: &mut Pen<'_>, group: &[Token<'_>]) -> Result<(), NoMemory> {
+    match keyword_of(group) {
+        Some(Keyword::Voltage | Keyword::Temperature) => fit_numbers(pen, group),
+        Some(word) if is_text_word(word) => quote(pen, group),
+        _ => Ok(()),
+    }
 }

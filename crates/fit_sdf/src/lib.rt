@@ -8,6 +8,7 @@ mod counts;
 mod entries;
 mod files;
 mod fitting;
+mod halves;
 mod heads;
 mod notes;
 mod pairs;

@@ -10,19 +10,19 @@ pub struct Note {
     pub what: Vec<u8>,
 }
 
-/// Adds a note, if there is none of its rule. Its text is that of the pieces.
+/// Adds a note, if it isn't there. Its text is that of the pieces.
 pub fn add_note(
     alloc: Global,
     notes: &mut Vec<Note>,
     rule: Rule,
     pieces: &[&[u8]],
 ) -> Result<(), NoMemory> {
-    if notes.iter().any(|one| one.rule == rule) {
-        return Ok(());
-    }
     let mut what = Vec::new(alloc);
     for piece in pieces {
         what.extend_from_slice(piece)?;
+    }
+    if notes.iter().any(|one| one.rule == rule && one.what == what) {
+        return Ok(());
     }
     notes.push(Note { rule, what })?;
     Ok(())

@@ -2,8 +2,9 @@
 use crate::entries::Work;
 use crate::notes::{Note, add_note};
 use fit_changes::Rule;
-use fit_delays::{Corners, Draft, corners_of, larger_of, push_corners, push_front};
+use fit_delays::{Corners, Draft, corners_of, is_value, larger_of, push_corners, push_front};
 use indexmap::IndexMap;
+use sdf_lex::{Lexeme, Token};
 use sdf_tree::Keyword;
 use sg_text::NoMemory;
 use std::alloc::Global;
@@ -14,6 +15,16 @@ struct First {
     work: usize,
     draft: usize,
     edge: Keyword,
+}
+
+fn count_of(tokens: &[Token<'_>], lexeme: Lexeme<'_>) -> usize {
+    tokens.iter().filter(|token| token.lexeme == lexeme).count()
+}
+
+// Whether a limit is of numbers alone: one, or up to three with two colons between.
+fn is_plain(limit: &[Token<'_>]) -> bool {
+    let colons = count_of(limit, Lexeme::Colon);
+    is_value(limit) && count_of(limit, Lexeme::Left) == 1 && (colons == 0 || colons == 2)
 }
 
 fn limits_of<'a>(alloc: Global, draft: &Draft<'_, 'a>) -> Result<Vec<Corners<'a>>, NoMemory> {
@@ -87,8 +98,10 @@ fn edged<'a>(
 ) -> Result<Option<(Vec<u8>, Keyword, Vec<Corners<'a>>)>, NoMemory> {
     match (work.drafts.get(place), work.settled.get(place)) {
         (Some(draft), Some(settled)) => match settled.edge {
-            Some(edge) => Ok(Some((key_of(alloc, draft)?, edge, limits_of(alloc, draft)?))),
-            None => Ok(None),
+            Some(edge) if draft.values.iter().all(|limit| is_plain(limit)) => {
+                Ok(Some((key_of(alloc, draft)?, edge, limits_of(alloc, draft)?)))
+            }
+            _ => Ok(None),
         },
         _ => Ok(None),
     }

@@ -57,6 +57,22 @@ fn halves(word: Keyword) -> Option<(Keyword, Keyword)> {
     }
 }
 
+/// An entry for each limit of one that has two, with the conditions of its terminals. Takes memory.
+pub fn in_halves<'t, 'a>(
+    alloc: Global,
+    draft: &Draft<'t, 'a>,
+) -> Result<Option<(Draft<'t, 'a>, Draft<'t, 'a>)>, NoMemory> {
+    let (Some((early, late)), [first, second]) = (halves(draft.word), draft.terms.as_slice()) else {
+        return Ok(None);
+    };
+    if draft.values.len() != 2 {
+        return Ok(None);
+    }
+    let one = half(alloc, early, draft, &first.condition, &second.condition, 0)?;
+    let other = half(alloc, late, draft, &first.condition, &second.condition, 1)?;
+    Ok(Some((one, other)))
+}
+
 fn is_same(one: &Option<Condition>, other: &Option<Condition>) -> bool {
     match (one, other) {
         (Some(one), Some(other)) => one.spelled == other.spelled,
