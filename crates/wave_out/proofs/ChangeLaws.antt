@@ -1,43 +1,42 @@
 -- A block that is written from the nets that changed has the variables that differ.
-use Rattle.std.proofs.Common.{◌≡◌, ◌∙◌, sym, ap, refl, subst, ℕ, ◌+◌, ◌<◌, ◌≤◌, List, [], ◌∷◌, ◌++◌, length, take, get_or, map, arith, zero-add, inl, inr}
-use Rattle.std.specs.Prelude.{◌==◌, ◌⊎◌, ◌||◌, Bool, true, false, not, nat_lt, min, if◌then◌else◌, All, Option, Some, None, Result, Ok, Err, IfOk, option_map}
+use Rattle.std.proofs.Common.{◌≡◌, ◌∙◌, sym, ap, refl, subst, ℕ, zero, suc, ◌+◌, ◌-◌, ◌*◌, ◌<◌, ◌≤◌, List, [], ◌∷◌, ◌++◌, length, take, get_or, map, arith, zero-add, inl, inr}
+use Rattle.std.specs.Prelude.{◌==◌, ◌⊎◌, ◌||◌, Bool, true, false, not, nat_lt, min, if◌then◌else◌, All, Some, None, replicate, slice_set}
 use Rattle.std.specs.List.{filter}
-use Rattle.std.specs.List.Sorted.{IsNonDecreasing, IsPermutation}
+use Rattle.std.proofs.lemmas.Bool.{cases_eq}
 use Rattle.std.proofs.lemmas.Bool.Decides.{nat_tests}
-use Rattle.std.proofs.lemmas.List.{get_or_past, get_or-take, length-take}
-use Rattle.std.proofs.lemmas.List.Elements.{All-head, All-tail, filter_passes}
+use Rattle.std.proofs.lemmas.List.{get_or_past, get_or-take, length-append, length-replicate, length-take, map_more}
+use Rattle.std.proofs.lemmas.List.Elements.{All-head, All-tail}
 use Rattle.sg_logic.specs.declared.values.Value.{Value}
 use Rattle.sg_logic.specs.declared.values.Value.TheVariants.{X}
 use Rattle.sg_logic.specs.Values.{is_same}
 use Rattle.sg_model.specs.Values.{value_at}
 use Rattle.sg_model.specs.Time.{any_differs}
-use Rattle.sg_circuit.specs.FanOut.{IsFanOut}
+use Rattle.sg_circuit.specs.FanOut.{has, readers_at, readers_from, IsFanOut}
 use Rattle.sg_circuit.proofs.SeenLaws.{map-mapped}
 use Rattle.fan_round.specs.Lists.{occurrences, IsListOf}
 use Rattle.fan_round.specs.Nets.{differs}
 use Rattle.sim_times.specs.Watching.{AreDifferences, net_change}
-use Rattle.fan_round.specs.Work.{has_changed, AreMarked, IsWorkOf}
-use Rattle.fan_round.proofs.WorkLaws.{marked-within}
-use Rattle.fan_round.proofs.ListLaws.{occurs_later}
+use Rattle.fan_round.specs.Work.{with_marks, with_readers, AreReaders}
+use Rattle.fan_round.proofs.WorkIsExact.{are_readers, marks_are}
+use Rattle.fan_round.proofs.ListLaws.{occurs_later, test_other, test_same}
 use Rattle.time_checks.specs.declared.changes.Change.{Change}
-use Rattle.wave_out.specs.Changes.{bits_change, changes_text, work_text, IsBlock}
+use Rattle.wave_out.specs.Changes.{bits_change, changes_text, text_if, work_text, IsBlock}
 use Rattle.wave_out.specs.Lines.{bits_line, later_text}
+use Rattle.wave_out.specs.Marks.{trues}
 use Rattle.wave_out.specs.Texts.{by_number}
 use Rattle.wave_out.specs.Vcd.{time_line}
-use Rattle.wave_out.proofs.SortedLaws.{kept, kept_at, kept_nothing, kept_rises, kept_some, kept_texts, list-moved, sorted_same}
+use Rattle.wave_out.proofs.KeptLaws.{kept, kept_nothing, kept_same, kept_some, kept_texts, marks_kept}
+use Rattle.wave_out.proofs.MarkLaws.{none_below, set_below, trues_below, AreBelow}
 
--- the block of a list in order
-pub sorted_text : (time : ℕ) (bits : List (List ℕ)) (old new : List Value) (ws : List ℕ) → IsListOf (has_changed old new bits) ws → IsNonDecreasing ws → work_text time bits new ws ≡ changes_text time bits old new
-sorted_text time bits old new ws h up = ap (work_text time bits new) same ∙ at ks refl
+-- the block of the variables that pass
+kept_text : (time : ℕ) (bits : List (List ℕ)) (old new : List Value) → work_text time bits new (kept (any_differs old new) 0 bits) ≡ changes_text time bits old new
+kept_text time bits old new = at ks refl
   where
     t : List ℕ → Bool
     t = any_differs old new
 
     ks : List ℕ
     ks = kept t 0 bits
-
-    same : ws ≡ ks
-    same = sorted_same ws ks up (kept_rises t 0 bits) (λ k. h.each k ∙ sym (kept_at t k 0 k bits refl (sym (zero-add k))))
 
     at : (xs : List ℕ) → ks ≡ xs → work_text time bits new xs ≡ changes_text time bits old new
     at [] e = ap (λ b. if b then Some (time_line time ++ by_number (bits_change old new) 0 bits) else None) (sym (kept_nothing t 0 bits e))
@@ -61,16 +60,6 @@ any_short n old new [] h = refl
 any_short n old new (b ∷ bs) h =
     ap (λ c. c || any_differs (take n old) (take n new) bs) (short_differs n b old new (All-head (λ b. b < n) b bs h))
     ∙ ap (λ c. differs old new b || c) (any_short n old new bs (All-tail (λ b. b < n) b bs h))
-
-has_short : (n : ℕ) (old new : List Value) (bits : List (List ℕ)) → All (λ bs. All (λ b. b < n) bs) bits → (e : ℕ) → has_changed (take n old) (take n new) bits e ≡ has_changed old new bits e
-has_short n old new bits h e = at (within e (length bits))
-  where
-    within : (a b : ℕ) → (a < b) ⊎ (b ≤ a)
-    within a b = grind arith
-
-    at : (e < length bits) ⊎ (length bits ≤ e) → has_changed (take n old) (take n new) bits e ≡ has_changed old new bits e
-    at (inl l) = any_short n old new (get_or bits e []) (h e [] l)
-    at (inr past) = ap (any_differs (take n old) (take n new)) (get_or_past bits e [] past) ∙ sym (ap (any_differs old new) (get_or_past bits e [] past))
 
 -- the nets below a number are those that differ there
 occurs_below : (n k : ℕ) (ns : List ℕ) → k < n → occurrences k (filter (λ x. nat_lt x n) ns) ≡ occurrences k ns
@@ -97,26 +86,104 @@ known_nets n old new ns h = record { each = λ k. at k (within k n) }
     at k (inl l) = occurs_below n k ns l ∙ (h.each k ∙ ap (λ b. if b then 1 else 0) (sym (short_differs n k old new l)))
     at k (inr l) = occurs_past n k ns l ∙ ap (λ b. if b then 1 else 0) (sym (past_differs n k old new l))
 
-pub known_within : (n m : ℕ) (ns seen : List ℕ) → seen ≡ filter (λ x. nat_lt x n) ns → m ≡ n → All (λ x. x < m) seen
-known_within n m ns seen e same = subst (λ xs. All (λ x. x < m) xs) (sym e) (λ i d l. (let h : nat_lt (get_or (filter (λ x. nat_lt x n) ns) i d) n ≡ true = filter_passes (λ x. nat_lt x n) ns i d l in grind (arith, nat_tests)))
+-- the nets that changed, of so many
+abbrev pub known : ℕ → List Change → List ℕ
+known n changed = filter (λ x. nat_lt x n) (map (λ c. c.net) changed)
 
--- the variables that are listed are those that differ
-pub listed_variables : (n marks : ℕ) (bits index : List (List ℕ)) (changed : List Change) (seen work : List ℕ) (old new : List Value) → All (λ bs. All (λ b. b < n) bs) bits → IsFanOut bits index → length bits ≡ marks
-    → seen ≡ filter (λ x. nat_lt x n) (map (λ c. c.net) changed) → IsWorkOf index seen marks work → AreDifferences old new (map net_change changed) → IsListOf (has_changed old new bits) work
-listed_variables n marks bits index changed seen work old new within fan many e w d =
-    let nets : IsListOf (differs old new) (map (λ c. c.net) changed) = subst (λ ns. IsListOf (differs old new) ns) (map-mapped (λ c. c.net) net_change changed) d.nets in
-    let some : IsListOf (has_changed (take n old) (take n new) bits) work =
-    (w.each bits (take n old) (take n new) fan many (subst (λ ns. IsListOf (differs (take n old) (take n new)) ns) (sym e) (known_nets n old new (map (λ c. c.net) changed) nets))).0 in
-    record { each = λ k. some.each k ∙ ap (λ b. if b then 1 else 0) (has_short n old new bits within k) }
+known_within : (n k : ℕ) (ns : List ℕ) → has k (filter (λ x. nat_lt x n) ns) ≡ true → k < n
+known_within n k [] h = cc
+known_within n k (x ∷ xs) h = (elim (nat_lt x n) as (λ b. nat_lt x n ≡ b → has k (if b then (x ∷ filter (λ y. nat_lt y n) xs) else filter (λ y. nat_lt y n) xs) ≡ true → k < n) [
+  | true ↦ λ e f. elim (cases_eq x k) [
+    | inl same ↦ (let l : x < n = grind (arith, nat_tests) in omega arith)
+    | inr other ↦ known_within n k xs (sym (ap (λ b. b || has k (filter (λ y. nat_lt y n) xs)) (test_other x k other)) ∙ f)
+  ]
+  | false ↦ λ e f. known_within n k xs f
+]) refl h
 
-pub is_block : {V E : Type 0} (items : V → List ℕ) (time n marks : ℕ) (bits index : List (List ℕ)) (changed : List Change) (seen work ws : List ℕ) (new : List Value) (r : Result (Option V) E)
-    → All (λ bs. All (λ b. b < n) bs) bits → IsFanOut bits index → length bits ≡ marks → seen ≡ filter (λ x. nat_lt x n) (map (λ c. c.net) changed) → IsWorkOf index seen marks work → IsPermutation work ws → IsNonDecreasing ws
-    → IfOk r (λ block. option_map items block ≡ work_text time bits new ws) → IfOk r (λ block. IsBlock time bits (map net_change changed) new (option_map items block))
-is_block items time n marks bits index changed seen work ws new (Ok block) within fan many e w p up h = record {
-  each = λ old d. h ∙ sorted_text time bits old new ws (list-moved (has_changed old new bits) work ws p (listed_variables n marks bits index changed seen work old new within fan many e w d)) up;
+-- things without inputs behind the others read nothing
+no_readers : (net k n : ℕ) → readers_from net k (replicate n []) ≡ []
+no_readers net k zero = refl
+no_readers net k (suc n) = no_readers net (suc k) n
+
+readers_behind : (net k n : ℕ) (bits : List (List ℕ)) → readers_from net k (bits ++ replicate n []) ≡ readers_from net k bits
+readers_behind net k n [] = no_readers net k n
+readers_behind net k n (b ∷ bs) = ap (λ ks. if has net b then (k ∷ ks) else ks) (readers_behind net (suc k) n bs)
+
+-- the marks of the variables with a net that changed are those of the variables that differ
+marks_differ : (n m : ℕ) (bits index : List (List ℕ)) (changed : List Change) (start marks : List Bool) (old new : List Value) → All (λ bs. All (λ b. b < n) bs) bits → IsFanOut bits index → n ≡ length index → length bits ≤ m
+    → start ≡ replicate m false → marks ≡ with_readers index (known n changed) start → AreDifferences old new (map net_change changed) → trues 0 marks ≡ kept (any_differs old new) 0 bits
+marks_differ n m bits index changed start marks old new within fan many room clear e d =
+    ap (trues 0) same ∙ (marks_kept t 0 (m - length bits) bits refl ∙ kept_same t (any_differs old new) 0 bits (λ i b l. any_short n old new (get_or bits i b) (within i b l)))
+  where
+    t : List ℕ → Bool
+    t = any_differs (take n old) (take n new)
+
+    all : List (List ℕ)
+    all = bits ++ replicate (m - length bits) []
+
+    long : m ≡ length all
+    long = let a : length all ≡ length bits + length (replicate {A = List ℕ} (m - length bits) []) = length-append bits (replicate (m - length bits) []) in
+        let b : length (replicate {A = List ℕ} (m - length bits) []) ≡ m - length bits = length-replicate (m - length bits) [] in
+        omega arith
+
+    nets : IsListOf (differs old new) (map (λ c. c.net) changed)
+    nets = subst (λ ns. IsListOf (differs old new) ns) (map-mapped (λ c. c.net) net_change changed) d.nets
+
+    same : marks ≡ map t all
+    same =
+        e ∙ (ap (λ ms. with_readers index (known n changed) ms) (clear ∙ ap (λ k. replicate k false) long)
+        ∙ marks_are (take n old) (take n new) all index (known n changed) (record { each = λ net l. fan.each net l ∙ sym (readers_behind net 0 (m - length bits) bits) })
+        (known_nets n old new (map (λ c. c.net) changed) nets) (λ k h. (let l : k < n = known_within n k (map (λ c. c.net) changed) h in omega arith)))
+
+pub is_block : (time n m : ℕ) (bits index : List (List ℕ)) (changed : List Change) (start marks : List Bool) (new : List Value) (some : Bool) (text : List ℕ) → All (λ bs. All (λ b. b < n) bs) bits → IsFanOut bits index
+    → n ≡ length index → length bits ≤ m → start ≡ replicate m false → marks ≡ with_readers index (known n changed) start → text_if some text ≡ work_text time bits new (trues 0 marks)
+    → IsBlock time bits (map net_change changed) new (text_if some text)
+is_block time n m bits index changed start marks new some text within fan many room clear e h = record {
+  each = λ old d. h ∙ (ap (work_text time bits new) (marks_differ n m bits index changed start marks old new within fan many room clear e d) ∙ kept_text time bits old new);
 }
-is_block items time n marks bits index changed seen work ws new (Err why) within fan many e w p up h = h
 
--- only variables are listed
-pub listed_within : (n : ℕ) (marks : List Bool) (work : List ℕ) → AreMarked marks work → length marks ≡ n → All (λ k. k < n) work
-listed_within n marks work h e = λ i d l. (let m : get_or work i d < length marks = marked-within marks work i d h l in omega arith)
+-- one net more
+filter_push : (p : ℕ → Bool) (xs : List ℕ) (x : ℕ) → filter p (xs ++ x ∷ []) ≡ filter p xs ++ (if p x then (x ∷ []) else [])
+filter_push p [] x = refl
+filter_push p (y ∷ ys) x = elim (p y) as (λ b. (if b then (y ∷ filter p (ys ++ x ∷ [])) else filter p (ys ++ x ∷ [])) ≡ (if b then (y ∷ filter p ys) else filter p ys) ++ (if p x then (x ∷ []) else [])) [
+  | true ↦ ap (λ zs. y ∷ zs) (filter_push p ys x)
+  | false ↦ filter_push p ys x
+]
+
+readers_append : (fan : List (List ℕ)) (ns ms : List ℕ) (marks : List Bool) → with_readers fan (ns ++ ms) marks ≡ with_readers fan ms (with_readers fan ns marks)
+readers_append fan [] ms marks = refl
+readers_append fan (n ∷ ns) ms marks = readers_append fan ns ms (with_marks (readers_at fan n) marks)
+
+pub net_marked : (fan : List (List ℕ)) (n i : ℕ) (changed : List Change) (d : Change) (start mid new : List Bool) → i < length changed
+    → new ≡ (if nat_lt (get_or changed i d).net n then with_marks (readers_at fan (get_or changed i d).net) mid else mid) → mid ≡ with_readers fan (known n (take i changed)) start → new ≡ with_readers fan (known n (take (i + 1) changed)) start
+net_marked fan n i changed d start mid new l e h =
+    e ∙ (one (nat_lt net n) ∙ (ap (with_readers fan (if nat_lt net n then (net ∷ []) else [])) h
+    ∙ (sym (readers_append fan (known n (take i changed)) (if nat_lt net n then (net ∷ []) else []) start)
+    ∙ ap (λ ns. with_readers fan ns start) (sym (ap (filter (λ x. nat_lt x n)) (map_more (λ c. c.net) changed i d l) ∙ filter_push (λ x. nat_lt x n) (map (λ c. c.net) (take i changed)) net)))))
+  where
+    net : ℕ
+    net = (get_or changed i d).net
+
+    one : (b : Bool) → (if b then with_marks (readers_at fan net) mid else mid) ≡ with_readers fan (if b then (net ∷ []) else []) mid
+    one true = refl
+    one false = refl
+
+-- only variables are marked
+marks_below : (n : ℕ) (es : List ℕ) (ms : List Bool) → All (λ e. e < n) es → AreBelow n ms → AreBelow n (with_marks es ms)
+marks_below n [] ms h b = b
+marks_below n (e ∷ es) ms h b = marks_below n es (slice_set ms e true) (All-tail (λ x. x < n) e es h) (set_below n e ms (All-head (λ x. x < n) e es h) b)
+
+readers_below : (n : ℕ) (fan : List (List ℕ)) (nets : List ℕ) (ms : List Bool) → AreReaders fan n → AreBelow n ms → AreBelow n (with_readers fan nets ms)
+readers_below n fan [] ms r b = b
+readers_below n fan (net ∷ nets) ms r b = readers_below n fan nets (with_marks (readers_at fan net) ms) r (marks_below n (readers_at fan net) ms (r.each net) b)
+
+pub marked_within : (m : ℕ) (bits index : List (List ℕ)) (nets : List ℕ) (start marks : List Bool) → IsFanOut bits index → start ≡ replicate m false → marks ≡ with_readers index nets start → All (λ k. k < length bits) (trues 0 marks)
+marked_within m bits index nets start marks fan clear e =
+    trues_below (length bits) 0 marks (λ i h. (let l : i < length bits = below i (sym (ap (λ ms. get_or ms i false) e) ∙ h) in omega arith))
+  where
+    below : AreBelow (length bits) (with_readers index nets start)
+    below = readers_below (length bits) index nets start (are_readers bits index (length bits) fan refl) (subst (AreBelow (length bits)) (sym clear) (none_below (length bits) m))
+
+-- there are marks for all of them
+pub readers_within : (bits index : List (List ℕ)) (m : ℕ) → IsFanOut bits index → length bits ≤ m → AreReaders index m
+readers_within bits index m fan l = let r = are_readers bits index (length bits) fan refl in record { each = λ net i d k. (let b : get_or (readers_at index net) i d < length bits = r.each net i d k in omega arith) }

@@ -1,12 +1,15 @@
 -- The modules of this folder.
 pub mod CodeLaws
+pub mod MarkLaws
+pub mod LineLaws
 pub mod TextLaws
 pub mod ListLaws
 pub mod WalkLaws
 pub mod ScopeLaws
 pub mod HeaderLaws
 pub mod BlockLaws
-pub mod SortedLaws
+pub mod KeptLaws
+pub mod ListingLaws
 pub mod ChangeLaws
 pub mod BitLaws
 pub mod ShownLaws

@@ -2,12 +2,12 @@
 use Rattle.std.proofs.Common.{◌≡◌, ◌∙◌, sym, ap, subst, refl, ℕ, List, [], ◌∷◌, ◌++◌, map, append_assoc, inl, inr}
 use Rattle.std.proofs.lemmas.List.{append-nil}
 use Rattle.std.proofs.lemmas.List.Elements.{All-cons, All-head, All-nil, All-tail}
-use Rattle.std.specs.Prelude.{◌<◌, ◌⊎◌, All, Option, Some, None, Result, Ok, Err, OnErr, OnOk}
+use Rattle.std.specs.Prelude.{◌<◌, ◌⊎◌, All, Bool, true, Option, Some, None, Result, Ok, Err, OnErr, OnOk}
 use Rattle.sg_io.specs.Files.{File, Appends}
 use Rattle.sg_io.specs.declared.outside.ShelfError.{ShelfError}
 use Rattle.sg_circuit.specs.Circuit.{Circuit}
 use Rattle.sim_times.specs.Watching.{AreTruthful, Call}
-use Rattle.wave_out.specs.Changes.{IsText}
+use Rattle.wave_out.specs.Changes.{text_if, IsText}
 use Rattle.wave_out.specs.Files.{FileBegins, FileHolds}
 use Rattle.wave_out.specs.Scopes.{variables_of}
 use Rattle.wave_out.specs.Vcd.{dump_text, header}
@@ -56,6 +56,10 @@ text_grows : (circuit : Circuit) (calls : List Call) (c : Call) → (rest : List
 text_grows circuit calls c =
     let g = grows (variables_of circuit) calls c in
     (g.0, ap (λ t. header circuit ++ t) g.1 ∙ sym (append_assoc (header circuit) (dump_text (dump_after (variables_of circuit) None calls)) g.0))
+
+-- a text that there is
+pub some_text : (some : Bool) (made text : List ℕ) → some ≡ true → text ≡ made → text_if some made ≡ Some text
+some_text some made text e same = ap (λ b. text_if b made) e ∙ ap Some (sym same)
 
 -- a text that was added, or only in part
 pub puts_whole : (c : Call) (w before w' : Writer) (old new : Option (List File)) (text : Option (List ℕ)) (t : List ℕ) → w ≡ before → text ≡ Some t → IsTextOf w c text → Appends w.name t old new (Ok tt) → w' ≡ record w { last = Some c.time }

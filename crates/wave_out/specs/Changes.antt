@@ -1,5 +1,5 @@
 -- Words of the functions that write a later block from the nets that changed.
-use Rattle.std.specs.Prelude.{◌≡◌, ◌==◌, ℕ, List, [], ◌∷◌, ◌++◌, Option, Some, None, if◌then◌else◌}
+use Rattle.std.specs.Prelude.{◌≡◌, ◌==◌, ℕ, List, [], ◌∷◌, ◌++◌, Bool, Option, Some, None, if◌then◌else◌}
 use Rattle.std.specs.List.{list_any}
 use Rattle.sg_logic.specs.declared.values.Value.{Value}
 use Rattle.sg_model.specs.Time.{any_differs}
@@ -24,6 +24,10 @@ work_text time bits values (k ∷ ks) = Some (later_text time bits (k ∷ ks) va
 -- the block is that of the variables that differ, whatever the values before were of which the changes tell
 pub record IsBlock (time : ℕ) (bits : List (List ℕ)) (changed : List NetChange) (values : List Value) (block : Option (List ℕ)) : Type 0 where
   pub each : (before : List Value) → AreDifferences before values changed → block ≡ changes_text time bits before values
+
+-- a text, if there is one
+abbrev pub text_if : Bool → List ℕ → Option (List ℕ)
+text_if some text = if some then Some text else None
 
 -- what a call adds after a time that was written last, if any
 abbrev pub IsText : Option ℕ → ℕ → List (List ℕ) → List NetChange → List Value → Option (List ℕ) → Type 0

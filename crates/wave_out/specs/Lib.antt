@@ -4,6 +4,9 @@ pub mod Scopes
 pub mod Vcd
 pub mod Walk
 pub mod Lines
+pub mod Ready
+pub mod Marks
+pub mod Listing
 pub mod Changes
 pub mod Files
 pub mod Shown

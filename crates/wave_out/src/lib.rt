@@ -5,6 +5,8 @@ mod blocks;
 mod changes;
 mod header;
 mod laws;
+mod lines;
+mod marks;
 mod scopes;
 mod shown;
 mod variables;

@@ -7,7 +7,7 @@ ghost use Rattle.wave_out.specs.Vcd.{header};
 
 use crate::header::header_of;
 use crate::scopes::visits_of;
-use crate::shown::{Shown, shown_of, text_of};
+use crate::shown::{Shown, make_text, shown_of};
 use cond_expr::Nets;
 use sg_circuit::Circuit;
 use sg_io::{Shelf, ShelfError};
@@ -22,10 +22,11 @@ use time_checks::Change;
 /// the variables that have them in order.
 #[derive(Drop)]
 pub struct VcdWriter<'a> {
-    alloc: Global,
     circuit: &'a Circuit,
     name: &'a str,
     shown: Shown,
+    // the text of a call, while it is served
+    text: Vec<u8>,
     // the time that was written last
     last: Option<u64>,
 }
@@ -70,10 +71,10 @@ impl<'a> VcdWriter<'a> {
         shelf.create(name)?;
         shelf.append(name, &header)?;
         Ok(VcdWriter {
-            alloc,
             circuit,
             name,
             shown,
+            text: Vec::new(alloc),
             last: None,
         })
     }
@@ -94,8 +95,8 @@ impl<'a> VcdWriter<'a> {
         ensures cause { Cause (S.fault_count shelf.old) (S.fault_count shelf.new) result }
         ensures named { NamesFault self.old.name (S.last_fault shelf.old) (S.last_fault shelf.new) result }
     {
-        let text = text_of(
-            self.alloc,
+        let some = make_text(
+            &mut self.text,
             self.circuit,
             &mut self.shown,
             self.last,
@@ -103,10 +104,10 @@ impl<'a> VcdWriter<'a> {
             changed,
             nets,
         )?;
-        let Some(text) = text else {
+        if !some {
             return Ok(());
-        };
-        shelf.append(self.name, &text)?;
+        }
+        shelf.append(self.name, &self.text)?;
         self.last = Some(time);
         Ok(())
     }
@@ -157,10 +158,10 @@ impl<'a> RestWriter<'a> {
         shelf.create(name)?;
         Ok(RestWriter {
             writer: VcdWriter {
-                alloc,
                 circuit,
                 name,
                 shown,
+                text: Vec::new(alloc),
                 last: Some(time),
             },
         })

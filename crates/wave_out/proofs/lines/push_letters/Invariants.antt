@@ -1,6 +1,6 @@
 use Rattle.std.proofs.Common.{◌≡◌, ◌++◌, map, take}
 use Rattle.wave_out.specs.Vcd.{value_letter, values_at}
-use Rattle.wave_out.proofs.blocks.push_letters.Given as goal
+use Rattle.wave_out.proofs.lines.push_letters.Given as goal
 
 -- the letters of the bits so far
 abbrev pub invariant-loop-net : goal.invariant-loop-net

@@ -1,6 +1,6 @@
 use Rattle.std.proofs.Common.{refl, get_or}
 use Rattle.wave_out.proofs.BlockLaws.{letters_more}
-use Rattle.wave_out.proofs.blocks.push_letters.Goals as goal
+use Rattle.wave_out.proofs.lines.push_letters.Goals as goal
 
 pub loop-net-preserved : goal.loop-net-preserved
 loop-net-preserved g c =
