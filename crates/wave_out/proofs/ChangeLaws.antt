@@ -1,5 +1,5 @@
 -- A block that is written from the nets that changed has the variables that differ.
-use Rattle.std.proofs.Common.{◌≡◌, ◌∙◌, sym, ap, refl, subst, ℕ, zero, suc, ◌+◌, ◌-◌, ◌*◌, ◌<◌, ◌≤◌, List, [], ◌∷◌, ◌++◌, length, take, get_or, map, arith, zero-add, inl, inr}
+use Rattle.std.proofs.Common.{◌≡◌, ◌∙◌, sym, ap, refl, subst, ℕ, zero, suc, ◌+◌, ◌-◌, ◌<◌, ◌≤◌, List, [], ◌∷◌, ◌++◌, length, take, get_or, map, arith, zero-add, inl, inr}
 use Rattle.std.specs.Prelude.{◌==◌, ◌⊎◌, ◌||◌, Bool, true, false, not, nat_lt, min, if◌then◌else◌, All, Some, None, replicate, slice_set}
 use Rattle.std.specs.List.{filter}
 use Rattle.std.proofs.lemmas.Bool.{cases_eq}
@@ -18,7 +18,7 @@ use Rattle.fan_round.specs.Nets.{differs}
 use Rattle.sim_times.specs.Watching.{AreDifferences, net_change}
 use Rattle.fan_round.specs.Work.{with_marks, with_readers, AreReaders}
 use Rattle.fan_round.proofs.WorkIsExact.{are_readers, marks_are}
-use Rattle.fan_round.proofs.ListLaws.{occurs_later, test_other, test_same}
+use Rattle.fan_round.proofs.ListLaws.{occurs_later, test_other}
 use Rattle.time_checks.specs.declared.changes.Change.{Change}
 use Rattle.wave_out.specs.Changes.{bits_change, changes_text, text_if, work_text, IsBlock}
 use Rattle.wave_out.specs.Lines.{bits_line, later_text}

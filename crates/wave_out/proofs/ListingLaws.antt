@@ -1,19 +1,15 @@
 -- Blocks that grow while the marks of their variables are taken.
-use Rattle.std.proofs.Common.{◌≡◌, ◌∙◌, sym, ap, refl, subst, ℕ, suc, ◌+◌, ◌*◌, ◌<◌, ◌≤◌, List, [], ◌∷◌, ◌++◌, length, get_or, arith, append_assoc, inl, inr}
-use Rattle.std.specs.Prelude.{Bool, true, false, nat_lt, if◌then◌else◌, All, Some, None, replicate}
-use Rattle.std.proofs.lemmas.Bool.{cases_eq}
-use Rattle.std.proofs.lemmas.Bool.Decides.{nat_tests}
-use Rattle.std.proofs.lemmas.List.{append-nil, length-append}
+use Rattle.std.proofs.Common.{◌≡◌, ◌∙◌, sym, ap, subst, ℕ, ◌+◌, ◌*◌, ◌<◌, ◌≤◌, List, [], ◌∷◌, ◌++◌, length, get_or, arith, append_assoc}
+use Rattle.std.specs.Prelude.{false, All, replicate}
+use Rattle.std.proofs.lemmas.List.{append-nil}
 use Rattle.std.proofs.lemmas.List.Concat.{flat_map-append}
 use Rattle.std.proofs.lemmas.List.Elements.{All-head, All-tail}
 use Rattle.sg_logic.specs.declared.values.Value.{Value}
 use Rattle.wave_out.specs.declared.marks.Marks.{Marks}
-use Rattle.wave_out.specs.Changes.{text_if, work_text}
 use Rattle.wave_out.specs.Lines.{bits_line, lines_of}
 use Rattle.wave_out.specs.Listing.{HasListed}
 use Rattle.wave_out.specs.Marks.{bools, listed, seen, trues, AreClear, AreMarks, IsDone}
-use Rattle.wave_out.specs.Vcd.{code, time_line, value_text, values_at}
-use Rattle.wave_out.proofs.ListLaws.{All-first, All-second}
+use Rattle.wave_out.proofs.ListLaws.{All-second}
 use Rattle.wave_out.proofs.MarkLaws.{clear_all_words, no_marks, seen_none, trues_none}
 
 lines_append : (bits : List (List ℕ)) (values : List Value) (xs ys : List ℕ) → lines_of bits (xs ++ ys) values ≡ lines_of bits xs values ++ lines_of bits ys values
@@ -37,13 +33,7 @@ pub left_none : (bits : List (List ℕ)) (values : List Value) (first left : ℕ
 left_none bits values first left text whole e h =
     sym (append-nil text) ∙ (ap (λ ks. text ++ lines_of bits ks values) (sym (ap (λ w. trues first (bools 64 w)) e ∙ no_marks first)) ∙ h)
 
--- a group: at its beginning, after one word more, and at its end
-pub listed_start : (bits : List (List ℕ)) (values : List Value) (groups : ℕ) (m : Marks) (text : List ℕ) → AreMarks m → IsDone groups m → All (λ k. k < length bits) (listed m) → HasListed bits values groups m m text text
-listed_start bits values groups m text marks done within = record { marks = marks; done = done; within = within; text = refl }
-
-pub word_within : (bits : List (List ℕ)) (first word : ℕ) (all others : List ℕ) → all ≡ trues first (bools 64 word) ++ others → All (λ k. k < length bits) all → All (λ k. k < length bits) (trues first (bools 64 word))
-word_within bits first word all others e h = All-first (λ k. k < length bits) (trues first (bools 64 word)) others (subst (λ ks. All (λ k. k < length bits) ks) e h)
-
+-- one word more of a group, and the end of all
 pub listed_word : (bits : List (List ℕ)) (values : List Value) (groups first word : ℕ) (old m m' : Marks) (before text more : List ℕ) → AreMarks m' → IsDone groups m' → listed m ≡ trues first (bools 64 word) ++ listed m'
     → more ≡ text ++ lines_of bits (trues first (bools 64 word)) values → HasListed bits values groups old m before text → HasListed bits values groups old m' before more
 listed_word bits values groups first word old m m' before text more marks done e line h = record {
@@ -56,43 +46,9 @@ listed_word bits values groups first word old m m' before text more marks done e
       ∙ (ap (λ ks. text ++ lines_of bits ks values) (sym e) ∙ h.text)));
 }
 
-pub listed_group : (bits : List (List ℕ)) (values : List Value) (g : ℕ) (old m : Marks) (before text : List ℕ) → get_or m.groups.items g 0 ≡ 0 → HasListed bits values g old m before text → HasListed bits values (g + 1) old m before text
-listed_group bits values g old m before text e h = record {
-  marks = h.marks;
-  done = λ j l. elim (cases_eq j g) [
-    | inl same ↦ ap (λ n. get_or m.groups.items n 0) same ∙ e
-    | inr other ↦ h.done j (omega arith)
-  ];
-  within = h.within;
-  text = h.text;
-}
-
--- one group after others
-pub listed_next : (bits : List (List ℕ)) (values : List Value) (g g' : ℕ) (old m m' : Marks) (before text more : List ℕ) → HasListed bits values g old m before text → HasListed bits values g' m m' text more → HasListed bits values g' old m' before more
-listed_next bits values g g' old m m' before text more h k = record { marks = k.marks; done = k.done; within = k.within; text = k.text ∙ h.text }
-
 pub listed_all : (bits : List (List ℕ)) (values : List Value) (g : ℕ) (old m : Marks) (before text : List ℕ) → length m.groups.items ≤ g → HasListed bits values g old m before text → text ≡ before ++ lines_of bits (listed old) values
 listed_all bits values g old m before text l h =
     sym (append-nil text) ∙ (ap (λ ks. text ++ lines_of bits ks values) (sym (trues_none 0 m.words.items (clear_all_words m h.marks (λ j k. h.done j (omega arith))))) ∙ h.text)
-
-pub listed_done : (bits : List (List ℕ)) (values : List Value) (g : ℕ) (old m : Marks) (before text : List ℕ) → length m.groups.items ≤ g → HasListed bits values g old m before text → IsDone (length m.groups.items) m
-listed_done bits values g old m before text l h = λ j k. h.done j (omega arith)
-
--- a block has a line where it has a variable
-pub block_made : (time before after : ℕ) (bits : List (List ℕ)) (values : List Value) (ks start text : List ℕ) → start ≡ time_line time → text ≡ start ++ lines_of bits ks values → before ≡ length start → after ≡ length text
-    → text_if (nat_lt before after) text ≡ work_text time bits values ks
-block_made time before after bits values [] start text s e b a =
-    let same : length text ≡ length start = ap length (e ∙ append-nil start) in
-    let no : nat_lt before after ≡ false = grind (arith, nat_tests) in
-    ap (λ c. text_if c text) no
-block_made time before after bits values (k ∷ ks) start text s e b a =
-    let long : length text ≡ length start + length (lines_of bits (k ∷ ks) values) = ap length e ∙ length-append start (lines_of bits (k ∷ ks) values) in
-    let some : 0 < length (lines_of bits (k ∷ ks) values) = subst (λ n. 0 < n) (sym (length-append (bits_line values k (get_or bits k [])) (lines_of bits ks values))) (omega (arith, one)) in
-    let yes : nat_lt before after ≡ true = grind (arith, nat_tests) in
-    ap (λ c. text_if c text) yes ∙ ap Some (e ∙ ap (λ t. t ++ lines_of bits (k ∷ ks) values) s)
-  where
-    one : 0 < length (bits_line values k (get_or bits k []))
-    one = omega (arith, length-append (value_text (values_at (get_or bits k []) values) ++ code k) (10 ∷ []))
 
 -- where nothing is marked
 pub clear_seen : (count : ℕ) (m : Marks) → AreClear count m → seen m.words.items ≡ replicate (64 * length m.words.items) false

@@ -8,7 +8,7 @@ use Rattle.std.proofs.lemmas.List.Elements.{All-cons, All-nil}
 use Rattle.std.proofs.lemmas.Nat.{and_le_l}
 use Rattle.std.proofs.lemmas.Nat.Bits.{bit_at_lowest, bit_at-suc, bit_at-zero, bit_at_set_same, bit_at_set_other, bit_at_clear_same, bit_at_clear_other}
 use Rattle.wave_out.specs.declared.marks.Marks.{Marks}
-use Rattle.wave_out.specs.Marks.{bools, seen, trues, word_bit, AreClear, AreMarks, IsDone, IsSized}
+use Rattle.wave_out.specs.Marks.{bools, seen, trues, word_bit, AreMarks, IsDone, IsSized}
 
 -- the bits of a word
 pub length_bools : (n w : ℕ) → length (bools n w) ≡ n
@@ -257,14 +257,6 @@ marks_left m m' g b left rest l n is set others gone e f h = record { sized = si
     within : (j : ℕ) → (j ≡ g * 64 + b) ⊎ (j ≢ g * 64 + b) → word_bit m'.groups.items j ≡ 1 → j < length m'.words.items
     within j (inl same) z = absurd (let zero' : word_bit m'.groups.items j ≡ 0 = ap (word_bit m'.groups.items) same ∙ none in omega arith)
     within j (inr apart) z = subst (λ x. j < x) (sym (ap length e ∙ length-set m.words.items (g * 64 + b) 0)) (h.inside j (sym (kept j apart) ∙ z))
-
--- nothing is marked
-pub clear_words : (m : Marks) → ((j : ℕ) → get_or m.words.items j 0 ≡ 0) → ((j : ℕ) → get_or m.groups.items j 0 ≡ 0) → IsSized m → AreMarks m
-clear_words m h k sized = record {
-  sized = sized;
-  cover = λ j z. h j;
-  inside = λ j z. absurd (let none : word_bit m.groups.items j ≡ 0 = ap (λ x. bit_at x (j % 64)) (k (j / 64)) ∙ bit_at-zero (j % 64) in omega arith);
-}
 
 -- where all groups are 0, no word has a mark
 pub clear_all_words : (m : Marks) → AreMarks m → IsDone (length m.groups.items) m → (j : ℕ) → get_or m.words.items j 0 ≡ 0

@@ -1,5 +1,5 @@
 -- Lines of variables that are ready but for their values.
-use Rattle.std.specs.Prelude.{◌≡◌, ◌==◌, ◌<◌, ◌≤◌, ℕ, List, [], ◌∷◌, ◌++◌, Bool, false, not, length, slice_index_or, take}
+use Rattle.std.specs.Prelude.{◌≡◌, ◌==◌, ◌<◌, ◌≤◌, ℕ, List, [], ◌∷◌, ◌++◌, false, not, length, slice_index_or, take}
 use Rattle.wave_out.specs.Vcd.{code}
 use Rattle.wave_out.specs.declared.lines.Line.{Line}
 

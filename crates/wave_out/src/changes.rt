@@ -189,6 +189,7 @@ pub fn push_changes<N: Nets>(
     match push_block(text, time, marks, lines, variables, nets) {
         Ok(some) => Ok(some),
         Err(error) => {
+            // some marks are left where a line found no memory
             marks.clear();
             Err(error)
         }

@@ -1,4 +1,4 @@
-// Marks of variables, which are found in the order of their numbers.
+// Marks of variables, which are found in the order of their numbers: so a block needs no sort.
 ghost use Rattle.std.specs.Prelude.{◌≡◌, ◌≢◌, ◌++◌, ◌∷◌, ◌+◌, ◌*◌, ◌<◌, ◌≤◌, ℕ, All, IfOk, length, slice_index_or, slice_set, true};
 ghost use Rattle.std.specs.Int.{bit_at};
 ghost use Rattle.wave_out.specs.Marks.{bools, seen, trues, AreClear, AreMarks, IsDone, IsSized};
@@ -23,7 +23,9 @@ pub fn take_bit(word: u64) -> (u32, u64)
 /// Which of some variables are marked: a bit each, and a bit for each word of these that isn't 0.
 #[derive(Drop)]
 pub struct Marks {
+    /// The bits of the variables.
     pub words: Vec<u64>,
+    /// The bits of the words.
     pub groups: Vec<u64>,
 }
 

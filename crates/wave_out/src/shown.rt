@@ -121,7 +121,13 @@ fn push_later<N: Nets>(
 }
 
 // The block of the first time.
-fn push_all<N: Nets>(text: &mut Vec<u8>, circuit: &Circuit, shown: &Shown, time: u64, nets: &N) -> Result<bool, AllocError>
+fn push_all<N: Nets>(
+    text: &mut Vec<u8>,
+    circuit: &Circuit,
+    shown: &Shown,
+    time: u64,
+    nets: &N,
+) -> Result<bool, AllocError>
     requires empty { text.old.items ≡ [] }
     requires shown { IsShown circuit.now shown.now }
     requires values { length circuit.now.nets ≤ length (N.values nets.now) }

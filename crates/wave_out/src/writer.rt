@@ -18,8 +18,8 @@ use time_checks::Change;
 
 /// Writes the value change dump of a circuit's run to a file of a shelf (IEEE 1364-2005, 18). It is a watcher of the run.
 ///
-/// A time that is written takes one call to append, and its cost is in proportion to the nets that changed, and to putting
-/// the variables that have them in order.
+/// A time that is written takes one call to append, and its cost is in proportion to the nets that changed, and to the
+/// groups of 4096 variables.
 #[derive(Drop)]
 pub struct VcdWriter<'a> {
     circuit: &'a Circuit,

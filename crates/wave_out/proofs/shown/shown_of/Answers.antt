@@ -11,6 +11,7 @@ index_of-requires-clause-nets c =
 pub returns : goal.returns
 returns c = record {
   count = c.in_ok-count.ensures.count;
+  few = omega (arith, c.in_ok-count.ensures.count);
   bits = c.in_ok-count.ensures.bits;
   lines = c.in_ok-lines.ensures;
   within = bits_within c.args.circuit.now c.in_ok-count.variables c.parts.ensures.closed c.in_ok-count.ensures.bits;
