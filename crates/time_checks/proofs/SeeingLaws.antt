@@ -3,7 +3,7 @@ use Rattle.std.specs.Prelude.{◌≡◌, ℕ, ℤ, ◌+◌, ◌<◌, Bool, false
 use Rattle.std.specs.List.{flat_map}
 use Rattle.std.specs.List.Sorted.{IsNonDecreasing}
 use Rattle.std.proofs.Common.{sym, ◌∙◌, ap, subst, arith, append_assoc, zero-add}
-use Rattle.std.proofs.lemmas.List.{get_or-map, take_more, append-nil, length-replicate}
+use Rattle.std.proofs.lemmas.List.{take_more, append-nil, length-replicate}
 use Rattle.std.proofs.lemmas.Grind.{flat_map-append}
 use Rattle.sg_logic.specs.declared.values.Value.{Value}
 use Rattle.time_checks.specs.Adjusted.{AdjustedCheck}
@@ -15,11 +15,8 @@ use Rattle.fan_round.specs.Work.{mark_at, AreMarked, with_readers}
 use Rattle.fan_round.proofs.ListLaws.{at_places-more, at_places-other, at_places-each}
 use Rattle.fan_round.proofs.EvaluationLaws.{not_before}
 use Rattle.fan_round.proofs.WorkLaws.{marked-within, length-with_readers}
-use Rattle.time_checks.specs.declared.adjusted.AdjustedCheck as code
-use Rattle.time_checks.specs.declared.events.Events.{Events}
 use Rattle.time_checks.specs.declared.recent.Recent.{Recent}
 use Rattle.time_checks.specs.declared.watches.Watch.{Watch}
-use Rattle.time_checks.specs.AdjustedSeen.{adjusted_seen, all_seen}
 use Rattle.time_checks.specs.declared.violations.Part.{Part}
 use Rattle.time_checks.specs.declared.violations.Part.TheVariants.{Setup, Hold, Recovery, Removal, Width, Period, Skew}
 use Rattle.time_checks.specs.Parts.{parts_of}
@@ -80,24 +77,6 @@ found-none number time check last now latest q =
 -- and the latest times stay
 latest-same : (check : AdjustedCheck) (time : ℕ) (last now : List Value) (latest : Recent) → events_needed check last now ≡ happening false false false → next_of time (events_at check last now) latest ≡ latest
 latest-same check time last now latest q = ap (λ e. next_of time e latest) q
-
--- one check by what is kept of it
-pub see-latest : (checks : List code.AdjustedCheck) (check : code.AdjustedCheck) (last now : List Value) (time number : ℕ) (latest : List Recent) (before after : Recent) (events : Events) → number < length checks → check ≡ slice_index_or checks number check
-    → before ≡ latest_at latest number → events ≡ events_needed (adjusted_seen check) last now → after ≡ next_of time events before → after ≡ next_at (all_seen checks) last now time number (latest_at latest number)
-see-latest checks check last now time number latest before after events l is b e a =
-    let here : check_at (all_seen checks) number ≡ adjusted_seen check = get_or-map adjusted_seen checks number check _ l ∙ ap adjusted_seen (sym is) in
-    a ∙ (ap (λ es. next_of time es before) e ∙ (ap (next_of time (events_at (adjusted_seen check) last now)) b ∙ ap (λ k. next_of time (events_at k last now) (latest_at latest number)) (sym here)))
-
-pub see-found : (checks : List code.AdjustedCheck) (check : code.AdjustedCheck) (last now : List Value) (time number : ℕ) (latest : List Recent) (before after : Recent) (events : Events) → number < length checks → check ≡ slice_index_or checks number check
-    → before ≡ latest_at latest number → events ≡ events_needed (adjusted_seen check) last now → after ≡ next_of time events before
-    → found_at number (adjusted_seen check) (record { time = time; events = events; before = before; after = after }) ≡ found_in (all_seen checks) last now time latest number
-see-found checks check last now time number latest before after events l is b e a =
-    let seen : AdjustedCheck = adjusted_seen check in
-    let here : check_at (all_seen checks) number ≡ seen = get_or-map adjusted_seen checks number check _ l ∙ ap adjusted_seen (sym is) in
-    ap (λ x. found_at number seen (record { time = time; events = events; before = before; after = x })) a
-    ∙ (ap (λ es. found_at number seen (instant_of time es before)) e
-    ∙ (found-needed number time seen last now before
-    ∙ (ap (λ x. found_at number seen (instant_of time (events_at seen last now) x)) b ∙ ap (λ k. found_at number k (instant_of time (events_at k last now) (latest_at latest number))) (sym here))))
 
 -- what the listed checks found and put is what all would
 pub sees_changes : (checks : List AdjustedCheck) (watches : List Watch) (index : List (List ℕ)) (changed : List ℕ) (last now : List Value) (time : ℕ) (latest latest' : List Recent) (old new : List Violation) (marks : List Bool) (work : List ℕ)

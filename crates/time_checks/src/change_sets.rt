@@ -82,9 +82,9 @@ impl ChangeSet {
     }
 
     /// Whether it has the change of a number.
-    pub fn contains(self, number: u8) -> bool
+    pub fn contains(&self, number: u8) -> bool
         requires { number < 8 }
-        ensures { result ≡ change_in self number }
+        ensures { result ≡ change_in self.now number }
     {
         self.has[number as usize]
     }

@@ -48,7 +48,7 @@ fn enables(condition: &Option<Bound>, values: &[Value]) -> bool
 
 // Whether a change that a terminal looks at is enabled; there is nothing to look up where it is free of conditions.
 fn happens(
-    changes: ChangeSet,
+    changes: &ChangeSet,
     change: u8,
     is_free: bool,
     condition: &Option<Bound>,
@@ -57,13 +57,13 @@ fn happens(
     requires change { change < 8 }
     requires within { IfSome condition.now (λ c. AreBelow (length values.now) c) }
     requires free { is_free ≡ true → is_enabled condition.now values.now ≡ true }
-    ensures { result ≡ (change_in changes change && is_enabled condition.now values.now) }
+    ensures { result ≡ (change_in changes.now change && is_enabled condition.now values.now) }
 {
     changes.contains(change) && (is_free || enables(condition, values))
 }
 
 fn datum_happens(
-    changes: ChangeSet,
+    changes: &ChangeSet,
     change: u8,
     is_free: bool,
     datum: &Option<Event>,
@@ -72,7 +72,7 @@ fn datum_happens(
     requires change { change < 8 }
     requires within { IfSome datum.now (λ event. IfSome event.condition (λ c. AreBelow (length values.now) c)) }
     requires free { is_free ≡ true → IfSome datum.now (λ event. is_enabled event.condition values.now ≡ true) }
-    ensures { result ≡ is_happening changes change datum.now values.now }
+    ensures { result ≡ is_happening changes.now change datum.now values.now }
 {
     match datum {
         Some(event) => happens(changes, change, is_free, &event.condition, values),
@@ -108,13 +108,13 @@ pub fn events_of(
     let datum = change_at(watch.datum, last, values);
     Events {
         refer: happens(
-            watch.refer_changes,
+            &watch.refer_changes,
             refer,
             free,
             &timing.refer.condition,
             values,
         ),
-        datum: datum_happens(watch.datum_changes, datum, free, &timing.datum, values),
+        datum: datum_happens(&watch.datum_changes, datum, free, &timing.datum, values),
         back: watch.back_changes.contains(refer),
     }
 }

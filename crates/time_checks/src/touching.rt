@@ -8,7 +8,7 @@ ghost use Rattle.sg_circuit.specs.Pins.{pins_from, pins_of};
 ghost use Rattle.fan_round.specs.States.{IsIdle};
 ghost use Rattle.fan_round.specs.Work.{with_marks, with_readers, AreMarked, AreReaders};
 ghost use Rattle.time_checks.specs.AdjustedSeen.{adjusted_seen, all_seen};
-ghost use Rattle.time_checks.specs.Watching.{taken_fan, takes};
+ghost use Rattle.time_checks.specs.Watching.{change_number_at, taken_fan, takes};
 ghost use Rattle.time_checks.specs.Within.{terminals, IsCheckWithin};
 
 use crate::adjusted::AdjustedCheck;
@@ -129,6 +129,33 @@ fn mark_all_taken(
     }
 }
 
+// Of these checks, those that look at a net's change between two snapshots; at most nets there is none.
+fn mark_at(
+    numbers: &[u32],
+    net: NetId,
+    last: &[Value],
+    values: &[Value],
+    watches: &[Watch],
+    marks: &mut [bool],
+    list: &mut Vec<u32>,
+)
+    requires net { net < length values.now }
+    requires as_many { length last.now ≡ length values.now }
+    requires numbers { All (λ k. k < length marks.old) numbers.now }
+    requires watches { length watches.now ≡ length marks.old }
+    requires room { length marks.old ≤ vec_capacity list.old }
+    requires marked { AreMarked marks.old list.old.items }
+    ensures marks { marks.new ≡ with_marks (filter (takes watches.now net (change_number_at last.now values.now net)) numbers.now) marks.old }
+    ensures marked { AreMarked marks.new list.new.items }
+    ensures capacity { vec_capacity list.old ≤ vec_capacity list.new }
+{
+    if numbers.is_empty() {
+        return;
+    }
+    let change = change_at(net, last, values);
+    mark_all_taken(numbers, net, change, watches, marks, list);
+}
+
 // The checks that look at the change of one of these nets are marked and listed.
 fn mark_checks(
     changed: &[NetId],
@@ -151,8 +178,7 @@ fn mark_checks(
     ensures capacity { vec_capacity list.old ≤ vec_capacity list.new }
 {
     for net in changed {
-        let change = change_at(*net, last, values);
-        mark_all_taken(index.of(*net), *net, change, watches, marks, list);
+        mark_at(index.of(*net), *net, last, values, watches, marks, list);
     }
 }
 

@@ -10,11 +10,10 @@ pub loop-net-preserved : goal.loop-net-preserved
 loop-net-preserved c =
     let net = slice_index_or c.args.changed.now c.loop-net.net-index 0 in
     record {
-      marks = with_readers-more (taken_fan c.args.watches.now c.args.last.now c.args.values.now c.args.index.now) c.args.changed.now c.loop-net.net-index 0 c.args.marks.now c.loop-net.marks c.mark_all_taken.new.marks c.loop-net-test.true c.loop-net.invariant.marks
-          (c.mark_all_taken.ensures.marks
-          ∙ (ap (λ n. with_marks (filter (takes c.args.watches.now net n) c.of.result.now) c.loop-net.marks) c.change_at-change.ensures.number
+      marks = with_readers-more (taken_fan c.args.watches.now c.args.last.now c.args.values.now c.args.index.now) c.args.changed.now c.loop-net.net-index 0 c.args.marks.now c.loop-net.marks c.mark_at.new.marks c.loop-net-test.true c.loop-net.invariant.marks
+          (c.mark_at.ensures.marks
           ∙ (ap (λ es. with_marks (filter (takes c.args.watches.now net (change_number_at c.args.last.now c.args.values.now net)) es) c.loop-net.marks) c.of.ensures
-          ∙ ap (λ es. with_marks es c.loop-net.marks) (sym (readers-taken c.args.watches.now c.args.last.now c.args.values.now c.args.index.now net (c.requires.nets c.loop-net.net-index 0 c.loop-net-test.true))))));
-      marked = c.mark_all_taken.ensures.marked;
-      capacity = omega (arith, c.mark_all_taken.ensures.capacity, c.loop-net.invariant.capacity);
+          ∙ ap (λ es. with_marks es c.loop-net.marks) (sym (readers-taken c.args.watches.now c.args.last.now c.args.values.now c.args.index.now net (c.requires.nets c.loop-net.net-index 0 c.loop-net-test.true)))));
+      marked = c.mark_at.ensures.marked;
+      capacity = omega (arith, c.mark_at.ensures.capacity, c.loop-net.invariant.capacity);
     }
