@@ -11,7 +11,7 @@ use Rattle.time_checks.specs.Parts.{parts_of}
 use Rattle.time_checks.specs.Times.{grown}
 use Rattle.time_checks.specs.Windows.{Moment, Pair, where_true, later_of, violated}
 use Rattle.time_checks.specs.declared.latest.Latest.{Latest}
-use Rattle.time_checks.specs.Events.{has_opposite, event_times_since, datum_happens, datum_times_since, moment_since}
+use Rattle.time_checks.specs.Events.{event_times_since, datum_happens, datum_times_since, moment_since}
 use Rattle.time_checks.specs.Violations.{all_from, earlier_at, listed, limit_at, window_at, violations_at, violations_since}
 use Rattle.time_checks.specs.Kept.{StandsFor}
 use Rattle.time_checks.specs.Quiet.{StaysSame, IsUntouched, again}

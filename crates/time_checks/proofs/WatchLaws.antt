@@ -1,8 +1,8 @@
 -- What checks look at, by the numbers of changes, is what the definitions say of edges.
-use Rattle.std.specs.Prelude.{◌≡◌, ℕ, ◌+◌, ◌<◌, ◌&&◌, Bool, true, false, List, [], ◌∷◌, ◌++◌, length, map, take, Option, Some, None, IfSome, is_none, slice_index_or, refl}
+use Rattle.std.specs.Prelude.{◌≡◌, ℕ, ◌<◌, ◌&&◌, Bool, true, false, List, [], ◌∷◌, length, map, Option, Some, None, IfSome, is_none, slice_index_or, refl}
 use Rattle.std.specs.Option.{option_map}
 use Rattle.std.proofs.Common.{sym, ◌∙◌, ap, subst}
-use Rattle.std.proofs.lemmas.List.{get_or-map, map_push, take_more}
+use Rattle.std.proofs.lemmas.List.{get_or-map}
 use Rattle.cond_expr.specs.Tree.{Cond}
 use Rattle.cond_expr.specs.Values.{AreBelow}
 use Rattle.sg_logic.specs.declared.edges.Edge.{Edge}
@@ -11,7 +11,6 @@ use Rattle.sg_logic.specs.declared.values.Value.TheVariants.{Zero, One, X, Z}
 use Rattle.sg_circuit.specs.declared.checks.CheckKind.{CheckKind}
 use Rattle.sg_circuit.specs.declared.checks.CheckKind.TheVariants as kind
 use Rattle.sg_circuit.specs.declared.checks.Event.{Event}
-use Rattle.sg_model.specs.Machine.{Violation}
 use Rattle.sg_model.specs.Values.{value_at}
 use Rattle.time_checks.specs.declared.adjusted.AdjustedCheck as code
 use Rattle.time_checks.specs.declared.change_sets.ChangeSet.{ChangeSet}
@@ -26,7 +25,7 @@ use Rattle.time_checks.specs.Events.{has_event, has_opposite, is_enabled, is_of_
 use Rattle.time_checks.specs.Kept.{events_at, found_at, has_datum, instant_of, violated_kept}
 use Rattle.time_checks.specs.Parts.{parts_of}
 use Rattle.time_checks.specs.Violations.{all_from, limit_at, listed, window_at}
-use Rattle.time_checks.specs.Watching.{asks_back, back_set, change_number_at, datum_net, datum_set, events_needed, is_datum_free, is_happening, net_by, no_watch, watch_by}
+use Rattle.time_checks.specs.Watching.{asks_back, back_set, change_number_at, datum_net, datum_set, events_needed, is_datum_free, is_happening, net_by, watch_by}
 use Rattle.time_checks.specs.Within.{IsCheckWithin, IsEventWithin}
 use Rattle.time_checks.proofs.EventLaws.{no_change}
 
@@ -222,15 +221,3 @@ watch-of checks watches number d check e l is =
     twice : (cs : List code.AdjustedCheck) → map (λ c. watch_by c) (all_seen cs) ≡ map (λ c. watch_by (adjusted_seen c)) cs
     twice [] = refl
     twice (c ∷ cs) = ap (λ ws. watch_by (adjusted_seen c) ∷ ws) (twice cs)
-
-pub watches-more : (checks : List code.AdjustedCheck) (i : ℕ) (d : code.AdjustedCheck) (watches new : List Watch) (watch : Watch) → i < length checks → watches ≡ map (λ c. watch_by c) (all_seen (take i checks))
-    → watch ≡ watch_by (adjusted_seen (slice_index_or checks i d)) → new ≡ watches ++ watch ∷ [] → new ≡ map (λ c. watch_by c) (all_seen (take (i + 1) checks))
-watches-more checks i d watches new watch l e w n =
-    n ∙ (ap (λ ws. ws ++ watch ∷ []) e
-    ∙ (ap (λ x. map (λ c. watch_by c) (all_seen (take i checks)) ++ x ∷ []) w
-    ∙ (sym (map_push (λ c. watch_by c) (all_seen (take i checks)) (adjusted_seen (slice_index_or checks i d)))
-    ∙ (ap (map (λ c. watch_by c)) (sym (map_push adjusted_seen (take i checks) (slice_index_or checks i d))) ∙ ap (λ cs. map (λ c. watch_by c) (all_seen cs)) (sym (take_more checks i d l))))))
-
-pub datum-set-seen : (net : ℕ) (datum : Option Event) → datum_set datum ≡ datum_set (option_map (event_at net) datum)
-datum-set-seen net None = refl
-datum-set-seen net (Some event) = refl

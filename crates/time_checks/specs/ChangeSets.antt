@@ -1,5 +1,5 @@
 -- Sets of changes of a value, by their numbers.
-use Rattle.std.specs.Prelude.{ℕ, Bool, false, List, [], ◌∷◌, Option, slice_index_or}
+use Rattle.std.specs.Prelude.{ℕ, Bool, false, [], ◌∷◌, Option, slice_index_or}
 use Rattle.sg_logic.specs.declared.edges.Edge.{Edge}
 use Rattle.sg_logic.specs.declared.values.Value.{Value}
 use Rattle.sg_logic.specs.declared.values.Value.TheVariants.{Zero, One, X, Z}

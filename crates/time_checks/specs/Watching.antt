@@ -1,5 +1,5 @@
 -- What timing checks look at when nets change.
-use Rattle.std.specs.Prelude.{ℕ, ◌==◌, ◌&&◌, ◌||◌, Bool, true, false, List, [], ◌∷◌, Option, Some, None, is_none, slice_index_or}
+use Rattle.std.specs.Prelude.{ℕ, ◌==◌, ◌&&◌, ◌||◌, Bool, true, false, List, Option, Some, None, is_none, slice_index_or}
 use Rattle.std.specs.List.{filter}
 use Rattle.sg_logic.specs.declared.edges.Edge.{Edge}
 use Rattle.sg_logic.specs.declared.values.Value.{Value}
