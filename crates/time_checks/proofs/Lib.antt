@@ -5,6 +5,7 @@ pub mod KeptLaws
 pub mod EventLaws
 pub mod JudgedLaws
 pub mod QuietLaws
+pub mod WatchLaws
 pub mod TouchLaws
 pub mod SeeingLaws
 pub mod CheckingLaws

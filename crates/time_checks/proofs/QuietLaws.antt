@@ -5,17 +5,15 @@ use Rattle.sg_logic.specs.declared.values.Value.{Value}
 use Rattle.sg_circuit.specs.declared.checks.Event.{Event}
 use Rattle.time_checks.specs.Adjusted.{AdjustedCheck}
 use Rattle.sg_model.specs.Machine.{Snapshot}
-use Rattle.time_checks.specs.declared.events.Events.{Events}
-use Rattle.time_checks.specs.declared.recent.Recent.{Recent}
 use Rattle.time_checks.specs.declared.violations.Part.{Part}
 use Rattle.time_checks.specs.declared.violations.Part.TheVariants.{Setup, Hold, Recovery, Removal, Width, Period, Skew}
 use Rattle.time_checks.specs.Parts.{parts_of}
 use Rattle.time_checks.specs.Times.{grown}
 use Rattle.time_checks.specs.Windows.{Moment, Pair, where_true, later_of, violated}
 use Rattle.time_checks.specs.declared.latest.Latest.{Latest}
-use Rattle.time_checks.specs.Events.{has_opposite, event_times_since, datum_happens, datum_times_since, moment_since}
+use Rattle.time_checks.specs.Events.{event_times_since, datum_happens, datum_times_since, moment_since}
 use Rattle.time_checks.specs.Violations.{all_from, earlier_at, listed, limit_at, window_at, violations_at, violations_since}
-use Rattle.time_checks.specs.Kept.{StandsFor, has_datum, events_at, next_of}
+use Rattle.time_checks.specs.Kept.{StandsFor}
 use Rattle.time_checks.specs.Quiet.{StaysSame, IsUntouched, again}
 use Rattle.time_checks.specs.Checking.{Kept, Stands, check_at, latest_at}
 use Rattle.time_checks.proofs.EventLaws.{no_event, no_opposite}
@@ -78,23 +76,6 @@ same_datum before (Some event) now last older s = ap (λ b. grown b now.time (ev
 pub untouched-datum : (before : Option ℕ) (check : AdjustedCheck) (now last : Snapshot) (older : List Snapshot) → IsUntouched check last.values now.values
     → datum_times_since before check.datum (now ∷ last ∷ older) ≡ datum_times_since before check.datum (last ∷ older)
 untouched-datum before check now last older u = same_datum before check.datum now last older u.datum
-
--- nothing happens to it
-pub untouched-events : (check : AdjustedCheck) (last now : List Value) → IsUntouched check last now → events_at check last now ≡ record { refer = false; datum = false; back = false }
-untouched-events check last now u =
-    ap (λ b. happening b (has_datum check.datum last now) (has_opposite check.refer last now)) (no_event check.refer last now u.refer)
-    ∙ (ap (λ b. happening false b (has_opposite check.refer last now)) (no_datum_of check.datum u.datum) ∙ ap (happening false false) (no_opposite check.refer last now u.refer))
-  where
-    happening : Bool → Bool → Bool → Events
-    happening refer datum back = record { refer = refer; datum = datum; back = back }
-
-    no_datum_of : (datum : Option Event) → StaysSame datum last now → has_datum datum last now ≡ false
-    no_datum_of None s = refl
-    no_datum_of (Some event) s = no_event event last now s
-
--- and its latest times stay
-pub untouched-latest : (check : AdjustedCheck) (time : ℕ) (last now : List Value) (latest : Recent) → IsUntouched check last now → next_of time (events_at check last now) latest ≡ latest
-untouched-latest check time last now latest u = ap (λ e. next_of time e latest) (untouched-events check last now u)
 
 -- the same nets once more
 same_net : (datum : Option Event) (values : List Value) → StaysSame datum values values

@@ -16,17 +16,19 @@ use Rattle.fan_round.proofs.ListLaws.{at_places-more, at_places-other, at_places
 use Rattle.fan_round.proofs.EvaluationLaws.{not_before}
 use Rattle.fan_round.proofs.WorkLaws.{marked-within, length-with_readers}
 use Rattle.time_checks.specs.declared.recent.Recent.{Recent}
+use Rattle.time_checks.specs.declared.watches.Watch.{Watch}
 use Rattle.time_checks.specs.declared.violations.Part.{Part}
 use Rattle.time_checks.specs.declared.violations.Part.TheVariants.{Setup, Hold, Recovery, Removal, Width, Period, Skew}
 use Rattle.time_checks.specs.Parts.{parts_of}
 use Rattle.time_checks.specs.Windows.{Pair, where_true}
 use Rattle.time_checks.specs.Violations.{listed, limit_at, window_at}
 use Rattle.time_checks.specs.Within.{terminals, IsCheckWithin}
-use Rattle.time_checks.specs.Quiet.{IsUntouched}
-use Rattle.time_checks.specs.Kept.{events_at, violated_kept, instant_of, found_at}
+use Rattle.time_checks.specs.Kept.{events_at, violated_kept, instant_of, found_at, next_of}
+use Rattle.time_checks.specs.Watching.{events_needed, taken_fan, watch_by}
 use Rattle.time_checks.specs.Checking.{check_at, latest_at, no_times, next_at, found_in, Covers, SeesChanges}
-use Rattle.time_checks.proofs.QuietLaws.{all_none, untouched-latest, untouched-events}
-use Rattle.time_checks.proofs.TouchLaws.{unmarked-untouched, unlisted-unmarked, marked-once, rises, listed-all}
+use Rattle.time_checks.proofs.QuietLaws.{all_none}
+use Rattle.time_checks.proofs.TouchLaws.{unmarked-quiet, unlisted-unmarked, marked-once, rises, listed-all}
+use Rattle.time_checks.proofs.WatchLaws.{found-needed, happening}
 
 -- one check more
 pub found_more : (checks : List AdjustedCheck) (last now : List Value) (time : ℕ) (work : List ℕ) (i blank : ℕ) (latest between : List Recent) (start mid new : List Violation) → IsOnce work → i < length work
@@ -65,44 +67,49 @@ not_found Width limit threshold time latest = refl
 not_found Period limit threshold time latest = refl
 not_found Skew limit threshold time latest = refl
 
-found-none : (number time : ℕ) (check : AdjustedCheck) (last now : List Value) (latest : Recent) → IsUntouched check last now → found_at number check (instant_of time (events_at check last now) latest) ≡ []
-found-none number time check last now latest u =
-    ap (λ e. found_at number check (instant_of time e latest)) (untouched-events check last now u)
+found-none : (number time : ℕ) (check : AdjustedCheck) (last now : List Value) (latest : Recent) → events_needed check last now ≡ happening false false false → found_at number check (instant_of time (events_at check last now) latest) ≡ []
+found-none number time check last now latest q =
+    sym (found-needed number time check last now latest)
+    ∙ (ap (λ e. found_at number check (instant_of time e latest)) q
     ∙ all_none (λ place part. listed number check part (limit_at check place) (violated_kept part (window_at check place) check.threshold (instant_of time (record { refer = false; datum = false; back = false }) latest))) 0 (parts_of check.kind)
-    (λ place part. ap (listed number check part (limit_at check place)) (not_found part (window_at check place) check.threshold time latest))
+    (λ place part. ap (listed number check part (limit_at check place)) (not_found part (window_at check place) check.threshold time latest)))
+
+-- and the latest times stay
+latest-same : (check : AdjustedCheck) (time : ℕ) (last now : List Value) (latest : Recent) → events_needed check last now ≡ happening false false false → next_of time (events_at check last now) latest ≡ latest
+latest-same check time last now latest q = ap (λ e. next_of time e latest) q
 
 -- what the listed checks found and put is what all would
-pub sees_changes : (checks : List AdjustedCheck) (index : List (List ℕ)) (changed : List ℕ) (last now : List Value) (time : ℕ) (latest latest' : List Recent) (old new : List Violation) (marks : List Bool) (work : List ℕ)
-    → IsFanOut (map (λ c. terminals c) checks) index → All (λ c. IsCheckWithin c (length index)) checks → length latest ≡ length checks
-    → marks ≡ with_readers index changed (replicate (length checks) false) → length marks ≡ length checks → AreMarked marks work → IsNonDecreasing work
+pub sees_changes : (checks : List AdjustedCheck) (watches : List Watch) (index : List (List ℕ)) (changed : List ℕ) (last now : List Value) (time : ℕ) (latest latest' : List Recent) (old new : List Violation) (marks : List Bool) (work : List ℕ)
+    → watches ≡ map (λ c. watch_by c) checks → IsFanOut (map (λ c. terminals c) checks) index → All (λ c. IsCheckWithin c (length index)) checks → length latest ≡ length checks
+    → marks ≡ with_readers (taken_fan watches last now index) changed (replicate (length checks) false) → length marks ≡ length checks → AreMarked marks work → IsNonDecreasing work
     → latest' ≡ at_places (next_at checks last now time) no_times work latest → new ≡ old ++ flat_map (found_in checks last now time latest) work
     → SeesChanges checks changed last now time latest latest' old new
-sees_changes checks index changed last now time latest latest' old new marks work is within each e many are sorted l f = record {
+sees_changes checks watches index changed last now time latest latest' old new marks work ws is within each e many are sorted l f = record {
   found = flat_map g work;
   added = f;
   whole = λ covers. listed-all g 0 checks work (rises 0 work (λ a d m. omega arith) sorted (marked-once marks work are)) below
-      (λ k b m h. found-none k time (check_at checks k) last now (latest_at latest k) (untouched covers k (subst (λ n. k < n) (zero-add (length checks)) m) (unlisted-unmarked marks work k are h)));
+      (λ k b m h. found-none k time (check_at checks k) last now (latest_at latest k) (quiet covers k (subst (λ n. k < n) (zero-add (length checks)) m) (unlisted-unmarked marks work k are h)));
   kept = λ covers. l ∙ at_places-each (mark_at marks) (next_at checks last now time) no_times work latest are.each
-      (λ j m h. untouched-latest (check_at checks j) time last now (latest_at latest j) (untouched covers j (subst (λ n. j < n) each m) h));
+      (λ j m h. latest-same (check_at checks j) time last now (latest_at latest j) (quiet covers j (subst (λ n. j < n) each m) h));
 }
   where
     g : ℕ → List Violation
     g = found_in checks last now time latest
 
-    untouched : Covers last now changed → (k : ℕ) → k < length checks → mark_at marks k ≡ false → IsUntouched (check_at checks k) last now
-    untouched covers k m h = unmarked-untouched checks index changed last now k is within m covers (ap (λ ms. mark_at ms k) (sym e) ∙ h)
+    quiet : Covers last now changed → (k : ℕ) → k < length checks → mark_at marks k ≡ false → events_needed (check_at checks k) last now ≡ happening false false false
+    quiet covers k m h = unmarked-quiet checks watches index changed last now k ws is within m covers (ap (λ ms. mark_at ms k) (sym e) ∙ h)
 
     below : All (λ k. k < 0 + length checks) work
     below a d m = let b : slice_index_or work a d < length marks = marked-within marks work a d are m in omega arith
 
 -- and no more is said of a call that was refused
-pub sees_changes_ok : {A E : Type 0} (r : Result A E) (checks : List AdjustedCheck) (index : List (List ℕ)) (changed : List ℕ) (last now : List Value) (time : ℕ) (latest latest' : List Recent) (old new : List Violation) (marks : List Bool) (work seen : List ℕ)
-    → IsFanOut (map (λ c. terminals c) checks) index → All (λ c. IsCheckWithin c (length index)) checks → length latest ≡ length checks
-    → marks ≡ with_readers index changed (replicate (length checks) false) → AreMarked marks work → IsNonDecreasing work → seen ≡ work
+pub sees_changes_ok : {A E : Type 0} (r : Result A E) (checks : List AdjustedCheck) (watches : List Watch) (index : List (List ℕ)) (changed : List ℕ) (last now : List Value) (time : ℕ) (latest latest' : List Recent) (old new : List Violation) (marks : List Bool) (work seen : List ℕ)
+    → watches ≡ map (λ c. watch_by c) checks → IsFanOut (map (λ c. terminals c) checks) index → All (λ c. IsCheckWithin c (length index)) checks → length latest ≡ length checks
+    → marks ≡ with_readers (taken_fan watches last now index) changed (replicate (length checks) false) → AreMarked marks work → IsNonDecreasing work → seen ≡ work
     → OnOk r (latest' ≡ at_places (next_at checks last now time) no_times seen latest) → OnOk r (new ≡ old ++ flat_map (found_in checks last now time latest) seen)
     → OnOk r (SeesChanges checks changed last now time latest latest' old new)
-sees_changes_ok (Ok a) checks index changed last now time latest latest' old new marks work seen is within each e are sorted same l f =
-    sees_changes checks index changed last now time latest latest' old new marks work is within each e
-    (ap length e ∙ (length-with_readers index changed (replicate (length checks) false) ∙ length-replicate (length checks) false)) are sorted
+sees_changes_ok (Ok a) checks watches index changed last now time latest latest' old new marks work seen ws is within each e are sorted same l f =
+    sees_changes checks watches index changed last now time latest latest' old new marks work ws is within each e
+    (ap length e ∙ (length-with_readers (taken_fan watches last now index) changed (replicate (length checks) false) ∙ length-replicate (length checks) false)) are sorted
     (subst (λ ks. latest' ≡ at_places (next_at checks last now time) no_times ks latest) same l) (subst (λ ks. new ≡ old ++ flat_map (found_in checks last now time latest) ks) same f)
-sees_changes_ok (Err why) checks index changed last now time latest latest' old new marks work seen is within each e are sorted same l f = tt
+sees_changes_ok (Err why) checks watches index changed last now time latest latest' old new marks work seen ws is within each e are sorted same l f = tt

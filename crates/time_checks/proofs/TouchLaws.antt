@@ -1,10 +1,11 @@
 -- The checks that are listed are all that may see something, in order and each once.
-use Rattle.std.specs.Prelude.{◌≡◌, ℕ, zero, suc, ◌+◌, ◌<◌, ◌≤◌, ◌==◌, Bool, true, false, not, ◌||◌, if◌then◌else◌, All, List, [], ◌∷◌, ◌++◌, length, map, replicate, slice_index_or, Option, Some, None, IfSome, refl}
-use Rattle.std.specs.List.{flat_map, sum_by}
+use Rattle.std.specs.Prelude.{◌≡◌, ℕ, zero, suc, ◌⊎◌, ◌+◌, ◌<◌, ◌≤◌, ◌==◌, ◌&&◌, Bool, true, false, not, ◌||◌, if◌then◌else◌, All, List, [], ◌∷◌, ◌++◌, length, map, replicate, take, slice_index_or, slice_set, Option, Some, None, IfSome, refl}
+use Rattle.std.specs.List.{filter, flat_map, sum_by}
 use Rattle.std.specs.List.Sorted.{IsNonDecreasing, IsPermutation}
 use Rattle.std.proofs.Common.{sym, ◌∙◌, ap, subst, arith, inl, inr, zero-add}
 use Rattle.std.proofs.lemmas.Bool.{cases_eq}
-use Rattle.std.proofs.lemmas.List.{get_or-map, length-replicate, length-map}
+use Rattle.std.proofs.lemmas.List.{get_or-map, length-replicate, length-map, take_more}
+use Rattle.std.proofs.lemmas.List.Elements.{filter-append}
 use Rattle.std.proofs.lemmas.List.Sums.{sum_by-cons}
 use Rattle.std.proofs.lemmas.List.Sorted.{sum_by-IsPermutation, length_permutation}
 use Rattle.sg_logic.specs.declared.values.Value.{Value}
@@ -20,11 +21,17 @@ use Rattle.fan_round.specs.Lists.{occurrences}
 use Rattle.fan_round.specs.Nets.{differs}
 use Rattle.fan_round.specs.Rounds.{IsOnce}
 use Rattle.fan_round.specs.Work.{mark_at, AreMarked, with_marks, with_readers}
-use Rattle.fan_round.proofs.ListLaws.{test_other, occurs_here, occurs_at, test_same}
+use Rattle.fan_round.proofs.ListLaws.{each_from-at, test_other, occurs_here, occurs_at, test_same}
 use Rattle.fan_round.proofs.WorkLaws.{length-with_marks, marked-within}
 use Rattle.fan_round.proofs.WorkIsExact.{or_left, or_right, mark_with, is_reader, occurs_has}
 use Rattle.time_checks.specs.Within.{terminals, datum_nets, IsEventWithin, IsCheckWithin}
-use Rattle.time_checks.specs.Quiet.{StaysSame, IsUntouched}
+use Rattle.time_checks.specs.declared.watches.Watch.{Watch}
+use Rattle.time_checks.specs.ChangeSets.{change_in, edge_set}
+use Rattle.time_checks.specs.Events.{has_event, has_opposite, is_enabled}
+use Rattle.time_checks.specs.Kept.{has_datum}
+use Rattle.time_checks.specs.Watching.{asks_back, back_set, change_number_at, datum_net, datum_set, events_needed, is_taken, net_by, no_watch, taken_fan, takes, watch_by}
+use Rattle.time_checks.proofs.EventLaws.{no_event, no_opposite}
+use Rattle.time_checks.proofs.WatchLaws.{back-is, happening, refer-is, watch-at}
 use Rattle.time_checks.specs.Violations.{all_from}
 use Rattle.time_checks.specs.Checking.{check_at, Covers}
 
@@ -49,10 +56,28 @@ not_false : (b : Bool) → not b ≡ false → b ≡ true
 not_false true e = refl
 not_false false e = cc
 
--- so the nets of a check's terminals stay where it isn't marked
-unmarked_net : (checks : List AdjustedCheck) (index : List (List ℕ)) (changed : List ℕ) (last now : List Value) (e net : ℕ) → IsFanOut (map (λ c. terminals c) checks) index → e < length checks → net < length index
-    → has net (terminals (check_at checks e)) ≡ true → Covers last now changed → mark_at (with_readers index changed (replicate (length checks) false)) e ≡ false → value_at last net ≡ value_at now net
-unmarked_net checks index changed last now e net is l inside h covers unmarked = at (differs last now net) refl
+-- the readers of a net that look at its change
+pub readers-taken : (watches : List Watch) (last now : List Value) (index : List (List ℕ)) (net : ℕ) → net < length index
+    → readers_at (taken_fan watches last now index) net ≡ filter (takes watches net (change_number_at last now net)) (readers_at index net)
+readers-taken watches last now index net l =
+    each_from-at (λ n numbers. filter (takes watches n (change_number_at last now n)) numbers) 0 index net [] [] l
+    ∙ ap (λ n. filter (takes watches n (change_number_at last now n)) (readers_at index net)) (zero-add net)
+
+has_filter : (p : ℕ → Bool) (k : ℕ) (xs : List ℕ) → has k xs ≡ true → p k ≡ true → has k (filter p xs) ≡ true
+has_filter p k [] h q = cc
+has_filter p k (x ∷ xs) h q = elim (cases_eq x k) [
+  | inl same ↦ ap (λ b. has k (if b then (x ∷ filter p xs) else filter p xs)) (ap p same ∙ q) ∙ or_left (x == k) (has k (filter p xs)) (test_same x k same)
+  | inr other ↦ at (p x) (has_filter p k xs (sym (ap (λ b. b || has k xs) (test_other x k other)) ∙ h) q)
+]
+  where
+    at : (b : Bool) → has k (filter p xs) ≡ true → has k (if b then (x ∷ filter p xs) else filter p xs) ≡ true
+    at true m = or_right (x == k) (has k (filter p xs)) m
+    at false m = m
+
+-- so a check that isn't marked doesn't look at the change of its net
+not_taken : (checks : List AdjustedCheck) (watches : List Watch) (index : List (List ℕ)) (changed : List ℕ) (last now : List Value) (e net : ℕ) → IsFanOut (map (λ c. terminals c) checks) index → e < length checks → net < length index
+    → has net (terminals (check_at checks e)) ≡ true → has net changed ≡ true → mark_at (with_readers (taken_fan watches last now index) changed (replicate (length checks) false)) e ≡ false → takes watches net (change_number_at last now net) e ≡ false
+not_taken checks watches index changed last now e net is l inside h listed unmarked = at (takes watches net (change_number_at last now net) e) refl
   where
     start : List Bool
     start = replicate (length checks) false
@@ -60,34 +85,93 @@ unmarked_net checks index changed last now e net is l inside h covers unmarked =
     inputs : List (List ℕ)
     inputs = map (λ c. terminals c) checks
 
-    at : (b : Bool) → differs last now net ≡ b → value_at last net ≡ value_at now net
-    at false d = same-true (value_at last net) (value_at now net) (not_false (is_same (value_at last net) (value_at now net)) d)
-    at true d =
+    at : (b : Bool) → takes watches net (change_number_at last now net) e ≡ b → b ≡ false
+    at false q = refl
+    at true q =
         let many : e < length inputs = subst (λ n. e < n) (sym (length-map checks (λ c. terminals c))) l in
         let marks : e < length start = subst (λ n. e < n) (sym (length-replicate (length checks) false)) l in
         let own : slice_index_or inputs e [] ≡ terminals (check_at checks e) = get_or-map (λ c. terminals c) checks e _ [] l in
         let reads : has e (readers_at index net) ≡ true =
         ap (has e) (is.each net inside) ∙ (ap (λ x. has x (readers_from net 0 inputs)) (sym (zero-add e)) ∙ (is_reader net 0 e inputs many ∙ (ap (has net) own ∙ h))) in
-        let yes : mark_at (with_readers index changed start) e ≡ true = becomes_marked index changed start e net marks (covers.each net d) reads in
+        let taken : has e (readers_at (taken_fan watches last now index) net) ≡ true =
+        ap (has e) (readers-taken watches last now index net inside) ∙ has_filter (takes watches net (change_number_at last now net)) e (readers_at index net) reads q in
+        let yes : mark_at (with_readers (taken_fan watches last now index) changed start) e ≡ true = becomes_marked (taken_fan watches last now index) changed start e net marks listed taken in
         let no : false ≡ true = sym unmarked ∙ yes in
         cc
 
-untouched_datum : (datum : Option Event) (nets : ℕ) (last now : List Value) → IfSome datum (λ event. IsEventWithin event nets)
-    → ((net : ℕ) → net < nets → has net (datum_nets datum) ≡ true → value_at last net ≡ value_at now net) → StaysSame datum last now
-untouched_datum None nets last now w h = tt
-untouched_datum (Some event) nets last now w h = h event.net w.net (or_left (event.net == event.net) false (test_same event.net event.net refl))
+first_false : (t a b r : Bool) → t ≡ true → ((t && (a || b)) || r) ≡ false → (a ≡ false) × (b ≡ false)
+first_false true true b r e h = cc
+first_false true false true r e h = cc
+first_false true false false r e h = (refl, refl)
+first_false false a b r e h = cc
 
-untouched_by : (check : AdjustedCheck) (nets : ℕ) (last now : List Value) → IsCheckWithin check nets
-    → ((net : ℕ) → net < nets → has net (terminals check) ≡ true → value_at last net ≡ value_at now net) → IsUntouched check last now
-untouched_by check nets last now w h = record {
-  refer = h check.refer.net w.refer.net (or_left (check.refer.net == check.refer.net) (has check.refer.net (datum_nets check.datum)) (test_same check.refer.net check.refer.net refl));
-  datum = untouched_datum check.datum nets last now w.datum (λ net l g. h net l (or_right (check.refer.net == net) (has net (datum_nets check.datum)) g));
-}
+second_false : (l t c : Bool) → t ≡ true → (l || (t && c)) ≡ false → c ≡ false
+second_false true t c e h = cc
+second_false false true c e h = h
+second_false false false c e h = cc
 
-pub unmarked-untouched : (checks : List AdjustedCheck) (index : List (List ℕ)) (changed : List ℕ) (last now : List Value) (e : ℕ) → IsFanOut (map (λ c. terminals c) checks) index → All (λ c. IsCheckWithin c (length index)) checks
-    → e < length checks → Covers last now changed → mark_at (with_readers index changed (replicate (length checks) false)) e ≡ false → IsUntouched (check_at checks e) last now
-unmarked-untouched checks index changed last now e is within l covers unmarked =
-    untouched_by (check_at checks e) (length index) last now (within e _ l) (λ net m h. unmarked_net checks index changed last now e net is l m h covers unmarked)
+and_false : (b : Bool) → (b && false) ≡ false
+and_false true = refl
+and_false false = refl
+
+-- a net stays, or the check doesn't look at its change
+abbrev pub IsLeft : AdjustedCheck → List Value → List Value → ℕ → Type 0
+IsLeft check last now net = (value_at last net ≡ value_at now net) ⊎ (is_taken (watch_by check) net (change_number_at last now net) ≡ false)
+
+-- where that is so of all nets of a check nothing happens to it
+quiet_by : (check : AdjustedCheck) (nets : ℕ) (last now : List Value) → IsCheckWithin check nets → ((net : ℕ) → net < nets → has net (terminals check) ≡ true → IsLeft check last now net)
+    → events_needed check last now ≡ happening false false false
+quiet_by check nets last now w h =
+    let refer : (has_event check.refer last now ≡ false) × ((asks_back check.kind && has_opposite check.refer last now) ≡ false) =
+    elim (h check.refer.net w.refer.net (or_left (check.refer.net == check.refer.net) (has check.refer.net (datum_nets check.datum)) (test_same check.refer.net check.refer.net refl))) [
+      | inl same ↦ (no_event check.refer last now same, ap (λ b. asks_back check.kind && b) (no_opposite check.refer last now same) ∙ and_false (asks_back check.kind))
+      | inr free ↦ (let both = first_false (check.refer.net == check.refer.net) (change_in (edge_set check.refer.edge) (number check.refer.net)) (change_in (back_set check.kind check.refer.edge) (number check.refer.net))
+          ((datum_net check == check.refer.net) && change_in (datum_set check.datum) (number check.refer.net)) (test_same check.refer.net check.refer.net refl) free in
+          (sym (refer-is check.refer last now) ∙ ap (λ b. b && is_enabled check.refer.condition now) both.0, sym (back-is check last now) ∙ both.1))
+    ] in
+    ap (λ b. happening b (has_datum check.datum last now) (asks_back check.kind && has_opposite check.refer last now)) refer.0
+    ∙ (ap (λ b. happening false b (asks_back check.kind && has_opposite check.refer last now)) (datum check.datum w.datum (λ net l g. h net l (or_right (check.refer.net == net) (has net (datum_nets check.datum)) g)))
+    ∙ ap (happening false false) refer.1)
+  where
+    number : ℕ → ℕ
+    number net = change_number_at last now net
+
+    first : ℕ → Bool
+    first net = (check.refer.net == net) && (change_in (edge_set check.refer.edge) (number net) || change_in (back_set check.kind check.refer.edge) (number net))
+
+    datum : (o : Option Event) → IfSome o (λ event. IsEventWithin event nets)
+        → ((net : ℕ) → net < nets → has net (datum_nets o) ≡ true → (value_at last net ≡ value_at now net) ⊎ ((first net || ((net_by o check.refer.net == net) && change_in (datum_set o) (number net))) ≡ false))
+        → has_datum o last now ≡ false
+    datum None m g = refl
+    datum (Some event) m g = elim (g event.net m.net (or_left (event.net == event.net) false (test_same event.net event.net refl))) [
+      | inl same ↦ no_event event last now same
+      | inr free ↦ sym (refer-is event last now)
+          ∙ ap (λ b. b && is_enabled event.condition now) (second_false (first event.net) (event.net == event.net) (change_in (edge_set event.edge) (number event.net)) (test_same event.net event.net refl) free)
+    ]
+
+pub unmarked-quiet : (checks : List AdjustedCheck) (watches : List Watch) (index : List (List ℕ)) (changed : List ℕ) (last now : List Value) (e : ℕ) → watches ≡ map (λ c. watch_by c) checks → IsFanOut (map (λ c. terminals c) checks) index
+    → All (λ c. IsCheckWithin c (length index)) checks → e < length checks → Covers last now changed → mark_at (with_readers (taken_fan watches last now index) changed (replicate (length checks) false)) e ≡ false
+    → events_needed (check_at checks e) last now ≡ happening false false false
+unmarked-quiet checks watches index changed last now e ws is within l covers unmarked = quiet_by (check_at checks e) (length index) last now (within e _ l) left
+  where
+    left : (net : ℕ) → net < length index → has net (terminals (check_at checks e)) ≡ true → IsLeft (check_at checks e) last now net
+    left net m h = at (differs last now net) refl
+      where
+        at : (b : Bool) → differs last now net ≡ b → IsLeft (check_at checks e) last now net
+        at false d = inl (same-true (value_at last net) (value_at now net) (not_false (is_same (value_at last net) (value_at now net)) d))
+        at true d = inr (ap (λ w. is_taken w net (change_number_at last now net)) (sym (watch-at checks watches e no_watch ws l)) ∙ not_taken checks watches index changed last now e net is l m h (covers.each net d) unmarked)
+
+-- one more, where it looks at a change
+with_marks-cat : (xs ys : List ℕ) (marks : List Bool) → with_marks (xs ++ ys) marks ≡ with_marks ys (with_marks xs marks)
+with_marks-cat [] ys marks = refl
+with_marks-cat (x ∷ xs) ys marks = with_marks-cat xs ys (slice_set marks x true)
+
+pub taken_more : (p : ℕ → Bool) (numbers : List ℕ) (i blank : ℕ) (start mid new : List Bool) → i < length numbers → mid ≡ with_marks (filter p (take i numbers)) start → new ≡ with_marks (filter p (slice_index_or numbers i blank ∷ [])) mid
+    → new ≡ with_marks (filter p (take (i + 1) numbers)) start
+taken_more p numbers i blank start mid new l e n =
+    let x : ℕ = slice_index_or numbers i blank in
+    let more : filter p (take (i + 1) numbers) ≡ filter p (take i numbers) ++ filter p (x ∷ []) = ap (filter p) (take_more numbers i blank l) ∙ filter-append p (take i numbers) (x ∷ []) in
+    n ∙ (ap (with_marks (filter p (x ∷ []))) e ∙ (sym (with_marks-cat (filter p (take i numbers)) (filter p (x ∷ [])) start) ∙ ap (λ xs. with_marks xs start) (sym more)))
 
 -- a list of what is marked
 pub marked-once : (marks : List Bool) (work : List ℕ) → AreMarked marks work → IsOnce work

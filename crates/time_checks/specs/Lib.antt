@@ -1,6 +1,7 @@
 -- The modules of this folder.
 pub mod Adjusted
 pub mod AdjustedSeen
+pub mod ChangeSets
 pub mod Checking
 pub mod Events
 pub mod Falling
@@ -11,5 +12,6 @@ pub mod Quiet
 pub mod Seen
 pub mod Times
 pub mod Violations
+pub mod Watching
 pub mod Windows
 pub mod Within

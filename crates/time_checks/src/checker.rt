@@ -15,6 +15,7 @@ use crate::latest::Latest;
 use crate::recent::{Recent, recalled};
 use crate::seeing::{follow, see_changes};
 use crate::touching::index_of;
+use crate::watches::{Watch, watches_of};
 use fan_round::WorkList;
 use sg_circuit::{Circuit, FanOut, NetId};
 use sg_logic::Value;
@@ -29,6 +30,8 @@ pub struct Checker<'a> {
     checks: Vec<AdjustedCheck<'a>>,
     // what was known of each check's events before it saw anything
     earlier: &'a [Latest],
+    // what of its nets each check looks at
+    watches: Vec<Watch>,
     // the checks with a terminal on each net
     index: FanOut,
     work: WorkList,
@@ -40,10 +43,11 @@ pub struct Checker<'a> {
 
 impl<'a> Model for Checker<'a> {
     ghost use Rattle.std.specs.Coded.{codes, coded_ℕ};
-    ghost use Rattle.std.specs.Prelude.{length};
+    ghost use Rattle.std.specs.Prelude.{◌≡◌, length, map};
     ghost use Rattle.cond_expr.specs.Codes.{coded_cond};
     ghost use Rattle.time_checks.specs.AdjustedSeen.{all_seen};
     ghost use Rattle.time_checks.specs.Checking.{IsReady, Kept};
+    ghost use Rattle.time_checks.specs.Watching.{watch_by};
 
     ghost Value = { Kept };
 
@@ -51,7 +55,7 @@ impl<'a> Model for Checker<'a> {
 
     ghost view = { λ c. record { checks = all_seen c.checks.items; earlier = c.earlier.now; seen = c.seen; last = c.last.items; latest = c.latest.items } };
 
-    ghost invariant = { λ c. IsReady (all_seen c.checks.items) (length c.last.items) c.index c.work c.latest.items };
+    ghost invariant = { λ c. IsReady (all_seen c.checks.items) (length c.last.items) c.index c.work c.latest.items × (c.watches.items ≡ map (λ k. watch_by k) (all_seen c.checks.items)) };
 }
 
 impl<'a> Checker<'a> {
@@ -71,6 +75,7 @@ impl<'a> Checker<'a> {
         ensures empty { IfOk result (λ checker. Stands checker []) }
         ensures alone { IfOk result (λ checker. (snapshots : List Snapshot) → Stands checker snapshots → snapshots ≡ []) }
     {
+        let watches = watches_of(alloc, &checks)?;
         let index = index_of(alloc, nets, &checks)?;
         let work = WorkList::new(alloc, checks.len() as u32)?;
         let last = vec![in alloc; Value::X; nets as usize]?;
@@ -78,6 +83,7 @@ impl<'a> Checker<'a> {
         Ok(Checker {
             checks,
             earlier,
+            watches,
             index,
             work,
             last,
@@ -156,6 +162,7 @@ impl<'a> Checker<'a> {
         }
         see_changes(
             &self.checks,
+            &self.watches,
             &self.index,
             &mut self.work,
             changed,

@@ -2,6 +2,7 @@
 #![tactic(auto)]
 
 mod adjusted;
+mod change_sets;
 mod changes;
 mod checker;
 mod events;
@@ -13,6 +14,7 @@ mod recent;
 mod seeing;
 mod touching;
 mod violations;
+mod watches;
 mod windows;
 
 pub use changes::Change;

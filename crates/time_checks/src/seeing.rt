@@ -10,6 +10,7 @@ ghost use Rattle.fan_round.specs.States.{IsIdle};
 ghost use Rattle.time_checks.specs.Checking.{found_in, latest_at, next_at, no_times, IsReady, SeesChanges};
 ghost use Rattle.time_checks.specs.AdjustedSeen.{adjusted_seen, all_seen};
 ghost use Rattle.time_checks.specs.Seen.{violation_seen, Continues};
+ghost use Rattle.time_checks.specs.Watching.{watch_by};
 ghost use Rattle.time_checks.specs.Within.{IsCheckWithin};
 
 use crate::Violation;
@@ -18,6 +19,7 @@ use crate::events::events_of;
 use crate::judging::{Instant, judge};
 use crate::recent::{Recent, after};
 use crate::touching::list_touched;
+use crate::watches::Watch;
 use fan_round::{WorkList, clear_work};
 use sg_circuit::{FanOut, NetId};
 use sg_logic::Value;
@@ -26,6 +28,7 @@ use sg_text::NoMemory;
 // One check: its violations are added, and its latest times put.
 fn see_check(
     checks: &[AdjustedCheck<'_>],
+    watches: &[Watch],
     number: u32,
     last: &[Value],
     values: &[Value],
@@ -34,6 +37,7 @@ fn see_check(
     violations: &mut Vec<Violation>,
 ) -> Result<(), NoMemory>
     requires number { number < length checks.now }
+    requires watches { watches.now ≡ map (λ c. watch_by c) (all_seen checks.now) }
     requires within { All (λ c. IsCheckWithin (adjusted_seen c) (length values.now)) checks.now }
     requires as_many { length last.now ≡ length values.now }
     requires each_check { length latest.old ≡ length checks.now }
@@ -43,7 +47,7 @@ fn see_check(
 {
     let check = &checks[number as usize];
     let before = latest[number as usize];
-    let events = events_of(check, last, values);
+    let events = events_of(check, &watches[number as usize], last, values);
     let after = after(before, events, time);
     latest[number as usize] = after;
     let now = Instant {
@@ -58,6 +62,7 @@ fn see_check(
 // These checks, one after another.
 fn see_checks(
     checks: &[AdjustedCheck<'_>],
+    watches: &[Watch],
     work: &[u32],
     last: &[Value],
     values: &[Value],
@@ -65,6 +70,7 @@ fn see_checks(
     latest: &mut [Recent],
     violations: &mut Vec<Violation>,
 ) -> Result<(), NoMemory>
+    requires watches { watches.now ≡ map (λ c. watch_by c) (all_seen checks.now) }
     requires work { All (λ k. k < length checks.now) work.now }
     requires once { IsOnce work.now }
     requires within { All (λ c. IsCheckWithin (adjusted_seen c) (length values.now)) checks.now }
@@ -75,7 +81,9 @@ fn see_checks(
     ensures kept { Continues violations.old.items violations.new.items }
 {
     for number in work {
-        see_check(checks, *number, last, values, time, latest, violations)?;
+        see_check(
+            checks, watches, *number, last, values, time, latest, violations,
+        )?;
     }
     Ok(())
 }
@@ -95,6 +103,7 @@ pub fn follow(last: &mut [Value], values: &[Value], changed: &[NetId])
 /// putting these in order.
 pub fn see_changes(
     checks: &[AdjustedCheck<'_>],
+    watches: &[Watch],
     index: &FanOut,
     work: &mut WorkList,
     changed: &[NetId],
@@ -105,14 +114,17 @@ pub fn see_changes(
     violations: &mut Vec<Violation>,
 ) -> Result<(), NoMemory>
     requires ready { IsReady (all_seen checks.now) (length values.now) index.now work.old latest.old }
+    requires watches { watches.now ≡ map (λ c. watch_by c) (all_seen checks.now) }
     requires as_many { length last.now ≡ length values.now }
     requires nets { All (λ net. net < length values.now) changed.now }
     ensures idle { IsIdle work.new (length checks.now) }
     ensures seen { OnOk result (SeesChanges (all_seen checks.now) changed.now last.now values.now time latest.old latest.new (map (λ v. violation_seen v) violations.old.items) (map (λ v. violation_seen v) violations.new.items)) }
     ensures kept { Continues violations.old.items violations.new.items }
 {
-    list_touched(changed, index, work, checks.len());
-    let seen = see_checks(checks, &work.list, last, values, time, latest, violations);
+    list_touched(changed, last, values, index, watches, work);
+    let seen = see_checks(
+        checks, watches, &work.list, last, values, time, latest, violations,
+    );
     clear_work(&mut work.marks, &mut work.list);
     seen
 }

@@ -41,10 +41,10 @@ returns-clause-seen c =
     let latest : next.latest ≡ c.see_changes.new.latest = with_items_is c.self.inside.latest c.see_changes.new.latest (c.see_changes.auto.latest ∙ c.deref_mut.ensures.len) in
     let made : SeesChanges kept.checks changed kept.last values c.args.now kept.latest c.see_changes.new.latest old new =
     subst (λ ls. SeesChanges kept.checks changed kept.last values c.args.now ls c.see_changes.new.latest old new) c.deref_mut.ensures.value
-    (subst (λ vs. SeesChanges kept.checks changed vs values c.args.now c.deref_mut.result.now c.see_changes.new.latest old new) c.deref-2.ensures.value
-    (subst (λ cs. SeesChanges (all_seen cs) changed c.deref-2.result.now values c.args.now c.deref_mut.result.now c.see_changes.new.latest old new) c.deref.ensures.value c.in_ok-see_changes.ensures.seen)) in
+    (subst (λ vs. SeesChanges kept.checks changed vs values c.args.now c.deref_mut.result.now c.see_changes.new.latest old new) c.deref-3.ensures.value
+    (subst (λ cs. SeesChanges (all_seen cs) changed c.deref-3.result.now values c.args.now c.deref_mut.result.now c.see_changes.new.latest old new) c.deref.ensures.value c.in_ok-see_changes.ensures.seen)) in
     subst (λ (k : Kept). Sees k next c.args.now changed values old new) is
-    (sees-next kept next c.args.now changed values c.see_changes.new.latest old new c.if-not-self.false c.self.invariant.each_check many
+    (sees-next kept next c.args.now changed values c.see_changes.new.latest old new c.if-not-self.false c.self.invariant.0.each_check many
     (ap (λ vs. with_both kept vs next.latest) last ∙ ap (with_both kept (at_places (λ net before. value_at values net) X changed kept.last)) latest) made)
   where
     with_both : Kept → List Value → List Recent → Kept
