@@ -1,0 +1,3 @@
+-- The lemma files of this folder.
+pub mod ListedLaws
+pub mod TableLaws
