@@ -3,24 +3,25 @@ use Rattle.std.specs.Prelude.{◌≡◌, ◌≢◌, ◌⊎◌, ℕ, zero, suc, �
 use Rattle.std.proofs.Common.{sym, ◌∙◌, ap, subst, arith, inl, inr}
 use Rattle.std.proofs.lemmas.Bool.{cases_eq}
 use Rattle.std.proofs.lemmas.List.{length-map, length-append, get_or-map, get_or_past, get_or-set_same, get_or-set_other, map-set, set-get_or}
+use Rattle.sg_logic.specs.declared.values.Value.{Value}
 use Rattle.fan_round.specs.Lists.{occurrences}
 use Rattle.fan_round.specs.Work.{mark_at, count_marks, AreMarked}
 use Rattle.fan_round.proofs.ListLaws.{occurs_here, occurs_later, occurrences-append}
 use Rattle.fan_round.proofs.WorkLaws.{marked-more}
 use Rattle.immediate_list.specs.declared.standings.Standing.{Standing}
-use Rattle.immediate_list.specs.declared.standings.Standing.TheVariants.{Nothing, Listed, Agenda}
+use Rattle.immediate_list.specs.declared.standings.Standing.TheVariants.{Nothing, Listed, OnAgenda}
 use Rattle.immediate_list.specs.Standings.{standing_at, is_listed, AreListed}
 
 pub flag_at : (ss : List Standing) (k : ℕ) (d b : Bool) → k < length ss → is_listed (standing_at ss k) ≡ b → slice_index_or (map (λ s. is_listed s) ss) k d ≡ b
-flag_at ss k d b l e = get_or-map (λ s. is_listed s) ss k Agenda d l ∙ e
+flag_at ss k d b l e = get_or-map (λ s. is_listed s) ss k OnAgenda d l ∙ e
 
 -- a driver more
 pub enlisted : (ss : List Standing) (ds : List ℕ) (k : ℕ) (v : Standing) → is_listed v ≡ true → AreListed ss ds → k < length ss → is_listed (standing_at ss k) ≡ false → AreListed (slice_set ss k v) (ds ++ k ∷ []) × (length ds < length ss)
-enlisted ss ds k v yes are l e =
+enlisted ss ds k v is are l e =
     let marks : List Bool = map (λ s. is_listed s) ss in
     let many : length marks ≡ length ss = length-map ss (λ s. is_listed s) in
     let step = marked-more marks ds k false are (subst (λ n. k < n) (sym many) l) (flag_at ss k false false l e) in (
-      subst (λ ms. AreMarked ms (ds ++ k ∷ [])) (sym (map-set (λ s. is_listed s) ss k v ∙ ap (λ b. slice_set marks k b) yes)) step.0,
+      subst (λ ms. AreMarked ms (ds ++ k ∷ [])) (sym (map-set (λ s. is_listed s) ss k v ∙ ap (λ b. slice_set marks k b) is)) step.0,
       subst (λ n. length ds < n) many step.1,
     )
 
@@ -71,21 +72,21 @@ marked-fewer marks ds k are =
 
 -- a driver fewer
 pub unlisted : (ss : List Standing) (ds : List ℕ) (k : ℕ) (after : Standing) → is_listed after ≡ false → AreListed ss (ds ++ k ∷ []) → (k < length ss) × (is_listed (standing_at ss k) ≡ true) × AreListed (slice_set ss k after) ds
-unlisted ss ds k after no are =
+unlisted ss ds k after free are =
     let marks : List Bool = map (λ s. is_listed s) ss in
     let many : length marks ≡ length ss = length-map ss (λ s. is_listed s) in
     let step = marked-fewer marks ds k are in
     let l : k < length ss = subst (λ n. k < n) many step.0 in (
       l,
-      sym (get_or-map (λ s. is_listed s) ss k Agenda false l) ∙ step.1,
-      subst (λ ms. AreMarked ms ds) (sym (map-set (λ s. is_listed s) ss k after ∙ ap (λ b. slice_set marks k b) no)) step.2,
+      sym (get_or-map (λ s. is_listed s) ss k OnAgenda false l) ∙ step.1,
+      subst (λ ms. AreMarked ms ds) (sym (map-set (λ s. is_listed s) ss k after ∙ ap (λ b. slice_set marks k b) free)) step.2,
     )
 
 -- the standing of a driver that isn't listed turns to another that isn't either
 pub still_listed : (ss : List Standing) (ds : List ℕ) (k : ℕ) (after : Standing) → is_listed after ≡ false → is_listed (standing_at ss k) ≡ false → AreListed ss ds → AreListed (slice_set ss k after) ds
-still_listed ss ds k after no was are =
+still_listed ss ds k after free was are =
     let marks : List Bool = map (λ s. is_listed s) ss in
-    subst (λ ms. AreMarked ms ds) (sym (map-set (λ s. is_listed s) ss k after ∙ (ap (λ b. slice_set marks k b) no ∙ stays))) are
+    subst (λ ms. AreMarked ms ds) (sym (map-set (λ s. is_listed s) ss k after ∙ (ap (λ b. slice_set marks k b) free ∙ stays))) are
   where
     stays : slice_set (map (λ s. is_listed s) ss) k false ≡ map (λ s. is_listed s) ss
     stays = at ss k was
@@ -101,4 +102,13 @@ none_listed ss k are l = at (is_listed (standing_at ss k)) refl
   where
     at : (b : Bool) → is_listed (standing_at ss k) ≡ b → is_listed (standing_at ss k) ≡ false
     at false e = e
-    at true e = let f : 0 ≡ 1 = are.each.each k ∙ ap (λ b. if b then 1 else 0) (flag_at ss k false true l e) in absurd (omega arith)
+    at true e = let f : occurrences k [] ≡ 1 = are.each.each k ∙ ap (λ (x : Bool). if x then 1 else 0) (flag_at ss k false true l e) in absurd (omega (arith, f))
+
+-- a listed driver has a value
+pub listed_value : (ss : List Standing) (k : ℕ) → is_listed (standing_at ss k) ≡ true → (v : Value) × (standing_at ss k ≡ Listed v)
+listed_value ss k e = at (standing_at ss k) refl e
+  where
+    at : (s : Standing) → standing_at ss k ≡ s → is_listed s ≡ true → (v : Value) × (standing_at ss k ≡ Listed v)
+    at Nothing f g = cc
+    at (Listed v) f g = (v, f)
+    at OnAgenda f g = cc

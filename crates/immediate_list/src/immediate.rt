@@ -2,12 +2,13 @@
 ghost use Rattle.std.specs.Prelude.{◌≡◌, ℕ, ◌+◌, ◌-◌, ◌<◌, ◌≤◌, [], IfOk, length, min, replicate};
 ghost use Rattle.std.specs.Bool.{OnFalse, OnTrue};
 ghost use Rattle.std.specs.Vec.{vec_capacity};
+ghost use Rattle.sg_logic.specs.Values.{is_same};
 ghost use Rattle.sg_model.specs.Agenda.{list_at, with_list};
 ghost use Rattle.sg_model.specs.Pending.{put};
 ghost use Rattle.immediate_list.specs.Standings.{least_of, lists_of, IsImmediate};
 
 use crate::flushing::{flush, settle};
-use crate::standings::{Standing, enlist, is_nothing, unlist};
+use crate::standings::{Front, Standing, enlist, is_nothing, unlist};
 use pulse_list::Agenda;
 use sg_logic::Value;
 use sg_text::NoMemory;
@@ -21,9 +22,7 @@ pub struct Immediate<A: Agenda> {
     agenda: A,
     // that of the listed transitions
     time: u64,
-    standings: Vec<Standing>,
-    // which are listed, with room for all
-    drivers: Vec<u32>,
+    front: Front,
 }
 
 impl<A: Agenda> Model for Immediate<A> {
@@ -34,31 +33,32 @@ impl<A: Agenda> Model for Immediate<A> {
 
     ghost Value = { List (List (ℕ × NetValue)) × ℕ };
 
-    ghost view = { λ a. (lists_of a.time a.standings.items (A.lists a.agenda), A.spare a.agenda - length a.drivers.items) };
+    ghost view = { λ a. (lists_of a.time a.front.standings.items (A.lists a.agenda), A.spare a.agenda - length a.front.drivers.items) };
 
-    ghost invariant = { λ a. IsImmediate a.standings.items a.drivers.items (vec_capacity a.drivers) (A.spare a.agenda) (A.lists a.agenda) };
+    ghost invariant = { λ a. IsImmediate a.front.standings.items a.front.drivers.items (vec_capacity a.front.drivers) (A.spare a.agenda) (A.lists a.agenda) };
 }
 
 // The list turns to a time: what it had at another goes onto the agenda.
-fn turn_to<A: Agenda>(
-    agenda: &mut A,
-    time: &mut u64,
-    standings: &mut [Standing],
-    drivers: &mut Vec<u32>,
-    now: u64,
-)
-    requires { IsImmediate standings.old drivers.old.items (vec_capacity drivers.old) (A.spare agenda.old) (A.lists agenda.old) }
+fn turn_to<A: Agenda>(agenda: &mut A, time: &mut u64, front: &mut Front, now: u64)
+    requires { IsImmediate front.old.standings.items front.old.drivers.items (vec_capacity front.old.drivers) (A.spare agenda.old) (A.lists agenda.old) }
     ensures time { time.new ≡ now }
-    ensures is { IsImmediate standings.new drivers.new.items (vec_capacity drivers.new) (A.spare agenda.new) (A.lists agenda.new) }
-    ensures lists { lists_of now standings.new (A.lists agenda.new) ≡ lists_of time.old standings.old (A.lists agenda.old) }
-    ensures spare { A.spare agenda.new - length drivers.new.items ≡ A.spare agenda.old - length drivers.old.items }
-    ensures many { length standings.new ≡ length standings.old }
+    ensures is { IsImmediate front.new.standings.items front.new.drivers.items (vec_capacity front.new.drivers) (A.spare agenda.new) (A.lists agenda.new) }
+    ensures lists { lists_of now front.new.standings.items (A.lists agenda.new) ≡ lists_of time.old front.old.standings.items (A.lists agenda.old) }
+    ensures spare { A.spare agenda.new - length front.new.drivers.items ≡ A.spare agenda.old - length front.old.drivers.items }
+    ensures many { length front.new.standings.items ≡ length front.old.standings.items }
 {
     if *time == now {
         return;
     }
-    flush(agenda, *time, standings, drivers);
+    flush(agenda, *time, front);
     *time = now;
+}
+
+// Whether two values are the same.
+fn same(a: Value, b: Value) -> bool
+    ensures { result ≡ is_same a b }
+{
+    a == b
 }
 
 // The earlier of a time and another, if there is one.
@@ -71,7 +71,7 @@ fn earlier(time: u64, other: Option<u64>) -> u64
     }
 }
 
-impl<A: Agenda> Immediate<A> {
+impl<A: Agenda + Drop> Immediate<A> {
     /// An agenda of so many drivers on which nothing is pending, with a list in front of it.
     ///
     /// `NoMemory` where there is no memory for the list of all drivers.
@@ -80,31 +80,33 @@ impl<A: Agenda> Immediate<A> {
         ensures { IfOk result (λ immediate. immediate.0 ≡ replicate drivers []) }
     {
         let standings = vec![in alloc; Standing::Nothing; drivers as usize]?;
+        let drivers = Vec::with_capacity(alloc, drivers as usize)?;
         Ok(Immediate {
             agenda,
             time: 0,
-            standings,
-            drivers: Vec::with_capacity(alloc, drivers as usize)?,
+            front: Front { standings, drivers },
         })
     }
+}
 
+impl<A: Agenda> Immediate<A> {
     /// Places `value` at `now`, to take effect in the next round of this time, where it is known that nothing is
     /// pending of `driver`, and answers whether that is known. What is due now was taken before. Takes no memory.
     pub fn place_at_once(&mut self, driver: u32, present: Value, now: u64, value: Value) -> bool
         requires driver { driver < length self.old.0 }
         requires room { 0 < self.old.1 }
         ensures placed { OnTrue result ((list_at self.old.0 driver ≡ []) × (self.new.0 ≡ with_list self.old.0 driver (put [] present now value))) }
-        ensures stays { OnFalse result (self.new.0 ≡ self.old.0) }
+        ensures stays { OnFalse result (self.new ≡ self.old) }
         ensures spare { self.old.1 ≤ self.new.1 + 1 }
     {
         if self.time != now {
             return false;
         }
-        if !is_nothing(self.standings[driver as usize]) {
+        if !is_nothing(self.front.standings[driver as usize]) {
             return false;
         }
-        if present != value {
-            enlist(&mut self.standings, &mut self.drivers, driver, value);
+        if !same(present, value) {
+            enlist(&mut self.front, driver, value);
         }
         true
     }
@@ -116,69 +118,36 @@ impl<A: Agenda> Agenda for Immediate<A> {
     ghost spare = { λ a. a.1 };
 
     fn reserve(&mut self, n: u32) -> Result<(), NoMemory> {
-        flush(
-            &mut self.agenda,
-            self.time,
-            &mut self.standings,
-            &mut self.drivers,
-        );
+        flush(&mut self.agenda, self.time, &mut self.front);
         self.agenda.reserve(n)
     }
 
     fn append(&mut self, driver: u32, time: u64, value: Value) {
-        settle(
-            &mut self.agenda,
-            self.time,
-            &mut self.standings,
-            &mut self.drivers,
-            driver,
-        );
+        settle(&mut self.agenda, self.time, &mut self.front, driver);
         self.agenda.append(driver, time, value);
     }
 
     fn drop_last(&mut self, driver: u32) {
-        settle(
-            &mut self.agenda,
-            self.time,
-            &mut self.standings,
-            &mut self.drivers,
-            driver,
-        );
+        settle(&mut self.agenda, self.time, &mut self.front, driver);
         self.agenda.drop_last(driver);
     }
 
     fn clear(&mut self, driver: u32) {
-        settle(
-            &mut self.agenda,
-            self.time,
-            &mut self.standings,
-            &mut self.drivers,
-            driver,
-        );
+        settle(&mut self.agenda, self.time, &mut self.front, driver);
         self.agenda.clear(driver);
     }
 
     fn last(&self, driver: u32) -> Option<(u64, Value)> {
-        match self.standings[driver as usize] {
+        match self.front.standings[driver as usize] {
             Standing::Nothing => None,
             Standing::Listed(value) => Some((self.time, value)),
-            Standing::Agenda => self.agenda.last(driver),
+            Standing::OnAgenda => self.agenda.last(driver),
         }
     }
 
     fn take_due(&mut self, now: u64) -> Option<(u32, Value)> {
-        turn_to(
-            &mut self.agenda,
-            &mut self.time,
-            &mut self.standings,
-            &mut self.drivers,
-            now,
-        );
-        match unlist(
-            &mut self.standings,
-            &mut self.drivers,
-            Standing::Nothing,
-        ) {
+        turn_to(&mut self.agenda, &mut self.time, &mut self.front, now);
+        match unlist(&mut self.front, Standing::Nothing) {
             Some(due) => Some(due),
             None => self.agenda.take_due(now),
         }
@@ -186,7 +155,7 @@ impl<A: Agenda> Agenda for Immediate<A> {
 
     fn least(&mut self) -> Option<u64> {
         let least = self.agenda.least();
-        if self.drivers.is_empty() {
+        if self.front.drivers.is_empty() {
             return least;
         }
         Some(earlier(self.time, least))

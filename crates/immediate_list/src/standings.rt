@@ -1,6 +1,7 @@
 // Where the transitions of drivers stand, and the list of the drivers whose transition is listed.
-ghost use Rattle.std.specs.Prelude.{◌≡◌, ◌+◌, ◌<◌, ◌≤◌, [], IfNone, IfSome, false, length, slice_set};
+ghost use Rattle.std.specs.Prelude.{◌≡◌, ◌<◌, ◌≤◌, [], ◌∷◌, ◌++◌, IfNone, IfSome, false, length, slice_set};
 ghost use Rattle.std.specs.Vec.{vec_capacity};
+ghost use Rattle.immediate_list.specs.declared.standings.Standing.TheVariants.{Listed};
 ghost use Rattle.immediate_list.specs.Standings.{standing_at, is_listed as listed, is_nothing as nothing, AreListed, IsUnlisted};
 
 use sg_logic::Value;
@@ -11,7 +12,7 @@ use sg_logic::Value;
 pub enum Standing {
     Nothing,
     Listed(Value),
-    Agenda,
+    OnAgenda,
 }
 
 /// Whether the driver is known to have no transition.
@@ -28,39 +29,52 @@ pub fn is_listed(standing: Standing) -> bool
     matches!(standing, Standing::Listed(_))
 }
 
-/// Lists a driver that isn't listed, in room that was made before.
-pub fn enlist(standings: &mut [Standing], drivers: &mut Vec<u32>, driver: u32, value: Value)
-    requires driver { driver < length standings.old }
-    requires free { listed (standing_at standings.old driver) ≡ false }
-    requires room { length standings.old ≤ vec_capacity drivers.old }
-    requires listed { AreListed standings.old drivers.old.items }
-    ensures standings { standings.new ≡ slice_set standings.old driver (Listed value) }
-    ensures listed { AreListed standings.new drivers.new.items }
-    ensures count { length drivers.new.items ≡ length drivers.old.items + 1 }
+/// Where the transitions of each driver stand, and which drivers are listed.
+#[derive(Drop)]
+pub struct Front {
+    pub standings: Vec<Standing>,
+    // with room for all
+    pub drivers: Vec<u32>,
+}
+
+// Adds a driver, in room that was made before.
+fn add(drivers: &mut Vec<u32>, driver: u32)
+    requires { length drivers.old.items < vec_capacity drivers.old }
+    ensures items { drivers.new.items ≡ drivers.old.items ++ driver ∷ [] }
     ensures capacity { vec_capacity drivers.old ≤ vec_capacity drivers.new }
 {
-    standings[driver as usize] = Standing::Listed(value);
     let pushed = drivers.push(driver);
     prove!(pushed.is_ok());
 }
 
-/// Takes the driver that was listed last, whose transitions then stand elsewhere.
-pub fn unlist(
-    standings: &mut [Standing],
-    drivers: &mut Vec<u32>,
-    after: Standing,
-) -> Option<(u32, Value)>
-    requires after { listed after ≡ false }
-    requires listed { AreListed standings.old drivers.old.items }
-    ensures some { IfSome result (λ answer. IsUnlisted standings.old standings.new drivers.old.items drivers.new.items after answer) }
-    ensures none { IfNone result ((drivers.old.items ≡ []) × (drivers.new.items ≡ []) × (standings.new ≡ standings.old)) }
-    ensures listed { AreListed standings.new drivers.new.items }
-    ensures capacity { vec_capacity drivers.old ≤ vec_capacity drivers.new }
+/// Lists a driver that isn't listed, in room that was made before.
+pub fn enlist(front: &mut Front, driver: u32, value: Value)
+    requires driver { driver < length front.old.standings.items }
+    requires free { listed (standing_at front.old.standings.items driver) ≡ false }
+    requires room { length front.old.standings.items ≤ vec_capacity front.old.drivers }
+    requires listed { AreListed front.old.standings.items front.old.drivers.items }
+    ensures standings { front.new.standings.items ≡ slice_set front.old.standings.items driver (Listed value) }
+    ensures listed { AreListed front.new.standings.items front.new.drivers.items }
+    ensures items { front.new.drivers.items ≡ front.old.drivers.items ++ driver ∷ [] }
+    ensures capacity { vec_capacity front.old.drivers ≤ vec_capacity front.new.drivers }
 {
-    let driver = drivers.pop()?;
-    let Standing::Listed(value) = standings[driver as usize] else {
+    front.standings[driver as usize] = Standing::Listed(value);
+    add(&mut front.drivers, driver);
+}
+
+/// Takes the driver that was listed last, whose transitions then stand elsewhere.
+pub fn unlist(front: &mut Front, after: Standing) -> Option<(u32, Value)>
+    requires after { listed after ≡ false }
+    requires listed { AreListed front.old.standings.items front.old.drivers.items }
+    ensures some { IfSome result (λ answer. IsUnlisted front.old.standings.items front.new.standings.items front.old.drivers.items front.new.drivers.items after answer) }
+    ensures none { IfNone result ((front.old.drivers.items ≡ []) × (front.new.drivers.items ≡ []) × (front.new.standings.items ≡ front.old.standings.items)) }
+    ensures listed { AreListed front.new.standings.items front.new.drivers.items }
+    ensures capacity { vec_capacity front.old.drivers ≤ vec_capacity front.new.drivers }
+{
+    let driver = front.drivers.pop()?;
+    let Standing::Listed(value) = front.standings[driver as usize] else {
         unreachable!()
     };
-    standings[driver as usize] = after;
+    front.standings[driver as usize] = after;
     Some((driver, value))
 }

@@ -1,5 +1,6 @@
 -- Elements that place every value at once.
-use Rattle.std.specs.Prelude.{◌≡◌, ℕ, true, ◌<◌, Bool, Option, List, length, slice_index_or}
+use Rattle.std.specs.Prelude.{◌≡◌, ℕ, ◌<◌, Bool, Option, List, length, slice_index_or}
+use Rattle.std.specs.Bool.{OnTrue}
 use Rattle.sg_logic.specs.declared.values.Value.{Value}
 use Rattle.sg_model.specs.Machine.{Stamp}
 use Rattle.sg_circuit.specs.Circuit.{Kind}
@@ -13,7 +14,7 @@ use Rattle.sim_rounds.specs.Simulated.{rule_of_kind}
 pub record IsAtOnce (kind : Kind) : Type 0 where
   pub time : (now : ℕ) (after : List Value) (stamps : List (Option Stamp)) (from to : Value) → time_of_rule (rule_of_kind kind now after stamps from to) ≡ now
 
--- a flag for each element; each whose flag is set is one
-pub record AreAtOnce (parts : Parts) (at_once : List Bool) : Type 0 where
-  pub count : length at_once ≡ length parts.elements.items
-  pub each : (e : ℕ) (d : code_element.Element) → e < length parts.elements.items → slice_index_or at_once e true ≡ true → IsAtOnce (kind_seen parts (slice_index_or parts.elements.items e d).kind)
+-- a flag for each element, which is set of no other
+pub record AreAtOnce (parts : Parts) (elements : List code_element.Element) (flags : List Bool) : Type 0 where
+  pub count : length flags ≡ length elements
+  pub each : (e : ℕ) (d : code_element.Element) (f : Bool) → e < length elements → OnTrue (slice_index_or flags e f) (IsAtOnce (kind_seen parts (slice_index_or elements e d).kind))

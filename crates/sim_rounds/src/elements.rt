@@ -58,7 +58,7 @@ impl<'a> Model for CircuitElements<'a> {
 
     ghost view = { λ g. record { circuit = circuit_seen g.parts.now; earlier = g.earlier.now; states = g.states.items } };
 
-    ghost invariant = { λ g. AreEvaluable g.parts.now g.tables.items g.states.items g.inputs × (g.marks ≡ length g.parts.now.nets.items) × AreAtOnce g.parts.now g.at_once.items };
+    ghost invariant = { λ g. AreEvaluable g.parts.now g.tables.items g.states.items g.inputs × (g.marks ≡ length g.parts.now.nets.items) × AreAtOnce g.parts.now g.parts.now.elements.items g.at_once.items };
 }
 
 // The value that an element computed last, before time 0.
@@ -127,7 +127,7 @@ impl<'a> CircuitElements<'a> {
         let before = Vec::with_capacity(alloc, width)?;
         let after = Vec::with_capacity(alloc, width)?;
         let marks = Marks::new(alloc, parts.nets.len())?;
-        let at_once = all_at_once(alloc, parts)?;
+        let at_once = all_at_once(alloc, parts, &parts.elements)?;
         Ok(CircuitElements {
             parts,
             earlier,

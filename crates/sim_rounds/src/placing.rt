@@ -1,9 +1,9 @@
 // How the values of elements are placed among what is pending.
-ghost use Rattle.std.specs.Prelude.{◌≡◌, ◌<◌, ◌≤◌, ◌^◌, ◌+◌, All, length};
-ghost use Rattle.std.specs.Bool.{OnTrue};
+ghost use Rattle.std.specs.Prelude.{◌≡◌, ◌<◌, ◌≤◌, ◌^◌, ◌+◌, [], All, IsTrue, length};
+ghost use Rattle.std.specs.Bool.{OnFalse, OnTrue};
 ghost use Rattle.sg_delay.specs.GateDelay.{delay_to};
 ghost use Rattle.sg_model.specs.Agenda.{list_at, with_list, NoneBelow};
-ghost use Rattle.sg_model.specs.Pending.{last_value};
+ghost use Rattle.sg_model.specs.Pending.{last_value, put};
 ghost use Rattle.sg_model.specs.Round.{placed_by};
 ghost use Rattle.sg_circuit.specs.Closed.{AreTimings, HasDelays, IsPathOf, NamesNets};
 ghost use Rattle.sg_circuit.specs.PathsSeen.{paths_seen, spanned, AreIndexedPaths};
@@ -198,6 +198,28 @@ fn place_value<A: Agenda, N: Nets + Stamps>(
     }
 }
 
+// A value that is placed at once goes to the list in front of the agenda, where nothing is known to be pending. It answers whether it did.
+fn place_at_once<A: Agenda>(
+    agenda: &mut Immediate<A>,
+    element: u32,
+    at_once: bool,
+    present: Value,
+    now: u64,
+    value: Value,
+) -> bool
+    requires element { element < length agenda.old.0 }
+    requires room { 2 ≤ agenda.old.1 }
+    ensures at_once { OnTrue result (IsTrue at_once) }
+    ensures placed { OnTrue result ((list_at agenda.old.0 element ≡ []) × (agenda.new.0 ≡ with_list agenda.old.0 element (put [] present now value))) }
+    ensures stays { OnFalse result (agenda.new ≡ agenda.old) }
+    ensures spare { agenda.old.1 ≤ agenda.new.1 + 1 }
+{
+    if !at_once {
+        return false;
+    }
+    agenda.place_at_once(element, present, now, value)
+}
+
 /// Places an element's value by the rule of its kind, with the nets as they are after a round. That of an element which places every
 /// value at once goes to the list in front of the agenda.
 pub fn place_by_kind<A: Agenda, N: Nets + Stamps>(
@@ -228,7 +250,7 @@ pub fn place_by_kind<A: Agenda, N: Nets + Stamps>(
     ensures spare { agenda.old.1 ≤ agenda.new.1 + 2 }
     ensures marks { marks.new ≡ marks.old }
 {
-    if at_once && agenda.place_at_once(element, present, now, value) {
+    if place_at_once(agenda, element, at_once, present, now, value) {
         return;
     }
     place_value(

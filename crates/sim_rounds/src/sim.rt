@@ -143,11 +143,12 @@ impl<'a, A: Agenda + Drop> Sim<'a, A> {
         ensures { IfOk result (λ sim. sim.circuit.now ≡ circuit.now) }
     {
         let parts = circuit.parts();
-        let agenda = Immediate::new(alloc, agenda, parts.elements.len() as u32)?;
+        let drivers = parts.elements.len() as u32;
+        let agenda = Immediate::new(alloc, agenda, drivers)?;
         let values = first_values(alloc, &parts.nets)?;
         let nets = Nets::new(alloc, &values)?;
         let told = Told::new(alloc, &values)?;
-        let work = WorkList::new(alloc, parts.elements.len() as u32)?;
+        let work = WorkList::new(alloc, drivers)?;
         let elements = CircuitElements::new(alloc, circuit)?;
         let fan = FanOut::build(alloc, circuit)?;
         let outputs = outputs_of(alloc, &parts.elements)?;
@@ -261,11 +262,12 @@ impl<'a, A: Agenda + Drop> Sim<'a, A> {
         ensures moment { IfOk result (λ sim. moment_seen sim.moment.now ≡ moment_seen moment.now) }
     {
         let parts = circuit.parts();
-        let mut agenda = Immediate::new(alloc, agenda, parts.elements.len() as u32)?;
+        let drivers = parts.elements.len() as u32;
+        let mut agenda = Immediate::new(alloc, agenda, drivers)?;
         add_pending(&mut agenda, &moment.pending)?;
         let nets = nets_of(alloc, moment)?;
         let told = Told::new(alloc, &moment.nets)?;
-        let work = WorkList::new(alloc, parts.elements.len() as u32)?;
+        let work = WorkList::new(alloc, drivers)?;
         let elements = CircuitElements::resume(alloc, circuit, moment)?;
         let fan = FanOut::build(alloc, circuit)?;
         let outputs = outputs_of(alloc, &parts.elements)?;
