@@ -1,5 +1,5 @@
 -- A list in front of an agenda, as its lists are seen.
-use Rattle.std.specs.Prelude.{◌≡◌, ◌⊎◌, ℕ, zero, suc, ◌+◌, ◌-◌, ◌<◌, ◌≤◌, ◌==◌, Bool, true, false, if◌then◌else◌, min, List, [], ◌∷◌, length, map, replicate, reverse, slice_index_or, slice_set, refl, IfSome, IfNone}
+use Rattle.std.specs.Prelude.{◌≡◌, ◌⊎◌, ℕ, zero, suc, ◌<◌, ◌≤◌, ◌==◌, Bool, true, false, if◌then◌else◌, min, List, [], ◌∷◌, length, map, replicate, reverse, slice_index_or, slice_set, refl, IfSome, IfNone}
 use Rattle.std.proofs.Common.{sym, ◌∙◌, ap, subst, arith, inl, inr}
 use Rattle.std.proofs.lemmas.List.{length-map, length-replicate, get_or-map, get_or-replicate, get_or_default, set-get_or, nil_from_length}
 use Rattle.std.proofs.lemmas.Bool.Decides.{nat_tests}

@@ -2,7 +2,7 @@
 use Rattle.std.specs.Prelude.{◌≡◌, ◌≢◌, ◌⊎◌, ℕ, zero, suc, ◌+◌, ◌<◌, ◌≤◌, Bool, true, false, if◌then◌else◌, List, [], ◌∷◌, ◌++◌, length, map, slice_index_or, slice_set, refl}
 use Rattle.std.proofs.Common.{sym, ◌∙◌, ap, subst, arith, inl, inr}
 use Rattle.std.proofs.lemmas.Bool.{cases_eq}
-use Rattle.std.proofs.lemmas.List.{length-map, length-append, get_or-map, get_or_past, get_or-set_same, get_or-set_other, map-set, set-get_or}
+use Rattle.std.proofs.lemmas.List.{length-map, length-append, get_or-map, get_or_past, get_or-set_same, get_or-set_other, map-set}
 use Rattle.sg_logic.specs.declared.values.Value.{Value}
 use Rattle.fan_round.specs.Lists.{occurrences}
 use Rattle.fan_round.specs.Work.{mark_at, count_marks, AreMarked}

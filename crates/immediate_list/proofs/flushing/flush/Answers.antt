@@ -1,6 +1,5 @@
-use Rattle.std.proofs.Common.{◌≡◌, ◌<◌, ◌+◌, ◌-◌, ◌∙◌, ℕ, length, reverse, refl, sym, ap, subst, arith}
+use Rattle.std.proofs.Common.{◌≡◌, ◌<◌, ◌∙◌, ℕ, length, reverse, sym, ap, subst, arith}
 use Rattle.std.specs.Vec.{vec_capacity}
-use Rattle.sg_model.specs.Agenda.{list_at}
 use Rattle.sg_model.specs.Pending.{IsAbove}
 use Rattle.immediate_list.specs.Standings.{lists_of}
 use Rattle.immediate_list.proofs.TableLaws.{all_on_agenda, immediate-kept, immediate-put, unlisted_bare, unlisted_many}

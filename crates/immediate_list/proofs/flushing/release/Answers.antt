@@ -1,4 +1,4 @@
-use Rattle.std.proofs.Common.{◌≡◌, ◌<◌, ◌-◌, ◌∙◌, length, false, sym, ap, subst, arith}
+use Rattle.std.proofs.Common.{◌≡◌, ◌<◌, ◌∙◌, length, sym, ap, subst, arith}
 use Rattle.immediate_list.specs.declared.standings.Standing.TheVariants.{OnAgenda}
 use Rattle.immediate_list.specs.Standings.{is_listed, AreListed}
 use Rattle.immediate_list.proofs.ListedLaws.{none_listed}

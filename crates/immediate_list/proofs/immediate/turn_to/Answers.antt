@@ -1,4 +1,4 @@
-use Rattle.std.proofs.Common.{◌≡◌, ◌-◌, length, ap, arith}
+use Rattle.std.proofs.Common.{◌≡◌, length, ap, arith}
 use Rattle.immediate_list.proofs.immediate.turn_to.Goals as goal
 
 pub returns-clause-lists : goal.returns-clause-lists

@@ -1,6 +1,6 @@
-use Rattle.std.proofs.Common.{◌≡◌, ◌<◌, ◌-◌, ◌∙◌, length, true, sym, ap, subst, arith}
+use Rattle.std.proofs.Common.{◌≡◌, ◌<◌, ◌-◌, length, sym, ap, subst, arith}
 use Rattle.std.specs.Vec.{vec_capacity}
-use Rattle.immediate_list.specs.Standings.{standing_at, is_nothing, IsImmediate}
+use Rattle.immediate_list.specs.Standings.{IsImmediate}
 use Rattle.immediate_list.proofs.TableLaws.{immediate-listed}
 use Rattle.immediate_list.proofs.ImmediateLaws.{in_view, in_lists, known_nothing, placed_listed, placed_same}
 use Rattle.immediate_list.proofs.immediate.Immediate.place_at_once.Goals as goal

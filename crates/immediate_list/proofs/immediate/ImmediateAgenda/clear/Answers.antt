@@ -1,4 +1,4 @@
-use Rattle.std.proofs.Common.{◌≡◌, ◌<◌, ◌≤◌, ◌-◌, [], length, refl, sym, ap, subst, arith}
+use Rattle.std.proofs.Common.{◌≡◌, ◌≤◌, ◌-◌, [], length, refl, ap, arith}
 use Rattle.std.specs.Vec.{vec_capacity}
 use Rattle.immediate_list.proofs.TableLaws.{immediate-changed}
 use Rattle.immediate_list.proofs.ImmediateLaws.{in_view, is_settled, settled_change}

@@ -1,4 +1,4 @@
-use Rattle.std.proofs.Common.{◌≡◌, ◌<◌, ◌≤◌, ◌-◌, [], length, refl, sym, ap, subst, arith}
+use Rattle.std.proofs.Common.{◌≡◌, ◌<◌, ◌≤◌, ◌-◌, length, refl, sym, ap, subst, arith}
 use Rattle.std.specs.Vec.{vec_capacity}
 use Rattle.sg_model.specs.Pending.{without_last}
 use Rattle.sg_model.specs.Agenda.{list_at}

@@ -2,7 +2,7 @@ use Rattle.std.proofs.Common.{◌≡◌, ◌∙◌, [], sym, ap, subst}
 use Rattle.std.specs.Option.{IfSome, IfNone}
 use Rattle.std.specs.Vec.{vec_capacity}
 use Rattle.sg_model.specs.Agenda.{AllEmpty, IsLeastTime}
-use Rattle.immediate_list.specs.Standings.{lists_of, least_of}
+use Rattle.immediate_list.specs.Standings.{lists_of}
 use Rattle.immediate_list.proofs.TableLaws.{all_on_agenda}
 use Rattle.immediate_list.proofs.ImmediateLaws.{immediate-roomier, least_listed, none_of, some_of}
 use Rattle.immediate_list.proofs.immediate.ImmediateAgenda.least.Goals as goal

@@ -1,8 +1,8 @@
-use Rattle.std.proofs.Common.{◌≡◌, ◌∙◌, sym, ap, subst}
+use Rattle.std.proofs.Common.{◌∙◌, sym, ap, subst}
 use Rattle.std.specs.Vec.{vec_capacity}
 use Rattle.sg_model.specs.Agenda.{NothingBelow, IsTaken}
 use Rattle.immediate_list.specs.Standings.{lists_of}
-use Rattle.immediate_list.proofs.TableLaws.{all_on_agenda, immediate-kept, immediate-taken, taken_lists}
+use Rattle.immediate_list.proofs.TableLaws.{all_on_agenda, immediate-kept, taken_lists}
 use Rattle.immediate_list.proofs.ImmediateLaws.{immediate-due, due_some, due_none}
 use Rattle.immediate_list.proofs.immediate.ImmediateAgenda.take_due.Goals as goal
 
