@@ -1,13 +1,12 @@
 // Which elements place every value at once.
-ghost use Rattle.std.specs.Prelude.{◌≡◌, ◌≤◌, ◌<◌, ◌↔◌, [], ◌∷◌, All, IfOk, IsTrue, length, take};
+ghost use Rattle.std.specs.Prelude.{◌≡◌, ◌≤◌, ◌<◌, ◌↔◌, All, IfOk, IsTrue, length, take};
 ghost use Rattle.std.specs.Bool.{OnTrue};
 ghost use Rattle.sg_logic.specs.declared.values.Value.{Value as NetValue};
-ghost use Rattle.sg_logic.specs.declared.values.Value.TheVariants.{Zero, One, X, Z};
 ghost use Rattle.sg_delay.specs.GateDelay.{delay_to};
-ghost use Rattle.sg_circuit.specs.Seen.{delays_at, kind_seen, IsIndexed};
+ghost use Rattle.sg_circuit.specs.Seen.{delays_at, IsIndexed};
 ghost use Rattle.sg_circuit.specs.Timings.{timing_between};
-ghost use Rattle.sg_circuit.specs.TimingsSeen.{leg_timing_seen};
-ghost use Rattle.sim_rounds.specs.AtOnce.{AreAtOnce, IsAtOnce};
+ghost use Rattle.sg_circuit.specs.TimingsSeen.{leg_timing_seen, timings_at};
+ghost use Rattle.sim_rounds.specs.AtOnce.{AreAtOnce, IsUndelayed};
 
 use path_pick::pulse_between;
 use sg_circuit::{Element, ElementKind, LegTiming, Parts};
@@ -18,52 +17,60 @@ use std::alloc::Global;
 
 const VALUES: [Value; 4] = [Value::Zero, Value::One, Value::X, Value::Z];
 
-// Whether a gate has no delay, to whatever value its output goes.
-fn has_no_delay(delays: &GateDelays) -> bool
+// Whether a gate has no delay to any of these values.
+fn has_no_delay(delays: &GateDelays, values: &[Value]) -> bool
     requires { delays.now.count ≤ 3 }
-    ensures { IsTrue result ↔ All (λ to. delay_to (take delays.now.count delays.now.at) to ≡ 0) (Zero ∷ One ∷ X ∷ Z ∷ []) }
+    ensures { IsTrue result ↔ All (λ to. delay_to (take delays.now.count delays.now.at) to ≡ 0) values.now }
 {
-    VALUES.iter().all(|to| gate_delay(delays, *to) == 0)
+    values.iter().all(|to| gate_delay(delays, *to) == 0)
 }
 
-// The same of the delays at a place of a table.
-fn is_undelayed(table: &[GateDelays], place: u32) -> bool
+// Whether the delays at a place of a table are none.
+fn is_gate_undelayed(table: &[GateDelays], place: u32) -> bool
     requires place { place < length table.now }
     requires counts { All (λ d. d.count ≤ 3) table.now }
     ensures { OnTrue result ((to : NetValue) → delay_to (delays_at table.now place) to ≡ 0) }
 {
-    has_no_delay(&table[place as usize])
+    has_no_delay(&table[place as usize], &VALUES)
 }
 
-// Whether no transition of a leg from a value has a delay.
-fn leaves_at_once(timing: &LegTiming, from: Value) -> bool
-    ensures { IsTrue result ↔ All (λ to. (timing_between (leg_timing_seen timing.now) from to).delay ≡ 0) (Zero ∷ One ∷ X ∷ Z ∷ []) }
+// Whether no transition of a leg from a value to any of these has a delay.
+fn leaves_at_once(timing: &LegTiming, from: Value, values: &[Value]) -> bool
+    ensures { IsTrue result ↔ All (λ to. (timing_between (leg_timing_seen timing.now) from to).delay ≡ 0) values.now }
 {
-    VALUES
+    values
         .iter()
         .all(|to| pulse_between(timing, from, *to).delay == 0)
 }
 
-// Whether none at all has one.
-fn passes_at_once(timing: &LegTiming) -> bool
-    ensures { IsTrue result ↔ All (λ from. All (λ to. (timing_between (leg_timing_seen timing.now) from to).delay ≡ 0) (Zero ∷ One ∷ X ∷ Z ∷ [])) (Zero ∷ One ∷ X ∷ Z ∷ []) }
+// Whether no transition of a leg between these values has a delay.
+fn passes_at_once(timing: &LegTiming, values: &[Value]) -> bool
+    ensures { IsTrue result ↔ All (λ from. All (λ to. (timing_between (leg_timing_seen timing.now) from to).delay ≡ 0) values.now) values.now }
 {
-    VALUES.iter().all(|from| leaves_at_once(timing, *from))
+    values
+        .iter()
+        .all(|from| leaves_at_once(timing, *from, values))
 }
 
-// Whether an element of this kind places every value at once.
-fn is_at_once(parts: &Parts, kind: ElementKind) -> bool
+// Whether the timings at a place of a table have no delay.
+fn is_leg_undelayed(table: &[LegTiming], place: u32) -> bool
+    requires { place < length table.now }
+    ensures { OnTrue result ((from to : NetValue) → (timing_between (timings_at table.now place) from to).delay ≡ 0) }
+{
+    passes_at_once(&table[place as usize], &VALUES)
+}
+
+// Whether an element of this kind has no delay. Of paths it isn't asked.
+fn is_undelayed(parts: &Parts, kind: ElementKind) -> bool
     requires indexed { IsIndexed parts.now kind }
     requires counts { All (λ d. d.count ≤ 3) parts.now.gate_delays.items }
-    ensures { OnTrue result (IsAtOnce (kind_seen parts.now kind)) }
+    ensures { OnTrue result (IsUndelayed parts.now kind) }
 {
     match kind {
-        ElementKind::Gate { delays, .. } | ElementKind::Udp { delays, .. } => is_undelayed(
-            &parts.gate_delays,
-            delays,
-        ),
+        ElementKind::Gate { delays, .. } => is_gate_undelayed(&parts.gate_delays, delays),
+        ElementKind::Udp { delays, .. } => is_gate_undelayed(&parts.gate_delays, delays),
         ElementKind::Pass { .. } => true,
-        ElementKind::Leg { timing } => passes_at_once(&parts.leg_timings[timing as usize]),
+        ElementKind::Leg { timing } => is_leg_undelayed(&parts.leg_timings, timing),
         ElementKind::Path { .. } => false,
         ElementKind::Late { delay } => delay == 0,
     }
@@ -81,7 +88,7 @@ pub fn all_at_once(
 {
     let mut at_once = Vec::with_capacity(alloc, elements.len())?;
     for element in elements {
-        at_once.push(is_at_once(parts, element.kind))?;
+        at_once.push(is_undelayed(parts, element.kind))?;
     }
     Ok(at_once)
 }

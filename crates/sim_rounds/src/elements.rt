@@ -195,6 +195,7 @@ impl<'a, A: Agenda, L: Ledger> Elements<Immediate<A>, L> for CircuitElements<'a>
         let parts = self.parts;
         let item = &parts.elements[at];
         let state = self.states[at];
+        let at_once = self.at_once[at];
         let inputs = &mut self.inputs;
         let value = compute(
             parts,
@@ -211,16 +212,7 @@ impl<'a, A: Agenda, L: Ledger> Elements<Immediate<A>, L> for CircuitElements<'a>
         let nets = NetsAfter { values, stamps };
         let marks = &mut self.marks;
         place_by_kind(
-            agenda,
-            parts,
-            element,
-            item.kind,
-            self.at_once[at],
-            present,
-            now,
-            value,
-            &nets,
-            marks,
+            agenda, parts, element, item.kind, at_once, present, now, value, &nets, marks,
         );
     }
 }

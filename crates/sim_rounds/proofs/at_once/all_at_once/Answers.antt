@@ -7,7 +7,7 @@ pub loop-element-init : goal.loop-element-init
 loop-element-init c = subst (λ fs. AreAtOnce c.args.parts.now _ fs) (sym c.in_ok-at_once.ensures.items) (none_flagged c.args.parts.now c.args.elements.now)
 
 pub loop-element-preserved : goal.loop-element-preserved
-loop-element-preserved c = one_more_flag c.args.parts.now c.args.elements.now c.loop-element.element-index _ c.loop-element.at_once.items c.push.new.self.items c.is_at_once.result c.loop-element-test.true c.loop-element.invariant c.is_at_once.ensures c.in_ok-push.ensures.items
+loop-element-preserved c = one_more_flag c.args.parts.now c.args.elements.now c.loop-element.element-index _ c.loop-element.at_once.items c.push.new.self.items c.is_undelayed.result c.loop-element-test.true c.loop-element.invariant c.is_undelayed.ensures c.in_ok-push.ensures.items
 
 pub returns : goal.returns
 returns c = all_flagged c.args.parts.now c.args.elements.now c.loop-element.element-index c.loop-element.at_once.items c.loop-element-test.false c.loop-element.invariant
