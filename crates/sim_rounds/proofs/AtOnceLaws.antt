@@ -64,12 +64,12 @@ undelayed_at_once parts (kind.Path paths style) h = absurd h
 undelayed_at_once parts (kind.Late delay) h = record { time = λ now after stamps from to. ap (λ d. now + d) h ∙ add-zero now }
 
 pub when_true : (b : Bool) (P : Type 0) → (IsTrue b → P) → OnTrue b P
-when_true true P f = f tt
+when_true true P f = f refl
 when_true false P f = tt
 
 pub of_true : (b : Bool) (P : Type 0) → IsTrue b → OnTrue b P → P
 of_true true P t h = h
-of_true false P t h = absurd t
+of_true false P t h = cc
 
 pub when_true_then : (b : Bool) (P Q : Type 0) → (P → Q) → OnTrue b P → OnTrue b Q
 when_true_then true P Q f h = f h
