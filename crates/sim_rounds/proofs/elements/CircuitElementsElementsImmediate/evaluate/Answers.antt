@@ -6,7 +6,7 @@ use Rattle.fan_round.specs.Nets.{stamp_seen}
 use Rattle.sim_rounds.specs.Elements.{ElementsSeen}
 use Rattle.sim_rounds.proofs.AtOnceLaws.{flag_of}
 use Rattle.sim_rounds.proofs.ElementLaws.{known_element, inputs_in, output_in, room_in, takes_in, delays_in, paths_in, list_in}
-use Rattle.sim_rounds.proofs.elements.CircuitElementsElements.evaluate.Goals as goal
+use Rattle.sim_rounds.proofs.elements.CircuitElementsElementsImmediate.evaluate.Goals as goal
 
 pub compute-value-requires-clause-before : goal.compute-value-requires-clause-before
 compute-value-requires-clause-before g c = inputs_in c.args.self.now c.self.inside.parts.now c.self.inside.earlier.now c.self.inside.tables.items c.self.inside.states.items c.self.inside.inputs c.args.element c.index-item.result.now c.args.before.now c.self.view_is c.self.invariant.0 c.requires.known c.index-item.ensures c.requires.before
