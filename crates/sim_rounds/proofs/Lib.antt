@@ -29,3 +29,4 @@ pub mod VerdictLaws
 pub mod FittingLaws
 pub mod SettlingLaws
 mod MomentExamples
+pub mod AtOnceLaws

@@ -1,6 +1,7 @@
 -- The modules of this folder.
 pub mod Simulated
 pub mod CircuitLaws
+pub mod AtOnce
 pub mod Inputs
 pub mod Elements
 pub mod CircuitChecks

@@ -6,12 +6,14 @@ ghost use Rattle.sim_rounds.specs.Moments.{Fits, state_of};
 ghost use Rattle.sim_rounds.specs.MomentsSeen.{moment_seen};
 ghost use Rattle.sim_rounds.specs.Simulated.{first_of_kind, first_state};
 
+use crate::at_once::all_at_once;
 use crate::computing::{Inputs, compute};
 use crate::moments::Moment;
 use crate::nets::NetsAfter;
-use crate::placing::place_value;
+use crate::placing::place_by_kind;
 use crate::restoring::last_values;
 use fan_round::{Elements, Stamp};
+use immediate_list::Immediate;
 use path_pick::Marks;
 use pulse_list::Agenda;
 use sg_circuit::{Circuit, Element, ElementKind, Parts, UdpUse};
@@ -36,6 +38,8 @@ pub struct CircuitElements<'a> {
     inputs: Inputs,
     // of the nets, for whoever picks a path
     marks: Marks,
+    // whether each places every value at once
+    at_once: Vec<bool>,
 }
 
 impl<'a> Model for CircuitElements<'a> {
@@ -49,11 +53,12 @@ impl<'a> Model for CircuitElements<'a> {
 
     ghost use Rattle.std.specs.Prelude.{◌≡◌, length};
     ghost use Rattle.sg_circuit.specs.Seen.{circuit_seen};
+    ghost use Rattle.sim_rounds.specs.AtOnce.{AreAtOnce};
     ghost use Rattle.sim_rounds.specs.Evaluable.{AreEvaluable};
 
     ghost view = { λ g. record { circuit = circuit_seen g.parts.now; earlier = g.earlier.now; states = g.states.items } };
 
-    ghost invariant = { λ g. AreEvaluable g.parts.now g.tables.items g.states.items g.inputs × (g.marks ≡ length g.parts.now.nets.items) };
+    ghost invariant = { λ g. AreEvaluable g.parts.now g.tables.items g.states.items g.inputs × (g.marks ≡ length g.parts.now.nets.items) × AreAtOnce g.parts.now g.parts.now.elements.items g.at_once.items };
 }
 
 // The value that an element computed last, before time 0.
@@ -122,6 +127,7 @@ impl<'a> CircuitElements<'a> {
         let before = Vec::with_capacity(alloc, width)?;
         let after = Vec::with_capacity(alloc, width)?;
         let marks = Marks::new(alloc, parts.nets.len())?;
+        let at_once = all_at_once(alloc, parts, &parts.elements)?;
         Ok(CircuitElements {
             parts,
             earlier,
@@ -129,6 +135,7 @@ impl<'a> CircuitElements<'a> {
             states,
             inputs: Inputs { before, after },
             marks,
+            at_once,
         })
     }
 
@@ -164,7 +171,7 @@ impl<'a> CircuitElements<'a> {
     }
 }
 
-impl<'a, A: Agenda, L: Ledger> Elements<A, L> for CircuitElements<'a> {
+impl<'a, A: Agenda, L: Ledger> Elements<Immediate<A>, L> for CircuitElements<'a> {
     ghost use Rattle.std.specs.Prelude.{length};
     ghost use Rattle.sim_rounds.specs.Simulated.{machine_since};
 
@@ -176,7 +183,7 @@ impl<'a, A: Agenda, L: Ledger> Elements<A, L> for CircuitElements<'a> {
 
     fn evaluate(
         &mut self,
-        agenda: &mut A,
+        agenda: &mut Immediate<A>,
         element: u32,
         now: u64,
         before: &[Value],
@@ -188,6 +195,7 @@ impl<'a, A: Agenda, L: Ledger> Elements<A, L> for CircuitElements<'a> {
         let parts = self.parts;
         let item = &parts.elements[at];
         let state = self.states[at];
+        let at_once = self.at_once[at];
         let inputs = &mut self.inputs;
         let value = compute(
             parts,
@@ -203,8 +211,8 @@ impl<'a, A: Agenda, L: Ledger> Elements<A, L> for CircuitElements<'a> {
         let present = values[item.output as usize];
         let nets = NetsAfter { values, stamps };
         let marks = &mut self.marks;
-        place_value(
-            agenda, parts, element, item.kind, present, now, value, &nets, marks,
+        place_by_kind(
+            agenda, parts, element, item.kind, at_once, present, now, value, &nets, marks,
         );
     }
 }

@@ -1,6 +1,7 @@
 //! The machine of a circuit, and its simulation in work that is in proportion to what changes.
 #![tactic(auto)]
 
+mod at_once;
 mod circuit_checks;
 mod computing;
 mod elements;

@@ -1,8 +1,9 @@
 // How the values of elements are placed among what is pending.
-ghost use Rattle.std.specs.Prelude.{◌≡◌, ◌<◌, ◌≤◌, ◌^◌, ◌+◌, All, length};
+ghost use Rattle.std.specs.Prelude.{◌≡◌, ◌<◌, ◌≤◌, ◌^◌, ◌+◌, [], All, IsTrue, length};
+ghost use Rattle.std.specs.Bool.{OnFalse, OnTrue};
 ghost use Rattle.sg_delay.specs.GateDelay.{delay_to};
 ghost use Rattle.sg_model.specs.Agenda.{list_at, with_list, NoneBelow};
-ghost use Rattle.sg_model.specs.Pending.{last_value};
+ghost use Rattle.sg_model.specs.Pending.{last_value, put};
 ghost use Rattle.sg_model.specs.Round.{placed_by};
 ghost use Rattle.sg_circuit.specs.Closed.{AreTimings, HasDelays, IsPathOf, NamesNets};
 ghost use Rattle.sg_circuit.specs.PathsSeen.{paths_seen, spanned, AreIndexedPaths};
@@ -10,9 +11,11 @@ ghost use Rattle.sg_circuit.specs.Seen.{delays_at, kind_seen, IsIndexed};
 ghost use Rattle.sg_circuit.specs.Timings.{timing_between};
 ghost use Rattle.sg_circuit.specs.TimingsSeen.{leg_timing_seen};
 ghost use Rattle.path_pick.specs.Choice.{picked};
+ghost use Rattle.sim_rounds.specs.AtOnce.{IsAtOnce};
 ghost use Rattle.sim_rounds.specs.Simulated.{rule_of_kind, late_rule, leg_rule, path_rule};
 
 use cond_expr::Nets;
+use immediate_list::Immediate;
 use path_pick::{Marks, Stamps, pick, pulse_between};
 use pulse_list::{Agenda, end_value, place, place_inertial};
 use sg_circuit::{ElementKind, LegTiming, Parts, Span};
@@ -149,8 +152,8 @@ fn delay_of(table: &[GateDelays], place: u32, to: Value) -> u64
     gate_delay(&table[place as usize], to)
 }
 
-/// Places an element's value by the rule of its kind, with the nets as they are after a round.
-pub fn place_value<A: Agenda, N: Nets + Stamps>(
+// Places an element's value by the rule of its kind, with the nets as they are after a round.
+fn place_value<A: Agenda, N: Nets + Stamps>(
     agenda: &mut A,
     parts: &Parts,
     element: u32,
@@ -193,4 +196,64 @@ pub fn place_value<A: Agenda, N: Nets + Stamps>(
         }
         ElementKind::Late { delay } => place_late(agenda, element, present, now, value, delay),
     }
+}
+
+// A value that is placed at once goes to the list in front of the agenda, where nothing is known to be pending. It answers whether it did.
+fn place_at_once<A: Agenda>(
+    agenda: &mut Immediate<A>,
+    element: u32,
+    at_once: bool,
+    present: Value,
+    now: u64,
+    value: Value,
+) -> bool
+    requires element { element < length agenda.old.0 }
+    requires room { 2 ≤ agenda.old.1 }
+    ensures at_once { OnTrue result (IsTrue at_once) }
+    ensures placed { OnTrue result ((list_at agenda.old.0 element ≡ []) × (agenda.new.0 ≡ with_list agenda.old.0 element (put [] present now value))) }
+    ensures stays { OnFalse result (agenda.new ≡ agenda.old) }
+    ensures spare { agenda.old.1 ≤ agenda.new.1 + 1 }
+{
+    if !at_once {
+        return false;
+    }
+    agenda.place_at_once(element, present, now, value)
+}
+
+/// Places an element's value by the rule of its kind, with the nets as they are after a round. That of an element which places every
+/// value at once goes to the list in front of the agenda.
+pub fn place_by_kind<A: Agenda, N: Nets + Stamps>(
+    agenda: &mut Immediate<A>,
+    parts: &Parts,
+    element: u32,
+    kind: ElementKind,
+    at_once: bool,
+    present: Value,
+    now: u64,
+    value: Value,
+    nets: &N,
+    marks: &mut Marks,
+)
+    requires element { element < length agenda.old.0 }
+    requires room { 2 ≤ agenda.old.1 }
+    requires from_now { NoneBelow now (list_at agenda.old.0 element) }
+    requires now { now < 2 ^ 60 }
+    requires indexed { IsIndexed parts.now kind }
+    requires counts { All (λ d. d.count ≤ 3) parts.now.gate_delays.items }
+    requires delays { HasDelays (kind_seen parts.now kind) }
+    requires paths { NamesNets (length (N.values nets.now)) (kind_seen parts.now kind) }
+    requires stamps { length (N.stamps nets.now) ≡ length (N.values nets.now) }
+    requires marks { marks.old ≡ length (N.stamps nets.now) }
+    requires at_once { OnTrue at_once (IsAtOnce (kind_seen parts.now kind)) }
+    ensures lists { agenda.new.0 ≡ with_list agenda.old.0 element
+        (placed_by (rule_of_kind (kind_seen parts.now kind) now (N.values nets.now) (N.stamps nets.now) (last_value (list_at agenda.old.0 element) present) value) (list_at agenda.old.0 element) present now value) }
+    ensures spare { agenda.old.1 ≤ agenda.new.1 + 2 }
+    ensures marks { marks.new ≡ marks.old }
+{
+    if place_at_once(agenda, element, at_once, present, now, value) {
+        return;
+    }
+    place_value(
+        agenda, parts, element, kind, present, now, value, nets, marks,
+    );
 }

@@ -14,6 +14,7 @@ use crate::moments::Moment;
 use crate::pausing::stop;
 use crate::sim::{Finished, recall_closed, tally_of};
 use crate::stops::Until;
+use immediate_list::Immediate;
 use pulse_list::Agenda;
 use sg_circuit::Circuit;
 use sg_io::Shelf;
@@ -27,10 +28,10 @@ use std::sync::ledger::Ledger;
 pub struct Resumed<'a, A: Agenda> {
     pub(super) circuit: &'a Circuit,
     pub(super) moment: &'a Moment,
-    pub(super) engine: Engine<'a, A>,
+    pub(super) engine: Engine<'a, Immediate<A>>,
     ghost fits: { Fits circuit.now (moment_seen moment.now) } by { Fits-prop circuit.now (moment_seen moment.now) },
     ghost seen: { AreChecksAt circuit.now moment.now.latest.items (snapshot_of (moment_seen moment.now) ∷ []) engine.checks.checks.now engine.checks.checker engine.checks.touched engine.checks.named } by { Prim.hlevel (props, Coded-set (coded_cond coded_ℕ)) },
-    ghost at: { IsEngineAt circuit.now moment.now.latest.items (state_of circuit.now (moment_seen moment.now)) engine.nets engine.told engine.work engine.elements (A.lists engine.agenda) engine.fan engine.outputs.items },
+    ghost at: { IsEngineAt circuit.now moment.now.latest.items (state_of circuit.now (moment_seen moment.now)) engine.nets engine.told engine.work engine.elements engine.agenda.0 engine.fan engine.outputs.items },
 }
 
 impl<'a, A: Agenda + Drop> Resumed<'a, A> {

@@ -18,6 +18,7 @@ use crate::restoring::{add_pending, nets_of};
 use crate::resumed::Resumed;
 use crate::stops::Until;
 use fan_round::{Nets, WorkList};
+use immediate_list::Immediate;
 use pulse_list::Agenda;
 use sg_circuit::{Circuit, Driver, Element, FanOut, Net, NetId};
 use sg_io::Shelf;
@@ -120,9 +121,9 @@ pub fn tally_of<A: Drop, E: Drop, C: Drop>(simulation: Simulation<'_, A, E, C>) 
 #[derive(Drop)]
 pub struct Sim<'a, A: Agenda> {
     circuit: &'a Circuit,
-    engine: Engine<'a, A>,
+    engine: Engine<'a, Immediate<A>>,
     ghost unseen: { AreChecksAt circuit.now [] [] engine.checks.checks.now engine.checks.checker engine.checks.touched engine.checks.named } by { Prim.hlevel (props, Coded-set (coded_cond coded_ℕ)) },
-    ghost fresh: { IsEngineAt circuit.now [] (first_state circuit.now) engine.nets engine.told engine.work engine.elements (A.lists engine.agenda) engine.fan engine.outputs.items },
+    ghost fresh: { IsEngineAt circuit.now [] (first_state circuit.now) engine.nets engine.told engine.work engine.elements engine.agenda.0 engine.fan engine.outputs.items },
 }
 
 impl<'a, A: Agenda + Drop> Sim<'a, A> {
@@ -142,10 +143,12 @@ impl<'a, A: Agenda + Drop> Sim<'a, A> {
         ensures { IfOk result (λ sim. sim.circuit.now ≡ circuit.now) }
     {
         let parts = circuit.parts();
+        let drivers = parts.elements.len() as u32;
+        let agenda = Immediate::new(alloc, agenda, drivers)?;
         let values = first_values(alloc, &parts.nets)?;
         let nets = Nets::new(alloc, &values)?;
         let told = Told::new(alloc, &values)?;
-        let work = WorkList::new(alloc, parts.elements.len() as u32)?;
+        let work = WorkList::new(alloc, drivers)?;
         let elements = CircuitElements::new(alloc, circuit)?;
         let fan = FanOut::build(alloc, circuit)?;
         let outputs = outputs_of(alloc, &parts.elements)?;
@@ -259,11 +262,12 @@ impl<'a, A: Agenda + Drop> Sim<'a, A> {
         ensures moment { IfOk result (λ sim. moment_seen sim.moment.now ≡ moment_seen moment.now) }
     {
         let parts = circuit.parts();
-        let mut agenda = agenda;
+        let drivers = parts.elements.len() as u32;
+        let mut agenda = Immediate::new(alloc, agenda, drivers)?;
         add_pending(&mut agenda, &moment.pending)?;
         let nets = nets_of(alloc, moment)?;
         let told = Told::new(alloc, &moment.nets)?;
-        let work = WorkList::new(alloc, parts.elements.len() as u32)?;
+        let work = WorkList::new(alloc, drivers)?;
         let elements = CircuitElements::resume(alloc, circuit, moment)?;
         let fan = FanOut::build(alloc, circuit)?;
         let outputs = outputs_of(alloc, &parts.elements)?;

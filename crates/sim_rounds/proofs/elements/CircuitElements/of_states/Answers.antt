@@ -1,4 +1,5 @@
-use Rattle.std.proofs.Common.{◌∙◌}
+use Rattle.std.proofs.Common.{◌∙◌, subst}
+use Rattle.sim_rounds.specs.AtOnce.{AreAtOnce}
 use Rattle.sim_rounds.proofs.ElementLaws.{evaluable_with, of_circuit_seen}
 use Rattle.sim_rounds.proofs.elements.CircuitElements.of_states.Goals as goal
 
@@ -8,6 +9,7 @@ invariant_of-result c = (
       (record { before = c.in_ok-before.before; after = c.in_ok-after.after }) c.widest-width.result c.parts-parts.ensures.seen c.parts-parts.ensures.closed c.parts-parts.ensures.indexed c.deref.ensures.value c.in_ok-tables.ensures c.requires
       c.deref-2.ensures.value c.widest-width.ensures c.in_ok-before.ensures.capacity c.in_ok-after.ensures.capacity,
   c.in_ok-marks.ensures ∙ (c.len.ensures ∙ c.parts-parts.result.now.nets.ok.0),
+  subst (λ es. AreAtOnce c.parts-parts.result.now es c.in_ok-at_once.at_once.items) c.deref-3.ensures.value c.in_ok-at_once.ensures,
 )
 
 pub returns : goal.returns

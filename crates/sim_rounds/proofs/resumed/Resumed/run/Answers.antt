@@ -29,10 +29,10 @@ make_times-end-requires-clause-ready g c =
     let engine = c.simulate-simulation.ensures in
     let circuit : Circuit = c.args.self.circuit.now in
     let m : Moment = moment_seen c.args.self.moment.now in
-    let h : IsEngineAt circuit m.latest (state_of circuit m) s.nets s.told s.work s.elements (g.A.Agenda.lists s.agenda) s.fan s.outputs.items = engine.engine circuit m.latest (state_of circuit m) c.args.self.at in
+    let h : IsEngineAt circuit m.latest (state_of circuit m) s.nets s.told s.work s.elements s.agenda.0 s.fan s.outputs.items = engine.engine circuit m.latest (state_of circuit m) c.args.self.at in
     let k : AreChecksAt circuit m.latest (snapshot_of m ∷ []) s.checks.checks.now s.checks.checker s.checks.touched s.checks.named = engine.checks circuit m.latest (snapshot_of m ∷ []) c.args.self.seen in
     let applied : IsApplied circuit (stimulus_seen s.stimulus.now) = subst (λ x. IsApplied circuit (stimulus_seen x)) (sym engine.stimulus) c.requires.stimulus in
-    engine_ready (m.time + 1 == 0) (m.time + 1) circuit m.latest (state_of circuit m) (snapshot_of m ∷ []) s.nets s.told s.work s.elements (g.A.Agenda.lists s.agenda) s.fan s.outputs.items s.handed.items s.ended s.violations.items (stimulus_seen s.stimulus.now) s.checks.checks.now s.checks.checker s.checks.touched s.checks.named
+    engine_ready (m.time + 1 == 0) (m.time + 1) circuit m.latest (state_of circuit m) (snapshot_of m ∷ []) s.nets s.told s.work s.elements s.agenda.0 s.fan s.outputs.items s.handed.items s.ended s.violations.items (stimulus_seen s.stimulus.now) s.checks.checks.now s.checks.checker s.checks.touched s.checks.named
     c.recall_closed.ensures applied (can_resume circuit m (m.time + 1 == 0) c.args.self.fits) k h engine.handed engine.ended
 
 pub make_times-end-requires-clause-law : goal.make_times-end-requires-clause-law
@@ -62,14 +62,14 @@ returns-clause-ended g c =
     let engine = c.simulate-simulation.ensures in
     let circuit : Circuit = c.args.self.circuit.now in
     let m : Moment = moment_seen c.args.self.moment.now in
-    let h : IsEngineAt circuit m.latest (state_of circuit m) s.nets s.told s.work s.elements (g.A.Agenda.lists s.agenda) s.fan s.outputs.items = engine.engine circuit m.latest (state_of circuit m) c.args.self.at in
+    let h : IsEngineAt circuit m.latest (state_of circuit m) s.nets s.told s.work s.elements s.agenda.0 s.fan s.outputs.items = engine.engine circuit m.latest (state_of circuit m) c.args.self.at in
     let k : AreChecksAt circuit m.latest (snapshot_of m ∷ []) s.checks.checks.now s.checks.checker s.checks.touched s.checks.named = engine.checks circuit m.latest (snapshot_of m ∷ []) c.args.self.seen in
     let stimulus : Stimulus = stimulus_seen c.args.stimulus.now in
     let kept : Kept = kept_of s.told (λ ss. latest_events s.checks.checker.earlier s.checks.checker.checks ss) s.ended s.violations.items s.last (stimulus_seen s.stimulus.now) in
     let told : kept.told ≡ (state_of circuit m).values = h.values_told ∙ h.values in
     let last : kept.last ≡ m.last = engine.last in
     let falls : m.time ≤ m.time + 1 = omega arith in
-    let stood = engine_stands (m.time + 1) circuit m.latest (state_of circuit m) (snapshot_of m ∷ []) s.nets s.told s.work s.elements (g.A.Agenda.lists s.agenda) s.fan s.outputs.items s.violations.items s.evaluations s.ended s.checks.checks.now s.checks.checker s.checks.touched s.checks.named c.args.self.fits.latest (falls, tt) (all_covered m.nets s.checks.touched.list.items) k h engine.violations engine.evaluations engine.ended in
+    let stood = engine_stands (m.time + 1) circuit m.latest (state_of circuit m) (snapshot_of m ∷ []) s.nets s.told s.work s.elements s.agenda.0 s.fan s.outputs.items s.violations.items s.evaluations s.ended s.checks.checks.now s.checks.checker s.checks.touched s.checks.named c.args.self.fits.latest (falls, tt) (all_covered m.nets s.checks.touched.list.items) k h engine.violations engine.evaluations engine.ended in
     let begins = begins_after circuit stimulus.end m kept (omega (arith, c.requires.end)) told last in
     let w = g.W.Watch in
     let made = c.make_times-end.new in
@@ -89,13 +89,13 @@ returns-clause-evaluations g c =
     let engine = c.simulate-simulation.ensures in
     let circuit : Circuit = c.args.self.circuit.now in
     let m : Moment = moment_seen c.args.self.moment.now in
-    let h : IsEngineAt circuit m.latest (state_of circuit m) s.nets s.told s.work s.elements (g.A.Agenda.lists s.agenda) s.fan s.outputs.items = engine.engine circuit m.latest (state_of circuit m) c.args.self.at in
+    let h : IsEngineAt circuit m.latest (state_of circuit m) s.nets s.told s.work s.elements s.agenda.0 s.fan s.outputs.items = engine.engine circuit m.latest (state_of circuit m) c.args.self.at in
     let k : AreChecksAt circuit m.latest (snapshot_of m ∷ []) s.checks.checks.now s.checks.checker s.checks.touched s.checks.named = engine.checks circuit m.latest (snapshot_of m ∷ []) c.args.self.seen in
     let stimulus : Stimulus = stimulus_seen c.args.stimulus.now in
     let kept : Kept = kept_of s.told (λ ss. latest_events s.checks.checker.earlier s.checks.checker.checks ss) s.ended s.violations.items s.last (stimulus_seen s.stimulus.now) in
     let told : kept.told ≡ (state_of circuit m).values = h.values_told ∙ h.values in
     let last : kept.last ≡ m.last = engine.last in
     let falls : m.time ≤ m.time + 1 = omega arith in
-    let stood = engine_stands (m.time + 1) circuit m.latest (state_of circuit m) (snapshot_of m ∷ []) s.nets s.told s.work s.elements (g.A.Agenda.lists s.agenda) s.fan s.outputs.items s.violations.items s.evaluations s.ended s.checks.checks.now s.checks.checker s.checks.touched s.checks.named c.args.self.fits.latest (falls, tt) (all_covered m.nets s.checks.touched.list.items) k h engine.violations engine.evaluations engine.ended in
+    let stood = engine_stands (m.time + 1) circuit m.latest (state_of circuit m) (snapshot_of m ∷ []) s.nets s.told s.work s.elements s.agenda.0 s.fan s.outputs.items s.violations.items s.evaluations s.ended s.checks.checks.now s.checks.checker s.checks.touched s.checks.named c.args.self.fits.latest (falls, tt) (all_covered m.nets s.checks.touched.list.items) k h engine.violations engine.evaluations engine.ended in
     let begins = begins_after circuit stimulus.end m kept (omega (arith, c.requires.end)) told last in
     c.tally_of.ensures.evaluations ∙ c.make_times-end.ensures.ended.shown (origin_at circuit stimulus.end m) begins stood

@@ -1,4 +1,4 @@
-use Rattle.std.specs.Prelude.{◌≡◌, length, map}
+use Rattle.std.specs.Prelude.{◌≡◌, [], length, map, replicate}
 use Rattle.std.proofs.Common.{◌∙◌, sym, ap, subst, refl}
 use Rattle.sg_circuit.specs.Circuit.{Circuit}
 use Rattle.sg_circuit.specs.Seen.{circuit_seen, element_seen}
@@ -9,6 +9,13 @@ use Rattle.sim_times.specs.Told.{IsTold}
 use Rattle.sim_rounds.specs.Simulated.{first_state}
 use Rattle.sim_rounds.proofs.SimLaws.{outputs_seen, no_lists, no_stamps, count_seen}
 use Rattle.sim_rounds.proofs.sim.Sim.new.Goals as goal
+
+pub new-requires : goal.new-requires
+new-requires g c =
+    let circuit : Circuit = c.args.circuit.now in
+    let parts = c.parts-parts.result.now in
+    let many : c.len.result ≡ length circuit.elements = c.len.ensures ∙ (parts.elements.ok.0 ∙ (sym (count_seen parts.elements.items (element_seen parts)) ∙ ap (λ x. length x.elements) c.parts-parts.ensures.seen)) in
+    c.requires ∙ ap (λ n. replicate n []) (sym many)
 
 pub invariant_of-result : goal.invariant_of-result
 invariant_of-result g c =
@@ -34,7 +41,7 @@ invariant_of-result g c =
         told = subst (λ vs. IsTold c.in_ok-told.told vs) told c.in_ok-told.ensures.told;
         values_told = c.in_ok-told.ensures.values ∙ told;
         idle = subst (IsIdle c.in_ok-work.work) many c.in_ok-work.ensures;
-        lists = c.requires ∙ no_lists (length circuit.elements) circuit.elements refl;
+        lists = c.in_ok-agenda.ensures ∙ (ap (λ n. replicate n []) many ∙ no_lists (length circuit.elements) circuit.elements refl);
         fan_out = c.in_ok-fan.ensures.readers;
         each_net = c.in_ok-fan.ensures.nets;
         outputs = c.in_ok-outputs.ensures ∙ (ap (map (λ e. e.output)) c.deref-4.ensures.value ∙ (outputs_seen parts parts.elements.items ∙ ap (λ x. map (λ e. e.output) x.elements) seen));

@@ -1,4 +1,4 @@
-use Rattle.std.specs.Prelude.{◌^◌, All, length, map, reverse}
+use Rattle.std.specs.Prelude.{◌^◌, All, length, map, replicate, reverse}
 use Rattle.std.proofs.Common.{◌≡◌, ◌<◌, [], ◌∙◌, sym, ap, subst}
 use Rattle.std.proofs.lemmas.List.{length-replicate}
 use Rattle.sg_circuit.specs.Circuit.{Circuit}
@@ -13,15 +13,28 @@ use Rattle.sim_rounds.proofs.RestoredLaws.{drivers_within, near_stamps, restored
 use Rattle.sim_rounds.proofs.SimLaws.{count_seen, outputs_seen}
 use Rattle.sim_rounds.proofs.sim.Sim.resume.Goals as goal
 
+pub new-requires : goal.new-requires
+new-requires g c =
+    let circuit : Circuit = c.args.circuit.now in
+    let parts = c.parts-parts.result.now in
+    let many : c.len.result ≡ length circuit.elements = c.len.ensures ∙ (parts.elements.ok.0 ∙ (sym (count_seen parts.elements.items (element_seen parts)) ∙ ap (λ x. length x.elements) c.parts-parts.ensures.seen)) in
+    c.requires.agenda ∙ ap (λ n. replicate n []) (sym many)
+
 pub add_pending-requires-clause-drivers : goal.add_pending-requires-clause-drivers
 add_pending-requires-clause-drivers g c =
-    let n = length (g.A.Agenda.lists c.args.agenda) in
-    let many : n ≡ length c.args.circuit.now.elements = ap length c.requires.agenda ∙ length-replicate (length c.args.circuit.now.elements) [] in
+    let circuit : Circuit = c.args.circuit.now in
+    let parts = c.parts-parts.result.now in
+    let drivers : c.len.result ≡ length circuit.elements = c.len.ensures ∙ (parts.elements.ok.0 ∙ (sym (count_seen parts.elements.items (element_seen parts)) ∙ ap (λ x. length x.elements) c.parts-parts.ensures.seen)) in
+    let n = length c.in_ok-agenda.agenda.0 in
+    let many : n ≡ length circuit.elements = ap length c.in_ok-agenda.ensures ∙ (length-replicate c.len.result [] ∙ drivers) in
     subst (λ ps. All (λ (p : Pending). p.driver < n) ps) (sym c.deref.ensures.value) (drivers_within c.args.circuit.now c.args.moment.now n c.requires.fits many)
 
 pub add_pending-requires-clause-rise : goal.add_pending-requires-clause-rise
 add_pending-requires-clause-rise g c = λ e l.
-    (let many : length (g.A.Agenda.lists c.args.agenda) ≡ length c.args.circuit.now.elements = ap length c.requires.agenda ∙ length-replicate (length c.args.circuit.now.elements) [] in
+    (let circuit : Circuit = c.args.circuit.now in
+    let parts = c.parts-parts.result.now in
+    let drivers : c.len.result ≡ length circuit.elements = c.len.ensures ∙ (parts.elements.ok.0 ∙ (sym (count_seen parts.elements.items (element_seen parts)) ∙ ap (λ x. length x.elements) c.parts-parts.ensures.seen)) in
+    let many : length c.in_ok-agenda.agenda.0 ≡ length circuit.elements = ap length c.in_ok-agenda.ensures ∙ (length-replicate c.len.result [] ∙ drivers) in
     subst (λ ps. Rises (reverse (pending_of e (map (λ p. pending_seen p) ps)))) (sym c.deref.ensures.value)
     (rise_each c.args.circuit.now (moment_seen c.args.moment.now) e c.requires.fits (subst (λ n. e < n) many l)))
 
@@ -34,9 +47,9 @@ invariant_of-result g c =
     let m : Moment = moment_seen c.args.moment.now in
     let parts = c.parts-parts.result.now in
     let seen : circuit_seen parts ≡ circuit = c.parts-parts.ensures.seen in
-    let before = g.A.Agenda.lists c.args.agenda in
-    let elements : length before ≡ length circuit.elements = ap length c.requires.agenda ∙ length-replicate (length circuit.elements) [] in
     let many : c.len.result ≡ length circuit.elements = c.len.ensures ∙ (parts.elements.ok.0 ∙ (sym (count_seen parts.elements.items (element_seen parts)) ∙ ap (λ x. length x.elements) seen)) in
+    let before = c.in_ok-agenda.agenda.0 in
+    let elements : length before ≡ length circuit.elements = ap length c.in_ok-agenda.ensures ∙ (length-replicate c.len.result [] ∙ many) in
     let told : c.deref-2.result.now ≡ c.in_ok-nets.nets.values.items = c.deref-2.ensures.value ∙ sym c.in_ok-nets.ensures.values in
     record {
       fits = c.requires.fits;
@@ -52,7 +65,7 @@ invariant_of-result g c =
         told = subst (λ vs. IsTold c.in_ok-told.told vs) told c.in_ok-told.ensures.told;
         values_told = c.in_ok-told.ensures.values ∙ told;
         idle = subst (IsIdle c.in_ok-work.work) many c.in_ok-work.ensures;
-        lists = restored_lists circuit m before (g.A.Agenda.lists c.add_pending.new.agenda) elements c.in_ok-add_pending.ensures.many
+        lists = restored_lists circuit m before c.add_pending.new.agenda.0 elements c.in_ok-add_pending.ensures.many
             (λ e l. c.in_ok-add_pending.ensures.each e l ∙ ap (λ ps. pending_of e (map (λ p. pending_seen p) ps)) c.deref.ensures.value);
         fan_out = c.in_ok-fan.ensures.readers;
         each_net = c.in_ok-fan.ensures.nets;

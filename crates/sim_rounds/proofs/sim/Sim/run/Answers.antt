@@ -26,10 +26,10 @@ make_times-end-requires-clause-ready g c =
     let s = c.simulate-simulation.result in
     let engine = c.simulate-simulation.ensures in
     let circuit : Circuit = c.args.self.circuit.now in
-    let h : IsEngineAt circuit [] (first_state circuit) s.nets s.told s.work s.elements (g.A.Agenda.lists s.agenda) s.fan s.outputs.items = engine.engine circuit [] (first_state circuit) c.args.self.fresh in
+    let h : IsEngineAt circuit [] (first_state circuit) s.nets s.told s.work s.elements s.agenda.0 s.fan s.outputs.items = engine.engine circuit [] (first_state circuit) c.args.self.fresh in
     let k : AreChecksAt circuit [] [] s.checks.checks.now s.checks.checker s.checks.touched s.checks.named = engine.checks circuit [] [] c.args.self.unseen in
     let applied : IsApplied circuit (stimulus_seen s.stimulus.now) = subst (λ x. IsApplied circuit (stimulus_seen x)) (sym engine.stimulus) c.requires.stimulus in
-    engine_ready true 0 circuit [] (first_state circuit) [] s.nets s.told s.work s.elements (g.A.Agenda.lists s.agenda) s.fan s.outputs.items s.handed.items s.ended s.violations.items (stimulus_seen s.stimulus.now) s.checks.checks.now s.checks.checker s.checks.touched s.checks.named
+    engine_ready true 0 circuit [] (first_state circuit) [] s.nets s.told s.work s.elements s.agenda.0 s.fan s.outputs.items s.handed.items s.ended s.violations.items (stimulus_seen s.stimulus.now) s.checks.checks.now s.checks.checker s.checks.touched s.checks.named
     c.recall_closed.ensures applied (can_begin circuit) k h engine.handed engine.ended
 
 pub make_times-end-requires-clause-law : goal.make_times-end-requires-clause-law
@@ -50,13 +50,13 @@ returns-clause-ended g c =
     let s = c.simulate-simulation.result in
     let engine = c.simulate-simulation.ensures in
     let circuit : Circuit = c.args.self.circuit.now in
-    let h : IsEngineAt circuit [] (first_state circuit) s.nets s.told s.work s.elements (g.A.Agenda.lists s.agenda) s.fan s.outputs.items = engine.engine circuit [] (first_state circuit) c.args.self.fresh in
+    let h : IsEngineAt circuit [] (first_state circuit) s.nets s.told s.work s.elements s.agenda.0 s.fan s.outputs.items = engine.engine circuit [] (first_state circuit) c.args.self.fresh in
     let k : AreChecksAt circuit [] [] s.checks.checks.now s.checks.checker s.checks.touched s.checks.named = engine.checks circuit [] [] c.args.self.unseen in
     let stimulus : Stimulus = stimulus_seen c.args.stimulus.now in
     let kept : Kept = kept_of s.told (λ ss. latest_events s.checks.checker.earlier s.checks.checker.checks ss) s.ended s.violations.items s.last (stimulus_seen s.stimulus.now) in
     let told : kept.told ≡ (first_state circuit).values = h.values_told ∙ h.values in
     let last : kept.last ≡ 0 = engine.last in
-    let stood = engine_stands 0 circuit [] (first_state circuit) [] s.nets s.told s.work s.elements (g.A.Agenda.lists s.agenda) s.fan s.outputs.items s.violations.items s.evaluations s.ended s.checks.checks.now s.checks.checker s.checks.touched s.checks.named refl tt tt k h engine.violations engine.evaluations engine.ended in
+    let stood = engine_stands 0 circuit [] (first_state circuit) [] s.nets s.told s.work s.elements s.agenda.0 s.fan s.outputs.items s.violations.items s.evaluations s.ended s.checks.checks.now s.checks.checker s.checks.touched s.checks.named refl tt tt k h engine.violations engine.evaluations engine.ended in
     let begins = begins_first circuit stimulus c.args.rounds kept told last in
     let w = g.W.Watch in
     let made = c.make_times-end.new in
@@ -75,12 +75,12 @@ returns-clause-evaluations g c =
     let s = c.simulate-simulation.result in
     let engine = c.simulate-simulation.ensures in
     let circuit : Circuit = c.args.self.circuit.now in
-    let h : IsEngineAt circuit [] (first_state circuit) s.nets s.told s.work s.elements (g.A.Agenda.lists s.agenda) s.fan s.outputs.items = engine.engine circuit [] (first_state circuit) c.args.self.fresh in
+    let h : IsEngineAt circuit [] (first_state circuit) s.nets s.told s.work s.elements s.agenda.0 s.fan s.outputs.items = engine.engine circuit [] (first_state circuit) c.args.self.fresh in
     let k : AreChecksAt circuit [] [] s.checks.checks.now s.checks.checker s.checks.touched s.checks.named = engine.checks circuit [] [] c.args.self.unseen in
     let stimulus : Stimulus = stimulus_seen c.args.stimulus.now in
     let kept : Kept = kept_of s.told (λ ss. latest_events s.checks.checker.earlier s.checks.checker.checks ss) s.ended s.violations.items s.last (stimulus_seen s.stimulus.now) in
     let told : kept.told ≡ (first_state circuit).values = h.values_told ∙ h.values in
     let last : kept.last ≡ 0 = engine.last in
-    let stood = engine_stands 0 circuit [] (first_state circuit) [] s.nets s.told s.work s.elements (g.A.Agenda.lists s.agenda) s.fan s.outputs.items s.violations.items s.evaluations s.ended s.checks.checks.now s.checks.checker s.checks.touched s.checks.named refl tt tt k h engine.violations engine.evaluations engine.ended in
+    let stood = engine_stands 0 circuit [] (first_state circuit) [] s.nets s.told s.work s.elements s.agenda.0 s.fan s.outputs.items s.violations.items s.evaluations s.ended s.checks.checks.now s.checks.checker s.checks.touched s.checks.named refl tt tt k h engine.violations engine.evaluations engine.ended in
     let begins = begins_first circuit stimulus c.args.rounds kept told last in
     c.tally_of.ensures.evaluations ∙ c.make_times-end.ensures.ended.shown (origin_of (setting_of circuit stimulus c.args.rounds)) begins stood
