@@ -17,6 +17,7 @@ pub use groups::{is_group, parts_of};
 pub use meanings::none_of;
 pub use numbers::{
     Corners, corners_of, has_long_exponent, has_typical, is_value, larger_of, push_corners,
+    smaller_of,
 };
 pub use ports::{Bits, Port};
 pub use spelling::{end_of, push_tokens};

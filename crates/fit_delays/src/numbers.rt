@@ -206,12 +206,32 @@ fn larger<'a>(one: Option<&'a [u8]>, other: Option<&'a [u8]>) -> Option<&'a [u8]
     }
 }
 
+// The smaller of two numbers, or the one that is there.
+fn smaller<'a>(one: Option<&'a [u8]>, other: Option<&'a [u8]>) -> Option<&'a [u8]> {
+    let (Some(first), Some(second)) = (one, other) else {
+        return one.or(other);
+    };
+    match (decimal_of(first), decimal_of(second)) {
+        (Some(a), Some(b)) if is_below(b, a) => Some(second),
+        _ => Some(first),
+    }
+}
+
 /// The larger number of two for each corner.
 pub fn larger_of<'a>(one: Corners<'a>, other: Corners<'a>) -> Corners<'a> {
     Corners {
         min: larger(one.min, other.min),
         typ: larger(one.typ, other.typ),
         max: larger(one.max, other.max),
+    }
+}
+
+/// The smaller number of two for each corner.
+pub fn smaller_of<'a>(one: Corners<'a>, other: Corners<'a>) -> Corners<'a> {
+    Corners {
+        min: smaller(one.min, other.min),
+        typ: smaller(one.typ, other.typ),
+        max: smaller(one.max, other.max),
     }
 }
 

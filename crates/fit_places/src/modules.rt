@@ -35,6 +35,8 @@ pub struct Module<'s, 'a> {
     pub path_keys: Keys,
     pub checks: Vec<CellCheck<'a>>,
     pub check_keys: Keys,
+    /// An `ifnone` of it was changed into a condition, or into none.
+    pub is_marked: bool,
 }
 
 impl<'s, 'a> Module<'s, 'a> {
@@ -48,6 +50,7 @@ impl<'s, 'a> Module<'s, 'a> {
             path_keys: Keys::new(alloc),
             checks: Vec::new(alloc),
             check_keys: Keys::new(alloc),
+            is_marked: false,
         }
     }
 

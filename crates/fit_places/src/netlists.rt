@@ -68,6 +68,13 @@ impl<'s, 'a> Netlist<'s, 'a> {
         Ok(Netlist { modules, top })
     }
 
+    /// Says of a module, if it is there, that an `ifnone` of it was changed.
+    pub fn mark(&mut self, name: &[u8]) {
+        if let Some(module) = self.modules.get_mut(name) {
+            module.is_marked = true;
+        }
+    }
+
     /// A module by its place.
     pub fn module(&self, place: usize) -> Option<&Module<'s, 'a>> {
         match self.modules.get_index(place) {

@@ -1,12 +1,9 @@
 // Cells.
 use crate::changing::{Pen, span_of};
 use crate::counts::{Count, add_count, name_of, word_of};
-use crate::entries::{Work, work_of};
-use crate::notes::{Note, add_note};
-use crate::pairs::join_pairs;
-use crate::places::Scope;
 use fit_changes::Rule;
 use fit_delays::{keyword_of, parts_of};
+use fit_entries::{Note, Scope, Work, add_note, join_pairs, work_of};
 use fit_places::{Netlist, Spot, reach};
 use sdf_lex::{Lexeme, Token};
 use sdf_tree::Keyword;
@@ -182,25 +179,56 @@ impl<'n, 's, 'v, 'a> Reading<'n, 's, 'v, 'a> {
         Ok(())
     }
 
-    fn add_checks(
+    fn add_checks<'t>(
         &mut self,
         scope: &Scope<'_, '_, '_>,
-        group: &[Token<'a>],
-        path: &[u8],
+        group: &'t [Token<'a>],
+        works: &mut Vec<Work<'t, 'a>>,
     ) -> Result<(), NoMemory> {
-        let parts = parts_of(self.pen.alloc, group)?;
-        let mut works = Vec::new(self.pen.alloc);
-        for part in parts.iter().skip(1) {
+        for part in parts_of(self.pen.alloc, group)?.iter().skip(1) {
             match work_of(self.pen.alloc, scope, part)? {
                 Some(work) => works.push(work)?,
                 None => self.count_skipped(part)?,
             }
         }
+        Ok(())
+    }
+
+    fn finish_checks(
+        &mut self,
+        works: Vec<Work<'_, '_>>,
+        path: &[u8],
+    ) -> Result<(), NoMemory> {
+        let mut works = works;
         join_pairs(self.pen.alloc, &mut works)?;
         for work in works {
             self.finish(work, path)?;
         }
         Ok(())
+    }
+
+    // Checks are joined over the groups that stand behind one another.
+    fn add_parts(
+        &mut self,
+        scope: &Scope<'_, '_, '_>,
+        parts: &[&[Token<'a>]],
+        path: &[u8],
+    ) -> Result<(), NoMemory> {
+        let alloc = self.pen.alloc;
+        let mut works = Vec::new(alloc);
+        for part in parts {
+            match keyword_of(part) {
+                Some(Keyword::Delay) => {
+                    self.finish_checks(works, path)?;
+                    works = Vec::new(alloc);
+                    self.add_delays(scope, part, path)?;
+                }
+                Some(Keyword::TimingCheck) => self.add_checks(scope, part, &mut works)?,
+                Some(Keyword::TimingEnv | Keyword::Label) => self.count_skipped(part)?,
+                _ => {}
+            }
+        }
+        self.finish_checks(works, path)
     }
 
     fn tell_type(
@@ -230,14 +258,6 @@ impl<'n, 's, 'v, 'a> Reading<'n, 's, 'v, 'a> {
         let path = path_of(cell);
         let notes = type_note(alloc, &scope, cell.cell_type)?;
         self.tell_type(group, notes, path)?;
-        for part in &parts {
-            match keyword_of(part) {
-                Some(Keyword::Delay) => self.add_delays(&scope, part, path)?,
-                Some(Keyword::TimingCheck) => self.add_checks(&scope, part, path)?,
-                Some(Keyword::TimingEnv | Keyword::Label) => self.count_skipped(part)?,
-                _ => {}
-            }
-        }
-        Ok(())
+        self.add_parts(&scope, &parts, path)
     }
 }

@@ -1,8 +1,7 @@
 // Changes as they are collected.
-use crate::entries::Work;
-use crate::notes::Note;
 use fit_changes::Change;
 use fit_delays::push_draft;
+use fit_entries::{Note, Work};
 use sdf_lex::Token;
 use sg_text::NoMemory;
 use std::alloc::Global;

@@ -47,26 +47,42 @@ pub fn word_of(draft: &Draft<'_, '_>) -> Option<&'static str> {
     }
 }
 
+// Adds the entries of a word to those of the same one.
+fn add(counts: &mut Vec<Count>, more: Count) -> Result<(), NoMemory> {
+    for one in counts.iter_mut() {
+        if one.word == more.word {
+            one.found = one.found.saturating_add(more.found);
+            one.all = one.all.saturating_add(more.all);
+            return Ok(());
+        }
+    }
+    counts.push(more)?;
+    Ok(())
+}
+
 /// Counts an entry of a word.
 pub fn add_count(
     counts: &mut Vec<Count>,
     word: Option<&'static str>,
     found: bool,
 ) -> Result<(), NoMemory> {
-    let Some(word) = word else {
-        return Ok(());
-    };
-    for one in counts.iter_mut() {
-        if one.word == word {
-            one.all = one.all.saturating_add(1);
-            one.found = one.found.saturating_add(u64::from(found));
-            return Ok(());
-        }
+    match word {
+        Some(word) => add(
+            counts,
+            Count {
+                word,
+                found: u64::from(found),
+                all: 1,
+            },
+        ),
+        None => Ok(()),
     }
-    counts.push(Count {
-        word,
-        found: u64::from(found),
-        all: 1,
-    })?;
+}
+
+/// Adds the counts of a file to those of others.
+pub fn add_counts(counts: &mut Vec<Count>, more: &[Count]) -> Result<(), NoMemory> {
+    for count in more {
+        add(counts, *count)?;
+    }
     Ok(())
 }

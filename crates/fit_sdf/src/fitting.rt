@@ -6,7 +6,7 @@ ghost use Rattle.fit_sdf.specs.Fitted.{IsReadable, Refuses, RefusesWith};
 use crate::counts::Count;
 use crate::files::{Asked, asked_of};
 use crate::unfit::SdfUnfit;
-use fit_changes::{Change, Changes};
+use fit_changes::{Change, Changes, Line, Rule};
 use fit_places::Netlist;
 use sdf_lex::lex;
 use sdf_read::read_sdf;
@@ -36,16 +36,33 @@ fn changes_of<'a>(
     Ok(changes)
 }
 
+// The netlist, with a mark at each module of which an `ifnone` was changed.
+fn netlist_of<'s, 'v>(
+    alloc: Global,
+    source: &'s Source<'v>,
+    top: Option<&[u8]>,
+    lines: &[Line],
+) -> Result<Netlist<'s, 'v>, NoMemory> {
+    let mut netlist = Netlist::new(alloc, source, top)?;
+    for line in lines {
+        if line.rule == Rule::IfnoneEdge {
+            netlist.mark(&line.part);
+        }
+    }
+    Ok(netlist)
+}
+
 // What the rules ask for: nothing in a file that has no tokens.
 fn asked(
     alloc: Global,
     text: &[u8],
     source: &Source<'_>,
     top: Option<&[u8]>,
+    lines: &[Line],
 ) -> Result<Asked, NoMemory> {
     match lex(alloc, text) {
         Ok(tokens) => {
-            let netlist = Netlist::new(alloc, source, top)?;
+            let netlist = netlist_of(alloc, source, top, lines)?;
             asked_of(alloc, text, &tokens, &netlist)
         }
         Err(Refused::Fault { .. }) => Ok(Asked {
@@ -84,12 +101,14 @@ fn check(alloc: Global, changes: &Changes<'_>) -> Result<(), SdfUnfit>
 }
 
 /// Changes of an SDF file with which it is taken, and its entries find their places in the netlist of a tree: below the top of a name, or
-/// else below the only module that may be it. Takes time and memory in proportion to the file and the tree.
+/// else below the only module that may be it. `lines` are those of the netlist's own changes. Takes time and memory in proportion to the file,
+/// the tree and these.
 pub fn fit_sdf<'a>(
     alloc: Global,
     text: &'a [u8],
     source: &Source<'_>,
     top: Option<&[u8]>,
+    lines: &[Line],
 ) -> Result<FittedSdf<'a>, SdfUnfit>
     // They are changes of the file,
     ensures text { IfOk result (λ f. f.changes.text ≡ text.now) }
@@ -98,7 +117,7 @@ pub fn fit_sdf<'a>(
     // A fault is one of the file with some changes.
     ensures refused { IfErr result (RefusesWith text.now) }
 {
-    let asked = asked(alloc, text, source, top)?;
+    let asked = asked(alloc, text, source, top, lines)?;
     let changes = changes_of(alloc, text, asked.edits)?;
     check(alloc, &changes)?;
     Ok(FittedSdf {

@@ -1,9 +1,8 @@
 // Heads without a text, and those with numbers (IEEE 1497-2001, the header).
 use crate::changing::{Pen, feeds_of, span_of};
-use crate::entries::note_exponent;
-use crate::notes::{Note, add_note};
 use fit_changes::Rule;
 use fit_delays::{end_of, keyword_of, push_tokens};
+use fit_entries::{Note, add_note, note_exponent};
 use sdf_lex::{Lexeme, Token};
 use sdf_tree::Keyword;
 use sg_text::NoMemory;

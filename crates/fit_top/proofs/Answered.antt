@@ -7,7 +7,8 @@ use Rattle.fit_changes.specs.Changes.{ChangedText}
 use Rattle.fit_changes.specs.Lines.{Line}
 use Rattle.fit_changes.specs.Rounds.{written}
 use Rattle.fit_changes.specs.declared.unfit.Unfit as code_unfit
-use Rattle.fit_top.specs.Answer.{Answer, IsAnswerFor, IsFittedFor, IsTextAnswer, IsUnfit, Meeting, Meets, SdfCount, all_lines, changed_answer, files_of, fitted_answer, made_file, made_files, report_text, status_of, has_faults, has_files, is_right, is_unfit, meets_one, misses_netlist, misses_sdf, missing_line, refusal, texts_of, unfit_line, usage_line}
+use Rattle.fit_sdf.specs.Counts.{SdfCount}
+use Rattle.fit_top.specs.Answer.{Answer, IsAnswerFor, IsFittedFor, IsTextAnswer, IsUnfit, Meeting, Meets, all_lines, changed_answer, files_of, fitted_answer, made_file, made_files, report_text, status_of, has_faults, has_files, is_right, is_unfit, meets_one, misses_netlist, misses_sdf, missing_line, refusal, texts_of, unfit_line, usage_line}
 use Rattle.fit_top.specs.Texts.{AreFitted}
 use Rattle.fit_top.specs.declared.status.Status.{Status}
 use Rattle.fit_top.specs.declared.status.Status.TheVariants as status

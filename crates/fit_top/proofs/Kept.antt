@@ -7,7 +7,8 @@ use Rattle.fit_words.specs.Words.{Asked, inputs_of}
 use Rattle.fit_changes.specs.Lines.{Line}
 use Rattle.fit_changes.specs.Report.{are_told, first_told}
 use Rattle.fit_changes.specs.Rounds.{written}
-use Rattle.fit_top.specs.Answer.{Answer, IsAnswerFor, IsAnswerTo, IsTextAnswer, Meeting, SdfCount, all_lines, changed_answer, fitted_answer, has_faults, has_files, is_right, is_unfit, meets_one, misses_netlist, misses_sdf, refusal}
+use Rattle.fit_sdf.specs.Counts.{SdfCount}
+use Rattle.fit_top.specs.Answer.{Answer, IsAnswerFor, IsAnswerTo, IsTextAnswer, Meeting, all_lines, changed_answer, fitted_answer, has_faults, has_files, is_right, is_unfit, meets_one, misses_netlist, misses_sdf, refusal}
 use Rattle.fit_top.specs.Promises.{FilesAfter, IsRight, OthersStay, Outcome, ShelfTold, answered, folder_fault, made_in, no_memory, shelf_fault, sink_fault, sink_want}
 use Rattle.fit_top.specs.Status.{IsRefusal}
 use Rattle.fit_top.specs.declared.status.Status.{Status}

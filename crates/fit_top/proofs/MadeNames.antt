@@ -9,7 +9,8 @@ use Rattle.fit_changes.specs.Changes.{ChangedText, changed}
 use Rattle.fit_changes.specs.Lines.{Line}
 use Rattle.fit_changes.specs.Report.{are_told, first_told}
 use Rattle.fit_changes.specs.Rounds.{AreRounds, written, written_by}
-use Rattle.fit_top.specs.Answer.{Answer, IsAnswerFor, IsFittedFor, IsTextAnswer, AreFittedSdf, Meeting, SdfCount, all_lines, changed_answer, files_of, fitted_answer, has_faults, has_files, is_right, is_unfit, made_file, made_files, meets_one, misses_netlist, misses_sdf, refusal, texts_of, with_file}
+use Rattle.fit_sdf.specs.Counts.{SdfCount}
+use Rattle.fit_top.specs.Answer.{Answer, IsAnswerFor, IsFittedFor, IsTextAnswer, AreFittedSdf, Meeting, all_lines, changed_answer, files_of, fitted_answer, has_faults, has_files, is_right, is_unfit, made_file, made_files, meets_one, misses_netlist, misses_sdf, refusal, texts_of, with_file}
 use Rattle.fit_top.specs.Names.{IsNoneOf, IsOneOf}
 use Rattle.fit_top.specs.declared.status.Status.TheVariants as status
 

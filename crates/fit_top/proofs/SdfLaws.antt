@@ -7,7 +7,7 @@ use Rattle.sg_io.specs.Files.{File}
 use Rattle.fit_changes.specs.Changes.{AreInOrder, Change, ChangedText, changed}
 use Rattle.fit_sdf.specs.Fitted.{IsReadable, RefusesWith}
 use Rattle.fit_sdf.specs.declared.unfit.SdfUnfit.TheVariants as unfit
-use Rattle.fit_top.specs.Answer.{AreFittedSdf, IsFittedSdf, SdfCount, TellAllSdf, TellsSdf, count_text, is_faulty, is_fitted, line, place_text, sdf_fault_line, sdf_kind}
+use Rattle.fit_top.specs.Answer.{AreFittedSdf, IsFittedSdf, TellAllSdf, TellsSdf, is_faulty, is_fitted, line, place_text, sdf_fault_line, sdf_kind}
 use Rattle.fit_top.specs.Texts.{AddsSdf, AreFitted, adds_changes, adds_fault}
 use Rattle.fit_top.proofs.MakingLaws.{one_taken}
 
@@ -68,14 +68,8 @@ fault_added (Err e) f files new told more kind number k h = h
 
 -- ---- the counts
 
-pub flat_seen : {A B : Type 0} (g : B → List ℕ) (f : A → B) (xs : List A) → flat_map (λ x. g (f x)) xs ≡ flat_map g (map f xs)
-flat_seen g f [] = refl
-flat_seen g f (x ∷ xs) = ap (λ l. g (f x) ++ l) (flat_seen g f xs)
-
-pub report_by : {A : Type 0} (seen : A → SdfCount) (counts : List A) (none one two all lines rules : List ℕ) → none ≡ [] → one ≡ none ++ lines → two ≡ one ++ rules → all ≡ two ++ flat_map (λ c. count_text (seen c)) counts
-    → all ≡ lines ++ rules ++ flat_map count_text (map seen counts)
-report_by seen counts none one two all lines rules n o t a =
-    a ∙ ap (λ x. x ++ flat_map (λ c. count_text (seen c)) counts) (t ∙ ap (λ x. x ++ rules) (o ∙ ap (λ x. x ++ lines) n)) ∙ ap (λ x. lines ++ rules ++ x) (flat_seen count_text seen counts)
+pub report_by : (none one two all lines rules counts : List ℕ) → none ≡ [] → one ≡ none ++ lines → two ≡ one ++ rules → all ≡ two ++ counts → all ≡ lines ++ rules ++ counts
+report_by none one two all lines rules counts n o t a = a ∙ ap (λ x. x ++ counts) (t ∙ ap (λ x. x ++ rules) (o ∙ ap (λ x. x ++ lines) n))
 
 -- there is a file
 pub some_counted : {R E : Type 0} (r : Result R E) (P : R → Type 0) (Q : Type 0) → (Q → ⊥) → IfOk r (λ x. Q → P x)

@@ -12,6 +12,7 @@ use Rattle.fit_changes.specs.Rounds.{written}
 use Rattle.fit_changes.specs.declared.unfit.Unfit as code
 use Rattle.fit_inside.specs.Inside.{IsInside}
 use Rattle.fit_netlist.specs.Fitted.{IsFitted}
+use Rattle.fit_sdf.specs.Counts.{SdfCount, sdf_counts_text}
 use Rattle.fit_sdf.specs.Fitted.{IsReadable, RefusesWith}
 use Rattle.fit_sdf.specs.declared.unfit.SdfUnfit.TheVariants as unfit
 use Rattle.fit_top.specs.declared.status.Status.{Status}
@@ -135,19 +136,10 @@ AreFittedSdf [] files = files ≡ []
 AreFittedSdf (f ∷ fs) files =
     (changes : List Change) × (more : List ChangedText) × IsFittedSdf f.bytes changes × AreFittedSdf fs more × (files ≡ record { text = f.bytes; changes = changes } ∷ more)
 
--- the entries of a word in SDF files: how many find their places in the netlist, and how many there are
-pub record SdfCount : Type 0 where
-  pub word : List ℕ
-  pub found : ℕ
-  pub all : ℕ
-
-abbrev pub count_text : SdfCount → List ℕ
-count_text c = line (codes "annotates " ++ c.word ++ codes " " ++ decimal c.found ++ codes " of " ++ decimal c.all)
-
 -- ---- the report of changes
 
 abbrev pub report_text : (names : List (List ℕ)) → List Line → List SdfCount → List ℕ
-report_text names lines counts = lines_text names lines ++ counts_text lines ++ flat_map count_text counts
+report_text names lines counts = lines_text names lines ++ counts_text lines ++ sdf_counts_text counts
 
 -- the lines of a netlist's changes, and then those of the changes of SDF files, whose numbers come behind those of the netlist's files
 abbrev pub all_lines : Asked → List Line → List ChangedText → List Line

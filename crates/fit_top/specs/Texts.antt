@@ -7,16 +7,12 @@ use Rattle.vl_tree.specs.Modules.{source}
 use Rattle.vl_tree.specs.Tree.{Source}
 use Rattle.fit_changes.specs.Changes.{Change, ChangedText}
 use Rattle.fit_sdf.specs.Fitted.{RefusesWith}
-use Rattle.fit_sdf.specs.declared.counts.Count as code_count
 use Rattle.fit_sdf.specs.declared.unfit.SdfUnfit.TheVariants as unfit
-use Rattle.fit_top.specs.Answer.{AreFittedSdf, IsFittedSdf, SdfCount, TellAllSdf, sdf_fault_line}
+use Rattle.fit_top.specs.Answer.{AreFittedSdf, IsFittedSdf, TellAllSdf, sdf_fault_line}
 
 -- all tokens spell a tree
 abbrev pub HaveTree : List Lexeme → Type 0
 HaveTree tokens = (tree : Source) × source.language.Spells tokens 0 tree (length tokens)
-
-abbrev pub count_seen : code_count.Count → SdfCount
-count_seen c = record { word = c.word.now; found = c.found; all = c.all }
 
 -- the faults of SDF files are told; where there is none, the files are fitted by these changes
 pub record AreFitted (sdf : List File) (files : List ChangedText) (told : List ℕ) : Type 0 where

@@ -3,14 +3,15 @@ ghost use Rattle.std.specs.Prelude.{◌≡◌, [], IfOk, OnOk, map};
 ghost use Rattle.vl_lex.specs.Seen.{texts};
 ghost use Rattle.vl_token.specs.Seen.{lexeme};
 ghost use Rattle.fit_inside.specs.Inside.{IsAccepted};
-ghost use Rattle.fit_top.specs.Texts.{AddsSdf, AreFitted, HaveTree, count_seen};
+ghost use Rattle.fit_sdf.specs.Counts.{count_seen};
+ghost use Rattle.fit_top.specs.Texts.{AddsSdf, AreFitted, HaveTree};
 ghost use Rattle.fit_top.specs.Work.{input_seen};
 
 use crate::inputs::Input;
 use crate::lines::push_fault;
-use fit_changes::Changes;
+use fit_changes::{Changes, Line};
 use fit_inside::end_of;
-use fit_sdf::{Count, SdfUnfit, fit_sdf};
+use fit_sdf::{Count, SdfUnfit, add_counts, fit_sdf};
 use sg_text::{NoMemory, Refused};
 use std::alloc::Global;
 use vl_lex::lex;
@@ -54,37 +55,18 @@ fn tree_of<'a>(
     }
 }
 
-// Adds the entries of a word to those of the same one.
-fn add_count(counts: &mut Vec<Count>, more: Count) -> Result<(), NoMemory> {
-    for one in counts.iter_mut() {
-        if one.word == more.word {
-            one.found = one.found.saturating_add(more.found);
-            one.all = one.all.saturating_add(more.all);
-            return Ok(());
-        }
-    }
-    counts.push(more)?;
-    Ok(())
-}
-
-fn add_counts(counts: &mut Vec<Count>, more: &[Count]) -> Result<(), NoMemory> {
-    for count in more {
-        add_count(counts, *count)?;
-    }
-    Ok(())
-}
-
 // Adds an SDF file with its changes, or what is told of it.
 fn add_file<'a>(
     alloc: Global,
     input: &'a Input<'_>,
     netlist: &Source<'_>,
     top: Option<&[u8]>,
+    lines: &[Line],
     files: &mut SdfFiles<'a>,
 ) -> Result<(), NoMemory>
     ensures { OnOk result (AddsSdf (input_seen input.now) files.old.list.items files.new.list.items files.old.faults.items files.new.faults.items) }
 {
-    match fit_sdf(alloc, &input.text, netlist, top) {
+    match fit_sdf(alloc, &input.text, netlist, top, lines) {
         Ok(fitted) => {
             // (the changes are in order)
             let _text = fitted.changes.text();
@@ -116,12 +98,13 @@ fn fit_each<'a>(
     inputs: &'a [Input<'_>],
     netlist: &Source<'_>,
     top: Option<&[u8]>,
+    lines: &[Line],
 ) -> Result<SdfFiles<'a>, NoMemory>
     ensures { IfOk result (λ r. AreFitted (map input_seen inputs.now) r.list.items r.faults.items) }
 {
     let mut files = no_files(alloc);
     for input in inputs {
-        add_file(alloc, input, netlist, top, &mut files)?;
+        add_file(alloc, input, netlist, top, lines, &mut files)?;
     }
     Ok(files)
 }
@@ -137,6 +120,7 @@ fn bytes_of(name: Option<&str>) -> Option<&[u8]> {
 fn fit_beside<'a>(
     alloc: Global,
     netlist: &[Vec<u8>],
+    lines: &[Line],
     inputs: &'a [Input<'_>],
     top: Option<&str>,
 ) -> Result<SdfFiles<'a>, NoMemory>
@@ -145,7 +129,7 @@ fn fit_beside<'a>(
 {
     let tokens = tokens_of(alloc, netlist)?;
     let tree = tree_of(alloc, netlist, &tokens)?;
-    fit_each(alloc, inputs, &tree, bytes_of(top))
+    fit_each(alloc, inputs, &tree, bytes_of(top), lines)
 }
 
 /// SDF files with the changes by which each is taken and its entries find their places below the top of the netlist, which is
@@ -153,6 +137,7 @@ fn fit_beside<'a>(
 pub fn fit_files<'a>(
     alloc: Global,
     netlist: &[Vec<u8>],
+    lines: &[Line],
     inputs: &'a [Input<'_>],
     top: Option<&str>,
 ) -> Result<SdfFiles<'a>, NoMemory>
@@ -163,5 +148,5 @@ pub fn fit_files<'a>(
     if inputs.len() == 0 {
         return Ok(no_files(alloc));
     }
-    fit_beside(alloc, netlist, inputs, top)
+    fit_beside(alloc, netlist, lines, inputs, top)
 }

@@ -10,10 +10,10 @@ ghost use Rattle.fit_changes.specs.Lines.{line_seen};
 ghost use Rattle.fit_changes.specs.Report.{first_told};
 ghost use Rattle.fit_changes.specs.Rounds.{written};
 ghost use Rattle.fit_inside.specs.Inside.{IsAccepted};
+ghost use Rattle.fit_sdf.specs.Counts.{count_seen};
 ghost use Rattle.fit_top.specs.Answer.{IsAnswerFor, IsFittedFor, IsTextAnswer, Meeting, Meets, all_lines, changed_answer, files_of, fitted_answer, missing_line, refusal, status_of, usage_line};
 ghost use Rattle.fit_top.specs.Including.{FailsReading};
 ghost use Rattle.fit_top.specs.Stops.{NeverFolder, end_of};
-ghost use Rattle.fit_top.specs.Texts.{count_seen};
 ghost use Rattle.fit_top.specs.Work.{answer_seen, input_seen};
 
 use crate::annotating::{SdfFiles, fit_files};
@@ -149,7 +149,7 @@ fn sdf_answer(
     ensures { IfOk result (λ a. (read : List (List ℕ)) → IsFittedFor (asked_seen asked.now) read (texts fitted.texts.items) (map line_seen fitted.lines.items)
         → IsTextAnswer (asked_seen asked.now) read (map input_seen sdf.now) (answer_seen a)) }
 {
-    let files = fit_files(alloc, &fitted.texts, sdf, asked.top)?;
+    let files = fit_files(alloc, &fitted.texts, &fitted.lines, sdf, asked.top)?;
     if files.faults.len() == 0 {
         right_answer(alloc, asked, fitted, &files)
     } else {

@@ -1,14 +1,13 @@
 // The texts of a report, and those of SDF files with their changes.
-ghost use Rattle.std.specs.Prelude.{◌≡◌, ◌++◌, IfOk, OnOk, codes, decimal, flat_map, map};
+ghost use Rattle.std.specs.Prelude.{◌≡◌, ◌++◌, IfOk, map};
 ghost use Rattle.fit_changes.specs.Lines.{line_seen, lines_from};
 ghost use Rattle.fit_changes.specs.Report.{first_told};
 ghost use Rattle.fit_changes.specs.Rounds.{written};
-ghost use Rattle.fit_top.specs.Answer.{count_text, report_text};
-ghost use Rattle.fit_top.specs.Texts.{count_seen};
+ghost use Rattle.fit_sdf.specs.Counts.{count_seen};
+ghost use Rattle.fit_top.specs.Answer.{report_text};
 
 use fit_changes::{Changes, Line, add_lines, push_counts, push_lines, push_told};
-use fit_sdf::Count;
-use itoa::Buffer;
+use fit_sdf::{Count, push_sdf_counts};
 use sg_text::NoMemory;
 use std::alloc::Global;
 
@@ -37,49 +36,6 @@ pub fn with_lines(
     Ok(all)
 }
 
-fn push_number(text: &mut Vec<u8>, number: u64) -> Result<(), NoMemory>
-    ensures { OnOk result (text.new.items ≡ text.old.items ++ decimal number) }
-{
-    let mut buffer = Buffer::new();
-    text.extend_from_slice(buffer.format(number).as_bytes())?;
-    Ok(())
-}
-
-fn push_found(text: &mut Vec<u8>, found: u64, all: u64) -> Result<(), NoMemory>
-    ensures { OnOk result (text.new.items ≡ text.old.items ++ (decimal found ++ codes " of " ++ decimal all)) }
-{
-    push_number(text, found)?;
-    text.extend_from_slice(b" of ")?;
-    push_number(text, all)
-}
-
-fn push_word(text: &mut Vec<u8>, word: &str) -> Result<(), NoMemory>
-    ensures { OnOk result (text.new.items ≡ text.old.items ++ (codes "annotates " ++ word.now ++ codes " ")) }
-{
-    text.extend_from_slice(b"annotates ")?;
-    text.extend_from_slice(word.as_bytes())?;
-    text.extend_from_slice(b" ")?;
-    Ok(())
-}
-
-fn push_count(text: &mut Vec<u8>, count: &Count) -> Result<(), NoMemory>
-    ensures { OnOk result (text.new.items ≡ text.old.items ++ count_text (count_seen count.now)) }
-{
-    push_word(text, count.word)?;
-    push_found(text, count.found, count.all)?;
-    text.push(b'\n')?;
-    Ok(())
-}
-
-fn push_each(text: &mut Vec<u8>, counts: &[Count]) -> Result<(), NoMemory>
-    ensures { OnOk result (text.new.items ≡ text.old.items ++ flat_map (λ c. count_text (count_seen c)) counts.now) }
-{
-    for count in counts {
-        push_count(text, count)?;
-    }
-    Ok(())
-}
-
 /// The report of changes, in files of these names, and of the entries that find their places.
 pub fn report_text(
     alloc: Global,
@@ -92,7 +48,7 @@ pub fn report_text(
     let mut text = Vec::new(alloc);
     push_lines(&mut text, names, lines)?;
     push_counts(&mut text, lines)?;
-    push_each(&mut text, counts)?;
+    push_sdf_counts(&mut text, counts)?;
     Ok(text)
 }
 

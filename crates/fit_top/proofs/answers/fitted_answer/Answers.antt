@@ -5,7 +5,7 @@ use Rattle.std.proofs.lemmas.Result.{err_from_is_err_and}
 use Rattle.fit_changes.specs.Lines.{line_seen}
 use Rattle.fit_changes.specs.Rounds.{written}
 use Rattle.fit_words.specs.WordsSeen.{asked_seen}
-use Rattle.fit_top.specs.Texts.{count_seen}
+use Rattle.fit_sdf.specs.Counts.{count_seen}
 use Rattle.fit_top.specs.Work.{made_seen}
 use Rattle.fit_top.proofs.Answered.{added_with, fitted_with, made_with, told_with}
 use Rattle.fit_top.proofs.answers.fitted_answer.Goals as goal

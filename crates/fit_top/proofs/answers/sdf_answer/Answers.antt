@@ -2,7 +2,7 @@ use Rattle.std.proofs.Common.{ap, arith, length, map}
 use Rattle.vl_lex.specs.Seen.{texts}
 use Rattle.fit_changes.specs.Lines.{line_seen}
 use Rattle.fit_words.specs.WordsSeen.{asked_seen}
-use Rattle.fit_top.specs.Texts.{count_seen}
+use Rattle.fit_sdf.specs.Counts.{count_seen}
 use Rattle.fit_top.specs.Work.{answer_seen, input_seen}
 use Rattle.fit_top.proofs.Answered.{changed_by, faulty_by, no_bytes}
 use Rattle.fit_top.proofs.answers.sdf_answer.Goals as goal

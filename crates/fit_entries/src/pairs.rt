@@ -2,7 +2,9 @@
 use crate::entries::Work;
 use crate::notes::{Note, add_note};
 use fit_changes::Rule;
-use fit_delays::{Corners, Draft, corners_of, is_value, larger_of, push_corners, push_front};
+use fit_delays::{
+    Corners, Draft, corners_of, is_value, larger_of, push_corners, push_front, smaller_of,
+};
 use indexmap::IndexMap;
 use sdf_lex::{Lexeme, Token};
 use sdf_tree::Keyword;
@@ -50,20 +52,24 @@ fn is_same(alloc: Global, one: &[Corners<'_>], other: &[Corners<'_>]) -> Result<
     Ok(text_of(alloc, one)? == text_of(alloc, other)?)
 }
 
-// The larger of each limit.
-fn larger<'a>(
+// The stricter of each limit: the larger, but of a skew the smaller, which is the most that is allowed.
+fn stricter<'a>(
     alloc: Global,
+    word: Keyword,
     one: &[Corners<'a>],
     other: &[Corners<'a>],
 ) -> Result<Vec<Corners<'a>>, NoMemory> {
     let mut list = Vec::new(alloc);
     for (first, second) in one.iter().zip(other) {
-        list.push(larger_of(*first, *second))?;
+        list.push(match word {
+            Keyword::Skew => smaller_of(*first, *second),
+            _ => larger_of(*first, *second),
+        })?;
     }
     Ok(list)
 }
 
-// Gives the first entry the larger limits of both, and answers whether the second may go.
+// Gives the first entry the stricter limits of both, and answers whether the second may go.
 fn merge<'a>(
     alloc: Global,
     works: &mut [Work<'_, 'a>],
@@ -80,7 +86,7 @@ fn merge<'a>(
     if own.len() != limits.len() || is_same(alloc, &own, limits)? {
         return Ok(false);
     }
-    draft.limits = Some(larger(alloc, &own, limits)?);
+    draft.limits = Some(stricter(alloc, draft.word, &own, limits)?);
     Ok(true)
 }
 
@@ -114,7 +120,7 @@ fn note_gone(alloc: Global, notes: &mut Vec<Note>) -> Result<(), NoMemory> {
         notes,
         Rule::Edge,
         &[
-            b"the larger limits of both edges stand in the entry of the other, since the check has no edge",
+            b"the stricter limits of both edges stand in the entry of the other, since the check has no edge",
         ],
     )
 }
@@ -159,7 +165,7 @@ fn join_one<'t, 'a>(
     Ok(())
 }
 
-/// Joins entries of both edges for a check that has none into one, with the larger of each limit, where they differ. Takes memory.
+/// Joins entries of both edges for a check that has none into one, with the stricter of each limit, where they differ. Takes memory.
 pub fn join_pairs(alloc: Global, works: &mut [Work<'_, '_>]) -> Result<(), NoMemory> {
     let mut first: IndexMap<Vec<u8>, First> = IndexMap::new(alloc);
     for work in 0..works.len() {

@@ -48,8 +48,18 @@ fn own_condition<'m>(module: &'m Module<'_, '_>, place: usize) -> Option<&'m Con
     }
 }
 
+// A CONDELSE is for what was an `ifnone`; a module that never had one says otherwise.
+fn other_rule(module: &Module<'_, '_>) -> Rule {
+    if module.is_marked {
+        Rule::IfnoneEdge
+    } else {
+        Rule::Condition
+    }
+}
+
 fn note_condition(
     alloc: Global,
+    module: &Module<'_, '_>,
     draft: &Draft<'_, '_>,
     own: &Condition,
     notes: &mut Vec<Note>,
@@ -64,7 +74,7 @@ fn note_condition(
         _ => add_note(
             alloc,
             notes,
-            Rule::IfnoneEdge,
+            other_rule(module),
             &[b"CONDELSE is COND ", &own.spelled],
         ),
     }
@@ -83,7 +93,7 @@ fn settle_path(
             let Some(own) = own_condition(module, place) else {
                 return Ok(NOWHERE);
             };
-            note_condition(alloc, draft, own, notes)?;
+            note_condition(alloc, module, draft, own, notes)?;
             draft.when = When::If(own.copy(alloc)?);
             Ok(FOUND)
         }
@@ -91,7 +101,7 @@ fn settle_path(
             add_note(
                 alloc,
                 notes,
-                Rule::IfnoneEdge,
+                other_rule(module),
                 &[b"CONDELSE goes, since the path has no condition"],
             )?;
             draft.when = When::Always;
