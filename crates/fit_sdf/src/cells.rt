@@ -98,6 +98,14 @@ fn path_of<'a>(cell: Named<'a>) -> &'a [u8] {
     }
 }
 
+// Whether a module is a copy of a cell that `fit` made, `FF__no_checks`.
+fn is_copy(name: &[u8], cell_type: &[u8]) -> bool {
+    match name.strip_prefix(cell_type) {
+        Some([b'_', b'_', ..]) => true,
+        _ => false,
+    }
+}
+
 // What is told of a cell whose type isn't the instance's module.
 fn type_note(
     alloc: Global,
@@ -107,7 +115,7 @@ fn type_note(
     let mut notes = Vec::new(alloc);
     if let Some(spot) = &scope.spot {
         if let Some(module) = scope.netlist.module(spot.module) {
-            if module.name != cell_type {
+            if module.name != cell_type && !is_copy(module.name, cell_type) {
                 add_note(
                     alloc,
                     &mut notes,
@@ -194,11 +202,7 @@ impl<'n, 's, 'v, 'a> Reading<'n, 's, 'v, 'a> {
         Ok(())
     }
 
-    fn finish_checks(
-        &mut self,
-        works: Vec<Work<'_, '_>>,
-        path: &[u8],
-    ) -> Result<(), NoMemory> {
+    fn finish_checks(&mut self, works: Vec<Work<'_, '_>>, path: &[u8]) -> Result<(), NoMemory> {
         let mut works = works;
         join_pairs(self.pen.alloc, &mut works)?;
         for work in works {
