@@ -4,7 +4,7 @@ use Rattle.std.specs.Prelude.{true, false, Result, Ok, Err, IfOk, zip}
 use Rattle.sg_io.specs.Files.{File}
 use Rattle.fit_words.specs.Words.{Asked, inputs_of}
 use Rattle.fit_changes.specs.Changes.{ChangedText}
-use Rattle.fit_changes.specs.Lines.{Line}
+use Rattle.fit_changes.specs.Lines.{Line, lines_from}
 use Rattle.fit_changes.specs.Rounds.{written}
 use Rattle.fit_changes.specs.declared.unfit.Unfit as code_unfit
 use Rattle.fit_sdf.specs.Counts.{SdfCount}
@@ -66,6 +66,15 @@ module _ {X : Type 0} (seen : X → Answer) (asked : Asked) (meeting : Meeting) 
 pub fitted_with : (asked : Asked) (made sdf : List (List ℕ)) (lines : List Line) (counts : List SdfCount) (how : Status) (files : List File) (report : List ℕ) → how ≡ status_of lines → files ≡ made_files asked made sdf
     → report ≡ report_text (inputs_of asked) lines counts → record { status = how; made = files; report = report } ≡ fitted_answer asked made sdf lines counts
 fitted_with asked made sdf lines counts how files report h f r = λ i. record { status = h i; made = f i; report = r i }
+
+-- the same answer, of other names for its parts
+pub answer_as : {X E : Type 0} (seen : X → Answer) (asked : Asked) (r : Result X E) (made made' sdf : List (List ℕ)) (lines lines' : List Line) (counts : List SdfCount) → made ≡ made' → lines ≡ lines'
+    → IfOk r (λ a. seen a ≡ changed_answer asked made sdf lines counts) → IfOk r (λ a. seen a ≡ changed_answer asked made' sdf lines' counts)
+answer_as seen asked (Ok a) made made' sdf lines lines' counts m l h = h ∙ ap (λ ms. changed_answer asked ms sdf lines counts) m ∙ ap (λ ls. changed_answer asked made' sdf ls counts) l
+answer_as seen asked (Err e) made made' sdf lines lines' counts m l h = h
+
+pub lines_with : (asked : Asked) (lines all given : List Line) (n : ℕ) (files files' : List ChangedText) → given ≡ all → all ≡ lines ++ lines_from n files → n ≡ length asked.netlists → files ≡ files' → given ≡ all_lines asked lines files'
+lines_with asked lines all given n files files' g a e f = g ∙ a ∙ ap (λ k. lines ++ lines_from k files) e ∙ ap (λ fs. lines ++ lines_from (length asked.netlists) fs) f
 
 -- the files that one call adds
 pub added_with : (out : List ℕ) (old new : List File) (names names' texts texts' : List (List ℕ)) → new ≡ old ++ map (made_file out) (zip names texts) → names ≡ names' → texts ≡ texts' → new ≡ old ++ map (made_file out) (zip names' texts')

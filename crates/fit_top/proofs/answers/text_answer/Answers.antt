@@ -15,8 +15,8 @@ returns-in-Ok-clause-right g c =
     (c.in_ok-sdf_answer-in-Ok.ensures (map (λ t. t.items) c.args.texts.now)
     (subst (IsFit (asked_seen c.args.asked.now) (map (λ t. t.items) c.args.texts.now)) c.in-Ok.is c.in_ok-outcome.ensures.fit))
 
-pub returns-in_ok-lines-in-Err-clause-right : goal.returns-in_ok-lines-in-Err-clause-right
-returns-in_ok-lines-in-Err-clause-right g c =
+pub returns-clause-right : goal.returns-clause-right
+returns-clause-right g c =
     unfit_by answer_seen (asked_seen c.args.asked.now) (map input_seen c.args.sdf.items) c.refusal.result (map (λ t. t.items) c.args.texts.now) c.in-Err.places.items
     (subst (IsFit (asked_seen c.args.asked.now) (map (λ t. t.items) c.args.texts.now)) c.in-Err.is c.in_ok-outcome.ensures.fit)
     (c.refusal.ensures ∙ ap (refusal status.Netlist) (c.in_ok-lines-in-Err.ensures
