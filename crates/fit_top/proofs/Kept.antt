@@ -3,10 +3,12 @@ use Rattle.std.proofs.Common.{◌≡◌, ◌≢◌, ap, subst, refl, ℕ, List, 
 use Rattle.std.specs.Prelude.{Option, Some, None, ◌&&◌}
 use Rattle.sg_io.specs.Files.{File, BothTell, bytes_of}
 use Rattle.sg_io.specs.Put.{SinkTold}
-use Rattle.fit_words.specs.Words.{Asked}
+use Rattle.fit_words.specs.Words.{Asked, inputs_of}
 use Rattle.fit_changes.specs.Lines.{Line}
 use Rattle.fit_changes.specs.Report.{are_told, first_told}
-use Rattle.fit_top.specs.Answer.{Answer, IsAnswerFor, IsAnswerTo, IsTextAnswer, Meeting, changed_answer, fitted_answer, has_faults, has_files, is_right, is_unfit, meets_one, misses_netlist, misses_sdf, refusal}
+use Rattle.fit_changes.specs.Rounds.{written}
+use Rattle.fit_sdf.specs.Counts.{SdfCount}
+use Rattle.fit_top.specs.Answer.{Answer, IsAnswerFor, IsAnswerTo, IsTextAnswer, Meeting, all_lines, changed_answer, fitted_answer, has_faults, has_files, is_right, is_unfit, meets_one, misses_netlist, misses_sdf, refusal}
 use Rattle.fit_top.specs.Promises.{FilesAfter, IsRight, OthersStay, Outcome, ShelfTold, answered, folder_fault, made_in, no_memory, shelf_fault, sink_fault, sink_want}
 use Rattle.fit_top.specs.Status.{IsRefusal}
 use Rattle.fit_top.specs.declared.status.Status.{Status}
@@ -23,11 +25,11 @@ right_others None meeting how text old new r q none = same_others [] old new (su
 right_others (Some asked) meeting how text old new r q none = others_after r.answer.made old new r.files q (none_made_by asked r.answer.made (answer_made asked meeting old r.answer r.right) q none)
 
 -- an answer whose status is that of a refusal makes nothing
-changed_refusal : (asked : Asked) (made : List (List ℕ)) (lines : List Line) (sdf : List File) → IsRefusal (changed_answer asked made lines sdf).status → (changed_answer asked made lines sdf).made ≡ []
-changed_refusal asked made lines sdf r = by (asked.is_strict && are_told lines) (are_told lines) r
+changed_refusal : (asked : Asked) (made sdf : List (List ℕ)) (lines : List Line) (counts : List SdfCount) → IsRefusal (changed_answer asked made sdf lines counts).status → (changed_answer asked made sdf lines counts).made ≡ []
+changed_refusal asked made sdf lines counts r = by (asked.is_strict && are_told lines) (are_told lines) r
   where
-    by : (b told : Bool) → IsRefusal (cond b (refusal status.Told (first_told asked.netlists lines)) (record (fitted_answer asked made lines sdf) { status = cond told status.Told status.Same })).status
-        → (cond b (refusal status.Told (first_told asked.netlists lines)) (record (fitted_answer asked made lines sdf) { status = cond told status.Told status.Same })).made ≡ []
+    by : (b told : Bool) → IsRefusal (cond b (refusal status.Told (first_told (inputs_of asked) lines)) (record (fitted_answer asked made sdf lines counts) { status = cond told status.Told status.Same })).status
+        → (cond b (refusal status.Told (first_told (inputs_of asked) lines)) (record (fitted_answer asked made sdf lines counts) { status = cond told status.Told status.Same })).made ≡ []
     by true told h = refl
     by false true h = absurd h
     by false false h = absurd h
@@ -35,7 +37,7 @@ changed_refusal asked made lines sdf r = by (asked.is_strict && are_told lines) 
 text_refusal : (asked : Asked) (texts : List (List ℕ)) (sdf : List File) (answer : Answer) → IsTextAnswer asked texts sdf answer → IsRefusal answer.status → answer.made ≡ []
 text_refusal asked texts sdf _ (is_unfit places u) r = refl
 text_refusal asked texts sdf _ (has_faults made lines b told f t) r = refl
-text_refusal asked texts sdf _ (is_right made lines f t) r = changed_refusal asked made lines sdf r
+text_refusal asked texts sdf _ (is_right made lines files counts f t n) r = changed_refusal asked made (written files) (all_lines asked lines files) counts r
 
 refusal_made : (asked : Asked) (meeting : Meeting) (held : List File) (answer : Answer) → IsAnswerFor asked meeting held answer → IsRefusal answer.status → answer.made ≡ []
 refusal_made asked meeting held _ (meets_one m) r = refl

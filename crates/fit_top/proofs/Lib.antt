@@ -9,7 +9,9 @@ pub mod Pairs
 pub mod ProgramWords
 pub mod Promised
 pub mod Putting
+pub mod ReadAgain
 pub mod Reading
+pub mod SdfLaws
 pub mod Telling
 pub mod ToldLaws
 pub mod Worked

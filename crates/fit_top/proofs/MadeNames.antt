@@ -1,15 +1,16 @@
 -- The files that an answer makes are those that the words name, or none.
-use Rattle.std.proofs.Common.{◌≡◌, ◌∙◌, sym, ap, subst, refl, inl, inr, ℕ, ◌⊎◌, List, [], ◌∷◌, ◌++◌, length, map, Bool, true, false, cond}
+use Rattle.std.proofs.Common.{◌≡◌, ◌∙◌, sym, ap, subst, refl, inl, inr, ℕ, suc, ◌⊎◌, List, [], ◌∷◌, ◌++◌, length, map, Bool, true, false, cond}
 use Rattle.std.proofs.lemmas.List.{length-map, map-append}
 use Rattle.std.proofs.lemmas.Slice.Zip.{firsts-zip}
 use Rattle.std.specs.Prelude.{Option, Some, None, Result, Ok, Err, zip, ◌&&◌}
 use Rattle.sg_io.specs.Files.{File, bytes_of}
-use Rattle.fit_words.specs.Words.{Asked, made_name, made_of}
+use Rattle.fit_words.specs.Words.{Asked, inputs_of, made_name, made_of}
 use Rattle.fit_changes.specs.Changes.{ChangedText, changed}
 use Rattle.fit_changes.specs.Lines.{Line}
 use Rattle.fit_changes.specs.Report.{are_told, first_told}
 use Rattle.fit_changes.specs.Rounds.{AreRounds, written, written_by}
-use Rattle.fit_top.specs.Answer.{Answer, IsAnswerFor, IsFittedFor, IsTextAnswer, Meeting, changed_answer, files_of, fitted_answer, has_faults, has_files, is_right, is_unfit, made_files, made_of_netlist, made_of_sdf, meets_one, misses_netlist, misses_sdf, refusal, texts_of, with_file}
+use Rattle.fit_sdf.specs.Counts.{SdfCount}
+use Rattle.fit_top.specs.Answer.{Answer, IsAnswerFor, IsFittedFor, IsTextAnswer, AreFittedSdf, Meeting, all_lines, changed_answer, files_of, fitted_answer, has_faults, has_files, is_right, is_unfit, made_file, made_files, meets_one, misses_netlist, misses_sdf, refusal, texts_of, with_file}
 use Rattle.fit_top.specs.Names.{IsNoneOf, IsOneOf}
 use Rattle.fit_top.specs.declared.status.Status.TheVariants as status
 
@@ -35,36 +36,30 @@ read_names [] held files e =
     subst P e refl
 read_names (n ∷ ns) held files e = one_read n ns (bytes_of n held) (files_of ns held) files (λ fs h. read_names ns held fs h) e
 
-module _ (asked : Asked) (made : List (List ℕ)) (lines : List Line) (sdf : List File) where
-  of_netlists : length made ≡ length asked.netlists → names_of (map (made_of_netlist asked.out) (zip asked.netlists made)) ≡ map (made_name asked.out) asked.netlists
-  of_netlists l =
-      map_twice (λ (f : File). f.name) (made_of_netlist asked.out) (zip asked.netlists made)
-      ∙ sym (map_twice (made_name asked.out) (λ (p : List ℕ × List ℕ). p.0) (zip asked.netlists made))
-      ∙ ap (map (made_name asked.out)) (firsts-zip asked.netlists made l)
+of_files : (out : List ℕ) (names texts : List (List ℕ)) → length texts ≡ length names → names_of (map (made_file out) (zip names texts)) ≡ map (made_name out) names
+of_files out names texts l =
+    map_twice (λ (f : File). f.name) (made_file out) (zip names texts)
+    ∙ sym (map_twice (made_name out) (λ (p : List ℕ × List ℕ). p.0) (zip names texts))
+    ∙ ap (map (made_name out)) (firsts-zip names texts l)
 
-  of_sdf : names_of sdf ≡ asked.sdf → names_of (map (made_of_sdf asked.out) sdf) ≡ map (made_name asked.out) asked.sdf
-  of_sdf e =
-      map_twice (λ (f : File). f.name) (made_of_sdf asked.out) sdf
-      ∙ sym (map_twice (made_name asked.out) (λ (f : File). f.name) sdf)
-      ∙ ap (map (made_name asked.out)) e
-
-  pub made_names : length made ≡ length asked.netlists → names_of sdf ≡ asked.sdf → names_of (made_files asked made sdf) ≡ made_of asked
-  made_names l e =
-      map-append (λ (f : File). f.name) (map (made_of_netlist asked.out) (zip asked.netlists made)) (map (made_of_sdf asked.out) sdf)
-      ∙ ap (λ ns. ns ++ names_of (map (made_of_sdf asked.out) sdf)) (of_netlists l)
-      ∙ ap (λ ns. map (made_name asked.out) asked.netlists ++ ns) (of_sdf e)
+module _ (asked : Asked) (made sdf : List (List ℕ)) (lines : List Line) (counts : List SdfCount) where
+  pub made_names : length made ≡ length asked.netlists → length sdf ≡ length asked.sdf → names_of (made_files asked made sdf) ≡ made_of asked
+  made_names l k =
+      map-append (λ (f : File). f.name) (map (made_file asked.out) (zip asked.netlists made)) (map (made_file asked.out) (zip asked.sdf sdf))
+      ∙ ap (λ ns. ns ++ names_of (map (made_file asked.out) (zip asked.sdf sdf))) (of_files asked.out asked.netlists made l)
+      ∙ ap (λ ns. map (made_name asked.out) asked.netlists ++ ns) (of_files asked.out asked.sdf sdf k)
       ∙ sym (map-append (made_name asked.out) asked.netlists asked.sdf)
 
   -- none, or these
   abbrev pub AreMade : Answer → Type 0
   AreMade answer = (answer.made ≡ []) ⊎ (names_of answer.made ≡ made_of asked)
 
-  pub changed_made : length made ≡ length asked.netlists → names_of sdf ≡ asked.sdf → AreMade (changed_answer asked made lines sdf)
-  changed_made l e = by (asked.is_strict && are_told lines)
+  pub changed_made : length made ≡ length asked.netlists → length sdf ≡ length asked.sdf → AreMade (changed_answer asked made sdf lines counts)
+  changed_made l k = by (asked.is_strict && are_told lines)
     where
-      by : (b : Bool) → AreMade (cond b (refusal status.Told (first_told asked.netlists lines)) (fitted_answer asked made lines sdf))
+      by : (b : Bool) → AreMade (cond b (refusal status.Told (first_told (inputs_of asked) lines)) (fitted_answer asked made sdf lines counts))
       by true = inl refl
-      by false = inr (made_names l e)
+      by false = inr (made_names l k)
 
 -- rounds of changes leave as many texts as there are
 as_many : (ts : List (List ℕ)) (rounds : List (List ChangedText)) → AreRounds ts rounds → length (written_by ts rounds) ≡ length ts
@@ -77,11 +72,20 @@ same_length asked made lines netlists held e f =
     ap length e.fitted.are_written ∙ as_many (texts_of netlists) e.fitted.rounds e.fitted.are_rounds ∙ length-map netlists (λ (n : File). n.bytes)
     ∙ sym (length-map netlists (λ (n : File). n.name)) ∙ ap length (read_names asked.netlists held netlists f)
 
+-- so do changes of SDF files
+as_many_sdf : (sdf : List File) (files : List ChangedText) → AreFittedSdf sdf files → length (written files) ≡ length sdf
+as_many_sdf [] files e = ap (λ fs. length (written fs)) e
+as_many_sdf (f ∷ fs) files h = ap (λ l. length (written l)) h.4 ∙ ap suc (as_many_sdf fs h.1 h.3)
+
+same_length_sdf : (asked : Asked) (sdf held : List File) (files : List ChangedText) → AreFittedSdf sdf files → files_of asked.sdf held ≡ Ok sdf → length (written files) ≡ length asked.sdf
+same_length_sdf asked sdf held files h e = as_many_sdf sdf files h ∙ sym (length-map sdf (λ (f : File). f.name)) ∙ ap length (read_names asked.sdf held sdf e)
+
 text_made : (asked : Asked) (netlists sdf held : List File) (answer : Answer) → files_of asked.netlists held ≡ Ok netlists → files_of asked.sdf held ≡ Ok sdf → IsTextAnswer asked (texts_of netlists) sdf answer
     → (answer.made ≡ []) ⊎ (names_of answer.made ≡ made_of asked)
 text_made asked netlists sdf held _ n s (is_unfit places u) = inl refl
 text_made asked netlists sdf held _ n s (has_faults made lines b told f t) = inl refl
-text_made asked netlists sdf held _ n s (is_right made lines f t) = changed_made asked made lines sdf (same_length asked made lines netlists held f n) (read_names asked.sdf held sdf s)
+text_made asked netlists sdf held _ n s (is_right made lines files counts f t k) =
+    changed_made asked made (written files) (all_lines asked lines files) counts (same_length asked made lines netlists held f n) (same_length_sdf asked sdf held files t s)
 
 pub answer_made : (asked : Asked) (meeting : Meeting) (held : List File) (answer : Answer) → IsAnswerFor asked meeting held answer → (answer.made ≡ []) ⊎ (names_of answer.made ≡ made_of asked)
 answer_made asked meeting held _ (meets_one m) = inl refl

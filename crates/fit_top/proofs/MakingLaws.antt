@@ -71,7 +71,7 @@ module _ {X : Type 0} (seen : X → File) (xs : List X) (i : ℕ) (x : X) (is : 
   names_at : map (λ f. f.name) (map seen xs) ≡ map (λ f. f.name) (map seen (take i xs)) ++ (seen x).name ∷ map (λ f. f.name) (map seen (drop (i + 1) xs))
   names_at = ap (map (λ (f : File). f.name)) at_one ∙ map-append (λ (f : File). f.name) (map seen (take i xs)) (seen x ∷ map seen (drop (i + 1) xs))
 
-  one_taken : map seen (take (i + 1) xs) ≡ map seen (take i xs) ++ seen x ∷ []
+  pub one_taken : map seen (take (i + 1) xs) ≡ map seen (take i xs) ++ seen x ∷ []
   one_taken = ap (map seen) (take_more xs i x l ∙ ap (λ y. take i xs ++ y ∷ []) (sym is)) ∙ map-append seen (take i xs) (x ∷ [])
 
   pub made_more : (a b c : Option (List File)) → BothTell a b (FilesAfter (map seen (take i xs))) → BothTell b c (HasAfter (seen x).name (seen x).bytes)

@@ -2,17 +2,19 @@
 use Rattle.std.specs.Prelude.{ℕ, ◌≡◌, ◌==◌, not, ◌<◌, ◌+◌, ◌^◌, ◌++◌, ◌&&◌, List, [], ◌∷◌, Bool, true, false, Option, Some, None, Result, Ok, Err, codes, decimal, flat_map, if◌then◌else◌, length, map, slice_index_or, take, zip}
 use Rattle.std.specs.List.{list_any}
 use Rattle.sg_io.specs.Files.{File, bytes_of}
-use Rattle.sdf_tree.specs.Meant.{Sdf}
-use Rattle.sdf_read.specs.Outcomes.{Fault}
-use Rattle.sdf_read.specs.Reads.{Reads}
 use Rattle.sdf_read.specs.declared.faults.SdfKind.{SdfKind}
 use Rattle.sdf_read.specs.declared.faults.SdfKind.TheVariants as delays
 use Rattle.fit_words.specs.Words.{Asked, inputs_of, made_name, made_of}
-use Rattle.fit_changes.specs.Lines.{Line, line_of}
+use Rattle.fit_changes.specs.Changes.{AreInOrder, Change, ChangedText, changed}
+use Rattle.fit_changes.specs.Lines.{Line, lines_from}
 use Rattle.fit_changes.specs.Report.{are_told, counts_text, first_told, lines_text}
+use Rattle.fit_changes.specs.Rounds.{written}
 use Rattle.fit_changes.specs.declared.unfit.Unfit as code
 use Rattle.fit_inside.specs.Inside.{IsInside}
 use Rattle.fit_netlist.specs.Fitted.{IsFitted}
+use Rattle.fit_sdf.specs.Counts.{SdfCount, sdf_counts_text}
+use Rattle.fit_sdf.specs.Fitted.{IsReadable, RefusesWith}
+use Rattle.fit_sdf.specs.declared.unfit.SdfUnfit.TheVariants as unfit
 use Rattle.fit_top.specs.declared.status.Status.{Status}
 use Rattle.fit_top.specs.declared.status.Status.TheVariants as status
 
@@ -110,53 +112,66 @@ pub record IsUnfit (asked : Asked) (texts : List (List ℕ)) (places : List code
 -- ---- SDF files
 
 -- the line of a fault in an SDF file
-abbrev pub fault_line_of : (name text : List ℕ) → Fault → List ℕ
-fault_line_of name text fault = line (place_text name (line_of text fault.place.byte) (sdf_kind fault.kind))
+abbrev pub sdf_fault_line : (name : List ℕ) (number : ℕ) → SdfKind → List ℕ
+sdf_fault_line name number kind = line (place_text name number (sdf_kind kind))
 
--- what is told of an SDF file: nothing, where it is read in; or its fault
+-- an SDF file is fitted: with these changes, which are in order, it is read
+pub record IsFittedSdf (text : List ℕ) (changes : List Change) : Type 0 where
+  pub are_in_order : AreInOrder 0 text changes
+  pub is_readable : IsReadable (changed text changes)
+
+-- what is told of an SDF file: nothing, where it is fitted; or its fault
 pub data TellsSdf (name text : List ℕ) : List ℕ → Type 0 where
-  is_read : (sdf : Sdf) → Reads text (Ok sdf) → TellsSdf name text []
-  is_faulty : (fault : Fault) → Reads text (Err fault) → TellsSdf name text (fault_line_of name text fault)
+  is_fitted : (changes : List Change) → IsFittedSdf text changes → TellsSdf name text []
+  is_faulty : (kind : SdfKind) (number : ℕ) → RefusesWith text (unfit.Fault kind number) → TellsSdf name text (sdf_fault_line name number kind)
 
 -- of several
 abbrev pub TellAllSdf : List File → List ℕ → Type 0
 TellAllSdf [] told = told ≡ []
 TellAllSdf (f ∷ fs) told = (own : List ℕ) × (more : List ℕ) × TellsSdf f.name f.bytes own × TellAllSdf fs more × (told ≡ own ++ more)
 
+-- several are fitted, each by changes of its text
+abbrev pub AreFittedSdf : List File → List ChangedText → Type 0
+AreFittedSdf [] files = files ≡ []
+AreFittedSdf (f ∷ fs) files =
+    (changes : List Change) × (more : List ChangedText) × IsFittedSdf f.bytes changes × AreFittedSdf fs more × (files ≡ record { text = f.bytes; changes = changes } ∷ more)
+
 -- ---- the report of changes
 
-abbrev pub report_text : (names : List (List ℕ)) → List Line → List ℕ
-report_text names lines = lines_text names lines ++ counts_text lines
+abbrev pub report_text : (names : List (List ℕ)) → List Line → List SdfCount → List ℕ
+report_text names lines counts = lines_text names lines ++ counts_text lines ++ sdf_counts_text counts
+
+-- the lines of a netlist's changes, and then those of the changes of SDF files, whose numbers come behind those of the netlist's files
+abbrev pub all_lines : Asked → List Line → List ChangedText → List Line
+all_lines asked lines sdf = lines ++ lines_from (length asked.netlists) sdf
 
 -- ---- the answer
 
 abbrev pub refusal : Status → List ℕ → Answer
 refusal how text = record { status = how; made = []; report = text }
 
--- a file that is made of one of the netlist, and one that is made of an SDF file
-abbrev pub made_of_netlist : (out : List ℕ) → List ℕ × List ℕ → File
-made_of_netlist out f = record { name = made_name out f.0; bytes = f.1 }
+-- a file that is made of one that is read, with its text
+abbrev pub made_file : (out : List ℕ) → List ℕ × List ℕ → File
+made_file out f = record { name = made_name out f.0; bytes = f.1 }
 
-abbrev pub made_of_sdf : (out : List ℕ) → File → File
-made_of_sdf out f = record { name = made_name out f.name; bytes = f.bytes }
-
-abbrev pub made_files : Asked → (made : List (List ℕ)) → (sdf : List File) → List File
-made_files asked made sdf = map (made_of_netlist asked.out) (zip asked.netlists made) ++ map (made_of_sdf asked.out) sdf
+-- those of the netlist, and then those of SDF files
+abbrev pub made_files : Asked → (made sdf : List (List ℕ)) → List File
+made_files asked made sdf = map (made_file asked.out) (zip asked.netlists made) ++ map (made_file asked.out) (zip asked.sdf sdf)
 
 abbrev pub status_of : List Line → Status
 status_of lines = if are_told lines then status.Told else status.Same
 
-abbrev pub fitted_answer : Asked → (made : List (List ℕ)) → List Line → (sdf : List File) → Answer
-fitted_answer asked made lines sdf = record {
+abbrev pub fitted_answer : Asked → (made sdf : List (List ℕ)) → List Line → List SdfCount → Answer
+fitted_answer asked made sdf lines counts = record {
   status = status_of lines;
   made = made_files asked made sdf;
-  report = report_text asked.netlists lines;
+  report = report_text (inputs_of asked) lines counts;
 }
 
 -- where nothing is to be written that is told
-abbrev pub changed_answer : Asked → (made : List (List ℕ)) → List Line → (sdf : List File) → Answer
-changed_answer asked made lines sdf =
-    if asked.is_strict && are_told lines then refusal status.Told (first_told asked.netlists lines) else fitted_answer asked made lines sdf
+abbrev pub changed_answer : Asked → (made sdf : List (List ℕ)) → List Line → List SdfCount → Answer
+changed_answer asked made sdf lines counts =
+    if asked.is_strict && are_told lines then refusal status.Told (first_told (inputs_of asked) lines) else fitted_answer asked made sdf lines counts
 
 -- an answer for the texts of a netlist and of SDF files
 pub data IsTextAnswer (asked : Asked) (texts : List (List ℕ)) (sdf : List File) : Answer → Type 0 where
@@ -164,8 +179,9 @@ pub data IsTextAnswer (asked : Asked) (texts : List (List ℕ)) (sdf : List File
   is_unfit : (places : List code.Unfit) → IsUnfit asked texts places → IsTextAnswer asked texts sdf (refusal status.Netlist (flat_map (unfit_line asked.netlists) places))
   -- the netlist is fitted, and an SDF file has a fault
   has_faults : (made : List (List ℕ)) (lines : List Line) (b : ℕ) (told : List ℕ) → IsFittedFor asked texts made lines → TellAllSdf sdf (b ∷ told) → IsTextAnswer asked texts sdf (refusal status.Sdf (b ∷ told))
-  -- all are right
-  is_right : (made : List (List ℕ)) (lines : List Line) → IsFittedFor asked texts made lines → TellAllSdf sdf [] → IsTextAnswer asked texts sdf (changed_answer asked made lines sdf)
+  -- all are fitted; where there is no SDF file, no entries are counted
+  is_right : (made : List (List ℕ)) (lines : List Line) (files : List ChangedText) (counts : List SdfCount) → IsFittedFor asked texts made lines → AreFittedSdf sdf files → (sdf ≡ [] → counts ≡ [])
+      → IsTextAnswer asked texts sdf (changed_answer asked made (written files) (all_lines asked lines files) counts)
 
 -- whether two names reach one file, where that is told
 abbrev pub Meeting : Type 0

@@ -3,23 +3,28 @@ ghost use Rattle.std.specs.Prelude.{◌≡◌, ℕ, Bool, List, IfOk, Ok, Some, 
 ghost use Rattle.std.specs.List.{list_any};
 ghost use Rattle.sg_io.specs.Faults.{Cause};
 ghost use Rattle.sg_io.specs.Files.{File};
-ghost use Rattle.fit_words.specs.Words.{made_name};
+ghost use Rattle.fit_words.specs.Words.{inputs_of as words_inputs, made_name};
 ghost use Rattle.fit_words.specs.WordsSeen.{asked_seen};
 ghost use Rattle.vl_lex.specs.Seen.{texts};
 ghost use Rattle.fit_changes.specs.Lines.{line_seen};
-ghost use Rattle.fit_top.specs.Answer.{IsAnswerFor, IsFittedFor, IsTextAnswer, Meeting, Meets, TellAllSdf, changed_answer, files_of, fitted_answer, missing_line, refusal, status_of, usage_line};
+ghost use Rattle.fit_changes.specs.Report.{first_told};
+ghost use Rattle.fit_changes.specs.Rounds.{written};
+ghost use Rattle.fit_inside.specs.Inside.{IsAccepted};
+ghost use Rattle.fit_sdf.specs.Counts.{count_seen};
+ghost use Rattle.fit_top.specs.Answer.{IsAnswerFor, IsFittedFor, IsTextAnswer, Meeting, Meets, all_lines, changed_answer, files_of, fitted_answer, missing_line, refusal, status_of, usage_line};
 ghost use Rattle.fit_top.specs.Including.{FailsReading};
 ghost use Rattle.fit_top.specs.Stops.{NeverFolder, end_of};
 ghost use Rattle.fit_top.specs.Work.{answer_seen, input_seen};
 
+use crate::annotating::{SdfFiles, fit_files};
 use crate::folders::Folders;
 use crate::including::fit;
 use crate::inputs::{Input, read_files, texts_of};
 use crate::lines::{USAGE, line_of, unfit_lines};
-use crate::making::{Made, add_netlists, add_sdf};
+use crate::making::{Made, add_files};
 use crate::status::Status;
 use crate::stop::Stop;
-use crate::texts::{report_text, sdf_lines, told_text};
+use crate::texts::{report_text, told_text, with_lines, written_texts};
 use fit_changes::{Line, are_told};
 use fit_netlist::Fitted;
 use fit_words::{Asked, inputs_of, made_name};
@@ -71,55 +76,84 @@ fn status_of(lines: &[Line]) -> Status
     }
 }
 
+// All files are written.
 fn fitted_answer(
     alloc: Global,
     asked: &Asked<'_>,
-    fitted: &Fitted,
-    sdf: Vec<Input<'_>>,
+    texts: &[Vec<u8>],
+    lines: &[Line],
+    sdf: &SdfFiles<'_>,
 ) -> Result<Answer, NoMemory>
-    ensures { IfOk result (λ a. answer_seen a ≡ fitted_answer (asked_seen asked.now) (texts fitted.now.texts.items) (map line_seen fitted.now.lines.items) (map input_seen sdf.entry.items)) }
+    ensures { IfOk result (λ a. answer_seen a ≡ fitted_answer (asked_seen asked.now) (map (λ t. t.items) texts.now) (written sdf.now.list.items) (map line_seen lines.now) (map count_seen sdf.now.counts.items)) }
 {
-    let report = report_text(alloc, &asked.netlists, &fitted.lines)?;
+    let names = inputs_of(alloc, asked)?;
+    let report = report_text(alloc, &names, lines, &sdf.counts)?;
+    let changed = written_texts(alloc, &sdf.list)?;
     let mut made = Vec::new(alloc);
-    add_netlists(alloc, asked.out, &asked.netlists, &fitted.texts, &mut made)?;
-    add_sdf(alloc, asked.out, sdf, &mut made)?;
+    add_files(alloc, asked.out, &asked.netlists, texts, &mut made)?;
+    add_files(alloc, asked.out, &asked.sdf, &changed, &mut made)?;
     Ok(Answer {
-        status: status_of(&fitted.lines),
+        status: status_of(lines),
         made,
         report,
     })
 }
 
+// Nothing is written, since this would be told.
+fn strict_answer(alloc: Global, asked: &Asked<'_>, lines: &[Line]) -> Result<Answer, NoMemory>
+    ensures { IfOk result (λ a. answer_seen a ≡ refusal Status.Told (first_told (words_inputs (asked_seen asked.now)) (map line_seen lines.now))) }
+{
+    let names = inputs_of(alloc, asked)?;
+    let line = told_text(alloc, &names, lines)?;
+    Ok(refusal(alloc, Status::Told, line))
+}
+
 fn changed_answer(
     alloc: Global,
     asked: &Asked<'_>,
-    fitted: &Fitted,
-    sdf: Vec<Input<'_>>,
+    texts: &[Vec<u8>],
+    lines: &[Line],
+    sdf: &SdfFiles<'_>,
 ) -> Result<Answer, NoMemory>
-    ensures { IfOk result (λ a. answer_seen a ≡ changed_answer (asked_seen asked.now) (texts fitted.now.texts.items) (map line_seen fitted.now.lines.items) (map input_seen sdf.entry.items)) }
+    ensures { IfOk result (λ a. answer_seen a ≡ changed_answer (asked_seen asked.now) (map (λ t. t.items) texts.now) (written sdf.now.list.items) (map line_seen lines.now) (map count_seen sdf.now.counts.items)) }
 {
-    if asked.is_strict && are_told(&fitted.lines) {
-        let line = told_text(alloc, &asked.netlists, &fitted.lines)?;
-        return Ok(refusal(alloc, Status::Told, line));
+    if asked.is_strict && are_told(lines) {
+        return strict_answer(alloc, asked, lines);
     }
-    fitted_answer(alloc, asked, fitted, sdf)
+    fitted_answer(alloc, asked, texts, lines, sdf)
+}
+
+// All SDF files are taken.
+fn right_answer(
+    alloc: Global,
+    asked: &Asked<'_>,
+    fitted: Fitted,
+    sdf: &SdfFiles<'_>,
+) -> Result<Answer, NoMemory>
+    ensures { IfOk result (λ a. answer_seen a ≡ changed_answer (asked_seen asked.now) (texts fitted.texts.items) (written sdf.now.list.items)
+        (all_lines (asked_seen asked.now) (map line_seen fitted.lines.items) sdf.now.list.items) (map count_seen sdf.now.counts.items)) }
+{
+    let Fitted { texts, lines } = fitted;
+    let lines = with_lines(alloc, lines, asked.netlists.len(), &sdf.list)?;
+    changed_answer(alloc, asked, &texts, &lines, sdf)
 }
 
 // The answer for a netlist that is fitted.
 fn sdf_answer(
     alloc: Global,
     asked: &Asked<'_>,
-    fitted: &Fitted,
-    sdf: Vec<Input<'_>>,
+    fitted: Fitted,
+    sdf: &[Input<'_>],
 ) -> Result<Answer, NoMemory>
-    ensures { IfOk result (λ a. (read : List (List ℕ)) → IsFittedFor (asked_seen asked.now) read (texts fitted.now.texts.items) (map line_seen fitted.now.lines.items)
-        → IsTextAnswer (asked_seen asked.now) read (map input_seen sdf.entry.items) (answer_seen a)) }
+    requires { IsAccepted (texts fitted.texts.items) }
+    ensures { IfOk result (λ a. (read : List (List ℕ)) → IsFittedFor (asked_seen asked.now) read (texts fitted.texts.items) (map line_seen fitted.lines.items)
+        → IsTextAnswer (asked_seen asked.now) read (map input_seen sdf.now) (answer_seen a)) }
 {
-    let faults = sdf_lines(alloc, &sdf)?;
-    if faults.len() == 0 {
-        changed_answer(alloc, asked, fitted, sdf)
+    let files = fit_files(alloc, &fitted.texts, &fitted.lines, sdf, asked.top)?;
+    if files.faults.len() == 0 {
+        right_answer(alloc, asked, fitted, &files)
     } else {
-        Ok(refusal(alloc, Status::Sdf, faults))
+        Ok(refusal(alloc, Status::Sdf, files.faults))
     }
 }
 
@@ -139,7 +173,7 @@ fn text_answer<'a, S: Shelf>(
 {
     let outcome = fit(alloc, asked, texts, shelf)?;
     match outcome {
-        Ok(fitted) => Ok(sdf_answer(alloc, asked, &fitted, sdf)?),
+        Ok(fitted) => Ok(sdf_answer(alloc, asked, fitted, &sdf)?),
         Err(places) => {
             let lines = unfit_lines(alloc, &asked.netlists, &places)?;
             Ok(refusal(alloc, Status::Netlist, lines))

@@ -1,6 +1,7 @@
 //! `top`: from the words of `fit`'s command line to status, report and files.
 #![tactic(auto)]
 
+mod annotating;
 mod answer;
 mod answers;
 mod fitting;

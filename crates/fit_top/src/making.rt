@@ -1,14 +1,13 @@
 // The files that are made.
-ghost use Rattle.std.specs.Prelude.{◌≡◌, ◌++◌, List, IfOk, OnOk, map, zip};
+ghost use Rattle.std.specs.Prelude.{◌≡◌, ◌++◌, OnOk, map, zip};
 ghost use Rattle.sg_io.specs.Faults.{Cause, NamesFault};
 ghost use Rattle.sg_io.specs.Files.{BothTell};
-ghost use Rattle.fit_top.specs.Answer.{made_of_netlist, made_of_sdf};
+ghost use Rattle.fit_top.specs.Answer.{made_file};
 ghost use Rattle.fit_top.specs.Making.{Leaves, LeavesAll};
 ghost use Rattle.fit_top.specs.Stops.{FailsAmong, IfFolder, NeverFails, NeverFolder, end_of, folder_end};
-ghost use Rattle.fit_top.specs.Work.{input_seen, made_seen};
+ghost use Rattle.fit_top.specs.Work.{made_seen};
 
 use crate::folders::Folders;
-use crate::inputs::Input;
 use crate::stop::Stop;
 use fit_words::made_name;
 use sg_io::{Shelf, ShelfError};
@@ -22,15 +21,15 @@ pub struct Made {
     pub text: Vec<u8>,
 }
 
-/// Adds the files that are made of a netlist's, of these names, in a folder.
-pub fn add_netlists(
+/// Adds the files that are made in a folder of files of these names, with their texts.
+pub fn add_files(
     alloc: Global,
     folder: &str,
     names: &[&str],
     texts: &[Vec<u8>],
     made: &mut Vec<Made>,
 ) -> Result<(), NoMemory>
-    ensures { OnOk result (map made_seen made.new.items ≡ map made_seen made.old.items ++ map (made_of_netlist folder.now) (zip (map (λ n. n.now) names.now) (map (λ t. t.items) texts.now))) }
+    ensures { OnOk result (map made_seen made.new.items ≡ map made_seen made.old.items ++ map (made_file folder.now) (zip (map (λ n. n.now) names.now) (map (λ t. t.items) texts.now))) }
 {
     for (name, written) in names.iter().zip(texts) {
         let text = Vec::from_slice(alloc, written)?;
@@ -38,36 +37,6 @@ pub fn add_netlists(
         made.push(Made { name, text })?;
     }
     Ok(())
-}
-
-fn add_each(
-    alloc: Global,
-    folder: &str,
-    inputs: Vec<Input<'_>>,
-    made: &mut Vec<Made>,
-) -> Result<(), NoMemory>
-    ensures { OnOk result (map made_seen made.new.items ≡ map made_seen made.old.items ++ map (λ i. made_of_sdf folder.now (input_seen i)) inputs.entry.items) }
-{
-    for input in inputs {
-        let name = made_name(alloc, folder, input.name)?;
-        made.push(Made {
-            name,
-            text: input.text,
-        })?;
-    }
-    Ok(())
-}
-
-/// Adds the files that are made of SDF files in a folder.
-pub fn add_sdf(
-    alloc: Global,
-    folder: &str,
-    inputs: Vec<Input<'_>>,
-    made: &mut Vec<Made>,
-) -> Result<(), NoMemory>
-    ensures { OnOk result (map made_seen made.new.items ≡ map made_seen made.old.items ++ map (made_of_sdf folder.now) (map input_seen inputs.entry.items)) }
-{
-    add_each(alloc, folder, inputs, made)
 }
 
 // Makes a file of this text.
