@@ -17,7 +17,7 @@ returns c =
     (made_with _ _ _ _ _ (ap (map made_seen) c.new-made.ensures.items)
     (added_with c.args.asked.now.out.now _ _ _ _ _ _ c.in_ok-add_files.ensures (ap (map (λ n. n.now)) c.deref-4.ensures.value) refl)
     (added_with c.args.asked.now.out.now _ _ _ _ _ _ c.in_ok-add_files-2.ensures (ap (map (λ n. n.now)) c.deref-5.ensures.value) (ap (map (λ t. t.items)) c.deref-6.ensures.value ∙ c.in_ok-changed.ensures ∙ ap written c.deref-3.ensures.value)))
-    (told_with _ _ _ _ _ _ c.in_ok-report.ensures (ap (map (λ n. n.now)) c.deref.ensures.value ∙ c.in_ok-names.ensures) (ap (map count_seen) c.deref-2.ensures.value))
+    (told_with _ _ (map line_seen c.args.lines.now) _ _ _ c.in_ok-report.ensures (ap (map (λ n. n.now)) c.deref.ensures.value ∙ c.in_ok-names.ensures) (ap (map count_seen) c.deref-2.ensures.value))
 
 pub returns-in_err-changed : goal.returns-in_err-changed
 returns-in_err-changed c = rw (err_from_is_err_and c.from_residual-in_err-changed.result c.from_residual-in_err-changed.ensures.1).1 tt

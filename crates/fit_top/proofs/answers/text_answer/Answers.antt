@@ -11,7 +11,7 @@ sdf_answer-requires g c = (subst (IsFit (asked_seen c.args.asked.now) (map (λ t
 
 pub returns-in-Ok-clause-right : goal.returns-in-Ok-clause-right
 returns-in-Ok-clause-right g c =
-    subst (λ l. IsTextAnswer (asked_seen c.args.asked.now) (map (λ t. t.items) c.args.texts.now) (map input_seen l) (answer_seen c.in_ok-sdf_answer-in-Ok.field-0)) c.deref-in-Ok.ensures.value
+    subst (λ l. IsTextAnswer (asked_seen c.args.asked.now) (map (λ t. t.items) c.args.texts.now) (map input_seen l) (answer_seen c.in_ok-sdf_answer-in-Ok.field-0)) c.deref.ensures.value
     (c.in_ok-sdf_answer-in-Ok.ensures (map (λ t. t.items) c.args.texts.now)
     (subst (IsFit (asked_seen c.args.asked.now) (map (λ t. t.items) c.args.texts.now)) c.in-Ok.is c.in_ok-outcome.ensures.fit))
 
@@ -20,5 +20,5 @@ returns-clause-right g c =
     unfit_by answer_seen (asked_seen c.args.asked.now) (map input_seen c.args.sdf.items) c.refusal.result (map (λ t. t.items) c.args.texts.now) c.in-Err.places.items
     (subst (IsFit (asked_seen c.args.asked.now) (map (λ t. t.items) c.args.texts.now)) c.in-Err.is c.in_ok-outcome.ensures.fit)
     (c.refusal.ensures ∙ ap (refusal status.Netlist) (c.in_ok-lines-in-Err.ensures
-    ∙ ap (λ l. flat_map (unfit_line (map (λ n. n.now) l)) c.deref-in-Err.result.now) c.deref.ensures.value
-    ∙ ap (flat_map (unfit_line (map (λ n. n.now) c.args.asked.now.netlists.items))) c.deref-in-Err.ensures.value))
+    ∙ ap (λ l. flat_map (unfit_line (map (λ n. n.now) l)) c.deref-in-Err-2.result.now) c.deref-in-Err.ensures.value
+    ∙ ap (flat_map (unfit_line (map (λ n. n.now) c.args.asked.now.netlists.items))) c.deref-in-Err-2.ensures.value))
