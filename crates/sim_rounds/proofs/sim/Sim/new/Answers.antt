@@ -14,7 +14,7 @@ pub new-requires : goal.new-requires
 new-requires g c =
     let circuit : Circuit = c.args.circuit.now in
     let parts = c.parts-parts.result.now in
-    let many : c.len.result ≡ length circuit.elements = c.len.ensures ∙ (parts.elements.ok.0 ∙ (sym (count_seen parts.elements.items (element_seen parts)) ∙ ap (λ x. length x.elements) c.parts-parts.ensures.seen)) in
+    let many : c.len-drivers.result ≡ length circuit.elements = c.len-drivers.ensures ∙ (parts.elements.ok.0 ∙ (sym (count_seen parts.elements.items (element_seen parts)) ∙ ap (λ x. length x.elements) c.parts-parts.ensures.seen)) in
     c.requires ∙ ap (λ n. replicate n []) (sym many)
 
 pub invariant_of-result : goal.invariant_of-result
@@ -27,7 +27,7 @@ invariant_of-result g c =
     let nets : c.in_ok-nets.nets.values.items ≡ (first_state circuit).values = c.in_ok-nets.ensures.values ∙ (c.deref-2.ensures.value ∙ values) in
     let told : c.deref-3.result.now ≡ c.in_ok-nets.nets.values.items = c.deref-3.ensures.value ∙ (values ∙ sym nets) in
     let stamps : length c.deref-2.result.now ≡ length circuit.nets = ap length (c.deref-2.ensures.value ∙ values) ∙ count_seen circuit.nets (λ n. first_value_of n.driver) in
-    let many : c.len.result ≡ length circuit.elements = c.len.ensures ∙ (parts.elements.ok.0 ∙ (sym (count_seen parts.elements.items (element_seen parts)) ∙ ap (λ x. length x.elements) seen)) in
+    let many : c.len-drivers.result ≡ length circuit.elements = c.len-drivers.ensures ∙ (parts.elements.ok.0 ∙ (sym (count_seen parts.elements.items (element_seen parts)) ∙ ap (λ x. length x.elements) seen)) in
     record {
       unseen = c.in_ok-checks.ensures;
       fresh = record {

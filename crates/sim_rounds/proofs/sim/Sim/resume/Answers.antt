@@ -17,24 +17,24 @@ pub new-requires : goal.new-requires
 new-requires g c =
     let circuit : Circuit = c.args.circuit.now in
     let parts = c.parts-parts.result.now in
-    let many : c.len.result ≡ length circuit.elements = c.len.ensures ∙ (parts.elements.ok.0 ∙ (sym (count_seen parts.elements.items (element_seen parts)) ∙ ap (λ x. length x.elements) c.parts-parts.ensures.seen)) in
+    let many : c.len-drivers.result ≡ length circuit.elements = c.len-drivers.ensures ∙ (parts.elements.ok.0 ∙ (sym (count_seen parts.elements.items (element_seen parts)) ∙ ap (λ x. length x.elements) c.parts-parts.ensures.seen)) in
     c.requires.agenda ∙ ap (λ n. replicate n []) (sym many)
 
 pub add_pending-requires-clause-drivers : goal.add_pending-requires-clause-drivers
 add_pending-requires-clause-drivers g c =
     let circuit : Circuit = c.args.circuit.now in
     let parts = c.parts-parts.result.now in
-    let drivers : c.len.result ≡ length circuit.elements = c.len.ensures ∙ (parts.elements.ok.0 ∙ (sym (count_seen parts.elements.items (element_seen parts)) ∙ ap (λ x. length x.elements) c.parts-parts.ensures.seen)) in
+    let drivers : c.len-drivers.result ≡ length circuit.elements = c.len-drivers.ensures ∙ (parts.elements.ok.0 ∙ (sym (count_seen parts.elements.items (element_seen parts)) ∙ ap (λ x. length x.elements) c.parts-parts.ensures.seen)) in
     let n = length c.in_ok-agenda.agenda.0 in
-    let many : n ≡ length circuit.elements = ap length c.in_ok-agenda.ensures ∙ (length-replicate c.len.result [] ∙ drivers) in
+    let many : n ≡ length circuit.elements = ap length c.in_ok-agenda.ensures ∙ (length-replicate c.len-drivers.result [] ∙ drivers) in
     subst (λ ps. All (λ (p : Pending). p.driver < n) ps) (sym c.deref.ensures.value) (drivers_within c.args.circuit.now c.args.moment.now n c.requires.fits many)
 
 pub add_pending-requires-clause-rise : goal.add_pending-requires-clause-rise
 add_pending-requires-clause-rise g c = λ e l.
     (let circuit : Circuit = c.args.circuit.now in
     let parts = c.parts-parts.result.now in
-    let drivers : c.len.result ≡ length circuit.elements = c.len.ensures ∙ (parts.elements.ok.0 ∙ (sym (count_seen parts.elements.items (element_seen parts)) ∙ ap (λ x. length x.elements) c.parts-parts.ensures.seen)) in
-    let many : length c.in_ok-agenda.agenda.0 ≡ length circuit.elements = ap length c.in_ok-agenda.ensures ∙ (length-replicate c.len.result [] ∙ drivers) in
+    let drivers : c.len-drivers.result ≡ length circuit.elements = c.len-drivers.ensures ∙ (parts.elements.ok.0 ∙ (sym (count_seen parts.elements.items (element_seen parts)) ∙ ap (λ x. length x.elements) c.parts-parts.ensures.seen)) in
+    let many : length c.in_ok-agenda.agenda.0 ≡ length circuit.elements = ap length c.in_ok-agenda.ensures ∙ (length-replicate c.len-drivers.result [] ∙ drivers) in
     subst (λ ps. Rises (reverse (pending_of e (map (λ p. pending_seen p) ps)))) (sym c.deref.ensures.value)
     (rise_each c.args.circuit.now (moment_seen c.args.moment.now) e c.requires.fits (subst (λ n. e < n) many l)))
 
@@ -47,9 +47,9 @@ invariant_of-result g c =
     let m : Moment = moment_seen c.args.moment.now in
     let parts = c.parts-parts.result.now in
     let seen : circuit_seen parts ≡ circuit = c.parts-parts.ensures.seen in
-    let many : c.len.result ≡ length circuit.elements = c.len.ensures ∙ (parts.elements.ok.0 ∙ (sym (count_seen parts.elements.items (element_seen parts)) ∙ ap (λ x. length x.elements) seen)) in
+    let many : c.len-drivers.result ≡ length circuit.elements = c.len-drivers.ensures ∙ (parts.elements.ok.0 ∙ (sym (count_seen parts.elements.items (element_seen parts)) ∙ ap (λ x. length x.elements) seen)) in
     let before = c.in_ok-agenda.agenda.0 in
-    let elements : length before ≡ length circuit.elements = ap length c.in_ok-agenda.ensures ∙ (length-replicate c.len.result [] ∙ many) in
+    let elements : length before ≡ length circuit.elements = ap length c.in_ok-agenda.ensures ∙ (length-replicate c.len-drivers.result [] ∙ many) in
     let told : c.deref-2.result.now ≡ c.in_ok-nets.nets.values.items = c.deref-2.ensures.value ∙ sym c.in_ok-nets.ensures.values in
     record {
       fits = c.requires.fits;
