@@ -9,3 +9,7 @@ pub record IsMovable {T A : Type 0} (l : Language T A) : Type 0 where
 
 pub record Moves {T K A : Type 0} (r : Rule T K A) : Type 0 where
   pub movable : IsMovable r.language
+
+-- all of these tokens spell a value
+abbrev pub Says : {T K A : Type 0} → Rule T K A → List T → A → Type 0
+Says r ts x = r.language.Spells ts 0 x (length ts)
